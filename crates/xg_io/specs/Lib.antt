@@ -1,2 +1,6 @@
 pub mod Cause
 pub mod Sinks
+pub mod Schedule
+pub mod Stored
+pub mod MemFiles
+pub mod MemSink

@@ -2,10 +2,18 @@
 //! trait says for contracts what its calls do; the program's promises speak of the outside by these words alone.
 #![tactic(auto)]
 
+mod memory_files;
+mod memory_sink;
 mod outside;
 mod reading;
+mod real;
+mod schedule;
 mod writing;
 
+pub use memory_files::MemFiles;
+pub use memory_sink::MemSink;
 pub use outside::{Failed, Files, Gate, OpenFault, OpenGate, Sink};
 pub use reading::{ReadAllFault, read_all};
+pub use real::{RealFiles, RealSink};
+pub use schedule::Schedule;
 pub use writing::{WriteFault, write_all};

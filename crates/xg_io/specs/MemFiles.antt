@@ -1,0 +1,26 @@
+-- What files in memory tell.
+use Rattle.std.specs.Prelude.{ℕ, ◌-◌, List, drop, Option, Some, None, Bool, true, is_some}
+use Rattle.std.specs.Option.{option_map, option_and_then}
+use Rattle.xg_io.specs.declared.memory_files.MemFiles.{MemFiles}
+use Rattle.xg_io.specs.declared.schedule.Schedule.{Schedule}
+use Rattle.xg_io.specs.Stored.{bytes_of, bytes_at}
+
+-- the bytes of a name, where there is a file of that name
+abbrev pub told_of : MemFiles → List ℕ → Option (List ℕ)
+told_of m = bytes_of m.files.items
+
+-- the place of the open file
+abbrev pub current_of : MemFiles → Option ℕ
+current_of m = m.current
+
+-- how many of its bytes were read
+abbrev pub taken_of : MemFiles → ℕ
+taken_of m = m.taken
+
+-- what is left of it
+abbrev pub left_of : MemFiles → Option (List ℕ)
+left_of m = option_and_then (λ place. option_map (drop m.taken) (bytes_at m.files.items place)) m.current
+
+-- which calls fail
+abbrev pub schedule_of : MemFiles → Schedule
+schedule_of m = m.schedule

@@ -1,0 +1,16 @@
+-- What a sink in memory tells.
+use Rattle.std.specs.Prelude.{ℕ, ◌-◌, List, vec_len}
+use Rattle.xg_io.specs.declared.memory_sink.MemSink.{MemSink}
+use Rattle.xg_io.specs.declared.schedule.Schedule.{Schedule}
+
+-- the bytes that it took
+abbrev pub bytes_of_sink : MemSink → List ℕ
+bytes_of_sink m = m.bytes.items
+
+-- how many more bytes it takes
+abbrev pub room_of : MemSink → ℕ
+room_of m = m.capacity - vec_len m.bytes
+
+-- which calls fail
+abbrev pub schedule_of_sink : MemSink → Schedule
+schedule_of_sink m = m.schedule
