@@ -1,0 +1,145 @@
+ghost use Rattle.std.specs.Prelude.{◌≡◌, ℕ, ◌+◌, ◌-◌, ◌<◌, ◌≤◌, ◌↔◌, Option, List, drop, length, slice_index, slice_range, IfOk, OnErr, IsTrue};
+ghost use Rattle.std.specs.List.{prefix_len};
+ghost use Rattle.def_tokens.specs.Bytes.{is_space, in_run, begins_word, begins_number};
+ghost use Rattle.def_tokens.specs.Texts.{IsInside, closing_from};
+ghost use Rattle.def_tokens.specs.Spelling.{IsLexemeFrom};
+ghost use Rattle.def_tokens.specs.Tokens.{next_from, end_of, text_from, token_at};
+
+use def_tokens::{LexFault, Lexeme, Token};
+use memchr::memchr;
+use std::marker::Model;
+
+/// A reader of the tokens of a slice of bytes. It takes no memory.
+#[derive(Drop)]
+pub struct Tokens<'a> {
+    bytes: &'a [u8],
+    at: usize,
+}
+
+impl<'a> Model for Tokens<'a> {
+    ghost use Rattle.std.specs.Prelude.{◌≤◌, length};
+    ghost use Rattle.def_tokens.specs.Tokens.{Cursor};
+
+    ghost Value = { Cursor };
+
+    ghost view = { λ t. record { whole = t.bytes.now; at = t.at } };
+
+    ghost invariant = { λ t. t.at ≤ length t.bytes.now };
+}
+
+impl<'a> Tokens<'a> {
+    /// A reader that stands before the first byte.
+    pub fn new(bytes: &'a [u8]) -> Tokens<'a>
+        ensures whole { result.whole ≡ bytes.now }
+        ensures start { result.at ≡ 0 }
+    {
+        Tokens { bytes, at: 0 }
+    }
+
+    /// The next token, behind the white space. After the end it answers the end again.
+    pub fn next(&mut self) -> Result<Lexeme, LexFault>
+        ensures exact { result ≡ next_from self.old.whole self.old.at }
+        ensures whole { self.new.whole ≡ self.old.whole }
+        ensures place { self.new.at ≡ end_of self.old.at result }
+        // A reader stands within its bytes.
+        ensures within { self.new.at ≤ length self.new.whole }
+        // The token's bytes are its span, behind white space.
+        ensures spelled { IfOk result (IsLexemeFrom self.old.whole self.old.at) }
+        ensures inside { IfOk result (λ lexeme. lexeme.kind ≡ Token.Text
+            → IsInside (slice_range self.old.whole (lexeme.start + 1) (lexeme.end - 1))) }
+    {
+        let start = self.at + space_len(&self.bytes[self.at..]);
+        let lexeme = token_at(self.bytes, start)?;
+        self.at = lexeme.end;
+        Ok(lexeme)
+    }
+}
+
+fn is_space(byte: u8) -> bool
+    ensures { result ≡ is_space byte }
+{
+    matches!(byte, 9..=13 | b' ')
+}
+
+fn in_run(byte: u8) -> bool
+    ensures { result ≡ in_run byte }
+{
+    !matches!(byte, 9..=13 | b' ' | b'"' | b'{' | b'}' | b',')
+}
+
+/// How many bytes of white space stand at the front.
+fn space_len(bytes: &[u8]) -> usize
+    ensures { result ≡ prefix_len is_space bytes.now }
+{
+    bytes.iter().take_while(|byte| is_space(**byte)).count()
+}
+
+/// How many bytes of a run stand at the front.
+fn run_len(bytes: &[u8]) -> usize
+    ensures { result ≡ prefix_len in_run bytes.now }
+{
+    bytes.iter().take_while(|byte| in_run(**byte)).count()
+}
+
+/// The token that begins at `start`, or the end.
+fn token_at(bytes: &[u8], start: usize) -> Result<Lexeme, LexFault>
+    requires { start ≤ length bytes.now }
+    ensures { result ≡ token_at start (drop start bytes.now) }
+{
+    let Some(first) = bytes.get(start) else {
+        return Ok(Lexeme {
+            kind: Token::End,
+            start,
+            end: start,
+        });
+    };
+    let kind = match *first {
+        b'"' => return text_at(bytes, start),
+        b'{' => Token::Open,
+        b'}' => Token::Close,
+        b',' => Token::Comma,
+        b'A'..=b'Z' | b'a'..=b'z' => Token::Word,
+        b'0'..=b'9' | b'+' | b'-' | b'.' => Token::Number,
+        _ => return Err(LexFault::Syntax { at: start }),
+    };
+    let len = match kind {
+        Token::Word | Token::Number => run_len(&bytes[start..]),
+        _ => 1,
+    };
+    Ok(Lexeme {
+        kind,
+        start,
+        end: start + len,
+    })
+}
+
+/// The text whose opening mark is at `start`.
+fn text_at(bytes: &[u8], start: usize) -> Result<Lexeme, LexFault>
+    requires { start < length bytes.now }
+    ensures { result ≡ text_from start (closing_from (start + 1) (slice_index bytes.now start) (drop (start + 1) bytes.now)) }
+{
+    match closing_mark(bytes, start) {
+        Some(close) => Ok(Lexeme {
+            kind: Token::Text,
+            start,
+            end: close + 1,
+        }),
+        None => Err(LexFault::Unclosed { at: start }),
+    }
+}
+
+/// The offset of the first quotation mark behind `start` that no backslash stands right before.
+fn closing_mark(bytes: &[u8], start: usize) -> Option<usize>
+    requires { start < length bytes.now }
+    ensures { result ≡ closing_from (start + 1) (slice_index bytes.now start) (drop (start + 1) bytes.now) }
+{
+    let mut at = start + 1;
+    while let Some(found) = memchr(b'"', &bytes[at..]) {
+        let mark = at + found;
+        if bytes[mark - 1] != b'\\' {
+            return Some(mark);
+        }
+        at = mark + 1;
+    }
+    None
+}
