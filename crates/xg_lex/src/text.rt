@@ -44,8 +44,7 @@ pub fn unescape(alloc: Global, raw: &[u8]) -> Result<Text, AllocError>
 /// The bytes with the backslash right before each quotation mark left out.
 fn without_escapes(alloc: Global, raw: &[u8]) -> Result<Vec<u8>, AllocError>
     requires { IsInside raw.now }
-    ensures value { IfOk result (λ bytes. bytes.items ≡ unescaped raw.now) }
-    ensures plain_end { IfOk result (λ bytes. EndsPlainly bytes.items) }
+    ensures { IfOk result (λ bytes. bytes.items ≡ unescaped raw.now) }
 {
     let mut bytes = Vec::with_capacity(alloc, raw.len())?;
     let mut at = 0;

@@ -1,9 +1,9 @@
-ghost use Rattle.std.specs.Prelude.{◌≡◌, ℕ, ◌+◌, ◌-◌, ◌<◌, ◌≤◌, ◌↔◌, Option, List, drop, length, slice_index, slice_range, IfOk, OnErr, IsTrue};
+ghost use Rattle.std.specs.Prelude.{◌≡◌, ℕ, ◌+◌, ◌-◌, ◌<◌, ◌≤◌, ◌↔◌, Option, List, drop, length, slice_index, slice_range, IfOk, IfSome};
 ghost use Rattle.std.specs.List.{prefix_len};
 ghost use Rattle.def_tokens.specs.Bytes.{is_space, in_run, begins_word, begins_number};
 ghost use Rattle.def_tokens.specs.Texts.{IsInside, closing_from};
 ghost use Rattle.def_tokens.specs.Spelling.{IsLexemeFrom};
-ghost use Rattle.def_tokens.specs.Tokens.{next_from, end_of, text_from, token_at};
+ghost use Rattle.def_tokens.specs.Tokens.{next_from, end_of, span, text_from, token_at};
 
 use def_tokens::{LexFault, Lexeme, Token};
 use memchr::memchr;
@@ -67,16 +67,30 @@ fn in_run(byte: u8) -> bool
     !matches!(byte, 9..=13 | b' ' | b'"' | b'{' | b'}' | b',')
 }
 
+fn begins_word(byte: u8) -> bool
+    ensures { result ≡ begins_word byte }
+{
+    byte.is_ascii_alphabetic()
+}
+
+fn begins_number(byte: u8) -> bool
+    ensures { result ≡ begins_number byte }
+{
+    matches!(byte, b'0'..=b'9' | b'+' | b'-' | b'.')
+}
+
 /// How many bytes of white space stand at the front.
 fn space_len(bytes: &[u8]) -> usize
-    ensures { result ≡ prefix_len is_space bytes.now }
+    ensures value { result ≡ prefix_len is_space bytes.now }
+    ensures within { result ≤ length bytes.now }
 {
     bytes.iter().take_while(|byte| is_space(**byte)).count()
 }
 
 /// How many bytes of a run stand at the front.
 fn run_len(bytes: &[u8]) -> usize
-    ensures { result ≡ prefix_len in_run bytes.now }
+    ensures value { result ≡ prefix_len in_run bytes.now }
+    ensures within { result ≤ length bytes.now }
 {
     bytes.iter().take_while(|byte| in_run(**byte)).count()
 }
@@ -84,39 +98,58 @@ fn run_len(bytes: &[u8]) -> usize
 /// The token that begins at `start`, or the end.
 fn token_at(bytes: &[u8], start: usize) -> Result<Lexeme, LexFault>
     requires { start ≤ length bytes.now }
-    ensures { result ≡ token_at start (drop start bytes.now) }
+    ensures value { result ≡ token_at start (drop start bytes.now) }
+    ensures within { IfOk result (λ lexeme. lexeme.end ≤ length bytes.now) }
 {
-    let Some(first) = bytes.get(start) else {
+    if start == bytes.len() {
         return Ok(Lexeme {
             kind: Token::End,
             start,
             end: start,
         });
-    };
-    let kind = match *first {
-        b'"' => return text_at(bytes, start),
-        b'{' => Token::Open,
-        b'}' => Token::Close,
-        b',' => Token::Comma,
-        b'A'..=b'Z' | b'a'..=b'z' => Token::Word,
-        b'0'..=b'9' | b'+' | b'-' | b'.' => Token::Number,
-        _ => return Err(LexFault::Syntax { at: start }),
-    };
-    let len = match kind {
-        Token::Word | Token::Number => run_len(&bytes[start..]),
-        _ => 1,
-    };
-    Ok(Lexeme {
+    }
+    match bytes[start] {
+        b'"' => text_at(bytes, start),
+        b'{' => Ok(Lexeme {
+            kind: Token::Open,
+            start,
+            end: start + 1,
+        }),
+        b'}' => Ok(Lexeme {
+            kind: Token::Close,
+            start,
+            end: start + 1,
+        }),
+        b',' => Ok(Lexeme {
+            kind: Token::Comma,
+            start,
+            end: start + 1,
+        }),
+        byte if begins_word(byte) => Ok(run_at(bytes, start, Token::Word)),
+        byte if begins_number(byte) => Ok(run_at(bytes, start, Token::Number)),
+        _ => Err(LexFault::Syntax { at: start }),
+    }
+}
+
+/// The run that begins at `start`, as a token of this kind.
+fn run_at(bytes: &[u8], start: usize, kind: Token) -> Lexeme
+    requires { start ≤ length bytes.now }
+    ensures value { result ≡ span kind start (start + prefix_len in_run (drop start bytes.now)) }
+    ensures within { result.end ≤ length bytes.now }
+{
+    let len = run_len(&bytes[start..]);
+    Lexeme {
         kind,
         start,
         end: start + len,
-    })
+    }
 }
 
 /// The text whose opening mark is at `start`.
 fn text_at(bytes: &[u8], start: usize) -> Result<Lexeme, LexFault>
     requires { start < length bytes.now }
-    ensures { result ≡ text_from start (closing_from (start + 1) (slice_index bytes.now start) (drop (start + 1) bytes.now)) }
+    ensures value { result ≡ text_from start (closing_from (start + 1) (slice_index bytes.now start) (drop (start + 1) bytes.now)) }
+    ensures within { IfOk result (λ lexeme. lexeme.end ≤ length bytes.now) }
 {
     match closing_mark(bytes, start) {
         Some(close) => Ok(Lexeme {
@@ -131,7 +164,8 @@ fn text_at(bytes: &[u8], start: usize) -> Result<Lexeme, LexFault>
 /// The offset of the first quotation mark behind `start` that no backslash stands right before.
 fn closing_mark(bytes: &[u8], start: usize) -> Option<usize>
     requires { start < length bytes.now }
-    ensures { result ≡ closing_from (start + 1) (slice_index bytes.now start) (drop (start + 1) bytes.now) }
+    ensures value { result ≡ closing_from (start + 1) (slice_index bytes.now start) (drop (start + 1) bytes.now) }
+    ensures within { IfSome result (λ close. close < length bytes.now) }
 {
     let mut at = start + 1;
     while let Some(found) = memchr(b'"', &bytes[at..]) {

@@ -1,0 +1,3 @@
+mod Closing
+mod TokenAt
+mod Escapes
