@@ -1,0 +1,4 @@
+pub mod Tree
+pub mod Rules
+pub mod Events
+pub mod Code

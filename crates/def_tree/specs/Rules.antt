@@ -1,0 +1,61 @@
+-- The rules of sets in a game's tree.
+--     set_count kind ns     how many sets of the kind these nodes are in
+--     Fits before node      the node keeps the rules after these nodes
+--     KeepRules ns          each of the nodes keeps the rules after those before it
+--     IsGameTree t          a tree that keeps the rules, within the limit of nodes
+use Rattle.std.specs.Prelude.{◌≡◌, ℕ, ◌+◌, ◌<◌, ◌≤◌, Bool, true, false, if◌then◌else◌, max, List, [], ◌∷◌, length, take, slice_index_or, All, AllPairs}
+use Rattle.def_tree.specs.declared.Kind.{Kind}
+use Rattle.def_tree.specs.declared.Kind.TheVariants.{Chance, One, Two, Leaf}
+use Rattle.def_tree.specs.declared.Node.{Node}
+use Rattle.def_tree.specs.Tree.{Forest, prefix, node_count, IsTree}
+
+abbrev pub is_same_kind : Kind → Kind → Bool
+is_same_kind Chance Chance = true
+is_same_kind One One = true
+is_same_kind Two Two = true
+is_same_kind Leaf Leaf = true
+is_same_kind _ _ = false
+
+-- how many sets of a kind these nodes are in: sets are numbered by first appearance, so it is the greatest number
+abbrev pub set_count : Kind → List Node → ℕ
+set_count kind [] = 0
+set_count kind (node ∷ rest) = if is_same_kind kind node.kind then max node.set (set_count kind rest) else set_count kind rest
+
+-- two nodes that are in one set have equally many children
+abbrev pub AgreeOnSize : Node → Node → Type 0
+AgreeOnSize x y = x.kind ≡ y.kind → x.set ≡ y.set → x.children ≡ y.children
+
+-- a leaf is in no set and has no children
+pub record IsBareLeaf (node : Node) : Type 0 where
+  pub set : node.set ≡ 0
+  pub children : node.children ≡ 0
+
+-- the node is in a set of its kind that came before, or in the next one; it has 1 to 1,024 children, and as many as each earlier node of its set
+pub record JoinsSet (before : List Node) (node : Node) : Type 0 where
+  pub counts : 1 ≤ node.set
+  pub next : node.set ≤ set_count node.kind before + 1
+  pub some : 1 ≤ node.children
+  pub limit : node.children ≤ 1024
+  pub agrees : All (λ earlier. AgreeOnSize earlier node) before
+
+abbrev pub FitsAs : Kind → List Node → Node → Type 0
+FitsAs Leaf before node = IsBareLeaf node
+FitsAs _ before node = JoinsSet before node
+
+-- the node keeps the rules after these nodes
+abbrev pub Fits : List Node → Node → Type 0
+Fits before node = FitsAs node.kind before node
+
+-- each of the nodes keeps the rules after those before it
+abbrev pub KeepRules : List Node → Type 0
+KeepRules nodes = (k : ℕ) (d : Node) → k < length nodes → Fits (take k nodes) (slice_index_or nodes k d)
+
+-- one tree that keeps the rules, within the limit of nodes
+pub record IsGameTree (whole : Forest) : Type 0 where
+  pub tree : IsTree whole
+  pub rules : KeepRules (prefix whole)
+  pub limit : node_count whole ≤ 1048576
+
+-- by the rules, all nodes of one set have equally many children
+abbrev pub SetsAgreeOnSize : Type 0
+SetsAgreeOnSize = (nodes : List Node) → KeepRules nodes → AllPairs AgreeOnSize nodes

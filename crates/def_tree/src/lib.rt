@@ -1,0 +1,56 @@
+#![tactic(auto)]
+//! The nested tree of an extensive game, in definitions alone, and the plain data that its nodes hold.
+
+ghost use Rattle.def_tree.specs.Rules.{SetsAgreeOnSize};
+ghost use Rattle.def_tree.specs.Tree.{ForestOfPrefix, PrefixOfForest, WholeIffTree};
+
+/// One of the two players.
+#[derive(Clone, Copy, Debug, PartialEq, Eq)]
+pub enum Player {
+    One,
+    Two,
+}
+
+/// Who moves at a node: chance, a player, or nobody at a leaf.
+#[derive(Clone, Copy, Debug, PartialEq, Eq)]
+pub enum Kind {
+    Chance,
+    One,
+    Two,
+    Leaf,
+}
+
+/// A node of a game's tree.
+///
+/// Information sets are numbered within their kind, and outcomes within the game; 0 stands for no set and for the null outcome.
+#[derive(Clone, Copy, Debug, PartialEq, Eq)]
+pub struct Node {
+    pub kind: Kind,
+    pub set: u32,
+    pub outcome: u32,
+    pub children: u32,
+}
+
+/// The nodes of any list are those of its trees.
+pub fn prefix_of_forest()
+    ensures { PrefixOfForest }
+{
+}
+
+/// Trees are told by their nodes in prefix order.
+pub fn forest_of_prefix()
+    ensures { ForestOfPrefix }
+{
+}
+
+/// Exactly the lists that are a whole tree give one tree.
+pub fn whole_iff_tree()
+    ensures { WholeIffTree }
+{
+}
+
+/// All nodes of one set have equally many children.
+pub fn sets_agree_on_size()
+    ensures { SetsAgreeOnSize }
+{
+}

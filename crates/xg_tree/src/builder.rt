@@ -1,0 +1,107 @@
+ghost use Rattle.std.specs.Prelude.{◌≡◌, ◌≢◌, ◌↔◌, ◌+◌, ◌<◌, ◌≤◌, [], ◌∷◌, ◌++◌, length, IsTrue, OnOk, OnErr, IsErrOf};
+ghost use Rattle.def_tree.specs.Rules.{Fits, IsGameTree, KeepRules};
+ghost use Rattle.def_tree.specs.Tree.{Begins, forest_of, wanted};
+
+use crate::sizes::Sizes;
+use crate::tree::Tree;
+use def_tree::{Kind, Node};
+use std::alloc::Global;
+use std::marker::Model;
+use thiserror::Error;
+
+/// The greatest number of nodes of a tree.
+pub(crate) const NODE_LIMIT: usize = 1_048_576;
+
+/// Why a node was not taken.
+#[derive(Debug, Drop, PartialEq, Eq, Error)]
+pub enum PushFault {
+    #[error("a tree has at most 1048576 nodes")]
+    TooManyNodes,
+    #[error("out of memory")]
+    NoMemory,
+}
+
+/// The nodes of a tree so far, in prefix order.
+#[derive(Drop)]
+pub struct Builder {
+    nodes: Vec<Node>,
+    wanted: u32,
+    leaves: u32,
+    sizes: Sizes,
+}
+
+impl Model for Builder {
+    ghost use Rattle.std.specs.Prelude.{List};
+    ghost use Rattle.def_tree.specs.declared.Node.{Node};
+
+    ghost Value = { List Node };
+
+    ghost use Rattle.xg_tree.specs.Built.{IsBuilt};
+
+    ghost view = { λ b. b.nodes.items };
+
+    ghost invariant = { λ b. IsBuilt b.nodes.items b.wanted b.leaves b.sizes };
+}
+
+impl Builder {
+    /// No node yet, so that the root is wanted.
+    pub fn new(alloc: Global) -> Builder
+        ensures { result ≡ [] }
+    {
+        Builder {
+            nodes: Vec::new(alloc),
+            wanted: 1,
+            leaves: 0,
+            sizes: Sizes::new(alloc),
+        }
+    }
+
+    /// Whether the nodes are a whole tree.
+    pub fn is_complete(&self) -> bool
+        ensures complete { IsTrue result ↔ (wanted 1 self.now ≡ 0) }
+
+        // What is true of every builder.
+        ensures begins { Begins 1 self.now }
+        ensures rules { KeepRules self.now }
+        ensures limit { length self.now ≤ 1048576 }
+    {
+        self.wanted == 0
+    }
+
+    /// Whether the node keeps the rules of sets and children after the nodes so far. Any outcome does.
+    pub fn fits(&self, node: Node) -> bool
+        ensures { IsTrue result ↔ Fits self.now node }
+    {
+        self.sizes.fits(node)
+    }
+
+    /// Puts the next node, in prefix order.
+    pub fn push(&mut self, node: Node) -> Result<(), PushFault>
+        requires incomplete { wanted 1 self.old ≢ 0 }
+        requires fits { Fits self.old node }
+        ensures ok { OnOk result (self.new ≡ self.old ++ node ∷ []) }
+        ensures too_many { IsErrOf result PushFault.TooManyNodes ↔ (length self.old ≡ 1048576) }
+        ensures refused { OnErr result (self.new ≡ self.old) }
+    {
+        if self.nodes.len() >= NODE_LIMIT {
+            return Err(PushFault::TooManyNodes);
+        }
+        self.nodes.reserve(1).map_err(|_| PushFault::NoMemory)?;
+        self.sizes.note(node).map_err(|_| PushFault::NoMemory)?;
+        self.nodes.push(node).unwrap();
+        if node.kind == Kind::Leaf {
+            self.leaves += 1;
+        }
+        self.wanted = self.wanted - 1 + node.children;
+        Ok(())
+    }
+
+    /// The tree of the nodes.
+    pub fn finish(self) -> Tree
+        requires { wanted 1 self ≡ 0 }
+        ensures tree { result ≡ forest_of self }
+        ensures rules { IsGameTree result }
+    {
+        Tree::of(self.nodes, self.leaves)
+    }
+}
