@@ -1,0 +1,85 @@
+-- What is written of a fraction is read as the same fraction.
+use Rattle.std.proofs.Common.{◌≡◌, ℕ, zero, suc, ◌+◌, ◌-◌, ◌*◌, ◌^◌, ◌<◌, ◌≤◌, Bool, true, false, cond, ◌&&◌, eqb, List, [], ◌∷◌, ◌++◌, length, Option, Some, None, Ok, ℤ, pos, negsuc, neg_ℤ, unsigned_abs, refl, sym, ap, ◌∙◌, subst, arith, rules, append_assoc}
+use mathlib.Core.List.{append-nil}
+use Rattle.std.specs.Prelude.{IsTrue, nat_le}
+use Rattle.std.specs.Str.{all_ascii_digits}
+use Rattle.std.specs.Fmt.{decimal as decimal_text, signed_decimal}
+use Rattle.std.proofs.lemmas.Str.Parse.{IsNumeralModel, numerals_by_weight, tells_all_ascii_digits}
+use Rattle.std.proofs.lemmas.Fmt.{digits_decimal, digits_value-decimal, decimal_nonempty}
+use Rattle.std.proofs.lemmas.Bool.{and_parts, and_from, leb-true, le-leb, lt-ltb, eqb-true, ne_eqb}
+use Rattle.def_fraction.specs.Digits.{is_numeral, number_of}
+use Rattle.def_fraction.specs.Fraction.{Fraction, IsInLowestTerms, fraction_of, fits, signed}
+use Rattle.def_fraction.specs.Literal.{slash, no_sign, minus_sign, Sign, Body, quotient, decimal, Literal, literal_text, body_text, sign_text, IsBody, is_negative, numerator, denominator, signed_numerator}
+use Rattle.def_fraction.specs.Reading.{literal_of, value_of, read_as_literal}
+use Rattle.def_fraction.specs.Text.{int_text, fraction_text}
+use Rattle.def_fraction.proofs.FractionLemmas.{fraction_of-lowest}
+use Rattle.def_fraction.proofs.LiteralLemmas.{literal_of-text}
+
+pub numerals : IsNumeralModel (λ ds. all_ascii_digits ds ≡ true) number_of
+numerals = numerals_by_weight _ tells_all_ascii_digits number_of (search rules)
+
+pub decimal-numeral : (n : ℕ) → n < 2 ^ 64 → is_numeral (decimal_text n) ≡ true
+decimal-numeral n h = and_from _ _ (digits_decimal numerals n h) (lt-ltb 0 (length (decimal_text n)) (decimal_nonempty n h))
+
+pub number_of-decimal : (n : ℕ) → n < 2 ^ 64 → number_of (decimal_text n) ≡ n
+number_of-decimal n h = digits_value-decimal numerals n h
+
+-- the literal that the text of a fraction is
+abbrev sign_for : ℤ → Sign
+sign_for (pos n) = no_sign
+sign_for (negsuc n) = minus_sign
+
+abbrev body_for : ℕ → ℕ → Body
+body_for n d = cond (eqb d 1) (decimal (decimal_text n) None None) (quotient (decimal_text n) (decimal_text d))
+
+abbrev literal_for : Fraction → Literal
+literal_for f = record { sign = sign_for f.num; body = body_for (unsigned_abs f.num) f.den }
+
+int_text-split : (z : ℤ) → int_text z ≡ sign_text (sign_for z) ++ decimal_text (unsigned_abs z)
+int_text-split (pos n) = refl
+int_text-split (negsuc n) = refl
+
+text_if : (z : ℤ) (d : ℕ) (one : Bool) → sign_text (sign_for z) ++ body_text (cond one (decimal (decimal_text (unsigned_abs z)) None None) (quotient (decimal_text (unsigned_abs z)) (decimal_text d)))
+    ≡ cond one (int_text z) (int_text z ++ slash ∷ decimal_text d)
+text_if z d true = ap (λ xs. sign_text (sign_for z) ++ xs) (append-nil (decimal_text (unsigned_abs z))) ∙ sym (int_text-split z)
+text_if z d false = sym (append_assoc (sign_text (sign_for z)) (decimal_text (unsigned_abs z)) (slash ∷ decimal_text d)) ∙ ap (λ xs. xs ++ slash ∷ decimal_text d) (sym (int_text-split z))
+
+literal_text-fraction : (f : Fraction) → literal_text (literal_for f) ≡ fraction_text f
+literal_text-fraction f = text_if f.num f.den (eqb f.den 1)
+
+body_formed : (n d : ℕ) (one : Bool) → n < 2 ^ 64 → d < 2 ^ 64 → IsBody (cond one (decimal (decimal_text n) None None) (quotient (decimal_text n) (decimal_text d)))
+body_formed n d true p q = (subst (λ (xs : List ℕ). is_numeral xs ≡ true) (sym (append-nil (decimal_text n))) (decimal-numeral n p), tt)
+body_formed n d false p q = (decimal-numeral n p, decimal-numeral d q)
+
+numerator_is : (n d : ℕ) (one : Bool) → n < 2 ^ 64 → numerator (cond one (decimal (decimal_text n) None None) (quotient (decimal_text n) (decimal_text d))) ≡ n
+numerator_is n d true p = ap (λ xs. number_of xs * 1) (append-nil (decimal_text n)) ∙ ap (λ x. x * 1) (number_of-decimal n p) ∙ omega arith
+numerator_is n d false p = number_of-decimal n p
+
+denominator_is : (n d : ℕ) (one : Bool) → eqb d 1 ≡ one → d < 2 ^ 64 → denominator (cond one (decimal (decimal_text n) None None) (quotient (decimal_text n) (decimal_text d))) ≡ d
+denominator_is n d true e q = sym (eqb-true d 1 e)
+denominator_is n d false e q = number_of-decimal d q
+
+signed_for : (z : ℤ) → signed (is_negative (sign_for z)) (unsigned_abs z) ≡ z
+signed_for (pos n) = refl
+signed_for (negsuc n) = refl
+
+value_of-fraction : (f : Fraction) → IsInLowestTerms f → fits f ≡ true → value_of (literal_for f) ≡ Ok f
+unfolding value_of
+value_of-fraction f h w =
+    let small = and_parts _ _ w in
+    let above : unsigned_abs f.num ≤ 2 ^ 62 = leb-true (unsigned_abs f.num) (2 ^ 62) small.0 in
+    let below : f.den ≤ 2 ^ 62 = leb-true f.den (2 ^ 62) small.1 in
+    let n : numerator (literal_for f).body ≡ unsigned_abs f.num = numerator_is (unsigned_abs f.num) f.den (eqb f.den 1) (omega arith) in
+    let d : denominator (literal_for f).body ≡ f.den = denominator_is (unsigned_abs f.num) f.den (eqb f.den 1) refl (omega arith) in
+    let positive = h.positive in
+    let exact : fraction_of (signed (is_negative (sign_for f.num)) (unsigned_abs f.num)) f.den ≡ f = ap (λ z. fraction_of z f.den) (signed_for f.num) ∙ fraction_of-lowest f h in
+    rw (n, d, exact, ne_eqb f.den 0 (λ e. omega arith), le-leb (unsigned_abs f.num) (2 ^ 127 - 1) (omega arith), le-leb f.den (2 ^ 127 - 1) (omega arith), w) refl
+
+pub fraction_is_read_back : (f : Fraction) → IsInLowestTerms f → IsTrue (fits f) → read_as_literal (fraction_text f) ≡ Ok f
+unfolding read_as_literal
+fraction_is_read_back f h w =
+    let small = and_parts _ _ w in
+    let above : unsigned_abs f.num ≤ 2 ^ 62 = leb-true (unsigned_abs f.num) (2 ^ 62) small.0 in
+    let below : f.den ≤ 2 ^ 62 = leb-true f.den (2 ^ 62) small.1 in
+    let told : literal_of (fraction_text f) ≡ Some (literal_for f) = ap literal_of (sym (literal_text-fraction f)) ∙ literal_of-text (literal_for f) (body_formed (unsigned_abs f.num) f.den (eqb f.den 1) (omega arith) (omega arith)) in
+    rw told (value_of-fraction f h w)

@@ -1,0 +1,7 @@
+pub mod Digits
+pub mod Divisors
+pub mod Fraction
+pub mod Laws
+pub mod Literal
+pub mod Reading
+pub mod Text
