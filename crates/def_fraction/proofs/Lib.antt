@@ -1,4 +1,6 @@
 pub mod DivisorLemmas
 pub mod FractionLemmas
 pub mod LiteralLemmas
+pub mod NumberLemmas
+pub mod OrderLemmas
 pub mod TextLemmas

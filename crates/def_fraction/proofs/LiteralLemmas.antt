@@ -254,6 +254,6 @@ literal_of-spelled bs l h =
       formed = told.formed;
     })
 
-pub literal_is_told : (bs : List ℕ) (l : Literal) → (literal_of bs ≡ Some l) ↔ IsLiteral bs l
-literal_is_told bs l =
+pub literal_of-told : (bs : List ℕ) (l : Literal) → (literal_of bs ≡ Some l) ↔ IsLiteral bs l
+literal_of-told bs l =
     (literal_of-spelled bs l, λ w. ap literal_of (sym w.spelled) ∙ literal_of-text l w.formed)

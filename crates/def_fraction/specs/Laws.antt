@@ -1,12 +1,14 @@
 -- What the computed definitions compute, in the words of arithmetic and of number formats.
-use Rattle.std.specs.Prelude.{◌≡◌, ℕ, ◌<◌, ◌≤◌, ◌↔◌, List, Some, Ok, ℤ, pos, ◌*ℤ◌, ◌<ℤ◌, IsTrue}
-use Rattle.std.specs.declared.cmp.Ordering.TheVariants.{Less, Equal, Greater}
+use Rattle.std.specs.Prelude.{◌≡◌, ℕ, suc, ◌^◌, ◌<◌, ◌≤◌, ◌↔◌, List, [], ◌∷◌, slice_index, Some, Ok, ℤ, pos, negsuc, ◌*ℤ◌, unsigned_abs, IsTrue}
+use Rattle.std.specs.declared.cmp.Ordering.TheVariants.{Less, Equal}
+use Rattle.std.specs.Ordering.{ordering_reverse}
 use Rattle.std.specs.Int.{IsGcd}
+use Rattle.def_fraction.specs.Digits.{is_numeral, number_of}
 use Rattle.def_fraction.specs.Divisors.{gcd, lcm, IsLcm}
 use Rattle.def_fraction.specs.Fraction.{Fraction, IsInLowestTerms, fraction_of, order_of, fits}
-use Rattle.def_fraction.specs.Literal.{Literal, IsLiteral}
+use Rattle.def_fraction.specs.Literal.{minus, Literal, IsLiteral}
 use Rattle.def_fraction.specs.Reading.{literal_of, read_as_literal}
-use Rattle.def_fraction.specs.Text.{fraction_text}
+use Rattle.def_fraction.specs.Text.{int_text, fraction_text}
 
 -- `gcd` divides both numbers, and each common divisor divides it
 abbrev pub GcdIsGreatest : Type 0
@@ -31,9 +33,32 @@ FractionIsReduced = (num : ℤ) (den : ℕ) → 1 ≤ den → ReducesExactly num
 abbrev pub ValueTellsFraction : Type 0
 ValueTellsFraction = (f g : Fraction) → IsInLowestTerms f → IsInLowestTerms g → HasValue f g.num g.den → f ≡ g
 
+-- `order_of` orders the values: equal ones alone are one fraction, the other way round it is turned, and less than less is less
+pub record OrdersValues (f g h : Fraction) : Type 0 where
+  pub same : order_of f g ≡ Equal → f ≡ g
+  pub turned : order_of f g ≡ ordering_reverse (order_of g f)
+  pub through : order_of f g ≡ Less → order_of g h ≡ Less → order_of f h ≡ Less
+
+abbrev pub OrderIsTotal : Type 0
+OrderIsTotal = (f g h : Fraction) → IsInLowestTerms f → IsInLowestTerms g → IsInLowestTerms h → OrdersValues f g h
+
 -- bytes are read as a literal exactly where they are its bytes; so no bytes are two literals
 abbrev pub LiteralIsTold : Type 0
 LiteralIsTold = (bytes : List ℕ) (l : Literal) → (literal_of bytes ≡ Some l) ↔ IsLiteral bytes l
+
+-- the text of a natural number: digits that write it, with a leading zero only as the whole text of 0
+pub record IsCanonical (n : ℕ) (text : List ℕ) : Type 0 where
+  pub numeral : IsTrue (is_numeral text)
+  pub value : number_of text ≡ n
+  pub no_leading_zero : 0 < n → 48 < slice_index text 0
+  pub zero : n ≡ 0 → text ≡ 48 ∷ []
+
+abbrev pub IsCanonicalText : ℤ → List ℕ → Type 0
+IsCanonicalText (pos n) text = IsCanonical n text
+IsCanonicalText (negsuc n) text = (digits : List ℕ) × (text ≡ minus ∷ digits) × IsCanonical (suc n) digits
+
+abbrev pub TextIsCanonical : Type 0
+TextIsCanonical = (n : ℤ) → unsigned_abs n ≤ 2 ^ 127 → IsCanonicalText n (int_text n)
 
 -- what is written of a fraction is read as this fraction
 abbrev pub FractionIsReadBack : Type 0

@@ -1,8 +1,8 @@
 -- Which literal bytes are, what value it has, and which fault comes first where it has none.
 use Rattle.std.specs.Prelude.{ℕ, ◌<◌, Bool, true, false, ◌&&◌, ◌||◌, ◌==◌, nat_le, nat_lt, List, [], ◌∷◌, ◌++◌, length, Option, Some, None, Result, Ok, Err, if◌then◌else◌}
 use Rattle.std.specs.Option.{option_map}
-use Rattle.def_fraction.specs.declared.NumberFault.{NumberFault}
-use Rattle.def_fraction.specs.declared.NumberFault.TheVariants.{Form, ZeroDenominator, Range}
+use Rattle.def_fraction.specs.declared.fault.NumberFault.{NumberFault}
+use Rattle.def_fraction.specs.declared.fault.NumberFault.TheVariants.{Form, ZeroDenominator, Range}
 use Rattle.def_fraction.specs.Digits.{is_numeral, number_of, leading_digits, after_digits}
 use Rattle.def_fraction.specs.Fraction.{Fraction, fraction_of, fits, most}
 use Rattle.def_fraction.specs.Literal.{plus, minus, point, slash, small_e, capital_e, Sign, no_sign, plus_sign, minus_sign, Power, Body, quotient, decimal, Literal, digits_after, numerator, denominator, signed_numerator, most_written}

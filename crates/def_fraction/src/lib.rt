@@ -1,24 +1,14 @@
+//! Definitions of exact fractions and of the number literals that stand for them, with their laws. The definitions are in
+//! `specs/`; a law is the contract of a function with an empty body.
 #![tactic(auto)]
 
-//! Definitions of exact fractions and of the number literals that stand for them.
+mod fault;
+mod laws;
+mod rows;
 
-ghost use Rattle.std.specs.Prelude.{◌≡◌, codes, pos, Ok};
-ghost use Rattle.def_fraction.specs.Divisors.{gcd};
-ghost use Rattle.def_fraction.specs.Reading.{read_as_literal};
-
-/// Why bytes are no number, in the order in which the faults are sought.
-#[derive(Clone, Copy, Debug, PartialEq, Eq)]
-pub enum NumberFault {
-    /// The bytes aren't of the form.
-    Form,
-    /// The number after `/` is 0.
-    ZeroDenominator,
-    /// The number is past a limit.
-    Range,
-}
-
-#[tactic(auto, unfolding(crate::specs::Reading::read_as_literal, crate::specs::Reading::literal_of, crate::specs::Reading::value_of, crate::specs::Reading::body_of, crate::specs::Reading::body_after, crate::specs::Reading::decimal_of, crate::specs::Reading::power_of, crate::specs::Fraction::fraction_of, crate::specs::Divisors::gcd))]
-pub fn row()
-    ensures { read_as_literal (codes ".50") ≡ Ok (record { num = pos 1; den = 2 }) }
-{
-}
+pub use fault::NumberFault;
+pub use laws::{
+    fraction_is_read_back, fraction_is_reduced, gcd_is_greatest, lcm_is_least, literal_is_told,
+    order_is_total, text_is_canonical, value_tells_fraction,
+};
+pub use rows::{literals_at_the_limits, literals_that_are_none, literals_with_values, whole_numbers};
