@@ -1,0 +1,35 @@
+-- What a game file stands for.
+--     GameFile                     the title, both players' names and the tree
+--     entries_of kind nodes        how many of the nodes are of a kind
+--     personal, terminal           the node that an entry stands for
+use Rattle.std.specs.Prelude.{ℕ, ◌+◌, List, count_by, length}
+use Rattle.def_tree.specs.declared.Player.{Player}
+use Rattle.def_tree.specs.declared.Player.TheVariants as players
+use Rattle.def_tree.specs.declared.Kind.{Kind}
+use Rattle.def_tree.specs.declared.Kind.TheVariants.{Chance, One, Two, Leaf}
+use Rattle.def_tree.specs.declared.Node.{Node}
+use Rattle.def_tree.specs.Tree.{Forest}
+use Rattle.def_tree.specs.Rules.{is_same_kind}
+
+pub record GameFile : Type 0 where
+  pub title : List ℕ
+  pub one : List ℕ
+  pub two : List ℕ
+  pub tree : Forest
+
+-- the kind of a player's nodes
+abbrev pub kind_of : Player → Kind
+kind_of players.One = One
+kind_of players.Two = Two
+
+abbrev pub entries_of : Kind → List Node → ℕ
+entries_of kind nodes = count_by (λ node. is_same_kind kind node.kind) nodes
+
+-- a player's node in a set of its own, behind these nodes
+abbrev pub personal : List Node → Player → ℕ → Node
+personal before player actions =
+    record { kind = kind_of player; set = entries_of (kind_of player) before + 1; outcome = 0; children = actions }
+
+-- a leaf with an outcome of its own, behind these nodes
+abbrev pub terminal : List Node → Node
+terminal before = record { kind = Leaf; set = 0; outcome = entries_of Leaf before + 1; children = 0 }

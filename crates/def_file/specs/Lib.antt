@@ -1,0 +1,4 @@
+pub mod Content
+pub mod Form
+pub mod Reading
+pub mod Laws
