@@ -1,4 +1,2 @@
 pub mod Content
-pub mod Form
 pub mod Reading
-pub mod Laws

@@ -1,7 +1,5 @@
-//! A game file in the form that is read so far, by its tokens, and what it stands for.
+//! What a game file stands for, and how it is read, up to its first fault.
 #![tactic(auto)]
-
-ghost use Rattle.def_file.specs.Laws.{FormIsRead, ReadIsForm};
 
 use thiserror::Error;
 
@@ -21,13 +19,3 @@ pub enum FileFault {
     #[error("not built at {at}")]
     NotBuilt { at: usize },
 }
-
-/// What is read of a file is in the form, and stands for it.
-pub fn read_is_form()
-    ensures { ReadIsForm }
-{}
-
-/// A file in the form is read as what it stands for.
-pub fn form_is_read()
-    ensures { FormIsRead }
-{}

@@ -1,7 +1,7 @@
 -- Reading and the form are one.
 use Rattle.std.specs.Prelude.{◌≡◌, ℕ, List, Ok}
 use Rattle.def_file.specs.Content.{GameFile}
-use Rattle.def_file.specs.Form.{IsGameFile}
+use Rattle.def_form.specs.Form.{IsGameFile}
 use Rattle.def_file.specs.Reading.{game_at}
 
 abbrev pub ReadIsForm : Type 0
