@@ -16,12 +16,12 @@ use Rattle.def_tokens.specs.Texts.{unescaped}
 use Rattle.def_fraction.specs.Digits.{is_numeral, number_of}
 use Rattle.def_tree.specs.declared.Player.{Player}
 use Rattle.def_tree.specs.declared.Player.TheVariants as players
-use Rattle.def_tree.specs.declared.Kind.TheVariants.{Leaf}
 use Rattle.def_tree.specs.declared.Node.{Node}
 use Rattle.def_tree.specs.Tree.{wanted, forest_of}
+use Rattle.def_file.specs.declared.EntryCounts.{EntryCounts}
 use Rattle.def_file.specs.declared.FileFault.{FileFault}
 use Rattle.def_file.specs.declared.FileFault.TheVariants.{Syntax, UnexpectedEnd, NotBuilt}
-use Rattle.def_file.specs.Content.{GameFile, kind_of, entries_of, personal, terminal}
+use Rattle.def_file.specs.Content.{GameFile, counts_of, of_player, personal, terminal}
 
 infixl 10 ◌>>=◌
 abbrev pub ◌>>=◌ : {A B : Type 0} → Result A FileFault → (A → Result B FileFault) → Result B FileFault
@@ -128,33 +128,33 @@ most_actions = 1024
 abbrev pub player_of : List ℕ → Lexeme → Player
 player_of whole token = if is_exact kinds.Number (codes "1") whole token then players.One else players.Two
 
-unfoldable pub personal_at : List Node → List ℕ → ℕ → Result (Node × ℕ) FileFault
-personal_at before whole at = do
+unfoldable pub personal_at : EntryCounts → List ℕ → ℕ → Result (Node × ℕ) FileFault
+personal_at counts whole at = do
   name ← token_where (is_token kinds.Text whole) whole at
   player ← token_where (is_player whole) whole name.end
-  set ← token_where (is_count (entries_of (kind_of (player_of whole player)) before + 1) whole) whole player.end
+  set ← token_where (is_count (of_player (player_of whole player) counts + 1) whole) whole player.end
   set_name ← token_where (is_token kinds.Text whole) whole set.end
   opening ← token_where (is_token kinds.Open whole) whole set_name.end
   actions ← actions_from most_actions 0 whole opening.end
   outcome ← token_where (is_exact kinds.Number (codes "0") whole) whole actions.1
-  Ok (personal before (player_of whole player) actions.0, outcome.end)
+  Ok (personal counts (player_of whole player) actions.0, outcome.end)
 
-unfoldable pub terminal_at : List Node → List ℕ → ℕ → Result (Node × ℕ) FileFault
-terminal_at before whole at = do
+unfoldable pub terminal_at : EntryCounts → List ℕ → ℕ → Result (Node × ℕ) FileFault
+terminal_at counts whole at = do
   name ← token_where (is_token kinds.Text whole) whole at
-  outcome ← token_where (is_count (entries_of Leaf before + 1) whole) whole name.end
+  outcome ← token_where (is_count (counts.leaves + 1) whole) whole name.end
   opening ← token_where (is_token kinds.Open whole) whole outcome.end
   first ← token_where (is_payoff whole) whole opening.end
   comma ← token_where (is_token kinds.Comma whole) whole first.end
   second ← token_where (is_payoff whole) whole comma.end
   closing ← token_where (is_token kinds.Close whole) whole second.end
-  Ok (terminal before, closing.end)
+  Ok (terminal counts, closing.end)
 
--- the entry that comes after these nodes
-unfoldable pub entry_at : List Node → List ℕ → ℕ → Result (Node × ℕ) FileFault
-entry_at before whole at = do
+-- the entry that comes after so many others
+unfoldable pub entry_at : EntryCounts → List ℕ → ℕ → Result (Node × ℕ) FileFault
+entry_at counts whole at = do
   head ← token_where (begins_entry whole) whole at
-  if is_exact kinds.Word (codes "p") whole head then personal_at before whole head.end else terminal_at before whole head.end
+  if is_exact kinds.Word (codes "p") whole head then personal_at counts whole head.end else terminal_at counts whole head.end
 
 -- no token goes on: the fault at the next one
 abbrev pub nothing_at : {A : Type 0} → List ℕ → ℕ → Result A FileFault
@@ -165,7 +165,7 @@ unfoldable pub entries_from : ℕ → List Node → List ℕ → ℕ → Result 
 entries_from zero nodes whole at = if nat_eq (wanted 1 nodes) 0 then Ok (nodes, at) else nothing_at whole at
 entries_from (suc left) nodes whole at =
     if nat_eq (wanted 1 nodes) 0 then Ok (nodes, at)
-    else (entry_at nodes whole at >>= λ entry. entries_from left (nodes ++ entry.0 ∷ []) whole entry.1)
+    else (entry_at (counts_of nodes) whole at >>= λ entry. entries_from left (nodes ++ entry.0 ∷ []) whole entry.1)
 
 -- the greatest number of nodes of a game
 unfoldable pub most_nodes : ℕ

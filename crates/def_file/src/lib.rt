@@ -19,3 +19,11 @@ pub enum FileFault {
     #[error("not built at {at}")]
     NotBuilt { at: usize },
 }
+
+/// How many entries came so far: of each player, and leaves.
+#[derive(Clone, Copy, Debug, PartialEq, Eq)]
+pub struct EntryCounts {
+    pub one: u32,
+    pub two: u32,
+    pub leaves: u32,
+}

@@ -16,7 +16,7 @@ use Rattle.def_tree.specs.declared.Player.TheVariants as players
 use Rattle.def_tree.specs.declared.Kind.TheVariants.{One, Two, Leaf}
 use Rattle.def_tree.specs.declared.Node.{Node}
 use Rattle.def_tree.specs.Tree.{IsWhole, forest_of}
-use Rattle.def_file.specs.Content.{GameFile, kind_of, entries_of, personal, terminal}
+use Rattle.def_file.specs.Content.{GameFile, kind_of, entries_of, counts_of, personal, terminal}
 
 -- a token's kind and its bytes
 pub record Spelled : Type 0 where
@@ -98,9 +98,9 @@ pub record IsTerminal (before : List Node) (name outcome first second : List ℕ
 
 abbrev pub IsEntry : List Node → Entry → Node → Type 0
 IsEntry before (Personal name player set set_name actions) node =
-    IsPersonal before name player set set_name actions × (node ≡ personal before player (length actions))
+    IsPersonal before name player set set_name actions × (node ≡ personal (counts_of before) player (length actions))
 IsEntry before (Terminal name outcome first second) node =
-    IsTerminal before name outcome first second × (node ≡ terminal before)
+    IsTerminal before name outcome first second × (node ≡ terminal (counts_of before))
 
 abbrev pub AreEntries : List Node → List Entry → List Node → Type 0
 AreEntries before [] [] = Unit {0}
