@@ -1,6 +1,8 @@
 //! The tokens of a game file in the profile of Gambit's `.efg` format: definitions, and their laws.
 #![tactic(auto)]
 
+ghost use Rattle.def_tokens.specs.Laws.{NextIsLexeme, OneSpelling};
+
 /// What a token is.
 #[derive(Clone, Copy, Debug, PartialEq, Eq)]
 pub enum Token {
@@ -36,3 +38,13 @@ pub enum LexFault {
     /// The text whose opening mark is at this offset has no closing mark.
     Unclosed { at: usize },
 }
+
+/// The next token is what stands behind the white space, with the longest run where it is one.
+pub fn next_is_lexeme()
+    ensures { NextIsLexeme }
+{}
+
+/// A text's inside is the text with a backslash in front of each quotation mark.
+pub fn one_spelling()
+    ensures { OneSpelling }
+{}

@@ -1,7 +1,10 @@
 use Rattle.std.proofs.Common.{◌≡◌, length, Ok, Err, sym, ap, ◌∙◌, arith, rules}
 use Rattle.std.proofs.lemmas.Slice.{between_to_end}
 use Rattle.std.proofs.lemmas.Result.{err_from_is_err_and}
-use Rattle.xg_lex.proofs.TokenAt.{next_here}
+use Rattle.def_tokens.specs.Spelling.{IsLexemeFrom}
+use Rattle.def_tokens.specs.Tokens.{next_from}
+use Rattle.def_tokens.proofs.TokenLemmas.{next_from-sound}
+use Rattle.xg_lex.proofs.TokenAt.{next_here, inside_of}
 use Rattle.xg_lex.proofs.tokens.Tokens.next.Goals as goal
 
 pub returns-in_err-lexeme-clause-exact : goal.returns-in_err-lexeme-clause-exact
@@ -12,15 +15,21 @@ returns-in_err-lexeme-clause-exact c =
     rw (← c.self.view_is)
     (p.1 ∙ ap Err p.2 ∙ c.in_err-lexeme.ensures.value ∙ next_here bytes _ at c.space_len.result (between_to_end bytes at (length bytes) (omega arith)) c.space_len.ensures.value)
 
-pub returns-clause-exact : goal.returns-clause-exact
-returns-clause-exact c =
+-- the token that was read is the next one
+next_is : (c : goal.After-self-1) → Ok c.in_ok-lexeme.lexeme ≡ next_from c.self.inside.bytes.now c.self.inside.at
+next_is c =
     let bytes = c.self.inside.bytes.now in
     let at = c.self.inside.at in
-    rw (← c.self.view_is)
-    (c.in_ok-lexeme.ensures.value ∙ next_here bytes _ at c.space_len.result (between_to_end bytes at (length bytes) (omega arith)) c.space_len.ensures.value)
+    c.in_ok-lexeme.ensures.value ∙ next_here bytes _ at c.space_len.result (between_to_end bytes at (length bytes) (omega arith)) c.space_len.ensures.value
+
+spelled : (c : goal.After-self-1) → IsLexemeFrom c.self.inside.bytes.now c.self.inside.at c.in_ok-lexeme.lexeme
+spelled c = next_from-sound c.self.inside.bytes.now c.self.inside.at c.self.invariant c.in_ok-lexeme.lexeme (sym (next_is c))
+
+pub returns-clause-exact : goal.returns-clause-exact
+returns-clause-exact c = rw (← c.self.view_is) (next_is c)
 
 pub returns-clause-spelled : goal.returns-clause-spelled
-returns-clause-spelled c = ?
+returns-clause-spelled c = rw (← c.self.view_is) (spelled c)
 
 pub returns-clause-inside : goal.returns-clause-inside
-returns-clause-inside c = ?
+returns-clause-inside c = rw (← c.self.view_is) (inside_of c.self.inside.bytes.now c.self.inside.at c.in_ok-lexeme.lexeme (spelled c))
