@@ -1,2 +1,3 @@
 pub mod Forests
 pub mod Lists
+pub mod Walks

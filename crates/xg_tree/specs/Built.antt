@@ -5,10 +5,10 @@ use Rattle.def_tree.specs.Tree.{Begins, leaf_count, wanted}
 use Rattle.def_tree.specs.Rules.{KeepRules}
 use Rattle.xg_tree.specs.Sizes.{SizeLists, HoldSizes}
 
-pub record IsBuilt (nodes : List Node) (wanting leaves : ℕ) (sizes : SizeLists) : Type 0 where
+pub record IsBuilt (nodes : List Node) (wanting ended : ℕ) (sizes : SizeLists) : Type 0 where
   pub begins : Begins 1 nodes
   pub rules : KeepRules nodes
   pub limit : length nodes ≤ 1048576
-  pub wanting : wanting ≡ wanted 1 nodes
-  pub leaves : leaves ≡ leaf_count nodes
-  pub sizes : HoldSizes nodes sizes
+  pub wants : wanting ≡ wanted 1 nodes
+  pub ends : ended ≡ leaf_count nodes
+  pub joins : HoldSizes nodes sizes

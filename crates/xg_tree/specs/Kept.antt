@@ -4,8 +4,8 @@ use Rattle.def_tree.specs.declared.Node.{Node}
 use Rattle.def_tree.specs.Tree.{IsWhole, leaf_count}
 use Rattle.def_tree.specs.Rules.{KeepRules}
 
-pub record IsKept (nodes : List Node) (leaves : ℕ) : Type 0 where
+pub record IsKept (nodes : List Node) (ended : ℕ) : Type 0 where
   pub whole : IsWhole nodes
   pub rules : KeepRules nodes
   pub limit : length nodes ≤ 1048576
-  pub leaves : leaves ≡ leaf_count nodes
+  pub ends : ended ≡ leaf_count nodes

@@ -40,10 +40,16 @@ noted_as Leaf sizes node = sizes
 abbrev pub with_size : SizeLists → Node → SizeLists
 with_size sizes node = noted_as node.kind sizes node
 
+-- the set of this number is among the sizes, with this size
+pub record HasSize (sizes : List ℕ) (set children : ℕ) : Type 0 where
+  pub counts : 1 ≤ set
+  pub known : set ≤ length sizes
+  pub size : slice_index sizes (set - 1) ≡ children
+
 -- these are the sizes of the sets of a kind that the nodes are in
 pub record AreSizes (kind : Kind) (nodes : List Node) (sizes : List ℕ) : Type 0 where
   pub count : length sizes ≡ set_count kind nodes
-  pub each : All (λ node. node.kind ≡ kind → slice_index sizes (node.set - 1) ≡ node.children) nodes
+  pub each : All (λ node. node.kind ≡ kind → HasSize sizes node.set node.children) nodes
   pub met : (i : ℕ) → i < length sizes → (node : Node) × (Contains nodes node × ((node.kind ≡ kind) × ((node.set ≡ i + 1) × (node.children ≡ slice_index sizes i))))
 
 pub record HoldSizes (nodes : List Node) (sizes : SizeLists) : Type 0 where

@@ -1,21 +1,22 @@
--- The part of a walk that goes through one node and the nodes below it.
-use Rattle.std.specs.Prelude.{◌≡◌, ℕ, ◌+◌, ◌<◌, ◌≤◌, List, length, drop}
+-- The part of a walk that goes through some of the trees whose nodes stand from a place on.
+use Rattle.std.specs.Prelude.{ℕ, ◌+◌, ◌≤◌, List, length, drop}
 use Rattle.def_tree.specs.declared.Node.{Node}
-use Rattle.def_tree.specs.Tree.{forest_of, take_trees, HasItsChildren, node_count}
+use Rattle.def_tree.specs.Tree.{Forest, forest_of, take_trees, tree_count, HasItsChildren, node_count}
 use Rattle.def_tree.specs.Events.{Event, events_from}
 
--- the first of the trees whose nodes stand from a place on
-abbrev pub tree_at : List Node → ℕ → Forest
-tree_at nodes at = take_trees 1 (forest_of (drop at nodes))
+-- so many of the trees whose nodes stand from a place on
+abbrev pub row_at : List Node → ℕ → ℕ → Forest
+row_at nodes at count = take_trees count (forest_of (drop at nodes))
 
--- a node stands at the place, and the trees from there on are whole
-pub record HasTreeAt (nodes : List Node) (at : ℕ) : Type 0 where
-  pub there : at < length nodes
+abbrev pub row_events : List Node → ℕ → ℕ → List Event
+row_events nodes at count = events_from (at + 1) (row_at nodes at count)
+
+-- the place behind the last of their nodes
+abbrev pub row_end : List Node → ℕ → ℕ → ℕ
+row_end nodes at count = at + node_count (row_at nodes at count)
+
+-- at least so many trees stand from the place on, and their nodes have as many children as they say
+pub record HasTreesAt (nodes : List Node) (at count : ℕ) : Type 0 where
   pub limit : length nodes ≤ 1048576
+  pub some : count ≤ tree_count (forest_of (drop at nodes))
   pub children : HasItsChildren (forest_of (drop at nodes))
-
-abbrev pub events_at : List Node → ℕ → List Event
-events_at nodes at = events_from (at + 1) (tree_at nodes at)
-
-abbrev pub end_at : List Node → ℕ → ℕ
-end_at nodes at = at + node_count (tree_at nodes at)

@@ -1,6 +1,6 @@
 ghost use Rattle.std.specs.Prelude.{◌≡◌, ◌≢◌, ◌↔◌, ◌+◌, ◌<◌, ◌≤◌, [], ◌∷◌, ◌++◌, length, IsTrue, OnOk, OnErr, IsErrOf};
 ghost use Rattle.def_tree.specs.Rules.{Fits, IsGameTree, KeepRules};
-ghost use Rattle.def_tree.specs.Tree.{Begins, forest_of, wanted};
+ghost use Rattle.def_tree.specs.Tree.{Begins, forest_of, leaf_count, prefix, wanted};
 
 use crate::sizes::Sizes;
 use crate::tree::Tree;
@@ -89,9 +89,7 @@ impl Builder {
         self.nodes.reserve(1).map_err(|_| PushFault::NoMemory)?;
         self.sizes.note(node).map_err(|_| PushFault::NoMemory)?;
         self.nodes.push(node).unwrap();
-        if node.kind == Kind::Leaf {
-            self.leaves += 1;
-        }
+        self.leaves += leaves_in(node);
         self.wanted = self.wanted - 1 + node.children;
         Ok(())
     }
@@ -100,8 +98,18 @@ impl Builder {
     pub fn finish(self) -> Tree
         requires { wanted 1 self ≡ 0 }
         ensures tree { result ≡ forest_of self }
+        ensures nodes { prefix result ≡ self }
         ensures rules { IsGameTree result }
     {
         Tree::of(self.nodes, self.leaves)
+    }
+}
+
+fn leaves_in(node: Node) -> u32
+    ensures { result ≡ leaf_count (node ∷ []) }
+{
+    match node.kind {
+        Kind::Leaf => 1,
+        _ => 0,
     }
 }

@@ -10,3 +10,6 @@ pub use builder::{Builder, PushFault};
 pub use def_tree::{Kind, Node, Player};
 pub use tree::Tree;
 pub use visitor::Visitor;
+
+#[cfg(test)]
+mod tests;

@@ -3,7 +3,7 @@ ghost use Rattle.def_tree.specs.Events.{Accepts, Leads, events};
 ghost use Rattle.def_tree.specs.Rules.{IsGameTree};
 ghost use Rattle.def_tree.specs.Tree.{forest_of, leaf_count, node_count, prefix};
 ghost use Rattle.xg_tree.specs.Kept.{IsKept};
-ghost use Rattle.xg_tree.specs.Visits.{HasTreeAt, end_at, events_at};
+ghost use Rattle.xg_tree.specs.Visits.{HasTreesAt, row_end, row_events};
 
 use crate::visitor::Visitor;
 use def_tree::Node;
@@ -79,10 +79,10 @@ impl Tree {
 
 // Walks through the tree whose root stands at `at`, and answers the place behind its last node.
 fn visit<V: Visitor>(nodes: &[Node], at: usize, visitor: &mut V) -> usize
-    requires there { HasTreeAt nodes.now at }
-    requires accepts { Accepts V.may_enter V.enters V.may_leave V.leaves (events_at nodes.now at) visitor.old }
-    ensures end { result ≡ end_at nodes.now at }
-    ensures leads { Leads V.may_enter V.enters V.may_leave V.leaves (events_at nodes.now at) visitor.old visitor.new }
+    requires there { HasTreesAt nodes.now at 1 }
+    requires accepts { Accepts V.may_enter V.enters V.may_leave V.leaves (row_events nodes.now at 1) visitor.old }
+    ensures end { result ≡ row_end nodes.now at 1 }
+    ensures leads { Leads V.may_enter V.enters V.may_leave V.leaves (row_events nodes.now at 1) visitor.old visitor.new }
 {
     let node = nodes[at];
     let k = at as u32 + 1;

@@ -1,0 +1,4 @@
+pub mod KeptLemmas
+pub mod SizesLemmas
+pub mod BuiltLemmas
+pub mod VisitsLemmas
