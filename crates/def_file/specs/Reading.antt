@@ -96,17 +96,23 @@ pub record Prologue : Type 0 where
   pub one : List ℕ
   pub two : List ℕ
 
+-- a text, by the bytes that it stands for
+unfoldable pub text_at : List ℕ → ℕ → Result (List ℕ × ℕ) FileFault
+text_at whole at = do
+  token ← token_where (is_token kinds.Text whole) whole at
+  Ok (text_of whole token, token.end)
+
 unfoldable pub prologue_at : List ℕ → ℕ → Result (Prologue × ℕ) FileFault
 prologue_at whole at = do
   marker ← token_where (is_exact kinds.Word (codes "EFG") whole) whole at
   version ← token_where (is_exact kinds.Number (codes "2") whole) whole marker.end
   numbers ← token_where (is_exact kinds.Word (codes "R") whole) whole version.end
-  title ← token_where (is_token kinds.Text whole) whole numbers.end
-  opening ← token_where (is_token kinds.Open whole) whole title.end
-  one ← token_where (is_token kinds.Text whole) whole opening.end
-  two ← token_where (is_token kinds.Text whole) whole one.end
-  closing ← token_where (is_token kinds.Close whole) whole two.end
-  Ok (record { title = text_of whole title; one = text_of whole one; two = text_of whole two }, closing.end)
+  title ← text_at whole numbers.end
+  opening ← token_where (is_token kinds.Open whole) whole title.1
+  one ← text_at whole opening.end
+  two ← text_at whole one.1
+  closing ← token_where (is_token kinds.Close whole) whole two.1
+  Ok (record { title = title.0; one = one.0; two = two.0 }, closing.end)
 
 -- a text, or the closing brace behind at least one
 abbrev pub is_action : ℕ → List ℕ → Lexeme → Bool
@@ -128,16 +134,22 @@ most_actions = 1024
 abbrev pub player_of : List ℕ → Lexeme → Player
 player_of whole token = if is_exact kinds.Number (codes "1") whole token then players.One else players.Two
 
+-- a player's number
+unfoldable pub player_at : List ℕ → ℕ → Result (Player × ℕ) FileFault
+player_at whole at = do
+  token ← token_where (is_player whole) whole at
+  Ok (player_of whole token, token.end)
+
 unfoldable pub personal_at : EntryCounts → List ℕ → ℕ → Result (Node × ℕ) FileFault
 personal_at counts whole at = do
   name ← token_where (is_token kinds.Text whole) whole at
-  player ← token_where (is_player whole) whole name.end
-  set ← token_where (is_count (of_player (player_of whole player) counts + 1) whole) whole player.end
+  player ← player_at whole name.end
+  set ← token_where (is_count (of_player player.0 counts + 1) whole) whole player.1
   set_name ← token_where (is_token kinds.Text whole) whole set.end
   opening ← token_where (is_token kinds.Open whole) whole set_name.end
   actions ← actions_from most_actions 0 whole opening.end
   outcome ← token_where (is_exact kinds.Number (codes "0") whole) whole actions.1
-  Ok (personal counts (player_of whole player) actions.0, outcome.end)
+  Ok (personal counts player.0 actions.0, outcome.end)
 
 unfoldable pub terminal_at : EntryCounts → List ℕ → ℕ → Result (Node × ℕ) FileFault
 terminal_at counts whole at = do

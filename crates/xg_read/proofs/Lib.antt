@@ -1,0 +1,4 @@
+pub mod Texts
+pub mod Actions
+pub mod Numbered
+pub mod Whole

@@ -1,0 +1,78 @@
+//! A game, and its reading.
+ghost use Rattle.std.specs.Prelude.{◌≡◌, ◌≤◌, length};
+ghost use Rattle.def_file.specs.Reading.{game_at};
+ghost use Rattle.xg_read.specs.Contents.{name_of};
+ghost use Rattle.xg_read.specs.Gives.{Answers};
+
+use crate::fault::Refused;
+use crate::nodes::read_nodes;
+use crate::reader::{Names, Reader};
+use crate::wanted::Wanted;
+use std::alloc::Global;
+use std::marker::Model;
+use xg_lex::Text;
+use xg_tree::{Player, Tree};
+
+/// The greatest number of nodes of a game.
+const MOST_NODES: usize = 1_048_576;
+
+/// A game as its file gives it.
+#[derive(Drop)]
+pub struct Game {
+    names: Names,
+    tree: Tree,
+}
+
+impl Model for Game {
+    ghost use Rattle.std.specs.Coded.{codes};
+    ghost use Rattle.def_tree.specs.Code.{forest_code};
+    ghost use Rattle.def_file.specs.Content.{GameFile};
+
+    ghost Value = { GameFile };
+
+    ghost coded = { Prim.hlevel (codes, forest_code) };
+
+    ghost view = { λ g. record { title = g.names.title; one = g.names.one; two = g.names.two; tree = g.tree } };
+}
+
+impl Game {
+    /// The tree of the game's nodes.
+    pub fn tree(&self) -> &Tree
+        ensures { result.now ≡ self.now.tree }
+    {
+        &self.tree
+    }
+
+    /// The title, without the quotation marks round it.
+    pub fn title(&self) -> &[u8]
+        ensures { result.now ≡ self.now.title }
+    {
+        self.names.title.bytes()
+    }
+
+    /// A player's name, without the quotation marks round it.
+    pub fn player_name(&self, player: Player) -> &[u8]
+        ensures { result.now ≡ name_of player self.now }
+    {
+        match player {
+            Player::One => self.names.one.bytes(),
+            Player::Two => self.names.two.bytes(),
+        }
+    }
+}
+
+/// Reads a game from the bytes of its file, of at most 67,108,864 bytes.
+#[tactic(auto, unfolding(def_file::specs::Reading::game_at, def_file::specs::Reading::most_nodes))]
+pub fn read_game(alloc: Global, bytes: &[u8]) -> Result<Game, Refused>
+    requires { length bytes.now ≤ 67108864 }
+    ensures exact { Answers result (game_at bytes.now) }
+{
+    let mut reader = Reader::new(bytes);
+    let names = reader.prologue(alloc)?;
+    let nodes = read_nodes(alloc, &mut reader, MOST_NODES)?;
+    reader.token(Wanted::End)?;
+    Ok(Game {
+        names,
+        tree: nodes.finish(),
+    })
+}

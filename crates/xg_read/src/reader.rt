@@ -1,0 +1,139 @@
+//! A reader of a file's tokens, and of the prologue.
+ghost use Rattle.std.specs.Prelude.{◌≡◌, ◌+◌, ◌-◌, ◌≤◌, true, length, slice_range, IfOk};
+ghost use Rattle.def_tokens.specs.Texts.{IsInside, unescaped};
+ghost use Rattle.def_file.specs.Reading.{is_exact, token_where, unfit, text_of, text_at, prologue_at};
+ghost use Rattle.xg_read.specs.Gives.{GivesFor};
+ghost use Rattle.xg_read.specs.Names.{names_of};
+ghost use Rattle.xg_read.specs.Wanted.{test_of};
+
+use crate::fault::Refused;
+use crate::wanted::{Wanted, is_exact, is_kind};
+use def_file::FileFault;
+use std::alloc::{AllocError, Global};
+use std::marker::Model;
+use xg_lex::{LexFault, Lexeme, Text, Token, Tokens, unescape};
+
+/// Reads a file from front to back.
+#[derive(Drop)]
+pub struct Reader<'a> {
+    bytes: &'a [u8],
+    tokens: Tokens<'a>,
+}
+
+impl<'a> Model for Reader<'a> {
+    ghost use Rattle.std.specs.Prelude.{◌≡◌};
+    ghost use Rattle.def_tokens.specs.Tokens.{Cursor};
+
+    ghost Value = { Cursor };
+
+    ghost view = { λ r. r.tokens };
+
+    ghost invariant = { λ r. r.tokens.whole ≡ r.bytes.now };
+}
+
+/// The texts of a file's prologue.
+#[derive(Drop)]
+pub struct Names {
+    pub title: Text,
+    pub one: Text,
+    pub two: Text,
+}
+
+impl<'a> Reader<'a> {
+    /// A reader that stands before the first byte.
+    pub fn new(bytes: &'a [u8]) -> Reader<'a>
+        ensures whole { result.whole ≡ bytes.now }
+        ensures start { result.at ≡ 0 }
+    {
+        Reader {
+            bytes,
+            tokens: Tokens::new(bytes),
+        }
+    }
+
+    /// The next token, if it is one that is wanted.
+    #[tactic(auto, using(crate::proofs::Texts::text_room), unfolding(def_file::specs::Reading::token_where))]
+    pub fn token(&mut self, wanted: Wanted) -> Result<Lexeme, FileFault>
+        ensures exact { result ≡ token_where (test_of wanted self.old.whole) self.old.whole self.old.at }
+        ensures met { IfOk result (λ token. test_of wanted self.old.whole token ≡ true) }
+        ensures place { IfOk result (λ token. self.new.at ≡ token.end) }
+        ensures whole { self.new.whole ≡ self.old.whole }
+        ensures order { IfOk result (λ token. token.start ≤ token.end) }
+        ensures within { IfOk result (λ token. token.end ≤ length self.old.whole) }
+        ensures marks { IfOk result (λ token. token.kind ≡ Token.Text → token.start + 2 ≤ token.end) }
+        ensures inside { IfOk result (λ token. token.kind ≡ Token.Text
+            → IsInside (slice_range self.old.whole (token.start + 1) (token.end - 1))) }
+    {
+        match self.tokens.next() {
+            Ok(token) => {
+                if wanted.is_met(self.bytes, token) {
+                    return Ok(token);
+                }
+                Err(unfit(token))
+            }
+            Err(LexFault::Syntax { at }) => Err(FileFault::Syntax { at }),
+            Err(LexFault::Unclosed { at: _ }) => Err(FileFault::UnexpectedEnd),
+        }
+    }
+}
+
+/// Texts and the prologue.
+impl<'a> Reader<'a> {
+    /// The bytes that a text token stands for.
+    pub fn text(&self, alloc: Global, token: Lexeme) -> Result<Text, AllocError>
+        requires marks { token.start + 2 ≤ token.end }
+        requires within { token.end ≤ length self.now.whole }
+        requires inside { IsInside (slice_range self.now.whole (token.start + 1) (token.end - 1)) }
+        ensures { IfOk result (λ text. text ≡ text_of self.now.whole token) }
+    {
+        unescape(alloc, &self.bytes[token.start + 1..token.end - 1])
+    }
+
+    /// The next text token, and the bytes that it stands for.
+    #[tactic(auto, using(crate::proofs::Texts::kind_is_text), unfolding(def_file::specs::Reading::text_at))]
+    pub fn next_text(&mut self, alloc: Global) -> Result<Text, Refused>
+        ensures exact { GivesFor (λ text. text) result self.new.at (text_at self.old.whole self.old.at) }
+        ensures whole { self.new.whole ≡ self.old.whole }
+    {
+        let token = self.token(Wanted::Text)?;
+        Ok(self.text(alloc, token)?)
+    }
+
+    /// The prologue.
+    #[tactic(auto, unfolding(def_file::specs::Reading::prologue_at))]
+    pub fn prologue(&mut self, alloc: Global) -> Result<Names, Refused>
+        ensures exact { GivesFor names_of result self.new.at (prologue_at self.old.whole self.old.at) }
+        ensures whole { self.new.whole ≡ self.old.whole }
+    {
+        self.token(Wanted::Marker)?;
+        self.token(Wanted::Version)?;
+        self.token(Wanted::Numbers)?;
+        let title = self.next_text(alloc)?;
+        self.token(Wanted::Open)?;
+        let one = self.next_text(alloc)?;
+        let two = self.next_text(alloc)?;
+        self.token(Wanted::Close)?;
+        Ok(Names { title, one, two })
+    }
+}
+
+impl<'a> Reader<'a> {
+    /// Whether the token is of this kind and has these bytes.
+    pub fn is_exact(&self, kind: Token, exact: &[u8], token: Lexeme) -> bool
+        requires order { token.start ≤ token.end }
+        requires within { token.end ≤ length self.now.whole }
+        ensures { result ≡ is_exact kind exact.now self.now.whole token }
+    {
+        is_exact(kind, exact, self.bytes, token)
+    }
+}
+
+/// The fault of a token that can't go on.
+fn unfit(token: Lexeme) -> FileFault
+    ensures { result ≡ unfit token }
+{
+    if is_kind(Token::End, token.kind) {
+        return FileFault::UnexpectedEnd;
+    }
+    FileFault::NotBuilt { at: token.start }
+}
