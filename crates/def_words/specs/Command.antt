@@ -1,0 +1,31 @@
+-- The command that the words of a call name. The program's own name is none of the words.
+--     Command            what is to be done
+--     command_of words   the command, or none where the words aren't taken
+--     file_words c       the names of the files that the command opens
+use Rattle.std.specs.Prelude.{ℕ, Bool, true, false, ◌&&◌, not, nat_eq, if◌then◌else◌, List, [], ◌∷◌, Option, Some, None, codes}
+use Rattle.std.specs.Cmp.Lexicographic.{pointwise}
+
+pub data Command : Type 0 where
+  Solve : (file : List ℕ) → Command
+
+-- an option begins with a minus
+abbrev pub is_option : List ℕ → Bool
+is_option [] = false
+is_option (byte ∷ bytes) = nat_eq byte 45
+
+abbrev pub is_word : List ℕ → List ℕ → Bool
+is_word word expected = pointwise nat_eq word expected
+
+-- so far `solve FILE --rounds 0` alone, in this order and spelling
+abbrev pub command_of : List (List ℕ) → Option Command
+command_of [] = None
+command_of (command ∷ []) = None
+command_of (command ∷ file ∷ []) = None
+command_of (command ∷ file ∷ rounds ∷ []) = None
+command_of (command ∷ file ∷ rounds ∷ count ∷ []) =
+    if is_word command (codes "solve") && (not (is_option file) && (is_word rounds (codes "--rounds") && is_word count (codes "0")))
+    then Some (Solve file) else None
+command_of (command ∷ file ∷ rounds ∷ count ∷ word ∷ words) = None
+
+abbrev pub file_words : Command → List (List ℕ)
+file_words (Solve file) = file ∷ []
