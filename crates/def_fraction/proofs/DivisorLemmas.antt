@@ -108,3 +108,17 @@ IsLcm-lcm a b ha hb =
         let T : ℕ → Type 0 = λ z. a * y ∣ z in
         subst S turned (subst T whole (mul-dvd-mul_left y a inner));
     }
+
+-- one turn of Euclid's algorithm
+pub gcd-turn : (a b : ℕ) → gcd b (a % b) ≡ gcd a b
+gcd-turn a b = same_from_IsGcd a b _ _ (IsGcd-from_mod a b _ (IsGcd-gcd b (a % b))) (IsGcd-gcd a b)
+
+pub gcd-zero : (a : ℕ) → gcd a 0 ≡ a
+unfolding gcd
+gcd-zero a = refl
+
+pub gcd-one : (b : ℕ) → gcd 1 b ≡ 1
+gcd-one b = eq-one_of_dvd-one (IsGcd-gcd 1 b).0
+
+pub gcd-with_one : (a : ℕ) → gcd a 1 ≡ 1
+gcd-with_one a = eq-one_of_dvd-one (IsGcd-gcd a 1).1

@@ -1,6 +1,6 @@
 -- Fractions in lowest terms.
-use Rattle.std.proofs.Common.{◌≡◌, ℕ, zero, suc, ◌+◌, ◌*◌, ◌/◌, ◌%◌, ◌<◌, ◌≤◌, ℤ, pos, negsuc, neg_ℤ, ◌*ℤ◌, unsigned_abs, refl, sym, ap, ◌∙◌, subst, arith}
-use Rattle.std.proofs.Math.Nat.{mul_comm, mul-div_cancel', zero-mul, div-one}
+use Rattle.std.proofs.Common.{◌≡◌, ℕ, zero, suc, ◌+◌, ◌*◌, ◌/◌, ◌%◌, ◌<◌, ◌≤◌, Bool, true, false, ℤ, pos, negsuc, neg_ℤ, ◌*ℤ◌, unsigned_abs, refl, sym, ap, ◌∙◌, subst, arith}
+use Rattle.std.proofs.Math.Nat.{mul_comm, mul-div_cancel', zero-mul, div-one, zero-div}
 use Rattle.std.proofs.lemmas.Int.{unsigned_abs-mul}
 use Rattle.std.specs.Int.{IsGcd}
 use Rattle.def_fraction.specs.Divisors.{gcd}
@@ -82,3 +82,20 @@ fraction_of-lowest f h =
     let common = gcd (unsigned_abs f.num) f.den in
     let den : f.den / common ≡ f.den = ap (λ x. f.den / x) h.coprime ∙ div-one f.den in
     ap (λ n. make n (f.den / common)) (without_one f.num common h.coprime) ∙ ap (make f.num) den
+
+pub unsigned_abs-signed : (negative : Bool) (n : ℕ) → unsigned_abs (signed negative n) ≡ n
+unsigned_abs-signed true n = unsigned_abs-neg n
+unsigned_abs-signed false n = refl
+
+without_factor-signed : (negative : Bool) (n g : ℕ) → without_factor (signed negative n) g ≡ signed negative (n / g)
+without_factor-signed true zero g = ap pos (zero-div g) ∙ ap (λ m. neg_ℤ (pos m)) (sym (zero-div g))
+without_factor-signed true (suc n) g = refl
+without_factor-signed false n g = refl
+
+-- the fraction of a sign and two sizes
+pub fraction_of-signed : (negative : Bool) (n d : ℕ) → fraction_of (signed negative n) d ≡ record { num = signed negative (n / gcd n d); den = d / gcd n d }
+unfolding fraction_of
+fraction_of-signed negative n d =
+    let make : ℤ → ℕ → Fraction = λ m k. record { num = m; den = k } in
+    let size = unsigned_abs-signed negative n in
+    ap (λ k. make (without_factor (signed negative n) (gcd k d)) (d / gcd k d)) size ∙ ap (λ m. make m (d / gcd n d)) (without_factor-signed negative n (gcd n d))

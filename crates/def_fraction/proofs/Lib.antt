@@ -1,5 +1,6 @@
 pub mod DivisorLemmas
 pub mod FractionLemmas
+pub mod JudgeLemmas
 pub mod LiteralLemmas
 pub mod NumberLemmas
 pub mod OrderLemmas

@@ -1,5 +1,6 @@
 -- The order of fractions in lowest terms.
 use Rattle.std.proofs.Common.{◌≡◌, ℕ, zero, suc, ◌+◌, ◌*◌, ◌<◌, ◌≤◌, ℤ, pos, negsuc, neg_ℤ, ◌*ℤ◌, ◌<ℤ◌, refl, sym, ap, ◌∙◌, subst, arith}
+use Rattle.std.specs.Prelude.{◌↔◌}
 use Rattle.std.specs.declared.cmp.Ordering.{Ordering}
 use Rattle.std.specs.declared.cmp.Ordering.TheVariants.{Less, Equal, Greater}
 use Rattle.std.specs.Ordering.{int_cmp, ordering_reverse, MatchOrdering}
@@ -63,3 +64,9 @@ orders_values f g h p q r =
           low high (times_turned g.num f.den h.den) (times_turned f.num g.den h.den) (times_turned h.num g.den f.den) in
         sym (int_cmp_is (f.num *ℤ pos h.den) (h.num *ℤ pos f.den) Less (less_from_times (f.num *ℤ pos h.den) (h.num *ℤ pos f.den) g.den q.positive long));
     }
+
+pub order_of-same : (f g : Fraction) → IsInLowestTerms f → IsInLowestTerms g → (order_of f g ≡ Equal) ↔ (f ≡ g)
+order_of-same f g p q =
+    (λ e. same_from_value f g p q (int_ranked (f.num *ℤ pos g.den) (g.num *ℤ pos f.den) Equal (sym e)),
+     λ e. let itself : order_of g g ≡ Equal = sym (int_cmp_is (g.num *ℤ pos g.den) (g.num *ℤ pos g.den) Equal refl) in
+       ap (λ x. order_of x g) e ∙ itself)

@@ -1,12 +1,14 @@
 -- What the computed definitions compute, in the words of arithmetic and of number formats.
-use Rattle.std.specs.Prelude.{◌≡◌, ℕ, suc, ◌^◌, ◌<◌, ◌≤◌, ◌↔◌, List, [], ◌∷◌, slice_index, Some, Ok, ℤ, pos, negsuc, ◌*ℤ◌, unsigned_abs, IsTrue}
+use Rattle.std.specs.Prelude.{◌≡◌, ℕ, suc, ◌^◌, ◌<◌, ◌≤◌, ◌↔◌, List, [], ◌∷◌, slice_index, Some, Result, Ok, Err, ℤ, pos, negsuc, ◌*ℤ◌, unsigned_abs, IsTrue}
 use Rattle.std.specs.declared.cmp.Ordering.TheVariants.{Less, Equal}
 use Rattle.std.specs.Ordering.{ordering_reverse}
 use Rattle.std.specs.Int.{IsGcd}
+use Rattle.def_fraction.specs.declared.fault.NumberFault.{NumberFault}
+use Rattle.def_fraction.specs.declared.fault.NumberFault.TheVariants.{Form, ZeroDenominator, Range}
 use Rattle.def_fraction.specs.Digits.{is_numeral, number_of}
 use Rattle.def_fraction.specs.Divisors.{gcd, lcm, IsLcm}
 use Rattle.def_fraction.specs.Fraction.{Fraction, IsInLowestTerms, fraction_of, order_of, fits}
-use Rattle.def_fraction.specs.Literal.{minus, Literal, IsLiteral}
+use Rattle.def_fraction.specs.Literal.{minus, Literal, IsLiteral, IsNoLiteral, HasZeroDenominator, IsPastLimits, IsLiteralOf}
 use Rattle.def_fraction.specs.Reading.{literal_of, read_as_literal}
 use Rattle.def_fraction.specs.Text.{int_text, fraction_text}
 
@@ -45,6 +47,16 @@ OrderIsTotal = (f g h : Fraction) → IsInLowestTerms f → IsInLowestTerms g �
 -- bytes are read as a literal exactly where they are its bytes; so no bytes are two literals
 abbrev pub LiteralIsTold : Type 0
 LiteralIsTold = (bytes : List ℕ) (l : Literal) → (literal_of bytes ≡ Some l) ↔ IsLiteral bytes l
+
+-- what reading gives says what the bytes are, and the other way round
+pub record JudgesLiteral (bytes : List ℕ) (read : Result Fraction NumberFault) : Type 0 where
+  pub form : (read ≡ Err Form) ↔ IsNoLiteral bytes
+  pub zero_denominator : (read ≡ Err ZeroDenominator) ↔ HasZeroDenominator bytes
+  pub range : (read ≡ Err Range) ↔ IsPastLimits bytes
+  pub value : (f : Fraction) → (read ≡ Ok f) ↔ IsLiteralOf bytes f
+
+abbrev pub LiteralIsJudged : Type 0
+LiteralIsJudged = (bytes : List ℕ) → JudgesLiteral bytes (read_as_literal bytes)
 
 -- the text of a natural number: digits that write it, with a leading zero only as the whole text of 0
 pub record IsCanonical (n : ℕ) (text : List ℕ) : Type 0 where

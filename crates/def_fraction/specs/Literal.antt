@@ -3,7 +3,7 @@
 use Rattle.std.specs.Prelude.{◌≡◌, ℕ, ◌+◌, ◌-◌, ◌*◌, ◌^◌, ◌<◌, ◌≤◌, Bool, true, false, List, [], ◌∷◌, ◌++◌, length, Option, Some, None, IsTrue, ◌⊎◌, ⊤, ℤ, if◌then◌else◌}
 use Rattle.std.specs.Str.{all_ascii_digits}
 use Rattle.def_fraction.specs.Digits.{is_numeral, number_of}
-use Rattle.def_fraction.specs.Fraction.{signed}
+use Rattle.def_fraction.specs.Fraction.{Fraction, fraction_of, fits, signed}
 
 -- The bytes beside digits.
 abbrev pub plus : ℕ
@@ -122,3 +122,26 @@ signed_numerator l = signed (is_negative l.sign) (numerator l.body)
 -- the greatest numerator and denominator before reduction
 abbrev pub most_written : ℕ
 most_written = 2 ^ 127 - 1
+
+abbrev pub exact_value : Literal → Fraction
+exact_value l = fraction_of (signed_numerator l) (denominator l.body)
+
+-- no part passes its limit, before reduction and in lowest terms
+pub record IsWithinLimits (l : Literal) : Type 0 where
+  pub numerator_written : numerator l.body ≤ most_written
+  pub denominator_written : denominator l.body ≤ most_written
+  pub in_lowest_terms : IsTrue (fits (exact_value l))
+
+-- What bytes may be to a reader of literals: one of these four.
+
+abbrev pub IsNoLiteral : List ℕ → Type 0
+IsNoLiteral bytes = (l : Literal) → ¬ (IsLiteral bytes l)
+
+abbrev pub HasZeroDenominator : List ℕ → Type 0
+HasZeroDenominator bytes = (l : Literal) × IsLiteral bytes l × (denominator l.body ≡ 0)
+
+abbrev pub IsPastLimits : List ℕ → Type 0
+IsPastLimits bytes = (l : Literal) × IsLiteral bytes l × (0 < denominator l.body) × (¬ (IsWithinLimits l))
+
+abbrev pub IsLiteralOf : List ℕ → Fraction → Type 0
+IsLiteralOf bytes f = (l : Literal) × IsLiteral bytes l × (0 < denominator l.body) × IsWithinLimits l × (f ≡ exact_value l)

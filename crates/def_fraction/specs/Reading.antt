@@ -4,8 +4,8 @@ use Rattle.std.specs.Option.{option_map}
 use Rattle.def_fraction.specs.declared.fault.NumberFault.{NumberFault}
 use Rattle.def_fraction.specs.declared.fault.NumberFault.TheVariants.{Form, ZeroDenominator, Range}
 use Rattle.def_fraction.specs.Digits.{is_numeral, number_of, leading_digits, after_digits}
-use Rattle.def_fraction.specs.Fraction.{Fraction, fraction_of, fits, most}
-use Rattle.def_fraction.specs.Literal.{plus, minus, point, slash, small_e, capital_e, Sign, no_sign, plus_sign, minus_sign, Power, Body, quotient, decimal, Literal, digits_after, numerator, denominator, signed_numerator, most_written}
+use Rattle.def_fraction.specs.Fraction.{Fraction, fits, most}
+use Rattle.def_fraction.specs.Literal.{plus, minus, point, slash, small_e, capital_e, Sign, no_sign, plus_sign, minus_sign, Power, Body, quotient, decimal, Literal, digits_after, numerator, denominator, exact_value, most_written}
 
 abbrev pub sign_of : List ℕ → Sign
 sign_of [] = no_sign
@@ -47,9 +47,8 @@ literal_of bytes = option_map (λ body. record { sign = sign_of bytes; body = bo
 -- the fraction of a literal within the limits, and the first fault of any other
 unfoldable pub value_of : Literal → Result Fraction NumberFault
 value_of l =
-    let exact = fraction_of (signed_numerator l) (denominator l.body) in
     if denominator l.body == 0 then Err ZeroDenominator
-    else (if nat_le (numerator l.body) most_written && nat_le (denominator l.body) most_written && fits exact then Ok exact
+    else (if nat_le (numerator l.body) most_written && nat_le (denominator l.body) most_written && fits (exact_value l) then Ok (exact_value l)
     else Err Range)
 
 abbrev pub value_if : Option Literal → Result Fraction NumberFault

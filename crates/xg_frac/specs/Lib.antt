@@ -1,0 +1,3 @@
+pub mod Parts
+pub mod PartsBack
+pub mod Scan

@@ -1,1 +1,16 @@
+//! Exact fractions: the numbers that the solver reads from a file, computes payoffs and chances with, and prints. Each part
+//! of a fraction in lowest terms is at most 2^62 in size. Nothing in this crate takes memory.
 #![tactic(auto)]
+
+mod arithmetic;
+mod fraction;
+mod literal;
+mod printing;
+#[cfg(test)]
+mod tests;
+
+pub use arithmetic::{add, compare, lcm, mul};
+pub use def_fraction::NumberFault;
+pub use fraction::{Frac, OverLimit, one_over, whole};
+pub use literal::{read_literal, read_whole};
+pub use printing::{put_frac, put_int};

@@ -1,0 +1,4 @@
+pub mod PartLemmas
+pub mod PrintLemmas
+pub mod ReadLemmas
+pub mod ScanLemmas

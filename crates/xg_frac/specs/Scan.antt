@@ -1,0 +1,26 @@
+-- How the reader keeps numbers that may be past the limits: one past the greatest stands for all that are greater.
+use Rattle.std.specs.Prelude.{ℕ, ◌+◌, ◌-◌, ◌*◌, ◌^◌, min, List, length, Option}
+use Rattle.xg_frac.specs.declared.literal.Quotient.{Quotient}
+use Rattle.xg_frac.specs.declared.literal.Exponent.{Exponent}
+use Rattle.def_fraction.specs.Digits.{number_of}
+use Rattle.def_fraction.specs.Literal.{Power, Body, raised, lowered, numerator, denominator}
+
+abbrev pub past : ℕ
+past = 2 ^ 127
+
+-- the number that digits write after others that write start
+abbrev pub capped : ℕ → List ℕ → ℕ
+capped start digits = min (start * 10 ^ length digits + number_of digits) past
+
+abbrev pub quotient_of : Body → Quotient
+quotient_of body = record { num = min (numerator body) past; den = min (denominator body) past }
+
+-- a decimal of this number, with so many places after the point
+abbrev pub decimal_quotient : ℕ → ℕ → Option Power → Quotient
+decimal_quotient number places power = record {
+  num = min (number * 10 ^ (raised power - (places + lowered power))) past;
+  den = min (10 ^ (places + lowered power - raised power)) past;
+}
+
+abbrev pub exponent_of : Option Power → Exponent
+exponent_of power = record { raised = raised power; lowered = lowered power }

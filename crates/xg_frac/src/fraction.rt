@@ -1,0 +1,123 @@
+//! Fractions in lowest terms.
+ghost use Rattle.std.specs.Prelude.{◌≡◌, ◌^◌, ◌<◌, ◌≤◌, ◌≤ℤ◌, pos, unsigned_abs, IsTrue, OkIff, SomeIff};
+ghost use Rattle.def_fraction.specs.Divisors.{gcd};
+ghost use Rattle.def_fraction.specs.Fraction.{Fraction, IsInLowestTerms, signed, fraction_of, whole_number, most, fits};
+
+use std::marker::Model;
+
+/// The greatest size of a part of a fraction in lowest terms.
+pub(crate) const MOST: u128 = 0x4000_0000_0000_0000;
+
+/// A part of the exact result in lowest terms is past 2^62 in size.
+#[derive(Clone, Copy, Debug, PartialEq, Eq)]
+pub struct OverLimit;
+
+/// An exact fraction in lowest terms, whose parts are at most 2^62 in size and whose denominator is at least 1. Equal
+/// fractions have equal parts.
+#[derive(Clone, Copy, Debug, PartialEq, Eq)]
+pub struct Frac {
+    num: i128,
+    den: i128,
+}
+
+impl Model for Frac {
+    ghost use Rattle.std.specs.Prelude.{pos, unsigned_abs};
+    ghost use Rattle.def_fraction.specs.Fraction.{Fraction};
+    ghost use Rattle.xg_frac.specs.Parts.{AreParts};
+    ghost use Rattle.xg_frac.specs.PartsBack.{parts_back};
+
+    ghost Value = { Fraction };
+
+    ghost view = { λ f. record { num = f.num; den = unsigned_abs f.den } };
+
+    ghost invariant = { λ f. AreParts f.num f.den };
+
+    ghost inverse = { λ v. record { num = v.num; den = pos v.den } };
+
+    ghost inverse_ok = { λ f h. parts_back f h };
+}
+
+impl Frac {
+    /// The numerator, which has the fraction's sign.
+    pub fn num(&self) -> i128
+        ensures value { result ≡ self.now.num }
+        ensures size { unsigned_abs result ≤ most }
+        ensures lowest { IsInLowestTerms self.now }
+        ensures small { IsTrue (fits self.now) }
+    {
+        self.num
+    }
+
+    /// The denominator.
+    pub fn den(&self) -> i128
+        ensures value { result ≡ pos self.now.den }
+        ensures positive { pos 1 ≤ℤ result }
+        ensures size { unsigned_abs result ≤ most }
+        ensures lowest { IsInLowestTerms self.now }
+        ensures small { IsTrue (fits self.now) }
+    {
+        self.den
+    }
+}
+
+/// The whole number `n`.
+pub fn whole(n: i64) -> Result<Frac, OverLimit>
+    ensures { OkIff result (IsTrue (fits (whole_number n))) (whole_number n) }
+{
+    in_lowest_terms(n as i128, 1)
+}
+
+/// `1/n`.
+pub fn one_over(n: u32) -> Frac
+    requires { 1 ≤ n }
+    ensures { result ≡ record { num = pos 1; den = n } }
+{
+    Frac {
+        num: 1,
+        den: n as i128,
+    }
+}
+
+/// The greatest common divisor, by Euclid's algorithm.
+pub(crate) fn greatest_common_divisor(a: u128, b: u128) -> u128
+    ensures value { result ≡ gcd a b }
+    ensures positive { 1 ≤ b → 1 ≤ result }
+{
+    let (mut x, mut y) = (a, b);
+    while y != 0 {
+        (x, y) = (y, x % y);
+    }
+    x
+}
+
+/// The fraction of a numerator and a denominator.
+pub(crate) fn in_lowest_terms(num: i128, den: i128) -> Result<Frac, OverLimit>
+    requires { pos 1 ≤ℤ den }
+    ensures { OkIff result (IsTrue (fits (fraction_of num (unsigned_abs den)))) (fraction_of num (unsigned_abs den)) }
+{
+    reduced(num < 0, num.unsigned_abs(), den.unsigned_abs()).ok_or(OverLimit)
+}
+
+/// The fraction of this sign and these sizes, unless a part of it in lowest terms is past the limit.
+pub(crate) fn reduced(negative: bool, num: u128, den: u128) -> Option<Frac>
+    requires { 1 ≤ den }
+    ensures { SomeIff result (IsTrue (fits (fraction_of (signed negative num) den))) (fraction_of (signed negative num) den) }
+{
+    let common = greatest_common_divisor(num, den);
+    let (num, den) = (num / common, den / common);
+    if num > MOST || den > MOST {
+        return None;
+    }
+    Some(Frac {
+        num: with_sign(negative, num),
+        den: den as i128,
+    })
+}
+
+fn with_sign(negative: bool, size: u128) -> i128
+    requires { size < 2 ^ 127 }
+    ensures { result ≡ signed negative size }
+{
+    let size = size as i128;
+    if negative { -size } else { size }
+}
