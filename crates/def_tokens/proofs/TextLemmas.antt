@@ -1,8 +1,11 @@
 -- The inside of a text, its closing mark, and the bytes that it stands for.
-use Rattle.std.proofs.Common.{◌≡◌, ◌≢◌, ℕ, zero, suc, ◌+◌, ◌<◌, ◌≤◌, Bool, true, false, cond, not, eqb, ◌&&◌, ◌-◌, List, [], ◌∷◌, ◌++◌, length, Option, Some, None, sym, refl, ap, ◌∙◌, subst, arith, ⊎_elim, ◌⊎◌, inl, inr, eq-eqb}
-use Rattle.std.proofs.lemmas.Bool.{ne_eqb, eqb-true, eqb-false, cases_Bool, not-true, not-false}
+use Rattle.std.proofs.Common.{◌≡◌, ◌≢◌, ℕ, suc, ◌+◌, ◌≤◌, true, false, eqb, ◌-◌, List, [], ◌∷◌, ◌++◌, length, Some, None, sym, refl, ap, ◌∙◌, subst, arith, ⊎_elim, ◌⊎◌, inl, inr, eq-eqb}
+use Rattle.std.specs.List.{slice_range}
+use Rattle.std.proofs.Common.{min, take, drop, take-append-drop}
+use Rattle.std.proofs.lemmas.List.{length-take, length-drop, drop-drop, take_at, length-append, append_assoc}
+use Rattle.std.proofs.lemmas.Bool.{ne_eqb, eqb-true, eqb-false, cases_Bool}
 use Rattle.std.proofs.lemmas.Bool.Decides.{eqb_tells}
-use Rattle.std.proofs.Math.Bool.{and-false, and-true}
+use Rattle.std.proofs.Math.Bool.{and-false}
 use Rattle.def_tokens.specs.Texts.{MarksEscaped, EndsPlainly, IsInside, begins_with_mark, unescaped, escaped, closing_from}
 
 -- the last byte, or one that stands before all
@@ -219,3 +222,15 @@ pub none-closing_from : (at before : ℕ) (bs : List ℕ) → MarksEscaped befor
 unfolding closing_from
 none-closing_from at before [] all = refl
 none-closing_from at before (b ∷ bs) all = closing_from-goes_on at before b bs all.0 ∙ none-closing_from (at + 1) b bs all.1
+
+-- what stands between the first and the last byte of a span
+pub slice_range-inner : (whole : List ℕ) (start end : ℕ) (inside : List ℕ) → end ≤ length whole → slice_range whole start end ≡ 34 ∷ (inside ++ 34 ∷ []) → (start + 2 ≤ end) × (slice_range whole (start + 1) (end - 1) ≡ inside)
+slice_range-inner whole start end inside within quoted =
+    let rest = drop (end - start) (drop start whole) in
+    let len : length inside + 2 ≡ min (end - start) (length whole - start) = omega (arith, ap length quoted, length-take (end - start) (drop start whole), length-drop start whole, length-append inside (34 ∷ [])) in
+    let cut : end - 1 - (start + 1) ≡ length inside = omega (arith, len) in
+    let split : drop start whole ≡ (34 ∷ (inside ++ 34 ∷ [])) ++ rest = sym (take-append-drop (end - start) (drop start whole)) ∙ ap (λ l. l ++ rest) quoted in
+    let behind : drop (start + 1) whole ≡ inside ++ (34 ∷ rest) = sym (drop-drop 1 start whole) ∙ ap (drop 1) split ∙ append_assoc inside (34 ∷ []) rest in (
+      omega (arith, len),
+      ap (λ n. take n (drop (start + 1) whole)) cut ∙ ap (take (length inside)) behind ∙ take_at inside (34 ∷ rest) (length inside) refl,
+    )

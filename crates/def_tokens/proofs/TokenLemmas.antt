@@ -1,21 +1,22 @@
 -- The token at an offset, by its first byte, and the next token behind white space.
-use Rattle.std.proofs.Common.{◌≡◌, ◌≢◌, ℕ, zero, suc, ◌+◌, ◌-◌, ◌<◌, ◌≤◌, Bool, true, false, cond, not, eqb, ◌&&◌, ◌||◌, List, [], ◌∷◌, ◌++◌, length, take, drop, get_or, Option, Some, None, Result, Ok, Err, sym, refl, ap, ◌∙◌, subst, arith, ⊎_elim, ◌⊎◌, inl, inr, eq-eqb, length-append, length-drop, take-append-drop, append_assoc, append-nil, add-zero}
+use Rattle.std.proofs.Common.{◌≡◌, ◌≢◌, ℕ, zero, suc, ◌+◌, ◌-◌, ◌<◌, ◌≤◌, Bool, true, false, List, [], ◌∷◌, ◌++◌, length, take, drop, get_or, Option, Some, None, Ok, Err, sym, refl, ap, ◌∙◌, subst, arith, ⊎_elim, eq-eqb, length-append, length-drop, take-append-drop, append_assoc, add-zero}
 use Rattle.std.specs.List.{prefix_len, AllPass, AllByRecursion, slice_range}
 use Rattle.std.proofs.lemmas.List.Elements.{All-from_recursion, recursion_from_All}
-use Rattle.std.proofs.lemmas.List.{drop-drop, take_at, drop_at, drop_all, length-take-le}
+use Rattle.std.proofs.lemmas.List.{drop-drop, drop_more, take_at, drop_all, length-take-le}
 use Rattle.std.proofs.lemmas.List.Sums.{prefix_len-le-length}
-use Rattle.std.proofs.lemmas.Bool.{ne_eqb, eqb-true, eqb-false, cases_Bool}
+use Rattle.std.proofs.lemmas.Bool.{ne_eqb, cases_Bool}
 use Rattle.std.proofs.lemmas.Bool.Decides.{eqb_tells, nat_tests}
+use Rattle.std.proofs.str.Laws.{order}
 use Rattle.def_tokens.specs.declared.Token.{Token}
 use Rattle.def_tokens.specs.declared.Token.TheVariants.{Word, Text, Number, Open, Close, Comma, End}
 use Rattle.def_tokens.specs.declared.Lexeme.{Lexeme}
 use Rattle.def_tokens.specs.declared.LexFault.{LexFault}
 use Rattle.def_tokens.specs.declared.LexFault.TheVariants.{Syntax, Unclosed}
-use Rattle.def_tokens.specs.Bytes.{is_space, is_mark, in_run, begins_word, begins_number, begins_token}
-use Rattle.def_tokens.specs.Texts.{closing_from, IsInside}
-use Rattle.def_tokens.specs.Spelling.{FirstPasses, FirstFails, IsRun, IsText, IsToken, IsLexemeFrom, IsFirstByteFrom, IsSyntaxFrom, IsUnclosedFrom}
+use Rattle.def_tokens.specs.Bytes.{is_space, in_run, begins_word, begins_number, begins_token}
+use Rattle.def_tokens.specs.Texts.{closing_from, MarksEscaped}
+use Rattle.def_tokens.specs.Spelling.{FirstPasses, FirstFails, IsRun, IsToken, IsLexemeFrom, IsFirstByteFrom, IsSyntaxFrom, IsUnclosedFrom}
 use Rattle.def_tokens.specs.Tokens.{span, text_from, token_at, after_space, next_from}
-use Rattle.def_tokens.proofs.TextLemmas.{last_or, Closes, closing_from-sound, closing_from-complete, closing_from-none, none-closing_from, EndsPlainly-last_or, last_or-EndsPlainly}
+use Rattle.def_tokens.proofs.TextLemmas.{closing_from-sound, closing_from-complete, closing_from-none, none-closing_from, EndsPlainly-last_or, last_or-EndsPlainly}
 
 -- a byte that passes a test isn't one that fails it
 passes_apart : (test : ℕ → Bool) (b c : ℕ) → test b ≡ true → test c ≡ false → b ≢ c
@@ -318,3 +319,121 @@ module _ (whole : List ℕ) (at : ℕ) (within : at ≤ length whole) where
       ∙ token_at-complete lexeme.kind start (take len rest) (drop lexeme.end whole) is.token
       ∙ ap (λ n. Ok (span lexeme.kind start (start + n))) len_is
       ∙ ap (λ n. Ok (span lexeme.kind start n)) place
+
+-- a byte that begins no token passes none of the tests, and the other way round
+begins_none : (b : ℕ) → begins_token b ≡ false → (b ≢ 34) × (b ≢ 123) × (b ≢ 125) × (b ≢ 44) × (begins_word b ≡ false) × (begins_number b ≡ false)
+begins_none b none = (other 34 refl, other 123 refl, other 125 refl, other 44 refl, no_word b none, no_number b none)
+  where
+    other : (c : ℕ) → begins_token c ≡ true → b ≢ c
+    other c begins same = let clash : true ≡ false = sym begins ∙ ap begins_token (sym same) ∙ none in cc
+
+    no_word : (b : ℕ) → begins_token b ≡ false → begins_word b ≡ false
+    no_word b none = grind (arith, nat_tests)
+
+    no_number : (b : ℕ) → begins_token b ≡ false → begins_number b ≡ false
+    no_number b none = grind (arith, nat_tests)
+
+none_begins : (b : ℕ) → b ≢ 34 → b ≢ 123 → b ≢ 125 → b ≢ 44 → begins_word b ≡ false → begins_number b ≡ false → begins_token b ≡ false
+none_begins b not_quote not_open not_close not_comma no_word no_number =
+    rw (ne_eqb b 34 not_quote, ne_eqb b 123 not_open, ne_eqb b 125 not_close, ne_eqb b 44 not_comma, no_word, no_number) refl
+
+-- the faults by the first byte
+syntax_sound : (start place b : ℕ) (bs : List ℕ) → token_at start (b ∷ bs) ≡ Err (Syntax place) → (start ≡ place) × (begins_token b ≡ false)
+syntax_sound start place b bs is =
+    elim (begins_of b) [
+      | quote mark ↦ absurd (text_no_syntax start (closing_from (start + 1) b bs) place (sym (token_at-text start b bs mark) ∙ is))
+      | opens mark ↦ let clash = sym (token_at-open start b bs mark) ∙ is in absurd cc
+      | closes mark ↦ let clash = sym (token_at-close start b bs mark) ∙ is in absurd cc
+      | comma mark ↦ let clash = sym (token_at-comma start b bs mark) ∙ is in absurd cc
+      | word begins ↦ let clash = sym (token_at-word start b bs begins) ∙ is in absurd cc
+      | number no_word begins ↦ let clash = sym (token_at-number start b bs no_word begins) ∙ is in absurd cc
+      | nothing a d e f g h ↦ (let e1 = sym (token_at-fault start b bs a d e f g h) ∙ is in cc, none_begins b a d e f g h)
+    ]
+  where
+    text_no_syntax : (start : ℕ) (found : Option ℕ) (place : ℕ) → text_from start found ≡ Err (Syntax place) → ⊥
+    text_no_syntax start None place is = cc
+    text_no_syntax start (Some close) place is = cc
+
+unclosed_sound : (start place b : ℕ) (bs : List ℕ) → token_at start (b ∷ bs) ≡ Err (Unclosed place) → (start ≡ place) × (b ≡ 34) × MarksEscaped 34 bs
+unclosed_sound start place b bs is =
+    elim (begins_of b) [
+      | quote mark ↦
+          let found = text_unclosed start (closing_from (start + 1) b bs) place (sym (token_at-text start b bs mark) ∙ is) in
+          (found.0, mark, closing_from-none (start + 1) 34 bs (ap (λ x. closing_from (start + 1) x bs) (sym mark) ∙ found.1))
+      | opens mark ↦ let clash = sym (token_at-open start b bs mark) ∙ is in absurd cc
+      | closes mark ↦ let clash = sym (token_at-close start b bs mark) ∙ is in absurd cc
+      | comma mark ↦ let clash = sym (token_at-comma start b bs mark) ∙ is in absurd cc
+      | word begins ↦ let clash = sym (token_at-word start b bs begins) ∙ is in absurd cc
+      | number no_word begins ↦ let clash = sym (token_at-number start b bs no_word begins) ∙ is in absurd cc
+      | nothing a d e f g h ↦ let clash = sym (token_at-fault start b bs a d e f g h) ∙ is in absurd cc
+    ]
+  where
+    text_unclosed : (start : ℕ) (found : Option ℕ) (place : ℕ) → text_from start found ≡ Err (Unclosed place) → (start ≡ place) × (found ≡ None)
+    text_unclosed start None place is = (cc, refl)
+    text_unclosed start (Some close) place is = absurd cc
+
+module _ (whole : List ℕ) (at : ℕ) (within : at ≤ length whole) where
+  -- at a byte within the bytes
+  first_byte : (place : ℕ) → after_space whole at ≡ place → place < length whole → IsFirstByteFrom whole at place
+  first_byte place is inner = record {
+    from = omega (arith, is);
+    within = inner;
+    space = subst (λ n. AllPass is_space (slice_range whole at n)) is (space_passes whole at within);
+    byte = subst (FirstFails is_space) (drop_more whole place 0 inner) (subst (λ n. FirstFails is_space (drop n whole)) is (space_stops whole at within));
+  }
+
+  first_is : (place : ℕ) → IsFirstByteFrom whole at place → next_from whole at ≡ token_at place (get_or whole place 0 ∷ drop (place + 1) whole)
+  unfolding next_from
+  first_is place is =
+      let start_is = space_is whole at within place is.from (omega (arith, is.within)) is.space (subst (FirstFails is_space) (sym (drop_more whole place 0 is.within)) is.byte) in
+      ap (λ n. token_at n (drop n whole)) start_is ∙ ap (token_at place) (drop_more whole place 0 is.within)
+
+  -- a fault comes within the bytes
+  not_at_end : (fault : LexFault) → next_from whole at ≡ Err fault → after_space whole at < length whole
+  unfolding next_from
+  not_at_end fault is =
+      let start = after_space whole at in
+      ⊎_elim (λ inner. inner) (λ past. let clash = sym (ap (token_at start) (drop_all start whole past) ∙ token_at-end start) ∙ is in absurd cc) (order start (length whole))
+
+  here : (fault : LexFault) (is : next_from whole at ≡ Err fault) → token_at (after_space whole at) (get_or whole (after_space whole at) 0 ∷ drop (after_space whole at + 1) whole) ≡ Err fault
+  unfolding next_from
+  here fault is = let start = after_space whole at in ap (token_at start) (sym (drop_more whole start 0 (not_at_end fault is))) ∙ is
+
+  pub next_from-syntax : (place : ℕ) → next_from whole at ≡ Err (Syntax place) → IsSyntaxFrom whole at place
+  next_from-syntax place is =
+      let start = after_space whole at in
+      let found = syntax_sound start place _ _ (here (Syntax place) is) in
+      record {
+        first = first_byte place found.0 (subst (λ n. n < length whole) found.0 (not_at_end (Syntax place) is));
+        no_token = subst (λ n. begins_token (get_or whole n 0) ≡ false) found.0 found.1;
+      }
+
+  pub syntax-next_from : (place : ℕ) → IsSyntaxFrom whole at place → next_from whole at ≡ Err (Syntax place)
+  syntax-next_from place is =
+      let none = begins_none (get_or whole place 0) is.no_token in
+      first_is place is.first ∙ token_at-fault place _ _ none.0 none.1 none.2 none.3 none.4 none.5
+
+  pub next_from-unclosed : (place : ℕ) → next_from whole at ≡ Err (Unclosed place) → IsUnclosedFrom whole at place
+  next_from-unclosed place is =
+      let start = after_space whole at in
+      let found = unclosed_sound start place _ _ (here (Unclosed place) is) in
+      record {
+        first = first_byte place found.0 (subst (λ n. n < length whole) found.0 (not_at_end (Unclosed place) is));
+        mark = subst (λ n. get_or whole n 0 ≡ 34) found.0 found.1;
+        no_closing = subst (λ n. MarksEscaped 34 (drop (n + 1) whole)) found.0 found.2;
+      }
+
+  pub unclosed-next_from : (place : ℕ) → IsUnclosedFrom whole at place → next_from whole at ≡ Err (Unclosed place)
+  unclosed-next_from place is =
+      let rest = drop (place + 1) whole in
+      first_is place is.first
+      ∙ ap (λ b. token_at place (b ∷ rest)) is.mark
+      ∙ token_at-text place 34 rest refl
+      ∙ ap (text_from place) (none-closing_from (place + 1) 34 rest is.no_closing)
+
+pub next_from-end : (whole : List ℕ) → next_from whole (length whole) ≡ Ok (span End (length whole) (length whole))
+unfolding next_from
+next_from-end whole =
+    let none : drop (length whole) whole ≡ [] = drop_all (length whole) whole (omega arith) in
+    let start_is : after_space whole (length whole) ≡ length whole = ap (λ l. length whole + prefix_len is_space l) none ∙ add-zero (length whole) in
+    ap (λ n. token_at n (drop n whole)) start_is ∙ ap (token_at (length whole)) none ∙ token_at-end (length whole)

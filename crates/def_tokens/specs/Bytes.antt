@@ -1,5 +1,5 @@
 -- The bytes of the format (the .efg format of Gambit's manual, in this project's profile).
-use Rattle.std.specs.Prelude.{ℕ, Bool, ◌||◌, ◌&&◌, ◌==◌, not, nat_le, List, [], ◌∷◌}
+use Rattle.std.specs.Prelude.{ℕ, Bool, ◌||◌, ◌&&◌, ◌==◌, not, nat_le}
 
 -- white space: tab, line feed, vertical tab, form feed, carriage return and space
 abbrev pub is_space : ℕ → Bool

@@ -1,5 +1,5 @@
 -- What the next token is, in the format's own words.
-use Rattle.std.specs.Prelude.{◌≡◌, ℕ, ◌≤◌, ◌↔◌, Result, Ok, Err, List, [], ◌∷◌, ◌++◌, length, drop}
+use Rattle.std.specs.Prelude.{◌≡◌, ℕ, ◌≤◌, ◌↔◌, Ok, Err, List, ◌++◌, length, drop}
 use Rattle.def_tokens.specs.declared.Token.TheVariants.{End}
 use Rattle.def_tokens.specs.declared.Lexeme.{Lexeme}
 use Rattle.def_tokens.specs.declared.LexFault.TheVariants.{Syntax, Unclosed}

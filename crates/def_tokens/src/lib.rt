@@ -1,7 +1,7 @@
 //! The tokens of a game file in the profile of Gambit's `.efg` format: definitions, and their laws.
 #![tactic(auto)]
 
-ghost use Rattle.def_tokens.specs.Laws.{NextIsLexeme, OneSpelling};
+ghost use Rattle.def_tokens.specs.Laws.{NextIsLexeme, NextIsSyntax, NextIsUnclosed, EndStays, PiecesAreRead, ReadIsPieces, OneReading, OneSpelling};
 
 /// What a token is.
 #[derive(Clone, Copy, Debug, PartialEq, Eq)]
@@ -42,6 +42,36 @@ pub enum LexFault {
 /// The next token is what stands behind the white space, with the longest run where it is one.
 pub fn next_is_lexeme()
     ensures { NextIsLexeme }
+{}
+
+/// A syntax fault is a byte behind the white space that begins no token.
+pub fn next_is_syntax()
+    ensures { NextIsSyntax }
+{}
+
+/// An unclosed text is one whose every further quotation mark follows a backslash.
+pub fn next_is_unclosed()
+    ensures { NextIsUnclosed }
+{}
+
+/// At the end the next token is the end again.
+pub fn end_stays()
+    ensures { EndStays }
+{}
+
+/// Bytes that are white space and tokens in turn are read as these tokens.
+pub fn pieces_are_read()
+    ensures { PiecesAreRead }
+{}
+
+/// Bytes that are read to their end are white space and tokens in turn.
+pub fn read_is_pieces()
+    ensures { ReadIsPieces }
+{}
+
+/// Bytes are white space and tokens in turn in one way at most.
+pub fn one_reading()
+    ensures { OneReading }
 {}
 
 /// A text's inside is the text with a backslash in front of each quotation mark.

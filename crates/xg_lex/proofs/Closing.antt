@@ -1,5 +1,5 @@
 -- The search for a text's closing mark, one quotation mark after another.
-use Rattle.std.proofs.Common.{◌≡◌, ℕ, zero, suc, ◌+◌, ◌-◌, ◌<◌, ◌≤◌, Bool, true, false, cond, not, eqb, ◌&&◌, List, [], ◌∷◌, length, drop, get_or, Option, Some, None, sym, refl, ap, ◌∙◌, subst, arith, eq-eqb, add-zero, add-one, get_or-drop, drop-cons}
+use Rattle.std.proofs.Common.{◌≡◌, ℕ, zero, suc, ◌+◌, ◌-◌, ◌<◌, ◌≤◌, true, false, eqb, List, [], ◌∷◌, length, drop, get_or, Some, None, sym, refl, ap, ◌∙◌, arith, eq-eqb, add-zero, get_or-drop}
 use Rattle.std.proofs.Common.{◌≢◌, length-drop}
 use Rattle.std.proofs.lemmas.List.{drop_more, drop-drop}
 use Rattle.std.proofs.lemmas.Bool.{false_from_ne_true, ne_eqb}

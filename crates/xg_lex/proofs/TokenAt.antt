@@ -1,18 +1,17 @@
 -- The token that begins at an offset, by its first byte.
-use Rattle.std.proofs.Common.{◌≡◌, ◌≢◌, ℕ, ◌+◌, ◌<◌, ◌≤◌, Bool, true, false, cond, eqb, List, [], ◌∷◌, length, drop, get_or, Option, Some, None, Result, Ok, Err, sym, refl, ap, ◌∙◌, subst, arith, eq-eqb}
+use Rattle.std.proofs.Common.{◌≡◌, ◌≢◌, ℕ, ◌+◌, ◌<◌, ◌≤◌, true, false, List, ◌∷◌, length, drop, get_or, Ok, Err, sym, ap, ◌∙◌, subst}
 use Rattle.std.specs.List.{prefix_len, slice_range}
-use Rattle.std.proofs.Common.{◌-◌, ◌++◌, take, length-append, length-drop, take-append-drop, append_assoc}
-use Rattle.std.proofs.lemmas.List.{take_at, drop-drop, length-take-le}
+use Rattle.std.proofs.Common.{◌-◌}
 use Rattle.def_tokens.specs.declared.Token.TheVariants.{Text}
 use Rattle.def_tokens.specs.declared.Lexeme.{Lexeme}
 use Rattle.def_tokens.specs.Spelling.{IsText, IsToken, IsLexemeFrom}
 use Rattle.def_tokens.specs.Texts.{IsInside}
 use Rattle.std.proofs.lemmas.List.{drop_more, drop_all}
-use Rattle.std.proofs.lemmas.Bool.{ne_eqb}
 use Rattle.def_tokens.specs.declared.Token.TheVariants.{Word, Number, Open, Close, Comma, End}
 use Rattle.def_tokens.specs.declared.LexFault.TheVariants.{Syntax}
 use Rattle.def_tokens.specs.Bytes.{is_space, in_run, begins_word, begins_number}
 use Rattle.def_tokens.specs.Texts.{closing_from}
+use Rattle.def_tokens.proofs.TextLemmas.{slice_range-inner}
 use Rattle.def_tokens.proofs.TokenLemmas.{token_at-text, token_at-open, token_at-close, token_at-comma, token_at-word, token_at-number, token_at-fault, token_at-end}
 use Rattle.def_tokens.specs.Tokens.{span, text_from, token_at, next_from}
 
@@ -53,16 +52,13 @@ pub next_here : (bytes rest : List ℕ) (at n : ℕ) → rest ≡ drop at bytes 
 unfolding next_from
 next_here bytes rest at n is_rest is_len = ap (λ k. token_at (at + k) (drop (at + k) bytes)) (is_len ∙ ap (prefix_len is_space) is_rest)
 
--- the inside of a text that was read
-pub inside_of : (whole : List ℕ) (at : ℕ) (lexeme : Lexeme) → IsLexemeFrom whole at lexeme → lexeme.kind ≡ Text → IsInside (slice_range whole (lexeme.start + 1) (lexeme.end - 1))
-inside_of whole at lexeme is text =
-    let start = lexeme.start in
-    let end = lexeme.end in
-    let spelled : IsText (slice_range whole start end) = subst (λ k. IsToken k (slice_range whole start end) (drop end whole)) text is.token in
-    let inside = spelled.inside in
-    let len : length inside + 2 ≡ end - start = omega (arith, ap length spelled.quoted, length-append inside (34 ∷ []), length-take-le (end - start) (drop start whole) (omega (arith, length-drop start whole, is.order, is.within))) in
-    let cut : end - 1 - (start + 1) ≡ length inside = omega (arith, len) in
-    let split : drop start whole ≡ (34 ∷ (inside ++ 34 ∷ [])) ++ drop (end - start) (drop start whole) = sym (take-append-drop (end - start) (drop start whole)) ∙ ap (λ l. l ++ drop (end - start) (drop start whole)) spelled.quoted in
-    let behind : drop (start + 1) whole ≡ inside ++ (34 ∷ drop (end - start) (drop start whole)) = sym (drop-drop 1 start whole) ∙ ap (drop 1) split ∙ append_assoc inside (34 ∷ []) (drop (end - start) (drop start whole)) in
-    let same : slice_range whole (start + 1) (end - 1) ≡ inside = ap (λ n. take n (drop (start + 1) whole)) cut ∙ ap (take (length inside)) behind ∙ take_at inside (34 ∷ drop (end - start) (drop start whole)) (length inside) refl in
-    subst IsInside (sym same) spelled.is_inside
+-- the text that was read, with its quotation marks and its inside
+module _ (whole : List ℕ) (at : ℕ) (lexeme : Lexeme) (is : IsLexemeFrom whole at lexeme) (text : lexeme.kind ≡ Text) where
+  text_is : IsText (slice_range whole lexeme.start lexeme.end)
+  text_is = subst (λ k. IsToken k (slice_range whole lexeme.start lexeme.end) (drop lexeme.end whole)) text is.token
+
+  pub quoted_of : lexeme.start + 2 ≤ lexeme.end
+  quoted_of = (slice_range-inner whole lexeme.start lexeme.end text_is.inside is.within text_is.quoted).0
+
+  pub inside_of : IsInside (slice_range whole (lexeme.start + 1) (lexeme.end - 1))
+  inside_of = subst IsInside (sym (slice_range-inner whole lexeme.start lexeme.end text_is.inside is.within text_is.quoted).1) text_is.is_inside

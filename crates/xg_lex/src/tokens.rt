@@ -45,6 +45,7 @@ impl<'a> Tokens<'a> {
         ensures within { self.new.at ≤ length self.new.whole }
         // The token's bytes are its span, behind white space.
         ensures spelled { IfOk result (IsLexemeFrom self.old.whole self.old.at) }
+        ensures quoted { IfOk result (λ lexeme. lexeme.kind ≡ Token.Text → lexeme.start + 2 ≤ lexeme.end) }
         ensures inside { IfOk result (λ lexeme. lexeme.kind ≡ Token.Text
             → IsInside (slice_range self.old.whole (lexeme.start + 1) (lexeme.end - 1))) }
     {

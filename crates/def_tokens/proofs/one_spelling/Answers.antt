@@ -1,5 +1,4 @@
 use Rattle.def_tokens.proofs.TextLemmas.{inside_is_escaped, escaped_is_inside}
-use Rattle.def_tokens.proofs.TokenLemmas.{token_at-text}
 use Rattle.def_tokens.proofs.one_spelling.Goals as goal
 
 pub returns : goal.returns

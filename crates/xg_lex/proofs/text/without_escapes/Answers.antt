@@ -1,4 +1,4 @@
-use Rattle.std.proofs.Common.{◌≡◌, ◌++◌, length, sym, ap, ◌∙◌, arith}
+use Rattle.std.proofs.Common.{◌++◌, length, ap, ◌∙◌, arith}
 use Rattle.std.proofs.lemmas.Slice.{between_to_end}
 use Rattle.xg_lex.proofs.Escapes.{StandsFor-next, StandsFor-end}
 use Rattle.xg_lex.proofs.text.without_escapes.Goals as goal

@@ -1,4 +1,4 @@
-use Rattle.std.proofs.Common.{◌≡◌, ◌≢◌, ◌<◌, length, get_or, Ok, sym, ap, ◌∙◌, arith, rules}
+use Rattle.std.proofs.Common.{Ok, ap, ◌∙◌, arith, rules}
 use Rattle.xg_lex.proofs.TokenAt.{end_here, text_here, open_here, close_here, comma_here, word_here, number_here, fault_here}
 use Rattle.xg_lex.proofs.tokens.token_at.Goals as goal
 

@@ -1,10 +1,10 @@
-use Rattle.std.proofs.Common.{◌≡◌, length, Ok, Err, sym, ap, ◌∙◌, arith, rules}
+use Rattle.std.proofs.Common.{◌≡◌, length, Ok, Err, sym, ap, ◌∙◌, arith}
 use Rattle.std.proofs.lemmas.Slice.{between_to_end}
 use Rattle.std.proofs.lemmas.Result.{err_from_is_err_and}
 use Rattle.def_tokens.specs.Spelling.{IsLexemeFrom}
 use Rattle.def_tokens.specs.Tokens.{next_from}
 use Rattle.def_tokens.proofs.TokenLemmas.{next_from-sound}
-use Rattle.xg_lex.proofs.TokenAt.{next_here, inside_of}
+use Rattle.xg_lex.proofs.TokenAt.{next_here, quoted_of, inside_of}
 use Rattle.xg_lex.proofs.tokens.Tokens.next.Goals as goal
 
 pub returns-in_err-lexeme-clause-exact : goal.returns-in_err-lexeme-clause-exact
@@ -33,3 +33,6 @@ returns-clause-spelled c = rw (← c.self.view_is) (spelled c)
 
 pub returns-clause-inside : goal.returns-clause-inside
 returns-clause-inside c = rw (← c.self.view_is) (inside_of c.self.inside.bytes.now c.self.inside.at c.in_ok-lexeme.lexeme (spelled c))
+
+pub returns-clause-quoted : goal.returns-clause-quoted
+returns-clause-quoted c = quoted_of c.self.inside.bytes.now c.self.inside.at c.in_ok-lexeme.lexeme (spelled c)
