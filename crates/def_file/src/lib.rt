@@ -1,6 +1,8 @@
 //! What a game file stands for, and how it is read, up to its first fault.
 #![tactic(auto)]
 
+ghost use Rattle.def_file.specs.Laws.{ReadingTakesAnyLength};
+
 use thiserror::Error;
 
 /// The first fault of a game file. Offsets count bytes from 0.
@@ -27,3 +29,8 @@ pub struct EntryCounts {
     pub two: u32,
     pub leaves: u32,
 }
+
+/// Reading itself sets no limit to the number of bytes.
+pub fn reading_takes_any_length()
+    ensures { ReadingTakesAnyLength }
+{}

@@ -2,3 +2,4 @@ pub mod Texts
 pub mod Actions
 pub mod Numbered
 pub mod Whole
+pub mod Length

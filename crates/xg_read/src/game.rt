@@ -1,5 +1,5 @@
 //! A game, and its reading.
-ghost use Rattle.std.specs.Prelude.{◌≡◌, ◌≤◌, length};
+ghost use Rattle.std.specs.Prelude.{◌≡◌, ◌≢◌, ◌≤◌, length};
 ghost use Rattle.def_file.specs.Reading.{game_at};
 ghost use Rattle.xg_read.specs.Contents.{name_of};
 ghost use Rattle.xg_read.specs.Gives.{Answers};
@@ -8,6 +8,7 @@ use crate::fault::Refused;
 use crate::nodes::read_nodes;
 use crate::reader::{Names, Reader};
 use crate::wanted::Wanted;
+use def_file::FileFault;
 use std::alloc::Global;
 use std::marker::Model;
 use xg_lex::Text;
@@ -62,10 +63,20 @@ impl Game {
 }
 
 /// Reads a game from the bytes of its file, of at most 67,108,864 bytes.
-#[tactic(auto, unfolding(def_file::specs::Reading::game_at, def_file::specs::Reading::most_nodes))]
+///
+/// Memory apart, the answer is the game that the file stands for, or the first fault of its form.
 pub fn read_game(alloc: Global, bytes: &[u8]) -> Result<Game, Refused>
     requires { length bytes.now ≤ 67108864 }
     ensures exact { Answers result (game_at bytes.now) }
+    ensures any_length { result ≢ Err (Refused.File FileFault.TooLong) }
+{
+    read_form(alloc, bytes)
+}
+
+#[tactic(auto, unfolding(def_file::specs::Reading::game_at, def_file::specs::Reading::most_nodes))]
+fn read_form(alloc: Global, bytes: &[u8]) -> Result<Game, Refused>
+    requires { length bytes.now ≤ 67108864 }
+    ensures { Answers result (game_at bytes.now) }
 {
     let mut reader = Reader::new(bytes);
     let names = reader.prologue(alloc)?;
