@@ -1,0 +1,52 @@
+//! Loading a game from its file.
+ghost use Rattle.std.specs.Prelude.{◌≢◌, ◌<◌, ◌≤◌, length, IsTrue, IsErrOf};
+ghost use Rattle.def_file.specs.Reading.{game_at};
+ghost use Rattle.def_program.specs.Program.{most_bytes};
+ghost use Rattle.xg_solve.specs.Loads.{Loads, LoadHasCause, ReadsGame};
+
+use std::alloc::Global;
+use xg_io::{Files, ReadAllFault, read_all};
+use xg_read::{FileFault, Game, Refused, read_game};
+
+/// The greatest number of bytes of a game file.
+const MOST_BYTES: usize = 67_108_864;
+
+/// Why a game isn't loaded.
+#[derive(Clone, Copy, Debug, PartialEq, Eq)]
+pub enum LoadFault {
+    /// The file can't be opened or read.
+    ReadFault,
+    /// The file's first fault.
+    Refused(FileFault),
+    /// Memory ran out.
+    NoMemory,
+}
+
+/// The game of the file of a name.
+#[tactic(auto, unfolding(def_program::specs::Program::judged))]
+pub fn load<F: Files>(alloc: Global, files: &mut F, name: &str) -> Result<Game, LoadFault>
+    requires { IsTrue (F.may_open files.old name.now) }
+    ensures exact { Loads (F.told files.old name.now) result }
+    ensures too_long { IsErrOf result (LoadFault.Refused FileFault.TooLong) → most_bytes < F.taken files.new }
+    ensures cause { LoadHasCause (F.faults files.old) (F.faults files.new) result }
+{
+    match read_all(alloc, files, name, MOST_BYTES) {
+        Ok(bytes) => read(alloc, &bytes),
+        Err(ReadAllFault::ReadFault) => Err(LoadFault::ReadFault),
+        Err(ReadAllFault::TooLong) => Err(LoadFault::Refused(FileFault::TooLong)),
+        Err(ReadAllFault::NoMemory) => Err(LoadFault::NoMemory),
+    }
+}
+
+/// The game of these bytes.
+fn read(alloc: Global, bytes: &[u8]) -> Result<Game, LoadFault>
+    requires { length bytes.now ≤ most_bytes }
+    ensures exact { ReadsGame result (game_at bytes.now) }
+    ensures any_length { result ≢ Err (LoadFault.Refused FileFault.TooLong) }
+{
+    match read_game(alloc, bytes) {
+        Ok(game) => Ok(game),
+        Err(Refused::File(fault)) => Err(LoadFault::Refused(fault)),
+        Err(Refused::NoMemory) => Err(LoadFault::NoMemory),
+    }
+}

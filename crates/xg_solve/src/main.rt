@@ -1,0 +1,53 @@
+//! The program: `xg_solve` reads a game file and prints the text of its solution.
+#![tactic(auto)]
+
+mod ending;
+mod load;
+mod run;
+mod text;
+mod words;
+
+pub use run::run;
+use std::io::ErrorKind;
+use std::process::ExitCode;
+use std::rt::Env;
+use std::{env, io};
+pub use words::Words;
+use xg_io::{OpenGate, RealFiles, RealSink};
+
+fn main(rt: HostRuntime) -> ExitCode {
+    let words = match given_words(&rt) {
+        Ok(words) => words,
+        Err(error) => return ExitCode::from(status_without_words(&error)),
+    };
+    let mut files = RealFiles::new(&rt);
+    let mut out = RealSink::new(rt.stdout());
+    let mut err = RealSink::new(rt.stderr());
+    let status = run(
+        &rt,
+        rt.alloc(),
+        &words,
+        &mut files,
+        &mut out,
+        &mut err,
+        &OpenGate,
+    );
+    ExitCode::from(status)
+}
+
+/// The words that the program was given, without its own name.
+fn given_words<R: Env + AllocGlobal>(rt: &R) -> io::Result<Words> {
+    let mut words = Words::new(rt.alloc());
+    for word in env::args(rt)?.skip(1) {
+        words.push(word.as_str())?;
+    }
+    Ok(words)
+}
+
+/// The status where the words can't be had: memory ran out, or one isn't UTF-8.
+fn status_without_words(error: &io::Error) -> u8 {
+    if error.kind() == ErrorKind::OutOfMemory {
+        return 5;
+    }
+    2
+}

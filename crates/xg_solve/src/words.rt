@@ -1,0 +1,57 @@
+//! The words that the program is called with.
+ghost use Rattle.std.specs.Prelude.{◌≡◌, [], ◌∷◌, ◌++◌, Option, Some, OnOk, OnErr};
+ghost use Rattle.std.specs.Option.{option_map};
+ghost use Rattle.def_words.specs.Command.{Solve, command_of, is_option};
+
+use std::alloc::{AllocError, Global};
+use std::marker::Model;
+
+/// The words of a call, without the program's own name.
+#[derive(Drop)]
+pub struct Words {
+    words: Vec<String>,
+}
+
+impl Model for Words {
+    ghost use Rattle.std.specs.Prelude.{ℕ, List, map, string_bytes};
+
+    ghost Value = { List (List ℕ) };
+
+    ghost view = { λ w. map string_bytes w.words.items };
+}
+
+impl Words {
+    /// No words.
+    pub fn new(alloc: Global) -> Words
+        ensures { result ≡ [] }
+    {
+        Words {
+            words: Vec::new(alloc),
+        }
+    }
+
+    /// Puts a word last.
+    pub fn push(&mut self, word: &str) -> Result<(), AllocError>
+        ensures ok { OnOk result (self.new ≡ self.old ++ word.now ∷ []) }
+        ensures err { OnErr result (self.new ≡ self.old) }
+    {
+        let alloc = *self.words.allocator();
+        let word = String::from_str(alloc, word)?;
+        self.words.push(word)?;
+        Ok(())
+    }
+
+    /// The file of the command `solve`, where the words are those of this command.
+    pub fn solve_file(&self) -> Option<&str>
+        ensures { option_map (λ file. Solve file.now) result ≡ command_of self.now }
+    {
+        match self.words.as_slice() {
+            [command, file, rounds, count]
+                if command.as_str() == "solve"
+                    && !file.as_str().starts_with('-')
+                    && rounds.as_str() == "--rounds"
+                    && count.as_str() == "0" => { Some(file.as_str()) }
+            _ => None,
+        }
+    }
+}
