@@ -1,10 +1,10 @@
 -- Euclid's algorithm gives the greatest common divisor, and what follows for coprime numbers.
-use Rattle.std.proofs.Common.{◌≡◌, ℕ, zero, suc, ◌+◌, ◌*◌, ◌/◌, ◌%◌, ◌<◌, ◌≤◌, refl, sym, ap, ◌∙◌, subst, inl, inr, ⊎_elim, arith, eq-zero-or-pos}
+use Rattle.std.proofs.Common.{◌≡◌, ℕ, zero, suc, ◌+◌, ◌*◌, ◌/◌, ◌%◌, ◌<◌, ◌≤◌, refl, sym, ap, ◌∙◌, subst, ⊎_elim, arith, eq-zero-or-pos}
 use Prim.Native.Nat.{◌∣◌}
 use Rattle.std.specs.Int.{IsGcd}
-use Rattle.std.proofs.lemmas.Nat.Gcd.{IsGcd-from_zero, IsGcd-from_mod, IsGcd-swap, same_from_IsGcd, dvd_refl, dvd-zero, dvd_trans, dvd_antisymm, le_of_dvd}
+use Rattle.std.proofs.lemmas.Nat.Gcd.{IsGcd-from_zero, IsGcd-from_mod, same_from_IsGcd, dvd_antisymm}
 use Rattle.std.proofs.lemmas.Nat.{mod-mul-add}
-use Rattle.std.proofs.Math.Nat.{mod-lt, zero-mod, mul_assoc, mul_comm, mul-one, one-mul, mul-lt-mul_of_pos_left, div-add-mod', div-mul_cancel, mul-div_cancel', dvd-mul_left, dvd-mul_right, dvd_of_mul-dvd-mul_right, dvd_of_mul-dvd-mul_left, eq-one_of_dvd-one, mul-dvd-mul_left, mul-dvd-mul_right, zero-mul, eq-zero_of_zero-dvd, eq_of_mul-eq-mul_left, eq_of_mul-eq-mul_right}
+use Rattle.std.proofs.Math.Nat.{mod-lt, zero-mod, mul_comm, mul-one, mul-lt-mul_of_pos_left, div-add-mod', mul-div_cancel', dvd-mul_left, dvd-mul_right, dvd_of_mul-dvd-mul_left, eq-one_of_dvd-one, mul-dvd-mul_left, zero-mul, eq-zero_of_zero-dvd, eq_of_mul-eq-mul_left, eq_of_mul-eq-mul_right}
 use Rattle.def_fraction.specs.Divisors.{gcd_within, gcd, lcm, IsLcm}
 
 IsGcd-gcd_within : (turns a b : ℕ) → b ≤ turns → IsGcd a b (gcd_within turns a b)
@@ -59,9 +59,9 @@ divides_other a b c coprime h =
 pub gcd-positive : (a b : ℕ) → 1 ≤ b → 1 ≤ gcd a b
 gcd-positive a b h =
     ⊎_elim (λ z. let none : gcd a b ∣ b = (IsGcd-gcd a b).1 in
-      let P : ℕ → Type 0 = λ x. x ∣ b in
-      let zero_divides : 0 ∣ b = subst P z none in
-      absurd (omega (arith, eq-zero_of_zero-dvd zero_divides))) (λ p. omega arith) (eq-zero-or-pos (gcd a b))
+    let P : ℕ → Type 0 = λ x. x ∣ b in
+    let zero_divides : 0 ∣ b = subst P z none in
+    absurd (omega (arith, eq-zero_of_zero-dvd zero_divides))) (λ p. omega arith) (eq-zero-or-pos (gcd a b))
 
 -- without their greatest common divisor two numbers are coprime
 pub gcd-reduced : (a b : ℕ) → 1 ≤ b → gcd (a / gcd a b) (b / gcd a b) ≡ 1
@@ -97,16 +97,16 @@ IsLcm-lcm a b ha hb =
       first_divides = subst P turned (dvd-mul_right a y);
       second_divides = dvd-mul_left b x;
       least = λ k p q.
-        let u = k / a in
-        let whole : a * u ≡ k = mul-div_cancel' a p in
-        let product : g * (x * u) ≡ k = omega (arith, ap (λ z. z * u) above) in
-        let Q : ℕ → Type 0 = λ z. b ∣ z in
-        let R : ℕ → Type 0 = λ z. z ∣ g * (x * u) in
-        let split : g * y ∣ g * (x * u) = subst R (sym below) (subst Q (sym product) q) in
-        let inner : y ∣ u = divides_other x y u (gcd-reduced a b hb) (dvd_of_mul-dvd-mul_left y g_positive split) in
-        let S : ℕ → Type 0 = λ z. z ∣ k in
-        let T : ℕ → Type 0 = λ z. a * y ∣ z in
-        subst S turned (subst T whole (mul-dvd-mul_left y a inner));
+          let u = k / a in
+          let whole : a * u ≡ k = mul-div_cancel' a p in
+          let product : g * (x * u) ≡ k = omega (arith, ap (λ z. z * u) above) in
+          let Q : ℕ → Type 0 = λ z. b ∣ z in
+          let R : ℕ → Type 0 = λ z. z ∣ g * (x * u) in
+          let split : g * y ∣ g * (x * u) = subst R (sym below) (subst Q (sym product) q) in
+          let inner : y ∣ u = divides_other x y u (gcd-reduced a b hb) (dvd_of_mul-dvd-mul_left y g_positive split) in
+          let S : ℕ → Type 0 = λ z. z ∣ k in
+          let T : ℕ → Type 0 = λ z. a * y ∣ z in
+          subst S turned (subst T whole (mul-dvd-mul_left y a inner));
     }
 
 -- one turn of Euclid's algorithm

@@ -1,12 +1,11 @@
 -- Fractions in lowest terms.
-use Rattle.std.proofs.Common.{◌≡◌, ℕ, zero, suc, ◌+◌, ◌*◌, ◌/◌, ◌%◌, ◌<◌, ◌≤◌, Bool, true, false, ℤ, pos, negsuc, neg_ℤ, ◌*ℤ◌, unsigned_abs, refl, sym, ap, ◌∙◌, subst, arith}
-use Rattle.std.proofs.Math.Nat.{mul_comm, mul-div_cancel', zero-mul, div-one, zero-div}
+use Rattle.std.proofs.Common.{◌≡◌, ℕ, zero, suc, ◌*◌, ◌/◌, ◌≤◌, Bool, true, false, ℤ, pos, negsuc, neg_ℤ, ◌*ℤ◌, unsigned_abs, refl, sym, ap, ◌∙◌, arith}
+use Rattle.std.proofs.Math.Nat.{mul-div_cancel', zero-mul, div-one, zero-div}
 use Rattle.std.proofs.lemmas.Int.{unsigned_abs-mul}
-use Rattle.std.specs.Int.{IsGcd}
 use Rattle.def_fraction.specs.Divisors.{gcd}
 use Rattle.def_fraction.specs.Fraction.{Fraction, IsInLowestTerms, fraction_of, without_factor, signed}
 use Rattle.def_fraction.specs.Laws.{HasValue, ReducesExactly}
-use Rattle.def_fraction.proofs.DivisorLemmas.{IsGcd-gcd, gcd-reduced, gcd-positive, same_ratio}
+use Rattle.def_fraction.proofs.DivisorLemmas.{IsGcd-gcd, gcd-reduced, same_ratio}
 
 pub unsigned_abs-neg : (m : ℕ) → unsigned_abs (neg_ℤ (pos m)) ≡ m
 unsigned_abs-neg zero = refl

@@ -1,11 +1,11 @@
 -- What the answer of reading a literal says of the bytes.
-use Rattle.std.proofs.Common.{◌≡◌, ◌≢◌, ℕ, zero, suc, ◌-◌, ◌^◌, ◌<◌, ◌≤◌, Bool, true, false, cond, ◌&&◌, eqb, List, Option, Some, None, Result, Ok, Err, refl, sym, ap, ◌∙◌, subst, arith}
-use Rattle.std.specs.Prelude.{◌↔◌, nat_le, IsTrue}
+use Rattle.std.proofs.Common.{◌≡◌, ◌≢◌, ℕ, zero, suc, ◌<◌, Bool, true, false, cond, ◌&&◌, eqb, List, Option, Some, None, Result, Ok, Err, refl, sym, ap, ◌∙◌, subst, arith}
+use Rattle.std.specs.Prelude.{◌↔◌, nat_le}
 use Rattle.std.proofs.lemmas.Bool.{and_parts, and_from, leb-true, le-leb, eqb-true, eqb-false, eq-eqb, ne_eqb, false≢true}
 use Rattle.def_fraction.specs.declared.fault.NumberFault.{NumberFault}
 use Rattle.def_fraction.specs.declared.fault.NumberFault.TheVariants.{Form, ZeroDenominator, Range}
 use Rattle.def_fraction.specs.Fraction.{Fraction, fits}
-use Rattle.def_fraction.specs.Literal.{Literal, IsLiteral, IsWithinLimits, IsNoLiteral, HasZeroDenominator, IsPastLimits, IsLiteralOf, numerator, denominator, exact_value, most_written}
+use Rattle.def_fraction.specs.Literal.{Literal, IsLiteral, IsWithinLimits, numerator, denominator, exact_value, most_written}
 use Rattle.def_fraction.specs.Reading.{literal_of, value_of, value_if, read_as_literal}
 use Rattle.def_fraction.specs.Laws.{JudgesLiteral}
 use Rattle.def_fraction.proofs.LiteralLemmas.{literal_of-told}
@@ -87,18 +87,23 @@ by_literal bytes (Some l) e =
       form = (λ h. absurd (j.form h), λ none. absurd (none l told));
       zero_denominator = (
         λ h. (l, told, eqb-true (denominator l.body) 0 (j.over_zero.0 h)),
-        λ w. j.over_zero.1 (eq-eqb (denominator l.body) 0 (ap (λ (k : Literal). denominator k.body) (sym (only w.0 w.1)) ∙ w.2)));
+        λ w. j.over_zero.1 (eq-eqb (denominator l.body) 0 (ap (λ (k : Literal). denominator k.body) (sym (only w.0 w.1)) ∙ w.2)),
+      );
       range = (
         λ h. let t = j.range.0 h in (l, told, positive_from_test (denominator l.body) t.0, λ w. false≢true (sym t.1 ∙ test_from_within l w)),
         λ w. j.range.1 (
           test_from_positive (denominator l.body) (subst (λ (k : Literal). 0 < denominator k.body) (only w.0 w.1) w.2),
-          false_unless (within_test l) (λ t. w.3 (subst (λ (k : Literal). IsWithinLimits k) (sym (only w.0 w.1)) (within_from_test l t)))));
+          false_unless (within_test l) (λ t. w.3 (subst (λ (k : Literal). IsWithinLimits k) (sym (only w.0 w.1)) (within_from_test l t))),
+        ),
+      );
       value = λ f. (
         λ h. let t = (j.value f).0 h in (l, told, positive_from_test (denominator l.body) t.0, within_from_test l t.1, t.2),
         λ w. (j.value f).1 (
           test_from_positive (denominator l.body) (subst (λ (k : Literal). 0 < denominator k.body) (only w.0 w.1) w.2),
           test_from_within l (subst (λ (k : Literal). IsWithinLimits k) (only w.0 w.1) w.3),
-          w.4 ∙ ap exact_value (only w.0 w.1)));
+          w.4 ∙ ap exact_value (only w.0 w.1),
+        ),
+      );
     }
 
 pub read_as_literal-judged : (bytes : List ℕ) → JudgesLiteral bytes (read_as_literal bytes)

@@ -1,13 +1,12 @@
 -- What is read as a literal is spelled so, and what is spelled as a literal is read so.
-use Rattle.std.proofs.Common.{◌≡◌, ℕ, zero, suc, ◌+◌, ◌<◌, ◌≤◌, Bool, true, false, cond, ◌&&◌, ◌||◌, eqb, List, [], ◌∷◌, ◌++◌, length, Option, Some, None, refl, sym, ap, ◌∙◌, subst, inl, inr, ⊎_elim, arith, append_assoc, ◌⊎◌}
-use Rattle.std.specs.Prelude.{◌↔◌, ⊤, IsTrue, nat_le, nat_lt, ◌==◌}
+use Rattle.std.proofs.Common.{◌≡◌, ℕ, ◌≤◌, Bool, true, false, cond, ◌&&◌, ◌||◌, eqb, List, [], ◌∷◌, ◌++◌, length, Option, Some, None, refl, sym, ap, ◌∙◌, subst, inl, inr, ⊎_elim, arith, ◌⊎◌}
+use Rattle.std.specs.Prelude.{◌↔◌, ⊤, IsTrue, nat_le, nat_lt}
 use Rattle.std.specs.Option.{option_map}
 use Rattle.std.specs.Char.{is_ascii_digit}
 use Rattle.std.specs.Str.{all_ascii_digits}
-use Rattle.std.proofs.lemmas.Bool.{and_parts, and_from, false≢true, eqb-true, eqb-false, eq-eqb, ne_eqb, leb-true, ltb-true, le-leb, lt-ltb}
-use Rattle.std.proofs.lemmas.Bool.Decides.{nat_tests}
+use Rattle.std.proofs.lemmas.Bool.{and_parts, and_from, false≢true, eqb-true, ne_eqb, leb-true, le-leb}
 use Rattle.def_fraction.specs.Digits.{is_numeral, leading_digits, after_digits}
-use Rattle.def_fraction.specs.Literal.{plus, minus, point, slash, small_e, capital_e, Sign, no_sign, plus_sign, minus_sign, Power, Body, quotient, decimal, Literal, sign_text, point_text, power_text, body_text, literal_text, digits_after, IsPower, IsBody, IsLiteral}
+use Rattle.def_fraction.specs.Literal.{point, slash, Sign, no_sign, plus_sign, minus_sign, Power, Body, quotient, decimal, Literal, sign_text, point_text, power_text, body_text, literal_text, digits_after, IsPower, IsBody, IsLiteral}
 use Rattle.def_fraction.specs.Reading.{sign_of, after_sign, power_of, decimal_of, body_after, body_of, literal_of}
 
 -- ---- digits

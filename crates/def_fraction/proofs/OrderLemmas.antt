@@ -1,10 +1,10 @@
 -- The order of fractions in lowest terms.
-use Rattle.std.proofs.Common.{◌≡◌, ℕ, zero, suc, ◌+◌, ◌*◌, ◌<◌, ◌≤◌, ℤ, pos, negsuc, neg_ℤ, ◌*ℤ◌, ◌<ℤ◌, refl, sym, ap, ◌∙◌, subst, arith}
+use Rattle.std.proofs.Common.{◌≡◌, ℕ, suc, ◌*◌, ◌<◌, ◌≤◌, ℤ, pos, negsuc, neg_ℤ, ◌*ℤ◌, ◌<ℤ◌, refl, sym, ap, ◌∙◌, subst, arith}
 use Rattle.std.specs.Prelude.{◌↔◌}
 use Rattle.std.specs.declared.cmp.Ordering.{Ordering}
 use Rattle.std.specs.declared.cmp.Ordering.TheVariants.{Less, Equal, Greater}
-use Rattle.std.specs.Ordering.{int_cmp, ordering_reverse, MatchOrdering}
-use Rattle.std.specs.Cmp.{int_ranks, int_cmp_is, IsTotalOrder}
+use Rattle.std.specs.Ordering.{int_cmp, MatchOrdering}
+use Rattle.std.specs.Cmp.{int_ranks, int_cmp_is}
 use Rattle.std.proofs.lemmas.Cmp.{int_cmp_total, int_ranked}
 use Rattle.std.proofs.lemmas.Int.{ints}
 use Rattle.std.proofs.Math.Nat.{mul_assoc, mul_comm, mul-lt-mul_of_pos_right, mul-pos}
@@ -58,15 +58,16 @@ orders_values f g h p q r =
       same = λ e. same_from_value f g p q (int_ranked a b Equal (sym e));
       turned = int_cmp_total.antisymm a b;
       through = λ e i.
-        let low = less_times a b h.den r.positive (int_ranked a b Less (sym e)) in
-        let high = less_times c d f.den p.positive (int_ranked c d Less (sym i)) in
-        let long = chain (a *ℤ pos h.den) (b *ℤ pos h.den) (c *ℤ pos f.den) (d *ℤ pos f.den) ((f.num *ℤ pos h.den) *ℤ pos g.den) ((h.num *ℤ pos f.den) *ℤ pos g.den)
+          let low = less_times a b h.den r.positive (int_ranked a b Less (sym e)) in
+          let high = less_times c d f.den p.positive (int_ranked c d Less (sym i)) in
+          let long = chain (a *ℤ pos h.den) (b *ℤ pos h.den) (c *ℤ pos f.den) (d *ℤ pos f.den) ((f.num *ℤ pos h.den) *ℤ pos g.den) ((h.num *ℤ pos f.den) *ℤ pos g.den)
           low high (times_turned g.num f.den h.den) (times_turned f.num g.den h.den) (times_turned h.num g.den f.den) in
-        sym (int_cmp_is (f.num *ℤ pos h.den) (h.num *ℤ pos f.den) Less (less_from_times (f.num *ℤ pos h.den) (h.num *ℤ pos f.den) g.den q.positive long));
+          sym (int_cmp_is (f.num *ℤ pos h.den) (h.num *ℤ pos f.den) Less (less_from_times (f.num *ℤ pos h.den) (h.num *ℤ pos f.den) g.den q.positive long));
     }
 
 pub order_of-same : (f g : Fraction) → IsInLowestTerms f → IsInLowestTerms g → (order_of f g ≡ Equal) ↔ (f ≡ g)
-order_of-same f g p q =
-    (λ e. same_from_value f g p q (int_ranked (f.num *ℤ pos g.den) (g.num *ℤ pos f.den) Equal (sym e)),
-     λ e. let itself : order_of g g ≡ Equal = sym (int_cmp_is (g.num *ℤ pos g.den) (g.num *ℤ pos g.den) Equal refl) in
-       ap (λ x. order_of x g) e ∙ itself)
+order_of-same f g p q = (
+  λ e. same_from_value f g p q (int_ranked (f.num *ℤ pos g.den) (g.num *ℤ pos f.den) Equal (sym e)),
+  λ e. let itself : order_of g g ≡ Equal = sym (int_cmp_is (g.num *ℤ pos g.den) (g.num *ℤ pos g.den) Equal refl) in
+      ap (λ x. order_of x g) e ∙ itself,
+)

@@ -1,16 +1,16 @@
 -- What is written of a fraction is read as the same fraction.
-use Rattle.std.proofs.Common.{◌≡◌, ℕ, zero, suc, ◌+◌, ◌-◌, ◌*◌, ◌/◌, ◌%◌, ◌^◌, get_or, ◌<◌, ◌≤◌, Bool, true, false, cond, ◌&&◌, eqb, List, [], ◌∷◌, ◌++◌, length, Option, Some, None, Ok, ℤ, pos, negsuc, neg_ℤ, unsigned_abs, refl, sym, ap, ◌∙◌, subst, arith, rules, append_assoc}
+use Rattle.std.proofs.Common.{◌≡◌, ℕ, suc, ◌+◌, ◌-◌, ◌*◌, ◌/◌, ◌%◌, ◌^◌, get_or, ◌<◌, ◌≤◌, Bool, true, false, cond, eqb, List, [], ◌∷◌, ◌++◌, length, Some, None, Ok, ℤ, pos, negsuc, unsigned_abs, refl, sym, ap, ◌∙◌, subst, arith, rules, append_assoc}
 use mathlib.Core.List.{append-nil}
-use Rattle.std.specs.Prelude.{IsTrue, nat_le}
+use Rattle.std.specs.Prelude.{IsTrue}
 use Rattle.std.specs.Char.{is_ascii_digit}
 use Rattle.std.specs.Str.{all_ascii_digits}
-use Rattle.std.specs.Fmt.{decimal as decimal_text, signed_decimal}
+use Rattle.std.specs.Fmt.{decimal as decimal_text}
 use Rattle.std.proofs.lemmas.Str.Parse.{IsNumeralModel, numerals_by_weight, tells_all_ascii_digits}
 use Rattle.std.proofs.lemmas.Fmt.{digits_decimal, digits_value-decimal, decimal_nonempty, decimal_digit, decimal_by_steps_wide}
 use Rattle.std.proofs.lemmas.Bool.{and_parts, and_from, leb-true, le-leb, lt-ltb, eqb-true, ne_eqb}
 use Rattle.def_fraction.specs.Digits.{is_numeral, number_of}
 use Rattle.def_fraction.specs.Fraction.{Fraction, IsInLowestTerms, fraction_of, fits, signed}
-use Rattle.def_fraction.specs.Literal.{slash, no_sign, minus_sign, Sign, Body, quotient, decimal, Literal, literal_text, body_text, sign_text, IsBody, is_negative, numerator, denominator, signed_numerator}
+use Rattle.def_fraction.specs.Literal.{slash, no_sign, minus_sign, Sign, Body, quotient, decimal, Literal, literal_text, body_text, sign_text, IsBody, is_negative, numerator, denominator}
 use Rattle.def_fraction.specs.Reading.{literal_of, value_of, read_as_literal}
 use Rattle.def_fraction.specs.Text.{int_text, fraction_text}
 use Rattle.def_fraction.proofs.FractionLemmas.{fraction_of-lowest}

@@ -1,5 +1,5 @@
 -- Greatest common divisors and least common multiples of natural numbers (Euclid, Elements, book VII).
-use Rattle.std.specs.Prelude.{◌≡◌, ℕ, zero, suc, ◌*◌, ◌/◌, ◌%◌}
+use Rattle.std.specs.Prelude.{ℕ, zero, suc, ◌*◌, ◌/◌, ◌%◌}
 use Prim.Native.Nat.{◌∣◌}
 
 -- Euclid's algorithm, for as many turns as are given

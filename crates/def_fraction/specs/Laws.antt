@@ -35,7 +35,8 @@ FractionIsReduced = (num : ℤ) (den : ℕ) → 1 ≤ den → ReducesExactly num
 abbrev pub ValueTellsFraction : Type 0
 ValueTellsFraction = (f g : Fraction) → IsInLowestTerms f → IsInLowestTerms g → HasValue f g.num g.den → f ≡ g
 
--- `order_of` orders the values: equal ones alone are one fraction, the other way round it is turned, and less than less is less
+-- `order_of` orders the values: equal ones alone are one fraction, the other way round it is turned,
+-- and less than less is less
 pub record OrdersValues (f g h : Fraction) : Type 0 where
   pub same : order_of f g ≡ Equal → f ≡ g
   pub turned : order_of f g ≡ ordering_reverse (order_of g f)

@@ -1,7 +1,7 @@
--- The number literals of Gambit's .efg files, by their form and by their exact value: `10`, `-1/2`, `0.50`, `.5`, `5.`, `5e-1`.
--- The manual ("The extensive game (.efg) file format") leaves the exact form open: this is the project's choice.
+-- The number literals of Gambit's .efg files, by their form and by their exact value: `10`, `-1/2`,
+-- `0.50`, `.5`, `5.`, `5e-1`. Gambit's manual ("The extensive game (.efg) file format") leaves the
+-- exact form open: this is the project's choice.
 use Rattle.std.specs.Prelude.{◌≡◌, ℕ, ◌+◌, ◌-◌, ◌*◌, ◌^◌, ◌<◌, ◌≤◌, Bool, true, false, List, [], ◌∷◌, ◌++◌, length, Option, Some, None, IsTrue, ◌⊎◌, ⊤, ℤ, if◌then◌else◌}
-use Rattle.std.specs.Str.{all_ascii_digits}
 use Rattle.def_fraction.specs.Digits.{is_numeral, number_of}
 use Rattle.def_fraction.specs.Fraction.{Fraction, fraction_of, fits, signed}
 
@@ -36,7 +36,8 @@ pub record Power : Type 0 where
   pub sign : Sign
   pub digits : List ℕ
 
--- A literal without its sign: digits, `/`, digits; or digits with or without a point and the digits after it, and with or without a power.
+-- A literal without its sign: digits, `/`, digits; or digits with or without a point and the digits
+-- after it, and with or without a power.
 pub data Body : Type 0 where
   quotient : (above : List ℕ) → (below : List ℕ) → Body
   decimal : (before : List ℕ) → (after : Option (List ℕ)) → (power : Option Power) → Body
@@ -105,8 +106,9 @@ abbrev pub lowered : Option Power → ℕ
 lowered None = 0
 lowered (Some p) = if is_negative p.sign then number_of p.digits else 0
 
--- The numerator of a decimal is the number n of all its digits, and its denominator is 10 ^ (f - k), where f digits stand after the point;
--- where k is more than f, they are n * 10 ^ (k - f) and 1. The difference of natural numbers stops at 0, so each line holds in both cases.
+-- The numerator of a decimal is the number n of all its digits, and its denominator is 10 ^ (f - k),
+-- where f digits stand after the point; where k is more than f, they are n * 10 ^ (k - f) and 1.
+-- The difference of natural numbers stops at 0, so each line holds in both cases.
 abbrev pub numerator : Body → ℕ
 numerator (quotient above below) = number_of above
 numerator (decimal before after power) =

@@ -1,5 +1,5 @@
-//! Definitions of exact fractions and of the number literals that stand for them, with their laws. The definitions are in
-//! `specs/`; a law is the contract of a function with an empty body.
+//! Definitions of exact fractions and of the number literals that stand for them, with their laws.
+//! The definitions are in `specs/`; a law is the contract of a function with an empty body.
 #![tactic(auto)]
 
 mod fault;
@@ -8,7 +8,9 @@ mod rows;
 
 pub use fault::NumberFault;
 pub use laws::{
-    fraction_is_read_back, fraction_is_reduced, gcd_is_greatest, lcm_is_least, literal_is_judged, literal_is_told,
-    order_is_total, text_is_canonical, value_tells_fraction,
+    fraction_is_read_back, fraction_is_reduced, gcd_is_greatest, lcm_is_least, literal_is_judged,
+    literal_is_told, order_is_total, text_is_canonical, value_tells_fraction,
 };
-pub use rows::{literals_at_the_limits, literals_that_are_none, literals_with_values, whole_numbers};
+pub use rows::{
+    literals_at_the_limits, literals_that_are_none, literals_with_values, whole_numbers,
+};

@@ -1,16 +1,15 @@
 -- Which parts make a fraction.
-use Rattle.std.proofs.Common.{◌≡◌, ℕ, suc, ◌/◌, ◌^◌, ◌<◌, ◌≤◌, Bool, true, false, ◌&&◌, ◌*◌, ℤ, pos, ◌+ℤ◌, ◌*ℤ◌, ◌≤ℤ◌, to_z, of_z, FitsSigned, unsigned_abs, refl, sym, ap, ◌∙◌, subst, Option, Some, None, Result, ◌⊎◌, ⊎_elim, arith}
+use Rattle.std.proofs.Common.{◌≡◌, ℕ, ◌/◌, ◌^◌, ◌<◌, ◌≤◌, Bool, true, ◌*◌, ℤ, pos, ◌+ℤ◌, ◌*ℤ◌, ◌≤ℤ◌, to_z, of_z, FitsSigned, unsigned_abs, refl, sym, ap, ◌∙◌, subst, Option, Some, None, Result, ◌⊎◌, ⊎_elim, arith}
 use Rattle.std.specs.Prelude.{IsTrue, nat_le, SomeIff, OkIff, negsuc}
 use Rattle.std.specs.Option.{ok_or}
 use lib.Signed.{lt_z}
-use Rattle.std.proofs.lemmas.Bool.{and_parts, and_from, leb-true, le-leb, false≢true, lt-leb, le-ltb}
+use Rattle.std.proofs.lemmas.Bool.{and_parts, and_from, leb-true, le-leb, le-ltb}
 use Rattle.std.specs.Int.{w128}
 use Rattle.std.proofs.lemmas.Int.{ints, to_z-of_z, fits_signed_mul, unsigned_abs-mul}
 use Rattle.std.proofs.lemmas.Nat.{mul-le}
 use Rattle.std.proofs.Math.Nat.{mul-pos}
 use Rattle.def_fraction.specs.Divisors.{gcd}
 use Rattle.def_fraction.specs.Fraction.{Fraction, IsInLowestTerms, fraction_of, signed, whole_number, fits}
-use Rattle.def_fraction.specs.Laws.{ReducesExactly}
 use Rattle.def_fraction.proofs.DivisorLemmas.{gcd-one, gcd-with_one}
 use Rattle.def_fraction.proofs.FractionLemmas.{fraction_of-reduced, fraction_of-signed, fraction_of-lowest, unsigned_abs-signed}
 use Rattle.xg_frac.specs.Parts.{AreParts, fraction_from}
@@ -75,7 +74,7 @@ pub in_lowest_terms : {E : Type 0} (r : Result Fraction E) (o : Option Fraction)
     → OkIff r (IsTrue (fits (fraction_of num k))) (fraction_of num k)
 in_lowest_terms r o e num z n d k answer same size below h =
     let value : fraction_of (signed (lt_z z (pos 0)) n) d ≡ fraction_of num k =
-      ap (λ m. fraction_of (signed (lt_z z (pos 0)) m) d) size ∙ ap (λ m. fraction_of m d) (signed-back z ∙ same) ∙ ap (fraction_of num) below in
+    ap (λ m. fraction_of (signed (lt_z z (pos 0)) m) d) size ∙ ap (λ m. fraction_of m d) (signed-back z ∙ same) ∙ ap (fraction_of num) below in
     let told = subst (λ (f : Fraction). SomeIff o (IsTrue (fits f)) f) value h in
     subst (λ (x : Result Fraction _). OkIff x (IsTrue (fits (fraction_of num k))) (fraction_of num k)) (sym answer) (ok_if-from_some_if o e _ _ told)
 

@@ -1,5 +1,5 @@
 -- Texts that are written in pieces.
-use Rattle.std.proofs.Common.{◌≡◌, ℕ, ◌+◌, ◌≤◌, min, Bool, true, false, cond, eqb, List, [], ◌∷◌, ◌++◌, length, take, Option, Some, None, Result, Ok, Err, ℤ, pos, refl, sym, ap, ◌∙◌, subst, arith}
+use Rattle.std.proofs.Common.{◌≡◌, ℕ, ◌+◌, min, Bool, true, false, cond, eqb, List, [], ◌∷◌, ◌++◌, length, take, Option, Result, Ok, Err, ℤ, pos, refl, sym, ap, ◌∙◌, subst, arith}
 use Rattle.std.specs.Prelude.{OnErr}
 use Rattle.std.specs.Fmt.{decimal}
 use Rattle.std.specs.Io.KnownBytes.{append_known}
@@ -46,12 +46,12 @@ text_with_bar f h = rw (ne_eqb f.den 1 h) refl
 pub bar_failed : (before middle now : Option (List ℕ)) (f : Fraction) (num : ℤ) → (f.den ≡ 1 → ⊥) → num ≡ f.num → middle ≡ append_known before (int_text num) → AppendsPrefix middle now (47 ∷ []) → AppendsPrefix before now (fraction_text f)
 bar_failed before middle now f num h e first p =
     subst (λ (text : List ℕ). AppendsPrefix before now text) (sym (text_with_bar f h))
-      (prefix_then before middle now (int_text f.num) (47 ∷ decimal f.den) (first ∙ ap (λ z. append_known before (int_text z)) e) (prefix_first middle now (47 ∷ []) (decimal f.den) p))
+    (prefix_then before middle now (int_text f.num) (47 ∷ decimal f.den) (first ∙ ap (λ z. append_known before (int_text z)) e) (prefix_first middle now (47 ∷ []) (decimal f.den) p))
 
 -- the denominator failed
 pub den_failed : (before middle bar now : Option (List ℕ)) (f : Fraction) (num den : ℤ) → (f.den ≡ 1 → ⊥) → num ≡ f.num → den ≡ pos f.den → middle ≡ append_known before (int_text num)
     → bar ≡ append_known middle (47 ∷ []) → AppendsPrefix bar now (int_text den) → AppendsPrefix before now (fraction_text f)
 den_failed before middle bar now f num den h e d first second p =
     subst (λ (text : List ℕ). AppendsPrefix before now text) (sym (text_with_bar f h))
-      (prefix_then before middle now (int_text f.num) (47 ∷ decimal f.den) (first ∙ ap (λ z. append_known before (int_text z)) e)
-        (prefix_then middle bar now (47 ∷ []) (decimal f.den) second (subst (λ (z : ℤ). AppendsPrefix bar now (int_text z)) d p)))
+    (prefix_then before middle now (int_text f.num) (47 ∷ decimal f.den) (first ∙ ap (λ z. append_known before (int_text z)) e)
+    (prefix_then middle bar now (47 ∷ []) (decimal f.den) second (subst (λ (z : ℤ). AppendsPrefix bar now (int_text z)) d p)))

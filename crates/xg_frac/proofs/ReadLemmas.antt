@@ -1,12 +1,12 @@
 -- What reading a literal gives, by the parts that were read.
 use Rattle.std.proofs.Common.{◌≡◌, ℕ, zero, suc, ◌-◌, ◌^◌, ◌<◌, ◌≤◌, min, Bool, true, false, cond, ◌&&◌, eqb, ltb, leb, List, Option, Some, None, Result, Ok, Err, refl, sym, ap, ◌∙◌, subst, ◌⊎◌, ⊎_elim, arith}
-use Rattle.std.specs.Prelude.{SomeIff, IsTrue, IfOk, ◌↔◌}
+use Rattle.std.specs.Prelude.{SomeIff, IsTrue, IfOk}
 use Rattle.std.specs.Option.{option_map, ok_or}
-use Rattle.std.proofs.lemmas.Bool.{cases_lt, lt-ltb, le-ltb, le-leb, lt-leb, ne_eqb, eqb-false}
+use Rattle.std.proofs.lemmas.Bool.{cases_lt, lt-ltb, le-ltb, le-leb, lt-leb, ne_eqb}
 use Rattle.def_fraction.specs.declared.fault.NumberFault.{NumberFault}
 use Rattle.def_fraction.specs.declared.fault.NumberFault.TheVariants.{Form, ZeroDenominator, Range}
 use Rattle.def_fraction.specs.Fraction.{Fraction, fraction_of, fits, signed}
-use Rattle.def_fraction.specs.Literal.{Body, Literal, is_negative, numerator, denominator, IsLiteralOf}
+use Rattle.def_fraction.specs.Literal.{Body, is_negative, numerator, denominator, IsLiteralOf}
 use Rattle.def_fraction.specs.Reading.{sign_of, after_sign, body_of, literal_of, value_of, value_if, read_as_literal}
 use Rattle.def_fraction.specs.Laws.{JudgesLiteral}
 use Rattle.def_fraction.proofs.JudgeLemmas.{read_as_literal-judged}
@@ -46,7 +46,7 @@ tests_agree : (negative : Bool) (n d : ℕ) → ltb n past ≡ true → ltb d pa
 tests_agree negative n d a b p q =
     let F = fraction_of (signed negative n) d in
     let same : (leb n (2 ^ 127 - 1) && leb d (2 ^ 127 - 1) && fits F) ≡ (ltb n past && ltb d past && fits F) =
-      ap (λ x. x && leb d (2 ^ 127 - 1) && fits F) (p ∙ sym a) ∙ ap (λ x. ltb n past && x && fits F) (q ∙ sym b) in
+    ap (λ x. x && leb d (2 ^ 127 - 1) && fits F) (p ∙ sym a) ∙ ap (λ x. ltb n past && x && fits F) (q ∙ sym b) in
     ap (λ x. cond (eqb d 0) over_zero (cond x (Ok F) (Err Range))) same
 
 -- keeping one past the limit for all that is past it changes no answer
@@ -54,17 +54,17 @@ capped_answer : (negative : Bool) (n d : ℕ)
     → cond (eqb d 0) (Err ZeroDenominator) (cond (leb n (2 ^ 127 - 1) && leb d (2 ^ 127 - 1) && fits (fraction_of (signed negative n) d)) (Ok (fraction_of (signed negative n) d)) (Err Range)) ≡ answer_of negative (min n past) (min d past)
 capped_answer negative n d =
     ⊎_elim
-      (λ n_small. ⊎_elim
-        (λ d_small.
-          let same_n : min n past ≡ n = omega arith in
-          let same_d : min d past ≡ d = omega arith in
-          let n_fits : n ≤ 2 ^ 127 - 1 = omega arith in
-          let d_fits : d ≤ 2 ^ 127 - 1 = omega arith in
-          tests_agree negative n d (lt-ltb n past n_small) (lt-ltb d past d_small) (le-leb n (2 ^ 127 - 1) n_fits) (le-leb d (2 ^ 127 - 1) d_fits) ∙ ap (λ x. answer_of negative x d) (sym same_n) ∙ ap (answer_of negative (min n past)) (sym same_d))
-        (λ d_large. out d _ _ _ _ (second_false (leb n (2 ^ 127 - 1)) (leb d (2 ^ 127 - 1)) _ (lt-leb d (2 ^ 127 - 1) (omega arith))) (second_false (ltb (min n past) past) (ltb (min d past) past) _ (le-ltb (min d past) past (omega arith))))
-        (cases_lt d past))
-      (λ n_large. out d _ _ _ _ (first_false (leb n (2 ^ 127 - 1)) (leb d (2 ^ 127 - 1)) _ (lt-leb n (2 ^ 127 - 1) (omega arith))) (first_false (ltb (min n past) past) (ltb (min d past) past) _ (le-ltb (min n past) past (omega arith))))
-      (cases_lt n past)
+    (λ n_small. ⊎_elim
+    (λ d_small.
+    let same_n : min n past ≡ n = omega arith in
+    let same_d : min d past ≡ d = omega arith in
+    let n_fits : n ≤ 2 ^ 127 - 1 = omega arith in
+    let d_fits : d ≤ 2 ^ 127 - 1 = omega arith in
+    tests_agree negative n d (lt-ltb n past n_small) (lt-ltb d past d_small) (le-leb n (2 ^ 127 - 1) n_fits) (le-leb d (2 ^ 127 - 1) d_fits) ∙ ap (λ x. answer_of negative x d) (sym same_n) ∙ ap (answer_of negative (min n past)) (sym same_d))
+    (λ d_large. out d _ _ _ _ (second_false (leb n (2 ^ 127 - 1)) (leb d (2 ^ 127 - 1)) _ (lt-leb d (2 ^ 127 - 1) (omega arith))) (second_false (ltb (min n past) past) (ltb (min d past) past) _ (le-ltb (min d past) past (omega arith))))
+    (cases_lt d past))
+    (λ n_large. out d _ _ _ _ (first_false (leb n (2 ^ 127 - 1)) (leb d (2 ^ 127 - 1)) _ (lt-leb n (2 ^ 127 - 1) (omega arith))) (first_false (ltb (min n past) past) (ltb (min d past) past) _ (le-ltb (min n past) past (omega arith))))
+    (cases_lt n past)
 
 by_body : (bytes : List ℕ) (b : Option Body) → answer_if (is_negative (sign_of bytes)) (option_map quotient_of b) ≡ value_if (option_map (λ body. record { sign = sign_of bytes; body = body }) b)
 unfolding value_of
@@ -88,7 +88,7 @@ zero_answer negative q e = rw e refl
 pub past_answer : (negative : Bool) (q : Quotient) → (q.den ≡ 0 → ⊥) → (past ≤ q.num) ⊎ (past ≤ q.den) → Err Range ≡ answer_of negative q.num q.den
 past_answer negative q some h =
     let no : (ltb q.num past && ltb q.den past && fits (fraction_of (signed negative q.num) q.den)) ≡ false =
-      ⊎_elim (λ p. first_false (ltb q.num past) (ltb q.den past) _ (le-ltb q.num past p)) (λ p. second_false (ltb q.num past) (ltb q.den past) _ (le-ltb q.den past p)) h in
+    ⊎_elim (λ p. first_false (ltb q.num past) (ltb q.den past) _ (le-ltb q.num past p)) (λ p. second_false (ltb q.num past) (ltb q.den past) _ (le-ltb q.den past p)) h in
     rw (ne_eqb q.den 0 some, no) refl
 
 fit_answer : (o : Option Fraction) (f : Fraction) → SomeIff o (IsTrue (fits f)) f → ok_or o Range ≡ cond (fits f) (Ok f) (Err Range)

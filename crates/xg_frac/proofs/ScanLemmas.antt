@@ -1,5 +1,5 @@
 -- Reading digits from left to right.
-use Rattle.std.proofs.Common.{◌≡◌, ℕ, zero, suc, ◌+◌, ◌-◌, ◌*◌, ◌^◌, ◌<◌, ◌≤◌, min, Bool, true, false, cond, Option, Some, None, List, [], ◌∷◌, ◌++◌, length, get_or, take, drop, refl, sym, ap, ◌∙◌, subst, ◌⊎◌, ⊎_elim, add-one, ltb, ◌&&◌, arith}
+use Rattle.std.proofs.Common.{◌≡◌, ℕ, suc, ◌+◌, ◌-◌, ◌*◌, ◌^◌, ◌<◌, ◌≤◌, min, Bool, true, false, cond, Option, Some, None, List, [], ◌∷◌, ◌++◌, length, get_or, take, drop, refl, sym, ap, ◌∙◌, subst, ◌⊎◌, ⊎_elim, add-one, ltb, arith}
 use Rattle.std.specs.Char.{is_ascii_digit}
 use Rattle.std.specs.Str.{all_ascii_digits}
 use Rattle.std.proofs.lemmas.Bool.{cases_lt, and_from, and_parts, lt-ltb, ltb-true, eq-eqb, ne_eqb}
@@ -11,7 +11,7 @@ use Rattle.std.proofs.lemmas.Nat.{mul-le, pow-add}
 use Rattle.def_fraction.specs.Digits.{is_numeral, leading_digits, after_digits, number_of}
 use Rattle.def_fraction.proofs.LiteralLemmas.{digit_range, digits_split, leading_digits-append, leading_digits-digits}
 use Rattle.std.specs.Option.{option_map}
-use Rattle.def_fraction.specs.Literal.{Power, Body, decimal, digits_after, raised, lowered}
+use Rattle.def_fraction.specs.Literal.{Power, decimal, digits_after, raised, lowered}
 use Rattle.def_fraction.specs.Reading.{decimal_of, power_of, body_after}
 use Rattle.def_fraction.proofs.NumberLemmas.{number_of-append}
 use Rattle.xg_frac.specs.declared.literal.Quotient.{Quotient}
@@ -21,7 +21,7 @@ use Rattle.xg_frac.specs.Scan.{capped, past, quotient_of, decimal_quotient}
 pub leading_digits-drop : (bs : List ℕ) (i : ℕ) → i < length bs → is_ascii_digit (get_or bs i 0) ≡ true → leading_digits (drop i bs) ≡ get_or bs i 0 ∷ leading_digits (drop (i + 1) bs)
 leading_digits-drop bs i h digit =
     ap leading_digits (drop-cons bs i 0 h) ∙ ap (λ b. cond b (get_or bs i 0 ∷ leading_digits (drop (suc i) bs)) []) digit
-      ∙ ap (λ k. get_or bs i 0 ∷ leading_digits (drop k bs)) (sym (add-one i))
+    ∙ ap (λ k. get_or bs i 0 ∷ leading_digits (drop k bs)) (sym (add-one i))
 
 times_one : (n p : ℕ) → 1 ≤ p → n ≤ n * p
 times_one n p h = omega (arith, mul-le n 1 n p (omega arith) h)
@@ -31,15 +31,15 @@ joined : (n d p rest m : ℕ) → 1 ≤ p → m ≡ min (n * 10 + d) past → mi
 joined n d p rest m h e =
     let whole : (n * 10 + d) * p ≡ n * (p * 10) + d * p = omega arith in
     ⊎_elim
-      (λ small.
-        let exact : m ≡ n * 10 + d = omega arith in
-        ap (λ x. min (x * p + rest) past) exact ∙ ap (λ x. min x past) (omega (arith, whole)))
-      (λ large.
-        let top : m ≡ past = omega arith in
-        let first : past ≤ past * p = times_one past p h in
-        let second : n * 10 + d ≤ (n * 10 + d) * p = times_one (n * 10 + d) p h in
-        ap (λ x. min (x * p + rest) past) top ∙ omega (arith, first, second, whole))
-      (cases_lt (n * 10 + d) past)
+    (λ small.
+    let exact : m ≡ n * 10 + d = omega arith in
+    ap (λ x. min (x * p + rest) past) exact ∙ ap (λ x. min x past) (omega (arith, whole)))
+    (λ large.
+    let top : m ≡ past = omega arith in
+    let first : past ≤ past * p = times_one past p h in
+    let second : n * 10 + d ≤ (n * 10 + d) * p = times_one (n * 10 + d) p h in
+    ap (λ x. min (x * p + rest) past) top ∙ omega (arith, first, second, whole))
+    (cases_lt (n * 10 + d) past)
 
 -- one digit more
 pub capped-digit : (n m c : ℕ) (cs : List ℕ) → m ≡ min (n * 10 + (c - 48)) past → capped m cs ≡ capped n (c ∷ cs)
@@ -114,11 +114,11 @@ ten_below k h = omega (arith, pow-le-pow_right {n = 10} (omega arith) {i = k} {j
 capped_times : (n p : ℕ) → 1 ≤ p → min (min n past * p) past ≡ min (n * p) past
 capped_times n p h =
     ⊎_elim
-      (λ small. let exact : min n past ≡ n = omega arith in ap (λ x. min (x * p) past) exact)
-      (λ large.
-        let top : min n past ≡ past = omega arith in
-        ap (λ x. min (x * p) past) top ∙ omega (arith, times_one past p h, times_one n p h))
-      (cases_lt n past)
+    (λ small. let exact : min n past ≡ n = omega arith in ap (λ x. min (x * p) past) exact)
+    (λ large.
+    let top : min n past ≡ past = omega arith in
+    ap (λ x. min (x * p) past) top ∙ omega (arith, times_one past p h, times_one n p h))
+    (cases_lt n past)
 
 -- the digits after the point continue the number
 pub capped-append : (xs ys : List ℕ) (n : ℕ) → n ≡ min (number_of xs) past → capped n ys ≡ min (number_of (xs ++ ys)) past
@@ -128,11 +128,11 @@ capped-append xs ys n e =
     let whole = number_of-append xs ys in
     ap (λ x. min (x * p + number_of ys) past) e ∙
     ⊎_elim
-      (λ small. let exact : min (number_of xs) past ≡ number_of xs = omega arith in ap (λ x. min (x * p + number_of ys) past) exact ∙ ap (λ x. min x past) (sym whole))
-      (λ large.
-        let top : min (number_of xs) past ≡ past = omega arith in
-        ap (λ x. min (x * p + number_of ys) past) top ∙ omega (arith, times_one past p h, times_one (number_of xs) p h, whole))
-      (cases_lt (number_of xs) past)
+    (λ small. let exact : min (number_of xs) past ≡ number_of xs = omega arith in ap (λ x. min (x * p + number_of ys) past) exact ∙ ap (λ x. min x past) (sym whole))
+    (λ large.
+    let top : min (number_of xs) past ≡ past = omega arith in
+    ap (λ x. min (x * p + number_of ys) past) top ∙ omega (arith, times_one past p h, times_one (number_of xs) p h, whole))
+    (cases_lt (number_of xs) past)
 
 quotient_of-decimal : (before : List ℕ) (after : Option (List ℕ)) (power : Option Power) (n : ℕ) → n ≡ min (number_of (before ++ digits_after after)) past
     → quotient_of (decimal before after power) ≡ decimal_quotient n (length (digits_after after)) power
@@ -154,7 +154,7 @@ pub quotient_of-decimal_of : (before : List ℕ) (after : Option (List ℕ)) (re
 unfolding decimal_of
 quotient_of-decimal_of before after rest n e =
     if_some (ltb 0 (length (before ++ digits_after after))) (option_map (decimal before after) (power_of rest)) quotient_of
-      ∙ ap (λ o. cond (ltb 0 (length (before ++ digits_after after))) o None) (option_map-option_map (decimal before after) quotient_of (decimal_quotient n (length (digits_after after))) (λ power. quotient_of-decimal before after power n e) (power_of rest))
+    ∙ ap (λ o. cond (ltb 0 (length (before ++ digits_after after))) o None) (option_map-option_map (decimal before after) quotient_of (decimal_quotient n (length (digits_after after))) (λ power. quotient_of-decimal before after power n e) (power_of rest))
 
 -- ---- what follows the first digits
 

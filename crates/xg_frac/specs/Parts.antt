@@ -1,5 +1,5 @@
 -- What is kept of the two parts of a fraction.
-use Rattle.std.specs.Prelude.{◌≡◌, ◌≤ℤ◌, ℤ, pos, unsigned_abs, IsTrue}
+use Rattle.std.specs.Prelude.{◌≤ℤ◌, ℤ, pos, unsigned_abs, IsTrue}
 use Rattle.def_fraction.specs.Fraction.{Fraction, IsInLowestTerms, fits}
 
 abbrev pub fraction_from : ℤ → ℤ → Fraction

@@ -1,4 +1,5 @@
--- How the reader keeps numbers that may be past the limits: one past the greatest stands for all that are greater.
+-- How the reader keeps numbers that may be past the limits: one past the greatest stands for all
+-- that are greater.
 use Rattle.std.specs.Prelude.{ℕ, ◌+◌, ◌-◌, ◌*◌, ◌^◌, min, List, length, Option}
 use Rattle.xg_frac.specs.declared.literal.Quotient.{Quotient}
 use Rattle.xg_frac.specs.declared.literal.Exponent.{Exponent}

@@ -12,8 +12,8 @@ pub(crate) const MOST: u128 = 0x4000_0000_0000_0000;
 #[derive(Clone, Copy, Debug, PartialEq, Eq)]
 pub struct OverLimit;
 
-/// An exact fraction in lowest terms, whose parts are at most 2^62 in size and whose denominator is at least 1. Equal
-/// fractions have equal parts.
+/// An exact fraction in lowest terms, whose parts are at most 2^62 in size and whose denominator is at
+/// least 1. Equal fractions have equal parts.
 #[derive(Clone, Copy, Debug, PartialEq, Eq)]
 pub struct Frac {
     num: i128,
@@ -93,7 +93,8 @@ pub(crate) fn greatest_common_divisor(a: u128, b: u128) -> u128
 /// The fraction of a numerator and a denominator.
 pub(crate) fn in_lowest_terms(num: i128, den: i128) -> Result<Frac, OverLimit>
     requires { pos 1 ≤ℤ den }
-    ensures { OkIff result (IsTrue (fits (fraction_of num (unsigned_abs den)))) (fraction_of num (unsigned_abs den)) }
+    ensures { let exact = fraction_of num (unsigned_abs den) in
+        OkIff result (IsTrue (fits exact)) exact }
 {
     reduced(num < 0, num.unsigned_abs(), den.unsigned_abs()).ok_or(OverLimit)
 }
@@ -101,7 +102,8 @@ pub(crate) fn in_lowest_terms(num: i128, den: i128) -> Result<Frac, OverLimit>
 /// The fraction of this sign and these sizes, unless a part of it in lowest terms is past the limit.
 pub(crate) fn reduced(negative: bool, num: u128, den: u128) -> Option<Frac>
     requires { 1 ≤ den }
-    ensures { SomeIff result (IsTrue (fits (fraction_of (signed negative num) den))) (fraction_of (signed negative num) den) }
+    ensures { let exact = fraction_of (signed negative num) den in
+        SomeIff result (IsTrue (fits exact)) exact }
 {
     let common = greatest_common_divisor(num, den);
     let (num, den) = (num / common, den / common);

@@ -1,5 +1,6 @@
-//! Exact fractions: the numbers that the solver reads from a file, computes payoffs and chances with, and prints. Each part
-//! of a fraction in lowest terms is at most 2^62 in size. Nothing in this crate takes memory.
+//! Exact fractions: the numbers that the solver reads from a file, computes payoffs and chances with,
+//! and prints. Each part of a fraction in lowest terms is at most 2^62 in size. Nothing in this crate
+//! takes memory.
 #![tactic(auto)]
 
 mod arithmetic;

@@ -17,7 +17,8 @@ pub fn read_literal(bytes: &[u8]) -> Result<Frac, NumberFault>
 
     ensures value { IfOk result (IsLiteralOf bytes.now) }
     ensures form { (result ≡ Err NumberFault.Form) ↔ IsNoLiteral bytes.now }
-    ensures zero_denominator { (result ≡ Err NumberFault.ZeroDenominator) ↔ HasZeroDenominator bytes.now }
+    ensures zero_denominator { (result ≡ Err NumberFault.ZeroDenominator)
+        ↔ HasZeroDenominator bytes.now }
     ensures range { (result ≡ Err NumberFault.Range) ↔ IsPastLimits bytes.now }
 {
     read_exactly(bytes)
@@ -46,7 +47,8 @@ pub fn read_whole(bytes: &[u8]) -> Result<u64, NumberFault>
 
     ensures value { IfOk result (λ n. n ≡ number_of bytes.now) }
     ensures form { (result ≡ Err NumberFault.Form) ↔ IsFalse (is_numeral bytes.now) }
-    ensures range { (result ≡ Err NumberFault.Range) ↔ (IsTrue (is_numeral bytes.now) × (most < number_of bytes.now)) }
+    ensures range { (result ≡ Err NumberFault.Range)
+        ↔ (IsTrue (is_numeral bytes.now) × (most < number_of bytes.now)) }
     ensures other { result ≢ Err NumberFault.ZeroDenominator }
 {
     let Some(number) = scan_numeral(bytes) else {
@@ -166,7 +168,9 @@ fn read_body(bytes: &[u8]) -> Option<Quotient>
 
 /// The quotient of the number that was written with so many digits and of the number in the bytes.
 fn read_below(num: u128, digits: usize, bytes: &[u8]) -> Option<Quotient>
-    ensures { result ≡ (if nat_lt 0 digits && is_numeral bytes.now then Some (record { num = num; den = min (number_of bytes.now) past }) else None) }
+    ensures { result ≡ (if nat_lt 0 digits && is_numeral bytes.now
+        then Some (record { num = num; den = min (number_of bytes.now) past })
+        else None) }
 {
     if digits == 0 {
         return None;
@@ -180,7 +184,9 @@ fn read_below(num: u128, digits: usize, bytes: &[u8]) -> Option<Quotient>
 fn read_power(number: u128, digits: usize, places: usize, bytes: &[u8]) -> Option<Quotient>
     requires number { number ≤ past }
     requires places { places < 2 ^ 63 }
-    ensures { result ≡ (if nat_lt 0 digits then option_map (decimal_quotient number places) (power_of bytes.now) else None) }
+    ensures { result ≡ (if nat_lt 0 digits
+        then option_map (decimal_quotient number places) (power_of bytes.now)
+        else None) }
 {
     if digits == 0 {
         return None;

@@ -1,4 +1,4 @@
-use Rattle.std.proofs.Common.{◌≡◌, ◌≤◌, ◌^◌, ℤ, ◌*ℤ◌, ◌≤ℤ◌, pos, unsigned_abs, sym, subst}
+use Rattle.std.proofs.Common.{◌≤◌, ◌^◌, ℤ, ◌≤ℤ◌, pos, unsigned_abs, sym, subst}
 use Rattle.xg_frac.proofs.PartLemmas.{product-value, product-size, product-positive}
 use Rattle.xg_frac.proofs.arithmetic.product.Goals as goal
 

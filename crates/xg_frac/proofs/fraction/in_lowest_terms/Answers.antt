@@ -14,5 +14,5 @@ reduced-requires c =
 pub returns : goal.returns
 returns c =
     in_lowest_terms _ c.reduced.result _ c.args.num _ c.unsigned_abs.result c.unsigned_abs-2.result (unsigned_abs c.args.den) c.ok_or.ensures.value
-      (to_z-of_z w128 c.args.num c.ranges.num) c.unsigned_abs.ensures.value
-      (c.unsigned_abs-2.ensures.value ∙ ap unsigned_abs (to_z-of_z w128 c.args.den c.ranges.den)) c.reduced.ensures
+    (to_z-of_z w128 c.args.num c.ranges.num) c.unsigned_abs.ensures.value
+    (c.unsigned_abs-2.ensures.value ∙ ap unsigned_abs (to_z-of_z w128 c.args.den c.ranges.den)) c.reduced.ensures

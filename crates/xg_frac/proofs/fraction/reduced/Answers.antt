@@ -1,4 +1,4 @@
-use Rattle.std.proofs.Common.{◌≡◌, ◌/◌, ◌^◌, ◌<◌, ℤ, pos, to_z, of_z, ◌∙◌, inl, inr, ⊎_elim, subst, true, arith}
+use Rattle.std.proofs.Common.{◌≡◌, ◌/◌, pos, to_z, of_z, ◌∙◌, inl, inr, ⊎_elim, subst, true, arith}
 use Rattle.std.specs.Int.{w128}
 use Rattle.std.proofs.lemmas.Int.{to_z_pos, to_z-of_z}
 use Rattle.def_fraction.specs.Fraction.{Fraction, fits, signed}

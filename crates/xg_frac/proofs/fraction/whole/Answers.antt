@@ -1,7 +1,6 @@
-use Rattle.std.proofs.Common.{◌≡◌, ap, ◌∙◌, subst, arith}
-use Rattle.std.specs.Int.{w64, w128}
-use Rattle.std.proofs.lemmas.Int.{to_z-of_z, ints}
-use Rattle.def_fraction.specs.Fraction.{fraction_of, whole_number}
+use Rattle.std.proofs.Common.{ap, ◌∙◌, arith}
+use Rattle.std.proofs.lemmas.Int.{ints}
+use Rattle.def_fraction.specs.Fraction.{fraction_of}
 use Rattle.xg_frac.proofs.PartLemmas.{fraction_of-whole, ok_if-at}
 use Rattle.xg_frac.proofs.fraction.whole.Goals as goal
 

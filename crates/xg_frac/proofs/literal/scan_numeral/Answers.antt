@@ -1,4 +1,4 @@
-use Rattle.std.proofs.Common.{◌≡◌, ◌<◌, ◌⊎◌, ⊎_elim, inl, inr, min, length, false, true, refl, Option, Some, None, cond, sym, ap, ◌∙◌, arith}
+use Rattle.std.proofs.Common.{◌≡◌, ⊎_elim, inl, inr, min, false, true, refl, Some, ap, ◌∙◌, arith}
 use Rattle.def_fraction.specs.Digits.{leading_digits, number_of, is_numeral}
 use Rattle.xg_frac.specs.Scan.{past, capped}
 use Rattle.xg_frac.proofs.ScanLemmas.{numeral_yes, numeral_no, leading_digits-whole}

@@ -1,4 +1,4 @@
-use Rattle.std.proofs.Common.{◌≡◌, arith}
+use Rattle.std.proofs.Common.{arith}
 use Rattle.xg_frac.proofs.ScanLemmas.{ten_to_39, ten_below}
 use Rattle.xg_frac.proofs.literal.times_power_of_ten.Goals as goal
 
