@@ -13,7 +13,7 @@ use Rattle.def_tokens.specs.Texts.{IsInside, unescaped}
 use Rattle.def_fraction.specs.Digits.{is_numeral, number_of}
 use Rattle.def_tree.specs.declared.Player.{Player}
 use Rattle.def_tree.specs.declared.Player.TheVariants as players
-use Rattle.def_tree.specs.declared.Kind.TheVariants.{One, Two, Leaf}
+use Rattle.def_tree.specs.declared.Kind.TheVariants.{Leaf}
 use Rattle.def_tree.specs.declared.Node.{Node}
 use Rattle.def_tree.specs.Tree.{IsWhole, forest_of}
 use Rattle.def_file.specs.Content.{GameFile, kind_of, entries_of, counts_of, personal, terminal}

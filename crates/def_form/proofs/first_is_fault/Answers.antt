@@ -1,0 +1,4 @@
+use Rattle.def_form.proofs.first_is_fault.Goals as goal
+
+pub returns : goal.returns
+returns c = ?
