@@ -1,5 +1,5 @@
 -- Rows of trees: cutting them, and joining them side by side.
-use Rattle.std.proofs.Common.{◌≡◌, ℕ, zero, suc, ◌+◌, ◌-◌, ◌<◌, ◌≤◌, List, [], ◌∷◌, ◌++◌, length, refl, ap, sym, ◌∙◌, append_assoc, append-nil, add-zero, zero-add, add_assoc, arith}
+use Rattle.std.proofs.Common.{◌≡◌, ℕ, zero, suc, ◌-◌, ◌≤◌, List, [], ◌∷◌, ◌++◌, refl, ap, sym, ◌∙◌, append_assoc, append-nil, arith}
 use Rattle.def_tree.specs.declared.Node.{Node}
 use Rattle.def_tree.specs.Tree.{Forest, bare, grown, prefix, tree_count, HasItsChildren, take_trees, drop_trees, forest_of}
 
@@ -35,14 +35,14 @@ pub forest_of-prefix : (xs : Forest) (rest : List Node) → HasItsChildren xs �
 forest_of-prefix bare rest h = refl
 forest_of-prefix (grown node below beside) rest h =
     let behind : forest_of ((prefix below ++ prefix beside) ++ rest) ≡ joined below (joined beside (forest_of rest)) =
-        ap forest_of (append_assoc (prefix below) (prefix beside) rest) ∙ forest_of-prefix below (prefix beside ++ rest) h.1 ∙ ap (joined below) (forest_of-prefix beside rest h.2)
+    ap forest_of (append_assoc (prefix below) (prefix beside) rest) ∙ forest_of-prefix below (prefix beside ++ rest) h.1 ∙ ap (joined below) (forest_of-prefix beside rest h.2)
     in let first : take_trees node.children (joined below (joined beside (forest_of rest))) ≡ below =
-        ap (λ n. take_trees n (joined below (joined beside (forest_of rest)))) (sym h.0) ∙ take_trees-joined below (joined beside (forest_of rest))
+    ap (λ n. take_trees n (joined below (joined beside (forest_of rest)))) (sym h.0) ∙ take_trees-joined below (joined beside (forest_of rest))
     in let others : drop_trees node.children (joined below (joined beside (forest_of rest))) ≡ joined beside (forest_of rest) =
-        ap (λ n. drop_trees n (joined below (joined beside (forest_of rest)))) (sym h.0) ∙ drop_trees-joined below (joined beside (forest_of rest))
+    ap (λ n. drop_trees n (joined below (joined beside (forest_of rest)))) (sym h.0) ∙ drop_trees-joined below (joined beside (forest_of rest))
     in λ i. grown node
-        ((ap (take_trees node.children) behind ∙ first) i)
-        ((ap (drop_trees node.children) behind ∙ others) i)
+    ((ap (take_trees node.children) behind ∙ first) i)
+    ((ap (drop_trees node.children) behind ∙ others) i)
 
 pub forest_of-prefix_whole : (xs : Forest) → HasItsChildren xs → forest_of (prefix xs) ≡ xs
 forest_of-prefix_whole xs h = ap forest_of (sym (append-nil (prefix xs))) ∙ forest_of-prefix xs [] h ∙ joined-bare xs

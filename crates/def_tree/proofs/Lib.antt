@@ -1,3 +1,4 @@
 pub mod Forests
 pub mod Lists
+pub mod Sets
 pub mod Walks

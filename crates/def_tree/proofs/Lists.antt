@@ -1,5 +1,5 @@
 -- Lists of nodes: how many are still wanted after them, and the trees that they are.
-use Rattle.std.proofs.Common.{◌≡◌, ℕ, zero, suc, ◌+◌, ◌-◌, ◌<◌, ◌≤◌, List, [], ◌∷◌, ◌++◌, length, refl, ap, sym, subst, ◌∙◌, append_assoc, append-nil, arith}
+use Rattle.std.proofs.Common.{◌≡◌, ℕ, suc, ◌+◌, ◌-◌, ◌<◌, List, [], ◌∷◌, ◌++◌, refl, ap, sym, subst, ◌∙◌, append_assoc, append-nil, arith}
 use Rattle.def_tree.specs.declared.Node.{Node}
 use Rattle.def_tree.specs.Tree.{Forest, bare, grown, prefix, tree_count, HasItsChildren, IsTree, IsWhole, Begins, wanted, take_trees, drop_trees, forest_of}
 use Rattle.def_tree.proofs.Forests.{prefix-forest_of, tree_count-take_trees, tree_count-drop_trees, HasItsChildren-take_trees, HasItsChildren-drop_trees}
@@ -36,11 +36,12 @@ pub Begins-prefix : (xs : Forest) (n : ℕ) (rest : List Node) → HasItsChildre
 Begins-prefix bare n rest h b = let e : 0 + n ≡ n = omega arith in subst (λ m. Begins m rest) (sym e) b
 Begins-prefix (grown node below beside) n rest h b =
     let has : tree_count below ≡ node.children = h.0 in
-    let left : suc (tree_count beside) + n + node.children - 1 ≡ tree_count below + (tree_count beside + n) = omega arith in
-    (omega arith,
-     subst (λ m. Begins m ((prefix below ++ prefix beside) ++ rest)) (sym left)
-         (subst (Begins (tree_count below + (tree_count beside + n))) (sym (append_assoc (prefix below) (prefix beside) rest))
-             (Begins-prefix below (tree_count beside + n) (prefix beside ++ rest) h.1 (Begins-prefix beside n rest h.2 b))))
+    let left : suc (tree_count beside) + n + node.children - 1 ≡ tree_count below + (tree_count beside + n) = omega arith in (
+      omega arith,
+      subst (λ m. Begins m ((prefix below ++ prefix beside) ++ rest)) (sym left)
+          (subst (Begins (tree_count below + (tree_count beside + n))) (sym (append_assoc (prefix below) (prefix beside) rest))
+          (Begins-prefix below (tree_count beside + n) (prefix beside ++ rest) h.1 (Begins-prefix beside n rest h.2 b))),
+    )
 
 pub tree_of_whole : (nodes : List Node) → IsWhole nodes → IsTree (forest_of nodes)
 tree_of_whole nodes h = let t : (tree_count (forest_of nodes) ≡ 1) × HasItsChildren (forest_of nodes) = trees_of 1 nodes h.begins h.ends in record { one = t.0; children = t.1 }
@@ -50,6 +51,6 @@ whole_of_tree nodes h =
     let same : prefix (forest_of nodes) ++ [] ≡ nodes = append-nil (prefix (forest_of nodes)) ∙ prefix-forest_of nodes in
     let one : tree_count (forest_of nodes) + 0 ≡ 1 = let e : tree_count (forest_of nodes) ≡ 1 = h.one in omega arith in
     record {
-        begins = subst (λ m. Begins m nodes) one (subst (Begins (tree_count (forest_of nodes) + 0)) same (Begins-prefix (forest_of nodes) 0 [] h.children tt));
-        ends = ap (λ m. wanted m nodes) (sym one) ∙ ap (wanted (tree_count (forest_of nodes) + 0)) (sym same) ∙ wanted-prefix (forest_of nodes) 0 [] h.children;
+      begins = subst (λ m. Begins m nodes) one (subst (Begins (tree_count (forest_of nodes) + 0)) same (Begins-prefix (forest_of nodes) 0 [] h.children tt));
+      ends = ap (λ m. wanted m nodes) (sym one) ∙ ap (wanted (tree_count (forest_of nodes) + 0)) (sym same) ∙ wanted-prefix (forest_of nodes) 0 [] h.children;
     }

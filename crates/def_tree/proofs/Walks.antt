@@ -1,9 +1,11 @@
 -- What those who walk through a tree prove of their visitors.
 --     Accepts-invariant, Leads-invariant     a fact on the visitor and the steps that are left, which each step keeps: all steps are accepted, and in the end it holds with none left
 --     Accepts-append, Leads-append, Leads-split     steps, and then others
-use Rattle.std.proofs.Common.{◌≡◌, ℕ, List, [], ◌∷◌, ◌++◌, refl, sym, subst}
+use Rattle.std.proofs.Common.{◌≡◌, ℕ, ◌+◌, List, [], ◌∷◌, ◌++◌, length, refl, ap, sym, ◌∙◌, subst, arith}
 use Rattle.def_tree.specs.declared.Node.{Node}
-use Rattle.def_tree.specs.Events.{Event, Enter, Leave, Accepts, Leads}
+use Rattle.def_tree.specs.Tree.{Forest, bare, grown, prefix, node_count}
+use Rattle.def_tree.specs.Events.{Event, Enter, Leave, events_from, entered, Accepts, Leads}
+use Rattle.std.specs.List.{enumerate_from}
 
 module _ {V : Type 0} (may_enter : V → ℕ → Node → Type 0) (enters : V → ℕ → Node → V → Type 0) (may_leave : V → ℕ → Type 0) (leaves : V → ℕ → V → Type 0) where
   pub Accepts-invariant : (I : List Event → V → Type 0)
@@ -42,3 +44,22 @@ module _ {V : Type 0} (may_enter : V → ℕ → Node → Type 0) (enters : V �
   Leads-split [] ys v w h = (v, refl, h)
   Leads-split (Enter n node ∷ xs) ys v w h = let rest = Leads-split xs ys h.0 w h.2 in (rest.0, (h.0, h.1, rest.1), rest.2)
   Leads-split (Leave n ∷ xs) ys v w h = let rest = Leads-split xs ys h.0 w h.2 in (rest.0, (h.0, h.1, rest.1), rest.2)
+
+entered-append : (xs ys : List Event) → entered (xs ++ ys) ≡ entered xs ++ entered ys
+entered-append [] ys = refl
+entered-append (Enter k node ∷ xs) ys = ap (λ rest. (k, node) ∷ rest) (entered-append xs ys)
+entered-append (Leave k ∷ xs) ys = entered-append xs ys
+
+enumerate_from-append : (k : ℕ) (xs ys : List Node) → enumerate_from k (xs ++ ys) ≡ enumerate_from k xs ++ enumerate_from (k + length xs) ys
+enumerate_from-append k [] ys = ap (λ n. enumerate_from n ys) (omega arith)
+enumerate_from-append k (x ∷ xs) ys =
+    let far : k + 1 + length xs ≡ k + length (x ∷ xs) = omega arith in
+    ap (λ rest. (k, x) ∷ rest) (enumerate_from-append (k + 1) xs ys ∙ ap (λ n. enumerate_from (k + 1) xs ++ enumerate_from n ys) far)
+
+pub entered-events_from : (k : ℕ) (trees : Forest) → entered (events_from k trees) ≡ enumerate_from k (prefix trees)
+entered-events_from k bare = refl
+entered-events_from k (grown node below beside) =
+    ap (λ rest. (k, node) ∷ rest)
+    (entered-append (events_from (k + 1) below) (Leave k ∷ events_from (k + 1 + node_count below) beside)
+    ∙ (λ i. entered-events_from (k + 1) below i ++ entered-events_from (k + 1 + node_count below) beside i)
+    ∙ sym (enumerate_from-append (k + 1) (prefix below) (prefix beside)))

@@ -4,8 +4,9 @@
 --     events t                 the walk through a tree
 --     Accepts, Leads           a visitor may be called so; the calls lead it from one state to another
 use Rattle.std.specs.Prelude.{◌≡◌, ℕ, ◌+◌, List, [], ◌∷◌, ◌++◌}
+use Rattle.std.specs.List.{enumerate_from}
 use Rattle.def_tree.specs.declared.Node.{Node}
-use Rattle.def_tree.specs.Tree.{Forest, bare, grown, node_count}
+use Rattle.def_tree.specs.Tree.{Forest, bare, grown, node_count, prefix}
 
 pub data Event : Type 0 where
   Enter : (k : ℕ) (node : Node) → Event
@@ -19,6 +20,16 @@ events_from k (grown node below beside) =
 
 abbrev pub events : Forest → List Event
 events tree = events_from 1 tree
+
+-- the nodes that are entered, with their numbers
+abbrev pub entered : List Event → List (ℕ × Node)
+entered [] = []
+entered (Enter k node ∷ rest) = (k, node) ∷ entered rest
+entered (Leave _ ∷ rest) = entered rest
+
+-- a walk enters each node once, in prefix order, under its number
+abbrev pub EntersInPrefixOrder : Type 0
+EntersInPrefixOrder = (tree : Forest) → entered (events tree) ≡ enumerate_from 1 (prefix tree)
 
 -- `may_enter` and `may_leave` say when a visitor may be called, and `enters` and `leaves` what it can be after the call
 module _ {V : Type 0} (may_enter : V → ℕ → Node → Type 0) (enters : V → ℕ → Node → V → Type 0) (may_leave : V → ℕ → Type 0) (leaves : V → ℕ → V → Type 0) where

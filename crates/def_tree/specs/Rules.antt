@@ -3,7 +3,7 @@
 --     Fits before node      the node keeps the rules after these nodes
 --     KeepRules ns          each of the nodes keeps the rules after those before it
 --     IsGameTree t          a tree that keeps the rules, within the limit of nodes
-use Rattle.std.specs.Prelude.{◌≡◌, ℕ, ◌+◌, ◌<◌, ◌≤◌, Bool, true, false, if◌then◌else◌, max, List, [], ◌∷◌, length, take, slice_index_or, All, AllPairs}
+use Rattle.std.specs.Prelude.{◌≡◌, ℕ, ◌+◌, ◌<◌, ◌≤◌, Bool, true, false, if◌then◌else◌, max, List, [], ◌∷◌, length, take, slice_index_or, All, AllPairs, Contains}
 use Rattle.def_tree.specs.declared.Kind.{Kind}
 use Rattle.def_tree.specs.declared.Kind.TheVariants.{Chance, One, Two, Leaf}
 use Rattle.def_tree.specs.declared.Node.{Node}
@@ -59,3 +59,8 @@ pub record IsGameTree (whole : Forest) : Type 0 where
 -- by the rules, all nodes of one set have equally many children
 abbrev pub SetsAgreeOnSize : Type 0
 SetsAgreeOnSize = (nodes : List Node) → KeepRules nodes → AllPairs AgreeOnSize nodes
+
+-- by the rules, each number of a kind's sets is that of a node
+abbrev pub EachSetAppears : Type 0
+EachSetAppears = (nodes : List Node) → KeepRules nodes → (kind : Kind) (i : ℕ) → 1 ≤ i → i ≤ set_count kind nodes →
+    (node : Node) × (Contains nodes node × ((node.kind ≡ kind) × (node.set ≡ i)))

@@ -1,15 +1,11 @@
 #![tactic(auto)]
 //! The nested tree of an extensive game, in definitions alone, and the plain data that its nodes hold.
 
-ghost use Rattle.def_tree.specs.Rules.{SetsAgreeOnSize};
+ghost use Rattle.def_tree.specs.Events.{EntersInPrefixOrder};
+ghost use Rattle.def_tree.specs.Rules.{EachSetAppears, SetsAgreeOnSize};
 ghost use Rattle.def_tree.specs.Tree.{ForestOfPrefix, PrefixOfForest, WholeIffTree};
 
-/// One of the two players.
-#[derive(Clone, Copy, Debug, PartialEq, Eq)]
-pub enum Player {
-    One,
-    Two,
-}
+pub use def_player::Player;
 
 /// Who moves at a node: chance, a player, or nobody at a leaf.
 #[derive(Clone, Copy, Debug, PartialEq, Eq)]
@@ -34,23 +30,29 @@ pub struct Node {
 /// The nodes of any list are those of its trees.
 pub fn prefix_of_forest()
     ensures { PrefixOfForest }
-{
-}
+{}
 
 /// Trees are told by their nodes in prefix order.
 pub fn forest_of_prefix()
     ensures { ForestOfPrefix }
-{
-}
+{}
 
 /// Exactly the lists that are a whole tree give one tree.
 pub fn whole_iff_tree()
     ensures { WholeIffTree }
-{
-}
+{}
 
 /// All nodes of one set have equally many children.
 pub fn sets_agree_on_size()
     ensures { SetsAgreeOnSize }
-{
-}
+{}
+
+/// Each number of a kind's sets is that of a node.
+pub fn each_set_appears()
+    ensures { EachSetAppears }
+{}
+
+/// A walk enters each node once, in prefix order.
+pub fn enters_in_prefix_order()
+    ensures { EntersInPrefixOrder }
+{}

@@ -1,46 +1,18 @@
 -- A builder with one node more.
-use Rattle.std.proofs.Common.{◌≡◌, ℕ, cond, zero, suc, ◌+◌, ◌-◌, ◌*◌, ◌^◌, ◌<◌, ◌≤◌, ◌≢◌, List, [], ◌∷◌, ◌++◌, length, get_or, take, refl, ap, sym, subst, ◌∙◌, arith, inl, inr, length-append}
+use Rattle.std.proofs.Common.{◌≡◌, ℕ, cond, ◌+◌, ◌-◌, ◌*◌, ◌^◌, ◌<◌, ◌≤◌, ◌≢◌, List, [], ◌∷◌, ◌++◌, length, get_or, take, refl, sym, subst, arith, length-append}
 use Rattle.std.specs.List.{All}
-use Rattle.std.proofs.lemmas.List.{take-append-le}
 use Rattle.std.proofs.lemmas.List.Elements.{All-head, All-tail}
-use Rattle.std.proofs.lemmas.List.Sums.{sum_by_push, count_by-le-length}
-use Rattle.std.proofs.lemmas.Bool.{cases_lt}
-use Rattle.std.proofs.Math.ListN.{get_or-append}
-use Rattle.std.proofs.Math.Seq.{get_or-append_seam, take-append_seam}
-use Rattle.def_tree.specs.declared.Kind.{Kind}
-use Rattle.def_tree.specs.declared.Kind.TheVariants.{Chance, One, Two, Leaf}
+use Rattle.std.proofs.lemmas.List.Sums.{sum_by_push}
+use Rattle.def_tree.specs.declared.Kind.TheVariants.{Chance, One, Two}
 use Rattle.def_tree.specs.declared.Node.{Node}
-use Rattle.def_tree.specs.Tree.{Begins, IsWhole, is_leaf_kind, leaf_count, wanted}
-use Rattle.def_tree.specs.Rules.{Fits, FitsAs, KeepRules}
+use Rattle.def_tree.specs.Tree.{is_leaf_kind, leaf_count, wanted}
+use Rattle.def_tree.specs.Rules.{Fits, KeepRules}
+use Rattle.def_tree.proofs.Sets.{KeepRules-push, children-le}
 use Rattle.def_tree.proofs.Lists.{wanted-append, Begins-append}
 use Rattle.xg_tree.specs.Sizes.{SizeLists, with_size}
 use Rattle.xg_tree.specs.Built.{IsBuilt}
 use Rattle.xg_tree.specs.Kept.{IsKept}
 use Rattle.xg_tree.proofs.SizesLemmas.{HoldSizes-push, no_sizes}
-
-pub KeepRules-push : (nodes : List Node) (node : Node) → KeepRules nodes → Fits nodes node → KeepRules (nodes ++ node ∷ [])
-KeepRules-push nodes node keep fits k d there =
-    let long : length (nodes ++ node ∷ []) ≡ length nodes + 1 = length-append nodes (node ∷ []) in
-    elim (cases_lt k (length nodes)) [
-        inl before ↦
-            let at : get_or (nodes ++ node ∷ []) k d ≡ get_or nodes k d = get_or-append nodes (node ∷ []) d k before in
-            let front : take k (nodes ++ node ∷ []) ≡ take k nodes = take-append-le k nodes (node ∷ []) (omega arith) in
-            subst (λ xs. Fits xs (get_or (nodes ++ node ∷ []) k d)) (sym front) (subst (Fits (take k nodes)) (sym at) (keep k d before))
-      | inr past ↦
-            let e : k ≡ length nodes = omega arith in
-            let at : get_or (nodes ++ node ∷ []) k d ≡ node = ap (λ n. get_or (nodes ++ node ∷ []) n d) e ∙ get_or-append_seam nodes node [] d in
-            let front : take k (nodes ++ node ∷ []) ≡ nodes = ap (λ n. take n (nodes ++ node ∷ [])) e ∙ take-append_seam nodes (node ∷ []) in
-            subst (λ xs. Fits xs (get_or (nodes ++ node ∷ []) k d)) (sym front) (subst (Fits nodes) (sym at) fits)
-    ]
-
-few_as : (kind : Kind) (nodes : List Node) (node : Node) → FitsAs kind nodes node → node.children ≤ 1024
-few_as Chance nodes node fits = fits.limit
-few_as One nodes node fits = fits.limit
-few_as Two nodes node fits = fits.limit
-few_as Leaf nodes node fits = let e : node.children ≡ 0 = fits.children in omega arith
-
-pub children-le : (nodes : List Node) (node : Node) → Fits nodes node → node.children ≤ 1024
-children-le nodes node fits = few_as node.kind nodes node fits
 
 pub all_few : (nodes : List Node) → KeepRules nodes → All (λ node. node.children ≤ 1024) nodes
 all_few nodes keep k d there = children-le (take k nodes) (get_or nodes k d) (keep k d there)
@@ -68,22 +40,22 @@ IsBuilt-push nodes wanting ended sizes node built some fits short =
     let more : wanted 1 (nodes ++ node ∷ []) ≡ wanted 1 nodes + node.children - 1 = wanted-append 1 nodes (node ∷ []) in
     let long : length (nodes ++ node ∷ []) ≡ length nodes + 1 = length-append nodes (node ∷ []) in
     record {
-        begins = Begins-append 1 nodes (node ∷ []) built.begins (open_place, tt);
-        rules = KeepRules-push nodes node built.rules fits;
-        limit = omega arith;
-        wants = omega arith;
-        ends = omega (arith, pushed);
-        joins = HoldSizes-push nodes sizes node built.joins fits;
+      begins = Begins-append 1 nodes (node ∷ []) built.begins (open_place, tt);
+      rules = KeepRules-push nodes node built.rules fits;
+      limit = omega arith;
+      wants = omega arith;
+      ends = omega (arith, pushed);
+      joins = HoldSizes-push nodes sizes node built.joins fits;
     }
 
 pub no_nodes : IsBuilt [] 1 0 (record { chance = []; one = []; two = [] })
 no_nodes = record {
-    begins = tt;
-    rules = λ k d there. absurd (omega arith);
-    limit = omega arith;
-    wants = refl;
-    ends = refl;
-    joins = record { chance = no_sizes Chance; one = no_sizes One; two = no_sizes Two };
+  begins = tt;
+  rules = λ k d there. absurd (omega arith);
+  limit = omega arith;
+  wants = refl;
+  ends = refl;
+  joins = record { chance = no_sizes Chance; one = no_sizes One; two = no_sizes Two };
 }
 
 -- where no node is wanted any more, the nodes are a tree's

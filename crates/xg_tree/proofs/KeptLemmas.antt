@@ -1,8 +1,8 @@
 -- What a tree is, by what is kept of its nodes.
-use Rattle.std.proofs.Common.{◌≡◌, ℕ, ◌+◌, ◌-◌, ◌<◌, ◌≤◌, List, length, get_or, refl, ap, sym, subst, ◌∙◌, arith, Some, slice_get}
+use Rattle.std.proofs.Common.{◌≡◌, ℕ, ◌<◌, ◌≤◌, List, length, get_or, refl, ap, sym, subst, ◌∙◌, arith, Some, slice_get}
 use Rattle.std.proofs.lemmas.Option.{slice_get_read}
 use Rattle.def_tree.specs.declared.Node.{Node}
-use Rattle.def_tree.specs.Tree.{Forest, forest_of, prefix, node_count, leaf_count, IsTree}
+use Rattle.def_tree.specs.Tree.{Forest, forest_of, prefix, IsTree}
 use Rattle.def_tree.specs.Rules.{IsGameTree, KeepRules}
 use Rattle.def_tree.proofs.Forests.{prefix-forest_of}
 use Rattle.def_tree.proofs.Lists.{tree_of_whole}
@@ -16,9 +16,9 @@ game_tree_seen nodes ended tree e h =
     let same : prefix tree ≡ nodes = prefix_seen nodes tree e in
     let limit : length nodes ≤ 1048576 = h.limit in
     record {
-        tree = subst IsTree e (tree_of_whole nodes h.whole);
-        rules = subst KeepRules (sym same) h.rules;
-        limit = omega (arith, ap length same);
+      tree = subst IsTree e (tree_of_whole nodes h.whole);
+      rules = subst KeepRules (sym same) h.rules;
+      limit = omega (arith, ap length same);
     }
 
 pub node_seen : (nodes : List Node) (tree : Forest) (k : ℕ) (node : Node) → forest_of nodes ≡ tree → k < length nodes → node ≡ get_or nodes k node → slice_get (prefix tree) k ≡ Some node

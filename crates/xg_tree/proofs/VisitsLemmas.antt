@@ -1,11 +1,11 @@
 -- A walk node by node, over the nodes in prefix order.
-use Rattle.std.proofs.Common.{◌≡◌, ℕ, zero, suc, ◌+◌, ◌-◌, ◌<◌, ◌≤◌, List, [], ◌∷◌, ◌++◌, length, get_or, drop, refl, ap, sym, subst, ◌∙◌, arith, append_assoc, append-nil, inl, inr, add-one, drop-cons, length-append}
+use Rattle.std.proofs.Common.{◌≡◌, ℕ, zero, suc, ◌+◌, ◌<◌, ◌≤◌, List, [], ◌∷◌, ◌++◌, length, get_or, drop, refl, ap, sym, subst, ◌∙◌, arith, append_assoc, append-nil, inl, inr, add-one, drop-cons, length-append}
 use Rattle.std.proofs.lemmas.List.{drop-drop}
 use Rattle.std.proofs.lemmas.Bool.{cases_lt}
 use Rattle.std.proofs.Math.ListN.{drop_of_length-le}
 use Rattle.std.proofs.Math.Seq.{drop-append_seam}
 use Rattle.def_tree.specs.declared.Node.{Node}
-use Rattle.def_tree.specs.Tree.{Forest, bare, grown, forest_of, prefix, take_trees, drop_trees, tree_count, HasItsChildren, node_count, IsWhole}
+use Rattle.def_tree.specs.Tree.{Forest, bare, grown, forest_of, prefix, take_trees, drop_trees, tree_count, HasItsChildren, node_count}
 use Rattle.def_tree.specs.Events.{Event, Enter, Leave, events_from, events, Accepts, Leads}
 use Rattle.def_tree.proofs.Forests.{prefix-forest_of, forest_of-prefix_whole}
 use Rattle.def_tree.proofs.Lists.{trees_of}
@@ -59,11 +59,11 @@ HasItsChildren-cut (suc n) (grown node below beside) h k = (h.0, h.1, HasItsChil
 -- where a tree stands, a node does
 pub there_by : (nodes : List Node) (at count : ℕ) → HasTreesAt nodes at count → 0 < count → at < length nodes
 there_by nodes at count has some = elim (cases_lt at (length nodes)) [
-    inl there ↦ there
+  | inl there ↦ there
   | inr past ↦
-        let none : tree_count (forest_of (drop at nodes)) ≡ 0 = ap (λ xs. tree_count (forest_of xs)) (drop_of_length-le nodes past) in
-        let few : count ≤ tree_count (forest_of (drop at nodes)) = has.some in
-        absurd (omega arith)
+      let none : tree_count (forest_of (drop at nodes)) ≡ 0 = ap (λ xs. tree_count (forest_of xs)) (drop_of_length-le nodes past) in
+      let few : count ≤ tree_count (forest_of (drop at nodes)) = has.some in
+      absurd (omega arith)
 ]
 
 -- the trees from a node on: the node over its children's, and the rest
@@ -83,9 +83,9 @@ children_opened nodes at d there has =
     let all = subst HasItsChildren (forest_opened nodes at d there) has.children in
     let count : tree_count (take_trees node.children rest) ≡ node.children = all.0 in
     record {
-        limit = has.limit;
-        some = omega (arith, tree_count-take_trees-le node.children rest);
-        children = HasItsChildren-cut node.children rest all.1 all.2;
+      limit = has.limit;
+      some = omega (arith, tree_count-take_trees-le node.children rest);
+      children = HasItsChildren-cut node.children rest all.1 all.2;
     }
 
 pub end_opened : (nodes : List Node) (at : ℕ) (d : Node) → at < length nodes → row_end nodes at 1 ≡ row_end nodes (at + 1) (get_or nodes at d).children
@@ -116,21 +116,21 @@ split_at nodes at count (grown node below beside) e has =
     let rest : forest_of (drop (row_end nodes at 1) nodes) ≡ beside = ap (λ n. forest_of (drop n nodes)) first ∙ behind_first nodes at node below beside e all.2 in
     let some : suc count ≤ tree_count (forest_of (drop at nodes)) = has.some in
     record {
-        steps =
-            let after : at + 1 + 1 + node_count below ≡ row_end nodes at 1 + 1 = omega (arith, first, ap length (append-nil (prefix below))) in
-            ap (λ f. events_from (at + 1) (take_trees (suc count) f)) e
-            ∙ ap (λ n. Enter (at + 1) node ∷ (events_from (at + 1 + 1) below ++ (Leave (at + 1) ∷ events_from n (take_trees count beside)))) after
-            ∙ ap (λ xs. Enter (at + 1) node ∷ xs) (sym (append_assoc (events_from (at + 1 + 1) below) (Leave (at + 1) ∷ []) (events_from (row_end nodes at 1 + 1) (take_trees count beside))))
-            ∙ (λ i. events_from (at + 1) (take_trees 1 (sym e i)) ++ events_from (row_end nodes at 1 + 1) (take_trees count (sym rest i)));
-        trees = record {
-            limit = has.limit;
-            some = omega (arith, ap tree_count e, ap tree_count rest);
-            children = subst HasItsChildren (sym rest) all.2;
-        };
-        end =
-            let all_nodes : node_count (row_at nodes at (suc count)) ≡ suc (length (prefix below ++ prefix (take_trees count beside))) = ap (λ f. node_count (take_trees (suc count) f)) e in
-            let others : node_count (row_at nodes (row_end nodes at 1) count) ≡ length (prefix (take_trees count beside)) = ap (λ f. node_count (take_trees count f)) rest in
-            omega (arith, all_nodes, others, first, ap length (append-nil (prefix below)), length-append (prefix below) (prefix (take_trees count beside)));
+      steps =
+          let after : at + 1 + 1 + node_count below ≡ row_end nodes at 1 + 1 = omega (arith, first, ap length (append-nil (prefix below))) in
+          ap (λ f. events_from (at + 1) (take_trees (suc count) f)) e
+          ∙ ap (λ n. Enter (at + 1) node ∷ (events_from (at + 1 + 1) below ++ (Leave (at + 1) ∷ events_from n (take_trees count beside)))) after
+          ∙ ap (λ xs. Enter (at + 1) node ∷ xs) (sym (append_assoc (events_from (at + 1 + 1) below) (Leave (at + 1) ∷ []) (events_from (row_end nodes at 1 + 1) (take_trees count beside))))
+          ∙ (λ i. events_from (at + 1) (take_trees 1 (sym e i)) ++ events_from (row_end nodes at 1 + 1) (take_trees count (sym rest i)));
+      trees = record {
+        limit = has.limit;
+        some = omega (arith, ap tree_count e, ap tree_count rest);
+        children = subst HasItsChildren (sym rest) all.2;
+      };
+      end =
+          let all_nodes : node_count (row_at nodes at (suc count)) ≡ suc (length (prefix below ++ prefix (take_trees count beside))) = ap (λ f. node_count (take_trees (suc count) f)) e in
+          let others : node_count (row_at nodes (row_end nodes at 1) count) ≡ length (prefix (take_trees count beside)) = ap (λ f. node_count (take_trees count f)) rest in
+          omega (arith, all_nodes, others, first, ap length (append-nil (prefix below)), length-append (prefix below) (prefix (take_trees count beside)));
     }
 
 -- a row of trees is its first one, and then the others
@@ -159,18 +159,18 @@ module _ {V : Type 0} (may_enter : V → ℕ → Node → Type 0) (enters : V �
   at_first_child nodes at left d start now all there has accepts step = subst (λ n. IsAmongChildren nodes at start n (at + 1) now) (sym all) (
       let begun = subst (λ es. IsGoing may_enter enters may_leave leaves (row_events nodes at 1) start es start) (events_opened nodes at d there) (going_begins may_enter enters may_leave leaves (row_events nodes at 1) start accepts) in
       record {
-          trees = children_opened nodes at d there has;
-          end = sym (end_opened nodes at d there);
-          going = going_enters may_enter enters may_leave leaves (row_events nodes at 1) start (at + 1) (get_or nodes at d) (row_events nodes (at + 1) (get_or nodes at d).children ++ (Leave (at + 1) ∷ [])) start now begun step;
-          beyond = omega arith;
+        trees = children_opened nodes at d there has;
+        end = sym (end_opened nodes at d there);
+        going = going_enters may_enter enters may_leave leaves (row_events nodes at 1) start (at + 1) (get_or nodes at d) (row_events nodes (at + 1) (get_or nodes at d).children ++ (Leave (at + 1) ∷ [])) start now begun step;
+        beyond = omega arith;
       })
 
   going_split : (nodes : List Node) (at : ℕ) (start : V) (left next : ℕ) (now : V) → IsAmongChildren nodes at start (suc left) next now →
       IsGoing may_enter enters may_leave leaves (row_events nodes at 1) start (row_events nodes next 1 ++ (row_events nodes (row_end nodes next 1) left ++ (Leave (at + 1) ∷ []))) now
   going_split nodes at start left next now among =
       subst (λ es. IsGoing may_enter enters may_leave leaves (row_events nodes at 1) start es now)
-          (ap (λ es. es ++ (Leave (at + 1) ∷ [])) (row_split nodes next left among.trees).steps ∙ append_assoc (row_events nodes next 1) (row_events nodes (row_end nodes next 1) left) (Leave (at + 1) ∷ []))
-          among.going
+      (ap (λ es. es ++ (Leave (at + 1) ∷ [])) (row_split nodes next left among.trees).steps ∙ append_assoc (row_events nodes next 1) (row_events nodes (row_end nodes next 1) left) (Leave (at + 1) ∷ []))
+      among.going
 
   child_accepts : (nodes : List Node) (at : ℕ) (start : V) (left next : ℕ) (now : V) → IsAmongChildren nodes at start (suc left) next now → Accepts may_enter enters may_leave leaves (row_events nodes next 1) now
   child_accepts nodes at start left next now among =
@@ -183,10 +183,10 @@ module _ {V : Type 0} (may_enter : V → ℕ → Node → Type 0) (enters : V �
       let split = row_split nodes next left among.trees in
       let beyond : at < next = among.beyond in
       record {
-          trees = split.trees;
-          end = sym split.end ∙ among.end;
-          going = going_on may_enter enters may_leave leaves (row_events nodes at 1) start (row_events nodes next 1) (row_events nodes (row_end nodes next 1) left ++ (Leave (at + 1) ∷ [])) now then (going_split nodes at start left next now among) leads;
-          beyond = omega arith;
+        trees = split.trees;
+        end = sym split.end ∙ among.end;
+        going = going_on may_enter enters may_leave leaves (row_events nodes at 1) start (row_events nodes next 1) (row_events nodes (row_end nodes next 1) left ++ (Leave (at + 1) ∷ [])) now then (going_split nodes at start left next now among) leads;
+        beyond = omega arith;
       }
 
   -- where a child is left, its tree may be walked through

@@ -11,4 +11,4 @@ pub returns-clause-rules : goal.returns-clause-rules
 returns-clause-rules c =
     let none : wanted 1 c.self.inside.nodes.items ≡ 0 = ap (wanted 1) c.self.view_is ∙ c.requires in
     game_tree_seen c.self.inside.nodes.items c.self.inside.leaves c.of.result (sym c.of.ensures)
-        (kept_of_built c.self.inside.nodes.items c.self.inside.wanted c.self.inside.leaves c.self.inside.sizes c.self.invariant none)
+    (kept_of_built c.self.inside.nodes.items c.self.inside.wanted c.self.inside.leaves c.self.inside.sizes c.self.invariant none)

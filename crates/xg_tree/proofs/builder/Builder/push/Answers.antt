@@ -1,9 +1,7 @@
-use Rattle.std.proofs.Common.{◌≡◌, ◌≢◌, ◌+◌, ◌-◌, ◌^◌, ◌<◌, ◌≤◌, ◌++◌, ◌∷◌, [], ap, sym, subst, ◌∙◌, arith, rules, length}
-use Rattle.std.proofs.lemmas.Grind.{common_steps}
+use Rattle.std.proofs.Common.{◌≡◌, ◌≢◌, ◌+◌, ◌-◌, ◌^◌, ◌<◌, ◌++◌, ◌∷◌, [], ap, sym, subst, ◌∙◌, arith, rules, length}
 use Rattle.std.specs.Vec.{vec_len}
 use Rattle.def_tree.specs.Rules.{Fits}
 use Rattle.def_tree.specs.Tree.{leaf_count, wanted}
-use Rattle.xg_tree.specs.Built.{IsBuilt}
 use Rattle.xg_tree.specs.Sizes.{with_size}
 use Rattle.xg_tree.proofs.BuiltLemmas.{IsBuilt-push, IsBuilt-same, wanted_fits}
 use Rattle.xg_tree.proofs.builder.Builder.push.Goals as goal
@@ -29,4 +27,4 @@ invariant_of-self-2 c =
     let sizes : c.note.new.self ≡ with_size c.self.inside.sizes c.args.node = search rules in
     let leaves : c.self.inside.leaves + c.leaves_in.result ≡ c.self.inside.leaves + leaf_count (c.args.node ∷ []) = ap (λ n. c.self.inside.leaves + n) c.leaves_in.ensures in
     IsBuilt-same _ _ _ _ _ _ _ nodes leaves sizes
-        (IsBuilt-push c.self.inside.nodes.items c.self.inside.wanted c.self.inside.leaves c.self.inside.sizes c.args.node c.self.invariant some fits short)
+    (IsBuilt-push c.self.inside.nodes.items c.self.inside.wanted c.self.inside.leaves c.self.inside.sizes c.args.node c.self.invariant some fits short)

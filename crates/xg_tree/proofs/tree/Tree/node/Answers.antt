@@ -1,4 +1,4 @@
-use Rattle.std.proofs.Common.{◌≡◌, ◌≤◌, ◌<◌, ◌-◌, ap, length, arith}
+use Rattle.std.proofs.Common.{◌≡◌, ◌≤◌, ◌-◌, ap, length, arith}
 use Rattle.std.specs.Vec.{vec_len}
 use Rattle.def_tree.specs.Tree.{node_count}
 use Rattle.xg_tree.proofs.KeptLemmas.{node_seen, prefix_seen}

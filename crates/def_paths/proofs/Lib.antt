@@ -1,0 +1,4 @@
+pub mod Visits
+pub mod Faults
+pub mod Order
+pub mod Ancestors

@@ -1,0 +1,4 @@
+pub mod Paths
+pub mod Recall
+pub mod Sequences
+pub mod Rows

@@ -1,0 +1,4 @@
+pub mod Tables
+pub mod Scale
+pub mod Laws
+pub mod Rows
