@@ -1,0 +1,4 @@
+pub mod Compares
+pub mod BestEnds
+pub mod TraceLines
+pub mod EvaluatedRounds

@@ -1,0 +1,97 @@
+-- The bracket: of the evaluated average plans the ones with the best bounds, and a line for each evaluation.
+-- The average after t rounds is the sum of t plans, so a bound of the sum is compared after division by t.
+use Rattle.std.specs.Prelude.{◌≡◌, ℕ, ◌%◌, ◌<◌, ◌==◌, ◌||◌, List, [], ◌∷◌, length, take, filter, fold, slice_index_or, All, ℤ, pos, ◌*ℤ◌, ◌≤ℤ◌, ◌<ℤ◌, int_lt, Option, Some, None, if◌then◌else◌}
+use Rattle.std.specs.List.{range_with_len}
+
+-- the rounds that are evaluated: each multiple of `every` up to the last round, and the last
+abbrev pub evaluated_rounds : ℕ → ℕ → List ℕ
+evaluated_rounds every last = filter (λ k. (k % every == 0) || (k == last)) (range_with_len 1 last)
+
+-- an evaluation after a round: the floor of player one's sum of plans, and the ceiling of player two's
+pub record Evaluation : Type 0 where
+  pub round : ℕ
+  pub low : ℤ
+  pub high : ℤ
+
+-- a's floor is below b's, each divided by its round; it is at most b's
+abbrev pub HasLowerFloor : Evaluation → Evaluation → Type 0
+HasLowerFloor a b = (a.low *ℤ pos b.round) <ℤ (b.low *ℤ pos a.round)
+
+abbrev pub HasFloorAtMost : Evaluation → Evaluation → Type 0
+HasFloorAtMost a b = (a.low *ℤ pos b.round) ≤ℤ (b.low *ℤ pos a.round)
+
+-- the same of ceilings
+abbrev pub HasLowerCeiling : Evaluation → Evaluation → Type 0
+HasLowerCeiling a b = (a.high *ℤ pos b.round) <ℤ (b.high *ℤ pos a.round)
+
+abbrev pub HasCeilingAtMost : Evaluation → Evaluation → Type 0
+HasCeilingAtMost a b = (a.high *ℤ pos b.round) ≤ℤ (b.high *ℤ pos a.round)
+
+-- the lower end comes from the evaluation with the greatest floor, the upper end from that with the least ceiling
+pub record Ends : Type 0 where
+  pub lower : Evaluation
+  pub upper : Evaluation
+
+-- an end is replaced only by a better one, so of equals the earliest is kept
+abbrev pub higher_floor : Evaluation → Evaluation → Evaluation
+higher_floor kept next = if int_lt (kept.low *ℤ pos next.round) (next.low *ℤ pos kept.round) then next else kept
+
+abbrev pub lower_ceiling : Evaluation → Evaluation → Evaluation
+lower_ceiling kept next = if int_lt (next.high *ℤ pos kept.round) (kept.high *ℤ pos next.round) then next else kept
+
+abbrev pub next_ends : Ends → Evaluation → Ends
+next_ends ends e = record { lower = higher_floor ends.lower e; upper = lower_ceiling ends.upper e }
+
+abbrev pub first_ends : Evaluation → Ends
+first_ends e = record { lower = e; upper = e }
+
+-- the ends after some evaluations, if there was one
+abbrev pub ends_of : List Evaluation → Option Ends
+ends_of [] = None
+ends_of (e ∷ es) = Some (fold next_ends (first_ends e) es)
+
+-- what is traced after an evaluation: its round, and both ends with the rounds that they come from
+pub record TraceLine : Type 0 where
+  pub round : ℕ
+  pub low_round : ℕ
+  pub low : ℤ
+  pub high_round : ℕ
+  pub high : ℤ
+
+abbrev pub trace_line : ℕ → Ends → TraceLine
+trace_line round ends = record {
+  round = round;
+  low_round = ends.lower.round;
+  low = ends.lower.low;
+  high_round = ends.upper.round;
+  high = ends.upper.high;
+}
+
+abbrev pub trace_after : Ends → List Evaluation → List TraceLine
+trace_after ends [] = []
+trace_after ends (e ∷ es) = trace_line e.round (next_ends ends e) ∷ trace_after (next_ends ends e) es
+
+abbrev pub trace : List Evaluation → List TraceLine
+trace [] = []
+trace (e ∷ es) = trace_line e.round (first_ends e) ∷ trace_after (first_ends e) es
+
+-- e is the evaluation with the greatest floor, and each one before it has a lower one
+pub record IsLowerEnd (evaluations : List Evaluation) (e : Evaluation) : Type 0 where
+  pub place : ℕ
+  pub within : place < length evaluations
+  pub stands : (d : Evaluation) → slice_index_or evaluations place d ≡ e
+  pub greatest : All (λ a. HasFloorAtMost a e) evaluations
+  pub earliest : All (λ a. HasLowerFloor a e) (take place evaluations)
+
+-- e is the evaluation with the least ceiling, and each one before it has a higher one
+pub record IsUpperEnd (evaluations : List Evaluation) (e : Evaluation) : Type 0 where
+  pub place : ℕ
+  pub within : place < length evaluations
+  pub stands : (d : Evaluation) → slice_index_or evaluations place d ≡ e
+  pub least : All (λ a. HasCeilingAtMost e a) evaluations
+  pub earliest : All (λ a. HasLowerCeiling e a) (take place evaluations)
+
+-- the bracket of a line lies within that of an earlier one
+pub record LiesWithin (later earlier : TraceLine) : Type 0 where
+  pub not_lower : (earlier.low *ℤ pos later.low_round) ≤ℤ (later.low *ℤ pos earlier.low_round)
+  pub not_higher : (later.high *ℤ pos earlier.high_round) ≤ℤ (earlier.high *ℤ pos later.high_round)

@@ -1,0 +1,57 @@
+//! The bracket of the evaluated averages: which rounds are evaluated, the ends, and the trace. There is no code here;
+//! each function's contract is a law of the definitions, or rows that they give.
+#![tactic(auto)]
+
+ghost use Rattle.std.specs.Prelude.{◌≡◌, [], ◌∷◌, pos, negsuc};
+ghost use Rattle.def_bracket.specs.Bracket.{evaluated_rounds, trace};
+ghost use Rattle.def_bracket.specs.Laws.{EndsAreTheEarliestBest, TraceHasALineForEach, TraceNeverWidens, RoundsAreEvaluated, ProductsAreSmall};
+
+/// The ends by what is best.
+pub fn ends_are_the_earliest_best()
+    ensures { EndsAreTheEarliestBest }
+{}
+
+/// The trace by its lines.
+pub fn trace_has_a_line_for_each()
+    ensures { TraceHasALineForEach }
+{}
+
+/// Later lines beside earlier ones.
+pub fn trace_never_widens()
+    ensures { TraceNeverWidens }
+{}
+
+/// Which rounds are evaluated.
+pub fn rounds_are_evaluated()
+    ensures { RoundsAreEvaluated }
+{}
+
+/// Sizes of the products that are compared.
+pub fn products_are_small()
+    ensures { ProductsAreSmall }
+{}
+
+/// One mover, two rounds: both ceilings are equal, and the first is kept.
+pub fn trace_of_one_mover()
+    ensures { trace (record { round = 1; low = pos 524288; high = pos 1048576 }
+        ∷ record { round = 2; low = pos 1572864; high = pos 2097152 } ∷ [])
+        ≡ record { round = 1; low_round = 1; low = pos 524288; high_round = 1; high = pos 1048576 }
+        ∷ record { round = 2; low_round = 2; low = pos 1572864; high_round = 1; high = pos 1048576 } ∷ [] }
+{}
+
+/// Matching pennies, two rounds in units of 1: the ends come from different rounds.
+pub fn trace_of_pennies()
+    ensures { trace (record { round = 1; low = negsuc 0; high = pos 1 }
+        ∷ record { round = 2; low = negsuc 1; high = pos 0 } ∷ [])
+        ≡ record { round = 1; low_round = 1; low = negsuc 0; high_round = 1; high = pos 1 }
+        ∷ record { round = 2; low_round = 1; low = negsuc 0; high_round = 2; high = pos 0 } ∷ [] }
+{}
+
+/// Rounds that are evaluated.
+pub fn evaluated_rounds_of_short_runs()
+    ensures each { evaluated_rounds 1 2 ≡ 1 ∷ 2 ∷ [] }
+    ensures last { evaluated_rounds 2 3 ≡ 2 ∷ 3 ∷ [] }
+    ensures multiple { evaluated_rounds 2 4 ≡ 2 ∷ 4 ∷ [] }
+    ensures late { evaluated_rounds 7 3 ≡ 3 ∷ [] }
+    ensures none { evaluated_rounds 1 0 ≡ [] }
+{}

@@ -1,0 +1,11 @@
+pub mod Regroup
+pub mod Duality
+pub mod Worths
+pub mod Dealing
+pub mod Rules
+pub mod Choices
+pub mod Adding
+pub mod Sums
+pub mod BadSets
+pub mod SizeLaws
+pub mod OrderTest

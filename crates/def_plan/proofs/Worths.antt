@@ -1,0 +1,35 @@
+-- For code that goes over the sets from the last one on, or tests them one by one.
+use Rattle.std.proofs.Common.{◌≡◌, ℕ, zero, suc, ◌+◌, ◌<◌, Bool, true, false, cond, eqb, List, [], ◌∷◌, zip, filter, drop, length, get_or, ℤ, ◌+ℤ◌, arith, refl}
+use Rattle.std.specs.List.{AllZip}
+use Rattle.std.proofs.lemmas.Int.{ints}
+use Rattle.def_sums.specs.Sum.{sum_over}
+use Rattle.def_plan.specs.Form.{InformationSet, PlacedSet, placed_from}
+use Rattle.def_plan.specs.Payoff.{worth}
+
+-- one more set adds its value to the worth of the sequence before it, and changes no other
+kept : (b : Bool) (p : PlacedSet × ℤ) (ps : List (PlacedSet × ℤ)) (w : ℤ) → w +ℤ sum_over (λ q. q.1) (cond b (p ∷ ps) ps) ≡ cond b (w +ℤ sum_over (λ q. q.1) ps +ℤ p.1) (w +ℤ sum_over (λ q. q.1) ps)
+kept true p ps w = omega (arith, ints)
+kept false p ps w = refl
+
+pub worth-cons : (sums : ℕ → ℤ) (h : PlacedSet) (hs : List PlacedSet) (v : ℤ) (vs : List ℤ) (s : ℕ) → worth sums (h ∷ hs) (v ∷ vs) s ≡ cond (eqb h.before s) (worth sums hs vs s +ℤ v) (worth sums hs vs s)
+worth-cons sums h hs v vs s = kept (eqb h.before s) (h, v) (filter (λ p. eqb p.0.before s) (zip hs vs)) (sums s)
+
+-- the placed sets from the set k on
+pub drop-placed : (first k : ℕ) (hs : List InformationSet) → (next : ℕ) × (drop k (placed_from first hs) ≡ placed_from next (drop k hs))
+drop-placed first zero hs = (first, refl)
+drop-placed first (suc k) [] = (first, refl)
+drop-placed first (suc k) (h ∷ hs) = drop-placed (first + h.actions) k hs
+
+-- a fact on two lists by places
+pub AllZip-from_places : {A B : Type 0} (R : A → B → Type 0) (xs : List A) (ys : List B) → length xs ≡ length ys → ((k : ℕ) (a : A) (b : B) → k < length xs → R (get_or xs k a) (get_or ys k b)) → AllZip R xs ys
+AllZip-from_places R [] [] e h = tt
+AllZip-from_places R [] (y ∷ ys) e h = absurd (omega arith)
+AllZip-from_places R (x ∷ xs) [] e h = absurd (omega arith)
+AllZip-from_places R (x ∷ xs) (y ∷ ys) e h = (h 0 x y (omega arith), AllZip-from_places R xs ys (omega arith) (λ k a b low. h (suc k) a b (omega arith)))
+
+pub AllZip-at : {A B : Type 0} (R : A → B → Type 0) (xs : List A) (ys : List B) → AllZip R xs ys → (k : ℕ) (a : A) (b : B) → k < length xs → R (get_or xs k a) (get_or ys k b)
+AllZip-at R [] [] h k a b low = absurd (omega arith)
+AllZip-at R [] (y ∷ ys) h k a b low = elim h [ ]
+AllZip-at R (x ∷ xs) [] h k a b low = elim h [ ]
+AllZip-at R (x ∷ xs) (y ∷ ys) h zero a b low = h.0
+AllZip-at R (x ∷ xs) (y ∷ ys) h (suc k) a b low = AllZip-at R xs ys h.1 k a b (omega arith)

@@ -1,0 +1,5 @@
+pub mod Bests
+pub mod Equations
+pub mod Optimal
+pub mod BoundLaws
+pub mod ReplySizes

@@ -1,0 +1,4 @@
+pub mod Reply
+pub mod Bounds
+pub mod Laws
+pub mod Kuhn

@@ -1,0 +1,4 @@
+pub mod RingLaws
+pub mod SumLaws
+pub mod Ranges
+pub mod FloorLaws

@@ -1,0 +1,4 @@
+pub mod Certificate
+pub mod Verdict
+pub mod Laws
+pub mod Even
