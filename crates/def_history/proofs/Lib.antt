@@ -1,0 +1,6 @@
+pub mod Counts
+pub mod Steps
+pub mod Holders
+pub mod Ends
+pub mod Leaves
+pub mod Worked

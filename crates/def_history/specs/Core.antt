@@ -1,0 +1,89 @@
+-- The core of draws and additions, for any number of passes and stripes.
+use Rattle.std.specs.Prelude.{◌≡◌, ℕ, ◌<◌, ◌==◌, ◌&&◌, List, [], ◌∷◌, ◌++◌, length, map, All, Contains, count_by, sum_by, slice_index_or, slice_set, IsPermutation}
+use Rattle.std.specs.List.{range_with_len}
+use Rattle.def_history.specs.History.{job_numbers}
+
+-- the right to add one job into one stripe
+pub record Right : Type 0 where
+  pub job : ℕ
+  pub stripe : ℕ
+
+-- the jobs that nobody has drawn, for each pass the rights that it holds, and for each stripe its history
+pub record State : Type 0 where
+  pub bag : List ℕ
+  pub passes : List (List Right)
+  pub histories : List (List ℕ)
+
+abbrev pub stripe_count : State → ℕ
+stripe_count state = length state.histories
+
+abbrev pub rights_held : State → ℕ → List Right
+rights_held state pass = slice_index_or state.passes pass []
+
+abbrev pub history_of : State → ℕ → List ℕ
+history_of state stripe = slice_index_or state.histories stripe []
+
+-- the rights of a job, one for each stripe
+abbrev pub rights_of : ℕ → ℕ → List Right
+rights_of job stripes = map (λ stripe. record { job = job; stripe = stripe }) (range_with_len 0 stripes)
+
+-- a pass that holds no right draws a job from the bag, and holds the job's rights for all stripes
+pub record Draws (before : State) (pass job : ℕ) (after : State) : Type 0 where
+  pub is_pass : pass < length before.passes
+  pub holds_none : rights_held before pass ≡ []
+  pub leaves_bag : IsPermutation before.bag (job ∷ after.bag)
+  pub gets_rights : IsPermutation (rights_of job (stripe_count before)) (rights_held after pass)
+  pub other_passes : after.passes ≡ slice_set before.passes pass (rights_held after pass)
+  pub histories : after.histories ≡ before.histories
+
+-- a pass gives up the right that it holds to add a job into a stripe, whose history the job joins at its end
+pub record Adds (before : State) (pass job stripe : ℕ) (after : State) : Type 0 where
+  pub is_pass : pass < length before.passes
+  pub gives_right : IsPermutation (rights_held before pass) (record { job = job; stripe = stripe } ∷ rights_held after pass)
+  pub other_passes : after.passes ≡ slice_set before.passes pass (rights_held after pass)
+  pub histories : after.histories ≡ slice_set before.histories stripe (history_of before stripe ++ job ∷ [])
+  pub bag : after.bag ≡ before.bag
+
+pub data Step : Type 0 where
+  draw : (pass job : ℕ) → Step
+  add : (pass job stripe : ℕ) → Step
+
+abbrev pub Takes : State → Step → State → Type 0
+Takes before (draw pass job) after = Draws before pass job after
+Takes before (add pass job stripe) after = Adds before pass job stripe after
+
+-- a list of steps leads from one state to another
+pub data Leads : State → List Step → State → Type 0 where
+  none : {state : State} → Leads state [] state
+  first : {before : State} {step : Step} {between : State} {steps : List Step} {after : State} → Takes before step between → Leads between steps after → Leads before (step ∷ steps) after
+
+-- the bag has every job once, no pass holds a right, and the histories are empty
+pub record IsOpening (jobs : ℕ) (state : State) : Type 0 where
+  pub bag : IsPermutation (job_numbers jobs) state.bag
+  pub passes : All (λ rights. rights ≡ []) state.passes
+  pub histories : All (λ history. history ≡ []) state.histories
+
+-- a list of steps from an opening leads to this state
+abbrev pub IsReached : ℕ → State → Type 0
+IsReached jobs state = (opening : State) × (steps : List Step) × IsOpening jobs opening × Leads opening steps state
+
+-- who may hold a right: the bag, or one of the passes
+pub data Holder : Type 0 where
+  the_bag : Holder
+  the_pass : (pass : ℕ) → Holder
+
+-- the bag holds the rights of its jobs for all stripes
+abbrev pub Holds : State → Holder → ℕ → ℕ → Type 0
+Holds state the_bag job stripe = Contains state.bag job
+Holds state (the_pass pass) job stripe = Contains (rights_held state pass) (record { job = job; stripe = stripe })
+
+-- nobody holds the right any more
+abbrev pub IsGivenUp : State → ℕ → ℕ → Type 0
+IsGivenUp state job stripe = (holder : Holder) → ¬ Holds state holder job stripe
+
+-- how often a right is in a list of rights, and how often the passes hold it
+abbrev pub times_right : ℕ → ℕ → List Right → ℕ
+times_right job stripe rights = count_by (λ (right : Right). (right.job == job) && (right.stripe == stripe)) rights
+
+abbrev pub times_held : State → ℕ → ℕ → ℕ
+times_held state job stripe = sum_by (λ rights. times_right job stripe rights) state.passes

@@ -1,0 +1,5 @@
+pub mod History
+pub mod Core
+pub mod Leaves
+pub mod Laws
+pub mod Worked

@@ -1,0 +1,5 @@
+pub mod Blocks
+pub mod Plays
+pub mod Values
+pub mod Regrets
+pub mod Sums

@@ -1,0 +1,64 @@
+-- The laws of plays and rounds.
+use Rattle.std.specs.Prelude.{◌≡◌, ℕ, ◌+◌, ◌*◌, ◌≤◌, ◌↔◌, ℤ, List, length, map, drop, All, slice_index, slice_get, Some}
+use Rattle.def_plan.specs.Form.{InformationSet, PlacedSet, placed, sequences_of, sequence_count, AreInOrder, SequenceForm}
+use Rattle.def_plan.specs.Plan.{IsPlan}
+use Rattle.def_plan.specs.Payoff.{worth}
+use Rattle.def_shares.specs.Shares.{shares}
+use Rattle.def_round.specs.Play.{set_play, play_of, GivesAllUnits, plan_of_play}
+use Rattle.def_round.specs.Round.{AreValues, values_from, values_of, IsRound, regrets_after}
+use Rattle.def_round.specs.Rounds.{rounds}
+
+-- the play has a number for each sequence, and at each set the shares of the regrets' positive parts
+pub record IsPlayOf (sets : List InformationSet) (regrets : List ℤ) (play : List ℕ) : Type 0 where
+  pub all_sequences : length play ≡ sequence_count sets
+  pub none_of_empty : slice_index play 0 ≡ 0
+  pub each_set : All (λ h. map (λ s. slice_index play s) (sequences_of h) ≡ set_play regrets h) (placed sets)
+
+abbrev pub PlaysEachSet : Type 0
+PlaysEachSet = (sets : List InformationSet) (regrets : List ℤ) → IsPlayOf sets regrets (play_of sets regrets)
+
+-- at each set the play gives out all units
+abbrev pub PlaysAllUnits : Type 0
+PlaysAllUnits = (sets : List InformationSet) (regrets : List ℤ) → AreInOrder sets → GivesAllUnits (play_of sets regrets) sets
+
+-- what a play deals is a plan
+abbrev pub PlaysDealPlans : Type 0
+PlaysDealPlans = (sets : List InformationSet) (play : List ℕ) (root : ℕ) → AreInOrder sets → 1 ≤ root → IsPlan sets root (plan_of_play sets play root)
+
+-- and at each set it deals the number of the sequence before it by shares, with the set's play as the weights
+abbrev pub PlaysDealByShares : Type 0
+PlaysDealByShares = (sets : List InformationSet) (play : List ℕ) (root : ℕ) → AreInOrder sets
+    → let plan : List ℕ = plan_of_play sets play root in
+    All (λ h. map (λ s. slice_index plan s) (sequences_of h) ≡ shares (slice_index plan h.before) (map (λ s. slice_index play s) (sequences_of h))) (placed sets)
+
+-- the equations of a round have a solution, which is computed, and no other
+abbrev pub ValuesSolve : Type 0
+ValuesSolve = (sums : ℕ → ℤ) (play : List ℕ) (sets : List InformationSet) → AreInOrder sets → AreValues sums play sets (values_of sums play sets)
+
+abbrev pub ValuesAreUnique : Type 0
+ValuesAreUnique = (sums : ℕ → ℤ) (play : List ℕ) (sets : List InformationSet) (values : List ℤ) → AreInOrder sets
+    → AreValues sums play sets values → values ≡ values_of sums play sets
+
+-- the values of the sets from one on are those of the rest
+abbrev pub ValuesOfTheRest : Type 0
+ValuesOfTheRest = (sums : ℕ → ℤ) (play : List ℕ) (sets : List InformationSet) (k : ℕ)
+    → drop k (values_of sums play sets) ≡ values_from sums play (drop k (placed sets))
+
+-- the worth of a sequence that isn't before those of a set needs the sets after that set alone
+abbrev pub WorthsNeedLaterSets : Type 0
+WorthsNeedLaterSets = (sums : ℕ → ℤ) (sets : List InformationSet) (values : List ℤ) → AreInOrder sets → length values ≡ length sets
+    → (k : ℕ) (h : PlacedSet) → slice_get (placed sets) k ≡ Some h → (s : ℕ) → h.first ≤ s
+    → worth sums (placed sets) values s ≡ worth sums (drop (k + 1) (placed sets)) (drop (k + 1) values) s
+
+-- the regrets after a round are those that the equations allow, and no others
+abbrev pub RoundsAreComputed : Type 0
+RoundsAreComputed = (sums : ℕ → ℤ) (play : List ℕ) (sets : List InformationSet) (before after : List ℤ) → AreInOrder sets
+    → IsRound sums play sets before after ↔ (after ≡ regrets_after sums play sets before)
+
+-- after some rounds the sums of the plans are plans of the root times the number of rounds
+pub record AreSumsOfPlans (form : SequenceForm) (root n : ℕ) : Type 0 where
+  pub of_one : IsPlan form.sets_one (n * root) (rounds form root n).sum_one
+  pub of_two : IsPlan form.sets_two (n * root) (rounds form root n).sum_two
+
+abbrev pub SumsArePlans : Type 0
+SumsArePlans = (form : SequenceForm) (root n : ℕ) → AreInOrder form.sets_one → AreInOrder form.sets_two → 1 ≤ root → 1 ≤ n → AreSumsOfPlans form root n

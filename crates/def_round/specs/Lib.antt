@@ -1,0 +1,5 @@
+pub mod Play
+pub mod Round
+pub mod Rounds
+pub mod Laws
+pub mod Games
