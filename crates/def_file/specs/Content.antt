@@ -4,8 +4,8 @@
 --     counts_of nodes              how many of them are of each player, and leaves
 --     personal, terminal           the node that an entry stands for
 use Rattle.std.specs.Prelude.{ℕ, ◌+◌, List, count_by, length}
-use Rattle.def_tree.specs.declared.Player.{Player}
-use Rattle.def_tree.specs.declared.Player.TheVariants as players
+use Rattle.def_player.specs.declared.Player.{Player}
+use Rattle.def_player.specs.declared.Player.TheVariants as players
 use Rattle.def_tree.specs.declared.Kind.{Kind}
 use Rattle.def_tree.specs.declared.Kind.TheVariants.{Chance, One, Two, Leaf}
 use Rattle.def_tree.specs.declared.Node.{Node}

@@ -14,8 +14,8 @@ use Rattle.def_tokens.specs.declared.LexFault.TheVariants as lexing
 use Rattle.def_tokens.specs.Tokens.{next_from}
 use Rattle.def_tokens.specs.Texts.{unescaped}
 use Rattle.def_fraction.specs.Digits.{is_numeral, number_of}
-use Rattle.def_tree.specs.declared.Player.{Player}
-use Rattle.def_tree.specs.declared.Player.TheVariants as players
+use Rattle.def_player.specs.declared.Player.{Player}
+use Rattle.def_player.specs.declared.Player.TheVariants as players
 use Rattle.def_tree.specs.declared.Node.{Node}
 use Rattle.def_tree.specs.Tree.{wanted, forest_of}
 use Rattle.def_file.specs.declared.EntryCounts.{EntryCounts}

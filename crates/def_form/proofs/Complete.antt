@@ -10,8 +10,8 @@ use Rattle.def_tokens.specs.declared.Lexeme.{Lexeme}
 use Rattle.def_tokens.specs.Texts.{unescaped}
 use Rattle.def_tokens.proofs.TextLemmas.{slice_range-inner}
 use Rattle.def_fraction.specs.Digits.{is_numeral, number_of}
-use Rattle.def_tree.specs.declared.Player.{Player}
-use Rattle.def_tree.specs.declared.Player.TheVariants as players
+use Rattle.def_player.specs.declared.Player.{Player}
+use Rattle.def_player.specs.declared.Player.TheVariants as players
 use Rattle.def_tree.specs.declared.Kind.TheVariants.{Leaf}
 use Rattle.def_tree.specs.declared.Node.{Node}
 use Rattle.def_tree.specs.Tree.{wanted, Begins, IsWhole}

@@ -11,8 +11,8 @@ use Rattle.def_tokens.specs.Tokens.{next_from}
 use Rattle.def_tokens.specs.Texts.{IsInside}
 use Rattle.def_tokens.proofs.TextLemmas.{EndsPlainly-last_or}
 use Rattle.def_fraction.proofs.TextLemmas.{decimal-numeral, number_of-decimal}
-use Rattle.def_tree.specs.declared.Player.{Player}
-use Rattle.def_tree.specs.declared.Player.TheVariants as players
+use Rattle.def_player.specs.declared.Player.{Player}
+use Rattle.def_player.specs.declared.Player.TheVariants as players
 use Rattle.def_tree.specs.declared.Node.{Node}
 use Rattle.def_file.specs.declared.FileFault.{FileFault}
 use Rattle.def_file.specs.declared.EntryCounts.{EntryCounts}

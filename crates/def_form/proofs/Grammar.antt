@@ -10,8 +10,8 @@ use Rattle.def_tokens.specs.declared.LexFault.{LexFault}
 use Rattle.def_tokens.specs.declared.LexFault.TheVariants as lexing
 use Rattle.def_tokens.specs.Tokens.{next_from}
 use Rattle.def_tokens.specs.Texts.{IsInside}
-use Rattle.def_tree.specs.declared.Player.{Player}
-use Rattle.def_tree.specs.declared.Player.TheVariants as players
+use Rattle.def_player.specs.declared.Player.{Player}
+use Rattle.def_player.specs.declared.Player.TheVariants as players
 use Rattle.def_file.specs.declared.FileFault.{FileFault}
 use Rattle.def_file.specs.declared.FileFault.TheVariants.{TooLong, Syntax, UnexpectedEnd, NotBuilt}
 use Rattle.def_file.specs.Reading.{◌>>=◌, is_kind, is_token, is_exact, writes, is_count, is_amount, is_payoff, is_player, begins_entry, judged, unfit, token_where, text_of, player_of, text_at, player_at, is_action, actions_from}

@@ -8,8 +8,8 @@ use Rattle.def_tokens.specs.declared.Token.TheVariants as kinds
 use Rattle.def_tokens.specs.declared.Lexeme.{Lexeme}
 use Rattle.def_tokens.specs.Tokens.{next_from}
 use Rattle.def_tokens.specs.Texts.{IsInside, unescaped}
-use Rattle.def_tree.specs.declared.Player.{Player}
-use Rattle.def_tree.specs.declared.Player.TheVariants as players
+use Rattle.def_player.specs.declared.Player.{Player}
+use Rattle.def_player.specs.declared.Player.TheVariants as players
 use Rattle.def_tree.specs.declared.Kind.TheVariants.{Leaf}
 use Rattle.def_tree.specs.declared.Node.{Node}
 use Rattle.def_tree.specs.Tree.{wanted, Begins, IsWhole}

@@ -13,7 +13,7 @@ use Rattle.def_tokens.specs.Texts.{IsInside, unescaped}
 use Rattle.def_tokens.specs.Spelling.{IsToken, IsText}
 use Rattle.def_tokens.proofs.TokenLemmas.{next_from-sound}
 use Rattle.def_tokens.proofs.TextLemmas.{slice_range-inner}
-use Rattle.def_tree.specs.declared.Player.TheVariants as players
+use Rattle.def_player.specs.declared.Player.TheVariants as players
 use Rattle.def_file.specs.declared.FileFault.{FileFault}
 use Rattle.def_file.specs.Reading.{◌>>=◌, is_kind, bytes_at, is_token, is_exact, writes, is_count, is_size, is_amount, is_payoff, is_player, judged, unfit, token_where, text_of, player_of}
 use Rattle.def_form.specs.Faults.{spelled_at}

@@ -11,8 +11,8 @@ use Rattle.def_tokens.specs.declared.Token.TheVariants as kinds
 use Rattle.def_tokens.specs.Spelling.{Piece, ArePieces, bytes_of}
 use Rattle.def_tokens.specs.Texts.{IsInside, unescaped}
 use Rattle.def_fraction.specs.Digits.{is_numeral, number_of}
-use Rattle.def_tree.specs.declared.Player.{Player}
-use Rattle.def_tree.specs.declared.Player.TheVariants as players
+use Rattle.def_player.specs.declared.Player.{Player}
+use Rattle.def_player.specs.declared.Player.TheVariants as players
 use Rattle.def_tree.specs.declared.Kind.TheVariants.{Leaf}
 use Rattle.def_tree.specs.declared.Node.{Node}
 use Rattle.def_tree.specs.Tree.{IsWhole, forest_of}
