@@ -1,10 +1,13 @@
 -- Where reading a prologue or an entry stops, by their tokens.
-use Rattle.std.proofs.Common.{◌≡◌, ◌≢◌, ℕ, zero, suc, ◌+◌, ◌-◌, ◌^◌, ◌<◌, ◌≤◌, Bool, true, false, cond, eqb, ltb, ◌&&◌, ◌||◌, List, [], ◌∷◌, ◌++◌, length, map, Result, Ok, Err, sym, refl, ap, ◌∙◌, subst, arith, ⊎_elim, ◌⊎◌, inl, inr, append_assoc, append-nil}
-use Rattle.std.specs.Prelude.{codes, nat_eq, All}
+use Rattle.std.proofs.Common.{◌≡◌, ℕ, zero, suc, ◌+◌, ◌^◌, ◌<◌, ◌≤◌, Bool, true, false, cond, ltb, ◌&&◌, ◌||◌, List, [], ◌∷◌, ◌++◌, length, map, Result, Ok, Err, sym, refl, ap, ◌∙◌, subst, arith, ⊎_elim, ◌⊎◌, inl, inr}
+use Rattle.std.specs.Prelude.{codes, nat_eq}
+use Rattle.std.specs.List.{AllByRecursion}
+use Rattle.std.proofs.Common.{get_or}
+use Rattle.std.proofs.lemmas.List.{append_cancel_right}
 use Rattle.std.specs.Fmt.{decimal as decimal_text}
 use Rattle.std.specs.Cmp.Lexicographic.{pointwise}
-use Rattle.std.proofs.lemmas.Bool.{lt-ltb, ltb-true, cases_Bool}
-use Rattle.std.proofs.lemmas.List.Elements.{All-nil, All-cons, recursion_from_All, All-from_recursion}
+use Rattle.std.proofs.lemmas.Bool.{lt-ltb, ltb-true}
+use Rattle.std.proofs.lemmas.List.Elements.{recursion_from_All, All-from_recursion}
 use Rattle.def_tokens.specs.declared.Token.TheVariants as kinds
 use Rattle.def_tokens.specs.declared.Lexeme.{Lexeme}
 use Rattle.def_tokens.specs.Tokens.{next_from}
@@ -17,11 +20,11 @@ use Rattle.def_tree.specs.declared.Node.{Node}
 use Rattle.def_file.specs.declared.FileFault.{FileFault}
 use Rattle.def_file.specs.declared.EntryCounts.{EntryCounts}
 use Rattle.def_file.specs.Content.{kind_of, entries_of, counts_of, of_player, personal, terminal}
-use Rattle.def_file.specs.Reading.{◌>>=◌, is_kind, is_token, is_exact, is_count, token_where, text_at, player_at, player_of, prologue_at, actions_from, most_actions, personal_at, terminal_at, entry_at}
-use Rattle.def_form.specs.Form.{Spelled, word, number, text, open_brace, close_brace, comma, prologue, Entry, Personal, Terminal, player_number, tokens_of, Writes, IsPayoff, IsPersonal, IsTerminal, IsEntry}
+use Rattle.def_file.specs.Reading.{is_kind, is_token, token_where, player_of, prologue_at, actions_from, most_actions, personal_at, terminal_at, entry_at}
+use Rattle.def_form.specs.Form.{Spelled, word, number, text, open_brace, close_brace, comma, prologue, Entry, Personal, Terminal, player_number, tokens_of, Writes, IsPersonal, IsTerminal, IsEntry}
 use Rattle.def_form.specs.Faults.{spelled_at}
-use Rattle.def_form.proofs.Steps.{then_ok, both, is_kind-true, and_left, and_right, token_ok, Step, Takes, text_here, close_here}
-use Rattle.def_form.proofs.Grammar.{bind_err, StopBy, token_err, Stuck, Some, Slot, word_is, number_is, opening, closing, between, some_text, count, payoff, a_player, head, slot_test, Fits, fits_test, slot_step, Then, Nothing, stuck_here, stuck_then, slot_stuck, text_stuck, player_stuck}
+use Rattle.def_form.proofs.Steps.{then_ok, is_kind-true, and_left, and_right, token_ok, Step, text_here, close_here}
+use Rattle.def_form.proofs.Grammar.{bind_err, StopBy, token_err, Stuck, Some, Slot, word_is, number_is, opening, closing, between, some_text, count, payoff, a_player, head, Fits, slot_step, Then, Nothing, stuck_then, slot_stuck, text_stuck, player_stuck}
 
 cons_some : (slot : Slot) (Rest : Spelled → List Spelled → Type 0) (s : Spelled) → Fits slot s → Some (Rest s) → Some (Then slot Rest)
 cons_some slot Rest s fits example = (s ∷ example.0, (fits, example.1))
@@ -313,10 +316,10 @@ actions_stuck (suc left) given whole at fault within e =
     bind_err (token_where (λ x. action_test given (spelled_at whole x)) whole at) _ fault e
     (λ bad. action_here left given whole at fault (token_err (action_test given) whole at fault bad))
     (λ t e0 e.
-        let found = token_ok (λ x. action_test given (spelled_at whole x)) whole at t e0 in
-        action_cases left given whole at fault (actions_from left (given + 1) whole t.end) (Ok (given, t.end)) (Err fault) within t (is_kind kinds.Text t.kind) refl found.0 found.1 e
-        (λ w e. actions_stuck left (given + 1) whole t.end fault w e)
-        (λ w e. absurd cc))
+    let found = token_ok (λ x. action_test given (spelled_at whole x)) whole at t e0 in
+    action_cases left given whole at fault (actions_from left (given + 1) whole t.end) (Ok (given, t.end)) (Err fault) within t (is_kind kinds.Text t.kind) refl found.0 found.1 e
+    (λ w e. actions_stuck left (given + 1) whole t.end fault w e)
+    (λ w e. absurd cc))
 
 actions_past : (left given : ℕ) (whole : List ℕ) (at : ℕ) (fault : FileFault) (read : ℕ × ℕ) → at ≤ length whole → actions_from left given whole at ≡ Ok read → (read.1 ≤ length whole → Stuck AfterActions whole read.1 fault) → Stuck (Actions left given) whole at fault
 unfolding actions_from
@@ -332,9 +335,9 @@ actions_past (suc left) given whole at fault read within e rest =
     action_cases left given whole at fault (actions_from left (given + 1) whole t.end) (Ok (given, t.end)) (Ok read) within t (is_kind kinds.Text t.kind) refl found.0 found.1 e
     (λ w e. actions_past left (given + 1) whole t.end fault read w e rest)
     (λ w e.
-        let same : (given, t.end) ≡ read = cc in
-        let ends = ap (λ (x : ℕ × ℕ). x.1) same in
-        subst (λ n. Stuck AfterActions whole n fault) (sym ends) (rest (subst (λ n. n ≤ length whole) ends w))))
+    let same : (given, t.end) ≡ read = cc in
+    let ends = ap (λ (x : ℕ × ℕ). x.1) same in
+    subst (λ n. Stuck AfterActions whole n fault) (sym ends) (rest (subst (λ n. n ≤ length whole) ends w))))
 
 -- the personal entry behind its word
 abbrev ActionList : List Spelled → Type 0
@@ -402,6 +405,218 @@ unfolding entry_at
 entry_stuck counts small whole at fault within e =
     slot_stuck head (λ s. Behind (is_personal_word s) counts) whole at fault _ within (entries counts small) e (λ t w f e. behind t (is_personal_word (spelled_at whole t)) w e)
   where
-  behind : (t : Lexeme) (b : Bool) → t.end ≤ length whole → cond b (personal_at counts whole t.end) (terminal_at counts whole t.end) ≡ Err fault → Stuck (Behind b counts) whole t.end fault
-  behind t true w e = personal_stuck counts small whole t.end fault w e
-  behind t false w e = terminal_stuck counts small whole t.end fault w e
+    behind : (t : Lexeme) (b : Bool) → t.end ≤ length whole → cond b (personal_at counts whole t.end) (terminal_at counts whole t.end) ≡ Err fault → Stuck (Behind b counts) whole t.end fault
+    behind t true w e = personal_stuck counts small whole t.end fault w e
+    behind t false w e = terminal_stuck counts small whole t.end fault w e
+
+-- the same lists of tokens as entries
+player_spelled_is : (player : Player) → player_spelled (number (player_number player)) ≡ player
+player_spelled_is players.One = refl
+player_spelled_is players.Two = refl
+
+abbrev EachInside : List (List ℕ) → Type 0
+EachInside insides = AllByRecursion IsInside insides
+
+actions_to : (left given : ℕ) (insides : List (List ℕ)) → EachInside insides → length insides ≤ left → 0 < given + length insides → Actions left given (map text insides ++ close_brace ∷ number (codes "0") ∷ [])
+actions_to zero given [] each limit some = (refl, (refl, refl))
+actions_to zero given (inside ∷ insides) each limit some = absurd (omega (arith, limit))
+actions_to (suc left) given [] each limit some = inr (refl, omega (arith, some), (refl, refl))
+actions_to (suc left) given (inside ∷ insides) each limit some = inl ((inside, each.0, refl), actions_to left (given + 1) insides each.1 (omega (arith, limit)) (omega arith))
+
+record ActionsForm (left given : ℕ) (tokens : List Spelled) : Type 0 where
+  insides : List (List ℕ)
+  each : EachInside insides
+  limit : length insides ≤ left
+  some : 0 < left + given → 0 < given + length insides
+  spelling : tokens ≡ map text insides ++ close_brace ∷ number (codes "0") ∷ []
+
+actions_form : (left given : ℕ) (p : List Spelled) → Actions left given p → ActionsForm left given p
+actions_form zero given [] g = absurd g
+actions_form zero given (s0 ∷ []) g = absurd g.1
+actions_form zero given (s0 ∷ s1 ∷ []) g = record { insides = []; each = tt; limit = omega arith; some = λ some. omega (arith, some); spelling = (λ i. g.0 i ∷ g.1.0 i ∷ []) }
+actions_form zero given (s0 ∷ s1 ∷ x ∷ xs) g = let none = g.1.1 in cc
+actions_form (suc left) given [] g = absurd g
+actions_form (suc left) given (s ∷ ss) (inl more) =
+    let rest = actions_form left (given + 1) ss more.1 in
+    record {
+      insides = more.0.0 ∷ rest.insides;
+      each = (more.0.1, rest.each);
+      limit = omega (arith, rest.limit);
+      some = λ _. omega (arith, rest.some (omega arith));
+      spelling = ap (λ x. x ∷ ss) more.0.2 ∙ ap (λ x. text more.0.0 ∷ x) rest.spelling;
+    }
+actions_form (suc left) given (s ∷ []) (inr done) = absurd done.2
+actions_form (suc left) given (s ∷ s1 ∷ []) (inr done) =
+    record { insides = []; each = tt; limit = omega arith; some = λ _. omega (arith, done.1); spelling = (λ i. done.0 i ∷ done.2.0 i ∷ []) }
+actions_form (suc left) given (s ∷ s1 ∷ x ∷ xs) (inr done) = let none = done.2.1 in cc
+
+most_actions_is : most_actions ≡ 1024
+unfolding most_actions
+most_actions_is = refl
+
+set_next : (before : List Node) (player : Player) (bytes : List ℕ) → Writes bytes (entries_of (kind_of player) before + 1) → Writes bytes (of_player player (counts_of before) + 1)
+set_next before players.One bytes writes = writes
+set_next before players.Two bytes writes = writes
+
+next_set : (before : List Node) (player : Player) (bytes : List ℕ) → Writes bytes (of_player player (counts_of before) + 1) → Writes bytes (entries_of (kind_of player) before + 1)
+next_set before players.One bytes writes = writes
+next_set before players.Two bytes writes = writes
+
+pub entry_to : (before : List Node) (entry : Entry) (node : Node) → IsEntry before entry node → Entries (counts_of before) (tokens_of entry)
+entry_to before (Personal name player set set_name actions) node is =
+    let limit : most_actions ≡ 1024 = most_actions_is in
+    let p = is.0 in
+    let each = recursion_from_All IsInside actions p.actions_inside in
+    let list = actions_to most_actions 0 actions each (omega (arith, p.limit)) (omega (arith, p.some_action)) in
+    let behind_player : SetNumber (counts_of before) player (number set ∷ text set_name ∷ open_brace ∷ (map text actions ++ close_brace ∷ number (codes "0") ∷ [])) =
+    ((set, set_next before player set p.set_number, refl), ((set_name, p.set_name_inside, refl), (refl, list))) in
+    (inl refl, ((name, p.name_inside, refl), ((player, refl), subst (λ q. SetNumber (counts_of before) q (number set ∷ text set_name ∷ open_brace ∷ (map text actions ++ close_brace ∷ number (codes "0") ∷ []))) (sym (player_spelled_is player)) behind_player)))
+entry_to before (Terminal name outcome first second) node is =
+    let t = is.0 in
+    (inr refl, ((name, t.name_inside, refl), ((outcome, t.outcome_number, refl), (refl, ((first, t.first_payoff, refl), (refl, ((second, t.second_payoff, refl), (refl, refl))))))))
+
+pub record EntryForm (before : List Node) (tokens : List Spelled) : Type 0 where
+  pub entry : Entry
+  pub node : Node
+  pub is_entry : IsEntry before entry node
+  pub spelling : tokens ≡ tokens_of entry
+
+record PersonalForm (before : List Node) (tokens : List Spelled) : Type 0 where
+  name : List ℕ
+  player : Player
+  set : List ℕ
+  set_name : List ℕ
+  actions : List (List ℕ)
+  is_personal : IsPersonal before name player set set_name actions
+  spelling : tokens ≡ text name ∷ number (player_number player) ∷ number set ∷ text set_name ∷ open_brace ∷ (map text actions ++ close_brace ∷ number (codes "0") ∷ [])
+
+personal_form : (before : List Node) (p : List Spelled) → Personals (counts_of before) p → PersonalForm before p
+personal_form before [] g = absurd g
+personal_form before (s0 ∷ []) g = absurd g.1
+personal_form before (s0 ∷ s1 ∷ []) g = absurd g.1.1
+personal_form before (s0 ∷ s1 ∷ s2 ∷ []) g = absurd g.1.1.1
+personal_form before (s0 ∷ s1 ∷ s2 ∷ s3 ∷ []) g = absurd g.1.1.1.1
+personal_form before (s0 ∷ s1 ∷ s2 ∷ s3 ∷ s4 ∷ ss) (f0, (f1, (f2, (f3, (f4, list))))) =
+    let limit : most_actions ≡ 1024 = most_actions_is in
+    let form = actions_form most_actions 0 ss list in
+    let same : player_spelled s1 ≡ f1.0 = ap player_spelled f1.1 ∙ player_spelled_is f1.0 in
+    let set = subst (λ q. Writes f2.0 (of_player q (counts_of before) + 1)) same f2.1 in
+    record {
+      name = f0.0;
+      player = f1.0;
+      set = f2.0;
+      set_name = f3.0;
+      actions = form.insides;
+      is_personal = record {
+        name_inside = f0.1;
+        set_number = next_set before f1.0 f2.0 set;
+        set_name_inside = f3.1;
+        actions_inside = All-from_recursion IsInside form.insides form.each;
+        some_action = omega (arith, form.some (omega arith));
+        limit = omega (arith, form.limit);
+      };
+      spelling = (λ i. f0.2 i ∷ f1.1 i ∷ f2.2 i ∷ f3.2 i ∷ f4 i ∷ form.spelling i);
+    }
+
+record TerminalForm (before : List Node) (tokens : List Spelled) : Type 0 where
+  name : List ℕ
+  outcome : List ℕ
+  first : List ℕ
+  second : List ℕ
+  is_terminal : IsTerminal before name outcome first second
+  spelling : tokens ≡ text name ∷ number outcome ∷ open_brace ∷ number first ∷ comma ∷ number second ∷ close_brace ∷ []
+
+terminal_form : (before : List Node) (p : List Spelled) → Terminals (counts_of before) p → TerminalForm before p
+terminal_form before [] g = absurd g
+terminal_form before (s0 ∷ []) g = absurd g.1
+terminal_form before (s0 ∷ s1 ∷ []) g = absurd g.1.1
+terminal_form before (s0 ∷ s1 ∷ s2 ∷ []) g = absurd g.1.1.1
+terminal_form before (s0 ∷ s1 ∷ s2 ∷ s3 ∷ []) g = absurd g.1.1.1.1
+terminal_form before (s0 ∷ s1 ∷ s2 ∷ s3 ∷ s4 ∷ []) g = absurd g.1.1.1.1.1
+terminal_form before (s0 ∷ s1 ∷ s2 ∷ s3 ∷ s4 ∷ s5 ∷ []) g = absurd g.1.1.1.1.1.1
+terminal_form before (s0 ∷ s1 ∷ s2 ∷ s3 ∷ s4 ∷ s5 ∷ s6 ∷ []) (f0, (f1, (f2, (f3, (f4, (f5, (f6, none))))))) = record {
+  name = f0.0;
+  outcome = f1.0;
+  first = f3.0;
+  second = f5.0;
+  is_terminal = record { name_inside = f0.1; outcome_number = f1.1; first_payoff = f3.1; second_payoff = f5.1 };
+  spelling = (λ i. f0.2 i ∷ f1.2 i ∷ f2 i ∷ f3.2 i ∷ f4 i ∷ f5.2 i ∷ f6 i ∷ []);
+}
+terminal_form before (s0 ∷ s1 ∷ s2 ∷ s3 ∷ s4 ∷ s5 ∷ s6 ∷ x ∷ xs) g = let none = g.1.1.1.1.1.1.1 in cc
+
+pub entry_form : (before : List Node) (p : List Spelled) → Entries (counts_of before) p → EntryForm before p
+entry_form before [] g = absurd g
+entry_form before (s ∷ ss) (inl is, rest) =
+    let form = personal_form before ss (subst (λ b. Behind b (counts_of before) ss) (ap is_personal_word is) rest) in
+    record {
+      entry = Personal form.name form.player form.set form.set_name form.actions;
+      node = personal (counts_of before) form.player (length form.actions);
+      is_entry = (form.is_personal, refl);
+      spelling = (λ i. is i ∷ form.spelling i);
+    }
+entry_form before (s ∷ ss) (inr is, rest) =
+    let form = terminal_form before ss (subst (λ b. Behind b (counts_of before) ss) (ap is_personal_word is) rest) in
+    record {
+      entry = Terminal form.name form.outcome form.first form.second;
+      node = terminal (counts_of before);
+      is_entry = (form.is_terminal, refl);
+      spelling = (λ i. is i ∷ form.spelling i);
+    }
+
+-- tokens spell one entry at most
+text_once : (a b : List ℕ) → text a ≡ text b → a ≡ b
+text_once a b same =
+    let bytes = ap (λ (s : Spelled). s.bytes) same in
+    let behind : a ++ 34 ∷ [] ≡ b ++ 34 ∷ [] = cc in
+    append_cancel_right a b (34 ∷ []) behind
+
+number_once : (a b : List ℕ) → number a ≡ number b → a ≡ b
+number_once a b same = ap (λ (s : Spelled). s.bytes) same
+
+player_once : (p q : Player) → number (player_number p) ≡ number (player_number q) → p ≡ q
+player_once p q same = sym (player_spelled_is p) ∙ ap player_spelled same ∙ player_spelled_is q
+
+no_text_closes : (a : List ℕ) → text a ≡ close_brace → ⊥
+no_text_closes a same = let kinds_same : kinds.Text ≡ kinds.Close = ap (λ (s : Spelled). s.kind) same in cc
+
+actions_once : (a b : List (List ℕ)) (x y : List Spelled) → (map text a ++ close_brace ∷ number (codes "0") ∷ []) ++ x ≡ (map text b ++ close_brace ∷ number (codes "0") ∷ []) ++ y → (a ≡ b) × (x ≡ y)
+actions_once [] [] x y same = (refl, cc)
+actions_once [] (b ∷ bs) x y same = let first : close_brace ≡ text b = cc in absurd (no_text_closes b (sym first))
+actions_once (a ∷ as') [] x y same = let first : text a ≡ close_brace = cc in absurd (no_text_closes a first)
+actions_once (a ∷ as') (b ∷ bs) x y same =
+    let first : text a ≡ text b = cc in
+    let tail : (map text as' ++ close_brace ∷ number (codes "0") ∷ []) ++ x ≡ (map text bs ++ close_brace ∷ number (codes "0") ∷ []) ++ y = cc in
+    let rest = actions_once as' bs x y tail in
+    ((λ i. text_once a b first i ∷ rest.0 i), rest.1)
+
+words_apart : word (codes "p") ≡ word (codes "t") → ⊥
+words_apart same = let bytes : codes "p" ≡ codes "t" = ap (λ (s : Spelled). s.bytes) same in let first : 112 ≡ 116 = ap (λ l. get_or l 0 0) bytes in absurd (omega (arith, first))
+
+pub tokens_once : (e f : Entry) (x y : List Spelled) → tokens_of e ++ x ≡ tokens_of f ++ y → (e ≡ f) × (x ≡ y)
+tokens_once (Personal name player set set_name actions) (Personal name2 player2 set2 set_name2 actions2) x y same =
+    let names_same : text name ≡ text name2 = cc in
+    let players_same : number (player_number player) ≡ number (player_number player2) = cc in
+    let sets_same : number set ≡ number set2 = cc in
+    let set_names_same : text set_name ≡ text set_name2 = cc in
+    let tail : (map text actions ++ close_brace ∷ number (codes "0") ∷ []) ++ x ≡ (map text actions2 ++ close_brace ∷ number (codes "0") ∷ []) ++ y = cc in
+    let rest = actions_once actions actions2 x y tail in
+    ((λ i. Personal (text_once name name2 names_same i) (player_once player player2 players_same i) (number_once set set2 sets_same i) (text_once set_name set_name2 set_names_same i) (rest.0 i)), rest.1)
+tokens_once (Personal name player set set_name actions) (Terminal name2 outcome first second) x y same =
+    let heads : word (codes "p") ≡ word (codes "t") = cc in absurd (words_apart heads)
+tokens_once (Terminal name outcome first second) (Personal name2 player set set_name actions) x y same =
+    let heads : word (codes "t") ≡ word (codes "p") = cc in absurd (words_apart (sym heads))
+tokens_once (Terminal name outcome first second) (Terminal name2 outcome2 first2 second2) x y same =
+    let names_same : text name ≡ text name2 = cc in
+    let outcomes_same : number outcome ≡ number outcome2 = cc in
+    let firsts_same : number first ≡ number first2 = cc in
+    let seconds_same : number second ≡ number second2 = cc in
+    let tail : x ≡ y = cc in
+    ((λ i. Terminal (text_once name name2 names_same i) (number_once outcome outcome2 outcomes_same i) (number_once first first2 firsts_same i) (number_once second second2 seconds_same i)), tail)
+
+pub node_once : (before : List Node) (entry : Entry) (a b : Node) → IsEntry before entry a → IsEntry before entry b → a ≡ b
+node_once before (Personal _ _ _ _ _) a b is other = is.1 ∙ sym other.1
+node_once before (Terminal _ _ _ _) a b is other = is.1 ∙ sym other.1
+
+pub tokens_some : (e : Entry) (x : List Spelled) → tokens_of e ++ x ≡ [] → ⊥
+tokens_some (Personal name player set set_name actions) x same = cc
+tokens_some (Terminal name outcome first second) x same = cc

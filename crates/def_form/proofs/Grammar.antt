@@ -1,9 +1,7 @@
 -- Where reading a prologue or an entry stops: behind tokens that can go on, at one with which they can't.
-use Rattle.std.proofs.Common.{◌≡◌, ◌≢◌, ℕ, zero, suc, ◌+◌, ◌-◌, ◌^◌, ◌<◌, ◌≤◌, Bool, true, false, cond, eqb, ltb, ◌&&◌, ◌||◌, List, [], ◌∷◌, ◌++◌, length, map, Result, Ok, Err, sym, refl, ap, ◌∙◌, subst, arith, ⊎_elim, ◌⊎◌, inl, inr, append_assoc, append-nil, eq-eqb}
+use Rattle.std.proofs.Common.{◌≡◌, ◌≢◌, ℕ, ◌≤◌, Bool, true, false, cond, eqb, ◌&&◌, ◌||◌, List, [], ◌∷◌, ◌++◌, length, Result, Ok, Err, sym, refl, ap, ◌∙◌, subst, ⊎_elim, ◌⊎◌, inl, inr, eq-eqb}
 use Rattle.std.specs.Prelude.{codes, nat_eq}
 use Rattle.std.specs.Cmp.Lexicographic.{pointwise}
-use Rattle.std.proofs.lemmas.Bool.{lt-ltb, ltb-true, cases_Bool}
-use Rattle.def_tokens.specs.declared.Token.{Token}
 use Rattle.def_tokens.specs.declared.Token.TheVariants as kinds
 use Rattle.def_tokens.specs.declared.Lexeme.{Lexeme}
 use Rattle.def_tokens.specs.declared.LexFault.{LexFault}
@@ -14,11 +12,11 @@ use Rattle.def_player.specs.declared.Player.{Player}
 use Rattle.def_player.specs.declared.Player.TheVariants as players
 use Rattle.def_file.specs.declared.FileFault.{FileFault}
 use Rattle.def_file.specs.declared.FileFault.TheVariants.{TooLong, Syntax, UnexpectedEnd, NotBuilt}
-use Rattle.def_file.specs.Reading.{◌>>=◌, is_kind, is_token, is_exact, writes, is_count, is_amount, is_payoff, is_player, begins_entry, judged, unfit, token_where, text_of, player_of, text_at, player_at, is_action, actions_from}
+use Rattle.def_file.specs.Reading.{◌>>=◌, is_kind, is_token, is_exact, writes, is_amount, is_player, begins_entry, judged, unfit, token_where, text_of, player_of, text_at, player_at}
 use Rattle.def_form.specs.Form.{Spelled, word, number, text, open_brace, close_brace, comma, player_number, Writes, IsPayoff}
 use Rattle.def_form.specs.Faults.{spelled_at}
-use Rattle.def_form.proofs.Steps.{both, either, is_kind-true, pointwise-true, and_left, and_right, token_ok, Step, Takes, exact_here, exact_step, open_step, close_step, close_here, comma_step, text_here, text_step, count_step, payoff_step, player_step}
-use Rattle.def_form.proofs.Complete.{size_passes, amount_passes}
+use Rattle.def_form.proofs.Steps.{both, is_kind-true, token_ok, Step, Takes, exact_here, exact_step, open_step, close_step, comma_step, text_step, count_step, payoff_step, player_step}
+use Rattle.def_form.proofs.Complete.{amount_passes}
 
 -- one reading after another that gives a fault
 pub bind_err : {A B G : Type 0} (r : Result A FileFault) (f : A → Result B FileFault) (fault : FileFault) → (r >>= f) ≡ Err fault → (r ≡ Err fault → G) → ((x : A) → r ≡ Ok x → f x ≡ Err fault → G) → G
@@ -39,16 +37,18 @@ pub token_err : (test : Spelled → Bool) (whole : List ℕ) (at : ℕ) (fault :
 unfolding token_where
 token_err test whole at fault e = judged_err (next_from whole at) refl e
   where
-  unfit_is : (token : Lexeme) (b : Bool) → is_kind kinds.End token.kind ≡ b → next_from whole at ≡ Ok token → test (spelled_at whole token) ≡ false → cond b UnexpectedEnd (NotBuilt token.start) ≡ fault → StopBy whole at test fault
-  unfit_is token true is next fails same = subst (StopBy whole at test) same (inr (token, next, sym (is_kind-true kinds.End token.kind is), fails))
-  unfit_is token false is next fails same = subst (StopBy whole at test) same (token, next, (λ ends. let clash : true ≡ false = sym (ap (is_kind kinds.End) ends) ∙ is in cc), refl, fails)
-  tested : (token : Lexeme) (b : Bool) → test (spelled_at whole token) ≡ b → next_from whole at ≡ Ok token → cond b (Ok token) (Err (unfit token)) ≡ Err fault → StopBy whole at test fault
-  tested token true is next e = absurd cc
-  tested token false is next e = unfit_is token (is_kind kinds.End token.kind) refl next is (let same : unfit token ≡ fault = cc in same)
-  judged_err : (r : Result Lexeme LexFault) → next_from whole at ≡ r → judged (λ t. test (spelled_at whole t)) r ≡ Err fault → StopBy whole at test fault
-  judged_err (Ok token) next e = tested token (test (spelled_at whole token)) refl next e
-  judged_err (Err (lexing.Syntax p)) next e = let same : Syntax p ≡ fault = cc in subst (StopBy whole at test) same next
-  judged_err (Err (lexing.Unclosed p)) next e = let same : UnexpectedEnd ≡ fault = cc in subst (StopBy whole at test) same (inl (p, next))
+    unfit_is : (token : Lexeme) (b : Bool) → is_kind kinds.End token.kind ≡ b → next_from whole at ≡ Ok token → test (spelled_at whole token) ≡ false → cond b UnexpectedEnd (NotBuilt token.start) ≡ fault → StopBy whole at test fault
+    unfit_is token true is next fails same = subst (StopBy whole at test) same (inr (token, next, sym (is_kind-true kinds.End token.kind is), fails))
+    unfit_is token false is next fails same = subst (StopBy whole at test) same (token, next, (λ ends. let clash : true ≡ false = sym (ap (is_kind kinds.End) ends) ∙ is in cc), refl, fails)
+
+    tested : (token : Lexeme) (b : Bool) → test (spelled_at whole token) ≡ b → next_from whole at ≡ Ok token → cond b (Ok token) (Err (unfit token)) ≡ Err fault → StopBy whole at test fault
+    tested token true is next e = absurd cc
+    tested token false is next e = unfit_is token (is_kind kinds.End token.kind) refl next is (let same : unfit token ≡ fault = cc in same)
+
+    judged_err : (r : Result Lexeme LexFault) → next_from whole at ≡ r → judged (λ t. test (spelled_at whole t)) r ≡ Err fault → StopBy whole at test fault
+    judged_err (Ok token) next e = tested token (test (spelled_at whole token)) refl next e
+    judged_err (Err (lexing.Syntax p)) next e = let same : Syntax p ≡ fault = cc in subst (StopBy whole at test) same next
+    judged_err (Err (lexing.Unclosed p)) next e = let same : UnexpectedEnd ≡ fault = cc in subst (StopBy whole at test) same (inl (p, next))
 
 -- reading one of the lists of tokens that G holds of stops with a fault: the tokens that were taken can go on, no
 -- list of G begins them all, and no token that fails the test goes on
@@ -221,9 +221,9 @@ unfolding text_at
 text_stuck Rest whole at fault f within example e again =
     slot_stuck some_text Rest whole at fault (λ t. f (text_of whole t, t.end)) within example (regrouped (token_where (is_token kinds.Text whole) whole at) e) (λ t inner fits e. again t inner e)
   where
-  regrouped : (r : Result Lexeme FileFault) → ((r >>= λ t. Ok (text_of whole t, t.end)) >>= f) ≡ Err fault → (r >>= λ t. f (text_of whole t, t.end)) ≡ Err fault
-  regrouped (Ok t) e = e
-  regrouped (Err d) e = let same : d ≡ fault = cc in ap Err same
+    regrouped : (r : Result Lexeme FileFault) → ((r >>= λ t. Ok (text_of whole t, t.end)) >>= f) ≡ Err fault → (r >>= λ t. f (text_of whole t, t.end)) ≡ Err fault
+    regrouped (Ok t) e = e
+    regrouped (Err d) e = let same : d ≡ fault = cc in ap Err same
 
 pub player_stuck : {B : Type 0} (Rest : Spelled → List Spelled → Type 0) (whole : List ℕ) (at : ℕ) (fault : FileFault) (f : Player × ℕ → Result B FileFault) → at ≤ length whole → Some (Then a_player Rest)
     → (player_at whole at >>= f) ≡ Err fault
@@ -233,6 +233,6 @@ unfolding player_at
 player_stuck Rest whole at fault f within example e again =
     slot_stuck a_player Rest whole at fault (λ t. f (player_of whole t, t.end)) within example (regrouped (token_where (is_player whole) whole at) e) (λ t inner fits e. again t inner e)
   where
-  regrouped : (r : Result Lexeme FileFault) → ((r >>= λ t. Ok (player_of whole t, t.end)) >>= f) ≡ Err fault → (r >>= λ t. f (player_of whole t, t.end)) ≡ Err fault
-  regrouped (Ok t) e = e
-  regrouped (Err d) e = let same : d ≡ fault = cc in ap Err same
+    regrouped : (r : Result Lexeme FileFault) → ((r >>= λ t. Ok (player_of whole t, t.end)) >>= f) ≡ Err fault → (r >>= λ t. f (player_of whole t, t.end)) ≡ Err fault
+    regrouped (Ok t) e = e
+    regrouped (Err d) e = let same : d ≡ fault = cc in ap Err same

@@ -5,3 +5,5 @@ pub mod Complete
 pub mod Whole
 pub mod Grammar
 pub mod Entries
+pub mod FirstFault
+pub mod OneFault

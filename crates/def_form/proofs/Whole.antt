@@ -18,11 +18,11 @@ use Rattle.def_form.proofs.Pieces.{tokens_read, spelled_pieces, TakesAll, takes_
 use Rattle.def_form.proofs.Complete.{prologue_taken, entries_taken}
 use Rattle.def_form.proofs.Sound.{prologue_read, entries_read}
 
-most_nodes_is : most_nodes ≡ 1048576
+pub most_nodes_is : most_nodes ≡ 1048576
 unfolding most_nodes
 most_nodes_is = refl
 
-three_insides : (title one two : List ℕ) → IsInside title → IsInside one → IsInside two → All IsInside (title ∷ one ∷ two ∷ [])
+pub three_insides : (title one two : List ℕ) → IsInside title → IsInside one → IsInside two → All IsInside (title ∷ one ∷ two ∷ [])
 three_insides title one two a b c = All-cons IsInside title (one ∷ two ∷ []) a (All-cons IsInside one (two ∷ []) b (All-cons IsInside two [] c (All-nil IsInside)))
 
 pub game_read : (bytes : List ℕ) (file : GameFile) → game_at bytes ≡ Ok file → IsGameFile bytes file
