@@ -8,7 +8,7 @@ use Rattle.def_tree.specs.declared.Node.{Node}
 use Rattle.def_tree.specs.Rules.{is_same_kind, set_count, AgreeOnSize, IsBareLeaf, JoinsSet, Fits, FitsAs}
 use Rattle.def_file.specs.declared.EntryCounts.{EntryCounts}
 use Rattle.def_file.specs.Content.{entries_of, counts_of}
-use Rattle.xg_tree.proofs.SizesLemmas.{is_same_kind_self, set_count-push_same, set_count-push_other}
+use Rattle.def_tree.proofs.Sets.{is_same_kind_self, set_count-push_same, set_count-push_other}
 use Rattle.xg_read.specs.Counted.{IsCounted, IsInSet, IsLeafNode, IsNextAs, IsNext, counted_as}
 
 first_at_most : (b : Bool) (a r : ℕ) → b ≡ true → a ≤ cond b (max a r) r
