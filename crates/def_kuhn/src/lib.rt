@@ -8,7 +8,7 @@ ghost use Rattle.def_plan.specs.Payoff.{leaf_sum};
 ghost use Rattle.def_round.specs.Round.{own_sum, values_of};
 ghost use Rattle.def_round.specs.Play.{play_of};
 ghost use Rattle.def_round.specs.Rounds.{opening, rounds};
-ghost use Rattle.def_reply.specs.Reply.{best_reply, choices_of, total};
+ghost use Rattle.def_reply.specs.Reply.{best_reply, choices_of, total, values_of as reply_values};
 ghost use Rattle.def_reply.specs.Kuhn.{kuhn, even_one, even_two};
 ghost use Rattle.def_kuhn.specs.Leaves.{written_leaves};
 
@@ -49,12 +49,16 @@ pub fn first_regrets()
         ∷ negsuc 1572863 ∷ pos 1572864 ∷ negsuc 262143 ∷ pos 262144 ∷ pos 524288 ∷ negsuc 524287 ∷ [] }
 {}
 
-/// The replies to these plans: what each set chooses, and the totals.
+/// The replies to these plans: each set's value and choice, and the totals. Player one's fifth set has two best actions.
 pub fn first_replies()
+    ensures values_of_two { let sums = leaf_sum Two kuhn.leaves (rounds kuhn 1048576 1).sum_one in
+        reply_values (best_reply Two sums kuhn.sets_two) ≡ negsuc 524287 ∷ pos 0 ∷ negsuc 1572863 ∷ negsuc 2097151 ∷ pos 524288 ∷ pos 1048576 ∷ [] }
     ensures choices_of_two { let sums = leaf_sum Two kuhn.leaves (rounds kuhn 1048576 1).sum_one in
         choices_of (best_reply Two sums kuhn.sets_two) ≡ 2 ∷ 2 ∷ 2 ∷ 2 ∷ 2 ∷ 1 ∷ [] }
     ensures floor { let sums = leaf_sum Two kuhn.leaves (rounds kuhn 1048576 1).sum_one in
         total sums kuhn.sets_two (best_reply Two sums kuhn.sets_two) ≡ negsuc 2621439 }
+    ensures values_of_one { let sums = leaf_sum One kuhn.leaves (rounds kuhn 1048576 1).sum_two in
+        reply_values (best_reply One sums kuhn.sets_one) ≡ negsuc 1048575 ∷ negsuc 1048575 ∷ pos 1048576 ∷ pos 0 ∷ pos 3145728 ∷ pos 2097152 ∷ [] }
     ensures choices_of_one { let sums = leaf_sum One kuhn.leaves (rounds kuhn 1048576 1).sum_two in
         choices_of (best_reply One sums kuhn.sets_one) ≡ 2 ∷ 1 ∷ 2 ∷ 2 ∷ 1 ∷ 2 ∷ [] }
     ensures ceiling { let sums = leaf_sum One kuhn.leaves (rounds kuhn 1048576 1).sum_two in

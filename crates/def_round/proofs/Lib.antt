@@ -3,3 +3,4 @@ pub mod Plays
 pub mod Values
 pub mod Regrets
 pub mod Sums
+pub mod Gains

@@ -1,17 +1,20 @@
 -- Plays, and the plans that they deal.
-use Rattle.std.proofs.Common.{◌≡◌, ℕ, suc, ◌+◌, ◌≤◌, ◌<◌, List, [], ◌∷◌, ◌++◌, map, length, get_or, slice_index, All, arith, ap, sym, ◌∙◌, refl, length-append}
-use Rattle.std.specs.Prelude.{ℤ}
+use Rattle.std.proofs.Common.{◌≡◌, ℕ, suc, ◌+◌, ◌-◌, ◌≤◌, ◌<◌, List, [], ◌∷◌, ◌++◌, map, length, get_or, slice_index, All, arith, ap, sym, ◌∙◌, refl, length-append}
+use Rattle.std.specs.Prelude.{ℤ, pos, negsuc, ◌≤ℤ◌, ◌<ℤ◌}
 use Rattle.std.specs.List.{range_with_len, AllZip}
 use Rattle.std.proofs.lemmas.List.{append-nil, get_or_append_left}
-use Rattle.std.proofs.lemmas.List.FromFn.{length-map-range_with_len}
+use Rattle.std.proofs.lemmas.List.FromFn.{length-map-range_with_len, get_or-map-range_with_len}
+use Rattle.std.proofs.lemmas.Int.{ints}
 use Rattle.std.proofs.lemmas.List.Elements.{All-head, All-tail, All-cons, All-nil}
 use Rattle.def_sums.specs.Sum.{nat_sum_over}
+use Rattle.def_sums.proofs.Ranges.{at_most_sum}
 use Rattle.def_plan.specs.Form.{InformationSet, PlacedSet, placed_from, placed, sequences_of, IsInOrder}
 use Rattle.def_plan.specs.Plan.{dealt_onto, DealsWhole}
 use Rattle.def_plan.proofs.Dealing.{IsDealt, dealt_onto-is_dealt, dealt-is_plan}
-use Rattle.def_shares.proofs.SharesLaws.{length-shares, shares_whole}
+use Rattle.def_shares.specs.Shares.{weight_sum}
+use Rattle.def_shares.proofs.SharesLaws.{length-shares, shares_whole, no_weight_no_share}
 use Rattle.def_round.specs.Play.{units, positive_part, regret_of, set_play, play_of, play_rule}
-use Rattle.def_round.specs.Laws.{PlaysEachSet, PlaysAllUnits, PlaysDealPlans, PlaysDealByShares}
+use Rattle.def_round.specs.Laws.{PlaysPositiveRegrets, PlaysEachSet, PlaysAllUnits, PlaysDealPlans, PlaysDealByShares}
 use Rattle.def_round.proofs.Blocks.{map-range_same, map-block, blocks, length-blocks}
 
 length-set_play : (regrets : List ℤ) (h : PlacedSet) → length (set_play regrets h) ≡ h.actions
@@ -40,6 +43,30 @@ plays_all_units sets regrets order k d below =
     sum_of_map (λ s. slice_index play s) (sequences_of h)
     ∙ ap (nat_sum_over (λ x. x)) ((plays_each_set sets regrets).each_set k d below)
     ∙ shares_whole units (map (λ s. positive_part (regret_of regrets s)) (sequences_of h)) some
+
+-- ---- regret matching
+no_part : (r : ℤ) → r ≤ℤ pos 0 → positive_part r ≡ 0
+no_part (pos n) h = omega (arith, ints)
+no_part (negsuc n) h = refl
+
+some_part : (r : ℤ) → pos 0 <ℤ r → 1 ≤ positive_part r
+some_part (pos n) h = omega (arith, ints)
+some_part (negsuc n) h = absurd (omega (arith, ints))
+
+pub plays_positive_regrets : PlaysPositiveRegrets
+plays_positive_regrets sets regrets k d below s t is_s is_t positive none =
+    let h : PlacedSet = get_or (placed sets) k d in
+    let part : ℕ → ℕ = λ s. positive_part (regret_of regrets s) in
+    let weights : List ℕ = map part (sequences_of h) in
+    let i : ℕ = s - h.first in
+    let long : length weights ≡ h.actions = length-map-range_with_len part h.first h.actions in
+    let some : 1 ≤ weight_sum weights = omega (arith, sum_of_map part (sequences_of h), at_most_sum part h.first h.actions t is_t.0 is_t.1, some_part (regret_of regrets t) positive) in
+    let inside : i < h.actions = omega (arith, is_s.0, is_s.1) in
+    let at : h.first + i ≡ s = omega (arith, is_s.0) in
+    let zero' : slice_index weights i ≡ 0 = get_or-map-range_with_len part h.first h.actions i s 0 inside at ∙ no_part (regret_of regrets s) none in
+    sym (get_or-map-range_with_len (λ s. slice_index (play_of sets regrets) s) h.first h.actions i s 0 inside at)
+    ∙ ap (λ xs. get_or xs i 0) ((plays_each_set sets regrets).each_set k d below)
+    ∙ no_weight_no_share units weights i (omega (arith, long, inside)) some zero'
 
 -- the rules of a play deal all
 play_rules_whole : (play : List ℕ) (first : ℕ) (sets : List InformationSet) → All IsInOrder (placed_from first sets) → AllZip DealsWhole sets (map (play_rule play) (placed_from first sets))

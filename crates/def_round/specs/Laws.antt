@@ -1,11 +1,12 @@
 -- The laws of plays and rounds.
-use Rattle.std.specs.Prelude.{◌≡◌, ℕ, ◌+◌, ◌*◌, ◌≤◌, ◌↔◌, ℤ, List, length, map, drop, All, slice_index, slice_get, Some}
+use Rattle.std.specs.Prelude.{◌≡◌, ℕ, ◌+◌, ◌*◌, ◌≤◌, ◌↔◌, ℤ, pos, neg_ℤ, ◌≤ℤ◌, ◌<ℤ◌, List, length, map, drop, All, slice_index, slice_get, Some}
 use Rattle.def_plan.specs.Form.{InformationSet, PlacedSet, placed, sequences_of, sequence_count, AreInOrder, SequenceForm}
 use Rattle.def_plan.specs.Plan.{IsPlan}
-use Rattle.def_plan.specs.Payoff.{worth}
+use Rattle.def_plan.specs.Payoff.{worth, gain, pay}
+use Rattle.def_player.specs.declared.Player.TheVariants.{One, Two}
 use Rattle.def_shares.specs.Shares.{shares}
-use Rattle.def_round.specs.Play.{set_play, play_of, GivesAllUnits, plan_of_play}
-use Rattle.def_round.specs.Round.{AreValues, values_from, values_of, IsRound, regrets_after}
+use Rattle.def_round.specs.Play.{regret_of, IsSequenceOf, set_play, play_of, GivesAllUnits, plan_of_play}
+use Rattle.def_round.specs.Round.{own_sum, AreValues, values_from, values_of, IsRound, regrets_after}
 use Rattle.def_round.specs.Rounds.{rounds}
 
 -- the play has a number for each sequence, and at each set the shares of the regrets' positive parts
@@ -21,6 +22,11 @@ PlaysEachSet = (sets : List InformationSet) (regrets : List ℤ) → IsPlayOf se
 abbrev pub PlaysAllUnits : Type 0
 PlaysAllUnits = (sets : List InformationSet) (regrets : List ℤ) → AreInOrder sets → GivesAllUnits (play_of sets regrets) sets
 
+-- regret matching: where some action of a set has a positive regret, those without one are not played
+abbrev pub PlaysPositiveRegrets : Type 0
+PlaysPositiveRegrets = (sets : List InformationSet) (regrets : List ℤ)
+    → All (λ h. (s t : ℕ) → IsSequenceOf h s → IsSequenceOf h t → pos 0 <ℤ regret_of regrets t → regret_of regrets s ≤ℤ pos 0 → slice_index (play_of sets regrets) s ≡ 0) (placed sets)
+
 -- what a play deals is a plan
 abbrev pub PlaysDealPlans : Type 0
 PlaysDealPlans = (sets : List InformationSet) (play : List ℕ) (root : ℕ) → AreInOrder sets → 1 ≤ root → IsPlan sets root (plan_of_play sets play root)
@@ -30,6 +36,14 @@ abbrev pub PlaysDealByShares : Type 0
 PlaysDealByShares = (sets : List InformationSet) (play : List ℕ) (root : ℕ) → AreInOrder sets
     → let plan : List ℕ = plan_of_play sets play root in
     All (λ h. map (λ s. slice_index plan s) (sequences_of h) ≡ shares (slice_index plan h.before) (map (λ s. slice_index play s) (sequences_of h))) (placed sets)
+
+-- a plan gains from its player's sums what it pays player one, and player two gets the negative
+pub record GainWhatIsPaid (form : SequenceForm) (plan_one plan_two : List ℕ) : Type 0 where
+  pub of_one : length plan_one ≡ sequence_count form.sets_one → gain (own_sum One form.leaves plan_two) form.sets_one plan_one ≡ pay form.leaves plan_one plan_two
+  pub of_two : length plan_two ≡ sequence_count form.sets_two → gain (own_sum Two form.leaves plan_one) form.sets_two plan_two ≡ neg_ℤ (pay form.leaves plan_one plan_two)
+
+abbrev pub OwnSumsGainWhatIsPaid : Type 0
+OwnSumsGainWhatIsPaid = (form : SequenceForm) (plan_one plan_two : List ℕ) → GainWhatIsPaid form plan_one plan_two
 
 -- the equations of a round have a solution, which is computed, and no other
 abbrev pub ValuesSolve : Type 0

@@ -1,7 +1,7 @@
 -- Regret matching in whole units (Zinkevich, Johanson, Bowling and Piccione 2007): at each set an action is played in
 -- proportion to the positive part of its regret. Regrets and plays are lists with a number for each sequence; the
 -- empty sequence, at which no action ends, has 0.
-use Rattle.std.specs.Prelude.{◌≡◌, ℕ, ℤ, pos, negsuc, List, ◌∷◌, map, All, flat_map, slice_index, slice_index_or}
+use Rattle.std.specs.Prelude.{◌≡◌, ℕ, ◌+◌, ◌≤◌, ◌<◌, ℤ, pos, negsuc, List, ◌∷◌, map, All, flat_map, slice_index, slice_index_or}
 use Rattle.def_sums.specs.Sum.{nat_sum_over}
 use Rattle.def_plan.specs.Form.{InformationSet, PlacedSet, placed, sequences_of}
 use Rattle.def_plan.specs.Plan.{dealt}
@@ -17,6 +17,10 @@ positive_part (negsuc n) = 0
 
 abbrev pub regret_of : List ℤ → ℕ → ℤ
 regret_of regrets s = slice_index_or regrets s (pos 0)
+
+-- a sequence that ends at a set
+abbrev pub IsSequenceOf : PlacedSet → ℕ → Type 0
+IsSequenceOf h s = (h.first ≤ s) × (s < h.first + h.actions)
 
 -- what a set's actions get of all units
 abbrev pub set_play : List ℤ → PlacedSet → List ℕ

@@ -3,7 +3,7 @@
 
 ghost use Rattle.std.specs.Prelude.{◌≡◌, ◌==◌, [], ◌∷◌, pos, negsuc, if◌then◌else◌};
 ghost use Rattle.def_plan.specs.Pennies.{pennies};
-ghost use Rattle.def_round.specs.Laws.{PlaysAllUnits, PlaysDealByShares, PlaysDealPlans, PlaysEachSet, RoundsAreComputed, SumsArePlans, ValuesAreUnique, ValuesOfTheRest, ValuesSolve, WorthsNeedLaterSets};
+ghost use Rattle.def_round.specs.Laws.{OwnSumsGainWhatIsPaid, PlaysAllUnits, PlaysDealByShares, PlaysDealPlans, PlaysEachSet, PlaysPositiveRegrets, RoundsAreComputed, SumsArePlans, ValuesAreUnique, ValuesOfTheRest, ValuesSolve, WorthsNeedLaterSets};
 ghost use Rattle.def_round.specs.Play.{play_of, plan_of_play};
 ghost use Rattle.def_round.specs.Round.{set_value};
 ghost use Rattle.def_round.specs.Rounds.{rounds};
@@ -19,6 +19,11 @@ pub fn plays_give_all_units()
     ensures { PlaysAllUnits }
 {}
 
+/// Regret matching plays the actions that are regretted.
+pub fn plays_positive_regrets()
+    ensures { PlaysPositiveRegrets }
+{}
+
 /// Dealing set after set makes a realisation plan.
 pub fn plays_deal_plans()
     ensures { PlaysDealPlans }
@@ -27,6 +32,11 @@ pub fn plays_deal_plans()
 /// What a play deals at each set.
 pub fn plays_deal_by_shares()
     ensures { PlaysDealByShares }
+{}
+
+/// The sums of both players, and the zero sum.
+pub fn own_sums_gain_what_is_paid()
+    ensures { OwnSumsGainWhatIsPaid }
 {}
 
 /// The values that are computed solve a round's equations.

@@ -4,6 +4,8 @@
 mod ending;
 mod load;
 mod run;
+#[cfg(test)]
+mod tests;
 mod text;
 mod words;
 
