@@ -1,4 +1,4 @@
--- The bracket: of the evaluated average plans the ones with the best bounds, and a line for each evaluation.
+-- The bracket: of the evaluated average strategies (Zinkevich, Johanson, Bowling and Piccione 2007) the ones with the best bounds, and a line for each evaluation.
 -- The average after t rounds is the sum of t plans, so a bound of the sum is compared after division by t.
 use Rattle.std.specs.Prelude.{◌≡◌, ℕ, ◌%◌, ◌<◌, ◌==◌, ◌||◌, List, [], ◌∷◌, length, take, filter, fold, slice_index_or, All, ℤ, pos, ◌*ℤ◌, ◌≤ℤ◌, ◌<ℤ◌, int_lt, Option, Some, None, if◌then◌else◌}
 use Rattle.std.specs.List.{range_with_len}

@@ -1,3 +1,4 @@
+pub mod Places
 pub mod Regroup
 pub mod Duality
 pub mod Worths

@@ -1,9 +1,9 @@
 -- For code that goes over the sets from the last one on, or tests them one by one.
-use Rattle.std.proofs.Common.{◌≡◌, ℕ, zero, suc, ◌+◌, ◌<◌, Bool, true, false, cond, eqb, List, [], ◌∷◌, zip, filter, drop, length, get_or, ℤ, ◌+ℤ◌, arith, refl}
+use Rattle.std.proofs.Common.{◌≡◌, ℕ, zero, suc, ◌<◌, Bool, true, false, cond, eqb, List, [], ◌∷◌, zip, filter, length, get_or, ℤ, ◌+ℤ◌, arith, refl}
 use Rattle.std.specs.List.{AllZip}
 use Rattle.std.proofs.lemmas.Int.{ints}
 use Rattle.def_sums.specs.Sum.{sum_over}
-use Rattle.def_plan.specs.Form.{InformationSet, PlacedSet, placed_from}
+use Rattle.def_plan.specs.Form.{PlacedSet}
 use Rattle.def_plan.specs.Payoff.{worth}
 
 -- one more set adds its value to the worth of the sequence before it, and changes no other
@@ -13,12 +13,6 @@ kept false p ps w = refl
 
 pub worth-cons : (sums : ℕ → ℤ) (h : PlacedSet) (hs : List PlacedSet) (v : ℤ) (vs : List ℤ) (s : ℕ) → worth sums (h ∷ hs) (v ∷ vs) s ≡ cond (eqb h.before s) (worth sums hs vs s +ℤ v) (worth sums hs vs s)
 worth-cons sums h hs v vs s = kept (eqb h.before s) (h, v) (filter (λ p. eqb p.0.before s) (zip hs vs)) (sums s)
-
--- the placed sets from the set k on
-pub drop-placed : (first k : ℕ) (hs : List InformationSet) → (next : ℕ) × (drop k (placed_from first hs) ≡ placed_from next (drop k hs))
-drop-placed first zero hs = (first, refl)
-drop-placed first (suc k) [] = (first, refl)
-drop-placed first (suc k) (h ∷ hs) = drop-placed (first + h.actions) k hs
 
 -- a fact on two lists by places
 pub AllZip-from_places : {A B : Type 0} (R : A → B → Type 0) (xs : List A) (ys : List B) → length xs ≡ length ys → ((k : ℕ) (a : A) (b : B) → k < length xs → R (get_or xs k a) (get_or ys k b)) → AllZip R xs ys

@@ -7,7 +7,12 @@ ghost use Rattle.def_plan.specs.Plan.{bad_set, pure_plan, added};
 ghost use Rattle.def_player.specs.declared.Player.TheVariants.{One, Two};
 ghost use Rattle.def_plan.specs.Payoff.{pay, leaf_sum, mass};
 ghost use Rattle.def_plan.specs.Pennies.{pennies, one_set};
-ghost use Rattle.def_plan.specs.Laws.{DealingMakesPlans, ChoicesMakeAPlan, SumsArePlans, LeafSumsGiveThePayoff, WeakDuality, ComplementarySlackness, BadSetIsExact, PlansAreSmall};
+ghost use Rattle.def_plan.specs.Laws.{SequencesAreNumbered, DealingMakesPlans, ChoicesMakeAPlan, SumsArePlans, LeafSumsGiveThePayoff, WeakDuality, ComplementarySlackness, BadSetIsExact, PlansAreSmall};
+
+/// The numbers of the sequences.
+pub fn sequences_are_numbered()
+    ensures { SequencesAreNumbered }
+{}
 
 /// Dealing set after set.
 pub fn dealing_makes_plans()

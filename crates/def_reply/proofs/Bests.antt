@@ -48,13 +48,17 @@ none-better player (w ∷ v ∷ ws) =
     (All-weaker (λ u. IsNoBetter player u rest) (λ u. IsNoBetter player u (better player w rest)) (λ u h. no_better-trans player u rest (better player w rest) h (better-right player w rest)) (v ∷ ws) (none-better player (v ∷ ws)))
 
 -- some worth is the best
+at_either : (w rest best : ℤ) (ws : List ℤ) (i : ℕ) → i < length ws → ((d : ℤ) → get_or ws i d ≡ rest) → (best ≡ w) ⊎ (best ≡ rest) → (k : ℕ) × (k < suc (length ws)) × ((d : ℤ) → get_or (w ∷ ws) k d ≡ best)
+at_either w rest best ws i low is (inl e) = (0, omega arith, λ d. sym e)
+at_either w rest best ws i low is (inr e) = (suc i, omega arith, λ d. is d ∙ sym e)
+
 pub best-reached : (player : Player) (ws : List ℤ) → 1 ≤ length ws → (i : ℕ) × (i < length ws) × ((d : ℤ) → get_or ws i d ≡ best_of player ws)
 best-reached player [] h = absurd (omega arith)
 best-reached player (w ∷ []) h = (0, omega arith, λ d. refl)
 best-reached player (w ∷ v ∷ ws) h =
     let rest : ℤ = best_of player (v ∷ ws) in
     let later = best-reached player (v ∷ ws) (omega arith) in
-    ⊎_elim (λ e. (0, omega arith, λ d. sym e)) (λ e. (suc later.0, omega (arith, later.1), λ d. later.2 d ∙ sym e)) (better-one_of player w rest)
+    at_either w rest (better player w rest) (v ∷ ws) later.0 later.1 later.2 (better-one_of player w rest)
 
 int_eq_tells : (x y : ℤ) → ((int_eq x y ≡ true) × (x ≡ y)) ⊎ ((int_eq x y ≡ false) × (x ≢ y))
 int_eq_tells x y =
