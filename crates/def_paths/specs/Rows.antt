@@ -18,11 +18,16 @@ leaf outcome = record { kind = Leaf; set = 0; outcome = outcome; children = 0 }
 abbrev pub absent_driver : Forest
 absent_driver = forest_of (inner One 1 2 ∷ leaf 0 ∷ inner One 1 2 ∷ leaf 1 ∷ leaf 2 ∷ [])
 
+-- the same for player two, below a choice of player one
+abbrev pub absent_partner : Forest
+absent_partner = forest_of (inner One 1 2 ∷ inner Two 1 2 ∷ leaf 0 ∷ leaf 1 ∷ inner Two 2 2 ∷ inner Two 1 2 ∷ leaf 0 ∷ leaf 1 ∷ leaf 2 ∷ [])
+
 abbrev pub matching_pennies : Forest
 matching_pennies = forest_of (inner One 1 2 ∷ inner Two 1 2 ∷ leaf 1 ∷ leaf 2 ∷ inner Two 1 2 ∷ leaf 2 ∷ leaf 1 ∷ [])
 
 pub record RecallRows : Type 0 where
   pub absent : recall_fault absent_driver ≡ Some (record { node = 3; earlier = 1 })
+  pub partner : recall_fault absent_partner ≡ Some (record { node = 6; earlier = 2 })
   pub pennies : recall_fault matching_pennies ≡ None
 
 -- in matching pennies each player has one set of two actions, and the leaves have these sequences

@@ -13,7 +13,7 @@ use Rattle.def_paths.specs.Paths.{Step, Visit, leaf_visits}
 use Rattle.def_scale.specs.Tables.{Payoffs, Tables, AreFractions, nothing, probability, payoffs_of, reach, path_payoff, payoff_one}
 use Rattle.def_scale.specs.Scale.{expected, all_expected}
 
-abbrev IsFraction : Fraction → Type 0
+abbrev pub IsFraction : Fraction → Type 0
 IsFraction f = 1 ≤ f.den
 
 product-positive : (a b : ℕ) → 1 ≤ a → 1 ≤ b → 1 ≤ a * b
@@ -24,11 +24,11 @@ product-positive (suc a) zero ha hb = absurd (omega arith)
 lowest-product : (a b : Fraction) → IsFraction a → IsFraction b → IsInLowestTerms (product_of a b)
 lowest-product a b ha hb = (fraction_of-reduced _ (a.den * b.den) (product-positive a.den b.den ha hb)).lowest
 
-lowest-sum : (a b : Fraction) → IsFraction a → IsFraction b → IsInLowestTerms (sum_of a b)
+pub lowest-sum : (a b : Fraction) → IsFraction a → IsFraction b → IsInLowestTerms (sum_of a b)
 lowest-sum a b ha hb = (fraction_of-reduced _ (a.den * b.den) (product-positive a.den b.den ha hb)).lowest
 
 -- an element of the list, or the default
-at-or : {X : Type 0} (P : X → Type 0) (xs : List X) (i : ℕ) (d : X) → All P xs → P d → P (get_or xs i d)
+pub at-or : {X : Type 0} (P : X → Type 0) (xs : List X) (i : ℕ) (d : X) → All P xs → P d → P (get_or xs i d)
 at-or P xs i d all default = elim (cases_lt i (length xs)) [
   | inl there ↦ all i d there
   | inr past ↦ subst P (sym (get_or-eq_default xs d past)) default
@@ -57,7 +57,7 @@ path-fraction tables [] h = omega arith
 path-fraction tables (step ∷ rest) h =
     (lowest-sum (path_payoff (λ payoffs. payoffs.one) tables rest) (payoffs_of tables step.node.outcome).one (path-fraction tables rest h) (payoff-fraction tables step.node.outcome h)).positive
 
-expected-lowest : (tables : Tables) (leaf : Visit) → AreFractions tables → IsInLowestTerms (expected tables leaf)
+pub expected-lowest : (tables : Tables) (leaf : Visit) → AreFractions tables → IsInLowestTerms (expected tables leaf)
 expected-lowest tables leaf h =
     lowest-product (reach tables leaf.path) (payoff_one tables leaf) (reach-fraction tables leaf.path h)
     (lowest-sum (path_payoff (λ payoffs. payoffs.one) tables leaf.path) (payoffs_of tables leaf.node.outcome).one (path-fraction tables leaf.path h) (payoff-fraction tables leaf.node.outcome h)).positive

@@ -19,7 +19,7 @@ divisor-positive : (m n : ℕ) → m ∣ n → 1 ≤ n → 1 ≤ m
 divisor-positive zero n h k = absurd (omega (arith, eq-zero_of_zero-dvd h))
 divisor-positive (suc m) n h k = omega arith
 
-lcm-positive : (a b : ℕ) → 1 ≤ a → 1 ≤ b → 1 ≤ lcm a b
+pub lcm-positive : (a b : ℕ) → 1 ≤ a → 1 ≤ b → 1 ≤ lcm a b
 lcm-positive a b ha hb = divisor-positive (lcm a b) (a * b) ((IsLcm-lcm a b ha hb).least (a * b) (dvd-mul_right a b) (dvd-mul_left b a)) (product-positive a b ha hb)
   where
     product-positive : (a b : ℕ) → 1 ≤ a → 1 ≤ b → 1 ≤ a * b
@@ -38,7 +38,7 @@ den-divides (f ∷ rest) h =
     All-cons (λ x. x.den ∣ unit_of (f ∷ rest)) f rest least.first_divides
     (All-weaker (λ x. x.den ∣ unit_of rest) (λ x. x.den ∣ unit_of (f ∷ rest)) (λ x divides. dvd_trans x.den divides least.second_divides) rest (den-divides rest (All-tail IsInLowestTerms f rest h)))
 
-unit-divides : (fs : List Fraction) (m : ℕ) → All IsInLowestTerms fs → All (λ f. f.den ∣ m) fs → unit_of fs ∣ m
+pub unit-divides : (fs : List Fraction) (m : ℕ) → All IsInLowestTerms fs → All (λ f. f.den ∣ m) fs → unit_of fs ∣ m
 unit-divides [] m h all = one-dvd m
 unit-divides (f ∷ rest) m h all =
     let least = IsLcm-lcm f.den (unit_of rest) (All-head IsInLowestTerms f rest h).positive (unit-positive rest (All-tail IsInLowestTerms f rest h)) in
@@ -52,7 +52,7 @@ den-divides_whole m f low whole =
     divides_other (unsigned_abs f.num) f.den m low.coprime (subst P sizes (dvd-mul_left f.den (unsigned_abs whole.0)))
 
 -- the weight is unit times the fraction
-whole-weight : (unit : ℕ) (f : Fraction) → f.den ∣ unit → IsMultiple unit f (weight_of unit f)
+pub whole-weight : (unit : ℕ) (f : Fraction) → f.den ∣ unit → IsMultiple unit f (weight_of unit f)
 whole-weight unit f divides = times-twice f.num (unit / f.den) f.den ∙ ap (λ n. f.num *ℤ pos n) (div-mul_cancel f.den divides)
   where
     times-twice : (n : ℤ) (a b : ℕ) → (n *ℤ pos a) *ℤ pos b ≡ n *ℤ pos (a * b)

@@ -1,0 +1,3 @@
+pub mod Ranges
+pub mod Sets
+pub mod Outcomes

@@ -1,0 +1,18 @@
+-- A game's jobs as ranges of its leaves, which count from 0.
+use Rattle.std.specs.Prelude.{ℕ, ◌+◌, List, [], ◌∷◌}
+use Rattle.def_tree.specs.declared.Node.{Node}
+use Rattle.def_tree.specs.Tree.{Forest, bare, grown, prefix, leaf_count}
+use Rattle.def_jobs.specs.Jobs.{leaf_counts}
+use Rattle.def_history.specs.Leaves.{LeafRange, Partitions}
+
+-- ranges of so many leaves, one behind the other
+abbrev pub ranges_from : ℕ → List ℕ → List LeafRange
+ranges_from first [] = []
+ranges_from first (count ∷ rest) = record { first = first; count = count } ∷ ranges_from (first + count) rest
+
+abbrev pub job_ranges : Forest → List LeafRange
+job_ranges tree = ranges_from 0 (leaf_counts tree)
+
+-- the ranges are all leaves, each once
+abbrev pub JobsPartition : Type 0
+JobsPartition = (node : Node) (below : Forest) → Partitions (job_ranges (grown node below bare)) (leaf_count (prefix (grown node below bare)))

@@ -1,0 +1,4 @@
+pub mod Form
+pub mod Jobs
+pub mod Outcomes
+pub mod Rows
