@@ -34,7 +34,7 @@ impl MemFiles {
     /// Holds no files. The calls whose numbers are listed in `failing` fail.
     pub fn new(alloc: Global, failing: &[u64]) -> Result<MemFiles, AllocError>
         ensures empty { IfOk result (λ m. (name : List ℕ) → told_of m name ≡ None) }
-        ensures closed { IfOk result (λ m. left_of m ≡ None) }
+        ensures closed { IfOk result (λ m. current_of m ≡ None) }
         ensures failing { IfOk result (λ m. failing_calls (schedule_of m) ≡ failing.now) }
         ensures no_calls { IfOk result (λ m. calls_made (schedule_of m) ≡ 0) }
         ensures no_faults { IfOk result (λ m. faults_so_far (schedule_of m) ≡ 0) }
@@ -51,7 +51,10 @@ impl MemFiles {
     pub fn add(&mut self, name: &str, bytes: &[u8]) -> Result<(), AllocError>
         ensures told { OnOk result (told_of self.new name.now ≡ Some bytes.now) }
         ensures others { OnOk result ((other : List ℕ) → other ≢ name.now → told_of self.new other ≡ told_of self.old other) }
+        ensures closed { OnOk result (current_of self.new ≡ None) }
+        ensures same_taken { taken_of self.new ≡ taken_of self.old }
         ensures same_schedule { schedule_of self.new ≡ schedule_of self.old }
+        ensures same_open { OnErr result (current_of self.new ≡ current_of self.old) }
         ensures same_told { OnErr result ((other : List ℕ) → told_of self.new other ≡ told_of self.old other) }
     {
         let alloc = *self.files.allocator();

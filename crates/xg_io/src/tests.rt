@@ -1,5 +1,6 @@
 use super::*;
 use std::alloc::Global;
+use std::marker::{Send, Sync};
 use std::test::Fail;
 use std::{env, fs};
 
@@ -118,4 +119,15 @@ fn a_stream_of_the_system_is_written(rt: HostRuntime) -> Result<(), Fail> {
     let mut full = RealSink::new(fs::OpenOptions::new().write(true).open(&rt, "/dev/full")?);
     assert_eq!(rt; write_all(&mut full, b"text"), Err(WriteFault));
     Ok(())
+}
+
+fn crosses_threads<T: Send + Sync + Drop>(_value: T) {}
+
+#[test]
+fn plain_data_crosses_threads() {
+    crosses_threads(Failed);
+    crosses_threads(OpenFault::Failed);
+    crosses_threads(ReadAllFault::TooLong);
+    crosses_threads(WriteFault);
+    crosses_threads(OpenGate);
 }
