@@ -3,3 +3,4 @@ pub mod Actions
 pub mod Numbered
 pub mod Whole
 pub mod Length
+pub mod Answered

@@ -1,6 +1,10 @@
 //! A game, and its reading.
-ghost use Rattle.std.specs.Prelude.{◌≡◌, ◌≢◌, ◌≤◌, length};
+ghost use Rattle.std.specs.Prelude.{◌≡◌, ◌≢◌, ◌≤◌, length, IfOk};
+ghost use Rattle.def_file.specs.declared.FileFault.{FileFault};
+ghost use Rattle.def_file.specs.Content.{GameFile};
 ghost use Rattle.def_file.specs.Reading.{game_at};
+ghost use Rattle.def_form.specs.Form.{IsGameFile};
+ghost use Rattle.def_form.specs.Faults.{StopsAt};
 ghost use Rattle.xg_read.specs.Contents.{name_of};
 ghost use Rattle.xg_read.specs.Gives.{Answers};
 
@@ -68,6 +72,14 @@ impl Game {
 pub fn read_game(alloc: Global, bytes: &[u8]) -> Result<Game, Refused>
     requires { length bytes.now ≤ 67108864 }
     ensures exact { Answers result (game_at bytes.now) }
+
+    // What is read is in the form and stands for the game, and what is in the form is read so.
+    ensures found { IfOk result (λ game. IsGameFile bytes.now game) }
+    ensures only { (file : GameFile) → IsGameFile bytes.now file → Answers result (Ok file) }
+
+    // A fault is what stands at the first place where the tokens can't go on, and what stands there is the fault.
+    ensures first { (fault : FileFault) → result ≡ Err (Refused.File fault) → StopsAt bytes.now fault }
+    ensures stops { (fault : FileFault) → StopsAt bytes.now fault → Answers result (Err fault) }
     ensures any_length { result ≢ Err (Refused.File FileFault.TooLong) }
 {
     read_form(alloc, bytes)

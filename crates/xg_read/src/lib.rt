@@ -10,6 +10,8 @@ mod game;
 mod nodes;
 mod numbers;
 mod reader;
+#[cfg(test)]
+mod tests;
 mod wanted;
 
 pub use def_file::FileFault;
