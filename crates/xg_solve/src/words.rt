@@ -42,7 +42,7 @@ impl Words {
     }
 
     /// The file of the command `solve`, where the words are those of this command.
-    pub fn solve_file(&self) -> Option<&str>
+    pub(crate) fn solve_file(&self) -> Option<&str>
         ensures { option_map (λ file. Solve file.now) result ≡ command_of self.now }
     {
         match self.words.as_slice() {
