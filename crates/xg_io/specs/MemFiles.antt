@@ -1,5 +1,5 @@
 -- What files in memory tell.
-use Rattle.std.specs.Prelude.{ℕ, ◌-◌, List, drop, Option, Some, None, Bool, true, is_some}
+use Rattle.std.specs.Prelude.{ℕ, List, drop, Option}
 use Rattle.std.specs.Option.{option_map, option_and_then}
 use Rattle.xg_io.specs.declared.memory_files.MemFiles.{MemFiles}
 use Rattle.xg_io.specs.declared.schedule.Schedule.{Schedule}

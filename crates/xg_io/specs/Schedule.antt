@@ -1,5 +1,5 @@
 -- Which calls of an object in memory fail: those whose numbers are listed. Calls are numbered from 1.
-use Rattle.std.specs.Prelude.{◌≡◌, ℕ, ◌+◌, ◌-◌, ◌^◌, min, List, Contains}
+use Rattle.std.specs.Prelude.{ℕ, ◌+◌, ◌-◌, ◌^◌, min, List, Contains}
 use Rattle.xg_io.specs.declared.schedule.Schedule.{Schedule}
 
 -- the count after one more, which stops at the last value of a `u64`

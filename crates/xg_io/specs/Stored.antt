@@ -1,5 +1,5 @@
 -- Files in memory. Of two with one name the first in the list is found.
-use Rattle.std.specs.Prelude.{ℕ, List, [], Option, Some, None, nat_eq, find, slice_get}
+use Rattle.std.specs.Prelude.{ℕ, List, Option, nat_eq, find, slice_get}
 use Rattle.std.specs.Option.{option_map}
 use Rattle.std.specs.Cmp.Lexicographic.{pointwise}
 use Rattle.xg_io.specs.declared.memory_files.Stored.{Stored}
