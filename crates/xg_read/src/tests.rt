@@ -3,6 +3,7 @@ use std::alloc::{AllocError, Global};
 use std::marker::{Send, Sync};
 use std::process::Abort;
 use std::test::Fail;
+use xg_lex::{LexFault, Token, Tokens};
 use xg_tree::Player;
 
 const LONGEST: usize = 67_108_864;
@@ -41,7 +42,7 @@ fn faults(rt: HostRuntime) {
         (b"EFG \"2\" R".as_slice(), FileFault::NotBuilt { at: 4 }),
         (b"EFG".as_slice(), FileFault::UnexpectedEnd),
         (b"EFG 2 D \"x\"".as_slice(), FileFault::NotBuilt { at: 6 }),
-        (b"EFG 2 R2 \"x\"".as_slice(), FileFault::NotBuilt { at: 6 }),
+        (b"EFG 2 Rx \"x\"".as_slice(), FileFault::NotBuilt { at: 6 }),
         (b"EFG 2 ".as_slice(), FileFault::UnexpectedEnd),
         (b"EFG 2 R x".as_slice(), FileFault::NotBuilt { at: 8 }),
         (b"EFG 2 R \"x".as_slice(), FileFault::UnexpectedEnd),
@@ -502,6 +503,9 @@ fn crosses_threads<T: Send + Sync + Drop>(_value: T) {}
 
 #[test]
 fn plain_data_crosses_threads(rt: HostRuntime) -> Result<(), Fail> {
+    crosses_threads(Token::End);
+    crosses_threads(LexFault::Syntax { at: 0 });
+    crosses_threads(Tokens::new(b"").next()?);
     crosses_threads(FileFault::TooLong);
     crosses_threads(Refused::NoMemory);
     let game: Game = read_game(
