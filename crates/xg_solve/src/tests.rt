@@ -1,5 +1,5 @@
 use crate::{Words, run};
-use std::alloc::AllocError;
+use std::alloc::{AllocError, Global};
 use std::marker::Sync;
 use std::sync::Wait;
 use std::test::Fail;
@@ -98,7 +98,7 @@ fn texts_and_faults(rt: HostRuntime) -> Result<(), Fail> {
 
 #[test]
 fn words_that_name_no_command(rt: HostRuntime) -> Result<(), Fail> {
-    let rows: [&str; 18] = [
+    let rows: [&str; 24] = [
         "",
         "solve",
         "gen 1",
@@ -117,6 +117,12 @@ fn words_that_name_no_command(rt: HostRuntime) -> Result<(), Fail> {
         "Solve game --rounds 0",
         "solve game --rounds 0 --every 1",
         "solve game --workers 1",
+        "solve game --atomic 0",
+        "solve game --rounds 1 --rounds 1",
+        "solve game game --rounds 0",
+        "upgrade game game",
+        "plus game",
+        "batch game",
     ];
     for words in rows {
         let left = call(&rt, words, ONE_LEAF, &[], &[], 1_000)?;
@@ -155,5 +161,35 @@ fn files_and_sinks_that_fail(rt: HostRuntime) -> Result<(), Fail> {
         b"XGCERT 1\nnodes 1 leaves 1\nroun".as_slice()
     );
     assert_eq!(rt; left.err.bytes(), b"write fault\n".as_slice());
+    Ok(())
+}
+
+/// So many line feeds.
+fn line_feeds(alloc: Global, count: usize) -> Result<Vec<u8>, AllocError> {
+    vec![in alloc; b'\n'; count]
+}
+
+#[test]
+fn a_file_of_one_byte_too_many(rt: HostRuntime) -> Result<(), Fail> {
+    let alloc = rt.alloc();
+    let mut words = Words::new(alloc);
+    for word in ["solve", "game", "--rounds", "0"] {
+        words.push(word)?;
+    }
+    for (count, line) in [
+        (67_108_864usize, "refused 3 UnexpectedEnd\n"),
+        (67_108_865, "refused 1 TooLong\n"),
+    ] {
+        let mut files = MemFiles::new(alloc, &[])?;
+        files.add("game", line_feeds(alloc, count)?.as_slice())?;
+        let mut out = MemSink::new(alloc, 1_000, &[])?;
+        let mut err = MemSink::new(alloc, 1_000, &[])?;
+        let status = run(
+            &rt, alloc, &words, &mut files, &mut out, &mut err, &OpenGate,
+        );
+        assert_eq!(rt; status, 1, "at {count} bytes");
+        assert_eq!(rt; out.bytes().len(), 0, "at {count} bytes");
+        assert_eq!(rt; err.bytes(), line.as_bytes(), "at {count} bytes");
+    }
     Ok(())
 }
