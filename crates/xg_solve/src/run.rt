@@ -99,7 +99,7 @@ pub fn run<Rt: Threads + Wait + Sync, F: Files, O: Sink, E: Sink, G: Gate>(
     // Exactly words that name no command are not taken.
     ensures words { (result ≡ 2) ↔ IsNone (command_of words.now) }
 
-    // A read fault has its cause in the files, and where they failed nothing else is answered.
+    // A read fault has its cause in the files; where they failed, it is answered, or want of memory.
     ensures read { result ≡ 3 → Rose (F.faults files.old) (F.faults files.new) }
     ensures read_told { F.faults files.old < F.faults files.new → (result ≡ 3) ⊎ (result ≡ 5) }
 
@@ -108,7 +108,7 @@ pub fn run<Rt: Threads + Wait + Sync, F: Files, O: Sink, E: Sink, G: Gate>(
     ensures refuses { (Rose (F.faults files.old) (F.faults files.new) → ⊥)
         → IfSome (program words.now (F.told files.old)) (λ answer. answer.status ≡ 1 → (result ≡ 1) ⊎ (result ≡ 5)) }
 
-    // A write fault has its cause in the sink, and where that failed nothing else is answered.
+    // A write fault has its cause in the sink; where that failed, nothing else is answered.
     ensures write { result ≡ 4 → Rose (O.faults out.old) (O.faults out.new) }
     ensures write_told { O.faults out.old < O.faults out.new → result ≡ 4 }
 
