@@ -21,25 +21,103 @@ MOST_NODES = 1_048_576
 MOST_BYTES = 67_108_864
 
 
-def game(nodes, name=""):
-    """A file of the form that is read so far with so many nodes: a wide tree of depth 2."""
+PROLOGUE = 'EFG 2 R "wide" { "A" "B" }\n'
+
+
+def wide(nodes, name=""):
+    """A game with so many nodes in a wide tree of depth 2: each inner node in a set of its own, each leaf with an outcome of its own."""
+    inner, sizes = split(nodes)
+    lines = [personal(1, 1, inner, name)]
+    leaf = 0
+    for number, size in enumerate(sizes, 1):
+        lines.append(personal(2, number, size, name))
+        for _ in range(size):
+            leaf += 1
+            lines.append(f't "{name}" {leaf} {{ {leaf % 7}, -{leaf % 7} }}')
+    return file_of(lines)
+
+
+def split(nodes):
     inner = max(1, -(-(nodes - 1) // 1_025))
     leaves = nodes - 1 - inner
     sizes = [leaves // inner + (1 if i < leaves % inner else 0) for i in range(inner)]
     assert inner <= 1_024 and all(1 <= size <= 1_024 for size in sizes), nodes
-    lines = ['EFG 2 R "wide" { "A" "B" }', entry(1, 1, inner, name)]
-    leaf = 0
-    for number, size in enumerate(sizes, 1):
-        lines.append(entry(2, number, size, name))
-        for _ in range(size):
-            leaf += 1
-            lines.append(f't "{name}" {leaf} {{ {leaf % 7}, -{leaf % 7} }}')
-    return ("\n".join(lines) + "\n").encode()
+    return inner, sizes
 
 
-def entry(player, number, size, name):
+def personal(player, number, size, name):
     actions = " ".join('"a"' for _ in range(size))
     return f'p "{name}" {player} {number} "s" {{ {actions} }} 0'
+
+
+def file_of(lines):
+    return (PROLOGUE + "\n".join(lines) + "\n").encode()
+
+
+def rounds_of_cards(nodes):
+    """A game with so many nodes in which each mention of a set and an outcome has its whole description: chance deals, both players bet, one below the other."""
+    deal = 'c "" 1 "deal" { "ace" 1/3 "king" 1/6 "queen" .5 } 0'
+    first = 'p "" 1 1 "first" { "check" "bet" "raise" } 1 "ante" { 1/2, -1/2 }'
+    second = 'p "" 2 1 "second" { "fold" "call" } 0'
+    ends = ['t "" 2 "one wins" { 5/2, -2.5 }', 't "" 3 "two wins" { -1e0, 1 }', 't "" 0 "even"']
+    lines = []
+    open_nodes = 1
+    while len(lines) + open_nodes < nodes:
+        lines.append((deal, first, second)[len(lines) % 3])
+        open_nodes += (2, 2, 1)[(len(lines) - 1) % 3]
+    while open_nodes:
+        lines.append(ends[len(lines) % 3])
+        open_nodes -= 1
+    return file_of(lines)
+
+
+def binary(nodes):
+    """A game with so many nodes, each inner one in a set of its own with two actions, each leaf with an outcome of its own with a name."""
+    lines = []
+    for k in range(nodes // 2):
+        lines.append(f'p "" {1 + k % 2} {k + 1} "set {k}" {{ "left" "right" }} 0')
+        lines.append(f't "" {k + 1} "end {k}" {{ {k % 9}, -{k % 9} }}')
+    lines.append(f't "" {nodes} "end" {{ 0, 0 }}')
+    return file_of(lines)
+
+
+def chain(nodes, first, later):
+    """So many nodes of one set with one action, and a leaf."""
+    return file_of([first] + [later] * (nodes - 2) + ['t "" 0'])
+
+
+def colliding(count):
+    """So many numbers up to 2^62 that lie close together in a hash table whose hash is the toolchain's default, without a seed."""
+    mask = 2**64 - 1
+    groups = 1
+    while 9 * groups < count:
+        groups *= 2
+    found, i = [], 0
+    while len(found) < count:
+        i += 1
+        x = (i * 0x9E3779B97F4A7C15 & mask) >> 2
+        product = (x ^ 0x243F6A8885A308D3) * 0x9E3779B97F4A7C05
+        folded = (product ^ product >> 64) & mask
+        if ((folded ^ folded >> 32) & (groups - 1)) < max(1, groups // 128):
+            found.append(x)
+    return found
+
+
+def hurtful():
+    """Files that are made to hurt, by what they are, with the status of an answer."""
+    return {
+        "a million entries under one set": (chain(MOST_NODES, 'p "" 1 1 { "" } 0', 'p "" 1 1 0'), 0),
+        "a million repeated descriptions": (chain(MOST_NODES, 'p "" 1 1 "set" { "on" } 0', 'p "" 1 1 "set" { "on" } 0'), 0),
+        "a million sets whose numbers have the same low bits": (file_of([f'p "" 1 {k << 41} {{ "" }} 0' for k in range(1, MOST_NODES)] + ['t "" 0']), 0),
+        "sets whose numbers collide in a table without a seed": (file_of([f'p "" 1 {k} {{ "" }} 0' for k in colliding(2**14)] + ['t "" 0']), 0),
+        "a name of 60 MB": (file_of(['t "' + "x" * 60_000_000 + '" 0']), 0),
+        "a name of 30 million quotation marks": (file_of(['t "' + '\\"' * 30_000_000 + '" 0']), 0),
+        "an outcome of a million digits": (file_of(['t "" ' + "0" * 1_000_000]), 0),
+        "a payoff of 60 million digits": (file_of(['t "" 1 { 1' + "0" * 60_000_000 + " 0 }"]), 1),
+        "a list of 15 million actions": (file_of(['p "" 1 1 {' + ' ""' * 15_000_000 + " } 0"]), 1),
+        "a list of 20 million payoffs": (file_of(['t "" 1 {' + " 0" * 20_000_000 + " }"]), 1),
+        "20 million players": (('EFG 2 R "" {' + ' ""' * 20_000_000 + " }").encode(), 1),
+    }
 
 
 # A process of its own starts each call, so that the memory of this one isn't counted.
@@ -91,24 +169,27 @@ def main():
         def solve(path, want=0):
             return best([str(PROGRAM), "solve", path, "--rounds", "0"], runs, want)
 
-        empty, _ = solve(write("empty.efg", b""), 1)
-        times = {}
-        for nodes in (131_072, 262_144, 524_288, MOST_NODES):
-            path = write(f"{nodes}.efg", game(nodes))
-            times[nodes], memory = solve(path)
-            size = os.path.getsize(path)
-            print(f"     {nodes} nodes, {size} bytes: {times[nodes]:.3f} s, {memory} bytes of memory")
-            if nodes > 131_072:
-                report(f"{nodes} nodes against half of them", times[nodes] / times[nodes // 2], 2.3, "times")
-            report(f"memory at {nodes} nodes beside the file", (memory - size) / nodes, 300, "bytes a node")
+        def against_words(what, path, want):
+            ours, memory = solve(path, want)
+            words, _ = best(["wc", "-w", path], runs, 0)
+            report(f"{what}, against wc -w ({ours:.3f} s, {words:.3f} s, {memory} bytes of memory)", ours / max(words, 0.001), 6, "times")
 
-        path = write("long_names.efg", game(524_288, "a name of a node that is somewhat longer"))
-        for what in (str(folder / f"{MOST_NODES}.efg"), path):
-            size = os.path.getsize(what)
-            assert size >= 20_000_000, size
-            ours, _ = solve(what)
-            words, _ = best(["wc", "-w", what], runs, 0)
-            report(f"reading {size} bytes against wc -w ({ours:.3f} s, {words:.3f} s)", ours / words, 6, "times")
+        for kind, make in (("wide", wide), ("cards", rounds_of_cards), ("binary", binary)):
+            times = {}
+            for nodes in (131_072, 262_144, 524_288, MOST_NODES):
+                path = write(f"{kind}.efg", make(nodes - 1 + nodes % 2))
+                times[nodes], memory = solve(path)
+                size = os.path.getsize(path)
+                print(f"     {kind}, {nodes} nodes, {size} bytes: {times[nodes]:.3f} s, {memory} bytes of memory")
+                if nodes > 131_072:
+                    report(f"{kind}, {nodes} nodes against half of them", times[nodes] / times[nodes // 2], 2.5, "times")
+                report(f"{kind}, memory at {nodes} nodes beside the file", (memory - size) / nodes, 300, "bytes a node")
+            against_words(f"{kind}, {size} bytes", path, 0)
+
+        path = write("long_names.efg", wide(524_288, "a name of a node that is somewhat longer"))
+        against_words(f"long names, {os.path.getsize(path)} bytes", path, 0)
+        for what, (data, want) in hurtful().items():
+            against_words(what, write("hurtful.efg", data), want)
 
         path = write("too_long.efg", b" " * (MOST_BYTES + 1))
         seconds, memory = solve(path, 1)

@@ -1,44 +1,110 @@
--- What a game file stands for.
---     GameFile                     the title, both players' names and the tree
---     entries_of kind nodes        how many of the nodes are of a kind
---     counts_of nodes              how many of them are of each player, and leaves
---     personal, terminal           the node that an entry stands for
-use Rattle.std.specs.Prelude.{ℕ, ◌+◌, List, count_by, length}
-use Rattle.def_player.specs.declared.Player.{Player}
-use Rattle.def_player.specs.declared.Player.TheVariants as players
+-- What a game file says and stands for (Gambit's manual, "The extensive game (.efg) file format").
+--     Prologue, Record                  what its prologue and one of its entries say
+--     SetMention, OutcomeMention        what an entry says of its set and of its outcome
+--     SetEntry, OutcomeEntry            what is known of a set and of an outcome
+--     Contents                          the nodes of entries, with their names, sets and outcomes
+--     GameFile                          a game
+use Rattle.std.specs.Prelude.{ℕ, Bool, true, false, pos, List, [], Option, None}
+use Rattle.def_fraction.specs.Fraction.{Fraction, whole_number}
 use Rattle.def_tree.specs.declared.Kind.{Kind}
 use Rattle.def_tree.specs.declared.Kind.TheVariants.{Chance, One, Two, Leaf}
 use Rattle.def_tree.specs.declared.Node.{Node}
-use Rattle.def_tree.specs.Tree.{Forest}
-use Rattle.def_tree.specs.Rules.{is_same_kind}
-use Rattle.def_file.specs.declared.EntryCounts.{EntryCounts}
+use Rattle.def_tree.specs.Tree.{Forest, forest_of}
+use Rattle.def_file.specs.declared.EntryKind.{EntryKind}
 
-pub record GameFile : Type 0 where
+-- The texts, by the bytes that they stand for. An absent comment is the empty text.
+pub record Prologue : Type 0 where
   pub title : List ℕ
   pub one : List ℕ
   pub two : List ℕ
+  pub comment : List ℕ
+
+-- an action's name and its probability, which is 0 where a player moves
+pub record Action : Type 0 where
+  pub name : List ℕ
+  pub chance : Fraction
+
+-- a set's number, and its name and its actions where they are given
+pub record SetMention : Type 0 where
+  pub number : ℕ
+  pub name : Option (List ℕ)
+  pub actions : Option (List Action)
+
+-- an outcome's number, and its name and its payoffs where they are given
+pub record OutcomeMention : Type 0 where
+  pub number : ℕ
+  pub name : Option (List ℕ)
+  pub payoffs : Option (List Fraction)
+
+-- an entry: the player's number is 0 where no player moves, and a leaf mentions no set
+pub record Record : Type 0 where
+  pub kind : EntryKind
+  pub name : List ℕ
+  pub player : ℕ
+  pub set : SetMention
+  pub outcome : OutcomeMention
+
+abbrev pub no_set_mention : SetMention
+no_set_mention = record { number = 0; name = None; actions = None }
+
+-- what is known of a set: the number in the file, the first name that is given, and the actions of the first mention
+pub record SetEntry : Type 0 where
+  pub number : ℕ
+  pub name : Option (List ℕ)
+  pub actions : List Action
+
+-- the same of an outcome, with the payoffs of both players
+pub record OutcomeEntry : Type 0 where
+  pub number : ℕ
+  pub name : Option (List ℕ)
+  pub one : Fraction
+  pub two : Fraction
+
+-- the sets of chance and of each player, in the order of their first mentions
+pub record SetTables : Type 0 where
+  pub chance : List SetEntry
+  pub one : List SetEntry
+  pub two : List SetEntry
+
+-- the nodes in prefix order, their names, and the sets and outcomes in the order of their first mentions
+pub record Contents : Type 0 where
+  pub nodes : List Node
+  pub names : List (List ℕ)
+  pub sets : SetTables
+  pub outcomes : List OutcomeEntry
+
+abbrev pub no_contents : Contents
+no_contents = record { nodes = []; names = []; sets = record { chance = []; one = []; two = [] }; outcomes = [] }
+
+pub record GameFile : Type 0 where
+  pub prologue : Prologue
   pub tree : Forest
+  pub names : List (List ℕ)
+  pub sets : SetTables
+  pub outcomes : List OutcomeEntry
 
--- the kind of a player's nodes
-abbrev pub kind_of : Player → Kind
-kind_of players.One = One
-kind_of players.Two = Two
+-- the game of a prologue and of entries whose nodes are a whole tree
+abbrev pub game_with : Prologue → Contents → GameFile
+game_with prologue contents = record {
+  prologue = prologue;
+  tree = forest_of contents.nodes;
+  names = contents.names;
+  sets = contents.sets;
+  outcomes = contents.outcomes;
+}
 
-abbrev pub entries_of : Kind → List Node → ℕ
-entries_of kind nodes = count_by (λ node. is_same_kind kind node.kind) nodes
+-- the sets of a kind
+abbrev pub sets_of : Kind → SetTables → List SetEntry
+sets_of Chance sets = sets.chance
+sets_of One sets = sets.one
+sets_of Two sets = sets.two
+sets_of Leaf sets = []
 
-abbrev pub counts_of : List Node → EntryCounts
-counts_of nodes = record { one = entries_of One nodes; two = entries_of Two nodes; leaves = entries_of Leaf nodes }
+abbrev pub with_sets : Kind → List SetEntry → SetTables → SetTables
+with_sets Chance table sets = record sets { chance = table }
+with_sets One table sets = record sets { one = table }
+with_sets Two table sets = record sets { two = table }
+with_sets Leaf table sets = sets
 
-abbrev pub of_player : Player → EntryCounts → ℕ
-of_player players.One counts = counts.one
-of_player players.Two counts = counts.two
-
--- a player's node in a set of its own, behind so many entries
-abbrev pub personal : EntryCounts → Player → ℕ → Node
-personal counts player actions =
-    record { kind = kind_of player; set = of_player player counts + 1; outcome = 0; children = actions }
-
--- a leaf with an outcome of its own, behind so many entries
-abbrev pub terminal : EntryCounts → Node
-terminal counts = record { kind = Leaf; set = 0; outcome = counts.leaves + 1; children = 0 }
+abbrev pub zero_fraction : Fraction
+zero_fraction = whole_number (pos 0)

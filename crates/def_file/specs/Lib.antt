@@ -1,3 +1,5 @@
 pub mod Content
+pub mod Faults
+pub mod Adding
 pub mod Reading
 pub mod Laws

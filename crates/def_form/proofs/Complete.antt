@@ -1,203 +1,268 @@
 -- What is in the form is read: each reading takes its tokens.
-use Rattle.std.proofs.Common.{◌≡◌, ℕ, zero, suc, ◌+◌, ◌-◌, ◌<◌, ◌≤◌, Bool, true, false, cond, eqb, ltb, ◌&&◌, ◌||◌, List, [], ◌∷◌, ◌++◌, length, map, Ok, sym, refl, ap, ◌∙◌, subst, arith, ⊎_elim, append_assoc, append-nil, eq-eqb}
-use Rattle.std.specs.Prelude.{codes, nat_eq}
-use Rattle.std.specs.List.{flat_map}
-use Rattle.std.specs.Cmp.Lexicographic.{pointwise}
-use Rattle.std.proofs.lemmas.Bool.{ne_eqb, lt-ltb, le-leb}
-use Rattle.def_tokens.specs.declared.Token.{Token}
+use Rattle.std.proofs.Common.{◌≡◌, ℕ, zero, suc, ◌<◌, ◌≤◌, true, false, eqb, List, [], ◌∷◌, ◌++◌, length, Option, Some, None, Result, Ok, sym, refl, ap, ◌∙◌, subst, arith, ⊎_elim, append_assoc, append-nil}
+use Rattle.std.specs.Prelude.{◌^◌}
+use Rattle.std.proofs.lemmas.Bool.{le-leb}
 use Rattle.def_tokens.specs.declared.Token.TheVariants as kinds
 use Rattle.def_tokens.specs.declared.Lexeme.{Lexeme}
 use Rattle.def_tokens.specs.Texts.{unescaped}
 use Rattle.def_tokens.proofs.TextLemmas.{slice_range-inner}
-use Rattle.def_fraction.specs.Digits.{is_numeral, number_of}
-use Rattle.def_player.specs.declared.Player.{Player}
-use Rattle.def_player.specs.declared.Player.TheVariants as players
-use Rattle.def_tree.specs.declared.Kind.TheVariants.{Leaf}
-use Rattle.def_tree.specs.declared.Node.{Node}
-use Rattle.def_tree.specs.Tree.{wanted, Begins, IsWhole}
-use Rattle.def_file.specs.Content.{kind_of, entries_of, counts_of, of_player, personal, terminal}
-use Rattle.def_file.specs.Reading.{is_kind, is_token, is_exact, writes, is_count, is_size, is_amount, is_payoff, is_player, begins_entry, is_action, token_where, text_of, player_of, text_at, player_at, prologue_at, actions_from, most_actions, personal_at, terminal_at, entry_at, entries_from}
-use Rattle.def_form.specs.Form.{Spelled, word, number, text, open_brace, close_brace, comma, prologue, Entry, Personal, Terminal, player_number, tokens_of, Writes, IsSize, IsPayoff, IsPersonal, IsTerminal, IsEntry, AreEntries}
-use Rattle.def_form.specs.Faults.{spelled_at}
-use Rattle.def_form.proofs.Steps.{both, ok_token, Step, Takes}
+use Rattle.def_fraction.specs.declared.fault.NumberFault.{NumberFault}
+use Rattle.def_fraction.specs.Digits.{number_of}
+use Rattle.def_fraction.specs.Fraction.{Fraction, most}
+use Rattle.def_fraction.specs.Reading.{read_as_literal, read_as_whole}
+use Rattle.def_fraction.proofs.JudgeLemmas.{read_as_literal-judged}
+use Rattle.def_file.specs.declared.EntryKind.{EntryKind}
+use Rattle.def_file.specs.declared.EntryKind.TheVariants.{Chance, Personal, Leaf}
+use Rattle.def_file.specs.Content.{Action, SetMention, OutcomeMention}
+use Rattle.def_file.specs.Reading.{bytes_at, next_is, mark, open_byte, close_byte, comma_byte, text_of, text_at, name_at, number_at, literal_at, whole_at, from_one, read_as_set, set_number_at, chance_at, action_at, close_at, actions_from, actions_at, payoff_at, payoffs_from, payoffs_at, set_mention_at, outcome_mention_at}
+use Rattle.def_form.specs.Form.{Spelled, number, text, open_brace, close_brace, comma, IsText, IsName, IsWholeNumber, IsFraction, IsChance, AreActions, IsActionList, IsPayoffList, IsSet, IsOutcome}
+use Rattle.def_form.proofs.Steps.{Step, Then, IsOne}
+use Rattle.def_form.proofs.Sound.{IsAction, IsPayoff, ArePayoffsBehind}
+use Rattle.def_form.proofs.Ahead.{Ahead, Taken, NotNext, not_number, not_first, next_is_step, is_first, take_kind, behind_step, ahead_length}
 
--- a test that looks at the kind and the bytes
-by_spelling : (test : Spelled → Bool) (whole : List ℕ) (at : ℕ) (l : Lexeme) (s : Spelled) → Step whole at l s → test s ≡ true → token_where (λ t. test (spelled_at whole t)) whole at ≡ Ok l
-by_spelling test whole at l s step passes = ok_token (λ t. test (spelled_at whole t)) whole at l step.next (ap test step.spelled ∙ passes)
+-- what a text token stands for
+text_is : (whole : List ℕ) (at : ℕ) (l : Lexeme) (inside : List ℕ) → Step whole at l (text inside) → text_of whole l ≡ unescaped inside
+text_is whole at l inside step = ap unescaped (slice_range-inner whole l.start l.end inside step.within (ap (λ (s : Spelled). s.bytes) step.spelled)).1
 
-module _ (whole : List ℕ) (at : ℕ) (l : Lexeme) where
-  take_exact : (kind : Token) (bytes : List ℕ) → (is_kind kind kind && pointwise nat_eq bytes bytes) ≡ true → Step whole at l (record { kind = kind; bytes = bytes }) → token_where (is_exact kind bytes whole) whole at ≡ Ok l
-  take_exact kind bytes passes step = by_spelling (λ s. is_kind kind s.kind && pointwise nat_eq s.bytes bytes) whole at l (record { kind = kind; bytes = bytes }) step passes
+pub text_taken : (whole : List ℕ) (at : ℕ) (v : List ℕ) (tokens rest : List Spelled) → IsText v tokens rest → Ahead whole at tokens → Taken whole (text_at whole at) v rest
+unfolding text_at
+text_taken whole at v tokens rest is ahead =
+    let a : Ahead whole at (text is.inside ∷ rest) = subst (Ahead whole at) is.spelling ahead in
+    let l : Lexeme = a.next.0 in
+    let step : Step whole at l (text is.inside) = a.next.1 in
+    let found = take_kind whole at l kinds.Text _ refl step in
+    record {
+      mid = l.end;
+      ok = rw found (ap (λ b. Ok (b, l.end)) (text_is whole at l is.inside step ∙ sym is.stands_for));
+      ahead = behind_step whole at (text is.inside) rest a;
+    }
 
-  take_kind : (kind : Token) (bytes : List ℕ) → is_kind kind kind ≡ true → Step whole at l (record { kind = kind; bytes = bytes }) → token_where (is_token kind whole) whole at ≡ Ok l
-  take_kind kind bytes passes step = by_spelling (λ s. is_kind kind s.kind) whole at l (record { kind = kind; bytes = bytes }) step passes
+-- a text begins with a quotation mark
+pub text_first : (byte : ℕ) (whole : List ℕ) (at : ℕ) (v : List ℕ) (tokens rest : List Spelled) → IsText v tokens rest → Ahead whole at tokens → next_is byte whole at ≡ eqb 34 byte
+text_first byte whole at v tokens rest is ahead =
+    let a : Ahead whole at (text is.inside ∷ rest) = subst (Ahead whole at) is.spelling ahead in
+    next_is_step byte whole at a.next.0 (text is.inside) 34 (is.inside ++ 34 ∷ []) a.next.1 refl
 
-  -- what a text token stands for
-  text_is : (inside : List ℕ) → Step whole at l (text inside) → text_of whole l ≡ unescaped inside
-  text_is inside step =
-      let quoted = ap (λ (s : Spelled). s.bytes) step.spelled in
-      ap unescaped (slice_range-inner whole l.start l.end inside step.within quoted).1
+pub name_taken : (whole : List ℕ) (at : ℕ) (v : Option (List ℕ)) (tokens rest : List Spelled) → IsName v tokens rest → NotNext mark rest → Ahead whole at tokens → Taken whole (name_at whole at) v rest
+unfolding name_at
+name_taken whole at None tokens rest is behind ahead =
+    let a : Ahead whole at rest = subst (Ahead whole at) is ahead in
+    let none : next_is mark whole at ≡ false = behind.here whole at a in
+    record { mid = at; ok = rw none refl; ahead = a }
+name_taken whole at (Some b) tokens rest is behind ahead =
+    let t = text_taken whole at b tokens rest is ahead in
+    let some : next_is mark whole at ≡ true = text_first mark whole at b tokens rest is ahead in
+    record { mid = t.mid; ok = rw (some, t.ok) refl; ahead = t.ahead }
 
-  take_count : (n : ℕ) (bytes : List ℕ) → Writes bytes n → Step whole at l (number bytes) → token_where (is_count n whole) whole at ≡ Ok l
-  take_count n bytes is step =
-      by_spelling (λ s. is_kind kinds.Number s.kind && writes n s.bytes) whole at l (number bytes) step (both (is_numeral bytes) (eqb (number_of bytes) n) is.digits (eq-eqb _ n is.value))
+-- Numbers.
 
-  pub size_passes : (bytes : List ℕ) → IsSize bytes → is_size bytes ≡ true
-  size_passes bytes is = both _ _ is.digits (le-leb _ _ is.limit)
+pub number_taken : {A : Type 0} (as_read : List ℕ → Result A NumberFault) (whole : List ℕ) (at : ℕ) (bytes : List ℕ) (v : A) (tokens rest : List Spelled) → tokens ≡ number bytes ∷ rest → as_read bytes ≡ Ok v → Ahead whole at tokens
+    → Taken whole (number_at as_read whole at) v rest
+number_taken as_read whole at bytes v tokens rest is ok ahead =
+    let a : Ahead whole at (number bytes ∷ rest) = subst (Ahead whole at) is ahead in
+    let l : Lexeme = a.next.0 in
+    let step : Step whole at l (number bytes) = a.next.1 in
+    let found = take_kind whole at l kinds.Number bytes refl step in
+    let same : as_read (bytes_at whole l) ≡ Ok v = ap as_read (ap (λ (s : Spelled). s.bytes) step.spelled) ∙ ok in
+    record { mid = l.end; ok = rw (found, same) refl; ahead = behind_step whole at (number bytes) rest a }
 
-  -- digits begin with no minus
-  digit_no_minus : (byte : ℕ) (bytes : List ℕ) → is_numeral (byte ∷ bytes) ≡ true → eqb byte 45 ≡ false
-  digit_no_minus byte bytes is = ne_eqb byte 45 (λ same. let clash = sym (ap (λ x. is_numeral (x ∷ bytes)) same) ∙ is in cc)
+pub literal_taken : (whole : List ℕ) (at : ℕ) (v : Fraction) (tokens rest : List Spelled) → IsFraction v tokens rest → Ahead whole at tokens → Taken whole (literal_at whole at) v rest
+unfolding literal_at
+literal_taken whole at v tokens rest is ahead = number_taken read_as_literal whole at is.bytes v tokens rest is.spelling (((read_as_literal-judged is.bytes).value v).1 is.literal) ahead
 
-  pub amount_passes : (bytes : List ℕ) → IsPayoff bytes → is_amount bytes ≡ true
-  amount_passes [] is = ⊎_elim (λ size. let clash = size.digits in absurd cc) (λ signed. let clash = signed.1 in absurd cc) is
-  amount_passes (byte ∷ bytes) is =
-      ⊎_elim
-      (λ size. rw (digit_no_minus byte bytes size.digits) (size_passes (byte ∷ bytes) size))
-      (λ signed. ap is_amount signed.1 ∙ size_passes signed.0 signed.2)
-      is
+is_whole : (n : ℕ) (tokens rest : List Spelled) → (is : IsWholeNumber n tokens rest) → read_as_whole is.digits ≡ Ok n
+unfolding read_as_whole
+is_whole n tokens rest is =
+    let limit = le-leb (number_of is.digits) most (subst (λ k. k ≤ 2 ^ 62) (sym is.value) is.limit) in
+    rw (is.numeral, limit) (ap Ok is.value)
 
-  take_payoff : (bytes : List ℕ) → IsPayoff bytes → Step whole at l (number bytes) → token_where (is_payoff whole) whole at ≡ Ok l
-  take_payoff bytes is step = by_spelling (λ s. is_kind kinds.Number s.kind && is_amount s.bytes) whole at l (number bytes) step (amount_passes bytes is)
+pub whole_taken : (whole : List ℕ) (at v : ℕ) (tokens rest : List Spelled) → IsWholeNumber v tokens rest → Ahead whole at tokens → Taken whole (whole_at whole at) v rest
+unfolding whole_at
+whole_taken whole at v tokens rest is ahead = number_taken read_as_whole whole at is.digits v tokens rest is.spelling (is_whole v tokens rest is) ahead
 
-  take_player : (player : Player) → Step whole at l (number (player_number player)) → (token_where (is_player whole) whole at ≡ Ok l) × (player_of whole l ≡ player)
-  take_player players.One step = (
-    by_spelling (λ s. (is_kind kinds.Number s.kind && pointwise nat_eq s.bytes (codes "1")) || (is_kind kinds.Number s.kind && pointwise nat_eq s.bytes (codes "2"))) whole at l (number (codes "1")) step refl,
-    ap (λ (s : Spelled). cond (is_kind kinds.Number s.kind && pointwise nat_eq s.bytes (codes "1")) players.One players.Two) step.spelled,
-  )
-  take_player players.Two step = (
-    by_spelling (λ s. (is_kind kinds.Number s.kind && pointwise nat_eq s.bytes (codes "1")) || (is_kind kinds.Number s.kind && pointwise nat_eq s.bytes (codes "2"))) whole at l (number (codes "2")) step refl,
-    ap (λ (s : Spelled). cond (is_kind kinds.Number s.kind && pointwise nat_eq s.bytes (codes "1")) players.One players.Two) step.spelled,
-  )
+one_from : (n : ℕ) → 1 ≤ n → from_one (Ok n) ≡ Ok n
+one_from zero some = absurd (omega (arith, some))
+one_from (suc n) some = refl
 
-  -- a text and a player, by what they stand for
-  take_text : (inside : List ℕ) → Step whole at l (text inside) → text_at whole at ≡ Ok (unescaped inside, l.end)
-  unfolding text_at
-  take_text inside step = rw (take_kind kinds.Text _ refl step) (ap (λ b. Ok (b, l.end)) (text_is inside step))
+is_set_number : (n : ℕ) (tokens rest : List Spelled) → (is : IsWholeNumber n tokens rest) → 1 ≤ n → read_as_set is.digits ≡ Ok n
+unfolding read_as_set
+is_set_number n tokens rest is some = ap from_one (is_whole n tokens rest is) ∙ one_from n some
 
-  take_player_at : (player : Player) → Step whole at l (number (player_number player)) → player_at whole at ≡ Ok (player, l.end)
-  unfolding player_at
-  take_player_at player step = let p = take_player player step in rw p.0 (ap (λ q. Ok (q, l.end)) p.1)
+pub set_number_taken : (whole : List ℕ) (at v : ℕ) (tokens rest : List Spelled) → IsWholeNumber v tokens rest → 1 ≤ v → Ahead whole at tokens → Taken whole (set_number_at whole at) v rest
+unfolding set_number_at
+set_number_taken whole at v tokens rest is some ahead = number_taken read_as_set whole at is.digits v tokens rest is.spelling (is_set_number v tokens rest is some) ahead
 
-pub prologue_taken : (whole : List ℕ) (at : ℕ) (title one two : List ℕ) (more : List Spelled) (end : ℕ) → Takes whole at (prologue title one two ++ more) end
-    → (mid : ℕ) × (prologue_at whole at ≡ Ok (record { title = unescaped title; one = unescaped one; two = unescaped two }, mid)) × Takes whole mid more end
-unfolding prologue_at
-prologue_taken whole at title one two more end (l0, s0, (l1, s1, (l2, s2, (l3, s3, (l4, s4, (l5, s5, (l6, s6, (l7, s7, rest)))))))) =
-    let e0 = take_exact whole at l0 kinds.Word (codes "EFG") refl s0 in
-    let e1 = take_exact whole l0.end l1 kinds.Number (codes "2") refl s1 in
-    let e2 = take_exact whole l1.end l2 kinds.Word (codes "R") refl s2 in
-    let e3 = take_text whole l2.end l3 title s3 in
-    let e4 = take_kind whole l3.end l4 kinds.Open _ refl s4 in
-    let e5 = take_text whole l4.end l5 one s5 in
-    let e6 = take_text whole l5.end l6 two s6 in
-    let e7 = take_kind whole l6.end l7 kinds.Close _ refl s7 in
-    (l7.end, rw (e0, e1, e2, e3, e4, e5, e6, e7) refl, rest)
+pub chance_taken : (kind : EntryKind) (whole : List ℕ) (at : ℕ) (v : Fraction) (tokens rest : List Spelled) → IsChance kind v tokens rest → Ahead whole at tokens → Taken whole (chance_at kind whole at) v rest
+chance_taken Chance whole at v tokens rest is ahead = literal_taken whole at v tokens rest is ahead
+chance_taken Personal whole at v tokens rest is ahead = record { mid = at; ok = ap (λ f. Ok (f, at)) (sym is.0); ahead = subst (Ahead whole at) is.1 ahead }
+chance_taken Leaf whole at v tokens rest is ahead = record { mid = at; ok = ap (λ f. Ok (f, at)) (sym is.0); ahead = subst (Ahead whole at) is.1 ahead }
 
-actions_taken : (left count : ℕ) (whole : List ℕ) (at : ℕ) (insides : List (List ℕ)) (more : List Spelled) (end : ℕ) → length insides ≤ left → 0 < count + length insides → Takes whole at (map text insides ++ (close_brace ∷ more)) end
-    → (mid : ℕ) × (actions_from left count whole at ≡ Ok (count + length insides, mid)) × Takes whole mid more end
+-- Lists.
+
+pub action_taken : (kind : EntryKind) (whole : List ℕ) (at : ℕ) (v : Action) (tokens rest : List Spelled) → IsAction kind v tokens rest → Ahead whole at tokens → Taken whole (action_at kind whole at) v rest
+unfolding action_at
+action_taken kind whole at v tokens rest is ahead =
+    let name = text_taken whole at v.name tokens is.0 is.1 ahead in
+    let chance = chance_taken kind whole name.mid v.chance is.0 rest is.2 name.ahead in
+    record { mid = chance.mid; ok = rw (name.ok, chance.ok) refl; ahead = chance.ahead }
+
+pub close_taken : {A : Type 0} (whole : List ℕ) (at : ℕ) (v : A) (tokens rest : List Spelled) → IsOne close_brace tokens rest → Ahead whole at tokens → Taken whole (close_at v whole at) v rest
+unfolding close_at
+close_taken whole at v tokens rest is ahead =
+    let a : Ahead whole at (close_brace ∷ rest) = subst (Ahead whole at) is ahead in
+    let found = take_kind whole at a.next.0 kinds.Close _ refl a.next.1 in
+    record { mid = a.next.0.end; ok = rw found refl; ahead = behind_step whole at close_brace rest a }
+
+pub close_first : (whole : List ℕ) (at : ℕ) (tokens rest : List Spelled) → IsOne close_brace tokens rest → Ahead whole at tokens → next_is close_byte whole at ≡ true
+close_first whole at tokens rest is ahead = is_first close_byte 125 close_brace [] rest whole at refl refl (subst (Ahead whole at) is ahead)
+
+pub text_length : (v : List ℕ) (tokens rest : List Spelled) → IsText v tokens rest → length tokens ≡ suc (length rest)
+text_length v tokens rest is = ap length is.spelling
+
+chance_length : (kind : EntryKind) (v : Fraction) (tokens rest : List Spelled) → IsChance kind v tokens rest → length rest ≤ length tokens
+chance_length Chance v tokens rest is = omega (arith, ap length is.spelling)
+chance_length Personal v tokens rest is = omega (arith, ap length is.1)
+chance_length Leaf v tokens rest is = omega (arith, ap length is.1)
+
+pub actions_taken : (kind : EntryKind) (left : ℕ) (done more : List Action) (whole : List ℕ) (at : ℕ) (tokens rest : List Spelled) → AreActions kind more tokens rest → length tokens ≤ left → Ahead whole at tokens
+    → Taken whole (actions_from kind left done whole at) (done ++ more) rest
 unfolding actions_from
-actions_taken zero count whole at [] more end limit some (l, step, rest) =
-    let same : count ≡ count + 0 = omega arith in
-    (l.end, rw (take_kind whole at l kinds.Close _ refl step) (ap (λ n. Ok (n, l.end)) same), rest)
-actions_taken zero count whole at (inside ∷ insides) more end limit some takes = absurd (omega (arith, limit))
-actions_taken (suc left) count whole at [] more end limit some (l, step, rest) =
-    let same : count ≡ count + 0 = omega arith in
-    let positive : ltb 0 count ≡ true = lt-ltb 0 count (omega (arith, some)) in
-    let taken : token_where (is_action count whole) whole at ≡ Ok l = by_spelling (λ s. is_kind kinds.Text s.kind || (is_kind kinds.Close s.kind && ltb 0 count)) whole at l close_brace step positive in
-    let closes : is_kind kinds.Text l.kind ≡ false = ap (λ (s : Spelled). is_kind kinds.Text s.kind) step.spelled in
-    (l.end, rw (taken, closes) (ap (λ n. Ok (n, l.end)) same), rest)
-actions_taken (suc left) count whole at (inside ∷ insides) more end limit some (l, step, rest) =
-    let shift : count + 1 + length insides ≡ count + suc (length insides) = omega arith in
-    let taken : token_where (is_action count whole) whole at ≡ Ok l = by_spelling (λ s. is_kind kinds.Text s.kind || (is_kind kinds.Close s.kind && ltb 0 count)) whole at l (text inside) step refl in
-    let is_text : is_kind kinds.Text l.kind ≡ true = ap (λ (s : Spelled). is_kind kinds.Text s.kind) step.spelled in
-    let later = actions_taken left (count + 1) whole l.end insides more end (omega (arith, limit)) (omega arith) rest in
-    (later.0, rw (taken, is_text) (later.1 ∙ ap (λ n. Ok (n, later.0)) shift), later.2)
+actions_taken kind zero done [] whole at tokens rest are fuel ahead = absurd (omega (arith, ap length are, fuel))
+actions_taken kind zero done (a ∷ more) whole at tokens rest are fuel ahead = absurd (omega (arith, text_length a.name tokens are.0 are.2, fuel))
+actions_taken kind (suc left) done [] whole at tokens rest are fuel ahead =
+    let closes = close_first whole at tokens rest are ahead in
+    let c = close_taken whole at done tokens rest are ahead in
+    record { mid = c.mid; ok = rw (closes, c.ok) (ap (λ as'. Ok (as', c.mid)) (sym (append-nil done))); ahead = c.ahead }
+actions_taken kind (suc left) done (a ∷ more) whole at tokens rest are fuel ahead =
+    let open_yet : next_is close_byte whole at ≡ false = text_first close_byte whole at a.name tokens are.0 are.2 ahead in
+    let here = action_taken kind whole at a tokens are.1 (are.0, are.2, are.3) ahead in
+    let shorter : length are.1 ≤ left = omega (arith, text_length a.name tokens are.0 are.2, chance_length kind a.chance are.0 are.1 are.3, fuel) in
+    let later = actions_taken kind left (done ++ a ∷ []) more whole here.mid are.1 rest are.4 shorter here.ahead in
+    record { mid = later.mid; ok = rw (open_yet, here.ok) (later.ok ∙ ap (λ as'. Ok (as', later.mid)) (append_assoc done (a ∷ []) more)); ahead = later.ahead }
 
-most_actions_is : most_actions ≡ 1024
-unfolding most_actions
-most_actions_is = refl
+-- the opening brace
+open_first : (whole : List ℕ) (at : ℕ) (rest : List Spelled) → Ahead whole at (open_brace ∷ rest) → next_is open_byte whole at ≡ true
+open_first whole at rest a = is_first open_byte 123 open_brace [] rest whole at refl refl a
 
-set_next : (before : List Node) (player : Player) (bytes : List ℕ) → Writes bytes (entries_of (kind_of player) before + 1) → Writes bytes (of_player player (counts_of before) + 1)
-set_next before players.One bytes writes = writes
-set_next before players.Two bytes writes = writes
+pub action_list_taken : (kind : EntryKind) (whole : List ℕ) (at : ℕ) (v : Option (List Action)) (tokens rest : List Spelled) → IsActionList kind v tokens rest → NotNext open_byte rest → Ahead whole at tokens → Taken whole (actions_at kind whole at) v rest
+unfolding actions_at
+action_list_taken kind whole at None tokens rest is behind ahead =
+    let a : Ahead whole at rest = subst (Ahead whole at) is ahead in
+    let none : next_is open_byte whole at ≡ false = behind.here whole at a in
+    record { mid = at; ok = rw none refl; ahead = a }
+action_list_taken kind whole at (Some actions) tokens rest is behind ahead =
+    let a : Ahead whole at (open_brace ∷ is.0) = subst (Ahead whole at) is.1 ahead in
+    let opens = open_first whole at is.0 a in
+    let found = take_kind whole at a.next.0 kinds.Open _ refl a.next.1 in
+    let inner = behind_step whole at open_brace is.0 a in
+    let later = actions_taken kind (length whole) [] actions whole a.next.0.end is.0 rest is.2 (ahead_length whole a.next.0.end is.0 inner) inner in
+    record { mid = later.mid; ok = rw (opens, found, later.ok) refl; ahead = later.ahead }
 
-personal_taken : (whole : List ℕ) (at : ℕ) (before : List Node) (name : List ℕ) (player : Player) (set set_name : List ℕ) (actions : List (List ℕ)) (more : List Spelled) (end : ℕ) → IsPersonal before name player set set_name actions
-    → Takes whole at (text name ∷ number (player_number player) ∷ number set ∷ text set_name ∷ open_brace ∷ (map text actions ++ (close_brace ∷ number (codes "0") ∷ more))) end
-    → (mid : ℕ) × (personal_at (counts_of before) whole at ≡ Ok (personal (counts_of before) player (length actions), mid)) × Takes whole mid more end
-unfolding personal_at
-personal_taken whole at before name player set set_name actions more end is (l0, s0, (l1, s1, (l2, s2, (l3, s3, (l4, s4, rest))))) =
-    let limit : most_actions ≡ 1024 = most_actions_is in
-    let counts = counts_of before in
-    let e0 = take_kind whole at l0 kinds.Text _ refl s0 in
-    let e1 = take_player_at whole l0.end l1 player s1 in
-    let e2 = take_count whole l1.end l2 (of_player player counts + 1) set (set_next before player set is.set_number) s2 in
-    let e3 = take_kind whole l2.end l3 kinds.Text _ refl s3 in
-    let e4 = take_kind whole l3.end l4 kinds.Open _ refl s4 in
-    let a = actions_taken most_actions 0 whole l4.end actions (number (codes "0") ∷ more) end (omega (arith, is.limit)) (omega (arith, is.some_action)) rest in
-    let l6 = a.2.0 in
-    let e6 = take_exact whole a.0 l6 kinds.Number (codes "0") refl a.2.1 in
-    let len : 0 + length actions ≡ length actions = omega arith in (
-      l6.end,
-      rw (e0, e1, e2, e3, e4, a.1, e6) (ap (λ n. Ok (personal counts player n, l6.end)) len),
-      a.2.2,
-    )
+-- Payoffs.
 
-terminal_taken : (whole : List ℕ) (at : ℕ) (before : List Node) (name outcome first second : List ℕ) (more : List Spelled) (end : ℕ) → IsTerminal before name outcome first second
-    → Takes whole at (text name ∷ number outcome ∷ open_brace ∷ number first ∷ comma ∷ number second ∷ close_brace ∷ more) end
-    → (mid : ℕ) × (terminal_at (counts_of before) whole at ≡ Ok (terminal (counts_of before), mid)) × Takes whole mid more end
-unfolding terminal_at
-terminal_taken whole at before name outcome first second more end is (l0, s0, (l1, s1, (l2, s2, (l3, s3, (l4, s4, (l5, s5, (l6, s6, rest))))))) =
-    let e0 = take_kind whole at l0 kinds.Text _ refl s0 in
-    let e1 = take_count whole l0.end l1 (entries_of Leaf before + 1) outcome is.outcome_number s1 in
-    let e2 = take_kind whole l1.end l2 kinds.Open _ refl s2 in
-    let e3 = take_payoff whole l2.end l3 first is.first_payoff s3 in
-    let e4 = take_kind whole l3.end l4 kinds.Comma _ refl s4 in
-    let e5 = take_payoff whole l4.end l5 second is.second_payoff s5 in
-    let e6 = take_kind whole l5.end l6 kinds.Close _ refl s6 in
-    (l6.end, rw (e0, e1, e2, e3, e4, e5, e6) refl, rest)
+payoff_taken : (done : List Fraction) (whole : List ℕ) (at : ℕ) (v : Fraction) (tokens rest : List Spelled) → IsPayoff done v tokens rest → Ahead whole at tokens → Taken whole (payoff_at done whole at) v rest
+unfolding payoff_at
+payoff_taken [] whole at v tokens rest is ahead = literal_taken whole at v is.0 rest is.2 (subst (Ahead whole at) is.1 ahead)
+payoff_taken (d ∷ ds) whole at v tokens rest is ahead =
+    ⊎_elim
+    (λ same.
+    let a : Ahead whole at is.0 = subst (Ahead whole at) same ahead in
+    let b : Ahead whole at (number is.2.bytes ∷ rest) = subst (Ahead whole at) is.2.spelling a in
+    let none : next_is comma_byte whole at ≡ false = (not_number comma_byte refl is.2.bytes rest).here whole at b in
+    let f = literal_taken whole at v is.0 rest is.2 a in
+    record { mid = f.mid; ok = rw (none, f.ok) refl; ahead = f.ahead })
+    (λ same.
+    let a : Ahead whole at (comma ∷ is.0) = subst (Ahead whole at) same ahead in
+    let some : next_is comma_byte whole at ≡ true = is_first comma_byte 44 comma [] is.0 whole at refl refl a in
+    let found = take_kind whole at a.next.0 kinds.Comma _ refl a.next.1 in
+    let f = literal_taken whole a.next.0.end v is.0 rest is.2 (behind_step whole at comma is.0 a) in
+    record { mid = f.mid; ok = rw (some, found, f.ok) refl; ahead = f.ahead })
+    is.1
 
--- the head of an entry
-take_head : (bytes : List ℕ) (whole : List ℕ) (at : ℕ) (l : Lexeme) → (pointwise nat_eq bytes (codes "p") || pointwise nat_eq bytes (codes "t")) ≡ true → Step whole at l (word bytes) → token_where (begins_entry whole) whole at ≡ Ok l
-take_head bytes whole at l passes step =
-    by_spelling (λ s. (is_kind kinds.Word s.kind && pointwise nat_eq s.bytes (codes "p")) || (is_kind kinds.Word s.kind && pointwise nat_eq s.bytes (codes "t"))) whole at l (word bytes) step passes
+-- a payoff begins with no brace
+payoff_first : (done : List Fraction) (whole : List ℕ) (at : ℕ) (v : Fraction) (tokens rest : List Spelled) → IsPayoff done v tokens rest → Ahead whole at tokens → next_is close_byte whole at ≡ false
+payoff_first [] whole at v tokens rest is ahead = (not_number close_byte refl is.2.bytes rest).here whole at (subst (Ahead whole at) (is.1 ∙ is.2.spelling) ahead)
+payoff_first (d ∷ ds) whole at v tokens rest is ahead =
+    ⊎_elim
+    (λ same. (not_number close_byte refl is.2.bytes rest).here whole at (subst (Ahead whole at) (same ∙ is.2.spelling) ahead))
+    (λ same. (not_first close_byte 44 comma [] is.0 refl refl).here whole at (subst (Ahead whole at) same ahead))
+    is.1
 
-pub entry_taken : (whole : List ℕ) (at : ℕ) (before : List Node) (entry : Entry) (node : Node) (more : List Spelled) (end : ℕ) → IsEntry before entry node → Takes whole at (tokens_of entry ++ more) end
-    → (mid : ℕ) × (entry_at (counts_of before) whole at ≡ Ok (node, mid)) × Takes whole mid more end
-unfolding entry_at
-entry_taken whole at before (Personal name player set set_name actions) node more end is (l, step, rest) =
-    let e = take_head (codes "p") whole at l refl step in
-    let personal_head : is_exact kinds.Word (codes "p") whole l ≡ true = ap (λ (s : Spelled). is_kind kinds.Word s.kind && pointwise nat_eq s.bytes (codes "p")) step.spelled in
-    let regrouped = append_assoc (map text actions) (close_brace ∷ number (codes "0") ∷ []) more in
-    let later = personal_taken whole l.end before name player set set_name actions more end is.0 (subst (λ ss. Takes whole l.end (text name ∷ number (player_number player) ∷ number set ∷ text set_name ∷ open_brace ∷ ss) end) regrouped rest) in
-    (later.0, rw (e, personal_head) (later.1 ∙ ap (λ n. Ok (n, later.0)) (sym is.1)), later.2)
-entry_taken whole at before (Terminal name outcome first second) node more end is (l, step, rest) =
-    let e = take_head (codes "t") whole at l refl step in
-    let terminal_head : is_exact kinds.Word (codes "p") whole l ≡ false = ap (λ (s : Spelled). is_kind kinds.Word s.kind && pointwise nat_eq s.bytes (codes "p")) step.spelled in
-    let later = terminal_taken whole l.end before name outcome first second more end is.0 rest in
-    (later.0, rw (e, terminal_head) (later.1 ∙ ap (λ n. Ok (n, later.0)) (sym is.1)), later.2)
+payoff_length : (done : List Fraction) (v : Fraction) (tokens rest : List Spelled) → IsPayoff done v tokens rest → length rest < length tokens
+payoff_length [] v tokens rest is = omega (arith, ap length is.1, ap length is.2.spelling)
+payoff_length (d ∷ ds) v tokens rest is =
+    ⊎_elim (λ same. omega (arith, ap length same, ap length is.2.spelling)) (λ same. omega (arith, ap length same, ap length is.2.spelling)) is.1
 
--- a node comes only where one is wanted
-Begins-wanted : (n : ℕ) (xs : List Node) (y : Node) (ys : List Node) → Begins n (xs ++ y ∷ ys) → 0 < wanted n xs
-Begins-wanted n [] y ys begins = begins.0
-Begins-wanted n (x ∷ xs) y ys begins = Begins-wanted (n + x.children - 1) xs y ys begins.1
+-- the parts of payoffs
+payoffs_end : (done : List Fraction) (tokens rest : List Spelled) → ArePayoffsBehind done [] tokens rest → IsOne close_brace tokens rest
+payoffs_end [] tokens rest are = are
+payoffs_end (d ∷ ds) tokens rest are = are
 
-pub entries_taken : (left : ℕ) (whole : List ℕ) (at : ℕ) (before : List Node) (entries : List Entry) (nodes : List Node) (more : List Spelled) (end : ℕ) → AreEntries before entries nodes → length nodes ≤ left → IsWhole (before ++ nodes) → Takes whole at (flat_map tokens_of entries ++ more) end
-    → (mid : ℕ) × (entries_from left before whole at ≡ Ok (before ++ nodes, mid)) × Takes whole mid more end
-unfolding entries_from
-entries_taken zero whole at before [] [] more end are limit is_whole takes =
-    let done : eqb (wanted 1 before) 0 ≡ true = eq-eqb _ 0 (ap (wanted 1) (sym (append-nil before)) ∙ is_whole.ends) in
-    (at, rw done (ap (λ ns. Ok (ns, at)) (sym (append-nil before))), takes)
-entries_taken (suc left) whole at before [] [] more end are limit is_whole takes =
-    let done : eqb (wanted 1 before) 0 ≡ true = eq-eqb _ 0 (ap (wanted 1) (sym (append-nil before)) ∙ is_whole.ends) in
-    (at, rw done (ap (λ ns. Ok (ns, at)) (sym (append-nil before))), takes)
-entries_taken left whole at before [] (node ∷ nodes) more end are limit is_whole takes = absurd are
-entries_taken left whole at before (entry ∷ entries) [] more end are limit is_whole takes = absurd are
-entries_taken zero whole at before (entry ∷ entries) (node ∷ nodes) more end are limit is_whole takes = absurd (omega (arith, limit))
-entries_taken (suc left) whole at before (entry ∷ entries) (node ∷ nodes) more end are limit is_whole takes =
-    let some = Begins-wanted 1 before node nodes is_whole.begins in
-    let undone : eqb (wanted 1 before) 0 ≡ false = ne_eqb _ 0 (λ none. absurd (omega (arith, some, none))) in
-    let regrouped = append_assoc (tokens_of entry) (flat_map tokens_of entries) more in
-    let here = entry_taken whole at before entry node (flat_map tokens_of entries ++ more) end are.0 (subst (λ ss. Takes whole at ss end) regrouped takes) in
-    let joined : before ++ node ∷ [] ++ nodes ≡ before ++ node ∷ nodes = append_assoc before (node ∷ []) nodes in
-    let later = entries_taken left whole here.0 (before ++ node ∷ []) entries nodes more end are.1 (omega (arith, limit)) (subst IsWhole (sym joined) is_whole) here.2 in
-    (later.0, rw (undone, here.1) (later.1 ∙ ap (λ ns. Ok (ns, later.0)) joined), later.2)
+payoffs_more : (done : List Fraction) (f : Fraction) (fs : List Fraction) (tokens rest : List Spelled) → ArePayoffsBehind done (f ∷ fs) tokens rest → Then (IsPayoff done f) (ArePayoffsBehind (done ++ f ∷ []) fs) tokens rest
+payoffs_more [] f fs tokens rest are = (are.0, (tokens, refl, are.1), are.2)
+payoffs_more (d ∷ ds) f fs tokens rest are = (are.1, (are.0, are.2, are.3), are.4)
+
+pub payoffs_taken : (left : ℕ) (done more : List Fraction) (whole : List ℕ) (at : ℕ) (tokens rest : List Spelled) → ArePayoffsBehind done more tokens rest → length tokens ≤ left → Ahead whole at tokens
+    → Taken whole (payoffs_from left done whole at) (done ++ more) rest
+unfolding payoffs_from
+payoffs_taken zero done [] whole at tokens rest are fuel ahead = absurd (omega (arith, ap length (payoffs_end done tokens rest are), fuel))
+payoffs_taken zero done (f ∷ more) whole at tokens rest are fuel ahead =
+    let p = payoffs_more done f more tokens rest are in absurd (omega (arith, payoff_length done f tokens p.0 p.1, fuel))
+payoffs_taken (suc left) done [] whole at tokens rest are fuel ahead =
+    let ends = payoffs_end done tokens rest are in
+    let closes = close_first whole at tokens rest ends ahead in
+    let c = close_taken whole at done tokens rest ends ahead in
+    record { mid = c.mid; ok = rw (closes, c.ok) (ap (λ fs. Ok (fs, c.mid)) (sym (append-nil done))); ahead = c.ahead }
+payoffs_taken (suc left) done (f ∷ more) whole at tokens rest are fuel ahead =
+    let p = payoffs_more done f more tokens rest are in
+    let open_yet = payoff_first done whole at f tokens p.0 p.1 ahead in
+    let here = payoff_taken done whole at f tokens p.0 p.1 ahead in
+    let later = payoffs_taken left (done ++ f ∷ []) more whole here.mid p.0 rest p.2 (omega (arith, payoff_length done f tokens p.0 p.1, fuel)) here.ahead in
+    record { mid = later.mid; ok = rw (open_yet, here.ok) (later.ok ∙ ap (λ fs. Ok (fs, later.mid)) (append_assoc done (f ∷ []) more)); ahead = later.ahead }
+
+pub payoff_list_taken : (whole : List ℕ) (at : ℕ) (v : Option (List Fraction)) (tokens rest : List Spelled) → IsPayoffList v tokens rest → NotNext open_byte rest → Ahead whole at tokens → Taken whole (payoffs_at whole at) v rest
+unfolding payoffs_at
+payoff_list_taken whole at None tokens rest is behind ahead =
+    let a : Ahead whole at rest = subst (Ahead whole at) is ahead in
+    let none : next_is open_byte whole at ≡ false = behind.here whole at a in
+    record { mid = at; ok = rw none refl; ahead = a }
+payoff_list_taken whole at (Some payoffs) tokens rest is behind ahead =
+    let a : Ahead whole at (open_brace ∷ is.0) = subst (Ahead whole at) is.1 ahead in
+    let opens = open_first whole at is.0 a in
+    let found = take_kind whole at a.next.0 kinds.Open _ refl a.next.1 in
+    let inner = behind_step whole at open_brace is.0 a in
+    let later = payoffs_taken (length whole) [] payoffs whole a.next.0.end is.0 rest is.2 (ahead_length whole a.next.0.end is.0 inner) inner in
+    record { mid = later.mid; ok = rw (opens, found, later.ok) refl; ahead = later.ahead }
+
+-- Sets and outcomes. What comes behind is neither a text nor an opening brace.
+
+pub record IsClear (rest : List Spelled) : Type 0 where
+  pub no_text : NotNext mark rest
+  pub no_brace : NotNext open_byte rest
+
+pub clear_number : (digits : List ℕ) (rest : List Spelled) → IsClear (number digits ∷ rest)
+clear_number digits rest = record { no_text = not_number mark refl digits rest; no_brace = not_number open_byte refl digits rest }
+
+actions_no_text : (kind : EntryKind) (v : Option (List Action)) (tokens rest : List Spelled) → IsActionList kind v tokens rest → NotNext mark rest → NotNext mark tokens
+actions_no_text kind None tokens rest is behind = subst (NotNext mark) (sym is) behind
+actions_no_text kind (Some actions) tokens rest is behind = subst (NotNext mark) (sym is.1) (not_first mark 123 open_brace [] is.0 refl refl)
+
+payoffs_no_text : (v : Option (List Fraction)) (tokens rest : List Spelled) → IsPayoffList v tokens rest → NotNext mark rest → NotNext mark tokens
+payoffs_no_text None tokens rest is behind = subst (NotNext mark) (sym is) behind
+payoffs_no_text (Some payoffs) tokens rest is behind = subst (NotNext mark) (sym is.1) (not_first mark 123 open_brace [] is.0 refl refl)
+
+pub set_mention_taken : (kind : EntryKind) (whole : List ℕ) (at : ℕ) (v : SetMention) (tokens rest : List Spelled) → IsSet kind v tokens rest → IsClear rest → Ahead whole at tokens → Taken whole (set_mention_at kind whole at) v rest
+unfolding set_mention_at
+set_mention_taken kind whole at v tokens rest is clear ahead =
+    let n = set_number_taken whole at v.number tokens is.numbered is.number is.from_one ahead in
+    let name = name_taken whole n.mid v.name is.numbered is.named is.name (actions_no_text kind v.actions is.named rest is.actions clear.no_text) n.ahead in
+    let actions = action_list_taken kind whole name.mid v.actions is.named rest is.actions clear.no_brace name.ahead in
+    record { mid = actions.mid; ok = rw (n.ok, name.ok, actions.ok) refl; ahead = actions.ahead }
+
+pub outcome_mention_taken : (whole : List ℕ) (at : ℕ) (v : OutcomeMention) (tokens rest : List Spelled) → IsOutcome v tokens rest → IsClear rest → Ahead whole at tokens → Taken whole (outcome_mention_at whole at) v rest
+unfolding outcome_mention_at
+outcome_mention_taken whole at v tokens rest is clear ahead =
+    let n = whole_taken whole at v.number tokens is.numbered is.number ahead in
+    let name = name_taken whole n.mid v.name is.numbered is.named is.name (payoffs_no_text v.payoffs is.named rest is.payoffs clear.no_text) n.ahead in
+    let payoffs = payoff_list_taken whole name.mid v.payoffs is.named rest is.payoffs clear.no_brace name.ahead in
+    record { mid = payoffs.mid; ok = rw (n.ok, name.ok, payoffs.ok) refl; ahead = payoffs.ahead }

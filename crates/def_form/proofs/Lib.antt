@@ -1,9 +1,10 @@
 pub mod Steps
-pub mod Pieces
 pub mod Sound
+pub mod SoundEntries
+pub mod Ahead
 pub mod Complete
-pub mod Whole
-pub mod Grammar
+pub mod CompleteEntries
+pub mod Pieces
+pub mod Once
 pub mod Entries
-pub mod FirstFault
-pub mod OneFault
+pub mod Whole

@@ -7,11 +7,11 @@ use Rattle.def_tokens.specs.declared.Lexeme.{Lexeme}
 use Rattle.def_tokens.specs.Spelling.{IsToken, Piece, bytes_of, ArePieces, lexemes_of}
 use Rattle.def_tokens.specs.Tokens.{span, next_from, Reads}
 use Rattle.def_tokens.proofs.TokenLemmas.{next_from-sound}
-use Rattle.def_tokens.proofs.PieceLemmas.{reads_pieces}
+use Rattle.def_tokens.proofs.PieceLemmas.{reads_pieces, pieces_read}
 use Rattle.def_file.specs.Reading.{bytes_at}
 use Rattle.def_form.specs.Form.{Spelled, spelled}
-use Rattle.def_form.specs.Faults.{spelled_at}
-use Rattle.def_form.proofs.Steps.{Takes}
+use Rattle.def_form.proofs.Steps.{spelled_at, Takes}
+use Rattle.def_form.proofs.Ahead.{AllFrom, Ahead}
 
 -- the end stands at the end
 end_is : (whole : List ℕ) (at : ℕ) (l : Lexeme) → at ≤ length whole → next_from whole at ≡ Ok l → kinds.End ≡ l.kind → l ≡ span kinds.End (length whole) (length whole)
@@ -24,26 +24,26 @@ end_is whole at l within next same =
     (λ i. span (sym same i) (starts i) (ends i))
 
 -- the tokens that a reading took up to the end are read
-pub record TokensRead (whole : List ℕ) (at : ℕ) (ss : List Spelled) : Type 0 where
-  pub lexemes : List Lexeme
-  pub reads : Reads whole at lexemes
-  pub spelled : map (spelled_at whole) lexemes ≡ ss
+record TokensRead (whole : List ℕ) (at : ℕ) (ss : List Spelled) : Type 0 where
+  lexemes : List Lexeme
+  reads : Reads whole at lexemes
+  spelled_so : map (spelled_at whole) lexemes ≡ ss
 
-pub tokens_read : (whole : List ℕ) (at : ℕ) (ss : List Spelled) (mid : ℕ) (l : Lexeme) → at ≤ length whole → Takes whole at ss mid → next_from whole mid ≡ Ok l → kinds.End ≡ l.kind → TokensRead whole at ss
+tokens_read : (whole : List ℕ) (at : ℕ) (ss : List Spelled) (mid : ℕ) (l : Lexeme) → at ≤ length whole → Takes whole at ss mid → next_from whole mid ≡ Ok l → kinds.End ≡ l.kind → TokensRead whole at ss
 tokens_read whole at [] mid l within takes next same =
     let next_here : next_from whole at ≡ Ok l = ap (next_from whole) takes ∙ next in
-    record { lexemes = []; reads = next_here ∙ ap Ok (end_is whole at l within next_here same); spelled = refl }
+    record { lexemes = []; reads = next_here ∙ ap Ok (end_is whole at l within next_here same); spelled_so = refl }
 tokens_read whole at (s ∷ ss) mid l within takes next same =
     let step = takes.1 in
     let rest = tokens_read whole takes.0.end ss mid l step.within takes.2 next same in
     record {
       lexemes = takes.0 ∷ rest.lexemes;
       reads = (step.next, step.not_end, rest.reads);
-      spelled = ap (λ x. x ∷ map (spelled_at whole) rest.lexemes) step.spelled ∙ ap (λ x. s ∷ x) rest.spelled;
+      spelled_so = ap (λ x. x ∷ map (spelled_at whole) rest.lexemes) step.spelled ∙ ap (λ x. s ∷ x) rest.spelled_so;
     }
 
 -- pieces are spelled as their tokens are
-pub spelled_pieces : (whole : List ℕ) (at : ℕ) (ps : List Piece) (rest : List ℕ) → drop at whole ≡ bytes_of ps rest → map (spelled_at whole) (lexemes_of at ps) ≡ map spelled ps
+spelled_pieces : (whole : List ℕ) (at : ℕ) (ps : List Piece) (rest : List ℕ) → drop at whole ≡ bytes_of ps rest → map (spelled_at whole) (lexemes_of at ps) ≡ map spelled ps
 spelled_pieces whole at [] rest same = refl
 spelled_pieces whole at (p ∷ ps) rest same =
     let after = bytes_of ps rest in
@@ -56,24 +56,35 @@ spelled_pieces whole at (p ∷ ps) rest same =
     ap (λ (b : List ℕ). record { kind = p.kind; bytes = b } ∷ map (spelled_at whole) (lexemes_of end ps)) here
     ∙ ap (λ x. spelled p ∷ x) (spelled_pieces whole end ps rest last)
 
--- the tokens that are read are taken
-pub record TakesAll (whole : List ℕ) (at : ℕ) (ss : List Spelled) : Type 0 where
-  pub end : ℕ
-  pub takes : Takes whole at ss end
-  pub last : next_from whole end ≡ Ok (span kinds.End (length whole) (length whole))
+-- the pieces of bytes whose tokens were taken up to the end
+pub record PiecesFound (whole : List ℕ) (ss : List Spelled) : Type 0 where
+  pub pieces : List Piece
+  pub space : List ℕ
+  pub in_turn : ArePieces pieces space
+  pub spelling : whole ≡ bytes_of pieces space
+  pub tokens : map spelled pieces ≡ ss
 
-pub takes_read : (whole : List ℕ) (at : ℕ) (ls : List Lexeme) → at ≤ length whole → Reads whole at ls → TakesAll whole at (map (spelled_at whole) ls)
-takes_read whole at [] within reads = record { end = at; takes = refl; last = reads }
-takes_read whole at (l ∷ ls) within reads =
-    let is = next_from-sound whole at within l reads.0 in
-    let rest = takes_read whole l.end ls is.within reads.2 in
+pub pieces_found : (whole : List ℕ) (ss : List Spelled) (mid : ℕ) (l : Lexeme) → Takes whole 0 ss mid → next_from whole mid ≡ Ok l → kinds.End ≡ l.kind → PiecesFound whole ss
+pieces_found whole ss mid l takes next same =
+    let t = tokens_read whole 0 ss mid l (omega arith) takes next same in
+    let found = pieces_read whole 0 t.lexemes (omega arith) t.reads in
     record {
-      end = rest.end;
-      takes = (l, record { next = reads.0; not_end = reads.1; within = is.within; spelled = refl }, rest.takes);
-      last = rest.last;
+      pieces = found.pieces;
+      space = found.rest;
+      in_turn = found.are;
+      spelling = found.same;
+      tokens = sym (spelled_pieces whole 0 found.pieces found.rest found.same) ∙ ap (map (spelled_at whole)) (sym found.places) ∙ t.spelled_so;
     }
 
--- the pieces of the bytes are taken
-pub takes_pieces : (whole : List ℕ) (ps : List Piece) (rest : List ℕ) → ArePieces ps rest → whole ≡ bytes_of ps rest → TakesAll whole 0 (map spelled ps)
-takes_pieces whole ps rest are same =
-    subst (TakesAll whole 0) (spelled_pieces whole 0 ps rest same) (takes_read whole 0 (lexemes_of 0 ps) (omega arith) (subst (λ w. Reads w 0 (lexemes_of 0 ps)) (sym same) (reads_pieces [] rest ps are)))
+-- the tokens that are read come
+all_read : (whole : List ℕ) (at : ℕ) (ls : List Lexeme) → at ≤ length whole → Reads whole at ls → AllFrom whole at (map (spelled_at whole) ls)
+all_read whole at [] within reads = reads
+all_read whole at (l ∷ ls) within reads =
+    let is = next_from-sound whole at within l reads.0 in
+    (l, record { next = reads.0; not_end = reads.1; within = is.within; spelled = refl }, all_read whole l.end ls is.within reads.2)
+
+-- the pieces of the bytes come
+pub ahead_pieces : (whole : List ℕ) (ps : List Piece) (rest : List ℕ) → ArePieces ps rest → whole ≡ bytes_of ps rest → Ahead whole 0 (map spelled ps)
+ahead_pieces whole ps rest are same =
+    subst (Ahead whole 0) (spelled_pieces whole 0 ps rest same)
+    (record { within = omega arith; next = all_read whole 0 (lexemes_of 0 ps) (omega arith) (subst (λ w. Reads w 0 (lexemes_of 0 ps)) (sym same) (reads_pieces [] rest ps are)) })

@@ -1,338 +1,303 @@
 -- What is read is in the form: each reading with the tokens that it took.
-use Rattle.std.proofs.Common.{◌≡◌, ℕ, zero, suc, ◌+◌, ◌<◌, ◌≤◌, Bool, true, false, cond, eqb, ltb, ◌&&◌, ◌||◌, List, [], ◌∷◌, ◌++◌, length, map, Ok, sym, refl, ap, ◌∙◌, subst, arith, append_assoc, append-nil}
-use Rattle.std.specs.Prelude.{codes, All}
-use Rattle.std.specs.List.{flat_map}
-use Rattle.std.proofs.lemmas.List.Elements.{All-nil, All-cons}
-use Rattle.std.proofs.lemmas.Bool.{ltb-true, eqb-true, eqb-false}
+use Rattle.std.proofs.Common.{◌≡◌, ℕ, zero, suc, ◌≤◌, Bool, true, false, cond, List, [], ◌∷◌, ◌++◌, length, Option, Some, None, Result, Ok, Err, sym, refl, ap, ◌∙◌, subst, arith, append_assoc, append-nil, ◌⊎◌, inl, inr}
+use Rattle.std.specs.Prelude.{◌^◌, nat_le}
+use Rattle.std.proofs.lemmas.Bool.{leb-true}
 use Rattle.def_tokens.specs.declared.Token.TheVariants as kinds
 use Rattle.def_tokens.specs.declared.Lexeme.{Lexeme}
-use Rattle.def_tokens.specs.Tokens.{next_from}
-use Rattle.def_tokens.specs.Texts.{IsInside, unescaped}
-use Rattle.def_player.specs.declared.Player.{Player}
-use Rattle.def_player.specs.declared.Player.TheVariants as players
-use Rattle.def_tree.specs.declared.Kind.TheVariants.{Leaf}
-use Rattle.def_tree.specs.declared.Node.{Node}
-use Rattle.def_tree.specs.Tree.{wanted, Begins, IsWhole}
-use Rattle.def_tree.proofs.Lists.{Begins-append}
-use Rattle.def_file.specs.Content.{kind_of, entries_of, counts_of, of_player, personal, terminal}
-use Rattle.def_file.specs.Reading.{◌>>=◌, is_kind, is_token, is_exact, is_count, is_payoff, is_player, begins_entry, is_action, token_where, text_of, player_of, text_at, player_at, Prologue, prologue_at, actions_from, most_actions, personal_at, terminal_at, entry_at, nothing_at, entries_from}
-use Rattle.def_form.specs.Form.{Spelled, number, text, open_brace, close_brace, comma, prologue, Entry, Personal, Terminal, player_number, tokens_of, Writes, IsPersonal, IsTerminal, IsEntry, AreEntries}
-use Rattle.def_form.proofs.Steps.{then_ok, and_left, and_right, is_kind-true, token_ok, Step, Takes, Takes-append, exact_step, exact_here, open_step, close_here, close_step, comma_step, text_here, text_step, count_step, payoff_step, player_step}
+use Rattle.def_fraction.specs.declared.fault.NumberFault.{NumberFault}
+use Rattle.def_fraction.specs.declared.fault.NumberFault.TheVariants.{Form, Range}
+use Rattle.def_fraction.specs.Digits.{is_numeral, number_of}
+use Rattle.def_fraction.specs.Fraction.{Fraction, most}
+use Rattle.def_fraction.specs.Reading.{read_as_literal, read_as_whole}
+use Rattle.def_fraction.proofs.JudgeLemmas.{read_as_literal-judged}
+use Rattle.def_file.specs.declared.EntryKind.{EntryKind}
+use Rattle.def_file.specs.declared.EntryKind.TheVariants.{Chance, Personal, Leaf}
+use Rattle.def_file.specs.Content.{Action, SetMention, OutcomeMention, zero_fraction}
+use Rattle.def_file.specs.Reading.{◌>>=◌, bytes_at, is_token, token_where, next_is, mark, open_byte, close_byte, comma_byte, text_of, text_at, name_at, numbered, number_at, literal_at, whole_at, from_one, read_as_set, set_number_at, chance_at, action_at, close_at, actions_from, actions_at, comma_at, payoff_at, payoffs_from, payoffs_at, set_mention_at, outcome_mention_at}
+use Rattle.def_form.specs.Form.{Spelled, number, text, open_brace, close_brace, comma, IsText, IsName, IsWholeNumber, IsFraction, IsChance, AreActions, IsActionList, AreMorePayoffs, ArePayoffs, IsPayoffList, IsSet, IsOutcome}
+use Rattle.def_form.proofs.Steps.{then_ok, Read, Then, IsOne, IsNone, read_as, read_one, read_none, read_then, open_step, close_step, comma_step, text_step, number_step}
 
--- a text that was read, and what is taken before what is read behind it
-pub record TextRead (whole : List ℕ) (at : ℕ) (read : List ℕ × ℕ) : Type 0 where
-  pub inside : List ℕ
-  pub is_inside : IsInside inside
-  pub within : read.1 ≤ length whole
-  pub stands_for : read.0 ≡ unescaped inside
-  pub takes : (ss : List Spelled) (end : ℕ) → Takes whole read.1 ss end → Takes whole at (text inside ∷ ss) end
-
-pub text_read : (whole : List ℕ) (at : ℕ) → at ≤ length whole → (read : List ℕ × ℕ) → text_at whole at ≡ Ok read → TextRead whole at read
+pub text_read : (whole : List ℕ) (at : ℕ) → at ≤ length whole → (read : List ℕ × ℕ) → text_at whole at ≡ Ok read → Read whole at read.1 (IsText read.0)
 unfolding text_at
 text_read whole at within read e =
     then_ok (token_where (is_token kinds.Text whole) whole at) _ _ e (λ token e0 e.
     let s = text_step whole at within token e0 in
     let same : (text_of whole token, token.end) ≡ read = cc in
-    subst (TextRead whole at) same (record {
-      inside = s.0;
-      is_inside = s.1;
-      within = s.2.within;
-      stands_for = s.3;
-      takes = λ ss end rest. (token, s.2, rest);
-    }))
+    subst (λ (r : List ℕ × ℕ). Read whole at r.1 (IsText r.0)) same
+    (read_as whole at token.end (IsOne (text s.0)) (IsText (text_of whole token)) (λ tokens rest one. record { inside = s.0; is_inside = s.1; stands_for = s.3; spelling = one }) (read_one whole at token (text s.0) s.2)))
 
--- a player that was read
-pub record PlayerRead (whole : List ℕ) (at : ℕ) (read : Player × ℕ) : Type 0 where
-  pub within : read.1 ≤ length whole
-  pub takes : (ss : List Spelled) (end : ℕ) → Takes whole read.1 ss end → Takes whole at (number (player_number read.0) ∷ ss) end
-
-pub player_read : (whole : List ℕ) (at : ℕ) → at ≤ length whole → (read : Player × ℕ) → player_at whole at ≡ Ok read → PlayerRead whole at read
-unfolding player_at
-player_read whole at within read e =
-    then_ok (token_where (is_player whole) whole at) _ _ e (λ token e0 e.
-    let s = player_step whole at within token e0 in
-    let same : (player_of whole token, token.end) ≡ read = cc in
-    subst (PlayerRead whole at) same (record { within = s.within; takes = λ ss end rest. (token, s, rest) }))
-
--- the prologue that was read
-pub record PrologueRead (whole : List ℕ) (at : ℕ) (read : Prologue × ℕ) : Type 0 where
-  pub title : List ℕ
-  pub one : List ℕ
-  pub two : List ℕ
-  pub insides : IsInside title × IsInside one × IsInside two
-  pub takes : Takes whole at (prologue title one two) read.1
-  pub within : read.1 ≤ length whole
-  pub stands_for : read.0 ≡ record { title = unescaped title; one = unescaped one; two = unescaped two }
-
-pub prologue_read : (whole : List ℕ) (at : ℕ) → at ≤ length whole → (read : Prologue × ℕ) → prologue_at whole at ≡ Ok read → PrologueRead whole at read
-unfolding prologue_at
-prologue_read whole at within read e =
-    then_ok (token_where (is_exact kinds.Word (codes "EFG") whole) whole at) _ _ e (λ marker e0 e.
-    then_ok (token_where (is_exact kinds.Number (codes "2") whole) whole marker.end) _ _ e (λ version e1 e.
-    then_ok (token_where (is_exact kinds.Word (codes "R") whole) whole version.end) _ _ e (λ numbers e2 e.
-    then_ok (text_at whole numbers.end) _ _ e (λ title e3 e.
-    then_ok (token_where (is_token kinds.Open whole) whole title.1) _ _ e (λ opening e4 e.
-    then_ok (text_at whole opening.end) _ _ e (λ one e5 e.
-    then_ok (text_at whole one.1) _ _ e (λ two e6 e.
-    then_ok (token_where (is_token kinds.Close whole) whole two.1) _ _ e (λ closing e7 e.
-    let s0 = exact_step whole at within marker kinds.Word (codes "EFG") (λ clash. cc) e0 in
-    let s1 = exact_step whole marker.end s0.within version kinds.Number (codes "2") (λ clash. cc) e1 in
-    let s2 = exact_step whole version.end s1.within numbers kinds.Word (codes "R") (λ clash. cc) e2 in
-    let s3 = text_read whole numbers.end s2.within title e3 in
-    let s4 = open_step whole title.1 s3.within opening e4 in
-    let s5 = text_read whole opening.end s4.within one e5 in
-    let s6 = text_read whole one.1 s5.within two e6 in
-    let s7 = close_step whole two.1 s6.within closing e7 in
-    let from_second : Takes whole one.1 (text s6.inside ∷ close_brace ∷ []) closing.end = s6.takes (close_brace ∷ []) closing.end (closing, s7, refl) in
-    let from_names : Takes whole title.1 (open_brace ∷ text s5.inside ∷ text s6.inside ∷ close_brace ∷ []) closing.end = (opening, s4, s5.takes (text s6.inside ∷ close_brace ∷ []) closing.end from_second) in
-    let from_title = s3.takes (open_brace ∷ text s5.inside ∷ text s6.inside ∷ close_brace ∷ []) closing.end from_names in
-    let same : (record { title = title.0; one = one.0; two = two.0 }, closing.end) ≡ read = cc in
-    subst (PrologueRead whole at) same (record {
-      title = s3.inside;
-      one = s5.inside;
-      two = s6.inside;
-      insides = (s3.is_inside, s5.is_inside, s6.is_inside);
-      takes = (marker, s0, (version, s1, (numbers, s2, from_title)));
-      within = s7.within;
-      stands_for = (λ i. record { title = s3.stands_for i; one = s5.stands_for i; two = s6.stands_for i });
-    })))))))))
-
--- actions that were read, of which so many could still come, behind `count` others
-pub record ActionsRead (whole : List ℕ) (at left count : ℕ) (read : ℕ × ℕ) : Type 0 where
-  pub insides : List (List ℕ)
-  pub each : All IsInside insides
-  pub takes : Takes whole at (map text insides ++ close_brace ∷ []) read.1
-  pub within : read.1 ≤ length whole
-  pub total : read.0 ≡ count + length insides
-  pub limit : length insides ≤ left
-  pub some : 0 < left + count → 0 < read.0
-
--- no actions, and the closing brace
-closed : (whole : List ℕ) (at left count : ℕ) (l : Lexeme) → Step whole at l close_brace → (0 < left + count → 0 < count) → ActionsRead whole at left count (count, l.end)
-closed whole at left count l step some = record {
-  insides = [];
-  each = All-nil IsInside;
-  takes = (l, step, refl);
-  within = step.within;
-  total = omega arith;
-  limit = omega arith;
-  some = some;
-}
-
--- one more action, or the closing brace
-action_or_close : (left count : ℕ) (whole : List ℕ) (at : ℕ) → at ≤ length whole → (read : ℕ × ℕ) (b : Bool) (token : Lexeme) → is_kind kinds.Text token.kind ≡ b → next_from whole at ≡ Ok token → (b || (is_kind kinds.Close token.kind && ltb 0 count)) ≡ true → cond b (actions_from left (count + 1) whole token.end) (Ok (count, token.end)) ≡ Ok read → (token.end ≤ length whole → actions_from left (count + 1) whole token.end ≡ Ok read → ActionsRead whole token.end left (count + 1) read) → ActionsRead whole at (suc left) count read
-action_or_close left count whole at within read true token is next passes e again =
-    let here = text_here whole at within token next (is_kind-true kinds.Text token.kind is) in
-    let rest = again here.2.within e in
-    record {
-      insides = here.0 ∷ rest.insides;
-      each = All-cons IsInside here.0 rest.insides here.1 rest.each;
-      takes = (token, here.2, rest.takes);
-      within = rest.within;
-      total = omega (arith, rest.total);
-      limit = omega (arith, rest.limit);
-      some = λ _. rest.some (omega arith);
-    }
-action_or_close left count whole at within read false token is next passes e again =
-    let same : (count, token.end) ≡ read = cc in
-    let closes = is_kind-true kinds.Close token.kind (and_left _ _ passes) in
-    let some : 0 < count = ltb-true 0 count (and_right _ _ passes) in
-    subst (ActionsRead whole at (suc left) count) same (closed whole at (suc left) count token (close_here whole at within token next closes) (λ _. some))
-
-pub actions_read : (left count : ℕ) (whole : List ℕ) (at : ℕ) → at ≤ length whole → (read : ℕ × ℕ) → actions_from left count whole at ≡ Ok read → ActionsRead whole at left count read
-unfolding actions_from
-actions_read zero count whole at within read e =
-    then_ok (token_where (is_token kinds.Close whole) whole at) _ _ e (λ closing e0 e.
-    let same : (count, closing.end) ≡ read = cc in
-    subst (ActionsRead whole at 0 count) same (closed whole at 0 count closing (close_step whole at within closing e0) (λ some. omega (arith, some))))
-actions_read (suc left) count whole at within read e =
-    then_ok (token_where (is_action count whole) whole at) _ _ e (λ token e0 e.
-    let found = token_ok (is_action count whole) whole at token e0 in
-    action_or_close left count whole at within read (is_kind kinds.Text token.kind) token refl found.0 found.1 e (λ inner. actions_read left (count + 1) whole token.end inner read))
-
--- an entry that was read, behind other nodes
-pub record EntryRead (whole : List ℕ) (at : ℕ) (before : List Node) (read : Node × ℕ) : Type 0 where
-  pub entry : Entry
-  pub is_entry : IsEntry before entry read.0
-  pub takes : Takes whole at (tokens_of entry) read.1
-  pub within : read.1 ≤ length whole
-
-pub record PersonalRead (whole : List ℕ) (at : ℕ) (before : List Node) (read : Node × ℕ) : Type 0 where
-  pub name : List ℕ
-  pub player : Player
-  pub set : List ℕ
-  pub set_name : List ℕ
-  pub actions : List (List ℕ)
-  pub is_personal : IsPersonal before name player set set_name actions
-  pub node_is : read.0 ≡ personal (counts_of before) player (length actions)
-  pub takes : Takes whole at (text name ∷ number (player_number player) ∷ number set ∷ text set_name ∷ open_brace ∷ (map text actions ++ close_brace ∷ number (codes "0") ∷ [])) read.1
-  pub within : read.1 ≤ length whole
-
-most_actions_is : most_actions ≡ 1024
-unfolding most_actions
-most_actions_is = refl
-
--- a player's next set is one more than the entries so far
-next_set : (before : List Node) (player : Player) (bytes : List ℕ) → Writes bytes (of_player player (counts_of before) + 1) → Writes bytes (entries_of (kind_of player) before + 1)
-next_set before players.One bytes writes = writes
-next_set before players.Two bytes writes = writes
-
-personal_read : (whole : List ℕ) (at : ℕ) → at ≤ length whole → (before : List Node) (read : Node × ℕ) → personal_at (counts_of before) whole at ≡ Ok read → PersonalRead whole at before read
-unfolding personal_at
-personal_read whole at within before read e =
-    then_ok (token_where (is_token kinds.Text whole) whole at) _ _ e (λ name e0 e.
-    then_ok (player_at whole name.end) _ _ e (λ player e1 e.
-    then_ok (token_where (is_count (of_player player.0 (counts_of before) + 1) whole) whole player.1) _ _ e (λ set e2 e.
-    then_ok (token_where (is_token kinds.Text whole) whole set.end) _ _ e (λ set_name e3 e.
-    then_ok (token_where (is_token kinds.Open whole) whole set_name.end) _ _ e (λ opening e4 e.
-    then_ok (actions_from most_actions 0 whole opening.end) _ _ e (λ actions e5 e.
-    then_ok (token_where (is_exact kinds.Number (codes "0") whole) whole actions.1) _ _ e (λ outcome e6 e.
-    let s0 = text_step whole at within name e0 in
-    let s1 = player_read whole name.end s0.2.within player e1 in
-    let s2 = count_step whole player.1 s1.within set (of_player player.0 (counts_of before) + 1) e2 in
-    let s3 = text_step whole set.end s2.2.within set_name e3 in
-    let s4 = open_step whole set_name.end s3.2.within opening e4 in
-    let s5 = actions_read most_actions 0 whole opening.end s4.within actions e5 in
-    let s6 = exact_step whole actions.1 s5.within outcome kinds.Number (codes "0") (λ clash. cc) e6 in
-    let same : (personal (counts_of before) player.0 actions.0, outcome.end) ≡ read = cc in
-    let limit : most_actions ≡ 1024 = most_actions_is in
-    let total : actions.0 ≡ length s5.insides = omega (arith, s5.total) in
-    let behind : Takes whole opening.end (map text s5.insides ++ close_brace ∷ number (codes "0") ∷ []) outcome.end =
-    subst (λ ss. Takes whole opening.end ss outcome.end) (append_assoc (map text s5.insides) (close_brace ∷ []) (number (codes "0") ∷ [])) (Takes-append whole opening.end (map text s5.insides ++ close_brace ∷ []) (number (codes "0") ∷ []) actions.1 outcome.end s5.takes (outcome, s6, refl)) in
-    let from_set : Takes whole player.1 (number s2.0 ∷ text s3.0 ∷ open_brace ∷ (map text s5.insides ++ close_brace ∷ number (codes "0") ∷ [])) outcome.end = (set, s2.2, (set_name, s3.2, (opening, s4, behind))) in
-    subst (PersonalRead whole at before) same (record {
-      name = s0.0;
-      player = player.0;
-      set = s2.0;
-      set_name = s3.0;
-      actions = s5.insides;
-      is_personal = record {
-        name_inside = s0.1;
-        set_number = next_set before player.0 s2.0 s2.1;
-        set_name_inside = s3.1;
-        actions_inside = s5.each;
-        some_action = omega (arith, s5.some (omega arith), total);
-        limit = omega (arith, s5.limit);
-      };
-      node_is = ap (λ n. personal (counts_of before) player.0 n) total;
-      takes = (name, s0.2, s1.takes (number s2.0 ∷ text s3.0 ∷ open_brace ∷ (map text s5.insides ++ close_brace ∷ number (codes "0") ∷ [])) outcome.end from_set);
-      within = s6.within;
-    }))))))))
-
-pub record TerminalRead (whole : List ℕ) (at : ℕ) (before : List Node) (read : Node × ℕ) : Type 0 where
-  pub name : List ℕ
-  pub outcome : List ℕ
-  pub first : List ℕ
-  pub second : List ℕ
-  pub is_terminal : IsTerminal before name outcome first second
-  pub node_is : read.0 ≡ terminal (counts_of before)
-  pub takes : Takes whole at (text name ∷ number outcome ∷ open_brace ∷ number first ∷ comma ∷ number second ∷ close_brace ∷ []) read.1
-  pub within : read.1 ≤ length whole
-
-terminal_read : (whole : List ℕ) (at : ℕ) → at ≤ length whole → (before : List Node) (read : Node × ℕ) → terminal_at (counts_of before) whole at ≡ Ok read → TerminalRead whole at before read
-unfolding terminal_at
-terminal_read whole at within before read e =
-    then_ok (token_where (is_token kinds.Text whole) whole at) _ _ e (λ name e0 e.
-    then_ok (token_where (is_count (entries_of Leaf before + 1) whole) whole name.end) _ _ e (λ outcome e1 e.
-    then_ok (token_where (is_token kinds.Open whole) whole outcome.end) _ _ e (λ opening e2 e.
-    then_ok (token_where (is_payoff whole) whole opening.end) _ _ e (λ first e3 e.
-    then_ok (token_where (is_token kinds.Comma whole) whole first.end) _ _ e (λ between e4 e.
-    then_ok (token_where (is_payoff whole) whole between.end) _ _ e (λ second e5 e.
-    then_ok (token_where (is_token kinds.Close whole) whole second.end) _ _ e (λ closing e6 e.
-    let s0 = text_step whole at within name e0 in
-    let s1 = count_step whole name.end s0.2.within outcome (entries_of Leaf before + 1) e1 in
-    let s2 = open_step whole outcome.end s1.2.within opening e2 in
-    let s3 = payoff_step whole opening.end s2.within first e3 in
-    let s4 = comma_step whole first.end s3.2.within between e4 in
-    let s5 = payoff_step whole between.end s4.within second e5 in
-    let s6 = close_step whole second.end s5.2.within closing e6 in
-    let same : (terminal (counts_of before), closing.end) ≡ read = cc in
-    subst (TerminalRead whole at before) same (record {
-      name = s0.0;
-      outcome = s1.0;
-      first = s3.0;
-      second = s5.0;
-      is_terminal = record { name_inside = s0.1; outcome_number = s1.1; first_payoff = s3.1; second_payoff = s5.1 };
-      node_is = refl;
-      takes = (name, s0.2, (outcome, s1.2, (opening, s2, (first, s3.2, (between, s4, (second, s5.2, (closing, s6, refl)))))));
-      within = s6.within;
-    }))))))))
-
-pub entry_read : (whole : List ℕ) (at : ℕ) → at ≤ length whole → (before : List Node) (read : Node × ℕ) → entry_at (counts_of before) whole at ≡ Ok read → EntryRead whole at before read
-unfolding entry_at
-entry_read whole at within before read e =
-    then_ok (token_where (begins_entry whole) whole at) _ _ e (λ head e0 e.
-    let found = token_ok (begins_entry whole) whole at head e0 in
-    chosen (is_exact kinds.Word (codes "p") whole head) head refl found.0 found.1 e)
+pub name_read : (whole : List ℕ) (at : ℕ) → at ≤ length whole → (read : Option (List ℕ) × ℕ) → name_at whole at ≡ Ok read → Read whole at read.1 (IsName read.0)
+unfolding name_at
+name_read whole at within read e = chosen (next_is mark whole at) e
   where
-    chosen : (b : Bool) (head : Lexeme) → is_exact kinds.Word (codes "p") whole head ≡ b → next_from whole at ≡ Ok head → (b || is_exact kinds.Word (codes "t") whole head) ≡ true → cond b (personal_at (counts_of before) whole head.end) (terminal_at (counts_of before) whole head.end) ≡ Ok read → EntryRead whole at before read
-    chosen true head is next passes e =
-        let step = exact_here whole at within head kinds.Word (codes "p") (λ clash. cc) next is in
-        let rest = personal_read whole head.end step.within before read e in
-        record { entry = Personal rest.name rest.player rest.set rest.set_name rest.actions; is_entry = (rest.is_personal, rest.node_is); takes = (head, step, rest.takes); within = rest.within }
-    chosen false head is next passes e =
-        let step = exact_here whole at within head kinds.Word (codes "t") (λ clash. cc) next passes in
-        let rest = terminal_read whole head.end step.within before read e in
-        record { entry = Terminal rest.name rest.outcome rest.first rest.second; is_entry = (rest.is_terminal, rest.node_is); takes = (head, step, rest.takes); within = rest.within }
+    chosen : (b : Bool) → cond b (text_at whole at >>= λ text. Ok (Some text.0, text.1)) (Ok (None, at)) ≡ Ok read → Read whole at read.1 (IsName read.0)
+    chosen true e =
+        then_ok (text_at whole at) _ _ e (λ text e0 e.
+        let same : (Some text.0, text.1) ≡ read = cc in
+        subst (λ (r : Option (List ℕ) × ℕ). Read whole at r.1 (IsName r.0)) same (text_read whole at within text e0))
+    chosen false e =
+        let same : (None, at) ≡ read = cc in
+        subst (λ (r : Option (List ℕ) × ℕ). Read whole at r.1 (IsName r.0)) same (read_none whole at within)
 
--- entries that were read behind others, of which so many could still come
-pub record EntriesRead (whole : List ℕ) (at left : ℕ) (before : List Node) (read : List Node × ℕ) : Type 0 where
-  pub entries : List Entry
-  pub nodes : List Node
-  pub are : AreEntries before entries nodes
-  pub all : read.0 ≡ before ++ nodes
-  pub limit : length nodes ≤ left
-  pub takes : Takes whole at (flat_map tokens_of entries) read.1
-  pub within : read.1 ≤ length whole
-  pub whole_tree : IsWhole read.0
+-- a number that was read, with its bytes
+pub record NumberRead {A : Type 0} (as_read : List ℕ → Result A NumberFault) (whole : List ℕ) (at : ℕ) (read : A × ℕ) : Type 0 where
+  pub bytes : List ℕ
+  pub ok : as_read bytes ≡ Ok read.0
+  pub taken : Read whole at read.1 (IsOne (number bytes))
 
--- no token passes the test that none passes
-nothing_read : {A : Type 0} (whole : List ℕ) (at : ℕ) (read : A) → nothing_at whole at ≡ Ok read → ⊥
-nothing_read whole at read e = then_ok (token_where (λ _. false) whole at) _ _ e (λ token e0 e. cc)
+numbered_ok : {A : Type 0} (token : Lexeme) (r : Result A NumberFault) (read : A × ℕ) → numbered token r ≡ Ok read → (r ≡ Ok read.0) × (token.end ≡ read.1)
+numbered_ok token (Ok n) read e = let same : (n, token.end) ≡ read = cc in (ap (λ x. Ok x.0) same, ap (λ x. x.1) same)
+numbered_ok token (Err fault) read e = absurd cc
 
-whole_here : (whole : List ℕ) (at left : ℕ) → at ≤ length whole → (before : List Node) → Begins 1 before → wanted 1 before ≡ 0 → EntriesRead whole at left before (before, at)
-whole_here whole at left within before begins ends = record {
-  entries = [];
-  nodes = [];
-  are = tt;
-  all = sym (append-nil before);
-  limit = omega arith;
-  takes = refl;
-  within = within;
-  whole_tree = record { begins = begins; ends = ends };
-}
-
-last_entries : (whole : List ℕ) (at : ℕ) → at ≤ length whole → (before : List Node) (read : List Node × ℕ) (b : Bool) → eqb (wanted 1 before) 0 ≡ b → Begins 1 before → cond b (Ok (before, at)) (nothing_at whole at) ≡ Ok read → EntriesRead whole at 0 before read
-last_entries whole at within before read true is begins e =
-    let same : (before, at) ≡ read = cc in
-    subst (EntriesRead whole at 0 before) same (whole_here whole at 0 within before begins (eqb-true _ 0 is))
-last_entries whole at within before read false is begins e = absurd (nothing_read whole at read e)
-
-more_entries : (left : ℕ) (whole : List ℕ) (at : ℕ) → at ≤ length whole → (before : List Node) (read : List Node × ℕ) (b : Bool) → eqb (wanted 1 before) 0 ≡ b → Begins 1 before
-    → cond b (Ok (before, at)) (entry_at (counts_of before) whole at >>= λ entry. entries_from left (before ++ entry.0 ∷ []) whole entry.1) ≡ Ok read
-    → ((entry : Node × ℕ) → entry.1 ≤ length whole → Begins 1 (before ++ entry.0 ∷ []) → entries_from left (before ++ entry.0 ∷ []) whole entry.1 ≡ Ok read → EntriesRead whole entry.1 left (before ++ entry.0 ∷ []) read)
-    → EntriesRead whole at (suc left) before read
-more_entries left whole at within before read true is begins e again =
-    let same : (before, at) ≡ read = cc in
-    subst (EntriesRead whole at (suc left) before) same (whole_here whole at (suc left) within before begins (eqb-true _ 0 is))
-more_entries left whole at within before read false is begins e again =
-    then_ok (entry_at (counts_of before) whole at) _ _ e (λ entry e0 e.
-    let here = entry_read whole at within before entry e0 in
-    let some : 0 < wanted 1 before = omega (arith, eqb-false _ 0 is) in
-    let rest = again entry here.within (Begins-append 1 before (entry.0 ∷ []) begins (some, tt)) e in
+pub number_read : {A : Type 0} (as_read : List ℕ → Result A NumberFault) (whole : List ℕ) (at : ℕ) → at ≤ length whole → (read : A × ℕ) → number_at as_read whole at ≡ Ok read → NumberRead as_read whole at read
+number_read as_read whole at within read e =
+    then_ok (token_where (is_token kinds.Number whole) whole at) _ _ e (λ token e0 e.
+    let found = numbered_ok token (as_read (bytes_at whole token)) read e in
     record {
-      entries = here.entry ∷ rest.entries;
-      nodes = entry.0 ∷ rest.nodes;
-      are = (here.is_entry, rest.are);
-      all = rest.all ∙ append_assoc before (entry.0 ∷ []) rest.nodes;
-      limit = omega (arith, rest.limit);
-      takes = Takes-append whole at (tokens_of here.entry) (flat_map tokens_of rest.entries) entry.1 read.1 here.takes rest.takes;
-      within = rest.within;
-      whole_tree = rest.whole_tree;
+      bytes = bytes_at whole token;
+      ok = found.0;
+      taken = subst (λ n. Read whole at n (IsOne (number (bytes_at whole token)))) found.1 (read_one whole at token (number (bytes_at whole token)) (number_step whole at within token e0));
     })
 
-pub entries_read : (left : ℕ) (whole : List ℕ) (at : ℕ) → at ≤ length whole → (before : List Node) (read : List Node × ℕ) → Begins 1 before → entries_from left before whole at ≡ Ok read → EntriesRead whole at left before read
-unfolding entries_from
-entries_read zero whole at within before read begins e = last_entries whole at within before read (eqb (wanted 1 before) 0) refl begins e
-entries_read (suc left) whole at within before read begins e =
-    more_entries left whole at within before read (eqb (wanted 1 before) 0) refl begins e (λ entry inner next. entries_read left whole entry.1 inner (before ++ entry.0 ∷ []) read next)
+pub literal_read : (whole : List ℕ) (at : ℕ) → at ≤ length whole → (read : Fraction × ℕ) → literal_at whole at ≡ Ok read → Read whole at read.1 (IsFraction read.0)
+unfolding literal_at
+literal_read whole at within read e =
+    let r = number_read read_as_literal whole at within read e in
+    read_as whole at read.1 (IsOne (number r.bytes)) (IsFraction read.0) (λ tokens rest one. record { bytes = r.bytes; literal = ((read_as_literal-judged r.bytes).value read.0).0 r.ok; spelling = one }) r.taken
+
+-- a whole number's bytes
+whole_ok : (bytes : List ℕ) (n : ℕ) (tokens rest : List Spelled) → read_as_whole bytes ≡ Ok n → IsOne (number bytes) tokens rest → IsWholeNumber n tokens rest
+unfolding read_as_whole
+whole_ok bytes n tokens rest e one = chosen (is_numeral bytes) (nat_le (number_of bytes) most) refl refl e
+  where
+    chosen : (b c : Bool) → is_numeral bytes ≡ b → nat_le (number_of bytes) most ≡ c → cond b (cond c (Ok (number_of bytes)) (Err Range)) (Err Form) ≡ Ok n → IsWholeNumber n tokens rest
+    chosen true true numeral limit e =
+        let same : number_of bytes ≡ n = cc in
+        record { digits = bytes; numeral = numeral; value = same; limit = subst (λ k. k ≤ 2 ^ 62) same (leb-true (number_of bytes) most limit); spelling = one }
+    chosen true false numeral limit e = absurd cc
+    chosen false c numeral limit e = absurd cc
+
+pub whole_read : (whole : List ℕ) (at : ℕ) → at ≤ length whole → (read : ℕ × ℕ) → whole_at whole at ≡ Ok read → Read whole at read.1 (IsWholeNumber read.0)
+unfolding whole_at
+whole_read whole at within read e =
+    let r = number_read read_as_whole whole at within read e in
+    read_as whole at read.1 (IsOne (number r.bytes)) (IsWholeNumber read.0) (λ tokens rest one. whole_ok r.bytes read.0 tokens rest r.ok one) r.taken
+
+from_one_ok : (r : Result ℕ NumberFault) (n : ℕ) → from_one r ≡ Ok n → (r ≡ Ok n) × (1 ≤ n)
+from_one_ok (Ok zero) n e = absurd cc
+from_one_ok (Ok (suc k)) n e = let same : suc k ≡ n = cc in (e, omega arith)
+from_one_ok (Err fault) n e = absurd cc
+
+pub set_ok : (bytes : List ℕ) (n : ℕ) → read_as_set bytes ≡ Ok n → (read_as_whole bytes ≡ Ok n) × (1 ≤ n)
+unfolding read_as_set
+set_ok bytes n e = from_one_ok (read_as_whole bytes) n e
+
+pub set_number_read : (whole : List ℕ) (at : ℕ) → at ≤ length whole → (read : ℕ × ℕ) → set_number_at whole at ≡ Ok read → Read whole at read.1 (IsWholeNumber read.0) × (1 ≤ read.0)
+unfolding set_number_at
+set_number_read whole at within read e =
+    let r = number_read read_as_set whole at within read e in
+    let n = set_ok r.bytes read.0 r.ok in
+    (read_as whole at read.1 (IsOne (number r.bytes)) (IsWholeNumber read.0) (λ tokens rest one. whole_ok r.bytes read.0 tokens rest n.0 one) r.taken, n.1)
+
+pub chance_read : (kind : EntryKind) (whole : List ℕ) (at : ℕ) → at ≤ length whole → (read : Fraction × ℕ) → chance_at kind whole at ≡ Ok read → Read whole at read.1 (IsChance kind read.0)
+chance_read Chance whole at within read e = literal_read whole at within read e
+chance_read Personal whole at within read e =
+    let same : (zero_fraction, at) ≡ read = cc in
+    subst (λ (r : Fraction × ℕ). Read whole at r.1 (IsChance Personal r.0)) same (read_as whole at at IsNone (IsChance Personal zero_fraction) (λ tokens rest none. (refl, none)) (read_none whole at within))
+chance_read Leaf whole at within read e =
+    let same : (zero_fraction, at) ≡ read = cc in
+    subst (λ (r : Fraction × ℕ). Read whole at r.1 (IsChance Leaf r.0)) same (read_as whole at at IsNone (IsChance Leaf zero_fraction) (λ tokens rest none. (refl, none)) (read_none whole at within))
+
+-- Lists.
+
+-- an action's name, and its probability
+abbrev pub IsAction : EntryKind → Action → List Spelled → List Spelled → Type 0
+IsAction kind a tokens rest = Then (IsText a.name) (IsChance kind a.chance) tokens rest
+
+pub action_read : (kind : EntryKind) (whole : List ℕ) (at : ℕ) → at ≤ length whole → (read : Action × ℕ) → action_at kind whole at ≡ Ok read → Read whole at read.1 (IsAction kind read.0)
+unfolding action_at
+action_read kind whole at within read e =
+    then_ok (text_at whole at) _ _ e (λ name e0 e.
+    then_ok (chance_at kind whole name.1) _ _ e (λ chance e1 e.
+    let s0 = text_read whole at within name e0 in
+    let s1 = chance_read kind whole name.1 s0.within chance e1 in
+    let same : (record { name = name.0; chance = chance.0 }, chance.1) ≡ read = cc in
+    subst (λ (r : Action × ℕ). Read whole at r.1 (IsAction kind r.0)) same (read_then whole at name.1 chance.1 (IsText name.0) (IsChance kind chance.0) s0 s1)))
+
+-- the closing brace
+pub close_read : {A : Type 0} (value : A) (whole : List ℕ) (at : ℕ) → at ≤ length whole → (read : A × ℕ) → close_at value whole at ≡ Ok read → (read.0 ≡ value) × Read whole at read.1 (IsOne close_brace)
+unfolding close_at
+close_read value whole at within read e =
+    then_ok (token_where (is_token kinds.Close whole) whole at) _ _ e (λ token e0 e.
+    let same : (value, token.end) ≡ read = cc in
+    (ap (λ r. r.0) (sym same), subst (λ n. Read whole at n (IsOne close_brace)) (ap (λ r. r.1) same) (read_one whole at token close_brace (close_step whole at within token e0))))
+
+-- items that were read behind those that were done
+pub record ItemsRead {A : Type 0} (Are : List A → List Spelled → List Spelled → Type 0) (done : List A) (whole : List ℕ) (at : ℕ) (read : List A × ℕ) : Type 0 where
+  pub more : List A
+  pub all : read.0 ≡ done ++ more
+  pub taken : Read whole at read.1 (Are more)
+
+pub actions_read : (kind : EntryKind) (left : ℕ) (done : List Action) (whole : List ℕ) (at : ℕ) → at ≤ length whole → (read : List Action × ℕ) → actions_from kind left done whole at ≡ Ok read → ItemsRead (AreActions kind) done whole at read
+unfolding actions_from
+actions_read kind zero done whole at within read e = absurd cc
+actions_read kind (suc left) done whole at within read e =
+    chosen (next_is close_byte whole at) e (λ action inner e. actions_read kind left (done ++ action.0 ∷ []) whole action.1 inner read e)
+  where
+    chosen : (b : Bool) → cond b (close_at done whole at) (action_at kind whole at >>= λ action. actions_from kind left (done ++ action.0 ∷ []) whole action.1) ≡ Ok read
+        → ((action : Action × ℕ) → action.1 ≤ length whole → actions_from kind left (done ++ action.0 ∷ []) whole action.1 ≡ Ok read → ItemsRead (AreActions kind) (done ++ action.0 ∷ []) whole action.1 read)
+        → ItemsRead (AreActions kind) done whole at read
+    chosen true e again =
+        let closed = close_read done whole at within read e in
+        record { more = []; all = closed.0 ∙ sym (append-nil done); taken = closed.1 }
+    chosen false e again =
+        then_ok (action_at kind whole at) _ _ e (λ action e0 e.
+        let here = action_read kind whole at within action e0 in
+        let later = again action here.within e in
+        record {
+          more = action.0 ∷ later.more;
+          all = later.all ∙ append_assoc done (action.0 ∷ []) later.more;
+          taken = read_as whole at read.1 (Then (IsAction kind action.0) (AreActions kind later.more)) (AreActions kind (action.0 ∷ later.more)) (λ tokens rest both. (both.1.0, both.0, both.1.1, both.1.2, both.2))
+              (read_then whole at action.1 read.1 (IsAction kind action.0) (AreActions kind later.more) here later.taken);
+        })
+
+pub action_list_read : (kind : EntryKind) (whole : List ℕ) (at : ℕ) → at ≤ length whole → (read : Option (List Action) × ℕ) → actions_at kind whole at ≡ Ok read → Read whole at read.1 (IsActionList kind read.0)
+unfolding actions_at
+action_list_read kind whole at within read e = chosen (next_is open_byte whole at) e
+  where
+    chosen : (b : Bool) → cond b (token_where (is_token kinds.Open whole) whole at >>= λ opening. actions_from kind (length whole) [] whole opening.end >>= λ actions. Ok (Some actions.0, actions.1)) (Ok (None, at)) ≡ Ok read
+        → Read whole at read.1 (IsActionList kind read.0)
+    chosen true e =
+        then_ok (token_where (is_token kinds.Open whole) whole at) _ _ e (λ opening e0 e.
+        then_ok (actions_from kind (length whole) [] whole opening.end) _ _ e (λ actions e1 e.
+        let s0 = open_step whole at within opening e0 in
+        let s1 = actions_read kind (length whole) [] whole opening.end s0.within actions e1 in
+        let same : (Some actions.0, actions.1) ≡ read = cc in
+        subst (λ (r : Option (List Action) × ℕ). Read whole at r.1 (IsActionList kind r.0)) same
+        (read_then whole at opening.end actions.1 (IsOne open_brace) (AreActions kind actions.0) (read_one whole at opening open_brace s0)
+        (subst (λ as'. Read whole opening.end actions.1 (AreActions kind as')) (sym s1.all) s1.taken))))
+    chosen false e =
+        let same : (None, at) ≡ read = cc in
+        subst (λ (r : Option (List Action) × ℕ). Read whole at r.1 (IsActionList kind r.0)) same (read_none whole at within)
+
+-- payoffs behind those that are done
+abbrev pub ArePayoffsBehind : List Fraction → List Fraction → List Spelled → List Spelled → Type 0
+ArePayoffsBehind [] fs = ArePayoffs fs
+ArePayoffsBehind (_ ∷ _) fs = AreMorePayoffs fs
+
+-- a comma, or nothing
+abbrev pub MayPart : List Spelled → List Spelled → Type 0
+MayPart tokens parted = (tokens ≡ parted) ⊎ (tokens ≡ comma ∷ parted)
+
+abbrev pub IsParted : List Fraction → List Spelled → List Spelled → Type 0
+IsParted [] = IsNone
+IsParted (_ ∷ _) = MayPart
+
+comma_read : (done : List Fraction) (whole : List ℕ) (at : ℕ) → at ≤ length whole → (read : ℕ) → comma_at done whole at ≡ Ok read → Read whole at read (IsParted done)
+comma_read [] whole at within read e = let same : at ≡ read = cc in subst (λ n. Read whole at n IsNone) same (read_none whole at within)
+comma_read (d ∷ ds) whole at within read e = chosen (next_is comma_byte whole at) e
+  where
+    chosen : (b : Bool) → cond b (token_where (is_token kinds.Comma whole) whole at >>= λ token. Ok token.end) (Ok at) ≡ Ok read → Read whole at read MayPart
+    chosen true e =
+        then_ok (token_where (is_token kinds.Comma whole) whole at) _ _ e (λ token e0 e.
+        let same : token.end ≡ read = cc in
+        subst (λ n. Read whole at n MayPart) same (read_as whole at token.end (IsOne comma) MayPart (λ tokens rest one. inr one) (read_one whole at token comma (comma_step whole at within token e0))))
+    chosen false e = let same : at ≡ read = cc in subst (λ n. Read whole at n MayPart) same (read_as whole at at IsNone MayPart (λ tokens rest none. inl none) (read_none whole at within))
+
+-- a payoff behind those that are done
+abbrev pub IsPayoff : List Fraction → Fraction → List Spelled → List Spelled → Type 0
+IsPayoff done f = Then (IsParted done) (IsFraction f)
+
+pub payoff_read : (done : List Fraction) (whole : List ℕ) (at : ℕ) → at ≤ length whole → (read : Fraction × ℕ) → payoff_at done whole at ≡ Ok read → Read whole at read.1 (IsPayoff done read.0)
+unfolding payoff_at
+payoff_read done whole at within read e =
+    then_ok (comma_at done whole at) _ _ e (λ start e0 e.
+    let s0 = comma_read done whole at within start e0 in
+    read_then whole at start read.1 (IsParted done) (IsFraction read.0) s0 (literal_read whole start s0.within read e))
+
+-- one more payoff
+payoff_more : (done : List Fraction) (f : Fraction) (fs : List Fraction) (tokens rest : List Spelled) → Then (IsPayoff done f) (ArePayoffsBehind (done ++ f ∷ []) fs) tokens rest → ArePayoffsBehind done (f ∷ fs) tokens rest
+payoff_more [] f fs tokens rest both = (both.0, subst (λ ss. IsFraction f ss both.0) (sym both.1.1) both.1.2, both.2)
+payoff_more (d ∷ ds) f fs tokens rest both = (both.1.0, both.0, both.1.1, both.1.2, both.2)
+
+no_more : (done : List Fraction) (tokens rest : List Spelled) → IsOne close_brace tokens rest → ArePayoffsBehind done [] tokens rest
+no_more [] tokens rest one = one
+no_more (d ∷ ds) tokens rest one = one
+
+pub payoffs_read : (left : ℕ) (done : List Fraction) (whole : List ℕ) (at : ℕ) → at ≤ length whole → (read : List Fraction × ℕ) → payoffs_from left done whole at ≡ Ok read → ItemsRead (ArePayoffsBehind done) done whole at read
+unfolding payoffs_from
+payoffs_read zero done whole at within read e = absurd cc
+payoffs_read (suc left) done whole at within read e =
+    chosen (next_is close_byte whole at) e (λ payoff inner e. payoffs_read left (done ++ payoff.0 ∷ []) whole payoff.1 inner read e)
+  where
+    chosen : (b : Bool) → cond b (close_at done whole at) (payoff_at done whole at >>= λ payoff. payoffs_from left (done ++ payoff.0 ∷ []) whole payoff.1) ≡ Ok read
+        → ((payoff : Fraction × ℕ) → payoff.1 ≤ length whole → payoffs_from left (done ++ payoff.0 ∷ []) whole payoff.1 ≡ Ok read → ItemsRead (ArePayoffsBehind (done ++ payoff.0 ∷ [])) (done ++ payoff.0 ∷ []) whole payoff.1 read)
+        → ItemsRead (ArePayoffsBehind done) done whole at read
+    chosen true e again =
+        let closed = close_read done whole at within read e in
+        record { more = []; all = closed.0 ∙ sym (append-nil done); taken = read_as whole at read.1 (IsOne close_brace) (ArePayoffsBehind done []) (no_more done) closed.1 }
+    chosen false e again =
+        then_ok (payoff_at done whole at) _ _ e (λ payoff e0 e.
+        let here = payoff_read done whole at within payoff e0 in
+        let later = again payoff here.within e in
+        record {
+          more = payoff.0 ∷ later.more;
+          all = later.all ∙ append_assoc done (payoff.0 ∷ []) later.more;
+          taken = read_as whole at read.1 (Then (IsPayoff done payoff.0) (ArePayoffsBehind (done ++ payoff.0 ∷ []) later.more)) (ArePayoffsBehind done (payoff.0 ∷ later.more)) (payoff_more done payoff.0 later.more)
+              (read_then whole at payoff.1 read.1 (IsPayoff done payoff.0) (ArePayoffsBehind (done ++ payoff.0 ∷ []) later.more) here later.taken);
+        })
+
+pub payoff_list_read : (whole : List ℕ) (at : ℕ) → at ≤ length whole → (read : Option (List Fraction) × ℕ) → payoffs_at whole at ≡ Ok read → Read whole at read.1 (IsPayoffList read.0)
+unfolding payoffs_at
+payoff_list_read whole at within read e = chosen (next_is open_byte whole at) e
+  where
+    chosen : (b : Bool) → cond b (token_where (is_token kinds.Open whole) whole at >>= λ opening. payoffs_from (length whole) [] whole opening.end >>= λ payoffs. Ok (Some payoffs.0, payoffs.1)) (Ok (None, at)) ≡ Ok read
+        → Read whole at read.1 (IsPayoffList read.0)
+    chosen true e =
+        then_ok (token_where (is_token kinds.Open whole) whole at) _ _ e (λ opening e0 e.
+        then_ok (payoffs_from (length whole) [] whole opening.end) _ _ e (λ payoffs e1 e.
+        let s0 = open_step whole at within opening e0 in
+        let s1 = payoffs_read (length whole) [] whole opening.end s0.within payoffs e1 in
+        let same : (Some payoffs.0, payoffs.1) ≡ read = cc in
+        subst (λ (r : Option (List Fraction) × ℕ). Read whole at r.1 (IsPayoffList r.0)) same
+        (read_then whole at opening.end payoffs.1 (IsOne open_brace) (ArePayoffs payoffs.0) (read_one whole at opening open_brace s0)
+        (subst (λ fs. Read whole opening.end payoffs.1 (ArePayoffs fs)) (sym s1.all) s1.taken))))
+    chosen false e =
+        let same : (None, at) ≡ read = cc in
+        subst (λ (r : Option (List Fraction) × ℕ). Read whole at r.1 (IsPayoffList r.0)) same (read_none whole at within)
+
+-- Sets and outcomes.
+
+pub set_mention_read : (kind : EntryKind) (whole : List ℕ) (at : ℕ) → at ≤ length whole → (read : SetMention × ℕ) → set_mention_at kind whole at ≡ Ok read → Read whole at read.1 (IsSet kind read.0)
+unfolding set_mention_at
+set_mention_read kind whole at within read e =
+    then_ok (set_number_at whole at) _ _ e (λ n e0 e.
+    then_ok (name_at whole n.1) _ _ e (λ name e1 e.
+    then_ok (actions_at kind whole name.1) _ _ e (λ actions e2 e.
+    let s0 = set_number_read whole at within n e0 in
+    let s1 = name_read whole n.1 s0.0.within name e1 in
+    let s2 = action_list_read kind whole name.1 s1.within actions e2 in
+    let mention : SetMention = record { number = n.0; name = name.0; actions = actions.0 } in
+    let same : (mention, actions.1) ≡ read = cc in
+    let behind = read_then whole n.1 name.1 actions.1 (IsName name.0) (IsActionList kind actions.0) s1 s2 in
+    subst (λ (r : SetMention × ℕ). Read whole at r.1 (IsSet kind r.0)) same
+    (read_as whole at actions.1 (Then (IsWholeNumber n.0) (Then (IsName name.0) (IsActionList kind actions.0))) (IsSet kind mention)
+    (λ tokens rest t. record { numbered = t.0; named = t.2.0; number = t.1; from_one = s0.1; name = t.2.1; actions = t.2.2 })
+    (read_then whole at n.1 actions.1 (IsWholeNumber n.0) (Then (IsName name.0) (IsActionList kind actions.0)) s0.0 behind)))))
+
+pub outcome_mention_read : (whole : List ℕ) (at : ℕ) → at ≤ length whole → (read : OutcomeMention × ℕ) → outcome_mention_at whole at ≡ Ok read → Read whole at read.1 (IsOutcome read.0)
+unfolding outcome_mention_at
+outcome_mention_read whole at within read e =
+    then_ok (whole_at whole at) _ _ e (λ n e0 e.
+    then_ok (name_at whole n.1) _ _ e (λ name e1 e.
+    then_ok (payoffs_at whole name.1) _ _ e (λ payoffs e2 e.
+    let s0 = whole_read whole at within n e0 in
+    let s1 = name_read whole n.1 s0.within name e1 in
+    let s2 = payoff_list_read whole name.1 s1.within payoffs e2 in
+    let mention : OutcomeMention = record { number = n.0; name = name.0; payoffs = payoffs.0 } in
+    let same : (mention, payoffs.1) ≡ read = cc in
+    let behind = read_then whole n.1 name.1 payoffs.1 (IsName name.0) (IsPayoffList payoffs.0) s1 s2 in
+    subst (λ (r : OutcomeMention × ℕ). Read whole at r.1 (IsOutcome r.0)) same
+    (read_as whole at payoffs.1 (Then (IsWholeNumber n.0) (Then (IsName name.0) (IsPayoffList payoffs.0))) (IsOutcome mention)
+    (λ tokens rest t. record { numbered = t.0; named = t.2.0; number = t.1; name = t.2.1; payoffs = t.2.2 })
+    (read_then whole at n.1 payoffs.1 (IsWholeNumber n.0) (Then (IsName name.0) (IsPayoffList payoffs.0)) s0 behind)))))

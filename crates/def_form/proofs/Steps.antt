@@ -1,8 +1,8 @@
 -- Reading token by token: what each test of a token says, and the tokens that a reading takes.
-use Rattle.std.proofs.Common.{◌≡◌, ◌≢◌, ℕ, ◌≤◌, Bool, true, false, cond, eqb, ◌&&◌, ◌||◌, List, [], ◌∷◌, ◌++◌, length, drop, Result, Ok, Err, sym, refl, ap, ◌∙◌, subst, ◌⊎◌, inl, inr}
+use Rattle.std.proofs.Common.{◌≡◌, ◌≢◌, ℕ, ◌≤◌, Bool, true, false, cond, ◌&&◌, ◌||◌, List, [], ◌∷◌, ◌++◌, length, drop, Result, Ok, Err, sym, refl, ap, ◌∙◌, subst, ◌⊎◌, inl, inr, append_assoc}
 use Rattle.std.specs.Prelude.{codes, nat_eq}
 use Rattle.std.specs.Cmp.Lexicographic.{pointwise}
-use Rattle.std.proofs.lemmas.Bool.{eqb-true, leb-true}
+use Rattle.std.proofs.lemmas.Bool.{eqb-true}
 use Rattle.def_tokens.specs.declared.Token.{Token}
 use Rattle.def_tokens.specs.declared.Token.TheVariants as kinds
 use Rattle.def_tokens.specs.declared.Lexeme.{Lexeme}
@@ -13,11 +13,13 @@ use Rattle.def_tokens.specs.Texts.{IsInside, unescaped}
 use Rattle.def_tokens.specs.Spelling.{IsToken, IsText}
 use Rattle.def_tokens.proofs.TokenLemmas.{next_from-sound}
 use Rattle.def_tokens.proofs.TextLemmas.{slice_range-inner}
-use Rattle.def_player.specs.declared.Player.TheVariants as players
 use Rattle.def_file.specs.declared.FileFault.{FileFault}
-use Rattle.def_file.specs.Reading.{◌>>=◌, is_kind, bytes_at, is_token, is_exact, writes, is_count, is_size, is_amount, is_payoff, is_player, judged, unfit, token_where, text_of, player_of}
-use Rattle.def_form.specs.Faults.{spelled_at}
-use Rattle.def_form.specs.Form.{Spelled, number, text, open_brace, close_brace, comma, player_number, Writes, IsSize, IsPayoff}
+use Rattle.def_file.specs.Reading.{◌>>=◌, is_kind, bytes_at, is_token, is_exact, expected, unfit, token_where, text_of}
+use Rattle.def_form.specs.Form.{Spelled, number, text, open_brace, close_brace, comma}
+
+-- a token as it is spelled
+abbrev pub spelled_at : List ℕ → Lexeme → Spelled
+spelled_at whole token = record { kind = token.kind; bytes = bytes_at whole token }
 
 -- one reading after another that gives a value
 pub then_ok : {A B G : Type 0} (r : Result A FileFault) (f : A → Result B FileFault) (y : B) → (r >>= f) ≡ Ok y → ((x : A) → r ≡ Ok x → f x ≡ Ok y → G) → G
@@ -32,9 +34,6 @@ and_left false b e = absurd cc
 pub and_right : (a b : Bool) → (a && b) ≡ true → b ≡ true
 and_right true b e = e
 and_right false b e = absurd cc
-
-pub both : (a b : Bool) → a ≡ true → b ≡ true → (a && b) ≡ true
-both a b p q = rw (p, q) refl
 
 pub either : (a b : Bool) → (a || b) ≡ true → (a ≡ true) ⊎ ((a ≡ false) × (b ≡ true))
 either true b e = inl refl
@@ -60,16 +59,16 @@ pointwise-true (x ∷ xs) (y ∷ ys) e = ap (λ z. z ∷ xs) (eqb-true x y (and_
 -- a token that passed a test was the next one, and the other way round
 pub token_ok : (test : Lexeme → Bool) (whole : List ℕ) (at : ℕ) (l : Lexeme) → token_where test whole at ≡ Ok l → (next_from whole at ≡ Ok l) × (test l ≡ true)
 unfolding token_where
-token_ok test whole at l e = judged_ok (next_from whole at) l e
+token_ok test whole at l e = expected_ok (next_from whole at) l e
   where
     chosen : (b : Bool) (m l : Lexeme) (fault : FileFault) → test m ≡ b → cond b (Ok m) (Err fault) ≡ Ok l → (m ≡ l) × (test m ≡ true)
     chosen true m l fault is e = (cc, is)
     chosen false m l fault is e = absurd cc
 
-    judged_ok : (r : Result Lexeme LexFault) (l : Lexeme) → judged test r ≡ Ok l → (r ≡ Ok l) × (test l ≡ true)
-    judged_ok (Ok m) l e = let found = chosen (test m) m l (unfit m) refl e in (ap Ok found.0, ap test (sym found.0) ∙ found.1)
-    judged_ok (Err (lexing.Syntax at)) l e = absurd cc
-    judged_ok (Err (lexing.Unclosed at)) l e = absurd cc
+    expected_ok : (r : Result Lexeme LexFault) (l : Lexeme) → expected test r ≡ Ok l → (r ≡ Ok l) × (test l ≡ true)
+    expected_ok (Ok m) l e = let found = chosen (test m) m l (unfit m) refl e in (ap Ok found.0, ap test (sym found.0) ∙ found.1)
+    expected_ok (Err (lexing.Syntax at)) l e = absurd cc
+    expected_ok (Err (lexing.Unclosed at)) l e = absurd cc
 
 pub ok_token : (test : Lexeme → Bool) (whole : List ℕ) (at : ℕ) (l : Lexeme) → next_from whole at ≡ Ok l → test l ≡ true → token_where test whole at ≡ Ok l
 unfolding token_where
@@ -90,6 +89,40 @@ Takes whole at (s ∷ ss) end = (l : Lexeme) × Step whole at l s × Takes whole
 pub Takes-append : (whole : List ℕ) (at : ℕ) (ss ts : List Spelled) (mid end : ℕ) → Takes whole at ss mid → Takes whole mid ts end → Takes whole at (ss ++ ts) end
 Takes-append whole at [] ts mid end a b = subst (λ n. Takes whole n ts end) (sym a) b
 Takes-append whole at (s ∷ ss) ts mid end a b = (a.0, a.1, Takes-append whole a.0.end ss ts mid end a.2 b)
+
+-- what is read from one offset up to another: the tokens that were taken are so, whatever comes behind them
+pub record Read (whole : List ℕ) (at end : ℕ) (Is : List Spelled → List Spelled → Type 0) : Type 0 where
+  pub tokens : List Spelled
+  pub takes : Takes whole at tokens end
+  pub within : end ≤ length whole
+  pub is : (rest : List Spelled) → Is (tokens ++ rest) rest
+
+-- one part behind another
+abbrev pub Then : (List Spelled → List Spelled → Type 0) → (List Spelled → List Spelled → Type 0) → List Spelled → List Spelled → Type 0
+Then First Second tokens rest = (between : List Spelled) × First tokens between × Second between rest
+
+abbrev pub IsOne : Spelled → List Spelled → List Spelled → Type 0
+IsOne s tokens rest = tokens ≡ s ∷ rest
+
+abbrev pub IsNone : List Spelled → List Spelled → Type 0
+IsNone tokens rest = tokens ≡ rest
+
+pub read_as : (whole : List ℕ) (at end : ℕ) (A B : List Spelled → List Spelled → Type 0) → ((tokens rest : List Spelled) → A tokens rest → B tokens rest) → Read whole at end A → Read whole at end B
+read_as whole at end A B f r = record { tokens = r.tokens; takes = r.takes; within = r.within; is = λ rest. f (r.tokens ++ rest) rest (r.is rest) }
+
+pub read_one : (whole : List ℕ) (at : ℕ) (l : Lexeme) (s : Spelled) → Step whole at l s → Read whole at l.end (IsOne s)
+read_one whole at l s step = record { tokens = s ∷ []; takes = (l, step, refl); within = step.within; is = λ rest. refl }
+
+pub read_none : (whole : List ℕ) (at : ℕ) → at ≤ length whole → Read whole at at IsNone
+read_none whole at within = record { tokens = []; takes = refl; within = within; is = λ rest. refl }
+
+pub read_then : (whole : List ℕ) (at mid end : ℕ) (A B : List Spelled → List Spelled → Type 0) → Read whole at mid A → Read whole mid end B → Read whole at end (Then A B)
+read_then whole at mid end A B a b = record {
+  tokens = a.tokens ++ b.tokens;
+  takes = Takes-append whole at a.tokens b.tokens mid end a.takes b.takes;
+  within = b.within;
+  is = λ rest. (b.tokens ++ rest, subst (λ ss. A ss (b.tokens ++ rest)) (sym (append_assoc a.tokens b.tokens rest)) (a.is (b.tokens ++ rest)), b.is rest);
+}
 
 -- a step of a token of a kind, and of one with given bytes
 module _ (whole : List ℕ) (at : ℕ) (at_within : at ≤ length whole) (l : Lexeme) where
@@ -122,9 +155,6 @@ module _ (whole : List ℕ) (at : ℕ) (at_within : at ≤ length whole) (l : Le
       let found = token_ok (is_token kind whole) whole at l e in
       mark_here kind bytes not_end fixed found.0 (is_kind-true kind l.kind found.1)
 
-  pub close_here : next_from whole at ≡ Ok l → kinds.Close ≡ l.kind → Step whole at l close_brace
-  close_here next same = mark_here kinds.Close (codes "}") (λ clash. cc) (λ b a is. is) next same
-
   pub open_step : token_where (is_token kinds.Open whole) whole at ≡ Ok l → Step whole at l open_brace
   open_step e = mark_step kinds.Open (codes "{") (λ clash. cc) (λ b a is. is) e
 
@@ -149,34 +179,5 @@ module _ (whole : List ℕ) (at : ℕ) (at_within : at ≤ length whole) (l : Le
   pub text_step : token_where (is_token kinds.Text whole) whole at ≡ Ok l → (inside : List ℕ) × IsInside inside × Step whole at l (text inside) × (text_of whole l ≡ unescaped inside)
   text_step e = let found = token_ok (is_token kinds.Text whole) whole at l e in text_here found.0 (is_kind-true kinds.Text l.kind found.1)
 
-  -- numbers
-  writes-true : (n : ℕ) (bytes : List ℕ) → writes n bytes ≡ true → Writes bytes n
-  writes-true n bytes e = record { digits = and_left _ _ e; value = eqb-true _ n (and_right _ _ e) }
-
-  pub count_step : (n : ℕ) → token_where (is_count n whole) whole at ≡ Ok l → (bytes : List ℕ) × Writes bytes n × Step whole at l (number bytes)
-  count_step n e =
-      let found = token_ok (is_count n whole) whole at l e in
-      (bytes_at whole l, writes-true n _ (and_right _ _ found.1), step_of kinds.Number (λ clash. cc) found.0 (is_kind-true kinds.Number l.kind (and_left _ _ found.1)))
-
-  is_size-true : (bytes : List ℕ) → is_size bytes ≡ true → IsSize bytes
-  is_size-true bytes e = record { digits = and_left _ _ e; limit = leb-true _ _ (and_right _ _ e) }
-
-  amount_chosen : (b : Bool) (byte : ℕ) (bytes : List ℕ) → eqb byte 45 ≡ b → cond b (is_size bytes) (is_size (byte ∷ bytes)) ≡ true → IsPayoff (byte ∷ bytes)
-  amount_chosen true byte bytes is e = inr (bytes, ap (λ x. x ∷ bytes) (eqb-true byte 45 is), is_size-true bytes e)
-  amount_chosen false byte bytes is e = inl (is_size-true (byte ∷ bytes) e)
-
-  is_amount-true : (bytes : List ℕ) → is_amount bytes ≡ true → IsPayoff bytes
-  is_amount-true [] e = absurd cc
-  is_amount-true (byte ∷ bytes) e = amount_chosen (eqb byte 45) byte bytes refl e
-
-  pub payoff_step : token_where (is_payoff whole) whole at ≡ Ok l → (bytes : List ℕ) × IsPayoff bytes × Step whole at l (number bytes)
-  payoff_step e =
-      let found = token_ok (is_payoff whole) whole at l e in
-      (bytes_at whole l, is_amount-true _ (and_right _ _ found.1), step_of kinds.Number (λ clash. cc) found.0 (is_kind-true kinds.Number l.kind (and_left _ _ found.1)))
-
-  player_chosen : (b : Bool) → is_exact kinds.Number (codes "1") whole l ≡ b → next_from whole at ≡ Ok l → (b || is_exact kinds.Number (codes "2") whole l) ≡ true → Step whole at l (number (player_number (cond b players.One players.Two)))
-  player_chosen true is next e = exact_here kinds.Number (codes "1") (λ clash. cc) next is
-  player_chosen false is next e = exact_here kinds.Number (codes "2") (λ clash. cc) next e
-
-  pub player_step : token_where (is_player whole) whole at ≡ Ok l → Step whole at l (number (player_number (player_of whole l)))
-  player_step e = let found = token_ok (is_player whole) whole at l e in player_chosen (is_exact kinds.Number (codes "1") whole l) refl found.0 found.1
+  pub number_step : token_where (is_token kinds.Number whole) whole at ≡ Ok l → Step whole at l (number (bytes_at whole l))
+  number_step e = let found = token_ok (is_token kinds.Number whole) whole at l e in step_of kinds.Number (λ clash. cc) found.0 (is_kind-true kinds.Number l.kind found.1)

@@ -1,69 +1,87 @@
--- A whole file is read exactly where it is in the form.
-use Rattle.std.proofs.Common.{◌≡◌, ℕ, List, [], ◌∷◌, ◌++◌, length, map, Ok, sym, refl, ap, ◌∙◌, subst, arith}
-use Rattle.std.specs.List.{flat_map}
-use Rattle.std.specs.Prelude.{All}
-use Rattle.std.proofs.lemmas.List.Elements.{All-nil, All-cons}
+-- A whole file is read exactly where it has a reading without a fault.
+use Rattle.std.proofs.Common.{◌≡◌, ℕ, ◌+◌, Bool, true, false, cond, List, [], ◌++◌, length, map, Result, Ok, Err, sym, refl, ap, ◌∙◌, subst, arith, append-nil}
 use Rattle.def_tokens.specs.declared.Token.TheVariants as kinds
-use Rattle.def_tokens.specs.Texts.{IsInside}
+use Rattle.def_tokens.specs.declared.Lexeme.{Lexeme}
+use Rattle.def_tokens.specs.declared.LexFault.{LexFault}
+use Rattle.def_tokens.specs.declared.LexFault.TheVariants as lexing
 use Rattle.def_tokens.specs.Tokens.{span, next_from}
-use Rattle.std.proofs.Common.{append-nil}
-use Rattle.def_tokens.proofs.PieceLemmas.{pieces_read}
-use Rattle.def_tree.specs.Tree.{IsWhole, forest_of}
-use Rattle.def_file.specs.Content.{GameFile}
-use Rattle.def_file.specs.Reading.{is_token, token_where, prologue_at, entries_from, most_nodes, game_at}
-use Rattle.def_form.specs.Form.{prologue, tokens_of, IsGameFile}
-use Rattle.def_form.specs.Faults.{spelled_at}
-use Rattle.def_form.proofs.Steps.{then_ok, is_kind-true, token_ok, ok_token, Takes, Takes-append}
-use Rattle.def_form.proofs.Pieces.{tokens_read, spelled_pieces, TakesAll, takes_pieces}
-use Rattle.def_form.proofs.Complete.{prologue_taken, entries_taken}
-use Rattle.def_form.proofs.Sound.{prologue_read, entries_read}
+use Rattle.def_tree.specs.Tree.{IsWhole}
+use Rattle.def_file.specs.declared.FileFault.TheVariants.{TrailingText}
+use Rattle.def_file.specs.Content.{Contents, GameFile, no_contents, game_with}
+use Rattle.def_file.specs.Faults.{most_nodes}
+use Rattle.def_file.specs.Reading.{is_kind, prologue_at, entries_from, trailing, nothing_at, game_at}
+use Rattle.def_entries.specs.Entries.{contents_of}
+use Rattle.def_entries.specs.Laws.{HaveNoFault}
+use Rattle.def_form.specs.Form.{spelled, IsPrologue}
+use Rattle.def_form.specs.Laws.{StandsFor}
+use Rattle.def_form.proofs.Steps.{then_ok, is_kind-true, read_then}
+use Rattle.def_form.proofs.SoundEntries.{prologue_read}
+use Rattle.def_form.proofs.CompleteEntries.{clear_entries, prologue_taken}
+use Rattle.def_form.proofs.Pieces.{pieces_found, ahead_pieces}
+use Rattle.def_form.proofs.Entries.{entries_limit, AreEntriesThen, entries_then, entries_read, entries_taken}
 
-pub most_nodes_is : most_nodes ≡ 1048576
-unfolding most_nodes
-most_nodes_is = refl
+-- nothing stands at the end
+pub nothing_ok : (whole : List ℕ) (at end : ℕ) → nothing_at whole at ≡ Ok end → (l : Lexeme) × (next_from whole at ≡ Ok l) × (kinds.End ≡ l.kind)
+unfolding nothing_at
+nothing_ok whole at end e = by_next (next_from whole at) refl e
+  where
+    chosen : (l : Lexeme) (b : Bool) → is_kind kinds.End l.kind ≡ b → next_from whole at ≡ Ok l → cond b (Ok l.end) (Err (TrailingText l.start)) ≡ Ok end → (l : Lexeme) × (next_from whole at ≡ Ok l) × (kinds.End ≡ l.kind)
+    chosen l true is next e = (l, next, is_kind-true kinds.End l.kind is)
+    chosen l false is next e = absurd cc
 
-pub three_insides : (title one two : List ℕ) → IsInside title → IsInside one → IsInside two → All IsInside (title ∷ one ∷ two ∷ [])
-three_insides title one two a b c = All-cons IsInside title (one ∷ two ∷ []) a (All-cons IsInside one (two ∷ []) b (All-cons IsInside two [] c (All-nil IsInside)))
+    by_next : (r : Result Lexeme LexFault) → next_from whole at ≡ r → trailing r ≡ Ok end → (l : Lexeme) × (next_from whole at ≡ Ok l) × (kinds.End ≡ l.kind)
+    by_next (Ok l) next e = chosen l (is_kind kinds.End l.kind) refl next e
+    by_next (Err (lexing.Syntax place)) next e = absurd cc
+    by_next (Err (lexing.Unclosed place)) next e = absurd cc
 
-pub game_read : (bytes : List ℕ) (file : GameFile) → game_at bytes ≡ Ok file → IsGameFile bytes file
+pub ok_nothing : (whole : List ℕ) (at : ℕ) → next_from whole at ≡ Ok (span kinds.End (length whole) (length whole)) → nothing_at whole at ≡ Ok (length whole)
+unfolding nothing_at
+ok_nothing whole at next = ap trailing next
+
+-- without an entry nothing is known and nothing is at fault
+none_known : no_contents ≡ contents_of []
+none_known = refl
+
+none_at_fault : HaveNoFault []
+none_at_fault k r e = absurd cc
+
+pub game_read : (bytes : List ℕ) (game : GameFile) → game_at bytes ≡ Ok game → StandsFor bytes game
 unfolding game_at
-game_read bytes file e =
+game_read bytes game e =
     then_ok (prologue_at bytes 0) _ _ e (λ head e0 e.
-    then_ok (entries_from most_nodes [] bytes head.1) _ _ e (λ body e1 e.
-    then_ok (token_where (is_token kinds.End bytes) bytes body.1) _ _ e (λ end e2 e.
+    then_ok (entries_from (most_nodes + 1) no_contents bytes head.1) _ _ e (λ body e1 e.
+    then_ok (nothing_at bytes body.1) _ _ e (λ end e2 e.
     let p = prologue_read bytes 0 (omega arith) head e0 in
-    let es = entries_read most_nodes bytes head.1 p.within [] body tt e1 in
-    let last = token_ok (is_token kinds.End bytes) bytes body.1 end e2 in
-    let taken = Takes-append bytes 0 (prologue p.title p.one p.two) (flat_map tokens_of es.entries) head.1 body.1 p.takes es.takes in
-    let tokens = tokens_read bytes 0 (prologue p.title p.one p.two ++ flat_map tokens_of es.entries) body.1 end (omega arith) taken last.0 (is_kind-true kinds.End end.kind last.1) in
-    let found = pieces_read bytes 0 tokens.lexemes (omega arith) tokens.reads in
-    let limit : most_nodes ≡ 1048576 = most_nodes_is in
-    let same : record { title = head.0.title; one = head.0.one; two = head.0.two; tree = forest_of body.0 } ≡ file = cc in
-    subst (IsGameFile bytes) same (record {
-      pieces = found.pieces;
-      rest = found.rest;
-      in_turn = found.are;
-      spelling = found.same;
-      title = p.title;
-      one = p.one;
-      two = p.two;
-      entries = es.entries;
-      nodes = es.nodes;
-      tokens = sym (spelled_pieces bytes 0 found.pieces found.rest found.same) ∙ ap (map (spelled_at bytes)) (sym found.places) ∙ tokens.spelled;
-      insides = three_insides p.title p.one p.two p.insides.0 p.insides.1 p.insides.2;
-      each = es.are;
-      whole = subst IsWhole es.all es.whole_tree;
-      limit = omega (arith, es.limit);
-      stands_for = (λ i. record { title = (p.stands_for i).title; one = (p.stands_for i).one; two = (p.stands_for i).two; tree = forest_of (es.all i) });
-    }))))
+    let es = entries_read (most_nodes + 1) [] no_contents none_known none_at_fault tt bytes head.1 p.within body e1 in
+    let last = nothing_ok bytes body.1 end e2 in
+    let both = read_then bytes 0 head.1 body.1 (IsPrologue head.0) (AreEntriesThen es.more) p es.taken in
+    let found = pieces_found bytes both.tokens body.1 last.0 both.takes last.1 last.2 in
+    let parts = both.is [] in
+    let tokens : both.tokens ++ [] ≡ map spelled found.pieces = append-nil both.tokens ∙ sym found.tokens in
+    let same : game_with head.0 body.0 ≡ game = cc in
+    record {
+      prologue = head.0;
+      entries = es.more;
+      file = record {
+        pieces = found.pieces;
+        space = found.space;
+        in_turn = found.in_turn;
+        spelling = found.spelling;
+        behind = parts.0;
+        prologue = subst (λ ss. IsPrologue head.0 ss parts.0) tokens parts.1;
+        entries = entries_then es.more parts.0 parts.2;
+        whole = subst (λ (c : Contents). IsWhole c.nodes) es.known es.is_whole;
+      };
+      no_fault = es.no_fault;
+      game_is = sym same ∙ ap (game_with head.0) es.known;
+    })))
 
-pub game_taken : (bytes : List ℕ) (file : GameFile) → IsGameFile bytes file → game_at bytes ≡ Ok file
+pub game_taken : (bytes : List ℕ) (game : GameFile) → StandsFor bytes game → game_at bytes ≡ Ok game
 unfolding game_at
-game_taken bytes file is =
-    let t : TakesAll bytes 0 (prologue is.title is.one is.two ++ flat_map tokens_of is.entries) = subst (TakesAll bytes 0) is.tokens (takes_pieces bytes is.pieces is.rest is.in_turn is.spelling) in
-    let limit : most_nodes ≡ 1048576 = most_nodes_is in
-    let head = prologue_taken bytes 0 is.title is.one is.two (flat_map tokens_of is.entries) t.end t.takes in
-    let behind : Takes bytes head.0 (flat_map tokens_of is.entries ++ []) t.end = subst (λ ss. Takes bytes head.0 ss t.end) (sym (append-nil (flat_map tokens_of is.entries))) head.2 in
-    let body = entries_taken most_nodes bytes head.0 [] is.entries is.nodes [] t.end is.each (omega (arith, is.limit)) is.whole behind in
-    let last = ok_token (is_token kinds.End bytes) bytes body.0 (span kinds.End (length bytes) (length bytes)) (ap (next_from bytes) body.2 ∙ t.last) refl in
-    rw (head.1, body.1, last) (ap Ok (sym is.stands_for))
+game_taken bytes game is =
+    let f = is.file in
+    let limit = entries_limit most_nodes refl is.entries is.no_fault in
+    let head = prologue_taken bytes 0 is.prologue (map spelled f.pieces) f.behind f.prologue (clear_entries is.entries f.behind f.entries) (ahead_pieces bytes f.pieces f.space f.in_turn f.spelling) in
+    let body = entries_taken (most_nodes + 1) [] is.entries no_contents none_known is.no_fault f.whole (omega (arith, limit)) bytes head.mid f.behind f.entries head.ahead in
+    let last = ok_nothing bytes body.mid body.ahead.next in
+    rw (head.ok, body.ok, last) (ap Ok (sym is.game_is))

@@ -1,22 +1,22 @@
--- The form of a game file that is read so far, by its tokens: a part of the .efg format (Gambit's manual, "The
--- extensive game (.efg) file format") with whole payoffs, personal and terminal entries, and sets and outcomes that
--- are mentioned once each, in the order of their numbers.
---     Entry, tokens_of         an entry as it is written, and its tokens
---     IsEntry before e node    after these nodes the entry is in the form, and stands for the node
---     AreEntries before es ns  the same of entries one after another
---     IsGameFile bytes file    the bytes are in the form, and stand for the file
-use Rattle.std.specs.Prelude.{◌≡◌, ℕ, ◌+◌, ◌^◌, ◌≤◌, ◌⊎◌, List, [], ◌∷◌, ◌++◌, map, flat_map, length, codes, All, IsTrue}
+-- The form of a game file, by its tokens (Gambit's manual, "The extensive game (.efg) file format", in this project's profile).
+--     Spelled                            a token's kind and its bytes
+--     IsText bytes tokens rest           some tokens are a text that stands for these bytes, and then the rest
+--     IsPrologue p tokens rest           they are the prologue, and then the rest
+--     IsEntry r tokens rest              they are an entry that says this, and then the rest
+--     IsFile bytes p rs                  the bytes are a file with this prologue and these entries
+use Rattle.std.specs.Prelude.{◌≡◌, ℕ, ◌^◌, ◌≤◌, ◌⊎◌, List, [], ◌∷◌, ◌++◌, map, codes, unwrap_or, IsTrue, Option, Some, None}
 use Rattle.def_tokens.specs.declared.Token.{Token}
 use Rattle.def_tokens.specs.declared.Token.TheVariants as kinds
 use Rattle.def_tokens.specs.Spelling.{Piece, ArePieces, bytes_of}
 use Rattle.def_tokens.specs.Texts.{IsInside, unescaped}
 use Rattle.def_fraction.specs.Digits.{is_numeral, number_of}
-use Rattle.def_player.specs.declared.Player.{Player}
-use Rattle.def_player.specs.declared.Player.TheVariants as players
-use Rattle.def_tree.specs.declared.Kind.TheVariants.{Leaf}
-use Rattle.def_tree.specs.declared.Node.{Node}
-use Rattle.def_tree.specs.Tree.{IsWhole, forest_of}
-use Rattle.def_file.specs.Content.{GameFile, kind_of, entries_of, counts_of, personal, terminal}
+use Rattle.def_fraction.specs.Fraction.{Fraction}
+use Rattle.def_fraction.specs.Literal.{IsLiteralOf}
+use Rattle.def_tree.specs.Tree.{IsWhole}
+use Rattle.def_file.specs.declared.EntryKind.{EntryKind}
+use Rattle.def_file.specs.declared.EntryKind.TheVariants.{Chance, Personal, Leaf}
+use Rattle.def_file.specs.Content.{Prologue, Action, SetMention, OutcomeMention, Record, no_set_mention, zero_fraction}
+use Rattle.def_entries.specs.Entries.{contents_of}
 
 -- a token's kind and its bytes
 pub record Spelled : Type 0 where
@@ -45,83 +45,161 @@ close_brace = record { kind = kinds.Close; bytes = codes "}" }
 abbrev pub comma : Spelled
 comma = record { kind = kinds.Comma; bytes = codes "," }
 
--- The prologue, by the insides of its texts.
-abbrev pub prologue : List ℕ → List ℕ → List ℕ → List Spelled
-prologue title one two =
-    word (codes "EFG") ∷ number (codes "2") ∷ word (codes "R") ∷ text title ∷ open_brace ∷ text one ∷ text two ∷ close_brace ∷ []
+-- Each of what follows says that some tokens are a part of a file, and then `rest`.
 
--- An entry as it is written: the insides of its texts, and its numbers' bytes.
-pub data Entry : Type 0 where
-  Personal : (name : List ℕ) (player : Player) (set set_name : List ℕ) (actions : List (List ℕ)) → Entry
-  Terminal : (name outcome first second : List ℕ) → Entry
+-- a text that stands for these bytes
+pub record IsText (bytes : List ℕ) (tokens rest : List Spelled) : Type 0 where
+  pub inside : List ℕ
+  pub is_inside : IsInside inside
+  pub stands_for : bytes ≡ unescaped inside
+  pub spelling : tokens ≡ text inside ∷ rest
 
-abbrev pub player_number : Player → List ℕ
-player_number players.One = codes "1"
-player_number players.Two = codes "2"
+-- a text, or nothing
+abbrev pub IsName : Option (List ℕ) → List Spelled → List Spelled → Type 0
+IsName None tokens rest = tokens ≡ rest
+IsName (Some bytes) tokens rest = IsText bytes tokens rest
 
-abbrev pub tokens_of : Entry → List Spelled
-tokens_of (Personal name player set set_name actions) =
-    word (codes "p") ∷ text name ∷ number (player_number player) ∷ number set ∷ text set_name
-    ∷ open_brace ∷ (map text actions ++ close_brace ∷ number (codes "0") ∷ [])
-tokens_of (Terminal name outcome first second) =
-    word (codes "t") ∷ text name ∷ number outcome ∷ open_brace ∷ number first ∷ comma ∷ number second ∷ close_brace ∷ []
+-- digits that write this number, which is at most 2 ^ 62
+pub record IsWholeNumber (n : ℕ) (tokens rest : List Spelled) : Type 0 where
+  pub digits : List ℕ
+  pub numeral : IsTrue (is_numeral digits)
+  pub value : number_of digits ≡ n
+  pub limit : n ≤ 2 ^ 62
+  pub spelling : tokens ≡ number digits ∷ rest
 
--- the bytes are digits, and write this number
-pub record Writes (bytes : List ℕ) (n : ℕ) : Type 0 where
-  pub digits : IsTrue (is_numeral bytes)
-  pub value : number_of bytes ≡ n
+-- a literal of this value
+pub record IsFraction (f : Fraction) (tokens rest : List Spelled) : Type 0 where
+  pub bytes : List ℕ
+  pub literal : IsLiteralOf bytes f
+  pub spelling : tokens ≡ number bytes ∷ rest
 
--- a whole number of at most 2 ^ 62
-pub record IsSize (bytes : List ℕ) : Type 0 where
-  pub digits : IsTrue (is_numeral bytes)
-  pub limit : number_of bytes ≤ 2 ^ 62
+-- the probability of an action: a literal where chance moves, and else nothing
+abbrev pub IsChance : EntryKind → Fraction → List Spelled → List Spelled → Type 0
+IsChance Chance f tokens rest = IsFraction f tokens rest
+IsChance Personal f tokens rest = (f ≡ zero_fraction) × (tokens ≡ rest)
+IsChance Leaf f tokens rest = (f ≡ zero_fraction) × (tokens ≡ rest)
 
--- the same, with or without a minus
-abbrev pub IsPayoff : List ℕ → Type 0
-IsPayoff bytes = IsSize bytes ⊎ ((size : List ℕ) × (bytes ≡ 45 ∷ size) × IsSize size)
+-- actions up to the closing brace
+abbrev pub AreActions : EntryKind → List Action → List Spelled → List Spelled → Type 0
+AreActions kind [] tokens rest = tokens ≡ close_brace ∷ rest
+AreActions kind (a ∷ more) tokens rest =
+    (named done : List Spelled) × IsText a.name tokens named × IsChance kind a.chance named done × AreActions kind more done rest
 
--- after these nodes the player's set is its next one, and it has 1 to 1,024 actions
-pub record IsPersonal (before : List Node) (name : List ℕ) (player : Player) (set set_name : List ℕ) (actions : List (List ℕ)) : Type 0 where
-  pub name_inside : IsInside name
-  pub set_number : Writes set (entries_of (kind_of player) before + 1)
-  pub set_name_inside : IsInside set_name
-  pub actions_inside : All IsInside actions
-  pub some_action : 1 ≤ length actions
-  pub limit : length actions ≤ 1024
+-- a list of actions in braces, or nothing
+abbrev pub IsActionList : EntryKind → Option (List Action) → List Spelled → List Spelled → Type 0
+IsActionList kind None tokens rest = tokens ≡ rest
+IsActionList kind (Some actions) tokens rest = (opened : List Spelled) × (tokens ≡ open_brace ∷ opened) × AreActions kind actions opened rest
 
--- after these nodes the outcome is the next one
-pub record IsTerminal (before : List Node) (name outcome first second : List ℕ) : Type 0 where
-  pub name_inside : IsInside name
-  pub outcome_number : Writes outcome (entries_of Leaf before + 1)
-  pub first_payoff : IsPayoff first
-  pub second_payoff : IsPayoff second
+-- payoffs behind the first up to the closing brace, each with at most one comma before it
+abbrev pub AreMorePayoffs : List Fraction → List Spelled → List Spelled → Type 0
+AreMorePayoffs [] tokens rest = tokens ≡ close_brace ∷ rest
+AreMorePayoffs (f ∷ fs) tokens rest =
+    (parted done : List Spelled) × ((tokens ≡ parted) ⊎ (tokens ≡ comma ∷ parted)) × IsFraction f parted done × AreMorePayoffs fs done rest
 
-abbrev pub IsEntry : List Node → Entry → Node → Type 0
-IsEntry before (Personal name player set set_name actions) node =
-    IsPersonal before name player set set_name actions × (node ≡ personal (counts_of before) player (length actions))
-IsEntry before (Terminal name outcome first second) node =
-    IsTerminal before name outcome first second × (node ≡ terminal (counts_of before))
+abbrev pub ArePayoffs : List Fraction → List Spelled → List Spelled → Type 0
+ArePayoffs [] tokens rest = tokens ≡ close_brace ∷ rest
+ArePayoffs (f ∷ fs) tokens rest = (done : List Spelled) × IsFraction f tokens done × AreMorePayoffs fs done rest
 
-abbrev pub AreEntries : List Node → List Entry → List Node → Type 0
-AreEntries before [] [] = Unit {0}
-AreEntries before (entry ∷ entries) (node ∷ nodes) = IsEntry before entry node × AreEntries (before ++ node ∷ []) entries nodes
-AreEntries before [] (node ∷ nodes) = ⊥
-AreEntries before (entry ∷ entries) [] = ⊥
+-- a list of payoffs in braces, or nothing
+abbrev pub IsPayoffList : Option (List Fraction) → List Spelled → List Spelled → Type 0
+IsPayoffList None tokens rest = tokens ≡ rest
+IsPayoffList (Some fs) tokens rest = (opened : List Spelled) × (tokens ≡ open_brace ∷ opened) × ArePayoffs fs opened rest
+
+-- a set's number, which isn't 0, and then its name and its actions, where they are given
+pub record IsSet (kind : EntryKind) (m : SetMention) (tokens rest : List Spelled) : Type 0 where
+  pub numbered : List Spelled
+  pub named : List Spelled
+  pub number : IsWholeNumber m.number tokens numbered
+  pub from_one : 1 ≤ m.number
+  pub name : IsName m.name numbered named
+  pub actions : IsActionList kind m.actions named rest
+
+-- an outcome's number, and then its name and its payoffs, where they are given
+pub record IsOutcome (m : OutcomeMention) (tokens rest : List Spelled) : Type 0 where
+  pub numbered : List Spelled
+  pub named : List Spelled
+  pub number : IsWholeNumber m.number tokens numbered
+  pub name : IsName m.name numbered named
+  pub payoffs : IsPayoffList m.payoffs named rest
+
+-- `c`, the name, the set and the outcome
+pub record IsChanceEntry (r : Record) (tokens rest : List Spelled) : Type 0 where
+  pub headed : List Spelled
+  pub named : List Spelled
+  pub placed : List Spelled
+  pub head : tokens ≡ word (codes "c") ∷ headed
+  pub name : IsText r.name headed named
+  pub no_player : r.player ≡ 0
+  pub set : IsSet Chance r.set named placed
+  pub outcome : IsOutcome r.outcome placed rest
+
+-- `p`, the name, the player's number, the set and the outcome
+pub record IsPersonalEntry (r : Record) (tokens rest : List Spelled) : Type 0 where
+  pub headed : List Spelled
+  pub named : List Spelled
+  pub moved : List Spelled
+  pub placed : List Spelled
+  pub head : tokens ≡ word (codes "p") ∷ headed
+  pub name : IsText r.name headed named
+  pub player : IsWholeNumber r.player named moved
+  pub set : IsSet Personal r.set moved placed
+  pub outcome : IsOutcome r.outcome placed rest
+
+-- `t`, the name and the outcome
+pub record IsTerminalEntry (r : Record) (tokens rest : List Spelled) : Type 0 where
+  pub headed : List Spelled
+  pub named : List Spelled
+  pub head : tokens ≡ word (codes "t") ∷ headed
+  pub name : IsText r.name headed named
+  pub no_player : r.player ≡ 0
+  pub no_set : r.set ≡ no_set_mention
+  pub outcome : IsOutcome r.outcome named rest
+
+abbrev pub IsEntryAs : EntryKind → Record → List Spelled → List Spelled → Type 0
+IsEntryAs Chance r tokens rest = IsChanceEntry r tokens rest
+IsEntryAs Personal r tokens rest = IsPersonalEntry r tokens rest
+IsEntryAs Leaf r tokens rest = IsTerminalEntry r tokens rest
+
+abbrev pub IsEntry : Record → List Spelled → List Spelled → Type 0
+IsEntry r tokens rest = IsEntryAs r.kind r tokens rest
+
+-- entries one after another, and nothing behind them
+abbrev pub AreEntries : List Record → List Spelled → Type 0
+AreEntries [] tokens = tokens ≡ []
+AreEntries (r ∷ rs) tokens = (done : List Spelled) × IsEntry r tokens done × AreEntries rs done
+
+-- texts up to the closing brace
+abbrev pub AreNames : List (List ℕ) → List Spelled → List Spelled → Type 0
+AreNames [] tokens rest = tokens ≡ close_brace ∷ rest
+AreNames (bytes ∷ names) tokens rest = (named : List Spelled) × IsText bytes tokens named × AreNames names named rest
+
+-- `EFG 2 R`, or `D`, the title, and so many players' names in braces
+pub record IsHead (title : List ℕ) (names : List (List ℕ)) (tokens rest : List Spelled) : Type 0 where
+  pub headed : List Spelled
+  pub titled : List Spelled
+  pub opened : List Spelled
+  pub numbers : Spelled
+  pub rational : (numbers ≡ word (codes "R")) ⊎ (numbers ≡ word (codes "D"))
+  pub head : tokens ≡ word (codes "EFG") ∷ number (codes "2") ∷ numbers ∷ headed
+  pub title_text : IsText title headed titled
+  pub brace : titled ≡ open_brace ∷ opened
+  pub name_texts : AreNames names opened rest
+
+-- two players, and a comment; an absent comment is the empty text
+pub record IsPrologue (p : Prologue) (tokens rest : List Spelled) : Type 0 where
+  pub behind : List Spelled
+  pub comment : Option (List ℕ)
+  pub head : IsHead p.title (p.one ∷ p.two ∷ []) tokens behind
+  pub remark : IsName comment behind rest
+  pub text : p.comment ≡ unwrap_or comment []
 
 -- white space and tokens in turn, which are a prologue and the entries of one tree
-pub record IsGameFile (bytes : List ℕ) (file : GameFile) : Type 0 where
+pub record IsFile (bytes : List ℕ) (p : Prologue) (rs : List Record) : Type 0 where
   pub pieces : List Piece
-  pub rest : List ℕ
-  pub in_turn : ArePieces pieces rest
-  pub spelling : bytes ≡ bytes_of pieces rest
-  pub title : List ℕ
-  pub one : List ℕ
-  pub two : List ℕ
-  pub entries : List Entry
-  pub nodes : List Node
-  pub tokens : map spelled pieces ≡ prologue title one two ++ flat_map tokens_of entries
-  pub insides : All IsInside (title ∷ one ∷ two ∷ [])
-  pub each : AreEntries [] entries nodes
-  pub whole : IsWhole nodes
-  pub limit : length nodes ≤ 1048576
-  pub stands_for : file ≡ record { title = unescaped title; one = unescaped one; two = unescaped two; tree = forest_of nodes }
+  pub space : List ℕ
+  pub in_turn : ArePieces pieces space
+  pub spelling : bytes ≡ bytes_of pieces space
+  pub behind : List Spelled
+  pub prologue : IsPrologue p (map spelled pieces) behind
+  pub entries : AreEntries rs behind
+  pub whole : IsWhole (contents_of rs).nodes

@@ -1,2 +1,4 @@
 pub mod Program
 pub mod Says
+pub mod FirstFault
+pub mod Laws

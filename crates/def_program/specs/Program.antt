@@ -1,5 +1,5 @@
 -- The program as a function of the words and of what the files hold.
---     judged bytes         the game of a file, or its first fault
+--     read_as_game bytes   the game of a file, or its first fault
 --     Answer               the status, what is written, and the line that says why there is nothing
 --     program words told   the answer, where the bytes of the file are told
 use Rattle.std.specs.Prelude.{ℕ, nat_lt, if◌then◌else◌, List, [], length, Option, Some, None, Result, Ok, Err}
@@ -16,8 +16,8 @@ use Rattle.def_text.specs.Lines.{fault_line, usage_line}
 abbrev pub most_bytes : ℕ
 most_bytes = 67108864
 
-unfoldable pub judged : List ℕ → Result GameFile FileFault
-judged bytes = if nat_lt most_bytes (length bytes) then Err TooLong else game_at bytes
+unfoldable pub read_as_game : List ℕ → Result GameFile FileFault
+read_as_game bytes = if nat_lt most_bytes (length bytes) then Err TooLong else game_at bytes
 
 pub record Answer : Type 0 where
   pub status : ℕ
@@ -33,7 +33,7 @@ usage = record { status = 2; text = []; line = usage_line }
 
 abbrev pub command_answer : Option Command → (List ℕ → Option (List ℕ)) → Option Answer
 command_answer None told = Some usage
-command_answer (Some (Solve file)) told = option_map (λ bytes. answer_of (judged bytes)) (told file)
+command_answer (Some (Solve file)) told = option_map (λ bytes. answer_of (read_as_game bytes)) (told file)
 
 abbrev pub program : List (List ℕ) → (List ℕ → Option (List ℕ)) → Option Answer
 program words told = command_answer (command_of words) told

@@ -1,2 +1,14 @@
 //! What the program does, in definitions alone, for a run in which nothing that it is handed fails and memory is found.
 #![tactic(auto)]
+
+ghost use Rattle.def_program.specs.Laws.{AcceptedWithoutFault, RefusedWithTheFirst};
+
+/// A file is refused exactly with its first fault, where its length counts first.
+pub fn refused_with_the_first()
+    ensures { RefusedWithTheFirst }
+{}
+
+/// A file is accepted exactly where it isn't too long and has a reading without a fault, and stands for its game.
+pub fn accepted_without_fault()
+    ensures { AcceptedWithoutFault }
+{}

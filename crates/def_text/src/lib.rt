@@ -1,14 +1,20 @@
 //! The texts that the program writes, in definitions alone.
 #![tactic(auto)]
 
-ghost use Rattle.def_text.specs.Rows.{LeafRow, FaultRow};
+ghost use Rattle.def_text.specs.Laws.{LinesTellFaults};
+ghost use Rattle.def_text.specs.Rows.{FaultRows, LeafRow};
 
 /// The text of a game of one leaf.
 pub fn leaf_row()
     ensures { LeafRow }
 {}
 
-/// The line of a fault.
-pub fn fault_row()
-    ensures { FaultRow }
+/// The lines of faults.
+pub fn fault_rows()
+    ensures { FaultRows }
+{}
+
+/// The lines of faults tell the faults apart.
+pub fn lines_tell_faults()
+    ensures { LinesTellFaults }
 {}

@@ -1,3 +1,4 @@
 pub mod TextLemmas
 pub mod TokenLemmas
 pub mod PieceLemmas
+pub mod ByteLemmas

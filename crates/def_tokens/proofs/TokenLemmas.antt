@@ -262,10 +262,10 @@ token_at-complete End start bytes after token =
 
 -- the white space is skipped
 module _ (whole : List ℕ) (at : ℕ) (within : at ≤ length whole) where
-  space_within : after_space whole at ≤ length whole
+  pub space_within : after_space whole at ≤ length whole
   space_within = omega (arith, prefix_len-le-length is_space (drop at whole), length-drop at whole)
 
-  space_passes : AllPass is_space (slice_range whole at (after_space whole at))
+  pub space_passes : AllPass is_space (slice_range whole at (after_space whole at))
   space_passes =
       let len : after_space whole at - at ≡ prefix_len is_space (drop at whole) = omega arith in
       subst (λ n. AllPass is_space (take n (drop at whole))) (sym len) (from_passing is_space _ (prefix_passes is_space (drop at whole)))
@@ -273,7 +273,7 @@ module _ (whole : List ℕ) (at : ℕ) (within : at ≤ length whole) where
   space_stops : FirstFails is_space (drop (after_space whole at) whole)
   space_stops = subst (FirstFails is_space) (drop-drop (prefix_len is_space (drop at whole)) at whole) (prefix_stops is_space (drop at whole))
 
-  space_is : (place : ℕ) → at ≤ place → place ≤ length whole → AllPass is_space (slice_range whole at place) → FirstFails is_space (drop place whole) → after_space whole at ≡ place
+  pub space_is : (place : ℕ) → at ≤ place → place ≤ length whole → AllPass is_space (slice_range whole at place) → FirstFails is_space (drop place whole) → after_space whole at ≡ place
   space_is place from to space stops =
       let rest = drop at whole in
       let place_is : at + (place - at) ≡ place = omega arith in
@@ -374,7 +374,7 @@ unclosed_sound start place b bs is =
 
 module _ (whole : List ℕ) (at : ℕ) (within : at ≤ length whole) where
   -- at a byte within the bytes
-  first_byte : (place : ℕ) → after_space whole at ≡ place → place < length whole → IsFirstByteFrom whole at place
+  pub first_byte : (place : ℕ) → after_space whole at ≡ place → place < length whole → IsFirstByteFrom whole at place
   first_byte place is inner = record {
     from = omega (arith, is);
     within = inner;

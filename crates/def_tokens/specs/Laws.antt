@@ -1,11 +1,13 @@
 -- What the next token is, in the format's own words.
-use Rattle.std.specs.Prelude.{◌≡◌, ℕ, ◌≤◌, ◌↔◌, Ok, Err, List, ◌++◌, length, drop}
+use Rattle.std.specs.Prelude.{◌≡◌, ℕ, ◌≤◌, ◌↔◌, Some, None, Ok, Err, List, ◌++◌, length, drop, slice_index}
+use Rattle.std.specs.List.{AllPass}
 use Rattle.def_tokens.specs.declared.Token.TheVariants.{End}
 use Rattle.def_tokens.specs.declared.Lexeme.{Lexeme}
 use Rattle.def_tokens.specs.declared.LexFault.TheVariants.{Syntax, Unclosed}
+use Rattle.def_tokens.specs.Bytes.{is_space}
 use Rattle.def_tokens.specs.Texts.{IsInside, EndsPlainly, unescaped, escaped}
-use Rattle.def_tokens.specs.Spelling.{IsLexemeFrom, IsSyntaxFrom, IsUnclosedFrom, Piece, bytes_of, ArePieces, lexemes_of}
-use Rattle.def_tokens.specs.Tokens.{span, next_from, Reads}
+use Rattle.def_tokens.specs.Spelling.{IsLexemeFrom, IsFirstByteFrom, IsSyntaxFrom, IsUnclosedFrom, Piece, bytes_of, ArePieces, lexemes_of}
+use Rattle.def_tokens.specs.Tokens.{span, byte_from, next_from, Reads}
 
 abbrev pub NextIsLexeme : Type 0
 NextIsLexeme = (whole : List ℕ) (at : ℕ) (lexeme : Lexeme) → at ≤ length whole → (next_from whole at ≡ Ok lexeme) ↔ IsLexemeFrom whole at lexeme
@@ -15,6 +17,13 @@ NextIsSyntax = (whole : List ℕ) (at place : ℕ) → at ≤ length whole → (
 
 abbrev pub NextIsUnclosed : Type 0
 NextIsUnclosed = (whole : List ℕ) (at place : ℕ) → at ≤ length whole → (next_from whole at ≡ Err (Unclosed place)) ↔ IsUnclosedFrom whole at place
+
+-- the next byte is the first one that isn't white space
+abbrev pub NextByteIsFirst : Type 0
+NextByteIsFirst = (whole : List ℕ) (at b : ℕ) → at ≤ length whole → (byte_from whole at ≡ Some b) ↔ ((place : ℕ) × IsFirstByteFrom whole at place × (slice_index whole place ≡ b))
+
+abbrev pub NoByteIsSpace : Type 0
+NoByteIsSpace = (whole : List ℕ) (at : ℕ) → at ≤ length whole → (byte_from whole at ≡ None) ↔ AllPass is_space (drop at whole)
 
 abbrev pub EndStays : Type 0
 EndStays = (whole : List ℕ) → next_from whole (length whole) ≡ Ok (span End (length whole) (length whole))

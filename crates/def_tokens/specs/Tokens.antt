@@ -1,5 +1,5 @@
 -- The next token, as a computation.
-use Rattle.std.specs.Prelude.{◌≡◌, ◌≢◌, ℕ, ◌+◌, ◌==◌, if◌then◌else◌, Option, None, Some, Result, Ok, Err, List, [], ◌∷◌, length, drop}
+use Rattle.std.specs.Prelude.{◌≡◌, ◌≢◌, ℕ, ◌+◌, ◌==◌, if◌then◌else◌, Option, None, Some, Result, Ok, Err, List, [], ◌∷◌, length, drop, slice_get}
 use Rattle.std.specs.List.{prefix_len}
 use Rattle.def_tokens.specs.declared.Token.{Token}
 use Rattle.def_tokens.specs.declared.Token.TheVariants.{Word, Text, Number, Open, Close, Comma, End}
@@ -37,6 +37,10 @@ token_at start (b ∷ bs) =
 -- the offset of the first byte from `at` on that isn't white space, or the end
 abbrev pub after_space : List ℕ → ℕ → ℕ
 after_space whole at = at + prefix_len is_space (drop at whole)
+
+-- the first byte from the offset `at` on that isn't white space
+unfoldable pub byte_from : List ℕ → ℕ → Option ℕ
+byte_from whole at = slice_get whole (after_space whole at)
 
 -- the next token from the offset `at` on
 unfoldable pub next_from : List ℕ → ℕ → Result Lexeme LexFault

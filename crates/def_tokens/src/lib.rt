@@ -1,7 +1,7 @@
 //! The tokens of a game file in the profile of Gambit's `.efg` format: definitions, and their laws.
 #![tactic(auto)]
 
-ghost use Rattle.def_tokens.specs.Laws.{NextIsLexeme, NextIsSyntax, NextIsUnclosed, EndStays, PiecesAreRead, ReadIsPieces, OneReading, OneSpelling};
+ghost use Rattle.def_tokens.specs.Laws.{NextIsLexeme, NextIsSyntax, NextIsUnclosed, NextByteIsFirst, NoByteIsSpace, EndStays, PiecesAreRead, ReadIsPieces, OneReading, OneSpelling};
 
 /// What a token is.
 #[derive(Clone, Copy, Debug, PartialEq, Eq)]
@@ -52,6 +52,16 @@ pub fn next_is_syntax()
 /// An unclosed text is one whose every further quotation mark follows a backslash.
 pub fn next_is_unclosed()
     ensures { NextIsUnclosed }
+{}
+
+/// The next byte is the first one that isn't white space.
+pub fn next_byte_is_first()
+    ensures { NextByteIsFirst }
+{}
+
+/// There is no next byte where only white space is left.
+pub fn no_byte_is_space()
+    ensures { NoByteIsSpace }
 {}
 
 /// At the end the next token is the end again.

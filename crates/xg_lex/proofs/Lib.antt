@@ -1,3 +1,4 @@
 mod Closing
 mod TokenAt
+mod NextByte
 mod Escapes

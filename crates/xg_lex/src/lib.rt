@@ -58,6 +58,25 @@ mod tests {
     }
 
     #[test]
+    fn the_next_byte_stands_behind_white_space(rt: HostRuntime) {
+        let mut tokens = Tokens::new(b"word \t\n\"text\" # \r");
+        assert_eq!(rt; tokens.next_byte(), Some(b'w'));
+        reads(&rt, &mut tokens, &[(Token::Word, 0, 4)]);
+        assert_eq!(rt; tokens.next_byte(), Some(b'"'));
+        assert_eq!(rt; tokens.next_byte(), Some(b'"'));
+        reads(&rt, &mut tokens, &[(Token::Text, 7, 13)]);
+        assert_eq!(rt; tokens.next_byte(), Some(b'#'));
+        assert_eq!(rt; tokens.next(), Err(LexFault::Syntax { at: 14 }));
+        assert_eq!(rt; tokens.next_byte(), Some(b'#'));
+        let mut tokens = Tokens::new(b" } \x0b\x0c");
+        assert_eq!(rt; tokens.next_byte(), Some(b'}'));
+        reads(&rt, &mut tokens, &[(Token::Close, 1, 2)]);
+        assert_eq!(rt; tokens.next_byte(), None);
+        reads(&rt, &mut tokens, &[(Token::End, 5, 5)]);
+        assert_eq!(rt; tokens.next_byte(), None);
+    }
+
+    #[test]
     fn unescapes(rt: HostRuntime) -> Result<(), Fail> {
         let bytes = b"\"\\\\\"a\\b\\\"\"";
         let lexeme = Tokens::new(bytes).next()?;

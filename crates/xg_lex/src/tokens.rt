@@ -1,9 +1,9 @@
 ghost use Rattle.std.specs.Prelude.{◌≡◌, ℕ, ◌+◌, ◌-◌, ◌<◌, ◌≤◌, ◌↔◌, Option, List, drop, length, slice_index, slice_range, IfOk, IfSome};
-ghost use Rattle.std.specs.List.{prefix_len};
+ghost use Rattle.std.specs.List.{prefix_len, AllPass};
 ghost use Rattle.def_tokens.specs.Bytes.{is_space, in_run, begins_word, begins_number};
 ghost use Rattle.def_tokens.specs.Texts.{IsInside, closing_from};
-ghost use Rattle.def_tokens.specs.Spelling.{IsLexemeFrom};
-ghost use Rattle.def_tokens.specs.Tokens.{next_from, end_of, span, text_from, token_at};
+ghost use Rattle.def_tokens.specs.Spelling.{IsFirstByteFrom, IsLexemeFrom};
+ghost use Rattle.def_tokens.specs.Tokens.{byte_from, next_from, end_of, span, text_from, token_at};
 
 use def_tokens::{LexFault, Lexeme, Token};
 use memchr::memchr;
@@ -53,6 +53,16 @@ impl<'a> Tokens<'a> {
         let lexeme = token_at(self.bytes, start)?;
         self.at = lexeme.end;
         Ok(lexeme)
+    }
+
+    /// The next byte that isn't white space, and `None` where only white space is left.
+    pub fn next_byte(&self) -> Option<u8>
+        ensures exact { result ≡ byte_from self.now.whole self.now.at }
+        ensures first { (b : ℕ) → (result ≡ Some b) ↔ ((place : ℕ) × IsFirstByteFrom self.now.whole self.now.at place × (slice_index self.now.whole place ≡ b)) }
+        ensures none { (result ≡ None) ↔ AllPass is_space (drop self.now.at self.now.whole) }
+    {
+        let start = self.at + space_len(&self.bytes[self.at..]);
+        self.bytes.get(start).copied()
     }
 }
 

@@ -1,22 +1,22 @@
--- What is answered, by the form of a file and by the place where its tokens stop.
-use Rattle.std.proofs.Common.{◌≡◌, List, ℕ, Result, Ok, Err, sym, ◌∙◌}
+-- What is answered, by the form of a file and by its first fault.
+use Rattle.std.proofs.Common.{◌≡◌, ◌≢◌, List, ℕ, Result, Ok, Err, sym, ◌∙◌}
 use Rattle.std.specs.Prelude.{IfOk}
 use Rattle.def_file.specs.declared.FileFault.{FileFault}
+use Rattle.def_file.specs.declared.FileFault.TheVariants.{TooLong}
 use Rattle.def_file.specs.Content.{GameFile}
 use Rattle.def_file.specs.Reading.{game_at}
-use Rattle.def_form.specs.Form.{IsGameFile}
-use Rattle.def_form.specs.Faults.{StopsAt}
-use Rattle.def_form.proofs.Whole.{game_read, game_taken}
-use Rattle.def_form.proofs.FirstFault.{fault_stops}
-use Rattle.def_form.proofs.OneFault.{stop_is_fault}
-use Rattle.xg_read.specs.declared.fault.Refused.{Refused}
-use Rattle.xg_read.specs.declared.fault.Refused.TheVariants.{File, NoMemory}
+use Rattle.def_file.proofs.AnyLength.{game_any_length}
+use Rattle.def_form.specs.Laws.{StandsFor, AcceptedIsFile, FileIsAccepted}
+use Rattle.def_first.specs.First.{FirstFault}
+use Rattle.def_first.specs.Laws.{FaultIsFirst, FirstIsFault}
+use Rattle.xg_game.specs.declared.fault.Refused.{Refused}
+use Rattle.xg_game.specs.declared.fault.Refused.TheVariants.{File, NoMemory}
 use Rattle.xg_read.specs.Gives.{Answers}
 
-pub answer_found : (bytes : List ℕ) (answer : Result GameFile Refused) → Answers answer (game_at bytes) → IfOk answer (λ game. IsGameFile bytes game)
-answer_found bytes (Ok game) h = game_read bytes game h
-answer_found bytes (Err (File fault)) h = tt
-answer_found bytes (Err NoMemory) h = tt
+pub answer_found : AcceptedIsFile → (bytes : List ℕ) (answer : Result GameFile Refused) → Answers answer (game_at bytes) → IfOk answer (λ game. StandsFor bytes game)
+answer_found law bytes (Ok game) h = law bytes game h
+answer_found law bytes (Err (File fault)) h = tt
+answer_found law bytes (Err NoMemory) h = tt
 
 -- the answer is what another reading gives, where that is the same
 answer_as : (answer : Result GameFile Refused) (read other : Result GameFile FileFault) → Answers answer read → read ≡ other → Answers answer other
@@ -24,15 +24,20 @@ answer_as (Ok game) read other h same = sym same ∙ h
 answer_as (Err (File fault)) read other h same = sym same ∙ h
 answer_as (Err NoMemory) read other h same = tt
 
-pub answer_only : (bytes : List ℕ) (answer : Result GameFile Refused) → Answers answer (game_at bytes) → (file : GameFile) → IsGameFile bytes file → Answers answer (Ok file)
-answer_only bytes answer h file is = answer_as answer (game_at bytes) (Ok file) h (game_taken bytes file is)
+pub answer_only : FileIsAccepted → (bytes : List ℕ) (answer : Result GameFile Refused) → Answers answer (game_at bytes) → (game : GameFile) → StandsFor bytes game → Answers answer (Ok game)
+answer_only law bytes answer h game stands = answer_as answer (game_at bytes) (Ok game) h (law bytes game stands)
 
-pub answer_first : (bytes : List ℕ) (answer : Result GameFile Refused) → Answers answer (game_at bytes) → (fault : FileFault) → answer ≡ Err (File fault) → StopsAt bytes fault
-answer_first bytes (Ok game) h fault e = cc
-answer_first bytes (Err NoMemory) h fault e = cc
-answer_first bytes (Err (File other)) h fault e =
+pub answer_first : FaultIsFirst → (bytes : List ℕ) (answer : Result GameFile Refused) → Answers answer (game_at bytes) → (fault : FileFault) → answer ≡ Err (File fault) → FirstFault bytes fault
+answer_first law bytes (Ok game) h fault e = cc
+answer_first law bytes (Err NoMemory) h fault e = cc
+answer_first law bytes (Err (File other)) h fault e =
     let same : other ≡ fault = cc in
-    fault_stops bytes fault (h ∙ (λ i. Err (same i)))
+    law bytes fault (h ∙ (λ i. Err (same i)))
 
-pub answer_stops : (bytes : List ℕ) (answer : Result GameFile Refused) → Answers answer (game_at bytes) → (fault : FileFault) → StopsAt bytes fault → Answers answer (Err fault)
-answer_stops bytes answer h fault stops = answer_as answer (game_at bytes) (Err fault) h (stop_is_fault bytes fault stops)
+pub answer_faults : FirstIsFault → (bytes : List ℕ) (answer : Result GameFile Refused) → Answers answer (game_at bytes) → (fault : FileFault) → FirstFault bytes fault → Answers answer (Err fault)
+answer_faults law bytes answer h fault first = answer_as answer (game_at bytes) (Err fault) h (law bytes fault first)
+
+pub answer_any_length : (bytes : List ℕ) (answer : Result GameFile Refused) → Answers answer (game_at bytes) → answer ≢ Err (File TooLong)
+answer_any_length bytes (Ok game) h e = cc
+answer_any_length bytes (Err NoMemory) h e = cc
+answer_any_length bytes (Err (File fault)) h e = game_any_length bytes (h ∙ (let same : ◌≡◌ {A = Result GameFile Refused} (Err (File fault)) (Err (File TooLong)) = e in cc))

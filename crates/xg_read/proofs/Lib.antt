@@ -1,6 +1,5 @@
 pub mod Texts
-pub mod Actions
-pub mod Numbered
-pub mod Whole
-pub mod Length
+pub mod Items
+pub mod Names
+pub mod Taken
 pub mod Answered

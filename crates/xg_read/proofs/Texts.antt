@@ -1,11 +1,12 @@
 -- The token of a text, and its inside.
-use Rattle.std.proofs.Common.{◌≡◌, ℕ, ◌+◌, ◌-◌, ◌≤◌, min, Bool, true, false, List, [], ◌∷◌, ◌++◌, length, take, drop, Result, Ok, Err, refl, sym, ◌∙◌, ap, subst, arith}
+use Rattle.std.proofs.Common.{◌≡◌, ◌≢◌, ℕ, ◌+◌, ◌-◌, ◌≤◌, min, Bool, true, false, List, [], ◌∷◌, ◌++◌, length, take, drop, Result, Ok, Err, refl, sym, ◌∙◌, ap, subst, arith}
 use Rattle.std.specs.Prelude.{slice_range}
 use Rattle.std.proofs.lemmas.List.{length-append, length-take}
 use Rattle.def_tokens.specs.declared.Token.{Token}
 use Rattle.def_tokens.specs.declared.Token.TheVariants as kinds
 use Rattle.def_tokens.specs.declared.Lexeme.{Lexeme}
 use Rattle.def_tokens.specs.declared.LexFault.{LexFault}
+use Rattle.def_tokens.specs.Texts.{IsInside}
 use Rattle.def_tokens.specs.Spelling.{IsLexemeFrom, IsToken, IsText}
 use Rattle.def_file.specs.Reading.{is_kind}
 
@@ -27,3 +28,10 @@ text_room whole at token is text =
     let quoted = subst (λ (kind : Token). IsToken kind (slice_range whole token.start token.end) (drop token.end whole)) text is.token in
     let long = quoted_len (slice_range whole token.start token.end) quoted.inside quoted.quoted in
     omega (arith, is.order, length-take (token.end - token.start) (drop token.start whole))
+
+pub empty_inside : IsInside []
+empty_inside = record { escaped = tt; plain_end = no_end }
+  where
+    no_end : (front : List ℕ) → [] ≢ front ++ 92 ∷ []
+    no_end [] e = cc
+    no_end (b ∷ front) e = cc

@@ -1,6 +1,3 @@
 pub mod Gives
 pub mod Wanted
-pub mod Names
-pub mod Counted
-pub mod Taken
-pub mod Contents
+pub mod Mentions

@@ -1,133 +1,156 @@
-//! The entries of a file, each a node of the tree.
-ghost use Rattle.std.specs.Prelude.{◌≡◌, ◌≢◌, ◌+◌, ◌-◌, ◌^◌, ◌<◌, ◌≤◌, List, [], ◌∷◌, ◌++◌, length, IfOk, OnErr};
-ghost use Rattle.def_tree.specs.Tree.{wanted};
-ghost use Rattle.def_file.specs.Content.{kind_of, of_player, counts_of};
-ghost use Rattle.def_file.specs.Reading.{actions_from, player_of, player_at, personal_at, terminal_at, entry_at, entries_from};
-ghost use Rattle.xg_read.specs.Counted.{IsNext};
-ghost use Rattle.xg_read.specs.Gives.{Gives};
+//! The entries of a file.
+ghost use Rattle.std.specs.Prelude.{◌≡◌, ◌^◌, ◌≤◌, IfOk};
+ghost use Rattle.def_file.specs.Reading.{chance_entry_at, entry_at, entry_behind, outcome_mention_at, personal_entry_at, set_mention_at, terminal_entry_at};
+ghost use Rattle.xg_record.specs.Record.{record_of};
+ghost use Rattle.xg_read.specs.Gives.{GivesFor};
+ghost use Rattle.xg_read.specs.Mentions.{HasNumbers, outcome_mention_of, set_mention_of};
 
 use crate::reader::Reader;
-use crate::wanted::{Wanted, is_kind};
-use def_file::{EntryCounts, FileFault};
-use xg_lex::Token;
-use xg_tree::{Kind, Node, Player};
+use crate::wanted::Wanted;
+use def_file::EntryKind;
+use std::alloc::Global;
+use xg_game::Refused;
+use xg_lex::{Text, Token};
+use xg_record::{Actions, Payoffs, Record};
 
-/// The greatest number of actions of a set.
-const MOST_ACTIONS: u32 = 1_024;
+/// What an entry says of its set.
+#[derive(Drop)]
+pub struct SetMention {
+    pub number: u64,
+    pub name: Option<Text>,
+    pub actions: Option<Actions>,
+}
+
+/// What an entry says of its outcome.
+#[derive(Drop)]
+pub struct OutcomeMention {
+    pub number: u64,
+    pub name: Option<Text>,
+    pub payoffs: Option<Payoffs>,
+}
 
 impl<'a> Reader<'a> {
-    /// The actions of a player's set up to the closing brace, and how many they are, at most `most`.
-    #[tactic(auto, using(crate::proofs::Actions::actions_more, crate::proofs::Actions::actions_full))]
-    fn actions(&mut self, most: u32) -> Result<u32, FileFault>
-        ensures exact { Gives result self.new.at (actions_from most 0 self.old.whole self.old.at) }
+    /// A set's number, and its name and actions where they come.
+    #[tactic(auto, unfolding(def_file::specs::Reading::set_mention_at))]
+    fn set_mention(&mut self, alloc: Global, kind: EntryKind) -> Result<SetMention, Refused>
+        ensures exact { GivesFor set_mention_of result self.new.at (set_mention_at kind self.old.whole self.old.at) }
         ensures whole { self.new.whole ≡ self.old.whole }
-        ensures some_action { 0 < most → IfOk result (λ count. 1 ≤ count) }
-        ensures limit { IfOk result (λ count. count ≤ most) }
+        ensures from_one { IfOk result (λ set. 1 ≤ set.number) }
+        ensures limit { IfOk result (λ set. set.number ≤ 2 ^ 62) }
     {
-        for count in 0..most {
-            let token = self.token(Wanted::Action(count))?;
-            if !is_kind(Token::Text, token.kind) {
-                return Ok(count);
-            }
-        }
-        self.token(Wanted::Close)?;
-        Ok(most)
+        let number = self.set_number()?;
+        let name = self.name(alloc)?;
+        let actions = self.actions(alloc, kind)?;
+        Ok(SetMention {
+            number,
+            name,
+            actions,
+        })
     }
 
-    /// A player's number.
-    #[tactic(auto, unfolding(def_file::specs::Reading::player_at))]
-    fn player(&mut self) -> Result<Player, FileFault>
-        ensures exact { Gives result self.new.at (player_at self.old.whole self.old.at) }
+    /// An outcome's number, and its name and payoffs where they come.
+    #[tactic(auto, unfolding(def_file::specs::Reading::outcome_mention_at))]
+    fn outcome_mention(&mut self, alloc: Global) -> Result<OutcomeMention, Refused>
+        ensures exact { GivesFor outcome_mention_of result self.new.at (outcome_mention_at self.old.whole self.old.at) }
         ensures whole { self.new.whole ≡ self.old.whole }
+        ensures limit { IfOk result (λ outcome. outcome.number ≤ 2 ^ 62) }
     {
-        let token = self.token(Wanted::Player)?;
-        if self.is_exact(Token::Number, b"1", token) {
-            return Ok(Player::One);
-        }
-        Ok(Player::Two)
+        let number = self.whole_number()?;
+        let name = self.name(alloc)?;
+        let payoffs = self.payoffs(alloc)?;
+        Ok(OutcomeMention {
+            number,
+            name,
+            payoffs,
+        })
+    }
+
+    /// A chance entry behind its word.
+    #[tactic(auto, unfolding(def_file::specs::Reading::chance_entry_at))]
+    fn chance_entry(&mut self, alloc: Global) -> Result<Record, Refused>
+        ensures exact { GivesFor record_of result self.new.at (chance_entry_at self.old.whole self.old.at) }
+        ensures whole { self.new.whole ≡ self.old.whole }
+        ensures numbers { IfOk result HasNumbers }
+    {
+        let name = self.next_text(alloc)?;
+        let set = self.set_mention(alloc, EntryKind::Chance)?;
+        let outcome = self.outcome_mention(alloc)?;
+        Ok(with_set(EntryKind::Chance, name, 0, set, outcome))
     }
 
     /// A personal entry behind its word.
-    #[tactic(auto, unfolding(def_file::specs::Reading::personal_at, def_file::specs::Reading::most_actions))]
-    fn personal(&mut self, counts: EntryCounts) -> Result<Node, FileFault>
-        requires one { counts.one < 2 ^ 32 - 1 }
-        requires two { counts.two < 2 ^ 32 - 1 }
-        ensures exact { Gives result self.new.at (personal_at counts self.old.whole self.old.at) }
-        ensures next { IfOk result (IsNext counts) }
+    #[tactic(auto, unfolding(def_file::specs::Reading::personal_entry_at))]
+    fn personal_entry(&mut self, alloc: Global) -> Result<Record, Refused>
+        ensures exact { GivesFor record_of result self.new.at (personal_entry_at self.old.whole self.old.at) }
         ensures whole { self.new.whole ≡ self.old.whole }
+        ensures numbers { IfOk result HasNumbers }
     {
-        self.token(Wanted::Text)?;
-        let player = self.player()?;
-        let set = of_player(player, counts) + 1;
-        self.token(Wanted::Count(set))?;
-        self.token(Wanted::Text)?;
-        self.token(Wanted::Open)?;
-        let children = self.actions(MOST_ACTIONS)?;
-        self.token(Wanted::NoOutcome)?;
-        Ok(Node {
-            kind: kind_of(player),
-            set,
-            outcome: 0,
-            children,
-        })
+        let name = self.next_text(alloc)?;
+        let player = self.whole_number()?;
+        let set = self.set_mention(alloc, EntryKind::Personal)?;
+        let outcome = self.outcome_mention(alloc)?;
+        Ok(with_set(EntryKind::Personal, name, player, set, outcome))
     }
 
     /// A terminal entry behind its word.
-    #[tactic(auto, unfolding(def_file::specs::Reading::terminal_at))]
-    fn terminal(&mut self, counts: EntryCounts) -> Result<Node, FileFault>
-        requires leaves { counts.leaves < 2 ^ 32 - 1 }
-        ensures exact { Gives result self.new.at (terminal_at counts self.old.whole self.old.at) }
-        ensures next { IfOk result (IsNext counts) }
+    #[tactic(auto, unfolding(def_file::specs::Reading::terminal_entry_at))]
+    fn terminal_entry(&mut self, alloc: Global) -> Result<Record, Refused>
+        ensures exact { GivesFor record_of result self.new.at (terminal_entry_at self.old.whole self.old.at) }
         ensures whole { self.new.whole ≡ self.old.whole }
+        ensures numbers { IfOk result HasNumbers }
     {
-        let outcome = counts.leaves + 1;
-        self.token(Wanted::Text)?;
-        self.token(Wanted::Count(outcome))?;
-        self.token(Wanted::Open)?;
-        self.token(Wanted::Payoff)?;
-        self.token(Wanted::Comma)?;
-        self.token(Wanted::Payoff)?;
-        self.token(Wanted::Close)?;
-        Ok(Node {
-            kind: Kind::Leaf,
+        let name = self.next_text(alloc)?;
+        let outcome = self.outcome_mention(alloc)?;
+        Ok(Record {
+            kind: EntryKind::Leaf,
+            name,
+            player: 0,
             set: 0,
-            outcome,
-            children: 0,
+            set_name: None,
+            actions: None,
+            outcome: outcome.number,
+            outcome_name: outcome.name,
+            payoffs: outcome.payoffs,
         })
     }
 
-    /// The next entry, behind so many others.
+    /// The next entry.
     #[tactic(auto, unfolding(def_file::specs::Reading::entry_at))]
-    pub fn entry(&mut self, counts: EntryCounts) -> Result<Node, FileFault>
-        requires one { counts.one < 2 ^ 32 - 1 }
-        requires two { counts.two < 2 ^ 32 - 1 }
-        requires leaves { counts.leaves < 2 ^ 32 - 1 }
-        ensures exact { Gives result self.new.at (entry_at counts self.old.whole self.old.at) }
-        ensures next { IfOk result (IsNext counts) }
+    pub fn entry(&mut self, alloc: Global) -> Result<Record, Refused>
+        ensures exact { GivesFor record_of result self.new.at (entry_at self.old.whole self.old.at) }
         ensures whole { self.new.whole ≡ self.old.whole }
+        ensures numbers { IfOk result HasNumbers }
     {
         let head = self.token(Wanted::Head)?;
-        if self.is_exact(Token::Word, b"p", head) {
-            return self.personal(counts);
+        if self.is_exact(Token::Word, b"c", head) {
+            return self.chance_entry(alloc);
         }
-        self.terminal(counts)
+        if self.is_exact(Token::Word, b"p", head) {
+            return self.personal_entry(alloc);
+        }
+        self.terminal_entry(alloc)
     }
 }
 
-fn of_player(player: Player, counts: EntryCounts) -> u32
-    ensures { result ≡ of_player player counts }
+/// The entry of a node with a set.
+fn with_set(
+    kind: EntryKind,
+    name: Text,
+    player: u64,
+    set: SetMention,
+    outcome: OutcomeMention,
+) -> Record
+    ensures { record_of result ≡ record { kind = kind; name = name; player = player; set = set_mention_of set; outcome = outcome_mention_of outcome } }
 {
-    match player {
-        Player::One => counts.one,
-        Player::Two => counts.two,
-    }
-}
-
-fn kind_of(player: Player) -> Kind
-    ensures { result ≡ kind_of player }
-{
-    match player {
-        Player::One => Kind::One,
-        Player::Two => Kind::Two,
+    Record {
+        kind,
+        name,
+        player,
+        set: set.number,
+        set_name: set.name,
+        actions: set.actions,
+        outcome: outcome.number,
+        outcome_name: outcome.name,
+        payoffs: outcome.payoffs,
     }
 }

@@ -1,101 +1,97 @@
-//! A game, and its reading.
-ghost use Rattle.std.specs.Prelude.{◌≡◌, ◌≢◌, ◌≤◌, length, IfOk};
+//! The reading of a whole file.
+ghost use Rattle.std.specs.Prelude.{◌≡◌, ◌≢◌, ◌-◌, ◌≤◌, false, length, IfOk, OnOk};
+ghost use Rattle.def_tree.specs.Tree.{wanted};
 ghost use Rattle.def_file.specs.declared.FileFault.{FileFault};
 ghost use Rattle.def_file.specs.Content.{GameFile};
-ghost use Rattle.def_file.specs.Reading.{game_at};
-ghost use Rattle.def_form.specs.Form.{IsGameFile};
-ghost use Rattle.def_form.specs.Faults.{StopsAt};
-ghost use Rattle.xg_read.specs.Contents.{name_of};
-ghost use Rattle.xg_read.specs.Gives.{Answers};
+ghost use Rattle.def_file.specs.Reading.{entries_from, game_at};
+ghost use Rattle.def_form.specs.Laws.{StandsFor};
+ghost use Rattle.def_first.specs.First.{FirstFault};
+ghost use Rattle.xg_read.specs.Gives.{Answers, GivesFor, GivesNext, next_at};
 
-use crate::fault::Refused;
-use crate::nodes::read_nodes;
-use crate::reader::{Names, Reader};
-use crate::wanted::Wanted;
+use crate::reader::Reader;
 use def_file::FileFault;
 use std::alloc::Global;
-use std::marker::Model;
-use xg_lex::Text;
-use xg_tree::{Player, Tree};
+use xg_game::{Game, GameMaker, Refused, Seed};
 
-/// The greatest number of nodes of a game.
-const MOST_NODES: usize = 1_048_576;
-
-/// A game as its file gives it.
-#[derive(Drop)]
-pub struct Game {
-    names: Names,
-    tree: Tree,
-}
-
-impl Model for Game {
-    ghost use Rattle.std.specs.Coded.{codes};
-    ghost use Rattle.def_tree.specs.Code.{forest_code};
-    ghost use Rattle.def_file.specs.Content.{GameFile};
-
-    ghost Value = { GameFile };
-
-    ghost coded = { Prim.hlevel (codes, forest_code) };
-
-    ghost view = { λ g. record { title = g.names.title; one = g.names.one; two = g.names.two; tree = g.tree } };
-}
-
-impl Game {
-    /// The tree of the game's nodes.
-    pub fn tree(&self) -> &Tree
-        ensures { result.now ≡ self.now.tree }
-    {
-        &self.tree
-    }
-
-    /// The title, without the quotation marks round it.
-    pub fn title(&self) -> &[u8]
-        ensures { result.now ≡ self.now.title }
-    {
-        self.names.title.bytes()
-    }
-
-    /// A player's name, without the quotation marks round it.
-    pub fn player_name(&self, player: Player) -> &[u8]
-        ensures { result.now ≡ name_of player self.now }
-    {
-        match player {
-            Player::One => self.names.one.bytes(),
-            Player::Two => self.names.two.bytes(),
-        }
-    }
-}
+/// One more than the greatest number of nodes: the entry behind the last one that may be is read and judged, too.
+const MOST_ENTRIES: usize = 1_048_577;
 
 /// Reads a game from the bytes of its file, of at most 67,108,864 bytes.
 ///
-/// Memory apart, the answer is the game that the file stands for, or the first fault of its form.
+/// Memory apart, the answer is the game that the file stands for, or the file's first fault.
 pub fn read_game(alloc: Global, bytes: &[u8]) -> Result<Game, Refused>
     requires { length bytes.now ≤ 67108864 }
     ensures exact { Answers result (game_at bytes.now) }
 
-    // What is read is in the form and stands for the game, and what is in the form is read so.
-    ensures found { IfOk result (λ game. IsGameFile bytes.now game) }
-    ensures only { (file : GameFile) → IsGameFile bytes.now file → Answers result (Ok file) }
+    // What is accepted has a reading without a fault and stands for its game, and each such file is accepted.
+    ensures found { IfOk result (λ game. StandsFor bytes.now game) }
+    ensures only { (game : GameFile) → StandsFor bytes.now game → Answers result (Ok game) }
 
-    // A fault is what stands at the first place where the tokens can't go on, and what stands there is the fault.
-    ensures first { (fault : FileFault) → result ≡ Err (Refused.File fault) → StopsAt bytes.now fault }
-    ensures stops { (fault : FileFault) → StopsAt bytes.now fault → Answers result (Err fault) }
+    // A fault is the file's first, and the file's first is the fault.
+    ensures first { (fault : FileFault) → result ≡ Err (Refused.File fault) → FirstFault bytes.now fault }
+    ensures faults { (fault : FileFault) → FirstFault bytes.now fault → Answers result (Err fault) }
     ensures any_length { result ≢ Err (Refused.File FileFault.TooLong) }
 {
-    read_form(alloc, bytes)
+    read_file(alloc, bytes)
 }
 
-#[tactic(auto, unfolding(def_file::specs::Reading::game_at, def_file::specs::Reading::most_nodes))]
-fn read_form(alloc: Global, bytes: &[u8]) -> Result<Game, Refused>
+#[tactic(auto, unfolding(def_file::specs::Reading::game_at))]
+fn read_file(alloc: Global, bytes: &[u8]) -> Result<Game, Refused>
     requires { length bytes.now ≤ 67108864 }
     ensures { Answers result (game_at bytes.now) }
 {
     let mut reader = Reader::new(bytes);
-    let names = reader.prologue(alloc)?;
-    let nodes = read_nodes(alloc, &mut reader, MOST_NODES)?;
-    reader.token(Wanted::End)?;
-    Ok(Game {
-        names,
-        tree: nodes.finish(),
-    })
+    let prologue = reader.prologue(alloc)?;
+    let maker = GameMaker::seeded(
+        alloc,
+        Seed::new(bytes),
+        prologue.title,
+        prologue.one,
+        prologue.two,
+        prologue.comment,
+    );
+    let maker = read_entries(alloc, &mut reader, maker, MOST_ENTRIES)?;
+    match reader.nothing() {
+        Ok(_) => Ok(maker.finish()),
+        Err(fault) => Err(Refused::File(fault)),
+    }
+}
+
+/// Reads entries until the tree is whole, at most `most` of them.
+#[tactic(auto, using(crate::proofs::Taken::entries_done, crate::proofs::Taken::entries_stopped, crate::proofs::Taken::entries_full))]
+fn read_entries(
+    alloc: Global,
+    reader: &mut Reader<'_>,
+    maker: GameMaker,
+    most: usize,
+) -> Result<GameMaker, Refused>
+    requires { maker.spent ≡ false }
+    ensures exact { GivesFor (λ made. made.contents) result reader.new.at
+        (entries_from most maker.contents reader.old.whole reader.old.at) }
+    ensures complete { IfOk result (λ made. wanted 1 made.contents.nodes ≡ 0) }
+    ensures unspent { IfOk result (λ made. made.spent ≡ false) }
+    ensures prologue { IfOk result (λ made. made.prologue ≡ maker.prologue) }
+    ensures whole { reader.new.whole ≡ reader.old.whole }
+{
+    let mut maker = maker;
+    'entries: for _ in 0..most {
+        if maker.is_complete() {
+            return Ok(maker);
+        }
+        take_entry(alloc, reader, &mut maker)?;
+    }
+    Err(Refused::File(FileFault::TooManyNodes))
+}
+
+/// Reads the next entry and puts it last.
+fn take_entry(alloc: Global, reader: &mut Reader<'_>, maker: &mut GameMaker) -> Result<(), Refused>
+    requires incomplete { wanted 1 maker.old.contents.nodes ≢ 0 }
+    requires unspent { maker.old.spent ≡ false }
+    ensures exact { GivesNext result maker.new.contents reader.new.at (next_at maker.old.contents reader.old.whole reader.old.at) }
+    ensures unspent { OnOk result (maker.new.spent ≡ false) }
+    ensures prologue { maker.new.prologue ≡ maker.old.prologue }
+    ensures whole { reader.new.whole ≡ reader.old.whole }
+{
+    let entry = reader.entry(alloc)?;
+    maker.push(entry)
 }

@@ -1,19 +1,19 @@
-//! Reads a game from the bytes of its file.
-//!
-//! The form that is read is a part of Gambit's `.efg` format, which the manual's chapter "The extensive game (.efg)
-//! file format" describes.
+//! Reads a game from the bytes of its file, in Gambit's `.efg` format, which the manual's chapter "The extensive game
+//! (.efg) file format" describes.
 #![tactic(auto)]
 
 mod entries;
-mod fault;
 mod game;
-mod nodes;
-mod numbers;
+mod lists;
+mod prologue;
 mod reader;
 #[cfg(test)]
 mod tests;
+mod values;
 mod wanted;
 
 pub use def_file::FileFault;
-pub use fault::Refused;
-pub use game::{Game, read_game};
+pub use def_fraction::NumberFault;
+pub use game::read_game;
+pub use xg_game::{Game, GameMaker, Refused};
+pub use xg_record::{Action, Actions, EntryKind, Payoffs, Record};

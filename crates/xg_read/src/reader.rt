@@ -1,12 +1,9 @@
-//! A reader of a file's tokens, and of the prologue.
+//! A reader of a file's tokens.
 ghost use Rattle.std.specs.Prelude.{◌≡◌, ◌+◌, ◌-◌, ◌≤◌, true, length, slice_range, IfOk};
-ghost use Rattle.def_tokens.specs.Texts.{IsInside, unescaped};
-ghost use Rattle.def_file.specs.Reading.{is_exact, token_where, unfit, text_of, text_at, prologue_at};
-ghost use Rattle.xg_read.specs.Gives.{GivesFor};
-ghost use Rattle.xg_read.specs.Names.{names_of};
+ghost use Rattle.def_tokens.specs.Texts.{IsInside};
+ghost use Rattle.def_file.specs.Reading.{is_exact, next_is, nothing_at, text_of, token_where, unfit};
 ghost use Rattle.xg_read.specs.Wanted.{test_of};
 
-use crate::fault::Refused;
 use crate::wanted::{Wanted, is_exact, is_kind};
 use def_file::FileFault;
 use std::alloc::{AllocError, Global};
@@ -31,14 +28,6 @@ impl<'a> Model for Reader<'a> {
     ghost invariant = { λ r. r.tokens.whole ≡ r.bytes.now };
 }
 
-/// The texts of a file's prologue.
-#[derive(Drop)]
-pub struct Names {
-    pub title: Text,
-    pub one: Text,
-    pub two: Text,
-}
-
 impl<'a> Reader<'a> {
     /// A reader that stands before the first byte.
     pub fn new(bytes: &'a [u8]) -> Reader<'a>
@@ -48,6 +37,24 @@ impl<'a> Reader<'a> {
         Reader {
             bytes,
             tokens: Tokens::new(bytes),
+        }
+    }
+
+    /// How many bytes the file has.
+    pub fn len(&self) -> usize
+        ensures { result ≡ length self.now.whole }
+    {
+        self.bytes.len()
+    }
+
+    /// Whether this byte comes next, white space aside.
+    #[tactic(auto, unfolding(def_file::specs::Reading::next_is))]
+    pub fn comes(&self, byte: u8) -> bool
+        ensures { result ≡ next_is byte self.now.whole self.now.at }
+    {
+        match self.tokens.next_byte() {
+            Some(next) => next == byte,
+            None => false,
         }
     }
 
@@ -75,10 +82,42 @@ impl<'a> Reader<'a> {
             Err(LexFault::Unclosed { at: _ }) => Err(FileFault::UnexpectedEnd),
         }
     }
-}
 
-/// Texts and the prologue.
-impl<'a> Reader<'a> {
+    /// Sees that nothing but white space is left, and answers where the bytes end.
+    #[tactic(auto, unfolding(def_file::specs::Reading::nothing_at))]
+    pub fn nothing(&mut self) -> Result<usize, FileFault>
+        ensures { result ≡ nothing_at self.old.whole self.old.at }
+    {
+        match self.tokens.next() {
+            Ok(token) => {
+                if is_kind(Token::End, token.kind) {
+                    return Ok(token.end);
+                }
+                Err(FileFault::TrailingText { at: token.start })
+            }
+            Err(LexFault::Syntax { at }) => Err(FileFault::TrailingText { at }),
+            Err(LexFault::Unclosed { at }) => Err(FileFault::TrailingText { at }),
+        }
+    }
+
+    /// The bytes of a token.
+    pub fn token_bytes(&self, token: Lexeme) -> &[u8]
+        requires order { token.start ≤ token.end }
+        requires within { token.end ≤ length self.now.whole }
+        ensures { result.now ≡ slice_range self.now.whole token.start token.end }
+    {
+        &self.bytes[token.start..token.end]
+    }
+
+    /// Whether the token is of this kind and has these bytes.
+    pub fn is_exact(&self, kind: Token, exact: &[u8], token: Lexeme) -> bool
+        requires order { token.start ≤ token.end }
+        requires within { token.end ≤ length self.now.whole }
+        ensures { result ≡ is_exact kind exact.now self.now.whole token }
+    {
+        is_exact(kind, exact, self.bytes, token)
+    }
+
     /// The bytes that a text token stands for.
     pub fn text(&self, alloc: Global, token: Lexeme) -> Result<Text, AllocError>
         requires marks { token.start + 2 ≤ token.end }
@@ -88,52 +127,14 @@ impl<'a> Reader<'a> {
     {
         unescape(alloc, &self.bytes[token.start + 1..token.end - 1])
     }
-
-    /// The next text token, and the bytes that it stands for.
-    #[tactic(auto, using(crate::proofs::Texts::kind_is_text), unfolding(def_file::specs::Reading::text_at))]
-    pub fn next_text(&mut self, alloc: Global) -> Result<Text, Refused>
-        ensures exact { GivesFor (λ text. text) result self.new.at (text_at self.old.whole self.old.at) }
-        ensures whole { self.new.whole ≡ self.old.whole }
-    {
-        let token = self.token(Wanted::Text)?;
-        Ok(self.text(alloc, token)?)
-    }
-
-    /// The prologue.
-    #[tactic(auto, unfolding(def_file::specs::Reading::prologue_at))]
-    pub fn prologue(&mut self, alloc: Global) -> Result<Names, Refused>
-        ensures exact { GivesFor names_of result self.new.at (prologue_at self.old.whole self.old.at) }
-        ensures whole { self.new.whole ≡ self.old.whole }
-    {
-        self.token(Wanted::Marker)?;
-        self.token(Wanted::Version)?;
-        self.token(Wanted::Numbers)?;
-        let title = self.next_text(alloc)?;
-        self.token(Wanted::Open)?;
-        let one = self.next_text(alloc)?;
-        let two = self.next_text(alloc)?;
-        self.token(Wanted::Close)?;
-        Ok(Names { title, one, two })
-    }
 }
 
-impl<'a> Reader<'a> {
-    /// Whether the token is of this kind and has these bytes.
-    pub fn is_exact(&self, kind: Token, exact: &[u8], token: Lexeme) -> bool
-        requires order { token.start ≤ token.end }
-        requires within { token.end ≤ length self.now.whole }
-        ensures { result ≡ is_exact kind exact.now self.now.whole token }
-    {
-        is_exact(kind, exact, self.bytes, token)
-    }
-}
-
-/// The fault of a token that can't go on.
+/// The fault of a token that can't be taken.
 fn unfit(token: Lexeme) -> FileFault
     ensures { result ≡ unfit token }
 {
     if is_kind(Token::End, token.kind) {
         return FileFault::UnexpectedEnd;
     }
-    FileFault::NotBuilt { at: token.start }
+    FileFault::Syntax { at: token.start }
 }

@@ -1,12 +1,18 @@
-use crate::{FileFault, Game, Refused, read_game};
+//! Games and faults that are known from outside.
+use crate::{Action, Actions, FileFault, Game, NumberFault, Payoffs, Refused, read_game};
 use std::alloc::{AllocError, Global};
 use std::marker::{Send, Sync};
 use std::process::Abort;
 use std::test::Fail;
-use xg_lex::{LexFault, Token, Tokens};
-use xg_tree::Player;
+use xg_frac::one_over;
+use xg_game::{Kind, Player};
+use xg_lex::{LexFault, Token, Tokens, unescape};
 
 const LONGEST: usize = 67_108_864;
+
+/// Matching pennies, where the second player doesn't see the first one's coin.
+const PENNIES: &[u8] =
+    b"EFG 2 R \"Pennies\" { \"A\" \"B\" }\np \"\" 1 1 \"a\" { \"H\" \"T\" } 0\np \"\" 2 1 \"b\" { \"h\" \"t\" } 0\nt \"\" 1 \"win\" { 1, -1 }\nt \"\" 2 \"lose\" { -1, 1 }\np \"\" 2 1 0\nt \"\" 2\nt \"\" 1\n";
 
 fn refuses(rt: &impl Abort, alloc: Global, bytes: &[u8], fault: FileFault) {
     assert!(rt; bytes.len() <= LONGEST);
@@ -27,61 +33,57 @@ fn reads(rt: &impl Abort, alloc: Global, bytes: &[u8], nodes: u32, leaves: u32) 
     }
 }
 
+/// A file of what stands behind the prologue `EFG 2 R "" { "A" "B" }` and a space, which are 23 bytes.
+fn with_prologue(alloc: Global, rest: &str) -> Result<String, AllocError> {
+    let mut file = String::from_str(alloc, "EFG 2 R \"\" { \"A\" \"B\" } ")?;
+    file.push_str(rest)?;
+    Ok(file)
+}
+
 #[test]
-fn faults(rt: HostRuntime) {
+fn faults_of_the_prologue(rt: HostRuntime) {
     let rows = [
         (b"".as_slice(), FileFault::UnexpectedEnd),
         (b" \t\n\x0b\x0c\r".as_slice(), FileFault::UnexpectedEnd),
-        (b"EFX 2".as_slice(), FileFault::NotBuilt { at: 0 }),
-        (b"efg 2".as_slice(), FileFault::NotBuilt { at: 0 }),
-        (b"\"EFG\" 2".as_slice(), FileFault::NotBuilt { at: 0 }),
-        (b" 2 R".as_slice(), FileFault::NotBuilt { at: 1 }),
-        (b"EFG 3 R".as_slice(), FileFault::NotBuilt { at: 4 }),
-        (b"EFG 02 R".as_slice(), FileFault::NotBuilt { at: 4 }),
-        (b"EFG 2.0 R".as_slice(), FileFault::NotBuilt { at: 4 }),
-        (b"EFG \"2\" R".as_slice(), FileFault::NotBuilt { at: 4 }),
+        (b"NFG 2".as_slice(), FileFault::Syntax { at: 0 }),
+        (b"\"EFG\" 2".as_slice(), FileFault::Syntax { at: 0 }),
         (b"EFG".as_slice(), FileFault::UnexpectedEnd),
-        (b"EFG 2 D \"x\"".as_slice(), FileFault::NotBuilt { at: 6 }),
-        (b"EFG 2 Rx \"x\"".as_slice(), FileFault::NotBuilt { at: 6 }),
-        (b"EFG 2 ".as_slice(), FileFault::UnexpectedEnd),
-        (b"EFG 2 R x".as_slice(), FileFault::NotBuilt { at: 8 }),
+        (b"EFG 3 R".as_slice(), FileFault::Syntax { at: 4 }),
+        (b"EFG 02 R".as_slice(), FileFault::Syntax { at: 4 }),
+        (b"EFG 2.0 R".as_slice(), FileFault::Syntax { at: 4 }),
+        (b"EFG 1e R".as_slice(), FileFault::Syntax { at: 4 }),
+        (b"EFG 2 Rx \"x\"".as_slice(), FileFault::Syntax { at: 6 }),
+        (b"EFG 2 R x".as_slice(), FileFault::Syntax { at: 8 }),
         (b"EFG 2 R \"x".as_slice(), FileFault::UnexpectedEnd),
         (b"EFG 2 R \"x\\\"".as_slice(), FileFault::UnexpectedEnd),
         (b"EFG 2 R \"x\\\\\"".as_slice(), FileFault::UnexpectedEnd),
+        (b"EFG 2 R \"x\" \"A".as_slice(), FileFault::UnexpectedEnd),
         (
             b"EFG 2 R \"x\" \"A\"".as_slice(),
-            FileFault::NotBuilt { at: 12 },
+            FileFault::Syntax { at: 12 },
         ),
         (
             b"EFG 2 R \"x\" { }".as_slice(),
-            FileFault::NotBuilt { at: 14 },
+            FileFault::Players { count: 0 },
         ),
         (
-            b"EFG 2 R \"x\" { \"A\" }".as_slice(),
-            FileFault::NotBuilt { at: 18 },
+            b"EFG 2 D \"x\" { \"A\" } #".as_slice(),
+            FileFault::Players { count: 1 },
         ),
         (
-            b"EFG 2 R \"x\" { \"A\" \"B\" \"C\" }".as_slice(),
-            FileFault::NotBuilt { at: 22 },
+            b"EFG 2 R \"x\" { \"A\" \"B\" \"C\" } \"".as_slice(),
+            FileFault::Players { count: 3 },
+        ),
+        (
+            b"EFG 2 R \"x\" { \"A\" \"B\" \"C\" 1".as_slice(),
+            FileFault::Syntax { at: 26 },
         ),
         (
             b"EFG 2 R \"x\" { \"A\" \"B".as_slice(),
             FileFault::UnexpectedEnd,
         ),
-        (
-            b"EFG 2 R \"x\" { \"A\" \"B\" } \"comment\" t \"\" 1 { 1, -1 }".as_slice(),
-            FileFault::NotBuilt { at: 24 },
-        ),
-        (
-            b"EFG 2 R \"x\" { \"A\" \"B\" } #".as_slice(),
-            FileFault::Syntax { at: 24 },
-        ),
         (b"#EFG".as_slice(), FileFault::Syntax { at: 0 }),
         (b"EFG * 2".as_slice(), FileFault::Syntax { at: 4 }),
-        (
-            b"EFG 2 R \"x\" ; {".as_slice(),
-            FileFault::Syntax { at: 12 },
-        ),
         (
             b"EFG 2 R \"x\" { \x80".as_slice(),
             FileFault::Syntax { at: 14 },
@@ -91,272 +93,12 @@ fn faults(rt: HostRuntime) {
             FileFault::UnexpectedEnd,
         ),
         (
-            b"EFG 2 R \"x\" { \"A\" \"B\" } c \"\" 1".as_slice(),
-            FileFault::NotBuilt { at: 24 },
-        ),
-        (
-            b"EFG 2 R \"x\" { \"A\" \"B\" } x".as_slice(),
-            FileFault::NotBuilt { at: 24 },
-        ),
-        (
-            b"EFG 2 R \"x\" { \"A\" \"B\" } tt".as_slice(),
-            FileFault::NotBuilt { at: 24 },
-        ),
-        (
-            b"EFG 2 R \"x\" { \"A\" \"B\" } 1".as_slice(),
-            FileFault::NotBuilt { at: 24 },
-        ),
-        (
-            b"EFG 2 R \"x\" { \"A\" \"B\" } t 1".as_slice(),
-            FileFault::NotBuilt { at: 26 },
-        ),
-        (
-            b"EFG 2 R \"x\" { \"A\" \"B\" } t \"\" 0 { 1, -1 }".as_slice(),
-            FileFault::NotBuilt { at: 29 },
-        ),
-        (
-            b"EFG 2 R \"x\" { \"A\" \"B\" } t \"\" 2 { 1, -1 }".as_slice(),
-            FileFault::NotBuilt { at: 29 },
-        ),
-        (
-            b"EFG 2 R \"x\" { \"A\" \"B\" } t \"\" -1 {".as_slice(),
-            FileFault::NotBuilt { at: 29 },
-        ),
-        (
-            b"EFG 2 R \"x\" { \"A\" \"B\" } t \"\" 1x {".as_slice(),
-            FileFault::NotBuilt { at: 29 },
-        ),
-        (
-            b"EFG 2 R \"x\" { \"A\" \"B\" } t \"\" 1.0 {".as_slice(),
-            FileFault::NotBuilt { at: 29 },
-        ),
-        (
-            b"EFG 2 R \"x\" { \"A\" \"B\" } t \"\" 1 \"win\" { 1, -1 }".as_slice(),
-            FileFault::NotBuilt { at: 31 },
-        ),
-        (
-            b"EFG 2 R \"x\" { \"A\" \"B\" } t \"\" 1 { 1 -1 }".as_slice(),
-            FileFault::NotBuilt { at: 35 },
-        ),
-        (
-            b"EFG 2 R \"x\" { \"A\" \"B\" } t \"\" 1 { 1, , 1 }".as_slice(),
-            FileFault::NotBuilt { at: 36 },
-        ),
-        (
-            b"EFG 2 R \"x\" { \"A\" \"B\" } t \"\" 1 { 1, 2, 3 }".as_slice(),
-            FileFault::NotBuilt { at: 37 },
-        ),
-        (
-            b"EFG 2 R \"x\" { \"A\" \"B\" } t \"\" 1 { }".as_slice(),
-            FileFault::NotBuilt { at: 33 },
-        ),
-        (
-            b"EFG 2 R \"x\" { \"A\" \"B\" } t \"\" 1 { +1, -1 }".as_slice(),
-            FileFault::NotBuilt { at: 33 },
-        ),
-        (
-            b"EFG 2 R \"x\" { \"A\" \"B\" } t \"\" 1 { 4611686018427387905, 0 }".as_slice(),
-            FileFault::NotBuilt { at: 33 },
-        ),
-        (
-            b"EFG 2 R \"x\" { \"A\" \"B\" } t \"\" 1 { 0, -4611686018427387905 }".as_slice(),
-            FileFault::NotBuilt { at: 36 },
-        ),
-        (
-            b"EFG 2 R \"x\" { \"A\" \"B\" } t \"\" 1 { 1/2, 1 }".as_slice(),
-            FileFault::NotBuilt { at: 33 },
-        ),
-        (
-            b"EFG 2 R \"x\" { \"A\" \"B\" } t \"\" 1 { .5, 1 }".as_slice(),
-            FileFault::NotBuilt { at: 33 },
-        ),
-        (
-            b"EFG 2 R \"x\" { \"A\" \"B\" } t \"\" 1 { -, 1 }".as_slice(),
-            FileFault::NotBuilt { at: 33 },
-        ),
-        (
-            b"EFG 2 R \"x\" { \"A\" \"B\" } t \"\" 1 { --1, 1 }".as_slice(),
-            FileFault::NotBuilt { at: 33 },
-        ),
-        (
-            b"EFG 2 R \"x\" { \"A\" \"B\" } t \"\" 1 { 1e, 1 }".as_slice(),
-            FileFault::NotBuilt { at: 33 },
-        ),
-        (
-            b"EFG 2 R \"x\" { \"A\" \"B\" } t \"\" 1 { 1%, 1 }".as_slice(),
-            FileFault::NotBuilt { at: 33 },
-        ),
-        (
-            b"EFG 2 R \"x\" { \"A\" \"B\" } t".as_slice(),
+            b"EFG 2 R \"x\" { \"A\" \"B\" } \"".as_slice(),
             FileFault::UnexpectedEnd,
         ),
         (
-            b"EFG 2 R \"x\" { \"A\" \"B\" } t \"\"".as_slice(),
-            FileFault::UnexpectedEnd,
-        ),
-        (
-            b"EFG 2 R \"x\" { \"A\" \"B\" } t \"\" 1".as_slice(),
-            FileFault::UnexpectedEnd,
-        ),
-        (
-            b"EFG 2 R \"x\" { \"A\" \"B\" } t \"\" 1 {".as_slice(),
-            FileFault::UnexpectedEnd,
-        ),
-        (
-            b"EFG 2 R \"x\" { \"A\" \"B\" } t \"\" 1 { 1".as_slice(),
-            FileFault::UnexpectedEnd,
-        ),
-        (
-            b"EFG 2 R \"x\" { \"A\" \"B\" } t \"\" 1 { 1,".as_slice(),
-            FileFault::UnexpectedEnd,
-        ),
-        (
-            b"EFG 2 R \"x\" { \"A\" \"B\" } t \"\" 1 { 1, -1".as_slice(),
-            FileFault::UnexpectedEnd,
-        ),
-        (
-            b"EFG 2 R \"x\" { \"A\" \"B\" } t \"a".as_slice(),
-            FileFault::UnexpectedEnd,
-        ),
-        (
-            b"EFG 2 R \"x\" { \"A\" \"B\" } t ~".as_slice(),
-            FileFault::Syntax { at: 26 },
-        ),
-        (
-            b"EFG 2 R \"x\" { \"A\" \"B\" } t \"\" 1 { %".as_slice(),
-            FileFault::Syntax { at: 33 },
-        ),
-        (
-            b"EFG 2 R \"x\" { \"A\" \"B\" } t \"\" 1 { 1, -1 _".as_slice(),
-            FileFault::Syntax { at: 39 },
-        ),
-        (
-            b"EFG 2 R \"x\" { \"A\" \"B\" } p \"\" 3 1".as_slice(),
-            FileFault::NotBuilt { at: 29 },
-        ),
-        (
-            b"EFG 2 R \"x\" { \"A\" \"B\" } p \"\" 01 1".as_slice(),
-            FileFault::NotBuilt { at: 29 },
-        ),
-        (
-            b"EFG 2 R \"x\" { \"A\" \"B\" } p \"\" 0 1".as_slice(),
-            FileFault::NotBuilt { at: 29 },
-        ),
-        (
-            b"EFG 2 R \"x\" { \"A\" \"B\" } p \"\" \"1\" 1".as_slice(),
-            FileFault::NotBuilt { at: 29 },
-        ),
-        (
-            b"EFG 2 R \"x\" { \"A\" \"B\" } p \"\" 1 2 \"\"".as_slice(),
-            FileFault::NotBuilt { at: 31 },
-        ),
-        (
-            b"EFG 2 R \"x\" { \"A\" \"B\" } p \"\" 1 0 \"\"".as_slice(),
-            FileFault::NotBuilt { at: 31 },
-        ),
-        (
-            b"EFG 2 R \"x\" { \"A\" \"B\" } p \"\" 2 11 \"\"".as_slice(),
-            FileFault::NotBuilt { at: 31 },
-        ),
-        (
-            b"EFG 2 R \"x\" { \"A\" \"B\" } p \"\" 1 1 { \"a\" }".as_slice(),
-            FileFault::NotBuilt { at: 33 },
-        ),
-        (
-            b"EFG 2 R \"x\" { \"A\" \"B\" } p \"\" 1 1 \"\" 0".as_slice(),
-            FileFault::NotBuilt { at: 36 },
-        ),
-        (
-            b"EFG 2 R \"x\" { \"A\" \"B\" } p \"\" 1 1 \"\" { } 0".as_slice(),
-            FileFault::NotBuilt { at: 38 },
-        ),
-        (
-            b"EFG 2 R \"x\" { \"A\" \"B\" } p \"\" 1 1 \"\" { \"a\" , \"b\" }".as_slice(),
-            FileFault::NotBuilt { at: 42 },
-        ),
-        (
-            b"EFG 2 R \"x\" { \"A\" \"B\" } p \"\" 1 1 \"\" { \"a\" } 1".as_slice(),
-            FileFault::NotBuilt { at: 44 },
-        ),
-        (
-            b"EFG 2 R \"x\" { \"A\" \"B\" } p \"\" 1 1 \"\" { \"a\" } 00".as_slice(),
-            FileFault::NotBuilt { at: 44 },
-        ),
-        (
-            b"EFG 2 R \"x\" { \"A\" \"B\" } p \"\" 1 1 \"\" { \"a\" } {".as_slice(),
-            FileFault::NotBuilt { at: 44 },
-        ),
-        (
-            b"EFG 2 R \"x\" { \"A\" \"B\" } p \"\" 1 1 \"\" { \"a\" } 0 p \"\" 1 1 \"\"".as_slice(),
-            FileFault::NotBuilt { at: 53 },
-        ),
-        (
-            b"EFG 2 R \"x\" { \"A\" \"B\" } p".as_slice(),
-            FileFault::UnexpectedEnd,
-        ),
-        (
-            b"EFG 2 R \"x\" { \"A\" \"B\" } p \"\"".as_slice(),
-            FileFault::UnexpectedEnd,
-        ),
-        (
-            b"EFG 2 R \"x\" { \"A\" \"B\" } p \"\" 1".as_slice(),
-            FileFault::UnexpectedEnd,
-        ),
-        (
-            b"EFG 2 R \"x\" { \"A\" \"B\" } p \"\" 1 1".as_slice(),
-            FileFault::UnexpectedEnd,
-        ),
-        (
-            b"EFG 2 R \"x\" { \"A\" \"B\" } p \"\" 1 1 \"s".as_slice(),
-            FileFault::UnexpectedEnd,
-        ),
-        (
-            b"EFG 2 R \"x\" { \"A\" \"B\" } p \"\" 1 1 \"\" {".as_slice(),
-            FileFault::UnexpectedEnd,
-        ),
-        (
-            b"EFG 2 R \"x\" { \"A\" \"B\" } p \"\" 1 1 \"\" { \"a\" \"b".as_slice(),
-            FileFault::UnexpectedEnd,
-        ),
-        (
-            b"EFG 2 R \"x\" { \"A\" \"B\" } p \"\" 1 1 \"\" { \"a\" }".as_slice(),
-            FileFault::UnexpectedEnd,
-        ),
-        (
-            b"EFG 2 R \"x\" { \"A\" \"B\" } p \"\" 1 1 \"\" { \"a\" } 0".as_slice(),
-            FileFault::UnexpectedEnd,
-        ),
-        (
-            b"EFG 2 R \"x\" { \"A\" \"B\" } p \"\" 1 1 \"\" { !".as_slice(),
-            FileFault::Syntax { at: 38 },
-        ),
-        (
-            b"EFG 2 R \"x\" { \"A\" \"B\" } p \"\" 1 1 \"\" { \"a\" \\".as_slice(),
-            FileFault::Syntax { at: 42 },
-        ),
-        (
-            b"EFG 2 R \"x\" { \"A\" \"B\" } p \"\" 1 1 \"\" { \"a\" \"b\" } 0 t \"\" 1 { 1, -1 } ".as_slice(),
-            FileFault::UnexpectedEnd,
-        ),
-        (
-            b"EFG 2 R \"x\" { \"A\" \"B\" } t \"\" 1 { 1, -1 } t \"\" 2 { 1, -1 }".as_slice(),
-            FileFault::NotBuilt { at: 41 },
-        ),
-        (
-            b"EFG 2 R \"x\" { \"A\" \"B\" } t \"\" 1 { 1, -1 }}".as_slice(),
-            FileFault::NotBuilt { at: 40 },
-        ),
-        (
-            b"EFG 2 R \"x\" { \"A\" \"B\" } t \"\" 1 { 1, -1 } @".as_slice(),
-            FileFault::Syntax { at: 41 },
-        ),
-        (
-            b"EFG 2 R \"x\" { \"A\" \"B\" } t \"\" 1 { 1, -1 } \"abc".as_slice(),
-            FileFault::UnexpectedEnd,
-        ),
-        (
-            b"EFG 2 R \"x\" { \"A\" \"B\" } t \"\" 1 { 1, -1 } \"abc\"".as_slice(),
-            FileFault::NotBuilt { at: 41 },
+            b"EFG 2 R \"x\" { \"A\" \"B\" } \"\" \"\"".as_slice(),
+            FileFault::Syntax { at: 27 },
         ),
     ];
     for (bytes, fault) in rows {
@@ -365,74 +107,287 @@ fn faults(rt: HostRuntime) {
 }
 
 #[test]
-fn games(rt: HostRuntime) {
+fn faults_of_tokens(rt: HostRuntime) -> Result<(), Fail> {
     let rows = [
+        ("x", FileFault::Syntax { at: 23 }),
+        ("tt", FileFault::Syntax { at: 23 }),
+        ("{", FileFault::Syntax { at: 23 }),
+        ("#", FileFault::Syntax { at: 23 }),
+        ("t", FileFault::UnexpectedEnd),
+        ("t 1", FileFault::Syntax { at: 25 }),
+        ("t \"\" \"", FileFault::UnexpectedEnd),
+        ("t \"\" {", FileFault::Syntax { at: 28 }),
         (
-            b"EFG 2 R \"x\" { \"A\" \"B\" } t \"\" 1 { 1, -1 }".as_slice(),
-            1,
-            1,
+            "t \"\" -1 {",
+            FileFault::Number {
+                at: 28,
+                fault: NumberFault::Form,
+            },
         ),
         (
-            b"EFG 2 R \"x\" { \"A\" \"B\" } t \"\" 1 { 1, -1 } \t\n\x0b\x0c\r ".as_slice(),
-            1,
-            1,
+            "t \"\" 1.0",
+            FileFault::Number {
+                at: 28,
+                fault: NumberFault::Form,
+            },
         ),
         (
-            b"\tEFG\n2\x0bR\x0c\"x\"\r{\"A\"\"B\"}t\"\"1{1,-1}".as_slice(),
-            1,
-            1,
+            "t \"\" 4611686018427387905 #",
+            FileFault::Number {
+                at: 28,
+                fault: NumberFault::Range,
+            },
+        ),
+        ("t \"\" 1 \"", FileFault::UnexpectedEnd),
+        ("t \"\" 1 {", FileFault::UnexpectedEnd),
+        ("t \"\" 1 { 1", FileFault::UnexpectedEnd),
+        ("t \"\" 1 { , 1", FileFault::Syntax { at: 32 }),
+        ("t \"\" 1 { 1,, 1", FileFault::Syntax { at: 34 }),
+        ("t \"\" 1 { 1, 1, }", FileFault::Syntax { at: 38 }),
+        ("t \"\" 1 { 1 \"", FileFault::UnexpectedEnd),
+        ("t \"\" 1 { 1 x", FileFault::Syntax { at: 34 }),
+        ("t \"\" 1 { 1 ;", FileFault::Syntax { at: 34 }),
+        ("t \"\" 1 { 1, {", FileFault::Syntax { at: 35 }),
+        (
+            "t \"\" 1 { 1e",
+            FileFault::Number {
+                at: 32,
+                fault: NumberFault::Form,
+            },
         ),
         (
-            b"EFG 2 R \"x\" { \"A\" \"B\" } t \"\" 001 { -0, 00 }".as_slice(),
-            1,
-            1,
+            "t \"\" 1 { 1, 1/0",
+            FileFault::Number {
+                at: 35,
+                fault: NumberFault::ZeroDenominator,
+            },
         ),
         (
-            b"EFG 2 R \"x\" { \"A\" \"B\" } t \"\" 1 { 4611686018427387904, -0004611686018427387904 }".as_slice(),
-            1,
-            1,
+            "t \"\" 1 { 4611686018427387905, 0 }",
+            FileFault::Number {
+                at: 32,
+                fault: NumberFault::Range,
+            },
         ),
         (
-            b"EFG 2 R \"x\" { \"A\" \"B\" } p \"\" 1 001 \"\" { \"a\" \"b\" } 0 t \"\" 1 { 1, -1 } t \"\" 2 { 0, 7 }".as_slice(),
-            3,
-            2,
+            "p \"\" 1 0 { \"a\" } 0",
+            FileFault::Number {
+                at: 30,
+                fault: NumberFault::Range,
+            },
         ),
         (
-            b"EFG 2 R \"x\" { \"A\" \"B\" } p \"n\" 1 1 \"s\" { \"a\" \"b\" } 0 p \"\" 2 1 \"\" { \"c\" } 0 t \"\" 1 { 1, -1 } p \"\" 2 2 \"\" { \"d\" \"\" } 0 t \"\" 2 { 1, -1 } t \"\" 3 { 1, -1 }".as_slice(),
-            6,
-            3,
+            "p \"\" 1 00 { \"a\" } 0",
+            FileFault::Number {
+                at: 30,
+                fault: NumberFault::Range,
+            },
         ),
         (
-            b"EFG 2 R \"x\" { \"A\" \"B\" } p \"\" 2 1 \"\" { \"}\" \"{\" } 0 t \"\" 1 { 1, -1 } p \"#\" 2 2 \"\" { \"\\\"\" } 0 t \"\" 2 { 1, -1 }".as_slice(),
-            4,
-            2,
+            "p \"\" +1 1 { \"a\" } 0",
+            FileFault::Number {
+                at: 28,
+                fault: NumberFault::Form,
+            },
+        ),
+        ("p \"\" \"\" 1 { \"a\" } 0", FileFault::Syntax { at: 28 }),
+        ("p \"\" 1 1 \"\" \"\" 0", FileFault::Syntax { at: 35 }),
+        ("p \"\" 1 1 { \"a\" 1 } 0", FileFault::Syntax { at: 38 }),
+        (
+            "p \"\" 1 1 { \"a\", \"b\" } 0",
+            FileFault::Syntax { at: 37 },
+        ),
+        ("p \"\" 1 1 { \"a\" } }", FileFault::Syntax { at: 40 }),
+        ("p \"\" 1 1 { \"a\" } \"b\"", FileFault::Syntax { at: 40 }),
+        ("p \"\" 1 1 { \"a\"", FileFault::UnexpectedEnd),
+        ("p \"\" 1 1 { \"a\" }", FileFault::UnexpectedEnd),
+        ("c \"\" 1 { \"a\" \"b\" } 0", FileFault::Syntax { at: 36 }),
+        ("c \"\" 1 { \"a\" } 0", FileFault::Syntax { at: 36 }),
+        ("c \"\" 1 { 1 \"a\" } 0", FileFault::Syntax { at: 32 }),
+        (
+            "c \"\" 1 { \"a\" 1.5.0 } 0",
+            FileFault::Number {
+                at: 36,
+                fault: NumberFault::Form,
+            },
+        ),
+        ("c \"\" 1 { \"a\" 1", FileFault::UnexpectedEnd),
+        ("c \"\" 1 1", FileFault::SetUndefined { node: 1 }),
+        ("t \"\" 0 x", FileFault::TrailingText { at: 30 }),
+        ("t \"\" 0 #", FileFault::TrailingText { at: 30 }),
+        ("t \"\" 0 \"n\" \"", FileFault::TrailingText { at: 34 }),
+        ("t \"\" 0\n}", FileFault::TrailingText { at: 30 }),
+        ("t \"\" 0 \"", FileFault::UnexpectedEnd),
+    ];
+    for (rest, fault) in rows {
+        let file = with_prologue(rt.alloc(), rest)?;
+        refuses(&rt, rt.alloc(), file.as_bytes(), fault);
+    }
+    Ok(())
+}
+
+#[test]
+fn faults_of_descriptions(rt: HostRuntime) -> Result<(), Fail> {
+    let rows = [
+        ("p \"\" 3 1 0", FileFault::PlayerNumber { node: 1 }),
+        ("p \"\" 0 1 { } 0", FileFault::PlayerNumber { node: 1 }),
+        ("p \"\" 1 1 0 #", FileFault::SetUndefined { node: 1 }),
+        ("c \"\" 1 \"deal\" 7", FileFault::SetUndefined { node: 1 }),
+        (
+            "p \"\" 1 1 { \"a\" } 1",
+            FileFault::OutcomeUndefined { node: 1 },
+        ),
+        (
+            "p \"\" 1 1 { \"a\" } 0 \"none\" { 0 1/2 }",
+            FileFault::OutcomeMismatch { node: 1 },
+        ),
+        (
+            "p \"\" 1 1 { \"a\" } 0 { }",
+            FileFault::OutcomeMismatch { node: 1 },
+        ),
+        (
+            "p \"\" 1 1 { \"a\" } 0 { 0 0 0 }",
+            FileFault::OutcomeMismatch { node: 1 },
+        ),
+        (
+            "p \"\" 1 1 { } 9 { 1 2 3 }",
+            FileFault::PayoffCount { node: 1 },
+        ),
+        ("p \"\" 1 1 { } 0", FileFault::ActionCount { node: 1 }),
+        (
+            "p \"\" 1 1 { \"a\" \"b\" } 0 p \"\" 1 1 { \"a\" } 0",
+            FileFault::SetMismatch { node: 2 },
+        ),
+        (
+            "p \"\" 1 1 { \"a\" \"b\" } 0 p \"\" 1 1 { } 0",
+            FileFault::SetMismatch { node: 2 },
+        ),
+        (
+            "p \"\" 1 1 { \"a\" \"b\" } 0 p \"\" 1 1 { \"b\" \"a\" } 0",
+            FileFault::SetMismatch { node: 2 },
+        ),
+        (
+            "p \"\" 1 1 \"\" { \"a\" } 0 p \"\" 1 1 \"s\" 0",
+            FileFault::SetMismatch { node: 2 },
+        ),
+        (
+            "p \"\" 1 1 { \"a\" } 0 p \"\" 1 1 \"s\" 0 p \"\" 1 1 \"r\" 0",
+            FileFault::SetMismatch { node: 3 },
+        ),
+        (
+            "c \"\" 7 { \"h\" 1/2 \"t\" .5 } 0 c \"\" 7 { \"h\" 0.50 \"t\" 0.51 } 0",
+            FileFault::SetMismatch { node: 2 },
+        ),
+        (
+            "c \"\" 7 { \"h\" 1 } 1 \"w\" { 1 -1 } t \"\" 1 \"v\"",
+            FileFault::OutcomeMismatch { node: 2 },
+        ),
+        (
+            "c \"\" 7 { \"h\" 1 } 1 { 1 -1 } t \"\" 1 { -1 1 }",
+            FileFault::OutcomeMismatch { node: 2 },
+        ),
+        (
+            "c \"\" 7 { \"h\" 1 } 1 { 1 -1 } t \"\" 1 { 1 }",
+            FileFault::OutcomeMismatch { node: 2 },
+        ),
+        (
+            "c \"\" 7 { \"h\" 1 } 1 { 1 -1 } t \"\" 2 { 1 } x",
+            FileFault::PayoffCount { node: 2 },
         ),
     ];
-    for (bytes, nodes, leaves) in rows {
-        reads(&rt, rt.alloc(), bytes, nodes, leaves);
+    for (rest, fault) in rows {
+        let file = with_prologue(rt.alloc(), rest)?;
+        refuses(&rt, rt.alloc(), file.as_bytes(), fault);
+    }
+    Ok(())
+}
+
+/// The fault of matching pennies, cut behind so many bytes: an undefined outcome where the cut leaves a whole entry.
+fn fault_of_cut(len: usize) -> FileFault {
+    match len {
+        1 | 2 => FileFault::Syntax { at: 0 },
+        90 | 91 | 96 | 97 => FileFault::OutcomeUndefined { node: 3 },
+        113 | 114 | 120 | 121 => FileFault::OutcomeUndefined { node: 4 },
+        103 => FileFault::Number {
+            at: 102,
+            fault: NumberFault::Form,
+        },
+        124 => FileFault::Number {
+            at: 123,
+            fault: NumberFault::Form,
+        },
+        _ => FileFault::UnexpectedEnd,
     }
 }
 
 #[test]
-fn texts(rt: HostRuntime) -> Result<(), Fail> {
-    let bytes = b"EFG 2 R \"a\\\"b\\c\\\\\\\"\" { \"\\\"\" \"\" } t \"\" 1 { 1, -1 }";
+fn a_cut_at_each_place(rt: HostRuntime) {
+    reads(&rt, rt.alloc(), PENNIES, 7, 4);
+    for len in 0..155 {
+        refuses(&rt, rt.alloc(), &PENNIES[..len], fault_of_cut(len));
+    }
+}
+
+#[test]
+fn accepted(rt: HostRuntime) -> Result<(), Fail> {
+    let rows = [
+        ("t \"\" 0", 1, 1),
+        ("\"a comment\" t \"\" 00 \"none\" { 0, -0.0 }\n", 1, 1),
+        ("t\"\"7\"\"{1/2,5e-1}", 1, 1),
+        ("t \"\" 1 { +.5 5. }", 1, 1),
+        ("t \"\" 1 { 00012/24, -4611686018427387904 } ", 1, 1),
+        ("p \"\" 1 1 \"\" { \"a\" \"a\" } 0 t \"\" 0 t \"\" 0", 3, 2),
+        ("p \"\" 2 4611686018427387904 { \"\" } 0 t \"\" 0", 2, 1),
+        (
+            "c \"\" 1 \"\" { \"a\" .333333 \"b\" .333333 \"c\" .333333 } 0 t \"\" 0 t \"\" 0 t \"\" 0",
+            4,
+            3,
+        ),
+        ("c \"\" 1 { \"a\" -1 } 0 t \"\" 0", 2, 1),
+        (
+            "p \"\" 1 1 \"a\" { \"x\" \"y\" } 1 \"half\" { 1/2, -1/2 } t \"\" 2 { .5, -.5 } t \"\" 0",
+            3,
+            2,
+        ),
+        (
+            "p \"\" 1 9 { \"x\" \"y\" } 0 c \"\" 9 { \"h\" 1/2 \"t\" 1/2 } 0 p \"\" 2 9 { \"u\" } 0 t \"\" 9 { 1 -1 } t \"\" 9 { 1.0, -2/2 } c \"n\" 9 \"coin\" { \"h\" 5e-1 \"t\" 0.5 } 9 \"late\" t \"\" 9 \"late\" t \"\" 0",
+            8,
+            4,
+        ),
+    ];
+    for (rest, nodes, leaves) in rows {
+        let file = with_prologue(rt.alloc(), rest)?;
+        reads(&rt, rt.alloc(), file.as_bytes(), nodes, leaves);
+    }
+    Ok(())
+}
+
+#[test]
+fn a_game_as_its_file_says(rt: HostRuntime) -> Result<(), Fail> {
+    let bytes =
+        b"EFG 2 R \"a\\\"b\\c\\\\\\\"\" { \"\\\"\" \"\" } \"said\"\np \"top\" 1 8 { \"x\" \"y\" } 3 { 1/2 -1/2 }\nc \"\" 5 \"coin\" { \"h\" 2/3 \"t\" 1/3 } 0\nt \"\" 1 { 1 -1 } t \"\" 0\nc \"\" 5 0 t \"\" 1 \"win\" t \"low\" 3";
     let game = read_game(rt.alloc(), bytes)?;
     assert_eq!(rt; game.title(), b"a\"b\\c\\\\\"".as_slice());
     assert_eq!(rt; game.player_name(Player::One), b"\"".as_slice());
     assert_eq!(rt; game.player_name(Player::Two), b"".as_slice());
+    assert_eq!(rt; game.comment(), b"said".as_slice());
+    assert_eq!(rt; game.tree().len(), 7);
+    assert_eq!(rt; game.set_count(Kind::One), 1);
+    assert_eq!(rt; game.set_count(Kind::Two), 0);
+    assert_eq!(rt; game.set_count(Kind::Chance), 1);
+    assert_eq!(rt; game.outcome_count(), 2);
     Ok(())
 }
 
-// A node of player one with so many actions, each of which leads to a leaf.
+/// A node of player one with so many actions, each of which leads to a leaf.
 fn wide(alloc: Global, actions: u32) -> Result<String, AllocError> {
-    let mut file = String::from_str(alloc, "EFG 2 R \"x\" { \"A\" \"B\" } p \"\" 1 1 \"\" {")?;
+    let mut file = with_prologue(alloc, "p \"\" 1 1 \"\" {")?;
     for _ in 0..actions {
         file.push_str(" \"\"")?;
     }
     file.push_str(" } 0\n")?;
-    for k in 0..actions {
-        let leaf = format!(in alloc; "t \"\" {} {{ {k}, -{k} }}\n", k + 1)?;
-        file.push_str(leaf.as_str())?;
+    for _ in 0..actions {
+        file.push_str("t \"\" 0\n")?;
     }
     Ok(file)
 }
@@ -442,49 +397,20 @@ fn most_actions(rt: HostRuntime) -> Result<(), Fail> {
     let file = wide(rt.alloc(), 1_024)?;
     reads(&rt, rt.alloc(), file.as_bytes(), 1_025, 1_024);
     let file = wide(rt.alloc(), 1_025)?;
-    // Each text takes three bytes with the space before it.
-    let at = 37 + 3 * 1_024 + 1;
-    refuses(&rt, rt.alloc(), file.as_bytes(), FileFault::NotBuilt { at });
+    refuses(
+        &rt,
+        rt.alloc(),
+        file.as_bytes(),
+        FileFault::ActionCount { node: 1 },
+    );
     Ok(())
 }
 
-// A node of player one over nodes of player two, each over leaves.
-fn two_levels(alloc: Global, first: u32, second: u32) -> Result<String, AllocError> {
-    let mut file = String::from_str(alloc, "EFG 2 R \"x\" { \"A\" \"B\" } p \"\" 1 1 \"\" {")?;
-    for _ in 0..first {
-        file.push_str(" \"\"")?;
-    }
-    file.push_str(" } 0\n")?;
-    let mut outcome = 0u64;
-    for k in 0..first {
-        let head = format!(in alloc; "p \"\" 2 {} \"\" {{", u64::from(k) + 1)?;
-        file.push_str(head.as_str())?;
-        for _ in 0..second {
-            file.push_str(" \"\"")?;
-        }
-        file.push_str(" } 0\n")?;
-        for _ in 0..second {
-            outcome = outcome.wrapping_add(1);
-            let leaf = format!(in alloc; "t \"\" {outcome} {{ -1, 1 }}\n")?;
-            file.push_str(leaf.as_str())?;
-        }
-    }
-    Ok(file)
-}
-
-#[test]
-fn thousands_of_nodes(rt: HostRuntime) -> Result<(), Fail> {
-    let file = two_levels(rt.alloc(), 1_000, 4)?;
-    reads(&rt, rt.alloc(), file.as_bytes(), 5_001, 4_000);
-    Ok(())
-}
-
-// So many nodes of player one, one below the other, with no leaf.
+/// So many nodes of player one in one set, one below the other, with no leaf.
 fn chain(alloc: Global, nodes: u32) -> Result<String, AllocError> {
-    let mut file = String::from_str(alloc, "EFG 2 R \"x\" { \"A\" \"B\" } ")?;
-    for k in 0..nodes {
-        let node = format!(in alloc; "p \"\" 1 {} \"\" {{ \"\" }} 0\n", k + 1)?;
-        file.push_str(node.as_str())?;
+    let mut file = with_prologue(alloc, "p \"\" 1 1 { \"\" } 0\n")?;
+    for _ in 1..nodes {
+        file.push_str("p \"\" 1 1 0\n")?;
     }
     Ok(file)
 }
@@ -493,9 +419,15 @@ fn chain(alloc: Global, nodes: u32) -> Result<String, AllocError> {
 fn most_nodes(rt: HostRuntime) -> Result<(), Fail> {
     let mut file = chain(rt.alloc(), 1_048_576)?;
     refuses(&rt, rt.alloc(), file.as_bytes(), FileFault::UnexpectedEnd);
-    let at = file.len();
-    file.push_str("t \"\" 1 { 1, -1 }")?;
-    refuses(&rt, rt.alloc(), file.as_bytes(), FileFault::NotBuilt { at });
+    file.push_str("t \"\" 0")?;
+    refuses(&rt, rt.alloc(), file.as_bytes(), FileFault::TooManyNodes);
+    file.push_str(" { 1 }")?;
+    refuses(
+        &rt,
+        rt.alloc(),
+        file.as_bytes(),
+        FileFault::OutcomeMismatch { node: 1_048_577 },
+    );
     Ok(())
 }
 
@@ -503,15 +435,19 @@ fn crosses_threads<T: Send + Sync + Drop>(_value: T) {}
 
 #[test]
 fn plain_data_crosses_threads(rt: HostRuntime) -> Result<(), Fail> {
+    let alloc = rt.alloc();
     crosses_threads(Token::End);
     crosses_threads(LexFault::Syntax { at: 0 });
     crosses_threads(Tokens::new(b"").next()?);
     crosses_threads(FileFault::TooLong);
     crosses_threads(Refused::NoMemory);
-    let game: Game = read_game(
-        rt.alloc(),
-        b"EFG 2 R \"x\" { \"A\" \"B\" } t \"\" 1 { 1, -1 }",
-    )?;
+    crosses_threads(Action {
+        name: unescape(alloc, b"")?,
+        chance: one_over(2),
+    });
+    crosses_threads(Actions::new(alloc));
+    crosses_threads(Payoffs::new(alloc));
+    let game: Game = read_game(alloc, PENNIES)?;
     crosses_threads(game);
     Ok(())
 }

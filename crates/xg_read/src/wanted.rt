@@ -1,10 +1,8 @@
 //! What is wanted at a place of a file.
 ghost use Rattle.std.specs.Prelude.{◌≡◌, ◌≤◌, length};
-ghost use Rattle.std.specs.Cmp.Lexicographic.{pointwise};
-ghost use Rattle.def_file.specs.Reading.{is_kind, is_exact, bytes_at};
+ghost use Rattle.def_file.specs.Reading.{is_kind, is_exact};
 ghost use Rattle.xg_read.specs.Wanted.{test_of};
 
-use crate::numbers::{is_amount, writes};
 use xg_lex::{Lexeme, Token};
 
 /// The token that a file goes on with.
@@ -14,27 +12,15 @@ pub enum Wanted {
     Marker,
     /// The number `2`.
     Version,
-    /// The word `R`.
+    /// The word `R` or `D`.
     Numbers,
     Text,
+    Number,
     Open,
     Close,
     Comma,
-    /// The word of an entry, `p` or `t`.
+    /// The word of an entry, `c`, `p` or `t`.
     Head,
-    /// The number `1` or `2`.
-    Player,
-    /// Digits that write this number.
-    Count(u32),
-    /// The number `0`.
-    NoOutcome,
-    /// A text, or the closing brace behind at least one of so many actions.
-    Action(u32),
-    /// Digits of at most 2^62, or such behind a minus.
-    Payoff,
-    End,
-    /// No token at all.
-    Nothing,
 }
 
 impl Wanted {
@@ -47,31 +33,20 @@ impl Wanted {
         match self {
             Wanted::Marker => is_exact(Token::Word, b"EFG", bytes, token),
             Wanted::Version => is_exact(Token::Number, b"2", bytes, token),
-            Wanted::Numbers => is_exact(Token::Word, b"R", bytes, token),
+            Wanted::Numbers => {
+                is_exact(Token::Word, b"R", bytes, token)
+                    || is_exact(Token::Word, b"D", bytes, token)
+            }
             Wanted::Text => is_kind(Token::Text, token.kind),
+            Wanted::Number => is_kind(Token::Number, token.kind),
             Wanted::Open => is_kind(Token::Open, token.kind),
             Wanted::Close => is_kind(Token::Close, token.kind),
             Wanted::Comma => is_kind(Token::Comma, token.kind),
             Wanted::Head => {
-                is_exact(Token::Word, b"p", bytes, token)
+                is_exact(Token::Word, b"c", bytes, token)
+                    || is_exact(Token::Word, b"p", bytes, token)
                     || is_exact(Token::Word, b"t", bytes, token)
             }
-            Wanted::Player => {
-                is_exact(Token::Number, b"1", bytes, token)
-                    || is_exact(Token::Number, b"2", bytes, token)
-            }
-            Wanted::Count(n) => {
-                is_kind(Token::Number, token.kind) && writes(n, &bytes[token.start..token.end])
-            }
-            Wanted::NoOutcome => is_exact(Token::Number, b"0", bytes, token),
-            Wanted::Action(count) => {
-                is_kind(Token::Text, token.kind) || (is_kind(Token::Close, token.kind) && count > 0)
-            }
-            Wanted::Payoff => {
-                is_kind(Token::Number, token.kind) && is_amount(&bytes[token.start..token.end])
-            }
-            Wanted::End => is_kind(Token::End, token.kind),
-            Wanted::Nothing => false,
         }
     }
 }

@@ -4,3 +4,4 @@ pub mod Settings
 pub mod Ends
 pub mod Concludes
 pub mod Refusal
+pub mod Firsts

@@ -4,13 +4,13 @@ use Rattle.xg_io.specs.Cause.{Rose}
 use Rattle.def_file.specs.declared.FileFault.{FileFault}
 use Rattle.def_file.specs.declared.FileFault.TheVariants.{TooLong}
 use Rattle.def_file.specs.Content.{GameFile}
-use Rattle.def_program.specs.Program.{judged}
+use Rattle.def_program.specs.Program.{read_as_game}
 use Rattle.xg_solve.specs.declared.load.LoadFault.{LoadFault}
 use Rattle.xg_solve.specs.declared.load.LoadFault.TheVariants.{ReadFault, Refused, NoMemory}
 
 abbrev pub Loads : Option (List ℕ) → Result GameFile LoadFault → Type 0
-Loads told (Ok game) = IfSome told (λ bytes. judged bytes ≡ Ok game)
-Loads told (Err (Refused fault)) = IfSome told (λ bytes. judged bytes ≡ Err fault)
+Loads told (Ok game) = IfSome told (λ bytes. read_as_game bytes ≡ Ok game)
+Loads told (Err (Refused fault)) = IfSome told (λ bytes. read_as_game bytes ≡ Err fault)
 Loads told (Err ReadFault) = Unit {0}
 Loads told (Err NoMemory) = Unit {0}
 

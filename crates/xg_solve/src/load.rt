@@ -23,7 +23,7 @@ pub enum LoadFault {
 }
 
 /// The game of the file of a name.
-#[tactic(auto, unfolding(def_program::specs::Program::judged))]
+#[tactic(auto, unfolding(def_program::specs::Program::read_as_game))]
 pub fn load<F: Files>(alloc: Global, files: &mut F, name: &str) -> Result<Game, LoadFault>
     requires { IsTrue (F.may_open files.old name.now) }
     ensures exact { Loads (F.told files.old name.now) result }

@@ -4,13 +4,17 @@ ghost use Rattle.std.specs.Option.{option_map};
 ghost use Rattle.std.specs.Io.KnownBytes.{append_known};
 ghost use Rattle.xg_io.specs.Cause.{Rose};
 ghost use Rattle.xg_io.specs.Sinks.{AppendsPrefix};
+ghost use Rattle.def_file.specs.declared.FileFault.{FileFault};
+ghost use Rattle.def_file.specs.Content.{GameFile};
 ghost use Rattle.def_words.specs.Command.{command_of};
 ghost use Rattle.def_text.specs.Lines.{usage_line, read_line, write_line, memory_line};
-ghost use Rattle.def_program.specs.Program.{answer_of, judged, program};
+ghost use Rattle.def_program.specs.FirstFault.{IsFirstFault};
+ghost use Rattle.def_program.specs.Program.{answer_of, program, read_as_game};
 ghost use Rattle.def_program.specs.Says.{Says};
 ghost use Rattle.xg_solve.specs.Commands.{MayOpenFiles};
 ghost use Rattle.xg_solve.specs.Concludes.{Concludes, SaysFault};
 ghost use Rattle.xg_solve.specs.Ends.{status_of, line_of};
+ghost use Rattle.xg_solve.specs.Firsts.{EndsWith, IsAccepted, SaysFirst, WritesGame, file_bytes};
 ghost use Rattle.xg_solve.specs.Refusal.{IsRefusal};
 
 use crate::ending::Ending;
@@ -27,7 +31,7 @@ use xg_read::FileFault;
 /// Does what the words say, and nothing else: the command `solve` on a file.
 fn solve<F: Files, O: Sink>(alloc: Global, file: &str, files: &mut F, out: &mut O) -> Ending
     requires { IsTrue (F.may_open files.old file.now) }
-    ensures concludes { Concludes (option_map (λ bytes. answer_of (judged bytes)) (F.told files.old file.now)) result
+    ensures concludes { Concludes (option_map (λ bytes. answer_of (read_as_game bytes)) (F.told files.old file.now)) result
         (F.taken files.new) (F.faults files.old) (F.faults files.new)
         (O.faults out.old) (O.faults out.new) (O.written out.old) (O.written out.new) }
     ensures command { status_of result ≢ 2 }
@@ -122,6 +126,17 @@ pub fn run<Rt: Threads + Wait + Sync, F: Files, O: Sink, E: Sink, G: Gate>(
     // An accepted file is answered where nothing failed, memory apart.
     ensures complete { (Rose (F.faults files.old) (F.faults files.new) → ⊥) → (Rose (O.faults out.old) (O.faults out.new) → ⊥)
         → IfSome (program words.now (F.told files.old)) (λ answer. answer.status ≡ 0 → (result ≡ 0) ⊎ (result ≡ 5)) }
+
+    // The same in the format's own words: the text of the game that the file stands for is written, the line of the
+    // file's first fault is said, and each file is answered so.
+    ensures game { result ≡ 0 → IfSome (file_bytes words.now (F.told files.old))
+        (λ bytes. WritesGame bytes (O.written out.old) (O.written out.new)) }
+    ensures first { result ≡ 1 → IfSome (file_bytes words.now (F.told files.old))
+        (λ bytes. SaysFirst bytes (E.faults err.old) (E.faults err.new) (E.written err.old) (E.written err.new)) }
+    ensures plays { (Rose (F.faults files.old) (F.faults files.new) → ⊥) → (Rose (O.faults out.old) (O.faults out.new) → ⊥)
+        → IfSome (file_bytes words.now (F.told files.old)) (λ bytes. (game : GameFile) → IsAccepted bytes game → EndsWith 0 result) }
+    ensures refuses_first { (Rose (F.faults files.old) (F.faults files.new) → ⊥)
+        → IfSome (file_bytes words.now (F.told files.old)) (λ bytes. (fault : FileFault) → IsFirstFault bytes fault → EndsWith 1 result) }
 
     // What is said.
     ensures silent { result ≡ 0 → E.written err.new ≡ E.written err.old }

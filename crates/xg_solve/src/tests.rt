@@ -9,18 +9,7 @@ use xg_io::{MemFiles, MemSink, OpenGate};
 const USAGE: &str =
     "usage: xg_solve solve FILE [--rounds N] [--every N] [--scale N] [--workers N] | check FILE CERT | info FILE | gen N | drill N\n";
 
-/// Matching pennies, where the second player doesn't see the first one's coin.
-const PENNIES: &str =
-    "EFG 2 R \"Pennies\" { \"A\" \"B\" }\np \"\" 1 1 \"a\" { \"H\" \"T\" } 0\np \"\" 2 1 \"b\" { \"h\" \"t\" } 0\nt \"\" 1 \"win\" { 1, -1 }\nt \"\" 2 \"lose\" { -1, 1 }\np \"\" 2 1 0\nt \"\" 2\nt \"\" 1\n";
-
-const ONE_MOVER: &str =
-    "EFG 2 R \"One mover\" { \"A\" \"B\" }\np \"\" 1 1 \"a\" { \"L\" \"R\" } 0\nt \"\" 1 { 1, -1 }\nt \"\" 2 { 0, 0 }\n";
-
 const ONE_LEAF: &str = "EFG 2 R \"\" { \"A\" \"B\" }\nt \"\" 1 { 0, 0 }\n";
-
-const LEAF_TEXT: &str = "XGCERT 1\nnodes 1 leaves 1\nrounds 0 every 1 scale 1048576\nend\n";
-
-const MOVER_TEXT: &str = "XGCERT 1\nnodes 3 leaves 2\nrounds 0 every 1 scale 1048576\nend\n";
 
 /// What a call leaves.
 #[derive(Drop)]
@@ -55,36 +44,133 @@ fn call<Rt: Threads + Wait + Sync + AllocGlobal>(
 
 #[test]
 fn texts_and_faults(rt: HostRuntime) -> Result<(), Fail> {
-    let rows: [(&str, u8, &str, &str); 10] = [
-        (ONE_LEAF, 0, LEAF_TEXT, ""),
-        (ONE_MOVER, 0, MOVER_TEXT, ""),
-        (PENNIES, 1, "", "refused 20 NotBuilt at 91\n"),
+    let rows: [(&str, u8, &str, &str); 22] = [
+        (
+            "EFG 2 R \"\" { \"A\" \"B\" }\nt \"\" 1 { 0, 0 }\n",
+            0,
+            "XGCERT 1\nnodes 1 leaves 1\nrounds 0 every 1 scale 1048576\nend\n",
+            "",
+        ),
+        (
+            "EFG 2 R \"One mover\" { \"A\" \"B\" }\np \"\" 1 1 \"a\" { \"L\" \"R\" } 0\nt \"\" 1 { 1, -1 }\nt \"\" 2 { 0, 0 }\n",
+            0,
+            "XGCERT 1\nnodes 3 leaves 2\nrounds 0 every 1 scale 1048576\nend\n",
+            "",
+        ),
+        (
+            "EFG 2 R \"Pennies\" { \"A\" \"B\" }\np \"\" 1 1 \"a\" { \"H\" \"T\" } 0\np \"\" 2 1 \"b\" { \"h\" \"t\" } 0\nt \"\" 1 \"win\" { 1, -1 }\nt \"\" 2 \"lose\" { -1, 1 }\np \"\" 2 1 0\nt \"\" 2\nt \"\" 1\n",
+            0,
+            "XGCERT 1\nnodes 7 leaves 4\nrounds 0 every 1 scale 1048576\nend\n",
+            "",
+        ),
+        (
+            "EFG 2 R \"Pennies\" { \"A\" \"B\" }\np \"\" 1 1 \"a\" { \"H\" \"T\" } 0\np \"\" 2 1 \"b\" { \"h\" \"t\" } 0\nt \"\" 1 \"win\" { 1, -1 }\nt \"\" 2 \"lose\" { -1, 1 }\np \"\" 2 1 0\nt \"\" 2\nt \"\" 1 { 1.0, -2/2 }\n",
+            0,
+            "XGCERT 1\nnodes 7 leaves 4\nrounds 0 every 1 scale 1048576\nend\n",
+            "",
+        ),
+        (
+            "EFG 2 R \"Thirds\" { \"A\" \"B\" }\nc \"\" 1 \"\" { \"a\" .333333 \"b\" .333333 \"c\" .333333 } 0\nt \"\" 0\nt \"\" 0\nt \"\" 0\n",
+            0,
+            "XGCERT 1\nnodes 4 leaves 3\nrounds 0 every 1 scale 1048576\nend\n",
+            "",
+        ),
+        (
+            "EFG 2 R \"Repeat\" { \"A\" \"B\" }\np \"\" 1 1 \"a\" { \"x\" \"y\" } 0\nc \"\" 7 \"coin\" { \"h\" 1/2 \"t\" 1/2 } 0\nt \"\" 1 { 1, -1 }\nt \"\" 0\nc \"\" 7 \"coin\" { \"h\" 0.5 \"t\" 5e-1 } 0\nt \"\" 0\nt \"\" 2 { -1, 1 }\n",
+            0,
+            "XGCERT 1\nnodes 7 leaves 4\nrounds 0 every 1 scale 1048576\nend\n",
+            "",
+        ),
         ("", 1, "", "refused 3 UnexpectedEnd\n"),
+        (
+            "NFG 2 R \"x\" { \"A\" \"B\" }",
+            1,
+            "",
+            "refused 2 Syntax at 0\n",
+        ),
         (
             "EFG 2 R \"x\" { \"A\" \"B\" } #",
             1,
             "",
             "refused 2 Syntax at 24\n",
         ),
-        ("EFG 2 R \"x", 1, "", "refused 3 UnexpectedEnd\n"),
-        ("NFG", 1, "", "refused 20 NotBuilt at 0\n"),
         (
-            "EFG 2 R \"\" { \"A\" \"B\" }\nt \"\" 1 { 0, 0 } t",
-            1,
-            "",
-            "refused 20 NotBuilt at 39\n",
-        ),
-        (
-            "EFG 2 R \"\" { \"A\" \"B\" }\nt \"\" 2 { 0, 0 }",
-            1,
-            "",
-            "refused 20 NotBuilt at 28\n",
-        ),
-        (
-            "EFG 2 R \"\" { \"A\" \"B\" }\nt \"\" 1 { 0, 0 } \"",
+            "EFG 2 R \"Pennies\" { \"A\" \"B\" }\np \"\" ",
             1,
             "",
             "refused 3 UnexpectedEnd\n",
+        ),
+        (
+            "EFG 2 R \"Pennies\" { \"A\" \"B\" }\np \"\" 1 1 \"a\" { \"H\" \"T\" } 0\np \"\" 2 1 \"b\" { \"h\" \"t\" } 0\nt \"\" 1 \"win\" { 1, -1 }\nt \"\" 2 \"lose\" { -1, 1 }\np \"\" 2 1 0\nt \"\" 2\nt \"\" 1\nt \"\" 0\n",
+            1,
+            "",
+            "refused 4 TrailingText at 156\n",
+        ),
+        (
+            "EFG 2 R \"\" { \"A\" \"B\" } t \"\" 1 { 4611686018427387905, 0 }\n",
+            1,
+            "",
+            "refused 5 Number at 32 Range\n",
+        ),
+        (
+            "EFG 2 R \"\" { \"A\" \"B\" } t \"\" 1 { 1/0, 0 }\n",
+            1,
+            "",
+            "refused 5 Number at 32 ZeroDenominator\n",
+        ),
+        (
+            "EFG 2 R \"\" { \"A\" \"B\" } t \"\" 1 { 1e, 0 }\n",
+            1,
+            "",
+            "refused 5 Number at 32 Form\n",
+        ),
+        (
+            "EFG 2 R \"Pennies\" { \"A\" \"B\" \"C\" }\np \"\" 1 1 \"a\" { \"H\" \"T\" } 0\np \"\" 2 1 \"b\" { \"h\" \"t\" } 0\nt \"\" 1 \"win\" { 1, -1 }\nt \"\" 2 \"lose\" { -1, 1 }\np \"\" 2 1 0\nt \"\" 2\nt \"\" 1\n",
+            1,
+            "",
+            "refused 6 Players count 3\n",
+        ),
+        (
+            "EFG 2 R \"Pennies\" { \"A\" \"B\" }\np \"\" 1 1 \"a\" { \"H\" \"T\" } 0\np \"\" 3 1 \"b\" { \"h\" \"t\" } 0\nt \"\" 1 \"win\" { 1, -1 }\nt \"\" 2 \"lose\" { -1, 1 }\np \"\" 2 1 0\nt \"\" 2\nt \"\" 1\n",
+            1,
+            "",
+            "refused 7 PlayerNumber node 2\n",
+        ),
+        (
+            "EFG 2 R \"Pennies\" { \"A\" \"B\" }\np \"\" 1 1 \"a\" { \"H\" \"T\" } 0\np \"\" 2 1 \"b\" 0\nt \"\" 1 \"win\" { 1, -1 }\nt \"\" 2 \"lose\" { -1, 1 }\np \"\" 2 1 0\nt \"\" 2\nt \"\" 1\n",
+            1,
+            "",
+            "refused 8 SetUndefined node 2\n",
+        ),
+        (
+            "EFG 2 R \"Repeat\" { \"A\" \"B\" }\np \"\" 1 1 \"a\" { \"x\" \"y\" } 0\nc \"\" 7 \"coin\" { \"h\" 1/2 \"t\" 1/2 } 0\nt \"\" 1 { 1, -1 }\nt \"\" 0\nc \"\" 7 \"coin\" { \"h\" 0.5 \"tails\" 5e-1 } 0\nt \"\" 0\nt \"\" 2 { -1, 1 }\n",
+            1,
+            "",
+            "refused 9 SetMismatch node 5\n",
+        ),
+        (
+            "EFG 2 R \"Pennies\" { \"A\" \"B\" }\np \"\" 1 1 \"a\" { \"H\" \"T\" } 0\np \"\" 2 1 \"b\" { \"h\" \"t\" } 0\nt \"\" 1 \"win\" { 1, -1 }\nt \"\" 2 \"lose\" { -1, 1 }\np \"\" 2 1 0\nt \"\" 2\nt \"\" 9\n",
+            1,
+            "",
+            "refused 10 OutcomeUndefined node 7\n",
+        ),
+        (
+            "EFG 2 R \"Pennies\" { \"A\" \"B\" }\np \"\" 1 1 \"a\" { \"H\" \"T\" } 0\np \"\" 2 1 \"b\" { \"h\" \"t\" } 0\nt \"\" 1 \"win\" { 1, -1 }\nt \"\" 1 { 1, -2 }\np \"\" 2 1 0\nt \"\" 2\nt \"\" 1\n",
+            1,
+            "",
+            "refused 11 OutcomeMismatch node 4\n",
+        ),
+        (
+            "EFG 2 R \"Pennies\" { \"A\" \"B\" }\np \"\" 1 1 \"a\" { \"H\" \"T\" } 0\np \"\" 2 1 \"b\" { \"h\" \"t\" } 0\nt \"\" 1 \"win\" { 1, -1, 0 }\nt \"\" 2 \"lose\" { -1, 1 }\np \"\" 2 1 0\nt \"\" 2\nt \"\" 1\n",
+            1,
+            "",
+            "refused 12 PayoffCount node 3\n",
+        ),
+        (
+            "EFG 2 R \"\" { \"A\" \"B\" } p \"\" 1 1 { } 0",
+            1,
+            "",
+            "refused 14 ActionCount node 1\n",
         ),
     ];
     for (game, status, out, err) in rows {

@@ -1,0 +1,4 @@
+mod Firsts
+mod Tables
+mod Known
+pub mod OneMore

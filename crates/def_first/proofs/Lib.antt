@@ -1,0 +1,16 @@
+pub mod Languages
+pub mod Nexts
+pub mod Along
+pub mod Slots
+pub mod Numerals
+pub mod Lists
+pub mod Payoffs
+pub mod EntryParts
+pub mod Heads
+pub mod Upto
+pub mod Stopped
+pub mod Compare
+pub mod Once
+pub mod Decided
+pub mod Trailing
+pub mod Reached

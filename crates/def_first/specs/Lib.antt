@@ -1,0 +1,3 @@
+pub mod Offends
+pub mod First
+pub mod Laws

@@ -1,0 +1,6 @@
+pub mod TableLemmas
+pub mod PairLemmas
+pub mod FewLemmas
+pub mod FaultlessLemmas
+pub mod NotedLemmas
+pub mod StepLemmas

@@ -1,0 +1,81 @@
+//! What is given of a set or an outcome, beside what is kept of it.
+ghost use Rattle.std.specs.Prelude.{◌≡◌};
+ghost use Rattle.std.specs.Cmp.Lexicographic.{pointwise};
+ghost use Rattle.def_file.specs.Adding as adding;
+ghost use Rattle.def_file.specs.Faults as faults;
+ghost use Rattle.xg_record.specs.Action.{action_of};
+
+use std::cmp::Ordering;
+use xg_frac::{Frac, compare};
+use xg_lex::Text;
+use xg_record::{Action, Actions};
+use xg_tree::Kind;
+
+/// Whether texts have the same bytes.
+pub(crate) fn same_text(a: &Text, b: &Text) -> bool
+    ensures { result ≡ faults.same_text a.now b.now }
+{
+    a.bytes() == b.bytes()
+}
+
+/// Whether numbers have the same value.
+pub(crate) fn same_value(a: Frac, b: Frac) -> bool
+    ensures { result ≡ faults.same_value a b }
+{
+    compare(a, b) == Ordering::Equal
+}
+
+/// Whether actions have the same name and, where chance moves, the same probability.
+pub(crate) fn same_action(kind: Kind, a: &Action, b: &Action) -> bool
+    ensures { result ≡ faults.same_action kind (action_of a.now) (action_of b.now) }
+{
+    same_text(&a.name, &b.name)
+        && match kind {
+            Kind::Chance => same_value(a.chance, b.chance),
+            Kind::One | Kind::Two | Kind::Leaf => true,
+        }
+}
+
+/// Whether a name is given that differs from the one that is kept.
+pub(crate) fn name_differs(kept: &Option<Text>, given: &Option<Text>) -> bool
+    ensures { result ≡ faults.name_differs kept.now given.now }
+{
+    match (kept, given) {
+        (Some(kept), Some(given)) => !same_text(kept, given),
+        _ => false,
+    }
+}
+
+/// Keeps the name that is given, unless one is kept already.
+pub(crate) fn keep_name(kept: &mut Option<Text>, given: Option<Text>)
+    ensures { kept.new ≡ adding.kept_name kept.old given }
+{
+    if kept.is_none() {
+        *kept = given;
+    }
+}
+
+/// Whether actions are given that differ in their number, a name or a probability from those that are kept.
+pub(crate) fn actions_differ(kind: Kind, kept: &Actions, given: &Option<Actions>) -> bool
+    ensures { result ≡ faults.actions_differ kind kept.now given.now }
+{
+    match given {
+        Some(given) => !same_actions(kind, kept, given),
+        None => false,
+    }
+}
+
+/// Whether lists of actions are as long, and the same at each place.
+fn same_actions(kind: Kind, kept: &Actions, given: &Actions) -> bool
+    ensures { result ≡ pointwise (faults.same_action kind) kept.now given.now }
+{
+    if kept.len() != given.len() {
+        return false;
+    }
+    for i in 0..kept.len() {
+        if !same_action(kind, kept.get(i), given.get(i)) {
+            return false;
+        }
+    }
+    true
+}

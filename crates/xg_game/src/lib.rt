@@ -1,0 +1,21 @@
+//! The tables of a game: its nodes with their names, its sets and its outcomes, made from the entries of its file.
+#![tactic(auto)]
+
+mod fault;
+mod game;
+mod given;
+mod maker;
+mod outcomes;
+mod prologue;
+mod seed;
+mod sets;
+mod tables;
+#[cfg(test)]
+mod tests;
+
+pub use def_file::FileFault;
+pub use fault::Refused;
+pub use game::Game;
+pub use maker::GameMaker;
+pub use seed::Seed;
+pub use xg_tree::{Kind, Player};

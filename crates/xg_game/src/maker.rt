@@ -1,0 +1,141 @@
+//! The making of a game.
+ghost use Rattle.std.specs.Prelude.{◌≡◌, ◌≢◌, ◌≤◌, ◌^◌, ◌↔◌, true, false, Some, None, Err, length, IsTrue, OnOk};
+ghost use Rattle.def_file.specs.Adding.{with_record};
+ghost use Rattle.def_file.specs.Content.{game_with, no_contents};
+ghost use Rattle.def_file.specs.Faults.{has_set, record_fault};
+ghost use Rattle.def_file.specs.declared.FileFault.{FileFault};
+ghost use Rattle.def_tree.specs.Rules.{KeepRules};
+ghost use Rattle.def_tree.specs.Tree.{Begins, wanted};
+ghost use Rattle.xg_game.specs.Prologues.{prologue_with};
+ghost use Rattle.xg_record.specs.Record.{record_of};
+
+use crate::fault::Refused;
+use crate::game::Game;
+use crate::prologue::Prologue;
+use crate::seed::Seed;
+use crate::tables::Tables;
+use std::alloc::Global;
+use std::marker::Model;
+use xg_lex::Text;
+use xg_record::Record;
+
+/// A game in the making: its prologue and its entries so far.
+///
+/// A maker for which memory ran out is spent. It takes no further entry.
+#[derive(Drop)]
+pub struct GameMaker {
+    prologue: Prologue,
+    tables: Tables,
+    spent: bool,
+}
+
+impl Model for GameMaker {
+    ghost use Rattle.std.specs.Prelude.{◌≡◌, false};
+    ghost use Rattle.xg_game.specs.Made.{Made};
+
+    ghost Value = { Made };
+
+    ghost use Rattle.xg_game.specs.Prologues.{prologue_of};
+    ghost use Rattle.xg_game.specs.Consistent.{IsConsistent};
+
+    ghost view = { λ m. record { prologue = prologue_of m.prologue; contents = m.tables; spent = m.spent } };
+
+    ghost invariant = { λ m. m.spent ≡ false → IsConsistent m.tables };
+}
+
+impl GameMaker {
+    /// A game with these texts and no entries yet. Its numbers are hashed by the title.
+    pub fn new(alloc: Global, title: Text, one: Text, two: Text, comment: Text) -> GameMaker
+        ensures { let prologue = prologue_with title one two comment in
+            result ≡ record { prologue = prologue; contents = no_contents; spent = false } }
+    {
+        let seed = Seed::new(title.bytes());
+        GameMaker::seeded(alloc, seed, title, one, two, comment)
+    }
+
+    /// The same, with the hashing of its numbers by `seed`, on which no answer depends.
+    pub fn seeded(
+        alloc: Global,
+        seed: Seed,
+        title: Text,
+        one: Text,
+        two: Text,
+        comment: Text,
+    ) -> GameMaker
+        ensures { let prologue = prologue_with title one two comment in
+            result ≡ record { prologue = prologue; contents = no_contents; spent = false } }
+    {
+        GameMaker {
+            prologue: Prologue {
+                title,
+                one,
+                two,
+                comment,
+            },
+            tables: Tables::new(alloc, seed),
+            spent: false,
+        }
+    }
+
+    /// Whether the nodes of the entries are a whole tree.
+    pub fn is_complete(&self) -> bool
+        ensures complete { IsTrue result ↔ (wanted 1 self.now.contents.nodes ≡ 0) }
+
+        // What is true of every maker.
+        ensures begins { Begins 1 self.now.contents.nodes }
+        ensures rules { KeepRules self.now.contents.nodes }
+        ensures limit { length self.now.contents.nodes ≤ 1048576 }
+
+        // And of one that isn't spent.
+        ensures names { self.now.spent ≡ false →
+            length self.now.contents.names ≡ length self.now.contents.nodes }
+    {
+        self.tables.is_complete()
+    }
+
+    /// Whether memory ran out.
+    pub fn is_spent(&self) -> bool
+        ensures { result ≡ self.now.spent }
+    {
+        self.spent
+    }
+
+    /// Takes the next entry, in prefix order. After a fault the maker is as it was, and it is spent where memory ran out.
+    pub fn push(&mut self, entry: Record) -> Result<(), Refused>
+        requires incomplete { wanted 1 self.old.contents.nodes ≢ 0 }
+        requires unspent { self.old.spent ≡ false }
+        requires outcome { entry.outcome ≤ 2 ^ 62 }
+        requires set { IsTrue (has_set entry.kind) → (1 ≤ entry.set) × (entry.set ≤ 2 ^ 62) }
+        ensures ok { let contents = with_record self.old.contents (record_of entry) in
+            OnOk result (self.new ≡ record self.old { contents = contents }) }
+        ensures accepted { OnOk result (record_fault self.old.contents (record_of entry) ≡ None) }
+
+        // A fault is the first of the entry, and is always found.
+        ensures refused { (fault : FileFault) → result ≡ Err (Refused.File fault) →
+            (record_fault self.old.contents (record_of entry) ≡ Some fault) × (self.new ≡ self.old) }
+        ensures faults { (fault : FileFault) →
+            record_fault self.old.contents (record_of entry) ≡ Some fault →
+            result ≡ Err (Refused.File fault) }
+
+        ensures spent { (result ≡ Err Refused.NoMemory) ↔ (self.new.spent ≡ true) }
+        ensures prologue { self.new.prologue ≡ self.old.prologue }
+    {
+        if let Some(fault) = self.tables.fault(&entry) {
+            return Err(Refused::File(fault));
+        }
+        if self.tables.keep(entry).is_err() {
+            self.spent = true;
+            return Err(Refused::NoMemory);
+        }
+        Ok(())
+    }
+
+    /// The game of the prologue and the entries.
+    pub fn finish(self) -> Game
+        requires complete { wanted 1 self.contents.nodes ≡ 0 }
+        requires unspent { self.spent ≡ false }
+        ensures { result ≡ game_with self.prologue self.contents }
+    {
+        Game::of(self.prologue, self.tables)
+    }
+}

@@ -1,0 +1,222 @@
+//! The outcomes of a game.
+ghost use Rattle.std.specs.Prelude.{◌≡◌, ◌+◌, ◌<◌, ◌^◌, [], ◌∷◌, ◌++◌, length, slice_set, unwrap_or, None, OnOk, IfSome};
+ghost use Rattle.def_file.specs.Adding as adding;
+ghost use Rattle.def_file.specs.Content.{OutcomeEntry, zero_fraction};
+ghost use Rattle.def_file.specs.Faults as faults;
+ghost use Rattle.xg_game.specs.Mentions.{outcome_mention};
+ghost use Rattle.xg_record.specs.Record.{record_of};
+
+use crate::given::{keep_name, name_differs, same_value};
+use crate::seed::Seed;
+use indexmap::IndexMap;
+use std::alloc::{AllocError, Global};
+use std::marker::Model;
+use xg_frac::{Frac, whole};
+use xg_lex::Text;
+use xg_record::{Payoffs, Record};
+
+/// What is known of an outcome: the first name that is given, and the payoffs of the first mention.
+#[derive(Drop)]
+pub(crate) struct OutcomeDescription {
+    pub(crate) name: Option<Text>,
+    pub(crate) one: Frac,
+    pub(crate) two: Frac,
+}
+
+/// The outcomes by their numbers in the file, in the order of their first mentions. Outcome 0 isn't among them.
+#[derive(Drop)]
+pub(crate) struct OutcomeTable {
+    outcomes: IndexMap<u64, OutcomeDescription, Seed>,
+}
+
+impl Model for OutcomeTable {
+    ghost use Rattle.std.specs.Prelude.{List, map};
+    ghost use Rattle.def_file.specs.Content.{OutcomeEntry};
+
+    ghost Value = { List OutcomeEntry };
+
+    ghost use Rattle.xg_game.specs.Outcomes.{outcome_of};
+
+    ghost view = { λ t. map outcome_of t.outcomes.entries };
+}
+
+impl OutcomeTable {
+    /// No outcomes.
+    pub(crate) fn new(alloc: Global, seed: Seed) -> OutcomeTable
+        ensures { result ≡ [] }
+    {
+        OutcomeTable {
+            outcomes: IndexMap::with_hasher(alloc, seed),
+        }
+    }
+
+    /// How many outcomes there are.
+    pub(crate) fn len(&self) -> usize
+        ensures { result ≡ length self.now }
+    {
+        self.outcomes.len()
+    }
+
+    /// Where the outcome of this number is.
+    pub(crate) fn find(&self, number: u64) -> Option<usize>
+        ensures place { result ≡ faults.outcome_place_of number self.now }
+        ensures within { IfSome result (λ i. i < length self.now) }
+    {
+        self.outcomes.get_index_of(&number)
+    }
+
+    /// The number in the file of the outcome at `i`.
+    pub(crate) fn number(&self, i: usize) -> u64
+        requires { i < length self.now }
+        ensures { result ≡ (faults.outcome_at self.now i).number }
+    {
+        self.outcomes.keys()[i]
+    }
+
+    /// What is known of the outcome at `i`.
+    pub(crate) fn get(&self, i: usize) -> &OutcomeDescription
+        requires { i < length self.now }
+        ensures name { result.now.name ≡ (faults.outcome_at self.now i).name }
+        ensures one { result.now.one ≡ (faults.outcome_at self.now i).one }
+        ensures two { result.now.two ≡ (faults.outcome_at self.now i).two }
+    {
+        &self.outcomes[i]
+    }
+
+    /// Whether the entry is the first to mention its outcome, and has no payoffs.
+    pub(crate) fn is_undefined(&self, entry: &Record) -> bool
+        ensures { result ≡ faults.is_outcome_undefined self.now (record_of entry.now).outcome }
+    {
+        entry.outcome != 0 && self.find(entry.outcome).is_none() && entry.payoffs.is_none()
+    }
+
+    /// Whether the entry has another name or other payoffs than are kept of its outcome.
+    pub(crate) fn differs(&self, entry: &Record) -> bool
+        ensures { result ≡ faults.outcome_differs self.now (record_of entry.now).outcome }
+    {
+        if entry.outcome == 0 {
+            return payoffs_differ(zero(), zero(), &entry.payoffs);
+        }
+        match self.find(entry.outcome) {
+            Some(i) => {
+                let kept = self.get(i);
+                name_differs(&kept.name, &entry.outcome_name)
+                    || payoffs_differ(kept.one, kept.two, &entry.payoffs)
+            }
+            None => false,
+        }
+    }
+
+    /// Whether the entry is the first to mention its outcome, and has other than two payoffs.
+    pub(crate) fn is_miscounted(&self, entry: &Record) -> bool
+        ensures { result ≡ faults.is_outcome_miscounted self.now (record_of entry.now).outcome }
+    {
+        entry.outcome != 0
+            && self.find(entry.outcome).is_none()
+            && has_wrong_payoffs(&entry.payoffs)
+    }
+
+    /// The number of the entry's outcome among those of the table, which count from 1.
+    pub(crate) fn number_with(&self, entry: &Record) -> u32
+        requires { length self.now + 1 < 2 ^ 32 }
+        ensures { result ≡ adding.outcome_number self.now (record_of entry.now).outcome }
+    {
+        if entry.outcome == 0 {
+            return 0;
+        }
+        let place = match self.find(entry.outcome) {
+            Some(i) => i,
+            None => self.len(),
+        };
+        place as u32 + 1
+    }
+
+    /// Notes a mention of an outcome.
+    pub(crate) fn note(
+        &mut self,
+        number: u64,
+        name: Option<Text>,
+        payoffs: Option<Payoffs>,
+    ) -> Result<(), AllocError>
+        ensures { let mention = outcome_mention number name payoffs in
+            OnOk result (self.new ≡ adding.noted_outcome self.old mention) }
+    {
+        if number == 0 {
+            return Ok(());
+        }
+        match self.find(number) {
+            Some(i) => {
+                self.name(i, name);
+                Ok(())
+            }
+            None => self.add(number, name, payoffs),
+        }
+    }
+
+    /// Gives the outcome at `i` a name, unless it has one.
+    fn name(&mut self, i: usize, name: Option<Text>)
+        requires { i < length self.old }
+        ensures { let kept = faults.outcome_at self.old i in
+            let named = record kept { name = adding.kept_name kept.name name } in
+            self.new ≡ slice_set self.old i named }
+    {
+        keep_name(&mut self.outcomes[i].name, name);
+    }
+
+    /// Puts an outcome last.
+    fn add(
+        &mut self,
+        number: u64,
+        name: Option<Text>,
+        payoffs: Option<Payoffs>,
+    ) -> Result<(), AllocError>
+        requires { faults.outcome_place_of number self.old ≡ None }
+        ensures { let mention = outcome_mention number name payoffs in
+            OnOk result (self.new ≡ self.old ++ adding.new_outcome mention ∷ []) }
+    {
+        let (one, two) = (payoff_at(&payoffs, 0), payoff_at(&payoffs, 1));
+        self.outcomes
+            .insert(number, OutcomeDescription { name, one, two })?;
+        Ok(())
+    }
+}
+
+/// The payoff at `i`, which counts from 0, or 0 where there is none.
+fn payoff_at(payoffs: &Option<Payoffs>, i: usize) -> Frac
+    ensures { result ≡ adding.payoff_at (unwrap_or payoffs.now []) i }
+{
+    match payoffs {
+        Some(payoffs) if i < payoffs.len() => payoffs.get(i),
+        _ => zero(),
+    }
+}
+
+/// Whether there is a list that has other than two payoffs.
+fn has_wrong_payoffs(payoffs: &Option<Payoffs>) -> bool
+    ensures { result ≡ faults.has_wrong_payoffs payoffs.now }
+{
+    match payoffs {
+        Some(payoffs) => payoffs.len() != 2,
+        None => false,
+    }
+}
+
+/// Whether payoffs are given that differ in their number or a value from those that are kept.
+fn payoffs_differ(one: Frac, two: Frac, given: &Option<Payoffs>) -> bool
+    ensures { let kept = record faults.null_outcome { one = one; two = two } in
+        result ≡ faults.payoffs_differ kept given.now }
+{
+    match given {
+        Some(given) => {
+            given.len() != 2 || !same_value(one, given.get(0)) || !same_value(two, given.get(1))
+        }
+        None => false,
+    }
+}
+
+/// The number 0.
+pub(crate) fn zero() -> Frac
+    ensures { result ≡ zero_fraction }
+{
+    whole(0).unwrap()
+}

@@ -1,0 +1,263 @@
+//! The sets of a game.
+ghost use Rattle.std.specs.Prelude.{◌≡◌, ◌≢◌, ◌+◌, ◌<◌, ◌^◌, false, [], ◌∷◌, ◌++◌, length, slice_set, Some, None, OnOk, IfSome};
+ghost use Rattle.def_file.specs.Adding as adding;
+ghost use Rattle.def_file.specs.Content.{SetEntry, sets_of, with_sets};
+ghost use Rattle.def_file.specs.Faults as faults;
+ghost use Rattle.xg_game.specs.Mentions.{set_mention};
+ghost use Rattle.xg_record.specs.Record.{record_of};
+
+use crate::given::{actions_differ, keep_name, name_differs};
+use crate::seed::Seed;
+use indexmap::IndexMap;
+use std::alloc::{AllocError, Global};
+use std::marker::Model;
+use xg_lex::Text;
+use xg_record::{Actions, Record};
+use xg_tree::Kind;
+
+/// The greatest number of actions of a set.
+const ACTION_LIMIT: usize = 1_024;
+
+/// What is known of a set: the first name that is given, and the actions of the first mention.
+#[derive(Drop)]
+pub(crate) struct SetDescription {
+    pub(crate) name: Option<Text>,
+    pub(crate) actions: Actions,
+}
+
+/// The sets of chance or of a player by their numbers in the file, in the order of their first mentions.
+#[derive(Drop)]
+pub(crate) struct SetTable {
+    sets: IndexMap<u64, SetDescription, Seed>,
+}
+
+impl Model for SetTable {
+    ghost use Rattle.std.specs.Prelude.{List, map};
+    ghost use Rattle.def_file.specs.Content.{SetEntry};
+
+    ghost Value = { List SetEntry };
+
+    ghost use Rattle.xg_game.specs.Sets.{set_of};
+
+    ghost view = { λ t. map set_of t.sets.entries };
+}
+
+impl SetTable {
+    /// No sets.
+    pub(crate) fn new(alloc: Global, seed: Seed) -> SetTable
+        ensures { result ≡ [] }
+    {
+        SetTable {
+            sets: IndexMap::with_hasher(alloc, seed),
+        }
+    }
+
+    /// How many sets there are.
+    pub(crate) fn len(&self) -> usize
+        ensures { result ≡ length self.now }
+    {
+        self.sets.len()
+    }
+
+    /// Where the set of this number is.
+    pub(crate) fn find(&self, number: u64) -> Option<usize>
+        ensures place { result ≡ faults.place_of number self.now }
+        ensures within { IfSome result (λ i. i < length self.now) }
+    {
+        self.sets.get_index_of(&number)
+    }
+
+    /// The number in the file of the set at `i`.
+    pub(crate) fn number(&self, i: usize) -> u64
+        requires { i < length self.now }
+        ensures { result ≡ (faults.set_at self.now i).number }
+    {
+        self.sets.keys()[i]
+    }
+
+    /// What is known of the set at `i`.
+    pub(crate) fn get(&self, i: usize) -> &SetDescription
+        requires { i < length self.now }
+        ensures name { result.now.name ≡ (faults.set_at self.now i).name }
+        ensures actions { result.now.actions ≡ (faults.set_at self.now i).actions }
+    {
+        &self.sets[i]
+    }
+
+    /// Whether the entry is the first to mention its set, and has no actions.
+    pub(crate) fn is_undefined(&self, entry: &Record) -> bool
+        ensures { result ≡ faults.is_set_undefined self.now (record_of entry.now).set }
+    {
+        self.find(entry.set).is_none() && entry.actions.is_none()
+    }
+
+    /// Whether the entry has another name or other actions than are kept of its set.
+    pub(crate) fn differs(&self, kind: Kind, entry: &Record) -> bool
+        ensures { result ≡ faults.set_differs kind self.now (record_of entry.now).set }
+    {
+        match self.find(entry.set) {
+            Some(i) => {
+                let kept = self.get(i);
+                name_differs(&kept.name, &entry.set_name)
+                    || actions_differ(kind, &kept.actions, &entry.actions)
+            }
+            None => false,
+        }
+    }
+
+    /// Whether the entry is the first to mention its set, and has no action or too many.
+    pub(crate) fn is_miscounted(&self, entry: &Record) -> bool
+        ensures { result ≡ faults.is_set_miscounted self.now (record_of entry.now).set }
+    {
+        self.find(entry.set).is_none() && has_wrong_count(&entry.actions)
+    }
+
+    /// The number of the entry's set among those of the table, which count from 1.
+    pub(crate) fn number_with(&self, entry: &Record) -> u32
+        requires { length self.now + 1 < 2 ^ 32 }
+        ensures { result ≡ adding.set_number self.now (record_of entry.now).set }
+    {
+        let place = match self.find(entry.set) {
+            Some(i) => i,
+            None => self.len(),
+        };
+        place as u32 + 1
+    }
+
+    /// How many actions the entry's set has.
+    pub(crate) fn action_count_with(&self, entry: &Record) -> u32
+        requires { adding.action_count self.now (record_of entry.now).set < 2 ^ 32 }
+        ensures { result ≡ adding.action_count self.now (record_of entry.now).set }
+    {
+        match self.find(entry.set) {
+            Some(i) => self.get(i).actions.len() as u32,
+            None => match &entry.actions {
+                Some(actions) => actions.len() as u32,
+                None => 0,
+            },
+        }
+    }
+
+    /// Notes a mention of a set.
+    pub(crate) fn note(
+        &mut self,
+        number: u64,
+        name: Option<Text>,
+        actions: Option<Actions>,
+    ) -> Result<(), AllocError>
+        requires { faults.is_set_undefined self.old (set_mention number name actions) ≡ false }
+        ensures { let mention = set_mention number name actions in
+            OnOk result (self.new ≡ adding.noted_set self.old mention) }
+    {
+        match self.find(number) {
+            Some(i) => {
+                self.name(i, name);
+                Ok(())
+            }
+            None => self.add(number, name, shrunk(actions.unwrap())),
+        }
+    }
+
+    /// Gives the set at `i` a name, unless it has one.
+    fn name(&mut self, i: usize, name: Option<Text>)
+        requires { i < length self.old }
+        ensures { let kept = faults.set_at self.old i in
+            let named = record kept { name = adding.kept_name kept.name name } in
+            self.new ≡ slice_set self.old i named }
+    {
+        keep_name(&mut self.sets[i].name, name);
+    }
+
+    /// Puts a set last.
+    fn add(&mut self, number: u64, name: Option<Text>, actions: Actions) -> Result<(), AllocError>
+        requires { faults.place_of number self.old ≡ None }
+        ensures { let added : SetEntry = record { number = number; name = name; actions = actions } in
+            OnOk result (self.new ≡ self.old ++ added ∷ []) }
+    {
+        self.sets.insert(number, SetDescription { name, actions })?;
+        Ok(())
+    }
+}
+
+/// The same actions, in no more memory than they need.
+fn shrunk(actions: Actions) -> Actions
+    ensures { result ≡ actions }
+{
+    let mut actions = actions;
+    actions.shrink_to_fit();
+    actions
+}
+
+/// Whether there is a list of actions that has none or too many.
+fn has_wrong_count(actions: &Option<Actions>) -> bool
+    ensures { result ≡ faults.has_wrong_count actions.now }
+{
+    match actions {
+        Some(actions) => actions.len() == 0 || actions.len() > ACTION_LIMIT,
+        None => false,
+    }
+}
+
+/// The sets of chance and of each player.
+#[derive(Drop)]
+pub(crate) struct SetTables {
+    chance: SetTable,
+    one: SetTable,
+    two: SetTable,
+}
+
+impl Model for SetTables {
+    ghost use Rattle.def_file.specs.Content as content;
+
+    ghost Value = { content.SetTables };
+
+    ghost view = { λ t. record { chance = t.chance; one = t.one; two = t.two } };
+}
+
+impl SetTables {
+    /// No sets.
+    pub(crate) fn new(alloc: Global, seed: Seed) -> SetTables
+        ensures { result ≡ record { chance = []; one = []; two = [] } }
+    {
+        SetTables {
+            chance: SetTable::new(alloc, seed),
+            one: SetTable::new(alloc, seed),
+            two: SetTable::new(alloc, seed),
+        }
+    }
+
+    /// The sets of a kind.
+    pub(crate) fn of(&self, kind: Kind) -> &SetTable
+        requires { kind ≢ Kind.Leaf }
+        ensures { result.now ≡ sets_of kind self.now }
+    {
+        match kind {
+            Kind::Chance => &self.chance,
+            Kind::One => &self.one,
+            Kind::Two => &self.two,
+            Kind::Leaf => unreachable!(),
+        }
+    }
+
+    /// Notes a mention of a set of a kind. A leaf is in no set.
+    pub(crate) fn note(
+        &mut self,
+        kind: Kind,
+        number: u64,
+        name: Option<Text>,
+        actions: Option<Actions>,
+    ) -> Result<(), AllocError>
+        requires { let mention = set_mention number name actions in
+            kind ≢ Kind.Leaf → faults.is_set_undefined (sets_of kind self.old) mention ≡ false }
+        ensures { let mention = set_mention number name actions in
+            let table = adding.noted_set (sets_of kind self.old) mention in
+            OnOk result (self.new ≡ with_sets kind table self.old) }
+    {
+        match kind {
+            Kind::Chance => self.chance.note(number, name, actions),
+            Kind::One => self.one.note(number, name, actions),
+            Kind::Two => self.two.note(number, name, actions),
+            Kind::Leaf => Ok(()),
+        }
+    }
+}

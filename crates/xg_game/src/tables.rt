@@ -1,0 +1,202 @@
+//! The nodes of entries, with their names, sets and outcomes.
+ghost use Rattle.std.specs.Prelude.{◌≡◌, ◌≢◌, None, OnOk, IsTrue, ◌↔◌, ◌≤◌, ◌&&◌, length};
+ghost use Rattle.def_file.specs.Adding.{node_with, with_record};
+ghost use Rattle.def_file.specs.Content.{no_contents, sets_of};
+ghost use Rattle.def_file.specs.Faults as faults;
+ghost use Rattle.def_tree.specs.Rules.{KeepRules};
+ghost use Rattle.def_tree.specs.Tree.{Begins, wanted};
+ghost use Rattle.xg_game.specs.Consistent.{IsConsistent};
+ghost use Rattle.xg_record.specs.Record.{record_of};
+
+use crate::outcomes::OutcomeTable;
+use crate::seed::Seed;
+use crate::sets::SetTables;
+use def_file::{EntryKind, FileFault};
+use def_tree::Node;
+use std::alloc::{AllocError, Global};
+use std::marker::Model;
+use xg_lex::Text;
+use xg_record::Record;
+use xg_tree::{Builder, Kind};
+
+/// The greatest number of nodes of a game.
+const NODE_LIMIT: usize = 1_048_576;
+
+/// What the entries so far say.
+#[derive(Drop)]
+pub(crate) struct Tables {
+    pub(crate) nodes: Builder,
+    pub(crate) names: Vec<Text>,
+    pub(crate) sets: SetTables,
+    pub(crate) outcomes: OutcomeTable,
+}
+
+impl Model for Tables {
+    ghost use Rattle.def_file.specs.Content.{Contents};
+
+    ghost Value = { Contents };
+
+    ghost view = { λ t. record {
+      nodes = t.nodes;
+      names = t.names.items;
+      sets = t.sets;
+      outcomes = t.outcomes;
+    } };
+}
+
+impl Tables {
+    /// No entries.
+    pub(crate) fn new(alloc: Global, seed: Seed) -> Tables
+        ensures { result ≡ no_contents }
+    {
+        Tables {
+            nodes: Builder::new(alloc),
+            names: Vec::new(alloc),
+            sets: SetTables::new(alloc, seed),
+            outcomes: OutcomeTable::new(alloc, seed),
+        }
+    }
+
+    /// Whether the nodes are a whole tree.
+    pub(crate) fn is_complete(&self) -> bool
+        ensures complete { IsTrue result ↔ (wanted 1 self.now.nodes ≡ 0) }
+
+        // What is true of all tables.
+        ensures begins { Begins 1 self.now.nodes }
+        ensures rules { KeepRules self.now.nodes }
+        ensures limit { length self.now.nodes ≤ 1048576 }
+    {
+        self.nodes.is_complete()
+    }
+
+    /// The first fault of an entry after those so far.
+    pub(crate) fn fault(&self, entry: &Record) -> Option<FileFault>
+        requires { IsConsistent self.now }
+        ensures { result ≡ faults.record_fault self.now (record_of entry.now) }
+    {
+        let node = self.names.len() as u32 + 1;
+        if is_no_player(entry.kind, entry.player) {
+            return Some(FileFault::PlayerNumber { node });
+        }
+        if self.is_set_undefined(entry) {
+            return Some(FileFault::SetUndefined { node });
+        }
+        if self.set_differs(entry) {
+            return Some(FileFault::SetMismatch { node });
+        }
+        if self.outcomes.is_undefined(entry) {
+            return Some(FileFault::OutcomeUndefined { node });
+        }
+        if self.outcomes.differs(entry) {
+            return Some(FileFault::OutcomeMismatch { node });
+        }
+        if self.outcomes.is_miscounted(entry) {
+            return Some(FileFault::PayoffCount { node });
+        }
+        if self.names.len() == NODE_LIMIT {
+            return Some(FileFault::TooManyNodes);
+        }
+        if self.is_set_miscounted(entry) {
+            return Some(FileFault::ActionCount { node });
+        }
+        None
+    }
+
+    fn is_set_undefined(&self, entry: &Record) -> bool
+        ensures { let r = record_of entry.now in
+            let table = sets_of (faults.mover r) self.now.sets in
+            result ≡ faults.has_set r.kind && faults.is_set_undefined table r.set }
+    {
+        let kind = mover(entry.kind, entry.player);
+        has_set(entry.kind) && self.sets.of(kind).is_undefined(entry)
+    }
+
+    fn set_differs(&self, entry: &Record) -> bool
+        ensures { let r = record_of entry.now in
+            let table = sets_of (faults.mover r) self.now.sets in
+            result ≡ faults.has_set r.kind && faults.set_differs (faults.mover r) table r.set }
+    {
+        let kind = mover(entry.kind, entry.player);
+        has_set(entry.kind) && self.sets.of(kind).differs(kind, entry)
+    }
+
+    fn is_set_miscounted(&self, entry: &Record) -> bool
+        ensures { let r = record_of entry.now in
+            let table = sets_of (faults.mover r) self.now.sets in
+            result ≡ faults.has_set r.kind && faults.is_set_miscounted table r.set }
+    {
+        let kind = mover(entry.kind, entry.player);
+        has_set(entry.kind) && self.sets.of(kind).is_miscounted(entry)
+    }
+
+    /// Takes an entry that has no fault. Where memory runs out, part of it may be in the tables.
+    pub(crate) fn keep(&mut self, entry: Record) -> Result<(), AllocError>
+        requires consistent { IsConsistent self.old }
+        requires incomplete { wanted 1 self.old.nodes ≢ 0 }
+        requires faultless { faults.record_fault self.old (record_of entry) ≡ None }
+        ensures { OnOk result (self.new ≡ with_record self.old (record_of entry)) }
+    {
+        let node = self.node_with(&entry);
+        self.sets
+            .note(node.kind, entry.set, entry.set_name, entry.actions)?;
+        self.outcomes
+            .note(entry.outcome, entry.outcome_name, entry.payoffs)?;
+        self.names.push(entry.name)?;
+        self.nodes.push(node).map_err(|_| AllocError)
+    }
+
+    /// The node of an entry that has no fault.
+    fn node_with(&self, entry: &Record) -> Node
+        requires consistent { IsConsistent self.now }
+        requires faultless { faults.record_fault self.now (record_of entry.now) ≡ None }
+        ensures { result ≡ node_with self.now (record_of entry.now) }
+    {
+        let kind = mover(entry.kind, entry.player);
+        let outcome = self.outcomes.number_with(entry);
+        if !has_set(entry.kind) {
+            return Node {
+                kind,
+                set: 0,
+                outcome,
+                children: 0,
+            };
+        }
+        let table = self.sets.of(kind);
+        Node {
+            kind,
+            set: table.number_with(entry),
+            outcome,
+            children: table.action_count_with(entry),
+        }
+    }
+}
+
+/// Who moves at an entry of this kind and player.
+fn mover(kind: EntryKind, player: u64) -> Kind
+    ensures { result ≡ faults.mover_as kind player }
+{
+    match kind {
+        EntryKind::Chance => Kind::Chance,
+        EntryKind::Personal => { if player == 1 { Kind::One } else { Kind::Two } }
+        EntryKind::Leaf => Kind::Leaf,
+    }
+}
+
+fn has_set(kind: EntryKind) -> bool
+    ensures { result ≡ faults.has_set kind }
+{
+    match kind {
+        EntryKind::Chance | EntryKind::Personal => true,
+        EntryKind::Leaf => false,
+    }
+}
+
+/// Whether an entry of a player has a number that is no player's.
+fn is_no_player(kind: EntryKind, player: u64) -> bool
+    ensures { result ≡ faults.is_no_player kind player }
+{
+    match kind {
+        EntryKind::Personal => player != 1 && player != 2,
+        EntryKind::Chance | EntryKind::Leaf => false,
+    }
+}

@@ -1,0 +1,49 @@
+-- What an entry says of its set and its outcome, and the names of a prologue, as reading has them.
+use Rattle.std.specs.Prelude.{◌≡◌, ◌^◌, ℕ, ◌≤◌, true, List, [], length, slice_get, unwrap_or, Option, Result, Ok, Err}
+use Rattle.def_file.specs.declared.FileFault.{FileFault}
+use Rattle.def_file.specs.Content as content
+use Rattle.def_file.specs.Faults.{has_set}
+use Rattle.def_file.specs.Reading.{◌>>=◌, checked_names, name_at, name_of}
+use Rattle.xg_record.specs.declared.record.Record.{Record}
+use Rattle.xg_read.specs.declared.entries.SetMention.{SetMention}
+use Rattle.xg_read.specs.declared.entries.OutcomeMention.{OutcomeMention}
+use Rattle.xg_read.specs.declared.prologue.PlayerNames.{PlayerNames}
+use Rattle.xg_read.specs.declared.prologue.Prologue.{Prologue}
+use Rattle.xg_read.specs.declared.prologue.Players.{Players}
+use Rattle.xg_game.specs.declared.fault.Refused.{Refused}
+use Rattle.xg_game.specs.declared.fault.Refused.TheVariants.{File, NoMemory}
+
+abbrev pub set_mention_of : SetMention → content.SetMention
+set_mention_of m = record { number = m.number; name = m.name; actions = m.actions }
+
+abbrev pub outcome_mention_of : OutcomeMention → content.OutcomeMention
+outcome_mention_of m = record { number = m.number; name = m.name; payoffs = m.payoffs }
+
+-- the numbers of an entry are those that an entry may have
+pub record HasNumbers (r : Record) : Type 0 where
+  pub outcome : r.outcome ≤ 2 ^ 62
+  pub set : has_set r.kind ≡ true → (1 ≤ r.set) × (r.set ≤ 2 ^ 62)
+
+abbrev pub prologue_of : Prologue → content.Prologue
+prologue_of p = record { title = p.title; one = p.one; two = p.two; comment = p.comment }
+
+-- the first two of some names, and how many there are
+pub record AreFirst (names : List (List ℕ)) (first second : Option (List ℕ)) (count : ℕ) : Type 0 where
+  pub first_is : first ≡ slice_get names 0
+  pub second_is : second ≡ slice_get names 1
+  pub count_is : count ≡ length names
+
+-- the names that were read, by their summary
+abbrev pub GivesNames : Result PlayerNames Refused → ℕ → Result (List (List ℕ) × ℕ) FileFault → Type 0
+GivesNames (Ok n) at read = (names : List (List ℕ)) × (read ≡ Ok (names, at)) × AreFirst names n.one n.two n.count
+GivesNames (Err (File fault)) at read = read ≡ Err fault
+GivesNames (Err NoMemory) at read = Unit {0}
+
+-- the comment, where an absent one is the empty text
+abbrev pub comment_at : List ℕ → ℕ → Result (List ℕ × ℕ) FileFault
+comment_at whole at = name_at whole at >>= λ name. Ok (unwrap_or name.0 [], name.1)
+
+-- the names of both players, where there are two, and else the fault
+abbrev pub IsBoth : List (List ℕ) → Result Players FileFault → Type 0
+IsBoth names (Ok p) = ((at : ℕ) → checked_names names at ≡ Ok at) × (p.one ≡ name_of names 0) × (p.two ≡ name_of names 1)
+IsBoth names (Err fault) = (at : ℕ) → checked_names names at ≡ Err fault

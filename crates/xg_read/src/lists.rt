@@ -1,0 +1,130 @@
+//! Lists of actions and of payoffs.
+ghost use Rattle.std.specs.Prelude.{◌≡◌, ◌-◌, [], length};
+ghost use Rattle.def_file.specs.Content.{zero_fraction};
+ghost use Rattle.def_file.specs.Reading.{action_at, actions_at, actions_from, chance_at, comma_at, payoff_at, payoffs_at, payoffs_from};
+ghost use Rattle.xg_record.specs.Action.{action_of};
+ghost use Rattle.xg_read.specs.Gives.{Gives, GivesFor};
+
+use crate::reader::Reader;
+use crate::wanted::Wanted;
+use def_file::{EntryKind, FileFault};
+use std::alloc::Global;
+use xg_frac::{Frac, whole};
+use xg_game::Refused;
+use xg_record::{Action, Actions, Payoffs};
+
+impl<'a> Reader<'a> {
+    /// The probability of an action, which is read where chance moves, and else is 0.
+    fn chance(&mut self, kind: EntryKind) -> Result<Frac, FileFault>
+        ensures exact { Gives result self.new.at (chance_at kind self.old.whole self.old.at) }
+        ensures whole { self.new.whole ≡ self.old.whole }
+    {
+        match kind {
+            EntryKind::Chance => self.literal(),
+            EntryKind::Personal | EntryKind::Leaf => Ok(zero()),
+        }
+    }
+
+    /// An action: its name, and its probability where chance moves.
+    #[tactic(auto, unfolding(def_file::specs::Reading::action_at))]
+    fn action(&mut self, alloc: Global, kind: EntryKind) -> Result<Action, Refused>
+        ensures exact { GivesFor action_of result self.new.at (action_at kind self.old.whole self.old.at) }
+        ensures whole { self.new.whole ≡ self.old.whole }
+    {
+        let name = self.next_text(alloc)?;
+        let chance = self.chance(kind)?;
+        Ok(Action { name, chance })
+    }
+
+    /// The actions up to the closing brace.
+    #[tactic(auto, using(crate::proofs::Items::actions_closed, crate::proofs::Items::actions_more, crate::proofs::Items::actions_full), unfolding(def_file::specs::Reading::close_at))]
+    fn actions_in_braces(&mut self, alloc: Global, kind: EntryKind) -> Result<Actions, Refused>
+        ensures exact { GivesFor (λ actions. actions) result self.new.at
+            (actions_from kind (length self.old.whole) [] self.old.whole self.old.at) }
+        ensures whole { self.new.whole ≡ self.old.whole }
+    {
+        let mut actions = Actions::new(alloc);
+        let most = self.len();
+        'actions: for _ in 0..most {
+            if self.comes(b'}') {
+                self.token(Wanted::Close)?;
+                return Ok(actions);
+            }
+            let action = self.action(alloc, kind)?;
+            actions.push(action)?;
+        }
+        Err(Refused::File(FileFault::UnexpectedEnd))
+    }
+
+    /// A list of actions, if one comes.
+    #[tactic(auto, unfolding(def_file::specs::Reading::actions_at))]
+    pub fn actions(&mut self, alloc: Global, kind: EntryKind) -> Result<Option<Actions>, Refused>
+        ensures exact { GivesFor (λ actions. actions) result self.new.at (actions_at kind self.old.whole self.old.at) }
+        ensures whole { self.new.whole ≡ self.old.whole }
+    {
+        if !self.comes(b'{') {
+            return Ok(None);
+        }
+        self.token(Wanted::Open)?;
+        let actions = self.actions_in_braces(alloc, kind)?;
+        Ok(Some(actions))
+    }
+}
+
+/// Payoffs.
+impl<'a> Reader<'a> {
+    /// A payoff behind so many others, with the comma before it, if there is one.
+    #[tactic(auto, unfolding(def_file::specs::Reading::payoff_at))]
+    fn payoff(&mut self, done: &Payoffs) -> Result<Frac, FileFault>
+        ensures exact { Gives result self.new.at (payoff_at done.now self.old.whole self.old.at) }
+        ensures whole { self.new.whole ≡ self.old.whole }
+    {
+        if done.len() > 0 && self.comes(b',') {
+            self.token(Wanted::Comma)?;
+        }
+        self.literal()
+    }
+
+    /// The payoffs up to the closing brace.
+    #[tactic(auto, using(crate::proofs::Items::payoffs_closed, crate::proofs::Items::payoffs_more, crate::proofs::Items::payoffs_full), unfolding(def_file::specs::Reading::close_at))]
+    fn payoffs_in_braces(&mut self, alloc: Global) -> Result<Payoffs, Refused>
+        ensures exact { GivesFor (λ payoffs. payoffs) result self.new.at
+            (payoffs_from (length self.old.whole) [] self.old.whole self.old.at) }
+        ensures whole { self.new.whole ≡ self.old.whole }
+    {
+        let mut payoffs = Payoffs::new(alloc);
+        let most = self.len();
+        'payoffs: for _ in 0..most {
+            if self.comes(b'}') {
+                self.token(Wanted::Close)?;
+                return Ok(payoffs);
+            }
+            let payoff = self.payoff(&payoffs)?;
+            payoffs.push(payoff)?;
+        }
+        Err(Refused::File(FileFault::UnexpectedEnd))
+    }
+
+    /// A list of payoffs, if one comes.
+    #[tactic(auto, unfolding(def_file::specs::Reading::payoffs_at))]
+    pub fn payoffs(&mut self, alloc: Global) -> Result<Option<Payoffs>, Refused>
+        ensures exact { GivesFor (λ payoffs. payoffs) result self.new.at (payoffs_at self.old.whole self.old.at) }
+        ensures whole { self.new.whole ≡ self.old.whole }
+    {
+        if !self.comes(b'{') {
+            return Ok(None);
+        }
+        self.token(Wanted::Open)?;
+        let payoffs = self.payoffs_in_braces(alloc)?;
+        Ok(Some(payoffs))
+    }
+}
+
+fn zero() -> Frac
+    ensures { result ≡ zero_fraction }
+{
+    match whole(0) {
+        Ok(zero) => zero,
+        Err(_) => unreachable!(),
+    }
+}

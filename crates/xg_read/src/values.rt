@@ -1,0 +1,102 @@
+//! Texts and numbers of a file.
+ghost use Rattle.std.specs.Prelude.{◌≡◌, ◌^◌, ◌≤◌, IfOk};
+ghost use Rattle.def_file.specs.Reading.{literal_at, name_at, read_as_set, set_number_at, text_at, whole_at};
+ghost use Rattle.xg_read.specs.Gives.{Gives, GivesFor};
+
+use crate::reader::Reader;
+use crate::wanted::Wanted;
+use def_file::FileFault;
+use std::alloc::Global;
+use xg_frac::{Frac, NumberFault, read_literal, read_whole};
+use xg_game::Refused;
+use xg_lex::Text;
+
+impl<'a> Reader<'a> {
+    /// The next text token, and the bytes that it stands for.
+    #[tactic(auto, using(crate::proofs::Texts::kind_is_text), unfolding(def_file::specs::Reading::text_at))]
+    pub fn next_text(&mut self, alloc: Global) -> Result<Text, Refused>
+        ensures exact { GivesFor (λ text. text) result self.new.at (text_at self.old.whole self.old.at) }
+        ensures whole { self.new.whole ≡ self.old.whole }
+    {
+        let token = self.token(Wanted::Text)?;
+        Ok(self.text(alloc, token)?)
+    }
+
+    /// A name, if one comes.
+    #[tactic(auto, unfolding(def_file::specs::Reading::name_at))]
+    pub fn name(&mut self, alloc: Global) -> Result<Option<Text>, Refused>
+        ensures exact { GivesFor (λ name. name) result self.new.at (name_at self.old.whole self.old.at) }
+        ensures whole { self.new.whole ≡ self.old.whole }
+    {
+        if !self.comes(b'"') {
+            return Ok(None);
+        }
+        let text = self.next_text(alloc)?;
+        Ok(Some(text))
+    }
+
+    /// A probability or a payoff.
+    #[tactic(auto, unfolding(def_file::specs::Reading::literal_at))]
+    pub fn literal(&mut self) -> Result<Frac, FileFault>
+        ensures exact { Gives result self.new.at (literal_at self.old.whole self.old.at) }
+        ensures whole { self.new.whole ≡ self.old.whole }
+    {
+        let token = self.token(Wanted::Number)?;
+        match read_literal(self.token_bytes(token)) {
+            Ok(value) => Ok(value),
+            Err(fault) => Err(FileFault::Number {
+                at: token.start,
+                fault,
+            }),
+        }
+    }
+
+    /// The number of a player or an outcome.
+    #[tactic(auto, unfolding(def_file::specs::Reading::whole_at))]
+    pub fn whole_number(&mut self) -> Result<u64, FileFault>
+        ensures exact { Gives result self.new.at (whole_at self.old.whole self.old.at) }
+        ensures whole { self.new.whole ≡ self.old.whole }
+        ensures limit { IfOk result (λ n. n ≤ 2 ^ 62) }
+    {
+        let token = self.token(Wanted::Number)?;
+        match read_whole(self.token_bytes(token)) {
+            Ok(value) => Ok(value),
+            Err(fault) => Err(FileFault::Number {
+                at: token.start,
+                fault,
+            }),
+        }
+    }
+
+    /// The number of a set, which isn't 0.
+    #[tactic(auto, unfolding(def_file::specs::Reading::set_number_at))]
+    pub fn set_number(&mut self) -> Result<u64, FileFault>
+        ensures exact { Gives result self.new.at (set_number_at self.old.whole self.old.at) }
+        ensures whole { self.new.whole ≡ self.old.whole }
+        ensures from_one { IfOk result (λ n. 1 ≤ n) }
+        ensures limit { IfOk result (λ n. n ≤ 2 ^ 62) }
+    {
+        let token = self.token(Wanted::Number)?;
+        match read_set(self.token_bytes(token)) {
+            Ok(value) => Ok(value),
+            Err(fault) => Err(FileFault::Number {
+                at: token.start,
+                fault,
+            }),
+        }
+    }
+}
+
+/// The number of a set, in digits.
+#[tactic(auto, unfolding(def_file::specs::Reading::read_as_set))]
+fn read_set(bytes: &[u8]) -> Result<u64, NumberFault>
+    ensures exact { result ≡ read_as_set bytes.now }
+    ensures from_one { IfOk result (λ n. 1 ≤ n) }
+    ensures limit { IfOk result (λ n. n ≤ 2 ^ 62) }
+{
+    match read_whole(bytes) {
+        Ok(0) => Err(NumberFault::Range),
+        Ok(value) => Ok(value),
+        Err(fault) => Err(fault),
+    }
+}
