@@ -182,7 +182,7 @@ def main():
                 size = os.path.getsize(path)
                 print(f"     {kind}, {nodes} nodes, {size} bytes: {times[nodes]:.3f} s, {memory} bytes of memory")
                 if nodes > 131_072:
-                    report(f"{kind}, {nodes} nodes against half of them", times[nodes] / times[nodes // 2], 2.5, "times")
+                    report(f"{kind}, {nodes} nodes against half of them", times[nodes] / times[nodes // 2], 2.3, "times")
                 report(f"{kind}, memory at {nodes} nodes beside the file", (memory - size) / nodes, 300, "bytes a node")
             against_words(f"{kind}, {size} bytes", path, 0)
 
