@@ -1,10 +1,10 @@
 -- No reader answers that the file is too long.
 use Rattle.std.proofs.Common.{◌≡◌, ◌≢◌, ℕ, zero, suc, ◌+◌, Bool, true, false, cond, ◌||◌, ap, nat_eq, List, [], ◌∷◌, ◌++◌, length, Option, Some, None, Result, Ok, Err, refl}
-use Rattle.def_tokens.specs.declared.Token.TheVariants as kinds
-use Rattle.def_tokens.specs.declared.Lexeme.{Lexeme}
-use Rattle.def_tokens.specs.declared.LexFault.{LexFault}
-use Rattle.def_tokens.specs.declared.LexFault.TheVariants as lexing
-use Rattle.def_tokens.specs.Tokens.{next_from}
+use Rattle.def_file_tokens.specs.declared.Token.TheVariants as kinds
+use Rattle.def_file_tokens.specs.declared.Lexeme.{Lexeme}
+use Rattle.def_file_tokens.specs.declared.LexFault.{LexFault}
+use Rattle.def_file_tokens.specs.declared.LexFault.TheVariants as lexing
+use Rattle.def_file_tokens.specs.Tokens.{next_from}
 use Rattle.def_fraction.specs.declared.fault.NumberFault.{NumberFault}
 use Rattle.def_fraction.specs.Fraction.{Fraction}
 use Rattle.def_fraction.specs.Reading.{read_as_literal, read_as_whole}

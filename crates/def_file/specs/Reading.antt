@@ -9,13 +9,13 @@
 use Rattle.std.specs.Prelude.{ℕ, zero, suc, ◌+◌, ◌-◌, Bool, true, false, ◌&&◌, ◌||◌, nat_eq, if◌then◌else◌, List, [], ◌∷◌, ◌++◌, codes, length, slice_range, slice_index_or, unwrap_or, Option, Some, None, Result, Ok, Err}
 use Rattle.std.specs.Option.{option_map_or}
 use Rattle.std.specs.Cmp.Lexicographic.{pointwise}
-use Rattle.def_tokens.specs.declared.Token.{Token}
-use Rattle.def_tokens.specs.declared.Token.TheVariants as kinds
-use Rattle.def_tokens.specs.declared.Lexeme.{Lexeme}
-use Rattle.def_tokens.specs.declared.LexFault.{LexFault}
-use Rattle.def_tokens.specs.declared.LexFault.TheVariants as lexing
-use Rattle.def_tokens.specs.Tokens.{byte_from, next_from}
-use Rattle.def_tokens.specs.Texts.{unescaped}
+use Rattle.def_file_tokens.specs.declared.Token.{Token}
+use Rattle.def_file_tokens.specs.declared.Token.TheVariants as kinds
+use Rattle.def_file_tokens.specs.declared.Lexeme.{Lexeme}
+use Rattle.def_file_tokens.specs.declared.LexFault.{LexFault}
+use Rattle.def_file_tokens.specs.declared.LexFault.TheVariants as lexing
+use Rattle.def_file_tokens.specs.Tokens.{byte_from, next_from}
+use Rattle.def_file_tokens.specs.Texts.{unescaped}
 use Rattle.def_fraction.specs.declared.fault.NumberFault.{NumberFault}
 use Rattle.def_fraction.specs.declared.fault.NumberFault.TheVariants.{Range}
 use Rattle.def_fraction.specs.Fraction.{Fraction}

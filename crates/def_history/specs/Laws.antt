@@ -2,7 +2,8 @@
 use Rattle.std.specs.Prelude.{◌≡◌, ℕ, ℤ, ◌+◌, ◌<◌, ◌*◌, ◌↔◌, ◌⊎◌, List, [], length, All, Contains}
 use Rattle.def_history.specs.History.{times, IsLegal, IsComplete, replay, sum_over_jobs, stripe_of, place_of}
 use Rattle.def_history.specs.Core.{State, Holder, Holds, IsGivenUp, IsReached, history_of, stripe_count, times_held}
-use Rattle.def_history.specs.Leaves.{LeafRange, Partitions, amounts, sum_over_leaves}
+use Rattle.def_game_jobs.specs.Ranges.{LeafRange, Partitions}
+use Rattle.def_history.specs.Leaves.{amounts, sum_over_leaves}
 
 -- whatever steps were taken, every history is legal
 abbrev pub KeepsHistoriesLegal : Type 0

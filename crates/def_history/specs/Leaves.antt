@@ -1,19 +1,8 @@
--- Jobs as ranges of consecutive leaves. A leaf's amount at a row is a function of the two.
-use Rattle.std.specs.Prelude.{◌≡◌, ℕ, ℤ, List, flat_map, slice_index_or}
+-- What the leaves of jobs add up to. A leaf's amount at a row is a function of the two.
+use Rattle.std.specs.Prelude.{ℕ, ℤ, List, slice_index_or}
 use Rattle.std.specs.List.{range_with_len}
 use Rattle.def_sums.specs.Sum.{sum_over}
-
--- a job has some leaves in a row: the first one, and how many
-pub record LeafRange : Type 0 where
-  pub first : ℕ
-  pub count : ℕ
-
-abbrev pub leaves_of : LeafRange → List ℕ
-leaves_of range = range_with_len range.first range.count
-
--- the jobs' leaves, one job after the other, are all leaves, each once
-abbrev pub Partitions : List LeafRange → ℕ → Type 0
-Partitions ranges leaves = flat_map leaves_of ranges ≡ range_with_len 0 leaves
+use Rattle.def_game_jobs.specs.Ranges.{LeafRange, leaves_of}
 
 -- a job's amount at a row is the plain sum over its leaves
 abbrev pub job_amount : (ℕ → ℕ → ℤ) → LeafRange → ℕ → ℤ

@@ -3,8 +3,8 @@ use Rattle.std.proofs.Common.{◌≡◌, ℕ, zero, suc, ◌<◌, List, [], ◌�
 use Rattle.std.specs.List.{AllZip}
 use Rattle.std.proofs.lemmas.Int.{ints}
 use Rattle.std.proofs.lemmas.List.Elements.{All-head, All-tail, All-weaker}
-use Rattle.def_player.specs.declared.Player.{Player}
-use Rattle.def_player.specs.declared.Player.TheVariants.{One, Two}
+use Rattle.def_tree.specs.declared.Player.{Player}
+use Rattle.def_tree.specs.declared.Player.TheVariants.{One, Two}
 use Rattle.def_sums.specs.Sum.{sum_over, nat_sum_over}
 use Rattle.def_sums.proofs.RingLaws.{+ℤ-*ℤ, *ℤ-zero, *ℤ_comm, *ℤ-mono_right, +ℤ-mono, ≤ℤ_refl}
 use Rattle.def_sums.proofs.SumLaws.{sum_over-ext, sum_over-+ℤ, sum_over-factor, sum_over-pos, sum_over-related}

@@ -5,8 +5,8 @@ use Rattle.std.proofs.lemmas.Int.{unsigned_abs-mul}
 use Rattle.std.proofs.lemmas.Bool.{cases_lt}
 use Rattle.std.proofs.lemmas.List.{get_or_past}
 use Rattle.std.proofs.lemmas.List.Elements.{All-head, All-tail}
-use Rattle.def_player.specs.declared.Player.{Player}
-use Rattle.def_player.specs.Opponent.{opponent}
+use Rattle.def_tree.specs.declared.Player.{Player}
+use Rattle.def_tree.specs.Opponent.{opponent}
 use Rattle.def_sums.specs.Sum.{nat_sum_over}
 use Rattle.def_sums.proofs.SumLaws.{unsigned_abs-sum_over, nat_sum_over-mono, nat_sum_over-factor}
 use Rattle.def_sums.proofs.Ranges.{at_most_sum, nat_gathered}

@@ -1,6 +1,6 @@
 -- The payoff by leaf sums.
 use Rattle.std.proofs.Common.{◌≡◌, ℕ, ◌*◌, List, length, slice_index, ℤ, pos, ◌*ℤ◌, ap, ◌∙◌, arith}
-use Rattle.def_player.specs.declared.Player.TheVariants.{One, Two}
+use Rattle.def_tree.specs.declared.Player.TheVariants.{One, Two}
 use Rattle.def_sums.proofs.RingLaws.{*ℤ_assoc}
 use Rattle.def_sums.proofs.SumLaws.{sum_over-ext}
 use Rattle.def_plan.specs.Form.{InformationSet, sequence_count, Leaf}

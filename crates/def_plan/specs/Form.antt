@@ -2,8 +2,8 @@
 -- A player's sequences are numbered from 0, the empty one. Then come those that end at the first set, in the order of its actions, then those of the second set, and so on.
 use Rattle.std.specs.Prelude.{ℕ, ◌+◌, ◌≤◌, ◌<◌, List, [], ◌∷◌, ℤ, All}
 use Rattle.std.specs.List.{range_with_len}
-use Rattle.def_player.specs.declared.Player.{Player}
-use Rattle.def_player.specs.declared.Player.TheVariants.{One, Two}
+use Rattle.def_tree.specs.declared.Player.{Player}
+use Rattle.def_tree.specs.declared.Player.TheVariants.{One, Two}
 use Rattle.def_sums.specs.Sum.{nat_sum_over}
 
 -- an information set: its player's sequence before it, and how many actions it has. Sets stand in the order of their first appearance

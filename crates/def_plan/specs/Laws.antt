@@ -1,8 +1,8 @@
 -- What holds of plans. Each is the contract of a function of this crate.
 use Rattle.std.specs.Prelude.{◌≡◌, ℕ, ◌+◌, ◌*◌, ◌^◌, ◌≤◌, ◌<◌, ◌↔◌, List, ◌∷◌, length, take, flat_map, replicate, slice_index, slice_index_or, ℤ, pos, ◌*ℤ◌, unsigned_abs, Some, None}
 use Rattle.std.specs.List.{AllZip}
-use Rattle.def_player.specs.declared.Player.{Player}
-use Rattle.def_player.specs.declared.Player.TheVariants.{One, Two}
+use Rattle.def_tree.specs.declared.Player.{Player}
+use Rattle.def_tree.specs.declared.Player.TheVariants.{One, Two}
 use Rattle.def_sums.specs.Sum.{nat_sum_over}
 use Rattle.def_plan.specs.Form.{InformationSet, PlacedSet, placed, sequences_of, sequence_count, sequences, AreInOrder, Leaf}
 use Rattle.def_plan.specs.Plan.{IsPlan, dealt, DealsWhole, FollowsRules, AreActions, FollowsChoices, pure_plan, added, bad_set, IsBadSet}

@@ -1,9 +1,9 @@
 -- What a pair of plans pays, in weights of the leaves (von Stengel 1996).
 use Rattle.std.specs.Prelude.{◌≡◌, ℕ, ◌*◌, ◌<◌, List, ℤ, pos, ◌+ℤ◌, ◌*ℤ◌, ◌≤ℤ◌, slice_index, unsigned_abs, All, filter, zip, ◌==◌}
 use Rattle.std.specs.List.{AllZip}
-use Rattle.def_player.specs.declared.Player.{Player}
-use Rattle.def_player.specs.declared.Player.TheVariants.{One, Two}
-use Rattle.def_player.specs.Opponent.{opponent}
+use Rattle.def_tree.specs.declared.Player.{Player}
+use Rattle.def_tree.specs.declared.Player.TheVariants.{One, Two}
+use Rattle.def_tree.specs.Opponent.{opponent}
 use Rattle.def_sums.specs.Sum.{sum_over, nat_sum_over}
 use Rattle.def_plan.specs.Form.{InformationSet, PlacedSet, placed, sequences_of, sequences, Leaf, sequence_at}
 

@@ -4,7 +4,7 @@
 
 ghost use Rattle.std.specs.Prelude.{◌≡◌, [], ◌∷◌, Some, None, pos, negsuc};
 ghost use Rattle.def_plan.specs.Plan.{bad_set, pure_plan, added};
-ghost use Rattle.def_player.specs.declared.Player.TheVariants.{One, Two};
+ghost use Rattle.def_tree.specs.declared.Player.TheVariants.{One, Two};
 ghost use Rattle.def_plan.specs.Payoff.{pay, leaf_sum, mass};
 ghost use Rattle.def_plan.specs.Pennies.{pennies, one_set};
 ghost use Rattle.def_plan.specs.Laws.{SequencesAreNumbered, DealingMakesPlans, ChoicesMakeAPlan, SumsArePlans, LeafSumsGiveThePayoff, WeakDuality, ComplementarySlackness, BadSetIsExact, PlansAreSmall};

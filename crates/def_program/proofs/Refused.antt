@@ -5,9 +5,9 @@ use Rattle.def_file.specs.declared.FileFault.{FileFault}
 use Rattle.def_file.specs.declared.FileFault.TheVariants.{TooLong}
 use Rattle.def_file.specs.Content.{GameFile}
 use Rattle.def_file.specs.Reading.{game_at}
-use Rattle.def_form.specs.Laws.{StandsFor}
-use Rattle.def_form.proofs.Whole.{game_read, game_taken}
-use Rattle.def_first.specs.Laws.{FaultIsFirst, FirstIsFault}
+use Rattle.def_file_form.specs.Laws.{StandsFor}
+use Rattle.def_file_form.proofs.Whole.{game_read, game_taken}
+use Rattle.def_file_fault.specs.Laws.{FaultIsFirst, FirstIsFault}
 use Rattle.def_program.specs.Program.{most_bytes, read_as_game}
 use Rattle.def_program.specs.FirstFault.{IsFirstFault, in_length, within}
 use Rattle.def_program.specs.Laws.{RefusedWithTheFirst, AcceptedWithoutFault}

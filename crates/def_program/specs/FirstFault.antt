@@ -2,7 +2,7 @@
 use Rattle.std.specs.Prelude.{◌≡◌, ℕ, ◌<◌, ◌≤◌, List, length}
 use Rattle.def_file.specs.declared.FileFault.{FileFault}
 use Rattle.def_file.specs.declared.FileFault.TheVariants.{TooLong}
-use Rattle.def_first.specs.First.{FirstFault}
+use Rattle.def_file_fault.specs.First.{FirstFault}
 use Rattle.def_program.specs.Program.{most_bytes}
 
 pub data IsFirstFault (bytes : List ℕ) (fault : FileFault) : Type 0 where

@@ -2,7 +2,7 @@
 use Rattle.std.specs.Prelude.{◌≡◌, ◌↔◌, ℕ, ◌≤◌, List, length, Ok, Err}
 use Rattle.def_file.specs.declared.FileFault.{FileFault}
 use Rattle.def_file.specs.Content.{GameFile}
-use Rattle.def_form.specs.Laws.{StandsFor}
+use Rattle.def_file_form.specs.Laws.{StandsFor}
 use Rattle.def_program.specs.Program.{most_bytes, read_as_game}
 use Rattle.def_program.specs.FirstFault.{IsFirstFault}
 

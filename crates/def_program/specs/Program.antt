@@ -8,7 +8,7 @@ use Rattle.def_file.specs.declared.FileFault.{FileFault}
 use Rattle.def_file.specs.declared.FileFault.TheVariants.{TooLong}
 use Rattle.def_file.specs.Content.{GameFile}
 use Rattle.def_file.specs.Reading.{game_at}
-use Rattle.def_words.specs.Command.{Command, Solve, command_of}
+use Rattle.def_command.specs.Command.{Command, Solve, command_of}
 use Rattle.def_text.specs.Text.{text_of, no_rounds}
 use Rattle.def_text.specs.Lines.{fault_line, usage_line}
 

@@ -1,8 +1,8 @@
 -- What the program says on its second sink.
 use Rattle.std.specs.Prelude.{◌≡◌, ℕ, List, Option}
 use Rattle.std.specs.Io.KnownBytes.{append_known}
-use Rattle.xg_io.specs.Cause.{Rose}
-use Rattle.xg_io.specs.Sinks.{AppendsPrefix}
+use Rattle.def_outside.specs.Cause.{Rose}
+use Rattle.def_outside.specs.Sinks.{AppendsPrefix}
 
 -- The line was appended, or a front of it where the sink failed.
 pub record Says (faults_before faults_now : ℕ) (before now : Option (List ℕ)) (line : List ℕ) : Type 0 where

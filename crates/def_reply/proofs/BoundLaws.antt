@@ -1,6 +1,6 @@
 -- Floors and ceilings.
 use Rattle.std.proofs.Common.{pos, ◌*ℤ◌, ◌≤ℤ◌, sym, ◌∙◌, subst}
-use Rattle.def_player.specs.declared.Player.TheVariants.{One, Two}
+use Rattle.def_tree.specs.declared.Player.TheVariants.{One, Two}
 use Rattle.def_sums.proofs.RingLaws.{one-*ℤ, ≤ℤ_trans}
 use Rattle.def_plan.specs.Plan.{pure_plan}
 use Rattle.def_plan.specs.Payoff.{pay, leaf_sum}

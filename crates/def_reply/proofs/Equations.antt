@@ -4,7 +4,7 @@ use Rattle.std.specs.List.{AllZip}
 use Rattle.std.proofs.lemmas.Bool.{cases_lt}
 use Rattle.std.proofs.lemmas.List.FromFn.{get_or-map-range_with_len, length-map-range_with_len}
 use Rattle.std.proofs.lemmas.List.Elements.{All-head, All-tail}
-use Rattle.def_player.specs.declared.Player.{Player}
+use Rattle.def_tree.specs.declared.Player.{Player}
 use Rattle.def_sums.specs.Sum.{sum_over}
 use Rattle.def_sums.proofs.Ranges.{All-range, range-All}
 use Rattle.def_plan.specs.Form.{InformationSet, PlacedSet, placed_from, sequences_of, IsInOrder}

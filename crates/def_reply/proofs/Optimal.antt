@@ -2,7 +2,7 @@
 use Rattle.std.proofs.Common.{◌≡◌, ℕ, ◌+◌, ◌<◌, cond, eqb, List, [], ◌∷◌, slice_index, get_or, ℤ, pos, ◌*ℤ◌, All, arith, ap, ◌∙◌, ⊎_elim}
 use Rattle.std.specs.List.{AllZip}
 use Rattle.std.proofs.lemmas.Bool.Decides.{eqb_tells}
-use Rattle.def_player.specs.declared.Player.{Player}
+use Rattle.def_tree.specs.declared.Player.{Player}
 use Rattle.def_sums.proofs.RingLaws.{one-*ℤ}
 use Rattle.def_plan.specs.Form.{InformationSet, PlacedSet, placed_from, placed, sequences_of, AreInOrder}
 use Rattle.def_plan.specs.Plan.{IsPlan, AreActions, chosen, pure_plan}

@@ -1,7 +1,7 @@
 -- What holds of best replies and bounds. Each is the contract of a function of this crate.
 use Rattle.std.specs.Prelude.{◌≡◌, ℕ, ◌+◌, ◌^◌, ◌≤◌, ◌<◌, ◌==◌, List, drop, filter, zip, ℤ, pos, ◌*ℤ◌, ◌≤ℤ◌, unsigned_abs, All}
-use Rattle.def_player.specs.declared.Player.{Player}
-use Rattle.def_player.specs.declared.Player.TheVariants.{One, Two}
+use Rattle.def_tree.specs.declared.Player.{Player}
+use Rattle.def_tree.specs.declared.Player.TheVariants.{One, Two}
 use Rattle.def_sums.specs.Sum.{nat_sum_over}
 use Rattle.def_plan.specs.Form.{InformationSet, placed, sequence_count, sequences, AreInOrder, SequenceForm}
 use Rattle.def_plan.specs.Plan.{IsPlan, pure_plan}

@@ -4,7 +4,7 @@
 
 ghost use Rattle.std.specs.Prelude.{◌≡◌, [], ◌∷◌, None, pos, negsuc};
 ghost use Rattle.def_plan.specs.Plan.{bad_set};
-ghost use Rattle.def_player.specs.declared.Player.TheVariants.{One, Two};
+ghost use Rattle.def_tree.specs.declared.Player.TheVariants.{One, Two};
 ghost use Rattle.def_plan.specs.Payoff.{leaf_sum, mass};
 ghost use Rattle.def_plan.specs.Pennies.{pennies};
 ghost use Rattle.def_reply.specs.Reply.{best_reply, values_of, choices_of, total};

@@ -2,7 +2,7 @@
 use Rattle.std.proofs.Common.{◌≡◌, ℕ, List, [], ◌∷◌, slice_index, arith, ap, ◌∙◌, refl}
 use Rattle.std.specs.Prelude.{ℤ, pos, neg_ℤ, ◌*ℤ◌}
 use Rattle.std.proofs.lemmas.Int.{ints}
-use Rattle.def_player.specs.declared.Player.TheVariants.{Two}
+use Rattle.def_tree.specs.declared.Player.TheVariants.{Two}
 use Rattle.def_sums.specs.Sum.{sum_over}
 use Rattle.def_sums.proofs.RingLaws.{neg-*ℤ}
 use Rattle.def_plan.specs.Form.{sequences}

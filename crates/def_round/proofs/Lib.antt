@@ -4,3 +4,6 @@ pub mod Values
 pub mod Regrets
 pub mod Sums
 pub mod Gains
+pub mod Averages
+pub mod Trees
+pub mod Growth

@@ -3,7 +3,7 @@ use Rattle.std.specs.Prelude.{◌≡◌, ℕ, ◌+◌, ◌*◌, ◌≤◌, ◌�
 use Rattle.def_plan.specs.Form.{InformationSet, PlacedSet, placed, sequences_of, sequence_count, AreInOrder, SequenceForm}
 use Rattle.def_plan.specs.Plan.{IsPlan}
 use Rattle.def_plan.specs.Payoff.{worth, gain, pay}
-use Rattle.def_player.specs.declared.Player.TheVariants.{One, Two}
+use Rattle.def_tree.specs.declared.Player.TheVariants.{One, Two}
 use Rattle.def_shares.specs.Shares.{shares}
 use Rattle.def_round.specs.Play.{regret_of, IsSequenceOf, set_play, play_of, GivesAllUnits, plan_of_play}
 use Rattle.def_round.specs.Round.{own_sum, AreValues, values_from, values_of, IsRound, regrets_after}

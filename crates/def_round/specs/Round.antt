@@ -4,8 +4,8 @@ use Rattle.std.specs.Prelude.{◌≡◌, ℕ, ℤ, pos, neg_ℤ, ◌+ℤ◌, ◌
 use Rattle.std.specs.List.{AllZip}
 use Rattle.def_sums.specs.Sum.{sum_over}
 use Rattle.def_sums.specs.Floor.{floor_div}
-use Rattle.def_player.specs.declared.Player.{Player}
-use Rattle.def_player.specs.declared.Player.TheVariants.{One, Two}
+use Rattle.def_tree.specs.declared.Player.{Player}
+use Rattle.def_tree.specs.declared.Player.TheVariants.{One, Two}
 use Rattle.def_plan.specs.Form.{InformationSet, PlacedSet, placed, sequences_of, sequence_count, Leaf}
 use Rattle.def_plan.specs.Payoff.{leaf_sum, worth}
 use Rattle.def_round.specs.Play.{units, regret_of}

@@ -1,7 +1,7 @@
 -- Rounds: both players play by their regrets at once, and learn from the same two plans. The sums of the plans are the
 -- average strategies in whole numbers (Zinkevich, Johanson, Bowling and Piccione 2007).
 use Rattle.std.specs.Prelude.{ℕ, zero, suc, ℤ, pos, List, replicate}
-use Rattle.def_player.specs.declared.Player.TheVariants.{One, Two}
+use Rattle.def_tree.specs.declared.Player.TheVariants.{One, Two}
 use Rattle.def_plan.specs.Form.{SequenceForm, sequence_count}
 use Rattle.def_plan.specs.Plan.{added}
 use Rattle.def_round.specs.Play.{play_of, plan_of_play}

@@ -4,6 +4,7 @@
 ghost use Rattle.std.specs.Prelude.{◌≡◌, ◌==◌, [], ◌∷◌, pos, negsuc, if◌then◌else◌};
 ghost use Rattle.def_plan.specs.Pennies.{pennies};
 ghost use Rattle.def_round.specs.Laws.{OwnSumsGainWhatIsPaid, PlaysAllUnits, PlaysDealByShares, PlaysDealPlans, PlaysEachSet, PlaysPositiveRegrets, RoundsAreComputed, SumsArePlans, ValuesAreUnique, ValuesOfTheRest, ValuesSolve, WorthsNeedLaterSets};
+ghost use Rattle.def_round.specs.SizeLaws.{DealtProductsAreSmall, OwnSumsAreSmall, ProductsAreSmall, RegretsAreSmall, RegretsGrowSlowly, RoundsAreSmall, ValuesAreWithinSums, WorthsAreWithinSums};
 ghost use Rattle.def_round.specs.Play.{play_of, plan_of_play};
 ghost use Rattle.def_round.specs.Round.{set_value};
 ghost use Rattle.def_round.specs.Rounds.{rounds};
@@ -67,6 +68,46 @@ pub fn rounds_are_computed()
 /// The sums of the plans, from which the average strategies are read.
 pub fn sums_are_plans()
     ensures { SumsArePlans }
+{}
+
+/// A player's leaf sums against a plan.
+pub fn own_sums_are_small()
+    ensures { OwnSumsAreSmall }
+{}
+
+/// At each set: its value, its worths, its products with the play, and what it adds to regrets.
+pub fn values_are_within_sums()
+    ensures { ValuesAreWithinSums }
+{}
+
+/// The worth of each sequence, the empty one too.
+pub fn worths_are_within_sums()
+    ensures { WorthsAreWithinSums }
+{}
+
+/// What some rounds can make of a regret.
+pub fn regrets_grow_slowly()
+    ensures { RegretsGrowSlowly }
+{}
+
+/// Under the limits: a round's leaf sums.
+pub fn rounds_are_small()
+    ensures { RoundsAreSmall }
+{}
+
+/// Under the limits: the products of play and worth at a set.
+pub fn products_are_small()
+    ensures { ProductsAreSmall }
+{}
+
+/// Under the limits: regrets after up to 65,536 rounds.
+pub fn regrets_are_small()
+    ensures { RegretsAreSmall }
+{}
+
+/// Under the limits: the products by which a set's units are dealt.
+pub fn dealt_products_are_small()
+    ensures { DealtProductsAreSmall }
 {}
 
 /// The first plan over three actions, of which none has a regret.

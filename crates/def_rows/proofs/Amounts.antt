@@ -6,11 +6,12 @@ use Rattle.std.proofs.lemmas.Int.{unsigned_abs-mul}
 use Rattle.std.proofs.Math.Nat.{mul-le-mul_left}
 use Rattle.def_sums.specs.Sum.{nat_sum_over}
 use Rattle.def_sums.proofs.SumLaws.{unsigned_abs-sum_over, nat_sum_over-mono, nat_sum_over-append, nat_sum_over-factor}
-use Rattle.def_player.specs.declared.Player.{Player}
-use Rattle.def_player.specs.declared.Player.TheVariants.{One, Two}
-use Rattle.def_player.specs.Opponent.{opponent}
+use Rattle.def_tree.specs.declared.Player.{Player}
+use Rattle.def_tree.specs.declared.Player.TheVariants.{One, Two}
+use Rattle.def_tree.specs.Opponent.{opponent}
 use Rattle.def_plan.specs.Form.{Leaf, sequence_count, sequence_at}
-use Rattle.def_history.specs.Leaves.{LeafRange, leaves_of, job_amount, amounts}
+use Rattle.def_game_jobs.specs.Ranges.{LeafRange, leaves_of}
+use Rattle.def_history.specs.Leaves.{job_amount, amounts}
 use Rattle.def_rows.specs.Rows.{amount_at, amount_in_row, leaf_amount}
 use Rattle.def_rows.specs.Laws.{AmountsAreSmall}
 

@@ -6,12 +6,13 @@ use Rattle.std.proofs.lemmas.Bool.Decides.{nat_tests}
 use Rattle.std.proofs.lemmas.List.{get_or-drop, get_or-take, length-take, length-drop}
 use Rattle.def_sums.specs.Sum.{sum_over}
 use Rattle.def_sums.proofs.SumLaws.{sum_over-filter}
-use Rattle.def_player.specs.declared.Player.{Player}
-use Rattle.def_player.specs.declared.Player.TheVariants.{One, Two}
-use Rattle.def_player.specs.Opponent.{opponent}
+use Rattle.def_tree.specs.declared.Player.{Player}
+use Rattle.def_tree.specs.declared.Player.TheVariants.{One, Two}
+use Rattle.def_tree.specs.Opponent.{opponent}
 use Rattle.def_plan.specs.Form.{SequenceForm, Leaf, sequence_count, sequence_at}
 use Rattle.def_plan.specs.Payoff.{leaf_sum}
-use Rattle.def_history.specs.Leaves.{LeafRange, job_amount, sum_over_leaves}
+use Rattle.def_game_jobs.specs.Ranges.{LeafRange}
+use Rattle.def_history.specs.Leaves.{job_amount, sum_over_leaves}
 use Rattle.def_history.proofs.Leaves.{sum_over-places, ends_with_leaf_sums}
 use Rattle.def_rows.specs.Rows.{amount_at, amount_in_row, leaf_of, leaf_amount, job_leaves}
 use Rattle.def_rows.specs.Laws.{RowsAreLeafSums, JobsHaveTheirLeafSums, EndsWithLeafSums}

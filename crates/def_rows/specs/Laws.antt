@@ -1,12 +1,13 @@
 -- What the rows and the jobs' amounts are, and how large.
 use Rattle.std.specs.Prelude.{◌≡◌, ℕ, ◌+◌, ◌*◌, ◌≤◌, ◌<◌, unsigned_abs, List, length, slice_index}
 use Rattle.def_sums.specs.Sum.{nat_sum_over}
-use Rattle.def_player.specs.declared.Player.TheVariants.{One, Two}
+use Rattle.def_tree.specs.declared.Player.TheVariants.{One, Two}
 use Rattle.def_plan.specs.Form.{SequenceForm, sequence_count}
 use Rattle.def_plan.specs.Payoff.{leaf_sum, mass}
 use Rattle.def_history.specs.History.{job_numbers, replay, stripe_of}
 use Rattle.def_history.specs.Core.{State, IsReached, history_of, stripe_count}
-use Rattle.def_history.specs.Leaves.{LeafRange, Partitions, job_amount, amounts, sum_over_leaves}
+use Rattle.def_game_jobs.specs.Ranges.{LeafRange, Partitions}
+use Rattle.def_history.specs.Leaves.{job_amount, amounts, sum_over_leaves}
 use Rattle.def_history.specs.Laws.{IsAtEnd}
 use Rattle.def_rows.specs.Rows.{leaf_amount, job_leaves}
 

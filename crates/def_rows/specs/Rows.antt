@@ -1,11 +1,11 @@
 -- The rows of a pair of plans: row s is player one's sequence s, and after player one's rows come player two's. A row's
 -- amounts are the leaf sums of its sequence against the other player's plan, in player one's payoff.
 use Rattle.std.specs.Prelude.{ℕ, ◌+◌, ◌-◌, ℤ, pos, ◌*ℤ◌, List, take, drop, ◌==◌, nat_lt, if◌then◌else◌, slice_index, slice_index_or}
-use Rattle.def_player.specs.declared.Player.{Player}
-use Rattle.def_player.specs.declared.Player.TheVariants.{One, Two}
-use Rattle.def_player.specs.Opponent.{opponent}
+use Rattle.def_tree.specs.declared.Player.{Player}
+use Rattle.def_tree.specs.declared.Player.TheVariants.{One, Two}
+use Rattle.def_tree.specs.Opponent.{opponent}
 use Rattle.def_plan.specs.Form.{SequenceForm, Leaf, sequence_count, sequence_at}
-use Rattle.def_history.specs.Leaves.{LeafRange}
+use Rattle.def_game_jobs.specs.Ranges.{LeafRange}
 
 abbrev pub row_count : SequenceForm → ℕ
 row_count form = sequence_count form.sets_one + sequence_count form.sets_two

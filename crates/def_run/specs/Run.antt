@@ -1,8 +1,8 @@
 -- A run of rounds and its evaluations: after an evaluated round both sums of plans are met by best replies, whose totals
 -- are the floor and the ceiling of the average strategies.
 use Rattle.std.specs.Prelude.{ℕ, ℤ, List, map}
-use Rattle.def_player.specs.declared.Player.{Player}
-use Rattle.def_player.specs.declared.Player.TheVariants.{One, Two}
+use Rattle.def_tree.specs.declared.Player.{Player}
+use Rattle.def_tree.specs.declared.Player.TheVariants.{One, Two}
 use Rattle.def_plan.specs.Form.{SequenceForm, sets_of}
 use Rattle.def_plan.specs.Payoff.{leaf_sum}
 use Rattle.def_reply.specs.Reply.{SetReply, best_reply, total}

@@ -2,3 +2,4 @@ pub mod Forests
 pub mod Lists
 pub mod Sets
 pub mod Walks
+pub mod Outcomes

@@ -1,4 +1,6 @@
+pub mod Opponent
 pub mod Tree
 pub mod Rules
 pub mod Events
 pub mod Code
+pub mod Outcomes

@@ -1,11 +1,17 @@
 #![tactic(auto)]
-//! The nested tree of an extensive game, in definitions alone, and the plain data that its nodes hold.
+//! The players and the nested tree of an extensive game, in definitions alone, and the plain data that its nodes hold.
 
 ghost use Rattle.def_tree.specs.Events.{EntersInPrefixOrder};
+ghost use Rattle.def_tree.specs.Outcomes.{EachOutcomeAppears};
 ghost use Rattle.def_tree.specs.Rules.{EachSetAppears, SetsAgreeOnSize};
 ghost use Rattle.def_tree.specs.Tree.{ForestOfPrefix, PrefixOfForest, WholeIffTree};
 
-pub use def_player::Player;
+/// One of the two players. Player one is paid, and player two pays.
+#[derive(Clone, Copy, Debug, PartialEq, Eq)]
+pub enum Player {
+    One,
+    Two,
+}
 
 /// Who moves at a node: chance, a player, or nobody at a leaf.
 #[derive(Clone, Copy, Debug, PartialEq, Eq)]
@@ -50,6 +56,11 @@ pub fn sets_agree_on_size()
 /// Each number of a kind's sets is that of a node.
 pub fn each_set_appears()
     ensures { EachSetAppears }
+{}
+
+/// Each number of an outcome is that of a node.
+pub fn each_outcome_appears()
+    ensures { EachOutcomeAppears }
 {}
 
 /// A walk enters each node once, in prefix order.

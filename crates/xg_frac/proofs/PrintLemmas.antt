@@ -6,7 +6,7 @@ use Rattle.std.specs.Io.KnownBytes.{append_known}
 use Rattle.std.proofs.Math.Seq.{take-append-add}
 use Rattle.std.proofs.lemmas.List.{take-append-le, take_min}
 use Rattle.std.proofs.lemmas.Bool.{ne_eqb}
-use Rattle.xg_io.specs.Sinks.{AppendsPrefix}
+use Rattle.def_outside.specs.Sinks.{AppendsPrefix}
 use Rattle.xg_io.proofs.Known.{append_known-append}
 use Rattle.def_fraction.specs.Fraction.{Fraction}
 use Rattle.def_fraction.specs.Text.{int_text, fraction_text}

@@ -1,8 +1,8 @@
 //! Writing numbers in plain decimal.
 ghost use Rattle.std.specs.Prelude.{◌≡◌, OnOk, OnErr};
 ghost use Rattle.std.specs.Io.KnownBytes.{append_known};
-ghost use Rattle.xg_io.specs.Cause.{HasCause};
-ghost use Rattle.xg_io.specs.Sinks.{AppendsPrefix};
+ghost use Rattle.def_outside.specs.Cause.{HasCause};
+ghost use Rattle.def_outside.specs.Sinks.{AppendsPrefix};
 ghost use Rattle.def_fraction.specs.Text.{int_text, fraction_text};
 
 use crate::fraction::Frac;

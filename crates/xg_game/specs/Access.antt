@@ -1,8 +1,8 @@
 -- What a game's accessors say.
 use Rattle.std.specs.Prelude.{ℕ, ◌-◌, nat_eq, if◌then◌else◌, List}
 use Rattle.def_fraction.specs.Fraction.{Fraction}
-use Rattle.def_player.specs.declared.Player.{Player}
-use Rattle.def_player.specs.declared.Player.TheVariants.{One, Two}
+use Rattle.def_tree.specs.declared.Player.{Player}
+use Rattle.def_tree.specs.declared.Player.TheVariants.{One, Two}
 use Rattle.def_file.specs.Content.{Prologue, OutcomeEntry}
 use Rattle.def_file.specs.Faults.{null_outcome, outcome_at}
 

@@ -3,7 +3,7 @@ use Rattle.std.proofs.Common.{◌≡◌, ℕ, ◌-◌, ◌<◌, List, [], ◌++�
 use Rattle.std.proofs.lemmas.List.{append-nil, take-append-drop, length-append, length-drop}
 use Rattle.std.proofs.Math.Seq.{take-append_seam, take-length}
 use Rattle.std.specs.Io.KnownBytes.{append_known, Consumes}
-use Rattle.xg_io.specs.Sinks.{AppendsPrefix}
+use Rattle.def_outside.specs.Sinks.{AppendsPrefix}
 
 -- nothing is appended
 pub append_known-nil : (known : Option (List ℕ)) → append_known known [] ≡ known

@@ -1,5 +1,4 @@
 pub mod Cause
-pub mod Sinks
 pub mod Schedule
 pub mod Stored
 pub mod MemFiles

@@ -3,7 +3,8 @@ ghost use Rattle.std.specs.Prelude.{◌≡◌, ◌≢◌, ℕ, ◌+◌, ◌-◌,
 ghost use Rattle.std.specs.Cmp.Lexicographic.{pointwise};
 ghost use Rattle.std.specs.Option.{ForSome};
 ghost use Rattle.std.specs.Io.KnownBytes.{Consumes};
-ghost use Rattle.xg_io.specs.Cause.{HasCause, OpenHasCause};
+ghost use Rattle.def_outside.specs.Cause.{HasCause};
+ghost use Rattle.xg_io.specs.Cause.{OpenHasCause};
 ghost use Rattle.xg_io.specs.Stored.{bytes_of, bytes_at};
 ghost use Rattle.xg_io.specs.Schedule.{next_count, failing_calls, calls_made, faults_so_far, FailsNext};
 

@@ -1,7 +1,7 @@
 //! A sink in memory.
 ghost use Rattle.std.specs.Prelude.{◌≡◌, ◌≢◌, ℕ, ◌+◌, ◌-◌, ◌^◌, ◌<◌, ◌≤◌, ◌↔◌, ◌⊎◌, [], Some, length, min, take, vec_len, vec_capacity, IfOk, OnOk, OnErr, IsErr};
 ghost use Rattle.std.specs.Io.KnownBytes.{append_known};
-ghost use Rattle.xg_io.specs.Cause.{HasCause};
+ghost use Rattle.def_outside.specs.Cause.{HasCause};
 ghost use Rattle.xg_io.specs.Schedule.{next_count, failing_calls, calls_made, faults_so_far, FailsNext};
 
 use crate::schedule::Schedule;

@@ -1,7 +1,8 @@
 //! The traits of the outside.
 ghost use Rattle.std.specs.Prelude.{◌≡◌, ℕ, ◌+◌, ◌^◌, ◌<◌, ◌≤◌, ◌↔◌, Bool, Option, Some, List, [], length, take, is_ok, IsTrue, IfOk, IfSome, OnOk, OnErr, MatchResult};
 ghost use Rattle.std.specs.Io.KnownBytes.{append_known, Consumes};
-ghost use Rattle.xg_io.specs.Cause.{HasCause, OpenHasCause};
+ghost use Rattle.def_outside.specs.Cause.{HasCause};
+ghost use Rattle.xg_io.specs.Cause.{OpenHasCause};
 
 use std::alloc::Global;
 use std::marker::Sync;

@@ -1,6 +1,6 @@
 //! Which calls of an object in memory fail.
 ghost use Rattle.std.specs.Prelude.{◌≡◌, ◌↔◌, IfOk, IsErr};
-ghost use Rattle.xg_io.specs.Cause.{HasCause, Rose};
+ghost use Rattle.def_outside.specs.Cause.{HasCause, Rose};
 
 use crate::Failed;
 use std::alloc::{AllocError, Global};

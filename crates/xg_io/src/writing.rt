@@ -1,8 +1,8 @@
 //! Writing bytes whole.
 ghost use Rattle.std.specs.Prelude.{◌≡◌, OnOk, OnErr};
 ghost use Rattle.std.specs.Io.KnownBytes.{append_known};
-ghost use Rattle.xg_io.specs.Cause.{HasCause};
-ghost use Rattle.xg_io.specs.Sinks.{AppendsPrefix};
+ghost use Rattle.def_outside.specs.Cause.{HasCause};
+ghost use Rattle.def_outside.specs.Sinks.{AppendsPrefix};
 
 use crate::Sink;
 

@@ -4,7 +4,7 @@ use Rattle.std.proofs.Common.{◌≢◌, length-drop}
 use Rattle.std.proofs.lemmas.List.{drop_more, drop-drop}
 use Rattle.std.proofs.lemmas.Bool.{false_from_ne_true, ne_eqb}
 use Rattle.memchr.specs.Find.{Nowhere, NoneBefore, Passes, is_byte}
-use Rattle.def_tokens.specs.Texts.{closing_from}
+use Rattle.def_file_tokens.specs.Texts.{closing_from}
 
 -- no quotation mark stands at the first k places
 abbrev pub NoMarkBelow : List ℕ → ℕ → Type 0

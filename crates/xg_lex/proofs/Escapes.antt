@@ -6,7 +6,7 @@ use Rattle.std.proofs.Common.{⊎_elim}
 use Rattle.std.proofs.Math.Bool.{and-false}
 use Rattle.std.proofs.str.Laws.{order}
 use Rattle.memchr.specs.Find.{Nowhere, NoneBefore, Passes, is_byte}
-use Rattle.def_tokens.specs.Texts.{MarksEscaped, IsInside, unescaped, begins_with_mark}
+use Rattle.def_file_tokens.specs.Texts.{MarksEscaped, IsInside, unescaped, begins_with_mark}
 use Rattle.xg_lex.proofs.Closing.{NoMarkBelow}
 
 -- a mark has a backslash right before it

@@ -4,8 +4,8 @@ use Rattle.std.specs.Prelude.{is_some, IfSome, slice_get, option_copied}
 use Rattle.std.specs.List.{prefix_len}
 use Rattle.std.proofs.lemmas.Bool.{ltb-true, ltb-false}
 use Rattle.std.proofs.lemmas.Option.{slice_get-get_or, slice_get_past}
-use Rattle.def_tokens.specs.Bytes.{is_space}
-use Rattle.def_tokens.specs.Tokens.{byte_from}
+use Rattle.def_file_tokens.specs.Bytes.{is_space}
+use Rattle.def_file_tokens.specs.Tokens.{byte_from}
 
 got : (bytes : List ℕ) (i : ℕ) (found : Option (Bor ℕ)) → is_some found ≡ ltb i (length bytes) → IfSome found (λ x. x.now ≡ get_or bytes i x.now) → option_copied found ≡ slice_get bytes i
 got bytes i None some value = sym (slice_get_past bytes i (ltb-false i (length bytes) (sym some)))

@@ -2,18 +2,18 @@
 use Rattle.std.proofs.Common.{◌≡◌, ◌≢◌, ℕ, ◌+◌, ◌<◌, ◌≤◌, true, false, List, ◌∷◌, length, drop, get_or, Ok, Err, sym, ap, ◌∙◌, subst}
 use Rattle.std.specs.List.{prefix_len, slice_range}
 use Rattle.std.proofs.Common.{◌-◌}
-use Rattle.def_tokens.specs.declared.Token.TheVariants.{Text}
-use Rattle.def_tokens.specs.declared.Lexeme.{Lexeme}
-use Rattle.def_tokens.specs.Spelling.{IsText, IsToken, IsLexemeFrom}
-use Rattle.def_tokens.specs.Texts.{IsInside}
+use Rattle.def_file_tokens.specs.declared.Token.TheVariants.{Text}
+use Rattle.def_file_tokens.specs.declared.Lexeme.{Lexeme}
+use Rattle.def_file_tokens.specs.Spelling.{IsText, IsToken, IsLexemeFrom}
+use Rattle.def_file_tokens.specs.Texts.{IsInside}
 use Rattle.std.proofs.lemmas.List.{drop_more, drop_all}
-use Rattle.def_tokens.specs.declared.Token.TheVariants.{Word, Number, Open, Close, Comma, End}
-use Rattle.def_tokens.specs.declared.LexFault.TheVariants.{Syntax}
-use Rattle.def_tokens.specs.Bytes.{is_space, in_run, begins_word, begins_number}
-use Rattle.def_tokens.specs.Texts.{closing_from}
-use Rattle.def_tokens.proofs.TextLemmas.{slice_range-inner}
-use Rattle.def_tokens.proofs.TokenLemmas.{token_at-text, token_at-open, token_at-close, token_at-comma, token_at-word, token_at-number, token_at-fault, token_at-end}
-use Rattle.def_tokens.specs.Tokens.{span, text_from, token_at, next_from}
+use Rattle.def_file_tokens.specs.declared.Token.TheVariants.{Word, Number, Open, Close, Comma, End}
+use Rattle.def_file_tokens.specs.declared.LexFault.TheVariants.{Syntax}
+use Rattle.def_file_tokens.specs.Bytes.{is_space, in_run, begins_word, begins_number}
+use Rattle.def_file_tokens.specs.Texts.{closing_from}
+use Rattle.def_file_tokens.proofs.TextLemmas.{slice_range-inner}
+use Rattle.def_file_tokens.proofs.TokenLemmas.{token_at-text, token_at-open, token_at-close, token_at-comma, token_at-word, token_at-number, token_at-fault, token_at-end}
+use Rattle.def_file_tokens.specs.Tokens.{span, text_from, token_at, next_from}
 
 -- at an offset of the bytes
 module _ (bytes : List ℕ) (start : ℕ) (within : start < length bytes) where

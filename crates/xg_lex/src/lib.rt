@@ -4,7 +4,7 @@
 pub mod text;
 pub mod tokens;
 
-pub use def_tokens::{LexFault, Lexeme, Token};
+pub use def_file_tokens::{LexFault, Lexeme, Token};
 pub use text::{Text, unescape};
 pub use tokens::Tokens;
 

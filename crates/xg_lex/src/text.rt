@@ -1,5 +1,5 @@
 ghost use Rattle.std.specs.Prelude.{◌≡◌, List, IfOk};
-ghost use Rattle.def_tokens.specs.Texts.{IsInside, EndsPlainly, unescaped};
+ghost use Rattle.def_file_tokens.specs.Texts.{IsInside, EndsPlainly, unescaped};
 
 use memchr::memchr;
 use std::alloc::{AllocError, Global};
@@ -13,7 +13,7 @@ pub struct Text {
 
 impl Model for Text {
     ghost use Rattle.std.specs.Prelude.{ℕ, List};
-    ghost use Rattle.def_tokens.specs.Texts.{EndsPlainly};
+    ghost use Rattle.def_file_tokens.specs.Texts.{EndsPlainly};
 
     ghost Value = { List ℕ };
 

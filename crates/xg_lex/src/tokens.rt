@@ -1,11 +1,11 @@
 ghost use Rattle.std.specs.Prelude.{◌≡◌, ℕ, ◌+◌, ◌-◌, ◌<◌, ◌≤◌, ◌↔◌, Option, List, drop, length, slice_index, slice_range, IfOk, IfSome};
 ghost use Rattle.std.specs.List.{prefix_len, AllPass};
-ghost use Rattle.def_tokens.specs.Bytes.{is_space, in_run, begins_word, begins_number};
-ghost use Rattle.def_tokens.specs.Texts.{IsInside, closing_from};
-ghost use Rattle.def_tokens.specs.Spelling.{IsFirstByteFrom, IsLexemeFrom};
-ghost use Rattle.def_tokens.specs.Tokens.{byte_from, next_from, end_of, span, text_from, token_at};
+ghost use Rattle.def_file_tokens.specs.Bytes.{is_space, in_run, begins_word, begins_number};
+ghost use Rattle.def_file_tokens.specs.Texts.{IsInside, closing_from};
+ghost use Rattle.def_file_tokens.specs.Spelling.{IsFirstByteFrom, IsLexemeFrom};
+ghost use Rattle.def_file_tokens.specs.Tokens.{byte_from, next_from, end_of, span, text_from, token_at};
 
-use def_tokens::{LexFault, Lexeme, Token};
+use def_file_tokens::{LexFault, Lexeme, Token};
 use memchr::memchr;
 use std::marker::Model;
 
@@ -18,7 +18,7 @@ pub struct Tokens<'a> {
 
 impl<'a> Model for Tokens<'a> {
     ghost use Rattle.std.specs.Prelude.{◌≤◌, length};
-    ghost use Rattle.def_tokens.specs.Tokens.{Cursor};
+    ghost use Rattle.def_file_tokens.specs.Tokens.{Cursor};
 
     ghost Value = { Cursor };
 

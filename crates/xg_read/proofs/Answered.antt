@@ -6,9 +6,9 @@ use Rattle.def_file.specs.declared.FileFault.TheVariants.{TooLong}
 use Rattle.def_file.specs.Content.{GameFile}
 use Rattle.def_file.specs.Reading.{game_at}
 use Rattle.def_file.proofs.AnyLength.{game_any_length}
-use Rattle.def_form.specs.Laws.{StandsFor, AcceptedIsFile, FileIsAccepted}
-use Rattle.def_first.specs.First.{FirstFault}
-use Rattle.def_first.specs.Laws.{FaultIsFirst, FirstIsFault}
+use Rattle.def_file_form.specs.Laws.{StandsFor, AcceptedIsFile, FileIsAccepted}
+use Rattle.def_file_fault.specs.First.{FirstFault}
+use Rattle.def_file_fault.specs.Laws.{FaultIsFirst, FirstIsFault}
 use Rattle.xg_game.specs.declared.fault.Refused.{Refused}
 use Rattle.xg_game.specs.declared.fault.Refused.TheVariants.{File, NoMemory}
 use Rattle.xg_read.specs.Gives.{Answers}

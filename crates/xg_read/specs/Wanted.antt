@@ -1,7 +1,7 @@
 -- The test of a token that is wanted at a place.
 use Rattle.std.specs.Prelude.{ℕ, Bool, List, codes}
-use Rattle.def_tokens.specs.declared.Token.TheVariants as kinds
-use Rattle.def_tokens.specs.declared.Lexeme.{Lexeme}
+use Rattle.def_file_tokens.specs.declared.Token.TheVariants as kinds
+use Rattle.def_file_tokens.specs.declared.Lexeme.{Lexeme}
 use Rattle.def_file.specs.Reading.{is_token, is_exact, is_numbers, begins_entry}
 use Rattle.xg_read.specs.declared.wanted.Wanted.{Wanted}
 use Rattle.xg_read.specs.declared.wanted.Wanted.TheVariants as wants

@@ -4,8 +4,8 @@ ghost use Rattle.def_tree.specs.Tree.{wanted};
 ghost use Rattle.def_file.specs.declared.FileFault.{FileFault};
 ghost use Rattle.def_file.specs.Content.{GameFile};
 ghost use Rattle.def_file.specs.Reading.{entries_from, game_at};
-ghost use Rattle.def_form.specs.Laws.{StandsFor};
-ghost use Rattle.def_first.specs.First.{FirstFault};
+ghost use Rattle.def_file_form.specs.Laws.{StandsFor};
+ghost use Rattle.def_file_fault.specs.First.{FirstFault};
 ghost use Rattle.xg_read.specs.Gives.{Answers, GivesFor, GivesNext, next_at};
 
 use crate::reader::Reader;

@@ -108,7 +108,7 @@ impl<'a> Reader<'a> {
     }
 
     /// The comment. An absent one is the empty text.
-    #[tactic(auto, using(crate::proofs::Texts::empty_inside), unfolding(def_tokens::specs::Texts::unescaped))]
+    #[tactic(auto, using(crate::proofs::Texts::empty_inside), unfolding(def_file_tokens::specs::Texts::unescaped))]
     fn comment(&mut self, alloc: Global) -> Result<Text, Refused>
         ensures exact { GivesFor (λ text. text) result self.new.at (comment_at self.old.whole self.old.at) }
         ensures whole { self.new.whole ≡ self.old.whole }

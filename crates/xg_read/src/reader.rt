@@ -1,6 +1,6 @@
 //! A reader of a file's tokens.
 ghost use Rattle.std.specs.Prelude.{◌≡◌, ◌+◌, ◌-◌, ◌≤◌, true, length, slice_range, IfOk};
-ghost use Rattle.def_tokens.specs.Texts.{IsInside};
+ghost use Rattle.def_file_tokens.specs.Texts.{IsInside};
 ghost use Rattle.def_file.specs.Reading.{is_exact, next_is, nothing_at, text_of, token_where, unfit};
 ghost use Rattle.xg_read.specs.Wanted.{test_of};
 
@@ -19,7 +19,7 @@ pub struct Reader<'a> {
 
 impl<'a> Model for Reader<'a> {
     ghost use Rattle.std.specs.Prelude.{◌≡◌};
-    ghost use Rattle.def_tokens.specs.Tokens.{Cursor};
+    ghost use Rattle.def_file_tokens.specs.Tokens.{Cursor};
 
     ghost Value = { Cursor };
 

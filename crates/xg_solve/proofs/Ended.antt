@@ -3,8 +3,8 @@ use Rattle.std.proofs.Common.{◌≡◌, ◌≢◌, ℕ, ◌<◌, List, Option, 
 use Rattle.std.specs.Prelude.{IfSome}
 use Rattle.std.specs.Option.{option_map}
 use Rattle.std.specs.Io.KnownBytes.{append_known}
-use Rattle.xg_io.specs.Cause.{Rose}
-use Rattle.xg_io.specs.Sinks.{AppendsPrefix}
+use Rattle.def_outside.specs.Cause.{Rose}
+use Rattle.def_outside.specs.Sinks.{AppendsPrefix}
 use Rattle.def_file.specs.Content.{GameFile}
 use Rattle.def_text.specs.Text.{text_of, no_rounds}
 use Rattle.def_program.specs.Program.{Answer, answer_of, read_as_game}

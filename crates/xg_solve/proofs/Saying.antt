@@ -2,8 +2,8 @@
 use Rattle.std.proofs.Common.{◌≡◌, ℕ, List, length, take, Option, Result, Ok, Err, OnOk, OnErr, sym, ◌∙◌, ap}
 use Rattle.std.proofs.Math.Seq.{take-length}
 use Rattle.std.specs.Io.KnownBytes.{append_known}
-use Rattle.xg_io.specs.Cause.{HasCause}
-use Rattle.xg_io.specs.Sinks.{AppendsPrefix}
+use Rattle.def_outside.specs.Cause.{HasCause}
+use Rattle.def_outside.specs.Sinks.{AppendsPrefix}
 use Rattle.def_program.specs.Says.{Says}
 
 pub says_of : {T E : Type 0} (written : Result T E) (faults_before faults_now : ℕ) (before now : Option (List ℕ)) (line : List ℕ)

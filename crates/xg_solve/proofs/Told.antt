@@ -4,7 +4,7 @@ use Rattle.std.specs.Prelude.{IfSome}
 use Rattle.std.specs.Io.KnownBytes.{append_known}
 use Rattle.def_file.specs.declared.FileFault.{FileFault}
 use Rattle.def_file.specs.Content.{GameFile}
-use Rattle.def_words.specs.Command.{Command, Solve}
+use Rattle.def_command.specs.Command.{Command, Solve}
 use Rattle.def_text.specs.Text.{text_of, no_rounds}
 use Rattle.def_text.specs.Lines.{fault_line}
 use Rattle.def_program.specs.Program.{Answer, answer_of, read_as_game, command_answer}

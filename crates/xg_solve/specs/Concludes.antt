@@ -1,8 +1,8 @@
 -- What a command's run leaves, beside the answer of the program where the file is told.
 use Rattle.std.specs.Prelude.{◌≡◌, ◌≢◌, ◌⊎◌, ℕ, ◌<◌, List, Option, IfSome}
 use Rattle.std.specs.Io.KnownBytes.{append_known}
-use Rattle.xg_io.specs.Cause.{Rose}
-use Rattle.xg_io.specs.Sinks.{AppendsPrefix}
+use Rattle.def_outside.specs.Cause.{Rose}
+use Rattle.def_outside.specs.Sinks.{AppendsPrefix}
 use Rattle.def_file.specs.declared.FileFault.{FileFault}
 use Rattle.def_file.specs.declared.FileFault.TheVariants.{TooLong}
 use Rattle.def_text.specs.Lines.{fault_line}

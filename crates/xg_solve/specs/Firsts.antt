@@ -5,8 +5,8 @@ use Rattle.std.specs.Prelude.{◌≡◌, ◌⊎◌, ℕ, ◌≤◌, List, length
 use Rattle.std.specs.Io.KnownBytes.{append_known}
 use Rattle.def_file.specs.declared.FileFault.{FileFault}
 use Rattle.def_file.specs.Content.{GameFile}
-use Rattle.def_form.specs.Laws.{StandsFor}
-use Rattle.def_words.specs.Command.{Command, Solve, command_of}
+use Rattle.def_file_form.specs.Laws.{StandsFor}
+use Rattle.def_command.specs.Command.{Command, Solve, command_of}
 use Rattle.def_text.specs.Text.{text_of, no_rounds}
 use Rattle.def_text.specs.Lines.{fault_line}
 use Rattle.def_program.specs.Program.{most_bytes}

@@ -2,11 +2,11 @@
 ghost use Rattle.std.specs.Prelude.{◌≡◌, ◌≢◌, ◌⊎◌, ◌↔◌, ◌<◌, ◌≤◌, Some, IsNone, IfSome, IsTrue};
 ghost use Rattle.std.specs.Option.{option_map};
 ghost use Rattle.std.specs.Io.KnownBytes.{append_known};
-ghost use Rattle.xg_io.specs.Cause.{Rose};
-ghost use Rattle.xg_io.specs.Sinks.{AppendsPrefix};
+ghost use Rattle.def_outside.specs.Cause.{Rose};
+ghost use Rattle.def_outside.specs.Sinks.{AppendsPrefix};
 ghost use Rattle.def_file.specs.declared.FileFault.{FileFault};
 ghost use Rattle.def_file.specs.Content.{GameFile};
-ghost use Rattle.def_words.specs.Command.{command_of};
+ghost use Rattle.def_command.specs.Command.{command_of};
 ghost use Rattle.def_text.specs.Lines.{usage_line, read_line, write_line, memory_line};
 ghost use Rattle.def_program.specs.FirstFault.{IsFirstFault};
 ghost use Rattle.def_program.specs.Program.{answer_of, program, read_as_game};

@@ -1,7 +1,7 @@
 //! The words that the program is called with.
 ghost use Rattle.std.specs.Prelude.{◌≡◌, [], ◌∷◌, ◌++◌, Option, Some, OnOk, OnErr};
 ghost use Rattle.std.specs.Option.{option_map};
-ghost use Rattle.def_words.specs.Command.{Solve, command_of, is_option};
+ghost use Rattle.def_command.specs.Command.{Solve, command_of, is_option};
 
 use std::alloc::{AllocError, Global};
 use std::marker::Model;

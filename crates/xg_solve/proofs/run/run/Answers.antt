@@ -1,8 +1,8 @@
 use Rattle.std.proofs.Common.{◌≡◌, ℕ, sym, ◌∙◌, subst}
 use Rattle.std.specs.Prelude.{IfSome}
-use Rattle.def_first.proofs.Stopped.{fault_first}
-use Rattle.def_first.proofs.Reached.{first_faulted}
-use Rattle.def_words.specs.Command.{command_of}
+use Rattle.def_file_fault.proofs.Stopped.{fault_first}
+use Rattle.def_file_fault.proofs.Reached.{first_faulted}
+use Rattle.def_command.specs.Command.{command_of}
 use Rattle.def_program.specs.Program.{program}
 use Rattle.def_program.proofs.Refused.{refused_first, accepted_whole}
 use Rattle.xg_solve.specs.Firsts.{EndsWith}

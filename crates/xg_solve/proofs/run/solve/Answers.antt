@@ -1,6 +1,6 @@
 use Rattle.std.proofs.Common.{◌≡◌, ℕ, List, sym, ◌∙◌, ap, subst}
 use Rattle.std.specs.Io.KnownBytes.{append_known}
-use Rattle.xg_io.specs.Sinks.{AppendsPrefix}
+use Rattle.def_outside.specs.Sinks.{AppendsPrefix}
 use Rattle.def_text.specs.Text.{text_of, no_rounds}
 use Rattle.xg_solve.proofs.Ended.{accepted, done, cut}
 use Rattle.xg_solve.proofs.run.solve.Goals as goal

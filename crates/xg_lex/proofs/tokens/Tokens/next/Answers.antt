@@ -1,9 +1,9 @@
 use Rattle.std.proofs.Common.{◌≡◌, length, Ok, Err, sym, ap, ◌∙◌, arith}
 use Rattle.std.proofs.lemmas.Slice.{between_to_end}
 use Rattle.std.proofs.lemmas.Result.{err_from_is_err_and}
-use Rattle.def_tokens.specs.Spelling.{IsLexemeFrom}
-use Rattle.def_tokens.specs.Tokens.{next_from}
-use Rattle.def_tokens.proofs.TokenLemmas.{next_from-sound}
+use Rattle.def_file_tokens.specs.Spelling.{IsLexemeFrom}
+use Rattle.def_file_tokens.specs.Tokens.{next_from}
+use Rattle.def_file_tokens.proofs.TokenLemmas.{next_from-sound}
 use Rattle.xg_lex.proofs.TokenAt.{next_here, quoted_of, inside_of}
 use Rattle.xg_lex.proofs.tokens.Tokens.next.Goals as goal
 

@@ -1,7 +1,7 @@
 use Rattle.std.proofs.Common.{◌≡◌, length, sym, ◌∙◌, arith}
 use Rattle.std.proofs.lemmas.Slice.{between_to_end}
-use Rattle.def_tokens.specs.Tokens.{byte_from}
-use Rattle.def_tokens.proofs.ByteLemmas.{byte_from-first, first-byte_from, byte_from-space, space-byte_from}
+use Rattle.def_file_tokens.specs.Tokens.{byte_from}
+use Rattle.def_file_tokens.proofs.ByteLemmas.{byte_from-first, first-byte_from, byte_from-space, space-byte_from}
 use Rattle.xg_lex.proofs.NextByte.{byte_here}
 use Rattle.xg_lex.proofs.tokens.Tokens.next_byte.Goals as goal
 

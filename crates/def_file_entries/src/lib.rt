@@ -1,0 +1,20 @@
+//! The game that the entries of a file stand for, by all entries at once, in definitions alone.
+#![tactic(auto)]
+
+ghost use Rattle.def_file_entries.specs.Laws.{NothingIsKnown, OneMoreIsKnown};
+ghost use Rattle.def_file_entries.specs.Rows.{EntryRows};
+
+/// Without an entry nothing is known.
+pub fn nothing_is_known()
+    ensures { NothingIsKnown }
+{}
+
+/// What is known after entries, with one more, is what all of them say.
+pub fn one_more_is_known()
+    ensures { OneMoreIsKnown }
+{}
+
+/// What two small files stand for, and the faults of one more entry.
+pub fn rows()
+    ensures { EntryRows }
+{}

@@ -1,0 +1,5 @@
+use Rattle.def_file_fault.proofs.Reached.{first_faulted}
+use Rattle.def_file_fault.proofs.first_is_fault.Goals as goal
+
+pub returns : goal.returns
+returns c = first_faulted

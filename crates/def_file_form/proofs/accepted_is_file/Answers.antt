@@ -1,0 +1,5 @@
+use Rattle.def_file_form.proofs.Whole.{game_read}
+use Rattle.def_file_form.proofs.accepted_is_file.Goals as goal
+
+pub returns : goal.returns
+returns c = game_read

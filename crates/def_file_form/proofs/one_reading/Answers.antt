@@ -1,0 +1,5 @@
+use Rattle.def_file_form.proofs.Once.{one_reading}
+use Rattle.def_file_form.proofs.one_reading.Goals as goal
+
+pub returns : goal.returns
+returns c = one_reading

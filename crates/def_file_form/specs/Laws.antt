@@ -1,0 +1,24 @@
+-- A file has one reading at most, and what is accepted is what has a reading without a fault.
+use Rattle.std.specs.Prelude.{◌≡◌, ℕ, List, Ok}
+use Rattle.def_file.specs.Content.{Prologue, Record, GameFile}
+use Rattle.def_file.specs.Reading.{game_at}
+use Rattle.def_file_entries.specs.Entries.{game_of}
+use Rattle.def_file_entries.specs.Laws.{HaveNoFault}
+use Rattle.def_file_form.specs.Form.{IsFile}
+
+-- the bytes have a reading whose entries have no fault, and stand for the game of it
+pub record StandsFor (bytes : List ℕ) (game : GameFile) : Type 0 where
+  pub prologue : Prologue
+  pub entries : List Record
+  pub file : IsFile bytes prologue entries
+  pub no_fault : HaveNoFault entries
+  pub game_is : game ≡ game_of prologue entries
+
+abbrev pub OneReading : Type 0
+OneReading = (bytes : List ℕ) (p q : Prologue) (rs ts : List Record) → IsFile bytes p rs → IsFile bytes q ts → (p ≡ q) × (rs ≡ ts)
+
+abbrev pub AcceptedIsFile : Type 0
+AcceptedIsFile = (bytes : List ℕ) (game : GameFile) → game_at bytes ≡ Ok game → StandsFor bytes game
+
+abbrev pub FileIsAccepted : Type 0
+FileIsAccepted = (bytes : List ℕ) (game : GameFile) → StandsFor bytes game → game_at bytes ≡ Ok game

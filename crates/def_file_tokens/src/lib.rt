@@ -1,0 +1,90 @@
+//! The tokens of a game file in the profile of Gambit's `.efg` format: definitions, and their laws.
+#![tactic(auto)]
+
+ghost use Rattle.def_file_tokens.specs.Laws.{NextIsLexeme, NextIsSyntax, NextIsUnclosed, NextByteIsFirst, NoByteIsSpace, EndStays, PiecesAreRead, ReadIsPieces, OneReading, OneSpelling};
+
+/// What a token is.
+#[derive(Clone, Copy, Debug, PartialEq, Eq)]
+pub enum Token {
+    /// A run that begins with an ASCII letter.
+    Word,
+    /// A quotation mark, the inside, and a quotation mark.
+    Text,
+    /// A run that begins with a digit, `+`, `-` or `.`.
+    Number,
+    /// `{`
+    Open,
+    /// `}`
+    Close,
+    /// `,`
+    Comma,
+    /// The end of the bytes.
+    End,
+}
+
+/// A token with its span: the offset of its first byte and the offset behind its last one.
+#[derive(Clone, Copy, Debug, PartialEq, Eq)]
+pub struct Lexeme {
+    pub kind: Token,
+    pub start: usize,
+    pub end: usize,
+}
+
+/// Why there is no next token.
+#[derive(Clone, Copy, Debug, PartialEq, Eq)]
+pub enum LexFault {
+    /// The byte at this offset begins no token.
+    Syntax { at: usize },
+    /// The text whose opening mark is at this offset has no closing mark.
+    Unclosed { at: usize },
+}
+
+/// The next token is what stands behind the white space, with the longest run where it is one.
+pub fn next_is_lexeme()
+    ensures { NextIsLexeme }
+{}
+
+/// A syntax fault is a byte behind the white space that begins no token.
+pub fn next_is_syntax()
+    ensures { NextIsSyntax }
+{}
+
+/// An unclosed text is one whose every further quotation mark follows a backslash.
+pub fn next_is_unclosed()
+    ensures { NextIsUnclosed }
+{}
+
+/// The next byte is the first one that isn't white space.
+pub fn next_byte_is_first()
+    ensures { NextByteIsFirst }
+{}
+
+/// There is no next byte where only white space is left.
+pub fn no_byte_is_space()
+    ensures { NoByteIsSpace }
+{}
+
+/// At the end the next token is the end again.
+pub fn end_stays()
+    ensures { EndStays }
+{}
+
+/// Bytes that are white space and tokens in turn are read as these tokens.
+pub fn pieces_are_read()
+    ensures { PiecesAreRead }
+{}
+
+/// Bytes that are read to their end are white space and tokens in turn.
+pub fn read_is_pieces()
+    ensures { ReadIsPieces }
+{}
+
+/// Bytes are white space and tokens in turn in one way at most.
+pub fn one_reading()
+    ensures { OneReading }
+{}
+
+/// A text's inside is the text with a backslash in front of each quotation mark.
+pub fn one_spelling()
+    ensures { OneSpelling }
+{}

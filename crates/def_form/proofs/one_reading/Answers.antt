@@ -1,5 +1,0 @@
-use Rattle.def_form.proofs.Once.{one_reading}
-use Rattle.def_form.proofs.one_reading.Goals as goal
-
-pub returns : goal.returns
-returns c = one_reading

@@ -1,4 +1,0 @@
-pub mod Form
-pub mod Jobs
-pub mod Outcomes
-pub mod Rows

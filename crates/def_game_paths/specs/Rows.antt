@@ -1,0 +1,40 @@
+-- Small games, worked out.
+use Rattle.std.specs.Prelude.{◌≡◌, ℕ, [], ◌∷◌, Some, None, map}
+use Rattle.def_tree.specs.declared.Kind.{Kind}
+use Rattle.def_tree.specs.declared.Kind.TheVariants.{One, Two, Leaf}
+use Rattle.def_tree.specs.declared.Node.{Node}
+use Rattle.def_tree.specs.Tree.{Forest, forest_of}
+use Rattle.def_game_paths.specs.Paths.{leaf_visits}
+use Rattle.def_game_paths.specs.Recall.{recall_fault}
+use Rattle.def_game_paths.specs.Sequences.{sequence_at, sequence_count, sequences_before, set_sizes}
+
+abbrev pub inner : Kind → ℕ → ℕ → Node
+inner kind set children = record { kind = kind; set = set; outcome = 0; children = children }
+
+abbrev pub leaf : ℕ → Node
+leaf outcome = record { kind = Leaf; set = 0; outcome = outcome; children = 0 }
+
+-- a driver who can't tell two exits apart, so that a set holds a node and one below it
+abbrev pub absent_driver : Forest
+absent_driver = forest_of (inner One 1 2 ∷ leaf 0 ∷ inner One 1 2 ∷ leaf 1 ∷ leaf 2 ∷ [])
+
+-- the same for player two, below a choice of player one
+abbrev pub absent_partner : Forest
+absent_partner = forest_of (inner One 1 2 ∷ inner Two 1 2 ∷ leaf 0 ∷ leaf 1 ∷ inner Two 2 2 ∷ inner Two 1 2 ∷ leaf 0 ∷ leaf 1 ∷ leaf 2 ∷ [])
+
+abbrev pub matching_pennies : Forest
+matching_pennies = forest_of (inner One 1 2 ∷ inner Two 1 2 ∷ leaf 1 ∷ leaf 2 ∷ inner Two 1 2 ∷ leaf 2 ∷ leaf 1 ∷ [])
+
+pub record RecallRows : Type 0 where
+  pub absent : recall_fault absent_driver ≡ Some (record { node = 3; earlier = 1 })
+  pub partner : recall_fault absent_partner ≡ Some (record { node = 6; earlier = 2 })
+  pub pennies : recall_fault matching_pennies ≡ None
+
+-- in matching pennies each player has one set of two actions, and the leaves have these sequences
+pub record SequenceRows : Type 0 where
+  pub sizes_one : set_sizes One matching_pennies ≡ 2 ∷ []
+  pub sizes_two : set_sizes Two matching_pennies ≡ 2 ∷ []
+  pub before_two : sequences_before Two matching_pennies ≡ 0 ∷ []
+  pub count_one : sequence_count One matching_pennies ≡ 3
+  pub leaves_one : map (sequence_at One matching_pennies) (leaf_visits matching_pennies) ≡ 1 ∷ 1 ∷ 2 ∷ 2 ∷ []
+  pub leaves_two : map (sequence_at Two matching_pennies) (leaf_visits matching_pennies) ≡ 1 ∷ 2 ∷ 1 ∷ 2 ∷ []

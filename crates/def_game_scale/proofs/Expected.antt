@@ -1,0 +1,66 @@
+-- The fractions along a path are in lowest terms.
+use Rattle.std.proofs.Common.{ℕ, zero, suc, ◌-◌, ◌*◌, ◌≤◌, true, false, cond, List, [], ◌∷◌, length, get_or, sym, subst, arith, inl, inr}
+use Rattle.std.specs.Prelude.{All}
+use Rattle.std.proofs.lemmas.Bool.{cases_lt}
+use Rattle.std.proofs.lemmas.List.Elements.{All-nil, All-map}
+use Rattle.std.proofs.Math.ListN.{get_or-eq_default}
+use Rattle.def_tree.specs.declared.Kind.TheVariants.{Chance}
+use Rattle.def_tree.specs.Tree.{Forest}
+use Rattle.def_tree.specs.Rules.{is_same_kind}
+use Rattle.def_fraction.specs.Fraction.{Fraction, IsInLowestTerms, product_of, sum_of}
+use Rattle.def_fraction.proofs.FractionLemmas.{fraction_of-reduced}
+use Rattle.def_game_paths.specs.Paths.{Step, Visit, leaf_visits}
+use Rattle.def_game_scale.specs.Tables.{Payoffs, Tables, AreFractions, nothing, probability, payoffs_of, reach, path_payoff, payoff_one}
+use Rattle.def_game_scale.specs.Scale.{expected, all_expected}
+
+abbrev pub IsFraction : Fraction → Type 0
+IsFraction f = 1 ≤ f.den
+
+product-positive : (a b : ℕ) → 1 ≤ a → 1 ≤ b → 1 ≤ a * b
+product-positive (suc a) (suc b) ha hb = omega arith
+product-positive zero b ha hb = absurd (omega arith)
+product-positive (suc a) zero ha hb = absurd (omega arith)
+
+lowest-product : (a b : Fraction) → IsFraction a → IsFraction b → IsInLowestTerms (product_of a b)
+lowest-product a b ha hb = (fraction_of-reduced _ (a.den * b.den) (product-positive a.den b.den ha hb)).lowest
+
+pub lowest-sum : (a b : Fraction) → IsFraction a → IsFraction b → IsInLowestTerms (sum_of a b)
+lowest-sum a b ha hb = (fraction_of-reduced _ (a.den * b.den) (product-positive a.den b.den ha hb)).lowest
+
+-- an element of the list, or the default
+pub at-or : {X : Type 0} (P : X → Type 0) (xs : List X) (i : ℕ) (d : X) → All P xs → P d → P (get_or xs i d)
+at-or P xs i d all default = elim (cases_lt i (length xs)) [
+  | inl there ↦ all i d there
+  | inr past ↦ subst P (sym (get_or-eq_default xs d past)) default
+]
+
+probability-fraction : (tables : Tables) (set action : ℕ) → AreFractions tables → IsFraction (probability tables set action)
+probability-fraction tables set action h =
+    at-or IsFraction (get_or tables.chance (set - 1) []) (action - 1) nothing
+    (λ k d there. (at-or (λ row. All IsInLowestTerms row) tables.chance (set - 1) [] h.chance (All-nil IsInLowestTerms) k d there).positive) (omega arith)
+
+payoff-fraction : (tables : Tables) (outcome : ℕ) → AreFractions tables → IsFraction (payoffs_of tables outcome).one
+payoff-fraction tables zero h = omega arith
+payoff-fraction tables (suc outcome) h =
+    at-or (λ (payoffs : Payoffs). IsFraction payoffs.one) tables.outcomes outcome (record { one = nothing; two = nothing }) (λ k d there. (h.outcomes k d there).0.positive) (omega arith)
+
+reach-fraction : (tables : Tables) (path : List Step) → AreFractions tables → IsFraction (reach tables path)
+reach-fraction tables [] h = omega arith
+reach-fraction tables (step ∷ rest) h =
+    elim (is_same_kind Chance step.node.kind) as (λ b. IsFraction (cond b (product_of (reach tables rest) (probability tables step.node.set step.action)) (reach tables rest))) [
+      | true ↦ (lowest-product (reach tables rest) (probability tables step.node.set step.action) (reach-fraction tables rest h) (probability-fraction tables step.node.set step.action h)).positive
+      | false ↦ reach-fraction tables rest h
+    ]
+
+path-fraction : (tables : Tables) (path : List Step) → AreFractions tables → IsFraction (path_payoff (λ payoffs. payoffs.one) tables path)
+path-fraction tables [] h = omega arith
+path-fraction tables (step ∷ rest) h =
+    (lowest-sum (path_payoff (λ payoffs. payoffs.one) tables rest) (payoffs_of tables step.node.outcome).one (path-fraction tables rest h) (payoff-fraction tables step.node.outcome h)).positive
+
+pub expected-lowest : (tables : Tables) (leaf : Visit) → AreFractions tables → IsInLowestTerms (expected tables leaf)
+expected-lowest tables leaf h =
+    lowest-product (reach tables leaf.path) (payoff_one tables leaf) (reach-fraction tables leaf.path h)
+    (lowest-sum (path_payoff (λ payoffs. payoffs.one) tables leaf.path) (payoffs_of tables leaf.node.outcome).one (path-fraction tables leaf.path h) (payoff-fraction tables leaf.node.outcome h)).positive
+
+pub all-lowest : (tables : Tables) (tree : Forest) → AreFractions tables → All IsInLowestTerms (all_expected tables tree)
+all-lowest tables tree h = All-map IsInLowestTerms (expected tables) (leaf_visits tree) (λ k d there. expected-lowest tables (get_or (leaf_visits tree) k d) h)

@@ -1,0 +1,61 @@
+-- The probabilities and payoffs along a path (Gambit's manual, "The extensive game (.efg) file format"), as exact fractions.
+use Rattle.std.specs.Prelude.{◌≡◌, ℕ, zero, suc, ◌-◌, pos, if◌then◌else◌, List, [], ◌∷◌, slice_index_or, All}
+use Rattle.def_tree.specs.declared.Kind.TheVariants.{Chance}
+use Rattle.def_tree.specs.Tree.{Forest}
+use Rattle.def_tree.specs.Rules.{is_same_kind}
+use Rattle.def_fraction.specs.Fraction.{Fraction, IsInLowestTerms, product_of, sum_of, whole_number}
+use Rattle.def_game_paths.specs.Paths.{Step, Visit, leaf_visits}
+
+-- what both players get
+pub record Payoffs : Type 0 where
+  pub one : Fraction
+  pub two : Fraction
+
+-- for each chance set the probabilities of its actions, and for each outcome its payoffs
+pub record Tables : Type 0 where
+  pub chance : List (List Fraction)
+  pub outcomes : List Payoffs
+
+abbrev pub nothing : Fraction
+nothing = whole_number (pos 0)
+
+abbrev pub certain : Fraction
+certain = whole_number (pos 1)
+
+-- the probability of an action of a chance set, both counted from 1
+abbrev pub probability : Tables → ℕ → ℕ → Fraction
+probability tables set action = slice_index_or (slice_index_or tables.chance (set - 1) []) (action - 1) nothing
+
+-- outcome 0 is the null outcome, which gives nobody anything
+abbrev pub payoffs_of : Tables → ℕ → Payoffs
+payoffs_of tables zero = record { one = nothing; two = nothing }
+payoffs_of tables (suc outcome) = slice_index_or tables.outcomes outcome (record { one = nothing; two = nothing })
+
+-- the product of the chance probabilities on a path
+abbrev pub reach : Tables → List Step → Fraction
+reach tables [] = certain
+reach tables (step ∷ rest) =
+    if is_same_kind Chance step.node.kind then product_of (reach tables rest) (probability tables step.node.set step.action) else reach tables rest
+
+-- what a player is paid: the sum over the outcomes on the path, the node's own included
+abbrev pub path_payoff : (Payoffs → Fraction) → Tables → List Step → Fraction
+path_payoff of tables [] = nothing
+path_payoff of tables (step ∷ rest) = sum_of (path_payoff of tables rest) (of (payoffs_of tables step.node.outcome))
+
+abbrev pub payoff : (Payoffs → Fraction) → Tables → Visit → Fraction
+payoff of tables visit = sum_of (path_payoff of tables visit.path) (of (payoffs_of tables visit.node.outcome))
+
+abbrev pub payoff_one : Tables → Visit → Fraction
+payoff_one = payoff (λ payoffs. payoffs.one)
+
+abbrev pub payoff_two : Tables → Visit → Fraction
+payoff_two = payoff (λ payoffs. payoffs.two)
+
+-- at each leaf one player gets what the other pays
+abbrev pub IsZeroSum : Tables → Forest → Type 0
+IsZeroSum tables tree = All (λ leaf. sum_of (payoff_one tables leaf) (payoff_two tables leaf) ≡ nothing) (leaf_visits tree)
+
+-- the tables' fractions are in lowest terms
+pub record AreFractions (tables : Tables) : Type 0 where
+  pub chance : All (λ row. All IsInLowestTerms row) tables.chance
+  pub outcomes : All (λ payoffs. IsInLowestTerms payoffs.one × IsInLowestTerms payoffs.two) tables.outcomes

@@ -1,0 +1,10 @@
+//! What the files and the sinks that a call is handed did in it: the count of an object's faults, and the bytes that a
+//! sink was given. There is no code here; each function's contract is a law.
+#![tactic(auto)]
+
+ghost use Rattle.def_outside.specs.Cause.{CountsOnlyRise};
+
+/// What rose in a part of a call rose in the call.
+pub fn counts_only_rise()
+    ensures { CountsOnlyRise }
+{}

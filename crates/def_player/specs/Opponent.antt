@@ -1,7 +1,0 @@
-use Rattle.def_player.specs.declared.Player.{Player}
-use Rattle.def_player.specs.declared.Player.TheVariants.{One, Two}
-
--- the other player
-abbrev pub opponent : Player → Player
-opponent One = Two
-opponent Two = One

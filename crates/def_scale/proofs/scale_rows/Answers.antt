@@ -1,8 +1,0 @@
-use Rattle.std.proofs.Common.{refl}
-use Rattle.def_fraction.specs.Divisors.{gcd}
-use Rattle.def_fraction.specs.Fraction.{fraction_of}
-use Rattle.def_scale.proofs.scale_rows.Goals as goal
-
-pub returns : goal.returns
-unfolding gcd fraction_of
-returns c = record { toss_unit = refl; toss_weights = refl; toss_mass = refl; inner_unit = refl; inner_weights = refl; inner_mass = refl }

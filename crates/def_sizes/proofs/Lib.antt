@@ -1,3 +1,0 @@
-pub mod Averages
-pub mod Trees
-pub mod Growth
