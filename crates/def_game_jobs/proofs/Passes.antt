@@ -1,13 +1,12 @@
 -- What a pass makes of each job, and when it changes nothing.
-use Rattle.std.proofs.Common.{◌≡◌, ◌≢◌, ℕ, zero, suc, ◌+◌, ◌-◌, ◌<◌, ◌≤◌, Bool, true, false, cond, ◌&&◌, List, [], ◌∷◌, ◌++◌, length, get_or, take, drop, refl, ap, sym, subst, ◌∙◌, arith, inl, inr, ◌⊎◌, append-nil, length-append}
+use Rattle.std.proofs.Common.{◌≡◌, ◌≢◌, ℕ, zero, suc, ◌+◌, ◌<◌, ◌≤◌, Bool, true, false, cond, ◌&&◌, List, [], ◌∷◌, ◌++◌, length, get_or, take, refl, ap, sym, subst, ◌∙◌, arith, inl, inr, ◌⊎◌, append-nil, length-append}
 use Rattle.std.specs.List.{flat_map}
 use Rattle.std.specs.Prelude.{nat_le, All}
 use Rattle.std.proofs.lemmas.List.Elements.{All-nil, All-cons, All-head, All-tail}
 use Rattle.std.proofs.lemmas.Grind.{flat_map-append}
 use Rattle.std.proofs.lemmas.Bool.{cases_lt, leb-false, lt-leb, le-leb}
-use Rattle.def_tree.specs.declared.Node.{Node}
-use Rattle.def_tree.specs.Tree.{Forest, bare, grown, prefix, tree_count}
-use Rattle.def_game_jobs.specs.Jobs.{each_tree, subtrees, is_chance_job, is_cut, count_after, cut_each, pass, passes, jobs_within, jobs_of, jobs_then, BecomesPart, IsPass, PassesReplace, JobsComeOfPasses, NoRoomToCut, OnlyCutsChange, CutsUntilNoRoom}
+use Rattle.def_tree.specs.Tree.{Forest, bare, grown, prefix}
+use Rattle.def_game_jobs.specs.Jobs.{each_tree, subtrees, is_chance_job, is_cut, count_after, cut_each, pass, passes, jobs_then, IsPass, JobsComeOfPasses, NoRoomToCut, CutsUntilNoRoom}
 use Rattle.def_game_jobs.proofs.Cuts.{within_if_cut}
 
 passes-suc : (limit n : ℕ) (jobs : List Forest) → passes limit (suc n) jobs ≡ pass limit (passes limit n jobs)

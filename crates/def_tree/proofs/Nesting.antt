@@ -4,7 +4,7 @@ use Rattle.std.specs.Prelude.{filter, nat_eq}
 use Rattle.std.proofs.lemmas.Bool.{cases_lt, eq-eqb, ne_eqb}
 use Rattle.std.proofs.lemmas.List.Elements.{filter-append}
 use Rattle.def_tree.specs.declared.Node.{Node}
-use Rattle.def_tree.specs.Tree.{Forest, bare, grown, prefix, node_count, tree_count, HasItsChildren, IsTree}
+use Rattle.def_tree.specs.Tree.{Forest, bare, grown, prefix, node_count, tree_count, HasItsChildren}
 use Rattle.def_tree.specs.Events.{Event, Enter, Leave, events_from, events, left, OpenNode, KeepsNesting, outside, LeavesAfterLastChild, LeavesEachOnce}
 
 -- steps, and then others
