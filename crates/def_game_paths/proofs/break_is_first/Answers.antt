@@ -1,5 +1,5 @@
-use Rattle.def_game_paths.proofs.Faults.{fault_first}
-use Rattle.def_game_paths.proofs.fault_is_first.Goals as goal
+use Rattle.def_game_paths.proofs.Breaks.{break_first}
+use Rattle.def_game_paths.proofs.break_is_first.Goals as goal
 
 pub returns : goal.returns
-returns c = fault_first
+returns c = break_first
