@@ -13,9 +13,9 @@ use Rattle.def_fraction.specs.Divisors.{gcd, lcm}
 use Rattle.def_fraction.specs.Fraction.{Fraction, IsInLowestTerms, fits, most, sum_of}
 use Rattle.def_fraction.proofs.DivisorLemmas.{IsLcm-lcm}
 use Rattle.def_fraction.proofs.FractionLemmas.{same_from_value}
-use Rattle.def_game_paths.specs.Paths.{Step, Visit, visits, leaf_visits}
-use Rattle.def_game_paths.specs.Recall.{Numbered, RecallFault, recall_fault}
-use Rattle.def_game_paths.proofs.Faults.{recall_of_none}
+use Rattle.def_game_paths.specs.Paths.{Move, Visit, visits, leaf_visits}
+use Rattle.def_game_paths.specs.Recall.{Numbered, RecallBreak, recall_break}
+use Rattle.def_game_paths.proofs.Breaks.{recall_of_none}
 use Rattle.def_game_scale.specs.Tables.{certain, Payoffs, Tables, AreFractions, nothing, path_payoff, payoffs_of, payoff_one, payoff_two, reach}
 use Rattle.def_game_scale.specs.Scale.{all_expected, expected, unit, weight_of}
 use Rattle.def_game_scale.proofs.Units.{lcm-positive, unit-divides}
@@ -186,7 +186,7 @@ is-nothing f low e =
     let num : f.num ≡ pos 0 = no_size f.num (eqb-true (unsigned_abs f.num) 0 e) in
     same_from_value f nothing low nothing-lowest (ap (λ n. n *ℤ pos 1) num ∙ zero-*ℤ (pos 1) ∙ sym (zero-*ℤ (pos f.den)))
 
-path-positive : (of : Payoffs → Fraction) (tables : Tables) (path : List Step) → ((o : ℕ) → 1 ≤ (of (payoffs_of tables o)).den) → 1 ≤ (path_payoff of tables path).den
+path-positive : (of : Payoffs → Fraction) (tables : Tables) (path : List Move) → ((o : ℕ) → 1 ≤ (of (payoffs_of tables o)).den) → 1 ≤ (path_payoff of tables path).den
 path-positive of tables [] h = omega arith
 path-positive of tables (step ∷ rest) h = (lowest-sum (path_payoff of tables rest) (of (payoffs_of tables step.node.outcome)) (path-positive of tables rest h) (h step.node.outcome)).positive
 
@@ -204,17 +204,17 @@ sum-lowest tables v h =
     (lowest-sum (path_payoff (λ p. p.one) tables v.path) (payoffs_of tables v.node.outcome).one (path-positive (λ p. p.one) tables v.path (one-positive tables h)) (one-positive tables h v.node.outcome)).positive
     (lowest-sum (path_payoff (λ p. p.two) tables v.path) (payoffs_of tables v.node.outcome).two (path-positive (λ p. p.two) tables v.path (two-positive tables h)) (two-positive tables h v.node.outcome)).positive
 
-of_recall_none : (r : Option RecallFault) → of_recall r ≡ None → r ≡ None
+of_recall_none : (r : Option RecallBreak) → of_recall r ≡ None → r ≡ None
 of_recall_none None e = refl
 of_recall_none (Some fault) e = cc
 
 pub sound : (tables : Tables) (tree : Forest) → AreFractions tables → game_fault tables tree ≡ None → IsSound tables tree
 sound tables tree h e =
     let all : List Numbered = all_nodes tree in
-    let first = or_none (negative_fault tables (chance_sets 0 all)) (or_else (chance_fault tables (chance_sets 0 all)) (or_else (path_fault tables 1 all) (or_else (mass_fault tables (unit tables tree) 0 all) (of_recall (recall_fault tree))))) e in
-    let second = or_none (chance_fault tables (chance_sets 0 all)) (or_else (path_fault tables 1 all) (or_else (mass_fault tables (unit tables tree) 0 all) (of_recall (recall_fault tree)))) first.1 in
-    let third = or_none (path_fault tables 1 all) (or_else (mass_fault tables (unit tables tree) 0 all) (of_recall (recall_fault tree))) second.1 in
-    let fourth = or_none (mass_fault tables (unit tables tree) 0 all) (of_recall (recall_fault tree)) third.1 in
+    let first = or_none (negative_fault tables (chance_sets 0 all)) (or_else (chance_fault tables (chance_sets 0 all)) (or_else (path_fault tables 1 all) (or_else (mass_fault tables (unit tables tree) 0 all) (of_recall (recall_break tree))))) e in
+    let second = or_none (chance_fault tables (chance_sets 0 all)) (or_else (path_fault tables 1 all) (or_else (mass_fault tables (unit tables tree) 0 all) (of_recall (recall_break tree)))) first.1 in
+    let third = or_none (path_fault tables 1 all) (or_else (mass_fault tables (unit tables tree) 0 all) (of_recall (recall_break tree))) second.1 in
+    let fourth = or_none (mass_fault tables (unit tables tree) 0 all) (of_recall (recall_break tree)) third.1 in
     let ends = unit_ends tables 1 1 (visits tree) h (omega arith) (omega arith) third.0 in
     let divides : unit tables tree ∣ ends.0 = unit-divides (all_expected tables tree) ends.0 (all-lowest tables tree h) ends.1.dens in
     let below : unit tables tree ≤ ends.0 = le_of_dvd ends.1.positive divides in
@@ -224,7 +224,7 @@ sound tables tree h e =
       chance = chance_sound tables (chance_sets 0 all) h first.0 second.0;
       zero_sum = λ k d there. is-nothing (sum_of (payoff_one tables (get_or (leaf_visits tree) k d)) (payoff_two tables (get_or (leaf_visits tree) k d))) (sum-lowest tables (get_or (leaf_visits tree) k d) h)
           (zero_sums tables 1 1 (visits tree) third.0 k d there);
-      recall = recall_of_none tree (of_recall_none (recall_fault tree) fourth.1);
+      recall = recall_of_none tree (of_recall_none (recall_break tree) fourth.1);
       unit_within = omega arith;
       mass_within = omega arith;
     }

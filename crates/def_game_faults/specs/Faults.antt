@@ -8,7 +8,7 @@ use Rattle.def_tree.specs.Rules.{is_same_kind}
 use Rattle.def_fraction.specs.Divisors.{lcm}
 use Rattle.def_fraction.specs.Fraction.{Fraction, fits, most, sum_of}
 use Rattle.def_game_paths.specs.Paths.{Visit, visits}
-use Rattle.def_game_paths.specs.Recall.{Numbered, RecallFault, recall_fault}
+use Rattle.def_game_paths.specs.Recall.{Numbered, RecallBreak, recall_break}
 use Rattle.def_game_scale.specs.Tables.{Tables, nothing, payoff_one, payoff_two, reach}
 use Rattle.def_game_scale.specs.Scale.{expected, unit, weight_of}
 
@@ -97,7 +97,7 @@ mass_fault tables whole running [] = None
 mass_fault tables whole running (n ∷ rest) =
     if nat_le (mass_with tables whole running n) most then mass_fault tables whole (mass_with tables whole running n) rest else Some (Scale n.number)
 
-abbrev pub of_recall : Option RecallFault → Option GameFault
+abbrev pub of_recall : Option RecallBreak → Option GameFault
 of_recall None = None
 of_recall (Some fault) = Some (NotRecall fault.node fault.earlier)
 
@@ -107,4 +107,4 @@ game_fault tables tree =
     or_else (negative_fault tables (chance_sets 0 (all_nodes tree)))
     (or_else (chance_fault tables (chance_sets 0 (all_nodes tree)))
     (or_else (path_fault tables 1 (all_nodes tree))
-    (or_else (mass_fault tables (unit tables tree) 0 (all_nodes tree)) (of_recall (recall_fault tree)))))
+    (or_else (mass_fault tables (unit tables tree) 0 (all_nodes tree)) (of_recall (recall_break tree)))))
