@@ -1,5 +1,5 @@
 -- What holds of a tree's sets, its sequence form and its list of leaves. Each is the contract of a function of this crate.
-use Rattle.std.specs.Prelude.{◌≡◌, ◌↔◌, ℕ, ◌+◌, ◌-◌, ◌<◌, ◌≤◌, true, false, List, [], ◌∷◌, length, map, slice_index, slice_index_or, sum, All, Option, Some, None, Ok, Err, ℤ}
+use Rattle.std.specs.Prelude.{◌≡◌, ◌↔◌, ℕ, ◌+◌, ◌-◌, ◌<◌, ◌≤◌, true, false, List, [], ◌∷◌, length, map, slice_index, slice_index_or, sum, All, Option, Some, None, Ok, Err, ℤ, unsigned_abs}
 use Rattle.def_tree.specs.declared.Kind.{Kind}
 use Rattle.def_tree.specs.declared.Kind.TheVariants.{One, Two}
 use Rattle.def_tree.specs.Tree.{Forest, prefix, node_count, leaf_count, is_leaf_kind}
@@ -8,8 +8,10 @@ use Rattle.def_game_paths.specs.Paths.{Visit, visits, Choice}
 use Rattle.def_game_paths.specs.Recall.{HasPerfectRecall, IsFirstBreak, RecallBreak, is_personal}
 use Rattle.def_game_paths.specs.Sequences.{choice_of, first_sequence, sequence_at, sequences_before, set_sizes}
 use Rattle.def_game_scale.specs.Tables.{Tables}
+use Rattle.def_game_scale.specs.Scale.{weights}
+use Rattle.def_plan.specs.Payoff.{mass}
 use Rattle.def_plan.specs.Form.{InformationSet, PlacedSet, placed, sequence_count, AreInOrder, Leaf, SequenceForm}
-use Rattle.def_sequence_form.specs.Form.{LeafEntry, leaf_list, information_sets, form_of}
+use Rattle.def_sequence_form.specs.Form.{LeafEntry, leaf_list, information_sets, form_of, form_of_game}
 use Rattle.def_sequence_form.specs.Sets.{TreeSets, tree_sets, sets_or_break}
 
 -- each set has actions, and the sequence before it comes before its own
@@ -70,3 +72,8 @@ pub record LeavesAreTheList (tables : Tables) (tree : Forest) (weights : List �
 
 abbrev pub FormHasTheLeafList : Type 0
 FormHasTheLeafList = (tables : Tables) (tree : Forest) (weights : List ℤ) → IsGameTree tree → length weights ≡ leaf_count (prefix tree) → LeavesAreTheList tables tree weights
+
+-- the sizes of the form's weights add up to the game's mass
+pub record FormHasTheMass : Type 0 where
+  pub of_weights : (tree : Forest) (weights : List ℤ) → length weights ≡ leaf_count (prefix tree) → mass (form_of tree weights).leaves ≡ sum (map unsigned_abs weights)
+  pub of_game : (tables : Tables) (tree : Forest) → mass (form_of_game tables tree).leaves ≡ sum (map unsigned_abs (weights tables tree))

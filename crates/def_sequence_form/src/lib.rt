@@ -1,7 +1,7 @@
 //! The information sets of a game's tree, its sequence form, and its list of leaves.
 #![tactic(auto)]
 
-ghost use Rattle.def_sequence_form.specs.Laws.{FormHasTheLeafList, FormIsInOrder, FormNumbersAsTheTree, SetsAreExact, SetsHaveTheirNodes};
+ghost use Rattle.def_sequence_form.specs.Laws.{FormHasTheLeafList, FormHasTheMass, FormIsInOrder, FormNumbersAsTheTree, SetsAreExact, SetsHaveTheirNodes};
 
 /// Each set has actions, and the sequence before it comes before its own.
 pub fn form_is_in_order()
@@ -26,4 +26,9 @@ pub fn form_numbers_as_the_tree()
 /// The form has the leaves of the tree's list: the number of a leaf's sequence names its last own choice, and tells all of them.
 pub fn form_has_the_leaf_list()
     ensures { FormHasTheLeafList }
+{}
+
+/// The sizes of the form's weights add up to the game's mass.
+pub fn form_has_the_mass()
+    ensures { FormHasTheMass }
 {}
