@@ -1,13 +1,10 @@
 -- The jobs of small games, and of games at the limits.
 use Rattle.std.specs.Prelude.{◌≡◌, ℕ, zero, suc, List, [], ◌∷◌, ◌++◌, map, replicate}
-use Rattle.def_tree.specs.declared.Kind.{Kind}
 use Rattle.def_tree.specs.declared.Kind.TheVariants.{Chance, One, Two, Leaf}
 use Rattle.def_tree.specs.declared.Node.{Node}
 use Rattle.def_tree.specs.Tree.{Forest, bare, grown, forest_of, prefix, leaf_count}
+use Rattle.def_tree.specs.Rules.{inner_node}
 use Rattle.def_game_jobs.specs.Jobs.{jobs_within, leaf_counts, most_jobs}
-
-abbrev inner : Kind → ℕ → ℕ → Node
-inner kind set children = record { kind = kind; set = set; outcome = 0; children = children }
 
 abbrev leaf : Node
 leaf = record { kind = Leaf; set = 0; outcome = 0; children = 0 }
@@ -23,11 +20,11 @@ leaves n others = repeated n leaf bare others
 
 -- so many chance nodes over so many leaves each, and then others
 abbrev pub draws : ℕ → ℕ → Forest → Forest
-draws n children others = repeated n (inner Chance 1 children) (leaves children bare) others
+draws n children others = repeated n (inner_node Chance 1 children) (leaves children bare) others
 
 -- a chance node over these trees
 abbrev pub drawn : ℕ → Forest → Forest
-drawn children below = grown (inner Chance 1 children) below bare
+drawn children below = grown (inner_node Chance 1 children) below bare
 
 -- so many chance nodes with one child each, one below the other, over a tree
 abbrev pub chain : ℕ → Forest → Forest
@@ -35,14 +32,14 @@ chain zero tree = tree
 chain (suc n) tree = drawn 1 (chain n tree)
 
 pub record JobRows : Type 0 where
-  pub chance : leaf_counts (forest_of (inner Chance 1 2 ∷ inner One 1 2 ∷ leaf ∷ leaf ∷ leaf ∷ [])) ≡ 2 ∷ 1 ∷ []
-  pub pennies : leaf_counts (forest_of (inner One 1 2 ∷ inner Two 1 2 ∷ leaf ∷ leaf ∷ inner Two 1 2 ∷ leaf ∷ leaf ∷ [])) ≡ 4 ∷ []
+  pub chance : leaf_counts (forest_of (inner_node Chance 1 2 ∷ inner_node One 1 2 ∷ leaf ∷ leaf ∷ leaf ∷ [])) ≡ 2 ∷ 1 ∷ []
+  pub pennies : leaf_counts (forest_of (inner_node One 1 2 ∷ inner_node Two 1 2 ∷ leaf ∷ leaf ∷ inner_node Two 1 2 ∷ leaf ∷ leaf ∷ [])) ≡ 4 ∷ []
   pub one_leaf : leaf_counts (forest_of (leaf ∷ [])) ≡ 1 ∷ []
-  pub player_over_chance : leaf_counts (forest_of (inner One 1 2 ∷ inner Chance 1 2 ∷ leaf ∷ leaf ∷ leaf ∷ [])) ≡ 3 ∷ []
+  pub player_over_chance : leaf_counts (forest_of (inner_node One 1 2 ∷ inner_node Chance 1 2 ∷ leaf ∷ leaf ∷ leaf ∷ [])) ≡ 3 ∷ []
   pub chance_over_chance :
-      leaf_counts (forest_of (inner Chance 1 3 ∷ inner Chance 2 2 ∷ leaf ∷ leaf ∷ leaf ∷ inner Chance 3 2 ∷ inner Chance 4 2 ∷ leaf ∷ leaf ∷ leaf ∷ []))
+      leaf_counts (forest_of (inner_node Chance 1 3 ∷ inner_node Chance 2 2 ∷ leaf ∷ leaf ∷ leaf ∷ inner_node Chance 3 2 ∷ inner_node Chance 4 2 ∷ leaf ∷ leaf ∷ leaf ∷ []))
       ≡ 1 ∷ 1 ∷ 1 ∷ 1 ∷ 1 ∷ 1 ∷ []
-  pub chance_under_a_player : leaf_counts (forest_of (inner Chance 1 2 ∷ inner One 1 2 ∷ inner Chance 2 2 ∷ leaf ∷ leaf ∷ leaf ∷ leaf ∷ [])) ≡ 3 ∷ 1 ∷ []
+  pub chance_under_a_player : leaf_counts (forest_of (inner_node Chance 1 2 ∷ inner_node One 1 2 ∷ inner_node Chance 2 2 ∷ leaf ∷ leaf ∷ leaf ∷ leaf ∷ [])) ≡ 3 ∷ 1 ∷ []
   pub last_pass : leaf_counts (chain 63 (drawn 2 (leaves 2 bare))) ≡ 1 ∷ 1 ∷ []
   pub past_the_last_pass : leaf_counts (chain 64 (drawn 2 (leaves 2 bare))) ≡ 2 ∷ []
 

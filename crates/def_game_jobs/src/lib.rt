@@ -1,7 +1,8 @@
 //! The jobs into which the sum over a game's leaves is cut.
 #![tactic(auto)]
 
-ghost use Rattle.def_game_jobs.specs.Jobs.{CutsUntilNoRoom, EachLeafInOneJob, JobsAreFew, JobsComeOfPasses, LaterPassesKeep, OnlyCutsChange, PassesReplace};
+ghost use Rattle.def_game_jobs.specs.Jobs.{CutsUntilNoRoom, EachLeafInOneJob, JobsAreFew, JobsComeOfPasses};
+ghost use Rattle.def_game_jobs.specs.Jobs.{LaterPassesKeep, OnlyCutsChange, PassesReplace};
 ghost use Rattle.def_game_jobs.specs.Ranges.{JobsPartition, RangesHaveTheirJobs};
 ghost use Rattle.def_game_jobs.specs.Rows.{JobLimitRows, JobRows, SmallLimitRows};
 

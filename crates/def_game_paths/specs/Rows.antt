@@ -1,29 +1,26 @@
 -- Small games, worked out.
 use Rattle.std.specs.Prelude.{◌≡◌, ℕ, [], ◌∷◌, Some, None, map}
-use Rattle.def_tree.specs.declared.Kind.{Kind}
 use Rattle.def_tree.specs.declared.Kind.TheVariants.{One, Two, Leaf}
 use Rattle.def_tree.specs.declared.Node.{Node}
 use Rattle.def_tree.specs.Tree.{Forest, forest_of}
+use Rattle.def_tree.specs.Rules.{inner_node}
 use Rattle.def_game_paths.specs.Paths.{leaf_visits}
 use Rattle.def_game_paths.specs.Recall.{recall_break}
 use Rattle.def_game_paths.specs.Sequences.{choice_of, number_break, sequence_at, sequences_before, set_sizes}
-
-abbrev pub inner : Kind → ℕ → ℕ → Node
-inner kind set children = record { kind = kind; set = set; outcome = 0; children = children }
 
 abbrev pub leaf : ℕ → Node
 leaf outcome = record { kind = Leaf; set = 0; outcome = outcome; children = 0 }
 
 -- a driver who can't tell two exits apart, so that a set holds a node and one below it
 abbrev pub absent_driver : Forest
-absent_driver = forest_of (inner One 1 2 ∷ leaf 0 ∷ inner One 1 2 ∷ leaf 1 ∷ leaf 2 ∷ [])
+absent_driver = forest_of (inner_node One 1 2 ∷ leaf 0 ∷ inner_node One 1 2 ∷ leaf 1 ∷ leaf 2 ∷ [])
 
 -- the same for player two, below a choice of player one
 abbrev pub absent_partner : Forest
-absent_partner = forest_of (inner One 1 2 ∷ inner Two 1 2 ∷ leaf 0 ∷ leaf 1 ∷ inner Two 2 2 ∷ inner Two 1 2 ∷ leaf 0 ∷ leaf 1 ∷ leaf 2 ∷ [])
+absent_partner = forest_of (inner_node One 1 2 ∷ inner_node Two 1 2 ∷ leaf 0 ∷ leaf 1 ∷ inner_node Two 2 2 ∷ inner_node Two 1 2 ∷ leaf 0 ∷ leaf 1 ∷ leaf 2 ∷ [])
 
 abbrev pub matching_pennies : Forest
-matching_pennies = forest_of (inner One 1 2 ∷ inner Two 1 2 ∷ leaf 1 ∷ leaf 2 ∷ inner Two 1 2 ∷ leaf 2 ∷ leaf 1 ∷ [])
+matching_pennies = forest_of (inner_node One 1 2 ∷ inner_node Two 1 2 ∷ leaf 1 ∷ leaf 2 ∷ inner_node Two 1 2 ∷ leaf 2 ∷ leaf 1 ∷ [])
 
 pub record RecallRows : Type 0 where
   pub absent : recall_break absent_driver ≡ Some (record { node = 3; earlier = 1 })

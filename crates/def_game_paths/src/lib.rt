@@ -4,7 +4,9 @@
 ghost use Rattle.def_game_paths.specs.Paths.{ParentsComeBefore, PathsAreDepths, PathsLeadToNodes, VisitsArePrefix};
 ghost use Rattle.def_game_paths.specs.Recall.{BreakIsFirst, NoBreakIffRecall};
 ghost use Rattle.def_game_paths.specs.Rows.{RecallRows, SequenceRows};
-ghost use Rattle.def_game_paths.specs.Sequences.{EachSequenceIsInRange, FirstsAreFirst, NumbersAreKnownOnTheWay, NumbersFindTheBreak, NumbersTellChoices, SequencesAreFew, SequencesNameChoices, SetsAreInOrder};
+ghost use Rattle.def_game_paths.specs.Sequences.{EachSequenceIsInRange, FirstsAreFirst, SequencesAreFew};
+ghost use Rattle.def_game_paths.specs.Sequences.{NumbersAreKnownOnTheWay, NumbersFindTheBreak, NumbersTellChoices};
+ghost use Rattle.def_game_paths.specs.Sequences.{SequencesNameChoices, SetsAreInOrder};
 
 /// The nodes that are visited are those of the tree, in prefix order.
 pub fn visits_are_prefix()
@@ -61,7 +63,7 @@ pub fn sequences_are_few()
     ensures { SequencesAreFew }
 {}
 
-/// The first nodes of the sets are the ones that a search for a set's first node finds, in the order of the sets' numbers.
+/// The first nodes of the sets are those that a search for a set's first node finds, in the order of the sets.
 pub fn firsts_are_first()
     ensures { FirstsAreFirst }
 {}

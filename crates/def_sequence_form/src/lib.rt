@@ -1,7 +1,8 @@
 //! The information sets of a game's tree, its sequence form, and its list of leaves.
 #![tactic(auto)]
 
-ghost use Rattle.def_sequence_form.specs.Laws.{FormHasTheLeafList, FormHasTheMass, FormIsInOrder, FormNumbersAsTheTree, SetsAreExact, SetsHaveTheirNodes, TreeSetsTellNodes};
+ghost use Rattle.def_sequence_form.specs.Laws.{FormHasTheLeafList, FormHasTheMass, FormIsInOrder, FormNumbersAsTheTree};
+ghost use Rattle.def_sequence_form.specs.Laws.{SetsAreExact, SetsHaveTheirNodes, TreeSetsTellNodes};
 ghost use Rattle.def_sequence_form.specs.Rows.{FormRows, LeafListRows};
 
 /// Each set has actions, and the sequence before it comes before its own.
@@ -24,7 +25,7 @@ pub fn form_numbers_as_the_tree()
     ensures { FormNumbersAsTheTree }
 {}
 
-/// The form has the leaves of the tree's list: the number of a leaf's sequence names its last own choice, and tells all of them.
+/// The form has the leaves of the tree's list: a leaf's sequence names its last own choice, and tells all of them.
 pub fn form_has_the_leaf_list()
     ensures { FormHasTheLeafList }
 {}

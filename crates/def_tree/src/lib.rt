@@ -24,7 +24,8 @@ pub enum Kind {
 
 /// A node of a game's tree.
 ///
-/// Information sets are numbered within their kind, and outcomes within the game; 0 stands for no set and for the null outcome.
+/// Information sets are numbered within their kind, and outcomes within the game; 0 stands for no set and for the null
+/// outcome.
 #[derive(Clone, Copy, Debug, PartialEq, Eq)]
 pub struct Node {
     pub kind: Kind,

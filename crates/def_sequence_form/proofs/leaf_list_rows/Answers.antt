@@ -5,4 +5,4 @@ use Rattle.def_sequence_form.proofs.leaf_list_rows.Goals as goal
 
 pub returns : goal.returns
 unfolding gcd fraction_of
-returns c = record { draw_leaves = refl }
+returns c = record { early_end_leaves = refl }
