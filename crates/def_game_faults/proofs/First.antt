@@ -1,6 +1,6 @@
 -- The fault that is found is the first one.
 use Rattle.std.proofs.Common.{◌≡◌, ℕ, ◌-◌, ◌<◌, ◌≤◌, true, false, List, [], length, get_or, refl, ap, sym, ◌∙◌, arith, Some, None, inl, inr}
-use Rattle.std.specs.Prelude.{Option}
+use Rattle.std.specs.Prelude.{Option, ◌↔◌}
 use Rattle.std.proofs.lemmas.Bool.{cases_lt}
 use Rattle.def_tree.specs.declared.Kind.TheVariants.{Leaf}
 use Rattle.def_tree.specs.Tree.{Forest}
@@ -107,18 +107,28 @@ one_break tree d x y p q =
       ]
     ]
 
-recall_some : (tree : Forest) (r : Option RecallFault) → recall_fault tree ≡ r → (fault : GameFault) → of_recall r ≡ Some fault → RecallFails tree fault
-recall_some tree None is fault e = cc
-recall_some tree (Some found) is fault e = record { node = found.node; earlier = found.earlier; breaks = λ d. fault_first tree d found is; fault_is = cc }
-
 a_visit : Visit
 a_visit = record { path = []; node = record { kind = Leaf; set = 0; outcome = 0; children = 0 } }
 
-recall_some_by : (tree : Forest) (r : Option RecallFault) → recall_fault tree ≡ r → (fault : GameFault) → RecallFails tree fault → of_recall r ≡ Some fault
-recall_some_by tree None is fault fails = absurd (no_break tree a_visit (record { node = fails.node; earlier = fails.earlier }) (recall_of_none tree is) (fails.breaks a_visit))
-recall_some_by tree (Some found) is fault fails =
-    let same : found ≡ record { node = fails.node; earlier = fails.earlier } = one_break tree a_visit found (record { node = fails.node; earlier = fails.earlier }) (fault_first tree a_visit found is) (fails.breaks a_visit) in
-    ap (λ x. Some (NotRecall x.node x.earlier)) same ∙ ap Some (sym fails.fault_is)
+-- the break that is found is exactly the first
+pub recall_first : (tree : Forest) (fault : RecallFault) → (recall_fault tree ≡ Some fault) ↔ ((d : Visit) → IsFirstBreak (at_number tree d) (length (visits tree)) fault)
+recall_first tree fault = (λ e d. fault_first tree d fault e, λ first. found (recall_fault tree) refl (first a_visit))
+  where
+    found : (r : Option RecallFault) → recall_fault tree ≡ r → IsFirstBreak (at_number tree a_visit) (length (visits tree)) fault → recall_fault tree ≡ Some fault
+    found None is first = absurd (no_break tree a_visit fault (recall_of_none tree is) first)
+    found (Some other) is first = is ∙ ap Some (one_break tree a_visit other fault (fault_first tree a_visit other is) first)
+
+of_recall-some : (r : Option RecallFault) (fault : GameFault) → of_recall r ≡ Some fault → (found : RecallFault) × (r ≡ Some found) × (fault ≡ NotRecall found.node found.earlier)
+of_recall-some None fault e = cc
+of_recall-some (Some found) fault e = (found, refl, cc)
+
+recall_some : (tree : Forest) (fault : GameFault) → (of_recall (recall_fault tree) ≡ Some fault) ↔ RecallFails tree fault
+recall_some tree fault = (
+  λ e.
+      let found = of_recall-some (recall_fault tree) fault e in
+      record { node = found.0.node; earlier = found.0.earlier; breaks = (recall_first tree found.0).0 found.1; fault_is = found.2 },
+  λ fails. ap of_recall ((recall_first tree (record { node = fails.node; earlier = fails.earlier })).1 fails.breaks) ∙ ap Some (sym fails.fault_is),
+)
 
 pub of_recall-none : (r : Option RecallFault) → of_recall r ≡ None → r ≡ None
 of_recall-none None e = refl
@@ -133,11 +143,11 @@ game_first tables tree h =
       some = λ fault. (
         λ e. elim (or_some a b fault e) [
           | inl here ↦ in_numbers ((numbers.some fault).0 here)
-          | inr later ↦ in_recall (numbers.none.0 later.0) (recall_some tree (recall_fault tree) refl fault later.1)
+          | inr later ↦ in_recall (numbers.none.0 later.0) ((recall_some tree fault).0 later.1)
         ],
         λ first. elim first [
           | in_numbers fails ↦ some_then a b fault ((numbers.some fault).1 fails)
-          | in_recall pass fails ↦ none_then a b (numbers.none.1 pass) ∙ recall_some_by tree (recall_fault tree) refl fault fails
+          | in_recall pass fails ↦ none_then a b (numbers.none.1 pass) ∙ (recall_some tree fault).1 fails
         ],
       );
       none = (

@@ -9,11 +9,11 @@ use Rattle.def_game_paths.specs.Paths.{Visit, visits}
 use Rattle.def_game_scale.specs.Tables.{Tables, AreFractions}
 use Rattle.def_game_scale.specs.Scale.{game_unit, mass_so_far, unit_so_far}
 use Rattle.def_game_scale.proofs.Running.{grows}
-use Rattle.def_game_faults.specs.Faults.{is_leaf, game_fault}
-use Rattle.def_game_faults.specs.First.{PayoffsAreZeroSum, SignsPass, SumsPass}
-use Rattle.def_game_faults.specs.Laws.{IsSound}
+use Rattle.def_game_faults.specs.Faults.{game_fault, is_leaf, number_fault}
+use Rattle.def_game_faults.specs.First.{PassNumbers, PayoffsAreZeroSum, SignsPass, SumsPass}
+use Rattle.def_game_faults.specs.Laws.{HasSoundNumbers, IsSound}
 use Rattle.def_game_faults.proofs.Walks.{each-all}
-use Rattle.def_game_faults.proofs.First.{game_first}
+use Rattle.def_game_faults.proofs.First.{game_first, number_first}
 
 -- what holds of each node that is a leaf holds of each leaf
 leaves-all : (P : Visit → Type 0) (nodes : List Visit) → All (λ v. is_leaf v ≡ true → P v) nodes → All P (filter is_leaf nodes)
@@ -39,10 +39,8 @@ within_along f inner done (v ∷ rest) start each =
     (within_along f inner (done ++ (v ∷ [])) rest next
     (λ before w after p leaf. subst (λ d. f (d ++ (w ∷ [])) ≤ most) (sym (append_assoc done (v ∷ []) before)) (each (v ∷ before) w after (ap (λ xs. v ∷ xs) p) leaf)))
 
-pub sound : (tables : Tables) (tree : Forest) → AreFractions tables → game_fault tables tree ≡ None → IsSound tables tree
-sound tables tree h e =
-    let pass = (game_first tables tree h).none.0 e in
-    let numbers = pass.0 in
+pub passing_numbers : (tables : Tables) (tree : Forest) → AreFractions tables → PassNumbers tables tree → HasSoundNumbers tables tree
+passing_numbers tables tree h numbers =
     let nodes : List Visit = visits tree in
     let unit : ℕ = game_unit tables tree in
     let signs = each-all (SignsPass tables []) nodes numbers.signs in
@@ -50,8 +48,13 @@ sound tables tree h e =
     record {
       chance = λ k d there chance. record { positive = signs k d there chance; total = (sums k d there chance).1 };
       zero_sum = leaves-all (PayoffsAreZeroSum tables) nodes (each-all (λ v. is_leaf v ≡ true → PayoffsAreZeroSum tables v) nodes (λ before v after p leaf. ((numbers.nodes before v after p).leaf leaf).zero_sum));
-      recall = pass.1;
       unit_within =
           within_along (unit_so_far tables) (λ before v other. (grows tables h unit before v).inner_unit other) [] nodes (omega arith) (λ before v after p leaf. ((numbers.nodes before v after p).leaf leaf).unit_fits);
       mass_within = within_along (mass_so_far tables unit) (λ before v other. (grows tables h unit before v).inner_mass other) [] nodes (omega arith) (λ before v after p leaf. numbers.masses before v after p leaf);
     }
+
+pub sound_numbers : (tables : Tables) (tree : Forest) → AreFractions tables → number_fault tables tree ≡ None → HasSoundNumbers tables tree
+sound_numbers tables tree h e = passing_numbers tables tree h ((number_first tables tree h).none.0 e)
+
+pub sound : (tables : Tables) (tree : Forest) → AreFractions tables → game_fault tables tree ≡ None → IsSound tables tree
+sound tables tree h e = let pass = (game_first tables tree h).none.0 e in record { numbers = passing_numbers tables tree h pass.0; recall = pass.1 }

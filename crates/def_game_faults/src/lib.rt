@@ -1,7 +1,7 @@
 #![tactic(auto)]
 //! The faults of a game in a tree, and what a game without one is.
 
-ghost use Rattle.def_game_faults.specs.Laws.{GameFaultIsFirst, NoFaultIsSound, NumberFaultIsFirst};
+ghost use Rattle.def_game_faults.specs.Laws.{GameFaultIsFirst, NoFaultIsSound, NoNumberFaultIsSound, NumberFaultIsFirst};
 ghost use Rattle.def_game_faults.specs.Rows.{FaultlessRows, FaultRows, OrderRows};
 
 /// The fault of the numbers is the first one.
@@ -12,6 +12,11 @@ pub fn number_fault_is_first()
 /// The fault of a game is the first one.
 pub fn game_fault_is_first()
     ensures { GameFaultIsFirst }
+{}
+
+/// A game whose numbers have no fault has sound numbers.
+pub fn no_number_fault_is_sound()
+    ensures { NoNumberFaultIsSound }
 {}
 
 /// A game without a fault is sound.
