@@ -5,8 +5,8 @@ use Rattle.std.proofs.lemmas.Bool.{cases_lt}
 use Rattle.def_tree.specs.declared.Kind.TheVariants.{Leaf}
 use Rattle.def_tree.specs.Tree.{Forest}
 use Rattle.def_game_paths.specs.Paths.{Visit, visits}
-use Rattle.def_game_paths.specs.Recall.{HasPerfectRecall, IsFirstBreak, RecallFault, is_personal, is_same_set, recall_fault}
-use Rattle.def_game_paths.proofs.Faults.{fault_first, none_of_recall, recall_of_none, same_set}
+use Rattle.def_game_paths.specs.Recall.{HasPerfectRecall, IsFirstBreak, RecallBreak, is_personal, is_same_set, recall_break}
+use Rattle.def_game_paths.proofs.Breaks.{break_first, none_of_recall, recall_of_none, same_set}
 use Rattle.def_game_scale.specs.Tables.{Tables, AreFractions}
 use Rattle.def_game_scale.specs.Scale.{game_unit}
 use Rattle.def_game_faults.specs.Faults.{GameFault, NotRecall, or_else, found_by, sign_fault, sum_fault, node_fault, mass_fault, number_fault, of_recall}
@@ -72,7 +72,7 @@ abbrev at_number : Forest → Visit → ℕ → Visit
 at_number tree d k = get_or (visits tree) (k - 1) d
 
 -- with perfect recall nothing breaks it
-no_break : (tree : Forest) (d : Visit) (fault : RecallFault) → HasPerfectRecall tree → IsFirstBreak (at_number tree d) (length (visits tree)) fault → ⊥
+no_break : (tree : Forest) (d : Visit) (fault : RecallBreak) → HasPerfectRecall tree → IsFirstBreak (at_number tree d) (length (visits tree)) fault → ⊥
 no_break tree d fault recall first =
     let breaks = first.breaks in
     let range = breaks.in_range in
@@ -83,15 +83,15 @@ no_break tree d fault recall first =
     breaks.differs (recall (fault.earlier - 1) (fault.node - 1) d (omega arith) (omega arith) (ap is_personal same.0 ∙ breaks.personal) same.0 same.1)
 
 -- there is one first break
-one_break : (tree : Forest) (d : Visit) (x y : RecallFault) → IsFirstBreak (at_number tree d) (length (visits tree)) x → IsFirstBreak (at_number tree d) (length (visits tree)) y → x ≡ y
+one_break : (tree : Forest) (d : Visit) (x y : RecallBreak) → IsFirstBreak (at_number tree d) (length (visits tree)) x → IsFirstBreak (at_number tree d) (length (visits tree)) y → x ≡ y
 one_break tree d x y p q =
     let one : x.node ≤ y.node = p.first y q.breaks in
     let other : y.node ≤ x.node = q.first x p.breaks in
     let nodes : x.node ≡ y.node = omega arith in
-    let make : ℕ → ℕ → RecallFault = λ node earlier. record { node = node; earlier = earlier } in
+    let make : ℕ → ℕ → RecallBreak = λ node earlier. record { node = node; earlier = earlier } in
     ap (λ n. make n x.earlier) nodes ∙ ap (make y.node) (earliers nodes)
   where
-    none_earlier : (x y : RecallFault) → IsFirstBreak (at_number tree d) (length (visits tree)) x → IsFirstBreak (at_number tree d) (length (visits tree)) y → x.node ≡ y.node → x.earlier < y.earlier → ⊥
+    none_earlier : (x y : RecallBreak) → IsFirstBreak (at_number tree d) (length (visits tree)) x → IsFirstBreak (at_number tree d) (length (visits tree)) y → x.node ≡ y.node → x.earlier < y.earlier → ⊥
     none_earlier x y p q nodes before =
         let range = p.breaks.in_range in
         let low : 1 ≤ x.earlier = range.0 in
@@ -111,26 +111,26 @@ a_visit : Visit
 a_visit = record { path = []; node = record { kind = Leaf; set = 0; outcome = 0; children = 0 } }
 
 -- the break that is found is exactly the first
-pub recall_first : (tree : Forest) (fault : RecallFault) → (recall_fault tree ≡ Some fault) ↔ ((d : Visit) → IsFirstBreak (at_number tree d) (length (visits tree)) fault)
-recall_first tree fault = (λ e d. fault_first tree d fault e, λ first. found (recall_fault tree) refl (first a_visit))
+pub recall_first : (tree : Forest) (fault : RecallBreak) → (recall_break tree ≡ Some fault) ↔ ((d : Visit) → IsFirstBreak (at_number tree d) (length (visits tree)) fault)
+recall_first tree fault = (λ e d. break_first tree d fault e, λ first. found (recall_break tree) refl (first a_visit))
   where
-    found : (r : Option RecallFault) → recall_fault tree ≡ r → IsFirstBreak (at_number tree a_visit) (length (visits tree)) fault → recall_fault tree ≡ Some fault
+    found : (r : Option RecallBreak) → recall_break tree ≡ r → IsFirstBreak (at_number tree a_visit) (length (visits tree)) fault → recall_break tree ≡ Some fault
     found None is first = absurd (no_break tree a_visit fault (recall_of_none tree is) first)
-    found (Some other) is first = is ∙ ap Some (one_break tree a_visit other fault (fault_first tree a_visit other is) first)
+    found (Some other) is first = is ∙ ap Some (one_break tree a_visit other fault (break_first tree a_visit other is) first)
 
-of_recall-some : (r : Option RecallFault) (fault : GameFault) → of_recall r ≡ Some fault → (found : RecallFault) × (r ≡ Some found) × (fault ≡ NotRecall found.node found.earlier)
+of_recall-some : (r : Option RecallBreak) (fault : GameFault) → of_recall r ≡ Some fault → (found : RecallBreak) × (r ≡ Some found) × (fault ≡ NotRecall found.node found.earlier)
 of_recall-some None fault e = cc
 of_recall-some (Some found) fault e = (found, refl, cc)
 
-recall_some : (tree : Forest) (fault : GameFault) → (of_recall (recall_fault tree) ≡ Some fault) ↔ RecallFails tree fault
+recall_some : (tree : Forest) (fault : GameFault) → (of_recall (recall_break tree) ≡ Some fault) ↔ RecallFails tree fault
 recall_some tree fault = (
   λ e.
-      let found = of_recall-some (recall_fault tree) fault e in
+      let found = of_recall-some (recall_break tree) fault e in
       record { node = found.0.node; earlier = found.0.earlier; breaks = (recall_first tree found.0).0 found.1; fault_is = found.2 },
   λ fails. ap of_recall ((recall_first tree (record { node = fails.node; earlier = fails.earlier })).1 fails.breaks) ∙ ap Some (sym fails.fault_is),
 )
 
-pub of_recall-none : (r : Option RecallFault) → of_recall r ≡ None → r ≡ None
+pub of_recall-none : (r : Option RecallBreak) → of_recall r ≡ None → r ≡ None
 of_recall-none None e = refl
 of_recall-none (Some fault) e = cc
 
@@ -138,7 +138,7 @@ pub game_first : (tables : Tables) (tree : Forest) → AreFractions tables → F
 game_first tables tree h =
     let numbers = number_first tables tree h in
     let a : Option GameFault = number_fault tables tree in
-    let b : Option GameFault = of_recall (recall_fault tree) in
+    let b : Option GameFault = of_recall (recall_break tree) in
     record {
       some = λ fault. (
         λ e. elim (or_some a b fault e) [
@@ -151,7 +151,7 @@ game_first tables tree h =
         ],
       );
       none = (
-        λ e. let parts = or_none a b e in (numbers.none.0 parts.0, recall_of_none tree (of_recall-none (recall_fault tree) parts.1)),
+        λ e. let parts = or_none a b e in (numbers.none.0 parts.0, recall_of_none tree (of_recall-none (recall_break tree) parts.1)),
         λ pass. none_then a b (numbers.none.1 pass.0) ∙ ap of_recall (none_of_recall tree pass.1),
       );
     }

@@ -5,7 +5,7 @@ use Rattle.std.proofs.lemmas.Bool.{eqb-true, le-leb, le-ltb, leb-false, leb-true
 use Rattle.std.proofs.Math.IntN.{zero-*ℤ}
 use Rattle.def_fraction.specs.Fraction.{Fraction, IsInLowestTerms, fits, most, sum_of}
 use Rattle.def_fraction.proofs.FractionLemmas.{same_from_value}
-use Rattle.def_game_paths.specs.Paths.{Step, Visit}
+use Rattle.def_game_paths.specs.Paths.{Move, Visit}
 use Rattle.def_game_scale.specs.Tables.{Payoffs, Tables, AreFractions, nothing, path_payoff, payoffs_of, payoff_one, payoff_two, reach}
 use Rattle.def_game_scale.specs.Scale.{expected, mass_so_far, unit_so_far}
 use Rattle.def_game_scale.proofs.Expected.{at-or, lowest-sum}
@@ -24,7 +24,7 @@ is-nothing f low e =
     let num : f.num ≡ pos 0 = no_size f.num (eqb-true (unsigned_abs f.num) 0 e) in
     same_from_value f nothing low nothing-lowest (ap (λ n. n *ℤ pos 1) num ∙ zero-*ℤ (pos 1) ∙ sym (zero-*ℤ (pos f.den)))
 
-path-positive : (of : Payoffs → Fraction) (tables : Tables) (path : List Step) → ((o : ℕ) → 1 ≤ (of (payoffs_of tables o)).den) → 1 ≤ (path_payoff of tables path).den
+path-positive : (of : Payoffs → Fraction) (tables : Tables) (path : List Move) → ((o : ℕ) → 1 ≤ (of (payoffs_of tables o)).den) → 1 ≤ (path_payoff of tables path).den
 path-positive of tables [] h = omega arith
 path-positive of tables (step ∷ rest) h = (lowest-sum (path_payoff of tables rest) (of (payoffs_of tables step.node.outcome)) (path-positive of tables rest h) (h step.node.outcome)).positive
 

@@ -10,7 +10,7 @@ use Rattle.def_tree.specs.Tree.{Forest, is_leaf_kind}
 use Rattle.def_tree.specs.Rules.{is_same_kind}
 use Rattle.def_fraction.specs.Fraction.{Fraction, fits, most, sum_of}
 use Rattle.def_game_paths.specs.Paths.{Visit, visits}
-use Rattle.def_game_paths.specs.Recall.{RecallFault, recall_fault}
+use Rattle.def_game_paths.specs.Recall.{RecallBreak, recall_break}
 use Rattle.def_game_scale.specs.Tables.{Tables, nothing, payoff_one, payoff_two, probabilities, reach}
 use Rattle.def_game_scale.specs.Scale.{expected, game_unit, mass_so_far, unit_so_far}
 
@@ -104,10 +104,10 @@ number_fault tables tree =
     (or_else (found_by (node_fault tables) [] (visits tree))
     (found_by (mass_fault tables (game_unit tables tree)) [] (visits tree))))
 
-abbrev pub of_recall : Option RecallFault → Option GameFault
+abbrev pub of_recall : Option RecallBreak → Option GameFault
 of_recall None = None
 of_recall (Some fault) = Some (NotRecall fault.node fault.earlier)
 
 -- the first fault
 abbrev pub game_fault : Tables → Forest → Option GameFault
-game_fault tables tree = or_else (number_fault tables tree) (of_recall (recall_fault tree))
+game_fault tables tree = or_else (number_fault tables tree) (of_recall (recall_break tree))

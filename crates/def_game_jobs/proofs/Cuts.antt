@@ -8,9 +8,9 @@ use Rattle.std.proofs.lemmas.Bool.{leb-true}
 use Rattle.def_tree.specs.declared.Kind.{Kind}
 use Rattle.def_tree.specs.declared.Kind.TheVariants.{Chance, One, Two, Leaf}
 use Rattle.def_tree.specs.declared.Node.{Node}
-use Rattle.def_tree.specs.Tree.{Forest, bare, grown, prefix, is_leaf_kind}
+use Rattle.def_tree.specs.Tree.{Forest, bare, grown, prefix, is_leaf_kind, tree_count}
 use Rattle.def_tree.specs.Rules.{is_same_kind}
-use Rattle.def_game_jobs.specs.Jobs.{each_tree, subtrees, is_chance, is_cut, count_after, cut_each, pass, passes, jobs_of, leaves_in, most_jobs}
+use Rattle.def_game_jobs.specs.Jobs.{each_tree, subtrees, is_chance_job, is_cut, count_after, cut_each, pass, passes, jobs_of, leaves_in}
 
 abbrev in_leaf : Node → Bool
 in_leaf node = is_leaf_kind node.kind
@@ -33,6 +33,11 @@ abbrev pub IsSingle : Forest → Type 0
 IsSingle bare = Unit {0}
 IsSingle (grown _ _ beside) = beside ≡ bare
 
+pub single : (tree : Forest) → tree_count tree ≡ 1 → IsSingle tree
+single bare one = tt
+single (grown node below bare) one = refl
+single (grown node below (grown n b s)) one = absurd (omega arith)
+
 abbrev pub AreSingle : List Forest → Type 0
 AreSingle [] = Unit {0}
 AreSingle (job ∷ rest) = IsSingle job × AreSingle rest
@@ -49,16 +54,8 @@ AreSingle-subtrees : (job : Forest) → AreSingle (subtrees job)
 AreSingle-subtrees bare = tt
 AreSingle-subtrees (grown node below beside) = AreSingle-each_tree below
 
-AreSingle-cut_each : (count : ℕ) (jobs : List Forest) → AreSingle jobs → AreSingle (cut_each count jobs)
-AreSingle-cut_each count [] h = tt
-AreSingle-cut_each count (job ∷ rest) h =
-    elim (is_cut count job) as (λ b. AreSingle (cond b (subtrees job ++ cut_each (count_after count job) rest) (job ∷ cut_each count rest))) [
-      | true ↦ AreSingle-append (subtrees job) (cut_each (count_after count job) rest) (AreSingle-subtrees job) (AreSingle-cut_each (count_after count job) rest h.1)
-      | false ↦ (h.0, AreSingle-cut_each count rest h.1)
-    ]
-
 -- below a chance node are all its leaves
-leaves-subtrees : (job : Forest) → IsSingle job → is_chance job ≡ true → flat_map leaves_in (subtrees job) ≡ leaves_in job
+leaves-subtrees : (job : Forest) → IsSingle job → is_chance_job job ≡ true → flat_map leaves_in (subtrees job) ≡ leaves_in job
 leaves-subtrees bare h e = refl
 leaves-subtrees (grown node below beside) h e =
     leaves-each_tree below
@@ -74,45 +71,59 @@ second_of_both : (a b : Bool) → a && b ≡ true → b ≡ true
 second_of_both true b e = e
 second_of_both false b e = cc
 
-leaves-cut_each : (count : ℕ) (jobs : List Forest) → AreSingle jobs → flat_map leaves_in (cut_each count jobs) ≡ flat_map leaves_in jobs
-leaves-cut_each count [] h = refl
-leaves-cut_each count (job ∷ rest) h =
-    elim (is_cut count job) as (λ b. is_cut count job ≡ b → flat_map leaves_in (cond b (subtrees job ++ cut_each (count_after count job) rest) (job ∷ cut_each count rest)) ≡ leaves_in job ++ flat_map leaves_in rest) [
-      | true ↦ λ cut.
-          flat_map-append leaves_in (subtrees job) (cut_each (count_after count job) rest)
-          ∙ (λ i. leaves-subtrees job h.0 (first_of_both (is_chance job) (nat_le (count_after count job) most_jobs) cut) i ++ leaves-cut_each (count_after count job) rest h.1 i)
-      | false ↦ λ cut. ap (λ xs. leaves_in job ++ xs) (leaves-cut_each count rest h.1)
-    ] refl
+pub within_if_cut : (limit count : ℕ) (job : Forest) → is_cut limit count job ≡ true → count_after count job ≤ limit
+within_if_cut limit count job cut = leb-true (count_after count job) limit (second_of_both (is_chance_job job) (nat_le (count_after count job) limit) cut)
 
-leaves-passes : (n : ℕ) (jobs : List Forest) → AreSingle jobs → flat_map leaves_in (passes n jobs) ≡ flat_map leaves_in jobs
-leaves-passes zero jobs h = refl
-leaves-passes (suc n) jobs h = leaves-passes n (pass jobs) (AreSingle-cut_each (length jobs) jobs h) ∙ leaves-cut_each (length jobs) jobs h
+module _ (limit : ℕ) where
+  AreSingle-cut_each : (count : ℕ) (jobs : List Forest) → AreSingle jobs → AreSingle (cut_each limit count jobs)
+  AreSingle-cut_each count [] h = tt
+  AreSingle-cut_each count (job ∷ rest) h =
+      elim (is_cut limit count job) as (λ b. AreSingle (cond b (subtrees job ++ cut_each limit (count_after count job) rest) (job ∷ cut_each limit count rest))) [
+        | true ↦ AreSingle-append (subtrees job) (cut_each limit (count_after count job) rest) (AreSingle-subtrees job) (AreSingle-cut_each (count_after count job) rest h.1)
+        | false ↦ (h.0, AreSingle-cut_each count rest h.1)
+      ]
 
-pub leaves-jobs_of : (node : Node) (below : Forest) → flat_map leaves_in (jobs_of (grown node below bare)) ≡ leaves_in (grown node below bare)
-leaves-jobs_of node below = leaves-passes 64 (grown node below bare ∷ []) (refl, tt) ∙ append-nil (leaves_in (grown node below bare))
+  leaves-cut_each : (count : ℕ) (jobs : List Forest) → AreSingle jobs → flat_map leaves_in (cut_each limit count jobs) ≡ flat_map leaves_in jobs
+  leaves-cut_each count [] h = refl
+  leaves-cut_each count (job ∷ rest) h =
+      elim (is_cut limit count job) as (λ b. is_cut limit count job ≡ b →
+      flat_map leaves_in (cond b (subtrees job ++ cut_each limit (count_after count job) rest) (job ∷ cut_each limit count rest)) ≡ leaves_in job ++ flat_map leaves_in rest) [
+        | true ↦ λ cut.
+            flat_map-append leaves_in (subtrees job) (cut_each limit (count_after count job) rest)
+            ∙ (λ i. leaves-subtrees job h.0 (first_of_both (is_chance_job job) (nat_le (count_after count job) limit) cut) i ++ leaves-cut_each (count_after count job) rest h.1 i)
+        | false ↦ λ cut. ap (λ xs. leaves_in job ++ xs) (leaves-cut_each count rest h.1)
+      ] refl
 
--- so many jobs have been passed over, and with those that come there are `count`
-length-cut_each : (jobs : List Forest) (before count : ℕ) → count ≡ before + length jobs → count ≤ 4096 → before + length (cut_each count jobs) ≤ 4096
-length-cut_each [] before count e h = omega arith
-length-cut_each (job ∷ rest) before count e h =
-    elim (is_cut count job) as (λ b. is_cut count job ≡ b → before + length (cond b (subtrees job ++ cut_each (count_after count job) rest) (job ∷ cut_each count rest)) ≤ 4096) [
-      | true ↦ λ cut.
-          let within : count_after count job ≤ 4096 = leb-true (count_after count job) 4096 (second_of_both (is_chance job) (nat_le (count_after count job) most_jobs) cut) in
-          let many : length (subtrees job ++ cut_each (count_after count job) rest) ≡ length (subtrees job) + length (cut_each (count_after count job) rest) = length-append (subtrees job) (cut_each (count_after count job) rest) in
-          let later : (before + length (subtrees job)) + length (cut_each (count_after count job) rest) ≤ 4096 = length-cut_each rest (before + length (subtrees job)) (count_after count job) (omega arith) within in
-          omega arith
-      | false ↦ λ cut.
-          let later : (before + 1) + length (cut_each count rest) ≤ 4096 = length-cut_each rest (before + 1) count (omega arith) h in
-          omega arith
-    ] refl
+  leaves-passes : (n : ℕ) (jobs : List Forest) → AreSingle jobs → flat_map leaves_in (passes limit n jobs) ≡ flat_map leaves_in jobs
+  leaves-passes zero jobs h = refl
+  leaves-passes (suc n) jobs h = leaves-passes n (pass limit jobs) (AreSingle-cut_each (length jobs) jobs h) ∙ leaves-cut_each (length jobs) jobs h
 
-length-passes : (n : ℕ) (jobs : List Forest) → length jobs ≤ 4096 → length (passes n jobs) ≤ 4096
-length-passes zero jobs h = h
-length-passes (suc n) jobs h = length-passes n (pass jobs) (let few : 0 + length (cut_each (length jobs) jobs) ≤ 4096 = length-cut_each jobs 0 (length jobs) (omega arith) h in omega arith)
+  -- so many jobs have been passed over, and with those that come there are `count`
+  length-cut_each : (jobs : List Forest) (before count : ℕ) → count ≡ before + length jobs → count ≤ limit → before + length (cut_each limit count jobs) ≤ limit
+  length-cut_each [] before count e h = omega arith
+  length-cut_each (job ∷ rest) before count e h =
+      elim (is_cut limit count job) as (λ b. is_cut limit count job ≡ b → before + length (cond b (subtrees job ++ cut_each limit (count_after count job) rest) (job ∷ cut_each limit count rest)) ≤ limit) [
+        | true ↦ λ cut.
+            let within : count_after count job ≤ limit = within_if_cut limit count job cut in
+            let many : length (subtrees job ++ cut_each limit (count_after count job) rest) ≡ length (subtrees job) + length (cut_each limit (count_after count job) rest) = length-append (subtrees job) (cut_each limit (count_after count job) rest) in
+            let later : (before + length (subtrees job)) + length (cut_each limit (count_after count job) rest) ≤ limit = length-cut_each rest (before + length (subtrees job)) (count_after count job) (omega arith) within in
+            omega arith
+        | false ↦ λ cut.
+            let later : (before + 1) + length (cut_each limit count rest) ≤ limit = length-cut_each rest (before + 1) count (omega arith) h in
+            omega arith
+      ] refl
+
+  length-passes : (n : ℕ) (jobs : List Forest) → length jobs ≤ limit → length (passes limit n jobs) ≤ limit
+  length-passes zero jobs h = h
+  length-passes (suc n) jobs h =
+      length-passes n (pass limit jobs) (let few : 0 + length (cut_each limit (length jobs) jobs) ≤ limit = length-cut_each jobs 0 (length jobs) (omega arith) h in omega arith)
+
+  pub passes-pass : (jobs : List Forest) (n : ℕ) → pass limit jobs ≡ jobs → passes limit n jobs ≡ jobs
+  passes-pass jobs zero e = refl
+  passes-pass jobs (suc n) e = ap (passes limit n) e ∙ passes-pass jobs n e
+
+pub leaves-jobs_of : (tree : Forest) → tree_count tree ≡ 1 → flat_map leaves_in (jobs_of tree) ≡ leaves_in tree
+leaves-jobs_of tree one = leaves-passes 4096 64 (tree ∷ []) (single tree one, tt) ∙ append-nil (leaves_in tree)
 
 pub length-jobs_of : (tree : Forest) → length (jobs_of tree) ≤ 4096
-length-jobs_of tree = length-passes 64 (tree ∷ []) (omega arith)
-
-pub passes-pass : (jobs : List Forest) (n : ℕ) → pass jobs ≡ jobs → passes n jobs ≡ jobs
-passes-pass jobs zero e = refl
-passes-pass jobs (suc n) e = ap (passes n) e ∙ passes-pass jobs n e
+length-jobs_of tree = length-passes 4096 64 (tree ∷ []) (omega arith)

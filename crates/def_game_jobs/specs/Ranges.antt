@@ -1,9 +1,8 @@
 -- A game's jobs as ranges of its leaves, which count from 0.
-use Rattle.std.specs.Prelude.{◌≡◌, ℕ, ◌+◌, List, [], ◌∷◌, flat_map}
+use Rattle.std.specs.Prelude.{◌≡◌, ℕ, ◌+◌, ◌<◌, List, [], ◌∷◌, length, take, drop, slice_index_or, flat_map}
 use Rattle.std.specs.List.{range_with_len}
-use Rattle.def_tree.specs.declared.Node.{Node}
-use Rattle.def_tree.specs.Tree.{Forest, bare, grown, prefix, leaf_count}
-use Rattle.def_game_jobs.specs.Jobs.{leaf_counts}
+use Rattle.def_tree.specs.Tree.{Forest, prefix, leaf_count, tree_count}
+use Rattle.def_game_jobs.specs.Jobs.{jobs_of, leaf_counts, leaves_in}
 
 -- a job has some leaves in a row: the first one, and how many
 pub record LeafRange : Type 0 where
@@ -27,4 +26,10 @@ job_ranges tree = ranges_from 0 (leaf_counts tree)
 
 -- the ranges are all leaves, each once
 abbrev pub JobsPartition : Type 0
-JobsPartition = (node : Node) (below : Forest) → Partitions (job_ranges (grown node below bare)) (leaf_count (prefix (grown node below bare)))
+JobsPartition = (tree : Forest) → tree_count tree ≡ 1 → Partitions (job_ranges tree) (leaf_count (prefix tree))
+
+-- the leaves at a job's range are the job's own
+abbrev pub RangesHaveTheirJobs : Type 0
+RangesHaveTheirJobs = (tree : Forest) → tree_count tree ≡ 1 → (k : ℕ) (range : LeafRange) (job : Forest) → k < length (jobs_of tree) →
+    let at = slice_index_or (job_ranges tree) k range in
+    take at.count (drop at.first (leaves_in tree)) ≡ leaves_in (slice_index_or (jobs_of tree) k job)

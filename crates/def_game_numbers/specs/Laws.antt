@@ -8,7 +8,7 @@ use Rattle.def_file.specs.declared.FileFault.{FileFault}
 use Rattle.def_file.specs.declared.FileFault.TheVariants as faults
 use Rattle.def_file.specs.Content.{GameFile}
 use Rattle.def_game_paths.specs.Paths.{Visit, visits, leaf_visits}
-use Rattle.def_game_paths.specs.Recall.{HasPerfectRecall, IsFirstBreak, RecallFault}
+use Rattle.def_game_paths.specs.Recall.{HasPerfectRecall, IsFirstBreak, RecallBreak}
 use Rattle.def_game_scale.specs.Tables.{Tables, AreFractions}
 use Rattle.def_game_scale.specs.Scale.{all_expected, game_mass}
 use Rattle.def_game_scale.specs.Laws.{IsWeightOf}
@@ -35,7 +35,7 @@ WeighsExactly = (game : GameFile) → AreFractions (tables_of game) → IsWeighe
 
 -- it is refused exactly with the first break of recall, and accepted exactly with perfect recall
 pub record SetsAreBuilt (tree : Forest) : Type 0 where
-  pub refused : (fault : RecallFault) → (build_sets tree ≡ Err fault) ↔ ((d : Visit) → IsFirstBreak (λ k. slice_index_or (visits tree) (k - 1) d) (length (visits tree)) fault)
+  pub refused : (fault : RecallBreak) → (build_sets tree ≡ Err fault) ↔ ((d : Visit) → IsFirstBreak (λ k. slice_index_or (visits tree) (k - 1) d) (length (visits tree)) fault)
   pub accepted : (sets : GameSets) → (build_sets tree ≡ Ok sets) ↔ (HasPerfectRecall tree × (sets ≡ sets_of_tree tree))
 
 abbrev pub BuildsSetsExactly : Type 0
@@ -44,7 +44,7 @@ BuildsSetsExactly = (tree : Forest) → SetsAreBuilt tree
 -- what weighing refuses is the game's first fault; where it accepts, what building the sets refuses is; and where both accept there is none
 pub record IsRefusedWithTheFirst (game : GameFile) : Type 0 where
   pub by_weighing : (fault : FileFault) → weigh game ≡ Err fault → game_file_fault game ≡ Some fault
-  pub by_sets : (answer : GameWeights) (fault : RecallFault) → weigh game ≡ Ok answer → build_sets game.tree ≡ Err fault → game_file_fault game ≡ Some (faults.NotRecall fault.node fault.earlier)
+  pub by_sets : (answer : GameWeights) (fault : RecallBreak) → weigh game ≡ Ok answer → build_sets game.tree ≡ Err fault → game_file_fault game ≡ Some (faults.NotRecall fault.node fault.earlier)
   pub accepted : (answer : GameWeights) (sets : GameSets) → weigh game ≡ Ok answer → build_sets game.tree ≡ Ok sets → game_file_fault game ≡ None
 
 abbrev pub RefusedWithTheFirst : Type 0

@@ -13,7 +13,7 @@ use Rattle.def_file.specs.declared.FileFault.{FileFault}
 use Rattle.def_file.specs.declared.FileFault.TheVariants as faults
 use Rattle.def_file.specs.Content.{GameFile, OutcomeEntry, SetEntry}
 use Rattle.def_game_paths.specs.Paths.{visits}
-use Rattle.def_game_paths.specs.Recall.{RecallFault, recall_fault}
+use Rattle.def_game_paths.specs.Recall.{RecallBreak, recall_break}
 use Rattle.def_game_paths.specs.Sequences.{sequence_at}
 use Rattle.def_game_scale.specs.Tables.{Payoffs, Tables}
 use Rattle.def_game_scale.specs.Scale.{game_mass, game_unit, weights}
@@ -75,9 +75,9 @@ player_sets kind tree = record { sets = information_sets kind tree; sequences = 
 abbrev pub sets_of_tree : Forest → GameSets
 sets_of_tree tree = record { one = player_sets One tree; two = player_sets Two tree }
 
-abbrev pub broken_or : Option RecallFault → GameSets → Result GameSets RecallFault
+abbrev pub broken_or : Option RecallBreak → GameSets → Result GameSets RecallBreak
 broken_or None sets = Ok sets
 broken_or (Some fault) sets = Err fault
 
-abbrev pub build_sets : Forest → Result GameSets RecallFault
-build_sets tree = broken_or (recall_fault tree) (sets_of_tree tree)
+abbrev pub build_sets : Forest → Result GameSets RecallBreak
+build_sets tree = broken_or (recall_break tree) (sets_of_tree tree)

@@ -11,48 +11,46 @@ use Rattle.def_tree.specs.declared.Node.{Node}
 use Rattle.def_tree.specs.Tree.{Forest, bare, grown, prefix, tree_count, HasItsChildren, is_leaf_kind}
 use Rattle.def_tree.specs.Rules.{is_same_kind, KeepRules, IsGameTree}
 use Rattle.def_tree.proofs.Sets.{is_same_kind-true, KeepRules-push}
-use Rattle.def_game_paths.specs.Paths.{Step, Visit, visits_from, visits, Choice, own_choices}
+use Rattle.def_game_paths.specs.Paths.{Move, Visit, visits_from, visits, Choice, own_choices, GoesThrough, ParentsComeBefore}
 use Rattle.def_game_paths.specs.Recall.{is_personal, past, AgreeOnPast, HasPerfectRecall}
 use Rattle.def_game_paths.specs.Sequences.{set_firsts, set_sizes, first_sequence, sequence_number, sequence_at}
 use Rattle.def_game_paths.proofs.Visits.{map-visits_from}
 use Rattle.def_game_paths.proofs.Order.{node_of, KeepFrom, KeepFrom-append, KnowsSizes, knows_new, knows_later, both}
 
--- each node on the path was visited, with the rest of the path, and goes on by an action that it has
-abbrev pub SeenOn : List Visit → List Step → Type 0
-SeenOn before [] = Unit {0}
-SeenOn before (step ∷ rest) = (Contains before (record { path = rest; node = step.node }) × ((1 ≤ step.action) × (step.action ≤ step.node.children))) × SeenOn before rest
-
-SeenOn-append : (before more : List Visit) (path : List Step) → SeenOn before path → SeenOn (before ++ more) path
-SeenOn-append before more [] h = tt
-SeenOn-append before more (step ∷ rest) h = ((Contains-append_left before more (record { path = rest; node = step.node }) h.0.0, h.0.1), SeenOn-append before more rest h.1)
+GoesThrough-append : (before more : List Visit) (path : List Move) → GoesThrough before path → GoesThrough (before ++ more) path
+GoesThrough-append before more [] h = tt
+GoesThrough-append before more (step ∷ rest) h = ((Contains-append_left before more (record { path = rest; node = step.node }) h.0.0, h.0.1), GoesThrough-append before more rest h.1)
 
 abbrev pub EachSeen : List Visit → List Visit → Type 0
 EachSeen before [] = Unit {0}
-EachSeen before (v ∷ rest) = SeenOn before v.path × EachSeen (before ++ v ∷ []) rest
+EachSeen before (v ∷ rest) = GoesThrough before v.path × EachSeen (before ++ v ∷ []) rest
 
 EachSeen-append : (before xs ys : List Visit) → EachSeen before xs → EachSeen (before ++ xs) ys → EachSeen before (xs ++ ys)
 EachSeen-append before [] ys h k = subst (λ vs. EachSeen vs ys) (append-nil before) k
 EachSeen-append before (x ∷ xs) ys h k = (h.0, EachSeen-append (before ++ x ∷ []) xs ys h.1 (subst (λ vs. EachSeen vs ys) (sym (append_assoc before (x ∷ []) xs)) k))
 
-visits_seen : (above : ℕ → List Step) (action : ℕ) (trees : Forest) (before : List Visit) → HasItsChildren trees → ((a : ℕ) → action ≤ a → a < action + tree_count trees → SeenOn before (above a)) → EachSeen before (visits_from above action trees)
+visits_seen : (above : ℕ → List Move) (action : ℕ) (trees : Forest) (before : List Visit) → HasItsChildren trees → ((a : ℕ) → action ≤ a → a < action + tree_count trees → GoesThrough before (above a)) → EachSeen before (visits_from above action trees)
 visits_seen above action bare before has paths = tt
 visits_seen above action (grown node below beside) before has paths =
-    let here : SeenOn before (above action) = paths action (omega arith) (omega arith) in
+    let here : GoesThrough before (above action) = paths action (omega arith) (omega arith) in
     let count : tree_count below ≡ node.children = has.0 in
     let this : Visit = record { path = above action; node = node } in
     let seen : List Visit = before ++ this ∷ [] in
-    let down : ℕ → List Step = λ next. record { node = node; action = next } ∷ above action in (
+    let down : ℕ → List Move = λ next. record { node = node; action = next } ∷ above action in (
       here,
       EachSeen-append seen (visits_from down 1 below) (visits_from above (action + 1) beside)
-          (visits_seen down 1 below seen has.1 (λ a low high. ((Contains-push before this, (low, omega arith)), SeenOn-append before (this ∷ []) (above action) here)))
+          (visits_seen down 1 below seen has.1 (λ a low high. ((Contains-push before this, (low, omega arith)), GoesThrough-append before (this ∷ []) (above action) here)))
           (visits_seen above (action + 1) beside (seen ++ visits_from down 1 below) has.2
-          (λ a low high. SeenOn-append seen (visits_from down 1 below) (above a) (SeenOn-append before (this ∷ []) (above a) (paths a (omega arith) (omega arith))))),
+          (λ a low high. GoesThrough-append seen (visits_from down 1 below) (above a) (GoesThrough-append before (this ∷ []) (above a) (paths a (omega arith) (omega arith))))),
     )
 
-seen_at : (before xs : List Visit) (n : ℕ) (d : Visit) → EachSeen before xs → n < length xs → SeenOn (before ++ take n xs) (get_or xs n d).path
+seen_at : (before xs : List Visit) (n : ℕ) (d : Visit) → EachSeen before xs → n < length xs → GoesThrough (before ++ take n xs) (get_or xs n d).path
 seen_at before [] n d h there = absurd (omega arith)
-seen_at before (x ∷ xs) zero d h there = SeenOn-append before [] x.path h.0
-seen_at before (x ∷ xs) (suc n) d h there = subst (λ vs. SeenOn vs (get_or xs n d).path) (append_assoc before (x ∷ []) (take n xs)) (seen_at (before ++ x ∷ []) xs n d h.1 (omega arith))
+seen_at before (x ∷ xs) zero d h there = GoesThrough-append before [] x.path h.0
+seen_at before (x ∷ xs) (suc n) d h there = subst (λ vs. GoesThrough vs (get_or xs n d).path) (append_assoc before (x ∷ []) (take n xs)) (seen_at (before ++ x ∷ []) xs n d h.1 (omega arith))
+
+pub parents_come_before : ParentsComeBefore
+parents_come_before tree is k d there = seen_at [] (visits tree) k d (visits_seen (λ _. []) 1 tree [] is.children (λ a low high. tt)) there
 
 -- the last own choice on a path was made at a node of that set, and the choices before it are that node's past
 pub record LastChoice (kind : Kind) (before : List Visit) (own : List Choice) (at : Visit) (action : ℕ) : Type 0 where
@@ -62,7 +60,7 @@ pub record LastChoice (kind : Kind) (before : List Visit) (own : List Choice) (a
   pub limit : action ≤ at.node.children
   pub made : own ≡ record { set = at.node.set; action = action } ∷ past at
 
-pub last_choice : (kind : Kind) (before : List Visit) (path : List Step) → SeenOn before path → (own_choices kind path ≡ []) ⊎ ((at : Visit) × ((action : ℕ) × LastChoice kind before (own_choices kind path) at action))
+pub last_choice : (kind : Kind) (before : List Visit) (path : List Move) → GoesThrough before path → (own_choices kind path ≡ []) ⊎ ((at : Visit) × ((action : ℕ) × LastChoice kind before (own_choices kind path) at action))
 last_choice kind before [] h = inl refl
 last_choice kind before (step ∷ rest) h =
     elim (is_same_kind kind step.node.kind) as (λ b. is_same_kind kind step.node.kind ≡ b →
@@ -76,7 +74,7 @@ last_choice kind before (step ∷ rest) h =
     ] refl
 
 -- once all nodes are visited, the sizes of all sets are known
-knows_all : (kind : Kind) (vs : List Visit) (before : List Node) (done : List ℕ) (seen : ℕ) → is_leaf_kind kind ≡ false → seen ≡ length done → KeepRules before → KeepFrom before (map node_of vs) → KnowsSizes kind before done →
+pub knows_all : (kind : Kind) (vs : List Visit) (before : List Node) (done : List ℕ) (seen : ℕ) → is_leaf_kind kind ≡ false → seen ≡ length done → KeepRules before → KeepFrom before (map node_of vs) → KnowsSizes kind before done →
     KnowsSizes kind (before ++ map node_of vs) (done ++ map (λ (v : Visit). v.node.children) (set_firsts kind seen vs))
 knows_all kind [] before done seen inner many keep fits knows =
     subst (λ ns. KnowsSizes kind ns (done ++ [])) (sym (append-nil before)) (subst (KnowsSizes kind before) (sym (append-nil done)) knows)
@@ -144,7 +142,8 @@ same_choice sizes s a t b x y same = elim (cases_lt s t) [
   ]
 ]
 
-Contains-map : (xs : List Visit) (x : Visit) → Contains xs x → Contains (map node_of xs) x.node
+-- a node that was visited is a node of the tree
+pub Contains-map : (xs : List Visit) (x : Visit) → Contains xs x → Contains (map node_of xs) x.node
 Contains-map xs x there =
     let h : there.0 < length xs = there.1 in
     (there.0, omega (arith, length-map xs node_of), get_or-map node_of xs there.0 x x.node h ∙ ap node_of there.2)
@@ -186,10 +185,15 @@ inner_by One e = refl
 inner_by Two e = refl
 inner_by Leaf e = cc
 
+-- a node that was visited is in a set that is known, with its size
+pub size_held : (tree : Forest) (kind : Kind) → IsGameTree tree → is_leaf_kind kind ≡ false → (i : ℕ) (at : Visit) → Contains (take i (visits tree)) at → at.node.kind ≡ kind →
+    (1 ≤ at.node.set) × (at.node.set ≤ length (set_sizes kind tree)) × (get_or (set_sizes kind tree) (at.node.set - 1) 0 ≡ at.node.children)
+size_held tree kind game inner i at there is =
+    let found = place_in (visits tree) i at there in (sizes_known tree kind game inner).each at.node (Contains-map (visits tree) at (found.0, found.1.there, found.1.is)) is
+
 choice_known : (tree : Forest) (kind : Kind) → IsGameTree tree → is_leaf_kind kind ≡ false → (i : ℕ) (own : List Choice) (at : Visit) (action : ℕ) → LastChoice kind (take i (visits tree)) own at action → AreChoices (set_sizes kind tree) at.node.set action
 choice_known tree kind game inner i own at action last =
-    let found = place_in (visits tree) i at last.there in
-    let held = (sizes_known tree kind game inner).each at.node (Contains-map (visits tree) at (found.0, found.1.there, found.1.is)) last.kinds in
+    let held = size_held tree kind game inner i at last.there last.kinds in
     let size : get_or (set_sizes kind tree) (at.node.set - 1) 0 ≡ at.node.children = held.2 in
     let limit : action ≤ at.node.children = last.limit in
     record { counts = held.0; known = held.1; some = last.some; limit = omega arith }

@@ -1,4 +1,9 @@
 pub mod Visits
-pub mod Faults
+pub mod Ways
+pub mod Breaks
 pub mod Order
 pub mod Ancestors
+pub mod Choices
+pub mod Counts
+pub mod Firsts
+pub mod Numbers

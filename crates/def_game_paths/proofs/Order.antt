@@ -13,7 +13,7 @@ use Rattle.def_tree.specs.declared.Node.{Node}
 use Rattle.def_tree.specs.Tree.{Forest, bare, grown, prefix, tree_count, HasItsChildren, is_leaf_kind}
 use Rattle.def_tree.specs.Rules.{is_same_kind, set_count, AgreeOnSize, JoinsSet, Fits, FitsAs, KeepRules, IsGameTree}
 use Rattle.def_tree.proofs.Sets.{is_same_kind-true, is_same_kind_self, set_count-push_same, set_count-push_other, KeepRules-push, each_set_appears}
-use Rattle.def_game_paths.specs.Paths.{Step, Visit, visits_from, visits, own_choices}
+use Rattle.def_game_paths.specs.Paths.{Move, Visit, visits_from, visits, own_choices}
 use Rattle.def_game_paths.specs.Sequences.{set_firsts, set_sizes, first_sequence, sequence_number, sequence_at, sequences_before}
 use Rattle.def_game_paths.proofs.Visits.{map-visits_from}
 
@@ -21,14 +21,14 @@ abbrev pub node_of : Visit → Node
 node_of visit = visit.node
 
 -- the path goes through these nodes, by actions that they have
-abbrev StepIn : List Node → Step → Type 0
+abbrev StepIn : List Node → Move → Type 0
 StepIn before step = Contains before step.node × ((1 ≤ step.action) × (step.action ≤ step.node.children))
 
-abbrev PathIn : List Node → List Step → Type 0
+abbrev PathIn : List Node → List Move → Type 0
 PathIn before [] = Unit {0}
 PathIn before (step ∷ rest) = StepIn before step × PathIn before rest
 
-PathIn-append : (before more : List Node) (path : List Step) → PathIn before path → PathIn (before ++ more) path
+PathIn-append : (before more : List Node) (path : List Move) → PathIn before path → PathIn (before ++ more) path
 PathIn-append before more [] h = tt
 PathIn-append before more (step ∷ rest) h = ((Contains-append_left before more step.node h.0.0, h.0.1), PathIn-append before more rest h.1)
 
@@ -42,13 +42,13 @@ PathsIn-append before [] ys h k = subst (λ ns. PathsIn ns ys) (append-nil befor
 PathsIn-append before (x ∷ xs) ys h k =
     (h.0, PathsIn-append (before ++ x.node ∷ []) xs ys h.1 (subst (λ ns. PathsIn ns ys) (sym (append_assoc before (x.node ∷ []) (map node_of xs))) k))
 
-visits_in : (above : ℕ → List Step) (action : ℕ) (trees : Forest) (before : List Node) → HasItsChildren trees → ((a : ℕ) → action ≤ a → a < action + tree_count trees → PathIn before (above a)) → PathsIn before (visits_from above action trees)
+visits_in : (above : ℕ → List Move) (action : ℕ) (trees : Forest) (before : List Node) → HasItsChildren trees → ((a : ℕ) → action ≤ a → a < action + tree_count trees → PathIn before (above a)) → PathsIn before (visits_from above action trees)
 visits_in above action bare before has paths = tt
 visits_in above action (grown node below beside) before has paths =
     let here : PathIn before (above action) = paths action (omega arith) (omega arith) in
     let count : tree_count below ≡ node.children = has.0 in
     let seen : List Node = before ++ node ∷ [] in
-    let down : ℕ → List Step = λ next. record { node = node; action = next } ∷ above action in (
+    let down : ℕ → List Move = λ next. record { node = node; action = next } ∷ above action in (
       here,
       PathsIn-append seen (visits_from down 1 below) (visits_from above (action + 1) beside)
           (visits_in down 1 below seen has.1 (λ a low high. ((Contains-push before node, (low, omega arith)), PathIn-append before (node ∷ []) (above action) here)))
@@ -71,7 +71,7 @@ KeepFrom-append before (x ∷ xs) keep =
       KeepFrom-append (before ++ x ∷ []) xs (subst KeepRules (sym (append_assoc before (x ∷ []) xs)) keep),
     )
 
-joins_of : (kind : Kind) (before : List Node) (node : Node) → is_leaf_kind kind ≡ false → node.kind ≡ kind → FitsAs kind before node → JoinsSet before node
+pub joins_of : (kind : Kind) (before : List Node) (node : Node) → is_leaf_kind kind ≡ false → node.kind ≡ kind → FitsAs kind before node → JoinsSet before node
 joins_of Chance before node inner is fits = fits
 joins_of One before node inner is fits = fits
 joins_of Two before node inner is fits = fits
@@ -128,7 +128,7 @@ knows_new kind before done node is next knows =
     }
 
 -- the sequence of a path through these nodes has a smaller number than the first of the next set
-number_below : (kind : Kind) (before : List Node) (done later : List ℕ) (path : List Step) → KnowsSizes kind before done → PathIn before path →
+number_below : (kind : Kind) (before : List Node) (done later : List ℕ) (path : List Move) → KnowsSizes kind before done → PathIn before path →
     sequence_number (done ++ later) (own_choices kind path) < 1 + sum (take (length done) (done ++ later))
 number_below kind before done later [] knows paths = omega arith
 number_below kind before done later (step ∷ rest) knows paths =
@@ -148,7 +148,7 @@ number_below kind before done later (step ∷ rest) knows paths =
       | false ↦ λ other. number_below kind before done later rest knows paths.1
     ] refl
 
-nat_cases : (P : ℕ → Type 0) → P zero → ((i : ℕ) → P (suc i)) → (i : ℕ) → P i
+pub nat_cases : (P : ℕ → Type 0) → P zero → ((i : ℕ) → P (suc i)) → (i : ℕ) → P i
 nat_cases P first later zero = first
 nat_cases P first later (suc i) = later i
 

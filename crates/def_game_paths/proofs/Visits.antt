@@ -2,9 +2,9 @@
 use Rattle.std.proofs.Common.{◌≡◌, ℕ, ◌+◌, List, ◌∷◌, ◌++◌, map, refl, ap, ◌∙◌}
 use Rattle.std.proofs.lemmas.List.{map-append}
 use Rattle.def_tree.specs.Tree.{Forest, bare, grown, prefix}
-use Rattle.def_game_paths.specs.Paths.{Step, Visit, visits_from}
+use Rattle.def_game_paths.specs.Paths.{Move, Visit, visits_from}
 
-pub map-visits_from : (above : ℕ → List Step) (action : ℕ) (trees : Forest) → map (λ visit. visit.node) (visits_from above action trees) ≡ prefix trees
+pub map-visits_from : (above : ℕ → List Move) (action : ℕ) (trees : Forest) → map (λ visit. visit.node) (visits_from above action trees) ≡ prefix trees
 map-visits_from above action bare = refl
 map-visits_from above action (grown node below beside) =
     ap (λ rest. node ∷ rest)

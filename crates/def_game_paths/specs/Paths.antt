@@ -1,24 +1,24 @@
 -- The paths from a game's root to its nodes, and each player's own choices on them (von Stengel 1996).
---     Step, Visit, visits t         a step of a path; a node with its path; the nodes in prefix order, each with its path
+--     Move, Visit, visits t         a move on a path; a node with its path; the nodes in prefix order, each with its path
 --     Choice, own_choices kind p    an action at a set; a player's own choices on a path
-use Rattle.std.specs.Prelude.{◌≡◌, ℕ, ◌+◌, if◌then◌else◌, List, [], ◌∷◌, ◌++◌, map, filter}
+use Rattle.std.specs.Prelude.{◌≡◌, ℕ, ◌+◌, ◌-◌, ◌<◌, ◌≤◌, if◌then◌else◌, List, [], ◌∷◌, ◌++◌, length, map, filter, take, slice_index_or, All, Contains}
 use Rattle.def_tree.specs.declared.Kind.{Kind}
 use Rattle.def_tree.specs.declared.Node.{Node}
-use Rattle.def_tree.specs.Tree.{Forest, bare, grown, prefix, is_leaf_kind}
+use Rattle.def_tree.specs.Tree.{Forest, bare, grown, prefix, is_leaf_kind, tree_count, drop_trees, IsTree}
 use Rattle.def_tree.specs.Rules.{is_same_kind}
 
 -- a path goes on from this node by this action, which counts from 1
-pub record Step : Type 0 where
+pub record Move : Type 0 where
   pub node : Node
   pub action : ℕ
 
--- a node with the path that leads to it, its last step first
+-- a node with the path that leads to it, its last move first
 pub record Visit : Type 0 where
-  pub path : List Step
+  pub path : List Move
   pub node : Node
 
 -- the nodes of the trees at the actions from one on, in prefix order; `above action` is the path to the tree at the action
-abbrev pub visits_from : (ℕ → List Step) → ℕ → Forest → List Visit
+abbrev pub visits_from : (ℕ → List Move) → ℕ → Forest → List Visit
 visits_from above action bare = []
 visits_from above action (grown node below beside) =
     record { path = above action; node = node }
@@ -37,11 +37,42 @@ pub record Choice : Type 0 where
   pub action : ℕ
 
 -- the choices on a path that are made at nodes of this kind, the last one first
-abbrev pub own_choices : Kind → List Step → List Choice
+abbrev pub own_choices : Kind → List Move → List Choice
 own_choices kind [] = []
-own_choices kind (step ∷ rest) =
-    if is_same_kind kind step.node.kind then record { set = step.node.set; action = step.action } ∷ own_choices kind rest else own_choices kind rest
+own_choices kind (move ∷ rest) =
+    if is_same_kind kind move.node.kind then record { set = move.node.set; action = move.action } ∷ own_choices kind rest else own_choices kind rest
 
 -- the nodes that are visited are those of the tree
 abbrev pub VisitsArePrefix : Type 0
 VisitsArePrefix = (tree : Forest) → map (λ visit. visit.node) (visits tree) ≡ prefix tree
+
+-- from the root of a tree the path leads to the first of these trees: its last move goes on from a node by one of the node's actions, and leads to the child at that action
+abbrev pub LeadsTo : Forest → List Move → Forest → Type 0
+LeadsTo tree [] there = there ≡ tree
+LeadsTo tree (move ∷ rest) there =
+    (below : Forest) × (beside : Forest) × LeadsTo tree rest (grown move.node below beside) × (1 ≤ move.action) × (move.action ≤ tree_count below) × (there ≡ drop_trees (move.action - 1) below)
+
+abbrev pub LeadsToNode : Forest → Visit → Type 0
+LeadsToNode tree v = (below : Forest) × (beside : Forest) × LeadsTo tree v.path (grown v.node below beside)
+
+-- each visit's path leads from the root to its node
+abbrev pub PathsLeadToNodes : Type 0
+PathsLeadToNodes = (tree : Forest) → tree_count tree ≡ 1 → All (LeadsToNode tree) (visits tree)
+
+-- the path goes on from a node that these visits have, with the rest as its path, by one of the node's actions; and so does the rest
+abbrev pub GoesThrough : List Visit → List Move → Type 0
+GoesThrough before [] = Unit {0}
+GoesThrough before (move ∷ rest) = (Contains before (record { path = rest; node = move.node }) × ((1 ≤ move.action) × (move.action ≤ move.node.children))) × GoesThrough before rest
+
+-- the path of a node is that of its parent with one move more, and the parent is visited before it
+abbrev pub ParentsComeBefore : Type 0
+ParentsComeBefore = (tree : Forest) → IsTree tree → (k : ℕ) (d : Visit) → k < length (visits tree) → GoesThrough (take k (visits tree)) (slice_index_or (visits tree) k d).path
+
+-- how far below the root each node is, in prefix order, where the first of these trees is so far below it
+abbrev pub depths_from : ℕ → Forest → List ℕ
+depths_from depth bare = []
+depths_from depth (grown node below beside) = depth ∷ (depths_from (depth + 1) below ++ depths_from depth beside)
+
+-- a path has as many moves as its node is below the root
+abbrev pub PathsAreDepths : Type 0
+PathsAreDepths = (tree : Forest) → map (λ v. length v.path) (visits tree) ≡ depths_from 0 tree

@@ -1,6 +1,7 @@
 -- Perfect recall: at each node of a set its player has made the same own choices (von Stengel 1996).
 --     HasPerfectRecall t       the fact, on all pairs of nodes of one set
---     recall_fault t           the first node at which it fails, and the first node of its set
+--     recall_break t           the first node at which it fails, and the first node of its set
+--     first_break differs      the same by any test of two nodes
 use Rattle.std.specs.Prelude.{◌≡◌, ◌≢◌, ◌↔◌, ℕ, ◌+◌, ◌-◌, ◌<◌, ◌≤◌, Bool, true, false, ◌&&◌, nat_eq, not, if◌then◌else◌, List, [], ◌∷◌, length, slice_index_or, AllPairs, Option, Some, None}
 use Rattle.def_tree.specs.declared.Kind.{Kind}
 use Rattle.def_tree.specs.declared.Kind.TheVariants.{Chance, One, Two, Leaf}
@@ -46,44 +47,48 @@ abbrev pub first_of_set : ℕ → Node → List Visit → Option Numbered
 first_of_set k node [] = None
 first_of_set k node (v ∷ rest) = if is_same_set v.node node then Some (record { number = k; visit = v }) else first_of_set (k + 1) node rest
 
-pub record RecallFault : Type 0 where
+-- a node at which recall fails, and the first node of its set
+pub record RecallBreak : Type 0 where
   pub node : ℕ
   pub earlier : ℕ
 
--- the node has another past than its set's first node
-abbrev pub fault_against : ℕ → Visit → Option Numbered → Option RecallFault
-fault_against k v None = None
-fault_against k v (Some first) =
-    if is_personal v.node.kind && not (is_same_choices (past first.visit) (past v)) then Some (record { node = k; earlier = first.number }) else None
+-- the first node of its set differs from a player's node, by this test of the two
+abbrev pub break_against : (Visit → Visit → Bool) → ℕ → Visit → Option Numbered → Option RecallBreak
+break_against differs k v None = None
+break_against differs k v (Some first) = if is_personal v.node.kind && differs first.visit v then Some (record { node = k; earlier = first.number }) else None
 
-abbrev pub fault_or : Option RecallFault → Option RecallFault → Option RecallFault
-fault_or None later = later
-fault_or (Some fault) later = Some fault
+abbrev pub break_or : Option RecallBreak → Option RecallBreak → Option RecallBreak
+break_or None later = later
+break_or (Some broken) later = Some broken
 
-abbrev pub first_fault : List Visit → ℕ → List Visit → Option RecallFault
-first_fault all k [] = None
-first_fault all k (v ∷ rest) = fault_or (fault_against k v (first_of_set 1 v.node all)) (first_fault all (k + 1) rest)
+abbrev pub first_break : (Visit → Visit → Bool) → List Visit → ℕ → List Visit → Option RecallBreak
+first_break differs all k [] = None
+first_break differs all k (v ∷ rest) = break_or (break_against differs k v (first_of_set 1 v.node all)) (first_break differs all (k + 1) rest)
 
-abbrev pub recall_fault : Forest → Option RecallFault
-recall_fault tree = first_fault (visits tree) 1 (visits tree)
+-- the players of the two nodes made other choices before them
+abbrev pub differ_in_past : Visit → Visit → Bool
+differ_in_past first v = not (is_same_choices (past first) (past v))
 
--- exactly a tree with perfect recall has no fault
-abbrev pub NoFaultIffRecall : Type 0
-NoFaultIffRecall = (tree : Forest) → (recall_fault tree ≡ None) ↔ HasPerfectRecall tree
+abbrev pub recall_break : Forest → Option RecallBreak
+recall_break tree = first_break differ_in_past (visits tree) 1 (visits tree)
 
--- at node number `fault.node` the player's past isn't that of the set's first node, which is `fault.earlier`; `at` reads a node by its number
-pub record BreaksRecall (at : ℕ → Visit) (count : ℕ) (fault : RecallFault) : Type 0 where
-  pub in_range : (1 ≤ fault.earlier) × (fault.earlier < fault.node) × (fault.node ≤ count)
-  pub personal : is_personal (at fault.node).node.kind ≡ true
-  pub set : is_same_set (at fault.earlier).node (at fault.node).node ≡ true
-  pub first : (k : ℕ) → 1 ≤ k → k < fault.earlier → is_same_set (at k).node (at fault.node).node ≡ false
-  pub differs : past (at fault.earlier) ≢ past (at fault.node)
+-- exactly a tree with perfect recall has no break
+abbrev pub NoBreakIffRecall : Type 0
+NoBreakIffRecall = (tree : Forest) → (recall_break tree ≡ None) ↔ HasPerfectRecall tree
 
--- a fault is one, and no node before it has one
-pub record IsFirstBreak (at : ℕ → Visit) (count : ℕ) (fault : RecallFault) : Type 0 where
-  pub breaks : BreaksRecall at count fault
-  pub first : (other : RecallFault) → BreaksRecall at count other → fault.node ≤ other.node
+-- at node number `broken.node` the player's past isn't that of the set's first node, which is `broken.earlier`; `at` reads a node by its number
+pub record BreaksRecall (at : ℕ → Visit) (count : ℕ) (broken : RecallBreak) : Type 0 where
+  pub in_range : (1 ≤ broken.earlier) × (broken.earlier < broken.node) × (broken.node ≤ count)
+  pub personal : is_personal (at broken.node).node.kind ≡ true
+  pub set : is_same_set (at broken.earlier).node (at broken.node).node ≡ true
+  pub first : (k : ℕ) → 1 ≤ k → k < broken.earlier → is_same_set (at k).node (at broken.node).node ≡ false
+  pub differs : past (at broken.earlier) ≢ past (at broken.node)
 
-abbrev pub FaultIsFirst : Type 0
-FaultIsFirst = (tree : Forest) (d : Visit) (fault : RecallFault) → recall_fault tree ≡ Some fault →
-    IsFirstBreak (λ k. slice_index_or (visits tree) (k - 1) d) (length (visits tree)) fault
+-- a break is one, and no node before it has one
+pub record IsFirstBreak (at : ℕ → Visit) (count : ℕ) (broken : RecallBreak) : Type 0 where
+  pub breaks : BreaksRecall at count broken
+  pub first : (other : RecallBreak) → BreaksRecall at count other → broken.node ≤ other.node
+
+abbrev pub BreakIsFirst : Type 0
+BreakIsFirst = (tree : Forest) (d : Visit) (broken : RecallBreak) → recall_break tree ≡ Some broken →
+    IsFirstBreak (λ k. slice_index_or (visits tree) (k - 1) d) (length (visits tree)) broken

@@ -5,8 +5,8 @@ use Rattle.def_tree.specs.declared.Kind.TheVariants.{One, Two, Leaf}
 use Rattle.def_tree.specs.declared.Node.{Node}
 use Rattle.def_tree.specs.Tree.{Forest, forest_of}
 use Rattle.def_game_paths.specs.Paths.{leaf_visits}
-use Rattle.def_game_paths.specs.Recall.{recall_fault}
-use Rattle.def_game_paths.specs.Sequences.{sequence_at, sequence_count, sequences_before, set_sizes}
+use Rattle.def_game_paths.specs.Recall.{recall_break}
+use Rattle.def_game_paths.specs.Sequences.{choice_of, number_break, sequence_at, sequences_before, set_sizes}
 
 abbrev pub inner : Kind → ℕ → ℕ → Node
 inner kind set children = record { kind = kind; set = set; outcome = 0; children = children }
@@ -26,15 +26,18 @@ abbrev pub matching_pennies : Forest
 matching_pennies = forest_of (inner One 1 2 ∷ inner Two 1 2 ∷ leaf 1 ∷ leaf 2 ∷ inner Two 1 2 ∷ leaf 2 ∷ leaf 1 ∷ [])
 
 pub record RecallRows : Type 0 where
-  pub absent : recall_fault absent_driver ≡ Some (record { node = 3; earlier = 1 })
-  pub partner : recall_fault absent_partner ≡ Some (record { node = 6; earlier = 2 })
-  pub pennies : recall_fault matching_pennies ≡ None
+  pub absent : recall_break absent_driver ≡ Some (record { node = 3; earlier = 1 })
+  pub partner : recall_break absent_partner ≡ Some (record { node = 6; earlier = 2 })
+  pub pennies : recall_break matching_pennies ≡ None
+  pub absent_number : number_break absent_driver ≡ Some (record { node = 3; earlier = 1 })
+  pub partner_number : number_break absent_partner ≡ Some (record { node = 6; earlier = 2 })
+  pub pennies_number : number_break matching_pennies ≡ None
 
 -- in matching pennies each player has one set of two actions, and the leaves have these sequences
 pub record SequenceRows : Type 0 where
   pub sizes_one : set_sizes One matching_pennies ≡ 2 ∷ []
   pub sizes_two : set_sizes Two matching_pennies ≡ 2 ∷ []
   pub before_two : sequences_before Two matching_pennies ≡ 0 ∷ []
-  pub count_one : sequence_count One matching_pennies ≡ 3
+  pub last_choices : map (choice_of (set_sizes One matching_pennies)) (0 ∷ 1 ∷ 2 ∷ 3 ∷ []) ≡ None ∷ Some (record { set = 1; action = 1 }) ∷ Some (record { set = 1; action = 2 }) ∷ None ∷ []
   pub leaves_one : map (sequence_at One matching_pennies) (leaf_visits matching_pennies) ≡ 1 ∷ 1 ∷ 2 ∷ 2 ∷ []
   pub leaves_two : map (sequence_at Two matching_pennies) (leaf_visits matching_pennies) ≡ 1 ∷ 2 ∷ 1 ∷ 2 ∷ []

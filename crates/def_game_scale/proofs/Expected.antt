@@ -9,7 +9,7 @@ use Rattle.def_tree.specs.Tree.{Forest}
 use Rattle.def_tree.specs.Rules.{is_same_kind}
 use Rattle.def_fraction.specs.Fraction.{Fraction, IsInLowestTerms, product_of, sum_of}
 use Rattle.def_fraction.proofs.FractionLemmas.{fraction_of-reduced}
-use Rattle.def_game_paths.specs.Paths.{Step, Visit, leaf_visits}
+use Rattle.def_game_paths.specs.Paths.{Move, Visit, leaf_visits}
 use Rattle.def_game_scale.specs.Tables.{Payoffs, Tables, AreFractions, nothing, probability, payoffs_of, reach, path_payoff, payoff_one}
 use Rattle.def_game_scale.specs.Scale.{expected, all_expected}
 
@@ -44,7 +44,7 @@ payoff-fraction tables zero h = omega arith
 payoff-fraction tables (suc outcome) h =
     at-or (λ (payoffs : Payoffs). IsFraction payoffs.one) tables.outcomes outcome (record { one = nothing; two = nothing }) (λ k d there. (h.outcomes k d there).0.positive) (omega arith)
 
-reach-fraction : (tables : Tables) (path : List Step) → AreFractions tables → IsFraction (reach tables path)
+reach-fraction : (tables : Tables) (path : List Move) → AreFractions tables → IsFraction (reach tables path)
 reach-fraction tables [] h = omega arith
 reach-fraction tables (step ∷ rest) h =
     elim (is_same_kind Chance step.node.kind) as (λ b. IsFraction (cond b (product_of (reach tables rest) (probability tables step.node.set step.action)) (reach tables rest))) [
@@ -52,7 +52,7 @@ reach-fraction tables (step ∷ rest) h =
       | false ↦ reach-fraction tables rest h
     ]
 
-path-fraction : (tables : Tables) (path : List Step) → AreFractions tables → IsFraction (path_payoff (λ payoffs. payoffs.one) tables path)
+path-fraction : (tables : Tables) (path : List Move) → AreFractions tables → IsFraction (path_payoff (λ payoffs. payoffs.one) tables path)
 path-fraction tables [] h = omega arith
 path-fraction tables (step ∷ rest) h =
     (lowest-sum (path_payoff (λ payoffs. payoffs.one) tables rest) (payoffs_of tables step.node.outcome).one (path-fraction tables rest h) (payoff-fraction tables step.node.outcome h)).positive

@@ -4,7 +4,7 @@ use Rattle.def_tree.specs.declared.Kind.TheVariants.{Chance}
 use Rattle.def_tree.specs.Tree.{Forest}
 use Rattle.def_tree.specs.Rules.{is_same_kind}
 use Rattle.def_fraction.specs.Fraction.{Fraction, IsInLowestTerms, product_of, sum_of, whole_number}
-use Rattle.def_game_paths.specs.Paths.{Step, Visit, leaf_visits}
+use Rattle.def_game_paths.specs.Paths.{Move, Visit, leaf_visits}
 
 -- what both players get
 pub record Payoffs : Type 0 where
@@ -36,13 +36,13 @@ payoffs_of tables zero = record { one = nothing; two = nothing }
 payoffs_of tables (suc outcome) = slice_index_or tables.outcomes outcome (record { one = nothing; two = nothing })
 
 -- the product of the chance probabilities on a path
-abbrev pub reach : Tables → List Step → Fraction
+abbrev pub reach : Tables → List Move → Fraction
 reach tables [] = certain
 reach tables (step ∷ rest) =
     if is_same_kind Chance step.node.kind then product_of (reach tables rest) (probability tables step.node.set step.action) else reach tables rest
 
 -- what a player is paid: the sum over the outcomes on the path, the node's own included
-abbrev pub path_payoff : (Payoffs → Fraction) → Tables → List Step → Fraction
+abbrev pub path_payoff : (Payoffs → Fraction) → Tables → List Move → Fraction
 path_payoff of tables [] = nothing
 path_payoff of tables (step ∷ rest) = sum_of (path_payoff of tables rest) (of (payoffs_of tables step.node.outcome))
 

@@ -2,4 +2,5 @@ pub mod Forests
 pub mod Lists
 pub mod Sets
 pub mod Walks
+pub mod Nesting
 pub mod Outcomes

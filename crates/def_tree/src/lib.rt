@@ -1,7 +1,7 @@
-#![tactic(auto)]
 //! The players and the nested tree of an extensive game, in definitions alone, and the plain data that its nodes hold.
+#![tactic(auto)]
 
-ghost use Rattle.def_tree.specs.Events.{EntersInPrefixOrder};
+ghost use Rattle.def_tree.specs.Events.{EntersInPrefixOrder, LeavesAfterLastChild, LeavesEachOnce};
 ghost use Rattle.def_tree.specs.Outcomes.{EachOutcomeAppears};
 ghost use Rattle.def_tree.specs.Rules.{EachSetAppears, SetsAgreeOnSize};
 ghost use Rattle.def_tree.specs.Tree.{ForestOfPrefix, PrefixOfForest, WholeIffTree};
@@ -66,4 +66,14 @@ pub fn each_outcome_appears()
 /// A walk enters each node once, in prefix order.
 pub fn enters_in_prefix_order()
     ensures { EntersInPrefixOrder }
+{}
+
+/// A walk leaves each node once.
+pub fn leaves_each_once()
+    ensures { LeavesEachOnce }
+{}
+
+/// A walk leaves a node after its last child, with all that is below it, and before it enters any other node.
+pub fn leaves_after_last_child()
+    ensures { LeavesAfterLastChild }
 {}

@@ -1,0 +1,5 @@
+use Rattle.def_game_paths.proofs.Ways.{paths_lead_to_nodes as proved}
+use Rattle.def_game_paths.proofs.paths_lead_to_nodes.Goals as goal
+
+pub returns : goal.returns
+returns c = proved
