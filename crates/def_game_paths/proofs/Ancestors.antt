@@ -179,7 +179,7 @@ same_past all n i j p q v w recall hi hj at_v at_w personal kinds sets =
       ]
     ]
 
-inner_by : (kind : Kind) → is_personal kind ≡ true → is_leaf_kind kind ≡ false
+pub inner_by : (kind : Kind) → is_personal kind ≡ true → is_leaf_kind kind ≡ false
 inner_by Chance e = refl
 inner_by One e = refl
 inner_by Two e = refl

@@ -159,7 +159,7 @@ break_some k v first broken e =
           cc no,
     )
 
-first_of_set_same : (k : ℕ) (x y : Node) (vs : List Visit) → x.kind ≡ y.kind → x.set ≡ y.set → first_of_set k x vs ≡ first_of_set k y vs
+pub first_of_set_same : (k : ℕ) (x y : Node) (vs : List Visit) → x.kind ≡ y.kind → x.set ≡ y.set → first_of_set k x vs ≡ first_of_set k y vs
 first_of_set_same k x y [] kinds sets = refl
 first_of_set_same k x y (v ∷ rest) kinds sets =
     λ i. cond (is_same_kind v.node.kind (kinds i) && nat_eq v.node.set (sets i)) (Some (record { number = k; visit = v })) (first_of_set_same (k + 1) x y rest kinds sets i)

@@ -88,6 +88,16 @@ same_test xs ys m n there back =
     apart : true ≡ false → ⊥
     apart e = cc e
 
+-- the first node of a node's set comes no later than any node of the set
+pub not_behind : (all : List Visit) (node : Node) (d : Visit) (first : Numbered) (found : HasFirst 1 node all d (Some first)) (j : ℕ) → is_same_set (get_or all j d).node node ≡ true → found.0 ≤ j
+not_behind all node d first found j same = elim (cases_lt j found.0) [
+  | inl before ↦ absurd (apart (sym same ∙ found.1.before j before))
+  | inr after ↦ after
+]
+  where
+    apart : true ≡ false → ⊥
+    apart e = cc e
+
 module _ (tree : Forest) (game : IsGameTree tree) where
   -- where recall holds for the nodes before, the two tests of a node against an earlier one agree
   tests_agree : (i p : ℕ) (d : Visit) → p ≤ i → i < length (visits tree) → RecallsUpTo (visits tree) i → (get_or (visits tree) p d).node.kind ≡ (get_or (visits tree) i d).node.kind →
@@ -100,16 +110,6 @@ module _ (tree : Forest) (game : IsGameTree tree) where
       ap not (same_test (past w) (past v) (sequence_at w.node.kind tree w) (sequence_at v.node.kind tree v)
       (λ same. number_w ∙ ap (sequence_number (set_sizes v.node.kind tree)) (sym past_w ∙ same))
       (λ same. past_w ∙ choices_told tree v.node.kind i p i d game personal recall below (omega arith) (omega arith) there (sym number_w ∙ same)))
-
-  -- the first node of a node's set comes no later than any node of the set
-  not_behind : (all : List Visit) (node : Node) (d : Visit) (first : Numbered) (found : HasFirst 1 node all d (Some first)) (j : ℕ) → is_same_set (get_or all j d).node node ≡ true → found.0 ≤ j
-  not_behind all node d first found j same = elim (cases_lt j found.0) [
-    | inl before ↦ absurd (apart (sym same ∙ found.1.before j before))
-    | inr after ↦ after
-  ]
-    where
-      apart : true ≡ false → ⊥
-      apart e = cc e
 
   against_agree : (i : ℕ) (d : Visit) (o : Option Numbered) → i < length (visits tree) → RecallsUpTo (visits tree) i → HasFirst 1 (get_or (visits tree) i d).node (visits tree) d o →
       break_against (differ_in_number tree) (1 + i) (get_or (visits tree) i d) o ≡ break_against differ_in_past (1 + i) (get_or (visits tree) i d) o

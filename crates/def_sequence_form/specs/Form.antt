@@ -1,15 +1,14 @@
 -- The sequence form of a game in a tree (von Stengel 1996), and its list of leaves.
-use Rattle.std.specs.Prelude.{◌≡◌, List, [], ◌∷◌, map, ℤ, false}
+use Rattle.std.specs.Prelude.{List, [], ◌∷◌, map, ℤ}
 use Rattle.def_tree.specs.declared.Kind.{Kind}
 use Rattle.def_tree.specs.declared.Kind.TheVariants.{One, Two}
-use Rattle.def_tree.specs.Tree.{Forest, is_leaf_kind}
-use Rattle.def_tree.specs.Rules.{IsGameTree}
+use Rattle.def_tree.specs.Tree.{Forest}
 use Rattle.def_fraction.specs.Fraction.{Fraction}
 use Rattle.def_game_paths.specs.Paths.{Visit, visits, leaf_visits, Choice, own_choices}
 use Rattle.def_game_paths.specs.Sequences.{set_firsts, sequence_at}
 use Rattle.def_game_scale.specs.Tables.{Tables, reach, payoff_one, payoff_two}
 use Rattle.def_game_scale.specs.Scale.{weights}
-use Rattle.def_plan.specs.Form.{InformationSet, AreInOrder, Leaf, SequenceForm}
+use Rattle.def_plan.specs.Form.{InformationSet, Leaf, SequenceForm}
 
 -- a leaf: its reach, both payoffs, and both players' own choices on its path, the last ones first
 pub record LeafEntry : Type 0 where
@@ -52,7 +51,3 @@ form_of tree weights = record {
 
 abbrev pub form_of_game : Tables → Forest → SequenceForm
 form_of_game tables tree = form_of tree (weights tables tree)
-
--- each set has actions, and the sequence before it comes before its own
-abbrev pub FormIsInOrder : Type 0
-FormIsInOrder = (tree : Forest) → IsGameTree tree → (kind : Kind) → is_leaf_kind kind ≡ false → AreInOrder (information_sets kind tree)

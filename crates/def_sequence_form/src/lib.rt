@@ -1,9 +1,34 @@
+//! The information sets of a game's tree, its sequence form, and its list of leaves.
 #![tactic(auto)]
-//! The sequence form of a game in a tree, and its list of leaves.
 
-ghost use Rattle.def_sequence_form.specs.Form.{FormIsInOrder};
+ghost use Rattle.def_sequence_form.specs.Laws.{FormHasTheLeafList, FormHasTheMass, FormIsInOrder, FormNumbersAsTheTree, SetsAreExact, SetsHaveTheirNodes};
 
 /// Each set has actions, and the sequence before it comes before its own.
 pub fn form_is_in_order()
     ensures { FormIsInOrder }
+{}
+
+/// The sets are told exactly where both players have perfect recall, and otherwise its first break.
+pub fn sets_are_exact()
+    ensures { SetsAreExact }
+{}
+
+/// With perfect recall a set's sequence before it and its actions are those of each of its nodes.
+pub fn sets_have_their_nodes()
+    ensures { SetsHaveTheirNodes }
+{}
+
+/// The form counts and places a tree's sequences as they are numbered in the tree.
+pub fn form_numbers_as_the_tree()
+    ensures { FormNumbersAsTheTree }
+{}
+
+/// The form has the leaves of the tree's list: the number of a leaf's sequence names its last own choice, and tells all of them.
+pub fn form_has_the_leaf_list()
+    ensures { FormHasTheLeafList }
+{}
+
+/// The sizes of the form's weights add up to the game's mass.
+pub fn form_has_the_mass()
+    ensures { FormHasTheMass }
 {}

@@ -4,3 +4,4 @@ pub mod Sets
 pub mod Walks
 pub mod Nesting
 pub mod Outcomes
+pub mod Rows

@@ -4,7 +4,7 @@
 --     KeepRules ns          each of the nodes keeps the rules after those before it
 --     IsGameTree t          a tree that keeps the rules, within the limit of nodes
 --     most_actions, most_nodes     the limits: a set's actions, a tree's nodes. Both are this project's own
-use Rattle.std.specs.Prelude.{◌≡◌, ℕ, ◌+◌, ◌<◌, ◌≤◌, Bool, true, false, if◌then◌else◌, max, List, [], ◌∷◌, length, take, slice_index_or, All, AllPairs, Contains}
+use Rattle.std.specs.Prelude.{◌≡◌, ◌↔◌, ℕ, ◌+◌, ◌<◌, ◌≤◌, Bool, true, false, if◌then◌else◌, max, List, [], ◌∷◌, length, take, slice_index_or, All, AllPairs, Contains}
 use Rattle.def_tree.specs.declared.Kind.{Kind}
 use Rattle.def_tree.specs.declared.Kind.TheVariants.{Chance, One, Two, Leaf}
 use Rattle.def_tree.specs.declared.Node.{Node}
@@ -71,3 +71,21 @@ SetsAgreeOnSize = (nodes : List Node) → KeepRules nodes → AllPairs AgreeOnSi
 abbrev pub EachSetAppears : Type 0
 EachSetAppears = (nodes : List Node) → KeepRules nodes → (kind : Kind) (i : ℕ) → 1 ≤ i → i ≤ set_count kind nodes →
     (node : Node) × (Contains nodes node × ((node.kind ≡ kind) × (node.set ≡ i)))
+
+-- The rules at their edges.
+
+abbrev pub inner_node : Kind → ℕ → ℕ → Node
+inner_node kind set children = record { kind = kind; set = set; outcome = 0; children = children }
+
+-- a first node has 1 to 1,024 children; after it come a node of its set with as many, one of the next set, and one of another kind's first set; a leaf has no set and no children
+pub record RuleRows : Type 0 where
+  pub first : (n : ℕ) → Fits [] (inner_node Chance 1 n) ↔ ((1 ≤ n) × (n ≤ 1024))
+  pub first_set : ¬ (Fits [] (inner_node Chance 2 2))
+  pub set_zero : ¬ (Fits [] (inner_node Chance 0 2))
+  pub same_set : (n : ℕ) → Fits (inner_node One 1 2 ∷ []) (inner_node One 1 n) ↔ (n ≡ 2)
+  pub next_set : Fits (inner_node One 1 2 ∷ []) (inner_node One 2 3)
+  pub set_left_out : ¬ (Fits (inner_node One 1 2 ∷ []) (inner_node One 3 2))
+  pub other_kind : Fits (inner_node One 1 2 ∷ []) (inner_node Two 1 3)
+  pub other_kinds_next : ¬ (Fits (inner_node One 1 2 ∷ []) (inner_node Two 2 2))
+  pub leaf : (set children : ℕ) → Fits [] (inner_node Leaf set children) ↔ ((set ≡ 0) × (children ≡ 0))
+  pub nodes : (tree : Forest) → IsTree tree → KeepRules (prefix tree) → IsGameTree tree ↔ (node_count tree ≤ 1048576)

@@ -3,7 +3,7 @@
 
 ghost use Rattle.def_tree.specs.Events.{EntersInPrefixOrder, LeavesAfterLastChild, LeavesEachOnce};
 ghost use Rattle.def_tree.specs.Outcomes.{EachOutcomeAppears};
-ghost use Rattle.def_tree.specs.Rules.{EachSetAppears, SetsAgreeOnSize};
+ghost use Rattle.def_tree.specs.Rules.{EachSetAppears, RuleRows, SetsAgreeOnSize};
 ghost use Rattle.def_tree.specs.Tree.{ForestOfPrefix, PrefixOfForest, WholeIffTree};
 
 /// One of the two players. Player one is paid, and player two pays.
@@ -76,4 +76,9 @@ pub fn leaves_each_once()
 /// A walk leaves a node after its last child, with all that is below it, and before it enters any other node.
 pub fn leaves_after_last_child()
     ensures { LeavesAfterLastChild }
+{}
+
+/// The rules of sets at their edges: how many children a node may have, and which sets may come.
+pub fn rule_rows()
+    ensures { RuleRows }
 {}
