@@ -2,7 +2,7 @@
 use Rattle.std.specs.Prelude.{◌≡◌, ℕ, List, Ok}
 use Rattle.def_file.specs.Content.{Prologue, Record, GameFile}
 use Rattle.def_file.specs.Reading.{game_at}
-use Rattle.def_file_entries.specs.Entries.{game_of}
+use Rattle.def_file_entries.specs.Entries.{game_of_entries}
 use Rattle.def_file_entries.specs.Laws.{HaveNoFault}
 use Rattle.def_file_form.specs.Form.{IsFile}
 
@@ -12,7 +12,7 @@ pub record StandsFor (bytes : List ℕ) (game : GameFile) : Type 0 where
   pub entries : List Record
   pub file : IsFile bytes prologue entries
   pub no_fault : HaveNoFault entries
-  pub game_is : game ≡ game_of prologue entries
+  pub game_is : game ≡ game_of_entries prologue entries
 
 abbrev pub OneReading : Type 0
 OneReading = (bytes : List ℕ) (p q : Prologue) (rs ts : List Record) → IsFile bytes p rs → IsFile bytes q ts → (p ≡ q) × (rs ≡ ts)

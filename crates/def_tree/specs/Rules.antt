@@ -3,11 +3,18 @@
 --     Fits before node      the node keeps the rules after these nodes
 --     KeepRules ns          each of the nodes keeps the rules after those before it
 --     IsGameTree t          a tree that keeps the rules, within the limit of nodes
+--     most_actions, most_nodes     the limits: a set's actions, a tree's nodes. Both are this project's own
 use Rattle.std.specs.Prelude.{◌≡◌, ℕ, ◌+◌, ◌<◌, ◌≤◌, Bool, true, false, if◌then◌else◌, max, List, [], ◌∷◌, length, take, slice_index_or, All, AllPairs, Contains}
 use Rattle.def_tree.specs.declared.Kind.{Kind}
 use Rattle.def_tree.specs.declared.Kind.TheVariants.{Chance, One, Two, Leaf}
 use Rattle.def_tree.specs.declared.Node.{Node}
 use Rattle.def_tree.specs.Tree.{Forest, prefix, node_count, IsTree}
+
+abbrev pub most_actions : ℕ
+most_actions = 1024
+
+abbrev pub most_nodes : ℕ
+most_nodes = 1048576
 
 abbrev pub is_same_kind : Kind → Kind → Bool
 is_same_kind Chance Chance = true
@@ -35,7 +42,7 @@ pub record JoinsSet (before : List Node) (node : Node) : Type 0 where
   pub counts : 1 ≤ node.set
   pub next : node.set ≤ set_count node.kind before + 1
   pub some : 1 ≤ node.children
-  pub limit : node.children ≤ 1024
+  pub limit : node.children ≤ most_actions
   pub agrees : All (λ earlier. AgreeOnSize earlier node) before
 
 abbrev pub FitsAs : Kind → List Node → Node → Type 0
@@ -54,7 +61,7 @@ KeepRules nodes = (k : ℕ) (d : Node) → k < length nodes → Fits (take k nod
 pub record IsGameTree (whole : Forest) : Type 0 where
   pub tree : IsTree whole
   pub rules : KeepRules (prefix whole)
-  pub limit : node_count whole ≤ 1048576
+  pub limit : node_count whole ≤ most_nodes
 
 -- by the rules, all nodes of one set have equally many children
 abbrev pub SetsAgreeOnSize : Type 0
