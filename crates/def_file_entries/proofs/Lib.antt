@@ -8,3 +8,4 @@ pub mod Differs
 pub mod EntryTests
 pub mod EntryFaults
 pub mod NoFault
+pub mod WholeGames

@@ -1,10 +1,12 @@
 -- What is known with one more entry is what all entries say, and the fault of an entry is that of the first rule that it breaks.
 use Rattle.std.specs.Prelude.{◌≡◌, ◌↔◌, List, [], ◌∷◌, ◌++◌, Some, None}
+use Rattle.def_tree.specs.Tree.{IsWhole}
 use Rattle.def_file.specs.declared.FileFault.{FileFault}
-use Rattle.def_file.specs.Content.{Record, no_contents}
+use Rattle.def_file.specs.Content.{Prologue, Record, no_contents}
 use Rattle.def_file.specs.Faults.{record_fault}
 use Rattle.def_file.specs.Adding.{with_record}
-use Rattle.def_file_entries.specs.Entries.{contents_of}
+use Rattle.def_file.specs.Game.{IsWholeGame}
+use Rattle.def_file_entries.specs.Entries.{contents_of, game_of_entries}
 use Rattle.def_file_entries.specs.EntryRules.{BreaksNone, IsFirstBroken}
 
 abbrev pub NothingIsKnown : Type 0
@@ -25,3 +27,7 @@ EntryFaultIsFirstBroken =
 -- and it has no fault exactly where it breaks none
 abbrev pub NoFaultBreaksNone : Type 0
 NoFaultBreaksNone = (rs : List Record) (r : Record) → HaveNoFault rs → (record_fault (contents_of rs) r ≡ None) ↔ BreaksNone rs r
+
+-- entries without a fault whose nodes are a whole tree are a game whose sets and outcomes go with the tree
+abbrev pub EntriesMakeWholeGame : Type 0
+EntriesMakeWholeGame = (prologue : Prologue) (rs : List Record) → HaveNoFault rs → IsWhole (contents_of rs).nodes → IsWholeGame (game_of_entries prologue rs)

@@ -1,7 +1,7 @@
 //! The game that the entries of a file stand for, by all entries at once, in definitions alone.
 #![tactic(auto)]
 
-ghost use Rattle.def_file_entries.specs.Laws.{EntryFaultIsFirstBroken, NoFaultBreaksNone, NothingIsKnown, OneMoreIsKnown};
+ghost use Rattle.def_file_entries.specs.Laws.{EntriesMakeWholeGame, EntryFaultIsFirstBroken, NoFaultBreaksNone, NothingIsKnown, OneMoreIsKnown};
 ghost use Rattle.def_file_entries.specs.Rows.{EntryRows};
 
 /// Without an entry nothing is known.
@@ -22,6 +22,11 @@ pub fn entry_fault_is_first_broken()
 /// Behind entries without a fault, an entry has none exactly where it breaks no rule.
 pub fn no_fault_breaks_none()
     ensures { NoFaultBreaksNone }
+{}
+
+/// Entries without a fault whose nodes are a whole tree are a game whose sets and outcomes go with its tree.
+pub fn entries_make_whole_game()
+    ensures { EntriesMakeWholeGame }
 {}
 
 /// What two small files stand for, and the faults of one more entry.
