@@ -1,6 +1,7 @@
 -- A file has one reading at most, and what is accepted is what has a reading without a fault.
 use Rattle.std.specs.Prelude.{◌≡◌, ℕ, List, Ok}
 use Rattle.def_file.specs.Content.{Prologue, Record, GameFile}
+use Rattle.def_file.specs.Game.{IsWholeGame, HasFractions}
 use Rattle.def_file.specs.Reading.{game_at}
 use Rattle.def_file_entries.specs.Entries.{game_of_entries}
 use Rattle.def_file_entries.specs.Laws.{HaveNoFault}
@@ -22,3 +23,7 @@ AcceptedIsFile = (bytes : List ℕ) (game : GameFile) → game_at bytes ≡ Ok g
 
 abbrev pub FileIsAccepted : Type 0
 FileIsAccepted = (bytes : List ℕ) (game : GameFile) → StandsFor bytes game → game_at bytes ≡ Ok game
+
+-- its sets and outcomes go with its tree, and its fractions are in lowest terms within the limit
+abbrev pub StandsForWholeGame : Type 0
+StandsForWholeGame = (bytes : List ℕ) (game : GameFile) → StandsFor bytes game → IsWholeGame game × HasFractions game.sets game.outcomes
