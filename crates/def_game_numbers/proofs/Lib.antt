@@ -1,3 +1,3 @@
 pub mod Refusals
 pub mod Weighing
-pub mod Masses
+pub mod Fractions

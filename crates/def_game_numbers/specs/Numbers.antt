@@ -1,28 +1,17 @@
--- The numbers of a game file, and what the calls that find them answer.
+-- The numbers of a game file, and what weighing its leaves answers.
 --     tables_of game          its probabilities and payoffs
 --     file_fault fault        a fault of the game, as one of its file
 --     weigh game              the unit, the weights and the mass, or the first fault of the numbers
---     build_sets tree         both players' sets and sequences, or the first break of recall
 --     game_file_fault game    the first fault of the file's game
 use Rattle.std.specs.Prelude.{ℕ, ℤ, List, map, Option, Some, None, Result, Ok, Err}
-use Rattle.def_tree.specs.declared.Kind.{Kind}
-use Rattle.def_tree.specs.declared.Kind.TheVariants.{One, Two}
 use Rattle.def_tree.specs.Tree.{Forest}
-use Rattle.def_fraction.specs.Fraction.{Fraction}
 use Rattle.def_file.specs.declared.FileFault.{FileFault}
 use Rattle.def_file.specs.declared.FileFault.TheVariants as faults
-use Rattle.def_file.specs.Content.{GameFile, OutcomeEntry, SetEntry}
-use Rattle.def_game_paths.specs.Paths.{visits}
-use Rattle.def_game_paths.specs.Recall.{RecallBreak, recall_break}
-use Rattle.def_game_paths.specs.Sequences.{sequence_at}
+use Rattle.def_file.specs.Content.{GameFile, OutcomeEntry}
+use Rattle.def_file.specs.Game.{chances_of}
 use Rattle.def_game_scale.specs.Tables.{Payoffs, Tables}
 use Rattle.def_game_scale.specs.Scale.{game_mass, game_unit, weights}
 use Rattle.def_game_faults.specs.Faults.{GameFault, ChanceNegative, ChanceSum, NotZeroSum, NotRecall, Scale, game_fault, number_fault}
-use Rattle.def_plan.specs.Form.{InformationSet}
-use Rattle.def_sequence_form.specs.Form.{information_sets}
-
-abbrev pub chances_of : SetEntry → List Fraction
-chances_of set = map (λ action. action.chance) set.actions
 
 abbrev pub payoffs_given : OutcomeEntry → Payoffs
 payoffs_given outcome = record { one = outcome.one; two = outcome.two }
@@ -59,25 +48,3 @@ refused_or (Some fault) answer = Err (file_fault fault)
 
 abbrev pub weigh : GameFile → Result GameWeights FileFault
 weigh game = refused_or (number_fault (tables_of game) game.tree) (weights_of_game (tables_of game) game.tree)
-
--- a player's information sets in the order of their first nodes, and the number of the player's sequence at each node
-pub record PlayerSets : Type 0 where
-  pub sets : List InformationSet
-  pub sequences : List ℕ
-
-pub record GameSets : Type 0 where
-  pub one : PlayerSets
-  pub two : PlayerSets
-
-abbrev pub player_sets : Kind → Forest → PlayerSets
-player_sets kind tree = record { sets = information_sets kind tree; sequences = map (sequence_at kind tree) (visits tree) }
-
-abbrev pub sets_of_tree : Forest → GameSets
-sets_of_tree tree = record { one = player_sets One tree; two = player_sets Two tree }
-
-abbrev pub broken_or : Option RecallBreak → GameSets → Result GameSets RecallBreak
-broken_or None sets = Ok sets
-broken_or (Some fault) sets = Err fault
-
-abbrev pub build_sets : Forest → Result GameSets RecallBreak
-build_sets tree = broken_or (recall_break tree) (sets_of_tree tree)

@@ -9,7 +9,8 @@ use Rattle.def_game_faults.specs.Examples as examples
 use Rattle.def_game_faults.specs.Examples.{Example}
 use Rattle.def_plan.specs.Form.{Leaf, sequence_count}
 use Rattle.def_sequence_form.specs.Form.{form_of_game}
-use Rattle.def_game_numbers.specs.Numbers.{build_sets, game_file_fault, weigh}
+use Rattle.def_sequence_form.specs.Sets.{sets_or_break}
+use Rattle.def_game_numbers.specs.Numbers.{game_file_fault, weigh}
 
 -- a file's game, without texts
 
@@ -36,10 +37,10 @@ pub record FileRows : Type 0 where
   pub weights : weigh (file_of examples.biased_coin) ≡ Ok (record { unit = 3; mass = 7; leaves = pos 1 ∷ pos 6 ∷ [] })
   pub recall : game_file_fault (file_of examples.first_of_set) ≡ Some (faults.NotRecall 7 4)
   pub recall_weighed : weigh (file_of examples.first_of_set) ≡ Ok (record { unit = 1; mass = 0; leaves = pos 0 ∷ pos 0 ∷ pos 0 ∷ [] })
-  pub recall_broken : build_sets examples.first_of_set.tree ≡ Err (record { node = 7; earlier = 4 })
-  pub sets : build_sets examples.other_before_choice.tree ≡ Ok (record {
-    one = record { sets = record { before = 0; actions = 2 } ∷ []; sequences = 0 ∷ 0 ∷ 1 ∷ 2 ∷ 0 ∷ 1 ∷ 2 ∷ [] };
-    two = record { sets = record { before = 0; actions = 2 } ∷ []; sequences = 0 ∷ 1 ∷ 1 ∷ 1 ∷ 2 ∷ 2 ∷ 2 ∷ [] };
+  pub recall_broken : sets_or_break examples.first_of_set.tree ≡ Err (record { node = 7; earlier = 4 })
+  pub sets : sets_or_break examples.other_before_choice.tree ≡ Ok (record {
+    one = record { sets = record { before = 0; actions = 2 } ∷ []; at_nodes = 0 ∷ 0 ∷ 1 ∷ 2 ∷ 0 ∷ 1 ∷ 2 ∷ [] };
+    two = record { sets = record { before = 0; actions = 2 } ∷ []; at_nodes = 0 ∷ 1 ∷ 1 ∷ 1 ∷ 2 ∷ 2 ∷ 2 ∷ [] };
   })
 
 abbrev leaf_at : ℕ → ℕ → ℤ → Leaf

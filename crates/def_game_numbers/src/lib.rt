@@ -1,17 +1,17 @@
 #![tactic(auto)]
-//! The numbers of a game file: what weighing its leaves and building its sets answer, and the sequence form that stands on both.
+//! The numbers of a game file: what weighing its leaves answers, and the sequence form that stands on it.
 
-ghost use Rattle.def_game_numbers.specs.Laws.{BuildsSetsExactly, FormHasTheMass, RefusedWithTheFirst, WeighsExactly, WeightsFit};
+ghost use Rattle.def_game_numbers.specs.Laws.{FormStandsOnAnswers, RefusedWithTheFirst, TablesAreFractions, WeighsExactly, WeightsFit};
 ghost use Rattle.def_game_numbers.specs.Rows.{FileRows, FormRows};
+
+/// Where a file's fractions are in lowest terms, those of its tables are.
+pub fn tables_are_fractions()
+    ensures { TablesAreFractions }
+{}
 
 /// Weighing refuses exactly the first fault of the numbers, and else answers the unit, the weights and the mass.
 pub fn weighs_exactly()
     ensures { WeighsExactly }
-{}
-
-/// Building the sets refuses exactly the first break of recall, and else answers both players' sets and sequences.
-pub fn builds_sets_exactly()
-    ensures { BuildsSetsExactly }
 {}
 
 /// Weighing first and building the sets then refuses with the game's first fault.
@@ -24,9 +24,9 @@ pub fn weights_fit()
     ensures { WeightsFit }
 {}
 
-/// The mass of the form's leaves is the mass of the game.
-pub fn form_has_the_mass()
-    ensures { FormHasTheMass }
+/// The form that stands on what weighing and building the sets answer is the game's.
+pub fn form_stands_on_answers()
+    ensures { FormStandsOnAnswers }
 {}
 
 pub fn file_rows()
