@@ -224,3 +224,38 @@ first_of_set = example
     ((whole (pos 1) ∷ []) ∷ [])
     []
     (by_one 1 3 0 ∷ by_one 2 1 0 ∷ ends 0 ∷ by_one 3 1 0 ∷ ends 0 ∷ by_chance 1 1 0 ∷ by_one 3 1 0 ∷ ends 0 ∷ [])
+
+-- a negative chance of the second action
+abbrev pub negative_at_second : Example
+negative_at_second = example
+    ((over (pos 3) 2 ∷ over (negsuc 0) 2 ∷ []) ∷ [])
+    []
+    (by_chance 1 2 0 ∷ ends 0 ∷ ends 0 ∷ [])
+
+-- a negative chance below a player's set of the same number
+abbrev pub negative_below_choice : Example
+negative_below_choice = example
+    ((over (negsuc 0) 2 ∷ over (pos 3) 2 ∷ []) ∷ [])
+    []
+    (by_one 1 2 0 ∷ by_chance 1 2 0 ∷ ends 0 ∷ ends 0 ∷ ends 0 ∷ [])
+
+-- reach times payoff past the limit by its numerator, and so without the unit, before a later leaf that isn't zero-sum
+abbrev pub product_past_limit : Example
+product_past_limit = example
+    ((over (pos 3) 4 ∷ over (pos 1) 4 ∷ []) ∷ [])
+    (pays (whole (pos 4611686018427387903)) (whole (negsuc 4611686018427387902)) ∷ pays (whole (pos 1)) (whole (pos 1)) ∷ [])
+    (by_chance 1 2 0 ∷ ends 1 ∷ ends 2 ∷ [])
+
+-- a unit of exactly the limit
+abbrev pub unit_at_limit : Example
+unit_at_limit = example
+    []
+    (pays (over (pos 1) 4611686018427387904) (over (negsuc 0) 4611686018427387904) ∷ [])
+    (by_one 1 2 0 ∷ ends 1 ∷ ends 0 ∷ [])
+
+-- payoffs that add up to 0 at the leaf, and not before it
+abbrev pub zero_sum_at_leaf : Example
+zero_sum_at_leaf = example
+    []
+    (pays (whole (pos 1)) (whole (pos 1)) ∷ pays (whole (pos 0)) (whole (negsuc 1)) ∷ [])
+    (by_one 1 1 1 ∷ ends 2 ∷ [])

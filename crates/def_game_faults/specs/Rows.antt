@@ -78,6 +78,9 @@ pub record OrderRows : Type 0 where
   pub forgetful_one : first_fault_of examples.forgetful_one ≡ Some (NotRecall 4 2)
   pub absent_by_chance : first_fault_of examples.absent_by_chance ≡ Some (NotRecall 3 1)
   pub first_of_set : first_fault_of examples.first_of_set ≡ Some (NotRecall 7 4)
+  pub negative_at_second : first_fault_of examples.negative_at_second ≡ Some (ChanceNegative 1)
+  pub negative_below_choice : first_fault_of examples.negative_below_choice ≡ Some (ChanceNegative 2)
+  pub product_past_limit : first_fault_of examples.product_past_limit ≡ Some (Scale 2)
 
 -- no fault, and this unit, these weights and this mass
 pub record HasNumbers (game : Example) (unit : ℕ) (leaf_weights : List ℤ) (mass : ℕ) : Type 0 where
@@ -92,3 +95,5 @@ pub record FaultlessRows : Type 0 where
   pub mass_at_limit : HasNumbers examples.mass_at_limit 1 (pos 4611686018427387903 ∷ negsuc 0 ∷ []) 4611686018427387904
   pub coin_before_choice : HasNumbers examples.coin_before_choice 1 (pos 0 ∷ pos 0 ∷ pos 0 ∷ pos 0 ∷ []) 0
   pub other_before_choice : HasNumbers examples.other_before_choice 1 (pos 0 ∷ pos 0 ∷ pos 0 ∷ pos 0 ∷ []) 0
+  pub unit_at_limit : HasNumbers examples.unit_at_limit 4611686018427387904 (pos 1 ∷ pos 0 ∷ []) 1
+  pub zero_sum_at_leaf : HasNumbers examples.zero_sum_at_leaf 1 (pos 1 ∷ []) 1

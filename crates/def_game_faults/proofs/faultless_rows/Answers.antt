@@ -11,4 +11,6 @@ returns c = record {
   mass_at_limit = record { fault = refl; unit_is = refl; weights_are = refl; mass_is = refl };
   coin_before_choice = record { fault = refl; unit_is = refl; weights_are = refl; mass_is = refl };
   other_before_choice = record { fault = refl; unit_is = refl; weights_are = refl; mass_is = refl };
+  unit_at_limit = record { fault = refl; unit_is = refl; weights_are = refl; mass_is = refl };
+  zero_sum_at_leaf = record { fault = refl; unit_is = refl; weights_are = refl; mass_is = refl };
 }

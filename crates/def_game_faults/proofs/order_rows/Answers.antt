@@ -28,4 +28,7 @@ returns c = record {
   forgetful_one = refl;
   absent_by_chance = refl;
   first_of_set = refl;
+  negative_at_second = refl;
+  negative_below_choice = refl;
+  product_past_limit = refl;
 }
