@@ -5,6 +5,7 @@ use Rattle.def_tree.specs.declared.Node.{Node}
 use Rattle.def_tree.specs.Tree.{Forest, forest_of}
 use Rattle.def_fraction.specs.Fraction.{Fraction, whole_number}
 use Rattle.def_game_scale.specs.Tables.{Payoffs, Tables}
+use Rattle.def_game_scale.specs.Rows.{over}
 
 pub record Example : Type 0 where
   pub tables : Tables
@@ -13,9 +14,6 @@ pub record Example : Type 0 where
 -- by the probabilities of the chance sets, the payoffs of the outcomes and the nodes
 abbrev pub example : List (List Fraction) → List Payoffs → List Node → Example
 example chance outcomes nodes = record { tables = record { chance = chance; outcomes = outcomes }; tree = forest_of nodes }
-
-abbrev pub over : ℤ → ℕ → Fraction
-over n d = record { num = n; den = d }
 
 abbrev pub whole : ℤ → Fraction
 whole = whole_number
@@ -259,3 +257,10 @@ zero_sum_at_leaf = example
     []
     (pays (whole (pos 1)) (whole (pos 1)) ∷ pays (whole (pos 0)) (whole (negsuc 1)) ∷ [])
     (by_one 1 1 1 ∷ ends 2 ∷ [])
+
+-- probabilities that add up to more than 1
+abbrev pub sum_above_one : Example
+sum_above_one = example
+    ((over (pos 2) 3 ∷ over (pos 2) 3 ∷ []) ∷ [])
+    []
+    (by_chance 1 2 0 ∷ ends 0 ∷ ends 0 ∷ [])

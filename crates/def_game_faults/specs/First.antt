@@ -1,7 +1,7 @@
 -- The first fault of a game in words: at which node which walk fails first, where all walks before it pass everywhere.
 --     FailsFirst Passes Fails nodes fault     a walk over the nodes fails first with the fault
 --     PassNumbers tables tree                 each node passes each walk over the numbers
---     FirstNumberFault, FirstGameFault            the fault is the first one of the numbers, or with recall
+--     FirstNumberFault, FirstGameFault        the fault is the first one of the numbers, or with recall
 -- `Passes` and `Fails` say of a node, behind those before it, that it passes a walk, and that it fails with a fault.
 use Rattle.std.specs.Prelude.{◌≡◌, ◌≢◌, ℕ, ◌-◌, ◌<◌, ◌≤◌, true, false, pos, ◌<ℤ◌, ◌≤ℤ◌, List, [], ◌∷◌, ◌++◌, length, take, slice_index_or, All, Any}
 use Rattle.def_tree.specs.declared.Kind.TheVariants.{Chance}

@@ -7,7 +7,7 @@ use Rattle.def_tree.specs.Tree.{Forest, forest_of}
 use Rattle.def_fraction.specs.Fraction.{Fraction, whole_number}
 use Rattle.def_game_paths.specs.Rows.{absent_driver}
 use Rattle.def_game_scale.specs.Tables.{Payoffs, Tables}
-use Rattle.def_game_scale.specs.Rows.{inner, inner_tables, tosses, toss_tables}
+use Rattle.def_game_scale.specs.Rows.{inner, inner_tables, over, tosses, toss_tables}
 use Rattle.def_game_scale.specs.Scale.{game_mass, game_unit, weights}
 use Rattle.def_game_faults.specs.Faults.{GameFault, ChanceNegative, ChanceSum, NotZeroSum, NotRecall, Scale, game_fault}
 use Rattle.def_game_faults.specs.Examples as examples
@@ -15,9 +15,6 @@ use Rattle.def_game_faults.specs.Examples.{Example}
 
 abbrev node : Kind → ℕ → ℕ → ℕ → Node
 node kind set outcome children = record { kind = kind; set = set; outcome = outcome; children = children }
-
-abbrev over : ℤ → ℕ → Fraction
-over n d = record { num = n; den = d }
 
 abbrev pays : ℤ → ℤ → Payoffs
 pays one two = record { one = whole_number one; two = whole_number two }
@@ -80,6 +77,7 @@ pub record OrderRows : Type 0 where
   pub first_of_set : first_fault_of examples.first_of_set ≡ Some (NotRecall 7 4)
   pub negative_at_second : first_fault_of examples.negative_at_second ≡ Some (ChanceNegative 1)
   pub negative_below_choice : first_fault_of examples.negative_below_choice ≡ Some (ChanceNegative 2)
+  pub sum_above_one : first_fault_of examples.sum_above_one ≡ Some (ChanceSum 1)
   pub product_past_limit : first_fault_of examples.product_past_limit ≡ Some (Scale 2)
 
 -- no fault, and this unit, these weights and this mass

@@ -16,8 +16,11 @@ node kind set outcome children = record { kind = kind; set = set; outcome = outc
 abbrev pub tosses : Forest
 tosses = forest_of (node One 1 0 2 ∷ node Chance 1 0 2 ∷ node Leaf 0 1 0 ∷ node Leaf 0 0 0 ∷ node Chance 1 0 2 ∷ node Leaf 0 0 0 ∷ node Leaf 0 2 0 ∷ [])
 
+abbrev pub over : ℤ → ℕ → Fraction
+over n d = record { num = n; den = d }
+
 abbrev half : ℤ → Fraction
-half n = record { num = n; den = 2 }
+half n = over n 2
 
 abbrev pub toss_tables : Tables
 toss_tables = record {
@@ -31,9 +34,6 @@ inner = forest_of (node One 1 1 2 ∷ node Leaf 0 2 0 ∷ node Leaf 0 0 0 ∷ []
 
 abbrev pub inner_tables : Tables
 inner_tables = record { chance = []; outcomes = record { one = half (pos 1); two = half (negsuc 0) } ∷ record { one = half (pos 1); two = half (negsuc 0) } ∷ [] }
-
-abbrev over : ℤ → ℕ → Fraction
-over n d = record { num = n; den = d }
 
 -- unequal chances, and payoffs on the way to the leaves
 abbrev pub uneven : Forest

@@ -30,5 +30,6 @@ returns c = record {
   first_of_set = refl;
   negative_at_second = refl;
   negative_below_choice = refl;
+  sum_above_one = refl;
   product_past_limit = refl;
 }
