@@ -7,11 +7,11 @@ use Rattle.std.proofs.lemmas.List.Sums.{length-filter, sum_by-cons}
 use Rattle.def_tree.specs.declared.Kind.{Kind}
 use Rattle.def_tree.specs.declared.Kind.TheVariants.{One, Two}
 use Rattle.def_tree.specs.declared.Node.{Node}
-use Rattle.def_tree.specs.Tree.{Forest, prefix, leaf_count, is_leaf_kind}
+use Rattle.def_tree.specs.Tree.{Forest, prefix, node_count, leaf_count, is_leaf_kind}
 use Rattle.def_tree.specs.Rules.{IsGameTree}
 use Rattle.def_game_paths.specs.Paths.{Visit, visits, leaf_visits, Choice, own_choices}
 use Rattle.def_game_paths.specs.Recall.{HasPerfectRecall, is_personal}
-use Rattle.def_game_paths.specs.Sequences.{choice_of, sequence_at, sequence_number, set_sizes, IsChoiceOf, SequencesAreInRange}
+use Rattle.def_game_paths.specs.Sequences.{choice_of, sequence_at, sequence_number, set_firsts, set_sizes, IsChoiceOf, SequencesAreInRange}
 use Rattle.def_game_paths.proofs.Visits.{map-visits_from}
 use Rattle.def_game_paths.proofs.Order.{node_of}
 use Rattle.def_game_paths.proofs.Ancestors.{choices_told}
@@ -20,10 +20,11 @@ use Rattle.def_game_paths.proofs.Counts.{each_sequence_is_in_range}
 use Rattle.def_game_scale.specs.Tables.{Tables}
 use Rattle.def_game_scale.specs.Scale.{all_expected, expected, weights}
 use Rattle.def_plan.specs.Payoff.{mass}
-use Rattle.def_plan.specs.Form.{Leaf}
+use Rattle.def_plan.specs.Form.{InformationSet, Leaf}
 use Rattle.def_sequence_form.specs.Form.{LeafEntry, leaf_entry, leaf_list, leaves_with, form_of}
-use Rattle.def_sequence_form.specs.Laws.{last_of_choices, LeafHasItsChoices, TellsChoices, FormHasTheLeafList, FormHasTheMass}
-use Rattle.def_sequence_form.proofs.Sets.{counts_agree}
+use Rattle.def_sequence_form.specs.Sets.{player_sets}
+use Rattle.def_sequence_form.specs.Laws.{last_of_choices, LeafHasItsChoices, TellsChoices, FormHasTheLeafList, FormHasTheMass, TellsEachNode, TreeSetsTellNodes}
+use Rattle.def_sequence_form.proofs.Sets.{counts_agree, set_at}
 
 -- the leaves among visits are as many as among their nodes
 leaves_alike : (vs : List Visit) → length (filter (λ (v : Visit). is_leaf_kind v.node.kind) vs) ≡ length (filter (λ (n : Node). is_leaf_kind n.kind) (map node_of vs))
@@ -152,3 +153,25 @@ form_has_the_mass = record {
   of_weights = mass_of;
   of_game = λ tables tree. mass_of tree (weights tables tree) (length-map (all_expected tables tree) _ ∙ length-map (leaf_visits tree) (expected tables) ∙ leaves_counted tree);
 }
+
+sizes_map : (kind : Kind) (tree : Forest) (vs : List Visit) → map (λ (set : InformationSet). set.actions) (map (set_at kind tree) vs) ≡ map (λ (v : Visit). v.node.children) vs
+sizes_map kind tree [] = refl
+sizes_map kind tree (v ∷ rest) = ap (λ ns. v.node.children ∷ ns) (sizes_map kind tree rest)
+
+tells_each_node : (tree : Forest) (kind : Kind) → IsGameTree tree → is_leaf_kind kind ≡ false → TellsEachNode tree kind (player_sets kind tree)
+tells_each_node tree kind game inner =
+    let all : List Visit = visits tree in
+    let long : length all ≡ node_count tree = sym (length-map all node_of) ∙ ap length (map-visits_from (λ _. []) 1 tree) in
+    record {
+      sets = refl;
+      count = length-map all (sequence_at kind tree) ∙ long;
+      last = λ k d there.
+          let here : k < length all = omega arith in
+          let v : Visit = get_or all k d in
+          ap (λ sizes. choice_of sizes (get_or (map (sequence_at kind tree) all) k 0)) (sizes_map kind tree (set_firsts kind 0 all))
+          ∙ ap (choice_of (set_sizes kind tree)) (get_or-map (sequence_at kind tree) all k d 0 here)
+          ∙ last_named (set_sizes kind tree) (own_choices kind v.path) (each_sequence_is_in_range tree game kind inner k d here).choices;
+    }
+
+pub tree_sets_tell_nodes : TreeSetsTellNodes
+tree_sets_tell_nodes = record { one = λ tree game. tells_each_node tree One game refl; two = λ tree game. tells_each_node tree Two game refl }

@@ -4,7 +4,7 @@ use Rattle.def_tree.specs.declared.Kind.{Kind}
 use Rattle.def_tree.specs.declared.Kind.TheVariants.{One, Two}
 use Rattle.def_tree.specs.Tree.{Forest, prefix, node_count, leaf_count, is_leaf_kind}
 use Rattle.def_tree.specs.Rules.{IsGameTree, set_count}
-use Rattle.def_game_paths.specs.Paths.{Visit, visits, Choice}
+use Rattle.def_game_paths.specs.Paths.{Visit, visits, Choice, own_choices}
 use Rattle.def_game_paths.specs.Recall.{HasPerfectRecall, IsFirstBreak, RecallBreak, is_personal}
 use Rattle.def_game_paths.specs.Sequences.{choice_of, first_sequence, sequence_at, sequences_before, set_sizes}
 use Rattle.def_game_scale.specs.Tables.{Tables}
@@ -12,7 +12,7 @@ use Rattle.def_game_scale.specs.Scale.{game_mass}
 use Rattle.def_plan.specs.Payoff.{mass}
 use Rattle.def_plan.specs.Form.{InformationSet, PlacedSet, placed, sequence_count, AreInOrder, Leaf, SequenceForm}
 use Rattle.def_sequence_form.specs.Form.{LeafEntry, leaf_list, information_sets, form_of, form_of_game}
-use Rattle.def_sequence_form.specs.Sets.{TreeSets, tree_sets, sets_or_break}
+use Rattle.def_sequence_form.specs.Sets.{PlayerSets, TreeSets, tree_sets, sets_or_break}
 
 -- each set has actions, and the sequence before it comes before its own
 abbrev pub FormIsInOrder : Type 0
@@ -77,3 +77,13 @@ FormHasTheLeafList = (tables : Tables) (tree : Forest) (weights : List ℤ) → 
 pub record FormHasTheMass : Type 0 where
   pub of_weights : (tree : Forest) (weights : List ℤ) → length weights ≡ leaf_count (prefix tree) → mass (form_of tree weights).leaves ≡ sum (map unsigned_abs weights)
   pub of_game : (tables : Tables) (tree : Forest) → mass (form_of_game tables tree).leaves ≡ game_mass tables tree
+
+-- what is told of a player's sets: those of the form, and for each node the number of the sequence that ends with the player's last own choice before it
+pub record TellsEachNode (tree : Forest) (kind : Kind) (told : PlayerSets) : Type 0 where
+  pub sets : told.sets ≡ information_sets kind tree
+  pub count : length told.at_nodes ≡ node_count tree
+  pub last : (k : ℕ) (d : Visit) → k < node_count tree → choice_of (map (λ set. set.actions) told.sets) (slice_index told.at_nodes k) ≡ last_of_choices (own_choices kind (slice_index_or (visits tree) k d).path)
+
+pub record TreeSetsTellNodes : Type 0 where
+  pub one : (tree : Forest) → IsGameTree tree → TellsEachNode tree One (tree_sets tree).one
+  pub two : (tree : Forest) → IsGameTree tree → TellsEachNode tree Two (tree_sets tree).two

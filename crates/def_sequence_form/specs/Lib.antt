@@ -1,3 +1,4 @@
 pub mod Form
 pub mod Sets
 pub mod Laws
+pub mod Rows

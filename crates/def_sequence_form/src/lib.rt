@@ -1,7 +1,8 @@
 //! The information sets of a game's tree, its sequence form, and its list of leaves.
 #![tactic(auto)]
 
-ghost use Rattle.def_sequence_form.specs.Laws.{FormHasTheLeafList, FormHasTheMass, FormIsInOrder, FormNumbersAsTheTree, SetsAreExact, SetsHaveTheirNodes};
+ghost use Rattle.def_sequence_form.specs.Laws.{FormHasTheLeafList, FormHasTheMass, FormIsInOrder, FormNumbersAsTheTree, SetsAreExact, SetsHaveTheirNodes, TreeSetsTellNodes};
+ghost use Rattle.def_sequence_form.specs.Rows.{FormRows, LeafListRows};
 
 /// Each set has actions, and the sequence before it comes before its own.
 pub fn form_is_in_order()
@@ -31,4 +32,19 @@ pub fn form_has_the_leaf_list()
 /// The sizes of the form's weights add up to the game's mass.
 pub fn form_has_the_mass()
     ensures { FormHasTheMass }
+{}
+
+/// What is told of the sets at each node is the number of the sequence that ends with its player's last own choice.
+pub fn tree_sets_tell_nodes()
+    ensures { TreeSetsTellNodes }
+{}
+
+/// The sets and the forms of small games.
+pub fn form_rows()
+    ensures { FormRows }
+{}
+
+/// The list of leaves of a small game.
+pub fn leaf_list_rows()
+    ensures { LeafListRows }
 {}
