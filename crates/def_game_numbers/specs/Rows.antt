@@ -47,7 +47,7 @@ abbrev leaf_at : ℕ → ℕ → ℤ → Leaf
 leaf_at one two weight = record { sequence_one = one; sequence_two = two; weight = weight }
 
 -- so many nodes and leaves, sets and sequences of each player, and these leaves
-pub record HasForm (game : Example) (nodes leaves sets_one sets_two sequences_one sequences_two : ℕ) (form_leaves : List Leaf) : Type 0 where
+pub record HasHead (game : Example) (nodes leaves sets_one sets_two sequences_one sequences_two : ℕ) (form_leaves : List Leaf) : Type 0 where
   pub nodes_are : node_count game.tree ≡ nodes
   pub leaves_are : leaf_count (prefix game.tree) ≡ leaves
   pub sets_of_one : length (form_of_game game.tables game.tree).sets_one ≡ sets_one
@@ -56,9 +56,9 @@ pub record HasForm (game : Example) (nodes leaves sets_one sets_two sequences_on
   pub sequences_of_two : sequence_count (form_of_game game.tables game.tree).sets_two ≡ sequences_two
   pub form_is : (form_of_game game.tables game.tree).leaves ≡ form_leaves
 
-pub record FormRows : Type 0 where
-  pub thirds_of_one : HasForm examples.thirds_of_one 4 3 0 0 1 1 (leaf_at 0 0 (pos 0) ∷ leaf_at 0 0 (pos 0) ∷ leaf_at 0 0 (pos 0) ∷ [])
-  pub biased_coin : HasForm examples.biased_coin 3 2 0 0 1 1 (leaf_at 0 0 (pos 1) ∷ leaf_at 0 0 (pos 6) ∷ [])
-  pub mass_at_limit : HasForm examples.mass_at_limit 3 2 1 0 3 1 (leaf_at 1 0 (pos 4611686018427387903) ∷ leaf_at 2 0 (negsuc 0) ∷ [])
-  pub coin_before_choice : HasForm examples.coin_before_choice 7 4 1 0 3 1 (leaf_at 1 0 (pos 0) ∷ leaf_at 2 0 (pos 0) ∷ leaf_at 1 0 (pos 0) ∷ leaf_at 2 0 (pos 0) ∷ [])
-  pub other_before_choice : HasForm examples.other_before_choice 7 4 1 1 3 3 (leaf_at 1 1 (pos 0) ∷ leaf_at 2 1 (pos 0) ∷ leaf_at 1 2 (pos 0) ∷ leaf_at 2 2 (pos 0) ∷ [])
+pub record HeadRows : Type 0 where
+  pub thirds_of_one : HasHead examples.thirds_of_one 4 3 0 0 1 1 (leaf_at 0 0 (pos 0) ∷ leaf_at 0 0 (pos 0) ∷ leaf_at 0 0 (pos 0) ∷ [])
+  pub biased_coin : HasHead examples.biased_coin 3 2 0 0 1 1 (leaf_at 0 0 (pos 1) ∷ leaf_at 0 0 (pos 6) ∷ [])
+  pub mass_at_limit : HasHead examples.mass_at_limit 3 2 1 0 3 1 (leaf_at 1 0 (pos 4611686018427387903) ∷ leaf_at 2 0 (negsuc 0) ∷ [])
+  pub coin_before_choice : HasHead examples.coin_before_choice 7 4 1 0 3 1 (leaf_at 1 0 (pos 0) ∷ leaf_at 2 0 (pos 0) ∷ leaf_at 1 0 (pos 0) ∷ leaf_at 2 0 (pos 0) ∷ [])
+  pub other_before_choice : HasHead examples.other_before_choice 7 4 1 1 3 3 (leaf_at 1 1 (pos 0) ∷ leaf_at 2 1 (pos 0) ∷ leaf_at 1 2 (pos 0) ∷ leaf_at 2 2 (pos 0) ∷ [])

@@ -2,7 +2,7 @@
 //! The numbers of a game file: what weighing its leaves answers, and the sequence form that stands on it.
 
 ghost use Rattle.def_game_numbers.specs.Laws.{FormStandsOnAnswers, RefusedWithTheFirst, TablesAreFractions, WeighsExactly, WeightsFit};
-ghost use Rattle.def_game_numbers.specs.Rows.{FileRows, FormRows};
+ghost use Rattle.def_game_numbers.specs.Rows.{FileRows, HeadRows};
 
 /// Where a file's fractions are in lowest terms, those of its tables are.
 pub fn tables_are_fractions()
@@ -33,6 +33,6 @@ pub fn file_rows()
     ensures { FileRows }
 {}
 
-pub fn form_rows()
-    ensures { FormRows }
+pub fn head_rows()
+    ensures { HeadRows }
 {}

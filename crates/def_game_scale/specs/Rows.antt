@@ -35,13 +35,13 @@ inner = forest_of (node One 1 1 2 ∷ node Leaf 0 2 0 ∷ node Leaf 0 0 0 ∷ []
 abbrev pub inner_tables : Tables
 inner_tables = record { chance = []; outcomes = record { one = half (pos 1); two = half (negsuc 0) } ∷ record { one = half (pos 1); two = half (negsuc 0) } ∷ [] }
 
--- unequal chances, and payoffs on the way to the leaves
+-- unequal chances, one below another, and payoffs on the way to the leaves
 abbrev pub uneven : Forest
-uneven = forest_of (node Chance 1 1 3 ∷ node Leaf 0 2 0 ∷ node Two 1 3 2 ∷ node Leaf 0 0 0 ∷ node Leaf 0 2 0 ∷ node Leaf 0 3 0 ∷ [])
+uneven = forest_of (node Chance 1 1 3 ∷ node Leaf 0 2 0 ∷ node Two 1 3 2 ∷ node Leaf 0 0 0 ∷ node Leaf 0 2 0 ∷ node Chance 2 3 2 ∷ node Leaf 0 0 0 ∷ node Leaf 0 0 0 ∷ [])
 
 abbrev pub uneven_tables : Tables
 uneven_tables = record {
-  chance = (over (pos 1) 2 ∷ over (pos 1) 3 ∷ over (pos 1) 6 ∷ []) ∷ [];
+  chance = (over (pos 1) 2 ∷ over (pos 1) 3 ∷ over (pos 1) 6 ∷ []) ∷ (over (pos 1) 4 ∷ over (pos 3) 4 ∷ []) ∷ [];
   outcomes =
       record { one = half (pos 1); two = over (pos 1) 3 } ∷ record { one = whole_number (pos 2); two = whole_number (negsuc 0) }
       ∷ record { one = whole_number (negsuc 0); two = whole_number (pos 5) } ∷ [];
@@ -54,9 +54,9 @@ pub record ScaleRows : Type 0 where
   pub inner_unit : game_unit inner_tables inner ≡ 2
   pub inner_weights : weights inner_tables inner ≡ pos 2 ∷ pos 1 ∷ []
   pub inner_mass : game_mass inner_tables inner ≡ 3
-  pub uneven_reaches : map (λ leaf. reach uneven_tables leaf.path) (leaf_visits uneven) ≡ over (pos 1) 2 ∷ over (pos 1) 3 ∷ over (pos 1) 3 ∷ over (pos 1) 6 ∷ []
-  pub uneven_ones : map (payoff_one uneven_tables) (leaf_visits uneven) ≡ over (pos 5) 2 ∷ over (negsuc 0) 2 ∷ over (pos 3) 2 ∷ over (negsuc 0) 2 ∷ []
-  pub uneven_twos : map (payoff_two uneven_tables) (leaf_visits uneven) ≡ over (negsuc 1) 3 ∷ over (pos 16) 3 ∷ over (pos 13) 3 ∷ over (pos 16) 3 ∷ []
-  pub uneven_unit : game_unit uneven_tables uneven ≡ 12
-  pub uneven_weights : weights uneven_tables uneven ≡ pos 15 ∷ negsuc 1 ∷ pos 6 ∷ negsuc 0 ∷ []
-  pub uneven_mass : game_mass uneven_tables uneven ≡ 24
+  pub uneven_reaches : map (λ leaf. reach uneven_tables leaf.path) (leaf_visits uneven) ≡ over (pos 1) 2 ∷ over (pos 1) 3 ∷ over (pos 1) 3 ∷ over (pos 1) 24 ∷ over (pos 1) 8 ∷ []
+  pub uneven_ones : map (payoff_one uneven_tables) (leaf_visits uneven) ≡ over (pos 5) 2 ∷ over (negsuc 0) 2 ∷ over (pos 3) 2 ∷ over (negsuc 0) 2 ∷ over (negsuc 0) 2 ∷ []
+  pub uneven_twos : map (payoff_two uneven_tables) (leaf_visits uneven) ≡ over (negsuc 1) 3 ∷ over (pos 16) 3 ∷ over (pos 13) 3 ∷ over (pos 16) 3 ∷ over (pos 16) 3 ∷ []
+  pub uneven_unit : game_unit uneven_tables uneven ≡ 48
+  pub uneven_weights : weights uneven_tables uneven ≡ pos 60 ∷ negsuc 7 ∷ pos 24 ∷ negsuc 0 ∷ negsuc 2 ∷ []
+  pub uneven_mass : game_mass uneven_tables uneven ≡ 96
