@@ -7,7 +7,7 @@ use Rattle.def_tree.specs.Tree.{Forest, forest_of}
 use Rattle.def_fraction.specs.Fraction.{Fraction, whole_number}
 use Rattle.def_game_paths.specs.Paths.{Choice}
 use Rattle.def_game_scale.specs.Tables.{Tables}
-use Rattle.def_game_scale.specs.Scale.{unit, mass}
+use Rattle.def_game_scale.specs.Scale.{game_mass, game_unit}
 use Rattle.def_reply.specs.Kuhn.{kuhn}
 use Rattle.def_sequence_form.specs.Form.{LeafEntry, leaf_list, form_of_game}
 
@@ -58,6 +58,6 @@ first_leaves =
 
 pub record KuhnRows : Type 0 where
   pub leaves : take 3 (leaf_list kuhn_tables kuhn_tree) ≡ first_leaves
-  pub unit : unit kuhn_tables kuhn_tree ≡ 6
-  pub mass : mass kuhn_tables kuhn_tree ≡ 42
+  pub unit : game_unit kuhn_tables kuhn_tree ≡ 6
+  pub mass : game_mass kuhn_tables kuhn_tree ≡ 42
   pub form : form_of_game kuhn_tables kuhn_tree ≡ kuhn

@@ -1,5 +1,5 @@
 -- No reader answers that the file is too long.
-use Rattle.std.proofs.Common.{◌≡◌, ◌≢◌, ℕ, zero, suc, ◌+◌, Bool, true, false, cond, ◌||◌, ap, nat_eq, List, [], ◌∷◌, ◌++◌, length, Option, Some, None, Result, Ok, Err, refl}
+use Rattle.std.proofs.Common.{◌≡◌, ◌≢◌, ℕ, zero, suc, ◌+◌, Bool, true, false, cond, ap, nat_eq, List, [], ◌∷◌, ◌++◌, length, Option, Some, None, Result, Ok, Err}
 use Rattle.def_file_tokens.specs.declared.Token.TheVariants as kinds
 use Rattle.def_file_tokens.specs.declared.Lexeme.{Lexeme}
 use Rattle.def_file_tokens.specs.declared.LexFault.{LexFault}
@@ -12,11 +12,12 @@ use Rattle.def_tree.specs.Tree.{wanted}
 use Rattle.def_file.specs.declared.EntryKind.{EntryKind}
 use Rattle.def_file.specs.declared.EntryKind.TheVariants.{Chance, Personal, Leaf}
 use Rattle.def_file.specs.declared.FileFault.{FileFault}
-use Rattle.def_file.specs.declared.FileFault.TheVariants.{TooLong, Syntax, UnexpectedEnd, TrailingText, Number, Players, PlayerNumber, SetUndefined, SetMismatch, OutcomeUndefined, OutcomeMismatch, PayoffCount, TooManyNodes, ActionCount}
+use Rattle.def_file.specs.declared.FileFault.TheVariants.{TooLong, Syntax, UnexpectedEnd, TrailingText, Players}
 use Rattle.def_file.specs.Content.{Action, Record, Contents, no_contents}
-use Rattle.def_file.specs.Faults.{first_of, record_faults, record_fault, most_nodes}
+use Rattle.def_tree.specs.Rules.{most_nodes}
+use Rattle.def_file.specs.Faults.{first_met, record_faults, record_fault}
 use Rattle.def_file.specs.Adding.{with_record}
-use Rattle.def_file.specs.Reading.{◌>>=◌, is_kind, is_token, is_exact, is_numbers, begins_entry, unfit, expected, token_where, next_is, mark, open_byte, close_byte, comma_byte, text_at, name_at, bytes_at, numbered, number_at, literal_at, whole_at, read_as_set, set_number_at, chance_at, action_at, close_at, actions_from, actions_at, comma_at, payoff_at, payoffs_from, payoffs_at, set_mention_at, outcome_mention_at, chance_entry_at, personal_entry_at, terminal_entry_at, entry_behind, entry_at, names_from, checked_names, prologue_at, unless_fault, judged, entries_from, trailing, nothing_at, game_at}
+use Rattle.def_file.specs.Reading.{◌>>=◌, is_kind, is_token, is_exact, begins_entry, unfit, token_if, token_where, next_is, mark, open_byte, close_byte, comma_byte, text_at, name_at, bytes_at, number_or_fault, number_at, literal_at, whole_at, read_as_set, set_number_at, chance_at, action_at, close_at, actions_from, actions_at, comma_at, payoff_at, payoffs_from, payoffs_at, set_mention_at, outcome_mention_at, chance_entry_at, personal_entry_at, terminal_entry_at, entry_at, names_from, checked_names, prologue_at, unless_fault, judged, entries_from, trailing, nothing_at, game_at}
 
 -- it isn't answered
 abbrev pub AnyLength : {A : Type 0} → Result A FileFault → Type 0
@@ -44,7 +45,7 @@ unfit_any : (b : Bool) (at : ℕ) → AnyLength {A = Lexeme} (Err (cond b Unexpe
 unfit_any true at e = cc
 unfit_any false at e = cc
 
-expected_any : (test : Lexeme → Bool) (next : Result Lexeme LexFault) → AnyLength (expected test next)
+expected_any : (test : Lexeme → Bool) (next : Result Lexeme LexFault) → AnyLength (token_if test next)
 expected_any test (Ok token) = cond_any (test token) (Ok token) (Err (unfit token)) (ok_any token) (unfit_any (is_kind kinds.End token.kind) token.start)
 expected_any test (Err (lexing.Syntax at)) = λ e. cc
 expected_any test (Err (lexing.Unclosed at)) = λ e. cc
@@ -65,7 +66,7 @@ name_any : (whole : List ℕ) (at : ℕ) → AnyLength (name_at whole at)
 unfolding name_at
 name_any whole at = cond_any (next_is mark whole at) _ _ (bind_any (text_at whole at) _ (text_any whole at) (λ text. ok_any _)) (ok_any _)
 
-numbered_any : {A : Type 0} (token : Lexeme) (read : Result A NumberFault) → AnyLength (numbered token read)
+numbered_any : {A : Type 0} (token : Lexeme) (read : Result A NumberFault) → AnyLength (number_or_fault token read)
 numbered_any token (Ok n) = ok_any _
 numbered_any token (Err fault) = λ e. cc
 
@@ -203,7 +204,7 @@ abbrev Others : List (Bool × FileFault) → Type 0
 Others [] = Unit {0}
 Others (p ∷ rest) = Other p.1 × Others rest
 
-first_other : (faults : List (Bool × FileFault)) → Others faults → OtherIf (first_of faults)
+first_other : (faults : List (Bool × FileFault)) → Others faults → OtherIf (first_met faults)
 first_other [] others = tt
 first_other ((true, fault) ∷ rest) others = others.0
 first_other ((false, fault) ∷ rest) others = first_other rest others.1

@@ -1,1 +1,4 @@
 pub mod AnyLength
+pub mod Faultless
+pub mod Together
+pub mod Fractions

@@ -4,7 +4,7 @@
 --     SetEntry, OutcomeEntry            what is known of a set and of an outcome
 --     Contents                          the nodes of entries, with their names, sets and outcomes
 --     GameFile                          a game
-use Rattle.std.specs.Prelude.{ℕ, Bool, true, false, pos, List, [], Option, None}
+use Rattle.std.specs.Prelude.{ℕ, pos, List, [], Option, None}
 use Rattle.def_fraction.specs.Fraction.{Fraction, whole_number}
 use Rattle.def_tree.specs.declared.Kind.{Kind}
 use Rattle.def_tree.specs.declared.Kind.TheVariants.{Chance, One, Two, Leaf}
@@ -94,11 +94,11 @@ game_with prologue contents = record {
 }
 
 -- the sets of a kind
-abbrev pub sets_of : Kind → SetTables → List SetEntry
-sets_of Chance sets = sets.chance
-sets_of One sets = sets.one
-sets_of Two sets = sets.two
-sets_of Leaf sets = []
+abbrev pub sets_of_kind : Kind → SetTables → List SetEntry
+sets_of_kind Chance sets = sets.chance
+sets_of_kind One sets = sets.one
+sets_of_kind Two sets = sets.two
+sets_of_kind Leaf sets = []
 
 abbrev pub with_sets : Kind → List SetEntry → SetTables → SetTables
 with_sets Chance table sets = record sets { chance = table }

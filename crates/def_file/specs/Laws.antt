@@ -1,5 +1,5 @@
 -- What a fault of reading says.
-use Rattle.std.specs.Prelude.{◌≡◌, ◌≢◌, ℕ, List, Err}
+use Rattle.std.specs.Prelude.{◌≢◌, ℕ, List, Err}
 use Rattle.def_file.specs.declared.FileFault.TheVariants.{TooLong}
 use Rattle.def_file.specs.Reading.{game_at}
 

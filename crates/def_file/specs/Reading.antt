@@ -7,7 +7,6 @@
 --     game_at whole             the whole file
 -- What is read is a value and the offset behind it.
 use Rattle.std.specs.Prelude.{ℕ, zero, suc, ◌+◌, ◌-◌, Bool, true, false, ◌&&◌, ◌||◌, nat_eq, if◌then◌else◌, List, [], ◌∷◌, ◌++◌, codes, length, slice_range, slice_index_or, unwrap_or, Option, Some, None, Result, Ok, Err}
-use Rattle.std.specs.Option.{option_map_or}
 use Rattle.std.specs.Cmp.Lexicographic.{pointwise}
 use Rattle.def_file_tokens.specs.declared.Token.{Token}
 use Rattle.def_file_tokens.specs.declared.Token.TheVariants as kinds
@@ -20,13 +19,14 @@ use Rattle.def_fraction.specs.declared.fault.NumberFault.{NumberFault}
 use Rattle.def_fraction.specs.declared.fault.NumberFault.TheVariants.{Range}
 use Rattle.def_fraction.specs.Fraction.{Fraction}
 use Rattle.def_fraction.specs.Reading.{read_as_literal, read_as_whole}
+use Rattle.def_tree.specs.Rules.{most_nodes}
 use Rattle.def_tree.specs.Tree.{wanted}
 use Rattle.def_file.specs.declared.EntryKind.{EntryKind}
 use Rattle.def_file.specs.declared.EntryKind.TheVariants.{Chance, Personal, Leaf}
 use Rattle.def_file.specs.declared.FileFault.{FileFault}
 use Rattle.def_file.specs.declared.FileFault.TheVariants.{Syntax, UnexpectedEnd, TrailingText, Number, Players, TooManyNodes}
 use Rattle.def_file.specs.Content.{Prologue, Action, SetMention, OutcomeMention, Record, Contents, GameFile, no_set_mention, no_contents, game_with, zero_fraction}
-use Rattle.def_file.specs.Faults.{most_nodes, record_fault}
+use Rattle.def_file.specs.Faults.{record_fault}
 use Rattle.def_file.specs.Adding.{with_record}
 
 infixl 10 ◌>>=◌
@@ -67,14 +67,14 @@ begins_entry whole token =
 abbrev pub unfit : Lexeme → FileFault
 unfit token = if is_kind kinds.End token.kind then UnexpectedEnd else Syntax token.start
 
-abbrev pub expected : (Lexeme → Bool) → Result Lexeme LexFault → Result Lexeme FileFault
-expected test (Ok token) = if test token then Ok token else Err (unfit token)
-expected test (Err (lexing.Syntax at)) = Err (Syntax at)
-expected test (Err (lexing.Unclosed at)) = Err UnexpectedEnd
+abbrev pub token_if : (Lexeme → Bool) → Result Lexeme LexFault → Result Lexeme FileFault
+token_if test (Ok token) = if test token then Ok token else Err (unfit token)
+token_if test (Err (lexing.Syntax at)) = Err (Syntax at)
+token_if test (Err (lexing.Unclosed at)) = Err UnexpectedEnd
 
 -- the token from the offset `at` on, if it passes the test
 unfoldable pub token_where : (Lexeme → Bool) → List ℕ → ℕ → Result Lexeme FileFault
-token_where test whole at = expected test (next_from whole at)
+token_where test whole at = token_if test (next_from whole at)
 
 abbrev pub is_byte : ℕ → Option ℕ → Bool
 is_byte byte (Some b) = nat_eq b byte
@@ -101,13 +101,13 @@ comma_byte = 44
 -- Texts and numbers.
 
 -- the bytes that a text token stands for
-abbrev pub text_of : List ℕ → Lexeme → List ℕ
-text_of whole token = unescaped (slice_range whole (token.start + 1) (token.end - 1))
+abbrev pub token_text : List ℕ → Lexeme → List ℕ
+token_text whole token = unescaped (slice_range whole (token.start + 1) (token.end - 1))
 
 unfoldable pub text_at : List ℕ → ℕ → Result (List ℕ × ℕ) FileFault
 text_at whole at = do
   token ← token_where (is_token kinds.Text whole) whole at
-  Ok (text_of whole token, token.end)
+  Ok (token_text whole token, token.end)
 
 -- a text, if one comes
 unfoldable pub name_at : List ℕ → ℕ → Result (Option (List ℕ) × ℕ) FileFault
@@ -115,12 +115,12 @@ name_at whole at =
     if next_is mark whole at then (text_at whole at >>= λ text. Ok (Some text.0, text.1)) else Ok (None, at)
 
 -- the number of a token, or its fault
-abbrev pub numbered : {A : Type 0} → Lexeme → Result A NumberFault → Result (A × ℕ) FileFault
-numbered token (Ok n) = Ok (n, token.end)
-numbered token (Err fault) = Err (Number token.start fault)
+abbrev pub number_or_fault : {A : Type 0} → Lexeme → Result A NumberFault → Result (A × ℕ) FileFault
+number_or_fault token (Ok n) = Ok (n, token.end)
+number_or_fault token (Err fault) = Err (Number token.start fault)
 
 abbrev pub number_at : {A : Type 0} → (List ℕ → Result A NumberFault) → List ℕ → ℕ → Result (A × ℕ) FileFault
-number_at read whole at = token_where (is_token kinds.Number whole) whole at >>= λ token. numbered token (read (bytes_at whole token))
+number_at read whole at = token_where (is_token kinds.Number whole) whole at >>= λ token. number_or_fault token (read (bytes_at whole token))
 
 unfoldable pub literal_at : List ℕ → ℕ → Result (Fraction × ℕ) FileFault
 literal_at whole at = number_at read_as_literal whole at
@@ -255,8 +255,8 @@ names_from (suc left) done whole at =
 abbrev pub checked_names : List (List ℕ) → ℕ → Result ℕ FileFault
 checked_names names at = if nat_eq (length names) 2 then Ok at else Err (Players (length names))
 
-abbrev pub name_of : List (List ℕ) → ℕ → List ℕ
-name_of names i = slice_index_or names i []
+abbrev pub nth_name : List (List ℕ) → ℕ → List ℕ
+nth_name names i = slice_index_or names i []
 
 unfoldable pub prologue_at : List ℕ → ℕ → Result (Prologue × ℕ) FileFault
 prologue_at whole at = do
@@ -268,7 +268,7 @@ prologue_at whole at = do
   names ← names_from (length whole) [] whole opening.end
   behind ← checked_names names.0 names.1
   comment ← name_at whole behind
-  Ok (record { title = title.0; one = name_of names.0 0; two = name_of names.0 1; comment = unwrap_or comment.0 [] }, comment.1)
+  Ok (record { title = title.0; one = nth_name names.0 0; two = nth_name names.0 1; comment = unwrap_or comment.0 [] }, comment.1)
 
 -- The whole file.
 

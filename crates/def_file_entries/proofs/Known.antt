@@ -7,9 +7,9 @@ use Rattle.std.proofs.lemmas.List.Elements.{filter-append}
 use Rattle.def_tree.specs.declared.Kind.{Kind}
 use Rattle.def_tree.specs.declared.Kind.TheVariants as movers
 use Rattle.def_tree.specs.Rules.{is_same_kind}
-use Rattle.def_file.specs.Content.{Record, SetMention, OutcomeMention, SetEntry, OutcomeEntry, SetTables, sets_of, with_sets}
+use Rattle.def_file.specs.Content.{Record, SetMention, OutcomeMention, SetEntry, OutcomeEntry, SetTables, sets_of_kind, with_sets}
 use Rattle.def_file.specs.Faults.{mover, no_set, null_outcome}
-use Rattle.def_file.specs.Adding.{kept_name, new_set, noted_set, new_outcome, noted_outcome, payoff_at, set_number, action_count}
+use Rattle.def_file.specs.Adding.{kept_name, new_set, noted_set, new_outcome, noted_outcome, nth_payoff, set_number, action_count}
 use Rattle.def_file_entries.specs.Entries.{firsts, first_given, given_first, number_in, of_kind, set_table, with_outcome, outcome_numbers, outcome_table}
 use Rattle.def_file_entries.proofs.Firsts.{among, number-stays}
 use Rattle.def_file_entries.proofs.Tables.{found, noted, IsNoted, table-noted, number-noted, value-noted, hits, hits-other, hits-own, hits-none, HasFirst, hits-some}
@@ -37,8 +37,8 @@ set_key r = r.set.number
 abbrev set_by : ℕ → List Record → SetEntry
 set_by n ms = record { number = n; name = first_given (map (λ r. r.set.name) ms); actions = given_first (map (λ r. r.set.actions) ms) }
 
-abbrev pub set_told : List Record → ℕ → SetEntry
-set_told rs n = set_by n (hits set_key n rs)
+abbrev pub set_known : List Record → ℕ → SetEntry
+set_known rs n = set_by n (hits set_key n rs)
 
 abbrev renamed_set : SetMention → SetEntry → SetEntry
 renamed_set m e = record e { name = kept_name e.name m.name }
@@ -52,9 +52,9 @@ set_changed n rs r some =
 set_begun : (r : Record) → set_by r.set.number (r ∷ []) ≡ new_set r.set
 set_begun r = let name = first_given-append [] r.set.name in λ i. record { number = r.set.number; name = name i; actions = unwrap_or r.set.actions [] }
 
-set_noted : (rs : List Record) (r : Record) → IsNoted (λ e. e.number) (renamed_set r.set) (new_set r.set) (set_told rs) (set_told (rs ++ r ∷ [])) r.set.number (map set_key rs)
+set_noted : (rs : List Record) (r : Record) → IsNoted (λ e. e.number) (renamed_set r.set) (new_set r.set) (set_known rs) (set_known (rs ++ r ∷ [])) r.set.number (map set_key rs)
 set_noted rs r = record {
-  told = λ m. refl;
+  shown = λ m. refl;
   stays = λ m h. ap (set_by m) (hits-other set_key m rs r h);
   changed = λ h. ap (set_by r.set.number) (hits-own set_key rs r) ∙ set_changed r.set.number (hits set_key r.set.number rs) r (hits-some set_key r.set.number rs h);
   begun = λ h. ap (set_by r.set.number) (hits-own set_key rs r ∙ ap (λ (xs : List Record). xs ++ r ∷ []) (hits-none set_key r.set.number rs h)) ∙ set_begun r;
@@ -62,40 +62,40 @@ set_noted rs r = record {
 
 -- the set tables of mentions of one kind
 abbrev set_table_by : List Record → List SetEntry
-set_table_by rs = map (set_told rs) (firsts (map set_key rs))
+set_table_by rs = map (set_known rs) (firsts (map set_key rs))
 
 pub numbers_more : (key : Record → ℕ) (rs : List Record) (r : Record) → firsts (map key (rs ++ r ∷ [])) ≡ firsts (map key rs ++ key r ∷ [])
 numbers_more key rs r = ap firsts (map-append key rs (r ∷ []))
 
 set_table_more : (rs : List Record) (r : Record) → set_table_by (rs ++ r ∷ []) ≡ noted_set (set_table_by rs) r.set
 set_table_more rs r =
-    ap (map (set_told (rs ++ r ∷ []))) (numbers_more set_key rs r)
-    ∙ table-noted (λ e. e.number) no_set (renamed_set r.set) (new_set r.set) (set_told rs) (set_told (rs ++ r ∷ [])) r.set.number (map set_key rs) (set_noted rs r)
+    ap (map (set_known (rs ++ r ∷ []))) (numbers_more set_key rs r)
+    ∙ table-noted (λ e. e.number) no_set (renamed_set r.set) (new_set r.set) (set_known rs) (set_known (rs ++ r ∷ [])) r.set.number (map set_key rs) (set_noted rs r)
 
 pub set_number_more : (rs : List Record) (r : Record) → number_in r.set.number (firsts (map set_key (rs ++ r ∷ []))) ≡ set_number (set_table_by rs) r.set
 set_number_more rs r =
     ap (number_in r.set.number) (numbers_more set_key rs r)
-    ∙ number-noted (λ (e : SetEntry). e.number) (set_told rs) (λ m. refl) r.set.number (map set_key rs)
+    ∙ number-noted (λ (e : SetEntry). e.number) (set_known rs) (λ m. refl) r.set.number (map set_key rs)
 
-pub action_count_more : (rs : List Record) (r : Record) → length (set_told (rs ++ r ∷ []) r.set.number).actions ≡ action_count (set_table_by rs) r.set
+pub action_count_more : (rs : List Record) (r : Record) → length (set_known (rs ++ r ∷ []) r.set.number).actions ≡ action_count (set_table_by rs) r.set
 action_count_more rs r =
     let noted = set_noted rs r in
-    value-noted (λ (e : SetEntry). e.number) no_set (λ (e : SetEntry). length e.actions) (set_told rs) (set_told (rs ++ r ∷ [])) (length (new_set r.set).actions) (λ m. refl) r.set.number (map set_key rs)
+    value-noted (λ (e : SetEntry). e.number) no_set (λ (e : SetEntry). length e.actions) (set_known rs) (set_known (rs ++ r ∷ [])) (length (new_set r.set).actions) (λ m. refl) r.set.number (map set_key rs)
     (λ h. ap (λ (e : SetEntry). length e.actions) (noted.changed h)) (λ h. ap (λ (e : SetEntry). length e.actions) (noted.begun h))
 
 -- what an earlier mention says of its set stays
 pub set_number_stays : (n : ℕ) (rs : List Record) (r : Record) → among n (map set_key rs) ≡ true → number_in n (firsts (map set_key (rs ++ r ∷ []))) ≡ number_in n (firsts (map set_key rs))
 set_number_stays n rs r h = ap (number_in n) (numbers_more set_key rs r) ∙ number-stays n r.set.number (map set_key rs) h
 
-count_step : (n : ℕ) (rs : List Record) (r : Record) (b : Bool) → nat_eq r.set.number n ≡ b → among n (map set_key rs) ≡ true → length (set_told (rs ++ r ∷ []) n).actions ≡ length (set_told rs n).actions
+count_step : (n : ℕ) (rs : List Record) (r : Record) (b : Bool) → nat_eq r.set.number n ≡ b → among n (map set_key rs) ≡ true → length (set_known (rs ++ r ∷ []) n).actions ≡ length (set_known rs n).actions
 count_step n rs r true e h =
     let same : r.set.number ≡ n = eqb-true r.set.number n e in
     let own : among r.set.number (map set_key rs) ≡ true = ap (λ (k : ℕ). among k (map set_key rs)) same ∙ h in
     let noted = set_noted rs r in
-    ap (λ (k : ℕ). length (set_told (rs ++ r ∷ []) k).actions) (sym same) ∙ ap (λ (e : SetEntry). length e.actions) (noted.changed own) ∙ ap (λ (k : ℕ). length (set_told rs k).actions) same
+    ap (λ (k : ℕ). length (set_known (rs ++ r ∷ []) k).actions) (sym same) ∙ ap (λ (e : SetEntry). length e.actions) (noted.changed own) ∙ ap (λ (k : ℕ). length (set_known rs k).actions) same
 count_step n rs r false e h = ap (λ (e : SetEntry). length e.actions) ((set_noted rs r).stays n e)
 
-pub action_count_stays : (n : ℕ) (rs : List Record) (r : Record) → among n (map set_key rs) ≡ true → length (set_told (rs ++ r ∷ []) n).actions ≡ length (set_told rs n).actions
+pub action_count_stays : (n : ℕ) (rs : List Record) (r : Record) → among n (map set_key rs) ≡ true → length (set_known (rs ++ r ∷ []) n).actions ≡ length (set_known rs n).actions
 action_count_stays n rs r h = count_step n rs r (nat_eq r.set.number n) refl h
 
 -- Entries of a kind.
@@ -115,7 +115,7 @@ other_table kind rs r h = ap set_table_by (other_kind kind rs r h)
 abbrev pub tables_of : List Record → SetTables
 tables_of rs = record { chance = set_table movers.Chance rs; one = set_table movers.One rs; two = set_table movers.Two rs }
 
-sets_by : (kind : Kind) (rs : List Record) (r : Record) → mover r ≡ kind → tables_of (rs ++ r ∷ []) ≡ with_sets kind (noted_set (sets_of kind (tables_of rs)) r.set) (tables_of rs)
+sets_by : (kind : Kind) (rs : List Record) (r : Record) → mover r ≡ kind → tables_of (rs ++ r ∷ []) ≡ with_sets kind (noted_set (sets_of_kind kind (tables_of rs)) r.set) (tables_of rs)
 sets_by movers.Chance rs r e =
     let a = own_table movers.Chance rs r (ap (is_same_kind movers.Chance) e) in
     let b = other_table movers.One rs r (ap (is_same_kind movers.One) e) in
@@ -137,7 +137,7 @@ sets_by movers.Leaf rs r e =
     let c = other_table movers.Two rs r (ap (is_same_kind movers.Two) e) in
     λ i. record { chance = a i; one = b i; two = c i }
 
-pub sets_more : (rs : List Record) (r : Record) → tables_of (rs ++ r ∷ []) ≡ with_sets (mover r) (noted_set (sets_of (mover r) (tables_of rs)) r.set) (tables_of rs)
+pub sets_more : (rs : List Record) (r : Record) → tables_of (rs ++ r ∷ []) ≡ with_sets (mover r) (noted_set (sets_of_kind (mover r) (tables_of rs)) r.set) (tables_of rs)
 sets_more rs r = sets_by (mover r) rs r refl
 
 -- Outcomes.
@@ -150,12 +150,12 @@ abbrev outcome_by : ℕ → List Record → OutcomeEntry
 outcome_by n ms = record {
   number = n;
   name = first_given (map (λ r. r.outcome.name) ms);
-  one = payoff_at (given_first (map (λ r. r.outcome.payoffs) ms)) 0;
-  two = payoff_at (given_first (map (λ r. r.outcome.payoffs) ms)) 1;
+  one = nth_payoff (given_first (map (λ r. r.outcome.payoffs) ms)) 0;
+  two = nth_payoff (given_first (map (λ r. r.outcome.payoffs) ms)) 1;
 }
 
-abbrev outcome_told : List Record → ℕ → OutcomeEntry
-outcome_told rs n = outcome_by n (hits outcome_key n rs)
+abbrev outcome_known : List Record → ℕ → OutcomeEntry
+outcome_known rs n = outcome_by n (hits outcome_key n rs)
 
 abbrev renamed_outcome : OutcomeMention → OutcomeEntry → OutcomeEntry
 renamed_outcome m e = record e { name = kept_name e.name m.name }
@@ -164,16 +164,16 @@ outcome_changed : (n : ℕ) (rs : List Record) (r : Record) → HasFirst rs → 
 outcome_changed n rs r some =
     let name = name_more (λ (x : Record). x.outcome.name) rs r in
     let payoffs = list_stays (λ (x : Record). x.outcome.payoffs) rs r some in
-    λ i. record { number = n; name = name i; one = payoff_at (payoffs i) 0; two = payoff_at (payoffs i) 1 }
+    λ i. record { number = n; name = name i; one = nth_payoff (payoffs i) 0; two = nth_payoff (payoffs i) 1 }
 
 outcome_begun : (r : Record) → outcome_by r.outcome.number (r ∷ []) ≡ new_outcome r.outcome
 outcome_begun r =
     let name = first_given-append [] r.outcome.name in
-    λ i. record { number = r.outcome.number; name = name i; one = payoff_at (unwrap_or r.outcome.payoffs []) 0; two = payoff_at (unwrap_or r.outcome.payoffs []) 1 }
+    λ i. record { number = r.outcome.number; name = name i; one = nth_payoff (unwrap_or r.outcome.payoffs []) 0; two = nth_payoff (unwrap_or r.outcome.payoffs []) 1 }
 
-outcome_noted : (rs : List Record) (r : Record) → IsNoted (λ e. e.number) (renamed_outcome r.outcome) (new_outcome r.outcome) (outcome_told rs) (outcome_told (rs ++ r ∷ [])) r.outcome.number (map outcome_key rs)
+outcome_noted : (rs : List Record) (r : Record) → IsNoted (λ e. e.number) (renamed_outcome r.outcome) (new_outcome r.outcome) (outcome_known rs) (outcome_known (rs ++ r ∷ [])) r.outcome.number (map outcome_key rs)
 outcome_noted rs r = record {
-  told = λ m. refl;
+  shown = λ m. refl;
   stays = λ m h. ap (outcome_by m) (hits-other outcome_key m rs r h);
   changed = λ h. ap (outcome_by r.outcome.number) (hits-own outcome_key rs r) ∙ outcome_changed r.outcome.number (hits outcome_key r.outcome.number rs) r (hits-some outcome_key r.outcome.number rs h);
   begun = λ h. ap (outcome_by r.outcome.number) (hits-own outcome_key rs r ∙ ap (λ (xs : List Record). xs ++ r ∷ []) (hits-none outcome_key r.outcome.number rs h)) ∙ outcome_begun r;
@@ -181,12 +181,12 @@ outcome_noted rs r = record {
 
 -- the outcomes of mentions of outcomes other than 0
 abbrev outcomes_by : List Record → List OutcomeEntry
-outcomes_by rs = map (outcome_told rs) (firsts (map outcome_key rs))
+outcomes_by rs = map (outcome_known rs) (firsts (map outcome_key rs))
 
 outcomes_more : (rs : List Record) (r : Record) → outcomes_by (rs ++ r ∷ []) ≡ noted (λ e. e.number) null_outcome (renamed_outcome r.outcome) (new_outcome r.outcome) r.outcome.number (outcomes_by rs)
 outcomes_more rs r =
-    ap (map (outcome_told (rs ++ r ∷ []))) (numbers_more outcome_key rs r)
-    ∙ table-noted (λ e. e.number) null_outcome (renamed_outcome r.outcome) (new_outcome r.outcome) (outcome_told rs) (outcome_told (rs ++ r ∷ [])) r.outcome.number (map outcome_key rs) (outcome_noted rs r)
+    ap (map (outcome_known (rs ++ r ∷ []))) (numbers_more outcome_key rs r)
+    ∙ table-noted (λ e. e.number) null_outcome (renamed_outcome r.outcome) (new_outcome r.outcome) (outcome_known rs) (outcome_known (rs ++ r ∷ [])) r.outcome.number (map outcome_key rs) (outcome_noted rs r)
 
 pub some_outcome : (rs : List Record) (r : Record) → nat_eq r.outcome.number 0 ≡ false → with_outcome (rs ++ r ∷ []) ≡ with_outcome rs ++ r ∷ []
 some_outcome rs r h = filter-append (λ x. not (nat_eq x.outcome.number 0)) rs (r ∷ []) ∙ ap (λ (b : Bool). with_outcome rs ++ cond (not b) (r ∷ []) []) h
@@ -208,4 +208,4 @@ outcome_number_step rs r true e = refl
 outcome_number_step rs r false e =
     ap (λ xs. number_in r.outcome.number (firsts (map outcome_key xs))) (some_outcome rs r e)
     ∙ ap (number_in r.outcome.number) (numbers_more outcome_key (with_outcome rs) r)
-    ∙ number-noted (λ (e : OutcomeEntry). e.number) (outcome_told (with_outcome rs)) (λ m. refl) r.outcome.number (map outcome_key (with_outcome rs))
+    ∙ number-noted (λ (e : OutcomeEntry). e.number) (outcome_known (with_outcome rs)) (λ m. refl) r.outcome.number (map outcome_key (with_outcome rs))

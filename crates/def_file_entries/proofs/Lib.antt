@@ -2,3 +2,10 @@ mod Firsts
 mod Tables
 mod Known
 pub mod OneMore
+pub mod FirstMet
+pub mod FirstWith
+pub mod Differs
+pub mod EntryTests
+pub mod EntryFaults
+pub mod NoFault
+pub mod WholeGames

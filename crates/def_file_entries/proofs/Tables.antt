@@ -78,7 +78,7 @@ read f none n (m ∷ ns) h = read_step f none n m ns (nat_eq n m) refl h (read f
 
 -- what is known of each number by f, and with a mention of the number n after mentions of ns by g
 pub record IsNoted {E : Type 0} (number : E → ℕ) (change : E → E) (fresh : E) (f g : ℕ → E) (n : ℕ) (ns : List ℕ) : Type 0 where
-  pub told : (m : ℕ) → number (f m) ≡ m
+  pub shown : (m : ℕ) → number (f m) ≡ m
   pub stays : (m : ℕ) → nat_eq n m ≡ false → g m ≡ f m
   pub changed : among n ns ≡ true → g n ≡ change (f n)
   pub begun : among n ns ≡ false → g n ≡ fresh
@@ -91,14 +91,14 @@ table_step number none change fresh f g n ns true e is =
     ∙ written f g n is.stays (firsts ns) (firsts-distinct ns) here
     ∙ ap (λ v. slice_set (map f (firsts ns)) (place n (firsts ns)) v) (is.changed e)
     ∙ ap (λ v. slice_set (map f (firsts ns)) (place n (firsts ns)) (change v)) (sym (read f none n (firsts ns) here))
-    ∙ ap (λ (o : Option ℕ). option_map_or (λ i. slice_set (map f (firsts ns)) i (change (slice_index_or (map f (firsts ns)) i none))) o (map f (firsts ns) ++ fresh ∷ [])) (sym (found-seen number f is.told n (firsts ns) here))
+    ∙ ap (λ (o : Option ℕ). option_map_or (λ i. slice_set (map f (firsts ns)) i (change (slice_index_or (map f (firsts ns)) i none))) o (map f (firsts ns) ++ fresh ∷ [])) (sym (found-seen number f is.shown n (firsts ns) here))
 table_step number none change fresh f g n ns false e is =
     let out : among n (firsts ns) ≡ false = among-firsts n ns ∙ e in
     ap (map g) (firsts-new n ns e)
     ∙ map-append g (firsts ns) (n ∷ [])
     ∙ ap (λ v. map g (firsts ns) ++ v ∷ []) (is.begun e)
     ∙ ap (λ vs. vs ++ fresh ∷ []) (map_stays f g n is.stays (firsts ns) out)
-    ∙ ap (λ (o : Option ℕ). option_map_or (λ i. slice_set (map f (firsts ns)) i (change (slice_index_or (map f (firsts ns)) i none))) o (map f (firsts ns) ++ fresh ∷ [])) (sym (found-new number f is.told n (firsts ns) out))
+    ∙ ap (λ (o : Option ℕ). option_map_or (λ i. slice_set (map f (firsts ns)) i (change (slice_index_or (map f (firsts ns)) i none))) o (map f (firsts ns) ++ fresh ∷ [])) (sym (found-new number f is.shown n (firsts ns) out))
 
 pub table-noted : {E : Type 0} (number : E → ℕ) (none : E) (change : E → E) (fresh : E) (f g : ℕ → E) (n : ℕ) (ns : List ℕ) → IsNoted number change fresh f g n ns
     → map g (firsts (ns ++ n ∷ [])) ≡ noted number none change fresh n (map f (firsts ns))
@@ -106,37 +106,37 @@ table-noted number none change fresh f g n ns is = table_step number none change
 
 number_step : {E : Type 0} (number : E → ℕ) (f : ℕ → E) → ((m : ℕ) → number (f m) ≡ m) → (n : ℕ) (ns : List ℕ) (seen : Bool) → among n ns ≡ seen
     → place n (firsts (ns ++ n ∷ [])) ≡ unwrap_or (found number n (map f (firsts ns))) (length (map f (firsts ns)))
-number_step number f told n ns true e =
+number_step number f shown n ns true e =
     ap (place n) (firsts-seen n ns e)
-    ∙ ap (λ (o : Option ℕ). unwrap_or o (length (map f (firsts ns)))) (sym (found-seen number f told n (firsts ns) (among-firsts n ns ∙ e)))
-number_step number f told n ns false e =
+    ∙ ap (λ (o : Option ℕ). unwrap_or o (length (map f (firsts ns)))) (sym (found-seen number f shown n (firsts ns) (among-firsts n ns ∙ e)))
+number_step number f shown n ns false e =
     ap (place n) (firsts-new n ns e)
     ∙ place-new n (firsts ns) (among-firsts n ns ∙ e)
     ∙ sym (length-map (firsts ns) f)
-    ∙ ap (λ (o : Option ℕ). unwrap_or o (length (map f (firsts ns)))) (sym (found-new number f told n (firsts ns) (among-firsts n ns ∙ e)))
+    ∙ ap (λ (o : Option ℕ). unwrap_or o (length (map f (firsts ns)))) (sym (found-new number f shown n (firsts ns) (among-firsts n ns ∙ e)))
 
 -- the number of the last mention, by the table before it
 pub number-noted : {E : Type 0} (number : E → ℕ) (f : ℕ → E) → ((m : ℕ) → number (f m) ≡ m) → (n : ℕ) (ns : List ℕ)
     → number_in n (firsts (ns ++ n ∷ [])) ≡ unwrap_or (found number n (map f (firsts ns))) (length (map f (firsts ns))) + 1
-number-noted number f told n ns = ap (λ (k : ℕ). k + 1) (number_step number f told n ns (among n ns) refl)
+number-noted number f shown n ns = ap (λ (k : ℕ). k + 1) (number_step number f shown n ns (among n ns) refl)
 
 value_step : {E B : Type 0} (number : E → ℕ) (none : E) (h : E → B) (f g : ℕ → E) (v : B) → ((m : ℕ) → number (f m) ≡ m) → (n : ℕ) (ns : List ℕ) (seen : Bool) → among n ns ≡ seen
     → (among n ns ≡ true → h (g n) ≡ h (f n)) → (among n ns ≡ false → h (g n) ≡ v)
     → h (g n) ≡ option_map_or (λ i. h (slice_index_or (map f (firsts ns)) i none)) (found number n (map f (firsts ns))) v
-value_step number none h f g v told n ns true e kept begun =
+value_step number none h f g v shown n ns true e kept begun =
     let here : among n (firsts ns) ≡ true = among-firsts n ns ∙ e in
     kept e
     ∙ ap h (sym (read f none n (firsts ns) here))
-    ∙ ap (λ (o : Option ℕ). option_map_or (λ i. h (slice_index_or (map f (firsts ns)) i none)) o v) (sym (found-seen number f told n (firsts ns) here))
-value_step number none h f g v told n ns false e kept begun =
+    ∙ ap (λ (o : Option ℕ). option_map_or (λ i. h (slice_index_or (map f (firsts ns)) i none)) o v) (sym (found-seen number f shown n (firsts ns) here))
+value_step number none h f g v shown n ns false e kept begun =
     begun e
-    ∙ ap (λ (o : Option ℕ). option_map_or (λ i. h (slice_index_or (map f (firsts ns)) i none)) o v) (sym (found-new number f told n (firsts ns) (among-firsts n ns ∙ e)))
+    ∙ ap (λ (o : Option ℕ). option_map_or (λ i. h (slice_index_or (map f (firsts ns)) i none)) o v) (sym (found-new number f shown n (firsts ns) (among-firsts n ns ∙ e)))
 
 -- what a function h says of the last mention's entry, by the table before it
 pub value-noted : {E B : Type 0} (number : E → ℕ) (none : E) (h : E → B) (f g : ℕ → E) (v : B) → ((m : ℕ) → number (f m) ≡ m) → (n : ℕ) (ns : List ℕ)
     → (among n ns ≡ true → h (g n) ≡ h (f n)) → (among n ns ≡ false → h (g n) ≡ v)
     → h (g n) ≡ option_map_or (λ i. h (slice_index_or (map f (firsts ns)) i none)) (found number n (map f (firsts ns))) v
-value-noted number none h f g v told n ns kept begun = value_step number none h f g v told n ns (among n ns) refl kept begun
+value-noted number none h f g v shown n ns kept begun = value_step number none h f g v shown n ns (among n ns) refl kept begun
 
 -- mentions, among things with a number each
 
@@ -170,3 +170,17 @@ some_step key n r rs false h known = known h
 pub hits-some : {R : Type 0} (key : R → ℕ) (n : ℕ) (rs : List R) → among n (map key rs) ≡ true → HasFirst (hits key n rs)
 hits-some key n [] h = absurd cc
 hits-some key n (r ∷ rs) h = some_step key n r rs (nat_eq n (key r)) h (hits-some key n rs)
+
+-- A number is new to a table, or the table has what is known of it.
+pub data Found {E R : Type 0} (number : E → ℕ) (none : E) (f : ℕ → E) (key : R → ℕ) (n : ℕ) (rs : List R) : Type 0 where
+  is_new : found number n (map f (firsts (map key rs))) ≡ None → hits key n rs ≡ [] → Found number none f key n rs
+  is_known : (i : ℕ) → found number n (map f (firsts (map key rs))) ≡ Some i → slice_index_or (map f (firsts (map key rs))) i none ≡ f n → HasFirst (hits key n rs) → Found number none f key n rs
+
+pub found-cases : {E R : Type 0} (number : E → ℕ) (none : E) (f : ℕ → E) → ((m : ℕ) → number (f m) ≡ m) → (key : R → ℕ) (n : ℕ) (rs : List R) → Found number none f key n rs
+found-cases number none f shown key n rs = by (among n (map key rs)) refl
+  where
+    by : (b : Bool) → among n (map key rs) ≡ b → Found number none f key n rs
+    by true e =
+        let here : among n (firsts (map key rs)) ≡ true = among-firsts n (map key rs) ∙ e in
+        is_known (place n (firsts (map key rs))) (found-seen number f shown n (firsts (map key rs)) here) (read f none n (firsts (map key rs)) here) (hits-some key n rs e)
+    by false e = is_new (found-new number f shown n (firsts (map key rs)) (among-firsts n (map key rs) ∙ e)) (hits-none key n rs e)

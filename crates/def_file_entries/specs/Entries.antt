@@ -14,7 +14,7 @@ use Rattle.def_tree.specs.declared.Node.{Node}
 use Rattle.def_tree.specs.Rules.{is_same_kind}
 use Rattle.def_file.specs.Content.{Prologue, Record, SetEntry, OutcomeEntry, Contents, GameFile, game_with}
 use Rattle.def_file.specs.Faults.{mover, has_set}
-use Rattle.def_file.specs.Adding.{payoff_at}
+use Rattle.def_file.specs.Adding.{nth_payoff}
 
 -- each number once, in the order of first appearance
 abbrev pub firsts : List ℕ → List ℕ
@@ -35,7 +35,7 @@ abbrev pub given_first : {A : Type 0} → List (Option (List A)) → List A
 given_first [] = []
 given_first (given ∷ rest) = unwrap_or given []
 
--- Sets are told by who moves and by their number in the file.
+-- Sets are those of chance and of each player, by their number in the file.
 
 abbrev pub of_kind : Kind → List Record → List Record
 of_kind kind rs = filter (λ r. is_same_kind kind (mover r)) rs
@@ -57,7 +57,7 @@ set_entry kind rs n = record {
 abbrev pub set_table : Kind → List Record → List SetEntry
 set_table kind rs = map (set_entry kind rs) (set_numbers kind rs)
 
--- Outcomes are told by their number in the file. Outcome 0 is the null outcome.
+-- Outcomes go by their number in the file. Outcome 0 is the null outcome.
 
 abbrev pub with_outcome : List Record → List Record
 with_outcome rs = filter (λ r. not (nat_eq r.outcome.number 0)) rs
@@ -72,8 +72,8 @@ abbrev pub outcome_entry : List Record → ℕ → OutcomeEntry
 outcome_entry rs n = record {
   number = n;
   name = first_given (map (λ r. r.outcome.name) (outcome_mentions n rs));
-  one = payoff_at (given_first (map (λ r. r.outcome.payoffs) (outcome_mentions n rs))) 0;
-  two = payoff_at (given_first (map (λ r. r.outcome.payoffs) (outcome_mentions n rs))) 1;
+  one = nth_payoff (given_first (map (λ r. r.outcome.payoffs) (outcome_mentions n rs))) 0;
+  two = nth_payoff (given_first (map (λ r. r.outcome.payoffs) (outcome_mentions n rs))) 1;
 }
 
 abbrev pub outcome_table : List Record → List OutcomeEntry
@@ -98,5 +98,5 @@ contents_of rs = record {
 }
 
 -- the game of a prologue and of entries whose nodes are a whole tree
-abbrev pub game_of : Prologue → List Record → GameFile
-game_of prologue rs = game_with prologue (contents_of rs)
+abbrev pub game_of_entries : Prologue → List Record → GameFile
+game_of_entries prologue rs = game_with prologue (contents_of rs)

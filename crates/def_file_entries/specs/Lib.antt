@@ -1,3 +1,4 @@
 pub mod Entries
+pub mod EntryRules
 pub mod Laws
 pub mod Rows

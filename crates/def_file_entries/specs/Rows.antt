@@ -1,13 +1,14 @@
 -- Small files, by their entries: what they stand for, and the faults of one more entry.
-use Rattle.std.specs.Prelude.{◌≡◌, ℕ, ℤ, pos, negsuc, List, [], ◌∷◌, ◌++◌, Option, Some, None, codes}
+use Rattle.std.specs.Prelude.{◌≡◌, ℕ, ℤ, pos, negsuc, List, [], ◌∷◌, ◌++◌, Option, Some, None, replicate, codes}
 use Rattle.def_fraction.specs.Fraction.{Fraction, whole_number}
 use Rattle.def_tree.specs.declared.Kind.{Kind}
 use Rattle.def_tree.specs.declared.Kind.TheVariants as movers
 use Rattle.def_tree.specs.declared.Node.{Node}
 use Rattle.def_file.specs.declared.EntryKind.TheVariants.{Chance, Personal, Leaf}
-use Rattle.def_file.specs.declared.FileFault.TheVariants.{PlayerNumber, SetMismatch, OutcomeUndefined, OutcomeMismatch, PayoffCount, ActionCount}
-use Rattle.def_file.specs.Content.{Action, SetMention, Record, Contents, no_set_mention, zero_fraction}
-use Rattle.def_file.specs.Faults.{record_fault}
+use Rattle.def_file.specs.declared.FileFault.{FileFault}
+use Rattle.def_file.specs.declared.FileFault.TheVariants.{PlayerNumber, SetUndefined, SetMismatch, OutcomeUndefined, OutcomeMismatch, PayoffCount, TooManyNodes, ActionCount}
+use Rattle.def_file.specs.Content.{Action, SetMention, OutcomeMention, Record, Contents, no_set_mention, zero_fraction}
+use Rattle.def_file.specs.Faults.{first_met, entry_faults, record_fault}
 use Rattle.def_file_entries.specs.Entries.{contents_of}
 
 -- Entries, as a file writes them.
@@ -33,6 +34,10 @@ choice player set = record { kind = Personal; name = []; player = player; set = 
 
 abbrev leaf : ℕ → Option (List ℕ) → Option (List Fraction) → Record
 leaf number name payoffs = record { kind = Leaf; name = []; player = 0; set = no_set_mention; outcome = record { number = number; name = name; payoffs = payoffs } }
+
+-- outcome 3 without payoffs, where it is new
+abbrev unpaid : OutcomeMention
+unpaid = record { number = 3; name = None; payoffs = None }
 
 abbrev pays : ℤ → ℤ → Option (List Fraction)
 pays one two = Some (whole_number one ∷ whole_number two ∷ [])
@@ -108,7 +113,7 @@ late_contents = record {
   outcomes = record { number = 6; name = Some (codes "win"); one = whole_number (pos 1); two = whole_number (negsuc 0) } ∷ [];
 }
 
--- Faults, each of a fifth entry behind the first four of the first file.
+-- Faults, each of a fifth entry behind the first four of the first file, unless it is said.
 
 abbrev heads : Fraction → SetMention
 heads chance = mention 7 None (Some (odds (codes "h") chance ∷ odds (codes "t") (over (pos 1) 2) ∷ []))
@@ -119,6 +124,14 @@ renamed = mention 7 (Some (codes "coin")) (Some (odds (codes "h") (over (pos 1) 
 -- the names of player one's actions, with probabilities that no file gives
 abbrev uneven : SetMention
 uneven = mention 1 (Some (codes "a")) (Some (odds (codes "x") (over (pos 1) 2) ∷ odds (codes "y") (over (pos 1) 3) ∷ []))
+
+-- the fault of an entry behind so many nodes, where neither a set nor an outcome is known
+abbrev fault_behind : ℕ → Record → Option FileFault
+fault_behind nodes r = first_met (entry_faults nodes [] [] r)
+
+-- the first four entries, a fifth, and what a name says after it
+abbrev begun_and : Record → Record → Option FileFault
+begun_and fifth r = record_fault (contents_of (begun ++ fifth ∷ [])) r
 
 pub record EntryRows : Type 0 where
   pub coin_file : contents_of (begun ++ ended) ≡ coin_contents
@@ -134,3 +147,25 @@ pub record EntryRows : Type 0 where
   pub player : record_fault (contents_of begun) (choice 3 (mention 8 None None)) ≡ Some (PlayerNumber 5)
   pub no_action : record_fault (contents_of begun) (choice 1 (mention 2 None (Some []))) ≡ Some (ActionCount 5)
   pub later_empty : record_fault (contents_of begun) (choice 1 (mention 1 None (Some []))) ≡ Some (SetMismatch 5)
+  pub set_of_chance : record_fault (contents_of begun) (toss (mention 1 None None)) ≡ Some (SetUndefined 5)
+  pub set_of_two : record_fault (contents_of begun) (choice 2 (mention 1 (Some (codes "a")) None)) ≡ Some (SetUndefined 5)
+  pub known_set : record_fault (contents_of begun) (choice 1 (mention 1 None None)) ≡ None
+  pub undefined_before_outcome : record_fault (contents_of begun) (record (choice 1 (mention 2 None None)) { outcome = unpaid }) ≡ Some (SetUndefined 5)
+  pub mismatch_before_outcome : record_fault (contents_of begun) (record (choice 1 (mention 1 (Some (codes "b")) None)) { outcome = unpaid }) ≡ Some (SetMismatch 5)
+  pub more_actions : record_fault (contents_of begun) (choice 1 (mention 1 None (Some (letters ++ act (codes "z") ∷ [])))) ≡ Some (SetMismatch 5)
+  pub fewer_actions : record_fault (contents_of begun) (choice 1 (mention 1 None (Some (act (codes "x") ∷ [])))) ≡ Some (SetMismatch 5)
+  pub other_set_name : record_fault (contents_of begun) (choice 1 (mention 1 (Some (codes "b")) None)) ≡ Some (SetMismatch 5)
+  pub late_name : begun_and (leaf 1 (Some (codes "win")) None) (leaf 1 (Some (codes "loss")) None) ≡ Some (OutcomeMismatch 6)
+  pub late_name_again : begun_and (leaf 1 (Some (codes "win")) None) (leaf 1 (Some (codes "win")) (pays (pos 1) (negsuc 0))) ≡ None
+  pub first_name_kept : begun_and (choice 1 (mention 1 None None)) (choice 1 (mention 1 (Some (codes "b")) None)) ≡ Some (SetMismatch 6)
+  pub other_payoffs : record_fault (contents_of begun) (leaf 1 None (pays (negsuc 0) (pos 1))) ≡ Some (OutcomeMismatch 5)
+  pub later_three : record_fault (contents_of begun) (leaf 1 None (Some (whole_number (pos 1) ∷ whole_number (negsuc 0) ∷ zero_fraction ∷ []))) ≡ Some (OutcomeMismatch 5)
+  pub name_at_zero : begun_and (leaf 0 (Some (codes "even")) None) (leaf 0 (Some (codes "odd")) None) ≡ None
+  pub most_actions_fit : fault_behind 0 (choice 1 (mention 1 None (Some (replicate 1024 (act []))))) ≡ None
+  pub one_action_more : fault_behind 0 (choice 1 (mention 1 None (Some (replicate 1025 (act []))))) ≡ Some (ActionCount 1)
+  pub last_node : fault_behind 1048575 (leaf 0 None None) ≡ None
+  pub node_too_many : fault_behind 1048576 (leaf 0 None None) ≡ Some TooManyNodes
+  pub payoffs_before_nodes : fault_behind 1048576 (leaf 3 None (Some [])) ≡ Some (PayoffCount 1048577)
+  pub nodes_before_actions : fault_behind 1048576 (choice 1 (mention 2 None (Some []))) ≡ Some TooManyNodes
+  pub actions_at_last_node : fault_behind 1048575 (choice 1 (mention 2 None (Some []))) ≡ Some (ActionCount 1048576)
+  pub payoffs_before_actions : record_fault (contents_of begun) (record (choice 1 (mention 2 None (Some []))) { outcome = record { number = 3; name = None; payoffs = Some [] } }) ≡ Some (PayoffCount 5)

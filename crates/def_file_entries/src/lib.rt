@@ -1,7 +1,7 @@
 //! The game that the entries of a file stand for, by all entries at once, in definitions alone.
 #![tactic(auto)]
 
-ghost use Rattle.def_file_entries.specs.Laws.{NothingIsKnown, OneMoreIsKnown};
+ghost use Rattle.def_file_entries.specs.Laws.{EntriesMakeWholeGame, EntryFaultIsFirstBroken, NoFaultBreaksNone, NothingIsKnown, OneMoreIsKnown};
 ghost use Rattle.def_file_entries.specs.Rows.{EntryRows};
 
 /// Without an entry nothing is known.
@@ -12,6 +12,21 @@ pub fn nothing_is_known()
 /// What is known after entries, with one more, is what all of them say.
 pub fn one_more_is_known()
     ensures { OneMoreIsKnown }
+{}
+
+/// Behind entries without a fault, the fault of an entry is that of the first rule that it breaks.
+pub fn entry_fault_is_first_broken()
+    ensures { EntryFaultIsFirstBroken }
+{}
+
+/// Behind entries without a fault, an entry has none exactly where it breaks no rule.
+pub fn no_fault_breaks_none()
+    ensures { NoFaultBreaksNone }
+{}
+
+/// Entries without a fault whose nodes are a whole tree are a game whose sets and outcomes go with its tree.
+pub fn entries_make_whole_game()
+    ensures { EntriesMakeWholeGame }
 {}
 
 /// What two small files stand for, and the faults of one more entry.

@@ -8,7 +8,7 @@ use Rattle.def_file_tokens.specs.declared.LexFault.TheVariants as lexing
 use Rattle.def_file_tokens.specs.Tokens.{next_from}
 use Rattle.def_file.specs.declared.FileFault.{FileFault}
 use Rattle.def_file.specs.declared.FileFault.TheVariants.{Syntax, UnexpectedEnd}
-use Rattle.def_file.specs.Reading.{◌>>=◌, is_kind, expected, unfit, token_where}
+use Rattle.def_file.specs.Reading.{◌>>=◌, is_kind, token_if, unfit, token_where}
 use Rattle.def_file_form.specs.Form.{Spelled, number}
 use Rattle.def_file_form.proofs.Steps.{is_kind-true, token_ok}
 use Rattle.def_file_fault.specs.Offends.{spelled_at, Numbers, number_fault, IsFront}
@@ -151,7 +151,7 @@ module _ (F : (List Spelled → Type 0) → Type 0) (In : (List Spelled → Type
         taken (number n.0) n.1 ((takes n.0).1 (n.2 numbers));
   }))
 
-  fault_here : (r : Result Lexeme LexFault) (fault : FileFault) → next_from whole at ≡ r → expected (λ t. test (spelled_at whole t)) r ≡ Err fault → Stuck (In T) whole at fault
+  fault_here : (r : Result Lexeme LexFault) (fault : FileFault) → next_from whole at ≡ r → token_if (λ t. test (spelled_at whole t)) r ≡ Err fault → Stuck (In T) whole at fault
   fault_here (Ok t) fault next e = tested (test (spelled_at whole t)) refl e
     where
       tested : (b : Bool) → test (spelled_at whole t) ≡ b → cond b (Ok t) (Err (unfit t)) ≡ Err fault → Stuck (In T) whole at fault

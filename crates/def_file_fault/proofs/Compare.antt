@@ -13,7 +13,7 @@ use Rattle.def_file.specs.declared.FileFault.{FileFault}
 use Rattle.def_file.specs.declared.FileFault.TheVariants.{Syntax, UnexpectedEnd, Number}
 use Rattle.def_file.specs.Reading.{bytes_at, read_as_set}
 use Rattle.def_file_form.specs.Form.{Spelled, number}
-use Rattle.def_file_fault.specs.Offends.{spelled_at, AreNext, Numbers, wholes, wholes_from_one, literals, number_fault, IsFront, TakesNumbers, IsUnfit, IsNumberFault, Stops, Offends, Ends}
+use Rattle.def_file_fault.specs.Offends.{spelled_at, AreNext, Numbers, wholes, wholes_from_one, literals, number_fault, IsFront, TakesNumbers, IsUnfit, IsNumberFault, Stops, Offends, EndsWhole}
 use Rattle.def_file_fault.proofs.Languages.{Halt, Stuck, halt_stops}
 use Rattle.def_file_fault.proofs.Slots.{each_takes_one}
 
@@ -186,7 +186,7 @@ one_offence L whole at f g a b =
 pub record IsEnded (L : List Spelled → Type 0) (whole : List ℕ) (at : ℕ) (tokens : List Spelled) (end : ℕ) : Type 0 where
   pub next : AreNext whole at tokens end
   pub word : L tokens
-  pub ends : Ends L whole tokens end
+  pub ends : EndsWhole L whole tokens end
 
 front_of : (L : List Spelled → Type 0) (ss : List Spelled) → L ss → IsFront L ss
 front_of L ss word = ([], subst L (sym (append-nil ss)) word)

@@ -4,7 +4,7 @@ use Rattle.def_file.specs.declared.FileFault.{FileFault}
 use Rattle.def_file.specs.Content.{Record}
 use Rattle.def_file.specs.Reading.{name_at, entry_at}
 use Rattle.def_file_form.specs.Form.{Spelled, IsName, IsEntry}
-use Rattle.def_file_fault.specs.Offends.{AreNext, Offends, Ends}
+use Rattle.def_file_fault.specs.Offends.{AreNext, Offends, EndsWhole}
 use Rattle.def_file_fault.specs.First.{IsHeadTokens, IsCommentTokens, IsEntryTokens, IsHeadUpTo, IsCommentFrom, IsEntryFrom}
 use Rattle.def_file_fault.proofs.Languages.{Stuck, offends}
 use Rattle.def_file_fault.proofs.Heads.{Head, IsHeadOf, head_at}
@@ -19,7 +19,7 @@ module _ {A : Type 0} (L : List Spelled → Type 0) (R : A → List Spelled → 
   ended : (v : A) (end : ℕ) → (w : WholeRead L R whole at v end) → IsEnded L whole at w.tokens end
   ended v end w = record { next = w.next; word = word v w.tokens w.is; ends = w.ends }
 
-  decided : (v : A) (ss : List Spelled) (end : ℕ) → AreNext whole at ss end → R v ss [] → Ends L whole ss end → r ≡ Ok (v, end)
+  decided : (v : A) (ss : List Spelled) (end : ℕ) → AreNext whole at ss end → R v ss [] → EndsWhole L whole ss end → r ≡ Ok (v, end)
   decided v ss end next is ends = by_reading r refl
     where
       here : IsEnded L whole at ss end

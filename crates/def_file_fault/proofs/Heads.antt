@@ -7,7 +7,7 @@ use Rattle.def_file_tokens.specs.declared.Token.TheVariants as kinds
 use Rattle.def_file_tokens.specs.declared.Lexeme.{Lexeme}
 use Rattle.def_file.specs.declared.FileFault.{FileFault}
 use Rattle.def_file.specs.Content.{Prologue}
-use Rattle.def_file.specs.Reading.{◌>>=◌, is_kind, is_token, is_exact, is_numbers, token_where, next_is, close_byte, text_at, name_at, close_at, names_from, checked_names, name_of, prologue_at}
+use Rattle.def_file.specs.Reading.{◌>>=◌, is_kind, is_token, is_exact, is_numbers, token_where, next_is, close_byte, text_at, name_at, close_at, names_from, checked_names, nth_name, prologue_at}
 use Rattle.def_file_form.specs.Form.{Spelled, word, number, open_brace, close_brace, IsText, AreNames, IsHead}
 use Rattle.def_file_form.proofs.Steps.{either, exact_here, open_step, ok_token}
 use Rattle.def_file_fault.specs.Offends.{spelled_at}
@@ -80,7 +80,7 @@ unfoldable pub behind_head : List ℕ → Head × ℕ → Result (Prologue × �
 behind_head whole head = do
   behind ← checked_names head.0.1 head.1
   comment ← name_at whole behind
-  Ok (record { title = head.0.0; one = name_of head.0.1 0; two = name_of head.0.1 1; comment = unwrap_or comment.0 [] }, comment.1)
+  Ok (record { title = head.0.0; one = nth_name head.0.1 0; two = nth_name head.0.1 1; comment = unwrap_or comment.0 [] }, comment.1)
 
 bind_bind : {A B C : Type 0} (r : Result A FileFault) (f : A → Result B FileFault) (g : B → Result C FileFault) → ((r >>= f) >>= g) ≡ (r >>= λ x. (f x >>= g))
 bind_bind (Ok x) f g = refl

@@ -10,7 +10,7 @@ use Rattle.def_fraction.specs.declared.fault.NumberFault.{NumberFault}
 use Rattle.def_file.specs.declared.FileFault.{FileFault}
 use Rattle.def_file.specs.declared.FileFault.TheVariants.{Syntax, UnexpectedEnd, Number}
 use Rattle.def_file_form.specs.Form.{Spelled, number, text}
-use Rattle.def_file_fault.specs.Offends.{spelled_at, AreNext, Numbers, IsFront, TakesNumbers, TakesText, IsUnfit, IsNumberFault, Stops, Offends, Ends}
+use Rattle.def_file_fault.specs.Offends.{spelled_at, AreNext, Numbers, IsFront, TakesNumbers, TakesText, IsUnfit, IsNumberFault, Stops, Offends, EndsWhole}
 
 -- two languages with the same words
 pub record Alike (L M : List Spelled → Type 0) : Type 0 where
@@ -117,7 +117,7 @@ module _ (Fits : Spelled → Type 0) (L M : List Spelled → Type 0) (whole : Li
   halt_back fault (no_mark at is next takes) = no_mark at is next (λ l. text_back at next (takes (alike.whole_to l)))
   halt_back fault (bad_number at why is unfinished n) = bad_number at why is (λ l. unfinished (alike.whole_to l)) (number_back at why n)
 
-  ends_back : Ends M whole us place → Ends L whole ts place
+  ends_back : EndsWhole M whole us place → EndsWhole L whole ts place
   ends_back e = record {
     token = λ t next front. e.token t next (alike.front_to (spelled_at whole t) (may.token t next) front);
     no_text = λ p next takes. e.no_text p next (text_to p next takes);
@@ -136,7 +136,7 @@ pub record EndsAt (L : List Spelled → Type 0) (whole : List ℕ) (end at : ℕ
   pub tokens : List Spelled
   pub before : AreNext whole at tokens end
   pub word : L tokens
-  pub ends : Ends L whole tokens end
+  pub ends : EndsWhole L whole tokens end
   pub no_number : (bytes : List ℕ) → IsFront L (tokens ++ number bytes ∷ []) → ⊥
 
 -- Both are carried along.
@@ -254,7 +254,7 @@ module _ (whole : List ℕ) (end : ℕ) where
   ends_other : (kind : Token) → kind ≢ kinds.Number → (L M : List Spelled → Type 0) (at : ℕ) → AlikeBut kind L M → NotNext kind whole at → EndsAt M whole end at → EndsAt L whole end at
   ends_other kind no_number L M at but none s = other s.tokens s.before s.word s.ends s.no_number
     where
-      other : (tokens : List Spelled) → AreNext whole at tokens end → M tokens → Ends M whole tokens end → ((bytes : List ℕ) → IsFront M (tokens ++ number bytes ∷ []) → ⊥) → EndsAt L whole end at
+      other : (tokens : List Spelled) → AreNext whole at tokens end → M tokens → EndsWhole M whole tokens end → ((bytes : List ℕ) → IsFront M (tokens ++ number bytes ∷ []) → ⊥) → EndsAt L whole end at
       other [] before word ends numbers = record {
         tokens = [];
         before = before;

@@ -11,7 +11,7 @@ use Rattle.def_file.specs.declared.EntryKind.{EntryKind}
 use Rattle.def_file.specs.declared.EntryKind.TheVariants.{Chance, Personal, Leaf}
 use Rattle.def_file.specs.Content.{Action, zero_fraction}
 use Rattle.def_file.specs.Reading.{◌>>=◌, is_kind, is_token, token_where, next_is, open_byte, close_byte, text_at, chance_at, action_at, close_at, actions_from, actions_at}
-use Rattle.def_file_form.specs.Form.{Spelled, text, open_brace, close_brace, IsText, IsFraction, IsChance, AreActions, IsActionList}
+use Rattle.def_file_form.specs.Form.{Spelled, text, open_brace, close_brace, IsText, IsFraction, IsChance, AreActionsUpTo, IsActionList}
 use Rattle.def_file_form.proofs.Steps.{ok_token, open_step, close_step}
 use Rattle.def_file_fault.specs.Offends.{spelled_at}
 use Rattle.def_file_fault.proofs.Languages.{Alike, AlikeBut, FirstIsOther, After, Step, Halt}
@@ -107,17 +107,17 @@ no_text_closes bytes ss rest is =
     let first : close_brace ≡ text is.inside = let e = is.spelling in cc in
     let kind : kinds.Close ≡ kinds.Text = ap (λ (s : Spelled). s.kind) first in cc
 
-actions_word : (kind : EntryKind) (T : List Spelled → Type 0) → HasWord T → HasWord (Part (AreActions kind) T)
+actions_word : (kind : EntryKind) (T : List Spelled → Type 0) → HasWord T → HasWord (Part (AreActionsUpTo kind) T)
 actions_word kind T word = (close_brace ∷ word.0, ([], word.0, refl, word.1))
 
-actions_closed : (kind : EntryKind) (T : List Spelled → Type 0) → Alike (After close_brace (Part (AreActions kind) T)) T
+actions_closed : (kind : EntryKind) (T : List Spelled → Type 0) → Alike (After close_brace (Part (AreActionsUpTo kind) T)) T
 actions_closed kind T = record { to = λ ss l. to ss l.0 l.1 l.2 l.3; back = λ ss there. ([], ss, refl, there) }
   where
-    to : (ss : List Spelled) (v : List Action) (rest : List Spelled) → AreActions kind v (close_brace ∷ ss) rest → T rest → T ss
+    to : (ss : List Spelled) (v : List Action) (rest : List Spelled) → AreActionsUpTo kind v (close_brace ∷ ss) rest → T rest → T ss
     to ss [] rest is there = let same : rest ≡ ss = cc in subst T same there
     to ss (a ∷ more) rest is there = absurd (no_text_closes a.name ss is.0 is.2)
 
-actions_but : (kind : EntryKind) (T : List Spelled → Type 0) → AlikeBut kinds.Close (Part (AreActions kind) T) (IsActionIn kind (Part (AreActions kind) T))
+actions_but : (kind : EntryKind) (T : List Spelled → Type 0) → AlikeBut kinds.Close (Part (AreActionsUpTo kind) T) (IsActionIn kind (Part (AreActionsUpTo kind) T))
 actions_but kind T = record {
   to = λ ss fits l. to ss fits l.0 l.1 l.2 l.3;
   back = λ ss l.
@@ -126,30 +126,30 @@ actions_but kind T = record {
       (record { name = l.0; chance = later.0 } ∷ last.0, last.1, (l.1, later.1, l.2, later.2, last.2), last.3);
 }
   where
-    to : (ss : List Spelled) → FirstIsOther kinds.Close ss → (v : List Action) (rest : List Spelled) → AreActions kind v ss rest → T rest → IsActionIn kind (Part (AreActions kind) T) ss
+    to : (ss : List Spelled) → FirstIsOther kinds.Close ss → (v : List Action) (rest : List Spelled) → AreActionsUpTo kind v ss rest → T rest → IsActionIn kind (Part (AreActionsUpTo kind) T) ss
     to ss fits [] rest is there = absurd (let clash = subst (FirstIsOther kinds.Close) is fits in clash refl)
     to ss fits (a ∷ more) rest is there = (a.name, is.0, is.2, (a.chance, is.1, is.3, (more, rest, is.4, there)))
 
-actions_open : (kind : EntryKind) (T : List Spelled → Type 0) → Part (AreActions kind) T [] → ⊥
+actions_open : (kind : EntryKind) (T : List Spelled → Type 0) → Part (AreActionsUpTo kind) T [] → ⊥
 actions_open kind T l = unfinished l.0 l.1 l.2
   where
-    unfinished : (v : List Action) (rest : List Spelled) → AreActions kind v [] rest → ⊥
+    unfinished : (v : List Action) (rest : List Spelled) → AreActionsUpTo kind v [] rest → ⊥
     unfinished [] rest is = cc
     unfinished (a ∷ more) rest is = let e = is.2.spelling in cc
 
-actions_goes : (kind : EntryKind) (left : ℕ) (done : List Action) (whole : List ℕ) (at : ℕ) → at ≤ length whole → length whole ≤ at + left → Goes 1 HasWord (Part (AreActions kind)) whole at (actions_from kind left done whole at)
+actions_goes : (kind : EntryKind) (left : ℕ) (done : List Action) (whole : List ℕ) (at : ℕ) → at ≤ length whole → length whole ≤ at + left → Goes 1 HasWord (Part (AreActionsUpTo kind)) whole at (actions_from kind left done whole at)
 unfolding actions_from
-actions_goes kind zero done whole at within left_is = spent HasWord (Part (AreActions kind)) whole at within left_is (actions_word kind) (λ T word. actions_open kind T)
+actions_goes kind zero done whole at within left_is = spent HasWord (Part (AreActionsUpTo kind)) whole at within left_is (actions_word kind) (λ T word. actions_open kind T)
 actions_goes kind (suc left) done whole at within left_is =
     chosen (next_is close_byte whole at) refl (λ action inner grown. actions_goes kind left (done ++ action.0 ∷ []) whole action.1 inner (omega (arith, grown, left_is)))
   where
-    chosen : (b : Bool) → next_is close_byte whole at ≡ b → ((action : Action × ℕ) → action.1 ≤ length whole → at + 1 ≤ action.1 → Goes 1 HasWord (Part (AreActions kind)) whole action.1 (actions_from kind left (done ++ action.0 ∷ []) whole action.1))
-        → Goes 1 HasWord (Part (AreActions kind)) whole at (cond b (close_at done whole at) (action_at kind whole at >>= λ action. actions_from kind left (done ++ action.0 ∷ []) whole action.1))
-    chosen true is again = close_goes done HasWord (Part (AreActions kind)) whole at within is (λ T word. actions_closed kind T)
+    chosen : (b : Bool) → next_is close_byte whole at ≡ b → ((action : Action × ℕ) → action.1 ≤ length whole → at + 1 ≤ action.1 → Goes 1 HasWord (Part (AreActionsUpTo kind)) whole action.1 (actions_from kind left (done ++ action.0 ∷ []) whole action.1))
+        → Goes 1 HasWord (Part (AreActionsUpTo kind)) whole at (cond b (close_at done whole at) (action_at kind whole at >>= λ action. actions_from kind left (done ++ action.0 ∷ []) whole action.1))
+    chosen true is again = close_goes done HasWord (Part (AreActionsUpTo kind)) whole at within is (λ T word. actions_closed kind T)
     chosen false is again =
-        goes_other 1 kinds.Close (λ clash. cc) HasWord (λ T. IsActionIn kind (Part (AreActions kind) T)) (Part (AreActions kind)) whole at _ (λ T word. actions_but kind T) (not_next kinds.Close (omega arith) whole at is)
-        (goes_then 1 HasWord HasWord (IsActionIn kind) (Part (AreActions kind)) whole at (action_at kind whole at) _ (action_goes kind whole at within) (actions_word kind)
-        (λ action e inner grown. goes_less 1 0 HasWord (Part (AreActions kind)) whole action.1 _ (omega arith) (again action inner grown)))
+        goes_other 1 kinds.Close (λ clash. cc) HasWord (λ T. IsActionIn kind (Part (AreActionsUpTo kind) T)) (Part (AreActionsUpTo kind)) whole at _ (λ T word. actions_but kind T) (not_next kinds.Close (omega arith) whole at is)
+        (goes_then 1 HasWord HasWord (IsActionIn kind) (Part (AreActionsUpTo kind)) whole at (action_at kind whole at) _ (action_goes kind whole at within) (actions_word kind)
+        (λ action e inner grown. goes_less 1 0 HasWord (Part (AreActionsUpTo kind)) whole action.1 _ (omega arith) (again action inner grown)))
 
 -- A list that may be absent.
 
@@ -164,14 +164,14 @@ list_goes F Items In whole at within is items f word alike go =
     (goes_alike 0 HasWord F Items (λ T. After open_brace (In T)) whole m.t.end _ word alike
     (goes_less 1 0 HasWord Items whole m.t.end _ (omega arith) (goes_with 1 HasWord Items whole m.t.end (items m.t.end) f (go m.t.end inner))))
 
-action_list_after : (kind : EntryKind) (T : List Spelled → Type 0) → NoFirst kinds.Open T → Alike (After open_brace (Part (IsActionList kind) T)) (Part (AreActions kind) T)
+action_list_after : (kind : EntryKind) (T : List Spelled → Type 0) → NoFirst kinds.Open T → Alike (After open_brace (Part (IsActionList kind) T)) (Part (AreActionsUpTo kind) T)
 action_list_after kind T apart = record { to = λ ss l. to ss l.0 l.1 l.2 l.3; back = λ ss l. (Some l.0, l.1, (ss, refl, l.2), l.3) }
   where
-    to : (ss : List Spelled) (v : Option (List Action)) (rest : List Spelled) → IsActionList kind v (open_brace ∷ ss) rest → T rest → Part (AreActions kind) T ss
+    to : (ss : List Spelled) (v : Option (List Action)) (rest : List Spelled) → IsActionList kind v (open_brace ∷ ss) rest → T rest → Part (AreActionsUpTo kind) T ss
     to ss None rest is there = absurd (apart.apart open_brace ss (subst T (sym is) there) refl)
     to ss (Some actions) rest is there =
         let same : is.0 ≡ ss = let e = is.1 in cc in
-        (actions, rest, subst (λ tokens. AreActions kind actions tokens rest) same is.2, there)
+        (actions, rest, subst (λ tokens. AreActionsUpTo kind actions tokens rest) same is.2, there)
 
 action_list_but : (kind : EntryKind) (T : List Spelled → Type 0) → AlikeBut kinds.Open (Part (IsActionList kind) T) T
 action_list_but kind T = record { to = λ ss fits l. to ss fits l.0 l.1 l.2 l.3; back = λ ss there. (None, ss, refl, there) }
@@ -188,7 +188,7 @@ action_list_goes kind whole at within = chosen (next_is open_byte whole at) refl
         → Goes 0 (NoFirst kinds.Open) (Part (IsActionList kind)) whole at (cond b (token_where (is_token kinds.Open whole) whole at >>= λ opening. (actions_from kind (length whole) [] whole opening.end >>= λ actions. Ok (Some actions.0, actions.1))) (Ok (None, at)))
     chosen true is =
         goes_less 1 0 (NoFirst kinds.Open) (Part (IsActionList kind)) whole at _ (omega arith)
-        (list_goes (NoFirst kinds.Open) (Part (AreActions kind)) (Part (IsActionList kind)) whole at within is (λ mid. actions_from kind (length whole) [] whole mid) (λ actions. Some actions.0) (λ T f. f.word) (action_list_after kind)
+        (list_goes (NoFirst kinds.Open) (Part (AreActionsUpTo kind)) (Part (IsActionList kind)) whole at within is (λ mid. actions_from kind (length whole) [] whole mid) (λ actions. Some actions.0) (λ T f. f.word) (action_list_after kind)
         (λ mid inner. actions_goes kind (length whole) [] whole mid inner (omega arith)))
     chosen false is = goes_past 0 (NoFirst kinds.Open) (Part (IsActionList kind)) whole at (None, at) (record {
       within = within;

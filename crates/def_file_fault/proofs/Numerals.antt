@@ -13,7 +13,7 @@ use Rattle.def_fraction.specs.Reading.{read_as_literal, read_as_whole}
 use Rattle.def_fraction.proofs.JudgeLemmas.{read_as_literal-judged}
 use Rattle.def_file.specs.declared.FileFault.{FileFault}
 use Rattle.def_file.specs.declared.FileFault.TheVariants.{Number}
-use Rattle.def_file.specs.Reading.{◌>>=◌, is_kind, is_token, token_where, bytes_at, numbered, number_at, literal_at, whole_at, from_one, read_as_set, set_number_at}
+use Rattle.def_file.specs.Reading.{◌>>=◌, is_kind, is_token, token_where, bytes_at, number_or_fault, number_at, literal_at, whole_at, from_one, read_as_set, set_number_at}
 use Rattle.def_file_form.specs.Form.{Spelled, number, IsWholeNumber, IsFraction}
 use Rattle.def_file_form.proofs.Sound.{set_ok}
 use Rattle.def_file_form.proofs.Steps.{is_kind-true, token_ok}
@@ -101,7 +101,7 @@ module _ {A : Type 0} (R : A → List Spelled → List Spelled → Type 0) (numb
   )
 
   module _ (read : List ℕ → Result A NumberFault) (faults : (bytes : List ℕ) → number_fault numbers bytes ≡ fault_of (read bytes)) (whole : List ℕ) (at : ℕ) (within : at ≤ length whole) where
-    numbered_goes : (t : Lexeme) → next_from whole at ≡ Ok t → kinds.Number ≡ t.kind → (r : Result A NumberFault) → read (bytes_at whole t) ≡ r → Goes 1 HasWord (Part R) whole at (numbered t r)
+    numbered_goes : (t : Lexeme) → next_from whole at ≡ Ok t → kinds.Number ≡ t.kind → (r : Result A NumberFault) → read (bytes_at whole t) ≡ r → Goes 1 HasWord (Part R) whole at (number_or_fault t r)
     numbered_goes t next is (Ok v) ok =
         let step : Step whole at t = record { next = next; not_end = λ ends. let clash : kinds.Number ≡ kinds.End = is ∙ ends in cc } in
         let grown = step_grows whole at within t step in
@@ -131,7 +131,7 @@ module _ {A : Type 0} (R : A → List Spelled → List Spelled → Type 0) (numb
     pub number_goes : Goes 1 HasWord (Part R) whole at (number_at read whole at)
     number_goes = found (token_where (is_token kinds.Number whole) whole at) refl
       where
-        found : (r : Result Lexeme FileFault) → token_where (is_token kinds.Number whole) whole at ≡ r → Goes 1 HasWord (Part R) whole at (r >>= λ token. numbered token (read (bytes_at whole token)))
+        found : (r : Result Lexeme FileFault) → token_where (is_token kinds.Number whole) whole at ≡ r → Goes 1 HasWord (Part R) whole at (r >>= λ token. number_or_fault token (read (bytes_at whole token)))
         found (Ok t) is =
             let ok = token_ok (is_token kinds.Number whole) whole at t is in
             numbered_goes t ok.0 (is_kind-true kinds.Number t.kind ok.1) (read (bytes_at whole t)) refl

@@ -17,7 +17,7 @@ use Rattle.def_file_form.proofs.Ahead.{Ahead, not_end}
 use Rattle.def_file_form.proofs.Complete.{name_taken}
 use Rattle.def_file_form.proofs.CompleteEntries.{clear_entries, entry_taken}
 use Rattle.def_file_form.proofs.Pieces.{ahead_pieces}
-use Rattle.def_file_fault.specs.Offends.{spelled_at, AreNext, IsFront, Ends}
+use Rattle.def_file_fault.specs.Offends.{spelled_at, AreNext, IsFront, EndsWhole}
 use Rattle.def_file_fault.specs.First.{IsHeadTokens}
 use Rattle.def_file_fault.proofs.Nexts.{step_grows}
 use Rattle.def_file_fault.proofs.Lists.{no_text_closes}
@@ -154,5 +154,5 @@ no_more t ns ss a s front =
     let same = (head_once t front.1.0 ns front.1.1 (ss ++ s ∷ front.0) (s ∷ front.0) [] (head_more t ns ss [] (s ∷ front.0) a) longer).2 in
     cc
 
-pub head_ends : (whole : List ℕ) (place : ℕ) (t : List ℕ) (ns : List (List ℕ)) (ss : List Spelled) → IsHead t ns ss [] → Ends IsHeadTokens whole ss place
+pub head_ends : (whole : List ℕ) (place : ℕ) (t : List ℕ) (ns : List (List ℕ)) (ss : List Spelled) → IsHead t ns ss [] → EndsWhole IsHeadTokens whole ss place
 head_ends whole place t ns ss a = record { token = λ l next front. no_more t ns ss a (spelled_at whole l) front; no_text = λ p next takes. no_more t ns ss a (text takes.0) takes.2 }

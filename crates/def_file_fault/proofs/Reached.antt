@@ -7,13 +7,16 @@ use Rattle.def_tree.specs.Tree.{wanted, Begins}
 use Rattle.def_file.specs.declared.FileFault.{FileFault}
 use Rattle.def_file.specs.declared.FileFault.TheVariants.{Players}
 use Rattle.def_file.specs.Content.{Prologue, Record, Contents, no_contents}
-use Rattle.def_file.specs.Faults.{most_nodes, record_fault}
+use Rattle.def_tree.specs.Rules.{most_nodes}
+use Rattle.def_file.specs.Faults.{record_fault}
 use Rattle.def_file.specs.Adding.{with_record, node_with}
 use Rattle.def_file.specs.Reading.{◌>>=◌, name_at, checked_names, prologue_at, entry_at, unless_fault, judged, entries_from, nothing_at, game_at}
 use Rattle.def_file_entries.specs.Entries.{contents_of}
 use Rattle.def_file_entries.specs.Laws.{HaveNoFault}
 use Rattle.def_file_entries.proofs.OneMore.{one_more}
-use Rattle.def_file_form.proofs.Entries.{no_fault_here, entries_limit, ok_judged}
+use Rattle.def_file_entries.proofs.EntryFaults.{entry_fault_is_first_broken}
+use Rattle.def_file_entries.proofs.NoFault.{no_fault_here, entries_limit}
+use Rattle.def_file_form.proofs.Entries.{ok_judged}
 use Rattle.def_file_fault.specs.Offends.{Offends}
 use Rattle.def_file_fault.specs.First.{IsHeadUpTo, AreEntriesFrom, IsPrologueUpTo, IsReadUpTo, IsPlayersFault, IsCommentFault, IsEntryFault, IsRuleFault, IsTrailingFault, FirstFault, in_head, in_players, in_comment, in_entry, in_rules, behind_tree, IsHeadTokens}
 use Rattle.def_file_fault.proofs.Heads.{behind_head, prologue_is}
@@ -172,7 +175,7 @@ rule_faulted whole fault is =
     game_entries whole is.prologue on.behind fault on.prologue
     (on.entries ∙ more_here on.left contents whole is.end is.open_tree
     ∙ ap (λ r. r >>= λ x. judged contents x.0 >>= λ next. entries_from on.left next whole x.1) (entry_decided whole is.end on.within is.entry is.behind is.next)
-    ∙ ap (λ r. r >>= λ next. entries_from on.left next whole is.behind) (judged_fault contents is.entry fault is.rule))
+    ∙ ap (λ r. r >>= λ next. entries_from on.left next whole is.behind) (judged_fault contents is.entry fault ((entry_fault_is_first_broken is.entries is.entry fault is.read.no_fault).1 is.rule)))
 
 trailing_faulted : (whole : List ℕ) (fault : FileFault) → IsTrailingFault whole fault → game_at whole ≡ Err fault
 trailing_faulted whole fault is =

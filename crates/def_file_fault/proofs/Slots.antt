@@ -11,7 +11,7 @@ use Rattle.def_fraction.specs.Divisors.{gcd}
 use Rattle.def_fraction.specs.Fraction.{fraction_of}
 use Rattle.def_fraction.specs.Reading.{power_of, decimal_of, body_after, body_of, literal_of, value_of, read_as_literal, read_as_whole}
 use Rattle.def_file.specs.declared.FileFault.TheVariants.{UnexpectedEnd}
-use Rattle.def_file.specs.Reading.{◌>>=◌, is_kind, is_token, token_where, next_is, mark, text_of, text_at, name_at, read_as_set}
+use Rattle.def_file.specs.Reading.{◌>>=◌, is_kind, is_token, token_where, next_is, mark, token_text, text_at, name_at, read_as_set}
 use Rattle.def_file_form.specs.Form.{Spelled, text, IsText, IsName}
 use Rattle.def_file_form.proofs.Steps.{is_kind-true, ok_token, text_here}
 use Rattle.def_file_fault.specs.Offends.{spelled_at, Numbers, wholes, wholes_from_one, literals, number_fault}
@@ -105,8 +105,8 @@ unfolding text_at
 text_goes whole at within =
     goes_token HasWord (Part IsText) (λ s. is_kind kinds.Text s.kind) (kind_test kinds.Text (λ clash. cc) (λ clash. cc))
     (one_begins IsText TextFits one_text (λ s. is_kind kinds.Text s.kind) (text []) ([], no_inside, refl) (λ u fits. ap (λ (s : Spelled). is_kind kinds.Text s.kind) fits.2))
-    whole at (λ token. Ok (text_of whole token, token.end)) within
-    (λ t step passes inner. goes_past 0 HasWord (λ T. After (spelled_at whole t) (Part IsText T)) whole t.end (text_of whole t, t.end) (record {
+    whole at (λ token. Ok (token_text whole token, token.end)) within
+    (λ t step passes inner. goes_past 0 HasWord (λ T. After (spelled_at whole t) (Part IsText T)) whole t.end (token_text whole t, t.end) (record {
       within = inner;
       grows = omega arith;
       along = λ P walk T word there. walk.alike (After (spelled_at whole t) (Part IsText T)) T t.end (one_alike IsText TextFits one_text (spelled_at whole t) (text_fits whole at within t step.next (sym (is_kind-true kinds.Text t.kind passes))) T) there;
@@ -132,7 +132,7 @@ name_after T none s fits = record { to = λ ss l. to ss l.0 l.1 l.2 l.3; back = 
     to ss None rest is there = absurd (none.apart s ss (subst T (sym is) there) (ap (λ (u : Spelled). u.kind) fits.2))
     to ss (Some bytes) rest is there = let same : rest ≡ ss = let e = is.spelling in cc in subst T same there
 
-text_at_ok : (whole : List ℕ) (at : ℕ) (t : Lexeme) → next_from whole at ≡ Ok t → t.kind ≡ kinds.Text → text_at whole at ≡ Ok (text_of whole t, t.end)
+text_at_ok : (whole : List ℕ) (at : ℕ) (t : Lexeme) → next_from whole at ≡ Ok t → t.kind ≡ kinds.Text → text_at whole at ≡ Ok (token_text whole t, t.end)
 unfolding text_at
 text_at_ok whole at t next is = rw (ok_token (is_token kinds.Text whole) whole at t next (ap (is_kind kinds.Text) is)) refl
 
@@ -149,7 +149,7 @@ name_goes whole at within = chosen (next_is mark whole at) refl
         let step : Step whole at t = record { next = next; not_end = λ ends. let clash : kinds.Text ≡ kinds.End = sym is ∙ ends in cc } in
         let grown = step_grows whole at within t step in
         subst (λ r. Goes 0 (NoFirst kinds.Text) (Part IsName) whole at (r >>= λ text. Ok (Some text.0, text.1))) (sym (text_at_ok whole at t next is))
-        (goes_past 0 (NoFirst kinds.Text) (Part IsName) whole at (Some (text_of whole t), t.end) (record {
+        (goes_past 0 (NoFirst kinds.Text) (Part IsName) whole at (Some (token_text whole t), t.end) (record {
           within = grown.1;
           grows = omega (arith, grown.0);
           along = λ P walk T none there. walk.step (Part IsName T) at t step (walk.alike (After (spelled_at whole t) (Part IsName T)) T t.end (name_after T none (spelled_at whole t) (text_fits whole at within t next is)) there);

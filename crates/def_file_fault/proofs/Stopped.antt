@@ -14,14 +14,17 @@ use Rattle.def_tree.proofs.Lists.{Begins-append}
 use Rattle.def_file.specs.declared.FileFault.{FileFault}
 use Rattle.def_file.specs.declared.FileFault.TheVariants.{TrailingText, Players}
 use Rattle.def_file.specs.Content.{Prologue, Record, Contents, no_contents}
-use Rattle.def_file.specs.Faults.{most_nodes, record_fault}
+use Rattle.def_tree.specs.Rules.{most_nodes}
+use Rattle.def_file.specs.Faults.{record_fault}
 use Rattle.def_file.specs.Adding.{with_record, node_with}
-use Rattle.def_file.specs.Reading.{◌>>=◌, is_kind, name_at, checked_names, name_of, prologue_at, entry_at, unless_fault, judged, entries_from, trailing, nothing_at, game_at}
+use Rattle.def_file.specs.Reading.{◌>>=◌, is_kind, name_at, checked_names, nth_name, prologue_at, entry_at, unless_fault, judged, entries_from, trailing, nothing_at, game_at}
 use Rattle.def_file_entries.specs.Entries.{contents_of}
 use Rattle.def_file_entries.proofs.OneMore.{one_more}
 use Rattle.def_file_form.specs.Form.{IsEntry}
 use Rattle.def_file_form.proofs.Steps.{then_ok}
-use Rattle.def_file_form.proofs.Entries.{no_fault_more, entries_limit, judged_ok}
+use Rattle.def_file_entries.proofs.EntryFaults.{entry_fault_is_first_broken}
+use Rattle.def_file_entries.proofs.NoFault.{nothing_at_fault, no_fault_more, entries_limit}
+use Rattle.def_file_form.proofs.Entries.{judged_ok}
 use Rattle.def_file_fault.specs.First.{IsHeadTokens, IsEntryTokens, IsHeadUpTo, IsEntryFrom, AreEntriesFrom, IsPrologueUpTo, IsReadUpTo, FirstFault, in_head, in_players, in_comment, in_entry, in_rules, behind_tree}
 use Rattle.def_file_fault.proofs.Languages.{offends}
 use Rattle.def_file_fault.proofs.Nexts.{token_first_byte}
@@ -45,7 +48,7 @@ checked names at = chosen (nat_eq (length names) 2) refl
     chosen true is = two (eqb-true (length names) 2 is) (rw is refl)
     chosen false is = others (eqb-false (length names) 2 is) (rw is refl)
 
-pub two_names : (names : List (List ℕ)) → length names ≡ 2 → names ≡ name_of names 0 ∷ name_of names 1 ∷ []
+pub two_names : (names : List (List ℕ)) → length names ≡ 2 → names ≡ nth_name names 0 ∷ nth_name names 1 ∷ []
 two_names [] is = absurd (omega (arith, is))
 two_names (a ∷ []) is = absurd (omega (arith, is))
 two_names (a ∷ b ∷ []) is = refl
@@ -59,18 +62,18 @@ pub record PrologueRead (whole : List ℕ) (p : Prologue) (end : ℕ) : Type 0 w
 
 module _ (whole : List ℕ) (head : Head × ℕ) (w : WholeRead IsHeadTokens IsHeadOf whole 0 head.0 head.1) where
   abbrev comment_made : Option (List ℕ) × ℕ → Prologue
-  comment_made comment = record { title = head.0.0; one = name_of head.0.1 0; two = name_of head.0.1 1; comment = unwrap_or comment.0 [] }
+  comment_made comment = record { title = head.0.0; one = nth_name head.0.1 0; two = nth_name head.0.1 1; comment = unwrap_or comment.0 [] }
 
-  two_head : length head.0.1 ≡ 2 → IsHeadUpTo whole head.0.0 (name_of head.0.1 0 ∷ name_of head.0.1 1 ∷ []) head.1
+  two_head : length head.0.1 ≡ 2 → IsHeadUpTo whole head.0.0 (nth_name head.0.1 0 ∷ nth_name head.0.1 1 ∷ []) head.1
   two_head count = subst (λ ns. IsHeadUpTo whole head.0.0 ns head.1) (two_names head.0.1 count) (head_up_to whole head.0.0 head.0.1 head.1 w)
 
-  behind_two : checked_names head.0.1 head.1 ≡ Ok head.1 → behind_head whole head ≡ (name_at whole head.1 >>= λ comment. Ok (record { title = head.0.0; one = name_of head.0.1 0; two = name_of head.0.1 1; comment = unwrap_or comment.0 [] }, comment.1))
+  behind_two : checked_names head.0.1 head.1 ≡ Ok head.1 → behind_head whole head ≡ (name_at whole head.1 >>= λ comment. Ok (record { title = head.0.0; one = nth_name head.0.1 0; two = nth_name head.0.1 1; comment = unwrap_or comment.0 [] }, comment.1))
   unfolding behind_head
-  behind_two is = ap (λ r. r >>= λ behind. (name_at whole behind >>= λ comment. Ok (record { title = head.0.0; one = name_of head.0.1 0; two = name_of head.0.1 1; comment = unwrap_or comment.0 [] }, comment.1))) is
+  behind_two is = ap (λ r. r >>= λ behind. (name_at whole behind >>= λ comment. Ok (record { title = head.0.0; one = nth_name head.0.1 0; two = nth_name head.0.1 1; comment = unwrap_or comment.0 [] }, comment.1))) is
 
   behind_others : checked_names head.0.1 head.1 ≡ Err (Players (length head.0.1)) → behind_head whole head ≡ Err (Players (length head.0.1))
   unfolding behind_head
-  behind_others is = ap (λ r. r >>= λ behind. (name_at whole behind >>= λ comment. Ok (record { title = head.0.0; one = name_of head.0.1 0; two = name_of head.0.1 1; comment = unwrap_or comment.0 [] }, comment.1))) is
+  behind_others is = ap (λ r. r >>= λ behind. (name_at whole behind >>= λ comment. Ok (record { title = head.0.0; one = nth_name head.0.1 0; two = nth_name head.0.1 1; comment = unwrap_or comment.0 [] }, comment.1))) is
 
   behind_fault : (fault : FileFault) → behind_head whole head ≡ Err fault → FirstFault whole fault
   behind_fault fault e = elim (checked head.0.1 head.1) [
@@ -79,7 +82,7 @@ module _ (whole : List ℕ) (head : Head × ℕ) (w : WholeRead IsHeadTokens IsH
         in_players (record { title = head.0.0; names = head.0.1; end = head.1; head = head_up_to whole head.0.0 head.0.1 head.1 w; count = count; fault_is = sym same })
     | two count is ↦
         bind_err (name_at whole head.1) _ fault (sym (behind_two is) ∙ e)
-        (λ bad. in_comment (record { title = head.0.0; one = name_of head.0.1 0; two = name_of head.0.1 1; end = head.1; head = two_head count; offends = offends _ whole head.1 fault (comment_stuck whole head.1 w.within fault bad) }))
+        (λ bad. in_comment (record { title = head.0.0; one = nth_name head.0.1 0; two = nth_name head.0.1 1; end = head.1; head = two_head count; offends = offends _ whole head.1 fault (comment_stuck whole head.1 w.within fault bad) }))
         (λ comment ok none. absurd cc)
   ]
 
@@ -166,7 +169,7 @@ module _ (whole : List ℕ) (p : Prologue) (most : ℕ) (most_is : most ≡ most
         entry = x.0;
         behind = x.1;
         next = entry_from whole at x.0 x.1 w;
-        rule = ap (λ c. record_fault c x.0) (sym known) ∙ judged_err contents x.0 fault is;
+        rule = (entry_fault_is_first_broken rs x.0 fault read.no_fault).0 (ap (λ c. record_fault c x.0) (sym known) ∙ judged_err contents x.0 fault is);
       })
 
       entry : 0 < wanted 1 (contents_of rs).nodes → (e : Result (Record × ℕ) FileFault) → entry_at whole at ≡ e → Again → Answer whole p (e >>= λ x. judged contents x.0 >>= λ next. entries_from left next whole x.1)
@@ -185,7 +188,7 @@ answered whole p r t same a = subst (Answer whole p) same a
 
 -- from the beginning
 nothing_read : (whole : List ℕ) (p : Prologue) (end : ℕ) → IsPrologueUpTo whole p end → IsReadUpTo whole p [] end
-nothing_read whole p end is = record { behind = end; prologue = is; entries = refl; no_fault = λ k r e. absurd cc; begins = tt }
+nothing_read whole p end is = record { behind = end; prologue = is; entries = refl; no_fault = nothing_at_fault; begins = tt }
 
 pub tree_answer : (whole : List ℕ) (p : Prologue) (at : ℕ) → PrologueRead whole p at → Answer whole p (entries_from (most_nodes + 1) no_contents whole at)
 tree_answer whole p at w = from (most_nodes) refl

@@ -10,7 +10,7 @@ use Rattle.def_file_form.specs.Form.{Spelled, word, number, open_brace, IsText, 
 use Rattle.def_file_form.proofs.Steps.{then_ok, either, token_ok, Step, Takes, Read, Then, IsOne, read_as, read_one, read_then, exact_here, exact_step, open_step}
 use Rattle.def_file_form.proofs.Sound.{text_read, name_read}
 use Rattle.def_file_form.proofs.SoundEntries.{entry_read, names_read}
-use Rattle.def_file_fault.specs.Offends.{spelled_at, AreNext, IsFront, Ends}
+use Rattle.def_file_fault.specs.Offends.{spelled_at, AreNext, IsFront, EndsWhole}
 use Rattle.def_file_fault.specs.First.{IsHeadTokens, IsCommentTokens, IsEntryTokens, IsHeadUpTo, IsCommentFrom, IsEntryFrom}
 use Rattle.def_file_fault.proofs.Languages.{Alike, Stuck, stuck_walk, EndsAt, ends_walk}
 use Rattle.def_file_fault.proofs.Nexts.{step_grows}
@@ -76,7 +76,7 @@ pub record WholeRead {A : Type 0} (L : List Spelled → Type 0) (R : A → List 
   pub tokens : List Spelled
   pub next : AreNext whole at tokens end
   pub is : R v tokens []
-  pub ends : Ends L whole tokens end
+  pub ends : EndsWhole L whole tokens end
   pub no_number : (bytes : List ℕ) → IsFront L (tokens ++ number bytes ∷ []) → ⊥
   pub within : end ≤ length whole
 
@@ -94,7 +94,7 @@ module _ {A : Type 0} (L : List Spelled → Type 0) (R : A → List Spelled → 
         tokens = read.tokens;
         next = next;
         is = subst (λ ss. R x.0 ss []) (append-nil read.tokens) (read.is []);
-        ends = subst (λ ss. Ends L whole ss x.1) same ends.ends;
+        ends = subst (λ ss. EndsWhole L whole ss x.1) same ends.ends;
         no_number = subst (λ ss. (bytes : List ℕ) → IsFront L (ss ++ number bytes ∷ []) → ⊥) same ends.no_number;
         within = p.within;
       }

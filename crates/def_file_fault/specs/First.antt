@@ -4,17 +4,17 @@
 --     IsHeadTokens, IsCommentTokens, IsEntryTokens      tokens that are the whole of such a part
 --     IsReadUpTo bytes p rs end                         the prologue and these entries, without a fault, up to an offset
 --     FirstFault bytes fault                            the fault is the first
-use Rattle.std.specs.Prelude.{◌≡◌, ◌≢◌, ℕ, List, [], ◌∷◌, length, unwrap_or, Option, Some}
+use Rattle.std.specs.Prelude.{◌≡◌, ◌≢◌, ℕ, List, [], ◌∷◌, length, unwrap_or, Option}
 use Rattle.def_file_tokens.specs.Spelling.{IsFirstByteFrom}
 use Rattle.def_tree.specs.Tree.{Begins, wanted}
 use Rattle.def_file.specs.declared.FileFault.{FileFault}
 use Rattle.def_file.specs.declared.FileFault.TheVariants.{TrailingText, Players}
 use Rattle.def_file.specs.Content.{Prologue, Record}
-use Rattle.def_file.specs.Faults.{record_fault}
 use Rattle.def_file_entries.specs.Entries.{contents_of}
+use Rattle.def_file_entries.specs.EntryRules.{IsFirstBroken}
 use Rattle.def_file_entries.specs.Laws.{HaveNoFault}
 use Rattle.def_file_form.specs.Form.{Spelled, IsHead, IsName, IsEntry}
-use Rattle.def_file_fault.specs.Offends.{AreNext, Offends, Ends}
+use Rattle.def_file_fault.specs.Offends.{AreNext, Offends, EndsWhole}
 
 abbrev pub IsHeadTokens : List Spelled → Type 0
 IsHeadTokens tokens = (title : List ℕ) × (names : List (List ℕ)) × IsHead title names tokens []
@@ -36,14 +36,14 @@ pub record IsCommentFrom (bytes : List ℕ) (at : ℕ) (comment : Option (List �
   pub tokens : List Spelled
   pub next : AreNext bytes at tokens end
   pub name : IsName comment tokens []
-  pub ends : Ends IsCommentTokens bytes tokens end
+  pub ends : EndsWhole IsCommentTokens bytes tokens end
 
 -- an entry, which goes on while it can, from an offset up to another
 pub record IsEntryFrom (bytes : List ℕ) (at : ℕ) (r : Record) (end : ℕ) : Type 0 where
   pub tokens : List Spelled
   pub next : AreNext bytes at tokens end
   pub entry : IsEntry r tokens []
-  pub ends : Ends IsEntryTokens bytes tokens end
+  pub ends : EndsWhole IsEntryTokens bytes tokens end
 
 abbrev pub AreEntriesFrom : List ℕ → ℕ → List Record → ℕ → Type 0
 AreEntriesFrom bytes at [] end = at ≡ end
@@ -91,7 +91,7 @@ pub record IsEntryFault (bytes : List ℕ) (fault : FileFault) : Type 0 where
   pub open_tree : wanted 1 (contents_of entries).nodes ≢ 0
   pub offends : Offends IsEntryTokens bytes end fault
 
--- the next entry breaks a rule of sets and outcomes
+-- the next entry breaks a rule, and this is the first
 pub record IsRuleFault (bytes : List ℕ) (fault : FileFault) : Type 0 where
   pub prologue : Prologue
   pub entries : List Record
@@ -101,7 +101,7 @@ pub record IsRuleFault (bytes : List ℕ) (fault : FileFault) : Type 0 where
   pub entry : Record
   pub behind : ℕ
   pub next : IsEntryFrom bytes end entry behind
-  pub rule : record_fault (contents_of entries) entry ≡ Some fault
+  pub rule : IsFirstBroken entries entry fault
 
 -- a byte other than white space stands behind the last entry of the tree
 pub record IsTrailingFault (bytes : List ℕ) (fault : FileFault) : Type 0 where

@@ -4,8 +4,8 @@ use Rattle.def_file.specs.declared.FileFault.{FileFault}
 use Rattle.def_file.specs.Reading.{game_at}
 use Rattle.def_file_fault.specs.First.{FirstFault}
 
-abbrev pub FaultIsFirst : Type 0
-FaultIsFirst = (bytes : List ℕ) (fault : FileFault) → game_at bytes ≡ Err fault → FirstFault bytes fault
+abbrev pub FileFaultIsFirst : Type 0
+FileFaultIsFirst = (bytes : List ℕ) (fault : FileFault) → game_at bytes ≡ Err fault → FirstFault bytes fault
 
-abbrev pub FirstIsFault : Type 0
-FirstIsFault = (bytes : List ℕ) (fault : FileFault) → FirstFault bytes fault → game_at bytes ≡ Err fault
+abbrev pub FirstIsFileFault : Type 0
+FirstIsFileFault = (bytes : List ℕ) (fault : FileFault) → FirstFault bytes fault → game_at bytes ≡ Err fault

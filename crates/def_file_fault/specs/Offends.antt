@@ -2,7 +2,7 @@
 --     AreNext bytes at tokens end      the next tokens from an offset on, up to another
 --     IsFront Whole tokens             the tokens can go on to what is whole
 --     Offends Whole bytes at fault     behind some tokens that can go on stands what can't be taken
---     Ends Whole bytes tokens place    what stands behind the tokens doesn't go on
+--     EndsWhole Whole bytes tokens place    what stands behind the tokens doesn't go on
 -- `Whole` says of some tokens that they are the whole of the part.
 use Rattle.std.specs.Prelude.{◌≡◌, ◌≢◌, ℕ, ◌⊎◌, ◌↔◌, List, [], ◌∷◌, ◌++◌, Option, Some, None, Result, Ok, Err}
 use Rattle.def_file_tokens.specs.declared.Token.TheVariants as kinds
@@ -90,6 +90,6 @@ pub record Offends (Whole : List Spelled → Type 0) (bytes : List ℕ) (at : �
   pub front : IsFront Whole tokens
   pub stop : Stops Whole bytes tokens place fault
 
-pub record Ends (Whole : List Spelled → Type 0) (bytes : List ℕ) (tokens : List Spelled) (place : ℕ) : Type 0 where
+pub record EndsWhole (Whole : List Spelled → Type 0) (bytes : List ℕ) (tokens : List Spelled) (place : ℕ) : Type 0 where
   pub token : (token : Lexeme) → next_from bytes place ≡ Ok token → IsFront Whole (tokens ++ spelled_at bytes token ∷ []) → ⊥
   pub no_text : (at : ℕ) → next_from bytes place ≡ Err (lexing.Unclosed at) → TakesText Whole tokens → ⊥

@@ -1,14 +1,14 @@
 //! The first fault of a game file, in the format's own words.
 #![tactic(auto)]
 
-ghost use Rattle.def_file_fault.specs.Laws.{FaultIsFirst, FirstIsFault};
+ghost use Rattle.def_file_fault.specs.Laws.{FileFaultIsFirst, FirstIsFileFault};
 
 /// The fault with which reading stops is the first.
-pub fn fault_is_first()
-    ensures { FaultIsFirst }
+pub fn file_fault_is_first()
+    ensures { FileFaultIsFirst }
 {}
 
 /// With the first fault reading stops.
-pub fn first_is_fault()
-    ensures { FirstIsFault }
+pub fn first_is_file_fault()
+    ensures { FirstIsFileFault }
 {}

@@ -14,14 +14,14 @@ use Rattle.def_fraction.proofs.JudgeLemmas.{read_as_literal-judged}
 use Rattle.def_file.specs.declared.EntryKind.{EntryKind}
 use Rattle.def_file.specs.declared.EntryKind.TheVariants.{Chance, Personal, Leaf}
 use Rattle.def_file.specs.Content.{Action, SetMention, OutcomeMention}
-use Rattle.def_file.specs.Reading.{bytes_at, next_is, mark, open_byte, close_byte, comma_byte, text_of, text_at, name_at, number_at, literal_at, whole_at, from_one, read_as_set, set_number_at, chance_at, action_at, close_at, actions_from, actions_at, payoff_at, payoffs_from, payoffs_at, set_mention_at, outcome_mention_at}
-use Rattle.def_file_form.specs.Form.{Spelled, number, text, open_brace, close_brace, comma, IsText, IsName, IsWholeNumber, IsFraction, IsChance, AreActions, IsActionList, IsPayoffList, IsSet, IsOutcome}
+use Rattle.def_file.specs.Reading.{bytes_at, next_is, mark, open_byte, close_byte, comma_byte, token_text, text_at, name_at, number_at, literal_at, whole_at, from_one, read_as_set, set_number_at, chance_at, action_at, close_at, actions_from, actions_at, payoff_at, payoffs_from, payoffs_at, set_mention_at, outcome_mention_at}
+use Rattle.def_file_form.specs.Form.{Spelled, number, text, open_brace, close_brace, comma, IsText, IsName, IsWholeNumber, IsFraction, IsChance, AreActionsUpTo, IsActionList, IsPayoffList, IsSet, IsOutcome}
 use Rattle.def_file_form.proofs.Steps.{Step, Then, IsOne}
 use Rattle.def_file_form.proofs.Sound.{IsAction, IsPayoff, ArePayoffsBehind}
 use Rattle.def_file_form.proofs.Ahead.{Ahead, Taken, NotNext, not_number, not_first, next_is_step, is_first, take_kind, behind_step, ahead_length}
 
 -- what a text token stands for
-text_is : (whole : List ℕ) (at : ℕ) (l : Lexeme) (inside : List ℕ) → Step whole at l (text inside) → text_of whole l ≡ unescaped inside
+text_is : (whole : List ℕ) (at : ℕ) (l : Lexeme) (inside : List ℕ) → Step whole at l (text inside) → token_text whole l ≡ unescaped inside
 text_is whole at l inside step = ap unescaped (slice_range-inner whole l.start l.end inside step.within (ap (λ (s : Spelled). s.bytes) step.spelled)).1
 
 pub text_taken : (whole : List ℕ) (at : ℕ) (v : List ℕ) (tokens rest : List Spelled) → IsText v tokens rest → Ahead whole at tokens → Taken whole (text_at whole at) v rest
@@ -124,7 +124,7 @@ chance_length Chance v tokens rest is = omega (arith, ap length is.spelling)
 chance_length Personal v tokens rest is = omega (arith, ap length is.1)
 chance_length Leaf v tokens rest is = omega (arith, ap length is.1)
 
-pub actions_taken : (kind : EntryKind) (left : ℕ) (done more : List Action) (whole : List ℕ) (at : ℕ) (tokens rest : List Spelled) → AreActions kind more tokens rest → length tokens ≤ left → Ahead whole at tokens
+pub actions_taken : (kind : EntryKind) (left : ℕ) (done more : List Action) (whole : List ℕ) (at : ℕ) (tokens rest : List Spelled) → AreActionsUpTo kind more tokens rest → length tokens ≤ left → Ahead whole at tokens
     → Taken whole (actions_from kind left done whole at) (done ++ more) rest
 unfolding actions_from
 actions_taken kind zero done [] whole at tokens rest are fuel ahead = absurd (omega (arith, ap length are, fuel))

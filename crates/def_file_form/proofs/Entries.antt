@@ -1,19 +1,18 @@
 -- Entries one after another, with what is known after those before.
-use Rattle.std.proofs.Common.{◌≡◌, ◌≢◌, ℕ, zero, suc, ◌+◌, ◌-◌, ◌<◌, ◌≤◌, Bool, true, false, cond, List, [], ◌∷◌, ◌++◌, length, take, Option, Some, None, Ok, sym, refl, ap, ◌∙◌, subst, arith, eq-eqb, append_assoc, append-nil, ⊎_elim}
-use Rattle.std.specs.Prelude.{nat_eq, slice_get}
+use Rattle.std.proofs.Common.{◌≡◌, ℕ, zero, suc, ◌+◌, ◌-◌, ◌<◌, ◌≤◌, Bool, true, false, cond, List, [], ◌∷◌, ◌++◌, length, Option, Some, None, Ok, sym, refl, ap, ◌∙◌, subst, arith, eq-eqb, append_assoc, append-nil}
+use Rattle.std.specs.Prelude.{nat_eq}
 use Rattle.std.proofs.lemmas.Bool.{eqb-true, eqb-false, ne_eqb}
-use Rattle.std.proofs.lemmas.List.{length-map}
-use Rattle.std.proofs.str.Laws.{order}
 use Rattle.def_tree.specs.declared.Node.{Node}
 use Rattle.def_tree.specs.Tree.{wanted, Begins, IsWhole}
 use Rattle.def_tree.proofs.Lists.{Begins-append}
 use Rattle.def_file.specs.declared.FileFault.{FileFault}
 use Rattle.def_file.specs.Content.{Record, Contents}
-use Rattle.def_file.specs.Faults.{first_of, record_faults, record_fault, most_nodes}
+use Rattle.def_file.specs.Faults.{record_fault}
 use Rattle.def_file.specs.Adding.{with_record, node_with}
 use Rattle.def_file.specs.Reading.{◌>>=◌, entry_at, unless_fault, judged, entries_from}
-use Rattle.def_file_entries.specs.Entries.{node_of, contents_of}
+use Rattle.def_file_entries.specs.Entries.{contents_of}
 use Rattle.def_file_entries.specs.Laws.{HaveNoFault}
+use Rattle.def_file_entries.proofs.NoFault.{no_fault_more, no_fault_here}
 use Rattle.def_file_entries.proofs.OneMore.{one_more}
 use Rattle.def_file_form.specs.Form.{Spelled, IsEntry, AreEntries}
 use Rattle.def_file_form.proofs.Steps.{then_ok, Read, read_none, read_then}
@@ -47,71 +46,6 @@ entry_wanted rs r more begins =
     let split : (contents_of (rs ++ r ∷ more)).nodes ≡ (contents_of rs).nodes ++ node ∷ later.0 =
     ap (λ l. (contents_of l).nodes) (sym (append_assoc rs (r ∷ []) more)) ∙ later.1 ∙ ap (λ ns. ns ++ later.0) (nodes_more rs r) ∙ append_assoc (contents_of rs).nodes (node ∷ []) later.0 in
     Begins-wanted 1 (contents_of rs).nodes node later.0 (subst (Begins 1) split begins)
-
--- Faults.
-
-get_at : (rs : List Record) (r : Record) (more : List Record) → slice_get (rs ++ r ∷ more) (length rs) ≡ Some r
-get_at [] r more = refl
-get_at (x ∷ xs) r more = get_at xs r more
-
-take_at_end : (rs more : List Record) → take (length rs) (rs ++ more) ≡ rs
-take_at_end [] more = refl
-take_at_end (x ∷ xs) more = ap (λ l. x ∷ l) (take_at_end xs more)
-
--- an entry of these and one more is one of these, with the same before it, or the last
-data Place (rs : List Record) (r : Record) (k : ℕ) (x : Record) : Type 0 where
-  earlier : slice_get rs k ≡ Some x → take k (rs ++ r ∷ []) ≡ take k rs → Place rs r k x
-  last : r ≡ x → take k (rs ++ r ∷ []) ≡ rs → Place rs r k x
-
-place_of : (rs : List Record) (r : Record) (k : ℕ) (x : Record) → slice_get (rs ++ r ∷ []) k ≡ Some x → Place rs r k x
-place_of [] r zero x e = last (cc) refl
-place_of [] r (suc k) x e = absurd cc
-place_of (y ∷ ys) r zero x e = earlier e refl
-place_of (y ∷ ys) r (suc k) x e = elim (place_of ys r k x e) [ earlier found same ↦ earlier found (ap (λ l. y ∷ l) same) | last found same ↦ last found (ap (λ l. y ∷ l) same) ]
-
-pub no_fault_more : (rs : List Record) (r : Record) → HaveNoFault rs → record_fault (contents_of rs) r ≡ None → HaveNoFault (rs ++ r ∷ [])
-no_fault_more rs r none here k x e =
-    elim (place_of rs r k x e) [
-      | earlier found same ↦ ap (λ l. record_fault (contents_of l) x) same ∙ none k x found
-      | last found same ↦ ap (λ l. record_fault (contents_of l) x) same ∙ ap (record_fault (contents_of rs)) (sym found) ∙ here
-    ]
-
-pub no_fault_here : (rs : List Record) (r : Record) (more : List Record) → HaveNoFault (rs ++ r ∷ more) → record_fault (contents_of rs) r ≡ None
-no_fault_here rs r more none = ap (λ l. record_fault (contents_of l) r) (sym (take_at_end rs (r ∷ more))) ∙ none (length rs) r (get_at rs r more)
-
--- no test is met
-abbrev NoneMet : List (Bool × FileFault) → Type 0
-NoneMet [] = Unit {0}
-NoneMet (p ∷ rest) = (p.0 ≡ false) × NoneMet rest
-
-none_met : (faults : List (Bool × FileFault)) → first_of faults ≡ None → NoneMet faults
-none_met [] e = tt
-none_met ((true, fault) ∷ rest) e = absurd cc
-none_met ((false, fault) ∷ rest) e = (refl, none_met rest e)
-
--- the limit of nodes
-node_limit : (contents : Contents) (r : Record) → record_fault contents r ≡ None → length contents.nodes ≢ most_nodes
-node_limit contents r e = let met = none_met (record_faults contents r) e in eqb-false (length contents.nodes) most_nodes met.1.1.1.1.1.1.0
-
-length_take : (k : ℕ) (rs : List Record) (x : Record) → slice_get rs k ≡ Some x → length (take k rs) ≡ k
-length_take zero rs x e = refl
-length_take (suc k) [] x e = absurd cc
-length_take (suc k) (r ∷ rs) x e = ap suc (length_take k rs x e)
-
-get_below : (k : ℕ) (rs : List Record) → k < length rs → (x : Record) × (slice_get rs k ≡ Some x)
-get_below k [] below = absurd (omega (arith, below))
-get_below zero (r ∷ rs) below = (r, refl)
-get_below (suc k) (r ∷ rs) below = get_below k rs (omega (arith, below))
-
-pub entries_limit : (most : ℕ) → most ≡ most_nodes → (rs : List Record) → HaveNoFault rs → length rs ≤ most
-entries_limit most is rs none =
-    ⊎_elim
-    (λ past.
-    let found = get_below most rs past in
-    let nodes : length (contents_of (take most rs)).nodes ≡ most = length-map (take most rs) (node_of (take most rs)) ∙ length_take most rs found.0 found.1 in
-    absurd (node_limit (contents_of (take most rs)) found.0 (none most found.0 found.1) (nodes ∙ is)))
-    (λ within. within)
-    (order most (length rs))
 
 -- Reading.
 

@@ -8,3 +8,4 @@ pub mod Pieces
 pub mod Once
 pub mod Entries
 pub mod Whole
+pub mod WholeGames

@@ -13,8 +13,8 @@ use Rattle.def_fraction.proofs.JudgeLemmas.{read_as_literal-judged}
 use Rattle.def_file.specs.declared.EntryKind.{EntryKind}
 use Rattle.def_file.specs.declared.EntryKind.TheVariants.{Chance, Personal, Leaf}
 use Rattle.def_file.specs.Content.{Action, SetMention, OutcomeMention, zero_fraction}
-use Rattle.def_file.specs.Reading.{◌>>=◌, bytes_at, is_token, token_where, next_is, mark, open_byte, close_byte, comma_byte, text_of, text_at, name_at, numbered, number_at, literal_at, whole_at, from_one, read_as_set, set_number_at, chance_at, action_at, close_at, actions_from, actions_at, comma_at, payoff_at, payoffs_from, payoffs_at, set_mention_at, outcome_mention_at}
-use Rattle.def_file_form.specs.Form.{Spelled, number, text, open_brace, close_brace, comma, IsText, IsName, IsWholeNumber, IsFraction, IsChance, AreActions, IsActionList, AreMorePayoffs, ArePayoffs, IsPayoffList, IsSet, IsOutcome}
+use Rattle.def_file.specs.Reading.{◌>>=◌, bytes_at, is_token, token_where, next_is, mark, open_byte, close_byte, comma_byte, token_text, text_at, name_at, number_or_fault, number_at, literal_at, whole_at, from_one, read_as_set, set_number_at, chance_at, action_at, close_at, actions_from, actions_at, comma_at, payoff_at, payoffs_from, payoffs_at, set_mention_at, outcome_mention_at}
+use Rattle.def_file_form.specs.Form.{Spelled, number, text, open_brace, close_brace, comma, IsText, IsName, IsWholeNumber, IsFraction, IsChance, AreActionsUpTo, IsActionList, AreMorePayoffs, ArePayoffs, IsPayoffList, IsSet, IsOutcome}
 use Rattle.def_file_form.proofs.Steps.{then_ok, Read, Then, IsOne, IsNone, read_as, read_one, read_none, read_then, open_step, close_step, comma_step, text_step, number_step}
 
 pub text_read : (whole : List ℕ) (at : ℕ) → at ≤ length whole → (read : List ℕ × ℕ) → text_at whole at ≡ Ok read → Read whole at read.1 (IsText read.0)
@@ -22,9 +22,9 @@ unfolding text_at
 text_read whole at within read e =
     then_ok (token_where (is_token kinds.Text whole) whole at) _ _ e (λ token e0 e.
     let s = text_step whole at within token e0 in
-    let same : (text_of whole token, token.end) ≡ read = cc in
+    let same : (token_text whole token, token.end) ≡ read = cc in
     subst (λ (r : List ℕ × ℕ). Read whole at r.1 (IsText r.0)) same
-    (read_as whole at token.end (IsOne (text s.0)) (IsText (text_of whole token)) (λ tokens rest one. record { inside = s.0; is_inside = s.1; stands_for = s.3; spelling = one }) (read_one whole at token (text s.0) s.2)))
+    (read_as whole at token.end (IsOne (text s.0)) (IsText (token_text whole token)) (λ tokens rest one. record { inside = s.0; is_inside = s.1; stands_for = s.3; spelling = one }) (read_one whole at token (text s.0) s.2)))
 
 pub name_read : (whole : List ℕ) (at : ℕ) → at ≤ length whole → (read : Option (List ℕ) × ℕ) → name_at whole at ≡ Ok read → Read whole at read.1 (IsName read.0)
 unfolding name_at
@@ -45,7 +45,7 @@ pub record NumberRead {A : Type 0} (as_read : List ℕ → Result A NumberFault)
   pub ok : as_read bytes ≡ Ok read.0
   pub taken : Read whole at read.1 (IsOne (number bytes))
 
-numbered_ok : {A : Type 0} (token : Lexeme) (r : Result A NumberFault) (read : A × ℕ) → numbered token r ≡ Ok read → (r ≡ Ok read.0) × (token.end ≡ read.1)
+numbered_ok : {A : Type 0} (token : Lexeme) (r : Result A NumberFault) (read : A × ℕ) → number_or_fault token r ≡ Ok read → (r ≡ Ok read.0) × (token.end ≡ read.1)
 numbered_ok token (Ok n) read e = let same : (n, token.end) ≡ read = cc in (ap (λ x. Ok x.0) same, ap (λ x. x.1) same)
 numbered_ok token (Err fault) read e = absurd cc
 
@@ -138,15 +138,15 @@ pub record ItemsRead {A : Type 0} (Are : List A → List Spelled → List Spelle
   pub all : read.0 ≡ done ++ more
   pub taken : Read whole at read.1 (Are more)
 
-pub actions_read : (kind : EntryKind) (left : ℕ) (done : List Action) (whole : List ℕ) (at : ℕ) → at ≤ length whole → (read : List Action × ℕ) → actions_from kind left done whole at ≡ Ok read → ItemsRead (AreActions kind) done whole at read
+pub actions_read : (kind : EntryKind) (left : ℕ) (done : List Action) (whole : List ℕ) (at : ℕ) → at ≤ length whole → (read : List Action × ℕ) → actions_from kind left done whole at ≡ Ok read → ItemsRead (AreActionsUpTo kind) done whole at read
 unfolding actions_from
 actions_read kind zero done whole at within read e = absurd cc
 actions_read kind (suc left) done whole at within read e =
     chosen (next_is close_byte whole at) e (λ action inner e. actions_read kind left (done ++ action.0 ∷ []) whole action.1 inner read e)
   where
     chosen : (b : Bool) → cond b (close_at done whole at) (action_at kind whole at >>= λ action. actions_from kind left (done ++ action.0 ∷ []) whole action.1) ≡ Ok read
-        → ((action : Action × ℕ) → action.1 ≤ length whole → actions_from kind left (done ++ action.0 ∷ []) whole action.1 ≡ Ok read → ItemsRead (AreActions kind) (done ++ action.0 ∷ []) whole action.1 read)
-        → ItemsRead (AreActions kind) done whole at read
+        → ((action : Action × ℕ) → action.1 ≤ length whole → actions_from kind left (done ++ action.0 ∷ []) whole action.1 ≡ Ok read → ItemsRead (AreActionsUpTo kind) (done ++ action.0 ∷ []) whole action.1 read)
+        → ItemsRead (AreActionsUpTo kind) done whole at read
     chosen true e again =
         let closed = close_read done whole at within read e in
         record { more = []; all = closed.0 ∙ sym (append-nil done); taken = closed.1 }
@@ -157,8 +157,8 @@ actions_read kind (suc left) done whole at within read e =
         record {
           more = action.0 ∷ later.more;
           all = later.all ∙ append_assoc done (action.0 ∷ []) later.more;
-          taken = read_as whole at read.1 (Then (IsAction kind action.0) (AreActions kind later.more)) (AreActions kind (action.0 ∷ later.more)) (λ tokens rest both. (both.1.0, both.0, both.1.1, both.1.2, both.2))
-              (read_then whole at action.1 read.1 (IsAction kind action.0) (AreActions kind later.more) here later.taken);
+          taken = read_as whole at read.1 (Then (IsAction kind action.0) (AreActionsUpTo kind later.more)) (AreActionsUpTo kind (action.0 ∷ later.more)) (λ tokens rest both. (both.1.0, both.0, both.1.1, both.1.2, both.2))
+              (read_then whole at action.1 read.1 (IsAction kind action.0) (AreActionsUpTo kind later.more) here later.taken);
         })
 
 pub action_list_read : (kind : EntryKind) (whole : List ℕ) (at : ℕ) → at ≤ length whole → (read : Option (List Action) × ℕ) → actions_at kind whole at ≡ Ok read → Read whole at read.1 (IsActionList kind read.0)
@@ -174,8 +174,8 @@ action_list_read kind whole at within read e = chosen (next_is open_byte whole a
         let s1 = actions_read kind (length whole) [] whole opening.end s0.within actions e1 in
         let same : (Some actions.0, actions.1) ≡ read = cc in
         subst (λ (r : Option (List Action) × ℕ). Read whole at r.1 (IsActionList kind r.0)) same
-        (read_then whole at opening.end actions.1 (IsOne open_brace) (AreActions kind actions.0) (read_one whole at opening open_brace s0)
-        (subst (λ as'. Read whole opening.end actions.1 (AreActions kind as')) (sym s1.all) s1.taken))))
+        (read_then whole at opening.end actions.1 (IsOne open_brace) (AreActionsUpTo kind actions.0) (read_one whole at opening open_brace s0)
+        (subst (λ as'. Read whole opening.end actions.1 (AreActionsUpTo kind as')) (sym s1.all) s1.taken))))
     chosen false e =
         let same : (None, at) ≡ read = cc in
         subst (λ (r : Option (List Action) × ℕ). Read whole at r.1 (IsActionList kind r.0)) same (read_none whole at within)

@@ -9,7 +9,7 @@ use Rattle.def_file.specs.declared.EntryKind.{EntryKind}
 use Rattle.def_file.specs.declared.EntryKind.TheVariants.{Chance, Personal, Leaf}
 use Rattle.def_file.specs.declared.FileFault.TheVariants.{Players}
 use Rattle.def_file.specs.Content.{Prologue, Record, no_set_mention}
-use Rattle.def_file.specs.Reading.{◌>>=◌, is_token, is_exact, is_numbers, begins_entry, token_where, next_is, close_byte, text_at, name_at, whole_at, close_at, set_mention_at, outcome_mention_at, chance_entry_at, personal_entry_at, terminal_entry_at, entry_at, names_from, checked_names, name_of, prologue_at}
+use Rattle.def_file.specs.Reading.{◌>>=◌, is_token, is_exact, is_numbers, begins_entry, token_where, next_is, close_byte, text_at, name_at, whole_at, close_at, set_mention_at, outcome_mention_at, chance_entry_at, personal_entry_at, terminal_entry_at, entry_at, names_from, checked_names, nth_name, prologue_at}
 use Rattle.def_file_form.specs.Form.{Spelled, word, number, open_brace, IsText, IsName, IsWholeNumber, IsSet, IsOutcome, IsEntryAs, IsEntry, AreNames, IsPrologue}
 use Rattle.def_file_form.proofs.Steps.{then_ok, either, token_ok, Step, Read, Then, IsOne, read_as, read_one, read_then, exact_here, exact_step, open_step}
 use Rattle.def_file_form.proofs.Sound.{text_read, name_read, whole_read, close_read, ItemsRead, set_mention_read, outcome_mention_read}
@@ -127,7 +127,7 @@ names_read (suc left) done whole at within read e =
         })
 
 -- two names
-two_names : (names : List (List ℕ)) → length names ≡ 2 → names ≡ name_of names 0 ∷ name_of names 1 ∷ []
+two_names : (names : List (List ℕ)) → length names ≡ 2 → names ≡ nth_name names 0 ∷ nth_name names 1 ∷ []
 two_names [] is = absurd (omega (arith, is))
 two_names (a ∷ []) is = absurd (omega (arith, is))
 two_names (a ∷ b ∷ []) is = refl
@@ -169,8 +169,8 @@ prologue_read whole at within read e =
     let s4 = open_step whole title.1 s3.within opening e4 in
     let s5 = names_read (length whole) [] whole opening.end s4.within names e5 in
     let s6 = checked_ok names.0 names.1 behind e6 in
-    let one = name_of names.0 0 in
-    let two = name_of names.0 1 in
+    let one = nth_name names.0 0 in
+    let two = nth_name names.0 1 in
     let texts : Read whole opening.end behind (AreNames (one ∷ two ∷ [])) =
     subst (λ n. Read whole opening.end n (AreNames (one ∷ two ∷ []))) s6.1
     (subst (λ ns. Read whole opening.end names.1 (AreNames ns)) (sym s5.all ∙ two_names names.0 s6.0) s5.taken) in

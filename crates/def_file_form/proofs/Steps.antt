@@ -10,11 +10,11 @@ use Rattle.def_file_tokens.specs.declared.LexFault.{LexFault}
 use Rattle.def_file_tokens.specs.declared.LexFault.TheVariants as lexing
 use Rattle.def_file_tokens.specs.Tokens.{next_from}
 use Rattle.def_file_tokens.specs.Texts.{IsInside, unescaped}
-use Rattle.def_file_tokens.specs.Spelling.{IsToken, IsText}
+use Rattle.def_file_tokens.specs.Spelling.{IsToken, IsQuoted}
 use Rattle.def_file_tokens.proofs.TokenLemmas.{next_from-sound}
 use Rattle.def_file_tokens.proofs.TextLemmas.{slice_range-inner}
 use Rattle.def_file.specs.declared.FileFault.{FileFault}
-use Rattle.def_file.specs.Reading.{◌>>=◌, is_kind, bytes_at, is_token, is_exact, expected, unfit, token_where, text_of}
+use Rattle.def_file.specs.Reading.{◌>>=◌, is_kind, bytes_at, is_token, is_exact, token_if, unfit, token_where, token_text}
 use Rattle.def_file_form.specs.Form.{Spelled, number, text, open_brace, close_brace, comma}
 
 -- a token as it is spelled
@@ -65,7 +65,7 @@ token_ok test whole at l e = expected_ok (next_from whole at) l e
     chosen true m l fault is e = (cc, is)
     chosen false m l fault is e = absurd cc
 
-    expected_ok : (r : Result Lexeme LexFault) (l : Lexeme) → expected test r ≡ Ok l → (r ≡ Ok l) × (test l ≡ true)
+    expected_ok : (r : Result Lexeme LexFault) (l : Lexeme) → token_if test r ≡ Ok l → (r ≡ Ok l) × (test l ≡ true)
     expected_ok (Ok m) l e = let found = chosen (test m) m l (unfit m) refl e in (ap Ok found.0, ap test (sym found.0) ∙ found.1)
     expected_ok (Err (lexing.Syntax at)) l e = absurd cc
     expected_ok (Err (lexing.Unclosed at)) l e = absurd cc
@@ -165,10 +165,10 @@ module _ (whole : List ℕ) (at : ℕ) (at_within : at ≤ length whole) (l : Le
   comma_step e = mark_step kinds.Comma (codes ",") (λ clash. cc) (λ b a is. is) e
 
   -- a text, and what it stands for
-  pub text_here : next_from whole at ≡ Ok l → kinds.Text ≡ l.kind → (inside : List ℕ) × IsInside inside × Step whole at l (text inside) × (text_of whole l ≡ unescaped inside)
+  pub text_here : next_from whole at ≡ Ok l → kinds.Text ≡ l.kind → (inside : List ℕ) × IsInside inside × Step whole at l (text inside) × (token_text whole l ≡ unescaped inside)
   text_here next same =
       let is = next_from-sound whole at at_within l next in
-      let spelling : IsText (bytes_at whole l) = subst (λ k. IsToken k (bytes_at whole l) (drop l.end whole)) (sym same) is.token in
+      let spelling : IsQuoted (bytes_at whole l) = subst (λ k. IsToken k (bytes_at whole l) (drop l.end whole)) (sym same) is.token in
       let inner = slice_range-inner whole l.start l.end spelling.inside is.within spelling.quoted in (
         spelling.inside,
         spelling.is_inside,
@@ -176,7 +176,7 @@ module _ (whole : List ℕ) (at : ℕ) (at_within : at ≤ length whole) (l : Le
         ap unescaped inner.1,
       )
 
-  pub text_step : token_where (is_token kinds.Text whole) whole at ≡ Ok l → (inside : List ℕ) × IsInside inside × Step whole at l (text inside) × (text_of whole l ≡ unescaped inside)
+  pub text_step : token_where (is_token kinds.Text whole) whole at ≡ Ok l → (inside : List ℕ) × IsInside inside × Step whole at l (text inside) × (token_text whole l ≡ unescaped inside)
   text_step e = let found = token_ok (is_token kinds.Text whole) whole at l e in text_here found.0 (is_kind-true kinds.Text l.kind found.1)
 
   pub number_step : token_where (is_token kinds.Number whole) whole at ≡ Ok l → Step whole at l (number (bytes_at whole l))

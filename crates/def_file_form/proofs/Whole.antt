@@ -8,17 +8,17 @@ use Rattle.def_file_tokens.specs.Tokens.{span, next_from}
 use Rattle.def_tree.specs.Tree.{IsWhole}
 use Rattle.def_file.specs.declared.FileFault.TheVariants.{TrailingText}
 use Rattle.def_file.specs.Content.{Contents, GameFile, no_contents, game_with}
-use Rattle.def_file.specs.Faults.{most_nodes}
+use Rattle.def_tree.specs.Rules.{most_nodes}
 use Rattle.def_file.specs.Reading.{is_kind, prologue_at, entries_from, trailing, nothing_at, game_at}
 use Rattle.def_file_entries.specs.Entries.{contents_of}
-use Rattle.def_file_entries.specs.Laws.{HaveNoFault}
 use Rattle.def_file_form.specs.Form.{spelled, IsPrologue}
 use Rattle.def_file_form.specs.Laws.{StandsFor}
 use Rattle.def_file_form.proofs.Steps.{then_ok, is_kind-true, read_then}
 use Rattle.def_file_form.proofs.SoundEntries.{prologue_read}
 use Rattle.def_file_form.proofs.CompleteEntries.{clear_entries, prologue_taken}
 use Rattle.def_file_form.proofs.Pieces.{pieces_found, ahead_pieces}
-use Rattle.def_file_form.proofs.Entries.{entries_limit, AreEntriesThen, entries_then, entries_read, entries_taken}
+use Rattle.def_file_entries.proofs.NoFault.{entries_limit, nothing_at_fault}
+use Rattle.def_file_form.proofs.Entries.{AreEntriesThen, entries_then, entries_read, entries_taken}
 
 -- nothing stands at the end
 pub nothing_ok : (whole : List ℕ) (at end : ℕ) → nothing_at whole at ≡ Ok end → (l : Lexeme) × (next_from whole at ≡ Ok l) × (kinds.End ≡ l.kind)
@@ -42,9 +42,6 @@ ok_nothing whole at next = ap trailing next
 none_known : no_contents ≡ contents_of []
 none_known = refl
 
-none_at_fault : HaveNoFault []
-none_at_fault k r e = absurd cc
-
 pub game_read : (bytes : List ℕ) (game : GameFile) → game_at bytes ≡ Ok game → StandsFor bytes game
 unfolding game_at
 game_read bytes game e =
@@ -52,7 +49,7 @@ game_read bytes game e =
     then_ok (entries_from (most_nodes + 1) no_contents bytes head.1) _ _ e (λ body e1 e.
     then_ok (nothing_at bytes body.1) _ _ e (λ end e2 e.
     let p = prologue_read bytes 0 (omega arith) head e0 in
-    let es = entries_read (most_nodes + 1) [] no_contents none_known none_at_fault tt bytes head.1 p.within body e1 in
+    let es = entries_read (most_nodes + 1) [] no_contents none_known nothing_at_fault tt bytes head.1 p.within body e1 in
     let last = nothing_ok bytes body.1 end e2 in
     let both = read_then bytes 0 head.1 body.1 (IsPrologue head.0) (AreEntriesThen es.more) p es.taken in
     let found = pieces_found bytes both.tokens body.1 last.0 both.takes last.1 last.2 in

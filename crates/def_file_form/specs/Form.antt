@@ -80,15 +80,15 @@ IsChance Personal f tokens rest = (f ≡ zero_fraction) × (tokens ≡ rest)
 IsChance Leaf f tokens rest = (f ≡ zero_fraction) × (tokens ≡ rest)
 
 -- actions up to the closing brace
-abbrev pub AreActions : EntryKind → List Action → List Spelled → List Spelled → Type 0
-AreActions kind [] tokens rest = tokens ≡ close_brace ∷ rest
-AreActions kind (a ∷ more) tokens rest =
-    (named done : List Spelled) × IsText a.name tokens named × IsChance kind a.chance named done × AreActions kind more done rest
+abbrev pub AreActionsUpTo : EntryKind → List Action → List Spelled → List Spelled → Type 0
+AreActionsUpTo kind [] tokens rest = tokens ≡ close_brace ∷ rest
+AreActionsUpTo kind (a ∷ more) tokens rest =
+    (named done : List Spelled) × IsText a.name tokens named × IsChance kind a.chance named done × AreActionsUpTo kind more done rest
 
 -- a list of actions in braces, or nothing
 abbrev pub IsActionList : EntryKind → Option (List Action) → List Spelled → List Spelled → Type 0
 IsActionList kind None tokens rest = tokens ≡ rest
-IsActionList kind (Some actions) tokens rest = (opened : List Spelled) × (tokens ≡ open_brace ∷ opened) × AreActions kind actions opened rest
+IsActionList kind (Some actions) tokens rest = (opened : List Spelled) × (tokens ≡ open_brace ∷ opened) × AreActionsUpTo kind actions opened rest
 
 -- payoffs behind the first up to the closing brace, each with at most one comma before it
 abbrev pub AreMorePayoffs : List Fraction → List Spelled → List Spelled → Type 0

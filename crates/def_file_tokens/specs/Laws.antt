@@ -35,8 +35,8 @@ abbrev pub ReadIsPieces : Type 0
 ReadIsPieces = (whole : List ℕ) (at : ℕ) (lexemes : List Lexeme) → at ≤ length whole → Reads whole at lexemes
     → (ps : List Piece) × (rest : List ℕ) × ArePieces ps rest × (drop at whole ≡ bytes_of ps rest) × (lexemes ≡ lexemes_of at ps)
 
-abbrev pub OneReading : Type 0
-OneReading = (ps qs : List Piece) (rest end : List ℕ) → ArePieces ps rest → ArePieces qs end → bytes_of ps rest ≡ bytes_of qs end → (ps ≡ qs) × (rest ≡ end)
+abbrev pub OneDivision : Type 0
+OneDivision = (ps qs : List Piece) (rest end : List ℕ) → ArePieces ps rest → ArePieces qs end → bytes_of ps rest ≡ bytes_of qs end → (ps ≡ qs) × (rest ≡ end)
 
 abbrev pub OneSpelling : Type 0
 OneSpelling = (inside bytes : List ℕ) → (IsInside inside × (bytes ≡ unescaped inside)) ↔ (EndsPlainly bytes × (inside ≡ escaped bytes))

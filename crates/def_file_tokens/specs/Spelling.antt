@@ -24,7 +24,7 @@ pub record IsRun (begins : ℕ → Bool) (bytes after : List ℕ) : Type 0 where
   pub longest : FirstFails in_run after
 
 -- a text with its quotation marks
-pub record IsText (bytes : List ℕ) : Type 0 where
+pub record IsQuoted (bytes : List ℕ) : Type 0 where
   pub inside : List ℕ
   pub is_inside : IsInside inside
   pub quoted : bytes ≡ 34 ∷ (inside ++ 34 ∷ [])
@@ -32,7 +32,7 @@ pub record IsText (bytes : List ℕ) : Type 0 where
 -- these bytes spell a token of this kind, where `after` stands behind them
 abbrev pub IsToken : Token → List ℕ → List ℕ → Type 0
 IsToken Word bytes after = IsRun begins_word bytes after
-IsToken Text bytes after = IsText bytes
+IsToken Text bytes after = IsQuoted bytes
 IsToken Number bytes after = IsRun begins_number bytes after
 IsToken Open bytes after = bytes ≡ 123 ∷ []
 IsToken Close bytes after = bytes ≡ 125 ∷ []

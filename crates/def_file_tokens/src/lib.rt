@@ -1,7 +1,7 @@
 //! The tokens of a game file in the profile of Gambit's `.efg` format: definitions, and their laws.
 #![tactic(auto)]
 
-ghost use Rattle.def_file_tokens.specs.Laws.{NextIsLexeme, NextIsSyntax, NextIsUnclosed, NextByteIsFirst, NoByteIsSpace, EndStays, PiecesAreRead, ReadIsPieces, OneReading, OneSpelling};
+ghost use Rattle.def_file_tokens.specs.Laws.{NextIsLexeme, NextIsSyntax, NextIsUnclosed, NextByteIsFirst, NoByteIsSpace, EndStays, PiecesAreRead, ReadIsPieces, OneDivision, OneSpelling};
 
 /// What a token is.
 #[derive(Clone, Copy, Debug, PartialEq, Eq)]
@@ -80,8 +80,8 @@ pub fn read_is_pieces()
 {}
 
 /// Bytes are white space and tokens in turn in one way at most.
-pub fn one_reading()
-    ensures { OneReading }
+pub fn one_division()
+    ensures { OneDivision }
 {}
 
 /// A text's inside is the text with a backslash in front of each quotation mark.

@@ -74,7 +74,7 @@ gcd-reduced a b h =
     let pos_g : 1 ≤ g = gcd-positive a b h in
     eq_of_mul-eq-mul_left g pos_g _ _ (sym scaled ∙ sym (mul-one g))
 
--- a fraction in lowest terms is told by its value
+-- a fraction in lowest terms follows from its value
 pub same_ratio : (a b c d : ℕ) → 1 ≤ b → 1 ≤ d → gcd a b ≡ 1 → gcd c d ≡ 1 → a * d ≡ c * b → (a ≡ c) × (b ≡ d)
 same_ratio a b c d hb hd p q e =
     let into_product : b ∣ a * d = (let P : ℕ → Type 0 = λ x. b ∣ x in subst P (sym e) (dvd-mul_left b c)) in

@@ -1,6 +1,6 @@
 -- Fractions in lowest terms.
 use Rattle.std.proofs.Common.{◌≡◌, ℕ, zero, suc, ◌*◌, ◌/◌, ◌≤◌, Bool, true, false, ℤ, pos, negsuc, neg_ℤ, ◌*ℤ◌, unsigned_abs, refl, sym, ap, ◌∙◌, arith}
-use Rattle.std.proofs.Math.Nat.{mul-div_cancel', zero-mul, div-one, zero-div}
+use Rattle.std.proofs.Math.Nat.{mul-div_cancel', eq_of_mul-eq-mul_left, zero-mul, div-one, zero-div}
 use Rattle.std.proofs.lemmas.Int.{unsigned_abs-mul}
 use Rattle.def_fraction.specs.Divisors.{gcd}
 use Rattle.def_fraction.specs.Fraction.{Fraction, IsInLowestTerms, fraction_of, without_factor, signed}
@@ -68,6 +68,24 @@ same_from_value f g p q value =
     let nums : f.num ≡ g.num = same_signs f.num g.num f.den g.den p.positive q.positive same.0 value in
     let make : ℤ → ℕ → Fraction = λ n d. record { num = n; den = d } in
     ap (λ n. make n f.den) nums ∙ ap (make g.num) same.1
+
+-- a fraction in lowest terms that has the value n / d is what n / d is in lowest terms
+pub fraction_of-value : (f : Fraction) (n : ℤ) (d : ℕ) → IsInLowestTerms f → 1 ≤ d → HasValue f n d → fraction_of n d ≡ f
+fraction_of-value f n d low positive value =
+    let g : Fraction = fraction_of n d in
+    let reduced = fraction_of-reduced n d positive in
+    let size_f : unsigned_abs f.num * d ≡ unsigned_abs n * f.den = sym (unsigned_abs-mul f.num (pos d)) ∙ ap unsigned_abs value ∙ unsigned_abs-mul n (pos f.den) in
+    let size_g : unsigned_abs g.num * d ≡ unsigned_abs n * g.den = sym (unsigned_abs-mul g.num (pos d)) ∙ ap unsigned_abs reduced.exact ∙ unsigned_abs-mul n (pos g.den) in
+    let same = same_ratio (unsigned_abs g.num) g.den (unsigned_abs f.num) f.den reduced.lowest.positive low.positive reduced.lowest.coprime low.coprime
+    (crosswise (unsigned_abs g.num) g.den (unsigned_abs f.num) f.den (unsigned_abs n) d positive size_g size_f) in
+    let nums : g.num ≡ f.num = same_signs g.num f.num d d positive positive same.0 (reduced.exact ∙ ap (λ k. n *ℤ pos k) same.1 ∙ sym value) in
+    let make : ℤ → ℕ → Fraction = λ n d. record { num = n; den = d } in
+    ap (λ n. make n g.den) nums ∙ ap (make f.num) same.1
+  where
+    crosswise : (a b x y n d : ℕ) → 1 ≤ d → a * d ≡ n * b → x * d ≡ n * y → a * y ≡ x * b
+    crosswise a b x y n d positive first second =
+        let scaled : d * (a * y) ≡ d * (x * b) = omega (arith, ap (λ k. k * y) first, ap (λ k. k * b) second) in
+        eq_of_mul-eq-mul_left d positive (a * y) (x * b) scaled
 
 without_one : (n : ℤ) (g : ℕ) → g ≡ 1 → without_factor n g ≡ n
 without_one (pos n) g e = ap (λ x. pos (n / x)) e ∙ ap pos (div-one n)

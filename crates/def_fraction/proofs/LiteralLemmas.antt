@@ -205,10 +205,10 @@ unfolding decimal_of
 decimal_of-spelled before after rest b p q h =
     let found = cond_some _ _ b h in
     let power = option_map_some (decimal before after) (power_of rest) b found.1 in
-    let told = power_of-spelled rest power.0 power.1 in
+    let shown = power_of-spelled rest power.0 power.1 in
     subst (λ (x : Body). Spells x (before ++ (point_text after ++ rest))) power.2 (record {
-      formed = (and_from _ _ (digits-append before (digits_after after) p q) found.0, told.formed);
-      spelled = ap (λ xs. before ++ (point_text after ++ xs)) told.spelled;
+      formed = (and_from _ _ (digits-append before (digits_after after) p q) found.0, shown.formed);
+      spelled = ap (λ xs. before ++ (point_text after ++ xs)) shown.spelled;
     })
 
 body_if : (before : List ℕ) (c : ℕ) (cs : List ℕ) (b : Body) (s t : Bool) → eqb c 47 ≡ s → eqb c 46 ≡ t → all_ascii_digits before ≡ true
@@ -223,36 +223,36 @@ body_if before c cs b true t e f p h =
       spelled = ap (λ x. before ++ x ∷ cs) (sym (eqb-true c 47 e));
     })
 body_if before c cs b false true e f p h =
-    let told = decimal_of-spelled before (Some (leading_digits cs)) (after_digits cs) b p (leading_digits-digits cs) h in
+    let shown = decimal_of-spelled before (Some (leading_digits cs)) (after_digits cs) b p (leading_digits-digits cs) h in
     let bytes : before ++ (point ∷ (leading_digits cs ++ after_digits cs)) ≡ before ++ c ∷ cs = ap (λ xs. before ++ (point ∷ xs)) (digits_split cs) ∙ ap (λ x. before ++ x ∷ cs) (sym (eqb-true c 46 f)) in
-    record { formed = told.formed; spelled = told.spelled ∙ bytes }
+    record { formed = shown.formed; spelled = shown.spelled ∙ bytes }
 body_if before c cs b false false e f p h =
-    let told = decimal_of-spelled before None (c ∷ cs) b p refl h in
-    record { formed = told.formed; spelled = told.spelled }
+    let shown = decimal_of-spelled before None (c ∷ cs) b p refl h in
+    record { formed = shown.formed; spelled = shown.spelled }
 
 body_after-spelled : (before rest : List ℕ) (b : Body) → all_ascii_digits before ≡ true → body_after before rest ≡ Some b → Spells b (before ++ rest)
 unfolding body_after
 body_after-spelled before [] b p h =
-    let told = decimal_of-spelled before None [] b p refl h in
-    record { formed = told.formed; spelled = told.spelled }
+    let shown = decimal_of-spelled before None [] b p refl h in
+    record { formed = shown.formed; spelled = shown.spelled }
 body_after-spelled before (c ∷ cs) b p h = body_if before c cs b (eqb c 47) (eqb c 46) refl refl p h
 
 body_of-spelled : (bs : List ℕ) (b : Body) → body_of bs ≡ Some b → Spells b bs
 unfolding body_of
 body_of-spelled bs b h =
-    let told = body_after-spelled (leading_digits bs) (after_digits bs) b (leading_digits-digits bs) h in
-    record { formed = told.formed; spelled = told.spelled ∙ digits_split bs }
+    let shown = body_after-spelled (leading_digits bs) (after_digits bs) b (leading_digits-digits bs) h in
+    record { formed = shown.formed; spelled = shown.spelled ∙ digits_split bs }
 
 pub literal_of-spelled : (bs : List ℕ) (l : Literal) → literal_of bs ≡ Some l → IsLiteral bs l
 unfolding literal_of
 literal_of-spelled bs l h =
     let found = option_map_some _ (body_of (after_sign bs)) l h in
-    let told = body_of-spelled (after_sign bs) found.0 found.1 in
+    let shown = body_of-spelled (after_sign bs) found.0 found.1 in
     subst (λ (x : Literal). IsLiteral bs x) found.2 (record {
-      spelled = ap (λ xs. sign_text (sign_of bs) ++ xs) told.spelled ∙ sign_split bs;
-      formed = told.formed;
+      spelled = ap (λ xs. sign_text (sign_of bs) ++ xs) shown.spelled ∙ sign_split bs;
+      formed = shown.formed;
     })
 
-pub literal_of-told : (bs : List ℕ) (l : Literal) → (literal_of bs ≡ Some l) ↔ IsLiteral bs l
-literal_of-told bs l =
+pub literal_of-IsLiteral : (bs : List ℕ) (l : Literal) → (literal_of bs ≡ Some l) ↔ IsLiteral bs l
+literal_of-IsLiteral bs l =
     (literal_of-spelled bs l, λ w. ap literal_of (sym w.spelled) ∙ literal_of-text l w.formed)

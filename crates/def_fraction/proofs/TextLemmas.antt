@@ -10,7 +10,7 @@ use Rattle.std.proofs.lemmas.Fmt.{digits_decimal, digits_value-decimal, decimal_
 use Rattle.std.proofs.lemmas.Bool.{and_parts, and_from, leb-true, le-leb, lt-ltb, eqb-true, ne_eqb}
 use Rattle.def_fraction.specs.Digits.{is_numeral, number_of}
 use Rattle.def_fraction.specs.Fraction.{Fraction, IsInLowestTerms, fraction_of, fits, signed}
-use Rattle.def_fraction.specs.Literal.{slash, no_sign, minus_sign, Sign, Body, quotient, decimal, Literal, literal_text, body_text, sign_text, IsBody, is_negative, numerator, denominator}
+use Rattle.def_fraction.specs.Literal.{slash, no_sign, minus_sign, Sign, Body, quotient, decimal, Literal, literal_text, body_text, sign_text, IsBody, is_minus, numerator, denominator}
 use Rattle.def_fraction.specs.Reading.{literal_of, value_of, read_as_literal}
 use Rattle.def_fraction.specs.Text.{int_text, fraction_text}
 use Rattle.def_fraction.proofs.FractionLemmas.{fraction_of-lowest}
@@ -63,7 +63,7 @@ denominator_is : (n d : ℕ) (one : Bool) → eqb d 1 ≡ one → d < 2 ^ 64 →
 denominator_is n d true e q = sym (eqb-true d 1 e)
 denominator_is n d false e q = number_of-decimal d q
 
-signed_for : (z : ℤ) → signed (is_negative (sign_for z)) (unsigned_abs z) ≡ z
+signed_for : (z : ℤ) → signed (is_minus (sign_for z)) (unsigned_abs z) ≡ z
 signed_for (pos n) = refl
 signed_for (negsuc n) = refl
 
@@ -76,7 +76,7 @@ value_of-fraction f h w =
     let n : numerator (literal_for f).body ≡ unsigned_abs f.num = numerator_is (unsigned_abs f.num) f.den (eqb f.den 1) (omega arith) in
     let d : denominator (literal_for f).body ≡ f.den = denominator_is (unsigned_abs f.num) f.den (eqb f.den 1) refl (omega arith) in
     let positive = h.positive in
-    let exact : fraction_of (signed (is_negative (sign_for f.num)) (unsigned_abs f.num)) f.den ≡ f = ap (λ z. fraction_of z f.den) (signed_for f.num) ∙ fraction_of-lowest f h in
+    let exact : fraction_of (signed (is_minus (sign_for f.num)) (unsigned_abs f.num)) f.den ≡ f = ap (λ z. fraction_of z f.den) (signed_for f.num) ∙ fraction_of-lowest f h in
     rw (n, d, exact, ne_eqb f.den 0 (λ e. omega arith), le-leb (unsigned_abs f.num) (2 ^ 127 - 1) (omega arith), le-leb f.den (2 ^ 127 - 1) (omega arith), w) refl
 
 pub read_as_literal-fraction_text : (f : Fraction) → IsInLowestTerms f → IsTrue (fits f) → read_as_literal (fraction_text f) ≡ Ok f
@@ -85,8 +85,8 @@ read_as_literal-fraction_text f h w =
     let small = and_parts _ _ w in
     let above : unsigned_abs f.num ≤ 2 ^ 62 = leb-true (unsigned_abs f.num) (2 ^ 62) small.0 in
     let below : f.den ≤ 2 ^ 62 = leb-true f.den (2 ^ 62) small.1 in
-    let told : literal_of (fraction_text f) ≡ Some (literal_for f) = ap literal_of (sym (literal_text-fraction f)) ∙ literal_of-text (literal_for f) (body_formed (unsigned_abs f.num) f.den (eqb f.den 1) (omega arith) (omega arith)) in
-    rw told (value_of-fraction f h w)
+    let shown : literal_of (fraction_text f) ≡ Some (literal_for f) = ap literal_of (sym (literal_text-fraction f)) ∙ literal_of-text (literal_for f) (body_formed (unsigned_abs f.num) f.den (eqb f.den 1) (omega arith) (omega arith)) in
+    rw shown (value_of-fraction f h w)
 
 -- ---- the canonical text
 

@@ -46,8 +46,8 @@ abbrev pub OrderIsTotal : Type 0
 OrderIsTotal = (f g h : Fraction) → IsInLowestTerms f → IsInLowestTerms g → IsInLowestTerms h → OrdersValues f g h
 
 -- bytes are read as a literal exactly where they are its bytes; so no bytes are two literals
-abbrev pub LiteralIsTold : Type 0
-LiteralIsTold = (bytes : List ℕ) (l : Literal) → (literal_of bytes ≡ Some l) ↔ IsLiteral bytes l
+abbrev pub LiteralIsSpelled : Type 0
+LiteralIsSpelled = (bytes : List ℕ) (l : Literal) → (literal_of bytes ≡ Some l) ↔ IsLiteral bytes l
 
 -- what reading gives says what the bytes are, and the other way round
 pub record JudgesLiteral (bytes : List ℕ) (read : Result Fraction NumberFault) : Type 0 where

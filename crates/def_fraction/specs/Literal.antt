@@ -92,19 +92,19 @@ pub record IsLiteral (bytes : List ℕ) (l : Literal) : Type 0 where
 
 -- The exact value, as a numerator and a denominator.
 
-abbrev pub is_negative : Sign → Bool
-is_negative no_sign = false
-is_negative plus_sign = false
-is_negative minus_sign = true
+abbrev pub is_minus : Sign → Bool
+is_minus no_sign = false
+is_minus plus_sign = false
+is_minus minus_sign = true
 
 -- the exponent k of the power of ten is raised - lowered
 abbrev pub raised : Option Power → ℕ
 raised None = 0
-raised (Some p) = if is_negative p.sign then 0 else number_of p.digits
+raised (Some p) = if is_minus p.sign then 0 else number_of p.digits
 
 abbrev pub lowered : Option Power → ℕ
 lowered None = 0
-lowered (Some p) = if is_negative p.sign then number_of p.digits else 0
+lowered (Some p) = if is_minus p.sign then number_of p.digits else 0
 
 -- The numerator of a decimal is the number n of all its digits, and its denominator is 10 ^ (f - k),
 -- where f digits stand after the point; where k is more than f, they are n * 10 ^ (k - f) and 1.
@@ -119,7 +119,7 @@ denominator (quotient above below) = number_of below
 denominator (decimal before after power) = 10 ^ (length (digits_after after) + lowered power - raised power)
 
 abbrev pub signed_numerator : Literal → ℤ
-signed_numerator l = signed (is_negative l.sign) (numerator l.body)
+signed_numerator l = signed (is_minus l.sign) (numerator l.body)
 
 -- the greatest numerator and denominator before reduction
 abbrev pub most_written : ℕ
@@ -129,7 +129,7 @@ abbrev pub exact_value : Literal → Fraction
 exact_value l = fraction_of (signed_numerator l) (denominator l.body)
 
 -- no part passes its limit, before reduction and in lowest terms
-pub record IsWithinLimits (l : Literal) : Type 0 where
+pub record IsInRange (l : Literal) : Type 0 where
   pub numerator_written : numerator l.body ≤ most_written
   pub denominator_written : denominator l.body ≤ most_written
   pub in_lowest_terms : IsTrue (fits (exact_value l))
@@ -143,7 +143,7 @@ abbrev pub HasZeroDenominator : List ℕ → Type 0
 HasZeroDenominator bytes = (l : Literal) × IsLiteral bytes l × (denominator l.body ≡ 0)
 
 abbrev pub IsPastLimits : List ℕ → Type 0
-IsPastLimits bytes = (l : Literal) × IsLiteral bytes l × (0 < denominator l.body) × (¬ (IsWithinLimits l))
+IsPastLimits bytes = (l : Literal) × IsLiteral bytes l × (0 < denominator l.body) × (¬ (IsInRange l))
 
 abbrev pub IsLiteralOf : List ℕ → Fraction → Type 0
-IsLiteralOf bytes f = (l : Literal) × IsLiteral bytes l × (0 < denominator l.body) × IsWithinLimits l × (f ≡ exact_value l)
+IsLiteralOf bytes f = (l : Literal) × IsLiteral bytes l × (0 < denominator l.body) × IsInRange l × (f ≡ exact_value l)

@@ -1,5 +1,5 @@
 //! What the definitions compute, in the words of arithmetic and of number formats.
-ghost use Rattle.def_fraction.specs.Laws.{GcdIsGreatest, LcmIsLeast, FractionIsReduced, ValueTellsFraction, OrderIsTotal, LiteralIsTold, LiteralIsJudged, TextIsCanonical, FractionIsReadBack};
+ghost use Rattle.def_fraction.specs.Laws.{GcdIsGreatest, LcmIsLeast, FractionIsReduced, ValueTellsFraction, OrderIsTotal, LiteralIsSpelled, LiteralIsJudged, TextIsCanonical, FractionIsReadBack};
 
 /// Euclid's algorithm gives the greatest common divisor.
 pub fn gcd_is_greatest()
@@ -27,8 +27,8 @@ pub fn order_is_total()
 {}
 
 /// Bytes are read as a literal exactly where they spell it.
-pub fn literal_is_told()
-    ensures { LiteralIsTold }
+pub fn literal_is_spelled()
+    ensures { LiteralIsSpelled }
 {}
 
 /// What reading a literal gives says what the bytes are, and the other way round.

@@ -9,7 +9,7 @@ mod rows;
 pub use fault::NumberFault;
 pub use laws::{
     fraction_is_read_back, fraction_is_reduced, gcd_is_greatest, lcm_is_least, literal_is_judged,
-    literal_is_told, order_is_total, text_is_canonical, value_tells_fraction,
+    literal_is_spelled, order_is_total, text_is_canonical, value_tells_fraction,
 };
 pub use rows::{
     literals_at_the_limits, literals_that_are_none, literals_with_values, whole_numbers,

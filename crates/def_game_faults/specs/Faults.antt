@@ -1,16 +1,18 @@
--- The faults of a game in a tree with its tables, in the order in which they are looked for. The order and the limits are this project's own.
--- First come the chance sets, one after the other, then all nodes, then the leaves' weights, and then recall. Nodes are numbered from 1.
-use Rattle.std.specs.Prelude.{ℕ, ◌+◌, ◌-◌, Bool, true, false, not, ◌&&◌, nat_eq, nat_le, if◌then◌else◌, List, [], ◌∷◌, slice_index_or, Option, Some, None, ℤ, pos, negsuc, unsigned_abs}
+-- The first fault of a game's numbers and of its recall, looked for in walks over its nodes in prefix order. The order and the limits are this project's own.
+--     NodeTest, found_by test before nodes     what a walk looks for at a node, and the first that it finds
+--     number_fault tables tree                the first fault of the numbers
+--     game_fault tables tree                  the first fault, recall included
+-- The walks: the signs of probabilities; their sums; reach, payoffs and unit; the mass; recall. Nodes are numbered from 1.
+use Rattle.std.specs.Prelude.{ℕ, ◌+◌, Bool, true, false, not, ◌&&◌, nat_eq, nat_le, nat_lt, if◌then◌else◌, List, [], ◌∷◌, ◌++◌, length, Option, Some, None, ℤ, pos, negsuc, unsigned_abs}
 use Rattle.std.specs.List.{list_any}
 use Rattle.def_tree.specs.declared.Kind.TheVariants.{Chance}
 use Rattle.def_tree.specs.Tree.{Forest, is_leaf_kind}
 use Rattle.def_tree.specs.Rules.{is_same_kind}
-use Rattle.def_fraction.specs.Divisors.{lcm}
 use Rattle.def_fraction.specs.Fraction.{Fraction, fits, most, sum_of}
 use Rattle.def_game_paths.specs.Paths.{Visit, visits}
-use Rattle.def_game_paths.specs.Recall.{Numbered, RecallBreak, recall_break}
-use Rattle.def_game_scale.specs.Tables.{Tables, nothing, payoff_one, payoff_two, reach}
-use Rattle.def_game_scale.specs.Scale.{expected, unit, weight_of}
+use Rattle.def_game_paths.specs.Recall.{RecallBreak, recall_break}
+use Rattle.def_game_scale.specs.Tables.{Tables, nothing, payoff_one, payoff_two, probabilities, reach}
+use Rattle.def_game_scale.specs.Scale.{expected, game_unit, mass_so_far, unit_so_far}
 
 pub data GameFault : Type 0 where
   ChanceNegative : (node : ℕ) → GameFault
@@ -23,21 +25,29 @@ abbrev pub or_else : Option GameFault → Option GameFault → Option GameFault
 or_else None later = later
 or_else (Some fault) later = Some fault
 
-abbrev pub numbered : ℕ → List Visit → List Numbered
-numbered k [] = []
-numbered k (v ∷ rest) = record { number = k; visit = v } ∷ numbered (k + 1) rest
+-- the fault where the test isn't passed, and otherwise what comes later
+abbrev pub passing : Bool → GameFault → Option GameFault → Option GameFault
+passing true fault later = later
+passing false fault later = Some fault
 
-abbrev pub all_nodes : Forest → List Numbered
-all_nodes tree = numbered 1 (visits tree)
+-- the number of a node, by the nodes before it
+abbrev pub number_after : List Visit → ℕ
+number_after before = length before + 1
 
--- the first nodes of the chance sets whose numbers are above `seen`
-abbrev pub chance_sets : ℕ → List Numbered → List Numbered
-chance_sets seen [] = []
-chance_sets seen (n ∷ rest) =
-    if is_same_kind Chance n.visit.node.kind && nat_eq n.visit.node.set (seen + 1) then n ∷ chance_sets (seen + 1) rest else chance_sets seen rest
+-- what is wrong at a node, by the nodes before it and the node
+abbrev pub NodeTest : Type 0
+NodeTest = List Visit → Visit → Option GameFault
 
-abbrev pub probabilities : Tables → Numbered → List Fraction
-probabilities tables n = slice_index_or tables.chance (n.visit.node.set - 1) []
+-- the first fault that a test finds at these nodes, which stand behind those before
+abbrev pub found_by : NodeTest → List Visit → List Visit → Option GameFault
+found_by test before [] = None
+found_by test before (node ∷ rest) = or_else (test before node) (found_by test (before ++ (node ∷ [])) rest)
+
+abbrev pub is_chance : Visit → Bool
+is_chance visit = is_same_kind Chance visit.node.kind
+
+abbrev pub is_leaf : Visit → Bool
+is_leaf visit = is_leaf_kind visit.node.kind
 
 abbrev pub is_below_zero : ℤ → Bool
 is_below_zero (pos _) = false
@@ -53,49 +63,46 @@ is_zero f = nat_eq (unsigned_abs f.num) 0
 abbrev pub is_one : Fraction → Bool
 is_one f = not (is_negative f) && nat_eq (unsigned_abs f.num) f.den
 
+-- A chance set's probabilities are those of each of its nodes, so a fault of theirs is found at the set's first node.
+
 -- a probability is below 0
-abbrev pub negative_fault : Tables → List Numbered → Option GameFault
-negative_fault tables [] = None
-negative_fault tables (n ∷ rest) = or_else (if list_any is_negative (probabilities tables n) then Some (ChanceNegative n.number) else None) (negative_fault tables rest)
+abbrev pub sign_fault : Tables → NodeTest
+sign_fault tables before node = passing (not (is_chance node && list_any is_negative (probabilities tables node.node.set))) (ChanceNegative (number_after before)) None
 
 -- the probabilities, added in order, pass the limit or don't come to 1
-abbrev pub sum_fault : ℕ → Fraction → List Fraction → Option GameFault
-sum_fault node running [] = if is_one running then None else Some (ChanceSum node)
-sum_fault node running (p ∷ rest) = if fits (sum_of running p) then sum_fault node (sum_of running p) rest else Some (Scale node)
+abbrev pub adding_fault : ℕ → Fraction → List Fraction → Option GameFault
+adding_fault number running [] = passing (is_one running) (ChanceSum number) None
+adding_fault number running (p ∷ rest) = passing (fits (sum_of running p)) (Scale number) (adding_fault number (sum_of running p) rest)
 
-abbrev pub chance_fault : Tables → List Numbered → Option GameFault
-chance_fault tables [] = None
-chance_fault tables (n ∷ rest) = or_else (sum_fault n.number nothing (probabilities tables n)) (chance_fault tables rest)
+abbrev pub sum_fault : Tables → NodeTest
+sum_fault tables before node = if is_chance node then adding_fault (number_after before) nothing (probabilities tables node.node.set) else None
 
 -- at a leaf: the payoffs don't add up to 0, or what it is expected to pay passes the limit, or the unit of the leaves so far does
-abbrev pub leaf_fault : Tables → ℕ → Numbered → Option GameFault
-leaf_fault tables running n =
-    if is_zero (sum_of (payoff_one tables n.visit) (payoff_two tables n.visit))
-    then (if fits (expected tables n.visit) && nat_le (lcm (expected tables n.visit).den running) most then None else Some (Scale n.number))
-    else Some (NotZeroSum n.number)
+abbrev pub leaf_fault : Tables → NodeTest
+leaf_fault tables before node =
+    passing (is_zero (sum_of (payoff_one tables node) (payoff_two tables node))) (NotZeroSum (number_after before))
+    (passing (fits (expected tables node)) (Scale (number_after before))
+    (passing (nat_le (unit_so_far tables (before ++ (node ∷ []))) most) (Scale (number_after before)) None))
 
 -- at each node: its reach or a payoff of its path passes the limit
-abbrev pub node_fault : Tables → ℕ → Numbered → Option GameFault
-node_fault tables running n =
-    if fits (reach tables n.visit.path) && (fits (payoff_one tables n.visit) && fits (payoff_two tables n.visit))
-    then (if is_leaf_kind n.visit.node.kind then leaf_fault tables running n else None)
-    else Some (Scale n.number)
+abbrev pub node_fault : Tables → NodeTest
+node_fault tables before node =
+    passing (fits (reach tables node.path)) (Scale (number_after before))
+    (passing (fits (payoff_one tables node)) (Scale (number_after before))
+    (passing (fits (payoff_two tables node)) (Scale (number_after before))
+    (if is_leaf node then leaf_fault tables before node else None)))
 
-abbrev pub unit_with : Tables → ℕ → Numbered → ℕ
-unit_with tables running n = if is_leaf_kind n.visit.node.kind then lcm (expected tables n.visit).den running else running
+-- at each leaf: the mass of the leaves so far passes the limit
+abbrev pub mass_fault : Tables → ℕ → NodeTest
+mass_fault tables unit before node = passing (not (is_leaf node && nat_lt most (mass_so_far tables unit (before ++ (node ∷ []))))) (Scale (number_after before)) None
 
-abbrev pub path_fault : Tables → ℕ → List Numbered → Option GameFault
-path_fault tables running [] = None
-path_fault tables running (n ∷ rest) = or_else (node_fault tables running n) (path_fault tables (unit_with tables running n) rest)
-
--- the sizes of the weights, added in order, pass the limit
-abbrev pub mass_with : Tables → ℕ → ℕ → Numbered → ℕ
-mass_with tables whole running n = if is_leaf_kind n.visit.node.kind then running + unsigned_abs (weight_of whole (expected tables n.visit)) else running
-
-abbrev pub mass_fault : Tables → ℕ → ℕ → List Numbered → Option GameFault
-mass_fault tables whole running [] = None
-mass_fault tables whole running (n ∷ rest) =
-    if nat_le (mass_with tables whole running n) most then mass_fault tables whole (mass_with tables whole running n) rest else Some (Scale n.number)
+-- the first fault of the numbers
+abbrev pub number_fault : Tables → Forest → Option GameFault
+number_fault tables tree =
+    or_else (found_by (sign_fault tables) [] (visits tree))
+    (or_else (found_by (sum_fault tables) [] (visits tree))
+    (or_else (found_by (node_fault tables) [] (visits tree))
+    (found_by (mass_fault tables (game_unit tables tree)) [] (visits tree))))
 
 abbrev pub of_recall : Option RecallBreak → Option GameFault
 of_recall None = None
@@ -103,8 +110,4 @@ of_recall (Some fault) = Some (NotRecall fault.node fault.earlier)
 
 -- the first fault
 abbrev pub game_fault : Tables → Forest → Option GameFault
-game_fault tables tree =
-    or_else (negative_fault tables (chance_sets 0 (all_nodes tree)))
-    (or_else (chance_fault tables (chance_sets 0 (all_nodes tree)))
-    (or_else (path_fault tables 1 (all_nodes tree))
-    (or_else (mass_fault tables (unit tables tree) 0 (all_nodes tree)) (of_recall (recall_break tree)))))
+game_fault tables tree = or_else (number_fault tables tree) (of_recall (recall_break tree))

@@ -1,28 +1,50 @@
--- What a game without a fault is.
-use Rattle.std.specs.Prelude.{◌≡◌, ◌≤◌, false, List, [], ◌∷◌, None, All}
+-- What the first fault of a game is, and what a game without one is.
+use Rattle.std.specs.Prelude.{◌≡◌, ◌↔◌, ◌≤◌, pos, ◌≤ℤ◌, List, Some, None, All}
+use Rattle.def_tree.specs.declared.Kind.TheVariants.{Chance}
 use Rattle.def_tree.specs.Tree.{Forest}
-use Rattle.def_fraction.specs.Fraction.{Fraction, most, sum_of}
+use Rattle.def_fraction.specs.Fraction.{Fraction, most}
+use Rattle.def_game_paths.specs.Paths.{visits}
 use Rattle.def_game_paths.specs.Recall.{HasPerfectRecall}
-use Rattle.def_game_scale.specs.Tables.{Tables, AreFractions, IsZeroSum, certain, nothing}
-use Rattle.def_game_scale.specs.Scale.{unit, mass}
-use Rattle.def_game_faults.specs.Faults.{all_nodes, chance_sets, game_fault, is_negative, probabilities}
+use Rattle.def_game_scale.specs.Tables.{Tables, AreFractions, IsZeroSum, probabilities}
+use Rattle.def_game_scale.specs.Scale.{game_mass, game_unit}
+use Rattle.def_game_faults.specs.Faults.{GameFault, game_fault, number_fault}
+use Rattle.def_game_faults.specs.First.{AddUpToOne, FirstGameFault, FirstNumberFault, PassNumbers}
 
-abbrev pub sum_from : Fraction → List Fraction → Fraction
-sum_from running [] = running
-sum_from running (p ∷ rest) = sum_from (sum_of running p) rest
+-- the fault of the numbers is exactly the first one, and there is none exactly where all nodes pass
+pub record FindsFirstNumberFault (tables : Tables) (tree : Forest) : Type 0 where
+  pub some : (fault : GameFault) → (number_fault tables tree ≡ Some fault) ↔ FirstNumberFault tables tree fault
+  pub none : (number_fault tables tree ≡ None) ↔ PassNumbers tables tree
+
+abbrev pub NumberFaultIsFirst : Type 0
+NumberFaultIsFirst = (tables : Tables) (tree : Forest) → AreFractions tables → FindsFirstNumberFault tables tree
+
+-- the same with recall
+pub record FindsFirstFault (tables : Tables) (tree : Forest) : Type 0 where
+  pub some : (fault : GameFault) → (game_fault tables tree ≡ Some fault) ↔ FirstGameFault tables tree fault
+  pub none : (game_fault tables tree ≡ None) ↔ (PassNumbers tables tree × HasPerfectRecall tree)
+
+abbrev pub GameFaultIsFirst : Type 0
+GameFaultIsFirst = (tables : Tables) (tree : Forest) → AreFractions tables → FindsFirstFault tables tree
 
 -- none is below 0, and they add up to 1
 pub record AreProbabilities (fractions : List Fraction) : Type 0 where
-  pub positive : All (λ p. is_negative p ≡ false) fractions
-  pub total : sum_from nothing fractions ≡ certain
+  pub positive : All (λ p. pos 0 ≤ℤ p.num) fractions
+  pub total : AddUpToOne fractions
 
--- chance plays by probabilities, what one player gets the other pays, all remember their choices, and the unit and the mass are within the limit
-pub record IsSound (tables : Tables) (tree : Forest) : Type 0 where
-  pub chance : All (λ n. AreProbabilities (probabilities tables n)) (chance_sets 0 (all_nodes tree))
+-- at each chance node chance plays by probabilities, at each leaf one player gets what the other pays, and the unit and the mass are within the limit
+pub record HasSoundNumbers (tables : Tables) (tree : Forest) : Type 0 where
+  pub chance : All (λ visit. visit.node.kind ≡ Chance → AreProbabilities (probabilities tables visit.node.set)) (visits tree)
   pub zero_sum : IsZeroSum tables tree
+  pub unit_within : game_unit tables tree ≤ most
+  pub mass_within : game_mass tables tree ≤ most
+
+abbrev pub NoNumberFaultIsSound : Type 0
+NoNumberFaultIsSound = (tables : Tables) (tree : Forest) → AreFractions tables → number_fault tables tree ≡ None → HasSoundNumbers tables tree
+
+-- and all remember their choices
+pub record IsSound (tables : Tables) (tree : Forest) : Type 0 where
+  pub numbers : HasSoundNumbers tables tree
   pub recall : HasPerfectRecall tree
-  pub unit_within : unit tables tree ≤ most
-  pub mass_within : mass tables tree ≤ most
 
 abbrev pub NoFaultIsSound : Type 0
 NoFaultIsSound = (tables : Tables) (tree : Forest) → AreFractions tables → game_fault tables tree ≡ None → IsSound tables tree

@@ -1,3 +1,5 @@
 pub mod Faults
+pub mod First
 pub mod Laws
+pub mod Examples
 pub mod Rows

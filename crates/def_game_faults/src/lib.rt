@@ -1,8 +1,23 @@
 #![tactic(auto)]
 //! The faults of a game in a tree, and what a game without one is.
 
-ghost use Rattle.def_game_faults.specs.Laws.{NoFaultIsSound};
-ghost use Rattle.def_game_faults.specs.Rows.{FaultRows};
+ghost use Rattle.def_game_faults.specs.Laws.{GameFaultIsFirst, NoFaultIsSound, NoNumberFaultIsSound, NumberFaultIsFirst};
+ghost use Rattle.def_game_faults.specs.Rows.{FaultlessRows, FaultRows, OrderRows};
+
+/// The fault of the numbers is the first one.
+pub fn number_fault_is_first()
+    ensures { NumberFaultIsFirst }
+{}
+
+/// The fault of a game is the first one.
+pub fn game_fault_is_first()
+    ensures { GameFaultIsFirst }
+{}
+
+/// A game whose numbers have no fault has sound numbers.
+pub fn no_number_fault_is_sound()
+    ensures { NoNumberFaultIsSound }
+{}
 
 /// A game without a fault is sound.
 pub fn no_fault_is_sound()
@@ -11,4 +26,13 @@ pub fn no_fault_is_sound()
 
 pub fn fault_rows()
     ensures { FaultRows }
+{}
+
+/// The first of two faults.
+pub fn order_rows()
+    ensures { OrderRows }
+{}
+
+pub fn faultless_rows()
+    ensures { FaultlessRows }
 {}

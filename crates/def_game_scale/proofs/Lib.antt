@@ -1,2 +1,4 @@
 pub mod Units
 pub mod Expected
+pub mod Weights
+pub mod Running

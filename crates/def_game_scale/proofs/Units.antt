@@ -66,6 +66,8 @@ unit_is_least fs low =
     λ m whole. unit-divides fs m low (λ k d there. den-divides_whole m (get_or fs k d) (low k d there) (whole k d there)) in
     record {
       positive = unit-positive fs low;
+      multiple = den-divides fs low;
+      least_multiple = λ m all. unit-divides fs m low all;
       whole = All-weaker (λ f. f.den ∣ unit_of fs) (λ f. IsMultiple (unit_of fs) f (weight_of (unit_of fs) f)) (λ f d. whole-weight (unit_of fs) f d) fs (den-divides fs low);
       divides = divides;
       least = λ m some whole. le_of_dvd some (divides m whole);

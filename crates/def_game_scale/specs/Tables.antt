@@ -22,9 +22,13 @@ nothing = whole_number (pos 0)
 abbrev pub certain : Fraction
 certain = whole_number (pos 1)
 
--- the probability of an action of a chance set, both counted from 1
+-- the probabilities of the actions of a chance set, which counts from 1
+abbrev pub probabilities : Tables → ℕ → List Fraction
+probabilities tables set = slice_index_or tables.chance (set - 1) []
+
+-- the probability of one of its actions, which count from 1
 abbrev pub probability : Tables → ℕ → ℕ → Fraction
-probability tables set action = slice_index_or (slice_index_or tables.chance (set - 1) []) (action - 1) nothing
+probability tables set action = slice_index_or (probabilities tables set) (action - 1) nothing
 
 -- outcome 0 is the null outcome, which gives nobody anything
 abbrev pub payoffs_of : Tables → ℕ → Payoffs

@@ -7,7 +7,7 @@ use Rattle.def_file.specs.Content.{GameFile}
 use Rattle.def_file.specs.Reading.{game_at}
 use Rattle.def_file_form.specs.Laws.{StandsFor}
 use Rattle.def_file_form.proofs.Whole.{game_read, game_taken}
-use Rattle.def_file_fault.specs.Laws.{FaultIsFirst, FirstIsFault}
+use Rattle.def_file_fault.specs.Laws.{FileFaultIsFirst, FirstIsFileFault}
 use Rattle.def_program.specs.Program.{most_bytes, read_as_game}
 use Rattle.def_program.specs.FirstFault.{IsFirstFault, in_length, within}
 use Rattle.def_program.specs.Laws.{RefusedWithTheFirst, AcceptedWithoutFault}
@@ -30,7 +30,7 @@ by_length most n r answer P long short e = by_test (nat_lt most n) refl e
     by_test true is e = long (ltb-true most n is) (cc)
     by_test false is e = short (ltb-false most n is) e
 
-pub refused_first : FaultIsFirst → FirstIsFault → RefusedWithTheFirst
+pub refused_first : FileFaultIsFirst → FirstIsFileFault → RefusedWithTheFirst
 unfolding read_as_game
 refused_first first is_fault bytes fault = (found, refused)
   where

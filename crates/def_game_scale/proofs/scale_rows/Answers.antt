@@ -5,4 +5,17 @@ use Rattle.def_game_scale.proofs.scale_rows.Goals as goal
 
 pub returns : goal.returns
 unfolding gcd fraction_of
-returns c = record { toss_unit = refl; toss_weights = refl; toss_mass = refl; inner_unit = refl; inner_weights = refl; inner_mass = refl }
+returns c = record {
+  toss_unit = refl;
+  toss_weights = refl;
+  toss_mass = refl;
+  inner_unit = refl;
+  inner_weights = refl;
+  inner_mass = refl;
+  uneven_reaches = refl;
+  uneven_ones = refl;
+  uneven_twos = refl;
+  uneven_unit = refl;
+  uneven_weights = refl;
+  uneven_mass = refl;
+}

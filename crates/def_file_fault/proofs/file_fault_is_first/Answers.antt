@@ -1,5 +1,5 @@
 use Rattle.def_file_fault.proofs.Stopped.{fault_first}
-use Rattle.def_file_fault.proofs.fault_is_first.Goals as goal
+use Rattle.def_file_fault.proofs.file_fault_is_first.Goals as goal
 
 pub returns : goal.returns
 returns c = fault_first

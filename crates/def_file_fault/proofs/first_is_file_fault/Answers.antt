@@ -1,5 +1,5 @@
 use Rattle.def_file_fault.proofs.Reached.{first_faulted}
-use Rattle.def_file_fault.proofs.first_is_fault.Goals as goal
+use Rattle.def_file_fault.proofs.first_is_file_fault.Goals as goal
 
 pub returns : goal.returns
 returns c = first_faulted

@@ -1,0 +1,18 @@
+use Rattle.std.proofs.Common.{refl}
+use Rattle.def_fraction.specs.Divisors.{gcd}
+use Rattle.def_fraction.specs.Fraction.{fraction_of}
+use Rattle.def_game_numbers.proofs.file_rows.Goals as goal
+
+pub returns : goal.returns
+unfolding gcd fraction_of
+returns c = record {
+  negative = refl;
+  sum = refl;
+  zero_sum = refl;
+  scale = refl;
+  weights = refl;
+  recall = refl;
+  recall_weighed = refl;
+  recall_broken = refl;
+  sets = refl;
+}
