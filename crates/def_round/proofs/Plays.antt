@@ -7,7 +7,7 @@ use Rattle.std.proofs.lemmas.List.FromFn.{length-map-range_with_len, get_or-map-
 use Rattle.std.proofs.lemmas.Int.{ints}
 use Rattle.std.proofs.lemmas.List.Elements.{All-head, All-tail, All-cons, All-nil}
 use Rattle.def_sums.specs.Sum.{nat_sum_over}
-use Rattle.def_sums.proofs.Ranges.{at_most_sum}
+use Rattle.def_sums.proofs.Ranges.{at_most_sum, map-range_same}
 use Rattle.def_plan.specs.Form.{InformationSet, PlacedSet, placed_from, placed, sequences_of, IsInOrder}
 use Rattle.def_plan.specs.Plan.{dealt_onto, DealsWhole}
 use Rattle.def_plan.proofs.Rules.{dealt-only}
@@ -16,7 +16,7 @@ use Rattle.def_shares.specs.Shares.{weight_sum}
 use Rattle.def_shares.proofs.SharesLaws.{length-shares, shares_whole, no_weight_no_share}
 use Rattle.def_round.specs.Play.{units, positive_part, regret_of, set_play, play_of, play_rule}
 use Rattle.def_round.specs.Laws.{PlaysPositiveRegrets, PlaysHaveEachSet, PlaysGiveAllUnits, PlaysDealPlans, PlaysDealByShares, PlansOfPlaysAreUnique}
-use Rattle.def_round.proofs.Blocks.{map-range_same, map-block, blocks, length-blocks}
+use Rattle.def_round.proofs.Blocks.{map-block, blocks, length-blocks}
 
 length-set_play : (regrets : List ℤ) (h : PlacedSet) → length (set_play regrets h) ≡ h.actions
 length-set_play regrets h =
