@@ -7,3 +7,7 @@ pub mod Gains
 pub mod Averages
 pub mod Trees
 pub mod Growth
+pub mod Proportion
+pub mod Following
+pub mod OwnSums
+pub mod Parts

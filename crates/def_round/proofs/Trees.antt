@@ -11,21 +11,29 @@ use Rattle.def_sums.proofs.RingLaws.{unsigned_abs-+ℤ}
 use Rattle.def_sums.proofs.Ranges.{All-range, at_most_sum, range-append}
 use Rattle.def_plan.specs.Form.{InformationSet, PlacedSet, placed_from, placed, sequences_of, IsInOrder}
 use Rattle.def_plan.specs.Payoff.{worth, values_after}
+use Rattle.def_plan.proofs.Hanging.{hanging}
 use Rattle.def_round.specs.Play.{units}
-use Rattle.def_round.specs.Round.{set_value, values_from, values_of}
+use Rattle.def_round.specs.Round.{set_value, values_from, round_values}
 use Rattle.def_round.proofs.Values.{AreEarlier, worth_at_set, one_more_earlier, none_earlier}
 use Rattle.def_round.specs.Sizes.{size_of_sums, IsWithin}
 use Rattle.def_round.specs.SizeLaws.{ValuesAreWithinSums, WorthsAreWithinSums}
 use Rattle.def_round.proofs.Averages.{value_within, growth_within, products_within}
 
--- the sizes of the values of the sets directly after s, and of those after a sequence below b
+-- the sizes of the values of the sets directly after s
 after_at : ℕ → List (PlacedSet × ℤ) → ℕ
 after_at s [] = 0
 after_at s (p ∷ ps) = cond (eqb p.0.before s) (unsigned_abs p.1) 0 + after_at s ps
 
-after_below : ℕ → List (PlacedSet × ℤ) → ℕ
+-- the sizes of the values of the sets after a sequence below b
+pub after_below : ℕ → List (PlacedSet × ℤ) → ℕ
 after_below b [] = 0
 after_below b (p ∷ ps) = cond (ltb p.0.before b) (unsigned_abs p.1) 0 + after_below b ps
+
+-- which is what hangs on them
+pub hanging_below : (b : ℕ) (ps : List (PlacedSet × ℤ)) → hanging b ps ≡ after_below b ps
+unfolding after_below
+hanging_below b [] = refl
+hanging_below b (p ∷ ps) = ap (λ n. cond (ltb p.0.before b) (unsigned_abs p.1) 0 + n) (hanging_below b ps)
 
 one_further : (b : ℕ) (ps : List (PlacedSet × ℤ)) → after_below b ps + after_at b ps ≡ after_below (b + 1) ps
 unfolding after_below after_at
@@ -71,7 +79,7 @@ worths_size sums hs values first n =
     omega (arith, each, nat_sum_over-add (λ s. unsigned_abs (sums s)) (λ s. after_at s (zip hs values)) (range_with_len first n), further first n (zip hs values))
 
 -- the sets from one on that come after earlier sequences
-tree_size : (sums : ℕ → ℤ) (play : List ℕ) (first : ℕ) (sets : List InformationSet) → All (λ h. nat_sum_over (λ s. slice_index play s) (sequences_of h) ≡ units) (placed_from first sets)
+pub tree_size : (sums : ℕ → ℤ) (play : List ℕ) (first : ℕ) (sets : List InformationSet) → All (λ h. nat_sum_over (λ s. slice_index play s) (sequences_of h) ≡ units) (placed_from first sets)
     → after_below first (zip (placed_from first sets) (values_from sums play (placed_from first sets))) ≤ nat_sum_over (λ s. unsigned_abs (sums s)) (range_with_len first (nat_sum_over (λ h. h.actions) sets))
 unfolding after_below
 tree_size sums play first [] all = omega arith
@@ -138,7 +146,7 @@ all_sums sums sets = ap (nat_sum_over (λ s. unsigned_abs (sums s))) (range-appe
 
 pub values_within : ValuesAreWithinSums
 values_within sums play sets order whole =
-    within_from sums play (size_of_sums sums sets) [] [] 1 sets sets (values_of sums play sets) refl refl (none_earlier 1) order whole (omega (arith, all_sums sums sets))
+    within_from sums play (size_of_sums sums sets) [] [] 1 sets sets (round_values sums play sets) refl refl (none_earlier 1) order whole (omega (arith, all_sums sums sets))
 
 -- every sequence but the empty one ends at a set
 at_some_set : (P : ℕ → Type 0) (R : PlacedSet → ℤ → Type 0) → ((h : PlacedSet) (v : ℤ) → R h v → (s : ℕ) → h.first ≤ s → s < h.first + h.actions → P s)
@@ -156,16 +164,16 @@ worths_within sums play sets order whole s low =
     bound : ℕ
     bound = size_of_sums sums sets
 
-    at_root : s < 1 → unsigned_abs (worth sums (placed sets) (values_of sums play sets) s) ≤ size_of_sums sums sets
+    at_root : s < 1 → unsigned_abs (worth sums (placed sets) (round_values sums play sets) s) ≤ size_of_sums sums sets
     at_root less =
         let zero' : s ≡ 0 = omega arith in
-        let ps : List (PlacedSet × ℤ) = zip (placed sets) (values_of sums play sets) in
-        subst (λ k. unsigned_abs (worth sums (placed sets) (values_of sums play sets) k) ≤ size_of_sums sums sets) (sym zero')
-        (omega (arith, worth_size sums (placed sets) (values_of sums play sets) 0, one_further 0 ps, none_below_zero ps, tree_size sums play 1 sets whole, all_sums sums sets))
+        let ps : List (PlacedSet × ℤ) = zip (placed sets) (round_values sums play sets) in
+        subst (λ k. unsigned_abs (worth sums (placed sets) (round_values sums play sets) k) ≤ size_of_sums sums sets) (sym zero')
+        (omega (arith, worth_size sums (placed sets) (round_values sums play sets) 0, one_further 0 ps, none_below_zero ps, tree_size sums play 1 sets whole, all_sums sums sets))
 
-    at_set : 1 ≤ s → unsigned_abs (worth sums (placed sets) (values_of sums play sets) s) ≤ size_of_sums sums sets
+    at_set : 1 ≤ s → unsigned_abs (worth sums (placed sets) (round_values sums play sets) s) ≤ size_of_sums sums sets
     at_set some =
-        at_some_set (λ k. unsigned_abs (worth sums (placed sets) (values_of sums play sets) k) ≤ size_of_sums sums sets)
-        (IsWithin (size_of_sums sums sets) sums play sets (values_of sums play sets))
-        (λ h v is k below above. let one = at_most_sum (λ s. unsigned_abs (worth sums (placed sets) (values_of sums play sets) s)) h.first h.actions k below above in omega (arith, one, is.worths))
-        1 sets (values_of sums play sets) (values_within sums play sets order whole) s some low
+        at_some_set (λ k. unsigned_abs (worth sums (placed sets) (round_values sums play sets) k) ≤ size_of_sums sums sets)
+        (IsWithin (size_of_sums sums sets) sums play sets (round_values sums play sets))
+        (λ h v is k below above. let one = at_most_sum (λ s. unsigned_abs (worth sums (placed sets) (round_values sums play sets) s)) h.first h.actions k below above in omega (arith, one, is.worths))
+        1 sets (round_values sums play sets) (values_within sums play sets order whole) s some low

@@ -1,28 +1,34 @@
 //! Plays, rounds and the fold over rounds. There is no code here; each function's contract is a law or a worked row.
 #![tactic(auto)]
 
+pub mod sizes;
+
 ghost use Rattle.std.specs.Prelude.{◌≡◌, ◌==◌, [], ◌∷◌, pos, negsuc, if◌then◌else◌};
 ghost use Rattle.def_plan.specs.Pennies.{pennies};
-ghost use Rattle.def_round.specs.Laws.{OwnSumsGainWhatIsPaid, PlaysAllUnits, PlaysDealByShares, PlaysDealPlans, PlaysEachSet, PlaysPositiveRegrets, RoundsAreComputed, SumsArePlans, ValuesAreUnique, ValuesOfTheRest, ValuesSolve, WorthsNeedLaterSets};
-ghost use Rattle.def_round.specs.SizeLaws.{DealtProductsAreSmall, OwnSumsAreSmall, ProductsAreSmall, RegretsAreSmall, RegretsGrowSlowly, RoundsAreSmall, ValuesAreWithinSums, WorthsAreWithinSums};
+ghost use Rattle.def_round.specs.Laws.{OwnSumsGainWhatIsPaid, PlansOfPlaysAreUnique, PlaysAreInProportion, PlaysDealByShares, PlaysDealPlans, PlaysGiveAllUnits, PlaysHaveEachSet, PlaysPositiveRegrets, RoundsAreComputed, RoundsFollow, RoundsNeedOwnSums, RoundsSumToPlans, SetValuesAreAverages, ValuesAreUnique, ValuesOfTheRest, ValuesSolveTheEquations, WorthsNeedLaterSets};
 ghost use Rattle.def_round.specs.Play.{play_of, plan_of_play};
 ghost use Rattle.def_round.specs.Round.{set_value};
 ghost use Rattle.def_round.specs.Rounds.{rounds};
 ghost use Rattle.def_round.specs.Games.{three_actions, one_mover};
 
 /// The play of regrets, set by set.
-pub fn play_has_each_set()
-    ensures { PlaysEachSet }
+pub fn plays_have_each_set()
+    ensures { PlaysHaveEachSet }
 {}
 
 /// Each set is played in units of 1 / 65,536, and all of them are given out.
 pub fn plays_give_all_units()
-    ensures { PlaysAllUnits }
+    ensures { PlaysGiveAllUnits }
 {}
 
 /// Regret matching plays the actions that are regretted.
 pub fn plays_positive_regrets()
     ensures { PlaysPositiveRegrets }
+{}
+
+/// And in proportion to what is regretted.
+pub fn plays_are_in_proportion()
+    ensures { PlaysAreInProportion }
 {}
 
 /// Dealing set after set makes a realisation plan.
@@ -35,14 +41,24 @@ pub fn plays_deal_by_shares()
     ensures { PlaysDealByShares }
 {}
 
+/// The plan of a play is what these words say of it.
+pub fn plans_of_plays_are_unique()
+    ensures { PlansOfPlaysAreUnique }
+{}
+
 /// The sums of both players, and the zero sum.
 pub fn own_sums_gain_what_is_paid()
     ensures { OwnSumsGainWhatIsPaid }
 {}
 
+/// What a set is worth under a play.
+pub fn set_values_are_averages()
+    ensures { SetValuesAreAverages }
+{}
+
 /// The values that are computed solve a round's equations.
 pub fn values_solve_the_equations()
-    ensures { ValuesSolve }
+    ensures { ValuesSolveTheEquations }
 {}
 
 /// A round's equations have no other solution.
@@ -60,60 +76,31 @@ pub fn worths_need_later_sets()
     ensures { WorthsNeedLaterSets }
 {}
 
+/// What a round is made from.
+pub fn rounds_need_own_sums()
+    ensures { RoundsNeedOwnSums }
+{}
+
 /// The regrets after a round, by the equations and by the computation.
 pub fn rounds_are_computed()
     ensures { RoundsAreComputed }
 {}
 
+/// Each round of a run by the standing before it.
+pub fn rounds_follow()
+    ensures { RoundsFollow }
+{}
+
 /// The sums of the plans, from which the average strategies are read.
-pub fn sums_are_plans()
-    ensures { SumsArePlans }
-{}
-
-/// A player's leaf sums against a plan.
-pub fn own_sums_are_small()
-    ensures { OwnSumsAreSmall }
-{}
-
-/// At each set: its value, its worths, its products with the play, and what it adds to regrets.
-pub fn values_are_within_sums()
-    ensures { ValuesAreWithinSums }
-{}
-
-/// The worth of each sequence, the empty one too.
-pub fn worths_are_within_sums()
-    ensures { WorthsAreWithinSums }
-{}
-
-/// What some rounds can make of a regret.
-pub fn regrets_grow_slowly()
-    ensures { RegretsGrowSlowly }
-{}
-
-/// Under the limits: a round's leaf sums.
-pub fn rounds_are_small()
-    ensures { RoundsAreSmall }
-{}
-
-/// Under the limits: the products of play and worth at a set.
-pub fn products_are_small()
-    ensures { ProductsAreSmall }
-{}
-
-/// Under the limits: regrets after up to 65,536 rounds.
-pub fn regrets_are_small()
-    ensures { RegretsAreSmall }
-{}
-
-/// Under the limits: the products by which a set's units are dealt.
-pub fn dealt_products_are_small()
-    ensures { DealtProductsAreSmall }
+pub fn rounds_sum_to_plans()
+    ensures { RoundsSumToPlans }
 {}
 
 /// The first plan over three actions, of which none has a regret.
 pub fn worked_plan()
     ensures play { play_of three_actions (pos 0 ∷ pos 0 ∷ pos 0 ∷ pos 0 ∷ []) ≡ 0 ∷ 21845 ∷ 21845 ∷ 21846 ∷ [] }
-    ensures plan { plan_of_play three_actions (0 ∷ 21845 ∷ 21845 ∷ 21846 ∷ []) 1048576 ≡ 1048576 ∷ 349520 ∷ 349520 ∷ 349536 ∷ [] }
+    ensures plan { plan_of_play three_actions (0 ∷ 21845 ∷ 21845 ∷ 21846 ∷ []) 1048576
+        ≡ 1048576 ∷ 349520 ∷ 349520 ∷ 349536 ∷ [] }
 {}
 
 /// Player one alone moves. In round 1 the leaf sums are 1048576 and 0 and the set's value is 524288, so round 2 plays
@@ -135,5 +122,6 @@ pub fn rounds_of_pennies()
 
 /// A set whose two sequences are worth -1 and 0 is worth -1/2, which is rounded down to -1.
 pub fn worked_set_value()
-    ensures { set_value (0 ∷ 32768 ∷ 32768 ∷ []) (λ s. if s == 1 then negsuc 0 else pos 0) (record { first = 1; before = 0; actions = 2 }) ≡ negsuc 0 }
+    ensures { set_value (0 ∷ 32768 ∷ 32768 ∷ []) (λ s. if s == 1 then negsuc 0 else pos 0) (record { first = 1; before = 0; actions = 2 })
+        ≡ negsuc 0 }
 {}

@@ -5,10 +5,9 @@
 ghost use Rattle.std.specs.Prelude.{◌≡◌, [], ◌∷◌, pos, negsuc};
 ghost use Rattle.def_plan.specs.Pennies.{pennies};
 ghost use Rattle.def_round.specs.Games.{one_mover};
-ghost use Rattle.def_reply.specs.Kuhn.{kuhn};
 ghost use Rattle.def_bracket.specs.Bracket.{trace};
 ghost use Rattle.def_run.specs.Run.{evaluations};
-ghost use Rattle.def_run.specs.Laws.{EndsAreInOrder, EndsAreOfTheirRounds, EvaluationsAreBounds, RunsHaveEnds};
+ghost use Rattle.def_run.specs.Laws.{EndsAreInOrder, EndsAreOfTheirRounds, EndsBoundAllPlans, EvaluationsAreBounds, GapIsExploitability, OffersOfRunAreFair, OutcomesShowTheirRun, RunsHaveEnds, TraceOfRunLooksBack, TraceOfRunNeverWidens};
 
 /// What an evaluation proves of the sums of plans.
 pub fn evaluations_are_bounds()
@@ -30,6 +29,36 @@ pub fn ends_are_in_order()
     ensures { EndsAreInOrder }
 {}
 
+/// The trace of a run, line by line.
+pub fn trace_of_run_never_widens()
+    ensures { TraceOfRunNeverWidens }
+{}
+
+/// The rounds that the lines name.
+pub fn trace_of_run_looks_back()
+    ensures { TraceOfRunLooksBack }
+{}
+
+/// How wide the bracket is.
+pub fn gap_is_exploitability()
+    ensures { GapIsExploitability }
+{}
+
+/// The bracket beside all plans of both players.
+pub fn ends_bound_all_plans()
+    ensures { EndsBoundAllPlans }
+{}
+
+/// What a run offers to the bracket.
+pub fn offers_of_run_are_fair()
+    ensures { OffersOfRunAreFair }
+{}
+
+/// What a run leaves.
+pub fn outcomes_show_their_run()
+    ensures { OutcomesShowTheirRun }
+{}
+
 /// One mover, two rounds: both ceilings are equal, and the first is kept.
 pub fn trace_of_one_mover()
     ensures { trace (evaluations one_mover 1048576 1 2)
@@ -42,10 +71,4 @@ pub fn trace_of_pennies()
     ensures { trace (evaluations pennies 1 1 2)
         ≡ record { round = 1; low_round = 1; low = negsuc 0; high_round = 1; high = pos 1 }
         ∷ record { round = 2; low_round = 1; low = negsuc 0; high_round = 2; high = pos 0 } ∷ [] }
-{}
-
-/// Kuhn poker after one round: over the unit 6 times the root, from -5/12 to 1/2.
-pub fn trace_of_kuhn_poker()
-    ensures { trace (evaluations kuhn 1048576 1 1)
-        ≡ record { round = 1; low_round = 1; low = negsuc 2621439; high_round = 1; high = pos 3145728 } ∷ [] }
 {}
