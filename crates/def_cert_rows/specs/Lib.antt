@@ -1,0 +1,6 @@
+pub mod Tmp
+pub mod Changes
+pub mod Hidden
+pub mod Pennies
+pub mod Kuhn
+pub mod OneMover
