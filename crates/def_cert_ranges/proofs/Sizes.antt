@@ -8,8 +8,8 @@ use Rattle.def_tree.specs.Opponent.{opponent}
 use Rattle.def_sums.specs.Sum.{nat_sum_over, sum_over}
 use Rattle.def_sums.proofs.RingLaws.{unsigned_abs-+ℤ}
 use Rattle.def_sums.proofs.SumLaws.{sum_over-filter, nat_sum_over-bounded, nat_sum_over-mono, nat_sum_over-factor, unsigned_abs-sum_over}
-use Rattle.def_plan.specs.Form.{InformationSet, PlacedSet, placed, Leaf, sequence_at}
-use Rattle.def_plan.specs.Payoff.{leaf_sum, values_after, worth, mass}
+use Rattle.def_plan.specs.Form.{InformationSet, PlacedSet, placed, Leaf, leaf_sequence}
+use Rattle.def_plan.specs.Payoff.{leaf_sum, values_after, worth, mass_of}
 use Rattle.def_reply.specs.Reply.{SetReply, values_of}
 use Rattle.def_bracket.specs.Bracket.{TraceLine}
 use Rattle.def_cert_verdict.specs.Certificate.{Head, PrintedPlan, PrintedReply, PrintedBounds, Certificate, joined, numbers_of}
@@ -80,19 +80,19 @@ zipped (h ∷ hs) [] = omega arith
 zipped (h ∷ hs) (r ∷ rs) = omega (arith, zipped hs rs)
 
 one_leaf : (player : Player) (xs : List ℕ) → ((s : ℕ) → slice_index xs s ≤ 2 ^ 36) → (z : Leaf)
-    → unsigned_abs (z.weight *ℤ pos (slice_index xs (sequence_at (opponent player) z))) ≤ unsigned_abs z.weight * 2 ^ 36
+    → unsigned_abs (z.weight *ℤ pos (slice_index xs (leaf_sequence (opponent player) z))) ≤ unsigned_abs z.weight * 2 ^ 36
 one_leaf player xs small z =
-    omega (arith, product_size z.weight (slice_index xs (sequence_at (opponent player) z)),
-    times (unsigned_abs z.weight) (slice_index xs (sequence_at (opponent player) z)) (unsigned_abs z.weight) (2 ^ 36) (omega arith) (small (sequence_at (opponent player) z)))
+    omega (arith, product_size z.weight (slice_index xs (leaf_sequence (opponent player) z)),
+    times (unsigned_abs z.weight) (slice_index xs (leaf_sequence (opponent player) z)) (unsigned_abs z.weight) (2 ^ 36) (omega arith) (small (leaf_sequence (opponent player) z)))
 
-all_leaves : (player : Player) (leaves : List Leaf) (xs : List ℕ) → ((s : ℕ) → slice_index xs s ≤ 2 ^ 36) → mass leaves ≤ 2 ^ 62
-    → nat_sum_over (λ z. unsigned_abs (z.weight *ℤ pos (slice_index xs (sequence_at (opponent player) z)))) leaves ≤ 2 ^ 98
+all_leaves : (player : Player) (leaves : List Leaf) (xs : List ℕ) → ((s : ℕ) → slice_index xs s ≤ 2 ^ 36) → mass_of leaves ≤ 2 ^ 62
+    → nat_sum_over (λ z. unsigned_abs (z.weight *ℤ pos (slice_index xs (leaf_sequence (opponent player) z)))) leaves ≤ 2 ^ 98
 all_leaves player leaves xs small light =
     omega (arith,
-    nat_sum_over-mono (λ z. unsigned_abs (z.weight *ℤ pos (slice_index xs (sequence_at (opponent player) z)))) (λ z. unsigned_abs z.weight * 2 ^ 36) leaves
-    (each_of (λ z. unsigned_abs (z.weight *ℤ pos (slice_index xs (sequence_at (opponent player) z))) ≤ unsigned_abs z.weight * 2 ^ 36) leaves (one_leaf player xs small)),
+    nat_sum_over-mono (λ z. unsigned_abs (z.weight *ℤ pos (slice_index xs (leaf_sequence (opponent player) z)))) (λ z. unsigned_abs z.weight * 2 ^ 36) leaves
+    (each_of (λ z. unsigned_abs (z.weight *ℤ pos (slice_index xs (leaf_sequence (opponent player) z))) ≤ unsigned_abs z.weight * 2 ^ 36) leaves (one_leaf player xs small)),
     nat_sum_over-factor (2 ^ 36) (λ (z : Leaf). unsigned_abs z.weight) leaves,
-    times (mass leaves) (2 ^ 36) (2 ^ 62) (2 ^ 36) light (omega arith))
+    times (mass_of leaves) (2 ^ 36) (2 ^ 62) (2 ^ 36) light (omega arith))
 
 all_values : (sets : ℕ) (reply : PrintedReply) → sets ≤ 2 ^ 20 → ReplyFits sets reply → nat_sum_over (λ r. unsigned_abs r.value) reply.replies ≤ 2 ^ 120
 all_values sets reply few fits =
@@ -109,7 +109,7 @@ worths player leaves sets plan_sets reply_sets plan reply light fits few fit =
       values = of_values;
       worths = λ s. omega (arith,
           unsigned_abs-+ℤ (leaf_sum player leaves xs s) (values_after (placed sets) (values_of reply.replies) s),
-          some_of (λ z. z.weight *ℤ pos (slice_index xs (sequence_at (opponent player) z))) (λ z. eqb (sequence_at player z) s) leaves,
+          some_of (λ z. z.weight *ℤ pos (slice_index xs (leaf_sequence (opponent player) z))) (λ z. eqb (leaf_sequence player z) s) leaves,
           some_of (λ (p : PlacedSet × ℤ). p.1) (λ (p : PlacedSet × ℤ). eqb p.0.before s) (zip (placed sets) (values_of reply.replies)),
           zipped (placed sets) reply.replies, of_leaves, of_values);
     }

@@ -1,31 +1,19 @@
 -- The ranges of a certificate's numbers, which its text may not leave. Whoever wrote a certificate, one that is read is within them.
 use Rattle.std.specs.Prelude.{◌≡◌, ℕ, ◌+◌, ◌-◌, ◌*◌, ◌/◌, ◌^◌, ◌≤◌, ◌<◌, min, List, length, slice_index_or, All, ℤ, unsigned_abs, Option, Some, None}
 use Rattle.def_fraction.specs.Fraction.{Fraction, IsInLowestTerms}
+use Rattle.def_sums.specs.Limits.{most_mass, most_rounds, most_scale, most_root}
 use Rattle.def_bracket.specs.Bracket.{TraceLine}
 use Rattle.def_cert_verdict.specs.Certificate.{Head, PrintedPlan, PrintedReply, PrintedBounds, Certificate}
 
 abbrev pub IsFromTo : ℕ → ℕ → ℕ → Type 0
 IsFromTo low high n = (low ≤ n) × (n ≤ high)
 
--- the greatest numbers: nodes, and with them leaves, sets and sequences
+-- nodes, and with them leaves, sets and sequences
 abbrev pub most_entries : ℕ
 most_entries = 2 ^ 20
 
--- the unit, and the mass
-abbrev pub most_weight : ℕ
-most_weight = 2 ^ 62
-
--- rounds, and between evaluations
-abbrev pub most_rounds : ℕ
-most_rounds = 2 ^ 16
-
--- the scale
-abbrev pub most_scale : ℕ
-most_scale = 2 ^ 20
-
--- a plan's root, and each of its numbers
-abbrev pub most_root : ℕ
-most_root = 2 ^ 36
+abbrev pub most_unit : ℕ
+most_unit = 2 ^ 62
 
 -- the actions of a set
 abbrev pub most_actions : ℕ
@@ -46,8 +34,8 @@ pub record HeadFits (head : Head) : Type 0 where
   pub sets_two : head.sets_two ≤ most_entries
   pub sequences_one : IsFromTo 1 most_entries head.sequences_one
   pub sequences_two : IsFromTo 1 most_entries head.sequences_two
-  pub unit : IsFromTo 1 most_weight head.unit
-  pub mass : head.mass ≤ most_weight
+  pub unit : IsFromTo 1 most_unit head.unit
+  pub mass : head.mass ≤ most_mass
   pub rounds : head.rounds ≤ most_rounds
   pub every : IsFromTo 1 most_rounds head.every
   pub scale : IsFromTo 1 most_scale head.scale

@@ -1,6 +1,6 @@
 -- The certificate of four rounds with scale 10 of the small game with sets one below the other.
 use Rattle.std.specs.Prelude.{ℕ, List, [], ◌∷◌, pos, Result}
-use Rattle.def_cert_rows.specs.Tmp.{hidden}
+use Rattle.def_examples.specs.Hidden.{hidden}
 use Rattle.def_cert_verdict.specs.declared.fault.TestFault.{TestFault}
 use Rattle.def_cert_verdict.specs.Certificate.{Head, PrintedBounds}
 use Rattle.def_cert_verdict.specs.Verdict.{WeighedGame, Verdict, verdict}

@@ -1,6 +1,6 @@
 -- The certificate of one round of Kuhn poker with scale 2 ^ 20.
 use Rattle.std.specs.Prelude.{ℕ, List, [], ◌∷◌, pos, Result}
-use Rattle.def_reply.specs.Kuhn.{kuhn}
+use Rattle.def_examples.specs.Kuhn.{kuhn}
 use Rattle.def_cert_verdict.specs.declared.fault.TestFault.{TestFault}
 use Rattle.def_cert_verdict.specs.Certificate.{Head, PrintedBounds}
 use Rattle.def_cert_verdict.specs.Verdict.{WeighedGame, Verdict, verdict}

@@ -1,4 +1,3 @@
-pub mod Tmp
 pub mod Changes
 pub mod Hidden
 pub mod Pennies

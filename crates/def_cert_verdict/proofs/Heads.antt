@@ -4,7 +4,7 @@ use Rattle.std.specs.Bool.{Decides}
 use Rattle.std.proofs.lemmas.Bool.{cases_lt}
 use Rattle.std.proofs.lemmas.Bool.Decides.{Decides-eqb, Decides-and}
 use Rattle.def_plan.specs.Form.{sequence_count}
-use Rattle.def_plan.specs.Payoff.{mass}
+use Rattle.def_plan.specs.Payoff.{mass_of}
 use Rattle.def_cert_verdict.specs.declared.fault.TestFault.{TestFault}
 use Rattle.def_cert_verdict.specs.declared.fault.TestFault.TheVariants.{HeadDiffers, NotAPlan, ValueTooGood, ReplyNotTight, TotalDiffers, TraceWidens}
 use Rattle.def_cert_verdict.specs.Certificate.{Head}
@@ -46,9 +46,9 @@ unit_line game head =
     let d = Decides-eqb head.unit game.unit in
     (λ e. record { nodes = λ l. absurd (omega arith); sets = λ l. absurd (omega arith); sequences = λ l. absurd (omega arith); unit = λ l. d.0 e; mass_is = λ l. absurd (omega arith) }, λ s. d.1 (s.unit refl))
 
-mass_line : (game : WeighedGame) (head : Head) → Decides (eqb head.mass (mass game.form.leaves)) (SaysLine game head 6)
+mass_line : (game : WeighedGame) (head : Head) → Decides (eqb head.mass (mass_of game.form.leaves)) (SaysLine game head 6)
 mass_line game head =
-    let d = Decides-eqb head.mass (mass game.form.leaves) in
+    let d = Decides-eqb head.mass (mass_of game.form.leaves) in
     (λ e. record { nodes = λ l. absurd (omega arith); sets = λ l. absurd (omega arith); sequences = λ l. absurd (omega arith); unit = λ l. absurd (omega arith); mass_is = λ l. d.0 e }, λ s. d.1 (s.mass_is refl))
 
 -- one test of a line, and those of the lines behind it

@@ -6,7 +6,7 @@ use Rattle.def_tree.specs.declared.Player.TheVariants.{One, Two}
 use Rattle.def_fraction.specs.Fraction.{Fraction}
 use Rattle.def_plan.specs.Form.{InformationSet, PlacedSet, placed, sequence_count, sequences_of}
 use Rattle.def_plan.specs.Plan.{AddsUp, chosen}
-use Rattle.def_plan.specs.Payoff.{leaf_sum, worth, mass, IsNoBetter}
+use Rattle.def_plan.specs.Payoff.{leaf_sum, worth, mass_of, IsNoBetter}
 use Rattle.def_reply.specs.Reply.{SetReply, values_of, AreTight, IsTight}
 use Rattle.def_bracket.specs.Bracket.{TraceLine, LiesWithin}
 use Rattle.def_cert_verdict.specs.declared.fault.TestFault.{TestFault}
@@ -26,7 +26,7 @@ pub record SaysLine (game : WeighedGame) (head : Head) (line : ℕ) : Type 0 whe
   pub sets : line ≡ 3 → (head.sets_one ≡ length game.form.sets_one) × (head.sets_two ≡ length game.form.sets_two)
   pub sequences : line ≡ 4 → (head.sequences_one ≡ sequence_count game.form.sets_one) × (head.sequences_two ≡ sequence_count game.form.sets_two)
   pub unit : line ≡ 5 → head.unit ≡ game.unit
-  pub mass_is : line ≡ 6 → head.mass ≡ mass game.form.leaves
+  pub mass_is : line ≡ 6 → head.mass ≡ mass_of game.form.leaves
 
 abbrev pub HeadFault : WeighedGame → Head → TestFault → Type 0
 HeadFault game head (HeadDiffers line) = IsFirstNot (SaysLine game head) line

@@ -7,7 +7,7 @@ use Rattle.def_fraction.specs.Fraction.{Fraction, IsInLowestTerms, fraction_of}
 use Rattle.def_fraction.specs.Laws.{HasValue}
 use Rattle.def_plan.specs.Form.{InformationSet, AreInOrder, sequence_count}
 use Rattle.def_plan.specs.Plan.{IsPlan, pure_plan}
-use Rattle.def_plan.specs.Payoff.{leaf_sum, pay, mass}
+use Rattle.def_plan.specs.Payoff.{leaf_sum, pay, mass_of}
 use Rattle.def_reply.specs.Reply.{choices_of, total, AreTight}
 use Rattle.def_reply.specs.Bounds.{IsFloor, IsCeiling, AttainsFloor, AttainsCeiling}
 use Rattle.def_bracket.specs.Bracket.{TraceLine, LiesWithin}
@@ -37,7 +37,7 @@ pub record IsHeadOf (game : WeighedGame) (head : Head) : Type 0 where
   pub sequences_one : head.sequences_one ≡ sequence_count game.form.sets_one
   pub sequences_two : head.sequences_two ≡ sequence_count game.form.sets_two
   pub unit : head.unit ≡ game.unit
-  pub mass_is : head.mass ≡ mass game.form.leaves
+  pub mass_is : head.mass ≡ mass_of game.form.leaves
 
 -- a printed plan is one of the root, with as many numbers for each set as it has actions
 pub record HoldsAsPlan (sets : List InformationSet) (root : ℕ) (plan : PrintedPlan) : Type 0 where

@@ -7,7 +7,7 @@ use Rattle.def_tree.specs.declared.Player.TheVariants.{One, Two}
 use Rattle.def_fraction.specs.Fraction.{Fraction, fraction_of}
 use Rattle.def_plan.specs.Form.{InformationSet, PlacedSet, placed, sequence_count, SequenceForm}
 use Rattle.def_plan.specs.Plan.{chosen, first_not_adding}
-use Rattle.def_plan.specs.Payoff.{leaf_sum, worth, mass}
+use Rattle.def_plan.specs.Payoff.{leaf_sum, worth, mass_of}
 use Rattle.def_reply.specs.Reply.{SetReply, values_of, total}
 use Rattle.def_bracket.specs.Bracket.{TraceLine}
 use Rattle.def_cert_verdict.specs.declared.fault.Which.{Which}
@@ -43,7 +43,7 @@ head_tests game head =
     ∷ unless (head.sets_one == length game.form.sets_one && head.sets_two == length game.form.sets_two) (HeadDiffers 3)
     ∷ unless (head.sequences_one == sequence_count game.form.sets_one && head.sequences_two == sequence_count game.form.sets_two) (HeadDiffers 4)
     ∷ unless (head.unit == game.unit) (HeadDiffers 5)
-    ∷ unless (head.mass == mass game.form.leaves) (HeadDiffers 6)
+    ∷ unless (head.mass == mass_of game.form.leaves) (HeadDiffers 6)
     ∷ []
 
 -- ---- a plan: its root, then how many numbers each set has, then their sums
