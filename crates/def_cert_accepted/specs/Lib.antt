@@ -1,0 +1,2 @@
+pub mod OfRun
+pub mod Laws
