@@ -6,7 +6,7 @@ use Rattle.std.proofs.lemmas.List.{append-nil, get_or_append_left, get_or_at, ta
 use Rattle.std.proofs.lemmas.List.Elements.{All-push, All-weaker, All-head, All-tail, All-cons, All-nil}
 use Rattle.def_sums.proofs.RingLaws.{≤ℤ_refl}
 use Rattle.def_bracket.specs.Bracket.{Evaluation, BracketEnds, HasLowerFloor, HasFloorAtMost, HasLowerCeiling, HasCeilingAtMost, higher_floor, lower_ceiling, next_ends, first_ends, ends_of, IsLowerEnd, IsUpperEnd}
-use Rattle.def_bracket.specs.Laws.{AreAfterRounds, EndsAreTheEarliestBest}
+use Rattle.def_bracket.specs.Laws.{HaveDivisors, EndsAreTheEarliestBest}
 use Rattle.def_bracket.proofs.Compares.{int_lt_tells, less_at_most, not_less, at_most-less, less-at_most}
 
 -- e is the first of the greatest by an order
@@ -22,14 +22,14 @@ record Orders (Below AtMost : Evaluation → Evaluation → Type 0) (keep : Eval
   same : (a : Evaluation) → AtMost a a
   weaker : (a b : Evaluation) → Below a b → AtMost a b
   apart : (a b : Evaluation) → Below a b → AtMost b a → ⊥
-  chain : (a b c : Evaluation) → 1 ≤ a.round → AtMost a b → Below b c → Below a c
+  chain : (a b c : Evaluation) → 1 ≤ a.divisor → AtMost a b → Below b c → Below a c
   keeps : (kept next : Evaluation) → ((keep kept next ≡ next) × Below kept next) ⊎ ((keep kept next ≡ kept) × AtMost next kept)
 
 module _ {Below AtMost : Evaluation → Evaluation → Type 0} {keep : Evaluation → Evaluation → Evaluation} (orders : Orders Below AtMost keep) where
   abbrev First : List Evaluation → Evaluation → Type 0
   First = IsFirstGreatest Below AtMost
 
-  replaced : (es : List Evaluation) (kept next : Evaluation) → AreAfterRounds es → First es kept → Below kept next → First (es ++ next ∷ []) next
+  replaced : (es : List Evaluation) (kept next : Evaluation) → HaveDivisors es → First es kept → Below kept next → First (es ++ next ∷ []) next
   replaced es kept next rounds f less =
       let below : All (λ a. Below a next) es = λ k d low. orders.chain (get_or es k d) kept next (rounds k d low) (f.greatest k d low) less in
       record {
@@ -49,24 +49,24 @@ module _ {Below AtMost : Evaluation → Evaluation → Type 0} {keep : Evaluatio
     earliest = subst (All (λ a. Below a kept)) (sym (take-append-le f.place es (next ∷ []) (omega (arith, f.within)))) f.earliest;
   }
 
-  one_more : (es : List Evaluation) (kept next : Evaluation) → AreAfterRounds es → First es kept → First (es ++ next ∷ []) (keep kept next)
+  one_more : (es : List Evaluation) (kept next : Evaluation) → HaveDivisors es → First es kept → First (es ++ next ∷ []) (keep kept next)
   one_more es kept next rounds f =
       ⊎_elim
       (λ changed. subst (First (es ++ next ∷ [])) (sym changed.0) (replaced es kept next rounds f changed.1))
       (λ stayed. subst (First (es ++ next ∷ [])) (sym stayed.0) (kept_on es kept next f stayed.1))
       (orders.keeps kept next)
 
-  all_more : (es : List Evaluation) (kept : Evaluation) (later : List Evaluation) → AreAfterRounds es → AreAfterRounds later → First es kept → First (es ++ later) (fold keep kept later)
+  all_more : (es : List Evaluation) (kept : Evaluation) (later : List Evaluation) → HaveDivisors es → HaveDivisors later → First es kept → First (es ++ later) (fold keep kept later)
   all_more es kept [] rounds more f = subst (λ xs. First xs kept) (sym (append-nil es)) f
   all_more es kept (e ∷ later) rounds more f =
-      let r : AreAfterRounds (es ++ e ∷ []) = All-push (λ a. 1 ≤ a.round) es e rounds (All-head (λ a. 1 ≤ a.round) e later more) in
+      let r : HaveDivisors (es ++ e ∷ []) = All-push (λ a. 1 ≤ a.divisor) es e rounds (All-head (λ a. 1 ≤ a.divisor) e later more) in
       subst (λ xs. First xs (fold keep (keep kept e) later)) (append_assoc es (e ∷ []) later)
-      (all_more (es ++ e ∷ []) (keep kept e) later r (All-tail (λ a. 1 ≤ a.round) e later more) (one_more es kept e rounds f))
+      (all_more (es ++ e ∷ []) (keep kept e) later r (All-tail (λ a. 1 ≤ a.divisor) e later more) (one_more es kept e rounds f))
 
-  from_first : (e : Evaluation) (later : List Evaluation) → AreAfterRounds (e ∷ later) → First (e ∷ later) (fold keep e later)
+  from_first : (e : Evaluation) (later : List Evaluation) → HaveDivisors (e ∷ later) → First (e ∷ later) (fold keep e later)
   from_first e later rounds =
       let alone : First (e ∷ []) e = record { place = 0; within = omega arith; stands = λ d. refl; greatest = All-cons (λ a. AtMost a e) e [] (orders.same e) (All-nil (λ a. AtMost a e)); earliest = All-nil (λ a. Below a e) } in
-      all_more (e ∷ []) e later (All-cons (λ a. 1 ≤ a.round) e [] (All-head (λ a. 1 ≤ a.round) e later rounds) (All-nil (λ a. 1 ≤ a.round))) (All-tail (λ a. 1 ≤ a.round) e later rounds) alone
+      all_more (e ∷ []) e later (All-cons (λ a. 1 ≤ a.divisor) e [] (All-head (λ a. 1 ≤ a.divisor) e later rounds) (All-nil (λ a. 1 ≤ a.divisor))) (All-tail (λ a. 1 ≤ a.divisor) e later rounds) alone
 
   -- of two such evaluations neither comes first
   not_earlier : (es : List Evaluation) (e f : Evaluation) (a : First es e) (b : First es f) → a.place < b.place → ⊥
@@ -85,24 +85,24 @@ module _ {Below AtMost : Evaluation → Evaluation → Type 0} {keep : Evaluatio
 -- ---- floors and ceilings
 floors : Orders HasLowerFloor HasFloorAtMost higher_floor
 floors = record {
-  same = λ a. ≤ℤ_refl (a.low *ℤ pos a.round);
-  weaker = λ a b. less_at_most (a.low *ℤ pos b.round) (b.low *ℤ pos a.round);
-  apart = λ a b. not_less (a.low *ℤ pos b.round) (b.low *ℤ pos a.round);
-  chain = λ a b c some h k. at_most-less a.low b.low c.low a.round b.round c.round some h k;
+  same = λ a. ≤ℤ_refl (a.low *ℤ pos a.divisor);
+  weaker = λ a b. less_at_most (a.low *ℤ pos b.divisor) (b.low *ℤ pos a.divisor);
+  apart = λ a b. not_less (a.low *ℤ pos b.divisor) (b.low *ℤ pos a.divisor);
+  chain = λ a b c some h k. at_most-less a.low b.low c.low a.divisor b.divisor c.divisor some h k;
   keeps = λ kept next.
       ⊎_elim (λ yes. inl (ap (λ t. cond t next kept) yes.0, yes.1)) (λ not. inr (ap (λ t. cond t next kept) not.0, not.1))
-      (int_lt_tells (kept.low *ℤ pos next.round) (next.low *ℤ pos kept.round));
+      (int_lt_tells (kept.low *ℤ pos next.divisor) (next.low *ℤ pos kept.divisor));
 }
 
 ceilings : Orders (λ a e. HasLowerCeiling e a) (λ a e. HasCeilingAtMost e a) lower_ceiling
 ceilings = record {
-  same = λ a. ≤ℤ_refl (a.high *ℤ pos a.round);
-  weaker = λ a b. less_at_most (b.high *ℤ pos a.round) (a.high *ℤ pos b.round);
-  apart = λ a b. not_less (b.high *ℤ pos a.round) (a.high *ℤ pos b.round);
-  chain = λ a b c some h k. less-at_most c.high b.high a.high c.round b.round a.round some k h;
+  same = λ a. ≤ℤ_refl (a.high *ℤ pos a.divisor);
+  weaker = λ a b. less_at_most (b.high *ℤ pos a.divisor) (a.high *ℤ pos b.divisor);
+  apart = λ a b. not_less (b.high *ℤ pos a.divisor) (a.high *ℤ pos b.divisor);
+  chain = λ a b c some h k. less-at_most c.high b.high a.high c.divisor b.divisor a.divisor some k h;
   keeps = λ kept next.
       ⊎_elim (λ yes. inl (ap (λ t. cond t next kept) yes.0, yes.1)) (λ not. inr (ap (λ t. cond t next kept) not.0, not.1))
-      (int_lt_tells (next.high *ℤ pos kept.round) (kept.high *ℤ pos next.round));
+      (int_lt_tells (next.high *ℤ pos kept.divisor) (kept.high *ℤ pos next.divisor));
 }
 
 pub fold-lower : (ends : BracketEnds) (es : List Evaluation) → (fold next_ends ends es).lower ≡ fold higher_floor ends.lower es
@@ -121,14 +121,14 @@ pub ends-are : (a b : BracketEnds) → Some a ≡ Some b → a ≡ b
 unfolding value
 ends-are a b e = ap (λ o. value o a) e
 
-lower_end : (es : List Evaluation) (ends : BracketEnds) → AreAfterRounds es → ends_of es ≡ Some ends → IsLowerEnd es ends.lower
+lower_end : (es : List Evaluation) (ends : BracketEnds) → HaveDivisors es → ends_of es ≡ Some ends → IsLowerEnd es ends.lower
 lower_end [] ends rounds e = absurd (none-some ends e)
 lower_end (a ∷ rest) ends rounds e =
     let f = from_first floors a rest rounds in
     let is : fold higher_floor a rest ≡ ends.lower = sym (fold-lower (first_ends a) rest) ∙ ap (λ x. x.lower) (ends-are (fold next_ends (first_ends a) rest) ends e) in
     subst (IsLowerEnd (a ∷ rest)) is (record { place = f.place; within = f.within; stands = f.stands; greatest = f.greatest; earliest = f.earliest })
 
-upper_end : (es : List Evaluation) (ends : BracketEnds) → AreAfterRounds es → ends_of es ≡ Some ends → IsUpperEnd es ends.upper
+upper_end : (es : List Evaluation) (ends : BracketEnds) → HaveDivisors es → ends_of es ≡ Some ends → IsUpperEnd es ends.upper
 upper_end [] ends rounds e = absurd (none-some ends e)
 upper_end (a ∷ rest) ends rounds e =
     let f = from_first ceilings a rest rounds in

@@ -2,3 +2,4 @@ pub mod Compares
 pub mod BestEnds
 pub mod TraceLines
 pub mod EvaluatedRounds
+pub mod KeptEnds

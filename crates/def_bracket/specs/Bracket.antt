@@ -1,5 +1,6 @@
 -- The bracket: of the evaluated average strategies (Zinkevich, Johanson, Bowling and Piccione 2007) the ones with the best bounds, and a line for each evaluation.
--- The average after t rounds is the sum of t plans, so a bound of the sum is compared after division by t.
+-- The average after t rounds is the sum of t plans, so a bound of the sum is compared after division by t. An evaluation
+-- says apart from its round by what its bounds are divided, since a round may count in the sum more than once.
 use Rattle.std.specs.Prelude.{◌≡◌, ℕ, ◌%◌, ◌<◌, ◌==◌, ◌||◌, List, [], ◌∷◌, length, take, filter, fold, slice_index_or, All, ℤ, pos, ◌*ℤ◌, ◌≤ℤ◌, ◌<ℤ◌, int_lt, Option, Some, None, if◌then◌else◌}
 use Rattle.std.specs.List.{range_with_len}
 
@@ -7,25 +8,27 @@ use Rattle.std.specs.List.{range_with_len}
 abbrev pub evaluated_rounds : ℕ → ℕ → List ℕ
 evaluated_rounds every last = filter (λ k. (k % every == 0) || (k == last)) (range_with_len 1 last)
 
--- an evaluation after a round: the floor of player one's sum of plans, and the ceiling of player two's
+-- an evaluation after a round: by what its bounds are divided, the floor of player one's sum of plans, and the ceiling of
+-- player two's
 pub record Evaluation : Type 0 where
   pub round : ℕ
+  pub divisor : ℕ
   pub low : ℤ
   pub high : ℤ
 
--- a's floor is below b's, each divided by its round; it is at most b's
+-- a's floor is below b's, each divided by its divisor; it is at most b's
 abbrev pub HasLowerFloor : Evaluation → Evaluation → Type 0
-HasLowerFloor a b = (a.low *ℤ pos b.round) <ℤ (b.low *ℤ pos a.round)
+HasLowerFloor a b = (a.low *ℤ pos b.divisor) <ℤ (b.low *ℤ pos a.divisor)
 
 abbrev pub HasFloorAtMost : Evaluation → Evaluation → Type 0
-HasFloorAtMost a b = (a.low *ℤ pos b.round) ≤ℤ (b.low *ℤ pos a.round)
+HasFloorAtMost a b = (a.low *ℤ pos b.divisor) ≤ℤ (b.low *ℤ pos a.divisor)
 
 -- the same of ceilings
 abbrev pub HasLowerCeiling : Evaluation → Evaluation → Type 0
-HasLowerCeiling a b = (a.high *ℤ pos b.round) <ℤ (b.high *ℤ pos a.round)
+HasLowerCeiling a b = (a.high *ℤ pos b.divisor) <ℤ (b.high *ℤ pos a.divisor)
 
 abbrev pub HasCeilingAtMost : Evaluation → Evaluation → Type 0
-HasCeilingAtMost a b = (a.high *ℤ pos b.round) ≤ℤ (b.high *ℤ pos a.round)
+HasCeilingAtMost a b = (a.high *ℤ pos b.divisor) ≤ℤ (b.high *ℤ pos a.divisor)
 
 -- the lower end comes from the evaluation with the greatest floor, the upper end from that with the least ceiling
 pub record BracketEnds : Type 0 where
@@ -34,10 +37,10 @@ pub record BracketEnds : Type 0 where
 
 -- an end is replaced only by a better one, so of equals the earliest is kept
 abbrev pub higher_floor : Evaluation → Evaluation → Evaluation
-higher_floor kept next = if int_lt (kept.low *ℤ pos next.round) (next.low *ℤ pos kept.round) then next else kept
+higher_floor kept next = if int_lt (kept.low *ℤ pos next.divisor) (next.low *ℤ pos kept.divisor) then next else kept
 
 abbrev pub lower_ceiling : Evaluation → Evaluation → Evaluation
-lower_ceiling kept next = if int_lt (next.high *ℤ pos kept.round) (kept.high *ℤ pos next.round) then next else kept
+lower_ceiling kept next = if int_lt (next.high *ℤ pos kept.divisor) (kept.high *ℤ pos next.divisor) then next else kept
 
 abbrev pub next_ends : BracketEnds → Evaluation → BracketEnds
 next_ends ends e = record { lower = higher_floor ends.lower e; upper = lower_ceiling ends.upper e }

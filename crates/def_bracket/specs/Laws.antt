@@ -3,16 +3,24 @@ use Rattle.std.specs.Prelude.{◌≡◌, ℕ, ◌+◌, ◌-◌, ◌*◌, ◌/◌
 use Rattle.std.specs.List.{range_with_len}
 use Rattle.std.specs.List.Sorted.{IsStrictlyIncreasing}
 use Rattle.def_sums.specs.Limits.{most_rounds}
-use Rattle.def_bracket.specs.Bracket.{evaluated_rounds, Evaluation, BracketEnds, next_ends, first_ends, ends_of, TraceLine, trace_line, trace, IsLowerEnd, IsUpperEnd, LiesWithin}
+use Rattle.def_bracket.specs.Bracket.{evaluated_rounds, Evaluation, HasFloorAtMost, HasCeilingAtMost, BracketEnds, next_ends, first_ends, ends_of, TraceLine, trace_line, trace, IsLowerEnd, IsUpperEnd, LiesWithin}
 
--- each evaluation is after at least one round
-abbrev pub AreAfterRounds : List Evaluation → Type 0
-AreAfterRounds evaluations = All (λ e. 1 ≤ e.round) evaluations
+-- no divisor is 0
+abbrev pub HaveDivisors : List Evaluation → Type 0
+HaveDivisors evaluations = All (λ e. 1 ≤ e.divisor) evaluations
+
+-- each evaluation is after at least one round, which is its divisor
+abbrev pub DivideByRounds : List Evaluation → Type 0
+DivideByRounds evaluations = All (λ e. (1 ≤ e.round) × (e.divisor ≡ e.round)) evaluations
+
+-- rounds rise from one evaluation to the next
+abbrev pub RoundsRise : List Evaluation → Type 0
+RoundsRise evaluations = IsStrictlyIncreasing (map (λ e. e.round) evaluations)
 
 -- the ends are the earliest best ones, and there are no others
 pub record EndsAreTheEarliestBest : Type 0 where
-  pub lower : (evaluations : List Evaluation) (ends : BracketEnds) → AreAfterRounds evaluations → ends_of evaluations ≡ Some ends → IsLowerEnd evaluations ends.lower
-  pub upper : (evaluations : List Evaluation) (ends : BracketEnds) → AreAfterRounds evaluations → ends_of evaluations ≡ Some ends → IsUpperEnd evaluations ends.upper
+  pub lower : (evaluations : List Evaluation) (ends : BracketEnds) → HaveDivisors evaluations → ends_of evaluations ≡ Some ends → IsLowerEnd evaluations ends.lower
+  pub upper : (evaluations : List Evaluation) (ends : BracketEnds) → HaveDivisors evaluations → ends_of evaluations ≡ Some ends → IsUpperEnd evaluations ends.upper
   pub lower_only : (evaluations : List Evaluation) (e f : Evaluation) → IsLowerEnd evaluations e → IsLowerEnd evaluations f → e ≡ f
   pub upper_only : (evaluations : List Evaluation) (e f : Evaluation) → IsUpperEnd evaluations e → IsUpperEnd evaluations f → e ≡ f
 
@@ -25,11 +33,31 @@ pub record TraceHasALineForEach : Type 0 where
   pub each : (evaluations : List Evaluation) (k : ℕ) (ends : BracketEnds) (line : TraceLine) (e : Evaluation) → k < length evaluations → ends_of (take (k + 1) evaluations) ≡ Some ends
       → slice_index_or (trace evaluations) k line ≡ trace_line (slice_index_or evaluations k e).round ends
 
--- no line is wider than an earlier one
+-- the ends of more evaluations are no worse than those of the first of them
+pub record AreNoWorse (earlier later : BracketEnds) : Type 0 where
+  pub lower : HasFloorAtMost earlier.lower later.lower
+  pub upper : HasCeilingAtMost later.upper earlier.upper
+
+abbrev pub EndsNeverWorsen : Type 0
+EndsNeverWorsen =
+    (evaluations : List Evaluation) (j k : ℕ) (earlier later : BracketEnds) → HaveDivisors evaluations → j ≤ k → k ≤ length evaluations
+    → ends_of (take j evaluations) ≡ Some earlier → ends_of (take k evaluations) ≡ Some later → AreNoWorse earlier later
+
+-- so where bounds are divided by their rounds no line is wider than an earlier one
 abbrev pub TraceNeverWidens : Type 0
 TraceNeverWidens =
-    (evaluations : List Evaluation) (j k : ℕ) (line : TraceLine) → AreAfterRounds evaluations → j ≤ k → k < length evaluations
+    (evaluations : List Evaluation) (j k : ℕ) (line : TraceLine) → DivideByRounds evaluations → j ≤ k → k < length evaluations
     → LiesWithin (slice_index_or (trace evaluations) k line) (slice_index_or (trace evaluations) j line)
+
+-- the ends of a line come from rounds up to its own
+pub record LooksBack (line : TraceLine) : Type 0 where
+  pub low_some : 1 ≤ line.low_round
+  pub low_until : line.low_round ≤ line.round
+  pub high_some : 1 ≤ line.high_round
+  pub high_until : line.high_round ≤ line.round
+
+abbrev pub TraceLooksBack : Type 0
+TraceLooksBack = (evaluations : List Evaluation) → All (λ e. 1 ≤ e.round) evaluations → RoundsRise evaluations → All LooksBack (trace evaluations)
 
 -- the evaluated rounds in order; the i-th of them is i times `every` or the last round
 pub record RoundsAreEvaluated : Type 0 where

@@ -2,9 +2,11 @@
 //! each function's contract is a law of the definitions, or rows that they give.
 #![tactic(auto)]
 
+pub mod offers;
+
 ghost use Rattle.std.specs.Prelude.{◌≡◌, [], ◌∷◌, pos, negsuc};
 ghost use Rattle.def_bracket.specs.Bracket.{evaluated_rounds, trace};
-ghost use Rattle.def_bracket.specs.Laws.{EndsAreTheEarliestBest, TraceHasALineForEach, TraceNeverWidens, RoundsAreEvaluated, BracketProductsAreSmall};
+ghost use Rattle.def_bracket.specs.Laws.{EndsAreTheEarliestBest, EndsNeverWorsen, TraceHasALineForEach, TraceLooksBack, TraceNeverWidens, RoundsAreEvaluated, BracketProductsAreSmall};
 
 /// The ends by what is best.
 pub fn ends_are_the_earliest_best()
@@ -16,9 +18,19 @@ pub fn trace_has_a_line_for_each()
     ensures { TraceHasALineForEach }
 {}
 
+/// More evaluations beside the first of them.
+pub fn ends_never_worsen()
+    ensures { EndsNeverWorsen }
+{}
+
 /// Later lines beside earlier ones.
 pub fn trace_never_widens()
     ensures { TraceNeverWidens }
+{}
+
+/// The rounds that a line names.
+pub fn trace_looks_back()
+    ensures { TraceLooksBack }
 {}
 
 /// Which rounds are evaluated.
@@ -33,16 +45,16 @@ pub fn bracket_products_are_small()
 
 /// One mover, two rounds: both ceilings are equal, and the first is kept.
 pub fn trace_of_one_mover()
-    ensures { trace (record { round = 1; low = pos 524288; high = pos 1048576 }
-        ∷ record { round = 2; low = pos 1572864; high = pos 2097152 } ∷ [])
+    ensures { trace (record { round = 1; divisor = 1; low = pos 524288; high = pos 1048576 }
+        ∷ record { round = 2; divisor = 2; low = pos 1572864; high = pos 2097152 } ∷ [])
         ≡ record { round = 1; low_round = 1; low = pos 524288; high_round = 1; high = pos 1048576 }
         ∷ record { round = 2; low_round = 2; low = pos 1572864; high_round = 1; high = pos 1048576 } ∷ [] }
 {}
 
 /// Matching pennies, two rounds in units of 1: the ends come from different rounds.
 pub fn trace_of_pennies()
-    ensures { trace (record { round = 1; low = negsuc 0; high = pos 1 }
-        ∷ record { round = 2; low = negsuc 1; high = pos 0 } ∷ [])
+    ensures { trace (record { round = 1; divisor = 1; low = negsuc 0; high = pos 1 }
+        ∷ record { round = 2; divisor = 2; low = negsuc 1; high = pos 0 } ∷ [])
         ≡ record { round = 1; low_round = 1; low = negsuc 0; high_round = 1; high = pos 1 }
         ∷ record { round = 2; low_round = 1; low = negsuc 0; high_round = 2; high = pos 0 } ∷ [] }
 {}

@@ -20,37 +20,53 @@ pub fn hidden_rows()
 
 /// Round 1: no regret yet, so each action is played evenly.
 pub fn round_one()
-    ensures play_of_one { play_of hidden.sets_one (opening hidden).regrets_one ≡ 0 ∷ 21845 ∷ 21845 ∷ 21846 ∷ 32768 ∷ 32768 ∷ 32768 ∷ 32768 ∷ [] }
-    ensures play_of_two { play_of hidden.sets_two (opening hidden).regrets_two ≡ 0 ∷ 21845 ∷ 21845 ∷ 21846 ∷ 32768 ∷ 32768 ∷ 32768 ∷ 32768 ∷ [] }
-    ensures plan_of_one { plan_of_play hidden.sets_one (0 ∷ 21845 ∷ 21845 ∷ 21846 ∷ 32768 ∷ 32768 ∷ 32768 ∷ 32768 ∷ []) 10 ≡ 10 ∷ 3 ∷ 3 ∷ 4 ∷ 1 ∷ 2 ∷ 1 ∷ 2 ∷ [] }
-    ensures plan_of_two { plan_of_play hidden.sets_two (0 ∷ 21845 ∷ 21845 ∷ 21846 ∷ 32768 ∷ 32768 ∷ 32768 ∷ 32768 ∷ []) 10 ≡ 10 ∷ 3 ∷ 3 ∷ 4 ∷ 1 ∷ 2 ∷ 1 ∷ 2 ∷ [] }
+    ensures play_of_one { play_of hidden.sets_one (opening hidden).regrets_one
+        ≡ 0 ∷ 21845 ∷ 21845 ∷ 21846 ∷ 32768 ∷ 32768 ∷ 32768 ∷ 32768 ∷ [] }
+    ensures play_of_two { play_of hidden.sets_two (opening hidden).regrets_two
+        ≡ 0 ∷ 21845 ∷ 21845 ∷ 21846 ∷ 32768 ∷ 32768 ∷ 32768 ∷ 32768 ∷ [] }
+    ensures plan_of_one { plan_of_play hidden.sets_one (0 ∷ 21845 ∷ 21845 ∷ 21846 ∷ 32768 ∷ 32768 ∷ 32768 ∷ 32768 ∷ []) 10
+        ≡ 10 ∷ 3 ∷ 3 ∷ 4 ∷ 1 ∷ 2 ∷ 1 ∷ 2 ∷ [] }
+    ensures plan_of_two { plan_of_play hidden.sets_two (0 ∷ 21845 ∷ 21845 ∷ 21846 ∷ 32768 ∷ 32768 ∷ 32768 ∷ 32768 ∷ []) 10
+        ≡ 10 ∷ 3 ∷ 3 ∷ 4 ∷ 1 ∷ 2 ∷ 1 ∷ 2 ∷ [] }
     ensures leaves { next_round hidden 10 (opening hidden) ≡ after_one }
 {}
 
 /// Round 2: two unequal positive regrets at the first set of player one.
 pub fn round_two()
-    ensures play_of_one { play_of hidden.sets_one after_one.regrets_one ≡ 0 ∷ 50641 ∷ 14895 ∷ 0 ∷ 0 ∷ 65536 ∷ 0 ∷ 65536 ∷ [] }
-    ensures play_of_two { play_of hidden.sets_two after_one.regrets_two ≡ 0 ∷ 0 ∷ 0 ∷ 65536 ∷ 0 ∷ 65536 ∷ 65536 ∷ 0 ∷ [] }
-    ensures plan_of_one { plan_of_play hidden.sets_one (0 ∷ 50641 ∷ 14895 ∷ 0 ∷ 0 ∷ 65536 ∷ 0 ∷ 65536 ∷ []) 10 ≡ 10 ∷ 7 ∷ 3 ∷ 0 ∷ 0 ∷ 7 ∷ 0 ∷ 3 ∷ [] }
-    ensures plan_of_two { plan_of_play hidden.sets_two (0 ∷ 0 ∷ 0 ∷ 65536 ∷ 0 ∷ 65536 ∷ 65536 ∷ 0 ∷ []) 10 ≡ 10 ∷ 0 ∷ 0 ∷ 10 ∷ 0 ∷ 0 ∷ 0 ∷ 0 ∷ [] }
+    ensures play_of_one { play_of hidden.sets_one after_one.regrets_one
+        ≡ 0 ∷ 50641 ∷ 14895 ∷ 0 ∷ 0 ∷ 65536 ∷ 0 ∷ 65536 ∷ [] }
+    ensures play_of_two { play_of hidden.sets_two after_one.regrets_two
+        ≡ 0 ∷ 0 ∷ 0 ∷ 65536 ∷ 0 ∷ 65536 ∷ 65536 ∷ 0 ∷ [] }
+    ensures plan_of_one { plan_of_play hidden.sets_one (0 ∷ 50641 ∷ 14895 ∷ 0 ∷ 0 ∷ 65536 ∷ 0 ∷ 65536 ∷ []) 10
+        ≡ 10 ∷ 7 ∷ 3 ∷ 0 ∷ 0 ∷ 7 ∷ 0 ∷ 3 ∷ [] }
+    ensures plan_of_two { plan_of_play hidden.sets_two (0 ∷ 0 ∷ 0 ∷ 65536 ∷ 0 ∷ 65536 ∷ 65536 ∷ 0 ∷ []) 10
+        ≡ 10 ∷ 0 ∷ 0 ∷ 10 ∷ 0 ∷ 0 ∷ 0 ∷ 0 ∷ [] }
     ensures leaves { next_round hidden 10 after_one ≡ after_two }
 {}
 
 /// Round 3: two unequal positive regrets, of others than before.
 pub fn round_three()
-    ensures play_of_one { play_of hidden.sets_one after_two.regrets_one ≡ 0 ∷ 16693 ∷ 0 ∷ 48843 ∷ 0 ∷ 65536 ∷ 0 ∷ 65536 ∷ [] }
-    ensures play_of_two { play_of hidden.sets_two after_two.regrets_two ≡ 0 ∷ 0 ∷ 0 ∷ 65536 ∷ 0 ∷ 65536 ∷ 65536 ∷ 0 ∷ [] }
-    ensures plan_of_one { plan_of_play hidden.sets_one (0 ∷ 16693 ∷ 0 ∷ 48843 ∷ 0 ∷ 65536 ∷ 0 ∷ 65536 ∷ []) 10 ≡ 10 ∷ 2 ∷ 0 ∷ 8 ∷ 0 ∷ 2 ∷ 0 ∷ 0 ∷ [] }
-    ensures plan_of_two { plan_of_play hidden.sets_two (0 ∷ 0 ∷ 0 ∷ 65536 ∷ 0 ∷ 65536 ∷ 65536 ∷ 0 ∷ []) 10 ≡ 10 ∷ 0 ∷ 0 ∷ 10 ∷ 0 ∷ 0 ∷ 0 ∷ 0 ∷ [] }
+    ensures play_of_one { play_of hidden.sets_one after_two.regrets_one
+        ≡ 0 ∷ 16693 ∷ 0 ∷ 48843 ∷ 0 ∷ 65536 ∷ 0 ∷ 65536 ∷ [] }
+    ensures play_of_two { play_of hidden.sets_two after_two.regrets_two
+        ≡ 0 ∷ 0 ∷ 0 ∷ 65536 ∷ 0 ∷ 65536 ∷ 65536 ∷ 0 ∷ [] }
+    ensures plan_of_one { plan_of_play hidden.sets_one (0 ∷ 16693 ∷ 0 ∷ 48843 ∷ 0 ∷ 65536 ∷ 0 ∷ 65536 ∷ []) 10
+        ≡ 10 ∷ 2 ∷ 0 ∷ 8 ∷ 0 ∷ 2 ∷ 0 ∷ 0 ∷ [] }
+    ensures plan_of_two { plan_of_play hidden.sets_two (0 ∷ 0 ∷ 0 ∷ 65536 ∷ 0 ∷ 65536 ∷ 65536 ∷ 0 ∷ []) 10
+        ≡ 10 ∷ 0 ∷ 0 ∷ 10 ∷ 0 ∷ 0 ∷ 0 ∷ 0 ∷ [] }
     ensures leaves { next_round hidden 10 after_two ≡ after_three }
 {}
 
 /// Round 4: two unequal positive regrets at the first set of player two.
 pub fn round_four()
-    ensures play_of_one { play_of hidden.sets_one after_three.regrets_one ≡ 0 ∷ 0 ∷ 0 ∷ 65536 ∷ 0 ∷ 65536 ∷ 0 ∷ 65536 ∷ [] }
-    ensures play_of_two { play_of hidden.sets_two after_three.regrets_two ≡ 0 ∷ 27726 ∷ 0 ∷ 37810 ∷ 0 ∷ 65536 ∷ 65536 ∷ 0 ∷ [] }
-    ensures plan_of_one { plan_of_play hidden.sets_one (0 ∷ 0 ∷ 0 ∷ 65536 ∷ 0 ∷ 65536 ∷ 0 ∷ 65536 ∷ []) 10 ≡ 10 ∷ 0 ∷ 0 ∷ 10 ∷ 0 ∷ 0 ∷ 0 ∷ 0 ∷ [] }
-    ensures plan_of_two { plan_of_play hidden.sets_two (0 ∷ 27726 ∷ 0 ∷ 37810 ∷ 0 ∷ 65536 ∷ 65536 ∷ 0 ∷ []) 10 ≡ 10 ∷ 4 ∷ 0 ∷ 6 ∷ 0 ∷ 4 ∷ 0 ∷ 0 ∷ [] }
+    ensures play_of_one { play_of hidden.sets_one after_three.regrets_one
+        ≡ 0 ∷ 0 ∷ 0 ∷ 65536 ∷ 0 ∷ 65536 ∷ 0 ∷ 65536 ∷ [] }
+    ensures play_of_two { play_of hidden.sets_two after_three.regrets_two
+        ≡ 0 ∷ 27726 ∷ 0 ∷ 37810 ∷ 0 ∷ 65536 ∷ 65536 ∷ 0 ∷ [] }
+    ensures plan_of_one { plan_of_play hidden.sets_one (0 ∷ 0 ∷ 0 ∷ 65536 ∷ 0 ∷ 65536 ∷ 0 ∷ 65536 ∷ []) 10
+        ≡ 10 ∷ 0 ∷ 0 ∷ 10 ∷ 0 ∷ 0 ∷ 0 ∷ 0 ∷ [] }
+    ensures plan_of_two { plan_of_play hidden.sets_two (0 ∷ 27726 ∷ 0 ∷ 37810 ∷ 0 ∷ 65536 ∷ 65536 ∷ 0 ∷ []) 10
+        ≡ 10 ∷ 4 ∷ 0 ∷ 6 ∷ 0 ∷ 4 ∷ 0 ∷ 0 ∷ [] }
     ensures leaves { next_round hidden 10 after_three ≡ after_four }
 {}
 
@@ -81,7 +97,8 @@ pub fn replies_two()
 
 /// The replies to the sums after round 3.
 pub fn replies_three()
-    ensures values_of_two { values_of (reply_to hidden Two after_three.sum_one) ≡ negsuc 65 ∷ negsuc 35 ∷ negsuc 29 ∷ [] }
+    ensures values_of_two { values_of (reply_to hidden Two after_three.sum_one)
+        ≡ negsuc 65 ∷ negsuc 35 ∷ negsuc 29 ∷ [] }
     ensures choices_of_two { choices_of (reply_to hidden Two after_three.sum_one) ≡ 1 ∷ 2 ∷ 1 ∷ [] }
     ensures floor { total_against hidden Two after_three.sum_one ≡ negsuc 65 }
     ensures values_of_one { values_of (reply_to hidden One after_three.sum_two) ≡ pos 48 ∷ negsuc 5 ∷ negsuc 1 ∷ [] }
@@ -91,7 +108,8 @@ pub fn replies_three()
 
 /// The replies to the sums after round 4.
 pub fn replies_four()
-    ensures values_of_two { values_of (reply_to hidden Two after_four.sum_one) ≡ negsuc 175 ∷ negsuc 35 ∷ negsuc 29 ∷ [] }
+    ensures values_of_two { values_of (reply_to hidden Two after_four.sum_one)
+        ≡ negsuc 175 ∷ negsuc 35 ∷ negsuc 29 ∷ [] }
     ensures choices_of_two { choices_of (reply_to hidden Two after_four.sum_one) ≡ 1 ∷ 2 ∷ 1 ∷ [] }
     ensures floor { total_against hidden Two after_four.sum_one ≡ negsuc 175 }
     ensures values_of_one { values_of (reply_to hidden One after_four.sum_two) ≡ pos 28 ∷ negsuc 17 ∷ negsuc 1 ∷ [] }

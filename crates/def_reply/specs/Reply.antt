@@ -5,9 +5,9 @@ use Rattle.std.specs.Ordering.{int_eq}
 use Rattle.std.specs.List.{AllZip}
 use Rattle.def_tree.specs.declared.Player.{Player}
 use Rattle.def_tree.specs.declared.Player.TheVariants.{One, Two}
-use Rattle.def_plan.specs.Form.{InformationSet, PlacedSet, placed, sequences_of}
+use Rattle.def_plan.specs.Form.{InformationSet, PlacedSet, SequenceForm, placed, sequences_of, player_sets}
 use Rattle.def_plan.specs.Plan.{chosen}
-use Rattle.def_plan.specs.Payoff.{worth, IsNoBetter}
+use Rattle.def_plan.specs.Payoff.{leaf_sum, worth, IsNoBetter}
 
 -- a reply at one set: the set's value, and the action that is chosen there, counted from 1
 pub record SetReply : Type 0 where
@@ -50,6 +50,20 @@ best_reply player sums sets = replies_at player sums (placed sets)
 -- the total of a reply: the worth of the empty sequence
 abbrev pub total : (ℕ → ℤ) → List InformationSet → List SetReply → ℤ
 total sums sets replies = worth sums (placed sets) (values_of replies) 0
+
+-- a whole reply: its total, and the reply at each set
+pub record Reply : Type 0 where
+  pub total : ℤ
+  pub sets : List SetReply
+
+-- a player's best reply to a plan of the other player
+abbrev pub best_reply_to : SequenceForm → Player → List ℕ → Reply
+best_reply_to form player plan =
+    let sums : ℕ → ℤ = leaf_sum player form.leaves plan in
+    record {
+      total = total sums (player_sets form player) (best_reply player sums (player_sets form player));
+      sets = best_reply player sums (player_sets form player);
+    }
 
 -- at a set no action is worth more to the player than the value, and the chosen one is worth just that
 pub record IsTight (player : Player) (worth_of : ℕ → ℤ) (h : PlacedSet) (reply : SetReply) : Type 0 where

@@ -56,12 +56,16 @@ pub fn bounds_are_small()
 
 /// Replies in matching pennies.
 pub fn replies_of_pennies()
-    ensures values_of_two { values_of (best_reply Two (leaf_sum Two pennies.leaves (1 ∷ 0 ∷ 1 ∷ [])) pennies.sets_two) ≡ negsuc 0 ∷ [] }
-    ensures choices_of_two { choices_of (best_reply Two (leaf_sum Two pennies.leaves (1 ∷ 0 ∷ 1 ∷ [])) pennies.sets_two) ≡ 1 ∷ [] }
+    ensures values_of_two { values_of (best_reply Two (leaf_sum Two pennies.leaves (1 ∷ 0 ∷ 1 ∷ [])) pennies.sets_two)
+        ≡ negsuc 0 ∷ [] }
+    ensures choices_of_two { choices_of (best_reply Two (leaf_sum Two pennies.leaves (1 ∷ 0 ∷ 1 ∷ [])) pennies.sets_two)
+        ≡ 1 ∷ [] }
     ensures floor { let sums = leaf_sum Two pennies.leaves (1 ∷ 0 ∷ 1 ∷ []) in
         total sums pennies.sets_two (best_reply Two sums pennies.sets_two) ≡ negsuc 0 }
-    ensures values_of_one { values_of (best_reply One (leaf_sum One pennies.leaves (2 ∷ 1 ∷ 1 ∷ [])) pennies.sets_one) ≡ pos 0 ∷ [] }
-    ensures choices_of_one { choices_of (best_reply One (leaf_sum One pennies.leaves (2 ∷ 1 ∷ 1 ∷ [])) pennies.sets_one) ≡ 1 ∷ [] }
+    ensures values_of_one { values_of (best_reply One (leaf_sum One pennies.leaves (2 ∷ 1 ∷ 1 ∷ [])) pennies.sets_one)
+        ≡ pos 0 ∷ [] }
+    ensures choices_of_one { choices_of (best_reply One (leaf_sum One pennies.leaves (2 ∷ 1 ∷ 1 ∷ [])) pennies.sets_one)
+        ≡ 1 ∷ [] }
     ensures ceiling { let sums = leaf_sum One pennies.leaves (2 ∷ 1 ∷ 1 ∷ []) in
         total sums pennies.sets_one (best_reply One sums pennies.sets_one) ≡ pos 0 }
     ensures earlier_ceiling { let sums = leaf_sum One pennies.leaves (1 ∷ 0 ∷ 1 ∷ []) in

@@ -14,6 +14,7 @@ use Rattle.def_sums.proofs.Ranges.{All-range, at_most_sum}
 use Rattle.def_plan.specs.Form.{PlacedSet, sequences_of}
 use Rattle.def_round.specs.Play.{units}
 use Rattle.def_round.specs.Round.{set_value}
+use Rattle.def_round.specs.Laws.{SetValuesAreAverages}
 
 -- a quotient from below and from above
 floor_at_most : (n : ℤ) (d : ℕ) (high : ℤ) → 1 ≤ d → n ≤ℤ (high *ℤ pos d) → floor_div n d ≤ℤ high
@@ -98,3 +99,6 @@ products_within play w h bound all le =
     let small : unsigned_abs (w s) ≤ bound = omega arith in
     omega (arith, unsigned_abs-mul (pos (slice_index play s)) (w s), mul-le-mul_left (slice_index play s) small))) in
     omega (arith, each, nat_sum_over-factor bound (λ s. slice_index play s) (sequences_of h), ap (λ n. n * bound) all)
+
+pub set_values_are_averages : SetValuesAreAverages
+set_values_are_averages play worths h = floor_div-is_floor (sum_over (λ s. pos (slice_index play s) *ℤ worths s) (sequences_of h)) units (omega arith)

@@ -7,3 +7,5 @@ pub mod Gains
 pub mod Averages
 pub mod Trees
 pub mod Growth
+pub mod Proportion
+pub mod Following

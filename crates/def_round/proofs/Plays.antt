@@ -10,11 +10,12 @@ use Rattle.def_sums.specs.Sum.{nat_sum_over}
 use Rattle.def_sums.proofs.Ranges.{at_most_sum}
 use Rattle.def_plan.specs.Form.{InformationSet, PlacedSet, placed_from, placed, sequences_of, IsInOrder}
 use Rattle.def_plan.specs.Plan.{dealt_onto, DealsWhole}
+use Rattle.def_plan.proofs.Rules.{dealt-only}
 use Rattle.def_plan.proofs.Dealing.{IsDealt, dealt_onto-is_dealt, dealt-is_plan}
 use Rattle.def_shares.specs.Shares.{weight_sum}
 use Rattle.def_shares.proofs.SharesLaws.{length-shares, shares_whole, no_weight_no_share}
 use Rattle.def_round.specs.Play.{units, positive_part, regret_of, set_play, play_of, play_rule}
-use Rattle.def_round.specs.Laws.{PlaysPositiveRegrets, PlaysHaveEachSet, PlaysGiveAllUnits, PlaysDealPlans, PlaysDealByShares}
+use Rattle.def_round.specs.Laws.{PlaysPositiveRegrets, PlaysHaveEachSet, PlaysGiveAllUnits, PlaysDealPlans, PlaysDealByShares, PlansOfPlaysAreUnique}
 use Rattle.def_round.proofs.Blocks.{map-range_same, map-block, blocks, length-blocks}
 
 length-set_play : (regrets : List ℤ) (h : PlacedSet) → length (set_play regrets h) ≡ h.actions
@@ -30,7 +31,7 @@ plays_each_set sets regrets = record {
 }
 
 -- a sum over a row is the sum of the list of its values
-sum_of_map : (f : ℕ → ℕ) (xs : List ℕ) → nat_sum_over (λ s. f s) xs ≡ nat_sum_over (λ x. x) (map f xs)
+pub sum_of_map : (f : ℕ → ℕ) (xs : List ℕ) → nat_sum_over (λ s. f s) xs ≡ nat_sum_over (λ x. x) (map f xs)
 sum_of_map f [] = refl
 sum_of_map f (x ∷ xs) = ap (λ n. f x + n) (sum_of_map f xs)
 
@@ -113,3 +114,17 @@ dealt_by_rule play first x (h ∷ hs) e order =
 
 pub plays_deal_by_shares : PlaysDealByShares
 plays_deal_by_shares sets play root order = dealt_by_rule play 1 (root ∷ []) sets refl order
+
+-- rules at each set, one by one
+follows_rules : (play plan : List ℕ) (hs : List PlacedSet)
+    → All (λ h. map (λ s. slice_index plan s) (sequences_of h) ≡ play_rule play h (slice_index plan h.before)) hs
+    → AllZip (λ h rule. map (λ s. slice_index plan s) (sequences_of h) ≡ rule (slice_index plan h.before)) hs (map (play_rule play) hs)
+follows_rules play plan [] all = tt
+follows_rules play plan (h ∷ hs) all = (
+  All-head (λ h. map (λ s. slice_index plan s) (sequences_of h) ≡ play_rule play h (slice_index plan h.before)) h hs all,
+  follows_rules play plan hs (All-tail (λ h. map (λ s. slice_index plan s) (sequences_of h) ≡ play_rule play h (slice_index plan h.before)) h hs all),
+)
+
+pub plans_of_plays_are_unique : PlansOfPlaysAreUnique
+plans_of_plays_are_unique sets play root plan order is =
+    dealt-only sets root (map (play_rule play) (placed sets)) plan order (play_rules_whole play 1 sets order) is.is_plan (follows_rules play plan (placed sets) is.each_set)

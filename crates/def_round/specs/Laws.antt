@@ -1,13 +1,17 @@
 -- The laws of plays and rounds.
-use Rattle.std.specs.Prelude.{◌≡◌, ℕ, ◌+◌, ◌*◌, ◌≤◌, ◌↔◌, ℤ, pos, neg_ℤ, ◌≤ℤ◌, ◌<ℤ◌, List, length, map, drop, All, slice_index, slice_get, Some}
+use Rattle.std.specs.Prelude.{◌≡◌, ℕ, ◌+◌, ◌*◌, ◌/◌, ◌≤◌, ◌↔◌, ℤ, pos, neg_ℤ, ◌*ℤ◌, ◌≤ℤ◌, ◌<ℤ◌, List, length, map, drop, replicate, All, slice_index, slice_get, Some}
+use Rattle.std.specs.List.{range_with_len}
+use Rattle.def_sums.specs.Sum.{sum_over, nat_sum_over}
+use Rattle.def_sums.specs.Floor.{IsFloorOf}
 use Rattle.def_plan.specs.Form.{InformationSet, PlacedSet, placed, sequences_of, sequence_count, AreInOrder, SequenceForm}
 use Rattle.def_plan.specs.Plan.{IsPlan}
 use Rattle.def_plan.specs.Payoff.{worth, gain, pay}
 use Rattle.def_tree.specs.declared.Player.TheVariants.{One, Two}
 use Rattle.def_shares.specs.Shares.{shares}
-use Rattle.def_round.specs.Play.{regret_of, IsSequenceOf, set_play, play_of, GivesAllUnits, plan_of_play}
-use Rattle.def_round.specs.Round.{own_sum, AreValues, values_from, round_values, IsRound, regrets_after}
-use Rattle.def_round.specs.Rounds.{rounds}
+use Rattle.def_shares.specs.Laws.{IsWithinOne}
+use Rattle.def_round.specs.Play.{units, positive_part, regret_of, regret_sum, IsSequenceOf, set_play, play_of, GivesAllUnits, plan_of_play}
+use Rattle.def_round.specs.Round.{own_sum, set_value, AreValues, values_from, round_values, IsRound, regrets_after}
+use Rattle.def_round.specs.Rounds.{Standing, rounds}
 
 -- the play has a number for each sequence, and at each set the shares of the regrets' positive parts
 pub record IsPlayOf (sets : List InformationSet) (regrets : List ℤ) (play : List ℕ) : Type 0 where
@@ -27,6 +31,20 @@ abbrev pub PlaysPositiveRegrets : Type 0
 PlaysPositiveRegrets = (sets : List InformationSet) (regrets : List ℤ)
     → All (λ h. (s t : ℕ) → IsSequenceOf h s → IsSequenceOf h t → pos 0 <ℤ regret_of regrets t → regret_of regrets s ≤ℤ pos 0 → slice_index (play_of sets regrets) s ≡ 0) (placed sets)
 
+-- where a set has a positive regret, an action's play is its positive part of the units, out of the sum of the positive
+-- parts, but for less than one unit, and what the first actions get together is rounded down; else all are played evenly
+pub record IsInProportion (regrets : List ℤ) (play : List ℕ) (h : PlacedSet) : Type 0 where
+  pub each_action : (s : ℕ) → IsSequenceOf h s → 1 ≤ regret_sum regrets h
+      → IsWithinOne units (positive_part (regret_of regrets s)) (regret_sum regrets h) (slice_index play s)
+  pub first_actions : (i : ℕ) → i ≤ h.actions → 1 ≤ regret_sum regrets h
+      → nat_sum_over (λ s. slice_index play s) (range_with_len h.first i)
+      ≡ units * nat_sum_over (λ s. positive_part (regret_of regrets s)) (range_with_len h.first i) / regret_sum regrets h
+  pub evenly : (i : ℕ) → i ≤ h.actions → regret_sum regrets h ≡ 0
+      → nat_sum_over (λ s. slice_index play s) (range_with_len h.first i) ≡ units * i / h.actions
+
+abbrev pub PlaysAreInProportion : Type 0
+PlaysAreInProportion = (sets : List InformationSet) (regrets : List ℤ) → All (IsInProportion regrets (play_of sets regrets)) (placed sets)
+
 -- what a play deals is a plan
 abbrev pub PlaysDealPlans : Type 0
 PlaysDealPlans = (sets : List InformationSet) (play : List ℕ) (root : ℕ) → AreInOrder sets → 1 ≤ root → IsPlan sets root (plan_of_play sets play root)
@@ -37,6 +55,15 @@ PlaysDealByShares = (sets : List InformationSet) (play : List ℕ) (root : ℕ) 
     → let plan : List ℕ = plan_of_play sets play root in
     All (λ h. map (λ s. slice_index plan s) (sequences_of h) ≡ shares (slice_index plan h.before) (map (λ s. slice_index play s) (sequences_of h))) (placed sets)
 
+-- no other plan does
+pub record IsPlanOfPlay (sets : List InformationSet) (play : List ℕ) (root : ℕ) (plan : List ℕ) : Type 0 where
+  pub is_plan : IsPlan sets root plan
+  pub each_set : All (λ h. map (λ s. slice_index plan s) (sequences_of h) ≡ shares (slice_index plan h.before) (map (λ s. slice_index play s) (sequences_of h))) (placed sets)
+
+abbrev pub PlansOfPlaysAreUnique : Type 0
+PlansOfPlaysAreUnique = (sets : List InformationSet) (play : List ℕ) (root : ℕ) (plan : List ℕ) → AreInOrder sets
+    → IsPlanOfPlay sets play root plan → plan ≡ plan_of_play sets play root
+
 -- a plan gains from its player's sums what it pays player one, and player two gets the negative
 pub record GainWhatIsPaid (form : SequenceForm) (plan_one plan_two : List ℕ) : Type 0 where
   pub of_one : length plan_one ≡ sequence_count form.sets_one → gain (own_sum One form.leaves plan_two) form.sets_one plan_one ≡ pay form.leaves plan_one plan_two
@@ -44,6 +71,11 @@ pub record GainWhatIsPaid (form : SequenceForm) (plan_one plan_two : List ℕ) :
 
 abbrev pub OwnSumsGainWhatIsPaid : Type 0
 OwnSumsGainWhatIsPaid = (form : SequenceForm) (plan_one plan_two : List ℕ) → GainWhatIsPaid form plan_one plan_two
+
+-- a set's value is the average of what its sequences are worth, by the play out of all units, rounded down
+abbrev pub SetValuesAreAverages : Type 0
+SetValuesAreAverages = (play : List ℕ) (worths : ℕ → ℤ) (h : PlacedSet)
+    → IsFloorOf (sum_over (λ s. pos (slice_index play s) *ℤ worths s) (sequences_of h)) units (set_value play worths h)
 
 -- the equations of a round have a solution, which is computed, and no other
 abbrev pub ValuesSolveTheEquations : Type 0
@@ -68,6 +100,40 @@ WorthsNeedLaterSets = (sums : ℕ → ℤ) (sets : List InformationSet) (values 
 abbrev pub RoundsAreComputed : Type 0
 RoundsAreComputed = (sums : ℕ → ℤ) (play : List ℕ) (sets : List InformationSet) (before after : List ℤ) → AreInOrder sets
     → IsRound sums play sets before after ↔ (after ≡ regrets_after sums play sets before)
+
+-- a run begins with no regrets, and nothing in the sums
+pub record IsOpening (form : SequenceForm) (standing : Standing) : Type 0 where
+  pub regrets_of_one : standing.regrets_one ≡ replicate (sequence_count form.sets_one) (pos 0)
+  pub regrets_of_two : standing.regrets_two ≡ replicate (sequence_count form.sets_two) (pos 0)
+  pub sum_of_one : standing.sum_one ≡ replicate (sequence_count form.sets_one) 0
+  pub sum_of_two : standing.sum_two ≡ replicate (sequence_count form.sets_two) 0
+
+-- the sums after a round have what they had before and the plan of the round
+pub record GrowsBy (before plan after : List ℕ) : Type 0 where
+  pub all_sequences : length after ≡ length before
+  pub each_number : (s : ℕ) → slice_index after s ≡ slice_index before s + slice_index plan s
+
+-- from one standing to the next: both play by their regrets, both plans are dealt from these plays, the sums grow by
+-- these plans, and the regrets of each player grow by the round against the other's plan, with the player's own play
+pub record IsNextRound (form : SequenceForm) (root : ℕ) (before after : Standing) : Type 0 where
+  pub play_one : List ℕ
+  pub play_two : List ℕ
+  pub plan_one : List ℕ
+  pub plan_two : List ℕ
+  pub plays_of_one : IsPlayOf form.sets_one before.regrets_one play_one
+  pub plays_of_two : IsPlayOf form.sets_two before.regrets_two play_two
+  pub deals_of_one : IsPlanOfPlay form.sets_one play_one root plan_one
+  pub deals_of_two : IsPlanOfPlay form.sets_two play_two root plan_two
+  pub sum_of_one : GrowsBy before.sum_one plan_one after.sum_one
+  pub sum_of_two : GrowsBy before.sum_two plan_two after.sum_two
+  pub regrets_of_one : IsRound (own_sum One form.leaves plan_two) play_one form.sets_one before.regrets_one after.regrets_one
+  pub regrets_of_two : IsRound (own_sum Two form.leaves plan_one) play_two form.sets_two before.regrets_two after.regrets_two
+
+-- so a run begins, and so each round follows from the one before it, the first and every later one
+pub record RoundsFollow : Type 0 where
+  pub begins : (form : SequenceForm) (root : ℕ) → IsOpening form (rounds form root 0)
+  pub goes_on : (form : SequenceForm) (root n : ℕ) → AreInOrder form.sets_one → AreInOrder form.sets_two → 1 ≤ root
+      → IsNextRound form root (rounds form root n) (rounds form root (n + 1))
 
 -- after some rounds the sums of the plans are plans of the root times the number of rounds
 pub record AreSumsOfPlans (form : SequenceForm) (root n : ℕ) : Type 0 where

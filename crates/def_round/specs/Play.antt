@@ -22,6 +22,10 @@ regret_of regrets s = slice_index_or regrets s (pos 0)
 abbrev pub IsSequenceOf : PlacedSet → ℕ → Type 0
 IsSequenceOf h s = (h.first ≤ s) × (s < h.first + h.actions)
 
+-- the sum of the positive parts of a set's regrets
+abbrev pub regret_sum : List ℤ → PlacedSet → ℕ
+regret_sum regrets h = nat_sum_over (λ s. positive_part (regret_of regrets s)) (sequences_of h)
+
 -- what a set's actions get of all units
 abbrev pub set_play : List ℤ → PlacedSet → List ℕ
 set_play regrets h = shares units (map (λ s. positive_part (regret_of regrets s)) (sequences_of h))

@@ -4,7 +4,7 @@ use Rattle.def_sums.specs.Sum.{nat_sum_over}
 use Rattle.def_sums.specs.Limits.{most_mass, most_scale, most_rounds}
 use Rattle.def_plan.specs.Form.{InformationSet, PlacedSet, placed, sequences_of, sequences, SequenceForm}
 use Rattle.def_plan.specs.Payoff.{worth, mass_of}
-use Rattle.def_round.specs.Play.{units, positive_part, regret_of}
+use Rattle.def_round.specs.Play.{units, regret_of, regret_sum}
 use Rattle.def_round.specs.Rounds.{Standing}
 
 -- the sum of the sizes of a player's leaf sums
@@ -31,4 +31,4 @@ pub record IsWithinRunLimits (form : SequenceForm) (root n : ℕ) : Type 0 where
 
 -- all units times the sum of the weights by which a set is played
 abbrev pub dealt_product : List ℤ → PlacedSet → ℕ
-dealt_product regrets h = units * nat_sum_over (λ s. positive_part (regret_of regrets s)) (sequences_of h)
+dealt_product regrets h = units * regret_sum regrets h

@@ -5,7 +5,7 @@ pub mod sizes;
 
 ghost use Rattle.std.specs.Prelude.{◌≡◌, ◌==◌, [], ◌∷◌, pos, negsuc, if◌then◌else◌};
 ghost use Rattle.def_plan.specs.Pennies.{pennies};
-ghost use Rattle.def_round.specs.Laws.{OwnSumsGainWhatIsPaid, PlaysGiveAllUnits, PlaysDealByShares, PlaysDealPlans, PlaysHaveEachSet, PlaysPositiveRegrets, RoundsAreComputed, RoundsSumToPlans, ValuesAreUnique, ValuesOfTheRest, ValuesSolveTheEquations, WorthsNeedLaterSets};
+ghost use Rattle.def_round.specs.Laws.{OwnSumsGainWhatIsPaid, PlansOfPlaysAreUnique, PlaysAreInProportion, PlaysDealByShares, PlaysDealPlans, PlaysGiveAllUnits, PlaysHaveEachSet, PlaysPositiveRegrets, RoundsAreComputed, RoundsFollow, RoundsSumToPlans, SetValuesAreAverages, ValuesAreUnique, ValuesOfTheRest, ValuesSolveTheEquations, WorthsNeedLaterSets};
 ghost use Rattle.def_round.specs.Play.{play_of, plan_of_play};
 ghost use Rattle.def_round.specs.Round.{set_value};
 ghost use Rattle.def_round.specs.Rounds.{rounds};
@@ -26,6 +26,11 @@ pub fn plays_positive_regrets()
     ensures { PlaysPositiveRegrets }
 {}
 
+/// And in proportion to what is regretted.
+pub fn plays_are_in_proportion()
+    ensures { PlaysAreInProportion }
+{}
+
 /// Dealing set after set makes a realisation plan.
 pub fn plays_deal_plans()
     ensures { PlaysDealPlans }
@@ -36,9 +41,19 @@ pub fn plays_deal_by_shares()
     ensures { PlaysDealByShares }
 {}
 
+/// The plan of a play is what these words say of it.
+pub fn plans_of_plays_are_unique()
+    ensures { PlansOfPlaysAreUnique }
+{}
+
 /// The sums of both players, and the zero sum.
 pub fn own_sums_gain_what_is_paid()
     ensures { OwnSumsGainWhatIsPaid }
+{}
+
+/// What a set is worth under a play.
+pub fn set_values_are_averages()
+    ensures { SetValuesAreAverages }
 {}
 
 /// The values that are computed solve a round's equations.
@@ -66,6 +81,11 @@ pub fn rounds_are_computed()
     ensures { RoundsAreComputed }
 {}
 
+/// Each round of a run by the standing before it.
+pub fn rounds_follow()
+    ensures { RoundsFollow }
+{}
+
 /// The sums of the plans, from which the average strategies are read.
 pub fn rounds_sum_to_plans()
     ensures { RoundsSumToPlans }
@@ -74,7 +94,8 @@ pub fn rounds_sum_to_plans()
 /// The first plan over three actions, of which none has a regret.
 pub fn worked_plan()
     ensures play { play_of three_actions (pos 0 ∷ pos 0 ∷ pos 0 ∷ pos 0 ∷ []) ≡ 0 ∷ 21845 ∷ 21845 ∷ 21846 ∷ [] }
-    ensures plan { plan_of_play three_actions (0 ∷ 21845 ∷ 21845 ∷ 21846 ∷ []) 1048576 ≡ 1048576 ∷ 349520 ∷ 349520 ∷ 349536 ∷ [] }
+    ensures plan { plan_of_play three_actions (0 ∷ 21845 ∷ 21845 ∷ 21846 ∷ []) 1048576
+        ≡ 1048576 ∷ 349520 ∷ 349520 ∷ 349536 ∷ [] }
 {}
 
 /// Player one alone moves. In round 1 the leaf sums are 1048576 and 0 and the set's value is 524288, so round 2 plays
@@ -96,5 +117,6 @@ pub fn rounds_of_pennies()
 
 /// A set whose two sequences are worth -1 and 0 is worth -1/2, which is rounded down to -1.
 pub fn worked_set_value()
-    ensures { set_value (0 ∷ 32768 ∷ 32768 ∷ []) (λ s. if s == 1 then negsuc 0 else pos 0) (record { first = 1; before = 0; actions = 2 }) ≡ negsuc 0 }
+    ensures { set_value (0 ∷ 32768 ∷ 32768 ∷ []) (λ s. if s == 1 then negsuc 0 else pos 0) (record { first = 1; before = 0; actions = 2 })
+        ≡ negsuc 0 }
 {}

@@ -29,5 +29,6 @@ pub fn rows_add_amounts()
 
 /// Matching pennies, where player one gives 1 and 2 units to the two actions, and player two 0 and 1.
 pub fn rows_of_pennies()
-    ensures { rows pennies (3 ∷ 1 ∷ 2 ∷ []) (1 ∷ 0 ∷ 1 ∷ []) ≡ pos 0 ∷ negsuc 0 ∷ pos 1 ∷ pos 0 ∷ negsuc 0 ∷ pos 1 ∷ [] }
+    ensures { rows pennies (3 ∷ 1 ∷ 2 ∷ []) (1 ∷ 0 ∷ 1 ∷ [])
+        ≡ pos 0 ∷ negsuc 0 ∷ pos 1 ∷ pos 0 ∷ negsuc 0 ∷ pos 1 ∷ [] }
 {}

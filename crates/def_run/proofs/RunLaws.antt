@@ -9,7 +9,7 @@ use Rattle.def_reply.proofs.BoundLaws.{best_bounds, floors_below}
 use Rattle.def_round.specs.Rounds.{rounds}
 use Rattle.def_round.proofs.Sums.{rounds_sum_to_plans}
 use Rattle.def_bracket.specs.Bracket.{Evaluation, BracketEnds, ends_of, evaluated_rounds}
-use Rattle.def_bracket.specs.Laws.{AreAfterRounds}
+use Rattle.def_bracket.specs.Laws.{HaveDivisors, DivideByRounds}
 use Rattle.def_bracket.proofs.BestEnds.{best_ends}
 use Rattle.def_bracket.proofs.EvaluatedRounds.{rounds as rounds_evaluated}
 use Rattle.def_run.specs.Run.{evaluation, evaluations}
@@ -37,15 +37,18 @@ get_or_map form root [] k d below = absurd (omega arith)
 get_or_map form root (x ∷ ks) zero d below = refl
 get_or_map form root (x ∷ ks) (suc k) d below = get_or_map form root ks k d (omega arith)
 
--- each evaluation of a run is after a round
-pub rounds_of : (form : SequenceForm) (root every last : ℕ) → AreAfterRounds (evaluations form root every last)
+-- each evaluation of a run is divided by its round
+pub rounds_of : (form : SequenceForm) (root every last : ℕ) → DivideByRounds (evaluations form root every last)
 rounds_of form root every last k d below =
     let ks : List ℕ = evaluated_rounds every last in
     let in_range : k < length ks = omega (arith, length_evaluations form root ks, below) in
     let at : get_or (evaluations form root every last) k d ≡ evaluation form root (get_or ks k 0) = get_or_map form root ks k d in_range in
     let is : Contains ks (get_or ks k 0) = Contains-get_or ks k 0 in_range in
     let first : 1 ≤ get_or ks k 0 = ((rounds_evaluated.which every last (get_or ks k 0)).0 is).0 in
-    subst (λ (e : Evaluation). 1 ≤ e.round) (sym at) first
+    subst (λ (e : Evaluation). (1 ≤ e.round) × (e.divisor ≡ e.round)) (sym at) (first, refl)
+
+divisors_of : (form : SequenceForm) (root every last : ℕ) → HaveDivisors (evaluations form root every last)
+divisors_of form root every last k d below = let r = rounds_of form root every last k d below in omega (arith, r.0, r.1)
 
 of_its_round : (form : SequenceForm) (root every last : ℕ) (place : ℕ) (end : Evaluation) → place < length (evaluations form root every last) → ((d : Evaluation) → get_or (evaluations form root every last) place d ≡ end) → IsOfItsRound form root every last end
 of_its_round form root every last place end within stands =
@@ -64,7 +67,7 @@ of_its_round form root every last place end within stands =
 
 pub ends_are_of_their_rounds : EndsAreOfTheirRounds
 ends_are_of_their_rounds form root every last ends are =
-    let after = rounds_of form root every last in
+    let after = divisors_of form root every last in
     let lower = best_ends.lower (evaluations form root every last) ends after are in
     let upper = best_ends.upper (evaluations form root every last) ends after are in
     record {

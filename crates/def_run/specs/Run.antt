@@ -20,6 +20,7 @@ total_against form player plan = total (leaf_sum player form.leaves plan) (playe
 abbrev pub evaluation_of : SequenceForm → ℕ → Standing → Evaluation
 evaluation_of form round standing = record {
   round = round;
+  divisor = round;
   low = total_against form Two standing.sum_one;
   high = total_against form One standing.sum_two;
 }

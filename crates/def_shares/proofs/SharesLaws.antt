@@ -116,7 +116,8 @@ deal_all n weights some = record { one_each = length-shares n weights; whole = s
 pub in_proportion : SharesAreInProportion
 in_proportion n weights i below = within n (weights_or_ones weights) (some_weight weights (omega arith)) i (omega (arith, length-weights_or_ones weights))
 
-own_weights : (weights : List ℕ) → 1 ≤ weight_sum weights → weights_or_ones weights ≡ weights
+-- weights of which one is not 0 are dealt as they are
+pub own_weights : (weights : List ℕ) → 1 ≤ weight_sum weights → weights_or_ones weights ≡ weights
 own_weights weights some = by_sum (eqb (weight_sum weights) 0) refl
   where
     by_sum : (none : Bool) → eqb (weight_sum weights) 0 ≡ none → cond none (replicate (length weights) 1) weights ≡ weights

@@ -1,0 +1,5 @@
+use Rattle.def_round.proofs.Following.{rounds_follow}
+use Rattle.def_round.proofs.rounds_follow.Goals as goal
+
+pub returns : goal.returns
+returns c = rounds_follow
