@@ -12,14 +12,14 @@ use Rattle.def_fraction.specs.Fraction.{Fraction, fraction_of}
 use Rattle.def_plan.specs.Form.{InformationSet, AreInOrder, SequenceForm, player_sets}
 use Rattle.def_plan.specs.Plan.{IsPlan}
 use Rattle.def_plan.specs.Payoff.{leaf_sum}
-use Rattle.def_reply.specs.Reply.{best_reply}
+use Rattle.def_reply.specs.Reply.{Reply, best_reply}
 use Rattle.def_reply.proofs.Optimal.{best-tight}
 use Rattle.def_round.specs.Rounds.{rounds}
 use Rattle.def_bracket.specs.Bracket.{Evaluation, BracketEnds, ends_of, TraceLine, trace_line, trace, LiesWithin}
 use Rattle.def_bracket.proofs.TraceLines.{trace_lines, never_widens}
 use Rattle.def_run.specs.Run.{reply_to, total_against, evaluation, evaluations}
 use Rattle.def_run.proofs.RunLaws.{evaluations_are_bounds, ends_are_of_their_rounds, rounds_of}
-use Rattle.def_cert_verdict.specs.Certificate.{PrintedPlan, PrintedReply, PrintedBounds, Certificate, joined, numbers_of, no_line, last_line}
+use Rattle.def_cert_verdict.specs.Certificate.{PrintedPlan, PrintedBounds, Certificate, joined, numbers_of, no_line, last_line}
 use Rattle.def_cert_verdict.specs.Verdict.{WeighedGame, Verdict, head_only, bracket, verdict}
 use Rattle.def_cert_verdict.specs.Laws.{IsHeadOf, HoldsAsPlan, HoldsAsTotal, HoldsAsReply, HoldsUp, NeverWidens}
 use Rattle.def_cert_verdict.proofs.Decided.{exact}

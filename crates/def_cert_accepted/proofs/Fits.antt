@@ -19,7 +19,7 @@ use Rattle.def_plan.specs.Form.{InformationSet, PlacedSet, placed_from, placed, 
 use Rattle.def_plan.specs.Plan.{IsPlan}
 use Rattle.def_plan.specs.Payoff.{leaf_sum, worth, mass_of}
 use Rattle.def_plan.proofs.SizeLaws.{plan-below_root, leaf_sums-below}
-use Rattle.def_reply.specs.Reply.{SetReply, values_of, best_reply, IsTight}
+use Rattle.def_reply.specs.Reply.{Reply, SetReply, values_of, best_reply, IsTight}
 use Rattle.def_reply.proofs.Optimal.{best-tight}
 use Rattle.def_reply.proofs.ReplySizes.{values-below, total-below}
 use Rattle.def_round.specs.Rounds.{rounds}
@@ -30,7 +30,7 @@ use Rattle.def_bracket.proofs.BestEnds.{best_ends}
 use Rattle.def_bracket.proofs.TraceLines.{trace_lines}
 use Rattle.def_run.specs.Run.{reply_to, total_against, evaluation, evaluations}
 use Rattle.def_run.proofs.RunLaws.{evaluations_are_bounds, ends_are_of_their_rounds, rounds_of, runs_have_ends}
-use Rattle.def_cert_verdict.specs.Certificate.{PrintedPlan, PrintedReply, PrintedBounds, Certificate}
+use Rattle.def_cert_verdict.specs.Certificate.{PrintedPlan, PrintedBounds, Certificate}
 use Rattle.def_cert_verdict.specs.Verdict.{WeighedGame}
 use Rattle.def_cert_ranges.specs.Ranges.{IsFromTo, most_actions, most_unit, most_printed, IsPrintable, HeadFits, LineFits, TraceFits, WeightsFit, PlanFits, ReplyFits, BoundFits, BoundsFit, CertificateFits, FitsBelowHead}
 use Rattle.def_cert_accepted.specs.Laws.{TheCertificateOfARunFits}

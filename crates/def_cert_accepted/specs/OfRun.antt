@@ -8,9 +8,11 @@ use Rattle.def_fraction.specs.Fraction.{Fraction, fraction_of}
 use Rattle.def_plan.specs.Form.{InformationSet, sequence_count, SequenceForm}
 use Rattle.def_plan.specs.Payoff.{mass_of}
 use Rattle.def_round.specs.Rounds.{rounds}
+use Rattle.def_reply.specs.Reply.{Reply}
 use Rattle.def_bracket.specs.Bracket.{BracketEnds, ends_of, trace}
 use Rattle.def_run.specs.Run.{reply_to, total_against, evaluations}
-use Rattle.def_cert_verdict.specs.Certificate.{Head, PrintedPlan, PrintedReply, PrintedBounds, Certificate}
+use Rattle.def_bracket.specs.Outcome.{Head}
+use Rattle.def_cert_verdict.specs.Certificate.{PrintedPlan, PrintedBounds, Certificate}
 use Rattle.def_cert_verdict.specs.Verdict.{WeighedGame}
 
 -- the numbers of the sequences that end at sets, set by set
@@ -22,8 +24,8 @@ abbrev pub printed_plan : List InformationSet → List ℕ → PrintedPlan
 printed_plan sets plan = record { root = slice_index plan 0; weights = by_sets sets (drop 1 plan) }
 
 -- the best reply of a player to a plan of the other
-abbrev pub printed_reply : SequenceForm → Player → List ℕ → PrintedReply
-printed_reply form player plan = record { total = total_against form player plan; replies = reply_to form player plan }
+abbrev pub printed_reply : SequenceForm → Player → List ℕ → Reply
+printed_reply form player plan = record { total = total_against form player plan; sets = reply_to form player plan }
 
 -- a bound in payoff units: the total of the reply to a plan over the unit times the plan's root
 abbrev pub printed_bound : WeighedGame → Player → List ℕ → Fraction

@@ -10,9 +10,10 @@ use Rattle.def_sums.proofs.RingLaws.{unsigned_abs-+ℤ}
 use Rattle.def_sums.proofs.SumLaws.{sum_over-filter, nat_sum_over-bounded, nat_sum_over-mono, nat_sum_over-factor, unsigned_abs-sum_over}
 use Rattle.def_plan.specs.Form.{InformationSet, PlacedSet, placed, Leaf, leaf_sequence}
 use Rattle.def_plan.specs.Payoff.{leaf_sum, values_after, worth, mass_of}
-use Rattle.def_reply.specs.Reply.{SetReply, values_of}
+use Rattle.def_reply.specs.Reply.{Reply, SetReply, values_of}
 use Rattle.def_bracket.specs.Bracket.{TraceLine}
-use Rattle.def_cert_verdict.specs.Certificate.{Head, PrintedPlan, PrintedReply, PrintedBounds, Certificate, joined, numbers_of}
+use Rattle.def_bracket.specs.Outcome.{Head}
+use Rattle.def_cert_verdict.specs.Certificate.{PrintedPlan, PrintedBounds, Certificate, joined, numbers_of}
 use Rattle.def_cert_verdict.specs.Verdict.{WeighedGame, Verdict, head_only, bracket, verdict}
 use Rattle.def_cert_verdict.specs.Laws.{with_bounds, without_bounds}
 use Rattle.def_cert_verdict.proofs.Decided.{exact}
@@ -94,9 +95,9 @@ all_leaves player leaves xs small light =
     nat_sum_over-factor (2 ^ 36) (λ (z : Leaf). unsigned_abs z.weight) leaves,
     times (mass_of leaves) (2 ^ 36) (2 ^ 62) (2 ^ 36) light (omega arith))
 
-all_values : (sets : ℕ) (reply : PrintedReply) → sets ≤ 2 ^ 20 → ReplyFits sets reply → nat_sum_over (λ r. unsigned_abs r.value) reply.replies ≤ 2 ^ 120
+all_values : (sets : ℕ) (reply : Reply) → sets ≤ 2 ^ 20 → ReplyFits sets reply → nat_sum_over (λ r. unsigned_abs r.value) reply.sets ≤ 2 ^ 120
 all_values sets reply few fits =
-    omega (arith, nat_sum_over-bounded (λ r. unsigned_abs r.value) (2 ^ 100) reply.replies fits.values, times (length reply.replies) (2 ^ 100) (2 ^ 20) (2 ^ 100) (omega (arith, fits.count)) (omega arith))
+    omega (arith, nat_sum_over-bounded (λ r. unsigned_abs r.value) (2 ^ 100) reply.sets fits.values, times (length reply.sets) (2 ^ 100) (2 ^ 20) (2 ^ 100) (omega (arith, fits.count)) (omega arith))
 
 pub worths : WorthsAreSmall
 worths player leaves sets plan_sets reply_sets plan reply light fits few fit =
@@ -108,10 +109,10 @@ worths player leaves sets plan_sets reply_sets plan reply light fits few fit =
       leaf_sums = of_leaves;
       values = of_values;
       worths = λ s. omega (arith,
-          unsigned_abs-+ℤ (leaf_sum player leaves xs s) (values_after (placed sets) (values_of reply.replies) s),
+          unsigned_abs-+ℤ (leaf_sum player leaves xs s) (values_after (placed sets) (values_of reply.sets) s),
           some_of (λ z. z.weight *ℤ pos (slice_index xs (leaf_sequence (opponent player) z))) (λ z. eqb (leaf_sequence player z) s) leaves,
-          some_of (λ (p : PlacedSet × ℤ). p.1) (λ (p : PlacedSet × ℤ). eqb p.0.before s) (zip (placed sets) (values_of reply.replies)),
-          zipped (placed sets) reply.replies, of_leaves, of_values);
+          some_of (λ (p : PlacedSet × ℤ). p.1) (λ (p : PlacedSet × ℤ). eqb p.0.before s) (zip (placed sets) (values_of reply.sets)),
+          zipped (placed sets) reply.sets, of_leaves, of_values);
     }
 
 -- ---- the head alone

@@ -6,9 +6,10 @@ use Rattle.def_sums.specs.Limits.{most_mass}
 use Rattle.def_sums.specs.Sum.{nat_sum_over}
 use Rattle.def_plan.specs.Form.{InformationSet, placed, Leaf, leaf_sequence}
 use Rattle.def_plan.specs.Payoff.{leaf_sum, worth, mass_of}
-use Rattle.def_reply.specs.Reply.{values_of}
+use Rattle.def_reply.specs.Reply.{Reply, values_of}
 use Rattle.def_bracket.specs.Bracket.{TraceLine}
-use Rattle.def_cert_verdict.specs.Certificate.{Head, PrintedPlan, PrintedReply, Certificate, numbers_of}
+use Rattle.def_bracket.specs.Outcome.{Head}
+use Rattle.def_cert_verdict.specs.Certificate.{PrintedPlan, Certificate, numbers_of}
 use Rattle.def_cert_verdict.specs.Verdict.{WeighedGame, Verdict, head_only, verdict}
 use Rattle.def_cert_ranges.specs.Ranges.{TraceFits, PlanFits, ReplyFits, CertificateFits, most_unit, most_entries, HeadFits}
 
@@ -35,11 +36,11 @@ abbrev pub PlanSumsAreSmall : Type 0
 PlanSumsAreSmall = (unit sets : ℕ) (plan : PrintedPlan) → unit ≤ most_unit → PlanFits sets plan → SumsOfPlan unit plan
 
 -- all leaves' products with a printed plan together, all printed values together, and so each part of each worth
-pub record SumsOfReply (player : Player) (leaves : List Leaf) (sets : List InformationSet) (plan : PrintedPlan) (reply : PrintedReply) : Type 0 where
+pub record SumsOfReply (player : Player) (leaves : List Leaf) (sets : List InformationSet) (plan : PrintedPlan) (reply : Reply) : Type 0 where
   pub leaf_sums : nat_sum_over (λ z. unsigned_abs (z.weight *ℤ pos (slice_index (numbers_of plan) (leaf_sequence (opponent player) z)))) leaves ≤ 2 ^ 98
-  pub values : nat_sum_over (λ r. unsigned_abs r.value) reply.replies ≤ 2 ^ 120
-  pub worths : (s : ℕ) → unsigned_abs (worth (leaf_sum player leaves (numbers_of plan)) (placed sets) (values_of reply.replies) s) ≤ 2 ^ 121
+  pub values : nat_sum_over (λ r. unsigned_abs r.value) reply.sets ≤ 2 ^ 120
+  pub worths : (s : ℕ) → unsigned_abs (worth (leaf_sum player leaves (numbers_of plan)) (placed sets) (values_of reply.sets) s) ≤ 2 ^ 121
 
 abbrev pub WorthsAreSmall : Type 0
-WorthsAreSmall = (player : Player) (leaves : List Leaf) (sets : List InformationSet) (plan_sets reply_sets : ℕ) (plan : PrintedPlan) (reply : PrintedReply)
+WorthsAreSmall = (player : Player) (leaves : List Leaf) (sets : List InformationSet) (plan_sets reply_sets : ℕ) (plan : PrintedPlan) (reply : Reply)
     → mass_of leaves ≤ most_mass → PlanFits plan_sets plan → reply_sets ≤ most_entries → ReplyFits reply_sets reply → SumsOfReply player leaves sets plan reply

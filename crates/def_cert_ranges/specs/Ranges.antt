@@ -2,8 +2,10 @@
 use Rattle.std.specs.Prelude.{◌≡◌, ℕ, ◌+◌, ◌-◌, ◌*◌, ◌/◌, ◌^◌, ◌≤◌, ◌<◌, min, List, length, slice_index_or, All, ℤ, unsigned_abs, Option, Some, None}
 use Rattle.def_fraction.specs.Fraction.{Fraction, IsInLowestTerms}
 use Rattle.def_sums.specs.Limits.{most_mass, most_rounds, most_scale, most_root}
+use Rattle.def_reply.specs.Reply.{Reply}
 use Rattle.def_bracket.specs.Bracket.{TraceLine}
-use Rattle.def_cert_verdict.specs.Certificate.{Head, PrintedPlan, PrintedReply, PrintedBounds, Certificate}
+use Rattle.def_bracket.specs.Outcome.{Head}
+use Rattle.def_cert_verdict.specs.Certificate.{PrintedPlan, PrintedBounds, Certificate}
 
 abbrev pub IsFromTo : ℕ → ℕ → ℕ → Type 0
 IsFromTo low high n = (low ≤ n) × (n ≤ high)
@@ -63,11 +65,11 @@ pub record PlanFits (sets : ℕ) (plan : PrintedPlan) : Type 0 where
   pub count : length plan.weights ≡ sets
   pub each : All WeightsFit plan.weights
 
-pub record ReplyFits (sets : ℕ) (reply : PrintedReply) : Type 0 where
+pub record ReplyFits (sets : ℕ) (reply : Reply) : Type 0 where
   pub total : IsPrintable reply.total
-  pub count : length reply.replies ≡ sets
-  pub values : All (λ r. IsPrintable r.value) reply.replies
-  pub choices : All (λ r. IsFromTo 1 most_actions r.choice) reply.replies
+  pub count : length reply.sets ≡ sets
+  pub values : All (λ r. IsPrintable r.value) reply.sets
+  pub choices : All (λ r. IsFromTo 1 most_actions r.choice) reply.sets
 
 -- a fraction in lowest terms
 pub record BoundFits (bound : Fraction) : Type 0 where

@@ -1,9 +1,9 @@
 -- Certificates with some fields changed, each by the line that it stands in. Sets and trace lines count from 1.
 use Rattle.std.specs.Prelude.{ℕ, ◌-◌, List, [], ◌∷◌, ℤ, pos, neg_ℤ, slice_set}
 use Rattle.def_fraction.specs.Fraction.{Fraction}
-use Rattle.def_reply.specs.Reply.{SetReply}
+use Rattle.def_reply.specs.Reply.{Reply, SetReply}
 use Rattle.def_bracket.specs.Bracket.{TraceLine}
-use Rattle.def_cert_verdict.specs.Certificate.{PrintedPlan, PrintedReply, PrintedBounds}
+use Rattle.def_cert_verdict.specs.Certificate.{PrintedPlan, PrintedBounds}
 
 abbrev pub negative : ℕ → ℤ
 negative n = neg_ℤ (pos n)
@@ -33,8 +33,8 @@ pub data Change : Type 0 where
 abbrev with_weights : ℕ → List ℕ → PrintedPlan → PrintedPlan
 with_weights set ws plan = record plan { weights = slice_set plan.weights (set - 1) ws }
 
-abbrev with_value : ℕ → ℤ → ℕ → PrintedReply → PrintedReply
-with_value set value choice reply = record reply { replies = slice_set reply.replies (set - 1) (said value choice) }
+abbrev with_value : ℕ → ℤ → ℕ → Reply → Reply
+with_value set value choice reply = record reply { sets = slice_set reply.sets (set - 1) (said value choice) }
 
 abbrev pub with_change : Change → PrintedBounds → PrintedBounds
 with_change (line k row) b = record b { trace = slice_set b.trace (k - 1) row }

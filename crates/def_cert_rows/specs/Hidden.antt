@@ -1,8 +1,9 @@
 -- The certificate of four rounds with scale 10 of the small game with sets one below the other.
 use Rattle.std.specs.Prelude.{ℕ, List, [], ◌∷◌, pos, Result}
 use Rattle.def_examples.specs.Hidden.{hidden}
+use Rattle.def_bracket.specs.Outcome.{Head}
 use Rattle.def_cert_verdict.specs.declared.fault.TestFault.{TestFault}
-use Rattle.def_cert_verdict.specs.Certificate.{Head, PrintedBounds}
+use Rattle.def_cert_verdict.specs.Certificate.{PrintedBounds}
 use Rattle.def_cert_verdict.specs.Verdict.{WeighedGame, Verdict, verdict}
 use Rattle.def_cert_verdict.specs.Laws.{with_bounds}
 use Rattle.def_cert_rows.specs.Changes.{Change, changed, negative, over, said, traced}
@@ -29,9 +30,9 @@ abbrev pub hidden_bounds : PrintedBounds
 hidden_bounds = record {
   trace = traced 1 1 (negative 26) 1 (pos 7) ∷ traced 2 1 (negative 26) 2 (pos 8) ∷ traced 3 3 (negative 66) 2 (pos 8) ∷ traced 4 3 (negative 66) 2 (pos 8) ∷ [];
   plan_one = record { root = 30; weights = (12 ∷ 6 ∷ 12 ∷ []) ∷ (1 ∷ 11 ∷ []) ∷ (1 ∷ 5 ∷ []) ∷ [] };
-  reply_two = record { total = negative 66; replies = said (negative 66) 1 ∷ said (negative 36) 2 ∷ said (negative 30) 1 ∷ [] };
+  reply_two = record { total = negative 66; sets = said (negative 66) 1 ∷ said (negative 36) 2 ∷ said (negative 30) 1 ∷ [] };
   plan_two = record { root = 20; weights = (3 ∷ 3 ∷ 14 ∷ []) ∷ (1 ∷ 2 ∷ []) ∷ (1 ∷ 2 ∷ []) ∷ [] };
-  reply_one = record { total = pos 8; replies = said (pos 8) 3 ∷ said (negative 6) 2 ∷ said (negative 2) 2 ∷ [] };
+  reply_one = record { total = pos 8; sets = said (pos 8) 3 ∷ said (negative 6) 2 ∷ said (negative 2) 2 ∷ [] };
   low = over (negative 11) 15;
   high = over (pos 2) 15;
 }

@@ -1,8 +1,9 @@
 -- The certificate of one round of Kuhn poker with scale 2 ^ 20.
 use Rattle.std.specs.Prelude.{ℕ, List, [], ◌∷◌, pos, Result}
 use Rattle.def_examples.specs.Kuhn.{kuhn}
+use Rattle.def_bracket.specs.Outcome.{Head}
 use Rattle.def_cert_verdict.specs.declared.fault.TestFault.{TestFault}
-use Rattle.def_cert_verdict.specs.Certificate.{Head, PrintedBounds}
+use Rattle.def_cert_verdict.specs.Certificate.{PrintedBounds}
 use Rattle.def_cert_verdict.specs.Verdict.{WeighedGame, Verdict, verdict}
 use Rattle.def_cert_verdict.specs.Laws.{with_bounds}
 use Rattle.def_cert_rows.specs.Changes.{Change, changed, negative, over, said, traced}
@@ -37,12 +38,12 @@ kuhn_bounds = record {
   plan_one = record { root = 1048576; weights = halves ∷ quarters ∷ halves ∷ quarters ∷ halves ∷ quarters ∷ [] };
   reply_two = record {
     total = negative 2621440;
-    replies = said (negative 524288) 2 ∷ said (pos 0) 2 ∷ said (negative 1572864) 2 ∷ said (negative 2097152) 2 ∷ said (pos 524288) 2 ∷ said (pos 1048576) 1 ∷ [];
+    sets = said (negative 524288) 2 ∷ said (pos 0) 2 ∷ said (negative 1572864) 2 ∷ said (negative 2097152) 2 ∷ said (pos 524288) 2 ∷ said (pos 1048576) 1 ∷ [];
   };
   plan_two = record { root = 1048576; weights = halves ∷ halves ∷ halves ∷ halves ∷ halves ∷ halves ∷ [] };
   reply_one = record {
     total = pos 3145728;
-    replies = said (negative 1048576) 2 ∷ said (negative 1048576) 1 ∷ said (pos 1048576) 2 ∷ said (pos 0) 2 ∷ said (pos 3145728) 1 ∷ said (pos 2097152) 2 ∷ [];
+    sets = said (negative 1048576) 2 ∷ said (negative 1048576) 1 ∷ said (pos 1048576) 2 ∷ said (pos 0) 2 ∷ said (pos 3145728) 1 ∷ said (pos 2097152) 2 ∷ [];
   };
   low = over (negative 5) 12;
   high = over (pos 1) 2;

@@ -1,8 +1,9 @@
 -- The certificate of two rounds of a game in which player two has no set.
 use Rattle.std.specs.Prelude.{ℕ, List, [], ◌∷◌, pos, Result}
 use Rattle.def_round.specs.Games.{one_mover}
+use Rattle.def_bracket.specs.Outcome.{Head}
 use Rattle.def_cert_verdict.specs.declared.fault.TestFault.{TestFault}
-use Rattle.def_cert_verdict.specs.Certificate.{Head, PrintedBounds}
+use Rattle.def_cert_verdict.specs.Certificate.{PrintedBounds}
 use Rattle.def_cert_verdict.specs.Verdict.{WeighedGame, Verdict, verdict}
 use Rattle.def_cert_verdict.specs.Laws.{with_bounds}
 use Rattle.def_cert_rows.specs.Changes.{Change, changed, over, said, traced}
@@ -29,9 +30,9 @@ abbrev pub one_mover_bounds : PrintedBounds
 one_mover_bounds = record {
   trace = traced 1 1 (pos 524288) 1 (pos 1048576) ∷ traced 2 2 (pos 1572864) 1 (pos 1048576) ∷ [];
   plan_one = record { root = 2097152; weights = (1572864 ∷ 524288 ∷ []) ∷ [] };
-  reply_two = record { total = pos 1572864; replies = [] };
+  reply_two = record { total = pos 1572864; sets = [] };
   plan_two = record { root = 1048576; weights = [] };
-  reply_one = record { total = pos 1048576; replies = said (pos 1048576) 1 ∷ [] };
+  reply_one = record { total = pos 1048576; sets = said (pos 1048576) 1 ∷ [] };
   low = over (pos 3) 4;
   high = over (pos 1) 1;
 }

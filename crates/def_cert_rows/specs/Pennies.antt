@@ -1,8 +1,9 @@
 -- The certificate of one round of matching pennies.
 use Rattle.std.specs.Prelude.{ℕ, List, [], ◌∷◌, pos, Result}
 use Rattle.def_plan.specs.Pennies.{pennies}
+use Rattle.def_bracket.specs.Outcome.{Head}
 use Rattle.def_cert_verdict.specs.declared.fault.TestFault.{TestFault}
-use Rattle.def_cert_verdict.specs.Certificate.{Head, PrintedBounds}
+use Rattle.def_cert_verdict.specs.Certificate.{PrintedBounds}
 use Rattle.def_cert_verdict.specs.Verdict.{WeighedGame, Verdict, verdict}
 use Rattle.def_cert_verdict.specs.Laws.{with_bounds}
 use Rattle.def_cert_rows.specs.Changes.{Change, changed, negative, over, said, traced}
@@ -29,9 +30,9 @@ abbrev pub pennies_bounds : PrintedBounds
 pennies_bounds = record {
   trace = traced 1 1 (pos 0) 1 (pos 0) ∷ [];
   plan_one = record { root = 1048576; weights = (524288 ∷ 524288 ∷ []) ∷ [] };
-  reply_two = record { total = pos 0; replies = said (pos 0) 1 ∷ [] };
+  reply_two = record { total = pos 0; sets = said (pos 0) 1 ∷ [] };
   plan_two = record { root = 1048576; weights = (524288 ∷ 524288 ∷ []) ∷ [] };
-  reply_one = record { total = pos 0; replies = said (pos 0) 1 ∷ [] };
+  reply_one = record { total = pos 0; sets = said (pos 0) 1 ∷ [] };
   low = over (pos 0) 1;
   high = over (pos 0) 1;
 }
@@ -51,9 +52,9 @@ abbrev pub scale_one_bounds : PrintedBounds
 scale_one_bounds = record {
   trace = traced 1 1 (negative 1) 1 (pos 1) ∷ traced 2 1 (negative 1) 2 (pos 0) ∷ [];
   plan_one = record { root = 1; weights = (0 ∷ 1 ∷ []) ∷ [] };
-  reply_two = record { total = negative 1; replies = said (negative 1) 1 ∷ [] };
+  reply_two = record { total = negative 1; sets = said (negative 1) 1 ∷ [] };
   plan_two = record { root = 2; weights = (1 ∷ 1 ∷ []) ∷ [] };
-  reply_one = record { total = pos 0; replies = said (pos 0) 1 ∷ [] };
+  reply_one = record { total = pos 0; sets = said (pos 0) 1 ∷ [] };
   low = over (negative 1) 1;
   high = over (pos 0) 1;
 }

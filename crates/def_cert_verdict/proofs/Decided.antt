@@ -5,8 +5,9 @@ use Rattle.std.proofs.lemmas.Option.{none-some}
 use Rattle.def_tree.specs.declared.Player.TheVariants.{One, Two}
 use Rattle.def_fraction.specs.Fraction.{Fraction}
 use Rattle.def_plan.specs.Payoff.{leaf_sum}
+use Rattle.def_bracket.specs.Outcome.{Head}
 use Rattle.def_cert_verdict.specs.declared.fault.TestFault.{TestFault}
-use Rattle.def_cert_verdict.specs.Certificate.{Head, PrintedBounds, Certificate, numbers_of, last_line}
+use Rattle.def_cert_verdict.specs.Certificate.{PrintedBounds, Certificate, numbers_of, last_line}
 use Rattle.def_cert_verdict.specs.Verdict.{WeighedGame, Verdict, head_only, bracket, first_of, head_tests, plan_tests, whole_reply_tests, trace_tests, first_trace_line, bounds_tests, tests_below_head, tests, shown_by, judged, verdict}
 use Rattle.def_cert_verdict.specs.Laws.{IsHeadOf, HoldsUp, AcceptanceIsExact, with_bounds, without_bounds}
 use Rattle.def_cert_verdict.specs.FaultCauses.{HeadFault, BoundsFault, FaultBelowHead, EachFaultHasItsCause}

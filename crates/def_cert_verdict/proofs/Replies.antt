@@ -15,11 +15,11 @@ use Rattle.def_sums.proofs.Ranges.{All-range, range-All}
 use Rattle.def_plan.specs.Form.{InformationSet, PlacedSet, placed, sequences_of}
 use Rattle.def_plan.specs.Plan.{chosen}
 use Rattle.def_plan.specs.Payoff.{worth, IsNoBetter}
-use Rattle.def_reply.specs.Reply.{SetReply, values_of, total, IsTight, AreTight}
+use Rattle.def_reply.specs.Reply.{Reply, SetReply, values_of, total, IsTight, AreTight}
 use Rattle.def_cert_verdict.specs.declared.fault.TestFault.{TestFault}
 use Rattle.def_cert_verdict.specs.declared.fault.TestFault.TheVariants.{HeadDiffers, NotAPlan, ValueTooGood, ReplyNotTight, TotalDiffers, TraceWidens}
-use Rattle.def_cert_verdict.specs.Certificate.{PrintedReply}
-use Rattle.def_cert_verdict.specs.Verdict.{first_of, unless, is_better, action_test, set_tests, reply_tests, is_same_fraction, end_of, total_test, whole_reply_tests}
+
+use Rattle.def_cert_verdict.specs.Verdict.{first_of, unless, is_better, action_test, set_tests, reply_tests, is_same_fraction, end_shown_by, total_test, whole_reply_tests}
 use Rattle.def_cert_verdict.specs.Laws.{HoldsAsTotal, HoldsAsReply}
 use Rattle.def_cert_verdict.specs.FaultCauses.{IsFirstNot, NoActionBetterAt, ReachedAt, TightAt, IsTooGood, IsNotReached, SetFault, TotalFault, ReplyFault}
 use Rattle.def_cert_verdict.proofs.Describes.{Describes, Describes-one, Describes-append, Describes-like, Describes-search, Searches, Searches-end, Searches-step, Searches-like, first_if, not_less-Decides}
@@ -274,18 +274,18 @@ same_fraction a b =
     (λ e. (ap (λ (f : Fraction). f.num) e, ap (λ (f : Fraction). f.den) e))
     (Decides-and (int_eq a.num b.num) (eqb a.den b.den) (Decides-int_eq a.num b.num) (Decides-eqb a.den b.den))
 
-total_decided : (sums : ℕ → ℤ) (sets : List InformationSet) (reply : PrintedReply) (traced : ℤ) (bound : Fraction) (scale : ℕ)
-    → Decides (int_eq reply.total (total sums sets reply.replies) && (int_eq reply.total traced && is_same_fraction bound (fraction_of reply.total scale)))
+total_decided : (sums : ℕ → ℤ) (sets : List InformationSet) (reply : Reply) (traced : ℤ) (bound : Fraction) (scale : ℕ)
+    → Decides (int_eq reply.total (total sums sets reply.sets) && (int_eq reply.total traced && is_same_fraction bound (fraction_of reply.total scale)))
     (HoldsAsTotal sums sets reply traced bound scale)
 total_decided sums sets reply traced bound scale =
-    Decides-like (int_eq reply.total (total sums sets reply.replies) && (int_eq reply.total traced && is_same_fraction bound (fraction_of reply.total scale)))
+    Decides-like (int_eq reply.total (total sums sets reply.sets) && (int_eq reply.total traced && is_same_fraction bound (fraction_of reply.total scale)))
     (λ p. record { worth_is = p.0; traced_is = p.1.0; bound_is = p.1.1 }) (λ h. (h.worth_is, (h.traced_is, h.bound_is)))
-    (Decides-and (int_eq reply.total (total sums sets reply.replies)) (int_eq reply.total traced && is_same_fraction bound (fraction_of reply.total scale))
-    (Decides-int_eq reply.total (total sums sets reply.replies))
+    (Decides-and (int_eq reply.total (total sums sets reply.sets)) (int_eq reply.total traced && is_same_fraction bound (fraction_of reply.total scale))
+    (Decides-int_eq reply.total (total sums sets reply.sets))
     (Decides-and (int_eq reply.total traced) (is_same_fraction bound (fraction_of reply.total scale)) (Decides-int_eq reply.total traced) (same_fraction bound (fraction_of reply.total scale))))
 
-total_caused : (player : Player) (sums : ℕ → ℤ) (sets : List InformationSet) (reply : PrintedReply) (traced : ℤ) (bound : Fraction) (scale : ℕ) (f : TestFault)
-    → TotalFault player sums sets reply traced bound scale f → (f ≡ TotalDiffers (end_of player)) × (¬ (HoldsAsTotal sums sets reply traced bound scale))
+total_caused : (player : Player) (sums : ℕ → ℤ) (sets : List InformationSet) (reply : Reply) (traced : ℤ) (bound : Fraction) (scale : ℕ) (f : TestFault)
+    → TotalFault player sums sets reply traced bound scale f → (f ≡ TotalDiffers (end_shown_by player)) × (¬ (HoldsAsTotal sums sets reply traced bound scale))
 total_caused player sums sets reply traced bound scale (TotalDiffers end) c = (ap TotalDiffers c.0, c.1)
 total_caused player sums sets reply traced bound scale (HeadDiffers line) c = absurd c
 total_caused player sums sets reply traced bound scale (NotAPlan p set) c = absurd c
@@ -293,20 +293,20 @@ total_caused player sums sets reply traced bound scale (ValueTooGood p set actio
 total_caused player sums sets reply traced bound scale (ReplyNotTight p set) c = absurd c
 total_caused player sums sets reply traced bound scale (TraceWidens line) c = absurd c
 
-total_described : (player : Player) (sums : ℕ → ℤ) (sets : List InformationSet) (reply : PrintedReply) (traced : ℤ) (bound : Fraction) (scale : ℕ)
+total_described : (player : Player) (sums : ℕ → ℤ) (sets : List InformationSet) (reply : Reply) (traced : ℤ) (bound : Fraction) (scale : ℕ)
     → Describes (total_test player sums sets reply traced bound scale ∷ []) (HoldsAsTotal sums sets reply traced bound scale) (TotalFault player sums sets reply traced bound scale)
 total_described player sums sets reply traced bound scale =
     Describes-like (total_test player sums sets reply traced bound scale ∷ []) _ _ _ (TotalFault player sums sets reply traced bound scale)
-    (Describes-one _ (TotalDiffers (end_of player)) (HoldsAsTotal sums sets reply traced bound scale) (total_decided sums sets reply traced bound scale))
+    (Describes-one _ (TotalDiffers (end_shown_by player)) (HoldsAsTotal sums sets reply traced bound scale) (total_decided sums sets reply traced bound scale))
     (λ h. h, λ h. h)
     (λ f. (λ c. subst (TotalFault player sums sets reply traced bound scale) (sym c.0) (refl, c.1), total_caused player sums sets reply traced bound scale f))
 
-pub reply_described : (player : Player) (sums : ℕ → ℤ) (sets : List InformationSet) (reply : PrintedReply) (traced : ℤ) (bound : Fraction) (scale : ℕ)
+pub reply_described : (player : Player) (sums : ℕ → ℤ) (sets : List InformationSet) (reply : Reply) (traced : ℤ) (bound : Fraction) (scale : ℕ)
     → Describes (whole_reply_tests player sums sets reply traced bound scale) (HoldsAsReply player sums sets reply traced bound scale) (ReplyFault player sums sets reply traced bound scale)
 reply_described player sums sets reply traced bound scale =
-    let w : ℕ → ℤ = worth sums (placed sets) (values_of reply.replies) in
+    let w : ℕ → ℤ = worth sums (placed sets) (values_of reply.sets) in
     Describes-like (whole_reply_tests player sums sets reply traced bound scale) _ (HoldsAsReply player sums sets reply traced bound scale) _ (ReplyFault player sums sets reply traced bound scale)
-    (Describes-append (reply_tests player w 1 (placed sets) reply.replies) (total_test player sums sets reply traced bound scale ∷ []) _ _ _ _
-    (sets_described player w 1 (placed sets) reply.replies) (total_described player sums sets reply traced bound scale))
-    (λ p. record { tight = tight_zip player w (placed sets) reply.replies p.0; total_is = p.1 }, λ h. (zip_tight player w (placed sets) reply.replies h.tight, h.total_is))
-    (λ f. (⊎_elim inl (λ c. inr (tight_zip player w (placed sets) reply.replies c.0, c.1)), ⊎_elim inl (λ c. inr (zip_tight player w (placed sets) reply.replies c.0, c.1))))
+    (Describes-append (reply_tests player w 1 (placed sets) reply.sets) (total_test player sums sets reply traced bound scale ∷ []) _ _ _ _
+    (sets_described player w 1 (placed sets) reply.sets) (total_described player sums sets reply traced bound scale))
+    (λ p. record { tight = tight_zip player w (placed sets) reply.sets p.0; total_is = p.1 }, λ h. (zip_tight player w (placed sets) reply.sets h.tight, h.total_is))
+    (λ f. (⊎_elim inl (λ c. inr (tight_zip player w (placed sets) reply.sets c.0, c.1)), ⊎_elim inl (λ c. inr (zip_tight player w (placed sets) reply.sets c.0, c.1))))

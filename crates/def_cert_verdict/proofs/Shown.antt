@@ -11,7 +11,8 @@ use Rattle.def_plan.specs.Payoff.{pay}
 use Rattle.def_reply.specs.Reply.{choices_of}
 use Rattle.def_reply.specs.Bounds.{IsFloor, IsCeiling, AttainsFloor, AttainsCeiling}
 use Rattle.def_reply.proofs.BoundLaws.{tight_bounds}
-use Rattle.def_cert_verdict.specs.Certificate.{Head, PrintedBounds, numbers_of}
+use Rattle.def_bracket.specs.Outcome.{Head}
+use Rattle.def_cert_verdict.specs.Certificate.{PrintedBounds, numbers_of}
 use Rattle.def_cert_verdict.specs.Verdict.{WeighedGame}
 use Rattle.def_cert_verdict.specs.Laws.{HoldsUp, IsTotalOver, GetsAtLeast, ConcedesAtMost, ShowsItsBounds, AcceptedCertificatesShowTheirBounds}
 use Rattle.def_cert_verdict.proofs.Decided.{exact}
@@ -40,8 +41,8 @@ accepted game head b low high order_one order_two some_unit e =
     let y : List ℕ = numbers_of b.plan_two in
     let lower = h.reply_two in
     let upper = h.reply_one in
-    let floor : IsFloor game.form x b.reply_two.total = subst (IsFloor game.form x) (sym lower.total_is.worth_is) (tight_bounds.floor game.form x b.reply_two.replies order_two lower.tight) in
-    let ceiling : IsCeiling game.form y b.reply_one.total = subst (IsCeiling game.form y) (sym upper.total_is.worth_is) (tight_bounds.ceiling game.form y b.reply_one.replies order_one upper.tight) in
+    let floor : IsFloor game.form x b.reply_two.total = subst (IsFloor game.form x) (sym lower.total_is.worth_is) (tight_bounds.floor game.form x b.reply_two.sets order_two lower.tight) in
+    let ceiling : IsCeiling game.form y b.reply_one.total = subst (IsCeiling game.form y) (sym upper.total_is.worth_is) (tight_bounds.ceiling game.form y b.reply_one.sets order_one upper.tight) in
     let at_low = total_over b.low b.reply_two.total (game.unit * b.plan_one.root) (some_scale game.unit b.plan_one.root some_unit h.plan_one.is_plan.some_root) lower.total_is.bound_is in
     let at_high = total_over b.high b.reply_one.total (game.unit * b.plan_two.root) (some_scale game.unit b.plan_two.root some_unit h.plan_two.is_plan.some_root) upper.total_is.bound_is in (
       a.2,
@@ -50,11 +51,11 @@ accepted game head b low high order_one order_two some_unit e =
         plan_one = h.plan_one.is_plan;
         plan_two = h.plan_two.is_plan;
         floor = floor;
-        floor_attained = subst (λ z. AttainsFloor game.form x z (pure_plan game.form.sets_two (choices_of b.reply_two.replies))) (sym lower.total_is.worth_is)
-            (tight_bounds.floor_attained game.form x b.reply_two.replies order_two lower.tight);
+        floor_attained = subst (λ z. AttainsFloor game.form x z (pure_plan game.form.sets_two (choices_of b.reply_two.sets))) (sym lower.total_is.worth_is)
+            (tight_bounds.floor_attained game.form x b.reply_two.sets order_two lower.tight);
         ceiling = ceiling;
-        ceiling_attained = subst (λ z. AttainsCeiling game.form y z (pure_plan game.form.sets_one (choices_of b.reply_one.replies))) (sym upper.total_is.worth_is)
-            (tight_bounds.ceiling_attained game.form y b.reply_one.replies order_one upper.tight);
+        ceiling_attained = subst (λ z. AttainsCeiling game.form y z (pure_plan game.form.sets_one (choices_of b.reply_one.sets))) (sym upper.total_is.worth_is)
+            (tight_bounds.ceiling_attained game.form y b.reply_one.sets order_one upper.tight);
         low = at_low;
         high = at_high;
         gets = λ root plan is. subst (λ (z : ℤ). z ≤ℤ (pay game.form.leaves x plan *ℤ pos b.low.den)) (sym (scaled b.low b.reply_two.total (game.unit * b.plan_one.root) root at_low.value))

@@ -1,44 +1,26 @@
 -- What the text of a certificate says, as numbers.
 use Rattle.std.specs.Prelude.{ℕ, ◌-◌, List, [], ◌∷◌, ◌++◌, length, slice_index_or, ℤ, pos, Option}
 use Rattle.def_fraction.specs.Fraction.{Fraction}
-use Rattle.def_reply.specs.Reply.{SetReply}
+use Rattle.def_reply.specs.Reply.{Reply}
 use Rattle.def_bracket.specs.Bracket.{TraceLine}
-
--- the game's numbers, and what was asked of the run
-pub record Head : Type 0 where
-  pub nodes : ℕ
-  pub leaves : ℕ
-  pub sets_one : ℕ
-  pub sets_two : ℕ
-  pub sequences_one : ℕ
-  pub sequences_two : ℕ
-  pub unit : ℕ
-  pub mass : ℕ
-  pub rounds : ℕ
-  pub every : ℕ
-  pub scale : ℕ
+use Rattle.def_bracket.specs.Outcome.{Head}
 
 -- a plan: its root, and for each set the numbers of its sequences
 pub record PrintedPlan : Type 0 where
   pub root : ℕ
   pub weights : List (List ℕ)
 
--- a reply: its total, and for each set the value and the choice
-pub record PrintedReply : Type 0 where
-  pub total : ℤ
-  pub replies : List SetReply
-
--- the trace, each player's plan with the other player's reply to it, and the last bracket in payoff units
+-- the trace, both plans with the other player's reply to each, and the last bracket in payoff units
 pub record PrintedBounds : Type 0 where
   pub trace : List TraceLine
   pub plan_one : PrintedPlan
-  pub reply_two : PrintedReply
+  pub reply_two : Reply
   pub plan_two : PrintedPlan
-  pub reply_one : PrintedReply
+  pub reply_one : Reply
   pub low : Fraction
   pub high : Fraction
 
--- the bounds are there where at least one round was asked
+-- the head, and the bounds where at least one round was asked
 pub record Certificate : Type 0 where
   pub head : Head
   pub bounds : Option PrintedBounds

@@ -7,12 +7,13 @@ use Rattle.def_fraction.specs.Fraction.{Fraction}
 use Rattle.def_plan.specs.Form.{InformationSet, PlacedSet, placed, sequence_count, sequences_of}
 use Rattle.def_plan.specs.Plan.{AddsUp, chosen}
 use Rattle.def_plan.specs.Payoff.{leaf_sum, worth, mass_of, IsNoBetter}
-use Rattle.def_reply.specs.Reply.{SetReply, values_of, AreTight, IsTight}
+use Rattle.def_reply.specs.Reply.{Reply, SetReply, values_of, AreTight, IsTight}
 use Rattle.def_bracket.specs.Bracket.{TraceLine, LiesWithin}
+use Rattle.def_bracket.specs.Outcome.{Head}
 use Rattle.def_cert_verdict.specs.declared.fault.TestFault.{TestFault}
 use Rattle.def_cert_verdict.specs.declared.fault.TestFault.TheVariants.{HeadDiffers, NotAPlan, ValueTooGood, ReplyNotTight, TotalDiffers, TraceWidens}
-use Rattle.def_cert_verdict.specs.Certificate.{Head, PrintedPlan, PrintedReply, PrintedBounds, Certificate, numbers_of, last_line}
-use Rattle.def_cert_verdict.specs.Verdict.{WeighedGame, end_of, first_trace_line, verdict}
+use Rattle.def_cert_verdict.specs.Certificate.{PrintedPlan, PrintedBounds, Certificate, numbers_of, last_line}
+use Rattle.def_cert_verdict.specs.Verdict.{WeighedGame, end_shown_by, first_trace_line, verdict}
 use Rattle.def_cert_verdict.specs.Laws.{IsHeadOf, HoldsAsPlan, HoldsAsTotal, HoldsAsReply}
 
 -- the first place where something doesn't hold
@@ -89,15 +90,15 @@ SetFault player w first hs rs (ValueTooGood p set action) = (p ≡ player) × ((
 SetFault player w first hs rs (ReplyNotTight p set) = (p ≡ player) × ((k : ℕ) × (set ≡ first + k) × IsNotReached player w hs rs k)
 SetFault player w first hs rs fault = ⊥
 
-abbrev pub TotalFault : Player → (ℕ → ℤ) → List InformationSet → PrintedReply → ℤ → Fraction → ℕ → TestFault → Type 0
-TotalFault player sums sets reply traced bound scale (TotalDiffers end) = (end ≡ end_of player) × (¬ (HoldsAsTotal sums sets reply traced bound scale))
+abbrev pub TotalFault : Player → (ℕ → ℤ) → List InformationSet → Reply → ℤ → Fraction → ℕ → TestFault → Type 0
+TotalFault player sums sets reply traced bound scale (TotalDiffers end) = (end ≡ end_shown_by player) × (¬ (HoldsAsTotal sums sets reply traced bound scale))
 TotalFault player sums sets reply traced bound scale fault = ⊥
 
 -- a set's fault, or where all sets are tight that of the total
-abbrev pub ReplyFault : Player → (ℕ → ℤ) → List InformationSet → PrintedReply → ℤ → Fraction → ℕ → TestFault → Type 0
+abbrev pub ReplyFault : Player → (ℕ → ℤ) → List InformationSet → Reply → ℤ → Fraction → ℕ → TestFault → Type 0
 ReplyFault player sums sets reply traced bound scale fault =
-    SetFault player (worth sums (placed sets) (values_of reply.replies)) 1 (placed sets) reply.replies fault
-    ⊎ (AreTight player sums sets reply.replies × TotalFault player sums sets reply traced bound scale fault)
+    SetFault player (worth sums (placed sets) (values_of reply.sets)) 1 (placed sets) reply.sets fault
+    ⊎ (AreTight player sums sets reply.sets × TotalFault player sums sets reply traced bound scale fault)
 
 -- ---- the trace: the line behind a place isn't wider
 abbrev pub IsNoWider : List TraceLine → ℕ → Type 0

@@ -8,11 +8,12 @@ use Rattle.def_fraction.specs.Laws.{HasValue}
 use Rattle.def_plan.specs.Form.{InformationSet, AreInOrder, sequence_count}
 use Rattle.def_plan.specs.Plan.{IsPlan, pure_plan}
 use Rattle.def_plan.specs.Payoff.{leaf_sum, pay, mass_of}
-use Rattle.def_reply.specs.Reply.{choices_of, total, AreTight}
+use Rattle.def_reply.specs.Reply.{Reply, choices_of, total, AreTight}
 use Rattle.def_reply.specs.Bounds.{IsFloor, IsCeiling, AttainsFloor, AttainsCeiling}
 use Rattle.def_bracket.specs.Bracket.{TraceLine, LiesWithin}
+use Rattle.def_bracket.specs.Outcome.{Head}
 use Rattle.def_cert_verdict.specs.declared.fault.TestFault.{TestFault}
-use Rattle.def_cert_verdict.specs.Certificate.{Head, PrintedPlan, PrintedReply, PrintedBounds, Certificate, numbers_of, last_line}
+use Rattle.def_cert_verdict.specs.Certificate.{PrintedPlan, PrintedBounds, Certificate, numbers_of, last_line}
 use Rattle.def_cert_verdict.specs.Verdict.{WeighedGame, Verdict, head_only, bracket, first_of, verdict}
 
 -- the verdict is the fault of the first test that fails: those before it pass
@@ -46,14 +47,14 @@ pub record HoldsAsPlan (sets : List InformationSet) (root : ℕ) (plan : Printed
   pub is_plan : IsPlan sets plan.root (numbers_of plan)
 
 -- a printed total is the worth of the empty sequence and the one that is traced, and over the scale it is the printed bound
-pub record HoldsAsTotal (sums : ℕ → ℤ) (sets : List InformationSet) (reply : PrintedReply) (traced : ℤ) (bound : Fraction) (scale : ℕ) : Type 0 where
-  pub worth_is : reply.total ≡ total sums sets reply.replies
+pub record HoldsAsTotal (sums : ℕ → ℤ) (sets : List InformationSet) (reply : Reply) (traced : ℤ) (bound : Fraction) (scale : ℕ) : Type 0 where
+  pub worth_is : reply.total ≡ total sums sets reply.sets
   pub traced_is : reply.total ≡ traced
   pub bound_is : bound ≡ fraction_of reply.total scale
 
 -- a printed reply is tight, and its total holds
-pub record HoldsAsReply (player : Player) (sums : ℕ → ℤ) (sets : List InformationSet) (reply : PrintedReply) (traced : ℤ) (bound : Fraction) (scale : ℕ) : Type 0 where
-  pub tight : AreTight player sums sets reply.replies
+pub record HoldsAsReply (player : Player) (sums : ℕ → ℤ) (sets : List InformationSet) (reply : Reply) (traced : ℤ) (bound : Fraction) (scale : ℕ) : Type 0 where
+  pub tight : AreTight player sums sets reply.sets
   pub total_is : HoldsAsTotal sums sets reply traced bound scale
 
 -- no trace line is wider than the one before it
@@ -105,9 +106,9 @@ pub record ShowsItsBounds (game : WeighedGame) (b : PrintedBounds) : Type 0 wher
   pub plan_one : IsPlan game.form.sets_one b.plan_one.root (numbers_of b.plan_one)
   pub plan_two : IsPlan game.form.sets_two b.plan_two.root (numbers_of b.plan_two)
   pub floor : IsFloor game.form (numbers_of b.plan_one) b.reply_two.total
-  pub floor_attained : AttainsFloor game.form (numbers_of b.plan_one) b.reply_two.total (pure_plan game.form.sets_two (choices_of b.reply_two.replies))
+  pub floor_attained : AttainsFloor game.form (numbers_of b.plan_one) b.reply_two.total (pure_plan game.form.sets_two (choices_of b.reply_two.sets))
   pub ceiling : IsCeiling game.form (numbers_of b.plan_two) b.reply_one.total
-  pub ceiling_attained : AttainsCeiling game.form (numbers_of b.plan_two) b.reply_one.total (pure_plan game.form.sets_one (choices_of b.reply_one.replies))
+  pub ceiling_attained : AttainsCeiling game.form (numbers_of b.plan_two) b.reply_one.total (pure_plan game.form.sets_one (choices_of b.reply_one.sets))
   pub low : IsTotalOver b.low b.reply_two.total (game.unit * b.plan_one.root)
   pub high : IsTotalOver b.high b.reply_one.total (game.unit * b.plan_two.root)
   pub gets : GetsAtLeast game b.plan_one.root (numbers_of b.plan_one) b.low

@@ -8,13 +8,14 @@ use Rattle.def_fraction.specs.Fraction.{Fraction, fraction_of}
 use Rattle.def_plan.specs.Form.{InformationSet, PlacedSet, placed, sequence_count, SequenceForm}
 use Rattle.def_plan.specs.Plan.{chosen, first_not_adding}
 use Rattle.def_plan.specs.Payoff.{leaf_sum, worth, mass_of}
-use Rattle.def_reply.specs.Reply.{SetReply, values_of, total}
+use Rattle.def_reply.specs.Reply.{Reply, SetReply, values_of, total}
 use Rattle.def_bracket.specs.Bracket.{TraceLine}
+use Rattle.def_bracket.specs.Outcome.{Head}
 use Rattle.def_cert_verdict.specs.declared.fault.Which.{Which}
 use Rattle.def_cert_verdict.specs.declared.fault.Which.TheVariants.{Lower, Upper}
 use Rattle.def_cert_verdict.specs.declared.fault.TestFault.{TestFault}
 use Rattle.def_cert_verdict.specs.declared.fault.TestFault.TheVariants.{HeadDiffers, NotAPlan, ValueTooGood, ReplyNotTight, TotalDiffers, TraceWidens}
-use Rattle.def_cert_verdict.specs.Certificate.{Head, PrintedPlan, PrintedReply, PrintedBounds, Certificate, numbers_of, last_line}
+use Rattle.def_cert_verdict.specs.Certificate.{PrintedPlan, PrintedBounds, Certificate, numbers_of, last_line}
 
 -- what the tests know of a game: how many nodes its tree has, and its sequence form with the unit of its weights
 pub record WeighedGame : Type 0 where
@@ -89,19 +90,19 @@ abbrev pub is_same_fraction : Fraction → Fraction → Bool
 is_same_fraction a b = int_eq a.num b.num && a.den == b.den
 
 -- player two's reply shows the lower end
-abbrev pub end_of : Player → Which
-end_of One = Upper
-end_of Two = Lower
+abbrev pub end_shown_by : Player → Which
+end_shown_by One = Upper
+end_shown_by Two = Lower
 
-abbrev pub total_test : Player → (ℕ → ℤ) → List InformationSet → PrintedReply → ℤ → Fraction → ℕ → Option TestFault
+abbrev pub total_test : Player → (ℕ → ℤ) → List InformationSet → Reply → ℤ → Fraction → ℕ → Option TestFault
 total_test player sums sets reply traced bound scale =
-    unless (int_eq reply.total (total sums sets reply.replies) && (int_eq reply.total traced && is_same_fraction bound (fraction_of reply.total scale)))
-    (TotalDiffers (end_of player))
+    unless (int_eq reply.total (total sums sets reply.sets) && (int_eq reply.total traced && is_same_fraction bound (fraction_of reply.total scale)))
+    (TotalDiffers (end_shown_by player))
 
 -- all tests of a reply, whose sets begin at 1
-abbrev pub whole_reply_tests : Player → (ℕ → ℤ) → List InformationSet → PrintedReply → ℤ → Fraction → ℕ → List (Option TestFault)
+abbrev pub whole_reply_tests : Player → (ℕ → ℤ) → List InformationSet → Reply → ℤ → Fraction → ℕ → List (Option TestFault)
 whole_reply_tests player sums sets reply traced bound scale =
-    reply_tests player (worth sums (placed sets) (values_of reply.replies)) 1 (placed sets) reply.replies
+    reply_tests player (worth sums (placed sets) (values_of reply.sets)) 1 (placed sets) reply.sets
     ++ total_test player sums sets reply traced bound scale ∷ []
 
 -- ---- the trace: no line is wider than the one before it
