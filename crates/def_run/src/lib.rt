@@ -7,7 +7,7 @@ ghost use Rattle.def_plan.specs.Pennies.{pennies};
 ghost use Rattle.def_round.specs.Games.{one_mover};
 ghost use Rattle.def_bracket.specs.Bracket.{trace};
 ghost use Rattle.def_run.specs.Run.{evaluations};
-ghost use Rattle.def_run.specs.Laws.{EndsAreInOrder, EndsAreOfTheirRounds, EvaluationsAreBounds, RunsHaveEnds};
+ghost use Rattle.def_run.specs.Laws.{EndsAreInOrder, EndsAreOfTheirRounds, EndsBoundAllPlans, EvaluationsAreBounds, GapIsExploitability, OffersOfRunAreFair, OutcomesShowTheirRun, RunsHaveEnds, TraceOfRunLooksBack, TraceOfRunNeverWidens};
 
 /// What an evaluation proves of the sums of plans.
 pub fn evaluations_are_bounds()
@@ -27,6 +27,36 @@ pub fn runs_have_ends()
 /// The bracket is never empty.
 pub fn ends_are_in_order()
     ensures { EndsAreInOrder }
+{}
+
+/// The trace of a run, line by line.
+pub fn trace_of_run_never_widens()
+    ensures { TraceOfRunNeverWidens }
+{}
+
+/// The rounds that the lines name.
+pub fn trace_of_run_looks_back()
+    ensures { TraceOfRunLooksBack }
+{}
+
+/// How wide the bracket is.
+pub fn gap_is_exploitability()
+    ensures { GapIsExploitability }
+{}
+
+/// The bracket beside all plans of both players.
+pub fn ends_bound_all_plans()
+    ensures { EndsBoundAllPlans }
+{}
+
+/// What a run offers to the bracket.
+pub fn offers_of_run_are_fair()
+    ensures { OffersOfRunAreFair }
+{}
+
+/// What a run leaves.
+pub fn outcomes_show_their_run()
+    ensures { OutcomesShowTheirRun }
 {}
 
 /// One mover, two rounds: both ceilings are equal, and the first is kept.

@@ -1,0 +1,5 @@
+use Rattle.def_run.proofs.EndLaws.{ends_bound_all_plans}
+use Rattle.def_run.proofs.ends_bound_all_plans.Goals as goal
+
+pub returns : goal.returns
+returns c = ends_bound_all_plans
