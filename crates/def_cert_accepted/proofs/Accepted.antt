@@ -12,19 +12,21 @@ use Rattle.def_fraction.specs.Fraction.{Fraction, fraction_of}
 use Rattle.def_plan.specs.Form.{InformationSet, AreInOrder, SequenceForm, player_sets}
 use Rattle.def_plan.specs.Plan.{IsPlan}
 use Rattle.def_plan.specs.Payoff.{leaf_sum}
-use Rattle.def_reply.specs.Reply.{Reply, best_reply}
+use Rattle.def_reply.specs.Reply.{best_reply_to, Reply, best_reply}
 use Rattle.def_reply.proofs.Optimal.{best-tight}
 use Rattle.def_round.specs.Rounds.{rounds}
 use Rattle.def_bracket.specs.Bracket.{Evaluation, BracketEnds, ends_of, TraceLine, trace_line, trace, LiesWithin}
 use Rattle.def_bracket.proofs.TraceLines.{trace_lines, never_widens}
-use Rattle.def_run.specs.Run.{reply_to, total_against, evaluation, evaluations}
+use Rattle.def_bracket.specs.Outcome.{Head}
+use Rattle.def_run.specs.Run.{outcome, reply_to, total_against, evaluation, evaluations}
 use Rattle.def_run.proofs.RunLaws.{evaluations_are_bounds, ends_are_of_their_rounds, rounds_of}
 use Rattle.def_cert_verdict.specs.Certificate.{PrintedPlan, PrintedBounds, Certificate, joined, numbers_of, no_line, last_line}
 use Rattle.def_cert_verdict.specs.Verdict.{WeighedGame, Verdict, head_only, bracket, verdict}
 use Rattle.def_cert_verdict.specs.Laws.{IsHeadOf, HoldsAsPlan, HoldsAsTotal, HoldsAsReply, HoldsUp, NeverWidens}
 use Rattle.def_cert_verdict.proofs.Decided.{exact}
-use Rattle.def_cert_accepted.specs.OfRun.{by_sets, printed_plan, printed_reply, printed_bound, head_of_run, bounds_of_run, certificate_of_run}
+use Rattle.def_cert_accepted.specs.OfOutcome.{by_sets, printed_plan, certificate_of}
 use Rattle.def_cert_accepted.specs.Laws.{TheCertificateOfARunIsAccepted}
+use Rattle.def_cert_accepted.proofs.OfRun.{own_head, own_head-is, same_head, bounds_of_run, certificate_with, certificate_without}
 
 -- ---- plans
 abbrev total_actions : List InformationSet → ℕ
@@ -57,11 +59,11 @@ plan_holds sets root plan h =
 -- ---- replies
 reply_holds : (game : WeighedGame) (player : Player) (plan : List ℕ) (printed : PrintedPlan) (traced : ℤ) → AreInOrder (player_sets game.form player) → numbers_of printed ≡ plan
     → printed.root ≡ slice_index plan 0 → total_against game.form player plan ≡ traced
-    → HoldsAsReply player (leaf_sum player game.form.leaves (numbers_of printed)) (player_sets game.form player) (printed_reply game.form player plan) traced
-    (printed_bound game player plan) (game.unit * printed.root)
+    → HoldsAsReply player (leaf_sum player game.form.leaves (numbers_of printed)) (player_sets game.form player) (best_reply_to game.form player plan) traced
+    (fraction_of (total_against game.form player plan) (game.unit * slice_index plan 0)) (game.unit * printed.root)
 reply_holds game player plan printed traced order back root is =
-    subst (λ (ys : List ℕ). HoldsAsReply player (leaf_sum player game.form.leaves ys) (player_sets game.form player) (printed_reply game.form player plan) traced
-    (printed_bound game player plan) (game.unit * printed.root)) (sym back)
+    subst (λ (ys : List ℕ). HoldsAsReply player (leaf_sum player game.form.leaves ys) (player_sets game.form player) (best_reply_to game.form player plan) traced
+    (fraction_of (total_against game.form player plan) (game.unit * slice_index plan 0)) (game.unit * printed.root)) (sym back)
     (record {
       tight = best-tight player (leaf_sum player game.form.leaves plan) (player_sets game.form player) order;
       total_is = record {
@@ -80,7 +82,7 @@ last_is : (es : List Evaluation) (ends : BracketEnds) → ends_of es ≡ Some en
 last_is es ends are =
     let k : ℕ = length es - 1 in
     let some = some_evaluation es ends are in
-    let none : Evaluation = record { round = 0; low = pos 0; high = pos 0 } in
+    let none : Evaluation = record { round = 0; divisor = 0; low = pos 0; high = pos 0 } in
     let all : take (k + 1) es ≡ es = take_all (k + 1) es (omega arith) in
     let same : last_line (trace es) ≡ get_or (trace es) k no_line = ap (λ n. get_or (trace es) (n - 1) no_line) (trace_lines.count es) in
     ((get_or es k none).round, same ∙ trace_lines.each es k ends no_line none (omega arith) (ap ends_of all ∙ are))
@@ -110,9 +112,6 @@ holds game last every scale ends order_one order_two some_scale are =
       trace = λ k d within. never_widens es k (k + 1) d (rounds_of form scale every last) (omega arith) (omega (arith, trace_lines.count es));
     }
 
-own_head : (game : WeighedGame) (last every scale : ℕ) → IsHeadOf game (head_of_run game last every scale)
-own_head game last every scale = record { nodes = refl; leaves = refl; sets_one = refl; sets_two = refl; sequences_one = refl; sequences_two = refl; unit = refl; mass_is = refl }
-
 -- the printed bounds are the ends in payoff units
 in_units : (game : WeighedGame) (last every scale : ℕ) (ends : BracketEnds) → AreInOrder game.form.sets_one → AreInOrder game.form.sets_two → 1 ≤ scale
     → ends_of (evaluations game.form scale every last) ≡ Some ends
@@ -129,16 +128,25 @@ in_units game last every scale ends order_one order_two some_scale are =
           ∙ ap (λ (r : ℕ). fraction_of (evaluation form scale ends.upper.round).high (game.unit * r)) (sym high.plan_two.root_weight),
     )
 
+some_round : (game : WeighedGame) (last every scale : ℕ) (ends : BracketEnds) → AreInOrder game.form.sets_one → AreInOrder game.form.sets_two → 1 ≤ scale
+    → ends_of (evaluations game.form scale every last) ≡ Some ends
+    → verdict game (certificate_of game.form (outcome game.form (own_head game last every scale)))
+    ≡ Ok (bracket (fraction_of ends.lower.low (game.unit * (ends.lower.round * scale))) (fraction_of ends.upper.high (game.unit * (ends.upper.round * scale))))
+some_round game last every scale ends order_one order_two some_scale are =
+    let head = own_head game last every scale in
+    let b : PrintedBounds = bounds_of_run game last every scale ends in
+    let units = in_units game last every scale ends order_one order_two some_scale are in
+    ap (verdict game) (certificate_with game last every scale ends are)
+    ∙ (exact.with_bracket game head b (fraction_of ends.lower.low (game.unit * (ends.lower.round * scale))) (fraction_of ends.upper.high (game.unit * (ends.upper.round * scale)))).1
+    (own_head-is game last every scale, holds game last every scale ends order_one order_two some_scale are, units.0, units.1)
+
+no_round : (game : WeighedGame) (last every scale : ℕ) → last ≡ 0 → verdict game (certificate_of game.form (outcome game.form (own_head game last every scale))) ≡ Ok head_only
+no_round game last every scale none =
+    ap (verdict game) (certificate_without game last every scale none) ∙ (exact.head_alone game (own_head game last every scale)).1 (own_head-is game last every scale)
+
 pub accepted : TheCertificateOfARunIsAccepted
 accepted = record {
-  no_round = λ game every scale. (exact.head_alone game (head_of_run game 0 every scale)).1 (own_head game 0 every scale);
-  some_round = λ game last every scale ends order_one order_two some_unit some_scale are.
-      let head = head_of_run game last every scale in
-      let b : PrintedBounds = bounds_of_run game last every scale ends in
-      let units = in_units game last every scale ends order_one order_two some_scale are in
-      let c : Certificate = record { head = head; bounds = Some b } in
-      let same : certificate_of_run game last every scale ≡ c = ap (λ (o : Option BracketEnds). record { head = head; bounds = option_map (bounds_of_run game last every scale) o }) are in
-      ap (verdict game) same
-      ∙ (exact.with_bracket game head b (fraction_of ends.lower.low (game.unit * (ends.lower.round * scale))) (fraction_of ends.upper.high (game.unit * (ends.upper.round * scale)))).1
-      (own_head game last every scale, holds game last every scale ends order_one order_two some_scale are, units.0, units.1);
+  no_round = λ game head is none. ap (λ (g : Head). verdict game (certificate_of game.form (outcome game.form g))) (same_head game head is) ∙ no_round game head.rounds head.every head.scale none;
+  some_round = λ game head ends order_one order_two is some_unit some_scale are.
+      ap (λ (g : Head). verdict game (certificate_of game.form (outcome game.form g))) (same_head game head is) ∙ some_round game head.rounds head.every head.scale ends order_one order_two some_scale are;
 }

@@ -19,22 +19,25 @@ use Rattle.def_plan.specs.Form.{InformationSet, PlacedSet, placed_from, placed, 
 use Rattle.def_plan.specs.Plan.{IsPlan}
 use Rattle.def_plan.specs.Payoff.{leaf_sum, worth, mass_of}
 use Rattle.def_plan.proofs.SizeLaws.{plan-below_root, leaf_sums-below}
-use Rattle.def_reply.specs.Reply.{Reply, SetReply, values_of, best_reply, IsTight}
+use Rattle.def_reply.specs.Reply.{best_reply_to, Reply, SetReply, values_of, best_reply, IsTight}
 use Rattle.def_reply.proofs.Optimal.{best-tight}
 use Rattle.def_reply.proofs.ReplySizes.{values-below, total-below}
 use Rattle.def_round.specs.Rounds.{rounds}
 use Rattle.def_bracket.specs.Bracket.{Evaluation, BracketEnds, ends_of, TraceLine, trace_line, trace, evaluated_rounds}
-use Rattle.def_bracket.specs.Laws.{RoundsAreEvaluated}
+use Rattle.def_bracket.specs.Laws.{HaveDivisors, RoundsAreEvaluated}
+use Rattle.def_bracket.specs.Outcome.{Head}
 use Rattle.def_bracket.proofs.EvaluatedRounds.{rounds as rounds_are}
 use Rattle.def_bracket.proofs.BestEnds.{best_ends}
 use Rattle.def_bracket.proofs.TraceLines.{trace_lines}
-use Rattle.def_run.specs.Run.{reply_to, total_against, evaluation, evaluations}
+use Rattle.def_run.specs.Run.{outcome, reply_to, total_against, evaluation, evaluations}
 use Rattle.def_run.proofs.RunLaws.{evaluations_are_bounds, ends_are_of_their_rounds, rounds_of, runs_have_ends}
 use Rattle.def_cert_verdict.specs.Certificate.{PrintedPlan, PrintedBounds, Certificate}
 use Rattle.def_cert_verdict.specs.Verdict.{WeighedGame}
+use Rattle.def_cert_verdict.specs.Laws.{IsHeadOf}
 use Rattle.def_cert_ranges.specs.Ranges.{IsFromTo, most_actions, most_unit, most_printed, IsPrintable, HeadFits, LineFits, TraceFits, WeightsFit, PlanFits, ReplyFits, BoundFits, BoundsFit, CertificateFits, FitsBelowHead}
 use Rattle.def_cert_accepted.specs.Laws.{TheCertificateOfARunFits}
-use Rattle.def_cert_accepted.specs.OfRun.{by_sets, printed_plan, printed_reply, printed_bound, head_of_run, bounds_of_run, certificate_of_run}
+use Rattle.def_cert_accepted.specs.OfOutcome.{by_sets, printed_plan, printed_bound, certificate_of}
+use Rattle.def_cert_accepted.proofs.OfRun.{own_head, same_head, ends_at, bounds_of_run, certificate_with, certificate_without}
 
 times : (a b p q : ℕ) → a ≤ p → b ≤ q → a * b ≤ p * q
 times a b p q h k = mul-le a b p q h k
@@ -112,7 +115,7 @@ small_total form player sets root plan order other is light few =
 
 reply_fits : (form : SequenceForm) (player : Player) (sets : List InformationSet) (root : ℕ) (plan : List ℕ) → AreInOrder (player_sets form player) → AreInOrder sets → IsPlan sets root plan
     → All (λ (h : InformationSet). h.actions ≤ most_actions) (player_sets form player) → mass_of form.leaves ≤ most_mass → root ≤ most_root
-    → ReplyFits (length (player_sets form player)) (printed_reply form player plan)
+    → ReplyFits (length (player_sets form player)) (best_reply_to form player plan)
 reply_fits form player sets root plan order other is small light few =
     let sums : ℕ → ℤ = leaf_sum player form.leaves plan in
     let own = player_sets form player in
@@ -131,7 +134,7 @@ reply_fits form player sets root plan order other is small light few =
     }
 
 end_fits : (game : WeighedGame) (player : Player) (sets : List InformationSet) (root : ℕ) (plan : List ℕ) → AreInOrder (player_sets game.form player) → AreInOrder sets → IsPlan sets root plan
-    → mass_of game.form.leaves ≤ most_mass → root ≤ most_root → IsFromTo 1 most_unit game.unit → BoundFits (printed_bound game player plan)
+    → mass_of game.form.leaves ≤ most_mass → root ≤ most_root → IsFromTo 1 most_unit game.unit → BoundFits (fraction_of (total_against game.form player plan) (game.unit * slice_index plan 0))
 end_fits game player sets root plan order other is light few unit =
     let at : slice_index plan 0 ≡ root = is.root_weight in
     bound_fits (total_against game.form player plan) (game.unit * slice_index plan 0)
@@ -167,7 +170,7 @@ record EvaluationFits (last : ℕ) (e : Evaluation) : Type 0 where
   low : IsPrintable e.low
   high : IsPrintable e.high
 
-evaluation_fits : (game : WeighedGame) (last every scale r : ℕ) → AreInOrder game.form.sets_one → AreInOrder game.form.sets_two → HeadFits (head_of_run game last every scale) → 1 ≤ r → r ≤ last
+evaluation_fits : (game : WeighedGame) (last every scale r : ℕ) → AreInOrder game.form.sets_one → AreInOrder game.form.sets_two → HeadFits (own_head game last every scale) → 1 ≤ r → r ≤ last
     → EvaluationFits r (evaluation game.form scale r)
 evaluation_fits game last every scale r order_one order_two fits some low =
     let form = game.form in
@@ -184,7 +187,7 @@ some_ends [] some = absurd (omega arith)
 some_ends (e ∷ es) some = (_, refl)
 
 -- an evaluation at a place up to k
-up_to : (game : WeighedGame) (last every scale k place : ℕ) (e : Evaluation) → AreInOrder game.form.sets_one → AreInOrder game.form.sets_two → HeadFits (head_of_run game last every scale)
+up_to : (game : WeighedGame) (last every scale k place : ℕ) (e : Evaluation) → AreInOrder game.form.sets_one → AreInOrder game.form.sets_two → HeadFits (own_head game last every scale)
     → place ≤ k → k < (last + every - 1) / every → get_or (evaluations game.form scale every last) place e ≡ e → EvaluationFits (min ((k + 1) * every) last) e
 up_to game last every scale k place e order_one order_two fits le low stands =
     let form = game.form in
@@ -192,28 +195,32 @@ up_to game last every scale k place e order_one order_two fits le low stands =
     let n = length-evaluations form scale every last fits.every.0 in
     let is : get_or (evaluations form scale every last) place e ≡ evaluation form scale r = evaluation_at form scale every last place e fits.every.0 (omega arith) in
     let same : e ≡ evaluation form scale r = sym stands ∙ is in
-    let first : 1 ≤ r = subst (λ (d : Evaluation). 1 ≤ d.round) is (rounds_of form scale every last place e (omega arith)) in
+    let first : 1 ≤ r = subst (λ (d : Evaluation). 1 ≤ d.round) is (rounds_of form scale every last place e (omega arith)).0 in
     let in_time : r ≤ last = omega arith in
     let not_later : r ≤ min ((k + 1) * every) last = omega (arith, times (place + 1) every (k + 1) every (omega arith) (omega arith)) in
     let here = evaluation_fits game last every scale r order_one order_two fits first in_time in
     subst (EvaluationFits (min ((k + 1) * every) last)) (sym same) (record { round = (first, not_later); low = here.low; high = here.high })
 
-line_fits : (game : WeighedGame) (last every scale : ℕ) → AreInOrder game.form.sets_one → AreInOrder game.form.sets_two → HeadFits (head_of_run game last every scale)
+-- no evaluation of a run is divided by 0
+divisors : (form : SequenceForm) (scale every last : ℕ) → HaveDivisors (evaluations form scale every last)
+divisors form scale every last k d below = let r = rounds_of form scale every last k d below in omega (arith, r.0, r.1)
+
+line_fits : (game : WeighedGame) (last every scale : ℕ) → AreInOrder game.form.sets_one → AreInOrder game.form.sets_two → HeadFits (own_head game last every scale)
     → (k : ℕ) (line : TraceLine) → k < length (trace (evaluations game.form scale every last))
-    → LineFits (head_of_run game last every scale) k (get_or (trace (evaluations game.form scale every last)) k line)
+    → LineFits (own_head game last every scale) k (get_or (trace (evaluations game.form scale every last)) k line)
 line_fits game last every scale order_one order_two fits k line within =
     let form = game.form in
     let es : List Evaluation = evaluations form scale every last in
-    let head = head_of_run game last every scale in
+    let head = own_head game last every scale in
     let n = length-evaluations form scale every last fits.every.0 in
     let count = trace_lines.count es in
     let low : k < (last + every - 1) / every = omega arith in
-    let none : Evaluation = record { round = 0; low = pos 0; high = pos 0 } in
+    let none : Evaluation = record { round = 0; divisor = 0; low = pos 0; high = pos 0 } in
     let part : List Evaluation = take (k + 1) es in
     let long : length part ≡ k + 1 = omega (arith, length-take (k + 1) es) in
     let some = some_ends part (omega arith) in
     let ends : BracketEnds = some.0 in
-    let after = All-take (λ (e : Evaluation). 1 ≤ e.round) (k + 1) es (rounds_of form scale every last) in
+    let after = All-take (λ (e : Evaluation). 1 ≤ e.divisor) (k + 1) es (divisors form scale every last) in
     let lower = best_ends.lower part ends after some.1 in
     let upper = best_ends.upper part ends after some.1 in
     let at_lower = sym (get_or-take (k + 1) es lower.place ends.lower (omega (arith, lower.within))) ∙ lower.stands ends.lower in
@@ -232,8 +239,8 @@ line_fits game last every scale order_one order_two fits k line within =
 
 -- ---- all of it
 bounds_fit : (game : WeighedGame) (last every scale : ℕ) (ends : BracketEnds) → AreInOrder game.form.sets_one → AreInOrder game.form.sets_two
-    → All (λ h. h.actions ≤ most_actions) game.form.sets_one → All (λ h. h.actions ≤ most_actions) game.form.sets_two → HeadFits (head_of_run game last every scale)
-    → ends_of (evaluations game.form scale every last) ≡ Some ends → BoundsFit (head_of_run game last every scale) (bounds_of_run game last every scale ends)
+    → All (λ h. h.actions ≤ most_actions) game.form.sets_one → All (λ h. h.actions ≤ most_actions) game.form.sets_two → HeadFits (own_head game last every scale)
+    → ends_of (evaluations game.form scale every last) ≡ Some ends → BoundsFit (own_head game last every scale) (bounds_of_run game last every scale ends)
 bounds_fit game last every scale ends order_one order_two small_one small_two fits are =
     let form = game.form in
     let of_rounds = ends_are_of_their_rounds form scale every last ends are in
@@ -263,14 +270,18 @@ no_round form scale every (suc n) e =
     let some = runs_have_ends form scale every (suc n) (omega arith) in
     absurd (none-some some.0 (sym e ∙ some.1))
 
-below : (game : WeighedGame) (last every scale : ℕ) → AreInOrder game.form.sets_one → AreInOrder game.form.sets_two
-    → All (λ h. h.actions ≤ most_actions) game.form.sets_one → All (λ h. h.actions ≤ most_actions) game.form.sets_two → HeadFits (head_of_run game last every scale)
-    → (o : Option BracketEnds) → ends_of (evaluations game.form scale every last) ≡ o → FitsBelowHead (head_of_run game last every scale) (option_map (bounds_of_run game last every scale) o)
-below game last every scale order_one order_two small_one small_two fits None are = no_round game.form scale every last are
-below game last every scale order_one order_two small_one small_two fits (Some ends) are = bounds_fit game last every scale ends order_one order_two small_one small_two fits are
+by_ends : (game : WeighedGame) (last every scale : ℕ) → AreInOrder game.form.sets_one → AreInOrder game.form.sets_two
+    → All (λ h. h.actions ≤ most_actions) game.form.sets_one → All (λ h. h.actions ≤ most_actions) game.form.sets_two → HeadFits (own_head game last every scale)
+    → (o : Option BracketEnds) → ends_of (evaluations game.form scale every last) ≡ o → CertificateFits (certificate_of game.form (outcome game.form (own_head game last every scale)))
+by_ends game last every scale order_one order_two small_one small_two fits None are =
+    let none = no_round game.form scale every last are in
+    subst CertificateFits (sym (certificate_without game last every scale none)) (record { head = fits; below = none })
+by_ends game last every scale order_one order_two small_one small_two fits (Some ends) are =
+    subst CertificateFits (sym (certificate_with game last every scale ends are))
+    (record { head = fits; below = bounds_fit game last every scale ends order_one order_two small_one small_two fits are })
 
 pub fits_always : TheCertificateOfARunFits
-fits_always game last every scale order_one order_two small_one small_two fits = record {
-  head = fits;
-  below = below game last every scale order_one order_two small_one small_two fits (ends_of (evaluations game.form scale every last)) refl;
-}
+fits_always game head order_one order_two small_one small_two is fits =
+    let same : head ≡ own_head game head.rounds head.every head.scale = same_head game head is in
+    subst (λ (g : Head). CertificateFits (certificate_of game.form (outcome game.form g))) (sym same)
+    (by_ends game head.rounds head.every head.scale order_one order_two small_one small_two (subst HeadFits same fits) (ends_of (evaluations game.form head.scale head.every head.rounds)) refl)

@@ -1,2 +1,2 @@
-pub mod OfRun
+pub mod OfOutcome
 pub mod Laws

@@ -72,8 +72,12 @@ kept false x = omega arith
 -- a sum over some of the elements
 some_of : {A : Type 0} (f : A → ℤ) (p : A → Bool) (xs : List A) → unsigned_abs (sum_over f (filter p xs)) ≤ nat_sum_over (λ x. unsigned_abs (f x)) xs
 some_of f p xs =
-    omega (arith, ap unsigned_abs (sum_over-filter f p xs), unsigned_abs-sum_over (λ x. cond (p x) (f x) (pos 0)) xs,
-    nat_sum_over-mono (λ x. unsigned_abs (cond (p x) (f x) (pos 0))) (λ x. unsigned_abs (f x)) xs (each_of (λ x. unsigned_abs (cond (p x) (f x) (pos 0)) ≤ unsigned_abs (f x)) xs (λ x. kept (p x) (f x))))
+    omega (
+      arith,
+      ap unsigned_abs (sum_over-filter f p xs),
+      unsigned_abs-sum_over (λ x. cond (p x) (f x) (pos 0)) xs,
+      nat_sum_over-mono (λ x. unsigned_abs (cond (p x) (f x) (pos 0))) (λ x. unsigned_abs (f x)) xs (each_of (λ x. unsigned_abs (cond (p x) (f x) (pos 0)) ≤ unsigned_abs (f x)) xs (λ x. kept (p x) (f x))),
+    )
 
 zipped : (hs : List PlacedSet) (rs : List SetReply) → nat_sum_over (λ (p : PlacedSet × ℤ). unsigned_abs p.1) (zip hs (values_of rs)) ≤ nat_sum_over (λ r. unsigned_abs r.value) rs
 zipped [] rs = omega arith
@@ -83,17 +87,22 @@ zipped (h ∷ hs) (r ∷ rs) = omega (arith, zipped hs rs)
 one_leaf : (player : Player) (xs : List ℕ) → ((s : ℕ) → slice_index xs s ≤ 2 ^ 36) → (z : Leaf)
     → unsigned_abs (z.weight *ℤ pos (slice_index xs (leaf_sequence (opponent player) z))) ≤ unsigned_abs z.weight * 2 ^ 36
 one_leaf player xs small z =
-    omega (arith, product_size z.weight (slice_index xs (leaf_sequence (opponent player) z)),
-    times (unsigned_abs z.weight) (slice_index xs (leaf_sequence (opponent player) z)) (unsigned_abs z.weight) (2 ^ 36) (omega arith) (small (leaf_sequence (opponent player) z)))
+    omega (
+      arith,
+      product_size z.weight (slice_index xs (leaf_sequence (opponent player) z)),
+      times (unsigned_abs z.weight) (slice_index xs (leaf_sequence (opponent player) z)) (unsigned_abs z.weight) (2 ^ 36) (omega arith) (small (leaf_sequence (opponent player) z)),
+    )
 
 all_leaves : (player : Player) (leaves : List Leaf) (xs : List ℕ) → ((s : ℕ) → slice_index xs s ≤ 2 ^ 36) → mass_of leaves ≤ 2 ^ 62
     → nat_sum_over (λ z. unsigned_abs (z.weight *ℤ pos (slice_index xs (leaf_sequence (opponent player) z)))) leaves ≤ 2 ^ 98
 all_leaves player leaves xs small light =
-    omega (arith,
-    nat_sum_over-mono (λ z. unsigned_abs (z.weight *ℤ pos (slice_index xs (leaf_sequence (opponent player) z)))) (λ z. unsigned_abs z.weight * 2 ^ 36) leaves
-    (each_of (λ z. unsigned_abs (z.weight *ℤ pos (slice_index xs (leaf_sequence (opponent player) z))) ≤ unsigned_abs z.weight * 2 ^ 36) leaves (one_leaf player xs small)),
-    nat_sum_over-factor (2 ^ 36) (λ (z : Leaf). unsigned_abs z.weight) leaves,
-    times (mass_of leaves) (2 ^ 36) (2 ^ 62) (2 ^ 36) light (omega arith))
+    omega (
+      arith,
+      nat_sum_over-mono (λ z. unsigned_abs (z.weight *ℤ pos (slice_index xs (leaf_sequence (opponent player) z)))) (λ z. unsigned_abs z.weight * 2 ^ 36) leaves
+          (each_of (λ z. unsigned_abs (z.weight *ℤ pos (slice_index xs (leaf_sequence (opponent player) z))) ≤ unsigned_abs z.weight * 2 ^ 36) leaves (one_leaf player xs small)),
+      nat_sum_over-factor (2 ^ 36) (λ (z : Leaf). unsigned_abs z.weight) leaves,
+      times (mass_of leaves) (2 ^ 36) (2 ^ 62) (2 ^ 36) light (omega arith),
+    )
 
 all_values : (sets : ℕ) (reply : Reply) → sets ≤ 2 ^ 20 → ReplyFits sets reply → nat_sum_over (λ r. unsigned_abs r.value) reply.sets ≤ 2 ^ 120
 all_values sets reply few fits =
@@ -108,11 +117,15 @@ worths player leaves sets plan_sets reply_sets plan reply light fits few fit =
     record {
       leaf_sums = of_leaves;
       values = of_values;
-      worths = λ s. omega (arith,
-          unsigned_abs-+ℤ (leaf_sum player leaves xs s) (values_after (placed sets) (values_of reply.sets) s),
-          some_of (λ z. z.weight *ℤ pos (slice_index xs (leaf_sequence (opponent player) z))) (λ z. eqb (leaf_sequence player z) s) leaves,
-          some_of (λ (p : PlacedSet × ℤ). p.1) (λ (p : PlacedSet × ℤ). eqb p.0.before s) (zip (placed sets) (values_of reply.sets)),
-          zipped (placed sets) reply.sets, of_leaves, of_values);
+      worths = λ s. omega (
+        arith,
+        unsigned_abs-+ℤ (leaf_sum player leaves xs s) (values_after (placed sets) (values_of reply.sets) s),
+        some_of (λ z. z.weight *ℤ pos (slice_index xs (leaf_sequence (opponent player) z))) (λ z. eqb (leaf_sequence player z) s) leaves,
+        some_of (λ (p : PlacedSet × ℤ). p.1) (λ (p : PlacedSet × ℤ). eqb p.0.before s) (zip (placed sets) (values_of reply.sets)),
+        zipped (placed sets) reply.sets,
+        of_leaves,
+        of_values,
+      );
     }
 
 -- ---- the head alone

@@ -8,7 +8,6 @@ use Rattle.def_plan.specs.Payoff.{mass_of}
 use Rattle.def_bracket.specs.Outcome.{Head}
 use Rattle.def_cert_verdict.specs.declared.fault.TestFault.{TestFault}
 use Rattle.def_cert_verdict.specs.declared.fault.TestFault.TheVariants.{HeadDiffers, NotAPlan, ValueTooGood, ReplyNotTight, TotalDiffers, TraceWidens}
-
 use Rattle.def_cert_verdict.specs.Verdict.{WeighedGame, first_of, unless, head_tests}
 use Rattle.def_cert_verdict.specs.Laws.{IsHeadOf}
 use Rattle.def_cert_verdict.specs.FaultCauses.{IsFirstNot, SaysLine, HeadFault}

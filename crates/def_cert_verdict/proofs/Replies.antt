@@ -18,7 +18,6 @@ use Rattle.def_plan.specs.Payoff.{worth, IsNoBetter}
 use Rattle.def_reply.specs.Reply.{Reply, SetReply, values_of, total, IsTight, AreTight}
 use Rattle.def_cert_verdict.specs.declared.fault.TestFault.{TestFault}
 use Rattle.def_cert_verdict.specs.declared.fault.TestFault.TheVariants.{HeadDiffers, NotAPlan, ValueTooGood, ReplyNotTight, TotalDiffers, TraceWidens}
-
 use Rattle.def_cert_verdict.specs.Verdict.{first_of, unless, is_better, action_test, set_tests, reply_tests, is_same_fraction, end_shown_by, total_test, whole_reply_tests}
 use Rattle.def_cert_verdict.specs.Laws.{HoldsAsTotal, HoldsAsReply}
 use Rattle.def_cert_verdict.specs.FaultCauses.{IsFirstNot, NoActionBetterAt, ReachedAt, TightAt, IsTooGood, IsNotReached, SetFault, TotalFault, ReplyFault}
