@@ -1,3 +1,8 @@
-pub mod FirstFaults
-pub mod Accepted
-pub mod Acceptable
+pub mod Describes
+pub mod Heads
+pub mod Plans
+pub mod Replies
+pub mod Traces
+pub mod Decided
+pub mod Shown
+pub mod FirstFailure

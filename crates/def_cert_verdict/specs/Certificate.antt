@@ -1,36 +1,29 @@
--- What a certificate of bounds prints below its head, as numbers: the trace, both plans, the reply to each, and the last bracket.
-use Rattle.std.specs.Prelude.{ℕ, List, [], ◌∷◌, ◌++◌, ℤ}
-use Rattle.def_reply.specs.Reply.{SetReply}
+-- What the text of a certificate says, as numbers.
+use Rattle.std.specs.Prelude.{ℕ, ◌-◌, List, [], ◌∷◌, ◌++◌, length, slice_index_or, ℤ, pos, Option}
+use Rattle.def_fraction.specs.Fraction.{Fraction}
+use Rattle.def_reply.specs.Reply.{Reply}
 use Rattle.def_bracket.specs.Bracket.{TraceLine}
+use Rattle.def_bracket.specs.Outcome.{Head}
 
 -- a plan: its root, and for each set the numbers of its sequences
 pub record PrintedPlan : Type 0 where
   pub root : ℕ
   pub weights : List (List ℕ)
 
--- a reply: its total, and for each set the value and the choice
-pub record PrintedReply : Type 0 where
-  pub total : ℤ
-  pub replies : List SetReply
-
-pub record Ratio : Type 0 where
-  pub num : ℤ
-  pub den : ℕ
-
--- the trace is the lines before the last one and the last one
-pub record Certificate : Type 0 where
-  pub scale : ℕ
-  pub earlier : List TraceLine
-  pub last : TraceLine
+-- the trace, both plans with the other player's reply to each, and the last bracket in payoff units
+pub record PrintedBounds : Type 0 where
+  pub trace : List TraceLine
   pub plan_one : PrintedPlan
-  pub reply_two : PrintedReply
+  pub reply_two : Reply
   pub plan_two : PrintedPlan
-  pub reply_one : PrintedReply
-  pub low : Ratio
-  pub high : Ratio
+  pub reply_one : Reply
+  pub low : Fraction
+  pub high : Fraction
 
-abbrev pub trace_of : Certificate → List TraceLine
-trace_of c = c.earlier ++ c.last ∷ []
+-- the head, and the bounds where at least one round was asked
+pub record Certificate : Type 0 where
+  pub head : Head
+  pub bounds : Option PrintedBounds
 
 abbrev pub joined : List (List ℕ) → List ℕ
 joined [] = []
@@ -39,3 +32,10 @@ joined (ws ∷ wss) = ws ++ joined wss
 -- the numbers of all sequences of a printed plan
 abbrev pub numbers_of : PrintedPlan → List ℕ
 numbers_of plan = plan.root ∷ joined plan.weights
+
+-- the last line of a trace, which has one
+abbrev pub no_line : TraceLine
+no_line = record { round = 0; low_round = 0; low = pos 0; high_round = 0; high = pos 0 }
+
+abbrev pub last_line : List TraceLine → TraceLine
+last_line lines = slice_index_or lines (length lines - 1) no_line

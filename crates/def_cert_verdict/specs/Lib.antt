@@ -1,4 +1,4 @@
 pub mod Certificate
 pub mod Verdict
 pub mod Laws
-pub mod Even
+pub mod FaultCauses

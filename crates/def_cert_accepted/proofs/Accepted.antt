@@ -1,0 +1,152 @@
+-- The certificate of a run holds up.
+use Rattle.std.proofs.Common.{◌≡◌, ℕ, zero, suc, ◌+◌, ◌-◌, ◌*◌, ◌≤◌, ◌<◌, List, [], ◌∷◌, ◌++◌, length, get_or, slice_index, take, drop, ℤ, pos, ◌*ℤ◌, Option, Some, None, Ok, refl, sym, ap, ◌∙◌, subst, arith}
+use Rattle.std.specs.Option.{option_map}
+use Rattle.std.specs.List.{AllZip}
+use Rattle.std.proofs.lemmas.Nat.{mul-le}
+use Rattle.std.proofs.lemmas.Option.{none-some}
+use Rattle.std.proofs.lemmas.List.{length-append, length-take, length-drop, take-append-drop, take_all}
+use Rattle.def_tree.specs.declared.Player.{Player}
+use Rattle.def_tree.specs.declared.Player.TheVariants.{One, Two}
+use Rattle.def_sums.specs.Sum.{nat_sum_over}
+use Rattle.def_fraction.specs.Fraction.{Fraction, fraction_of}
+use Rattle.def_plan.specs.Form.{InformationSet, AreInOrder, SequenceForm, player_sets}
+use Rattle.def_plan.specs.Plan.{IsPlan}
+use Rattle.def_plan.specs.Payoff.{leaf_sum}
+use Rattle.def_reply.specs.Reply.{best_reply_to, Reply, best_reply}
+use Rattle.def_reply.proofs.Optimal.{best-tight}
+use Rattle.def_round.specs.Rounds.{rounds}
+use Rattle.def_bracket.specs.Bracket.{Evaluation, BracketEnds, ends_of, TraceLine, trace_line, trace, LiesWithin}
+use Rattle.def_bracket.proofs.TraceLines.{trace_lines, never_widens}
+use Rattle.def_bracket.specs.Outcome.{Head}
+use Rattle.def_run.specs.Run.{outcome, reply_to, total_against, evaluation, evaluations}
+use Rattle.def_run.proofs.RunLaws.{evaluations_are_bounds, ends_are_of_their_rounds, rounds_of}
+use Rattle.def_cert_verdict.specs.Certificate.{PrintedPlan, PrintedBounds, Certificate, joined, numbers_of, no_line, last_line}
+use Rattle.def_cert_verdict.specs.Verdict.{WeighedGame, Verdict, head_only, bracket, verdict}
+use Rattle.def_cert_verdict.specs.Laws.{IsHeadOf, HoldsAsPlan, HoldsAsTotal, HoldsAsReply, HoldsUp, NeverWidens}
+use Rattle.def_cert_verdict.proofs.Decided.{exact}
+use Rattle.def_cert_accepted.specs.OfOutcome.{by_sets, printed_plan, certificate_of}
+use Rattle.def_cert_accepted.specs.Laws.{TheCertificateOfARunIsAccepted}
+use Rattle.def_cert_accepted.proofs.OfRun.{own_head, own_head-is, same_head, bounds_of_run, certificate_with, certificate_without}
+
+-- ---- plans
+abbrev total_actions : List InformationSet → ℕ
+total_actions hs = nat_sum_over (λ (h : InformationSet). h.actions) hs
+
+sizes_by_sets : (hs : List InformationSet) (xs : List ℕ) → total_actions hs ≤ length xs → AllZip (λ h ws. length ws ≡ h.actions) hs (by_sets hs xs)
+sizes_by_sets [] xs low = tt
+sizes_by_sets (h ∷ hs) xs low = (omega (arith, length-take h.actions xs), sizes_by_sets hs (drop h.actions xs) (omega (arith, length-drop h.actions xs)))
+
+joined_by_sets : (hs : List InformationSet) (xs : List ℕ) → length xs ≡ total_actions hs → joined (by_sets hs xs) ≡ xs
+joined_by_sets [] [] e = refl
+joined_by_sets [] (x ∷ xs) e = absurd (omega arith)
+joined_by_sets (h ∷ hs) xs e =
+    ap (λ (ys : List ℕ). take h.actions xs ++ ys) (joined_by_sets hs (drop h.actions xs) (omega (arith, length-drop h.actions xs))) ∙ take-append-drop h.actions xs
+
+-- what is printed of a plan has its numbers
+pub numbers_back : (sets : List InformationSet) (plan : List ℕ) → length plan ≡ 1 + total_actions sets → numbers_of (printed_plan sets plan) ≡ plan
+numbers_back sets [] e = absurd (omega arith)
+numbers_back sets (x ∷ xs) e = ap (λ (ys : List ℕ). x ∷ ys) (joined_by_sets sets xs (omega arith))
+
+plan_holds : (sets : List InformationSet) (root : ℕ) (plan : List ℕ) → IsPlan sets root plan → HoldsAsPlan sets root (printed_plan sets plan)
+plan_holds sets root plan h =
+    let back = numbers_back sets plan h.all_sequences in
+    record {
+      root_is = h.root_weight;
+      sizes = sizes_by_sets sets (drop 1 plan) (omega (arith, length-drop 1 plan, h.all_sequences));
+      is_plan = subst (λ (ys : List ℕ). IsPlan sets (slice_index plan 0) ys) (sym back) (subst (λ (r : ℕ). IsPlan sets r plan) (sym h.root_weight) h);
+    }
+
+-- ---- replies
+reply_holds : (game : WeighedGame) (player : Player) (plan : List ℕ) (printed : PrintedPlan) (traced : ℤ) → AreInOrder (player_sets game.form player) → numbers_of printed ≡ plan
+    → printed.root ≡ slice_index plan 0 → total_against game.form player plan ≡ traced
+    → HoldsAsReply player (leaf_sum player game.form.leaves (numbers_of printed)) (player_sets game.form player) (best_reply_to game.form player plan) traced
+    (fraction_of (total_against game.form player plan) (game.unit * slice_index plan 0)) (game.unit * printed.root)
+reply_holds game player plan printed traced order back root is =
+    subst (λ (ys : List ℕ). HoldsAsReply player (leaf_sum player game.form.leaves ys) (player_sets game.form player) (best_reply_to game.form player plan) traced
+    (fraction_of (total_against game.form player plan) (game.unit * slice_index plan 0)) (game.unit * printed.root)) (sym back)
+    (record {
+      tight = best-tight player (leaf_sum player game.form.leaves plan) (player_sets game.form player) order;
+      total_is = record {
+        worth_is = refl;
+        traced_is = is;
+        bound_is = ap (λ (r : ℕ). fraction_of (total_against game.form player plan) (game.unit * r)) (sym root);
+      };
+    })
+
+-- ---- the last line has the ends of all evaluations
+some_evaluation : (es : List Evaluation) (ends : BracketEnds) → ends_of es ≡ Some ends → 1 ≤ length es
+some_evaluation [] ends are = absurd (none-some ends are)
+some_evaluation (e ∷ es) ends are = omega arith
+
+last_is : (es : List Evaluation) (ends : BracketEnds) → ends_of es ≡ Some ends → (r : ℕ) × (last_line (trace es) ≡ trace_line r ends)
+last_is es ends are =
+    let k : ℕ = length es - 1 in
+    let some = some_evaluation es ends are in
+    let none : Evaluation = record { round = 0; divisor = 0; low = pos 0; high = pos 0 } in
+    let all : take (k + 1) es ≡ es = take_all (k + 1) es (omega arith) in
+    let same : last_line (trace es) ≡ get_or (trace es) k no_line = ap (λ n. get_or (trace es) (n - 1) no_line) (trace_lines.count es) in
+    ((get_or es k none).round, same ∙ trace_lines.each es k ends no_line none (omega arith) (ap ends_of all ∙ are))
+
+-- ---- all of it
+holds : (game : WeighedGame) (last every scale : ℕ) (ends : BracketEnds) → AreInOrder game.form.sets_one → AreInOrder game.form.sets_two → 1 ≤ scale
+    → ends_of (evaluations game.form scale every last) ≡ Some ends → HoldsUp game scale (bounds_of_run game last every scale ends)
+holds game last every scale ends order_one order_two some_scale are =
+    let form = game.form in
+    let es : List Evaluation = evaluations form scale every last in
+    let line : TraceLine = last_line (trace es) in
+    let end = last_is es ends are in
+    let of_rounds = ends_are_of_their_rounds form scale every last ends are in
+    let one : List ℕ = (rounds form scale ends.lower.round).sum_one in
+    let two : List ℕ = (rounds form scale ends.upper.round).sum_two in
+    let low = evaluations_are_bounds form scale ends.lower.round order_one order_two some_scale of_rounds.of_lower.some in
+    let high = evaluations_are_bounds form scale ends.upper.round order_one order_two some_scale of_rounds.of_upper.some in
+    let low_round : line.low_round ≡ ends.lower.round = ap (λ (l : TraceLine). l.low_round) end.1 in
+    let high_round : line.high_round ≡ ends.upper.round = ap (λ (l : TraceLine). l.high_round) end.1 in
+    let total_low : total_against form Two one ≡ line.low = sym (ap (λ (l : TraceLine). l.low) end.1 ∙ ap (λ (e : Evaluation). e.low) of_rounds.of_lower.is) in
+    let total_high : total_against form One two ≡ line.high = sym (ap (λ (l : TraceLine). l.high) end.1 ∙ ap (λ (e : Evaluation). e.high) of_rounds.of_upper.is) in
+    record {
+      plan_one = subst (λ n. HoldsAsPlan form.sets_one (n * scale) (printed_plan form.sets_one one)) (sym low_round) (plan_holds form.sets_one (ends.lower.round * scale) one low.plan_one);
+      plan_two = subst (λ n. HoldsAsPlan form.sets_two (n * scale) (printed_plan form.sets_two two)) (sym high_round) (plan_holds form.sets_two (ends.upper.round * scale) two high.plan_two);
+      reply_two = reply_holds game Two one (printed_plan form.sets_one one) line.low order_two (numbers_back form.sets_one one low.plan_one.all_sequences) refl total_low;
+      reply_one = reply_holds game One two (printed_plan form.sets_two two) line.high order_one (numbers_back form.sets_two two high.plan_two.all_sequences) refl total_high;
+      trace = λ k d within. never_widens es k (k + 1) d (rounds_of form scale every last) (omega arith) (omega (arith, trace_lines.count es));
+    }
+
+-- the printed bounds are the ends in payoff units
+in_units : (game : WeighedGame) (last every scale : ℕ) (ends : BracketEnds) → AreInOrder game.form.sets_one → AreInOrder game.form.sets_two → 1 ≤ scale
+    → ends_of (evaluations game.form scale every last) ≡ Some ends
+    → let b = bounds_of_run game last every scale ends in
+    (fraction_of ends.lower.low (game.unit * (ends.lower.round * scale)) ≡ b.low) × (fraction_of ends.upper.high (game.unit * (ends.upper.round * scale)) ≡ b.high)
+in_units game last every scale ends order_one order_two some_scale are =
+    let form = game.form in
+    let of_rounds = ends_are_of_their_rounds form scale every last ends are in
+    let low = evaluations_are_bounds form scale ends.lower.round order_one order_two some_scale of_rounds.of_lower.some in
+    let high = evaluations_are_bounds form scale ends.upper.round order_one order_two some_scale of_rounds.of_upper.some in (
+      ap (λ (z : ℤ). fraction_of z (game.unit * (ends.lower.round * scale))) (ap (λ (e : Evaluation). e.low) of_rounds.of_lower.is)
+          ∙ ap (λ (r : ℕ). fraction_of (evaluation form scale ends.lower.round).low (game.unit * r)) (sym low.plan_one.root_weight),
+      ap (λ (z : ℤ). fraction_of z (game.unit * (ends.upper.round * scale))) (ap (λ (e : Evaluation). e.high) of_rounds.of_upper.is)
+          ∙ ap (λ (r : ℕ). fraction_of (evaluation form scale ends.upper.round).high (game.unit * r)) (sym high.plan_two.root_weight),
+    )
+
+some_round : (game : WeighedGame) (last every scale : ℕ) (ends : BracketEnds) → AreInOrder game.form.sets_one → AreInOrder game.form.sets_two → 1 ≤ scale
+    → ends_of (evaluations game.form scale every last) ≡ Some ends
+    → verdict game (certificate_of game.form (outcome game.form (own_head game last every scale)))
+    ≡ Ok (bracket (fraction_of ends.lower.low (game.unit * (ends.lower.round * scale))) (fraction_of ends.upper.high (game.unit * (ends.upper.round * scale))))
+some_round game last every scale ends order_one order_two some_scale are =
+    let head = own_head game last every scale in
+    let b : PrintedBounds = bounds_of_run game last every scale ends in
+    let units = in_units game last every scale ends order_one order_two some_scale are in
+    ap (verdict game) (certificate_with game last every scale ends are)
+    ∙ (exact.with_bracket game head b (fraction_of ends.lower.low (game.unit * (ends.lower.round * scale))) (fraction_of ends.upper.high (game.unit * (ends.upper.round * scale)))).1
+    (own_head-is game last every scale, holds game last every scale ends order_one order_two some_scale are, units.0, units.1)
+
+no_round : (game : WeighedGame) (last every scale : ℕ) → last ≡ 0 → verdict game (certificate_of game.form (outcome game.form (own_head game last every scale))) ≡ Ok head_only
+no_round game last every scale none =
+    ap (verdict game) (certificate_without game last every scale none) ∙ (exact.head_alone game (own_head game last every scale)).1 (own_head-is game last every scale)
+
+pub accepted : TheCertificateOfARunIsAccepted
+accepted = record {
+  no_round = λ game head is none. ap (λ (g : Head). verdict game (certificate_of game.form (outcome game.form g))) (same_head game head is) ∙ no_round game head.rounds head.every head.scale none;
+  some_round = λ game head ends order_one order_two is some_unit some_scale are.
+      ap (λ (g : Head). verdict game (certificate_of game.form (outcome game.form g))) (same_head game head is) ∙ some_round game head.rounds head.every head.scale ends order_one order_two some_scale are;
+}

@@ -1,0 +1,3 @@
+pub mod OfRun
+pub mod Accepted
+pub mod Fits

@@ -1,0 +1,92 @@
+-- The certificate of a run, by its evaluations.
+use Rattle.std.proofs.Common.{◌≡◌, ℕ, ◌+◌, ◌*◌, ◌≤◌, List, [], ◌∷◌, length, Option, Some, None, refl, sym, ap, ◌∙◌}
+use Rattle.std.specs.Option.{option_map}
+use Rattle.def_tree.specs.declared.Player.TheVariants.{One, Two}
+use Rattle.def_plan.specs.Form.{SequenceForm, sequence_count}
+use Rattle.def_plan.specs.Payoff.{mass_of}
+use Rattle.def_reply.specs.Reply.{Reply, best_reply_to}
+use Rattle.def_round.specs.Rounds.{rounds}
+use Rattle.def_bracket.specs.Bracket.{BracketEnds, ends_of, TraceLine, trace}
+use Rattle.def_bracket.specs.Outcome.{Head, End, OutcomeEnds, Outcome}
+use Rattle.def_run.specs.Run.{evaluations, outcome}
+use Rattle.def_run.specs.Laws.{HasPlansOf, OutcomesShowTheirRun}
+use Rattle.def_run.proofs.EndLaws.{outcomes_show_their_run}
+use Rattle.def_cert_verdict.specs.Certificate.{PrintedBounds, Certificate}
+use Rattle.def_cert_verdict.specs.Verdict.{WeighedGame}
+use Rattle.def_cert_verdict.specs.Laws.{IsHeadOf, with_bounds, without_bounds}
+use Rattle.def_cert_accepted.specs.OfOutcome.{printed_bounds, certificate_of}
+
+-- ---- a head that is the game's
+abbrev pub own_head : WeighedGame → ℕ → ℕ → ℕ → Head
+own_head game last every scale = record {
+  nodes = game.nodes;
+  leaves = length game.form.leaves;
+  sets_one = length game.form.sets_one;
+  sets_two = length game.form.sets_two;
+  sequences_one = sequence_count game.form.sets_one;
+  sequences_two = sequence_count game.form.sets_two;
+  unit = game.unit;
+  mass = mass_of game.form.leaves;
+  rounds = last;
+  every = every;
+  scale = scale;
+}
+
+pub own_head-is : (game : WeighedGame) (last every scale : ℕ) → IsHeadOf game (own_head game last every scale)
+own_head-is game last every scale = record { nodes = refl; leaves = refl; sets_one = refl; sets_two = refl; sequences_one = refl; sequences_two = refl; unit = refl; mass_is = refl }
+
+pub same_head : (game : WeighedGame) (head : Head) → IsHeadOf game head → head ≡ own_head game head.rounds head.every head.scale
+same_head game head h =
+    ap (λ n. record head { nodes = n }) h.nodes
+    ∙ ap (λ n. record head { nodes = game.nodes; leaves = n }) h.leaves
+    ∙ ap (λ n. record head { nodes = game.nodes; leaves = length game.form.leaves; sets_one = n }) h.sets_one
+    ∙ ap (λ n. record head { nodes = game.nodes; leaves = length game.form.leaves; sets_one = length game.form.sets_one; sets_two = n }) h.sets_two
+    ∙ ap (λ n. record (own_head game head.rounds head.every head.scale) { sequences_one = n; sequences_two = head.sequences_two; unit = head.unit; mass = head.mass }) h.sequences_one
+    ∙ ap (λ n. record (own_head game head.rounds head.every head.scale) { sequences_two = n; unit = head.unit; mass = head.mass }) h.sequences_two
+    ∙ ap (λ n. record (own_head game head.rounds head.every head.scale) { unit = n; mass = head.mass }) h.unit
+    ∙ ap (λ n. record (own_head game head.rounds head.every head.scale) { mass = n }) h.mass_is
+
+-- ---- the ends of an outcome
+abbrev pub ends_at : SequenceForm → ℕ → BracketEnds → OutcomeEnds
+ends_at form scale ends =
+    let one : List ℕ = (rounds form scale ends.lower.round).sum_one in
+    let two : List ℕ = (rounds form scale ends.upper.round).sum_two in
+    record { lower = record { plan = one; reply = best_reply_to form Two one }; upper = record { plan = two; reply = best_reply_to form One two } }
+
+abbrev pub bounds_of_run : WeighedGame → ℕ → ℕ → ℕ → BracketEnds → PrintedBounds
+bounds_of_run game last every scale ends = printed_bounds game.form game.unit (trace (evaluations game.form scale every last)) (ends_at game.form scale ends)
+
+shown_are : (form : SequenceForm) (scale : ℕ) (ends : BracketEnds) (shown : OutcomeEnds) → HasPlansOf form scale ends shown → shown ≡ ends_at form scale ends
+shown_are form scale ends shown h =
+    let there = ends_at form scale ends in
+    ap (λ (p : List ℕ). record { lower = record { plan = p; reply = shown.lower.reply }; upper = shown.upper }) h.lower_plan
+    ∙ ap (λ (r : Reply). record { lower = record { plan = there.lower.plan; reply = r }; upper = shown.upper }) h.lower_reply
+    ∙ ap (λ (p : List ℕ). record { lower = there.lower; upper = record { plan = p; reply = shown.upper.reply } }) h.upper_plan
+    ∙ ap (λ (r : Reply). record { lower = there.lower; upper = record { plan = there.upper.plan; reply = r } }) h.upper_reply
+
+made : SequenceForm → Head → List TraceLine → Option OutcomeEnds → Certificate
+made form head lines ends = certificate_of form (record { head = head; trace = lines; ends = ends })
+
+made_of : (form : SequenceForm) (o : Outcome) (head : Head) (lines : List TraceLine) (ends : Option OutcomeEnds) → o.head ≡ head → o.trace ≡ lines → o.ends ≡ ends
+    → certificate_of form o ≡ made form head lines ends
+unfolding made
+made_of form o head lines ends h l e = ap (λ (g : Head). made form g o.trace o.ends) h ∙ ap (λ (t : List TraceLine). made form head t o.ends) l ∙ ap (made form head lines) e
+
+pub certificate_with : (game : WeighedGame) (last every scale : ℕ) (ends : BracketEnds) → ends_of (evaluations game.form scale every last) ≡ Some ends
+    → certificate_of game.form (outcome game.form (own_head game last every scale)) ≡ with_bounds (own_head game last every scale) (bounds_of_run game last every scale ends)
+unfolding made
+certificate_with game last every scale ends are =
+    let form = game.form in
+    let head = own_head game last every scale in
+    let shown = outcomes_show_their_run.ends form head ends are in
+    made_of form (outcome form head) head (trace (evaluations form scale every last)) (Some (ends_at form scale ends))
+    (outcomes_show_their_run.head form head) (outcomes_show_their_run.trace form head) (shown.1 ∙ ap Some (shown_are form scale ends shown.0 shown.2))
+
+pub certificate_without : (game : WeighedGame) (last every scale : ℕ) → last ≡ 0
+    → certificate_of game.form (outcome game.form (own_head game last every scale)) ≡ without_bounds (own_head game last every scale)
+unfolding made
+certificate_without game last every scale none =
+    let form = game.form in
+    let head = own_head game last every scale in
+    made_of form (outcome form head) head (trace (evaluations form scale every last)) None
+    (outcomes_show_their_run.head form head) (outcomes_show_their_run.trace form head) (outcomes_show_their_run.no_ends form head none)

@@ -1,0 +1,2 @@
+pub mod OfOutcome
+pub mod Laws

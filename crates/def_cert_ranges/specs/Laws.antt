@@ -1,0 +1,46 @@
+-- What holds of certificates within their ranges, whoever wrote them. Each law is the contract of a function of this crate.
+use Rattle.std.specs.Prelude.{◌≡◌, ℕ, ◌+◌, ◌*◌, ◌^◌, ◌≤◌, ◌<◌, ◌↔◌, List, length, slice_index, slice_index_or, All, ℤ, pos, ◌*ℤ◌, unsigned_abs, Ok}
+use Rattle.def_tree.specs.declared.Player.{Player}
+use Rattle.def_tree.specs.Opponent.{opponent}
+use Rattle.def_sums.specs.Limits.{most_mass}
+use Rattle.def_sums.specs.Sum.{nat_sum_over}
+use Rattle.def_plan.specs.Form.{InformationSet, placed, Leaf, leaf_sequence}
+use Rattle.def_plan.specs.Payoff.{leaf_sum, worth, mass_of}
+use Rattle.def_reply.specs.Reply.{Reply, values_of}
+use Rattle.def_bracket.specs.Bracket.{TraceLine}
+use Rattle.def_bracket.specs.Outcome.{Head}
+use Rattle.def_cert_verdict.specs.Certificate.{PrintedPlan, Certificate, numbers_of}
+use Rattle.def_cert_verdict.specs.Verdict.{WeighedGame, Verdict, head_only, verdict}
+use Rattle.def_cert_ranges.specs.Ranges.{TraceFits, PlanFits, ReplyFits, CertificateFits, most_unit, most_entries, HeadFits}
+
+-- an accepted certificate shows its head alone exactly where no round was asked
+abbrev pub HeadAloneWithoutRounds : Type 0
+HeadAloneWithoutRounds = (game : WeighedGame) (c : Certificate) (shown : Verdict) → CertificateFits c → verdict game c ≡ Ok shown
+    → (shown ≡ head_only) ↔ (c.head.rounds ≡ 0)
+
+-- the products of two lines of a trace, each end times the other line's round
+pub record ProductsOfLines (a b : TraceLine) : Type 0 where
+  pub low : unsigned_abs (a.low *ℤ pos b.low_round) ≤ 2 ^ 116
+  pub high : unsigned_abs (a.high *ℤ pos b.high_round) ≤ 2 ^ 116
+
+abbrev pub TraceProductsAreSmall : Type 0
+TraceProductsAreSmall = (head : Head) (lines : List TraceLine) (j k : ℕ) (line : TraceLine) → HeadFits head → TraceFits head lines
+    → j < length lines → k < length lines → ProductsOfLines (slice_index_or lines j line) (slice_index_or lines k line)
+
+-- the numbers of a set of a plan together, a root times the unit or the scale's rounds
+pub record SumsOfPlan (unit : ℕ) (plan : PrintedPlan) : Type 0 where
+  pub sets : All (λ ws. nat_sum_over (λ n. n) ws ≤ 2 ^ 46) plan.weights
+  pub scaled : unit * plan.root ≤ 2 ^ 98
+
+abbrev pub PlanSumsAreSmall : Type 0
+PlanSumsAreSmall = (unit sets : ℕ) (plan : PrintedPlan) → unit ≤ most_unit → PlanFits sets plan → SumsOfPlan unit plan
+
+-- all leaves' products with a printed plan together, all printed values together, and so each part of each worth
+pub record SumsOfReply (player : Player) (leaves : List Leaf) (sets : List InformationSet) (plan : PrintedPlan) (reply : Reply) : Type 0 where
+  pub leaf_sums : nat_sum_over (λ z. unsigned_abs (z.weight *ℤ pos (slice_index (numbers_of plan) (leaf_sequence (opponent player) z)))) leaves ≤ 2 ^ 98
+  pub values : nat_sum_over (λ r. unsigned_abs r.value) reply.sets ≤ 2 ^ 120
+  pub worths : (s : ℕ) → unsigned_abs (worth (leaf_sum player leaves (numbers_of plan)) (placed sets) (values_of reply.sets) s) ≤ 2 ^ 121
+
+abbrev pub WorthsAreSmall : Type 0
+WorthsAreSmall = (player : Player) (leaves : List Leaf) (sets : List InformationSet) (plan_sets reply_sets : ℕ) (plan : PrintedPlan) (reply : Reply)
+    → mass_of leaves ≤ most_mass → PlanFits plan_sets plan → reply_sets ≤ most_entries → ReplyFits reply_sets reply → SumsOfReply player leaves sets plan reply

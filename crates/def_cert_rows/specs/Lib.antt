@@ -1,0 +1,5 @@
+pub mod Changes
+pub mod Hidden
+pub mod Pennies
+pub mod Kuhn
+pub mod OneMover

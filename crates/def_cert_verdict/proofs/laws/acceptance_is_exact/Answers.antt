@@ -1,0 +1,5 @@
+use Rattle.def_cert_verdict.proofs.Decided.{exact}
+use Rattle.def_cert_verdict.proofs.laws.acceptance_is_exact.Goals as goal
+
+pub returns : goal.returns
+returns c = exact
