@@ -1,5 +1,6 @@
 pub mod History
 pub mod Core
+pub mod Locks
 pub mod Leaves
 pub mod Laws
 pub mod Worked

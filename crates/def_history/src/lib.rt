@@ -2,6 +2,7 @@
 //! that leads to them, for any number of passes and stripes. There is no code here; each function's contract is a law.
 #![tactic(auto)]
 
+ghost use Rattle.def_history.specs.Locks.{CountsTellRights, LegalReplaysAreSmall, LocalStepsAreSteps};
 ghost use Rattle.def_history.specs.Worked.{RunsToTheEnd, TwoJobsHaveThreeLeaves};
 ghost use Rattle.def_history.specs.Laws.{CountsEachRightOnce, EndsComplete, EndsWithLeafSums, EndsWithPlainSums, GivesUpByAdding, HoldsOnlyRights, HoldsOrGivesUp, JobsAddUpToLeaves, KeepsBagLegal, KeepsHistoriesLegal, PlacesEachRowOnce, ReplaysToPlainSum};
 
@@ -38,6 +39,21 @@ pub fn passes_hold_rights_of_jobs_and_stripes()
 /// With the bag empty and no right held, every job is in every history.
 pub fn histories_end_complete()
     ensures { EndsComplete }
+{}
+
+/// Who sees one lock's value and the rights that a pass holds takes a step of the core, whatever the rest of the state is.
+pub fn local_steps_are_steps()
+    ensures { LocalStepsAreSteps }
+{}
+
+/// Rights may be kept in any order.
+pub fn counts_tell_rights()
+    ensures { CountsTellRights }
+{}
+
+/// A stripe's totals stay within the sizes of all jobs' amounts, whichever jobs it has.
+pub fn legal_replays_are_small()
+    ensures { LegalReplaysAreSmall }
 {}
 
 /// The order of the additions changes nothing.
