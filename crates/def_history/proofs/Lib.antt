@@ -5,3 +5,4 @@ pub mod Ends
 pub mod Leaves
 pub mod Worked
 pub mod Locks
+pub mod Packets

@@ -73,11 +73,11 @@ permuted (x ∷ xs) ys same = from (permuted xs) (right_split x ys (let a = has_
     from later (front, back, is) =
         let rest : (job stripe : ℕ) → times_right job stripe xs ≡ times_right job stripe (front ++ back) =
         (λ (job stripe : ℕ).
-            let a = times_right-cons job stripe x xs in
-            let b = same job stripe in
-            let c = right-middle job stripe x front back in
-            let e : times_right job stripe ys ≡ times_right job stripe (front ++ x ∷ back) = ap (times_right job stripe) is in
-            omega (arith, a, b, c, e)) in
+        let a = times_right-cons job stripe x xs in
+        let b = same job stripe in
+        let c = right-middle job stripe x front back in
+        let e : times_right job stripe ys ≡ times_right job stripe (front ++ x ∷ back) = ap (times_right job stripe) is in
+        omega (arith, a, b, c, e)) in
         let moved = IsPermutation-sym _ _ (IsPermutation-middle front x back) in
         subst (IsPermutation (x ∷ xs)) (sym is) (IsPermutation-trans _ _ _ (IsPermutation-cons x xs (front ++ back) (later (front ++ back) rest)) moved)
 

@@ -3,6 +3,7 @@
 #![tactic(auto)]
 
 ghost use Rattle.def_history.specs.Locks.{CountsTellRights, LegalReplaysAreSmall, LocalStepsAreSteps};
+ghost use Rattle.def_history.specs.Packets.{PacketsBringAmounts, StripesHoldTheirRows};
 ghost use Rattle.def_history.specs.Worked.{RunsToTheEnd, TwoJobsHaveThreeLeaves};
 ghost use Rattle.def_history.specs.Laws.{CountsEachRightOnce, EndsComplete, EndsWithLeafSums, EndsWithPlainSums, GivesUpByAdding, HoldsOnlyRights, HoldsOrGivesUp, JobsAddUpToLeaves, KeepsBagLegal, KeepsHistoriesLegal, PlacesEachRowOnce, ReplaysToPlainSum};
 
@@ -69,6 +70,16 @@ pub fn rows_end_as_plain_sums()
 /// Rows are dealt to the stripes in turn.
 pub fn each_row_has_one_place()
     ensures { PlacesEachRowOnce }
+{}
+
+/// Which places of a stripe have a row.
+pub fn stripes_hold_their_rows()
+    ensures { StripesHoldTheirRows }
+{}
+
+/// A packet is enough of a job's amounts.
+pub fn packets_bring_amounts()
+    ensures { PacketsBringAmounts }
 {}
 
 /// The sum over the jobs and the sum over their leaves are one.
