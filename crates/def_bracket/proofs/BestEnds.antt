@@ -5,7 +5,7 @@ use Rattle.std.proofs.lemmas.Option.{none-some}
 use Rattle.std.proofs.lemmas.List.{append-nil, get_or_append_left, get_or_at, take-append-le, take_at, get_or-take, length-take-le}
 use Rattle.std.proofs.lemmas.List.Elements.{All-push, All-weaker, All-head, All-tail, All-cons, All-nil}
 use Rattle.def_sums.proofs.RingLaws.{≤ℤ_refl}
-use Rattle.def_bracket.specs.Bracket.{Evaluation, Ends, HasLowerFloor, HasFloorAtMost, HasLowerCeiling, HasCeilingAtMost, higher_floor, lower_ceiling, next_ends, first_ends, ends_of, IsLowerEnd, IsUpperEnd}
+use Rattle.def_bracket.specs.Bracket.{Evaluation, BracketEnds, HasLowerFloor, HasFloorAtMost, HasLowerCeiling, HasCeilingAtMost, higher_floor, lower_ceiling, next_ends, first_ends, ends_of, IsLowerEnd, IsUpperEnd}
 use Rattle.def_bracket.specs.Laws.{AreAfterRounds, EndsAreTheEarliestBest}
 use Rattle.def_bracket.proofs.Compares.{int_lt_tells, less_at_most, not_less, at_most-less, less-at_most}
 
@@ -105,30 +105,30 @@ ceilings = record {
       (int_lt_tells (next.high *ℤ pos kept.round) (kept.high *ℤ pos next.round));
 }
 
-pub fold-lower : (ends : Ends) (es : List Evaluation) → (fold next_ends ends es).lower ≡ fold higher_floor ends.lower es
+pub fold-lower : (ends : BracketEnds) (es : List Evaluation) → (fold next_ends ends es).lower ≡ fold higher_floor ends.lower es
 fold-lower ends [] = refl
 fold-lower ends (e ∷ es) = fold-lower (next_ends ends e) es
 
-pub fold-upper : (ends : Ends) (es : List Evaluation) → (fold next_ends ends es).upper ≡ fold lower_ceiling ends.upper es
+pub fold-upper : (ends : BracketEnds) (es : List Evaluation) → (fold next_ends ends es).upper ≡ fold lower_ceiling ends.upper es
 fold-upper ends [] = refl
 fold-upper ends (e ∷ es) = fold-upper (next_ends ends e) es
 
-value : Option Ends → Ends → Ends
+value : Option BracketEnds → BracketEnds → BracketEnds
 value None d = d
 value (Some e) d = e
 
-pub ends-are : (a b : Ends) → Some a ≡ Some b → a ≡ b
+pub ends-are : (a b : BracketEnds) → Some a ≡ Some b → a ≡ b
 unfolding value
 ends-are a b e = ap (λ o. value o a) e
 
-lower_end : (es : List Evaluation) (ends : Ends) → AreAfterRounds es → ends_of es ≡ Some ends → IsLowerEnd es ends.lower
+lower_end : (es : List Evaluation) (ends : BracketEnds) → AreAfterRounds es → ends_of es ≡ Some ends → IsLowerEnd es ends.lower
 lower_end [] ends rounds e = absurd (none-some ends e)
 lower_end (a ∷ rest) ends rounds e =
     let f = from_first floors a rest rounds in
     let is : fold higher_floor a rest ≡ ends.lower = sym (fold-lower (first_ends a) rest) ∙ ap (λ x. x.lower) (ends-are (fold next_ends (first_ends a) rest) ends e) in
     subst (IsLowerEnd (a ∷ rest)) is (record { place = f.place; within = f.within; stands = f.stands; greatest = f.greatest; earliest = f.earliest })
 
-upper_end : (es : List Evaluation) (ends : Ends) → AreAfterRounds es → ends_of es ≡ Some ends → IsUpperEnd es ends.upper
+upper_end : (es : List Evaluation) (ends : BracketEnds) → AreAfterRounds es → ends_of es ≡ Some ends → IsUpperEnd es ends.upper
 upper_end [] ends rounds e = absurd (none-some ends e)
 upper_end (a ∷ rest) ends rounds e =
     let f = from_first ceilings a rest rounds in

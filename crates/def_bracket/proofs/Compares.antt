@@ -4,6 +4,7 @@ use Rattle.std.proofs.Math.Nat.{mul-le-mul}
 use Rattle.std.proofs.lemmas.Int.{ints, by_lt_z, unsigned_abs-mul}
 use Rattle.std.proofs.lemmas.Bool.{cases_Bool}
 use Rattle.def_sums.proofs.RingLaws.{*ℤ_assoc, ≤ℤ_trans, *ℤ-mono_right, *ℤ-cancel_right}
+use Rattle.def_sums.specs.Limits.{most_rounds}
 
 lt_yes : (x y : ℤ) → int_lt x y ≡ true → x <ℤ y
 lt_yes x y e = omega (arith, ints)
@@ -43,5 +44,5 @@ pub less-at_most : (a b c : ℤ) (m n o : ℕ) → 1 ≤ o → (a *ℤ pos n) <�
 less-at_most a b c m n o some h k =
     by_lt_z (a *ℤ pos o) (c *ℤ pos m) (λ less. less) (λ le. absurd (not_less (a *ℤ pos n) (b *ℤ pos m) h (at_most-trans b c a n o m some k le)))
 
-pub product-below : (bound : ℤ) (round : ℕ) → unsigned_abs bound ≤ 2 ^ 98 → round ≤ 2 ^ 16 → unsigned_abs (bound *ℤ pos round) < 2 ^ 115
+pub product-below : (bound : ℤ) (round : ℕ) → unsigned_abs bound ≤ 2 ^ 98 → round ≤ most_rounds → unsigned_abs (bound *ℤ pos round) < 2 ^ 115
 product-below bound round h k = omega (arith, unsigned_abs-mul bound (pos round), mul-le-mul h k)

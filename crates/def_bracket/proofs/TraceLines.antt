@@ -3,11 +3,11 @@ use Rattle.std.proofs.Common.{◌≡◌, ℕ, zero, suc, ◌+◌, ◌≤◌, ◌
 use Rattle.std.proofs.lemmas.Option.{none-some}
 use Rattle.std.proofs.lemmas.List.{get_or-take, length-take-le, take-take}
 use Rattle.std.proofs.lemmas.List.Elements.{All-take}
-use Rattle.def_bracket.specs.Bracket.{Evaluation, Ends, HasFloorAtMost, HasCeilingAtMost, next_ends, first_ends, ends_of, TraceLine, trace_line, trace_after, trace, LiesWithin}
+use Rattle.def_bracket.specs.Bracket.{Evaluation, BracketEnds, HasFloorAtMost, HasCeilingAtMost, next_ends, first_ends, ends_of, TraceLine, trace_line, trace_after, trace, LiesWithin}
 use Rattle.def_bracket.specs.Laws.{AreAfterRounds, TraceHasALineForEach, TraceNeverWidens}
 use Rattle.def_bracket.proofs.BestEnds.{ends-are, best_ends}
 
-count_after : (ends : Ends) (es : List Evaluation) → length (trace_after ends es) ≡ length es
+count_after : (ends : BracketEnds) (es : List Evaluation) → length (trace_after ends es) ≡ length es
 count_after ends [] = refl
 count_after ends (e ∷ es) = ap suc (count_after (next_ends ends e) es)
 
@@ -15,15 +15,15 @@ count : (es : List Evaluation) → length (trace es) ≡ length es
 count [] = refl
 count (e ∷ es) = ap suc (count_after (first_ends e) es)
 
-on_ends : (ends : Ends) (es : List Evaluation) (e : Evaluation) → fold next_ends ends (es ++ e ∷ []) ≡ next_ends (fold next_ends ends es) e
+on_ends : (ends : BracketEnds) (es : List Evaluation) (e : Evaluation) → fold next_ends ends (es ++ e ∷ []) ≡ next_ends (fold next_ends ends es) e
 on_ends ends [] e = refl
 on_ends ends (a ∷ es) e = on_ends (next_ends ends a) es e
 
-on_trace : (ends : Ends) (es : List Evaluation) (e : Evaluation) → trace_after ends (es ++ e ∷ []) ≡ trace_after ends es ++ trace_line e.round (next_ends (fold next_ends ends es) e) ∷ []
+on_trace : (ends : BracketEnds) (es : List Evaluation) (e : Evaluation) → trace_after ends (es ++ e ∷ []) ≡ trace_after ends es ++ trace_line e.round (next_ends (fold next_ends ends es) e) ∷ []
 on_trace ends [] e = refl
 on_trace ends (a ∷ es) e = ap (λ ls. trace_line a.round (next_ends ends a) ∷ ls) (on_trace (next_ends ends a) es e)
 
-goes_on : (es : List Evaluation) (ends : Ends) (e : Evaluation) → ends_of es ≡ Some ends
+goes_on : (es : List Evaluation) (ends : BracketEnds) (e : Evaluation) → ends_of es ≡ Some ends
     → (ends_of (es ++ e ∷ []) ≡ Some (next_ends ends e)) × (trace (es ++ e ∷ []) ≡ trace es ++ trace_line e.round (next_ends ends e) ∷ [])
 goes_on [] ends e is = absurd (none-some ends is)
 goes_on (a ∷ es) ends e is =
@@ -32,7 +32,7 @@ goes_on (a ∷ es) ends e is =
       ap (λ ls. trace_line a.round (first_ends a) ∷ ls) (on_trace (first_ends a) es e ∙ ap (λ k. trace_after (first_ends a) es ++ trace_line e.round (next_ends k e) ∷ []) now),
     )
 
-each_after : (ends : Ends) (es : List Evaluation) (k : ℕ) (line : TraceLine) (d : Evaluation) → k < length es
+each_after : (ends : BracketEnds) (es : List Evaluation) (k : ℕ) (line : TraceLine) (d : Evaluation) → k < length es
     → get_or (trace_after ends es) k line ≡ trace_line (get_or es k d).round (fold next_ends ends (take (suc k) es))
 each_after ends [] k line d low = absurd (omega arith)
 each_after ends (e ∷ es) zero line d low = refl
@@ -44,7 +44,7 @@ each_line : (e : Evaluation) (es : List Evaluation) (k : ℕ) (line : TraceLine)
 each_line e es zero line d low = refl
 each_line e es (suc k) line d low = each_after (first_ends e) es k line d (omega arith)
 
-each : (es : List Evaluation) (k : ℕ) (ends : Ends) (line : TraceLine) (d : Evaluation) → k < length es → ends_of (take (k + 1) es) ≡ Some ends
+each : (es : List Evaluation) (k : ℕ) (ends : BracketEnds) (line : TraceLine) (d : Evaluation) → k < length es → ends_of (take (k + 1) es) ≡ Some ends
     → get_or (trace es) k line ≡ trace_line (get_or es k d).round ends
 each [] k ends line d low is = absurd (omega arith)
 each (e ∷ es) k ends line d low is =
@@ -55,7 +55,7 @@ pub trace_lines : TraceHasALineForEach
 trace_lines = record { count = count; begins = λ e. (refl, refl); goes_on = goes_on; each = each }
 
 -- the ends up to k are best among more
-within : (es : List Evaluation) (j k : ℕ) (a b : Ends) → AreAfterRounds es → j ≤ k → k < length es → ends_of (take (suc j) es) ≡ Some a → ends_of (take (suc k) es) ≡ Some b
+within : (es : List Evaluation) (j k : ℕ) (a b : BracketEnds) → AreAfterRounds es → j ≤ k → k < length es → ends_of (take (suc j) es) ≡ Some a → ends_of (take (suc k) es) ≡ Some b
     → HasFloorAtMost a.lower b.lower × HasCeilingAtMost b.upper a.upper
 within es j k a b rounds le low at_j at_k =
     let earlier : List Evaluation = take (suc j) es in
@@ -76,14 +76,14 @@ within es j k a b rounds le low at_j at_k =
       subst (λ x. HasCeilingAtMost b.upper x) (found upper.place a.upper upper.within (upper.stands a.upper)) (upper'.least upper.place a.upper (omega (arith, upper.within))),
     )
 
-lies_within : (line line' : TraceLine) (r r' : ℕ) (a b : Ends) → line ≡ trace_line r b → line' ≡ trace_line r' a → HasFloorAtMost a.lower b.lower × HasCeilingAtMost b.upper a.upper → LiesWithin line line'
+lies_within : (line line' : TraceLine) (r r' : ℕ) (a b : BracketEnds) → line ≡ trace_line r b → line' ≡ trace_line r' a → HasFloorAtMost a.lower b.lower × HasCeilingAtMost b.upper a.upper → LiesWithin line line'
 lies_within line line' r r' a b e e' h = subst (λ x. LiesWithin x line') (sym e) (subst (λ x. LiesWithin (trace_line r b) x) (sym e') (record { not_lower = h.0; not_higher = h.1 }))
 
 pub never_widens : TraceNeverWidens
 never_widens [] j k line rounds le low = absurd (omega arith)
 never_widens (e ∷ es) j k line rounds le low =
-    let a : Ends = fold next_ends (first_ends e) (take j es) in
-    let b : Ends = fold next_ends (first_ends e) (take k es) in
+    let a : BracketEnds = fold next_ends (first_ends e) (take j es) in
+    let b : BracketEnds = fold next_ends (first_ends e) (take k es) in
     lies_within (get_or (trace (e ∷ es)) k line) (get_or (trace (e ∷ es)) j line) (get_or (e ∷ es) k e).round (get_or (e ∷ es) j e).round a b
     (each_line e es k line e low) (each_line e es j line e (omega arith))
     (within (e ∷ es) j k a b rounds le low refl refl)

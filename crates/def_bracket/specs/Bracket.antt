@@ -28,7 +28,7 @@ abbrev pub HasCeilingAtMost : Evaluation → Evaluation → Type 0
 HasCeilingAtMost a b = (a.high *ℤ pos b.round) ≤ℤ (b.high *ℤ pos a.round)
 
 -- the lower end comes from the evaluation with the greatest floor, the upper end from that with the least ceiling
-pub record Ends : Type 0 where
+pub record BracketEnds : Type 0 where
   pub lower : Evaluation
   pub upper : Evaluation
 
@@ -39,14 +39,14 @@ higher_floor kept next = if int_lt (kept.low *ℤ pos next.round) (next.low *ℤ
 abbrev pub lower_ceiling : Evaluation → Evaluation → Evaluation
 lower_ceiling kept next = if int_lt (next.high *ℤ pos kept.round) (kept.high *ℤ pos next.round) then next else kept
 
-abbrev pub next_ends : Ends → Evaluation → Ends
+abbrev pub next_ends : BracketEnds → Evaluation → BracketEnds
 next_ends ends e = record { lower = higher_floor ends.lower e; upper = lower_ceiling ends.upper e }
 
-abbrev pub first_ends : Evaluation → Ends
+abbrev pub first_ends : Evaluation → BracketEnds
 first_ends e = record { lower = e; upper = e }
 
 -- the ends after some evaluations, if there was one
-abbrev pub ends_of : List Evaluation → Option Ends
+abbrev pub ends_of : List Evaluation → Option BracketEnds
 ends_of [] = None
 ends_of (e ∷ es) = Some (fold next_ends (first_ends e) es)
 
@@ -58,7 +58,7 @@ pub record TraceLine : Type 0 where
   pub high_round : ℕ
   pub high : ℤ
 
-abbrev pub trace_line : ℕ → Ends → TraceLine
+abbrev pub trace_line : ℕ → BracketEnds → TraceLine
 trace_line round ends = record {
   round = round;
   low_round = ends.lower.round;
@@ -67,7 +67,7 @@ trace_line round ends = record {
   high = ends.upper.high;
 }
 
-abbrev pub trace_after : Ends → List Evaluation → List TraceLine
+abbrev pub trace_after : BracketEnds → List Evaluation → List TraceLine
 trace_after ends [] = []
 trace_after ends (e ∷ es) = trace_line e.round (next_ends ends e) ∷ trace_after (next_ends ends e) es
 

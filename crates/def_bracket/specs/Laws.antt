@@ -2,7 +2,8 @@
 use Rattle.std.specs.Prelude.{◌≡◌, ℕ, ◌+◌, ◌-◌, ◌*◌, ◌/◌, ◌%◌, ◌^◌, ◌≤◌, ◌<◌, min, ◌⊎◌, ◌↔◌, List, [], ◌∷◌, ◌++◌, map, length, take, slice_index_or, All, Contains, ℤ, pos, ◌*ℤ◌, unsigned_abs, Some}
 use Rattle.std.specs.List.{range_with_len}
 use Rattle.std.specs.List.Sorted.{IsStrictlyIncreasing}
-use Rattle.def_bracket.specs.Bracket.{evaluated_rounds, Evaluation, Ends, next_ends, first_ends, ends_of, TraceLine, trace_line, trace, IsLowerEnd, IsUpperEnd, LiesWithin}
+use Rattle.def_sums.specs.Limits.{most_rounds}
+use Rattle.def_bracket.specs.Bracket.{evaluated_rounds, Evaluation, BracketEnds, next_ends, first_ends, ends_of, TraceLine, trace_line, trace, IsLowerEnd, IsUpperEnd, LiesWithin}
 
 -- each evaluation is after at least one round
 abbrev pub AreAfterRounds : List Evaluation → Type 0
@@ -10,8 +11,8 @@ AreAfterRounds evaluations = All (λ e. 1 ≤ e.round) evaluations
 
 -- the ends are the earliest best ones, and there are no others
 pub record EndsAreTheEarliestBest : Type 0 where
-  pub lower : (evaluations : List Evaluation) (ends : Ends) → AreAfterRounds evaluations → ends_of evaluations ≡ Some ends → IsLowerEnd evaluations ends.lower
-  pub upper : (evaluations : List Evaluation) (ends : Ends) → AreAfterRounds evaluations → ends_of evaluations ≡ Some ends → IsUpperEnd evaluations ends.upper
+  pub lower : (evaluations : List Evaluation) (ends : BracketEnds) → AreAfterRounds evaluations → ends_of evaluations ≡ Some ends → IsLowerEnd evaluations ends.lower
+  pub upper : (evaluations : List Evaluation) (ends : BracketEnds) → AreAfterRounds evaluations → ends_of evaluations ≡ Some ends → IsUpperEnd evaluations ends.upper
   pub lower_only : (evaluations : List Evaluation) (e f : Evaluation) → IsLowerEnd evaluations e → IsLowerEnd evaluations f → e ≡ f
   pub upper_only : (evaluations : List Evaluation) (e f : Evaluation) → IsUpperEnd evaluations e → IsUpperEnd evaluations f → e ≡ f
 
@@ -19,9 +20,9 @@ pub record EndsAreTheEarliestBest : Type 0 where
 pub record TraceHasALineForEach : Type 0 where
   pub count : (evaluations : List Evaluation) → length (trace evaluations) ≡ length evaluations
   pub begins : (e : Evaluation) → (ends_of (e ∷ []) ≡ Some (first_ends e)) × (trace (e ∷ []) ≡ trace_line e.round (first_ends e) ∷ [])
-  pub goes_on : (evaluations : List Evaluation) (ends : Ends) (e : Evaluation) → ends_of evaluations ≡ Some ends
+  pub goes_on : (evaluations : List Evaluation) (ends : BracketEnds) (e : Evaluation) → ends_of evaluations ≡ Some ends
       → (ends_of (evaluations ++ e ∷ []) ≡ Some (next_ends ends e)) × (trace (evaluations ++ e ∷ []) ≡ trace evaluations ++ trace_line e.round (next_ends ends e) ∷ [])
-  pub each : (evaluations : List Evaluation) (k : ℕ) (ends : Ends) (line : TraceLine) (e : Evaluation) → k < length evaluations → ends_of (take (k + 1) evaluations) ≡ Some ends
+  pub each : (evaluations : List Evaluation) (k : ℕ) (ends : BracketEnds) (line : TraceLine) (e : Evaluation) → k < length evaluations → ends_of (take (k + 1) evaluations) ≡ Some ends
       → slice_index_or (trace evaluations) k line ≡ trace_line (slice_index_or evaluations k e).round ends
 
 -- no line is wider than an earlier one
@@ -38,5 +39,5 @@ pub record RoundsAreEvaluated : Type 0 where
       → evaluated_rounds every last ≡ map (λ i. min (i * every) last) (range_with_len 1 ((last + every - 1) / every))
 
 -- a bound of an evaluation times a round
-abbrev pub ProductsAreSmall : Type 0
-ProductsAreSmall = (bound : ℤ) (round : ℕ) → unsigned_abs bound ≤ 2 ^ 98 → round ≤ 2 ^ 16 → unsigned_abs (bound *ℤ pos round) < 2 ^ 115
+abbrev pub BracketProductsAreSmall : Type 0
+BracketProductsAreSmall = (bound : ℤ) (round : ℕ) → unsigned_abs bound ≤ 2 ^ 98 → round ≤ most_rounds → unsigned_abs (bound *ℤ pos round) < 2 ^ 115

@@ -4,7 +4,7 @@
 
 ghost use Rattle.std.specs.Prelude.{◌≡◌, [], ◌∷◌, pos, negsuc};
 ghost use Rattle.def_bracket.specs.Bracket.{evaluated_rounds, trace};
-ghost use Rattle.def_bracket.specs.Laws.{EndsAreTheEarliestBest, TraceHasALineForEach, TraceNeverWidens, RoundsAreEvaluated, ProductsAreSmall};
+ghost use Rattle.def_bracket.specs.Laws.{EndsAreTheEarliestBest, TraceHasALineForEach, TraceNeverWidens, RoundsAreEvaluated, BracketProductsAreSmall};
 
 /// The ends by what is best.
 pub fn ends_are_the_earliest_best()
@@ -27,8 +27,8 @@ pub fn rounds_are_evaluated()
 {}
 
 /// Sizes of the products that are compared.
-pub fn products_are_small()
-    ensures { ProductsAreSmall }
+pub fn bracket_products_are_small()
+    ensures { BracketProductsAreSmall }
 {}
 
 /// One mover, two rounds: both ceilings are equal, and the first is kept.

@@ -4,7 +4,7 @@
 
 ghost use Rattle.std.specs.Prelude.{◌≡◌, [], ◌∷◌, Some, None, pos, negsuc};
 ghost use Rattle.def_tree.specs.declared.Player.TheVariants.{One, Two};
-ghost use Rattle.def_reply.specs.Kuhn.{kuhn};
+ghost use Rattle.def_examples.specs.Kuhn.{kuhn};
 ghost use Rattle.def_cert_verdict.specs.Even.{even_certificate, widened_certificate};
 ghost use Rattle.def_cert_verdict.specs.Laws.{AcceptanceIsExact, AcceptedCertificatesShowTheirBounds, TheFirstFailureDecides};
 ghost use Rattle.def_cert_verdict.specs.Verdict.{verdict, not_a_plan, value_too_good, reply_not_tight, total_differs, trace_widens};

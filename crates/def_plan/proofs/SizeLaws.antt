@@ -10,9 +10,10 @@ use Rattle.def_tree.specs.Opponent.{opponent}
 use Rattle.def_sums.specs.Sum.{nat_sum_over}
 use Rattle.def_sums.proofs.SumLaws.{unsigned_abs-sum_over, nat_sum_over-mono, nat_sum_over-factor}
 use Rattle.def_sums.proofs.Ranges.{at_most_sum, nat_gathered}
-use Rattle.def_plan.specs.Form.{InformationSet, PlacedSet, placed_from, sequence_count, sequences, IsInOrder, AreInOrder, Leaf, sequence_at}
+use Rattle.def_sums.specs.Limits.{most_mass, most_scale, most_root}
+use Rattle.def_plan.specs.Form.{InformationSet, PlacedSet, placed_from, sequence_count, sequences, IsInOrder, AreInOrder, Leaf, leaf_sequence}
 use Rattle.def_plan.specs.Plan.{AddsUp, IsPlan}
-use Rattle.def_plan.specs.Payoff.{leaf_sum, mass}
+use Rattle.def_plan.specs.Payoff.{leaf_sum, mass_of}
 
 below : (root first : ℕ) (x : List ℕ) (hs : List InformationSet) → All IsInOrder (placed_from first hs) → All (AddsUp x) (placed_from first hs)
     → ((s : ℕ) → s < first → slice_index x s ≤ root) → (s : ℕ) → s < first + nat_sum_over (λ h. h.actions) hs → slice_index x s ≤ root
@@ -38,29 +39,29 @@ term : (w : ℤ) (n root : ℕ) → n ≤ root → unsigned_abs (w *ℤ pos n) �
 term w n root h = omega (arith, unsigned_abs-mul w (pos n), mul-le-mul_left (unsigned_abs w) h)
 
 pub leaf_sums-below : (player : Player) (leaves : List Leaf) (sets against_sets : List InformationSet) (root : ℕ) (x : List ℕ)
-    → AreInOrder against_sets → IsPlan against_sets root x → nat_sum_over (λ s. unsigned_abs (leaf_sum player leaves x s)) (sequences sets) ≤ mass leaves * root
+    → AreInOrder against_sets → IsPlan against_sets root x → nat_sum_over (λ s. unsigned_abs (leaf_sum player leaves x s)) (sequences sets) ≤ mass_of leaves * root
 leaf_sums-below player leaves sets against_sets root x order p =
     let size : Leaf → ℕ = λ z. unsigned_abs z.weight * root in
-    let amount : Leaf → ℤ = λ z. z.weight *ℤ pos (slice_index x (sequence_at (opponent player) z)) in
-    let of_one : (s : ℕ) → unsigned_abs (leaf_sum player leaves x s) ≤ nat_sum_over size (filter (λ z. eqb (sequence_at player z) s) leaves) =
+    let amount : Leaf → ℤ = λ z. z.weight *ℤ pos (slice_index x (leaf_sequence (opponent player) z)) in
+    let of_one : (s : ℕ) → unsigned_abs (leaf_sum player leaves x s) ≤ nat_sum_over size (filter (λ z. eqb (leaf_sequence player z) s) leaves) =
     λ s.
-    let kept = filter (λ z. eqb (sequence_at player z) s) leaves in
+    let kept = filter (λ z. eqb (leaf_sequence player z) s) leaves in
     omega (
       arith,
       unsigned_abs-sum_over amount kept,
       nat_sum_over-mono (λ z. unsigned_abs (amount z)) size kept
-          (λ k d low. let z : Leaf = get_or kept k d in term z.weight (slice_index x (sequence_at (opponent player) z)) root (plan-below_root against_sets root x order p (sequence_at (opponent player) z))),
+          (λ k d low. let z : Leaf = get_or kept k d in term z.weight (slice_index x (leaf_sequence (opponent player) z)) root (plan-below_root against_sets root x order p (leaf_sequence (opponent player) z))),
     )
     in
     omega (
       arith,
-      nat_sum_over-mono (λ s. unsigned_abs (leaf_sum player leaves x s)) (λ s. nat_sum_over size (filter (λ z. eqb (sequence_at player z) s) leaves)) (sequences sets) (λ k d low. of_one (get_or (sequences sets) k d)),
-      nat_gathered (sequence_at player) size 0 (sequence_count sets) leaves,
+      nat_sum_over-mono (λ s. unsigned_abs (leaf_sum player leaves x s)) (λ s. nat_sum_over size (filter (λ z. eqb (leaf_sequence player z) s) leaves)) (sequences sets) (λ k d low. of_one (get_or (sequences sets) k d)),
+      nat_gathered (leaf_sequence player) size 0 (sequence_count sets) leaves,
       nat_sum_over-factor root (λ z. unsigned_abs z.weight) leaves,
     )
 
-pub of_a_round : (leaves : List Leaf) (root : ℕ) → mass leaves ≤ 2 ^ 62 → root ≤ 2 ^ 20 → mass leaves * root ≤ 2 ^ 82
+pub of_a_round : (leaves : List Leaf) (root : ℕ) → mass_of leaves ≤ most_mass → root ≤ most_scale → mass_of leaves * root ≤ 2 ^ 82
 of_a_round leaves root h k = mul-le-mul h k
 
-pub of_an_evaluation : (leaves : List Leaf) (root : ℕ) → mass leaves ≤ 2 ^ 62 → root ≤ 2 ^ 36 → mass leaves * root ≤ 2 ^ 98
+pub of_an_evaluation : (leaves : List Leaf) (root : ℕ) → mass_of leaves ≤ most_mass → root ≤ most_root → mass_of leaves * root ≤ 2 ^ 98
 of_an_evaluation leaves root h k = mul-le-mul h k

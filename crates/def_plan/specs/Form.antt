@@ -54,11 +54,11 @@ pub record SequenceForm : Type 0 where
   pub sets_two : List InformationSet
   pub leaves : List Leaf
 
-abbrev pub sets_of : SequenceForm → Player → List InformationSet
-sets_of form One = form.sets_one
-sets_of form Two = form.sets_two
+abbrev pub player_sets : SequenceForm → Player → List InformationSet
+player_sets form One = form.sets_one
+player_sets form Two = form.sets_two
 
 -- a player's sequence at a leaf
-abbrev pub sequence_at : Player → Leaf → ℕ
-sequence_at One z = z.sequence_one
-sequence_at Two z = z.sequence_two
+abbrev pub leaf_sequence : Player → Leaf → ℕ
+leaf_sequence One z = z.sequence_one
+leaf_sequence Two z = z.sequence_two

@@ -4,9 +4,10 @@ use Rattle.std.specs.List.{AllZip}
 use Rattle.def_tree.specs.declared.Player.{Player}
 use Rattle.def_tree.specs.declared.Player.TheVariants.{One, Two}
 use Rattle.def_sums.specs.Sum.{nat_sum_over}
+use Rattle.def_sums.specs.Limits.{most_mass, most_scale, most_root}
 use Rattle.def_plan.specs.Form.{InformationSet, PlacedSet, placed, sequences_of, sequence_count, sequences, AreInOrder, Leaf}
 use Rattle.def_plan.specs.Plan.{IsPlan, dealt, DealsWhole, FollowsRules, AreActions, FollowsChoices, pure_plan, added, bad_set, IsBadSet}
-use Rattle.def_plan.specs.Payoff.{pay, leaf_sum, gain, worth, mass, IsNoBetter, NoActionIsBetter, PlaysOnlyTight}
+use Rattle.def_plan.specs.Payoff.{pay, leaf_sum, gain, worth, mass_of, IsNoBetter, NoActionIsBetter, PlaysOnlyTight}
 
 -- the empty sequence and then those of each set in turn are all sequences, and a set's place tells its first one
 pub record SequencesAreNumbered : Type 0 where
@@ -69,6 +70,6 @@ pub record PlansAreSmall : Type 0 where
   pub numbers : (sets : List InformationSet) (root : ℕ) (plan : List ℕ) → AreInOrder sets → IsPlan sets root plan → (s : ℕ) → slice_index plan s ≤ root
   pub leaf_sums : (player : Player) (leaves : List Leaf) (sets against_sets : List InformationSet) (root : ℕ) (plan : List ℕ)
       → AreInOrder against_sets → IsPlan against_sets root plan
-      → nat_sum_over (λ s. unsigned_abs (leaf_sum player leaves plan s)) (sequences sets) ≤ mass leaves * root
-  pub of_a_round : (leaves : List Leaf) (root : ℕ) → mass leaves ≤ 2 ^ 62 → root ≤ 2 ^ 20 → mass leaves * root ≤ 2 ^ 82
-  pub of_an_evaluation : (leaves : List Leaf) (root : ℕ) → mass leaves ≤ 2 ^ 62 → root ≤ 2 ^ 36 → mass leaves * root ≤ 2 ^ 98
+      → nat_sum_over (λ s. unsigned_abs (leaf_sum player leaves plan s)) (sequences sets) ≤ mass_of leaves * root
+  pub of_a_round : (leaves : List Leaf) (root : ℕ) → mass_of leaves ≤ most_mass → root ≤ most_scale → mass_of leaves * root ≤ 2 ^ 82
+  pub of_an_evaluation : (leaves : List Leaf) (root : ℕ) → mass_of leaves ≤ most_mass → root ≤ most_root → mass_of leaves * root ≤ 2 ^ 98

@@ -5,7 +5,7 @@ use Rattle.def_tree.specs.declared.Player.{Player}
 use Rattle.def_tree.specs.declared.Player.TheVariants.{One, Two}
 use Rattle.def_tree.specs.Opponent.{opponent}
 use Rattle.def_sums.specs.Sum.{sum_over, nat_sum_over}
-use Rattle.def_plan.specs.Form.{InformationSet, PlacedSet, placed, sequences_of, sequences, Leaf, sequence_at}
+use Rattle.def_plan.specs.Form.{InformationSet, PlacedSet, placed, sequences_of, sequences, Leaf, leaf_sequence}
 
 -- the payoff of player one: over all leaves the weight times both players' numbers
 abbrev pub pay : List Leaf → List ℕ → List ℕ → ℤ
@@ -15,7 +15,7 @@ pay leaves plan_one plan_two =
 -- the leaf sum of a player's sequence against a plan of the other player, in player one's payoff
 abbrev pub leaf_sum : Player → List Leaf → List ℕ → ℕ → ℤ
 leaf_sum player leaves against s =
-    sum_over (λ z. z.weight *ℤ pos (slice_index against (sequence_at (opponent player) z))) (filter (λ z. sequence_at player z == s) leaves)
+    sum_over (λ z. z.weight *ℤ pos (slice_index against (leaf_sequence (opponent player) z))) (filter (λ z. leaf_sequence player z == s) leaves)
 
 -- what a plan gains from a number for each sequence, as the leaf sums are
 abbrev pub gain : (ℕ → ℤ) → List InformationSet → List ℕ → ℤ
@@ -45,5 +45,5 @@ PlaysOnlyTight sums sets values plan =
     AllZip (λ h value. All (λ s. 0 < slice_index plan s → worth sums (placed sets) values s ≡ value) (sequences_of h)) (placed sets) values
 
 -- the sizes of all weights together
-abbrev pub mass : List Leaf → ℕ
-mass leaves = nat_sum_over (λ z. unsigned_abs z.weight) leaves
+abbrev pub mass_of : List Leaf → ℕ
+mass_of leaves = nat_sum_over (λ z. unsigned_abs z.weight) leaves

@@ -5,7 +5,7 @@
 ghost use Rattle.std.specs.Prelude.{◌≡◌, [], ◌∷◌, Some, None, pos, negsuc};
 ghost use Rattle.def_plan.specs.Plan.{bad_set, pure_plan, added};
 ghost use Rattle.def_tree.specs.declared.Player.TheVariants.{One, Two};
-ghost use Rattle.def_plan.specs.Payoff.{pay, leaf_sum, mass};
+ghost use Rattle.def_plan.specs.Payoff.{pay, leaf_sum, mass_of};
 ghost use Rattle.def_plan.specs.Pennies.{pennies, one_set};
 ghost use Rattle.def_plan.specs.Laws.{SequencesAreNumbered, DealingMakesPlans, ChoicesMakeAPlan, SumsArePlans, LeafSumsGiveThePayoff, WeakDuality, ComplementarySlackness, BadSetIsExact, PlansAreSmall};
 
@@ -72,5 +72,5 @@ pub fn plans_of_pennies()
     ensures mixed { pay pennies.leaves (2 ∷ 1 ∷ 1 ∷ []) (1 ∷ 0 ∷ 1 ∷ []) ≡ pos 0 }
     ensures against_heads { leaf_sum One pennies.leaves (1 ∷ 1 ∷ 0 ∷ []) 2 ≡ negsuc 0 }
     ensures of_two { leaf_sum Two pennies.leaves (3 ∷ 1 ∷ 2 ∷ []) 1 ≡ negsuc 0 }
-    ensures all_weights { mass pennies.leaves ≡ 4 }
+    ensures all_weights { mass_of pennies.leaves ≡ 4 }
 {}

@@ -3,9 +3,10 @@ use Rattle.std.specs.Prelude.{◌≡◌, ℕ, ◌+◌, ◌^◌, ◌≤◌, ◌<�
 use Rattle.def_tree.specs.declared.Player.{Player}
 use Rattle.def_tree.specs.declared.Player.TheVariants.{One, Two}
 use Rattle.def_sums.specs.Sum.{nat_sum_over}
+use Rattle.def_sums.specs.Limits.{most_mass, most_root}
 use Rattle.def_plan.specs.Form.{InformationSet, placed, sequence_count, sequences, AreInOrder, SequenceForm}
 use Rattle.def_plan.specs.Plan.{IsPlan, pure_plan}
-use Rattle.def_plan.specs.Payoff.{gain, leaf_sum, mass, IsNoBetter}
+use Rattle.def_plan.specs.Payoff.{gain, leaf_sum, mass_of, IsNoBetter}
 use Rattle.def_reply.specs.Reply.{SetReply, values_of, choices_of, replies_at, best_reply, total, AreTight, AreFirstTight}
 use Rattle.def_reply.specs.Bounds.{IsFloor, IsCeiling, AttainsFloor, AttainsCeiling}
 
@@ -86,11 +87,11 @@ pub record RepliesAreSmall : Type 0 where
   pub totals : (player : Player) (sums : ℕ → ℤ) (sets : List InformationSet) → AreInOrder sets
       → unsigned_abs (total sums sets (best_reply player sums sets)) ≤ nat_sum_over (λ s. unsigned_abs (sums s)) (sequences sets)
 
--- with a mass of at most 2 ^ 62 and a root of at most 2 ^ 36 every floor and ceiling of best replies is at most 2 ^ 98
+-- under the limits of mass and root every floor and ceiling of best replies is at most 2 ^ 98
 pub record BoundsAreSmall : Type 0 where
   pub floor : (form : SequenceForm) (root : ℕ) (plan_one : List ℕ) → AreInOrder form.sets_one → AreInOrder form.sets_two
-      → IsPlan form.sets_one root plan_one → mass form.leaves ≤ 2 ^ 62 → root ≤ 2 ^ 36
+      → IsPlan form.sets_one root plan_one → mass_of form.leaves ≤ most_mass → root ≤ most_root
       → let sums = leaf_sum Two form.leaves plan_one in unsigned_abs (total sums form.sets_two (best_reply Two sums form.sets_two)) ≤ 2 ^ 98
   pub ceiling : (form : SequenceForm) (root : ℕ) (plan_two : List ℕ) → AreInOrder form.sets_one → AreInOrder form.sets_two
-      → IsPlan form.sets_two root plan_two → mass form.leaves ≤ 2 ^ 62 → root ≤ 2 ^ 36
+      → IsPlan form.sets_two root plan_two → mass_of form.leaves ≤ most_mass → root ≤ most_root
       → let sums = leaf_sum One form.leaves plan_two in unsigned_abs (total sums form.sets_one (best_reply One sums form.sets_one)) ≤ 2 ^ 98

@@ -1,4 +1,3 @@
 pub mod Reply
 pub mod Bounds
 pub mod Laws
-pub mod Kuhn

@@ -12,14 +12,14 @@ use Rattle.std.proofs.lemmas.List.FromFn.{length-range_with_len}
 use Rattle.def_tree.specs.declared.Player.{Player}
 use Rattle.def_tree.specs.declared.Player.TheVariants.{One, Two}
 use Rattle.def_plan.specs.Form.{InformationSet, PlacedSet, placed, sequences_of, sequences, sequence_count, AreInOrder, SequenceForm}
-use Rattle.def_plan.specs.Payoff.{leaf_sum, worth, mass}
+use Rattle.def_plan.specs.Payoff.{leaf_sum, worth, mass_of}
 use Rattle.def_plan.proofs.SizeLaws.{leaf_sums-below, of_a_round}
 use Rattle.def_round.specs.Play.{positive_part, regret_of, play_of, plan_of_play, GivesAllUnits}
-use Rattle.def_round.specs.Round.{utility, own_sum, values_of, set_regrets, regrets_after}
+use Rattle.def_round.specs.Round.{utility, own_sum, round_values, set_regrets, regrets_after}
 use Rattle.def_round.specs.Rounds.{Standing, rounds}
 use Rattle.def_round.proofs.Plays.{plays_all_units, plays_deal_plans}
-use Rattle.def_round.specs.Sizes.{size_of_sums, IsWithin, IsWithinLimits}
-use Rattle.def_round.specs.SizeLaws.{OwnSumsAreSmall, RegretsGrowSlowly, RoundsAreSmall, ProductsAreSmall, RegretsAreSmall, DealsWithin, DealtProductsAreSmall}
+use Rattle.def_round.specs.Sizes.{size_of_sums, IsWithin, IsWithinRunLimits}
+use Rattle.def_round.specs.SizeLaws.{OwnSumsAreSmall, RegretsGrowSlowly, RoundsAreSmall, PlayProductsAreSmall, RegretsAreSmall, DealsWithin, DealtProductsAreSmall}
 use Rattle.def_round.proofs.Trees.{values_within}
 
 utility_size : (player : Player) (payoff : ℤ) → unsigned_abs (utility player payoff) ≡ unsigned_abs payoff
@@ -50,12 +50,12 @@ at_each bound regrets all s =
 one_round : (sums : ℕ → ℤ) (play : List ℕ) (sets : List InformationSet) (before : List ℤ) (so_far bound : ℕ) → AreInOrder sets → GivesAllUnits play sets
     → size_of_sums sums sets ≤ bound → All (λ r. unsigned_abs r ≤ so_far) before → All (λ r. unsigned_abs r ≤ so_far + bound) (regrets_after sums play sets before)
 one_round sums play sets before so_far bound order whole le small =
-    All-cons (λ r. unsigned_abs r ≤ so_far + bound) (pos 0) (flat_map (λ p. set_regrets sums (placed sets) (values_of sums play sets) before p.0 p.1) (zip (placed sets) (values_of sums play sets))) (omega arith)
-    (All-blocks (λ r. unsigned_abs r ≤ so_far + bound) (λ h v. set_regrets sums (placed sets) (values_of sums play sets) before h v) (placed sets) (values_of sums play sets)
-    (AllZip-weaker (IsWithin (size_of_sums sums sets) sums play sets (values_of sums play sets)) (λ h v. All (λ r. unsigned_abs r ≤ so_far + bound) (set_regrets sums (placed sets) (values_of sums play sets) before h v))
-    (λ h v is. All-map (λ r. unsigned_abs r ≤ so_far + bound) (λ s. regret_of before s +ℤ (worth sums (placed sets) (values_of sums play sets) s -ℤ v)) (sequences_of h)
-    (λ k d low. grows (regret_of before (get_or (sequences_of h) k d)) (worth sums (placed sets) (values_of sums play sets) (get_or (sequences_of h) k d) -ℤ v) (at_each so_far before small (get_or (sequences_of h) k d)) (is.each_growth k d low)))
-    (placed sets) (values_of sums play sets) (values_within sums play sets order whole)))
+    All-cons (λ r. unsigned_abs r ≤ so_far + bound) (pos 0) (flat_map (λ p. set_regrets sums (placed sets) (round_values sums play sets) before p.0 p.1) (zip (placed sets) (round_values sums play sets))) (omega arith)
+    (All-blocks (λ r. unsigned_abs r ≤ so_far + bound) (λ h v. set_regrets sums (placed sets) (round_values sums play sets) before h v) (placed sets) (round_values sums play sets)
+    (AllZip-weaker (IsWithin (size_of_sums sums sets) sums play sets (round_values sums play sets)) (λ h v. All (λ r. unsigned_abs r ≤ so_far + bound) (set_regrets sums (placed sets) (round_values sums play sets) before h v))
+    (λ h v is. All-map (λ r. unsigned_abs r ≤ so_far + bound) (λ s. regret_of before s +ℤ (worth sums (placed sets) (round_values sums play sets) s -ℤ v)) (sequences_of h)
+    (λ k d low. grows (regret_of before (get_or (sequences_of h) k d)) (worth sums (placed sets) (round_values sums play sets) (get_or (sequences_of h) k d) -ℤ v) (at_each so_far before small (get_or (sequences_of h) k d)) (is.each_growth k d low)))
+    (placed sets) (round_values sums play sets) (values_within sums play sets order whole)))
   where
     grows : (r g : ℤ) → unsigned_abs r ≤ so_far → unsigned_abs g ≤ size_of_sums sums sets → unsigned_abs (r +ℤ g) ≤ so_far + bound
     grows r g h k = omega (arith, ints, le)
@@ -65,15 +65,15 @@ record AllWithin (bound : ℕ) (standing : Standing) : Type 0 where
   of_one : All (λ r. unsigned_abs r ≤ bound) standing.regrets_one
   of_two : All (λ r. unsigned_abs r ≤ bound) standing.regrets_two
 
-rounds_within : (form : SequenceForm) (root n : ℕ) → AreInOrder form.sets_one → AreInOrder form.sets_two → 1 ≤ root → AllWithin (n * (mass form.leaves * root)) (rounds form root n)
+rounds_within : (form : SequenceForm) (root n : ℕ) → AreInOrder form.sets_one → AreInOrder form.sets_two → 1 ≤ root → AllWithin (n * (mass_of form.leaves * root)) (rounds form root n)
 rounds_within form root zero order_one order_two some = record {
-  of_one = All-replicate (λ r. unsigned_abs r ≤ 0 * (mass form.leaves * root)) (sequence_count form.sets_one) (pos 0) (omega arith);
-  of_two = All-replicate (λ r. unsigned_abs r ≤ 0 * (mass form.leaves * root)) (sequence_count form.sets_two) (pos 0) (omega arith);
+  of_one = All-replicate (λ r. unsigned_abs r ≤ 0 * (mass_of form.leaves * root)) (sequence_count form.sets_one) (pos 0) (omega arith);
+  of_two = All-replicate (λ r. unsigned_abs r ≤ 0 * (mass_of form.leaves * root)) (sequence_count form.sets_two) (pos 0) (omega arith);
 }
 rounds_within form root (suc n) order_one order_two some =
     let before : Standing = rounds form root n in
-    let so_far : AllWithin (n * (mass form.leaves * root)) before = rounds_within form root n order_one order_two some in
-    let bound : ℕ = mass form.leaves * root in
+    let so_far : AllWithin (n * (mass_of form.leaves * root)) before = rounds_within form root n order_one order_two some in
+    let bound : ℕ = mass_of form.leaves * root in
     let play_one : List ℕ = play_of form.sets_one before.regrets_one in
     let play_two : List ℕ = play_of form.sets_two before.regrets_two in
     let plan_one : List ℕ = plan_of_play form.sets_one play_one root in
@@ -92,18 +92,18 @@ pub regrets_grow_slowly : RegretsGrowSlowly
 regrets_grow_slowly form root n order_one order_two some =
     let within = rounds_within form root n order_one order_two some in
     record {
-      of_one = at_each (n * (mass form.leaves * root)) (rounds form root n).regrets_one within.of_one;
-      of_two = at_each (n * (mass form.leaves * root)) (rounds form root n).regrets_two within.of_two;
+      of_one = at_each (n * (mass_of form.leaves * root)) (rounds form root n).regrets_one within.of_one;
+      of_two = at_each (n * (mass_of form.leaves * root)) (rounds form root n).regrets_two within.of_two;
     }
 
 -- ---- with the limits
 pub rounds_small : RoundsAreSmall
 rounds_small form root n limits = of_a_round form.leaves root limits.small_mass limits.small_root
 
-pub products_small : ProductsAreSmall
+pub products_small : PlayProductsAreSmall
 products_small form root n limits = omega (arith, rounds_small form root n limits)
 
-regret_bound : (form : SequenceForm) (root n : ℕ) → IsWithinLimits form root n → n * (mass form.leaves * root) ≤ 2 ^ 98
+regret_bound : (form : SequenceForm) (root n : ℕ) → IsWithinRunLimits form root n → n * (mass_of form.leaves * root) ≤ 2 ^ 98
 regret_bound form root n limits = mul-le-mul limits.few_rounds (rounds_small form root n limits)
 
 pub regrets_small : RegretsAreSmall

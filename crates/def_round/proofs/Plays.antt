@@ -14,7 +14,7 @@ use Rattle.def_plan.proofs.Dealing.{IsDealt, dealt_onto-is_dealt, dealt-is_plan}
 use Rattle.def_shares.specs.Shares.{weight_sum}
 use Rattle.def_shares.proofs.SharesLaws.{length-shares, shares_whole, no_weight_no_share}
 use Rattle.def_round.specs.Play.{units, positive_part, regret_of, set_play, play_of, play_rule}
-use Rattle.def_round.specs.Laws.{PlaysPositiveRegrets, PlaysEachSet, PlaysAllUnits, PlaysDealPlans, PlaysDealByShares}
+use Rattle.def_round.specs.Laws.{PlaysPositiveRegrets, PlaysHaveEachSet, PlaysGiveAllUnits, PlaysDealPlans, PlaysDealByShares}
 use Rattle.def_round.proofs.Blocks.{map-range_same, map-block, blocks, length-blocks}
 
 length-set_play : (regrets : List ℤ) (h : PlacedSet) → length (set_play regrets h) ≡ h.actions
@@ -22,7 +22,7 @@ length-set_play regrets h =
     length-shares units (map (λ s. positive_part (regret_of regrets s)) (sequences_of h))
     ∙ length-map-range_with_len (λ s. positive_part (regret_of regrets s)) h.first h.actions
 
-pub plays_each_set : PlaysEachSet
+pub plays_each_set : PlaysHaveEachSet
 plays_each_set sets regrets = record {
   all_sequences = ap (λ n. suc n) (length-blocks (set_play regrets) (length-set_play regrets) 1 sets) ∙ omega arith;
   none_of_empty = refl;
@@ -34,7 +34,7 @@ sum_of_map : (f : ℕ → ℕ) (xs : List ℕ) → nat_sum_over (λ s. f s) xs �
 sum_of_map f [] = refl
 sum_of_map f (x ∷ xs) = ap (λ n. f x + n) (sum_of_map f xs)
 
-pub plays_all_units : PlaysAllUnits
+pub plays_all_units : PlaysGiveAllUnits
 plays_all_units sets regrets order k d below =
     let h : PlacedSet = get_or (placed sets) k d in
     let play : List ℕ = play_of sets regrets in

@@ -8,7 +8,7 @@ use Rattle.def_sums.proofs.Ranges.{All-range, range-All}
 use Rattle.def_plan.specs.Form.{InformationSet, PlacedSet, placed_from, placed, sequences_of}
 use Rattle.def_plan.specs.Payoff.{worth}
 use Rattle.def_round.specs.Play.{regret_of}
-use Rattle.def_round.specs.Round.{values_of, AddsRegrets, IsRound, set_regrets, regrets_with, regrets_after}
+use Rattle.def_round.specs.Round.{round_values, AddsRegrets, IsRound, set_regrets, regrets_with, regrets_after}
 use Rattle.def_round.specs.Laws.{RoundsAreComputed}
 use Rattle.def_round.proofs.Blocks.{map-range_same, same_at, blocks_zip, length-blocks_zip, drop-blocks_zip}
 use Rattle.def_round.proofs.Values.{values_solve, values_are_unique, length-values_from}
@@ -66,7 +66,7 @@ module _ (sums : ℕ → ℤ) (sets : List InformationSet) (values : List ℤ) (
       (range-All (λ s. regret_of after s ≡ regret_of before s +ℤ (worth sums (placed sets) values s -ℤ v)) h.first h.actions all))
       (placed sets) values adds.each_set))
 
-pub length-values_of : (sums : ℕ → ℤ) (play : List ℕ) (sets : List InformationSet) → length (values_of sums play sets) ≡ length sets
+pub length-values_of : (sums : ℕ → ℤ) (play : List ℕ) (sets : List InformationSet) → length (round_values sums play sets) ≡ length sets
 length-values_of sums play sets = length-values_from sums play (placed sets) ∙ length-placed_from 1 sets
 
 pub rounds_are_computed : RoundsAreComputed
@@ -79,7 +79,7 @@ rounds_are_computed sums play sets before after order = (computed, is_round)
 
     is_round : after ≡ regrets_after sums play sets before → IsRound sums play sets before after
     is_round same = record {
-      values = values_of sums play sets;
+      values = round_values sums play sets;
       are_values = values_solve sums play sets order;
-      adds_regrets = subst (λ r. AddsRegrets sums sets (values_of sums play sets) before r) (sym same) (computed_adds sums sets (values_of sums play sets) before (length-values_of sums play sets));
+      adds_regrets = subst (λ r. AddsRegrets sums sets (round_values sums play sets) before r) (sym same) (computed_adds sums sets (round_values sums play sets) before (length-values_of sums play sets));
     }

@@ -12,7 +12,7 @@ use Rattle.def_sums.proofs.Ranges.{All-range, at_most_sum, range-append}
 use Rattle.def_plan.specs.Form.{InformationSet, PlacedSet, placed_from, placed, sequences_of, IsInOrder}
 use Rattle.def_plan.specs.Payoff.{worth, values_after}
 use Rattle.def_round.specs.Play.{units}
-use Rattle.def_round.specs.Round.{set_value, values_from, values_of}
+use Rattle.def_round.specs.Round.{set_value, values_from, round_values}
 use Rattle.def_round.proofs.Values.{AreEarlier, worth_at_set, one_more_earlier, none_earlier}
 use Rattle.def_round.specs.Sizes.{size_of_sums, IsWithin}
 use Rattle.def_round.specs.SizeLaws.{ValuesAreWithinSums, WorthsAreWithinSums}
@@ -138,7 +138,7 @@ all_sums sums sets = ap (nat_sum_over (λ s. unsigned_abs (sums s))) (range-appe
 
 pub values_within : ValuesAreWithinSums
 values_within sums play sets order whole =
-    within_from sums play (size_of_sums sums sets) [] [] 1 sets sets (values_of sums play sets) refl refl (none_earlier 1) order whole (omega (arith, all_sums sums sets))
+    within_from sums play (size_of_sums sums sets) [] [] 1 sets sets (round_values sums play sets) refl refl (none_earlier 1) order whole (omega (arith, all_sums sums sets))
 
 -- every sequence but the empty one ends at a set
 at_some_set : (P : ℕ → Type 0) (R : PlacedSet → ℤ → Type 0) → ((h : PlacedSet) (v : ℤ) → R h v → (s : ℕ) → h.first ≤ s → s < h.first + h.actions → P s)
@@ -156,16 +156,16 @@ worths_within sums play sets order whole s low =
     bound : ℕ
     bound = size_of_sums sums sets
 
-    at_root : s < 1 → unsigned_abs (worth sums (placed sets) (values_of sums play sets) s) ≤ size_of_sums sums sets
+    at_root : s < 1 → unsigned_abs (worth sums (placed sets) (round_values sums play sets) s) ≤ size_of_sums sums sets
     at_root less =
         let zero' : s ≡ 0 = omega arith in
-        let ps : List (PlacedSet × ℤ) = zip (placed sets) (values_of sums play sets) in
-        subst (λ k. unsigned_abs (worth sums (placed sets) (values_of sums play sets) k) ≤ size_of_sums sums sets) (sym zero')
-        (omega (arith, worth_size sums (placed sets) (values_of sums play sets) 0, one_further 0 ps, none_below_zero ps, tree_size sums play 1 sets whole, all_sums sums sets))
+        let ps : List (PlacedSet × ℤ) = zip (placed sets) (round_values sums play sets) in
+        subst (λ k. unsigned_abs (worth sums (placed sets) (round_values sums play sets) k) ≤ size_of_sums sums sets) (sym zero')
+        (omega (arith, worth_size sums (placed sets) (round_values sums play sets) 0, one_further 0 ps, none_below_zero ps, tree_size sums play 1 sets whole, all_sums sums sets))
 
-    at_set : 1 ≤ s → unsigned_abs (worth sums (placed sets) (values_of sums play sets) s) ≤ size_of_sums sums sets
+    at_set : 1 ≤ s → unsigned_abs (worth sums (placed sets) (round_values sums play sets) s) ≤ size_of_sums sums sets
     at_set some =
-        at_some_set (λ k. unsigned_abs (worth sums (placed sets) (values_of sums play sets) k) ≤ size_of_sums sums sets)
-        (IsWithin (size_of_sums sums sets) sums play sets (values_of sums play sets))
-        (λ h v is k below above. let one = at_most_sum (λ s. unsigned_abs (worth sums (placed sets) (values_of sums play sets) s)) h.first h.actions k below above in omega (arith, one, is.worths))
-        1 sets (values_of sums play sets) (values_within sums play sets order whole) s some low
+        at_some_set (λ k. unsigned_abs (worth sums (placed sets) (round_values sums play sets) k) ≤ size_of_sums sums sets)
+        (IsWithin (size_of_sums sums sets) sums play sets (round_values sums play sets))
+        (λ h v is k below above. let one = at_most_sum (λ s. unsigned_abs (worth sums (placed sets) (round_values sums play sets) s)) h.first h.actions k below above in omega (arith, one, is.worths))
+        1 sets (round_values sums play sets) (values_within sums play sets order whole) s some low

@@ -12,7 +12,7 @@ use Rattle.def_plan.specs.Form.{InformationSet, PlacedSet, placed_from, placed, 
 use Rattle.def_plan.specs.Payoff.{worth}
 use Rattle.def_round.specs.Play.{units}
 use Rattle.def_round.specs.Round.{set_value, values_from}
-use Rattle.def_round.specs.Laws.{WorthsNeedLaterSets, ValuesSolve, ValuesAreUnique, ValuesOfTheRest}
+use Rattle.def_round.specs.Laws.{WorthsNeedLaterSets, ValuesSolveTheEquations, ValuesAreUnique, ValuesOfTheRest}
 
 -- sets that come after smaller sequences are not directly after s
 earlier_sets : (s : ℕ) (front back : List PlacedSet) (front_values back_values : List ℤ) → length front ≡ length front_values → All (λ h. h.before < s) front
@@ -87,7 +87,7 @@ solves_from sums play front front_values first (set ∷ sets) earlier order =
 pub none_earlier : (first : ℕ) → AreEarlier [] [] first
 none_earlier first = record { same_length = refl; less = All-nil (λ h. h.before < first) }
 
-pub values_solve : ValuesSolve
+pub values_solve : ValuesSolveTheEquations
 values_solve sums play sets order = solves_from sums play [] [] 1 sets (none_earlier 1) order
 
 -- ---- and they have no other solution

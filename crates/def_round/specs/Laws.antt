@@ -6,7 +6,7 @@ use Rattle.def_plan.specs.Payoff.{worth, gain, pay}
 use Rattle.def_tree.specs.declared.Player.TheVariants.{One, Two}
 use Rattle.def_shares.specs.Shares.{shares}
 use Rattle.def_round.specs.Play.{regret_of, IsSequenceOf, set_play, play_of, GivesAllUnits, plan_of_play}
-use Rattle.def_round.specs.Round.{own_sum, AreValues, values_from, values_of, IsRound, regrets_after}
+use Rattle.def_round.specs.Round.{own_sum, AreValues, values_from, round_values, IsRound, regrets_after}
 use Rattle.def_round.specs.Rounds.{rounds}
 
 -- the play has a number for each sequence, and at each set the shares of the regrets' positive parts
@@ -15,12 +15,12 @@ pub record IsPlayOf (sets : List InformationSet) (regrets : List ℤ) (play : Li
   pub none_of_empty : slice_index play 0 ≡ 0
   pub each_set : All (λ h. map (λ s. slice_index play s) (sequences_of h) ≡ set_play regrets h) (placed sets)
 
-abbrev pub PlaysEachSet : Type 0
-PlaysEachSet = (sets : List InformationSet) (regrets : List ℤ) → IsPlayOf sets regrets (play_of sets regrets)
+abbrev pub PlaysHaveEachSet : Type 0
+PlaysHaveEachSet = (sets : List InformationSet) (regrets : List ℤ) → IsPlayOf sets regrets (play_of sets regrets)
 
 -- at each set the play gives out all units
-abbrev pub PlaysAllUnits : Type 0
-PlaysAllUnits = (sets : List InformationSet) (regrets : List ℤ) → AreInOrder sets → GivesAllUnits (play_of sets regrets) sets
+abbrev pub PlaysGiveAllUnits : Type 0
+PlaysGiveAllUnits = (sets : List InformationSet) (regrets : List ℤ) → AreInOrder sets → GivesAllUnits (play_of sets regrets) sets
 
 -- regret matching: where some action of a set has a positive regret, those without one are not played
 abbrev pub PlaysPositiveRegrets : Type 0
@@ -46,17 +46,17 @@ abbrev pub OwnSumsGainWhatIsPaid : Type 0
 OwnSumsGainWhatIsPaid = (form : SequenceForm) (plan_one plan_two : List ℕ) → GainWhatIsPaid form plan_one plan_two
 
 -- the equations of a round have a solution, which is computed, and no other
-abbrev pub ValuesSolve : Type 0
-ValuesSolve = (sums : ℕ → ℤ) (play : List ℕ) (sets : List InformationSet) → AreInOrder sets → AreValues sums play sets (values_of sums play sets)
+abbrev pub ValuesSolveTheEquations : Type 0
+ValuesSolveTheEquations = (sums : ℕ → ℤ) (play : List ℕ) (sets : List InformationSet) → AreInOrder sets → AreValues sums play sets (round_values sums play sets)
 
 abbrev pub ValuesAreUnique : Type 0
 ValuesAreUnique = (sums : ℕ → ℤ) (play : List ℕ) (sets : List InformationSet) (values : List ℤ) → AreInOrder sets
-    → AreValues sums play sets values → values ≡ values_of sums play sets
+    → AreValues sums play sets values → values ≡ round_values sums play sets
 
 -- the values of the sets from one on are those of the rest
 abbrev pub ValuesOfTheRest : Type 0
 ValuesOfTheRest = (sums : ℕ → ℤ) (play : List ℕ) (sets : List InformationSet) (k : ℕ)
-    → drop k (values_of sums play sets) ≡ values_from sums play (drop k (placed sets))
+    → drop k (round_values sums play sets) ≡ values_from sums play (drop k (placed sets))
 
 -- the worth of a sequence that isn't before those of a set needs the sets after that set alone
 abbrev pub WorthsNeedLaterSets : Type 0
@@ -74,5 +74,5 @@ pub record AreSumsOfPlans (form : SequenceForm) (root n : ℕ) : Type 0 where
   pub of_one : IsPlan form.sets_one (n * root) (rounds form root n).sum_one
   pub of_two : IsPlan form.sets_two (n * root) (rounds form root n).sum_two
 
-abbrev pub SumsArePlans : Type 0
-SumsArePlans = (form : SequenceForm) (root n : ℕ) → AreInOrder form.sets_one → AreInOrder form.sets_two → 1 ≤ root → 1 ≤ n → AreSumsOfPlans form root n
+abbrev pub RoundsSumToPlans : Type 0
+RoundsSumToPlans = (form : SequenceForm) (root n : ℕ) → AreInOrder form.sets_one → AreInOrder form.sets_two → 1 ≤ root → 1 ≤ n → AreSumsOfPlans form root n

@@ -36,8 +36,8 @@ abbrev pub values_from : (ℕ → ℤ) → List ℕ → List PlacedSet → List 
 values_from sums play [] = []
 values_from sums play (h ∷ rest) = with_value sums play h rest (values_from sums play rest)
 
-abbrev pub values_of : (ℕ → ℤ) → List ℕ → List InformationSet → List ℤ
-values_of sums play sets = values_from sums play (placed sets)
+abbrev pub round_values : (ℕ → ℤ) → List ℕ → List InformationSet → List ℤ
+round_values sums play sets = values_from sums play (placed sets)
 
 -- a round adds v(s) - V(h) to the regret of each sequence s of each set h
 pub record AddsRegrets (sums : ℕ → ℤ) (sets : List InformationSet) (values : List ℤ) (before after : List ℤ) : Type 0 where
@@ -61,4 +61,4 @@ regrets_with sums placed_sets before values =
     pos 0 ∷ flat_map (λ p. set_regrets sums placed_sets values before p.0 p.1) (zip placed_sets values)
 
 abbrev pub regrets_after : (ℕ → ℤ) → List ℕ → List InformationSet → List ℤ → List ℤ
-regrets_after sums play sets before = regrets_with sums (placed sets) before (values_of sums play sets)
+regrets_after sums play sets before = regrets_with sums (placed sets) before (round_values sums play sets)

@@ -4,42 +4,42 @@ use Rattle.std.specs.List.{AllZip}
 use Rattle.def_tree.specs.declared.Player.{Player}
 use Rattle.def_plan.specs.Form.{InformationSet, placed, sequence_count, AreInOrder, SequenceForm, Leaf}
 use Rattle.def_plan.specs.Plan.{IsPlan}
-use Rattle.def_plan.specs.Payoff.{worth, mass}
+use Rattle.def_plan.specs.Payoff.{worth, mass_of}
 use Rattle.def_round.specs.Play.{units, GivesAllUnits}
-use Rattle.def_round.specs.Round.{own_sum, values_of}
+use Rattle.def_round.specs.Round.{own_sum, round_values}
 use Rattle.def_round.specs.Rounds.{rounds}
-use Rattle.def_round.specs.Sizes.{size_of_sums, IsWithin, RegretsAreWithin, IsWithinLimits, dealt_product}
+use Rattle.def_round.specs.Sizes.{size_of_sums, IsWithin, RegretsAreWithin, IsWithinRunLimits, dealt_product}
 
 -- a player's leaf sums against a plan, together, are at most the mass times the plan's root
 abbrev pub OwnSumsAreSmall : Type 0
 OwnSumsAreSmall = (player : Player) (leaves : List Leaf) (sets against_sets : List InformationSet) (root : ℕ) (plan : List ℕ)
-    → AreInOrder against_sets → IsPlan against_sets root plan → size_of_sums (own_sum player leaves plan) sets ≤ mass leaves * root
+    → AreInOrder against_sets → IsPlan against_sets root plan → size_of_sums (own_sum player leaves plan) sets ≤ mass_of leaves * root
 
 -- the values of a round stay within the sum of the sizes of the leaf sums, and so do the worths and what a round adds to a regret
 abbrev pub ValuesAreWithinSums : Type 0
 ValuesAreWithinSums = (sums : ℕ → ℤ) (play : List ℕ) (sets : List InformationSet) → AreInOrder sets → GivesAllUnits play sets
-    → AllZip (IsWithin (size_of_sums sums sets) sums play sets (values_of sums play sets)) (placed sets) (values_of sums play sets)
+    → AllZip (IsWithin (size_of_sums sums sets) sums play sets (round_values sums play sets)) (placed sets) (round_values sums play sets)
 
 abbrev pub WorthsAreWithinSums : Type 0
 WorthsAreWithinSums = (sums : ℕ → ℤ) (play : List ℕ) (sets : List InformationSet) → AreInOrder sets → GivesAllUnits play sets
-    → (s : ℕ) → s < sequence_count sets → unsigned_abs (worth sums (placed sets) (values_of sums play sets) s) ≤ size_of_sums sums sets
+    → (s : ℕ) → s < sequence_count sets → unsigned_abs (worth sums (placed sets) (round_values sums play sets) s) ≤ size_of_sums sums sets
 
 -- a round adds at most the mass times the root to a regret
 abbrev pub RegretsGrowSlowly : Type 0
 RegretsGrowSlowly = (form : SequenceForm) (root n : ℕ) → AreInOrder form.sets_one → AreInOrder form.sets_two → 1 ≤ root
-    → RegretsAreWithin (n * (mass form.leaves * root)) (rounds form root n)
+    → RegretsAreWithin (n * (mass_of form.leaves * root)) (rounds form root n)
 
 -- a round's leaf sums together are at most 2 ^ 82
 abbrev pub RoundsAreSmall : Type 0
-RoundsAreSmall = (form : SequenceForm) (root n : ℕ) → IsWithinLimits form root n → mass form.leaves * root ≤ 2 ^ 82
+RoundsAreSmall = (form : SequenceForm) (root n : ℕ) → IsWithinRunLimits form root n → mass_of form.leaves * root ≤ 2 ^ 82
 
 -- products of play and worth at a set, together, are at most 2 ^ 98
-abbrev pub ProductsAreSmall : Type 0
-ProductsAreSmall = (form : SequenceForm) (root n : ℕ) → IsWithinLimits form root n → units * (mass form.leaves * root) ≤ 2 ^ 98
+abbrev pub PlayProductsAreSmall : Type 0
+PlayProductsAreSmall = (form : SequenceForm) (root n : ℕ) → IsWithinRunLimits form root n → units * (mass_of form.leaves * root) ≤ 2 ^ 98
 
 -- a regret is at most 2 ^ 98, so below 2 ^ 99
 abbrev pub RegretsAreSmall : Type 0
-RegretsAreSmall = (form : SequenceForm) (root n : ℕ) → AreInOrder form.sets_one → AreInOrder form.sets_two → 1 ≤ root → IsWithinLimits form root n
+RegretsAreSmall = (form : SequenceForm) (root n : ℕ) → AreInOrder form.sets_one → AreInOrder form.sets_two → 1 ≤ root → IsWithinRunLimits form root n
     → RegretsAreWithin (2 ^ 98) (rounds form root n)
 
 -- and all units times a set's regrets are below 2 ^ 126, where a set has at most 1,024 actions
@@ -51,5 +51,5 @@ pub record BothDealWithin (form : SequenceForm) (root n : ℕ) : Type 0 where
   pub of_two : DealsWithin form.sets_two (rounds form root n).regrets_two
 
 abbrev pub DealtProductsAreSmall : Type 0
-DealtProductsAreSmall = (form : SequenceForm) (root n : ℕ) → AreInOrder form.sets_one → AreInOrder form.sets_two → 1 ≤ root → IsWithinLimits form root n
+DealtProductsAreSmall = (form : SequenceForm) (root n : ℕ) → AreInOrder form.sets_one → AreInOrder form.sets_two → 1 ≤ root → IsWithinRunLimits form root n
     → BothDealWithin form root n

@@ -1,8 +1,9 @@
 -- How large the numbers of a round can be: everything stays within the sum of the sizes of a player's leaf sums.
-use Rattle.std.specs.Prelude.{ℕ, ◌*◌, ◌^◌, ◌≤◌, ℤ, pos, ◌-ℤ◌, ◌*ℤ◌, unsigned_abs, List, All, slice_index}
+use Rattle.std.specs.Prelude.{ℕ, ◌*◌, ◌≤◌, ℤ, pos, ◌-ℤ◌, ◌*ℤ◌, unsigned_abs, List, All, slice_index}
 use Rattle.def_sums.specs.Sum.{nat_sum_over}
+use Rattle.def_sums.specs.Limits.{most_mass, most_scale, most_rounds}
 use Rattle.def_plan.specs.Form.{InformationSet, PlacedSet, placed, sequences_of, sequences, SequenceForm}
-use Rattle.def_plan.specs.Payoff.{worth, mass}
+use Rattle.def_plan.specs.Payoff.{worth, mass_of}
 use Rattle.def_round.specs.Play.{units, positive_part, regret_of}
 use Rattle.def_round.specs.Rounds.{Standing}
 
@@ -23,10 +24,10 @@ pub record RegretsAreWithin (bound : ℕ) (standing : Standing) : Type 0 where
   pub of_two : (s : ℕ) → unsigned_abs (regret_of standing.regrets_two s) ≤ bound
 
 -- the limits of a game and of a run: the mass of the weights, the root of each plan, and the number of rounds
-pub record IsWithinLimits (form : SequenceForm) (root n : ℕ) : Type 0 where
-  pub small_mass : mass form.leaves ≤ 2 ^ 62
-  pub small_root : root ≤ 2 ^ 20
-  pub few_rounds : n ≤ 2 ^ 16
+pub record IsWithinRunLimits (form : SequenceForm) (root n : ℕ) : Type 0 where
+  pub small_mass : mass_of form.leaves ≤ most_mass
+  pub small_root : root ≤ most_scale
+  pub few_rounds : n ≤ most_rounds
 
 -- all units times the sum of the weights by which a set is played
 abbrev pub dealt_product : List ℤ → PlacedSet → ℕ

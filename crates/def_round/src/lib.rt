@@ -1,23 +1,24 @@
 //! Plays, rounds and the fold over rounds. There is no code here; each function's contract is a law or a worked row.
 #![tactic(auto)]
 
+pub mod sizes;
+
 ghost use Rattle.std.specs.Prelude.{◌≡◌, ◌==◌, [], ◌∷◌, pos, negsuc, if◌then◌else◌};
 ghost use Rattle.def_plan.specs.Pennies.{pennies};
-ghost use Rattle.def_round.specs.Laws.{OwnSumsGainWhatIsPaid, PlaysAllUnits, PlaysDealByShares, PlaysDealPlans, PlaysEachSet, PlaysPositiveRegrets, RoundsAreComputed, SumsArePlans, ValuesAreUnique, ValuesOfTheRest, ValuesSolve, WorthsNeedLaterSets};
-ghost use Rattle.def_round.specs.SizeLaws.{DealtProductsAreSmall, OwnSumsAreSmall, ProductsAreSmall, RegretsAreSmall, RegretsGrowSlowly, RoundsAreSmall, ValuesAreWithinSums, WorthsAreWithinSums};
+ghost use Rattle.def_round.specs.Laws.{OwnSumsGainWhatIsPaid, PlaysGiveAllUnits, PlaysDealByShares, PlaysDealPlans, PlaysHaveEachSet, PlaysPositiveRegrets, RoundsAreComputed, RoundsSumToPlans, ValuesAreUnique, ValuesOfTheRest, ValuesSolveTheEquations, WorthsNeedLaterSets};
 ghost use Rattle.def_round.specs.Play.{play_of, plan_of_play};
 ghost use Rattle.def_round.specs.Round.{set_value};
 ghost use Rattle.def_round.specs.Rounds.{rounds};
 ghost use Rattle.def_round.specs.Games.{three_actions, one_mover};
 
 /// The play of regrets, set by set.
-pub fn play_has_each_set()
-    ensures { PlaysEachSet }
+pub fn plays_have_each_set()
+    ensures { PlaysHaveEachSet }
 {}
 
 /// Each set is played in units of 1 / 65,536, and all of them are given out.
 pub fn plays_give_all_units()
-    ensures { PlaysAllUnits }
+    ensures { PlaysGiveAllUnits }
 {}
 
 /// Regret matching plays the actions that are regretted.
@@ -42,7 +43,7 @@ pub fn own_sums_gain_what_is_paid()
 
 /// The values that are computed solve a round's equations.
 pub fn values_solve_the_equations()
-    ensures { ValuesSolve }
+    ensures { ValuesSolveTheEquations }
 {}
 
 /// A round's equations have no other solution.
@@ -66,48 +67,8 @@ pub fn rounds_are_computed()
 {}
 
 /// The sums of the plans, from which the average strategies are read.
-pub fn sums_are_plans()
-    ensures { SumsArePlans }
-{}
-
-/// A player's leaf sums against a plan.
-pub fn own_sums_are_small()
-    ensures { OwnSumsAreSmall }
-{}
-
-/// At each set: its value, its worths, its products with the play, and what it adds to regrets.
-pub fn values_are_within_sums()
-    ensures { ValuesAreWithinSums }
-{}
-
-/// The worth of each sequence, the empty one too.
-pub fn worths_are_within_sums()
-    ensures { WorthsAreWithinSums }
-{}
-
-/// What some rounds can make of a regret.
-pub fn regrets_grow_slowly()
-    ensures { RegretsGrowSlowly }
-{}
-
-/// Under the limits: a round's leaf sums.
-pub fn rounds_are_small()
-    ensures { RoundsAreSmall }
-{}
-
-/// Under the limits: the products of play and worth at a set.
-pub fn products_are_small()
-    ensures { ProductsAreSmall }
-{}
-
-/// Under the limits: regrets after up to 65,536 rounds.
-pub fn regrets_are_small()
-    ensures { RegretsAreSmall }
-{}
-
-/// Under the limits: the products by which a set's units are dealt.
-pub fn dealt_products_are_small()
-    ensures { DealtProductsAreSmall }
+pub fn rounds_sum_to_plans()
+    ensures { RoundsSumToPlans }
 {}
 
 /// The first plan over three actions, of which none has a regret.

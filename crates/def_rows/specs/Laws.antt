@@ -1,52 +1,39 @@
--- What the rows and the jobs' amounts are, and how large.
-use Rattle.std.specs.Prelude.{◌≡◌, ℕ, ◌+◌, ◌*◌, ◌≤◌, ◌<◌, unsigned_abs, List, length, slice_index}
-use Rattle.def_sums.specs.Sum.{nat_sum_over}
+-- What the rows of a form are.
+use Rattle.std.specs.Prelude.{◌≡◌, ℕ, ◌+◌, ◌<◌, pos, List, length, slice_index_or}
+use Rattle.def_sums.specs.Sum.{sum_over}
+use Rattle.def_tree.specs.declared.Player.{Player}
 use Rattle.def_tree.specs.declared.Player.TheVariants.{One, Two}
-use Rattle.def_plan.specs.Form.{SequenceForm, sequence_count}
-use Rattle.def_plan.specs.Payoff.{leaf_sum, mass}
-use Rattle.def_history.specs.History.{job_numbers, replay, stripe_of}
-use Rattle.def_history.specs.Core.{State, IsReached, history_of, stripe_count}
-use Rattle.def_game_jobs.specs.Ranges.{LeafRange, Partitions}
-use Rattle.def_history.specs.Leaves.{job_amount, amounts, sum_over_leaves}
-use Rattle.def_history.specs.Laws.{IsAtEnd}
-use Rattle.def_rows.specs.Rows.{leaf_amount, job_leaves}
+use Rattle.def_plan.specs.Form.{SequenceForm, Leaf, sequence_count, player_sets}
+use Rattle.def_plan.specs.Payoff.{leaf_sum}
+use Rattle.def_rows.specs.Rows.{row_count, player_rows, rows, amount_at, amount_in_row}
 
--- the plain sums over all leaves are the leaf sums of both players
-pub record SumToLeafSums (form : SequenceForm) (plan_one plan_two : List ℕ) : Type 0 where
+-- each row is the leaf sum of its sequence: row s that of player one's sequence s, and so many rows later that of
+-- player two's sequence s
+pub record AreLeafSums (form : SequenceForm) (numbers_one numbers_two : List ℕ) : Type 0 where
+  pub count : length (rows form numbers_one numbers_two) ≡ row_count form
   pub rows_of_one : (s : ℕ) → s < sequence_count form.sets_one
-      → sum_over_leaves (leaf_amount form plan_one plan_two) (length form.leaves) s ≡ leaf_sum One form.leaves plan_two s
-  pub rows_of_two : (s : ℕ)
-      → sum_over_leaves (leaf_amount form plan_one plan_two) (length form.leaves) (sequence_count form.sets_one + s) ≡ leaf_sum Two form.leaves plan_one s
+      → slice_index_or (rows form numbers_one numbers_two) s (pos 0) ≡ leaf_sum One form.leaves numbers_two s
+  pub rows_of_two : (s : ℕ) → s < sequence_count form.sets_two
+      → slice_index_or (rows form numbers_one numbers_two) (sequence_count form.sets_one + s) (pos 0) ≡ leaf_sum Two form.leaves numbers_one s
 
 abbrev pub RowsAreLeafSums : Type 0
-RowsAreLeafSums = (form : SequenceForm) (plan_one plan_two : List ℕ) → SumToLeafSums form plan_one plan_two
+RowsAreLeafSums = (form : SequenceForm) (numbers_one numbers_two : List ℕ) → AreLeafSums form numbers_one numbers_two
 
--- a job's amounts are the leaf sums of its leaves alone
-pub record IsPartOfLeafSums (form : SequenceForm) (plan_one plan_two : List ℕ) (range : LeafRange) : Type 0 where
-  pub rows_of_one : (s : ℕ) → s < sequence_count form.sets_one
-      → job_amount (leaf_amount form plan_one plan_two) range s ≡ leaf_sum One (job_leaves form range) plan_two s
-  pub rows_of_two : (s : ℕ)
-      → job_amount (leaf_amount form plan_one plan_two) range (sequence_count form.sets_one + s) ≡ leaf_sum Two (job_leaves form range) plan_one s
+-- the same of one player's rows alone
+pub record ArePlayerLeafSums (form : SequenceForm) (player : Player) (against : List ℕ) : Type 0 where
+  pub count : length (player_rows form player against) ≡ sequence_count (player_sets form player)
+  pub each_row : (s : ℕ) → s < sequence_count (player_sets form player)
+      → slice_index_or (player_rows form player against) s (pos 0) ≡ leaf_sum player form.leaves against s
 
-abbrev pub JobsHaveTheirLeafSums : Type 0
-JobsHaveTheirLeafSums = (form : SequenceForm) (plan_one plan_two : List ℕ) (range : LeafRange) → range.first + range.count ≤ length form.leaves
-    → IsPartOfLeafSums form plan_one plan_two range
+abbrev pub PlayerRowsAreLeafSums : Type 0
+PlayerRowsAreLeafSums = (form : SequenceForm) (player : Player) (against : List ℕ) → ArePlayerLeafSums form player against
 
--- with the bag empty and no right held, each row's replay is the leaf sum of the row's sequence
-pub record ReplaysToLeafSums (form : SequenceForm) (plan_one plan_two : List ℕ) (ranges : List LeafRange) (state : State) : Type 0 where
-  pub rows_of_one : (s : ℕ) → s < sequence_count form.sets_one
-      → replay (amounts (leaf_amount form plan_one plan_two) ranges) (history_of state (stripe_of (stripe_count state) s)) s ≡ leaf_sum One form.leaves plan_two s
-  pub rows_of_two : (s : ℕ) → let row : ℕ = sequence_count form.sets_one + s in
-      replay (amounts (leaf_amount form plan_one plan_two) ranges) (history_of state (stripe_of (stripe_count state) row)) row ≡ leaf_sum Two form.leaves plan_one s
+-- a leaf sum is the sum over all leaves, each of which adds its amount
+abbrev pub LeafSumsAddAmounts : Type 0
+LeafSumsAddAmounts = (player : Player) (leaves : List Leaf) (against : List ℕ) (s : ℕ)
+    → sum_over (λ z. amount_at player against z s) leaves ≡ leaf_sum player leaves against s
 
-abbrev pub EndsWithLeafSums : Type 0
-EndsWithLeafSums = (form : SequenceForm) (plan_one plan_two : List ℕ) (ranges : List LeafRange) → Partitions ranges (length form.leaves)
-    → (state : State) → IsReached (length ranges) state → IsAtEnd state → 0 < stripe_count state
-    → ReplaysToLeafSums form plan_one plan_two ranges state
-
--- at each row the sizes of all jobs' amounts add up to at most the mass times the greatest number of the plans, so each
--- sum of some of them is no larger
-abbrev pub AmountsAreSmall : Type 0
-AmountsAreSmall = (form : SequenceForm) (plan_one plan_two : List ℕ) (bound : ℕ) (ranges : List LeafRange) → Partitions ranges (length form.leaves)
-    → ((s : ℕ) → slice_index plan_one s ≤ bound) → ((s : ℕ) → slice_index plan_two s ≤ bound)
-    → (row : ℕ) → nat_sum_over (λ job. unsigned_abs (amounts (leaf_amount form plan_one plan_two) ranges job row)) (job_numbers (length ranges)) ≤ mass form.leaves * bound
+-- and so is each row
+abbrev pub RowsAddAmounts : Type 0
+RowsAddAmounts = (form : SequenceForm) (numbers_one numbers_two : List ℕ) (row : ℕ) → row < row_count form
+    → sum_over (λ z. amount_in_row form numbers_one numbers_two z row) form.leaves ≡ slice_index_or (rows form numbers_one numbers_two) row (pos 0)

@@ -1,36 +1,33 @@
-//! The rows that a pair of plans gives, and the jobs' amounts at them. There is no code here; each function's contract
-//! is a law.
+//! The rows of a form against two lists of numbers, without workers and their history. There is no code here; each
+//! function's contract is a law, or rows that the definitions give.
 #![tactic(auto)]
 
-ghost use Rattle.std.specs.Prelude.{◌≡◌, [], ◌∷◌, map, pos, negsuc};
-ghost use Rattle.std.specs.List.{range_with_len};
+ghost use Rattle.std.specs.Prelude.{◌≡◌, [], ◌∷◌, pos, negsuc};
 ghost use Rattle.def_plan.specs.Pennies.{pennies};
-ghost use Rattle.def_history.specs.Leaves.{amounts};
-ghost use Rattle.def_rows.specs.Rows.{leaf_amount};
-ghost use Rattle.def_rows.specs.Laws.{AmountsAreSmall, EndsWithLeafSums, JobsHaveTheirLeafSums, RowsAreLeafSums};
+ghost use Rattle.def_rows.specs.Rows.{rows};
+ghost use Rattle.def_rows.specs.Laws.{LeafSumsAddAmounts, PlayerRowsAreLeafSums, RowsAddAmounts, RowsAreLeafSums};
 
-/// The plain sums over all leaves are the leaf sums of both players.
+/// All rows, player one's and then player two's.
 pub fn rows_are_leaf_sums()
     ensures { RowsAreLeafSums }
 {}
 
-/// A job's amounts are the leaf sums over its own leaves.
-pub fn jobs_have_their_leaf_sums()
-    ensures { JobsHaveTheirLeafSums }
+/// The rows of one player.
+pub fn player_rows_are_leaf_sums()
+    ensures { PlayerRowsAreLeafSums }
 {}
 
-/// When all jobs are added everywhere, the stripes have the leaf sums of both players.
-pub fn rows_end_as_leaf_sums()
-    ensures { EndsWithLeafSums }
+/// A leaf sum from what each leaf adds.
+pub fn leaf_sums_add_amounts()
+    ensures { LeafSumsAddAmounts }
 {}
 
-/// The sizes of the jobs' amounts at a row.
-pub fn amounts_are_small()
-    ensures { AmountsAreSmall }
+/// A row from what each leaf adds.
+pub fn rows_add_amounts()
+    ensures { RowsAddAmounts }
 {}
 
-/// Matching pennies, where both plans give their one unit to the second action: the amounts of the one job at all rows.
-pub fn amounts_of_pennies()
-    ensures { map (amounts (leaf_amount pennies (1 ∷ 0 ∷ 1 ∷ []) (1 ∷ 0 ∷ 1 ∷ [])) (record { first = 0; count = 4 } ∷ []) 0) (range_with_len 0 6)
-        ≡ pos 0 ∷ negsuc 0 ∷ pos 1 ∷ pos 0 ∷ negsuc 0 ∷ pos 1 ∷ [] }
+/// Matching pennies, where player one gives 1 and 2 units to the two actions, and player two 0 and 1.
+pub fn rows_of_pennies()
+    ensures { rows pennies (3 ∷ 1 ∷ 2 ∷ []) (1 ∷ 0 ∷ 1 ∷ []) ≡ pos 0 ∷ negsuc 0 ∷ pos 1 ∷ pos 0 ∷ negsuc 0 ∷ pos 1 ∷ [] }
 {}

@@ -7,8 +7,8 @@ use Rattle.def_sums.proofs.RingLaws.{*ℤ_comm, *ℤ_assoc, *ℤ-cancel}
 use Rattle.def_plan.specs.Form.{SequenceForm}
 use Rattle.def_reply.proofs.BoundLaws.{best_bounds, floors_below}
 use Rattle.def_round.specs.Rounds.{rounds}
-use Rattle.def_round.proofs.Sums.{sums_are_plans}
-use Rattle.def_bracket.specs.Bracket.{Evaluation, Ends, ends_of, evaluated_rounds}
+use Rattle.def_round.proofs.Sums.{rounds_sum_to_plans}
+use Rattle.def_bracket.specs.Bracket.{Evaluation, BracketEnds, ends_of, evaluated_rounds}
 use Rattle.def_bracket.specs.Laws.{AreAfterRounds}
 use Rattle.def_bracket.proofs.BestEnds.{best_ends}
 use Rattle.def_bracket.proofs.EvaluatedRounds.{rounds as rounds_evaluated}
@@ -17,7 +17,7 @@ use Rattle.def_run.specs.Laws.{EvaluationsAreBounds, IsOfItsRound, EndsAreOfThei
 
 pub evaluations_are_bounds : EvaluationsAreBounds
 evaluations_are_bounds form root round order_one order_two some_root some =
-    let plans = sums_are_plans form root round order_one order_two some_root some in
+    let plans = rounds_sum_to_plans form root round order_one order_two some_root some in
     record {
       plan_one = plans.of_one;
       plan_two = plans.of_two;
@@ -71,7 +71,7 @@ ends_are_of_their_rounds form root every last ends are =
       of_upper = of_its_round form root every last upper.place ends.upper upper.within upper.stands;
     }
 
-some_ends : (es : List Evaluation) → 1 ≤ length es → (ends : Ends) × (ends_of es ≡ Some ends)
+some_ends : (es : List Evaluation) → 1 ≤ length es → (ends : BracketEnds) × (ends_of es ≡ Some ends)
 some_ends [] none = absurd (omega arith)
 some_ends (e ∷ es) some = (_, refl)
 

@@ -6,7 +6,7 @@ use Rattle.def_plan.specs.Plan.{IsPlan, pure_plan}
 use Rattle.def_reply.specs.Reply.{choices_of}
 use Rattle.def_reply.specs.Bounds.{IsFloor, IsCeiling, AttainsFloor, AttainsCeiling}
 use Rattle.def_round.specs.Rounds.{rounds}
-use Rattle.def_bracket.specs.Bracket.{Evaluation, Ends, ends_of}
+use Rattle.def_bracket.specs.Bracket.{Evaluation, BracketEnds, ends_of}
 use Rattle.def_run.specs.Run.{reply_to, evaluation, evaluations}
 
 -- after at least one round, both sums are plans, and the evaluation has the attained floor of the one and the attained
@@ -32,20 +32,20 @@ pub record IsOfItsRound (form : SequenceForm) (root every last : ℕ) (end : Eva
   pub in_time : end.round ≤ last
   pub evaluated : (end.round % every ≡ 0) ⊎ (end.round ≡ last)
 
-pub record AreOfTheirRounds (form : SequenceForm) (root every last : ℕ) (ends : Ends) : Type 0 where
+pub record AreOfTheirRounds (form : SequenceForm) (root every last : ℕ) (ends : BracketEnds) : Type 0 where
   pub of_lower : IsOfItsRound form root every last ends.lower
   pub of_upper : IsOfItsRound form root every last ends.upper
 
 abbrev pub EndsAreOfTheirRounds : Type 0
-EndsAreOfTheirRounds = (form : SequenceForm) (root every last : ℕ) (ends : Ends)
+EndsAreOfTheirRounds = (form : SequenceForm) (root every last : ℕ) (ends : BracketEnds)
     → ends_of (evaluations form root every last) ≡ Some ends → AreOfTheirRounds form root every last ends
 
 -- a run of at least one round has ends
 abbrev pub RunsHaveEnds : Type 0
-RunsHaveEnds = (form : SequenceForm) (root every last : ℕ) → 1 ≤ last → (ends : Ends) × (ends_of (evaluations form root every last) ≡ Some ends)
+RunsHaveEnds = (form : SequenceForm) (root every last : ℕ) → 1 ≤ last → (ends : BracketEnds) × (ends_of (evaluations form root every last) ≡ Some ends)
 
 -- and the lower one is at most the upper one, each divided by its round
 abbrev pub EndsAreInOrder : Type 0
-EndsAreInOrder = (form : SequenceForm) (root every last : ℕ) (ends : Ends) → AreInOrder form.sets_one → AreInOrder form.sets_two → 1 ≤ root
+EndsAreInOrder = (form : SequenceForm) (root every last : ℕ) (ends : BracketEnds) → AreInOrder form.sets_one → AreInOrder form.sets_two → 1 ≤ root
     → ends_of (evaluations form root every last) ≡ Some ends
     → (ends.lower.low *ℤ pos ends.upper.round) ≤ℤ (ends.upper.high *ℤ pos ends.lower.round)

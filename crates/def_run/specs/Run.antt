@@ -3,7 +3,7 @@
 use Rattle.std.specs.Prelude.{ℕ, ℤ, List, map}
 use Rattle.def_tree.specs.declared.Player.{Player}
 use Rattle.def_tree.specs.declared.Player.TheVariants.{One, Two}
-use Rattle.def_plan.specs.Form.{SequenceForm, sets_of}
+use Rattle.def_plan.specs.Form.{SequenceForm, player_sets}
 use Rattle.def_plan.specs.Payoff.{leaf_sum}
 use Rattle.def_reply.specs.Reply.{SetReply, best_reply, total}
 use Rattle.def_round.specs.Rounds.{Standing, rounds}
@@ -11,10 +11,10 @@ use Rattle.def_bracket.specs.Bracket.{Evaluation, evaluated_rounds}
 
 -- a player's best reply to a plan of the other player, and its total
 abbrev pub reply_to : SequenceForm → Player → List ℕ → List SetReply
-reply_to form player plan = best_reply player (leaf_sum player form.leaves plan) (sets_of form player)
+reply_to form player plan = best_reply player (leaf_sum player form.leaves plan) (player_sets form player)
 
 abbrev pub total_against : SequenceForm → Player → List ℕ → ℤ
-total_against form player plan = total (leaf_sum player form.leaves plan) (sets_of form player) (reply_to form player plan)
+total_against form player plan = total (leaf_sum player form.leaves plan) (player_sets form player) (reply_to form player plan)
 
 -- the evaluation after some rounds
 abbrev pub evaluation_of : SequenceForm → ℕ → Standing → Evaluation

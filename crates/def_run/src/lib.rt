@@ -5,7 +5,6 @@
 ghost use Rattle.std.specs.Prelude.{◌≡◌, [], ◌∷◌, pos, negsuc};
 ghost use Rattle.def_plan.specs.Pennies.{pennies};
 ghost use Rattle.def_round.specs.Games.{one_mover};
-ghost use Rattle.def_reply.specs.Kuhn.{kuhn};
 ghost use Rattle.def_bracket.specs.Bracket.{trace};
 ghost use Rattle.def_run.specs.Run.{evaluations};
 ghost use Rattle.def_run.specs.Laws.{EndsAreInOrder, EndsAreOfTheirRounds, EvaluationsAreBounds, RunsHaveEnds};
@@ -42,10 +41,4 @@ pub fn trace_of_pennies()
     ensures { trace (evaluations pennies 1 1 2)
         ≡ record { round = 1; low_round = 1; low = negsuc 0; high_round = 1; high = pos 1 }
         ∷ record { round = 2; low_round = 1; low = negsuc 0; high_round = 2; high = pos 0 } ∷ [] }
-{}
-
-/// Kuhn poker after one round: over the unit 6 times the root, from -5/12 to 1/2.
-pub fn trace_of_kuhn_poker()
-    ensures { trace (evaluations kuhn 1048576 1 1)
-        ≡ record { round = 1; low_round = 1; low = negsuc 2621439; high_round = 1; high = pos 3145728 } ∷ [] }
 {}

@@ -1,3 +1,4 @@
 pub mod Sum
 pub mod Floor
 pub mod Laws
+pub mod Limits

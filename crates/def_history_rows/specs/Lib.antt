@@ -1,0 +1,2 @@
+pub mod JobRows
+pub mod Laws
