@@ -1,17 +1,17 @@
 -- Local steps, rights by counts, and the size of a legal history's replay.
-use Rattle.std.proofs.Common.{◌≡◌, ℕ, zero, suc, ◌+◌, ◌<◌, ◌≤◌, ◌==◌, ◌&&◌, Bool, true, false, cond, eqb, ltb, List, [], ◌∷◌, ◌++◌, length, get_or, set, refl, sym, ap, ◌∙◌, subst, arith, inl, inr}
-use Rattle.std.specs.Prelude.{ℤ, unsigned_abs, IsPermutation, All, ◌↔◌}
+use Rattle.std.proofs.Common.{◌≡◌, ℕ, suc, ◌+◌, ◌<◌, ◌≤◌, ◌&&◌, Bool, true, false, cond, eqb, ltb, List, [], ◌∷◌, ◌++◌, get_or, set, refl, sym, ap, ◌∙◌, subst, arith, inl, inr}
+use Rattle.std.specs.Prelude.{unsigned_abs, IsPermutation, All}
 use Rattle.std.proofs.lemmas.List.{get_or-set_same}
 use Rattle.std.proofs.lemmas.List.Sums.{sum_by-cons, sum_by-append}
 use Rattle.std.proofs.lemmas.List.Sorted.{IsPermutation-refl, IsPermutation-sym, IsPermutation-cons, IsPermutation-middle, IsPermutation-trans, sum_by-IsPermutation}
 use Rattle.std.proofs.lemmas.Bool.Decides.{nat_tests}
 use Rattle.std.proofs.lemmas.Bool.{cases_lt}
-use Rattle.def_sums.specs.Sum.{sum_over, nat_sum_over}
+use Rattle.def_sums.specs.Sum.{nat_sum_over}
 use Rattle.def_sums.proofs.SumLaws.{unsigned_abs-sum_over}
-use Rattle.def_history.specs.History.{times, job_numbers, IsLegal, replay}
-use Rattle.def_history.specs.Core.{State, Right, Draws, Adds, TakesJob, GivesRight, rights_held, rights_of, history_of, stripe_count, times_right}
+use Rattle.def_history.specs.History.{times, job_numbers, IsLegal}
+use Rattle.def_history.specs.Core.{Right, TakesJob, GivesRight, rights_held, history_of, stripe_count, times_right}
 use Rattle.def_history.specs.Locks.{LocalStepsAreSteps, CountsTellRights, LegalReplaysAreSmall}
-use Rattle.def_history.proofs.Counts.{one_if, times-cons, times-self, times-job_numbers, times_right-cons, times_right-rights_of, same_right, right_is, times_from_Contains}
+use Rattle.def_history.proofs.Counts.{one_if, times-cons, times-self, times-job_numbers, times_right-cons, times_right-rights_of, same_right, right_is}
 use Rattle.def_history.proofs.Ends.{split_at, times-middle}
 
 -- ---- what is done under one lock is a step of the core

@@ -1,12 +1,11 @@
 -- A packet brings its job's amount to each row, and a stripe holds exactly its rows.
-use Rattle.std.proofs.Common.{◌≡◌, ◌≢◌, ℕ, suc, ◌+◌, ◌-◌, ◌*◌, ◌/◌, ◌<◌, ◌≤◌, Bool, true, false, cond, eqb, ltb, List, [], ◌∷◌, length, refl, sym, ap, ◌∙◌, subst, arith, inl, inr}
-use Rattle.std.specs.Prelude.{ℤ, pos, ◌+ℤ◌, All, ◌↔◌, ◌⊎◌}
+use Rattle.std.proofs.Common.{◌≡◌, ◌≢◌, ℕ, suc, ◌+◌, ◌-◌, ◌*◌, ◌<◌, ◌≤◌, Bool, true, false, eqb, List, [], ◌∷◌, refl, sym, ap, ◌∙◌, subst, arith, inl, inr}
+use Rattle.std.specs.Prelude.{ℤ, pos, All, ◌⊎◌}
 use Rattle.std.proofs.Math.Nat.{le-div_iff_mul-le}
 use Rattle.std.proofs.lemmas.Bool.Decides.{nat_tests}
-use Rattle.std.proofs.lemmas.List.Elements.{All-nil, All-cons, All-head, All-tail}
-use Rattle.def_sums.specs.Sum.{sum_over}
+use Rattle.std.proofs.lemmas.List.Elements.{All-nil, All-cons}
 use Rattle.def_sums.proofs.RingLaws.{zero-+ℤ, +ℤ-zero}
-use Rattle.def_history.specs.Packets.{Entry, AreRising, IsPacketOf, brought, PacketsBringAmounts, place_count, StripesHoldTheirRows}
+use Rattle.def_history.specs.Packets.{Entry, AreRising, brought, PacketsBringAmounts, StripesHoldTheirRows}
 
 -- rows above this one bring nothing to it
 later_bring_nothing : (row : ℕ) (entries : List Entry) → All (λ later. row < later.row) entries → brought entries row ≡ pos 0
