@@ -65,7 +65,7 @@ and-right : (a b : Bool) → (a && b) ≡ true → b ≡ true
 and-right true b e = e
 and-right false b e = absurd (cc)
 
-right_is : (head : Right) (job stripe : ℕ) → (eqb head.job job && eqb head.stripe stripe) ≡ true → head ≡ record { job = job; stripe = stripe }
+pub right_is : (head : Right) (job stripe : ℕ) → (eqb head.job job && eqb head.stripe stripe) ≡ true → head ≡ record { job = job; stripe = stripe }
 right_is head job stripe e =
     let p = and-left (eqb head.job job) (eqb head.stripe stripe) e in
     let q = and-right (eqb head.job job) (eqb head.stripe stripe) e in

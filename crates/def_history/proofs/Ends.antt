@@ -83,7 +83,7 @@ ends_complete jobs state reached end k d below =
     subst (λ (h : List ℕ). IsComplete jobs h) (same_element state.histories k [] d below) (complete_at jobs state reached end k below)
 
 -- ---- replay: lists that have each number equally often have one sum
-split_at : (x : ℕ) (ys : List ℕ) → 1 ≤ times x ys → (front : List ℕ) × (back : List ℕ) × (ys ≡ front ++ x ∷ back)
+pub split_at : (x : ℕ) (ys : List ℕ) → 1 ≤ times x ys → (front : List ℕ) × (back : List ℕ) × (ys ≡ front ++ x ∷ back)
 split_at x [] h = absurd (omega arith)
 split_at x (y ∷ ys) h = by_head (split_at x ys) (eqb y x) refl
   where
@@ -97,7 +97,7 @@ split_at x (y ∷ ys) h = by_head (split_at x ys) (eqb y x) refl
         from : (front : List ℕ) × (back : List ℕ) × (ys ≡ front ++ x ∷ back) → (front : List ℕ) × (back : List ℕ) × (y ∷ ys ≡ front ++ x ∷ back)
         from (front, back, is) = (y ∷ front, back, ap (λ zs. y ∷ zs) is)
 
-times-middle : (job x : ℕ) (front back : List ℕ) → times job (front ++ x ∷ back) ≡ one_if (eqb x job) + times job (front ++ back)
+pub times-middle : (job x : ℕ) (front back : List ℕ) → times job (front ++ x ∷ back) ≡ one_if (eqb x job) + times job (front ++ back)
 times-middle job x front back =
     let f : ℕ → ℕ = λ other. cond (eqb other job) 1 0 in
     omega (arith, sum_by-append f front (x ∷ back), sum_by-append f front back, sum_by-cons f x back)

@@ -4,3 +4,5 @@ pub mod Holders
 pub mod Ends
 pub mod Leaves
 pub mod Worked
+pub mod Locks
+pub mod Packets

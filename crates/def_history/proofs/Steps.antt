@@ -35,9 +35,9 @@ draw_held : (before : State) (pass drawn : ℕ) (after : State) → Draws before
     → times_held after job stripe ≡ times_held before job stripe + cond (eqb drawn job) (one_if (ltb stripe (stripe_count before))) 0
 draw_held before pass drawn after step job stripe =
     let a = held_after before after pass step.is_pass step.other_passes job stripe in
-    let b : times_right job stripe (rights_held before pass) ≡ 0 = ap (λ (rights : List Right). times_right job stripe rights) step.holds_none in
+    let b : times_right job stripe (rights_held before pass) ≡ 0 = ap (λ (rights : List Right). times_right job stripe rights) step.takes_job.held_none in
     let c : times_right job stripe (rights_held after pass) ≡ times_right job stripe (rights_of drawn (stripe_count before)) =
-    sum_by-IsPermutation (λ (x : Right). cond (eqb x.job job && eqb x.stripe stripe) 1 0) _ _ step.gets_rights in
+    sum_by-IsPermutation (λ (x : Right). cond (eqb x.job job && eqb x.stripe stripe) 1 0) _ _ step.takes_job.gets_rights in
     let d = times_right-rights_of drawn (stripe_count before) job stripe in
     omega (arith, a, b, c, d)
 
@@ -45,7 +45,7 @@ draw_keeps : (jobs : ℕ) (before : State) (pass drawn : ℕ) (after : State) �
 draw_keeps jobs before pass drawn after old step = record { balance = balance; no_stripe = no_stripe; bag_once = bag_once }
   where
     bag_once : (job : ℕ) → times job after.bag ≤ one_if (ltb job jobs)
-    bag_once job = omega (arith, times_popped drawn job before.bag after.bag step.leaves_bag, old.bag_once job)
+    bag_once job = omega (arith, times_popped drawn job before.bag after.bag step.takes_job.leaves_bag, old.bag_once job)
 
     same_count : stripe_count after ≡ stripe_count before
     same_count = ap length step.histories
@@ -55,7 +55,7 @@ draw_keeps jobs before pass drawn after old step = record { balance = balance; n
         let below' : stripe < stripe_count before = omega (arith, same_count) in
         let inside : ltb stripe (stripe_count before) ≡ true = grind (arith, nat_tests) in
         let held = rw inside at (draw_held before pass drawn after step job stripe) in
-        let bag = times_popped drawn job before.bag after.bag step.leaves_bag in
+        let bag = times_popped drawn job before.bag after.bag step.takes_job.leaves_bag in
         let history : times job (history_of after stripe) ≡ times job (history_of before stripe) = ap (λ (h : List (List ℕ)). times job (get_or h stripe [])) step.histories in
         omega (arith, held, bag, history, old.balance job stripe below')
 
@@ -72,11 +72,14 @@ draw_keeps jobs before pass drawn after old step = record { balance = balance; n
         both false = refl
 
 -- ---- an addition
+histories_after : (before : State) (pass job stripe : ℕ) (after : State) → Adds before pass job stripe after → after.histories ≡ set before.histories stripe (history_of before stripe ++ job ∷ [])
+histories_after before pass job stripe after step = step.other_histories ∙ ap (λ (h : List ℕ). set before.histories stripe h) step.gives_up.joins_history
+
 add_held : (before : State) (pass job stripe : ℕ) (after : State) → Adds before pass job stripe after → (j k : ℕ)
     → times_held after j k + one_if (eqb job j && eqb stripe k) ≡ times_held before j k
 add_held before pass job stripe after step j k =
     let a = held_after before after pass step.is_pass step.other_passes j k in
-    let b = right_popped j k (record { job = job; stripe = stripe }) _ _ step.gives_right in
+    let b = right_popped j k (record { job = job; stripe = stripe }) _ _ step.gives_up.gives_right in
     omega (arith, a, b)
 
 -- a right that is held is one of a stripe
@@ -91,7 +94,7 @@ add_is_stripe jobs before pass job stripe after old step = elim (cases_lt stripe
 add_history : (before : State) (pass job stripe : ℕ) (after : State) → Adds before pass job stripe after → stripe < stripe_count before → (j k : ℕ)
     → times j (history_of after k) ≡ times j (history_of before k) + one_if (eqb job j && eqb stripe k)
 add_history before pass job stripe after step below j k =
-    let e : history_of after k ≡ get_or (set before.histories stripe (history_of before stripe ++ job ∷ [])) k [] = ap (λ (h : List (List ℕ)). get_or h k []) step.histories in
+    let e : history_of after k ≡ get_or (set before.histories stripe (history_of before stripe ++ job ∷ [])) k [] = ap (λ (h : List (List ℕ)). get_or h k []) (histories_after before pass job stripe after step) in
     ap (times j) e ∙ elim (cases_eq k stripe) [ inl same ↦ here e same | inr other ↦ there e other ]
   where
     here : (history_of after k ≡ get_or (set before.histories stripe (history_of before stripe ++ job ∷ [])) k []) → k ≡ stripe → times j (get_or (set before.histories stripe (history_of before stripe ++ job ∷ [])) k []) ≡ times j (history_of before k) + one_if (eqb job j && eqb stripe k)
@@ -118,7 +121,7 @@ add_keeps jobs before pass job stripe after old step = record { balance = balanc
     below = add_is_stripe jobs before pass job stripe after old step
 
     same_count : stripe_count after ≡ stripe_count before
-    same_count = ap length step.histories ∙ length-set before.histories stripe (history_of before stripe ++ job ∷ [])
+    same_count = ap length (histories_after before pass job stripe after step) ∙ length-set before.histories stripe (history_of before stripe ++ job ∷ [])
 
     balance : (j k : ℕ) → k < stripe_count after → times j after.bag + times_held after j k + times j (history_of after k) ≡ one_if (ltb j jobs)
     balance j k inside =

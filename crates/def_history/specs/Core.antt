@@ -27,21 +27,30 @@ history_of state stripe = slice_index_or state.histories stripe []
 abbrev pub rights_of : ℕ → ℕ → List Right
 rights_of job stripes = map (λ stripe. record { job = job; stripe = stripe }) (range_with_len 0 stripes)
 
--- a pass that holds no right draws a job from the bag, and holds the job's rights for all stripes
+-- what is done under the bag's lock: a job leaves the bag, and who held no right gets the job's rights for all stripes
+pub record TakesJob (stripes : ℕ) (bag : List ℕ) (held : List Right) (job : ℕ) (bag_after : List ℕ) (held_after : List Right) : Type 0 where
+  pub held_none : held ≡ []
+  pub leaves_bag : IsPermutation bag (job ∷ bag_after)
+  pub gets_rights : IsPermutation (rights_of job stripes) held_after
+
+-- what is done under one stripe's lock: the right to add the job there is given up, and the job joins the history at its end
+pub record GivesRight (stripe : ℕ) (history : List ℕ) (held : List Right) (job : ℕ) (history_after : List ℕ) (held_after : List Right) : Type 0 where
+  pub gives_right : IsPermutation held (record { job = job; stripe = stripe } ∷ held_after)
+  pub joins_history : history_after ≡ history ++ job ∷ []
+
+-- a pass draws a job from the bag; all else stays
 pub record Draws (before : State) (pass job : ℕ) (after : State) : Type 0 where
   pub is_pass : pass < length before.passes
-  pub holds_none : rights_held before pass ≡ []
-  pub leaves_bag : IsPermutation before.bag (job ∷ after.bag)
-  pub gets_rights : IsPermutation (rights_of job (stripe_count before)) (rights_held after pass)
+  pub takes_job : TakesJob (stripe_count before) before.bag (rights_held before pass) job after.bag (rights_held after pass)
   pub other_passes : after.passes ≡ slice_set before.passes pass (rights_held after pass)
   pub histories : after.histories ≡ before.histories
 
--- a pass gives up the right that it holds to add a job into a stripe, whose history the job joins at its end
+-- a pass adds a job into a stripe; all else stays
 pub record Adds (before : State) (pass job stripe : ℕ) (after : State) : Type 0 where
   pub is_pass : pass < length before.passes
-  pub gives_right : IsPermutation (rights_held before pass) (record { job = job; stripe = stripe } ∷ rights_held after pass)
+  pub gives_up : GivesRight stripe (history_of before stripe) (rights_held before pass) job (history_of after stripe) (rights_held after pass)
   pub other_passes : after.passes ≡ slice_set before.passes pass (rights_held after pass)
-  pub histories : after.histories ≡ slice_set before.histories stripe (history_of before stripe ++ job ∷ [])
+  pub other_histories : after.histories ≡ slice_set before.histories stripe (history_of after stripe)
   pub bag : after.bag ≡ before.bag
 
 pub data Step : Type 0 where

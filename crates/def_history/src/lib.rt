@@ -2,6 +2,8 @@
 //! that leads to them, for any number of passes and stripes. There is no code here; each function's contract is a law.
 #![tactic(auto)]
 
+ghost use Rattle.def_history.specs.Locks.{CountsTellRights, LegalReplaysAreSmall, LocalStepsAreSteps};
+ghost use Rattle.def_history.specs.Packets.{PacketsBringAmounts, StripesHoldTheirRows};
 ghost use Rattle.def_history.specs.Worked.{RunsToTheEnd, TwoJobsHaveThreeLeaves};
 ghost use Rattle.def_history.specs.Laws.{CountsEachRightOnce, EndsComplete, EndsWithLeafSums, EndsWithPlainSums, GivesUpByAdding, HoldsOnlyRights, HoldsOrGivesUp, JobsAddUpToLeaves, KeepsBagLegal, KeepsHistoriesLegal, PlacesEachRowOnce, ReplaysToPlainSum};
 
@@ -40,6 +42,21 @@ pub fn histories_end_complete()
     ensures { EndsComplete }
 {}
 
+/// Who sees one lock's value and the rights that a pass holds takes a step of the core, whatever the rest of the state is.
+pub fn local_steps_are_steps()
+    ensures { LocalStepsAreSteps }
+{}
+
+/// Rights may be kept in any order.
+pub fn counts_tell_rights()
+    ensures { CountsTellRights }
+{}
+
+/// A stripe's totals stay within the sizes of all jobs' amounts, whichever jobs it has.
+pub fn legal_replays_are_small()
+    ensures { LegalReplaysAreSmall }
+{}
+
 /// The order of the additions changes nothing.
 pub fn complete_histories_replay_to_plain_sums()
     ensures { ReplaysToPlainSum }
@@ -53,6 +70,16 @@ pub fn rows_end_as_plain_sums()
 /// Rows are dealt to the stripes in turn.
 pub fn each_row_has_one_place()
     ensures { PlacesEachRowOnce }
+{}
+
+/// Which places of a stripe have a row.
+pub fn stripes_hold_their_rows()
+    ensures { StripesHoldTheirRows }
+{}
+
+/// A packet is enough of a job's amounts.
+pub fn packets_bring_amounts()
+    ensures { PacketsBringAmounts }
 {}
 
 /// The sum over the jobs and the sum over their leaves are one.

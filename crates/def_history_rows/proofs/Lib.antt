@@ -1,2 +1,3 @@
 pub mod JobRows
 pub mod Amounts
+pub mod JobPackets

@@ -7,6 +7,7 @@ ghost use Rattle.std.specs.List.{range_with_len};
 ghost use Rattle.def_plan.specs.Pennies.{pennies};
 ghost use Rattle.def_history.specs.Leaves.{amounts};
 ghost use Rattle.def_history_rows.specs.JobRows.{leaf_amount};
+ghost use Rattle.def_history_rows.specs.JobPackets.{TouchedRowsAreExact, TouchedRowsMakePackets, packet_of};
 ghost use Rattle.def_history_rows.specs.Laws.{AmountsAreSmall, JobsHaveTheirLeafSums, ReplaysEndAsRows, RowsSumOverLeaves};
 
 /// The plain sums over all leaves are the leaf sums of both players.
@@ -27,6 +28,23 @@ pub fn replays_end_as_rows()
 /// The sizes of the jobs' amounts at a row.
 pub fn amounts_are_small()
     ensures { AmountsAreSmall }
+{}
+
+/// A job touches exactly the rows whose sequence some leaf of it has.
+pub fn touched_rows_are_exact()
+    ensures { TouchedRowsAreExact }
+{}
+
+/// A job's amounts at the rows that it touches are its packet: at every other row its amount is 0.
+pub fn touched_rows_make_packets()
+    ensures { TouchedRowsMakePackets }
+{}
+
+/// The packet of the one job of matching pennies, where both plans give their one unit to the second action.
+pub fn packet_of_pennies()
+    ensures { packet_of pennies (1 ∷ 0 ∷ 1 ∷ []) (1 ∷ 0 ∷ 1 ∷ []) (record { first = 0; count = 4 })
+        ≡ record { row = 1; amount = negsuc 0 } ∷ record { row = 2; amount = pos 1 } ∷ record { row = 4; amount = negsuc 0 }
+        ∷ record { row = 5; amount = pos 1 } ∷ [] }
 {}
 
 /// Matching pennies, where both plans give their one unit to the second action: the amounts of the one job at all rows.
