@@ -4,9 +4,9 @@ ghost use Rattle.std.specs.Cmp.Lexicographic.{pointwise};
 ghost use Rattle.std.specs.Option.{ForSome};
 ghost use Rattle.std.specs.Io.KnownBytes.{Consumes};
 ghost use Rattle.def_outside.specs.Cause.{HasCause};
-ghost use Rattle.xg_io.specs.Cause.{OpenHasCause};
+ghost use Rattle.xg_io.specs.Cause.{next_count, CountsOne, OpenCountsOne, OpenHasCause};
 ghost use Rattle.xg_io.specs.Stored.{bytes_of, bytes_at};
-ghost use Rattle.xg_io.specs.Schedule.{next_count, failing_calls, calls_made, faults_so_far, FailsNext};
+ghost use Rattle.xg_io.specs.Schedule.{failing_calls, calls_made, faults_so_far, FailsNext};
 
 use crate::schedule::Schedule;
 use crate::{Failed, Files, OpenFault};
@@ -90,6 +90,7 @@ impl Files for MemFiles {
         ensures nothing_taken { taken_of self.new ≡ 0 }
         ensures whole_left { OnOk result (left_of self.new ≡ told_of self.old name.now) }
         ensures cause { OpenHasCause (faults_so_far (schedule_of self.old)) (faults_so_far (schedule_of self.new)) result }
+        ensures one_fault { OpenCountsOne (faults_so_far (schedule_of self.old)) (faults_so_far (schedule_of self.new)) result }
         ensures fails { IsErrOf result OpenFault.Failed ↔ (FailsNext (schedule_of self.old) ⊎ (told_of self.old name.now ≡ None)) }
         ensures has_memory { IsErrOf result OpenFault.NoMemory → ⊥ }
         ensures counted { calls_made (schedule_of self.new) ≡ next_count (calls_made (schedule_of self.old)) }
@@ -122,6 +123,7 @@ impl Files for MemFiles {
         ensures same_left { OnErr result (left_of self.new ≡ left_of self.old) }
         ensures same_taken { OnErr result (taken_of self.new ≡ taken_of self.old) }
         ensures cause { HasCause (faults_so_far (schedule_of self.old)) (faults_so_far (schedule_of self.new)) result }
+        ensures one_fault { CountsOne (faults_so_far (schedule_of self.old)) (faults_so_far (schedule_of self.new)) result }
         ensures fails { IsErr result ↔ FailsNext (schedule_of self.old) }
         ensures counted { calls_made (schedule_of self.new) ≡ next_count (calls_made (schedule_of self.old)) }
         ensures same_failing { failing_calls (schedule_of self.new) ≡ failing_calls (schedule_of self.old) }

@@ -2,7 +2,8 @@
 ghost use Rattle.std.specs.Prelude.{◌≡◌, ◌≢◌, ℕ, ◌+◌, ◌-◌, ◌^◌, ◌<◌, ◌≤◌, ◌↔◌, ◌⊎◌, [], Some, length, min, take, vec_len, vec_capacity, IfOk, OnOk, OnErr, IsErr};
 ghost use Rattle.std.specs.Io.KnownBytes.{append_known};
 ghost use Rattle.def_outside.specs.Cause.{HasCause};
-ghost use Rattle.xg_io.specs.Schedule.{next_count, failing_calls, calls_made, faults_so_far, FailsNext};
+ghost use Rattle.xg_io.specs.Cause.{next_count, CountsOne};
+ghost use Rattle.xg_io.specs.Schedule.{failing_calls, calls_made, faults_so_far, FailsNext};
 
 use crate::schedule::Schedule;
 use crate::{Failed, Sink};
@@ -60,6 +61,7 @@ impl Sink for MemSink {
         ensures appended { IfOk result (λ n. Some (bytes_of_sink self.new) ≡ append_known (Some (bytes_of_sink self.old)) (take n piece.now)) }
         ensures same_written { OnErr result (Some (bytes_of_sink self.new) ≡ Some (bytes_of_sink self.old)) }
         ensures cause { HasCause (faults_so_far (schedule_of_sink self.old)) (faults_so_far (schedule_of_sink self.new)) result }
+        ensures one_fault { CountsOne (faults_so_far (schedule_of_sink self.old)) (faults_so_far (schedule_of_sink self.new)) result }
         ensures fails { IsErr result ↔ (FailsNext (schedule_of_sink self.old) ⊎ (room_of self.old ≡ 0)) }
         ensures counted { calls_made (schedule_of_sink self.new) ≡ next_count (calls_made (schedule_of_sink self.old)) }
         ensures same_failing { failing_calls (schedule_of_sink self.new) ≡ failing_calls (schedule_of_sink self.old) }

@@ -3,6 +3,8 @@
 
 mod ending;
 mod load;
+#[cfg(test)]
+mod main_tests;
 mod run;
 #[cfg(test)]
 mod tests;
