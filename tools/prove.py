@@ -3,8 +3,8 @@
 
 Usage: tools/prove.py
 
-Crates that don't stand on one another are proved side by side, on all processors as far as memory reaches. The status is
-0 where the program is proved and built. Where it is not, what the toolchain said is shown.
+Crates that don't stand on one another are proved side by side, on all processors as far as memory reaches. The status
+is 0 where the program is proved and built. Where it is not, what the toolchain said is shown.
 """
 import os
 import pathlib
