@@ -1,4 +1,6 @@
 //! The adapters over sources and sinks of the tests' own, which fail and stop short where a test wants it.
+ghost use Rattle.std.specs.Prelude.{IsErr};
+
 use super::{RealFiles, RealSink};
 use crate::{ReadAllFault, WriteFault, read_all, write_all};
 use std::alloc::Allocator;
@@ -9,10 +11,13 @@ use std::{io, rt};
 
 const CONTENT: &[u8] = b"abcdefg";
 
+const NAMES: [&str; 7] = ["game", " a game ", "\ta", "a\n", "a//b", "./a/", ""];
+
 /// A system with one file, of which a read gives at most three bytes.
 #[derive(Drop)]
 struct OneFile {
-    name: &'static str,
+    /// The place of its name in `NAMES`.
+    name: usize,
     /// Why the file can't be opened, where it can't.
     refusal: Option<ErrorKind>,
     /// The number of the read that fails, from 1.
@@ -21,12 +26,14 @@ struct OneFile {
 
 #[derive(Drop)]
 struct Source {
-    rest: &'static [u8],
+    at: usize,
     reads: u64,
     failing: u64,
 }
 
-fn unsupported<T: Drop>() -> io::Result<T> {
+fn unsupported<T: Drop>() -> io::Result<T>
+    ensures { IsErr result }
+{
     Err(ErrorKind::Unsupported.into())
 }
 
@@ -39,11 +46,11 @@ impl rt::Files for OneFile {
         if let Some(kind) = self.refusal {
             return Err(kind.into());
         }
-        if path != self.name {
+        if NAMES.get(self.name) != Some(&path) {
             return Err(ErrorKind::NotFound.into());
         }
         Ok(Source {
-            rest: CONTENT,
+            at: 0,
             reads: 0,
             failing: self.failing,
         })
@@ -92,9 +99,10 @@ impl Read for Source {
         if self.reads == self.failing {
             return Err(ErrorKind::Other.into());
         }
-        let n = buf.len().min(self.rest.len()).min(3);
-        buf[..n].copy_from_slice(&self.rest[..n]);
-        self.rest = &self.rest[n..];
+        let rest = CONTENT.get(self.at..).unwrap_or(&[]);
+        let n = buf.len().min(rest.len()).min(3);
+        buf[..n].copy_from_slice(&rest[..n]);
+        self.at = self.at.saturating_add(n);
         Ok(n)
     }
 }
@@ -133,7 +141,7 @@ impl OpenFile for Source {
     }
 }
 
-fn one_file(name: &'static str, failing: u64) -> RealFiles<OneFile> {
+fn one_file(name: usize, failing: u64) -> RealFiles<OneFile> {
     RealFiles::new(OneFile {
         name,
         refusal: None,
@@ -146,7 +154,7 @@ fn one_file(name: &'static str, failing: u64) -> RealFiles<OneFile> {
 fn a_read_that_fails_is_no_end_of_the_file(rt: HostRuntime) -> Result<(), Fail> {
     let alloc = rt.alloc();
     for failing in 1..5u64 {
-        let mut files = one_file("game", failing);
+        let mut files = one_file(0, failing);
         assert_eq!(rt;
             read_all(alloc, &mut files, "game", 100).err(),
             Some(ReadAllFault::ReadFault),
@@ -154,7 +162,7 @@ fn a_read_that_fails_is_no_end_of_the_file(rt: HostRuntime) -> Result<(), Fail> 
         );
         assert_eq!(rt; files.faults, 1, "at read {failing}");
     }
-    let mut files = one_file("game", 5);
+    let mut files = one_file(0, 5);
     assert_eq!(rt;
         read_all(alloc, &mut files, "game", 100)?.as_slice(),
         CONTENT
@@ -166,7 +174,7 @@ fn a_read_that_fails_is_no_end_of_the_file(rt: HostRuntime) -> Result<(), Fail> 
 #[test]
 fn pieces_come_in_order_up_to_the_limit(rt: HostRuntime) -> Result<(), Fail> {
     let alloc = rt.alloc();
-    let mut files = one_file("game", 0);
+    let mut files = one_file(0, 0);
     assert_eq!(rt; read_all(alloc, &mut files, "game", 7)?.as_slice(), CONTENT);
     assert_eq!(rt;
         read_all(alloc, &mut files, "game", 6).err(),
@@ -179,8 +187,8 @@ fn pieces_come_in_order_up_to_the_limit(rt: HostRuntime) -> Result<(), Fail> {
 #[test]
 fn a_name_is_opened_as_it_is(rt: HostRuntime) -> Result<(), Fail> {
     let alloc = rt.alloc();
-    for name in [" a game ", "\ta", "a\n", "a//b", "./a/", "", "\u{a0}a"] {
-        let mut files = one_file(name, 0);
+    for (place, name) in NAMES.into_iter().enumerate() {
+        let mut files = one_file(place, 0);
         assert_eq!(rt;
             read_all(alloc, &mut files, name, 7)?.as_slice(),
             CONTENT,
@@ -204,7 +212,7 @@ fn a_file_is_refused_for_want_of_memory_alone(rt: HostRuntime) {
         (ErrorKind::Interrupted, ReadAllFault::ReadFault, 1),
     ] {
         let mut files = RealFiles::new(OneFile {
-            name: "game",
+            name: 0,
             refusal: Some(kind),
             failing: 0,
         });
