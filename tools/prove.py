@@ -3,8 +3,9 @@
 
 Usage: tools/prove.py
 
-Crates that don't stand on one another are proved side by side, on all processors as far as memory reaches. The status
-is 0 where the program is proved and built. Where it is not, what the toolchain said is shown.
+The crates of definitions are proved first, side by side where they don't stand on one another; then those of code, one
+after the other, each on several processors. The status is 0 where the program is proved and built. Where it is not, what
+the toolchain said is shown.
 """
 import os
 import pathlib
@@ -17,27 +18,26 @@ import time
 
 ROOT = pathlib.Path(__file__).resolve().parent.parent
 CRATE = "xg_solve"
-FOLDER = ROOT / "crates" / CRATE
-PROGRAM = FOLDER / "out" / CRATE
+PROGRAM = ROOT / "crates" / CRATE / "out" / CRATE
 # What one check takes at the most, in bytes.
 MEMORY_OF_A_CHECK = 2 << 30
 
 
-def crates_of_the_program():
-    """The crates that the program stands on, and its own."""
-    lines = (ROOT / "crates.txt").read_text().splitlines()
-    lower = {}
-    for line in lines:
+def crates_below():
+    """For each crate of the repository, those that it stands on."""
+    below = {}
+    for line in (ROOT / "crates.txt").read_text().splitlines():
         name, colon, uses = line.partition("#")[0].partition(":")
         if colon:
-            lower[name.split()[0]] = uses.split()
-    found, todo = set(), [CRATE]
-    while todo:
-        name = todo.pop()
-        if name in lower and name not in found:
-            found.add(name)
-            todo += lower[name]
-    return found
+            uses = [it for it in uses.split() if it in below]
+            below[name.split()[0]] = set(uses).union(*(below[it] for it in uses))
+    return below
+
+
+def highest_definitions(below):
+    """The crates of definitions that the program stands on, without those that stand below another of them."""
+    definitions = [it for it in below if it in below[CRATE] and it.startswith("def_")]
+    return [it for it in definitions if not any(it in below[other] for other in definitions)]
 
 
 def checks_at_once():
@@ -50,37 +50,43 @@ def say(text):
 
 
 class Progress:
-    """Follows what the toolchain says of each crate, and says a line for each that is proved."""
+    """Follows what the toolchain says, and says a line for each crate that is proved."""
 
     def __init__(self, crates):
-        self.begin, self.crates, self.proved = time.monotonic(), crates, 0
+        self.start, self.crates, self.proved = time.monotonic(), crates, set()
         self.current, self.is_proved = None, False
 
     def take(self, line):
-        if line.startswith("== "):
-            self.end_of_crate()
-            self.current, self.is_proved = line[3:].strip(), True
-        elif re.match(r"logic=(?!proved)|.*\berror[:\[]", line):
+        begun = re.match(r"== (\w+)$|rt: (\w+): begins with|rt: chose --jobs \d+ for (\w+)$", line)
+        if begun:
+            self.begin(next(filter(None, begun.groups())))
+        elif line.startswith("logic=proved"):
+            self.end()
+        elif re.match(r"logic=|.*\berror[:\[]", line):
             self.is_proved = False
 
-    def end_of_crate(self):
-        if self.current in self.crates and self.is_proved:
-            self.proved += 1
-            say(f"proved {self.current} ({self.proved} of {len(self.crates)}), {self.time()}")
-        self.current = None
+    def begin(self, crate):
+        if crate != self.current:
+            self.end()
+            self.current, self.is_proved = crate, True
+
+    def end(self):
+        if self.is_proved and self.current in self.crates - self.proved:
+            self.proved.add(self.current)
+            say(f"proved {self.current} ({len(self.proved)} of {len(self.crates)}), {self.time()}")
+        self.is_proved = False
 
     def time(self):
-        seconds = int(time.monotonic() - self.begin)
+        seconds = int(time.monotonic() - self.start)
         return f"{seconds // 60} min" if seconds >= 60 else f"{seconds} s"
 
 
-def run(words, on_line=lambda line: None, on_silence=lambda: None):
-    """The status of a command of the toolchain, and what it said."""
+def run(crate, words, on_line, on_silence):
+    """The status of a command of the toolchain in a crate's folder, and what it said."""
     streams = {"stdin": subprocess.DEVNULL, "stdout": subprocess.PIPE, "stderr": subprocess.STDOUT}
-    child = subprocess.Popen(words, cwd=FOLDER, **streams)
+    child = subprocess.Popen(["rt", *words], cwd=ROOT / "crates" / crate, **streams)
     said, rest = b"", b""
     while True:
-        # What is said of a crate comes in one piece, when it is done.
         if not select.select([child.stdout], [], [], 1)[0]:
             on_silence()
             continue
@@ -93,24 +99,31 @@ def run(words, on_line=lambda line: None, on_silence=lambda: None):
             on_line(line.decode(errors="replace"))
 
 
+def prove(below):
+    """Whether the program is proved and built, and what the toolchain said at last."""
+    at_once = checks_at_once()
+    progress = Progress(below[CRATE] | {CRATE})
+    say(f"proving {len(progress.crates)} crates on {at_once} processors; from nothing this takes some minutes")
+    for crate in highest_definitions(below):
+        # What is said of a crate comes when it is done, in one piece.
+        status, said = run(crate, ["all", "check", "--jobs", str(at_once)], progress.take, progress.end)
+        progress.end()
+        if status != 0:
+            return False, said
+    # This runs the program too, without words; its status there is of no interest.
+    PROGRAM.unlink(missing_ok=True)
+    _, said = run(CRATE, ["run"], progress.take, lambda: None)
+    return re.search("^logic=proved", said, re.MULTILINE) and os.access(PROGRAM, os.X_OK), said
+
+
 def main():
     if not shutil.which("rt"):
         say("the toolchain's command rt isn't on the PATH")
         return 1
-    crates, at_once = crates_of_the_program(), checks_at_once()
-    say(f"proving {len(crates)} crates, {at_once} at a time; from nothing this takes some minutes")
-    progress = Progress(crates)
-    status, said = run(["rt", "all", "check", "--jobs", str(at_once)], progress.take, progress.end_of_crate)
-    progress.end_of_crate()
-    if status == 0:
-        say(f"building the program, {progress.time()}")
-        # This runs the program too, without words; its status there is of no interest.
-        PROGRAM.unlink(missing_ok=True)
-        _, said = run(["rt", "run"])
-        if re.search("^logic=proved", said, re.MULTILINE) and os.access(PROGRAM, os.X_OK):
-            return 0
-    sys.stderr.write(said)
-    return 1
+    is_proved, said = prove(crates_below())
+    if not is_proved:
+        sys.stderr.write(said)
+    return 0 if is_proved else 1
 
 
 if __name__ == "__main__":
