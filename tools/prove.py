@@ -4,8 +4,8 @@
 Usage: tools/prove.py
 
 The crates of definitions are proved first, side by side where they don't stand on one another; then those of code, one
-after the other, each on several processors. The status is 0 where the program is proved and built. Where it is not, what
-the toolchain said is shown.
+after the other, each on several processors. The status is 0 where the program is proved and built. Where it is not,
+what the toolchain said is shown.
 """
 import os
 import pathlib
@@ -52,9 +52,9 @@ def say(text):
 class Progress:
     """Follows what the toolchain says, and says a line for each crate that is proved."""
 
-    def __init__(self, crates):
-        self.start, self.crates, self.proved = time.monotonic(), crates, set()
-        self.current, self.is_proved = None, False
+    def __init__(self, below):
+        self.start, self.below, self.crates = time.monotonic(), below, below[CRATE] | {CRATE}
+        self.proved, self.current, self.is_proved = set(), None, False
 
     def take(self, line):
         begun = re.match(r"== (\w+)$|rt: (\w+): begins with|rt: chose --jobs \d+ for (\w+)$", line)
@@ -72,7 +72,8 @@ class Progress:
 
     def end(self):
         if self.is_proved and self.current in self.crates - self.proved:
-            self.proved.add(self.current)
+            # Nothing is said of a crate below that was proved before.
+            self.proved |= {self.current} | self.below[self.current]
             say(f"proved {self.current} ({len(self.proved)} of {len(self.crates)}), {self.time()}")
         self.is_proved = False
 
@@ -102,7 +103,7 @@ def run(crate, words, on_line, on_silence):
 def prove(below):
     """Whether the program is proved and built, and what the toolchain said at last."""
     at_once = checks_at_once()
-    progress = Progress(below[CRATE] | {CRATE})
+    progress = Progress(below)
     say(f"proving {len(progress.crates)} crates on {at_once} processors; from nothing this takes some minutes")
     for crate in highest_definitions(below):
         # What is said of a crate comes when it is done, in one piece.
