@@ -3,6 +3,7 @@ use Rattle.std.specs.Prelude.{ℕ, List, drop, Option}
 use Rattle.std.specs.Option.{option_map, option_and_then}
 use Rattle.xg_io.specs.declared.memory_files.MemFiles.{MemFiles}
 use Rattle.xg_io.specs.declared.schedule.Schedule.{Schedule}
+use Rattle.xg_io.specs.Schedule.{faults_so_far}
 use Rattle.xg_io.specs.Stored.{bytes_of, bytes_at}
 
 -- the bytes of a name, where there is a file of that name
@@ -24,3 +25,7 @@ left_of m = option_and_then (λ place. option_map (drop m.taken) (bytes_at m.fil
 -- which calls fail
 abbrev pub schedule_of : MemFiles → Schedule
 schedule_of m = m.schedule
+
+-- how many of its calls failed
+abbrev pub faults_of : MemFiles → ℕ
+faults_of m = faults_so_far (schedule_of m)

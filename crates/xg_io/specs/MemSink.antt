@@ -2,6 +2,7 @@
 use Rattle.std.specs.Prelude.{ℕ, ◌-◌, List, vec_len}
 use Rattle.xg_io.specs.declared.memory_sink.MemSink.{MemSink}
 use Rattle.xg_io.specs.declared.schedule.Schedule.{Schedule}
+use Rattle.xg_io.specs.Schedule.{faults_so_far}
 
 -- the bytes that it took
 abbrev pub bytes_of_sink : MemSink → List ℕ
@@ -14,3 +15,7 @@ room_of m = m.capacity - vec_len m.bytes
 -- which calls fail
 abbrev pub schedule_of_sink : MemSink → Schedule
 schedule_of_sink m = m.schedule
+
+-- how many of its writes failed
+abbrev pub faults_of_sink : MemSink → ℕ
+faults_of_sink m = faults_so_far (schedule_of_sink m)

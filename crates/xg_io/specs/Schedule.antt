@@ -1,10 +1,7 @@
 -- Which calls of an object in memory fail: those whose numbers are listed. Calls are numbered from 1.
-use Rattle.std.specs.Prelude.{ℕ, ◌+◌, ◌-◌, ◌^◌, min, List, Contains}
+use Rattle.std.specs.Prelude.{ℕ, List, Contains}
 use Rattle.xg_io.specs.declared.schedule.Schedule.{Schedule}
-
--- the count after one more, which stops at the last value of a `u64`
-abbrev pub next_count : ℕ → ℕ
-next_count n = min (n + 1) (2 ^ 64 - 1)
+use Rattle.xg_io.specs.Cause.{next_count}
 
 -- the numbers of the calls that fail
 abbrev pub failing_calls : Schedule → List ℕ

@@ -4,9 +4,9 @@ ghost use Rattle.std.specs.Cmp.Lexicographic.{pointwise};
 ghost use Rattle.std.specs.Option.{ForSome};
 ghost use Rattle.std.specs.Io.KnownBytes.{Consumes};
 ghost use Rattle.def_outside.specs.Cause.{HasCause};
-ghost use Rattle.xg_io.specs.Cause.{OpenHasCause};
+ghost use Rattle.xg_io.specs.Cause.{next_count, CountsOne, OpenCountsOne, OpenHasCause};
 ghost use Rattle.xg_io.specs.Stored.{bytes_of, bytes_at};
-ghost use Rattle.xg_io.specs.Schedule.{next_count, failing_calls, calls_made, faults_so_far, FailsNext};
+ghost use Rattle.xg_io.specs.Schedule.{failing_calls, calls_made, FailsNext};
 
 use crate::schedule::Schedule;
 use crate::{Failed, Files, OpenFault};
@@ -30,15 +30,16 @@ pub struct MemFiles {
 }
 
 impl MemFiles {
-    ghost use Rattle.xg_io.specs.MemFiles.{told_of, current_of, left_of, taken_of, schedule_of};
+    ghost use Rattle.xg_io.specs.MemFiles.{told_of, current_of, left_of, taken_of, schedule_of, faults_of};
 
     /// Holds no files. The calls whose numbers are listed in `failing` fail.
     pub fn new(alloc: Global, failing: &[u64]) -> Result<MemFiles, AllocError>
         ensures empty { IfOk result (λ m. (name : List ℕ) → told_of m name ≡ None) }
         ensures closed { IfOk result (λ m. current_of m ≡ None) }
+        ensures nothing_taken { IfOk result (λ m. taken_of m ≡ 0) }
         ensures failing { IfOk result (λ m. failing_calls (schedule_of m) ≡ failing.now) }
         ensures no_calls { IfOk result (λ m. calls_made (schedule_of m) ≡ 0) }
-        ensures no_faults { IfOk result (λ m. faults_so_far (schedule_of m) ≡ 0) }
+        ensures no_faults { IfOk result (λ m. faults_of m ≡ 0) }
     {
         Ok(MemFiles {
             files: Vec::new(alloc),
@@ -51,7 +52,8 @@ impl MemFiles {
     /// Adds a file, in place of one with that name. No file is open afterwards.
     pub fn add(&mut self, name: &str, bytes: &[u8]) -> Result<(), AllocError>
         ensures told { OnOk result (told_of self.new name.now ≡ Some bytes.now) }
-        ensures others { OnOk result ((other : List ℕ) → other ≢ name.now → told_of self.new other ≡ told_of self.old other) }
+        ensures others { OnOk result
+            ((other : List ℕ) → other ≢ name.now → told_of self.new other ≡ told_of self.old other) }
         ensures closed { OnOk result (current_of self.new ≡ None) }
         ensures same_taken { taken_of self.new ≡ taken_of self.old }
         ensures same_schedule { schedule_of self.new ≡ schedule_of self.old }
@@ -70,7 +72,7 @@ impl MemFiles {
 }
 
 impl Files for MemFiles {
-    ghost use Rattle.xg_io.specs.MemFiles.{told_of, current_of, left_of, taken_of, schedule_of};
+    ghost use Rattle.xg_io.specs.MemFiles.{told_of, current_of, left_of, taken_of, schedule_of, faults_of};
 
     ghost told = { told_of };
 
@@ -82,15 +84,17 @@ impl Files for MemFiles {
 
     ghost taken = { taken_of };
 
-    ghost faults = { λ m. faults_so_far (schedule_of m) };
+    ghost faults = { faults_of };
 
     fn open(&mut self, _alloc: Global, name: &str) -> Result<(), OpenFault>
         ensures same_told { told_of self.new ≡ told_of self.old }
         ensures opened { is_some (current_of self.new) ≡ is_ok result }
         ensures nothing_taken { taken_of self.new ≡ 0 }
         ensures whole_left { OnOk result (left_of self.new ≡ told_of self.old name.now) }
-        ensures cause { OpenHasCause (faults_so_far (schedule_of self.old)) (faults_so_far (schedule_of self.new)) result }
-        ensures fails { IsErrOf result OpenFault.Failed ↔ (FailsNext (schedule_of self.old) ⊎ (told_of self.old name.now ≡ None)) }
+        ensures cause { OpenHasCause (faults_of self.old) (faults_of self.new) result }
+        ensures one_fault { OpenCountsOne (faults_of self.old) (faults_of self.new) result }
+        ensures fails { IsErrOf result OpenFault.Failed
+            ↔ (FailsNext (schedule_of self.old) ⊎ (told_of self.old name.now ≡ None)) }
         ensures has_memory { IsErrOf result OpenFault.NoMemory → ⊥ }
         ensures counted { calls_made (schedule_of self.new) ≡ next_count (calls_made (schedule_of self.old)) }
         ensures same_failing { failing_calls (schedule_of self.new) ≡ failing_calls (schedule_of self.old) }
@@ -115,13 +119,15 @@ impl Files for MemFiles {
         ensures same_told { told_of self.new ≡ told_of self.old }
         ensures same_open { current_of self.new ≡ current_of self.old }
         ensures count { IfOk result (λ n. n ≤ length into.old) }
-        ensures all_that_fits { IfOk result (λ n. IfSome (left_of self.old) (λ rest. n ≡ min (length into.old) (length rest))) }
+        ensures all_that_fits { IfOk result
+            (λ n. IfSome (left_of self.old) (λ rest. n ≡ min (length into.old) (length rest))) }
         ensures bytes { IfOk result (λ n. Consumes (left_of self.old) (left_of self.new) (take n into.new)) }
         ensures end { IfOk result (λ n. IfSome (left_of self.old) (λ rest. (n ≡ 0) ↔ (rest ≡ []))) }
         ensures taken { IfOk result (λ n. taken_of self.new ≡ taken_of self.old + n) }
         ensures same_left { OnErr result (left_of self.new ≡ left_of self.old) }
         ensures same_taken { OnErr result (taken_of self.new ≡ taken_of self.old) }
-        ensures cause { HasCause (faults_so_far (schedule_of self.old)) (faults_so_far (schedule_of self.new)) result }
+        ensures cause { HasCause (faults_of self.old) (faults_of self.new) result }
+        ensures one_fault { CountsOne (faults_of self.old) (faults_of self.new) result }
         ensures fails { IsErr result ↔ FailsNext (schedule_of self.old) }
         ensures counted { calls_made (schedule_of self.new) ≡ next_count (calls_made (schedule_of self.old)) }
         ensures same_failing { failing_calls (schedule_of self.new) ≡ failing_calls (schedule_of self.old) }

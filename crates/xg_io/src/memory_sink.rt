@@ -2,7 +2,8 @@
 ghost use Rattle.std.specs.Prelude.{◌≡◌, ◌≢◌, ℕ, ◌+◌, ◌-◌, ◌^◌, ◌<◌, ◌≤◌, ◌↔◌, ◌⊎◌, [], Some, length, min, take, vec_len, vec_capacity, IfOk, OnOk, OnErr, IsErr};
 ghost use Rattle.std.specs.Io.KnownBytes.{append_known};
 ghost use Rattle.def_outside.specs.Cause.{HasCause};
-ghost use Rattle.xg_io.specs.Schedule.{next_count, failing_calls, calls_made, faults_so_far, FailsNext};
+ghost use Rattle.xg_io.specs.Cause.{next_count, CountsOne};
+ghost use Rattle.xg_io.specs.Schedule.{failing_calls, calls_made, FailsNext};
 
 use crate::schedule::Schedule;
 use crate::{Failed, Sink};
@@ -20,7 +21,7 @@ pub struct MemSink {
 }
 
 impl MemSink {
-    ghost use Rattle.xg_io.specs.MemSink.{bytes_of_sink, room_of, schedule_of_sink};
+    ghost use Rattle.xg_io.specs.MemSink.{bytes_of_sink, room_of, schedule_of_sink, faults_of_sink};
 
     /// Room for `capacity` bytes. The writes whose numbers are listed in `failing` fail.
     pub fn new(alloc: Global, capacity: usize, failing: &[u64]) -> Result<MemSink, AllocError>
@@ -28,7 +29,7 @@ impl MemSink {
         ensures room { IfOk result (λ m. room_of m ≡ capacity) }
         ensures failing { IfOk result (λ m. failing_calls (schedule_of_sink m) ≡ failing.now) }
         ensures no_calls { IfOk result (λ m. calls_made (schedule_of_sink m) ≡ 0) }
-        ensures no_faults { IfOk result (λ m. faults_so_far (schedule_of_sink m) ≡ 0) }
+        ensures no_faults { IfOk result (λ m. faults_of_sink m ≡ 0) }
     {
         Ok(MemSink {
             bytes: Vec::with_capacity(alloc, capacity)?,
@@ -46,20 +47,22 @@ impl MemSink {
 }
 
 impl Sink for MemSink {
-    ghost use Rattle.xg_io.specs.MemSink.{bytes_of_sink, room_of, schedule_of_sink};
+    ghost use Rattle.xg_io.specs.MemSink.{bytes_of_sink, room_of, schedule_of_sink, faults_of_sink};
 
     ghost written = { λ m. Some (bytes_of_sink m) };
 
-    ghost faults = { λ m. faults_so_far (schedule_of_sink m) };
+    ghost faults = { faults_of_sink };
 
     fn write(&mut self, piece: &[u8]) -> Result<usize, Failed>
         requires { 0 < length piece.now }
         ensures taken { IfOk result (λ n. n ≡ min (length piece.now) (room_of self.old)) }
         ensures some_taken { IfOk result (λ n. 0 < n) }
         ensures count { IfOk result (λ n. n ≤ length piece.now) }
-        ensures appended { IfOk result (λ n. Some (bytes_of_sink self.new) ≡ append_known (Some (bytes_of_sink self.old)) (take n piece.now)) }
+        ensures appended { IfOk result
+            (λ n. Some (bytes_of_sink self.new) ≡ append_known (Some (bytes_of_sink self.old)) (take n piece.now)) }
         ensures same_written { OnErr result (Some (bytes_of_sink self.new) ≡ Some (bytes_of_sink self.old)) }
-        ensures cause { HasCause (faults_so_far (schedule_of_sink self.old)) (faults_so_far (schedule_of_sink self.new)) result }
+        ensures cause { HasCause (faults_of_sink self.old) (faults_of_sink self.new) result }
+        ensures one_fault { CountsOne (faults_of_sink self.old) (faults_of_sink self.new) result }
         ensures fails { IsErr result ↔ (FailsNext (schedule_of_sink self.old) ⊎ (room_of self.old ≡ 0)) }
         ensures counted { calls_made (schedule_of_sink self.new) ≡ next_count (calls_made (schedule_of_sink self.old)) }
         ensures same_failing { failing_calls (schedule_of_sink self.new) ≡ failing_calls (schedule_of_sink self.old) }

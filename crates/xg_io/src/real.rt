@@ -1,10 +1,16 @@
 //! The real outside: std's files and streams. They tell nothing of what files hold and terminals take.
-ghost use Rattle.std.specs.Prelude.{ℕ, List, Option, None, true, is_some};
+ghost use Rattle.std.specs.Prelude.{◌≡◌, ℕ, ◌+◌, ◌^◌, ◌<◌, ◌≤◌, List, length, Option, None, true, false, is_some, is_ok, IsTrue, IfOk, IfSome, OnErr};
+ghost use Rattle.std.specs.Io.KnownBytes.{ReadConsumes, WriteAppends};
+ghost use Rattle.def_outside.specs.Cause.{HasCause};
+ghost use Rattle.xg_io.specs.Cause.{CountsOne, OpenCountsOne, OpenHasCause};
 
 use crate::{Failed, Files, OpenFault, Sink};
 use std::alloc::Global;
 use std::io::{ErrorKind, Read, Write};
 use std::{fs, rt};
+
+#[cfg(test)]
+mod tests;
 
 /// The files of the system, by the paths that the names are.
 #[derive(Drop)]
@@ -17,7 +23,11 @@ pub struct RealFiles<R: rt::Files + Drop> {
 
 impl<R: rt::Files + Drop> RealFiles<R> {
     /// No file is open.
-    pub fn new(system: R) -> RealFiles<R> {
+    pub fn new(system: R) -> RealFiles<R>
+        ensures closed { ⟦<RealFiles<R> as Files>⟧.is_open result ≡ false }
+        ensures nothing_taken { ⟦<RealFiles<R> as Files>⟧.taken result ≡ 0 }
+        ensures no_faults { ⟦<RealFiles<R> as Files>⟧.faults result ≡ 0 }
+    {
         RealFiles {
             system,
             file: None,
@@ -40,7 +50,12 @@ impl<R: rt::Files + Drop> Files for RealFiles<R> {
 
     ghost faults = { λ r. r.faults };
 
-    fn open(&mut self, _alloc: Global, name: &str) -> Result<(), OpenFault> {
+    fn open(&mut self, _alloc: Global, name: &str) -> Result<(), OpenFault>
+        ensures opened { is_some self.new.file ≡ is_ok result }
+        ensures nothing_taken { self.new.taken ≡ 0 }
+        ensures cause { OpenHasCause self.old.faults self.new.faults result }
+        ensures one_fault { OpenCountsOne self.old.faults self.new.faults result }
+    {
         self.file = None;
         self.taken = 0;
         match fs::open(&self.system, name) {
@@ -58,7 +73,19 @@ impl<R: rt::Files + Drop> Files for RealFiles<R> {
         }
     }
 
-    fn read(&mut self, into: &mut [u8]) -> Result<usize, Failed> {
+    fn read(&mut self, into: &mut [u8]) -> Result<usize, Failed>
+        requires file { IsTrue (is_some self.old.file) }
+        requires room { 0 < length into.old }
+        requires countable { self.old.taken < 2 ^ 62 }
+        ensures same_open { is_some self.new.file ≡ is_some self.old.file }
+        ensures count { IfOk result (λ n. n ≤ length into.old) }
+        ensures passed { IfSome self.old.file (λ before. IfSome self.new.file (λ now.
+            ReadConsumes (R.File.remaining before) (R.File.remaining now) result into.new)) }
+        ensures counted { IfOk result (λ n. self.new.taken ≡ self.old.taken + n) }
+        ensures same_taken { OnErr result (self.new.taken ≡ self.old.taken) }
+        ensures cause { HasCause self.old.faults self.new.faults result }
+        ensures one_fault { CountsOne self.old.faults self.new.faults result }
+    {
         let Some(file) = &mut self.file else {
             unreachable!()
         };
@@ -84,7 +111,9 @@ pub struct RealSink<W: Write + Drop> {
 
 impl<W: Write + Drop> RealSink<W> {
     /// Nothing is written yet.
-    pub fn new(stream: W) -> RealSink<W> {
+    pub fn new(stream: W) -> RealSink<W>
+        ensures no_faults { ⟦<RealSink<W> as Sink>⟧.faults result ≡ 0 }
+    {
         RealSink { stream, faults: 0 }
     }
 }
@@ -94,7 +123,14 @@ impl<W: Write + Drop> Sink for RealSink<W> {
 
     ghost faults = { λ s. s.faults };
 
-    fn write(&mut self, piece: &[u8]) -> Result<usize, Failed> {
+    fn write(&mut self, piece: &[u8]) -> Result<usize, Failed>
+        requires { 0 < length piece.now }
+        ensures some_taken { IfOk result (λ n. 0 < n) }
+        ensures count { IfOk result (λ n. n ≤ length piece.now) }
+        ensures passed { WriteAppends (W.contents self.old.stream) (W.contents self.new.stream) result piece.now }
+        ensures cause { HasCause self.old.faults self.new.faults result }
+        ensures one_fault { CountsOne self.old.faults self.new.faults result }
+    {
         match self.stream.write(piece) {
             Ok(n) if n > 0 => Ok(n),
             _ => {

@@ -1,6 +1,7 @@
 //! Which calls of an object in memory fail.
 ghost use Rattle.std.specs.Prelude.{◌≡◌, ◌↔◌, IfOk, IsErr};
 ghost use Rattle.def_outside.specs.Cause.{HasCause, Rose};
+ghost use Rattle.xg_io.specs.Cause.{next_count, CountsOne};
 
 use crate::Failed;
 use std::alloc::{AllocError, Global};
@@ -14,7 +15,7 @@ pub struct Schedule {
 }
 
 impl Schedule {
-    ghost use Rattle.xg_io.specs.Schedule.{next_count, failing_calls, calls_made, faults_so_far, FailsNext};
+    ghost use Rattle.xg_io.specs.Schedule.{failing_calls, calls_made, faults_so_far, FailsNext};
 
     /// Calls are numbered from 1, and those listed in `failing` fail.
     pub fn new(alloc: Global, failing: &[u64]) -> Result<Schedule, AllocError>
@@ -35,6 +36,7 @@ impl Schedule {
         ensures counted { calls_made self.new ≡ next_count (calls_made self.old) }
         ensures same_failing { failing_calls self.new ≡ failing_calls self.old }
         ensures cause { HasCause (faults_so_far self.old) (faults_so_far self.new) result }
+        ensures one_fault { CountsOne (faults_so_far self.old) (faults_so_far self.new) result }
     {
         self.calls = self.calls.saturating_add(1);
         if self.failing.contains(&self.calls) {
@@ -48,6 +50,7 @@ impl Schedule {
         ensures same_calls { calls_made self.new ≡ calls_made self.old }
         ensures same_failing { failing_calls self.new ≡ failing_calls self.old }
         ensures cause { Rose (faults_so_far self.old) (faults_so_far self.new) }
+        ensures one_fault { faults_so_far self.new ≡ next_count (faults_so_far self.old) }
     {
         self.faults = self.faults.saturating_add(1);
         Failed

@@ -1,8 +1,13 @@
 //! The program: `xg_solve` reads a game file and prints the text of its solution.
 #![tactic(auto)]
 
+ghost use Rattle.std.specs.Prelude.{◌≡◌, ◌≢◌};
+ghost use Rattle.std.specs.IoError.{error_kind};
+
 mod ending;
 mod load;
+#[cfg(test)]
+mod main_tests;
 mod run;
 #[cfg(test)]
 mod tests;
@@ -47,7 +52,10 @@ fn given_words<R: Env + AllocGlobal>(rt: &R) -> io::Result<Words> {
 }
 
 /// The status where the words can't be had: memory ran out, or one isn't UTF-8.
-fn status_without_words(error: &io::Error) -> u8 {
+fn status_without_words(error: &io::Error) -> u8
+    ensures no_memory { error_kind error.now ≡ ErrorKind.OutOfMemory → result ≡ 5 }
+    ensures not_text { error_kind error.now ≢ ErrorKind.OutOfMemory → result ≡ 2 }
+{
     if error.kind() == ErrorKind::OutOfMemory {
         return 5;
     }

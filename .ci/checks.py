@@ -1,0 +1,67 @@
+"""What the checks through the built program share: its calls, the texts it says, and the count of what passed."""
+import pathlib
+import subprocess
+import sys
+
+sys.dont_write_bytecode = True
+
+ROOT = pathlib.Path(__file__).resolve().parent.parent
+LAUNCHER = ROOT / "bin" / "xg_solve"
+PROGRAM = ROOT / "crates" / "xg_solve" / "out" / "xg_solve"
+
+USAGE = (
+    b"usage: xg_solve solve FILE [--rounds N] [--every N] [--scale N] [--workers N]"
+    b" | check FILE CERT | info FILE | gen N | drill N\n"
+)
+READ_FAULT = b"read fault\n"
+WRITE_FAULT = b"write fault\n"
+NO_MEMORY = b"want of memory\n"
+
+ONE_LEAF = b'EFG 2 R "" { "A" "B" }\nt "" 1 { 0, 0 }\n'
+
+
+def text(nodes, leaves):
+    """What is printed for a game with so many nodes and leaves."""
+    return f"XGCERT 1\nnodes {nodes} leaves {leaves}\nrounds 0 every 1 scale 1048576\nend\n".encode()
+
+
+def call(words, name="xg_solve", program=PROGRAM, **options):
+    """The status, the standard output and the standard error of a call with these words and this name of its own."""
+    options = {"stdout": subprocess.PIPE, "stderr": subprocess.PIPE, "stdin": subprocess.DEVNULL, **options}
+    ended = subprocess.run([name, *words], executable=program, timeout=120, **options)
+    return ended.returncode, ended.stdout, ended.stderr
+
+
+def solve(file):
+    return ["solve", file, "--rounds", "0"]
+
+
+class Checks:
+    """Counts what passed, and says what did not."""
+
+    def __init__(self, name):
+        self.name, self.passed, self.failed = name, 0, 0
+
+    def expect(self, what, told, *wanted):
+        self.that(what, told == wanted, f"got {shown(told)}, want {shown(wanted)}")
+
+    def that(self, what, holds, why):
+        self.passed, self.failed = self.passed + bool(holds), self.failed + (not holds)
+        if not holds:
+            print(f"{self.name}: {what}: {why}")
+
+    def end(self):
+        print(f"{self.name}: {self.passed} passed, {self.failed} failed", flush=True)
+        return 1 if self.failed else 0
+
+
+def checks_of_program(name):
+    """Checks of the program, which the launcher proves and builds first where that is needed."""
+    checks = Checks(name)
+    status, out, said = call([], program=LAUNCHER)
+    checks.expect("the launcher", (status, out, said[-len(USAGE) :]), 2, b"", USAGE)
+    return checks
+
+
+def shown(values):
+    return ", ".join(repr(it if it is None or isinstance(it, int) else it[:200]) for it in values)
