@@ -2,7 +2,8 @@
 --     ◌>>=◌                     one reading after another, up to the first fault
 --     token_where test whole at the token from the offset `at` on, if it passes the test
 --     next_is byte whole at     whether this byte comes next, white space aside
---     prologue_at, entry_at     the prologue, and an entry
+--     head_at, prologue_at      the prologue up to the players' names, and the whole of it
+--     entry_at                  an entry
 --     entries_from              entries one after another, each judged by those before it, until the tree is whole
 --     game_at whole             the whole file
 -- What is read is a value and the offset behind it.
@@ -258,17 +259,29 @@ checked_names names at = if nat_eq (length names) 2 then Ok at else Err (Players
 abbrev pub nth_name : List (List ℕ) → ℕ → List ℕ
 nth_name names i = slice_index_or names i []
 
-unfoldable pub prologue_at : List ℕ → ℕ → Result (Prologue × ℕ) FileFault
-prologue_at whole at = do
+-- what the head says: the title, and the players' names
+abbrev pub Head : Type 0
+Head = List ℕ × List (List ℕ)
+
+unfoldable pub head_at : List ℕ → ℕ → Result (Head × ℕ) FileFault
+head_at whole at = do
   marker ← token_where (is_exact kinds.Word (codes "EFG") whole) whole at
   version ← token_where (is_exact kinds.Number (codes "2") whole) whole marker.end
   numbers ← token_where (is_numbers whole) whole version.end
   title ← text_at whole numbers.end
   opening ← token_where (is_token kinds.Open whole) whole title.1
   names ← names_from (length whole) [] whole opening.end
-  behind ← checked_names names.0 names.1
+  Ok ((title.0, names.0), names.1)
+
+-- two players, and the comment
+unfoldable pub behind_head : List ℕ → Head × ℕ → Result (Prologue × ℕ) FileFault
+behind_head whole head = do
+  behind ← checked_names head.0.1 head.1
   comment ← name_at whole behind
-  Ok (record { title = title.0; one = nth_name names.0 0; two = nth_name names.0 1; comment = unwrap_or comment.0 [] }, comment.1)
+  Ok (record { title = head.0.0; one = nth_name head.0.1 0; two = nth_name head.0.1 1; comment = unwrap_or comment.0 [] }, comment.1)
+
+unfoldable pub prologue_at : List ℕ → ℕ → Result (Prologue × ℕ) FileFault
+prologue_at whole at = head_at whole at >>= behind_head whole
 
 -- The whole file.
 

@@ -2,12 +2,12 @@
 use Rattle.std.proofs.Common.{◌≡◌, ℕ, ◌≤◌, List, [], length, Option, Result, Ok, Err, refl, ap, ◌∙◌, subst, arith}
 use Rattle.def_file.specs.declared.FileFault.{FileFault}
 use Rattle.def_file.specs.Content.{Record}
-use Rattle.def_file.specs.Reading.{name_at, entry_at}
+use Rattle.def_file.specs.Reading.{name_at, entry_at, Head, head_at}
 use Rattle.def_file_form.specs.Form.{Spelled, IsName, IsEntry}
+use Rattle.def_file_form.proofs.SoundEntries.{IsHeadOf}
 use Rattle.def_file_fault.specs.Offends.{AreNext, Offends, EndsWhole}
 use Rattle.def_file_fault.specs.First.{IsHeadTokens, IsCommentTokens, IsEntryTokens, IsHeadUpTo, IsCommentFrom, IsEntryFrom}
 use Rattle.def_file_fault.proofs.Languages.{Stuck, offends}
-use Rattle.def_file_fault.proofs.Heads.{Head, IsHeadOf, head_at}
 use Rattle.def_file_fault.proofs.Upto.{WholeRead, entry_stuck, entry_whole, comment_stuck, comment_whole, head_stuck, head_whole}
 use Rattle.def_file_fault.proofs.Compare.{one_offence, IsEnded, one_end, stuck_no_end, offence_no_end}
 use Rattle.def_file_fault.proofs.Once.{AreTokens, next_tokens, entry_once, name_once, head_once, head_ends}

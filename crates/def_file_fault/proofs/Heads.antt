@@ -7,8 +7,9 @@ use Rattle.def_file_tokens.specs.declared.Token.TheVariants as kinds
 use Rattle.def_file_tokens.specs.declared.Lexeme.{Lexeme}
 use Rattle.def_file.specs.declared.FileFault.{FileFault}
 use Rattle.def_file.specs.Content.{Prologue}
-use Rattle.def_file.specs.Reading.{◌>>=◌, is_kind, is_token, is_exact, is_numbers, token_where, next_is, close_byte, text_at, name_at, close_at, names_from, checked_names, nth_name, prologue_at}
+use Rattle.def_file.specs.Reading.{◌>>=◌, is_kind, is_token, is_exact, is_numbers, token_where, next_is, close_byte, text_at, name_at, close_at, names_from, Head, head_at, behind_head, prologue_at}
 use Rattle.def_file_form.specs.Form.{Spelled, word, number, open_brace, close_brace, IsText, AreNames, IsHead}
+use Rattle.def_file_form.proofs.SoundEntries.{IsHeadOf}
 use Rattle.def_file_form.proofs.Steps.{either, exact_here, open_step, ok_token}
 use Rattle.def_file_fault.specs.Offends.{spelled_at}
 use Rattle.def_file_fault.proofs.Languages.{Alike, AlikeBut, FirstIsOther, After, Step}
@@ -57,48 +58,10 @@ names_goes (suc left) done whole at within left_is =
         (goes_then 1 HasWord HasWord (Part IsText) (Part AreNames) whole at (text_at whole at) _ (text_goes whole at within) names_word
         (λ text e inner grown. goes_less 1 0 HasWord (Part AreNames) whole text.1 _ (omega arith) (again text inner grown)))
 
--- The head, as a reading of its own.
-
-abbrev pub Head : Type 0
-Head = List ℕ × List (List ℕ)
-
-abbrev pub IsHeadOf : Head → List Spelled → List Spelled → Type 0
-IsHeadOf head tokens rest = IsHead head.0 head.1 tokens rest
-
-unfoldable pub head_at : List ℕ → ℕ → Result (Head × ℕ) FileFault
-head_at whole at = do
-  marker ← token_where (is_exact kinds.Word (codes "EFG") whole) whole at
-  version ← token_where (is_exact kinds.Number (codes "2") whole) whole marker.end
-  numbers ← token_where (is_numbers whole) whole version.end
-  title ← text_at whole numbers.end
-  opening ← token_where (is_token kinds.Open whole) whole title.1
-  names ← names_from (length whole) [] whole opening.end
-  Ok ((title.0, names.0), names.1)
-
--- what the prologue says behind its head
-unfoldable pub behind_head : List ℕ → Head × ℕ → Result (Prologue × ℕ) FileFault
-behind_head whole head = do
-  behind ← checked_names head.0.1 head.1
-  comment ← name_at whole behind
-  Ok (record { title = head.0.0; one = nth_name head.0.1 0; two = nth_name head.0.1 1; comment = unwrap_or comment.0 [] }, comment.1)
-
-bind_bind : {A B C : Type 0} (r : Result A FileFault) (f : A → Result B FileFault) (g : B → Result C FileFault) → ((r >>= f) >>= g) ≡ (r >>= λ x. (f x >>= g))
-bind_bind (Ok x) f g = refl
-bind_bind (Err fault) f g = refl
-
-bind_same : {A B : Type 0} (r : Result A FileFault) (f g : A → Result B FileFault) → ((x : A) → f x ≡ g x) → (r >>= f) ≡ (r >>= g)
-bind_same (Ok x) f g same = same x
-bind_same (Err fault) f g same = refl
-
+-- the prologue is its head, and what stands behind it
 pub prologue_is : (whole : List ℕ) (at : ℕ) → prologue_at whole at ≡ (head_at whole at >>= behind_head whole)
-unfolding prologue_at head_at behind_head
-prologue_is whole at = sym (
-    bind_bind (token_where (is_exact kinds.Word (codes "EFG") whole) whole at) _ _ ∙ bind_same (token_where (is_exact kinds.Word (codes "EFG") whole) whole at) _ _ (λ marker.
-    bind_bind (token_where (is_exact kinds.Number (codes "2") whole) whole marker.end) _ _ ∙ bind_same (token_where (is_exact kinds.Number (codes "2") whole) whole marker.end) _ _ (λ version.
-    bind_bind (token_where (is_numbers whole) whole version.end) _ _ ∙ bind_same (token_where (is_numbers whole) whole version.end) _ _ (λ numbers.
-    bind_bind (text_at whole numbers.end) _ _ ∙ bind_same (text_at whole numbers.end) _ _ (λ title.
-    bind_bind (token_where (is_token kinds.Open whole) whole title.1) _ _ ∙ bind_same (token_where (is_token kinds.Open whole) whole title.1) _ _ (λ opening.
-    bind_bind (names_from (length whole) [] whole opening.end) _ _))))))
+unfolding prologue_at
+prologue_is whole at = refl
 
 -- The head's languages.
 

@@ -10,7 +10,7 @@ use Rattle.def_file.specs.Content.{Prologue, Record, Contents, no_contents}
 use Rattle.def_tree.specs.Rules.{most_nodes}
 use Rattle.def_file.specs.Faults.{record_fault}
 use Rattle.def_file.specs.Adding.{with_record, node_with}
-use Rattle.def_file.specs.Reading.{◌>>=◌, name_at, checked_names, prologue_at, entry_at, unless_fault, judged, entries_from, nothing_at, game_at}
+use Rattle.def_file.specs.Reading.{◌>>=◌, name_at, checked_names, prologue_at, entry_at, unless_fault, judged, entries_from, nothing_at, game_at, behind_head}
 use Rattle.def_file_entries.specs.Entries.{contents_of}
 use Rattle.def_file_entries.specs.Laws.{HaveNoFault}
 use Rattle.def_file_entries.proofs.OneMore.{one_more}
@@ -19,7 +19,7 @@ use Rattle.def_file_entries.proofs.NoFault.{no_fault_here, entries_limit}
 use Rattle.def_file_form.proofs.Entries.{ok_judged}
 use Rattle.def_file_fault.specs.Offends.{Offends}
 use Rattle.def_file_fault.specs.First.{IsHeadUpTo, AreEntriesFrom, IsPrologueUpTo, IsReadUpTo, IsPlayersFault, IsCommentFault, IsEntryFault, IsRuleFault, IsTrailingFault, FirstFault, in_head, in_players, in_comment, in_entry, in_rules, behind_tree, IsHeadTokens}
-use Rattle.def_file_fault.proofs.Heads.{behind_head, prologue_is}
+use Rattle.def_file_fault.proofs.Heads.{prologue_is}
 use Rattle.def_file_fault.proofs.Upto.{next_order}
 use Rattle.def_file_fault.proofs.Stopped.{Checked, two, others, checked}
 use Rattle.def_file_fault.proofs.Decided.{entry_decided, entry_offended, comment_decided, comment_offended, head_decided, head_offended}

@@ -17,7 +17,7 @@ use Rattle.def_file.specs.Content.{Prologue, Record, Contents, no_contents}
 use Rattle.def_tree.specs.Rules.{most_nodes}
 use Rattle.def_file.specs.Faults.{record_fault}
 use Rattle.def_file.specs.Adding.{with_record, node_with}
-use Rattle.def_file.specs.Reading.{◌>>=◌, is_kind, name_at, checked_names, nth_name, prologue_at, entry_at, unless_fault, judged, entries_from, trailing, nothing_at, game_at}
+use Rattle.def_file.specs.Reading.{◌>>=◌, is_kind, name_at, checked_names, nth_name, prologue_at, entry_at, unless_fault, judged, entries_from, trailing, nothing_at, game_at, Head, head_at, behind_head}
 use Rattle.def_file_entries.specs.Entries.{contents_of}
 use Rattle.def_file_entries.proofs.OneMore.{one_more}
 use Rattle.def_file_form.specs.Form.{IsEntry}
@@ -25,10 +25,11 @@ use Rattle.def_file_form.proofs.Steps.{then_ok}
 use Rattle.def_file_entries.proofs.EntryFaults.{entry_fault_is_first_broken}
 use Rattle.def_file_entries.proofs.NoFault.{nothing_at_fault, no_fault_more, entries_limit}
 use Rattle.def_file_form.proofs.Entries.{judged_ok}
+use Rattle.def_file_form.proofs.SoundEntries.{IsHeadOf}
 use Rattle.def_file_fault.specs.First.{IsHeadTokens, IsEntryTokens, IsHeadUpTo, IsEntryFrom, AreEntriesFrom, IsPrologueUpTo, IsReadUpTo, FirstFault, in_head, in_players, in_comment, in_entry, in_rules, behind_tree}
 use Rattle.def_file_fault.proofs.Languages.{offends}
 use Rattle.def_file_fault.proofs.Nexts.{token_first_byte}
-use Rattle.def_file_fault.proofs.Heads.{Head, IsHeadOf, head_at, behind_head, prologue_is}
+use Rattle.def_file_fault.proofs.Heads.{prologue_is}
 use Rattle.def_file_fault.proofs.Upto.{WholeRead, entry_stuck, entry_whole, entry_from, comment_stuck, comment_whole, comment_from, head_stuck, head_whole, head_up_to}
 
 -- one reading after another that gives a fault

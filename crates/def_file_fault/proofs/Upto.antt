@@ -5,11 +5,11 @@ use Rattle.def_file_tokens.specs.declared.Token.TheVariants as kinds
 use Rattle.def_file_tokens.specs.declared.Lexeme.{Lexeme}
 use Rattle.def_file.specs.declared.FileFault.{FileFault}
 use Rattle.def_file.specs.Content.{Record}
-use Rattle.def_file.specs.Reading.{is_token, is_exact, is_numbers, token_where, text_at, name_at, names_from, entry_at}
+use Rattle.def_file.specs.Reading.{name_at, Head, head_at, entry_at}
 use Rattle.def_file_form.specs.Form.{Spelled, word, number, open_brace, IsText, IsName, AreNames, IsHead, IsEntry}
 use Rattle.def_file_form.proofs.Steps.{then_ok, either, token_ok, Step, Takes, Read, Then, IsOne, read_as, read_one, read_then, exact_here, exact_step, open_step}
 use Rattle.def_file_form.proofs.Sound.{text_read, name_read}
-use Rattle.def_file_form.proofs.SoundEntries.{entry_read, names_read}
+use Rattle.def_file_form.proofs.SoundEntries.{IsHeadOf, entry_read, head_read}
 use Rattle.def_file_fault.specs.Offends.{spelled_at, AreNext, IsFront, EndsWhole}
 use Rattle.def_file_fault.specs.First.{IsHeadTokens, IsCommentTokens, IsEntryTokens, IsHeadUpTo, IsCommentFrom, IsEntryFrom}
 use Rattle.def_file_fault.proofs.Languages.{Alike, Stuck, stuck_walk, EndsAt, ends_walk}
@@ -17,7 +17,7 @@ use Rattle.def_file_fault.proofs.Nexts.{step_grows}
 use Rattle.def_file_fault.proofs.Along.{HasWord, Goes}
 use Rattle.def_file_fault.proofs.Slots.{Part, NoFirst, name_goes}
 use Rattle.def_file_fault.proofs.EntryParts.{Follows, entry_goes}
-use Rattle.def_file_fault.proofs.Heads.{Head, IsHeadOf, head_at, head_goes}
+use Rattle.def_file_fault.proofs.Heads.{head_goes}
 
 -- Tokens from one offset up to another.
 
@@ -134,58 +134,6 @@ head_alike = record { to = λ ss h. ((h.0, h.1), [], h.2, refl); back = λ ss l.
 
 pub head_stuck : (whole : List ℕ) (fault : FileFault) → head_at whole 0 ≡ Err fault → Stuck IsHeadTokens whole 0 fault
 head_stuck whole fault e = whole_stuck IsHeadTokens IsHeadOf head_alike 1 HasWord ([], refl) whole 0 (omega arith) (head_at whole 0) (head_goes whole 0 (omega arith)) fault e
-
-rational_step : (whole : List ℕ) (at : ℕ) → at ≤ length whole → (l : Lexeme) → token_where (is_numbers whole) whole at ≡ Ok l → (s : Spelled) × ((s ≡ word (codes "R")) ⊎ (s ≡ word (codes "D"))) × Step whole at l s
-rational_step whole at within l e =
-    let found = token_ok (is_numbers whole) whole at l e in
-    ⊎_elim (λ is. (word (codes "R"), inl refl, exact_here whole at within l kinds.Word (codes "R") (λ clash. cc) found.0 is))
-    (λ is. (word (codes "D"), inr refl, exact_here whole at within l kinds.Word (codes "D") (λ clash. cc) found.0 is.1))
-    (either (is_exact kinds.Word (codes "R") whole l) (is_exact kinds.Word (codes "D") whole l) found.1)
-
-head_read : (whole : List ℕ) (at : ℕ) → at ≤ length whole → (x : Head × ℕ) → head_at whole at ≡ Ok x → Read whole at x.1 (IsHeadOf x.0)
-unfolding head_at
-head_read whole at within x e =
-    then_ok (token_where (is_exact kinds.Word (codes "EFG") whole) whole at) _ _ e (λ marker e0 e.
-    then_ok (token_where (is_exact kinds.Number (codes "2") whole) whole marker.end) _ _ e (λ version e1 e.
-    then_ok (token_where (is_numbers whole) whole version.end) _ _ e (λ numbers e2 e.
-    then_ok (text_at whole numbers.end) _ _ e (λ title e3 e.
-    then_ok (token_where (is_token kinds.Open whole) whole title.1) _ _ e (λ opening e4 e.
-    then_ok (names_from (length whole) [] whole opening.end) _ _ e (λ names e5 e.
-    let s0 = exact_step whole at within marker kinds.Word (codes "EFG") (λ clash. cc) e0 in
-    let s1 = exact_step whole marker.end s0.within version kinds.Number (codes "2") (λ clash. cc) e1 in
-    let s2 = rational_step whole version.end s1.within numbers e2 in
-    let s3 = text_read whole numbers.end s2.2.within title e3 in
-    let s4 = open_step whole title.1 s3.within opening e4 in
-    let s5 = names_read (length whole) [] whole opening.end s4.within names e5 in
-    let same : ((title.0, names.0), names.1) ≡ x = cc in
-    let texts : Read whole opening.end names.1 (AreNames names.0) = subst (λ ns. Read whole opening.end names.1 (AreNames ns)) (sym s5.all) s5.taken in
-    let Names = AreNames names.0 in
-    let Titled = Then (IsOne open_brace) Names in
-    let Headed = Then (IsText title.0) Titled in
-    let Numbered = Then (IsOne s2.0) Headed in
-    let Version = Then (IsOne (number (codes "2"))) Numbered in
-    let r5 = read_then whole title.1 opening.end names.1 (IsOne open_brace) Names (read_one whole title.1 opening open_brace s4) texts in
-    let r4 = read_then whole numbers.end title.1 names.1 (IsText title.0) Titled s3 r5 in
-    let r3 = read_then whole version.end numbers.end names.1 (IsOne s2.0) Headed (read_one whole version.end numbers s2.0 s2.2) r4 in
-    let r2 = read_then whole marker.end version.end names.1 (IsOne (number (codes "2"))) Numbered (read_one whole marker.end version (number (codes "2")) s1) r3 in
-    let r1 = read_then whole at marker.end names.1 (IsOne (word (codes "EFG"))) Version (read_one whole at marker (word (codes "EFG")) s0) r2 in
-    subst (λ (y : Head × ℕ). Read whole at y.1 (IsHeadOf y.0)) same
-    (read_as whole at names.1 (Then (IsOne (word (codes "EFG"))) Version) (IsHeadOf (title.0, names.0)) (λ tokens rest one.
-    let v = one.2 in
-    let n = v.2 in
-    let h = n.2 in
-    let t = h.2 in
-    record {
-      headed = n.0;
-      titled = h.0;
-      opened = t.0;
-      numbers = s2.0;
-      rational = s2.1;
-      head = one.1 ∙ ap (λ ss. word (codes "EFG") ∷ ss) (v.1 ∙ ap (λ ss. number (codes "2") ∷ ss) n.1);
-      title_text = h.1;
-      brace = t.1;
-      name_texts = t.2;
-    }) r1)))))))
 
 pub head_whole : (whole : List ℕ) (x : Head × ℕ) → head_at whole 0 ≡ Ok x → WholeRead IsHeadTokens IsHeadOf whole 0 x.0 x.1
 head_whole whole x e = whole_read IsHeadTokens IsHeadOf head_alike 1 HasWord ([], refl) whole 0 (omega arith) (head_at whole 0) (head_goes whole 0 (omega arith)) x e (head_read whole 0 (omega arith) x e)

@@ -7,7 +7,7 @@ use Rattle.def_file_tokens.specs.declared.Lexeme.{Lexeme}
 use Rattle.def_file.specs.declared.EntryKind.{EntryKind}
 use Rattle.def_file.specs.declared.EntryKind.TheVariants.{Chance, Personal, Leaf}
 use Rattle.def_file.specs.Content.{Prologue, OutcomeMention, Record, no_set_mention}
-use Rattle.def_file.specs.Reading.{is_kind, is_exact, is_numbers, begins_entry, token_where, next_is, mark, open_byte, close_byte, chance_entry_at, personal_entry_at, terminal_entry_at, entry_at, names_from, prologue_at}
+use Rattle.def_file.specs.Reading.{is_kind, is_exact, is_numbers, begins_entry, token_where, next_is, mark, open_byte, close_byte, chance_entry_at, personal_entry_at, terminal_entry_at, entry_at, names_from, head_at, behind_head, prologue_at}
 use Rattle.def_file_form.specs.Form.{Spelled, word, number, open_brace, IsOutcome, IsEntryAs, IsEntry, AreEntries, AreNames, IsPrologue}
 use Rattle.def_file_form.proofs.Steps.{Step}
 use Rattle.def_file_form.proofs.Ahead.{Ahead, Taken, not_first, not_end, by_spelling, take_exact, take_kind, behind_step, ahead_length}
@@ -96,7 +96,7 @@ names_taken (suc left) done (a ∷ more) whole at tokens rest are fuel ahead =
     record { mid = later.mid; ok = rw (open_yet, here.ok) (later.ok ∙ ap (λ ns. Ok (ns, later.mid)) (append_assoc done (a ∷ []) more)); ahead = later.ahead }
 
 pub prologue_taken : (whole : List ℕ) (at : ℕ) (p : Prologue) (tokens rest : List Spelled) → IsPrologue p tokens rest → IsClear rest → Ahead whole at tokens → Taken whole (prologue_at whole at) p rest
-unfolding prologue_at
+unfolding prologue_at head_at behind_head
 prologue_taken whole at p tokens rest is clear ahead =
     let h = is.head in
     let a0 : Ahead whole at (word (codes "EFG") ∷ number (codes "2") ∷ h.numbers ∷ h.headed) = subst (Ahead whole at) h.head ahead in

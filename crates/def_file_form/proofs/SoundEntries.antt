@@ -9,8 +9,8 @@ use Rattle.def_file.specs.declared.EntryKind.{EntryKind}
 use Rattle.def_file.specs.declared.EntryKind.TheVariants.{Chance, Personal, Leaf}
 use Rattle.def_file.specs.declared.FileFault.TheVariants.{Players}
 use Rattle.def_file.specs.Content.{Prologue, Record, no_set_mention}
-use Rattle.def_file.specs.Reading.{◌>>=◌, is_token, is_exact, is_numbers, begins_entry, token_where, next_is, close_byte, text_at, name_at, whole_at, close_at, set_mention_at, outcome_mention_at, chance_entry_at, personal_entry_at, terminal_entry_at, entry_at, names_from, checked_names, nth_name, prologue_at}
-use Rattle.def_file_form.specs.Form.{Spelled, word, number, open_brace, IsText, IsName, IsWholeNumber, IsSet, IsOutcome, IsEntryAs, IsEntry, AreNames, IsPrologue}
+use Rattle.def_file.specs.Reading.{◌>>=◌, is_token, is_exact, is_numbers, begins_entry, token_where, next_is, close_byte, text_at, name_at, whole_at, close_at, set_mention_at, outcome_mention_at, chance_entry_at, personal_entry_at, terminal_entry_at, entry_at, names_from, checked_names, nth_name, Head, head_at, behind_head, prologue_at}
+use Rattle.def_file_form.specs.Form.{Spelled, word, number, open_brace, IsText, IsName, IsWholeNumber, IsSet, IsOutcome, IsEntryAs, IsEntry, AreNames, IsHead, IsPrologue}
 use Rattle.def_file_form.proofs.Steps.{then_ok, either, token_ok, Step, Read, Then, IsOne, read_as, read_one, read_then, exact_here, exact_step, open_step}
 use Rattle.def_file_form.proofs.Sound.{text_read, name_read, whole_read, close_read, ItemsRead, set_mention_read, outcome_mention_read}
 
@@ -151,60 +151,73 @@ numbers_step whole at within l e =
     chosen (inl is) next = (word (codes "R"), inl refl, exact_here whole at within l kinds.Word (codes "R") (λ clash. cc) next is)
     chosen (inr is) next = (word (codes "D"), inr refl, exact_here whole at within l kinds.Word (codes "D") (λ clash. cc) next is.1)
 
-pub prologue_read : (whole : List ℕ) (at : ℕ) → at ≤ length whole → (read : Prologue × ℕ) → prologue_at whole at ≡ Ok read → Read whole at read.1 (IsPrologue read.0)
-unfolding prologue_at
-prologue_read whole at within read e =
+-- what the head of the prologue says
+abbrev pub IsHeadOf : Head → List Spelled → List Spelled → Type 0
+IsHeadOf head tokens rest = IsHead head.0 head.1 tokens rest
+
+-- a head that is read is in the form
+pub head_read : (whole : List ℕ) (at : ℕ) → at ≤ length whole → (x : Head × ℕ) → head_at whole at ≡ Ok x → Read whole at x.1 (IsHeadOf x.0)
+unfolding head_at
+head_read whole at within x e =
     then_ok (token_where (is_exact kinds.Word (codes "EFG") whole) whole at) _ _ e (λ marker e0 e.
     then_ok (token_where (is_exact kinds.Number (codes "2") whole) whole marker.end) _ _ e (λ version e1 e.
     then_ok (token_where (is_numbers whole) whole version.end) _ _ e (λ numbers e2 e.
     then_ok (text_at whole numbers.end) _ _ e (λ title e3 e.
     then_ok (token_where (is_token kinds.Open whole) whole title.1) _ _ e (λ opening e4 e.
     then_ok (names_from (length whole) [] whole opening.end) _ _ e (λ names e5 e.
-    then_ok (checked_names names.0 names.1) _ _ e (λ behind e6 e.
-    then_ok (name_at whole behind) _ _ e (λ comment e7 e.
     let s0 = exact_step whole at within marker kinds.Word (codes "EFG") (λ clash. cc) e0 in
     let s1 = exact_step whole marker.end s0.within version kinds.Number (codes "2") (λ clash. cc) e1 in
     let s2 = numbers_step whole version.end s1.within numbers e2 in
     let s3 = text_read whole numbers.end s2.2.within title e3 in
     let s4 = open_step whole title.1 s3.within opening e4 in
     let s5 = names_read (length whole) [] whole opening.end s4.within names e5 in
-    let s6 = checked_ok names.0 names.1 behind e6 in
-    let one = nth_name names.0 0 in
-    let two = nth_name names.0 1 in
-    let texts : Read whole opening.end behind (AreNames (one ∷ two ∷ [])) =
-    subst (λ n. Read whole opening.end n (AreNames (one ∷ two ∷ []))) s6.1
-    (subst (λ ns. Read whole opening.end names.1 (AreNames ns)) (sym s5.all ∙ two_names names.0 s6.0) s5.taken) in
-    let s7 = name_read whole behind texts.within comment e7 in
-    let p : Prologue = record { title = title.0; one = one; two = two; comment = unwrap_or comment.0 [] } in
-    let same : (p, comment.1) ≡ read = cc in
-    let Ends = Then (AreNames (one ∷ two ∷ [])) (IsName comment.0) in
-    let Titled = Then (IsOne open_brace) Ends in
+    let same : ((title.0, names.0), names.1) ≡ x = cc in
+    let texts : Read whole opening.end names.1 (AreNames names.0) = subst (λ ns. Read whole opening.end names.1 (AreNames ns)) (sym s5.all) s5.taken in
+    let Names = AreNames names.0 in
+    let Titled = Then (IsOne open_brace) Names in
     let Headed = Then (IsText title.0) Titled in
     let Numbered = Then (IsOne s2.0) Headed in
     let Version = Then (IsOne (number (codes "2"))) Numbered in
-    let r6 = read_then whole opening.end behind comment.1 (AreNames (one ∷ two ∷ [])) (IsName comment.0) texts s7 in
-    let r5 = read_then whole title.1 opening.end comment.1 (IsOne open_brace) Ends (read_one whole title.1 opening open_brace s4) r6 in
-    let r4 = read_then whole numbers.end title.1 comment.1 (IsText title.0) Titled s3 r5 in
-    let r3 = read_then whole version.end numbers.end comment.1 (IsOne s2.0) Headed (read_one whole version.end numbers s2.0 s2.2) r4 in
-    let r2 = read_then whole marker.end version.end comment.1 (IsOne (number (codes "2"))) Numbered (read_one whole marker.end version (number (codes "2")) s1) r3 in
-    let r1 = read_then whole at marker.end comment.1 (IsOne (word (codes "EFG"))) Version (read_one whole at marker (word (codes "EFG")) s0) r2 in
+    let r5 = read_then whole title.1 opening.end names.1 (IsOne open_brace) Names (read_one whole title.1 opening open_brace s4) texts in
+    let r4 = read_then whole numbers.end title.1 names.1 (IsText title.0) Titled s3 r5 in
+    let r3 = read_then whole version.end numbers.end names.1 (IsOne s2.0) Headed (read_one whole version.end numbers s2.0 s2.2) r4 in
+    let r2 = read_then whole marker.end version.end names.1 (IsOne (number (codes "2"))) Numbered (read_one whole marker.end version (number (codes "2")) s1) r3 in
+    let r1 = read_then whole at marker.end names.1 (IsOne (word (codes "EFG"))) Version (read_one whole at marker (word (codes "EFG")) s0) r2 in
+    subst (λ (y : Head × ℕ). Read whole at y.1 (IsHeadOf y.0)) same
+    (read_as whole at names.1 (Then (IsOne (word (codes "EFG"))) Version) (IsHeadOf (title.0, names.0)) (λ tokens rest one.
+    let v = one.2 in
+    let n = v.2 in
+    let h = n.2 in
+    let t = h.2 in
+    record {
+      headed = n.0;
+      titled = h.0;
+      opened = t.0;
+      numbers = s2.0;
+      rational = s2.1;
+      head = one.1 ∙ ap (λ ss. word (codes "EFG") ∷ ss) (v.1 ∙ ap (λ ss. number (codes "2") ∷ ss) n.1);
+      title_text = h.1;
+      brace = t.1;
+      name_texts = t.2;
+    }) r1)))))))
+
+-- a prologue that is read is in the form
+pub prologue_read : (whole : List ℕ) (at : ℕ) → at ≤ length whole → (read : Prologue × ℕ) → prologue_at whole at ≡ Ok read → Read whole at read.1 (IsPrologue read.0)
+unfolding prologue_at behind_head
+prologue_read whole at within read e =
+    then_ok (head_at whole at) _ _ e (λ head e0 e.
+    then_ok (checked_names head.0.1 head.1) _ _ e (λ behind e1 e.
+    then_ok (name_at whole behind) _ _ e (λ comment e2 e.
+    let h = head_read whole at within head e0 in
+    let c = checked_ok head.0.1 head.1 behind e1 in
+    let one = nth_name head.0.1 0 in
+    let two = nth_name head.0.1 1 in
+    let h2 : Read whole at behind (IsHeadOf (head.0.0, one ∷ two ∷ [])) =
+    subst (λ n. Read whole at n (IsHeadOf (head.0.0, one ∷ two ∷ []))) c.1 (subst (λ ns. Read whole at head.1 (IsHeadOf (head.0.0, ns))) (two_names head.0.1 c.0) h) in
+    let remark = name_read whole behind h2.within comment e2 in
+    let p : Prologue = record { title = head.0.0; one = one; two = two; comment = unwrap_or comment.0 [] } in
+    let same : (p, comment.1) ≡ read = cc in
     subst (λ (r : Prologue × ℕ). Read whole at r.1 (IsPrologue r.0)) same
-    (read_as whole at comment.1 (Then (IsOne (word (codes "EFG"))) Version) (IsPrologue p)
-    (λ tokens rest t. record {
-      behind = t.2.2.2.2.2.0;
-      comment = comment.0;
-      head = record {
-        headed = t.2.2.0;
-        titled = t.2.2.2.0;
-        opened = t.2.2.2.2.0;
-        numbers = s2.0;
-        rational = s2.1;
-        head = t.1 ∙ ap (λ x. word (codes "EFG") ∷ x) t.2.1 ∙ ap (λ x. word (codes "EFG") ∷ number (codes "2") ∷ x) t.2.2.1;
-        title_text = t.2.2.2.1;
-        brace = t.2.2.2.2.1;
-        name_texts = t.2.2.2.2.2.1;
-      };
-      remark = t.2.2.2.2.2.2;
-      text = refl;
-    })
-    r1)))))))))
+    (read_as whole at comment.1 (Then (IsHeadOf (head.0.0, one ∷ two ∷ [])) (IsName comment.0)) (IsPrologue p)
+    (λ tokens rest t. record { behind = t.0; comment = comment.0; head = t.1; remark = t.2; text = refl })
+    (read_then whole at behind comment.1 (IsHeadOf (head.0.0, one ∷ two ∷ [])) (IsName comment.0) h2 remark)))))

@@ -23,6 +23,15 @@ leading_digits-drop bs i h digit =
     ap leading_digits (drop-cons bs i 0 h) ∙ ap (λ b. cond b (get_or bs i 0 ∷ leading_digits (drop (suc i) bs)) []) digit
     ∙ ap (λ k. get_or bs i 0 ∷ leading_digits (drop k bs)) (sym (add-one i))
 
+-- and what follows the digits is the same behind it
+pub after_digits-drop : (bs : List ℕ) (i : ℕ) → i < length bs → is_ascii_digit (get_or bs i 0) ≡ true → after_digits (drop i bs) ≡ after_digits (drop (i + 1) bs)
+after_digits-drop bs i h digit =
+    ap after_digits (drop-cons bs i 0 h) ∙ ap (λ b. cond b (after_digits (drop (suc i) bs)) (get_or bs i 0 ∷ drop (suc i) bs)) digit
+    ∙ ap (λ k. after_digits (drop k bs)) (sym (add-one i))
+
+pub leading_digits-within : (bs : List ℕ) → length (leading_digits bs) ≤ length bs
+leading_digits-within bs = omega (arith, ap length (digits_split bs), length-append (leading_digits bs) (after_digits bs))
+
 times_one : (n p : ℕ) → 1 ≤ p → n ≤ n * p
 times_one n p h = omega (arith, mul-le n 1 n p (omega arith) h)
 

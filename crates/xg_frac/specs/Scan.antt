@@ -1,9 +1,9 @@
 -- How the reader keeps numbers that may be past the limits: one past the greatest stands for all
 -- that are greater.
-use Rattle.std.specs.Prelude.{ℕ, ◌+◌, ◌-◌, ◌*◌, ◌^◌, min, List, length, Option}
+use Rattle.std.specs.Prelude.{◌≡◌, ℕ, ◌≤◌, ◌+◌, ◌-◌, ◌*◌, ◌^◌, min, List, length, Option}
 use Rattle.xg_frac.specs.declared.literal.Quotient.{Quotient}
 use Rattle.xg_frac.specs.declared.literal.Exponent.{Exponent}
-use Rattle.def_fraction.specs.Digits.{number_of}
+use Rattle.def_fraction.specs.Digits.{number_of, leading_digits, after_digits}
 use Rattle.def_fraction.specs.Literal.{Power, Body, raised, lowered, numerator, denominator}
 
 abbrev pub past : ℕ
@@ -12,6 +12,13 @@ past = 2 ^ 127
 -- the number that digits write after others that write start
 abbrev pub capped : ℕ → List ℕ → ℕ
 capped start digits = min (start * 10 ^ length digits + number_of digits) past
+
+-- reading has come to `rest`, behind so many digits, with this number: what follows gives what all bytes give
+pub record ScansPart (start : ℕ) (bytes : List ℕ) (number len : ℕ) (rest : List ℕ) : Type 0 where
+  pub within : number ≤ past
+  pub number_is : capped number (leading_digits rest) ≡ capped start (leading_digits bytes)
+  pub len_is : len + length (leading_digits rest) ≡ length (leading_digits bytes)
+  pub after_is : after_digits rest ≡ after_digits bytes
 
 abbrev pub quotient_of : Body → Quotient
 quotient_of body = record { num = min (numerator body) past; den = min (denominator body) past }

@@ -1,5 +1,5 @@
 //! Fractions in lowest terms.
-ghost use Rattle.std.specs.Prelude.{◌≡◌, ◌^◌, ◌<◌, ◌≤◌, ◌≤ℤ◌, pos, unsigned_abs, IsTrue, OkIff, SomeIff};
+ghost use Rattle.std.specs.Prelude.{◌≡◌, ◌/◌, ◌^◌, ◌<◌, ◌≤◌, ◌≤ℤ◌, pos, unsigned_abs, IsTrue, OkIff, SomeIff};
 ghost use Rattle.def_fraction.specs.Divisors.{gcd};
 ghost use Rattle.def_fraction.specs.Fraction.{Fraction, IsInLowestTerms, signed, fraction_of, whole_number, most, fits};
 
@@ -16,8 +16,8 @@ pub struct OverLimit;
 /// least 1. Equal fractions have equal parts.
 #[derive(Clone, Copy, Debug, PartialEq, Eq)]
 pub struct Frac {
-    num: i128,
-    den: i128,
+    num: i64,
+    den: i64,
 }
 
 impl Model for Frac {
@@ -45,7 +45,7 @@ impl Frac {
         ensures lowest { IsInLowestTerms self.now }
         ensures small { IsTrue (fits self.now) }
     {
-        self.num
+        self.num as i128
     }
 
     /// The denominator.
@@ -56,7 +56,7 @@ impl Frac {
         ensures lowest { IsInLowestTerms self.now }
         ensures small { IsTrue (fits self.now) }
     {
-        self.den
+        self.den as i128
     }
 }
 
@@ -74,12 +74,38 @@ pub fn one_over(n: u32) -> Frac
 {
     Frac {
         num: 1,
-        den: n as i128,
+        den: n as i64,
     }
 }
 
-/// The greatest common divisor, by Euclid's algorithm.
+/// The greatest common divisor, in 64 bits where the numbers fit.
 pub(crate) fn greatest_common_divisor(a: u128, b: u128) -> u128
+    ensures value { result ≡ gcd a b }
+    ensures positive { 1 ≤ b → 1 ≤ result }
+{
+    if b == 1 {
+        return 1;
+    }
+    if a <= MOST && b <= MOST {
+        return short_common_divisor(a as u64, b as u64) as u128;
+    }
+    wide_common_divisor(a, b)
+}
+
+/// The greatest common divisor, by Euclid's algorithm.
+fn short_common_divisor(a: u64, b: u64) -> u64
+    ensures value { result ≡ gcd a b }
+    ensures positive { 1 ≤ b → 1 ≤ result }
+{
+    let (mut x, mut y) = (a, b);
+    while y != 0 {
+        (x, y) = (y, x % y);
+    }
+    x
+}
+
+/// The same in 128 bits.
+fn wide_common_divisor(a: u128, b: u128) -> u128
     ensures value { result ≡ gcd a b }
     ensures positive { 1 ≤ b → 1 ≤ result }
 {
@@ -106,20 +132,35 @@ pub(crate) fn reduced(negative: bool, num: u128, den: u128) -> Option<Frac>
         SomeIff result (IsTrue (fits exact)) exact }
 {
     let common = greatest_common_divisor(num, den);
-    let (num, den) = (num / common, den / common);
+    let num = quotient(num, common);
+    let den = quotient(den, common);
     if num > MOST || den > MOST {
         return None;
     }
     Some(Frac {
-        num: with_sign(negative, num),
-        den: den as i128,
+        num: with_sign(negative, num as u64),
+        den: den as i64,
     })
 }
 
-fn with_sign(negative: bool, size: u128) -> i128
-    requires { size < 2 ^ 127 }
+/// The quotient, rounded down, in 64 bits where the numbers fit.
+fn quotient(n: u128, divisor: u128) -> u128
+    requires { 1 ≤ divisor }
+    ensures { result ≡ n / divisor }
+{
+    if divisor == 1 {
+        return n;
+    }
+    if n <= MOST && divisor <= MOST {
+        return (n as u64 / divisor as u64) as u128;
+    }
+    n / divisor
+}
+
+fn with_sign(negative: bool, size: u64) -> i64
+    requires { size < 2 ^ 63 }
     ensures { result ≡ signed negative size }
 {
-    let size = size as i128;
+    let size = size as i64;
     if negative { -size } else { size }
 }

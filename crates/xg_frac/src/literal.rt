@@ -5,7 +5,7 @@ ghost use Rattle.def_fraction.specs.Digits.{is_numeral, number_of, leading_digit
 ghost use Rattle.def_fraction.specs.Fraction.{most};
 ghost use Rattle.def_fraction.specs.Literal.{is_negative, IsNoLiteral, HasZeroDenominator, IsPastLimits, IsLiteralOf};
 ghost use Rattle.def_fraction.specs.Reading.{sign_of, after_sign, body_of, power_of, read_as_literal, read_as_whole};
-ghost use Rattle.xg_frac.specs.Scan.{capped, quotient_of, decimal_quotient, exponent_of, past};
+ghost use Rattle.xg_frac.specs.Scan.{ScansPart, capped, quotient_of, decimal_quotient, exponent_of, past};
 
 use crate::fraction::{Frac, MOST, reduced};
 use def_fraction::NumberFault;
@@ -64,6 +64,9 @@ pub fn read_whole(bytes: &[u8]) -> Result<u64, NumberFault>
 /// ones, so that nothing overflows.
 const PAST: u128 = 0x8000_0000_0000_0000_0000_0000_0000_0000;
 
+/// A number below this one still fits 64 bits with a digit more.
+const SHORT: u64 = 1_000_000_000_000_000_000;
+
 #[derive(Clone, Copy)]
 struct Signed<'a> {
     negative: bool,
@@ -113,7 +116,53 @@ fn split_sign(bytes: &[u8]) -> Signed
     }
 }
 
+/// The digits at the head of the bytes, which go on from the number `start`.
 fn scan_digits(start: u128, bytes: &[u8]) -> Digits
+    requires { start ≤ past }
+    ensures number { result.number ≡ capped start (leading_digits bytes.now) }
+    ensures len { result.len ≡ length (leading_digits bytes.now) }
+    ensures short { result.len < 2 ^ 63 }
+    ensures rest { result.rest.now ≡ after_digits bytes.now }
+{
+    let short = scan_short(start, bytes);
+    let wide = scan_wide(short.number, short.rest);
+    Digits {
+        number: wide.number,
+        len: short.len + wide.len,
+        rest: wide.rest,
+    }
+}
+
+/// The same up to a digit with which the number might not fit 64 bits. Nearly all numbers are read here alone.
+fn scan_short(start: u128, bytes: &[u8]) -> Digits
+    requires { start ≤ past }
+    ensures { ScansPart start bytes.now result.number result.len result.rest.now }
+{
+    if start >= SHORT as u128 {
+        return Digits {
+            number: start,
+            len: 0,
+            rest: bytes,
+        };
+    }
+    let mut number = start as u64;
+    let mut len = 0;
+    for byte in bytes {
+        if !byte.is_ascii_digit() || number >= SHORT {
+            break;
+        }
+        number = number * 10 + (*byte - b'0') as u64;
+        len += 1;
+    }
+    Digits {
+        number: number as u128,
+        len,
+        rest: &bytes[len..],
+    }
+}
+
+/// The same in 128 bits.
+fn scan_wide(start: u128, bytes: &[u8]) -> Digits
     requires { start ≤ past }
     ensures number { result.number ≡ capped start (leading_digits bytes.now) }
     ensures len { result.len ≡ length (leading_digits bytes.now) }
@@ -233,8 +282,8 @@ fn times_power_of_ten(n: u128, exponent: usize) -> u128
     requires { n ≤ past }
     ensures { result ≡ min (n * 10 ^ exponent) past }
 {
-    if n == 0 {
-        return 0;
+    if n == 0 || exponent == 0 {
+        return n;
     }
     if exponent > 38 {
         return PAST;

@@ -1,3 +1,5 @@
+pub mod MarkLemmas
+pub mod ZipLemmas
 pub mod TableLemmas
 pub mod PairLemmas
 pub mod FewLemmas

@@ -2,6 +2,7 @@ pub mod Access
 pub mod Consistent
 pub mod Kept
 pub mod Made
+pub mod Marks
 pub mod Mentions
 pub mod Outcomes
 pub mod Prologues

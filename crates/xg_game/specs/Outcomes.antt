@@ -1,7 +1,8 @@
 -- An outcome of a table, as the content of a file has it.
 use Rattle.std.specs.Prelude.{ℕ}
 use Rattle.def_file.specs.Content.{OutcomeEntry}
-use Rattle.xg_game.specs.declared.outcomes.OutcomeDescription.{OutcomeDescription}
+use Rattle.xg_game.specs.declared.outcomes.PayoffPair.{PayoffPair}
+use Rattle.xg_game.specs.declared.table.Described.{Described}
 
-abbrev pub outcome_of : ℕ × OutcomeDescription → OutcomeEntry
-outcome_of (number, description) = record { number = number; name = description.name; one = description.one; two = description.two }
+abbrev pub outcome_of : ℕ × Described PayoffPair → OutcomeEntry
+outcome_of (number, known) = record { number = number; name = known.name; one = known.value.one; two = known.value.two }

@@ -1,7 +1,7 @@
 -- A set of a table, as the content of a file has it.
-use Rattle.std.specs.Prelude.{ℕ}
-use Rattle.def_file.specs.Content.{SetEntry}
-use Rattle.xg_game.specs.declared.sets.SetDescription.{SetDescription}
+use Rattle.std.specs.Prelude.{ℕ, List}
+use Rattle.def_file.specs.Content.{Action, SetEntry}
+use Rattle.xg_game.specs.declared.table.Described.{Described}
 
-abbrev pub set_of : ℕ × SetDescription → SetEntry
-set_of (number, description) = record { number = number; name = description.name; actions = description.actions }
+abbrev pub set_of : ℕ × Described (List Action) → SetEntry
+set_of (number, known) = record { number = number; name = known.name; actions = known.value }

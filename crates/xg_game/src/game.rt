@@ -137,7 +137,7 @@ impl Game {
         requires there { set ≤ length (sets_of kind self.now.sets) }
         ensures { result ≡ length (set_at (sets_of kind self.now.sets) (set - 1)).actions }
     {
-        self.set(kind, set).actions.len() as u32
+        self.set(kind, set).value.len() as u32
     }
 
     /// The name of an action of a set.
@@ -152,7 +152,7 @@ impl Game {
             option_map (λ a. a.name) (slice_get actions (action - 1)) ≡ Some result.now }
     {
         self.set(kind, set)
-            .actions
+            .value
             .get(action as usize - 1)
             .name
             .bytes()
@@ -168,7 +168,7 @@ impl Game {
             option_map (λ a. a.chance) (slice_get actions (action - 1)) ≡ Some result }
     {
         self.set(Kind::Chance, set)
-            .actions
+            .value
             .get(action as usize - 1)
             .chance
     }
@@ -207,7 +207,7 @@ impl Game {
         if outcome == 0 {
             return zero();
         }
-        let payoffs = self.outcomes.get(outcome as usize - 1);
+        let payoffs = &self.outcomes.get(outcome as usize - 1).value;
         match player {
             Player::One => payoffs.one,
             Player::Two => payoffs.two,
@@ -222,8 +222,8 @@ impl Game {
         ensures name { let entry = set_at (sets_of kind self.now.sets) (set - 1) in
             result.now.name ≡ entry.name }
         ensures actions { let entry = set_at (sets_of kind self.now.sets) (set - 1) in
-            result.now.actions ≡ entry.actions }
-        ensures few { length result.now.actions ≤ 1024 }
+            result.now.value ≡ entry.actions }
+        ensures few { length result.now.value ≤ 1024 }
     {
         self.sets.of(kind).get(set as usize - 1)
     }

@@ -5,10 +5,11 @@ mod fault;
 mod game;
 mod given;
 mod maker;
+mod numbers;
 mod outcomes;
 mod prologue;
-mod seed;
 mod sets;
+mod table;
 mod tables;
 #[cfg(test)]
 mod tests;
@@ -17,5 +18,4 @@ pub use def_file::FileFault;
 pub use fault::Refused;
 pub use game::Game;
 pub use maker::GameMaker;
-pub use seed::Seed;
 pub use xg_tree::{Kind, Player};

@@ -12,7 +12,6 @@ ghost use Rattle.xg_record.specs.Record.{record_of};
 use crate::fault::Refused;
 use crate::game::Game;
 use crate::prologue::Prologue;
-use crate::seed::Seed;
 use crate::tables::Tables;
 use std::alloc::Global;
 use std::marker::Model;
@@ -44,24 +43,8 @@ impl Model for GameMaker {
 }
 
 impl GameMaker {
-    /// A game with these texts and no entries yet. Its numbers are hashed by the title.
+    /// A game with these texts and no entries yet.
     pub fn new(alloc: Global, title: Text, one: Text, two: Text, comment: Text) -> GameMaker
-        ensures { let prologue = prologue_with title one two comment in
-            result ≡ record { prologue = prologue; contents = no_contents; spent = false } }
-    {
-        let seed = Seed::new(title.bytes());
-        GameMaker::seeded(alloc, seed, title, one, two, comment)
-    }
-
-    /// The same, with the hashing of its numbers by `seed`, on which no answer depends.
-    pub fn seeded(
-        alloc: Global,
-        seed: Seed,
-        title: Text,
-        one: Text,
-        two: Text,
-        comment: Text,
-    ) -> GameMaker
         ensures { let prologue = prologue_with title one two comment in
             result ≡ record { prologue = prologue; contents = no_contents; spent = false } }
     {
@@ -72,7 +55,7 @@ impl GameMaker {
                 two,
                 comment,
             },
-            tables: Tables::new(alloc, seed),
+            tables: Tables::new(alloc),
             spent: false,
         }
     }

@@ -6,27 +6,28 @@ ghost use Rattle.def_file.specs.Faults as faults;
 ghost use Rattle.xg_game.specs.Mentions.{outcome_mention};
 ghost use Rattle.xg_record.specs.Record.{record_of};
 
-use crate::given::{keep_name, name_differs, same_value};
-use crate::seed::Seed;
-use indexmap::IndexMap;
+use crate::given::{name_differs, same_value};
+use crate::table::{Described, NumberTable};
 use std::alloc::{AllocError, Global};
 use std::marker::Model;
 use xg_frac::{Frac, whole};
 use xg_lex::Text;
 use xg_record::{Payoffs, Record};
 
-/// What is known of an outcome: the first name that is given, and the payoffs of the first mention.
-#[derive(Drop)]
-pub(crate) struct OutcomeDescription {
-    pub(crate) name: Option<Text>,
+/// The payoffs of both players.
+#[derive(Clone, Copy)]
+pub(crate) struct PayoffPair {
     pub(crate) one: Frac,
     pub(crate) two: Frac,
 }
 
+/// What is known of an outcome: the first name that is given, and the payoffs of the first mention.
+pub(crate) type OutcomeDescription = Described<PayoffPair>;
+
 /// The outcomes by their numbers in the file, in the order of their first mentions. Outcome 0 isn't among them.
 #[derive(Drop)]
 pub(crate) struct OutcomeTable {
-    outcomes: IndexMap<u64, OutcomeDescription, Seed>,
+    outcomes: NumberTable<PayoffPair>,
 }
 
 impl Model for OutcomeTable {
@@ -37,16 +38,16 @@ impl Model for OutcomeTable {
 
     ghost use Rattle.xg_game.specs.Outcomes.{outcome_of};
 
-    ghost view = { λ t. map outcome_of t.outcomes.entries };
+    ghost view = { λ t. map outcome_of t.outcomes };
 }
 
 impl OutcomeTable {
     /// No outcomes.
-    pub(crate) fn new(alloc: Global, seed: Seed) -> OutcomeTable
+    pub(crate) fn new(alloc: Global) -> OutcomeTable
         ensures { result ≡ [] }
     {
         OutcomeTable {
-            outcomes: IndexMap::with_hasher(alloc, seed),
+            outcomes: NumberTable::new(alloc),
         }
     }
 
@@ -62,7 +63,7 @@ impl OutcomeTable {
         ensures place { result ≡ faults.outcome_place_of number self.now }
         ensures within { IfSome result (λ i. i < length self.now) }
     {
-        self.outcomes.get_index_of(&number)
+        self.outcomes.find(number)
     }
 
     /// The number in the file of the outcome at `i`.
@@ -70,17 +71,17 @@ impl OutcomeTable {
         requires { i < length self.now }
         ensures { result ≡ (faults.outcome_at self.now i).number }
     {
-        self.outcomes.keys()[i]
+        self.outcomes.number(i)
     }
 
     /// What is known of the outcome at `i`.
     pub(crate) fn get(&self, i: usize) -> &OutcomeDescription
         requires { i < length self.now }
         ensures name { result.now.name ≡ (faults.outcome_at self.now i).name }
-        ensures one { result.now.one ≡ (faults.outcome_at self.now i).one }
-        ensures two { result.now.two ≡ (faults.outcome_at self.now i).two }
+        ensures one { result.now.value.one ≡ (faults.outcome_at self.now i).one }
+        ensures two { result.now.value.two ≡ (faults.outcome_at self.now i).two }
     {
-        &self.outcomes[i]
+        self.outcomes.get(i)
     }
 
     /// Whether the entry is the first to mention its outcome, and has no payoffs.
@@ -101,7 +102,7 @@ impl OutcomeTable {
             Some(i) => {
                 let kept = self.get(i);
                 name_differs(&kept.name, &entry.outcome_name)
-                    || payoffs_differ(kept.one, kept.two, &entry.payoffs)
+                    || payoffs_differ(kept.value.one, kept.value.two, &entry.payoffs)
             }
             None => false,
         }
@@ -138,6 +139,7 @@ impl OutcomeTable {
         name: Option<Text>,
         payoffs: Option<Payoffs>,
     ) -> Result<(), AllocError>
+        requires { length self.old + 1 < 2 ^ 32 }
         ensures { let mention = outcome_mention number name payoffs in
             OnOk result (self.new ≡ adding.noted_outcome self.old mention) }
     {
@@ -160,7 +162,7 @@ impl OutcomeTable {
             let named = record kept { name = adding.kept_name kept.name name } in
             self.new ≡ slice_set self.old i named }
     {
-        keep_name(&mut self.outcomes[i].name, name);
+        self.outcomes.name(i, name);
     }
 
     /// Puts an outcome last.
@@ -170,14 +172,14 @@ impl OutcomeTable {
         name: Option<Text>,
         payoffs: Option<Payoffs>,
     ) -> Result<(), AllocError>
-        requires { faults.outcome_place_of number self.old ≡ None }
+        requires new { faults.outcome_place_of number self.old ≡ None }
+        requires room { length self.old + 1 < 2 ^ 32 }
         ensures { let mention = outcome_mention number name payoffs in
             OnOk result (self.new ≡ self.old ++ adding.new_outcome mention ∷ []) }
     {
-        let (one, two) = (payoff_at(&payoffs, 0), payoff_at(&payoffs, 1));
-        self.outcomes
-            .insert(number, OutcomeDescription { name, one, two })?;
-        Ok(())
+        let one = payoff_at(&payoffs, 0);
+        let two = payoff_at(&payoffs, 1);
+        self.outcomes.push(number, name, PayoffPair { one, two })
     }
 }
 

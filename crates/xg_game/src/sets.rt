@@ -6,9 +6,8 @@ ghost use Rattle.def_file.specs.Faults as faults;
 ghost use Rattle.xg_game.specs.Mentions.{set_mention};
 ghost use Rattle.xg_record.specs.Record.{record_of};
 
-use crate::given::{actions_differ, keep_name, name_differs};
-use crate::seed::Seed;
-use indexmap::IndexMap;
+use crate::given::{actions_differ, name_differs};
+use crate::table::{Described, NumberTable};
 use std::alloc::{AllocError, Global};
 use std::marker::Model;
 use xg_lex::Text;
@@ -19,16 +18,12 @@ use xg_tree::Kind;
 const ACTION_LIMIT: usize = 1_024;
 
 /// What is known of a set: the first name that is given, and the actions of the first mention.
-#[derive(Drop)]
-pub(crate) struct SetDescription {
-    pub(crate) name: Option<Text>,
-    pub(crate) actions: Actions,
-}
+pub(crate) type SetDescription = Described<Actions>;
 
 /// The sets of chance or of a player by their numbers in the file, in the order of their first mentions.
 #[derive(Drop)]
 pub(crate) struct SetTable {
-    sets: IndexMap<u64, SetDescription, Seed>,
+    sets: NumberTable<Actions>,
 }
 
 impl Model for SetTable {
@@ -39,16 +34,16 @@ impl Model for SetTable {
 
     ghost use Rattle.xg_game.specs.Sets.{set_of};
 
-    ghost view = { λ t. map set_of t.sets.entries };
+    ghost view = { λ t. map set_of t.sets };
 }
 
 impl SetTable {
     /// No sets.
-    pub(crate) fn new(alloc: Global, seed: Seed) -> SetTable
+    pub(crate) fn new(alloc: Global) -> SetTable
         ensures { result ≡ [] }
     {
         SetTable {
-            sets: IndexMap::with_hasher(alloc, seed),
+            sets: NumberTable::new(alloc),
         }
     }
 
@@ -64,7 +59,7 @@ impl SetTable {
         ensures place { result ≡ faults.place_of number self.now }
         ensures within { IfSome result (λ i. i < length self.now) }
     {
-        self.sets.get_index_of(&number)
+        self.sets.find(number)
     }
 
     /// The number in the file of the set at `i`.
@@ -72,16 +67,16 @@ impl SetTable {
         requires { i < length self.now }
         ensures { result ≡ (faults.set_at self.now i).number }
     {
-        self.sets.keys()[i]
+        self.sets.number(i)
     }
 
     /// What is known of the set at `i`.
     pub(crate) fn get(&self, i: usize) -> &SetDescription
         requires { i < length self.now }
         ensures name { result.now.name ≡ (faults.set_at self.now i).name }
-        ensures actions { result.now.actions ≡ (faults.set_at self.now i).actions }
+        ensures actions { result.now.value ≡ (faults.set_at self.now i).actions }
     {
-        &self.sets[i]
+        self.sets.get(i)
     }
 
     /// Whether the entry is the first to mention its set, and has no actions.
@@ -99,7 +94,7 @@ impl SetTable {
             Some(i) => {
                 let kept = self.get(i);
                 name_differs(&kept.name, &entry.set_name)
-                    || actions_differ(kind, &kept.actions, &entry.actions)
+                    || actions_differ(kind, &kept.value, &entry.actions)
             }
             None => false,
         }
@@ -130,7 +125,7 @@ impl SetTable {
         ensures { result ≡ adding.action_count self.now (record_of entry.now).set }
     {
         match self.find(entry.set) {
-            Some(i) => self.get(i).actions.len() as u32,
+            Some(i) => self.get(i).value.len() as u32,
             None => match &entry.actions {
                 Some(actions) => actions.len() as u32,
                 None => 0,
@@ -145,7 +140,8 @@ impl SetTable {
         name: Option<Text>,
         actions: Option<Actions>,
     ) -> Result<(), AllocError>
-        requires { faults.is_set_undefined self.old (set_mention number name actions) ≡ false }
+        requires defined { faults.is_set_undefined self.old (set_mention number name actions) ≡ false }
+        requires room { length self.old + 1 < 2 ^ 32 }
         ensures { let mention = set_mention number name actions in
             OnOk result (self.new ≡ adding.noted_set self.old mention) }
     {
@@ -165,17 +161,17 @@ impl SetTable {
             let named = record kept { name = adding.kept_name kept.name name } in
             self.new ≡ slice_set self.old i named }
     {
-        keep_name(&mut self.sets[i].name, name);
+        self.sets.name(i, name);
     }
 
     /// Puts a set last.
     fn add(&mut self, number: u64, name: Option<Text>, actions: Actions) -> Result<(), AllocError>
-        requires { faults.place_of number self.old ≡ None }
+        requires new { faults.place_of number self.old ≡ None }
+        requires room { length self.old + 1 < 2 ^ 32 }
         ensures { let added : SetEntry = record { number = number; name = name; actions = actions } in
             OnOk result (self.new ≡ self.old ++ added ∷ []) }
     {
-        self.sets.insert(number, SetDescription { name, actions })?;
-        Ok(())
+        self.sets.push(number, name, actions)
     }
 }
 
@@ -216,13 +212,13 @@ impl Model for SetTables {
 
 impl SetTables {
     /// No sets.
-    pub(crate) fn new(alloc: Global, seed: Seed) -> SetTables
+    pub(crate) fn new(alloc: Global) -> SetTables
         ensures { result ≡ record { chance = []; one = []; two = [] } }
     {
         SetTables {
-            chance: SetTable::new(alloc, seed),
-            one: SetTable::new(alloc, seed),
-            two: SetTable::new(alloc, seed),
+            chance: SetTable::new(alloc),
+            one: SetTable::new(alloc),
+            two: SetTable::new(alloc),
         }
     }
 
@@ -247,8 +243,9 @@ impl SetTables {
         name: Option<Text>,
         actions: Option<Actions>,
     ) -> Result<(), AllocError>
-        requires { let mention = set_mention number name actions in
+        requires defined { let mention = set_mention number name actions in
             kind ≢ Kind.Leaf → faults.is_set_undefined (sets_of kind self.old) mention ≡ false }
+        requires room { length (sets_of kind self.old) + 1 < 2 ^ 32 }
         ensures { let mention = set_mention number name actions in
             let table = adding.noted_set (sets_of kind self.old) mention in
             OnOk result (self.new ≡ with_sets kind table self.old) }

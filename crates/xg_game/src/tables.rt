@@ -9,7 +9,6 @@ ghost use Rattle.xg_game.specs.Consistent.{IsConsistent};
 ghost use Rattle.xg_record.specs.Record.{record_of};
 
 use crate::outcomes::OutcomeTable;
-use crate::seed::Seed;
 use crate::sets::SetTables;
 use def_file::{EntryKind, FileFault};
 use def_tree::Node;
@@ -46,14 +45,14 @@ impl Model for Tables {
 
 impl Tables {
     /// No entries.
-    pub(crate) fn new(alloc: Global, seed: Seed) -> Tables
+    pub(crate) fn new(alloc: Global) -> Tables
         ensures { result ≡ no_contents }
     {
         Tables {
             nodes: Builder::new(alloc),
             names: Vec::new(alloc),
-            sets: SetTables::new(alloc, seed),
-            outcomes: OutcomeTable::new(alloc, seed),
+            sets: SetTables::new(alloc),
+            outcomes: OutcomeTable::new(alloc),
         }
     }
 

@@ -9,11 +9,11 @@ use Rattle.def_file_tokens.specs.Texts.{IsInside}
 use Rattle.std.proofs.lemmas.List.{drop_more, drop_all}
 use Rattle.def_file_tokens.specs.declared.Token.TheVariants.{Word, Number, Open, Close, Comma, End}
 use Rattle.def_file_tokens.specs.declared.LexFault.TheVariants.{Syntax}
-use Rattle.def_file_tokens.specs.Bytes.{is_space, in_run, begins_word, begins_number}
+use Rattle.def_file_tokens.specs.Bytes.{in_run, begins_word, begins_number}
 use Rattle.def_file_tokens.specs.Texts.{closing_from}
 use Rattle.def_file_tokens.proofs.TextLemmas.{slice_range-inner}
 use Rattle.def_file_tokens.proofs.TokenLemmas.{token_at-text, token_at-open, token_at-close, token_at-comma, token_at-word, token_at-number, token_at-fault, token_at-end}
-use Rattle.def_file_tokens.specs.Tokens.{span, text_from, token_at, next_from}
+use Rattle.def_file_tokens.specs.Tokens.{after_space, span, text_from, token_at, next_from}
 
 -- at an offset of the bytes
 module _ (bytes : List ℕ) (start : ℕ) (within : start < length bytes) where
@@ -48,9 +48,9 @@ pub end_here : (bytes : List ℕ) (start : ℕ) → length bytes ≤ start → O
 end_here bytes start past = sym (ap (token_at start) (drop_all start bytes past) ∙ token_at-end start)
 
 -- the token behind the white space is the next one
-pub next_here : (bytes rest : List ℕ) (at n : ℕ) → rest ≡ drop at bytes → n ≡ prefix_len is_space rest → token_at (at + n) (drop (at + n) bytes) ≡ next_from bytes at
+pub next_here : (bytes : List ℕ) (at start : ℕ) → start ≡ after_space bytes at → token_at start (drop start bytes) ≡ next_from bytes at
 unfolding next_from
-next_here bytes rest at n is_rest is_len = ap (λ k. token_at (at + k) (drop (at + k) bytes)) (is_len ∙ ap (prefix_len is_space) is_rest)
+next_here bytes at start is_start = ap (λ k. token_at k (drop k bytes)) is_start
 
 -- the text that was read, with its quotation marks and its inside
 module _ (whole : List ℕ) (at : ℕ) (lexeme : Lexeme) (is : IsLexemeFrom whole at lexeme) (text : lexeme.kind ≡ Text) where

@@ -3,7 +3,7 @@ ghost use Rattle.std.specs.List.{prefix_len, AllPass};
 ghost use Rattle.def_file_tokens.specs.Bytes.{is_space, in_run, begins_word, begins_number};
 ghost use Rattle.def_file_tokens.specs.Texts.{IsInside, closing_from};
 ghost use Rattle.def_file_tokens.specs.Spelling.{IsFirstByteFrom, IsLexemeFrom};
-ghost use Rattle.def_file_tokens.specs.Tokens.{byte_from, next_from, end_of, span, text_from, token_at};
+ghost use Rattle.def_file_tokens.specs.Tokens.{after_space, byte_from, next_from, end_of, span, text_from, token_at};
 
 use def_file_tokens::{LexFault, Lexeme, Token};
 use memchr::memchr;
@@ -14,17 +14,19 @@ use std::marker::Model;
 pub struct Tokens<'a> {
     bytes: &'a [u8],
     at: usize,
+    // Where the white space from `at` on ends, so that it is read once alone.
+    start: usize,
 }
 
 impl<'a> Model for Tokens<'a> {
-    ghost use Rattle.std.specs.Prelude.{◌≤◌, length};
     ghost use Rattle.def_file_tokens.specs.Tokens.{Cursor};
+    ghost use Rattle.xg_lex.specs.Standing.{IsStanding};
 
     ghost Value = { Cursor };
 
     ghost view = { λ t. record { whole = t.bytes.now; at = t.at } };
 
-    ghost invariant = { λ t. t.at ≤ length t.bytes.now };
+    ghost invariant = { λ t. IsStanding t.bytes.now t.at t.start };
 }
 
 impl<'a> Tokens<'a> {
@@ -33,7 +35,11 @@ impl<'a> Tokens<'a> {
         ensures whole { result.whole ≡ bytes.now }
         ensures start { result.at ≡ 0 }
     {
-        Tokens { bytes, at: 0 }
+        Tokens {
+            bytes,
+            at: 0,
+            start: after_space(bytes, 0),
+        }
     }
 
     /// The next token, behind the white space. After the end it answers the end again.
@@ -49,9 +55,9 @@ impl<'a> Tokens<'a> {
         ensures inside { IfOk result (λ lexeme. lexeme.kind ≡ Token.Text
             → IsInside (slice_range self.old.whole (lexeme.start + 1) (lexeme.end - 1))) }
     {
-        let start = self.at + space_len(&self.bytes[self.at..]);
-        let lexeme = token_at(self.bytes, start)?;
+        let lexeme = token_at(self.bytes, self.start)?;
         self.at = lexeme.end;
+        self.start = after_space(self.bytes, lexeme.end);
         Ok(lexeme)
     }
 
@@ -61,8 +67,7 @@ impl<'a> Tokens<'a> {
         ensures first { (b : ℕ) → (result ≡ Some b) ↔ ((place : ℕ) × IsFirstByteFrom self.now.whole self.now.at place × (slice_index self.now.whole place ≡ b)) }
         ensures none { (result ≡ None) ↔ AllPass is_space (drop self.now.at self.now.whole) }
     {
-        let start = self.at + space_len(&self.bytes[self.at..]);
-        self.bytes.get(start).copied()
+        self.bytes.get(self.start).copied()
     }
 }
 
@@ -88,6 +93,15 @@ fn begins_number(byte: u8) -> bool
     ensures { result ≡ begins_number byte }
 {
     matches!(byte, b'0'..=b'9' | b'+' | b'-' | b'.')
+}
+
+/// The offset of the first byte from `at` on that isn't white space, or the end.
+fn after_space(bytes: &[u8], at: usize) -> usize
+    requires { at ≤ length bytes.now }
+    ensures value { result ≡ after_space bytes.now at }
+    ensures within { result ≤ length bytes.now }
+{
+    at + space_len(&bytes[at..])
 }
 
 /// How many bytes of white space stand at the front.

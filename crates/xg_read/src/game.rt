@@ -11,7 +11,7 @@ ghost use Rattle.xg_read.specs.Gives.{Answers, GivesFor, GivesNext, next_at};
 use crate::reader::Reader;
 use def_file::FileFault;
 use std::alloc::Global;
-use xg_game::{Game, GameMaker, Refused, Seed};
+use xg_game::{Game, GameMaker, Refused};
 
 /// One more than the greatest number of nodes: the entry behind the last one that may be is read and judged, too.
 const MOST_ENTRIES: usize = 1_048_577;
@@ -42,9 +42,8 @@ fn read_file(alloc: Global, bytes: &[u8]) -> Result<Game, Refused>
 {
     let mut reader = Reader::new(bytes);
     let prologue = reader.prologue(alloc)?;
-    let maker = GameMaker::seeded(
+    let maker = GameMaker::new(
         alloc,
-        Seed::new(bytes),
         prologue.title,
         prologue.one,
         prologue.two,

@@ -1,12 +1,22 @@
-use Rattle.std.proofs.Common.{◌≡◌, ◌∷◌, [], ◌++◌, map, None, ap, ◌∙◌}
+use Rattle.std.proofs.Common.{◌≡◌, ◌∷◌, [], ◌++◌, ℕ, List, map, length, ap, ◌∙◌, arith}
+use Rattle.std.proofs.Math.ListN.{length-map}
+use Rattle.def_file.specs.Content.{OutcomeEntry}
 use Rattle.def_file.specs.Faults.{outcome_place_of}
 use Rattle.xg_game.specs.Outcomes.{outcome_of}
-use Rattle.xg_game.proofs.TableLemmas.{outcome_added}
+use Rattle.xg_game.proofs.TableLemmas.{KnownOutcome, on_ok, outcome_added, outcome_place}
 use Rattle.xg_game.proofs.outcomes.OutcomeTable.add.Goals as goal
+
+pub push-requires-clause-new : goal.push-requires-clause-new
+push-requires-clause-new c = outcome_place c.args.number c.self.inside.outcomes ∙ ap (outcome_place_of c.args.number) c.self.view_is ∙ c.requires.new
+
+pub push-requires-clause-room : goal.push-requires-clause-room
+push-requires-clause-room c =
+    let es : List (ℕ × KnownOutcome) = c.self.inside.outcomes in
+    omega (arith, length-map es outcome_of, ap (length {A = OutcomeEntry}) c.self.view_is, c.requires.room)
 
 pub returns : goal.returns
 returns c =
-    let none : outcome_place_of c.args.number (map outcome_of c.self.inside.outcomes.entries) ≡ None = ap (outcome_place_of c.args.number) c.self.view_is ∙ c.requires in
-    ap (map outcome_of) c.in_ok-insert.ensures.entries
-    ∙ outcome_added c.args.number (record { name = c.args.name; one = c.payoff_at-one.result; two = c.payoff_at-two.result }) c.self.inside.outcomes.entries none
-    ∙ (λ j. c.self.view_is j ++ record { number = c.args.number; name = c.args.name; one = c.payoff_at-one.ensures j; two = c.payoff_at-two.ensures j } ∷ [])
+    let known : KnownOutcome = record { name = c.args.name; value = record { one = c.payoff_at-one.result; two = c.payoff_at-two.result } } in
+    on_ok c.push.result (λ put.
+    ap (map outcome_of) put ∙ outcome_added c.self.inside.outcomes (c.args.number, known)
+    ∙ (λ j. c.self.view_is j ++ record { number = c.args.number; name = c.args.name; one = c.payoff_at-one.ensures j; two = c.payoff_at-two.ensures j } ∷ [])) c.push.ensures

@@ -1,12 +1,22 @@
-use Rattle.std.proofs.Common.{◌≡◌, ◌∷◌, [], ◌++◌, map, None, ap, ◌∙◌}
+use Rattle.std.proofs.Common.{◌≡◌, ◌∷◌, [], ◌++◌, ℕ, List, map, length, ap, ◌∙◌, arith}
+use Rattle.std.proofs.Math.ListN.{length-map}
+use Rattle.def_file.specs.Content.{SetEntry}
 use Rattle.def_file.specs.Faults.{place_of}
 use Rattle.xg_game.specs.Sets.{set_of}
-use Rattle.xg_game.proofs.TableLemmas.{set_added}
+use Rattle.xg_game.proofs.TableLemmas.{KnownSet, on_ok, set_added, set_place}
 use Rattle.xg_game.proofs.sets.SetTable.add.Goals as goal
+
+pub push-requires-clause-new : goal.push-requires-clause-new
+push-requires-clause-new c = set_place c.args.number c.self.inside.sets ∙ ap (place_of c.args.number) c.self.view_is ∙ c.requires.new
+
+pub push-requires-clause-room : goal.push-requires-clause-room
+push-requires-clause-room c =
+    let es : List (ℕ × KnownSet) = c.self.inside.sets in
+    omega (arith, length-map es set_of, ap (length {A = SetEntry}) c.self.view_is, c.requires.room)
 
 pub returns : goal.returns
 returns c =
-    let none : place_of c.args.number (map set_of c.self.inside.sets.entries) ≡ None = ap (place_of c.args.number) c.self.view_is ∙ c.requires in
-    ap (map set_of) c.in_ok-insert.ensures.entries
-    ∙ set_added c.args.number (record { name = c.args.name; actions = c.args.actions }) c.self.inside.sets.entries none
-    ∙ ap (λ table. table ++ record { number = c.args.number; name = c.args.name; actions = c.args.actions } ∷ []) c.self.view_is
+    let known : KnownSet = record { name = c.args.name; value = c.args.actions } in
+    on_ok c.push.result (λ put.
+    ap (map set_of) put ∙ set_added c.self.inside.sets (c.args.number, known)
+    ∙ ap (λ (table : List SetEntry). table ++ set_of (c.args.number, known) ∷ []) c.self.view_is) c.push.ensures

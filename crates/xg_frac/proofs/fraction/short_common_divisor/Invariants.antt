@@ -1,6 +1,6 @@
 use Rattle.std.proofs.Common.{◌≡◌}
 use Rattle.def_fraction.specs.Divisors.{gcd}
-use Rattle.xg_frac.proofs.fraction.greatest_common_divisor.Given as goal
+use Rattle.xg_frac.proofs.fraction.short_common_divisor.Given as goal
 
 abbrev pub invariant-loop-y : goal.invariant-loop-y
 invariant-loop-y l = gcd l.x l.y ≡ gcd l.fn.a l.fn.b

@@ -1,7 +1,7 @@
 use Rattle.std.proofs.Common.{◌≡◌, ◌+◌, ◌≤◌, length, drop}
 use Rattle.def_fraction.specs.Digits.{leading_digits}
 use Rattle.xg_frac.specs.Scan.{capped, past}
-use Rattle.xg_frac.proofs.literal.scan_digits.Given as goal
+use Rattle.xg_frac.proofs.literal.scan_wide.Given as goal
 
 abbrev pub invariant-loop-byte : goal.invariant-loop-byte
 invariant-loop-byte l = record {

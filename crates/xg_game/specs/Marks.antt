@@ -1,0 +1,21 @@
+-- Marks of numbers: 0, or one more than the place where the number stands.
+use Rattle.std.specs.Prelude.{◌≡◌, ◌≢◌, ℕ, ◌+◌, nat_eq, if◌then◌else◌, List, position, slice_index, unwrap_or, Option, Some, None}
+use Rattle.std.specs.Ordering.{nat_cmp}
+use Rattle.std.specs.BTreeMap.{BTreeMap, get}
+
+abbrev pub marked : Option ℕ → ℕ
+marked None = 0
+marked (Some i) = i + 1
+
+-- the mark in the array, or else the one in the tree
+abbrev pub mark_of : List ℕ → BTreeMap ℕ ℕ → ℕ → ℕ
+mark_of near far n = if nat_eq (slice_index near n) 0 then unwrap_or (get nat_cmp far n) 0 else slice_index near n
+
+-- each number has the mark of the place where it stands
+pub record MarksEach (numbers near : List ℕ) (far : BTreeMap ℕ ℕ) : Type 0 where
+  pub each : (n : ℕ) → mark_of near far n ≡ marked (position (nat_eq n) numbers)
+
+-- one mark more
+pub record SetsMark (old new : List ℕ) (at mark : ℕ) : Type 0 where
+  pub here : slice_index new at ≡ mark
+  pub others : (n : ℕ) → n ≢ at → slice_index new n ≡ slice_index old n

@@ -1,0 +1,107 @@
+//! What is known of the sets or the outcomes of a game, by their numbers in the file.
+ghost use Rattle.std.specs.Prelude.{◌≡◌, ℕ, ◌+◌, ◌<◌, ◌^◌, [], ◌∷◌, ◌++◌, None, Some, length, nat_eq, position, slice_get, slice_set, IfSome, OnOk};
+ghost use Rattle.std.specs.Map.{keys_of, values_of};
+ghost use Rattle.def_file.specs.Adding.{kept_name};
+ghost use Rattle.xg_game.specs.declared.table.Described.{Described};
+
+use crate::given::keep_name;
+use crate::numbers::Numbers;
+use std::alloc::{AllocError, Global};
+use std::marker::Model;
+use xg_lex::Text;
+
+/// What is known of a set or an outcome: the first name that is given, and what the first mention says.
+#[derive(Drop)]
+pub(crate) struct Described<D> {
+    pub(crate) name: Option<Text>,
+    pub(crate) value: D,
+}
+
+/// What is known of sets or outcomes by their numbers in the file, in the order of their first mentions.
+#[derive(Drop)]
+pub(crate) struct NumberTable<D> {
+    numbers: Numbers,
+    known: Vec<Described<D>>,
+}
+
+impl<D> Model for NumberTable<D> {
+    ghost use Rattle.std.specs.Prelude.{◌≡◌, ℕ, List, length};
+    ghost use Rattle.std.specs.List.{zip};
+    ghost use Rattle.xg_game.specs.declared.table.Described.{Described};
+
+    ghost Value = { List (ℕ × Described D) };
+
+    ghost view = { λ t. zip t.numbers t.known.items };
+
+    ghost invariant = { λ t. length t.known.items ≡ length t.numbers };
+}
+
+impl<D: Drop> NumberTable<D> {
+    /// Nothing is known.
+    pub(crate) fn new(alloc: Global) -> NumberTable<D>
+        ensures { result ≡ [] }
+    {
+        NumberTable {
+            numbers: Numbers::new(alloc),
+            known: Vec::new(alloc),
+        }
+    }
+
+    /// How many numbers there are.
+    pub(crate) fn len(&self) -> usize
+        ensures { result ≡ length self.now }
+    {
+        self.numbers.len()
+    }
+
+    /// Where this number stands.
+    pub(crate) fn find(&self, number: u64) -> Option<usize>
+        ensures place { result ≡ position (nat_eq number) (keys_of self.now) }
+        ensures within { IfSome result (λ i. i < length self.now) }
+    {
+        self.numbers.find(number)
+    }
+
+    /// The number at `i`.
+    pub(crate) fn number(&self, i: usize) -> u64
+        requires { i < length self.now }
+        ensures { slice_get (keys_of self.now) i ≡ Some result }
+    {
+        self.numbers.get(i)
+    }
+
+    /// What is known at `i`.
+    pub(crate) fn get(&self, i: usize) -> &Described<D>
+        requires { i < length self.now }
+        ensures { slice_get (values_of self.now) i ≡ Some result.now }
+    {
+        &self.known[i]
+    }
+
+    /// Gives a name at `i`, unless one is kept there.
+    pub(crate) fn name(&mut self, i: usize, name: Option<Text>)
+        requires { i < length self.old }
+        ensures { (e : ℕ × Described D) → slice_get self.old i ≡ Some e
+            → self.new ≡ slice_set self.old i (e.0, record e.1 { name = kept_name e.1.name name }) }
+    {
+        keep_name(&mut self.known[i].name, name);
+    }
+
+    /// Puts a number last, with what is known of it.
+    pub(crate) fn push(
+        &mut self,
+        number: u64,
+        name: Option<Text>,
+        value: D,
+    ) -> Result<(), AllocError>
+        requires new { position (nat_eq number) (keys_of self.old) ≡ None }
+        requires room { length self.old + 1 < 2 ^ 32 }
+        ensures { let described : Described D = record { name = name; value = value } in
+            OnOk result (self.new ≡ self.old ++ (number, described) ∷ []) }
+    {
+        self.known.reserve(1)?;
+        self.numbers.push(number)?;
+        self.known.push_reserved(Described { name, value });
+        Ok(())
+    }
+}
