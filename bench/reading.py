@@ -1,10 +1,12 @@
 #!/usr/bin/env python3
 """Measures on the built program how files are read: time and memory as files grow.
 
-Usage: python3 bench/reading.py [--runs N]
+Usage: python3 bench/reading.py [--runs N] [--beside PROGRAM]
 
 Each line says what was measured, the measure and its bound; the last line counts what passed and failed, and the
-status is 1 where something failed. Times are the best of N runs (5 where nothing else is said).
+status is 1 where something failed. Times are the best of N runs (5 where nothing else is said). With PROGRAM, which reads
+the same files for the same words, each kind of file is also measured with it, in turn, and the ratio is printed, of
+the time that passes and of the processor's time; it has no bound.
 """
 import argparse
 import os
@@ -127,28 +129,30 @@ begin = time.perf_counter()
 child = os.posix_spawnp(sys.argv[1], sys.argv[1:], os.environ,
     file_actions=[(os.POSIX_SPAWN_OPEN, fd, "/dev/null", os.O_WRONLY, 0) for fd in (1, 2)])
 _, status, usage = os.wait4(child, 0)
-print(time.perf_counter() - begin, usage.ru_maxrss * 1024, os.waitstatus_to_exitcode(status))
+print(time.perf_counter() - begin, usage.ru_maxrss * 1024, os.waitstatus_to_exitcode(status), usage.ru_utime + usage.ru_stime)
 """
 
 
 def run(words):
-    """The time, the greatest resident memory in bytes, and the status of a call."""
+    """The time, the greatest resident memory in bytes, the status and the processor's time of a call."""
     told = subprocess.run([sys.executable, "-S", "-c", PROBE, *words], capture_output=True, text=True, check=True)
-    seconds, memory, status = told.stdout.split()
-    return float(seconds), int(memory), int(status)
+    seconds, memory, status, work = told.stdout.split()
+    return float(seconds), int(memory), int(status), float(work)
 
 
 def best(words, runs, want):
     results = [run(words) for _ in range(runs)]
-    for _, _, status in results:
-        assert status == want, (words, status)
+    for result in results:
+        assert result[2] == want, (words, result[2])
     return min(r[0] for r in results), max(r[1] for r in results)
 
 
 def main():
     parser = argparse.ArgumentParser()
     parser.add_argument("--runs", type=int, default=5)
-    runs = parser.parse_args().runs
+    parser.add_argument("--beside", metavar="PROGRAM")
+    given = parser.parse_args()
+    runs, beside = given.runs, given.beside
     os.environ["LC_ALL"] = "C"
     failed = passed = 0
 
@@ -169,6 +173,13 @@ def main():
         def solve(path, want=0):
             return best([str(PROGRAM), "solve", path, "--rounds", "0"], runs, want)
 
+        def against_other(what, path):
+            if not beside:
+                return
+            turns = [[run([program, "solve", path, "--rounds", "0"]) for program in (str(PROGRAM), beside)] for _ in range(runs)]
+            time_ratio, work_ratio = (min(ours[k] for ours, _ in turns) / min(other[k] for _, other in turns) for k in (0, 3))
+            print(f"     {what}, against {beside}: {time_ratio:.2f} times the time, {work_ratio:.2f} times the work")
+
         def against_words(what, path, want):
             ours, memory = solve(path, want)
             words, _ = best(["wc", "-w", path], runs, 0)
@@ -185,9 +196,11 @@ def main():
                     report(f"{kind}, {nodes} nodes against half of them", times[nodes] / times[nodes // 2], 2.3, "times")
                 report(f"{kind}, memory at {nodes} nodes beside the file", (memory - size) / nodes, 300, "bytes a node")
             against_words(f"{kind}, {size} bytes", path, 0)
+            against_other(kind, path)
 
         path = write("long_names.efg", wide(524_288, "a name of a node that is somewhat longer"))
         against_words(f"long names, {os.path.getsize(path)} bytes", path, 0)
+        against_other("long names", path)
         for what, (data, want) in hurtful().items():
             against_words(what, write("hurtful.efg", data), want)
 
