@@ -4,7 +4,7 @@ use Rattle.std.specs.Prelude.{◌≡◌, pos, negsuc, [], ◌∷◌}
 use Rattle.def_tree.specs.declared.Kind.TheVariants.{One, Two}
 use Rattle.def_tree.specs.Tree.{Forest, forest_of}
 use Rattle.def_game_scale.specs.Tables.{Tables}
-use Rattle.def_game_scale.specs.Scale.{unit, mass}
+use Rattle.def_game_scale.specs.Scale.{game_mass, game_unit}
 use Rattle.def_plan.specs.Pennies.{pennies}
 use Rattle.def_round.specs.Games.{one_mover, three_actions}
 use Rattle.def_sequence_form.specs.Form.{form_of_game}
@@ -31,8 +31,8 @@ three_actions_tables = record { chance = []; outcomes = paid (pos 0) ∷ [] }
 -- the forms of these trees are those from which the rows of plans, rounds and replies begin
 pub record SmallRows : Type 0 where
   pub pennies_form : form_of_game pennies_tables pennies_tree ≡ pennies
-  pub pennies_unit : unit pennies_tables pennies_tree ≡ 1
-  pub pennies_mass : mass pennies_tables pennies_tree ≡ 4
+  pub pennies_unit : game_unit pennies_tables pennies_tree ≡ 1
+  pub pennies_mass : game_mass pennies_tables pennies_tree ≡ 4
   pub one_mover_form : form_of_game one_mover_tables one_mover_tree ≡ one_mover
   pub three_actions_sets : (form_of_game three_actions_tables three_actions_tree).sets_one ≡ three_actions
-  pub three_actions_mass : mass three_actions_tables three_actions_tree ≡ 0
+  pub three_actions_mass : game_mass three_actions_tables three_actions_tree ≡ 0

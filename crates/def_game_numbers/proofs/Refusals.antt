@@ -6,7 +6,7 @@ use Rattle.def_file.specs.declared.FileFault.{FileFault}
 use Rattle.def_file.specs.Content.{GameFile}
 use Rattle.def_game_paths.specs.Recall.{RecallBreak, recall_break}
 use Rattle.def_game_faults.specs.Faults.{GameFault, or_else, number_fault, of_recall}
-use Rattle.def_plan.specs.Payoff.{mass}
+use Rattle.def_plan.specs.Payoff.{mass_of}
 use Rattle.def_sequence_form.specs.Form.{form_of}
 use Rattle.def_sequence_form.specs.Sets.{TreeSets, sets_or_break, tree_sets, unless_broken}
 use Rattle.def_sequence_form.proofs.Leaves.{form_has_the_mass}
@@ -53,5 +53,5 @@ stands_on_answers game answer sets e f =
       form = ap (λ w. form_of tree w.leaves) (sym given);
       sets_one = ap (λ s. s.one.sets) built;
       sets_two = ap (λ s. s.two.sets) built;
-      mass_is = ap (λ w. mass (form_of tree w.leaves).leaves) (sym given) ∙ form_has_the_mass.of_game (tables_of game) tree ∙ ap (λ w. w.mass) given;
+      mass_is = ap (λ w. mass_of (form_of tree w.leaves).leaves) (sym given) ∙ form_has_the_mass.of_game (tables_of game) tree ∙ ap (λ w. w.mass) given;
     }

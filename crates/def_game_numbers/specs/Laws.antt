@@ -15,7 +15,7 @@ use Rattle.def_game_scale.specs.Scale.{all_expected}
 use Rattle.def_game_scale.specs.Laws.{IsWeightOf}
 use Rattle.def_game_faults.specs.Faults.{GameFault}
 use Rattle.def_game_faults.specs.First.{FirstNumberFault, PassNumbers}
-use Rattle.def_plan.specs.Payoff.{mass}
+use Rattle.def_plan.specs.Payoff.{mass_of}
 use Rattle.def_sequence_form.specs.Form.{form_of, form_of_game}
 use Rattle.def_sequence_form.specs.Sets.{TreeSets, sets_or_break}
 use Rattle.def_game_numbers.specs.Numbers.{GameWeights, file_fault, game_file_fault, tables_of, weigh}
@@ -63,7 +63,7 @@ pub record StandsOnAnswers (game : GameFile) (answer : GameWeights) (sets : Tree
   pub form : form_of game.tree answer.leaves ≡ form_of_game (tables_of game) game.tree
   pub sets_one : (form_of game.tree answer.leaves).sets_one ≡ sets.one.sets
   pub sets_two : (form_of game.tree answer.leaves).sets_two ≡ sets.two.sets
-  pub mass_is : mass (form_of game.tree answer.leaves).leaves ≡ answer.mass
+  pub mass_is : mass_of (form_of game.tree answer.leaves).leaves ≡ answer.mass
 
 abbrev pub FormStandsOnAnswers : Type 0
 FormStandsOnAnswers = (game : GameFile) (answer : GameWeights) (sets : TreeSets) → weigh game ≡ Ok answer → sets_or_break game.tree ≡ Ok sets → StandsOnAnswers game answer sets

@@ -19,7 +19,7 @@ use Rattle.def_game_paths.proofs.Choices.{of_choice}
 use Rattle.def_game_paths.proofs.Counts.{each_sequence_is_in_range}
 use Rattle.def_game_scale.specs.Tables.{Tables}
 use Rattle.def_game_scale.specs.Scale.{all_expected, expected, weights}
-use Rattle.def_plan.specs.Payoff.{mass}
+use Rattle.def_plan.specs.Payoff.{mass_of}
 use Rattle.def_plan.specs.Form.{InformationSet, Leaf}
 use Rattle.def_sequence_form.specs.Form.{LeafEntry, leaf_entry, leaf_list, leaves_with, form_of}
 use Rattle.def_sequence_form.specs.Sets.{player_sets}
@@ -139,19 +139,19 @@ form_has_the_leaf_list tables tree weights game many =
     pair_told : (a b c e : LeafEntry) (l m n o : Leaf) → a ≡ b → c ≡ e → l ≡ m → n ≡ o → TellsChoices a c l n → TellsChoices b e m o
     pair_told a b c e l m n o ab ce lm right h = subst (λ x. TellsChoices x e m o) ab (subst (λ x. TellsChoices a x m o) ce (subst (λ x. TellsChoices a c x o) lm (subst (TellsChoices a c l) right h)))
 
-sizes_of : (leaves : List Leaf) → mass leaves ≡ sum (map unsigned_abs (map (λ (leaf : Leaf). leaf.weight) leaves))
+sizes_of : (leaves : List Leaf) → mass_of leaves ≡ sum (map unsigned_abs (map (λ (leaf : Leaf). leaf.weight) leaves))
 sizes_of [] = refl
 sizes_of (leaf ∷ rest) = ap (λ n. unsigned_abs leaf.weight + n) (sizes_of rest) ∙ sym (sum_by-cons (λ n. n) (unsigned_abs leaf.weight) (map unsigned_abs (map (λ (z : Leaf). z.weight) rest)))
 
-mass_of : (tree : Forest) (weights : List ℤ) → length weights ≡ leaf_count (prefix tree) → mass (form_of tree weights).leaves ≡ sum (map unsigned_abs weights)
-mass_of tree weights many =
+mass_of_weights : (tree : Forest) (weights : List ℤ) → length weights ≡ leaf_count (prefix tree) → mass_of (form_of tree weights).leaves ≡ sum (map unsigned_abs weights)
+mass_of_weights tree weights many =
     let vs : List Visit = leaf_visits tree in
     sizes_of (leaves_with tree vs weights) ∙ ap (λ ws. sum (map unsigned_abs ws)) (weights-leaves_with tree vs weights (many ∙ sym (leaves_counted tree)))
 
 pub form_has_the_mass : FormHasTheMass
 form_has_the_mass = record {
-  of_weights = mass_of;
-  of_game = λ tables tree. mass_of tree (weights tables tree) (length-map (all_expected tables tree) _ ∙ length-map (leaf_visits tree) (expected tables) ∙ leaves_counted tree);
+  of_weights = mass_of_weights;
+  of_game = λ tables tree. mass_of_weights tree (weights tables tree) (length-map (all_expected tables tree) _ ∙ length-map (leaf_visits tree) (expected tables) ∙ leaves_counted tree);
 }
 
 sizes_map : (kind : Kind) (tree : Forest) (vs : List Visit) → map (λ (set : InformationSet). set.actions) (map (set_at kind tree) vs) ≡ map (λ (v : Visit). v.node.children) vs

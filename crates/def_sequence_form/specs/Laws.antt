@@ -9,7 +9,7 @@ use Rattle.def_game_paths.specs.Recall.{HasPerfectRecall, IsFirstBreak, RecallBr
 use Rattle.def_game_paths.specs.Sequences.{choice_of, first_sequence, sequence_at, sequences_before, set_sizes}
 use Rattle.def_game_scale.specs.Tables.{Tables}
 use Rattle.def_game_scale.specs.Scale.{game_mass}
-use Rattle.def_plan.specs.Payoff.{mass}
+use Rattle.def_plan.specs.Payoff.{mass_of}
 use Rattle.def_plan.specs.Form.{InformationSet, PlacedSet, placed, sequence_count, AreInOrder, Leaf, SequenceForm}
 use Rattle.def_sequence_form.specs.Form.{LeafEntry, leaf_list, information_sets, form_of, form_of_game}
 use Rattle.def_sequence_form.specs.Sets.{PlayerSets, TreeSets, tree_sets, sets_or_break}
@@ -75,8 +75,8 @@ FormHasTheLeafList = (tables : Tables) (tree : Forest) (weights : List ℤ) → 
 
 -- the sizes of the form's weights add up to the game's mass
 pub record FormHasTheMass : Type 0 where
-  pub of_weights : (tree : Forest) (weights : List ℤ) → length weights ≡ leaf_count (prefix tree) → mass (form_of tree weights).leaves ≡ sum (map unsigned_abs weights)
-  pub of_game : (tables : Tables) (tree : Forest) → mass (form_of_game tables tree).leaves ≡ game_mass tables tree
+  pub of_weights : (tree : Forest) (weights : List ℤ) → length weights ≡ leaf_count (prefix tree) → mass_of (form_of tree weights).leaves ≡ sum (map unsigned_abs weights)
+  pub of_game : (tables : Tables) (tree : Forest) → mass_of (form_of_game tables tree).leaves ≡ game_mass tables tree
 
 -- what is told of a player's sets: those of the form, and for each node the number of the sequence that ends with the player's last own choice before it
 pub record TellsEachNode (tree : Forest) (kind : Kind) (told : PlayerSets) : Type 0 where
