@@ -42,6 +42,11 @@ own_choices kind [] = []
 own_choices kind (move ∷ rest) =
     if is_same_kind kind move.node.kind then record { set = move.node.set; action = move.action } ∷ own_choices kind rest else own_choices kind rest
 
+-- a player's own choices are all the moves made at the player's nodes, each by its set and its action
+abbrev pub OwnChoicesAreMoves : Type 0
+OwnChoicesAreMoves = (kind : Kind) (path : List Move) →
+    own_choices kind path ≡ map (λ move. record { set = move.node.set; action = move.action }) (filter (λ move. is_same_kind kind move.node.kind) path)
+
 -- the nodes that are visited are those of the tree
 abbrev pub VisitsArePrefix : Type 0
 VisitsArePrefix = (tree : Forest) → map (λ visit. visit.node) (visits tree) ≡ prefix tree

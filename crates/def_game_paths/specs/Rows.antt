@@ -1,6 +1,6 @@
 -- Small games, worked out.
 use Rattle.std.specs.Prelude.{◌≡◌, ℕ, [], ◌∷◌, Some, None, map}
-use Rattle.def_tree.specs.declared.Kind.TheVariants.{One, Two, Leaf}
+use Rattle.def_tree.specs.declared.Kind.TheVariants.{Chance, One, Two, Leaf}
 use Rattle.def_tree.specs.declared.Node.{Node}
 use Rattle.def_tree.specs.Tree.{Forest, forest_of}
 use Rattle.def_tree.specs.Rules.{inner_node}
@@ -22,10 +22,15 @@ absent_partner = forest_of (inner_node One 1 2 ∷ inner_node Two 1 2 ∷ leaf 0
 abbrev pub matching_pennies : Forest
 matching_pennies = forest_of (inner_node One 1 2 ∷ inner_node Two 1 2 ∷ leaf 1 ∷ leaf 2 ∷ inner_node Two 1 2 ∷ leaf 2 ∷ leaf 1 ∷ [])
 
+-- chance comes to one set after two other draws
+abbrev pub forgetful_chance : Forest
+forgetful_chance = forest_of (inner_node Chance 1 2 ∷ inner_node Chance 2 1 ∷ leaf 0 ∷ inner_node Chance 2 1 ∷ leaf 0 ∷ [])
+
 pub record RecallRows : Type 0 where
   pub absent : recall_break absent_driver ≡ Some (record { node = 3; earlier = 1 })
   pub partner : recall_break absent_partner ≡ Some (record { node = 6; earlier = 2 })
   pub pennies : recall_break matching_pennies ≡ None
+  pub chance : recall_break forgetful_chance ≡ None
   pub absent_number : number_break absent_driver ≡ Some (record { node = 3; earlier = 1 })
   pub partner_number : number_break absent_partner ≡ Some (record { node = 6; earlier = 2 })
   pub pennies_number : number_break matching_pennies ≡ None

@@ -1,7 +1,7 @@
 //! The paths through a game's tree: each player's own choices, perfect recall, and the numbers of sequences.
 #![tactic(auto)]
 
-ghost use Rattle.def_game_paths.specs.Paths.{ParentsComeBefore, PathsAreDepths, PathsLeadToNodes, VisitsArePrefix};
+ghost use Rattle.def_game_paths.specs.Paths.{OwnChoicesAreMoves, ParentsComeBefore, PathsAreDepths, PathsLeadToNodes, VisitsArePrefix};
 ghost use Rattle.def_game_paths.specs.Recall.{BreakIsFirst, NoBreakIffRecall};
 ghost use Rattle.def_game_paths.specs.Rows.{RecallRows, SequenceRows};
 ghost use Rattle.def_game_paths.specs.Sequences.{EachSequenceIsInRange, FirstsAreFirst, SequencesAreFew};
@@ -26,6 +26,11 @@ pub fn parents_come_before()
 /// A path has as many moves as its node is below the root.
 pub fn paths_are_depths()
     ensures { PathsAreDepths }
+{}
+
+/// A player's own choices are all the moves made at the player's nodes.
+pub fn own_choices_are_moves()
+    ensures { OwnChoicesAreMoves }
 {}
 
 /// Exactly a tree with perfect recall has no break of it.
