@@ -1,7 +1,8 @@
 #![tactic(auto)]
 //! The faults of a game in a tree, and what a game without one is.
 
-ghost use Rattle.def_game_faults.specs.Laws.{GameFaultIsFirst, NoFaultIsSound, NoNumberFaultIsSound, NumberFaultIsFirst};
+ghost use Rattle.def_game_faults.specs.Laws.{GameFaultIsFirst, NumberFaultIsFirst};
+ghost use Rattle.def_game_faults.specs.Laws.{NoFaultIsSound, NoNumberFaultIsSound};
 ghost use Rattle.def_game_faults.specs.Rows.{FaultlessRows, FaultRows, OrderRows};
 
 /// The fault of the numbers is the first one.

@@ -20,6 +20,10 @@ use Rattle.def_sequence_form.specs.Form.{form_of, form_of_game}
 use Rattle.def_sequence_form.specs.Sets.{TreeSets, sets_or_break}
 use Rattle.def_game_numbers.specs.Numbers.{GameWeights, file_fault, game_file_fault, tables_of, weigh}
 
+-- where a file's fractions are in lowest terms, those of its tables are
+abbrev pub TablesAreFractions : Type 0
+TablesAreFractions = (game : GameFile) → HasFractions game.sets game.outcomes → AreFractions (tables_of game)
+
 -- the unit is the least common multiple of the denominators of reach times payoff, each leaf's weight is unit times reach times payoff, and the mass is the sum of the weights' sizes
 pub record AreWeights (tables : Tables) (tree : Forest) (answer : GameWeights) : Type 0 where
   pub multiple : All (λ f. f.den ∣ answer.unit) (all_expected tables tree)
@@ -31,10 +35,6 @@ pub record AreWeights (tables : Tables) (tree : Forest) (answer : GameWeights) :
 pub record IsWeighed (game : GameFile) : Type 0 where
   pub refused : (fault : FileFault) → (weigh game ≡ Err fault) ↔ ((found : GameFault) × FirstNumberFault (tables_of game) game.tree found × (fault ≡ file_fault found))
   pub accepted : (answer : GameWeights) → (weigh game ≡ Ok answer) ↔ (PassNumbers (tables_of game) game.tree × AreWeights (tables_of game) game.tree answer)
-
--- a file's fractions in lowest terms are those of its tables
-abbrev pub TablesAreFractions : Type 0
-TablesAreFractions = (game : GameFile) → HasFractions game.sets game.outcomes → AreFractions (tables_of game)
 
 abbrev pub WeighsExactly : Type 0
 WeighsExactly = (game : GameFile) → AreFractions (tables_of game) → IsWeighed game

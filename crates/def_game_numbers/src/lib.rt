@@ -1,7 +1,8 @@
 #![tactic(auto)]
 //! The numbers of a game file: what weighing its leaves answers, and the sequence form that stands on it.
 
-ghost use Rattle.def_game_numbers.specs.Laws.{FormStandsOnAnswers, RefusedWithTheFirst, TablesAreFractions, WeighsExactly, WeightsFit};
+ghost use Rattle.def_game_numbers.specs.Laws.{FormStandsOnAnswers, RefusedWithTheFirst};
+ghost use Rattle.def_game_numbers.specs.Laws.{TablesAreFractions, WeighsExactly, WeightsFit};
 ghost use Rattle.def_game_numbers.specs.Rows.{FileRows, HeadRows};
 
 /// Where a file's fractions are in lowest terms, those of its tables are.
