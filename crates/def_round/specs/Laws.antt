@@ -31,6 +31,11 @@ abbrev pub PlaysPositiveRegrets : Type 0
 PlaysPositiveRegrets = (sets : List InformationSet) (regrets : List ℤ)
     → All (λ h. (s t : ℕ) → IsSequenceOf h s → IsSequenceOf h t → pos 0 <ℤ regret_of regrets t → regret_of regrets s ≤ℤ pos 0 → slice_index (play_of sets regrets) s ≡ 0) (placed sets)
 
+-- the positive part of a regret is the regret, or 0 where it isn't positive
+pub record PositivePartsAreExact : Type 0 where
+  pub of_positive : (regret : ℤ) → pos 0 ≤ℤ regret → pos (positive_part regret) ≡ regret
+  pub of_others : (regret : ℤ) → regret ≤ℤ pos 0 → positive_part regret ≡ 0
+
 -- where a set has a positive regret, an action's play is its positive part of the units, out of the sum of the positive
 -- parts, but for less than one unit, and what the first actions get together is rounded down; else all are played evenly
 pub record IsInProportion (regrets : List ℤ) (play : List ℕ) (h : PlacedSet) : Type 0 where

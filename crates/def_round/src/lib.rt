@@ -5,7 +5,7 @@ pub mod sizes;
 
 ghost use Rattle.std.specs.Prelude.{◌≡◌, ◌==◌, [], ◌∷◌, pos, negsuc, if◌then◌else◌};
 ghost use Rattle.def_plan.specs.Pennies.{pennies};
-ghost use Rattle.def_round.specs.Laws.{OwnSumsGainWhatIsPaid, PlansOfPlaysAreUnique, PlaysAreInProportion, PlaysDealByShares, PlaysDealPlans, PlaysGiveAllUnits, PlaysHaveEachSet, PlaysPositiveRegrets, RoundsAreComputed, RoundsFollow, RoundsNeedOwnSums, RoundsSumToPlans, SetValuesAreAverages, ValuesAreUnique, ValuesOfTheRest, ValuesSolveTheEquations, WorthsNeedLaterSets};
+ghost use Rattle.def_round.specs.Laws.{OwnSumsGainWhatIsPaid, PlansOfPlaysAreUnique, PlaysAreInProportion, PlaysDealByShares, PlaysDealPlans, PlaysGiveAllUnits, PlaysHaveEachSet, PlaysPositiveRegrets, PositivePartsAreExact, RoundsAreComputed, RoundsFollow, RoundsNeedOwnSums, RoundsSumToPlans, SetValuesAreAverages, ValuesAreUnique, ValuesOfTheRest, ValuesSolveTheEquations, WorthsNeedLaterSets};
 ghost use Rattle.def_round.specs.Play.{play_of, plan_of_play};
 ghost use Rattle.def_round.specs.Round.{set_value};
 ghost use Rattle.def_round.specs.Rounds.{rounds};
@@ -24,6 +24,11 @@ pub fn plays_give_all_units()
 /// Regret matching plays the actions that are regretted.
 pub fn plays_positive_regrets()
     ensures { PlaysPositiveRegrets }
+{}
+
+/// By how much an action is regretted.
+pub fn positive_parts_are_exact()
+    ensures { PositivePartsAreExact }
 {}
 
 /// And in proportion to what is regretted.
