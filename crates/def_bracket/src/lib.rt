@@ -59,6 +59,14 @@ pub fn trace_of_pennies()
         ∷ record { round = 2; low_round = 1; low = negsuc 0; high_round = 2; high = pos 0 } ∷ [] }
 {}
 
+/// Two rounds of which the second counts twice: 5 over 3 is less than 2 over 1, and 7 over 3 more, so both ends stay.
+pub fn trace_by_divisors()
+    ensures { trace (record { round = 1; divisor = 1; low = pos 2; high = pos 2 }
+        ∷ record { round = 2; divisor = 3; low = pos 5; high = pos 7 } ∷ [])
+        ≡ record { round = 1; low_round = 1; low = pos 2; high_round = 1; high = pos 2 }
+        ∷ record { round = 2; low_round = 1; low = pos 2; high_round = 1; high = pos 2 } ∷ [] }
+{}
+
 /// Rounds that are evaluated.
 pub fn evaluated_rounds_of_short_runs()
     ensures each { evaluated_rounds 1 2 ≡ 1 ∷ 2 ∷ [] }

@@ -10,3 +10,4 @@ pub mod Sums
 pub mod BadSets
 pub mod SizeLaws
 pub mod OrderTest
+pub mod Hanging

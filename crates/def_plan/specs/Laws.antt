@@ -6,7 +6,7 @@ use Rattle.def_tree.specs.declared.Player.TheVariants.{One, Two}
 use Rattle.def_sums.specs.Sum.{nat_sum_over}
 use Rattle.def_sums.specs.Limits.{most_mass, most_scale, most_root}
 use Rattle.def_plan.specs.Form.{InformationSet, PlacedSet, placed, sequences_of, sequence_count, sequences, AreInOrder, Leaf}
-use Rattle.def_plan.specs.Plan.{IsPlan, dealt, DealsWhole, FollowsRules, AreActions, FollowsChoices, pure_plan, added, bad_set, IsBadSet}
+use Rattle.def_plan.specs.Plan.{IsPlan, cleared, IsPlanOrCleared, dealt, DealsWhole, FollowsRules, AreActions, FollowsChoices, pure_plan, added, bad_set, IsBadSet}
 use Rattle.def_plan.specs.Payoff.{pay, leaf_sum, gain, worth, mass_of, IsNoBetter, NoActionIsBetter, PlaysOnlyTight}
 
 -- the empty sequence and then those of each set in turn are all sequences, and a set's place tells its first one
@@ -38,6 +38,16 @@ pub record SumsArePlans : Type 0 where
       → IsPlan sets root plan → IsPlan sets other_root other → IsPlan sets (root + other_root) (added plan other)
   pub each_number : (plan other : List ℕ) (s : ℕ) → length plan ≡ length other → slice_index (added plan other) s ≡ slice_index plan s + slice_index other s
   pub zeros : (plan : List ℕ) → added (replicate (length plan) 0) plan ≡ plan
+
+-- a cleared plan is no plan, adds nothing, and is what sums begin with: sums of plans and cleared ones are plans or cleared
+pub record ClearedPlansAddNothing : Type 0 where
+  pub no_plan : (sets : List InformationSet) (root : ℕ) → ¬ (IsPlan sets root (cleared sets))
+  pub first : (sets : List InformationSet) (plan : List ℕ) → length plan ≡ sequence_count sets → added (cleared sets) plan ≡ plan
+  pub second : (sets : List InformationSet) (plan : List ℕ) → length plan ≡ sequence_count sets → added plan (cleared sets) ≡ plan
+  pub sums : (sets : List InformationSet) (root other_root : ℕ) (plan other : List ℕ)
+      → IsPlanOrCleared sets root plan → IsPlanOrCleared sets other_root other → IsPlanOrCleared sets (root + other_root) (added plan other)
+  pub root : (sets : List InformationSet) (root : ℕ) (plan : List ℕ) → IsPlanOrCleared sets root plan
+      → (length plan ≡ sequence_count sets) × (slice_index plan 0 ≡ root)
 
 -- the payoff is the sum over one player's sequences of leaf sum times number, for either player
 pub record LeafSumsGiveThePayoff : Type 0 where

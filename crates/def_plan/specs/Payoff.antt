@@ -5,7 +5,7 @@ use Rattle.def_tree.specs.declared.Player.{Player}
 use Rattle.def_tree.specs.declared.Player.TheVariants.{One, Two}
 use Rattle.def_tree.specs.Opponent.{opponent}
 use Rattle.def_sums.specs.Sum.{sum_over, nat_sum_over}
-use Rattle.def_plan.specs.Form.{InformationSet, PlacedSet, placed, sequences_of, sequences, Leaf, leaf_sequence}
+use Rattle.def_plan.specs.Form.{InformationSet, PlacedSet, placed, sequences_of, sequence_count, sequences, Leaf, leaf_sequence}
 
 -- the payoff of player one: over all leaves the weight times both players' numbers
 abbrev pub pay : List Leaf → List ℕ → List ℕ → ℤ
@@ -16,6 +16,10 @@ pay leaves plan_one plan_two =
 abbrev pub leaf_sum : Player → List Leaf → List ℕ → ℕ → ℤ
 leaf_sum player leaves against s =
     sum_over (λ z. z.weight *ℤ pos (slice_index against (leaf_sequence (opponent player) z))) (filter (λ z. leaf_sequence player z == s) leaves)
+
+-- two numbers for each sequence that are the same at a player's own sequences
+abbrev pub AgreeOn : List InformationSet → (ℕ → ℤ) → (ℕ → ℤ) → Type 0
+AgreeOn sets sums other = (s : ℕ) → s < sequence_count sets → sums s ≡ other s
 
 -- what a plan gains from a number for each sequence, as the leaf sums are
 abbrev pub gain : (ℕ → ℤ) → List InformationSet → List ℕ → ℤ

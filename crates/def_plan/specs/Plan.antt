@@ -1,5 +1,5 @@
 -- Realisation plans in whole numbers (von Stengel 1996).
-use Rattle.std.specs.Prelude.{◌≡◌, ℕ, zero, suc, ◌+◌, ◌-◌, ◌≤◌, ◌<◌, nat_le, List, [], ◌∷◌, ◌++◌, map, length, take, slice_index, slice_index_or, All, zip, ◌==◌, ◌&&◌, if◌then◌else◌, Option, Some, None}
+use Rattle.std.specs.Prelude.{◌≡◌, ℕ, zero, suc, ◌+◌, ◌-◌, ◌≤◌, ◌<◌, nat_le, List, [], ◌∷◌, ◌++◌, map, length, take, replicate, slice_index, slice_index_or, All, zip, ◌==◌, ◌&&◌, if◌then◌else◌, Option, Some, None}
 use Rattle.std.specs.List.{range_with_len, AllZip}
 use Rattle.def_sums.specs.Sum.{nat_sum_over}
 use Rattle.def_plan.specs.Form.{InformationSet, PlacedSet, placed, sequences_of, sequence_count}
@@ -14,6 +14,15 @@ pub record IsPlan (sets : List InformationSet) (root : ℕ) (plan : List ℕ) : 
   pub some_root : 1 ≤ root
   pub root_weight : slice_index plan 0 ≡ root
   pub each_set : All (AddsUp plan) (placed sets)
+
+-- nothing is dealt yet: the root is 0, and so is each number
+abbrev pub cleared : List InformationSet → List ℕ
+cleared sets = replicate (sequence_count sets) 0
+
+-- a plan, or a cleared one, whose root is 0
+abbrev pub IsPlanOrCleared : List InformationSet → ℕ → List ℕ → Type 0
+IsPlanOrCleared sets zero plan = plan ≡ cleared sets
+IsPlanOrCleared sets (suc root) plan = IsPlan sets (suc root) plan
 
 -- deals the sets in turn: at each one its rule makes of the number of the sequence before it the numbers of its sequences
 abbrev pub dealt_onto : List ℕ → List InformationSet → List (ℕ → List ℕ) → List ℕ

@@ -7,7 +7,7 @@ ghost use Rattle.def_plan.specs.Plan.{bad_set, pure_plan, added};
 ghost use Rattle.def_tree.specs.declared.Player.TheVariants.{One, Two};
 ghost use Rattle.def_plan.specs.Payoff.{pay, leaf_sum, mass_of};
 ghost use Rattle.def_plan.specs.Pennies.{pennies, one_set};
-ghost use Rattle.def_plan.specs.Laws.{SequencesAreNumbered, DealingMakesPlans, ChoicesMakeAPlan, SumsArePlans, LeafSumsGiveThePayoff, WeakDuality, ComplementarySlackness, BadSetIsExact, PlansAreSmall};
+ghost use Rattle.def_plan.specs.Laws.{SequencesAreNumbered, DealingMakesPlans, ChoicesMakeAPlan, ClearedPlansAddNothing, SumsArePlans, LeafSumsGiveThePayoff, WeakDuality, ComplementarySlackness, BadSetIsExact, PlansAreSmall};
 
 /// The numbers of the sequences.
 pub fn sequences_are_numbered()
@@ -27,6 +27,11 @@ pub fn choices_make_a_plan()
 /// Sums of plans.
 pub fn sums_are_plans()
     ensures { SumsArePlans }
+{}
+
+/// Plans of which nothing is dealt yet.
+pub fn cleared_plans_add_nothing()
+    ensures { ClearedPlansAddNothing }
 {}
 
 /// The payoff by leaf sums.

@@ -3,3 +3,4 @@ pub mod Equations
 pub mod Optimal
 pub mod BoundLaws
 pub mod ReplySizes
+pub mod OwnSums

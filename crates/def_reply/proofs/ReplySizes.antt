@@ -1,5 +1,5 @@
 -- How large the values of a best reply are. The sizes of the values that come directly after the sequences so far are at most the sizes of the leaf sums from there on.
-use Rattle.std.proofs.Common.{◌≡◌, ℕ, suc, ◌+◌, ◌≤◌, ◌<◌, Bool, true, false, cond, eqb, ltb, List, [], ◌∷◌, zip, filter, ℤ, unsigned_abs, All, arith, ap, ◌∙◌, refl, subst, ⊎_elim}
+use Rattle.std.proofs.Common.{◌≡◌, ℕ, ◌+◌, ◌≤◌, ◌<◌, cond, eqb, List, [], ◌∷◌, zip, filter, ℤ, unsigned_abs, All, arith, ap, ◌∙◌, subst, ⊎_elim}
 use Rattle.std.specs.List.{range_with_len}
 use Rattle.std.proofs.lemmas.Bool.{cases_lt}
 use Rattle.std.proofs.lemmas.Bool.Decides.{nat_tests}
@@ -8,8 +8,9 @@ use Rattle.def_tree.specs.declared.Player.{Player}
 use Rattle.def_tree.specs.declared.Player.TheVariants.{One, Two}
 use Rattle.def_sums.specs.Sum.{nat_sum_over}
 use Rattle.def_sums.proofs.RingLaws.{unsigned_abs-+ℤ}
-use Rattle.def_sums.proofs.SumLaws.{unsigned_abs-sum_over, nat_sum_over-append}
-use Rattle.def_sums.proofs.Ranges.{at_most_sum, range-append}
+use Rattle.def_sums.proofs.SumLaws.{unsigned_abs-sum_over}
+use Rattle.def_sums.proofs.Ranges.{at_most_sum}
+use Rattle.def_plan.proofs.Hanging.{hanging, after, kept, after-hanging, after-first, from, from-cons, all_sums}
 use Rattle.def_plan.proofs.SizeLaws.{leaf_sums-below, of_an_evaluation}
 use Rattle.def_plan.specs.Form.{InformationSet, PlacedSet, placed_from, placed, sequence_count, sequences, IsInOrder, AreInOrder}
 use Rattle.def_plan.specs.Plan.{chosen}
@@ -18,44 +19,9 @@ use Rattle.def_reply.specs.Reply.{SetReply, values_of, replies_at, best_reply, t
 use Rattle.def_reply.specs.Laws.{BoundsAreSmall}
 use Rattle.def_reply.proofs.Equations.{head_of, head-first_tight, chosen-at}
 
-abbrev size : PlacedSet × ℤ → ℕ
-size p = unsigned_abs p.1
-
--- the values of sets whose sequence before is earlier than `first`
-abbrev hanging : ℕ → List (PlacedSet × ℤ) → ℕ
-hanging first zs = nat_sum_over (λ p. cond (ltb p.0.before first) (size p) 0) zs
-
-abbrev after : ℕ → List (PlacedSet × ℤ) → ℕ
-after s zs = nat_sum_over size (filter (λ p. eqb p.0.before s) zs)
-
-kept : (b : Bool) (p : PlacedSet × ℤ) (ps : List (PlacedSet × ℤ)) → nat_sum_over size (cond b (p ∷ ps) ps) ≡ cond b (size p) 0 + nat_sum_over size ps
-kept true p ps = refl
-kept false p ps = omega arith
-
-at_one : (b s first next v : ℕ) → first ≤ s → s < next → cond (eqb b s) v 0 + cond (ltb b first) v 0 ≤ cond (ltb b next) v 0
-at_one b s first next v low high = grind (arith, nat_tests)
-
-after-hanging : (s first next : ℕ) (zs : List (PlacedSet × ℤ)) → first ≤ s → s < next → after s zs + hanging first zs ≤ hanging next zs
-after-hanging s first next [] low high = omega arith
-after-hanging s first next (p ∷ ps) low high =
-    omega (arith, kept (eqb p.0.before s) p (filter (λ q. eqb q.0.before s) ps), at_one p.0.before s first next (size p) low high, after-hanging s first next ps low high)
-
-after-first : (b first v : ℕ) → b < first → cond (ltb b first) v 0 ≡ v
-after-first b first v low = grind (arith, nat_tests)
-
 worth-size : (sums : ℕ → ℤ) (hs : List PlacedSet) (vs : List ℤ) (s : ℕ) → unsigned_abs (worth sums hs vs s) ≤ unsigned_abs (sums s) + after s (zip hs vs)
 worth-size sums hs vs s =
     omega (arith, unsigned_abs-+ℤ (sums s) (values_after hs vs s), unsigned_abs-sum_over (λ (p : PlacedSet × ℤ). p.1) (filter (λ p. eqb p.0.before s) (zip hs vs)))
-
--- the leaf sums from a sequence on
-abbrev from : (ℕ → ℤ) → ℕ → List InformationSet → ℕ
-from sums first hs = nat_sum_over (λ s. unsigned_abs (sums s)) (range_with_len first (nat_sum_over (λ h. h.actions) hs))
-
-from-cons : (sums : ℕ → ℤ) (first : ℕ) (h : InformationSet) (hs : List InformationSet)
-    → from sums first (h ∷ hs) ≡ nat_sum_over (λ s. unsigned_abs (sums s)) (range_with_len first h.actions) + from sums (first + h.actions) hs
-from-cons sums first h hs =
-    ap (nat_sum_over (λ s. unsigned_abs (sums s))) (range-append first h.actions (nat_sum_over (λ g. g.actions) hs))
-    ∙ nat_sum_over-append (λ s. unsigned_abs (sums s)) (range_with_len first h.actions) (range_with_len (first + h.actions) (nat_sum_over (λ g. g.actions) hs))
 
 pub record Bounded (player : Player) (sums : ℕ → ℤ) (first : ℕ) (hs : List InformationSet) : Type 0 where
   pub hangs : hanging first (zip (placed_from first hs) (values_of (replies_at player sums (placed_from first hs)))) ≤ from sums first hs
@@ -85,12 +51,6 @@ bounded player sums first (h ∷ hs) order =
       values = All-cons (λ q. unsigned_abs q.value ≤ from sums first (h ∷ hs)) r rs (omega arith)
           (All-weaker (λ q. unsigned_abs q.value ≤ from sums (first + h.actions) hs) (λ q. unsigned_abs q.value ≤ from sums first (h ∷ hs)) (λ q le. omega (arith, from-cons sums first h hs)) rs ih.values);
     }
-
--- all leaf sums
-all_sums : (sums : ℕ → ℤ) (sets : List InformationSet) → nat_sum_over (λ s. unsigned_abs (sums s)) (sequences sets) ≡ unsigned_abs (sums 0) + from sums 1 sets
-all_sums sums sets =
-    let one_first : sequence_count sets ≡ suc (nat_sum_over (λ h. h.actions) sets) = omega arith in
-    ap (λ n. nat_sum_over (λ s. unsigned_abs (sums s)) (range_with_len 0 n)) one_first
 
 pub values-below : (player : Player) (sums : ℕ → ℤ) (sets : List InformationSet) → AreInOrder sets
     → All (λ r. unsigned_abs r.value ≤ nat_sum_over (λ s. unsigned_abs (sums s)) (sequences sets)) (best_reply player sums sets)

@@ -6,7 +6,7 @@ use Rattle.def_sums.specs.Sum.{nat_sum_over}
 use Rattle.def_sums.specs.Limits.{most_mass, most_root}
 use Rattle.def_plan.specs.Form.{InformationSet, placed, sequence_count, sequences, AreInOrder, SequenceForm}
 use Rattle.def_plan.specs.Plan.{IsPlan, pure_plan}
-use Rattle.def_plan.specs.Payoff.{gain, leaf_sum, mass_of, IsNoBetter}
+use Rattle.def_plan.specs.Payoff.{AgreeOn, gain, leaf_sum, mass_of, IsNoBetter}
 use Rattle.def_reply.specs.Reply.{SetReply, values_of, choices_of, replies_at, best_reply, total, AreTight, AreFirstTight}
 use Rattle.def_reply.specs.Bounds.{IsFloor, IsCeiling, AttainsFloor, AttainsCeiling}
 
@@ -16,6 +16,13 @@ pub record RepliesSolveTheirEquations : Type 0 where
   pub only : (player : Player) (sums : ℕ → ℤ) (sets : List InformationSet) (replies : List SetReply)
       → AreInOrder sets → AreFirstTight player sums sets replies → replies ≡ best_reply player sums sets
   pub from_set : (player : Player) (sums : ℕ → ℤ) (sets : List InformationSet) (k : ℕ) → drop k (best_reply player sums sets) ≡ replies_at player sums (drop k (placed sets))
+
+-- a reply needs the sums at its player's own sequences alone
+pub record RepliesNeedOwnSums : Type 0 where
+  pub replies : (player : Player) (sums other : ℕ → ℤ) (sets : List InformationSet) → AgreeOn sets sums other → best_reply player sums sets ≡ best_reply player other sets
+  pub totals : (sums other : ℕ → ℤ) (sets : List InformationSet) (replies : List SetReply) → AgreeOn sets sums other → total sums sets replies ≡ total other sets replies
+  pub tight : (player : Player) (sums other : ℕ → ℤ) (sets : List InformationSet) (replies : List SetReply) → AgreeOn sets sums other
+      → AreTight player sums sets replies → AreTight player other sets replies
 
 -- values and choices that are tight bound every plan of every root by their total, and the plan of the choices gains just that, whoever wrote them
 pub record TightRepliesAreOptimal : Type 0 where

@@ -7,11 +7,16 @@ ghost use Rattle.def_tree.specs.declared.Player.TheVariants.{One, Two};
 ghost use Rattle.def_plan.specs.Payoff.{leaf_sum};
 ghost use Rattle.def_plan.specs.Pennies.{pennies};
 ghost use Rattle.def_reply.specs.Reply.{best_reply, values_of, choices_of, total};
-ghost use Rattle.def_reply.specs.Laws.{RepliesSolveTheirEquations, TightRepliesAreOptimal, BestRepliesAreOptimal, TightRepliesGiveBounds, BestRepliesGiveBounds, AttainedBoundsAreBest, FloorsAreBelowCeilings, RepliesAreSmall, BoundsAreSmall};
+ghost use Rattle.def_reply.specs.Laws.{RepliesNeedOwnSums, RepliesSolveTheirEquations, TightRepliesAreOptimal, BestRepliesAreOptimal, TightRepliesGiveBounds, BestRepliesGiveBounds, AttainedBoundsAreBest, FloorsAreBelowCeilings, RepliesAreSmall, BoundsAreSmall};
 
 /// The best reply by its equations.
 pub fn replies_solve_their_equations()
     ensures { RepliesSolveTheirEquations }
+{}
+
+/// What a reply is made from.
+pub fn replies_need_own_sums()
+    ensures { RepliesNeedOwnSums }
 {}
 
 /// Values and choices that hold up, whoever wrote them.

@@ -8,13 +8,6 @@ use Rattle.std.proofs.Math.Seq.{drop-cons}
 use Rattle.def_sums.specs.Sum.{nat_sum_over}
 use Rattle.def_plan.specs.Form.{InformationSet, PlacedSet, placed_from, sequences_of}
 
--- functions that agree at each number of a row
-pub map-range_same : {A : Type 0} (f g : ℕ → A) (a n : ℕ) → ((s : ℕ) → a ≤ s → s < a + n → f s ≡ g s) → map f (range_with_len a n) ≡ map g (range_with_len a n)
-map-range_same f g a zero same = refl
-map-range_same f g a (suc n) same =
-    ap (λ x. x ∷ map f (range_with_len (a + 1) n)) (same a (omega arith) (omega arith))
-    ∙ ap (λ xs. g a ∷ xs) (map-range_same f g (a + 1) n (λ s low high. same s (omega arith) (omega arith)))
-
 -- two functions with one list of values at a row agree there
 pub same_at : {A : Type 0} (f g : ℕ → A) (a n : ℕ) → map f (range_with_len a n) ≡ map g (range_with_len a n) → (s : ℕ) → a ≤ s → s < a + n → f s ≡ g s
 same_at f g a n same s low high =

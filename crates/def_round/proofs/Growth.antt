@@ -19,7 +19,7 @@ use Rattle.def_round.specs.Round.{utility, own_sum, round_values, set_regrets, r
 use Rattle.def_round.specs.Rounds.{Standing, rounds}
 use Rattle.def_round.proofs.Plays.{plays_all_units, plays_deal_plans}
 use Rattle.def_round.specs.Sizes.{size_of_sums, IsWithin, IsWithinRunLimits}
-use Rattle.def_round.specs.SizeLaws.{OwnSumsAreSmall, RegretsGrowSlowly, RoundsAreSmall, PlayProductsAreSmall, RegretsAreSmall, DealsWithin, DealtProductsAreSmall}
+use Rattle.def_round.specs.SizeLaws.{OwnSumsAreSmall, RegretsGrowSlowly, RoundsAreSmall, PlayProductsAreSmall, RegretsAreSmall, RegretsGrowByTheSums, RegretsStaySmall, DealsWithin, DealtProductsAreSmall}
 use Rattle.def_round.proofs.Trees.{values_within}
 
 utility_size : (player : Player) (payoff : ℤ) → unsigned_abs (utility player payoff) ≡ unsigned_abs payoff
@@ -48,17 +48,26 @@ at_each bound regrets all s =
     ⊎_elim (λ low. all s (pos 0) low) (λ past. subst (λ r. unsigned_abs r ≤ bound) (sym (get_or_past regrets s (pos 0) past)) (omega arith)) (cases_lt s (length regrets))
 
 one_round : (sums : ℕ → ℤ) (play : List ℕ) (sets : List InformationSet) (before : List ℤ) (so_far bound : ℕ) → AreInOrder sets → GivesAllUnits play sets
-    → size_of_sums sums sets ≤ bound → All (λ r. unsigned_abs r ≤ so_far) before → All (λ r. unsigned_abs r ≤ so_far + bound) (regrets_after sums play sets before)
+    → size_of_sums sums sets ≤ bound → ((s : ℕ) → unsigned_abs (regret_of before s) ≤ so_far) → All (λ r. unsigned_abs r ≤ so_far + bound) (regrets_after sums play sets before)
 one_round sums play sets before so_far bound order whole le small =
     All-cons (λ r. unsigned_abs r ≤ so_far + bound) (pos 0) (flat_map (λ p. set_regrets sums (placed sets) (round_values sums play sets) before p.0 p.1) (zip (placed sets) (round_values sums play sets))) (omega arith)
     (All-blocks (λ r. unsigned_abs r ≤ so_far + bound) (λ h v. set_regrets sums (placed sets) (round_values sums play sets) before h v) (placed sets) (round_values sums play sets)
     (AllZip-weaker (IsWithin (size_of_sums sums sets) sums play sets (round_values sums play sets)) (λ h v. All (λ r. unsigned_abs r ≤ so_far + bound) (set_regrets sums (placed sets) (round_values sums play sets) before h v))
     (λ h v is. All-map (λ r. unsigned_abs r ≤ so_far + bound) (λ s. regret_of before s +ℤ (worth sums (placed sets) (round_values sums play sets) s -ℤ v)) (sequences_of h)
-    (λ k d low. grows (regret_of before (get_or (sequences_of h) k d)) (worth sums (placed sets) (round_values sums play sets) (get_or (sequences_of h) k d) -ℤ v) (at_each so_far before small (get_or (sequences_of h) k d)) (is.each_growth k d low)))
+    (λ k d low. grows (regret_of before (get_or (sequences_of h) k d)) (worth sums (placed sets) (round_values sums play sets) (get_or (sequences_of h) k d) -ℤ v) (small (get_or (sequences_of h) k d)) (is.each_growth k d low)))
     (placed sets) (round_values sums play sets) (values_within sums play sets order whole)))
   where
     grows : (r g : ℤ) → unsigned_abs r ≤ so_far → unsigned_abs g ≤ size_of_sums sums sets → unsigned_abs (r +ℤ g) ≤ so_far + bound
     grows r g h k = omega (arith, ints, le)
+
+pub regrets_grow_by_the_sums : RegretsGrowByTheSums
+regrets_grow_by_the_sums sums play sets before so_far bound order whole le small =
+    at_each (so_far + bound) (regrets_after sums play sets before) (one_round sums play sets before so_far bound order whole le small)
+
+pub regrets_stay_small : RegretsStaySmall
+regrets_stay_small sums play sets before rounds_so_far order whole le few small =
+    let grow = regrets_grow_by_the_sums sums play sets before (rounds_so_far * 2 ^ 82) (2 ^ 82) order whole le small in
+    record { by_rounds = λ s. let g = grow s in omega (arith, g); at_most = λ s. let g = grow s in omega (arith, g, few) }
 
 -- ---- all rounds
 record AllWithin (bound : ℕ) (standing : Standing) : Type 0 where
@@ -82,10 +91,10 @@ rounds_within form root (suc n) order_one order_two some =
     record {
       of_one = subst (λ b. All (λ r. unsigned_abs r ≤ b) (regrets_after (own_sum One form.leaves plan_two) play_one form.sets_one before.regrets_one)) more
           (one_round (own_sum One form.leaves plan_two) play_one form.sets_one before.regrets_one (n * bound) bound order_one (plays_all_units form.sets_one before.regrets_one order_one)
-          (own_sums_small One form.leaves form.sets_one form.sets_two root plan_two order_two (plays_deal_plans form.sets_two play_two root order_two some)) so_far.of_one);
+          (own_sums_small One form.leaves form.sets_one form.sets_two root plan_two order_two (plays_deal_plans form.sets_two play_two root order_two some)) (at_each (n * bound) before.regrets_one so_far.of_one));
       of_two = subst (λ b. All (λ r. unsigned_abs r ≤ b) (regrets_after (own_sum Two form.leaves plan_one) play_two form.sets_two before.regrets_two)) more
           (one_round (own_sum Two form.leaves plan_one) play_two form.sets_two before.regrets_two (n * bound) bound order_two (plays_all_units form.sets_two before.regrets_two order_two)
-          (own_sums_small Two form.leaves form.sets_two form.sets_one root plan_one order_one (plays_deal_plans form.sets_one play_one root order_one some)) so_far.of_two);
+          (own_sums_small Two form.leaves form.sets_two form.sets_one root plan_one order_one (plays_deal_plans form.sets_one play_one root order_one some)) (at_each (n * bound) before.regrets_two so_far.of_two));
     }
 
 pub regrets_grow_slowly : RegretsGrowSlowly
@@ -116,7 +125,8 @@ part_size : (r : ℤ) → positive_part r ≤ unsigned_abs r
 part_size (pos n) = omega arith
 part_size (negsuc n) = omega arith
 
-deals_within : (sets : List InformationSet) (regrets : List ℤ) → ((s : ℕ) → unsigned_abs (regret_of regrets s) ≤ 2 ^ 98) → DealsWithin sets regrets
+-- all units times a set's positive regrets, where none is above 2 ^ 98
+pub deals_within : (sets : List InformationSet) (regrets : List ℤ) → ((s : ℕ) → unsigned_abs (regret_of regrets s) ≤ 2 ^ 98) → DealsWithin sets regrets
 deals_within sets regrets small = record {
   each_set = λ k d below few.
       let h : PlacedSet = get_or (placed sets) k d in

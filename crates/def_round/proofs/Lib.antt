@@ -9,3 +9,5 @@ pub mod Trees
 pub mod Growth
 pub mod Proportion
 pub mod Following
+pub mod OwnSums
+pub mod Parts

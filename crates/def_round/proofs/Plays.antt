@@ -7,7 +7,7 @@ use Rattle.std.proofs.lemmas.List.FromFn.{length-map-range_with_len, get_or-map-
 use Rattle.std.proofs.lemmas.Int.{ints}
 use Rattle.std.proofs.lemmas.List.Elements.{All-head, All-tail, All-cons, All-nil}
 use Rattle.def_sums.specs.Sum.{nat_sum_over}
-use Rattle.def_sums.proofs.Ranges.{at_most_sum}
+use Rattle.def_sums.proofs.Ranges.{at_most_sum, map-range_same}
 use Rattle.def_plan.specs.Form.{InformationSet, PlacedSet, placed_from, placed, sequences_of, IsInOrder}
 use Rattle.def_plan.specs.Plan.{dealt_onto, DealsWhole}
 use Rattle.def_plan.proofs.Rules.{dealt-only}
@@ -15,8 +15,8 @@ use Rattle.def_plan.proofs.Dealing.{IsDealt, dealt_onto-is_dealt, dealt-is_plan}
 use Rattle.def_shares.specs.Shares.{weight_sum}
 use Rattle.def_shares.proofs.SharesLaws.{length-shares, shares_whole, no_weight_no_share}
 use Rattle.def_round.specs.Play.{units, positive_part, regret_of, set_play, play_of, play_rule}
-use Rattle.def_round.specs.Laws.{PlaysPositiveRegrets, PlaysHaveEachSet, PlaysGiveAllUnits, PlaysDealPlans, PlaysDealByShares, PlansOfPlaysAreUnique}
-use Rattle.def_round.proofs.Blocks.{map-range_same, map-block, blocks, length-blocks}
+use Rattle.def_round.specs.Laws.{PlaysPositiveRegrets, PlaysHaveEachSet, PlaysGiveAllUnits, PlaysDealPlans, PlaysDealByShares, PlansOfPlaysAreUnique, PositivePartsAreExact}
+use Rattle.def_round.proofs.Blocks.{map-block, blocks, length-blocks}
 
 length-set_play : (regrets : List ℤ) (h : PlacedSet) → length (set_play regrets h) ≡ h.actions
 length-set_play regrets h =
@@ -49,6 +49,13 @@ plays_all_units sets regrets order k d below =
 no_part : (r : ℤ) → r ≤ℤ pos 0 → positive_part r ≡ 0
 no_part (pos n) h = omega (arith, ints)
 no_part (negsuc n) h = refl
+
+own_part : (r : ℤ) → pos 0 ≤ℤ r → pos (positive_part r) ≡ r
+own_part (pos n) h = refl
+own_part (negsuc n) h = absurd (omega (arith, ints))
+
+pub positive_parts_are_exact : PositivePartsAreExact
+positive_parts_are_exact = record { of_positive = own_part; of_others = no_part }
 
 some_part : (r : ℤ) → pos 0 <ℤ r → 1 ≤ positive_part r
 some_part (pos n) h = omega (arith, ints)

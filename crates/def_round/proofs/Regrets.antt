@@ -4,13 +4,13 @@ use Rattle.std.specs.Prelude.{ℤ, pos, ◌+ℤ◌, ◌-ℤ◌}
 use Rattle.std.specs.List.{AllZip}
 use Rattle.std.proofs.lemmas.List.FromFn.{length-map-range_with_len}
 use Rattle.std.proofs.Math.Seq.{drop-cons}
-use Rattle.def_sums.proofs.Ranges.{All-range, range-All}
+use Rattle.def_sums.proofs.Ranges.{All-range, range-All, map-range_same}
 use Rattle.def_plan.specs.Form.{InformationSet, PlacedSet, placed_from, placed, sequences_of}
 use Rattle.def_plan.specs.Payoff.{worth}
 use Rattle.def_round.specs.Play.{regret_of}
 use Rattle.def_round.specs.Round.{round_values, AddsRegrets, IsRound, set_regrets, regrets_with, regrets_after}
 use Rattle.def_round.specs.Laws.{RoundsAreComputed}
-use Rattle.def_round.proofs.Blocks.{map-range_same, same_at, blocks_zip, length-blocks_zip, drop-blocks_zip}
+use Rattle.def_round.proofs.Blocks.{same_at, blocks_zip, length-blocks_zip, drop-blocks_zip}
 use Rattle.def_round.proofs.Values.{values_solve, values_are_unique, length-values_from}
 
 AllZip-weaker : {A B : Type 0} (R S : A → B → Type 0) → ((a : A) (b : B) → R a b → S a b) → (xs : List A) (ys : List B) → AllZip R xs ys → AllZip S xs ys

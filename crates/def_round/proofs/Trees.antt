@@ -11,6 +11,7 @@ use Rattle.def_sums.proofs.RingLaws.{unsigned_abs-+ℤ}
 use Rattle.def_sums.proofs.Ranges.{All-range, at_most_sum, range-append}
 use Rattle.def_plan.specs.Form.{InformationSet, PlacedSet, placed_from, placed, sequences_of, IsInOrder}
 use Rattle.def_plan.specs.Payoff.{worth, values_after}
+use Rattle.def_plan.proofs.Hanging.{hanging}
 use Rattle.def_round.specs.Play.{units}
 use Rattle.def_round.specs.Round.{set_value, values_from, round_values}
 use Rattle.def_round.proofs.Values.{AreEarlier, worth_at_set, one_more_earlier, none_earlier}
@@ -18,14 +19,21 @@ use Rattle.def_round.specs.Sizes.{size_of_sums, IsWithin}
 use Rattle.def_round.specs.SizeLaws.{ValuesAreWithinSums, WorthsAreWithinSums}
 use Rattle.def_round.proofs.Averages.{value_within, growth_within, products_within}
 
--- the sizes of the values of the sets directly after s, and of those after a sequence below b
+-- the sizes of the values of the sets directly after s
 after_at : ℕ → List (PlacedSet × ℤ) → ℕ
 after_at s [] = 0
 after_at s (p ∷ ps) = cond (eqb p.0.before s) (unsigned_abs p.1) 0 + after_at s ps
 
-after_below : ℕ → List (PlacedSet × ℤ) → ℕ
+-- the sizes of the values of the sets after a sequence below b
+pub after_below : ℕ → List (PlacedSet × ℤ) → ℕ
 after_below b [] = 0
 after_below b (p ∷ ps) = cond (ltb p.0.before b) (unsigned_abs p.1) 0 + after_below b ps
+
+-- which is what hangs on them
+pub hanging_below : (b : ℕ) (ps : List (PlacedSet × ℤ)) → hanging b ps ≡ after_below b ps
+unfolding after_below
+hanging_below b [] = refl
+hanging_below b (p ∷ ps) = ap (λ n. cond (ltb p.0.before b) (unsigned_abs p.1) 0 + n) (hanging_below b ps)
 
 one_further : (b : ℕ) (ps : List (PlacedSet × ℤ)) → after_below b ps + after_at b ps ≡ after_below (b + 1) ps
 unfolding after_below after_at
@@ -71,7 +79,7 @@ worths_size sums hs values first n =
     omega (arith, each, nat_sum_over-add (λ s. unsigned_abs (sums s)) (λ s. after_at s (zip hs values)) (range_with_len first n), further first n (zip hs values))
 
 -- the sets from one on that come after earlier sequences
-tree_size : (sums : ℕ → ℤ) (play : List ℕ) (first : ℕ) (sets : List InformationSet) → All (λ h. nat_sum_over (λ s. slice_index play s) (sequences_of h) ≡ units) (placed_from first sets)
+pub tree_size : (sums : ℕ → ℤ) (play : List ℕ) (first : ℕ) (sets : List InformationSet) → All (λ h. nat_sum_over (λ s. slice_index play s) (sequences_of h) ≡ units) (placed_from first sets)
     → after_below first (zip (placed_from first sets) (values_from sums play (placed_from first sets))) ≤ nat_sum_over (λ s. unsigned_abs (sums s)) (range_with_len first (nat_sum_over (λ h. h.actions) sets))
 unfolding after_below
 tree_size sums play first [] all = omega arith

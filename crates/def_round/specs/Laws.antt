@@ -4,8 +4,8 @@ use Rattle.std.specs.List.{range_with_len}
 use Rattle.def_sums.specs.Sum.{sum_over, nat_sum_over}
 use Rattle.def_sums.specs.Floor.{IsFloorOf}
 use Rattle.def_plan.specs.Form.{InformationSet, PlacedSet, placed, sequences_of, sequence_count, AreInOrder, SequenceForm}
-use Rattle.def_plan.specs.Plan.{IsPlan}
-use Rattle.def_plan.specs.Payoff.{worth, gain, pay}
+use Rattle.def_plan.specs.Plan.{IsPlan, cleared}
+use Rattle.def_plan.specs.Payoff.{AgreeOn, worth, gain, pay}
 use Rattle.def_tree.specs.declared.Player.TheVariants.{One, Two}
 use Rattle.def_shares.specs.Shares.{shares}
 use Rattle.def_shares.specs.Laws.{IsWithinOne}
@@ -30,6 +30,11 @@ PlaysGiveAllUnits = (sets : List InformationSet) (regrets : List ℤ) → AreInO
 abbrev pub PlaysPositiveRegrets : Type 0
 PlaysPositiveRegrets = (sets : List InformationSet) (regrets : List ℤ)
     → All (λ h. (s t : ℕ) → IsSequenceOf h s → IsSequenceOf h t → pos 0 <ℤ regret_of regrets t → regret_of regrets s ≤ℤ pos 0 → slice_index (play_of sets regrets) s ≡ 0) (placed sets)
+
+-- the positive part of a regret is the regret, or 0 where it isn't positive
+pub record PositivePartsAreExact : Type 0 where
+  pub of_positive : (regret : ℤ) → pos 0 ≤ℤ regret → pos (positive_part regret) ≡ regret
+  pub of_others : (regret : ℤ) → regret ≤ℤ pos 0 → positive_part regret ≡ 0
 
 -- where a set has a positive regret, an action's play is its positive part of the units, out of the sum of the positive
 -- parts, but for less than one unit, and what the first actions get together is rounded down; else all are played evenly
@@ -90,6 +95,13 @@ abbrev pub ValuesOfTheRest : Type 0
 ValuesOfTheRest = (sums : ℕ → ℤ) (play : List ℕ) (sets : List InformationSet) (k : ℕ)
     → drop k (round_values sums play sets) ≡ values_from sums play (drop k (placed sets))
 
+-- a round needs the sums at its player's own sequences alone
+pub record RoundsNeedOwnSums : Type 0 where
+  pub values : (sums other : ℕ → ℤ) (play : List ℕ) (sets : List InformationSet) → AgreeOn sets sums other
+      → round_values sums play sets ≡ round_values other play sets
+  pub regrets : (sums other : ℕ → ℤ) (play : List ℕ) (sets : List InformationSet) (before : List ℤ) → AgreeOn sets sums other
+      → regrets_after sums play sets before ≡ regrets_after other play sets before
+
 -- the worth of a sequence that isn't before those of a set needs the sets after that set alone
 abbrev pub WorthsNeedLaterSets : Type 0
 WorthsNeedLaterSets = (sums : ℕ → ℤ) (sets : List InformationSet) (values : List ℤ) → AreInOrder sets → length values ≡ length sets
@@ -105,8 +117,8 @@ RoundsAreComputed = (sums : ℕ → ℤ) (play : List ℕ) (sets : List Informat
 pub record IsOpening (form : SequenceForm) (standing : Standing) : Type 0 where
   pub regrets_of_one : standing.regrets_one ≡ replicate (sequence_count form.sets_one) (pos 0)
   pub regrets_of_two : standing.regrets_two ≡ replicate (sequence_count form.sets_two) (pos 0)
-  pub sum_of_one : standing.sum_one ≡ replicate (sequence_count form.sets_one) 0
-  pub sum_of_two : standing.sum_two ≡ replicate (sequence_count form.sets_two) 0
+  pub sum_of_one : standing.sum_one ≡ cleared form.sets_one
+  pub sum_of_two : standing.sum_two ≡ cleared form.sets_two
 
 -- the sums after a round have what they had before and the plan of the round
 pub record GrowsBy (before plan after : List ℕ) : Type 0 where

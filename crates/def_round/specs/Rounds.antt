@@ -3,7 +3,7 @@
 use Rattle.std.specs.Prelude.{ℕ, zero, suc, ℤ, pos, List, replicate}
 use Rattle.def_tree.specs.declared.Player.TheVariants.{One, Two}
 use Rattle.def_plan.specs.Form.{SequenceForm, sequence_count}
-use Rattle.def_plan.specs.Plan.{added}
+use Rattle.def_plan.specs.Plan.{cleared, added}
 use Rattle.def_round.specs.Play.{play_of, plan_of_play}
 use Rattle.def_round.specs.Round.{own_sum, regrets_after}
 
@@ -18,8 +18,8 @@ abbrev pub opening : SequenceForm → Standing
 opening form = record {
   regrets_one = replicate (sequence_count form.sets_one) (pos 0);
   regrets_two = replicate (sequence_count form.sets_two) (pos 0);
-  sum_one = replicate (sequence_count form.sets_one) 0;
-  sum_two = replicate (sequence_count form.sets_two) 0;
+  sum_one = cleared form.sets_one;
+  sum_two = cleared form.sets_two;
 }
 
 -- what a round with these plays and these plans leaves

@@ -1,12 +1,14 @@
 -- The sizes on which fixed widths rest.
-use Rattle.std.specs.Prelude.{ℕ, ◌*◌, ◌^◌, ◌≤◌, ◌<◌, ℤ, unsigned_abs, List, All}
+use Rattle.std.specs.Prelude.{ℕ, ◌+◌, ◌*◌, ◌^◌, ◌≤◌, ◌<◌, ◌==◌, ℤ, unsigned_abs, List, zip, filter, All}
 use Rattle.std.specs.List.{AllZip}
+use Rattle.def_sums.specs.Limits.{most_rounds}
+use Rattle.def_sums.specs.Sum.{nat_sum_over}
 use Rattle.def_tree.specs.declared.Player.{Player}
 use Rattle.def_plan.specs.Form.{InformationSet, placed, sequence_count, AreInOrder, SequenceForm, Leaf}
 use Rattle.def_plan.specs.Plan.{IsPlan}
 use Rattle.def_plan.specs.Payoff.{worth, mass_of}
-use Rattle.def_round.specs.Play.{units, GivesAllUnits}
-use Rattle.def_round.specs.Round.{own_sum, round_values}
+use Rattle.def_round.specs.Play.{units, regret_of, GivesAllUnits}
+use Rattle.def_round.specs.Round.{own_sum, round_values, regrets_after}
 use Rattle.def_round.specs.Rounds.{rounds}
 use Rattle.def_round.specs.Sizes.{size_of_sums, IsWithin, RegretsAreWithin, IsWithinRunLimits, dealt_product}
 
@@ -23,6 +25,29 @@ ValuesAreWithinSums = (sums : ℕ → ℤ) (play : List ℕ) (sets : List Inform
 abbrev pub WorthsAreWithinSums : Type 0
 WorthsAreWithinSums = (sums : ℕ → ℤ) (play : List ℕ) (sets : List InformationSet) → AreInOrder sets → GivesAllUnits play sets
     → (s : ℕ) → s < sequence_count sets → unsigned_abs (worth sums (placed sets) (round_values sums play sets) s) ≤ size_of_sums sums sets
+
+-- the parts of the sum that a worth is, together, stay within the same bound, so any part of the sum does
+abbrev pub WorthPartsAreWithinSums : Type 0
+WorthPartsAreWithinSums = (sums : ℕ → ℤ) (play : List ℕ) (sets : List InformationSet) → AreInOrder sets → GivesAllUnits play sets
+    → (s : ℕ) → s < sequence_count sets
+    → unsigned_abs (sums s) + nat_sum_over (λ p. unsigned_abs p.1) (filter (λ p. p.0.before == s) (zip (placed sets) (round_values sums play sets))) ≤ size_of_sums sums sets
+
+-- a round adds at most the leaf sums together to a regret, whatever regrets and plays it begins with
+abbrev pub RegretsGrowByTheSums : Type 0
+RegretsGrowByTheSums = (sums : ℕ → ℤ) (play : List ℕ) (sets : List InformationSet) (before : List ℤ) (so_far bound : ℕ) → AreInOrder sets → GivesAllUnits play sets
+    → size_of_sums sums sets ≤ bound → ((s : ℕ) → unsigned_abs (regret_of before s) ≤ so_far)
+    → (s : ℕ) → unsigned_abs (regret_of (regrets_after sums play sets before) s) ≤ so_far + bound
+
+-- so with leaf sums that are together at most 2 ^ 82, and regrets within that times the rounds so far, one more round
+-- keeps them within that, and at most 2 ^ 98
+pub record StaySmall (after : List ℤ) (rounds_so_far : ℕ) : Type 0 where
+  pub by_rounds : (s : ℕ) → unsigned_abs (regret_of after s) ≤ (rounds_so_far + 1) * 2 ^ 82
+  pub at_most : (s : ℕ) → unsigned_abs (regret_of after s) ≤ 2 ^ 98
+
+abbrev pub RegretsStaySmall : Type 0
+RegretsStaySmall = (sums : ℕ → ℤ) (play : List ℕ) (sets : List InformationSet) (before : List ℤ) (rounds_so_far : ℕ) → AreInOrder sets → GivesAllUnits play sets
+    → size_of_sums sums sets ≤ 2 ^ 82 → rounds_so_far < most_rounds → ((s : ℕ) → unsigned_abs (regret_of before s) ≤ rounds_so_far * 2 ^ 82)
+    → StaySmall (regrets_after sums play sets before) rounds_so_far
 
 -- a round adds at most the mass times the root to a regret
 abbrev pub RegretsGrowSlowly : Type 0
@@ -49,6 +74,9 @@ pub record DealsWithin (sets : List InformationSet) (regrets : List ℤ) : Type 
 pub record BothDealWithin (form : SequenceForm) (root n : ℕ) : Type 0 where
   pub of_one : DealsWithin form.sets_one (rounds form root n).regrets_one
   pub of_two : DealsWithin form.sets_two (rounds form root n).regrets_two
+
+abbrev pub SmallRegretsDealSmallProducts : Type 0
+SmallRegretsDealSmallProducts = (sets : List InformationSet) (regrets : List ℤ) → ((s : ℕ) → unsigned_abs (regret_of regrets s) ≤ 2 ^ 98) → DealsWithin sets regrets
 
 abbrev pub DealtProductsAreSmall : Type 0
 DealtProductsAreSmall = (form : SequenceForm) (root n : ℕ) → AreInOrder form.sets_one → AreInOrder form.sets_two → 1 ≤ root → IsWithinRunLimits form root n

@@ -5,7 +5,7 @@ pub mod sizes;
 
 ghost use Rattle.std.specs.Prelude.{◌≡◌, ◌==◌, [], ◌∷◌, pos, negsuc, if◌then◌else◌};
 ghost use Rattle.def_plan.specs.Pennies.{pennies};
-ghost use Rattle.def_round.specs.Laws.{OwnSumsGainWhatIsPaid, PlansOfPlaysAreUnique, PlaysAreInProportion, PlaysDealByShares, PlaysDealPlans, PlaysGiveAllUnits, PlaysHaveEachSet, PlaysPositiveRegrets, RoundsAreComputed, RoundsFollow, RoundsSumToPlans, SetValuesAreAverages, ValuesAreUnique, ValuesOfTheRest, ValuesSolveTheEquations, WorthsNeedLaterSets};
+ghost use Rattle.def_round.specs.Laws.{OwnSumsGainWhatIsPaid, PlansOfPlaysAreUnique, PlaysAreInProportion, PlaysDealByShares, PlaysDealPlans, PlaysGiveAllUnits, PlaysHaveEachSet, PlaysPositiveRegrets, PositivePartsAreExact, RoundsAreComputed, RoundsFollow, RoundsNeedOwnSums, RoundsSumToPlans, SetValuesAreAverages, ValuesAreUnique, ValuesOfTheRest, ValuesSolveTheEquations, WorthsNeedLaterSets};
 ghost use Rattle.def_round.specs.Play.{play_of, plan_of_play};
 ghost use Rattle.def_round.specs.Round.{set_value};
 ghost use Rattle.def_round.specs.Rounds.{rounds};
@@ -24,6 +24,11 @@ pub fn plays_give_all_units()
 /// Regret matching plays the actions that are regretted.
 pub fn plays_positive_regrets()
     ensures { PlaysPositiveRegrets }
+{}
+
+/// By how much an action is regretted.
+pub fn positive_parts_are_exact()
+    ensures { PositivePartsAreExact }
 {}
 
 /// And in proportion to what is regretted.
@@ -74,6 +79,11 @@ pub fn values_of_the_rest()
 /// So a worth is complete once the sets after its own set are done.
 pub fn worths_need_later_sets()
     ensures { WorthsNeedLaterSets }
+{}
+
+/// What a round is made from.
+pub fn rounds_need_own_sums()
+    ensures { RoundsNeedOwnSums }
 {}
 
 /// The regrets after a round, by the equations and by the computation.

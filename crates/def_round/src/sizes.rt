@@ -1,6 +1,6 @@
 //! How large the numbers of rounds can be, on which fixed widths rest.
 
-ghost use Rattle.def_round.specs.SizeLaws.{DealtProductsAreSmall, OwnSumsAreSmall, PlayProductsAreSmall, RegretsAreSmall, RegretsGrowSlowly, RoundsAreSmall, ValuesAreWithinSums, WorthsAreWithinSums};
+ghost use Rattle.def_round.specs.SizeLaws.{DealtProductsAreSmall, OwnSumsAreSmall, PlayProductsAreSmall, RegretsAreSmall, RegretsGrowByTheSums, RegretsGrowSlowly, RegretsStaySmall, RoundsAreSmall, SmallRegretsDealSmallProducts, ValuesAreWithinSums, WorthPartsAreWithinSums, WorthsAreWithinSums};
 
 /// A player's leaf sums against a plan.
 pub fn own_sums_are_small()
@@ -15,6 +15,26 @@ pub fn values_are_within_sums()
 /// The worth of each sequence, the empty one too.
 pub fn worths_are_within_sums()
     ensures { WorthsAreWithinSums }
+{}
+
+/// And of each part of such a sum.
+pub fn worth_parts_are_within_sums()
+    ensures { WorthPartsAreWithinSums }
+{}
+
+/// What one round can make of any regrets.
+pub fn regrets_grow_by_the_sums()
+    ensures { RegretsGrowByTheSums }
+{}
+
+/// Under the limits: what one more round can make of them.
+pub fn regrets_stay_small()
+    ensures { RegretsStaySmall }
+{}
+
+/// Under the limits: the products by which the units are dealt, for any regrets.
+pub fn small_regrets_deal_small_products()
+    ensures { SmallRegretsDealSmallProducts }
 {}
 
 /// What some rounds can make of a regret.

@@ -2,11 +2,12 @@
 //! worked rows.
 #![tactic(auto)]
 
-ghost use Rattle.std.specs.Prelude.{◌≡◌, [], ◌∷◌, pos, negsuc};
+ghost use Rattle.std.specs.Prelude.{◌≡◌, [], ◌∷◌, Some, pos, negsuc};
 ghost use Rattle.def_plan.specs.Pennies.{pennies};
 ghost use Rattle.def_round.specs.Games.{one_mover};
 ghost use Rattle.def_bracket.specs.Bracket.{trace};
-ghost use Rattle.def_run.specs.Run.{evaluations};
+ghost use Rattle.def_bracket.specs.Offers.{board_after};
+ghost use Rattle.def_run.specs.Run.{evaluations, offers};
 ghost use Rattle.def_run.specs.Laws.{EndsAreInOrder, EndsAreOfTheirRounds, EndsBoundAllPlans, EvaluationsAreBounds, GapIsExploitability, OffersOfRunAreFair, OutcomesShowTheirRun, RunsHaveEnds, TraceOfRunLooksBack, TraceOfRunNeverWidens};
 
 /// What an evaluation proves of the sums of plans.
@@ -71,4 +72,12 @@ pub fn trace_of_pennies()
     ensures { trace (evaluations pennies 1 1 2)
         ≡ record { round = 1; low_round = 1; low = negsuc 0; high_round = 1; high = pos 1 }
         ∷ record { round = 2; low_round = 1; low = negsuc 0; high_round = 2; high = pos 0 } ∷ [] }
+{}
+
+/// Matching pennies, two rounds with plans of root 1: each end keeps the plan of its own round and the reply to it.
+pub fn ends_of_pennies()
+    ensures lower { (board_after (offers pennies 1 1 2)).lower ≡ Some (record { round = 1; divisor = 1; plan = 1 ∷ 0 ∷ 1 ∷ [];
+        reply = record { total = negsuc 0; sets = record { value = negsuc 0; choice = 1 } ∷ [] } }) }
+    ensures upper { (board_after (offers pennies 1 1 2)).upper ≡ Some (record { round = 2; divisor = 2; plan = 2 ∷ 1 ∷ 1 ∷ [];
+        reply = record { total = pos 0; sets = record { value = pos 0; choice = 1 } ∷ [] } }) }
 {}

@@ -1,5 +1,5 @@
 -- Sums over numbers in a row, `range_with_len first count`.
-use Rattle.std.proofs.Common.{◌≡◌, ℕ, zero, suc, ◌+◌, ◌-◌, ◌≤◌, ◌<◌, Bool, true, false, cond, eqb, List, [], ◌∷◌, ◌++◌, length, get_or, slice_index, ℤ, pos, ◌+ℤ◌, All, arith, ap, sym, ◌∙◌, refl, eqb-true, ne_eqb, subst, ⊎_elim, filter}
+use Rattle.std.proofs.Common.{◌≡◌, ℕ, zero, suc, ◌+◌, ◌-◌, ◌≤◌, ◌<◌, Bool, true, false, cond, eqb, List, [], ◌∷◌, ◌++◌, map, length, get_or, slice_index, ℤ, pos, ◌+ℤ◌, All, arith, ap, sym, ◌∙◌, refl, eqb-true, ne_eqb, subst, ⊎_elim, filter}
 use Rattle.std.proofs.lemmas.Bool.{eqb-false}
 use Rattle.std.proofs.lemmas.Bool.Decides.{eqb_tells}
 use Rattle.std.proofs.lemmas.List.{get_or-append-add}
@@ -113,3 +113,10 @@ nat_gathered key v a n (z ∷ zs) =
       nat_pick (v z) (key z) a n,
       nat_gathered key v a n zs,
     )
+
+-- functions that agree at each number of a row
+pub map-range_same : {A : Type 0} (f g : ℕ → A) (a n : ℕ) → ((s : ℕ) → a ≤ s → s < a + n → f s ≡ g s) → map f (range_with_len a n) ≡ map g (range_with_len a n)
+map-range_same f g a zero same = refl
+map-range_same f g a (suc n) same =
+    ap (λ x. x ∷ map f (range_with_len (a + 1) n)) (same a (omega arith) (omega arith))
+    ∙ ap (λ xs. g a ∷ xs) (map-range_same f g (a + 1) n (λ s low high. same s (omega arith) (omega arith)))
