@@ -1,28 +1,26 @@
 -- The certificate of a run holds up.
-use Rattle.std.proofs.Common.{◌≡◌, ℕ, zero, suc, ◌+◌, ◌-◌, ◌*◌, ◌≤◌, ◌<◌, List, [], ◌∷◌, ◌++◌, length, get_or, slice_index, take, drop, ℤ, pos, ◌*ℤ◌, Option, Some, None, Ok, refl, sym, ap, ◌∙◌, subst, arith}
-use Rattle.std.specs.Option.{option_map}
+use Rattle.std.proofs.Common.{◌≡◌, ℕ, ◌+◌, ◌-◌, ◌*◌, ◌≤◌, List, [], ◌∷◌, ◌++◌, length, get_or, slice_index, take, drop, ℤ, pos, Some, Ok, refl, sym, ap, ◌∙◌, subst, arith}
 use Rattle.std.specs.List.{AllZip}
-use Rattle.std.proofs.lemmas.Nat.{mul-le}
 use Rattle.std.proofs.lemmas.Option.{none-some}
-use Rattle.std.proofs.lemmas.List.{length-append, length-take, length-drop, take-append-drop, take_all}
+use Rattle.std.proofs.lemmas.List.{length-take, length-drop, take-append-drop, take_all}
 use Rattle.def_tree.specs.declared.Player.{Player}
 use Rattle.def_tree.specs.declared.Player.TheVariants.{One, Two}
 use Rattle.def_sums.specs.Sum.{nat_sum_over}
-use Rattle.def_fraction.specs.Fraction.{Fraction, fraction_of}
-use Rattle.def_plan.specs.Form.{InformationSet, AreInOrder, SequenceForm, player_sets}
+use Rattle.def_fraction.specs.Fraction.{fraction_of}
+use Rattle.def_plan.specs.Form.{InformationSet, AreInOrder, player_sets}
 use Rattle.def_plan.specs.Plan.{IsPlan}
 use Rattle.def_plan.specs.Payoff.{leaf_sum}
-use Rattle.def_reply.specs.Reply.{best_reply_to, Reply, best_reply}
+use Rattle.def_reply.specs.Reply.{best_reply_to}
 use Rattle.def_reply.proofs.Optimal.{best-tight}
 use Rattle.def_round.specs.Rounds.{rounds}
-use Rattle.def_bracket.specs.Bracket.{Evaluation, BracketEnds, ends_of, TraceLine, trace_line, trace, LiesWithin}
+use Rattle.def_bracket.specs.Bracket.{Evaluation, BracketEnds, ends_of, TraceLine, trace_line, trace}
 use Rattle.def_bracket.proofs.TraceLines.{trace_lines, never_widens}
 use Rattle.def_bracket.specs.Outcome.{Head}
-use Rattle.def_run.specs.Run.{outcome, reply_to, total_against, evaluation, evaluations}
+use Rattle.def_run.specs.Run.{outcome, total_against, evaluation, evaluations}
 use Rattle.def_run.proofs.RunLaws.{evaluations_are_bounds, ends_are_of_their_rounds, rounds_of}
-use Rattle.def_cert_verdict.specs.Certificate.{PrintedPlan, PrintedBounds, Certificate, joined, numbers_of, no_line, last_line}
-use Rattle.def_cert_verdict.specs.Verdict.{WeighedGame, Verdict, head_only, bracket, verdict}
-use Rattle.def_cert_verdict.specs.Laws.{IsHeadOf, HoldsAsPlan, HoldsAsTotal, HoldsAsReply, HoldsUp, NeverWidens}
+use Rattle.def_cert_verdict.specs.Certificate.{PrintedPlan, PrintedBounds, joined, printed_numbers, no_line, last_line}
+use Rattle.def_cert_verdict.specs.Verdict.{WeighedGame, head_only, bracket, verdict}
+use Rattle.def_cert_verdict.specs.Laws.{HoldsAsPlan, HoldsAsReply, HoldsUp}
 use Rattle.def_cert_verdict.proofs.Decided.{exact}
 use Rattle.def_cert_accepted.specs.OfOutcome.{by_sets, printed_plan, certificate_of}
 use Rattle.def_cert_accepted.specs.Laws.{TheCertificateOfARunIsAccepted}
@@ -43,7 +41,7 @@ joined_by_sets (h ∷ hs) xs e =
     ap (λ (ys : List ℕ). take h.actions xs ++ ys) (joined_by_sets hs (drop h.actions xs) (omega (arith, length-drop h.actions xs))) ∙ take-append-drop h.actions xs
 
 -- what is printed of a plan has its numbers
-pub numbers_back : (sets : List InformationSet) (plan : List ℕ) → length plan ≡ 1 + total_actions sets → numbers_of (printed_plan sets plan) ≡ plan
+pub numbers_back : (sets : List InformationSet) (plan : List ℕ) → length plan ≡ 1 + total_actions sets → printed_numbers (printed_plan sets plan) ≡ plan
 numbers_back sets [] e = absurd (omega arith)
 numbers_back sets (x ∷ xs) e = ap (λ (ys : List ℕ). x ∷ ys) (joined_by_sets sets xs (omega arith))
 
@@ -57,9 +55,9 @@ plan_holds sets root plan h =
     }
 
 -- ---- replies
-reply_holds : (game : WeighedGame) (player : Player) (plan : List ℕ) (printed : PrintedPlan) (traced : ℤ) → AreInOrder (player_sets game.form player) → numbers_of printed ≡ plan
+reply_holds : (game : WeighedGame) (player : Player) (plan : List ℕ) (printed : PrintedPlan) (traced : ℤ) → AreInOrder (player_sets game.form player) → printed_numbers printed ≡ plan
     → printed.root ≡ slice_index plan 0 → total_against game.form player plan ≡ traced
-    → HoldsAsReply player (leaf_sum player game.form.leaves (numbers_of printed)) (player_sets game.form player) (best_reply_to game.form player plan) traced
+    → HoldsAsReply player (leaf_sum player game.form.leaves (printed_numbers printed)) (player_sets game.form player) (best_reply_to game.form player plan) traced
     (fraction_of (total_against game.form player plan) (game.unit * slice_index plan 0)) (game.unit * printed.root)
 reply_holds game player plan printed traced order back root is =
     subst (λ (ys : List ℕ). HoldsAsReply player (leaf_sum player game.form.leaves ys) (player_sets game.form player) (best_reply_to game.form player plan) traced

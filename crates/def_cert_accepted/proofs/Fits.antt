@@ -1,6 +1,5 @@
 -- The numbers of the certificate of a run are within their ranges.
-use Rattle.std.proofs.Common.{◌≡◌, ℕ, zero, suc, ◌+◌, ◌-◌, ◌*◌, ◌/◌, ◌^◌, ◌≤◌, ◌<◌, min, List, [], ◌∷◌, ◌++◌, map, length, get_or, slice_index, take, drop, All, ℤ, pos, ◌*ℤ◌, unsigned_abs, Option, Some, None, refl, sym, ap, ◌∙◌, subst, arith}
-use Rattle.std.specs.Option.{option_map}
+use Rattle.std.proofs.Common.{◌≡◌, ℕ, zero, suc, ◌+◌, ◌-◌, ◌*◌, ◌/◌, ◌^◌, ◌≤◌, ◌<◌, min, List, [], ◌∷◌, map, length, get_or, slice_index, take, drop, All, ℤ, pos, unsigned_abs, Option, Some, None, refl, sym, ap, ◌∙◌, subst, arith}
 use Rattle.std.specs.List.{AllZip, range_with_len}
 use Rattle.std.proofs.Math.Nat.{div-le_self}
 use Rattle.std.proofs.lemmas.Nat.{mul-le}
@@ -13,31 +12,29 @@ use Rattle.def_tree.specs.declared.Player.TheVariants.{One, Two}
 use Rattle.def_sums.specs.Limits.{most_mass, most_rounds, most_scale, most_root}
 use Rattle.def_sums.specs.Sum.{nat_sum_over}
 use Rattle.def_fraction.specs.Divisors.{gcd}
-use Rattle.def_fraction.specs.Fraction.{Fraction, fraction_of}
+use Rattle.def_fraction.specs.Fraction.{fraction_of}
 use Rattle.def_fraction.proofs.FractionLemmas.{fraction_of-reduced, unsigned_abs-without_factor}
 use Rattle.def_plan.specs.Form.{InformationSet, PlacedSet, placed_from, placed, IsInOrder, AreInOrder, SequenceForm, player_sets}
 use Rattle.def_plan.specs.Plan.{IsPlan}
 use Rattle.def_plan.specs.Payoff.{leaf_sum, worth, mass_of}
 use Rattle.def_plan.proofs.SizeLaws.{plan-below_root, leaf_sums-below}
-use Rattle.def_reply.specs.Reply.{best_reply_to, Reply, SetReply, values_of, best_reply, IsTight}
+use Rattle.def_reply.specs.Reply.{best_reply_to, SetReply, values_of, best_reply, IsTight}
 use Rattle.def_reply.proofs.Optimal.{best-tight}
 use Rattle.def_reply.proofs.ReplySizes.{values-below, total-below}
 use Rattle.def_round.specs.Rounds.{rounds}
-use Rattle.def_bracket.specs.Bracket.{Evaluation, BracketEnds, ends_of, TraceLine, trace_line, trace, evaluated_rounds}
+use Rattle.def_bracket.specs.Bracket.{Evaluation, BracketEnds, ends_of, TraceLine, trace, evaluated_rounds}
 use Rattle.def_bracket.specs.Laws.{HaveDivisors, RoundsAreEvaluated}
 use Rattle.def_bracket.specs.Outcome.{Head}
 use Rattle.def_bracket.proofs.EvaluatedRounds.{rounds as rounds_are}
 use Rattle.def_bracket.proofs.BestEnds.{best_ends}
 use Rattle.def_bracket.proofs.TraceLines.{trace_lines}
-use Rattle.def_run.specs.Run.{outcome, reply_to, total_against, evaluation, evaluations}
+use Rattle.def_run.specs.Run.{outcome, total_against, evaluation, evaluations}
 use Rattle.def_run.proofs.RunLaws.{evaluations_are_bounds, ends_are_of_their_rounds, rounds_of, runs_have_ends}
-use Rattle.def_cert_verdict.specs.Certificate.{PrintedPlan, PrintedBounds, Certificate}
 use Rattle.def_cert_verdict.specs.Verdict.{WeighedGame}
-use Rattle.def_cert_verdict.specs.Laws.{IsHeadOf}
-use Rattle.def_cert_ranges.specs.Ranges.{IsFromTo, most_actions, most_unit, most_printed, IsPrintable, HeadFits, LineFits, TraceFits, WeightsFit, PlanFits, ReplyFits, BoundFits, BoundsFit, CertificateFits, FitsBelowHead}
+use Rattle.def_cert_ranges.specs.Ranges.{IsFromTo, most_actions, most_unit, IsPrintable, HeadFits, LineFits, WeightsFit, PlanFits, ReplyFits, BoundFits, BoundsFit, CertificateFits}
 use Rattle.def_cert_accepted.specs.Laws.{TheCertificateOfARunFits}
-use Rattle.def_cert_accepted.specs.OfOutcome.{by_sets, printed_plan, printed_bound, certificate_of}
-use Rattle.def_cert_accepted.proofs.OfRun.{own_head, same_head, ends_at, bounds_of_run, certificate_with, certificate_without}
+use Rattle.def_cert_accepted.specs.OfOutcome.{by_sets, printed_plan, certificate_of}
+use Rattle.def_cert_accepted.proofs.OfRun.{own_head, same_head, bounds_of_run, certificate_with, certificate_without}
 
 times : (a b p q : ℕ) → a ≤ p → b ≤ q → a * b ≤ p * q
 times a b p q h k = mul-le a b p q h k

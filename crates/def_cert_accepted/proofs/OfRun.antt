@@ -1,15 +1,14 @@
 -- The certificate of a run, by its evaluations.
-use Rattle.std.proofs.Common.{◌≡◌, ℕ, ◌+◌, ◌*◌, ◌≤◌, List, [], ◌∷◌, length, Option, Some, None, refl, sym, ap, ◌∙◌}
-use Rattle.std.specs.Option.{option_map}
+use Rattle.std.proofs.Common.{◌≡◌, ℕ, List, length, Option, Some, None, refl, ap, ◌∙◌}
 use Rattle.def_tree.specs.declared.Player.TheVariants.{One, Two}
 use Rattle.def_plan.specs.Form.{SequenceForm, sequence_count}
 use Rattle.def_plan.specs.Payoff.{mass_of}
 use Rattle.def_reply.specs.Reply.{Reply, best_reply_to}
 use Rattle.def_round.specs.Rounds.{rounds}
 use Rattle.def_bracket.specs.Bracket.{BracketEnds, ends_of, TraceLine, trace}
-use Rattle.def_bracket.specs.Outcome.{Head, End, OutcomeEnds, Outcome}
+use Rattle.def_bracket.specs.Outcome.{Head, OutcomeEnds, Outcome}
 use Rattle.def_run.specs.Run.{evaluations, outcome}
-use Rattle.def_run.specs.Laws.{HasPlansOf, OutcomesShowTheirRun}
+use Rattle.def_run.specs.Laws.{HasPlansOf}
 use Rattle.def_run.proofs.EndLaws.{outcomes_show_their_run}
 use Rattle.def_cert_verdict.specs.Certificate.{PrintedBounds, Certificate}
 use Rattle.def_cert_verdict.specs.Verdict.{WeighedGame}

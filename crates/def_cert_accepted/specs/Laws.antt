@@ -1,5 +1,5 @@
 -- What holds of the certificate of a run. Each law is the contract of a function of this crate.
-use Rattle.std.specs.Prelude.{◌≡◌, ℕ, ◌*◌, ◌≤◌, All, Some, Ok}
+use Rattle.std.specs.Prelude.{◌≡◌, ◌*◌, ◌≤◌, All, Some, Ok}
 use Rattle.def_fraction.specs.Fraction.{fraction_of}
 use Rattle.def_plan.specs.Form.{AreInOrder}
 use Rattle.def_bracket.specs.Bracket.{BracketEnds, ends_of}

@@ -1,5 +1,5 @@
 -- Sizes of what a checker sums.
-use Rattle.std.proofs.Common.{◌≡◌, ℕ, zero, suc, ◌+◌, ◌-◌, ◌*◌, ◌^◌, ◌≤◌, ◌<◌, ◌↔◌, min, List, [], ◌∷◌, ◌++◌, map, filter, zip, length, get_or, slice_index, Option, Some, None, Ok, Bool, true, false, cond, All, ℤ, pos, ◌*ℤ◌, ◌+ℤ◌, unsigned_abs, eqb, refl, sym, ap, ◌∙◌, subst, arith}
+use Rattle.std.proofs.Common.{◌≡◌, ℕ, zero, suc, ◌+◌, ◌-◌, ◌*◌, ◌^◌, ◌≤◌, ◌↔◌, List, [], ◌∷◌, filter, zip, length, get_or, slice_index, Option, Some, None, Ok, Bool, true, false, cond, All, ℤ, pos, ◌*ℤ◌, ◌+ℤ◌, unsigned_abs, eqb, refl, ap, ◌∙◌, arith}
 use Rattle.std.proofs.lemmas.Int.{unsigned_abs-mul}
 use Rattle.std.proofs.lemmas.Nat.{mul-le}
 use Rattle.std.proofs.lemmas.List.Elements.{All-append, All-cons, All-nil, All-head, All-tail}
@@ -8,17 +8,16 @@ use Rattle.def_tree.specs.Opponent.{opponent}
 use Rattle.def_sums.specs.Sum.{nat_sum_over, sum_over}
 use Rattle.def_sums.proofs.RingLaws.{unsigned_abs-+ℤ}
 use Rattle.def_sums.proofs.SumLaws.{sum_over-filter, nat_sum_over-bounded, nat_sum_over-mono, nat_sum_over-factor, unsigned_abs-sum_over}
-use Rattle.def_plan.specs.Form.{InformationSet, PlacedSet, placed, Leaf, leaf_sequence}
-use Rattle.def_plan.specs.Payoff.{leaf_sum, values_after, worth, mass_of}
+use Rattle.def_plan.specs.Form.{PlacedSet, placed, Leaf, leaf_sequence}
+use Rattle.def_plan.specs.Payoff.{leaf_sum, values_after, mass_of}
 use Rattle.def_reply.specs.Reply.{Reply, SetReply, values_of}
 use Rattle.def_bracket.specs.Bracket.{TraceLine}
 use Rattle.def_bracket.specs.Outcome.{Head}
-use Rattle.def_cert_verdict.specs.Certificate.{PrintedPlan, PrintedBounds, Certificate, joined, numbers_of}
+use Rattle.def_cert_verdict.specs.Certificate.{PrintedBounds, joined, printed_numbers}
 use Rattle.def_cert_verdict.specs.Verdict.{WeighedGame, Verdict, head_only, bracket, verdict}
-use Rattle.def_cert_verdict.specs.Laws.{with_bounds, without_bounds}
 use Rattle.def_cert_verdict.proofs.Decided.{exact}
-use Rattle.def_cert_ranges.specs.Ranges.{LineFits, TraceFits, WeightsFit, PlanFits, ReplyFits, HeadFits, CertificateFits, FitsBelowHead}
-use Rattle.def_cert_ranges.specs.Laws.{ProductsOfLines, TraceProductsAreSmall, SumsOfPlan, PlanSumsAreSmall, SumsOfReply, WorthsAreSmall, HeadAloneWithoutRounds}
+use Rattle.def_cert_ranges.specs.Ranges.{WeightsFit, ReplyFits, FitsBelowHead}
+use Rattle.def_cert_ranges.specs.Laws.{TraceProductsAreSmall, PlanSumsAreSmall, WorthsAreSmall, HeadAloneWithoutRounds}
 
 product_size : (a : ℤ) (n : ℕ) → unsigned_abs (a *ℤ pos n) ≡ unsigned_abs a * n
 product_size a n = unsigned_abs-mul a (pos n)
@@ -110,7 +109,7 @@ all_values sets reply few fits =
 
 pub worths : WorthsAreSmall
 worths player leaves sets plan_sets reply_sets plan reply light fits few fit =
-    let xs : List ℕ = numbers_of plan in
+    let xs : List ℕ = printed_numbers plan in
     let small : (s : ℕ) → slice_index xs s ≤ 2 ^ 36 = read_small (2 ^ 36) xs (All-cons (λ n. n ≤ 2 ^ 36) plan.root (joined plan.weights) fits.root.1 (joined_small plan.weights fits.each)) in
     let of_leaves = all_leaves player leaves xs small light in
     let of_values = all_values reply_sets reply few fit in

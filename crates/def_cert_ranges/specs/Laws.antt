@@ -1,5 +1,5 @@
 -- What holds of certificates within their ranges, whoever wrote them. Each law is the contract of a function of this crate.
-use Rattle.std.specs.Prelude.{◌≡◌, ℕ, ◌+◌, ◌*◌, ◌^◌, ◌≤◌, ◌<◌, ◌↔◌, List, length, slice_index, slice_index_or, All, ℤ, pos, ◌*ℤ◌, unsigned_abs, Ok}
+use Rattle.std.specs.Prelude.{◌≡◌, ℕ, ◌*◌, ◌^◌, ◌≤◌, ◌<◌, ◌↔◌, List, length, slice_index, slice_index_or, All, ℤ, pos, ◌*ℤ◌, unsigned_abs, Ok}
 use Rattle.def_tree.specs.declared.Player.{Player}
 use Rattle.def_tree.specs.Opponent.{opponent}
 use Rattle.def_sums.specs.Limits.{most_mass}
@@ -9,7 +9,7 @@ use Rattle.def_plan.specs.Payoff.{leaf_sum, worth, mass_of}
 use Rattle.def_reply.specs.Reply.{Reply, values_of}
 use Rattle.def_bracket.specs.Bracket.{TraceLine}
 use Rattle.def_bracket.specs.Outcome.{Head}
-use Rattle.def_cert_verdict.specs.Certificate.{PrintedPlan, Certificate, numbers_of}
+use Rattle.def_cert_verdict.specs.Certificate.{PrintedPlan, Certificate, printed_numbers}
 use Rattle.def_cert_verdict.specs.Verdict.{WeighedGame, Verdict, head_only, verdict}
 use Rattle.def_cert_ranges.specs.Ranges.{TraceFits, PlanFits, ReplyFits, CertificateFits, most_unit, most_entries, HeadFits}
 
@@ -37,9 +37,9 @@ PlanSumsAreSmall = (unit sets : ℕ) (plan : PrintedPlan) → unit ≤ most_unit
 
 -- all leaves' products with a printed plan together, all printed values together, and so each part of each worth
 pub record SumsOfReply (player : Player) (leaves : List Leaf) (sets : List InformationSet) (plan : PrintedPlan) (reply : Reply) : Type 0 where
-  pub leaf_sums : nat_sum_over (λ z. unsigned_abs (z.weight *ℤ pos (slice_index (numbers_of plan) (leaf_sequence (opponent player) z)))) leaves ≤ 2 ^ 98
+  pub leaf_sums : nat_sum_over (λ z. unsigned_abs (z.weight *ℤ pos (slice_index (printed_numbers plan) (leaf_sequence (opponent player) z)))) leaves ≤ 2 ^ 98
   pub values : nat_sum_over (λ r. unsigned_abs r.value) reply.sets ≤ 2 ^ 120
-  pub worths : (s : ℕ) → unsigned_abs (worth (leaf_sum player leaves (numbers_of plan)) (placed sets) (values_of reply.sets) s) ≤ 2 ^ 121
+  pub worths : (s : ℕ) → unsigned_abs (worth (leaf_sum player leaves (printed_numbers plan)) (placed sets) (values_of reply.sets) s) ≤ 2 ^ 121
 
 abbrev pub WorthsAreSmall : Type 0
 WorthsAreSmall = (player : Player) (leaves : List Leaf) (sets : List InformationSet) (plan_sets reply_sets : ℕ) (plan : PrintedPlan) (reply : Reply)

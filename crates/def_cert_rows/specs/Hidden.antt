@@ -1,5 +1,5 @@
 -- The certificate of four rounds with scale 10 of the small game with sets one below the other.
-use Rattle.std.specs.Prelude.{ℕ, List, [], ◌∷◌, pos, Result}
+use Rattle.std.specs.Prelude.{List, [], ◌∷◌, pos, Result}
 use Rattle.def_examples.specs.Hidden.{hidden}
 use Rattle.def_bracket.specs.Outcome.{Head}
 use Rattle.def_cert_verdict.specs.declared.fault.TestFault.{TestFault}

@@ -1,5 +1,5 @@
 -- The certificate of two rounds of a game in which player two has no set.
-use Rattle.std.specs.Prelude.{ℕ, List, [], ◌∷◌, pos, Result}
+use Rattle.std.specs.Prelude.{List, [], ◌∷◌, pos, Result}
 use Rattle.def_round.specs.Games.{one_mover}
 use Rattle.def_bracket.specs.Outcome.{Head}
 use Rattle.def_cert_verdict.specs.declared.fault.TestFault.{TestFault}

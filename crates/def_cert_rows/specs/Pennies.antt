@@ -1,5 +1,5 @@
 -- The certificate of one round of matching pennies.
-use Rattle.std.specs.Prelude.{ℕ, List, [], ◌∷◌, pos, Result}
+use Rattle.std.specs.Prelude.{List, [], ◌∷◌, pos, Result}
 use Rattle.def_plan.specs.Pennies.{pennies}
 use Rattle.def_bracket.specs.Outcome.{Head}
 use Rattle.def_cert_verdict.specs.declared.fault.TestFault.{TestFault}

@@ -1,14 +1,13 @@
 -- All tests: what is accepted, and when each fault comes.
-use Rattle.std.proofs.Common.{◌≡◌, ℕ, ◌*◌, ◌⊎◌, ◌↔◌, List, [], ◌∷◌, ◌++◌, ℤ, Option, Some, None, Ok, Err, refl, sym, ap, ◌∙◌, subst, ⊎_elim, inl, inr}
+use Rattle.std.proofs.Common.{◌≡◌, ℕ, ◌*◌, ◌⊎◌, ℤ, Option, Some, None, Ok, Err, refl, sym, ap, ◌∙◌, subst}
 use Rattle.std.specs.Prelude.{Result}
 use Rattle.std.proofs.lemmas.Option.{none-some}
 use Rattle.def_tree.specs.declared.Player.TheVariants.{One, Two}
 use Rattle.def_fraction.specs.Fraction.{Fraction}
 use Rattle.def_plan.specs.Payoff.{leaf_sum}
-use Rattle.def_bracket.specs.Outcome.{Head}
 use Rattle.def_cert_verdict.specs.declared.fault.TestFault.{TestFault}
-use Rattle.def_cert_verdict.specs.Certificate.{PrintedBounds, Certificate, numbers_of, last_line}
-use Rattle.def_cert_verdict.specs.Verdict.{WeighedGame, Verdict, head_only, bracket, first_of, head_tests, plan_tests, whole_reply_tests, trace_tests, first_trace_line, bounds_tests, tests_below_head, tests, shown_by, judged, verdict}
+use Rattle.def_cert_verdict.specs.Certificate.{PrintedBounds, Certificate, printed_numbers, last_line}
+use Rattle.def_cert_verdict.specs.Verdict.{WeighedGame, Verdict, head_only, bracket, first_failing, head_tests, plan_tests, whole_reply_tests, trace_tests, first_trace_line, bounds_tests, tests_below_head, tests, shown_by, decided_by, verdict}
 use Rattle.def_cert_verdict.specs.Laws.{IsHeadOf, HoldsUp, AcceptanceIsExact, with_bounds, without_bounds}
 use Rattle.def_cert_verdict.specs.FaultCauses.{HeadFault, BoundsFault, FaultBelowHead, EachFaultHasItsCause}
 use Rattle.def_cert_verdict.proofs.Describes.{Describes, Describes-append, Describes-like}
@@ -21,8 +20,8 @@ bounds_described : (game : WeighedGame) (scale : ℕ) (b : PrintedBounds) → De
 bounds_described game scale b =
     let form = game.form in
     let last = last_line b.trace in
-    let sums_two : ℕ → ℤ = leaf_sum Two form.leaves (numbers_of b.plan_one) in
-    let sums_one : ℕ → ℤ = leaf_sum One form.leaves (numbers_of b.plan_two) in
+    let sums_two : ℕ → ℤ = leaf_sum Two form.leaves (printed_numbers b.plan_one) in
+    let sums_one : ℕ → ℤ = leaf_sum One form.leaves (printed_numbers b.plan_two) in
     Describes-like (bounds_tests game scale b) _ (HoldsUp game scale b) _ (BoundsFault game scale b)
     (Describes-append (plan_tests One form.sets_one (last.low_round * scale) b.plan_one) _ _ _ _ _ (plan_described One form.sets_one (last.low_round * scale) b.plan_one)
     (Describes-append (plan_tests Two form.sets_two (last.high_round * scale) b.plan_two) _ _ _ _ _ (plan_described Two form.sets_two (last.high_round * scale) b.plan_two)
@@ -67,12 +66,12 @@ verdict_or : Verdict → Result Verdict TestFault → Verdict
 verdict_or d (Ok v) = v
 verdict_or d (Err f) = d
 
-refused_by : (bounds : Option PrintedBounds) (o : Option TestFault) (f : TestFault) → judged bounds o ≡ Err f → o ≡ Some f
+refused_by : (bounds : Option PrintedBounds) (o : Option TestFault) (f : TestFault) → decided_by bounds o ≡ Err f → o ≡ Some f
 unfolding fault_or
 refused_by bounds None f e = absurd (ok_err (shown_by bounds) f e)
 refused_by bounds (Some g) f e = ap Some (ap (fault_or g) e)
 
-accepted_by : (bounds : Option PrintedBounds) (o : Option TestFault) (v : Verdict) → judged bounds o ≡ Ok v → (o ≡ None) × (v ≡ shown_by bounds)
+accepted_by : (bounds : Option PrintedBounds) (o : Option TestFault) (v : Verdict) → decided_by bounds o ≡ Ok v → (o ≡ None) × (v ≡ shown_by bounds)
 unfolding verdict_or
 accepted_by bounds None v e = (refl, sym (ap (verdict_or v) e))
 accepted_by bounds (Some g) v e = absurd (ok_err v g (sym e))
@@ -80,7 +79,7 @@ accepted_by bounds (Some g) v e = absurd (ok_err v g (sym e))
 pub causes : EachFaultHasItsCause
 causes game c fault =
     let all = (whole game c).some fault in
-    (λ e. all.0 (refused_by c.bounds (first_of (tests game c)) fault e), λ why. ap (judged c.bounds) (all.1 why))
+    (λ e. all.0 (refused_by c.bounds (first_failing (tests game c)) fault e), λ why. ap (decided_by c.bounds) (all.1 why))
 
 -- ---- acceptance
 Is_head : Verdict → Type 0
@@ -110,17 +109,17 @@ same_high low high low' high' e = ap (high_or high) e
 pub exact : AcceptanceIsExact
 exact = record {
   head_alone = λ game head. let c = without_bounds head in (
-    λ e. ((whole game c).none.0 (accepted_by c.bounds (first_of (tests game c)) head_only e).0).0,
-    λ h. ap (judged c.bounds) ((whole game c).none.1 (h, tt)),
+    λ e. ((whole game c).none.0 (accepted_by c.bounds (first_failing (tests game c)) head_only e).0).0,
+    λ h. ap (decided_by c.bounds) ((whole game c).none.1 (h, tt)),
   );
   no_bracket = λ game head low high e. let c = without_bounds head in
-      head_bracket low high (sym (accepted_by c.bounds (first_of (tests game c)) (bracket low high) e).1);
+      head_bracket low high (sym (accepted_by c.bounds (first_failing (tests game c)) (bracket low high) e).1);
   with_bracket = λ game head b low high. let c = with_bounds head b in (
-    λ e. let a = accepted_by c.bounds (first_of (tests game c)) (bracket low high) e in
+    λ e. let a = accepted_by c.bounds (first_failing (tests game c)) (bracket low high) e in
         let h = (whole game c).none.0 a.0 in
         (h.0, h.1, same_low low high b.low b.high a.1, same_high low high b.low b.high a.1),
-    λ h. ap (judged c.bounds) ((whole game c).none.1 (h.0, h.1)) ∙ ap (λ (l : Fraction). Ok (bracket l b.high)) (sym h.2) ∙ ap (λ (k : Fraction). Ok (bracket low k)) (sym h.3),
+    λ h. ap (decided_by c.bounds) ((whole game c).none.1 (h.0, h.1)) ∙ ap (λ (l : Fraction). Ok (bracket l b.high)) (sym h.2) ∙ ap (λ (k : Fraction). Ok (bracket low k)) (sym h.3),
   );
   not_head_alone = λ game head b e. let c = with_bounds head b in
-      head_bracket b.low b.high (accepted_by c.bounds (first_of (tests game c)) head_only e).1;
+      head_bracket b.low b.high (accepted_by c.bounds (first_failing (tests game c)) head_only e).1;
 }

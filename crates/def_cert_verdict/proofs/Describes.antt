@@ -5,12 +5,12 @@ use Rattle.std.proofs.lemmas.Int.{ints}
 use Rattle.std.proofs.lemmas.Bool.{false≢true}
 use Rattle.std.proofs.lemmas.Option.{none-some, same_Some}
 use Rattle.def_cert_verdict.specs.declared.fault.TestFault.{TestFault}
-use Rattle.def_cert_verdict.specs.Verdict.{first_of, unless}
+use Rattle.def_cert_verdict.specs.Verdict.{first_failing, unless}
 use Rattle.def_cert_verdict.specs.FaultCauses.{IsFirstNot}
 
 pub record Describes (ts : List (Option TestFault)) (Holds : Type 0) (Comes : TestFault → Type 0) : Type 0 where
-  pub none : (first_of ts ≡ None) ↔ Holds
-  pub some : (f : TestFault) → (first_of ts ≡ Some f) ↔ Comes f
+  pub none : (first_failing ts ≡ None) ↔ Holds
+  pub some : (f : TestFault) → (first_failing ts ≡ Some f) ↔ Comes f
 
 -- one test
 pub Describes-one : (b : Bool) (g : TestFault) (P : Type 0) → Decides b P → Describes (unless b g ∷ []) P (λ f. (f ≡ g) × (¬ P))
@@ -27,7 +27,7 @@ or_else : Option TestFault → Option TestFault → Option TestFault
 or_else None r = r
 or_else (Some f) r = Some f
 
-first-append : (xs ys : List (Option TestFault)) → first_of (xs ++ ys) ≡ or_else (first_of xs) (first_of ys)
+first-append : (xs ys : List (Option TestFault)) → first_failing (xs ++ ys) ≡ or_else (first_failing xs) (first_failing ys)
 unfolding or_else
 first-append [] ys = refl
 first-append (None ∷ xs) ys = first-append xs ys
@@ -52,7 +52,7 @@ together (Some g) r P Q F G a b = record {
 pub Describes-append : (xs ys : List (Option TestFault)) (P Q : Type 0) (F G : TestFault → Type 0) → Describes xs P F → Describes ys Q G
     → Describes (xs ++ ys) (P × Q) (λ f. F f ⊎ (P × G f))
 Describes-append xs ys P Q F G a b =
-    let whole = together (first_of xs) (first_of ys) P Q F G (record { none = a.none; some = a.some }) (record { none = b.none; some = b.some }) in
+    let whole = together (first_failing xs) (first_failing ys) P Q F G (record { none = a.none; some = a.some }) (record { none = b.none; some = b.some }) in
     record {
       none = (λ e. whole.none.0 (sym (first-append xs ys) ∙ e), λ h. first-append xs ys ∙ whole.none.1 h);
       some = λ f. (λ e. (whole.some f).0 (sym (first-append xs ys) ∙ e), λ c. first-append xs ys ∙ (whole.some f).1 c);
@@ -128,15 +128,15 @@ Searches-like X made r n Holds Says like s = record {
 }
 
 -- tests that search
-pub first_unless : (b : Bool) (g : TestFault) (ts : List (Option TestFault)) → first_of (unless b g ∷ ts) ≡ cond b (first_of ts) (Some g)
+pub first_unless : (b : Bool) (g : TestFault) (ts : List (Option TestFault)) → first_failing (unless b g ∷ ts) ≡ cond b (first_failing ts) (Some g)
 first_unless true g ts = refl
 first_unless false g ts = refl
 
-pub first_if : (b : Bool) (g : TestFault) (ts : List (Option TestFault)) → first_of (cond b (Some g) None ∷ ts) ≡ cond (not b) (first_of ts) (Some g)
+pub first_if : (b : Bool) (g : TestFault) (ts : List (Option TestFault)) → first_failing (cond b (Some g) None ∷ ts) ≡ cond (not b) (first_failing ts) (Some g)
 first_if true g ts = refl
 first_if false g ts = refl
 
-pub Describes-search : (made : ℕ → TestFault) (ts : List (Option TestFault)) (n : ℕ) (Holds : ℕ → Type 0) → Searches TestFault made (first_of ts) n Holds
+pub Describes-search : (made : ℕ → TestFault) (ts : List (Option TestFault)) (n : ℕ) (Holds : ℕ → Type 0) → Searches TestFault made (first_failing ts) n Holds
     → Describes ts ((i : ℕ) → Holds i) (λ f. (i : ℕ) × (f ≡ made (n + i)) × IsFirstNot Holds i)
 Describes-search made ts n Holds s = record { none = s.none; some = s.some }
 

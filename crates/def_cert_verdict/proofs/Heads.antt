@@ -1,5 +1,5 @@
 -- The tests of the head.
-use Rattle.std.proofs.Common.{◌≡◌, ℕ, zero, suc, ◌+◌, ◌-◌, ◌<◌, ◌≤◌, ◌↔◌, ◌&&◌, Bool, eqb, List, [], ◌∷◌, length, Option, Some, None, refl, sym, ap, ◌∙◌, subst, arith, ⊎_elim, inl, inr}
+use Rattle.std.proofs.Common.{◌≡◌, ℕ, suc, ◌+◌, ◌-◌, ◌<◌, ◌≤◌, ◌&&◌, Bool, eqb, List, ◌∷◌, length, Option, refl, sym, ap, subst, arith, ⊎_elim}
 use Rattle.std.specs.Bool.{Decides}
 use Rattle.std.proofs.lemmas.Bool.{cases_lt}
 use Rattle.std.proofs.lemmas.Bool.Decides.{Decides-eqb, Decides-and}
@@ -8,7 +8,7 @@ use Rattle.def_plan.specs.Payoff.{mass_of}
 use Rattle.def_bracket.specs.Outcome.{Head}
 use Rattle.def_cert_verdict.specs.declared.fault.TestFault.{TestFault}
 use Rattle.def_cert_verdict.specs.declared.fault.TestFault.TheVariants.{HeadDiffers, NotAPlan, ValueTooGood, ReplyNotTight, TotalDiffers, TraceWidens}
-use Rattle.def_cert_verdict.specs.Verdict.{WeighedGame, first_of, unless, head_tests}
+use Rattle.def_cert_verdict.specs.Verdict.{WeighedGame, first_failing, unless, head_tests}
 use Rattle.def_cert_verdict.specs.Laws.{IsHeadOf}
 use Rattle.def_cert_verdict.specs.FaultCauses.{IsFirstNot, SaysLine, HeadFault}
 use Rattle.def_cert_verdict.proofs.Describes.{Describes, Describes-search, Describes-like, Searches, Searches-end, Searches-step, first_unless}
@@ -52,12 +52,12 @@ mass_line game head =
     (λ e. record { nodes = λ l. absurd (omega arith); sets = λ l. absurd (omega arith); sequences = λ l. absurd (omega arith); unit = λ l. absurd (omega arith); mass_is = λ l. d.0 e }, λ s. d.1 (s.mass_is refl))
 
 -- one test of a line, and those of the lines behind it
-line_step : (n : ℕ) (b : Bool) (ts : List (Option TestFault)) (Says : ℕ → Type 0) → Decides b (Says 0) → Searches TestFault HeadDiffers (first_of ts) (n + 1) (λ i. Says (suc i))
-    → Searches TestFault HeadDiffers (first_of (unless b (HeadDiffers n) ∷ ts)) n Says
+line_step : (n : ℕ) (b : Bool) (ts : List (Option TestFault)) (Says : ℕ → Type 0) → Decides b (Says 0) → Searches TestFault HeadDiffers (first_failing ts) (n + 1) (λ i. Says (suc i))
+    → Searches TestFault HeadDiffers (first_failing (unless b (HeadDiffers n) ∷ ts)) n Says
 line_step n b ts Says d s =
-    subst (λ r. Searches TestFault HeadDiffers r n Says) (sym (first_unless b (HeadDiffers n) ts)) (Searches-step TestFault HeadDiffers b (first_of ts) n Says d s)
+    subst (λ r. Searches TestFault HeadDiffers r n Says) (sym (first_unless b (HeadDiffers n) ts)) (Searches-step TestFault HeadDiffers b (first_failing ts) n Says d s)
 
-searched : (game : WeighedGame) (head : Head) → Searches TestFault HeadDiffers (first_of (head_tests game head)) 2 (λ i. SaysLine game head (2 + i))
+searched : (game : WeighedGame) (head : Head) → Searches TestFault HeadDiffers (first_failing (head_tests game head)) 2 (λ i. SaysLine game head (2 + i))
 searched game head =
     line_step 2 _ _ (λ i. SaysLine game head (2 + i)) (nodes_line game head)
     (line_step 3 _ _ (λ i. SaysLine game head (2 + suc i)) (sets_line game head)

@@ -1,7 +1,5 @@
 -- The tests of a plan.
-use Rattle.std.proofs.Common.{◌≡◌, ℕ, zero, suc, ◌+◌, ◌-◌, ◌<◌, ◌≤◌, ◌⊎◌, ◌↔◌, ◌&&◌, Bool, true, false, cond, eqb, leb, List, [], ◌∷◌, length, length-append, slice_index, Option, Some, None, All, refl, sym, ap, ◌∙◌, subst, arith, ⊎_elim, inl, inr}
-use Rattle.std.specs.Prelude.{slice_get}
-use Rattle.std.specs.Option.{option_map}
+use Rattle.std.proofs.Common.{◌≡◌, ℕ, zero, suc, ◌+◌, ◌-◌, ◌⊎◌, ◌&&◌, eqb, leb, List, [], ◌∷◌, length, length-append, slice_index, Option, Some, None, All, refl, sym, ap, ◌∙◌, subst, arith, ⊎_elim, inl, inr}
 use Rattle.std.specs.Bool.{Decides}
 use Rattle.std.specs.List.{AllZip}
 use Rattle.std.proofs.lemmas.Bool.Decides.{Decides-eqb, Decides-and, Decides-like}
@@ -12,39 +10,39 @@ use Rattle.std.proofs.Common.{leb-true}
 use Rattle.def_tree.specs.declared.Player.{Player}
 use Rattle.def_sums.specs.Sum.{nat_sum_over}
 use Rattle.def_plan.specs.Form.{InformationSet, PlacedSet, placed, sequences_of}
-use Rattle.def_plan.specs.Plan.{AddsUp, IsPlan, first_not_adding}
+use Rattle.def_plan.specs.Plan.{AddsUp, first_not_adding}
 use Rattle.def_cert_verdict.specs.declared.fault.TestFault.{TestFault}
 use Rattle.def_cert_verdict.specs.declared.fault.TestFault.TheVariants.{HeadDiffers, NotAPlan, ValueTooGood, ReplyNotTight, TotalDiffers, TraceWidens}
-use Rattle.def_cert_verdict.specs.Certificate.{PrintedPlan, joined, numbers_of}
-use Rattle.def_cert_verdict.specs.Verdict.{first_of, unless, first_of_other_size, not_a_plan_at, plan_tests}
+use Rattle.def_cert_verdict.specs.Certificate.{PrintedPlan, joined, printed_numbers}
+use Rattle.def_cert_verdict.specs.Verdict.{unless, first_of_other_size, not_a_plan_at, plan_tests}
 use Rattle.def_cert_verdict.specs.Laws.{HoldsAsPlan}
-use Rattle.def_cert_verdict.specs.FaultCauses.{IsFirstNot, HasPrintedRoot, HasSize, AddsUpAt, IsBadPlan, other_root, other_size, not_adding, PlanFault}
+use Rattle.def_cert_verdict.specs.FaultCauses.{IsFirstNot, HasPrintedRoot, HasItsActions, AddsUpAt, IsBadPlan, other_root, other_size, not_adding, PlanFault}
 use Rattle.def_cert_verdict.proofs.Describes.{Describes, Describes-one, Describes-append, Describes-like, Searches, Searches-end, Searches-stop, Searches-step}
 
 abbrev itself : ℕ → ℕ
 itself n = n
 
 -- ---- sizes
-no_set : (i : ℕ) → HasSize [] [] i
+no_set : (i : ℕ) → HasItsActions [] [] i
 no_set zero = refl
 no_set (suc i) = refl
 
-sizes_searched : (k : ℕ) (hs : List InformationSet) (wss : List (List ℕ)) → Searches ℕ itself (first_of_other_size k hs wss) k (HasSize hs wss)
-sizes_searched k [] [] = Searches-end ℕ itself k (HasSize [] []) no_set
-sizes_searched k [] (ws ∷ wss) = Searches-stop ℕ itself k (HasSize [] (ws ∷ wss)) (λ e. none-some (length ws) (sym e))
-sizes_searched k (h ∷ hs) [] = Searches-stop ℕ itself k (HasSize (h ∷ hs) []) (λ e. none-some h.actions e)
+sizes_searched : (k : ℕ) (hs : List InformationSet) (wss : List (List ℕ)) → Searches ℕ itself (first_of_other_size k hs wss) k (HasItsActions hs wss)
+sizes_searched k [] [] = Searches-end ℕ itself k (HasItsActions [] []) no_set
+sizes_searched k [] (ws ∷ wss) = Searches-stop ℕ itself k (HasItsActions [] (ws ∷ wss)) (λ e. none-some (length ws) (sym e))
+sizes_searched k (h ∷ hs) [] = Searches-stop ℕ itself k (HasItsActions (h ∷ hs) []) (λ e. none-some h.actions e)
 sizes_searched k (h ∷ hs) (ws ∷ wss) =
-    Searches-step ℕ itself (eqb (length ws) h.actions) (first_of_other_size (k + 1) hs wss) k (HasSize (h ∷ hs) (ws ∷ wss))
+    Searches-step ℕ itself (eqb (length ws) h.actions) (first_of_other_size (k + 1) hs wss) k (HasItsActions (h ∷ hs) (ws ∷ wss))
     (Decides-like (eqb (length ws) h.actions) (ap Some) (same_Some (length ws) h.actions) (Decides-eqb (length ws) h.actions))
     (sizes_searched (k + 1) hs wss)
 
-sizes_zip : (hs : List InformationSet) (wss : List (List ℕ)) → ((i : ℕ) → HasSize hs wss i) → AllZip (λ h ws. length ws ≡ h.actions) hs wss
+sizes_zip : (hs : List InformationSet) (wss : List (List ℕ)) → ((i : ℕ) → HasItsActions hs wss i) → AllZip (λ h ws. length ws ≡ h.actions) hs wss
 sizes_zip [] [] s = tt
 sizes_zip [] (ws ∷ wss) s = absurd (none-some (length ws) (sym (s 0)))
 sizes_zip (h ∷ hs) [] s = absurd (none-some h.actions (s 0))
 sizes_zip (h ∷ hs) (ws ∷ wss) s = (same_Some (length ws) h.actions (s 0), sizes_zip hs wss (λ i. s (suc i)))
 
-zip_sizes : (hs : List InformationSet) (wss : List (List ℕ)) → AllZip (λ h ws. length ws ≡ h.actions) hs wss → (i : ℕ) → HasSize hs wss i
+zip_sizes : (hs : List InformationSet) (wss : List (List ℕ)) → AllZip (λ h ws. length ws ≡ h.actions) hs wss → (i : ℕ) → HasItsActions hs wss i
 zip_sizes [] [] z i = no_set i
 zip_sizes [] (ws ∷ wss) z i = elim z [ ]
 zip_sizes (h ∷ hs) [] z i = elim z [ ]
@@ -101,15 +99,15 @@ set_described player (Some k) n Holds s = record {
 root_decided : (root : ℕ) (plan : PrintedPlan) → Decides (leb 1 plan.root && eqb plan.root root) (HasPrintedRoot root plan)
 root_decided root plan = Decides-and (leb 1 plan.root) (eqb plan.root root) (leb-true 1 plan.root, le-leb 1 plan.root) (Decides-eqb plan.root root)
 
-holds_as_plan : (sets : List InformationSet) (root : ℕ) (plan : PrintedPlan) → HasPrintedRoot root plan → ((i : ℕ) → HasSize sets plan.weights i)
-    → ((i : ℕ) → AddsUpAt (numbers_of plan) (placed sets) i) → HoldsAsPlan sets root plan
+holds_as_plan : (sets : List InformationSet) (root : ℕ) (plan : PrintedPlan) → HasPrintedRoot root plan → ((i : ℕ) → HasItsActions sets plan.weights i)
+    → ((i : ℕ) → AddsUpAt (printed_numbers plan) (placed sets) i) → HoldsAsPlan sets root plan
 holds_as_plan sets root plan has sizes adds =
     let zipped = sizes_zip sets plan.weights sizes in
     let long = all_numbers sets plan.weights zipped in
     record {
       root_is = has.1;
       sizes = zipped;
-      is_plan = record { all_sequences = omega arith; some_root = has.0; root_weight = refl; each_set = all_add (numbers_of plan) (placed sets) adds };
+      is_plan = record { all_sequences = omega arith; some_root = has.0; root_weight = refl; each_set = all_add (printed_numbers plan) (placed sets) adds };
     }
 
 named : (player p : Player) (set n : ℕ) → p ≡ player → set ≡ n → NotAPlan p set ≡ NotAPlan player n
@@ -120,8 +118,8 @@ abbrev InTurn : Player → List InformationSet → ℕ → PrintedPlan → TestF
 InTurn player sets root plan f =
     ((f ≡ NotAPlan player 0) × (¬ (HasPrintedRoot root plan)))
     ⊎ (HasPrintedRoot root plan
-    × (((i : ℕ) × (f ≡ NotAPlan player (1 + i)) × IsFirstNot (HasSize sets plan.weights) i)
-    ⊎ (((i : ℕ) → HasSize sets plan.weights i) × ((i : ℕ) × (f ≡ NotAPlan player (1 + i)) × IsFirstNot (AddsUpAt (numbers_of plan) (placed sets)) i))))
+    × (((i : ℕ) × (f ≡ NotAPlan player (1 + i)) × IsFirstNot (HasItsActions sets plan.weights) i)
+    ⊎ (((i : ℕ) → HasItsActions sets plan.weights i) × ((i : ℕ) × (f ≡ NotAPlan player (1 + i)) × IsFirstNot (AddsUpAt (printed_numbers plan) (placed sets)) i))))
 
 caused : (player : Player) (sets : List InformationSet) (root : ℕ) (plan : PrintedPlan) (f : TestFault) → InTurn player sets root plan f → PlanFault player sets root plan f
 caused player sets root plan f turn =
@@ -150,14 +148,14 @@ pub plan_described : (player : Player) (sets : List InformationSet) (root : ℕ)
     → Describes (plan_tests player sets root plan) (HoldsAsPlan sets root plan) (PlanFault player sets root plan)
 plan_described player sets root plan =
     let r : Option ℕ = first_of_other_size 1 sets plan.weights in
-    let q : Option ℕ = first_not_adding (numbers_of plan) 1 (placed sets) in
+    let q : Option ℕ = first_not_adding (printed_numbers plan) 1 (placed sets) in
     let first = Describes-one (leb 1 plan.root && eqb plan.root root) (NotAPlan player 0) (HasPrintedRoot root plan) (root_decided root plan) in
-    let second = set_described player r 1 (HasSize sets plan.weights) (sizes_searched 1 sets plan.weights) in
-    let third = set_described player q 1 (AddsUpAt (numbers_of plan) (placed sets)) (sums_searched (numbers_of plan) 1 (placed sets)) in
+    let second = set_described player r 1 (HasItsActions sets plan.weights) (sizes_searched 1 sets plan.weights) in
+    let third = set_described player q 1 (AddsUpAt (printed_numbers plan) (placed sets)) (sums_searched (printed_numbers plan) 1 (placed sets)) in
     Describes-like (plan_tests player sets root plan) _ (HoldsAsPlan sets root plan) _ (PlanFault player sets root plan)
     (Describes-append (unless (leb 1 plan.root && eqb plan.root root) (NotAPlan player 0) ∷ []) _ _ _ _ _ first
     (Describes-append (not_a_plan_at player r ∷ []) (not_a_plan_at player q ∷ []) _ _ _ _ second third)) (
       λ h. holds_as_plan sets root plan h.0 h.1.0 h.1.1,
-      λ h. ((h.is_plan.some_root, h.root_is), (zip_sizes sets plan.weights h.sizes, each_adds (numbers_of plan) (placed sets) h.is_plan.each_set)),
+      λ h. ((h.is_plan.some_root, h.root_is), (zip_sizes sets plan.weights h.sizes, each_adds (printed_numbers plan) (placed sets) h.is_plan.each_set)),
     )
     (λ f. (caused player sets root plan f, in_turn player sets root plan f))

@@ -1,10 +1,9 @@
 -- The tests of a reply.
-use Rattle.std.proofs.Common.{◌≡◌, ℕ, zero, suc, ◌+◌, ◌-◌, ◌<◌, ◌≤◌, ◌⊎◌, ◌↔◌, ◌&&◌, Bool, true, false, not, cond, eqb, leb, leb-true, List, [], ◌∷◌, ◌++◌, map, length, ℤ, ◌≤ℤ◌, int_lt, Option, Some, None, All, refl, sym, ap, ◌∙◌, subst, arith, ⊎_elim, inl, inr}
+use Rattle.std.proofs.Common.{◌≡◌, ℕ, zero, suc, ◌+◌, ◌-◌, ◌<◌, ◌⊎◌, ◌↔◌, ◌&&◌, Bool, not, eqb, leb, leb-true, List, [], ◌∷◌, map, length, ℤ, Option, Some, None, refl, sym, ap, ◌∙◌, subst, arith, ⊎_elim, inl, inr}
 use Rattle.std.specs.Prelude.{slice_get}
 use Rattle.std.specs.Ordering.{int_eq}
 use Rattle.std.specs.Bool.{Decides}
 use Rattle.std.specs.List.{AllZip, range_with_len}
-use Rattle.std.proofs.lemmas.Int.{ints}
 use Rattle.std.proofs.lemmas.Bool.{le-leb}
 use Rattle.std.proofs.lemmas.Bool.Decides.{Decides-eqb, Decides-int_eq, Decides-and, Decides-like}
 use Rattle.std.proofs.lemmas.Option.{none-some, same_Some, slice_get_past}
@@ -12,13 +11,13 @@ use Rattle.def_tree.specs.declared.Player.{Player}
 use Rattle.def_tree.specs.declared.Player.TheVariants.{One, Two}
 use Rattle.def_fraction.specs.Fraction.{Fraction, fraction_of}
 use Rattle.def_sums.proofs.Ranges.{All-range, range-All}
-use Rattle.def_plan.specs.Form.{InformationSet, PlacedSet, placed, sequences_of}
+use Rattle.def_plan.specs.Form.{InformationSet, PlacedSet, placed}
 use Rattle.def_plan.specs.Plan.{chosen}
 use Rattle.def_plan.specs.Payoff.{worth, IsNoBetter}
-use Rattle.def_reply.specs.Reply.{Reply, SetReply, values_of, total, IsTight, AreTight}
+use Rattle.def_reply.specs.Reply.{Reply, SetReply, values_of, total, IsTight}
 use Rattle.def_cert_verdict.specs.declared.fault.TestFault.{TestFault}
 use Rattle.def_cert_verdict.specs.declared.fault.TestFault.TheVariants.{HeadDiffers, NotAPlan, ValueTooGood, ReplyNotTight, TotalDiffers, TraceWidens}
-use Rattle.def_cert_verdict.specs.Verdict.{first_of, unless, is_better, action_test, set_tests, reply_tests, is_same_fraction, end_shown_by, total_test, whole_reply_tests}
+use Rattle.def_cert_verdict.specs.Verdict.{first_failing, unless, is_better, action_test, set_tests, reply_tests, is_same_fraction, end_shown_by, total_test, whole_reply_tests}
 use Rattle.def_cert_verdict.specs.Laws.{HoldsAsTotal, HoldsAsReply}
 use Rattle.def_cert_verdict.specs.FaultCauses.{IsFirstNot, NoActionBetterAt, ReachedAt, TightAt, IsTooGood, IsNotReached, SetFault, TotalFault, ReplyFault}
 use Rattle.def_cert_verdict.proofs.Describes.{Describes, Describes-one, Describes-append, Describes-like, Describes-search, Searches, Searches-end, Searches-step, Searches-like, first_if, not_less-Decides}
@@ -44,14 +43,14 @@ later_action player w h r m n i =
     (λ b low. subst (λ k. IsNoBetter player (w (chosen h k)) r.value) same (b (omega arith)), λ b low. subst (λ k. IsNoBetter player (w (chosen h k)) r.value) (sym same) (b (omega arith)))
 
 actions_searched : (player : Player) (w : ℕ → ℤ) (k : ℕ) (h : PlacedSet) (r : SetReply) (m n : ℕ)
-    → Searches TestFault (ValueTooGood player k) (first_of (map (action_test player w k h r) (range_with_len m n))) m (BetterFrom player w h r m n)
+    → Searches TestFault (ValueTooGood player k) (first_failing (map (action_test player w k h r) (range_with_len m n))) m (BetterFrom player w h r m n)
 actions_searched player w k h r m zero = Searches-end TestFault (ValueTooGood player k) m (BetterFrom player w h r m 0) (λ i low. absurd (omega arith))
 actions_searched player w k h r m (suc n) =
     let rest : List (Option TestFault) = map (action_test player w k h r) (range_with_len (m + 1) n) in
     let bad : Bool = is_better player (w (chosen h m)) r.value in
     subst (λ o. Searches TestFault (ValueTooGood player k) o m (BetterFrom player w h r m (suc n))) (sym (first_if bad (ValueTooGood player k m) rest))
-    (Searches-step TestFault (ValueTooGood player k) (not bad) (first_of rest) m (BetterFrom player w h r m (suc n)) (first_action player w h r m n)
-    (Searches-like TestFault (ValueTooGood player k) (first_of rest) (m + 1) (BetterFrom player w h r (m + 1) n) (λ i. BetterFrom player w h r m (suc n) (suc i))
+    (Searches-step TestFault (ValueTooGood player k) (not bad) (first_failing rest) m (BetterFrom player w h r m (suc n)) (first_action player w h r m n)
+    (Searches-like TestFault (ValueTooGood player k) (first_failing rest) (m + 1) (BetterFrom player w h r (m + 1) n) (λ i. BetterFrom player w h r m (suc n) (suc i))
     (later_action player w h r m n) (actions_searched player w k h r (m + 1) n)))
 
 -- ---- a set

@@ -1,20 +1,17 @@
 -- An accepted certificate shows its bounds.
-use Rattle.std.proofs.Common.{◌≡◌, ℕ, ◌*◌, ◌≤◌, List, ℤ, pos, ◌*ℤ◌, ◌≤ℤ◌, refl, sym, ap, ◌∙◌, subst, arith}
+use Rattle.std.proofs.Common.{◌≡◌, ℕ, ◌*◌, ◌≤◌, List, ℤ, pos, ◌*ℤ◌, ◌≤ℤ◌, sym, ap, ◌∙◌, subst, arith}
 use Rattle.std.proofs.lemmas.Nat.{mul-le}
 use Rattle.def_fraction.specs.Fraction.{Fraction, IsInLowestTerms, fraction_of}
-use Rattle.def_fraction.specs.Laws.{HasValue, ReducesExactly}
+use Rattle.def_fraction.specs.Laws.{HasValue}
 use Rattle.def_fraction.proofs.FractionLemmas.{fraction_of-reduced}
-use Rattle.def_sums.proofs.RingLaws.{*ℤ_assoc, *ℤ_comm, *ℤ-mono_right, ≤ℤ_same, ≤ℤ_trans}
-use Rattle.def_plan.specs.Form.{AreInOrder}
-use Rattle.def_plan.specs.Plan.{IsPlan, pure_plan}
+use Rattle.def_sums.proofs.RingLaws.{*ℤ_assoc, *ℤ_comm, *ℤ-mono_right}
+use Rattle.def_plan.specs.Plan.{pure_plan}
 use Rattle.def_plan.specs.Payoff.{pay}
 use Rattle.def_reply.specs.Reply.{choices_of}
 use Rattle.def_reply.specs.Bounds.{IsFloor, IsCeiling, AttainsFloor, AttainsCeiling}
 use Rattle.def_reply.proofs.BoundLaws.{tight_bounds}
-use Rattle.def_bracket.specs.Outcome.{Head}
-use Rattle.def_cert_verdict.specs.Certificate.{PrintedBounds, numbers_of}
-use Rattle.def_cert_verdict.specs.Verdict.{WeighedGame}
-use Rattle.def_cert_verdict.specs.Laws.{HoldsUp, IsTotalOver, GetsAtLeast, ConcedesAtMost, ShowsItsBounds, AcceptedCertificatesShowTheirBounds}
+use Rattle.def_cert_verdict.specs.Certificate.{printed_numbers}
+use Rattle.def_cert_verdict.specs.Laws.{HoldsUp, IsTotalOver, AcceptedCertificatesShowTheirBounds}
 use Rattle.def_cert_verdict.proofs.Decided.{exact}
 
 some_scale : (unit root : ℕ) → 1 ≤ unit → 1 ≤ root → 1 ≤ unit * root
@@ -37,8 +34,8 @@ pub accepted : AcceptedCertificatesShowTheirBounds
 accepted game head b low high order_one order_two some_unit e =
     let a = (exact.with_bracket game head b low high).0 e in
     let h : HoldsUp game head.scale b = a.1 in
-    let x : List ℕ = numbers_of b.plan_one in
-    let y : List ℕ = numbers_of b.plan_two in
+    let x : List ℕ = printed_numbers b.plan_one in
+    let y : List ℕ = printed_numbers b.plan_two in
     let lower = h.reply_two in
     let upper = h.reply_one in
     let floor : IsFloor game.form x b.reply_two.total = subst (IsFloor game.form x) (sym lower.total_is.worth_is) (tight_bounds.floor game.form x b.reply_two.sets order_two lower.tight) in

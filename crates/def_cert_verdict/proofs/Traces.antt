@@ -1,12 +1,11 @@
 -- The tests of the trace.
-use Rattle.std.proofs.Common.{◌≡◌, ℕ, zero, suc, ◌+◌, ◌<◌, ◌≤◌, ◌⊎◌, ◌↔◌, ◌||◌, Bool, true, false, not, cond, List, [], ◌∷◌, length, get_or, ℤ, pos, ◌*ℤ◌, ◌≤ℤ◌, int_lt, Option, Some, None, refl, sym, ap, ◌∙◌, subst, arith}
+use Rattle.std.proofs.Common.{◌≡◌, ℕ, suc, ◌+◌, ◌↔◌, ◌||◌, Bool, true, false, not, List, [], ◌∷◌, get_or, ℤ, pos, ◌*ℤ◌, int_lt, Option, refl, sym, ap, subst, arith}
 use Rattle.std.specs.Bool.{Decides}
-use Rattle.std.proofs.lemmas.Int.{ints}
 use Rattle.std.proofs.lemmas.Bool.{false≢true}
 use Rattle.def_bracket.specs.Bracket.{TraceLine, LiesWithin}
 use Rattle.def_cert_verdict.specs.declared.fault.TestFault.{TestFault}
 use Rattle.def_cert_verdict.specs.declared.fault.TestFault.TheVariants.{HeadDiffers, NotAPlan, ValueTooGood, ReplyNotTight, TotalDiffers, TraceWidens}
-use Rattle.def_cert_verdict.specs.Verdict.{first_of, is_wider, trace_tests}
+use Rattle.def_cert_verdict.specs.Verdict.{first_failing, is_wider, trace_tests}
 use Rattle.def_cert_verdict.specs.Laws.{NeverWidens}
 use Rattle.def_cert_verdict.specs.FaultCauses.{IsFirstNot, IsNoWider, TraceFault}
 use Rattle.def_cert_verdict.proofs.Describes.{Describes, Describes-like, Describes-search, Searches, Searches-end, Searches-step, Searches-like, first_if, not_less-Decides}
@@ -34,14 +33,14 @@ later_pair a b lines i =
       λ h line low. subst (λ n. LiesWithin (get_or (a ∷ b ∷ lines) n line) (get_or (b ∷ lines) i line)) (sym same) (h line (omega arith)),
     )
 
-trace_searched : (k : ℕ) (lines : List TraceLine) → Searches TestFault TraceWidens (first_of (trace_tests k lines)) (k + 1) (IsNoWider lines)
+trace_searched : (k : ℕ) (lines : List TraceLine) → Searches TestFault TraceWidens (first_failing (trace_tests k lines)) (k + 1) (IsNoWider lines)
 trace_searched k [] = Searches-end TestFault TraceWidens (k + 1) (IsNoWider []) (λ i line low. absurd (omega arith))
 trace_searched k (a ∷ []) = Searches-end TestFault TraceWidens (k + 1) (IsNoWider (a ∷ [])) (λ i line low. absurd (omega arith))
 trace_searched k (a ∷ b ∷ lines) =
     let rest : List (Option TestFault) = trace_tests (k + 1) (b ∷ lines) in
     subst (λ o. Searches TestFault TraceWidens o (k + 1) (IsNoWider (a ∷ b ∷ lines))) (sym (first_if (is_wider b a) (TraceWidens (k + 1)) rest))
-    (Searches-step TestFault TraceWidens (not (is_wider b a)) (first_of rest) (k + 1) (IsNoWider (a ∷ b ∷ lines)) (first_pair a b lines)
-    (Searches-like TestFault TraceWidens (first_of rest) (k + 1 + 1) (IsNoWider (b ∷ lines)) (λ i. IsNoWider (a ∷ b ∷ lines) (suc i)) (later_pair a b lines)
+    (Searches-step TestFault TraceWidens (not (is_wider b a)) (first_failing rest) (k + 1) (IsNoWider (a ∷ b ∷ lines)) (first_pair a b lines)
+    (Searches-like TestFault TraceWidens (first_failing rest) (k + 1 + 1) (IsNoWider (b ∷ lines)) (λ i. IsNoWider (a ∷ b ∷ lines) (suc i)) (later_pair a b lines)
     (trace_searched (k + 1) (b ∷ lines))))
 
 caused : (k : ℕ) (lines : List TraceLine) (f : TestFault) → TraceFault k lines f → (i : ℕ) × (f ≡ TraceWidens (k + 1 + i)) × IsFirstNot (IsNoWider lines) i

@@ -1,5 +1,5 @@
 -- What the text of a certificate says, as numbers.
-use Rattle.std.specs.Prelude.{ℕ, ◌-◌, List, [], ◌∷◌, ◌++◌, length, slice_index_or, ℤ, pos, Option}
+use Rattle.std.specs.Prelude.{ℕ, ◌-◌, List, [], ◌∷◌, ◌++◌, length, slice_index_or, pos, Option}
 use Rattle.def_fraction.specs.Fraction.{Fraction}
 use Rattle.def_reply.specs.Reply.{Reply}
 use Rattle.def_bracket.specs.Bracket.{TraceLine}
@@ -30,8 +30,8 @@ joined [] = []
 joined (ws ∷ wss) = ws ++ joined wss
 
 -- the numbers of all sequences of a printed plan
-abbrev pub numbers_of : PrintedPlan → List ℕ
-numbers_of plan = plan.root ∷ joined plan.weights
+abbrev pub printed_numbers : PrintedPlan → List ℕ
+printed_numbers plan = plan.root ∷ joined plan.weights
 
 -- the last line of a trace, which has one
 abbrev pub no_line : TraceLine

@@ -4,15 +4,15 @@ use Rattle.std.specs.Option.{option_map}
 use Rattle.def_tree.specs.declared.Player.{Player}
 use Rattle.def_tree.specs.declared.Player.TheVariants.{One, Two}
 use Rattle.def_fraction.specs.Fraction.{Fraction}
-use Rattle.def_plan.specs.Form.{InformationSet, PlacedSet, placed, sequence_count, sequences_of}
+use Rattle.def_plan.specs.Form.{InformationSet, PlacedSet, placed, sequence_count}
 use Rattle.def_plan.specs.Plan.{AddsUp, chosen}
 use Rattle.def_plan.specs.Payoff.{leaf_sum, worth, mass_of, IsNoBetter}
-use Rattle.def_reply.specs.Reply.{Reply, SetReply, values_of, AreTight, IsTight}
+use Rattle.def_reply.specs.Reply.{Reply, SetReply, values_of, AreTight}
 use Rattle.def_bracket.specs.Bracket.{TraceLine, LiesWithin}
 use Rattle.def_bracket.specs.Outcome.{Head}
 use Rattle.def_cert_verdict.specs.declared.fault.TestFault.{TestFault}
 use Rattle.def_cert_verdict.specs.declared.fault.TestFault.TheVariants.{HeadDiffers, NotAPlan, ValueTooGood, ReplyNotTight, TotalDiffers, TraceWidens}
-use Rattle.def_cert_verdict.specs.Certificate.{PrintedPlan, PrintedBounds, Certificate, numbers_of, last_line}
+use Rattle.def_cert_verdict.specs.Certificate.{PrintedPlan, PrintedBounds, Certificate, printed_numbers, last_line}
 use Rattle.def_cert_verdict.specs.Verdict.{WeighedGame, end_shown_by, first_trace_line, verdict}
 use Rattle.def_cert_verdict.specs.Laws.{IsHeadOf, HoldsAsPlan, HoldsAsTotal, HoldsAsReply}
 
@@ -38,8 +38,8 @@ abbrev pub HasPrintedRoot : ℕ → PrintedPlan → Type 0
 HasPrintedRoot root plan = (1 ≤ plan.root) × (plan.root ≡ root)
 
 -- at a place of both lists there are as many numbers as the set has actions, and neither list is longer
-abbrev pub HasSize : List InformationSet → List (List ℕ) → ℕ → Type 0
-HasSize sets weights k = option_map length (slice_get weights k) ≡ option_map (λ h. h.actions) (slice_get sets k)
+abbrev pub HasItsActions : List InformationSet → List (List ℕ) → ℕ → Type 0
+HasItsActions sets weights k = option_map length (slice_get weights k) ≡ option_map (λ h. h.actions) (slice_get sets k)
 
 abbrev pub AddsUpAt : List ℕ → List PlacedSet → ℕ → Type 0
 AddsUpAt plan hs k = (h : PlacedSet) → slice_get hs k ≡ Some h → AddsUp plan h
@@ -47,9 +47,9 @@ AddsUpAt plan hs k = (h : PlacedSet) → slice_get hs k ≡ Some h → AddsUp pl
 -- set 0 where the root is another, else the first set of another size, else the first whose numbers don't add up
 pub data IsBadPlan (sets : List InformationSet) (root : ℕ) (plan : PrintedPlan) (set : ℕ) : Type 0 where
   other_root : ¬ (HasPrintedRoot root plan) → set ≡ 0 → IsBadPlan sets root plan set
-  other_size : HasPrintedRoot root plan → (k : ℕ) → IsFirstNot (HasSize sets plan.weights) k → set ≡ 1 + k → IsBadPlan sets root plan set
-  not_adding : HasPrintedRoot root plan → ((j : ℕ) → HasSize sets plan.weights j) → (k : ℕ)
-      → IsFirstNot (AddsUpAt (numbers_of plan) (placed sets)) k → set ≡ 1 + k → IsBadPlan sets root plan set
+  other_size : HasPrintedRoot root plan → (k : ℕ) → IsFirstNot (HasItsActions sets plan.weights) k → set ≡ 1 + k → IsBadPlan sets root plan set
+  not_adding : HasPrintedRoot root plan → ((j : ℕ) → HasItsActions sets plan.weights j) → (k : ℕ)
+      → IsFirstNot (AddsUpAt (printed_numbers plan) (placed sets)) k → set ≡ 1 + k → IsBadPlan sets root plan set
 
 abbrev pub PlanFault : Player → List InformationSet → ℕ → PrintedPlan → TestFault → Type 0
 PlanFault player sets root plan (NotAPlan p set) = (p ≡ player) × IsBadPlan sets root plan set
@@ -113,8 +113,8 @@ abbrev pub BoundsFault : WeighedGame → ℕ → PrintedBounds → TestFault →
 BoundsFault game scale b fault =
     let form = game.form in
     let last = last_line b.trace in
-    let sums_two = leaf_sum Two form.leaves (numbers_of b.plan_one) in
-    let sums_one = leaf_sum One form.leaves (numbers_of b.plan_two) in
+    let sums_two = leaf_sum Two form.leaves (printed_numbers b.plan_one) in
+    let sums_one = leaf_sum One form.leaves (printed_numbers b.plan_two) in
     PlanFault One form.sets_one (last.low_round * scale) b.plan_one fault
     ⊎ (HoldsAsPlan form.sets_one (last.low_round * scale) b.plan_one
     × (PlanFault Two form.sets_two (last.high_round * scale) b.plan_two fault

@@ -13,8 +13,8 @@ use Rattle.def_reply.specs.Bounds.{IsFloor, IsCeiling, AttainsFloor, AttainsCeil
 use Rattle.def_bracket.specs.Bracket.{TraceLine, LiesWithin}
 use Rattle.def_bracket.specs.Outcome.{Head}
 use Rattle.def_cert_verdict.specs.declared.fault.TestFault.{TestFault}
-use Rattle.def_cert_verdict.specs.Certificate.{PrintedPlan, PrintedBounds, Certificate, numbers_of, last_line}
-use Rattle.def_cert_verdict.specs.Verdict.{WeighedGame, Verdict, head_only, bracket, first_of, verdict}
+use Rattle.def_cert_verdict.specs.Certificate.{PrintedPlan, PrintedBounds, Certificate, printed_numbers, last_line}
+use Rattle.def_cert_verdict.specs.Verdict.{WeighedGame, head_only, bracket, first_failing, verdict}
 
 -- the verdict is the fault of the first test that fails: those before it pass
 pub record IsFirstFailure (outcomes : List (Option TestFault)) (fault : TestFault) : Type 0 where
@@ -24,8 +24,8 @@ pub record IsFirstFailure (outcomes : List (Option TestFault)) (fault : TestFaul
   pub earlier_pass : All (λ outcome. outcome ≡ None) (take place outcomes)
 
 pub record TheFirstFailureDecides : Type 0 where
-  pub none : (outcomes : List (Option TestFault)) → (first_of outcomes ≡ None) ↔ All (λ outcome. outcome ≡ None) outcomes
-  pub some : (outcomes : List (Option TestFault)) (fault : TestFault) → first_of outcomes ≡ Some fault → IsFirstFailure outcomes fault
+  pub none : (outcomes : List (Option TestFault)) → (first_failing outcomes ≡ None) ↔ All (λ outcome. outcome ≡ None) outcomes
+  pub some : (outcomes : List (Option TestFault)) (fault : TestFault) → first_failing outcomes ≡ Some fault → IsFirstFailure outcomes fault
 
 -- ---- what holds of a certificate that is accepted
 
@@ -44,7 +44,7 @@ pub record IsHeadOf (game : WeighedGame) (head : Head) : Type 0 where
 pub record HoldsAsPlan (sets : List InformationSet) (root : ℕ) (plan : PrintedPlan) : Type 0 where
   pub root_is : plan.root ≡ root
   pub sizes : AllZip (λ h weights. length weights ≡ h.actions) sets plan.weights
-  pub is_plan : IsPlan sets plan.root (numbers_of plan)
+  pub is_plan : IsPlan sets plan.root (printed_numbers plan)
 
 -- a printed total is the worth of the empty sequence and the one that is traced, and over the scale it is the printed bound
 pub record HoldsAsTotal (sums : ℕ → ℤ) (sets : List InformationSet) (reply : Reply) (traced : ℤ) (bound : Fraction) (scale : ℕ) : Type 0 where
@@ -65,8 +65,8 @@ NeverWidens lines = (k : ℕ) (line : TraceLine) → k + 1 < length lines → Li
 pub record HoldsUp (game : WeighedGame) (scale : ℕ) (b : PrintedBounds) : Type 0 where
   pub plan_one : HoldsAsPlan game.form.sets_one ((last_line b.trace).low_round * scale) b.plan_one
   pub plan_two : HoldsAsPlan game.form.sets_two ((last_line b.trace).high_round * scale) b.plan_two
-  pub reply_two : HoldsAsReply Two (leaf_sum Two game.form.leaves (numbers_of b.plan_one)) game.form.sets_two b.reply_two (last_line b.trace).low b.low (game.unit * b.plan_one.root)
-  pub reply_one : HoldsAsReply One (leaf_sum One game.form.leaves (numbers_of b.plan_two)) game.form.sets_one b.reply_one (last_line b.trace).high b.high (game.unit * b.plan_two.root)
+  pub reply_two : HoldsAsReply Two (leaf_sum Two game.form.leaves (printed_numbers b.plan_one)) game.form.sets_two b.reply_two (last_line b.trace).low b.low (game.unit * b.plan_one.root)
+  pub reply_one : HoldsAsReply One (leaf_sum One game.form.leaves (printed_numbers b.plan_two)) game.form.sets_one b.reply_one (last_line b.trace).high b.high (game.unit * b.plan_two.root)
   pub trace : NeverWidens b.trace
 
 abbrev pub without_bounds : Head → Certificate
@@ -103,16 +103,16 @@ ConcedesAtMost game root plan_two high = (root_one : ℕ) (plan_one : List ℕ) 
 -- both plans are plans, their totals are floor and ceiling, attained by the printed choices; LOW and HIGH are these totals in payoff units,
 -- which the plans get and concede; no trace line is wider than the one before it
 pub record ShowsItsBounds (game : WeighedGame) (b : PrintedBounds) : Type 0 where
-  pub plan_one : IsPlan game.form.sets_one b.plan_one.root (numbers_of b.plan_one)
-  pub plan_two : IsPlan game.form.sets_two b.plan_two.root (numbers_of b.plan_two)
-  pub floor : IsFloor game.form (numbers_of b.plan_one) b.reply_two.total
-  pub floor_attained : AttainsFloor game.form (numbers_of b.plan_one) b.reply_two.total (pure_plan game.form.sets_two (choices_of b.reply_two.sets))
-  pub ceiling : IsCeiling game.form (numbers_of b.plan_two) b.reply_one.total
-  pub ceiling_attained : AttainsCeiling game.form (numbers_of b.plan_two) b.reply_one.total (pure_plan game.form.sets_one (choices_of b.reply_one.sets))
+  pub plan_one : IsPlan game.form.sets_one b.plan_one.root (printed_numbers b.plan_one)
+  pub plan_two : IsPlan game.form.sets_two b.plan_two.root (printed_numbers b.plan_two)
+  pub floor : IsFloor game.form (printed_numbers b.plan_one) b.reply_two.total
+  pub floor_attained : AttainsFloor game.form (printed_numbers b.plan_one) b.reply_two.total (pure_plan game.form.sets_two (choices_of b.reply_two.sets))
+  pub ceiling : IsCeiling game.form (printed_numbers b.plan_two) b.reply_one.total
+  pub ceiling_attained : AttainsCeiling game.form (printed_numbers b.plan_two) b.reply_one.total (pure_plan game.form.sets_one (choices_of b.reply_one.sets))
   pub low : IsTotalOver b.low b.reply_two.total (game.unit * b.plan_one.root)
   pub high : IsTotalOver b.high b.reply_one.total (game.unit * b.plan_two.root)
-  pub gets : GetsAtLeast game b.plan_one.root (numbers_of b.plan_one) b.low
-  pub concedes : ConcedesAtMost game b.plan_two.root (numbers_of b.plan_two) b.high
+  pub gets : GetsAtLeast game b.plan_one.root (printed_numbers b.plan_one) b.low
+  pub concedes : ConcedesAtMost game b.plan_two.root (printed_numbers b.plan_two) b.high
   pub traced_low : b.reply_two.total ≡ (last_line b.trace).low
   pub traced_high : b.reply_one.total ≡ (last_line b.trace).high
   pub trace : NeverWidens b.trace

@@ -15,7 +15,7 @@ use Rattle.def_cert_verdict.specs.declared.fault.Which.{Which}
 use Rattle.def_cert_verdict.specs.declared.fault.Which.TheVariants.{Lower, Upper}
 use Rattle.def_cert_verdict.specs.declared.fault.TestFault.{TestFault}
 use Rattle.def_cert_verdict.specs.declared.fault.TestFault.TheVariants.{HeadDiffers, NotAPlan, ValueTooGood, ReplyNotTight, TotalDiffers, TraceWidens}
-use Rattle.def_cert_verdict.specs.Certificate.{PrintedPlan, PrintedBounds, Certificate, numbers_of, last_line}
+use Rattle.def_cert_verdict.specs.Certificate.{PrintedPlan, PrintedBounds, Certificate, printed_numbers, last_line}
 
 -- what the tests know of a game: how many nodes its tree has, and its sequence form with the unit of its weights
 pub record WeighedGame : Type 0 where
@@ -29,10 +29,10 @@ pub data Verdict : Type 0 where
   bracket : Fraction → Fraction → Verdict
 
 -- the fault of the first failing test
-abbrev pub first_of : List (Option TestFault) → Option TestFault
-first_of [] = None
-first_of (None ∷ tests) = first_of tests
-first_of (Some fault ∷ tests) = Some fault
+abbrev pub first_failing : List (Option TestFault) → Option TestFault
+first_failing [] = None
+first_failing (None ∷ tests) = first_failing tests
+first_failing (Some fault ∷ tests) = Some fault
 
 abbrev pub unless : Bool → TestFault → Option TestFault
 unless passes fault = if passes then None else Some fault
@@ -62,7 +62,7 @@ abbrev pub plan_tests : Player → List InformationSet → ℕ → PrintedPlan �
 plan_tests player sets root plan =
     unless (nat_le 1 plan.root && plan.root == root) (NotAPlan player 0)
     ∷ not_a_plan_at player (first_of_other_size 1 sets plan.weights)
-    ∷ not_a_plan_at player (first_not_adding (numbers_of plan) 1 (placed sets))
+    ∷ not_a_plan_at player (first_not_adding (printed_numbers plan) 1 (placed sets))
     ∷ []
 
 -- ---- a set of a reply: no action is better than the value, and the chosen one is worth it
@@ -127,8 +127,8 @@ bounds_tests game scale b =
     let last = last_line b.trace in
     plan_tests One form.sets_one (last.low_round * scale) b.plan_one
     ++ (plan_tests Two form.sets_two (last.high_round * scale) b.plan_two
-    ++ (whole_reply_tests Two (leaf_sum Two form.leaves (numbers_of b.plan_one)) form.sets_two b.reply_two last.low b.low (game.unit * b.plan_one.root)
-    ++ (whole_reply_tests One (leaf_sum One form.leaves (numbers_of b.plan_two)) form.sets_one b.reply_one last.high b.high (game.unit * b.plan_two.root)
+    ++ (whole_reply_tests Two (leaf_sum Two form.leaves (printed_numbers b.plan_one)) form.sets_two b.reply_two last.low b.low (game.unit * b.plan_one.root)
+    ++ (whole_reply_tests One (leaf_sum One form.leaves (printed_numbers b.plan_two)) form.sets_one b.reply_one last.high b.high (game.unit * b.plan_two.root)
     ++ trace_tests first_trace_line b.trace)))
 
 -- where no round was asked the tests end after the head
@@ -144,10 +144,10 @@ abbrev pub shown_by : Option PrintedBounds → Verdict
 shown_by None = head_only
 shown_by (Some b) = bracket b.low b.high
 
-abbrev pub judged : Option PrintedBounds → Option TestFault → Result Verdict TestFault
-judged bounds None = Ok (shown_by bounds)
-judged bounds (Some fault) = Err fault
+abbrev pub decided_by : Option PrintedBounds → Option TestFault → Result Verdict TestFault
+decided_by bounds None = Ok (shown_by bounds)
+decided_by bounds (Some fault) = Err fault
 
 -- the verdict on a certificate for a game: what it shows, or the fault of the first test that fails
 abbrev pub verdict : WeighedGame → Certificate → Result Verdict TestFault
-verdict game c = judged c.bounds (first_of (tests game c))
+verdict game c = decided_by c.bounds (first_failing (tests game c))
