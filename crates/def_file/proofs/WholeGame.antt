@@ -56,15 +56,21 @@ module _ (nodes : List Node) (names : List (List ℕ)) (sets : SetTables) (outco
   sets_of movers.Two apart = held.two
   sets_of movers.Leaf apart = absurd (apart refl)
 
-  -- no table is longer than a game has nodes
-  pub sets_short : (kind : Kind) → kind ≢ movers.Leaf → length (sets_of_kind kind sets) ≤ most_nodes
-  sets_short kind apart =
-      let is = sets_of kind apart in
+  short : (kind : Kind) (table : List SetEntry) → AreSetsOf kind nodes table → length table ≤ most_nodes
+  short kind table is =
       let count = is.count in
       let within = count_within kind nodes held.rules in
       let limit = held.limit in
       omega (arith, count, within, limit)
 
+  -- no table is longer than a game has nodes
+  pub sets_short : (kind : Kind) → length (sets_of_kind kind sets) ≤ most_nodes
+  sets_short movers.Chance = short movers.Chance sets.chance held.chance
+  sets_short movers.One = short movers.One sets.one held.one
+  sets_short movers.Two = short movers.Two sets.two held.two
+  sets_short movers.Leaf = omega arith
+
+  -- nor are there more outcomes
   pub outcomes_short : length outcomes ≤ most_nodes
   outcomes_short = let few = held.few_outcomes in let limit = held.limit in omega (arith, few, limit)
 
