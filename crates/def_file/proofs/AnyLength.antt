@@ -246,6 +246,7 @@ nothing_any : (whole : List ℕ) (at : ℕ) → AnyLength (nothing_at whole at)
 unfolding nothing_at
 nothing_any whole at = trailing_any (next_from whole at)
 
+-- reading never answers that the file is too long
 pub game_any_length : (whole : List ℕ) → AnyLength (game_at whole)
 unfolding game_at
 game_any_length whole =

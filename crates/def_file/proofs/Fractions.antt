@@ -27,9 +27,9 @@ zero_lowest : IsInLowestTerms zero_fraction
 unfolding gcd
 zero_lowest = record { positive = omega arith; coprime = refl }
 
+-- 0 is in lowest terms, within the limit
 pub zero_small : IsSmallFraction zero_fraction
 zero_small = (zero_lowest, refl)
-
 
 new_chances : (actions : Option (List Action)) → IfGiven actions (λ given. All IsSmallFraction (map (λ a. a.chance) given)) → All IsSmallFraction (map (λ a. a.chance) (unwrap_or actions []))
 new_chances (Some given) h = h
@@ -82,6 +82,7 @@ chance_more movers.One sets m given h = h
 chance_more movers.Two sets m given h = h
 chance_more movers.Leaf sets m given h = h
 
+-- without entries there are no fractions
 pub no_fractions : HasFractions no_contents.sets no_contents.outcomes
 no_fractions = record { chance = All-nil (λ entry. All IsSmallFraction (chances_of entry)); one = All-nil (λ e. IsSmallFraction e.one); two = All-nil (λ e. IsSmallFraction e.two) }
 

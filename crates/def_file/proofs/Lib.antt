@@ -2,3 +2,4 @@ pub mod AnyLength
 pub mod Faultless
 pub mod Together
 pub mod Fractions
+pub mod WholeGame

@@ -57,10 +57,10 @@ module _ (table : List SetEntry) (m : SetMention) (small : All IsFew table) wher
         grows = record {
           longer = omega arith;
           kept = λ j within.
-            ⊎_elim
-            (λ (same : j ≡ i). ap (λ k. length (set_at (set table i (renamed i)) k).actions) same ∙ ap (λ (e : SetEntry). length e.actions) here ∙ ap (λ k. length (set_at table k).actions) (sym same))
-            (λ other. ap (λ (e : SetEntry). length e.actions) (get_or-set_other table i j (renamed i) no_set other))
-            (cases_eq j i);
+              ⊎_elim
+              (λ (same : j ≡ i). ap (λ k. length (set_at (set table i (renamed i)) k).actions) same ∙ ap (λ (e : SetEntry). length e.actions) here ∙ ap (λ k. length (set_at table k).actions) (sym same))
+              (λ other. ap (λ (e : SetEntry). length e.actions) (get_or-set_other table i j (renamed i) no_set other))
+              (cases_eq j i);
         };
         from_one = omega arith;
         count = omega arith;
@@ -107,6 +107,7 @@ outcomes_noted outcomes m = by (nat_eq m.number 0) (outcome_place_of m.number ou
     at_place : (first i n : ℕ) (b : Bool) → nat_lt first n ≡ b → cond b (Some first) None ≡ Some i → i < n
     at_place first i n true e at = let same : first ≡ i = cc in omega (arith, ltb-true first n e)
     at_place first i n false e at = absurd cc
+
     by : (null : Bool) (place : Option ℕ) → outcome_place_of m.number outcomes ≡ place
         → AreNoted outcomes (cond null outcomes (option_map_or (λ i. set outcomes i (record (outcome_at outcomes i) { name = kept_name (outcome_at outcomes i).name m.name })) place (outcomes ++ new_outcome m ∷ []))) (cond null 0 (unwrap_or place (length outcomes) + 1))
     by true place at = record { longer = omega arith; next = omega arith; there = omega arith }
@@ -128,11 +129,11 @@ goes_on : (sets more : SetTables) (outcomes longer : List OutcomeEntry) → ((ki
     → (node : Node) → GoesWith sets outcomes node → GoesWith more longer node
 goes_on sets more outcomes longer grow long node with' = record {
   set = λ not_leaf.
-    let is = with'.set not_leaf in
-    let grown = grow node.kind in
-    let low : 1 ≤ node.set = is.from_one in
-    let high : node.set ≤ length (sets_of_kind node.kind sets) = is.there in
-    in_set (sets_of_kind node.kind more) node low (let longer = grown.longer in omega arith) (grown.kept (node.set - 1) (omega arith) ∙ is.actions);
+      let is = with'.set not_leaf in
+      let grown = grow node.kind in
+      let low : 1 ≤ node.set = is.from_one in
+      let high : node.set ≤ length (sets_of_kind node.kind sets) = is.there in
+      in_set (sets_of_kind node.kind more) node low (let longer = grown.longer in omega arith) (grown.kept (node.set - 1) (omega arith) ∙ is.actions);
   outcome = let within : node.outcome ≤ length outcomes = with'.outcome in omega arith;
 }
 
@@ -180,11 +181,11 @@ module _ (contents : Contents) (name : List ℕ) (m : SetMention) (o : OutcomeMe
     some = n.few.0;
     limit = n.few.1;
     agrees = λ k d within same_kind same_set.
-      let x = get_or contents.nodes k d in
-      let is = (held.tables k d within).set (λ leaf. not_leaf (sym same_kind ∙ leaf)) in
-      let placed : IsInSet (sets_of_kind kind contents.sets) x = subst (λ who. IsInSet (sets_of_kind who contents.sets) x) same_kind is in
-      let there : x.set ≤ length (sets_of_kind kind contents.sets) = placed.there in
-      sym placed.actions ∙ ap (λ s. length (set_at (sets_of_kind kind contents.sets) (s - 1)).actions) same_set ∙ n.old (subst (λ s. s ≤ length (sets_of_kind kind contents.sets)) same_set there);
+        let x = get_or contents.nodes k d in
+        let is = (held.tables k d within).set (λ leaf. not_leaf (sym same_kind ∙ leaf)) in
+        let placed : IsInSet (sets_of_kind kind contents.sets) x = subst (λ who. IsInSet (sets_of_kind who contents.sets) x) same_kind is in
+        let there : x.set ≤ length (sets_of_kind kind contents.sets) = placed.there in
+        sym placed.actions ∙ ap (λ s. length (set_at (sets_of_kind kind contents.sets) (s - 1)).actions) same_set ∙ n.old (subst (λ s. s ≤ length (sets_of_kind kind contents.sets)) same_set there);
   }
 
   tables : (kind : Kind) (more : List SetEntry) (node : Node) → Grows (sets_of_kind kind contents.sets) more → GoesWith (with_sets kind more contents.sets) (noted_outcome contents.outcomes o) node
@@ -192,7 +193,7 @@ module _ (contents : Contents) (name : List ℕ) (m : SetMention) (o : OutcomeMe
   tables kind more node grows new =
       All-push (GoesWith (with_sets kind more contents.sets) (noted_outcome contents.outcomes o)) contents.nodes node
       (λ k d within. goes_on contents.sets (with_sets kind more contents.sets) contents.outcomes (noted_outcome contents.outcomes o) (λ who. grow_all kind who contents.sets more grows) (outcomes_noted contents.outcomes o).longer
-          (get_or contents.nodes k d) (held.tables k d within))
+      (get_or contents.nodes k d) (held.tables k d within))
       new
 
   new_goes : (kind : Kind) (more : List SetEntry) → sets_of_kind kind (with_sets kind more contents.sets) ≡ more

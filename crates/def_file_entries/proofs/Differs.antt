@@ -27,15 +27,18 @@ use Rattle.def_file_entries.proofs.FirstWith.{Tells, given_is_first, first_is_gi
 pub guarded : (b t : Bool) (P : Type 0) → (P → b ≡ true) → (b ≡ true → (t ≡ true) ↔ P) → ((b && t) ≡ true) ↔ P
 guarded b t P needs tells = (λ h. let parts = and_parts b t h in (tells parts.0).0 parts.1, λ p. and_from b t (needs p) ((tells (needs p)).1 p))
 
+-- one test or another tells one property or another
 pub either : (a b : Bool) (P Q : Type 0) → (a ≡ true) ↔ P → (b ≡ true) ↔ Q → ((a || b) ≡ true) ↔ (P ⊎ Q)
 either a b P Q p q = (λ h. ⊎_elim (λ e. inl (p.0 e)) (λ e. inr (q.0 e)) (or_cases a b h), λ s. ⊎_elim (λ x. or_left a b (p.1 x)) (λ y. or_right a b (q.1 y)) s)
 
 -- Options.
 
+-- the test of None tells
 pub none_if : {A : Type 0} (o : Option A) → is_none o ≡ true → o ≡ None
 none_if None e = refl
 none_if (Some x) e = absurd cc
 
+-- what is not None is given
 pub some_if : {A : Type 0} (o : Option A) → o ≢ None → (x : A) × (o ≡ Some x)
 some_if None h = absurd (h refl)
 some_if (Some x) h = (x, refl)
@@ -90,6 +93,7 @@ abbrev pub other_list : {A : Type 0} → (A → A → Bool) → A → Option A �
 other_list same kept (Some given) = not (same kept given)
 other_list same kept None = false
 
+-- a list that is told from the kept one is given
 pub other_given : {A : Type 0} (same : A → A → Bool) (kept : A) (o : Option A) → other_list same kept o ≡ true → (given : A) × (o ≡ Some given) × (same kept given ≡ false)
 other_given same kept (Some given) e = (given, refl, not-true (same kept given) e)
 other_given same kept None e = absurd cc
@@ -113,10 +117,12 @@ list_tells {A} P list same Same rs r e kept tells first keeps = (forth, back)
         ap (λ (o : Option A). other_list same kept o) h.gives
         ∙ not_from_false (same kept h.given) (false_from_ne_true (same kept h.given) (λ s. h.differ (subst (λ k. Same k h.given) (sym is) ((tells h.given).0 s))))
 
+-- the test of actions compares lists
 pub actions_other : (kind : Kind) (kept : List Action) (o : Option (List Action)) → actions_differ kind kept o ≡ other_list (pointwise (same_action kind)) kept o
 actions_other kind kept (Some given) = refl
 actions_other kind kept None = refl
 
+-- the test of payoffs compares lists
 pub payoffs_other : (kept : OutcomeEntry) (o : Option (List Fraction)) → payoffs_differ kept o ≡ other_list (pointwise same_value) (kept.one ∷ kept.two ∷ []) o
 payoffs_other kept (Some given) = refl
 payoffs_other kept None = refl
@@ -209,6 +215,7 @@ actions_tell movers.Leaf r m ks gs = absurd m
 
 -- Counts.
 
+-- the test of a first list of actions tells
 pub count_tells : (o : Option (List Action)) → (has_wrong_count o ≡ true) ↔ ((given : List Action) × (o ≡ Some given) × ((length given ≡ 0) ⊎ (most_actions < length given)))
 count_tells (Some given) = (
   λ e. (given, refl, ⊎_elim (λ h. inl (eqb-true (length given) 0 h)) (λ h. inr (ltb-true most_actions (length given) h)) (or_cases (nat_eq (length given) 0) (nat_lt most_actions (length given)) e)),
@@ -221,6 +228,7 @@ count_tells (Some given) = (
 )
 count_tells None = (λ e. absurd cc, λ (g, is, h). absurd cc)
 
+-- the test of a first list of payoffs tells
 pub two_tells : (o : Option (List Fraction)) → (has_wrong_payoffs o ≡ true) ↔ ((given : List Fraction) × (o ≡ Some given) × (length given ≢ 2))
 two_tells (Some given) = (
   λ e. (given, refl, eqb-false (length given) 2 (not-true (nat_eq (length given) 2) e)),

@@ -140,6 +140,7 @@ covers rs r sets outcomes _ h = absurd h
 answer : (rs : List Record) (r : Record) → record_fault (contents_of rs) r ≡ first_met (entry_faults (length rs) (table_of rs r) (outcome_table rs) r)
 answer rs r = ap (λ n. first_met (entry_faults n (table_of rs r) (outcome_table rs) r)) (length-map rs (node_of rs))
 
+-- the fault is that of the first rule that is broken
 pub entry_fault_is_first_broken : EntryFaultIsFirstBroken
 entry_fault_is_first_broken rs r fault fine =
     let rise = rises (length rs) (table_of rs r) (outcome_table rs) r in
@@ -151,6 +152,7 @@ entry_fault_is_first_broken rs r fault fine =
           ∙ least_is_first (Breaks rs r) 6 (entry_faults (length rs) (table_of rs r) (outcome_table rs) r) (decides rs r fine) rise fault (cover fault is.broken) is.broken is.none_before,
     )
 
+-- there is none exactly where none is broken
 pub no_fault_breaks_none : NoFaultBreaksNone
 no_fault_breaks_none rs r fine = (
   λ e fault is. none_met_none (Breaks rs r) (entry_faults (length rs) (table_of rs r) (outcome_table rs) r) (decides rs r fine) (sym (answer rs r) ∙ e) fault (covers rs r (table_of rs r) (outcome_table rs) fault is) is,

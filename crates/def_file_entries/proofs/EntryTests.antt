@@ -31,6 +31,7 @@ has_player-true Chance e = absurd cc
 has_player-true Personal e = refl
 has_player-true Leaf e = absurd cc
 
+-- the test of the player tells
 pub player_tells : (r : Record) → (is_no_player r.kind r.player ≡ true) ↔ HasNoPlayer r
 player_tells r = (
   λ e.
@@ -68,6 +69,7 @@ moved movers.One r m = ap (λ kind. mover_as kind r.player) m.0 ∙ ap (λ (n : 
 moved movers.Two r m = ap (λ kind. mover_as kind r.player) m.0 ∙ ap (λ (n : ℕ). cond (nat_eq n 1) movers.One movers.Two) m.1
 moved movers.Leaf r m = absurd m
 
+-- whoever moves has a set
 pub moves_set : (who : Kind) (r : Record) → Moves who r → has_set r.kind ≡ true
 moves_set movers.Chance r m = ap has_set m
 moves_set movers.One r m = ap has_set m.0
@@ -112,6 +114,7 @@ pub data SetPlace (rs : List Record) (r : Record) : Type 0 where
   known_set : (i : ℕ) → set_place_of r.set.number (set_table (mover r) rs) ≡ Some i → set_at (set_table (mover r) rs) i ≡ set_entry (mover r) rs r.set.number
       → (e : Record) (more : List Record) → mentions (mover r) r.set.number rs ≡ e ∷ more → IsFirstWith (MentionOneSet r) rs e → SetPlace rs r
 
+-- a set is new, or known
 pub set_place : (rs : List Record) (r : Record) → has_set r.kind ≡ true → HasPlayer r → All HasPlayer rs → SetPlace rs r
 set_place rs r s h all =
     let tells = sets_tell rs r s h all in
@@ -127,6 +130,7 @@ known_not_new rs r e first new = none_is_first (MentionOneSet r) (MentionOneSet 
 never : (t : Bool) (P : Type 0) → t ≡ false → ¬ P → (t ≡ true) ↔ P
 never t P e not = (λ h. absurd (false≢true (sym e ∙ h)), λ p. absurd (not p))
 
+-- the test of a first mention without a list tells
 pub undefined_tells : (rs : List Record) (r : Record) → SetPlace rs r → (is_set_undefined (set_table (mover r) rs) r.set ≡ true) ↔ (IsNewSet rs r × (r.set.actions ≡ None))
 undefined_tells rs r (new_set none new) =
     let test : is_set_undefined (set_table (mover r) rs) r.set ≡ is_none r.set.actions = ap (λ o. is_none o && is_none r.set.actions) none in
@@ -134,6 +138,7 @@ undefined_tells rs r (new_set none new) =
 undefined_tells rs r (known_set i some at e more hits first) =
     never (is_set_undefined (set_table (mover r) rs) r.set) _ (ap (λ o. is_none o && is_none r.set.actions) some) (λ p. known_not_new rs r e first p.0)
 
+-- the test of the number of actions tells
 pub counted_tells : (rs : List Record) (r : Record) → SetPlace rs r → (is_set_miscounted (set_table (mover r) rs) r.set ≡ true) ↔ (IsNewSet rs r × HasNoneOrTooMany r)
 counted_tells rs r (new_set none new) =
     let test : is_set_miscounted (set_table (mover r) rs) r.set ≡ has_wrong_count r.set.actions = ap (λ o. is_none o && has_wrong_count r.set.actions) none in
@@ -157,6 +162,7 @@ other_needs_first rs r new h =
     (λ list. none_is_first (MentionOneSet r) (MentionOneSet r) (λ x m. m) rs list.entry new.none list.first)
     h
 
+-- the test of a later mention of a set tells
 pub same_set_tells : (rs : List Record) (r : Record) → HaveNoFault rs → has_set r.kind ≡ true → HasPlayer r → All HasPlayer rs → SetPlace rs r → (set_differs (mover r) (set_table (mover r) rs) r.set ≡ true) ↔ HasOtherSet rs r
 same_set_tells rs r fine s h all (new_set none new) =
     never (set_differs (mover r) (set_table (mover r) rs) r.set) (HasOtherSet rs r)
@@ -181,6 +187,7 @@ same_set_tells rs r fine s h all (known_set i some at e more hits first) =
 
 -- Outcomes other than 0.
 
+-- an outcome other than 0
 abbrev pub has_outcome : Record → Bool
 has_outcome x = not (nat_eq x.outcome.number 0)
 
@@ -204,11 +211,13 @@ outcomes_tell rs r = λ k d within. outcome_tells r (get_or rs k d)
 outcome_mentions_are : (rs : List Record) (r : Record) → outcome_mentions r.outcome.number rs ≡ filter (in_outcome r) rs
 outcome_mentions_are rs r = filter-filter has_outcome (λ x. nat_eq r.outcome.number x.outcome.number) rs
 
+-- the outcome is new, or its table has the name and the payoffs of its mentions, the first of which is e
 pub data OutcomePlace (rs : List Record) (r : Record) : Type 0 where
   new_outcome : outcome_place_of r.outcome.number (outcome_table rs) ≡ None → IsNewOutcome rs r → OutcomePlace rs r
   known_outcome : (i : ℕ) → outcome_place_of r.outcome.number (outcome_table rs) ≡ Some i → outcome_at (outcome_table rs) i ≡ outcome_entry rs r.outcome.number
       → (e : Record) (more : List Record) → outcome_mentions r.outcome.number rs ≡ e ∷ more → IsFirstWith (MentionOneOutcome r) rs e → OutcomePlace rs r
 
+-- an outcome is new, or known
 pub outcome_place : (rs : List Record) (r : Record) → r.outcome.number ≢ 0 → OutcomePlace rs r
 outcome_place rs r some =
     elim (found-cases (λ (e : OutcomeEntry). e.number) null_outcome (outcome_entry rs) (λ m. refl) outcome_key r.outcome.number (with_outcome rs)) [
@@ -219,6 +228,7 @@ outcome_place rs r some =
 known_not_new_outcome : (rs : List Record) (r e : Record) → IsFirstWith (MentionOneOutcome r) rs e → IsNewOutcome rs r → ⊥
 known_not_new_outcome rs r e first new = none_is_first (MentionOneOutcome r) (MentionOneOutcome r) (λ x m. m) rs e new.none first
 
+-- the test of a first mention without payoffs tells
 pub outcome_undefined_tells : (rs : List Record) (r : Record) → OutcomePlace rs r
     → ((is_none (outcome_place_of r.outcome.number (outcome_table rs)) && is_none r.outcome.payoffs) ≡ true) ↔ (IsNewOutcome rs r × (r.outcome.payoffs ≡ None))
 outcome_undefined_tells rs r (new_outcome none new) =
@@ -227,6 +237,7 @@ outcome_undefined_tells rs r (new_outcome none new) =
 outcome_undefined_tells rs r (known_outcome i some at e more hits first) =
     never _ _ (ap (λ o. is_none o && is_none r.outcome.payoffs) some) (λ p. known_not_new_outcome rs r e first p.0)
 
+-- the test of the number of payoffs tells
 pub outcome_counted_tells : (rs : List Record) (r : Record) → OutcomePlace rs r
     → ((is_none (outcome_place_of r.outcome.number (outcome_table rs)) && has_wrong_payoffs r.outcome.payoffs) ≡ true) ↔ (IsNewOutcome rs r × HasOtherThanTwo r)
 outcome_counted_tells rs r (new_outcome none new) =

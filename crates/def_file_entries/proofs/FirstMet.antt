@@ -75,6 +75,7 @@ none_met_none B ((true, f0) ∷ ts) decide e g among is = absurd cc
 none_met_none B ((false, f0) ∷ ts) decide e g among is =
     ⊎_elim (λ here. false≢true (decide.0.1 (subst B here is))) (λ there. none_met_none B ts (decide.1 refl) e g there is) among
 
+-- where none of the faults holds no test is met
 pub none_holds_none_met : (B : FileFault → Type 0) (ts : List (Bool × FileFault)) → Decide B ts → ((g : FileFault) → ¬ (B g)) → first_met ts ≡ None
 none_holds_none_met B [] decide none = refl
 none_holds_none_met B ((true, f0) ∷ ts) decide none = absurd (none f0 (decide.0.0 refl))

@@ -22,6 +22,7 @@ tells_rest t P x rs tells = All-tail (λ e. (t e ≡ true) ↔ P e) x rs tells
 fails : (t : Record → Bool) (P : Record → Type 0) (x : Record) (rs : List Record) → Tells t P (x ∷ rs) → t x ≡ false → ¬ (P x)
 fails t P x rs tells e is = false≢true (sym e ∙ (tells_first t P x rs tells).1 is)
 
+-- two tests one after the other are one
 pub filter-filter : (p q : Record → Bool) (rs : List Record) → filter q (filter p rs) ≡ filter (λ x. p x && q x) rs
 filter-filter p q [] = refl
 filter-filter p q (x ∷ rs) =
@@ -37,6 +38,7 @@ none_step : (t : Record → Bool) (P : Record → Type 0) (x : Record) (rs : Lis
 none_step t P x rs true e tells later h = let kept = kept_step t x rs true e in absurd cc
 none_step t P x rs false e tells later h = All-cons (λ y. ¬ (P y)) x rs (fails t P x rs tells e) (later (sym (kept_step t x rs false e) ∙ h))
 
+-- where no entry passes the test, none has the property
 pub none_with : (t : Record → Bool) (P : Record → Type 0) (rs : List Record) → Tells t P rs → filter t rs ≡ [] → NoneWith P rs
 none_with t P [] tells h = All-nil (λ y. ¬ (P y))
 none_with t P (x ∷ rs) tells h = none_step t P x rs (t x) refl tells (none_with t P rs (tells_rest t P x rs tells)) h
@@ -133,6 +135,7 @@ module _ (t : Record → Bool) (P : Record → Type 0) (name : Record → Option
   given_step x rs kept true e tells later h = own_step x rs kept (name x) refl ((tells_first t P x rs tells).0 e) later h
   given_step x rs kept false e tells later h = gives_later P name x rs kept (λ names. fails t P x rs tells e names.0) (later h)
 
+  -- the name that is kept is the first one given
   pub given_is_first : (rs : List Record) → Tells t P rs → (kept : List ℕ) → first_given (map name (filter t rs)) ≡ Some kept → GivesFirst P name rs kept
   given_is_first [] tells kept h = absurd cc
   given_is_first (x ∷ rs) tells kept h = given_step x rs kept (t x) refl tells (given_is_first rs (tells_rest t P x rs tells) kept) h
@@ -151,6 +154,7 @@ module _ (t : Record → Bool) (P : Record → Type 0) (name : Record → Option
       ∙ unnamed_own x rs (name x) refl (λ some. not ((tells_first t P x rs tells).0 e, some))
   unnamed x rs false e tells not = ap (λ ys. first_given (map name ys)) (kept_step t x rs false e)
 
+  -- the first name given is the one that is kept
   pub first_is_given : (rs : List Record) → Tells t P rs → (kept : List ℕ) (entry : Record) → IsFirstWith (Names P name) rs entry → name entry ≡ Some kept → first_given (map name (filter t rs)) ≡ Some kept
   first_is_given [] tells kept entry is gives = absurd (no_first (Names P name) entry is)
   first_is_given (x ∷ rs) tells kept entry is gives =

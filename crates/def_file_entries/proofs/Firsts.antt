@@ -14,9 +14,11 @@ among n ns = list_any (λ m. nat_eq n m) ns
 abbrev other : ℕ → ℕ → Bool
 other n m = not (nat_eq n m)
 
+-- the test of two numbers, turned
 pub nat_eq-sym : (n m : ℕ) → nat_eq n m ≡ false → nat_eq m n ≡ false
 nat_eq-sym n m h = ne_eqb m n (λ e. eqb-false n m h (sym e))
 
+-- a number passes its own test
 pub nat_eq-same : (n : ℕ) → nat_eq n n ≡ true
 nat_eq-same n = eq-eqb n n refl
 
@@ -28,6 +30,7 @@ keep_one n m h = ap (λ (b : Bool). cond (not b) (n ∷ []) []) h
 drop_one : (n m : ℕ) → nat_eq m n ≡ true → filter (other m) (n ∷ []) ≡ []
 drop_one n m h = ap (λ (b : Bool). cond (not b) (n ∷ []) []) h
 
+-- a new number comes last
 pub firsts-new : (n : ℕ) (ns : List ℕ) → among n ns ≡ false → firsts (ns ++ n ∷ []) ≡ firsts ns ++ n ∷ []
 firsts-new n [] h = refl
 firsts-new n (m ∷ ns) h =
@@ -46,6 +49,7 @@ seen_step n m ns true false e f h known =
     ∙ ap (λ (ms : List ℕ). m ∷ ms) (append-nil (filter (other m) (firsts ns)))
 seen_step n m ns false false e f h known = absurd cc
 
+-- a number that was there changes nothing
 pub firsts-seen : (n : ℕ) (ns : List ℕ) → among n ns ≡ true → firsts (ns ++ n ∷ []) ≡ firsts ns
 firsts-seen n [] h = absurd cc
 firsts-seen n (m ∷ ns) h = seen_step n m ns (nat_eq n m) (among n ns) refl refl h (firsts-seen n ns)
@@ -62,10 +66,12 @@ among_step : (n m : ℕ) (ns : List ℕ) (here : Bool) → nat_eq n m ≡ here �
 among_step n m ns true e known = refl
 among_step n m ns false e known = among_kept n m (firsts ns) e ∙ known
 
+-- the numbers are the same
 pub among-firsts : (n : ℕ) (ns : List ℕ) → among n (firsts ns) ≡ among n ns
 among-firsts n [] = refl
 among-firsts n (m ∷ ns) = among_step n m ns (nat_eq n m) refl (among-firsts n ns)
 
+-- no number stands twice
 abbrev pub Distinct : List ℕ → Type 0
 Distinct [] = Unit {0}
 Distinct (n ∷ ns) = (among n ns ≡ false) × Distinct ns
@@ -82,12 +88,14 @@ Distinct_filter test [] h = tt
 Distinct_filter test (n ∷ ns) h =
     elim (test n) as (λ (b : Bool). Distinct (cond b (n ∷ filter test ns) (filter test ns))) [ true ↦ (among_filter test n ns h.0, Distinct_filter test ns h.1) | false ↦ Distinct_filter test ns h.1 ]
 
+-- each number stands once
 pub firsts-distinct : (ns : List ℕ) → Distinct (firsts ns)
 firsts-distinct [] = tt
 firsts-distinct (n ∷ ns) = (among_dropped n (firsts ns), Distinct_filter (other n) (firsts ns) (firsts-distinct ns))
 
 -- places
 
+-- where a number stands, or the length
 abbrev pub place : ℕ → List ℕ → ℕ
 place n ns = position_or_len (λ m. nat_eq n m) ns
 
@@ -95,10 +103,12 @@ place_step : (n : ℕ) (ns : List ℕ) (here : Bool) → (among n ns ≡ true �
 place_step n ns true known h = omega arith
 place_step n ns false known h = let k = known h in omega arith
 
+-- a number that is among them has a place
 pub place-among : (n : ℕ) (ns : List ℕ) → among n ns ≡ true → place n ns < length ns
 place-among n [] h = absurd cc
 place-among n (m ∷ ns) h = place_step n ns (nat_eq n m) (place-among n ns) h
 
+-- and any other has none
 pub place-not_among : (n : ℕ) (ns : List ℕ) → among n ns ≡ false → place n ns ≡ length ns
 place-not_among n [] h = refl
 place-not_among n (m ∷ ns) h =
@@ -114,6 +124,7 @@ pub place-append : (n : ℕ) (ns more : List ℕ) → among n ns ≡ true → pl
 place-append n [] more h = absurd cc
 place-append n (m ∷ ns) more h = append_step n ns more (nat_eq n m) (place-append n ns more) h
 
+-- a new number stands last
 pub place-new : (n : ℕ) (ns : List ℕ) → among n ns ≡ false → place n (ns ++ n ∷ []) ≡ length ns
 place-new n [] h = ap (λ (b : Bool). cond (not b) (1 + 0) 0) (nat_eq-same n)
 place-new n (m ∷ ns) h =
@@ -126,5 +137,6 @@ number_step : (k n : ℕ) (ns : List ℕ) (seen : Bool) → among n ns ≡ seen 
 number_step k n ns true e h = ap (place k) (firsts-seen n ns e)
 number_step k n ns false e h = ap (place k) (firsts-new n ns e) ∙ place-append k (firsts ns) (n ∷ []) (among-firsts k ns ∙ h)
 
+-- a number keeps its place with one more
 pub number-stays : (k n : ℕ) (ns : List ℕ) → among k ns ≡ true → number_in k (firsts (ns ++ n ∷ [])) ≡ number_in k (firsts ns)
 number-stays k n ns h = ap (λ (i : ℕ). i + 1) (number_step k n ns (among n ns) refl h)

@@ -30,6 +30,7 @@ list_stays given rs r (x, rest, e) = ap (λ xs. given_first (map given (xs ++ r 
 
 -- Sets.
 
+-- the number of an entry's set
 abbrev pub set_key : Record → ℕ
 set_key r = r.set.number
 
@@ -37,6 +38,7 @@ set_key r = r.set.number
 abbrev set_by : ℕ → List Record → SetEntry
 set_by n ms = record { number = n; name = first_given (map (λ r. r.set.name) ms); actions = given_first (map (λ r. r.set.actions) ms) }
 
+-- what some entries say of a set
 abbrev pub set_known : List Record → ℕ → SetEntry
 set_known rs n = set_by n (hits set_key n rs)
 
@@ -64,6 +66,7 @@ set_noted rs r = record {
 abbrev set_table_by : List Record → List SetEntry
 set_table_by rs = map (set_known rs) (firsts (map set_key rs))
 
+-- the numbers with one entry more
 pub numbers_more : (key : Record → ℕ) (rs : List Record) (r : Record) → firsts (map key (rs ++ r ∷ [])) ≡ firsts (map key rs ++ key r ∷ [])
 numbers_more key rs r = ap firsts (map-append key rs (r ∷ []))
 
@@ -72,11 +75,13 @@ set_table_more rs r =
     ap (map (set_known (rs ++ r ∷ []))) (numbers_more set_key rs r)
     ∙ table-noted (λ e. e.number) no_set (renamed_set r.set) (new_set r.set) (set_known rs) (set_known (rs ++ r ∷ [])) r.set.number (map set_key rs) (set_noted rs r)
 
+-- the number of the last entry's set
 pub set_number_more : (rs : List Record) (r : Record) → number_in r.set.number (firsts (map set_key (rs ++ r ∷ []))) ≡ set_number (set_table_by rs) r.set
 set_number_more rs r =
     ap (number_in r.set.number) (numbers_more set_key rs r)
     ∙ number-noted (λ (e : SetEntry). e.number) (set_known rs) (λ m. refl) r.set.number (map set_key rs)
 
+-- how many actions the last entry's set has
 pub action_count_more : (rs : List Record) (r : Record) → length (set_known (rs ++ r ∷ []) r.set.number).actions ≡ action_count (set_table_by rs) r.set
 action_count_more rs r =
     let noted = set_noted rs r in
@@ -95,14 +100,17 @@ count_step n rs r true e h =
     ap (λ (k : ℕ). length (set_known (rs ++ r ∷ []) k).actions) (sym same) ∙ ap (λ (e : SetEntry). length e.actions) (noted.changed own) ∙ ap (λ (k : ℕ). length (set_known rs k).actions) same
 count_step n rs r false e h = ap (λ (e : SetEntry). length e.actions) ((set_noted rs r).stays n e)
 
+-- a set keeps its number of actions
 pub action_count_stays : (n : ℕ) (rs : List Record) (r : Record) → among n (map set_key rs) ≡ true → length (set_known (rs ++ r ∷ []) n).actions ≡ length (set_known rs n).actions
 action_count_stays n rs r h = count_step n rs r (nat_eq r.set.number n) refl h
 
 -- Entries of a kind.
 
+-- the last entry's kind has it too
 pub own_kind : (kind : Kind) (rs : List Record) (r : Record) → is_same_kind kind (mover r) ≡ true → of_kind kind (rs ++ r ∷ []) ≡ of_kind kind rs ++ r ∷ []
 own_kind kind rs r h = filter-append (λ x. is_same_kind kind (mover x)) rs (r ∷ []) ∙ ap (λ (b : Bool). of_kind kind rs ++ cond b (r ∷ []) []) h
 
+-- another kind has it not
 pub other_kind : (kind : Kind) (rs : List Record) (r : Record) → is_same_kind kind (mover r) ≡ false → of_kind kind (rs ++ r ∷ []) ≡ of_kind kind rs
 other_kind kind rs r h = filter-append (λ x. is_same_kind kind (mover x)) rs (r ∷ []) ∙ ap (λ (b : Bool). of_kind kind rs ++ cond b (r ∷ []) []) h ∙ append-nil (of_kind kind rs)
 
@@ -112,6 +120,7 @@ own_table kind rs r h = ap set_table_by (own_kind kind rs r h) ∙ set_table_mor
 other_table : (kind : Kind) (rs : List Record) (r : Record) → is_same_kind kind (mover r) ≡ false → set_table kind (rs ++ r ∷ []) ≡ set_table kind rs
 other_table kind rs r h = ap set_table_by (other_kind kind rs r h)
 
+-- the tables of the sets of all kinds
 abbrev pub tables_of : List Record → SetTables
 tables_of rs = record { chance = set_table movers.Chance rs; one = set_table movers.One rs; two = set_table movers.Two rs }
 
@@ -137,11 +146,13 @@ sets_by movers.Leaf rs r e =
     let c = other_table movers.Two rs r (ap (is_same_kind movers.Two) e) in
     λ i. record { chance = a i; one = b i; two = c i }
 
+-- the tables with one entry more
 pub sets_more : (rs : List Record) (r : Record) → tables_of (rs ++ r ∷ []) ≡ with_sets (mover r) (noted_set (sets_of_kind (mover r) (tables_of rs)) r.set) (tables_of rs)
 sets_more rs r = sets_by (mover r) rs r refl
 
 -- Outcomes.
 
+-- the number of an entry's outcome
 abbrev pub outcome_key : Record → ℕ
 outcome_key r = r.outcome.number
 
@@ -188,9 +199,11 @@ outcomes_more rs r =
     ap (map (outcome_known (rs ++ r ∷ []))) (numbers_more outcome_key rs r)
     ∙ table-noted (λ e. e.number) null_outcome (renamed_outcome r.outcome) (new_outcome r.outcome) (outcome_known rs) (outcome_known (rs ++ r ∷ [])) r.outcome.number (map outcome_key rs) (outcome_noted rs r)
 
+-- an outcome other than 0 is one of those mentioned
 pub some_outcome : (rs : List Record) (r : Record) → nat_eq r.outcome.number 0 ≡ false → with_outcome (rs ++ r ∷ []) ≡ with_outcome rs ++ r ∷ []
 some_outcome rs r h = filter-append (λ x. not (nat_eq x.outcome.number 0)) rs (r ∷ []) ∙ ap (λ (b : Bool). with_outcome rs ++ cond (not b) (r ∷ []) []) h
 
+-- outcome 0 is not
 pub null_mention : (rs : List Record) (r : Record) → nat_eq r.outcome.number 0 ≡ true → with_outcome (rs ++ r ∷ []) ≡ with_outcome rs
 null_mention rs r h = filter-append (λ x. not (nat_eq x.outcome.number 0)) rs (r ∷ []) ∙ ap (λ (b : Bool). with_outcome rs ++ cond (not b) (r ∷ []) []) h ∙ append-nil (with_outcome rs)
 
@@ -199,9 +212,11 @@ outcome_table_step : (rs : List Record) (r : Record) (b : Bool) → nat_eq r.out
 outcome_table_step rs r true e = ap outcomes_by (null_mention rs r e)
 outcome_table_step rs r false e = ap outcomes_by (some_outcome rs r e) ∙ outcomes_more (with_outcome rs) r
 
+-- the outcomes with one entry more
 pub outcome_table_more : (rs : List Record) (r : Record) → outcome_table (rs ++ r ∷ []) ≡ noted_outcome (outcome_table rs) r.outcome
 outcome_table_more rs r = outcome_table_step rs r (nat_eq r.outcome.number 0) refl
 
+-- the number of the last entry's outcome
 pub outcome_number_step : (rs : List Record) (r : Record) (b : Bool) → nat_eq r.outcome.number 0 ≡ b
     → cond b 0 (number_in r.outcome.number (outcome_numbers (rs ++ r ∷ []))) ≡ cond b 0 (unwrap_or (found (λ (e : OutcomeEntry). e.number) r.outcome.number (outcome_table rs)) (length (outcome_table rs)) + 1)
 outcome_number_step rs r true e = refl

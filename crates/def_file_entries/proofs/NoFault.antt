@@ -15,6 +15,7 @@ not_nil : (before behind : List Record) (r : Record) → [] ≡ before ++ r ∷ 
 not_nil [] behind r e = cc
 not_nil (x ∷ before) behind r e = cc
 
+-- without entries there is none
 pub nothing_at_fault : HaveNoFault []
 nothing_at_fault before behind r e = absurd (not_nil before behind r e)
 

@@ -122,6 +122,7 @@ nodes_more rs r =
     ∙ ap (λ (nodes : List Node). nodes ++ node_of (rs ++ r ∷ []) r ∷ []) (nodes_stay rs r rs (all_known rs))
     ∙ ap (λ (node : Node). map (node_of rs) rs ++ node ∷ []) (last_node rs r)
 
+-- the law: what is known with one more entry
 pub one_more : (rs : List Record) (r : Record) → contents_of (rs ++ r ∷ []) ≡ with_record (contents_of rs) r
 one_more rs r =
     let nodes = nodes_more rs r in

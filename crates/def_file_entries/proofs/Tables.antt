@@ -100,6 +100,7 @@ table_step number none change fresh f g n ns false e is =
     ∙ ap (λ vs. vs ++ fresh ∷ []) (map_stays f g n is.stays (firsts ns) out)
     ∙ ap (λ (o : Option ℕ). option_map_or (λ i. slice_set (map f (firsts ns)) i (change (slice_index_or (map f (firsts ns)) i none))) o (map f (firsts ns) ++ fresh ∷ [])) (sym (found-new number f is.shown n (firsts ns) out))
 
+-- the table with a mention more
 pub table-noted : {E : Type 0} (number : E → ℕ) (none : E) (change : E → E) (fresh : E) (f g : ℕ → E) (n : ℕ) (ns : List ℕ) → IsNoted number change fresh f g n ns
     → map g (firsts (ns ++ n ∷ [])) ≡ noted number none change fresh n (map f (firsts ns))
 table-noted number none change fresh f g n ns is = table_step number none change fresh f g n ns (among n ns) refl is
@@ -140,26 +141,31 @@ value-noted number none h f g v shown n ns kept begun = value_step number none h
 
 -- mentions, among things with a number each
 
+-- the things with this number
 abbrev pub hits : {R : Type 0} (key : R → ℕ) → ℕ → List R → List R
 hits key n rs = filter (λ r. nat_eq n (key r)) rs
 
+-- a mention of another number is none of them
 pub hits-other : {R : Type 0} (key : R → ℕ) (m : ℕ) (rs : List R) (r : R) → nat_eq (key r) m ≡ false → hits key m (rs ++ r ∷ []) ≡ hits key m rs
 hits-other key m rs r h =
     filter-append (λ x. nat_eq m (key x)) rs (r ∷ [])
     ∙ ap (λ (b : Bool). hits key m rs ++ cond b (r ∷ []) []) (nat_eq-sym (key r) m h)
     ∙ append-nil (hits key m rs)
 
+-- a mention of the number comes last
 pub hits-own : {R : Type 0} (key : R → ℕ) (rs : List R) (r : R) → hits key (key r) (rs ++ r ∷ []) ≡ hits key (key r) rs ++ r ∷ []
 hits-own key rs r =
     filter-append (λ x. nat_eq (key r) (key x)) rs (r ∷ [])
     ∙ ap (λ (b : Bool). hits key (key r) rs ++ cond b (r ∷ []) []) (nat_eq-same (key r))
 
+-- a number that is not there has none
 pub hits-none : {R : Type 0} (key : R → ℕ) (n : ℕ) (rs : List R) → among n (map key rs) ≡ false → hits key n rs ≡ []
 hits-none key n [] h = refl
 hits-none key n (r ∷ rs) h =
     let parts = or_parts (nat_eq n (key r)) (among n (map key rs)) h in
     ap (λ (b : Bool). cond b (r ∷ hits key n rs) (hits key n rs)) parts.0 ∙ hits-none key n rs parts.1
 
+-- there is a first
 abbrev pub HasFirst : {R : Type 0} → List R → Type 0
 HasFirst {R} xs = (x : R) × (rest : List R) × (xs ≡ x ∷ rest)
 
@@ -167,6 +173,7 @@ some_step : {R : Type 0} (key : R → ℕ) (n : ℕ) (r : R) (rs : List R) (here
 some_step key n r rs true h known = (r, hits key n rs, refl)
 some_step key n r rs false h known = known h
 
+-- a number that is there has a first
 pub hits-some : {R : Type 0} (key : R → ℕ) (n : ℕ) (rs : List R) → among n (map key rs) ≡ true → HasFirst (hits key n rs)
 hits-some key n [] h = absurd cc
 hits-some key n (r ∷ rs) h = some_step key n r rs (nat_eq n (key r)) h (hits-some key n rs)
@@ -176,6 +183,7 @@ pub data Found {E R : Type 0} (number : E → ℕ) (none : E) (f : ℕ → E) (k
   is_new : found number n (map f (firsts (map key rs))) ≡ None → hits key n rs ≡ [] → Found number none f key n rs
   is_known : (i : ℕ) → found number n (map f (firsts (map key rs))) ≡ Some i → slice_index_or (map f (firsts (map key rs))) i none ≡ f n → HasFirst (hits key n rs) → Found number none f key n rs
 
+-- a number is new or known
 pub found-cases : {E R : Type 0} (number : E → ℕ) (none : E) (f : ℕ → E) → ((m : ℕ) → number (f m) ≡ m) → (key : R → ℕ) (n : ℕ) (rs : List R) → Found number none f key n rs
 found-cases number none f shown key n rs = by (among n (map key rs)) refl
   where

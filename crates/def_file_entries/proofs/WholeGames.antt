@@ -20,6 +20,7 @@ together_from done (r ∷ rest) fine held =
     let next : AreTogether (contents_of (done ++ r ∷ [])) = subst AreTogether (sym (one_more done r)) (together_with (contents_of done) r held (no_fault_here done r rest fine)) in
     subst (λ rs. AreTogether (contents_of rs)) regrouped (together_from (done ++ r ∷ []) rest (subst HaveNoFault (sym regrouped) fine) next)
 
+-- the law: entries without a fault make a whole game
 pub entries_make_whole_game : EntriesMakeWholeGame
 entries_make_whole_game prologue rs fine whole =
     let contents = contents_of rs in

@@ -184,6 +184,7 @@ trailing_faulted whole fault is =
     (on.entries ∙ none_here on.left (contents_of is.entries) whole is.end is.whole_tree)
     (trailing_decided whole is.end on.within is.place is.byte ∙ ap Err (sym is.fault_is))
 
+-- the law: with the first fault reading stops
 pub first_faulted : (whole : List ℕ) (fault : FileFault) → FirstFault whole fault → game_at whole ≡ Err fault
 first_faulted whole fault (in_head o) = game_behind whole fault (head_faulted whole fault o)
 first_faulted whole fault (in_players is) = game_behind whole fault (players_faulted whole fault is)

@@ -42,6 +42,7 @@ pub data Checked (names : List (List ℕ)) (at : ℕ) : Type 0 where
   two : length names ≡ 2 → checked_names names at ≡ Ok at → Checked names at
   others : length names ≢ 2 → checked_names names at ≡ Err (Players (length names)) → Checked names at
 
+-- two names pass, and any other number is the fault of the players
 pub checked : (names : List (List ℕ)) (at : ℕ) → Checked names at
 checked names at = chosen (nat_eq (length names) 2) refl
   where
@@ -199,6 +200,7 @@ tree_answer whole p at w = from (most_nodes) refl
 
 -- Behind the tree.
 
+-- what stands behind the tree is the fault of the rest
 pub nothing_fault : (whole : List ℕ) (at : ℕ) → at ≤ length whole → (fault : FileFault) → nothing_at whole at ≡ Err fault → (place : ℕ) × IsFirstByteFrom whole at place × (fault ≡ TrailingText place)
 unfolding nothing_at
 nothing_fault whole at within fault e = by_next (next_from whole at) refl e
@@ -212,6 +214,7 @@ nothing_fault whole at within fault e = by_next (next_from whole at) refl e
     by_next (Err (lexing.Syntax place)) next e = (place, (next_from-syntax whole at within place next).first, cc)
     by_next (Err (lexing.Unclosed place)) next e = (place, (next_from-unclosed whole at within place next).first, cc)
 
+-- the law: the fault with which reading stops is the first
 pub fault_first : (whole : List ℕ) (fault : FileFault) → game_at whole ≡ Err fault → FirstFault whole fault
 unfolding game_at
 fault_first whole fault e =

@@ -1,3 +1,3 @@
-pub mod Offends
-pub mod First
 pub mod Laws
+pub mod First
+pub mod Offends

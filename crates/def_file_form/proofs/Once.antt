@@ -49,6 +49,7 @@ entries_once whole at (r ∷ rs) (t ∷ ts) ss us are others a b =
     let later = entries_once whole y.mid rs ts are.0 others.0 are.2 others.2 (subst (λ n. Ahead whole n are.0) same.1 x.ahead) y.ahead in
     ap (λ x. x ∷ rs) same.0 ∙ ap (λ l. t ∷ l) later
 
+-- the law: a file has one reading at most
 pub one_reading : (bytes : List ℕ) (p q : Prologue) (rs ts : List Record) → IsFile bytes p rs → IsFile bytes q ts → (p ≡ q) × (rs ≡ ts)
 one_reading bytes p q rs ts f g =
     let x = prologue_taken bytes 0 p (map spelled f.pieces) f.behind f.prologue (clear_entries rs f.behind f.entries) (ahead_pieces bytes f.pieces f.space f.in_turn f.spelling) in

@@ -42,6 +42,7 @@ ok_nothing whole at next = ap trailing next
 none_known : no_contents ≡ contents_of []
 none_known = refl
 
+-- what is accepted stands for its game
 pub game_read : (bytes : List ℕ) (game : GameFile) → game_at bytes ≡ Ok game → StandsFor bytes game
 unfolding game_at
 game_read bytes game e =
@@ -73,6 +74,7 @@ game_read bytes game e =
       game_is = sym same ∙ ap (game_with head.0) es.known;
     })))
 
+-- what stands for a game is accepted
 pub game_taken : (bytes : List ℕ) (game : GameFile) → StandsFor bytes game → game_at bytes ≡ Ok game
 unfolding game_at
 game_taken bytes game is =

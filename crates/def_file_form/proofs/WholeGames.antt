@@ -71,6 +71,7 @@ fractions_from done (r ∷ rest) tokens are held =
     let next = subst (λ contents. HasFractions contents.sets contents.outcomes) (sym (one_more done r)) more in
     subst (λ rs. HasFractions (contents_of rs).sets (contents_of rs).outcomes) regrouped (fractions_from (done ++ r ∷ []) rest are.0 are.2 next)
 
+-- the law: a file stands for a whole game
 pub stands_for_whole_game : StandsForWholeGame
 stands_for_whole_game bytes game is = (
   subst IsWholeGame (sym is.game_is) (entries_make_whole_game is.prologue is.entries is.no_fault is.file.whole),

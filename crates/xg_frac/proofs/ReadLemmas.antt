@@ -6,7 +6,7 @@ use Rattle.std.proofs.lemmas.Bool.{cases_lt, lt-ltb, le-ltb, le-leb, lt-leb, ne_
 use Rattle.def_fraction.specs.declared.fault.NumberFault.{NumberFault}
 use Rattle.def_fraction.specs.declared.fault.NumberFault.TheVariants.{Form, ZeroDenominator, Range}
 use Rattle.def_fraction.specs.Fraction.{Fraction, fraction_of, fits, signed}
-use Rattle.def_fraction.specs.Literal.{Body, is_negative, numerator, denominator, IsLiteralOf}
+use Rattle.def_fraction.specs.Literal.{Body, is_minus, numerator, denominator, IsLiteralOf}
 use Rattle.def_fraction.specs.Reading.{sign_of, after_sign, body_of, literal_of, value_of, value_if, read_as_literal}
 use Rattle.def_fraction.specs.Laws.{JudgesLiteral}
 use Rattle.def_fraction.proofs.JudgeLemmas.{read_as_literal-judged}
@@ -66,12 +66,12 @@ capped_answer negative n d =
     (λ n_large. out d _ _ _ _ (first_false (leb n (2 ^ 127 - 1)) (leb d (2 ^ 127 - 1)) _ (lt-leb n (2 ^ 127 - 1) (omega arith))) (first_false (ltb (min n past) past) (ltb (min d past) past) _ (le-ltb (min n past) past (omega arith))))
     (cases_lt n past)
 
-by_body : (bytes : List ℕ) (b : Option Body) → answer_if (is_negative (sign_of bytes)) (option_map quotient_of b) ≡ value_if (option_map (λ body. record { sign = sign_of bytes; body = body }) b)
+by_body : (bytes : List ℕ) (b : Option Body) → answer_if (is_minus (sign_of bytes)) (option_map quotient_of b) ≡ value_if (option_map (λ body. record { sign = sign_of bytes; body = body }) b)
 unfolding value_of
 by_body bytes None = refl
-by_body bytes (Some b) = sym (capped_answer (is_negative (sign_of bytes)) (numerator b) (denominator b))
+by_body bytes (Some b) = sym (capped_answer (is_minus (sign_of bytes)) (numerator b) (denominator b))
 
-pub read_as_literal-answer : (bytes : List ℕ) (o : Option Quotient) (negative : Bool) → o ≡ option_map quotient_of (body_of (after_sign bytes)) → negative ≡ is_negative (sign_of bytes) → answer_if negative o ≡ read_as_literal bytes
+pub read_as_literal-answer : (bytes : List ℕ) (o : Option Quotient) (negative : Bool) → o ≡ option_map quotient_of (body_of (after_sign bytes)) → negative ≡ is_minus (sign_of bytes) → answer_if negative o ≡ read_as_literal bytes
 unfolding read_as_literal literal_of
 read_as_literal-answer bytes o negative e f =
     ap (answer_if negative) e ∙ ap (λ b. answer_if b (option_map quotient_of (body_of (after_sign bytes)))) f ∙ by_body bytes (body_of (after_sign bytes))

@@ -3,7 +3,7 @@ ghost use Rattle.std.specs.Prelude.{◌≡◌, ℕ, ◌+◌, ◌-◌, ◌*◌, �
 ghost use Rattle.std.specs.Option.{option_map};
 ghost use Rattle.def_fraction.specs.Digits.{is_numeral, number_of, leading_digits, after_digits};
 ghost use Rattle.def_fraction.specs.Fraction.{most};
-ghost use Rattle.def_fraction.specs.Literal.{is_negative, IsNoLiteral, HasZeroDenominator, IsPastLimits, IsLiteralOf};
+ghost use Rattle.def_fraction.specs.Literal.{is_minus, IsNoLiteral, HasZeroDenominator, IsPastLimits, IsLiteralOf};
 ghost use Rattle.def_fraction.specs.Reading.{sign_of, after_sign, body_of, power_of, read_as_literal, read_as_whole};
 ghost use Rattle.xg_frac.specs.Scan.{ScansPart, capped, quotient_of, decimal_quotient, exponent_of, past};
 
@@ -97,7 +97,7 @@ struct Exponent {
 }
 
 fn split_sign(bytes: &[u8]) -> Signed
-    ensures negative { result.negative ≡ is_negative (sign_of bytes.now) }
+    ensures negative { result.negative ≡ is_minus (sign_of bytes.now) }
     ensures rest { result.rest.now ≡ after_sign bytes.now }
 {
     match bytes {

@@ -7,7 +7,7 @@ use Rattle.std.proofs.Math.ListN.{length-map}
 use Rattle.std.proofs.lemmas.List.{map-append, map-set}
 use Rattle.def_fraction.specs.Fraction.{Fraction}
 use Rattle.def_file.specs.Content.{Action, SetEntry, OutcomeEntry}
-use Rattle.def_file.specs.Faults.{no_set, set_at, place_of, null_outcome, outcome_at, outcome_place_of}
+use Rattle.def_file.specs.Faults.{no_set, set_at, set_place_of, null_outcome, outcome_at, outcome_place_of}
 use Rattle.def_file.specs.Adding.{kept_name}
 use Rattle.xg_game.specs.Sets.{set_of}
 use Rattle.xg_game.specs.Outcomes.{outcome_of}
@@ -61,7 +61,7 @@ module _ {D E : Type 0} (entry : ℕ × D → E) (number : E → ℕ) (numbered 
 abbrev pub KnownSet : Type 0
 KnownSet = Described (List Action)
 
-pub set_place : (n : ℕ) (es : List (ℕ × KnownSet)) → position (nat_eq n) (keys_of es) ≡ place_of n (map set_of es)
+pub set_place : (n : ℕ) (es : List (ℕ × KnownSet)) → position (nat_eq n) (keys_of es) ≡ set_place_of n (map set_of es)
 set_place = place_seen set_of (λ s. s.number) (λ e. refl)
 
 pub set_number : (es : List (ℕ × KnownSet)) (i k : ℕ) → slice_get (keys_of es) i ≡ Some k → k ≡ (set_at (map set_of es) i).number

@@ -1,5 +1,4 @@
 pub mod Access
-pub mod Consistent
 pub mod Kept
 pub mod Made
 pub mod Marks

@@ -1,10 +1,11 @@
 //! A game.
 ghost use Rattle.std.specs.Prelude.{◌≡◌, ◌≢◌, ◌≤◌, ◌-◌, Some, length, option_map, slice_get};
-ghost use Rattle.def_file.specs.Content.{game_with, sets_of};
+ghost use Rattle.def_file.specs.Content.{game_with, sets_of_kind};
 ghost use Rattle.def_file.specs.Faults.{outcome_at, set_at};
+ghost use Rattle.def_tree.specs.Rules.{most_actions};
 ghost use Rattle.def_tree.specs.Tree.{node_count, wanted};
 ghost use Rattle.xg_game.specs.Access.{name_of, outcome_numbered, payoff_to};
-ghost use Rattle.xg_game.specs.Consistent.{IsConsistent};
+ghost use Rattle.def_file.specs.Game.{AreTogether, IsWholeGame};
 ghost use Rattle.xg_game.specs.Prologues.{prologue_of};
 
 use crate::outcomes::{OutcomeTable, zero};
@@ -37,19 +38,19 @@ impl Model for Game {
 
     ghost coded = { Prim.hlevel (codes, forest_code) };
 
-    ghost use Rattle.xg_game.specs.Consistent.{IsSmall};
+    ghost use Rattle.def_file.specs.Game.{IsWholeGame};
     ghost use Rattle.xg_game.specs.Kept.{game_of};
 
     ghost view = { game_of };
 
-    ghost invariant = { λ g. IsSmall (game_of g) };
+    ghost invariant = { λ g. IsWholeGame (game_of g) };
 }
 
 impl Game {
     /// The game of a prologue and whole tables.
     pub(crate) fn of(prologue: Prologue, tables: Tables) -> Game
         requires complete { wanted 1 tables.nodes ≡ 0 }
-        requires consistent { IsConsistent tables }
+        requires consistent { AreTogether tables }
         ensures { result ≡ game_with (prologue_of prologue) tables }
     {
         Game {
@@ -63,7 +64,10 @@ impl Game {
 
     /// The tree of the game's nodes.
     pub fn tree(&self) -> &Tree
-        ensures { result.now ≡ self.now.tree }
+        ensures tree { result.now ≡ self.now.tree }
+
+        // What is true of each game.
+        ensures whole { IsWholeGame self.now }
     {
         &self.tree
     }
@@ -104,7 +108,7 @@ impl Game {
     /// How many sets of the kind there are.
     pub fn set_count(&self, kind: Kind) -> u32
         requires { kind ≢ Kind.Leaf }
-        ensures { result ≡ length (sets_of kind self.now.sets) }
+        ensures { result ≡ length (sets_of_kind kind self.now.sets) }
     {
         self.sets.of(kind).len() as u32
     }
@@ -113,8 +117,8 @@ impl Game {
     pub fn set_number(&self, kind: Kind, set: u32) -> u64
         requires kind { kind ≢ Kind.Leaf }
         requires from_one { 1 ≤ set }
-        requires there { set ≤ length (sets_of kind self.now.sets) }
-        ensures { result ≡ (set_at (sets_of kind self.now.sets) (set - 1)).number }
+        requires there { set ≤ length (sets_of_kind kind self.now.sets) }
+        ensures { result ≡ (set_at (sets_of_kind kind self.now.sets) (set - 1)).number }
     {
         self.sets.of(kind).number(set as usize - 1)
     }
@@ -123,8 +127,8 @@ impl Game {
     pub fn set_name(&self, kind: Kind, set: u32) -> Option<&[u8]>
         requires kind { kind ≢ Kind.Leaf }
         requires from_one { 1 ≤ set }
-        requires there { set ≤ length (sets_of kind self.now.sets) }
-        ensures { let entry = set_at (sets_of kind self.now.sets) (set - 1) in
+        requires there { set ≤ length (sets_of_kind kind self.now.sets) }
+        ensures { let entry = set_at (sets_of_kind kind self.now.sets) (set - 1) in
             option_map (λ b. b.now) result ≡ entry.name }
     {
         bytes_of(&self.set(kind, set).name)
@@ -134,8 +138,8 @@ impl Game {
     pub fn action_count(&self, kind: Kind, set: u32) -> u32
         requires kind { kind ≢ Kind.Leaf }
         requires from_one { 1 ≤ set }
-        requires there { set ≤ length (sets_of kind self.now.sets) }
-        ensures { result ≡ length (set_at (sets_of kind self.now.sets) (set - 1)).actions }
+        requires there { set ≤ length (sets_of_kind kind self.now.sets) }
+        ensures { result ≡ length (set_at (sets_of_kind kind self.now.sets) (set - 1)).actions }
     {
         self.set(kind, set).value.len() as u32
     }
@@ -144,11 +148,11 @@ impl Game {
     pub fn action_name(&self, kind: Kind, set: u32, action: u32) -> &[u8]
         requires kind { kind ≢ Kind.Leaf }
         requires from_one { 1 ≤ set }
-        requires there { set ≤ length (sets_of kind self.now.sets) }
+        requires there { set ≤ length (sets_of_kind kind self.now.sets) }
         requires action_from_one { 1 ≤ action }
-        requires action_there { let entry = set_at (sets_of kind self.now.sets) (set - 1) in
+        requires action_there { let entry = set_at (sets_of_kind kind self.now.sets) (set - 1) in
             action ≤ length entry.actions }
-        ensures { let actions = (set_at (sets_of kind self.now.sets) (set - 1)).actions in
+        ensures { let actions = (set_at (sets_of_kind kind self.now.sets) (set - 1)).actions in
             option_map (λ a. a.name) (slice_get actions (action - 1)) ≡ Some result.now }
     {
         self.set(kind, set)
@@ -218,12 +222,12 @@ impl Game {
     fn set(&self, kind: Kind, set: u32) -> &SetDescription
         requires kind { kind ≢ Kind.Leaf }
         requires from_one { 1 ≤ set }
-        requires there { set ≤ length (sets_of kind self.now.sets) }
-        ensures name { let entry = set_at (sets_of kind self.now.sets) (set - 1) in
+        requires there { set ≤ length (sets_of_kind kind self.now.sets) }
+        ensures name { let entry = set_at (sets_of_kind kind self.now.sets) (set - 1) in
             result.now.name ≡ entry.name }
-        ensures actions { let entry = set_at (sets_of kind self.now.sets) (set - 1) in
+        ensures actions { let entry = set_at (sets_of_kind kind self.now.sets) (set - 1) in
             result.now.value ≡ entry.actions }
-        ensures few { length result.now.value ≤ 1024 }
+        ensures few { length result.now.value ≤ most_actions }
     {
         self.sets.of(kind).get(set as usize - 1)
     }

@@ -4,7 +4,7 @@ ghost use Rattle.def_file.specs.Adding.{with_record};
 ghost use Rattle.def_file.specs.Content.{game_with, no_contents};
 ghost use Rattle.def_file.specs.Faults.{has_set, record_fault};
 ghost use Rattle.def_file.specs.declared.FileFault.{FileFault};
-ghost use Rattle.def_tree.specs.Rules.{KeepRules};
+ghost use Rattle.def_tree.specs.Rules.{KeepRules, most_nodes};
 ghost use Rattle.def_tree.specs.Tree.{Begins, wanted};
 ghost use Rattle.xg_game.specs.Prologues.{prologue_with};
 ghost use Rattle.xg_record.specs.Record.{record_of};
@@ -35,11 +35,11 @@ impl Model for GameMaker {
     ghost Value = { Made };
 
     ghost use Rattle.xg_game.specs.Prologues.{prologue_of};
-    ghost use Rattle.xg_game.specs.Consistent.{IsConsistent};
+    ghost use Rattle.def_file.specs.Game.{AreTogether};
 
     ghost view = { λ m. record { prologue = prologue_of m.prologue; contents = m.tables; spent = m.spent } };
 
-    ghost invariant = { λ m. m.spent ≡ false → IsConsistent m.tables };
+    ghost invariant = { λ m. m.spent ≡ false → AreTogether m.tables };
 }
 
 impl GameMaker {
@@ -67,7 +67,7 @@ impl GameMaker {
         // What is true of every maker.
         ensures begins { Begins 1 self.now.contents.nodes }
         ensures rules { KeepRules self.now.contents.nodes }
-        ensures limit { length self.now.contents.nodes ≤ 1048576 }
+        ensures limit { length self.now.contents.nodes ≤ most_nodes }
 
         // And of one that isn't spent.
         ensures names { self.now.spent ≡ false →

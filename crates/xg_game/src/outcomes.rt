@@ -185,7 +185,7 @@ impl OutcomeTable {
 
 /// The payoff at `i`, which counts from 0, or 0 where there is none.
 fn payoff_at(payoffs: &Option<Payoffs>, i: usize) -> Frac
-    ensures { result ≡ adding.payoff_at (unwrap_or payoffs.now []) i }
+    ensures { result ≡ adding.nth_payoff (unwrap_or payoffs.now []) i }
 {
     match payoffs {
         Some(payoffs) if i < payoffs.len() => payoffs.get(i),

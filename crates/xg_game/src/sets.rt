@@ -1,7 +1,7 @@
 //! The sets of a game.
 ghost use Rattle.std.specs.Prelude.{◌≡◌, ◌≢◌, ◌+◌, ◌<◌, ◌^◌, false, [], ◌∷◌, ◌++◌, length, slice_set, Some, None, OnOk, IfSome};
 ghost use Rattle.def_file.specs.Adding as adding;
-ghost use Rattle.def_file.specs.Content.{SetEntry, sets_of, with_sets};
+ghost use Rattle.def_file.specs.Content.{SetEntry, sets_of_kind, with_sets};
 ghost use Rattle.def_file.specs.Faults as faults;
 ghost use Rattle.xg_game.specs.Mentions.{set_mention};
 ghost use Rattle.xg_record.specs.Record.{record_of};
@@ -56,7 +56,7 @@ impl SetTable {
 
     /// Where the set of this number is.
     pub(crate) fn find(&self, number: u64) -> Option<usize>
-        ensures place { result ≡ faults.place_of number self.now }
+        ensures place { result ≡ faults.set_place_of number self.now }
         ensures within { IfSome result (λ i. i < length self.now) }
     {
         self.sets.find(number)
@@ -166,7 +166,7 @@ impl SetTable {
 
     /// Puts a set last.
     fn add(&mut self, number: u64, name: Option<Text>, actions: Actions) -> Result<(), AllocError>
-        requires new { faults.place_of number self.old ≡ None }
+        requires new { faults.set_place_of number self.old ≡ None }
         requires room { length self.old + 1 < 2 ^ 32 }
         ensures { let added : SetEntry = record { number = number; name = name; actions = actions } in
             OnOk result (self.new ≡ self.old ++ added ∷ []) }
@@ -225,7 +225,7 @@ impl SetTables {
     /// The sets of a kind.
     pub(crate) fn of(&self, kind: Kind) -> &SetTable
         requires { kind ≢ Kind.Leaf }
-        ensures { result.now ≡ sets_of kind self.now }
+        ensures { result.now ≡ sets_of_kind kind self.now }
     {
         match kind {
             Kind::Chance => &self.chance,
@@ -244,10 +244,10 @@ impl SetTables {
         actions: Option<Actions>,
     ) -> Result<(), AllocError>
         requires defined { let mention = set_mention number name actions in
-            kind ≢ Kind.Leaf → faults.is_set_undefined (sets_of kind self.old) mention ≡ false }
-        requires room { length (sets_of kind self.old) + 1 < 2 ^ 32 }
+            kind ≢ Kind.Leaf → faults.is_set_undefined (sets_of_kind kind self.old) mention ≡ false }
+        requires room { length (sets_of_kind kind self.old) + 1 < 2 ^ 32 }
         ensures { let mention = set_mention number name actions in
-            let table = adding.noted_set (sets_of kind self.old) mention in
+            let table = adding.noted_set (sets_of_kind kind self.old) mention in
             OnOk result (self.new ≡ with_sets kind table self.old) }
     {
         match kind {

@@ -1,11 +1,11 @@
 //! The nodes of entries, with their names, sets and outcomes.
 ghost use Rattle.std.specs.Prelude.{◌≡◌, ◌≢◌, None, OnOk, IsTrue, ◌↔◌, ◌≤◌, ◌&&◌, length};
 ghost use Rattle.def_file.specs.Adding.{node_with, with_record};
-ghost use Rattle.def_file.specs.Content.{no_contents, sets_of};
+ghost use Rattle.def_file.specs.Content.{no_contents, sets_of_kind};
 ghost use Rattle.def_file.specs.Faults as faults;
-ghost use Rattle.def_tree.specs.Rules.{KeepRules};
+ghost use Rattle.def_tree.specs.Rules.{KeepRules, most_nodes};
 ghost use Rattle.def_tree.specs.Tree.{Begins, wanted};
-ghost use Rattle.xg_game.specs.Consistent.{IsConsistent};
+ghost use Rattle.def_file.specs.Game.{AreTogether};
 ghost use Rattle.xg_record.specs.Record.{record_of};
 
 use crate::outcomes::OutcomeTable;
@@ -63,14 +63,14 @@ impl Tables {
         // What is true of all tables.
         ensures begins { Begins 1 self.now.nodes }
         ensures rules { KeepRules self.now.nodes }
-        ensures limit { length self.now.nodes ≤ 1048576 }
+        ensures limit { length self.now.nodes ≤ most_nodes }
     {
         self.nodes.is_complete()
     }
 
     /// The first fault of an entry after those so far.
     pub(crate) fn fault(&self, entry: &Record) -> Option<FileFault>
-        requires { IsConsistent self.now }
+        requires { AreTogether self.now }
         ensures { result ≡ faults.record_fault self.now (record_of entry.now) }
     {
         let node = self.names.len() as u32 + 1;
@@ -103,7 +103,7 @@ impl Tables {
 
     fn is_set_undefined(&self, entry: &Record) -> bool
         ensures { let r = record_of entry.now in
-            let table = sets_of (faults.mover r) self.now.sets in
+            let table = sets_of_kind (faults.mover r) self.now.sets in
             result ≡ faults.has_set r.kind && faults.is_set_undefined table r.set }
     {
         let kind = mover(entry.kind, entry.player);
@@ -112,7 +112,7 @@ impl Tables {
 
     fn set_differs(&self, entry: &Record) -> bool
         ensures { let r = record_of entry.now in
-            let table = sets_of (faults.mover r) self.now.sets in
+            let table = sets_of_kind (faults.mover r) self.now.sets in
             result ≡ faults.has_set r.kind && faults.set_differs (faults.mover r) table r.set }
     {
         let kind = mover(entry.kind, entry.player);
@@ -121,7 +121,7 @@ impl Tables {
 
     fn is_set_miscounted(&self, entry: &Record) -> bool
         ensures { let r = record_of entry.now in
-            let table = sets_of (faults.mover r) self.now.sets in
+            let table = sets_of_kind (faults.mover r) self.now.sets in
             result ≡ faults.has_set r.kind && faults.is_set_miscounted table r.set }
     {
         let kind = mover(entry.kind, entry.player);
@@ -130,7 +130,7 @@ impl Tables {
 
     /// Takes an entry that has no fault. Where memory runs out, part of it may be in the tables.
     pub(crate) fn keep(&mut self, entry: Record) -> Result<(), AllocError>
-        requires consistent { IsConsistent self.old }
+        requires consistent { AreTogether self.old }
         requires incomplete { wanted 1 self.old.nodes ≢ 0 }
         requires faultless { faults.record_fault self.old (record_of entry) ≡ None }
         ensures { OnOk result (self.new ≡ with_record self.old (record_of entry)) }
@@ -146,7 +146,7 @@ impl Tables {
 
     /// The node of an entry that has no fault.
     fn node_with(&self, entry: &Record) -> Node
-        requires consistent { IsConsistent self.now }
+        requires consistent { AreTogether self.now }
         requires faultless { faults.record_fault self.now (record_of entry.now) ≡ None }
         ensures { result ≡ node_with self.now (record_of entry.now) }
     {

@@ -4,7 +4,7 @@ use Rattle.std.specs.List.{prefix_len, slice_range}
 use Rattle.std.proofs.Common.{◌-◌}
 use Rattle.def_file_tokens.specs.declared.Token.TheVariants.{Text}
 use Rattle.def_file_tokens.specs.declared.Lexeme.{Lexeme}
-use Rattle.def_file_tokens.specs.Spelling.{IsText, IsToken, IsLexemeFrom}
+use Rattle.def_file_tokens.specs.Spelling.{IsQuoted, IsToken, IsLexemeFrom}
 use Rattle.def_file_tokens.specs.Texts.{IsInside}
 use Rattle.std.proofs.lemmas.List.{drop_more, drop_all}
 use Rattle.def_file_tokens.specs.declared.Token.TheVariants.{Word, Number, Open, Close, Comma, End}
@@ -54,7 +54,7 @@ next_here bytes at start is_start = ap (λ k. token_at k (drop k bytes)) is_star
 
 -- the text that was read, with its quotation marks and its inside
 module _ (whole : List ℕ) (at : ℕ) (lexeme : Lexeme) (is : IsLexemeFrom whole at lexeme) (text : lexeme.kind ≡ Text) where
-  text_is : IsText (slice_range whole lexeme.start lexeme.end)
+  text_is : IsQuoted (slice_range whole lexeme.start lexeme.end)
   text_is = subst (λ k. IsToken k (slice_range whole lexeme.start lexeme.end) (drop lexeme.end whole)) text is.token
 
   pub quoted_of : lexeme.start + 2 ≤ lexeme.end

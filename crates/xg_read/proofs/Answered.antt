@@ -8,7 +8,7 @@ use Rattle.def_file.specs.Reading.{game_at}
 use Rattle.def_file.proofs.AnyLength.{game_any_length}
 use Rattle.def_file_form.specs.Laws.{StandsFor, AcceptedIsFile, FileIsAccepted}
 use Rattle.def_file_fault.specs.First.{FirstFault}
-use Rattle.def_file_fault.specs.Laws.{FaultIsFirst, FirstIsFault}
+use Rattle.def_file_fault.specs.Laws.{FileFaultIsFirst, FirstIsFileFault}
 use Rattle.xg_game.specs.declared.fault.Refused.{Refused}
 use Rattle.xg_game.specs.declared.fault.Refused.TheVariants.{File, NoMemory}
 use Rattle.xg_read.specs.Gives.{Answers}
@@ -27,14 +27,14 @@ answer_as (Err NoMemory) read other h same = tt
 pub answer_only : FileIsAccepted → (bytes : List ℕ) (answer : Result GameFile Refused) → Answers answer (game_at bytes) → (game : GameFile) → StandsFor bytes game → Answers answer (Ok game)
 answer_only law bytes answer h game stands = answer_as answer (game_at bytes) (Ok game) h (law bytes game stands)
 
-pub answer_first : FaultIsFirst → (bytes : List ℕ) (answer : Result GameFile Refused) → Answers answer (game_at bytes) → (fault : FileFault) → answer ≡ Err (File fault) → FirstFault bytes fault
+pub answer_first : FileFaultIsFirst → (bytes : List ℕ) (answer : Result GameFile Refused) → Answers answer (game_at bytes) → (fault : FileFault) → answer ≡ Err (File fault) → FirstFault bytes fault
 answer_first law bytes (Ok game) h fault e = cc
 answer_first law bytes (Err NoMemory) h fault e = cc
 answer_first law bytes (Err (File other)) h fault e =
     let same : other ≡ fault = cc in
     law bytes fault (h ∙ (λ i. Err (same i)))
 
-pub answer_faults : FirstIsFault → (bytes : List ℕ) (answer : Result GameFile Refused) → Answers answer (game_at bytes) → (fault : FileFault) → FirstFault bytes fault → Answers answer (Err fault)
+pub answer_faults : FirstIsFileFault → (bytes : List ℕ) (answer : Result GameFile Refused) → Answers answer (game_at bytes) → (fault : FileFault) → FirstFault bytes fault → Answers answer (Err fault)
 answer_faults law bytes answer h fault first = answer_as answer (game_at bytes) (Err fault) h (law bytes fault first)
 
 pub answer_any_length : (bytes : List ℕ) (answer : Result GameFile Refused) → Answers answer (game_at bytes) → answer ≢ Err (File TooLong)

@@ -7,7 +7,7 @@ use Rattle.def_file_tokens.specs.declared.Token.TheVariants as kinds
 use Rattle.def_file_tokens.specs.declared.Lexeme.{Lexeme}
 use Rattle.def_file_tokens.specs.declared.LexFault.{LexFault}
 use Rattle.def_file_tokens.specs.Texts.{IsInside}
-use Rattle.def_file_tokens.specs.Spelling.{IsLexemeFrom, IsToken, IsText}
+use Rattle.def_file_tokens.specs.Spelling.{IsLexemeFrom, IsToken, IsQuoted}
 use Rattle.def_file.specs.Reading.{is_kind}
 
 pub kind_is_text : (kind : Token) → is_kind kinds.Text kind ≡ true → kind ≡ kinds.Text

@@ -3,7 +3,7 @@ use Rattle.std.specs.Prelude.{◌≡◌, ◌^◌, ℕ, ◌≤◌, true, List, []
 use Rattle.def_file.specs.declared.FileFault.{FileFault}
 use Rattle.def_file.specs.Content as content
 use Rattle.def_file.specs.Faults.{has_set}
-use Rattle.def_file.specs.Reading.{◌>>=◌, checked_names, name_at, name_of}
+use Rattle.def_file.specs.Reading.{◌>>=◌, checked_names, name_at, nth_name}
 use Rattle.xg_record.specs.declared.record.Record.{Record}
 use Rattle.xg_read.specs.declared.entries.SetMention.{SetMention}
 use Rattle.xg_read.specs.declared.entries.OutcomeMention.{OutcomeMention}
@@ -45,5 +45,5 @@ comment_at whole at = name_at whole at >>= λ name. Ok (unwrap_or name.0 [], nam
 
 -- the names of both players, where there are two, and else the fault
 abbrev pub IsBoth : List (List ℕ) → Result Players FileFault → Type 0
-IsBoth names (Ok p) = ((at : ℕ) → checked_names names at ≡ Ok at) × (p.one ≡ name_of names 0) × (p.two ≡ name_of names 1)
+IsBoth names (Ok p) = ((at : ℕ) → checked_names names at ≡ Ok at) × (p.one ≡ nth_name names 0) × (p.two ≡ nth_name names 1)
 IsBoth names (Err fault) = (at : ℕ) → checked_names names at ≡ Err fault

@@ -1,7 +1,7 @@
 //! A reader of a file's tokens.
 ghost use Rattle.std.specs.Prelude.{◌≡◌, ◌+◌, ◌-◌, ◌≤◌, true, length, slice_range, IfOk};
 ghost use Rattle.def_file_tokens.specs.Texts.{IsInside};
-ghost use Rattle.def_file.specs.Reading.{is_exact, next_is, nothing_at, text_of, token_where, unfit};
+ghost use Rattle.def_file.specs.Reading.{is_exact, next_is, nothing_at, token_text, token_where, unfit};
 ghost use Rattle.xg_read.specs.Wanted.{test_of};
 
 use crate::wanted::{Wanted, is_exact, is_kind};
@@ -123,7 +123,7 @@ impl<'a> Reader<'a> {
         requires marks { token.start + 2 ≤ token.end }
         requires within { token.end ≤ length self.now.whole }
         requires inside { IsInside (slice_range self.now.whole (token.start + 1) (token.end - 1)) }
-        ensures { IfOk result (λ text. text ≡ text_of self.now.whole token) }
+        ensures { IfOk result (λ text. text ≡ token_text self.now.whole token) }
     {
         unescape(alloc, &self.bytes[token.start + 1..token.end - 1])
     }

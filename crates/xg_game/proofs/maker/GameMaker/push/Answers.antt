@@ -2,9 +2,9 @@ use Rattle.std.proofs.Common.{◌≡◌, false, None, Result, Ok, Err, sym, subs
 use Rattle.std.specs.Result.{OnOk, is_err}
 use Rattle.def_file.specs.Adding.{with_record}
 use Rattle.def_file.specs.Faults.{record_fault}
-use Rattle.xg_game.specs.Consistent.{IsConsistent}
+use Rattle.def_file.specs.Game.{AreTogether}
 use Rattle.xg_record.specs.Record.{record_of}
-use Rattle.xg_game.proofs.StepLemmas.{consistent_with}
+use Rattle.def_file.proofs.Together.{together_with}
 use Rattle.xg_game.proofs.maker.GameMaker.push.Goals as goal
 
 at_ok : {T E P : Type 0} (r : Result T E) → is_err r ≡ false → OnOk r P → P
@@ -16,4 +16,4 @@ invariant_of-self-else-is_err c unspent =
     let none : record_fault c.self.inside.tables (record_of c.args.entry) ≡ None = sym c.fault.ensures ∙ c.in_default.is in
     let kept : c.keep.new.self ≡ with_record c.self.inside.tables (record_of c.args.entry) =
     at_ok c.keep.result (sym c.is_err.ensures.value ∙ c.if-is_err.false) c.keep.ensures in
-    subst IsConsistent (sym kept) (consistent_with c.self.inside.tables (record_of c.args.entry) (c.self.invariant unspent) none)
+    subst AreTogether (sym kept) (together_with c.self.inside.tables (record_of c.args.entry) (c.self.invariant unspent) none)

@@ -1,13 +1,13 @@
 use Rattle.std.proofs.Common.{◌≡◌, ◌∷◌, [], ◌++◌, ℕ, List, map, length, ap, ◌∙◌, arith}
 use Rattle.std.proofs.Math.ListN.{length-map}
 use Rattle.def_file.specs.Content.{SetEntry}
-use Rattle.def_file.specs.Faults.{place_of}
+use Rattle.def_file.specs.Faults.{set_place_of}
 use Rattle.xg_game.specs.Sets.{set_of}
 use Rattle.xg_game.proofs.TableLemmas.{KnownSet, on_ok, set_added, set_place}
 use Rattle.xg_game.proofs.sets.SetTable.add.Goals as goal
 
 pub push-requires-clause-new : goal.push-requires-clause-new
-push-requires-clause-new c = set_place c.args.number c.self.inside.sets ∙ ap (place_of c.args.number) c.self.view_is ∙ c.requires.new
+push-requires-clause-new c = set_place c.args.number c.self.inside.sets ∙ ap (set_place_of c.args.number) c.self.view_is ∙ c.requires.new
 
 pub push-requires-clause-room : goal.push-requires-clause-room
 push-requires-clause-room c =
