@@ -24,7 +24,8 @@ command_of (command ∷ []) = None
 command_of (command ∷ file ∷ []) = None
 command_of (command ∷ file ∷ rounds ∷ []) = None
 command_of (command ∷ file ∷ rounds ∷ count ∷ []) =
-    if is_word command (codes "solve") && (not (is_option file) && (is_word rounds (codes "--rounds") && is_word count (codes "0")))
+    if is_word command (codes "solve")
+    && (not (is_option file) && (is_word rounds (codes "--rounds") && is_word count (codes "0")))
     then Some (Solve file) else None
 command_of (command ∷ file ∷ rounds ∷ count ∷ word ∷ words) = None
 
