@@ -2,7 +2,8 @@
 --     Command            what is to be done
 --     command_of words   the command, or none where the words aren't taken
 --     file_words c       the names of the files that the command opens
-use Rattle.std.specs.Prelude.{ℕ, Bool, true, false, ◌&&◌, not, nat_eq, if◌then◌else◌, List, [], ◌∷◌, Option, Some, None, codes}
+--     named_files words  the same of the words: none where they aren't taken
+use Rattle.std.specs.Prelude.{ℕ, Bool, false, ◌&&◌, not, nat_eq, if◌then◌else◌, List, [], ◌∷◌, Option, Some, None, codes}
 use Rattle.std.specs.Cmp.Lexicographic.{pointwise}
 
 pub data Command : Type 0 where
@@ -23,9 +24,17 @@ command_of (command ∷ []) = None
 command_of (command ∷ file ∷ []) = None
 command_of (command ∷ file ∷ rounds ∷ []) = None
 command_of (command ∷ file ∷ rounds ∷ count ∷ []) =
-    if is_word command (codes "solve") && (not (is_option file) && (is_word rounds (codes "--rounds") && is_word count (codes "0")))
+    if is_word command (codes "solve")
+    && (not (is_option file) && (is_word rounds (codes "--rounds") && is_word count (codes "0")))
     then Some (Solve file) else None
 command_of (command ∷ file ∷ rounds ∷ count ∷ word ∷ words) = None
 
 abbrev pub file_words : Command → List (List ℕ)
 file_words (Solve file) = file ∷ []
+
+abbrev pub files_of : Option Command → List (List ℕ)
+files_of None = []
+files_of (Some command) = file_words command
+
+abbrev pub named_files : List (List ℕ) → List (List ℕ)
+named_files words = files_of (command_of words)

@@ -1,2 +1,3 @@
 pub mod Cause
 pub mod Sinks
+pub mod Calls

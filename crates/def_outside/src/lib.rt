@@ -2,9 +2,15 @@
 //! sink was given. There is no code here; each function's contract is a law.
 #![tactic(auto)]
 
+ghost use Rattle.def_outside.specs.Calls.{CallsAreRead};
 ghost use Rattle.def_outside.specs.Cause.{CountsOnlyRise};
 
 /// What rose in a part of a call rose in the call.
 pub fn counts_only_rise()
     ensures { CountsOnlyRise }
+{}
+
+/// A count that grew may tell of a fault; what is written whole is a front of itself, and so is nothing.
+pub fn calls_are_read()
+    ensures { CallsAreRead }
 {}

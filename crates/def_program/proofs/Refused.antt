@@ -5,11 +5,11 @@ use Rattle.def_file.specs.declared.FileFault.{FileFault}
 use Rattle.def_file.specs.declared.FileFault.TheVariants.{TooLong}
 use Rattle.def_file.specs.Content.{GameFile}
 use Rattle.def_file.specs.Reading.{game_at}
-use Rattle.def_file_form.specs.Laws.{StandsFor}
 use Rattle.def_file_form.proofs.Whole.{game_read, game_taken}
 use Rattle.def_file_fault.specs.Laws.{FileFaultIsFirst, FirstIsFileFault}
 use Rattle.def_program.specs.Program.{most_bytes, read_as_game}
 use Rattle.def_program.specs.FirstFault.{IsFirstFault, in_length, within}
+use Rattle.def_program.specs.Meaning.{IsAccepted}
 use Rattle.def_program.specs.Laws.{RefusedWithTheFirst, AcceptedWithoutFault}
 
 -- what is read of a text of this length, where the length counts first
@@ -23,7 +23,8 @@ below : (most n : ℕ) (r : Result GameFile FileFault) → n ≤ most → limite
 below most n r h = rw (le-ltb most n h) refl
 
 -- what is the answer is so by the length, or by what is read
-by_length : (most n : ℕ) (r answer : Result GameFile FileFault) (P : Type 0) → (most < n → answer ≡ Err TooLong → P) → (n ≤ most → r ≡ answer → P) → limited most n r ≡ answer → P
+by_length : (most n : ℕ) (r answer : Result GameFile FileFault) (P : Type 0)
+    → (most < n → answer ≡ Err TooLong → P) → (n ≤ most → r ≡ answer → P) → limited most n r ≡ answer → P
 by_length most n r answer P long short e = by_test (nat_lt most n) refl e
   where
     by_test : (b : Bool) → nat_lt most n ≡ b → cond b (Err TooLong) r ≡ answer → P
@@ -49,12 +50,12 @@ pub accepted_whole : AcceptedWithoutFault
 unfolding read_as_game
 accepted_whole bytes game = (read, taken)
   where
-    read : read_as_game bytes ≡ Ok game → (length bytes ≤ most_bytes) × StandsFor bytes game
+    read : read_as_game bytes ≡ Ok game → IsAccepted bytes game
     read e =
-        by_length most_bytes (length bytes) (game_at bytes) (Ok game) ((length bytes ≤ most_bytes) × StandsFor bytes game)
+        by_length most_bytes (length bytes) (game_at bytes) (Ok game) (IsAccepted bytes game)
         (λ h same. absurd cc)
-        (λ h same. (h, game_read bytes game same))
+        (λ h same. record { length_within = h; stands = game_read bytes game same })
         e
 
-    taken : (length bytes ≤ most_bytes) × StandsFor bytes game → read_as_game bytes ≡ Ok game
-    taken (h, is) = below most_bytes (length bytes) (game_at bytes) h ∙ game_taken bytes game is
+    taken : IsAccepted bytes game → read_as_game bytes ≡ Ok game
+    taken is = below most_bytes (length bytes) (game_at bytes) is.length_within ∙ game_taken bytes game is.stands

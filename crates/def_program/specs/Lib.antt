@@ -1,4 +1,5 @@
 pub mod Program
-pub mod Says
 pub mod FirstFault
+pub mod Meaning
+pub mod Lines
 pub mod Laws

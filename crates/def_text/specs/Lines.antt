@@ -22,7 +22,8 @@ fault_line TooLong = codes "refused 1 TooLong" ++ line_feed
 fault_line (Syntax at) = codes "refused 2 Syntax at " ++ (decimal at ++ line_feed)
 fault_line UnexpectedEnd = codes "refused 3 UnexpectedEnd" ++ line_feed
 fault_line (TrailingText at) = codes "refused 4 TrailingText at " ++ (decimal at ++ line_feed)
-fault_line (Number at fault) = codes "refused 5 Number at " ++ (decimal at ++ (codes " " ++ (number_fault_name fault ++ line_feed)))
+fault_line (Number at fault) =
+    codes "refused 5 Number at " ++ (decimal at ++ (codes " " ++ (number_fault_name fault ++ line_feed)))
 fault_line (Players count) = codes "refused 6 Players count " ++ (decimal count ++ line_feed)
 fault_line (PlayerNumber node) = node_line (codes "7 PlayerNumber") node
 fault_line (SetUndefined node) = node_line (codes "8 SetUndefined") node
@@ -35,7 +36,8 @@ fault_line (ActionCount node) = node_line (codes "14 ActionCount") node
 fault_line (ChanceNegative node) = node_line (codes "15 ChanceNegative") node
 fault_line (ChanceSum node) = node_line (codes "16 ChanceSum") node
 fault_line (NotZeroSum node) = node_line (codes "17 NotZeroSum") node
-fault_line (NotRecall node earlier) = codes "refused 18 NotRecall node " ++ (decimal node ++ (codes " earlier " ++ (decimal earlier ++ line_feed)))
+fault_line (NotRecall node earlier) =
+    codes "refused 18 NotRecall node " ++ (decimal node ++ (codes " earlier " ++ (decimal earlier ++ line_feed)))
 fault_line (Scale node) = node_line (codes "19 Scale") node
 
 abbrev pub usage_line : List ℕ

@@ -5,7 +5,7 @@ use Rattle.def_tree.specs.declared.Kind.TheVariants.{Leaf}
 use Rattle.def_file.specs.declared.FileFault.TheVariants.{Syntax, Number, Players, SetMismatch, NotRecall}
 use Rattle.def_file.specs.Content.{Prologue, Contents, game_with}
 use Rattle.def_file.specs.Faults.{null_outcome}
-use Rattle.def_text.specs.Text.{text_of, no_rounds, line_feed}
+use Rattle.def_text.specs.Text.{game_text, no_rounds, line_feed}
 use Rattle.def_text.specs.Lines.{fault_line}
 
 abbrev nobody : Prologue
@@ -21,8 +21,9 @@ one_leaf = record {
 }
 
 abbrev pub LeafRow : Type 0
-LeafRow = text_of (game_with nobody one_leaf) no_rounds
-    ≡ codes "XGCERT 1" ++ line_feed ++ codes "nodes 1 leaves 1" ++ line_feed ++ codes "rounds 0 every 1 scale 1048576" ++ line_feed ++ codes "end" ++ line_feed
+LeafRow = game_text (game_with nobody one_leaf) no_rounds
+    ≡ codes "XGCERT 1" ++ line_feed ++ codes "nodes 1 leaves 1" ++ line_feed
+    ++ codes "rounds 0 every 1 scale 1048576" ++ line_feed ++ codes "end" ++ line_feed
 
 pub record FaultRows : Type 0 where
   pub syntax : fault_line (Syntax 24) ≡ codes "refused 2 Syntax at 24" ++ line_feed

@@ -13,13 +13,20 @@ pub record Settings : Type 0 where
 abbrev pub line_feed : List ℕ
 line_feed = 10 ∷ []
 
+-- the greatest scale of a plan
+abbrev pub most_scale : ℕ
+most_scale = 1048576
+
 -- no rounds, at the greatest scale
 abbrev pub no_rounds : Settings
-no_rounds = record { rounds = 0; every = 1; scale = 1048576 }
+no_rounds = record { rounds = 0; every = 1; scale = most_scale }
 
-abbrev pub text_of : GameFile → Settings → List ℕ
-text_of game settings =
+abbrev pub game_text : GameFile → Settings → List ℕ
+game_text game settings =
     codes "XGCERT 1" ++ (line_feed
-    ++ (codes "nodes " ++ (decimal (node_count game.tree) ++ (codes " leaves " ++ (decimal (leaf_count (prefix game.tree)) ++ (line_feed
-    ++ (codes "rounds " ++ (decimal settings.rounds ++ (codes " every " ++ (decimal settings.every ++ (codes " scale " ++ (decimal settings.scale ++ (line_feed
+    ++ (codes "nodes " ++ (decimal (node_count game.tree)
+    ++ (codes " leaves " ++ (decimal (leaf_count (prefix game.tree)) ++ (line_feed
+    ++ (codes "rounds " ++ (decimal settings.rounds
+    ++ (codes " every " ++ (decimal settings.every
+    ++ (codes " scale " ++ (decimal settings.scale ++ (line_feed
     ++ (codes "end" ++ line_feed))))))))))))))

@@ -1,3 +1,4 @@
 pub mod Saying
-pub mod Told
+pub mod Solved
 pub mod Ended
+pub mod Worded

@@ -1,19 +1,19 @@
 -- A line that is written is said.
-use Rattle.std.proofs.Common.{◌≡◌, ℕ, List, length, take, Option, Result, Ok, Err, OnOk, OnErr, sym, ◌∙◌, ap}
-use Rattle.std.proofs.Math.Seq.{take-length}
+use Rattle.std.proofs.Common.{◌≡◌, ℕ, List, Result, Ok, Err, OnOk, OnErr}
 use Rattle.std.specs.Io.KnownBytes.{append_known}
 use Rattle.def_outside.specs.Cause.{HasCause}
 use Rattle.def_outside.specs.Sinks.{AppendsPrefix}
-use Rattle.def_program.specs.Says.{Says}
+use Rattle.def_outside.specs.Calls.{SinkCall, Says}
+use Rattle.def_outside.proofs.Fronts.{whole_is_front}
 
-pub says_of : {T E : Type 0} (written : Result T E) (faults_before faults_now : ℕ) (before now : Option (List ℕ)) (line : List ℕ)
-    → OnOk written (now ≡ append_known before line) → OnErr written (AppendsPrefix before now line) → HasCause faults_before faults_now written
-    → Says faults_before faults_now before now line
-says_of (Ok _) faults_before faults_now before now line whole front cause = record {
+pub says_of : {T E : Type 0} (written : Result T E) (sink : SinkCall) (line : List ℕ)
+    → OnOk written (sink.now ≡ append_known sink.before line) → OnErr written (AppendsPrefix sink.before sink.now line)
+    → HasCause sink.faults.before sink.faults.now written → Says sink line
+says_of (Ok _) sink line whole front cause = record {
   whole = λ _. whole;
-  front = record { count = length line; appended = whole ∙ ap (append_known before) (sym (take-length line)) };
+  front = whole_is_front sink line whole;
 }
-says_of (Err _) faults_before faults_now before now line whole front cause = record {
+says_of (Err _) sink line whole front cause = record {
   whole = λ same. absurd (same cause);
   front = front;
 }

@@ -1,40 +1,51 @@
--- What a command's run leaves, beside the answer of the program where the file is told.
-use Rattle.std.specs.Prelude.{◌≡◌, ◌≢◌, ◌⊎◌, ℕ, ◌<◌, List, Option, IfSome}
-use Rattle.std.specs.Io.KnownBytes.{append_known}
-use Rattle.def_outside.specs.Cause.{Rose}
-use Rattle.def_outside.specs.Sinks.{AppendsPrefix}
-use Rattle.def_file.specs.declared.FileFault.{FileFault}
-use Rattle.def_file.specs.declared.FileFault.TheVariants.{TooLong}
-use Rattle.def_text.specs.Lines.{fault_line}
-use Rattle.def_program.specs.Program.{Answer, most_bytes}
-use Rattle.def_program.specs.Says.{Says}
+-- What holds of a command that ends so, whatever the command is. `meant` says which answers are meant by what the files
+-- tell.
+use Rattle.std.specs.Prelude.{List, ℕ, string_bytes}
+use Rattle.def_outside.specs.Calls.{FilesCall, SinkCall, MayHaveFailed, HasNoFault, Wrote, WroteFront, IsUntouched}
+use Rattle.def_program.specs.Program.{Answer, success, refusal, usage}
+use Rattle.def_program.specs.Meaning.{MeansOnly}
+use Rattle.def_program.specs.Lines.{IsLine}
 use Rattle.xg_solve.specs.declared.ending.Ending.{Ending}
-use Rattle.xg_solve.specs.Ends.{status_of, line_of}
+use Rattle.xg_solve.specs.declared.ending.Ending.TheVariants.{Done, Refused, Usage, ReadFault, WriteFault, NoMemory}
 
--- the line of a fault: it is the answer's, and where it says that the file is too long, that many bytes were taken
-pub record NamesFault (answer : Option Answer) (taken : ℕ) (line : List ℕ) : Type 0 where
-  pub fault : FileFault
-  pub named : line ≡ fault_line fault
-  pub answered : IfSome answer (λ a. a.line ≡ fault_line fault)
-  pub counted : fault ≡ TooLong → most_bytes < taken
+-- the text that is meant was written
+pub record IsDone (meant : Answer → Type 0) (files : FilesCall) (out : SinkCall) : Type 0 where
+  pub text : List ℕ
+  pub means : MeansOnly meant (success text)
+  pub read : HasNoFault files.faults
+  pub written : HasNoFault out.faults
+  pub wrote : Wrote out text
 
--- such a line is said
-pub record SaysFault (answer : Option Answer) (taken faults_before faults_now : ℕ) (before now : Option (List ℕ)) : Type 0 where
-  pub line : List ℕ
-  pub names : NamesFault answer taken line
-  pub said : Says faults_before faults_now before now line
+-- the line that is meant says why nothing was written
+pub record IsRefused (meant : Answer → Type 0) (files : FilesCall) (out : SinkCall) (line : List ℕ) : Type 0 where
+  pub means : MeansOnly meant (refusal line)
+  pub fits : IsLine files.taken 1 line
+  pub read : HasNoFault files.faults
+  pub untouched : IsUntouched out
 
--- `read` counts the faults of the files before and now, and `wrote` those of the sink
-pub record Concludes (answer : Option Answer) (ending : Ending) (taken read_before read_now wrote_before wrote_now : ℕ) (before now : Option (List ℕ)) : Type 0 where
-  pub read : status_of ending ≡ 3 → Rose read_before read_now
-  pub read_told : read_before < read_now → (status_of ending ≡ 3) ⊎ (status_of ending ≡ 5)
-  pub refused : status_of ending ≡ 1 → IfSome answer (λ a. a.status ≡ 1)
-  pub refuses : (Rose read_before read_now → ⊥) → IfSome answer (λ a. a.status ≡ 1 → (status_of ending ≡ 1) ⊎ (status_of ending ≡ 5))
-  pub fault : status_of ending ≡ 1 → NamesFault answer taken (line_of ending)
-  pub write : status_of ending ≡ 4 → Rose wrote_before wrote_now
-  pub write_told : wrote_before < wrote_now → status_of ending ≡ 4
-  pub bytes : status_of ending ≡ 0 → IfSome answer (λ a. (a.status ≡ 0) × (now ≡ append_known before a.text))
-  pub prefix : status_of ending ≡ 4 → IfSome answer (λ a. (a.status ≡ 0) × AppendsPrefix before now a.text)
-  pub nothing : status_of ending ≢ 0 → status_of ending ≢ 4 → now ≡ before
-  pub complete : (Rose read_before read_now → ⊥) → (Rose wrote_before wrote_now → ⊥)
-      → IfSome answer (λ a. a.status ≡ 0 → (status_of ending ≡ 0) ⊎ (status_of ending ≡ 5))
+-- the usage is meant
+pub record IsUsage (meant : Answer → Type 0) (files : FilesCall) (out : SinkCall) : Type 0 where
+  pub means : MeansOnly meant usage
+  pub read : HasNoFault files.faults
+  pub untouched : IsUntouched out
+
+-- the files failed
+pub record IsUnread (files : FilesCall) (out : SinkCall) : Type 0 where
+  pub cause : MayHaveFailed files.faults
+  pub untouched : IsUntouched out
+
+-- the sink failed on the text that is meant
+pub record IsCut (meant : Answer → Type 0) (files : FilesCall) (out : SinkCall) : Type 0 where
+  pub text : List ℕ
+  pub means : MeansOnly meant (success text)
+  pub read : HasNoFault files.faults
+  pub cause : MayHaveFailed out.faults
+  pub front : WroteFront out text
+
+abbrev pub Concludes : (Answer → Type 0) → FilesCall → SinkCall → Ending → Type 0
+Concludes meant files out Done = IsDone meant files out
+Concludes meant files out (Refused line) = IsRefused meant files out (string_bytes line)
+Concludes meant files out Usage = IsUsage meant files out
+Concludes meant files out ReadFault = IsUnread files out
+Concludes meant files out WriteFault = IsCut meant files out
+Concludes meant files out NoMemory = IsUntouched out

@@ -1,7 +1,6 @@
-pub mod Commands
+pub mod Words
 pub mod Loads
 pub mod Settings
-pub mod Ends
+pub mod Endings
 pub mod Concludes
 pub mod Refusal
-pub mod Firsts

@@ -1,8 +1,7 @@
 -- What loading a game answers, where the bytes of the file are told.
-use Rattle.std.specs.Prelude.{◌≡◌, ℕ, ◌<◌, List, Option, IfSome, Result, Ok, Err}
+use Rattle.std.specs.Prelude.{◌≡◌, ℕ, List, Option, IfSome, Result, Ok, Err}
 use Rattle.def_outside.specs.Cause.{Rose}
 use Rattle.def_file.specs.declared.FileFault.{FileFault}
-use Rattle.def_file.specs.declared.FileFault.TheVariants.{TooLong}
 use Rattle.def_file.specs.Content.{GameFile}
 use Rattle.def_program.specs.Program.{read_as_game}
 use Rattle.xg_solve.specs.declared.load.LoadFault.{LoadFault}

@@ -5,11 +5,11 @@ use Rattle.def_text.specs.Lines.{fault_line}
 use Rattle.xg_solve.specs.declared.ending.Ending.{Ending}
 use Rattle.xg_solve.specs.declared.ending.Ending.TheVariants.{Done, Refused, Usage, ReadFault, WriteFault, NoMemory}
 
--- the fault with its line, or want of memory
+-- the fault's line, or want of memory
 abbrev pub IsRefusal : FileFault → Ending → Type 0
-IsRefusal first (Refused fault line) = (fault ≡ first) × (string_bytes line ≡ fault_line first)
-IsRefusal first NoMemory = Unit {0}
-IsRefusal first Done = ⊥
-IsRefusal first Usage = ⊥
-IsRefusal first ReadFault = ⊥
-IsRefusal first WriteFault = ⊥
+IsRefusal fault (Refused line) = string_bytes line ≡ fault_line fault
+IsRefusal fault NoMemory = Unit {0}
+IsRefusal fault Done = ⊥
+IsRefusal fault Usage = ⊥
+IsRefusal fault ReadFault = ⊥
+IsRefusal fault WriteFault = ⊥

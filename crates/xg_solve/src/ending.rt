@@ -1,22 +1,20 @@
 //! How a run ends.
-ghost use Rattle.std.specs.Prelude.{◌≡◌};
-ghost use Rattle.std.specs.Io.KnownBytes.{append_known};
-ghost use Rattle.def_program.specs.Says.{Says};
-ghost use Rattle.xg_solve.specs.Ends.{status_of, line_of};
+ghost use Rattle.std.specs.Prelude.{◌≡◌, ◌≢◌};
+ghost use Rattle.def_outside.specs.Calls.{Says, sink_call};
+ghost use Rattle.xg_solve.specs.Endings.{status_of, line_of};
 
 use xg_io::{Sink, write_all};
-use xg_read::FileFault;
 
 /// How a run ends.
 #[derive(Drop)]
 pub enum Ending {
     /// The text was written.
     Done,
-    /// The file has this first fault.
-    Refused { fault: FileFault, line: String },
+    /// A file has a fault, which the line says.
+    Refused { line: String },
     /// The words name no command.
     Usage,
-    /// The file can't be read.
+    /// A file can't be read.
     ReadFault,
     /// The text can't be written.
     WriteFault,
@@ -25,8 +23,27 @@ pub enum Ending {
 }
 
 impl Ending {
-    /// The program's exit status.
-    pub fn status(&self) -> u8
+    /// Says the line, if there is one, and answers the exit status of the program. Whether `err` fails changes no
+    /// status.
+    pub fn finish<E: Sink>(&self, err: &mut E) -> u8
+        ensures status { result ≡ status_of self.now }
+        ensures silent { status_of self.now ≡ 0 → err.new ≡ err.old }
+        ensures said { status_of self.now ≢ 0 → Says (sink_call E.written E.faults err.old err.new) (line_of self.now) }
+    {
+        let status = self.status();
+        if status != 0 {
+            self.say(err);
+        }
+        status
+    }
+
+    fn say<E: Sink>(&self, err: &mut E)
+        ensures { Says (sink_call E.written E.faults err.old err.new) (line_of self.now) }
+    {
+        let _ = write_all(err, self.line());
+    }
+
+    fn status(&self) -> u8
         ensures { result ≡ status_of self.now }
     {
         match self {
@@ -45,19 +62,12 @@ impl Ending {
     {
         match self {
             Ending::Done => b"",
-            Ending::Refused { fault: _, line } => line.as_bytes(),
+            Ending::Refused { line } => line.as_bytes(),
             Ending::Usage =>
                 b"usage: xg_solve solve FILE [--rounds N] [--every N] [--scale N] [--workers N] | check FILE CERT | info FILE | gen N | drill N\n",
             Ending::ReadFault => b"read fault\n",
             Ending::WriteFault => b"write fault\n",
             Ending::NoMemory => b"want of memory\n",
         }
-    }
-
-    /// Says the line. A sink that fails changes nothing else.
-    pub fn say<E: Sink>(&self, err: &mut E)
-        ensures { Says (E.faults err.old) (E.faults err.new) (E.written err.old) (E.written err.new) (line_of self.now) }
-    {
-        let _ = write_all(err, self.line());
     }
 }

@@ -1,5 +1,5 @@
 //! Loading a game from its file.
-ghost use Rattle.std.specs.Prelude.{◌≢◌, ◌<◌, ◌≤◌, length, IsTrue, IsErrOf};
+ghost use Rattle.std.specs.Prelude.{◌≡◌, ◌≢◌, ◌<◌, ◌≤◌, length, IsTrue, IsErrOf};
 ghost use Rattle.def_file.specs.Reading.{game_at};
 ghost use Rattle.def_program.specs.Program.{most_bytes};
 ghost use Rattle.xg_solve.specs.Loads.{Loads, LoadHasCause, ReadsGame};
@@ -28,6 +28,8 @@ pub fn load<F: Files>(alloc: Global, files: &mut F, name: &str) -> Result<Game, 
     requires { IsTrue (F.may_open files.old name.now) }
     ensures exact { Loads (F.told files.old name.now) result }
     ensures too_long { IsErrOf result (LoadFault.Refused FileFault.TooLong) → most_bytes < F.taken files.new }
+    ensures same_told { F.told files.new ≡ F.told files.old }
+    ensures same_names { F.may_open files.new ≡ F.may_open files.old }
     ensures cause { LoadHasCause (F.faults files.old) (F.faults files.new) result }
 {
     match read_all(alloc, files, name, MOST_BYTES) {

@@ -1,26 +1,18 @@
 //! The top call.
-ghost use Rattle.std.specs.Prelude.{◌≡◌, ◌≢◌, ◌⊎◌, ◌↔◌, ◌<◌, ◌≤◌, Some, IsNone, IfSome, IsTrue};
-ghost use Rattle.std.specs.Option.{option_map};
-ghost use Rattle.std.specs.Io.KnownBytes.{append_known};
-ghost use Rattle.def_outside.specs.Cause.{Rose};
-ghost use Rattle.def_outside.specs.Sinks.{AppendsPrefix};
-ghost use Rattle.def_file.specs.declared.FileFault.{FileFault};
-ghost use Rattle.def_file.specs.Content.{GameFile};
-ghost use Rattle.def_command.specs.Command.{command_of};
-ghost use Rattle.def_text.specs.Lines.{usage_line, read_line, write_line, memory_line};
-ghost use Rattle.def_program.specs.FirstFault.{IsFirstFault};
-ghost use Rattle.def_program.specs.Program.{answer_of, program, read_as_game};
-ghost use Rattle.def_program.specs.Says.{Says};
-ghost use Rattle.xg_solve.specs.Commands.{MayOpenFiles};
-ghost use Rattle.xg_solve.specs.Concludes.{Concludes, SaysFault};
-ghost use Rattle.xg_solve.specs.Ends.{status_of, line_of};
-ghost use Rattle.xg_solve.specs.Firsts.{EndsWith, IsAccepted, SaysFirst, WritesGame, file_bytes};
+ghost use Rattle.std.specs.Prelude.{◌≡◌, ◌≢◌, ◌⊎◌, ◌↔◌, ◌≤◌, All, IsNone, IsTrue};
+ghost use Rattle.def_outside.specs.Calls.{HasFailed, MayHaveFailed, Wrote, WroteFront, WroteNothing};
+ghost use Rattle.def_outside.specs.Calls.{files_call, sink_call};
+ghost use Rattle.def_command.specs.Command.{Solve, command_of, named_files};
+ghost use Rattle.def_program.specs.Lines.{SaysLine};
+ghost use Rattle.def_program.specs.Meaning.{CommandMeans, EachMeant, EndsWith, Means};
+ghost use Rattle.xg_solve.specs.Concludes.{Concludes};
+ghost use Rattle.xg_solve.specs.Endings.{status_of};
 ghost use Rattle.xg_solve.specs.Refusal.{IsRefusal};
 
 use crate::ending::Ending;
 use crate::load::{LoadFault, load};
 use crate::text::{NO_ROUNDS, fault_line, game_text};
-use crate::words::Words;
+use crate::words::{Command, Words};
 use std::alloc::Global;
 use std::marker::Sync;
 use std::sync::Wait;
@@ -28,12 +20,11 @@ use std::thread::Threads;
 use xg_io::{Files, Gate, Sink, write_all};
 use xg_read::FileFault;
 
-/// Does what the words say, and nothing else: the command `solve` on a file.
+/// Solves the game of a file.
 fn solve<F: Files, O: Sink>(alloc: Global, file: &str, files: &mut F, out: &mut O) -> Ending
     requires { IsTrue (F.may_open files.old file.now) }
-    ensures concludes { Concludes (option_map (λ bytes. answer_of (read_as_game bytes)) (F.told files.old file.now)) result
-        (F.taken files.new) (F.faults files.old) (F.faults files.new)
-        (O.faults out.old) (O.faults out.new) (O.written out.old) (O.written out.new) }
+    ensures concludes { Concludes (CommandMeans (Solve file.now) (F.told files.old))
+        (files_call F.told F.taken F.faults files.old files.new) (sink_call O.written O.faults out.old out.new) result }
     ensures command { status_of result ≢ 2 }
 {
     let game = match load(alloc, files, file) {
@@ -56,22 +47,21 @@ fn refused(alloc: Global, fault: FileFault) -> Ending
     ensures { IsRefusal fault result }
 {
     match fault_line(alloc, fault) {
-        Ok(line) => Ending::Refused { fault, line },
+        Ok(line) => Ending::Refused { line },
         Err(_) => Ending::NoMemory,
     }
 }
 
-/// Does what the words say.
+/// Does what the words say, and says nothing of it.
 fn conclude<F: Files, O: Sink>(alloc: Global, words: &Words, files: &mut F, out: &mut O) -> Ending
-    requires { MayOpenFiles (F.may_open files.old) (command_of words.now) }
-    ensures concludes { Concludes (program words.now (F.told files.old)) result
-        (F.taken files.new) (F.faults files.old) (F.faults files.new)
-        (O.faults out.old) (O.faults out.new) (O.written out.old) (O.written out.new) }
+    requires { All (λ file. IsTrue (F.may_open files.old file)) (named_files words.now) }
+    ensures concludes { Concludes (Means words.now (F.told files.old))
+        (files_call F.told F.taken F.faults files.old files.new) (sink_call O.written O.faults out.old out.new) result }
     ensures usage { (status_of result ≡ 2) ↔ IsNone (command_of words.now) }
 {
-    match words.solve_file() {
-        Some(file) => solve(alloc, file, files, out),
-        None => Ending::Usage,
+    match words.command() {
+        Command::Solve { file } => solve(alloc, file, files, out),
+        Command::Unknown => Ending::Usage,
     }
 }
 
@@ -86,7 +76,8 @@ fn conclude<F: Files, O: Sink>(alloc: Global, words: &Words, files: &mut F, out:
 /// | 4 | `out` failed; a front of the text was written |
 /// | 5 | memory ran out |
 ///
-/// Nothing is written to `out` before the work is over. A fault of `err` changes no status.
+/// Nothing is written to `out` before the work is over. A fault of `err` changes no status: for 0, 2 and 4 the clauses
+/// show it, and for each status the contract of `Ending::finish`, which alone writes to `err`.
 pub fn run<Rt: Threads + Wait + Sync, F: Files, O: Sink, E: Sink, G: Gate>(
     _rt: &Rt,
     alloc: Global,
@@ -96,58 +87,41 @@ pub fn run<Rt: Threads + Wait + Sync, F: Files, O: Sink, E: Sink, G: Gate>(
     err: &mut E,
     _gate: &G,
 ) -> u8
-    // The files that the command names may be opened; nothing is known of any other name.
-    requires { MayOpenFiles (F.may_open files.old) (command_of words.now) }
+    // The files that the words name may be opened; nothing is known of any other name.
+    requires { All (λ file. IsTrue (F.may_open files.old file)) (named_files words.now) }
     ensures range { result ≤ 5 }
 
-    // Exactly words that name no command are not taken.
+    // Exactly words that name no command are not taken, whatever fails.
     ensures words { (result ≡ 2) ↔ IsNone (command_of words.now) }
 
-    // A read fault has its cause in the files; where they failed, it is answered, or want of memory.
-    ensures read { result ≡ 3 → Rose (F.faults files.old) (F.faults files.new) }
-    ensures read_told { F.faults files.old < F.faults files.new → (result ≡ 3) ⊎ (result ≡ 5) }
+    // A file is refused only where this is meant, and what is meant is answered where nothing failed, memory apart.
+    ensures refused { result ≡ 1 → EachMeant (Means words.now (F.told files.old)) (λ answer. answer.status ≡ 1) }
+    ensures complete { (MayHaveFailed (files_call F.told F.taken F.faults files.old files.new).faults → ⊥)
+        → EachMeant (Means words.now (F.told files.old)) (λ answer.
+        (answer.status ≡ 0 → MayHaveFailed (sink_call O.written O.faults out.old out.new).faults → ⊥)
+        → EndsWith answer.status result) }
 
-    // A file is refused exactly where it has a fault, memory apart.
-    ensures refused { result ≡ 1 → IfSome (program words.now (F.told files.old)) (λ answer. answer.status ≡ 1) }
-    ensures refuses { (Rose (F.faults files.old) (F.faults files.new) → ⊥)
-        → IfSome (program words.now (F.told files.old)) (λ answer. answer.status ≡ 1 → (result ≡ 1) ⊎ (result ≡ 5)) }
+    // A read fault has its cause in the files. Where they failed it is answered, memory apart.
+    ensures read_fault { result ≡ 3 → MayHaveFailed (files_call F.told F.taken F.faults files.old files.new).faults }
+    ensures files_failed { HasFailed (files_call F.told F.taken F.faults files.old files.new).faults
+        → EndsWith 3 result }
 
-    // A write fault has its cause in the sink; where that failed, nothing else is answered.
-    ensures write { result ≡ 4 → Rose (O.faults out.old) (O.faults out.new) }
-    ensures write_told { O.faults out.old < O.faults out.new → result ≡ 4 }
+    // A write fault has its cause in the sink. Where that failed it is answered.
+    ensures write_fault { result ≡ 4 → MayHaveFailed (sink_call O.written O.faults out.old out.new).faults }
+    ensures out_failed { HasFailed (sink_call O.written O.faults out.old out.new).faults → result ≡ 4 }
 
-    // What is written: all of the text, a front of it, or nothing.
-    ensures bytes { result ≡ 0 → IfSome (program words.now (F.told files.old))
-        (λ answer. (answer.status ≡ 0) × (O.written out.new ≡ append_known (O.written out.old) answer.text)) }
-    ensures prefix { result ≡ 4 → IfSome (program words.now (F.told files.old))
-        (λ answer. (answer.status ≡ 0) × AppendsPrefix (O.written out.old) (O.written out.new) answer.text) }
-    ensures nothing { result ≢ 0 → result ≢ 4 → O.written out.new ≡ O.written out.old }
+    // What was written: the whole text that is meant, a front of it, or nothing.
+    ensures whole { result ≡ 0 → EachMeant (Means words.now (F.told files.old)) (λ answer.
+        (answer.status ≡ 0) × Wrote (sink_call O.written O.faults out.old out.new) answer.text) }
+    ensures front { result ≡ 4 → EachMeant (Means words.now (F.told files.old)) (λ answer.
+        (answer.status ≡ 0) × WroteFront (sink_call O.written O.faults out.old out.new) answer.text) }
+    ensures nothing { result ≢ 0 → result ≢ 4 → WroteNothing (sink_call O.written O.faults out.old out.new) }
 
-    // An accepted file is answered where nothing failed, memory apart.
-    ensures complete { (Rose (F.faults files.old) (F.faults files.new) → ⊥) → (Rose (O.faults out.old) (O.faults out.new) → ⊥)
-        → IfSome (program words.now (F.told files.old)) (λ answer. answer.status ≡ 0 → (result ≡ 0) ⊎ (result ≡ 5)) }
-
-    // The same in the format's own words: the text of the game that the file stands for is written, the line of the
-    // file's first fault is said, and each file is answered so.
-    ensures game { result ≡ 0 → IfSome (file_bytes words.now (F.told files.old))
-        (λ bytes. WritesGame bytes (O.written out.old) (O.written out.new)) }
-    ensures first { result ≡ 1 → IfSome (file_bytes words.now (F.told files.old))
-        (λ bytes. SaysFirst bytes (E.faults err.old) (E.faults err.new) (E.written err.old) (E.written err.new)) }
-    ensures plays { (Rose (F.faults files.old) (F.faults files.new) → ⊥) → (Rose (O.faults out.old) (O.faults out.new) → ⊥)
-        → IfSome (file_bytes words.now (F.told files.old)) (λ bytes. (game : GameFile) → IsAccepted bytes game → EndsWith 0 result) }
-    ensures refuses_first { (Rose (F.faults files.old) (F.faults files.new) → ⊥)
-        → IfSome (file_bytes words.now (F.told files.old)) (λ bytes. (fault : FileFault) → IsFirstFault bytes fault → EndsWith 1 result) }
-
-    // What is said.
-    ensures silent { result ≡ 0 → E.written err.new ≡ E.written err.old }
-    ensures fault_line { result ≡ 1 → SaysFault (program words.now (F.told files.old)) (F.taken files.new)
-        (E.faults err.old) (E.faults err.new) (E.written err.old) (E.written err.new) }
-    ensures usage_line { result ≡ 2 → Says (E.faults err.old) (E.faults err.new) (E.written err.old) (E.written err.new) usage_line }
-    ensures read_line { result ≡ 3 → Says (E.faults err.old) (E.faults err.new) (E.written err.old) (E.written err.new) read_line }
-    ensures write_line { result ≡ 4 → Says (E.faults err.old) (E.faults err.new) (E.written err.old) (E.written err.new) write_line }
-    ensures memory_line { result ≡ 5 → Says (E.faults err.old) (E.faults err.new) (E.written err.old) (E.written err.new) memory_line }
+    // What was said: the line of the status, and at 0 none.
+    ensures line { result ≢ 0 → SaysLine (Means words.now (F.told files.old)) result (F.taken files.new)
+        (sink_call E.written E.faults err.old err.new) }
+    ensures silent { result ≡ 0 → err.new ≡ err.old }
 {
     let ending = conclude(alloc, words, files, out);
-    ending.say(err);
-    ending.status()
+    ending.finish(err)
 }

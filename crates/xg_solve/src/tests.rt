@@ -9,181 +9,259 @@ use xg_io::{MemFiles, MemSink, OpenGate};
 const USAGE: &str =
     "usage: xg_solve solve FILE [--rounds N] [--every N] [--scale N] [--workers N] | check FILE CERT | info FILE | gen N | drill N\n";
 
-const ONE_LEAF: &str = "EFG 2 R \"\" { \"A\" \"B\" }\nt \"\" 1 { 0, 0 }\n";
+const ONE_NODE: &str = r#"XGCERT 1
+nodes 1 leaves 1
+rounds 0 every 1 scale 1048576
+end
+"#;
 
-/// What a call leaves.
-#[derive(Drop)]
-struct Left {
-    status: u8,
-    out: MemSink,
-    err: MemSink,
-}
+const THREE_NODES: &str = r#"XGCERT 1
+nodes 3 leaves 2
+rounds 0 every 1 scale 1048576
+end
+"#;
 
-/// A call with these words on the file `game`, where the calls of the files and the writes that are listed fail.
-fn call<Rt: Threads + Wait + Sync + AllocGlobal>(
-    rt: &Rt,
-    words: &str,
-    game: &str,
-    failing: &[u64],
-    failing_writes: &[u64],
-    room: usize,
-) -> Result<Left, AllocError> {
-    let alloc = rt.alloc();
-    let mut given = Words::new(alloc);
-    for word in words.split_whitespace() {
-        given.push(word)?;
-    }
+const SEVEN_NODES: &str = r#"XGCERT 1
+nodes 7 leaves 4
+rounds 0 every 1 scale 1048576
+end
+"#;
+
+const FOUR_NODES: &str = r#"XGCERT 1
+nodes 4 leaves 3
+rounds 0 every 1 scale 1048576
+end
+"#;
+
+const ONE_LEAF: &str = r#"EFG 2 R "" { "A" "B" }
+t "" 1 { 0, 0 }
+"#;
+
+const ONE_MOVER: &str = r#"EFG 2 R "One mover" { "A" "B" }
+p "" 1 1 "a" { "L" "R" } 0
+t "" 1 { 1, -1 }
+t "" 2 { 0, 0 }
+"#;
+
+const PENNIES: &str = r#"EFG 2 R "Pennies" { "A" "B" }
+p "" 1 1 "a" { "H" "T" } 0
+p "" 2 1 "b" { "h" "t" } 0
+t "" 1 "win" { 1, -1 }
+t "" 2 "lose" { -1, 1 }
+p "" 2 1 0
+t "" 2
+t "" 1
+"#;
+
+const PENNIES_REPEATED: &str = r#"EFG 2 R "Pennies" { "A" "B" }
+p "" 1 1 "a" { "H" "T" } 0
+p "" 2 1 "b" { "h" "t" } 0
+t "" 1 "win" { 1, -1 }
+t "" 2 "lose" { -1, 1 }
+p "" 2 1 0
+t "" 2
+t "" 1 { 1.0, -2/2 }
+"#;
+
+const THIRDS: &str = r#"EFG 2 R "Thirds" { "A" "B" }
+c "" 1 "" { "a" .333333 "b" .333333 "c" .333333 } 0
+t "" 0
+t "" 0
+t "" 0
+"#;
+
+const REPEAT: &str = r#"EFG 2 R "Repeat" { "A" "B" }
+p "" 1 1 "a" { "x" "y" } 0
+c "" 7 "coin" { "h" 1/2 "t" 1/2 } 0
+t "" 1 { 1, -1 }
+t "" 0
+c "" 7 "coin" { "h" 0.5 "t" 5e-1 } 0
+t "" 0
+t "" 2 { -1, 1 }
+"#;
+
+const NORMAL_FORM: &str = r#"NFG 2 R "x" { "A" "B" }"#;
+
+const NO_TOKEN: &str = r#"EFG 2 R "x" { "A" "B" } #"#;
+
+const CUT_OFF: &str = r#"EFG 2 R "Pennies" { "A" "B" }
+p "" "#;
+
+const TRAILING: &str = r#"EFG 2 R "Pennies" { "A" "B" }
+p "" 1 1 "a" { "H" "T" } 0
+p "" 2 1 "b" { "h" "t" } 0
+t "" 1 "win" { 1, -1 }
+t "" 2 "lose" { -1, 1 }
+p "" 2 1 0
+t "" 2
+t "" 1
+t "" 0
+"#;
+
+const LARGE_PAYOFF: &str = r#"EFG 2 R "" { "A" "B" } t "" 1 { 4611686018427387905, 0 }
+"#;
+
+const ZERO_DENOMINATOR: &str = r#"EFG 2 R "" { "A" "B" } t "" 1 { 1/0, 0 }
+"#;
+
+const NO_EXPONENT: &str = r#"EFG 2 R "" { "A" "B" } t "" 1 { 1e, 0 }
+"#;
+
+const THREE_PLAYERS: &str = r#"EFG 2 R "Pennies" { "A" "B" "C" }
+p "" 1 1 "a" { "H" "T" } 0
+p "" 2 1 "b" { "h" "t" } 0
+t "" 1 "win" { 1, -1 }
+t "" 2 "lose" { -1, 1 }
+p "" 2 1 0
+t "" 2
+t "" 1
+"#;
+
+const PLAYER_THREE: &str = r#"EFG 2 R "Pennies" { "A" "B" }
+p "" 1 1 "a" { "H" "T" } 0
+p "" 3 1 "b" { "h" "t" } 0
+t "" 1 "win" { 1, -1 }
+t "" 2 "lose" { -1, 1 }
+p "" 2 1 0
+t "" 2
+t "" 1
+"#;
+
+const NO_ACTIONS_YET: &str = r#"EFG 2 R "Pennies" { "A" "B" }
+p "" 1 1 "a" { "H" "T" } 0
+p "" 2 1 "b" 0
+t "" 1 "win" { 1, -1 }
+t "" 2 "lose" { -1, 1 }
+p "" 2 1 0
+t "" 2
+t "" 1
+"#;
+
+const OTHER_ACTIONS: &str = r#"EFG 2 R "Repeat" { "A" "B" }
+p "" 1 1 "a" { "x" "y" } 0
+c "" 7 "coin" { "h" 1/2 "t" 1/2 } 0
+t "" 1 { 1, -1 }
+t "" 0
+c "" 7 "coin" { "h" 0.5 "tails" 5e-1 } 0
+t "" 0
+t "" 2 { -1, 1 }
+"#;
+
+const NO_PAYOFFS_YET: &str = r#"EFG 2 R "Pennies" { "A" "B" }
+p "" 1 1 "a" { "H" "T" } 0
+p "" 2 1 "b" { "h" "t" } 0
+t "" 1 "win" { 1, -1 }
+t "" 2 "lose" { -1, 1 }
+p "" 2 1 0
+t "" 2
+t "" 9
+"#;
+
+const OTHER_PAYOFFS: &str = r#"EFG 2 R "Pennies" { "A" "B" }
+p "" 1 1 "a" { "H" "T" } 0
+p "" 2 1 "b" { "h" "t" } 0
+t "" 1 "win" { 1, -1 }
+t "" 1 { 1, -2 }
+p "" 2 1 0
+t "" 2
+t "" 1
+"#;
+
+const THREE_PAYOFFS: &str = r#"EFG 2 R "Pennies" { "A" "B" }
+p "" 1 1 "a" { "H" "T" } 0
+p "" 2 1 "b" { "h" "t" } 0
+t "" 1 "win" { 1, -1, 0 }
+t "" 2 "lose" { -1, 1 }
+p "" 2 1 0
+t "" 2
+t "" 1
+"#;
+
+const NO_ACTIONS: &str = r#"EFG 2 R "" { "A" "B" } p "" 1 1 { } 0"#;
+
+/// The words that are taken, for the file `game`.
+const SOLVE: &str = "solve game --rounds 0";
+
+/// The file `game`. The calls of the files that are listed fail.
+fn files_with(alloc: Global, game: &str, failing: &[u64]) -> Result<MemFiles, AllocError> {
     let mut files = MemFiles::new(alloc, failing)?;
     files.add("game", game.as_bytes())?;
     files.add("-game", game.as_bytes())?;
-    let mut out = MemSink::new(alloc, room, failing_writes)?;
-    let mut err = MemSink::new(alloc, 1_000, &[])?;
-    let status = run(rt, alloc, &given, &mut files, &mut out, &mut err, &OpenGate);
-    Ok(Left { status, out, err })
+    Ok(files)
+}
+
+/// A sink with ample room. The writes that are listed fail.
+fn sink(alloc: Global, failing: &[u64]) -> Result<MemSink, AllocError> {
+    MemSink::new(alloc, 1_000, failing)
+}
+
+/// The status of a call with these words.
+fn status<Rt: Threads + Wait + Sync + AllocGlobal>(
+    rt: &Rt,
+    words: &str,
+    files: &mut MemFiles,
+    out: &mut MemSink,
+    err: &mut MemSink,
+) -> Result<u8, AllocError> {
+    let mut given = Words::new(rt.alloc());
+    for word in words.split_whitespace() {
+        given.push(word)?;
+    }
+    Ok(run(rt, rt.alloc(), &given, files, out, err, &OpenGate))
 }
 
 #[test]
 fn texts_and_faults(rt: HostRuntime) -> Result<(), Fail> {
+    let alloc = rt.alloc();
     let rows: [(&str, u8, &str, &str); 22] = [
-        (
-            "EFG 2 R \"\" { \"A\" \"B\" }\nt \"\" 1 { 0, 0 }\n",
-            0,
-            "XGCERT 1\nnodes 1 leaves 1\nrounds 0 every 1 scale 1048576\nend\n",
-            "",
-        ),
-        (
-            "EFG 2 R \"One mover\" { \"A\" \"B\" }\np \"\" 1 1 \"a\" { \"L\" \"R\" } 0\nt \"\" 1 { 1, -1 }\nt \"\" 2 { 0, 0 }\n",
-            0,
-            "XGCERT 1\nnodes 3 leaves 2\nrounds 0 every 1 scale 1048576\nend\n",
-            "",
-        ),
-        (
-            "EFG 2 R \"Pennies\" { \"A\" \"B\" }\np \"\" 1 1 \"a\" { \"H\" \"T\" } 0\np \"\" 2 1 \"b\" { \"h\" \"t\" } 0\nt \"\" 1 \"win\" { 1, -1 }\nt \"\" 2 \"lose\" { -1, 1 }\np \"\" 2 1 0\nt \"\" 2\nt \"\" 1\n",
-            0,
-            "XGCERT 1\nnodes 7 leaves 4\nrounds 0 every 1 scale 1048576\nend\n",
-            "",
-        ),
-        (
-            "EFG 2 R \"Pennies\" { \"A\" \"B\" }\np \"\" 1 1 \"a\" { \"H\" \"T\" } 0\np \"\" 2 1 \"b\" { \"h\" \"t\" } 0\nt \"\" 1 \"win\" { 1, -1 }\nt \"\" 2 \"lose\" { -1, 1 }\np \"\" 2 1 0\nt \"\" 2\nt \"\" 1 { 1.0, -2/2 }\n",
-            0,
-            "XGCERT 1\nnodes 7 leaves 4\nrounds 0 every 1 scale 1048576\nend\n",
-            "",
-        ),
-        (
-            "EFG 2 R \"Thirds\" { \"A\" \"B\" }\nc \"\" 1 \"\" { \"a\" .333333 \"b\" .333333 \"c\" .333333 } 0\nt \"\" 0\nt \"\" 0\nt \"\" 0\n",
-            0,
-            "XGCERT 1\nnodes 4 leaves 3\nrounds 0 every 1 scale 1048576\nend\n",
-            "",
-        ),
-        (
-            "EFG 2 R \"Repeat\" { \"A\" \"B\" }\np \"\" 1 1 \"a\" { \"x\" \"y\" } 0\nc \"\" 7 \"coin\" { \"h\" 1/2 \"t\" 1/2 } 0\nt \"\" 1 { 1, -1 }\nt \"\" 0\nc \"\" 7 \"coin\" { \"h\" 0.5 \"t\" 5e-1 } 0\nt \"\" 0\nt \"\" 2 { -1, 1 }\n",
-            0,
-            "XGCERT 1\nnodes 7 leaves 4\nrounds 0 every 1 scale 1048576\nend\n",
-            "",
-        ),
+        (ONE_LEAF, 0, ONE_NODE, ""),
+        (ONE_MOVER, 0, THREE_NODES, ""),
+        (PENNIES, 0, SEVEN_NODES, ""),
+        (PENNIES_REPEATED, 0, SEVEN_NODES, ""),
+        (THIRDS, 0, FOUR_NODES, ""),
+        (REPEAT, 0, SEVEN_NODES, ""),
         ("", 1, "", "refused 3 UnexpectedEnd\n"),
+        (NORMAL_FORM, 1, "", "refused 2 Syntax at 0\n"),
+        (NO_TOKEN, 1, "", "refused 2 Syntax at 24\n"),
+        (CUT_OFF, 1, "", "refused 3 UnexpectedEnd\n"),
+        (TRAILING, 1, "", "refused 4 TrailingText at 156\n"),
+        (LARGE_PAYOFF, 1, "", "refused 5 Number at 32 Range\n"),
         (
-            "NFG 2 R \"x\" { \"A\" \"B\" }",
-            1,
-            "",
-            "refused 2 Syntax at 0\n",
-        ),
-        (
-            "EFG 2 R \"x\" { \"A\" \"B\" } #",
-            1,
-            "",
-            "refused 2 Syntax at 24\n",
-        ),
-        (
-            "EFG 2 R \"Pennies\" { \"A\" \"B\" }\np \"\" ",
-            1,
-            "",
-            "refused 3 UnexpectedEnd\n",
-        ),
-        (
-            "EFG 2 R \"Pennies\" { \"A\" \"B\" }\np \"\" 1 1 \"a\" { \"H\" \"T\" } 0\np \"\" 2 1 \"b\" { \"h\" \"t\" } 0\nt \"\" 1 \"win\" { 1, -1 }\nt \"\" 2 \"lose\" { -1, 1 }\np \"\" 2 1 0\nt \"\" 2\nt \"\" 1\nt \"\" 0\n",
-            1,
-            "",
-            "refused 4 TrailingText at 156\n",
-        ),
-        (
-            "EFG 2 R \"\" { \"A\" \"B\" } t \"\" 1 { 4611686018427387905, 0 }\n",
-            1,
-            "",
-            "refused 5 Number at 32 Range\n",
-        ),
-        (
-            "EFG 2 R \"\" { \"A\" \"B\" } t \"\" 1 { 1/0, 0 }\n",
+            ZERO_DENOMINATOR,
             1,
             "",
             "refused 5 Number at 32 ZeroDenominator\n",
         ),
+        (NO_EXPONENT, 1, "", "refused 5 Number at 32 Form\n"),
+        (THREE_PLAYERS, 1, "", "refused 6 Players count 3\n"),
+        (PLAYER_THREE, 1, "", "refused 7 PlayerNumber node 2\n"),
+        (NO_ACTIONS_YET, 1, "", "refused 8 SetUndefined node 2\n"),
+        (OTHER_ACTIONS, 1, "", "refused 9 SetMismatch node 5\n"),
         (
-            "EFG 2 R \"\" { \"A\" \"B\" } t \"\" 1 { 1e, 0 }\n",
-            1,
-            "",
-            "refused 5 Number at 32 Form\n",
-        ),
-        (
-            "EFG 2 R \"Pennies\" { \"A\" \"B\" \"C\" }\np \"\" 1 1 \"a\" { \"H\" \"T\" } 0\np \"\" 2 1 \"b\" { \"h\" \"t\" } 0\nt \"\" 1 \"win\" { 1, -1 }\nt \"\" 2 \"lose\" { -1, 1 }\np \"\" 2 1 0\nt \"\" 2\nt \"\" 1\n",
-            1,
-            "",
-            "refused 6 Players count 3\n",
-        ),
-        (
-            "EFG 2 R \"Pennies\" { \"A\" \"B\" }\np \"\" 1 1 \"a\" { \"H\" \"T\" } 0\np \"\" 3 1 \"b\" { \"h\" \"t\" } 0\nt \"\" 1 \"win\" { 1, -1 }\nt \"\" 2 \"lose\" { -1, 1 }\np \"\" 2 1 0\nt \"\" 2\nt \"\" 1\n",
-            1,
-            "",
-            "refused 7 PlayerNumber node 2\n",
-        ),
-        (
-            "EFG 2 R \"Pennies\" { \"A\" \"B\" }\np \"\" 1 1 \"a\" { \"H\" \"T\" } 0\np \"\" 2 1 \"b\" 0\nt \"\" 1 \"win\" { 1, -1 }\nt \"\" 2 \"lose\" { -1, 1 }\np \"\" 2 1 0\nt \"\" 2\nt \"\" 1\n",
-            1,
-            "",
-            "refused 8 SetUndefined node 2\n",
-        ),
-        (
-            "EFG 2 R \"Repeat\" { \"A\" \"B\" }\np \"\" 1 1 \"a\" { \"x\" \"y\" } 0\nc \"\" 7 \"coin\" { \"h\" 1/2 \"t\" 1/2 } 0\nt \"\" 1 { 1, -1 }\nt \"\" 0\nc \"\" 7 \"coin\" { \"h\" 0.5 \"tails\" 5e-1 } 0\nt \"\" 0\nt \"\" 2 { -1, 1 }\n",
-            1,
-            "",
-            "refused 9 SetMismatch node 5\n",
-        ),
-        (
-            "EFG 2 R \"Pennies\" { \"A\" \"B\" }\np \"\" 1 1 \"a\" { \"H\" \"T\" } 0\np \"\" 2 1 \"b\" { \"h\" \"t\" } 0\nt \"\" 1 \"win\" { 1, -1 }\nt \"\" 2 \"lose\" { -1, 1 }\np \"\" 2 1 0\nt \"\" 2\nt \"\" 9\n",
+            NO_PAYOFFS_YET,
             1,
             "",
             "refused 10 OutcomeUndefined node 7\n",
         ),
-        (
-            "EFG 2 R \"Pennies\" { \"A\" \"B\" }\np \"\" 1 1 \"a\" { \"H\" \"T\" } 0\np \"\" 2 1 \"b\" { \"h\" \"t\" } 0\nt \"\" 1 \"win\" { 1, -1 }\nt \"\" 1 { 1, -2 }\np \"\" 2 1 0\nt \"\" 2\nt \"\" 1\n",
-            1,
-            "",
-            "refused 11 OutcomeMismatch node 4\n",
-        ),
-        (
-            "EFG 2 R \"Pennies\" { \"A\" \"B\" }\np \"\" 1 1 \"a\" { \"H\" \"T\" } 0\np \"\" 2 1 \"b\" { \"h\" \"t\" } 0\nt \"\" 1 \"win\" { 1, -1, 0 }\nt \"\" 2 \"lose\" { -1, 1 }\np \"\" 2 1 0\nt \"\" 2\nt \"\" 1\n",
-            1,
-            "",
-            "refused 12 PayoffCount node 3\n",
-        ),
-        (
-            "EFG 2 R \"\" { \"A\" \"B\" } p \"\" 1 1 { } 0",
-            1,
-            "",
-            "refused 14 ActionCount node 1\n",
-        ),
+        (OTHER_PAYOFFS, 1, "", "refused 11 OutcomeMismatch node 4\n"),
+        (THREE_PAYOFFS, 1, "", "refused 12 PayoffCount node 3\n"),
+        (NO_ACTIONS, 1, "", "refused 14 ActionCount node 1\n"),
     ];
-    for (game, status, out, err) in rows {
-        let left = call(&rt, "solve game --rounds 0", game, &[], &[], 1_000)?;
-        assert_eq!(rt; left.status, status, "of {game:?}");
-        assert_eq!(rt; left.out.bytes(), out.as_bytes(), "of {game:?}");
-        assert_eq!(rt; left.err.bytes(), err.as_bytes(), "of {game:?}");
+    for (game, expected, text, line) in rows {
+        let mut files = files_with(alloc, game, &[])?;
+        let mut out = sink(alloc, &[])?;
+        let mut err = sink(alloc, &[])?;
+        let status = status(&rt, SOLVE, &mut files, &mut out, &mut err)?;
+        assert_eq!(rt; status, expected, "of {game:?}");
+        assert_eq!(rt; out.bytes(), text.as_bytes(), "of {game:?}");
+        assert_eq!(rt; err.bytes(), line.as_bytes(), "of {game:?}");
     }
     Ok(())
 }
 
 #[test]
 fn words_that_name_no_command(rt: HostRuntime) -> Result<(), Fail> {
+    let alloc = rt.alloc();
     let rows: [&str; 24] = [
         "",
         "solve",
@@ -211,42 +289,99 @@ fn words_that_name_no_command(rt: HostRuntime) -> Result<(), Fail> {
         "batch game",
     ];
     for words in rows {
-        let left = call(&rt, words, ONE_LEAF, &[], &[], 1_000)?;
-        assert_eq!(rt; left.status, 2, "of {words:?}");
-        assert_eq!(rt; left.out.bytes().len(), 0, "of {words:?}");
-        assert_eq!(rt; left.err.bytes(), USAGE.as_bytes(), "of {words:?}");
+        let mut files = files_with(alloc, ONE_LEAF, &[])?;
+        let mut out = sink(alloc, &[])?;
+        let mut err = sink(alloc, &[])?;
+        let status = status(&rt, words, &mut files, &mut out, &mut err)?;
+        assert_eq!(rt; status, 2, "of {words:?}");
+        assert_eq!(rt; out.bytes().len(), 0, "of {words:?}");
+        assert_eq!(rt; err.bytes(), USAGE.as_bytes(), "of {words:?}");
     }
     Ok(())
 }
 
 #[test]
-fn files_and_sinks_that_fail(rt: HostRuntime) -> Result<(), Fail> {
-    for fault in [1u64, 2, 3] {
-        let left = call(&rt, "solve game --rounds 0", ONE_LEAF, &[fault], &[], 1_000)?;
-        assert_eq!(rt; left.status, 3, "at call {fault}");
-        assert_eq!(rt; left.out.bytes().len(), 0, "at call {fault}");
+fn files_that_fail(rt: HostRuntime) -> Result<(), Fail> {
+    let alloc = rt.alloc();
+    let rows: [(&str, u64); 4] = [
+        (SOLVE, 1),
+        (SOLVE, 2),
+        (SOLVE, 3),
+        ("solve nofile --rounds 0", 1_000),
+    ];
+    for (words, call) in rows {
+        let mut files = files_with(alloc, ONE_LEAF, &[call])?;
+        let mut out = sink(alloc, &[])?;
+        let mut err = sink(alloc, &[])?;
+        let status = status(&rt, words, &mut files, &mut out, &mut err)?;
+        assert_eq!(rt; status, 3, "of {words:?} at call {call}");
+        assert_eq!(rt; out.bytes().len(), 0, "of {words:?} at call {call}");
         assert_eq!(rt;
-            left.err.bytes(),
+            err.bytes(),
             b"read fault\n".as_slice(),
-            "at call {fault}"
+            "of {words:?} at call {call}"
         );
     }
-    let left = call(&rt, "solve nofile --rounds 0", ONE_LEAF, &[], &[], 1_000)?;
-    assert_eq!(rt; left.status, 3);
-    assert_eq!(rt; left.err.bytes(), b"read fault\n".as_slice());
+    Ok(())
+}
 
-    let left = call(&rt, "solve game --rounds 0", ONE_LEAF, &[], &[1], 1_000)?;
-    assert_eq!(rt; left.status, 4);
-    assert_eq!(rt; left.out.bytes().len(), 0);
-    assert_eq!(rt; left.err.bytes(), b"write fault\n".as_slice());
+#[test]
+fn a_sink_that_fails(rt: HostRuntime) -> Result<(), Fail> {
+    let alloc = rt.alloc();
+    let rows: [(usize, u64, &str); 3] = [
+        (1_000, 1, ""),
+        (30, 1_000, "XGCERT 1\nnodes 1 leaves 1\nroun"),
+        (0, 1_000, ""),
+    ];
+    for (room, write, front) in rows {
+        let mut files = files_with(alloc, ONE_LEAF, &[])?;
+        let mut out = MemSink::new(alloc, room, &[write])?;
+        let mut err = sink(alloc, &[])?;
+        let status = status(&rt, SOLVE, &mut files, &mut out, &mut err)?;
+        assert_eq!(rt; status, 4, "in {room} bytes, at write {write}");
+        assert_eq!(rt;
+            out.bytes(),
+            front.as_bytes(),
+            "in {room} bytes, at write {write}"
+        );
+        assert_eq!(rt;
+            err.bytes(),
+            b"write fault\n".as_slice(),
+            "in {room} bytes, at write {write}"
+        );
+    }
+    Ok(())
+}
 
-    let left = call(&rt, "solve game --rounds 0", ONE_LEAF, &[], &[], 30)?;
-    assert_eq!(rt; left.status, 4);
-    assert_eq!(rt;
-        left.out.bytes(),
-        b"XGCERT 1\nnodes 1 leaves 1\nroun".as_slice()
-    );
-    assert_eq!(rt; left.err.bytes(), b"write fault\n".as_slice());
+// `err` fails at its first write, or takes five bytes and fails at its second one.
+#[test]
+fn a_fault_of_err_changes_no_status(rt: HostRuntime) -> Result<(), Fail> {
+    let alloc = rt.alloc();
+    let rows: [(&str, &str, u64, u8, &str); 5] = [
+        (SOLVE, ONE_LEAF, 1_000, 0, ""),
+        (SOLVE, "", 1_000, 1, "refus"),
+        ("", ONE_LEAF, 1_000, 2, "usage"),
+        ("solve nofile --rounds 0", ONE_LEAF, 1_000, 3, "read "),
+        (SOLVE, ONE_LEAF, 1, 4, "write"),
+    ];
+    for (words, game, write, expected, front) in rows {
+        let mut files = files_with(alloc, game, &[])?;
+        let mut out = sink(alloc, &[write])?;
+        let mut err = sink(alloc, &[1])?;
+        let first = status(&rt, words, &mut files, &mut out, &mut err)?;
+        assert_eq!(rt; first, expected, "of {words:?} on {game:?}");
+        assert_eq!(rt; err.bytes().len(), 0, "of {words:?} on {game:?}");
+
+        let mut out = sink(alloc, &[write])?;
+        let mut err = MemSink::new(alloc, 5, &[])?;
+        let later = status(&rt, words, &mut files, &mut out, &mut err)?;
+        assert_eq!(rt; later, expected, "of {words:?} on {game:?}, in five bytes");
+        assert_eq!(rt;
+            err.bytes(),
+            front.as_bytes(),
+            "of {words:?} on {game:?}, in five bytes"
+        );
+    }
     Ok(())
 }
 
@@ -258,21 +393,16 @@ fn line_feeds(alloc: Global, count: usize) -> Result<Vec<u8>, AllocError> {
 #[test]
 fn a_file_of_one_byte_too_many(rt: HostRuntime) -> Result<(), Fail> {
     let alloc = rt.alloc();
-    let mut words = Words::new(alloc);
-    for word in ["solve", "game", "--rounds", "0"] {
-        words.push(word)?;
-    }
-    for (count, line) in [
-        (67_108_864usize, "refused 3 UnexpectedEnd\n"),
+    let rows: [(usize, &str); 2] = [
+        (67_108_864, "refused 3 UnexpectedEnd\n"),
         (67_108_865, "refused 1 TooLong\n"),
-    ] {
+    ];
+    for (count, line) in rows {
         let mut files = MemFiles::new(alloc, &[])?;
         files.add("game", line_feeds(alloc, count)?.as_slice())?;
-        let mut out = MemSink::new(alloc, 1_000, &[])?;
-        let mut err = MemSink::new(alloc, 1_000, &[])?;
-        let status = run(
-            &rt, alloc, &words, &mut files, &mut out, &mut err, &OpenGate,
-        );
+        let mut out = sink(alloc, &[])?;
+        let mut err = sink(alloc, &[])?;
+        let status = status(&rt, SOLVE, &mut files, &mut out, &mut err)?;
         assert_eq!(rt; status, 1, "at {count} bytes");
         assert_eq!(rt; out.bytes().len(), 0, "at {count} bytes");
         assert_eq!(rt; err.bytes(), line.as_bytes(), "at {count} bytes");

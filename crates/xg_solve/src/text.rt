@@ -1,6 +1,6 @@
 //! The texts that are written.
 ghost use Rattle.std.specs.Prelude.{◌≡◌, IfOk, string_bytes};
-ghost use Rattle.def_text.specs.Text.{text_of};
+ghost use Rattle.def_text.specs.Text.{game_text};
 ghost use Rattle.def_text.specs.Lines.{fault_line, node_line, number_fault_name};
 ghost use Rattle.xg_solve.specs.Settings.{settings_of};
 
@@ -15,16 +15,19 @@ pub struct Settings {
     pub scale: u32,
 }
 
+/// The greatest scale of a plan.
+const MOST_SCALE: u32 = 1_048_576;
+
 /// No rounds, at the greatest scale.
 pub const NO_ROUNDS: Settings = Settings {
     rounds: 0,
     every: 1,
-    scale: 1_048_576,
+    scale: MOST_SCALE,
 };
 
 /// The text of a game that is solved with these settings.
 pub fn game_text(alloc: Global, game: &Game, settings: Settings) -> Result<String, AllocError>
-    ensures { IfOk result (λ text. string_bytes text ≡ text_of game.now (settings_of settings)) }
+    ensures { IfOk result (λ text. string_bytes text ≡ game_text game.now (settings_of settings)) }
 {
     let nodes = game.tree().len();
     let leaves = game.tree().leaves();

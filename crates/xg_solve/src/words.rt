@@ -1,10 +1,18 @@
 //! The words that the program is called with.
 ghost use Rattle.std.specs.Prelude.{◌≡◌, [], ◌∷◌, ◌++◌, Option, Some, OnOk, OnErr};
-ghost use Rattle.std.specs.Option.{option_map};
-ghost use Rattle.def_command.specs.Command.{Solve, command_of, is_option};
+ghost use Rattle.def_command.specs.Command.{command_of, is_option};
+ghost use Rattle.xg_solve.specs.Words.{command_value};
 
 use std::alloc::{AllocError, Global};
 use std::marker::Model;
+
+/// The command that the words name.
+pub(crate) enum Command<'a> {
+    /// The game of a file is solved.
+    Solve { file: &'a str },
+    /// The words name none.
+    Unknown,
+}
 
 /// The words of a call, without the program's own name.
 #[derive(Drop)]
@@ -41,17 +49,21 @@ impl Words {
         Ok(())
     }
 
-    /// The file of the command `solve`, where the words are those of this command.
-    pub(crate) fn solve_file(&self) -> Option<&str>
-        ensures { option_map (λ file. Solve file.now) result ≡ command_of self.now }
+    /// The command that the words name.
+    pub(crate) fn command(&self) -> Command<'_>
+        ensures { command_value result ≡ command_of self.now }
     {
         match self.words.as_slice() {
             [command, file, rounds, count]
                 if command.as_str() == "solve"
                     && !file.as_str().starts_with('-')
                     && rounds.as_str() == "--rounds"
-                    && count.as_str() == "0" => { Some(file.as_str()) }
-            _ => None,
+                    && count.as_str() == "0" => {
+                Command::Solve {
+                    file: file.as_str(),
+                }
+            }
+            _ => Command::Unknown,
         }
     }
 }

@@ -1,4 +1,4 @@
-use Rattle.def_text.proofs.Told.{tell_faults}
+use Rattle.def_text.proofs.ReadBack.{tell_faults}
 use Rattle.def_text.proofs.lines_tell_faults.Goals as goal
 
 pub returns : goal.returns

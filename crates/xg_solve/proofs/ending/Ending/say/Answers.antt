@@ -1,8 +1,11 @@
 use Rattle.std.proofs.Common.{List, ℕ, subst, ◌≡◌}
-use Rattle.def_program.specs.Says.{Says}
+use Rattle.def_outside.specs.Calls.{SinkCall, Says, sink_call}
 use Rattle.xg_solve.proofs.Saying.{says_of}
 use Rattle.xg_solve.proofs.ending.Ending.say.Goals as goal
 
 pub returns : goal.returns
-returns g c = let w = g.E.Sink in subst (λ (line : List ℕ). Says (w.faults c.args.err.now) (w.faults c.write_all.new.sink) (w.written c.args.err.now) (w.written c.write_all.new.sink) line) c.line.ensures
-    (says_of c.write_all.result _ _ _ _ c.line.result.now c.write_all.ensures.appended c.write_all.ensures.prefix c.write_all.ensures.cause)
+returns g c =
+    let err : SinkCall = sink_call g.E.Sink.written g.E.Sink.faults c.args.err.now c.write_all.new.sink in
+    subst (λ (line : List ℕ). Says err line) c.line.ensures
+    (says_of c.write_all.result err c.line.result.now
+    c.write_all.ensures.appended c.write_all.ensures.prefix c.write_all.ensures.cause)

@@ -30,7 +30,8 @@ number_in bytes = digits_value 10 (leading_digits bytes)
 number_found : (n : ℕ) (rest : List ℕ) → n < 2 ^ 64 → BeginsElsewhere rest → number_in (decimal n ++ rest) ≡ n
 number_found n rest h elsewhere =
     let numeral = decimal_is_IsNumeral n h in
-    ap (digits_value 10) (leading_digits-append (decimal n) rest (all_digits (decimal n) numeral.0.1) elsewhere) ∙ numeral.1
+    ap (digits_value 10) (leading_digits-append (decimal n) rest (all_digits (decimal n) numeral.0.1) elsewhere)
+    ∙ numeral.1
 
 rest_found : (n : ℕ) (rest : List ℕ) → n < 2 ^ 64 → BeginsElsewhere rest → after_digits (decimal n ++ rest) ≡ rest
 rest_found n rest h elsewhere =
@@ -90,43 +91,55 @@ fault_by (row ∷ more) line = option_map_or row.fault (behind row.front line) (
 abbrev pub fault_of_line : List ℕ → FileFault
 fault_of_line line = fault_by rows line
 
-named : (at : ℕ) (fault : NumberFault) → at < 2 ^ 64 → number_of_line (decimal at ++ (codes " " ++ (number_fault_name fault ++ line_feed))) ≡ Number at fault
-named at Form h = let n = number_found at (codes " Form" ++ line_feed) h refl in let r = rest_found at (codes " Form" ++ line_feed) h refl in rw (n, r) refl
-named at ZeroDenominator h = let n = number_found at (codes " ZeroDenominator" ++ line_feed) h refl in let r = rest_found at (codes " ZeroDenominator" ++ line_feed) h refl in rw (n, r) refl
-named at Range h = let n = number_found at (codes " Range" ++ line_feed) h refl in let r = rest_found at (codes " Range" ++ line_feed) h refl in rw (n, r) refl
+named : (at : ℕ) (fault : NumberFault) → at < 2 ^ 64
+    → number_of_line (decimal at ++ (codes " " ++ (number_fault_name fault ++ line_feed))) ≡ Number at fault
+named at Form h =
+    let n = number_found at (codes " Form" ++ line_feed) h refl in
+    let r = rest_found at (codes " Form" ++ line_feed) h refl in
+    rw (n, r) refl
+named at ZeroDenominator h =
+    let n = number_found at (codes " ZeroDenominator" ++ line_feed) h refl in
+    let r = rest_found at (codes " ZeroDenominator" ++ line_feed) h refl in
+    rw (n, r) refl
+named at Range h =
+    let n = number_found at (codes " Range" ++ line_feed) h refl in
+    let r = rest_found at (codes " Range" ++ line_feed) h refl in
+    rw (n, r) refl
 
-recalled : (node earlier : ℕ) → node < 2 ^ 64 → earlier < 2 ^ 64 → recall_of_line (decimal node ++ (codes " earlier " ++ (decimal earlier ++ line_feed))) ≡ NotRecall node earlier
+recalled : (node earlier : ℕ) → node < 2 ^ 64 → earlier < 2 ^ 64
+    → recall_of_line (decimal node ++ (codes " earlier " ++ (decimal earlier ++ line_feed))) ≡ NotRecall node earlier
 recalled node earlier h k =
     let tail = codes " earlier " ++ (decimal earlier ++ line_feed) in
     let n = number_found node tail h refl in
     let r = rest_found node tail h refl in
     let m = number_found earlier line_feed k refl in
-    ap (λ x. NotRecall x (number_in (drop 9 (after_digits (decimal node ++ tail))))) n ∙ ap (λ bytes. NotRecall node (number_in (drop 9 bytes))) r ∙ ap (NotRecall node) m
+    ap (λ x. NotRecall x (number_in (drop 9 (after_digits (decimal node ++ tail))))) n
+    ∙ ap (λ bytes. NotRecall node (number_in (drop 9 bytes))) r ∙ ap (NotRecall node) m
 
 -- a number at the end of the line
 last : (n : ℕ) → n < 2 ^ 64 → number_in (decimal n ++ line_feed) ≡ n
 last n h = number_found n line_feed h refl
 
-pub told : (f : FileFault) → HasNarrowNumbers f → fault_of_line (fault_line f) ≡ f
-told TooLong h = refl
-told (Syntax at) h = ap Syntax (last at (h 0 0 (omega arith)))
-told UnexpectedEnd h = refl
-told (TrailingText at) h = ap TrailingText (last at (h 0 0 (omega arith)))
-told (Number at fault) h = named at fault (h 0 0 (omega arith))
-told (Players count) h = ap Players (last count (h 0 0 (omega arith)))
-told (PlayerNumber node) h = ap PlayerNumber (last node (h 0 0 (omega arith)))
-told (SetUndefined node) h = ap SetUndefined (last node (h 0 0 (omega arith)))
-told (SetMismatch node) h = ap SetMismatch (last node (h 0 0 (omega arith)))
-told (OutcomeUndefined node) h = ap OutcomeUndefined (last node (h 0 0 (omega arith)))
-told (OutcomeMismatch node) h = ap OutcomeMismatch (last node (h 0 0 (omega arith)))
-told (PayoffCount node) h = ap PayoffCount (last node (h 0 0 (omega arith)))
-told TooManyNodes h = refl
-told (ActionCount node) h = ap ActionCount (last node (h 0 0 (omega arith)))
-told (ChanceNegative node) h = ap ChanceNegative (last node (h 0 0 (omega arith)))
-told (ChanceSum node) h = ap ChanceSum (last node (h 0 0 (omega arith)))
-told (NotZeroSum node) h = ap NotZeroSum (last node (h 0 0 (omega arith)))
-told (NotRecall node earlier) h = recalled node earlier (h 0 0 (omega arith)) (h 1 0 (omega arith))
-told (Scale node) h = ap Scale (last node (h 0 0 (omega arith)))
+pub read_back : (f : FileFault) → HasNarrowNumbers f → fault_of_line (fault_line f) ≡ f
+read_back TooLong h = refl
+read_back (Syntax at) h = ap Syntax (last at (h 0 0 (omega arith)))
+read_back UnexpectedEnd h = refl
+read_back (TrailingText at) h = ap TrailingText (last at (h 0 0 (omega arith)))
+read_back (Number at fault) h = named at fault (h 0 0 (omega arith))
+read_back (Players count) h = ap Players (last count (h 0 0 (omega arith)))
+read_back (PlayerNumber node) h = ap PlayerNumber (last node (h 0 0 (omega arith)))
+read_back (SetUndefined node) h = ap SetUndefined (last node (h 0 0 (omega arith)))
+read_back (SetMismatch node) h = ap SetMismatch (last node (h 0 0 (omega arith)))
+read_back (OutcomeUndefined node) h = ap OutcomeUndefined (last node (h 0 0 (omega arith)))
+read_back (OutcomeMismatch node) h = ap OutcomeMismatch (last node (h 0 0 (omega arith)))
+read_back (PayoffCount node) h = ap PayoffCount (last node (h 0 0 (omega arith)))
+read_back TooManyNodes h = refl
+read_back (ActionCount node) h = ap ActionCount (last node (h 0 0 (omega arith)))
+read_back (ChanceNegative node) h = ap ChanceNegative (last node (h 0 0 (omega arith)))
+read_back (ChanceSum node) h = ap ChanceSum (last node (h 0 0 (omega arith)))
+read_back (NotZeroSum node) h = ap NotZeroSum (last node (h 0 0 (omega arith)))
+read_back (NotRecall node earlier) h = recalled node earlier (h 0 0 (omega arith)) (h 1 0 (omega arith))
+read_back (Scale node) h = ap Scale (last node (h 0 0 (omega arith)))
 
 pub tell_faults : (f g : FileFault) → HasNarrowNumbers f → HasNarrowNumbers g → fault_line f ≡ fault_line g → f ≡ g
-tell_faults f g h k e = sym (told f h) ∙ ap fault_of_line e ∙ told g k
+tell_faults f g h k e = sym (read_back f h) ∙ ap fault_of_line e ∙ read_back g k

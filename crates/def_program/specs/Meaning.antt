@@ -1,0 +1,52 @@
+-- What the words mean by the bytes that the files tell, in the format's own words. Where a file that an answer rests on
+-- isn't told, that answer isn't meant.
+--     IsAccepted bytes game          a file of these bytes is accepted, and stands for the game
+--     CommandMeans command told a    the command means this answer, by cases of the command
+--     Means words told a             the words mean it
+use Rattle.std.specs.Prelude.{◌≡◌, ◌⊎◌, ℕ, ◌≤◌, List, length, All, Option, Some, None, IsSome, IsSomeAnd}
+use Rattle.def_file.specs.declared.FileFault.{FileFault}
+use Rattle.def_file.specs.Content.{GameFile}
+use Rattle.def_file_form.specs.Laws.{StandsFor}
+use Rattle.def_command.specs.Command.{Command, Solve, command_of, named_files}
+use Rattle.def_text.specs.Text.{game_text, no_rounds}
+use Rattle.def_text.specs.Lines.{fault_line}
+use Rattle.def_program.specs.Program.{Answer, most_bytes, success, refusal, usage}
+use Rattle.def_program.specs.FirstFault.{IsFirstFault}
+
+pub record IsAccepted (bytes : List ℕ) (game : GameFile) : Type 0 where
+  pub length_within : length bytes ≤ most_bytes
+  pub stands : StandsFor bytes game
+
+-- `solve` of a file of these bytes: the text of the game that it stands for, or the line of its first fault
+pub data SolveMeans (bytes : List ℕ) (answer : Answer) : Type 0 where
+  played : (game : GameFile) → IsAccepted bytes game → answer ≡ success (game_text game no_rounds)
+      → SolveMeans bytes answer
+  refused : (fault : FileFault) → IsFirstFault bytes fault → answer ≡ refusal (fault_line fault)
+      → SolveMeans bytes answer
+
+abbrev pub CommandMeans : Command → (List ℕ → Option (List ℕ)) → Answer → Type 0
+CommandMeans (Solve file) told answer = IsSomeAnd (told file) (λ bytes. SolveMeans bytes answer)
+
+-- words that aren't taken mean the usage
+abbrev pub IsMeant : Option Command → (List ℕ → Option (List ℕ)) → Answer → Type 0
+IsMeant None told answer = answer ≡ usage
+IsMeant (Some command) told answer = CommandMeans command told answer
+
+abbrev pub Means : List (List ℕ) → (List ℕ → Option (List ℕ)) → Answer → Type 0
+Means words told answer = IsMeant (command_of words) told answer
+
+-- whatever answer the words mean has this property
+abbrev pub EachMeant : (Answer → Type 0) → (Answer → Type 0) → Type 0
+EachMeant meant P = (answer : Answer) → meant answer → P answer
+
+-- no other answer is meant
+abbrev pub MeansOnly : (Answer → Type 0) → Answer → Type 0
+MeansOnly meant answer = (other : Answer) → meant other → other ≡ answer
+
+-- each file that the words name is told
+abbrev pub FilesAreTold : List (List ℕ) → (List ℕ → Option (List ℕ)) → Type 0
+FilesAreTold words told = All (λ file. IsSome (told file)) (named_files words)
+
+-- this status, or that of want of memory
+abbrev pub EndsWith : ℕ → ℕ → Type 0
+EndsWith status result = (result ≡ status) ⊎ (result ≡ 5)
