@@ -156,6 +156,7 @@ first_offer_makes_ends = record { lower = lower; upper = upper }
     lower (o ∷ later) =
         let b = after_some o later in
         (λ none. absurd (none-some b.lower (sym none ∙ ap (λ (k : Board). k.lower) b.is)), λ e. absurd (not_empty o later e))
+
     upper : (offers : List Offer) → ((board_after offers).upper ≡ None) ↔ (offers ≡ [])
     upper [] = (λ e. refl, λ e. refl)
     upper (o ∷ later) =

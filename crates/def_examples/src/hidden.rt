@@ -24,9 +24,11 @@ pub fn round_one()
         ≡ 0 ∷ 21845 ∷ 21845 ∷ 21846 ∷ 32768 ∷ 32768 ∷ 32768 ∷ 32768 ∷ [] }
     ensures play_of_two { play_of hidden.sets_two (opening hidden).regrets_two
         ≡ 0 ∷ 21845 ∷ 21845 ∷ 21846 ∷ 32768 ∷ 32768 ∷ 32768 ∷ 32768 ∷ [] }
-    ensures plan_of_one { plan_of_play hidden.sets_one (0 ∷ 21845 ∷ 21845 ∷ 21846 ∷ 32768 ∷ 32768 ∷ 32768 ∷ 32768 ∷ []) 10
+    ensures plan_of_one { plan_of_play hidden.sets_one (0 ∷ 21845 ∷ 21845 ∷ 21846 ∷ 32768 ∷ 32768 ∷ 32768 ∷
+        32768 ∷ []) 10
         ≡ 10 ∷ 3 ∷ 3 ∷ 4 ∷ 1 ∷ 2 ∷ 1 ∷ 2 ∷ [] }
-    ensures plan_of_two { plan_of_play hidden.sets_two (0 ∷ 21845 ∷ 21845 ∷ 21846 ∷ 32768 ∷ 32768 ∷ 32768 ∷ 32768 ∷ []) 10
+    ensures plan_of_two { plan_of_play hidden.sets_two (0 ∷ 21845 ∷ 21845 ∷ 21846 ∷ 32768 ∷ 32768 ∷ 32768 ∷
+        32768 ∷ []) 10
         ≡ 10 ∷ 3 ∷ 3 ∷ 4 ∷ 1 ∷ 2 ∷ 1 ∷ 2 ∷ [] }
     ensures leaves { next_round hidden 10 (opening hidden) ≡ after_one }
 {}

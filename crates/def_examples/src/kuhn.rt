@@ -41,9 +41,11 @@ pub fn first_plans()
 
 /// What each set is worth in the first round.
 pub fn first_values()
-    ensures values_of_one { round_values (own_sum One kuhn.leaves even_two) (play_of kuhn.sets_one (opening kuhn).regrets_one) kuhn.sets_one
+    ensures values_of_one { let play = play_of kuhn.sets_one (opening kuhn).regrets_one in
+        round_values (own_sum One kuhn.leaves even_two) play kuhn.sets_one
         ≡ negsuc 1835007 ∷ negsuc 1572863 ∷ pos 262144 ∷ negsuc 524287 ∷ pos 2359296 ∷ pos 524288 ∷ [] }
-    ensures values_of_two { round_values (own_sum Two kuhn.leaves even_one) (play_of kuhn.sets_two (opening kuhn).regrets_two) kuhn.sets_two
+    ensures values_of_two { let play = play_of kuhn.sets_two (opening kuhn).regrets_two in
+        round_values (own_sum Two kuhn.leaves even_one) play kuhn.sets_two
         ≡ pos 262144 ∷ negsuc 524287 ∷ pos 1310720 ∷ pos 524288 ∷ negsuc 786431 ∷ negsuc 1572863 ∷ [] }
 {}
 

@@ -49,6 +49,8 @@ pub fn packet_of_pennies()
 
 /// Matching pennies, where both plans give their one unit to the second action: the amounts of the one job at all rows.
 pub fn amounts_of_pennies()
-    ensures { map (amounts (leaf_amount pennies (1 ∷ 0 ∷ 1 ∷ []) (1 ∷ 0 ∷ 1 ∷ [])) (record { first = 0; count = 4 } ∷ []) 0) (range_with_len 0 6)
+    ensures { let amount = amounts (leaf_amount pennies (1 ∷ 0 ∷ 1 ∷ []) (1 ∷ 0 ∷ 1 ∷ []))
+        (record { first = 0; count = 4 } ∷ []) in
+        map (amount 0) (range_with_len 0 6)
         ≡ pos 0 ∷ negsuc 0 ∷ pos 1 ∷ pos 0 ∷ negsuc 0 ∷ pos 1 ∷ [] }
 {}

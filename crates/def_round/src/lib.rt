@@ -127,6 +127,7 @@ pub fn rounds_of_pennies()
 
 /// A set whose two sequences are worth -1 and 0 is worth -1/2, which is rounded down to -1.
 pub fn worked_set_value()
-    ensures { set_value (0 ∷ 32768 ∷ 32768 ∷ []) (λ s. if s == 1 then negsuc 0 else pos 0) (record { first = 1; before = 0; actions = 2 })
+    ensures { set_value (0 ∷ 32768 ∷ 32768 ∷ []) (λ s. if s == 1 then negsuc 0 else pos 0)
+        (record { first = 1; before = 0; actions = 2 })
         ≡ negsuc 0 }
 {}

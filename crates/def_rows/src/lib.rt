@@ -27,8 +27,8 @@ pub fn rows_add_amounts()
     ensures { RowsAddAmounts }
 {}
 
-/// Matching pennies, where player one gives 1 and 2 units to the two actions, and player two 0 and 1.
+/// Matching pennies, where player one gives 1 and 2 units to the two actions, and player two 1 and 0.
 pub fn rows_of_pennies()
-    ensures { rows pennies (3 ∷ 1 ∷ 2 ∷ []) (1 ∷ 0 ∷ 1 ∷ [])
-        ≡ pos 0 ∷ negsuc 0 ∷ pos 1 ∷ pos 0 ∷ negsuc 0 ∷ pos 1 ∷ [] }
+    ensures { rows pennies (3 ∷ 1 ∷ 2 ∷ []) (1 ∷ 1 ∷ 0 ∷ [])
+        ≡ pos 0 ∷ pos 1 ∷ negsuc 0 ∷ pos 0 ∷ negsuc 0 ∷ pos 1 ∷ [] }
 {}

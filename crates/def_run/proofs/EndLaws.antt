@@ -116,8 +116,7 @@ outcomes_show_their_run = record {
       let d : Offer = offer_after form head.scale 0 in
       let k = offers_keep_the_ends os ends (ap ends_of (evaluated form head.scale ks) ∙ are) in
       let lower = from_offer lower_of form head.scale ks ends.lower k.lower d k.lower_from in
-      let upper = from_offer upper_of form head.scale ks ends.upper k.upper d k.upper_from in
-      (
+      let upper = from_offer upper_of form head.scale ks ends.upper k.upper d k.upper_from in (
         record { lower = end_of k.lower; upper = end_of k.upper },
         ap (λ l. both_ends l (board_after os).upper) k.lower_is ∙ ap (λ u. both_ends (Some k.lower) u) k.upper_is,
         record {

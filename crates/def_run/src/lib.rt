@@ -76,8 +76,18 @@ pub fn trace_of_pennies()
 
 /// Matching pennies, two rounds with plans of root 1: each end keeps the plan of its own round and the reply to it.
 pub fn ends_of_pennies()
-    ensures lower { (board_after (offers pennies 1 1 2)).lower ≡ Some (record { round = 1; divisor = 1; plan = 1 ∷ 0 ∷ 1 ∷ [];
-        reply = record { total = negsuc 0; sets = record { value = negsuc 0; choice = 1 } ∷ [] } }) }
-    ensures upper { (board_after (offers pennies 1 1 2)).upper ≡ Some (record { round = 2; divisor = 2; plan = 2 ∷ 1 ∷ 1 ∷ [];
-        reply = record { total = pos 0; sets = record { value = pos 0; choice = 1 } ∷ [] } }) }
+    ensures lower { (board_after (offers pennies 1 1 2)).lower
+        ≡ Some (record {
+          round = 1;
+          divisor = 1;
+          plan = 1 ∷ 0 ∷ 1 ∷ [];
+          reply = record { total = negsuc 0; sets = record { value = negsuc 0; choice = 1 } ∷ [] };
+        }) }
+    ensures upper { (board_after (offers pennies 1 1 2)).upper
+        ≡ Some (record {
+          round = 2;
+          divisor = 2;
+          plan = 2 ∷ 1 ∷ 1 ∷ [];
+          reply = record { total = pos 0; sets = record { value = pos 0; choice = 1 } ∷ [] };
+        }) }
 {}
