@@ -85,7 +85,7 @@ fn with_name(names: PlayerNames, text: Text) -> PlayerNames
 /// The prologue.
 impl<'a> Reader<'a> {
     /// The prologue.
-    #[tactic(auto, unfolding(def_file::specs::Reading::prologue_at))]
+    #[tactic(auto, unfolding(def_file::specs::Reading::prologue_at, def_file::specs::Reading::head_at, def_file::specs::Reading::behind_head))]
     pub fn prologue(&mut self, alloc: Global) -> Result<Prologue, Refused>
         requires { length self.old.whole ≤ 67108864 }
         ensures exact { GivesFor prologue_of result self.new.at (prologue_at self.old.whole self.old.at) }
