@@ -1,67 +1,12 @@
 -- Marks of numbers, and one number more.
-use Rattle.std.proofs.Common.{◌≡◌, ◌≢◌, ℕ, ◌+◌, ◌≤◌, Bool, true, false, not, cond, ltb, eqb, nat_eq, nat_cmp, List, [], ◌∷◌, ◌++◌, length, get_or, position, Option, Some, None, unwrap_or, refl, sym, ap, ◌∙◌, subst, eq-eqb, ne_eqb, arith, add-zero, length-append}
+use Rattle.std.proofs.Common.{◌≡◌, ℕ, ◌+◌, ◌<◌, ◌≤◌, Bool, true, false, not, cond, ltb, eqb, nat_eq, List, [], ◌∷◌, ◌++◌, length, position, Some, None, refl, sym, ap, ◌∙◌, subst, eq-eqb, ne_eqb, arith, add-zero, length-append}
 use Rattle.std.specs.List.{position_or_len}
-use Rattle.std.specs.Ordering.{is_eq}
-use Rattle.std.specs.declared.cmp.Ordering.TheVariants.{Less, Equal, Greater}
-use Rattle.std.specs.BTreeMap.{BTreeMap, get, Updates, IsUnchanged}
-use Rattle.std.specs.Map.{lookup}
+use Rattle.std.specs.BTreeMap.{BTreeMap}
 use Rattle.std.proofs.lemmas.Bool.{eqb-true, eqb-false, ltb-false, lt-ltb, le-ltb}
 use Rattle.std.proofs.lemmas.List.Folds.{position_or_len_push}
-use Rattle.xg_game.specs.Marks.{marked, mark_of, MarksEach, SetsMark}
+use Rattle.xg_game.specs.Marks.{marked, mark_of, MarksEach}
 
--- no numbers have no marks
-pub no_marks : (far : BTreeMap ℕ ℕ) → far.entries ≡ [] → MarksEach [] [] far
-no_marks far none = record { each = λ n. ap (λ es. unwrap_or (lookup (λ k. is_eq (nat_cmp n k)) es) 0) none }
-
--- a mark of the array counts
-pub near_counts : (numbers near : List ℕ) (far : BTreeMap ℕ ℕ) → MarksEach numbers near far → (n m : ℕ) → m ≡ get_or near n 0 → m ≢ 0 → m ≡ marked (position (nat_eq n) numbers)
-near_counts numbers near far marks n m is some =
-    is ∙ sym (ap (λ b. cond b (unwrap_or (get nat_cmp far n) 0) (get_or near n 0)) (ne_eqb (get_or near n 0) 0 (λ none. some (is ∙ none)))) ∙ marks.each n
-
--- and without one that of the tree
-pub far_counts : (numbers near : List ℕ) (far : BTreeMap ℕ ℕ) → MarksEach numbers near far → (n : ℕ) (found : Option ℕ) → get_or near n 0 ≡ 0 → found ≡ get nat_cmp far n → unwrap_or found 0 ≡ marked (position (nat_eq n) numbers)
-far_counts numbers near far marks n found none is =
-    ap (λ o. unwrap_or o 0) is
-    ∙ sym (ap (λ b. cond b (unwrap_or (get nat_cmp far n) 0) (get_or near n 0)) (eq-eqb (get_or near n 0) 0 none)) ∙ marks.each n
-
--- a mark that is set in the array
-pub near_set : (near new : List ℕ) (far : BTreeMap ℕ ℕ) (number mark : ℕ) → 1 ≤ mark → SetsMark near new number mark → (n : ℕ) → mark_of new far n ≡ cond (nat_eq n number) mark (mark_of near far n)
-near_set near new far number mark some sets n = by (nat_eq n number) refl
-  where
-    by : (b : Bool) → nat_eq n number ≡ b → mark_of new far n ≡ cond b mark (mark_of near far n)
-    by true e =
-        let same : n ≡ number = eqb-true n number e in
-        let here : get_or new n 0 ≡ mark = ap (λ k. get_or new k 0) same ∙ sets.here in
-        ap (λ m. cond (nat_eq m 0) (unwrap_or (get nat_cmp far n) 0) m) here
-        ∙ ap (λ b. cond b (unwrap_or (get nat_cmp far n) 0) mark) (ne_eqb mark 0 (λ none. omega arith))
-    by false e = ap (λ m. cond (nat_eq m 0) (unwrap_or (get nat_cmp far n) 0) m) (sets.others n (eqb-false n number e))
-
-at_other : (a b : Bool) → b ≡ false → is_eq (cond a Less (cond b Equal Greater)) ≡ false
-at_other true b e = refl
-at_other false b e = ap (λ c. is_eq (cond c Equal Greater)) e
-
--- a mark that is set in the tree, where the array has none
-pub far_set : (near : List ℕ) (far new : BTreeMap ℕ ℕ) (number mark : ℕ) → mark_of near far number ≡ 0 → Updates nat_cmp far new number (Some mark) → (n : ℕ) → mark_of near new n ≡ cond (nat_eq n number) mark (mark_of near far n)
-far_set near far new number mark none updates n = by (nat_eq n number) refl
-  where
-    no_near : (b : Bool) → nat_eq (get_or near number 0) 0 ≡ b → cond b (unwrap_or (get nat_cmp far number) 0) (get_or near number 0) ≡ 0 → get_or near number 0 ≡ 0
-    no_near true e is = eqb-true (get_or near number 0) 0 e
-    no_near false e is = is
-
-    by : (b : Bool) → nat_eq n number ≡ b → mark_of near new n ≡ cond b mark (mark_of near far n)
-    by true e =
-        let same : n ≡ number = eqb-true n number e in
-        ap (mark_of near new) same
-        ∙ ap (λ b. cond b (unwrap_or (get nat_cmp new number) 0) (get_or near number 0)) (eq-eqb (get_or near number 0) 0 (no_near (nat_eq (get_or near number 0) 0) refl none))
-        ∙ ap (λ o. unwrap_or o 0) updates.1
-    by false e =
-        let other : nat_eq number n ≡ false = ne_eqb number n (λ is. eqb-false n number e (sym is)) in
-        ap (λ o. cond (nat_eq (get_or near n 0) 0) (unwrap_or o 0) (get_or near n 0)) (updates.2 n (at_other (ltb number n) (nat_eq number n) other))
-
-pub same_far : (near : List ℕ) (far new : BTreeMap ℕ ℕ) → IsUnchanged far new → (n : ℕ) → mark_of near new n ≡ mark_of near far n
-same_far near far new same n =
-    ap (λ es. cond (nat_eq (get_or near n 0) 0) (unwrap_or (lookup (λ k. is_eq (nat_cmp n k)) es) 0) (get_or near n 0)) same
-
+-- a first place is within the list, or its end
 first-le : {X : Type 0} (p : X → Bool) (xs : List X) → position_or_len p xs ≤ length xs
 first-le p [] = omega arith
 first-le {X} p (x ∷ xs) = by (first-le p xs) (not (p x))
@@ -122,3 +67,9 @@ MarksEach-push numbers near new far after number marks none set = record { each 
         set n ∙ ap (λ b. cond b (length numbers + 1) (mark_of near far n)) e ∙ ap marked (sym (position-last (nat_eq n) numbers number e absent))
     by n false e =
         set n ∙ ap (λ b. cond b (length numbers + 1) (mark_of near far n)) e ∙ marks.each n ∙ ap marked (sym (position-before (nat_eq n) numbers number e))
+
+-- and none above it
+pub above-push : (numbers : List ℕ) (greatest next number : ℕ) → ((n : ℕ) → greatest < n → marked (position (nat_eq n) numbers) ≡ 0) → greatest ≤ next → number ≤ next
+    → (n : ℕ) → next < n → marked (position (nat_eq n) (numbers ++ number ∷ [])) ≡ 0
+above-push numbers greatest next number above rises within n beyond =
+    ap marked (position-before (nat_eq n) numbers number (ne_eqb n number (λ same. omega arith))) ∙ above n (omega arith)

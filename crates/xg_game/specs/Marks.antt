@@ -1,5 +1,5 @@
 -- Marks of numbers: 0, or one more than the place where the number stands.
-use Rattle.std.specs.Prelude.{◌≡◌, ◌≢◌, ℕ, ◌+◌, nat_eq, if◌then◌else◌, List, position, slice_index, unwrap_or, Option, Some, None}
+use Rattle.std.specs.Prelude.{◌≡◌, ◌≢◌, ℕ, ◌+◌, ◌<◌, nat_eq, if◌then◌else◌, List, position, slice_index, unwrap_or, Option, Some, None}
 use Rattle.std.specs.Ordering.{nat_cmp}
 use Rattle.std.specs.BTreeMap.{BTreeMap, get}
 
@@ -14,6 +14,11 @@ mark_of near far n = if nat_eq (slice_index near n) 0 then unwrap_or (get nat_cm
 -- each number has the mark of the place where it stands
 pub record MarksEach (numbers near : List ℕ) (far : BTreeMap ℕ ℕ) : Type 0 where
   pub each : (n : ℕ) → mark_of near far n ≡ marked (position (nat_eq n) numbers)
+
+-- and no number is greater than this one
+pub record MarksUpTo (numbers near : List ℕ) (far : BTreeMap ℕ ℕ) (greatest : ℕ) : Type 0 where
+  pub marks : MarksEach numbers near far
+  pub above : (n : ℕ) → greatest < n → marked (position (nat_eq n) numbers) ≡ 0
 
 -- one mark more
 pub record SetsMark (old new : List ℕ) (at mark : ℕ) : Type 0 where

@@ -20,17 +20,19 @@ pub(crate) struct Numbers {
     numbers: Vec<u64>,
     near: Vec<u32>,
     far: BTreeMap<u64, u32>,
+    // None is greater, so that numbers that rise are new at once.
+    greatest: u64,
 }
 
 impl Model for Numbers {
     ghost use Rattle.std.specs.Prelude.{ℕ, List};
-    ghost use Rattle.xg_game.specs.Marks.{MarksEach};
+    ghost use Rattle.xg_game.specs.Marks.{MarksUpTo};
 
     ghost Value = { List ℕ };
 
     ghost view = { λ n. n.numbers.items };
 
-    ghost invariant = { λ n. MarksEach n.numbers.items n.near.items n.far };
+    ghost invariant = { λ n. MarksUpTo n.numbers.items n.near.items n.far n.greatest };
 }
 
 impl Numbers {
@@ -42,6 +44,7 @@ impl Numbers {
             numbers: Vec::new(alloc),
             near: Vec::new(alloc),
             far: BTreeMap::new(alloc),
+            greatest: 0,
         }
     }
 
@@ -97,6 +100,8 @@ impl Numbers {
         let mark = self.numbers.len() as u32 + 1;
         set_mark(&mut self.near, &mut self.far, number, mark)?;
         self.numbers.push_reserved(number);
+        let greatest = self.greatest.max(number);
+        self.greatest = greatest;
         Ok(())
     }
 }

@@ -88,7 +88,7 @@ impl OutcomeTable {
     pub(crate) fn is_undefined(&self, entry: &Record) -> bool
         ensures { result ≡ faults.is_outcome_undefined self.now (record_of entry.now).outcome }
     {
-        entry.outcome != 0 && self.find(entry.outcome).is_none() && entry.payoffs.is_none()
+        entry.outcome != 0 && entry.payoffs.is_none() && self.find(entry.outcome).is_none()
     }
 
     /// Whether the entry has another name or other payoffs than are kept of its outcome.
@@ -113,8 +113,8 @@ impl OutcomeTable {
         ensures { result ≡ faults.is_outcome_miscounted self.now (record_of entry.now).outcome }
     {
         entry.outcome != 0
-            && self.find(entry.outcome).is_none()
             && has_wrong_payoffs(&entry.payoffs)
+            && self.find(entry.outcome).is_none()
     }
 
     /// The number of the entry's outcome among those of the table, which count from 1.

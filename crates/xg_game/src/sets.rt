@@ -83,7 +83,7 @@ impl SetTable {
     pub(crate) fn is_undefined(&self, entry: &Record) -> bool
         ensures { result ≡ faults.is_set_undefined self.now (record_of entry.now).set }
     {
-        self.find(entry.set).is_none() && entry.actions.is_none()
+        entry.actions.is_none() && self.find(entry.set).is_none()
     }
 
     /// Whether the entry has another name or other actions than are kept of its set.
@@ -104,7 +104,7 @@ impl SetTable {
     pub(crate) fn is_miscounted(&self, entry: &Record) -> bool
         ensures { result ≡ faults.is_set_miscounted self.now (record_of entry.now).set }
     {
-        self.find(entry.set).is_none() && has_wrong_count(&entry.actions)
+        has_wrong_count(&entry.actions) && self.find(entry.set).is_none()
     }
 
     /// The number of the entry's set among those of the table, which count from 1.
