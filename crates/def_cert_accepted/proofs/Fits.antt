@@ -31,7 +31,8 @@ use Rattle.def_bracket.proofs.TraceLines.{trace_lines}
 use Rattle.def_run.specs.Run.{outcome, total_against, evaluation, evaluations}
 use Rattle.def_run.proofs.RunLaws.{evaluations_are_bounds, ends_are_of_their_rounds, rounds_of, runs_have_ends}
 use Rattle.def_cert_verdict.specs.Verdict.{WeighedGame}
-use Rattle.def_cert_ranges.specs.Ranges.{IsFromTo, most_actions, most_unit, IsPrintable, HeadFits, LineFits, WeightsFit, PlanFits, ReplyFits, BoundFits, BoundsFit, CertificateFits}
+use Rattle.def_tree.specs.Rules.{most_actions}
+use Rattle.def_cert_ranges.specs.Ranges.{IsFromTo, most_unit, IsPrintable, HeadFits, LineFits, PlanWeightsFit, PlanFits, ReplyFits, BoundFits, BoundsFit, CertificateFits}
 use Rattle.def_cert_accepted.specs.Laws.{TheCertificateOfARunFits}
 use Rattle.def_cert_accepted.specs.OfOutcome.{by_sets, printed_plan, certificate_of}
 use Rattle.def_cert_accepted.proofs.OfRun.{own_head, same_head, bounds_of_run, certificate_with, certificate_without}
@@ -66,14 +67,14 @@ abbrev IsWeight : ℕ → Type 0
 IsWeight n = n ≤ most_root
 
 sets_fit : (first : ℕ) (hs : List InformationSet) (xs : List ℕ) → nat_sum_over (λ (h : InformationSet). h.actions) hs ≤ length xs → All IsInOrder (placed_from first hs)
-    → All (λ (h : InformationSet). h.actions ≤ most_actions) hs → All IsWeight xs → All WeightsFit (by_sets hs xs)
-sets_fit first [] xs low order small each = All-nil WeightsFit
+    → All (λ (h : InformationSet). h.actions ≤ most_actions) hs → All IsWeight xs → All PlanWeightsFit (by_sets hs xs)
+sets_fit first [] xs low order small each = All-nil PlanWeightsFit
 sets_fit first (h ∷ hs) xs low order small each =
     let here : PlacedSet = record { first = first; before = h.before; actions = h.actions } in
     let rest = placed_from (first + h.actions) hs in
     let some = (All-head IsInOrder here rest order).0 in
     let few = All-head (λ (g : InformationSet). g.actions ≤ most_actions) h hs small in
-    All-cons WeightsFit (take h.actions xs) (by_sets hs (drop h.actions xs))
+    All-cons PlanWeightsFit (take h.actions xs) (by_sets hs (drop h.actions xs))
     (record { count = (omega (arith, length-take h.actions xs, some), omega (arith, length-take h.actions xs, few)); each = All-take IsWeight h.actions xs each })
     (sets_fit (first + h.actions) hs (drop h.actions xs) (omega (arith, length-drop h.actions xs)) (All-tail IsInOrder here rest order)
     (All-tail (λ (g : InformationSet). g.actions ≤ most_actions) h hs small) (All-drop IsWeight h.actions xs each))

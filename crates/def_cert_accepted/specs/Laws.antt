@@ -7,7 +7,8 @@ use Rattle.def_bracket.specs.Outcome.{Head}
 use Rattle.def_run.specs.Run.{evaluations, outcome}
 use Rattle.def_cert_verdict.specs.Verdict.{WeighedGame, head_only, bracket, verdict}
 use Rattle.def_cert_verdict.specs.Laws.{IsHeadOf}
-use Rattle.def_cert_ranges.specs.Ranges.{most_actions, HeadFits, CertificateFits}
+use Rattle.def_tree.specs.Rules.{most_actions}
+use Rattle.def_cert_ranges.specs.Ranges.{HeadFits, CertificateFits}
 use Rattle.def_cert_accepted.specs.OfOutcome.{certificate_of}
 
 -- with the game's head it is accepted: without a round its head alone, else with the bracket whose ends are those of the run's evaluations

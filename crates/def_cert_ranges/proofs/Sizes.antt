@@ -16,7 +16,7 @@ use Rattle.def_bracket.specs.Outcome.{Head}
 use Rattle.def_cert_verdict.specs.Certificate.{PrintedBounds, joined, printed_numbers}
 use Rattle.def_cert_verdict.specs.Verdict.{WeighedGame, Verdict, head_only, bracket, verdict}
 use Rattle.def_cert_verdict.proofs.Decided.{exact}
-use Rattle.def_cert_ranges.specs.Ranges.{WeightsFit, ReplyFits, FitsBelowHead}
+use Rattle.def_cert_ranges.specs.Ranges.{PlanWeightsFit, ReplyFits, FitsBelowHead}
 use Rattle.def_cert_ranges.specs.Laws.{TraceProductsAreSmall, PlanSumsAreSmall, WorthsAreSmall, HeadAloneWithoutRounds}
 
 product_size : (a : ℤ) (n : ℕ) → unsigned_abs (a *ℤ pos n) ≡ unsigned_abs a * n
@@ -36,12 +36,12 @@ trace_products head lines j k line fits trace low_j low_k =
       high = omega (arith, product_size a.high b.high_round, times (unsigned_abs a.high) b.high_round (2 ^ 100) (2 ^ 16) fa.high (omega (arith, fb.high_round.1, fb.round, fits.rounds)));
     }
 
-set_sum : (ws : List ℕ) → WeightsFit ws → nat_sum_over (λ n. n) ws ≤ 2 ^ 46
+set_sum : (ws : List ℕ) → PlanWeightsFit ws → nat_sum_over (λ n. n) ws ≤ 2 ^ 46
 set_sum ws f = omega (arith, nat_sum_over-bounded (λ n. n) (2 ^ 36) ws f.each, times (length ws) (2 ^ 36) 1024 (2 ^ 36) f.count.1 (omega arith))
 
-all_sets : (wss : List (List ℕ)) → All WeightsFit wss → All (λ ws. nat_sum_over (λ n. n) ws ≤ 2 ^ 46) wss
+all_sets : (wss : List (List ℕ)) → All PlanWeightsFit wss → All (λ ws. nat_sum_over (λ n. n) ws ≤ 2 ^ 46) wss
 all_sets [] f = All-nil (λ ws. nat_sum_over (λ n. n) ws ≤ 2 ^ 46)
-all_sets (ws ∷ wss) f = All-cons (λ ws. nat_sum_over (λ n. n) ws ≤ 2 ^ 46) ws wss (set_sum ws (All-head WeightsFit ws wss f)) (all_sets wss (All-tail WeightsFit ws wss f))
+all_sets (ws ∷ wss) f = All-cons (λ ws. nat_sum_over (λ n. n) ws ≤ 2 ^ 46) ws wss (set_sum ws (All-head PlanWeightsFit ws wss f)) (all_sets wss (All-tail PlanWeightsFit ws wss f))
 
 pub plan_sums : PlanSumsAreSmall
 plan_sums unit sets plan small fits = record {
@@ -50,9 +50,9 @@ plan_sums unit sets plan small fits = record {
 }
 
 -- ---- worths
-joined_small : (wss : List (List ℕ)) → All WeightsFit wss → All (λ n. n ≤ 2 ^ 36) (joined wss)
+joined_small : (wss : List (List ℕ)) → All PlanWeightsFit wss → All (λ n. n ≤ 2 ^ 36) (joined wss)
 joined_small [] f = All-nil (λ n. n ≤ 2 ^ 36)
-joined_small (ws ∷ wss) f = All-append (λ n. n ≤ 2 ^ 36) ws (joined wss) (All-head WeightsFit ws wss f).each (joined_small wss (All-tail WeightsFit ws wss f))
+joined_small (ws ∷ wss) f = All-append (λ n. n ≤ 2 ^ 36) ws (joined wss) (All-head PlanWeightsFit ws wss f).each (joined_small wss (All-tail PlanWeightsFit ws wss f))
 
 read_small : (most : ℕ) (xs : List ℕ) → All (λ n. n ≤ most) xs → (s : ℕ) → slice_index xs s ≤ most
 read_small most [] all zero = omega arith

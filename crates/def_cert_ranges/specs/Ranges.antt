@@ -1,6 +1,7 @@
 -- The ranges of a certificate's numbers, which its text may not leave. Whoever wrote a certificate, one that is read is within them.
 use Rattle.std.specs.Prelude.{◌≡◌, ℕ, ◌+◌, ◌-◌, ◌*◌, ◌/◌, ◌^◌, ◌≤◌, ◌<◌, min, List, length, slice_index_or, All, ℤ, unsigned_abs, Option, Some, None}
 use Rattle.def_fraction.specs.Fraction.{Fraction, IsInLowestTerms}
+use Rattle.def_tree.specs.Rules.{most_actions}
 use Rattle.def_sums.specs.Limits.{most_mass, most_rounds, most_scale, most_root}
 use Rattle.def_reply.specs.Reply.{Reply}
 use Rattle.def_bracket.specs.Bracket.{TraceLine}
@@ -16,10 +17,6 @@ most_entries = 2 ^ 20
 
 abbrev pub most_unit : ℕ
 most_unit = 2 ^ 62
-
--- the actions of a set
-abbrev pub most_actions : ℕ
-most_actions = 1024
 
 -- ends, totals and values, and the parts of the bracket
 abbrev pub most_printed : ℕ
@@ -56,14 +53,14 @@ pub record TraceFits (head : Head) (lines : List TraceLine) : Type 0 where
   pub each : (k : ℕ) (line : TraceLine) → k < length lines → LineFits head k (slice_index_or lines k line)
 
 -- the numbers of a set: at least one
-pub record WeightsFit (weights : List ℕ) : Type 0 where
+pub record PlanWeightsFit (weights : List ℕ) : Type 0 where
   pub count : IsFromTo 1 most_actions (length weights)
   pub each : All (λ n. n ≤ most_root) weights
 
 pub record PlanFits (sets : ℕ) (plan : PrintedPlan) : Type 0 where
   pub root : IsFromTo 1 most_root plan.root
   pub count : length plan.weights ≡ sets
-  pub each : All WeightsFit plan.weights
+  pub each : All PlanWeightsFit plan.weights
 
 pub record ReplyFits (sets : ℕ) (reply : Reply) : Type 0 where
   pub total : IsPrintable reply.total

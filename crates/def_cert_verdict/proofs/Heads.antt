@@ -10,14 +10,14 @@ use Rattle.def_cert_verdict.specs.declared.fault.TestFault.{TestFault}
 use Rattle.def_cert_verdict.specs.declared.fault.TestFault.TheVariants.{HeadDiffers, NotAPlan, ValueTooGood, ReplyNotTight, TotalDiffers, TraceWidens}
 use Rattle.def_cert_verdict.specs.Verdict.{WeighedGame, first_failing, unless, head_tests}
 use Rattle.def_cert_verdict.specs.Laws.{IsHeadOf}
-use Rattle.def_cert_verdict.specs.FaultCauses.{IsFirstNot, SaysLine, HeadFault}
+use Rattle.def_cert_verdict.specs.FaultCauses.{IsFirstNot, NamesLine, HeadFault}
 use Rattle.def_cert_verdict.proofs.Describes.{Describes, Describes-search, Describes-like, Searches, Searches-end, Searches-step, first_unless}
 
 -- two equations on one line
 both : (a b c d : ℕ) → Decides (eqb a b && eqb c d) ((a ≡ b) × (c ≡ d))
 both a b c d = Decides-and (eqb a b) (eqb c d) (Decides-eqb a b) (Decides-eqb c d)
 
-other_line : (game : WeighedGame) (head : Head) (line : ℕ) → ((1 < line) → (line < 7) → ⊥) → SaysLine game head line
+other_line : (game : WeighedGame) (head : Head) (line : ℕ) → ((1 < line) → (line < 7) → ⊥) → NamesLine game head line
 other_line game head line far = record {
   nodes = λ e. absurd (far (omega arith) (omega arith));
   sets = λ e. absurd (far (omega arith) (omega arith));
@@ -26,27 +26,27 @@ other_line game head line far = record {
   mass_is = λ e. absurd (far (omega arith) (omega arith));
 }
 
-nodes_line : (game : WeighedGame) (head : Head) → Decides (eqb head.nodes game.nodes && eqb head.leaves (length game.form.leaves)) (SaysLine game head 2)
+nodes_line : (game : WeighedGame) (head : Head) → Decides (eqb head.nodes game.nodes && eqb head.leaves (length game.form.leaves)) (NamesLine game head 2)
 nodes_line game head =
     let d = both head.nodes game.nodes head.leaves (length game.form.leaves) in
     (λ e. record { nodes = λ l. d.0 e; sets = λ l. absurd (omega arith); sequences = λ l. absurd (omega arith); unit = λ l. absurd (omega arith); mass_is = λ l. absurd (omega arith) }, λ s. d.1 (s.nodes refl))
 
-sets_line : (game : WeighedGame) (head : Head) → Decides (eqb head.sets_one (length game.form.sets_one) && eqb head.sets_two (length game.form.sets_two)) (SaysLine game head 3)
+sets_line : (game : WeighedGame) (head : Head) → Decides (eqb head.sets_one (length game.form.sets_one) && eqb head.sets_two (length game.form.sets_two)) (NamesLine game head 3)
 sets_line game head =
     let d = both head.sets_one (length game.form.sets_one) head.sets_two (length game.form.sets_two) in
     (λ e. record { nodes = λ l. absurd (omega arith); sets = λ l. d.0 e; sequences = λ l. absurd (omega arith); unit = λ l. absurd (omega arith); mass_is = λ l. absurd (omega arith) }, λ s. d.1 (s.sets refl))
 
-sequences_line : (game : WeighedGame) (head : Head) → Decides (eqb head.sequences_one (sequence_count game.form.sets_one) && eqb head.sequences_two (sequence_count game.form.sets_two)) (SaysLine game head 4)
+sequences_line : (game : WeighedGame) (head : Head) → Decides (eqb head.sequences_one (sequence_count game.form.sets_one) && eqb head.sequences_two (sequence_count game.form.sets_two)) (NamesLine game head 4)
 sequences_line game head =
     let d = both head.sequences_one (sequence_count game.form.sets_one) head.sequences_two (sequence_count game.form.sets_two) in
     (λ e. record { nodes = λ l. absurd (omega arith); sets = λ l. absurd (omega arith); sequences = λ l. d.0 e; unit = λ l. absurd (omega arith); mass_is = λ l. absurd (omega arith) }, λ s. d.1 (s.sequences refl))
 
-unit_line : (game : WeighedGame) (head : Head) → Decides (eqb head.unit game.unit) (SaysLine game head 5)
+unit_line : (game : WeighedGame) (head : Head) → Decides (eqb head.unit game.unit) (NamesLine game head 5)
 unit_line game head =
     let d = Decides-eqb head.unit game.unit in
     (λ e. record { nodes = λ l. absurd (omega arith); sets = λ l. absurd (omega arith); sequences = λ l. absurd (omega arith); unit = λ l. d.0 e; mass_is = λ l. absurd (omega arith) }, λ s. d.1 (s.unit refl))
 
-mass_line : (game : WeighedGame) (head : Head) → Decides (eqb head.mass (mass_of game.form.leaves)) (SaysLine game head 6)
+mass_line : (game : WeighedGame) (head : Head) → Decides (eqb head.mass (mass_of game.form.leaves)) (NamesLine game head 6)
 mass_line game head =
     let d = Decides-eqb head.mass (mass_of game.form.leaves) in
     (λ e. record { nodes = λ l. absurd (omega arith); sets = λ l. absurd (omega arith); sequences = λ l. absurd (omega arith); unit = λ l. absurd (omega arith); mass_is = λ l. d.0 e }, λ s. d.1 (s.mass_is refl))
@@ -57,18 +57,18 @@ line_step : (n : ℕ) (b : Bool) (ts : List (Option TestFault)) (Says : ℕ → 
 line_step n b ts Says d s =
     subst (λ r. Searches TestFault HeadDiffers r n Says) (sym (first_unless b (HeadDiffers n) ts)) (Searches-step TestFault HeadDiffers b (first_failing ts) n Says d s)
 
-searched : (game : WeighedGame) (head : Head) → Searches TestFault HeadDiffers (first_failing (head_tests game head)) 2 (λ i. SaysLine game head (2 + i))
+searched : (game : WeighedGame) (head : Head) → Searches TestFault HeadDiffers (first_failing (head_tests game head)) 2 (λ i. NamesLine game head (2 + i))
 searched game head =
-    line_step 2 _ _ (λ i. SaysLine game head (2 + i)) (nodes_line game head)
-    (line_step 3 _ _ (λ i. SaysLine game head (2 + suc i)) (sets_line game head)
-    (line_step 4 _ _ (λ i. SaysLine game head (2 + suc (suc i))) (sequences_line game head)
-    (line_step 5 _ _ (λ i. SaysLine game head (2 + suc (suc (suc i)))) (unit_line game head)
-    (line_step 6 _ _ (λ i. SaysLine game head (2 + suc (suc (suc (suc i))))) (mass_line game head)
-    (Searches-end TestFault HeadDiffers 7 (λ i. SaysLine game head (2 + suc (suc (suc (suc (suc i))))))
+    line_step 2 _ _ (λ i. NamesLine game head (2 + i)) (nodes_line game head)
+    (line_step 3 _ _ (λ i. NamesLine game head (2 + suc i)) (sets_line game head)
+    (line_step 4 _ _ (λ i. NamesLine game head (2 + suc (suc i))) (sequences_line game head)
+    (line_step 5 _ _ (λ i. NamesLine game head (2 + suc (suc (suc i)))) (unit_line game head)
+    (line_step 6 _ _ (λ i. NamesLine game head (2 + suc (suc (suc (suc i))))) (mass_line game head)
+    (Searches-end TestFault HeadDiffers 7 (λ i. NamesLine game head (2 + suc (suc (suc (suc (suc i))))))
     (λ i. other_line game head (2 + suc (suc (suc (suc (suc i))))) (λ low high. omega arith)))))))
 
 -- ---- all lines
-all_lines : (game : WeighedGame) (head : Head) → IsHeadOf game head → (line : ℕ) → SaysLine game head line
+all_lines : (game : WeighedGame) (head : Head) → IsHeadOf game head → (line : ℕ) → NamesLine game head line
 all_lines game head h line = record {
   nodes = λ l. (h.nodes, h.leaves);
   sets = λ l. (h.sets_one, h.sets_two);
@@ -77,7 +77,7 @@ all_lines game head h line = record {
   mass_is = λ l. h.mass_is;
 }
 
-head_of : (game : WeighedGame) (head : Head) → ((i : ℕ) → SaysLine game head (2 + i)) → IsHeadOf game head
+head_of : (game : WeighedGame) (head : Head) → ((i : ℕ) → NamesLine game head (2 + i)) → IsHeadOf game head
 head_of game head says = record {
   nodes = ((says 0).nodes refl).0;
   leaves = ((says 0).nodes refl).1;
@@ -89,22 +89,22 @@ head_of game head says = record {
   mass_is = (says 4).mass_is refl;
 }
 
-from_two : (game : WeighedGame) (head : Head) (i : ℕ) → IsFirstNot (λ k. SaysLine game head (2 + k)) i → IsFirstNot (SaysLine game head) (2 + i)
+from_two : (game : WeighedGame) (head : Head) (i : ℕ) → IsFirstNot (λ k. NamesLine game head (2 + k)) i → IsFirstNot (NamesLine game head) (2 + i)
 from_two game head i f = record {
   fails = f.fails;
   earlier = λ j low. ⊎_elim (λ less. other_line game head j (λ a b. omega arith))
-      (λ more. subst (SaysLine game head) (back j more) (f.earlier (j - 2) (omega arith))) (cases_lt j 2);
+      (λ more. subst (NamesLine game head) (back j more) (f.earlier (j - 2) (omega arith))) (cases_lt j 2);
 }
   where
     back : (j : ℕ) → 2 ≤ j → 2 + (j - 2) ≡ j
     back j more = omega arith
 
-caused : (game : WeighedGame) (head : Head) (f : TestFault) → HeadFault game head f → (i : ℕ) × (f ≡ HeadDiffers (2 + i)) × IsFirstNot (λ k. SaysLine game head (2 + k)) i
+caused : (game : WeighedGame) (head : Head) (f : TestFault) → HeadFault game head f → (i : ℕ) × (f ≡ HeadDiffers (2 + i)) × IsFirstNot (λ k. NamesLine game head (2 + k)) i
 caused game head (HeadDiffers line) c =
     ⊎_elim (λ less. absurd (c.fails (other_line game head line (λ a b. omega arith))))
     (λ more.
     let back : line ≡ 2 + (line - 2) = omega arith in
-    (line - 2, ap HeadDiffers back, record { fails = λ s. c.fails (subst (SaysLine game head) (sym back) s); earlier = λ j low. c.earlier (2 + j) (omega arith) }))
+    (line - 2, ap HeadDiffers back, record { fails = λ s. c.fails (subst (NamesLine game head) (sym back) s); earlier = λ j low. c.earlier (2 + j) (omega arith) }))
     (cases_lt line 2)
 caused game head (NotAPlan p set) c = absurd c
 caused game head (ValueTooGood p set action) c = absurd c
@@ -115,6 +115,6 @@ caused game head (TraceWidens line) c = absurd c
 pub head_described : (game : WeighedGame) (head : Head) → Describes (head_tests game head) (IsHeadOf game head) (HeadFault game head)
 head_described game head =
     Describes-like (head_tests game head) _ (IsHeadOf game head) _ (HeadFault game head)
-    (Describes-search HeadDiffers (head_tests game head) 2 (λ i. SaysLine game head (2 + i)) (searched game head))
+    (Describes-search HeadDiffers (head_tests game head) 2 (λ i. NamesLine game head (2 + i)) (searched game head))
     (head_of game head, λ h i. all_lines game head h (2 + i))
     (λ f. (λ c. subst (HeadFault game head) (sym c.1) (from_two game head c.0 c.2), caused game head f))

@@ -22,7 +22,7 @@ pub record IsFirstNot (Holds : ℕ → Type 0) (k : ℕ) : Type 0 where
   pub earlier : (j : ℕ) → j < k → Holds j
 
 -- ---- the head: a line of the text, from 1, says what the game is
-pub record SaysLine (game : WeighedGame) (head : Head) (line : ℕ) : Type 0 where
+pub record NamesLine (game : WeighedGame) (head : Head) (line : ℕ) : Type 0 where
   pub nodes : line ≡ 2 → (head.nodes ≡ game.nodes) × (head.leaves ≡ length game.form.leaves)
   pub sets : line ≡ 3 → (head.sets_one ≡ length game.form.sets_one) × (head.sets_two ≡ length game.form.sets_two)
   pub sequences : line ≡ 4 → (head.sequences_one ≡ sequence_count game.form.sets_one) × (head.sequences_two ≡ sequence_count game.form.sets_two)
@@ -30,7 +30,7 @@ pub record SaysLine (game : WeighedGame) (head : Head) (line : ℕ) : Type 0 whe
   pub mass_is : line ≡ 6 → head.mass ≡ mass_of game.form.leaves
 
 abbrev pub HeadFault : WeighedGame → Head → TestFault → Type 0
-HeadFault game head (HeadDiffers line) = IsFirstNot (SaysLine game head) line
+HeadFault game head (HeadDiffers line) = IsFirstNot (NamesLine game head) line
 HeadFault game head fault = ⊥
 
 -- ---- a plan: the root is from 1 and the one that is wanted

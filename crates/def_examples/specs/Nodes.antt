@@ -1,14 +1,10 @@
 -- How example games are written: nodes of a tree, payoffs, and the parts of a sequence form.
 use Rattle.std.specs.Prelude.{ℕ, ℤ, pos, neg_ℤ}
-use Rattle.def_tree.specs.declared.Kind.{Kind}
 use Rattle.def_tree.specs.declared.Kind.TheVariants.{Leaf}
 use Rattle.def_tree.specs.declared.Node.{Node}
 use Rattle.def_fraction.specs.Fraction.{Fraction, whole_number}
 use Rattle.def_game_scale.specs.Tables.{Payoffs}
 use Rattle.def_plan.specs.Form.{InformationSet, Leaf as WeightedLeaf}
-
-abbrev pub inner_node : Kind → ℕ → ℕ → Node
-inner_node kind set children = record { kind = kind; set = set; outcome = 0; children = children }
 
 abbrev pub leaf_node : ℕ → Node
 leaf_node outcome = record { kind = Leaf; set = 0; outcome = outcome; children = 0 }

@@ -8,7 +8,8 @@ use Rattle.def_game_scale.specs.Scale.{game_mass, game_unit}
 use Rattle.def_plan.specs.Pennies.{pennies}
 use Rattle.def_round.specs.Games.{one_mover, three_actions}
 use Rattle.def_sequence_form.specs.Form.{form_of_game}
-use Rattle.def_examples.specs.Nodes.{inner_node, leaf_node, paid}
+use Rattle.def_tree.specs.Rules.{inner_node}
+use Rattle.def_examples.specs.Nodes.{leaf_node, paid}
 
 abbrev pub pennies_tree : Forest
 pennies_tree = forest_of (inner_node One 1 2 ∷ inner_node Two 1 2 ∷ leaf_node 1 ∷ leaf_node 2 ∷ inner_node Two 1 2 ∷ leaf_node 2 ∷ leaf_node 1 ∷ [])

@@ -17,7 +17,7 @@ use Rattle.def_file.specs.Content.{Action, Record, Contents, no_contents}
 use Rattle.def_tree.specs.Rules.{most_nodes}
 use Rattle.def_file.specs.Faults.{first_met, record_faults, record_fault}
 use Rattle.def_file.specs.Adding.{with_record}
-use Rattle.def_file.specs.Reading.{◌>>=◌, is_kind, is_token, is_exact, begins_entry, unfit, token_if, token_where, next_is, mark, open_byte, close_byte, comma_byte, text_at, name_at, bytes_at, number_or_fault, number_at, literal_at, whole_at, read_as_set, set_number_at, chance_at, action_at, close_at, actions_from, actions_at, comma_at, payoff_at, payoffs_from, payoffs_at, set_mention_at, outcome_mention_at, chance_entry_at, personal_entry_at, terminal_entry_at, entry_at, names_from, checked_names, Head, head_at, behind_head, prologue_at, unless_fault, judged, entries_from, trailing, nothing_at, game_at}
+use Rattle.def_file.specs.Reading.{◌>>=◌, is_kind, is_token, is_exact, begins_entry, unfit, token_if, token_where, next_is, mark, open_byte, close_byte, comma_byte, text_at, name_at, bytes_at, number_or_fault, number_at, literal_at, whole_at, read_as_set, set_number_at, chance_at, action_at, close_at, actions_from, actions_at, comma_at, payoff_at, payoffs_from, payoffs_at, set_mention_at, outcome_mention_at, chance_entry_at, personal_entry_at, terminal_entry_at, entry_at, names_from, checked_names, PrologueHead, head_at, behind_head, prologue_at, unless_fault, judged, entries_from, trailing, nothing_at, game_at}
 
 -- it isn't answered
 abbrev pub AnyLength : {A : Type 0} → Result A FileFault → Type 0
@@ -193,7 +193,7 @@ head_any whole at =
     then_any _ whole title.1 _ (λ opening.
     bind_any (names_from (length whole) [] whole opening.end) _ (names_any (length whole) [] whole opening.end) (λ names. ok_any _))))))
 
-behind_any : (whole : List ℕ) (head : Head × ℕ) → AnyLength (behind_head whole head)
+behind_any : (whole : List ℕ) (head : PrologueHead × ℕ) → AnyLength (behind_head whole head)
 unfolding behind_head
 behind_any whole head =
     bind_any (checked_names head.0.1 head.1) _ (cond_any (nat_eq (length head.0.1) 2) (Ok head.1) (Err (Players (length head.0.1))) (ok_any _) (λ e. cc)) (λ behind.

@@ -260,10 +260,10 @@ abbrev pub nth_name : List (List ℕ) → ℕ → List ℕ
 nth_name names i = slice_index_or names i []
 
 -- what the head says: the title, and the players' names
-abbrev pub Head : Type 0
-Head = List ℕ × List (List ℕ)
+abbrev pub PrologueHead : Type 0
+PrologueHead = List ℕ × List (List ℕ)
 
-unfoldable pub head_at : List ℕ → ℕ → Result (Head × ℕ) FileFault
+unfoldable pub head_at : List ℕ → ℕ → Result (PrologueHead × ℕ) FileFault
 head_at whole at = do
   marker ← token_where (is_exact kinds.Word (codes "EFG") whole) whole at
   version ← token_where (is_exact kinds.Number (codes "2") whole) whole marker.end
@@ -274,7 +274,7 @@ head_at whole at = do
   Ok ((title.0, names.0), names.1)
 
 -- two players, and the comment
-unfoldable pub behind_head : List ℕ → Head × ℕ → Result (Prologue × ℕ) FileFault
+unfoldable pub behind_head : List ℕ → PrologueHead × ℕ → Result (Prologue × ℕ) FileFault
 behind_head whole head = do
   behind ← checked_names head.0.1 head.1
   comment ← name_at whole behind

@@ -11,7 +11,7 @@ use Rattle.def_file.specs.declared.FileFault.TheVariants.{Syntax, UnexpectedEnd}
 use Rattle.def_file.specs.Reading.{◌>>=◌, is_kind, token_if, unfit, token_where}
 use Rattle.def_file_form.specs.Form.{Spelled, number}
 use Rattle.def_file_form.proofs.Steps.{is_kind-true, token_ok}
-use Rattle.def_file_fault.specs.Offends.{spelled_at, Numbers, number_fault, IsFront}
+use Rattle.def_file_fault.specs.Offends.{spelled_at, Numbers, literal_fault, IsFront}
 use Rattle.def_file_fault.proofs.Languages.{Alike, AlikeBut, After, Step, NotNext, Walk, Halt, Stuck, stuck_walk}
 use Rattle.def_file_fault.proofs.Nexts.{step_grows}
 
@@ -121,7 +121,7 @@ FirstTaken test (s ∷ ss) = test s ≡ true
 -- the end doesn't pass; where a number doesn't, there is one that doesn't and that each place of numbers takes
 pub record IsTest (test : Spelled → Bool) : Type 0 where
   pub not_end : (s : Spelled) → s.kind ≡ kinds.End → test s ≡ false
-  pub numbers : (s : Spelled) → s.kind ≡ kinds.Number → test s ≡ false → (bytes : List ℕ) × (test (number bytes) ≡ false) × ((numbers : Numbers) → number_fault numbers bytes ≡ None)
+  pub numbers : (s : Spelled) → s.kind ≡ kinds.Number → test s ≡ false → (bytes : List ℕ) × (test (number bytes) ≡ false) × ((numbers : Numbers) → literal_fault numbers bytes ≡ None)
 
 -- only tokens that pass come first
 pub record Begins (F : (List Spelled → Type 0) → Type 0) (In : (List Spelled → Type 0) → List Spelled → Type 0) (test : Spelled → Bool) : Type 1 where

@@ -13,7 +13,7 @@ use Rattle.def_file.specs.declared.FileFault.{FileFault}
 use Rattle.def_file.specs.declared.FileFault.TheVariants.{Syntax, UnexpectedEnd, Number}
 use Rattle.def_file.specs.Reading.{bytes_at, read_as_set}
 use Rattle.def_file_form.specs.Form.{Spelled, number}
-use Rattle.def_file_fault.specs.Offends.{spelled_at, AreNext, Numbers, wholes, wholes_from_one, literals, number_fault, IsFront, TakesNumbers, IsUnfit, IsNumberFault, Stops, Offends, EndsWhole}
+use Rattle.def_file_fault.specs.Offends.{spelled_at, AreNext, Numbers, wholes, wholes_from_one, literals, literal_fault, IsFront, TakesNumbers, IsUnfit, IsNumberFault, Stops, Offends, EndsWhole}
 use Rattle.def_file_fault.proofs.Languages.{Halt, Stuck, halt_stops}
 use Rattle.def_file_fault.proofs.Slots.{each_takes_one}
 
@@ -62,7 +62,7 @@ front_on L whole place ss ts on front =
 -- Which numbers a place takes is one class.
 
 abbrev Agree : Numbers → Numbers → Type 0
-Agree n m = (bytes : List ℕ) → number_fault n bytes ≡ None → number_fault m bytes ≡ None
+Agree n m = (bytes : List ℕ) → literal_fault n bytes ≡ None → literal_fault m bytes ≡ None
 
 class_once : (n m : Numbers) → Agree n m → Agree m n → n ≡ m
 unfolding read_as_whole read_as_set read_as_literal literal_of value_of body_of body_after decimal_of power_of fraction_of gcd
@@ -168,7 +168,7 @@ module _ (L : List Spelled → Type 0) (whole : List ℕ) (ss : List Spelled) (p
       let token : n.token ≡ m.token = token_once whole place n.token m.token n.next m.next in
       let start : at ≡ from = sym n.start ∙ ap (λ (l : Lexeme). l.start) token ∙ m.start in
       let class : n.numbers ≡ m.numbers = numbers_once L ss n.numbers m.numbers n.needed m.needed in
-      let found : Some why ≡ Some because = sym n.has_fault ∙ (λ i. number_fault (class i) (bytes_at whole (token i))) ∙ m.has_fault in
+      let found : Some why ≡ Some because = sym n.has_fault ∙ (λ i. literal_fault (class i) (bytes_at whole (token i))) ∙ m.has_fault in
       let reason : why ≡ because = cc in
       is ∙ (λ i. Number (start i) (reason i)) ∙ sym is2
 

@@ -2,7 +2,7 @@
 use Rattle.std.proofs.Common.{◌≡◌, ℕ, ◌≤◌, List, [], length, Option, Result, Ok, Err, refl, ap, ◌∙◌, subst, arith}
 use Rattle.def_file.specs.declared.FileFault.{FileFault}
 use Rattle.def_file.specs.Content.{Record}
-use Rattle.def_file.specs.Reading.{name_at, entry_at, Head, head_at}
+use Rattle.def_file.specs.Reading.{name_at, entry_at, PrologueHead, head_at}
 use Rattle.def_file_form.specs.Form.{Spelled, IsName, IsEntry}
 use Rattle.def_file_form.proofs.SoundEntries.{IsHeadOf}
 use Rattle.def_file_fault.specs.Offends.{AreNext, Offends, EndsWhole}
@@ -52,7 +52,7 @@ comment_decided whole at within comment end is = decided IsCommentTokens IsName 
 pub comment_offended : (whole : List ℕ) (at : ℕ) → at ≤ length whole → (fault : FileFault) → Offends IsCommentTokens whole at fault → name_at whole at ≡ Err fault
 comment_offended whole at within fault o = offended IsCommentTokens IsName (λ v ss w. (v, w)) name_once whole at within (name_at whole at) (comment_stuck whole at within) (comment_whole whole at within) fault o
 
-head_of_once : (ss : List Spelled) → AreTokens ss → (v w : Head) → IsHeadOf v ss [] → IsHeadOf w ss [] → v ≡ w
+head_of_once : (ss : List Spelled) → AreTokens ss → (v w : PrologueHead) → IsHeadOf v ss [] → IsHeadOf w ss [] → v ≡ w
 head_of_once ss are v w a b = let same = head_once v.0 w.0 v.1 w.1 ss [] [] a b in (λ i. (same.0 i, same.1 i))
 
 pub head_decided : (whole title : List ℕ) (names : List (List ℕ)) (end : ℕ) → IsHeadUpTo whole title names end → head_at whole 0 ≡ Ok ((title, names), end)

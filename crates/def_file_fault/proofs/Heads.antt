@@ -7,7 +7,7 @@ use Rattle.def_file_tokens.specs.declared.Token.TheVariants as kinds
 use Rattle.def_file_tokens.specs.declared.Lexeme.{Lexeme}
 use Rattle.def_file.specs.declared.FileFault.{FileFault}
 use Rattle.def_file.specs.Content.{Prologue}
-use Rattle.def_file.specs.Reading.{◌>>=◌, is_kind, is_token, is_exact, is_numbers, token_where, next_is, close_byte, text_at, name_at, close_at, names_from, Head, head_at, behind_head, prologue_at}
+use Rattle.def_file.specs.Reading.{◌>>=◌, is_kind, is_token, is_exact, is_numbers, token_where, next_is, close_byte, text_at, name_at, close_at, names_from, PrologueHead, head_at, behind_head, prologue_at}
 use Rattle.def_file_form.specs.Form.{Spelled, word, number, open_brace, close_brace, IsText, AreNames, IsHead}
 use Rattle.def_file_form.proofs.SoundEntries.{IsHeadOf}
 use Rattle.def_file_form.proofs.Steps.{either, exact_here, open_step, ok_token}

@@ -17,14 +17,14 @@ use Rattle.def_file.specs.Reading.{◌>>=◌, is_kind, is_token, token_where, by
 use Rattle.def_file_form.specs.Form.{Spelled, number, IsWholeNumber, IsFraction}
 use Rattle.def_file_form.proofs.Sound.{set_ok}
 use Rattle.def_file_form.proofs.Steps.{is_kind-true, token_ok}
-use Rattle.def_file_fault.specs.Offends.{spelled_at, Numbers, wholes, wholes_from_one, literals, fault_of, number_fault, TakesNumbers}
+use Rattle.def_file_fault.specs.Offends.{spelled_at, Numbers, wholes, wholes_from_one, literals, fault_of, literal_fault, TakesNumbers}
 use Rattle.def_file_fault.proofs.Languages.{After, Step, Halt}
 use Rattle.def_file_fault.proofs.Nexts.{step_grows}
 use Rattle.def_file_fault.proofs.Along.{HasWord, Goes, goes_past, goes_stuck, Begins, token_fault}
 use Rattle.def_file_fault.proofs.Slots.{Part, OneToken, one_alike, one_begins, number_test, each_takes_one}
 
 abbrev pub NumberFits : Numbers → Spelled → Type 0
-NumberFits numbers s = (bytes : List ℕ) × (number_fault numbers bytes ≡ None) × (s ≡ number bytes)
+NumberFits numbers s = (bytes : List ℕ) × (literal_fault numbers bytes ≡ None) × (s ≡ number bytes)
 
 -- a number's reading gives a value
 fault_none : {A : Type 0} (r : Result A NumberFault) → fault_of r ≡ None → (v : A) × (r ≡ Ok v)
@@ -96,11 +96,11 @@ module _ {A : Type 0} (R : A → List Spelled → List Spelled → Type 0) (numb
         let l = front.1 in
         let found = one.to l.0 (number bytes ∷ front.0) l.1 l.2 in
         let same : number bytes ≡ number found.2.0 = let e = found.1 in let f = found.2.2 in cc in
-        ap (number_fault numbers) (ap (λ (s : Spelled). s.bytes) same) ∙ found.2.1),
+        ap (literal_fault numbers) (ap (λ (s : Spelled). s.bytes) same) ∙ found.2.1),
     (λ none. (word.0, (one_alike R (NumberFits numbers) one (number bytes) (bytes, none, refl) T).back word.0 word.1)),
   )
 
-  module _ (read : List ℕ → Result A NumberFault) (faults : (bytes : List ℕ) → number_fault numbers bytes ≡ fault_of (read bytes)) (whole : List ℕ) (at : ℕ) (within : at ≤ length whole) where
+  module _ (read : List ℕ → Result A NumberFault) (faults : (bytes : List ℕ) → literal_fault numbers bytes ≡ fault_of (read bytes)) (whole : List ℕ) (at : ℕ) (within : at ≤ length whole) where
     numbered_goes : (t : Lexeme) → next_from whole at ≡ Ok t → kinds.Number ≡ t.kind → (r : Result A NumberFault) → read (bytes_at whole t) ≡ r → Goes 1 HasWord (Part R) whole at (number_or_fault t r)
     numbered_goes t next is (Ok v) ok =
         let step : Step whole at t = record { next = next; not_end = λ ends. let clash : kinds.Number ≡ kinds.End = is ∙ ends in cc } in

@@ -14,7 +14,7 @@ use Rattle.def_file.specs.declared.FileFault.TheVariants.{UnexpectedEnd}
 use Rattle.def_file.specs.Reading.{◌>>=◌, is_kind, is_token, token_where, next_is, mark, token_text, text_at, name_at, read_as_set}
 use Rattle.def_file_form.specs.Form.{Spelled, text, IsText, IsName}
 use Rattle.def_file_form.proofs.Steps.{is_kind-true, ok_token, text_here}
-use Rattle.def_file_fault.specs.Offends.{spelled_at, Numbers, wholes, wholes_from_one, literals, number_fault}
+use Rattle.def_file_fault.specs.Offends.{spelled_at, Numbers, wholes, wholes_from_one, literals, literal_fault}
 use Rattle.def_file_fault.proofs.Languages.{Alike, AlikeBut, FirstIsOther, After, Step, Halt}
 use Rattle.def_file_fault.proofs.Nexts.{step_grows, TextNext, closed, unclosed, text_next, not_next}
 use Rattle.def_file_fault.proofs.Along.{HasWord, Goes, goes_past, goes_stuck, FirstTaken, IsTest, Begins, goes_token}
@@ -26,7 +26,7 @@ Part {A} R T ss = (v : A) × (rest : List Spelled) × R v ss rest × T rest
 -- Tests.
 
 -- a number that each place of numbers takes
-pub each_takes_one : (numbers : Numbers) → number_fault numbers (codes "1") ≡ None
+pub each_takes_one : (numbers : Numbers) → literal_fault numbers (codes "1") ≡ None
 unfolding read_as_whole read_as_set read_as_literal literal_of value_of body_of body_after decimal_of power_of fraction_of gcd
 each_takes_one wholes = refl
 each_takes_one wholes_from_one = refl

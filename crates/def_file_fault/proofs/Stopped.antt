@@ -17,7 +17,7 @@ use Rattle.def_file.specs.Content.{Prologue, Record, Contents, no_contents}
 use Rattle.def_tree.specs.Rules.{most_nodes}
 use Rattle.def_file.specs.Faults.{record_fault}
 use Rattle.def_file.specs.Adding.{with_record, node_with}
-use Rattle.def_file.specs.Reading.{◌>>=◌, is_kind, name_at, checked_names, nth_name, prologue_at, entry_at, unless_fault, judged, entries_from, trailing, nothing_at, game_at, Head, head_at, behind_head}
+use Rattle.def_file.specs.Reading.{◌>>=◌, is_kind, name_at, checked_names, nth_name, prologue_at, entry_at, unless_fault, judged, entries_from, trailing, nothing_at, game_at, PrologueHead, head_at, behind_head}
 use Rattle.def_file_entries.specs.Entries.{contents_of}
 use Rattle.def_file_entries.proofs.OneMore.{one_more}
 use Rattle.def_file_form.specs.Form.{IsEntry}
@@ -62,7 +62,7 @@ pub record PrologueRead (whole : List ℕ) (p : Prologue) (end : ℕ) : Type 0 w
   pub is : IsPrologueUpTo whole p end
   pub within : end ≤ length whole
 
-module _ (whole : List ℕ) (head : Head × ℕ) (w : WholeRead IsHeadTokens IsHeadOf whole 0 head.0 head.1) where
+module _ (whole : List ℕ) (head : PrologueHead × ℕ) (w : WholeRead IsHeadTokens IsHeadOf whole 0 head.0 head.1) where
   abbrev comment_made : Option (List ℕ) × ℕ → Prologue
   comment_made comment = record { title = head.0.0; one = nth_name head.0.1 0; two = nth_name head.0.1 1; comment = unwrap_or comment.0 [] }
 

@@ -5,7 +5,7 @@ use Rattle.def_file_tokens.specs.declared.Token.TheVariants as kinds
 use Rattle.def_file_tokens.specs.declared.Lexeme.{Lexeme}
 use Rattle.def_file.specs.declared.FileFault.{FileFault}
 use Rattle.def_file.specs.Content.{Record}
-use Rattle.def_file.specs.Reading.{name_at, Head, head_at, entry_at}
+use Rattle.def_file.specs.Reading.{name_at, PrologueHead, head_at, entry_at}
 use Rattle.def_file_form.specs.Form.{Spelled, word, number, open_brace, IsText, IsName, AreNames, IsHead, IsEntry}
 use Rattle.def_file_form.proofs.Steps.{then_ok, either, token_ok, Step, Takes, Read, Then, IsOne, read_as, read_one, read_then, exact_here, exact_step, open_step}
 use Rattle.def_file_form.proofs.Sound.{text_read, name_read}
@@ -135,7 +135,7 @@ head_alike = record { to = λ ss h. ((h.0, h.1), [], h.2, refl); back = λ ss l.
 pub head_stuck : (whole : List ℕ) (fault : FileFault) → head_at whole 0 ≡ Err fault → Stuck IsHeadTokens whole 0 fault
 head_stuck whole fault e = whole_stuck IsHeadTokens IsHeadOf head_alike 1 HasWord ([], refl) whole 0 (omega arith) (head_at whole 0) (head_goes whole 0 (omega arith)) fault e
 
-pub head_whole : (whole : List ℕ) (x : Head × ℕ) → head_at whole 0 ≡ Ok x → WholeRead IsHeadTokens IsHeadOf whole 0 x.0 x.1
+pub head_whole : (whole : List ℕ) (x : PrologueHead × ℕ) → head_at whole 0 ≡ Ok x → WholeRead IsHeadTokens IsHeadOf whole 0 x.0 x.1
 head_whole whole x e = whole_read IsHeadTokens IsHeadOf head_alike 1 HasWord ([], refl) whole 0 (omega arith) (head_at whole 0) (head_goes whole 0 (omega arith)) x e (head_read whole 0 (omega arith) x e)
 
 pub head_up_to : (whole title : List ℕ) (names : List (List ℕ)) (end : ℕ) → WholeRead IsHeadTokens IsHeadOf whole 0 (title, names) end → IsHeadUpTo whole title names end

@@ -36,17 +36,17 @@ abbrev pub fault_of : {A : Type 0} → Result A NumberFault → Option NumberFau
 fault_of (Ok n) = None
 fault_of (Err fault) = Some fault
 
-abbrev pub number_fault : Numbers → List ℕ → Option NumberFault
-number_fault wholes bytes = fault_of (read_as_whole bytes)
-number_fault wholes_from_one bytes = fault_of (read_as_set bytes)
-number_fault literals bytes = fault_of (read_as_literal bytes)
+abbrev pub literal_fault : Numbers → List ℕ → Option NumberFault
+literal_fault wholes bytes = fault_of (read_as_whole bytes)
+literal_fault wholes_from_one bytes = fault_of (read_as_set bytes)
+literal_fault literals bytes = fault_of (read_as_literal bytes)
 
 abbrev pub IsFront : (List Spelled → Type 0) → List Spelled → Type 0
 IsFront Whole tokens = (more : List Spelled) × Whole (tokens ++ more)
 
 -- the next token may be a number, and exactly these numbers
 abbrev pub TakesNumbers : (List Spelled → Type 0) → List Spelled → Numbers → Type 0
-TakesNumbers Whole tokens numbers = (bytes : List ℕ) → IsFront Whole (tokens ++ number bytes ∷ []) ↔ (number_fault numbers bytes ≡ None)
+TakesNumbers Whole tokens numbers = (bytes : List ℕ) → IsFront Whole (tokens ++ number bytes ∷ []) ↔ (literal_fault numbers bytes ≡ None)
 
 -- the next token may be a text
 abbrev pub TakesText : (List Spelled → Type 0) → List Spelled → Type 0
@@ -69,7 +69,7 @@ pub record IsNumberFault (Whole : List Spelled → Type 0) (bytes : List ℕ) (t
   pub start : token.start ≡ at
   pub numbers : Numbers
   pub needed : TakesNumbers Whole tokens numbers
-  pub has_fault : number_fault numbers (bytes_at bytes token) ≡ Some fault
+  pub has_fault : literal_fault numbers (bytes_at bytes token) ≡ Some fault
 
 -- The tokens aren't whole, and behind them stands a byte that begins no token, a token that can't be taken, or the
 -- end; or a number with a fault stands where a number is needed; or a text isn't closed, where the tokens aren't whole

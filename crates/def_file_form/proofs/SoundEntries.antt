@@ -9,7 +9,7 @@ use Rattle.def_file.specs.declared.EntryKind.{EntryKind}
 use Rattle.def_file.specs.declared.EntryKind.TheVariants.{Chance, Personal, Leaf}
 use Rattle.def_file.specs.declared.FileFault.TheVariants.{Players}
 use Rattle.def_file.specs.Content.{Prologue, Record, no_set_mention}
-use Rattle.def_file.specs.Reading.{◌>>=◌, is_token, is_exact, is_numbers, begins_entry, token_where, next_is, close_byte, text_at, name_at, whole_at, close_at, set_mention_at, outcome_mention_at, chance_entry_at, personal_entry_at, terminal_entry_at, entry_at, names_from, checked_names, nth_name, Head, head_at, behind_head, prologue_at}
+use Rattle.def_file.specs.Reading.{◌>>=◌, is_token, is_exact, is_numbers, begins_entry, token_where, next_is, close_byte, text_at, name_at, whole_at, close_at, set_mention_at, outcome_mention_at, chance_entry_at, personal_entry_at, terminal_entry_at, entry_at, names_from, checked_names, nth_name, PrologueHead, head_at, behind_head, prologue_at}
 use Rattle.def_file_form.specs.Form.{Spelled, word, number, open_brace, IsText, IsName, IsWholeNumber, IsSet, IsOutcome, IsEntryAs, IsEntry, AreNames, IsHead, IsPrologue}
 use Rattle.def_file_form.proofs.Steps.{then_ok, either, token_ok, Step, Read, Then, IsOne, read_as, read_one, read_then, exact_here, exact_step, open_step}
 use Rattle.def_file_form.proofs.Sound.{text_read, name_read, whole_read, close_read, ItemsRead, set_mention_read, outcome_mention_read}
@@ -152,11 +152,11 @@ numbers_step whole at within l e =
     chosen (inr is) next = (word (codes "D"), inr refl, exact_here whole at within l kinds.Word (codes "D") (λ clash. cc) next is.1)
 
 -- what the head of the prologue says
-abbrev pub IsHeadOf : Head → List Spelled → List Spelled → Type 0
+abbrev pub IsHeadOf : PrologueHead → List Spelled → List Spelled → Type 0
 IsHeadOf head tokens rest = IsHead head.0 head.1 tokens rest
 
 -- a head that is read is in the form
-pub head_read : (whole : List ℕ) (at : ℕ) → at ≤ length whole → (x : Head × ℕ) → head_at whole at ≡ Ok x → Read whole at x.1 (IsHeadOf x.0)
+pub head_read : (whole : List ℕ) (at : ℕ) → at ≤ length whole → (x : PrologueHead × ℕ) → head_at whole at ≡ Ok x → Read whole at x.1 (IsHeadOf x.0)
 unfolding head_at
 head_read whole at within x e =
     then_ok (token_where (is_exact kinds.Word (codes "EFG") whole) whole at) _ _ e (λ marker e0 e.
@@ -183,7 +183,7 @@ head_read whole at within x e =
     let r3 = read_then whole version.end numbers.end names.1 (IsOne s2.0) Headed (read_one whole version.end numbers s2.0 s2.2) r4 in
     let r2 = read_then whole marker.end version.end names.1 (IsOne (number (codes "2"))) Numbered (read_one whole marker.end version (number (codes "2")) s1) r3 in
     let r1 = read_then whole at marker.end names.1 (IsOne (word (codes "EFG"))) Version (read_one whole at marker (word (codes "EFG")) s0) r2 in
-    subst (λ (y : Head × ℕ). Read whole at y.1 (IsHeadOf y.0)) same
+    subst (λ (y : PrologueHead × ℕ). Read whole at y.1 (IsHeadOf y.0)) same
     (read_as whole at names.1 (Then (IsOne (word (codes "EFG"))) Version) (IsHeadOf (title.0, names.0)) (λ tokens rest one.
     let v = one.2 in
     let n = v.2 in

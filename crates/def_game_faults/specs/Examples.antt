@@ -5,7 +5,7 @@ use Rattle.def_tree.specs.declared.Node.{Node}
 use Rattle.def_tree.specs.Tree.{Forest, forest_of}
 use Rattle.def_fraction.specs.Fraction.{Fraction, whole_number}
 use Rattle.def_game_scale.specs.Tables.{Payoffs, Tables}
-use Rattle.def_game_scale.specs.Rows.{over}
+use Rattle.def_game_scale.specs.Rows.{fraction_over}
 
 pub record Example : Type 0 where
   pub tables : Tables
@@ -37,56 +37,56 @@ ends outcome = record { kind = Leaf; set = 0; outcome = outcome; children = 0 }
 -- a negative chance of the second set before a sum of the first
 abbrev pub negative_before_sum : Example
 negative_before_sum = example
-    ((over (pos 1) 2 ∷ over (pos 1) 3 ∷ []) ∷ (over (negsuc 0) 2 ∷ over (pos 3) 2 ∷ []) ∷ [])
+    ((fraction_over (pos 1) 2 ∷ fraction_over (pos 1) 3 ∷ []) ∷ (fraction_over (negsuc 0) 2 ∷ fraction_over (pos 3) 2 ∷ []) ∷ [])
     []
     (by_chance 1 2 0 ∷ by_chance 2 2 0 ∷ ends 0 ∷ ends 0 ∷ ends 0 ∷ [])
 
 -- a running sum past the limit before the sum of the same set
 abbrev pub running_sum_in_one_set : Example
 running_sum_in_one_set = example
-    ((over (pos 1) 4611686018427387904 ∷ over (pos 1) 4611686018427387903 ∷ over (pos 1) 2 ∷ []) ∷ [])
+    ((fraction_over (pos 1) 4611686018427387904 ∷ fraction_over (pos 1) 4611686018427387903 ∷ fraction_over (pos 1) 2 ∷ []) ∷ [])
     []
     (by_chance 1 3 0 ∷ ends 0 ∷ ends 0 ∷ ends 0 ∷ [])
 
 -- a running sum past the limit in the second set after a wrong sum in the first
 abbrev pub sum_before_later_running_sum : Example
 sum_before_later_running_sum = example
-    ((over (pos 1) 2 ∷ over (pos 1) 3 ∷ []) ∷ (over (pos 1) 4611686018427387904 ∷ over (pos 1) 4611686018427387903 ∷ []) ∷ [])
+    ((fraction_over (pos 1) 2 ∷ fraction_over (pos 1) 3 ∷ []) ∷ (fraction_over (pos 1) 4611686018427387904 ∷ fraction_over (pos 1) 4611686018427387903 ∷ []) ∷ [])
     []
     (by_chance 1 2 0 ∷ by_chance 2 2 0 ∷ ends 0 ∷ ends 0 ∷ ends 0 ∷ [])
 
 -- a wrong sum in the second set after a running sum past the limit in the first
 abbrev pub running_sum_before_later_sum : Example
 running_sum_before_later_sum = example
-    ((over (pos 1) 4611686018427387904 ∷ over (pos 1) 4611686018427387903 ∷ []) ∷ (over (pos 1) 2 ∷ over (pos 1) 3 ∷ []) ∷ [])
+    ((fraction_over (pos 1) 4611686018427387904 ∷ fraction_over (pos 1) 4611686018427387903 ∷ []) ∷ (fraction_over (pos 1) 2 ∷ fraction_over (pos 1) 3 ∷ []) ∷ [])
     []
     (by_chance 1 2 0 ∷ by_chance 2 2 0 ∷ ends 0 ∷ ends 0 ∷ ends 0 ∷ [])
 
 -- a wrong sum before a leaf that isn't zero-sum
 abbrev pub sum_before_leaf : Example
 sum_before_leaf = example
-    ((over (pos 1) 2 ∷ over (pos 1) 3 ∷ []) ∷ [])
+    ((fraction_over (pos 1) 2 ∷ fraction_over (pos 1) 3 ∷ []) ∷ [])
     (pays (whole (pos 1)) (whole (pos 1)) ∷ [])
     (by_chance 1 2 0 ∷ ends 1 ∷ ends 0 ∷ [])
 
 -- a sum of 1 whose running sums pass 1
 abbrev pub thirds_of_one : Example
 thirds_of_one = example
-    ((over (pos 2) 3 ∷ over (pos 1) 3 ∷ whole (pos 0) ∷ []) ∷ [])
+    ((fraction_over (pos 2) 3 ∷ fraction_over (pos 1) 3 ∷ whole (pos 0) ∷ []) ∷ [])
     []
     (by_chance 1 3 0 ∷ ends 0 ∷ ends 0 ∷ ends 0 ∷ [])
 
 -- a biased coin
 abbrev pub biased_coin : Example
 biased_coin = example
-    ((over (pos 1) 3 ∷ over (pos 2) 3 ∷ []) ∷ [])
+    ((fraction_over (pos 1) 3 ∷ fraction_over (pos 2) 3 ∷ []) ∷ [])
     (pays (whole (pos 1)) (whole (negsuc 0)) ∷ pays (whole (pos 3)) (whole (negsuc 2)) ∷ [])
     (by_chance 1 2 0 ∷ ends 1 ∷ ends 2 ∷ [])
 
 -- a reach past the limit at an inner node
 abbrev pub rare_deals : Example
 rare_deals = example
-    ((over (pos 1) 1099511627776 ∷ over (pos 1099511627775) 1099511627776 ∷ []) ∷ (over (pos 1) 1099511627776 ∷ over (pos 1099511627775) 1099511627776 ∷ []) ∷ [])
+    ((fraction_over (pos 1) 1099511627776 ∷ fraction_over (pos 1099511627775) 1099511627776 ∷ []) ∷ (fraction_over (pos 1) 1099511627776 ∷ fraction_over (pos 1099511627775) 1099511627776 ∷ []) ∷ [])
     (pays (whole (pos 1)) (whole (pos 1)) ∷ [])
     (by_chance 1 2 0 ∷ by_chance 2 2 0 ∷ by_one 1 1 0 ∷ ends 1 ∷ ends 0 ∷ ends 0 ∷ [])
 
@@ -121,22 +121,22 @@ gain_past_limit_at_leaf = example
 -- not zero-sum before reach times payoff past the limit
 abbrev pub fraction_not_zero_sum : Example
 fraction_not_zero_sum = example
-    ((over (pos 1) 3 ∷ over (pos 2) 3 ∷ []) ∷ [])
-    (pays (over (pos 1) 4611686018427387904) (whole (pos 0)) ∷ [])
+    ((fraction_over (pos 1) 3 ∷ fraction_over (pos 2) 3 ∷ []) ∷ [])
+    (pays (fraction_over (pos 1) 4611686018427387904) (whole (pos 0)) ∷ [])
     (by_chance 1 2 0 ∷ ends 1 ∷ ends 0 ∷ [])
 
 -- reach times payoff past the limit
 abbrev pub fraction_past_limit : Example
 fraction_past_limit = example
-    ((over (pos 1) 3 ∷ over (pos 2) 3 ∷ []) ∷ [])
-    (pays (over (pos 1) 4611686018427387904) (over (negsuc 0) 4611686018427387904) ∷ [])
+    ((fraction_over (pos 1) 3 ∷ fraction_over (pos 2) 3 ∷ []) ∷ [])
+    (pays (fraction_over (pos 1) 4611686018427387904) (fraction_over (negsuc 0) 4611686018427387904) ∷ [])
     (by_chance 1 2 0 ∷ ends 1 ∷ ends 0 ∷ [])
 
 -- a running unit past the limit before a later leaf that isn't zero-sum
 abbrev pub unit_past_limit : Example
 unit_past_limit = example
     []
-    (pays (over (pos 1) 4294967296) (over (negsuc 0) 4294967296) ∷ pays (over (pos 1) 4294967295) (over (negsuc 0) 4294967295) ∷ pays (whole (pos 1)) (whole (pos 1)) ∷ [])
+    (pays (fraction_over (pos 1) 4294967296) (fraction_over (negsuc 0) 4294967296) ∷ pays (fraction_over (pos 1) 4294967295) (fraction_over (negsuc 0) 4294967295) ∷ pays (whole (pos 1)) (whole (pos 1)) ∷ [])
     (by_one 1 3 0 ∷ ends 1 ∷ ends 2 ∷ ends 3 ∷ [])
 
 -- a later leaf that isn't zero-sum before a mass past the limit
@@ -164,7 +164,7 @@ mass_by_one = example
 abbrev pub mass_by_last_unit : Example
 mass_by_last_unit = example
     []
-    (pays (whole (pos 2305843009213693953)) (whole (negsuc 2305843009213693952)) ∷ pays (whole (pos 1)) (whole (negsuc 0)) ∷ pays (over (pos 1) 2) (over (negsuc 0) 2) ∷ [])
+    (pays (whole (pos 2305843009213693953)) (whole (negsuc 2305843009213693952)) ∷ pays (whole (pos 1)) (whole (negsuc 0)) ∷ pays (fraction_over (pos 1) 2) (fraction_over (negsuc 0) 2) ∷ [])
     (by_one 1 3 0 ∷ ends 1 ∷ ends 2 ∷ ends 3 ∷ [])
 
 -- a leaf that isn't zero-sum before a lack of recall
@@ -198,7 +198,7 @@ forgetful_one = example
 -- what chance did is no lack of recall
 abbrev pub coin_before_choice : Example
 coin_before_choice = example
-    ((over (pos 1) 2 ∷ over (pos 1) 2 ∷ []) ∷ [])
+    ((fraction_over (pos 1) 2 ∷ fraction_over (pos 1) 2 ∷ []) ∷ [])
     []
     (by_chance 1 2 0 ∷ by_one 1 2 0 ∷ ends 0 ∷ ends 0 ∷ by_one 1 2 0 ∷ ends 0 ∷ ends 0 ∷ [])
 
@@ -212,13 +212,13 @@ other_before_choice = example
 -- a set met again under its own action, by chance in between
 abbrev pub absent_by_chance : Example
 absent_by_chance = example
-    ((over (pos 1) 2 ∷ over (pos 1) 2 ∷ []) ∷ [])
+    ((fraction_over (pos 1) 2 ∷ fraction_over (pos 1) 2 ∷ []) ∷ [])
     []
     (by_one 1 2 0 ∷ by_chance 1 2 0 ∷ by_one 1 2 0 ∷ ends 0 ∷ ends 0 ∷ ends 0 ∷ ends 0 ∷ [])
 
 -- the first node of a set decides, not the nearest
-abbrev pub first_of_set : Example
-first_of_set = example
+abbrev pub first_in_set : Example
+first_in_set = example
     ((whole (pos 1) ∷ []) ∷ [])
     []
     (by_one 1 3 0 ∷ by_one 2 1 0 ∷ ends 0 ∷ by_one 3 1 0 ∷ ends 0 ∷ by_chance 1 1 0 ∷ by_one 3 1 0 ∷ ends 0 ∷ [])
@@ -226,21 +226,21 @@ first_of_set = example
 -- a negative chance of the second action
 abbrev pub negative_at_second : Example
 negative_at_second = example
-    ((over (pos 3) 2 ∷ over (negsuc 0) 2 ∷ []) ∷ [])
+    ((fraction_over (pos 3) 2 ∷ fraction_over (negsuc 0) 2 ∷ []) ∷ [])
     []
     (by_chance 1 2 0 ∷ ends 0 ∷ ends 0 ∷ [])
 
 -- a negative chance below a player's set of the same number
 abbrev pub negative_below_choice : Example
 negative_below_choice = example
-    ((over (negsuc 0) 2 ∷ over (pos 3) 2 ∷ []) ∷ [])
+    ((fraction_over (negsuc 0) 2 ∷ fraction_over (pos 3) 2 ∷ []) ∷ [])
     []
     (by_one 1 2 0 ∷ by_chance 1 2 0 ∷ ends 0 ∷ ends 0 ∷ ends 0 ∷ [])
 
 -- reach times payoff past the limit by its numerator, and so without the unit, before a later leaf that isn't zero-sum
 abbrev pub product_past_limit : Example
 product_past_limit = example
-    ((over (pos 3) 4 ∷ over (pos 1) 4 ∷ []) ∷ [])
+    ((fraction_over (pos 3) 4 ∷ fraction_over (pos 1) 4 ∷ []) ∷ [])
     (pays (whole (pos 4611686018427387903)) (whole (negsuc 4611686018427387902)) ∷ pays (whole (pos 1)) (whole (pos 1)) ∷ [])
     (by_chance 1 2 0 ∷ ends 1 ∷ ends 2 ∷ [])
 
@@ -248,7 +248,7 @@ product_past_limit = example
 abbrev pub unit_at_limit : Example
 unit_at_limit = example
     []
-    (pays (over (pos 1) 4611686018427387904) (over (negsuc 0) 4611686018427387904) ∷ [])
+    (pays (fraction_over (pos 1) 4611686018427387904) (fraction_over (negsuc 0) 4611686018427387904) ∷ [])
     (by_one 1 2 0 ∷ ends 1 ∷ ends 0 ∷ [])
 
 -- payoffs that add up to 0 at the leaf, and not before it
@@ -261,6 +261,6 @@ zero_sum_at_leaf = example
 -- probabilities that add up to more than 1
 abbrev pub sum_above_one : Example
 sum_above_one = example
-    ((over (pos 2) 3 ∷ over (pos 2) 3 ∷ []) ∷ [])
+    ((fraction_over (pos 2) 3 ∷ fraction_over (pos 2) 3 ∷ []) ∷ [])
     []
     (by_chance 1 2 0 ∷ ends 0 ∷ ends 0 ∷ [])

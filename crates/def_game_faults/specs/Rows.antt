@@ -7,7 +7,7 @@ use Rattle.def_tree.specs.Tree.{Forest, forest_of}
 use Rattle.def_fraction.specs.Fraction.{Fraction, whole_number}
 use Rattle.def_game_paths.specs.Rows.{absent_driver}
 use Rattle.def_game_scale.specs.Tables.{Payoffs, Tables}
-use Rattle.def_game_scale.specs.Rows.{inner, inner_tables, over, tosses, toss_tables}
+use Rattle.def_game_scale.specs.Rows.{inner, inner_tables, fraction_over, tosses, toss_tables}
 use Rattle.def_game_scale.specs.Scale.{game_mass, game_unit, weights}
 use Rattle.def_game_faults.specs.Faults.{GameFault, ChanceNegative, ChanceSum, NotZeroSum, NotRecall, Scale, game_fault}
 use Rattle.def_game_faults.specs.Examples as examples
@@ -37,12 +37,12 @@ three p = record { chance = (p ∷ p ∷ p ∷ []) ∷ []; outcomes = [] }
 abbrev rare : Forest
 rare = forest_of (node Chance 1 0 2 ∷ node Chance 1 0 2 ∷ node Leaf 0 0 0 ∷ node Leaf 0 0 0 ∷ node Leaf 0 0 0 ∷ [])
 
-pub record FaultRows : Type 0 where
-  pub sum : game_fault (sum_tables (over (pos 1) 2) (over (pos 1) 2)) sum_game ≡ Some (NotZeroSum 5)
-  pub negative : game_fault (sum_tables (over (negsuc 0) 2) (over (pos 3) 2)) sum_game ≡ Some (ChanceNegative 1)
-  pub decimals : game_fault (three (over (pos 333333) 1000000)) thirds ≡ Some (ChanceSum 1)
-  pub exact : game_fault (three (over (pos 1) 3)) thirds ≡ None
-  pub rare : game_fault (record { chance = (over (pos 1) 4294967296 ∷ over (pos 4294967295) 4294967296 ∷ []) ∷ []; outcomes = [] }) rare ≡ Some (Scale 3)
+pub record GameFaultRows : Type 0 where
+  pub sum : game_fault (sum_tables (fraction_over (pos 1) 2) (fraction_over (pos 1) 2)) sum_game ≡ Some (NotZeroSum 5)
+  pub negative : game_fault (sum_tables (fraction_over (negsuc 0) 2) (fraction_over (pos 3) 2)) sum_game ≡ Some (ChanceNegative 1)
+  pub decimals : game_fault (three (fraction_over (pos 333333) 1000000)) thirds ≡ Some (ChanceSum 1)
+  pub exact : game_fault (three (fraction_over (pos 1) 3)) thirds ≡ None
+  pub rare : game_fault (record { chance = (fraction_over (pos 1) 4294967296 ∷ fraction_over (pos 4294967295) 4294967296 ∷ []) ∷ []; outcomes = [] }) rare ≡ Some (Scale 3)
   pub absent : game_fault (record { chance = []; outcomes = pays (pos 4) (negsuc 3) ∷ pays (pos 1) (negsuc 0) ∷ [] }) absent_driver ≡ Some (NotRecall 3 1)
   pub tosses : game_fault toss_tables tosses ≡ None
   pub inner : game_fault inner_tables inner ≡ None
@@ -81,17 +81,17 @@ pub record OrderRows : Type 0 where
   pub product_past_limit : first_fault_of examples.product_past_limit ≡ Some (Scale 2)
 
 -- no fault, and this unit, these weights and this mass
-pub record HasNumbers (game : Example) (unit : ℕ) (leaf_weights : List ℤ) (mass : ℕ) : Type 0 where
+pub record GivesNumbers (game : Example) (unit : ℕ) (leaf_weights : List ℤ) (mass : ℕ) : Type 0 where
   pub fault : first_fault_of game ≡ None
   pub unit_is : game_unit game.tables game.tree ≡ unit
   pub weights_are : weights game.tables game.tree ≡ leaf_weights
   pub mass_is : game_mass game.tables game.tree ≡ mass
 
 pub record FaultlessRows : Type 0 where
-  pub thirds_of_one : HasNumbers examples.thirds_of_one 1 (pos 0 ∷ pos 0 ∷ pos 0 ∷ []) 0
-  pub biased_coin : HasNumbers examples.biased_coin 3 (pos 1 ∷ pos 6 ∷ []) 7
-  pub mass_at_limit : HasNumbers examples.mass_at_limit 1 (pos 4611686018427387903 ∷ negsuc 0 ∷ []) 4611686018427387904
-  pub coin_before_choice : HasNumbers examples.coin_before_choice 1 (pos 0 ∷ pos 0 ∷ pos 0 ∷ pos 0 ∷ []) 0
-  pub other_before_choice : HasNumbers examples.other_before_choice 1 (pos 0 ∷ pos 0 ∷ pos 0 ∷ pos 0 ∷ []) 0
-  pub unit_at_limit : HasNumbers examples.unit_at_limit 4611686018427387904 (pos 1 ∷ pos 0 ∷ []) 1
-  pub zero_sum_at_leaf : HasNumbers examples.zero_sum_at_leaf 1 (pos 1 ∷ []) 1
+  pub thirds_of_one : GivesNumbers examples.thirds_of_one 1 (pos 0 ∷ pos 0 ∷ pos 0 ∷ []) 0
+  pub biased_coin : GivesNumbers examples.biased_coin 3 (pos 1 ∷ pos 6 ∷ []) 7
+  pub mass_at_limit : GivesNumbers examples.mass_at_limit 1 (pos 4611686018427387903 ∷ negsuc 0 ∷ []) 4611686018427387904
+  pub coin_before_choice : GivesNumbers examples.coin_before_choice 1 (pos 0 ∷ pos 0 ∷ pos 0 ∷ pos 0 ∷ []) 0
+  pub other_before_choice : GivesNumbers examples.other_before_choice 1 (pos 0 ∷ pos 0 ∷ pos 0 ∷ pos 0 ∷ []) 0
+  pub unit_at_limit : GivesNumbers examples.unit_at_limit 4611686018427387904 (pos 1 ∷ pos 0 ∷ []) 1
+  pub zero_sum_at_leaf : GivesNumbers examples.zero_sum_at_leaf 1 (pos 1 ∷ []) 1

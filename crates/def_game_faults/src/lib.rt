@@ -3,7 +3,7 @@
 
 ghost use Rattle.def_game_faults.specs.Laws.{GameFaultIsFirst, NumberFaultIsFirst};
 ghost use Rattle.def_game_faults.specs.Laws.{NoFaultIsSound, NoNumberFaultIsSound};
-ghost use Rattle.def_game_faults.specs.Rows.{FaultlessRows, FaultRows, OrderRows};
+ghost use Rattle.def_game_faults.specs.Rows.{FaultlessRows, GameFaultRows, OrderRows};
 
 /// The fault of the numbers is the first one.
 pub fn number_fault_is_first()
@@ -25,8 +25,8 @@ pub fn no_fault_is_sound()
     ensures { NoFaultIsSound }
 {}
 
-pub fn fault_rows()
-    ensures { FaultRows }
+pub fn game_fault_rows()
+    ensures { GameFaultRows }
 {}
 
 /// The first of two faults.

@@ -45,8 +45,8 @@ pub record IsRefusedWithTheFirst (game : GameFile) : Type 0 where
   pub by_sets : (answer : GameWeights) (broken : RecallBreak) → weigh game ≡ Ok answer → sets_or_break game.tree ≡ Err broken → game_file_fault game ≡ Some (faults.NotRecall broken.node broken.earlier)
   pub accepted : (answer : GameWeights) (sets : TreeSets) → weigh game ≡ Ok answer → sets_or_break game.tree ≡ Ok sets → game_file_fault game ≡ None
 
-abbrev pub RefusedWithTheFirst : Type 0
-RefusedWithTheFirst = (game : GameFile) → IsRefusedWithTheFirst game
+abbrev pub NumbersRefusedWithTheFirst : Type 0
+NumbersRefusedWithTheFirst = (game : GameFile) → IsRefusedWithTheFirst game
 
 -- the unit isn't 0, and the unit, the mass and each weight are within the limit
 pub record FitTheLimit (answer : GameWeights) : Type 0 where

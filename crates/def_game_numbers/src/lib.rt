@@ -1,7 +1,7 @@
 #![tactic(auto)]
 //! The numbers of a game file: what weighing its leaves answers, and the sequence form that stands on it.
 
-ghost use Rattle.def_game_numbers.specs.Laws.{FormStandsOnAnswers, RefusedWithTheFirst};
+ghost use Rattle.def_game_numbers.specs.Laws.{FormStandsOnAnswers, NumbersRefusedWithTheFirst};
 ghost use Rattle.def_game_numbers.specs.Laws.{TablesAreFractions, WeighsExactly, WeightsFit};
 ghost use Rattle.def_game_numbers.specs.Rows.{FileRows, HeadRows};
 
@@ -16,8 +16,8 @@ pub fn weighs_exactly()
 {}
 
 /// Weighing first and building the sets then refuses with the game's first fault.
-pub fn refused_with_the_first()
-    ensures { RefusedWithTheFirst }
+pub fn numbers_refused_with_the_first()
+    ensures { NumbersRefusedWithTheFirst }
 {}
 
 /// What weighing answers is within the limits.

@@ -13,7 +13,7 @@ use Rattle.def_fraction.proofs.DivisorLemmas.{IsLcm-lcm}
 use Rattle.def_game_paths.specs.Paths.{Visit}
 use Rattle.def_game_scale.specs.Tables.{Tables, AreFractions}
 use Rattle.def_game_scale.specs.Scale.{expected, expected_at, unit_of, weight_of}
-use Rattle.def_game_scale.specs.Laws.{GrowsBy, RunningNumbers}
+use Rattle.def_game_scale.specs.Laws.{NumbersGrowBy, RunningNumbers}
 use Rattle.def_game_scale.proofs.Units.{den-divides, unit-divides, unit-positive}
 use Rattle.def_game_scale.proofs.Expected.{expected-lowest}
 
@@ -65,7 +65,7 @@ mass-snoc unit fs f =
     from_zero : (k : ℕ) → 0 + k ≡ k
     from_zero k = omega arith
 
-pub grows : (tables : Tables) → AreFractions tables → (unit : ℕ) (before : List Visit) (v : Visit) → GrowsBy tables unit before v
+pub grows : (tables : Tables) → AreFractions tables → (unit : ℕ) (before : List Visit) (v : Visit) → NumbersGrowBy tables unit before v
 grows tables h unit before v =
     let fs : List Fraction = expected_at tables before in
     let f : Fraction = expected tables v in

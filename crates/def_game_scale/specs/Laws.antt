@@ -43,7 +43,7 @@ abbrev pub WeightsAreWhole : Type 0
 WeightsAreWhole = (tables : Tables) (tree : Forest) → AreFractions tables → AllZip (IsWeightOf tables (game_unit tables tree)) (leaf_visits tree) (weights tables tree)
 
 -- what one more node makes of the unit and the mass of those before it
-pub record GrowsBy (tables : Tables) (unit : ℕ) (before : List Visit) (node : Visit) : Type 0 where
+pub record NumbersGrowBy (tables : Tables) (unit : ℕ) (before : List Visit) (node : Visit) : Type 0 where
   pub leaf_unit : is_leaf_kind node.node.kind ≡ true → unit_so_far tables (before ++ (node ∷ [])) ≡ lcm (expected tables node).den (unit_so_far tables before)
   pub inner_unit : is_leaf_kind node.node.kind ≡ false → unit_so_far tables (before ++ (node ∷ [])) ≡ unit_so_far tables before
   pub leaf_mass : is_leaf_kind node.node.kind ≡ true →
@@ -54,7 +54,7 @@ pub record GrowsBy (tables : Tables) (unit : ℕ) (before : List Visit) (node : 
 pub record RunningNumbers (tables : Tables) : Type 0 where
   pub start_unit : unit_so_far tables [] ≡ 1
   pub start_mass : (unit : ℕ) → mass_so_far tables unit [] ≡ 0
-  pub grow : (unit : ℕ) (before : List Visit) (node : Visit) → GrowsBy tables unit before node
+  pub grow : (unit : ℕ) (before : List Visit) (node : Visit) → NumbersGrowBy tables unit before node
   pub end_unit : (tree : Forest) → unit_so_far tables (visits tree) ≡ game_unit tables tree
   pub end_mass : (tree : Forest) → mass_so_far tables (game_unit tables tree) (visits tree) ≡ game_mass tables tree
 

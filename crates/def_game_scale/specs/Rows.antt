@@ -16,11 +16,11 @@ node kind set outcome children = record { kind = kind; set = set; outcome = outc
 abbrev pub tosses : Forest
 tosses = forest_of (node One 1 0 2 ∷ node Chance 1 0 2 ∷ node Leaf 0 1 0 ∷ node Leaf 0 0 0 ∷ node Chance 1 0 2 ∷ node Leaf 0 0 0 ∷ node Leaf 0 2 0 ∷ [])
 
-abbrev pub over : ℤ → ℕ → Fraction
-over n d = record { num = n; den = d }
+abbrev pub fraction_over : ℤ → ℕ → Fraction
+fraction_over n d = record { num = n; den = d }
 
 abbrev half : ℤ → Fraction
-half n = over n 2
+half n = fraction_over n 2
 
 abbrev pub toss_tables : Tables
 toss_tables = record {
@@ -41,9 +41,9 @@ uneven = forest_of (node Chance 1 1 3 ∷ node Leaf 0 2 0 ∷ node Two 1 3 2 ∷
 
 abbrev pub uneven_tables : Tables
 uneven_tables = record {
-  chance = (over (pos 1) 2 ∷ over (pos 1) 3 ∷ over (pos 1) 6 ∷ []) ∷ (over (pos 1) 4 ∷ over (pos 3) 4 ∷ []) ∷ [];
+  chance = (fraction_over (pos 1) 2 ∷ fraction_over (pos 1) 3 ∷ fraction_over (pos 1) 6 ∷ []) ∷ (fraction_over (pos 1) 4 ∷ fraction_over (pos 3) 4 ∷ []) ∷ [];
   outcomes =
-      record { one = half (pos 1); two = over (pos 1) 3 } ∷ record { one = whole_number (pos 2); two = whole_number (negsuc 0) }
+      record { one = half (pos 1); two = fraction_over (pos 1) 3 } ∷ record { one = whole_number (pos 2); two = whole_number (negsuc 0) }
       ∷ record { one = whole_number (negsuc 0); two = whole_number (pos 5) } ∷ [];
 }
 
@@ -54,9 +54,9 @@ pub record ScaleRows : Type 0 where
   pub inner_unit : game_unit inner_tables inner ≡ 2
   pub inner_weights : weights inner_tables inner ≡ pos 2 ∷ pos 1 ∷ []
   pub inner_mass : game_mass inner_tables inner ≡ 3
-  pub uneven_reaches : map (λ leaf. reach uneven_tables leaf.path) (leaf_visits uneven) ≡ over (pos 1) 2 ∷ over (pos 1) 3 ∷ over (pos 1) 3 ∷ over (pos 1) 24 ∷ over (pos 1) 8 ∷ []
-  pub uneven_ones : map (payoff_one uneven_tables) (leaf_visits uneven) ≡ over (pos 5) 2 ∷ over (negsuc 0) 2 ∷ over (pos 3) 2 ∷ over (negsuc 0) 2 ∷ over (negsuc 0) 2 ∷ []
-  pub uneven_twos : map (payoff_two uneven_tables) (leaf_visits uneven) ≡ over (negsuc 1) 3 ∷ over (pos 16) 3 ∷ over (pos 13) 3 ∷ over (pos 16) 3 ∷ over (pos 16) 3 ∷ []
+  pub uneven_reaches : map (λ leaf. reach uneven_tables leaf.path) (leaf_visits uneven) ≡ fraction_over (pos 1) 2 ∷ fraction_over (pos 1) 3 ∷ fraction_over (pos 1) 3 ∷ fraction_over (pos 1) 24 ∷ fraction_over (pos 1) 8 ∷ []
+  pub uneven_ones : map (payoff_one uneven_tables) (leaf_visits uneven) ≡ fraction_over (pos 5) 2 ∷ fraction_over (negsuc 0) 2 ∷ fraction_over (pos 3) 2 ∷ fraction_over (negsuc 0) 2 ∷ fraction_over (negsuc 0) 2 ∷ []
+  pub uneven_twos : map (payoff_two uneven_tables) (leaf_visits uneven) ≡ fraction_over (negsuc 1) 3 ∷ fraction_over (pos 16) 3 ∷ fraction_over (pos 13) 3 ∷ fraction_over (pos 16) 3 ∷ fraction_over (pos 16) 3 ∷ []
   pub uneven_unit : game_unit uneven_tables uneven ≡ 48
   pub uneven_weights : weights uneven_tables uneven ≡ pos 60 ∷ negsuc 7 ∷ pos 24 ∷ negsuc 0 ∷ negsuc 2 ∷ []
   pub uneven_mass : game_mass uneven_tables uneven ≡ 96

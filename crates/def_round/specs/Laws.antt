@@ -114,7 +114,7 @@ RoundsAreComputed = (sums : ℕ → ℤ) (play : List ℕ) (sets : List Informat
     → IsRound sums play sets before after ↔ (after ≡ regrets_after sums play sets before)
 
 -- a run begins with no regrets, and nothing in the sums
-pub record IsOpening (form : SequenceForm) (standing : Standing) : Type 0 where
+pub record IsFirstStanding (form : SequenceForm) (standing : Standing) : Type 0 where
   pub regrets_of_one : standing.regrets_one ≡ replicate (sequence_count form.sets_one) (pos 0)
   pub regrets_of_two : standing.regrets_two ≡ replicate (sequence_count form.sets_two) (pos 0)
   pub sum_of_one : standing.sum_one ≡ cleared form.sets_one
@@ -143,7 +143,7 @@ pub record IsNextRound (form : SequenceForm) (root : ℕ) (before after : Standi
 
 -- so a run begins, and so each round follows from the one before it, the first and every later one
 pub record RoundsFollow : Type 0 where
-  pub begins : (form : SequenceForm) (root : ℕ) → IsOpening form (rounds form root 0)
+  pub begins : (form : SequenceForm) (root : ℕ) → IsFirstStanding form (rounds form root 0)
   pub goes_on : (form : SequenceForm) (root n : ℕ) → AreInOrder form.sets_one → AreInOrder form.sets_two → 1 ≤ root
       → IsNextRound form root (rounds form root n) (rounds form root (n + 1))
 

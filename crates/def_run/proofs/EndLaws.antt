@@ -14,7 +14,7 @@ use Rattle.def_bracket.specs.OfferLaws.{ComesFrom}
 use Rattle.def_bracket.proofs.EvaluatedRounds.{rounds as rounds_evaluated}
 use Rattle.def_bracket.proofs.TraceLines.{trace_lines, never_widens, trace_looks_back}
 use Rattle.def_bracket.proofs.KeptEnds.{offers_are_traced, offers_keep_the_ends}
-use Rattle.def_run.specs.Run.{reply_to, evaluation, evaluations, offer_after, offers, end_of, both_ends}
+use Rattle.def_run.specs.Run.{reply_to, evaluation, evaluations, offer_after, offers, run_end, both_ends}
 use Rattle.def_run.specs.Laws.{TraceOfRunNeverWidens, TraceOfRunLooksBack, plan_at_lower, plan_at_upper, GapIsExploitability, EndsBoundAllPlans, OffersOfRunAreFair, OutcomesShowTheirRun}
 use Rattle.def_run.proofs.RunLaws.{rounds_of, evaluations_are_bounds, ends_are_of_their_rounds}
 
@@ -117,7 +117,7 @@ outcomes_show_their_run = record {
       let k = offers_keep_the_ends os ends (ap ends_of (evaluated form head.scale ks) ∙ are) in
       let lower = from_offer lower_of form head.scale ks ends.lower k.lower d k.lower_from in
       let upper = from_offer upper_of form head.scale ks ends.upper k.upper d k.upper_from in (
-        record { lower = end_of k.lower; upper = end_of k.upper },
+        record { lower = run_end k.lower; upper = run_end k.upper },
         ap (λ l. both_ends l (board_after os).upper) k.lower_is ∙ ap (λ u. both_ends (Some k.lower) u) k.upper_is,
         record {
           lower_plan = ap (λ (e : KeptEnd). e.plan) lower;

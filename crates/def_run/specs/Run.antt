@@ -48,11 +48,11 @@ abbrev pub offers : SequenceForm → ℕ → ℕ → ℕ → List Offer
 offers form root every last = map (offer_after form root) (evaluated_rounds every last)
 
 -- the outcome of a run of these rounds: its head, the trace, and the two ends with their plans and replies
-abbrev pub end_of : KeptEnd → End
-end_of kept = record { plan = kept.plan; reply = kept.reply }
+abbrev pub run_end : KeptEnd → End
+run_end kept = record { plan = kept.plan; reply = kept.reply }
 
 abbrev pub both_ends : Option KeptEnd → Option KeptEnd → Option OutcomeEnds
-both_ends (Some lower) (Some upper) = Some (record { lower = end_of lower; upper = end_of upper })
+both_ends (Some lower) (Some upper) = Some (record { lower = run_end lower; upper = run_end upper })
 both_ends (Some lower) None = None
 both_ends None upper = None
 

@@ -22,7 +22,7 @@ use Rattle.def_game_scale.specs.Scale.{all_expected, expected, weights}
 use Rattle.def_plan.specs.Payoff.{mass_of}
 use Rattle.def_plan.specs.Form.{InformationSet, Leaf}
 use Rattle.def_sequence_form.specs.Form.{LeafEntry, leaf_entry, leaf_list, leaves_with, form_of}
-use Rattle.def_sequence_form.specs.Sets.{player_sets}
+use Rattle.def_sequence_form.specs.Sets.{told_sets}
 use Rattle.def_sequence_form.specs.Laws.{last_of_choices, LeafHasItsChoices, TellsChoices, FormHasTheLeafList, FormHasTheMass, TellsEachNode, TreeSetsTellNodes}
 use Rattle.def_sequence_form.proofs.Sets.{counts_agree, set_at}
 
@@ -158,7 +158,7 @@ sizes_map : (kind : Kind) (tree : Forest) (vs : List Visit) → map (λ (set : I
 sizes_map kind tree [] = refl
 sizes_map kind tree (v ∷ rest) = ap (λ ns. v.node.children ∷ ns) (sizes_map kind tree rest)
 
-tells_each_node : (tree : Forest) (kind : Kind) → IsGameTree tree → is_leaf_kind kind ≡ false → TellsEachNode tree kind (player_sets kind tree)
+tells_each_node : (tree : Forest) (kind : Kind) → IsGameTree tree → is_leaf_kind kind ≡ false → TellsEachNode tree kind (told_sets kind tree)
 tells_each_node tree kind game inner =
     let all : List Visit = visits tree in
     let long : length all ≡ node_count tree = sym (length-map all node_of) ∙ ap length (map-visits_from (λ _. []) 1 tree) in

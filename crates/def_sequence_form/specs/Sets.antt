@@ -20,11 +20,11 @@ pub record TreeSets : Type 0 where
   pub one : PlayerSets
   pub two : PlayerSets
 
-abbrev pub player_sets : Kind → Forest → PlayerSets
-player_sets kind tree = record { sets = information_sets kind tree; at_nodes = map (sequence_at kind tree) (visits tree) }
+abbrev pub told_sets : Kind → Forest → PlayerSets
+told_sets kind tree = record { sets = information_sets kind tree; at_nodes = map (sequence_at kind tree) (visits tree) }
 
 abbrev pub tree_sets : Forest → TreeSets
-tree_sets tree = record { one = player_sets One tree; two = player_sets Two tree }
+tree_sets tree = record { one = told_sets One tree; two = told_sets Two tree }
 
 abbrev pub unless_broken : Option RecallBreak → TreeSets → Result TreeSets RecallBreak
 unless_broken None sets = Ok sets

@@ -25,7 +25,7 @@ LeafRow = game_text (game_with nobody one_leaf) no_rounds
     ≡ codes "XGCERT 1" ++ line_feed ++ codes "nodes 1 leaves 1" ++ line_feed
     ++ codes "rounds 0 every 1 scale 1048576" ++ line_feed ++ codes "end" ++ line_feed
 
-pub record FaultRows : Type 0 where
+pub record FaultLineRows : Type 0 where
   pub syntax : fault_line (Syntax 24) ≡ codes "refused 2 Syntax at 24" ++ line_feed
   pub number : fault_line (Number 32 Range) ≡ codes "refused 5 Number at 32 Range" ++ line_feed
   pub players : fault_line (Players 3) ≡ codes "refused 6 Players count 3" ++ line_feed

@@ -1,6 +1,7 @@
 -- The text of a solved game: its head, and the end line.
 use Rattle.std.specs.Prelude.{ℕ, List, [], ◌∷◌, ◌++◌, codes}
 use Rattle.std.specs.Fmt.{decimal}
+use Rattle.def_sums.specs.Limits.{most_scale}
 use Rattle.def_tree.specs.Tree.{prefix, node_count, leaf_count}
 use Rattle.def_file.specs.Content.{GameFile}
 
@@ -12,10 +13,6 @@ pub record Settings : Type 0 where
 
 abbrev pub line_feed : List ℕ
 line_feed = 10 ∷ []
-
--- the greatest scale of a plan
-abbrev pub most_scale : ℕ
-most_scale = 1048576
 
 -- no rounds, at the greatest scale
 abbrev pub no_rounds : Settings

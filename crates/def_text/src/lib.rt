@@ -2,7 +2,7 @@
 #![tactic(auto)]
 
 ghost use Rattle.def_text.specs.Laws.{LinesTellFaults};
-ghost use Rattle.def_text.specs.Rows.{FaultRows, LeafRow};
+ghost use Rattle.def_text.specs.Rows.{FaultLineRows, LeafRow};
 
 /// The text of a game of one leaf.
 pub fn leaf_row()
@@ -10,8 +10,8 @@ pub fn leaf_row()
 {}
 
 /// The lines of faults.
-pub fn fault_rows()
-    ensures { FaultRows }
+pub fn fault_line_rows()
+    ensures { FaultLineRows }
 {}
 
 /// The lines of faults tell the faults apart.

@@ -11,25 +11,25 @@ use Rattle.def_fraction.specs.Reading.{sign_of, after_sign, body_of, literal_of,
 use Rattle.def_fraction.specs.Laws.{JudgesLiteral}
 use Rattle.def_fraction.proofs.JudgeLemmas.{read_as_literal-judged}
 use Rattle.xg_frac.specs.declared.literal.Quotient.{Quotient}
-use Rattle.xg_frac.specs.Scan.{past, quotient_of}
+use Rattle.xg_frac.specs.Scan.{past_all, quotient_of}
 
 abbrev pub answer_of : Bool → ℕ → ℕ → Result Fraction NumberFault
 answer_of negative n d =
-    cond (eqb d 0) (Err ZeroDenominator) (cond (ltb n past && ltb d past && fits (fraction_of (signed negative n) d)) (Ok (fraction_of (signed negative n) d)) (Err Range))
+    cond (eqb d 0) (Err ZeroDenominator) (cond (ltb n past_all && ltb d past_all && fits (fraction_of (signed negative n) d)) (Ok (fraction_of (signed negative n) d)) (Err Range))
 
 abbrev pub answer_if : Bool → Option Quotient → Result Fraction NumberFault
 answer_if negative None = Err Form
 answer_if negative (Some q) = answer_of negative q.num q.den
 
-zero_capped : (d : ℕ) → eqb (min d past) 0 ≡ eqb d 0
+zero_capped : (d : ℕ) → eqb (min d past_all) 0 ≡ eqb d 0
 zero_capped zero = refl
-zero_capped (suc d) = ne_eqb (min (suc d) past) 0 (λ e. omega arith) ∙ sym (ne_eqb (suc d) 0 (λ e. omega arith))
+zero_capped (suc d) = ne_eqb (min (suc d) past_all) 0 (λ e. omega arith) ∙ sym (ne_eqb (suc d) 0 (λ e. omega arith))
 
 abbrev over_zero : Result Fraction NumberFault
 over_zero = Err ZeroDenominator
 
 -- an answer that is out of range either way
-out : (d : ℕ) (a b : Bool) (f g : Fraction) → a ≡ false → b ≡ false → cond (eqb d 0) over_zero (cond a (Ok f) (Err Range)) ≡ cond (eqb (min d past) 0) (Err ZeroDenominator) (cond b (Ok g) (Err Range))
+out : (d : ℕ) (a b : Bool) (f g : Fraction) → a ≡ false → b ≡ false → cond (eqb d 0) over_zero (cond a (Ok f) (Err Range)) ≡ cond (eqb (min d past_all) 0) (Err ZeroDenominator) (cond b (Ok g) (Err Range))
 out d a b f g p q = rw (p, q, zero_capped d) refl
 
 first_false : (a b c : Bool) → a ≡ false → (a && b && c) ≡ false
@@ -41,30 +41,30 @@ second_false true false c e = refl
 second_false false false c e = refl
 second_false a true c e = cc
 
-tests_agree : (negative : Bool) (n d : ℕ) → ltb n past ≡ true → ltb d past ≡ true → leb n (2 ^ 127 - 1) ≡ true → leb d (2 ^ 127 - 1) ≡ true
+tests_agree : (negative : Bool) (n d : ℕ) → ltb n past_all ≡ true → ltb d past_all ≡ true → leb n (2 ^ 127 - 1) ≡ true → leb d (2 ^ 127 - 1) ≡ true
     → cond (eqb d 0) (Err ZeroDenominator) (cond (leb n (2 ^ 127 - 1) && leb d (2 ^ 127 - 1) && fits (fraction_of (signed negative n) d)) (Ok (fraction_of (signed negative n) d)) (Err Range)) ≡ answer_of negative n d
 tests_agree negative n d a b p q =
     let F = fraction_of (signed negative n) d in
-    let same : (leb n (2 ^ 127 - 1) && leb d (2 ^ 127 - 1) && fits F) ≡ (ltb n past && ltb d past && fits F) =
-    ap (λ x. x && leb d (2 ^ 127 - 1) && fits F) (p ∙ sym a) ∙ ap (λ x. ltb n past && x && fits F) (q ∙ sym b) in
+    let same : (leb n (2 ^ 127 - 1) && leb d (2 ^ 127 - 1) && fits F) ≡ (ltb n past_all && ltb d past_all && fits F) =
+    ap (λ x. x && leb d (2 ^ 127 - 1) && fits F) (p ∙ sym a) ∙ ap (λ x. ltb n past_all && x && fits F) (q ∙ sym b) in
     ap (λ x. cond (eqb d 0) over_zero (cond x (Ok F) (Err Range))) same
 
--- keeping one past the limit for all that is past it changes no answer
+-- keeping one past_all the limit for all that is past_all it changes no answer
 capped_answer : (negative : Bool) (n d : ℕ)
-    → cond (eqb d 0) (Err ZeroDenominator) (cond (leb n (2 ^ 127 - 1) && leb d (2 ^ 127 - 1) && fits (fraction_of (signed negative n) d)) (Ok (fraction_of (signed negative n) d)) (Err Range)) ≡ answer_of negative (min n past) (min d past)
+    → cond (eqb d 0) (Err ZeroDenominator) (cond (leb n (2 ^ 127 - 1) && leb d (2 ^ 127 - 1) && fits (fraction_of (signed negative n) d)) (Ok (fraction_of (signed negative n) d)) (Err Range)) ≡ answer_of negative (min n past_all) (min d past_all)
 capped_answer negative n d =
     ⊎_elim
     (λ n_small. ⊎_elim
     (λ d_small.
-    let same_n : min n past ≡ n = omega arith in
-    let same_d : min d past ≡ d = omega arith in
+    let same_n : min n past_all ≡ n = omega arith in
+    let same_d : min d past_all ≡ d = omega arith in
     let n_fits : n ≤ 2 ^ 127 - 1 = omega arith in
     let d_fits : d ≤ 2 ^ 127 - 1 = omega arith in
-    tests_agree negative n d (lt-ltb n past n_small) (lt-ltb d past d_small) (le-leb n (2 ^ 127 - 1) n_fits) (le-leb d (2 ^ 127 - 1) d_fits) ∙ ap (λ x. answer_of negative x d) (sym same_n) ∙ ap (answer_of negative (min n past)) (sym same_d))
-    (λ d_large. out d _ _ _ _ (second_false (leb n (2 ^ 127 - 1)) (leb d (2 ^ 127 - 1)) _ (lt-leb d (2 ^ 127 - 1) (omega arith))) (second_false (ltb (min n past) past) (ltb (min d past) past) _ (le-ltb (min d past) past (omega arith))))
-    (cases_lt d past))
-    (λ n_large. out d _ _ _ _ (first_false (leb n (2 ^ 127 - 1)) (leb d (2 ^ 127 - 1)) _ (lt-leb n (2 ^ 127 - 1) (omega arith))) (first_false (ltb (min n past) past) (ltb (min d past) past) _ (le-ltb (min n past) past (omega arith))))
-    (cases_lt n past)
+    tests_agree negative n d (lt-ltb n past_all n_small) (lt-ltb d past_all d_small) (le-leb n (2 ^ 127 - 1) n_fits) (le-leb d (2 ^ 127 - 1) d_fits) ∙ ap (λ x. answer_of negative x d) (sym same_n) ∙ ap (answer_of negative (min n past_all)) (sym same_d))
+    (λ d_large. out d _ _ _ _ (second_false (leb n (2 ^ 127 - 1)) (leb d (2 ^ 127 - 1)) _ (lt-leb d (2 ^ 127 - 1) (omega arith))) (second_false (ltb (min n past_all) past_all) (ltb (min d past_all) past_all) _ (le-ltb (min d past_all) past_all (omega arith))))
+    (cases_lt d past_all))
+    (λ n_large. out d _ _ _ _ (first_false (leb n (2 ^ 127 - 1)) (leb d (2 ^ 127 - 1)) _ (lt-leb n (2 ^ 127 - 1) (omega arith))) (first_false (ltb (min n past_all) past_all) (ltb (min d past_all) past_all) _ (le-ltb (min n past_all) past_all (omega arith))))
+    (cases_lt n past_all)
 
 by_body : (bytes : List ℕ) (b : Option Body) → answer_if (is_minus (sign_of bytes)) (option_map quotient_of b) ≡ value_if (option_map (λ body. record { sign = sign_of bytes; body = body }) b)
 unfolding value_of
@@ -85,20 +85,20 @@ unless_true false h = refl
 pub zero_answer : (negative : Bool) (q : Quotient) → q.den ≡ 0 → Err ZeroDenominator ≡ answer_of negative q.num q.den
 zero_answer negative q e = rw e refl
 
-pub past_answer : (negative : Bool) (q : Quotient) → (q.den ≡ 0 → ⊥) → (past ≤ q.num) ⊎ (past ≤ q.den) → Err Range ≡ answer_of negative q.num q.den
+pub past_answer : (negative : Bool) (q : Quotient) → (q.den ≡ 0 → ⊥) → (past_all ≤ q.num) ⊎ (past_all ≤ q.den) → Err Range ≡ answer_of negative q.num q.den
 past_answer negative q some h =
-    let no : (ltb q.num past && ltb q.den past && fits (fraction_of (signed negative q.num) q.den)) ≡ false =
-    ⊎_elim (λ p. first_false (ltb q.num past) (ltb q.den past) _ (le-ltb q.num past p)) (λ p. second_false (ltb q.num past) (ltb q.den past) _ (le-ltb q.den past p)) h in
+    let no : (ltb q.num past_all && ltb q.den past_all && fits (fraction_of (signed negative q.num) q.den)) ≡ false =
+    ⊎_elim (λ p. first_false (ltb q.num past_all) (ltb q.den past_all) _ (le-ltb q.num past_all p)) (λ p. second_false (ltb q.num past_all) (ltb q.den past_all) _ (le-ltb q.den past_all p)) h in
     rw (ne_eqb q.den 0 some, no) refl
 
 fit_answer : (o : Option Fraction) (f : Fraction) → SomeIff o (IsTrue (fits f)) f → ok_or o Range ≡ cond (fits f) (Ok f) (Err Range)
 fit_answer None f h = rw (unless_true (fits f) h) refl
 fit_answer (Some x) f h = rw h.0 (ap Ok h.1)
 
-pub within_answer : (negative : Bool) (q : Quotient) (o : Option Fraction) (r : Result Fraction NumberFault) → (q.den ≡ 0 → ⊥) → q.num < past → q.den < past
+pub within_answer : (negative : Bool) (q : Quotient) (o : Option Fraction) (r : Result Fraction NumberFault) → (q.den ≡ 0 → ⊥) → q.num < past_all → q.den < past_all
     → SomeIff o (IsTrue (fits (fraction_of (signed negative q.num) q.den))) (fraction_of (signed negative q.num) q.den) → r ≡ ok_or o Range → r ≡ answer_of negative q.num q.den
 within_answer negative q o r some n d h e =
-    e ∙ fit_answer o (fraction_of (signed negative q.num) q.den) h ∙ sym (rw (ne_eqb q.den 0 some, lt-ltb q.num past n, lt-ltb q.den past d) refl)
+    e ∙ fit_answer o (fraction_of (signed negative q.num) q.den) h ∙ sym (rw (ne_eqb q.den 0 some, lt-ltb q.num past_all n, lt-ltb q.den past_all d) refl)
 
 -- the clauses of the answer
 pub judged-at : (bytes : List ℕ) (r : Result Fraction NumberFault) → r ≡ read_as_literal bytes → JudgesLiteral bytes r

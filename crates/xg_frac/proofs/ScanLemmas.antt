@@ -15,7 +15,7 @@ use Rattle.def_fraction.specs.Literal.{Power, decimal, digits_after, raised, low
 use Rattle.def_fraction.specs.Reading.{decimal_of, power_of, body_after}
 use Rattle.def_fraction.proofs.NumberLemmas.{number_of-append}
 use Rattle.xg_frac.specs.declared.literal.Quotient.{Quotient}
-use Rattle.xg_frac.specs.Scan.{capped, past, quotient_of, decimal_quotient}
+use Rattle.xg_frac.specs.Scan.{capped, past_all, quotient_of, decimal_quotient}
 
 -- the digit at an index is the next one
 pub leading_digits-drop : (bs : List ℕ) (i : ℕ) → i < length bs → is_ascii_digit (get_or bs i 0) ≡ true → leading_digits (drop i bs) ≡ get_or bs i 0 ∷ leading_digits (drop (i + 1) bs)
@@ -35,26 +35,26 @@ leading_digits-within bs = omega (arith, ap length (digits_split bs), length-app
 times_one : (n p : ℕ) → 1 ≤ p → n ≤ n * p
 times_one n p h = omega (arith, mul-le n 1 n p (omega arith) h)
 
--- below the limit the number is the exact one, and past it it stays past
-joined : (n d p rest m : ℕ) → 1 ≤ p → m ≡ min (n * 10 + d) past → min (m * p + rest) past ≡ min (n * (p * 10) + (d * p + rest)) past
+-- below the limit the number is the exact one, and past_all it it stays past_all
+joined : (n d p rest m : ℕ) → 1 ≤ p → m ≡ min (n * 10 + d) past_all → min (m * p + rest) past_all ≡ min (n * (p * 10) + (d * p + rest)) past_all
 joined n d p rest m h e =
     let whole : (n * 10 + d) * p ≡ n * (p * 10) + d * p = omega arith in
     ⊎_elim
     (λ small.
     let exact : m ≡ n * 10 + d = omega arith in
-    ap (λ x. min (x * p + rest) past) exact ∙ ap (λ x. min x past) (omega (arith, whole)))
+    ap (λ x. min (x * p + rest) past_all) exact ∙ ap (λ x. min x past_all) (omega (arith, whole)))
     (λ large.
-    let top : m ≡ past = omega arith in
-    let first : past ≤ past * p = times_one past p h in
+    let top : m ≡ past_all = omega arith in
+    let first : past_all ≤ past_all * p = times_one past_all p h in
     let second : n * 10 + d ≤ (n * 10 + d) * p = times_one (n * 10 + d) p h in
-    ap (λ x. min (x * p + rest) past) top ∙ omega (arith, first, second, whole))
-    (cases_lt (n * 10 + d) past)
+    ap (λ x. min (x * p + rest) past_all) top ∙ omega (arith, first, second, whole))
+    (cases_lt (n * 10 + d) past_all)
 
 -- one digit more
-pub capped-digit : (n m c : ℕ) (cs : List ℕ) → m ≡ min (n * 10 + (c - 48)) past → capped m cs ≡ capped n (c ∷ cs)
+pub capped-digit : (n m c : ℕ) (cs : List ℕ) → m ≡ min (n * 10 + (c - 48)) past_all → capped m cs ≡ capped n (c ∷ cs)
 capped-digit n m c cs e =
     let power : 10 ^ length (c ∷ cs) ≡ 10 ^ length cs * 10 = pow-suc 10 (length cs) in
-    joined n (c - 48) (10 ^ length cs) (number_of cs) m (one-le-pow (length cs) 10 (omega arith)) e ∙ ap (λ q. min (n * q + ((c - 48) * 10 ^ length cs + number_of cs)) past) (sym power)
+    joined n (c - 48) (10 ^ length cs) (number_of cs) m (one-le-pow (length cs) 10 (omega arith)) e ∙ ap (λ q. min (n * q + ((c - 48) * 10 ^ length cs + number_of cs)) past_all) (sym power)
 
 -- ---- a text of digits alone
 
@@ -108,7 +108,7 @@ number_of-below (d ∷ ds) h =
 
 -- ---- powers of ten
 
-pub ten_to_39 : (n k : ℕ) → (n ≡ 0 → ⊥) → 38 < k → past ≤ n * 10 ^ k
+pub ten_to_39 : (n k : ℕ) → (n ≡ 0 → ⊥) → 38 < k → past_all ≤ n * 10 ^ k
 ten_to_39 n k some h =
     let split : 10 ^ k ≡ 10 ^ 39 * 10 ^ (k - 39) = ap (λ j. 10 ^ j) (omega arith) ∙ pow-add 10 39 (k - 39) in
     let more : 10 ^ 39 ≤ 10 ^ 39 * 10 ^ (k - 39) = times_one (10 ^ 39) (10 ^ (k - 39)) (one-le-pow (k - 39) 10 (omega arith)) in
@@ -120,35 +120,35 @@ ten_below k h = omega (arith, pow-le-pow_right {n = 10} (omega arith) {i = k} {j
 
 -- ---- decimals
 
-capped_times : (n p : ℕ) → 1 ≤ p → min (min n past * p) past ≡ min (n * p) past
+capped_times : (n p : ℕ) → 1 ≤ p → min (min n past_all * p) past_all ≡ min (n * p) past_all
 capped_times n p h =
     ⊎_elim
-    (λ small. let exact : min n past ≡ n = omega arith in ap (λ x. min (x * p) past) exact)
+    (λ small. let exact : min n past_all ≡ n = omega arith in ap (λ x. min (x * p) past_all) exact)
     (λ large.
-    let top : min n past ≡ past = omega arith in
-    ap (λ x. min (x * p) past) top ∙ omega (arith, times_one past p h, times_one n p h))
-    (cases_lt n past)
+    let top : min n past_all ≡ past_all = omega arith in
+    ap (λ x. min (x * p) past_all) top ∙ omega (arith, times_one past_all p h, times_one n p h))
+    (cases_lt n past_all)
 
 -- the digits after the point continue the number
-pub capped-append : (xs ys : List ℕ) (n : ℕ) → n ≡ min (number_of xs) past → capped n ys ≡ min (number_of (xs ++ ys)) past
+pub capped-append : (xs ys : List ℕ) (n : ℕ) → n ≡ min (number_of xs) past_all → capped n ys ≡ min (number_of (xs ++ ys)) past_all
 capped-append xs ys n e =
     let p = 10 ^ length ys in
     let h : 1 ≤ p = one-le-pow (length ys) 10 (omega arith) in
     let whole = number_of-append xs ys in
-    ap (λ x. min (x * p + number_of ys) past) e ∙
+    ap (λ x. min (x * p + number_of ys) past_all) e ∙
     ⊎_elim
-    (λ small. let exact : min (number_of xs) past ≡ number_of xs = omega arith in ap (λ x. min (x * p + number_of ys) past) exact ∙ ap (λ x. min x past) (sym whole))
+    (λ small. let exact : min (number_of xs) past_all ≡ number_of xs = omega arith in ap (λ x. min (x * p + number_of ys) past_all) exact ∙ ap (λ x. min x past_all) (sym whole))
     (λ large.
-    let top : min (number_of xs) past ≡ past = omega arith in
-    ap (λ x. min (x * p + number_of ys) past) top ∙ omega (arith, times_one past p h, times_one (number_of xs) p h, whole))
-    (cases_lt (number_of xs) past)
+    let top : min (number_of xs) past_all ≡ past_all = omega arith in
+    ap (λ x. min (x * p + number_of ys) past_all) top ∙ omega (arith, times_one past_all p h, times_one (number_of xs) p h, whole))
+    (cases_lt (number_of xs) past_all)
 
-quotient_of-decimal : (before : List ℕ) (after : Option (List ℕ)) (power : Option Power) (n : ℕ) → n ≡ min (number_of (before ++ digits_after after)) past
+quotient_of-decimal : (before : List ℕ) (after : Option (List ℕ)) (power : Option Power) (n : ℕ) → n ≡ min (number_of (before ++ digits_after after)) past_all
     → quotient_of (decimal before after power) ≡ decimal_quotient n (length (digits_after after)) power
 quotient_of-decimal before after power n e =
-    let make : ℕ → Quotient = λ x. record { num = x; den = min (10 ^ (length (digits_after after) + lowered power - raised power)) past } in
+    let make : ℕ → Quotient = λ x. record { num = x; den = min (10 ^ (length (digits_after after) + lowered power - raised power)) past_all } in
     let p = 10 ^ (raised power - (length (digits_after after) + lowered power)) in
-    ap make (sym (capped_times (number_of (before ++ digits_after after)) p (one-le-pow (raised power - (length (digits_after after) + lowered power)) 10 (omega arith))) ∙ ap (λ x. min (x * p) past) (sym e))
+    ap make (sym (capped_times (number_of (before ++ digits_after after)) p (one-le-pow (raised power - (length (digits_after after) + lowered power)) 10 (omega arith))) ∙ ap (λ x. min (x * p) past_all) (sym e))
 
 option_map-option_map : {A B C : Type 0} (f : A → B) (g : B → C) (h : A → C) → ((x : A) → g (f x) ≡ h x) → (o : Option A) → option_map g (option_map f o) ≡ option_map h o
 option_map-option_map f g h e None = refl
@@ -158,7 +158,7 @@ if_some : {A B : Type 0} (b : Bool) (o : Option A) (f : A → B) → option_map 
 if_some true o f = refl
 if_some false o f = refl
 
-pub quotient_of-decimal_of : (before : List ℕ) (after : Option (List ℕ)) (rest : List ℕ) (n : ℕ) → n ≡ min (number_of (before ++ digits_after after)) past
+pub quotient_of-decimal_of : (before : List ℕ) (after : Option (List ℕ)) (rest : List ℕ) (n : ℕ) → n ≡ min (number_of (before ++ digits_after after)) past_all
     → option_map quotient_of (decimal_of before after rest) ≡ cond (ltb 0 (length (before ++ digits_after after))) (option_map (decimal_quotient n (length (digits_after after))) (power_of rest)) None
 unfolding decimal_of
 quotient_of-decimal_of before after rest n e =

@@ -5,7 +5,7 @@ ghost use Rattle.def_fraction.specs.Digits.{is_numeral, number_of, leading_digit
 ghost use Rattle.def_fraction.specs.Fraction.{most};
 ghost use Rattle.def_fraction.specs.Literal.{is_minus, IsNoLiteral, HasZeroDenominator, IsPastLimits, IsLiteralOf};
 ghost use Rattle.def_fraction.specs.Reading.{sign_of, after_sign, body_of, power_of, read_as_literal, read_as_whole};
-ghost use Rattle.xg_frac.specs.Scan.{ScansPart, capped, quotient_of, decimal_quotient, exponent_of, past};
+ghost use Rattle.xg_frac.specs.Scan.{ScansPart, capped, quotient_of, decimal_quotient, exponent_of, past_all};
 
 use crate::fraction::{Frac, MOST, reduced};
 use def_fraction::NumberFault;
@@ -60,7 +60,7 @@ pub fn read_whole(bytes: &[u8]) -> Result<u64, NumberFault>
     Ok(number as u64)
 }
 
-/// One past the greatest numerator and denominator before reduction. While a number is read it stands for all greater
+/// One past_all the greatest numerator and denominator before reduction. While a number is read it stands for all greater
 /// ones, so that nothing overflows.
 const PAST: u128 = 0x8000_0000_0000_0000_0000_0000_0000_0000;
 
@@ -118,7 +118,7 @@ fn split_sign(bytes: &[u8]) -> Signed
 
 /// The digits at the head of the bytes, which go on from the number `start`.
 fn scan_digits(start: u128, bytes: &[u8]) -> Digits
-    requires { start ≤ past }
+    requires { start ≤ past_all }
     ensures number { result.number ≡ capped start (leading_digits bytes.now) }
     ensures len { result.len ≡ length (leading_digits bytes.now) }
     ensures short { result.len < 2 ^ 63 }
@@ -135,7 +135,7 @@ fn scan_digits(start: u128, bytes: &[u8]) -> Digits
 
 /// The same up to a digit with which the number might not fit 64 bits. Nearly all numbers are read here alone.
 fn scan_short(start: u128, bytes: &[u8]) -> Digits
-    requires { start ≤ past }
+    requires { start ≤ past_all }
     ensures { ScansPart start bytes.now result.number result.len result.rest.now }
 {
     if start >= SHORT as u128 {
@@ -163,7 +163,7 @@ fn scan_short(start: u128, bytes: &[u8]) -> Digits
 
 /// The same in 128 bits.
 fn scan_wide(start: u128, bytes: &[u8]) -> Digits
-    requires { start ≤ past }
+    requires { start ≤ past_all }
     ensures number { result.number ≡ capped start (leading_digits bytes.now) }
     ensures len { result.len ≡ length (leading_digits bytes.now) }
     ensures short { result.len < 2 ^ 63 }
@@ -188,7 +188,7 @@ fn scan_wide(start: u128, bytes: &[u8]) -> Digits
 
 /// The number that the bytes write, if all are digits and there is at least one.
 fn scan_numeral(bytes: &[u8]) -> Option<u128>
-    ensures { result ≡ (if is_numeral bytes.now then Some (min (number_of bytes.now) past) else None) }
+    ensures { result ≡ (if is_numeral bytes.now then Some (min (number_of bytes.now) past_all) else None) }
 {
     let digits = scan_digits(0, bytes);
     if digits.len == 0 || digits.len < bytes.len() {
@@ -218,7 +218,7 @@ fn read_body(bytes: &[u8]) -> Option<Quotient>
 /// The quotient of the number that was written with so many digits and of the number in the bytes.
 fn read_below(num: u128, digits: usize, bytes: &[u8]) -> Option<Quotient>
     ensures { result ≡ (if nat_lt 0 digits && is_numeral bytes.now
-        then Some (record { num = num; den = min (number_of bytes.now) past })
+        then Some (record { num = num; den = min (number_of bytes.now) past_all })
         else None) }
 {
     if digits == 0 {
@@ -231,7 +231,7 @@ fn read_below(num: u128, digits: usize, bytes: &[u8]) -> Option<Quotient>
 /// The decimal that was written with so many digits, of which `places` stand after the point, and with the power in the
 /// bytes.
 fn read_power(number: u128, digits: usize, places: usize, bytes: &[u8]) -> Option<Quotient>
-    requires number { number ≤ past }
+    requires number { number ≤ past_all }
     requires places { places < 2 ^ 63 }
     ensures { result ≡ (if nat_lt 0 digits
         then option_map (decimal_quotient number places) (power_of bytes.now)
@@ -279,8 +279,8 @@ fn read_exponent(bytes: &[u8]) -> Option<Exponent>
 }
 
 fn times_power_of_ten(n: u128, exponent: usize) -> u128
-    requires { n ≤ past }
-    ensures { result ≡ min (n * 10 ^ exponent) past }
+    requires { n ≤ past_all }
+    ensures { result ≡ min (n * 10 ^ exponent) past_all }
 {
     if n == 0 || exponent == 0 {
         return n;

@@ -4,11 +4,11 @@ use Rattle.std.specs.Option.{option_map, option_and_then}
 use Rattle.xg_io.specs.declared.memory_files.MemFiles.{MemFiles}
 use Rattle.xg_io.specs.declared.schedule.Schedule.{Schedule}
 use Rattle.xg_io.specs.Schedule.{faults_so_far}
-use Rattle.xg_io.specs.Stored.{bytes_of, bytes_at}
+use Rattle.xg_io.specs.Stored.{stored_bytes_of, stored_bytes_at}
 
 -- the bytes of a name, where there is a file of that name
 abbrev pub told_of : MemFiles → List ℕ → Option (List ℕ)
-told_of m = bytes_of m.files.items
+told_of m = stored_bytes_of m.files.items
 
 -- the place of the open file
 abbrev pub current_of : MemFiles → Option ℕ
@@ -20,7 +20,7 @@ taken_of m = m.taken
 
 -- what is left of it
 abbrev pub left_of : MemFiles → Option (List ℕ)
-left_of m = option_and_then (λ place. option_map (drop m.taken) (bytes_at m.files.items place)) m.current
+left_of m = option_and_then (λ place. option_map (drop m.taken) (stored_bytes_at m.files.items place)) m.current
 
 -- which calls fail
 abbrev pub schedule_of : MemFiles → Schedule

@@ -5,9 +5,9 @@ use Rattle.std.specs.Cmp.Lexicographic.{pointwise}
 use Rattle.xg_io.specs.declared.memory_files.Stored.{Stored}
 
 -- the bytes of a name
-abbrev pub bytes_of : List Stored → List ℕ → Option (List ℕ)
-bytes_of files name = option_map (λ file. file.bytes.items) (find (λ file. pointwise nat_eq file.name.items name) files)
+abbrev pub stored_bytes_of : List Stored → List ℕ → Option (List ℕ)
+stored_bytes_of files name = option_map (λ file. file.bytes.items) (find (λ file. pointwise nat_eq file.name.items name) files)
 
 -- the bytes at a place in the list
-abbrev pub bytes_at : List Stored → ℕ → Option (List ℕ)
-bytes_at files place = option_map (λ file. file.bytes.items) (slice_get files place)
+abbrev pub stored_bytes_at : List Stored → ℕ → Option (List ℕ)
+stored_bytes_at files place = option_map (λ file. file.bytes.items) (slice_get files place)

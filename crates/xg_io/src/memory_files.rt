@@ -5,7 +5,7 @@ ghost use Rattle.std.specs.Option.{ForSome};
 ghost use Rattle.std.specs.Io.KnownBytes.{Consumes};
 ghost use Rattle.def_outside.specs.Cause.{HasCause};
 ghost use Rattle.xg_io.specs.Cause.{next_count, CountsOne, OpenCountsOne, OpenHasCause};
-ghost use Rattle.xg_io.specs.Stored.{bytes_of, bytes_at};
+ghost use Rattle.xg_io.specs.Stored.{stored_bytes_of, stored_bytes_at};
 ghost use Rattle.xg_io.specs.Schedule.{failing_calls, calls_made, FailsNext};
 
 use crate::schedule::Schedule;
@@ -145,9 +145,9 @@ impl Files for MemFiles {
 
 /// The place of the first file of a name.
 fn find_file(files: &[Stored], name: &[u8]) -> Option<usize>
-    ensures found { IfSome result (λ place. bytes_of files.now name.now ≡ bytes_at files.now place) }
+    ensures found { IfSome result (λ place. stored_bytes_of files.now name.now ≡ stored_bytes_at files.now place) }
     ensures within { IfSome result (λ place. place < length files.now) }
-    ensures absent { IfNone result (bytes_of files.now name.now ≡ None) }
+    ensures absent { IfNone result (stored_bytes_of files.now name.now ≡ None) }
 {
     position_of(files, name)
 }
@@ -160,7 +160,7 @@ fn position_of(files: &[Stored], name: &[u8]) -> Option<usize>
 
 fn bytes_of_file(files: &[Stored], place: usize) -> &[u8]
     requires { place < length files.now }
-    ensures { bytes_at files.now place ≡ Some result.now }
+    ensures { stored_bytes_at files.now place ≡ Some result.now }
 {
     files[place].bytes.as_slice()
 }

@@ -24,8 +24,8 @@ pub record HasNumbers (r : Record) : Type 0 where
   pub outcome : r.outcome ≤ 2 ^ 62
   pub set : has_set r.kind ≡ true → (1 ≤ r.set) × (r.set ≤ 2 ^ 62)
 
-abbrev pub prologue_of : Prologue → content.Prologue
-prologue_of p = record { title = p.title; one = p.one; two = p.two; comment = p.comment }
+abbrev pub read_prologue : Prologue → content.Prologue
+read_prologue p = record { title = p.title; one = p.one; two = p.two; comment = p.comment }
 
 -- the first two of some names, and how many there are
 pub record AreFirst (names : List (List ℕ)) (first second : Option (List ℕ)) (count : ℕ) : Type 0 where

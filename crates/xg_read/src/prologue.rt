@@ -2,7 +2,7 @@
 ghost use Rattle.std.specs.Prelude.{◌≡◌, ℕ, ◌+◌, ◌-◌, ◌^◌, ◌<◌, ◌≤◌, [], ◌∷◌, ◌++◌, List, length};
 ghost use Rattle.def_file.specs.Reading.{checked_names, names_from, prologue_at};
 ghost use Rattle.xg_read.specs.Gives.{GivesFor};
-ghost use Rattle.xg_read.specs.Mentions.{AreFirst, GivesNames, IsBoth, comment_at, prologue_of};
+ghost use Rattle.xg_read.specs.Mentions.{AreFirst, GivesNames, IsBoth, comment_at, read_prologue};
 
 use crate::reader::Reader;
 use crate::wanted::Wanted;
@@ -88,7 +88,7 @@ impl<'a> Reader<'a> {
     #[tactic(auto, unfolding(def_file::specs::Reading::prologue_at, def_file::specs::Reading::head_at, def_file::specs::Reading::behind_head))]
     pub fn prologue(&mut self, alloc: Global) -> Result<Prologue, Refused>
         requires { length self.old.whole ≤ 67108864 }
-        ensures exact { GivesFor prologue_of result self.new.at (prologue_at self.old.whole self.old.at) }
+        ensures exact { GivesFor read_prologue result self.new.at (prologue_at self.old.whole self.old.at) }
         ensures whole { self.new.whole ≡ self.old.whole }
     {
         self.token(Wanted::Marker)?;

@@ -4,7 +4,7 @@ use Rattle.std.proofs.lemmas.List.{append-nil, length-append}
 use Rattle.def_fraction.specs.Digits.{leading_digits, after_digits, number_of}
 use Rattle.def_fraction.specs.Reading.{body_of, body_after, decimal_of, power_of}
 use Rattle.xg_frac.specs.declared.literal.Quotient.{Quotient}
-use Rattle.xg_frac.specs.Scan.{capped, past, quotient_of, decimal_quotient}
+use Rattle.xg_frac.specs.Scan.{capped, past_all, quotient_of, decimal_quotient}
 use Rattle.xg_frac.proofs.ScanLemmas.{quotient_of-decimal_of, capped-append, part-rest, body_after-point, body_after-other, no_first}
 use Rattle.xg_frac.proofs.literal.read_body.Goals as goal
 
@@ -19,8 +19,8 @@ with_point bs rest tail n m digits places r e some point en em ed ep et er =
     let inner = drop 1 rest in
     let ds = leading_digits inner in
     let part = part-rest rest in
-    let first : n ≡ min (number_of before) past = en ∙ omega arith in
-    let number : m ≡ min (number_of (before ++ ds)) past = em ∙ ap (λ xs. capped n (leading_digits xs)) part ∙ capped-append before ds n first in
+    let first : n ≡ min (number_of before) past_all = en ∙ omega arith in
+    let number : m ≡ min (number_of (before ++ ds)) past_all = em ∙ ap (λ xs. capped n (leading_digits xs)) part ∙ capped-append before ds n first in
     let count : places ≡ length ds = ep ∙ ap (λ xs. length (leading_digits xs)) part in
     let all : digits ≡ length (before ++ ds) = ed ∙ ap (λ k. length before + k) count ∙ sym (length-append before ds) in
     let body : body_after before (after_digits bs) ≡ decimal_of before (Some ds) (after_digits inner) = ap (body_after before) (sym e) ∙ body_after-point before rest some point in
@@ -36,7 +36,7 @@ unfolding body_of
 without_point bs rest n digits r e no_slash no_point en ed er =
     let before = leading_digits bs in
     let nil = append-nil before in
-    let number : n ≡ min (number_of (before ++ [])) past = en ∙ omega arith ∙ ap (λ xs. min (number_of xs) past) (sym nil) in
+    let number : n ≡ min (number_of (before ++ [])) past_all = en ∙ omega arith ∙ ap (λ xs. min (number_of xs) past_all) (sym nil) in
     let body : body_after before (after_digits bs) ≡ decimal_of before None rest = ap (body_after before) (sym e) ∙ body_after-other before rest no_slash no_point in
     er ∙ ap (λ k. cond (ltb 0 k) (option_map (decimal_quotient n 0) (power_of rest)) None) (ed ∙ ap length (sym nil))
     ∙ sym (quotient_of-decimal_of before None rest n number)

@@ -2,7 +2,7 @@ use Rattle.std.proofs.Common.{◌≡◌, ◌+◌, ◌-◌, ◌*◌, min, true, l
 use Rattle.std.specs.Char.{is_ascii_digit}
 use Rattle.def_fraction.specs.Digits.{leading_digits}
 use Rattle.def_fraction.proofs.LiteralLemmas.{digit_range}
-use Rattle.xg_frac.specs.Scan.{capped, past}
+use Rattle.xg_frac.specs.Scan.{capped, past_all}
 use Rattle.xg_frac.proofs.ScanLemmas.{leading_digits-drop, after_digits-drop, capped-digit}
 use Rattle.xg_frac.proofs.literal.scan_short.Goals as goal
 
@@ -16,7 +16,7 @@ loop-byte-preserved c =
     let digit : is_ascii_digit d ≡ true = sym c.if-not-is_ascii_digit.ensures.value in
     let range = digit_range d digit in
     let next = leading_digits-drop bs i (omega arith) digit in
-    let exact : number * 10 + (d - 48) ≡ min (number * 10 + (d - 48)) past = omega (arith, range) in (
+    let exact : number * 10 + (d - 48) ≡ min (number * 10 + (d - 48)) past_all = omega (arith, range) in (
       omega arith,
       record {
         within = omega (arith, range);

@@ -1,7 +1,7 @@
 use Rattle.std.proofs.Common.{◌≡◌, ◌+◌, ◌-◌, ◌*◌, min, true, length, get_or, drop, sym, ap, ◌∙◌, arith}
 use Rattle.std.specs.Char.{is_ascii_digit}
 use Rattle.def_fraction.specs.Digits.{leading_digits}
-use Rattle.xg_frac.specs.Scan.{capped, past}
+use Rattle.xg_frac.specs.Scan.{capped, past_all}
 use Rattle.xg_frac.proofs.ScanLemmas.{leading_digits-drop, capped-digit, after_digits-part}
 use Rattle.std.proofs.lemmas.Grind.{common_steps}
 use Rattle.xg_frac.proofs.literal.scan_wide.Goals as goal
@@ -13,7 +13,7 @@ loop-byte-preserved c =
     let d = get_or bs i 0 in
     let digit : is_ascii_digit d ≡ true = sym c.if-not-is_ascii_digit.ensures.value in
     let next = leading_digits-drop bs i (omega arith) digit in
-    let exact : c.min-number.result ≡ min (c.loop-byte.number * 10 + (d - 48)) past = omega arith in
+    let exact : c.min-number.result ≡ min (c.loop-byte.number * 10 + (d - 48)) past_all = omega arith in
     record {
       counted = omega arith;
       within = omega arith;

@@ -1,6 +1,6 @@
 use Rattle.std.proofs.Common.{refl}
 use Rattle.std.specs.Fmt.{digits}
-use Rattle.def_text.proofs.fault_rows.Goals as goal
+use Rattle.def_text.proofs.fault_line_rows.Goals as goal
 
 pub returns : goal.returns
 unfolding digits

@@ -1,7 +1,7 @@
 use Rattle.std.proofs.Common.{refl}
 use Rattle.def_fraction.specs.Divisors.{gcd}
 use Rattle.def_fraction.specs.Fraction.{fraction_of}
-use Rattle.def_game_faults.proofs.fault_rows.Goals as goal
+use Rattle.def_game_faults.proofs.game_fault_rows.Goals as goal
 
 pub returns : goal.returns
 unfolding gcd fraction_of
