@@ -28,17 +28,18 @@ pub fn paths_are_depths()
     ensures { PathsAreDepths }
 {}
 
-/// A player's own choices are all the moves made at the player's nodes.
+/// A player's own choices on a path are all its moves at the player's nodes, each by its set and its action.
 pub fn own_choices_are_moves()
     ensures { OwnChoicesAreMoves }
 {}
 
-/// Exactly a tree with perfect recall has no break of it.
+/// A tree has no break of recall exactly where it has perfect recall.
 pub fn no_break_iff_recall()
     ensures { NoBreakIffRecall }
 {}
 
-/// A break of recall is the first.
+/// A break is a player's node whose own choices differ from those at the first node of its set, and no node before it
+/// is one.
 pub fn break_is_first()
     ensures { BreakIsFirst }
 {}
@@ -48,12 +49,14 @@ pub fn sets_are_in_order()
     ensures { SetsAreInOrder }
 {}
 
-/// With perfect recall, the number of a sequence tells which choices were made.
+/// With perfect recall, a player has one number of sequence at two nodes exactly where the choices before them are the
+/// same.
 pub fn numbers_tell_choices()
     ensures { NumbersTellChoices }
 {}
 
-/// The number of a sequence names the set and the action at which it ends.
+/// A sequence's number names the set and the action at which it ends, each number from 1 to the count of actions does,
+/// and 0 names none.
 pub fn sequences_name_choices()
     ensures { SequencesNameChoices }
 {}
@@ -63,12 +66,12 @@ pub fn each_sequence_is_in_range()
     ensures { EachSequenceIsInRange }
 {}
 
-/// A set has 1 to 1,024 actions, and a game has no more sets or sequences of a player than nodes.
+/// A set has 1 to 1,024 actions, and a game has no more sets or sequences of a kind than nodes.
 pub fn sequences_are_few()
     ensures { SequencesAreFew }
 {}
 
-/// The first nodes of the sets are those that a search for a set's first node finds, in the order of the sets.
+/// The i-th of the first nodes is in set i, and is the one that a search for the first node of this set finds.
 pub fn firsts_are_first()
     ensures { FirstsAreFirst }
 {}
@@ -78,17 +81,19 @@ pub fn numbers_are_known_on_the_way()
     ensures { NumbersAreKnownOnTheWay }
 {}
 
-/// Comparing numbers of sequences finds the first break of recall.
+/// In a game's tree, comparing numbers of sequences finds the same break of recall as comparing choices.
 pub fn numbers_find_the_break()
     ensures { NumbersFindTheBreak }
 {}
 
-/// Where recall breaks in small games, by choices and by numbers.
+/// Recall breaks where a set of player one or two holds a node and one below it, by choices and by numbers; it doesn't
+/// in matching pennies, nor where chance forgets.
 pub fn recall_rows()
     ensures { RecallRows }
 {}
 
-/// The sequences of matching pennies.
+/// In matching pennies each player has one set of two actions, and the leaves have the sequences 1, 1, 2, 2 of player
+/// one and 1, 2, 1, 2 of player two.
 pub fn sequence_rows()
     ensures { SequenceRows }
 {}
