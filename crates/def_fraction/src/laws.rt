@@ -11,7 +11,7 @@ pub fn lcm_is_least()
     ensures { LcmIsLeast }
 {}
 
-/// The fraction of a numerator and a denominator is in lowest terms and has their value.
+/// The fraction of a numerator and a denominator from 1 on is in lowest terms and has their value.
 pub fn fraction_is_reduced()
     ensures { FractionIsReduced }
 {}

@@ -5,25 +5,25 @@ ghost use Rattle.def_game_faults.specs.Laws.{GameFaultIsFirst, NumberFaultIsFirs
 ghost use Rattle.def_game_faults.specs.Laws.{NoFaultIsSound, NoNumberFaultIsSound};
 ghost use Rattle.def_game_faults.specs.Rows.{FaultlessRows, GameFaultRows, OrderRows};
 
-/// `number_fault` answers a fault exactly where it is the first one of the numbers, and none exactly where each node
-/// passes each walk.
+/// With tables in lowest terms, `number_fault` answers a fault exactly where it is the first one of the numbers, and
+/// none exactly where each node passes each walk.
 pub fn number_fault_is_first()
     ensures { NumberFaultIsFirst }
 {}
 
-/// `game_fault` answers a fault exactly where it is the first one, and none exactly where each node passes each walk
-/// and recall is perfect.
+/// With tables in lowest terms, `game_fault` answers a fault exactly where it is the first one, and none exactly where
+/// each node passes each walk and recall is perfect.
 pub fn game_fault_is_first()
     ensures { GameFaultIsFirst }
 {}
 
-/// Without a fault of the numbers chance plays by probabilities, each leaf's payoffs add up to 0, and unit and mass
-/// are within the limit.
+/// With tables in lowest terms and no fault of the numbers, chance plays by probabilities, each leaf's payoffs add up
+/// to 0, and unit and mass are within the limit.
 pub fn no_number_fault_is_sound()
     ensures { NoNumberFaultIsSound }
 {}
 
-/// A game without a fault has sound numbers and perfect recall.
+/// With tables in lowest terms, a game without a fault has sound numbers and perfect recall.
 pub fn no_fault_is_sound()
     ensures { NoFaultIsSound }
 {}

@@ -6,7 +6,7 @@ ghost use Rattle.def_game_jobs.specs.Jobs.{LaterPassesKeep, OnlyCutsChange, Pass
 ghost use Rattle.def_game_jobs.specs.Ranges.{JobsPartition, RangesHaveTheirJobs};
 ghost use Rattle.def_game_jobs.specs.Rows.{JobLimitRows, JobRows, SmallLimitRows};
 
-/// The jobs' leaves are all leaves, each once, in their order.
+/// In one tree, the jobs' leaves are all leaves, each once, in their order.
 pub fn each_leaf_in_one_job()
     ensures { EachLeafInOneJob }
 {}
@@ -42,12 +42,12 @@ pub fn later_passes_keep()
     ensures { LaterPassesKeep }
 {}
 
-/// The jobs' ranges, one behind the other, are all leaves of the tree, each once.
+/// In one tree, the jobs' ranges, one behind the other, are all leaves, each once.
 pub fn jobs_partition()
     ensures { JobsPartition }
 {}
 
-/// The leaves at a job's range are the job's own.
+/// In one tree, the leaves at a job's range are the job's own.
 pub fn ranges_have_their_jobs()
     ensures { RangesHaveTheirJobs }
 {}

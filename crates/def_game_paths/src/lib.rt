@@ -13,12 +13,12 @@ pub fn visits_are_prefix()
     ensures { VisitsArePrefix }
 {}
 
-/// Each visit's path leads from the root to its node, child by child.
+/// In one tree, each visit's path leads from the root to its node, child by child.
 pub fn paths_lead_to_nodes()
     ensures { PathsLeadToNodes }
 {}
 
-/// The path of a node is that of its parent, which is visited before, with one move more.
+/// In a tree, the path of a node is that of its parent, which is visited before, with one move more.
 pub fn parents_come_before()
     ensures { ParentsComeBefore }
 {}
@@ -44,13 +44,13 @@ pub fn break_is_first()
     ensures { BreakIsFirst }
 {}
 
-/// The sequence before a set has a smaller number than those that end at it.
+/// In a game's tree, the sequence before a set has a smaller number than those that end at it.
 pub fn sets_are_in_order()
     ensures { SetsAreInOrder }
 {}
 
-/// With perfect recall, a player has one number of sequence at two nodes exactly where the choices before them are the
-/// same.
+/// In a game's tree with perfect recall, a player has one number of sequence at two nodes exactly where the choices
+/// before them are the same.
 pub fn numbers_tell_choices()
     ensures { NumbersTellChoices }
 {}
@@ -61,7 +61,8 @@ pub fn sequences_name_choices()
     ensures { SequencesNameChoices }
 {}
 
-/// The own choices on a path are actions of the player's sets, and the number of the sequence is one of all.
+/// In a game's tree, the own choices on a path are actions of the player's sets, and the number of the sequence is one
+/// of all.
 pub fn each_sequence_is_in_range()
     ensures { EachSequenceIsInRange }
 {}
@@ -71,12 +72,13 @@ pub fn sequences_are_few()
     ensures { SequencesAreFew }
 {}
 
-/// The i-th of the first nodes is in set i, and is the one that a search for the first node of this set finds.
+/// In a game's tree, the i-th of the first nodes is in set i, and is the one that a search for the first node of this
+/// set finds.
 pub fn firsts_are_first()
     ensures { FirstsAreFirst }
 {}
 
-/// The nodes before a node tell the number of the sequence there.
+/// In a game's tree, the nodes before a node tell the number of the sequence there.
 pub fn numbers_are_known_on_the_way()
     ensures { NumbersAreKnownOnTheWay }
 {}

@@ -15,12 +15,14 @@ pub fn expected_are_fractions()
     ensures { ExpectedAreFractions }
 {}
 
-/// There is one weight for each leaf, a whole number, and it is unit times reach times player one's payoff.
+/// Where the tables are in lowest terms, each leaf has one weight, a whole number: unit times reach times player one's
+/// payoff.
 pub fn weights_are_whole()
     ensures { WeightsAreWhole }
 {}
 
-/// Node after node, the running unit and the running mass go from 1 and 0 to the game's; leaves alone change them.
+/// Where the tables are in lowest terms, the running unit and mass go from 1 and 0 to the game's, node after node;
+/// leaves alone change them.
 pub fn numbers_run()
     ensures { NumbersRun }
 {}

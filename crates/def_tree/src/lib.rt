@@ -74,7 +74,8 @@ pub fn leaves_each_once()
     ensures { LeavesEachOnce }
 {}
 
-/// A walk leaves a node after its last child, with all that is below it, and before it enters any other node.
+/// A walk through a tree leaves a node after its last child, with all that is below it, and before it enters any other
+/// node.
 pub fn leaves_after_last_child()
     ensures { LeavesAfterLastChild }
 {}
