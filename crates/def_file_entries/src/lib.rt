@@ -29,7 +29,8 @@ pub fn entries_make_whole_game()
     ensures { EntriesMakeWholeGame }
 {}
 
-/// What two small files stand for, and the faults of one more entry.
+/// Two small files stand for these nodes and tables, and one more entry has the fault of the first rule that it
+/// breaks, or none.
 pub fn rows()
     ensures { EntryRows }
 {}

@@ -8,7 +8,7 @@ pub fn file_fault_is_first()
     ensures { FileFaultIsFirst }
 {}
 
-/// With the first fault reading stops.
+/// Reading stops with a fault that is the first; so there is one first fault at most.
 pub fn first_is_file_fault()
     ensures { FirstIsFileFault }
 {}

@@ -3,7 +3,7 @@
 
 ghost use Rattle.def_file_form.specs.Laws.{AcceptedIsFile, FileIsAccepted, OneReading, StandsForWholeGame};
 
-/// A file has one reading at most.
+/// No bytes are a file with two prologues, or with two lists of entries.
 pub fn one_reading()
     ensures { OneReading }
 {}
@@ -13,12 +13,13 @@ pub fn accepted_is_file()
     ensures { AcceptedIsFile }
 {}
 
-/// A file with a reading without a fault is accepted.
+/// A file whose entries have no fault is accepted, as the game of its reading.
 pub fn file_is_accepted()
     ensures { FileIsAccepted }
 {}
 
-/// The game that a file stands for is whole: its sets and outcomes go with its tree, and its fractions are in lowest terms.
+/// The game that a file stands for is whole: its sets and outcomes go with its tree, and its fractions are in lowest
+/// terms, within the limit.
 pub fn stands_for_whole_game()
     ensures { StandsForWholeGame }
 {}

@@ -39,17 +39,17 @@ pub enum LexFault {
     Unclosed { at: usize },
 }
 
-/// The next token is what stands behind the white space, with the longest run where it is one.
+/// A token is the next exactly where it stands behind the white space, a run being longest.
 pub fn next_is_lexeme()
     ensures { NextIsLexeme }
 {}
 
-/// A syntax fault is a byte behind the white space that begins no token.
+/// A syntax fault is at a place exactly where the first byte behind the white space is there and begins no token.
 pub fn next_is_syntax()
     ensures { NextIsSyntax }
 {}
 
-/// An unclosed text is one whose every further quotation mark follows a backslash.
+/// A text is unclosed exactly where each further quotation mark, to the end, has a backslash right before it.
 pub fn next_is_unclosed()
     ensures { NextIsUnclosed }
 {}
@@ -59,7 +59,7 @@ pub fn next_byte_is_first()
     ensures { NextByteIsFirst }
 {}
 
-/// There is no next byte where only white space is left.
+/// There is no next byte exactly where only white space is left.
 pub fn no_byte_is_space()
     ensures { NoByteIsSpace }
 {}
@@ -84,7 +84,8 @@ pub fn one_division()
     ensures { OneDivision }
 {}
 
-/// A text's inside is the text with a backslash in front of each quotation mark.
+/// An inside stands for bytes exactly where their last one is no backslash, and the inside is the bytes with a
+/// backslash before each quotation mark.
 pub fn one_spelling()
     ensures { OneSpelling }
 {}

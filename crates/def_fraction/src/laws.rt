@@ -1,17 +1,17 @@
 //! What the definitions compute, in the words of arithmetic and of number formats.
 ghost use Rattle.def_fraction.specs.Laws.{GcdIsGreatest, LcmIsLeast, FractionIsReduced, ValueTellsFraction, OrderIsTotal, LiteralIsSpelled, LiteralIsJudged, TextIsCanonical, FractionIsReadBack};
 
-/// Euclid's algorithm gives the greatest common divisor.
+/// `gcd a b` divides both numbers, and each common divisor divides it.
 pub fn gcd_is_greatest()
     ensures { GcdIsGreatest }
 {}
 
-/// The least common multiple is one, and divides each other common multiple.
+/// Of numbers from 1 on, both divide `lcm a b`, and it divides each number that both divide.
 pub fn lcm_is_least()
     ensures { LcmIsLeast }
 {}
 
-/// The fraction of a numerator and a denominator is in lowest terms and has their value.
+/// The fraction of a numerator and a denominator from 1 on is in lowest terms and has their value.
 pub fn fraction_is_reduced()
     ensures { FractionIsReduced }
 {}
@@ -21,7 +21,8 @@ pub fn value_tells_fraction()
     ensures { ValueTellsFraction }
 {}
 
-/// Fractions in lowest terms are in a total order, by their values.
+/// `order_of` orders fractions in lowest terms by value: equal ones are one, it turns with the two, and less than less
+/// is less.
 pub fn order_is_total()
     ensures { OrderIsTotal }
 {}
@@ -31,17 +32,19 @@ pub fn literal_is_spelled()
     ensures { LiteralIsSpelled }
 {}
 
-/// What reading a literal gives says what the bytes are, and the other way round.
+/// Reading gives each fault exactly where the bytes have it, and a fraction exactly where it is the value of the
+/// literal that they are, within the limits.
 pub fn literal_is_judged()
     ensures { LiteralIsJudged }
 {}
 
-/// The text of a whole number has no byte too many.
+/// A whole number's text, up to 2^127 in size, is digits that write it without a leading 0, and `-` before them where
+/// it is negative.
 pub fn text_is_canonical()
     ensures { TextIsCanonical }
 {}
 
-/// What is written of a fraction is read as the same fraction.
+/// What is written of a fraction in lowest terms, within the limit, is read as the same fraction.
 pub fn fraction_is_read_back()
     ensures { FractionIsReadBack }
 {}

@@ -6,7 +6,7 @@ ghost use Rattle.def_fraction.specs.declared.fault.NumberFault.TheVariants.{Form
 ghost use Rattle.def_fraction.specs.Fraction.{whole_number};
 ghost use Rattle.def_fraction.specs.Reading.{read_as_literal, read_as_whole};
 
-/// Literals of each form, with and without a sign.
+/// `.50`, `5e-1`, `2/4` and their like are one half, and minus one half with `-`; others are ten, and zero.
 pub fn literals_with_values()
     ensures halves { map read_as_literal (codes ".50" ∷ codes "5e-1" ∷ codes "1/2" ∷ codes "+0.5"
         ∷ codes "00.500" ∷ codes "2/4" ∷ codes ".05E+1" ∷ codes "50.e-02" ∷ [])
@@ -21,7 +21,7 @@ pub fn literals_with_values()
         ≡ replicate 5 (Ok (whole_number (pos 0))) }
 {}
 
-/// Bytes that are no literal.
+/// No bytes at all, `1e`, `.`, `1/-2`, `1e100`, ` 1` and their like are no literal; `1/0` has the denominator 0.
 pub fn literals_that_are_none()
     ensures form { map read_as_literal (codes "" ∷ codes "1e" ∷ codes "." ∷ codes "+"
         ∷ codes "1/2/3" ∷ codes "1/-2" ∷ codes "1e100" ∷ codes "0x1"
@@ -31,7 +31,8 @@ pub fn literals_that_are_none()
         ≡ replicate 2 (Err ZeroDenominator) }
 {}
 
-/// Literals at both sides of the limits.
+/// Parts up to 2^127 - 1 may be written, and up to 2^62 in lowest terms; one more is out of range, and so are `0e-99`
+/// and `1e99`.
 pub fn literals_at_the_limits()
     ensures written_limit { read_as_literal (codes "170141183460469231731687303715884105727/170141183460469231731687303715884105727")
         ≡ Ok (whole_number (pos 1)) }
@@ -45,7 +46,7 @@ pub fn literals_at_the_limits()
         ≡ replicate 8 (Err Range) }
 {}
 
-/// Whole numbers.
+/// `0`, `007` and 2^62 are whole numbers; with a sign, a point or a bar bytes are none; 2^62 + 1 is out of range.
 pub fn whole_numbers()
     ensures values { map read_as_whole (codes "0" ∷ codes "007" ∷ codes "4611686018427387904" ∷ [])
         ≡ Ok 0 ∷ Ok 7 ∷ Ok 4611686018427387904 ∷ [] }

@@ -6,7 +6,7 @@ ghost use Rattle.def_game_jobs.specs.Jobs.{LaterPassesKeep, OnlyCutsChange, Pass
 ghost use Rattle.def_game_jobs.specs.Ranges.{JobsPartition, RangesHaveTheirJobs};
 ghost use Rattle.def_game_jobs.specs.Rows.{JobLimitRows, JobRows, SmallLimitRows};
 
-/// The jobs' leaves are all leaves, each once, in their order.
+/// In one tree, the jobs' leaves are all leaves, each once, in their order.
 pub fn each_leaf_in_one_job()
     ensures { EachLeafInOneJob }
 {}
@@ -16,12 +16,13 @@ pub fn jobs_are_few()
     ensures { JobsAreFew }
 {}
 
-/// The jobs are what 64 passes make of the whole tree.
+/// The jobs are what 64 passes, each within 4,096 jobs, make of the whole tree.
 pub fn jobs_come_of_passes()
     ensures { JobsComeOfPasses }
 {}
 
-/// A pass replaces each chance node's job by its subtrees in its place, where there are then at most so many jobs.
+/// In a pass a chance node's job gives way to its subtrees, in its place, where there are then at most `limit` jobs;
+/// each other job stays.
 pub fn passes_replace()
     ensures { PassesReplace }
 {}
@@ -41,27 +42,29 @@ pub fn later_passes_keep()
     ensures { LaterPassesKeep }
 {}
 
-/// The jobs' ranges are all leaves, each once.
+/// In one tree, the jobs' ranges, one behind the other, are all leaves, each once.
 pub fn jobs_partition()
     ensures { JobsPartition }
 {}
 
-/// The leaves at a job's range are the job's own.
+/// In one tree, the leaves at a job's range are the job's own.
 pub fn ranges_have_their_jobs()
     ensures { RangesHaveTheirJobs }
 {}
 
-/// The jobs of small games: which tops are cut, and what the 64 passes reach.
+/// Chance nodes at the top give way to their subtrees, and those below a player's node don't; 64 chance nodes one
+/// below the other are all cut, and of 65 the last isn't.
 pub fn job_rows()
     ensures { JobRows }
 {}
 
-/// The same limit in small, through all passes.
+/// Within 16 jobs exactly 16 are reached, a tree with a job too many stays whole, and a small tree behind one that is
+/// too large gives way.
 pub fn small_limit_rows()
     ensures { SmallLimitRows }
 {}
 
-/// The jobs of a chance node over 1,024 trees: exactly as many as the limit, and more trees than can be cut.
+/// Beside one leaf, a chance node over 4,095 leaves gives way, to 4,096 jobs in all, and one over 4,096 doesn't.
 pub fn job_limit_rows()
     ensures { JobLimitRows }
 {}

@@ -10,30 +10,34 @@ pub fn tables_are_fractions()
     ensures { TablesAreFractions }
 {}
 
-/// Weighing refuses exactly the first fault of the numbers, and else answers the unit, the weights and the mass.
+/// With tables in lowest terms, weighing refuses exactly the first fault of the numbers, and else answers the unit,
+/// the weights and the mass.
 pub fn weighs_exactly()
     ensures { WeighsExactly }
 {}
 
-/// Weighing first and building the sets then refuses with the game's first fault.
+/// Weighing, and then building the sets, refuses with the game's first fault, and both accept only a game without one.
 pub fn numbers_refused_with_the_first()
     ensures { NumbersRefusedWithTheFirst }
 {}
 
-/// What weighing answers is within the limits.
+/// With tables in lowest terms, the unit that weighing answers is at least 1, and unit, mass and each weight's size
+/// are at most 2^62.
 pub fn weights_fit()
     ensures { WeightsFit }
 {}
 
-/// The form that stands on what weighing and building the sets answer is the game's.
+/// The form that stands on what weighing and building the sets answer is the game's, with these sets and this mass.
 pub fn form_stands_on_answers()
     ensures { FormStandsOnAnswers }
 {}
 
+/// A fault of the numbers refuses a file; a lack of recall doesn't refuse weighing, and building the sets finds it.
 pub fn file_rows()
     ensures { FileRows }
 {}
 
+/// Five small games have so many nodes, leaves, sets and sequences, and their forms have these leaves.
 pub fn head_rows()
     ensures { HeadRows }
 {}

@@ -4,26 +4,31 @@
 ghost use Rattle.def_game_scale.specs.Laws.{ExpectedAreFractions, NumbersRun, UnitIsLeast, WeightsAreWhole};
 ghost use Rattle.def_game_scale.specs.Rows.{ScaleRows};
 
-/// Every weight is whole, and the unit is the least number that makes them so.
+/// The unit of fractions in lowest terms is the least number from 1 on that makes each of them whole, and divides each
+/// other such number.
 pub fn unit_is_least()
     ensures { UnitIsLeast }
 {}
 
-/// What leaves are expected to pay is in lowest terms.
+/// Where the tables' fractions are in lowest terms, reach times player one's payoff is so at each leaf.
 pub fn expected_are_fractions()
     ensures { ExpectedAreFractions }
 {}
 
-/// Unit times reach times payoff is each leaf's weight.
+/// Where the tables are in lowest terms, each leaf has one weight, a whole number: unit times reach times player one's
+/// payoff.
 pub fn weights_are_whole()
     ensures { WeightsAreWhole }
 {}
 
-/// The running unit and the running mass end at those of the game.
+/// Where the tables are in lowest terms, the running unit and mass go from 1 and 0 to the game's, node after node;
+/// leaves alone change them.
 pub fn numbers_run()
     ensures { NumbersRun }
 {}
 
+/// A choice of two tosses has unit 2 and mass 2, one with payoffs on the way unit 2 and mass 3, and chance below
+/// chance unit 48 and mass 96, each with these weights.
 pub fn scale_rows()
     ensures { ScaleRows }
 {}

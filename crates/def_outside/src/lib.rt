@@ -5,7 +5,7 @@
 ghost use Rattle.def_outside.specs.Calls.{CallsAreRead};
 ghost use Rattle.def_outside.specs.Cause.{CountsOnlyRise};
 
-/// What rose in a part of a call rose in the call.
+/// A count that rose in one part of a call, and didn't fall in the part before or behind, rose in the whole call.
 pub fn counts_only_rise()
     ensures { CountsOnlyRise }
 {}

@@ -34,37 +34,37 @@ pub struct Node {
     pub children: u32,
 }
 
-/// The nodes of any list are those of its trees.
+/// The trees that a list of nodes gives have exactly these nodes in prefix order.
 pub fn prefix_of_forest()
     ensures { PrefixOfForest }
 {}
 
-/// Trees are told by their nodes in prefix order.
+/// Trees whose nodes have as many children as they say are told by their nodes in prefix order.
 pub fn forest_of_prefix()
     ensures { ForestOfPrefix }
 {}
 
-/// Exactly the lists that are a whole tree give one tree.
+/// A list of nodes is a whole tree exactly where it gives one tree, whose nodes have as many children as they say.
 pub fn whole_iff_tree()
     ensures { WholeIffTree }
 {}
 
-/// All nodes of one set have equally many children.
+/// By the rules of sets, all nodes of one set have equally many children.
 pub fn sets_agree_on_size()
     ensures { SetsAgreeOnSize }
 {}
 
-/// Each number of a kind's sets is that of a node.
+/// By the rules of sets, each number from 1 to the count of a kind's sets is that of some node's set.
 pub fn each_set_appears()
     ensures { EachSetAppears }
 {}
 
-/// Each number of an outcome is that of a node.
+/// Where outcomes are numbered by first appearance, each number from 1 to their count is that of some node's.
 pub fn each_outcome_appears()
     ensures { EachOutcomeAppears }
 {}
 
-/// A walk enters each node once, in prefix order.
+/// A walk enters each node once, in prefix order, under its number.
 pub fn enters_in_prefix_order()
     ensures { EntersInPrefixOrder }
 {}
@@ -74,12 +74,14 @@ pub fn leaves_each_once()
     ensures { LeavesEachOnce }
 {}
 
-/// A walk leaves a node after its last child, with all that is below it, and before it enters any other node.
+/// A walk through a tree leaves a node after its last child, with all that is below it, and before it enters any other
+/// node.
 pub fn leaves_after_last_child()
     ensures { LeavesAfterLastChild }
 {}
 
-/// The rules of sets at their edges: how many children a node may have, and which sets may come.
+/// A first node has 1 to 1,024 children; the next is in its set with as many, in the next set, or in another kind's
+/// first; a leaf has neither set nor children; a tree has up to 1,048,576 nodes.
 pub fn rule_rows()
     ensures { RuleRows }
 {}
