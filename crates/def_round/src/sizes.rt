@@ -34,7 +34,8 @@ pub fn regrets_stay_small()
     ensures { RegretsStaySmall }
 {}
 
-/// Regrets of at most 2^98, of a set of at most 1,024 actions, times all units are together below 2^126.
+/// With regrets of at most 2^98, all units times a set's positive regrets are below 2^126, where it has at most 1,024
+/// actions.
 pub fn small_regrets_deal_small_products()
     ensures { SmallRegretsDealSmallProducts }
 {}
