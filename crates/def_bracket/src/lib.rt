@@ -8,7 +8,8 @@ ghost use Rattle.std.specs.Prelude.{◌≡◌, [], ◌∷◌, pos, negsuc};
 ghost use Rattle.def_bracket.specs.Bracket.{evaluated_rounds, trace};
 ghost use Rattle.def_bracket.specs.Laws.{EndsAreTheEarliestBest, EndsNeverWorsen, TraceHasALineForEach, TraceLooksBack, TraceNeverWidens, RoundsAreEvaluated, BracketProductsAreSmall};
 
-/// The lower end is the earliest evaluation with the greatest floor, the upper one the earliest with the least ceiling.
+/// Where no divisor is 0, the lower end is the earliest evaluation with the greatest floor, the upper one the earliest
+/// with the least ceiling.
 pub fn ends_are_the_earliest_best()
     ensures { EndsAreTheEarliestBest }
 {}
@@ -18,7 +19,7 @@ pub fn trace_has_a_line_for_each()
     ensures { TraceHasALineForEach }
 {}
 
-/// The ends of more evaluations are no worse than those of the first of them.
+/// Where no divisor is 0, the ends of more evaluations are no worse than those of the first of them.
 pub fn ends_never_worsen()
     ensures { EndsNeverWorsen }
 {}

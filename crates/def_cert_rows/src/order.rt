@@ -64,7 +64,7 @@ pub fn order_of_the_replies()
         ≡ Err (ReplyNotTight One 3) }
 {}
 
-/// Rows: both ends, and the trace last.
+/// Rows: the lower end comes before the upper one, both before the trace, whose lines come in their order.
 #[tactic(auto, unfolding(def_fraction::specs::Divisors::gcd, def_fraction::specs::Fraction::fraction_of))]
 pub fn order_of_the_rest()
     ensures total_two_and_total_one { hidden_verdict (reply_two (negative 65) ∷ reply_one (pos 9) ∷ [])

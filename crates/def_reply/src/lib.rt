@@ -19,12 +19,14 @@ pub fn replies_need_own_sums()
     ensures { RepliesNeedOwnSums }
 {}
 
-/// Tight values and choices, whoever wrote them, bound what every plan gains; the plan of the choices gains just that.
+/// Tight values and choices, whoever wrote them, bound what a plan gains by its root times their total; the plan of the
+/// choices gains just the total.
 pub fn tight_replies_are_optimal()
     ensures { TightRepliesAreOptimal }
 {}
 
-/// The best reply's total bounds what every plan gains, and the plan of its choices gains just that.
+/// The best reply's total times a plan's root bounds what the plan gains, and the plan of its choices gains just the
+/// total.
 pub fn best_replies_are_optimal()
     ensures { BestRepliesAreOptimal }
 {}

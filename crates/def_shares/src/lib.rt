@@ -6,7 +6,7 @@ ghost use Rattle.std.specs.Prelude.{◌≡◌, [], ◌∷◌};
 ghost use Rattle.def_shares.specs.Laws.{NoWeightNoShare, SharesAreDifferences, SharesAreInProportion, SharesBeforeAddUp, SharesDealAll};
 ghost use Rattle.def_shares.specs.Shares.{shares};
 
-/// There is a share for each weight, and they add up to n.
+/// With at least one weight there is a share for each, and they add up to n.
 pub fn shares_deal_all()
     ensures { SharesDealAll }
 {}
