@@ -2,27 +2,27 @@
 
 ghost use Rattle.def_bracket.specs.OfferLaws.{FairOffersHaveBounds, FirstOfferMakesEnds, KeptEndsAreBounds, OffersAreTraced, OffersKeepTheEnds};
 
-/// The trace of a board.
+/// A board's trace is that of its offers' evaluations.
 pub fn offers_are_traced()
     ensures { OffersAreTraced }
 {}
 
-/// The ends of a board, with their plans and replies.
+/// A board keeps the ends of its offers' evaluations, each with the plan and the reply of its own offer.
 pub fn offers_keep_the_ends()
     ensures { OffersKeepTheEnds }
 {}
 
-/// When a board has ends.
+/// Before the first offer a board has no end, and after it both.
 pub fn first_offer_makes_ends()
     ensures { FirstOfferMakesEnds }
 {}
 
-/// What a fair offer proves of its plans.
+/// The totals in a fair offer are the attained floor of player one's plan and the attained ceiling of player two's.
 pub fn fair_offers_have_bounds()
     ensures { FairOffersHaveBounds }
 {}
 
-/// What the ends of a board prove of their plans.
+/// At the ends that are kept of fair offers the totals are the attained floor and ceiling of the plans there.
 pub fn kept_ends_are_bounds()
     ensures { KeptEndsAreBounds }
 {}

@@ -4,12 +4,14 @@
 
 ghost use Rattle.def_cert_accepted.specs.Laws.{TheCertificateOfARunFits, TheCertificateOfARunIsAccepted};
 
-/// The verdict on the certificate of a run.
+/// With the game's head a run's certificate is accepted: without a round its head alone, else with the ends of its
+/// evaluations in payoff units.
 pub fn the_certificate_of_a_run_is_accepted()
     ensures { TheCertificateOfARunIsAccepted }
 {}
 
-/// The ranges of its numbers.
+/// Where the head is the game's and within its ranges, and no set has too many actions, a run's certificate is within
+/// its ranges.
 pub fn the_certificate_of_a_run_fits()
     ensures { TheCertificateOfARunFits }
 {}

@@ -5,22 +5,23 @@
 ghost use Rattle.def_cert_ranges.specs.Laws.{HeadAloneWithoutRounds, PlanSumsAreSmall, TraceProductsAreSmall};
 ghost use Rattle.def_cert_ranges.specs.Laws.{WorthsAreSmall};
 
-/// The head alone, and no round.
+/// An accepted certificate within its ranges shows its head alone exactly where no round was asked.
 pub fn head_alone_without_rounds()
     ensures { HeadAloneWithoutRounds }
 {}
 
-/// Comparisons of trace lines.
+/// Within the ranges each end of a trace line times the round of another line's end is at most 2^116.
 pub fn trace_products_are_small()
     ensures { TraceProductsAreSmall }
 {}
 
-/// Sums of printed weights.
+/// Within the ranges a set's numbers are together at most 2^46, and the unit times a plan's root is at most 2^98.
 pub fn plan_sums_are_small()
     ensures { PlanSumsAreSmall }
 {}
 
-/// Worths with printed values.
+/// Within the ranges a plan's products with the weights are together at most 2^98, a reply's values 2^120, and each
+/// worth 2^121.
 pub fn worths_are_small()
     ensures { WorthsAreSmall }
 {}

@@ -10,7 +10,7 @@ ghost use Rattle.def_cert_rows.specs.Changes.{high_end, line, low_end, negative,
 ghost use Rattle.def_cert_rows.specs.Changes.{reply_two, traced, value_one, value_two, weights_one, weights_two};
 ghost use Rattle.def_cert_rows.specs.Hidden.{hidden_verdict};
 
-/// Plans: the root, then the first set of another size, then the first that doesn't add up.
+/// Rows: plans: the root, then the first set of another size, then the first that doesn't add up.
 #[tactic(auto, unfolding(def_fraction::specs::Divisors::gcd, def_fraction::specs::Fraction::fraction_of))]
 pub fn hidden_plans()
     ensures unchanged { hidden_verdict [] ≡ Ok (bracket (over (negative 11) 15) (over (pos 2) 15)) }
@@ -26,7 +26,7 @@ pub fn hidden_plans()
     ensures sum_of_two { hidden_verdict (weights_two 3 (2 ∷ 2 ∷ []) ∷ []) ≡ Err (NotAPlan Two 3) }
 {}
 
-/// Replies: values, then the choice, for both players.
+/// Rows: replies: values, then the choice, for both players.
 #[tactic(auto, unfolding(def_fraction::specs::Divisors::gcd, def_fraction::specs::Fraction::fraction_of))]
 pub fn hidden_replies()
     ensures low_value_of_one { hidden_verdict (value_one 1 (pos 7) 3 ∷ []) ≡ Err (ValueTooGood One 1 3) }
@@ -42,7 +42,7 @@ pub fn hidden_replies()
     ensures far_choice_of_two { hidden_verdict (value_two 1 (negative 66) 4 ∷ []) ≡ Err (ReplyNotTight Two 1) }
 {}
 
-/// Totals: the worth of the empty sequence, the last traced end, and the printed bound in lowest terms.
+/// Rows: totals: the worth of the empty sequence, the last traced end, and the printed bound in lowest terms.
 #[tactic(auto, unfolding(def_fraction::specs::Divisors::gcd, def_fraction::specs::Fraction::fraction_of))]
 pub fn hidden_totals()
     ensures total_two { hidden_verdict (reply_two (negative 65) ∷ []) ≡ Err (TotalDiffers Lower) }
@@ -65,7 +65,7 @@ pub fn hidden_totals()
     ensures high_not_lowest { hidden_verdict (high_end (pos 8) 60 ∷ []) ≡ Err (TotalDiffers Upper) }
 {}
 
-/// The trace: each line beside the one before it, at both ends, by its line in the text.
+/// Rows: the trace: each line beside the one before it, at both ends, by its line in the text.
 #[tactic(auto, unfolding(def_fraction::specs::Divisors::gcd, def_fraction::specs::Fraction::fraction_of))]
 pub fn hidden_traces()
     ensures lower_end { hidden_verdict (line 1 (traced 1 1 (negative 25) 1 (pos 7)) ∷ []) ≡ Err (TraceWidens 9) }

@@ -13,7 +13,7 @@ ghost use Rattle.def_cert_rows.specs.Changes.{reply_one, reply_two, traced, valu
 ghost use Rattle.def_cert_rows.specs.Changes.{weights_two};
 ghost use Rattle.def_cert_rows.specs.Hidden.{hidden_bounds, hidden_game, hidden_head, hidden_verdict};
 
-/// The head, then player one's plan, then player two's: of each the root, the sizes, the sums.
+/// Rows: the head, then player one's plan, then player two's: of each the root, the sizes, the sums.
 pub fn order_of_the_plans()
     ensures head_and_root_one { verdict hidden_game (with_bounds (record hidden_head { mass = 93 }) (changed hidden_bounds (plan_one 31 ∷ [])))
         ≡ Err (HeadDiffers 6) }
@@ -41,7 +41,7 @@ pub fn order_of_the_plans()
         ≡ Err (NotAPlan One 0) }
 {}
 
-/// Player two's sets, at each the values and then the choice, then the lower end; the same for player one.
+/// Rows: player two's sets, at each the values and then the choice, then the lower end; the same for player one.
 #[tactic(auto, unfolding(def_fraction::specs::Divisors::gcd, def_fraction::specs::Fraction::fraction_of))]
 pub fn order_of_the_replies()
     ensures value_two_and_choice_two { hidden_verdict (value_two 1 (negative 65) 9 ∷ [])
@@ -64,7 +64,7 @@ pub fn order_of_the_replies()
         ≡ Err (ReplyNotTight One 3) }
 {}
 
-/// Both ends, and the trace last.
+/// Rows: the lower end comes before the upper one, both before the trace, whose lines come in their order.
 #[tactic(auto, unfolding(def_fraction::specs::Divisors::gcd, def_fraction::specs::Fraction::fraction_of))]
 pub fn order_of_the_rest()
     ensures total_two_and_total_one { hidden_verdict (reply_two (negative 65) ∷ reply_one (pos 9) ∷ [])

@@ -15,7 +15,7 @@ ghost use Rattle.def_cert_rows.specs.OneMover.{one_mover_verdict};
 ghost use Rattle.def_cert_rows.specs.Pennies.{scale_one_bounds, scale_one_head, head_verdict, pennies_game};
 ghost use Rattle.def_cert_rows.specs.Pennies.{pennies_head, pennies_verdict};
 
-/// Matching pennies, one line below the head changed.
+/// Rows: matching pennies, one line below the head changed: values, choices, totals, weights and a root.
 #[tactic(auto, unfolding(def_fraction::specs::Divisors::gcd, def_fraction::specs::Fraction::fraction_of))]
 pub fn pennies_lines()
     ensures unchanged { pennies_verdict [] ≡ Ok (bracket (over (pos 0) 1) (over (pos 0) 1)) }
@@ -31,7 +31,7 @@ pub fn pennies_lines()
     ensures root { pennies_verdict (plan_one 1048577 ∷ []) ≡ Err (NotAPlan One 0) }
 {}
 
-/// Matching pennies, the head changed, and with no bounds.
+/// Rows: matching pennies, one line of the head changed or several, of which the first decides; and with no bounds.
 pub fn pennies_heads()
     ensures nodes { head_verdict (record pennies_head { nodes = 8 }) ≡ Err (HeadDiffers 2) }
     ensures leaves { head_verdict (record pennies_head { leaves = 5 }) ≡ Err (HeadDiffers 2) }
@@ -54,7 +54,7 @@ pub fn pennies_heads()
         ≡ Err (HeadDiffers 6) }
 {}
 
-/// Kuhn poker, whose unit is 6.
+/// Rows: Kuhn poker, whose unit is 6: accepted from -5/12 to 1/2, and refused for a value, a choice and weights.
 #[tactic(auto, unfolding(def_fraction::specs::Divisors::gcd, def_fraction::specs::Fraction::fraction_of))]
 pub fn kuhn_verdicts()
     ensures unchanged { kuhn_verdict [] ≡ Ok (bracket (over (negative 5) 12) (over (pos 1) 2)) }
@@ -63,7 +63,7 @@ pub fn kuhn_verdicts()
     ensures not_dealt { kuhn_verdict (weights_one 1 (524288 ∷ 524289 ∷ []) ∷ []) ≡ Err (NotAPlan One 1) }
 {}
 
-/// Two rounds of matching pennies with scale 1, and of a game in which player two has no set.
+/// Rows: two rounds of matching pennies with scale 1, and of a game in which player two has no set.
 #[tactic(auto, unfolding(def_fraction::specs::Divisors::gcd, def_fraction::specs::Fraction::fraction_of))]
 pub fn verdicts_on_two_rounds()
     ensures ends_of_two_rounds { verdict pennies_game (with_bounds scale_one_head scale_one_bounds)

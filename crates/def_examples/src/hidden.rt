@@ -13,12 +13,12 @@ ghost use Rattle.def_examples.specs.Hidden.{hidden};
 ghost use Rattle.def_examples.specs.HiddenRounds.{after_one, after_two, after_three, after_four};
 ghost use Rattle.def_examples.specs.HiddenTree.{HiddenRows};
 
-/// The game as a tree: its unit, its mass and its sequence form.
+/// Rows: the game as a tree: its unit 3, its mass 94 and its sequence form.
 pub fn hidden_rows()
     ensures { HiddenRows }
 {}
 
-/// Round 1: no regret yet, so each action is played evenly.
+/// Rows: round 1: no regret yet, so each action is played evenly.
 pub fn round_one()
     ensures play_of_one { play_of hidden.sets_one (opening hidden).regrets_one
         ≡ 0 ∷ 21845 ∷ 21845 ∷ 21846 ∷ 32768 ∷ 32768 ∷ 32768 ∷ 32768 ∷ [] }
@@ -33,7 +33,7 @@ pub fn round_one()
     ensures leaves { next_round hidden 10 (opening hidden) ≡ after_one }
 {}
 
-/// Round 2: two unequal positive regrets at the first set of player one.
+/// Rows: round 2: two unequal positive regrets at the first set of player one.
 pub fn round_two()
     ensures play_of_one { play_of hidden.sets_one after_one.regrets_one
         ≡ 0 ∷ 50641 ∷ 14895 ∷ 0 ∷ 0 ∷ 65536 ∷ 0 ∷ 65536 ∷ [] }
@@ -46,7 +46,7 @@ pub fn round_two()
     ensures leaves { next_round hidden 10 after_one ≡ after_two }
 {}
 
-/// Round 3: two unequal positive regrets, of others than before.
+/// Rows: round 3: two unequal positive regrets, of others than before.
 pub fn round_three()
     ensures play_of_one { play_of hidden.sets_one after_two.regrets_one
         ≡ 0 ∷ 16693 ∷ 0 ∷ 48843 ∷ 0 ∷ 65536 ∷ 0 ∷ 65536 ∷ [] }
@@ -59,7 +59,7 @@ pub fn round_three()
     ensures leaves { next_round hidden 10 after_two ≡ after_three }
 {}
 
-/// Round 4: two unequal positive regrets at the first set of player two.
+/// Rows: round 4: two unequal positive regrets at the first set of player two.
 pub fn round_four()
     ensures play_of_one { play_of hidden.sets_one after_three.regrets_one
         ≡ 0 ∷ 0 ∷ 0 ∷ 65536 ∷ 0 ∷ 65536 ∷ 0 ∷ 65536 ∷ [] }
@@ -72,12 +72,12 @@ pub fn round_four()
     ensures leaves { next_round hidden 10 after_three ≡ after_four }
 {}
 
-/// Four rounds from the opening.
+/// Row: four rounds from the opening leave what round 4 leaves.
 pub fn four_rounds()
     ensures { rounds hidden 10 4 ≡ after_four }
 {}
 
-/// The replies to the sums after round 1.
+/// Rows: the replies of both players to the sums after round 1, and their totals.
 pub fn replies_one()
     ensures values_of_two { values_of (reply_to hidden Two after_one.sum_one) ≡ negsuc 25 ∷ negsuc 8 ∷ negsuc 11 ∷ [] }
     ensures choices_of_two { choices_of (reply_to hidden Two after_one.sum_one) ≡ 3 ∷ 2 ∷ 1 ∷ [] }
@@ -87,7 +87,7 @@ pub fn replies_one()
     ensures ceiling { total_against hidden One after_one.sum_two ≡ pos 7 }
 {}
 
-/// The replies to the sums after round 2.
+/// Rows: the replies of both players to the sums after round 2, and their totals.
 pub fn replies_two()
     ensures values_of_two { values_of (reply_to hidden Two after_two.sum_one) ≡ negsuc 87 ∷ negsuc 29 ∷ negsuc 29 ∷ [] }
     ensures choices_of_two { choices_of (reply_to hidden Two after_two.sum_one) ≡ 3 ∷ 2 ∷ 1 ∷ [] }
@@ -97,7 +97,7 @@ pub fn replies_two()
     ensures ceiling { total_against hidden One after_two.sum_two ≡ pos 8 }
 {}
 
-/// The replies to the sums after round 3.
+/// Rows: the replies of both players to the sums after round 3, and their totals.
 pub fn replies_three()
     ensures values_of_two { values_of (reply_to hidden Two after_three.sum_one)
         ≡ negsuc 65 ∷ negsuc 35 ∷ negsuc 29 ∷ [] }
@@ -108,7 +108,7 @@ pub fn replies_three()
     ensures ceiling { total_against hidden One after_three.sum_two ≡ pos 48 }
 {}
 
-/// The replies to the sums after round 4.
+/// Rows: the replies of both players to the sums after round 4, and their totals.
 pub fn replies_four()
     ensures values_of_two { values_of (reply_to hidden Two after_four.sum_one)
         ≡ negsuc 175 ∷ negsuc 35 ∷ negsuc 29 ∷ [] }
@@ -119,7 +119,7 @@ pub fn replies_four()
     ensures ceiling { total_against hidden One after_four.sum_two ≡ pos 28 }
 {}
 
-/// The traces of four rounds, by how many rounds stand between evaluations.
+/// Rows: the traces of four rounds, evaluated each round, each second, each third, and only at the end.
 pub fn traces()
     ensures each { trace (evaluations hidden 10 1 4)
         ≡ record { round = 1; low_round = 1; low = negsuc 25; high_round = 1; high = pos 7 }

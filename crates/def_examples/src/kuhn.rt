@@ -15,17 +15,17 @@ ghost use Rattle.def_examples.specs.Kuhn.{kuhn, even_one, even_two};
 ghost use Rattle.def_examples.specs.KuhnTree.{KuhnRows};
 ghost use Rattle.def_examples.specs.KuhnLeaves.{written_leaves};
 
-/// The game: five leaves for each of six deals.
+/// Row: the form has the leaves that are written out, five for each of six deals.
 pub fn leaves_of_kuhn_poker()
     ensures { kuhn.leaves ≡ written_leaves }
 {}
 
-/// Kuhn poker as a tree: its first leaves, its unit and mass, and its sequence form.
+/// Rows: Kuhn poker as a tree: its first three leaves, its unit 6, its mass 42 and its sequence form.
 pub fn kuhn_rows()
     ensures { KuhnRows }
 {}
 
-/// Without regrets each action is played by half.
+/// Rows: without regrets each action of Kuhn poker is played by half.
 pub fn first_plays()
     ensures play_of_one { play_of kuhn.sets_one (opening kuhn).regrets_one
         ≡ 0 ∷ 32768 ∷ 32768 ∷ 32768 ∷ 32768 ∷ 32768 ∷ 32768 ∷ 32768 ∷ 32768 ∷ 32768 ∷ 32768 ∷ 32768 ∷ 32768 ∷ [] }
@@ -33,13 +33,13 @@ pub fn first_plays()
         ≡ 0 ∷ 32768 ∷ 32768 ∷ 32768 ∷ 32768 ∷ 32768 ∷ 32768 ∷ 32768 ∷ 32768 ∷ 32768 ∷ 32768 ∷ 32768 ∷ 32768 ∷ [] }
 {}
 
-/// So the plans of the first round, which are all of the sums after it, are the even ones.
+/// Rows: the plans of the first round, which are all of the sums after it, are the even ones.
 pub fn first_plans()
     ensures sum_one { (rounds kuhn 1048576 1).sum_one ≡ even_one }
     ensures sum_two { (rounds kuhn 1048576 1).sum_two ≡ even_two }
 {}
 
-/// What each set is worth in the first round.
+/// Rows: what each set of both players is worth in the first round.
 pub fn first_values()
     ensures values_of_one { let play = play_of kuhn.sets_one (opening kuhn).regrets_one in
         round_values (own_sum One kuhn.leaves even_two) play kuhn.sets_one
@@ -49,7 +49,7 @@ pub fn first_values()
         ≡ pos 262144 ∷ negsuc 524287 ∷ pos 1310720 ∷ pos 524288 ∷ negsuc 786431 ∷ negsuc 1572863 ∷ [] }
 {}
 
-/// The regrets after the first round.
+/// Rows: both players' regrets after the first round.
 pub fn first_regrets()
     ensures regrets_of_one { (rounds kuhn 1048576 1).regrets_one
         ≡ pos 0 ∷ negsuc 786431 ∷ pos 786432 ∷ pos 524288 ∷ negsuc 524287 ∷ negsuc 786431 ∷ pos 786432
@@ -59,7 +59,7 @@ pub fn first_regrets()
         ∷ negsuc 1572863 ∷ pos 1572864 ∷ negsuc 262143 ∷ pos 262144 ∷ pos 524288 ∷ negsuc 524287 ∷ [] }
 {}
 
-/// The bracket, over the unit 6 times the root: from -5/12 to 1/2.
+/// Rows: after one round the ends, over the unit 6 times the root, are -5/12 and 1/2.
 pub fn first_bracket()
     ensures low { let sums = leaf_sum Two kuhn.leaves (rounds kuhn 1048576 1).sum_one in
         pos 12 *ℤ total sums kuhn.sets_two (best_reply Two sums kuhn.sets_two) ≡ negsuc 4 *ℤ pos (6 * 1048576) }
@@ -67,7 +67,7 @@ pub fn first_bracket()
         pos 2 *ℤ total sums kuhn.sets_one (best_reply One sums kuhn.sets_one) ≡ pos 1 *ℤ pos (6 * 1048576) }
 {}
 
-/// Replies to even plans of Kuhn poker, whose fifth set of player one has two best actions.
+/// Rows: the mass, and replies to even plans of Kuhn poker, whose fifth set of player one has two best actions.
 pub fn replies_of_kuhn_poker()
     ensures mass { mass_of kuhn.leaves ≡ 42 }
     ensures plan_one { bad_set kuhn.sets_one 1048576 even_one ≡ None }
@@ -86,13 +86,13 @@ pub fn replies_of_kuhn_poker()
         total sums kuhn.sets_one (best_reply One sums kuhn.sets_one) ≡ pos 3145728 }
 {}
 
-/// What even play is sure of in Kuhn poker, in units of one sixth times its root.
+/// Rows: a floor and a ceiling of even play in Kuhn poker, in units of one sixth times its root.
 pub fn bounds_of_kuhn_poker()
     ensures floor { IsFloor kuhn even_one (negsuc 2621439) }
     ensures ceiling { IsCeiling kuhn even_two (pos 3145728) }
 {}
 
-/// Kuhn poker after one round: over the unit 6 times the root, from -5/12 to 1/2.
+/// Row: Kuhn poker's trace after one round: over the unit 6 times the root, from -5/12 to 1/2.
 pub fn trace_of_kuhn_poker()
     ensures { trace (evaluations kuhn 1048576 1 1)
         ≡ record { round = 1; low_round = 1; low = negsuc 2621439; high_round = 1; high = pos 3145728 } ∷ [] }

@@ -7,7 +7,8 @@ pub mod kuhn;
 
 ghost use Rattle.def_examples.specs.Small.{SmallRows};
 
-/// The smallest games as trees, and their sequence forms.
+/// Rows: the smallest games as trees: the forms of matching pennies and of one mover, the sets of three actions, units
+/// and masses.
 pub fn small_rows()
     ensures { SmallRows }
 {}

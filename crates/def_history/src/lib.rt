@@ -7,22 +7,23 @@ ghost use Rattle.def_history.specs.Packets.{PacketsBringAmounts, StripesHoldThei
 ghost use Rattle.def_history.specs.Worked.{RunsToTheEnd, TwoJobsHaveThreeLeaves};
 ghost use Rattle.def_history.specs.Laws.{CountsEachRightOnce, EndsComplete, EndsWithLeafSums, EndsWithPlainSums, GivesUpByAdding, HoldsOnlyRights, HoldsOrGivesUp, JobsAddUpToLeaves, KeepsBagLegal, KeepsHistoriesLegal, PlacesEachRowOnce, ReplaysToPlainSum};
 
-/// Every history is legal, whatever steps were taken: each job stands in it at most once.
+/// Whatever steps were taken, every history is legal: each job stands in it at most once, and nothing else does.
 pub fn histories_are_legal()
     ensures { KeepsHistoriesLegal }
 {}
 
-/// The bag never has a job twice.
+/// Whatever steps were taken, the bag has each job at most once, and nothing else.
 pub fn bag_is_legal()
     ensures { KeepsBagLegal }
 {}
 
-/// The equation that every step keeps.
+/// For each job and stripe, the times in the bag, the rights that passes hold, and the times in the history are
+/// together one.
 pub fn each_right_counts_once()
     ensures { CountsEachRightOnce }
 {}
 
-/// Each right is held by the bag, by one pass, or given up.
+/// Each right is held by the bag alone, by one pass alone, or given up.
 pub fn each_right_has_one_holder()
     ensures { HoldsOrGivesUp }
 {}
@@ -32,7 +33,7 @@ pub fn a_right_is_given_up_by_adding()
     ensures { GivesUpByAdding }
 {}
 
-/// A pass holds no right of a number that names no job or no stripe.
+/// Whatever steps were taken, each right that a pass holds names a job and a stripe.
 pub fn passes_hold_rights_of_jobs_and_stripes()
     ensures { HoldsOnlyRights }
 {}
@@ -42,22 +43,23 @@ pub fn histories_end_complete()
     ensures { EndsComplete }
 {}
 
-/// Who sees one lock's value and the rights that a pass holds takes a step of the core, whatever the rest of the state is.
+/// Who sees one lock's value and a pass's rights takes a step of the core, whatever the rest of the state is.
 pub fn local_steps_are_steps()
     ensures { LocalStepsAreSteps }
 {}
 
-/// Rights may be kept in any order.
+/// Two lists have the same rights in some order exactly where each right is in both equally often; a job's rights are
+/// one for each stripe.
 pub fn counts_tell_rights()
     ensures { CountsTellRights }
 {}
 
-/// A stripe's totals stay within the sizes of all jobs' amounts, whichever jobs it has.
+/// At each row a legal history leaves at most the sizes of all jobs' amounts together, whichever jobs it has.
 pub fn legal_replays_are_small()
     ensures { LegalReplaysAreSmall }
 {}
 
-/// The order of the additions changes nothing.
+/// A legal and complete history, in whatever order, replays to the plain sum over all jobs.
 pub fn complete_histories_replay_to_plain_sums()
     ensures { ReplaysToPlainSum }
 {}
@@ -67,37 +69,39 @@ pub fn rows_end_as_plain_sums()
     ensures { EndsWithPlainSums }
 {}
 
-/// Rows are dealt to the stripes in turn.
+/// Each row lies at its place of its stripe and nowhere else.
 pub fn each_row_has_one_place()
     ensures { PlacesEachRowOnce }
 {}
 
-/// Which places of a stripe have a row.
+/// Exactly the places of a stripe below its count of rows have a row.
 pub fn stripes_hold_their_rows()
     ensures { StripesHoldTheirRows }
 {}
 
-/// A packet is enough of a job's amounts.
+/// A job's packet brings its amount to each row.
 pub fn packets_bring_amounts()
     ensures { PacketsBringAmounts }
 {}
 
-/// The sum over the jobs and the sum over their leaves are one.
+/// Where the jobs' leaves are all leaves, each once, the jobs' amounts at a row add up to the plain sum over all
+/// leaves.
 pub fn jobs_add_up_to_leaves()
     ensures { JobsAddUpToLeaves }
 {}
 
-/// With the bag empty and no right held, each row's replay is the plain sum over all leaves.
+/// Where the jobs' leaves are all leaves, each once, each row's replay is the plain sum over all leaves, with the bag
+/// empty and no right held.
 pub fn rows_end_as_leaf_sums()
     ensures { EndsWithLeafSums }
 {}
 
-/// A worked run: two jobs, one pass, two stripes.
+/// Row: steps of two jobs, one pass and two stripes lead from an opening to both jobs in both histories.
 pub fn two_jobs_run_to_the_end()
     ensures { RunsToTheEnd }
 {}
 
-/// Worked row: a job of two leaves and one of one leaf have all three leaves, each once.
+/// Row: a job of two leaves and one of one leaf have all three leaves, each once.
 pub fn two_jobs_have_three_leaves()
     ensures { TwoJobsHaveThreeLeaves }
 {}

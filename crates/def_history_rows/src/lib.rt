@@ -10,7 +10,7 @@ ghost use Rattle.def_history_rows.specs.JobRows.{leaf_amount};
 ghost use Rattle.def_history_rows.specs.JobPackets.{TouchedRowsAreExact, TouchedRowsMakePackets, packet_of};
 ghost use Rattle.def_history_rows.specs.Laws.{AmountsAreSmall, JobsHaveTheirLeafSums, ReplaysEndAsRows, RowsSumOverLeaves};
 
-/// The plain sums over all leaves are the leaf sums of both players.
+/// At each row the plain sum over all leaves is the leaf sum of the row's sequence.
 pub fn rows_sum_over_leaves()
     ensures { RowsSumOverLeaves }
 {}
@@ -20,12 +20,12 @@ pub fn jobs_have_their_leaf_sums()
     ensures { JobsHaveTheirLeafSums }
 {}
 
-/// When all jobs are added everywhere, the stripes have the leaf sums of both players.
+/// With the bag empty and no right held, each row's replay is the leaf sum of the row's sequence.
 pub fn replays_end_as_rows()
     ensures { ReplaysEndAsRows }
 {}
 
-/// The sizes of the jobs' amounts at a row.
+/// At each row the sizes of all jobs' amounts are together at most the mass times the greatest number of the plans.
 pub fn amounts_are_small()
     ensures { AmountsAreSmall }
 {}
@@ -40,14 +40,15 @@ pub fn touched_rows_make_packets()
     ensures { TouchedRowsMakePackets }
 {}
 
-/// The packet of the one job of matching pennies, where both plans give their one unit to the second action.
+/// Row: the packet of the one job of matching pennies, where both plans give their one unit to the second action.
 pub fn packet_of_pennies()
     ensures { packet_of pennies (1 ∷ 0 ∷ 1 ∷ []) (1 ∷ 0 ∷ 1 ∷ []) (record { first = 0; count = 4 })
         ≡ record { row = 1; amount = negsuc 0 } ∷ record { row = 2; amount = pos 1 } ∷ record { row = 4; amount = negsuc 0 }
         ∷ record { row = 5; amount = pos 1 } ∷ [] }
 {}
 
-/// Matching pennies, where both plans give their one unit to the second action: the amounts of the one job at all rows.
+/// Row: the amounts of the one job of matching pennies at all rows, where both plans give their one unit to the second
+/// action.
 pub fn amounts_of_pennies()
     ensures { let amount = amounts (leaf_amount pennies (1 ∷ 0 ∷ 1 ∷ []) (1 ∷ 0 ∷ 1 ∷ []))
         (record { first = 0; count = 4 } ∷ []) in

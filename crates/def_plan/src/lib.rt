@@ -9,57 +9,58 @@ ghost use Rattle.def_plan.specs.Payoff.{pay, leaf_sum, mass_of};
 ghost use Rattle.def_plan.specs.Pennies.{pennies, one_set};
 ghost use Rattle.def_plan.specs.Laws.{SequencesAreNumbered, DealingMakesPlans, ChoicesMakeAPlan, ClearedPlansAddNothing, SumsArePlans, LeafSumsGiveThePayoff, WeakDuality, ComplementarySlackness, BadSetIsExact, PlansAreSmall};
 
-/// The numbers of the sequences.
+/// The empty sequence and then those of each set in turn are all sequences, and a set's place tells its first one.
 pub fn sequences_are_numbered()
     ensures { SequencesAreNumbered }
 {}
 
-/// Dealing set after set.
+/// Rules that deal each number whole make a plan, which follows them; no other plan of its root does.
 pub fn dealing_makes_plans()
     ensures { DealingMakesPlans }
 {}
 
-/// The plan of a choice at each set.
+/// A choice at each set makes a plan of root 1 that follows it, and the only one.
 pub fn choices_make_a_plan()
     ensures { ChoicesMakeAPlan }
 {}
 
-/// Sums of plans.
+/// Two plans add up to a plan whose root is the sum of both roots.
 pub fn sums_are_plans()
     ensures { SumsArePlans }
 {}
 
-/// Plans of which nothing is dealt yet.
+/// A cleared plan is no plan and adds nothing; what plans and cleared ones add up to is a plan or cleared.
 pub fn cleared_plans_add_nothing()
     ensures { ClearedPlansAddNothing }
 {}
 
-/// The payoff by leaf sums.
+/// What two plans pay is the sum over one player's sequences of leaf sum times number, for either player.
 pub fn leaf_sums_give_the_payoff()
     ensures { LeafSumsGiveThePayoff }
 {}
 
-/// Weak duality of plans and values.
+/// Where no action is better than its set's value, no plan gains better than its root times the empty sequence's worth.
 pub fn weak_duality()
     ensures { WeakDuality }
 {}
 
-/// Complementary slackness.
+/// A plan that plays only where the worth is the set's value gains just its root times the empty sequence's worth.
 pub fn complementary_slackness()
     ensures { ComplementarySlackness }
 {}
 
-/// The test of a plan.
+/// The test of a list finds nothing exactly where it is a plan, and else exactly what the words say is bad first.
 pub fn bad_set_is_exact()
     ensures { BadSetIsExact }
 {}
 
-/// Sizes of plans and of leaf sums.
+/// No number of a plan is above its root, and the leaf sums against it are together at most the mass times the root;
+/// under the limits that is at most 2^82 for a scale and 2^98 for any root.
 pub fn plans_are_small()
     ensures { PlansAreSmall }
 {}
 
-/// The test at lists for a player of matching pennies.
+/// Rows: in matching pennies a plan passes; numbers that don't add up, a short list and another root or none don't.
 pub fn bad_sets_of_pennies()
     ensures plan { bad_set one_set 2 (2 ∷ 1 ∷ 1 ∷ []) ≡ None }
     ensures too_much { bad_set one_set 2 (2 ∷ 1 ∷ 2 ∷ []) ≡ Some 1 }
@@ -68,7 +69,7 @@ pub fn bad_sets_of_pennies()
     ensures no_root { bad_set one_set 0 (0 ∷ 0 ∷ 0 ∷ []) ≡ Some 0 }
 {}
 
-/// Plans of matching pennies and what they pay.
+/// Rows: two pure plans of matching pennies, their sum, what plans pay, leaf sums against them, and the mass 4.
 pub fn plans_of_pennies()
     ensures heads { pure_plan one_set (1 ∷ []) ≡ 1 ∷ 1 ∷ 0 ∷ [] }
     ensures tails { pure_plan one_set (2 ∷ []) ≡ 1 ∷ 0 ∷ 1 ∷ [] }

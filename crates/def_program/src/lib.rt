@@ -9,12 +9,12 @@ pub fn refused_with_the_first()
     ensures { RefusedWithTheFirst }
 {}
 
-/// A file is accepted exactly where it isn't too long and has a reading without a fault, and stands for its game.
+/// A file is accepted with a game exactly where it isn't too long and stands for that game.
 pub fn accepted_without_fault()
     ensures { AcceptedWithoutFault }
 {}
 
-/// The words mean, in the format's own words, exactly what the program computes of them.
+/// The words mean, in the format's own words, exactly the answer that the program computes of them.
 pub fn meaning_is_computed()
     ensures { MeaningIsComputed }
 {}

@@ -11,7 +11,7 @@ ghost use Rattle.def_round.specs.Round.{set_value};
 ghost use Rattle.def_round.specs.Rounds.{rounds};
 ghost use Rattle.def_round.specs.Games.{three_actions, one_mover};
 
-/// The play of regrets, set by set.
+/// A play has a number for each sequence, and at each set the shares of the positive parts of the regrets.
 pub fn plays_have_each_set()
     ensures { PlaysHaveEachSet }
 {}
@@ -21,42 +21,43 @@ pub fn plays_give_all_units()
     ensures { PlaysGiveAllUnits }
 {}
 
-/// Regret matching plays the actions that are regretted.
+/// Where an action of a set has a positive regret, those without one aren't played.
 pub fn plays_positive_regrets()
     ensures { PlaysPositiveRegrets }
 {}
 
-/// By how much an action is regretted.
+/// The positive part of a regret is the regret, or 0 where it isn't positive.
 pub fn positive_parts_are_exact()
     ensures { PositivePartsAreExact }
 {}
 
-/// And in proportion to what is regretted.
+/// An action's play is its positive regret's part of all units, but for less than one; without such a regret all are
+/// played evenly.
 pub fn plays_are_in_proportion()
     ensures { PlaysAreInProportion }
 {}
 
-/// Dealing set after set makes a realisation plan.
+/// What a play deals is a plan of its root.
 pub fn plays_deal_plans()
     ensures { PlaysDealPlans }
 {}
 
-/// What a play deals at each set.
+/// At each set a play deals the number of the sequence before it by shares, with the set's play as the weights.
 pub fn plays_deal_by_shares()
     ensures { PlaysDealByShares }
 {}
 
-/// The plan of a play is what these words say of it.
+/// A plan that has these shares at each set is the plan of the play.
 pub fn plans_of_plays_are_unique()
     ensures { PlansOfPlaysAreUnique }
 {}
 
-/// The sums of both players, and the zero sum.
+/// By own sums player one's plan gains what is paid, and player two's the negative.
 pub fn own_sums_gain_what_is_paid()
     ensures { OwnSumsGainWhatIsPaid }
 {}
 
-/// What a set is worth under a play.
+/// A set's value is the average of its sequences' worths by the play, out of all units, rounded down.
 pub fn set_values_are_averages()
     ensures { SetValuesAreAverages }
 {}
@@ -71,37 +72,37 @@ pub fn values_are_unique()
     ensures { ValuesAreUnique }
 {}
 
-/// A set's value needs the later sets alone, so values can be found from the last set upwards.
+/// The values from a set on are those of these sets alone, so they can be found from the last set upwards.
 pub fn values_of_the_rest()
     ensures { ValuesOfTheRest }
 {}
 
-/// So a worth is complete once the sets after its own set are done.
+/// The worth of a sequence at a set or after it needs the sets after that set alone.
 pub fn worths_need_later_sets()
     ensures { WorthsNeedLaterSets }
 {}
 
-/// What a round is made from.
+/// A round's values and regrets need the sums at the player's own sequences alone.
 pub fn rounds_need_own_sums()
     ensures { RoundsNeedOwnSums }
 {}
 
-/// The regrets after a round, by the equations and by the computation.
+/// The regrets that are computed are exactly those that a round's equations allow.
 pub fn rounds_are_computed()
     ensures { RoundsAreComputed }
 {}
 
-/// Each round of a run by the standing before it.
+/// A run begins with no regrets and nothing in the sums, and each round follows from the standing before it.
 pub fn rounds_follow()
     ensures { RoundsFollow }
 {}
 
-/// The sums of the plans, from which the average strategies are read.
+/// After n rounds the sums of the plans are plans of n times the root.
 pub fn rounds_sum_to_plans()
     ensures { RoundsSumToPlans }
 {}
 
-/// The first plan over three actions, of which none has a regret.
+/// Row: the first plan over three actions, of which none has a regret.
 pub fn worked_plan()
     ensures play { play_of three_actions (pos 0 ∷ pos 0 ∷ pos 0 ∷ pos 0 ∷ []) ≡ 0 ∷ 21845 ∷ 21845 ∷ 21846 ∷ [] }
     ensures plan { plan_of_play three_actions (0 ∷ 21845 ∷ 21845 ∷ 21846 ∷ []) 1048576

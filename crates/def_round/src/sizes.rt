@@ -2,62 +2,66 @@
 
 ghost use Rattle.def_round.specs.SizeLaws.{DealtProductsAreSmall, OwnSumsAreSmall, PlayProductsAreSmall, RegretsAreSmall, RegretsGrowByTheSums, RegretsGrowSlowly, RegretsStaySmall, RoundsAreSmall, SmallRegretsDealSmallProducts, ValuesAreWithinSums, WorthPartsAreWithinSums, WorthsAreWithinSums};
 
-/// A player's leaf sums against a plan.
+/// A player's leaf sums against a plan are together at most the mass times the plan's root.
 pub fn own_sums_are_small()
     ensures { OwnSumsAreSmall }
 {}
 
-/// At each set: its value, its worths, its products with the play, and what it adds to regrets.
+/// At each set the value, the worths together, what is added to a regret, and over the units the products with the play
+/// stay within the leaf sums together.
 pub fn values_are_within_sums()
     ensures { ValuesAreWithinSums }
 {}
 
-/// The worth of each sequence, the empty one too.
+/// The worth of each sequence, the empty one too, is at most the leaf sums together.
 pub fn worths_are_within_sums()
     ensures { WorthsAreWithinSums }
 {}
 
-/// And of each part of such a sum.
+/// The parts of the sum that a worth is are together at most the leaf sums together.
 pub fn worth_parts_are_within_sums()
     ensures { WorthPartsAreWithinSums }
 {}
 
-/// What one round can make of any regrets.
+/// A round adds at most the leaf sums together to a regret, whatever regrets it begins with.
 pub fn regrets_grow_by_the_sums()
     ensures { RegretsGrowByTheSums }
 {}
 
-/// Under the limits: what one more round can make of them.
+/// With leaf sums of at most 2^82 together, regrets within that times the rounds stay so after one more, and within
+/// 2^98.
 pub fn regrets_stay_small()
     ensures { RegretsStaySmall }
 {}
 
-/// Under the limits: the products by which the units are dealt, for any regrets.
+/// With regrets of at most 2^98, all units times a set's positive regrets are below 2^126, where it has at most 1,024
+/// actions.
 pub fn small_regrets_deal_small_products()
     ensures { SmallRegretsDealSmallProducts }
 {}
 
-/// What some rounds can make of a regret.
+/// After n rounds no regret is larger than n times the mass times the root.
 pub fn regrets_grow_slowly()
     ensures { RegretsGrowSlowly }
 {}
 
-/// Under the limits: a round's leaf sums.
+/// Under the limits the mass times the root, which bounds a round's leaf sums together, is at most 2^82.
 pub fn rounds_are_small()
     ensures { RoundsAreSmall }
 {}
 
-/// Under the limits: the products of play and worth at a set.
+/// Under the limits all units times the mass times the root, which bounds a set's products of play and worth, is at
+/// most 2^98.
 pub fn play_products_are_small()
     ensures { PlayProductsAreSmall }
 {}
 
-/// Under the limits: regrets after up to 65,536 rounds.
+/// Under the limits, for up to 65,536 rounds, no regret is larger than 2^98.
 pub fn regrets_are_small()
     ensures { RegretsAreSmall }
 {}
 
-/// Under the limits: the products by which a set's units are dealt.
+/// Under the limits all units times a set's positive regrets are below 2^126, where a set has at most 1,024 actions.
 pub fn dealt_products_are_small()
     ensures { DealtProductsAreSmall }
 {}

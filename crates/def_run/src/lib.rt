@@ -10,71 +10,74 @@ ghost use Rattle.def_bracket.specs.Offers.{board_after};
 ghost use Rattle.def_run.specs.Run.{evaluations, offers};
 ghost use Rattle.def_run.specs.Laws.{EndsAreInOrder, EndsAreOfTheirRounds, EndsBoundAllPlans, EvaluationsAreBounds, GapIsExploitability, OffersOfRunAreFair, OutcomesShowTheirRun, RunsHaveEnds, TraceOfRunLooksBack, TraceOfRunNeverWidens};
 
-/// What an evaluation proves of the sums of plans.
+/// After each round both sums are plans, and the evaluation is the attained floor of the one and ceiling of the other.
 pub fn evaluations_are_bounds()
     ensures { EvaluationsAreBounds }
 {}
 
-/// The two ends of the bracket may come from different rounds.
+/// Each end is the evaluation after its own round, which is an evaluated one of the run.
 pub fn ends_are_of_their_rounds()
     ensures { EndsAreOfTheirRounds }
 {}
 
-/// At least one round is evaluated.
+/// A run of at least one round has ends.
 pub fn runs_have_ends()
     ensures { RunsHaveEnds }
 {}
 
-/// The bracket is never empty.
+/// The lower end is at most the upper one, each divided by its round.
 pub fn ends_are_in_order()
     ensures { EndsAreInOrder }
 {}
 
-/// The trace of a run, line by line.
+/// No line of a run's trace is wider than an earlier one.
 pub fn trace_of_run_never_widens()
     ensures { TraceOfRunNeverWidens }
 {}
 
-/// The rounds that the lines name.
+/// The ends of each line of a run's trace come from rounds from 1 up to the line's own.
 pub fn trace_of_run_looks_back()
     ensures { TraceOfRunLooksBack }
 {}
 
-/// How wide the bracket is.
+/// The gap between the ends, each over its plan's root, is the total exploitability of the two plans.
 pub fn gap_is_exploitability()
     ensures { GapIsExploitability }
 {}
 
-/// The bracket beside all plans of both players.
+/// No plan of player one has a floor, over its root, above the upper end; none of player two a ceiling below the lower
+/// end.
 pub fn ends_bound_all_plans()
     ensures { EndsBoundAllPlans }
 {}
 
-/// What a run offers to the bracket.
+/// Within the limits each offer of a run is fair.
 pub fn offers_of_run_are_fair()
     ensures { OffersOfRunAreFair }
 {}
 
-/// What a run leaves.
+/// An outcome has its head, the run's trace and, where a round was asked, the sums of plans at both ends with the best
+/// replies to them.
 pub fn outcomes_show_their_run()
     ensures { OutcomesShowTheirRun }
 {}
 
-/// One mover, two rounds: both ceilings are equal, and the first is kept.
+/// Row: one mover, two rounds: both ceilings are equal, and the first is kept.
 pub fn trace_of_one_mover()
     ensures { trace (evaluations one_mover 1048576 1 2)
         ≡ record { round = 1; low_round = 1; low = pos 524288; high_round = 1; high = pos 1048576 }
         ∷ record { round = 2; low_round = 2; low = pos 1572864; high_round = 1; high = pos 1048576 } ∷ [] }
 {}
 
-/// Matching pennies, two rounds with plans of root 1: the ends come from different rounds.
+/// Row: matching pennies, two rounds with plans of root 1: the ends come from different rounds.
 pub fn trace_of_pennies()
     ensures { trace (evaluations pennies 1 1 2)
         ≡ record { round = 1; low_round = 1; low = negsuc 0; high_round = 1; high = pos 1 }
         ∷ record { round = 2; low_round = 1; low = negsuc 0; high_round = 2; high = pos 0 } ∷ [] }
 {}
 
-/// Matching pennies, two rounds with plans of root 1: each end keeps the plan of its own round and the reply to it.
+/// Rows: matching pennies, two rounds with plans of root 1: each end keeps the plan of its own round and the reply to
+/// it.
 pub fn ends_of_pennies()
     ensures lower { (board_after (offers pennies 1 1 2)).lower
         ≡ Some (record {

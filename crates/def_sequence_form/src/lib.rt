@@ -5,7 +5,7 @@ ghost use Rattle.def_sequence_form.specs.Laws.{FormHasTheLeafList, FormHasTheMas
 ghost use Rattle.def_sequence_form.specs.Laws.{SetsAreExact, SetsHaveTheirNodes, TreeSetsTellNodes};
 ghost use Rattle.def_sequence_form.specs.Rows.{FormRows, LeafListRows};
 
-/// Each set has actions, and the sequence before it comes before its own.
+/// In a game tree each set has actions, and the sequence before it comes before its own.
 pub fn form_is_in_order()
     ensures { FormIsInOrder }
 {}
@@ -20,12 +20,13 @@ pub fn sets_have_their_nodes()
     ensures { SetsHaveTheirNodes }
 {}
 
-/// The form counts and places a tree's sequences as they are numbered in the tree.
+/// The form counts and places a tree's sequences as they are numbered in the tree, and has no more of them than nodes.
 pub fn form_numbers_as_the_tree()
     ensures { FormNumbersAsTheTree }
 {}
 
-/// The form has the leaves of the tree's list: a leaf's sequence names its last own choice, and tells all of them.
+/// The form has the leaves of the tree's list, each with sequences that end with its last own choices; with perfect
+/// recall these tell all its own choices.
 pub fn form_has_the_leaf_list()
     ensures { FormHasTheLeafList }
 {}
@@ -40,12 +41,12 @@ pub fn tree_sets_tell_nodes()
     ensures { TreeSetsTellNodes }
 {}
 
-/// The sets and the forms of small games.
+/// Rows: the forms of matching pennies and of an uneven game, that game's sets, and the breaks of two games.
 pub fn form_rows()
     ensures { FormRows }
 {}
 
-/// The list of leaves of a small game.
+/// Rows: the list of leaves of a game with chance that isn't zero-sum.
 pub fn leaf_list_rows()
     ensures { LeafListRows }
 {}

@@ -6,12 +6,12 @@ ghost use Rattle.std.specs.Prelude.{◌≡◌, [], ◌∷◌};
 ghost use Rattle.def_shares.specs.Laws.{NoWeightNoShare, SharesAreDifferences, SharesAreInProportion, SharesBeforeAddUp, SharesDealAll};
 ghost use Rattle.def_shares.specs.Shares.{shares};
 
-/// A share for each weight, and all of n.
+/// With at least one weight there is a share for each, and they add up to n.
 pub fn shares_deal_all()
     ensures { SharesDealAll }
 {}
 
-/// The prefix law, from which each share follows.
+/// The first i shares add up to the floor of n times their weights, divided by all; without weights each counts as 1.
 pub fn shares_before_add_up()
     ensures { SharesBeforeAddUp }
 {}
@@ -21,7 +21,7 @@ pub fn shares_are_differences()
     ensures { SharesAreDifferences }
 {}
 
-/// Each share is the proportional part of n, but for less than one unit.
+/// Each share is its weight's part of n, but for less than one unit.
 pub fn shares_are_in_proportion()
     ensures { SharesAreInProportion }
 {}
@@ -31,7 +31,7 @@ pub fn no_weight_no_share()
     ensures { NoWeightNoShare }
 {}
 
-/// Units that don't divide evenly, a weight of 0 beside others, and nothing to share.
+/// Rows: units that don't divide evenly, a weight of 0 beside others, and nothing to share.
 pub fn worked_shares()
     ensures three_equal { shares 65536 (0 ∷ 0 ∷ 0 ∷ []) ≡ 21845 ∷ 21845 ∷ 21846 ∷ [] }
     ensures five_in_three { shares 5 (1 ∷ 0 ∷ 2 ∷ []) ≡ 1 ∷ 0 ∷ 4 ∷ [] }

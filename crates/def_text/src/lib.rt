@@ -4,17 +4,17 @@
 ghost use Rattle.def_text.specs.Laws.{LinesTellFaults};
 ghost use Rattle.def_text.specs.Rows.{FaultLineRows, LeafRow};
 
-/// The text of a game of one leaf.
+/// Row: the text of a game of one leaf.
 pub fn leaf_row()
     ensures { LeafRow }
 {}
 
-/// The lines of faults.
+/// Rows: the lines of five faults, with their numbers, names and places.
 pub fn fault_line_rows()
     ensures { FaultLineRows }
 {}
 
-/// The lines of faults tell the faults apart.
+/// Two faults whose numbers have at most 64 bits and whose lines are the same are the same fault.
 pub fn lines_tell_faults()
     ensures { LinesTellFaults }
 {}
