@@ -74,7 +74,7 @@ pub record OrderRows : Type 0 where
   pub forgetful_two : first_fault_of examples.forgetful_two ≡ Some (NotRecall 4 2)
   pub forgetful_one : first_fault_of examples.forgetful_one ≡ Some (NotRecall 4 2)
   pub absent_by_chance : first_fault_of examples.absent_by_chance ≡ Some (NotRecall 3 1)
-  pub first_of_set : first_fault_of examples.first_of_set ≡ Some (NotRecall 7 4)
+  pub first_of_set : first_fault_of examples.first_in_set ≡ Some (NotRecall 7 4)
   pub negative_at_second : first_fault_of examples.negative_at_second ≡ Some (ChanceNegative 1)
   pub negative_below_choice : first_fault_of examples.negative_below_choice ≡ Some (ChanceNegative 2)
   pub sum_above_one : first_fault_of examples.sum_above_one ≡ Some (ChanceSum 1)

@@ -35,9 +35,9 @@ pub record FileRows : Type 0 where
   pub zero_sum : weigh (file_of examples.fraction_not_zero_sum) ≡ Err (faults.NotZeroSum 2)
   pub scale : weigh (file_of examples.rare_deals) ≡ Err (faults.Scale 3)
   pub weights : weigh (file_of examples.biased_coin) ≡ Ok (record { unit = 3; mass = 7; leaves = pos 1 ∷ pos 6 ∷ [] })
-  pub recall : game_file_fault (file_of examples.first_of_set) ≡ Some (faults.NotRecall 7 4)
-  pub recall_weighed : weigh (file_of examples.first_of_set) ≡ Ok (record { unit = 1; mass = 0; leaves = pos 0 ∷ pos 0 ∷ pos 0 ∷ [] })
-  pub recall_broken : sets_or_break examples.first_of_set.tree ≡ Err (record { node = 7; earlier = 4 })
+  pub recall : game_file_fault (file_of examples.first_in_set) ≡ Some (faults.NotRecall 7 4)
+  pub recall_weighed : weigh (file_of examples.first_in_set) ≡ Ok (record { unit = 1; mass = 0; leaves = pos 0 ∷ pos 0 ∷ pos 0 ∷ [] })
+  pub recall_broken : sets_or_break examples.first_in_set.tree ≡ Err (record { node = 7; earlier = 4 })
   pub sets : sets_or_break examples.other_before_choice.tree ≡ Ok (record {
     one = record { sets = record { before = 0; actions = 2 } ∷ []; at_nodes = 0 ∷ 0 ∷ 1 ∷ 2 ∷ 0 ∷ 1 ∷ 2 ∷ [] };
     two = record { sets = record { before = 0; actions = 2 } ∷ []; at_nodes = 0 ∷ 1 ∷ 1 ∷ 1 ∷ 2 ∷ 2 ∷ 2 ∷ [] };
