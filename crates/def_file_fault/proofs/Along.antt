@@ -33,12 +33,14 @@ pub record Goes {A : Type 0} (least : ℕ) (Follows : (List Spelled → Type 0) 
   pub past : (x : A × ℕ) → r ≡ Ok x → Past least Follows In whole at x.1
   pub stuck : (fault : FileFault) → r ≡ Err fault → (T : List Spelled → Type 0) → Follows T → Stuck (In T) whole at fault
 
+-- a reading that gives a value goes along, if what it read does
 pub goes_past : {A : Type 0} (least : ℕ) (Follows : (List Spelled → Type 0) → Type 0) (In : (List Spelled → Type 0) → List Spelled → Type 0) (whole : List ℕ) (at : ℕ) (x : A × ℕ) → Past least Follows In whole at x.1 → Goes least Follows In whole at (Ok x)
 goes_past {A} least Follows In whole at x p = record {
   past = λ y e. let same : x ≡ y = cc in subst (λ (z : A × ℕ). Past least Follows In whole at z.1) same p;
   stuck = λ fault e. absurd cc;
 }
 
+-- a reading that ends with a fault is stuck, if it is so before all that may follow
 pub goes_stuck : {A : Type 0} (least : ℕ) (Follows : (List Spelled → Type 0) → Type 0) (In : (List Spelled → Type 0) → List Spelled → Type 0) (whole : List ℕ) (at : ℕ) (fault : FileFault) → ((T : List Spelled → Type 0) → Follows T → Stuck (In T) whole at fault) → Goes {A = A} least Follows In whole at (Err fault)
 goes_stuck {A} least Follows In whole at fault s = record {
   past = λ y e. absurd cc;

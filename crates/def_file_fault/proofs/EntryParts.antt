@@ -253,6 +253,7 @@ head_begins = record {
     first T ss r rest Personal is e = subst (FirstTaken head_test) (sym e.head) refl
     first T ss r rest Leaf is e = subst (FirstTaken head_test) (sym e.head) refl
 
+-- reading an entry goes along its tokens, by one byte at least, or is stuck in them
 pub entry_goes : (whole : List ℕ) (at : ℕ) → at ≤ length whole → Goes 1 Follows (Part IsEntry) whole at (entry_at whole at)
 unfolding entry_at
 entry_goes whole at within =

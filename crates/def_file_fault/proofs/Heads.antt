@@ -155,6 +155,7 @@ step_goes In On s whole t r same alike go =
     subst (λ u. Goes 0 HasWord (λ T. After u (In T)) whole t.end r) (sym same)
     (goes_alike 0 HasWord HasWord On (λ T. After s (In T)) whole t.end r (λ T w. w) (λ T w. alike T) (goes_less 1 0 HasWord On whole t.end r (omega arith) go))
 
+-- reading the prologue's head goes along its tokens, by one byte at least, or is stuck in them
 pub head_goes : (whole : List ℕ) (at : ℕ) → at ≤ length whole → Goes 1 HasWord (Part IsHeadOf) whole at (head_at whole at)
 unfolding head_at
 head_goes whole at within =

@@ -229,6 +229,7 @@ module _ (whole : List ℕ) (fault : FileFault) where
         halt = halt_back Any L M whole (s ∷ ss) (s ∷ ss) place (behind_goes kind no_number L M but s (first_fits kind whole at none s ss place before) ss) (any_may whole place) fault halt;
       }
 
+-- where reading is stuck is carried along a language, from token to token
 pub stuck_walk : (whole : List ℕ) (fault : FileFault) → Walk whole (λ L at. Stuck L whole at fault)
 stuck_walk whole fault = record { alike = stuck_alike whole fault; step = stuck_step whole fault; other = stuck_other whole fault }
 
@@ -272,6 +273,7 @@ module _ (whole : List ℕ) (end : ℕ) where
             no_number = λ bytes front. numbers bytes (goes.front_to (number bytes) tt front);
           }
 
+-- where a part ends is carried along a language, from token to token
 pub ends_walk : (whole : List ℕ) (end : ℕ) → Walk whole (λ L at. EndsAt L whole end at)
 ends_walk whole end = record { alike = ends_alike whole end; step = ends_step whole end; other = ends_other whole end }
 
@@ -283,5 +285,6 @@ halt_stops L whole tokens place fault (no_token t is unfinished next ends) = sub
 halt_stops L whole tokens place fault (no_mark p is next takes) = subst (Stops L whole tokens place) (sym is) (inr (p, next, takes))
 halt_stops L whole tokens place fault (bad_number p why is unfinished n) = subst (Stops L whole tokens place) (sym is) n
 
+-- where reading is stuck stands the first token that can't be taken, with the same fault
 pub offends : (L : List Spelled → Type 0) (whole : List ℕ) (at : ℕ) (fault : FileFault) → Stuck L whole at fault → Offends L whole at fault
 offends L whole at fault s = record { tokens = s.tokens; place = s.place; before = s.before; front = s.front; stop = halt_stops L whole s.tokens s.place fault s.halt }

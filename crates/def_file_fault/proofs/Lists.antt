@@ -102,6 +102,7 @@ action_goes kind whole at within =
     goes_then 1 HasWord HasWord (Part IsText) (Part (IsChance kind)) whole at (text_at whole at) _ (text_goes whole at within) (chance_word kind)
     (λ name e inner grown. goes_with 0 HasWord (Part (IsChance kind)) whole name.1 (chance_at kind whole name.1) (λ chance. record { name = name.0; chance = chance.0 }) (chance_goes kind whole name.1 inner))
 
+-- no text begins with a closing brace
 pub no_text_closes : (bytes : List ℕ) (ss rest : List Spelled) → IsText bytes (close_brace ∷ ss) rest → ⊥
 no_text_closes bytes ss rest is =
     let first : close_brace ≡ text is.inside = let e = is.spelling in cc in
@@ -180,6 +181,7 @@ action_list_but kind T = record { to = λ ss fits l. to ss fits l.0 l.1 l.2 l.3;
     to ss fits None rest is there = subst T (sym is) there
     to ss fits (Some actions) rest is there = absurd (let clash = subst (FirstIsOther kinds.Open) is.1 fits in clash refl)
 
+-- reading a list of actions, or none, goes along its tokens, or is stuck in them
 pub action_list_goes : (kind : EntryKind) (whole : List ℕ) (at : ℕ) → at ≤ length whole → Goes 0 (NoFirst kinds.Open) (Part (IsActionList kind)) whole at (actions_at kind whole at)
 unfolding actions_at
 action_list_goes kind whole at within = chosen (next_is open_byte whole at) refl

@@ -32,6 +32,7 @@ not_empty kinds.End after apart token = apart refl
 none_between : (whole : List ℕ) (start end : ℕ) → end ≤ start → slice_range whole start end ≡ []
 none_between whole start end order = let none : end - start ≡ 0 = omega arith in ap (λ n. take n (drop start whole)) none
 
+-- a token that is read ends later than reading began, and within the bytes
 pub step_grows : (whole : List ℕ) (at : ℕ) → at ≤ length whole → (t : Lexeme) → Step whole at t → (at < t.end) × (t.end ≤ length whole)
 step_grows whole at within t step =
     let is = next_from-sound whole at within t step.next in
@@ -66,6 +67,7 @@ first_get (suc n) zero (x ∷ xs) b bs e = cc
 first_get (suc n) (suc i) [] b bs e = absurd cc
 first_get (suc n) (suc i) (x ∷ xs) b bs e = first_get (suc n) i xs b bs e
 
+-- a token begins with the first byte that isn't white space
 pub token_first_byte : (whole : List ℕ) (at : ℕ) → at ≤ length whole → (t : Lexeme) → Step whole at t → IsFirstByteFrom whole at t.start
 token_first_byte whole at within t step =
     let is = next_from-sound whole at within t step.next in
@@ -126,12 +128,15 @@ pub mark_next : (whole : List ℕ) (at byte : ℕ) (kind : Token) → ((start : 
     → next_from whole at ≡ Ok (span kind (after_space whole at) (after_space whole at + 1))
 mark_next whole at byte kind reads is = let b = next_begins byte whole at is in next_is_at whole at (byte ∷ b.0) b.1 ∙ reads (after_space whole at) b.0
 
+-- where the byte of an opening brace is next, the next token is one
 pub open_next : (whole : List ℕ) (at : ℕ) → next_is 123 whole at ≡ true → (t : Lexeme) × (next_from whole at ≡ Ok t) × (t.kind ≡ kinds.Open)
 open_next whole at is = (span kinds.Open (after_space whole at) (after_space whole at + 1), mark_next whole at 123 kinds.Open (λ start rest. token_at-open start 123 rest refl) is, refl)
 
+-- where the byte of a closing brace is next, the next token is one
 pub close_next : (whole : List ℕ) (at : ℕ) → next_is 125 whole at ≡ true → (t : Lexeme) × (next_from whole at ≡ Ok t) × (t.kind ≡ kinds.Close)
 close_next whole at is = (span kinds.Close (after_space whole at) (after_space whole at + 1), mark_next whole at 125 kinds.Close (λ start rest. token_at-close start 125 rest refl) is, refl)
 
+-- where the byte of a comma is next, the next token is one
 pub comma_next : (whole : List ℕ) (at : ℕ) → next_is 44 whole at ≡ true → (t : Lexeme) × (next_from whole at ≡ Ok t) × (t.kind ≡ kinds.Comma)
 comma_next whole at is = (span kinds.Comma (after_space whole at) (after_space whole at + 1), mark_next whole at 44 kinds.Comma (λ start rest. token_at-comma start 44 rest refl) is, refl)
 
@@ -140,6 +145,7 @@ pub data TextNext (whole : List ℕ) (at : ℕ) : Type 0 where
   closed : (t : Lexeme) → next_from whole at ≡ Ok t → t.kind ≡ kinds.Text → TextNext whole at
   unclosed : (p : ℕ) → next_from whole at ≡ Err (lexing.Unclosed p) → TextNext whole at
 
+-- where a quotation mark is next, a text comes, or one that isn't closed
 pub text_next : (whole : List ℕ) (at : ℕ) → next_is 34 whole at ≡ true → TextNext whole at
 text_next whole at is =
     let b = next_begins 34 whole at is in

@@ -137,23 +137,29 @@ module _ {A : Type 0} (R : A → List Spelled → List Spelled → Type 0) (numb
             numbered_goes t ok.0 (is_kind-true kinds.Number t.kind ok.1) (read (bytes_at whole t)) refl
         found (Err d) is = goes_stuck 1 HasWord (Part R) whole at d (λ T word. token_fault HasWord (Part R) (λ s. is_kind kinds.Number s.kind) number_test number_begins whole at T word d is)
 
+-- reading a literal goes along its token, or is stuck there
 pub literal_goes : (whole : List ℕ) (at : ℕ) → at ≤ length whole → Goes 1 HasWord (Part IsFraction) whole at (literal_at whole at)
 unfolding literal_at
 literal_goes whole at within = number_goes IsFraction literals one_literal read_as_literal (λ bytes. refl) whole at within
 
+-- reading a whole number goes along its token, or is stuck there
 pub whole_goes : (whole : List ℕ) (at : ℕ) → at ≤ length whole → Goes 1 HasWord (Part IsWholeNumber) whole at (whole_at whole at)
 unfolding whole_at
 whole_goes whole at within = number_goes IsWholeNumber wholes one_whole read_as_whole (λ bytes. refl) whole at within
 
+-- reading a set's number goes along its token, or is stuck there
 pub set_number_goes : (whole : List ℕ) (at : ℕ) → at ≤ length whole → Goes 1 HasWord (Part IsSetNumber) whole at (set_number_at whole at)
 unfolding set_number_at
 set_number_goes whole at within = number_goes IsSetNumber wholes_from_one one_set_number read_as_set (λ bytes. refl) whole at within
 
+-- a language that has a word has one with a literal in front
 pub literal_word : (T : List Spelled → Type 0) → HasWord T → HasWord (Part IsFraction T)
 literal_word = (number_begins IsFraction literals one_literal).word
 
+-- a language that has a word has one with a whole number in front
 pub whole_word : (T : List Spelled → Type 0) → HasWord T → HasWord (Part IsWholeNumber T)
 whole_word = (number_begins IsWholeNumber wholes one_whole).word
 
+-- a language that has a word has one with a set's number in front
 pub set_number_word : (T : List Spelled → Type 0) → HasWord T → HasWord (Part IsSetNumber T)
 set_number_word = (number_begins IsSetNumber wholes_from_one one_set_number).word

@@ -29,6 +29,7 @@ abbrev pub AreTokens : List Spelled → Type 0
 AreTokens [] = Unit {0}
 AreTokens (s ∷ ss) = (s.kind ≢ kinds.End) × ((after : List ℕ) × IsToken s.kind s.bytes after) × AreTokens ss
 
+-- what comes next from an offset on is spelled as tokens are
 pub next_tokens : (whole : List ℕ) (at : ℕ) (ss : List Spelled) (end : ℕ) → at ≤ length whole → AreNext whole at ss end → AreTokens ss
 next_tokens whole at [] end within next = tt
 next_tokens whole at (s ∷ ss) end within next =
@@ -82,6 +83,7 @@ value_once {A} reading v w m n a b =
     let same : ◌≡◌ {A = A × ℕ} (v, m) (w, n) = cc in
     ap (λ (p : A × ℕ). p.0) same
 
+-- tokens are one entry at most
 pub entry_once : (ss : List Spelled) → AreTokens ss → (r q : Record) → IsEntry r ss [] → IsEntry q ss [] → r ≡ q
 entry_once ss are r q a b =
     let whole = bytes_of (spaced ss) (32 ∷ []) in
@@ -90,6 +92,7 @@ entry_once ss are r q a b =
     let y = entry_taken whole 0 q ss [] b clear (tokens_ahead ss are) in
     value_once (entry_at whole 0) r q x.mid y.mid x.ok y.ok
 
+-- tokens are one name at most, or none
 pub name_once : (ss : List Spelled) → AreTokens ss → (v w : Option (List ℕ)) → IsName v ss [] → IsName w ss [] → v ≡ w
 name_once ss are v w a b =
     let whole = bytes_of (spaced ss) (32 ∷ []) in
@@ -117,6 +120,7 @@ names_once (n ∷ ns) (m ∷ ms) ss rest more a b =
     let later = names_once ns ms b.0 rest more (subst (λ tokens. AreNames ns tokens rest) here.1 a.2) b.2 in
     (ap (λ x. x ∷ ns) here.0 ∙ ap (λ l. m ∷ l) later.0, later.1)
 
+-- two heads at the front of the same tokens have the same title, names and rest
 pub head_once : (t u : List ℕ) (ns ms : List (List ℕ)) (ss rest more : List Spelled) → IsHead t ns ss rest → IsHead u ms ss more → (t ≡ u) × (ns ≡ ms) × (rest ≡ more)
 head_once t u ns ms ss rest more a b =
     let both = sym a.head ∙ b.head in
@@ -154,5 +158,6 @@ no_more t ns ss a s front =
     let same = (head_once t front.1.0 ns front.1.1 (ss ++ s ∷ front.0) (s ∷ front.0) [] (head_more t ns ss [] (s ∷ front.0) a) longer).2 in
     cc
 
+-- nothing goes on behind the tokens of a head
 pub head_ends : (whole : List ℕ) (place : ℕ) (t : List ℕ) (ns : List (List ℕ)) (ss : List Spelled) → IsHead t ns ss [] → EndsWhole IsHeadTokens whole ss place
 head_ends whole place t ns ss a = record { token = λ l next front. no_more t ns ss a (spelled_at whole l) front; no_text = λ p next takes. no_more t ns ss a (text takes.0) takes.2 }

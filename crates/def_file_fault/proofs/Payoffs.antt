@@ -171,6 +171,7 @@ payoff_list_but T = record { to = λ ss fits l. to ss fits l.0 l.1 l.2 l.3; back
     to ss fits None rest is there = subst T (sym is) there
     to ss fits (Some fs) rest is there = absurd (let clash = subst (FirstIsOther kinds.Open) is.1 fits in clash refl)
 
+-- reading a list of payoffs, or none, goes along its tokens, or is stuck in them
 pub payoff_list_goes : (whole : List ℕ) (at : ℕ) → at ≤ length whole → Goes 0 (NoFirst kinds.Open) (Part IsPayoffList) whole at (payoffs_at whole at)
 unfolding payoffs_at
 payoff_list_goes whole at within = chosen (next_is open_byte whole at) refl

@@ -46,6 +46,7 @@ kind_test kind not_end not_number = record {
   numbers = λ s is fails. (codes "1", kinds_apart kind kinds.Number not_number, each_takes_one);
 }
 
+-- whether a token is a number is a test: the end is none, and no number fails it
 pub number_test : IsTest (λ s. is_kind kinds.Number s.kind)
 number_test = record {
   not_end = λ s is. ap (is_kind kinds.Number) is;
@@ -94,12 +95,14 @@ one_text = record {
   back = λ s fits. (unescaped fits.0, λ rest. record { inside = fits.0; is_inside = fits.1; stands_for = refl; spelling = ap (λ u. u ∷ rest) fits.2 });
 }
 
+-- a language that has a word has one with a text in front
 pub text_word : (T : List Spelled → Type 0) → HasWord T → HasWord (Part IsText T)
 text_word = one_word IsText TextFits one_text (text []) ([], no_inside, refl)
 
 text_fits : (whole : List ℕ) (at : ℕ) → at ≤ length whole → (t : Lexeme) → next_from whole at ≡ Ok t → t.kind ≡ kinds.Text → TextFits (spelled_at whole t)
 text_fits whole at within t next is = let found = text_here whole at within t next (sym is) in (found.0, found.1, found.2.spelled)
 
+-- reading a text goes along its token, or is stuck there
 pub text_goes : (whole : List ℕ) (at : ℕ) → at ≤ length whole → Goes 1 HasWord (Part IsText) whole at (text_at whole at)
 unfolding text_at
 text_goes whole at within =
@@ -140,6 +143,7 @@ text_at_unclosed : (whole : List ℕ) (at p : ℕ) → next_from whole at ≡ Er
 unfolding text_at token_where
 text_at_unclosed whole at p next = rw next refl
 
+-- reading a name, or none, goes along its token, or is stuck there
 pub name_goes : (whole : List ℕ) (at : ℕ) → at ≤ length whole → Goes 0 (NoFirst kinds.Text) (Part IsName) whole at (name_at whole at)
 unfolding name_at
 name_goes whole at within = chosen (next_is mark whole at) refl

@@ -46,6 +46,7 @@ starts : (whole : List ℕ) (at : ℕ) (l : Lexeme) → next_from whole at ≡ O
 unfolding next_from
 starts whole at l next = (token_at-sound (after_space whole at) (drop (after_space whole at) whole) l next).begins
 
+-- a byte is next exactly if the next token begins with it
 pub next_is_step : (byte : ℕ) (whole : List ℕ) (at : ℕ) (l : Lexeme) (s : Spelled) (b : ℕ) (bs : List ℕ) → Step whole at l s → s.bytes ≡ b ∷ bs → next_is byte whole at ≡ nat_eq b byte
 unfolding next_is byte_from
 next_is_step byte whole at l s b bs step same =
@@ -100,6 +101,7 @@ all_length whole at (s ∷ ss) within next =
     let forward = step_forward whole at within next.0 s next.1 in
     omega (arith, later, forward)
 
+-- no more tokens come than there are bytes
 pub ahead_length : (whole : List ℕ) (at : ℕ) (ss : List Spelled) → Ahead whole at ss → length ss ≤ length whole
 ahead_length whole at ss ahead = omega (arith, all_length whole at ss ahead.within ahead.next)
 
@@ -107,12 +109,15 @@ ahead_length whole at ss ahead = omega (arith, all_length whole at ss ahead.with
 pub record NotNext (byte : ℕ) (rest : List Spelled) : Type 0 where
   pub here : (whole : List ℕ) (at : ℕ) → Ahead whole at rest → next_is byte whole at ≡ false
 
+-- a byte that begins no number isn't next where a number comes
 pub not_number : (byte : ℕ) → begins_number byte ≡ false → (digits : List ℕ) (rest : List Spelled) → NotNext byte (number digits ∷ rest)
 not_number byte fails digits rest = record { here = λ whole at a. next_is_number whole at a.within a.next.0 byte fails digits a.next.1 }
 
+-- where a token begins with another byte, this one isn't next
 pub not_first : (byte b : ℕ) (s : Spelled) (bs : List ℕ) (rest : List Spelled) → s.bytes ≡ b ∷ bs → nat_eq b byte ≡ false → NotNext byte (s ∷ rest)
 not_first byte b s bs rest same fails = record { here = λ whole at a. next_is_step byte whole at a.next.0 s b bs a.next.1 same ∙ fails }
 
+-- where no token comes, no byte is next
 pub not_end : (byte : ℕ) → NotNext byte []
 not_end byte = record { here = λ whole at a. next_is_end byte whole at a.next }
 
@@ -124,9 +129,11 @@ is_first byte b s bs rest whole at same passes a = next_is_step byte whole at a.
 pub by_spelling : (test : Spelled → Bool) (whole : List ℕ) (at : ℕ) (l : Lexeme) (s : Spelled) → Step whole at l s → test s ≡ true → token_where (λ t. test (spelled_at whole t)) whole at ≡ Ok l
 by_spelling test whole at l s step passes = ok_token (λ t. test (spelled_at whole t)) whole at l step.next (ap test step.spelled ∙ passes)
 
+-- a test for a kind and its bytes takes the token that is spelled so
 pub take_exact : (whole : List ℕ) (at : ℕ) (l : Lexeme) (kind : Token) (bytes : List ℕ) → (is_kind kind kind && pointwise nat_eq bytes bytes) ≡ true → Step whole at l (record { kind = kind; bytes = bytes }) → token_where (is_exact kind bytes whole) whole at ≡ Ok l
 take_exact whole at l kind bytes passes step = by_spelling (λ s. is_kind kind s.kind && pointwise nat_eq s.bytes bytes) whole at l (record { kind = kind; bytes = bytes }) step passes
 
+-- a test for a kind takes a token of that kind
 pub take_kind : (whole : List ℕ) (at : ℕ) (l : Lexeme) (kind : Token) (bytes : List ℕ) → is_kind kind kind ≡ true → Step whole at l (record { kind = kind; bytes = bytes }) → token_where (is_token kind whole) whole at ≡ Ok l
 take_kind whole at l kind bytes passes step = by_spelling (λ s. is_kind kind s.kind) whole at l (record { kind = kind; bytes = bytes }) step passes
 

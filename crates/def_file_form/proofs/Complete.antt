@@ -24,6 +24,7 @@ use Rattle.def_file_form.proofs.Ahead.{Ahead, Taken, NotNext, not_number, not_fi
 text_is : (whole : List ℕ) (at : ℕ) (l : Lexeme) (inside : List ℕ) → Step whole at l (text inside) → token_text whole l ≡ unescaped inside
 text_is whole at l inside step = ap unescaped (slice_range-inner whole l.start l.end inside step.within (ap (λ (s : Spelled). s.bytes) step.spelled)).1
 
+-- where a text comes, it is read, as the bytes that it stands for
 pub text_taken : (whole : List ℕ) (at : ℕ) (v : List ℕ) (tokens rest : List Spelled) → IsText v tokens rest → Ahead whole at tokens → Taken whole (text_at whole at) v rest
 unfolding text_at
 text_taken whole at v tokens rest is ahead =
@@ -43,6 +44,7 @@ text_first byte whole at v tokens rest is ahead =
     let a : Ahead whole at (text is.inside ∷ rest) = subst (Ahead whole at) is.spelling ahead in
     next_is_step byte whole at a.next.0 (text is.inside) 34 (is.inside ++ 34 ∷ []) a.next.1 refl
 
+-- where a name comes, or none, it is read so, if no text stands behind it
 pub name_taken : (whole : List ℕ) (at : ℕ) (v : Option (List ℕ)) (tokens rest : List Spelled) → IsName v tokens rest → NotNext mark rest → Ahead whole at tokens → Taken whole (name_at whole at) v rest
 unfolding name_at
 name_taken whole at None tokens rest is behind ahead =
@@ -76,6 +78,7 @@ is_whole n tokens rest is =
     let limit = le-leb (number_of is.digits) most (subst (λ k. k ≤ 2 ^ 62) (sym is.value) is.limit) in
     rw (is.numeral, limit) (ap Ok is.value)
 
+-- where a whole number within the limit comes, it is read
 pub whole_taken : (whole : List ℕ) (at v : ℕ) (tokens rest : List Spelled) → IsWholeNumber v tokens rest → Ahead whole at tokens → Taken whole (whole_at whole at) v rest
 unfolding whole_at
 whole_taken whole at v tokens rest is ahead = number_taken read_as_whole whole at is.digits v tokens rest is.spelling (is_whole v tokens rest is) ahead
@@ -106,6 +109,7 @@ action_taken kind whole at v tokens rest is ahead =
     let chance = chance_taken kind whole name.mid v.chance is.0 rest is.2 name.ahead in
     record { mid = chance.mid; ok = rw (name.ok, chance.ok) refl; ahead = chance.ahead }
 
+-- where a closing brace comes, the list ends there with what was read of it
 pub close_taken : {A : Type 0} (whole : List ℕ) (at : ℕ) (v : A) (tokens rest : List Spelled) → IsOne close_brace tokens rest → Ahead whole at tokens → Taken whole (close_at v whole at) v rest
 unfolding close_at
 close_taken whole at v tokens rest is ahead =
@@ -113,9 +117,11 @@ close_taken whole at v tokens rest is ahead =
     let found = take_kind whole at a.next.0 kinds.Close _ refl a.next.1 in
     record { mid = a.next.0.end; ok = rw found refl; ahead = behind_step whole at close_brace rest a }
 
+-- where a closing brace comes, its byte is next
 pub close_first : (whole : List ℕ) (at : ℕ) (tokens rest : List Spelled) → IsOne close_brace tokens rest → Ahead whole at tokens → next_is close_byte whole at ≡ true
 close_first whole at tokens rest is ahead = is_first close_byte 125 close_brace [] rest whole at refl refl (subst (Ahead whole at) is ahead)
 
+-- a text is one token
 pub text_length : (v : List ℕ) (tokens rest : List Spelled) → IsText v tokens rest → length tokens ≡ suc (length rest)
 text_length v tokens rest is = ap length is.spelling
 
@@ -240,6 +246,7 @@ pub record IsClear (rest : List Spelled) : Type 0 where
   pub no_text : NotNext mark rest
   pub no_brace : NotNext open_byte rest
 
+-- a number is neither a text nor a brace, so that optional parts may end before it
 pub clear_number : (digits : List ℕ) (rest : List Spelled) → IsClear (number digits ∷ rest)
 clear_number digits rest = record { no_text = not_number mark refl digits rest; no_brace = not_number open_byte refl digits rest }
 
@@ -251,6 +258,7 @@ payoffs_no_text : (v : Option (List Fraction)) (tokens rest : List Spelled) → 
 payoffs_no_text None tokens rest is behind = subst (NotNext mark) (sym is) behind
 payoffs_no_text (Some payoffs) tokens rest is behind = subst (NotNext mark) (sym is.1) (not_first mark 123 open_brace [] is.0 refl refl)
 
+-- where an entry's set comes, it is read, if no text and no brace stands behind it
 pub set_mention_taken : (kind : EntryKind) (whole : List ℕ) (at : ℕ) (v : SetMention) (tokens rest : List Spelled) → IsSet kind v tokens rest → IsClear rest → Ahead whole at tokens → Taken whole (set_mention_at kind whole at) v rest
 unfolding set_mention_at
 set_mention_taken kind whole at v tokens rest is clear ahead =
@@ -259,6 +267,7 @@ set_mention_taken kind whole at v tokens rest is clear ahead =
     let actions = action_list_taken kind whole name.mid v.actions is.named rest is.actions clear.no_brace name.ahead in
     record { mid = actions.mid; ok = rw (n.ok, name.ok, actions.ok) refl; ahead = actions.ahead }
 
+-- where an entry's outcome comes, it is read, if no text and no brace stands behind it
 pub outcome_mention_taken : (whole : List ℕ) (at : ℕ) (v : OutcomeMention) (tokens rest : List Spelled) → IsOutcome v tokens rest → IsClear rest → Ahead whole at tokens → Taken whole (outcome_mention_at whole at) v rest
 unfolding outcome_mention_at
 outcome_mention_taken whole at v tokens rest is clear ahead =

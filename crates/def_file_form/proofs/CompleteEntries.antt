@@ -25,6 +25,7 @@ clear_entry Chance r tokens rest is = subst IsClear (sym is.head) (clear_word 99
 clear_entry Personal r tokens rest is = subst IsClear (sym is.head) (clear_word 112 [] is.headed refl refl)
 clear_entry Leaf r tokens rest is = subst IsClear (sym is.head) (clear_word 116 [] is.headed refl refl)
 
+-- entries, or none, begin with neither a text nor a brace
 pub clear_entries : (rs : List Record) (tokens : List Spelled) → AreEntries rs tokens → IsClear tokens
 clear_entries [] tokens are = subst IsClear (sym are) (record { no_text = not_end mark; no_brace = not_end open_byte })
 clear_entries (r ∷ rs) tokens are = clear_entry r.kind r tokens are.0 are.1
@@ -76,6 +77,7 @@ entry_as_taken Leaf whole at r tokens rest kind is clear ahead =
     let same : made ≡ r = (λ i. record { kind = sym kind i; name = r.name; player = sym is.no_player i; set = sym is.no_set i; outcome = r.outcome }) in
     record { mid = outcome.mid; ok = rw (found, as_c, as_p, name.ok, outcome.ok) (ap (λ x. Ok (x, outcome.mid)) same); ahead = outcome.ahead }
 
+-- where an entry comes, it is read, if no text and no brace stands behind it
 pub entry_taken : (whole : List ℕ) (at : ℕ) (r : Record) (tokens rest : List Spelled) → IsEntry r tokens rest → IsClear rest → Ahead whole at tokens → Taken whole (entry_at whole at) r rest
 entry_taken whole at r tokens rest is clear ahead = entry_as_taken r.kind whole at r tokens rest refl is clear ahead
 
@@ -95,6 +97,7 @@ names_taken (suc left) done (a ∷ more) whole at tokens rest are fuel ahead =
     let later = names_taken left (done ++ a ∷ []) more whole here.mid are.0 rest are.2 (omega (arith, text_length a tokens are.0 are.1, fuel)) here.ahead in
     record { mid = later.mid; ok = rw (open_yet, here.ok) (later.ok ∙ ap (λ ns. Ok (ns, later.mid)) (append_assoc done (a ∷ []) more)); ahead = later.ahead }
 
+-- where the prologue comes, it is read, if no text and no brace stands behind it
 pub prologue_taken : (whole : List ℕ) (at : ℕ) (p : Prologue) (tokens rest : List Spelled) → IsPrologue p tokens rest → IsClear rest → Ahead whole at tokens → Taken whole (prologue_at whole at) p rest
 unfolding prologue_at head_at behind_head
 prologue_taken whole at p tokens rest is clear ahead =

@@ -53,10 +53,12 @@ unless_ok : (fault : Option FileFault) (contents next : Contents) → unless_fau
 unless_ok None contents next e = (refl, cc)
 unless_ok (Some fault) contents next e = absurd cc
 
+-- an entry that is let through has no fault, and adds just itself to what is known
 pub judged_ok : (contents : Contents) (r : Record) (next : Contents) → judged contents r ≡ Ok next → (record_fault contents r ≡ None) × (next ≡ with_record contents r)
 unfolding judged
 judged_ok contents r next e = unless_ok (record_fault contents r) (with_record contents r) next e
 
+-- an entry without a fault is let through, and adds itself to what is known
 pub ok_judged : (contents : Contents) (r : Record) → record_fault contents r ≡ None → judged contents r ≡ Ok (with_record contents r)
 unfolding judged
 ok_judged contents r none = ap (λ fault. unless_fault fault (with_record contents r)) none
@@ -66,6 +68,7 @@ abbrev pub AreEntriesThen : List Record → List Spelled → List Spelled → Ty
 AreEntriesThen [] tokens rest = tokens ≡ rest
 AreEntriesThen (r ∷ rs) tokens rest = (done : List Spelled) × IsEntry r tokens done × AreEntriesThen rs done rest
 
+-- entries behind which nothing is left are all that the tokens are
 pub entries_then : (rs : List Record) (tokens : List Spelled) → AreEntriesThen rs tokens [] → AreEntries rs tokens
 entries_then [] tokens are = are
 entries_then (r ∷ rs) tokens are = (are.0, are.1, entries_then rs are.0 are.2)
@@ -78,6 +81,7 @@ pub record EntriesRead (done : List Record) (whole : List ℕ) (at : ℕ) (read 
   pub is_whole : IsWhole read.0.nodes
   pub taken : Read whole at read.1 (AreEntriesThen more)
 
+-- entries that are read behind others are in the form, have no fault, and make the tree whole
 pub entries_read : (left : ℕ) (done : List Record) (contents : Contents) → contents ≡ contents_of done → HaveNoFault done → Begins 1 contents.nodes → (whole : List ℕ) (at : ℕ) → at ≤ length whole → (read : Contents × ℕ) → entries_from left contents whole at ≡ Ok read
     → EntriesRead done whole at read
 unfolding entries_from
@@ -118,6 +122,7 @@ entries_read (suc left) done contents known none begins whole at within read e =
           taken = read_then whole at entry.1 read.1 (IsEntry r) (AreEntriesThen later.more) here later.taken;
         }))
 
+-- where entries without a fault come that make the tree whole, all of them are read
 pub entries_taken : (left : ℕ) (done more : List Record) (contents : Contents) → contents ≡ contents_of done → HaveNoFault (done ++ more) → IsWhole (contents_of (done ++ more)).nodes → length more < left → (whole : List ℕ) (at : ℕ) (tokens : List Spelled) → AreEntries more tokens
     → Ahead whole at tokens → Taken whole (entries_from left contents whole at) (contents_of (done ++ more)) []
 unfolding entries_from

@@ -64,6 +64,7 @@ pub record PiecesFound (whole : List ℕ) (ss : List Spelled) : Type 0 where
   pub spelling : whole ≡ bytes_of pieces space
   pub tokens : map spelled pieces ≡ ss
 
+-- where the tokens up to the end were taken, the bytes are white space and these tokens in turn
 pub pieces_found : (whole : List ℕ) (ss : List Spelled) (mid : ℕ) (l : Lexeme) → Takes whole 0 ss mid → next_from whole mid ≡ Ok l → kinds.End ≡ l.kind → PiecesFound whole ss
 pieces_found whole ss mid l takes next same =
     let t = tokens_read whole 0 ss mid l (omega arith) takes next same in

@@ -17,6 +17,7 @@ use Rattle.def_file.specs.Reading.{◌>>=◌, bytes_at, is_token, token_where, n
 use Rattle.def_file_form.specs.Form.{Spelled, number, text, open_brace, close_brace, comma, IsText, IsName, IsWholeNumber, IsFraction, IsChance, AreActionsUpTo, IsActionList, AreMorePayoffs, ArePayoffs, IsPayoffList, IsSet, IsOutcome}
 use Rattle.def_file_form.proofs.Steps.{then_ok, Read, Then, IsOne, IsNone, read_as, read_one, read_none, read_then, open_step, close_step, comma_step, text_step, number_step}
 
+-- what is read as a text is one, and stands for the bytes that were read
 pub text_read : (whole : List ℕ) (at : ℕ) → at ≤ length whole → (read : List ℕ × ℕ) → text_at whole at ≡ Ok read → Read whole at read.1 (IsText read.0)
 unfolding text_at
 text_read whole at within read e =
@@ -26,6 +27,7 @@ text_read whole at within read e =
     subst (λ (r : List ℕ × ℕ). Read whole at r.1 (IsText r.0)) same
     (read_as whole at token.end (IsOne (text s.0)) (IsText (token_text whole token)) (λ tokens rest one. record { inside = s.0; is_inside = s.1; stands_for = s.3; spelling = one }) (read_one whole at token (text s.0) s.2)))
 
+-- what is read as a name is a text, or nothing where none was read
 pub name_read : (whole : List ℕ) (at : ℕ) → at ≤ length whole → (read : Option (List ℕ) × ℕ) → name_at whole at ≡ Ok read → Read whole at read.1 (IsName read.0)
 unfolding name_at
 name_read whole at within read e = chosen (next_is mark whole at) e
@@ -77,6 +79,7 @@ whole_ok bytes n tokens rest e one = chosen (is_numeral bytes) (nat_le (number_o
     chosen true false numeral limit e = absurd cc
     chosen false c numeral limit e = absurd cc
 
+-- what is read as a whole number is digits that write it, within the limit
 pub whole_read : (whole : List ℕ) (at : ℕ) → at ≤ length whole → (read : ℕ × ℕ) → whole_at whole at ≡ Ok read → Read whole at read.1 (IsWholeNumber read.0)
 unfolding whole_at
 whole_read whole at within read e =
@@ -88,6 +91,7 @@ from_one_ok (Ok zero) n e = absurd cc
 from_one_ok (Ok (suc k)) n e = let same : suc k ≡ n = cc in (e, omega arith)
 from_one_ok (Err fault) n e = absurd cc
 
+-- what is read as a set's number is read as the same whole number, and isn't 0
 pub set_ok : (bytes : List ℕ) (n : ℕ) → read_as_set bytes ≡ Ok n → (read_as_whole bytes ≡ Ok n) × (1 ≤ n)
 unfolding read_as_set
 set_ok bytes n e = from_one_ok (read_as_whole bytes) n e
@@ -268,6 +272,7 @@ payoff_list_read whole at within read e = chosen (next_is open_byte whole at) e
 
 -- Sets and outcomes.
 
+-- what is read as an entry's set is in the form of one
 pub set_mention_read : (kind : EntryKind) (whole : List ℕ) (at : ℕ) → at ≤ length whole → (read : SetMention × ℕ) → set_mention_at kind whole at ≡ Ok read → Read whole at read.1 (IsSet kind read.0)
 unfolding set_mention_at
 set_mention_read kind whole at within read e =
@@ -285,6 +290,7 @@ set_mention_read kind whole at within read e =
     (λ tokens rest t. record { numbered = t.0; named = t.2.0; number = t.1; from_one = s0.1; name = t.2.1; actions = t.2.2 })
     (read_then whole at n.1 actions.1 (IsWholeNumber n.0) (Then (IsName name.0) (IsActionList kind actions.0)) s0.0 behind)))))
 
+-- what is read as an entry's outcome is in the form of one
 pub outcome_mention_read : (whole : List ℕ) (at : ℕ) → at ≤ length whole → (read : OutcomeMention × ℕ) → outcome_mention_at whole at ≡ Ok read → Read whole at read.1 (IsOutcome read.0)
 unfolding outcome_mention_at
 outcome_mention_read whole at within read e =

@@ -79,6 +79,7 @@ entry_behind_read kind bytes whole at head read step behind =
     read_as whole at read.1 (Then (IsOne (word bytes)) (IsEntryBehind kind bytes read.0)) (IsEntry read.0) (headed kind bytes read.0)
     (read_then whole at head.end read.1 (IsOne (word bytes)) (IsEntryBehind kind bytes read.0) (read_one whole at head (word bytes) step) behind)
 
+-- what is read as an entry is in the form of one
 pub entry_read : (whole : List ℕ) (at : ℕ) → at ≤ length whole → (read : Record × ℕ) → entry_at whole at ≡ Ok read → Read whole at read.1 (IsEntry read.0)
 unfolding entry_at
 entry_read whole at within read e =

@@ -35,6 +35,7 @@ pub and_right : (a b : Bool) → (a && b) ≡ true → b ≡ true
 and_right true b e = e
 and_right false b e = absurd cc
 
+-- of two tests the first passes, or it fails and the second passes
 pub either : (a b : Bool) → (a || b) ≡ true → (a ≡ true) ⊎ ((a ≡ false) × (b ≡ true))
 either true b e = inl refl
 either false b e = inr (refl, e)
@@ -70,6 +71,7 @@ token_ok test whole at l e = expected_ok (next_from whole at) l e
     expected_ok (Err (lexing.Syntax at)) l e = absurd cc
     expected_ok (Err (lexing.Unclosed at)) l e = absurd cc
 
+-- the next token is taken, if it passes the test
 pub ok_token : (test : Lexeme → Bool) (whole : List ℕ) (at : ℕ) (l : Lexeme) → next_from whole at ≡ Ok l → test l ≡ true → token_where test whole at ≡ Ok l
 unfolding token_where
 ok_token test whole at l next passes = rw (next, passes) refl
@@ -107,15 +109,19 @@ IsOne s tokens rest = tokens ≡ s ∷ rest
 abbrev pub IsNone : List Spelled → List Spelled → Type 0
 IsNone tokens rest = tokens ≡ rest
 
+-- what was read as one part was read as another that the same tokens are
 pub read_as : (whole : List ℕ) (at end : ℕ) (A B : List Spelled → List Spelled → Type 0) → ((tokens rest : List Spelled) → A tokens rest → B tokens rest) → Read whole at end A → Read whole at end B
 read_as whole at end A B f r = record { tokens = r.tokens; takes = r.takes; within = r.within; is = λ rest. f (r.tokens ++ rest) rest (r.is rest) }
 
+-- one token was read as itself, whatever stands behind it
 pub read_one : (whole : List ℕ) (at : ℕ) (l : Lexeme) (s : Spelled) → Step whole at l s → Read whole at l.end (IsOne s)
 read_one whole at l s step = record { tokens = s ∷ []; takes = (l, step, refl); within = step.within; is = λ rest. refl }
 
+-- where nothing is read, no tokens are taken
 pub read_none : (whole : List ℕ) (at : ℕ) → at ≤ length whole → Read whole at at IsNone
 read_none whole at within = record { tokens = []; takes = refl; within = within; is = λ rest. refl }
 
+-- two parts that were read, the second from where the first ended, are one behind the other
 pub read_then : (whole : List ℕ) (at mid end : ℕ) (A B : List Spelled → List Spelled → Type 0) → Read whole at mid A → Read whole mid end B → Read whole at end (Then A B)
 read_then whole at mid end A B a b = record {
   tokens = a.tokens ++ b.tokens;

@@ -45,6 +45,7 @@ end_here front space all =
     ∙ ap (λ n. Ok (span End n (length front + length space + 0))) long
     ∙ ap (λ n. Ok (span End (length (front ++ space)) n)) none
 
+-- white space and tokens in turn are read as just those tokens, and then the end
 pub reads_pieces : (front rest : List ℕ) (ps : List Piece) → ArePieces ps rest → Reads (front ++ bytes_of ps rest) (length front) (lexemes_of (length front) ps)
 reads_pieces front rest [] all = end_here front rest all
 reads_pieces front rest (p ∷ ps) all =
@@ -65,6 +66,7 @@ pub record Found (whole : List ℕ) (at : ℕ) (lexemes : List Lexeme) : Type 0 
   pub same : drop at whole ≡ bytes_of pieces rest
   pub places : lexemes ≡ lexemes_of at pieces
 
+-- what is read as tokens up to the end is white space and those tokens in turn
 pub pieces_read : (whole : List ℕ) (at : ℕ) (lexemes : List Lexeme) → at ≤ length whole → Reads whole at lexemes → Found whole at lexemes
 pieces_read whole at [] within reads =
     let is = next_from-sound whole at within (span End (length whole) (length whole)) reads in
@@ -135,6 +137,7 @@ pieces_by_places at (p ∷ ps) (q ∷ qs) rest end places same =
     let behind = pieces_by_places (at + length p.space + length p.bytes) ps qs rest end (others ∙ ap (λ n. lexemes_of n qs) (sym ends)) tokens.1 in
     (ap (λ x. x ∷ ps) (same_piece p q spaces.0 kinds tokens.0) ∙ ap (λ x. q ∷ x) behind.0, behind.1)
 
+-- bytes are white space and tokens in turn in one way at most
 pub pieces_once : (ps qs : List Piece) (rest end : List ℕ) → ArePieces ps rest → ArePieces qs end → bytes_of ps rest ≡ bytes_of qs end → (ps ≡ qs) × (rest ≡ end)
 pieces_once ps qs rest end are others same =
     pieces_by_places 0 ps qs rest end (reads_once (bytes_of ps rest) 0 (lexemes_of 0 ps) (lexemes_of 0 qs) (reads_pieces [] rest ps are) (subst (λ l. Reads l 0 (lexemes_of 0 qs)) (sym same) (reads_pieces [] end qs others))) same

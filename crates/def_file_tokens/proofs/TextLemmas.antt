@@ -22,10 +22,12 @@ split_last : (before : ℕ) (bs : List ℕ) → (front : List ℕ) × (before �
 split_last before [] = ([], refl)
 split_last before (b ∷ bs) = let rest = split_last b bs in (before ∷ rest.0, ap (λ l. before ∷ l) rest.1)
 
+-- bytes that don't end with a backslash have another last byte, or none
 pub last_or-EndsPlainly : (bytes : List ℕ) → EndsPlainly bytes → last_or 34 bytes ≢ 92
 last_or-EndsPlainly [] plain is = absurd (omega (arith, is))
 last_or-EndsPlainly (b ∷ bs) plain is = let split = split_last b bs in plain split.0 (split.1 ∙ ap (λ x. split.0 ++ x ∷ []) is)
 
+-- bytes whose last byte isn't a backslash, or that have none, don't end with one
 pub EndsPlainly-last_or : (bytes : List ℕ) → last_or 34 bytes ≢ 92 → EndsPlainly bytes
 EndsPlainly-last_or bytes plain front is = plain (ap (last_or 34) is ∙ last_or_push 34 92 front)
 
@@ -67,6 +69,7 @@ last_or-unescaped before (b ∷ c ∷ bs) =
       | stays plain ↦ ap (last_or before) (unescaped-stays b (c ∷ bs) plain) ∙ last_or-unescaped b (c ∷ bs)
     ]
 
+-- what an inside stands for doesn't end with a backslash
 pub EndsPlainly-unescaped : (inside : List ℕ) → IsInside inside → EndsPlainly (unescaped inside)
 EndsPlainly-unescaped inside is = EndsPlainly-last_or (unescaped inside) (λ ends. last_or-EndsPlainly inside is.plain_end (sym (last_or-unescaped 34 inside) ∙ ends))
 
@@ -133,12 +136,14 @@ unescaped-escaped (b ∷ bs) =
     (λ other. ap unescaped (escaped-other b bs other.1) ∙ unescaped-stays b (escaped bs) (λ _. plain_front bs) ∙ ap (λ l. b ∷ l) (unescaped-escaped bs))
     (eqb_tells b 34)
 
+-- an inside is what it stands for, with a backslash in front of each quotation mark
 pub inside_is_escaped : (inside bytes : List ℕ) → IsInside inside → bytes ≡ unescaped inside → EndsPlainly bytes × (inside ≡ escaped bytes)
 inside_is_escaped inside bytes is same = (
   subst EndsPlainly (sym same) (EndsPlainly-unescaped inside is),
   sym (ap escaped same ∙ escaped-unescaped 34 inside is.escaped (λ clash. absurd (omega arith))),
 )
 
+-- bytes without a backslash at the end, with their marks escaped, are an inside that stands for them
 pub escaped_is_inside : (inside bytes : List ℕ) → EndsPlainly bytes → inside ≡ escaped bytes → IsInside inside × (bytes ≡ unescaped inside)
 escaped_is_inside inside bytes plain same = (
   subst IsInside (sym same) (record {
@@ -175,6 +180,7 @@ closes_or before b =
     (λ other. inr (λ mark. absurd (other.1 mark)))
     (eqb_tells b 34)
 
+-- the mark that is found closes: each mark before it is escaped, and it isn't itself
 pub closing_from-sound : (at before : ℕ) (bs : List ℕ) (close : ℕ) → closing_from at before bs ≡ Some close → (at ≤ close) × Closes before bs (close - at)
 unfolding closing_from
 closing_from-sound at before [] close is = cc
@@ -200,6 +206,7 @@ closing_from-sound at before (b ∷ bs) close is =
     ))
     (closes_or before b)
 
+-- the first mark that isn't escaped is the one that is found
 pub closing_from-complete : (at before : ℕ) (inside after : List ℕ) → MarksEscaped before inside → last_or before inside ≢ 92 → closing_from at before (inside ++ 34 ∷ after) ≡ Some (at + length inside)
 unfolding closing_from
 closing_from-complete at before [] after all plain =
@@ -209,6 +216,7 @@ closing_from-complete at before (b ∷ inside) after all plain =
     let shift : at + 1 + length inside ≡ at + suc (length inside) = omega arith in
     closing_from-goes_on at before b (inside ++ 34 ∷ after) all.0 ∙ closing_from-complete (at + 1) b inside after all.1 plain ∙ ap Some shift
 
+-- where no closing mark is found, each mark is escaped
 pub closing_from-none : (at before : ℕ) (bs : List ℕ) → closing_from at before bs ≡ None → MarksEscaped before bs
 unfolding closing_from
 closing_from-none at before [] is = tt
@@ -218,6 +226,7 @@ closing_from-none at before (b ∷ bs) is =
     (λ escaped. (escaped, closing_from-none (at + 1) b bs (sym (closing_from-goes_on at before b bs escaped) ∙ is)))
     (closes_or before b)
 
+-- where each mark is escaped, no closing mark is found
 pub none-closing_from : (at before : ℕ) (bs : List ℕ) → MarksEscaped before bs → closing_from at before bs ≡ None
 unfolding closing_from
 none-closing_from at before [] all = refl

@@ -27,35 +27,42 @@ pub token_at-text : (start b : ℕ) (bs : List ℕ) → b ≡ 34 → token_at st
 unfolding token_at
 token_at-text start b bs is = rw (eq-eqb b 34 is) refl
 
+-- an opening brace is a token of one byte
 pub token_at-open : (start b : ℕ) (bs : List ℕ) → b ≡ 123 → token_at start (b ∷ bs) ≡ Ok (span Open start (start + 1))
 unfolding token_at
 token_at-open start b bs is = ap (λ x. token_at start (x ∷ bs)) is
 
+-- a closing brace is a token of one byte
 pub token_at-close : (start b : ℕ) (bs : List ℕ) → b ≡ 125 → token_at start (b ∷ bs) ≡ Ok (span Close start (start + 1))
 unfolding token_at
 token_at-close start b bs is = ap (λ x. token_at start (x ∷ bs)) is
 
+-- a comma is a token of one byte
 pub token_at-comma : (start b : ℕ) (bs : List ℕ) → b ≡ 44 → token_at start (b ∷ bs) ≡ Ok (span Comma start (start + 1))
 unfolding token_at
 token_at-comma start b bs is = ap (λ x. token_at start (x ∷ bs)) is
 
+-- where a byte begins a word, the token is a word up to the end of the run
 pub token_at-word : (start b : ℕ) (bs : List ℕ) → begins_word b ≡ true → token_at start (b ∷ bs) ≡ Ok (span Word start (start + prefix_len in_run (b ∷ bs)))
 unfolding token_at
 token_at-word start b bs word =
     let apart = λ (c : ℕ) (fails : begins_word c ≡ false). ne_eqb b c (passes_apart begins_word b c word fails) in
     rw (apart 34 refl, apart 123 refl, apart 125 refl, apart 44 refl, word) refl
 
+-- where a byte begins a number and no word, the token is a number up to the end of the run
 pub token_at-number : (start b : ℕ) (bs : List ℕ) → begins_word b ≡ false → begins_number b ≡ true → token_at start (b ∷ bs) ≡ Ok (span Number start (start + prefix_len in_run (b ∷ bs)))
 unfolding token_at
 token_at-number start b bs no_word number =
     let apart = λ (c : ℕ) (fails : begins_number c ≡ false). ne_eqb b c (passes_apart begins_number b c number fails) in
     rw (apart 34 refl, apart 123 refl, apart 125 refl, apart 44 refl, no_word, number) refl
 
+-- a byte that begins no token is a fault, at its own offset
 pub token_at-fault : (start b : ℕ) (bs : List ℕ) → b ≢ 34 → b ≢ 123 → b ≢ 125 → b ≢ 44 → begins_word b ≡ false → begins_number b ≡ false → token_at start (b ∷ bs) ≡ Err (Syntax start)
 unfolding token_at
 token_at-fault start b bs not_quote not_open not_close not_comma no_word no_number =
     rw (ne_eqb b 34 not_quote, ne_eqb b 123 not_open, ne_eqb b 125 not_close, ne_eqb b 44 not_comma, no_word, no_number) refl
 
+-- where no bytes are left the token is the end
 pub token_at-end : (start : ℕ) → token_at start [] ≡ Ok (span End start start)
 unfolding token_at
 token_at-end start = refl
@@ -179,6 +186,7 @@ one_sound start b code bs kind lexeme is token lexeme_is =
       token = subst (λ x. IsToken kind (x ∷ []) bs) (sym is) token;
     })
 
+-- a token that is read begins where reading does, and its bytes spell one of its kind
 pub token_at-sound : (start : ℕ) (bytes : List ℕ) (lexeme : Lexeme) → token_at start bytes ≡ Ok lexeme → IsTokenOf start bytes lexeme
 token_at-sound start [] lexeme is =
     let lexeme_is : span End start start ≡ lexeme = let e = sym (token_at-end start) ∙ is in cc in
@@ -431,6 +439,7 @@ module _ (whole : List ℕ) (at : ℕ) (within : at ≤ length whole) where
       ∙ token_at-text place 34 rest refl
       ∙ ap (text_from place) (none-closing_from (place + 1) 34 rest is.no_closing)
 
+-- at the end of the bytes the end comes next
 pub next_from-end : (whole : List ℕ) → next_from whole (length whole) ≡ Ok (span End (length whole) (length whole))
 unfolding next_from
 next_from-end whole =

@@ -7,12 +7,14 @@ use Rattle.def_plan.specs.Form.{InformationSet, PlacedSet, placed, sequences_of,
 use Rattle.def_plan.specs.Plan.{IsPlan, IsPlanOrCleared, cleared, added}
 use Rattle.def_plan.specs.Laws.{ClearedPlansAddNothing}
 
+-- two plans of one length add up to one of that length
 pub length-added : (x y : List ℕ) → length x ≡ length y → length (added x y) ≡ length x
 length-added [] [] e = refl
 length-added [] (b ∷ y) e = refl
 length-added (a ∷ x) [] e = omega arith
 length-added (a ∷ x) (b ∷ y) e = ap suc (length-added x y (omega arith))
 
+-- each number of a sum is the sum of the two plans' numbers there
 pub at-added : (x y : List ℕ) (s : ℕ) → length x ≡ length y → slice_index (added x y) s ≡ slice_index x s + slice_index y s
 at-added [] [] s e = omega arith
 at-added [] (b ∷ y) s e = omega arith
@@ -25,6 +27,7 @@ pub zeros-added : (x : List ℕ) → added (replicate (length x) 0) x ≡ x
 zeros-added [] = refl
 zeros-added (a ∷ x) = ap (λ n. n ∷ added (replicate (length x) 0) x) (omega arith) ∙ ap (λ xs. a ∷ xs) (zeros-added x)
 
+-- two plans add up to a plan, and their roots to its root
 pub added-is_plan : (sets : List InformationSet) (d e : ℕ) (x y : List ℕ) → IsPlan sets d x → IsPlan sets e y → IsPlan sets (d + e) (added x y)
 added-is_plan sets d e x y p q =
     let same : length x ≡ length y = omega (arith, p.all_sequences, q.all_sequences) in
@@ -80,6 +83,7 @@ root_is sets zero plan p =
     (ap length p ∙ length-replicate (sequence_count sets) 0, ap (λ x. slice_index x 0) p ∙ at_start (nat_sum_over (λ h. h.actions) sets))
 root_is sets (suc root) plan p = (p.all_sequences, p.root_weight)
 
+-- a cleared plan is no plan and adds nothing, and sums with cleared ones are plans or cleared
 pub cleared_plans_add_nothing : ClearedPlansAddNothing
 cleared_plans_add_nothing = record {
   no_plan = no_plan;

@@ -8,6 +8,7 @@ use Rattle.def_sums.specs.Sum.{nat_sum_over}
 use Rattle.def_plan.specs.Form.{InformationSet, PlacedSet, placed_from, placed, sequences_of, sequence_count}
 use Rattle.def_plan.specs.Plan.{AddsUp, IsPlan, HasRoot, first_not_adding, bad_set, IsBadSet}
 
+-- each set has one place
 pub length-placed : (first : ℕ) (sets : List InformationSet) → length (placed_from first sets) ≡ length sets
 length-placed first [] = refl
 length-placed first (h ∷ hs) = ap suc (length-placed (first + h.actions) hs)
@@ -108,12 +109,14 @@ some_from : (sets : List InformationSet) (root : ℕ) (plan : List ℕ) (k : ℕ
 some_from sets root plan k bad None says = absurd (no_plan sets root plan k bad says)
 some_from sets root plan k bad (Some j) says = ap Some (one_only sets root plan j k says bad)
 
+-- no set is found bad exactly where the numbers are a plan of the root
 pub bad_set-none : (sets : List InformationSet) (root : ℕ) (plan : List ℕ) → (bad_set sets root plan ≡ None) ↔ IsPlan sets root plan
 bad_set-none sets root plan = (
   λ e. subst (λ r. MatchOption r (IsPlan sets root plan) (IsBadSet sets root plan)) e (bad_set-says sets root plan),
   λ p. none_from sets root plan p (bad_set sets root plan) (bad_set-says sets root plan),
 )
 
+-- the place that is found is exactly the first that keeps the numbers from being a plan
 pub bad_set-some : (sets : List InformationSet) (root : ℕ) (plan : List ℕ) (k : ℕ) → (bad_set sets root plan ≡ Some k) ↔ IsBadSet sets root plan k
 bad_set-some sets root plan k = (
   λ e. subst (λ r. MatchOption r (IsPlan sets root plan) (IsBadSet sets root plan)) e (bad_set-says sets root plan),

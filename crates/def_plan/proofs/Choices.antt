@@ -47,6 +47,7 @@ rules-whole [] (c ∷ cs) h = elim h [ ]
 rules-whole (g ∷ gs) [] h = elim h [ ]
 rules-whole (g ∷ gs) (c ∷ cs) h = (all_to-whole g c h.0.0 h.0.1, rules-whole gs cs h.1)
 
+-- one choice at each set makes a plan of root 1
 pub pure_plan-is_plan : (sets : List InformationSet) (choices : List ℕ) → AreInOrder sets → AreActions sets choices → IsPlan sets 1 (pure_plan sets choices)
 pure_plan-is_plan sets choices order are = dealt-is_plan 1 sets (rules_of sets choices) (omega arith) order (rules-whole sets choices are)
 
@@ -81,6 +82,7 @@ follows first x (h ∷ hs) (c ∷ cs) e order are =
     in
     (All-range (λ s. slice_index r s ≡ cond (eqb s (chosen here c)) (slice_index r h.before) 0) first h.actions gives, follows (first + h.actions) x' hs cs e' later are.1)
 
+-- the plan of some choices gives each chosen sequence all, and the others of its set nothing
 pub pure_plan-follows : (sets : List InformationSet) (choices : List ℕ) → AreInOrder sets → AreActions sets choices → FollowsChoices sets choices (pure_plan sets choices)
 pure_plan-follows sets choices order are = follows 1 (1 ∷ []) sets choices refl order are
 
@@ -101,6 +103,7 @@ agree first x y (a ∷ hs) (c ∷ cs) order f g h s low =
     (cases_lt t first))
     s (omega arith)
 
+-- a plan of root 1 that follows the choices is the one that they make
 pub pure_plan-only : (sets : List InformationSet) (choices plan : List ℕ) → AreInOrder sets → AreActions sets choices → IsPlan sets 1 plan → FollowsChoices sets choices plan → plan ≡ pure_plan sets choices
 pure_plan-only sets choices plan order are p f =
     let q = pure_plan-is_plan sets choices order are in

@@ -83,6 +83,7 @@ no_better-cancel : (player : Player) (g v t s : ℤ) → g +ℤ v ≡ t +ℤ s �
 no_better-cancel One g v t s e h = omega (arith, ints)
 no_better-cancel Two g v t s e h = omega (arith, ints)
 
+-- values of which no action is better bound what every plan of every root gains
 pub weak_duality_lem : (player : Player) (sums : ℕ → ℤ) (sets : List InformationSet) (values : List ℤ) (root : ℕ) (x : List ℕ)
     → NoActionIsBetter player sums sets values → IsPlan sets root x → IsNoBetter player (gain sums sets x) (pos root *ℤ worth sums (placed sets) values 0)
 weak_duality_lem player sums sets values root x h plan =
@@ -96,6 +97,7 @@ same_times : (n : ℕ) (a b : ℤ) → (0 < n → a ≡ b) → a *ℤ pos n ≡ 
 same_times zero a b h = *ℤ-zero a ∙ sym (*ℤ-zero b)
 same_times (suc n) a b h = ap (λ z. z *ℤ pos (suc n)) (h (omega arith))
 
+-- a plan that plays only where the worth is the set's value gains exactly the bound of weak duality
 pub complementary_slackness_lem : (sums : ℕ → ℤ) (sets : List InformationSet) (values : List ℤ) (root : ℕ) (x : List ℕ)
     → PlaysOnlyTight sums sets values x → IsPlan sets root x → gain sums sets x ≡ pos root *ℤ worth sums (placed sets) values 0
 complementary_slackness_lem sums sets values root x h plan =

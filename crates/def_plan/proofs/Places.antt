@@ -35,5 +35,6 @@ drop-placed first zero hs = ap (λ n. placed_from n hs) (omega arith)
 drop-placed first (suc k) [] = refl
 drop-placed first (suc k) (a ∷ hs) = drop-placed (first + a.actions) k hs ∙ ap (λ n. placed_from n (drop k hs)) (omega arith)
 
+-- the empty sequence and those of each set in turn are all sequences, and a set's place tells its first one
 pub numbered : SequencesAreNumbered
 numbered = record { in_turn = in_turn; each_set = λ sets k h g low. at-placed 1 sets k h g low }

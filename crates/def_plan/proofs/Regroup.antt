@@ -38,6 +38,7 @@ over_sets f first (h ∷ hs) =
     ∙ sum_over-append f (range_with_len first h.actions) (range_with_len (first + h.actions) (nat_sum_over (λ h. h.actions) hs))
     ∙ ap (λ z. sum_over f (range_with_len first h.actions) +ℤ z) (over_sets f (first + h.actions) hs)
 
+-- a sum over all sequences is that of the empty one, and set by set that of the set's sequences
 pub over_sequences : (f : ℕ → ℤ) (sets : List InformationSet) → sum_over f (sequences sets) ≡ f 0 +ℤ sum_over (λ h. sum_over f (sequences_of h)) (placed sets)
 over_sequences f sets =
     let one_first : sequence_count sets ≡ suc (nat_sum_over (λ h. h.actions) sets) = omega arith in

@@ -41,6 +41,7 @@ follows first x (h ∷ hs) (rule ∷ rules) e order whole =
     in
     (made ∙ ap rule (sym had), follows (first + h.actions) x' hs rules e' later whole.1)
 
+-- a dealt plan follows the rules that it is dealt by
 pub dealt-follows : (sets : List InformationSet) (root : ℕ) (rules : List (ℕ → List ℕ)) → AreInOrder sets → AllZip DealsWhole sets rules → FollowsRules sets rules (dealt root sets rules)
 dealt-follows sets root rules order whole = follows 1 (root ∷ []) sets rules refl order whole
 
@@ -64,6 +65,7 @@ agree first x y (a ∷ hs) (rule ∷ rules) order f g h s low =
     (λ t less. ⊎_elim (λ earlier. h t earlier) (λ le. at t le less) (cases_lt t first))
     s (omega arith)
 
+-- a plan of the same root that follows the rules is the dealt one
 pub dealt-only : (sets : List InformationSet) (root : ℕ) (rules : List (ℕ → List ℕ)) (plan : List ℕ) → AreInOrder sets → AllZip DealsWhole sets rules → IsPlan sets root plan → FollowsRules sets rules plan → plan ≡ dealt root sets rules
 dealt-only sets root rules plan order whole p f =
     let made = dealt_onto-is_dealt 1 (root ∷ []) sets rules refl order whole in

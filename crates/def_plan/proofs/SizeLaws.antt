@@ -28,6 +28,7 @@ below root first x (g ∷ gs) order sums h s low =
     (λ t less. ⊎_elim (λ earlier. h t earlier) (λ at. let one_of = at_most_sum (λ s. slice_index x s) first g.actions t at less in omega arith) (cases_lt t first))
     s (omega arith)
 
+-- no number of a plan is greater than its root
 pub plan-below_root : (sets : List InformationSet) (root : ℕ) (x : List ℕ) → AreInOrder sets → IsPlan sets root x → (s : ℕ) → slice_index x s ≤ root
 plan-below_root sets root x order p s =
     ⊎_elim
@@ -38,6 +39,7 @@ plan-below_root sets root x order p s =
 term : (w : ℤ) (n root : ℕ) → n ≤ root → unsigned_abs (w *ℤ pos n) ≤ unsigned_abs w * root
 term w n root h = omega (arith, unsigned_abs-mul w (pos n), mul-le-mul_left (unsigned_abs w) h)
 
+-- the leaf sums against a plan are together at most the leaves' mass times the plan's root
 pub leaf_sums-below : (player : Player) (leaves : List Leaf) (sets against_sets : List InformationSet) (root : ℕ) (x : List ℕ)
     → AreInOrder against_sets → IsPlan against_sets root x → nat_sum_over (λ s. unsigned_abs (leaf_sum player leaves x s)) (sequences sets) ≤ mass_of leaves * root
 leaf_sums-below player leaves sets against_sets root x order p =
@@ -60,8 +62,10 @@ leaf_sums-below player leaves sets against_sets root x order p =
       nat_sum_over-factor root (λ z. unsigned_abs z.weight) leaves,
     )
 
+-- under a round's limits the mass times the root is at most 2 ^ 82
 pub of_a_round : (leaves : List Leaf) (root : ℕ) → mass_of leaves ≤ most_mass → root ≤ most_scale → mass_of leaves * root ≤ 2 ^ 82
 of_a_round leaves root h k = mul-le-mul h k
 
+-- under an evaluation's limits the mass times the root is at most 2 ^ 98
 pub of_an_evaluation : (leaves : List Leaf) (root : ℕ) → mass_of leaves ≤ most_mass → root ≤ most_root → mass_of leaves * root ≤ 2 ^ 98
 of_an_evaluation leaves root h k = mul-le-mul h k

@@ -19,6 +19,7 @@ pub no_better-trans : (player : Player) (a b c : ℤ) → IsNoBetter player a b 
 no_better-trans One a b c h k = ≤ℤ_trans a b c h k
 no_better-trans Two a b c h k = ≤ℤ_trans c b a k h
 
+-- two payoffs of which neither is better for the player are the same
 pub no_better-antisym : (player : Player) (a b : ℤ) → IsNoBetter player a b → IsNoBetter player b a → a ≡ b
 no_better-antisym One a b h k = ≤ℤ_antisym a b h k
 no_better-antisym Two a b h k = ≤ℤ_antisym a b k h
@@ -39,6 +40,7 @@ better-one_of : (player : Player) (a b : ℤ) → (better player a b ≡ a) ⊎ 
 better-one_of One a b = picked (int_lt b a) a b
 better-one_of Two a b = ⊎_elim (λ e. inr e) (λ e. inl e) (picked (int_lt b a) b a)
 
+-- no worth is better than the best of all
 pub none-better : (player : Player) (ws : List ℤ) → All (λ w. IsNoBetter player w (best_of player ws)) ws
 none-better player [] = All-nil (λ w. IsNoBetter player w (pos 0))
 none-better player (w ∷ []) = All-cons (λ v. IsNoBetter player v w) w [] (no_better-refl player w) (All-nil (λ v. IsNoBetter player v w))
@@ -52,6 +54,7 @@ at_either : (w rest best : ℤ) (ws : List ℤ) (i : ℕ) → i < length ws → 
 at_either w rest best ws i low is (inl e) = (0, omega arith, λ d. sym e)
 at_either w rest best ws i low is (inr e) = (suc i, omega arith, λ d. is d ∙ sym e)
 
+-- of some worths, if there are any, one is the best of all
 pub best-reached : (player : Player) (ws : List ℤ) → 1 ≤ length ws → (i : ℕ) × (i < length ws) × ((d : ℤ) → get_or ws i d ≡ best_of player ws)
 best-reached player [] h = absurd (omega arith)
 best-reached player (w ∷ []) h = (0, omega arith, λ d. refl)
@@ -96,6 +99,7 @@ first_with-one value w ws rest =
     (λ no. subst (λ b. IsFirstWith value (w ∷ ws) (cond b 1 (first_with value ws + 1))) (sym no.0) (at_later value w ws (first_with value ws) no.1 (rest no.1)))
     (int_eq_tells w value)
 
+-- where some worth is the value, the place that is found is the first such one
 pub first_with-is_first : (value : ℤ) (ws : List ℤ) (i : ℕ) → i < length ws → ((d : ℤ) → get_or ws i d ≡ value) → IsFirstWith value ws (first_with value ws)
 first_with-is_first value [] i low e = absurd (omega arith)
 first_with-is_first value (w ∷ ws) zero low e = first_with-one value w ws (λ no. absurd (no (e w)))

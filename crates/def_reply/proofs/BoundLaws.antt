@@ -9,9 +9,11 @@ use Rattle.def_reply.specs.Reply.{choices_of, best_reply, total}
 use Rattle.def_reply.specs.Laws.{TightRepliesGiveBounds, BestRepliesGiveBounds, AttainedBoundsAreBest, FloorsAreBelowCeilings, TightRepliesAreOptimal, BestRepliesAreOptimal}
 use Rattle.def_reply.proofs.Optimal.{tight-bound, tight-is_plan, tight-gained, best-tight}
 
+-- tight replies bound every plan by their total, and the plan of their choices gains just that
 pub tight_optimal : TightRepliesAreOptimal
 tight_optimal = record { bound = tight-bound; is_plan = tight-is_plan; gained = tight-gained }
 
+-- the best reply bounds every plan by its total, and the plan of its choices gains just that
 pub best_optimal : BestRepliesAreOptimal
 best_optimal = record {
   bound = λ player sums sets root plan order p. tight-bound player sums sets (best_reply player sums sets) root plan (best-tight player sums sets order) p;
@@ -19,6 +21,7 @@ best_optimal = record {
   gained = λ player sums sets order. tight-gained player sums sets (best_reply player sums sets) order (best-tight player sums sets order);
 }
 
+-- totals of tight replies are an attained floor of player one's plan and an attained ceiling of player two's
 pub tight_bounds : TightRepliesGiveBounds
 tight_bounds = record {
   floor = λ form x rs order t root y p.
@@ -35,6 +38,7 @@ tight_bounds = record {
       record { is_plan = p; pays = sym (gain_is_pay_one form.leaves form.sets_one (pure_plan form.sets_one (choices_of rs)) y p.all_sequences) ∙ tight-gained One (leaf_sum One form.leaves y) form.sets_one rs order t };
 }
 
+-- the totals of the best replies to a plan are its attained floor and ceiling
 pub best_bounds : BestRepliesGiveBounds
 best_bounds = record {
   floor = λ form x order. tight_bounds.floor form x _ order (best-tight Two (leaf_sum Two form.leaves x) form.sets_two order);
@@ -43,6 +47,7 @@ best_bounds = record {
   ceiling_attained = λ form y order. tight_bounds.ceiling_attained form y _ order (best-tight One (leaf_sum One form.leaves y) form.sets_one order);
 }
 
+-- an attained floor is the greatest one, and an attained ceiling the least
 pub attained_best : AttainedBoundsAreBest
 attained_best = record {
   floor = λ form x y floor attained f a.
@@ -51,6 +56,7 @@ attained_best = record {
       subst (λ z. attained ≤ℤ z) (one-*ℤ ceiling) (subst (λ z. z ≤ℤ (pos 1 *ℤ ceiling)) a.pays (c 1 x a.is_plan));
 }
 
+-- no floor of player one is above a ceiling of player two, each divided by its plan's root
 pub floors_below : FloorsAreBelowCeilings
 floors_below form root_one root_two x y floor ceiling p q f c =
     ≤ℤ_trans (pos root_two *ℤ floor) (pay form.leaves x y) (pos root_one *ℤ ceiling) (f root_two y q) (c root_one x p)

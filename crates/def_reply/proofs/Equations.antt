@@ -50,6 +50,7 @@ head_of player w h =
 at_choice : (w : ℕ → ℤ) (h : PlacedSet) (c : ℕ) (d : ℤ) → 1 ≤ c → c ≤ h.actions → get_or (map w (sequences_of h)) (c - 1) d ≡ w (chosen h c)
 at_choice w h c d low high = get_or-map-range_with_len w h.first h.actions (c - 1) (chosen h c) d (omega arith) refl
 
+-- at a set with an action the best worth and the first action of that worth solve the set's equations
 pub head-first_tight : (player : Player) (w : ℕ → ℤ) (h : PlacedSet) → 1 ≤ h.actions → IsFirstTight player w h (head_of player w h)
 head-first_tight player w h some =
     let worths : List ℤ = map w (sequences_of h) in
@@ -101,6 +102,7 @@ solves_from player sums first (h ∷ hs) order =
       all_same player (worth sums rest (values_of rs)) (worth sums (here ∷ rest) (r.value ∷ values_of rs)) first same (first + h.actions) hs rs (omega arith) (solves_from player sums (first + h.actions) hs (All-tail IsInOrder here rest order)),
     )
 
+-- replies that solve the equations are the best ones, from any first sequence on
 pub only_from : (player : Player) (sums : ℕ → ℤ) (first : ℕ) (hs : List InformationSet) (rs : List SetReply) → All IsInOrder (placed_from first hs)
     → AllZip (IsFirstTight player (worth sums (placed_from first hs) (values_of rs))) (placed_from first hs) rs → rs ≡ replies_at player sums (placed_from first hs)
 only_from player sums first [] [] order f = refl
@@ -117,6 +119,7 @@ only_from player sums first (h ∷ hs) (r ∷ rs) order f =
     let head : r ≡ head_of player w here = one_head player w here r (head_of player w here) (first_tight-same player w' w first same here r (omega arith) f.0) (head-first_tight player w here ordered.0) in
     ap (λ q. q ∷ rs) head ∙ ap (λ qs. head_of player (worth sums rest (values_of qs)) here ∷ qs) later
 
+-- the best reply from a set on is the reply at those sets alone
 pub from_set : (player : Player) (sums : ℕ → ℤ) (k : ℕ) (hs : List PlacedSet) → drop k (replies_at player sums hs) ≡ replies_at player sums (drop k hs)
 from_set player sums zero hs = refl
 from_set player sums (suc k) [] = refl

@@ -40,15 +40,18 @@ only_tight player w plan (h ∷ hs) (r ∷ rs) t f = (
   only_tight player w plan hs rs t.1 f.1,
 )
 
+-- what a plan gains is no better for the player than the total of tight replies times its root
 pub tight-bound : (player : Player) (sums : ℕ → ℤ) (sets : List InformationSet) (replies : List SetReply) (root : ℕ) (plan : List ℕ)
     → AreTight player sums sets replies → IsPlan sets root plan → IsNoBetter player (gain sums sets plan) (pos root *ℤ total sums sets replies)
 tight-bound player sums sets replies root plan t p =
     weak_duality_lem player sums sets (values_of replies) root plan (no_action player (worth sums (placed sets) (values_of replies)) (placed sets) replies t) p
 
+-- the choices of tight replies make a plan of root 1
 pub tight-is_plan : (player : Player) (sums : ℕ → ℤ) (sets : List InformationSet) (replies : List SetReply) → AreInOrder sets → AreTight player sums sets replies → IsPlan sets 1 (pure_plan sets (choices_of replies))
 tight-is_plan player sums sets replies order t =
     pure_plan-is_plan sets (choices_of replies) order (actions player (worth sums (placed sets) (values_of replies)) 1 sets replies t)
 
+-- the plan that tight replies choose gains exactly their total
 pub tight-gained : (player : Player) (sums : ℕ → ℤ) (sets : List InformationSet) (replies : List SetReply) → AreInOrder sets → AreTight player sums sets replies
     → gain sums sets (pure_plan sets (choices_of replies)) ≡ total sums sets replies
 tight-gained player sums sets replies order t =
@@ -65,6 +68,7 @@ tight_of_first player w [] (r ∷ rs) f = f
 tight_of_first player w (h ∷ hs) [] f = f
 tight_of_first player w (h ∷ hs) (r ∷ rs) f = (f.0.tight, tight_of_first player w hs rs f.1)
 
+-- the best reply is tight
 pub best-tight : (player : Player) (sums : ℕ → ℤ) (sets : List InformationSet) → AreInOrder sets → AreTight player sums sets (best_reply player sums sets)
 best-tight player sums sets order =
     tight_of_first player (worth sums (placed sets) (values_of (best_reply player sums sets))) (placed sets) (best_reply player sums sets) (solves_from player sums 1 sets order)

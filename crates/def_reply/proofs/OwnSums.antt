@@ -54,6 +54,7 @@ all_tight_same player f g first (h ∷ hs) (r ∷ rs) same all = (
   all_tight_same player f g (first + h.actions) hs rs (λ s low. same s (omega arith)) all.1,
 )
 
+-- a reply needs the sums at its player's own sequences alone
 pub replies_need_own_sums : RepliesNeedOwnSums
 replies_need_own_sums = record {
   replies = λ player sums other sets agree. replies_same player sums other 1 sets agree;

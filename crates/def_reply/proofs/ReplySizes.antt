@@ -52,6 +52,7 @@ bounded player sums first (h ∷ hs) order =
           (All-weaker (λ q. unsigned_abs q.value ≤ from sums (first + h.actions) hs) (λ q. unsigned_abs q.value ≤ from sums first (h ∷ hs)) (λ q le. omega (arith, from-cons sums first h hs)) rs ih.values);
     }
 
+-- no value of a best reply is larger than the leaf sums together
 pub values-below : (player : Player) (sums : ℕ → ℤ) (sets : List InformationSet) → AreInOrder sets
     → All (λ r. unsigned_abs r.value ≤ nat_sum_over (λ s. unsigned_abs (sums s)) (sequences sets)) (best_reply player sums sets)
 values-below player sums sets order =
@@ -88,6 +89,7 @@ worth_at player sums first (h ∷ hs) s order low high =
     not_here : (b s v n : ℕ) → b < s → cond (eqb b s) v 0 + n ≡ n
     not_here b s v n less = grind (arith, nat_tests)
 
+-- the parts of a sequence's worth are together no larger than the leaf sums
 pub worths-below : (player : Player) (sums : ℕ → ℤ) (sets : List InformationSet) (s : ℕ) → AreInOrder sets → s < sequence_count sets
     → unsigned_abs (sums s) + nat_sum_over (λ p. unsigned_abs p.1) (filter (λ p. eqb p.0.before s) (zip (placed sets) (values_of (best_reply player sums sets))))
     ≤ nat_sum_over (λ s. unsigned_abs (sums s)) (sequences sets)
@@ -100,11 +102,13 @@ worths-below player sums sets s order low =
     (λ some. omega (arith, all_sums sums sets, worth_at player sums 1 sets s order some low))
     (cases_lt s 1)
 
+-- the total of a best reply is no larger than the leaf sums together
 pub total-below : (player : Player) (sums : ℕ → ℤ) (sets : List InformationSet) → AreInOrder sets
     → unsigned_abs (total sums sets (best_reply player sums sets)) ≤ nat_sum_over (λ s. unsigned_abs (sums s)) (sequences sets)
 total-below player sums sets order =
     omega (arith, worth-size sums (placed sets) (values_of (best_reply player sums sets)) 0, worths-below player sums sets 0 order (omega arith))
 
+-- under the limits of mass and root every floor and ceiling of best replies is at most 2 ^ 98
 pub bounds_small : BoundsAreSmall
 bounds_small = record {
   floor = λ form root x order order' p small_mass small_root.

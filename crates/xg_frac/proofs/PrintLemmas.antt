@@ -11,6 +11,7 @@ use Rattle.xg_io.proofs.Known.{append_known-append}
 use Rattle.def_fraction.specs.Fraction.{Fraction}
 use Rattle.def_fraction.specs.Text.{int_text, fraction_text}
 
+-- what holds in any case holds after a failure
 pub on_err : {T E : Type 0} (r : Result T E) (P : Type 0) → P → OnErr r P
 on_err (Ok x) P p = tt
 on_err (Err e) P p = p

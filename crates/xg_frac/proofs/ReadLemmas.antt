@@ -71,6 +71,7 @@ unfolding value_of
 by_body bytes None = refl
 by_body bytes (Some b) = sym (capped_answer (is_minus (sign_of bytes)) (numerator b) (denominator b))
 
+-- a literal is answered by its sign and the two numbers of its body, as far as they are kept
 pub read_as_literal-answer : (bytes : List ℕ) (o : Option Quotient) (negative : Bool) → o ≡ option_map quotient_of (body_of (after_sign bytes)) → negative ≡ is_minus (sign_of bytes) → answer_if negative o ≡ read_as_literal bytes
 unfolding read_as_literal literal_of
 read_as_literal-answer bytes o negative e f =
@@ -82,9 +83,11 @@ unless_true : (b : Bool) → (b ≡ true → ⊥) → b ≡ false
 unless_true true h = absurd (h refl)
 unless_true false h = refl
 
+-- a denominator of 0 is answered with its fault
 pub zero_answer : (negative : Bool) (q : Quotient) → q.den ≡ 0 → Err ZeroDenominator ≡ answer_of negative q.num q.den
 zero_answer negative q e = rw e refl
 
+-- a part past all limits is answered as out of range
 pub past_answer : (negative : Bool) (q : Quotient) → (q.den ≡ 0 → ⊥) → (past_all ≤ q.num) ⊎ (past_all ≤ q.den) → Err Range ≡ answer_of negative q.num q.den
 past_answer negative q some h =
     let no : (ltb q.num past_all && ltb q.den past_all && fits (fraction_of (signed negative q.num) q.den)) ≡ false =
@@ -95,6 +98,7 @@ fit_answer : (o : Option Fraction) (f : Fraction) → SomeIff o (IsTrue (fits f)
 fit_answer None f h = rw (unless_true (fits f) h) refl
 fit_answer (Some x) f h = rw h.0 (ap Ok h.1)
 
+-- two parts that are kept exactly are answered by their fraction if it fits, and else as out of range
 pub within_answer : (negative : Bool) (q : Quotient) (o : Option Fraction) (r : Result Fraction NumberFault) → (q.den ≡ 0 → ⊥) → q.num < past_all → q.den < past_all
     → SomeIff o (IsTrue (fits (fraction_of (signed negative q.num) q.den))) (fraction_of (signed negative q.num) q.den) → r ≡ ok_or o Range → r ≡ answer_of negative q.num q.den
 within_answer negative q o r some n d h e =
@@ -104,6 +108,7 @@ within_answer negative q o r some n d h e =
 pub judged-at : (bytes : List ℕ) (r : Result Fraction NumberFault) → r ≡ read_as_literal bytes → JudgesLiteral bytes r
 judged-at bytes r e = subst (λ (x : Result Fraction NumberFault). JudgesLiteral bytes x) (sym e) (read_as_literal-judged bytes)
 
+-- a fraction that is answered is the value of the literal
 pub value-at : (bytes : List ℕ) (r : Result Fraction NumberFault) → JudgesLiteral bytes r → IfOk r (IsLiteralOf bytes)
 value-at bytes (Ok f) j = (j.value f).0 refl
 value-at bytes (Err e) j = tt

@@ -29,6 +29,7 @@ after_digits-drop bs i h digit =
     ap after_digits (drop-cons bs i 0 h) ∙ ap (λ b. cond b (after_digits (drop (suc i) bs)) (get_or bs i 0 ∷ drop (suc i) bs)) digit
     ∙ ap (λ k. after_digits (drop k bs)) (sym (add-one i))
 
+-- the digits in front are no more than the bytes
 pub leading_digits-within : (bs : List ℕ) → length (leading_digits bs) ≤ length bs
 leading_digits-within bs = omega (arith, ap length (digits_split bs), length-append (leading_digits bs) (after_digits bs))
 
@@ -62,6 +63,7 @@ nothing_left : (xs ys : List ℕ) → length (xs ++ ys) ≤ length xs → ys ≡
 nothing_left xs [] h = refl
 nothing_left xs (y ∷ ys) h = absurd (omega (arith, length-append xs (y ∷ ys)))
 
+-- where the digits in front are as many as the bytes, they are all of them
 pub leading_digits-whole : (bs : List ℕ) → length bs ≤ length (leading_digits bs) → leading_digits bs ≡ bs
 leading_digits-whole bs h =
     let split = digits_split bs in
@@ -80,6 +82,7 @@ after_digits-part bs k e =
 pub leading_digits-digits_only : (bs : List ℕ) → all_ascii_digits bs ≡ true → leading_digits bs ≡ bs
 leading_digits-digits_only bs h = ap leading_digits (sym (append-nil bs)) ∙ leading_digits-append bs [] h tt
 
+-- bytes that are digits up to the end, and some, are a numeral
 pub numeral_yes : (bs : List ℕ) → (length (leading_digits bs) ≡ 0 → ⊥) → length bs ≤ length (leading_digits bs) → is_numeral bs ≡ true
 numeral_yes bs some h =
     let whole = leading_digits-whole bs h in
@@ -89,6 +92,7 @@ false_unless : (b : Bool) → (b ≡ true → ⊥) → b ≡ false
 false_unless true h = absurd (h refl)
 false_unless false h = refl
 
+-- bytes with no digit in front, or with more than the digits, are no numeral
 pub numeral_no : (bs : List ℕ) → (length (leading_digits bs) ≡ 0) ⊎ (length (leading_digits bs) < length bs) → is_numeral bs ≡ false
 numeral_no bs h = false_unless (is_numeral bs) (λ e.
     let parts = and_parts (all_ascii_digits bs) (ltb 0 (length bs)) e in
@@ -108,6 +112,7 @@ number_of-below (d ∷ ds) h =
 
 -- ---- powers of ten
 
+-- a number other than 0 times ten to more than 38 is past all limits
 pub ten_to_39 : (n k : ℕ) → (n ≡ 0 → ⊥) → 38 < k → past_all ≤ n * 10 ^ k
 ten_to_39 n k some h =
     let split : 10 ^ k ≡ 10 ^ 39 * 10 ^ (k - 39) = ap (λ j. 10 ^ j) (omega arith) ∙ pow-add 10 39 (k - 39) in
@@ -115,6 +120,7 @@ ten_to_39 n k some h =
     let times : 10 ^ k ≤ n * 10 ^ k = omega (arith, mul-le 1 (10 ^ k) n (10 ^ k) (omega arith) (omega arith)) in
     omega (arith, split, more, times)
 
+-- ten to at most 38 is below 2 ^ 128
 pub ten_below : (k : ℕ) → k ≤ 38 → 10 ^ k < 2 ^ 128
 ten_below k h = omega (arith, pow-le-pow_right {n = 10} (omega arith) {i = k} {j = 38} h)
 
@@ -158,6 +164,7 @@ if_some : {A B : Type 0} (b : Bool) (o : Option A) (f : A → B) → option_map 
 if_some true o f = refl
 if_some false o f = refl
 
+-- a decimal's two kept numbers come of its number, its places and its power, if it has a digit
 pub quotient_of-decimal_of : (before : List ℕ) (after : Option (List ℕ)) (rest : List ℕ) (n : ℕ) → n ≡ min (number_of (before ++ digits_after after)) past_all
     → option_map quotient_of (decimal_of before after rest) ≡ cond (ltb 0 (length (before ++ digits_after after))) (option_map (decimal_quotient n (length (digits_after after))) (power_of rest)) None
 unfolding decimal_of
@@ -167,19 +174,23 @@ quotient_of-decimal_of before after rest n e =
 
 -- ---- what follows the first digits
 
+-- a slice from its second byte to its end is what is left behind the first byte
 pub part-rest : (bs : List ℕ) → take (length bs - 1) (drop 1 bs) ≡ drop 1 bs
 part-rest bs = ap (λ k. take k (drop 1 bs)) (sym (length-drop 1 bs)) ∙ take-length (drop 1 bs)
 
+-- digits with a point behind them are a decimal with the digits behind the point as its places
 pub body_after-point : (before rest : List ℕ) → 1 ≤ length rest → get_or rest 0 0 ≡ 46 → body_after before rest ≡ decimal_of before (Some (leading_digits (drop 1 rest))) (after_digits (drop 1 rest))
 unfolding body_after
 body_after-point before [] h e = absurd (omega arith)
 body_after-point before (c ∷ cs) h e = rw (ne_eqb c 47 (λ f. omega arith), eq-eqb c 46 e) refl
 
+-- digits with neither a bar nor a point behind them are a decimal without places
 pub body_after-other : (before rest : List ℕ) → (get_or rest 0 0 ≡ 47 → ⊥) → (get_or rest 0 0 ≡ 46 → ⊥) → body_after before rest ≡ decimal_of before None rest
 unfolding body_after
 body_after-other before [] h e = refl
 body_after-other before (c ∷ cs) h e = rw (ne_eqb c 47 h, ne_eqb c 46 e) refl
 
+-- no bytes have no first one but the default 0
 pub no_first : (xs : List ℕ) (c : ℕ) → length xs < 1 → 0 < c → get_or xs 0 0 ≡ c → ⊥
 no_first [] c h p e = omega arith
 no_first (x ∷ xs) c h p e = omega arith

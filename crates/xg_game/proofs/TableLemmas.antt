@@ -61,15 +61,19 @@ module _ {D E : Type 0} (entry : ℕ × D → E) (number : E → ℕ) (numbered 
 abbrev pub KnownSet : Type 0
 KnownSet = Described (List Action)
 
+-- a number stands among a table's keys where its set stands among the sets
 pub set_place : (n : ℕ) (es : List (ℕ × KnownSet)) → position (nat_eq n) (keys_of es) ≡ set_place_of n (map set_of es)
 set_place = place_seen set_of (λ s. s.number) (λ e. refl)
 
+-- the key at a place of a table is the number of the set there
 pub set_number : (es : List (ℕ × KnownSet)) (i k : ℕ) → slice_get (keys_of es) i ≡ Some k → k ≡ (set_at (map set_of es) i).number
 set_number es i k at = number_seen set_of (λ s. s.number) (λ e. refl) es i k no_set at
 
+-- what a table keeps at a place, with the number there, is the set there
 pub set_value : (es : List (ℕ × KnownSet)) (i : ℕ) (kept : KnownSet) → slice_get (values_of es) i ≡ Some kept → set_of ((set_at (map set_of es) i).number, kept) ≡ set_at (map set_of es) i
 set_value es i kept at = value_seen set_of (λ s. s.number) (λ e. refl) es i kept no_set at
 
+-- one more entry in a table is one more set behind the others
 pub set_added : (es : List (ℕ × KnownSet)) (e : ℕ × KnownSet) → map set_of (es ++ e ∷ []) ≡ map set_of es ++ set_of e ∷ []
 set_added es e = map-append set_of es (e ∷ [])
 
@@ -85,18 +89,23 @@ set_named es i e given at =
 abbrev pub KnownOutcome : Type 0
 KnownOutcome = Described PayoffPair
 
+-- a number stands among a table's keys where its outcome stands among the outcomes
 pub outcome_place : (n : ℕ) (es : List (ℕ × KnownOutcome)) → position (nat_eq n) (keys_of es) ≡ outcome_place_of n (map outcome_of es)
 outcome_place = place_seen outcome_of (λ s. s.number) (λ e. refl)
 
+-- the key at a place of a table is the number of the outcome there
 pub outcome_number : (es : List (ℕ × KnownOutcome)) (i k : ℕ) → slice_get (keys_of es) i ≡ Some k → k ≡ (outcome_at (map outcome_of es) i).number
 outcome_number es i k at = number_seen outcome_of (λ s. s.number) (λ e. refl) es i k null_outcome at
 
+-- what a table keeps at a place, with the number there, is the outcome there
 pub outcome_value : (es : List (ℕ × KnownOutcome)) (i : ℕ) (kept : KnownOutcome) → slice_get (values_of es) i ≡ Some kept → outcome_of ((outcome_at (map outcome_of es) i).number, kept) ≡ outcome_at (map outcome_of es) i
 outcome_value es i kept at = value_seen outcome_of (λ s. s.number) (λ e. refl) es i kept null_outcome at
 
+-- one more entry in a table is one more outcome behind the others
 pub outcome_added : (es : List (ℕ × KnownOutcome)) (e : ℕ × KnownOutcome) → map outcome_of (es ++ e ∷ []) ≡ map outcome_of es ++ outcome_of e ∷ []
 outcome_added es e = map-append outcome_of es (e ∷ [])
 
+-- an outcome with the first name that is given to it
 pub outcome_named : (es : List (ℕ × KnownOutcome)) (i : ℕ) (e : ℕ × KnownOutcome) (given : Option (List ℕ)) → slice_get es i ≡ Some e
     → map outcome_of (set es i (e.0, record e.1 { name = kept_name e.1.name given })) ≡ set (map outcome_of es) i (record (outcome_at (map outcome_of es) i) { name = kept_name (outcome_at (map outcome_of es) i).name given })
 outcome_named es i e given at =

@@ -60,6 +60,7 @@ actions_next kind left after done next whole seen at end action same e goes read
     ∙ ap (λ (n : ℕ). actions_from kind n (done ++ action ∷ []) whole end) one
     ∙ ap (λ (items : List Action). actions_from kind after items whole end) (sym put)
 
+-- payoffs that are read from here on are those behind the next one, which is kept
 pub payoffs_next : (left after : ℕ) (done next : List Fraction) (whole seen : List ℕ) (at end : ℕ) (payoff : Fraction) → seen ≡ whole → left ≡ after + 1
     → next_is close_byte seen at ≡ false → payoff_at done seen at ≡ Ok (payoff, end) → next ≡ done ++ payoff ∷ []
     → payoffs_from left done whole at ≡ payoffs_from after next whole end
