@@ -117,6 +117,7 @@ value : Option BracketEnds → BracketEnds → BracketEnds
 value None d = d
 value (Some e) d = e
 
+-- two brackets' ends are the same where the options that hold them are
 pub ends-are : (a b : BracketEnds) → Some a ≡ Some b → a ≡ b
 unfolding value
 ends-are a b e = ap (λ o. value o a) e
@@ -141,6 +142,7 @@ as_lower f = record { place = f.place; within = f.within; stands = f.stands; gre
 as_upper : {es : List Evaluation} {e : Evaluation} → IsUpperEnd es e → IsFirstGreatest (λ a e. HasLowerCeiling e a) (λ a e. HasCeilingAtMost e a) es e
 as_upper f = record { place = f.place; within = f.within; stands = f.stands; greatest = f.least; earliest = f.earliest }
 
+-- each end is the first evaluation with the best bound on its side, and only that one
 pub best_ends : EndsAreTheEarliestBest
 best_ends = record {
   lower = lower_end;

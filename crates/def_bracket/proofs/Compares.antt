@@ -12,12 +12,15 @@ lt_yes x y e = omega (arith, ints)
 lt_no : (x y : ℤ) → int_lt x y ≡ false → y ≤ℤ x
 lt_no x y e = omega (arith, ints)
 
+-- the test says yes and x is below y, or it says no and y is at most x
 pub int_lt_tells : (x y : ℤ) → ((int_lt x y ≡ true) × (x <ℤ y)) ⊎ ((int_lt x y ≡ false) × (y ≤ℤ x))
 int_lt_tells x y = ⊎_elim (λ e. inl (e, lt_yes x y e)) (λ e. inr (e, lt_no x y e)) (cases_Bool (int_lt x y))
 
+-- an integer that is below another is at most that one
 pub less_at_most : (x y : ℤ) → x <ℤ y → x ≤ℤ y
 less_at_most x y h = omega (arith, ints)
 
+-- x isn't below y where y is at most x
 pub not_less : (x y : ℤ) → x <ℤ y → y ≤ℤ x → ⊥
 not_less x y h k = omega (arith, ints)
 
@@ -40,9 +43,11 @@ pub at_most-less : (a b c : ℤ) (m n o : ℕ) → 1 ≤ m → (a *ℤ pos n) �
 at_most-less a b c m n o some h k =
     by_lt_z (a *ℤ pos o) (c *ℤ pos m) (λ less. less) (λ le. absurd (not_less (b *ℤ pos o) (c *ℤ pos n) k (at_most-trans c a b o m n some le h)))
 
+-- a / m below b / n, and that at most c / o, so a / m is below c / o
 pub less-at_most : (a b c : ℤ) (m n o : ℕ) → 1 ≤ o → (a *ℤ pos n) <ℤ (b *ℤ pos m) → (b *ℤ pos o) ≤ℤ (c *ℤ pos n) → (a *ℤ pos o) <ℤ (c *ℤ pos m)
 less-at_most a b c m n o some h k =
     by_lt_z (a *ℤ pos o) (c *ℤ pos m) (λ less. less) (λ le. absurd (not_less (a *ℤ pos n) (b *ℤ pos m) h (at_most-trans b c a n o m some k le)))
 
+-- a bound of size up to 2 ^ 98 times a round within the limit stays below 2 ^ 115
 pub product-below : (bound : ℤ) (round : ℕ) → unsigned_abs bound ≤ 2 ^ 98 → round ≤ most_rounds → unsigned_abs (bound *ℤ pos round) < 2 ^ 115
 product-below bound round h k = omega (arith, unsigned_abs-mul bound (pos round), mul-le-mul h k)

@@ -157,5 +157,6 @@ one_by_one every last some =
     (λ k c. reached every last k some ((which every last k).0 c))
     (λ k c. (which every last k).1 (listed every last k some c))
 
+-- multiples of `every` and the last round, in order: the i-th is i times `every`, or the last
 pub rounds : RoundsAreEvaluated
 rounds = record { which = which; in_order = in_order; one_by_one = one_by_one }

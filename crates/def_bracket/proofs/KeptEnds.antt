@@ -127,10 +127,12 @@ after_some o later =
       upper_from = newest upper_of [] o;
     })
 
+-- what a board traces is the trace of its offers' evaluations
 pub offers_are_traced : OffersAreTraced
 offers_are_traced [] = refl
 offers_are_traced (o ∷ later) = ap (λ (b : Board). b.trace) (after_some o later).is
 
+-- both kept ends are those of the offers' evaluations, each with the plan and reply of its offer
 pub offers_keep_the_ends : OffersKeepTheEnds
 offers_keep_the_ends [] ends is = absurd (none-some ends is)
 offers_keep_the_ends (o ∷ later) ends is =
@@ -148,6 +150,7 @@ offers_keep_the_ends (o ∷ later) ends is =
 not_empty : (o : Offer) (later : List Offer) → o ∷ later ≡ [] → ⊥
 not_empty o later e = let long : suc (length later) ≡ 0 = ap length e in omega arith
 
+-- a board lacks an end exactly where nothing was offered
 pub first_offer_makes_ends : FirstOfferMakesEnds
 first_offer_makes_ends = record { lower = lower; upper = upper }
   where
@@ -163,6 +166,7 @@ first_offer_makes_ends = record { lower = lower; upper = upper }
         let b = after_some o later in
         (λ none. absurd (none-some b.upper (sym none ∙ ap (λ (k : Board). k.upper) b.is)), λ e. absurd (not_empty o later e))
 
+-- in a fair offer the replies' totals are the attained floor and ceiling of the two plans
 pub fair_offers_have_bounds : FairOffersHaveBounds
 fair_offers_have_bounds form last offer order_one order_two fair = record {
   floor = subst (λ (r : Reply). IsFloor form offer.plan_one r.total) (sym fair.against_one) (best_bounds.floor form offer.plan_one order_two);
@@ -179,6 +183,7 @@ is_some : (a b : KeptEnd) → Some a ≡ Some b → a ≡ b
 unfolding or
 is_some a b e = ap (λ o. or o a) e
 
+-- of fair offers, each kept plan has its reply's total as its floor or ceiling, and attains it
 pub kept_ends_are_bounds : KeptEndsAreBounds
 kept_ends_are_bounds form [] lower upper order_one order_two fair at_lower at_upper = absurd (none-some lower at_lower)
 kept_ends_are_bounds form (o ∷ later) lower upper order_one order_two fair at_lower at_upper =

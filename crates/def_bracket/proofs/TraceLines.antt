@@ -53,6 +53,7 @@ each (e ∷ es) k ends line d low is =
     let here : ends_of (take (suc k) (e ∷ es)) ≡ Some ends = ap (λ n. ends_of (take n (e ∷ es))) (sym (add-one k)) ∙ is in
     each_line e es k line d low ∙ ap (trace_line (get_or (e ∷ es) k d).round) (ends-are (fold next_ends (first_ends e) (take k es)) ends here)
 
+-- one line for each evaluation, with its round and the ends of all evaluations up to it
 pub trace_lines : TraceHasALineForEach
 trace_lines = record { count = count; begins = λ e. (refl, refl); goes_on = goes_on; each = each }
 
@@ -100,6 +101,7 @@ lies_within line line' r r' a b e e' by_a by_b h =
       not_higher = subst (λ d. (b.upper.high *ℤ pos d) ≤ℤ (a.upper.high *ℤ pos b.upper.round)) by_a.upper (subst (λ d. (b.upper.high *ℤ pos a.upper.divisor) ≤ℤ (a.upper.high *ℤ pos d)) by_b.upper h.upper);
     }))
 
+-- where bounds are divided by their rounds, each line's bracket lies within those of the lines before
 pub never_widens : TraceNeverWidens
 never_widens [] j k line rounds le low = absurd (omega arith)
 never_widens (e ∷ es) j k line rounds le low =
@@ -146,6 +148,7 @@ all_look_back round ends (e ∷ es) up some rise =
     All-cons LooksBack (trace_line e.round (next_ends ends e)) (trace_after (next_ends ends e) es) (looks_back e.round (next_ends ends e) next)
     (all_look_back e.round (next_ends ends e) es next (All-tail (λ e. 1 ≤ e.round) e es some) (rises_later round (map (λ e. e.round) (e ∷ es)) rise))
 
+-- where rounds rise, the ends in a line come from its own round or an earlier one
 pub trace_looks_back : TraceLooksBack
 trace_looks_back [] some rise = All-nil LooksBack
 trace_looks_back (e ∷ es) some rise =

@@ -142,6 +142,7 @@ no_round : (game : WeighedGame) (last every scale : ℕ) → last ≡ 0 → verd
 no_round game last every scale none =
     ap (verdict game) (certificate_without game last every scale none) ∙ (exact.head_alone game (own_head game last every scale)).1 (own_head-is game last every scale)
 
+-- with the game's head a run's certificate passes, and shows the head alone or the ends in payoff units
 pub accepted : TheCertificateOfARunIsAccepted
 accepted = record {
   no_round = λ game head is none. ap (λ (g : Head). verdict game (certificate_of game.form (outcome game.form g))) (same_head game head is) ∙ no_round game head.rounds head.every head.scale none;

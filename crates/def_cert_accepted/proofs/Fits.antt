@@ -278,6 +278,7 @@ by_ends game last every scale order_one order_two small_one small_two fits (Some
     subst CertificateFits (sym (certificate_with game last every scale ends are))
     (record { head = fits; below = bounds_fit game last every scale ends order_one order_two small_one small_two fits are })
 
+-- where the head's numbers are in range and no set has too many actions, so are all its certificate's
 pub fits_always : TheCertificateOfARunFits
 fits_always game head order_one order_two small_one small_two is fits =
     let same : head ≡ own_head game head.rounds head.every head.scale = same_head game head is in

@@ -31,9 +31,11 @@ own_head game last every scale = record {
   scale = scale;
 }
 
+-- the head that is made from a game is that game's
 pub own_head-is : (game : WeighedGame) (last every scale : ℕ) → IsHeadOf game (own_head game last every scale)
 own_head-is game last every scale = record { nodes = refl; leaves = refl; sets_one = refl; sets_two = refl; sequences_one = refl; sequences_two = refl; unit = refl; mass_is = refl }
 
+-- a head that is the game's is the one made from it, with the same rounds and scale
 pub same_head : (game : WeighedGame) (head : Head) → IsHeadOf game head → head ≡ own_head game head.rounds head.every head.scale
 same_head game head h =
     ap (λ n. record head { nodes = n }) h.nodes
@@ -71,6 +73,7 @@ made_of : (form : SequenceForm) (o : Outcome) (head : Head) (lines : List TraceL
 unfolding made
 made_of form o head lines ends h l e = ap (λ (g : Head). made form g o.trace o.ends) h ∙ ap (λ (t : List TraceLine). made form head t o.ends) l ∙ ap (made form head lines) e
 
+-- where the run has ends, its certificate is the head with the bounds of these ends
 pub certificate_with : (game : WeighedGame) (last every scale : ℕ) (ends : BracketEnds) → ends_of (evaluations game.form scale every last) ≡ Some ends
     → certificate_of game.form (outcome game.form (own_head game last every scale)) ≡ with_bounds (own_head game last every scale) (bounds_of_run game last every scale ends)
 unfolding made
@@ -81,6 +84,7 @@ certificate_with game last every scale ends are =
     made_of form (outcome form head) head (trace (evaluations form scale every last)) (Some (ends_at form scale ends))
     (outcomes_show_their_run.head form head) (outcomes_show_their_run.trace form head) (shown.1 ∙ ap Some (shown_are form scale ends shown.0 shown.2))
 
+-- of a run without a round the certificate is the head alone
 pub certificate_without : (game : WeighedGame) (last every scale : ℕ) → last ≡ 0
     → certificate_of game.form (outcome game.form (own_head game last every scale)) ≡ without_bounds (own_head game last every scale)
 unfolding made

@@ -25,6 +25,7 @@ product_size a n = unsigned_abs-mul a (pos n)
 times : (a b p q : ℕ) → a ≤ p → b ≤ q → a * b ≤ p * q
 times a b p q h k = mul-le a b p q h k
 
+-- within the ranges, an end times the round of another line's end is at most 2 ^ 116
 pub trace_products : TraceProductsAreSmall
 trace_products head lines j k line fits trace low_j low_k =
     let a : TraceLine = get_or lines j line in
@@ -43,6 +44,7 @@ all_sets : (wss : List (List ℕ)) → All PlanWeightsFit wss → All (λ ws. na
 all_sets [] f = All-nil (λ ws. nat_sum_over (λ n. n) ws ≤ 2 ^ 46)
 all_sets (ws ∷ wss) f = All-cons (λ ws. nat_sum_over (λ n. n) ws ≤ 2 ^ 46) ws wss (set_sum ws (All-head PlanWeightsFit ws wss f)) (all_sets wss (All-tail PlanWeightsFit ws wss f))
 
+-- a set's printed numbers sum to at most 2 ^ 46, and the unit times the root is at most 2 ^ 98
 pub plan_sums : PlanSumsAreSmall
 plan_sums unit sets plan small fits = record {
   sets = all_sets plan.weights fits.each;
@@ -107,6 +109,7 @@ all_values : (sets : ℕ) (reply : Reply) → sets ≤ 2 ^ 20 → ReplyFits sets
 all_values sets reply few fits =
     omega (arith, nat_sum_over-bounded (λ r. unsigned_abs r.value) (2 ^ 100) reply.sets fits.values, times (length reply.sets) (2 ^ 100) (2 ^ 20) (2 ^ 100) (omega (arith, fits.count)) (omega arith))
 
+-- within the ranges, leaf products sum to at most 2 ^ 98, values to 2 ^ 120, and a worth is at most 2 ^ 121
 pub worths : WorthsAreSmall
 worths player leaves sets plan_sets reply_sets plan reply light fits few fit =
     let xs : List ℕ = printed_numbers plan in
@@ -136,5 +139,6 @@ head_alone game head (Some b) head_only fits e = absurd (exact.not_head_alone ga
 head_alone game head (Some b) (bracket low high) fits e =
     (λ same. absurd (exact.not_head_alone game head b (e ∙ ap (λ (v : Verdict). Ok v) same)), λ none. absurd (omega (arith, fits.asked)))
 
+-- what is accepted within the ranges shows only its head exactly where no round was asked
 pub heads : HeadAloneWithoutRounds
 heads game c shown fits e = head_alone game c.head c.bounds shown fits.below e

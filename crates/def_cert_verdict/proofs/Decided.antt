@@ -76,6 +76,7 @@ unfolding verdict_or
 accepted_by bounds None v e = (refl, sym (ap (verdict_or v) e))
 accepted_by bounds (Some g) v e = absurd (ok_err v g (sym e))
 
+-- the verdict is a fault exactly where it comes in the head or, behind the game's head, in the bounds
 pub causes : EachFaultHasItsCause
 causes game c fault =
     let all = (whole game c).some fault in
@@ -106,6 +107,7 @@ same_high : (low high low' high' : Fraction) → bracket low high ≡ bracket lo
 unfolding high_or
 same_high low high low' high' e = ap (high_or high) e
 
+-- what is accepted has the game's head and bounds that hold up, if any; all else is refused
 pub exact : AcceptanceIsExact
 exact = record {
   head_alone = λ game head. let c = without_bounds head in (

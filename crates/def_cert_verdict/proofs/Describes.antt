@@ -70,6 +70,7 @@ pub record Searches (X : Type 0) (made : ℕ → X) (r : Option X) (n : ℕ) (Ho
   pub none : (r ≡ None) ↔ ((i : ℕ) → Holds i)
   pub some : (x : X) → (r ≡ Some x) ↔ ((i : ℕ) × (x ≡ made (n + i)) × IsFirstNot Holds i)
 
+-- nothing is found where it holds at every place
 pub Searches-end : (X : Type 0) (made : ℕ → X) (n : ℕ) (Holds : ℕ → Type 0) → ((i : ℕ) → Holds i) → Searches X made None n Holds
 Searches-end X made n Holds all = record {
   none = (λ e. all, λ h. refl);
@@ -132,10 +133,12 @@ pub first_unless : (b : Bool) (g : TestFault) (ts : List (Option TestFault)) →
 first_unless true g ts = refl
 first_unless false g ts = refl
 
+-- where b is true the first test's fault comes, else that of the tests behind it
 pub first_if : (b : Bool) (g : TestFault) (ts : List (Option TestFault)) → first_failing (cond b (Some g) None ∷ ts) ≡ cond (not b) (first_failing ts) (Some g)
 first_if true g ts = refl
 first_if false g ts = refl
 
+-- tests that search pass where it holds everywhere, else the fault is of the first place where it doesn't
 pub Describes-search : (made : ℕ → TestFault) (ts : List (Option TestFault)) (n : ℕ) (Holds : ℕ → Type 0) → Searches TestFault made (first_failing ts) n Holds
     → Describes ts ((i : ℕ) → Holds i) (λ f. (i : ℕ) × (f ≡ made (n + i)) × IsFirstNot Holds i)
 Describes-search made ts n Holds s = record { none = s.none; some = s.some }
@@ -151,5 +154,6 @@ not_less x y e = omega (arith, ints)
 less_not : (x y : ℤ) → y ≤ℤ x → false ≡ int_lt x y
 less_not x y h = omega (arith, ints)
 
+-- the test that x isn't below y tells whether y is at most x
 pub not_less-Decides : (x y : ℤ) → Decides (not (int_lt x y)) (y ≤ℤ x)
 not_less-Decides x y = (λ e. not_less x y (not_true (int_lt x y) e), λ h. ap not (sym (less_not x y h)))

@@ -33,5 +33,6 @@ failure (None ∷ xs) f e =
     }
 failure (Some g ∷ xs) f e = record { place = 0; within = omega arith; fails = λ d. e; earlier_pass = All-nil (λ o. o ≡ None) }
 
+-- no fault where all tests pass, else that of a failing test behind tests that pass
 pub first_failure : TheFirstFailureDecides
 first_failure = record { none = λ xs. (none_fails xs, all_none xs); some = failure }

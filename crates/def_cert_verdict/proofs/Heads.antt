@@ -112,6 +112,7 @@ caused game head (ReplyNotTight p set) c = absurd c
 caused game head (TotalDiffers end) c = absurd c
 caused game head (TraceWidens line) c = absurd c
 
+-- the head's tests pass exactly where it is the game's, else the fault has the first line that differs
 pub head_described : (game : WeighedGame) (head : Head) → Describes (head_tests game head) (IsHeadOf game head) (HeadFault game head)
 head_described game head =
     Describes-like (head_tests game head) _ (IsHeadOf game head) _ (HeadFault game head)

@@ -144,6 +144,7 @@ in_turn player sets root plan (ReplyNotTight p set) c = absurd c
 in_turn player sets root plan (TotalDiffers end) c = absurd c
 in_turn player sets root plan (TraceWidens line) c = absurd c
 
+-- a plan's tests pass exactly where it is one of the root, else the fault has what is wrong first
 pub plan_described : (player : Player) (sets : List InformationSet) (root : ℕ) (plan : PrintedPlan)
     → Describes (plan_tests player sets root plan) (HoldsAsPlan sets root plan) (PlanFault player sets root plan)
 plan_described player sets root plan =

@@ -299,6 +299,7 @@ total_described player sums sets reply traced bound scale =
     (λ h. h, λ h. h)
     (λ f. (λ c. subst (TotalFault player sums sets reply traced bound scale) (sym c.0) (refl, c.1), total_caused player sums sets reply traced bound scale f))
 
+-- a reply's tests pass exactly where it is tight and its total holds, else the fault has what fails first
 pub reply_described : (player : Player) (sums : ℕ → ℤ) (sets : List InformationSet) (reply : Reply) (traced : ℤ) (bound : Fraction) (scale : ℕ)
     → Describes (whole_reply_tests player sums sets reply traced bound scale) (HoldsAsReply player sums sets reply traced bound scale) (ReplyFault player sums sets reply traced bound scale)
 reply_described player sums sets reply traced bound scale =

@@ -30,6 +30,7 @@ scaled bound total scale root e =
     ∙ *ℤ_comm (total *ℤ pos bound.den) (pos root)
     ∙ sym (*ℤ_assoc (pos root) total (pos bound.den))
 
+-- the bracket of the verdict is the printed one, and the printed plans get and concede its ends
 pub accepted : AcceptedCertificatesShowTheirBounds
 accepted game head b low high order_one order_two some_unit e =
     let a = (exact.with_bracket game head b low high).0 e in

@@ -51,6 +51,7 @@ caused k lines (ValueTooGood p set action) c = absurd c
 caused k lines (ReplyNotTight p set) c = absurd c
 caused k lines (TotalDiffers end) c = absurd c
 
+-- a trace's tests pass exactly where none is wider than the line before, else the fault has the first that is
 pub trace_described : (k : ℕ) (lines : List TraceLine) → Describes (trace_tests k lines) (NeverWidens lines) (TraceFault k lines)
 trace_described k lines =
     Describes-like (trace_tests k lines) _ (NeverWidens lines) _ (TraceFault k lines)

@@ -11,24 +11,30 @@ use Rattle.def_history.specs.Core.{Right, times_right, rights_of}
 abbrev pub one_if : Bool → ℕ
 one_if test = cond test 1 0
 
+-- a job is in a list as often as at its head and in its tail together
 pub times-cons : (job head : ℕ) (tail : List ℕ) → times job (head ∷ tail) ≡ cond (eqb head job) 1 0 + times job tail
 times-cons job head tail = sum_by-cons (λ (other : ℕ). cond (eqb other job) 1 0) head tail
 
+-- with the job put in front, it is there once more
 pub times-self : (job : ℕ) (tail : List ℕ) → times job (job ∷ tail) ≡ 1 + times job tail
 times-self job tail = rw times-cons (grind (arith, nat_tests))
 
+-- a job that is in a list is counted there at least once
 pub times_from_Contains : (job : ℕ) (jobs : List ℕ) → Contains jobs job → 1 ≤ times job jobs
 times_from_Contains job jobs (k, below, is) =
     let at = get_or-le-sum_by (λ (other : ℕ). cond (eqb other job) 1 0) jobs k job below in
     let one : one_if (eqb (get_or jobs k job) job) ≡ 1 = rw is (grind (arith, nat_tests)) in
     omega (arith, at, one)
 
+-- the first element of a list is in it
 pub Contains-head : {X : Type 0} (x : X) (xs : List X) → Contains (x ∷ xs) x
 Contains-head x xs = (0, omega arith, refl)
 
+-- what is in a list is still in it behind a new first element
 pub Contains-tail : {X : Type 0} (y x : X) (xs : List X) → Contains xs x → Contains (y ∷ xs) x
 Contains-tail y x xs (k, below, is) = (suc k, omega arith, is)
 
+-- a job that is counted at least once in a list is in it
 pub Contains_from_times : (job : ℕ) (jobs : List ℕ) → 1 ≤ times job jobs → Contains jobs job
 Contains_from_times job [] h = absurd (omega arith)
 Contains_from_times job (head ∷ tail) h = by_head (Contains_from_times job tail) (eqb head job) refl
@@ -44,12 +50,15 @@ Contains_from_times job (head ∷ tail) h = by_head (Contains_from_times job tai
 is_right : ℕ → ℕ → Right → Bool
 is_right job stripe right = eqb right.job job && eqb right.stripe stripe
 
+-- a right is in a list as often as at its head and in its tail together
 pub times_right-cons : (job stripe : ℕ) (head : Right) (tail : List Right) → times_right job stripe (head ∷ tail) ≡ cond (eqb head.job job && eqb head.stripe stripe) 1 0 + times_right job stripe tail
 times_right-cons job stripe head tail = sum_by-cons (λ (right : Right). cond (eqb right.job job && eqb right.stripe stripe) 1 0) head tail
 
+-- the test of a right on itself counts one
 pub same_right : (job stripe : ℕ) → one_if (eqb job job && eqb stripe stripe) ≡ 1
 same_right job stripe = grind (arith, nat_tests)
 
+-- a right that is in a list is counted there at least once
 pub times_right_from_Contains : (job stripe : ℕ) (rights : List Right) → Contains rights (record { job = job; stripe = stripe }) → 1 ≤ times_right job stripe rights
 times_right_from_Contains job stripe rights (k, below, is) =
     let right : Right = record { job = job; stripe = stripe } in
@@ -65,6 +74,7 @@ and-right : (a b : Bool) → (a && b) ≡ true → b ≡ true
 and-right true b e = e
 and-right false b e = absurd (cc)
 
+-- a right of the same job and the same stripe is that right
 pub right_is : (head : Right) (job stripe : ℕ) → (eqb head.job job && eqb head.stripe stripe) ≡ true → head ≡ record { job = job; stripe = stripe }
 right_is head job stripe e =
     let p = and-left (eqb head.job job) (eqb head.stripe stripe) e in
@@ -73,6 +83,7 @@ right_is head job stripe e =
     let b : head.stripe ≡ stripe = grind (arith, nat_tests) in
     λ i. record { job = a i; stripe = b i }
 
+-- a right that is counted at least once in a list is in it
 pub Contains_from_times_right : (job stripe : ℕ) (rights : List Right) → 1 ≤ times_right job stripe rights → Contains rights (record { job = job; stripe = stripe })
 Contains_from_times_right job stripe [] h = absurd (omega arith)
 Contains_from_times_right job stripe (head ∷ tail) h = by_head (Contains_from_times_right job stripe tail) (eqb head.job job && eqb head.stripe stripe) refl
@@ -92,6 +103,7 @@ times-range first (suc count) job = rw times-cons (rw (times-range (first + 1) c
     step : (first count job : ℕ) → cond (eqb first job) 1 0 + cond (ltb job (first + 1)) 0 (cond (ltb job (first + 1 + count)) 1 0) ≡ cond (ltb job first) 0 (cond (ltb job (first + suc count)) 1 0)
     step first count job = grind (arith, nat_tests)
 
+-- every job is once among the numbers of the jobs, and nothing else is
 pub times-job_numbers : (jobs job : ℕ) → times job (job_numbers jobs) ≡ cond (ltb job jobs) 1 0
 times-job_numbers jobs job = let r = times-range 0 jobs job in grind (arith, nat_tests, r)
 
@@ -104,6 +116,7 @@ times_right-range of job stripe first (suc count) =
     step : (of job stripe first rest : ℕ) → cond (eqb of job && eqb first stripe) 1 0 + cond (eqb of job) rest 0 ≡ cond (eqb of job) (cond (eqb first stripe) 1 0 + rest) 0
     step of job stripe first rest = grind (arith, nat_tests)
 
+-- a job's rights have each stripe once, and nothing of another job
 pub times_right-rights_of : (of stripes job stripe : ℕ) → times_right job stripe (rights_of of stripes) ≡ cond (eqb of job) (cond (ltb stripe stripes) 1 0) 0
 times_right-rights_of of stripes job stripe =
     let a = times_right-range of job stripe 0 stripes in

@@ -37,6 +37,7 @@ legal_at jobs state balanced stripe is_stripe = record { once = once; named = na
             let none : one_if (ltb (get_or (history_of state stripe) k d) jobs) ≡ 0 = grind (arith, nat_tests) in
             omega (arith, has, none, balanced.balance (get_or (history_of state stripe) k d) stripe is_stripe)
 
+-- in a reached state the bag has nothing but jobs, and none of them twice
 pub bag_legal : KeepsBagLegal
 bag_legal jobs state reached = record { once = once; named = named }
   where
@@ -65,6 +66,7 @@ same_element [] k d e below = absurd (omega arith)
 same_element (x ∷ xs) zero d e below = refl
 same_element (x ∷ xs) (suc k) d e below = same_element xs k d e (omega arith)
 
+-- in a reached state every history has nothing but jobs, and none of them twice
 pub histories_legal : KeepsHistoriesLegal
 histories_legal jobs state reached k d below =
     let legal = legal_at jobs state (reached_balanced jobs state reached) k below in
@@ -78,6 +80,7 @@ complete_at jobs state reached (empty, none_held) stripe is_stripe job is_job =
     let bag : times job state.bag ≡ 0 = ap (times job) empty in
     Contains_from_times job (history_of state stripe) (omega (arith, balance, one, bag, end_holds_none state none_held job stripe))
 
+-- with nothing left to draw or to add, every stripe's history has all jobs
 pub ends_complete : EndsComplete
 ends_complete jobs state reached end k d below =
     subst (λ (h : List ℕ). IsComplete jobs h) (same_element state.histories k [] d below) (complete_at jobs state reached end k below)
@@ -97,6 +100,7 @@ split_at x (y ∷ ys) h = by_head (split_at x ys) (eqb y x) refl
         from : (front : List ℕ) × (back : List ℕ) × (ys ≡ front ++ x ∷ back) → (front : List ℕ) × (back : List ℕ) × (y ∷ ys ≡ front ++ x ∷ back)
         from (front, back, is) = (y ∷ front, back, ap (λ zs. y ∷ zs) is)
 
+-- a list with x in its middle has a job as often as without it, and once more where the job is x
 pub times-middle : (job x : ℕ) (front back : List ℕ) → times job (front ++ x ∷ back) ≡ one_if (eqb x job) + times job (front ++ back)
 times-middle job x front back =
     let f : ℕ → ℕ = λ other. cond (eqb other job) 1 0 in
@@ -123,6 +127,7 @@ same_sum f (x ∷ xs) ys same = from (same_sum f xs) (split_at x ys (let a = tim
         (λ (job : ℕ). let a = times-cons job x xs in let b = same job in let c = times-middle job x front back in let e : times job ys ≡ times job (front ++ x ∷ back) = ap (times job) is in omega (arith, a, b, c, e)) in
         ap (λ s. f x +ℤ s) (later (front ++ back) rest) ∙ sym (sum_over-middle f x front back) ∙ ap (sum_over f) (sym is)
 
+-- a history with each job once leaves at a row the sum of all jobs' amounts, whatever its order
 pub replays_to_plain_sum : ReplaysToPlainSum
 replays_to_plain_sum jobs history legal complete amount row = same_sum (λ job. amount job row) history (job_numbers jobs) same
   where
@@ -143,6 +148,7 @@ replays_to_plain_sum jobs history legal complete amount row = same_sum (λ job. 
             no : Contains history job → ⊥
             no (k, below, is) = let named = legal.named k job below in let e : get_or history k job ≡ job = is in omega (arith, named, e, above)
 
+-- at the end the history of a row's stripe leaves the sum of all jobs' amounts at that row
 pub ends_with_plain_sums : EndsWithPlainSums
 ends_with_plain_sums jobs state reached end some amount row =
     let is_stripe : row % stripe_count state < stripe_count state = mod_below row (stripe_count state) some in

@@ -11,6 +11,7 @@ use Rattle.def_history.specs.Laws.{CountsEachRightOnce, HoldsOrGivesUp, GivesUpB
 use Rattle.def_history.proofs.Counts.{one_if, times_from_Contains, Contains_from_times, times_right_from_Contains, Contains_from_times_right}
 use Rattle.def_history.proofs.Steps.{IsBalanced, reached_balanced}
 
+-- for each job and stripe: the bag, the passes and the history have it once between them
 pub counts_once : CountsEachRightOnce
 counts_once jobs state reached job stripe is_job is_stripe =
     let one : one_if (ltb job jobs) ≡ 1 = grind (arith, nat_tests) in
@@ -50,6 +51,7 @@ held_by_pass state pass job stripe holds =
     let le = get_or-le-sum_by (λ rights. times_right job stripe rights) state.passes pass [] below in
     omega (arith, one, le)
 
+-- what a pass holds is the right of a job of the run for one of its stripes
 pub only_rights : HoldsOnlyRights
 only_rights jobs state reached pass job stripe holds = (is_job, is_stripe)
   where
@@ -69,6 +71,7 @@ only_rights jobs state reached pass job stripe holds = (is_job, is_stripe)
           omega (arith, a, b, c))
     ]
 
+-- each right has exactly one holder, or nobody holds it any more
 pub holds_or_gives_up : HoldsOrGivesUp
 holds_or_gives_up jobs state reached job stripe is_job is_stripe =
     elim (cases_lt 0 (times job state.bag)) [
@@ -107,6 +110,7 @@ holds_or_gives_up jobs state reached job stripe is_job is_stripe =
     given_up no_bag no_pass the_bag holds = let a = times_from_Contains job state.bag holds in omega (arith, a, no_bag)
     given_up no_bag no_pass (the_pass pass) holds = let a = held_by_pass state pass job stripe holds in omega (arith, a, no_pass)
 
+-- nobody holds a right any more exactly where its job is in its stripe's history
 pub gives_up_by_adding : GivesUpByAdding
 gives_up_by_adding jobs state reached job stripe is_job is_stripe = (added, given_up)
   where

@@ -24,11 +24,13 @@ sum_over-places f d (x ∷ xs) g from same =
     shift : (from place : ℕ) → from + 1 + place ≡ from + suc place
     shift from place = omega arith
 
+-- jobs that have every leaf once add to a row what all leaves add to it
 pub jobs_add_up : JobsAddUpToLeaves
 jobs_add_up leaf_amount ranges leaves partitions row =
     sum_over-places (λ range. job_amount leaf_amount range row) (record { first = 0; count = 0 }) ranges (λ job. amounts leaf_amount ranges job row) 0 (λ place below. ap (λ job. amounts leaf_amount ranges job row) (zero-add place))
     ∙ sym (sum_over-flat_map (λ leaf. leaf_amount leaf row) leaves_of ranges) ∙ ap (sum_over (λ leaf. leaf_amount leaf row)) partitions
 
+-- at the end the history of a row's stripe leaves the plain sum over all leaves at that row
 pub ends_with_leaf_sums : EndsWithLeafSums
 ends_with_leaf_sums leaf_amount ranges leaves partitions state reached end some row =
     ends_with_plain_sums (length ranges) state reached end some (amounts leaf_amount ranges) row ∙ jobs_add_up leaf_amount ranges leaves partitions row

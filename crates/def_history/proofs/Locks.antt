@@ -81,6 +81,7 @@ permuted (x ∷ xs) ys same = from (permuted xs) (right_split x ys (let a = has_
         let moved = IsPermutation-sym _ _ (IsPermutation-middle front x back) in
         subst (IsPermutation (x ∷ xs)) (sym is) (IsPermutation-trans _ _ _ (IsPermutation-cons x xs (front ++ back) (later (front ++ back) rest)) moved)
 
+-- equal counts of all rights mean equal lists but for their order; a job has one right for each stripe
 pub counts_tell_rights : CountsTellRights
 counts_tell_rights = record {
   same = λ a b. (
@@ -132,6 +133,7 @@ legal_is_fewer jobs history legal job = elim (cases_lt job jobs) [ inl is_job �
                 let other : one_if (eqb x job) ≡ 0 = grind (arith, nat_tests) in
                 omega (arith, times-cons job x xs, other, never_in xs (λ k d inside'. named (suc k) d (omega arith)))
 
+-- what a legal history leaves at a row is at most the sizes of all jobs' amounts there together
 pub legal_replays_are_small : LegalReplaysAreSmall
 legal_replays_are_small jobs history legal amount row =
     let sizes = unsigned_abs-sum_over (λ job. amount job row) history in

@@ -37,6 +37,7 @@ found amount job row (entry ∷ entries) (above, rising) have =
         no : entry.row ≡ row → ⊥
         no same = let t : eqb entry.row row ≡ true = grind (arith, nat_tests) in cc
 
+-- a packet's entries for a row add up to the job's amount there
 pub packets_bring_amounts : PacketsBringAmounts
 packets_bring_amounts amount rows job entries packet row is_row =
     elim (found amount job row entries packet.rising packet.have_amounts) [
@@ -44,6 +45,7 @@ packets_bring_amounts amount rows job entries packet row is_row =
       | inr (none, nothing) ↦ nothing ∙ sym (packet.nothing_else row is_row none)
     ]
 
+-- a place of a stripe has a row exactly where it is below the stripe's count of places
 pub stripes_hold_their_rows : StripesHoldTheirRows
 stripes_hold_their_rows stripes rows stripe place below =
     let some : 0 < stripes = omega arith in

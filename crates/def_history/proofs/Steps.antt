@@ -162,8 +162,10 @@ opening_balanced jobs state opening = record { balance = balance; no_stripe = λ
         let history : times job (history_of state stripe) ≡ 0 = ap (times job) (opening.histories stripe [] below) in
         omega (arith, bag_is job, history, no_rights state.passes opening.passes job stripe)
 
+-- in a reached state each job is counted once for each stripe, and at most once in the bag
 pub reached_balanced : (jobs : ℕ) (state : State) → IsReached jobs state → IsBalanced jobs state
 reached_balanced jobs state (opening, steps, opens, leads) = steps_keep jobs leads (opening_balanced jobs opening opens)
 
+-- where each pass's list is empty, no right is held
 pub end_holds_none : (state : State) → All (λ rights. rights ≡ []) state.passes → (job stripe : ℕ) → times_held state job stripe ≡ 0
 end_holds_none state empty job stripe = no_rights state.passes empty job stripe

@@ -27,6 +27,7 @@ second_before_first : (job : ℕ) (bag one two : List ℕ) → Adds (holding bag
 unfolding right holding
 second_before_first job bag one two = record { is_pass = omega arith; gives_up = record { gives_right = IsPermutation-swap (right job 0 ∷ right job 1 ∷ []) (right job 1 ∷ right job 0 ∷ []) 0 1 (omega arith) (omega arith) refl; joins_history = refl }; other_passes = refl; other_histories = refl; bag = refl }
 
+-- one pass draws two jobs and adds each into both stripes, from an opening to the end
 pub runs_to_the_end : RunsToTheEnd
 unfolding right holding
 runs_to_the_end = (

@@ -37,6 +37,7 @@ amount_size player against bound z s small = by_test (eqb (leaf_sequence player 
     by_test true = omega (arith, unsigned_abs-mul z.weight (pos (slice_index against (leaf_sequence (opponent player) z))), mul-le-mul_left (unsigned_abs z.weight) (small (leaf_sequence (opponent player) z)))
     by_test false = omega arith
 
+-- all jobs' amounts at a row have sizes of at most the mass times the bound on the numbers together
 pub amounts_small : AmountsAreSmall
 amounts_small form numbers_one numbers_two bound ranges partitions small_one small_two row =
     let no_leaves : LeafRange = record { first = 0; count = 0 } in

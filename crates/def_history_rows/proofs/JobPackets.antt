@@ -91,6 +91,7 @@ untouched_amount form numbers_one numbers_two range within row is_row none = by_
     by_test true e = absurd (passes_is_kept (λ r. job_amount (leaf_amount form numbers_one numbers_two) range r) (is_touched form (job_leaves form range)) 0 (row_count form) row (omega arith) (omega arith) e none)
     by_test false e = by_number form numbers_one numbers_two range row within ∙ no_leaf_no_amount form numbers_one numbers_two row (job_leaves form range) e
 
+-- a job's amounts at the rows that its leaves have are its packet
 pub touched_rows_make_packets : TouchedRowsMakePackets
 touched_rows_make_packets form numbers_one numbers_two ranges job within =
     let range : LeafRange = slice_index_or ranges job (record { first = 0; count = 0 }) in
@@ -156,6 +157,7 @@ is_in_range test from (suc count) row low high passes = by_place (λ next. is_in
         rw e (Contains-tail from row (filter test (range_with_len (from + 1) count)) (later next))
     by_place later false h false e = let next : from + 1 ≤ row = grind (arith, nat_tests) in rw e (later next)
 
+-- a row of the form is listed exactly where some leaf has its sequence
 pub touched_rows_are_exact : TouchedRowsAreExact
 touched_rows_are_exact form leaves row = (
   (λ there. let is = in_range_is (is_touched form leaves) 0 (row_count form) row there in (omega (arith, is.1), touched_is form row leaves is.2)),

@@ -31,18 +31,21 @@ all_by_number form numbers_one numbers_two row =
     sum_over-places (λ z. amount_in_row form numbers_one numbers_two z row) (record { sequence_one = 0; sequence_two = 0; weight = pos 0 }) form.leaves (λ leaf. leaf_amount form numbers_one numbers_two leaf row) 0
     (λ place below. ap (λ leaf. leaf_amount form numbers_one numbers_two leaf row) (zero-add place))
 
+-- what all leaves add to a row is the leaf sum of the row's sequence
 pub rows_sum_over_leaves : RowsSumOverLeaves
 rows_sum_over_leaves form numbers_one numbers_two = record {
   rows_of_one = λ s below. all_by_number form numbers_one numbers_two s ∙ in_row_of_one form numbers_one numbers_two form.leaves s below;
   rows_of_two = λ s. all_by_number form numbers_one numbers_two (sequence_count form.sets_one + s) ∙ in_row_of_two form numbers_one numbers_two form.leaves s;
 }
 
+-- what a job adds to a row is the leaf sum over the job's leaves alone
 pub jobs_have_their_leaf_sums : JobsHaveTheirLeafSums
 jobs_have_their_leaf_sums form numbers_one numbers_two range within = record {
   rows_of_one = λ s below. by_number form numbers_one numbers_two range s within ∙ in_row_of_one form numbers_one numbers_two (job_leaves form range) s below;
   rows_of_two = λ s. by_number form numbers_one numbers_two range (sequence_count form.sets_one + s) within ∙ in_row_of_two form numbers_one numbers_two (job_leaves form range) s;
 }
 
+-- at the end the history of a row's stripe leaves the leaf sum of the row's sequence
 pub replays_end_as_rows : ReplaysEndAsRows
 replays_end_as_rows form numbers_one numbers_two ranges partitions state reached end some = record {
   rows_of_one = λ s below. ends_with_leaf_sums (leaf_amount form numbers_one numbers_two) ranges (length form.leaves) partitions state reached end some s ∙ (rows_sum_over_leaves form numbers_one numbers_two).rows_of_one s below;

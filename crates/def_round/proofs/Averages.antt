@@ -65,6 +65,7 @@ two_in_range f a (suc n) s t low_s high_s low_t high_t apart =
     (cases_eq t a))
     (cases_eq s a)
 
+-- where a set gives out all units, its value is at most the sizes of its worths together
 pub value_within : (play : List ℕ) (w : ℕ → ℤ) (h : PlacedSet) → nat_sum_over (λ s. slice_index play s) (sequences_of h) ≡ units → unsigned_abs (set_value play w h) ≤ nat_sum_over (λ s. unsigned_abs (w s)) (sequences_of h)
 value_within play w h all =
     let bound : ℕ = nat_sum_over (λ s. unsigned_abs (w s)) (sequences_of h) in
@@ -81,6 +82,7 @@ apart_within w h s t low_s high_s low_t high_t =
     (λ (other : s ≢ t). let two = two_in_range (λ s. unsigned_abs (w s)) h.first h.actions s t low_s high_s low_t high_t other in omega (arith, ints))
     (cases_eq s t)
 
+-- and none of its worths is further than that from its value
 pub growth_within : (play : List ℕ) (w : ℕ → ℤ) (h : PlacedSet) → nat_sum_over (λ s. slice_index play s) (sequences_of h) ≡ units → (s : ℕ) → h.first ≤ s → s < h.first + h.actions
     → unsigned_abs (w s -ℤ set_value play w h) ≤ nat_sum_over (λ s. unsigned_abs (w s)) (sequences_of h)
 growth_within play w h all s low_s high_s =
@@ -100,5 +102,6 @@ products_within play w h bound all le =
     omega (arith, unsigned_abs-mul (pos (slice_index play s)) (w s), mul-le-mul_left (slice_index play s) small))) in
     omega (arith, each, nat_sum_over-factor bound (λ s. slice_index play s) (sequences_of h), ap (λ n. n * bound) all)
 
+-- a set's value is the worths of its sequences weighted by the play, over all units, rounded down
 pub set_values_are_averages : SetValuesAreAverages
 set_values_are_averages play worths h = floor_div-is_floor (sum_over (λ s. pos (slice_index play s) *ℤ worths s) (sequences_of h)) units (omega arith)

@@ -20,6 +20,7 @@ pub at_front : {A : Type 0} (front : List A) (x : A) (rest : List A) (first : �
 at_front front x rest first d e =
     ap (λ k. get_or (front ++ x ∷ rest) k d) (sym e ∙ sym (add-zero (length front))) ∙ get_or-append-add front (x ∷ rest) 0 d
 
+-- the elements behind a front, as many as the block has, are the block
 pub map-block : {A : Type 0} (front block rest : List A) (first : ℕ) (d : A) → length front ≡ first → map (λ s. get_or (front ++ (block ++ rest)) s d) (range_with_len first (length block)) ≡ block
 map-block front [] rest first d e = refl
 map-block front (x ∷ block) rest first d e =
@@ -42,6 +43,7 @@ blocks f d sizes front first (h ∷ hs) e =
     (ap (λ n. map (λ s. get_or (front ++ (f here ++ flat_map f rest)) s d) (range_with_len first n)) (sym (sizes here)) ∙ map-block front (f here) (flat_map f rest) first d e)
     (subst (λ w. All (λ h'. map (λ s. get_or w s d) (sequences_of h') ≡ f h') rest) same (blocks f d sizes (front ++ f here) (first + h.actions) hs longer))
 
+-- blocks with an element for each action have together as many elements as the sets have actions
 pub length-blocks : {A : Type 0} (f : PlacedSet → List A) → ((h : PlacedSet) → length (f h) ≡ h.actions) → (first : ℕ) (sets : List InformationSet) → length (flat_map f (placed_from first sets)) ≡ nat_sum_over (λ h. h.actions) sets
 length-blocks f sizes first [] = refl
 length-blocks f sizes first (h ∷ hs) =
@@ -64,6 +66,7 @@ blocks_zip {A} {B} f d sizes front first (h ∷ hs) (b ∷ bs) l e =
       subst (λ w. AllZip (λ h' b'. map (λ s. get_or w s d) (sequences_of h') ≡ f h' b') rest bs) same (blocks_zip f d sizes (front ++ f here b) (first + h.actions) hs bs (omega arith) longer),
     )
 
+-- so have the blocks that are made from a second list too
 pub length-blocks_zip : {A B : Type 0} (f : PlacedSet → B → List A) → ((h : PlacedSet) (b : B) → length (f h b) ≡ h.actions) → (first : ℕ) (sets : List InformationSet) (bs : List B) → length bs ≡ length sets
     → length (flat_map (λ p. f p.0 p.1) (zip (placed_from first sets) bs)) ≡ nat_sum_over (λ h. h.actions) sets
 length-blocks_zip f sizes first [] [] l = refl
@@ -85,6 +88,7 @@ drop-range xs d first (suc n) fits =
     ∙ ap (λ ys. get_or xs first d ∷ ys) (drop-range xs d (first + 1) n (omega arith))
     ∙ ap (λ k. get_or xs first d ∷ (map (λ s. get_or xs s d) (range_with_len (first + 1) n) ++ drop k xs)) end
 
+-- a list that has each set's block at its place is, from the first place on, one block after the other
 pub drop-blocks_zip : {A B : Type 0} (f : PlacedSet → B → List A) (d : A) (xs : List A) (first : ℕ) (sets : List InformationSet) (bs : List B)
     → length xs ≡ first + nat_sum_over (λ h. h.actions) sets
     → AllZip (λ h b. map (λ s. get_or xs s d) (sequences_of h) ≡ f h b) (placed_from first sets) bs

@@ -61,6 +61,7 @@ next form root before order_one order_two some all =
       regrets_of_two = (rounds_are_computed (own_sum Two form.leaves plan_one) play_two form.sets_two before.regrets_two (regrets_after (own_sum Two form.leaves plan_one) play_two form.sets_two before.regrets_two) order_two).1 refl;
     }
 
+-- a run begins with empty regrets and sums, and each standing follows from the last by one round
 pub rounds_follow : RoundsFollow
 rounds_follow = record {
   begins = λ form root. record { regrets_of_one = refl; regrets_of_two = refl; sum_of_one = refl; sum_of_two = refl };

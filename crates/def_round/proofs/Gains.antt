@@ -14,6 +14,7 @@ negated : (f : ℕ → ℤ) (plan : List ℕ) (xs : List ℕ) → sum_over (λ s
 negated f plan [] = refl
 negated f plan (x ∷ xs) = omega (arith, ints, neg-*ℤ (f x) (pos (slice_index plan x)), negated f plan xs)
 
+-- what a plan gains from its player's sums is the payoff, with the other sign for player two
 pub own_sums_gain : OwnSumsGainWhatIsPaid
 own_sums_gain form plan_one plan_two = record {
   of_one = λ long. gain_is_pay_one form.leaves form.sets_one plan_one plan_two long;

@@ -26,6 +26,7 @@ utility_size : (player : Player) (payoff : ℤ) → unsigned_abs (utility player
 utility_size One payoff = refl
 utility_size Two payoff = omega (arith, ints)
 
+-- the sizes of a player's leaf sums against a plan are together at most the mass times the root
 pub own_sums_small : OwnSumsAreSmall
 own_sums_small player leaves sets against_sets root plan order is =
     let same = nat_sum_over-same (λ s. unsigned_abs (own_sum player leaves plan s)) (λ s. unsigned_abs (leaf_sum player leaves plan s)) (sequences sets) (λ k d low. utility_size player (leaf_sum player leaves plan _)) in
@@ -60,10 +61,12 @@ one_round sums play sets before so_far bound order whole le small =
     grows : (r g : ℤ) → unsigned_abs r ≤ so_far → unsigned_abs g ≤ size_of_sums sums sets → unsigned_abs (r +ℤ g) ≤ so_far + bound
     grows r g h k = omega (arith, ints, le)
 
+-- a round changes a regret by at most the sizes of the leaf sums together
 pub regrets_grow_by_the_sums : RegretsGrowByTheSums
 regrets_grow_by_the_sums sums play sets before so_far bound order whole le small =
     at_each (so_far + bound) (regrets_after sums play sets before) (one_round sums play sets before so_far bound order whole le small)
 
+-- with leaf sums within 2 ^ 82 the regrets stay within that times the rounds, and within 2 ^ 98
 pub regrets_stay_small : RegretsStaySmall
 regrets_stay_small sums play sets before rounds_so_far order whole le few small =
     let grow = regrets_grow_by_the_sums sums play sets before (rounds_so_far * 2 ^ 82) (2 ^ 82) order whole le small in
@@ -97,6 +100,7 @@ rounds_within form root (suc n) order_one order_two some =
           (own_sums_small Two form.leaves form.sets_two form.sets_one root plan_one order_one (plays_deal_plans form.sets_one play_one root order_one some)) (at_each (n * bound) before.regrets_two so_far.of_two));
     }
 
+-- after n rounds a regret is at most n times the mass times the root
 pub regrets_grow_slowly : RegretsGrowSlowly
 regrets_grow_slowly form root n order_one order_two some =
     let within = rounds_within form root n order_one order_two some in
@@ -109,12 +113,14 @@ regrets_grow_slowly form root n order_one order_two some =
 pub rounds_small : RoundsAreSmall
 rounds_small form root n limits = of_a_round form.leaves root limits.small_mass limits.small_root
 
+-- within the limits of a run, all units times the mass times the root are at most 2 ^ 98
 pub products_small : PlayProductsAreSmall
 products_small form root n limits = omega (arith, rounds_small form root n limits)
 
 regret_bound : (form : SequenceForm) (root n : ℕ) → IsWithinRunLimits form root n → n * (mass_of form.leaves * root) ≤ 2 ^ 98
 regret_bound form root n limits = mul-le-mul limits.few_rounds (rounds_small form root n limits)
 
+-- within the limits of a run, no regret of either player is larger than 2 ^ 98
 pub regrets_small : RegretsAreSmall
 regrets_small form root n order_one order_two some limits =
     let slow = regrets_grow_slowly form root n order_one order_two some in
@@ -135,6 +141,7 @@ deals_within sets regrets small = record {
       omega (arith, sum, long, few);
 }
 
+-- at a set of at most 1,024 actions, all units times the sum of its positive regrets are below 2 ^ 126
 pub dealt_products_small : DealtProductsAreSmall
 dealt_products_small form root n order_one order_two some limits =
     let small = regrets_small form root n order_one order_two some limits in

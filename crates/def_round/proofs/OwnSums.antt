@@ -41,6 +41,7 @@ regrets_same sums other all values before first (h ∷ hs) (v ∷ vs) agree =
     (λ s low high. ap (λ w. regret_of before s +ℤ (w -ℤ v)) (worth_same sums other all values s (agree s (omega arith)))))
     ∙ ap (λ later. set_regrets other all values before here v ++ later) (regrets_same sums other all values before (first + h.actions) hs vs (λ s low. agree s (omega arith)))
 
+-- sums that agree at a player's own sequences give the same values and the same regrets
 pub rounds_need_own_sums : RoundsNeedOwnSums
 rounds_need_own_sums = record {
   values = λ sums other play sets agree. values_same sums other play 1 sets agree;

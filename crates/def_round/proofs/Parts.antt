@@ -53,6 +53,7 @@ parts_at sums play first (h ∷ hs) s order whole low high =
     not_here : (b s v n : ℕ) → b < s → cond (eqb b s) v 0 + n ≡ n
     not_here b s v n less = grind (arith, nat_tests)
 
+-- the sizes of a leaf sum and of the values that join it in a worth are together at most all leaf sums'
 pub worth_parts_are_within_sums : WorthPartsAreWithinSums
 worth_parts_are_within_sums sums play sets order whole s low =
     ⊎_elim

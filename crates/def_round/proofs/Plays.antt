@@ -23,6 +23,7 @@ length-set_play regrets h =
     length-shares units (map (λ s. positive_part (regret_of regrets s)) (sequences_of h))
     ∙ length-map-range_with_len (λ s. positive_part (regret_of regrets s)) h.first h.actions
 
+-- a play has a number for each sequence: at each set the shares of its regrets' positive parts
 pub plays_each_set : PlaysHaveEachSet
 plays_each_set sets regrets = record {
   all_sequences = ap (λ n. suc n) (length-blocks (set_play regrets) (length-set_play regrets) 1 sets) ∙ omega arith;
@@ -35,6 +36,7 @@ pub sum_of_map : (f : ℕ → ℕ) (xs : List ℕ) → nat_sum_over (λ s. f s) 
 sum_of_map f [] = refl
 sum_of_map f (x ∷ xs) = ap (λ n. f x + n) (sum_of_map f xs)
 
+-- what a set's actions are played adds up to all units
 pub plays_all_units : PlaysGiveAllUnits
 plays_all_units sets regrets order k d below =
     let h : PlacedSet = get_or (placed sets) k d in
@@ -54,6 +56,7 @@ own_part : (r : ℤ) → pos 0 ≤ℤ r → pos (positive_part r) ≡ r
 own_part (pos n) h = refl
 own_part (negsuc n) h = absurd (omega (arith, ints))
 
+-- a regret that isn't negative is its own positive part, and of any other it is 0
 pub positive_parts_are_exact : PositivePartsAreExact
 positive_parts_are_exact = record { of_positive = own_part; of_others = no_part }
 
@@ -61,6 +64,7 @@ some_part : (r : ℤ) → pos 0 <ℤ r → 1 ≤ positive_part r
 some_part (pos n) h = omega (arith, ints)
 some_part (negsuc n) h = absurd (omega (arith, ints))
 
+-- beside an action with a positive regret, an action without one isn't played
 pub plays_positive_regrets : PlaysPositiveRegrets
 plays_positive_regrets sets regrets k d below s t is_s is_t positive none =
     let h : PlacedSet = get_or (placed sets) k d in
@@ -89,6 +93,7 @@ play_rules_whole play first (h ∷ hs) order =
       play_rules_whole play (first + h.actions) hs (All-tail IsInOrder here rest order),
     )
 
+-- dealing the root by a play, set after set, gives a plan of that root
 pub plays_deal_plans : PlaysDealPlans
 plays_deal_plans sets play root order some = dealt-is_plan root sets (map (play_rule play) (placed sets)) some order (play_rules_whole play 1 sets order)
 
@@ -119,6 +124,7 @@ dealt_by_rule play first x (h ∷ hs) e order =
     All-cons (λ h'. map (λ s. slice_index r s) (sequences_of h') ≡ play_rule play h' (slice_index r h'.before)) here rest at_here
     (dealt_by_rule play (first + h.actions) x' hs longer order')
 
+-- at each set the number of the sequence before it is split by the shares of the set's play
 pub plays_deal_by_shares : PlaysDealByShares
 plays_deal_by_shares sets play root order = dealt_by_rule play 1 (root ∷ []) sets refl order
 
@@ -132,6 +138,7 @@ follows_rules play plan (h ∷ hs) all = (
   follows_rules play plan hs (All-tail (λ h. map (λ s. slice_index plan s) (sequences_of h) ≡ play_rule play h (slice_index plan h.before)) h hs all),
 )
 
+-- a plan that is split at each set by the shares of a play is the one that the play deals
 pub plans_of_plays_are_unique : PlansOfPlaysAreUnique
 plans_of_plays_are_unique sets play root plan order is =
     dealt-only sets root (map (play_rule play) (placed sets)) plan order (play_rules_whole play 1 sets order) is.is_plan (follows_rules play plan (placed sets) is.each_set)

@@ -62,6 +62,7 @@ module _ (n : ℕ) (share part : ℕ → ℕ) (first long : ℕ) (are : map shar
       (subst (λ w. IsWithinOne n (part s) w (get_or (shares n weights) i 0)) all
       (subst (λ p. IsWithinOne n p (weight_sum (weights_or_ones weights)) (get_or (shares n weights) i 0)) here is))
 
+-- within one unit an action gets its part of the positive regrets; without any, all are played evenly
 pub plays_are_in_proportion : PlaysAreInProportion
 plays_are_in_proportion sets regrets k d below =
     let h : PlacedSet = get_or (placed sets) k d in

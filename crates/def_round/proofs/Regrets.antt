@@ -69,6 +69,7 @@ module _ (sums : ℕ → ℤ) (sets : List InformationSet) (values : List ℤ) (
 pub length-values_of : (sums : ℕ → ℤ) (play : List ℕ) (sets : List InformationSet) → length (round_values sums play sets) ≡ length sets
 length-values_of sums play sets = length-values_from sums play (placed sets) ∙ length-placed_from 1 sets
 
+-- regrets solve the equations of a round exactly where they are the computed ones
 pub rounds_are_computed : RoundsAreComputed
 rounds_are_computed sums play sets before after order = (computed, is_round)
   where

@@ -20,6 +20,7 @@ next_sum sets n root sum plan so_far is =
     let more : n * root + root ≡ suc n * root = omega arith in
     subst (λ r. IsPlan sets r (added sum plan)) more (added-is_plan sets (n * root) root sum plan so_far is)
 
+-- after n rounds both sums are plans, of n times the root
 pub rounds_sum_to_plans : RoundsSumToPlans
 rounds_sum_to_plans form root zero order_one order_two some none = absurd (omega arith)
 rounds_sum_to_plans form root (suc zero) order_one order_two some none = record {

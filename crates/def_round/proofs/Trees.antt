@@ -144,6 +144,7 @@ within_from sums play bound front front_values first (set ∷ sets) all_sets all
 all_sums : (sums : ℕ → ℤ) (sets : List InformationSet) → size_of_sums sums sets ≡ unsigned_abs (sums 0) + nat_sum_over (λ s. unsigned_abs (sums s)) (range_with_len 1 (nat_sum_over (λ h. h.actions) sets))
 all_sums sums sets = ap (nat_sum_over (λ s. unsigned_abs (sums s))) (range-append 0 1 (nat_sum_over (λ h. h.actions) sets))
 
+-- a set's value, worths and growths in a round are at most the sizes of all leaf sums together
 pub values_within : ValuesAreWithinSums
 values_within sums play sets order whole =
     within_from sums play (size_of_sums sums sets) [] [] 1 sets sets (round_values sums play sets) refl refl (none_earlier 1) order whole (omega (arith, all_sums sums sets))
@@ -157,6 +158,7 @@ at_some_set P R gives first (set ∷ sets) (v ∷ vs) all s low high =
     let h : PlacedSet = record { first = first; before = set.before; actions = set.actions } in
     ⊎_elim (λ here. gives h v all.0 s low here) (λ past. at_some_set P R gives (first + set.actions) sets vs all.1 s past (omega arith)) (cases_lt s (first + set.actions))
 
+-- what a sequence is worth in a round is at most the sizes of all leaf sums together
 pub worths_within : WorthsAreWithinSums
 worths_within sums play sets order whole s low =
     ⊎_elim at_root at_set (cases_lt s 1)

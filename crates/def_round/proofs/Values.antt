@@ -58,6 +58,7 @@ worth_at_set sums front front_values h rest value values earlier before s low =
         (λ k d below. let e = earlier.less k d below in omega arith)
         (All-cons (λ h'. h'.before < s) h [] (omega arith) (All-nil (λ h'. h'.before < s)))
 
+-- the front with one set more comes before the sequences behind that set
 pub one_more_earlier : (front : List PlacedSet) (front_values : List ℤ) (h : PlacedSet) (value : ℤ) → AreEarlier front front_values h.first → h.before < h.first → AreEarlier (front ++ h ∷ []) (front_values ++ value ∷ []) (h.first + h.actions)
 one_more_earlier front front_values h value earlier before = record {
   same_length = omega (arith, length-append front (h ∷ []), length-append front_values (value ∷ []), earlier.same_length);
@@ -84,9 +85,11 @@ solves_from sums play front front_values first (set ∷ sets) earlier order =
           (subst (λ hs. AllZip (λ h' v. v ≡ set_value play (worth sums hs ((front_values ++ value ∷ []) ++ values)) h') rest values) (append_assoc front (h ∷ []) rest) later),
     )
 
+-- an empty front comes before any sequence
 pub none_earlier : (first : ℕ) → AreEarlier [] [] first
 none_earlier first = record { same_length = refl; less = All-nil (λ h. h.before < first) }
 
+-- each computed value is the floor over the worths that the computed values give
 pub values_solve : ValuesSolveTheEquations
 values_solve sums play sets order = solves_from sums play [] [] 1 sets (none_earlier 1) order
 
@@ -112,6 +115,7 @@ unique_from sums play front front_values first (set ∷ sets) (value ∷ values)
     ∙ ap (λ vs. set_value play (worth sums rest vs) h) tail in
     ap (λ v. v ∷ values) head ∙ ap (λ vs. set_value play (worth sums rest (values_from sums play rest)) h ∷ vs) tail
 
+-- values that solve the equations of a round are the computed ones
 pub values_are_unique : ValuesAreUnique
 values_are_unique sums play sets values order all = unique_from sums play [] [] 1 sets values (none_earlier 1) order all
 
@@ -121,9 +125,11 @@ rest_from sums play zero hs = refl
 rest_from sums play (suc k) [] = refl
 rest_from sums play (suc k) (h ∷ hs) = rest_from sums play k hs
 
+-- the values of the sets behind the first k are what these later sets alone give
 pub values_of_the_rest : ValuesOfTheRest
 values_of_the_rest sums play sets k = rest_from sums play k (placed sets)
 
+-- there is one value for each set
 pub length-values_from : (sums : ℕ → ℤ) (play : List ℕ) (hs : List PlacedSet) → length (values_from sums play hs) ≡ length hs
 length-values_from sums play [] = refl
 length-values_from sums play (h ∷ hs) = ap suc (length-values_from sums play hs)
@@ -162,6 +168,7 @@ later_sets sums first (set ∷ sets) (v ∷ vs) order long k h e s low =
     by_place later zero e = refl
     by_place later (suc k) e = later k h e s low
 
+-- from a set's first sequence on, a worth is the same with the sets up to that one left out
 pub worths_need_later_sets : WorthsNeedLaterSets
 worths_need_later_sets sums sets values order long k h e s low =
     let next : suc k ≡ k + 1 = omega arith in

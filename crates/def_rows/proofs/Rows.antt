@@ -42,12 +42,14 @@ in_row_of_two form numbers_one numbers_two leaves s =
     not_below : (count s : ℕ) → ltb (count + s) count ≡ false
     not_below count s = grind (arith, nat_tests)
 
+-- a player has a row for each sequence, and in it the leaf sum against the other's numbers
 pub player_rows_are_leaf_sums : PlayerRowsAreLeafSums
 player_rows_are_leaf_sums form player against = record {
   count = length-map-range_with_len (leaf_sum player form.leaves against) 0 (sequence_count (player_sets form player));
   each_row = λ s below. get_or-map-range_with_len (leaf_sum player form.leaves against) 0 (sequence_count (player_sets form player)) s s (pos 0) below (omega arith);
 }
 
+-- first player one's sequences, then player two's, each row with the leaf sum of its sequence
 pub rows_are_leaf_sums : RowsAreLeafSums
 rows_are_leaf_sums form numbers_one numbers_two =
     let of_one = player_rows_are_leaf_sums form One numbers_two in
@@ -64,6 +66,7 @@ rows_are_leaf_sums form numbers_one numbers_two =
           ap (λ row. get_or (rows form numbers_one numbers_two) row (pos 0)) place ∙ get_or-append-add ones twos s (pos 0) ∙ of_two.each_row s below;
     }
 
+-- what stands in a row is the sum of what each leaf adds to it
 pub rows_add_amounts : RowsAddAmounts
 rows_add_amounts form numbers_one numbers_two row below =
     let are = rows_are_leaf_sums form numbers_one numbers_two in

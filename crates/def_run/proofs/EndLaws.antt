@@ -18,6 +18,7 @@ use Rattle.def_run.specs.Run.{reply_to, evaluation, evaluations, offer_after, of
 use Rattle.def_run.specs.Laws.{TraceOfRunNeverWidens, TraceOfRunLooksBack, plan_at_lower, plan_at_upper, GapIsExploitability, EndsBoundAllPlans, OffersOfRunAreFair, OutcomesShowTheirRun}
 use Rattle.def_run.proofs.RunLaws.{rounds_of, evaluations_are_bounds, ends_are_of_their_rounds}
 
+-- in the trace of a run each line's bracket lies within those of the lines before
 pub trace_of_run_never_widens : TraceOfRunNeverWidens
 trace_of_run_never_widens form root every last j k line le low =
     let es : List Evaluation = evaluations form root every last in
@@ -28,6 +29,7 @@ rounds_are : (form : SequenceForm) (root : ℕ) (ks : List ℕ) → map (λ (e :
 rounds_are form root [] = refl
 rounds_are form root (k ∷ ks) = ap (λ rest. k ∷ rest) (rounds_are form root ks)
 
+-- in the trace of a run the ends of a line come from rounds 1 up to its own
 pub trace_of_run_looks_back : TraceOfRunLooksBack
 trace_of_run_looks_back form root every last =
     let es : List Evaluation = evaluations form root every last in
@@ -56,11 +58,13 @@ are_bounds form root every last ends order_one order_two some are =
       best = subst (IsBestAgainst form (plan_at_upper form root ends)) is_high (record { reply = pure_plan form.sets_one (choices_of (reply_to form One (plan_at_upper form root ends))); ceiling = high.ceiling; attained = high.ceiling_attained });
     }
 
+-- each over its plan's root, the two ends are apart by the total exploitability of the two plans
 pub gap_is_exploitability : GapIsExploitability
 gap_is_exploitability form root every last ends order_one order_two some are =
     let b = are_bounds form root every last ends order_one order_two some are in
     record { best = ends.upper.high; left = ends.lower.low; is_best = b.best; is_left = b.left; is = refl }
 
+-- over its root, no plan's floor is above the upper end, and no plan's ceiling below the lower one
 pub ends_bound_all_plans : EndsBoundAllPlans
 ends_bound_all_plans = record {
   floors = λ form root every last ends plan_root plan_one floor order_one order_two some are is_plan is_floor.
@@ -104,6 +108,7 @@ from_offer kept_of form root ks e kept d from =
     let same : at.0 ≡ e.round = ap (λ (o : Offer). o.round) (sym at.1) ∙ ap (λ (v : Evaluation). v.round) (from.is_evaluated d) in
     sym (from.is_kept d) ∙ ap kept_of at.1 ∙ ap (λ k. kept_of (offer_after form root k)) same
 
+-- an outcome has its head, the run's trace and, after a round, both ends with plans and best replies
 pub outcomes_show_their_run : OutcomesShowTheirRun
 outcomes_show_their_run = record {
   head = λ form head. refl;

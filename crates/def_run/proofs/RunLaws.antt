@@ -15,6 +15,7 @@ use Rattle.def_bracket.proofs.EvaluatedRounds.{rounds as rounds_evaluated}
 use Rattle.def_run.specs.Run.{evaluation, evaluations}
 use Rattle.def_run.specs.Laws.{EvaluationsAreBounds, IsOfItsRound, EndsAreOfTheirRounds, RunsHaveEnds, EndsAreInOrder}
 
+-- after any round both sums are plans, and their evaluation is an attained floor and an attained ceiling
 pub evaluations_are_bounds : EvaluationsAreBounds
 evaluations_are_bounds form root round order_one order_two some_root some =
     let plans = rounds_sum_to_plans form root round order_one order_two some_root some in
@@ -65,6 +66,7 @@ of_its_round form root every last place end within stands =
       evaluated = subst (λ n. (n % every ≡ 0) ⊎ (n ≡ last)) (sym same) facts.2;
     }
 
+-- each end of a run is the evaluation of a round that was evaluated
 pub ends_are_of_their_rounds : EndsAreOfTheirRounds
 ends_are_of_their_rounds form root every last ends are =
     let after = divisors_of form root every last in
@@ -79,6 +81,7 @@ some_ends : (es : List Evaluation) → 1 ≤ length es → (ends : BracketEnds) 
 some_ends [] none = absurd (omega arith)
 some_ends (e ∷ es) some = (_, refl)
 
+-- where at least one round is asked, some evaluation stands at each end
 pub runs_have_ends : RunsHaveEnds
 runs_have_ends form root every last some =
     let has = (rounds_evaluated.which every last last).1 (some, le_refl last, inr refl) in
@@ -93,6 +96,7 @@ without_root low high one two root some le =
     turned n z =
         ap (λ k. pos k *ℤ z) (mul_comm n root) ∙ *ℤ_assoc (pos root) (pos n) z ∙ ap (λ y. pos root *ℤ y) (*ℤ_comm (pos n) z)
 
+-- each over its round, the lower end of a run is at most its upper end
 pub ends_are_in_order : EndsAreInOrder
 ends_are_in_order form root every last ends order_one order_two some are =
     let of_rounds = ends_are_of_their_rounds form root every last ends are in
