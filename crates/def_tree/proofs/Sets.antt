@@ -88,7 +88,7 @@ next_as One nodes node is fits = subst (λ k. node.set ≤ set_count k nodes + 1
 next_as Two nodes node is fits = subst (λ k. node.set ≤ set_count k nodes + 1) is fits.next
 next_as Leaf nodes node is fits = let e : node.set ≡ 0 = fits.set in omega arith
 
--- a node that keeps the rules is in a set of its kind that came before, or in the next one
+-- the set number of a node that keeps the rules is at most one more than its kind had sets before
 pub set-le-next : (nodes : List Node) (node : Node) → Fits nodes node → node.set ≤ set_count node.kind nodes + 1
 set-le-next nodes node fits = next_as node.kind nodes node refl fits
 
