@@ -14,6 +14,7 @@ IsGcd-gcd_within (suc turns) a (suc b) h =
     let small : a % suc b < suc b = mod-lt a (omega arith) in
     IsGcd-from_mod a (suc b) _ (IsGcd-gcd_within turns (suc b) (a % suc b) (omega arith))
 
+-- the divisor that is computed is the greatest common one
 pub IsGcd-gcd : (a b : ℕ) → IsGcd a b (gcd a b)
 unfolding gcd
 IsGcd-gcd a b = IsGcd-gcd_within b a b (omega arith)
@@ -56,6 +57,7 @@ divides_other a b c coprime h =
     let P : ℕ → Type 0 = λ x. b ∣ x in
     subst P e both
 
+-- where the second number isn't 0, neither is the greatest common divisor
 pub gcd-positive : (a b : ℕ) → 1 ≤ b → 1 ≤ gcd a b
 gcd-positive a b h =
     ⊎_elim (λ z. let none : gcd a b ∣ b = (IsGcd-gcd a b).1 in
@@ -82,6 +84,7 @@ same_ratio a b c d hb hd p q e =
     let same : b ≡ d = dvd_antisymm (divides_other a b d p into_product) (divides_other c d b q into_other) in
     (eq_of_mul-eq-mul_right d hd a c (e ∙ ap (λ x. c * x) same), same)
 
+-- the multiple that is computed of two numbers that aren't 0 is the least common one
 pub IsLcm-lcm : (a b : ℕ) → 1 ≤ a → 1 ≤ b → IsLcm a b (lcm a b)
 IsLcm-lcm a b ha hb =
     let divides = IsGcd-gcd a b in
@@ -113,12 +116,15 @@ IsLcm-lcm a b ha hb =
 pub gcd-turn : (a b : ℕ) → gcd b (a % b) ≡ gcd a b
 gcd-turn a b = same_from_IsGcd a b _ _ (IsGcd-from_mod a b _ (IsGcd-gcd b (a % b))) (IsGcd-gcd a b)
 
+-- a number's greatest common divisor with 0 is the number
 pub gcd-zero : (a : ℕ) → gcd a 0 ≡ a
 unfolding gcd
 gcd-zero a = refl
 
+-- the greatest common divisor of 1 and a number is 1
 pub gcd-one : (b : ℕ) → gcd 1 b ≡ 1
 gcd-one b = eq-one_of_dvd-one (IsGcd-gcd 1 b).0
 
+-- the greatest common divisor of a number and 1 is 1
 pub gcd-with_one : (a : ℕ) → gcd a 1 ≡ 1
 gcd-with_one a = eq-one_of_dvd-one (IsGcd-gcd a 1).1

@@ -11,10 +11,12 @@ pub unsigned_abs-neg : (m : ℕ) → unsigned_abs (neg_ℤ (pos m)) ≡ m
 unsigned_abs-neg zero = refl
 unsigned_abs-neg (suc m) = refl
 
+-- the negative of a natural number times another is the negative of their product
 pub neg-times : (m d : ℕ) → neg_ℤ (pos m) *ℤ pos d ≡ neg_ℤ (pos (m * d))
 neg-times zero d = rw (zero-mul d) refl
 neg-times (suc m) d = refl
 
+-- a number without one of its factors has its size divided by this factor
 pub unsigned_abs-without_factor : (n : ℤ) (g : ℕ) → unsigned_abs (without_factor n g) ≡ unsigned_abs n / g
 unsigned_abs-without_factor (pos n) g = refl
 unsigned_abs-without_factor (negsuc n) g = unsigned_abs-neg (suc n / g)
@@ -29,6 +31,7 @@ positive_factor : (g k : ℕ) → 1 ≤ g * k → 1 ≤ k
 positive_factor g zero h = omega arith
 positive_factor g (suc k) h = omega arith
 
+-- where the denominator isn't 0, a fraction's lowest terms have its value
 pub fraction_of-reduced : (n : ℤ) (d : ℕ) → 1 ≤ d → ReducesExactly n d
 unfolding fraction_of
 fraction_of-reduced n d h =
@@ -61,6 +64,7 @@ same_signs (negsuc a) (negsuc c) p q hp hq e value = ap negsuc (omega arith)
 same_signs (pos a) (negsuc c) p q hp hq e value = absurd (pos≢neg (a * q) (suc c) p hp (omega arith) value)
 same_signs (negsuc a) (pos c) p q hp hq e value = absurd (pos≢neg (c * p) (suc a) q hq (omega arith) (sym value))
 
+-- two fractions in lowest terms with one value are the same
 pub same_from_value : (f g : Fraction) → IsInLowestTerms f → IsInLowestTerms g → HasValue f g.num g.den → f ≡ g
 same_from_value f g p q value =
     let sizes : unsigned_abs f.num * g.den ≡ unsigned_abs g.num * f.den = sym (unsigned_abs-mul f.num (pos g.den)) ∙ ap unsigned_abs value ∙ unsigned_abs-mul g.num (pos f.den) in
@@ -100,6 +104,7 @@ fraction_of-lowest f h =
     let den : f.den / common ≡ f.den = ap (λ x. f.den / x) h.coprime ∙ div-one f.den in
     ap (λ n. make n (f.den / common)) (without_one f.num common h.coprime) ∙ ap (make f.num) den
 
+-- a sign before a number leaves its size as it is
 pub unsigned_abs-signed : (negative : Bool) (n : ℕ) → unsigned_abs (signed negative n) ≡ n
 unsigned_abs-signed true n = unsigned_abs-neg n
 unsigned_abs-signed false n = refl

@@ -106,6 +106,7 @@ by_literal bytes (Some l) e =
       );
     }
 
+-- what reading gives says what the bytes are, and the other way round
 pub read_as_literal-judged : (bytes : List ℕ) → JudgesLiteral bytes (read_as_literal bytes)
 unfolding read_as_literal
 read_as_literal-judged bytes = by_literal bytes (literal_of bytes) refl

@@ -11,9 +11,11 @@ use Rattle.def_fraction.specs.Reading.{sign_of, after_sign, power_of, decimal_of
 
 -- ---- digits
 
+-- the bytes of digits go from 48 to 57
 pub digit_range : (c : ℕ) → is_ascii_digit c ≡ true → (48 ≤ c) × (c ≤ 57)
 digit_range c h = let parts = and_parts _ _ h in (leb-true 48 c parts.0, leb-true c 57 parts.1)
 
+-- digits followed by digits are digits
 pub digits-append : (xs ys : List ℕ) → all_ascii_digits xs ≡ true → all_ascii_digits ys ≡ true → all_ascii_digits (xs ++ ys) ≡ true
 digits-append [] ys p q = q
 digits-append (x ∷ xs) ys p q =
@@ -32,6 +34,7 @@ abbrev pub BeginsElsewhere : List ℕ → Type 0
 BeginsElsewhere [] = ⊤
 BeginsElsewhere (c ∷ cs) = is_ascii_digit c ≡ false
 
+-- where digits are followed by a text that doesn't begin with one, they are those that lead
 pub leading_digits-append : (ds rest : List ℕ) → all_ascii_digits ds ≡ true → BeginsElsewhere rest → leading_digits (ds ++ rest) ≡ ds
 leading_digits-append [] [] p q = refl
 leading_digits-append [] (c ∷ cs) p q = rw q refl
@@ -39,6 +42,7 @@ leading_digits-append (d ∷ ds) rest p q =
     let parts = and_parts (is_ascii_digit d) (all_ascii_digits ds) p in
     rw (parts.0, leading_digits-append ds rest parts.1 q) refl
 
+-- where digits are followed by a text that doesn't begin with one, this text is what stands behind them
 pub after_digits-append : (ds rest : List ℕ) → all_ascii_digits ds ≡ true → BeginsElsewhere rest → after_digits (ds ++ rest) ≡ rest
 after_digits-append [] [] p q = refl
 after_digits-append [] (c ∷ cs) p q = rw q refl
@@ -56,6 +60,7 @@ digits_if : (c : ℕ) (cs : List ℕ) (b : Bool) → is_ascii_digit c ≡ b → 
 digits_if c cs true e h = and_from _ _ e h
 digits_if c cs false e h = refl
 
+-- the leading digits of a text are all digits
 pub leading_digits-digits : (bs : List ℕ) → all_ascii_digits (leading_digits bs) ≡ true
 leading_digits-digits [] = refl
 leading_digits-digits (c ∷ cs) = digits_if c (leading_digits cs) (is_ascii_digit c) refl (leading_digits-digits cs)
@@ -146,6 +151,7 @@ body-unsigned (decimal (d ∷ ds) after p) h =
 body-unsigned (decimal [] (Some after) p) h = (refl, refl)
 body-unsigned (decimal [] None p) h = absurd (false≢true h.0)
 
+-- the text of a literal is read as this literal
 pub literal_of-text : (l : Literal) → IsBody l.body → literal_of (literal_text l) ≡ Some l
 unfolding literal_of
 literal_of-text l h =
@@ -253,6 +259,7 @@ literal_of-spelled bs l h =
       formed = shown.formed;
     })
 
+-- bytes are read as a literal exactly where they are this literal's text
 pub literal_of-IsLiteral : (bs : List ℕ) (l : Literal) → (literal_of bs ≡ Some l) ↔ IsLiteral bs l
 literal_of-IsLiteral bs l =
     (literal_of-spelled bs l, λ w. ap literal_of (sym w.spelled) ∙ literal_of-text l w.formed)

@@ -5,6 +5,7 @@ use Rattle.std.proofs.lemmas.Nat.{pow-add}
 use Rattle.std.proofs.Math.Nat.{mul_assoc}
 use Rattle.def_fraction.specs.Digits.{number_of}
 
+-- digits that stand before others count ten times as much for each digit that follows
 pub number_of-append : (xs ys : List ℕ) → number_of (xs ++ ys) ≡ number_of xs * 10 ^ length ys + number_of ys
 number_of-append [] ys = omega arith
 number_of-append (x ∷ xs) ys =

@@ -48,6 +48,7 @@ less_from_times x y k h p = by_rank (int_cmp x y) (int_ranks x y)
 chain : (a b c d x y : ℤ) → a <ℤ b → c <ℤ d → b ≡ c → a ≡ x → d ≡ y → x <ℤ y
 chain a b c d x y p q e f g = rw (← f, ← g) (omega (arith, ints))
 
+-- fractions in lowest terms are ordered: equal ones are one fraction, and less than less is less
 pub orders_values : (f g h : Fraction) → IsInLowestTerms f → IsInLowestTerms g → IsInLowestTerms h → OrdersValues f g h
 orders_values f g h p q r =
     let a = f.num *ℤ pos g.den in
@@ -65,6 +66,7 @@ orders_values f g h p q r =
           sym (int_cmp_is (f.num *ℤ pos h.den) (h.num *ℤ pos f.den) Less (less_from_times (f.num *ℤ pos h.den) (h.num *ℤ pos f.den) g.den q.positive long));
     }
 
+-- two fractions in lowest terms compare as equal exactly where they are the same
 pub order_of-same : (f g : Fraction) → IsInLowestTerms f → IsInLowestTerms g → (order_of f g ≡ Equal) ↔ (f ≡ g)
 order_of-same f g p q = (
   λ e. same_from_value f g p q (int_ranked (f.num *ℤ pos g.den) (g.num *ℤ pos f.den) Equal (sym e)),

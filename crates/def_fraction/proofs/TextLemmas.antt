@@ -79,6 +79,7 @@ value_of-fraction f h w =
     let exact : fraction_of (signed (is_minus (sign_for f.num)) (unsigned_abs f.num)) f.den ≡ f = ap (λ z. fraction_of z f.den) (signed_for f.num) ∙ fraction_of-lowest f h in
     rw (n, d, exact, ne_eqb f.den 0 (λ e. omega arith), le-leb (unsigned_abs f.num) (2 ^ 127 - 1) (omega arith), le-leb f.den (2 ^ 127 - 1) (omega arith), w) refl
 
+-- the text of a fraction within the limit is read as this fraction
 pub read_as_literal-fraction_text : (f : Fraction) → IsInLowestTerms f → IsTrue (fits f) → read_as_literal (fraction_text f) ≡ Ok f
 unfolding read_as_literal
 read_as_literal-fraction_text f h w =
@@ -134,6 +135,7 @@ decimal-canonical n h =
       zero = λ e. ap decimal_text e ∙ decimal_digit 0 (omega arith);
     }
 
+-- the text of a whole number has no leading zero, and a minus exactly where the number is negative
 pub int_text-canonical : (n : ℤ) → unsigned_abs n ≤ 2 ^ 127 → IsCanonicalText n (int_text n)
 int_text-canonical (pos n) h = decimal-canonical n (omega arith)
 int_text-canonical (negsuc n) h = (decimal_text (suc n), refl, decimal-canonical (suc n) (omega arith))

@@ -20,17 +20,21 @@ use Rattle.def_game_faults.specs.Faults.{GameFault, ChanceNegative, ChanceSum, S
 use Rattle.def_game_faults.specs.First.{OpensChanceSet, SignsPass, SignsFail, sum_from, RunningSumsFit, AddUpToOne, SumsPass, SumsFail, running_past, other_total}
 use Rattle.def_game_faults.proofs.Walks.{passing_none, passing_some, passed, not_passed, IsWalk, each-all}
 
+-- two tests that are passed together are each passed
 pub both : (a b : Bool) → a && b ≡ true → (a ≡ true) × (b ≡ true)
 both true b e = (refl, e)
 both false b e = cc
 
+-- two tests that are each passed are passed together
 pub both_true : (a b : Bool) → a ≡ true → b ≡ true → a && b ≡ true
 both_true a b p q = ap (λ x. x && b) p ∙ q
 
+-- a test whose opposite is passed is not passed
 pub not_false : (b : Bool) → not b ≡ true → b ≡ false
 not_false true e = cc
 not_false false e = refl
 
+-- a test whose opposite is not passed is passed
 pub not_true : (b : Bool) → not b ≡ false → b ≡ true
 not_true true e = refl
 not_true false e = cc
@@ -87,6 +91,7 @@ opens P tables before v chance earlier fails = record {
       (λ w pass there same. fails (subst (λ s. P (probabilities tables s)) same (pass there))) before earlier;
 }
 
+-- the test of signs tells exactly where chance has a probability below 0
 pub sign_walk : (tables : Tables) → IsWalk (sign_fault tables) (SignsPass tables) (SignsFail tables)
 sign_walk tables = record {
   passes = λ before v e chance.
@@ -194,6 +199,7 @@ adding-other k start [] all other = not_passed (is_one start) (ChanceSum k) None
 adding-other k start (p ∷ ps) all other =
     passed (fits (sum_of start p)) (Scale k) (adding_fault k (sum_of start p) ps) (fits_first start p ps all) ∙ adding-other k (sum_of start p) ps (fits_later start p ps all) other
 
+-- the fraction 0 is in lowest terms
 pub nothing-lowest : IsInLowestTerms nothing
 unfolding gcd
 nothing-lowest = record { positive = omega arith; coprime = refl }
@@ -230,6 +236,7 @@ elsewhere : (c : Bool) (o : Option GameFault) (fault : GameFault) → cond c o N
 elsewhere true o fault e = (refl, e)
 elsewhere false o fault e = cc
 
+-- the test of sums tells exactly where probabilities pass the limit or don't come to 1
 pub sum_walk : (tables : Tables) → AreFractions tables → IsWalk (sum_fault tables) (SumsPass tables) (SumsFail tables)
 sum_walk tables h = record {
   passes = λ before v e chance.

@@ -22,6 +22,7 @@ none_then a b e = ap (λ o. or_else o b) e
 some_then : (a b : Option GameFault) (fault : GameFault) → a ≡ Some fault → or_else a b ≡ Some fault
 some_then a b fault e = ap (λ o. or_else o b) e
 
+-- the fault of the numbers is exactly the first one, and there is none exactly where all nodes pass
 pub number_first : (tables : Tables) (tree : Forest) → AreFractions tables → FindsFirstNumberFault tables tree
 number_first tables tree h =
     let nodes : List Visit = visits tree in
@@ -134,6 +135,7 @@ pub of_recall-none : (r : Option RecallBreak) → of_recall r ≡ None → r ≡
 of_recall-none None e = refl
 of_recall-none (Some fault) e = cc
 
+-- the fault of the game, recall included, is exactly the first, and there is none exactly where nothing fails
 pub game_first : (tables : Tables) (tree : Forest) → AreFractions tables → FindsFirstFault tables tree
 game_first tables tree h =
     let numbers = number_first tables tree h in

@@ -173,6 +173,7 @@ node_some_by tables h before v fault (unit_past path leaf zero_sum within over i
     ∙ passed (fits (expected tables v)) k (passing (nat_le unit most) k None) within
     ∙ not_passed (nat_le unit most) k None fault (lt-leb unit most over) is
 
+-- the test of nodes tells exactly where reach, payoffs or unit pass the limit or payoffs aren't zero-sum
 pub node_walk : (tables : Tables) → AreFractions tables → IsWalk (node_fault tables) (NodePasses tables) (NodeFails tables)
 node_walk tables h = record {
   passes = node_none tables h;
@@ -181,6 +182,7 @@ node_walk tables h = record {
   some = node_some_by tables h;
 }
 
+-- the test of the mass tells exactly the leaf at which the mass so far passes the limit
 pub mass_walk : (tables : Tables) (unit : ℕ) → IsWalk (mass_fault tables unit) (MassPasses tables unit) (MassFails tables unit)
 mass_walk tables unit = record {
   passes = λ before v e leaf.

@@ -53,8 +53,10 @@ passing_numbers tables tree h numbers =
       mass_within = within_along (mass_so_far tables unit) (λ before v other. (grows tables h unit before v).inner_mass other) [] nodes (omega arith) (λ before v after p leaf. numbers.masses before v after p leaf);
     }
 
+-- numbers without a fault are probabilities and zero-sum payoffs, with unit and mass within the limit
 pub sound_numbers : (tables : Tables) (tree : Forest) → AreFractions tables → number_fault tables tree ≡ None → HasSoundNumbers tables tree
 sound_numbers tables tree h e = passing_numbers tables tree h ((number_first tables tree h).none.0 e)
 
+-- a game without a fault has sound numbers and perfect recall
 pub sound : (tables : Tables) (tree : Forest) → AreFractions tables → game_fault tables tree ≡ None → IsSound tables tree
 sound tables tree h e = let pass = (game_first tables tree h).none.0 e in record { numbers = passing_numbers tables tree h pass.0; recall = pass.1 }

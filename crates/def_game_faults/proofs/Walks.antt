@@ -7,10 +7,12 @@ use Rattle.def_game_paths.specs.Paths.{Visit}
 use Rattle.def_game_faults.specs.Faults.{GameFault, or_else, passing, NodeTest, found_by}
 use Rattle.def_game_faults.specs.First.{EachPasses, FailsFirst}
 
+-- of two tests one after the other there is no fault only where neither has one
 pub or_none : (a b : Option GameFault) → or_else a b ≡ None → (a ≡ None) × (b ≡ None)
 or_none None b e = (refl, e)
 or_none (Some fault) b e = cc
 
+-- of two tests one after the other the fault is the first's, or the second's where the first has none
 pub or_some : (a b : Option GameFault) (fault : GameFault) → or_else a b ≡ Some fault → (a ≡ Some fault) ⊎ ((a ≡ None) × (b ≡ Some fault))
 or_some None b fault e = inr (refl, e)
 or_some (Some first) b fault e = inl e
@@ -26,9 +28,11 @@ pub passing_some : (b : Bool) (first : GameFault) (later : Option GameFault) (fa
 passing_some true first later fault e = inr (refl, e)
 passing_some false first later fault e = inl (refl, cc)
 
+-- a test that is passed leaves what comes later
 pub passed : (b : Bool) (first : GameFault) (later : Option GameFault) → b ≡ true → passing b first later ≡ later
 passed b first later e = ap (λ t. passing t first later) e
 
+-- a test that is not passed gives its own fault
 pub not_passed : (b : Bool) (first : GameFault) (later : Option GameFault) (fault : GameFault) → b ≡ false → fault ≡ first → passing b first later ≡ Some fault
 not_passed b first later fault e same = ap (λ t. passing t first later) e ∙ ap Some (sym same)
 
@@ -101,6 +105,7 @@ pub record IsWalk (test : NodeTest) (Passes : List Visit → Visit → Type 0) (
   pub fails : (before : List Visit) (v : Visit) (fault : GameFault) → EachPasses Passes before → test before v ≡ Some fault → Fails before v fault
   pub some : (before : List Visit) (v : Visit) (fault : GameFault) → Fails before v fault → test before v ≡ Some fault
 
+-- a walk finds no fault exactly where each node passes
 pub none_iff : (test : NodeTest) (Passes : List Visit → Visit → Type 0) (Fails : List Visit → Visit → GameFault → Type 0) → IsWalk test Passes Fails → (nodes : List Visit) →
     (found_by test [] nodes ≡ None) ↔ EachPasses Passes nodes
 none_iff test Passes Fails walk nodes = (
@@ -108,6 +113,7 @@ none_iff test Passes Fails walk nodes = (
   λ each. none_by test [] nodes (λ before v after p. walk.none before v (each before v after p)),
 )
 
+-- the fault that a walk finds is exactly that of the first node that fails
 pub some_iff : (test : NodeTest) (Passes : List Visit → Visit → Type 0) (Fails : List Visit → Visit → GameFault → Type 0) → IsWalk test Passes Fails → (nodes : List Visit) (fault : GameFault) →
     (found_by test [] nodes ≡ Some fault) ↔ FailsFirst Passes Fails nodes fault
 some_iff test Passes Fails walk nodes fault = (

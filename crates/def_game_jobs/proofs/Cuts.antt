@@ -71,6 +71,7 @@ second_of_both : (a b : Bool) → a && b ≡ true → b ≡ true
 second_of_both true b e = e
 second_of_both false b e = cc
 
+-- where a job gives way to its subtrees, there are no more jobs than the limit allows
 pub within_if_cut : (limit count : ℕ) (job : Forest) → is_cut limit count job ≡ true → count_after count job ≤ limit
 within_if_cut limit count job cut = leb-true (count_after count job) limit (second_of_both (is_chance_job job) (nat_le (count_after count job) limit) cut)
 
@@ -122,8 +123,10 @@ module _ (limit : ℕ) where
   passes-pass jobs zero e = refl
   passes-pass jobs (suc n) e = ap (passes limit n) e ∙ passes-pass jobs n e
 
+-- the leaves of the jobs, one job after another, are those of the tree
 pub leaves-jobs_of : (tree : Forest) → tree_count tree ≡ 1 → flat_map leaves_in (jobs_of tree) ≡ leaves_in tree
 leaves-jobs_of tree one = leaves-passes 4096 64 (tree ∷ []) (single tree one, tt) ∙ append-nil (leaves_in tree)
 
+-- a tree has at most 4,096 jobs
 pub length-jobs_of : (tree : Forest) → length (jobs_of tree) ≤ 4096
 length-jobs_of tree = length-passes 4096 64 (tree ∷ []) (omega arith)

@@ -13,6 +13,7 @@ passes-suc : (limit n : ℕ) (jobs : List Forest) → passes limit (suc n) jobs 
 passes-suc limit zero jobs = refl
 passes-suc limit (suc n) jobs = passes-suc limit n (pass limit jobs)
 
+-- the jobs of a tree are what 64 passes within 4,096 jobs make of the whole tree
 pub jobs_come_of_passes : JobsComeOfPasses
 jobs_come_of_passes = record { none_at_first = λ limit tree. refl; one_more = λ limit n tree. passes-suc limit n (tree ∷ []); all = λ tree. refl }
 
@@ -237,5 +238,6 @@ module _ (limit : ℕ) where
     ]
   ]
 
+-- in the end no job can give way, unless each of the 64 passes replaced some
 pub cuts_until_no_room : CutsUntilNoRoom
 cuts_until_no_room tree = until_no_room 4096 (tree ∷ []) 64

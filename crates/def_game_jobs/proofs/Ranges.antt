@@ -26,6 +26,7 @@ sum-counts (job ∷ rest) =
     ∙ (λ i. sym (length-leaves_in job) i + sum-counts rest i)
     ∙ sym (length-append (leaves_in job) (flat_map leaves_in rest))
 
+-- the ranges of the jobs, one after another, are the numbers of all leaves
 pub partition : (tree : Forest) → tree_count tree ≡ 1 → flat_map leaves_of (job_ranges tree) ≡ range_with_len 0 (leaf_count (prefix tree))
 partition tree one =
     leaves-ranges_from 0 (leaf_counts tree)
@@ -45,6 +46,7 @@ leaves_at before (j ∷ rest) first (suc k) range job at there =
     ap (λ xs. take (get_or ranges k range).count (drop (get_or ranges k range).first xs)) (sym (append_assoc before (leaves_in j) (flat_map leaves_in rest)))
     ∙ leaves_at (before ++ leaves_in j) rest (first + leaf_count (prefix j)) k range job next (omega arith)
 
+-- the leaves at a job's range are the job's own
 pub leaves_at_ranges : RangesHaveTheirJobs
 leaves_at_ranges tree one k range job there =
     let at : LeafRange = get_or (job_ranges tree) k range in

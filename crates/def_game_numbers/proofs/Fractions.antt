@@ -7,6 +7,7 @@ use Rattle.def_file.specs.Game.{HasFractions, IsSmallFraction, chances_of}
 use Rattle.def_game_scale.specs.Tables.{AreFractions, Payoffs}
 use Rattle.def_game_numbers.specs.Numbers.{payoffs_given, tables_of}
 
+-- the tables of a game hold fractions in lowest terms, as its sets and outcomes do
 pub tables_lowest : (game : GameFile) → HasFractions game.sets game.outcomes → AreFractions (tables_of game)
 tables_lowest game h = record {
   chance = All-map (λ row. All IsInLowestTerms row) chances_of game.sets.chance

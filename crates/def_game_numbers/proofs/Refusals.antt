@@ -13,10 +13,12 @@ use Rattle.def_sequence_form.proofs.Leaves.{form_has_the_mass}
 use Rattle.def_game_numbers.specs.Numbers.{GameWeights, as_file_fault, file_fault, refused_or, tables_of, weigh, weights_of_game}
 use Rattle.def_game_numbers.specs.Laws.{IsRefusedWithTheFirst, StandsOnAnswers}
 
+-- what is refused is refused with the fault that was found, as a fault of the file
 pub refused : {A : Type 0} (o : Option GameFault) (answer : A) (fault : FileFault) → refused_or o answer ≡ Err fault → (found : GameFault) × (o ≡ Some found) × (fault ≡ file_fault found)
 refused None answer fault e = cc
 refused (Some found) answer fault e = (found, refl, cc)
 
+-- what is accepted has no fault, and is the answer that was at hand
 pub accepted : {A : Type 0} (o : Option GameFault) (answer given : A) → refused_or o answer ≡ Ok given → (o ≡ None) × (answer ≡ given)
 accepted None answer given e = (refl, cc)
 accepted (Some found) answer given e = cc
@@ -29,6 +31,7 @@ unbroken : (o : Option RecallBreak) (sets given : TreeSets) → unless_broken o 
 unbroken None sets given e = (refl, cc)
 unbroken (Some found) sets given e = cc
 
+-- weighing, and then building the sets, refuse with the game's first fault, and accept where it has none
 pub refused_first : (game : GameFile) → IsRefusedWithTheFirst game
 refused_first game =
     let numbers : Option GameFault = number_fault (tables_of game) game.tree in
@@ -44,6 +47,7 @@ refused_first game =
           ∙ ap (λ o. as_file_fault (of_recall o)) (unbroken recall (tree_sets game.tree) sets f).0;
     }
 
+-- the form made of both answers is the game's: the sets that were built, and the mass that was weighed
 pub stands_on_answers : (game : GameFile) (answer : GameWeights) (sets : TreeSets) → weigh game ≡ Ok answer → sets_or_break game.tree ≡ Ok sets → StandsOnAnswers game answer sets
 stands_on_answers game answer sets e f =
     let tree : Forest = game.tree in

@@ -48,6 +48,7 @@ only_weights tables tree a b p q =
     let masses : a.mass ≡ b.mass = p.mass ∙ ap (λ ws. sum (map unsigned_abs ws)) leaves ∙ sym q.mass in
     λ i. record { unit = units i; mass = masses i; leaves = leaves i }
 
+-- weighing refuses exactly with the first fault of the numbers, and accepts exactly where they have none
 pub weighing : (game : GameFile) → AreFractions (tables_of game) → IsWeighed game
 weighing game h =
     let tables : Tables = tables_of game in
@@ -73,6 +74,7 @@ each_in_sum (w ∷ ws) limit h =
     let parts : sum (map unsigned_abs (w ∷ ws)) ≡ unsigned_abs w + sum (map unsigned_abs ws) = sum_by-cons (λ x. x) (unsigned_abs w) (map unsigned_abs ws) in
     All-cons (λ x. unsigned_abs x ≤ limit) w ws (omega arith) (each_in_sum ws limit (omega arith))
 
+-- the unit isn't 0, and the unit, the mass and each weight are within the limit
 pub fitting : (game : GameFile) (answer : GameWeights) → AreFractions (tables_of game) → weigh game ≡ Ok answer → FitTheLimit answer
 fitting game answer h e =
     let tables : Tables = tables_of game in

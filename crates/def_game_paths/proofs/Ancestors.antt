@@ -49,6 +49,7 @@ seen_at before [] n d h there = absurd (omega arith)
 seen_at before (x ∷ xs) zero d h there = GoesThrough-append before [] x.path h.0
 seen_at before (x ∷ xs) (suc n) d h there = subst (λ vs. GoesThrough vs (get_or xs n d).path) (append_assoc before (x ∷ []) (take n xs)) (seen_at (before ++ x ∷ []) xs n d h.1 (omega arith))
 
+-- the path of a node is that of its parent with one move more, and the parent is visited before it
 pub parents_come_before : ParentsComeBefore
 parents_come_before tree is k d there = seen_at [] (visits tree) k d (visits_seen (λ _. []) 1 tree [] is.children (λ a low high. tt)) there
 
@@ -60,6 +61,7 @@ pub record LastChoice (kind : Kind) (before : List Visit) (own : List Choice) (a
   pub limit : action ≤ at.node.children
   pub made : own ≡ record { set = at.node.set; action = action } ∷ past at
 
+-- a path has no own choice, or its last one is made at a node before and follows that node's past
 pub last_choice : (kind : Kind) (before : List Visit) (path : List Move) → GoesThrough before path → (own_choices kind path ≡ []) ⊎ ((at : Visit) × ((action : ℕ) × LastChoice kind before (own_choices kind path) at action))
 last_choice kind before [] h = inl refl
 last_choice kind before (step ∷ rest) h =
@@ -99,6 +101,7 @@ knows_all kind (v ∷ rest) before done seen inner many keep fits knows =
           (knows_all kind rest more done seen inner many kept fits.1 (knows_later kind before done v.node inner keep fits.0 test knows))
     ] refl
 
+-- the set sizes of a game tree are the numbers of children of its nodes, set by set
 pub sizes_known : (tree : Forest) (kind : Kind) → IsGameTree tree → is_leaf_kind kind ≡ false → KnowsSizes kind (map node_of (visits tree)) (set_sizes kind tree)
 sizes_known tree kind game inner =
     let nodes : map node_of (visits tree) ≡ prefix tree = map-visits_from (λ _. []) 1 tree in
@@ -179,6 +182,7 @@ same_past all n i j p q v w recall hi hj at_v at_w personal kinds sets =
       ]
     ]
 
+-- a kind that is a player's isn't that of the leaves
 pub inner_by : (kind : Kind) → is_personal kind ≡ true → is_leaf_kind kind ≡ false
 inner_by Chance e = refl
 inner_by One e = refl
@@ -231,6 +235,7 @@ choices_told tree kind n i j d game personal recall hi hj there_i there_j same =
         (place_in (visits tree) i e.0 e.1.1.there).1 (place_in (visits tree) j f.0 f.1.1.there).1 (ap is_personal e.1.1.kinds ∙ personal) (e.1.1.kinds ∙ sym f.1.1.kinds) one.0 in
         e.1.1.made ∙ (λ k. record { set = one.0 k; action = one.1 k } ∷ pasts k) ∙ sym f.1.1.made
 
+-- with perfect recall two sequences of a player have one number exactly where they are the same choices
 pub numbers_tell : (tree : Forest) → IsGameTree tree → HasPerfectRecall tree → (kind : Kind) → is_personal kind ≡ true →
     AllPairs (λ v w. (sequence_at kind tree v ≡ sequence_at kind tree w) ↔ (own_choices kind v.path ≡ own_choices kind w.path)) (visits tree)
 numbers_tell tree game recall kind personal i j d less there = (

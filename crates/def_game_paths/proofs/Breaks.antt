@@ -17,6 +17,7 @@ both false b e = cc
 and_true : (a b : Bool) → a ≡ true → b ≡ true → a && b ≡ true
 and_true a b p q = ap (λ x. x && b) p ∙ q
 
+-- two lists of choices that pass the test of sameness are equal
 pub same_choices : (xs ys : List Choice) → is_same_choices xs ys ≡ true → xs ≡ ys
 same_choices [] [] e = refl
 same_choices [] (y ∷ ys) e = cc
@@ -28,17 +29,20 @@ same_choices (x ∷ xs) (y ∷ ys) e =
     let action : x.action ≡ y.action = eqb-true x.action y.action second.0 in
     λ i. record { set = set i; action = action i } ∷ same_choices xs ys second.1 i
 
+-- a list of choices passes the test of sameness with itself
 pub is_same_choices_refl : (xs : List Choice) → is_same_choices xs xs ≡ true
 is_same_choices_refl [] = refl
 is_same_choices_refl (x ∷ xs) =
     and_true (nat_eq x.set x.set) (nat_eq x.action x.action && is_same_choices xs xs) (eq-eqb x.set x.set refl)
     (and_true (nat_eq x.action x.action) (is_same_choices xs xs) (eq-eqb x.action x.action refl) (is_same_choices_refl xs))
 
+-- two nodes that pass the test of one set have one kind and one set number
 pub same_set : (x y : Node) → is_same_set x y ≡ true → (x.kind ≡ y.kind) × (x.set ≡ y.set)
 same_set x y e =
     let parts = both (is_same_kind x.kind y.kind) (nat_eq x.set y.set) e in
     (sym (is_same_kind-true x.kind y.kind parts.0), eqb-true x.set y.set parts.1)
 
+-- two nodes with one kind and one set number pass the test of one set
 pub is_same_set_by : (x y : Node) → x.kind ≡ y.kind → x.set ≡ y.set → is_same_set x y ≡ true
 is_same_set_by x y kinds sets =
     and_true (is_same_kind x.kind y.kind) (nat_eq x.set y.set) (ap (is_same_kind x.kind) (sym kinds) ∙ is_same_kind_refl x.kind) (eq-eqb x.set y.set sets)
@@ -55,6 +59,7 @@ abbrev pub HasFirst : ℕ → Node → List Visit → Visit → Option Numbered 
 HasFirst k node vs d None = (i : ℕ) → i < length vs → is_same_set (get_or vs i d).node node ≡ false
 HasFirst k node vs d (Some found) = (place : ℕ) × IsFirstAt k node vs d found place
 
+-- the search for a set's first node finds it, or none of the nodes is in the set
 pub first_found : (k : ℕ) (node : Node) (vs : List Visit) (d : Visit) → HasFirst k node vs d (first_of_set k node vs)
 first_found k node [] d = λ i h. absurd (omega arith)
 first_found k node (v ∷ rest) d =
@@ -132,6 +137,7 @@ scan_some all k (v ∷ rest) d broken e =
     scan_before all k v rest d place none before zero h = let here : k + 0 ≡ k = omega arith in ap (λ n. break_of all n v) here ∙ none
     scan_before all k v rest d place none before (suc i) h = let far : k + suc i ≡ k + 1 + i = omega arith in ap (λ n. break_of all n (get_or rest i d)) far ∙ before i (omega arith)
 
+-- where a player's node has no break with its set's first node, the player made the same choices before both
 pub no_break_some : (k : ℕ) (v : Visit) (first : Numbered) → break_against differ_in_past k v (Some first) ≡ None → is_personal v.node.kind ≡ true → past first.visit ≡ past v
 no_break_some k v first e personal =
     let broken : Option RecallBreak = Some (record { node = k; earlier = first.number }) in
@@ -159,6 +165,7 @@ break_some k v first broken e =
           cc no,
     )
 
+-- two nodes of one set have the same first node of their set
 pub first_of_set_same : (k : ℕ) (x y : Node) (vs : List Visit) → x.kind ≡ y.kind → x.set ≡ y.set → first_of_set k x vs ≡ first_of_set k y vs
 first_of_set_same k x y [] kinds sets = refl
 first_of_set_same k x y (v ∷ rest) kinds sets =
@@ -172,6 +179,7 @@ same_past k l v w all d i None there is none pv pw e f =
     cc no
 same_past k l v w all d i (Some first) there is found pv pw e f = sym (no_break_some k v first e pv) ∙ no_break_some l w first f pw
 
+-- a tree in which no break is found has perfect recall
 pub recall_of_none : (tree : Forest) → recall_break tree ≡ None → HasPerfectRecall tree
 recall_of_none tree e i j d below there personal kinds sets =
     let all : List Visit = visits tree in
@@ -216,6 +224,7 @@ breaks_at all d broken j (Some first) there found e =
     no_both : (b : Bool) → b ≡ true → b ≡ false → ⊥
     no_both b p q = let e : true ≡ false = sym p ∙ q in cc e
 
+-- in a tree with perfect recall no break is found
 pub none_of_recall : (tree : Forest) → HasPerfectRecall tree → recall_break tree ≡ None
 none_of_recall tree recall =
     elim (recall_break tree) as (λ r. recall_break tree ≡ r → r ≡ None) [
@@ -268,6 +277,7 @@ scan_number : (all : List Visit) (j : ℕ) (d : Visit) (broken : RecallBreak) (o
 scan_number all j d broken None e = cc
 scan_number all j d broken (Some first) e = sym (ap (λ f. f.node) (break_some (1 + j) (get_or all j d) first broken e).0)
 
+-- the break that is found is one, and no node before it has one
 pub break_first : (tree : Forest) (d : Visit) (broken : RecallBreak) → recall_break tree ≡ Some broken → IsFirstBreak (λ k. get_or (visits tree) (k - 1) d) (length (visits tree)) broken
 break_first tree d broken e =
     let all : List Visit = visits tree in

@@ -77,6 +77,7 @@ some_of : (sizes : List ℕ) (sequence : ℕ) → 1 ≤ sequence → sequence �
 some_of sizes zero low high = absurd (omega arith)
 some_of sizes (suc n) low high = some_from sizes 1 n (omega arith)
 
+-- the number of a sequence that ends with a choice names this choice
 pub of_choice : (sizes : List ℕ) (choice : Choice) (rest : List Choice) → IsChoiceOf sizes choice → choice_of sizes (sequence_number sizes (choice ∷ rest)) ≡ Some choice
 of_choice sizes choice rest is =
     let counts : 1 ≤ choice.set = is.counts in
@@ -84,5 +85,6 @@ of_choice sizes choice rest is =
     let number : sequence_number sizes (choice ∷ rest) ≡ suc (sum (take (choice.set - 1) sizes) + (choice.action - 1)) = omega arith in
     ap (choice_of sizes) number ∙ named_from sizes 1 (choice.set - 1) choice (omega arith) (omega arith) is.some is.limit
 
+-- a sequence's number names the choice it ends with, and each choice the sequence that ends with it
 pub sequences_name_choices : SequencesNameChoices
 sequences_name_choices = record { of_choice = of_choice; of_number = of_number; each = some_of; none = λ sizes. refl }

@@ -40,6 +40,7 @@ number_small sizes (choice ∷ rest) are =
     let limit : choice.action ≤ get_or sizes (choice.set - 1) 0 = is.limit in
     omega (arith, sum_by_more_le (λ n. n) sizes (choice.set - 1) 0 (omega arith))
 
+-- each node's last own choice is one its set has, and its sequence's number is one of all
 pub each_sequence_is_in_range : EachSequenceIsInRange
 each_sequence_is_in_range tree game kind inner k d there =
     let v : Visit = get_or (visits tree) k d in
@@ -115,6 +116,7 @@ firsts_length kind seen (v ∷ rest) =
       | false ↦ omega (arith, firsts_length kind seen rest)
     ]
 
+-- a game has no more sets and no more sequences of a kind than it has nodes
 pub sequences_are_few : SequencesAreFew
 sequences_are_few tree game kind inner =
     let firsts : List Visit = set_firsts kind 0 (visits tree) in

@@ -98,6 +98,7 @@ found_at kind (v ∷ rest) before done seen k d inner many keep fits knows =
           record { kinds = found.kinds; sets = found.sets; first = (found.first.0, skip k v w rest found.first.0 (not_later kind before done v.node w.node i inner fits.0 knows test found.kinds sets) found.first.1) }
     ] refl
 
+-- in the list of first nodes each set of a kind has its first node at the place of its number
 pub firsts_are_first : FirstsAreFirst
 firsts_are_first tree game kind inner i d there =
     let firsts : List Visit = set_firsts kind 0 (visits tree) in

@@ -65,6 +65,7 @@ same_number kind before done later own knows (inr last) =
     let front : take (at.node.set - 1) (done ++ later) ≡ take (at.node.set - 1) done = take-append-le (at.node.set - 1) done later (omega arith) in
     ap (sequence_number done) last.1.1.made ∙ ap (λ xs. 1 + sum xs + (last.1.0 - 1)) (sym front) ∙ sym (ap (sequence_number (done ++ later)) last.1.1.made)
 
+-- a sequence's number is known once its node is reached: the sets of the nodes before it tell it
 pub numbers_are_known_on_the_way : NumbersAreKnownOnTheWay
 numbers_are_known_on_the_way tree game kind inner k d there =
     let all : List Visit = visits tree in
@@ -191,6 +192,7 @@ module _ (tree : Forest) (game : IsGameTree tree) where
         | Some broken ↦ λ is_broken. refl
       ] refl
 
+-- comparing sequences by their numbers finds the same break of recall as comparing choices
 pub numbers_find_the_break : NumbersFindTheBreak
 numbers_find_the_break tree game =
     let d : Visit = record { path = []; node = record { kind = Leaf; set = 0; outcome = 0; children = 0 } } in

@@ -61,6 +61,7 @@ abbrev pub KeepFrom : List Node → List Node → Type 0
 KeepFrom before [] = Unit {0}
 KeepFrom before (x ∷ xs) = Fits before x × KeepFrom (before ++ x ∷ []) xs
 
+-- where all nodes keep the rules, each of the later ones keeps them after those before it
 pub KeepFrom-append : (before nodes : List Node) → KeepRules (before ++ nodes) → KeepFrom before nodes
 KeepFrom-append before [] keep = tt
 KeepFrom-append before (x ∷ xs) keep =
@@ -71,6 +72,7 @@ KeepFrom-append before (x ∷ xs) keep =
       KeepFrom-append (before ++ x ∷ []) xs (subst KeepRules (sym (append_assoc before (x ∷ []) xs)) keep),
     )
 
+-- a node of a kind with sets that keeps the rules is in one of those sets or in the next one
 pub joins_of : (kind : Kind) (before : List Node) (node : Node) → is_leaf_kind kind ≡ false → node.kind ≡ kind → FitsAs kind before node → JoinsSet before node
 joins_of Chance before node inner is fits = fits
 joins_of One before node inner is fits = fits
@@ -108,6 +110,7 @@ knows_seen kind before done node inner is keep joins low knows =
       ];
     }
 
+-- the first node of the next set adds its number of children to the known sizes
 pub knows_new : (kind : Kind) (before : List Node) (done : List ℕ) (node : Node) → node.kind ≡ kind → node.set ≡ length done + 1 → KnowsSizes kind before done → KnowsSizes kind (before ++ node ∷ []) (done ++ node.children ∷ [])
 knows_new kind before done node is next knows =
     let count : length done ≡ set_count kind before = knows.count in
@@ -148,10 +151,12 @@ number_below kind before done later (step ∷ rest) knows paths =
       | false ↦ λ other. number_below kind before done later rest knows paths.1
     ] refl
 
+-- what holds of 0 and of each number after another holds of every natural number
 pub nat_cases : (P : ℕ → Type 0) → P zero → ((i : ℕ) → P (suc i)) → (i : ℕ) → P i
 nat_cases P first later zero = first
 nat_cases P first later (suc i) = later i
 
+-- two tests that are passed together are each passed
 pub both : (a b : Bool) → a && b ≡ true → (a ≡ true) × (b ≡ true)
 both true b e = (refl, e)
 both false b e = cc
@@ -210,6 +215,7 @@ in_order kind (v ∷ rest) before done sizes seen d inner many keep fits paths k
           in_order kind rest more done sizes seen d inner many kept fits.1 paths.1 (knows_later kind before done v.node inner keep fits.0 test knows) all i h
     ] refl
 
+-- the sequence before a set has a smaller number than those that end at the set
 pub sets_in_order : (tree : Forest) → IsGameTree tree → (kind : Kind) → is_leaf_kind kind ≡ false → (i : ℕ) → i < length (sequences_before kind tree) →
     get_or (sequences_before kind tree) i 0 < first_sequence (set_sizes kind tree) (i + 1)
 sets_in_order tree game kind inner i h =

@@ -6,6 +6,7 @@ use Rattle.def_tree.specs.Tree.{Forest, bare, grown, prefix}
 use Rattle.def_tree.specs.Rules.{is_same_kind}
 use Rattle.def_game_paths.specs.Paths.{Choice, Move, OwnChoicesAreMoves, Visit, own_choices, visits_from}
 
+-- the nodes that are visited are those of the trees, in prefix order
 pub map-visits_from : (above : ℕ → List Move) (action : ℕ) (trees : Forest) → map (λ visit. visit.node) (visits_from above action trees) ≡ prefix trees
 map-visits_from above action bare = refl
 map-visits_from above action (grown node below beside) =
@@ -13,6 +14,7 @@ map-visits_from above action (grown node below beside) =
     (map-append (λ (visit : Visit). visit.node) (visits_from (λ next. record { node = node; action = next } ∷ above action) 1 below) (visits_from above (action + 1) beside)
     ∙ (λ i. map-visits_from (λ next. record { node = node; action = next } ∷ above action) 1 below i ++ map-visits_from above (action + 1) beside i))
 
+-- a player's own choices are all the moves made at the player's nodes, each by its set and its action
 pub own_choices_are_moves : OwnChoicesAreMoves
 own_choices_are_moves kind [] = refl
 own_choices_are_moves kind (move ∷ rest) =

@@ -21,6 +21,7 @@ lead_from tree above action (grown node below beside) lead =
     let next : a - action ≡ suc (a - (action + 1)) = omega arith in
     subst (λ n. LeadsTo tree (above a) (drop_trees n (grown node below beside))) next (lead a (omega arith) (omega arith)))))
 
+-- each visit's path leads from the root to its node
 pub paths_lead_to_nodes : PathsLeadToNodes
 paths_lead_to_nodes tree one = lead_from tree (λ _. []) 1 tree (λ a low high. let none : a - 1 ≡ 0 = omega arith in ap (λ n. drop_trees n tree) none)
 
@@ -33,5 +34,6 @@ paths_deep above action depth (grown node below beside) deep =
     ∙ (λ i. paths_deep down 1 (depth + 1) below (λ a. omega (arith, deep action)) i ++ paths_deep above (action + 1) depth beside deep i) in
     λ i. deep action i ∷ rest i
 
+-- a path has as many moves as its node is below the root
 pub paths_are_depths : PathsAreDepths
 paths_are_depths tree = paths_deep (λ _. []) 1 0 tree (λ a. refl)

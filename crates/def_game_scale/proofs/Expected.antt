@@ -24,6 +24,7 @@ product-positive (suc a) zero ha hb = absurd (omega arith)
 lowest-product : (a b : Fraction) → IsFraction a → IsFraction b → IsInLowestTerms (product_of a b)
 lowest-product a b ha hb = (fraction_of-reduced _ (a.den * b.den) (product-positive a.den b.den ha hb)).lowest
 
+-- the sum of two fractions is in lowest terms
 pub lowest-sum : (a b : Fraction) → IsFraction a → IsFraction b → IsInLowestTerms (sum_of a b)
 lowest-sum a b ha hb = (fraction_of-reduced _ (a.den * b.den) (product-positive a.den b.den ha hb)).lowest
 
@@ -57,10 +58,12 @@ path-fraction tables [] h = omega arith
 path-fraction tables (step ∷ rest) h =
     (lowest-sum (path_payoff (λ payoffs. payoffs.one) tables rest) (payoffs_of tables step.node.outcome).one (path-fraction tables rest h) (payoff-fraction tables step.node.outcome h)).positive
 
+-- reach times payoff of a leaf is in lowest terms
 pub expected-lowest : (tables : Tables) (leaf : Visit) → AreFractions tables → IsInLowestTerms (expected tables leaf)
 expected-lowest tables leaf h =
     lowest-product (reach tables leaf.path) (payoff_one tables leaf) (reach-fraction tables leaf.path h)
     (lowest-sum (path_payoff (λ payoffs. payoffs.one) tables leaf.path) (payoffs_of tables leaf.node.outcome).one (path-fraction tables leaf.path h) (payoff-fraction tables leaf.node.outcome h)).positive
 
+-- what the leaves of a tree are expected to pay is in lowest terms at each
 pub all-lowest : (tables : Tables) (tree : Forest) → AreFractions tables → All IsInLowestTerms (all_expected tables tree)
 all-lowest tables tree h = All-map IsInLowestTerms (expected tables) (leaf_visits tree) (λ k d there. expected-lowest tables (get_or (leaf_visits tree) k d) h)

@@ -65,6 +65,7 @@ mass-snoc unit fs f =
     from_zero : (k : ℕ) → 0 + k ≡ k
     from_zero k = omega arith
 
+-- a leaf takes its denominator into the unit and its weight into the mass; other nodes change neither
 pub grows : (tables : Tables) → AreFractions tables → (unit : ℕ) (before : List Visit) (v : Visit) → NumbersGrowBy tables unit before v
 grows tables h unit before v =
     let fs : List Fraction = expected_at tables before in
@@ -76,5 +77,6 @@ grows tables h unit before v =
       inner_mass = λ inner. ap (λ xs. sum (map unsigned_abs (map (weight_of unit) xs))) (expected-snoc tables before v false inner ∙ append-nil fs);
     }
 
+-- the unit and the mass go node after node from 1 and from 0 to those of the game
 pub running : (tables : Tables) → AreFractions tables → RunningNumbers tables
 running tables h = record { start_unit = refl; start_mass = λ unit. refl; grow = grows tables h; end_unit = λ tree. refl; end_mass = λ tree. refl }

@@ -27,10 +27,12 @@ lcm-positive a b ha hb = divisor-positive (lcm a b) (a * b) ((IsLcm-lcm a b ha h
     product-positive zero b ha hb = absurd (omega arith)
     product-positive (suc a) zero ha hb = absurd (omega arith)
 
+-- the unit of fractions in lowest terms isn't 0
 pub unit-positive : (fs : List Fraction) → All IsInLowestTerms fs → 1 ≤ unit_of fs
 unit-positive [] h = omega arith
 unit-positive (f ∷ rest) h = lcm-positive f.den (unit_of rest) (All-head IsInLowestTerms f rest h).positive (unit-positive rest (All-tail IsInLowestTerms f rest h))
 
+-- each of the denominators divides the unit
 pub den-divides : (fs : List Fraction) → All IsInLowestTerms fs → All (λ f. f.den ∣ unit_of fs) fs
 den-divides [] h = All-nil (λ f. f.den ∣ 1)
 den-divides (f ∷ rest) h =
@@ -38,6 +40,7 @@ den-divides (f ∷ rest) h =
     All-cons (λ x. x.den ∣ unit_of (f ∷ rest)) f rest least.first_divides
     (All-weaker (λ x. x.den ∣ unit_of rest) (λ x. x.den ∣ unit_of (f ∷ rest)) (λ x divides. dvd_trans x.den divides least.second_divides) rest (den-divides rest (All-tail IsInLowestTerms f rest h)))
 
+-- the unit divides each number that all the denominators divide
 pub unit-divides : (fs : List Fraction) (m : ℕ) → All IsInLowestTerms fs → All (λ f. f.den ∣ m) fs → unit_of fs ∣ m
 unit-divides [] m h all = one-dvd m
 unit-divides (f ∷ rest) m h all =
@@ -60,6 +63,7 @@ whole-weight unit f divides = times-twice f.num (unit / f.den) f.den ∙ ap (λ 
     times-twice (negsuc n) a b =
         ap (λ z. z *ℤ pos b) (negsuc-*ℤ-pos n a) ∙ neg-times (suc n * a) b ∙ ap (λ z. neg_ℤ (pos z)) (mul_assoc (suc n) a b) ∙ sym (negsuc-*ℤ-pos n (a * b))
 
+-- the unit makes each of the fractions whole, and no smaller number but 0 does
 pub unit_is_least : (fs : List Fraction) → All IsInLowestTerms fs → IsLeastUnit fs
 unit_is_least fs low =
     let divides : (m : ℕ) → All (MakesWhole m) fs → unit_of fs ∣ m =

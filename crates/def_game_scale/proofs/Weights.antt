@@ -42,5 +42,6 @@ whole-along tables unit (v ∷ rest) h all = (
   whole-along tables unit rest h (All-tail (λ (f : Fraction). f.den ∣ unit) (expected tables v) (map (expected tables) rest) all),
 )
 
+-- there are as many weights as leaves, and each is exactly the unit times its leaf's reach times payoff
 pub whole-weights : (tables : Tables) (tree : Forest) → AreFractions tables → AllZip (IsWeightOf tables (game_unit tables tree)) (leaf_visits tree) (weights tables tree)
 whole-weights tables tree h = whole-along tables (game_unit tables tree) (leaf_visits tree) h (den-divides (map (expected tables) (leaf_visits tree)) (all-lowest tables tree h))

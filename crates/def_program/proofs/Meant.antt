@@ -12,6 +12,7 @@ use Rattle.def_program.specs.Meaning.{SolveMeans, played, refused, CommandMeans,
 use Rattle.def_program.specs.Laws.{RefusedWithTheFirst, MeaningIsComputed, ToldWordsMeanOne}
 use Rattle.def_program.proofs.Refused.{refused_first, accepted_whole}
 
+-- a file is refused exactly with its first fault
 pub first_refused : RefusedWithTheFirst
 first_refused = refused_first fault_first first_faulted
 
@@ -52,6 +53,7 @@ command_meant (Solve file) told answer computed = by_content (told file) compute
         let same : solve_answer (read_as_game bytes) ≡ answer = cc in
         subst (λ (a : Answer). SolveMeans bytes a) same (solve_meant bytes (read_as_game bytes) refl)
 
+-- what words mean in the format's terms is what the program computes
 pub meaning_computed : MeaningIsComputed
 meaning_computed words told answer = by_command (command_of words)
   where
@@ -81,6 +83,7 @@ told_computed (Some (Solve file)) told are_told = by_content (told file) (are_to
     by_content None is_told = absurd cc
     by_content (Some bytes) is_told = record { answer = solve_answer (read_as_game bytes); is = refl }
 
+-- words whose files are told mean one answer, and no other one
 pub told_means_one : ToldWordsMeanOne
 told_means_one words told are_told = record {
   answer = found.answer;

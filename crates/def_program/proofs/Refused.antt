@@ -31,6 +31,7 @@ by_length most n r answer P long short e = by_test (nat_lt most n) refl e
     by_test true is e = long (ltb-true most n is) (cc)
     by_test false is e = short (ltb-false most n is) e
 
+-- where a file's fault is exactly its first one, the program refuses the file exactly with that fault
 pub refused_first : FileFaultIsFirst → FirstIsFileFault → RefusedWithTheFirst
 unfolding read_as_game
 refused_first first is_fault bytes fault = (found, refused)
@@ -46,6 +47,7 @@ refused_first first is_fault bytes fault = (found, refused)
     refused (in_length is h) = above most_bytes (length bytes) (game_at bytes) h ∙ cc
     refused (within h is) = below most_bytes (length bytes) (game_at bytes) h ∙ is_fault bytes fault is
 
+-- a file is accepted exactly where it has a reading without a fault
 pub accepted_whole : AcceptedWithoutFault
 unfolding read_as_game
 accepted_whole bytes game = (read, taken)

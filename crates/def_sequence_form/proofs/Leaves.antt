@@ -109,6 +109,7 @@ module _ (tables : Tables) (tree : Forest) (game : IsGameTree tree) where
         two = (visits_told Two v w recall refl (leaves_visited y d here) (leaves_visited z d there), ap (sequence_number (set_sizes Two tree)));
       }
 
+-- the form of a tree with a weight for each leaf has the leaves of the tree's list, in its order
 pub form_has_the_leaf_list : FormHasTheLeafList
 form_has_the_leaf_list tables tree weights game many =
     let vs : List Visit = leaf_visits tree in
@@ -148,6 +149,7 @@ mass_of_weights tree weights many =
     let vs : List Visit = leaf_visits tree in
     sizes_of (leaves_with tree vs weights) ∙ ap (λ ws. sum (map unsigned_abs ws)) (weights-leaves_with tree vs weights (many ∙ sym (leaves_counted tree)))
 
+-- the sizes of the form's weights add up to the game's mass
 pub form_has_the_mass : FormHasTheMass
 form_has_the_mass = record {
   of_weights = mass_of_weights;
@@ -173,5 +175,6 @@ tells_each_node tree kind game inner =
           ∙ last_named (set_sizes kind tree) (own_choices kind v.path) (each_sequence_is_in_range tree game kind inner k d here).choices;
     }
 
+-- each node is told by the number of the sequence that ends with the player's last own choice before it
 pub tree_sets_tell_nodes : TreeSetsTellNodes
 tree_sets_tell_nodes = record { one = λ tree game. tells_each_node tree One game refl; two = λ tree game. tells_each_node tree Two game refl }

@@ -26,6 +26,7 @@ told_break : (o : Option RecallBreak) (sets : TreeSets) (broken : RecallBreak) �
 told_break None sets broken e = cc
 told_break (Some found) sets broken e = cc
 
+-- the sets are told exactly where both players have perfect recall, and otherwise its first break
 pub sets_are_exact : SetsAreExact
 sets_are_exact = record {
   told = λ tree. (
@@ -57,6 +58,7 @@ past_of_first tree recall k d f number (Some first) there personal kinds sets fo
           ap past f_is ∙ ap (λ n. past (get_or all n d)) same
     ]
 
+-- with perfect recall the sequence before a set is that of each of its nodes, which all have its actions
 pub sets_have_their_nodes : SetsHaveTheirNodes
 sets_have_their_nodes tree game recall kind personal none k d there is =
     let all : List Visit = visits tree in

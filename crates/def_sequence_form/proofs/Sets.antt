@@ -63,6 +63,7 @@ module _ (kind : Kind) (tree : Forest) where
       let actions : (get_or sets i (set_at none)).actions ≡ get_or (set_sizes kind tree) i 0 = ap (λ h. h.actions) is ∙ sym (get_or-map (λ w. w.node.children) firsts i none 0 here) in
       placed-at 1 sets i d (set_at none) there ∙ (λ j. record { first = first j; before = before j; actions = actions j })
 
+-- the form counts and places a tree's sequences as they are numbered in the tree
 pub form_numbers_as_the_tree : FormNumbersAsTheTree
 form_numbers_as_the_tree tree game kind inner =
     let few = sequences_are_few tree game kind inner in
@@ -76,6 +77,7 @@ form_numbers_as_the_tree tree game kind inner =
       few_sequences = omega (arith, few.few_sequences, counts_agree kind tree);
     }
 
+-- each set has actions, and the sequence before it comes before its own
 pub form_is_in_order : FormIsInOrder
 form_is_in_order tree game kind inner k d there =
     let sizes : List ℕ = set_sizes kind tree in

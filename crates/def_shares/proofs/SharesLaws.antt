@@ -96,12 +96,14 @@ before_all n [] (suc i) within = absurd (omega arith)
 before_all n (w ∷ ws) i within =
     before n (weights_or_ones (w ∷ ws)) (some_weight (w ∷ ws) (omega arith)) i (omega (arith, length-weights_or_ones (w ∷ ws)))
 
+-- there are as many shares as weights
 pub length-shares : (n : ℕ) (weights : List ℕ) → length (shares n weights) ≡ length weights
 length-shares n weights = length-shares_in_proportion n (weights_or_ones weights) ∙ length-weights_or_ones weights
 
 whole_share : (n sum : ℕ) → 1 ≤ sum → n * sum / sum ≡ n
 whole_share n sum some = mul-div_left n some
 
+-- where there is a weight, the shares add up to n
 pub shares_whole : (n : ℕ) (weights : List ℕ) → 1 ≤ length weights → nat_sum_over (λ share. share) (shares n weights) ≡ n
 shares_whole n weights some =
     let all : take (length weights) (shares n weights) ≡ shares n weights = ap (λ k. take k (shares n weights)) (sym (length-shares n weights)) ∙ take-length (shares n weights) in
@@ -110,9 +112,11 @@ shares_whole n weights some =
     ap (λ k. prefix_share n (weights_or_ones weights) k) (sym (length-weights_or_ones weights)) ∙ ap (λ c. n * c / weight_sum (weights_or_ones weights)) (prefix-all (weights_or_ones weights)) in
     ap weight_sum (sym all) ∙ e ∙ whole ∙ whole_share n (weight_sum (weights_or_ones weights)) (some_weight weights some)
 
+-- there is a share for each weight, and they add up to n
 pub deal_all : SharesDealAll
 deal_all n weights some = record { one_each = length-shares n weights; whole = shares_whole n weights some }
 
+-- a share is the weight's part of n, but for less than one unit
 pub in_proportion : SharesAreInProportion
 in_proportion n weights i below = within n (weights_or_ones weights) (some_weight weights (omega arith)) i (omega (arith, length-weights_or_ones weights))
 
@@ -137,6 +141,7 @@ prefix_of_ones n zero within = refl
 prefix_of_ones zero (suc i) within = absurd (omega arith)
 prefix_of_ones (suc n) (suc i) within = omega (arith, prefix_of_ones n i (omega arith))
 
+-- the shares before a place add up to the part of n that the weights before it have, rounded down
 pub before_add_up : SharesBeforeAddUp
 before_add_up n weights i within = record {
   by_weight = λ some. before_all n weights i within ∙ ap (λ ws. prefix_share n ws i) (own_weights weights some);
@@ -146,6 +151,7 @@ before_add_up n weights i within = record {
       ∙ ap (λ c. n * i / c) (replicate_sum (length weights));
 }
 
+-- a share and what the weights before it get make what the weights up to it get
 pub are_differences : SharesAreDifferences
 are_differences n weights i below = record {
   by_weight = λ some. ap (λ ws. get_or (shares_in_proportion n ws) i 0 + prefix_share n weights i) (own_weights weights some) ∙ difference n weights some i below;
@@ -164,6 +170,7 @@ are_differences n weights i below = record {
     even : (n long i : ℕ) → i ≤ long → prefix_share n (replicate long 1) i ≡ n * i / long
     even n long i fits = ap (λ c. n * c / weight_sum (replicate long 1)) (prefix_of_ones long i fits) ∙ ap (λ c. n * i / c) (replicate_sum long)
 
+-- what has no weight gets nothing, where something has a weight
 pub no_weight_no_share : NoWeightNoShare
 no_weight_no_share n weights i below some none =
     let own = own_weights weights some in

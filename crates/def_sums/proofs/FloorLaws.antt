@@ -6,6 +6,7 @@ use Rattle.def_sums.specs.Floor.{IsFloorOf, floor_div}
 use Rattle.def_sums.specs.Laws.{IsTheFloor}
 use Rattle.def_sums.proofs.RingLaws.{+ℤ-*ℤ, *ℤ-mono_right, ≤ℤ_antisym}
 
+-- the quotient is the greatest whole number that is at most n / d
 pub floor_div-is_floor : (n : ℤ) (d : ℕ) → 1 ≤ d → IsFloorOf n d (floor_div n d)
 floor_div-is_floor (pos n) d h = record { at_most = omega (arith, ints); above = omega (arith, ints) }
 floor_div-is_floor (negsuc n) d h =
@@ -30,5 +31,6 @@ pub floor_div-euclid : (n : ℤ) (d : ℕ) → floor_div n d ≡ int_div_euclid 
 floor_div-euclid (pos n) d = refl
 floor_div-euclid (negsuc n) d = refl
 
+-- the quotient is the one whole number q with q * d ≤ n < (q + 1) * d
 pub floor_laws : IsTheFloor
 floor_laws = record { is_floor = floor_div-is_floor; only = floor_div-only; as_euclid = floor_div-euclid }

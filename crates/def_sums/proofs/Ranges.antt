@@ -10,6 +10,7 @@ use Rattle.def_sums.specs.Sum.{sum_over, nat_sum_over}
 use Rattle.def_sums.proofs.RingLaws.{zero-+ℤ, +ℤ-zero}
 use Rattle.def_sums.proofs.SumLaws.{nat_sum_over-same, nat_sum_over-add, nat_sum_over-bounded}
 
+-- a row of numbers is its front, followed by the row that goes on from there
 pub range-append : (a m n : ℕ) → range_with_len a (m + n) ≡ range_with_len a m ++ range_with_len (a + m) n
 range-append a zero n =
     let here : 0 + n ≡ n = omega arith in
@@ -27,6 +28,7 @@ All-range P a zero h = All-nil P
 All-range P a (suc n) h =
     All-cons P a (range_with_len (a + 1) n) (h a (omega arith) (omega arith)) (All-range P (a + 1) n (λ s low high. h s (omega arith) (omega arith)))
 
+-- what holds of each element of a row holds of each number from its first to its last
 pub range-All : (P : ℕ → Type 0) (a n : ℕ) → All P (range_with_len a n) → (s : ℕ) → a ≤ s → s < a + n → P s
 range-All P a n h s low high =
     subst P (get_or-range_with_len a n (s - a) 0 (omega arith) ∙ omega arith) (h (s - a) 0 (omega (arith, length-range_with_len a n)))
@@ -39,6 +41,7 @@ pick_out f k a (suc n) h =
     ∙ zero-+ℤ (sum_over (λ s. cond (eqb k s) (f s) (pos 0)) (range_with_len (a + 1) n))
     ∙ pick_out f k (a + 1) n (omega arith)
 
+-- a row that ends before k gets nothing of what counts at k alone
 pub pick_past : (f : ℕ → ℤ) (k a n : ℕ) → a + n ≤ k → sum_over (λ s. cond (eqb k s) (f s) (pos 0)) (range_with_len a n) ≡ pos 0
 pick_past f k a zero h = refl
 pick_past f k a (suc n) h =
@@ -57,6 +60,7 @@ pick_later f k a n false e low high rest =
     let after : a + 1 ≤ k = omega arith in
     zero-+ℤ (sum_over (λ s. cond (eqb k s) (f s) (pos 0)) (range_with_len (a + 1) n)) ∙ rest after (omega arith)
 
+-- a row that has k gets what counts at k alone
 pub pick_in : (f : ℕ → ℤ) (k a n : ℕ) → a ≤ k → k < a + n → sum_over (λ s. cond (eqb k s) (f s) (pos 0)) (range_with_len a n) ≡ f k
 pick_in f k a zero low high = absurd (omega arith)
 pick_in f k a (suc n) low high = pick_later f k a n (eqb k a) refl low high (λ l h. pick_in f k (a + 1) n l h)
@@ -70,6 +74,7 @@ nat_sum_over-read f a (y ∷ ys) h =
     ap (λ z. z + nat_sum_over f (range_with_len (a + 1) (length ys))) (ap f here ∙ h 0 (omega arith))
     ∙ ap (λ z. y + z) (nat_sum_over-read f (a + 1) ys later)
 
+-- a sum over the places behind a front is the sum of the elements there
 pub nat_sum_over-places : (xs ys : List ℕ) (a : ℕ) → length xs ≡ a → nat_sum_over (λ s. slice_index (xs ++ ys) s) (range_with_len a (length ys)) ≡ nat_sum_over (λ y. y) ys
 nat_sum_over-places xs ys a e =
     nat_sum_over-read (λ s. slice_index (xs ++ ys) s) a ys (λ i low. ap (λ k. get_or (xs ++ ys) (k + i) 0) (sym e) ∙ get_or-append-add xs ys i 0)

@@ -141,5 +141,6 @@ read_back (NotZeroSum node) h = ap NotZeroSum (last node (h 0 0 (omega arith)))
 read_back (NotRecall node earlier) h = recalled node earlier (h 0 0 (omega arith)) (h 1 0 (omega arith))
 read_back (Scale node) h = ap Scale (last node (h 0 0 (omega arith)))
 
+-- two faults with the same line are the same, where 64 bits hold each number in them
 pub tell_faults : (f g : FileFault) → HasNarrowNumbers f → HasNarrowNumbers g → fault_line f ≡ fault_line g → f ≡ g
 tell_faults f g h k e = sym (read_back f h) ∙ ap fault_of_line e ∙ read_back g k

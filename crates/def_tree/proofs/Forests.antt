@@ -18,6 +18,7 @@ prefix-cut (suc n) bare = refl
 prefix-cut (suc n) (grown node below beside) =
     ap (λ rest. node ∷ rest) (append_assoc (prefix below) (prefix (take_trees n beside)) (prefix (drop_trees n beside)) ∙ ap (λ rest. prefix below ++ rest) (prefix-cut n beside))
 
+-- the trees made of a list of nodes have these nodes in prefix order
 pub prefix-forest_of : (nodes : List Node) → prefix (forest_of nodes) ≡ nodes
 prefix-forest_of [] = refl
 prefix-forest_of (node ∷ rest) = ap (λ xs. node ∷ xs) (prefix-cut node.children (forest_of rest) ∙ prefix-forest_of rest)
@@ -44,24 +45,29 @@ forest_of-prefix (grown node below beside) rest h =
     ((ap (take_trees node.children) behind ∙ first) i)
     ((ap (drop_trees node.children) behind ∙ others) i)
 
+-- trees whose nodes have the children they say are made again of their nodes in prefix order
 pub forest_of-prefix_whole : (xs : Forest) → HasItsChildren xs → forest_of (prefix xs) ≡ xs
 forest_of-prefix_whole xs h = ap forest_of (sym (append-nil (prefix xs))) ∙ forest_of-prefix xs [] h ∙ joined-bare xs
 
+-- the first n trees are n in number, where there are so many
 pub tree_count-take_trees : (n : ℕ) (xs : Forest) → n ≤ tree_count xs → tree_count (take_trees n xs) ≡ n
 tree_count-take_trees zero xs h = refl
 tree_count-take_trees (suc n) bare h = absurd (omega arith)
 tree_count-take_trees (suc n) (grown node below beside) h = ap suc (tree_count-take_trees n beside (omega arith))
 
+-- without the first n trees there are n fewer
 pub tree_count-drop_trees : (n : ℕ) (xs : Forest) → tree_count (drop_trees n xs) ≡ tree_count xs - n
 tree_count-drop_trees zero xs = omega arith
 tree_count-drop_trees (suc n) bare = omega arith
 tree_count-drop_trees (suc n) (grown node below beside) = let e : tree_count (drop_trees n beside) ≡ tree_count beside - n = tree_count-drop_trees n beside in omega arith
 
+-- where each node has as many children as it says, so it has in the first n trees
 pub HasItsChildren-take_trees : (n : ℕ) (xs : Forest) → HasItsChildren xs → HasItsChildren (take_trees n xs)
 HasItsChildren-take_trees zero xs h = tt
 HasItsChildren-take_trees (suc n) bare h = tt
 HasItsChildren-take_trees (suc n) (grown node below beside) h = (h.0, h.1, HasItsChildren-take_trees n beside h.2)
 
+-- where each node has as many children as it says, so it has in the trees behind the first n
 pub HasItsChildren-drop_trees : (n : ℕ) (xs : Forest) → HasItsChildren xs → HasItsChildren (drop_trees n xs)
 HasItsChildren-drop_trees zero xs h = h
 HasItsChildren-drop_trees (suc n) bare h = tt

@@ -4,10 +4,12 @@ use Rattle.def_tree.specs.declared.Node.{Node}
 use Rattle.def_tree.specs.Tree.{Forest, bare, grown, prefix, tree_count, HasItsChildren, IsTree, IsWhole, Begins, wanted, take_trees, drop_trees, forest_of}
 use Rattle.def_tree.proofs.Forests.{prefix-forest_of, tree_count-take_trees, tree_count-drop_trees, HasItsChildren-take_trees, HasItsChildren-drop_trees}
 
+-- behind two lists as many nodes are wanted as the second leaves of what the first left
 pub wanted-append : (n : ℕ) (xs ys : List Node) → wanted n (xs ++ ys) ≡ wanted (wanted n xs) ys
 wanted-append n [] ys = refl
 wanted-append n (x ∷ xs) ys = wanted-append (n + x.children - 1) xs ys
 
+-- two lists together begin trees where the first does and the second goes on with what is still wanted
 pub Begins-append : (n : ℕ) (xs ys : List Node) → Begins n xs → Begins (wanted n xs) ys → Begins n (xs ++ ys)
 Begins-append n [] ys h k = k
 Begins-append n (x ∷ xs) ys h k = (h.0, Begins-append (n + x.children - 1) xs ys h.1 k)
@@ -43,9 +45,11 @@ Begins-prefix (grown node below beside) n rest h b =
           (Begins-prefix below (tree_count beside + n) (prefix beside ++ rest) h.1 (Begins-prefix beside n rest h.2 b))),
     )
 
+-- the nodes of one whole tree make one tree, with as many children at each node as it says
 pub tree_of_whole : (nodes : List Node) → IsWhole nodes → IsTree (forest_of nodes)
 tree_of_whole nodes h = let t : (tree_count (forest_of nodes) ≡ 1) × HasItsChildren (forest_of nodes) = trees_of 1 nodes h.begins h.ends in record { one = t.0; children = t.1 }
 
+-- where nodes make one tree, they are those of one whole tree
 pub whole_of_tree : (nodes : List Node) → IsTree (forest_of nodes) → IsWhole nodes
 whole_of_tree nodes h =
     let same : prefix (forest_of nodes) ++ [] ≡ nodes = append-nil (prefix (forest_of nodes)) ∙ prefix-forest_of nodes in

@@ -35,6 +35,7 @@ nests k (grown node below beside) top outer has enough =
           (refl, omega arith, subst (λ n. KeepsNesting (next ∷ outer) (events_from (k + 1 + node_count below) beside) (record { number = top.number; to_come = n } ∷ outer)) rest later),
     )
 
+-- a walk leaves a node after its last child, with all below it, and before it enters any other node
 pub leaves_after_last_child : LeavesAfterLastChild
 leaves_after_last_child tree is =
     let one : tree_count tree ≡ 1 = is.one in
@@ -96,5 +97,6 @@ left_once n k (grown node below beside) low high =
           none_left n (k + 1) below (inl (omega arith)) i ++ (left_here n k rest (omega arith) ∙ ap (λ ks. n ∷ ks) (none_left n later beside (inl (omega arith)))) i
     ]
 
+-- a walk leaves each node once
 pub leaves_each_once : LeavesEachOnce
 leaves_each_once tree k low high = left_once k 1 tree low (omega arith)

@@ -24,6 +24,7 @@ appears_before nodes (suc n) d counts short i low high =
       | inr within ↦ appears_before nodes n d counts (omega arith) i low within
     ]
 
+-- where each node's outcome came before or is the next, each number is that of a node's outcome
 pub each_outcome_appears : EachOutcomeAppears
 each_outcome_appears nodes counts i low high =
     appears_before nodes (length nodes) (record { kind = Leaf; set = 0; outcome = 0; children = 0 }) counts (omega arith) i low (subst (λ xs. i ≤ outcome_count xs) (sym (take-length nodes)) high)

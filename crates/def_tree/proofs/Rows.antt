@@ -13,6 +13,7 @@ agree before node is = All-cons (λ earlier. AgreeOnSize earlier node) before []
 first_joins : (n : ℕ) → 1 ≤ n → n ≤ 1024 → JoinsSet [] (inner_node Chance 1 n)
 first_joins n some limit = record { counts = omega arith; next = omega arith; some = some; limit = limit; agrees = All-nil (λ earlier. AgreeOnSize earlier (inner_node Chance 1 n)) }
 
+-- worked rows: which nodes can come first, which after one node, and which never
 pub rule_rows : RuleRows
 rule_rows = record {
   first = λ n. (λ fits. (fits.some, fits.limit), λ h. first_joins n h.0 h.1);

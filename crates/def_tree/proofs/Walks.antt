@@ -56,6 +56,7 @@ enumerate_from-append k (x ∷ xs) ys =
     let far : k + 1 + length xs ≡ k + length (x ∷ xs) = omega arith in
     ap (λ rest. (k, x) ∷ rest) (enumerate_from-append (k + 1) xs ys ∙ ap (λ n. enumerate_from (k + 1) xs ++ enumerate_from n ys) far)
 
+-- a walk that counts from k enters the nodes in prefix order, numbered from k on
 pub entered-events_from : (k : ℕ) (trees : Forest) → entered (events_from k trees) ≡ enumerate_from k (prefix trees)
 entered-events_from k bare = refl
 entered-events_from k (grown node below beside) =

@@ -97,6 +97,7 @@ module _ (bytes : List ℕ) (start at k : ℕ) (hay : List ℕ) (is_rest : hay �
             ∙ from_mark;
       }
 
+-- where what is still to search has no quotation mark, the text has no closing mark
 pub SearchesOn-end : (bytes : List ℕ) (start at : ℕ) (hay : List ℕ) → hay ≡ drop at bytes → SearchesOn bytes start at → Nowhere (Passes (is_byte 34) hay) 0 (length hay) → None ≡ closing_from (start + 1) (get_or bytes start 0) (drop (start + 1) bytes)
 SearchesOn-end bytes start at hay is_rest on none =
     sym (closing_from-none at (get_or bytes (at - 1) 0) (drop at bytes) (λ j below. false_from_ne_true _ (λ passes. none j (omega arith) (omega (arith, ap length is_rest)) (ap (λ l. eqb (get_or l j 0) 34) is_rest ∙ passes))))

@@ -118,6 +118,7 @@ module _ (raw : List ℕ) (at k : ℕ) (bytes hay : List ℕ) (is_rest : hay ≡
             ∙ on.same;
       }
 
+-- where what is left has no quotation mark, it is copied as it is
 pub StandsFor-end : (raw : List ℕ) (at : ℕ) (bytes hay : List ℕ) → hay ≡ drop at raw → StandsFor raw at bytes → Nowhere (Passes (is_byte 34) hay) 0 (length hay) → bytes ++ drop at raw ≡ unescaped raw
 StandsFor-end raw at bytes hay is_rest on none =
     ap (λ l. bytes ++ l) (sym (unescaped-none (drop at raw) (λ j below. false_from_ne_true _ (λ passes. none j (omega arith) (omega (arith, ap length is_rest)) (ap (λ l. eqb (get_or l j 0) 34) is_rest ∙ passes)))))

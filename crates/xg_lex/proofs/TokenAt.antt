@@ -44,6 +44,7 @@ module _ (bytes : List ℕ) (start : ℕ) (within : start < length bytes) where
   fault_here not_quote not_open not_close not_comma no_word no_number =
       sym (rest (token_at start) ∙ token_at-fault start _ _ not_quote not_open not_close not_comma no_word no_number)
 
+-- behind the last byte the token is that of the end
 pub end_here : (bytes : List ℕ) (start : ℕ) → length bytes ≤ start → Ok (span End start start) ≡ token_at start (drop start bytes)
 end_here bytes start past = sym (ap (token_at start) (drop_all start bytes past) ∙ token_at-end start)
 

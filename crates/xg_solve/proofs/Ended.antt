@@ -146,6 +146,7 @@ module _ (meant : Answer → Type 0) (files : FilesCall) (out : SinkCall) where
   status_shown ending is status same =
       subst (λ (n : ℕ). Shows meant files out n (line_of ending)) (sym same) (shown ending is)
 
+-- the status of an ending is one of 0 to 5
 pub status_range : (ending : Ending) (status : ℕ) → status ≡ status_of ending → status ≤ 5
 status_range ending status same = subst (λ (n : ℕ). n ≤ 5) (sym same) (by_ending ending)
   where

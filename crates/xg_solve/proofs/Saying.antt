@@ -6,6 +6,7 @@ use Rattle.def_outside.specs.Sinks.{AppendsPrefix}
 use Rattle.def_outside.specs.Calls.{SinkCall, Says}
 use Rattle.def_outside.proofs.Fronts.{whole_is_front}
 
+-- a call says a line by writing it, or only a front of it where it failed for a cause
 pub says_of : {T E : Type 0} (written : Result T E) (sink : SinkCall) (line : List ℕ)
     → OnOk written (sink.now ≡ append_known sink.before line) → OnErr written (AppendsPrefix sink.before sink.now line)
     → HasCause sink.faults.before sink.faults.now written → Says sink line

@@ -31,6 +31,7 @@ wanted_fits nodes node keep fits short =
     let few : node.children ≤ 1024 = children-le nodes node fits in
     omega arith
 
+-- one node more, where one is wanted and it fits, takes its place and opens one for each child
 pub IsBuilt-push : (nodes : List Node) (wanting ended : ℕ) (sizes : SizeLists) (node : Node) → IsBuilt nodes wanting ended sizes → wanting ≢ 0 → Fits nodes node → length nodes < 1048576 → IsBuilt (nodes ++ node ∷ []) (wanting - 1 + node.children) (ended + leaf_count (node ∷ [])) (with_size sizes node)
 IsBuilt-push nodes wanting ended sizes node built some fits short =
     let wants : wanting ≡ wanted 1 nodes = built.wants in
@@ -62,5 +63,6 @@ no_nodes = record {
 pub kept_of_built : (nodes : List Node) (wanting ended : ℕ) (sizes : SizeLists) → IsBuilt nodes wanting ended sizes → wanted 1 nodes ≡ 0 → IsKept nodes ended
 kept_of_built nodes wanting ended sizes built none = record { whole = record { begins = built.begins; ends = none }; rules = built.rules; limit = built.limit; ends = built.ends }
 
+-- what is built of some nodes is built of equal ones, with equal counts of leaves and equal sizes
 pub IsBuilt-same : (xs ys : List Node) (wanting l m : ℕ) (s t : SizeLists) → xs ≡ ys → l ≡ m → s ≡ t → IsBuilt ys wanting m t → IsBuilt xs wanting l s
 IsBuilt-same xs ys wanting l m s t nodes ends sizes built = subst (λ v. IsBuilt v wanting l s) (sym nodes) (subst (λ v. IsBuilt ys wanting v s) (sym ends) (subst (IsBuilt ys wanting m) (sym sizes) built))

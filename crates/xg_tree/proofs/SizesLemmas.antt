@@ -55,6 +55,7 @@ fits_as Leaf nodes sizes node is held = (λ h. h, λ h. h)
 pub fits_iff : (nodes : List Node) (sizes : SizeLists) (node : Node) → HoldSizes nodes sizes → FitsSizes sizes node ↔ Fits nodes node
 fits_iff nodes sizes node held = fits_as node.kind nodes sizes node refl held
 
+-- where there are no nodes yet, there are no sizes of sets
 pub no_sizes : (kind : Kind) → AreSizes kind [] []
 no_sizes kind = record { count = refl; each = λ k d h. absurd (omega arith); met = λ i h. absurd (omega arith) }
 

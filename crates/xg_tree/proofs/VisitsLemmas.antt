@@ -137,6 +137,7 @@ split_at nodes at count (grown node below beside) e has =
 pub row_split : (nodes : List Node) (at count : ℕ) → HasTreesAt nodes at (suc count) → IsSplit nodes at count (row_end nodes at 1)
 row_split nodes at count has = split_at nodes at count (forest_of (drop at nodes)) refl has
 
+-- in nodes that are kept a whole tree stands from the first place on
 pub trees_of_kept : (nodes : List Node) (ended : ℕ) → IsKept nodes ended → HasTreesAt nodes 0 1
 trees_of_kept nodes ended kept =
     let trees : (tree_count (forest_of nodes) ≡ 1) × HasItsChildren (forest_of nodes) = trees_of 1 nodes kept.whole.begins kept.whole.ends in
