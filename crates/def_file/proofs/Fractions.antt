@@ -1,6 +1,5 @@
 -- The fractions of tables, with one entry more.
-use Rattle.std.proofs.Common.{◌≡◌, ℕ, zero, suc, ◌<◌, ◌≤◌, Bool, true, false, cond, nat_eq, List, [], ◌∷◌, ◌++◌, length, get_or, set, map, Option, Some, None, unwrap_or, refl, ap, sym, subst, arith}
-use Rattle.std.specs.Prelude.{IsTrue}
+use Rattle.std.proofs.Common.{◌≡◌, ℕ, zero, suc, Bool, true, false, cond, nat_eq, List, [], ◌∷◌, ◌++◌, set, map, Option, Some, None, unwrap_or, refl, sym, subst, arith}
 use Rattle.std.specs.List.{All}
 use Rattle.std.specs.Option.{option_map_or}
 use Rattle.std.proofs.lemmas.List.Elements.{All-nil, All-head, All-tail, All-push, All-set}
@@ -9,7 +8,7 @@ use Rattle.def_fraction.specs.Fraction.{Fraction, IsInLowestTerms}
 use Rattle.def_tree.specs.declared.Kind.{Kind}
 use Rattle.def_tree.specs.declared.Kind.TheVariants as movers
 use Rattle.def_file.specs.Content.{Action, SetEntry, SetMention, OutcomeEntry, OutcomeMention, SetTables, Record, Contents, with_sets, sets_of_kind, zero_fraction, no_contents}
-use Rattle.def_file.specs.Faults.{mover, no_set, set_at, set_place_of, null_outcome, outcome_at, outcome_place_of}
+use Rattle.def_file.specs.Faults.{mover, set_at, set_place_of, null_outcome, outcome_at, outcome_place_of}
 use Rattle.def_file.specs.Adding.{kept_name, new_set, noted_set, new_outcome, noted_outcome, nth_payoff, with_record}
 use Rattle.def_file.specs.Game.{IsSmallFraction, chances_of, HasFractions}
 

@@ -1,5 +1,5 @@
 -- Nodes and tables go together, with one entry more.
-use Rattle.std.proofs.Common.{◌≡◌, ◌≢◌, ℕ, ◌+◌, ◌-◌, ◌<◌, ◌≤◌, max, Bool, true, false, cond, ◌&&◌, nat_eq, nat_lt, List, [], ◌∷◌, ◌++◌, length, get_or, set, is_none, Option, Some, None, unwrap_or, refl, ap, sym, subst, ◌∙◌, arith, inl, inr, length-append, ⊎_elim}
+use Rattle.std.proofs.Common.{◌≡◌, ◌≢◌, ℕ, ◌+◌, ◌-◌, ◌<◌, ◌≤◌, max, Bool, true, false, cond, ◌&&◌, nat_eq, nat_lt, List, [], ◌∷◌, ◌++◌, length, get_or, set, is_none, Option, Some, None, unwrap_or, refl, ap, sym, subst, ◌∙◌, arith, length-append, ⊎_elim}
 use Rattle.std.specs.List.{All, position_or_len}
 use Rattle.std.specs.Option.{option_map_or}
 use Rattle.std.proofs.lemmas.Bool.{eqb-false, ltb-true, cases_eq}
@@ -10,14 +10,14 @@ use Rattle.std.proofs.Math.Seq.{get_or-append_seam}
 use Rattle.def_tree.specs.declared.Kind.{Kind}
 use Rattle.def_tree.specs.declared.Kind.TheVariants as movers
 use Rattle.def_tree.specs.declared.Node.{Node}
-use Rattle.def_tree.specs.Rules.{most_actions, most_nodes, is_same_kind, set_count, JoinsSet, Fits, KeepRules}
+use Rattle.def_tree.specs.Rules.{most_actions, most_nodes, is_same_kind, set_count, JoinsSet}
 use Rattle.def_tree.proofs.Sets.{set_count-push_same, set_count-push_other, KeepRules-push}
 use Rattle.def_file.specs.declared.EntryKind.{EntryKind}
 use Rattle.def_file.specs.declared.EntryKind.TheVariants.{Chance, Personal, Leaf}
-use Rattle.def_file.specs.Content.{Action, SetEntry, SetMention, OutcomeEntry, OutcomeMention, SetTables, Record, Contents, sets_of_kind, with_sets, no_contents}
-use Rattle.def_file.specs.Faults.{mover, mover_as, has_set, no_set, set_at, set_place_of, outcome_place_of, outcome_at, has_wrong_count, is_set_undefined, is_set_miscounted, record_fault}
-use Rattle.def_file.specs.Adding.{kept_name, new_set, noted_set, new_outcome, noted_outcome, set_number, outcome_number, action_count, node_with, with_record}
-use Rattle.def_file.specs.Game.{chances_of, IsInSet, GoesWith, AreSetsOf, GoTogether, AreTogether}
+use Rattle.def_file.specs.Content.{SetEntry, SetMention, OutcomeEntry, OutcomeMention, SetTables, Record, Contents, sets_of_kind, with_sets, no_contents}
+use Rattle.def_file.specs.Faults.{mover_as, has_set, no_set, set_at, set_place_of, outcome_place_of, outcome_at, has_wrong_count, is_set_undefined, is_set_miscounted, record_fault}
+use Rattle.def_file.specs.Adding.{kept_name, new_set, noted_set, new_outcome, noted_outcome, set_number, outcome_number, action_count, with_record}
+use Rattle.def_file.specs.Game.{IsInSet, GoesWith, AreSetsOf, GoTogether, AreTogether}
 use Rattle.def_file.proofs.Faultless.{faultless, place-lt, given_count}
 
 abbrev IsFew : SetEntry → Type 0

@@ -2,10 +2,9 @@
 use Rattle.std.proofs.Common.{◌≡◌, List, [], ◌∷◌, ◌++◌, sym, subst, append-nil}
 use Rattle.std.proofs.lemmas.List.{append_assoc}
 use Rattle.def_tree.specs.declared.Node.{Node}
-use Rattle.def_tree.specs.Tree.{forest_of, IsWhole}
 use Rattle.def_tree.proofs.Forests.{prefix-forest_of}
 use Rattle.def_tree.proofs.Lists.{tree_of_whole}
-use Rattle.def_file.specs.Content.{Prologue, Record}
+use Rattle.def_file.specs.Content.{Record}
 use Rattle.def_file.specs.Game.{GoTogether, AreTogether}
 use Rattle.def_file.proofs.Together.{nothing_together, together_with}
 use Rattle.def_file_entries.specs.Entries.{contents_of}
