@@ -1,5 +1,6 @@
 -- What an entry says of its set and its outcome, and the names of a prologue, as reading has them.
-use Rattle.std.specs.Prelude.{◌≡◌, ◌^◌, ℕ, ◌≤◌, true, List, [], length, slice_get, unwrap_or, Option, Result, Ok, Err}
+use Rattle.def_fraction.specs.Fraction.{most}
+use Rattle.std.specs.Prelude.{◌≡◌, ℕ, ◌≤◌, true, List, [], length, slice_get, unwrap_or, Option, Result, Ok, Err}
 use Rattle.def_file.specs.declared.FileFault.{FileFault}
 use Rattle.def_file.specs.Content as content
 use Rattle.def_file.specs.Faults.{has_set}
@@ -21,8 +22,8 @@ outcome_mention_of m = record { number = m.number; name = m.name; payoffs = m.pa
 
 -- the numbers of an entry are those that an entry may have
 pub record HasNumbers (r : Record) : Type 0 where
-  pub outcome : r.outcome ≤ 2 ^ 62
-  pub set : has_set r.kind ≡ true → (1 ≤ r.set) × (r.set ≤ 2 ^ 62)
+  pub outcome : r.outcome ≤ most
+  pub set : has_set r.kind ≡ true → (1 ≤ r.set) × (r.set ≤ most)
 
 abbrev pub read_prologue : Prologue → content.Prologue
 read_prologue p = record { title = p.title; one = p.one; two = p.two; comment = p.comment }

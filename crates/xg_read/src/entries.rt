@@ -1,5 +1,6 @@
 //! The entries of a file.
-ghost use Rattle.std.specs.Prelude.{◌≡◌, ◌^◌, ◌≤◌, IfOk};
+ghost use Rattle.def_fraction.specs.Fraction.{most};
+ghost use Rattle.std.specs.Prelude.{◌≡◌, ◌≤◌, IfOk};
 ghost use Rattle.def_file.specs.Reading.{chance_entry_at, entry_at, entry_behind, outcome_mention_at, personal_entry_at, set_mention_at, terminal_entry_at};
 ghost use Rattle.xg_record.specs.Record.{record_of};
 ghost use Rattle.xg_read.specs.Gives.{GivesFor};
@@ -36,7 +37,7 @@ impl<'a> Reader<'a> {
         ensures exact { GivesFor set_mention_of result self.new.at (set_mention_at kind self.old.whole self.old.at) }
         ensures whole { self.new.whole ≡ self.old.whole }
         ensures from_one { IfOk result (λ set. 1 ≤ set.number) }
-        ensures limit { IfOk result (λ set. set.number ≤ 2 ^ 62) }
+        ensures limit { IfOk result (λ set. set.number ≤ most) }
     {
         let number = self.set_number()?;
         let name = self.name(alloc)?;
@@ -53,7 +54,7 @@ impl<'a> Reader<'a> {
     fn outcome_mention(&mut self, alloc: Global) -> Result<OutcomeMention, Refused>
         ensures exact { GivesFor outcome_mention_of result self.new.at (outcome_mention_at self.old.whole self.old.at) }
         ensures whole { self.new.whole ≡ self.old.whole }
-        ensures limit { IfOk result (λ outcome. outcome.number ≤ 2 ^ 62) }
+        ensures limit { IfOk result (λ outcome. outcome.number ≤ most) }
     {
         let number = self.whole_number()?;
         let name = self.name(alloc)?;

@@ -6,12 +6,16 @@ ghost use Rattle.def_file.specs.Content.{GameFile};
 ghost use Rattle.def_file.specs.Reading.{entries_from, game_at};
 ghost use Rattle.def_file_form.specs.Laws.{StandsFor};
 ghost use Rattle.def_file_fault.specs.First.{FirstFault};
+ghost use Rattle.def_program.specs.Program.{most_bytes};
 ghost use Rattle.xg_read.specs.Gives.{Answers, GivesFor, GivesNext, next_at};
 
 use crate::reader::Reader;
 use def_file::FileFault;
 use std::alloc::Global;
 use xg_game::{Game, GameMaker, Refused};
+
+/// The greatest number of bytes of a game file.
+pub const MOST_BYTES: usize = 67_108_864;
 
 /// One more than the greatest number of nodes: the entry behind the last one that may be is read and judged, too.
 const MOST_ENTRIES: usize = 1_048_577;
@@ -20,7 +24,7 @@ const MOST_ENTRIES: usize = 1_048_577;
 ///
 /// Memory apart, the answer is the game that the file stands for, or the file's first fault.
 pub fn read_game(alloc: Global, bytes: &[u8]) -> Result<Game, Refused>
-    requires { length bytes.now ≤ 67108864 }
+    requires { length bytes.now ≤ most_bytes }
     ensures exact { Answers result (game_at bytes.now) }
 
     // What is accepted has a reading without a fault and stands for its game, and each such file is accepted.
@@ -37,7 +41,7 @@ pub fn read_game(alloc: Global, bytes: &[u8]) -> Result<Game, Refused>
 
 #[tactic(auto, unfolding(def_file::specs::Reading::game_at))]
 fn read_file(alloc: Global, bytes: &[u8]) -> Result<Game, Refused>
-    requires { length bytes.now ≤ 67108864 }
+    requires { length bytes.now ≤ most_bytes }
     ensures { Answers result (game_at bytes.now) }
 {
     let mut reader = Reader::new(bytes);

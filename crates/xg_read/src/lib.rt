@@ -14,6 +14,6 @@ mod wanted;
 
 pub use def_file::FileFault;
 pub use def_fraction::NumberFault;
-pub use game::read_game;
+pub use game::{MOST_BYTES, read_game};
 pub use xg_game::{Game, GameMaker, Refused};
 pub use xg_record::{Action, Actions, EntryKind, Payoffs, Record};

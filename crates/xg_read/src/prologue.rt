@@ -1,6 +1,7 @@
 //! The prologue of a file.
 ghost use Rattle.std.specs.Prelude.{◌≡◌, ℕ, ◌+◌, ◌-◌, ◌^◌, ◌<◌, ◌≤◌, [], ◌∷◌, ◌++◌, List, length};
 ghost use Rattle.def_file.specs.Reading.{checked_names, names_from, prologue_at};
+ghost use Rattle.def_program.specs.Program.{most_bytes};
 ghost use Rattle.xg_read.specs.Gives.{GivesFor};
 ghost use Rattle.xg_read.specs.Mentions.{AreFirst, GivesNames, IsBoth, comment_at, read_prologue};
 
@@ -32,7 +33,7 @@ impl<'a> Reader<'a> {
     /// The players' names up to the closing brace.
     #[tactic(auto, using(crate::proofs::Names::names_closed, crate::proofs::Names::names_more, crate::proofs::Names::names_full), unfolding(def_file::specs::Reading::close_at))]
     fn names(&mut self, alloc: Global) -> Result<PlayerNames, Refused>
-        requires { length self.old.whole ≤ 67108864 }
+        requires { length self.old.whole ≤ most_bytes }
         ensures exact { GivesNames result self.new.at (names_from (length self.old.whole) [] self.old.whole self.old.at) }
         ensures whole { self.new.whole ≡ self.old.whole }
     {
@@ -87,7 +88,7 @@ impl<'a> Reader<'a> {
     /// The prologue.
     #[tactic(auto, unfolding(def_file::specs::Reading::prologue_at, def_file::specs::Reading::head_at, def_file::specs::Reading::behind_head))]
     pub fn prologue(&mut self, alloc: Global) -> Result<Prologue, Refused>
-        requires { length self.old.whole ≤ 67108864 }
+        requires { length self.old.whole ≤ most_bytes }
         ensures exact { GivesFor read_prologue result self.new.at (prologue_at self.old.whole self.old.at) }
         ensures whole { self.new.whole ≡ self.old.whole }
     {

@@ -1,5 +1,6 @@
 //! Texts and numbers of a file.
-ghost use Rattle.std.specs.Prelude.{◌≡◌, ◌^◌, ◌≤◌, IfOk};
+ghost use Rattle.def_fraction.specs.Fraction.{most};
+ghost use Rattle.std.specs.Prelude.{◌≡◌, ◌≤◌, IfOk};
 ghost use Rattle.def_file.specs.Reading.{literal_at, name_at, read_as_set, set_number_at, text_at, whole_at};
 ghost use Rattle.xg_read.specs.Gives.{Gives, GivesFor};
 
@@ -56,7 +57,7 @@ impl<'a> Reader<'a> {
     pub fn whole_number(&mut self) -> Result<u64, FileFault>
         ensures exact { Gives result self.new.at (whole_at self.old.whole self.old.at) }
         ensures whole { self.new.whole ≡ self.old.whole }
-        ensures limit { IfOk result (λ n. n ≤ 2 ^ 62) }
+        ensures limit { IfOk result (λ n. n ≤ most) }
     {
         let token = self.token(Wanted::Number)?;
         match read_whole(self.token_bytes(token)) {
@@ -74,7 +75,7 @@ impl<'a> Reader<'a> {
         ensures exact { Gives result self.new.at (set_number_at self.old.whole self.old.at) }
         ensures whole { self.new.whole ≡ self.old.whole }
         ensures from_one { IfOk result (λ n. 1 ≤ n) }
-        ensures limit { IfOk result (λ n. n ≤ 2 ^ 62) }
+        ensures limit { IfOk result (λ n. n ≤ most) }
     {
         let token = self.token(Wanted::Number)?;
         match read_set(self.token_bytes(token)) {
@@ -92,7 +93,7 @@ impl<'a> Reader<'a> {
 fn read_set(bytes: &[u8]) -> Result<u64, NumberFault>
     ensures exact { result ≡ read_as_set bytes.now }
     ensures from_one { IfOk result (λ n. 1 ≤ n) }
-    ensures limit { IfOk result (λ n. n ≤ 2 ^ 62) }
+    ensures limit { IfOk result (λ n. n ≤ most) }
 {
     match read_whole(bytes) {
         Ok(0) => Err(NumberFault::Range),

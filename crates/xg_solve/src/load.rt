@@ -6,10 +6,7 @@ ghost use Rattle.xg_solve.specs.Loads.{Loads, LoadHasCause, ReadsGame};
 
 use std::alloc::Global;
 use xg_io::{Files, ReadAllFault, read_all};
-use xg_read::{FileFault, Game, Refused, read_game};
-
-/// The greatest number of bytes of a game file.
-const MOST_BYTES: usize = 67_108_864;
+use xg_read::{FileFault, Game, MOST_BYTES, Refused, read_game};
 
 /// Why a game isn't loaded.
 #[derive(Clone, Copy, Debug, PartialEq, Eq)]

@@ -2,13 +2,13 @@
 use Rattle.std.specs.Prelude.{◌≡◌, ℕ, ◌≤◌, List, length}
 use Rattle.def_tree.specs.declared.Node.{Node}
 use Rattle.def_tree.specs.Tree.{Begins, leaf_count, wanted}
-use Rattle.def_tree.specs.Rules.{KeepRules}
+use Rattle.def_tree.specs.Rules.{KeepRules, most_nodes}
 use Rattle.xg_tree.specs.Sizes.{SizeLists, HoldSizes}
 
 pub record IsBuilt (nodes : List Node) (wanting ended : ℕ) (sizes : SizeLists) : Type 0 where
   pub begins : Begins 1 nodes
   pub rules : KeepRules nodes
-  pub limit : length nodes ≤ 1048576
+  pub limit : length nodes ≤ most_nodes
   pub wants : wanting ≡ wanted 1 nodes
   pub ends : ended ≡ leaf_count nodes
   pub joins : HoldSizes nodes sizes

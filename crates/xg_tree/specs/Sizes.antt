@@ -3,7 +3,7 @@ use Rattle.std.specs.Prelude.{◌≡◌, ℕ, ◌+◌, ◌-◌, ◌<◌, ◌≤�
 use Rattle.def_tree.specs.declared.Kind.{Kind}
 use Rattle.def_tree.specs.declared.Kind.TheVariants.{Chance, One, Two, Leaf}
 use Rattle.def_tree.specs.declared.Node.{Node}
-use Rattle.def_tree.specs.Rules.{IsBareLeaf, set_count}
+use Rattle.def_tree.specs.Rules.{IsBareLeaf, most_actions, set_count}
 
 pub record SizeLists : Type 0 where
   pub chance : List ℕ
@@ -15,7 +15,7 @@ pub record JoinsSizes (sizes : List ℕ) (set children : ℕ) : Type 0 where
   pub counts : 1 ≤ set
   pub next : set ≤ length sizes + 1
   pub some : 1 ≤ children
-  pub limit : children ≤ 1024
+  pub limit : children ≤ most_actions
   pub agrees : set ≤ length sizes → slice_index sizes (set - 1) ≡ children
 
 abbrev pub FitsSizesAs : Kind → SizeLists → Node → Type 0

@@ -1,5 +1,5 @@
 ghost use Rattle.std.specs.Prelude.{◌≡◌, ◌≢◌, ◌↔◌, ◌+◌, ◌<◌, ◌≤◌, [], ◌∷◌, ◌++◌, length, IsTrue, OnOk, OnErr, IsErrOf};
-ghost use Rattle.def_tree.specs.Rules.{Fits, IsGameTree, KeepRules};
+ghost use Rattle.def_tree.specs.Rules.{Fits, IsGameTree, KeepRules, most_nodes};
 ghost use Rattle.def_tree.specs.Tree.{Begins, forest_of, leaf_count, prefix, wanted};
 
 use crate::sizes::Sizes;
@@ -10,7 +10,7 @@ use std::marker::Model;
 use thiserror::Error;
 
 /// The greatest number of nodes of a tree.
-pub(crate) const NODE_LIMIT: usize = 1_048_576;
+pub const MOST_NODES: usize = 1_048_576;
 
 /// Why a node was not taken.
 #[derive(Debug, Drop, PartialEq, Eq, Error)]
@@ -63,7 +63,7 @@ impl Builder {
         // What is true of every builder.
         ensures begins { Begins 1 self.now }
         ensures rules { KeepRules self.now }
-        ensures limit { length self.now ≤ 1048576 }
+        ensures limit { length self.now ≤ most_nodes }
     {
         self.wanted == 0
     }
@@ -80,10 +80,10 @@ impl Builder {
         requires incomplete { wanted 1 self.old ≢ 0 }
         requires fits { Fits self.old node }
         ensures ok { OnOk result (self.new ≡ self.old ++ node ∷ []) }
-        ensures too_many { IsErrOf result PushFault.TooManyNodes ↔ (length self.old ≡ 1048576) }
+        ensures too_many { IsErrOf result PushFault.TooManyNodes ↔ (length self.old ≡ most_nodes) }
         ensures refused { OnErr result (self.new ≡ self.old) }
     {
-        if self.nodes.len() >= NODE_LIMIT {
+        if self.nodes.len() >= MOST_NODES {
             return Err(PushFault::TooManyNodes);
         }
         self.nodes.reserve(1).map_err(|_| PushFault::NoMemory)?;

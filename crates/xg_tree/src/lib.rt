@@ -6,8 +6,9 @@ mod sizes;
 mod tree;
 mod visitor;
 
-pub use builder::{Builder, PushFault};
+pub use builder::{Builder, MOST_NODES, PushFault};
 pub use def_tree::{Kind, Node, Player};
+pub use sizes::MOST_ACTIONS;
 pub use tree::Tree;
 pub use visitor::Visitor;
 

@@ -5,8 +5,8 @@ use def_tree::{Kind, Node};
 use std::alloc::{AllocError, Global};
 use std::marker::Model;
 
-/// The greatest number of children of a node.
-const CHILD_LIMIT: u32 = 1_024;
+/// The greatest number of actions of a set, and so of children of a node.
+pub const MOST_ACTIONS: u32 = 1_024;
 
 // How many children the nodes of each set have, by the sets' kinds and numbers.
 #[derive(Drop)]
@@ -64,7 +64,7 @@ impl Sizes {
 fn joins(sizes: &[u32], set: u32, children: u32) -> bool
     ensures { IsTrue result ↔ JoinsSizes sizes.now set children }
 {
-    if set == 0 || children == 0 || children > CHILD_LIMIT {
+    if set == 0 || children == 0 || children > MOST_ACTIONS {
         return false;
     }
     let before = set as usize - 1;

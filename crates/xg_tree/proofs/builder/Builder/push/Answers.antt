@@ -11,7 +11,7 @@ overflow_add-self-2 c =
     let fits : Fits c.self.inside.nodes.items c.args.node = subst (λ nodes. Fits nodes c.args.node) (sym c.self.view_is) c.requires.fits in
     let wants : c.self.inside.wanted ≡ wanted 1 c.self.inside.nodes.items = c.self.invariant.wants in
     let long : vec_len c.self.inside.nodes ≡ length c.self.inside.nodes.items = c.self.inside.nodes.ok.0 in
-    let short : length c.self.inside.nodes.items < 1048576 = omega (arith, c.len.ensures, c.if-len-ge-NODE_LIMIT.false) in
+    let short : length c.self.inside.nodes.items < 1048576 = omega (arith, c.len.ensures, c.if-len-ge-MOST_NODES.false) in
     let bound : wanted 1 c.self.inside.nodes.items - 1 + c.args.node.children < 2 ^ 32 = wanted_fits c.self.inside.nodes.items c.args.node c.self.invariant.rules fits short in
     let below : c.self.inside.wanted - 1 + c.args.node.children < 2 ^ 32 = omega arith in
     search rules
@@ -22,7 +22,7 @@ invariant_of-self-2 c =
     let wants : c.self.inside.wanted ≡ wanted 1 c.self.inside.nodes.items = c.self.invariant.wants in
     let some : c.self.inside.wanted ≢ 0 = λ none. c.requires.incomplete (ap (wanted 1) (sym c.self.view_is) ∙ sym wants ∙ none) in
     let long : vec_len c.self.inside.nodes ≡ length c.self.inside.nodes.items = c.self.inside.nodes.ok.0 in
-    let short : length c.self.inside.nodes.items < 1048576 = omega (arith, c.len.ensures, c.if-len-ge-NODE_LIMIT.false) in
+    let short : length c.self.inside.nodes.items < 1048576 = omega (arith, c.len.ensures, c.if-len-ge-MOST_NODES.false) in
     let nodes : c.push.new.self.items ≡ c.self.inside.nodes.items ++ c.args.node ∷ [] = search rules in
     let sizes : c.note.new.self ≡ with_size c.self.inside.sizes c.args.node = search rules in
     let leaves : c.self.inside.leaves + c.leaves_in.result ≡ c.self.inside.leaves + leaf_count (c.args.node ∷ []) = ap (λ n. c.self.inside.leaves + n) c.leaves_in.ensures in
