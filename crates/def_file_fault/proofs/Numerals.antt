@@ -1,6 +1,6 @@
 -- Numbers, by the place that takes them.
 use Rattle.std.proofs.Common.{◌≡◌, ℕ, zero, suc, ◌≤◌, Bool, true, false, cond, List, [], ◌∷◌, length, None, Result, Ok, Err, sym, refl, ap, ◌∙◌, subst, arith}
-use Rattle.std.specs.Prelude.{codes, nat_le, ◌^◌, IsTrue}
+use Rattle.std.specs.Prelude.{codes, nat_le, IsTrue}
 use Rattle.std.proofs.lemmas.Bool.{leb-true, le-leb}
 use Rattle.def_file_tokens.specs.declared.Token.TheVariants as kinds
 use Rattle.def_file_tokens.specs.declared.Lexeme.{Lexeme}
@@ -31,10 +31,10 @@ fault_none : {A : Type 0} (r : Result A NumberFault) → fault_of r ≡ None →
 fault_none (Ok v) e = (v, refl)
 fault_none (Err fault) e = absurd cc
 
-whole_reads : (bytes : List ℕ) (n : ℕ) → IsTrue (is_numeral bytes) → number_of bytes ≡ n → n ≤ 2 ^ 62 → read_as_whole bytes ≡ Ok n
+whole_reads : (bytes : List ℕ) (n : ℕ) → IsTrue (is_numeral bytes) → number_of bytes ≡ n → n ≤ most → read_as_whole bytes ≡ Ok n
 unfolding read_as_whole
 whole_reads bytes n numeral value limit =
-    let fits : nat_le (number_of bytes) most ≡ true = le-leb (number_of bytes) most (subst (λ k. k ≤ 2 ^ 62) (sym value) limit) in
+    let fits : nat_le (number_of bytes) most ≡ true = le-leb (number_of bytes) most (subst (λ k. k ≤ most) (sym value) limit) in
     rw (numeral, fits) (ap Ok value)
 
 whole_from : (bytes : List ℕ) (n : ℕ) → read_as_whole bytes ≡ Ok n → (rest : List Spelled) → IsWholeNumber n (number bytes ∷ rest) rest
@@ -44,7 +44,7 @@ whole_from bytes n e rest = chosen (is_numeral bytes) (nat_le (number_of bytes) 
     chosen : (b c : Bool) → is_numeral bytes ≡ b → nat_le (number_of bytes) most ≡ c → cond b (cond c (Ok (number_of bytes)) (Err Range)) (Err Form) ≡ Ok n → IsWholeNumber n (number bytes ∷ rest) rest
     chosen true true numeral limit e =
         let same : number_of bytes ≡ n = cc in
-        record { digits = bytes; numeral = numeral; value = same; limit = subst (λ k. k ≤ 2 ^ 62) same (leb-true (number_of bytes) most limit); spelling = refl }
+        record { digits = bytes; numeral = numeral; value = same; limit = subst (λ k. k ≤ most) same (leb-true (number_of bytes) most limit); spelling = refl }
     chosen true false numeral limit e = absurd cc
     chosen false c numeral limit e = absurd cc
 

@@ -1,14 +1,13 @@
 -- Parts of a file that were read, by their tokens up to an offset.
-use Rattle.std.proofs.Common.{◌≡◌, ℕ, ◌≤◌, List, [], ◌∷◌, ◌++◌, length, Option, Result, Ok, Err, sym, refl, ap, ◌∙◌, subst, arith, ◌⊎◌, inl, inr, append-nil, ⊎_elim}
-use Rattle.std.specs.Prelude.{codes}
+use Rattle.std.proofs.Common.{◌≡◌, ℕ, ◌≤◌, List, [], ◌∷◌, ◌++◌, length, Option, Result, Ok, Err, sym, refl, ap, ◌∙◌, subst, arith, append-nil}
 use Rattle.def_file_tokens.specs.declared.Token.TheVariants as kinds
 use Rattle.def_file_tokens.specs.declared.Lexeme.{Lexeme}
 use Rattle.def_file.specs.declared.FileFault.{FileFault}
 use Rattle.def_file.specs.Content.{Record}
 use Rattle.def_file.specs.Reading.{name_at, PrologueHead, head_at, entry_at}
-use Rattle.def_file_form.specs.Form.{Spelled, word, number, open_brace, IsText, IsName, AreNames, IsHead, IsEntry}
-use Rattle.def_file_form.proofs.Steps.{then_ok, either, token_ok, Step, Takes, Read, Then, IsOne, read_as, read_one, read_then, exact_here, exact_step, open_step}
-use Rattle.def_file_form.proofs.Sound.{text_read, name_read}
+use Rattle.def_file_form.specs.Form.{Spelled, number, IsName, IsHead, IsEntry}
+use Rattle.def_file_form.proofs.Steps.{Takes, Read}
+use Rattle.def_file_form.proofs.Sound.{name_read}
 use Rattle.def_file_form.proofs.SoundEntries.{IsHeadOf, entry_read, head_read}
 use Rattle.def_file_fault.specs.Offends.{spelled_at, AreNext, IsFront, EndsWhole}
 use Rattle.def_file_fault.specs.First.{IsHeadTokens, IsCommentTokens, IsEntryTokens, IsHeadUpTo, IsCommentFrom, IsEntryFrom}

@@ -1,6 +1,5 @@
 -- What is in the form is read: each reading takes its tokens.
 use Rattle.std.proofs.Common.{◌≡◌, ℕ, zero, suc, ◌<◌, ◌≤◌, true, false, eqb, List, [], ◌∷◌, ◌++◌, length, Option, Some, None, Result, Ok, sym, refl, ap, ◌∙◌, subst, arith, ⊎_elim, append_assoc, append-nil}
-use Rattle.std.specs.Prelude.{◌^◌}
 use Rattle.std.proofs.lemmas.Bool.{le-leb}
 use Rattle.def_file_tokens.specs.declared.Token.TheVariants as kinds
 use Rattle.def_file_tokens.specs.declared.Lexeme.{Lexeme}
@@ -75,7 +74,7 @@ literal_taken whole at v tokens rest is ahead = number_taken read_as_literal who
 is_whole : (n : ℕ) (tokens rest : List Spelled) → (is : IsWholeNumber n tokens rest) → read_as_whole is.digits ≡ Ok n
 unfolding read_as_whole
 is_whole n tokens rest is =
-    let limit = le-leb (number_of is.digits) most (subst (λ k. k ≤ 2 ^ 62) (sym is.value) is.limit) in
+    let limit = le-leb (number_of is.digits) most (subst (λ k. k ≤ most) (sym is.value) is.limit) in
     rw (is.numeral, limit) (ap Ok is.value)
 
 -- where a whole number within the limit comes, it is read

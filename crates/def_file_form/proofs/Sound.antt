@@ -1,6 +1,6 @@
 -- What is read is in the form: each reading with the tokens that it took.
 use Rattle.std.proofs.Common.{◌≡◌, ℕ, zero, suc, ◌≤◌, Bool, true, false, cond, List, [], ◌∷◌, ◌++◌, length, Option, Some, None, Result, Ok, Err, sym, refl, ap, ◌∙◌, subst, arith, append_assoc, append-nil, ◌⊎◌, inl, inr}
-use Rattle.std.specs.Prelude.{◌^◌, nat_le}
+use Rattle.std.specs.Prelude.{nat_le}
 use Rattle.std.proofs.lemmas.Bool.{leb-true}
 use Rattle.def_file_tokens.specs.declared.Token.TheVariants as kinds
 use Rattle.def_file_tokens.specs.declared.Lexeme.{Lexeme}
@@ -75,7 +75,7 @@ whole_ok bytes n tokens rest e one = chosen (is_numeral bytes) (nat_le (number_o
     chosen : (b c : Bool) → is_numeral bytes ≡ b → nat_le (number_of bytes) most ≡ c → cond b (cond c (Ok (number_of bytes)) (Err Range)) (Err Form) ≡ Ok n → IsWholeNumber n tokens rest
     chosen true true numeral limit e =
         let same : number_of bytes ≡ n = cc in
-        record { digits = bytes; numeral = numeral; value = same; limit = subst (λ k. k ≤ 2 ^ 62) same (leb-true (number_of bytes) most limit); spelling = one }
+        record { digits = bytes; numeral = numeral; value = same; limit = subst (λ k. k ≤ most) same (leb-true (number_of bytes) most limit); spelling = one }
     chosen true false numeral limit e = absurd cc
     chosen false c numeral limit e = absurd cc
 

@@ -1,21 +1,21 @@
 -- A file stands for a game whose tables go with its tree, and whose fractions are in lowest terms within the limit.
-use Rattle.std.proofs.Common.{◌≡◌, ℕ, List, [], ◌∷◌, ◌++◌, map, Option, Some, None, refl, ap, sym, subst, append-nil}
+use Rattle.std.proofs.Common.{◌≡◌, List, [], ◌∷◌, ◌++◌, map, Option, Some, None, sym, subst, append-nil}
 use Rattle.std.specs.List.{All}
 use Rattle.std.proofs.lemmas.List.{append_assoc}
 use Rattle.std.proofs.lemmas.List.Elements.{All-nil, All-cons}
-use Rattle.def_fraction.specs.Fraction.{Fraction, IsInLowestTerms}
+use Rattle.def_fraction.specs.Fraction.{Fraction}
 use Rattle.def_fraction.specs.Literal.{denominator, signed_numerator, exact_value}
 use Rattle.def_fraction.proofs.FractionLemmas.{fraction_of-reduced}
 use Rattle.def_file.specs.declared.EntryKind.{EntryKind}
 use Rattle.def_file.specs.declared.EntryKind.TheVariants.{Chance, Personal, Leaf}
-use Rattle.def_file.specs.Content.{Action, SetMention, Record, zero_fraction}
+use Rattle.def_file.specs.Content.{Action, SetMention, Record}
 use Rattle.def_file.specs.Game.{IsSmallFraction, IsWholeGame, HasFractions}
 use Rattle.def_file.proofs.Fractions.{IfGiven, GivesFractions, zero_small, no_fractions, fractions_with}
-use Rattle.def_file_entries.specs.Entries.{contents_of, game_of_entries}
+use Rattle.def_file_entries.specs.Entries.{contents_of}
 use Rattle.def_file_entries.proofs.OneMore.{one_more}
 use Rattle.def_file_entries.proofs.WholeGames.{entries_make_whole_game}
-use Rattle.def_file_form.specs.Form.{Spelled, IsFraction, IsChance, AreActionsUpTo, IsActionList, AreMorePayoffs, ArePayoffs, IsPayoffList, IsSet, IsOutcome, IsEntryAs, AreEntries}
-use Rattle.def_file_form.specs.Laws.{StandsFor, StandsForWholeGame}
+use Rattle.def_file_form.specs.Form.{Spelled, IsFraction, IsChance, AreActionsUpTo, IsActionList, AreMorePayoffs, ArePayoffs, IsPayoffList, IsEntryAs, AreEntries}
+use Rattle.def_file_form.specs.Laws.{StandsForWholeGame}
 
 fraction_small : (f : Fraction) (tokens rest : List Spelled) → IsFraction f tokens rest → IsSmallFraction f
 fraction_small f tokens rest is =

@@ -4,13 +4,13 @@
 --     IsPrologue p tokens rest           they are the prologue, and then the rest
 --     IsEntry r tokens rest              they are an entry that says this, and then the rest
 --     IsFile bytes p rs                  the bytes are a file with this prologue and these entries
-use Rattle.std.specs.Prelude.{◌≡◌, ℕ, ◌^◌, ◌≤◌, ◌⊎◌, List, [], ◌∷◌, ◌++◌, map, codes, unwrap_or, IsTrue, Option, Some, None}
+use Rattle.std.specs.Prelude.{◌≡◌, ℕ, ◌≤◌, ◌⊎◌, List, [], ◌∷◌, ◌++◌, map, codes, unwrap_or, IsTrue, Option, Some, None}
 use Rattle.def_file_tokens.specs.declared.Token.{Token}
 use Rattle.def_file_tokens.specs.declared.Token.TheVariants as kinds
 use Rattle.def_file_tokens.specs.Spelling.{Piece, ArePieces, bytes_of}
 use Rattle.def_file_tokens.specs.Texts.{IsInside, unescaped}
 use Rattle.def_fraction.specs.Digits.{is_numeral, number_of}
-use Rattle.def_fraction.specs.Fraction.{Fraction}
+use Rattle.def_fraction.specs.Fraction.{Fraction, most}
 use Rattle.def_fraction.specs.Literal.{IsLiteralOf}
 use Rattle.def_tree.specs.Tree.{IsWhole}
 use Rattle.def_file.specs.declared.EntryKind.{EntryKind}
@@ -59,12 +59,12 @@ abbrev pub IsName : Option (List ℕ) → List Spelled → List Spelled → Type
 IsName None tokens rest = tokens ≡ rest
 IsName (Some bytes) tokens rest = IsText bytes tokens rest
 
--- digits that write this number, which is at most 2 ^ 62
+-- digits that write this number, which is within the limit
 pub record IsWholeNumber (n : ℕ) (tokens rest : List Spelled) : Type 0 where
   pub digits : List ℕ
   pub numeral : IsTrue (is_numeral digits)
   pub value : number_of digits ≡ n
-  pub limit : n ≤ 2 ^ 62
+  pub limit : n ≤ most
   pub spelling : tokens ≡ number digits ∷ rest
 
 -- a literal of this value
