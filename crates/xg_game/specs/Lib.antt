@@ -4,5 +4,6 @@ pub mod Made
 pub mod Marks
 pub mod Mentions
 pub mod Outcomes
+pub mod Places
 pub mod Prologues
 pub mod Sets

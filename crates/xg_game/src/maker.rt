@@ -103,10 +103,11 @@ impl GameMaker {
         ensures spent { (result ≡ Err Refused.NoMemory) ↔ (self.new.spent ≡ true) }
         ensures prologue { self.new.prologue ≡ self.old.prologue }
     {
-        if let Some(fault) = self.tables.fault(&entry) {
+        let places = self.tables.places(&entry);
+        if let Some(fault) = self.tables.fault(&entry, places) {
             return Err(Refused::File(fault));
         }
-        if self.tables.keep(entry).is_err() {
+        if self.tables.keep(entry, places).is_err() {
             self.spent = true;
             return Err(Refused::NoMemory);
         }

@@ -80,7 +80,7 @@ impl Numbers {
         ensures { result ≡ marked (position (nat_eq number) self.now) }
     {
         let mark = near_mark(&self.near, number);
-        if mark != 0 {
+        if mark != 0 || number > self.greatest {
             return mark;
         }
         match self.far.get(&number) {

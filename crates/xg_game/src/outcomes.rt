@@ -4,6 +4,7 @@ ghost use Rattle.def_file.specs.Adding as adding;
 ghost use Rattle.def_file.specs.Content.{OutcomeEntry, zero_fraction};
 ghost use Rattle.def_file.specs.Faults as faults;
 ghost use Rattle.xg_game.specs.Mentions.{outcome_mention};
+ghost use Rattle.xg_game.specs.Places.{place_of_outcome};
 ghost use Rattle.xg_record.specs.Record.{record_of};
 
 use crate::given::{name_differs, same_value};
@@ -85,20 +86,22 @@ impl OutcomeTable {
     }
 
     /// Whether the entry is the first to mention its outcome, and has no payoffs.
-    pub(crate) fn is_undefined(&self, entry: &Record) -> bool
+    pub(crate) fn is_undefined(&self, entry: &Record, place: Option<usize>) -> bool
+        requires { place ≡ place_of_outcome entry.now.outcome self.now }
         ensures { result ≡ faults.is_outcome_undefined self.now (record_of entry.now).outcome }
     {
-        entry.outcome != 0 && entry.payoffs.is_none() && self.find(entry.outcome).is_none()
+        entry.outcome != 0 && place.is_none() && entry.payoffs.is_none()
     }
 
     /// Whether the entry has another name or other payoffs than are kept of its outcome.
-    pub(crate) fn differs(&self, entry: &Record) -> bool
+    pub(crate) fn differs(&self, entry: &Record, place: Option<usize>) -> bool
+        requires { place ≡ place_of_outcome entry.now.outcome self.now }
         ensures { result ≡ faults.outcome_differs self.now (record_of entry.now).outcome }
     {
         if entry.outcome == 0 {
             return payoffs_differ(zero(), zero(), &entry.payoffs);
         }
-        match self.find(entry.outcome) {
+        match place {
             Some(i) => {
                 let kept = self.get(i);
                 name_differs(&kept.name, &entry.outcome_name)
@@ -109,44 +112,42 @@ impl OutcomeTable {
     }
 
     /// Whether the entry is the first to mention its outcome, and has other than two payoffs.
-    pub(crate) fn is_miscounted(&self, entry: &Record) -> bool
+    pub(crate) fn is_miscounted(&self, entry: &Record, place: Option<usize>) -> bool
+        requires { place ≡ place_of_outcome entry.now.outcome self.now }
         ensures { result ≡ faults.is_outcome_miscounted self.now (record_of entry.now).outcome }
     {
-        entry.outcome != 0
-            && has_wrong_payoffs(&entry.payoffs)
-            && self.find(entry.outcome).is_none()
+        entry.outcome != 0 && place.is_none() && has_wrong_payoffs(&entry.payoffs)
     }
 
     /// The number of the entry's outcome among those of the table, which count from 1.
-    pub(crate) fn number_with(&self, entry: &Record) -> u32
-        requires { length self.now + 1 < 2 ^ 32 }
+    pub(crate) fn number_with(&self, entry: &Record, place: Option<usize>) -> u32
+        requires place { place ≡ place_of_outcome entry.now.outcome self.now }
+        requires room { length self.now + 1 < 2 ^ 32 }
         ensures { result ≡ adding.outcome_number self.now (record_of entry.now).outcome }
     {
         if entry.outcome == 0 {
             return 0;
         }
-        let place = match self.find(entry.outcome) {
-            Some(i) => i,
-            None => self.len(),
-        };
-        place as u32 + 1
+        place.unwrap_or(self.len()) as u32 + 1
     }
 
     /// Notes a mention of an outcome.
     pub(crate) fn note(
         &mut self,
+        place: Option<usize>,
         number: u64,
         name: Option<Text>,
         payoffs: Option<Payoffs>,
     ) -> Result<(), AllocError>
-        requires { length self.old + 1 < 2 ^ 32 }
+        requires place { place ≡ place_of_outcome number self.old }
+        requires room { length self.old + 1 < 2 ^ 32 }
         ensures { let mention = outcome_mention number name payoffs in
             OnOk result (self.new ≡ adding.noted_outcome self.old mention) }
     {
         if number == 0 {
             return Ok(());
         }
-        match self.find(number) {
+        match place {
             Some(i) => {
                 self.name(i, name);
                 Ok(())

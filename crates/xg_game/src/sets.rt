@@ -80,17 +80,19 @@ impl SetTable {
     }
 
     /// Whether the entry is the first to mention its set, and has no actions.
-    pub(crate) fn is_undefined(&self, entry: &Record) -> bool
+    pub(crate) fn is_undefined(&self, entry: &Record, place: Option<usize>) -> bool
+        requires { place ≡ faults.set_place_of entry.now.set self.now }
         ensures { result ≡ faults.is_set_undefined self.now (record_of entry.now).set }
     {
-        entry.actions.is_none() && self.find(entry.set).is_none()
+        place.is_none() && entry.actions.is_none()
     }
 
     /// Whether the entry has another name or other actions than are kept of its set.
-    pub(crate) fn differs(&self, kind: Kind, entry: &Record) -> bool
+    pub(crate) fn differs(&self, kind: Kind, entry: &Record, place: Option<usize>) -> bool
+        requires { place ≡ faults.set_place_of entry.now.set self.now }
         ensures { result ≡ faults.set_differs kind self.now (record_of entry.now).set }
     {
-        match self.find(entry.set) {
+        match place {
             Some(i) => {
                 let kept = self.get(i);
                 name_differs(&kept.name, &entry.set_name)
@@ -101,30 +103,29 @@ impl SetTable {
     }
 
     /// Whether the entry is the first to mention its set, and has no action or too many.
-    pub(crate) fn is_miscounted(&self, entry: &Record) -> bool
+    pub(crate) fn is_miscounted(&self, entry: &Record, place: Option<usize>) -> bool
+        requires { place ≡ faults.set_place_of entry.now.set self.now }
         ensures { result ≡ faults.is_set_miscounted self.now (record_of entry.now).set }
     {
-        has_wrong_count(&entry.actions) && self.find(entry.set).is_none()
+        place.is_none() && has_wrong_count(&entry.actions)
     }
 
     /// The number of the entry's set among those of the table, which count from 1.
-    pub(crate) fn number_with(&self, entry: &Record) -> u32
-        requires { length self.now + 1 < 2 ^ 32 }
+    pub(crate) fn number_with(&self, entry: &Record, place: Option<usize>) -> u32
+        requires place { place ≡ faults.set_place_of entry.now.set self.now }
+        requires room { length self.now + 1 < 2 ^ 32 }
         ensures { result ≡ adding.set_number self.now (record_of entry.now).set }
     {
-        let place = match self.find(entry.set) {
-            Some(i) => i,
-            None => self.len(),
-        };
-        place as u32 + 1
+        place.unwrap_or(self.len()) as u32 + 1
     }
 
     /// How many actions the entry's set has.
-    pub(crate) fn action_count_with(&self, entry: &Record) -> u32
-        requires { adding.action_count self.now (record_of entry.now).set < 2 ^ 32 }
+    pub(crate) fn action_count_with(&self, entry: &Record, place: Option<usize>) -> u32
+        requires place { place ≡ faults.set_place_of entry.now.set self.now }
+        requires few { adding.action_count self.now (record_of entry.now).set < 2 ^ 32 }
         ensures { result ≡ adding.action_count self.now (record_of entry.now).set }
     {
-        match self.find(entry.set) {
+        match place {
             Some(i) => self.get(i).value.len() as u32,
             None => match &entry.actions {
                 Some(actions) => actions.len() as u32,
@@ -136,16 +137,18 @@ impl SetTable {
     /// Notes a mention of a set.
     pub(crate) fn note(
         &mut self,
+        place: Option<usize>,
         number: u64,
         name: Option<Text>,
         actions: Option<Actions>,
     ) -> Result<(), AllocError>
+        requires place { place ≡ faults.set_place_of number self.old }
         requires defined { faults.is_set_undefined self.old (set_mention number name actions) ≡ false }
         requires room { length self.old + 1 < 2 ^ 32 }
         ensures { let mention = set_mention number name actions in
             OnOk result (self.new ≡ adding.noted_set self.old mention) }
     {
-        match self.find(number) {
+        match place {
             Some(i) => {
                 self.name(i, name);
                 Ok(())
@@ -235,14 +238,28 @@ impl SetTables {
         }
     }
 
+    /// Where the set of a kind and number is. A leaf is in no set.
+    pub(crate) fn find(&self, kind: Kind, number: u64) -> Option<usize>
+        ensures { result ≡ faults.set_place_of number (sets_of_kind kind self.now) }
+    {
+        match kind {
+            Kind::Chance => self.chance.find(number),
+            Kind::One => self.one.find(number),
+            Kind::Two => self.two.find(number),
+            Kind::Leaf => None,
+        }
+    }
+
     /// Notes a mention of a set of a kind. A leaf is in no set.
     pub(crate) fn note(
         &mut self,
         kind: Kind,
+        place: Option<usize>,
         number: u64,
         name: Option<Text>,
         actions: Option<Actions>,
     ) -> Result<(), AllocError>
+        requires place { place ≡ faults.set_place_of number (sets_of_kind kind self.old) }
         requires defined { let mention = set_mention number name actions in
             kind ≢ Kind.Leaf → faults.is_set_undefined (sets_of_kind kind self.old) mention ≡ false }
         requires room { length (sets_of_kind kind self.old) + 1 < 2 ^ 32 }
@@ -251,9 +268,9 @@ impl SetTables {
             OnOk result (self.new ≡ with_sets kind table self.old) }
     {
         match kind {
-            Kind::Chance => self.chance.note(number, name, actions),
-            Kind::One => self.one.note(number, name, actions),
-            Kind::Two => self.two.note(number, name, actions),
+            Kind::Chance => self.chance.note(place, number, name, actions),
+            Kind::One => self.one.note(place, number, name, actions),
+            Kind::Two => self.two.note(place, number, name, actions),
             Kind::Leaf => Ok(()),
         }
     }

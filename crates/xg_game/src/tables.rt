@@ -6,6 +6,7 @@ ghost use Rattle.def_file.specs.Faults as faults;
 ghost use Rattle.def_tree.specs.Rules.{KeepRules, most_nodes};
 ghost use Rattle.def_tree.specs.Tree.{Begins, wanted};
 ghost use Rattle.def_file.specs.Game.{AreTogether};
+ghost use Rattle.xg_game.specs.Places.{ArePlacesOf, place_of_set};
 ghost use Rattle.xg_record.specs.Record.{record_of};
 
 use crate::outcomes::OutcomeTable;
@@ -20,6 +21,13 @@ use xg_tree::{Builder, Kind};
 
 /// The greatest number of nodes of a game.
 const NODE_LIMIT: usize = 1_048_576;
+
+/// Where the set and the outcome of an entry are in the tables, if they are there.
+#[derive(Clone, Copy)]
+pub(crate) struct Places {
+    pub(crate) set: Option<usize>,
+    pub(crate) outcome: Option<usize>,
+}
 
 /// What the entries so far say.
 #[derive(Drop)]
@@ -68,90 +76,118 @@ impl Tables {
         self.nodes.is_complete()
     }
 
+    /// Where the set and the outcome of an entry are in the tables.
+    pub(crate) fn places(&self, entry: &Record) -> Places
+        ensures { ArePlacesOf (record_of entry.now) self.now result }
+    {
+        let kind = mover(entry.kind, entry.player);
+        let set = self.sets.find(kind, entry.set);
+        let outcome = match entry.outcome {
+            0 => None,
+            number => self.outcomes.find(number),
+        };
+        Places { set, outcome }
+    }
+
     /// The first fault of an entry after those so far.
-    pub(crate) fn fault(&self, entry: &Record) -> Option<FileFault>
-        requires { AreTogether self.now }
+    pub(crate) fn fault(&self, entry: &Record, places: Places) -> Option<FileFault>
+        requires consistent { AreTogether self.now }
+        requires places { ArePlacesOf (record_of entry.now) self.now places }
         ensures { result ≡ faults.record_fault self.now (record_of entry.now) }
     {
         let node = self.names.len() as u32 + 1;
         if is_no_player(entry.kind, entry.player) {
             return Some(FileFault::PlayerNumber { node });
         }
-        if self.is_set_undefined(entry) {
+        if self.is_set_undefined(entry, places.set) {
             return Some(FileFault::SetUndefined { node });
         }
-        if self.set_differs(entry) {
+        if self.set_differs(entry, places.set) {
             return Some(FileFault::SetMismatch { node });
         }
-        if self.outcomes.is_undefined(entry) {
+        if self.outcomes.is_undefined(entry, places.outcome) {
             return Some(FileFault::OutcomeUndefined { node });
         }
-        if self.outcomes.differs(entry) {
+        if self.outcomes.differs(entry, places.outcome) {
             return Some(FileFault::OutcomeMismatch { node });
         }
-        if self.outcomes.is_miscounted(entry) {
+        if self.outcomes.is_miscounted(entry, places.outcome) {
             return Some(FileFault::PayoffCount { node });
         }
         if self.names.len() == NODE_LIMIT {
             return Some(FileFault::TooManyNodes);
         }
-        if self.is_set_miscounted(entry) {
+        if self.is_set_miscounted(entry, places.set) {
             return Some(FileFault::ActionCount { node });
         }
         None
     }
 
-    fn is_set_undefined(&self, entry: &Record) -> bool
+    fn is_set_undefined(&self, entry: &Record, place: Option<usize>) -> bool
+        requires { place ≡ place_of_set (record_of entry.now) self.now.sets }
         ensures { let r = record_of entry.now in
             let table = sets_of_kind (faults.mover r) self.now.sets in
             result ≡ faults.has_set r.kind && faults.is_set_undefined table r.set }
     {
         let kind = mover(entry.kind, entry.player);
-        has_set(entry.kind) && self.sets.of(kind).is_undefined(entry)
+        has_set(entry.kind) && self.sets.of(kind).is_undefined(entry, place)
     }
 
-    fn set_differs(&self, entry: &Record) -> bool
+    fn set_differs(&self, entry: &Record, place: Option<usize>) -> bool
+        requires { place ≡ place_of_set (record_of entry.now) self.now.sets }
         ensures { let r = record_of entry.now in
             let table = sets_of_kind (faults.mover r) self.now.sets in
             result ≡ faults.has_set r.kind && faults.set_differs (faults.mover r) table r.set }
     {
         let kind = mover(entry.kind, entry.player);
-        has_set(entry.kind) && self.sets.of(kind).differs(kind, entry)
+        has_set(entry.kind) && self.sets.of(kind).differs(kind, entry, place)
     }
 
-    fn is_set_miscounted(&self, entry: &Record) -> bool
+    fn is_set_miscounted(&self, entry: &Record, place: Option<usize>) -> bool
+        requires { place ≡ place_of_set (record_of entry.now) self.now.sets }
         ensures { let r = record_of entry.now in
             let table = sets_of_kind (faults.mover r) self.now.sets in
             result ≡ faults.has_set r.kind && faults.is_set_miscounted table r.set }
     {
         let kind = mover(entry.kind, entry.player);
-        has_set(entry.kind) && self.sets.of(kind).is_miscounted(entry)
+        has_set(entry.kind) && self.sets.of(kind).is_miscounted(entry, place)
     }
 
     /// Takes an entry that has no fault. Where memory runs out, part of it may be in the tables.
-    pub(crate) fn keep(&mut self, entry: Record) -> Result<(), AllocError>
+    pub(crate) fn keep(&mut self, entry: Record, places: Places) -> Result<(), AllocError>
+        requires places { ArePlacesOf (record_of entry) self.old places }
         requires consistent { AreTogether self.old }
         requires incomplete { wanted 1 self.old.nodes ≢ 0 }
         requires faultless { faults.record_fault self.old (record_of entry) ≡ None }
         ensures { OnOk result (self.new ≡ with_record self.old (record_of entry)) }
     {
-        let node = self.node_with(&entry);
-        self.sets
-            .note(node.kind, entry.set, entry.set_name, entry.actions)?;
-        self.outcomes
-            .note(entry.outcome, entry.outcome_name, entry.payoffs)?;
+        let node = self.node_with(&entry, places);
+        self.sets.note(
+            node.kind,
+            places.set,
+            entry.set,
+            entry.set_name,
+            entry.actions,
+        )?;
+        self.outcomes.note(
+            places.outcome,
+            entry.outcome,
+            entry.outcome_name,
+            entry.payoffs,
+        )?;
         self.names.push(entry.name)?;
         self.nodes.push(node).map_err(|_| AllocError)
     }
 
     /// The node of an entry that has no fault.
-    fn node_with(&self, entry: &Record) -> Node
+    fn node_with(&self, entry: &Record, places: Places) -> Node
+        requires places { ArePlacesOf (record_of entry.now) self.now places }
         requires consistent { AreTogether self.now }
         requires faultless { faults.record_fault self.now (record_of entry.now) ≡ None }
         ensures { result ≡ node_with self.now (record_of entry.now) }
     {
         let kind = mover(entry.kind, entry.player);
-        let outcome = self.outcomes.number_with(entry);
+        let outcome = self.outcomes.number_with(entry, places.outcome);
         if !has_set(entry.kind) {
             return Node {
                 kind,
@@ -163,9 +199,9 @@ impl Tables {
         let table = self.sets.of(kind);
         Node {
             kind,
-            set: table.number_with(entry),
+            set: table.number_with(entry, places.set),
             outcome,
-            children: table.action_count_with(entry),
+            children: table.action_count_with(entry, places.set),
         }
     }
 }
