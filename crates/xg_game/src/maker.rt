@@ -1,5 +1,6 @@
 //! The making of a game.
-ghost use Rattle.std.specs.Prelude.{◌≡◌, ◌≢◌, ◌≤◌, ◌^◌, ◌↔◌, true, false, Some, None, Err, length, IsTrue, OnOk};
+ghost use Rattle.std.specs.Prelude.{◌≡◌, ◌≢◌, ◌≤◌, ◌↔◌, true, false, Some, None, Err, length, IsTrue, OnOk};
+ghost use Rattle.def_fraction.specs.Fraction.{most};
 ghost use Rattle.def_file.specs.Adding.{with_record};
 ghost use Rattle.def_file.specs.Content.{game_with, no_contents};
 ghost use Rattle.def_file.specs.Faults.{has_set, record_fault};
@@ -87,8 +88,8 @@ impl GameMaker {
     pub fn push(&mut self, entry: Record) -> Result<(), Refused>
         requires incomplete { wanted 1 self.old.contents.nodes ≢ 0 }
         requires unspent { self.old.spent ≡ false }
-        requires outcome { entry.outcome ≤ 2 ^ 62 }
-        requires set { IsTrue (has_set entry.kind) → (1 ≤ entry.set) × (entry.set ≤ 2 ^ 62) }
+        requires outcome { entry.outcome ≤ most }
+        requires set { IsTrue (has_set entry.kind) → (1 ≤ entry.set) × (entry.set ≤ most) }
         ensures ok { let contents = with_record self.old.contents (record_of entry) in
             OnOk result (self.new ≡ record self.old { contents = contents }) }
         ensures accepted { OnOk result (record_fault self.old.contents (record_of entry) ≡ None) }

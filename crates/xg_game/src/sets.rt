@@ -12,10 +12,7 @@ use std::alloc::{AllocError, Global};
 use std::marker::Model;
 use xg_lex::Text;
 use xg_record::{Actions, Record};
-use xg_tree::Kind;
-
-/// The greatest number of actions of a set.
-const ACTION_LIMIT: usize = 1_024;
+use xg_tree::{Kind, MOST_ACTIONS};
 
 /// What is known of a set: the first name that is given, and the actions of the first mention.
 pub(crate) type SetDescription = Described<Actions>;
@@ -192,7 +189,7 @@ fn has_wrong_count(actions: &Option<Actions>) -> bool
     ensures { result ≡ faults.has_wrong_count actions.now }
 {
     match actions {
-        Some(actions) => actions.len() == 0 || actions.len() > ACTION_LIMIT,
+        Some(actions) => actions.len() == 0 || actions.len() > MOST_ACTIONS as usize,
         None => false,
     }
 }

@@ -17,10 +17,7 @@ use std::alloc::{AllocError, Global};
 use std::marker::Model;
 use xg_lex::Text;
 use xg_record::Record;
-use xg_tree::{Builder, Kind};
-
-/// The greatest number of nodes of a game.
-const NODE_LIMIT: usize = 1_048_576;
+use xg_tree::{Builder, Kind, MOST_NODES};
 
 /// Where the set and the outcome of an entry are in the tables, if they are there.
 #[derive(Clone, Copy)]
@@ -114,7 +111,7 @@ impl Tables {
         if self.outcomes.is_miscounted(entry, places.outcome) {
             return Some(FileFault::PayoffCount { node });
         }
-        if self.names.len() == NODE_LIMIT {
+        if self.names.len() == MOST_NODES {
             return Some(FileFault::TooManyNodes);
         }
         if self.is_set_miscounted(entry, places.set) {
