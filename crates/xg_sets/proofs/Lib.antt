@@ -1,4 +1,3 @@
-pub mod NextLemmas
 pub mod NotingLemmas
-pub mod OpenLemmas
+pub mod ParentLemmas
 pub mod ToldLemmas

@@ -14,6 +14,7 @@ use Rattle.def_tree.specs.declared.Node.{Node}
 use Rattle.def_tree.specs.Tree.{Forest, is_leaf_kind, node_count, prefix}
 use Rattle.def_tree.specs.Rules.{FitsAs, IsGameTree, JoinsSet, is_same_kind, set_count}
 use Rattle.def_tree.proofs.Sets.{children-le, is_same_kind-true, is_same_kind_self}
+use Rattle.def_game_paths.specs.Coming.{visit_after}
 use Rattle.def_game_paths.specs.Paths.{Visit, visits}
 use Rattle.def_game_paths.specs.Recall.{Numbered, RecallBreak, break_against, break_or, first_break, first_of_set, is_personal, is_same_set}
 use Rattle.def_game_paths.specs.Sequences.{differ_in_number, first_sequence, number_break, sequence_at, set_firsts, set_sizes, sizes_so_far}
@@ -26,12 +27,12 @@ use Rattle.def_game_paths.proofs.Order.{KnowsSizes, joins_of, node_of}
 use Rattle.def_sequence_form.proofs.Sets.{set_at}
 use Rattle.xg_sets.specs.declared.building.RecallFault.{RecallFault}
 use Rattle.xg_sets.specs.declared.building.RecallFault.TheVariants.{NotRecall, NoMemory}
-use Rattle.xg_sets.specs.declared.open_nodes.Sequences.{Sequences}
+use Rattle.xg_sets.specs.declared.parents.Sequences.{Sequences}
 use Rattle.xg_sets.specs.declared.table.SetRow.{SetRow}
-use Rattle.xg_sets.specs.Stands.{AreAt, AreBelow, FindsBreak, IsFirstNode, RowStands, StartsBelow, TableStands, TablesStand, visit_after}
+use Rattle.xg_sets.specs.Entered.{AreAt, AreAtFirstChild, FindsBreak, IsFirstNode, IsRowOf, IsAtFirstChild, IsTableOf, AreTablesOf}
 use Rattle.xg_sets.specs.Table.{BeginsSet, JoinsRow, Notes, NotesIn, SetRows, with_set}
 use Rattle.xg_sets.specs.Told.{set_of}
-use Rattle.xg_sets.proofs.NextLemmas.{IsNext, next_node, next_visit}
+use Rattle.def_game_paths.proofs.Coming.{IsNext, next_node, next_visit}
 
 -- behind nodes of other sets, a search for the first node of a set finds the next one
 first_after : (k : ℕ) (x : Node) (before : List Visit) (v : Visit) (rest : List Visit) → ((i : ℕ) (d : Visit) → i < length before → is_same_set (get_or before i d).node x ≡ false) → is_same_set v.node x ≡ true →
@@ -94,7 +95,7 @@ module _ (tree : Forest) (kind : Kind) (game : IsGameTree tree) (inner : is_leaf
   firsts_new : begins ≡ true → set_firsts kind 0 (take (n + 1) all) ≡ firsts ++ v ∷ []
   firsts_new first = firsts_more ∙ ap (λ b. firsts ++ cond b (v ∷ []) []) first
 
-  rows_count : (table : SetRows) → TableStands tree kind n table → length table.rows ≡ length firsts
+  rows_count : (table : SetRows) → IsTableOf tree kind n table → length table.rows ≡ length firsts
   rows_count table stands = sym (length-map table.rows set_of) ∙ ap length stands.sets ∙ length-map firsts (set_at kind tree)
 
   sequences_more : map (sequence_at kind tree) (take (n + 1) all) ≡ map (sequence_at kind tree) done ++ sequence_at kind tree v ∷ []
@@ -104,7 +105,7 @@ module _ (tree : Forest) (kind : Kind) (game : IsGameTree tree) (inner : is_leaf
   put_more table s stands is = (λ i. stands i ++ is i ∷ []) ∙ sym sequences_more
 
   -- a node that begins no set of the kind
-  pub quiet_stands : (table : SetRows) (s : ℕ) → TableStands tree kind n table → begins ≡ false → s ≡ sequence_at kind tree v → TableStands tree kind (n + 1) (put table s)
+  pub quiet_stands : (table : SetRows) (s : ℕ) → IsTableOf tree kind n table → begins ≡ false → s ≡ sequence_at kind tree v → IsTableOf tree kind (n + 1) (put table s)
   quiet_stands table s stands other is =
       let same : firsts ≡ set_firsts kind 0 (take (n + 1) all) = sym (firsts_quiet other) in
       record {
@@ -134,8 +135,8 @@ module _ (tree : Forest) (kind : Kind) (game : IsGameTree tree) (inner : is_leaf
             | false ↦ λ differs. other_kind kind w.node x kinds differs
           ] refl
 
-  row_stands : (table : SetRows) (s : ℕ) → TableStands tree kind n table → v.node.kind ≡ kind → v.node.set ≡ length firsts + 1 → s ≡ sequence_at kind tree v →
-      RowStands tree kind (length table.rows + 1) (record { first = table.next; before = s; actions = v.node.children; node = n + 1 })
+  row_stands : (table : SetRows) (s : ℕ) → IsTableOf tree kind n table → v.node.kind ≡ kind → v.node.set ≡ length firsts + 1 → s ≡ sequence_at kind tree v →
+      IsRowOf tree kind (length table.rows + 1) (record { first = table.next; before = s; actions = v.node.children; node = n + 1 })
   row_stands table s stands is set sequence =
       let rows : length table.rows ≡ length firsts = rows_count table stands in
       let many : length sizes ≡ length firsts = length-map firsts (λ (w : Visit). w.node.children) in
@@ -154,7 +155,7 @@ module _ (tree : Forest) (kind : Kind) (game : IsGameTree tree) (inner : is_leaf
         );
       }
 
-  pub new_stands : (table : SetRows) (s : ℕ) → TableStands tree kind n table → v.node.kind ≡ kind → v.node.set ≡ length firsts + 1 → s ≡ sequence_at kind tree v → TableStands tree kind (n + 1) (put (with_set table (n + 1) v.node s) s)
+  pub new_stands : (table : SetRows) (s : ℕ) → IsTableOf tree kind n table → v.node.kind ≡ kind → v.node.set ≡ length firsts + 1 → s ≡ sequence_at kind tree v → IsTableOf tree kind (n + 1) (put (with_set table (n + 1) v.node s) s)
   new_stands table s stands is set sequence =
       let first : begins ≡ true = ap (λ b. b && nat_eq v.node.set (length firsts + 1)) (is_same_kind_self kind v.node.kind is) ∙ eq-eqb v.node.set (length firsts + 1) set in
       let more : set_firsts kind 0 (take (n + 1) all) ≡ firsts ++ v ∷ [] = firsts_new first in
@@ -164,11 +165,11 @@ module _ (tree : Forest) (kind : Kind) (game : IsGameTree tree) (inner : is_leaf
       record {
         sets = map-append set_of table.rows (row ∷ []) ∙ (λ i. stands.sets i ++ record { before = sequence i; actions = v.node.children } ∷ []) ∙ sym (map-append (set_at kind tree) firsts (v ∷ [])) ∙ ap (map (set_at kind tree)) (sym more);
         each = λ i d there. elim (cases_lt i (length table.rows)) [
-          | inl below ↦ subst (RowStands tree kind (i + 1)) (sym (get_or-append table.rows (row ∷ []) d i below)) (stands.each i d below)
+          | inl below ↦ subst (IsRowOf tree kind (i + 1)) (sym (get_or-append table.rows (row ∷ []) d i below)) (stands.each i d below)
           | inr past ↦
               let last : length table.rows ≡ i = omega (arith, length-append table.rows (row ∷ [])) in
-              subst (λ j. RowStands tree kind (j + 1) (get_or (table.rows ++ row ∷ []) j d)) last
-              (subst (RowStands tree kind (length table.rows + 1)) (sym (get_or-append_seam table.rows row [] d)) (row_stands table s stands is set sequence))
+              subst (λ j. IsRowOf tree kind (j + 1) (get_or (table.rows ++ row ∷ []) j d)) last
+              (subst (IsRowOf tree kind (length table.rows + 1)) (sym (get_or-append_seam table.rows row [] d)) (row_stands table s stands is set sequence))
         ];
         next = omega (arith, ap sum next_sizes, sum_by-append (λ x. x) sizes (v.node.children ∷ []), sum_by-cons (λ x. x) v.node.children []);
         at_nodes = put_more table s stands.at_nodes sequence;
@@ -193,7 +194,7 @@ module _ (tree : Forest) (kind : Kind) (game : IsGameTree tree) (inner : is_leaf
 
   -- what stands after a node of the kind was noted, where the sequence before it is s
   pub record IsNoted (new : SetRows) (s first : ℕ) : Type 0 where
-    pub stands : TableStands tree kind (n + 1) (put new s)
+    pub stands : IsTableOf tree kind (n + 1) (put new s)
     pub first_is : first ≡ first_sequence (set_sizes kind tree) v.node.set
     pub none : against ≡ None
 
@@ -212,7 +213,7 @@ module _ (tree : Forest) (kind : Kind) (game : IsGameTree tree) (inner : is_leaf
       let many : length sizes ≡ length firsts = length-map firsts (λ (w : Visit). w.node.children) in
       (joins.counts, omega arith)
 
-  begun : v.node.kind ≡ kind → (table : SetRows) (s : ℕ) (new : SetRows) → TableStands tree kind n table → s ≡ sequence_at kind tree v → length table.rows ≤ v.node.set - 1 →
+  begun : v.node.kind ≡ kind → (table : SetRows) (s : ℕ) (new : SetRows) → IsTableOf tree kind n table → s ≡ sequence_at kind tree v → length table.rows ≤ v.node.set - 1 →
       (result : Result ℕ RecallFault) → BeginsSet table (n + 1) v.node s new result → After new s result
   begun is table s new stands sequence past (Ok first) (first_is, new_is) =
       let rows : length table.rows ≡ length firsts = rows_count table stands in
@@ -223,7 +224,7 @@ module _ (tree : Forest) (kind : Kind) (game : IsGameTree tree) (inner : is_leaf
       let row = row_stands table s stands is set sequence in
       let index : length table.rows + 1 ≡ v.node.set = omega arith in
       record {
-        stands = subst (λ t. TableStands tree kind (n + 1) (put t s)) (sym new_is) (new_stands table s stands is set sequence);
+        stands = subst (λ t. IsTableOf tree kind (n + 1) (put t s)) (sym new_is) (new_stands table s stands is set sequence);
         first_is = first_is ∙ row.first ∙ ap (first_sequence (set_sizes kind tree)) index;
         none = ap (break_against (differ_in_number tree) (n + 1) v) (found_new v.node is (omega arith) (is_same_set_by v.node v.node refl refl)) ∙ same_numbers (record { number = n + 1; visit = v }) refl;
       }
@@ -234,15 +235,15 @@ module _ (tree : Forest) (kind : Kind) (game : IsGameTree tree) (inner : is_leaf
     first : row.first ≡ first_sequence (set_sizes kind tree) v.node.set
     node : (w : Visit) × IsFirstNode tree kind row v.node w
 
-  its_row : v.node.kind ≡ kind → (table : SetRows) (row : SetRow) → TableStands tree kind n table → slice_get table.rows (v.node.set - 1) ≡ Some row → IsRow row
+  its_row : v.node.kind ≡ kind → (table : SetRows) (row : SetRow) → IsTableOf tree kind n table → slice_get table.rows (v.node.set - 1) ≡ Some row → IsRow row
   its_row is table row stands read =
       let counts : 1 ≤ v.node.set = (set_of_node is).0 in
       let set : v.node.set ≡ v.node.set - 1 + 1 = omega arith in
-      let stood : RowStands tree kind (v.node.set - 1 + 1) row =
-      subst (RowStands tree kind (v.node.set - 1 + 1)) (get_or_from_slice_get table.rows (v.node.set - 1) row row read) (stands.each (v.node.set - 1) row (is_read table.rows (v.node.set - 1) row read)) in
+      let stood : IsRowOf tree kind (v.node.set - 1 + 1) row =
+      subst (IsRowOf tree kind (v.node.set - 1 + 1)) (get_or_from_slice_get table.rows (v.node.set - 1) row row read) (stands.each (v.node.set - 1) row (is_read table.rows (v.node.set - 1) row read)) in
       record { first = stood.first ∙ ap (first_sequence (set_sizes kind tree)) (sym set); node = stood.node v.node is set }
 
-  joined : is_personal kind ≡ true → v.node.kind ≡ kind → (table : SetRows) (s : ℕ) (new : SetRows) (row : SetRow) → TableStands tree kind n table → s ≡ sequence_at kind tree v → slice_get table.rows (v.node.set - 1) ≡ Some row →
+  joined : is_personal kind ≡ true → v.node.kind ≡ kind → (table : SetRows) (s : ℕ) (new : SetRows) (row : SetRow) → IsTableOf tree kind n table → s ≡ sequence_at kind tree v → slice_get table.rows (v.node.set - 1) ≡ Some row →
       (result : Result ℕ RecallFault) → JoinsRow row table (n + 1) s new result → After new s result
   joined personal is table s new row stands sequence read (Ok first) (same, first_is, new_is) =
       let rows : length table.rows ≡ length firsts = rows_count table stands in
@@ -255,7 +256,7 @@ module _ (tree : Forest) (kind : Kind) (game : IsGameTree tree) (inner : is_leaf
       let numbers : sequence_at w.node.kind tree w ≡ sequence_at v.node.kind tree v =
       ap (λ k. sequence_at k tree w) held.node.1.kinds ∙ held.node.1.before ∙ same ∙ sequence ∙ ap (λ k. sequence_at k tree v) (sym is) in
       record {
-        stands = subst (λ t. TableStands tree kind (n + 1) (put t s)) (sym new_is) (quiet_stands table s stands other sequence);
+        stands = subst (λ t. IsTableOf tree kind (n + 1) (put t s)) (sym new_is) (quiet_stands table s stands other sequence);
         first_is = first_is ∙ held.first;
         none = ap (break_against (differ_in_number tree) (n + 1) v) held.node.1.found ∙ same_numbers (record { number = row.node; visit = w }) numbers;
       }
@@ -269,7 +270,7 @@ module _ (tree : Forest) (kind : Kind) (game : IsGameTree tree) (inner : is_leaf
       ∙ other_numbers (record { number = row.node; visit = w }) (ap is_personal is ∙ personal) (λ e. differs (sym of_first ∙ e ∙ of_v))
       ∙ (λ i. Some (record { node = sym node_is i; earlier = sym earlier_is i }))
 
-  pub after_note : is_personal kind ≡ true → v.node.kind ≡ kind → (table : SetRows) (s : ℕ) (new : SetRows) (result : Result ℕ RecallFault) → TableStands tree kind n table → s ≡ sequence_at kind tree v → Notes table (n + 1) v.node s new result → After new s result
+  pub after_note : is_personal kind ≡ true → v.node.kind ≡ kind → (table : SetRows) (s : ℕ) (new : SetRows) (result : Result ℕ RecallFault) → IsTableOf tree kind n table → s ≡ sequence_at kind tree v → Notes table (n + 1) v.node s new result → After new s result
   after_note personal is table s new result stands sequence notes =
       elim (slice_get table.rows (v.node.set - 1)) as (λ o. slice_get table.rows (v.node.set - 1) ≡ o → NotesIn o table (n + 1) v.node s new result → After new s result) [
         | None ↦ λ past h. begun is table s new stands sequence (not_read table.rows (v.node.set - 1) past) result h
@@ -277,7 +278,7 @@ module _ (tree : Forest) (kind : Kind) (game : IsGameTree tree) (inner : is_leaf
       ] refl notes
 
   -- the next set's sequences have small numbers
-  pub room_for : (table : SetRows) → TableStands tree kind n table → table.next + v.node.children < 2 ^ 32
+  pub room_for : (table : SetRows) → IsTableOf tree kind n table → table.next + v.node.children < 2 ^ 32
   room_for table stands =
       let front = sizes_front kind n all in
       let few = sequences_are_few tree game kind inner in
@@ -307,24 +308,24 @@ module _ (tree : Forest) (game : IsGameTree tree) (n : ℕ) (v : Visit) (next : 
   not_personal other (Some first) = ap (λ p. cond (p && differ_in_number tree first.visit v) (Some (record { node = n + 1; earlier = first.number })) None) other
 
   -- a kind that doesn't move at the node
-  quiet : (kind : Kind) → is_leaf_kind kind ≡ false → is_same_kind kind v.node.kind ≡ false → (table : SetRows) (s : ℕ) → TableStands tree kind n table → s ≡ sequence_at kind tree v → TableStands tree kind (n + 1) (put table s)
+  quiet : (kind : Kind) → is_leaf_kind kind ≡ false → is_same_kind kind v.node.kind ≡ false → (table : SetRows) (s : ℕ) → IsTableOf tree kind n table → s ≡ sequence_at kind tree v → IsTableOf tree kind (n + 1) (put table s)
   quiet kind inner other table s stands sequence =
       quiet_stands tree kind game inner n v next table s stands (ap (λ b. b && nat_eq v.node.set (length (set_firsts kind 0 (take n (visits tree))) + 1)) other) sequence
 
-  other_below : (kind : Kind) (s : ℕ) → is_same_kind kind v.node.kind ≡ false → s ≡ sequence_at kind tree v → StartsBelow tree kind v s
+  other_below : (kind : Kind) (s : ℕ) → is_same_kind kind v.node.kind ≡ false → s ≡ sequence_at kind tree v → IsAtFirstChild tree kind v s
   other_below kind s other sequence = record { own = λ same. absurd (apart (sym same ∙ other)); other = λ _. sequence }
     where
       apart : true ≡ false → ⊥
       apart e = cc e
 
-  own_below : (kind : Kind) (s : ℕ) → is_same_kind kind v.node.kind ≡ true → s ≡ first_sequence (set_sizes kind tree) v.node.set → StartsBelow tree kind v s
+  own_below : (kind : Kind) (s : ℕ) → is_same_kind kind v.node.kind ≡ true → s ≡ first_sequence (set_sizes kind tree) v.node.set → IsAtFirstChild tree kind v s
   own_below kind s same first = record { own = λ _. first; other = λ other. absurd (apart (sym same ∙ other)) }
     where
       apart : true ≡ false → ⊥
       apart e = cc e
 
-  pub quiet_node : is_personal v.node.kind ≡ false → is_same_kind One v.node.kind ≡ false → is_same_kind Two v.node.kind ≡ false → (one two : SetRows) (at : Sequences) → TablesStand tree n one two → AreAt tree v.path at →
-      TablesStand tree (n + 1) (put one at.one) (put two at.two) × AreBelow tree v at
+  pub quiet_node : is_personal v.node.kind ≡ false → is_same_kind One v.node.kind ≡ false → is_same_kind Two v.node.kind ≡ false → (one two : SetRows) (at : Sequences) → AreTablesOf tree n one two → AreAt tree v.path at →
+      AreTablesOf tree (n + 1) (put one at.one) (put two at.two) × AreAtFirstChild tree v at
   quiet_node personal not_one not_two one two at stand are = (
     record {
       table_one = quiet One refl not_one one at.one stand.table_one are.one;
@@ -334,8 +335,8 @@ module _ (tree : Forest) (game : IsGameTree tree) (n : ℕ) (v : Visit) (next : 
     record { one = other_below One at.one not_one are.one; two = other_below Two at.two not_two are.two },
   )
 
-  pub noted_one : v.node.kind ≡ One → (one two new : SetRows) (at : Sequences) (first : ℕ) → TablesStand tree n one two → AreAt tree v.path at → Notes one (n + 1) v.node at.one new (Ok first) →
-      TablesStand tree (n + 1) (put new at.one) (put two at.two) × AreBelow tree v (record { one = first; two = at.two })
+  pub noted_one : v.node.kind ≡ One → (one two new : SetRows) (at : Sequences) (first : ℕ) → AreTablesOf tree n one two → AreAt tree v.path at → Notes one (n + 1) v.node at.one new (Ok first) →
+      AreTablesOf tree (n + 1) (put new at.one) (put two at.two) × AreAtFirstChild tree v (record { one = first; two = at.two })
   noted_one is one two new at first stand are notes =
       let noted = after_note tree One game refl n v next refl is one at.one new (Ok first) stand.table_one are.one notes in
       let same : is_same_kind One v.node.kind ≡ true = ap (is_same_kind One) is in
@@ -348,8 +349,8 @@ module _ (tree : Forest) (game : IsGameTree tree) (n : ℕ) (v : Visit) (next : 
         record { one = own_below One first same noted.first_is; two = other_below Two at.two other are.two },
       )
 
-  pub noted_two : v.node.kind ≡ Two → (one two new : SetRows) (at : Sequences) (first : ℕ) → TablesStand tree n one two → AreAt tree v.path at → Notes two (n + 1) v.node at.two new (Ok first) →
-      TablesStand tree (n + 1) (put one at.one) (put new at.two) × AreBelow tree v (record { one = at.one; two = first })
+  pub noted_two : v.node.kind ≡ Two → (one two new : SetRows) (at : Sequences) (first : ℕ) → AreTablesOf tree n one two → AreAt tree v.path at → Notes two (n + 1) v.node at.two new (Ok first) →
+      AreTablesOf tree (n + 1) (put one at.one) (put new at.two) × AreAtFirstChild tree v (record { one = at.one; two = first })
   noted_two is one two new at first stand are notes =
       let noted = after_note tree Two game refl n v next refl is two at.two new (Ok first) stand.table_two are.two notes in
       let same : is_same_kind Two v.node.kind ≡ true = ap (is_same_kind Two) is in
@@ -362,16 +363,16 @@ module _ (tree : Forest) (game : IsGameTree tree) (n : ℕ) (v : Visit) (next : 
         record { one = other_below One at.one other are.one; two = own_below Two first same noted.first_is },
       )
 
-  broken_at : (kind : Kind) → is_leaf_kind kind ≡ false → is_personal kind ≡ true → v.node.kind ≡ kind → (table new : SetRows) (s : ℕ) → TableStands tree kind n table → number_break tree ≡ rest_break tree n → s ≡ sequence_at kind tree v →
+  broken_at : (kind : Kind) → is_leaf_kind kind ≡ false → is_personal kind ≡ true → v.node.kind ≡ kind → (table new : SetRows) (s : ℕ) → IsTableOf tree kind n table → number_break tree ≡ rest_break tree n → s ≡ sequence_at kind tree v →
       (fault : RecallFault) → Notes table (n + 1) v.node s new (Err fault) → FindsBreak tree fault
   broken_at kind inner personal is table new s stands so_far sequence NoMemory notes = tt
   broken_at kind inner personal is table new s stands so_far sequence (NotRecall node earlier) notes =
       some_here so_far (record { node = node; earlier = earlier }) (after_note tree kind game inner n v next personal is table s new (Err (NotRecall node earlier)) stands sequence notes)
 
-  pub broken_one : v.node.kind ≡ One → (one two new : SetRows) (at : Sequences) (fault : RecallFault) → TablesStand tree n one two → AreAt tree v.path at → Notes one (n + 1) v.node at.one new (Err fault) → FindsBreak tree fault
+  pub broken_one : v.node.kind ≡ One → (one two new : SetRows) (at : Sequences) (fault : RecallFault) → AreTablesOf tree n one two → AreAt tree v.path at → Notes one (n + 1) v.node at.one new (Err fault) → FindsBreak tree fault
   broken_one is one two new at fault stand are notes = broken_at One refl refl is one new at.one stand.table_one stand.no_break are.one fault notes
 
-  pub broken_two : v.node.kind ≡ Two → (one two new : SetRows) (at : Sequences) (fault : RecallFault) → TablesStand tree n one two → AreAt tree v.path at → Notes two (n + 1) v.node at.two new (Err fault) → FindsBreak tree fault
+  pub broken_two : v.node.kind ≡ Two → (one two new : SetRows) (at : Sequences) (fault : RecallFault) → AreTablesOf tree n one two → AreAt tree v.path at → Notes two (n + 1) v.node at.two new (Err fault) → FindsBreak tree fault
   broken_two is one two new at fault stand are notes = broken_at Two refl refl is two new at.two stand.table_two stand.no_break are.two fault notes
 
 -- the same of the node that the tree gives, as node number n + 1
@@ -388,21 +389,21 @@ module _ (tree : Forest) (game : IsGameTree tree) (n : ℕ) (there : n < node_co
   pub counts_at : (kind : Kind) → is_leaf_kind kind ≡ false → x.kind ≡ kind → 1 ≤ x.set
   counts_at kind inner is = subst (λ y. 1 ≤ y.set) is_node (set_of_node tree kind game inner n v next (ap (λ y. y.kind) is_node ∙ is)).0
 
-  pub room_at : (kind : Kind) → is_leaf_kind kind ≡ false → (table : SetRows) → TableStands tree kind n table → table.next + x.children < 2 ^ 32
+  pub room_at : (kind : Kind) → is_leaf_kind kind ≡ false → (table : SetRows) → IsTableOf tree kind n table → table.next + x.children < 2 ^ 32
   room_at kind inner table stands = subst (λ y. table.next + y.children < 2 ^ 32) is_node (room_for tree kind game inner n v next table stands)
 
-  pub noted_one_at : x.kind ≡ One → (one two new : SetRows) (at : Sequences) (first : ℕ) → TablesStand tree n one two → AreAt tree v.path at → Notes one (n + 1) x at.one new (Ok first) →
-      TablesStand tree (n + 1) (put new at.one) (put two at.two) × AreBelow tree v (record { one = first; two = at.two })
+  pub noted_one_at : x.kind ≡ One → (one two new : SetRows) (at : Sequences) (first : ℕ) → AreTablesOf tree n one two → AreAt tree v.path at → Notes one (n + 1) x at.one new (Ok first) →
+      AreTablesOf tree (n + 1) (put new at.one) (put two at.two) × AreAtFirstChild tree v (record { one = first; two = at.two })
   noted_one_at is one two new at first stand are notes =
       noted_one tree game n v next (ap (λ y. y.kind) is_node ∙ is) one two new at first stand are (subst (λ y. Notes one (n + 1) y at.one new (Ok first)) (sym is_node) notes)
 
-  pub noted_two_at : x.kind ≡ Two → (one two new : SetRows) (at : Sequences) (first : ℕ) → TablesStand tree n one two → AreAt tree v.path at → Notes two (n + 1) x at.two new (Ok first) →
-      TablesStand tree (n + 1) (put one at.one) (put new at.two) × AreBelow tree v (record { one = at.one; two = first })
+  pub noted_two_at : x.kind ≡ Two → (one two new : SetRows) (at : Sequences) (first : ℕ) → AreTablesOf tree n one two → AreAt tree v.path at → Notes two (n + 1) x at.two new (Ok first) →
+      AreTablesOf tree (n + 1) (put one at.one) (put new at.two) × AreAtFirstChild tree v (record { one = at.one; two = first })
   noted_two_at is one two new at first stand are notes =
       noted_two tree game n v next (ap (λ y. y.kind) is_node ∙ is) one two new at first stand are (subst (λ y. Notes two (n + 1) y at.two new (Ok first)) (sym is_node) notes)
 
-  pub quiet_at : is_personal x.kind ≡ false → (one two : SetRows) (at : Sequences) → TablesStand tree n one two → AreAt tree v.path at →
-      TablesStand tree (n + 1) (put one at.one) (put two at.two) × AreBelow tree v at
+  pub quiet_at : is_personal x.kind ≡ false → (one two : SetRows) (at : Sequences) → AreTablesOf tree n one two → AreAt tree v.path at →
+      AreTablesOf tree (n + 1) (put one at.one) (put two at.two) × AreAtFirstChild tree v at
   quiet_at other one two at stand are =
       let personal : is_personal v.node.kind ≡ false = ap (λ y. is_personal y.kind) is_node ∙ other in
       quiet_node tree game n v next personal (not_mover v.node.kind personal).0 (not_mover v.node.kind personal).1 one two at stand are
@@ -413,10 +414,10 @@ module _ (tree : Forest) (game : IsGameTree tree) (n : ℕ) (there : n < node_co
       not_mover Two e = cc
       not_mover Leaf e = (refl, refl)
 
-  pub broken_one_at : x.kind ≡ One → (one two new : SetRows) (at : Sequences) (fault : RecallFault) → TablesStand tree n one two → AreAt tree v.path at → Notes one (n + 1) x at.one new (Err fault) → FindsBreak tree fault
+  pub broken_one_at : x.kind ≡ One → (one two new : SetRows) (at : Sequences) (fault : RecallFault) → AreTablesOf tree n one two → AreAt tree v.path at → Notes one (n + 1) x at.one new (Err fault) → FindsBreak tree fault
   broken_one_at is one two new at fault stand are notes =
       broken_one tree game n v next (ap (λ y. y.kind) is_node ∙ is) one two new at fault stand are (subst (λ y. Notes one (n + 1) y at.one new (Err fault)) (sym is_node) notes)
 
-  pub broken_two_at : x.kind ≡ Two → (one two new : SetRows) (at : Sequences) (fault : RecallFault) → TablesStand tree n one two → AreAt tree v.path at → Notes two (n + 1) x at.two new (Err fault) → FindsBreak tree fault
+  pub broken_two_at : x.kind ≡ Two → (one two new : SetRows) (at : Sequences) (fault : RecallFault) → AreTablesOf tree n one two → AreAt tree v.path at → Notes two (n + 1) x at.two new (Err fault) → FindsBreak tree fault
   broken_two_at is one two new at fault stand are notes =
       broken_two tree game n v next (ap (λ y. y.kind) is_node ∙ is) one two new at fault stand are (subst (λ y. Notes two (n + 1) y at.two new (Err fault)) (sym is_node) notes)

@@ -1,5 +1,5 @@
-pub mod Open
+pub mod Parents
 pub mod Table
 pub mod Told
 pub mod Fault
-pub mod Stands
+pub mod Entered

@@ -1,12 +1,13 @@
 ghost use Rattle.std.specs.Prelude.{◌≡◌, ◌+◌, ◌-◌, ◌^◌, ◌<◌, ◌≤◌, Ok, OnOk, IfOk, IfErr};
+ghost use Rattle.def_game_paths.specs.Coming.{visit_after};
 ghost use Rattle.def_game_paths.specs.Recall.{HasPerfectRecall};
 ghost use Rattle.def_sequence_form.specs.Sets.{sets_or_break};
 ghost use Rattle.def_tree.specs.Rules.{IsGameTree};
 ghost use Rattle.def_tree.specs.Tree.{Forest, node_count};
 ghost use Rattle.xg_sets.specs.Fault.{IsFirstBreakOf, TellsBreakOf};
-ghost use Rattle.xg_sets.specs.Stands.{AreAt, AreBelow, FindsBreak, Stands, TablesStand, visit_after};
+ghost use Rattle.xg_sets.specs.Entered.{AreAt, AreAtFirstChild, AreTablesOf, FindsBreak};
 
-use crate::open_nodes::{OpenNode, OpenNodes, Sequences};
+use crate::parents::{Parent, Parents, Sequences};
 use crate::sets::Sets;
 use crate::table::SetTable;
 use std::alloc::{AllocError, Global};
@@ -52,16 +53,18 @@ pub fn build_sets(alloc: Global, tree: &Tree) -> Result<Sets, RecallFault>
 #[derive(Drop)]
 struct Building {
     tables: Tables,
-    open_nodes: OpenNodes,
+    parents: Parents,
 }
 
 impl Building {
+    ghost use Rattle.xg_sets.specs.Entered.{HasEntered};
+
     // No node yet, and one tree to come.
     fn new(alloc: Global) -> Result<Building, AllocError>
-        ensures { (tree : Forest) → IsGameTree tree → IfOk result (λ b. Stands tree 0 b.tables.one b.tables.two b.open_nodes) }
+        ensures { IfOk result (λ b. (tree : Forest) → IsGameTree tree → HasEntered tree 0 b) }
     {
-        let mut open_nodes = OpenNodes::new(alloc);
-        open_nodes.push(OpenNode {
+        let mut parents = Parents::new(alloc);
+        parents.push(Parent {
             kind: Kind::Chance,
             to_come: 1,
             next: Sequences { one: 0, two: 0 },
@@ -71,7 +74,7 @@ impl Building {
                 one: SetTable::new(alloc),
                 two: SetTable::new(alloc),
             },
-            open_nodes,
+            parents,
         })
     }
 
@@ -79,13 +82,13 @@ impl Building {
     fn enter(&mut self, tree: &Tree, k: u32) -> Result<(), RecallFault>
         requires rules { IsGameTree tree.now }
         requires there { k < node_count tree.now }
-        requires stands { Stands tree.now k self.old.tables.one self.old.tables.two self.old.open_nodes }
-        ensures ok { OnOk result (Stands tree.now (k + 1) self.new.tables.one self.new.tables.two self.new.open_nodes) }
+        requires entered { HasEntered tree.now k self.old }
+        ensures ok { OnOk result (HasEntered tree.now (k + 1) self.new) }
         ensures err { IfErr result (FindsBreak tree.now) }
     {
-        let at = self.open_nodes.take_child()?;
+        let at = self.parents.take_child()?;
         let below = self.tables.note(tree, k, at)?;
-        self.open_nodes.enter(tree.node(k + 1), below)?;
+        self.parents.enter(tree.node(k + 1), below)?;
         Ok(())
     }
 }
@@ -102,10 +105,10 @@ impl Tables {
     fn note(&mut self, tree: &Tree, k: u32, at: Sequences) -> Result<Sequences, RecallFault>
         requires rules { IsGameTree tree.now }
         requires there { k < node_count tree.now }
-        requires tables { TablesStand tree.now k self.old.one self.old.two }
+        requires tables { AreTablesOf tree.now k self.old.one self.old.two }
         requires at { AreAt tree.now (visit_after tree.now k).path at }
-        ensures tables { OnOk result (TablesStand tree.now (k + 1) self.new.one self.new.two) }
-        ensures below { IfOk result (AreBelow tree.now (visit_after tree.now k)) }
+        ensures tables { OnOk result (AreTablesOf tree.now (k + 1) self.new.one self.new.two) }
+        ensures below { IfOk result (AreAtFirstChild tree.now (visit_after tree.now k)) }
         ensures err { IfErr result (FindsBreak tree.now) }
     {
         let node = tree.node(k + 1);

@@ -3,7 +3,7 @@
 //! remember their own choices.
 
 mod building;
-mod open_nodes;
+mod parents;
 mod sets;
 mod table;
 

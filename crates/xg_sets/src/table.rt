@@ -51,7 +51,7 @@ impl SetTable {
         Ok(())
     }
 
-    /// Notes node `k` of the player, where the player's sequence is `before`, and answers the first sequence of its set.
+    /// Notes node `k`, where the player moves after the sequence `before`, and answers the first sequence of its set.
     pub(crate) fn note(&mut self, k: u32, node: Node, before: u32) -> Result<u32, RecallFault>
         requires counts { 1 ≤ node.set }
         requires room { self.old.next + node.children < 2 ^ 32 }

@@ -1,11 +1,11 @@
-use Rattle.std.proofs.Common.{rules, ◌≡◌, [], ◌∷◌, subst, sym}
-use Rattle.def_tree.specs.declared.Kind.TheVariants.{Chance}
-use Rattle.xg_sets.specs.Stands.{Stands}
-use Rattle.xg_sets.proofs.ToldLemmas.{stands_first}
+use Rattle.std.proofs.Common.{◌≡◌, [], ◌∷◌, rules, subst, sym}
+use Rattle.xg_sets.specs.Entered.{HasEntered}
+use Rattle.xg_sets.proofs.ToldLemmas.{no_sets, stands_first, whole}
 use Rattle.xg_sets.proofs.building.Building.new.Goals as goal
 
 pub returns : goal.returns
 returns c = λ tree game.
-    let opened : c.push.new.self ≡ record { kind = Chance; to_come = 1; next = record { one = 0; two = 0 } } ∷ [] = search rules in
-    subst (Stands tree 0 c.new.result c.new-2.result) (sym opened)
-    (subst (λ one. Stands tree 0 one c.new-2.result _) (sym c.new.ensures) (subst (λ two. Stands tree 0 _ two _) (sym c.new-2.ensures) (stands_first tree game)))
+    let parents : c.push.new.self ≡ whole ∷ [] = search rules in
+    subst (λ p. HasEntered tree 0 (record { tables = record { one = c.new.result; two = c.new-2.result }; parents = p })) (sym parents)
+    (subst (λ one. HasEntered tree 0 (record { tables = record { one = one; two = c.new-2.result }; parents = whole ∷ [] })) (sym c.new.ensures)
+    (subst (λ two. HasEntered tree 0 (record { tables = record { one = no_sets; two = two }; parents = whole ∷ [] })) (sym c.new-2.ensures) (stands_first tree game)))

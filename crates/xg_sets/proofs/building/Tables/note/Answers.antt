@@ -1,10 +1,11 @@
 use Rattle.std.proofs.Common.{◌+◌, ap, inl, inr, refl, subst, sym}
 use Rattle.std.proofs.lemmas.Result.{err_from_is_err_and}
 use Rattle.def_tree.specs.declared.Kind.TheVariants.{One, Two}
+use Rattle.def_game_paths.specs.Coming.{visit_after}
 use Rattle.def_game_paths.specs.Recall.{is_personal}
 use Rattle.xg_sets.specs.declared.building.Tables.{Tables}
-use Rattle.xg_sets.specs.declared.open_nodes.Sequences.{Sequences}
-use Rattle.xg_sets.specs.Stands.{AreBelow, TablesStand, visit_after}
+use Rattle.xg_sets.specs.declared.parents.Sequences.{Sequences}
+use Rattle.xg_sets.specs.Entered.{AreAtFirstChild, AreTablesOf}
 use Rattle.xg_sets.proofs.NotingLemmas.{broken_one_at, broken_two_at, counts_at, noted_one_at, noted_two_at, put, quiet_at, room_at}
 use Rattle.xg_sets.proofs.building.Tables.note.Goals as goal
 use Rattle.xg_sets.proofs.building.Tables.note.Goals.{in-One+in_ok-note-in-One, in-Two+in_ok-note-in-Two, in-Chance}
@@ -36,7 +37,7 @@ returns-in_err-note-in-Two-clause-err c =
 -- in each arm: both tables once the sequences are put, and the sequences at the first child
 module _ (c : goal.In_ok-put-2) where
   abbrev Noted : Tables → Sequences → Type 0
-  Noted tables below = TablesStand c.args.tree.now (c.args.k + 1) (put tables.one c.args.at.one) (put tables.two c.args.at.two) × AreBelow c.args.tree.now (visit_after c.args.tree.now c.args.k) below
+  Noted tables below = AreTablesOf c.args.tree.now (c.args.k + 1) (put tables.one c.args.at.one) (put tables.two c.args.at.two) × AreAtFirstChild c.args.tree.now (visit_after c.args.tree.now c.args.k) below
 
   noted : Noted c.match-node.self c.match-node.below
   noted = elim c.match-node.branch [
@@ -55,8 +56,8 @@ module _ (c : goal.In_ok-put-2) where
 
 pub returns-clause-tables : goal.returns-clause-tables
 returns-clause-tables c =
-    subst (λ one. TablesStand c.args.tree.now (c.args.k + 1) one c.put-2.new.self) (sym c.in_ok-put.ensures)
-    (subst (λ two. TablesStand c.args.tree.now (c.args.k + 1) (put c.match-node.self.one c.args.at.one) two) (sym c.in_ok-put-2.ensures) (noted c).0)
+    subst (λ one. AreTablesOf c.args.tree.now (c.args.k + 1) one c.put-2.new.self) (sym c.in_ok-put.ensures)
+    (subst (λ two. AreTablesOf c.args.tree.now (c.args.k + 1) (put c.match-node.self.one c.args.at.one) two) (sym c.in_ok-put-2.ensures) (noted c).0)
 
 pub returns-clause-below : goal.returns-clause-below
 returns-clause-below c = (noted c).1

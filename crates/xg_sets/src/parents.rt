@@ -1,5 +1,5 @@
 ghost use Rattle.std.specs.Prelude.{◌≡◌, ◌+◌, ◌^◌, ◌<◌, ◌≤◌, [], ◌∷◌, IfOk, IfSome, IsNone, OnOk};
-ghost use Rattle.xg_sets.specs.Open.{HasChild, TakesChild, after, with_node};
+ghost use Rattle.xg_sets.specs.Parents.{HasChild, TakesChild, after, with_parent};
 
 use def_tree::{Kind, Node};
 use std::alloc::{AllocError, Global};
@@ -14,59 +14,59 @@ pub(crate) struct Sequences {
 
 /// A node with children to come: who moves there, how many children come, and the sequences at the next one.
 #[derive(Clone, Copy)]
-pub(crate) struct OpenNode {
+pub(crate) struct Parent {
     pub(crate) kind: Kind,
     pub(crate) to_come: u32,
     pub(crate) next: Sequences,
 }
 
-/// The nodes with children to come, of which the innermost comes first.
+/// The nodes with children to come, each within the ones before it.
 #[derive(Drop)]
-pub(crate) struct OpenNodes {
-    nodes: Vec<OpenNode>,
+pub(crate) struct Parents {
+    nodes: Vec<Parent>,
 }
 
-impl Model for OpenNodes {
+impl Model for Parents {
     ghost use Rattle.std.specs.Prelude.{List, reverse};
-    ghost use Rattle.xg_sets.specs.declared.open_nodes.OpenNode.{OpenNode};
+    ghost use Rattle.xg_sets.specs.declared.parents.Parent.{Parent};
 
-    ghost Value = { List OpenNode };
+    ghost Value = { List Parent };
 
     ghost view = { λ o. reverse o.nodes.items };
 }
 
-impl OpenNodes {
-    pub(crate) fn new(alloc: Global) -> OpenNodes
+impl Parents {
+    pub(crate) fn new(alloc: Global) -> Parents
         ensures { result ≡ [] }
     {
-        OpenNodes {
+        Parents {
             nodes: Vec::new(alloc),
         }
     }
 
-    pub(crate) fn push(&mut self, node: OpenNode) -> Result<(), AllocError>
-        ensures { OnOk result (self.new ≡ node ∷ self.old) }
+    pub(crate) fn push(&mut self, parent: Parent) -> Result<(), AllocError>
+        ensures { OnOk result (self.new ≡ parent ∷ self.old) }
     {
-        self.nodes.push(node)?;
+        self.nodes.push(parent)?;
         Ok(())
     }
 
-    /// Opens a node, where it has children: the sequences at the first of them are `below`.
+    /// Enters a node: where it has children, the sequences at the first of them are `below`.
     pub(crate) fn enter(&mut self, node: Node, below: Sequences) -> Result<(), AllocError>
-        ensures { OnOk result (self.new ≡ with_node node below self.old) }
+        ensures { OnOk result (self.new ≡ with_parent node below self.old) }
     {
         if node.children == 0 {
             return Ok(());
         }
-        self.push(OpenNode {
+        self.push(Parent {
             kind: node.kind,
             to_come: node.children,
             next: below,
         })
     }
 
-    fn pop(&mut self) -> Option<OpenNode>
-        ensures some { IfSome result (λ node. self.old ≡ node ∷ self.new) }
+    fn pop(&mut self) -> Option<Parent>
+        ensures some { IfSome result (λ parent. self.old ≡ parent ∷ self.new) }
         ensures none { IsNone result → self.old ≡ [] }
     {
         self.nodes.pop()
@@ -87,22 +87,22 @@ impl OpenNodes {
     }
 }
 
-// The node without its next child.
-fn after_child(node: OpenNode) -> OpenNode
-    requires some { 1 ≤ node.to_come }
-    requires room_one { node.next.one + 1 < 2 ^ 32 }
-    requires room_two { node.next.two + 1 < 2 ^ 32 }
-    ensures { result ≡ after node }
+// The parent without its next child.
+fn after_child(parent: Parent) -> Parent
+    requires some { 1 ≤ parent.to_come }
+    requires room_one { parent.next.one + 1 < 2 ^ 32 }
+    requires room_two { parent.next.two + 1 < 2 ^ 32 }
+    ensures { result ≡ after parent }
 {
-    let Sequences { one, two } = node.next;
-    let next = match node.kind {
+    let Sequences { one, two } = parent.next;
+    let next = match parent.kind {
         Kind::One => Sequences { one: one + 1, two },
         Kind::Two => Sequences { one, two: two + 1 },
-        _ => node.next,
+        _ => parent.next,
     };
-    OpenNode {
-        kind: node.kind,
-        to_come: node.to_come - 1,
+    Parent {
+        kind: parent.kind,
+        to_come: parent.to_come - 1,
         next,
     }
 }
