@@ -7,3 +7,4 @@ pub mod Choices
 pub mod Counts
 pub mod Firsts
 pub mod Numbers
+pub mod Coming

@@ -1,0 +1,3 @@
+pub mod NotingLemmas
+pub mod ParentLemmas
+pub mod ToldLemmas
