@@ -5,7 +5,6 @@ use Rattle.std.specs.Result.{OnOk}
 use Rattle.std.specs.Map.{keys_of, values_of}
 use Rattle.std.proofs.Math.ListN.{length-map}
 use Rattle.std.proofs.lemmas.List.{map-append, map-set}
-use Rattle.def_fraction.specs.Fraction.{Fraction}
 use Rattle.def_file.specs.Content.{Action, SetEntry, OutcomeEntry}
 use Rattle.def_file.specs.Faults.{no_set, set_at, set_place_of, null_outcome, outcome_at, outcome_place_of}
 use Rattle.def_file.specs.Adding.{kept_name}
