@@ -22,7 +22,7 @@ record FoundAt (kind : Kind) (seen k : ℕ) (vs : List Visit) (i : ℕ) (v : Vis
   sets : v.node.set ≡ seen + i + 1
   first : (number : ℕ) × (first_of_set k v.node vs ≡ Some (record { number = number; visit = v }))
 
-and_false : (a b : Bool) → b ≡ false → a && b ≡ false
+pub and_false : (a b : Bool) → b ≡ false → a && b ≡ false
 and_false true b e = e
 and_false false b e = refl
 

@@ -21,18 +21,18 @@ use Rattle.def_game_paths.specs.Sequences.{differ_in_number, first_sequence, num
 use Rattle.def_game_paths.proofs.Ancestors.{Contains-map}
 use Rattle.def_game_paths.proofs.Breaks.{is_same_set_by}
 use Rattle.def_game_paths.proofs.Counts.{sequences_are_few}
-use Rattle.def_game_paths.proofs.Firsts.{other_kind, other_number}
+use Rattle.def_game_paths.proofs.Firsts.{and_false, other_kind, other_number}
 use Rattle.def_game_paths.proofs.Numbers.{known_so_far, set_firsts-append, sizes_front}
 use Rattle.def_game_paths.proofs.Order.{KnowsSizes, joins_of, node_of}
+use Rattle.def_game_paths.proofs.Coming.{IsNext, next_node, next_visit}
 use Rattle.def_sequence_form.proofs.Sets.{set_at}
 use Rattle.xg_sets.specs.declared.building.RecallFault.{RecallFault}
 use Rattle.xg_sets.specs.declared.building.RecallFault.TheVariants.{NotRecall, NoMemory}
 use Rattle.xg_sets.specs.declared.parents.Sequences.{Sequences}
 use Rattle.xg_sets.specs.declared.table.SetRow.{SetRow}
-use Rattle.xg_sets.specs.Entered.{AreAt, AreAtFirstChild, FindsBreak, IsFirstNode, IsRowOf, IsAtFirstChild, IsTableOf, AreTablesOf}
+use Rattle.xg_sets.specs.Entered.{AreAt, AreAtFirstChild, AreTablesOf, FindsBreak, IsAtFirstChild, IsFirstNode, IsRowOf, IsTableOf}
 use Rattle.xg_sets.specs.Table.{BeginsSet, JoinsRow, Notes, NotesIn, SetRows, with_set}
 use Rattle.xg_sets.specs.Told.{set_of}
-use Rattle.def_game_paths.proofs.Coming.{IsNext, next_node, next_visit}
 
 -- behind nodes of other sets, a search for the first node of a set finds the next one
 first_after : (k : ℕ) (x : Node) (before : List Visit) (v : Visit) (rest : List Visit) → ((i : ℕ) (d : Visit) → i < length before → is_same_set (get_or before i d).node x ≡ false) → is_same_set v.node x ≡ true →
@@ -45,10 +45,6 @@ first_after k x (w ∷ ws) v rest none same =
     ap (λ b. cond b (Some (record { number = k; visit = w })) (first_of_set (k + 1) x (ws ++ v ∷ rest))) (none 0 w (omega arith))
     ∙ first_after (k + 1) x ws v rest (λ i d h. none (suc i) d (omega arith)) same
     ∙ ap (λ m. Some (record { number = m; visit = v })) far
-
-and_false : (a b : Bool) → b ≡ false → a && b ≡ false
-and_false true b e = e
-and_false false b e = refl
 
 abbrev pub put : SetRows → ℕ → SetRows
 put table sequence = record table { at_nodes = table.at_nodes ++ sequence ∷ [] }
@@ -105,7 +101,7 @@ module _ (tree : Forest) (kind : Kind) (game : IsGameTree tree) (inner : is_leaf
   put_more table s stands is = (λ i. stands i ++ is i ∷ []) ∙ sym sequences_more
 
   -- a node that begins no set of the kind
-  pub quiet_stands : (table : SetRows) (s : ℕ) → IsTableOf tree kind n table → begins ≡ false → s ≡ sequence_at kind tree v → IsTableOf tree kind (n + 1) (put table s)
+  quiet_stands : (table : SetRows) (s : ℕ) → IsTableOf tree kind n table → begins ≡ false → s ≡ sequence_at kind tree v → IsTableOf tree kind (n + 1) (put table s)
   quiet_stands table s stands other is =
       let same : firsts ≡ set_firsts kind 0 (take (n + 1) all) = sym (firsts_quiet other) in
       record {
@@ -155,7 +151,7 @@ module _ (tree : Forest) (kind : Kind) (game : IsGameTree tree) (inner : is_leaf
         );
       }
 
-  pub new_stands : (table : SetRows) (s : ℕ) → IsTableOf tree kind n table → v.node.kind ≡ kind → v.node.set ≡ length firsts + 1 → s ≡ sequence_at kind tree v → IsTableOf tree kind (n + 1) (put (with_set table (n + 1) v.node s) s)
+  new_stands : (table : SetRows) (s : ℕ) → IsTableOf tree kind n table → v.node.kind ≡ kind → v.node.set ≡ length firsts + 1 → s ≡ sequence_at kind tree v → IsTableOf tree kind (n + 1) (put (with_set table (n + 1) v.node s) s)
   new_stands table s stands is set sequence =
       let first : begins ≡ true = ap (λ b. b && nat_eq v.node.set (length firsts + 1)) (is_same_kind_self kind v.node.kind is) ∙ eq-eqb v.node.set (length firsts + 1) set in
       let more : set_firsts kind 0 (take (n + 1) all) ≡ firsts ++ v ∷ [] = firsts_new first in
@@ -176,7 +172,7 @@ module _ (tree : Forest) (kind : Kind) (game : IsGameTree tree) (inner : is_leaf
       }
 
   -- the numbers are compared
-  abbrev pub against : Option RecallBreak
+  abbrev against : Option RecallBreak
   against = break_against (differ_in_number tree) (n + 1) v (first_of_set 1 v.node all)
 
   same_numbers : (first : Numbered) → sequence_at first.visit.node.kind tree first.visit ≡ sequence_at v.node.kind tree v → break_against (differ_in_number tree) (n + 1) v (Some first) ≡ None
@@ -193,18 +189,18 @@ module _ (tree : Forest) (kind : Kind) (game : IsGameTree tree) (inner : is_leaf
       ∙ ap (λ b. cond (not b) broken None) (ne_eqb (sequence_at first.visit.node.kind tree first.visit) (sequence_at v.node.kind tree v) ne)
 
   -- what stands after a node of the kind was noted, where the sequence before it is s
-  pub record IsNoted (new : SetRows) (s first : ℕ) : Type 0 where
-    pub stands : IsTableOf tree kind (n + 1) (put new s)
-    pub first_is : first ≡ first_sequence (set_sizes kind tree) v.node.set
-    pub none : against ≡ None
+  record IsNoted (new : SetRows) (s first : ℕ) : Type 0 where
+    stands : IsTableOf tree kind (n + 1) (put new s)
+    first_is : first ≡ first_sequence (set_sizes kind tree) v.node.set
+    none : against ≡ None
 
-  abbrev pub After : SetRows → ℕ → Result ℕ RecallFault → Type 0
+  abbrev After : SetRows → ℕ → Result ℕ RecallFault → Type 0
   After new s (Ok first) = IsNoted new s first
   After new s (Err NoMemory) = Unit {0}
   After new s (Err (NotRecall node earlier)) = against ≡ Some (record { node = node; earlier = earlier })
 
   -- the node's set is one that came before, or the next one
-  pub set_of_node : v.node.kind ≡ kind → (1 ≤ v.node.set) × (v.node.set ≤ length firsts + 1)
+  set_of_node : v.node.kind ≡ kind → (1 ≤ v.node.set) × (v.node.set ≤ length firsts + 1)
   set_of_node is =
       let knows : KnowsSizes kind (map node_of done) sizes = known_so_far tree kind game inner n in
       let joins : JoinsSet (map node_of done) v.node = joins_of kind (map node_of done) v.node inner is (subst (λ k. FitsAs k (map node_of done) v.node) is next.fits) in
@@ -270,7 +266,7 @@ module _ (tree : Forest) (kind : Kind) (game : IsGameTree tree) (inner : is_leaf
       ∙ other_numbers (record { number = row.node; visit = w }) (ap is_personal is ∙ personal) (λ e. differs (sym of_first ∙ e ∙ of_v))
       ∙ (λ i. Some (record { node = sym node_is i; earlier = sym earlier_is i }))
 
-  pub after_note : is_personal kind ≡ true → v.node.kind ≡ kind → (table : SetRows) (s : ℕ) (new : SetRows) (result : Result ℕ RecallFault) → IsTableOf tree kind n table → s ≡ sequence_at kind tree v → Notes table (n + 1) v.node s new result → After new s result
+  after_note : is_personal kind ≡ true → v.node.kind ≡ kind → (table : SetRows) (s : ℕ) (new : SetRows) (result : Result ℕ RecallFault) → IsTableOf tree kind n table → s ≡ sequence_at kind tree v → Notes table (n + 1) v.node s new result → After new s result
   after_note personal is table s new result stands sequence notes =
       elim (slice_get table.rows (v.node.set - 1)) as (λ o. slice_get table.rows (v.node.set - 1) ≡ o → NotesIn o table (n + 1) v.node s new result → After new s result) [
         | None ↦ λ past h. begun is table s new stands sequence (not_read table.rows (v.node.set - 1) past) result h
@@ -278,7 +274,7 @@ module _ (tree : Forest) (kind : Kind) (game : IsGameTree tree) (inner : is_leaf
       ] refl notes
 
   -- the next set's sequences have small numbers
-  pub room_for : (table : SetRows) → IsTableOf tree kind n table → table.next + v.node.children < 2 ^ 32
+  room_for : (table : SetRows) → IsTableOf tree kind n table → table.next + v.node.children < 2 ^ 32
   room_for table stands =
       let front = sizes_front kind n all in
       let few = sequences_are_few tree game kind inner in
@@ -324,7 +320,7 @@ module _ (tree : Forest) (game : IsGameTree tree) (n : ℕ) (v : Visit) (next : 
       apart : true ≡ false → ⊥
       apart e = cc e
 
-  pub quiet_node : is_personal v.node.kind ≡ false → is_same_kind One v.node.kind ≡ false → is_same_kind Two v.node.kind ≡ false → (one two : SetRows) (at : Sequences) → AreTablesOf tree n one two → AreAt tree v.path at →
+  quiet_node : is_personal v.node.kind ≡ false → is_same_kind One v.node.kind ≡ false → is_same_kind Two v.node.kind ≡ false → (one two : SetRows) (at : Sequences) → AreTablesOf tree n one two → AreAt tree v.path at →
       AreTablesOf tree (n + 1) (put one at.one) (put two at.two) × AreAtFirstChild tree v at
   quiet_node personal not_one not_two one two at stand are = (
     record {
@@ -335,7 +331,7 @@ module _ (tree : Forest) (game : IsGameTree tree) (n : ℕ) (v : Visit) (next : 
     record { one = other_below One at.one not_one are.one; two = other_below Two at.two not_two are.two },
   )
 
-  pub noted_one : v.node.kind ≡ One → (one two new : SetRows) (at : Sequences) (first : ℕ) → AreTablesOf tree n one two → AreAt tree v.path at → Notes one (n + 1) v.node at.one new (Ok first) →
+  noted_one : v.node.kind ≡ One → (one two new : SetRows) (at : Sequences) (first : ℕ) → AreTablesOf tree n one two → AreAt tree v.path at → Notes one (n + 1) v.node at.one new (Ok first) →
       AreTablesOf tree (n + 1) (put new at.one) (put two at.two) × AreAtFirstChild tree v (record { one = first; two = at.two })
   noted_one is one two new at first stand are notes =
       let noted = after_note tree One game refl n v next refl is one at.one new (Ok first) stand.table_one are.one notes in
@@ -349,7 +345,7 @@ module _ (tree : Forest) (game : IsGameTree tree) (n : ℕ) (v : Visit) (next : 
         record { one = own_below One first same noted.first_is; two = other_below Two at.two other are.two },
       )
 
-  pub noted_two : v.node.kind ≡ Two → (one two new : SetRows) (at : Sequences) (first : ℕ) → AreTablesOf tree n one two → AreAt tree v.path at → Notes two (n + 1) v.node at.two new (Ok first) →
+  noted_two : v.node.kind ≡ Two → (one two new : SetRows) (at : Sequences) (first : ℕ) → AreTablesOf tree n one two → AreAt tree v.path at → Notes two (n + 1) v.node at.two new (Ok first) →
       AreTablesOf tree (n + 1) (put one at.one) (put new at.two) × AreAtFirstChild tree v (record { one = at.one; two = first })
   noted_two is one two new at first stand are notes =
       let noted = after_note tree Two game refl n v next refl is two at.two new (Ok first) stand.table_two are.two notes in
@@ -369,10 +365,10 @@ module _ (tree : Forest) (game : IsGameTree tree) (n : ℕ) (v : Visit) (next : 
   broken_at kind inner personal is table new s stands so_far sequence (NotRecall node earlier) notes =
       some_here so_far (record { node = node; earlier = earlier }) (after_note tree kind game inner n v next personal is table s new (Err (NotRecall node earlier)) stands sequence notes)
 
-  pub broken_one : v.node.kind ≡ One → (one two new : SetRows) (at : Sequences) (fault : RecallFault) → AreTablesOf tree n one two → AreAt tree v.path at → Notes one (n + 1) v.node at.one new (Err fault) → FindsBreak tree fault
+  broken_one : v.node.kind ≡ One → (one two new : SetRows) (at : Sequences) (fault : RecallFault) → AreTablesOf tree n one two → AreAt tree v.path at → Notes one (n + 1) v.node at.one new (Err fault) → FindsBreak tree fault
   broken_one is one two new at fault stand are notes = broken_at One refl refl is one new at.one stand.table_one stand.no_break are.one fault notes
 
-  pub broken_two : v.node.kind ≡ Two → (one two new : SetRows) (at : Sequences) (fault : RecallFault) → AreTablesOf tree n one two → AreAt tree v.path at → Notes two (n + 1) v.node at.two new (Err fault) → FindsBreak tree fault
+  broken_two : v.node.kind ≡ Two → (one two new : SetRows) (at : Sequences) (fault : RecallFault) → AreTablesOf tree n one two → AreAt tree v.path at → Notes two (n + 1) v.node at.two new (Err fault) → FindsBreak tree fault
   broken_two is one two new at fault stand are notes = broken_at Two refl refl is two new at.two stand.table_two stand.no_break are.two fault notes
 
 -- the same of the node that the tree gives, as node number n + 1
@@ -386,21 +382,31 @@ module _ (tree : Forest) (game : IsGameTree tree) (n : ℕ) (there : n < node_co
   is_node : v.node ≡ x
   is_node = next_node tree n (n + 1 - 1) x there (omega arith) read
 
+  -- sets are numbered from 1
+
   pub counts_at : (kind : Kind) → is_leaf_kind kind ≡ false → x.kind ≡ kind → 1 ≤ x.set
   counts_at kind inner is = subst (λ y. 1 ≤ y.set) is_node (set_of_node tree kind game inner n v next (ap (λ y. y.kind) is_node ∙ is)).0
 
+  -- the sequences of the next set have small numbers
+
   pub room_at : (kind : Kind) → is_leaf_kind kind ≡ false → (table : SetRows) → IsTableOf tree kind n table → table.next + x.children < 2 ^ 32
   room_at kind inner table stands = subst (λ y. table.next + y.children < 2 ^ 32) is_node (room_for tree kind game inner n v next table stands)
+
+  -- player one moves there, and was noted
 
   pub noted_one_at : x.kind ≡ One → (one two new : SetRows) (at : Sequences) (first : ℕ) → AreTablesOf tree n one two → AreAt tree v.path at → Notes one (n + 1) x at.one new (Ok first) →
       AreTablesOf tree (n + 1) (put new at.one) (put two at.two) × AreAtFirstChild tree v (record { one = first; two = at.two })
   noted_one_at is one two new at first stand are notes =
       noted_one tree game n v next (ap (λ y. y.kind) is_node ∙ is) one two new at first stand are (subst (λ y. Notes one (n + 1) y at.one new (Ok first)) (sym is_node) notes)
 
+  -- player two moves there, and was noted
+
   pub noted_two_at : x.kind ≡ Two → (one two new : SetRows) (at : Sequences) (first : ℕ) → AreTablesOf tree n one two → AreAt tree v.path at → Notes two (n + 1) x at.two new (Ok first) →
       AreTablesOf tree (n + 1) (put one at.one) (put new at.two) × AreAtFirstChild tree v (record { one = at.one; two = first })
   noted_two_at is one two new at first stand are notes =
       noted_two tree game n v next (ap (λ y. y.kind) is_node ∙ is) one two new at first stand are (subst (λ y. Notes two (n + 1) y at.two new (Ok first)) (sym is_node) notes)
+
+  -- no player moves there
 
   pub quiet_at : is_personal x.kind ≡ false → (one two : SetRows) (at : Sequences) → AreTablesOf tree n one two → AreAt tree v.path at →
       AreTablesOf tree (n + 1) (put one at.one) (put two at.two) × AreAtFirstChild tree v at
@@ -414,9 +420,13 @@ module _ (tree : Forest) (game : IsGameTree tree) (n : ℕ) (there : n < node_co
       not_mover Two e = cc
       not_mover Leaf e = (refl, refl)
 
+  -- player one moves there, and recall breaks
+
   pub broken_one_at : x.kind ≡ One → (one two new : SetRows) (at : Sequences) (fault : RecallFault) → AreTablesOf tree n one two → AreAt tree v.path at → Notes one (n + 1) x at.one new (Err fault) → FindsBreak tree fault
   broken_one_at is one two new at fault stand are notes =
       broken_one tree game n v next (ap (λ y. y.kind) is_node ∙ is) one two new at fault stand are (subst (λ y. Notes one (n + 1) y at.one new (Err fault)) (sym is_node) notes)
+
+  -- player two moves there, and recall breaks
 
   pub broken_two_at : x.kind ≡ Two → (one two new : SetRows) (at : Sequences) (fault : RecallFault) → AreTablesOf tree n one two → AreAt tree v.path at → Notes two (n + 1) x at.two new (Err fault) → FindsBreak tree fault
   broken_two_at is one two new at fault stand are notes =

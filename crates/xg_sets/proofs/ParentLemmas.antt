@@ -11,11 +11,11 @@ use Rattle.def_game_paths.specs.Coming.{StandOver, no_visit, visit_after}
 use Rattle.def_game_paths.specs.Paths.{Move, Visit, own_choices, visits, visits_from}
 use Rattle.def_game_paths.specs.Sequences.{first_sequence, sequence_at, sequence_number, set_sizes}
 use Rattle.def_game_paths.proofs.Counts.{each_sequence_is_in_range, sequences_are_few}
+use Rattle.def_game_paths.proofs.Coming.{IsNext, stand_over, starts_with}
 use Rattle.xg_sets.specs.declared.parents.Parent.{Parent}
 use Rattle.xg_sets.specs.declared.parents.Sequences.{Sequences}
 use Rattle.xg_sets.specs.Parents.{HasChild, TakesChild, after, sequences_after, with_parent, without_child}
 use Rattle.xg_sets.specs.Entered.{AreAt, AreAtFirstChild, IsAtFirstChild, IsParentOf, number_of}
-use Rattle.def_game_paths.proofs.Coming.{IsNext, stand_over, starts_with}
 
 one_after : (kind : Kind) (next : Sequences) (j : ℕ) → next.one + cond (is_same_kind One kind) (j + 1) 0 ≡ (sequences_after kind next).one + cond (is_same_kind One kind) j 0
 one_after Chance next j = refl
@@ -109,9 +109,13 @@ module _ (tree : Forest) where
     none_left : Stand [] (drop n (visits tree)) → ⊥
     none_left none = let e : v ∷ drop (n + 1) (visits tree) ≡ [] = sym next.cons ∙ none in cc e
 
+    -- the child that is taken has the sequences at the next node
+
     pub next_at : (parents : List Parent) → Stand parents (drop n (visits tree)) → (new : List Parent) (at : Sequences) → TakesChild parents new at → AreAt tree v.path at
     next_at [] stand new at takes = absurd takes
     next_at (innermost ∷ outer) stand new at takes = subst (AreAt tree v.path) (sym takes.0) (tells innermost outer stand).at
+
+    -- with the next node within them, the parents stand over the nodes behind it
 
     pub stand_next : (parents : List Parent) → Stand parents (drop n (visits tree)) → (new : List Parent) (at below : Sequences) → TakesChild parents new at → AreAtFirstChild tree v below → Stand (with_parent v.node below new) (drop (n + 1) (visits tree))
     stand_next [] stand new at below takes are = absurd takes
@@ -126,6 +130,8 @@ module _ (tree : Forest) where
         let few_sequences : 1 + sum (set_sizes kind tree) ≤ node_count tree = few.few_sequences in
         let limit : node_count tree ≤ 1048576 = game.limit in
         subst (λ w. sequence_at kind tree w < 1048576) (sym is) (omega arith)
+
+    -- where a node is to come, the innermost parent has a child
 
     pub has_child : (parents : List Parent) → v ≡ visit_after tree n → Stand parents (drop n (visits tree)) → HasChild parents
     has_child [] is stand = absurd (none_left stand)

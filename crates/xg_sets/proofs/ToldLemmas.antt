@@ -15,6 +15,7 @@ use Rattle.def_game_paths.specs.Sequences.{differ_in_number, sequence_at, set_fi
 use Rattle.def_game_paths.proofs.Breaks.{break_first, recall_of_none}
 use Rattle.def_game_paths.proofs.Counts.{sequences_are_few}
 use Rattle.def_game_paths.proofs.Numbers.{numbers_find_the_break}
+use Rattle.def_game_paths.proofs.Coming.{length-visits}
 use Rattle.def_plan.specs.Form.{InformationSet}
 use Rattle.def_sequence_form.specs.Form.{information_sets}
 use Rattle.def_sequence_form.specs.Sets.{TreeSets, told_sets, sets_or_break, tree_sets, unless_broken}
@@ -28,7 +29,6 @@ use Rattle.xg_sets.specs.Fault.{IsFirstBreakOf, TellsBreakOf}
 use Rattle.xg_sets.specs.Entered.{FindsBreak, HasEntered, IsTableOf, AreTablesOf}
 use Rattle.xg_sets.specs.Table.{HasFewRows, SetRows}
 use Rattle.xg_sets.specs.Told.{of_player, set_of, told}
-use Rattle.def_game_paths.proofs.Coming.{length-visits}
 
 -- what a row tells of its set is told at the set's place
 pub told_at : (rows : List SetRow) (sets : List InformationSet) (f : InformationSet → ℕ) (i : ℕ) (row : SetRow) → map set_of rows ≡ sets → slice_get rows i ≡ Some row → slice_get (map f sets) i ≡ Some (f (set_of row))
@@ -45,6 +45,8 @@ table_starts tree kind = record { sets = refl; each = λ i d there. absurd (omeg
 abbrev pub whole : Parent
 whole = record { kind = Chance; to_come = 1; next = record { one = 0; two = 0 } }
 
+-- before the first node the whole tree is to come
+
 pub stands_first : (tree : Forest) → IsGameTree tree → HasEntered tree 0 (record { tables = record { one = no_sets; two = no_sets }; parents = whole ∷ [] })
 stands_first tree game = record {
   tables = record { table_one = table_starts tree One; table_two = table_starts tree Two; no_break = refl };
@@ -57,9 +59,13 @@ stands_first tree game = record {
   );
 }
 
+-- what numbers find is the break that is told
+
 pub tells_break : (tree : Forest) → IsGameTree tree → (fault : RecallFault) → FindsBreak tree fault → TellsBreakOf tree fault
 tells_break tree game NoMemory found = tt
 tells_break tree game (NotRecall node earlier) found = ap (λ o. unless_broken o (tree_sets tree)) (sym (numbers_find_the_break tree game) ∙ found)
+
+-- what numbers find is the first break
 
 pub is_first_break : (tree : Forest) → IsGameTree tree → (fault : RecallFault) → FindsBreak tree fault → IsFirstBreakOf tree fault
 is_first_break tree game NoMemory found = tt
@@ -75,6 +81,8 @@ module _ (tree : Forest) (game : IsGameTree tree) (n : ℕ) (last : n ≡ node_c
       let at_nodes : table.at_nodes ≡ map (sequence_at kind tree) (visits tree) = stands.at_nodes ∙ ap (map (sequence_at kind tree)) all_taken in
       λ i. record { sets = sets i; at_nodes = at_nodes i }
 
+  -- a tree has no more sets than nodes
+
   pub has_few : (kind : Kind) → is_leaf_kind kind ≡ false → (table : SetRows) → IsTableOf tree kind n table → HasFewRows table
   has_few kind inner table stands =
       let few = sequences_are_few tree game kind inner in
@@ -87,10 +95,14 @@ module _ (tree : Forest) (game : IsGameTree tree) (n : ℕ) (last : n ≡ node_c
   no_break one two stand =
       sym (numbers_find_the_break tree game) ∙ stand.no_break ∙ ap (first_break (differ_in_number tree) (visits tree) (n + 1)) (drop_all n (visits tree) (omega (arith, length-visits tree)))
 
+  -- after the last node the tables are what is told of the tree
+
   pub all_told : (one two : SetRows) → AreTablesOf tree n one two → sets_or_break tree ≡ Ok (record { one = told one; two = told two })
   all_told one two stand =
       ap (λ o. unless_broken o (tree_sets tree)) (no_break one two stand)
       ∙ (λ i. Ok (record { one = sym (table_told One one stand.table_one) i; two = sym (table_told Two two stand.table_two) i }))
+
+  -- after the last node recall holds
 
   pub has_recall : (one two : SetRows) → AreTablesOf tree n one two → HasPerfectRecall tree
   has_recall one two stand = recall_of_none tree (no_break one two stand)

@@ -5,10 +5,10 @@ use Rattle.def_tree.specs.declared.Kind.TheVariants.{One, Two}
 use Rattle.def_tree.specs.declared.Node.{Node}
 use Rattle.def_tree.specs.Tree.{Forest, HasItsChildren, tree_count}
 use Rattle.def_tree.specs.Rules.{is_same_kind}
+use Rattle.def_game_paths.specs.Coming.{ComingTrees, StandOver}
 use Rattle.def_game_paths.specs.Paths.{Move, Visit, own_choices, visits}
 use Rattle.def_game_paths.specs.Recall.{first_break, first_of_set}
 use Rattle.def_game_paths.specs.Sequences.{differ_in_number, first_sequence, number_break, sequence_at, sequence_number, set_firsts, set_sizes, sizes_so_far}
-use Rattle.def_game_paths.specs.Coming.{StandOver, ComingTrees}
 use Rattle.xg_sets.specs.declared.building.Building.{Building}
 use Rattle.xg_sets.specs.declared.building.RecallFault.{RecallFault}
 use Rattle.xg_sets.specs.declared.building.RecallFault.TheVariants.{NotRecall, NoMemory}
@@ -24,6 +24,7 @@ pub record IsFirstNode (tree : Forest) (kind : Kind) (row : SetRow) (x : Node) (
   pub kinds : v.node.kind ≡ kind
   pub before : sequence_at kind tree v ≡ row.before
 
+-- the row of the kind's set of this number
 pub record IsRowOf (tree : Forest) (kind : Kind) (set : ℕ) (row : SetRow) : Type 0 where
   pub first : row.first ≡ first_sequence (set_sizes kind tree) set
   pub node : (x : Node) → x.kind ≡ kind → x.set ≡ set → (v : Visit) × IsFirstNode tree kind row x v
@@ -35,15 +36,17 @@ pub record IsTableOf (tree : Forest) (kind : Kind) (k : ℕ) (table : SetRows) :
   pub next : table.next ≡ 1 + sum (sizes_so_far kind (take k (visits tree)))
   pub at_nodes : table.at_nodes ≡ map (sequence_at kind tree) (take k (visits tree))
 
+-- both players' tables, where recall breaks at none of the first k nodes
 pub record AreTablesOf (tree : Forest) (k : ℕ) (one two : SetRows) : Type 0 where
   pub table_one : IsTableOf tree One k one
   pub table_two : IsTableOf tree Two k two
   pub no_break : number_break tree ≡ first_break (differ_in_number tree) (visits tree) (k + 1) (drop k (visits tree))
 
--- the sequences at the nodes of a path
+-- the number of the kind's sequence on a path
 abbrev pub number_of : Kind → Forest → List Move → ℕ
 number_of kind tree path = sequence_number (set_sizes kind tree) (own_choices kind path)
 
+-- both players' sequences on a path
 pub record AreAt (tree : Forest) (path : List Move) (at : Sequences) : Type 0 where
   pub one : at.one ≡ number_of One tree path
   pub two : at.two ≡ number_of Two tree path
@@ -56,6 +59,7 @@ pub record IsParentOf (tree : Forest) (trees : ComingTrees) (parent : Parent) : 
   pub one : (j : ℕ) → number_of One tree (trees.above (trees.action + j)) ≡ parent.next.one + (if is_same_kind One parent.kind then j else 0)
   pub two : (j : ℕ) → number_of Two tree (trees.above (trees.action + j)) ≡ parent.next.two + (if is_same_kind Two parent.kind then j else 0)
 
+-- the first k nodes were entered
 pub record HasEntered (tree : Forest) (k : ℕ) (building : Building) : Type 0 where
   pub tables : AreTablesOf tree k building.tables.one building.tables.two
   pub nodes : StandOver (IsParentOf tree) building.parents (drop k (visits tree))

@@ -1,8 +1,8 @@
 use Rattle.std.proofs.Common.{◌+◌, ◌-◌, arith, drop, refl, subst, sym}
 use Rattle.def_game_paths.specs.Coming.{StandOver, visit_after}
 use Rattle.def_game_paths.specs.Paths.{visits}
-use Rattle.xg_sets.specs.Parents.{with_parent}
 use Rattle.def_game_paths.proofs.Coming.{next_node, next_visit}
+use Rattle.xg_sets.specs.Parents.{with_parent}
 use Rattle.xg_sets.proofs.ParentLemmas.{has_child, next_at, stand_next}
 use Rattle.xg_sets.specs.Entered.{IsParentOf}
 use Rattle.xg_sets.proofs.building.Building.enter.Goals as goal
