@@ -12,7 +12,6 @@ use Rattle.def_game_paths.proofs.Visits.{map-visits_from}
 use Rattle.def_game_paths.proofs.Order.{KeepFrom-append, node_of}
 
 -- as many nodes are visited as the tree has
-
 pub length-visits : (tree : Forest) → length (visits tree) ≡ node_count tree
 length-visits tree = sym (length-map (visits tree) node_of) ∙ ap length (map-visits_from (λ _. []) 1 tree)
 
@@ -24,7 +23,6 @@ pub record IsNext (tree : Forest) (n : ℕ) (v : Visit) : Type 0 where
   pub fits : Fits (map node_of (take n (visits tree))) v.node
 
 -- the node after the first n is the next one
-
 pub next_visit : (tree : Forest) (n : ℕ) → IsGameTree tree → n < node_count tree → IsNext tree n (visit_after tree n)
 next_visit tree n game there =
     let all : List Visit = visits tree in
@@ -59,7 +57,6 @@ pub record StartsWith (above : ℕ → List Move) (action : ℕ) (trees : Forest
   pub rest_is : rest ≡ visits_from (λ next. record { node = node; action = next } ∷ above action) 1 below ++ (visits_from above (action + 1) beside ++ later)
 
 -- where there is a tree, its root is the first of the visits
-
 pub starts_with : (above : ℕ → List Move) (action : ℕ) (trees : Forest) (later : List Visit) (v : Visit) (rest : List Visit) → 1 ≤ tree_count trees → v ∷ rest ≡ visits_from above action trees ++ later → StartsWith above action trees later v rest
 starts_with above action bare later v rest some e = absurd (omega arith)
 starts_with above action (grown node below beside) later v rest some e =

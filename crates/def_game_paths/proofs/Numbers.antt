@@ -17,7 +17,6 @@ use Rattle.def_game_paths.proofs.Breaks.{HasFirst, first_found, is_same_choices_
 use Rattle.def_game_paths.proofs.Ancestors.{Contains-map, LastChoice, RecallsUpTo, choices_told, knows_all, last_choice, parents_come_before}
 
 -- Numbers that are known on the way.
-
 pub set_firsts-append : (kind : Kind) (seen : ℕ) (xs ys : List Visit) → set_firsts kind seen (xs ++ ys) ≡ set_firsts kind seen xs ++ set_firsts kind (seen + length (set_firsts kind seen xs)) ys
 set_firsts-append kind seen [] ys = let same : seen ≡ seen + 0 = omega arith in ap (λ n. set_firsts kind n ys) same
 set_firsts-append kind seen (x ∷ xs) ys =

@@ -46,7 +46,6 @@ abbrev pub whole : Parent
 whole = record { kind = Chance; to_come = 1; next = record { one = 0; two = 0 } }
 
 -- before the first node the whole tree is to come
-
 pub stands_first : (tree : Forest) → IsGameTree tree → HasEntered tree 0 (record { tables = record { one = no_sets; two = no_sets }; parents = whole ∷ [] })
 stands_first tree game = record {
   tables = record { table_one = table_starts tree One; table_two = table_starts tree Two; no_break = refl };
@@ -60,13 +59,11 @@ stands_first tree game = record {
 }
 
 -- what numbers find is the break that is told
-
 pub tells_break : (tree : Forest) → IsGameTree tree → (fault : RecallFault) → FindsBreak tree fault → TellsBreakOf tree fault
 tells_break tree game NoMemory found = tt
 tells_break tree game (NotRecall node earlier) found = ap (λ o. unless_broken o (tree_sets tree)) (sym (numbers_find_the_break tree game) ∙ found)
 
 -- what numbers find is the first break
-
 pub is_first_break : (tree : Forest) → IsGameTree tree → (fault : RecallFault) → FindsBreak tree fault → IsFirstBreakOf tree fault
 is_first_break tree game NoMemory found = tt
 is_first_break tree game (NotRecall node earlier) found = λ d. break_first tree d (record { node = node; earlier = earlier }) (sym (numbers_find_the_break tree game) ∙ found)
