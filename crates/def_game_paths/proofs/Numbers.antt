@@ -18,7 +18,7 @@ use Rattle.def_game_paths.proofs.Ancestors.{Contains-map, LastChoice, RecallsUpT
 
 -- Numbers that are known on the way.
 
-set_firsts-append : (kind : Kind) (seen : ℕ) (xs ys : List Visit) → set_firsts kind seen (xs ++ ys) ≡ set_firsts kind seen xs ++ set_firsts kind (seen + length (set_firsts kind seen xs)) ys
+pub set_firsts-append : (kind : Kind) (seen : ℕ) (xs ys : List Visit) → set_firsts kind seen (xs ++ ys) ≡ set_firsts kind seen xs ++ set_firsts kind (seen + length (set_firsts kind seen xs)) ys
 set_firsts-append kind seen [] ys = let same : seen ≡ seen + 0 = omega arith in ap (λ n. set_firsts kind n ys) same
 set_firsts-append kind seen (x ∷ xs) ys =
     elim (is_same_kind kind x.node.kind && nat_eq x.node.set (seen + 1)) as (λ b.
@@ -31,7 +31,7 @@ set_firsts-append kind seen (x ∷ xs) ys =
     ]
 
 -- the sizes of the first nodes' sets stand first
-sizes_front : (kind : Kind) (k : ℕ) (vs : List Visit) → (later : List ℕ) × (sizes_so_far kind vs ≡ sizes_so_far kind (take k vs) ++ later)
+pub sizes_front : (kind : Kind) (k : ℕ) (vs : List Visit) → (later : List ℕ) × (sizes_so_far kind vs ≡ sizes_so_far kind (take k vs) ++ later)
 sizes_front kind k vs =
     let xs : List Visit = take k vs in
     let rest : List Visit = set_firsts kind (0 + length (set_firsts kind 0 xs)) (drop k vs) in (
@@ -44,7 +44,7 @@ KeepFrom-front before [] ys keep = tt
 KeepFrom-front before (x ∷ xs) ys keep = (keep.0, KeepFrom-front (before ++ x ∷ []) xs ys keep.1)
 
 -- the sizes of the sets so far are known
-known_so_far : (tree : Forest) (kind : Kind) → IsGameTree tree → is_leaf_kind kind ≡ false → (k : ℕ) → KnowsSizes kind (map node_of (take k (visits tree))) (sizes_so_far kind (take k (visits tree)))
+pub known_so_far : (tree : Forest) (kind : Kind) → IsGameTree tree → is_leaf_kind kind ≡ false → (k : ℕ) → KnowsSizes kind (map node_of (take k (visits tree))) (sizes_so_far kind (take k (visits tree)))
 known_so_far tree kind game inner k =
     let all : List Visit = visits tree in
     let nodes : map node_of (take k all) ++ map node_of (drop k all) ≡ prefix tree = sym (map-append node_of (take k all) (drop k all)) ∙ ap (map node_of) (take-append-drop k all) ∙ map-visits_from (λ _. []) 1 tree in

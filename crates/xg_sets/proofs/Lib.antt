@@ -1,0 +1,4 @@
+pub mod NextLemmas
+pub mod NotingLemmas
+pub mod OpenLemmas
+pub mod ToldLemmas

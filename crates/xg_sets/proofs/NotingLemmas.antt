@@ -1,0 +1,422 @@
+-- A node is noted in its set's row, or begins the next set; and recall breaks there exactly where the row says so.
+use Rattle.std.proofs.Common.{◌≡◌, ◌≢◌, ℕ, suc, ◌+◌, ◌-◌, ◌^◌, ◌<◌, ◌≤◌, Bool, true, false, cond, not, ◌&&◌, List, [], ◌∷◌, ◌++◌, length, get_or, take, drop, map, refl, ap, sym, subst, ◌∙◌, arith, inl, inr, Some, None, Ok, Err, append-nil, length-append, slice_get}
+use Rattle.std.specs.Prelude.{Option, Result, nat_eq, sum}
+use Rattle.std.proofs.lemmas.Bool.{cases_lt, eq-eqb, ne_eqb}
+use Rattle.std.proofs.lemmas.List.{length-map, length-take, map-append, take-append-drop}
+use Rattle.std.proofs.lemmas.List.Elements.{Contains-get_or}
+use Rattle.std.proofs.lemmas.List.Sums.{sum_by-append, sum_by-cons}
+use Rattle.std.proofs.lemmas.Option.{get_or_from_slice_get, slice_get-get_or, slice_get_past}
+use Rattle.std.proofs.Math.ListN.{get_or-append}
+use Rattle.std.proofs.Math.Seq.{get_or-append_seam, take-append_seam}
+use Rattle.def_tree.specs.declared.Kind.{Kind}
+use Rattle.def_tree.specs.declared.Kind.TheVariants.{Chance, One, Two, Leaf}
+use Rattle.def_tree.specs.declared.Node.{Node}
+use Rattle.def_tree.specs.Tree.{Forest, is_leaf_kind, node_count, prefix}
+use Rattle.def_tree.specs.Rules.{FitsAs, IsGameTree, JoinsSet, is_same_kind, set_count}
+use Rattle.def_tree.proofs.Sets.{children-le, is_same_kind-true, is_same_kind_self}
+use Rattle.def_game_paths.specs.Paths.{Visit, visits}
+use Rattle.def_game_paths.specs.Recall.{Numbered, RecallBreak, break_against, break_or, first_break, first_of_set, is_personal, is_same_set}
+use Rattle.def_game_paths.specs.Sequences.{differ_in_number, first_sequence, number_break, sequence_at, set_firsts, set_sizes, sizes_so_far}
+use Rattle.def_game_paths.proofs.Ancestors.{Contains-map}
+use Rattle.def_game_paths.proofs.Breaks.{is_same_set_by}
+use Rattle.def_game_paths.proofs.Counts.{sequences_are_few}
+use Rattle.def_game_paths.proofs.Firsts.{other_kind, other_number}
+use Rattle.def_game_paths.proofs.Numbers.{known_so_far, set_firsts-append, sizes_front}
+use Rattle.def_game_paths.proofs.Order.{KnowsSizes, joins_of, node_of}
+use Rattle.def_sequence_form.proofs.Sets.{set_at}
+use Rattle.xg_sets.specs.declared.building.RecallFault.{RecallFault}
+use Rattle.xg_sets.specs.declared.building.RecallFault.TheVariants.{NotRecall, NoMemory}
+use Rattle.xg_sets.specs.declared.open_nodes.Sequences.{Sequences}
+use Rattle.xg_sets.specs.declared.table.SetRow.{SetRow}
+use Rattle.xg_sets.specs.Stands.{AreAt, AreBelow, FindsBreak, IsFirstNode, RowStands, StartsBelow, TableStands, TablesStand, visit_after}
+use Rattle.xg_sets.specs.Table.{BeginsSet, JoinsRow, Notes, NotesIn, SetRows, with_set}
+use Rattle.xg_sets.specs.Told.{set_of}
+use Rattle.xg_sets.proofs.NextLemmas.{IsNext, next_node, next_visit}
+
+-- behind nodes of other sets, a search for the first node of a set finds the next one
+first_after : (k : ℕ) (x : Node) (before : List Visit) (v : Visit) (rest : List Visit) → ((i : ℕ) (d : Visit) → i < length before → is_same_set (get_or before i d).node x ≡ false) → is_same_set v.node x ≡ true →
+    first_of_set k x (before ++ v ∷ rest) ≡ Some (record { number = k + length before; visit = v })
+first_after k x [] v rest none same =
+    let here : k ≡ k + 0 = omega arith in
+    ap (λ b. cond b (Some (record { number = k; visit = v })) (first_of_set (k + 1) x rest)) same ∙ ap (λ m. Some (record { number = m; visit = v })) here
+first_after k x (w ∷ ws) v rest none same =
+    let far : k + 1 + length ws ≡ k + suc (length ws) = omega arith in
+    ap (λ b. cond b (Some (record { number = k; visit = w })) (first_of_set (k + 1) x (ws ++ v ∷ rest))) (none 0 w (omega arith))
+    ∙ first_after (k + 1) x ws v rest (λ i d h. none (suc i) d (omega arith)) same
+    ∙ ap (λ m. Some (record { number = m; visit = v })) far
+
+and_false : (a b : Bool) → b ≡ false → a && b ≡ false
+and_false true b e = e
+and_false false b e = refl
+
+abbrev pub put : SetRows → ℕ → SetRows
+put table sequence = record table { at_nodes = table.at_nodes ++ sequence ∷ [] }
+
+abbrev no_row : SetRow
+no_row = record { first = 0; before = 0; actions = 0; node = 0 }
+
+not_read : (rows : List SetRow) (i : ℕ) → slice_get rows i ≡ None → length rows ≤ i
+not_read rows i e = elim (cases_lt i (length rows)) [
+  | inl below ↦ let no : Some (get_or rows i no_row) ≡ None = sym (slice_get-get_or rows i no_row below) ∙ e in cc no
+  | inr past ↦ omega arith
+]
+
+is_read : (rows : List SetRow) (i : ℕ) (row : SetRow) → slice_get rows i ≡ Some row → i < length rows
+is_read rows i row e = elim (cases_lt i (length rows)) [
+  | inl below ↦ below
+  | inr past ↦ let no : None ≡ Some row = sym (slice_get_past rows i (omega arith)) ∙ e in cc no
+]
+
+module _ (tree : Forest) (kind : Kind) (game : IsGameTree tree) (inner : is_leaf_kind kind ≡ false) (n : ℕ) (v : Visit) (next : IsNext tree n v) where
+  abbrev all : List Visit
+  all = visits tree
+
+  abbrev done : List Visit
+  done = take n all
+
+  abbrev firsts : List Visit
+  firsts = set_firsts kind 0 done
+
+  abbrev sizes : List ℕ
+  sizes = sizes_so_far kind done
+
+  abbrev begins : Bool
+  begins = is_same_kind kind v.node.kind && nat_eq v.node.set (length firsts + 1)
+
+  firsts_more : set_firsts kind 0 (take (n + 1) all) ≡ firsts ++ cond begins (v ∷ []) []
+  firsts_more =
+      let from : 0 + length firsts ≡ length firsts = omega arith in
+      ap (set_firsts kind 0) next.taken ∙ set_firsts-append kind 0 done (v ∷ []) ∙ ap (λ m. firsts ++ set_firsts kind m (v ∷ [])) from
+
+  firsts_quiet : begins ≡ false → set_firsts kind 0 (take (n + 1) all) ≡ firsts
+  firsts_quiet other = firsts_more ∙ ap (λ b. firsts ++ cond b (v ∷ []) []) other ∙ append-nil firsts
+
+  firsts_new : begins ≡ true → set_firsts kind 0 (take (n + 1) all) ≡ firsts ++ v ∷ []
+  firsts_new first = firsts_more ∙ ap (λ b. firsts ++ cond b (v ∷ []) []) first
+
+  rows_count : (table : SetRows) → TableStands tree kind n table → length table.rows ≡ length firsts
+  rows_count table stands = sym (length-map table.rows set_of) ∙ ap length stands.sets ∙ length-map firsts (set_at kind tree)
+
+  sequences_more : map (sequence_at kind tree) (take (n + 1) all) ≡ map (sequence_at kind tree) done ++ sequence_at kind tree v ∷ []
+  sequences_more = ap (map (sequence_at kind tree)) next.taken ∙ map-append (sequence_at kind tree) done (v ∷ [])
+
+  put_more : (table : SetRows) (s : ℕ) → table.at_nodes ≡ map (sequence_at kind tree) done → s ≡ sequence_at kind tree v → table.at_nodes ++ s ∷ [] ≡ map (sequence_at kind tree) (take (n + 1) all)
+  put_more table s stands is = (λ i. stands i ++ is i ∷ []) ∙ sym sequences_more
+
+  -- a node that begins no set of the kind
+  pub quiet_stands : (table : SetRows) (s : ℕ) → TableStands tree kind n table → begins ≡ false → s ≡ sequence_at kind tree v → TableStands tree kind (n + 1) (put table s)
+  quiet_stands table s stands other is =
+      let same : firsts ≡ set_firsts kind 0 (take (n + 1) all) = sym (firsts_quiet other) in
+      record {
+        sets = stands.sets ∙ ap (map (set_at kind tree)) same;
+        each = stands.each;
+        next = stands.next ∙ ap (λ vs. 1 + sum (map (λ (w : Visit). w.node.children) vs)) same;
+        at_nodes = put_more table s stands.at_nodes is;
+      }
+
+  -- the node begins the next set
+  found_new : (x : Node) → x.kind ≡ kind → x.set ≡ length sizes + 1 → is_same_set v.node x ≡ true → first_of_set 1 x all ≡ Some (record { number = n + 1; visit = v })
+  found_new x kinds sets same =
+      let knows : KnowsSizes kind (map node_of done) sizes = known_so_far tree kind game inner n in
+      let there : n < length all = next.there in
+      let parts : all ≡ done ++ v ∷ drop (n + 1) all = sym (take-append-drop n all) ∙ ap (λ vs. done ++ vs) next.cons in
+      let number : 1 + length done ≡ n + 1 = omega (arith, length-take n all) in
+      ap (first_of_set 1 x) parts ∙ first_after 1 x done v (drop (n + 1) all) (λ i d h. other knows x kinds sets i d h) same ∙ ap (λ m. Some (record { number = m; visit = v })) number
+    where
+      other : KnowsSizes kind (map node_of done) sizes → (x : Node) → x.kind ≡ kind → x.set ≡ length sizes + 1 → (i : ℕ) (d : Visit) → i < length done → is_same_set (get_or done i d).node x ≡ false
+      other knows x kinds sets i d h =
+          let w : Visit = get_or done i d in
+          elim (is_same_kind kind w.node.kind) as (λ b. is_same_kind kind w.node.kind ≡ b → is_same_set w.node x ≡ false) [
+            | true ↦ λ same_kind.
+                let held = knows.each w.node (Contains-map done w (Contains-get_or done i d h)) (is_same_kind-true kind w.node.kind same_kind) in
+                let known : w.node.set ≤ length sizes = held.1 in
+                other_number w.node x (λ e. absurd (omega arith))
+            | false ↦ λ differs. other_kind kind w.node x kinds differs
+          ] refl
+
+  row_stands : (table : SetRows) (s : ℕ) → TableStands tree kind n table → v.node.kind ≡ kind → v.node.set ≡ length firsts + 1 → s ≡ sequence_at kind tree v →
+      RowStands tree kind (length table.rows + 1) (record { first = table.next; before = s; actions = v.node.children; node = n + 1 })
+  row_stands table s stands is set sequence =
+      let rows : length table.rows ≡ length firsts = rows_count table stands in
+      let many : length sizes ≡ length firsts = length-map firsts (λ (w : Visit). w.node.children) in
+      let front = sizes_front kind n all in
+      let whole : take (length sizes) (set_sizes kind tree) ≡ sizes = ap (take (length sizes)) front.1 ∙ take-append_seam sizes front.0 in
+      let index : length sizes ≡ length table.rows + 1 - 1 = omega arith in
+      record {
+        first = stands.next ∙ ap (λ xs. 1 + sum xs) (sym whole) ∙ ap (λ m. 1 + sum (take m (set_sizes kind tree))) index;
+        node = λ x kinds sets. (
+          v,
+          record {
+            found = found_new x kinds (omega arith) (is_same_set_by v.node x (is ∙ sym kinds) (omega arith));
+            kinds = is;
+            before = sym sequence;
+          },
+        );
+      }
+
+  pub new_stands : (table : SetRows) (s : ℕ) → TableStands tree kind n table → v.node.kind ≡ kind → v.node.set ≡ length firsts + 1 → s ≡ sequence_at kind tree v → TableStands tree kind (n + 1) (put (with_set table (n + 1) v.node s) s)
+  new_stands table s stands is set sequence =
+      let first : begins ≡ true = ap (λ b. b && nat_eq v.node.set (length firsts + 1)) (is_same_kind_self kind v.node.kind is) ∙ eq-eqb v.node.set (length firsts + 1) set in
+      let more : set_firsts kind 0 (take (n + 1) all) ≡ firsts ++ v ∷ [] = firsts_new first in
+      let row : SetRow = record { first = table.next; before = s; actions = v.node.children; node = n + 1 } in
+      let next_sizes : sizes_so_far kind (take (n + 1) all) ≡ sizes ++ v.node.children ∷ [] = ap (map (λ (w : Visit). w.node.children)) more ∙ map-append (λ (w : Visit). w.node.children) firsts (v ∷ []) in
+      let next_is : table.next ≡ 1 + sum sizes = stands.next in
+      record {
+        sets = map-append set_of table.rows (row ∷ []) ∙ (λ i. stands.sets i ++ record { before = sequence i; actions = v.node.children } ∷ []) ∙ sym (map-append (set_at kind tree) firsts (v ∷ [])) ∙ ap (map (set_at kind tree)) (sym more);
+        each = λ i d there. elim (cases_lt i (length table.rows)) [
+          | inl below ↦ subst (RowStands tree kind (i + 1)) (sym (get_or-append table.rows (row ∷ []) d i below)) (stands.each i d below)
+          | inr past ↦
+              let last : length table.rows ≡ i = omega (arith, length-append table.rows (row ∷ [])) in
+              subst (λ j. RowStands tree kind (j + 1) (get_or (table.rows ++ row ∷ []) j d)) last
+              (subst (RowStands tree kind (length table.rows + 1)) (sym (get_or-append_seam table.rows row [] d)) (row_stands table s stands is set sequence))
+        ];
+        next = omega (arith, ap sum next_sizes, sum_by-append (λ x. x) sizes (v.node.children ∷ []), sum_by-cons (λ x. x) v.node.children []);
+        at_nodes = put_more table s stands.at_nodes sequence;
+      }
+
+  -- the numbers are compared
+  abbrev pub against : Option RecallBreak
+  against = break_against (differ_in_number tree) (n + 1) v (first_of_set 1 v.node all)
+
+  same_numbers : (first : Numbered) → sequence_at first.visit.node.kind tree first.visit ≡ sequence_at v.node.kind tree v → break_against (differ_in_number tree) (n + 1) v (Some first) ≡ None
+  same_numbers first e =
+      let broken : Option RecallBreak = Some (record { node = n + 1; earlier = first.number }) in
+      ap (λ b. cond (is_personal v.node.kind && not b) broken None) (eq-eqb (sequence_at first.visit.node.kind tree first.visit) (sequence_at v.node.kind tree v) e)
+      ∙ ap (λ b. cond b broken None) (and_false (is_personal v.node.kind) false refl)
+
+  other_numbers : (first : Numbered) → is_personal v.node.kind ≡ true → sequence_at first.visit.node.kind tree first.visit ≢ sequence_at v.node.kind tree v →
+      break_against (differ_in_number tree) (n + 1) v (Some first) ≡ Some (record { node = n + 1; earlier = first.number })
+  other_numbers first personal ne =
+      let broken : Option RecallBreak = Some (record { node = n + 1; earlier = first.number }) in
+      ap (λ p. cond (p && differ_in_number tree first.visit v) broken None) personal
+      ∙ ap (λ b. cond (not b) broken None) (ne_eqb (sequence_at first.visit.node.kind tree first.visit) (sequence_at v.node.kind tree v) ne)
+
+  -- what stands after a node of the kind was noted, where the sequence before it is s
+  pub record IsNoted (new : SetRows) (s first : ℕ) : Type 0 where
+    pub stands : TableStands tree kind (n + 1) (put new s)
+    pub first_is : first ≡ first_sequence (set_sizes kind tree) v.node.set
+    pub none : against ≡ None
+
+  abbrev pub After : SetRows → ℕ → Result ℕ RecallFault → Type 0
+  After new s (Ok first) = IsNoted new s first
+  After new s (Err NoMemory) = Unit {0}
+  After new s (Err (NotRecall node earlier)) = against ≡ Some (record { node = node; earlier = earlier })
+
+  -- the node's set is one that came before, or the next one
+  pub set_of_node : v.node.kind ≡ kind → (1 ≤ v.node.set) × (v.node.set ≤ length firsts + 1)
+  set_of_node is =
+      let knows : KnowsSizes kind (map node_of done) sizes = known_so_far tree kind game inner n in
+      let joins : JoinsSet (map node_of done) v.node = joins_of kind (map node_of done) v.node inner is (subst (λ k. FitsAs k (map node_of done) v.node) is next.fits) in
+      let known : v.node.set ≤ set_count kind (map node_of done) + 1 = subst (λ k. v.node.set ≤ set_count k (map node_of done) + 1) is joins.next in
+      let count : length sizes ≡ set_count kind (map node_of done) = knows.count in
+      let many : length sizes ≡ length firsts = length-map firsts (λ (w : Visit). w.node.children) in
+      (joins.counts, omega arith)
+
+  begun : v.node.kind ≡ kind → (table : SetRows) (s : ℕ) (new : SetRows) → TableStands tree kind n table → s ≡ sequence_at kind tree v → length table.rows ≤ v.node.set - 1 →
+      (result : Result ℕ RecallFault) → BeginsSet table (n + 1) v.node s new result → After new s result
+  begun is table s new stands sequence past (Ok first) (first_is, new_is) =
+      let rows : length table.rows ≡ length firsts = rows_count table stands in
+      let many : length sizes ≡ length firsts = length-map firsts (λ (w : Visit). w.node.children) in
+      let counts : 1 ≤ v.node.set = (set_of_node is).0 in
+      let known : v.node.set ≤ length firsts + 1 = (set_of_node is).1 in
+      let set : v.node.set ≡ length firsts + 1 = omega arith in
+      let row = row_stands table s stands is set sequence in
+      let index : length table.rows + 1 ≡ v.node.set = omega arith in
+      record {
+        stands = subst (λ t. TableStands tree kind (n + 1) (put t s)) (sym new_is) (new_stands table s stands is set sequence);
+        first_is = first_is ∙ row.first ∙ ap (first_sequence (set_sizes kind tree)) index;
+        none = ap (break_against (differ_in_number tree) (n + 1) v) (found_new v.node is (omega arith) (is_same_set_by v.node v.node refl refl)) ∙ same_numbers (record { number = n + 1; visit = v }) refl;
+      }
+  begun is table s new stands sequence past (Err NoMemory) h = tt
+  begun is table s new stands sequence past (Err (NotRecall node earlier)) h = absurd h
+
+  record IsRow (row : SetRow) : Type 0 where
+    first : row.first ≡ first_sequence (set_sizes kind tree) v.node.set
+    node : (w : Visit) × IsFirstNode tree kind row v.node w
+
+  its_row : v.node.kind ≡ kind → (table : SetRows) (row : SetRow) → TableStands tree kind n table → slice_get table.rows (v.node.set - 1) ≡ Some row → IsRow row
+  its_row is table row stands read =
+      let counts : 1 ≤ v.node.set = (set_of_node is).0 in
+      let set : v.node.set ≡ v.node.set - 1 + 1 = omega arith in
+      let stood : RowStands tree kind (v.node.set - 1 + 1) row =
+      subst (RowStands tree kind (v.node.set - 1 + 1)) (get_or_from_slice_get table.rows (v.node.set - 1) row row read) (stands.each (v.node.set - 1) row (is_read table.rows (v.node.set - 1) row read)) in
+      record { first = stood.first ∙ ap (first_sequence (set_sizes kind tree)) (sym set); node = stood.node v.node is set }
+
+  joined : is_personal kind ≡ true → v.node.kind ≡ kind → (table : SetRows) (s : ℕ) (new : SetRows) (row : SetRow) → TableStands tree kind n table → s ≡ sequence_at kind tree v → slice_get table.rows (v.node.set - 1) ≡ Some row →
+      (result : Result ℕ RecallFault) → JoinsRow row table (n + 1) s new result → After new s result
+  joined personal is table s new row stands sequence read (Ok first) (same, first_is, new_is) =
+      let rows : length table.rows ≡ length firsts = rows_count table stands in
+      let counts : 1 ≤ v.node.set = (set_of_node is).0 in
+      let there : v.node.set - 1 < length table.rows = is_read table.rows (v.node.set - 1) row read in
+      let ne : v.node.set ≢ length firsts + 1 = λ e. absurd (omega arith) in
+      let other : begins ≡ false = and_false (is_same_kind kind v.node.kind) (nat_eq v.node.set (length firsts + 1)) (ne_eqb v.node.set (length firsts + 1) ne) in
+      let held = its_row is table row stands read in
+      let w : Visit = held.node.0 in
+      let numbers : sequence_at w.node.kind tree w ≡ sequence_at v.node.kind tree v =
+      ap (λ k. sequence_at k tree w) held.node.1.kinds ∙ held.node.1.before ∙ same ∙ sequence ∙ ap (λ k. sequence_at k tree v) (sym is) in
+      record {
+        stands = subst (λ t. TableStands tree kind (n + 1) (put t s)) (sym new_is) (quiet_stands table s stands other sequence);
+        first_is = first_is ∙ held.first;
+        none = ap (break_against (differ_in_number tree) (n + 1) v) held.node.1.found ∙ same_numbers (record { number = row.node; visit = w }) numbers;
+      }
+  joined personal is table s new row stands sequence read (Err NoMemory) h = absurd h
+  joined personal is table s new row stands sequence read (Err (NotRecall node earlier)) (differs, node_is, earlier_is) =
+      let held = its_row is table row stands read in
+      let w : Visit = held.node.0 in
+      let of_first : sequence_at w.node.kind tree w ≡ row.before = ap (λ k. sequence_at k tree w) held.node.1.kinds ∙ held.node.1.before in
+      let of_v : sequence_at v.node.kind tree v ≡ s = ap (λ k. sequence_at k tree v) is ∙ sym sequence in
+      ap (break_against (differ_in_number tree) (n + 1) v) held.node.1.found
+      ∙ other_numbers (record { number = row.node; visit = w }) (ap is_personal is ∙ personal) (λ e. differs (sym of_first ∙ e ∙ of_v))
+      ∙ (λ i. Some (record { node = sym node_is i; earlier = sym earlier_is i }))
+
+  pub after_note : is_personal kind ≡ true → v.node.kind ≡ kind → (table : SetRows) (s : ℕ) (new : SetRows) (result : Result ℕ RecallFault) → TableStands tree kind n table → s ≡ sequence_at kind tree v → Notes table (n + 1) v.node s new result → After new s result
+  after_note personal is table s new result stands sequence notes =
+      elim (slice_get table.rows (v.node.set - 1)) as (λ o. slice_get table.rows (v.node.set - 1) ≡ o → NotesIn o table (n + 1) v.node s new result → After new s result) [
+        | None ↦ λ past h. begun is table s new stands sequence (not_read table.rows (v.node.set - 1) past) result h
+        | Some row ↦ λ read h. joined personal is table s new row stands sequence read result h
+      ] refl notes
+
+  -- the next set's sequences have small numbers
+  pub room_for : (table : SetRows) → TableStands tree kind n table → table.next + v.node.children < 2 ^ 32
+  room_for table stands =
+      let front = sizes_front kind n all in
+      let few = sequences_are_few tree game kind inner in
+      let few_sequences : 1 + sum (set_sizes kind tree) ≤ node_count tree = few.few_sequences in
+      let limit : node_count tree ≤ 1048576 = game.limit in
+      let next_is : table.next ≡ 1 + sum sizes = stands.next in
+      omega (arith, ap sum front.1, sum_by-append (λ x. x) sizes front.0, children-le (map node_of done) v.node next.fits)
+
+abbrev rest_break : Forest → ℕ → Option RecallBreak
+rest_break tree n = first_break (differ_in_number tree) (visits tree) (n + 1) (drop n (visits tree))
+
+module _ (tree : Forest) (game : IsGameTree tree) (n : ℕ) (v : Visit) (next : IsNext tree n v) where
+  abbrev here : Option RecallBreak
+  here = break_against (differ_in_number tree) (n + 1) v (first_of_set 1 v.node (visits tree))
+
+  break_more : number_break tree ≡ rest_break tree n → number_break tree ≡ break_or here (rest_break tree (n + 1))
+  break_more so_far = so_far ∙ ap (first_break (differ_in_number tree) (visits tree) (n + 1)) next.cons
+
+  none_here : number_break tree ≡ rest_break tree n → here ≡ None → number_break tree ≡ rest_break tree (n + 1)
+  none_here so_far none = break_more so_far ∙ ap (λ o. break_or o (rest_break tree (n + 1))) none
+
+  some_here : number_break tree ≡ rest_break tree n → (broken : RecallBreak) → here ≡ Some broken → number_break tree ≡ Some broken
+  some_here so_far broken some = break_more so_far ∙ ap (λ o. break_or o (rest_break tree (n + 1))) some
+
+  not_personal : is_personal v.node.kind ≡ false → (o : Option Numbered) → break_against (differ_in_number tree) (n + 1) v o ≡ None
+  not_personal other None = refl
+  not_personal other (Some first) = ap (λ p. cond (p && differ_in_number tree first.visit v) (Some (record { node = n + 1; earlier = first.number })) None) other
+
+  -- a kind that doesn't move at the node
+  quiet : (kind : Kind) → is_leaf_kind kind ≡ false → is_same_kind kind v.node.kind ≡ false → (table : SetRows) (s : ℕ) → TableStands tree kind n table → s ≡ sequence_at kind tree v → TableStands tree kind (n + 1) (put table s)
+  quiet kind inner other table s stands sequence =
+      quiet_stands tree kind game inner n v next table s stands (ap (λ b. b && nat_eq v.node.set (length (set_firsts kind 0 (take n (visits tree))) + 1)) other) sequence
+
+  other_below : (kind : Kind) (s : ℕ) → is_same_kind kind v.node.kind ≡ false → s ≡ sequence_at kind tree v → StartsBelow tree kind v s
+  other_below kind s other sequence = record { own = λ same. absurd (apart (sym same ∙ other)); other = λ _. sequence }
+    where
+      apart : true ≡ false → ⊥
+      apart e = cc e
+
+  own_below : (kind : Kind) (s : ℕ) → is_same_kind kind v.node.kind ≡ true → s ≡ first_sequence (set_sizes kind tree) v.node.set → StartsBelow tree kind v s
+  own_below kind s same first = record { own = λ _. first; other = λ other. absurd (apart (sym same ∙ other)) }
+    where
+      apart : true ≡ false → ⊥
+      apart e = cc e
+
+  pub quiet_node : is_personal v.node.kind ≡ false → is_same_kind One v.node.kind ≡ false → is_same_kind Two v.node.kind ≡ false → (one two : SetRows) (at : Sequences) → TablesStand tree n one two → AreAt tree v.path at →
+      TablesStand tree (n + 1) (put one at.one) (put two at.two) × AreBelow tree v at
+  quiet_node personal not_one not_two one two at stand are = (
+    record {
+      table_one = quiet One refl not_one one at.one stand.table_one are.one;
+      table_two = quiet Two refl not_two two at.two stand.table_two are.two;
+      no_break = none_here stand.no_break (not_personal personal (first_of_set 1 v.node (visits tree)));
+    },
+    record { one = other_below One at.one not_one are.one; two = other_below Two at.two not_two are.two },
+  )
+
+  pub noted_one : v.node.kind ≡ One → (one two new : SetRows) (at : Sequences) (first : ℕ) → TablesStand tree n one two → AreAt tree v.path at → Notes one (n + 1) v.node at.one new (Ok first) →
+      TablesStand tree (n + 1) (put new at.one) (put two at.two) × AreBelow tree v (record { one = first; two = at.two })
+  noted_one is one two new at first stand are notes =
+      let noted = after_note tree One game refl n v next refl is one at.one new (Ok first) stand.table_one are.one notes in
+      let same : is_same_kind One v.node.kind ≡ true = ap (is_same_kind One) is in
+      let other : is_same_kind Two v.node.kind ≡ false = ap (is_same_kind Two) is in (
+        record {
+          table_one = noted.stands;
+          table_two = quiet Two refl other two at.two stand.table_two are.two;
+          no_break = none_here stand.no_break noted.none;
+        },
+        record { one = own_below One first same noted.first_is; two = other_below Two at.two other are.two },
+      )
+
+  pub noted_two : v.node.kind ≡ Two → (one two new : SetRows) (at : Sequences) (first : ℕ) → TablesStand tree n one two → AreAt tree v.path at → Notes two (n + 1) v.node at.two new (Ok first) →
+      TablesStand tree (n + 1) (put one at.one) (put new at.two) × AreBelow tree v (record { one = at.one; two = first })
+  noted_two is one two new at first stand are notes =
+      let noted = after_note tree Two game refl n v next refl is two at.two new (Ok first) stand.table_two are.two notes in
+      let same : is_same_kind Two v.node.kind ≡ true = ap (is_same_kind Two) is in
+      let other : is_same_kind One v.node.kind ≡ false = ap (is_same_kind One) is in (
+        record {
+          table_one = quiet One refl other one at.one stand.table_one are.one;
+          table_two = noted.stands;
+          no_break = none_here stand.no_break noted.none;
+        },
+        record { one = other_below One at.one other are.one; two = own_below Two first same noted.first_is },
+      )
+
+  broken_at : (kind : Kind) → is_leaf_kind kind ≡ false → is_personal kind ≡ true → v.node.kind ≡ kind → (table new : SetRows) (s : ℕ) → TableStands tree kind n table → number_break tree ≡ rest_break tree n → s ≡ sequence_at kind tree v →
+      (fault : RecallFault) → Notes table (n + 1) v.node s new (Err fault) → FindsBreak tree fault
+  broken_at kind inner personal is table new s stands so_far sequence NoMemory notes = tt
+  broken_at kind inner personal is table new s stands so_far sequence (NotRecall node earlier) notes =
+      some_here so_far (record { node = node; earlier = earlier }) (after_note tree kind game inner n v next personal is table s new (Err (NotRecall node earlier)) stands sequence notes)
+
+  pub broken_one : v.node.kind ≡ One → (one two new : SetRows) (at : Sequences) (fault : RecallFault) → TablesStand tree n one two → AreAt tree v.path at → Notes one (n + 1) v.node at.one new (Err fault) → FindsBreak tree fault
+  broken_one is one two new at fault stand are notes = broken_at One refl refl is one new at.one stand.table_one stand.no_break are.one fault notes
+
+  pub broken_two : v.node.kind ≡ Two → (one two new : SetRows) (at : Sequences) (fault : RecallFault) → TablesStand tree n one two → AreAt tree v.path at → Notes two (n + 1) v.node at.two new (Err fault) → FindsBreak tree fault
+  broken_two is one two new at fault stand are notes = broken_at Two refl refl is two new at.two stand.table_two stand.no_break are.two fault notes
+
+-- the same of the node that the tree gives, as node number n + 1
+module _ (tree : Forest) (game : IsGameTree tree) (n : ℕ) (there : n < node_count tree) (x : Node) (read : slice_get (prefix tree) (n + 1 - 1) ≡ Some x) where
+  abbrev v : Visit
+  v = visit_after tree n
+
+  next : IsNext tree n v
+  next = next_visit tree n game there
+
+  is_node : v.node ≡ x
+  is_node = next_node tree n (n + 1 - 1) x there (omega arith) read
+
+  pub counts_at : (kind : Kind) → is_leaf_kind kind ≡ false → x.kind ≡ kind → 1 ≤ x.set
+  counts_at kind inner is = subst (λ y. 1 ≤ y.set) is_node (set_of_node tree kind game inner n v next (ap (λ y. y.kind) is_node ∙ is)).0
+
+  pub room_at : (kind : Kind) → is_leaf_kind kind ≡ false → (table : SetRows) → TableStands tree kind n table → table.next + x.children < 2 ^ 32
+  room_at kind inner table stands = subst (λ y. table.next + y.children < 2 ^ 32) is_node (room_for tree kind game inner n v next table stands)
+
+  pub noted_one_at : x.kind ≡ One → (one two new : SetRows) (at : Sequences) (first : ℕ) → TablesStand tree n one two → AreAt tree v.path at → Notes one (n + 1) x at.one new (Ok first) →
+      TablesStand tree (n + 1) (put new at.one) (put two at.two) × AreBelow tree v (record { one = first; two = at.two })
+  noted_one_at is one two new at first stand are notes =
+      noted_one tree game n v next (ap (λ y. y.kind) is_node ∙ is) one two new at first stand are (subst (λ y. Notes one (n + 1) y at.one new (Ok first)) (sym is_node) notes)
+
+  pub noted_two_at : x.kind ≡ Two → (one two new : SetRows) (at : Sequences) (first : ℕ) → TablesStand tree n one two → AreAt tree v.path at → Notes two (n + 1) x at.two new (Ok first) →
+      TablesStand tree (n + 1) (put one at.one) (put new at.two) × AreBelow tree v (record { one = at.one; two = first })
+  noted_two_at is one two new at first stand are notes =
+      noted_two tree game n v next (ap (λ y. y.kind) is_node ∙ is) one two new at first stand are (subst (λ y. Notes two (n + 1) y at.two new (Ok first)) (sym is_node) notes)
+
+  pub quiet_at : is_personal x.kind ≡ false → (one two : SetRows) (at : Sequences) → TablesStand tree n one two → AreAt tree v.path at →
+      TablesStand tree (n + 1) (put one at.one) (put two at.two) × AreBelow tree v at
+  quiet_at other one two at stand are =
+      let personal : is_personal v.node.kind ≡ false = ap (λ y. is_personal y.kind) is_node ∙ other in
+      quiet_node tree game n v next personal (not_mover v.node.kind personal).0 (not_mover v.node.kind personal).1 one two at stand are
+    where
+      not_mover : (kind : Kind) → is_personal kind ≡ false → (is_same_kind One kind ≡ false) × (is_same_kind Two kind ≡ false)
+      not_mover Chance e = (refl, refl)
+      not_mover One e = cc
+      not_mover Two e = cc
+      not_mover Leaf e = (refl, refl)
+
+  pub broken_one_at : x.kind ≡ One → (one two new : SetRows) (at : Sequences) (fault : RecallFault) → TablesStand tree n one two → AreAt tree v.path at → Notes one (n + 1) x at.one new (Err fault) → FindsBreak tree fault
+  broken_one_at is one two new at fault stand are notes =
+      broken_one tree game n v next (ap (λ y. y.kind) is_node ∙ is) one two new at fault stand are (subst (λ y. Notes one (n + 1) y at.one new (Err fault)) (sym is_node) notes)
+
+  pub broken_two_at : x.kind ≡ Two → (one two new : SetRows) (at : Sequences) (fault : RecallFault) → TablesStand tree n one two → AreAt tree v.path at → Notes two (n + 1) x at.two new (Err fault) → FindsBreak tree fault
+  broken_two_at is one two new at fault stand are notes =
+      broken_two tree game n v next (ap (λ y. y.kind) is_node ∙ is) one two new at fault stand are (subst (λ y. Notes two (n + 1) y at.two new (Err fault)) (sym is_node) notes)

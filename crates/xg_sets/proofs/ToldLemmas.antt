@@ -1,0 +1,89 @@
+-- What is told before the first node, and after the last.
+use Rattle.std.proofs.Common.{◌≡◌, ℕ, ◌+◌, ◌≤◌, false, List, [], ◌∷◌, length, take, map, refl, ap, sym, ◌∙◌, arith, append-nil, Some, None, Ok, slice_get}
+use Rattle.std.specs.Option.{option_map}
+use Rattle.std.proofs.lemmas.List.{drop_all, length-map, take_all}
+use Rattle.std.proofs.lemmas.Option.{slice_get-map}
+use Rattle.def_tree.specs.declared.Kind.{Kind}
+use Rattle.def_tree.specs.declared.Kind.TheVariants.{Chance, One, Two}
+use Rattle.def_tree.specs.Tree.{Forest, is_leaf_kind, node_count}
+use Rattle.def_tree.specs.Rules.{IsGameTree}
+use Rattle.def_game_paths.specs.Paths.{Visit, visits}
+use Rattle.def_game_paths.specs.Recall.{HasPerfectRecall, recall_break, first_break}
+use Rattle.def_game_paths.specs.Sequences.{differ_in_number, sequence_at, set_firsts}
+use Rattle.def_game_paths.proofs.Breaks.{break_first, recall_of_none}
+use Rattle.def_game_paths.proofs.Counts.{sequences_are_few}
+use Rattle.def_game_paths.proofs.Numbers.{numbers_find_the_break}
+use Rattle.def_plan.specs.Form.{InformationSet}
+use Rattle.def_sequence_form.specs.Form.{information_sets}
+use Rattle.def_sequence_form.specs.Sets.{player_sets, sets_or_break, tree_sets, unless_broken}
+use Rattle.def_sequence_form.proofs.Sets.{set_at}
+use Rattle.xg_sets.specs.declared.building.RecallFault.{RecallFault}
+use Rattle.xg_sets.specs.declared.building.RecallFault.TheVariants.{NotRecall, NoMemory}
+use Rattle.xg_sets.specs.declared.table.SetRow.{SetRow}
+use Rattle.xg_sets.specs.Fault.{IsFirstBreakOf, TellsBreakOf}
+use Rattle.xg_sets.specs.Stands.{FindsBreak, Stands, TableStands, TablesStand}
+use Rattle.xg_sets.specs.Table.{HasFewRows, SetRows}
+use Rattle.xg_sets.specs.Told.{set_of, told}
+use Rattle.xg_sets.proofs.NextLemmas.{length-visits}
+
+-- what a row tells of its set is told at the set's place
+pub told_at : (rows : List SetRow) (sets : List InformationSet) (f : InformationSet → ℕ) (i : ℕ) (row : SetRow) → map set_of rows ≡ sets → slice_get rows i ≡ Some row → slice_get (map f sets) i ≡ Some (f (set_of row))
+told_at rows sets f i row same read =
+    ap (λ xs. slice_get (map f xs) i) (sym same) ∙ slice_get-map f (map set_of rows) i
+    ∙ ap (option_map f) (slice_get-map set_of rows i ∙ ap (option_map set_of) read)
+
+abbrev no_rows : SetRows
+no_rows = record { rows = []; at_nodes = []; next = 1 }
+
+table_starts : (tree : Forest) (kind : Kind) → TableStands tree kind 0 no_rows
+table_starts tree kind = record { sets = refl; each = λ i d there. absurd (omega arith); next = refl; at_nodes = refl }
+
+pub stands_first : (tree : Forest) → IsGameTree tree → Stands tree 0 no_rows no_rows (record { kind = Chance; to_come = 1; next = record { one = 0; two = 0 } } ∷ [])
+stands_first tree game = record {
+  tables = record { table_one = table_starts tree One; table_two = table_starts tree Two; no_break = refl };
+  nodes = (
+    record { above = λ _. []; action = 1; trees = tree },
+    [],
+    record { some = omega arith; count = game.tree.one; children = game.tree.children; one = λ j. refl; two = λ j. refl },
+    sym (append-nil (visits tree)),
+    refl,
+  );
+}
+
+pub tells_break : (tree : Forest) → IsGameTree tree → (fault : RecallFault) → FindsBreak tree fault → TellsBreakOf tree fault
+tells_break tree game NoMemory found = tt
+tells_break tree game (NotRecall node earlier) found = ap (λ o. unless_broken o (tree_sets tree)) (sym (numbers_find_the_break tree game) ∙ found)
+
+pub is_first_break : (tree : Forest) → IsGameTree tree → (fault : RecallFault) → FindsBreak tree fault → IsFirstBreakOf tree fault
+is_first_break tree game NoMemory found = tt
+is_first_break tree game (NotRecall node earlier) found = λ d. break_first tree d (record { node = node; earlier = earlier }) (sym (numbers_find_the_break tree game) ∙ found)
+
+module _ (tree : Forest) (game : IsGameTree tree) (n : ℕ) (last : n ≡ node_count tree) where
+  all_taken : take n (visits tree) ≡ visits tree
+  all_taken = take_all n (visits tree) (omega (arith, length-visits tree))
+
+  table_told : (kind : Kind) (table : SetRows) → TableStands tree kind n table → told table ≡ player_sets kind tree
+  table_told kind table stands =
+      let sets : map set_of table.rows ≡ information_sets kind tree = stands.sets ∙ ap (λ vs. map (set_at kind tree) (set_firsts kind 0 vs)) all_taken in
+      let at_nodes : table.at_nodes ≡ map (sequence_at kind tree) (visits tree) = stands.at_nodes ∙ ap (map (sequence_at kind tree)) all_taken in
+      λ i. record { sets = sets i; at_nodes = at_nodes i }
+
+  pub has_few : (kind : Kind) → is_leaf_kind kind ≡ false → (table : SetRows) → TableStands tree kind n table → HasFewRows table
+  has_few kind inner table stands =
+      let few = sequences_are_few tree game kind inner in
+      let limit : node_count tree ≤ 1048576 = game.limit in
+      let firsts : List Visit = set_firsts kind 0 (visits tree) in
+      let sets : map set_of table.rows ≡ map (set_at kind tree) firsts = stands.sets ∙ ap (λ vs. map (set_at kind tree) (set_firsts kind 0 vs)) all_taken in
+      omega (arith, few.few_sets, length-map firsts (λ (w : Visit). w.node.children), length-map firsts (set_at kind tree), length-map table.rows set_of, ap length sets)
+
+  no_break : (one two : SetRows) → TablesStand tree n one two → recall_break tree ≡ None
+  no_break one two stand =
+      sym (numbers_find_the_break tree game) ∙ stand.no_break ∙ ap (first_break (differ_in_number tree) (visits tree) (n + 1)) (drop_all n (visits tree) (omega (arith, length-visits tree)))
+
+  pub all_told : (one two : SetRows) → TablesStand tree n one two → sets_or_break tree ≡ Ok (record { one = told one; two = told two })
+  all_told one two stand =
+      ap (λ o. unless_broken o (tree_sets tree)) (no_break one two stand)
+      ∙ (λ i. Ok (record { one = sym (table_told One one stand.table_one) i; two = sym (table_told Two two stand.table_two) i }))
+
+  pub has_recall : (one two : SetRows) → TablesStand tree n one two → HasPerfectRecall tree
+  has_recall one two stand = recall_of_none tree (no_break one two stand)

@@ -1,0 +1,81 @@
+-- What is kept once the first k nodes of a tree were entered.
+use Rattle.std.specs.Prelude.{◌≡◌, ℕ, ◌+◌, ◌<◌, ◌≤◌, true, false, if◌then◌else◌, List, [], length, map, take, drop, sum, slice_index_or, Some}
+use Rattle.def_tree.specs.declared.Kind.{Kind}
+use Rattle.def_tree.specs.declared.Kind.TheVariants.{One, Two}
+use Rattle.def_tree.specs.declared.Node.{Node}
+use Rattle.def_tree.specs.Tree.{Forest, HasItsChildren, tree_count}
+use Rattle.def_tree.specs.Rules.{is_same_kind}
+use Rattle.def_game_paths.specs.Paths.{Move, Visit, own_choices, visits}
+use Rattle.def_game_paths.specs.Recall.{first_break, first_of_set}
+use Rattle.def_game_paths.specs.Sequences.{differ_in_number, first_sequence, number_break, sequence_at, sequence_number, set_firsts, set_sizes, sizes_so_far}
+use Rattle.def_game_paths.specs.Open.{AreOpen, OpenTrees}
+use Rattle.xg_sets.specs.declared.building.RecallFault.{RecallFault}
+use Rattle.xg_sets.specs.declared.building.RecallFault.TheVariants.{NotRecall, NoMemory}
+use Rattle.xg_sets.specs.declared.open_nodes.OpenNode.{OpenNode}
+use Rattle.xg_sets.specs.declared.open_nodes.Sequences.{Sequences}
+use Rattle.xg_sets.specs.declared.table.SetRow.{SetRow}
+use Rattle.xg_sets.specs.Table.{SetRows}
+use Rattle.xg_sets.specs.Told.{set_of}
+
+-- a search for the first node of the set finds the row's node, and the sequence there is the row's
+pub record IsFirstNode (tree : Forest) (kind : Kind) (row : SetRow) (x : Node) (v : Visit) : Type 0 where
+  pub found : first_of_set 1 x (visits tree) ≡ Some (record { number = row.node; visit = v })
+  pub kinds : v.node.kind ≡ kind
+  pub before : sequence_at kind tree v ≡ row.before
+
+pub record RowStands (tree : Forest) (kind : Kind) (set : ℕ) (row : SetRow) : Type 0 where
+  pub first : row.first ≡ first_sequence (set_sizes kind tree) set
+  pub node : (x : Node) → x.kind ≡ kind → x.set ≡ set → (v : Visit) × IsFirstNode tree kind row x v
+
+-- a player's sets so far, each with its first node, and the sequences at the first k nodes
+pub record TableStands (tree : Forest) (kind : Kind) (k : ℕ) (table : SetRows) : Type 0 where
+  pub sets : map set_of table.rows ≡ map (λ v. record { before = sequence_at kind tree v; actions = v.node.children }) (set_firsts kind 0 (take k (visits tree)))
+  pub each : (i : ℕ) (d : SetRow) → i < length table.rows → RowStands tree kind (i + 1) (slice_index_or table.rows i d)
+  pub next : table.next ≡ 1 + sum (sizes_so_far kind (take k (visits tree)))
+  pub at_nodes : table.at_nodes ≡ map (sequence_at kind tree) (take k (visits tree))
+
+pub record TablesStand (tree : Forest) (k : ℕ) (one two : SetRows) : Type 0 where
+  pub table_one : TableStands tree One k one
+  pub table_two : TableStands tree Two k two
+  pub no_break : number_break tree ≡ first_break (differ_in_number tree) (visits tree) (k + 1) (drop k (visits tree))
+
+-- the sequences at the nodes of a path
+abbrev pub number_of : Kind → Forest → List Move → ℕ
+number_of kind tree path = sequence_number (set_sizes kind tree) (own_choices kind path)
+
+pub record AreAt (tree : Forest) (path : List Move) (at : Sequences) : Type 0 where
+  pub one : at.one ≡ number_of One tree path
+  pub two : at.two ≡ number_of Two tree path
+
+-- these trees are to come under the open node: as many as it says, and it tells the sequences at each of them
+pub record StandsOver (tree : Forest) (trees : OpenTrees) (node : OpenNode) : Type 0 where
+  pub some : 1 ≤ node.to_come
+  pub count : tree_count trees.trees ≡ node.to_come
+  pub children : HasItsChildren trees.trees
+  pub one : (j : ℕ) → number_of One tree (trees.above (trees.action + j)) ≡ node.next.one + (if is_same_kind One node.kind then j else 0)
+  pub two : (j : ℕ) → number_of Two tree (trees.above (trees.action + j)) ≡ node.next.two + (if is_same_kind Two node.kind then j else 0)
+
+pub record Stands (tree : Forest) (k : ℕ) (one two : SetRows) (open_nodes : List OpenNode) : Type 0 where
+  pub tables : TablesStand tree k one two
+  pub nodes : AreOpen (StandsOver tree) open_nodes (drop k (visits tree))
+
+-- the sequence of a kind at the first child of a node, which was entered with this path
+pub record StartsBelow (tree : Forest) (kind : Kind) (v : Visit) (sequence : ℕ) : Type 0 where
+  pub own : is_same_kind kind v.node.kind ≡ true → sequence ≡ first_sequence (set_sizes kind tree) v.node.set
+  pub other : is_same_kind kind v.node.kind ≡ false → sequence ≡ sequence_at kind tree v
+
+pub record AreBelow (tree : Forest) (v : Visit) (below : Sequences) : Type 0 where
+  pub one : StartsBelow tree One v below.one
+  pub two : StartsBelow tree Two v below.two
+
+-- the first break of recall, by numbers
+abbrev pub FindsBreak : Forest → RecallFault → Type 0
+FindsBreak tree (NotRecall node earlier) = number_break tree ≡ Some (record { node = node; earlier = earlier })
+FindsBreak tree NoMemory = Unit {0}
+
+-- the node after the first k, with its path
+abbrev pub no_visit : Visit
+no_visit = record { path = []; node = record { kind = One; set = 0; outcome = 0; children = 0 } }
+
+abbrev pub visit_after : Forest → ℕ → Visit
+visit_after tree k = slice_index_or (visits tree) k no_visit

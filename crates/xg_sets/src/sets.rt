@@ -1,0 +1,83 @@
+ghost use Rattle.std.specs.Prelude.{◌≡◌, ◌-◌, ◌≤◌, length, Some, slice_get};
+ghost use Rattle.xg_sets.specs.Told.{actions_of, befores_of, of_player, told};
+ghost use Rattle.xg_sets.specs.Table.{HasFewRows};
+
+use crate::table::SetTable;
+use def_tree::Player;
+use std::marker::Model;
+
+/// The information sets of both players, and the number of each player's sequence at each node of the tree.
+///
+/// Sets are numbered from 1 within their player, and nodes from 1 in prefix order. Sequence 0 is the empty one.
+#[derive(Drop)]
+pub struct Sets {
+    one: SetTable,
+    two: SetTable,
+}
+
+impl Model for Sets {
+    ghost use Rattle.def_sequence_form.specs.Sets.{TreeSets};
+    ghost use Rattle.xg_sets.specs.Table.{HasFewRows};
+    ghost use Rattle.xg_sets.specs.Told.{told};
+
+    ghost Value = { TreeSets };
+
+    ghost view = { λ s. record { one = told s.one; two = told s.two } };
+
+    ghost invariant = { λ s. HasFewRows s.one × HasFewRows s.two };
+}
+
+impl Sets {
+    // The sets of these tables.
+    pub(crate) fn of(one: SetTable, two: SetTable) -> Sets
+        requires few_one { HasFewRows one }
+        requires few_two { HasFewRows two }
+        ensures { result ≡ record { one = told one; two = told two } }
+    {
+        Sets { one, two }
+    }
+
+    /// The number of the player's sets.
+    pub fn count(&self, player: Player) -> u32
+        ensures { result ≡ length (of_player player self.now).sets }
+    {
+        self.table(player).count()
+    }
+
+    /// The number of a set's actions.
+    pub fn actions(&self, player: Player, set: u32) -> u32
+        requires from_one { 1 ≤ set }
+        requires there { set ≤ length (of_player player self.now).sets }
+        ensures { slice_get (actions_of player self.now) (set - 1) ≡ Some result }
+    {
+        self.table(player).row(set).actions
+    }
+
+    /// The player's own sequence before a set.
+    pub fn before(&self, player: Player, set: u32) -> u32
+        requires from_one { 1 ≤ set }
+        requires there { set ≤ length (of_player player self.now).sets }
+        ensures { slice_get (befores_of player self.now) (set - 1) ≡ Some result }
+    {
+        self.table(player).row(set).before
+    }
+
+    /// The player's sequence at node `k`.
+    pub fn sequence_at(&self, player: Player, k: u32) -> u32
+        requires from_one { 1 ≤ k }
+        requires there { k ≤ length (of_player player self.now).at_nodes }
+        ensures { slice_get (of_player player self.now).at_nodes (k - 1) ≡ Some result }
+    {
+        self.table(player).sequence_at(k)
+    }
+
+    fn table(&self, player: Player) -> &SetTable
+        ensures told { told result.now ≡ of_player player self.now }
+        ensures few { HasFewRows result.now }
+    {
+        match player {
+            Player::One => &self.one,
+            Player::Two => &self.two,
+        }
+    }
+}

@@ -1,0 +1,111 @@
+ghost use Rattle.std.specs.Prelude.{◌≡◌, ◌+◌, ◌-◌, ◌^◌, ◌<◌, ◌≤◌, [], ◌∷◌, ◌++◌, length, OnOk, Some, slice_get};
+ghost use Rattle.xg_sets.specs.Table.{BeginsSet, Notes};
+
+use crate::building::RecallFault;
+use def_tree::Node;
+use std::alloc::{AllocError, Global};
+use std::marker::Model;
+
+/// A set: the first sequence that ends at it, the one before it, how many actions it has, and its first node.
+#[derive(Clone, Copy)]
+pub(crate) struct SetRow {
+    pub(crate) first: u32,
+    pub(crate) before: u32,
+    pub(crate) actions: u32,
+    pub(crate) node: u32,
+}
+
+/// A player's sets so far, and the player's sequence at each node so far.
+#[derive(Drop)]
+pub(crate) struct SetTable {
+    rows: Vec<SetRow>,
+    at_nodes: Vec<u32>,
+    // the first sequence of the next set
+    next: u32,
+}
+
+impl Model for SetTable {
+    ghost use Rattle.xg_sets.specs.Table.{SetRows};
+
+    ghost Value = { SetRows };
+
+    ghost view = { λ t. record { rows = t.rows.items; at_nodes = t.at_nodes.items; next = t.next } };
+}
+
+impl SetTable {
+    pub(crate) fn new(alloc: Global) -> SetTable
+        ensures { result ≡ record { rows = []; at_nodes = []; next = 1 } }
+    {
+        SetTable {
+            rows: Vec::new(alloc),
+            at_nodes: Vec::new(alloc),
+            next: 1,
+        }
+    }
+
+    /// Puts the player's sequence at the next node.
+    pub(crate) fn put(&mut self, sequence: u32) -> Result<(), AllocError>
+        ensures { OnOk result (self.new ≡ record self.old { at_nodes = self.old.at_nodes ++ sequence ∷ [] }) }
+    {
+        self.at_nodes.push(sequence)?;
+        Ok(())
+    }
+
+    /// Notes node `k` of the player, where the player's sequence is `before`, and answers the first sequence of its set.
+    pub(crate) fn note(&mut self, k: u32, node: Node, before: u32) -> Result<u32, RecallFault>
+        requires counts { 1 ≤ node.set }
+        requires room { self.old.next + node.children < 2 ^ 32 }
+        ensures { Notes self.old k node before self.new result }
+    {
+        let Some(row) = self.rows.get(node.set as usize - 1) else {
+            return self.begin(k, node, before);
+        };
+        if row.before != before {
+            return Err(RecallFault::NotRecall {
+                node: k,
+                earlier: row.node,
+            });
+        }
+        Ok(row.first)
+    }
+
+    fn begin(&mut self, k: u32, node: Node, before: u32) -> Result<u32, RecallFault>
+        requires { self.old.next + node.children < 2 ^ 32 }
+        ensures { BeginsSet self.old k node before self.new result }
+    {
+        let first = self.next;
+        self.rows
+            .push(SetRow {
+                first,
+                before,
+                actions: node.children,
+                node: k,
+            })
+            .map_err(|_| RecallFault::NoMemory)?;
+        self.next += node.children;
+        Ok(first)
+    }
+
+    pub(crate) fn count(&self) -> u32
+        requires { length self.now.rows < 2 ^ 32 }
+        ensures { result ≡ length self.now.rows }
+    {
+        self.rows.len() as u32
+    }
+
+    pub(crate) fn row(&self, set: u32) -> SetRow
+        requires from_one { 1 ≤ set }
+        requires there { set ≤ length self.now.rows }
+        ensures { slice_get self.now.rows (set - 1) ≡ Some result }
+    {
+        self.rows[set as usize - 1]
+    }
+
+    pub(crate) fn sequence_at(&self, k: u32) -> u32
+        requires from_one { 1 ≤ k }
+        requires there { k ≤ length self.now.at_nodes }
+        ensures { slice_get self.now.at_nodes (k - 1) ≡ Some result }
+    {
+        self.at_nodes[k as usize - 1]
+    }
+}
