@@ -15,7 +15,7 @@ use Rattle.def_game_paths.proofs.Counts.{sequences_are_few}
 use Rattle.def_game_paths.proofs.Numbers.{numbers_find_the_break}
 use Rattle.def_plan.specs.Form.{InformationSet}
 use Rattle.def_sequence_form.specs.Form.{information_sets}
-use Rattle.def_sequence_form.specs.Sets.{player_sets, sets_or_break, tree_sets, unless_broken}
+use Rattle.def_sequence_form.specs.Sets.{told_sets, sets_or_break, tree_sets, unless_broken}
 use Rattle.def_sequence_form.proofs.Sets.{set_at}
 use Rattle.xg_sets.specs.declared.building.RecallFault.{RecallFault}
 use Rattle.xg_sets.specs.declared.building.RecallFault.TheVariants.{NotRecall, NoMemory}
@@ -62,7 +62,7 @@ module _ (tree : Forest) (game : IsGameTree tree) (n : ℕ) (last : n ≡ node_c
   all_taken : take n (visits tree) ≡ visits tree
   all_taken = take_all n (visits tree) (omega (arith, length-visits tree))
 
-  table_told : (kind : Kind) (table : SetRows) → TableStands tree kind n table → told table ≡ player_sets kind tree
+  table_told : (kind : Kind) (table : SetRows) → TableStands tree kind n table → told table ≡ told_sets kind tree
   table_told kind table stands =
       let sets : map set_of table.rows ≡ information_sets kind tree = stands.sets ∙ ap (λ vs. map (set_at kind tree) (set_firsts kind 0 vs)) all_taken in
       let at_nodes : table.at_nodes ≡ map (sequence_at kind tree) (visits tree) = stands.at_nodes ∙ ap (map (sequence_at kind tree)) all_taken in
