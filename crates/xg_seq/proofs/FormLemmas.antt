@@ -1,0 +1,44 @@
+-- The form of a game's tree, with a weight for each leaf, is in order and within the limits.
+use Rattle.std.proofs.Common.{◌≡◌, ◌≤◌, false, List, [], length, map, ap, ◌∙◌, arith, ℤ}
+use Rattle.std.specs.Prelude.{sum, unsigned_abs}
+use Rattle.def_tree.specs.declared.Kind.{Kind}
+use Rattle.def_tree.specs.Tree.{Forest, is_leaf_kind, leaf_count, prefix}
+use Rattle.def_tree.specs.Rules.{IsGameTree}
+use Rattle.def_game_scale.specs.Tables.{Tables}
+use Rattle.def_sums.specs.Limits.{most_mass}
+use Rattle.def_plan.specs.Form.{InformationSet, sequence_count}
+use Rattle.def_sequence_form.specs.Form.{form_of, information_sets, leaf_entry}
+use Rattle.def_sequence_form.specs.Sets.{TreeSets, tree_sets}
+use Rattle.def_sequence_form.proofs.Leaves.{form_has_the_leaf_list, form_has_the_mass}
+use Rattle.def_sequence_form.proofs.Sets.{form_numbers_as_the_tree}
+use Rattle.xg_sets.specs.Stands.{no_visit}
+use Rattle.xg_seq.specs.declared.leaf.Leaf.{Leaf}
+use Rattle.xg_seq.specs.Leaves.{AreLeaves, KeepsLeaves, form_with}
+use Rattle.xg_seq.specs.Table.{most_sequences}
+use Rattle.xg_seq.proofs.LeafLemmas.{leaves_are_few}
+
+pub sets_in_limit : (tree : Forest) → IsGameTree tree → (kind : Kind) → is_leaf_kind kind ≡ false → sequence_count (information_sets kind tree) ≤ most_sequences
+sets_in_limit tree game kind inner = omega (arith, (form_numbers_as_the_tree tree game kind inner).few_sequences, game.limit)
+
+abbrev no_tables : Tables
+no_tables = record { chance = []; outcomes = [] }
+
+pub keeps_leaves : (tree : Forest) (weights : List ℤ) → IsGameTree tree → length weights ≡ leaf_count (prefix tree) → sum (map unsigned_abs weights) ≤ most_mass → KeepsLeaves (form_of tree weights)
+keeps_leaves tree weights game many mass =
+    let list = form_has_the_leaf_list no_tables tree weights game many in
+    record {
+      sequences = λ z d there.
+          let each = list.each z (leaf_entry no_tables no_visit) d (omega (arith, list.count)) in
+          record { one = each.below_one; two = each.below_two };
+      count = omega (arith, list.count, leaves_are_few tree, game.limit);
+      mass = omega (arith, form_has_the_mass.of_weights tree weights many);
+    }
+
+-- the sets and the leaves make the form
+pub form_is : (tree : Forest) (weights : List ℤ) (sets : TreeSets) (one two : List InformationSet) (leaves : List Leaf) → sets ≡ tree_sets tree → one ≡ sets.one.sets → two ≡ sets.two.sets → AreLeaves tree weights leaves →
+    form_with one two leaves ≡ form_of tree weights
+form_is tree weights sets one two leaves told is_one is_two are = λ i. record {
+  sets_one = (is_one ∙ ap (λ (s : TreeSets). s.one.sets) told) i;
+  sets_two = (is_two ∙ ap (λ (s : TreeSets). s.two.sets) told) i;
+  leaves = are i;
+}

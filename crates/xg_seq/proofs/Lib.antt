@@ -1,0 +1,4 @@
+pub mod RowLemmas
+pub mod NumberLemmas
+pub mod LeafLemmas
+pub mod FormLemmas

@@ -1,0 +1,34 @@
+-- A player's sets in rows, and the number of the set at which each sequence ends.
+use Rattle.std.specs.Prelude.{◌≡◌, ℕ, ◌+◌, ◌-◌, ◌<◌, ◌≤◌, List, [], ◌∷◌, ◌++◌, length, map, replicate, slice_index_or}
+use Rattle.def_tree.specs.Rules.{most_nodes}
+use Rattle.def_plan.specs.Form.{AreInOrder, InformationSet, PlacedSet, placed, sequence_count}
+use Rattle.xg_seq.specs.declared.table.SetRow.{SetRow}
+
+-- a player has no more sequences than the tree has nodes
+abbrev pub most_sequences : ℕ
+most_sequences = most_nodes
+
+abbrev pub set_of : SetRow → InformationSet
+set_of row = record { before = row.before; actions = row.actions }
+
+abbrev pub place_of : SetRow → PlacedSet
+place_of row = record { first = row.first; before = row.before; actions = row.actions }
+
+-- for each sequence that ends at these sets, in turn, the number of its set, where the first set has the number k
+abbrev pub numbers_of : ℕ → List SetRow → List ℕ
+numbers_of k [] = []
+numbers_of k (row ∷ rows) = replicate row.actions k ++ numbers_of (k + 1) rows
+
+-- the sequence ends at the set of this number: it is one of those that the set's place tells
+pub record EndsAt (sets : List InformationSet) (sequence set : ℕ) : Type 0 where
+  pub from_one : 1 ≤ set
+  pub there : set ≤ length sets
+  pub first : (d : PlacedSet) → (slice_index_or (placed sets) (set - 1) d).first ≤ sequence
+  pub end : (d : PlacedSet) → sequence < (slice_index_or (placed sets) (set - 1) d).first + (slice_index_or (placed sets) (set - 1) d).actions
+
+-- the rows are sets in order, each in its place, and these are the numbers of their sequences' sets
+pub record KeepsSets (rows : List SetRow) (set_numbers : List ℕ) : Type 0 where
+  pub places : map place_of rows ≡ placed (map set_of rows)
+  pub numbers : set_numbers ≡ numbers_of 1 rows
+  pub order : AreInOrder (map set_of rows)
+  pub limit : sequence_count (map set_of rows) ≤ most_sequences

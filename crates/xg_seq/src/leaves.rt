@@ -1,0 +1,57 @@
+ghost use Rattle.std.specs.Prelude.{◌≡◌, ◌-◌, ◌<◌, ◌≤◌, IfOk, length, pos, Some, slice_get, slice_index_or};
+ghost use Rattle.def_sequence_form.specs.Sets.{tree_sets};
+ghost use Rattle.def_tree.specs.Rules.{IsGameTree};
+ghost use Rattle.def_tree.specs.Tree.{is_leaf_kind, leaf_count, prefix};
+ghost use Rattle.xg_seq.specs.Leaves.{AreLeaves};
+
+use crate::leaf::Leaf;
+use def_tree::{Kind, Node, Player};
+use std::alloc::{AllocError, Global};
+use xg_sets::Sets;
+use xg_tree::Tree;
+
+/// The tree's leaves with their weights in turn.
+pub(crate) fn leaves_of(
+    alloc: Global,
+    tree: &Tree,
+    sets: &Sets,
+    weights: &[i64],
+) -> Result<Vec<Leaf>, AllocError>
+    requires sets { sets.now ≡ tree_sets tree.now }
+    requires weights { length weights.now ≡ leaf_count (prefix tree.now) }
+    ensures leaves { IfOk result (λ leaves. AreLeaves tree.now weights.now leaves.items) }
+
+    // What is true of every tree.
+    ensures rules { IsGameTree tree.now }
+{
+    let mut leaves = Vec::new(alloc);
+    for k in 0..tree.len() {
+        if is_leaf(tree.node(k + 1)) {
+            leaves.push(leaf_at(sets, k + 1, weights, leaves.len()))?;
+        }
+    }
+    Ok(leaves)
+}
+
+fn is_leaf(node: Node) -> bool
+    ensures { result ≡ is_leaf_kind node.kind }
+{
+    matches!(node.kind, Kind::Leaf)
+}
+
+// The leaf that is node `k`, with the weight at this place.
+fn leaf_at(sets: &Sets, k: u32, weights: &[i64], place: usize) -> Leaf
+    requires from_one { 1 ≤ k }
+    requires one { k ≤ length sets.now.one.at_nodes }
+    requires two { k ≤ length sets.now.two.at_nodes }
+    requires place { place < length weights.now }
+    ensures one { slice_get sets.now.one.at_nodes (k - 1) ≡ Some result.seq1 }
+    ensures two { slice_get sets.now.two.at_nodes (k - 1) ≡ Some result.seq2 }
+    ensures weight { result.w ≡ slice_index_or weights.now place (pos 0) }
+{
+    Leaf {
+        seq1: sets.sequence_at(Player::One, k),
+        seq2: sets.sequence_at(Player::Two, k),
+        w: weights[place],
+    }
+}

@@ -1,0 +1,15 @@
+#![tactic(auto)]
+//! The sequence form of a game: both players' sets and sequences, and the leaves with their weights, in flat tables.
+
+mod form;
+mod leaf;
+mod leaves;
+mod rows;
+mod table;
+
+pub use def_tree::Player;
+pub use form::SeqForm;
+pub use leaf::Leaf;
+
+#[cfg(test)]
+mod tests;

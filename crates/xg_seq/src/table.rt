@@ -1,0 +1,76 @@
+ghost use Rattle.std.specs.Prelude.{◌≡◌, ◌-◌, ◌<◌, ◌≤◌, length, map, Some, slice_get};
+ghost use Rattle.def_plan.specs.Form.{AreInOrder, placed, sequence_count};
+ghost use Rattle.xg_seq.specs.Table.{EndsAt, KeepsSets, most_sequences, place_of, set_of};
+
+use std::marker::Model;
+
+/// A set: the first sequence that ends at it, the sequence before it, and how many actions it has.
+#[derive(Clone, Copy)]
+pub(crate) struct SetRow {
+    pub(crate) first: u32,
+    pub(crate) before: u32,
+    pub(crate) actions: u32,
+}
+
+/// A player's sets, and the set at which each of the player's sequences ends.
+#[derive(Drop)]
+pub(crate) struct SetTable {
+    rows: Vec<SetRow>,
+    // those of the sequences from 1 on
+    set_numbers: Vec<u32>,
+}
+
+impl Model for SetTable {
+    ghost use Rattle.std.specs.Prelude.{List, map};
+    ghost use Rattle.def_plan.specs.Form.{InformationSet};
+
+    ghost Value = { List InformationSet };
+
+    ghost use Rattle.xg_seq.specs.Table.{KeepsSets, set_of};
+
+    ghost view = { λ t. map set_of t.rows.items };
+
+    ghost invariant = { λ t. KeepsSets t.rows.items t.set_numbers.items };
+}
+
+impl SetTable {
+    // The sets of these rows.
+    pub(crate) fn of(rows: Vec<SetRow>, set_numbers: Vec<u32>) -> SetTable
+        requires { KeepsSets rows.items set_numbers.items }
+        ensures { result ≡ map set_of rows.items }
+    {
+        SetTable { rows, set_numbers }
+    }
+
+    pub(crate) fn set_count(&self) -> u32
+        ensures { result ≡ length self.now }
+    {
+        self.rows.len() as u32
+    }
+
+    pub(crate) fn sequence_count(&self) -> u32
+        ensures count { result ≡ sequence_count self.now }
+
+        // What is true of every table.
+        ensures order { AreInOrder self.now }
+        ensures limit { result ≤ most_sequences }
+    {
+        self.set_numbers.len() as u32 + 1
+    }
+
+    pub(crate) fn row(&self, set: u32) -> SetRow
+        requires from_one { 1 ≤ set }
+        requires there { set ≤ length self.now }
+        ensures { slice_get (placed self.now) (set - 1) ≡ Some (place_of result) }
+    {
+        self.rows[set as usize - 1]
+    }
+
+    pub(crate) fn set_of(&self, sequence: u32) -> u32
+        requires some { 1 ≤ sequence }
+        requires there { sequence < sequence_count self.now }
+        ensures { EndsAt self.now sequence result }
+    {
+        self.set_numbers[sequence as usize - 1]
+    }
+}
