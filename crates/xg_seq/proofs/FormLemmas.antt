@@ -11,7 +11,7 @@ use Rattle.def_sequence_form.specs.Form.{form_of, information_sets, leaf_entry}
 use Rattle.def_sequence_form.specs.Sets.{TreeSets, tree_sets}
 use Rattle.def_sequence_form.proofs.Leaves.{form_has_the_leaf_list, form_has_the_mass}
 use Rattle.def_sequence_form.proofs.Sets.{form_numbers_as_the_tree}
-use Rattle.xg_sets.specs.Stands.{no_visit}
+use Rattle.def_game_paths.specs.Coming.{no_visit}
 use Rattle.xg_seq.specs.declared.leaf.Leaf.{Leaf}
 use Rattle.xg_seq.specs.Leaves.{AreLeaves, KeepsLeaves, form_with}
 use Rattle.xg_seq.specs.Table.{most_sequences}

@@ -14,8 +14,8 @@ use Rattle.def_game_paths.specs.Sequences.{sequence_at}
 use Rattle.def_plan.specs.Form.{Leaf as FormLeaf}
 use Rattle.def_sequence_form.specs.Form.{leaves_with}
 use Rattle.def_sequence_form.proofs.Leaves.{leaves_counted}
-use Rattle.xg_sets.specs.Stands.{no_visit, visit_after}
-use Rattle.xg_sets.proofs.NextLemmas.{IsNext, length-visits, next_node, next_visit}
+use Rattle.def_game_paths.specs.Coming.{no_visit, visit_after}
+use Rattle.def_game_paths.proofs.Coming.{IsNext, length-visits, next_node, next_visit}
 use Rattle.xg_seq.specs.declared.leaf.Leaf.{Leaf as LeafRow}
 use Rattle.xg_seq.specs.Leaves.{leaf_of}
 

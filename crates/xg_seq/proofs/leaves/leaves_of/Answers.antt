@@ -5,7 +5,7 @@ use Rattle.def_game_paths.specs.Sequences.{sequence_at}
 use Rattle.def_tree.specs.declared.Kind.TheVariants.{One, Two}
 use Rattle.def_tree.specs.Tree.{node_count}
 use Rattle.def_sequence_form.specs.Form.{leaves_with}
-use Rattle.xg_sets.proofs.NextLemmas.{length-visits}
+use Rattle.def_game_paths.proofs.Coming.{length-visits}
 use Rattle.xg_seq.specs.declared.leaf.Leaf.{Leaf}
 use Rattle.xg_seq.proofs.LeafLemmas.{AreLeavesBefore, all_leaves, leaves_more, no_leaf_more, weight_there}
 use Rattle.xg_seq.proofs.leaves.leaves_of.Goals as goal
