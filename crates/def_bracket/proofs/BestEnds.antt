@@ -23,13 +23,15 @@ record Orders (Below AtMost : Evaluation → Evaluation → Type 0) (keep : Eval
   weaker : (a b : Evaluation) → Below a b → AtMost a b
   apart : (a b : Evaluation) → Below a b → AtMost b a → ⊥
   chain : (a b c : Evaluation) → 1 ≤ a.divisor → AtMost a b → Below b c → Below a c
-  keeps : (kept next : Evaluation) → ((keep kept next ≡ next) × Below kept next) ⊎ ((keep kept next ≡ kept) × AtMost next kept)
+  keeps : (kept next : Evaluation)
+      → ((keep kept next ≡ next) × Below kept next) ⊎ ((keep kept next ≡ kept) × AtMost next kept)
 
 module _ {Below AtMost : Evaluation → Evaluation → Type 0} {keep : Evaluation → Evaluation → Evaluation} (orders : Orders Below AtMost keep) where
   abbrev First : List Evaluation → Evaluation → Type 0
   First = IsFirstGreatest Below AtMost
 
-  replaced : (es : List Evaluation) (kept next : Evaluation) → HaveDivisors es → First es kept → Below kept next → First (es ++ next ∷ []) next
+  replaced : (es : List Evaluation) (kept next : Evaluation) → HaveDivisors es → First es kept → Below kept next
+      → First (es ++ next ∷ []) next
   replaced es kept next rounds f less =
       let below : All (λ a. Below a next) es = λ k d low. orders.chain (get_or es k d) kept next (rounds k d low) (f.greatest k d low) less in
       record {
@@ -40,7 +42,8 @@ module _ {Below AtMost : Evaluation → Evaluation → Type 0} {keep : Evaluatio
         earliest = subst (All (λ a. Below a next)) (sym (take_at es (next ∷ []) (length es) refl)) below;
       }
 
-  kept_on : (es : List Evaluation) (kept next : Evaluation) → First es kept → AtMost next kept → First (es ++ next ∷ []) kept
+  kept_on : (es : List Evaluation) (kept next : Evaluation) → First es kept → AtMost next kept
+      → First (es ++ next ∷ []) kept
   kept_on es kept next f le = record {
     place = f.place;
     within = omega (arith, length-append es (next ∷ []), f.within);
@@ -49,21 +52,24 @@ module _ {Below AtMost : Evaluation → Evaluation → Type 0} {keep : Evaluatio
     earliest = subst (All (λ a. Below a kept)) (sym (take-append-le f.place es (next ∷ []) (omega (arith, f.within)))) f.earliest;
   }
 
-  one_more : (es : List Evaluation) (kept next : Evaluation) → HaveDivisors es → First es kept → First (es ++ next ∷ []) (keep kept next)
+  one_more : (es : List Evaluation) (kept next : Evaluation) → HaveDivisors es → First es kept
+      → First (es ++ next ∷ []) (keep kept next)
   one_more es kept next rounds f =
       ⊎_elim
       (λ changed. subst (First (es ++ next ∷ [])) (sym changed.0) (replaced es kept next rounds f changed.1))
       (λ stayed. subst (First (es ++ next ∷ [])) (sym stayed.0) (kept_on es kept next f stayed.1))
       (orders.keeps kept next)
 
-  all_more : (es : List Evaluation) (kept : Evaluation) (later : List Evaluation) → HaveDivisors es → HaveDivisors later → First es kept → First (es ++ later) (fold keep kept later)
+  all_more : (es : List Evaluation) (kept : Evaluation) (later : List Evaluation) → HaveDivisors es → HaveDivisors later
+      → First es kept → First (es ++ later) (fold keep kept later)
   all_more es kept [] rounds more f = subst (λ xs. First xs kept) (sym (append-nil es)) f
   all_more es kept (e ∷ later) rounds more f =
       let r : HaveDivisors (es ++ e ∷ []) = All-push (λ a. 1 ≤ a.divisor) es e rounds (All-head (λ a. 1 ≤ a.divisor) e later more) in
       subst (λ xs. First xs (fold keep (keep kept e) later)) (append_assoc es (e ∷ []) later)
       (all_more (es ++ e ∷ []) (keep kept e) later r (All-tail (λ a. 1 ≤ a.divisor) e later more) (one_more es kept e rounds f))
 
-  from_first : (e : Evaluation) (later : List Evaluation) → HaveDivisors (e ∷ later) → First (e ∷ later) (fold keep e later)
+  from_first : (e : Evaluation) (later : List Evaluation) → HaveDivisors (e ∷ later)
+      → First (e ∷ later) (fold keep e later)
   from_first e later rounds =
       let alone : First (e ∷ []) e = record { place = 0; within = omega arith; stands = λ d. refl; greatest = All-cons (λ a. AtMost a e) e [] (orders.same e) (All-nil (λ a. AtMost a e)); earliest = All-nil (λ a. Below a e) } in
       all_more (e ∷ []) e later (All-cons (λ a. 1 ≤ a.divisor) e [] (All-head (λ a. 1 ≤ a.divisor) e later rounds) (All-nil (λ a. 1 ≤ a.divisor))) (All-tail (λ a. 1 ≤ a.divisor) e later rounds) alone
@@ -105,11 +111,13 @@ ceilings = record {
       (int_lt_tells (next.high *ℤ pos kept.divisor) (kept.high *ℤ pos next.divisor));
 }
 
-pub fold-lower : (ends : BracketEnds) (es : List Evaluation) → (fold next_ends ends es).lower ≡ fold higher_floor ends.lower es
+pub fold-lower : (ends : BracketEnds) (es : List Evaluation)
+    → (fold next_ends ends es).lower ≡ fold higher_floor ends.lower es
 fold-lower ends [] = refl
 fold-lower ends (e ∷ es) = fold-lower (next_ends ends e) es
 
-pub fold-upper : (ends : BracketEnds) (es : List Evaluation) → (fold next_ends ends es).upper ≡ fold lower_ceiling ends.upper es
+pub fold-upper : (ends : BracketEnds) (es : List Evaluation)
+    → (fold next_ends ends es).upper ≡ fold lower_ceiling ends.upper es
 fold-upper ends [] = refl
 fold-upper ends (e ∷ es) = fold-upper (next_ends ends e) es
 
@@ -122,14 +130,16 @@ pub ends-are : (a b : BracketEnds) → Some a ≡ Some b → a ≡ b
 unfolding value
 ends-are a b e = ap (λ o. value o a) e
 
-lower_end : (es : List Evaluation) (ends : BracketEnds) → HaveDivisors es → ends_of es ≡ Some ends → IsLowerEnd es ends.lower
+lower_end : (es : List Evaluation) (ends : BracketEnds) → HaveDivisors es → ends_of es ≡ Some ends
+    → IsLowerEnd es ends.lower
 lower_end [] ends rounds e = absurd (none-some ends e)
 lower_end (a ∷ rest) ends rounds e =
     let f = from_first floors a rest rounds in
     let is : fold higher_floor a rest ≡ ends.lower = sym (fold-lower (first_ends a) rest) ∙ ap (λ x. x.lower) (ends-are (fold next_ends (first_ends a) rest) ends e) in
     subst (IsLowerEnd (a ∷ rest)) is (record { place = f.place; within = f.within; stands = f.stands; greatest = f.greatest; earliest = f.earliest })
 
-upper_end : (es : List Evaluation) (ends : BracketEnds) → HaveDivisors es → ends_of es ≡ Some ends → IsUpperEnd es ends.upper
+upper_end : (es : List Evaluation) (ends : BracketEnds) → HaveDivisors es → ends_of es ≡ Some ends
+    → IsUpperEnd es ends.upper
 upper_end [] ends rounds e = absurd (none-some ends e)
 upper_end (a ∷ rest) ends rounds e =
     let f = from_first ceilings a rest rounds in
@@ -139,7 +149,8 @@ upper_end (a ∷ rest) ends rounds e =
 as_lower : {es : List Evaluation} {e : Evaluation} → IsLowerEnd es e → IsFirstGreatest HasLowerFloor HasFloorAtMost es e
 as_lower f = record { place = f.place; within = f.within; stands = f.stands; greatest = f.greatest; earliest = f.earliest }
 
-as_upper : {es : List Evaluation} {e : Evaluation} → IsUpperEnd es e → IsFirstGreatest (λ a e. HasLowerCeiling e a) (λ a e. HasCeilingAtMost e a) es e
+as_upper : {es : List Evaluation} {e : Evaluation} → IsUpperEnd es e
+    → IsFirstGreatest (λ a e. HasLowerCeiling e a) (λ a e. HasCeilingAtMost e a) es e
 as_upper f = record { place = f.place; within = f.within; stands = f.stands; greatest = f.least; earliest = f.earliest }
 
 -- each end is the first evaluation with the best bound on its side, and only that one

@@ -28,7 +28,8 @@ swap : (x : ℤ) (m n : ℕ) → (x *ℤ pos m) *ℤ pos n ≡ (x *ℤ pos n) *�
 swap x m n = *ℤ_assoc x (pos m) (pos n) ∙ ap (λ k. x *ℤ pos k) (omega arith) ∙ sym (*ℤ_assoc x (pos n) (pos m))
 
 -- a / m at most b / n, and that at most c / o
-pub at_most-trans : (a b c : ℤ) (m n o : ℕ) → 1 ≤ n → (a *ℤ pos n) ≤ℤ (b *ℤ pos m) → (b *ℤ pos o) ≤ℤ (c *ℤ pos n) → (a *ℤ pos o) ≤ℤ (c *ℤ pos m)
+pub at_most-trans : (a b c : ℤ) (m n o : ℕ) → 1 ≤ n → (a *ℤ pos n) ≤ℤ (b *ℤ pos m) → (b *ℤ pos o) ≤ℤ (c *ℤ pos n)
+    → (a *ℤ pos o) ≤ℤ (c *ℤ pos m)
 at_most-trans a b c m n o some h k =
     let first : ((a *ℤ pos o) *ℤ pos n) ≤ℤ ((b *ℤ pos o) *ℤ pos m) =
     subst (λ z. z ≤ℤ ((b *ℤ pos o) *ℤ pos m)) (swap a n o) (subst (λ z. ((a *ℤ pos n) *ℤ pos o) ≤ℤ z) (swap b m o) (*ℤ-mono_right o (a *ℤ pos n) (b *ℤ pos m) h))
@@ -39,15 +40,18 @@ at_most-trans a b c m n o some h k =
     *ℤ-cancel_right n (a *ℤ pos o) (c *ℤ pos m) some (≤ℤ_trans _ _ _ first second)
 
 -- the same where the second step, or the first, is strict
-pub at_most-less : (a b c : ℤ) (m n o : ℕ) → 1 ≤ m → (a *ℤ pos n) ≤ℤ (b *ℤ pos m) → (b *ℤ pos o) <ℤ (c *ℤ pos n) → (a *ℤ pos o) <ℤ (c *ℤ pos m)
+pub at_most-less : (a b c : ℤ) (m n o : ℕ) → 1 ≤ m → (a *ℤ pos n) ≤ℤ (b *ℤ pos m) → (b *ℤ pos o) <ℤ (c *ℤ pos n)
+    → (a *ℤ pos o) <ℤ (c *ℤ pos m)
 at_most-less a b c m n o some h k =
     by_lt_z (a *ℤ pos o) (c *ℤ pos m) (λ less. less) (λ le. absurd (not_less (b *ℤ pos o) (c *ℤ pos n) k (at_most-trans c a b o m n some le h)))
 
 -- a / m below b / n, and that at most c / o, so a / m is below c / o
-pub less-at_most : (a b c : ℤ) (m n o : ℕ) → 1 ≤ o → (a *ℤ pos n) <ℤ (b *ℤ pos m) → (b *ℤ pos o) ≤ℤ (c *ℤ pos n) → (a *ℤ pos o) <ℤ (c *ℤ pos m)
+pub less-at_most : (a b c : ℤ) (m n o : ℕ) → 1 ≤ o → (a *ℤ pos n) <ℤ (b *ℤ pos m) → (b *ℤ pos o) ≤ℤ (c *ℤ pos n)
+    → (a *ℤ pos o) <ℤ (c *ℤ pos m)
 less-at_most a b c m n o some h k =
     by_lt_z (a *ℤ pos o) (c *ℤ pos m) (λ less. less) (λ le. absurd (not_less (a *ℤ pos n) (b *ℤ pos m) h (at_most-trans b c a n o m some k le)))
 
 -- a bound of size up to 2 ^ 98 times a round within the limit stays below 2 ^ 115
-pub product-below : (bound : ℤ) (round : ℕ) → unsigned_abs bound ≤ 2 ^ 98 → round ≤ most_rounds → unsigned_abs (bound *ℤ pos round) < 2 ^ 115
+pub product-below : (bound : ℤ) (round : ℕ) → unsigned_abs bound ≤ 2 ^ 98 → round ≤ most_rounds
+    → unsigned_abs (bound *ℤ pos round) < 2 ^ 115
 product-below bound round h k = omega (arith, unsigned_abs-mul bound (pos round), mul-le-mul h k)

@@ -22,18 +22,21 @@ true_either : (a b : Bool) → (a ≡ true) ⊎ (b ≡ true) → (a || b) ≡ tr
 true_either true b h = refl
 true_either false b h = ⊎_elim (λ e. absurd (false≢true e)) (λ e. e) h
 
-put : (p : ℕ → Bool) (x y : ℕ) (xs : List ℕ) → (b : Bool) → (y ≡ x → b ≡ true) → (y ≡ x) ⊎ Contains (filter p xs) x → Contains (cond b (y ∷ filter p xs) (filter p xs)) x
+put : (p : ℕ → Bool) (x y : ℕ) (xs : List ℕ) → (b : Bool) → (y ≡ x → b ≡ true) → (y ≡ x) ⊎ Contains (filter p xs) x
+    → Contains (cond b (y ∷ filter p xs) (filter p xs)) x
 put p x y xs true h (inl e) = (0, omega arith, e)
 put p x y xs true h (inr c) = (suc c.0, omega (arith, c.1), c.2)
 put p x y xs false h (inl e) = absurd (false≢true (h e))
 put p x y xs false h (inr c) = c
 
-contains_filter : (p : ℕ → Bool) (x : ℕ) (xs : List ℕ) (k : ℕ) → k < length xs → get_or xs k x ≡ x → p x ≡ true → Contains (filter p xs) x
+contains_filter : (p : ℕ → Bool) (x : ℕ) (xs : List ℕ) (k : ℕ) → k < length xs → get_or xs k x ≡ x → p x ≡ true
+    → Contains (filter p xs) x
 contains_filter p x [] k low e t = absurd (omega arith)
 contains_filter p x (y ∷ xs) zero low e t = put p x y xs (p y) (λ q. ap p q ∙ t) (inl e)
 contains_filter p x (y ∷ xs) (suc k) low e t = put p x y xs (p y) (λ q. ap p q ∙ t) (inr (contains_filter p x xs k (omega arith) e t))
 
-which : (every last k : ℕ) → Contains (evaluated_rounds every last) k ↔ ((1 ≤ k) × (k ≤ last) × ((k % every ≡ 0) ⊎ (k ≡ last)))
+which : (every last k : ℕ)
+    → Contains (evaluated_rounds every last) k ↔ ((1 ≤ k) × (k ≤ last) × ((k % every ≡ 0) ⊎ (k ≡ last)))
 which every last k = (
   λ c.
       let p = is_evaluated every last in
@@ -75,7 +78,8 @@ there x xs k c = (suc c.0, omega (arith, c.1), c.2)
 none_in : (k : ℕ) → Contains [] k → ⊥
 none_in k c = omega (arith, c.1)
 
-same_elements : (xs ys : List ℕ) → AllPairs (λ a b. a < b) xs → AllPairs (λ a b. a < b) ys → ((k : ℕ) → Contains xs k → Contains ys k) → ((k : ℕ) → Contains ys k → Contains xs k) → xs ≡ ys
+same_elements : (xs ys : List ℕ) → AllPairs (λ a b. a < b) xs → AllPairs (λ a b. a < b) ys
+    → ((k : ℕ) → Contains xs k → Contains ys k) → ((k : ℕ) → Contains ys k → Contains xs k) → xs ≡ ys
 same_elements [] [] up up' to from = refl
 same_elements [] (y ∷ ys) up up' to from = absurd (none_in y (from y (here y ys)))
 same_elements (x ∷ xs) [] up up' to from = absurd (none_in x (to x (here x xs)))
@@ -99,13 +103,15 @@ round_at every last i = min (i * every) last
 abbrev pub how_many : ℕ → ℕ → ℕ
 how_many every last = (last + every - 1) / every
 
-enough : (every last : ℕ) → 1 ≤ every → (last ≤ how_many every last * every) × (how_many every last * every ≤ last + every - 1)
+enough : (every last : ℕ) → 1 ≤ every
+    → (last ≤ how_many every last * every) × (how_many every last * every ≤ last + every - 1)
 enough every last some = omega arith
 
 not_last : (every last i : ℕ) → 1 ≤ every → i + 1 ≤ how_many every last → i * every < last
 not_last every last i some more = omega (arith, enough every last some, mul-le-mul_right every more)
 
-listed : (every last k : ℕ) → 1 ≤ every → Contains (map (round_at every last) (range_with_len 1 (how_many every last))) k
+listed : (every last k : ℕ) → 1 ≤ every
+    → Contains (map (round_at every last) (range_with_len 1 (how_many every last))) k
     → (1 ≤ k) × (k ≤ last) × ((k % every ≡ 0) ⊎ (k ≡ last))
 listed every last k some c =
     let p : ℕ = c.0 in
@@ -138,7 +144,8 @@ reached every last k some h =
         let some_time : 1 ≤ how_many every last = ⊎_elim (λ less. let none : how_many every last ≡ 0 = omega arith in absurd (omega (arith, h.0, enough every last some, ap (λ n. n * every) none))) (λ le. le) (cases_lt (how_many every last) 1) in
         at (how_many every last) some_time (omega arith) (omega (arith, enough every last some))
 
-listed_up : (every last : ℕ) → 1 ≤ every → IsStrictlyIncreasing (map (round_at every last) (range_with_len 1 (how_many every last)))
+listed_up : (every last : ℕ) → 1 ≤ every
+    → IsStrictlyIncreasing (map (round_at every last) (range_with_len 1 (how_many every last)))
 listed_up every last some p low =
     let long = length-map-range_with_len (round_at every last) 1 (how_many every last) in
     let here = get_or-map-range_with_len (round_at every last) 1 (how_many every last) p (1 + p) 0 (omega arith) refl in
@@ -149,7 +156,8 @@ listed_up every last some p low =
 in_order : (every last : ℕ) → IsStrictlyIncreasing (evaluated_rounds every last)
 in_order every last = IsStrictlyIncreasing-filter (is_evaluated every last) (range_with_len 1 last) (rising 1 last)
 
-one_by_one : (every last : ℕ) → 1 ≤ every → evaluated_rounds every last ≡ map (round_at every last) (range_with_len 1 (how_many every last))
+one_by_one : (every last : ℕ) → 1 ≤ every
+    → evaluated_rounds every last ≡ map (round_at every last) (range_with_len 1 (how_many every last))
 one_by_one every last some =
     same_elements (evaluated_rounds every last) (map (round_at every last) (range_with_len 1 (how_many every last)))
     (AllPairs-from_increasing (evaluated_rounds every last) (in_order every last))

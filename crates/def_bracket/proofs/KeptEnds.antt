@@ -21,7 +21,8 @@ record IsBoardOf (offers : List Offer) (ends : BracketEnds) (lines : List TraceL
   upper_from : ComesFrom upper_of offers ends.upper upper
 
 -- a place among offers stays when one more comes
-still : (kept_of : Offer → KeptEnd) (offers : List Offer) (next : Offer) (e : Evaluation) (kept : KeptEnd) → ComesFrom kept_of offers e kept → ComesFrom kept_of (offers ++ next ∷ []) e kept
+still : (kept_of : Offer → KeptEnd) (offers : List Offer) (next : Offer) (e : Evaluation) (kept : KeptEnd)
+    → ComesFrom kept_of offers e kept → ComesFrom kept_of (offers ++ next ∷ []) e kept
 still kept_of offers next e kept from = record {
   place = from.place;
   within = omega (arith, length-append offers (next ∷ []), from.within);
@@ -29,7 +30,8 @@ still kept_of offers next e kept from = record {
   is_evaluated = λ d. ap evaluation_of_offer (get_or_append_left offers (next ∷ []) d from.place from.within) ∙ from.is_evaluated d;
 }
 
-newest : (kept_of : Offer → KeptEnd) (offers : List Offer) (next : Offer) → ComesFrom kept_of (offers ++ next ∷ []) (evaluation_of_offer next) (kept_of next)
+newest : (kept_of : Offer → KeptEnd) (offers : List Offer) (next : Offer)
+    → ComesFrom kept_of (offers ++ next ∷ []) (evaluation_of_offer next) (kept_of next)
 newest kept_of offers next = record {
   place = length offers;
   within = omega (arith, length-append offers (next ∷ []));
@@ -37,20 +39,23 @@ newest kept_of offers next = record {
   is_evaluated = λ d. ap evaluation_of_offer (get_or_at offers next [] d (length offers) refl);
 }
 
-chosen_by : (kept_of : Offer → KeptEnd) (offers : List Offer) (next : Offer) (e : Evaluation) (kept : KeptEnd) (changes : Bool) → ComesFrom kept_of offers e kept
+chosen_by : (kept_of : Offer → KeptEnd) (offers : List Offer) (next : Offer) (e : Evaluation) (kept : KeptEnd) (changes : Bool)
+    → ComesFrom kept_of offers e kept
     → ComesFrom kept_of (offers ++ next ∷ []) (cond changes (evaluation_of_offer next) e) (cond changes (kept_of next) kept)
 chosen_by kept_of offers next e kept true from = newest kept_of offers next
 chosen_by kept_of offers next e kept false from = still kept_of offers next e kept from
 
 -- what an end shows of its evaluation
-lower_shows : (offers : List Offer) (d : Offer) (e : Evaluation) (kept : KeptEnd) → ComesFrom lower_of offers e kept → (kept.round ≡ e.round) × (kept.divisor ≡ e.divisor) × (kept.reply.total ≡ e.low)
+lower_shows : (offers : List Offer) (d : Offer) (e : Evaluation) (kept : KeptEnd) → ComesFrom lower_of offers e kept
+    → (kept.round ≡ e.round) × (kept.divisor ≡ e.divisor) × (kept.reply.total ≡ e.low)
 lower_shows offers d e kept from = (
   sym (ap (λ (k : KeptEnd). k.round) (from.is_kept d)) ∙ ap (λ (v : Evaluation). v.round) (from.is_evaluated d),
   sym (ap (λ (k : KeptEnd). k.divisor) (from.is_kept d)) ∙ ap (λ (v : Evaluation). v.divisor) (from.is_evaluated d),
   sym (ap (λ (k : KeptEnd). k.reply.total) (from.is_kept d)) ∙ ap (λ (v : Evaluation). v.low) (from.is_evaluated d),
 )
 
-upper_shows : (offers : List Offer) (d : Offer) (e : Evaluation) (kept : KeptEnd) → ComesFrom upper_of offers e kept → (kept.round ≡ e.round) × (kept.divisor ≡ e.divisor) × (kept.reply.total ≡ e.high)
+upper_shows : (offers : List Offer) (d : Offer) (e : Evaluation) (kept : KeptEnd) → ComesFrom upper_of offers e kept
+    → (kept.round ≡ e.round) × (kept.divisor ≡ e.divisor) × (kept.reply.total ≡ e.high)
 upper_shows offers d e kept from = (
   sym (ap (λ (k : KeptEnd). k.round) (from.is_kept d)) ∙ ap (λ (v : Evaluation). v.round) (from.is_evaluated d),
   sym (ap (λ (k : KeptEnd). k.divisor) (from.is_kept d)) ∙ ap (λ (v : Evaluation). v.divisor) (from.is_evaluated d),
@@ -60,7 +65,8 @@ upper_shows offers d e kept from = (
 line_of : ℕ → KeptEnd → KeptEnd → TraceLine
 line_of round lower upper = record { round = round; low_round = lower.round; low = lower.reply.total; high_round = upper.round; high = upper.reply.total }
 
-same_line : (offers : List Offer) (d : Offer) (round : ℕ) (ends : BracketEnds) (lower upper : KeptEnd) → ComesFrom lower_of offers ends.lower lower → ComesFrom upper_of offers ends.upper upper
+same_line : (offers : List Offer) (d : Offer) (round : ℕ) (ends : BracketEnds) (lower upper : KeptEnd)
+    → ComesFrom lower_of offers ends.lower lower → ComesFrom upper_of offers ends.upper upper
     → line_of round lower upper ≡ trace_line round ends
 unfolding line_of
 same_line offers d round ends lower upper from_lower from_upper =
@@ -72,7 +78,8 @@ same_line offers d round ends lower upper from_lower from_upper =
     ∙ ap (λ t. record { round = round; low_round = ends.lower.round; low = ends.lower.low; high_round = ends.upper.round; high = t }) u.2
 
 -- one more offer
-one_more : (offers : List Offer) (next : Offer) (ends : BracketEnds) (lines : List TraceLine) (board : Board) → IsBoardOf offers ends lines board
+one_more : (offers : List Offer) (next : Offer) (ends : BracketEnds) (lines : List TraceLine) (board : Board)
+    → IsBoardOf offers ends lines board
     → IsBoardOf (offers ++ next ∷ []) (next_ends ends (evaluation_of_offer next)) (lines ++ trace_line next.round (next_ends ends (evaluation_of_offer next)) ∷ []) (offered board next)
 unfolding line_of
 one_more offers next ends lines board b =
@@ -102,7 +109,8 @@ one_more offers next ends lines board b =
       upper_from = from_upper;
     }
 
-all_more : (offers : List Offer) (later : List Offer) (ends : BracketEnds) (lines : List TraceLine) (board : Board) → IsBoardOf offers ends lines board
+all_more : (offers : List Offer) (later : List Offer) (ends : BracketEnds) (lines : List TraceLine) (board : Board)
+    → IsBoardOf offers ends lines board
     → IsBoardOf (offers ++ later) (fold next_ends ends (map evaluation_of_offer later)) (lines ++ trace_after ends (map evaluation_of_offer later)) (fold offered board later)
 all_more offers [] ends lines board b =
     subst (λ xs. IsBoardOf xs ends (lines ++ []) board) (sym (append-nil offers)) (subst (λ ls. IsBoardOf offers ends ls board) (sym (append-nil lines)) b)

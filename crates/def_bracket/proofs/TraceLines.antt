@@ -17,11 +17,13 @@ count : (es : List Evaluation) → length (trace es) ≡ length es
 count [] = refl
 count (e ∷ es) = ap suc (count_after (first_ends e) es)
 
-on_ends : (ends : BracketEnds) (es : List Evaluation) (e : Evaluation) → fold next_ends ends (es ++ e ∷ []) ≡ next_ends (fold next_ends ends es) e
+on_ends : (ends : BracketEnds) (es : List Evaluation) (e : Evaluation)
+    → fold next_ends ends (es ++ e ∷ []) ≡ next_ends (fold next_ends ends es) e
 on_ends ends [] e = refl
 on_ends ends (a ∷ es) e = on_ends (next_ends ends a) es e
 
-on_trace : (ends : BracketEnds) (es : List Evaluation) (e : Evaluation) → trace_after ends (es ++ e ∷ []) ≡ trace_after ends es ++ trace_line e.round (next_ends (fold next_ends ends es) e) ∷ []
+on_trace : (ends : BracketEnds) (es : List Evaluation) (e : Evaluation)
+    → trace_after ends (es ++ e ∷ []) ≡ trace_after ends es ++ trace_line e.round (next_ends (fold next_ends ends es) e) ∷ []
 on_trace ends [] e = refl
 on_trace ends (a ∷ es) e = ap (λ ls. trace_line a.round (next_ends ends a) ∷ ls) (on_trace (next_ends ends a) es e)
 
@@ -46,7 +48,8 @@ each_line : (e : Evaluation) (es : List Evaluation) (k : ℕ) (line : TraceLine)
 each_line e es zero line d low = refl
 each_line e es (suc k) line d low = each_after (first_ends e) es k line d (omega arith)
 
-each : (es : List Evaluation) (k : ℕ) (ends : BracketEnds) (line : TraceLine) (d : Evaluation) → k < length es → ends_of (take (k + 1) es) ≡ Some ends
+each : (es : List Evaluation) (k : ℕ) (ends : BracketEnds) (line : TraceLine) (d : Evaluation) → k < length es
+    → ends_of (take (k + 1) es) ≡ Some ends
     → get_or (trace es) k line ≡ trace_line (get_or es k d).round ends
 each [] k ends line d low is = absurd (omega arith)
 each (e ∷ es) k ends line d low is =
@@ -82,7 +85,8 @@ record AreByRounds (ends : BracketEnds) : Type 0 where
   lower : ends.lower.divisor ≡ ends.lower.round
   upper : ends.upper.divisor ≡ ends.upper.round
 
-by_rounds : (es : List Evaluation) (k : ℕ) (ends : BracketEnds) → DivideByRounds es → ends_of (take k es) ≡ Some ends → AreByRounds ends
+by_rounds : (es : List Evaluation) (k : ℕ) (ends : BracketEnds) → DivideByRounds es → ends_of (take k es) ≡ Some ends
+    → AreByRounds ends
 by_rounds es k ends rounds at_k =
     let some : HaveDivisors (take k es) = All-take (λ e. 1 ≤ e.divisor) k es (λ i d low. let r = rounds i d low in omega (arith, r.0, r.1)) in
     let all = All-take (λ e. (1 ≤ e.round) × (e.divisor ≡ e.round)) k es rounds in
@@ -120,7 +124,8 @@ record AreUpTo (round : ℕ) (ends : BracketEnds) : Type 0 where
   upper_some : 1 ≤ ends.upper.round
   upper_until : ends.upper.round ≤ round
 
-next_up_to : (round : ℕ) (ends : BracketEnds) (e : Evaluation) → AreUpTo round ends → round ≤ e.round → 1 ≤ e.round → AreUpTo e.round (next_ends ends e)
+next_up_to : (round : ℕ) (ends : BracketEnds) (e : Evaluation) → AreUpTo round ends → round ≤ e.round → 1 ≤ e.round
+    → AreUpTo e.round (next_ends ends e)
 next_up_to round ends e up le some = by_tests
     (int_lt (ends.lower.low *ℤ pos e.divisor) (e.low *ℤ pos ends.lower.divisor)) (int_lt (e.high *ℤ pos ends.upper.divisor) (ends.upper.high *ℤ pos e.divisor))
   where
@@ -138,7 +143,8 @@ rises_later n ns rise k low =
     let same : suc k + 1 ≡ suc (k + 1) = omega arith in
     subst (λ m. slice_index ns k < slice_index (n ∷ ns) m) same (rise (suc k) (omega arith))
 
-all_look_back : (round : ℕ) (ends : BracketEnds) (es : List Evaluation) → AreUpTo round ends → All (λ e. 1 ≤ e.round) es → IsStrictlyIncreasing (round ∷ map (λ e. e.round) es)
+all_look_back : (round : ℕ) (ends : BracketEnds) (es : List Evaluation) → AreUpTo round ends → All (λ e. 1 ≤ e.round) es
+    → IsStrictlyIncreasing (round ∷ map (λ e. e.round) es)
     → All LooksBack (trace_after ends es)
 all_look_back round ends [] up some rise = All-nil LooksBack
 all_look_back round ends (e ∷ es) up some rise =

@@ -28,7 +28,8 @@ pub record KeepsTheEnds (offers : List Offer) (ends : BracketEnds) : Type 0 wher
   pub upper_from : ComesFrom upper_of offers ends.upper upper
 
 abbrev pub OffersKeepTheEnds : Type 0
-OffersKeepTheEnds = (offers : List Offer) (ends : BracketEnds) → ends_of (map evaluation_of_offer offers) ≡ Some ends → KeepsTheEnds offers ends
+OffersKeepTheEnds = (offers : List Offer) (ends : BracketEnds) → ends_of (map evaluation_of_offer offers) ≡ Some ends
+    → KeepsTheEnds offers ends
 
 -- before the first offer there is no end, and after it there are both
 pub record FirstOfferMakesEnds : Type 0 where
@@ -43,7 +44,8 @@ pub record HasBounds (form : SequenceForm) (offer : Offer) : Type 0 where
   pub ceiling_attained : AttainsCeiling form offer.plan_two offer.against_two.total (pure_plan form.sets_one (choices_of offer.against_two.sets))
 
 abbrev pub FairOffersHaveBounds : Type 0
-FairOffersHaveBounds = (form : SequenceForm) (last : ℕ) (offer : Offer) → AreInOrder form.sets_one → AreInOrder form.sets_two
+FairOffersHaveBounds = (form : SequenceForm) (last : ℕ) (offer : Offer) → AreInOrder form.sets_one
+    → AreInOrder form.sets_two
     → IsFair form last offer → HasBounds form offer
 
 -- and so have the ends that are kept of fair offers
@@ -54,6 +56,7 @@ pub record AreBoundsOf (form : SequenceForm) (lower upper : KeptEnd) : Type 0 wh
   pub ceiling_attained : AttainsCeiling form upper.plan upper.reply.total (pure_plan form.sets_one (choices_of upper.reply.sets))
 
 abbrev pub KeptEndsAreBounds : Type 0
-KeptEndsAreBounds = (form : SequenceForm) (offers : List Offer) (lower upper : KeptEnd) → AreInOrder form.sets_one → AreInOrder form.sets_two
+KeptEndsAreBounds = (form : SequenceForm) (offers : List Offer) (lower upper : KeptEnd) → AreInOrder form.sets_one
+    → AreInOrder form.sets_two
     → All (IsFair form 0) offers → (board_after offers).lower ≡ Some lower → (board_after offers).upper ≡ Some upper
     → AreBoundsOf form lower upper

@@ -30,7 +30,8 @@ use Rattle.def_cert_accepted.proofs.OfRun.{own_head, own_head-is, same_head, bou
 abbrev total_actions : List InformationSet → ℕ
 total_actions hs = nat_sum_over (λ (h : InformationSet). h.actions) hs
 
-sizes_by_sets : (hs : List InformationSet) (xs : List ℕ) → total_actions hs ≤ length xs → AllZip (λ h ws. length ws ≡ h.actions) hs (by_sets hs xs)
+sizes_by_sets : (hs : List InformationSet) (xs : List ℕ) → total_actions hs ≤ length xs
+    → AllZip (λ h ws. length ws ≡ h.actions) hs (by_sets hs xs)
 sizes_by_sets [] xs low = tt
 sizes_by_sets (h ∷ hs) xs low = (omega (arith, length-take h.actions xs), sizes_by_sets hs (drop h.actions xs) (omega (arith, length-drop h.actions xs)))
 
@@ -41,11 +42,13 @@ joined_by_sets (h ∷ hs) xs e =
     ap (λ (ys : List ℕ). take h.actions xs ++ ys) (joined_by_sets hs (drop h.actions xs) (omega (arith, length-drop h.actions xs))) ∙ take-append-drop h.actions xs
 
 -- what is printed of a plan has its numbers
-pub numbers_back : (sets : List InformationSet) (plan : List ℕ) → length plan ≡ 1 + total_actions sets → printed_numbers (printed_plan sets plan) ≡ plan
+pub numbers_back : (sets : List InformationSet) (plan : List ℕ) → length plan ≡ 1 + total_actions sets
+    → printed_numbers (printed_plan sets plan) ≡ plan
 numbers_back sets [] e = absurd (omega arith)
 numbers_back sets (x ∷ xs) e = ap (λ (ys : List ℕ). x ∷ ys) (joined_by_sets sets xs (omega arith))
 
-plan_holds : (sets : List InformationSet) (root : ℕ) (plan : List ℕ) → IsPlan sets root plan → HoldsAsPlan sets root (printed_plan sets plan)
+plan_holds : (sets : List InformationSet) (root : ℕ) (plan : List ℕ) → IsPlan sets root plan
+    → HoldsAsPlan sets root (printed_plan sets plan)
 plan_holds sets root plan h =
     let back = numbers_back sets plan h.all_sequences in
     record {
@@ -55,7 +58,8 @@ plan_holds sets root plan h =
     }
 
 -- ---- replies
-reply_holds : (game : WeighedGame) (player : Player) (plan : List ℕ) (printed : PrintedPlan) (traced : ℤ) → AreInOrder (player_sets game.form player) → printed_numbers printed ≡ plan
+reply_holds : (game : WeighedGame) (player : Player) (plan : List ℕ) (printed : PrintedPlan) (traced : ℤ)
+    → AreInOrder (player_sets game.form player) → printed_numbers printed ≡ plan
     → printed.root ≡ slice_index plan 0 → total_against game.form player plan ≡ traced
     → HoldsAsReply player (leaf_sum player game.form.leaves (printed_numbers printed)) (player_sets game.form player) (best_reply_to game.form player plan) traced
     (fraction_of (total_against game.form player plan) (game.unit * slice_index plan 0)) (game.unit * printed.root)
@@ -76,7 +80,8 @@ some_evaluation : (es : List Evaluation) (ends : BracketEnds) → ends_of es ≡
 some_evaluation [] ends are = absurd (none-some ends are)
 some_evaluation (e ∷ es) ends are = omega arith
 
-last_is : (es : List Evaluation) (ends : BracketEnds) → ends_of es ≡ Some ends → (r : ℕ) × (last_line (trace es) ≡ trace_line r ends)
+last_is : (es : List Evaluation) (ends : BracketEnds) → ends_of es ≡ Some ends
+    → (r : ℕ) × (last_line (trace es) ≡ trace_line r ends)
 last_is es ends are =
     let k : ℕ = length es - 1 in
     let some = some_evaluation es ends are in
@@ -86,8 +91,10 @@ last_is es ends are =
     ((get_or es k none).round, same ∙ trace_lines.each es k ends no_line none (omega arith) (ap ends_of all ∙ are))
 
 -- ---- all of it
-holds : (game : WeighedGame) (last every scale : ℕ) (ends : BracketEnds) → AreInOrder game.form.sets_one → AreInOrder game.form.sets_two → 1 ≤ scale
-    → ends_of (evaluations game.form scale every last) ≡ Some ends → HoldsUp game scale (bounds_of_run game last every scale ends)
+holds : (game : WeighedGame) (last every scale : ℕ) (ends : BracketEnds) → AreInOrder game.form.sets_one
+    → AreInOrder game.form.sets_two → 1 ≤ scale
+    → ends_of (evaluations game.form scale every last) ≡ Some ends
+    → HoldsUp game scale (bounds_of_run game last every scale ends)
 holds game last every scale ends order_one order_two some_scale are =
     let form = game.form in
     let es : List Evaluation = evaluations form scale every last in
@@ -111,7 +118,8 @@ holds game last every scale ends order_one order_two some_scale are =
     }
 
 -- the printed bounds are the ends in payoff units
-in_units : (game : WeighedGame) (last every scale : ℕ) (ends : BracketEnds) → AreInOrder game.form.sets_one → AreInOrder game.form.sets_two → 1 ≤ scale
+in_units : (game : WeighedGame) (last every scale : ℕ) (ends : BracketEnds) → AreInOrder game.form.sets_one
+    → AreInOrder game.form.sets_two → 1 ≤ scale
     → ends_of (evaluations game.form scale every last) ≡ Some ends
     → let b = bounds_of_run game last every scale ends in
     (fraction_of ends.lower.low (game.unit * (ends.lower.round * scale)) ≡ b.low) × (fraction_of ends.upper.high (game.unit * (ends.upper.round * scale)) ≡ b.high)
@@ -126,7 +134,8 @@ in_units game last every scale ends order_one order_two some_scale are =
           ∙ ap (λ (r : ℕ). fraction_of (evaluation form scale ends.upper.round).high (game.unit * r)) (sym high.plan_two.root_weight),
     )
 
-some_round : (game : WeighedGame) (last every scale : ℕ) (ends : BracketEnds) → AreInOrder game.form.sets_one → AreInOrder game.form.sets_two → 1 ≤ scale
+some_round : (game : WeighedGame) (last every scale : ℕ) (ends : BracketEnds) → AreInOrder game.form.sets_one
+    → AreInOrder game.form.sets_two → 1 ≤ scale
     → ends_of (evaluations game.form scale every last) ≡ Some ends
     → verdict game (certificate_of game.form (outcome game.form (own_head game last every scale)))
     ≡ Ok (bracket (fraction_of ends.lower.low (game.unit * (ends.lower.round * scale))) (fraction_of ends.upper.high (game.unit * (ends.upper.round * scale))))
@@ -138,7 +147,8 @@ some_round game last every scale ends order_one order_two some_scale are =
     ∙ (exact.with_bracket game head b (fraction_of ends.lower.low (game.unit * (ends.lower.round * scale))) (fraction_of ends.upper.high (game.unit * (ends.upper.round * scale)))).1
     (own_head-is game last every scale, holds game last every scale ends order_one order_two some_scale are, units.0, units.1)
 
-no_round : (game : WeighedGame) (last every scale : ℕ) → last ≡ 0 → verdict game (certificate_of game.form (outcome game.form (own_head game last every scale))) ≡ Ok head_only
+no_round : (game : WeighedGame) (last every scale : ℕ) → last ≡ 0
+    → verdict game (certificate_of game.form (outcome game.form (own_head game last every scale))) ≡ Ok head_only
 no_round game last every scale none =
     ap (verdict game) (certificate_without game last every scale none) ∙ (exact.head_alone game (own_head game last every scale)).1 (own_head-is game last every scale)
 

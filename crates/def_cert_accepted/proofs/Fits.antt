@@ -41,7 +41,8 @@ times : (a b p q : ℕ) → a ≤ p → b ≤ q → a * b ≤ p * q
 times a b p q h k = mul-le a b p q h k
 
 -- ---- bounds: no part of a fraction in lowest terms is larger than that of the whole one
-bound_fits : (total : ℤ) (scale : ℕ) → 1 ≤ scale → unsigned_abs total ≤ 2 ^ 100 → scale ≤ 2 ^ 100 → BoundFits (fraction_of total scale)
+bound_fits : (total : ℤ) (scale : ℕ) → 1 ≤ scale → unsigned_abs total ≤ 2 ^ 100 → scale ≤ 2 ^ 100
+    → BoundFits (fraction_of total scale)
 unfolding fraction_of
 bound_fits total scale some small few =
     let g : ℕ = gcd (unsigned_abs total) scale in
@@ -66,7 +67,8 @@ All-take P n xs all k d low = subst P (sym (get_or-take n xs k d (omega (arith, 
 abbrev IsWeight : ℕ → Type 0
 IsWeight n = n ≤ most_root
 
-sets_fit : (first : ℕ) (hs : List InformationSet) (xs : List ℕ) → nat_sum_over (λ (h : InformationSet). h.actions) hs ≤ length xs → All IsInOrder (placed_from first hs)
+sets_fit : (first : ℕ) (hs : List InformationSet) (xs : List ℕ)
+    → nat_sum_over (λ (h : InformationSet). h.actions) hs ≤ length xs → All IsInOrder (placed_from first hs)
     → All (λ (h : InformationSet). h.actions ≤ most_actions) hs → All IsWeight xs → All PlanWeightsFit (by_sets hs xs)
 sets_fit first [] xs low order small each = All-nil PlanWeightsFit
 sets_fit first (h ∷ hs) xs low order small each =
@@ -79,7 +81,8 @@ sets_fit first (h ∷ hs) xs low order small each =
     (sets_fit (first + h.actions) hs (drop h.actions xs) (omega (arith, length-drop h.actions xs)) (All-tail IsInOrder here rest order)
     (All-tail (λ (g : InformationSet). g.actions ≤ most_actions) h hs small) (All-drop IsWeight h.actions xs each))
 
-plan_fits : (sets : List InformationSet) (root : ℕ) (plan : List ℕ) → AreInOrder sets → All (λ (h : InformationSet). h.actions ≤ most_actions) sets → IsPlan sets root plan → root ≤ most_root
+plan_fits : (sets : List InformationSet) (root : ℕ) (plan : List ℕ) → AreInOrder sets
+    → All (λ (h : InformationSet). h.actions ≤ most_actions) sets → IsPlan sets root plan → root ≤ most_root
     → PlanFits (length sets) (printed_plan sets plan)
 plan_fits sets root plan order small is few =
     let all : All IsWeight plan = All-from_get_or IsWeight plan 0 (λ s low. omega (arith, plan-below_root sets root plan order is s, few)) in
@@ -90,8 +93,10 @@ plan_fits sets root plan order small is few =
     }
 
 -- ---- replies
-choices_fit : (player : Player) (w : ℕ → ℤ) (first : ℕ) (hs : List InformationSet) (rs : List SetReply) → AllZip (IsTight player w) (placed_from first hs) rs
-    → All (λ (h : InformationSet). h.actions ≤ most_actions) hs → (length rs ≡ length hs) × All (λ (r : SetReply). IsFromTo 1 most_actions r.choice) rs
+choices_fit : (player : Player) (w : ℕ → ℤ) (first : ℕ) (hs : List InformationSet) (rs : List SetReply)
+    → AllZip (IsTight player w) (placed_from first hs) rs
+    → All (λ (h : InformationSet). h.actions ≤ most_actions) hs
+    → (length rs ≡ length hs) × All (λ (r : SetReply). IsFromTo 1 most_actions r.choice) rs
 choices_fit player w first [] [] tight small = (refl, All-nil (λ (r : SetReply). IsFromTo 1 most_actions r.choice))
 choices_fit player w first [] (r ∷ rs) tight small = elim tight [ ]
 choices_fit player w first (h ∷ hs) [] tight small = elim tight [ ]
@@ -101,7 +106,8 @@ choices_fit player w first (h ∷ hs) (r ∷ rs) tight small =
     (ap suc rest.0, All-cons (λ (r : SetReply). IsFromTo 1 most_actions r.choice) r rs (tight.0.an_action.0, omega (arith, tight.0.an_action.1, few)) rest.1)
 
 -- the total of a reply to a plan of the other player's sets
-small_total : (form : SequenceForm) (player : Player) (sets : List InformationSet) (root : ℕ) (plan : List ℕ) → AreInOrder (player_sets form player) → AreInOrder sets → IsPlan sets root plan
+small_total : (form : SequenceForm) (player : Player) (sets : List InformationSet) (root : ℕ) (plan : List ℕ)
+    → AreInOrder (player_sets form player) → AreInOrder sets → IsPlan sets root plan
     → mass_of form.leaves ≤ most_mass → root ≤ most_root → unsigned_abs (total_against form player plan) ≤ 2 ^ 98
 small_total form player sets root plan order other is light few =
     omega (
@@ -111,8 +117,10 @@ small_total form player sets root plan order other is light few =
       times (mass_of form.leaves) root (2 ^ 62) (2 ^ 36) light few,
     )
 
-reply_fits : (form : SequenceForm) (player : Player) (sets : List InformationSet) (root : ℕ) (plan : List ℕ) → AreInOrder (player_sets form player) → AreInOrder sets → IsPlan sets root plan
-    → All (λ (h : InformationSet). h.actions ≤ most_actions) (player_sets form player) → mass_of form.leaves ≤ most_mass → root ≤ most_root
+reply_fits : (form : SequenceForm) (player : Player) (sets : List InformationSet) (root : ℕ) (plan : List ℕ)
+    → AreInOrder (player_sets form player) → AreInOrder sets → IsPlan sets root plan
+    → All (λ (h : InformationSet). h.actions ≤ most_actions) (player_sets form player) → mass_of form.leaves ≤ most_mass
+    → root ≤ most_root
     → ReplyFits (length (player_sets form player)) (best_reply_to form player plan)
 reply_fits form player sets root plan order other is small light few =
     let sums : ℕ → ℤ = leaf_sum player form.leaves plan in
@@ -131,8 +139,10 @@ reply_fits form player sets root plan order other is small light few =
       choices = chosen.1;
     }
 
-end_fits : (game : WeighedGame) (player : Player) (sets : List InformationSet) (root : ℕ) (plan : List ℕ) → AreInOrder (player_sets game.form player) → AreInOrder sets → IsPlan sets root plan
-    → mass_of game.form.leaves ≤ most_mass → root ≤ most_root → IsFromTo 1 most_unit game.unit → BoundFits (fraction_of (total_against game.form player plan) (game.unit * slice_index plan 0))
+end_fits : (game : WeighedGame) (player : Player) (sets : List InformationSet) (root : ℕ) (plan : List ℕ)
+    → AreInOrder (player_sets game.form player) → AreInOrder sets → IsPlan sets root plan
+    → mass_of game.form.leaves ≤ most_mass → root ≤ most_root → IsFromTo 1 most_unit game.unit
+    → BoundFits (fraction_of (total_against game.form player plan) (game.unit * slice_index plan 0))
 end_fits game player sets root plan order other is light few unit =
     let at : slice_index plan 0 ≡ root = is.root_weight in
     bound_fits (total_against game.form player plan) (game.unit * slice_index plan 0)
@@ -145,7 +155,8 @@ rounds_evaluated : RoundsAreEvaluated
 rounds_evaluated = rounds_are
 
 -- the evaluation at a place is that of its round
-evaluation_at : (form : SequenceForm) (scale every last k : ℕ) (d : Evaluation) → 1 ≤ every → k < (last + every - 1) / every
+evaluation_at : (form : SequenceForm) (scale every last k : ℕ) (d : Evaluation) → 1 ≤ every
+    → k < (last + every - 1) / every
     → get_or (evaluations form scale every last) k d ≡ evaluation form scale (min ((k + 1) * every) last)
 evaluation_at form scale every last k d some low =
     let n : ℕ = (last + every - 1) / every in
@@ -156,7 +167,8 @@ evaluation_at form scale every last k d some low =
     ∙ get_or-map (evaluation form scale) (map of_place (range_with_len 1 n)) k 0 d (omega arith)
     ∙ ap (evaluation form scale) (get_or-map-range_with_len of_place 1 n k (k + 1) 0 low (omega arith))
 
-length-evaluations : (form : SequenceForm) (scale every last : ℕ) → 1 ≤ every → length (evaluations form scale every last) ≡ (last + every - 1) / every
+length-evaluations : (form : SequenceForm) (scale every last : ℕ) → 1 ≤ every
+    → length (evaluations form scale every last) ≡ (last + every - 1) / every
 length-evaluations form scale every last some =
     let n : ℕ = (last + every - 1) / every in
     length-map (evaluated_rounds every last) (evaluation form scale) ∙ ap (λ (rs : List ℕ). length rs) (rounds_evaluated.one_by_one every last some)
@@ -168,7 +180,8 @@ record EvaluationFits (last : ℕ) (e : Evaluation) : Type 0 where
   low : IsPrintable e.low
   high : IsPrintable e.high
 
-evaluation_fits : (game : WeighedGame) (last every scale r : ℕ) → AreInOrder game.form.sets_one → AreInOrder game.form.sets_two → HeadFits (own_head game last every scale) → 1 ≤ r → r ≤ last
+evaluation_fits : (game : WeighedGame) (last every scale r : ℕ) → AreInOrder game.form.sets_one
+    → AreInOrder game.form.sets_two → HeadFits (own_head game last every scale) → 1 ≤ r → r ≤ last
     → EvaluationFits r (evaluation game.form scale r)
 evaluation_fits game last every scale r order_one order_two fits some low =
     let form = game.form in
@@ -185,8 +198,10 @@ some_ends [] some = absurd (omega arith)
 some_ends (e ∷ es) some = (_, refl)
 
 -- an evaluation at a place up to k
-up_to : (game : WeighedGame) (last every scale k place : ℕ) (e : Evaluation) → AreInOrder game.form.sets_one → AreInOrder game.form.sets_two → HeadFits (own_head game last every scale)
-    → place ≤ k → k < (last + every - 1) / every → get_or (evaluations game.form scale every last) place e ≡ e → EvaluationFits (min ((k + 1) * every) last) e
+up_to : (game : WeighedGame) (last every scale k place : ℕ) (e : Evaluation) → AreInOrder game.form.sets_one
+    → AreInOrder game.form.sets_two → HeadFits (own_head game last every scale)
+    → place ≤ k → k < (last + every - 1) / every → get_or (evaluations game.form scale every last) place e ≡ e
+    → EvaluationFits (min ((k + 1) * every) last) e
 up_to game last every scale k place e order_one order_two fits le low stands =
     let form = game.form in
     let r : ℕ = min ((place + 1) * every) last in
@@ -203,7 +218,8 @@ up_to game last every scale k place e order_one order_two fits le low stands =
 divisors : (form : SequenceForm) (scale every last : ℕ) → HaveDivisors (evaluations form scale every last)
 divisors form scale every last k d below = let r = rounds_of form scale every last k d below in omega (arith, r.0, r.1)
 
-line_fits : (game : WeighedGame) (last every scale : ℕ) → AreInOrder game.form.sets_one → AreInOrder game.form.sets_two → HeadFits (own_head game last every scale)
+line_fits : (game : WeighedGame) (last every scale : ℕ) → AreInOrder game.form.sets_one → AreInOrder game.form.sets_two
+    → HeadFits (own_head game last every scale)
     → (k : ℕ) (line : TraceLine) → k < length (trace (evaluations game.form scale every last))
     → LineFits (own_head game last every scale) k (get_or (trace (evaluations game.form scale every last)) k line)
 line_fits game last every scale order_one order_two fits k line within =
@@ -236,9 +252,12 @@ line_fits game last every scale order_one order_two fits k line within =
     })
 
 -- ---- all of it
-bounds_fit : (game : WeighedGame) (last every scale : ℕ) (ends : BracketEnds) → AreInOrder game.form.sets_one → AreInOrder game.form.sets_two
-    → All (λ h. h.actions ≤ most_actions) game.form.sets_one → All (λ h. h.actions ≤ most_actions) game.form.sets_two → HeadFits (own_head game last every scale)
-    → ends_of (evaluations game.form scale every last) ≡ Some ends → BoundsFit (own_head game last every scale) (bounds_of_run game last every scale ends)
+bounds_fit : (game : WeighedGame) (last every scale : ℕ) (ends : BracketEnds) → AreInOrder game.form.sets_one
+    → AreInOrder game.form.sets_two
+    → All (λ h. h.actions ≤ most_actions) game.form.sets_one → All (λ h. h.actions ≤ most_actions) game.form.sets_two
+    → HeadFits (own_head game last every scale)
+    → ends_of (evaluations game.form scale every last) ≡ Some ends
+    → BoundsFit (own_head game last every scale) (bounds_of_run game last every scale ends)
 bounds_fit game last every scale ends order_one order_two small_one small_two fits are =
     let form = game.form in
     let of_rounds = ends_are_of_their_rounds form scale every last ends are in
@@ -269,8 +288,10 @@ no_round form scale every (suc n) e =
     absurd (none-some some.0 (sym e ∙ some.1))
 
 by_ends : (game : WeighedGame) (last every scale : ℕ) → AreInOrder game.form.sets_one → AreInOrder game.form.sets_two
-    → All (λ h. h.actions ≤ most_actions) game.form.sets_one → All (λ h. h.actions ≤ most_actions) game.form.sets_two → HeadFits (own_head game last every scale)
-    → (o : Option BracketEnds) → ends_of (evaluations game.form scale every last) ≡ o → CertificateFits (certificate_of game.form (outcome game.form (own_head game last every scale)))
+    → All (λ h. h.actions ≤ most_actions) game.form.sets_one → All (λ h. h.actions ≤ most_actions) game.form.sets_two
+    → HeadFits (own_head game last every scale)
+    → (o : Option BracketEnds) → ends_of (evaluations game.form scale every last) ≡ o
+    → CertificateFits (certificate_of game.form (outcome game.form (own_head game last every scale)))
 by_ends game last every scale order_one order_two small_one small_two fits None are =
     let none = no_round game.form scale every last are in
     subst CertificateFits (sym (certificate_without game last every scale none)) (record { head = fits; below = none })

@@ -36,7 +36,8 @@ pub own_head-is : (game : WeighedGame) (last every scale : ℕ) → IsHeadOf gam
 own_head-is game last every scale = record { nodes = refl; leaves = refl; sets_one = refl; sets_two = refl; sequences_one = refl; sequences_two = refl; unit = refl; mass_is = refl }
 
 -- a head that is the game's is the one made from it, with the same rounds and scale
-pub same_head : (game : WeighedGame) (head : Head) → IsHeadOf game head → head ≡ own_head game head.rounds head.every head.scale
+pub same_head : (game : WeighedGame) (head : Head) → IsHeadOf game head
+    → head ≡ own_head game head.rounds head.every head.scale
 same_head game head h =
     ap (λ n. record head { nodes = n }) h.nodes
     ∙ ap (λ n. record head { nodes = game.nodes; leaves = n }) h.leaves
@@ -57,7 +58,8 @@ ends_at form scale ends =
 abbrev pub bounds_of_run : WeighedGame → ℕ → ℕ → ℕ → BracketEnds → PrintedBounds
 bounds_of_run game last every scale ends = printed_bounds game.form game.unit (trace (evaluations game.form scale every last)) (ends_at game.form scale ends)
 
-shown_are : (form : SequenceForm) (scale : ℕ) (ends : BracketEnds) (shown : OutcomeEnds) → HasPlansOf form scale ends shown → shown ≡ ends_at form scale ends
+shown_are : (form : SequenceForm) (scale : ℕ) (ends : BracketEnds) (shown : OutcomeEnds)
+    → HasPlansOf form scale ends shown → shown ≡ ends_at form scale ends
 shown_are form scale ends shown h =
     let there = ends_at form scale ends in
     ap (λ (p : List ℕ). record { lower = record { plan = p; reply = shown.lower.reply }; upper = shown.upper }) h.lower_plan
@@ -68,13 +70,15 @@ shown_are form scale ends shown h =
 made : SequenceForm → Head → List TraceLine → Option OutcomeEnds → Certificate
 made form head lines ends = certificate_of form (record { head = head; trace = lines; ends = ends })
 
-made_of : (form : SequenceForm) (o : Outcome) (head : Head) (lines : List TraceLine) (ends : Option OutcomeEnds) → o.head ≡ head → o.trace ≡ lines → o.ends ≡ ends
+made_of : (form : SequenceForm) (o : Outcome) (head : Head) (lines : List TraceLine) (ends : Option OutcomeEnds)
+    → o.head ≡ head → o.trace ≡ lines → o.ends ≡ ends
     → certificate_of form o ≡ made form head lines ends
 unfolding made
 made_of form o head lines ends h l e = ap (λ (g : Head). made form g o.trace o.ends) h ∙ ap (λ (t : List TraceLine). made form head t o.ends) l ∙ ap (made form head lines) e
 
 -- where the run has ends, its certificate is the head with the bounds of these ends
-pub certificate_with : (game : WeighedGame) (last every scale : ℕ) (ends : BracketEnds) → ends_of (evaluations game.form scale every last) ≡ Some ends
+pub certificate_with : (game : WeighedGame) (last every scale : ℕ) (ends : BracketEnds)
+    → ends_of (evaluations game.form scale every last) ≡ Some ends
     → certificate_of game.form (outcome game.form (own_head game last every scale)) ≡ with_bounds (own_head game last every scale) (bounds_of_run game last every scale ends)
 unfolding made
 certificate_with game last every scale ends are =

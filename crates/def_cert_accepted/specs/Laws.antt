@@ -14,15 +14,18 @@ use Rattle.def_cert_accepted.specs.OfOutcome.{certificate_of}
 -- with the game's head it is accepted: without a round its head alone, else with the bracket whose ends are those of the run's evaluations
 -- in payoff units
 pub record TheCertificateOfARunIsAccepted : Type 0 where
-  pub no_round : (game : WeighedGame) (head : Head) → IsHeadOf game head → head.rounds ≡ 0 → verdict game (certificate_of game.form (outcome game.form head)) ≡ Ok head_only
+  pub no_round : (game : WeighedGame) (head : Head) → IsHeadOf game head → head.rounds ≡ 0
+      → verdict game (certificate_of game.form (outcome game.form head)) ≡ Ok head_only
   pub some_round : (game : WeighedGame) (head : Head) (ends : BracketEnds)
-      → AreInOrder game.form.sets_one → AreInOrder game.form.sets_two → IsHeadOf game head → 1 ≤ game.unit → 1 ≤ head.scale
+      → AreInOrder game.form.sets_one → AreInOrder game.form.sets_two → IsHeadOf game head → 1 ≤ game.unit
+      → 1 ≤ head.scale
       → ends_of (evaluations game.form head.scale head.every head.rounds) ≡ Some ends
       → verdict game (certificate_of game.form (outcome game.form head))
       ≡ Ok (bracket (fraction_of ends.lower.low (game.unit * (ends.lower.round * head.scale))) (fraction_of ends.upper.high (game.unit * (ends.upper.round * head.scale))))
 
 -- and its numbers are within their ranges, where those of the head are and no set has too many actions
 abbrev pub TheCertificateOfARunFits : Type 0
-TheCertificateOfARunFits = (game : WeighedGame) (head : Head) → AreInOrder game.form.sets_one → AreInOrder game.form.sets_two
+TheCertificateOfARunFits = (game : WeighedGame) (head : Head) → AreInOrder game.form.sets_one
+    → AreInOrder game.form.sets_two
     → All (λ h. h.actions ≤ most_actions) game.form.sets_one → All (λ h. h.actions ≤ most_actions) game.form.sets_two
     → IsHeadOf game head → HeadFits head → CertificateFits (certificate_of game.form (outcome game.form head))

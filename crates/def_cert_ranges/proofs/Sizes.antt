@@ -71,7 +71,8 @@ kept true x = omega arith
 kept false x = omega arith
 
 -- a sum over some of the elements
-some_of : {A : Type 0} (f : A → ℤ) (p : A → Bool) (xs : List A) → unsigned_abs (sum_over f (filter p xs)) ≤ nat_sum_over (λ x. unsigned_abs (f x)) xs
+some_of : {A : Type 0} (f : A → ℤ) (p : A → Bool) (xs : List A)
+    → unsigned_abs (sum_over f (filter p xs)) ≤ nat_sum_over (λ x. unsigned_abs (f x)) xs
 some_of f p xs =
     omega (
       arith,
@@ -80,7 +81,8 @@ some_of f p xs =
       nat_sum_over-mono (λ x. unsigned_abs (cond (p x) (f x) (pos 0))) (λ x. unsigned_abs (f x)) xs (each_of (λ x. unsigned_abs (cond (p x) (f x) (pos 0)) ≤ unsigned_abs (f x)) xs (λ x. kept (p x) (f x))),
     )
 
-zipped : (hs : List PlacedSet) (rs : List SetReply) → nat_sum_over (λ (p : PlacedSet × ℤ). unsigned_abs p.1) (zip hs (values_of rs)) ≤ nat_sum_over (λ r. unsigned_abs r.value) rs
+zipped : (hs : List PlacedSet) (rs : List SetReply)
+    → nat_sum_over (λ (p : PlacedSet × ℤ). unsigned_abs p.1) (zip hs (values_of rs)) ≤ nat_sum_over (λ r. unsigned_abs r.value) rs
 zipped [] rs = omega arith
 zipped (h ∷ hs) [] = omega arith
 zipped (h ∷ hs) (r ∷ rs) = omega (arith, zipped hs rs)
@@ -94,7 +96,8 @@ one_leaf player xs small z =
       times (unsigned_abs z.weight) (slice_index xs (leaf_sequence (opponent player) z)) (unsigned_abs z.weight) (2 ^ 36) (omega arith) (small (leaf_sequence (opponent player) z)),
     )
 
-all_leaves : (player : Player) (leaves : List Leaf) (xs : List ℕ) → ((s : ℕ) → slice_index xs s ≤ 2 ^ 36) → mass_of leaves ≤ 2 ^ 62
+all_leaves : (player : Player) (leaves : List Leaf) (xs : List ℕ) → ((s : ℕ) → slice_index xs s ≤ 2 ^ 36)
+    → mass_of leaves ≤ 2 ^ 62
     → nat_sum_over (λ z. unsigned_abs (z.weight *ℤ pos (slice_index xs (leaf_sequence (opponent player) z)))) leaves ≤ 2 ^ 98
 all_leaves player leaves xs small light =
     omega (
@@ -105,7 +108,8 @@ all_leaves player leaves xs small light =
       times (mass_of leaves) (2 ^ 36) (2 ^ 62) (2 ^ 36) light (omega arith),
     )
 
-all_values : (sets : ℕ) (reply : Reply) → sets ≤ 2 ^ 20 → ReplyFits sets reply → nat_sum_over (λ r. unsigned_abs r.value) reply.sets ≤ 2 ^ 120
+all_values : (sets : ℕ) (reply : Reply) → sets ≤ 2 ^ 20 → ReplyFits sets reply
+    → nat_sum_over (λ r. unsigned_abs r.value) reply.sets ≤ 2 ^ 120
 all_values sets reply few fits =
     omega (arith, nat_sum_over-bounded (λ r. unsigned_abs r.value) (2 ^ 100) reply.sets fits.values, times (length reply.sets) (2 ^ 100) (2 ^ 20) (2 ^ 100) (omega (arith, fits.count)) (omega arith))
 
@@ -131,7 +135,8 @@ worths player leaves sets plan_sets reply_sets plan reply light fits few fit =
     }
 
 -- ---- the head alone
-head_alone : (game : WeighedGame) (head : Head) (bounds : Option PrintedBounds) (shown : Verdict) → FitsBelowHead head bounds
+head_alone : (game : WeighedGame) (head : Head) (bounds : Option PrintedBounds) (shown : Verdict)
+    → FitsBelowHead head bounds
     → verdict game (record { head = head; bounds = bounds }) ≡ Ok shown → (shown ≡ head_only) ↔ (head.rounds ≡ 0)
 head_alone game head None head_only fits e = (λ same. fits, λ none. refl)
 head_alone game head None (bracket low high) fits e = absurd (exact.no_bracket game head low high e)

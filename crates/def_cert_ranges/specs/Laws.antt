@@ -15,7 +15,8 @@ use Rattle.def_cert_ranges.specs.Ranges.{TraceFits, PlanFits, ReplyFits, Certifi
 
 -- an accepted certificate shows its head alone exactly where no round was asked
 abbrev pub HeadAloneWithoutRounds : Type 0
-HeadAloneWithoutRounds = (game : WeighedGame) (c : Certificate) (shown : Verdict) → CertificateFits c → verdict game c ≡ Ok shown
+HeadAloneWithoutRounds = (game : WeighedGame) (c : Certificate) (shown : Verdict) → CertificateFits c
+    → verdict game c ≡ Ok shown
     → (shown ≡ head_only) ↔ (c.head.rounds ≡ 0)
 
 -- the products of two lines of a trace, each end times the other line's round
@@ -24,7 +25,8 @@ pub record ProductsOfLines (a b : TraceLine) : Type 0 where
   pub high : unsigned_abs (a.high *ℤ pos b.high_round) ≤ 2 ^ 116
 
 abbrev pub TraceProductsAreSmall : Type 0
-TraceProductsAreSmall = (head : Head) (lines : List TraceLine) (j k : ℕ) (line : TraceLine) → HeadFits head → TraceFits head lines
+TraceProductsAreSmall = (head : Head) (lines : List TraceLine) (j k : ℕ) (line : TraceLine) → HeadFits head
+    → TraceFits head lines
     → j < length lines → k < length lines → ProductsOfLines (slice_index_or lines j line) (slice_index_or lines k line)
 
 -- the numbers of a set of a plan together, a root times the unit or the scale's rounds
@@ -39,8 +41,10 @@ PlanSumsAreSmall = (unit sets : ℕ) (plan : PrintedPlan) → unit ≤ most_unit
 pub record SumsOfReply (player : Player) (leaves : List Leaf) (sets : List InformationSet) (plan : PrintedPlan) (reply : Reply) : Type 0 where
   pub leaf_sums : nat_sum_over (λ z. unsigned_abs (z.weight *ℤ pos (slice_index (printed_numbers plan) (leaf_sequence (opponent player) z)))) leaves ≤ 2 ^ 98
   pub values : nat_sum_over (λ r. unsigned_abs r.value) reply.sets ≤ 2 ^ 120
-  pub worths : (s : ℕ) → unsigned_abs (worth (leaf_sum player leaves (printed_numbers plan)) (placed sets) (values_of reply.sets) s) ≤ 2 ^ 121
+  pub worths : (s : ℕ)
+      → unsigned_abs (worth (leaf_sum player leaves (printed_numbers plan)) (placed sets) (values_of reply.sets) s) ≤ 2 ^ 121
 
 abbrev pub WorthsAreSmall : Type 0
 WorthsAreSmall = (player : Player) (leaves : List Leaf) (sets : List InformationSet) (plan_sets reply_sets : ℕ) (plan : PrintedPlan) (reply : Reply)
-    → mass_of leaves ≤ most_mass → PlanFits plan_sets plan → reply_sets ≤ most_entries → ReplyFits reply_sets reply → SumsOfReply player leaves sets plan reply
+    → mass_of leaves ≤ most_mass → PlanFits plan_sets plan → reply_sets ≤ most_entries → ReplyFits reply_sets reply
+    → SumsOfReply player leaves sets plan reply

@@ -16,7 +16,8 @@ use Rattle.def_cert_verdict.proofs.Plans.{plan_described}
 use Rattle.def_cert_verdict.proofs.Replies.{reply_described}
 use Rattle.def_cert_verdict.proofs.Traces.{trace_described}
 
-bounds_described : (game : WeighedGame) (scale : ℕ) (b : PrintedBounds) → Describes (bounds_tests game scale b) (HoldsUp game scale b) (BoundsFault game scale b)
+bounds_described : (game : WeighedGame) (scale : ℕ) (b : PrintedBounds)
+    → Describes (bounds_tests game scale b) (HoldsUp game scale b) (BoundsFault game scale b)
 bounds_described game scale b =
     let form = game.form in
     let last = last_line b.trace in
@@ -66,12 +67,14 @@ verdict_or : Verdict → Result Verdict TestFault → Verdict
 verdict_or d (Ok v) = v
 verdict_or d (Err f) = d
 
-refused_by : (bounds : Option PrintedBounds) (o : Option TestFault) (f : TestFault) → decided_by bounds o ≡ Err f → o ≡ Some f
+refused_by : (bounds : Option PrintedBounds) (o : Option TestFault) (f : TestFault) → decided_by bounds o ≡ Err f
+    → o ≡ Some f
 unfolding fault_or
 refused_by bounds None f e = absurd (ok_err (shown_by bounds) f e)
 refused_by bounds (Some g) f e = ap Some (ap (fault_or g) e)
 
-accepted_by : (bounds : Option PrintedBounds) (o : Option TestFault) (v : Verdict) → decided_by bounds o ≡ Ok v → (o ≡ None) × (v ≡ shown_by bounds)
+accepted_by : (bounds : Option PrintedBounds) (o : Option TestFault) (v : Verdict) → decided_by bounds o ≡ Ok v
+    → (o ≡ None) × (v ≡ shown_by bounds)
 unfolding verdict_or
 accepted_by bounds None v e = (refl, sym (ap (verdict_or v) e))
 accepted_by bounds (Some g) v e = absurd (ok_err v g (sym e))

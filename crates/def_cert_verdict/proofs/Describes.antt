@@ -13,7 +13,8 @@ pub record Describes (ts : List (Option TestFault)) (Holds : Type 0) (Comes : Te
   pub some : (f : TestFault) → (first_failing ts ≡ Some f) ↔ Comes f
 
 -- one test
-pub Describes-one : (b : Bool) (g : TestFault) (P : Type 0) → Decides b P → Describes (unless b g ∷ []) P (λ f. (f ≡ g) × (¬ P))
+pub Describes-one : (b : Bool) (g : TestFault) (P : Type 0) → Decides b P
+    → Describes (unless b g ∷ []) P (λ f. (f ≡ g) × (¬ P))
 Describes-one true g P d = record {
   none = (λ e. d.0 refl, λ p. refl);
   some = λ f. (λ e. absurd (none-some f e), λ c. absurd (c.1 (d.0 refl)));
@@ -27,7 +28,8 @@ or_else : Option TestFault → Option TestFault → Option TestFault
 or_else None r = r
 or_else (Some f) r = Some f
 
-first-append : (xs ys : List (Option TestFault)) → first_failing (xs ++ ys) ≡ or_else (first_failing xs) (first_failing ys)
+first-append : (xs ys : List (Option TestFault))
+    → first_failing (xs ++ ys) ≡ or_else (first_failing xs) (first_failing ys)
 unfolding or_else
 first-append [] ys = refl
 first-append (None ∷ xs) ys = first-append xs ys
@@ -37,7 +39,8 @@ record Parts (o : Option TestFault) (Holds : Type 0) (Comes : TestFault → Type
   none : (o ≡ None) ↔ Holds
   some : (f : TestFault) → (o ≡ Some f) ↔ Comes f
 
-together : (o r : Option TestFault) (P Q : Type 0) (F G : TestFault → Type 0) → Parts o P F → Parts r Q G → Parts (or_else o r) (P × Q) (λ f. F f ⊎ (P × G f))
+together : (o r : Option TestFault) (P Q : Type 0) (F G : TestFault → Type 0) → Parts o P F → Parts r Q G
+    → Parts (or_else o r) (P × Q) (λ f. F f ⊎ (P × G f))
 unfolding or_else
 together None r P Q F G a b = record {
   none = (λ e. (a.none.0 refl, b.none.0 e), λ h. b.none.1 h.1);
@@ -49,7 +52,8 @@ together (Some g) r P Q F G a b = record {
 }
 
 -- some tests and then others
-pub Describes-append : (xs ys : List (Option TestFault)) (P Q : Type 0) (F G : TestFault → Type 0) → Describes xs P F → Describes ys Q G
+pub Describes-append : (xs ys : List (Option TestFault)) (P Q : Type 0) (F G : TestFault → Type 0) → Describes xs P F
+    → Describes ys Q G
     → Describes (xs ++ ys) (P × Q) (λ f. F f ⊎ (P × G f))
 Describes-append xs ys P Q F G a b =
     let whole = together (first_failing xs) (first_failing ys) P Q F G (record { none = a.none; some = a.some }) (record { none = b.none; some = b.some }) in
@@ -59,7 +63,8 @@ Describes-append xs ys P Q F G a b =
     }
 
 -- the same in other words
-pub Describes-like : (ts : List (Option TestFault)) (P Q : Type 0) (F G : TestFault → Type 0) → Describes ts P F → P ↔ Q → ((f : TestFault) → F f ↔ G f) → Describes ts Q G
+pub Describes-like : (ts : List (Option TestFault)) (P Q : Type 0) (F G : TestFault → Type 0) → Describes ts P F → P ↔ Q
+    → ((f : TestFault) → F f ↔ G f) → Describes ts Q G
 Describes-like ts P Q F G d h c = record {
   none = (λ e. h.0 (d.none.0 e), λ q. d.none.1 (h.1 q));
   some = λ f. (λ e. (c f).0 ((d.some f).0 e), λ g. (d.some f).1 ((c f).1 g));
@@ -71,7 +76,8 @@ pub record Searches (X : Type 0) (made : ℕ → X) (r : Option X) (n : ℕ) (Ho
   pub some : (x : X) → (r ≡ Some x) ↔ ((i : ℕ) × (x ≡ made (n + i)) × IsFirstNot Holds i)
 
 -- nothing is found where it holds at every place
-pub Searches-end : (X : Type 0) (made : ℕ → X) (n : ℕ) (Holds : ℕ → Type 0) → ((i : ℕ) → Holds i) → Searches X made None n Holds
+pub Searches-end : (X : Type 0) (made : ℕ → X) (n : ℕ) (Holds : ℕ → Type 0) → ((i : ℕ) → Holds i)
+    → Searches X made None n Holds
 Searches-end X made n Holds all = record {
   none = (λ e. all, λ h. refl);
   some = λ x. (λ e. absurd (none-some x e), λ c. absurd (c.2.fails (all c.0)));
@@ -86,18 +92,21 @@ before_next Holds k first rest zero low = first
 before_next Holds k first rest (suc j) low = rest j (omega arith)
 
 -- a first failure behind the first place is one of what follows
-further : (X : Type 0) (made : ℕ → X) (n : ℕ) (Holds : ℕ → Type 0) (x : X) → Holds 0 → (i : ℕ) → x ≡ made (n + i) → IsFirstNot Holds i
+further : (X : Type 0) (made : ℕ → X) (n : ℕ) (Holds : ℕ → Type 0) (x : X) → Holds 0 → (i : ℕ) → x ≡ made (n + i)
+    → IsFirstNot Holds i
     → (j : ℕ) × (x ≡ made (n + 1 + j)) × IsFirstNot (λ l. Holds (suc l)) j
 further X made n Holds x first zero e f = absurd (f.fails first)
 further X made n Holds x first (suc i) e f =
     (i, e ∙ ap made (omega arith), record { fails = f.fails; earlier = λ j low. f.earlier (suc j) (omega arith) })
 
-at_first : (X : Type 0) (made : ℕ → X) (n : ℕ) (Holds : ℕ → Type 0) (x : X) → ¬ (Holds 0) → (i : ℕ) → x ≡ made (n + i) → IsFirstNot Holds i → Some (made n) ≡ Some x
+at_first : (X : Type 0) (made : ℕ → X) (n : ℕ) (Holds : ℕ → Type 0) (x : X) → ¬ (Holds 0) → (i : ℕ) → x ≡ made (n + i)
+    → IsFirstNot Holds i → Some (made n) ≡ Some x
 at_first X made n Holds x bad zero e f = ap Some (sym (e ∙ ap made (omega arith)))
 at_first X made n Holds x bad (suc i) e f = absurd (bad (f.earlier 0 (omega arith)))
 
 -- it doesn't hold here
-pub Searches-stop : (X : Type 0) (made : ℕ → X) (n : ℕ) (Holds : ℕ → Type 0) → ¬ (Holds 0) → Searches X made (Some (made n)) n Holds
+pub Searches-stop : (X : Type 0) (made : ℕ → X) (n : ℕ) (Holds : ℕ → Type 0) → ¬ (Holds 0)
+    → Searches X made (Some (made n)) n Holds
 Searches-stop X made n Holds bad = record {
   none = (λ e. absurd (none-some (made n) (sym e)), λ h. absurd (bad (h 0)));
   some = λ x. (
@@ -107,7 +116,8 @@ Searches-stop X made n Holds bad = record {
 }
 
 -- it holds here exactly where b is true, and else the search stops
-pub Searches-step : (X : Type 0) (made : ℕ → X) (b : Bool) (r : Option X) (n : ℕ) (Holds : ℕ → Type 0) → Decides b (Holds 0)
+pub Searches-step : (X : Type 0) (made : ℕ → X) (b : Bool) (r : Option X) (n : ℕ) (Holds : ℕ → Type 0)
+    → Decides b (Holds 0)
     → Searches X made r (n + 1) (λ i. Holds (suc i)) → Searches X made (cond b r (Some (made n))) n Holds
 Searches-step X made true r n Holds d s = record {
   none = (λ e. from_next Holds (d.0 refl) (s.none.0 e), λ h. s.none.1 (λ i. h (suc i)));
@@ -119,7 +129,8 @@ Searches-step X made true r n Holds d s = record {
 Searches-step X made false r n Holds d s = Searches-stop X made n Holds (λ h. false≢true (d.1 h))
 
 -- the same of what holds in other words
-pub Searches-like : (X : Type 0) (made : ℕ → X) (r : Option X) (n : ℕ) (Holds Says : ℕ → Type 0) → ((i : ℕ) → Holds i ↔ Says i) → Searches X made r n Holds → Searches X made r n Says
+pub Searches-like : (X : Type 0) (made : ℕ → X) (r : Option X) (n : ℕ) (Holds Says : ℕ → Type 0)
+    → ((i : ℕ) → Holds i ↔ Says i) → Searches X made r n Holds → Searches X made r n Says
 Searches-like X made r n Holds Says like s = record {
   none = (λ e i. (like i).0 (s.none.0 e i), λ h. s.none.1 (λ i. (like i).1 (h i)));
   some = λ x. (
@@ -129,17 +140,20 @@ Searches-like X made r n Holds Says like s = record {
 }
 
 -- tests that search
-pub first_unless : (b : Bool) (g : TestFault) (ts : List (Option TestFault)) → first_failing (unless b g ∷ ts) ≡ cond b (first_failing ts) (Some g)
+pub first_unless : (b : Bool) (g : TestFault) (ts : List (Option TestFault))
+    → first_failing (unless b g ∷ ts) ≡ cond b (first_failing ts) (Some g)
 first_unless true g ts = refl
 first_unless false g ts = refl
 
 -- where b is true the first test's fault comes, else that of the tests behind it
-pub first_if : (b : Bool) (g : TestFault) (ts : List (Option TestFault)) → first_failing (cond b (Some g) None ∷ ts) ≡ cond (not b) (first_failing ts) (Some g)
+pub first_if : (b : Bool) (g : TestFault) (ts : List (Option TestFault))
+    → first_failing (cond b (Some g) None ∷ ts) ≡ cond (not b) (first_failing ts) (Some g)
 first_if true g ts = refl
 first_if false g ts = refl
 
 -- tests that search pass where it holds everywhere, else the fault is of the first place where it doesn't
-pub Describes-search : (made : ℕ → TestFault) (ts : List (Option TestFault)) (n : ℕ) (Holds : ℕ → Type 0) → Searches TestFault made (first_failing ts) n Holds
+pub Describes-search : (made : ℕ → TestFault) (ts : List (Option TestFault)) (n : ℕ) (Holds : ℕ → Type 0)
+    → Searches TestFault made (first_failing ts) n Holds
     → Describes ts ((i : ℕ) → Holds i) (λ f. (i : ℕ) × (f ≡ made (n + i)) × IsFirstNot Holds i)
 Describes-search made ts n Holds s = record { none = s.none; some = s.some }
 

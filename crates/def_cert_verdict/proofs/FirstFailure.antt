@@ -6,11 +6,13 @@ use Rattle.def_cert_verdict.specs.declared.fault.TestFault.{TestFault}
 use Rattle.def_cert_verdict.specs.Laws.{IsFirstFailure, TheFirstFailureDecides}
 use Rattle.def_cert_verdict.specs.Verdict.{first_failing}
 
-passes-cons : (t : Option TestFault) (ts : List (Option TestFault)) → first_failing (t ∷ ts) ≡ None → (t ≡ None) × (first_failing ts ≡ None)
+passes-cons : (t : Option TestFault) (ts : List (Option TestFault)) → first_failing (t ∷ ts) ≡ None
+    → (t ≡ None) × (first_failing ts ≡ None)
 passes-cons None ts e = (refl, e)
 passes-cons (Some f) ts e = absurd (none-some f (sym e))
 
-all_pass-cons : (t : Option TestFault) (ts : List (Option TestFault)) → t ≡ None → first_failing ts ≡ None → first_failing (t ∷ ts) ≡ None
+all_pass-cons : (t : Option TestFault) (ts : List (Option TestFault)) → t ≡ None → first_failing ts ≡ None
+    → first_failing (t ∷ ts) ≡ None
 all_pass-cons t ts e f = ap (λ o. first_failing (o ∷ ts)) e ∙ f
 
 none_fails : (xs : List (Option TestFault)) → first_failing xs ≡ None → All (λ o. o ≡ None) xs

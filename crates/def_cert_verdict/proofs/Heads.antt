@@ -26,17 +26,20 @@ other_line game head line far = record {
   mass_is = λ e. absurd (far (omega arith) (omega arith));
 }
 
-nodes_line : (game : WeighedGame) (head : Head) → Decides (eqb head.nodes game.nodes && eqb head.leaves (length game.form.leaves)) (NamesLine game head 2)
+nodes_line : (game : WeighedGame) (head : Head)
+    → Decides (eqb head.nodes game.nodes && eqb head.leaves (length game.form.leaves)) (NamesLine game head 2)
 nodes_line game head =
     let d = both head.nodes game.nodes head.leaves (length game.form.leaves) in
     (λ e. record { nodes = λ l. d.0 e; sets = λ l. absurd (omega arith); sequences = λ l. absurd (omega arith); unit = λ l. absurd (omega arith); mass_is = λ l. absurd (omega arith) }, λ s. d.1 (s.nodes refl))
 
-sets_line : (game : WeighedGame) (head : Head) → Decides (eqb head.sets_one (length game.form.sets_one) && eqb head.sets_two (length game.form.sets_two)) (NamesLine game head 3)
+sets_line : (game : WeighedGame) (head : Head)
+    → Decides (eqb head.sets_one (length game.form.sets_one) && eqb head.sets_two (length game.form.sets_two)) (NamesLine game head 3)
 sets_line game head =
     let d = both head.sets_one (length game.form.sets_one) head.sets_two (length game.form.sets_two) in
     (λ e. record { nodes = λ l. absurd (omega arith); sets = λ l. d.0 e; sequences = λ l. absurd (omega arith); unit = λ l. absurd (omega arith); mass_is = λ l. absurd (omega arith) }, λ s. d.1 (s.sets refl))
 
-sequences_line : (game : WeighedGame) (head : Head) → Decides (eqb head.sequences_one (sequence_count game.form.sets_one) && eqb head.sequences_two (sequence_count game.form.sets_two)) (NamesLine game head 4)
+sequences_line : (game : WeighedGame) (head : Head)
+    → Decides (eqb head.sequences_one (sequence_count game.form.sets_one) && eqb head.sequences_two (sequence_count game.form.sets_two)) (NamesLine game head 4)
 sequences_line game head =
     let d = both head.sequences_one (sequence_count game.form.sets_one) head.sequences_two (sequence_count game.form.sets_two) in
     (λ e. record { nodes = λ l. absurd (omega arith); sets = λ l. absurd (omega arith); sequences = λ l. d.0 e; unit = λ l. absurd (omega arith); mass_is = λ l. absurd (omega arith) }, λ s. d.1 (s.sequences refl))
@@ -46,18 +49,21 @@ unit_line game head =
     let d = Decides-eqb head.unit game.unit in
     (λ e. record { nodes = λ l. absurd (omega arith); sets = λ l. absurd (omega arith); sequences = λ l. absurd (omega arith); unit = λ l. d.0 e; mass_is = λ l. absurd (omega arith) }, λ s. d.1 (s.unit refl))
 
-mass_line : (game : WeighedGame) (head : Head) → Decides (eqb head.mass (mass_of game.form.leaves)) (NamesLine game head 6)
+mass_line : (game : WeighedGame) (head : Head)
+    → Decides (eqb head.mass (mass_of game.form.leaves)) (NamesLine game head 6)
 mass_line game head =
     let d = Decides-eqb head.mass (mass_of game.form.leaves) in
     (λ e. record { nodes = λ l. absurd (omega arith); sets = λ l. absurd (omega arith); sequences = λ l. absurd (omega arith); unit = λ l. absurd (omega arith); mass_is = λ l. d.0 e }, λ s. d.1 (s.mass_is refl))
 
 -- one test of a line, and those of the lines behind it
-line_step : (n : ℕ) (b : Bool) (ts : List (Option TestFault)) (Says : ℕ → Type 0) → Decides b (Says 0) → Searches TestFault HeadDiffers (first_failing ts) (n + 1) (λ i. Says (suc i))
+line_step : (n : ℕ) (b : Bool) (ts : List (Option TestFault)) (Says : ℕ → Type 0) → Decides b (Says 0)
+    → Searches TestFault HeadDiffers (first_failing ts) (n + 1) (λ i. Says (suc i))
     → Searches TestFault HeadDiffers (first_failing (unless b (HeadDiffers n) ∷ ts)) n Says
 line_step n b ts Says d s =
     subst (λ r. Searches TestFault HeadDiffers r n Says) (sym (first_unless b (HeadDiffers n) ts)) (Searches-step TestFault HeadDiffers b (first_failing ts) n Says d s)
 
-searched : (game : WeighedGame) (head : Head) → Searches TestFault HeadDiffers (first_failing (head_tests game head)) 2 (λ i. NamesLine game head (2 + i))
+searched : (game : WeighedGame) (head : Head)
+    → Searches TestFault HeadDiffers (first_failing (head_tests game head)) 2 (λ i. NamesLine game head (2 + i))
 searched game head =
     line_step 2 _ _ (λ i. NamesLine game head (2 + i)) (nodes_line game head)
     (line_step 3 _ _ (λ i. NamesLine game head (2 + suc i)) (sets_line game head)
@@ -89,7 +95,8 @@ head_of game head says = record {
   mass_is = (says 4).mass_is refl;
 }
 
-from_two : (game : WeighedGame) (head : Head) (i : ℕ) → IsFirstNot (λ k. NamesLine game head (2 + k)) i → IsFirstNot (NamesLine game head) (2 + i)
+from_two : (game : WeighedGame) (head : Head) (i : ℕ) → IsFirstNot (λ k. NamesLine game head (2 + k)) i
+    → IsFirstNot (NamesLine game head) (2 + i)
 from_two game head i f = record {
   fails = f.fails;
   earlier = λ j low. ⊎_elim (λ less. other_line game head j (λ a b. omega arith))
@@ -99,7 +106,8 @@ from_two game head i f = record {
     back : (j : ℕ) → 2 ≤ j → 2 + (j - 2) ≡ j
     back j more = omega arith
 
-caused : (game : WeighedGame) (head : Head) (f : TestFault) → HeadFault game head f → (i : ℕ) × (f ≡ HeadDiffers (2 + i)) × IsFirstNot (λ k. NamesLine game head (2 + k)) i
+caused : (game : WeighedGame) (head : Head) (f : TestFault) → HeadFault game head f
+    → (i : ℕ) × (f ≡ HeadDiffers (2 + i)) × IsFirstNot (λ k. NamesLine game head (2 + k)) i
 caused game head (HeadDiffers line) c =
     ⊎_elim (λ less. absurd (c.fails (other_line game head line (λ a b. omega arith))))
     (λ more.
@@ -113,7 +121,8 @@ caused game head (TotalDiffers end) c = absurd c
 caused game head (TraceWidens line) c = absurd c
 
 -- the head's tests pass exactly where it is the game's, else the fault has the first line that differs
-pub head_described : (game : WeighedGame) (head : Head) → Describes (head_tests game head) (IsHeadOf game head) (HeadFault game head)
+pub head_described : (game : WeighedGame) (head : Head)
+    → Describes (head_tests game head) (IsHeadOf game head) (HeadFault game head)
 head_described game head =
     Describes-like (head_tests game head) _ (IsHeadOf game head) _ (HeadFault game head)
     (Describes-search HeadDiffers (head_tests game head) 2 (λ i. NamesLine game head (2 + i)) (searched game head))

@@ -27,7 +27,8 @@ no_set : (i : ℕ) → HasItsActions [] [] i
 no_set zero = refl
 no_set (suc i) = refl
 
-sizes_searched : (k : ℕ) (hs : List InformationSet) (wss : List (List ℕ)) → Searches ℕ itself (first_of_other_size k hs wss) k (HasItsActions hs wss)
+sizes_searched : (k : ℕ) (hs : List InformationSet) (wss : List (List ℕ))
+    → Searches ℕ itself (first_of_other_size k hs wss) k (HasItsActions hs wss)
 sizes_searched k [] [] = Searches-end ℕ itself k (HasItsActions [] []) no_set
 sizes_searched k [] (ws ∷ wss) = Searches-stop ℕ itself k (HasItsActions [] (ws ∷ wss)) (λ e. none-some (length ws) (sym e))
 sizes_searched k (h ∷ hs) [] = Searches-stop ℕ itself k (HasItsActions (h ∷ hs) []) (λ e. none-some h.actions e)
@@ -36,20 +37,23 @@ sizes_searched k (h ∷ hs) (ws ∷ wss) =
     (Decides-like (eqb (length ws) h.actions) (ap Some) (same_Some (length ws) h.actions) (Decides-eqb (length ws) h.actions))
     (sizes_searched (k + 1) hs wss)
 
-sizes_zip : (hs : List InformationSet) (wss : List (List ℕ)) → ((i : ℕ) → HasItsActions hs wss i) → AllZip (λ h ws. length ws ≡ h.actions) hs wss
+sizes_zip : (hs : List InformationSet) (wss : List (List ℕ)) → ((i : ℕ) → HasItsActions hs wss i)
+    → AllZip (λ h ws. length ws ≡ h.actions) hs wss
 sizes_zip [] [] s = tt
 sizes_zip [] (ws ∷ wss) s = absurd (none-some (length ws) (sym (s 0)))
 sizes_zip (h ∷ hs) [] s = absurd (none-some h.actions (s 0))
 sizes_zip (h ∷ hs) (ws ∷ wss) s = (same_Some (length ws) h.actions (s 0), sizes_zip hs wss (λ i. s (suc i)))
 
-zip_sizes : (hs : List InformationSet) (wss : List (List ℕ)) → AllZip (λ h ws. length ws ≡ h.actions) hs wss → (i : ℕ) → HasItsActions hs wss i
+zip_sizes : (hs : List InformationSet) (wss : List (List ℕ)) → AllZip (λ h ws. length ws ≡ h.actions) hs wss → (i : ℕ)
+    → HasItsActions hs wss i
 zip_sizes [] [] z i = no_set i
 zip_sizes [] (ws ∷ wss) z i = elim z [ ]
 zip_sizes (h ∷ hs) [] z i = elim z [ ]
 zip_sizes (h ∷ hs) (ws ∷ wss) z zero = ap Some z.0
 zip_sizes (h ∷ hs) (ws ∷ wss) z (suc i) = zip_sizes hs wss z.1 i
 
-all_numbers : (hs : List InformationSet) (wss : List (List ℕ)) → AllZip (λ h ws. length ws ≡ h.actions) hs wss → length (joined wss) ≡ nat_sum_over (λ h. h.actions) hs
+all_numbers : (hs : List InformationSet) (wss : List (List ℕ)) → AllZip (λ h ws. length ws ≡ h.actions) hs wss
+    → length (joined wss) ≡ nat_sum_over (λ h. h.actions) hs
 all_numbers [] [] h = refl
 all_numbers [] (ws ∷ wss) h = elim h [ ]
 all_numbers (g ∷ gs) [] h = elim h [ ]
@@ -66,7 +70,8 @@ no_sum : (plan : List ℕ) (i : ℕ) → AddsUpAt plan [] i
 no_sum plan zero h is = absurd (none-some h is)
 no_sum plan (suc i) h is = absurd (none-some h is)
 
-sums_searched : (plan : List ℕ) (k : ℕ) (hs : List PlacedSet) → Searches ℕ itself (first_not_adding plan k hs) k (AddsUpAt plan hs)
+sums_searched : (plan : List ℕ) (k : ℕ) (hs : List PlacedSet)
+    → Searches ℕ itself (first_not_adding plan k hs) k (AddsUpAt plan hs)
 sums_searched plan k [] = Searches-end ℕ itself k (AddsUpAt plan []) (no_sum plan)
 sums_searched plan k (h ∷ hs) =
     Searches-step ℕ itself (eqb (nat_sum_over (λ s. slice_index plan s) (sequences_of h)) (slice_index plan h.before)) (first_not_adding plan (k + 1) hs) k
@@ -96,10 +101,12 @@ set_described player (Some k) n Holds s = record {
   );
 }
 
-root_decided : (root : ℕ) (plan : PrintedPlan) → Decides (leb 1 plan.root && eqb plan.root root) (HasPrintedRoot root plan)
+root_decided : (root : ℕ) (plan : PrintedPlan)
+    → Decides (leb 1 plan.root && eqb plan.root root) (HasPrintedRoot root plan)
 root_decided root plan = Decides-and (leb 1 plan.root) (eqb plan.root root) (leb-true 1 plan.root, le-leb 1 plan.root) (Decides-eqb plan.root root)
 
-holds_as_plan : (sets : List InformationSet) (root : ℕ) (plan : PrintedPlan) → HasPrintedRoot root plan → ((i : ℕ) → HasItsActions sets plan.weights i)
+holds_as_plan : (sets : List InformationSet) (root : ℕ) (plan : PrintedPlan) → HasPrintedRoot root plan
+    → ((i : ℕ) → HasItsActions sets plan.weights i)
     → ((i : ℕ) → AddsUpAt (printed_numbers plan) (placed sets) i) → HoldsAsPlan sets root plan
 holds_as_plan sets root plan has sizes adds =
     let zipped = sizes_zip sets plan.weights sizes in
@@ -121,7 +128,8 @@ InTurn player sets root plan f =
     × (((i : ℕ) × (f ≡ NotAPlan player (1 + i)) × IsFirstNot (HasItsActions sets plan.weights) i)
     ⊎ (((i : ℕ) → HasItsActions sets plan.weights i) × ((i : ℕ) × (f ≡ NotAPlan player (1 + i)) × IsFirstNot (AddsUpAt (printed_numbers plan) (placed sets)) i))))
 
-caused : (player : Player) (sets : List InformationSet) (root : ℕ) (plan : PrintedPlan) (f : TestFault) → InTurn player sets root plan f → PlanFault player sets root plan f
+caused : (player : Player) (sets : List InformationSet) (root : ℕ) (plan : PrintedPlan) (f : TestFault)
+    → InTurn player sets root plan f → PlanFault player sets root plan f
 caused player sets root plan f turn =
     let back : (n : ℕ) → f ≡ NotAPlan player n → IsBadPlan sets root plan n → PlanFault player sets root plan f =
     λ n e bad. subst (PlanFault player sets root plan) (sym e) (refl, bad)
@@ -130,13 +138,15 @@ caused player sets root plan f turn =
     (λ c. ⊎_elim (λ s. back (1 + s.0) s.1 (other_size c.0 s.0 s.2 refl)) (λ s. back (1 + s.1.0) s.1.1 (not_adding c.0 s.0 s.1.0 s.1.2 refl)) c.1)
     turn
 
-turned : (player : Player) (sets : List InformationSet) (root : ℕ) (plan : PrintedPlan) (p : Player) (set : ℕ) → p ≡ player → IsBadPlan sets root plan set
+turned : (player : Player) (sets : List InformationSet) (root : ℕ) (plan : PrintedPlan) (p : Player) (set : ℕ)
+    → p ≡ player → IsBadPlan sets root plan set
     → InTurn player sets root plan (NotAPlan p set)
 turned player sets root plan p set same (other_root bad e) = inl (named player p set 0 same e, bad)
 turned player sets root plan p set same (other_size has k first e) = inr (has, inl (k, named player p set (1 + k) same e, first))
 turned player sets root plan p set same (not_adding has sizes k first e) = inr (has, inr (sizes, (k, named player p set (1 + k) same e, first)))
 
-in_turn : (player : Player) (sets : List InformationSet) (root : ℕ) (plan : PrintedPlan) (f : TestFault) → PlanFault player sets root plan f → InTurn player sets root plan f
+in_turn : (player : Player) (sets : List InformationSet) (root : ℕ) (plan : PrintedPlan) (f : TestFault)
+    → PlanFault player sets root plan f → InTurn player sets root plan f
 in_turn player sets root plan (NotAPlan p set) c = turned player sets root plan p set c.0 c.1
 in_turn player sets root plan (HeadDiffers line) c = absurd c
 in_turn player sets root plan (ValueTooGood p set action) c = absurd c

@@ -31,13 +31,15 @@ better_decided Two a b = not_less-Decides a b
 abbrev BetterFrom : Player → (ℕ → ℤ) → PlacedSet → SetReply → ℕ → ℕ → ℕ → Type 0
 BetterFrom player w h r m n i = i < n → IsNoBetter player (w (chosen h (m + i))) r.value
 
-first_action : (player : Player) (w : ℕ → ℤ) (h : PlacedSet) (r : SetReply) (m n : ℕ) → Decides (not (is_better player (w (chosen h m)) r.value)) (BetterFrom player w h r m (suc n) 0)
+first_action : (player : Player) (w : ℕ → ℤ) (h : PlacedSet) (r : SetReply) (m n : ℕ)
+    → Decides (not (is_better player (w (chosen h m)) r.value)) (BetterFrom player w h r m (suc n) 0)
 first_action player w h r m n =
     let d = better_decided player (w (chosen h m)) r.value in
     let here : m ≡ m + 0 = omega arith in
     (λ e low. subst (λ k. IsNoBetter player (w (chosen h k)) r.value) here (d.0 e), λ b. d.1 (subst (λ k. IsNoBetter player (w (chosen h k)) r.value) (sym here) (b (omega arith))))
 
-later_action : (player : Player) (w : ℕ → ℤ) (h : PlacedSet) (r : SetReply) (m n i : ℕ) → BetterFrom player w h r (m + 1) n i ↔ BetterFrom player w h r m (suc n) (suc i)
+later_action : (player : Player) (w : ℕ → ℤ) (h : PlacedSet) (r : SetReply) (m n i : ℕ)
+    → BetterFrom player w h r (m + 1) n i ↔ BetterFrom player w h r m (suc n) (suc i)
 later_action player w h r m n i =
     let same : m + 1 + i ≡ m + suc i = omega arith in
     (λ b low. subst (λ k. IsNoBetter player (w (chosen h k)) r.value) same (b (omega arith)), λ b low. subst (λ k. IsNoBetter player (w (chosen h k)) r.value) (sym same) (b (omega arith)))
@@ -81,12 +83,14 @@ no_set : (player : Player) (w : ℕ → ℤ) (j : ℕ) → TightAt player w [] [
 no_set player w zero = (tt, tt)
 no_set player w (suc j) = (tt, tt)
 
-before_next : (player : Player) (w : ℕ → ℤ) (h : PlacedSet) (hs : List PlacedSet) (r : SetReply) (rs : List SetReply) (k : ℕ) → TightAt player w (h ∷ hs) (r ∷ rs) 0
+before_next : (player : Player) (w : ℕ → ℤ) (h : PlacedSet) (hs : List PlacedSet) (r : SetReply) (rs : List SetReply) (k : ℕ)
+    → TightAt player w (h ∷ hs) (r ∷ rs) 0
     → ((j : ℕ) → j < k → TightAt player w hs rs j) → (j : ℕ) → j < suc k → TightAt player w (h ∷ hs) (r ∷ rs) j
 before_next player w h hs r rs k first rest zero low = first
 before_next player w h hs r rs k first rest (suc j) low = rest j (omega arith)
 
-all_next : (player : Player) (w : ℕ → ℤ) (h : PlacedSet) (hs : List PlacedSet) (r : SetReply) (rs : List SetReply) → TightAt player w (h ∷ hs) (r ∷ rs) 0
+all_next : (player : Player) (w : ℕ → ℤ) (h : PlacedSet) (hs : List PlacedSet) (r : SetReply) (rs : List SetReply)
+    → TightAt player w (h ∷ hs) (r ∷ rs) 0
     → ((j : ℕ) → TightAt player w hs rs j) → (j : ℕ) → TightAt player w (h ∷ hs) (r ∷ rs) j
 all_next player w h hs r rs first rest zero = first
 all_next player w h hs r rs first rest (suc j) = rest j
@@ -135,14 +139,17 @@ at_first player w k h hs r rs f turn =
 abbrev Either : Player → (ℕ → ℤ) → ℕ → PlacedSet → List PlacedSet → SetReply → List SetReply → TestFault → Type 0
 Either player w k h hs r rs f = SetInTurn player w k h r f ⊎ (TightAt player w (h ∷ hs) (r ∷ rs) 0 × SetFault player w (k + 1) hs rs f)
 
-too_good : (player p : Player) (set k action i : ℕ) → p ≡ player → set ≡ k → action ≡ 1 + i → ValueTooGood p set action ≡ ValueTooGood player k (1 + i)
+too_good : (player p : Player) (set k action i : ℕ) → p ≡ player → set ≡ k → action ≡ 1 + i
+    → ValueTooGood p set action ≡ ValueTooGood player k (1 + i)
 too_good player p set k action i same e a = ap (λ q. ValueTooGood q set action) same ∙ ap (λ n. ValueTooGood player n action) e ∙ ap (ValueTooGood player k) a
 
 not_tight : (player p : Player) (set k : ℕ) → p ≡ player → set ≡ k → ReplyNotTight p set ≡ ReplyNotTight player k
 not_tight player p set k same e = ap (λ q. ReplyNotTight q set) same ∙ ap (ReplyNotTight player) e
 
-too_good_back : (player : Player) (w : ℕ → ℤ) (k : ℕ) (h : PlacedSet) (hs : List PlacedSet) (r : SetReply) (rs : List SetReply) (p : Player) (set action : ℕ) → p ≡ player
-    → (n i : ℕ) → set ≡ k + n → action ≡ 1 + i → IsTooGood player w (h ∷ hs) (r ∷ rs) n i → Either player w k h hs r rs (ValueTooGood p set action)
+too_good_back : (player : Player) (w : ℕ → ℤ) (k : ℕ) (h : PlacedSet) (hs : List PlacedSet) (r : SetReply) (rs : List SetReply) (p : Player) (set action : ℕ)
+    → p ≡ player
+    → (n i : ℕ) → set ≡ k + n → action ≡ 1 + i → IsTooGood player w (h ∷ hs) (r ∷ rs) n i
+    → Either player w k h hs r rs (ValueTooGood p set action)
 too_good_back player w k h hs r rs p set action same zero i e a t =
     let at : PlacedSet → SetReply → Type 0 = λ g q. IsFirstNot (BetterFrom player w g q 1 g.actions) i in
     let moved : at h r = subst (at h) (sym (same_Some r t.reply t.reply_there)) (subst (λ g. at g t.reply) (sym (same_Some h t.set t.set_there)) t.action) in
@@ -169,8 +176,10 @@ too_good_back player w k h hs r rs p set action same (suc n) i e a t =
       ),
     )
 
-not_reached_back : (player : Player) (w : ℕ → ℤ) (k : ℕ) (h : PlacedSet) (hs : List PlacedSet) (r : SetReply) (rs : List SetReply) (p : Player) (set : ℕ) → p ≡ player
-    → (n : ℕ) → set ≡ k + n → IsNotReached player w (h ∷ hs) (r ∷ rs) n → Either player w k h hs r rs (ReplyNotTight p set)
+not_reached_back : (player : Player) (w : ℕ → ℤ) (k : ℕ) (h : PlacedSet) (hs : List PlacedSet) (r : SetReply) (rs : List SetReply) (p : Player) (set : ℕ)
+    → p ≡ player
+    → (n : ℕ) → set ≡ k + n → IsNotReached player w (h ∷ hs) (r ∷ rs) n
+    → Either player w k h hs r rs (ReplyNotTight p set)
 not_reached_back player w k h hs r rs p set same zero e t = inl (inr (t.no_better, (not_tight player p set k same (omega arith), t.not_reached)))
 not_reached_back player w k h hs r rs p set same (suc n) e t =
     inr (t.earlier 0 (omega arith), (same, (n, omega (arith, e), record { earlier = λ j low. t.earlier (suc j) (omega arith); no_better = t.no_better; not_reached = t.not_reached })))
@@ -188,7 +197,8 @@ either player w k h hs r rs (TraceWidens line) c = absurd c
 no_place : {A : Type 0} (none : List A) → length none ≡ 0 → (i : ℕ) (x : A) → slice_get none i ≡ Some x → ⊥
 no_place none empty i x e = none-some x (sym (slice_get_past none i (omega arith)) ∙ e)
 
-at_missing : (player : Player) (w : ℕ → ℤ) (k : ℕ) (hs : List PlacedSet) (rs : List SetReply) → ¬ (ReachedAt w (slice_get hs 0) (slice_get rs 0))
+at_missing : (player : Player) (w : ℕ → ℤ) (k : ℕ) (hs : List PlacedSet) (rs : List SetReply)
+    → ¬ (ReachedAt w (slice_get hs 0) (slice_get rs 0))
     → ((i : ℕ) (h : PlacedSet) (r : SetReply) → slice_get hs i ≡ Some h → slice_get rs i ≡ Some r → ⊥)
     → (f : TestFault) → SetFault player w k hs rs f → Some (ReplyNotTight player k) ≡ Some f
 at_missing player w k hs rs bad none (ValueTooGood p set action) c = let t = c.1.4 in absurd (none c.1.0 t.set t.reply t.set_there t.reply_there)
@@ -202,8 +212,10 @@ at_missing player w k hs rs bad none (NotAPlan p set) c = absurd c
 at_missing player w k hs rs bad none (TotalDiffers end) c = absurd c
 at_missing player w k hs rs bad none (TraceWidens line) c = absurd c
 
-missing : (player : Player) (w : ℕ → ℤ) (k : ℕ) (hs : List PlacedSet) (rs : List SetReply) → NoActionBetterAt player w (slice_get hs 0) (slice_get rs 0)
-    → ¬ (ReachedAt w (slice_get hs 0) (slice_get rs 0)) → ((i : ℕ) (h : PlacedSet) (r : SetReply) → slice_get hs i ≡ Some h → slice_get rs i ≡ Some r → ⊥)
+missing : (player : Player) (w : ℕ → ℤ) (k : ℕ) (hs : List PlacedSet) (rs : List SetReply)
+    → NoActionBetterAt player w (slice_get hs 0) (slice_get rs 0)
+    → ¬ (ReachedAt w (slice_get hs 0) (slice_get rs 0))
+    → ((i : ℕ) (h : PlacedSet) (r : SetReply) → slice_get hs i ≡ Some h → slice_get rs i ≡ Some r → ⊥)
     → Describes (Some (ReplyNotTight player k) ∷ []) ((j : ℕ) → TightAt player w hs rs j) (SetFault player w k hs rs)
 missing player w k hs rs fine bad none = record {
   none = (λ e. absurd (none-some (ReplyNotTight player k) (sym e)), λ h. absurd (bad (h 0).1));
@@ -214,7 +226,8 @@ missing player w k hs rs fine bad none = record {
   );
 }
 
-nothing : (player : Player) (w : ℕ → ℤ) (k : ℕ) → Describes [] ((j : ℕ) → TightAt player w [] [] j) (SetFault player w k [] [])
+nothing : (player : Player) (w : ℕ → ℤ) (k : ℕ)
+    → Describes [] ((j : ℕ) → TightAt player w [] [] j) (SetFault player w k [] [])
 nothing player w k = record {
   none = (λ e. no_set player w, λ h. refl);
   some = λ f. (λ e. absurd (none-some f e), nowhere f);
@@ -240,7 +253,8 @@ sets_described player w k (h ∷ hs) (r ∷ rs) =
     (λ f. (⊎_elim (at_first player w k h hs r rs f) (λ c. shifted player w k h hs r rs f c.0 c.1), either player w k h hs r rs f))
 
 -- ---- tight at each place is tight
-tight_of : (player : Player) (w : ℕ → ℤ) (h : PlacedSet) (r : SetReply) → NoActionBetterAt player w (Some h) (Some r) → ReachedAt w (Some h) (Some r) → IsTight player w h r
+tight_of : (player : Player) (w : ℕ → ℤ) (h : PlacedSet) (r : SetReply) → NoActionBetterAt player w (Some h) (Some r)
+    → ReachedAt w (Some h) (Some r) → IsTight player w h r
 tight_of player w h r better reached = record {
   no_better = All-range (λ s. IsNoBetter player (w s) r.value) h.first h.actions
       (λ s low high. let place : chosen h (1 + (s - h.first)) ≡ s = omega arith in
@@ -249,13 +263,15 @@ tight_of player w h r better reached = record {
   reached = reached.2;
 }
 
-tight_zip : (player : Player) (w : ℕ → ℤ) (hs : List PlacedSet) (rs : List SetReply) → ((j : ℕ) → TightAt player w hs rs j) → AllZip (IsTight player w) hs rs
+tight_zip : (player : Player) (w : ℕ → ℤ) (hs : List PlacedSet) (rs : List SetReply)
+    → ((j : ℕ) → TightAt player w hs rs j) → AllZip (IsTight player w) hs rs
 tight_zip player w [] [] t = tt
 tight_zip player w [] (r ∷ rs) t = absurd (t 0).1
 tight_zip player w (h ∷ hs) [] t = absurd (t 0).1
 tight_zip player w (h ∷ hs) (r ∷ rs) t = (tight_of player w h r (t 0).0 (t 0).1, tight_zip player w hs rs (λ j. t (suc j)))
 
-zip_tight : (player : Player) (w : ℕ → ℤ) (hs : List PlacedSet) (rs : List SetReply) → AllZip (IsTight player w) hs rs → (j : ℕ) → TightAt player w hs rs j
+zip_tight : (player : Player) (w : ℕ → ℤ) (hs : List PlacedSet) (rs : List SetReply) → AllZip (IsTight player w) hs rs
+    → (j : ℕ) → TightAt player w hs rs j
 zip_tight player w [] [] z j = no_set player w j
 zip_tight player w [] (r ∷ rs) z j = elim z [ ]
 zip_tight player w (h ∷ hs) [] z j = elim z [ ]
@@ -283,7 +299,8 @@ total_decided sums sets reply traced bound scale =
     (Decides-and (int_eq reply.total traced) (is_same_fraction bound (fraction_of reply.total scale)) (Decides-int_eq reply.total traced) (same_fraction bound (fraction_of reply.total scale))))
 
 total_caused : (player : Player) (sums : ℕ → ℤ) (sets : List InformationSet) (reply : Reply) (traced : ℤ) (bound : Fraction) (scale : ℕ) (f : TestFault)
-    → TotalFault player sums sets reply traced bound scale f → (f ≡ TotalDiffers (end_shown_by player)) × (¬ (HoldsAsTotal sums sets reply traced bound scale))
+    → TotalFault player sums sets reply traced bound scale f
+    → (f ≡ TotalDiffers (end_shown_by player)) × (¬ (HoldsAsTotal sums sets reply traced bound scale))
 total_caused player sums sets reply traced bound scale (TotalDiffers end) c = (ap TotalDiffers c.0, c.1)
 total_caused player sums sets reply traced bound scale (HeadDiffers line) c = absurd c
 total_caused player sums sets reply traced bound scale (NotAPlan p set) c = absurd c

@@ -17,13 +17,15 @@ use Rattle.def_cert_verdict.proofs.Decided.{exact}
 some_scale : (unit root : ℕ) → 1 ≤ unit → 1 ≤ root → 1 ≤ unit * root
 some_scale unit root u r = omega (arith, mul-le 1 1 unit root u r)
 
-total_over : (bound : Fraction) (total : ℤ) (scale : ℕ) → 1 ≤ scale → bound ≡ fraction_of total scale → IsTotalOver bound total scale
+total_over : (bound : Fraction) (total : ℤ) (scale : ℕ) → 1 ≤ scale → bound ≡ fraction_of total scale
+    → IsTotalOver bound total scale
 total_over bound total scale some e =
     let r = fraction_of-reduced total scale some in
     record { lowest = subst IsInLowestTerms (sym e) r.lowest; value = subst (λ (f : Fraction). HasValue f total scale) (sym e) r.exact }
 
 -- bound = total / scale, times the root of a plan of the other player
-scaled : (bound : Fraction) (total : ℤ) (scale root : ℕ) → HasValue bound total scale → bound.num *ℤ pos (scale * root) ≡ (pos root *ℤ total) *ℤ pos bound.den
+scaled : (bound : Fraction) (total : ℤ) (scale root : ℕ) → HasValue bound total scale
+    → bound.num *ℤ pos (scale * root) ≡ (pos root *ℤ total) *ℤ pos bound.den
 scaled bound total scale root e =
     sym (*ℤ_assoc bound.num (pos scale) (pos root))
     ∙ ap (λ (z : ℤ). z *ℤ pos root) e

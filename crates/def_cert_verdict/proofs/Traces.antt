@@ -26,14 +26,16 @@ first_pair a b lines =
     let d = wider_decided b a in
     (λ e line low. d.0 e, λ h. d.1 (h a (omega arith)))
 
-later_pair : (a b : TraceLine) (lines : List TraceLine) (i : ℕ) → IsNoWider (b ∷ lines) i ↔ IsNoWider (a ∷ b ∷ lines) (suc i)
+later_pair : (a b : TraceLine) (lines : List TraceLine) (i : ℕ)
+    → IsNoWider (b ∷ lines) i ↔ IsNoWider (a ∷ b ∷ lines) (suc i)
 later_pair a b lines i =
     let same : suc (i + 1) ≡ suc i + 1 = omega arith in (
       λ h line low. subst (λ n. LiesWithin (get_or (a ∷ b ∷ lines) n line) (get_or (b ∷ lines) i line)) same (h line (omega arith)),
       λ h line low. subst (λ n. LiesWithin (get_or (a ∷ b ∷ lines) n line) (get_or (b ∷ lines) i line)) (sym same) (h line (omega arith)),
     )
 
-trace_searched : (k : ℕ) (lines : List TraceLine) → Searches TestFault TraceWidens (first_failing (trace_tests k lines)) (k + 1) (IsNoWider lines)
+trace_searched : (k : ℕ) (lines : List TraceLine)
+    → Searches TestFault TraceWidens (first_failing (trace_tests k lines)) (k + 1) (IsNoWider lines)
 trace_searched k [] = Searches-end TestFault TraceWidens (k + 1) (IsNoWider []) (λ i line low. absurd (omega arith))
 trace_searched k (a ∷ []) = Searches-end TestFault TraceWidens (k + 1) (IsNoWider (a ∷ [])) (λ i line low. absurd (omega arith))
 trace_searched k (a ∷ b ∷ lines) =
@@ -43,7 +45,8 @@ trace_searched k (a ∷ b ∷ lines) =
     (Searches-like TestFault TraceWidens (first_failing rest) (k + 1 + 1) (IsNoWider (b ∷ lines)) (λ i. IsNoWider (a ∷ b ∷ lines) (suc i)) (later_pair a b lines)
     (trace_searched (k + 1) (b ∷ lines))))
 
-caused : (k : ℕ) (lines : List TraceLine) (f : TestFault) → TraceFault k lines f → (i : ℕ) × (f ≡ TraceWidens (k + 1 + i)) × IsFirstNot (IsNoWider lines) i
+caused : (k : ℕ) (lines : List TraceLine) (f : TestFault) → TraceFault k lines f
+    → (i : ℕ) × (f ≡ TraceWidens (k + 1 + i)) × IsFirstNot (IsNoWider lines) i
 caused k lines (TraceWidens line) c = (c.0, ap TraceWidens (omega (arith, c.1)), c.2)
 caused k lines (HeadDiffers line) c = absurd c
 caused k lines (NotAPlan p set) c = absurd c
@@ -52,7 +55,8 @@ caused k lines (ReplyNotTight p set) c = absurd c
 caused k lines (TotalDiffers end) c = absurd c
 
 -- a trace's tests pass exactly where none is wider than the line before, else the fault has the first that is
-pub trace_described : (k : ℕ) (lines : List TraceLine) → Describes (trace_tests k lines) (NeverWidens lines) (TraceFault k lines)
+pub trace_described : (k : ℕ) (lines : List TraceLine)
+    → Describes (trace_tests k lines) (NeverWidens lines) (TraceFault k lines)
 trace_described k lines =
     Describes-like (trace_tests k lines) _ (NeverWidens lines) _ (TraceFault k lines)
     (Describes-search TraceWidens (trace_tests k lines) (k + 1) (IsNoWider lines) (trace_searched k lines))

@@ -25,7 +25,8 @@ pub record IsFirstNot (Holds : ℕ → Type 0) (k : ℕ) : Type 0 where
 pub record NamesLine (game : WeighedGame) (head : Head) (line : ℕ) : Type 0 where
   pub nodes : line ≡ 2 → (head.nodes ≡ game.nodes) × (head.leaves ≡ length game.form.leaves)
   pub sets : line ≡ 3 → (head.sets_one ≡ length game.form.sets_one) × (head.sets_two ≡ length game.form.sets_two)
-  pub sequences : line ≡ 4 → (head.sequences_one ≡ sequence_count game.form.sets_one) × (head.sequences_two ≡ sequence_count game.form.sets_two)
+  pub sequences : line ≡ 4
+      → (head.sequences_one ≡ sequence_count game.form.sets_one) × (head.sequences_two ≡ sequence_count game.form.sets_two)
   pub unit : line ≡ 5 → head.unit ≡ game.unit
   pub mass_is : line ≡ 6 → head.mass ≡ mass_of game.form.leaves
 
@@ -47,7 +48,8 @@ AddsUpAt plan hs k = (h : PlacedSet) → slice_get hs k ≡ Some h → AddsUp pl
 -- set 0 where the root is another, else the first set of another size, else the first whose numbers don't add up
 pub data IsBadPlan (sets : List InformationSet) (root : ℕ) (plan : PrintedPlan) (set : ℕ) : Type 0 where
   other_root : ¬ (HasPrintedRoot root plan) → set ≡ 0 → IsBadPlan sets root plan set
-  other_size : HasPrintedRoot root plan → (k : ℕ) → IsFirstNot (HasItsActions sets plan.weights) k → set ≡ 1 + k → IsBadPlan sets root plan set
+  other_size : HasPrintedRoot root plan → (k : ℕ) → IsFirstNot (HasItsActions sets plan.weights) k → set ≡ 1 + k
+      → IsBadPlan sets root plan set
   not_adding : HasPrintedRoot root plan → ((j : ℕ) → HasItsActions sets plan.weights j) → (k : ℕ)
       → IsFirstNot (AddsUpAt (printed_numbers plan) (placed sets)) k → set ≡ 1 + k → IsBadPlan sets root plan set
 

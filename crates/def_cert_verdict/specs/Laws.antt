@@ -24,8 +24,10 @@ pub record IsFirstFailure (outcomes : List (Option TestFault)) (fault : TestFaul
   pub earlier_pass : All (λ outcome. outcome ≡ None) (take place outcomes)
 
 pub record TheFirstFailureDecides : Type 0 where
-  pub none : (outcomes : List (Option TestFault)) → (first_failing outcomes ≡ None) ↔ All (λ outcome. outcome ≡ None) outcomes
-  pub some : (outcomes : List (Option TestFault)) (fault : TestFault) → first_failing outcomes ≡ Some fault → IsFirstFailure outcomes fault
+  pub none : (outcomes : List (Option TestFault))
+      → (first_failing outcomes ≡ None) ↔ All (λ outcome. outcome ≡ None) outcomes
+  pub some : (outcomes : List (Option TestFault)) (fault : TestFault) → first_failing outcomes ≡ Some fault
+      → IsFirstFailure outcomes fault
 
 -- ---- what holds of a certificate that is accepted
 
@@ -77,11 +79,14 @@ with_bounds head b = record { head = head; bounds = Some b }
 
 -- a certificate is accepted exactly where its head is the game's and its bounds, if it has any, hold up; what it shows are these
 pub record AcceptanceIsExact : Type 0 where
-  pub head_alone : (game : WeighedGame) (head : Head) → (verdict game (without_bounds head) ≡ Ok head_only) ↔ IsHeadOf game head
-  pub no_bracket : (game : WeighedGame) (head : Head) (low high : Fraction) → ¬ (verdict game (without_bounds head) ≡ Ok (bracket low high))
+  pub head_alone : (game : WeighedGame) (head : Head)
+      → (verdict game (without_bounds head) ≡ Ok head_only) ↔ IsHeadOf game head
+  pub no_bracket : (game : WeighedGame) (head : Head) (low high : Fraction)
+      → ¬ (verdict game (without_bounds head) ≡ Ok (bracket low high))
   pub with_bracket : (game : WeighedGame) (head : Head) (b : PrintedBounds) (low high : Fraction)
       → (verdict game (with_bounds head b) ≡ Ok (bracket low high)) ↔ (IsHeadOf game head × HoldsUp game head.scale b × (low ≡ b.low) × (high ≡ b.high))
-  pub not_head_alone : (game : WeighedGame) (head : Head) (b : PrintedBounds) → ¬ (verdict game (with_bounds head b) ≡ Ok head_only)
+  pub not_head_alone : (game : WeighedGame) (head : Head) (b : PrintedBounds)
+      → ¬ (verdict game (with_bounds head b) ≡ Ok head_only)
 
 -- ---- what that shows
 
@@ -121,4 +126,5 @@ pub record ShowsItsBounds (game : WeighedGame) (b : PrintedBounds) : Type 0 wher
 abbrev pub AcceptedCertificatesShowTheirBounds : Type 0
 AcceptedCertificatesShowTheirBounds =
     (game : WeighedGame) (head : Head) (b : PrintedBounds) (low high : Fraction) → AreInOrder game.form.sets_one → AreInOrder game.form.sets_two → 1 ≤ game.unit
-    → verdict game (with_bounds head b) ≡ Ok (bracket low high) → (low ≡ b.low) × (high ≡ b.high) × ShowsItsBounds game b
+    → verdict game (with_bounds head b) ≡ Ok (bracket low high)
+    → (low ≡ b.low) × (high ≡ b.high) × ShowsItsBounds game b

@@ -33,7 +33,8 @@ Other fault = fault ≢ TooLong
 err_any : {A : Type 0} (fault : FileFault) → Other fault → AnyLength {A = A} (Err fault)
 err_any fault other e = other (cc)
 
-bind_any : {A B : Type 0} (read : Result A FileFault) (f : A → Result B FileFault) → AnyLength read → ((x : A) → AnyLength (f x)) → AnyLength (read >>= f)
+bind_any : {A B : Type 0} (read : Result A FileFault) (f : A → Result B FileFault) → AnyLength read
+    → ((x : A) → AnyLength (f x)) → AnyLength (read >>= f)
 bind_any (Ok x) f h k = k x
 bind_any (Err fault) f h k = λ e. (let same : fault ≡ TooLong = cc in h (ap Err same))
 
@@ -55,7 +56,8 @@ unfolding token_where
 token_any test whole at = expected_any test (next_from whole at)
 
 -- a token, and what is made of it
-then_any : {B : Type 0} (test : Lexeme → Bool) (whole : List ℕ) (at : ℕ) (f : Lexeme → Result B FileFault) → ((token : Lexeme) → AnyLength (f token)) → AnyLength (token_where test whole at >>= f)
+then_any : {B : Type 0} (test : Lexeme → Bool) (whole : List ℕ) (at : ℕ) (f : Lexeme → Result B FileFault)
+    → ((token : Lexeme) → AnyLength (f token)) → AnyLength (token_where test whole at >>= f)
 then_any test whole at f k = bind_any (token_where test whole at) f (token_any test whole at) k
 
 text_any : (whole : List ℕ) (at : ℕ) → AnyLength (text_at whole at)
@@ -70,7 +72,8 @@ numbered_any : {A : Type 0} (token : Lexeme) (read : Result A NumberFault) → A
 numbered_any token (Ok n) = ok_any _
 numbered_any token (Err fault) = λ e. cc
 
-number_any : {A : Type 0} (read : List ℕ → Result A NumberFault) (whole : List ℕ) (at : ℕ) → AnyLength (number_at read whole at)
+number_any : {A : Type 0} (read : List ℕ → Result A NumberFault) (whole : List ℕ) (at : ℕ)
+    → AnyLength (number_at read whole at)
 number_any read whole at = then_any (is_token kinds.Number whole) whole at _ (λ token. numbered_any token (read (bytes_at whole token)))
 
 literal_any : (whole : List ℕ) (at : ℕ) → AnyLength (literal_at whole at)
@@ -98,7 +101,8 @@ close_any : {A : Type 0} (value : A) (whole : List ℕ) (at : ℕ) → AnyLength
 unfolding close_at
 close_any value whole at = then_any (is_token kinds.Close whole) whole at _ (λ token. ok_any _)
 
-actions_any : (kind : EntryKind) (left : ℕ) (done : List Action) (whole : List ℕ) (at : ℕ) → AnyLength (actions_from kind left done whole at)
+actions_any : (kind : EntryKind) (left : ℕ) (done : List Action) (whole : List ℕ) (at : ℕ)
+    → AnyLength (actions_from kind left done whole at)
 unfolding actions_from
 actions_any kind zero done whole at = λ e. cc
 actions_any kind (suc left) done whole at =
@@ -229,7 +233,8 @@ judged_any : (contents : Contents) (r : Record) → AnyLength (judged contents r
 unfolding judged
 judged_any contents r = unless_any (record_fault contents r) (with_record contents r) (record_other contents r)
 
-entries_any : (left : ℕ) (contents : Contents) (whole : List ℕ) (at : ℕ) → AnyLength (entries_from left contents whole at)
+entries_any : (left : ℕ) (contents : Contents) (whole : List ℕ) (at : ℕ)
+    → AnyLength (entries_from left contents whole at)
 unfolding entries_from
 entries_any zero contents whole at = λ e. cc
 entries_any (suc left) contents whole at =

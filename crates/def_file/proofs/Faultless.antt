@@ -36,12 +36,14 @@ at_first first i n false e at = absurd cc
 pub place-lt : (n : ℕ) (table : List SetEntry) (i : ℕ) → set_place_of n table ≡ Some i → i < length table
 place-lt n table i at = at_first (position_or_len (λ e. nat_eq n e.number) table) i (length table) _ refl at
 
-right_count : (n : ℕ) (b c : Bool) → nat_eq n 0 ≡ b → nat_lt most_actions n ≡ c → b || c ≡ false → (1 ≤ n) × (n ≤ most_actions)
+right_count : (n : ℕ) (b c : Bool) → nat_eq n 0 ≡ b → nat_lt most_actions n ≡ c → b || c ≡ false
+    → (1 ≤ n) × (n ≤ most_actions)
 right_count n false false some few e = let none : n ≡ 0 → ⊥ = eqb-false n 0 some in (omega arith, ltb-false most_actions n few)
 right_count n true c some few e = absurd cc
 right_count n false true some few e = absurd cc
 
 -- a first list has 1 to 1,024 actions
-pub given_count : (given : Option (List Action)) → is_none given ≡ false → has_wrong_count given ≡ false → (1 ≤ length (unwrap_or given [])) × (length (unwrap_or given []) ≤ most_actions)
+pub given_count : (given : Option (List Action)) → is_none given ≡ false → has_wrong_count given ≡ false
+    → (1 ≤ length (unwrap_or given [])) × (length (unwrap_or given []) ≤ most_actions)
 given_count (Some given) there right = right_count (length given) _ _ refl refl right
 given_count None there right = absurd cc

@@ -30,16 +30,21 @@ zero_lowest = record { positive = omega arith; coprime = refl }
 pub zero_small : IsSmallFraction zero_fraction
 zero_small = (zero_lowest, refl)
 
-new_chances : (actions : Option (List Action)) → IfGiven actions (λ given. All IsSmallFraction (map (λ a. a.chance) given)) → All IsSmallFraction (map (λ a. a.chance) (unwrap_or actions []))
+new_chances : (actions : Option (List Action))
+    → IfGiven actions (λ given. All IsSmallFraction (map (λ a. a.chance) given))
+    → All IsSmallFraction (map (λ a. a.chance) (unwrap_or actions []))
 new_chances (Some given) h = h
 new_chances None h = All-nil IsSmallFraction
 
-entry_at : (table : List SetEntry) (i : ℕ) → All (λ entry. All IsSmallFraction (chances_of entry)) table → All IsSmallFraction (chances_of (set_at table i))
+entry_at : (table : List SetEntry) (i : ℕ) → All (λ entry. All IsSmallFraction (chances_of entry)) table
+    → All IsSmallFraction (chances_of (set_at table i))
 entry_at [] i h = All-nil IsSmallFraction
 entry_at (e ∷ table) zero h = All-head (λ entry. All IsSmallFraction (chances_of entry)) e table h
 entry_at (e ∷ table) (suc i) h = entry_at table i (All-tail (λ entry. All IsSmallFraction (chances_of entry)) e table h)
 
-sets_more : (table : List SetEntry) (m : SetMention) → IfGiven m.actions (λ given. All IsSmallFraction (map (λ a. a.chance) given)) → All (λ entry. All IsSmallFraction (chances_of entry)) table
+sets_more : (table : List SetEntry) (m : SetMention)
+    → IfGiven m.actions (λ given. All IsSmallFraction (map (λ a. a.chance) given))
+    → All (λ entry. All IsSmallFraction (chances_of entry)) table
     → All (λ entry. All IsSmallFraction (chances_of entry)) (noted_set table m)
 sets_more table m given h = by (set_place_of m.number table)
   where
@@ -52,19 +57,22 @@ nth_small [] i h = zero_small
 nth_small (f ∷ payoffs) zero h = All-head IsSmallFraction f payoffs h
 nth_small (f ∷ payoffs) (suc i) h = nth_small payoffs i (All-tail IsSmallFraction f payoffs h)
 
-given_small : (payoffs : Option (List Fraction)) (i : ℕ) → IfGiven payoffs (All IsSmallFraction) → IsSmallFraction (nth_payoff (unwrap_or payoffs []) i)
+given_small : (payoffs : Option (List Fraction)) (i : ℕ) → IfGiven payoffs (All IsSmallFraction)
+    → IsSmallFraction (nth_payoff (unwrap_or payoffs []) i)
 given_small (Some given) i h = nth_small given i h
 given_small None i h = zero_small
 
 -- a payoff of the outcomes, with one more mention
 module _ (paid : OutcomeEntry → Fraction) (at_null : IsSmallFraction (paid null_outcome)) (m : OutcomeMention)
     (keeps : (e : OutcomeEntry) (name : Option (List ℕ)) → paid (record e { name = name }) ≡ paid e) (new : IsSmallFraction (paid (new_outcome m))) where
-  outcome_kept : (outcomes : List OutcomeEntry) (i : ℕ) → All (λ e. IsSmallFraction (paid e)) outcomes → IsSmallFraction (paid (outcome_at outcomes i))
+  outcome_kept : (outcomes : List OutcomeEntry) (i : ℕ) → All (λ e. IsSmallFraction (paid e)) outcomes
+      → IsSmallFraction (paid (outcome_at outcomes i))
   outcome_kept [] i h = at_null
   outcome_kept (e ∷ outcomes) zero h = All-head (λ x. IsSmallFraction (paid x)) e outcomes h
   outcome_kept (e ∷ outcomes) (suc i) h = outcome_kept outcomes i (All-tail (λ x. IsSmallFraction (paid x)) e outcomes h)
 
-  outcomes_more : (outcomes : List OutcomeEntry) → All (λ e. IsSmallFraction (paid e)) outcomes → All (λ e. IsSmallFraction (paid e)) (noted_outcome outcomes m)
+  outcomes_more : (outcomes : List OutcomeEntry) → All (λ e. IsSmallFraction (paid e)) outcomes
+      → All (λ e. IsSmallFraction (paid e)) (noted_outcome outcomes m)
   outcomes_more outcomes h = by (nat_eq m.number 0) (outcome_place_of m.number outcomes)
     where
       by : (null : Bool) (place : Option ℕ) → All (λ e. IsSmallFraction (paid e)) (cond null outcomes (option_map_or (λ i. set outcomes i (record (outcome_at outcomes i) { name = kept_name (outcome_at outcomes i).name m.name })) place (outcomes ++ new_outcome m ∷ [])))
@@ -74,7 +82,9 @@ module _ (paid : OutcomeEntry → Fraction) (at_null : IsSmallFraction (paid nul
           (subst IsSmallFraction (sym (keeps (outcome_at outcomes i) (kept_name (outcome_at outcomes i).name m.name))) (outcome_kept outcomes i h)) h
       by false None = All-push (λ e. IsSmallFraction (paid e)) outcomes (new_outcome m) h new
 
-chance_more : (kind : Kind) (sets : SetTables) (m : SetMention) → IfGiven m.actions (λ given. All IsSmallFraction (map (λ a. a.chance) given)) → All (λ entry. All IsSmallFraction (chances_of entry)) sets.chance
+chance_more : (kind : Kind) (sets : SetTables) (m : SetMention)
+    → IfGiven m.actions (λ given. All IsSmallFraction (map (λ a. a.chance) given))
+    → All (λ entry. All IsSmallFraction (chances_of entry)) sets.chance
     → All (λ entry. All IsSmallFraction (chances_of entry)) (with_sets kind (noted_set (sets_of_kind kind sets) m) sets).chance
 chance_more movers.Chance sets m given h = sets_more sets.chance m given h
 chance_more movers.One sets m given h = h
@@ -86,7 +96,9 @@ pub no_fractions : HasFractions no_contents.sets no_contents.outcomes
 no_fractions = record { chance = All-nil (λ entry. All IsSmallFraction (chances_of entry)); one = All-nil (λ e. IsSmallFraction e.one); two = All-nil (λ e. IsSmallFraction e.two) }
 
 -- the tables with an entry more have such fractions, if the entry gives such
-pub fractions_with : (contents : Contents) (r : Record) → GivesFractions r → HasFractions contents.sets contents.outcomes → HasFractions (with_record contents r).sets (with_record contents r).outcomes
+pub fractions_with : (contents : Contents) (r : Record) → GivesFractions r
+    → HasFractions contents.sets contents.outcomes
+    → HasFractions (with_record contents r).sets (with_record contents r).outcomes
 fractions_with contents r gives h = record {
   chance = chance_more (mover r) contents.sets r.set gives.chances h.chance;
   one = outcomes_more (λ e. e.one) zero_small r.outcome (λ e name. refl) (given_small r.outcome.payoffs 0 gives.payoffs) contents.outcomes h.one;

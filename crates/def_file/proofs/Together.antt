@@ -86,12 +86,14 @@ module _ (table : List SetEntry) (m : SetMention) (small : All IsFew table) wher
         all_few = All-push IsFew table (new_set m) small few;
       }
 
-  noted_by : (place : Option ℕ) → set_place_of m.number table ≡ place → is_none place && is_none m.actions ≡ false → is_none place && has_wrong_count m.actions ≡ false
+  noted_by : (place : Option ℕ) → set_place_of m.number table ≡ place → is_none place && is_none m.actions ≡ false
+      → is_none place && has_wrong_count m.actions ≡ false
       → IsNoted table (option_map_or (λ i. set table i (renamed i)) place (table ++ new_set m ∷ [])) (unwrap_or place (length table) + 1) (option_map_or (λ i. length (set_at table i).actions) place (length (new_set m).actions))
   noted_by (Some i) at defined counted = known i (place-lt m.number table i at)
   noted_by None at defined counted = fresh (given_count m.actions defined counted)
 
-  noted : is_set_undefined table m ≡ false → is_set_miscounted table m ≡ false → IsNoted table (noted_set table m) (set_number table m) (action_count table m)
+  noted : is_set_undefined table m ≡ false → is_set_miscounted table m ≡ false
+      → IsNoted table (noted_set table m) (set_number table m) (action_count table m)
   noted defined counted = noted_by (set_place_of m.number table) refl defined counted
 
 -- The outcomes with a mention more.
@@ -101,7 +103,8 @@ record AreNoted (outcomes more : List OutcomeEntry) (number : ℕ) : Type 0 wher
   next : length more ≤ length outcomes + 1
   there : number ≤ length more
 
-outcomes_noted : (outcomes : List OutcomeEntry) (m : OutcomeMention) → AreNoted outcomes (noted_outcome outcomes m) (outcome_number outcomes m)
+outcomes_noted : (outcomes : List OutcomeEntry) (m : OutcomeMention)
+    → AreNoted outcomes (noted_outcome outcomes m) (outcome_number outcomes m)
 outcomes_noted outcomes m = by (nat_eq m.number 0) (outcome_place_of m.number outcomes) refl
   where
     at_place : (first i n : ℕ) (b : Bool) → nat_lt first n ≡ b → cond b (Some first) None ≡ Some i → i < n
@@ -121,11 +124,13 @@ outcomes_noted outcomes m = by (nat_eq m.number 0) (outcome_place_of m.number ou
 
 -- Nodes with a node more.
 
-in_set : (table : List SetEntry) (node : Node) → 1 ≤ node.set → node.set ≤ length table → length (set_at table (node.set - 1)).actions ≡ node.children → IsInSet table node
+in_set : (table : List SetEntry) (node : Node) → 1 ≤ node.set → node.set ≤ length table
+    → length (set_at table (node.set - 1)).actions ≡ node.children → IsInSet table node
 in_set table node low high actions = record { from_one = low; there = high; actions = actions; chances = length-map (set_at table (node.set - 1)).actions (λ a. a.chance) ∙ actions }
 
 -- what goes with tables goes with those that grow
-goes_on : (sets more : SetTables) (outcomes longer : List OutcomeEntry) → ((kind : Kind) → Grows (sets_of_kind kind sets) (sets_of_kind kind more)) → length outcomes ≤ length longer
+goes_on : (sets more : SetTables) (outcomes longer : List OutcomeEntry)
+    → ((kind : Kind) → Grows (sets_of_kind kind sets) (sets_of_kind kind more)) → length outcomes ≤ length longer
     → (node : Node) → GoesWith sets outcomes node → GoesWith more longer node
 goes_on sets more outcomes longer grow long node with' = record {
   set = λ not_leaf.
@@ -137,7 +142,8 @@ goes_on sets more outcomes longer grow long node with' = record {
   outcome = let within : node.outcome ≤ length outcomes = with'.outcome in omega arith;
 }
 
-grow_all : (kind k : Kind) (sets : SetTables) (more : List SetEntry) → Grows (sets_of_kind kind sets) more → Grows (sets_of_kind k sets) (sets_of_kind k (with_sets kind more sets))
+grow_all : (kind k : Kind) (sets : SetTables) (more : List SetEntry) → Grows (sets_of_kind kind sets) more
+    → Grows (sets_of_kind k sets) (sets_of_kind k (with_sets kind more sets))
 grow_all movers.Chance movers.Chance sets more g = g
 grow_all movers.One movers.One sets more g = g
 grow_all movers.Two movers.Two sets more g = g
@@ -146,10 +152,13 @@ grow_all movers.One k sets more g = same_table (sets_of_kind k sets)
 grow_all movers.Two k sets more g = same_table (sets_of_kind k sets)
 grow_all movers.Leaf k sets more g = same_table (sets_of_kind k sets)
 
-own_sets : (kind : Kind) (table more : List SetEntry) (nodes : List Node) (node : Node) → is_same_kind kind node.kind ≡ true → length more ≡ max node.set (length table) → All IsFew more → AreSetsOf kind nodes table → AreSetsOf kind (nodes ++ node ∷ []) more
+own_sets : (kind : Kind) (table more : List SetEntry) (nodes : List Node) (node : Node)
+    → is_same_kind kind node.kind ≡ true → length more ≡ max node.set (length table) → All IsFew more
+    → AreSetsOf kind nodes table → AreSetsOf kind (nodes ++ node ∷ []) more
 own_sets kind table more nodes node same count few is = record { count = let pushed = set_count-push_same kind nodes node same in let old : length table ≡ set_count kind nodes = is.count in omega (arith, pushed, count, old); few = few }
 
-other_sets : (kind : Kind) (table : List SetEntry) (nodes : List Node) (node : Node) → is_same_kind kind node.kind ≡ false → AreSetsOf kind nodes table → AreSetsOf kind (nodes ++ node ∷ []) table
+other_sets : (kind : Kind) (table : List SetEntry) (nodes : List Node) (node : Node)
+    → is_same_kind kind node.kind ≡ false → AreSetsOf kind nodes table → AreSetsOf kind (nodes ++ node ∷ []) table
 other_sets kind table nodes node other is = record { count = is.count ∙ sym (set_count-push_other kind nodes node other); few = is.few }
 
 module _ (contents : Contents) (name : List ℕ) (m : SetMention) (o : OutcomeMention) (held : AreTogether contents) (room : nat_eq (length contents.nodes) most_nodes ≡ false) where
@@ -188,7 +197,8 @@ module _ (contents : Contents) (name : List ℕ) (m : SetMention) (o : OutcomeMe
         sym placed.actions ∙ ap (λ s. length (set_at (sets_of_kind kind contents.sets) (s - 1)).actions) same_set ∙ n.old (subst (λ s. s ≤ length (sets_of_kind kind contents.sets)) same_set there);
   }
 
-  tables : (kind : Kind) (more : List SetEntry) (node : Node) → Grows (sets_of_kind kind contents.sets) more → GoesWith (with_sets kind more contents.sets) (noted_outcome contents.outcomes o) node
+  tables : (kind : Kind) (more : List SetEntry) (node : Node) → Grows (sets_of_kind kind contents.sets) more
+      → GoesWith (with_sets kind more contents.sets) (noted_outcome contents.outcomes o) node
       → All (GoesWith (with_sets kind more contents.sets) (noted_outcome contents.outcomes o)) (contents.nodes ++ node ∷ [])
   tables kind more node grows new =
       All-push (GoesWith (with_sets kind more contents.sets) (noted_outcome contents.outcomes o)) contents.nodes node
@@ -207,7 +217,8 @@ module _ (contents : Contents) (name : List ℕ) (m : SetMention) (o : OutcomeMe
   abbrev After : Kind → List SetEntry → Node → Type 0
   After kind more node = GoTogether (contents.nodes ++ node ∷ []) (contents.names ++ name ∷ []) (with_sets kind more contents.sets) (noted_outcome contents.outcomes o)
 
-  chance_after : is_set_undefined contents.sets.chance m ≡ false → is_set_miscounted contents.sets.chance m ≡ false → After movers.Chance (noted_set contents.sets.chance m) (node_as movers.Chance)
+  chance_after : is_set_undefined contents.sets.chance m ≡ false → is_set_miscounted contents.sets.chance m ≡ false
+      → After movers.Chance (noted_set contents.sets.chance m) (node_as movers.Chance)
   chance_after defined counted =
       let n = noted contents.sets.chance m held.chance.few defined counted in
       let node = node_as movers.Chance in record {
@@ -221,7 +232,8 @@ module _ (contents : Contents) (name : List ℕ) (m : SetMention) (o : OutcomeMe
         few_outcomes = paid node;
       }
 
-  one_after : is_set_undefined contents.sets.one m ≡ false → is_set_miscounted contents.sets.one m ≡ false → After movers.One (noted_set contents.sets.one m) (node_as movers.One)
+  one_after : is_set_undefined contents.sets.one m ≡ false → is_set_miscounted contents.sets.one m ≡ false
+      → After movers.One (noted_set contents.sets.one m) (node_as movers.One)
   one_after defined counted =
       let n = noted contents.sets.one m held.one.few defined counted in
       let node = node_as movers.One in record {
@@ -235,7 +247,8 @@ module _ (contents : Contents) (name : List ℕ) (m : SetMention) (o : OutcomeMe
         few_outcomes = paid node;
       }
 
-  two_after : is_set_undefined contents.sets.two m ≡ false → is_set_miscounted contents.sets.two m ≡ false → After movers.Two (noted_set contents.sets.two m) (node_as movers.Two)
+  two_after : is_set_undefined contents.sets.two m ≡ false → is_set_miscounted contents.sets.two m ≡ false
+      → After movers.Two (noted_set contents.sets.two m) (node_as movers.Two)
   two_after defined counted =
       let n = noted contents.sets.two m held.two.few defined counted in
       let node = node_as movers.Two in record {
@@ -269,12 +282,15 @@ module _ (contents : Contents) (name : List ℕ) (m : SetMention) (o : OutcomeMe
     children = cond (has_set kind) (action_count (sets_of_kind who contents.sets) m) 0;
   }
 
-  by_player : (b : Bool) → is_set_undefined (sets_of_kind (cond b movers.One movers.Two) contents.sets) m ≡ false → is_set_miscounted (sets_of_kind (cond b movers.One movers.Two) contents.sets) m ≡ false
+  by_player : (b : Bool) → is_set_undefined (sets_of_kind (cond b movers.One movers.Two) contents.sets) m ≡ false
+      → is_set_miscounted (sets_of_kind (cond b movers.One movers.Two) contents.sets) m ≡ false
       → After (cond b movers.One movers.Two) (noted_set (sets_of_kind (cond b movers.One movers.Two) contents.sets) m) (node_by Personal (cond b movers.One movers.Two))
   by_player true defined counted = one_after defined counted
   by_player false defined counted = two_after defined counted
 
-  by_kind : (kind : EntryKind) (player : ℕ) → has_set kind && is_set_undefined (sets_of_kind (mover_as kind player) contents.sets) m ≡ false → has_set kind && is_set_miscounted (sets_of_kind (mover_as kind player) contents.sets) m ≡ false
+  by_kind : (kind : EntryKind) (player : ℕ)
+      → has_set kind && is_set_undefined (sets_of_kind (mover_as kind player) contents.sets) m ≡ false
+      → has_set kind && is_set_miscounted (sets_of_kind (mover_as kind player) contents.sets) m ≡ false
       → After (mover_as kind player) (noted_set (sets_of_kind (mover_as kind player) contents.sets) m) (node_by kind (mover_as kind player))
   by_kind Chance player defined counted = chance_after defined counted
   by_kind Personal player defined counted = by_player (nat_eq player 1) defined counted
@@ -294,7 +310,8 @@ nothing_together = record {
 }
 
 -- with one entry more that has no fault
-pub together_with : (contents : Contents) (r : Record) → AreTogether contents → record_fault contents r ≡ None → AreTogether (with_record contents r)
+pub together_with : (contents : Contents) (r : Record) → AreTogether contents → record_fault contents r ≡ None
+    → AreTogether (with_record contents r)
 together_with contents r held none =
     let fine = faultless contents r none in
     by_kind contents r.name r.set r.outcome held fine.room r.kind r.player fine.defined fine.counted

@@ -20,10 +20,12 @@ fits_last nodes node keep =
     (subst (λ xs. Fits xs (get_or (nodes ++ node ∷ []) (length nodes) node)) (take-append_seam nodes (node ∷ [])) (keep (length nodes) node within))
 
 -- the node of an entry without a fault fits those before it
-pub node_fits : (contents : Contents) (r : Record) → AreTogether contents → record_fault contents r ≡ None → Fits contents.nodes (node_with contents r)
+pub node_fits : (contents : Contents) (r : Record) → AreTogether contents → record_fault contents r ≡ None
+    → Fits contents.nodes (node_with contents r)
 node_fits contents r held none = fits_last contents.nodes (node_with contents r) (together_with contents r held none).rules
 
-count_step : (kind : Kind) (nodes : List Node) (node : Node) (n : ℕ) (b : Bool) → is_same_kind kind node.kind ≡ b → Fits nodes node → set_count kind nodes ≤ n → set_count kind (nodes ++ node ∷ []) ≤ n + 1
+count_step : (kind : Kind) (nodes : List Node) (node : Node) (n : ℕ) (b : Bool) → is_same_kind kind node.kind ≡ b
+    → Fits nodes node → set_count kind nodes ≤ n → set_count kind (nodes ++ node ∷ []) ≤ n + 1
 count_step kind nodes node n true e fits within =
     let pushed = set_count-push_same kind nodes node e in
     let same : node.kind ≡ kind = is_same_kind-true kind node.kind e in
@@ -31,7 +33,8 @@ count_step kind nodes node n true e fits within =
     omega (arith, pushed, next, within)
 count_step kind nodes node n false e fits within = let pushed = set_count-push_other kind nodes node e in omega (arith, pushed, within)
 
-count_below : (kind : Kind) (nodes : List Node) (d : Node) → KeepRules nodes → (n : ℕ) → n ≤ length nodes → set_count kind (take n nodes) ≤ n
+count_below : (kind : Kind) (nodes : List Node) (d : Node) → KeepRules nodes → (n : ℕ) → n ≤ length nodes
+    → set_count kind (take n nodes) ≤ n
 count_below kind nodes d keep zero within = omega arith
 count_below kind nodes d keep (suc n) within =
     let there : n < length nodes = omega arith in
@@ -74,5 +77,6 @@ module _ (nodes : List Node) (names : List (List ℕ)) (sets : SetTables) (outco
   outcomes_short = let few = held.few_outcomes in let limit = held.limit in omega (arith, few, limit)
 
   -- each set has 1 to 1,024 actions
-  pub set_few : (kind : Kind) → kind ≢ movers.Leaf → (i : ℕ) → i < length (sets_of_kind kind sets) → (1 ≤ length (set_at (sets_of_kind kind sets) i).actions) × (length (set_at (sets_of_kind kind sets) i).actions ≤ most_actions)
+  pub set_few : (kind : Kind) → kind ≢ movers.Leaf → (i : ℕ) → i < length (sets_of_kind kind sets)
+      → (1 ≤ length (set_at (sets_of_kind kind sets) i).actions) × (length (set_at (sets_of_kind kind sets) i).actions ≤ most_actions)
   set_few kind apart i there = (sets_of kind apart).few i no_set there

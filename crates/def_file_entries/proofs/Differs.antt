@@ -71,7 +71,8 @@ differ_names a b d =
     ∙ not_from_false (same_text d.kept d.given) (false_from_ne_true (same_text d.kept d.given) (λ e. d.differ ((text_tells d.kept d.given).0 e)))
 
 -- the test of the names tells whether another name is given than the first
-pub name_tells : (t : Record → Bool) (P : Record → Type 0) (name : Record → Option (List ℕ)) (rs : List Record) (r : Record) → Tells t P rs
+pub name_tells : (t : Record → Bool) (P : Record → Type 0) (name : Record → Option (List ℕ)) (rs : List Record) (r : Record)
+    → Tells t P rs
     → (name_differs (first_given (map name (filter t rs))) (name r) ≡ true) ↔ HasOtherName P name rs r
 name_tells t P name rs r tells = (forth, back)
   where
@@ -94,7 +95,8 @@ other_list same kept (Some given) = not (same kept given)
 other_list same kept None = false
 
 -- a list that is told from the kept one is given
-pub other_given : {A : Type 0} (same : A → A → Bool) (kept : A) (o : Option A) → other_list same kept o ≡ true → (given : A) × (o ≡ Some given) × (same kept given ≡ false)
+pub other_given : {A : Type 0} (same : A → A → Bool) (kept : A) (o : Option A) → other_list same kept o ≡ true
+    → (given : A) × (o ≡ Some given) × (same kept given ≡ false)
 other_given same kept (Some given) e = (given, refl, not-true (same kept given) e)
 other_given same kept None e = absurd cc
 
@@ -118,12 +120,14 @@ list_tells {A} P list same Same rs r e kept tells first keeps = (forth, back)
         ∙ not_from_false (same kept h.given) (false_from_ne_true (same kept h.given) (λ s. h.differ (subst (λ k. Same k h.given) (sym is) ((tells h.given).0 s))))
 
 -- the test of actions compares lists
-pub actions_other : (kind : Kind) (kept : List Action) (o : Option (List Action)) → actions_differ kind kept o ≡ other_list (pointwise (same_action kind)) kept o
+pub actions_other : (kind : Kind) (kept : List Action) (o : Option (List Action))
+    → actions_differ kind kept o ≡ other_list (pointwise (same_action kind)) kept o
 actions_other kind kept (Some given) = refl
 actions_other kind kept None = refl
 
 -- the test of payoffs compares lists
-pub payoffs_other : (kept : OutcomeEntry) (o : Option (List Fraction)) → payoffs_differ kept o ≡ other_list (pointwise same_value) (kept.one ∷ kept.two ∷ []) o
+pub payoffs_other : (kept : OutcomeEntry) (o : Option (List Fraction))
+    → payoffs_differ kept o ≡ other_list (pointwise same_value) (kept.one ∷ kept.two ∷ []) o
 payoffs_other kept (Some given) = refl
 payoffs_other kept None = refl
 
@@ -154,7 +158,8 @@ numbers_tell (f ∷ fs) (g ∷ gs) =
 
 -- Actions: the same names, and of chance the same probabilities.
 
-names_tell : (ks bs : List Action) → (pointwise (λ a b. same_text a.name b.name) ks bs ≡ true) ↔ (map (λ a. a.name) ks ≡ map (λ b. b.name) bs)
+names_tell : (ks bs : List Action)
+    → (pointwise (λ a b. same_text a.name b.name) ks bs ≡ true) ↔ (map (λ a. a.name) ks ≡ map (λ b. b.name) bs)
 names_tell [] [] = (λ e. refl, λ h. refl)
 names_tell [] (b ∷ bs) = (λ e. absurd cc, λ h. absurd cc)
 names_tell (a ∷ ks) [] = (λ e. absurd cc, λ h. absurd cc)
@@ -171,7 +176,8 @@ names_tell (a ∷ ks) (b ∷ bs) =
     )
 
 -- the chances of actions, beside their names
-chances_split : (ks bs : List Action) → pointwise (same_action movers.Chance) ks bs ≡ (pointwise (λ a b. same_text a.name b.name) ks bs && pointwise same_value (map (λ a. a.chance) ks) (map (λ b. b.chance) bs))
+chances_split : (ks bs : List Action)
+    → pointwise (same_action movers.Chance) ks bs ≡ (pointwise (λ a b. same_text a.name b.name) ks bs && pointwise same_value (map (λ a. a.chance) ks) (map (λ b. b.chance) bs))
 chances_split [] [] = refl
 chances_split [] (b ∷ bs) = refl
 chances_split (a ∷ ks) [] = refl
@@ -186,14 +192,18 @@ chances_split (a ∷ ks) (b ∷ bs) =
     crossed false y u v = refl
 
 -- where a player moves
-names_alone : (same : Action → Action → Bool) (ks gs : List Action) → ((a b : Action) → same a b ≡ same_text a.name b.name) → pointwise same ks gs ≡ pointwise (λ a b. same_text a.name b.name) ks gs
+names_alone : (same : Action → Action → Bool) (ks gs : List Action)
+    → ((a b : Action) → same a b ≡ same_text a.name b.name)
+    → pointwise same ks gs ≡ pointwise (λ a b. same_text a.name b.name) ks gs
 names_alone same [] [] is = refl
 names_alone same [] (b ∷ gs) is = refl
 names_alone same (a ∷ ks) [] is = refl
 names_alone same (a ∷ ks) (b ∷ gs) is =
     ap (λ (x : Bool). x && pointwise same ks gs) (is a b) ∙ ap (λ (x : Bool). same_text a.name b.name && x) (names_alone same ks gs is)
 
-by_name : (r : Record) (who : Kind) → r.kind ≡ Personal → ((a b : Action) → same_action who a b ≡ same_text a.name b.name) → (ks gs : List Action) → (pointwise (same_action who) ks gs ≡ true) ↔ AreSameActions r.kind ks gs
+by_name : (r : Record) (who : Kind) → r.kind ≡ Personal
+    → ((a b : Action) → same_action who a b ≡ same_text a.name b.name) → (ks gs : List Action)
+    → (pointwise (same_action who) ks gs ≡ true) ↔ AreSameActions r.kind ks gs
 by_name r who personal is ks gs =
     let alone = names_alone (same_action who) ks gs is in (
       λ e. record { names = (names_tell ks gs).0 (sym alone ∙ e); chances = λ chance. absurd (let no : Personal ≡ Chance = sym personal ∙ chance in cc) },
@@ -201,7 +211,8 @@ by_name r who personal is ks gs =
     )
 
 -- the test of the actions tells whether they are the same
-pub actions_tell : (who : Kind) (r : Record) → Moves who r → (ks gs : List Action) → (pointwise (same_action who) ks gs ≡ true) ↔ AreSameActions r.kind ks gs
+pub actions_tell : (who : Kind) (r : Record) → Moves who r → (ks gs : List Action)
+    → (pointwise (same_action who) ks gs ≡ true) ↔ AreSameActions r.kind ks gs
 actions_tell movers.Chance r m ks gs =
     let names = pointwise (λ a b. same_text a.name b.name) ks gs in
     let values = pointwise same_value (map (λ a. a.chance) ks) (map (λ b. b.chance) gs) in
@@ -216,7 +227,8 @@ actions_tell movers.Leaf r m ks gs = absurd m
 -- Counts.
 
 -- the test of a first list of actions tells
-pub count_tells : (o : Option (List Action)) → (has_wrong_count o ≡ true) ↔ ((given : List Action) × (o ≡ Some given) × ((length given ≡ 0) ⊎ (most_actions < length given)))
+pub count_tells : (o : Option (List Action))
+    → (has_wrong_count o ≡ true) ↔ ((given : List Action) × (o ≡ Some given) × ((length given ≡ 0) ⊎ (most_actions < length given)))
 count_tells (Some given) = (
   λ e. (given, refl, ⊎_elim (λ h. inl (eqb-true (length given) 0 h)) (λ h. inr (ltb-true most_actions (length given) h)) (or_cases (nat_eq (length given) 0) (nat_lt most_actions (length given)) e)),
   λ (g, is, h).
@@ -229,7 +241,8 @@ count_tells (Some given) = (
 count_tells None = (λ e. absurd cc, λ (g, is, h). absurd cc)
 
 -- the test of a first list of payoffs tells
-pub two_tells : (o : Option (List Fraction)) → (has_wrong_payoffs o ≡ true) ↔ ((given : List Fraction) × (o ≡ Some given) × (length given ≢ 2))
+pub two_tells : (o : Option (List Fraction))
+    → (has_wrong_payoffs o ≡ true) ↔ ((given : List Fraction) × (o ≡ Some given) × (length given ≢ 2))
 two_tells (Some given) = (
   λ e. (given, refl, eqb-false (length given) 2 (not-true (nat_eq (length given) 2) e)),
   λ (g, is, h). let one : g ≡ given = cc in not_from_false (nat_eq (length given) 2) (ne_eqb (length given) 2 (λ e. h (ap length one ∙ e))),

@@ -94,7 +94,8 @@ module _ (rs : List Record) (r : Record) (fine : HaveNoFault rs) (player : HasPl
   nodes_decide = (λ e. eqb-true (length rs) most_nodes e, λ h. eq-eqb (length rs) most_nodes h)
 
 -- each test tells its rule
-decides : (rs : List Record) (r : Record) → HaveNoFault rs → Decide (Breaks rs r) (entry_faults (length rs) (table_of rs r) (outcome_table rs) r)
+decides : (rs : List Record) (r : Record) → HaveNoFault rs
+    → Decide (Breaks rs r) (entry_faults (length rs) (table_of rs r) (outcome_table rs) r)
 decides rs r fine = (
   let tells = player_tells r in (λ e. (refl, tells.0 e), λ h. tells.1 h.1),
   λ player. (
@@ -120,11 +121,13 @@ decides rs r fine = (
 )
 
 -- the numbers rise from 7 on
-rises : (n : ℕ) (sets : List SetEntry) (outcomes : List OutcomeEntry) (r : Record) → Rise 6 (entry_faults n sets outcomes r)
+rises : (n : ℕ) (sets : List SetEntry) (outcomes : List OutcomeEntry) (r : Record)
+    → Rise 6 (entry_faults n sets outcomes r)
 rises n sets outcomes r = (lit< tt, (lit< tt, (lit< tt, (lit< tt, (lit< tt, (lit< tt, (lit< tt, (lit< tt, tt))))))))
 
 -- each rule that is broken has its test
-covers : (rs : List Record) (r : Record) (sets : List SetEntry) (outcomes : List OutcomeEntry) (fault : FileFault) → Breaks rs r fault → Among fault (entry_faults (length rs) sets outcomes r)
+covers : (rs : List Record) (r : Record) (sets : List SetEntry) (outcomes : List OutcomeEntry) (fault : FileFault)
+    → Breaks rs r fault → Among fault (entry_faults (length rs) sets outcomes r)
 covers rs r sets outcomes (PlayerNumber node) h = inl (ap PlayerNumber h.0)
 covers rs r sets outcomes (SetUndefined node) h = inr (inl (ap SetUndefined h.0))
 covers rs r sets outcomes (SetMismatch node) h = inr (inr (inl (ap SetMismatch h.0)))
@@ -137,7 +140,8 @@ covers rs r sets outcomes _ h = absurd h
 
 -- The laws.
 
-answer : (rs : List Record) (r : Record) → record_fault (contents_of rs) r ≡ first_met (entry_faults (length rs) (table_of rs r) (outcome_table rs) r)
+answer : (rs : List Record) (r : Record)
+    → record_fault (contents_of rs) r ≡ first_met (entry_faults (length rs) (table_of rs r) (outcome_table rs) r)
 answer rs r = ap (λ n. first_met (entry_faults n (table_of rs r) (outcome_table rs) r)) (length-map rs (node_of rs))
 
 -- the fault is that of the first rule that is broken

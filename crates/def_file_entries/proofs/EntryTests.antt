@@ -51,7 +51,8 @@ second true b e f = absurd cc
 second false true e f = refl
 second false false e f = absurd cc
 
-moves_as : (r : Record) (kind : EntryKind) → r.kind ≡ kind → has_set kind ≡ true → is_no_player kind r.player ≡ false → Moves (mover_as kind r.player) r
+moves_as : (r : Record) (kind : EntryKind) → r.kind ≡ kind → has_set kind ≡ true → is_no_player kind r.player ≡ false
+    → Moves (mover_as kind r.player) r
 moves_as r Chance e s h = e
 moves_as r Personal e s h = by (nat_eq r.player 1) refl
   where
@@ -76,7 +77,8 @@ moves_set movers.One r m = ap has_set m.0
 moves_set movers.Two r m = ap has_set m.0
 moves_set movers.Leaf r m = absurd m
 
-mover_set : (x : Record) (kind : EntryKind) → x.kind ≡ kind → (mover_as kind x.player ≢ movers.Leaf) → has_set kind ≡ true
+mover_set : (x : Record) (kind : EntryKind) → x.kind ≡ kind → (mover_as kind x.player ≢ movers.Leaf)
+    → has_set kind ≡ true
 mover_set x Chance e h = refl
 mover_set x Personal e h = refl
 mover_set x Leaf e h = absurd (h refl)
@@ -102,7 +104,8 @@ set_tells r x s h k = (forth, back)
         let same : mover x ≡ mover r = moved m.who x m.there ∙ sym (moved m.who r m.here) in
         and_from (is_same_kind (mover r) (mover x)) (nat_eq r.set.number x.set.number) (is_same_kind_self (mover r) (mover x) same) (eq-eqb r.set.number x.set.number m.number)
 
-sets_tell : (rs : List Record) (r : Record) → has_set r.kind ≡ true → HasPlayer r → All HasPlayer rs → Tells (in_set r) (MentionOneSet r) rs
+sets_tell : (rs : List Record) (r : Record) → has_set r.kind ≡ true → HasPlayer r → All HasPlayer rs
+    → Tells (in_set r) (MentionOneSet r) rs
 sets_tell rs r s h all = λ k d within. set_tells r (get_or rs k d) s h (all k d within)
 
 set_mentions : (rs : List Record) (r : Record) → mentions (mover r) r.set.number rs ≡ filter (in_set r) rs
@@ -111,8 +114,10 @@ set_mentions rs r = filter-filter (λ x. is_same_kind (mover r) (mover x)) (λ x
 -- the set is new, or its table has the name and the list of its mentions, the first of which is e
 pub data SetPlace (rs : List Record) (r : Record) : Type 0 where
   new_set : set_place_of r.set.number (set_table (mover r) rs) ≡ None → IsNewSet rs r → SetPlace rs r
-  known_set : (i : ℕ) → set_place_of r.set.number (set_table (mover r) rs) ≡ Some i → set_at (set_table (mover r) rs) i ≡ set_entry (mover r) rs r.set.number
-      → (e : Record) (more : List Record) → mentions (mover r) r.set.number rs ≡ e ∷ more → IsFirstWith (MentionOneSet r) rs e → SetPlace rs r
+  known_set : (i : ℕ) → set_place_of r.set.number (set_table (mover r) rs) ≡ Some i
+      → set_at (set_table (mover r) rs) i ≡ set_entry (mover r) rs r.set.number
+      → (e : Record) (more : List Record) → mentions (mover r) r.set.number rs ≡ e ∷ more
+      → IsFirstWith (MentionOneSet r) rs e → SetPlace rs r
 
 -- a set is new, or known
 pub set_place : (rs : List Record) (r : Record) → has_set r.kind ≡ true → HasPlayer r → All HasPlayer rs → SetPlace rs r
@@ -131,7 +136,8 @@ never : (t : Bool) (P : Type 0) → t ≡ false → ¬ P → (t ≡ true) ↔ P
 never t P e not = (λ h. absurd (false≢true (sym e ∙ h)), λ p. absurd (not p))
 
 -- the test of a first mention without a list tells
-pub undefined_tells : (rs : List Record) (r : Record) → SetPlace rs r → (is_set_undefined (set_table (mover r) rs) r.set ≡ true) ↔ (IsNewSet rs r × (r.set.actions ≡ None))
+pub undefined_tells : (rs : List Record) (r : Record) → SetPlace rs r
+    → (is_set_undefined (set_table (mover r) rs) r.set ≡ true) ↔ (IsNewSet rs r × (r.set.actions ≡ None))
 undefined_tells rs r (new_set none new) =
     let test : is_set_undefined (set_table (mover r) rs) r.set ≡ is_none r.set.actions = ap (λ o. is_none o && is_none r.set.actions) none in
     (λ h. (new, none_if r.set.actions (sym test ∙ h)), λ p. test ∙ ap is_none p.1)
@@ -139,7 +145,8 @@ undefined_tells rs r (known_set i some at e more hits first) =
     never (is_set_undefined (set_table (mover r) rs) r.set) _ (ap (λ o. is_none o && is_none r.set.actions) some) (λ p. known_not_new rs r e first p.0)
 
 -- the test of the number of actions tells
-pub counted_tells : (rs : List Record) (r : Record) → SetPlace rs r → (is_set_miscounted (set_table (mover r) rs) r.set ≡ true) ↔ (IsNewSet rs r × HasNoneOrTooMany r)
+pub counted_tells : (rs : List Record) (r : Record) → SetPlace rs r
+    → (is_set_miscounted (set_table (mover r) rs) r.set ≡ true) ↔ (IsNewSet rs r × HasNoneOrTooMany r)
 counted_tells rs r (new_set none new) =
     let test : is_set_miscounted (set_table (mover r) rs) r.set ≡ has_wrong_count r.set.actions = ap (λ o. is_none o && has_wrong_count r.set.actions) none in
     (λ h. (new, (count_tells r.set.actions).0 (sym test ∙ h)), λ p. test ∙ (count_tells r.set.actions).1 p.1)
@@ -147,7 +154,8 @@ counted_tells rs r (known_set i some at e more hits first) =
     never (is_set_miscounted (set_table (mover r) rs) r.set) _ (ap (λ o. is_none o && has_wrong_count r.set.actions) some) (λ p. known_not_new rs r e first p.0)
 
 -- the first mention of a set has a list
-listed : (rs : List Record) (r e : Record) → HaveNoFault rs → IsFirstWith (MentionOneSet r) rs e → (actions : List Action) × (e.set.actions ≡ Some actions)
+listed : (rs : List Record) (r e : Record) → HaveNoFault rs → IsFirstWith (MentionOneSet r) rs e
+    → (actions : List Action) × (e.set.actions ≡ Some actions)
 listed rs r e none first =
     let m = first.has in
     let again : (x : Record) → MentionOneSet e x → MentionOneSet r x = λ x n.
@@ -163,7 +171,9 @@ other_needs_first rs r new h =
     h
 
 -- the test of a later mention of a set tells
-pub same_set_tells : (rs : List Record) (r : Record) → HaveNoFault rs → has_set r.kind ≡ true → HasPlayer r → All HasPlayer rs → SetPlace rs r → (set_differs (mover r) (set_table (mover r) rs) r.set ≡ true) ↔ HasOtherSet rs r
+pub same_set_tells : (rs : List Record) (r : Record) → HaveNoFault rs → has_set r.kind ≡ true → HasPlayer r
+    → All HasPlayer rs → SetPlace rs r
+    → (set_differs (mover r) (set_table (mover r) rs) r.set ≡ true) ↔ HasOtherSet rs r
 same_set_tells rs r fine s h all (new_set none new) =
     never (set_differs (mover r) (set_table (mover r) rs) r.set) (HasOtherSet rs r)
     (ap (λ o. option_map_or (λ i. name_differs (set_at (set_table (mover r) rs) i).name r.set.name || actions_differ (mover r) (set_at (set_table (mover r) rs) i).actions r.set.actions) o false) none)
@@ -214,8 +224,10 @@ outcome_mentions_are rs r = filter-filter has_outcome (λ x. nat_eq r.outcome.nu
 -- the outcome is new, or its table has the name and the payoffs of its mentions, the first of which is e
 pub data OutcomePlace (rs : List Record) (r : Record) : Type 0 where
   new_outcome : outcome_place_of r.outcome.number (outcome_table rs) ≡ None → IsNewOutcome rs r → OutcomePlace rs r
-  known_outcome : (i : ℕ) → outcome_place_of r.outcome.number (outcome_table rs) ≡ Some i → outcome_at (outcome_table rs) i ≡ outcome_entry rs r.outcome.number
-      → (e : Record) (more : List Record) → outcome_mentions r.outcome.number rs ≡ e ∷ more → IsFirstWith (MentionOneOutcome r) rs e → OutcomePlace rs r
+  known_outcome : (i : ℕ) → outcome_place_of r.outcome.number (outcome_table rs) ≡ Some i
+      → outcome_at (outcome_table rs) i ≡ outcome_entry rs r.outcome.number
+      → (e : Record) (more : List Record) → outcome_mentions r.outcome.number rs ≡ e ∷ more
+      → IsFirstWith (MentionOneOutcome r) rs e → OutcomePlace rs r
 
 -- an outcome is new, or known
 pub outcome_place : (rs : List Record) (r : Record) → r.outcome.number ≢ 0 → OutcomePlace rs r
@@ -225,7 +237,8 @@ outcome_place rs r some =
       | is_known i found at hits ↦ known_outcome i found at hits.0 hits.1 hits.2 (first_with (in_outcome r) (MentionOneOutcome r) rs (outcomes_tell rs r) hits.0 hits.1 (sym (outcome_mentions_are rs r) ∙ hits.2))
     ]
 
-known_not_new_outcome : (rs : List Record) (r e : Record) → IsFirstWith (MentionOneOutcome r) rs e → IsNewOutcome rs r → ⊥
+known_not_new_outcome : (rs : List Record) (r e : Record) → IsFirstWith (MentionOneOutcome r) rs e → IsNewOutcome rs r
+    → ⊥
 known_not_new_outcome rs r e first new = none_is_first (MentionOneOutcome r) (MentionOneOutcome r) (λ x m. m) rs e new.none first
 
 -- the test of a first mention without payoffs tells
@@ -253,7 +266,8 @@ two_payoffs (a ∷ b ∷ []) e = refl
 two_payoffs (a ∷ b ∷ c ∷ more) e = absurd cc
 
 -- the first mention of an outcome has a list of two
-paid : (rs : List Record) (r e : Record) → HaveNoFault rs → IsFirstWith (MentionOneOutcome r) rs e → (payoffs : List Fraction) × (e.outcome.payoffs ≡ Some payoffs) × (length payoffs ≡ 2)
+paid : (rs : List Record) (r e : Record) → HaveNoFault rs → IsFirstWith (MentionOneOutcome r) rs e
+    → (payoffs : List Fraction) × (e.outcome.payoffs ≡ Some payoffs) × (length payoffs ≡ 2)
 paid rs r e none first =
     let m = first.has in
     let new : IsNewOutcome first.before e = record {
@@ -297,7 +311,8 @@ same_outcome_tells rs r fine (known_outcome i some at e more hits first) =
     (λ x. both.0 (sym test ∙ x), λ x. test ∙ both.1 x)
 
 -- at outcome 0 the payoffs alone are compared, with 0 and 0
-zeros_tell : (rs : List Record) (r : Record) → r.outcome.number ≡ 0 → (payoffs_differ null_outcome r.outcome.payoffs ≡ true) ↔ HasOtherOutcome rs r
+zeros_tell : (rs : List Record) (r : Record) → r.outcome.number ≡ 0
+    → (payoffs_differ null_outcome r.outcome.payoffs ≡ true) ↔ HasOtherOutcome rs r
 zeros_tell rs r null = (forth, back)
   where
     zeros : List Fraction

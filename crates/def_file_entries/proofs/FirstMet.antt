@@ -37,7 +37,8 @@ not_below : (f g : FileFault) → f ≡ g → fault_number f < fault_number g �
 not_below f g same less = let e = ap fault_number same in omega (arith, e, less)
 
 -- the first that is met holds, and none before it
-pub first_is_least : (B : FileFault → Type 0) (k : ℕ) (ts : List (Bool × FileFault)) → Decide B ts → Rise k ts → (f : FileFault) → first_met ts ≡ Some f → IsLeast B ts f
+pub first_is_least : (B : FileFault → Type 0) (k : ℕ) (ts : List (Bool × FileFault)) → Decide B ts → Rise k ts
+    → (f : FileFault) → first_met ts ≡ Some f → IsLeast B ts f
 first_is_least B k [] decide rise f e = absurd cc
 first_is_least B k ((true, f0) ∷ ts) decide rise f e =
     let same : f0 ≡ f = cc in
@@ -57,7 +58,8 @@ first_is_least B k ((false, f0) ∷ ts) decide rise f e =
     }
 
 -- a fault that holds with none before it is the first that is met
-pub least_is_first : (B : FileFault → Type 0) (k : ℕ) (ts : List (Bool × FileFault)) → Decide B ts → Rise k ts → (f : FileFault) → Among f ts → B f
+pub least_is_first : (B : FileFault → Type 0) (k : ℕ) (ts : List (Bool × FileFault)) → Decide B ts → Rise k ts
+    → (f : FileFault) → Among f ts → B f
     → ((g : FileFault) → fault_number g < fault_number f → ¬ (B g)) → first_met ts ≡ Some f
 least_is_first B k [] decide rise f among is none = absurd among
 least_is_first B k ((true, f0) ∷ ts) decide rise f among is none =
@@ -69,14 +71,16 @@ least_is_first B k ((false, f0) ∷ ts) decide rise f among is none =
     among
 
 -- where no test is met none of the faults holds, and the other way round
-pub none_met_none : (B : FileFault → Type 0) (ts : List (Bool × FileFault)) → Decide B ts → first_met ts ≡ None → (g : FileFault) → Among g ts → ¬ (B g)
+pub none_met_none : (B : FileFault → Type 0) (ts : List (Bool × FileFault)) → Decide B ts → first_met ts ≡ None
+    → (g : FileFault) → Among g ts → ¬ (B g)
 none_met_none B [] decide e g among is = among
 none_met_none B ((true, f0) ∷ ts) decide e g among is = absurd cc
 none_met_none B ((false, f0) ∷ ts) decide e g among is =
     ⊎_elim (λ here. false≢true (decide.0.1 (subst B here is))) (λ there. none_met_none B ts (decide.1 refl) e g there is) among
 
 -- where none of the faults holds no test is met
-pub none_holds_none_met : (B : FileFault → Type 0) (ts : List (Bool × FileFault)) → Decide B ts → ((g : FileFault) → ¬ (B g)) → first_met ts ≡ None
+pub none_holds_none_met : (B : FileFault → Type 0) (ts : List (Bool × FileFault)) → Decide B ts
+    → ((g : FileFault) → ¬ (B g)) → first_met ts ≡ None
 none_holds_none_met B [] decide none = refl
 none_holds_none_met B ((true, f0) ∷ ts) decide none = absurd (none f0 (decide.0.0 refl))
 none_holds_none_met B ((false, f0) ∷ ts) decide none = none_holds_none_met B ts (decide.1 refl) none

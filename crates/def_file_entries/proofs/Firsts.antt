@@ -39,7 +39,8 @@ firsts-new n (m ∷ ns) h =
     ∙ ap (λ (ms : List ℕ). m ∷ ms) (filter-append (other m) (firsts ns) (n ∷ []))
     ∙ ap (λ (ms : List ℕ). m ∷ (filter (other m) (firsts ns) ++ ms)) (keep_one n m (nat_eq-sym n m parts.0))
 
-seen_step : (n m : ℕ) (ns : List ℕ) (here behind : Bool) → nat_eq n m ≡ here → among n ns ≡ behind → (here || behind) ≡ true
+seen_step : (n m : ℕ) (ns : List ℕ) (here behind : Bool) → nat_eq n m ≡ here → among n ns ≡ behind
+    → (here || behind) ≡ true
     → (among n ns ≡ true → firsts (ns ++ n ∷ []) ≡ firsts ns) → firsts (m ∷ (ns ++ n ∷ [])) ≡ firsts (m ∷ ns)
 seen_step n m ns here true e f h known = ap (λ (ms : List ℕ). m ∷ filter (other m) ms) (known f)
 seen_step n m ns true false e f h known =
@@ -62,7 +63,8 @@ among_kept n m ns h = any-filter_same (λ k. nat_eq n k) (other m) true (λ k e.
 among_dropped : (n : ℕ) (ns : List ℕ) → among n (filter (other n) ns) ≡ false
 among_dropped n ns = any-filter_same (λ k. nat_eq n k) (other n) false (λ k e. not_from_true (nat_eq n k) e) ns
 
-among_step : (n m : ℕ) (ns : List ℕ) (here : Bool) → nat_eq n m ≡ here → among n (firsts ns) ≡ among n ns → (here || among n (filter (other m) (firsts ns))) ≡ (here || among n ns)
+among_step : (n m : ℕ) (ns : List ℕ) (here : Bool) → nat_eq n m ≡ here → among n (firsts ns) ≡ among n ns
+    → (here || among n (filter (other m) (firsts ns))) ≡ (here || among n ns)
 among_step n m ns true e known = refl
 among_step n m ns false e known = among_kept n m (firsts ns) e ∙ known
 
@@ -99,7 +101,8 @@ firsts-distinct (n ∷ ns) = (among_dropped n (firsts ns), Distinct_filter (othe
 abbrev pub place : ℕ → List ℕ → ℕ
 place n ns = position_or_len (λ m. nat_eq n m) ns
 
-place_step : (n : ℕ) (ns : List ℕ) (here : Bool) → (among n ns ≡ true → place n ns < length ns) → (here || among n ns) ≡ true → cond (not here) (1 + place n ns) 0 < length (n ∷ ns)
+place_step : (n : ℕ) (ns : List ℕ) (here : Bool) → (among n ns ≡ true → place n ns < length ns)
+    → (here || among n ns) ≡ true → cond (not here) (1 + place n ns) 0 < length (n ∷ ns)
 place_step n ns true known h = omega arith
 place_step n ns false known h = let k = known h in omega arith
 
@@ -116,7 +119,8 @@ place-not_among n (m ∷ ns) h =
     let behind : place n ns ≡ length ns = place-not_among n ns parts.1 in
     ap (λ (b : Bool). cond (not b) (1 + place n ns) 0) parts.0 ∙ omega arith
 
-append_step : (n : ℕ) (ns more : List ℕ) (here : Bool) → (among n ns ≡ true → place n (ns ++ more) ≡ place n ns) → (here || among n ns) ≡ true → cond (not here) (1 + place n (ns ++ more)) 0 ≡ cond (not here) (1 + place n ns) 0
+append_step : (n : ℕ) (ns more : List ℕ) (here : Bool) → (among n ns ≡ true → place n (ns ++ more) ≡ place n ns)
+    → (here || among n ns) ≡ true → cond (not here) (1 + place n (ns ++ more)) 0 ≡ cond (not here) (1 + place n ns) 0
 append_step n ns more true known h = refl
 append_step n ns more false known h = ap (λ (k : ℕ). 1 + k) (known h)
 
@@ -133,10 +137,12 @@ place-new n (m ∷ ns) h =
     ap (λ (b : Bool). cond (not b) (1 + place n (ns ++ n ∷ [])) 0) parts.0 ∙ omega arith
 
 -- the place of a number among the first stays with one more
-number_step : (k n : ℕ) (ns : List ℕ) (seen : Bool) → among n ns ≡ seen → among k ns ≡ true → place k (firsts (ns ++ n ∷ [])) ≡ place k (firsts ns)
+number_step : (k n : ℕ) (ns : List ℕ) (seen : Bool) → among n ns ≡ seen → among k ns ≡ true
+    → place k (firsts (ns ++ n ∷ [])) ≡ place k (firsts ns)
 number_step k n ns true e h = ap (place k) (firsts-seen n ns e)
 number_step k n ns false e h = ap (place k) (firsts-new n ns e) ∙ place-append k (firsts ns) (n ∷ []) (among-firsts k ns ∙ h)
 
 -- a number keeps its place with one more
-pub number-stays : (k n : ℕ) (ns : List ℕ) → among k ns ≡ true → number_in k (firsts (ns ++ n ∷ [])) ≡ number_in k (firsts ns)
+pub number-stays : (k n : ℕ) (ns : List ℕ) → among k ns ≡ true
+    → number_in k (firsts (ns ++ n ∷ [])) ≡ number_in k (firsts ns)
 number-stays k n ns h = ap (λ (i : ℕ). i + 1) (number_step k n ns (among n ns) refl h)

@@ -20,7 +20,8 @@ pub nothing_at_fault : HaveNoFault []
 nothing_at_fault before behind r e = absurd (not_nil before behind r e)
 
 -- an entry of these and one more is the last, or one of these
-last_or_earlier : (rs : List Record) (last : Record) (before behind : List Record) (r : Record) → rs ++ last ∷ [] ≡ before ++ r ∷ behind
+last_or_earlier : (rs : List Record) (last : Record) (before behind : List Record) (r : Record)
+    → rs ++ last ∷ [] ≡ before ++ r ∷ behind
     → ((rs ≡ before) × (last ≡ r)) ⊎ ((more : List Record) × (rs ≡ before ++ r ∷ more))
 last_or_earlier [] last [] behind r e = inl (refl, cc)
 last_or_earlier [] last (x ∷ before) behind r e = let rest : [] ≡ before ++ r ∷ behind = cc in absurd (not_nil before behind r rest)
@@ -34,7 +35,8 @@ last_or_earlier (y ∷ rs) last (x ∷ before) behind r e =
     (last_or_earlier rs last before behind r rest)
 
 -- one more entry without a fault
-pub no_fault_more : (rs : List Record) (r : Record) → HaveNoFault rs → record_fault (contents_of rs) r ≡ None → HaveNoFault (rs ++ r ∷ [])
+pub no_fault_more : (rs : List Record) (r : Record) → HaveNoFault rs → record_fault (contents_of rs) r ≡ None
+    → HaveNoFault (rs ++ r ∷ [])
 no_fault_more rs r fine none before behind x e =
     ⊎_elim
     (λ here. subst (λ ys. BreaksNone ys x) here.0 (subst (BreaksNone rs) here.1 ((no_fault_breaks_none rs r fine).0 none)))
@@ -47,10 +49,12 @@ no_fault_before rs r more fine before behind x e =
     fine before (behind ++ r ∷ more) x (ap (λ ys. ys ++ r ∷ more) e ∙ append_assoc before (x ∷ behind) (r ∷ more))
 
 -- and it has none behind them
-pub no_fault_here : (rs : List Record) (r : Record) (more : List Record) → HaveNoFault (rs ++ r ∷ more) → record_fault (contents_of rs) r ≡ None
+pub no_fault_here : (rs : List Record) (r : Record) (more : List Record) → HaveNoFault (rs ++ r ∷ more)
+    → record_fault (contents_of rs) r ≡ None
 no_fault_here rs r more fine = (no_fault_breaks_none rs r (no_fault_before rs r more fine)).1 (fine rs more r refl)
 
-limit_from : (most : ℕ) → most ≡ most_nodes → (done rest : List Record) → HaveNoFault (done ++ rest) → length done ≤ most → length (done ++ rest) ≤ most
+limit_from : (most : ℕ) → most ≡ most_nodes → (done rest : List Record) → HaveNoFault (done ++ rest)
+    → length done ≤ most → length (done ++ rest) ≤ most
 limit_from most is done [] fine within = subst (λ ys. length ys ≤ most) (sym (append-nil done)) within
 limit_from most is done (r ∷ rest) fine within =
     let not_full : length done ≢ most = λ e. fine done rest r refl TooManyNodes (e ∙ is) in

@@ -18,7 +18,8 @@ use Rattle.def_file_entries.proofs.Known.{set_key, set_known, numbers_more, set_
 
 -- Nodes.
 
-set_known_step : (kind : Kind) (rs : List Record) (r : Record) (n : ℕ) (b : Bool) → is_same_kind kind (mover r) ≡ b → among n (map set_key (of_kind kind rs)) ≡ true
+set_known_step : (kind : Kind) (rs : List Record) (r : Record) (n : ℕ) (b : Bool) → is_same_kind kind (mover r) ≡ b
+    → among n (map set_key (of_kind kind rs)) ≡ true
     → (number_in n (set_numbers kind (rs ++ r ∷ [])) ≡ number_in n (set_numbers kind rs)) × (length (set_entry kind (rs ++ r ∷ []) n).actions ≡ length (set_entry kind rs n).actions)
 set_known_step kind rs r n true e h = (
   ap (λ xs. number_in n (firsts (map set_key xs))) (own_kind kind rs r e) ∙ set_number_stays n (of_kind kind rs) r h,
@@ -26,7 +27,8 @@ set_known_step kind rs r n true e h = (
 )
 set_known_step kind rs r n false e h = (ap (λ xs. number_in n (firsts (map set_key xs))) (other_kind kind rs r e), ap (λ xs. length (set_known xs n).actions) (other_kind kind rs r e))
 
-outcome_known_step : (rs : List Record) (r : Record) (n : ℕ) (b : Bool) → nat_eq r.outcome.number 0 ≡ b → among n (map outcome_key (with_outcome rs)) ≡ true
+outcome_known_step : (rs : List Record) (r : Record) (n : ℕ) (b : Bool) → nat_eq r.outcome.number 0 ≡ b
+    → among n (map outcome_key (with_outcome rs)) ≡ true
     → number_in n (outcome_numbers (rs ++ r ∷ [])) ≡ number_in n (outcome_numbers rs)
 outcome_known_step rs r n true e h = ap (λ xs. number_in n (firsts (map outcome_key xs))) (null_mention rs r e)
 outcome_known_step rs r n false e h =
@@ -42,7 +44,8 @@ abbrev AreKnown : List Record → List Record → Type 0
 AreKnown rs [] = Unit {0}
 AreKnown rs (x ∷ xs) = IsKnown rs x × AreKnown rs xs
 
-among_behind : (key : Record → ℕ) (n : ℕ) (b : Bool) (y : Record) (rs : List Record) → among n (map key rs) ≡ true → among n (map key (cond b (y ∷ rs) rs)) ≡ true
+among_behind : (key : Record → ℕ) (n : ℕ) (b : Bool) (y : Record) (rs : List Record) → among n (map key rs) ≡ true
+    → among n (map key (cond b (y ∷ rs) rs)) ≡ true
 among_behind key n true y rs h = or_right (nat_eq n (key y)) (among n (map key rs)) h
 among_behind key n false y rs h = h
 
@@ -72,7 +75,8 @@ all_known : (rs : List Record) → AreKnown rs rs
 all_known [] = tt
 all_known (x ∷ rs) = (first_known x rs, known_behind x rs rs (all_known rs))
 
-outcome_stays : (rs : List Record) (r x : Record) (b : Bool) → nat_eq x.outcome.number 0 ≡ b → IsKnown rs x → cond b 0 (number_in x.outcome.number (outcome_numbers (rs ++ r ∷ []))) ≡ cond b 0 (number_in x.outcome.number (outcome_numbers rs))
+outcome_stays : (rs : List Record) (r x : Record) (b : Bool) → nat_eq x.outcome.number 0 ≡ b → IsKnown rs x
+    → cond b 0 (number_in x.outcome.number (outcome_numbers (rs ++ r ∷ []))) ≡ cond b 0 (number_in x.outcome.number (outcome_numbers rs))
 outcome_stays rs r x true e known = refl
 outcome_stays rs r x false e known = outcome_known_step rs r x.outcome.number (nat_eq r.outcome.number 0) refl (known.outcome e)
 
@@ -83,7 +87,8 @@ node_stays rs r x known =
     let outcome = outcome_stays rs r x (nat_eq x.outcome.number 0) refl known in
     λ i. record { kind = mover x; set = cond (has_set x.kind) (set.0 i) 0; outcome = outcome i; children = cond (has_set x.kind) (set.1 i) 0 }
 
-nodes_stay : (rs : List Record) (r : Record) (xs : List Record) → AreKnown rs xs → map (node_of (rs ++ r ∷ [])) xs ≡ map (node_of rs) xs
+nodes_stay : (rs : List Record) (r : Record) (xs : List Record) → AreKnown rs xs
+    → map (node_of (rs ++ r ∷ [])) xs ≡ map (node_of rs) xs
 nodes_stay rs r [] h = refl
 nodes_stay rs r (x ∷ xs) h =
     let first = node_stays rs r x h.0 in
@@ -91,12 +96,14 @@ nodes_stay rs r (x ∷ xs) h =
     λ i. first i ∷ rest i
 
 -- the table of the sets of an entry's mover
-pub own_sets : (kind : EntryKind) (player : ℕ) (rs : List Record) → has_set kind ≡ true → sets_of_kind (mover_as kind player) (tables_of rs) ≡ set_table (mover_as kind player) rs
+pub own_sets : (kind : EntryKind) (player : ℕ) (rs : List Record) → has_set kind ≡ true
+    → sets_of_kind (mover_as kind player) (tables_of rs) ≡ set_table (mover_as kind player) rs
 own_sets Chance player rs h = refl
 own_sets Personal player rs h = elim (nat_eq player 1) as (λ (b : Bool). sets_of_kind (cond b movers.One movers.Two) (tables_of rs) ≡ set_table (cond b movers.One movers.Two) rs) [ true ↦ refl | false ↦ refl ]
 own_sets Leaf player rs h = absurd cc
 
-last_set : (rs : List Record) (r : Record) (b : Bool) → has_set r.kind ≡ b → cond b (number_in r.set.number (set_numbers (mover r) (rs ++ r ∷ []))) 0 ≡ cond b (set_number (sets_of_kind (mover r) (tables_of rs)) r.set) 0
+last_set : (rs : List Record) (r : Record) (b : Bool) → has_set r.kind ≡ b
+    → cond b (number_in r.set.number (set_numbers (mover r) (rs ++ r ∷ []))) 0 ≡ cond b (set_number (sets_of_kind (mover r) (tables_of rs)) r.set) 0
 last_set rs r true e =
     ap (λ xs. number_in r.set.number (firsts (map set_key xs))) (own_kind (mover r) rs r (same_kind (mover r)))
     ∙ set_number_more (of_kind (mover r) rs) r ∙ ap (λ (table : List SetEntry). set_number table r.set) (sym (own_sets r.kind r.player rs e))
@@ -116,7 +123,8 @@ last_node rs r =
     let children = last_count rs r (has_set r.kind) refl in
     λ i. record { kind = mover r; set = set i; outcome = outcome i; children = children i }
 
-nodes_more : (rs : List Record) (r : Record) → map (node_of (rs ++ r ∷ [])) (rs ++ r ∷ []) ≡ map (node_of rs) rs ++ node_with (contents_of rs) r ∷ []
+nodes_more : (rs : List Record) (r : Record)
+    → map (node_of (rs ++ r ∷ [])) (rs ++ r ∷ []) ≡ map (node_of rs) rs ++ node_with (contents_of rs) r ∷ []
 nodes_more rs r =
     map-append (node_of (rs ++ r ∷ [])) rs (r ∷ [])
     ∙ ap (λ (nodes : List Node). nodes ++ node_of (rs ++ r ∷ []) r ∷ []) (nodes_stay rs r rs (all_known rs))

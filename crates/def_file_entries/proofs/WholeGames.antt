@@ -12,7 +12,8 @@ use Rattle.def_file_entries.specs.Laws.{HaveNoFault, EntriesMakeWholeGame}
 use Rattle.def_file_entries.proofs.NoFault.{no_fault_here}
 use Rattle.def_file_entries.proofs.OneMore.{one_more}
 
-together_from : (done rest : List Record) → HaveNoFault (done ++ rest) → AreTogether (contents_of done) → AreTogether (contents_of (done ++ rest))
+together_from : (done rest : List Record) → HaveNoFault (done ++ rest) → AreTogether (contents_of done)
+    → AreTogether (contents_of (done ++ rest))
 together_from done [] fine held = subst (λ rs. AreTogether (contents_of rs)) (sym (append-nil done)) held
 together_from done (r ∷ rest) fine held =
     let regrouped : (done ++ r ∷ []) ++ rest ≡ done ++ r ∷ rest = append_assoc done (r ∷ []) rest in

@@ -26,8 +26,10 @@ EntryFaultIsFirstBroken =
 
 -- and it has no fault exactly where it breaks none
 abbrev pub NoFaultBreaksNone : Type 0
-NoFaultBreaksNone = (rs : List Record) (r : Record) → HaveNoFault rs → (record_fault (contents_of rs) r ≡ None) ↔ BreaksNone rs r
+NoFaultBreaksNone = (rs : List Record) (r : Record) → HaveNoFault rs
+    → (record_fault (contents_of rs) r ≡ None) ↔ BreaksNone rs r
 
 -- entries without a fault whose nodes are a whole tree are a game whose sets and outcomes go with the tree
 abbrev pub EntriesMakeWholeGame : Type 0
-EntriesMakeWholeGame = (prologue : Prologue) (rs : List Record) → HaveNoFault rs → IsWhole (contents_of rs).nodes → IsWholeGame (game_of_entries prologue rs)
+EntriesMakeWholeGame = (prologue : Prologue) (rs : List Record) → HaveNoFault rs → IsWhole (contents_of rs).nodes
+    → IsWholeGame (game_of_entries prologue rs)

@@ -27,7 +27,8 @@ record GoesOn (whole : List ℕ) (place : ℕ) (shorter longer : List Spelled) :
   rest : List Spelled
   longer_is : longer ≡ shorter ++ spelled_at whole token ∷ rest
 
-more_on : (whole : List ℕ) (place : ℕ) (s : Spelled) (shorter longer : List Spelled) → GoesOn whole place shorter longer → GoesOn whole place (s ∷ shorter) (s ∷ longer)
+more_on : (whole : List ℕ) (place : ℕ) (s : Spelled) (shorter longer : List Spelled) → GoesOn whole place shorter longer
+    → GoesOn whole place (s ∷ shorter) (s ∷ longer)
 more_on whole place s shorter longer on = record { token = on.token; next = on.next; not_end = on.not_end; rest = on.rest; longer_is = ap (λ x. s ∷ x) on.longer_is }
 
 -- they are one, or one goes on behind the other
@@ -36,7 +37,8 @@ data Compared (whole : List ℕ) (ss ts : List Spelled) (p q : ℕ) : Type 0 whe
   second_goes_on : GoesOn whole p ss ts → Compared whole ss ts p q
   first_goes_on : GoesOn whole q ts ss → Compared whole ss ts p q
 
-compared : (whole : List ℕ) (at : ℕ) (ss ts : List Spelled) (p q : ℕ) → AreNext whole at ss p → AreNext whole at ts q → Compared whole ss ts p q
+compared : (whole : List ℕ) (at : ℕ) (ss ts : List Spelled) (p q : ℕ) → AreNext whole at ss p → AreNext whole at ts q
+    → Compared whole ss ts p q
 compared whole at [] [] p q a b = same_place refl (sym a ∙ b)
 compared whole at [] (t ∷ ts) p q a b =
     second_goes_on (record { token = b.0; next = ap (next_from whole) (sym a) ∙ b.1; not_end = b.2; rest = ts; longer_is = ap (λ x. x ∷ ts) (sym b.3) })
@@ -52,7 +54,8 @@ compared whole at (s ∷ ss) (t ∷ ts) p q a b =
     ]
 
 -- the token with which the longer goes on may come
-front_on : (L : List Spelled → Type 0) (whole : List ℕ) (place : ℕ) (ss ts : List Spelled) (on : GoesOn whole place ss ts) → IsFront L ts → IsFront L (ss ++ spelled_at whole on.token ∷ [])
+front_on : (L : List Spelled → Type 0) (whole : List ℕ) (place : ℕ) (ss ts : List Spelled) (on : GoesOn whole place ss ts)
+    → IsFront L ts → IsFront L (ss ++ spelled_at whole on.token ∷ [])
 front_on L whole place ss ts on front =
     let s = spelled_at whole on.token in
     let longer : ts ++ front.0 ≡ (ss ++ s ∷ []) ++ (on.rest ++ front.0) =
@@ -76,19 +79,25 @@ class_once literals wholes to back = let clash = to (codes "-1") refl in absurd 
 class_once literals wholes_from_one to back = let clash = to (codes "-1") refl in absurd cc
 class_once literals literals to back = refl
 
-numbers_once : (L : List Spelled → Type 0) (ss : List Spelled) (n m : Numbers) → TakesNumbers L ss n → TakesNumbers L ss m → n ≡ m
+numbers_once : (L : List Spelled → Type 0) (ss : List Spelled) (n m : Numbers) → TakesNumbers L ss n
+    → TakesNumbers L ss m → n ≡ m
 numbers_once L ss n m a b = class_once n m (λ bytes none. (b bytes).0 ((a bytes).1 none)) (λ bytes none. (a bytes).0 ((b bytes).1 none))
 
 -- Why tokens stop.
 
 data Cause (L : List Spelled → Type 0) (whole : List ℕ) (tokens : List Spelled) (place : ℕ) (fault : FileFault) : Type 0 where
-  bad_byte : (at : ℕ) → fault ≡ Syntax at → next_from whole place ≡ Err (lexing.Syntax at) → Cause L whole tokens place fault
+  bad_byte : (at : ℕ) → fault ≡ Syntax at → next_from whole place ≡ Err (lexing.Syntax at)
+      → Cause L whole tokens place fault
   bad_token : (at : ℕ) → fault ≡ Syntax at → IsUnfit L whole tokens place at → Cause L whole tokens place fault
-  no_token : (t : Lexeme) → fault ≡ UnexpectedEnd → next_from whole place ≡ Ok t → t.kind ≡ kinds.End → Cause L whole tokens place fault
-  no_mark : (at : ℕ) → fault ≡ UnexpectedEnd → next_from whole place ≡ Err (lexing.Unclosed at) → Cause L whole tokens place fault
-  bad_number : (at : ℕ) (why : NumberFault) → fault ≡ Number at why → IsNumberFault L whole tokens place at why → Cause L whole tokens place fault
+  no_token : (t : Lexeme) → fault ≡ UnexpectedEnd → next_from whole place ≡ Ok t → t.kind ≡ kinds.End
+      → Cause L whole tokens place fault
+  no_mark : (at : ℕ) → fault ≡ UnexpectedEnd → next_from whole place ≡ Err (lexing.Unclosed at)
+      → Cause L whole tokens place fault
+  bad_number : (at : ℕ) (why : NumberFault) → fault ≡ Number at why → IsNumberFault L whole tokens place at why
+      → Cause L whole tokens place fault
 
-cause_of : (L : List Spelled → Type 0) (whole : List ℕ) (tokens : List Spelled) (place : ℕ) (fault : FileFault) → Stops L whole tokens place fault → Cause L whole tokens place fault
+cause_of : (L : List Spelled → Type 0) (whole : List ℕ) (tokens : List Spelled) (place : ℕ) (fault : FileFault)
+    → Stops L whole tokens place fault → Cause L whole tokens place fault
 cause_of L whole tokens place (Syntax at) (unfinished, inl next) = bad_byte at refl next
 cause_of L whole tokens place (Syntax at) (unfinished, inr unfit) = bad_token at refl unfit
 cause_of L whole tokens place UnexpectedEnd (inl stop) = no_token stop.1 refl stop.2 stop.3
@@ -96,11 +105,13 @@ cause_of L whole tokens place UnexpectedEnd (inr stop) = no_mark stop.0 refl sto
 cause_of L whole tokens place (Number at why) stop = bad_number at why refl stop
 cause_of L whole tokens place _ stop = absurd stop
 
-token_once : (whole : List ℕ) (place : ℕ) (t u : Lexeme) → next_from whole place ≡ Ok t → next_from whole place ≡ Ok u → t ≡ u
+token_once : (whole : List ℕ) (place : ℕ) (t u : Lexeme) → next_from whole place ≡ Ok t → next_from whole place ≡ Ok u
+    → t ≡ u
 token_once whole place t u a b = let e = sym a ∙ b in cc
 
 -- a token that stops as number
-number_token : (L : List Spelled → Type 0) (whole : List ℕ) (ss : List Spelled) (place at : ℕ) (why : NumberFault) (n : IsNumberFault L whole ss place at why) (t : Lexeme) → next_from whole place ≡ Ok t → IsFront L (ss ++ spelled_at whole t ∷ []) → ⊥
+number_token : (L : List Spelled → Type 0) (whole : List ℕ) (ss : List Spelled) (place at : ℕ) (why : NumberFault) (n : IsNumberFault L whole ss place at why) (t : Lexeme)
+    → next_from whole place ≡ Ok t → IsFront L (ss ++ spelled_at whole t ∷ []) → ⊥
 number_token L whole ss place at why n t next front =
     let same : t ≡ n.token = token_once whole place t n.token next n.next in
     let spelled : spelled_at whole t ≡ number (bytes_at whole n.token) = ap (spelled_at whole) same ∙ ap (λ k. record { kind = k; bytes = bytes_at whole n.token }) n.is_number in
@@ -109,7 +120,8 @@ number_token L whole ss place at why n t next front =
     cc
 
 -- where a token goes on, nothing stops
-goes_no_stop : (L : List Spelled → Type 0) (whole : List ℕ) (place : ℕ) (ss ts : List Spelled) (fault : FileFault) → GoesOn whole place ss ts → IsFront L ts → Stops L whole ss place fault → ⊥
+goes_no_stop : (L : List Spelled → Type 0) (whole : List ℕ) (place : ℕ) (ss ts : List Spelled) (fault : FileFault)
+    → GoesOn whole place ss ts → IsFront L ts → Stops L whole ss place fault → ⊥
 goes_no_stop L whole place ss ts fault on front stop = caused (cause_of L whole ss place fault stop)
   where
     fits : IsFront L (ss ++ spelled_at whole on.token ∷ [])
@@ -124,15 +136,18 @@ goes_no_stop L whole place ss ts fault on front stop = caused (cause_of L whole 
 
 -- one place stops with one fault
 module _ (L : List Spelled → Type 0) (whole : List ℕ) (ss : List Spelled) (place : ℕ) (f g : FileFault) where
-  unfit_number : (at : ℕ) → IsUnfit L whole ss place at → (from : ℕ) (why : NumberFault) → IsNumberFault L whole ss place from why → ⊥
+  unfit_number : (at : ℕ) → IsUnfit L whole ss place at → (from : ℕ) (why : NumberFault)
+      → IsNumberFault L whole ss place from why → ⊥
   unfit_number at u from why n =
       let same : u.token ≡ n.token = token_once whole place u.token n.token u.next n.next in
       u.no_number (ap (λ (l : Lexeme). l.kind) same ∙ n.is_number) n.numbers n.needed
 
-  end_unfit : (t : Lexeme) → next_from whole place ≡ Ok t → t.kind ≡ kinds.End → (at : ℕ) → IsUnfit L whole ss place at → ⊥
+  end_unfit : (t : Lexeme) → next_from whole place ≡ Ok t → t.kind ≡ kinds.End → (at : ℕ) → IsUnfit L whole ss place at
+      → ⊥
   end_unfit t next ends at u = u.not_end (ap (λ (l : Lexeme). l.kind) (token_once whole place u.token t u.next next) ∙ ends)
 
-  end_number : (t : Lexeme) → next_from whole place ≡ Ok t → t.kind ≡ kinds.End → (at : ℕ) (why : NumberFault) → IsNumberFault L whole ss place at why → ⊥
+  end_number : (t : Lexeme) → next_from whole place ≡ Ok t → t.kind ≡ kinds.End → (at : ℕ) (why : NumberFault)
+      → IsNumberFault L whole ss place at why → ⊥
   end_number t next ends at why n =
       let same = ap (λ (l : Lexeme). l.kind) (token_once whole place t n.token next n.next) in
       let clash : kinds.End ≡ kinds.Number = sym ends ∙ same ∙ n.is_number in cc
@@ -173,7 +188,8 @@ module _ (L : List Spelled → Type 0) (whole : List ℕ) (ss : List Spelled) (p
       is ∙ (λ i. Number (start i) (reason i)) ∙ sym is2
 
 -- From one offset on there is one first fault at most.
-pub one_offence : (L : List Spelled → Type 0) (whole : List ℕ) (at : ℕ) (f g : FileFault) → Offends L whole at f → Offends L whole at g → f ≡ g
+pub one_offence : (L : List Spelled → Type 0) (whole : List ℕ) (at : ℕ) (f g : FileFault) → Offends L whole at f
+    → Offends L whole at g → f ≡ g
 one_offence L whole at f g a b =
     elim (compared whole at a.tokens b.tokens a.place b.place a.before b.before) [
       | same_place same place ↦
@@ -192,7 +208,8 @@ front_of : (L : List Spelled → Type 0) (ss : List Spelled) → L ss → IsFron
 front_of L ss word = ([], subst L (sym (append-nil ss)) word)
 
 -- they are one
-pub one_end : (L : List Spelled → Type 0) (whole : List ℕ) (at : ℕ) (ss ts : List Spelled) (p q : ℕ) → IsEnded L whole at ss p → IsEnded L whole at ts q → (ss ≡ ts) × (p ≡ q)
+pub one_end : (L : List Spelled → Type 0) (whole : List ℕ) (at : ℕ) (ss ts : List Spelled) (p q : ℕ)
+    → IsEnded L whole at ss p → IsEnded L whole at ts q → (ss ≡ ts) × (p ≡ q)
 one_end L whole at ss ts p q a b =
     elim (compared whole at ss ts p q a.next b.next) [
       | same_place same place ↦ (same, place)

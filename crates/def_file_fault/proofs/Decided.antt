@@ -19,7 +19,8 @@ module _ {A : Type 0} (L : List Spelled → Type 0) (R : A → List Spelled → 
   ended : (v : A) (end : ℕ) → (w : WholeRead L R whole at v end) → IsEnded L whole at w.tokens end
   ended v end w = record { next = w.next; word = word v w.tokens w.is; ends = w.ends }
 
-  decided : (v : A) (ss : List Spelled) (end : ℕ) → AreNext whole at ss end → R v ss [] → EndsWhole L whole ss end → r ≡ Ok (v, end)
+  decided : (v : A) (ss : List Spelled) (end : ℕ) → AreNext whole at ss end → R v ss [] → EndsWhole L whole ss end
+      → r ≡ Ok (v, end)
   decided v ss end next is ends = by_reading r refl
     where
       here : IsEnded L whole at ss end
@@ -41,29 +42,35 @@ module _ {A : Type 0} (L : List Spelled → Type 0) (R : A → List Spelled → 
       by_reading (Ok x) e = let w = read x e in absurd (offence_no_end L whole at w.tokens x.1 (ended x.0 x.1 w) fault w.no_number o)
 
 -- where an entry stands that goes on while it can, just this one is read, up to its end
-pub entry_decided : (whole : List ℕ) (at : ℕ) → at ≤ length whole → (r : Record) (end : ℕ) → IsEntryFrom whole at r end → entry_at whole at ≡ Ok (r, end)
+pub entry_decided : (whole : List ℕ) (at : ℕ) → at ≤ length whole → (r : Record) (end : ℕ) → IsEntryFrom whole at r end
+    → entry_at whole at ≡ Ok (r, end)
 entry_decided whole at within r end is = decided IsEntryTokens IsEntry (λ v ss w. (v, w)) entry_once whole at within (entry_at whole at) (entry_stuck whole at within) (entry_whole whole at within) r is.tokens end is.next is.entry is.ends
 
 -- the fault of the first token that can't be taken for an entry is what reading the entry ends with
-pub entry_offended : (whole : List ℕ) (at : ℕ) → at ≤ length whole → (fault : FileFault) → Offends IsEntryTokens whole at fault → entry_at whole at ≡ Err fault
+pub entry_offended : (whole : List ℕ) (at : ℕ) → at ≤ length whole → (fault : FileFault)
+    → Offends IsEntryTokens whole at fault → entry_at whole at ≡ Err fault
 entry_offended whole at within fault o = offended IsEntryTokens IsEntry (λ v ss w. (v, w)) entry_once whole at within (entry_at whole at) (entry_stuck whole at within) (entry_whole whole at within) fault o
 
 -- where a comment stands, or none, it is read so, up to its end
-pub comment_decided : (whole : List ℕ) (at : ℕ) → at ≤ length whole → (comment : Option (List ℕ)) (end : ℕ) → IsCommentFrom whole at comment end → name_at whole at ≡ Ok (comment, end)
+pub comment_decided : (whole : List ℕ) (at : ℕ) → at ≤ length whole → (comment : Option (List ℕ)) (end : ℕ)
+    → IsCommentFrom whole at comment end → name_at whole at ≡ Ok (comment, end)
 comment_decided whole at within comment end is = decided IsCommentTokens IsName (λ v ss w. (v, w)) name_once whole at within (name_at whole at) (comment_stuck whole at within) (comment_whole whole at within) comment is.tokens end is.next is.name is.ends
 
 -- the fault of the first token that can't be taken for a comment is what reading the comment ends with
-pub comment_offended : (whole : List ℕ) (at : ℕ) → at ≤ length whole → (fault : FileFault) → Offends IsCommentTokens whole at fault → name_at whole at ≡ Err fault
+pub comment_offended : (whole : List ℕ) (at : ℕ) → at ≤ length whole → (fault : FileFault)
+    → Offends IsCommentTokens whole at fault → name_at whole at ≡ Err fault
 comment_offended whole at within fault o = offended IsCommentTokens IsName (λ v ss w. (v, w)) name_once whole at within (name_at whole at) (comment_stuck whole at within) (comment_whole whole at within) fault o
 
 head_of_once : (ss : List Spelled) → AreTokens ss → (v w : PrologueHead) → IsHeadOf v ss [] → IsHeadOf w ss [] → v ≡ w
 head_of_once ss are v w a b = let same = head_once v.0 w.0 v.1 w.1 ss [] [] a b in (λ i. (same.0 i, same.1 i))
 
 -- where the prologue's head stands, its title and its names are read, up to its end
-pub head_decided : (whole title : List ℕ) (names : List (List ℕ)) (end : ℕ) → IsHeadUpTo whole title names end → head_at whole 0 ≡ Ok ((title, names), end)
+pub head_decided : (whole title : List ℕ) (names : List (List ℕ)) (end : ℕ) → IsHeadUpTo whole title names end
+    → head_at whole 0 ≡ Ok ((title, names), end)
 head_decided whole title names end is =
     decided IsHeadTokens IsHeadOf (λ v ss w. (v.0, v.1, w)) head_of_once whole 0 (omega arith) (head_at whole 0) (head_stuck whole) (head_whole whole) (title, names) is.tokens end is.next is.head (head_ends whole end title names is.tokens is.head)
 
 -- the fault of the first token that can't be taken for the head is what reading the head ends with
-pub head_offended : (whole : List ℕ) (fault : FileFault) → Offends IsHeadTokens whole 0 fault → head_at whole 0 ≡ Err fault
+pub head_offended : (whole : List ℕ) (fault : FileFault) → Offends IsHeadTokens whole 0 fault
+    → head_at whole 0 ≡ Err fault
 head_offended whole fault o = offended IsHeadTokens IsHeadOf (λ v ss w. (v.0, v.1, w)) head_of_once whole 0 (omega arith) (head_at whole 0) (head_stuck whole) (head_whole whole) fault o

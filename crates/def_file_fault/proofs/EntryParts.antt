@@ -27,7 +27,8 @@ pub record Follows (T : List Spelled → Type 0) : Type 0 where
 
 -- Sets.
 
-actions_follow : (kind : EntryKind) (T : List Spelled → Type 0) → Follows T → NoFirst kinds.Text (Part (IsActionList kind) T)
+actions_follow : (kind : EntryKind) (T : List Spelled → Type 0) → Follows T
+    → NoFirst kinds.Text (Part (IsActionList kind) T)
 actions_follow kind T f = record { word = (f.word.0, (None, f.word.0, refl, f.word.1)); apart = λ s ss l. apart s ss l.0 l.1 l.2 l.3 }
   where
     apart : (s : Spelled) (ss : List Spelled) (v : Option _) (rest : List Spelled) → IsActionList kind v (s ∷ ss) rest → T rest → s.kind ≢ kinds.Text
@@ -48,7 +49,8 @@ set_alike kind T = record {
       (record { number = l.0; name = a.0; actions = b.0 }, b.1, record { numbered = l.1; named = a.1; number = l.2.0; from_one = l.2.1; name = a.2; actions = b.2 }, b.3);
 }
 
-set_goes : (kind : EntryKind) (whole : List ℕ) (at : ℕ) → at ≤ length whole → Goes 1 Follows (Part (IsSet kind)) whole at (set_mention_at kind whole at)
+set_goes : (kind : EntryKind) (whole : List ℕ) (at : ℕ) → at ≤ length whole
+    → Goes 1 Follows (Part (IsSet kind)) whole at (set_mention_at kind whole at)
 unfolding set_mention_at
 set_goes kind whole at within =
     goes_alike 1 Follows Follows (SetIn kind) (Part (IsSet kind)) whole at _ (λ T f. f) (λ T f. set_alike kind T)
@@ -86,7 +88,8 @@ outcome_alike T = record {
 name_word : (T : List Spelled → Type 0) → Follows T → HasWord (Part IsName (Part IsPayoffList T))
 name_word T f = let w = (payoffs_follow T f).word in (w.0, (None, w.0, refl, w.1))
 
-outcome_goes : (whole : List ℕ) (at : ℕ) → at ≤ length whole → Goes 1 Follows (Part IsOutcome) whole at (outcome_mention_at whole at)
+outcome_goes : (whole : List ℕ) (at : ℕ) → at ≤ length whole
+    → Goes 1 Follows (Part IsOutcome) whole at (outcome_mention_at whole at)
 unfolding outcome_mention_at
 outcome_goes whole at within =
     goes_alike 1 Follows Follows OutcomeIn (Part IsOutcome) whole at _ (λ T f. f) (λ T f. outcome_alike T)
@@ -128,7 +131,8 @@ PersonalIn T = Part IsText (Part IsWholeNumber (Part (IsSet Personal) (Part IsOu
 abbrev TerminalIn : (List Spelled → Type 0) → List Spelled → Type 0
 TerminalIn T = Part IsText (Part IsOutcome T)
 
-chance_entry_goes : (whole : List ℕ) (at : ℕ) → at ≤ length whole → Goes 1 Follows ChanceIn whole at (chance_entry_at whole at)
+chance_entry_goes : (whole : List ℕ) (at : ℕ) → at ≤ length whole
+    → Goes 1 Follows ChanceIn whole at (chance_entry_at whole at)
 unfolding chance_entry_at
 chance_entry_goes whole at within =
     goes_then 1 HasWord Follows (Part IsText) (λ T. Part (IsSet Chance) (Part IsOutcome T)) whole at (text_at whole at) _ (text_goes whole at within) (λ T f. set_word Chance (Part IsOutcome T) (outcome_follow T f))
@@ -139,7 +143,8 @@ chance_entry_goes whole at within =
     goes_less 1 0 Follows (Part IsOutcome) whole set.1 _ (omega arith)
     (goes_with 1 Follows (Part IsOutcome) whole set.1 (outcome_mention_at whole set.1) (λ outcome. record { kind = Chance; name = name.0; player = 0; set = set.0; outcome = outcome.0 }) (outcome_goes whole set.1 inner)))))
 
-personal_entry_goes : (whole : List ℕ) (at : ℕ) → at ≤ length whole → Goes 1 Follows PersonalIn whole at (personal_entry_at whole at)
+personal_entry_goes : (whole : List ℕ) (at : ℕ) → at ≤ length whole
+    → Goes 1 Follows PersonalIn whole at (personal_entry_at whole at)
 unfolding personal_entry_at
 personal_entry_goes whole at within =
     goes_then 1 HasWord Follows (Part IsText) (λ T. Part IsWholeNumber (Part (IsSet Personal) (Part IsOutcome T))) whole at (text_at whole at) _ (text_goes whole at within) (λ T f. whole_word (Part (IsSet Personal) (Part IsOutcome T)) (set_word Personal (Part IsOutcome T) (outcome_follow T f)))
@@ -153,7 +158,8 @@ personal_entry_goes whole at within =
     goes_less 1 0 Follows (Part IsOutcome) whole set.1 _ (omega arith)
     (goes_with 1 Follows (Part IsOutcome) whole set.1 (outcome_mention_at whole set.1) (λ outcome. record { kind = Personal; name = name.0; player = player.0; set = set.0; outcome = outcome.0 }) (outcome_goes whole set.1 inner)))))))
 
-terminal_entry_goes : (whole : List ℕ) (at : ℕ) → at ≤ length whole → Goes 1 Follows TerminalIn whole at (terminal_entry_at whole at)
+terminal_entry_goes : (whole : List ℕ) (at : ℕ) → at ≤ length whole
+    → Goes 1 Follows TerminalIn whole at (terminal_entry_at whole at)
 unfolding terminal_entry_at
 terminal_entry_goes whole at within =
     goes_then 1 HasWord Follows (Part IsText) (Part IsOutcome) whole at (text_at whole at) _ (text_goes whole at within) (λ T f. (outcome_follow T f).word)
@@ -163,17 +169,20 @@ terminal_entry_goes whole at within =
 
 -- Entries.
 
-chance_to : (T : List Spelled → Type 0) (r : Record) (ss rest : List Spelled) → IsChanceEntry r (word (codes "c") ∷ ss) rest → T rest → ChanceIn T ss
+chance_to : (T : List Spelled → Type 0) (r : Record) (ss rest : List Spelled)
+    → IsChanceEntry r (word (codes "c") ∷ ss) rest → T rest → ChanceIn T ss
 chance_to T r ss rest is there =
     let same : is.headed ≡ ss = let e = is.head in cc in
     (r.name, is.named, subst (λ tokens. IsText r.name tokens is.named) same is.name, (r.set, is.placed, is.set, (r.outcome, rest, is.outcome, there)))
 
-personal_to : (T : List Spelled → Type 0) (r : Record) (ss rest : List Spelled) → IsPersonalEntry r (word (codes "p") ∷ ss) rest → T rest → PersonalIn T ss
+personal_to : (T : List Spelled → Type 0) (r : Record) (ss rest : List Spelled)
+    → IsPersonalEntry r (word (codes "p") ∷ ss) rest → T rest → PersonalIn T ss
 personal_to T r ss rest is there =
     let same : is.headed ≡ ss = let e = is.head in cc in
     (r.name, is.named, subst (λ tokens. IsText r.name tokens is.named) same is.name, (r.player, is.moved, is.player, (r.set, is.placed, is.set, (r.outcome, rest, is.outcome, there))))
 
-terminal_to : (T : List Spelled → Type 0) (r : Record) (ss rest : List Spelled) → IsTerminalEntry r (word (codes "t") ∷ ss) rest → T rest → TerminalIn T ss
+terminal_to : (T : List Spelled → Type 0) (r : Record) (ss rest : List Spelled)
+    → IsTerminalEntry r (word (codes "t") ∷ ss) rest → T rest → TerminalIn T ss
 terminal_to T r ss rest is there =
     let same : is.headed ≡ ss = let e = is.head in cc in
     (r.name, is.named, subst (λ tokens. IsText r.name tokens is.named) same is.name, (r.outcome, rest, is.outcome, there))
@@ -254,14 +263,16 @@ head_begins = record {
     first T ss r rest Leaf is e = subst (FirstTaken head_test) (sym e.head) refl
 
 -- reading an entry goes along its tokens, by one byte at least, or is stuck in them
-pub entry_goes : (whole : List ℕ) (at : ℕ) → at ≤ length whole → Goes 1 Follows (Part IsEntry) whole at (entry_at whole at)
+pub entry_goes : (whole : List ℕ) (at : ℕ) → at ≤ length whole
+    → Goes 1 Follows (Part IsEntry) whole at (entry_at whole at)
 unfolding entry_at
 entry_goes whole at within =
     goes_token Follows (Part IsEntry) head_test head_is_test head_begins whole at (entry_behind whole) within
     (λ t step passes inner. chosen t step inner (is_exact kinds.Word (codes "c") whole t) (is_exact kinds.Word (codes "p") whole t) refl refl passes)
   where
     behind : (t : Lexeme) → Step whole at t → t.end ≤ length whole → (bytes : List ℕ) → is_exact kinds.Word bytes whole t ≡ true → (In : (List Spelled → Type 0) → List Spelled → Type 0) → ((T : List Spelled → Type 0) → Alike (After (word bytes) (Part IsEntry T)) (In T))
-        → (r : Result (Record × ℕ) FileFault) → Goes 1 Follows In whole t.end r → Goes 0 Follows (λ T. After (spelled_at whole t) (Part IsEntry T)) whole t.end r
+        → (r : Result (Record × ℕ) FileFault) → Goes 1 Follows In whole t.end r
+        → Goes 0 Follows (λ T. After (spelled_at whole t) (Part IsEntry T)) whole t.end r
     behind t step inner bytes is In alike r go =
         let s = exact_here whole at within t kinds.Word bytes (λ clash. cc) step.next is in
         subst (λ u. Goes 0 Follows (λ T. After u (Part IsEntry T)) whole t.end r) (sym s.spelled)

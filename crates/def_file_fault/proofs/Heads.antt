@@ -43,7 +43,8 @@ names_open T l = unfinished l.0 l.1 l.2
     unfinished [] rest is = cc
     unfinished (name ∷ more) rest is = let e = is.1.spelling in cc
 
-names_goes : (left : ℕ) (done : List (List ℕ)) (whole : List ℕ) (at : ℕ) → at ≤ length whole → length whole ≤ at + left → Goes 1 HasWord (Part AreNames) whole at (names_from left done whole at)
+names_goes : (left : ℕ) (done : List (List ℕ)) (whole : List ℕ) (at : ℕ) → at ≤ length whole → length whole ≤ at + left
+    → Goes 1 HasWord (Part AreNames) whole at (names_from left done whole at)
 unfolding names_from
 names_goes zero done whole at within left_is = spent HasWord (Part AreNames) whole at within left_is names_word (λ T word. names_open T)
 names_goes (suc left) done whole at within left_is =
@@ -80,7 +81,8 @@ Titled T = Part IsText (Marked open_brace (Part AreNames T))
 abbrev Numbered : (List Spelled → Type 0) → List Spelled → Type 0
 Numbered T ss = (s : Spelled) × (rest : List Spelled) × IsRational s × (ss ≡ s ∷ rest) × Titled T rest
 
-head_alike : (T : List Spelled → Type 0) → Alike (Part IsHeadOf T) (Marked (word (codes "EFG")) (Marked (number (codes "2")) (Numbered T)))
+head_alike : (T : List Spelled → Type 0)
+    → Alike (Part IsHeadOf T) (Marked (word (codes "EFG")) (Marked (number (codes "2")) (Numbered T)))
 head_alike T = record {
   to = λ ss l.
       let is = l.2 in
@@ -125,7 +127,9 @@ version_is_test = record { not_end = λ s is. rw is refl; numbers = λ s is fail
 rational_is_test : IsTest rational_test
 rational_is_test = record { not_end = λ s is. rw is refl; numbers = λ s is fails. (codes "1", refl, each_takes_one) }
 
-marked_begins : (s : Spelled) (test : Spelled → Bool) → test s ≡ true → (In : (List Spelled → Type 0) → List Spelled → Type 0) → ((T : List Spelled → Type 0) → HasWord T → HasWord (In T)) → Begins HasWord (λ T. Marked s (In T)) test
+marked_begins : (s : Spelled) (test : Spelled → Bool) → test s ≡ true
+    → (In : (List Spelled → Type 0) → List Spelled → Type 0)
+    → ((T : List Spelled → Type 0) → HasWord T → HasWord (In T)) → Begins HasWord (λ T. Marked s (In T)) test
 marked_begins s test passes In word = record {
   word = λ T w. let found = word T w in (s ∷ found.0, (found.0, refl, found.1));
   first = λ T ss w l. subst (FirstTaken test) (sym l.1) passes;
@@ -148,14 +152,17 @@ numbered_after : (s : Spelled) → IsRational s → (T : List Spelled → Type 0
 numbered_after s is T = record { to = λ ss l. let same : l.1 ≡ ss = let e = l.3 in cc in subst (Titled T) same l.4; back = λ ss l. (s, ss, is, refl, l) }
 
 -- a token that a test passes, behind which the language is another
-step_goes : {A : Type 0} (In On : (List Spelled → Type 0) → List Spelled → Type 0) (s : Spelled) (whole : List ℕ) (t : Lexeme) (r : Result (A × ℕ) FileFault) → spelled_at whole t ≡ s → ((T : List Spelled → Type 0) → Alike (After s (In T)) (On T)) → Goes 1 HasWord On whole t.end r
+step_goes : {A : Type 0} (In On : (List Spelled → Type 0) → List Spelled → Type 0) (s : Spelled) (whole : List ℕ) (t : Lexeme) (r : Result (A × ℕ) FileFault)
+    → spelled_at whole t ≡ s → ((T : List Spelled → Type 0) → Alike (After s (In T)) (On T))
+    → Goes 1 HasWord On whole t.end r
     → Goes 0 HasWord (λ T. After (spelled_at whole t) (In T)) whole t.end r
 step_goes In On s whole t r same alike go =
     subst (λ u. Goes 0 HasWord (λ T. After u (In T)) whole t.end r) (sym same)
     (goes_alike 0 HasWord HasWord On (λ T. After s (In T)) whole t.end r (λ T w. w) (λ T w. alike T) (goes_less 1 0 HasWord On whole t.end r (omega arith) go))
 
 -- reading the prologue's head goes along its tokens, by one byte at least, or is stuck in them
-pub head_goes : (whole : List ℕ) (at : ℕ) → at ≤ length whole → Goes 1 HasWord (Part IsHeadOf) whole at (head_at whole at)
+pub head_goes : (whole : List ℕ) (at : ℕ) → at ≤ length whole
+    → Goes 1 HasWord (Part IsHeadOf) whole at (head_at whole at)
 unfolding head_at
 head_goes whole at within =
     goes_alike 1 HasWord HasWord (λ T. Marked (word (codes "EFG")) (Marked (number (codes "2")) (Numbered T))) (Part IsHeadOf) whole at _ (λ T w. w) (λ T w. head_alike T)

@@ -44,8 +44,10 @@ pub record NotNext (kind : Token) (whole : List ℕ) (at : ℕ) : Type 0 where
 -- what may be carried along
 pub record Walk (whole : List ℕ) (P : (List Spelled → Type 0) → ℕ → Type 0) : Type 1 where
   pub alike : (L M : List Spelled → Type 0) (at : ℕ) → Alike L M → P M at → P L at
-  pub step : (L : List Spelled → Type 0) (at : ℕ) (t : Lexeme) → Step whole at t → P (After (spelled_at whole t) L) t.end → P L at
-  pub other : (kind : Token) → kind ≢ kinds.Number → (L M : List Spelled → Type 0) (at : ℕ) → AlikeBut kind L M → NotNext kind whole at → P M at → P L at
+  pub step : (L : List Spelled → Type 0) (at : ℕ) (t : Lexeme) → Step whole at t
+      → P (After (spelled_at whole t) L) t.end → P L at
+  pub other : (kind : Token) → kind ≢ kinds.Number → (L M : List Spelled → Type 0) (at : ℕ) → AlikeBut kind L M
+      → NotNext kind whole at → P M at → P L at
 
 -- The fault with which some tokens stop, in either of two languages.
 
@@ -64,11 +66,16 @@ record MayCome (Fits : Spelled → Type 0) (whole : List ℕ) (place : ℕ) : Ty
 
 -- where the tokens can't be taken on, with this fault
 pub data Halt (L : List Spelled → Type 0) (whole : List ℕ) (tokens : List Spelled) (place : ℕ) (fault : FileFault) : Type 0 where
-  bad_byte : (at : ℕ) → fault ≡ Syntax at → (L tokens → ⊥) → next_from whole place ≡ Err (lexing.Syntax at) → Halt L whole tokens place fault
-  bad_token : (at : ℕ) → fault ≡ Syntax at → (L tokens → ⊥) → IsUnfit L whole tokens place at → Halt L whole tokens place fault
-  no_token : (t : Lexeme) → fault ≡ UnexpectedEnd → (L tokens → ⊥) → next_from whole place ≡ Ok t → t.kind ≡ kinds.End → Halt L whole tokens place fault
-  no_mark : (at : ℕ) → fault ≡ UnexpectedEnd → next_from whole place ≡ Err (lexing.Unclosed at) → (L tokens → TakesText L tokens) → Halt L whole tokens place fault
-  bad_number : (at : ℕ) (why : NumberFault) → fault ≡ Number at why → (L tokens → ⊥) → IsNumberFault L whole tokens place at why → Halt L whole tokens place fault
+  bad_byte : (at : ℕ) → fault ≡ Syntax at → (L tokens → ⊥) → next_from whole place ≡ Err (lexing.Syntax at)
+      → Halt L whole tokens place fault
+  bad_token : (at : ℕ) → fault ≡ Syntax at → (L tokens → ⊥) → IsUnfit L whole tokens place at
+      → Halt L whole tokens place fault
+  no_token : (t : Lexeme) → fault ≡ UnexpectedEnd → (L tokens → ⊥) → next_from whole place ≡ Ok t → t.kind ≡ kinds.End
+      → Halt L whole tokens place fault
+  no_mark : (at : ℕ) → fault ≡ UnexpectedEnd → next_from whole place ≡ Err (lexing.Unclosed at)
+      → (L tokens → TakesText L tokens) → Halt L whole tokens place fault
+  bad_number : (at : ℕ) (why : NumberFault) → fault ≡ Number at why → (L tokens → ⊥)
+      → IsNumberFault L whole tokens place at why → Halt L whole tokens place fault
 
 module _ (Fits : Spelled → Type 0) (L M : List Spelled → Type 0) (whole : List ℕ) (ts us : List Spelled) (place : ℕ) (alike : GoOnAlike Fits L M ts us) (may : MayCome Fits whole place) where
   text_to : (p : ℕ) → next_from whole place ≡ Err (lexing.Unclosed p) → TakesText L ts → TakesText M us
@@ -99,7 +106,8 @@ module _ (Fits : Spelled → Type 0) (L M : List Spelled → Type 0) (whole : Li
     no_number = λ is numbers takes. u.no_number is numbers (numbers_to numbers takes);
   }
 
-  number_back : (at : ℕ) (why : NumberFault) → IsNumberFault M whole us place at why → IsNumberFault L whole ts place at why
+  number_back : (at : ℕ) (why : NumberFault) → IsNumberFault M whole us place at why
+      → IsNumberFault L whole ts place at why
   number_back at why n = record {
     token = n.token;
     next = n.next;
@@ -188,7 +196,8 @@ module _ (kind : Token) (no_number : kind ≢ kinds.Number) (L M : List Spelled 
     front_back = λ u _ front. (front.0, but.back _ front.1);
   }
 
-first_fits : (kind : Token) (whole : List ℕ) (at : ℕ) → NotNext kind whole at → (s : Spelled) (ss : List Spelled) (place : ℕ) → AreNext whole at (s ∷ ss) place → s.kind ≢ kind
+first_fits : (kind : Token) (whole : List ℕ) (at : ℕ) → NotNext kind whole at
+    → (s : Spelled) (ss : List Spelled) (place : ℕ) → AreNext whole at (s ∷ ss) place → s.kind ≢ kind
 first_fits kind whole at none s ss place before same = none.token before.0 before.1 (ap (λ (x : Spelled). x.kind) before.3 ∙ same)
 
 module _ (whole : List ℕ) (fault : FileFault) where
@@ -201,7 +210,8 @@ module _ (whole : List ℕ) (fault : FileFault) where
     halt = halt_back Any L M whole s.tokens s.tokens s.place (alike_goes L M alike s.tokens) (any_may whole s.place) fault s.halt;
   }
 
-  stuck_step : (L : List Spelled → Type 0) (at : ℕ) (t : Lexeme) → Step whole at t → Stuck (After (spelled_at whole t) L) whole t.end fault → Stuck L whole at fault
+  stuck_step : (L : List Spelled → Type 0) (at : ℕ) (t : Lexeme) → Step whole at t
+      → Stuck (After (spelled_at whole t) L) whole t.end fault → Stuck L whole at fault
   stuck_step L at t step s = record {
     tokens = spelled_at whole t ∷ s.tokens;
     place = s.place;
@@ -210,7 +220,8 @@ module _ (whole : List ℕ) (fault : FileFault) where
     halt = halt_back Any L (After (spelled_at whole t) L) whole (spelled_at whole t ∷ s.tokens) s.tokens s.place (after_goes L (spelled_at whole t) s.tokens) (any_may whole s.place) fault s.halt;
   }
 
-  stuck_other : (kind : Token) → kind ≢ kinds.Number → (L M : List Spelled → Type 0) (at : ℕ) → AlikeBut kind L M → NotNext kind whole at → Stuck M whole at fault → Stuck L whole at fault
+  stuck_other : (kind : Token) → kind ≢ kinds.Number → (L M : List Spelled → Type 0) (at : ℕ) → AlikeBut kind L M
+      → NotNext kind whole at → Stuck M whole at fault → Stuck L whole at fault
   stuck_other kind no_number L M at but none s = other s.tokens s.place s.before s.front s.halt
     where
       other : (tokens : List Spelled) (place : ℕ) → AreNext whole at tokens place → IsFront M tokens → Halt M whole tokens place fault → Stuck L whole at fault
@@ -243,7 +254,8 @@ module _ (whole : List ℕ) (end : ℕ) where
     no_number = λ bytes front. s.no_number bytes (front.0, alike.to _ front.1);
   }
 
-  ends_step : (L : List Spelled → Type 0) (at : ℕ) (t : Lexeme) → Step whole at t → EndsAt (After (spelled_at whole t) L) whole end t.end → EndsAt L whole end at
+  ends_step : (L : List Spelled → Type 0) (at : ℕ) (t : Lexeme) → Step whole at t
+      → EndsAt (After (spelled_at whole t) L) whole end t.end → EndsAt L whole end at
   ends_step L at t step s = record {
     tokens = spelled_at whole t ∷ s.tokens;
     before = (t, step.next, step.not_end, refl, s.before);
@@ -252,7 +264,8 @@ module _ (whole : List ℕ) (end : ℕ) where
     no_number = s.no_number;
   }
 
-  ends_other : (kind : Token) → kind ≢ kinds.Number → (L M : List Spelled → Type 0) (at : ℕ) → AlikeBut kind L M → NotNext kind whole at → EndsAt M whole end at → EndsAt L whole end at
+  ends_other : (kind : Token) → kind ≢ kinds.Number → (L M : List Spelled → Type 0) (at : ℕ) → AlikeBut kind L M
+      → NotNext kind whole at → EndsAt M whole end at → EndsAt L whole end at
   ends_other kind no_number L M at but none s = other s.tokens s.before s.word s.ends s.no_number
     where
       other : (tokens : List Spelled) → AreNext whole at tokens end → M tokens → EndsWhole M whole tokens end → ((bytes : List ℕ) → IsFront M (tokens ++ number bytes ∷ []) → ⊥) → EndsAt L whole end at
@@ -278,7 +291,8 @@ pub ends_walk : (whole : List ℕ) (end : ℕ) → Walk whole (λ L at. EndsAt L
 ends_walk whole end = record { alike = ends_alike whole end; step = ends_step whole end; other = ends_other whole end }
 
 -- what is stuck offends
-pub halt_stops : (L : List Spelled → Type 0) (whole : List ℕ) (tokens : List Spelled) (place : ℕ) (fault : FileFault) → Halt L whole tokens place fault → Stops L whole tokens place fault
+pub halt_stops : (L : List Spelled → Type 0) (whole : List ℕ) (tokens : List Spelled) (place : ℕ) (fault : FileFault)
+    → Halt L whole tokens place fault → Stops L whole tokens place fault
 halt_stops L whole tokens place fault (bad_byte p is unfinished next) = subst (Stops L whole tokens place) (sym is) (unfinished, inl next)
 halt_stops L whole tokens place fault (bad_token p is unfinished unfit) = subst (Stops L whole tokens place) (sym is) (unfinished, inr unfit)
 halt_stops L whole tokens place fault (no_token t is unfinished next ends) = subst (Stops L whole tokens place) (sym is) (inl (unfinished, t, next, ends))
@@ -286,5 +300,6 @@ halt_stops L whole tokens place fault (no_mark p is next takes) = subst (Stops L
 halt_stops L whole tokens place fault (bad_number p why is unfinished n) = subst (Stops L whole tokens place) (sym is) n
 
 -- where reading is stuck stands the first token that can't be taken, with the same fault
-pub offends : (L : List Spelled → Type 0) (whole : List ℕ) (at : ℕ) (fault : FileFault) → Stuck L whole at fault → Offends L whole at fault
+pub offends : (L : List Spelled → Type 0) (whole : List ℕ) (at : ℕ) (fault : FileFault) → Stuck L whole at fault
+    → Offends L whole at fault
 offends L whole at fault s = record { tokens = s.tokens; place = s.place; before = s.before; front = s.front; stop = halt_stops L whole s.tokens s.place fault s.halt }

@@ -29,14 +29,16 @@ pub record MarkNext (kind : Token) (s : Spelled) (whole : List ℕ) (at : ℕ) :
   pub read : token_where (is_token kind whole) whole at ≡ Ok t
   pub spelled : spelled_at whole t ≡ s
 
-pub close_mark : (whole : List ℕ) (at : ℕ) → at ≤ length whole → next_is close_byte whole at ≡ true → MarkNext kinds.Close close_brace whole at
+pub close_mark : (whole : List ℕ) (at : ℕ) → at ≤ length whole → next_is close_byte whole at ≡ true
+    → MarkNext kinds.Close close_brace whole at
 close_mark whole at within is =
     let found = close_next whole at is in
     let read = ok_token (is_token kinds.Close whole) whole at found.0 found.1 (ap (is_kind kinds.Close) found.2) in
     let s = close_step whole at within found.0 read in
     record { t = found.0; step = record { next = s.next; not_end = s.not_end }; read = read; spelled = s.spelled }
 
-pub open_mark : (whole : List ℕ) (at : ℕ) → at ≤ length whole → next_is open_byte whole at ≡ true → MarkNext kinds.Open open_brace whole at
+pub open_mark : (whole : List ℕ) (at : ℕ) → at ≤ length whole → next_is open_byte whole at ≡ true
+    → MarkNext kinds.Open open_brace whole at
 open_mark whole at within is =
     let found = open_next whole at is in
     let read = ok_token (is_token kinds.Open whole) whole at found.0 found.1 (ap (is_kind kinds.Open) found.2) in
@@ -44,14 +46,18 @@ open_mark whole at within is =
     record { t = found.0; step = record { next = s.next; not_end = s.not_end }; read = read; spelled = s.spelled }
 
 -- a mark, and what is read behind it
-pub goes_mark : {A : Type 0} (kind : Token) (s : Spelled) (F : (List Spelled → Type 0) → Type 0) (In : (List Spelled → Type 0) → List Spelled → Type 0) (whole : List ℕ) (at : ℕ) → at ≤ length whole → (m : MarkNext kind s whole at) → (f : Lexeme → Result (A × ℕ) FileFault)
-    → Goes 0 F (λ T. After s (In T)) whole m.t.end (f m.t) → Goes 1 F In whole at (token_where (is_token kind whole) whole at >>= f)
+pub goes_mark : {A : Type 0} (kind : Token) (s : Spelled) (F : (List Spelled → Type 0) → Type 0) (In : (List Spelled → Type 0) → List Spelled → Type 0) (whole : List ℕ) (at : ℕ)
+    → at ≤ length whole → (m : MarkNext kind s whole at) → (f : Lexeme → Result (A × ℕ) FileFault)
+    → Goes 0 F (λ T. After s (In T)) whole m.t.end (f m.t)
+    → Goes 1 F In whole at (token_where (is_token kind whole) whole at >>= f)
 goes_mark kind s F In whole at within m f go =
     subst (λ r. Goes 1 F In whole at (r >>= f)) (sym m.read)
     (goes_step F In whole at within m.t m.step (f m.t) (subst (λ u. Goes 0 F (λ T. After u (In T)) whole m.t.end (f m.t)) (sym m.spelled) go))
 
 -- the closing brace of a list
-pub close_goes : {A : Type 0} (value : A) (F : (List Spelled → Type 0) → Type 0) (In : (List Spelled → Type 0) → List Spelled → Type 0) (whole : List ℕ) (at : ℕ) → at ≤ length whole → next_is close_byte whole at ≡ true → ((T : List Spelled → Type 0) → F T → Alike (After close_brace (In T)) T)
+pub close_goes : {A : Type 0} (value : A) (F : (List Spelled → Type 0) → Type 0) (In : (List Spelled → Type 0) → List Spelled → Type 0) (whole : List ℕ) (at : ℕ)
+    → at ≤ length whole → next_is close_byte whole at ≡ true
+    → ((T : List Spelled → Type 0) → F T → Alike (After close_brace (In T)) T)
     → Goes 1 F In whole at (close_at value whole at)
 unfolding close_at
 close_goes value F In whole at within is alike =
@@ -63,7 +69,9 @@ close_goes value F In whole at within is alike =
     }))
 
 -- where no more items may come, the end stands
-pub spent : {A : Type 0} (F : (List Spelled → Type 0) → Type 0) (In : (List Spelled → Type 0) → List Spelled → Type 0) (whole : List ℕ) (at : ℕ) → at ≤ length whole → length whole ≤ at + 0 → ((T : List Spelled → Type 0) → F T → HasWord (In T)) → ((T : List Spelled → Type 0) → F T → In T [] → ⊥)
+pub spent : {A : Type 0} (F : (List Spelled → Type 0) → Type 0) (In : (List Spelled → Type 0) → List Spelled → Type 0) (whole : List ℕ) (at : ℕ)
+    → at ≤ length whole → length whole ≤ at + 0 → ((T : List Spelled → Type 0) → F T → HasWord (In T))
+    → ((T : List Spelled → Type 0) → F T → In T [] → ⊥)
     → Goes {A = A} 1 F In whole at (Err UnexpectedEnd)
 spent F In whole at within past word unfinished =
     let same : length whole ≡ at = omega (arith, past) in
@@ -81,14 +89,16 @@ chance_word Chance T word = literal_word T word
 chance_word Personal T word = (word.0, (nothing_alike T).back word.0 word.1)
 chance_word Leaf T word = (word.0, (nothing_alike T).back word.0 word.1)
 
-nothing_goes : (whole : List ℕ) (at : ℕ) → at ≤ length whole → Goes 0 HasWord (Part (IsChance Personal)) whole at (Ok (zero_fraction, at))
+nothing_goes : (whole : List ℕ) (at : ℕ) → at ≤ length whole
+    → Goes 0 HasWord (Part (IsChance Personal)) whole at (Ok (zero_fraction, at))
 nothing_goes whole at within = goes_past 0 HasWord (Part (IsChance Personal)) whole at (zero_fraction, at) (record {
   within = within;
   grows = omega arith;
   along = λ P walk T word there. walk.alike (Part (IsChance Personal) T) T at (nothing_alike T) there;
 })
 
-chance_goes : (kind : EntryKind) (whole : List ℕ) (at : ℕ) → at ≤ length whole → Goes 0 HasWord (Part (IsChance kind)) whole at (chance_at kind whole at)
+chance_goes : (kind : EntryKind) (whole : List ℕ) (at : ℕ) → at ≤ length whole
+    → Goes 0 HasWord (Part (IsChance kind)) whole at (chance_at kind whole at)
 chance_goes Chance whole at within = goes_less 1 0 HasWord (Part IsFraction) whole at (chance_at Chance whole at) (omega arith) (literal_goes whole at within)
 chance_goes Personal whole at within = nothing_goes whole at within
 chance_goes Leaf whole at within = nothing_goes whole at within
@@ -96,7 +106,8 @@ chance_goes Leaf whole at within = nothing_goes whole at within
 abbrev IsActionIn : EntryKind → (List Spelled → Type 0) → List Spelled → Type 0
 IsActionIn kind T = Part IsText (Part (IsChance kind) T)
 
-action_goes : (kind : EntryKind) (whole : List ℕ) (at : ℕ) → at ≤ length whole → Goes 1 HasWord (IsActionIn kind) whole at (action_at kind whole at)
+action_goes : (kind : EntryKind) (whole : List ℕ) (at : ℕ) → at ≤ length whole
+    → Goes 1 HasWord (IsActionIn kind) whole at (action_at kind whole at)
 unfolding action_at
 action_goes kind whole at within =
     goes_then 1 HasWord HasWord (Part IsText) (Part (IsChance kind)) whole at (text_at whole at) _ (text_goes whole at within) (chance_word kind)
@@ -111,14 +122,16 @@ no_text_closes bytes ss rest is =
 actions_word : (kind : EntryKind) (T : List Spelled → Type 0) → HasWord T → HasWord (Part (AreActionsUpTo kind) T)
 actions_word kind T word = (close_brace ∷ word.0, ([], word.0, refl, word.1))
 
-actions_closed : (kind : EntryKind) (T : List Spelled → Type 0) → Alike (After close_brace (Part (AreActionsUpTo kind) T)) T
+actions_closed : (kind : EntryKind) (T : List Spelled → Type 0)
+    → Alike (After close_brace (Part (AreActionsUpTo kind) T)) T
 actions_closed kind T = record { to = λ ss l. to ss l.0 l.1 l.2 l.3; back = λ ss there. ([], ss, refl, there) }
   where
     to : (ss : List Spelled) (v : List Action) (rest : List Spelled) → AreActionsUpTo kind v (close_brace ∷ ss) rest → T rest → T ss
     to ss [] rest is there = let same : rest ≡ ss = cc in subst T same there
     to ss (a ∷ more) rest is there = absurd (no_text_closes a.name ss is.0 is.2)
 
-actions_but : (kind : EntryKind) (T : List Spelled → Type 0) → AlikeBut kinds.Close (Part (AreActionsUpTo kind) T) (IsActionIn kind (Part (AreActionsUpTo kind) T))
+actions_but : (kind : EntryKind) (T : List Spelled → Type 0)
+    → AlikeBut kinds.Close (Part (AreActionsUpTo kind) T) (IsActionIn kind (Part (AreActionsUpTo kind) T))
 actions_but kind T = record {
   to = λ ss fits l. to ss fits l.0 l.1 l.2 l.3;
   back = λ ss l.
@@ -138,7 +151,9 @@ actions_open kind T l = unfinished l.0 l.1 l.2
     unfinished [] rest is = cc
     unfinished (a ∷ more) rest is = let e = is.2.spelling in cc
 
-actions_goes : (kind : EntryKind) (left : ℕ) (done : List Action) (whole : List ℕ) (at : ℕ) → at ≤ length whole → length whole ≤ at + left → Goes 1 HasWord (Part (AreActionsUpTo kind)) whole at (actions_from kind left done whole at)
+actions_goes : (kind : EntryKind) (left : ℕ) (done : List Action) (whole : List ℕ) (at : ℕ) → at ≤ length whole
+    → length whole ≤ at + left
+    → Goes 1 HasWord (Part (AreActionsUpTo kind)) whole at (actions_from kind left done whole at)
 unfolding actions_from
 actions_goes kind zero done whole at within left_is = spent HasWord (Part (AreActionsUpTo kind)) whole at within left_is (actions_word kind) (λ T word. actions_open kind T)
 actions_goes kind (suc left) done whole at within left_is =
@@ -155,8 +170,11 @@ actions_goes kind (suc left) done whole at within left_is =
 -- A list that may be absent.
 
 -- the opening brace, and a list behind it
-pub list_goes : {A B : Type 0} (F : (List Spelled → Type 0) → Type 0) (Items In : (List Spelled → Type 0) → List Spelled → Type 0) (whole : List ℕ) (at : ℕ) → at ≤ length whole → next_is open_byte whole at ≡ true → (items : ℕ → Result (A × ℕ) FileFault) (f : A × ℕ → B)
-    → ((T : List Spelled → Type 0) → F T → HasWord T) → ((T : List Spelled → Type 0) → F T → Alike (After open_brace (In T)) (Items T)) → ((mid : ℕ) → mid ≤ length whole → Goes 1 HasWord Items whole mid (items mid))
+pub list_goes : {A B : Type 0} (F : (List Spelled → Type 0) → Type 0) (Items In : (List Spelled → Type 0) → List Spelled → Type 0) (whole : List ℕ) (at : ℕ)
+    → at ≤ length whole → next_is open_byte whole at ≡ true → (items : ℕ → Result (A × ℕ) FileFault) (f : A × ℕ → B)
+    → ((T : List Spelled → Type 0) → F T → HasWord T)
+    → ((T : List Spelled → Type 0) → F T → Alike (After open_brace (In T)) (Items T))
+    → ((mid : ℕ) → mid ≤ length whole → Goes 1 HasWord Items whole mid (items mid))
     → Goes 1 F In whole at (token_where (is_token kinds.Open whole) whole at >>= λ opening. (items opening.end >>= λ x. Ok (f x, x.1)))
 list_goes F Items In whole at within is items f word alike go =
     let m = open_mark whole at within is in
@@ -165,7 +183,8 @@ list_goes F Items In whole at within is items f word alike go =
     (goes_alike 0 HasWord F Items (λ T. After open_brace (In T)) whole m.t.end _ word alike
     (goes_less 1 0 HasWord Items whole m.t.end _ (omega arith) (goes_with 1 HasWord Items whole m.t.end (items m.t.end) f (go m.t.end inner))))
 
-action_list_after : (kind : EntryKind) (T : List Spelled → Type 0) → NoFirst kinds.Open T → Alike (After open_brace (Part (IsActionList kind) T)) (Part (AreActionsUpTo kind) T)
+action_list_after : (kind : EntryKind) (T : List Spelled → Type 0) → NoFirst kinds.Open T
+    → Alike (After open_brace (Part (IsActionList kind) T)) (Part (AreActionsUpTo kind) T)
 action_list_after kind T apart = record { to = λ ss l. to ss l.0 l.1 l.2 l.3; back = λ ss l. (Some l.0, l.1, (ss, refl, l.2), l.3) }
   where
     to : (ss : List Spelled) (v : Option (List Action)) (rest : List Spelled) → IsActionList kind v (open_brace ∷ ss) rest → T rest → Part (AreActionsUpTo kind) T ss
@@ -182,7 +201,8 @@ action_list_but kind T = record { to = λ ss fits l. to ss fits l.0 l.1 l.2 l.3;
     to ss fits (Some actions) rest is there = absurd (let clash = subst (FirstIsOther kinds.Open) is.1 fits in clash refl)
 
 -- reading a list of actions, or none, goes along its tokens, or is stuck in them
-pub action_list_goes : (kind : EntryKind) (whole : List ℕ) (at : ℕ) → at ≤ length whole → Goes 0 (NoFirst kinds.Open) (Part (IsActionList kind)) whole at (actions_at kind whole at)
+pub action_list_goes : (kind : EntryKind) (whole : List ℕ) (at : ℕ) → at ≤ length whole
+    → Goes 0 (NoFirst kinds.Open) (Part (IsActionList kind)) whole at (actions_at kind whole at)
 unfolding actions_at
 action_list_goes kind whole at within = chosen (next_is open_byte whole at) refl
   where

@@ -33,7 +33,8 @@ none_between : (whole : List ℕ) (start end : ℕ) → end ≤ start → slice_
 none_between whole start end order = let none : end - start ≡ 0 = omega arith in ap (λ n. take n (drop start whole)) none
 
 -- a token that is read ends later than reading began, and within the bytes
-pub step_grows : (whole : List ℕ) (at : ℕ) → at ≤ length whole → (t : Lexeme) → Step whole at t → (at < t.end) × (t.end ≤ length whole)
+pub step_grows : (whole : List ℕ) (at : ℕ) → at ≤ length whole → (t : Lexeme) → Step whole at t
+    → (at < t.end) × (t.end ≤ length whole)
 step_grows whole at within t step =
     let is = next_from-sound whole at within t step.next in
     let some : t.start < t.end = ⊎_elim (λ less. less)
@@ -49,7 +50,8 @@ word_not_space b is = grind (arith, nat_tests)
 number_not_space : (b : ℕ) → begins_number b ≡ true → is_space b ≡ false
 number_not_space b is = grind (arith, nat_tests)
 
-no_space_first : (kind : Token) (bytes after : List ℕ) → kind ≢ kinds.End → IsToken kind bytes after → (b : ℕ) × (bs : List ℕ) × (bytes ≡ b ∷ bs) × (is_space b ≡ false)
+no_space_first : (kind : Token) (bytes after : List ℕ) → kind ≢ kinds.End → IsToken kind bytes after
+    → (b : ℕ) × (bs : List ℕ) × (bytes ≡ b ∷ bs) × (is_space b ≡ false)
 no_space_first kinds.Word [] after apart token = absurd token.first
 no_space_first kinds.Word (b ∷ bs) after apart token = (b, bs, refl, word_not_space b token.first)
 no_space_first kinds.Text bytes after apart token = (34, token.inside ++ 34 ∷ [], token.quoted, refl)
@@ -68,7 +70,8 @@ first_get (suc n) (suc i) [] b bs e = absurd cc
 first_get (suc n) (suc i) (x ∷ xs) b bs e = first_get (suc n) i xs b bs e
 
 -- a token begins with the first byte that isn't white space
-pub token_first_byte : (whole : List ℕ) (at : ℕ) → at ≤ length whole → (t : Lexeme) → Step whole at t → IsFirstByteFrom whole at t.start
+pub token_first_byte : (whole : List ℕ) (at : ℕ) → at ≤ length whole → (t : Lexeme) → Step whole at t
+    → IsFirstByteFrom whole at t.start
 token_first_byte whole at within t step =
     let is = next_from-sound whole at within t step.next in
     let first = no_space_first t.kind (slice_range whole t.start t.end) (drop t.end whole) step.not_end is.token in
@@ -119,25 +122,31 @@ module _ (byte : ℕ) (whole : List ℕ) (at : ℕ) where
     | within c rest a b ↦ other c rest (eqb-false c byte (ap (is_byte byte) (sym a) ∙ is)) b
   ]
 
-next_is_at : (whole : List ℕ) (at : ℕ) (bytes : List ℕ) → drop (after_space whole at) whole ≡ bytes → next_from whole at ≡ token_at (after_space whole at) bytes
+next_is_at : (whole : List ℕ) (at : ℕ) (bytes : List ℕ) → drop (after_space whole at) whole ≡ bytes
+    → next_from whole at ≡ token_at (after_space whole at) bytes
 unfolding next_from
 next_is_at whole at bytes is = ap (token_at (after_space whole at)) is
 
 -- the token of a mark of one byte
-pub mark_next : (whole : List ℕ) (at byte : ℕ) (kind : Token) → ((start : ℕ) (rest : List ℕ) → token_at start (byte ∷ rest) ≡ Ok (span kind start (start + 1))) → next_is byte whole at ≡ true
+pub mark_next : (whole : List ℕ) (at byte : ℕ) (kind : Token)
+    → ((start : ℕ) (rest : List ℕ) → token_at start (byte ∷ rest) ≡ Ok (span kind start (start + 1)))
+    → next_is byte whole at ≡ true
     → next_from whole at ≡ Ok (span kind (after_space whole at) (after_space whole at + 1))
 mark_next whole at byte kind reads is = let b = next_begins byte whole at is in next_is_at whole at (byte ∷ b.0) b.1 ∙ reads (after_space whole at) b.0
 
 -- where the byte of an opening brace is next, the next token is one
-pub open_next : (whole : List ℕ) (at : ℕ) → next_is 123 whole at ≡ true → (t : Lexeme) × (next_from whole at ≡ Ok t) × (t.kind ≡ kinds.Open)
+pub open_next : (whole : List ℕ) (at : ℕ) → next_is 123 whole at ≡ true
+    → (t : Lexeme) × (next_from whole at ≡ Ok t) × (t.kind ≡ kinds.Open)
 open_next whole at is = (span kinds.Open (after_space whole at) (after_space whole at + 1), mark_next whole at 123 kinds.Open (λ start rest. token_at-open start 123 rest refl) is, refl)
 
 -- where the byte of a closing brace is next, the next token is one
-pub close_next : (whole : List ℕ) (at : ℕ) → next_is 125 whole at ≡ true → (t : Lexeme) × (next_from whole at ≡ Ok t) × (t.kind ≡ kinds.Close)
+pub close_next : (whole : List ℕ) (at : ℕ) → next_is 125 whole at ≡ true
+    → (t : Lexeme) × (next_from whole at ≡ Ok t) × (t.kind ≡ kinds.Close)
 close_next whole at is = (span kinds.Close (after_space whole at) (after_space whole at + 1), mark_next whole at 125 kinds.Close (λ start rest. token_at-close start 125 rest refl) is, refl)
 
 -- where the byte of a comma is next, the next token is one
-pub comma_next : (whole : List ℕ) (at : ℕ) → next_is 44 whole at ≡ true → (t : Lexeme) × (next_from whole at ≡ Ok t) × (t.kind ≡ kinds.Comma)
+pub comma_next : (whole : List ℕ) (at : ℕ) → next_is 44 whole at ≡ true
+    → (t : Lexeme) × (next_from whole at ≡ Ok t) × (t.kind ≡ kinds.Comma)
 comma_next whole at is = (span kinds.Comma (after_space whole at) (after_space whole at + 1), mark_next whole at 44 kinds.Comma (λ start rest. token_at-comma start 44 rest refl) is, refl)
 
 -- a text, or one that isn't closed
@@ -168,7 +177,8 @@ byte_of kinds.Comma = 44
 byte_of kinds.End = 0
 
 -- the first byte of a token of some bytes
-first_byte : (kind : Token) (n c : ℕ) (rest after : List ℕ) → 0 < byte_of kind → IsToken kind (take n (c ∷ rest)) after → c ≡ byte_of kind
+first_byte : (kind : Token) (n c : ℕ) (rest after : List ℕ) → 0 < byte_of kind → IsToken kind (take n (c ∷ rest)) after
+    → c ≡ byte_of kind
 first_byte kinds.Word n c rest after mark token = absurd (omega (arith, mark))
 first_byte kinds.Number n c rest after mark token = absurd (omega (arith, mark))
 first_byte kinds.End n c rest after mark token = absurd (omega (arith, mark))
@@ -182,11 +192,13 @@ first_byte kinds.Comma zero c rest after mark token = absurd cc
 first_byte kinds.Comma (suc n) c rest after mark token = cc
 
 -- a text that isn't closed begins with a mark
-goes_past : (b : Bool) (t : Lexeme) (r : Result Lexeme LexFault) (p : ℕ) → cond b (Ok t) r ≡ Err (lexing.Unclosed p) → r ≡ Err (lexing.Unclosed p)
+goes_past : (b : Bool) (t : Lexeme) (r : Result Lexeme LexFault) (p : ℕ) → cond b (Ok t) r ≡ Err (lexing.Unclosed p)
+    → r ≡ Err (lexing.Unclosed p)
 goes_past true t r p is = absurd cc
 goes_past false t r p is = is
 
-unclosed_first : (start c : ℕ) (rest : List ℕ) (p : ℕ) → c ≢ 34 → token_at start (c ∷ rest) ≡ Err (lexing.Unclosed p) → ⊥
+unclosed_first : (start c : ℕ) (rest : List ℕ) (p : ℕ) → c ≢ 34 → token_at start (c ∷ rest) ≡ Err (lexing.Unclosed p)
+    → ⊥
 unfolding token_at
 unclosed_first start c rest p apart is =
     let e0 = rw (ne_eqb c 34 apart) at is in

@@ -31,13 +31,15 @@ fault_none : {A : Type 0} (r : Result A NumberFault) → fault_of r ≡ None →
 fault_none (Ok v) e = (v, refl)
 fault_none (Err fault) e = absurd cc
 
-whole_reads : (bytes : List ℕ) (n : ℕ) → IsTrue (is_numeral bytes) → number_of bytes ≡ n → n ≤ most → read_as_whole bytes ≡ Ok n
+whole_reads : (bytes : List ℕ) (n : ℕ) → IsTrue (is_numeral bytes) → number_of bytes ≡ n → n ≤ most
+    → read_as_whole bytes ≡ Ok n
 unfolding read_as_whole
 whole_reads bytes n numeral value limit =
     let fits : nat_le (number_of bytes) most ≡ true = le-leb (number_of bytes) most (subst (λ k. k ≤ most) (sym value) limit) in
     rw (numeral, fits) (ap Ok value)
 
-whole_from : (bytes : List ℕ) (n : ℕ) → read_as_whole bytes ≡ Ok n → (rest : List Spelled) → IsWholeNumber n (number bytes ∷ rest) rest
+whole_from : (bytes : List ℕ) (n : ℕ) → read_as_whole bytes ≡ Ok n → (rest : List Spelled)
+    → IsWholeNumber n (number bytes ∷ rest) rest
 unfolding read_as_whole
 whole_from bytes n e rest = chosen (is_numeral bytes) (nat_le (number_of bytes) most) refl refl e
   where
@@ -138,17 +140,20 @@ module _ {A : Type 0} (R : A → List Spelled → List Spelled → Type 0) (numb
         found (Err d) is = goes_stuck 1 HasWord (Part R) whole at d (λ T word. token_fault HasWord (Part R) (λ s. is_kind kinds.Number s.kind) number_test number_begins whole at T word d is)
 
 -- reading a literal goes along its token, or is stuck there
-pub literal_goes : (whole : List ℕ) (at : ℕ) → at ≤ length whole → Goes 1 HasWord (Part IsFraction) whole at (literal_at whole at)
+pub literal_goes : (whole : List ℕ) (at : ℕ) → at ≤ length whole
+    → Goes 1 HasWord (Part IsFraction) whole at (literal_at whole at)
 unfolding literal_at
 literal_goes whole at within = number_goes IsFraction literals one_literal read_as_literal (λ bytes. refl) whole at within
 
 -- reading a whole number goes along its token, or is stuck there
-pub whole_goes : (whole : List ℕ) (at : ℕ) → at ≤ length whole → Goes 1 HasWord (Part IsWholeNumber) whole at (whole_at whole at)
+pub whole_goes : (whole : List ℕ) (at : ℕ) → at ≤ length whole
+    → Goes 1 HasWord (Part IsWholeNumber) whole at (whole_at whole at)
 unfolding whole_at
 whole_goes whole at within = number_goes IsWholeNumber wholes one_whole read_as_whole (λ bytes. refl) whole at within
 
 -- reading a set's number goes along its token, or is stuck there
-pub set_number_goes : (whole : List ℕ) (at : ℕ) → at ≤ length whole → Goes 1 HasWord (Part IsSetNumber) whole at (set_number_at whole at)
+pub set_number_goes : (whole : List ℕ) (at : ℕ) → at ≤ length whole
+    → Goes 1 HasWord (Part IsSetNumber) whole at (set_number_at whole at)
 unfolding set_number_at
 set_number_goes whole at within = number_goes IsSetNumber wholes_from_one one_set_number read_as_set (λ bytes. refl) whole at within
 

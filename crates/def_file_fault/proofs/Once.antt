@@ -30,7 +30,8 @@ AreTokens [] = Unit {0}
 AreTokens (s ∷ ss) = (s.kind ≢ kinds.End) × ((after : List ℕ) × IsToken s.kind s.bytes after) × AreTokens ss
 
 -- what comes next from an offset on is spelled as tokens are
-pub next_tokens : (whole : List ℕ) (at : ℕ) (ss : List Spelled) (end : ℕ) → at ≤ length whole → AreNext whole at ss end → AreTokens ss
+pub next_tokens : (whole : List ℕ) (at : ℕ) (ss : List Spelled) (end : ℕ) → at ≤ length whole → AreNext whole at ss end
+    → AreTokens ss
 next_tokens whole at [] end within next = tt
 next_tokens whole at (s ∷ ss) end within next =
     let t : Lexeme = next.0 in
@@ -51,7 +52,8 @@ unfolding spaced
 spaced_spelled [] = refl
 spaced_spelled (s ∷ ss) = ap (λ l. s ∷ l) (spaced_spelled ss)
 
-before_space : (kind : Token) (bytes after rest : List ℕ) → kind ≢ kinds.End → IsToken kind bytes after → IsToken kind bytes (32 ∷ rest)
+before_space : (kind : Token) (bytes after rest : List ℕ) → kind ≢ kinds.End → IsToken kind bytes after
+    → IsToken kind bytes (32 ∷ rest)
 before_space kinds.Word bytes after rest apart token = record { first = token.first; each = token.each; longest = refl }
 before_space kinds.Text bytes after rest apart token = token
 before_space kinds.Number bytes after rest apart token = record { first = token.first; each = token.each; longest = refl }
@@ -77,7 +79,8 @@ tokens_ahead : (ss : List Spelled) → AreTokens ss → Ahead (bytes_of (spaced 
 tokens_ahead ss are = subst (Ahead (bytes_of (spaced ss) (32 ∷ [])) 0) (spaced_spelled ss) (ahead_pieces (bytes_of (spaced ss) (32 ∷ [])) (spaced ss) (32 ∷ []) (in_turn ss are) refl)
 
 -- a reading gives one value
-value_once : {A : Type 0} (reading : Result (A × ℕ) FileFault) (v w : A) (m n : ℕ) → reading ≡ Ok (v, m) → reading ≡ Ok (w, n) → v ≡ w
+value_once : {A : Type 0} (reading : Result (A × ℕ) FileFault) (v w : A) (m n : ℕ) → reading ≡ Ok (v, m)
+    → reading ≡ Ok (w, n) → v ≡ w
 value_once {A} reading v w m n a b =
     let both = sym a ∙ b in
     let same : ◌≡◌ {A = A × ℕ} (v, m) (w, n) = cc in
@@ -111,7 +114,8 @@ text_once v w ss rest more a b =
     let inside : a.inside ≡ b.inside = append_cancel_right a.inside b.inside (34 ∷ []) behind in
     (a.stands_for ∙ ap unescaped inside ∙ sym b.stands_for, cc)
 
-names_once : (ns ms : List (List ℕ)) (ss rest more : List Spelled) → AreNames ns ss rest → AreNames ms ss more → (ns ≡ ms) × (rest ≡ more)
+names_once : (ns ms : List (List ℕ)) (ss rest more : List Spelled) → AreNames ns ss rest → AreNames ms ss more
+    → (ns ≡ ms) × (rest ≡ more)
 names_once [] [] ss rest more a b = (refl, let both = sym a ∙ b in cc)
 names_once [] (m ∷ ms) ss rest more a b = absurd (no_text_closes m rest b.0 (subst (λ tokens. IsText m tokens b.0) a b.1))
 names_once (n ∷ ns) [] ss rest more a b = absurd (no_text_closes n more a.0 (subst (λ tokens. IsText n tokens a.0) b a.1))
@@ -121,7 +125,8 @@ names_once (n ∷ ns) (m ∷ ms) ss rest more a b =
     (ap (λ x. x ∷ ns) here.0 ∙ ap (λ l. m ∷ l) later.0, later.1)
 
 -- two heads at the front of the same tokens have the same title, names and rest
-pub head_once : (t u : List ℕ) (ns ms : List (List ℕ)) (ss rest more : List Spelled) → IsHead t ns ss rest → IsHead u ms ss more → (t ≡ u) × (ns ≡ ms) × (rest ≡ more)
+pub head_once : (t u : List ℕ) (ns ms : List (List ℕ)) (ss rest more : List Spelled) → IsHead t ns ss rest
+    → IsHead u ms ss more → (t ≡ u) × (ns ≡ ms) × (rest ≡ more)
 head_once t u ns ms ss rest more a b =
     let both = sym a.head ∙ b.head in
     let headed : a.headed ≡ b.headed = cc in
@@ -133,11 +138,13 @@ head_once t u ns ms ss rest more a b =
 text_more : (v : List ℕ) (ss rest more : List Spelled) → IsText v ss rest → IsText v (ss ++ more) (rest ++ more)
 text_more v ss rest more a = record { inside = a.inside; is_inside = a.is_inside; stands_for = a.stands_for; spelling = ap (λ l. l ++ more) a.spelling }
 
-names_more : (ns : List (List ℕ)) (ss rest more : List Spelled) → AreNames ns ss rest → AreNames ns (ss ++ more) (rest ++ more)
+names_more : (ns : List (List ℕ)) (ss rest more : List Spelled) → AreNames ns ss rest
+    → AreNames ns (ss ++ more) (rest ++ more)
 names_more [] ss rest more a = ap (λ l. l ++ more) a
 names_more (n ∷ ns) ss rest more a = (a.0 ++ more, text_more n ss a.0 more a.1, names_more ns a.0 rest more a.2)
 
-head_more : (t : List ℕ) (ns : List (List ℕ)) (ss rest more : List Spelled) → IsHead t ns ss rest → IsHead t ns (ss ++ more) (rest ++ more)
+head_more : (t : List ℕ) (ns : List (List ℕ)) (ss rest more : List Spelled) → IsHead t ns ss rest
+    → IsHead t ns (ss ++ more) (rest ++ more)
 head_more t ns ss rest more a = record {
   headed = a.headed ++ more;
   titled = a.titled ++ more;
@@ -151,7 +158,8 @@ head_more t ns ss rest more a = record {
 }
 
 -- nothing goes on behind a head
-no_more : (t : List ℕ) (ns : List (List ℕ)) (ss : List Spelled) → IsHead t ns ss [] → (s : Spelled) → IsFront IsHeadTokens (ss ++ s ∷ []) → ⊥
+no_more : (t : List ℕ) (ns : List (List ℕ)) (ss : List Spelled) → IsHead t ns ss [] → (s : Spelled)
+    → IsFront IsHeadTokens (ss ++ s ∷ []) → ⊥
 no_more t ns ss a s front =
     let other = front.1.2 in
     let longer : IsHead front.1.0 front.1.1 (ss ++ s ∷ front.0) [] = subst (λ tokens. IsHead front.1.0 front.1.1 tokens []) (append_assoc ss (s ∷ []) front.0) other in
@@ -159,5 +167,6 @@ no_more t ns ss a s front =
     cc
 
 -- nothing goes on behind the tokens of a head
-pub head_ends : (whole : List ℕ) (place : ℕ) (t : List ℕ) (ns : List (List ℕ)) (ss : List Spelled) → IsHead t ns ss [] → EndsWhole IsHeadTokens whole ss place
+pub head_ends : (whole : List ℕ) (place : ℕ) (t : List ℕ) (ns : List (List ℕ)) (ss : List Spelled) → IsHead t ns ss []
+    → EndsWhole IsHeadTokens whole ss place
 head_ends whole place t ns ss a = record { token = λ l next front. no_more t ns ss a (spelled_at whole l) front; no_text = λ p next takes. no_more t ns ss a (text takes.0) takes.2 }

@@ -13,7 +13,8 @@ use Rattle.def_file_fault.proofs.Slots.{Part, NoFirst}
 use Rattle.def_file_fault.proofs.Numerals.{literal_goes}
 use Rattle.def_file_fault.proofs.Lists.{MarkNext, close_goes, spent, list_goes}
 
-comma_mark : (whole : List ℕ) (at : ℕ) → at ≤ length whole → next_is comma_byte whole at ≡ true → MarkNext kinds.Comma comma whole at
+comma_mark : (whole : List ℕ) (at : ℕ) → at ≤ length whole → next_is comma_byte whole at ≡ true
+    → MarkNext kinds.Comma comma whole at
 comma_mark whole at within is =
     let found = comma_next whole at is in
     let read = ok_token (is_token kinds.Comma whole) whole at found.0 found.1 (ap (is_kind kinds.Comma) found.2) in
@@ -54,7 +55,8 @@ parted_but T = record { to = to; back = λ ss l. inl l }
     to ss fits (inl l) = l
     to ss fits (inr l) = absurd (let clash = subst (FirstIsOther kinds.Comma) l.1 fits in clash refl)
 
-payoff_goes : (done : List Fraction) (whole : List ℕ) (at : ℕ) → at ≤ length whole → Goes 1 HasWord (PayoffIn done) whole at (payoff_at done whole at)
+payoff_goes : (done : List Fraction) (whole : List ℕ) (at : ℕ) → at ≤ length whole
+    → Goes 1 HasWord (PayoffIn done) whole at (payoff_at done whole at)
 unfolding payoff_at
 payoff_goes [] whole at within = literal_goes whole at within
 payoff_goes (d ∷ ds) whole at within = chosen (next_is comma_byte whole at) refl
@@ -100,7 +102,8 @@ payoffs_closed (d ∷ ds) T = record { to = λ ss l. to ss l.0 l.1 l.2 l.3; back
     to ss [] rest is there = let same : rest ≡ ss = cc in subst T same there
     to ss (f ∷ fs) rest is there = absurd (clash f ss is.0 is.1 is.2 is.3)
 
-payoffs_but : (done : List Fraction) (T : List Spelled → Type 0) → AlikeBut kinds.Close (Part (Behind done) T) (PayoffIn done (Part AreMorePayoffs T))
+payoffs_but : (done : List Fraction) (T : List Spelled → Type 0)
+    → AlikeBut kinds.Close (Part (Behind done) T) (PayoffIn done (Part AreMorePayoffs T))
 payoffs_but [] T = record { to = λ ss fits l. to ss fits l.0 l.1 l.2 l.3; back = λ ss l. let later = l.3 in (l.0 ∷ later.0, later.1, (l.1, l.2, later.2), later.3) }
   where
     to : (ss : List Spelled) → FirstIsOther kinds.Close ss → (v : List Fraction) (rest : List Spelled) → ArePayoffs v ss rest → T rest → Part IsFraction (Part AreMorePayoffs T) ss
@@ -137,11 +140,13 @@ payoffs_open (d ∷ ds) T l = unfinished l.0 l.1 l.2
     unfinished (f ∷ fs) rest is = parted f is.0 is.1 is.2 is.3
 
 -- behind a payoff
-more_goes : (done : List Fraction) (f : Fraction) (whole : List ℕ) (at : ℕ) (r : Result (List Fraction × ℕ) FileFault) → Goes 1 HasWord (Part (Behind (done ++ f ∷ []))) whole at r → Goes 1 HasWord (Part AreMorePayoffs) whole at r
+more_goes : (done : List Fraction) (f : Fraction) (whole : List ℕ) (at : ℕ) (r : Result (List Fraction × ℕ) FileFault)
+    → Goes 1 HasWord (Part (Behind (done ++ f ∷ []))) whole at r → Goes 1 HasWord (Part AreMorePayoffs) whole at r
 more_goes [] f whole at r go = go
 more_goes (d ∷ ds) f whole at r go = go
 
-payoffs_goes : (left : ℕ) (done : List Fraction) (whole : List ℕ) (at : ℕ) → at ≤ length whole → length whole ≤ at + left → Goes 1 HasWord (Part (Behind done)) whole at (payoffs_from left done whole at)
+payoffs_goes : (left : ℕ) (done : List Fraction) (whole : List ℕ) (at : ℕ) → at ≤ length whole
+    → length whole ≤ at + left → Goes 1 HasWord (Part (Behind done)) whole at (payoffs_from left done whole at)
 unfolding payoffs_from
 payoffs_goes zero done whole at within left_is = spent HasWord (Part (Behind done)) whole at within left_is (payoffs_word done) (λ T word. payoffs_open done T)
 payoffs_goes (suc left) done whole at within left_is =
@@ -155,7 +160,8 @@ payoffs_goes (suc left) done whole at within left_is =
         (goes_then 1 HasWord HasWord (PayoffIn done) (Part AreMorePayoffs) whole at (payoff_at done whole at) _ (payoff_goes done whole at within) (λ T word. (close_brace ∷ word.0, ([], word.0, refl, word.1)))
         (λ payoff e inner grown. goes_less 1 0 HasWord (Part AreMorePayoffs) whole payoff.1 _ (omega arith) (more_goes done payoff.0 whole payoff.1 _ (again payoff inner grown))))
 
-payoff_list_after : (T : List Spelled → Type 0) → NoFirst kinds.Open T → Alike (After open_brace (Part IsPayoffList T)) (Part ArePayoffs T)
+payoff_list_after : (T : List Spelled → Type 0) → NoFirst kinds.Open T
+    → Alike (After open_brace (Part IsPayoffList T)) (Part ArePayoffs T)
 payoff_list_after T apart = record { to = λ ss l. to ss l.0 l.1 l.2 l.3; back = λ ss l. (Some l.0, l.1, (ss, refl, l.2), l.3) }
   where
     to : (ss : List Spelled) (v : Option (List Fraction)) (rest : List Spelled) → IsPayoffList v (open_brace ∷ ss) rest → T rest → Part ArePayoffs T ss
@@ -172,7 +178,8 @@ payoff_list_but T = record { to = λ ss fits l. to ss fits l.0 l.1 l.2 l.3; back
     to ss fits (Some fs) rest is there = absurd (let clash = subst (FirstIsOther kinds.Open) is.1 fits in clash refl)
 
 -- reading a list of payoffs, or none, goes along its tokens, or is stuck in them
-pub payoff_list_goes : (whole : List ℕ) (at : ℕ) → at ≤ length whole → Goes 0 (NoFirst kinds.Open) (Part IsPayoffList) whole at (payoffs_at whole at)
+pub payoff_list_goes : (whole : List ℕ) (at : ℕ) → at ≤ length whole
+    → Goes 0 (NoFirst kinds.Open) (Part IsPayoffList) whole at (payoffs_at whole at)
 unfolding payoffs_at
 payoff_list_goes whole at within = chosen (next_is open_byte whole at) refl
   where

@@ -26,23 +26,28 @@ use Rattle.def_file_fault.proofs.Decided.{entry_decided, entry_offended, comment
 use Rattle.def_file_fault.proofs.Trailing.{trailing_decided}
 
 -- a first reading that gives a fault
-err_first : {A B : Type 0} (r : Result A FileFault) (f : A → Result B FileFault) (fault : FileFault) → r ≡ Err fault → (r >>= f) ≡ Err fault
+err_first : {A B : Type 0} (r : Result A FileFault) (f : A → Result B FileFault) (fault : FileFault) → r ≡ Err fault
+    → (r >>= f) ≡ Err fault
 err_first (Ok x) f fault e = absurd cc
 err_first (Err other) f fault e = let same : other ≡ fault = cc in ap Err same
 
 -- The prologue.
 
-head_within : (whole title : List ℕ) (names : List (List ℕ)) (end : ℕ) → IsHeadUpTo whole title names end → end ≤ length whole
+head_within : (whole title : List ℕ) (names : List (List ℕ)) (end : ℕ) → IsHeadUpTo whole title names end
+    → end ≤ length whole
 head_within whole title names end is = (next_order whole 0 is.tokens end (omega arith) is.next).1
 
-behind_is : (whole title : List ℕ) (names : List (List ℕ)) (end : ℕ) → IsHeadUpTo whole title names end → prologue_at whole 0 ≡ behind_head whole ((title, names), end)
+behind_is : (whole title : List ℕ) (names : List (List ℕ)) (end : ℕ) → IsHeadUpTo whole title names end
+    → prologue_at whole 0 ≡ behind_head whole ((title, names), end)
 behind_is whole title names end is = prologue_is whole 0 ∙ ap (λ r. r >>= behind_head whole) (head_decided whole title names end is)
 
-behind_two : (whole title one second : List ℕ) (end : ℕ) → behind_head whole ((title, one ∷ second ∷ []), end) ≡ (name_at whole end >>= λ comment. Ok (record { title = title; one = one; two = second; comment = unwrap_or comment.0 [] }, comment.1))
+behind_two : (whole title one second : List ℕ) (end : ℕ)
+    → behind_head whole ((title, one ∷ second ∷ []), end) ≡ (name_at whole end >>= λ comment. Ok (record { title = title; one = one; two = second; comment = unwrap_or comment.0 [] }, comment.1))
 unfolding behind_head
 behind_two whole title one second end = refl
 
-prologue_decided : (whole : List ℕ) (p : Prologue) (end : ℕ) → IsPrologueUpTo whole p end → (prologue_at whole 0 ≡ Ok (p, end)) × (end ≤ length whole)
+prologue_decided : (whole : List ℕ) (p : Prologue) (end : ℕ) → IsPrologueUpTo whole p end
+    → (prologue_at whole 0 ≡ Ok (p, end)) × (end ≤ length whole)
 prologue_decided whole p end is =
     let within = head_within whole p.title (p.one ∷ p.two ∷ []) is.behind is.head in
     let comment = comment_decided whole is.behind within is.comment end is.remark in (
@@ -56,7 +61,8 @@ prologue_decided whole p end is =
 -- Entries.
 
 -- the nodes of more entries
-nodes_behind : (rs more : List Record) → (extra : List Node) × ((contents_of (rs ++ more)).nodes ≡ (contents_of rs).nodes ++ extra)
+nodes_behind : (rs more : List Record)
+    → (extra : List Node) × ((contents_of (rs ++ more)).nodes ≡ (contents_of rs).nodes ++ extra)
 nodes_behind rs [] = ([], ap (λ l. (contents_of l).nodes) (append-nil rs) ∙ sym (append-nil (contents_of rs).nodes))
 nodes_behind rs (r ∷ more) =
     let later = nodes_behind (rs ++ r ∷ []) more in
@@ -70,27 +76,33 @@ wanted_there : (n : ℕ) (xs : List Node) (y : Node) (ys : List Node) → Begins
 wanted_there n [] y ys begins = begins.0
 wanted_there n (x ∷ xs) y ys begins = wanted_there (n + x.children - 1) xs y ys begins.1
 
-entry_wanted : (rs : List Record) (r : Record) (more : List Record) → Begins 1 (contents_of (rs ++ r ∷ more)).nodes → 0 < wanted 1 (contents_of rs).nodes
+entry_wanted : (rs : List Record) (r : Record) (more : List Record) → Begins 1 (contents_of (rs ++ r ∷ more)).nodes
+    → 0 < wanted 1 (contents_of rs).nodes
 entry_wanted rs r more begins =
     let later = nodes_behind (rs ++ r ∷ []) more in
     let split = ap (λ l. (contents_of l).nodes) (sym (append_assoc rs (r ∷ []) more)) ∙ later.1 ∙ ap (λ (c : Contents). c.nodes ++ later.0) (one_more rs r) ∙ append_assoc (contents_of rs).nodes (node_with (contents_of rs) r ∷ []) later.0 in
     wanted_there 1 (contents_of rs).nodes (node_with (contents_of rs) r) later.0 (subst (Begins 1) split begins)
 
 -- where the tree is open another entry is read, and where it is whole none
-more_here : (left : ℕ) (contents : Contents) (whole : List ℕ) (at : ℕ) → wanted 1 contents.nodes ≢ 0 → entries_from (suc left) contents whole at ≡ (entry_at whole at >>= λ x. judged contents x.0 >>= λ next. entries_from left next whole x.1)
+more_here : (left : ℕ) (contents : Contents) (whole : List ℕ) (at : ℕ) → wanted 1 contents.nodes ≢ 0
+    → entries_from (suc left) contents whole at ≡ (entry_at whole at >>= λ x. judged contents x.0 >>= λ next. entries_from left next whole x.1)
 unfolding entries_from
 more_here left contents whole at some = rw (ne_eqb (wanted 1 contents.nodes) 0 some) refl
 
-none_here : (left : ℕ) (contents : Contents) (whole : List ℕ) (at : ℕ) → wanted 1 contents.nodes ≡ 0 → entries_from (suc left) contents whole at ≡ Ok (contents, at)
+none_here : (left : ℕ) (contents : Contents) (whole : List ℕ) (at : ℕ) → wanted 1 contents.nodes ≡ 0
+    → entries_from (suc left) contents whole at ≡ Ok (contents, at)
 unfolding entries_from
 none_here left contents whole at none = rw (eq-eqb (wanted 1 contents.nodes) 0 none) refl
 
-judged_fault : (contents : Contents) (r : Record) (fault : FileFault) → record_fault contents r ≡ Some fault → judged contents r ≡ Err fault
+judged_fault : (contents : Contents) (r : Record) (fault : FileFault) → record_fault contents r ≡ Some fault
+    → judged contents r ≡ Err fault
 unfolding judged
 judged_fault contents r fault is = ap (λ found. unless_fault found (with_record contents r)) is
 
 -- entries that are read behind others
-entries_run : (whole : List ℕ) (done rs : List Record) (at end fuel left : ℕ) → at ≤ length whole → AreEntriesFrom whole at rs end → HaveNoFault (done ++ rs) → Begins 1 (contents_of (done ++ rs)).nodes → fuel ≡ length rs + left
+entries_run : (whole : List ℕ) (done rs : List Record) (at end fuel left : ℕ) → at ≤ length whole
+    → AreEntriesFrom whole at rs end → HaveNoFault (done ++ rs) → Begins 1 (contents_of (done ++ rs)).nodes
+    → fuel ≡ length rs + left
     → (entries_from fuel (contents_of done) whole at ≡ entries_from left (contents_of (done ++ rs)) whole end) × (end ≤ length whole)
 entries_run whole done [] at end fuel left within are no_fault begins fuel_is =
     let same : fuel ≡ left = omega (arith, fuel_is) in
@@ -138,18 +150,23 @@ game_behind : (whole : List ℕ) (fault : FileFault) → prologue_at whole 0 ≡
 unfolding game_at
 game_behind whole fault is = err_first (prologue_at whole 0) _ fault is
 
-game_entries : (whole : List ℕ) (p : Prologue) (behind : ℕ) (fault : FileFault) → prologue_at whole 0 ≡ Ok (p, behind) → entries_from (most_nodes + 1) no_contents whole behind ≡ Err fault → game_at whole ≡ Err fault
+game_entries : (whole : List ℕ) (p : Prologue) (behind : ℕ) (fault : FileFault) → prologue_at whole 0 ≡ Ok (p, behind)
+    → entries_from (most_nodes + 1) no_contents whole behind ≡ Err fault → game_at whole ≡ Err fault
 unfolding game_at
 game_entries whole p behind fault is bad = rw (is, bad) refl
 
-game_end : (whole : List ℕ) (p : Prologue) (behind : ℕ) (contents : Contents) (at : ℕ) (fault : FileFault) → prologue_at whole 0 ≡ Ok (p, behind) → entries_from (most_nodes + 1) no_contents whole behind ≡ Ok (contents, at) → nothing_at whole at ≡ Err fault → game_at whole ≡ Err fault
+game_end : (whole : List ℕ) (p : Prologue) (behind : ℕ) (contents : Contents) (at : ℕ) (fault : FileFault)
+    → prologue_at whole 0 ≡ Ok (p, behind) → entries_from (most_nodes + 1) no_contents whole behind ≡ Ok (contents, at)
+    → nothing_at whole at ≡ Err fault → game_at whole ≡ Err fault
 unfolding game_at
 game_end whole p behind contents at fault is entries bad = rw (is, entries, bad) refl
 
-head_faulted : (whole : List ℕ) (fault : FileFault) → Offends IsHeadTokens whole 0 fault → prologue_at whole 0 ≡ Err fault
+head_faulted : (whole : List ℕ) (fault : FileFault) → Offends IsHeadTokens whole 0 fault
+    → prologue_at whole 0 ≡ Err fault
 head_faulted whole fault o = prologue_is whole 0 ∙ ap (λ r. r >>= behind_head whole) (head_offended whole fault o)
 
-behind_others : (whole title : List ℕ) (names : List (List ℕ)) (end : ℕ) → length names ≢ 2 → Checked names end → behind_head whole ((title, names), end) ≡ Err (Players (length names))
+behind_others : (whole title : List ℕ) (names : List (List ℕ)) (end : ℕ) → length names ≢ 2 → Checked names end
+    → behind_head whole ((title, names), end) ≡ Err (Players (length names))
 unfolding behind_head
 behind_others whole title names end count (two is same) = absurd (count is)
 behind_others whole title names end count (others is same) = err_first (checked_names names end) _ (Players (length names)) same

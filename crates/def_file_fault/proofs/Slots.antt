@@ -69,7 +69,8 @@ module _ {A : Type 0} (R : A → List Spelled → List Spelled → Type 0) (Fits
   pub one_word : (s : Spelled) → Fits s → (T : List Spelled → Type 0) → HasWord T → HasWord (Part R T)
   one_word s fits T word = (s ∷ word.0, (one_alike s fits T).back word.0 word.1)
 
-  pub one_begins : (test : Spelled → Bool) (s : Spelled) → Fits s → ((u : Spelled) → Fits u → test u ≡ true) → Begins HasWord (Part R) test
+  pub one_begins : (test : Spelled → Bool) (s : Spelled) → Fits s → ((u : Spelled) → Fits u → test u ≡ true)
+      → Begins HasWord (Part R) test
   one_begins test s fits passes = record {
     word = one_word s fits;
     first = λ T ss word l.
@@ -99,7 +100,8 @@ one_text = record {
 pub text_word : (T : List Spelled → Type 0) → HasWord T → HasWord (Part IsText T)
 text_word = one_word IsText TextFits one_text (text []) ([], no_inside, refl)
 
-text_fits : (whole : List ℕ) (at : ℕ) → at ≤ length whole → (t : Lexeme) → next_from whole at ≡ Ok t → t.kind ≡ kinds.Text → TextFits (spelled_at whole t)
+text_fits : (whole : List ℕ) (at : ℕ) → at ≤ length whole → (t : Lexeme) → next_from whole at ≡ Ok t
+    → t.kind ≡ kinds.Text → TextFits (spelled_at whole t)
 text_fits whole at within t next is = let found = text_here whole at within t next (sym is) in (found.0, found.1, found.2.spelled)
 
 -- reading a text goes along its token, or is stuck there
@@ -128,23 +130,27 @@ name_but T = record { to = λ ss fits l. to ss fits l.0 l.1 l.2 l.3; back = λ s
     to ss fits None rest is there = subst T (sym is) there
     to ss fits (Some bytes) rest is there = absurd (let clash = subst (FirstIsOther kinds.Text) is.spelling fits in clash refl)
 
-name_after : (T : List Spelled → Type 0) → NoFirst kinds.Text T → (s : Spelled) → TextFits s → Alike (After s (Part IsName T)) T
+name_after : (T : List Spelled → Type 0) → NoFirst kinds.Text T → (s : Spelled) → TextFits s
+    → Alike (After s (Part IsName T)) T
 name_after T none s fits = record { to = λ ss l. to ss l.0 l.1 l.2 l.3; back = λ ss there. (Some (unescaped fits.0), ss, record { inside = fits.0; is_inside = fits.1; stands_for = refl; spelling = ap (λ u. u ∷ ss) fits.2 }, there) }
   where
     to : (ss : List Spelled) (v : Option (List ℕ)) (rest : List Spelled) → IsName v (s ∷ ss) rest → T rest → T ss
     to ss None rest is there = absurd (none.apart s ss (subst T (sym is) there) (ap (λ (u : Spelled). u.kind) fits.2))
     to ss (Some bytes) rest is there = let same : rest ≡ ss = let e = is.spelling in cc in subst T same there
 
-text_at_ok : (whole : List ℕ) (at : ℕ) (t : Lexeme) → next_from whole at ≡ Ok t → t.kind ≡ kinds.Text → text_at whole at ≡ Ok (token_text whole t, t.end)
+text_at_ok : (whole : List ℕ) (at : ℕ) (t : Lexeme) → next_from whole at ≡ Ok t → t.kind ≡ kinds.Text
+    → text_at whole at ≡ Ok (token_text whole t, t.end)
 unfolding text_at
 text_at_ok whole at t next is = rw (ok_token (is_token kinds.Text whole) whole at t next (ap (is_kind kinds.Text) is)) refl
 
-text_at_unclosed : (whole : List ℕ) (at p : ℕ) → next_from whole at ≡ Err (lexing.Unclosed p) → text_at whole at ≡ Err UnexpectedEnd
+text_at_unclosed : (whole : List ℕ) (at p : ℕ) → next_from whole at ≡ Err (lexing.Unclosed p)
+    → text_at whole at ≡ Err UnexpectedEnd
 unfolding text_at token_where
 text_at_unclosed whole at p next = rw next refl
 
 -- reading a name, or none, goes along its token, or is stuck there
-pub name_goes : (whole : List ℕ) (at : ℕ) → at ≤ length whole → Goes 0 (NoFirst kinds.Text) (Part IsName) whole at (name_at whole at)
+pub name_goes : (whole : List ℕ) (at : ℕ) → at ≤ length whole
+    → Goes 0 (NoFirst kinds.Text) (Part IsName) whole at (name_at whole at)
 unfolding name_at
 name_goes whole at within = chosen (next_is mark whole at) refl
   where

@@ -33,7 +33,8 @@ use Rattle.def_file_fault.proofs.Heads.{prologue_is}
 use Rattle.def_file_fault.proofs.Upto.{WholeRead, entry_stuck, entry_whole, entry_from, comment_stuck, comment_whole, comment_from, head_stuck, head_whole, head_up_to}
 
 -- one reading after another that gives a fault
-pub bind_err : {A B G : Type 0} (r : Result A FileFault) (f : A → Result B FileFault) (fault : FileFault) → (r >>= f) ≡ Err fault → (r ≡ Err fault → G) → ((x : A) → r ≡ Ok x → f x ≡ Err fault → G) → G
+pub bind_err : {A B G : Type 0} (r : Result A FileFault) (f : A → Result B FileFault) (fault : FileFault)
+    → (r >>= f) ≡ Err fault → (r ≡ Err fault → G) → ((x : A) → r ≡ Ok x → f x ≡ Err fault → G) → G
 bind_err (Ok x) f fault e bad go = go x refl e
 bind_err (Err d) f fault e bad go = let same : d ≡ fault = cc in bad (ap Err same)
 
@@ -73,7 +74,8 @@ module _ (whole : List ℕ) (head : PrologueHead × ℕ) (w : WholeRead IsHeadTo
   unfolding behind_head
   behind_two is = ap (λ r. r >>= λ behind. (name_at whole behind >>= λ comment. Ok (record { title = head.0.0; one = nth_name head.0.1 0; two = nth_name head.0.1 1; comment = unwrap_or comment.0 [] }, comment.1))) is
 
-  behind_others : checked_names head.0.1 head.1 ≡ Err (Players (length head.0.1)) → behind_head whole head ≡ Err (Players (length head.0.1))
+  behind_others : checked_names head.0.1 head.1 ≡ Err (Players (length head.0.1))
+      → behind_head whole head ≡ Err (Players (length head.0.1))
   unfolding behind_head
   behind_others is = ap (λ r. r >>= λ behind. (name_at whole behind >>= λ comment. Ok (record { title = head.0.0; one = nth_name head.0.1 0; two = nth_name head.0.1 1; comment = unwrap_or comment.0 [] }, comment.1))) is
 
@@ -114,11 +116,14 @@ prologue_read whole x e =
 -- Entries.
 
 -- one more entry
-entries_more : (whole : List ℕ) (at mid : ℕ) (rs : List Record) (r : Record) (end : ℕ) → AreEntriesFrom whole at rs mid → IsEntryFrom whole mid r end → AreEntriesFrom whole at (rs ++ r ∷ []) end
+entries_more : (whole : List ℕ) (at mid : ℕ) (rs : List Record) (r : Record) (end : ℕ) → AreEntriesFrom whole at rs mid
+    → IsEntryFrom whole mid r end → AreEntriesFrom whole at (rs ++ r ∷ []) end
 entries_more whole at mid [] r end are is = (end, subst (λ n. IsEntryFrom whole n r end) (sym are) is, refl)
 entries_more whole at mid (x ∷ xs) r end are is = (are.0, are.1, entries_more whole are.0 mid xs r end are.2 is)
 
-pub read_more : (whole : List ℕ) (p : Prologue) (rs : List Record) (at : ℕ) (r : Record) (end : ℕ) → IsReadUpTo whole p rs at → 0 < wanted 1 (contents_of rs).nodes → IsEntryFrom whole at r end → record_fault (contents_of rs) r ≡ None → IsReadUpTo whole p (rs ++ r ∷ []) end
+pub read_more : (whole : List ℕ) (p : Prologue) (rs : List Record) (at : ℕ) (r : Record) (end : ℕ)
+    → IsReadUpTo whole p rs at → 0 < wanted 1 (contents_of rs).nodes → IsEntryFrom whole at r end
+    → record_fault (contents_of rs) r ≡ None → IsReadUpTo whole p (rs ++ r ∷ []) end
 read_more whole p rs at r end read some is none = record {
   behind = read.behind;
   prologue = read.prologue;
@@ -127,7 +132,8 @@ read_more whole p rs at r end read some is none = record {
   begins = subst (λ (c : Contents). Begins 1 c.nodes) (sym (one_more rs r)) (Begins-append 1 (contents_of rs).nodes (node_with (contents_of rs) r ∷ []) read.begins (some, tt));
 }
 
-judged_err : (contents : Contents) (r : Record) (fault : FileFault) → judged contents r ≡ Err fault → record_fault contents r ≡ Some fault
+judged_err : (contents : Contents) (r : Record) (fault : FileFault) → judged contents r ≡ Err fault
+    → record_fault contents r ≡ Some fault
 unfolding judged
 judged_err contents r fault e = unless (record_fault contents r) e
   where
@@ -149,7 +155,9 @@ Answer whole p (Ok x) = AllRead whole p x
 Answer whole p (Err fault) = FirstFault whole fault
 
 module _ (whole : List ℕ) (p : Prologue) (most : ℕ) (most_is : most ≡ most_nodes) where
-  entries_answer : (left : ℕ) (rs : List Record) (contents : Contents) (at : ℕ) → contents ≡ contents_of rs → at ≤ length whole → IsReadUpTo whole p rs at → most < length rs + left → Answer whole p (entries_from left contents whole at)
+  entries_answer : (left : ℕ) (rs : List Record) (contents : Contents) (at : ℕ) → contents ≡ contents_of rs
+      → at ≤ length whole → IsReadUpTo whole p rs at → most < length rs + left
+      → Answer whole p (entries_from left contents whole at)
   unfolding entries_from
   entries_answer zero rs contents at known within read fuel = let limit = entries_limit most most_is rs read.no_fault in absurd (omega (arith, limit, fuel))
   entries_answer (suc left) rs contents at known within read fuel =
@@ -185,14 +193,16 @@ module _ (whole : List ℕ) (p : Prologue) (most : ℕ) (most_is : most ≡ most
           let same : wanted 1 contents.nodes ≡ wanted 1 (contents_of rs).nodes = ap (λ (c : Contents). wanted 1 c.nodes) known in
           entry (omega (arith, none, same)) (entry_at whole at) refl again
 
-answered : (whole : List ℕ) (p : Prologue) (r t : Result (Contents × ℕ) FileFault) → r ≡ t → Answer whole p r → Answer whole p t
+answered : (whole : List ℕ) (p : Prologue) (r t : Result (Contents × ℕ) FileFault) → r ≡ t → Answer whole p r
+    → Answer whole p t
 answered whole p r t same a = subst (Answer whole p) same a
 
 -- from the beginning
 nothing_read : (whole : List ℕ) (p : Prologue) (end : ℕ) → IsPrologueUpTo whole p end → IsReadUpTo whole p [] end
 nothing_read whole p end is = record { behind = end; prologue = is; entries = refl; no_fault = nothing_at_fault; begins = tt }
 
-pub tree_answer : (whole : List ℕ) (p : Prologue) (at : ℕ) → PrologueRead whole p at → Answer whole p (entries_from (most_nodes + 1) no_contents whole at)
+pub tree_answer : (whole : List ℕ) (p : Prologue) (at : ℕ) → PrologueRead whole p at
+    → Answer whole p (entries_from (most_nodes + 1) no_contents whole at)
 tree_answer whole p at w = from (most_nodes) refl
   where
     from : (most : ℕ) → most ≡ most_nodes → Answer whole p (entries_from (most + 1) no_contents whole at)
@@ -201,7 +211,8 @@ tree_answer whole p at w = from (most_nodes) refl
 -- Behind the tree.
 
 -- what stands behind the tree is the fault of the rest
-pub nothing_fault : (whole : List ℕ) (at : ℕ) → at ≤ length whole → (fault : FileFault) → nothing_at whole at ≡ Err fault → (place : ℕ) × IsFirstByteFrom whole at place × (fault ≡ TrailingText place)
+pub nothing_fault : (whole : List ℕ) (at : ℕ) → at ≤ length whole → (fault : FileFault)
+    → nothing_at whole at ≡ Err fault → (place : ℕ) × IsFirstByteFrom whole at place × (fault ≡ TrailingText place)
 unfolding nothing_at
 nothing_fault whole at within fault e = by_next (next_from whole at) refl e
   where

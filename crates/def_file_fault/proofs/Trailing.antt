@@ -17,7 +17,8 @@ use Rattle.def_file_fault.proofs.Stopped.{nothing_fault}
 
 module _ (whole : List ℕ) (at : ℕ) where
   -- a byte of white space
-  space_at : (stop place : ℕ) → AllPass is_space (slice_range whole at stop) → at ≤ place → place < stop → stop ≤ length whole → is_space (slice_index whole place) ≡ true
+  space_at : (stop place : ℕ) → AllPass is_space (slice_range whole at stop) → at ≤ place → place < stop
+      → stop ≤ length whole → is_space (slice_index whole place) ≡ true
   space_at stop place all from below within =
       let slice = take (stop - at) (drop at whole) in
       let long : length slice ≡ stop - at = length-take-le (stop - at) (drop at whole) (omega (arith, length-drop at whole)) in
@@ -34,7 +35,8 @@ module _ (whole : List ℕ) (at : ℕ) where
       ⊎_elim (λ below. absurd (not_before p q a b below)) (λ up. ⊎_elim (λ below. absurd (not_before q p b a below)) (λ down. omega (arith, up, down)) (cases_lt q p)) (cases_lt p q)
 
   -- the end isn't next before a byte
-  not_at_end : at ≤ length whole → (place : ℕ) → IsFirstByteFrom whole at place → (end : ℕ) → nothing_at whole at ≡ Ok end → ⊥
+  not_at_end : at ≤ length whole → (place : ℕ) → IsFirstByteFrom whole at place → (end : ℕ)
+      → nothing_at whole at ≡ Ok end → ⊥
   not_at_end within place byte end e =
       let found = nothing_ok whole at end e in
       let l = found.0 in
@@ -46,7 +48,8 @@ module _ (whole : List ℕ) (at : ℕ) where
       let clash : true ≡ false = sym (space_at l.start place is.space byte.from (omega (arith, starts, byte.within)) (omega (arith, is.order, is.within))) ∙ byte.byte in
       cc
 
-  pub trailing_decided : at ≤ length whole → (place : ℕ) → IsFirstByteFrom whole at place → nothing_at whole at ≡ Err (TrailingText place)
+  pub trailing_decided : at ≤ length whole → (place : ℕ) → IsFirstByteFrom whole at place
+      → nothing_at whole at ≡ Err (TrailingText place)
   trailing_decided within place byte = by_reading (nothing_at whole at) refl
     where
       by_reading : (r : Result ℕ FileFault) → nothing_at whole at ≡ r → nothing_at whole at ≡ Err (TrailingText place)

@@ -25,7 +25,8 @@ are_next whole at [] end takes = takes
 are_next whole at (s ∷ ss) end takes = let step = takes.1 in (takes.0, step.next, step.not_end, step.spelled, are_next whole takes.0.end ss end takes.2)
 
 -- tokens that come one after another end no earlier than they begin, and within the bytes
-pub next_order : (whole : List ℕ) (at : ℕ) (ss : List Spelled) (end : ℕ) → at ≤ length whole → AreNext whole at ss end → (at ≤ end) × (end ≤ length whole)
+pub next_order : (whole : List ℕ) (at : ℕ) (ss : List Spelled) (end : ℕ) → at ≤ length whole → AreNext whole at ss end
+    → (at ≤ end) × (end ≤ length whole)
 next_order whole at [] end within next = (omega (arith, next), omega (arith, next, within))
 next_order whole at (s ∷ ss) end within next =
     let grown = step_grows whole at within next.0 (record { next = next.1; not_end = next.2 }) in
@@ -33,7 +34,8 @@ next_order whole at (s ∷ ss) end within next =
     (omega (arith, grown.0, later.0), later.1)
 
 -- up to one offset there are no other tokens
-pub next_once : (whole : List ℕ) (at : ℕ) (ss ts : List Spelled) (end : ℕ) → at ≤ length whole → AreNext whole at ss end → AreNext whole at ts end → ss ≡ ts
+pub next_once : (whole : List ℕ) (at : ℕ) (ss ts : List Spelled) (end : ℕ) → at ≤ length whole → AreNext whole at ss end
+    → AreNext whole at ts end → ss ≡ ts
 next_once whole at [] [] end within a b = refl
 next_once whole at [] (t ∷ ts) end within a b =
     let grown = step_grows whole at within b.0 (record { next = b.1; not_end = b.2 }) in
@@ -108,29 +110,35 @@ none_behind = record { word = ([], refl); no_text = λ s ss e same. let clash = 
 -- Entries.
 
 -- where reading an entry ends with a fault, it is stuck with this fault
-pub entry_stuck : (whole : List ℕ) (at : ℕ) → at ≤ length whole → (fault : FileFault) → entry_at whole at ≡ Err fault → Stuck IsEntryTokens whole at fault
+pub entry_stuck : (whole : List ℕ) (at : ℕ) → at ≤ length whole → (fault : FileFault) → entry_at whole at ≡ Err fault
+    → Stuck IsEntryTokens whole at fault
 entry_stuck whole at within fault e = whole_stuck IsEntryTokens IsEntry (whole_alike IsEntry) 1 Follows none_behind whole at within (entry_at whole at) (entry_goes whole at within) fault e
 
 -- an entry that was read has all the tokens up to its end, and none goes on behind them
-pub entry_whole : (whole : List ℕ) (at : ℕ) → at ≤ length whole → (x : Record × ℕ) → entry_at whole at ≡ Ok x → WholeRead IsEntryTokens IsEntry whole at x.0 x.1
+pub entry_whole : (whole : List ℕ) (at : ℕ) → at ≤ length whole → (x : Record × ℕ) → entry_at whole at ≡ Ok x
+    → WholeRead IsEntryTokens IsEntry whole at x.0 x.1
 entry_whole whole at within x e = whole_read IsEntryTokens IsEntry (whole_alike IsEntry) 1 Follows none_behind whole at within (entry_at whole at) (entry_goes whole at within) x e (entry_read whole at within x e)
 
 -- an entry with all the tokens up to its end is one from its offset on
-pub entry_from : (whole : List ℕ) (at : ℕ) (r : Record) (end : ℕ) → WholeRead IsEntryTokens IsEntry whole at r end → IsEntryFrom whole at r end
+pub entry_from : (whole : List ℕ) (at : ℕ) (r : Record) (end : ℕ) → WholeRead IsEntryTokens IsEntry whole at r end
+    → IsEntryFrom whole at r end
 entry_from whole at r end w = record { tokens = w.tokens; next = w.next; entry = w.is; ends = w.ends }
 
 -- The comment.
 
 -- where reading the comment ends with a fault, it is stuck with this fault
-pub comment_stuck : (whole : List ℕ) (at : ℕ) → at ≤ length whole → (fault : FileFault) → name_at whole at ≡ Err fault → Stuck IsCommentTokens whole at fault
+pub comment_stuck : (whole : List ℕ) (at : ℕ) → at ≤ length whole → (fault : FileFault) → name_at whole at ≡ Err fault
+    → Stuck IsCommentTokens whole at fault
 comment_stuck whole at within fault e = whole_stuck IsCommentTokens IsName (whole_alike IsName) 0 (NoFirst kinds.Text) none_first whole at within (name_at whole at) (name_goes whole at within) fault e
 
 -- a comment that was read, or none, has all the tokens up to its end, and none goes on behind them
-pub comment_whole : (whole : List ℕ) (at : ℕ) → at ≤ length whole → (x : Option (List ℕ) × ℕ) → name_at whole at ≡ Ok x → WholeRead IsCommentTokens IsName whole at x.0 x.1
+pub comment_whole : (whole : List ℕ) (at : ℕ) → at ≤ length whole → (x : Option (List ℕ) × ℕ) → name_at whole at ≡ Ok x
+    → WholeRead IsCommentTokens IsName whole at x.0 x.1
 comment_whole whole at within x e = whole_read IsCommentTokens IsName (whole_alike IsName) 0 (NoFirst kinds.Text) none_first whole at within (name_at whole at) (name_goes whole at within) x e (name_read whole at within x e)
 
 -- a comment with all the tokens up to its end is one from its offset on
-pub comment_from : (whole : List ℕ) (at : ℕ) (comment : Option (List ℕ)) (end : ℕ) → WholeRead IsCommentTokens IsName whole at comment end → IsCommentFrom whole at comment end
+pub comment_from : (whole : List ℕ) (at : ℕ) (comment : Option (List ℕ)) (end : ℕ)
+    → WholeRead IsCommentTokens IsName whole at comment end → IsCommentFrom whole at comment end
 comment_from whole at comment end w = record { tokens = w.tokens; next = w.next; name = w.is; ends = w.ends }
 
 -- The head.
@@ -143,9 +151,11 @@ pub head_stuck : (whole : List ℕ) (fault : FileFault) → head_at whole 0 ≡ 
 head_stuck whole fault e = whole_stuck IsHeadTokens IsHeadOf head_alike 1 HasWord ([], refl) whole 0 (omega arith) (head_at whole 0) (head_goes whole 0 (omega arith)) fault e
 
 -- a head that was read has all the tokens up to its end, and none goes on behind them
-pub head_whole : (whole : List ℕ) (x : PrologueHead × ℕ) → head_at whole 0 ≡ Ok x → WholeRead IsHeadTokens IsHeadOf whole 0 x.0 x.1
+pub head_whole : (whole : List ℕ) (x : PrologueHead × ℕ) → head_at whole 0 ≡ Ok x
+    → WholeRead IsHeadTokens IsHeadOf whole 0 x.0 x.1
 head_whole whole x e = whole_read IsHeadTokens IsHeadOf head_alike 1 HasWord ([], refl) whole 0 (omega arith) (head_at whole 0) (head_goes whole 0 (omega arith)) x e (head_read whole 0 (omega arith) x e)
 
 -- a head with all the tokens up to its end is one from the beginning of the bytes
-pub head_up_to : (whole title : List ℕ) (names : List (List ℕ)) (end : ℕ) → WholeRead IsHeadTokens IsHeadOf whole 0 (title, names) end → IsHeadUpTo whole title names end
+pub head_up_to : (whole title : List ℕ) (names : List (List ℕ)) (end : ℕ)
+    → WholeRead IsHeadTokens IsHeadOf whole 0 (title, names) end → IsHeadUpTo whole title names end
 head_up_to whole title names end w = record { tokens = w.tokens; next = w.next; head = w.is }

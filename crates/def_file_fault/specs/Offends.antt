@@ -91,5 +91,6 @@ pub record Offends (Whole : List Spelled → Type 0) (bytes : List ℕ) (at : �
   pub stop : Stops Whole bytes tokens place fault
 
 pub record EndsWhole (Whole : List Spelled → Type 0) (bytes : List ℕ) (tokens : List Spelled) (place : ℕ) : Type 0 where
-  pub token : (token : Lexeme) → next_from bytes place ≡ Ok token → IsFront Whole (tokens ++ spelled_at bytes token ∷ []) → ⊥
+  pub token : (token : Lexeme) → next_from bytes place ≡ Ok token
+      → IsFront Whole (tokens ++ spelled_at bytes token ∷ []) → ⊥
   pub no_text : (at : ℕ) → next_from bytes place ≡ Err (lexing.Unclosed at) → TakesText Whole tokens → ⊥

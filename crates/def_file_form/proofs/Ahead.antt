@@ -47,7 +47,8 @@ unfolding next_from
 starts whole at l next = (token_at-sound (after_space whole at) (drop (after_space whole at) whole) l next).begins
 
 -- a byte is next exactly if the next token begins with it
-pub next_is_step : (byte : ℕ) (whole : List ℕ) (at : ℕ) (l : Lexeme) (s : Spelled) (b : ℕ) (bs : List ℕ) → Step whole at l s → s.bytes ≡ b ∷ bs → next_is byte whole at ≡ nat_eq b byte
+pub next_is_step : (byte : ℕ) (whole : List ℕ) (at : ℕ) (l : Lexeme) (s : Spelled) (b : ℕ) (bs : List ℕ)
+    → Step whole at l s → s.bytes ≡ b ∷ bs → next_is byte whole at ≡ nat_eq b byte
 unfolding next_is byte_from
 next_is_step byte whole at l s b bs step same =
     let here : slice_get whole l.start ≡ Some b = first_get (l.end - l.start) l.start whole b bs (ap (λ (x : Spelled). x.bytes) step.spelled ∙ same) in
@@ -68,7 +69,8 @@ module _ (whole : List ℕ) (at : ℕ) (within : at ≤ length whole) (l : Lexem
       let token : IsToken kinds.Number (bytes_at whole l) (drop l.end whole) = subst (λ k. IsToken k (bytes_at whole l) (drop l.end whole)) (sym same) is.token in
       subst (FirstPasses begins_number) (ap (λ (x : Spelled). x.bytes) step.spelled) token.first
 
-  pub next_is_number : (byte : ℕ) → begins_number byte ≡ false → (digits : List ℕ) → Step whole at l (number digits) → next_is byte whole at ≡ false
+  pub next_is_number : (byte : ℕ) → begins_number byte ≡ false → (digits : List ℕ) → Step whole at l (number digits)
+      → next_is byte whole at ≡ false
   next_is_number byte fails [] step = absurd (number_first [] step)
   next_is_number byte fails (d ∷ ds) step =
       let first : begins_number d ≡ true = number_first (d ∷ ds) step in
@@ -86,7 +88,8 @@ token_some kinds.Close bytes after proper token = omega (arith, ap length token)
 token_some kinds.Comma bytes after proper token = omega (arith, ap length token)
 token_some kinds.End bytes after proper token = absurd (proper refl)
 
-step_forward : (whole : List ℕ) (at : ℕ) → at ≤ length whole → (l : Lexeme) (s : Spelled) → Step whole at l s → at < l.end
+step_forward : (whole : List ℕ) (at : ℕ) → at ≤ length whole → (l : Lexeme) (s : Spelled) → Step whole at l s
+    → at < l.end
 step_forward whole at within l s step =
     let is = next_from-sound whole at within l step.next in
     let some = token_some l.kind (bytes_at whole l) (drop l.end whole) step.not_end is.token in
@@ -94,7 +97,8 @@ step_forward whole at within l s step =
     omega (arith, some, long, is.from, is.order)
 
 -- there are no more tokens than bytes
-all_length : (whole : List ℕ) (at : ℕ) (ss : List Spelled) → at ≤ length whole → AllFrom whole at ss → at + length ss ≤ length whole
+all_length : (whole : List ℕ) (at : ℕ) (ss : List Spelled) → at ≤ length whole → AllFrom whole at ss
+    → at + length ss ≤ length whole
 all_length whole at [] within next = omega (arith, within)
 all_length whole at (s ∷ ss) within next =
     let later = all_length whole next.0.end ss next.1.within next.2 in
@@ -110,11 +114,13 @@ pub record NotNext (byte : ℕ) (rest : List Spelled) : Type 0 where
   pub here : (whole : List ℕ) (at : ℕ) → Ahead whole at rest → next_is byte whole at ≡ false
 
 -- a byte that begins no number isn't next where a number comes
-pub not_number : (byte : ℕ) → begins_number byte ≡ false → (digits : List ℕ) (rest : List Spelled) → NotNext byte (number digits ∷ rest)
+pub not_number : (byte : ℕ) → begins_number byte ≡ false → (digits : List ℕ) (rest : List Spelled)
+    → NotNext byte (number digits ∷ rest)
 not_number byte fails digits rest = record { here = λ whole at a. next_is_number whole at a.within a.next.0 byte fails digits a.next.1 }
 
 -- where a token begins with another byte, this one isn't next
-pub not_first : (byte b : ℕ) (s : Spelled) (bs : List ℕ) (rest : List Spelled) → s.bytes ≡ b ∷ bs → nat_eq b byte ≡ false → NotNext byte (s ∷ rest)
+pub not_first : (byte b : ℕ) (s : Spelled) (bs : List ℕ) (rest : List Spelled) → s.bytes ≡ b ∷ bs
+    → nat_eq b byte ≡ false → NotNext byte (s ∷ rest)
 not_first byte b s bs rest same fails = record { here = λ whole at a. next_is_step byte whole at a.next.0 s b bs a.next.1 same ∙ fails }
 
 -- where no token comes, no byte is next
@@ -122,21 +128,27 @@ pub not_end : (byte : ℕ) → NotNext byte []
 not_end byte = record { here = λ whole at a. next_is_end byte whole at a.next }
 
 -- this byte comes next
-pub is_first : (byte b : ℕ) (s : Spelled) (bs : List ℕ) (rest : List Spelled) (whole : List ℕ) (at : ℕ) → s.bytes ≡ b ∷ bs → nat_eq b byte ≡ true → Ahead whole at (s ∷ rest) → next_is byte whole at ≡ true
+pub is_first : (byte b : ℕ) (s : Spelled) (bs : List ℕ) (rest : List Spelled) (whole : List ℕ) (at : ℕ)
+    → s.bytes ≡ b ∷ bs → nat_eq b byte ≡ true → Ahead whole at (s ∷ rest) → next_is byte whole at ≡ true
 is_first byte b s bs rest whole at same passes a = next_is_step byte whole at a.next.0 s b bs a.next.1 same ∙ passes
 
 -- a token that passes a test
-pub by_spelling : (test : Spelled → Bool) (whole : List ℕ) (at : ℕ) (l : Lexeme) (s : Spelled) → Step whole at l s → test s ≡ true → token_where (λ t. test (spelled_at whole t)) whole at ≡ Ok l
+pub by_spelling : (test : Spelled → Bool) (whole : List ℕ) (at : ℕ) (l : Lexeme) (s : Spelled) → Step whole at l s
+    → test s ≡ true → token_where (λ t. test (spelled_at whole t)) whole at ≡ Ok l
 by_spelling test whole at l s step passes = ok_token (λ t. test (spelled_at whole t)) whole at l step.next (ap test step.spelled ∙ passes)
 
 -- a test for a kind and its bytes takes the token that is spelled so
-pub take_exact : (whole : List ℕ) (at : ℕ) (l : Lexeme) (kind : Token) (bytes : List ℕ) → (is_kind kind kind && pointwise nat_eq bytes bytes) ≡ true → Step whole at l (record { kind = kind; bytes = bytes }) → token_where (is_exact kind bytes whole) whole at ≡ Ok l
+pub take_exact : (whole : List ℕ) (at : ℕ) (l : Lexeme) (kind : Token) (bytes : List ℕ)
+    → (is_kind kind kind && pointwise nat_eq bytes bytes) ≡ true
+    → Step whole at l (record { kind = kind; bytes = bytes }) → token_where (is_exact kind bytes whole) whole at ≡ Ok l
 take_exact whole at l kind bytes passes step = by_spelling (λ s. is_kind kind s.kind && pointwise nat_eq s.bytes bytes) whole at l (record { kind = kind; bytes = bytes }) step passes
 
 -- a test for a kind takes a token of that kind
-pub take_kind : (whole : List ℕ) (at : ℕ) (l : Lexeme) (kind : Token) (bytes : List ℕ) → is_kind kind kind ≡ true → Step whole at l (record { kind = kind; bytes = bytes }) → token_where (is_token kind whole) whole at ≡ Ok l
+pub take_kind : (whole : List ℕ) (at : ℕ) (l : Lexeme) (kind : Token) (bytes : List ℕ) → is_kind kind kind ≡ true
+    → Step whole at l (record { kind = kind; bytes = bytes }) → token_where (is_token kind whole) whole at ≡ Ok l
 take_kind whole at l kind bytes passes step = by_spelling (λ s. is_kind kind s.kind) whole at l (record { kind = kind; bytes = bytes }) step passes
 
 -- what comes behind the next token
-pub behind_step : (whole : List ℕ) (at : ℕ) (s : Spelled) (rest : List Spelled) (a : Ahead whole at (s ∷ rest)) → Ahead whole a.next.0.end rest
+pub behind_step : (whole : List ℕ) (at : ℕ) (s : Spelled) (rest : List Spelled) (a : Ahead whole at (s ∷ rest))
+    → Ahead whole a.next.0.end rest
 behind_step whole at s rest a = record { within = a.next.1.within; next = a.next.2 }

@@ -17,10 +17,12 @@ clear_outcome : (m : OutcomeMention) (tokens rest : List Spelled) → IsOutcome 
 clear_outcome m tokens rest is = subst IsClear (sym is.number.spelling) (clear_number is.number.digits is.numbered)
 
 -- an entry's word
-clear_word : (b : ℕ) (bs : List ℕ) (rest : List Spelled) → nat_eq b 34 ≡ false → nat_eq b 123 ≡ false → IsClear (word (b ∷ bs) ∷ rest)
+clear_word : (b : ℕ) (bs : List ℕ) (rest : List Spelled) → nat_eq b 34 ≡ false → nat_eq b 123 ≡ false
+    → IsClear (word (b ∷ bs) ∷ rest)
 clear_word b bs rest no_text no_brace = record { no_text = not_first mark b (word (b ∷ bs)) bs rest refl no_text; no_brace = not_first open_byte b (word (b ∷ bs)) bs rest refl no_brace }
 
-clear_entry : (kind : EntryKind) (r : Record) (tokens rest : List Spelled) → IsEntryAs kind r tokens rest → IsClear tokens
+clear_entry : (kind : EntryKind) (r : Record) (tokens rest : List Spelled) → IsEntryAs kind r tokens rest
+    → IsClear tokens
 clear_entry Chance r tokens rest is = subst IsClear (sym is.head) (clear_word 99 [] is.headed refl refl)
 clear_entry Personal r tokens rest is = subst IsClear (sym is.head) (clear_word 112 [] is.headed refl refl)
 clear_entry Leaf r tokens rest is = subst IsClear (sym is.head) (clear_word 116 [] is.headed refl refl)
@@ -33,10 +35,13 @@ clear_entries (r ∷ rs) tokens are = clear_entry r.kind r tokens are.0 are.1
 abbrev is_word : List ℕ → Spelled → Bool
 is_word bytes s = is_kind kinds.Word s.kind && pointwise nat_eq s.bytes bytes
 
-take_head : (bytes : List ℕ) (whole : List ℕ) (at : ℕ) (l : Lexeme) → (pointwise nat_eq bytes (codes "c") || (pointwise nat_eq bytes (codes "p") || pointwise nat_eq bytes (codes "t"))) ≡ true → Step whole at l (word bytes) → token_where (begins_entry whole) whole at ≡ Ok l
+take_head : (bytes : List ℕ) (whole : List ℕ) (at : ℕ) (l : Lexeme)
+    → (pointwise nat_eq bytes (codes "c") || (pointwise nat_eq bytes (codes "p") || pointwise nat_eq bytes (codes "t"))) ≡ true
+    → Step whole at l (word bytes) → token_where (begins_entry whole) whole at ≡ Ok l
 take_head bytes whole at l passes step = by_spelling (λ s. is_word (codes "c") s || (is_word (codes "p") s || is_word (codes "t") s)) whole at l (word bytes) step passes
 
-entry_as_taken : (kind : EntryKind) (whole : List ℕ) (at : ℕ) (r : Record) (tokens rest : List Spelled) → r.kind ≡ kind → IsEntryAs kind r tokens rest → IsClear rest → Ahead whole at tokens → Taken whole (entry_at whole at) r rest
+entry_as_taken : (kind : EntryKind) (whole : List ℕ) (at : ℕ) (r : Record) (tokens rest : List Spelled) → r.kind ≡ kind
+    → IsEntryAs kind r tokens rest → IsClear rest → Ahead whole at tokens → Taken whole (entry_at whole at) r rest
 unfolding entry_at chance_entry_at personal_entry_at terminal_entry_at
 entry_as_taken Chance whole at r tokens rest kind is clear ahead =
     let a : Ahead whole at (word (codes "c") ∷ is.headed) = subst (Ahead whole at) is.head ahead in
@@ -78,12 +83,15 @@ entry_as_taken Leaf whole at r tokens rest kind is clear ahead =
     record { mid = outcome.mid; ok = rw (found, as_c, as_p, name.ok, outcome.ok) (ap (λ x. Ok (x, outcome.mid)) same); ahead = outcome.ahead }
 
 -- where an entry comes, it is read, if no text and no brace stands behind it
-pub entry_taken : (whole : List ℕ) (at : ℕ) (r : Record) (tokens rest : List Spelled) → IsEntry r tokens rest → IsClear rest → Ahead whole at tokens → Taken whole (entry_at whole at) r rest
+pub entry_taken : (whole : List ℕ) (at : ℕ) (r : Record) (tokens rest : List Spelled) → IsEntry r tokens rest
+    → IsClear rest → Ahead whole at tokens → Taken whole (entry_at whole at) r rest
 entry_taken whole at r tokens rest is clear ahead = entry_as_taken r.kind whole at r tokens rest refl is clear ahead
 
 -- The prologue.
 
-pub names_taken : (left : ℕ) (done more : List (List ℕ)) (whole : List ℕ) (at : ℕ) (tokens rest : List Spelled) → AreNames more tokens rest → length tokens ≤ left → Ahead whole at tokens → Taken whole (names_from left done whole at) (done ++ more) rest
+pub names_taken : (left : ℕ) (done more : List (List ℕ)) (whole : List ℕ) (at : ℕ) (tokens rest : List Spelled)
+    → AreNames more tokens rest → length tokens ≤ left → Ahead whole at tokens
+    → Taken whole (names_from left done whole at) (done ++ more) rest
 unfolding names_from
 names_taken zero done [] whole at tokens rest are fuel ahead = absurd (omega (arith, ap length are, fuel))
 names_taken zero done (a ∷ more) whole at tokens rest are fuel ahead = absurd (omega (arith, text_length a tokens are.0 are.1, fuel))
@@ -98,7 +106,8 @@ names_taken (suc left) done (a ∷ more) whole at tokens rest are fuel ahead =
     record { mid = later.mid; ok = rw (open_yet, here.ok) (later.ok ∙ ap (λ ns. Ok (ns, later.mid)) (append_assoc done (a ∷ []) more)); ahead = later.ahead }
 
 -- where the prologue comes, it is read, if no text and no brace stands behind it
-pub prologue_taken : (whole : List ℕ) (at : ℕ) (p : Prologue) (tokens rest : List Spelled) → IsPrologue p tokens rest → IsClear rest → Ahead whole at tokens → Taken whole (prologue_at whole at) p rest
+pub prologue_taken : (whole : List ℕ) (at : ℕ) (p : Prologue) (tokens rest : List Spelled) → IsPrologue p tokens rest
+    → IsClear rest → Ahead whole at tokens → Taken whole (prologue_at whole at) p rest
 unfolding prologue_at head_at behind_head
 prologue_taken whole at p tokens rest is clear ahead =
     let h = is.head in

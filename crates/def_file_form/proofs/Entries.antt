@@ -21,11 +21,13 @@ use Rattle.def_file_form.proofs.Ahead.{Ahead, Taken}
 use Rattle.def_file_form.proofs.CompleteEntries.{clear_entries, entry_taken}
 
 -- the nodes with one more entry
-nodes_more : (rs : List Record) (r : Record) → (contents_of (rs ++ r ∷ [])).nodes ≡ (contents_of rs).nodes ++ node_with (contents_of rs) r ∷ []
+nodes_more : (rs : List Record) (r : Record)
+    → (contents_of (rs ++ r ∷ [])).nodes ≡ (contents_of rs).nodes ++ node_with (contents_of rs) r ∷ []
 nodes_more rs r = ap (λ (c : Contents). c.nodes) (one_more rs r)
 
 -- the nodes of more entries
-nodes_behind : (rs more : List Record) → (extra : List Node) × ((contents_of (rs ++ more)).nodes ≡ (contents_of rs).nodes ++ extra)
+nodes_behind : (rs more : List Record)
+    → (extra : List Node) × ((contents_of (rs ++ more)).nodes ≡ (contents_of rs).nodes ++ extra)
 nodes_behind rs [] = ([], ap (λ l. (contents_of l).nodes) (append-nil rs) ∙ sym (append-nil (contents_of rs).nodes))
 nodes_behind rs (r ∷ more) =
     let later = nodes_behind (rs ++ r ∷ []) more in
@@ -39,7 +41,8 @@ Begins-wanted : (n : ℕ) (xs : List Node) (y : Node) (ys : List Node) → Begin
 Begins-wanted n [] y ys begins = begins.0
 Begins-wanted n (x ∷ xs) y ys begins = Begins-wanted (n + x.children - 1) xs y ys begins.1
 
-entry_wanted : (rs : List Record) (r : Record) (more : List Record) → Begins 1 (contents_of (rs ++ r ∷ more)).nodes → 0 < wanted 1 (contents_of rs).nodes
+entry_wanted : (rs : List Record) (r : Record) (more : List Record) → Begins 1 (contents_of (rs ++ r ∷ more)).nodes
+    → 0 < wanted 1 (contents_of rs).nodes
 entry_wanted rs r more begins =
     let later = nodes_behind (rs ++ r ∷ []) more in
     let node = node_with (contents_of rs) r in
@@ -49,17 +52,20 @@ entry_wanted rs r more begins =
 
 -- Reading.
 
-unless_ok : (fault : Option FileFault) (contents next : Contents) → unless_fault fault contents ≡ Ok next → (fault ≡ None) × (next ≡ contents)
+unless_ok : (fault : Option FileFault) (contents next : Contents) → unless_fault fault contents ≡ Ok next
+    → (fault ≡ None) × (next ≡ contents)
 unless_ok None contents next e = (refl, cc)
 unless_ok (Some fault) contents next e = absurd cc
 
 -- an entry that is let through has no fault, and adds just itself to what is known
-pub judged_ok : (contents : Contents) (r : Record) (next : Contents) → judged contents r ≡ Ok next → (record_fault contents r ≡ None) × (next ≡ with_record contents r)
+pub judged_ok : (contents : Contents) (r : Record) (next : Contents) → judged contents r ≡ Ok next
+    → (record_fault contents r ≡ None) × (next ≡ with_record contents r)
 unfolding judged
 judged_ok contents r next e = unless_ok (record_fault contents r) (with_record contents r) next e
 
 -- an entry without a fault is let through, and adds itself to what is known
-pub ok_judged : (contents : Contents) (r : Record) → record_fault contents r ≡ None → judged contents r ≡ Ok (with_record contents r)
+pub ok_judged : (contents : Contents) (r : Record) → record_fault contents r ≡ None
+    → judged contents r ≡ Ok (with_record contents r)
 unfolding judged
 ok_judged contents r none = ap (λ fault. unless_fault fault (with_record contents r)) none
 
@@ -82,7 +88,9 @@ pub record EntriesRead (done : List Record) (whole : List ℕ) (at : ℕ) (read 
   pub taken : Read whole at read.1 (AreEntriesThen more)
 
 -- entries that are read behind others are in the form, have no fault, and make the tree whole
-pub entries_read : (left : ℕ) (done : List Record) (contents : Contents) → contents ≡ contents_of done → HaveNoFault done → Begins 1 contents.nodes → (whole : List ℕ) (at : ℕ) → at ≤ length whole → (read : Contents × ℕ) → entries_from left contents whole at ≡ Ok read
+pub entries_read : (left : ℕ) (done : List Record) (contents : Contents) → contents ≡ contents_of done
+    → HaveNoFault done → Begins 1 contents.nodes → (whole : List ℕ) (at : ℕ) → at ≤ length whole → (read : Contents × ℕ)
+    → entries_from left contents whole at ≡ Ok read
     → EntriesRead done whole at read
 unfolding entries_from
 entries_read zero done contents known none begins whole at within read e = absurd cc
@@ -123,7 +131,9 @@ entries_read (suc left) done contents known none begins whole at within read e =
         }))
 
 -- where entries without a fault come that make the tree whole, all of them are read
-pub entries_taken : (left : ℕ) (done more : List Record) (contents : Contents) → contents ≡ contents_of done → HaveNoFault (done ++ more) → IsWhole (contents_of (done ++ more)).nodes → length more < left → (whole : List ℕ) (at : ℕ) (tokens : List Spelled) → AreEntries more tokens
+pub entries_taken : (left : ℕ) (done more : List Record) (contents : Contents) → contents ≡ contents_of done
+    → HaveNoFault (done ++ more) → IsWhole (contents_of (done ++ more)).nodes → length more < left
+    → (whole : List ℕ) (at : ℕ) (tokens : List Spelled) → AreEntries more tokens
     → Ahead whole at tokens → Taken whole (entries_from left contents whole at) (contents_of (done ++ more)) []
 unfolding entries_from
 entries_taken zero done more contents known none is_whole fuel whole at tokens are ahead = absurd (omega (arith, fuel))

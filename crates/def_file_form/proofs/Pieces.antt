@@ -14,7 +14,8 @@ use Rattle.def_file_form.proofs.Steps.{spelled_at, Takes}
 use Rattle.def_file_form.proofs.Ahead.{AllFrom, Ahead}
 
 -- the end stands at the end
-end_is : (whole : List ℕ) (at : ℕ) (l : Lexeme) → at ≤ length whole → next_from whole at ≡ Ok l → kinds.End ≡ l.kind → l ≡ span kinds.End (length whole) (length whole)
+end_is : (whole : List ℕ) (at : ℕ) (l : Lexeme) → at ≤ length whole → next_from whole at ≡ Ok l → kinds.End ≡ l.kind
+    → l ≡ span kinds.End (length whole) (length whole)
 end_is whole at l within next same =
     let is = next_from-sound whole at within l next in
     let token : IsToken kinds.End (bytes_at whole l) (drop l.end whole) = subst (λ k. IsToken k (bytes_at whole l) (drop l.end whole)) (sym same) is.token in
@@ -29,7 +30,8 @@ record TokensRead (whole : List ℕ) (at : ℕ) (ss : List Spelled) : Type 0 whe
   reads : Reads whole at lexemes
   spelled_so : map (spelled_at whole) lexemes ≡ ss
 
-tokens_read : (whole : List ℕ) (at : ℕ) (ss : List Spelled) (mid : ℕ) (l : Lexeme) → at ≤ length whole → Takes whole at ss mid → next_from whole mid ≡ Ok l → kinds.End ≡ l.kind → TokensRead whole at ss
+tokens_read : (whole : List ℕ) (at : ℕ) (ss : List Spelled) (mid : ℕ) (l : Lexeme) → at ≤ length whole
+    → Takes whole at ss mid → next_from whole mid ≡ Ok l → kinds.End ≡ l.kind → TokensRead whole at ss
 tokens_read whole at [] mid l within takes next same =
     let next_here : next_from whole at ≡ Ok l = ap (next_from whole) takes ∙ next in
     record { lexemes = []; reads = next_here ∙ ap Ok (end_is whole at l within next_here same); spelled_so = refl }
@@ -43,7 +45,8 @@ tokens_read whole at (s ∷ ss) mid l within takes next same =
     }
 
 -- pieces are spelled as their tokens are
-spelled_pieces : (whole : List ℕ) (at : ℕ) (ps : List Piece) (rest : List ℕ) → drop at whole ≡ bytes_of ps rest → map (spelled_at whole) (lexemes_of at ps) ≡ map spelled ps
+spelled_pieces : (whole : List ℕ) (at : ℕ) (ps : List Piece) (rest : List ℕ) → drop at whole ≡ bytes_of ps rest
+    → map (spelled_at whole) (lexemes_of at ps) ≡ map spelled ps
 spelled_pieces whole at [] rest same = refl
 spelled_pieces whole at (p ∷ ps) rest same =
     let after = bytes_of ps rest in
@@ -65,7 +68,8 @@ pub record PiecesFound (whole : List ℕ) (ss : List Spelled) : Type 0 where
   pub tokens : map spelled pieces ≡ ss
 
 -- where the tokens up to the end were taken, the bytes are white space and these tokens in turn
-pub pieces_found : (whole : List ℕ) (ss : List Spelled) (mid : ℕ) (l : Lexeme) → Takes whole 0 ss mid → next_from whole mid ≡ Ok l → kinds.End ≡ l.kind → PiecesFound whole ss
+pub pieces_found : (whole : List ℕ) (ss : List Spelled) (mid : ℕ) (l : Lexeme) → Takes whole 0 ss mid
+    → next_from whole mid ≡ Ok l → kinds.End ≡ l.kind → PiecesFound whole ss
 pieces_found whole ss mid l takes next same =
     let t = tokens_read whole 0 ss mid l (omega arith) takes next same in
     let found = pieces_read whole 0 t.lexemes (omega arith) t.reads in
@@ -78,14 +82,16 @@ pieces_found whole ss mid l takes next same =
     }
 
 -- the tokens that are read come
-all_read : (whole : List ℕ) (at : ℕ) (ls : List Lexeme) → at ≤ length whole → Reads whole at ls → AllFrom whole at (map (spelled_at whole) ls)
+all_read : (whole : List ℕ) (at : ℕ) (ls : List Lexeme) → at ≤ length whole → Reads whole at ls
+    → AllFrom whole at (map (spelled_at whole) ls)
 all_read whole at [] within reads = reads
 all_read whole at (l ∷ ls) within reads =
     let is = next_from-sound whole at within l reads.0 in
     (l, record { next = reads.0; not_end = reads.1; within = is.within; spelled = refl }, all_read whole l.end ls is.within reads.2)
 
 -- the pieces of the bytes come
-pub ahead_pieces : (whole : List ℕ) (ps : List Piece) (rest : List ℕ) → ArePieces ps rest → whole ≡ bytes_of ps rest → Ahead whole 0 (map spelled ps)
+pub ahead_pieces : (whole : List ℕ) (ps : List Piece) (rest : List ℕ) → ArePieces ps rest → whole ≡ bytes_of ps rest
+    → Ahead whole 0 (map spelled ps)
 ahead_pieces whole ps rest are same =
     subst (Ahead whole 0) (spelled_pieces whole 0 ps rest same)
     (record { within = omega arith; next = all_read whole 0 (lexemes_of 0 ps) (omega arith) (subst (λ w. Reads w 0 (lexemes_of 0 ps)) (sym same) (reads_pieces [] rest ps are)) })

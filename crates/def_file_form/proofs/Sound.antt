@@ -18,7 +18,8 @@ use Rattle.def_file_form.specs.Form.{Spelled, number, text, open_brace, close_br
 use Rattle.def_file_form.proofs.Steps.{then_ok, Read, Then, IsOne, IsNone, read_as, read_one, read_none, read_then, open_step, close_step, comma_step, text_step, number_step}
 
 -- what is read as a text is one, and stands for the bytes that were read
-pub text_read : (whole : List ℕ) (at : ℕ) → at ≤ length whole → (read : List ℕ × ℕ) → text_at whole at ≡ Ok read → Read whole at read.1 (IsText read.0)
+pub text_read : (whole : List ℕ) (at : ℕ) → at ≤ length whole → (read : List ℕ × ℕ) → text_at whole at ≡ Ok read
+    → Read whole at read.1 (IsText read.0)
 unfolding text_at
 text_read whole at within read e =
     then_ok (token_where (is_token kinds.Text whole) whole at) _ _ e (λ token e0 e.
@@ -28,7 +29,8 @@ text_read whole at within read e =
     (read_as whole at token.end (IsOne (text s.0)) (IsText (token_text whole token)) (λ tokens rest one. record { inside = s.0; is_inside = s.1; stands_for = s.3; spelling = one }) (read_one whole at token (text s.0) s.2)))
 
 -- what is read as a name is a text, or nothing where none was read
-pub name_read : (whole : List ℕ) (at : ℕ) → at ≤ length whole → (read : Option (List ℕ) × ℕ) → name_at whole at ≡ Ok read → Read whole at read.1 (IsName read.0)
+pub name_read : (whole : List ℕ) (at : ℕ) → at ≤ length whole → (read : Option (List ℕ) × ℕ)
+    → name_at whole at ≡ Ok read → Read whole at read.1 (IsName read.0)
 unfolding name_at
 name_read whole at within read e = chosen (next_is mark whole at) e
   where
@@ -47,11 +49,13 @@ pub record NumberRead {A : Type 0} (as_read : List ℕ → Result A NumberFault)
   pub ok : as_read bytes ≡ Ok read.0
   pub taken : Read whole at read.1 (IsOne (number bytes))
 
-numbered_ok : {A : Type 0} (token : Lexeme) (r : Result A NumberFault) (read : A × ℕ) → number_or_fault token r ≡ Ok read → (r ≡ Ok read.0) × (token.end ≡ read.1)
+numbered_ok : {A : Type 0} (token : Lexeme) (r : Result A NumberFault) (read : A × ℕ)
+    → number_or_fault token r ≡ Ok read → (r ≡ Ok read.0) × (token.end ≡ read.1)
 numbered_ok token (Ok n) read e = let same : (n, token.end) ≡ read = cc in (ap (λ x. Ok x.0) same, ap (λ x. x.1) same)
 numbered_ok token (Err fault) read e = absurd cc
 
-pub number_read : {A : Type 0} (as_read : List ℕ → Result A NumberFault) (whole : List ℕ) (at : ℕ) → at ≤ length whole → (read : A × ℕ) → number_at as_read whole at ≡ Ok read → NumberRead as_read whole at read
+pub number_read : {A : Type 0} (as_read : List ℕ → Result A NumberFault) (whole : List ℕ) (at : ℕ) → at ≤ length whole
+    → (read : A × ℕ) → number_at as_read whole at ≡ Ok read → NumberRead as_read whole at read
 number_read as_read whole at within read e =
     then_ok (token_where (is_token kinds.Number whole) whole at) _ _ e (λ token e0 e.
     let found = numbered_ok token (as_read (bytes_at whole token)) read e in
@@ -61,14 +65,16 @@ number_read as_read whole at within read e =
       taken = subst (λ n. Read whole at n (IsOne (number (bytes_at whole token)))) found.1 (read_one whole at token (number (bytes_at whole token)) (number_step whole at within token e0));
     })
 
-pub literal_read : (whole : List ℕ) (at : ℕ) → at ≤ length whole → (read : Fraction × ℕ) → literal_at whole at ≡ Ok read → Read whole at read.1 (IsFraction read.0)
+pub literal_read : (whole : List ℕ) (at : ℕ) → at ≤ length whole → (read : Fraction × ℕ) → literal_at whole at ≡ Ok read
+    → Read whole at read.1 (IsFraction read.0)
 unfolding literal_at
 literal_read whole at within read e =
     let r = number_read read_as_literal whole at within read e in
     read_as whole at read.1 (IsOne (number r.bytes)) (IsFraction read.0) (λ tokens rest one. record { bytes = r.bytes; literal = ((read_as_literal-judged r.bytes).value read.0).0 r.ok; spelling = one }) r.taken
 
 -- a whole number's bytes
-whole_ok : (bytes : List ℕ) (n : ℕ) (tokens rest : List Spelled) → read_as_whole bytes ≡ Ok n → IsOne (number bytes) tokens rest → IsWholeNumber n tokens rest
+whole_ok : (bytes : List ℕ) (n : ℕ) (tokens rest : List Spelled) → read_as_whole bytes ≡ Ok n
+    → IsOne (number bytes) tokens rest → IsWholeNumber n tokens rest
 unfolding read_as_whole
 whole_ok bytes n tokens rest e one = chosen (is_numeral bytes) (nat_le (number_of bytes) most) refl refl e
   where
@@ -80,7 +86,8 @@ whole_ok bytes n tokens rest e one = chosen (is_numeral bytes) (nat_le (number_o
     chosen false c numeral limit e = absurd cc
 
 -- what is read as a whole number is digits that write it, within the limit
-pub whole_read : (whole : List ℕ) (at : ℕ) → at ≤ length whole → (read : ℕ × ℕ) → whole_at whole at ≡ Ok read → Read whole at read.1 (IsWholeNumber read.0)
+pub whole_read : (whole : List ℕ) (at : ℕ) → at ≤ length whole → (read : ℕ × ℕ) → whole_at whole at ≡ Ok read
+    → Read whole at read.1 (IsWholeNumber read.0)
 unfolding whole_at
 whole_read whole at within read e =
     let r = number_read read_as_whole whole at within read e in
@@ -96,14 +103,16 @@ pub set_ok : (bytes : List ℕ) (n : ℕ) → read_as_set bytes ≡ Ok n → (re
 unfolding read_as_set
 set_ok bytes n e = from_one_ok (read_as_whole bytes) n e
 
-pub set_number_read : (whole : List ℕ) (at : ℕ) → at ≤ length whole → (read : ℕ × ℕ) → set_number_at whole at ≡ Ok read → Read whole at read.1 (IsWholeNumber read.0) × (1 ≤ read.0)
+pub set_number_read : (whole : List ℕ) (at : ℕ) → at ≤ length whole → (read : ℕ × ℕ) → set_number_at whole at ≡ Ok read
+    → Read whole at read.1 (IsWholeNumber read.0) × (1 ≤ read.0)
 unfolding set_number_at
 set_number_read whole at within read e =
     let r = number_read read_as_set whole at within read e in
     let n = set_ok r.bytes read.0 r.ok in
     (read_as whole at read.1 (IsOne (number r.bytes)) (IsWholeNumber read.0) (λ tokens rest one. whole_ok r.bytes read.0 tokens rest n.0 one) r.taken, n.1)
 
-pub chance_read : (kind : EntryKind) (whole : List ℕ) (at : ℕ) → at ≤ length whole → (read : Fraction × ℕ) → chance_at kind whole at ≡ Ok read → Read whole at read.1 (IsChance kind read.0)
+pub chance_read : (kind : EntryKind) (whole : List ℕ) (at : ℕ) → at ≤ length whole → (read : Fraction × ℕ)
+    → chance_at kind whole at ≡ Ok read → Read whole at read.1 (IsChance kind read.0)
 chance_read Chance whole at within read e = literal_read whole at within read e
 chance_read Personal whole at within read e =
     let same : (zero_fraction, at) ≡ read = cc in
@@ -118,7 +127,8 @@ chance_read Leaf whole at within read e =
 abbrev pub IsAction : EntryKind → Action → List Spelled → List Spelled → Type 0
 IsAction kind a tokens rest = Then (IsText a.name) (IsChance kind a.chance) tokens rest
 
-pub action_read : (kind : EntryKind) (whole : List ℕ) (at : ℕ) → at ≤ length whole → (read : Action × ℕ) → action_at kind whole at ≡ Ok read → Read whole at read.1 (IsAction kind read.0)
+pub action_read : (kind : EntryKind) (whole : List ℕ) (at : ℕ) → at ≤ length whole → (read : Action × ℕ)
+    → action_at kind whole at ≡ Ok read → Read whole at read.1 (IsAction kind read.0)
 unfolding action_at
 action_read kind whole at within read e =
     then_ok (text_at whole at) _ _ e (λ name e0 e.
@@ -129,7 +139,8 @@ action_read kind whole at within read e =
     subst (λ (r : Action × ℕ). Read whole at r.1 (IsAction kind r.0)) same (read_then whole at name.1 chance.1 (IsText name.0) (IsChance kind chance.0) s0 s1)))
 
 -- the closing brace
-pub close_read : {A : Type 0} (value : A) (whole : List ℕ) (at : ℕ) → at ≤ length whole → (read : A × ℕ) → close_at value whole at ≡ Ok read → (read.0 ≡ value) × Read whole at read.1 (IsOne close_brace)
+pub close_read : {A : Type 0} (value : A) (whole : List ℕ) (at : ℕ) → at ≤ length whole → (read : A × ℕ)
+    → close_at value whole at ≡ Ok read → (read.0 ≡ value) × Read whole at read.1 (IsOne close_brace)
 unfolding close_at
 close_read value whole at within read e =
     then_ok (token_where (is_token kinds.Close whole) whole at) _ _ e (λ token e0 e.
@@ -142,7 +153,9 @@ pub record ItemsRead {A : Type 0} (Are : List A → List Spelled → List Spelle
   pub all : read.0 ≡ done ++ more
   pub taken : Read whole at read.1 (Are more)
 
-pub actions_read : (kind : EntryKind) (left : ℕ) (done : List Action) (whole : List ℕ) (at : ℕ) → at ≤ length whole → (read : List Action × ℕ) → actions_from kind left done whole at ≡ Ok read → ItemsRead (AreActionsUpTo kind) done whole at read
+pub actions_read : (kind : EntryKind) (left : ℕ) (done : List Action) (whole : List ℕ) (at : ℕ) → at ≤ length whole
+    → (read : List Action × ℕ) → actions_from kind left done whole at ≡ Ok read
+    → ItemsRead (AreActionsUpTo kind) done whole at read
 unfolding actions_from
 actions_read kind zero done whole at within read e = absurd cc
 actions_read kind (suc left) done whole at within read e =
@@ -165,7 +178,9 @@ actions_read kind (suc left) done whole at within read e =
               (read_then whole at action.1 read.1 (IsAction kind action.0) (AreActionsUpTo kind later.more) here later.taken);
         })
 
-pub action_list_read : (kind : EntryKind) (whole : List ℕ) (at : ℕ) → at ≤ length whole → (read : Option (List Action) × ℕ) → actions_at kind whole at ≡ Ok read → Read whole at read.1 (IsActionList kind read.0)
+pub action_list_read : (kind : EntryKind) (whole : List ℕ) (at : ℕ) → at ≤ length whole
+    → (read : Option (List Action) × ℕ) → actions_at kind whole at ≡ Ok read
+    → Read whole at read.1 (IsActionList kind read.0)
 unfolding actions_at
 action_list_read kind whole at within read e = chosen (next_is open_byte whole at) e
   where
@@ -197,7 +212,8 @@ abbrev pub IsParted : List Fraction → List Spelled → List Spelled → Type 0
 IsParted [] = IsNone
 IsParted (_ ∷ _) = MayPart
 
-comma_read : (done : List Fraction) (whole : List ℕ) (at : ℕ) → at ≤ length whole → (read : ℕ) → comma_at done whole at ≡ Ok read → Read whole at read (IsParted done)
+comma_read : (done : List Fraction) (whole : List ℕ) (at : ℕ) → at ≤ length whole → (read : ℕ)
+    → comma_at done whole at ≡ Ok read → Read whole at read (IsParted done)
 comma_read [] whole at within read e = let same : at ≡ read = cc in subst (λ n. Read whole at n IsNone) same (read_none whole at within)
 comma_read (d ∷ ds) whole at within read e = chosen (next_is comma_byte whole at) e
   where
@@ -212,7 +228,8 @@ comma_read (d ∷ ds) whole at within read e = chosen (next_is comma_byte whole 
 abbrev pub IsPayoff : List Fraction → Fraction → List Spelled → List Spelled → Type 0
 IsPayoff done f = Then (IsParted done) (IsFraction f)
 
-pub payoff_read : (done : List Fraction) (whole : List ℕ) (at : ℕ) → at ≤ length whole → (read : Fraction × ℕ) → payoff_at done whole at ≡ Ok read → Read whole at read.1 (IsPayoff done read.0)
+pub payoff_read : (done : List Fraction) (whole : List ℕ) (at : ℕ) → at ≤ length whole → (read : Fraction × ℕ)
+    → payoff_at done whole at ≡ Ok read → Read whole at read.1 (IsPayoff done read.0)
 unfolding payoff_at
 payoff_read done whole at within read e =
     then_ok (comma_at done whole at) _ _ e (λ start e0 e.
@@ -220,15 +237,20 @@ payoff_read done whole at within read e =
     read_then whole at start read.1 (IsParted done) (IsFraction read.0) s0 (literal_read whole start s0.within read e))
 
 -- one more payoff
-payoff_more : (done : List Fraction) (f : Fraction) (fs : List Fraction) (tokens rest : List Spelled) → Then (IsPayoff done f) (ArePayoffsBehind (done ++ f ∷ []) fs) tokens rest → ArePayoffsBehind done (f ∷ fs) tokens rest
+payoff_more : (done : List Fraction) (f : Fraction) (fs : List Fraction) (tokens rest : List Spelled)
+    → Then (IsPayoff done f) (ArePayoffsBehind (done ++ f ∷ []) fs) tokens rest
+    → ArePayoffsBehind done (f ∷ fs) tokens rest
 payoff_more [] f fs tokens rest both = (both.0, subst (λ ss. IsFraction f ss both.0) (sym both.1.1) both.1.2, both.2)
 payoff_more (d ∷ ds) f fs tokens rest both = (both.1.0, both.0, both.1.1, both.1.2, both.2)
 
-no_more : (done : List Fraction) (tokens rest : List Spelled) → IsOne close_brace tokens rest → ArePayoffsBehind done [] tokens rest
+no_more : (done : List Fraction) (tokens rest : List Spelled) → IsOne close_brace tokens rest
+    → ArePayoffsBehind done [] tokens rest
 no_more [] tokens rest one = one
 no_more (d ∷ ds) tokens rest one = one
 
-pub payoffs_read : (left : ℕ) (done : List Fraction) (whole : List ℕ) (at : ℕ) → at ≤ length whole → (read : List Fraction × ℕ) → payoffs_from left done whole at ≡ Ok read → ItemsRead (ArePayoffsBehind done) done whole at read
+pub payoffs_read : (left : ℕ) (done : List Fraction) (whole : List ℕ) (at : ℕ) → at ≤ length whole
+    → (read : List Fraction × ℕ) → payoffs_from left done whole at ≡ Ok read
+    → ItemsRead (ArePayoffsBehind done) done whole at read
 unfolding payoffs_from
 payoffs_read zero done whole at within read e = absurd cc
 payoffs_read (suc left) done whole at within read e =
@@ -251,7 +273,8 @@ payoffs_read (suc left) done whole at within read e =
               (read_then whole at payoff.1 read.1 (IsPayoff done payoff.0) (ArePayoffsBehind (done ++ payoff.0 ∷ []) later.more) here later.taken);
         })
 
-pub payoff_list_read : (whole : List ℕ) (at : ℕ) → at ≤ length whole → (read : Option (List Fraction) × ℕ) → payoffs_at whole at ≡ Ok read → Read whole at read.1 (IsPayoffList read.0)
+pub payoff_list_read : (whole : List ℕ) (at : ℕ) → at ≤ length whole → (read : Option (List Fraction) × ℕ)
+    → payoffs_at whole at ≡ Ok read → Read whole at read.1 (IsPayoffList read.0)
 unfolding payoffs_at
 payoff_list_read whole at within read e = chosen (next_is open_byte whole at) e
   where
@@ -273,7 +296,8 @@ payoff_list_read whole at within read e = chosen (next_is open_byte whole at) e
 -- Sets and outcomes.
 
 -- what is read as an entry's set is in the form of one
-pub set_mention_read : (kind : EntryKind) (whole : List ℕ) (at : ℕ) → at ≤ length whole → (read : SetMention × ℕ) → set_mention_at kind whole at ≡ Ok read → Read whole at read.1 (IsSet kind read.0)
+pub set_mention_read : (kind : EntryKind) (whole : List ℕ) (at : ℕ) → at ≤ length whole → (read : SetMention × ℕ)
+    → set_mention_at kind whole at ≡ Ok read → Read whole at read.1 (IsSet kind read.0)
 unfolding set_mention_at
 set_mention_read kind whole at within read e =
     then_ok (set_number_at whole at) _ _ e (λ n e0 e.
@@ -291,7 +315,8 @@ set_mention_read kind whole at within read e =
     (read_then whole at n.1 actions.1 (IsWholeNumber n.0) (Then (IsName name.0) (IsActionList kind actions.0)) s0.0 behind)))))
 
 -- what is read as an entry's outcome is in the form of one
-pub outcome_mention_read : (whole : List ℕ) (at : ℕ) → at ≤ length whole → (read : OutcomeMention × ℕ) → outcome_mention_at whole at ≡ Ok read → Read whole at read.1 (IsOutcome read.0)
+pub outcome_mention_read : (whole : List ℕ) (at : ℕ) → at ≤ length whole → (read : OutcomeMention × ℕ)
+    → outcome_mention_at whole at ≡ Ok read → Read whole at read.1 (IsOutcome read.0)
 unfolding outcome_mention_at
 outcome_mention_read whole at within read e =
     then_ok (whole_at whole at) _ _ e (λ n e0 e.

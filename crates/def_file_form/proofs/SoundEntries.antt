@@ -18,7 +18,8 @@ use Rattle.def_file_form.proofs.Sound.{text_read, name_read, whole_read, close_r
 abbrev pub IsEntryBehind : EntryKind → List ℕ → Record → List Spelled → List Spelled → Type 0
 IsEntryBehind kind bytes r tokens rest = (r.kind ≡ kind) × IsEntryAs kind r (word bytes ∷ tokens) rest
 
-pub chance_entry_read : (whole : List ℕ) (at : ℕ) → at ≤ length whole → (read : Record × ℕ) → chance_entry_at whole at ≡ Ok read → Read whole at read.1 (IsEntryBehind Chance (codes "c") read.0)
+pub chance_entry_read : (whole : List ℕ) (at : ℕ) → at ≤ length whole → (read : Record × ℕ)
+    → chance_entry_at whole at ≡ Ok read → Read whole at read.1 (IsEntryBehind Chance (codes "c") read.0)
 unfolding chance_entry_at
 chance_entry_read whole at within read e =
     then_ok (text_at whole at) _ _ e (λ name e0 e.
@@ -35,7 +36,8 @@ chance_entry_read whole at within read e =
     (λ tokens rest t. (refl, record { headed = tokens; named = t.0; placed = t.2.0; head = refl; name = t.1; no_player = refl; set = t.2.1; outcome = t.2.2 }))
     (read_then whole at name.1 outcome.1 (IsText name.0) (Then (IsSet Chance set.0) (IsOutcome outcome.0)) s0 behind)))))
 
-pub personal_entry_read : (whole : List ℕ) (at : ℕ) → at ≤ length whole → (read : Record × ℕ) → personal_entry_at whole at ≡ Ok read → Read whole at read.1 (IsEntryBehind Personal (codes "p") read.0)
+pub personal_entry_read : (whole : List ℕ) (at : ℕ) → at ≤ length whole → (read : Record × ℕ)
+    → personal_entry_at whole at ≡ Ok read → Read whole at read.1 (IsEntryBehind Personal (codes "p") read.0)
 unfolding personal_entry_at
 personal_entry_read whole at within read e =
     then_ok (text_at whole at) _ _ e (λ name e0 e.
@@ -55,7 +57,8 @@ personal_entry_read whole at within read e =
     (λ tokens rest t. (refl, record { headed = tokens; named = t.0; moved = t.2.0; placed = t.2.2.0; head = refl; name = t.1; player = t.2.1; set = t.2.2.1; outcome = t.2.2.2 }))
     (read_then whole at name.1 outcome.1 (IsText name.0) (Then (IsWholeNumber player.0) (Then (IsSet Personal set.0) (IsOutcome outcome.0))) s0 moved))))))
 
-pub terminal_entry_read : (whole : List ℕ) (at : ℕ) → at ≤ length whole → (read : Record × ℕ) → terminal_entry_at whole at ≡ Ok read → Read whole at read.1 (IsEntryBehind Leaf (codes "t") read.0)
+pub terminal_entry_read : (whole : List ℕ) (at : ℕ) → at ≤ length whole → (read : Record × ℕ)
+    → terminal_entry_at whole at ≡ Ok read → Read whole at read.1 (IsEntryBehind Leaf (codes "t") read.0)
 unfolding terminal_entry_at
 terminal_entry_read whole at within read e =
     then_ok (text_at whole at) _ _ e (λ name e0 e.
@@ -70,17 +73,21 @@ terminal_entry_read whole at within read e =
     (read_then whole at name.1 outcome.1 (IsText name.0) (IsOutcome outcome.0) s0 s1))))
 
 -- an entry's word, and what is behind it
-headed : (kind : EntryKind) (bytes : List ℕ) (r : Record) (tokens rest : List Spelled) → Then (IsOne (word bytes)) (IsEntryBehind kind bytes r) tokens rest → IsEntry r tokens rest
+headed : (kind : EntryKind) (bytes : List ℕ) (r : Record) (tokens rest : List Spelled)
+    → Then (IsOne (word bytes)) (IsEntryBehind kind bytes r) tokens rest → IsEntry r tokens rest
 headed kind bytes r tokens rest t =
     subst (λ ss. IsEntry r ss rest) (sym t.1) (subst (λ k. IsEntryAs k r (word bytes ∷ t.0) rest) (sym t.2.0) t.2.1)
 
-entry_behind_read : (kind : EntryKind) (bytes : List ℕ) (whole : List ℕ) (at : ℕ) (head : Lexeme) (read : Record × ℕ) → Step whole at head (word bytes) → Read whole head.end read.1 (IsEntryBehind kind bytes read.0) → Read whole at read.1 (IsEntry read.0)
+entry_behind_read : (kind : EntryKind) (bytes : List ℕ) (whole : List ℕ) (at : ℕ) (head : Lexeme) (read : Record × ℕ)
+    → Step whole at head (word bytes) → Read whole head.end read.1 (IsEntryBehind kind bytes read.0)
+    → Read whole at read.1 (IsEntry read.0)
 entry_behind_read kind bytes whole at head read step behind =
     read_as whole at read.1 (Then (IsOne (word bytes)) (IsEntryBehind kind bytes read.0)) (IsEntry read.0) (headed kind bytes read.0)
     (read_then whole at head.end read.1 (IsOne (word bytes)) (IsEntryBehind kind bytes read.0) (read_one whole at head (word bytes) step) behind)
 
 -- what is read as an entry is in the form of one
-pub entry_read : (whole : List ℕ) (at : ℕ) → at ≤ length whole → (read : Record × ℕ) → entry_at whole at ≡ Ok read → Read whole at read.1 (IsEntry read.0)
+pub entry_read : (whole : List ℕ) (at : ℕ) → at ≤ length whole → (read : Record × ℕ) → entry_at whole at ≡ Ok read
+    → Read whole at read.1 (IsEntry read.0)
 unfolding entry_at
 entry_read whole at within read e =
     then_ok (token_where (begins_entry whole) whole at) _ _ e (λ head e0 e.
@@ -92,7 +99,8 @@ entry_read whole at within read e =
 
     chosen : (head : Lexeme) (b c : Bool) → is_exact kinds.Word (codes "c") whole head ≡ b → is_exact kinds.Word (codes "p") whole head ≡ c → next_from whole at ≡ Ok head
         → (b || (c || is_exact kinds.Word (codes "t") whole head)) ≡ true
-        → cond b (chance_entry_at whole head.end) (cond c (personal_entry_at whole head.end) (terminal_entry_at whole head.end)) ≡ Ok read → Read whole at read.1 (IsEntry read.0)
+        → cond b (chance_entry_at whole head.end) (cond c (personal_entry_at whole head.end) (terminal_entry_at whole head.end)) ≡ Ok read
+        → Read whole at read.1 (IsEntry read.0)
     chosen head true c is is2 next passes e =
         let s = step head (codes "c") next is in
         entry_behind_read Chance (codes "c") whole at head read s (chance_entry_read whole head.end s.within read e)
@@ -105,7 +113,8 @@ entry_read whole at within read e =
 
 -- The prologue.
 
-pub names_read : (left : ℕ) (done : List (List ℕ)) (whole : List ℕ) (at : ℕ) → at ≤ length whole → (read : List (List ℕ) × ℕ) → names_from left done whole at ≡ Ok read → ItemsRead AreNames done whole at read
+pub names_read : (left : ℕ) (done : List (List ℕ)) (whole : List ℕ) (at : ℕ) → at ≤ length whole
+    → (read : List (List ℕ) × ℕ) → names_from left done whole at ≡ Ok read → ItemsRead AreNames done whole at read
 unfolding names_from
 names_read zero done whole at within read e = absurd cc
 names_read (suc left) done whole at within read e =
@@ -142,7 +151,9 @@ checked_ok names at read e = chosen (nat_eq (length names) 2) refl e
     chosen false is e = absurd cc
 
 -- `R` or `D`
-numbers_step : (whole : List ℕ) (at : ℕ) → at ≤ length whole → (l : Lexeme) → token_where (is_numbers whole) whole at ≡ Ok l → (s : Spelled) × ((s ≡ word (codes "R")) ⊎ (s ≡ word (codes "D"))) × Step whole at l s
+numbers_step : (whole : List ℕ) (at : ℕ) → at ≤ length whole → (l : Lexeme)
+    → token_where (is_numbers whole) whole at ≡ Ok l
+    → (s : Spelled) × ((s ≡ word (codes "R")) ⊎ (s ≡ word (codes "D"))) × Step whole at l s
 numbers_step whole at within l e =
     let found = token_ok (is_numbers whole) whole at l e in
     chosen (either (is_exact kinds.Word (codes "R") whole l) (is_exact kinds.Word (codes "D") whole l) found.1) found.0
@@ -157,7 +168,8 @@ abbrev pub IsHeadOf : PrologueHead → List Spelled → List Spelled → Type 0
 IsHeadOf head tokens rest = IsHead head.0 head.1 tokens rest
 
 -- a head that is read is in the form
-pub head_read : (whole : List ℕ) (at : ℕ) → at ≤ length whole → (x : PrologueHead × ℕ) → head_at whole at ≡ Ok x → Read whole at x.1 (IsHeadOf x.0)
+pub head_read : (whole : List ℕ) (at : ℕ) → at ≤ length whole → (x : PrologueHead × ℕ) → head_at whole at ≡ Ok x
+    → Read whole at x.1 (IsHeadOf x.0)
 unfolding head_at
 head_read whole at within x e =
     then_ok (token_where (is_exact kinds.Word (codes "EFG") whole) whole at) _ _ e (λ marker e0 e.
@@ -203,7 +215,8 @@ head_read whole at within x e =
     }) r1)))))))
 
 -- a prologue that is read is in the form
-pub prologue_read : (whole : List ℕ) (at : ℕ) → at ≤ length whole → (read : Prologue × ℕ) → prologue_at whole at ≡ Ok read → Read whole at read.1 (IsPrologue read.0)
+pub prologue_read : (whole : List ℕ) (at : ℕ) → at ≤ length whole → (read : Prologue × ℕ)
+    → prologue_at whole at ≡ Ok read → Read whole at read.1 (IsPrologue read.0)
 unfolding prologue_at behind_head
 prologue_read whole at within read e =
     then_ok (head_at whole at) _ _ e (λ head e0 e.

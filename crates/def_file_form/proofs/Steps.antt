@@ -22,7 +22,8 @@ abbrev pub spelled_at : List ℕ → Lexeme → Spelled
 spelled_at whole token = record { kind = token.kind; bytes = bytes_at whole token }
 
 -- one reading after another that gives a value
-pub then_ok : {A B G : Type 0} (r : Result A FileFault) (f : A → Result B FileFault) (y : B) → (r >>= f) ≡ Ok y → ((x : A) → r ≡ Ok x → f x ≡ Ok y → G) → G
+pub then_ok : {A B G : Type 0} (r : Result A FileFault) (f : A → Result B FileFault) (y : B) → (r >>= f) ≡ Ok y
+    → ((x : A) → r ≡ Ok x → f x ≡ Ok y → G) → G
 then_ok (Ok x) f y e go = go x refl e
 then_ok (Err d) f y e go = absurd cc
 
@@ -58,7 +59,8 @@ pointwise-true (x ∷ xs) [] e = absurd cc
 pointwise-true (x ∷ xs) (y ∷ ys) e = ap (λ z. z ∷ xs) (eqb-true x y (and_left _ _ e)) ∙ ap (λ l. y ∷ l) (pointwise-true xs ys (and_right _ _ e))
 
 -- a token that passed a test was the next one, and the other way round
-pub token_ok : (test : Lexeme → Bool) (whole : List ℕ) (at : ℕ) (l : Lexeme) → token_where test whole at ≡ Ok l → (next_from whole at ≡ Ok l) × (test l ≡ true)
+pub token_ok : (test : Lexeme → Bool) (whole : List ℕ) (at : ℕ) (l : Lexeme) → token_where test whole at ≡ Ok l
+    → (next_from whole at ≡ Ok l) × (test l ≡ true)
 unfolding token_where
 token_ok test whole at l e = expected_ok (next_from whole at) l e
   where
@@ -72,7 +74,8 @@ token_ok test whole at l e = expected_ok (next_from whole at) l e
     expected_ok (Err (lexing.Unclosed at)) l e = absurd cc
 
 -- the next token is taken, if it passes the test
-pub ok_token : (test : Lexeme → Bool) (whole : List ℕ) (at : ℕ) (l : Lexeme) → next_from whole at ≡ Ok l → test l ≡ true → token_where test whole at ≡ Ok l
+pub ok_token : (test : Lexeme → Bool) (whole : List ℕ) (at : ℕ) (l : Lexeme) → next_from whole at ≡ Ok l → test l ≡ true
+    → token_where test whole at ≡ Ok l
 unfolding token_where
 ok_token test whole at l next passes = rw (next, passes) refl
 
@@ -88,7 +91,8 @@ abbrev pub Takes : List ℕ → ℕ → List Spelled → ℕ → Type 0
 Takes whole at [] end = at ≡ end
 Takes whole at (s ∷ ss) end = (l : Lexeme) × Step whole at l s × Takes whole l.end ss end
 
-pub Takes-append : (whole : List ℕ) (at : ℕ) (ss ts : List Spelled) (mid end : ℕ) → Takes whole at ss mid → Takes whole mid ts end → Takes whole at (ss ++ ts) end
+pub Takes-append : (whole : List ℕ) (at : ℕ) (ss ts : List Spelled) (mid end : ℕ) → Takes whole at ss mid
+    → Takes whole mid ts end → Takes whole at (ss ++ ts) end
 Takes-append whole at [] ts mid end a b = subst (λ n. Takes whole n ts end) (sym a) b
 Takes-append whole at (s ∷ ss) ts mid end a b = (a.0, a.1, Takes-append whole a.0.end ss ts mid end a.2 b)
 
@@ -110,7 +114,8 @@ abbrev pub IsNone : List Spelled → List Spelled → Type 0
 IsNone tokens rest = tokens ≡ rest
 
 -- what was read as one part was read as another that the same tokens are
-pub read_as : (whole : List ℕ) (at end : ℕ) (A B : List Spelled → List Spelled → Type 0) → ((tokens rest : List Spelled) → A tokens rest → B tokens rest) → Read whole at end A → Read whole at end B
+pub read_as : (whole : List ℕ) (at end : ℕ) (A B : List Spelled → List Spelled → Type 0)
+    → ((tokens rest : List Spelled) → A tokens rest → B tokens rest) → Read whole at end A → Read whole at end B
 read_as whole at end A B f r = record { tokens = r.tokens; takes = r.takes; within = r.within; is = λ rest. f (r.tokens ++ rest) rest (r.is rest) }
 
 -- one token was read as itself, whatever stands behind it
@@ -122,7 +127,8 @@ pub read_none : (whole : List ℕ) (at : ℕ) → at ≤ length whole → Read w
 read_none whole at within = record { tokens = []; takes = refl; within = within; is = λ rest. refl }
 
 -- two parts that were read, the second from where the first ended, are one behind the other
-pub read_then : (whole : List ℕ) (at mid end : ℕ) (A B : List Spelled → List Spelled → Type 0) → Read whole at mid A → Read whole mid end B → Read whole at end (Then A B)
+pub read_then : (whole : List ℕ) (at mid end : ℕ) (A B : List Spelled → List Spelled → Type 0) → Read whole at mid A
+    → Read whole mid end B → Read whole at end (Then A B)
 read_then whole at mid end A B a b = record {
   tokens = a.tokens ++ b.tokens;
   takes = Takes-append whole at a.tokens b.tokens mid end a.takes b.takes;
@@ -171,7 +177,8 @@ module _ (whole : List ℕ) (at : ℕ) (at_within : at ≤ length whole) (l : Le
   comma_step e = mark_step kinds.Comma (codes ",") (λ clash. cc) (λ b a is. is) e
 
   -- a text, and what it stands for
-  pub text_here : next_from whole at ≡ Ok l → kinds.Text ≡ l.kind → (inside : List ℕ) × IsInside inside × Step whole at l (text inside) × (token_text whole l ≡ unescaped inside)
+  pub text_here : next_from whole at ≡ Ok l → kinds.Text ≡ l.kind
+      → (inside : List ℕ) × IsInside inside × Step whole at l (text inside) × (token_text whole l ≡ unescaped inside)
   text_here next same =
       let is = next_from-sound whole at at_within l next in
       let spelling : IsQuoted (bytes_at whole l) = subst (λ k. IsToken k (bytes_at whole l) (drop l.end whole)) (sym same) is.token in
@@ -182,8 +189,10 @@ module _ (whole : List ℕ) (at : ℕ) (at_within : at ≤ length whole) (l : Le
         ap unescaped inner.1,
       )
 
-  pub text_step : token_where (is_token kinds.Text whole) whole at ≡ Ok l → (inside : List ℕ) × IsInside inside × Step whole at l (text inside) × (token_text whole l ≡ unescaped inside)
+  pub text_step : token_where (is_token kinds.Text whole) whole at ≡ Ok l
+      → (inside : List ℕ) × IsInside inside × Step whole at l (text inside) × (token_text whole l ≡ unescaped inside)
   text_step e = let found = token_ok (is_token kinds.Text whole) whole at l e in text_here found.0 (is_kind-true kinds.Text l.kind found.1)
 
-  pub number_step : token_where (is_token kinds.Number whole) whole at ≡ Ok l → Step whole at l (number (bytes_at whole l))
+  pub number_step : token_where (is_token kinds.Number whole) whole at ≡ Ok l
+      → Step whole at l (number (bytes_at whole l))
   number_step e = let found = token_ok (is_token kinds.Number whole) whole at l e in step_of kinds.Number (λ clash. cc) found.0 (is_kind-true kinds.Number l.kind found.1)

@@ -21,7 +21,8 @@ use Rattle.def_file_entries.proofs.NoFault.{entries_limit, nothing_at_fault}
 use Rattle.def_file_form.proofs.Entries.{AreEntriesThen, entries_then, entries_read, entries_taken}
 
 -- nothing stands at the end
-pub nothing_ok : (whole : List ℕ) (at end : ℕ) → nothing_at whole at ≡ Ok end → (l : Lexeme) × (next_from whole at ≡ Ok l) × (kinds.End ≡ l.kind)
+pub nothing_ok : (whole : List ℕ) (at end : ℕ) → nothing_at whole at ≡ Ok end
+    → (l : Lexeme) × (next_from whole at ≡ Ok l) × (kinds.End ≡ l.kind)
 unfolding nothing_at
 nothing_ok whole at end e = by_next (next_from whole at) refl e
   where
@@ -34,7 +35,8 @@ nothing_ok whole at end e = by_next (next_from whole at) refl e
     by_next (Err (lexing.Syntax place)) next e = absurd cc
     by_next (Err (lexing.Unclosed place)) next e = absurd cc
 
-pub ok_nothing : (whole : List ℕ) (at : ℕ) → next_from whole at ≡ Ok (span kinds.End (length whole) (length whole)) → nothing_at whole at ≡ Ok (length whole)
+pub ok_nothing : (whole : List ℕ) (at : ℕ) → next_from whole at ≡ Ok (span kinds.End (length whole) (length whole))
+    → nothing_at whole at ≡ Ok (length whole)
 unfolding nothing_at
 ok_nothing whole at next = ap trailing next
 

@@ -16,7 +16,8 @@ pub record StandsFor (bytes : List ℕ) (game : GameFile) : Type 0 where
   pub game_is : game ≡ game_of_entries prologue entries
 
 abbrev pub OneReading : Type 0
-OneReading = (bytes : List ℕ) (p q : Prologue) (rs ts : List Record) → IsFile bytes p rs → IsFile bytes q ts → (p ≡ q) × (rs ≡ ts)
+OneReading = (bytes : List ℕ) (p q : Prologue) (rs ts : List Record) → IsFile bytes p rs → IsFile bytes q ts
+    → (p ≡ q) × (rs ≡ ts)
 
 abbrev pub AcceptedIsFile : Type 0
 AcceptedIsFile = (bytes : List ℕ) (game : GameFile) → game_at bytes ≡ Ok game → StandsFor bytes game
@@ -26,4 +27,5 @@ FileIsAccepted = (bytes : List ℕ) (game : GameFile) → StandsFor bytes game �
 
 -- its sets and outcomes go with its tree, and its fractions are in lowest terms within the limit
 abbrev pub StandsForWholeGame : Type 0
-StandsForWholeGame = (bytes : List ℕ) (game : GameFile) → StandsFor bytes game → IsWholeGame game × HasFractions game.sets game.outcomes
+StandsForWholeGame = (bytes : List ℕ) (game : GameFile) → StandsFor bytes game
+    → IsWholeGame game × HasFractions game.sets game.outcomes

@@ -11,13 +11,15 @@ use Rattle.def_file_tokens.specs.Tokens.{after_space, byte_from}
 use Rattle.def_file_tokens.proofs.TokenLemmas.{first_byte, space_within, space_passes, space_is}
 
 module _ (whole : List ℕ) (at : ℕ) (within : at ≤ length whole) where
-  pub byte_from-first : (b : ℕ) → byte_from whole at ≡ Some b → (place : ℕ) × IsFirstByteFrom whole at place × (get_or whole place 0 ≡ b)
+  pub byte_from-first : (b : ℕ) → byte_from whole at ≡ Some b
+      → (place : ℕ) × IsFirstByteFrom whole at place × (get_or whole place 0 ≡ b)
   unfolding byte_from
   byte_from-first b is =
       let place = after_space whole at in
       (place, first_byte whole at within place refl (slice_get_within whole place b is), get_or_from_slice_get whole place b 0 is)
 
-  pub first-byte_from : (b place : ℕ) → IsFirstByteFrom whole at place → get_or whole place 0 ≡ b → byte_from whole at ≡ Some b
+  pub first-byte_from : (b place : ℕ) → IsFirstByteFrom whole at place → get_or whole place 0 ≡ b
+      → byte_from whole at ≡ Some b
   unfolding byte_from
   first-byte_from b place first is =
       let start_is = space_is whole at within place first.from (omega (arith, first.within)) first.space (subst (FirstFails is_space) (sym (drop_more whole place 0 first.within)) first.byte) in

@@ -11,7 +11,8 @@ use Rattle.def_file_tokens.specs.Tokens.{span, next_from, Reads}
 use Rattle.def_file_tokens.proofs.TokenLemmas.{next_from-sound, next_from-complete}
 
 -- a piece behind other bytes is the next token there
-piece_here : (front space bytes after : List ℕ) (kind : Token) → AllPass is_space space → IsToken kind bytes after → next_from (front ++ (space ++ (bytes ++ after))) (length front) ≡ Ok (span kind (length front + length space) (length front + length space + length bytes))
+piece_here : (front space bytes after : List ℕ) (kind : Token) → AllPass is_space space → IsToken kind bytes after
+    → next_from (front ++ (space ++ (bytes ++ after))) (length front) ≡ Ok (span kind (length front + length space) (length front + length space + length bytes))
 piece_here front space bytes after kind all token =
     let whole = front ++ (space ++ (bytes ++ after)) in
     let at = length front in
@@ -36,7 +37,8 @@ piece_here front space bytes after kind all token =
     })
 
 -- white space alone leads to the end
-end_here : (front space : List ℕ) → AllPass is_space space → next_from (front ++ space) (length front) ≡ Ok (span End (length (front ++ space)) (length (front ++ space)))
+end_here : (front space : List ℕ) → AllPass is_space space
+    → next_from (front ++ space) (length front) ≡ Ok (span End (length (front ++ space)) (length (front ++ space)))
 end_here front space all =
     let long : length front + length space ≡ length (front ++ space) = sym (length-append front space) in
     let none : length front + length space + 0 ≡ length (front ++ space) = omega (arith, long) in
@@ -46,7 +48,8 @@ end_here front space all =
     ∙ ap (λ n. Ok (span End (length (front ++ space)) n)) none
 
 -- white space and tokens in turn are read as just those tokens, and then the end
-pub reads_pieces : (front rest : List ℕ) (ps : List Piece) → ArePieces ps rest → Reads (front ++ bytes_of ps rest) (length front) (lexemes_of (length front) ps)
+pub reads_pieces : (front rest : List ℕ) (ps : List Piece) → ArePieces ps rest
+    → Reads (front ++ bytes_of ps rest) (length front) (lexemes_of (length front) ps)
 reads_pieces front rest [] all = end_here front rest all
 reads_pieces front rest (p ∷ ps) all =
     let behind = front ++ p.space ++ p.bytes in
@@ -67,7 +70,8 @@ pub record Found (whole : List ℕ) (at : ℕ) (lexemes : List Lexeme) : Type 0 
   pub places : lexemes ≡ lexemes_of at pieces
 
 -- what is read as tokens up to the end is white space and those tokens in turn
-pub pieces_read : (whole : List ℕ) (at : ℕ) (lexemes : List Lexeme) → at ≤ length whole → Reads whole at lexemes → Found whole at lexemes
+pub pieces_read : (whole : List ℕ) (at : ℕ) (lexemes : List Lexeme) → at ≤ length whole → Reads whole at lexemes
+    → Found whole at lexemes
 pieces_read whole at [] within reads =
     let is = next_from-sound whole at within (span End (length whole) (length whole)) reads in
     let all : slice_range whole at (length whole) ≡ drop at whole = take_all (length whole - at) (drop at whole) (omega (arith, length-drop at whole)) in
@@ -122,7 +126,8 @@ same_piece : (p q : Piece) → p.space ≡ q.space → p.kind ≡ q.kind → p.b
 same_piece p q space kind bytes i = record { space = space i; kind = kind i; bytes = bytes i }
 
 -- where their tokens lie tells pieces of the same bytes
-pieces_by_places : (at : ℕ) (ps qs : List Piece) (rest end : List ℕ) → lexemes_of at ps ≡ lexemes_of at qs → bytes_of ps rest ≡ bytes_of qs end → (ps ≡ qs) × (rest ≡ end)
+pieces_by_places : (at : ℕ) (ps qs : List Piece) (rest end : List ℕ) → lexemes_of at ps ≡ lexemes_of at qs
+    → bytes_of ps rest ≡ bytes_of qs end → (ps ≡ qs) × (rest ≡ end)
 pieces_by_places at [] [] rest end places same = (refl, same)
 pieces_by_places at [] (q ∷ qs) rest end places same = cc
 pieces_by_places at (p ∷ ps) [] rest end places same = cc
@@ -138,6 +143,7 @@ pieces_by_places at (p ∷ ps) (q ∷ qs) rest end places same =
     (ap (λ x. x ∷ ps) (same_piece p q spaces.0 kinds tokens.0) ∙ ap (λ x. q ∷ x) behind.0, behind.1)
 
 -- bytes are white space and tokens in turn in one way at most
-pub pieces_once : (ps qs : List Piece) (rest end : List ℕ) → ArePieces ps rest → ArePieces qs end → bytes_of ps rest ≡ bytes_of qs end → (ps ≡ qs) × (rest ≡ end)
+pub pieces_once : (ps qs : List Piece) (rest end : List ℕ) → ArePieces ps rest → ArePieces qs end
+    → bytes_of ps rest ≡ bytes_of qs end → (ps ≡ qs) × (rest ≡ end)
 pieces_once ps qs rest end are others same =
     pieces_by_places 0 ps qs rest end (reads_once (bytes_of ps rest) 0 (lexemes_of 0 ps) (lexemes_of 0 qs) (reads_pieces [] rest ps are) (subst (λ l. Reads l 0 (lexemes_of 0 qs)) (sym same) (reads_pieces [] end qs others))) same

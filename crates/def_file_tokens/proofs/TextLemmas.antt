@@ -83,7 +83,8 @@ unfolding escaped
 escaped-other b bs other = rw (ne_eqb b 34 other) refl
 
 -- an inside is spelled by what it stands for
-escaped-unescaped : (before : ℕ) (bs : List ℕ) → MarksEscaped before bs → (before ≡ 92 → begins_with_mark bs ≡ false) → escaped (unescaped bs) ≡ bs
+escaped-unescaped : (before : ℕ) (bs : List ℕ) → MarksEscaped before bs → (before ≡ 92 → begins_with_mark bs ≡ false)
+    → escaped (unescaped bs) ≡ bs
 unfolding unescaped escaped
 escaped-unescaped before [] all apart = refl
 escaped-unescaped before (b ∷ []) all apart =
@@ -137,14 +138,16 @@ unescaped-escaped (b ∷ bs) =
     (eqb_tells b 34)
 
 -- an inside is what it stands for, with a backslash in front of each quotation mark
-pub inside_is_escaped : (inside bytes : List ℕ) → IsInside inside → bytes ≡ unescaped inside → EndsPlainly bytes × (inside ≡ escaped bytes)
+pub inside_is_escaped : (inside bytes : List ℕ) → IsInside inside → bytes ≡ unescaped inside
+    → EndsPlainly bytes × (inside ≡ escaped bytes)
 inside_is_escaped inside bytes is same = (
   subst EndsPlainly (sym same) (EndsPlainly-unescaped inside is),
   sym (ap escaped same ∙ escaped-unescaped 34 inside is.escaped (λ clash. absurd (omega arith))),
 )
 
 -- bytes without a backslash at the end, with their marks escaped, are an inside that stands for them
-pub escaped_is_inside : (inside bytes : List ℕ) → EndsPlainly bytes → inside ≡ escaped bytes → IsInside inside × (bytes ≡ unescaped inside)
+pub escaped_is_inside : (inside bytes : List ℕ) → EndsPlainly bytes → inside ≡ escaped bytes
+    → IsInside inside × (bytes ≡ unescaped inside)
 escaped_is_inside inside bytes plain same = (
   subst IsInside (sym same) (record {
     escaped = MarksEscaped-escaped 34 bytes;
@@ -167,7 +170,8 @@ closing_from-closes : (at before b : ℕ) (bs : List ℕ) → b ≡ 34 → befor
 unfolding closing_from
 closing_from-closes at before b bs mark plain = rw (eq-eqb b 34 mark, ne_eqb before 92 plain) refl
 
-closing_from-goes_on : (at before b : ℕ) (bs : List ℕ) → (b ≡ 34 → before ≡ 92) → closing_from at before (b ∷ bs) ≡ closing_from (at + 1) b bs
+closing_from-goes_on : (at before b : ℕ) (bs : List ℕ) → (b ≡ 34 → before ≡ 92)
+    → closing_from at before (b ∷ bs) ≡ closing_from (at + 1) b bs
 unfolding closing_from
 closing_from-goes_on at before b bs escaped =
     ⊎_elim (λ mark. rw (mark.0, eq-eqb before 92 (escaped mark.1)) refl) (λ other. rw other.0 refl) (eqb_tells b 34)
@@ -181,7 +185,8 @@ closes_or before b =
     (eqb_tells b 34)
 
 -- the mark that is found closes: each mark before it is escaped, and it isn't itself
-pub closing_from-sound : (at before : ℕ) (bs : List ℕ) (close : ℕ) → closing_from at before bs ≡ Some close → (at ≤ close) × Closes before bs (close - at)
+pub closing_from-sound : (at before : ℕ) (bs : List ℕ) (close : ℕ) → closing_from at before bs ≡ Some close
+    → (at ≤ close) × Closes before bs (close - at)
 unfolding closing_from
 closing_from-sound at before [] close is = cc
 closing_from-sound at before (b ∷ bs) close is =
@@ -207,7 +212,8 @@ closing_from-sound at before (b ∷ bs) close is =
     (closes_or before b)
 
 -- the first mark that isn't escaped is the one that is found
-pub closing_from-complete : (at before : ℕ) (inside after : List ℕ) → MarksEscaped before inside → last_or before inside ≢ 92 → closing_from at before (inside ++ 34 ∷ after) ≡ Some (at + length inside)
+pub closing_from-complete : (at before : ℕ) (inside after : List ℕ) → MarksEscaped before inside
+    → last_or before inside ≢ 92 → closing_from at before (inside ++ 34 ∷ after) ≡ Some (at + length inside)
 unfolding closing_from
 closing_from-complete at before [] after all plain =
     let same : at ≡ at + 0 = omega arith in
@@ -233,7 +239,9 @@ none-closing_from at before [] all = refl
 none-closing_from at before (b ∷ bs) all = closing_from-goes_on at before b bs all.0 ∙ none-closing_from (at + 1) b bs all.1
 
 -- what stands between the first and the last byte of a span
-pub slice_range-inner : (whole : List ℕ) (start end : ℕ) (inside : List ℕ) → end ≤ length whole → slice_range whole start end ≡ 34 ∷ (inside ++ 34 ∷ []) → (start + 2 ≤ end) × (slice_range whole (start + 1) (end - 1) ≡ inside)
+pub slice_range-inner : (whole : List ℕ) (start end : ℕ) (inside : List ℕ) → end ≤ length whole
+    → slice_range whole start end ≡ 34 ∷ (inside ++ 34 ∷ [])
+    → (start + 2 ≤ end) × (slice_range whole (start + 1) (end - 1) ≡ inside)
 slice_range-inner whole start end inside within quoted =
     let rest = drop (end - start) (drop start whole) in
     let len : length inside + 2 ≡ min (end - start) (length whole - start) = omega (arith, ap length quoted, length-take (end - start) (drop start whole), length-drop start whole, length-append inside (34 ∷ [])) in

@@ -23,7 +23,8 @@ passes_apart : (test : ℕ → Bool) (b c : ℕ) → test b ≡ true → test c 
 passes_apart test b c passes fails same = let clash : true ≡ false = sym passes ∙ ap test same ∙ fails in absurd cc
 
 -- the token by its first byte
-pub token_at-text : (start b : ℕ) (bs : List ℕ) → b ≡ 34 → token_at start (b ∷ bs) ≡ text_from start (closing_from (start + 1) b bs)
+pub token_at-text : (start b : ℕ) (bs : List ℕ) → b ≡ 34
+    → token_at start (b ∷ bs) ≡ text_from start (closing_from (start + 1) b bs)
 unfolding token_at
 token_at-text start b bs is = rw (eq-eqb b 34 is) refl
 
@@ -43,21 +44,24 @@ unfolding token_at
 token_at-comma start b bs is = ap (λ x. token_at start (x ∷ bs)) is
 
 -- where a byte begins a word, the token is a word up to the end of the run
-pub token_at-word : (start b : ℕ) (bs : List ℕ) → begins_word b ≡ true → token_at start (b ∷ bs) ≡ Ok (span Word start (start + prefix_len in_run (b ∷ bs)))
+pub token_at-word : (start b : ℕ) (bs : List ℕ) → begins_word b ≡ true
+    → token_at start (b ∷ bs) ≡ Ok (span Word start (start + prefix_len in_run (b ∷ bs)))
 unfolding token_at
 token_at-word start b bs word =
     let apart = λ (c : ℕ) (fails : begins_word c ≡ false). ne_eqb b c (passes_apart begins_word b c word fails) in
     rw (apart 34 refl, apart 123 refl, apart 125 refl, apart 44 refl, word) refl
 
 -- where a byte begins a number and no word, the token is a number up to the end of the run
-pub token_at-number : (start b : ℕ) (bs : List ℕ) → begins_word b ≡ false → begins_number b ≡ true → token_at start (b ∷ bs) ≡ Ok (span Number start (start + prefix_len in_run (b ∷ bs)))
+pub token_at-number : (start b : ℕ) (bs : List ℕ) → begins_word b ≡ false → begins_number b ≡ true
+    → token_at start (b ∷ bs) ≡ Ok (span Number start (start + prefix_len in_run (b ∷ bs)))
 unfolding token_at
 token_at-number start b bs no_word number =
     let apart = λ (c : ℕ) (fails : begins_number c ≡ false). ne_eqb b c (passes_apart begins_number b c number fails) in
     rw (apart 34 refl, apart 123 refl, apart 125 refl, apart 44 refl, no_word, number) refl
 
 -- a byte that begins no token is a fault, at its own offset
-pub token_at-fault : (start b : ℕ) (bs : List ℕ) → b ≢ 34 → b ≢ 123 → b ≢ 125 → b ≢ 44 → begins_word b ≡ false → begins_number b ≡ false → token_at start (b ∷ bs) ≡ Err (Syntax start)
+pub token_at-fault : (start b : ℕ) (bs : List ℕ) → b ≢ 34 → b ≢ 123 → b ≢ 125 → b ≢ 44 → begins_word b ≡ false
+    → begins_number b ≡ false → token_at start (b ∷ bs) ≡ Err (Syntax start)
 unfolding token_at
 token_at-fault start b bs not_quote not_open not_close not_comma no_word no_number =
     rw (ne_eqb b 34 not_quote, ne_eqb b 123 not_open, ne_eqb b 125 not_close, ne_eqb b 44 not_comma, no_word, no_number) refl
@@ -121,7 +125,8 @@ prefix_stops p (x ∷ xs) =
     (λ no. subst (λ n. FirstFails p (drop n (x ∷ xs))) (sym (prefix_len-no p x xs no)) no)
     (cases_Bool (p x))
 
-prefix_len-append : (p : ℕ → Bool) (xs ys : List ℕ) → Passing p xs → FirstFails p ys → prefix_len p (xs ++ ys) ≡ length xs
+prefix_len-append : (p : ℕ → Bool) (xs ys : List ℕ) → Passing p xs → FirstFails p ys
+    → prefix_len p (xs ++ ys) ≡ length xs
 prefix_len-append p [] [] all stop = refl
 prefix_len-append p [] (y ∷ ys) all stop = prefix_len-no p y ys stop
 prefix_len-append p (x ∷ xs) ys all stop = prefix_len-yes p x (xs ++ ys) all.0 ∙ ap suc (prefix_len-append p xs ys all.1 stop)
@@ -137,7 +142,8 @@ first_of_take : (p : ℕ → Bool) (n b : ℕ) (bs : List ℕ) → 0 < n → p b
 first_of_take p zero b bs some is = absurd (omega arith)
 first_of_take p (suc n) b bs some is = is
 
-run_here : (begins : ℕ → Bool) (b : ℕ) (bs : List ℕ) → begins b ≡ true → in_run b ≡ true → IsRun begins (take (prefix_len in_run (b ∷ bs)) (b ∷ bs)) (drop (prefix_len in_run (b ∷ bs)) (b ∷ bs))
+run_here : (begins : ℕ → Bool) (b : ℕ) (bs : List ℕ) → begins b ≡ true → in_run b ≡ true
+    → IsRun begins (take (prefix_len in_run (b ∷ bs)) (b ∷ bs)) (drop (prefix_len in_run (b ∷ bs)) (b ∷ bs))
 run_here begins b bs is run = record {
   first = first_of_take begins (prefix_len in_run (b ∷ bs)) b bs (omega (arith, prefix_len-yes in_run b bs run)) is;
   each = from_passing in_run _ (prefix_passes in_run (b ∷ bs));
@@ -153,7 +159,8 @@ pub record IsTokenOf (start : ℕ) (bytes : List ℕ) (lexeme : Lexeme) : Type 0
   pub token : IsToken lexeme.kind (take len bytes) (drop len bytes)
 
 -- a text from its opening mark
-text_sound : (start : ℕ) (bs : List ℕ) (found : Option ℕ) (lexeme : Lexeme) → closing_from (start + 1) 34 bs ≡ found → text_from start found ≡ Ok lexeme → IsTokenOf start (34 ∷ bs) lexeme
+text_sound : (start : ℕ) (bs : List ℕ) (found : Option ℕ) (lexeme : Lexeme) → closing_from (start + 1) 34 bs ≡ found
+    → text_from start found ≡ Ok lexeme → IsTokenOf start (34 ∷ bs) lexeme
 text_sound start bs None lexeme search_is is = absurd cc
 text_sound start bs (Some close) lexeme search_is is =
     let lexeme_is : span Text start (close + 1) ≡ lexeme = cc in
@@ -176,7 +183,8 @@ text_sound start bs (Some close) lexeme search_is is =
     })
 
 -- a token of one byte
-one_sound : (start b code : ℕ) (bs : List ℕ) (kind : Token) (lexeme : Lexeme) → b ≡ code → IsToken kind (code ∷ []) bs → span kind start (start + 1) ≡ lexeme → IsTokenOf start (b ∷ bs) lexeme
+one_sound : (start b code : ℕ) (bs : List ℕ) (kind : Token) (lexeme : Lexeme) → b ≡ code → IsToken kind (code ∷ []) bs
+    → span kind start (start + 1) ≡ lexeme → IsTokenOf start (b ∷ bs) lexeme
 one_sound start b code bs kind lexeme is token lexeme_is =
     subst (IsTokenOf start (b ∷ bs)) lexeme_is (record {
       begins = refl;
@@ -187,7 +195,8 @@ one_sound start b code bs kind lexeme is token lexeme_is =
     })
 
 -- a token that is read begins where reading does, and its bytes spell one of its kind
-pub token_at-sound : (start : ℕ) (bytes : List ℕ) (lexeme : Lexeme) → token_at start bytes ≡ Ok lexeme → IsTokenOf start bytes lexeme
+pub token_at-sound : (start : ℕ) (bytes : List ℕ) (lexeme : Lexeme) → token_at start bytes ≡ Ok lexeme
+    → IsTokenOf start bytes lexeme
 token_at-sound start [] lexeme is =
     let lexeme_is : span End start start ≡ lexeme = let e = sym (token_at-end start) ∙ is in cc in
     subst (IsTokenOf start []) lexeme_is (record { begins = refl; len = 0; ends = omega arith; within = omega arith; token = (refl, refl) })
@@ -224,7 +233,8 @@ run_not_space : (b : ℕ) → in_run b ≡ true → is_space b ≡ false
 run_not_space b is = grind (arith, nat_tests)
 
 -- a token begins with no white space
-token_not_space : (kind : Token) (bytes after : List ℕ) → IsToken kind bytes after → FirstFails is_space (bytes ++ after)
+token_not_space : (kind : Token) (bytes after : List ℕ) → IsToken kind bytes after
+    → FirstFails is_space (bytes ++ after)
 token_not_space Word [] after token = absurd token.first
 token_not_space Word (b ∷ bs) after token = run_not_space b (word_in_run b token.first)
 token_not_space Number [] after token = absurd token.first
@@ -240,7 +250,8 @@ number_no_word : (b : ℕ) → begins_number b ≡ true → begins_word b ≡ fa
 number_no_word b is = grind (arith, nat_tests)
 
 -- a token is read where it stands
-pub token_at-complete : (kind : Token) (start : ℕ) (bytes after : List ℕ) → IsToken kind bytes after → token_at start (bytes ++ after) ≡ Ok (span kind start (start + length bytes))
+pub token_at-complete : (kind : Token) (start : ℕ) (bytes after : List ℕ) → IsToken kind bytes after
+    → token_at start (bytes ++ after) ≡ Ok (span kind start (start + length bytes))
 token_at-complete Word start [] after token = absurd token.first
 token_at-complete Word start (b ∷ bs) after token =
     token_at-word start b (bs ++ after) token.first
@@ -281,7 +292,8 @@ module _ (whole : List ℕ) (at : ℕ) (within : at ≤ length whole) where
   space_stops : FirstFails is_space (drop (after_space whole at) whole)
   space_stops = subst (FirstFails is_space) (drop-drop (prefix_len is_space (drop at whole)) at whole) (prefix_stops is_space (drop at whole))
 
-  pub space_is : (place : ℕ) → at ≤ place → place ≤ length whole → AllPass is_space (slice_range whole at place) → FirstFails is_space (drop place whole) → after_space whole at ≡ place
+  pub space_is : (place : ℕ) → at ≤ place → place ≤ length whole → AllPass is_space (slice_range whole at place)
+      → FirstFails is_space (drop place whole) → after_space whole at ≡ place
   space_is place from to space stops =
       let rest = drop at whole in
       let place_is : at + (place - at) ≡ place = omega arith in
@@ -329,7 +341,8 @@ module _ (whole : List ℕ) (at : ℕ) (within : at ≤ length whole) where
       ∙ ap (λ n. Ok (span lexeme.kind start n)) place
 
 -- a byte that begins no token passes none of the tests, and the other way round
-begins_none : (b : ℕ) → begins_token b ≡ false → (b ≢ 34) × (b ≢ 123) × (b ≢ 125) × (b ≢ 44) × (begins_word b ≡ false) × (begins_number b ≡ false)
+begins_none : (b : ℕ) → begins_token b ≡ false
+    → (b ≢ 34) × (b ≢ 123) × (b ≢ 125) × (b ≢ 44) × (begins_word b ≡ false) × (begins_number b ≡ false)
 begins_none b none = (other 34 refl, other 123 refl, other 125 refl, other 44 refl, no_word b none, no_number b none)
   where
     other : (c : ℕ) → begins_token c ≡ true → b ≢ c
@@ -341,12 +354,14 @@ begins_none b none = (other 34 refl, other 123 refl, other 125 refl, other 44 re
     no_number : (b : ℕ) → begins_token b ≡ false → begins_number b ≡ false
     no_number b none = grind (arith, nat_tests)
 
-none_begins : (b : ℕ) → b ≢ 34 → b ≢ 123 → b ≢ 125 → b ≢ 44 → begins_word b ≡ false → begins_number b ≡ false → begins_token b ≡ false
+none_begins : (b : ℕ) → b ≢ 34 → b ≢ 123 → b ≢ 125 → b ≢ 44 → begins_word b ≡ false → begins_number b ≡ false
+    → begins_token b ≡ false
 none_begins b not_quote not_open not_close not_comma no_word no_number =
     rw (ne_eqb b 34 not_quote, ne_eqb b 123 not_open, ne_eqb b 125 not_close, ne_eqb b 44 not_comma, no_word, no_number) refl
 
 -- the faults by the first byte
-syntax_sound : (start place b : ℕ) (bs : List ℕ) → token_at start (b ∷ bs) ≡ Err (Syntax place) → (start ≡ place) × (begins_token b ≡ false)
+syntax_sound : (start place b : ℕ) (bs : List ℕ) → token_at start (b ∷ bs) ≡ Err (Syntax place)
+    → (start ≡ place) × (begins_token b ≡ false)
 syntax_sound start place b bs is =
     elim (begins_of b) [
       | quote mark ↦ absurd (text_no_syntax start (closing_from (start + 1) b bs) place (sym (token_at-text start b bs mark) ∙ is))
@@ -362,7 +377,8 @@ syntax_sound start place b bs is =
     text_no_syntax start None place is = cc
     text_no_syntax start (Some close) place is = cc
 
-unclosed_sound : (start place b : ℕ) (bs : List ℕ) → token_at start (b ∷ bs) ≡ Err (Unclosed place) → (start ≡ place) × (b ≡ 34) × MarksEscaped 34 bs
+unclosed_sound : (start place b : ℕ) (bs : List ℕ) → token_at start (b ∷ bs) ≡ Err (Unclosed place)
+    → (start ≡ place) × (b ≡ 34) × MarksEscaped 34 bs
 unclosed_sound start place b bs is =
     elim (begins_of b) [
       | quote mark ↦
@@ -390,7 +406,8 @@ module _ (whole : List ℕ) (at : ℕ) (within : at ≤ length whole) where
     byte = subst (FirstFails is_space) (drop_more whole place 0 inner) (subst (λ n. FirstFails is_space (drop n whole)) is (space_stops whole at within));
   }
 
-  first_is : (place : ℕ) → IsFirstByteFrom whole at place → next_from whole at ≡ token_at place (get_or whole place 0 ∷ drop (place + 1) whole)
+  first_is : (place : ℕ) → IsFirstByteFrom whole at place
+      → next_from whole at ≡ token_at place (get_or whole place 0 ∷ drop (place + 1) whole)
   unfolding next_from
   first_is place is =
       let start_is = space_is whole at within place is.from (omega (arith, is.within)) is.space (subst (FirstFails is_space) (sym (drop_more whole place 0 is.within)) is.byte) in
@@ -403,7 +420,8 @@ module _ (whole : List ℕ) (at : ℕ) (within : at ≤ length whole) where
       let start = after_space whole at in
       ⊎_elim (λ inner. inner) (λ past. let clash = sym (ap (token_at start) (drop_all start whole past) ∙ token_at-end start) ∙ is in absurd cc) (order start (length whole))
 
-  here : (fault : LexFault) (is : next_from whole at ≡ Err fault) → token_at (after_space whole at) (get_or whole (after_space whole at) 0 ∷ drop (after_space whole at + 1) whole) ≡ Err fault
+  here : (fault : LexFault) (is : next_from whole at ≡ Err fault)
+      → token_at (after_space whole at) (get_or whole (after_space whole at) 0 ∷ drop (after_space whole at + 1) whole) ≡ Err fault
   unfolding next_from
   here fault is = let start = after_space whole at in ap (token_at start) (sym (drop_more whole start 0 (not_at_end fault is))) ∙ is
 

@@ -10,33 +10,41 @@ use Rattle.def_file_tokens.specs.Spelling.{IsLexemeFrom, IsFirstByteFrom, IsSynt
 use Rattle.def_file_tokens.specs.Tokens.{span, byte_from, next_from, Reads}
 
 abbrev pub NextIsLexeme : Type 0
-NextIsLexeme = (whole : List ℕ) (at : ℕ) (lexeme : Lexeme) → at ≤ length whole → (next_from whole at ≡ Ok lexeme) ↔ IsLexemeFrom whole at lexeme
+NextIsLexeme = (whole : List ℕ) (at : ℕ) (lexeme : Lexeme) → at ≤ length whole
+    → (next_from whole at ≡ Ok lexeme) ↔ IsLexemeFrom whole at lexeme
 
 abbrev pub NextIsSyntax : Type 0
-NextIsSyntax = (whole : List ℕ) (at place : ℕ) → at ≤ length whole → (next_from whole at ≡ Err (Syntax place)) ↔ IsSyntaxFrom whole at place
+NextIsSyntax = (whole : List ℕ) (at place : ℕ) → at ≤ length whole
+    → (next_from whole at ≡ Err (Syntax place)) ↔ IsSyntaxFrom whole at place
 
 abbrev pub NextIsUnclosed : Type 0
-NextIsUnclosed = (whole : List ℕ) (at place : ℕ) → at ≤ length whole → (next_from whole at ≡ Err (Unclosed place)) ↔ IsUnclosedFrom whole at place
+NextIsUnclosed = (whole : List ℕ) (at place : ℕ) → at ≤ length whole
+    → (next_from whole at ≡ Err (Unclosed place)) ↔ IsUnclosedFrom whole at place
 
 -- the next byte is the first one that isn't white space
 abbrev pub NextByteIsFirst : Type 0
-NextByteIsFirst = (whole : List ℕ) (at b : ℕ) → at ≤ length whole → (byte_from whole at ≡ Some b) ↔ ((place : ℕ) × IsFirstByteFrom whole at place × (slice_index whole place ≡ b))
+NextByteIsFirst = (whole : List ℕ) (at b : ℕ) → at ≤ length whole
+    → (byte_from whole at ≡ Some b) ↔ ((place : ℕ) × IsFirstByteFrom whole at place × (slice_index whole place ≡ b))
 
 abbrev pub NoByteIsSpace : Type 0
-NoByteIsSpace = (whole : List ℕ) (at : ℕ) → at ≤ length whole → (byte_from whole at ≡ None) ↔ AllPass is_space (drop at whole)
+NoByteIsSpace = (whole : List ℕ) (at : ℕ) → at ≤ length whole
+    → (byte_from whole at ≡ None) ↔ AllPass is_space (drop at whole)
 
 abbrev pub EndStays : Type 0
 EndStays = (whole : List ℕ) → next_from whole (length whole) ≡ Ok (span End (length whole) (length whole))
 
 abbrev pub PiecesAreRead : Type 0
-PiecesAreRead = (front rest : List ℕ) (ps : List Piece) → ArePieces ps rest → Reads (front ++ bytes_of ps rest) (length front) (lexemes_of (length front) ps)
+PiecesAreRead = (front rest : List ℕ) (ps : List Piece) → ArePieces ps rest
+    → Reads (front ++ bytes_of ps rest) (length front) (lexemes_of (length front) ps)
 
 abbrev pub ReadIsPieces : Type 0
 ReadIsPieces = (whole : List ℕ) (at : ℕ) (lexemes : List Lexeme) → at ≤ length whole → Reads whole at lexemes
     → (ps : List Piece) × (rest : List ℕ) × ArePieces ps rest × (drop at whole ≡ bytes_of ps rest) × (lexemes ≡ lexemes_of at ps)
 
 abbrev pub OneDivision : Type 0
-OneDivision = (ps qs : List Piece) (rest end : List ℕ) → ArePieces ps rest → ArePieces qs end → bytes_of ps rest ≡ bytes_of qs end → (ps ≡ qs) × (rest ≡ end)
+OneDivision = (ps qs : List Piece) (rest end : List ℕ) → ArePieces ps rest → ArePieces qs end
+    → bytes_of ps rest ≡ bytes_of qs end → (ps ≡ qs) × (rest ≡ end)
 
 abbrev pub OneSpelling : Type 0
-OneSpelling = (inside bytes : List ℕ) → (IsInside inside × (bytes ≡ unescaped inside)) ↔ (EndsPlainly bytes × (inside ≡ escaped bytes))
+OneSpelling = (inside bytes : List ℕ)
+    → (IsInside inside × (bytes ≡ unescaped inside)) ↔ (EndsPlainly bytes × (inside ≡ escaped bytes))

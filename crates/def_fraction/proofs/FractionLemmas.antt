@@ -22,7 +22,8 @@ unsigned_abs-without_factor (pos n) g = refl
 unsigned_abs-without_factor (negsuc n) g = unsigned_abs-neg (suc n / g)
 
 -- dividing both parts by one number keeps the value
-exact_parts : (n : ℤ) (d g k : ℕ) → g * (unsigned_abs n / g) ≡ unsigned_abs n → g * k ≡ d → without_factor n g *ℤ pos d ≡ n *ℤ pos k
+exact_parts : (n : ℤ) (d g k : ℕ) → g * (unsigned_abs n / g) ≡ unsigned_abs n → g * k ≡ d
+    → without_factor n g *ℤ pos d ≡ n *ℤ pos k
 exact_parts (pos n) d g k above below = ap pos (omega (arith, ap (λ x. x * k) above, ap (λ x. n / g * x) below))
 exact_parts (negsuc n) d g k above below =
     neg-times (suc n / g) d ∙ ap (λ x. neg_ℤ (pos x)) (omega (arith, ap (λ x. x * k) above, ap (λ x. suc n / g * x) below))
@@ -74,7 +75,8 @@ same_from_value f g p q value =
     ap (λ n. make n f.den) nums ∙ ap (make g.num) same.1
 
 -- a fraction in lowest terms that has the value n / d is what n / d is in lowest terms
-pub fraction_of-value : (f : Fraction) (n : ℤ) (d : ℕ) → IsInLowestTerms f → 1 ≤ d → HasValue f n d → fraction_of n d ≡ f
+pub fraction_of-value : (f : Fraction) (n : ℤ) (d : ℕ) → IsInLowestTerms f → 1 ≤ d → HasValue f n d
+    → fraction_of n d ≡ f
 fraction_of-value f n d low positive value =
     let g : Fraction = fraction_of n d in
     let reduced = fraction_of-reduced n d positive in
@@ -115,7 +117,8 @@ without_factor-signed true (suc n) g = refl
 without_factor-signed false n g = refl
 
 -- the fraction of a sign and two sizes
-pub fraction_of-signed : (negative : Bool) (n d : ℕ) → fraction_of (signed negative n) d ≡ record { num = signed negative (n / gcd n d); den = d / gcd n d }
+pub fraction_of-signed : (negative : Bool) (n d : ℕ)
+    → fraction_of (signed negative n) d ≡ record { num = signed negative (n / gcd n d); den = d / gcd n d }
 unfolding fraction_of
 fraction_of-signed negative n d =
     let make : ℤ → ℕ → Fraction = λ m k. record { num = m; den = k } in

@@ -17,7 +17,8 @@ record Judged (zero within : Bool) (x : Fraction) (v : Result Fraction NumberFau
   range : (v ≡ Err Range) ↔ ((zero ≡ false) × (within ≡ false))
   value : (f : Fraction) → (v ≡ Ok f) ↔ ((zero ≡ false) × (within ≡ true) × (f ≡ x))
 
-judged : (zero within : Bool) (x : Fraction) → Judged zero within x (cond zero (Err ZeroDenominator) (cond within (Ok x) (Err Range)))
+judged : (zero within : Bool) (x : Fraction)
+    → Judged zero within x (cond zero (Err ZeroDenominator) (cond within (Ok x) (Err Range)))
 judged true within x = record {
   form = λ e. cc;
   over_zero = (λ e. refl, λ e. refl);

@@ -16,13 +16,15 @@ pub digit_range : (c : ℕ) → is_ascii_digit c ≡ true → (48 ≤ c) × (c �
 digit_range c h = let parts = and_parts _ _ h in (leb-true 48 c parts.0, leb-true c 57 parts.1)
 
 -- digits followed by digits are digits
-pub digits-append : (xs ys : List ℕ) → all_ascii_digits xs ≡ true → all_ascii_digits ys ≡ true → all_ascii_digits (xs ++ ys) ≡ true
+pub digits-append : (xs ys : List ℕ) → all_ascii_digits xs ≡ true → all_ascii_digits ys ≡ true
+    → all_ascii_digits (xs ++ ys) ≡ true
 digits-append [] ys p q = q
 digits-append (x ∷ xs) ys p q =
     let parts = and_parts (is_ascii_digit x) (all_ascii_digits xs) p in
     and_from _ _ parts.0 (digits-append xs ys parts.1 q)
 
-pub digits-parts : (xs ys : List ℕ) → all_ascii_digits (xs ++ ys) ≡ true → (all_ascii_digits xs ≡ true) × (all_ascii_digits ys ≡ true)
+pub digits-parts : (xs ys : List ℕ) → all_ascii_digits (xs ++ ys) ≡ true
+    → (all_ascii_digits xs ≡ true) × (all_ascii_digits ys ≡ true)
 digits-parts [] ys p = (refl, p)
 digits-parts (x ∷ xs) ys p =
     let parts = and_parts (is_ascii_digit x) (all_ascii_digits (xs ++ ys)) p in
@@ -35,7 +37,8 @@ BeginsElsewhere [] = ⊤
 BeginsElsewhere (c ∷ cs) = is_ascii_digit c ≡ false
 
 -- where digits are followed by a text that doesn't begin with one, they are those that lead
-pub leading_digits-append : (ds rest : List ℕ) → all_ascii_digits ds ≡ true → BeginsElsewhere rest → leading_digits (ds ++ rest) ≡ ds
+pub leading_digits-append : (ds rest : List ℕ) → all_ascii_digits ds ≡ true → BeginsElsewhere rest
+    → leading_digits (ds ++ rest) ≡ ds
 leading_digits-append [] [] p q = refl
 leading_digits-append [] (c ∷ cs) p q = rw q refl
 leading_digits-append (d ∷ ds) rest p q =
@@ -43,7 +46,8 @@ leading_digits-append (d ∷ ds) rest p q =
     rw (parts.0, leading_digits-append ds rest parts.1 q) refl
 
 -- where digits are followed by a text that doesn't begin with one, this text is what stands behind them
-pub after_digits-append : (ds rest : List ℕ) → all_ascii_digits ds ≡ true → BeginsElsewhere rest → after_digits (ds ++ rest) ≡ rest
+pub after_digits-append : (ds rest : List ℕ) → all_ascii_digits ds ≡ true → BeginsElsewhere rest
+    → after_digits (ds ++ rest) ≡ rest
 after_digits-append [] [] p q = refl
 after_digits-append [] (c ∷ cs) p q = rw q refl
 after_digits-append (d ∷ ds) rest p q =
@@ -56,7 +60,8 @@ digits_split [] = refl
 digits_split (c ∷ cs) =
     elim (is_ascii_digit c) as (λ b. cond b (c ∷ leading_digits cs) [] ++ cond b (after_digits cs) (c ∷ cs) ≡ c ∷ cs) [ true ↦ ap (λ xs. c ∷ xs) (digits_split cs) | false ↦ refl ]
 
-digits_if : (c : ℕ) (cs : List ℕ) (b : Bool) → is_ascii_digit c ≡ b → all_ascii_digits cs ≡ true → all_ascii_digits (cond b (c ∷ cs) []) ≡ true
+digits_if : (c : ℕ) (cs : List ℕ) (b : Bool) → is_ascii_digit c ≡ b → all_ascii_digits cs ≡ true
+    → all_ascii_digits (cond b (c ∷ cs) []) ≡ true
 digits_if c cs true e h = and_from _ _ e h
 digits_if c cs false e h = refl
 
@@ -65,7 +70,8 @@ pub leading_digits-digits : (bs : List ℕ) → all_ascii_digits (leading_digits
 leading_digits-digits [] = refl
 leading_digits-digits (c ∷ cs) = digits_if c (leading_digits cs) (is_ascii_digit c) refl (leading_digits-digits cs)
 
-elsewhere_if : (c : ℕ) (cs rest : List ℕ) (b : Bool) → is_ascii_digit c ≡ b → BeginsElsewhere rest → BeginsElsewhere (cond b rest (c ∷ cs))
+elsewhere_if : (c : ℕ) (cs rest : List ℕ) (b : Bool) → is_ascii_digit c ≡ b → BeginsElsewhere rest
+    → BeginsElsewhere (cond b rest (c ∷ cs))
 elsewhere_if c cs rest true e h = h
 elsewhere_if c cs rest false e h = e
 
@@ -114,13 +120,16 @@ power-elsewhere : (p : Option Power) → IsPower p → BeginsElsewhere (power_te
 power-elsewhere None h = tt
 power-elsewhere (Some p) h = letter_either (λ c. is_ascii_digit c ≡ false) refl refl p.letter h.0
 
-decimal_of-text : (before : List ℕ) (after : Option (List ℕ)) (p : Option Power) → IsTrue (is_numeral (before ++ digits_after after)) → IsPower p → decimal_of before after (power_text p) ≡ Some (decimal before after p)
+decimal_of-text : (before : List ℕ) (after : Option (List ℕ)) (p : Option Power)
+    → IsTrue (is_numeral (before ++ digits_after after)) → IsPower p
+    → decimal_of before after (power_text p) ≡ Some (decimal before after p)
 unfolding decimal_of
 decimal_of-text before after p digits h =
     let some = (and_parts (all_ascii_digits (before ++ digits_after after)) _ digits).1 in
     rw (some, power_of-text p h) refl
 
-body_after-power : (before : List ℕ) (p : Option Power) → IsPower p → body_after before (power_text p) ≡ decimal_of before None (power_text p)
+body_after-power : (before : List ℕ) (p : Option Power) → IsPower p
+    → body_after before (power_text p) ≡ decimal_of before None (power_text p)
 unfolding body_after
 body_after-power before None h = refl
 body_after-power before (Some p) h =
@@ -164,11 +173,13 @@ cond_some : {A : Type 0} (t : Bool) (x : Option A) (y : A) → cond t x None ≡
 cond_some true x y h = (refl, h)
 cond_some false x y h = cc
 
-option_map_some : {A B : Type 0} (f : A → B) (o : Option A) (y : B) → option_map f o ≡ Some y → (x : A) × (o ≡ Some x) × (f x ≡ y)
+option_map_some : {A B : Type 0} (f : A → B) (o : Option A) (y : B) → option_map f o ≡ Some y
+    → (x : A) × (o ≡ Some x) × (f x ≡ y)
 option_map_some f None y h = cc
 option_map_some f (Some x) y h = (x, refl, cc)
 
-sign_split_if : (c : ℕ) (cs : List ℕ) (a b : Bool) → eqb c 43 ≡ a → eqb c 45 ≡ b → sign_text (cond a plus_sign (cond b minus_sign no_sign)) ++ cond a cs (cond b cs (c ∷ cs)) ≡ c ∷ cs
+sign_split_if : (c : ℕ) (cs : List ℕ) (a b : Bool) → eqb c 43 ≡ a → eqb c 45 ≡ b
+    → sign_text (cond a plus_sign (cond b minus_sign no_sign)) ++ cond a cs (cond b cs (c ∷ cs)) ≡ c ∷ cs
 sign_split_if c cs true b e f = ap (λ x. x ∷ cs) (sym (eqb-true c 43 e))
 sign_split_if c cs false true e f = ap (λ x. x ∷ cs) (sym (eqb-true c 45 f))
 sign_split_if c cs false false e f = refl
@@ -206,7 +217,9 @@ power_of-spelled (c ∷ cs) p h =
       spelled = ap (λ xs. c ∷ xs) (sign_split cs);
     })
 
-decimal_of-spelled : (before : List ℕ) (after : Option (List ℕ)) (rest : List ℕ) (b : Body) → all_ascii_digits before ≡ true → all_ascii_digits (digits_after after) ≡ true → decimal_of before after rest ≡ Some b → Spells b (before ++ (point_text after ++ rest))
+decimal_of-spelled : (before : List ℕ) (after : Option (List ℕ)) (rest : List ℕ) (b : Body)
+    → all_ascii_digits before ≡ true → all_ascii_digits (digits_after after) ≡ true
+    → decimal_of before after rest ≡ Some b → Spells b (before ++ (point_text after ++ rest))
 unfolding decimal_of
 decimal_of-spelled before after rest b p q h =
     let found = cond_some _ _ b h in
@@ -217,7 +230,8 @@ decimal_of-spelled before after rest b p q h =
       spelled = ap (λ xs. before ++ (point_text after ++ xs)) shown.spelled;
     })
 
-body_if : (before : List ℕ) (c : ℕ) (cs : List ℕ) (b : Body) (s t : Bool) → eqb c 47 ≡ s → eqb c 46 ≡ t → all_ascii_digits before ≡ true
+body_if : (before : List ℕ) (c : ℕ) (cs : List ℕ) (b : Body) (s t : Bool) → eqb c 47 ≡ s → eqb c 46 ≡ t
+    → all_ascii_digits before ≡ true
     → cond s (cond (nat_lt 0 (length before) && is_numeral cs) (Some (quotient before cs)) None) (cond t (decimal_of before (Some (leading_digits cs)) (after_digits cs)) (decimal_of before None (c ∷ cs))) ≡ Some b
     → Spells b (before ++ c ∷ cs)
 body_if before c cs b true t e f p h =
@@ -236,7 +250,8 @@ body_if before c cs b false false e f p h =
     let shown = decimal_of-spelled before None (c ∷ cs) b p refl h in
     record { formed = shown.formed; spelled = shown.spelled }
 
-body_after-spelled : (before rest : List ℕ) (b : Body) → all_ascii_digits before ≡ true → body_after before rest ≡ Some b → Spells b (before ++ rest)
+body_after-spelled : (before rest : List ℕ) (b : Body) → all_ascii_digits before ≡ true
+    → body_after before rest ≡ Some b → Spells b (before ++ rest)
 unfolding body_after
 body_after-spelled before [] b p h =
     let shown = decimal_of-spelled before None [] b p refl h in

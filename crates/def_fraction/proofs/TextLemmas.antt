@@ -43,7 +43,8 @@ int_text-split : (z : ℤ) → int_text z ≡ sign_text (sign_for z) ++ decimal_
 int_text-split (pos n) = refl
 int_text-split (negsuc n) = refl
 
-text_if : (z : ℤ) (d : ℕ) (one : Bool) → sign_text (sign_for z) ++ body_text (cond one (decimal (decimal_text (unsigned_abs z)) None None) (quotient (decimal_text (unsigned_abs z)) (decimal_text d)))
+text_if : (z : ℤ) (d : ℕ) (one : Bool)
+    → sign_text (sign_for z) ++ body_text (cond one (decimal (decimal_text (unsigned_abs z)) None None) (quotient (decimal_text (unsigned_abs z)) (decimal_text d)))
     ≡ cond one (int_text z) (int_text z ++ slash ∷ decimal_text d)
 text_if z d true = ap (λ xs. sign_text (sign_for z) ++ xs) (append-nil (decimal_text (unsigned_abs z))) ∙ sym (int_text-split z)
 text_if z d false = sym (append_assoc (sign_text (sign_for z)) (decimal_text (unsigned_abs z)) (slash ∷ decimal_text d)) ∙ ap (λ xs. xs ++ slash ∷ decimal_text d) (sym (int_text-split z))
@@ -51,15 +52,18 @@ text_if z d false = sym (append_assoc (sign_text (sign_for z)) (decimal_text (un
 literal_text-fraction : (f : Fraction) → literal_text (literal_for f) ≡ fraction_text f
 literal_text-fraction f = text_if f.num f.den (eqb f.den 1)
 
-body_formed : (n d : ℕ) (one : Bool) → n < 2 ^ 64 → d < 2 ^ 64 → IsBody (cond one (decimal (decimal_text n) None None) (quotient (decimal_text n) (decimal_text d)))
+body_formed : (n d : ℕ) (one : Bool) → n < 2 ^ 64 → d < 2 ^ 64
+    → IsBody (cond one (decimal (decimal_text n) None None) (quotient (decimal_text n) (decimal_text d)))
 body_formed n d true p q = (subst (λ (xs : List ℕ). is_numeral xs ≡ true) (sym (append-nil (decimal_text n))) (decimal-numeral n p), tt)
 body_formed n d false p q = (decimal-numeral n p, decimal-numeral d q)
 
-numerator_is : (n d : ℕ) (one : Bool) → n < 2 ^ 64 → numerator (cond one (decimal (decimal_text n) None None) (quotient (decimal_text n) (decimal_text d))) ≡ n
+numerator_is : (n d : ℕ) (one : Bool) → n < 2 ^ 64
+    → numerator (cond one (decimal (decimal_text n) None None) (quotient (decimal_text n) (decimal_text d))) ≡ n
 numerator_is n d true p = ap (λ xs. number_of xs * 1) (append-nil (decimal_text n)) ∙ ap (λ x. x * 1) (number_of-decimal n p) ∙ omega arith
 numerator_is n d false p = number_of-decimal n p
 
-denominator_is : (n d : ℕ) (one : Bool) → eqb d 1 ≡ one → d < 2 ^ 64 → denominator (cond one (decimal (decimal_text n) None None) (quotient (decimal_text n) (decimal_text d))) ≡ d
+denominator_is : (n d : ℕ) (one : Bool) → eqb d 1 ≡ one → d < 2 ^ 64
+    → denominator (cond one (decimal (decimal_text n) None None) (quotient (decimal_text n) (decimal_text d))) ≡ d
 denominator_is n d true e q = sym (eqb-true d 1 e)
 denominator_is n d false e q = number_of-decimal d q
 
@@ -80,7 +84,8 @@ value_of-fraction f h w =
     rw (n, d, exact, ne_eqb f.den 0 (λ e. omega arith), le-leb (unsigned_abs f.num) (2 ^ 127 - 1) (omega arith), le-leb f.den (2 ^ 127 - 1) (omega arith), w) refl
 
 -- the text of a fraction within the limit is read as this fraction
-pub read_as_literal-fraction_text : (f : Fraction) → IsInLowestTerms f → IsTrue (fits f) → read_as_literal (fraction_text f) ≡ Ok f
+pub read_as_literal-fraction_text : (f : Fraction) → IsInLowestTerms f → IsTrue (fits f)
+    → read_as_literal (fraction_text f) ≡ Ok f
 unfolding read_as_literal
 read_as_literal-fraction_text f h w =
     let small = and_parts _ _ w in

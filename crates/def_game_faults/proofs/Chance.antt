@@ -138,11 +138,13 @@ at_start : (start : Fraction) → fits start ≡ true → FitsFrom start []
 at_start start within zero h = within
 at_start start within (suc n) h = absurd (omega arith)
 
-with_first : (start p : Fraction) (ps : List Fraction) → fits start ≡ true → FitsFrom (sum_of start p) ps → FitsFrom start (p ∷ ps)
+with_first : (start p : Fraction) (ps : List Fraction) → fits start ≡ true → FitsFrom (sum_of start p) ps
+    → FitsFrom start (p ∷ ps)
 with_first start p ps within all zero h = within
 with_first start p ps within all (suc n) h = all n (omega arith)
 
-adding-none : (k : ℕ) (start : Fraction) (ps : List Fraction) → fits start ≡ true → adding_fault k start ps ≡ None → FitsFrom start ps × (is_one (sum_from start ps) ≡ true)
+adding-none : (k : ℕ) (start : Fraction) (ps : List Fraction) → fits start ≡ true → adding_fault k start ps ≡ None
+    → FitsFrom start ps × (is_one (sum_from start ps) ≡ true)
 adding-none k start [] within e = (at_start start within, (passing_none (is_one start) (ChanceSum k) None e).0)
 adding-none k start (p ∷ ps) within e =
     let parts = passing_none (fits (sum_of start p)) (Scale k) (adding_fault k (sum_of start p) ps) e in
@@ -156,7 +158,8 @@ fits_later start p ps all n h = all (suc n) (omega arith)
 fits_first : (start p : Fraction) (ps : List Fraction) → FitsFrom start (p ∷ ps) → fits (sum_of start p) ≡ true
 fits_first start p ps all = fits_later start p ps all zero (omega arith)
 
-adding-none_by : (k : ℕ) (start : Fraction) (ps : List Fraction) → FitsFrom start ps → is_one (sum_from start ps) ≡ true → adding_fault k start ps ≡ None
+adding-none_by : (k : ℕ) (start : Fraction) (ps : List Fraction) → FitsFrom start ps → is_one (sum_from start ps) ≡ true
+    → adding_fault k start ps ≡ None
 adding-none_by k start [] all one = passed (is_one start) (ChanceSum k) None one
 adding-none_by k start (p ∷ ps) all one =
     passed (fits (sum_of start p)) (Scale k) (adding_fault k (sum_of start p) ps) (fits_first start p ps all) ∙ adding-none_by k (sum_of start p) ps (fits_later start p ps all) one
@@ -172,7 +175,8 @@ record OtherTotal (k : ℕ) (start : Fraction) (ps : List Fraction) (fault : Gam
   other : is_one (sum_from start ps) ≡ false
   fault_is : fault ≡ ChanceSum k
 
-adding-some : (k : ℕ) (start : Fraction) (ps : List Fraction) (fault : GameFault) → fits start ≡ true → adding_fault k start ps ≡ Some fault → PastAt k start ps fault ⊎ OtherTotal k start ps fault
+adding-some : (k : ℕ) (start : Fraction) (ps : List Fraction) (fault : GameFault) → fits start ≡ true
+    → adding_fault k start ps ≡ Some fault → PastAt k start ps fault ⊎ OtherTotal k start ps fault
 adding-some k start [] fault within e = elim (passing_some (is_one start) (ChanceSum k) None fault e) [
   | inl here ↦ inr (record { within = at_start start within; other = here.0; fault_is = here.1 })
   | inr later ↦ let no = later.1 in cc
@@ -185,7 +189,8 @@ adding-some k start (p ∷ ps) fault within e = elim (passing_some (fits (sum_of
   ]
 ]
 
-adding-past : (k : ℕ) (start : Fraction) (ps : List Fraction) (n : ℕ) → fits start ≡ true → n ≤ length ps → fits (sum_from start (take n ps)) ≡ false → adding_fault k start ps ≡ Some (Scale k)
+adding-past : (k : ℕ) (start : Fraction) (ps : List Fraction) (n : ℕ) → fits start ≡ true → n ≤ length ps
+    → fits (sum_from start (take n ps)) ≡ false → adding_fault k start ps ≡ Some (Scale k)
 adding-past k start ps zero within h past = let no : true ≡ false = sym within ∙ past in cc
 adding-past k start [] (suc n) within h past = absurd (omega arith)
 adding-past k start (p ∷ ps) (suc n) within h past =
@@ -194,7 +199,8 @@ adding-past k start (p ∷ ps) (suc n) within h past =
       | false ↦ λ here. refl
     ] refl
 
-adding-other : (k : ℕ) (start : Fraction) (ps : List Fraction) → FitsFrom start ps → is_one (sum_from start ps) ≡ false → adding_fault k start ps ≡ Some (ChanceSum k)
+adding-other : (k : ℕ) (start : Fraction) (ps : List Fraction) → FitsFrom start ps → is_one (sum_from start ps) ≡ false
+    → adding_fault k start ps ≡ Some (ChanceSum k)
 adding-other k start [] all other = not_passed (is_one start) (ChanceSum k) None (ChanceSum k) other refl
 adding-other k start (p ∷ ps) all other =
     passed (fits (sum_of start p)) (Scale k) (adding_fault k (sum_of start p) ps) (fits_first start p ps all) ∙ adding-other k (sum_of start p) ps (fits_later start p ps all) other
@@ -221,18 +227,22 @@ is-certain f low e =
     let same : f.den * 1 ≡ 1 * f.den = omega arith in
     same_from_value f certain low certain-lowest (ap (λ n. n *ℤ pos 1) num ∙ pos-*ℤ-pos f.den 1 ∙ ap pos same ∙ sym (pos-*ℤ-pos 1 f.den))
 
-sum_from-lowest : (start : Fraction) (ps : List Fraction) → IsInLowestTerms start → All IsInLowestTerms ps → IsInLowestTerms (sum_from start ps)
+sum_from-lowest : (start : Fraction) (ps : List Fraction) → IsInLowestTerms start → All IsInLowestTerms ps
+    → IsInLowestTerms (sum_from start ps)
 sum_from-lowest start [] low all = low
 sum_from-lowest start (p ∷ ps) low all = sum_from-lowest (sum_of start p) ps (lowest-sum start p low.positive (All-head IsInLowestTerms p ps all).positive) (All-tail IsInLowestTerms p ps all)
 
-total-lowest : (tables : Tables) (set : ℕ) → AreFractions tables → IsInLowestTerms (sum_from nothing (probabilities tables set))
+total-lowest : (tables : Tables) (set : ℕ) → AreFractions tables
+    → IsInLowestTerms (sum_from nothing (probabilities tables set))
 total-lowest tables set h = sum_from-lowest nothing (probabilities tables set) nothing-lowest (at-or (λ row. All IsInLowestTerms row) tables.chance (set - 1) [] h.chance (All-nil IsInLowestTerms))
 
 -- what a test answers at a chance node, and elsewhere
-at_chance : (tables : Tables) (before : List Visit) (v : Visit) → v.node.kind ≡ Chance → sum_fault tables before v ≡ adding_fault (number_after before) nothing (probabilities tables v.node.set)
+at_chance : (tables : Tables) (before : List Visit) (v : Visit) → v.node.kind ≡ Chance
+    → sum_fault tables before v ≡ adding_fault (number_after before) nothing (probabilities tables v.node.set)
 at_chance tables before v chance = ap (λ c. cond c (adding_fault (number_after before) nothing (probabilities tables v.node.set)) None) (kind-is_chance v chance)
 
-elsewhere : (c : Bool) (o : Option GameFault) (fault : GameFault) → cond c o None ≡ Some fault → (c ≡ true) × (o ≡ Some fault)
+elsewhere : (c : Bool) (o : Option GameFault) (fault : GameFault) → cond c o None ≡ Some fault
+    → (c ≡ true) × (o ≡ Some fault)
 elsewhere true o fault e = (refl, e)
 elsewhere false o fault e = cc
 

@@ -73,7 +73,8 @@ abbrev at_number : Forest → Visit → ℕ → Visit
 at_number tree d k = get_or (visits tree) (k - 1) d
 
 -- with perfect recall nothing breaks it
-no_break : (tree : Forest) (d : Visit) (fault : RecallBreak) → HasPerfectRecall tree → IsFirstBreak (at_number tree d) (length (visits tree)) fault → ⊥
+no_break : (tree : Forest) (d : Visit) (fault : RecallBreak) → HasPerfectRecall tree
+    → IsFirstBreak (at_number tree d) (length (visits tree)) fault → ⊥
 no_break tree d fault recall first =
     let breaks = first.breaks in
     let range = breaks.in_range in
@@ -84,7 +85,8 @@ no_break tree d fault recall first =
     breaks.differs (recall (fault.earlier - 1) (fault.node - 1) d (omega arith) (omega arith) (ap is_personal same.0 ∙ breaks.personal) same.0 same.1)
 
 -- there is one first break
-one_break : (tree : Forest) (d : Visit) (x y : RecallBreak) → IsFirstBreak (at_number tree d) (length (visits tree)) x → IsFirstBreak (at_number tree d) (length (visits tree)) y → x ≡ y
+one_break : (tree : Forest) (d : Visit) (x y : RecallBreak) → IsFirstBreak (at_number tree d) (length (visits tree)) x
+    → IsFirstBreak (at_number tree d) (length (visits tree)) y → x ≡ y
 one_break tree d x y p q =
     let one : x.node ≤ y.node = p.first y q.breaks in
     let other : y.node ≤ x.node = q.first x p.breaks in
@@ -112,18 +114,21 @@ a_visit : Visit
 a_visit = record { path = []; node = record { kind = Leaf; set = 0; outcome = 0; children = 0 } }
 
 -- the break that is found is exactly the first
-pub recall_first : (tree : Forest) (fault : RecallBreak) → (recall_break tree ≡ Some fault) ↔ ((d : Visit) → IsFirstBreak (at_number tree d) (length (visits tree)) fault)
+pub recall_first : (tree : Forest) (fault : RecallBreak)
+    → (recall_break tree ≡ Some fault) ↔ ((d : Visit) → IsFirstBreak (at_number tree d) (length (visits tree)) fault)
 recall_first tree fault = (λ e d. break_first tree d fault e, λ first. found (recall_break tree) refl (first a_visit))
   where
     found : (r : Option RecallBreak) → recall_break tree ≡ r → IsFirstBreak (at_number tree a_visit) (length (visits tree)) fault → recall_break tree ≡ Some fault
     found None is first = absurd (no_break tree a_visit fault (recall_of_none tree is) first)
     found (Some other) is first = is ∙ ap Some (one_break tree a_visit other fault (break_first tree a_visit other is) first)
 
-of_recall-some : (r : Option RecallBreak) (fault : GameFault) → of_recall r ≡ Some fault → (found : RecallBreak) × (r ≡ Some found) × (fault ≡ NotRecall found.node found.earlier)
+of_recall-some : (r : Option RecallBreak) (fault : GameFault) → of_recall r ≡ Some fault
+    → (found : RecallBreak) × (r ≡ Some found) × (fault ≡ NotRecall found.node found.earlier)
 of_recall-some None fault e = cc
 of_recall-some (Some found) fault e = (found, refl, cc)
 
-recall_some : (tree : Forest) (fault : GameFault) → (of_recall (recall_break tree) ≡ Some fault) ↔ RecallFails tree fault
+recall_some : (tree : Forest) (fault : GameFault)
+    → (of_recall (recall_break tree) ≡ Some fault) ↔ RecallFails tree fault
 recall_some tree fault = (
   λ e.
       let found = of_recall-some (recall_break tree) fault e in

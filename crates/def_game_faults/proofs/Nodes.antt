@@ -24,7 +24,8 @@ is-nothing f low e =
     let num : f.num ≡ pos 0 = no_size f.num (eqb-true (unsigned_abs f.num) 0 e) in
     same_from_value f nothing low nothing-lowest (ap (λ n. n *ℤ pos 1) num ∙ zero-*ℤ (pos 1) ∙ sym (zero-*ℤ (pos f.den)))
 
-path-positive : (of : Payoffs → Fraction) (tables : Tables) (path : List Move) → ((o : ℕ) → 1 ≤ (of (payoffs_of tables o)).den) → 1 ≤ (path_payoff of tables path).den
+path-positive : (of : Payoffs → Fraction) (tables : Tables) (path : List Move)
+    → ((o : ℕ) → 1 ≤ (of (payoffs_of tables o)).den) → 1 ≤ (path_payoff of tables path).den
 path-positive of tables [] h = omega arith
 path-positive of tables (step ∷ rest) h = (lowest-sum (path_payoff of tables rest) (of (payoffs_of tables step.node.outcome)) (path-positive of tables rest h) (h step.node.outcome)).positive
 
@@ -36,7 +37,8 @@ two-positive : (tables : Tables) → AreFractions tables → (o : ℕ) → 1 ≤
 two-positive tables h zero = omega arith
 two-positive tables h (suc o) = at-or (λ (p : Payoffs). 1 ≤ p.two.den) tables.outcomes o (record { one = nothing; two = nothing }) (λ k d there. (h.outcomes k d there).1.positive) (omega arith)
 
-sum-lowest : (tables : Tables) (v : Visit) → AreFractions tables → IsInLowestTerms (sum_of (payoff_one tables v) (payoff_two tables v))
+sum-lowest : (tables : Tables) (v : Visit) → AreFractions tables
+    → IsInLowestTerms (sum_of (payoff_one tables v) (payoff_two tables v))
 sum-lowest tables v h =
     lowest-sum (payoff_one tables v) (payoff_two tables v)
     (lowest-sum (path_payoff (λ p. p.one) tables v.path) (payoffs_of tables v.node.outcome).one (path-positive (λ p. p.one) tables v.path (one-positive tables h)) (one-positive tables h v.node.outcome)).positive
@@ -51,7 +53,8 @@ not_zero f low differs = elim (is_zero f) as (λ b. is_zero f ≡ b → b ≡ fa
 not-nothing : (f : Fraction) → is_zero f ≡ false → f ≢ nothing
 not-nothing f e same = let no : true ≡ false = sym (ap is_zero same) ∙ e in cc
 
-leaf_none : (tables : Tables) → AreFractions tables → (before : List Visit) (v : Visit) → leaf_fault tables before v ≡ None → LeafPasses tables before v
+leaf_none : (tables : Tables) → AreFractions tables → (before : List Visit) (v : Visit)
+    → leaf_fault tables before v ≡ None → LeafPasses tables before v
 leaf_none tables h before v e =
     let k = Scale (number_after before) in
     let unit : ℕ = unit_so_far tables (before ++ (v ∷ [])) in
@@ -63,7 +66,8 @@ leaf_none tables h before v e =
       unit_fits = leb-true unit most (passing_none (nat_le unit most) k None expects.1).0;
     }
 
-leaf_none_by : (tables : Tables) (before : List Visit) (v : Visit) → LeafPasses tables before v → leaf_fault tables before v ≡ None
+leaf_none_by : (tables : Tables) (before : List Visit) (v : Visit) → LeafPasses tables before v
+    → leaf_fault tables before v ≡ None
 leaf_none_by tables before v pass =
     let k = Scale (number_after before) in
     let unit : ℕ = unit_so_far tables (before ++ (v ∷ [])) in
@@ -71,17 +75,20 @@ leaf_none_by tables before v pass =
     ∙ passed (fits (expected tables v)) k (passing (nat_le unit most) k None) pass.expected_fits ∙ passed (nat_le unit most) k None (le-leb unit most pass.unit_fits)
 
 -- past the tests at every node comes the leaf's
-after_path : (tables : Tables) (before : List Visit) (v : Visit) → PathFits tables v → node_fault tables before v ≡ cond (is_leaf v) (leaf_fault tables before v) None
+after_path : (tables : Tables) (before : List Visit) (v : Visit) → PathFits tables v
+    → node_fault tables before v ≡ cond (is_leaf v) (leaf_fault tables before v) None
 after_path tables before v path =
     let k = Scale (number_after before) in
     let rest : Option GameFault = cond (is_leaf v) (leaf_fault tables before v) None in
     passed (fits (reach tables v.path)) k (passing (fits (payoff_one tables v)) k (passing (fits (payoff_two tables v)) k rest)) path.reach_fits
     ∙ passed (fits (payoff_one tables v)) k (passing (fits (payoff_two tables v)) k rest) path.one_fits ∙ passed (fits (payoff_two tables v)) k rest path.two_fits
 
-at_leaf : (tables : Tables) (before : List Visit) (v : Visit) → PathFits tables v → is_leaf v ≡ true → node_fault tables before v ≡ leaf_fault tables before v
+at_leaf : (tables : Tables) (before : List Visit) (v : Visit) → PathFits tables v → is_leaf v ≡ true
+    → node_fault tables before v ≡ leaf_fault tables before v
 at_leaf tables before v path leaf = after_path tables before v path ∙ ap (λ b. cond b (leaf_fault tables before v) None) leaf
 
-node_none : (tables : Tables) → AreFractions tables → (before : List Visit) (v : Visit) → node_fault tables before v ≡ None → NodePasses tables before v
+node_none : (tables : Tables) → AreFractions tables → (before : List Visit) (v : Visit)
+    → node_fault tables before v ≡ None → NodePasses tables before v
 node_none tables h before v e =
     let k = Scale (number_after before) in
     let rest : Option GameFault = cond (is_leaf v) (leaf_fault tables before v) None in
@@ -93,11 +100,13 @@ node_none tables h before v e =
       leaf = λ leaf. leaf_none tables h before v (ap (λ b. cond b (leaf_fault tables before v) None) (sym leaf) ∙ third.1);
     }
 
-node_none_by : (tables : Tables) (before : List Visit) (v : Visit) (b : Bool) → is_leaf v ≡ b → NodePasses tables before v → node_fault tables before v ≡ None
+node_none_by : (tables : Tables) (before : List Visit) (v : Visit) (b : Bool) → is_leaf v ≡ b
+    → NodePasses tables before v → node_fault tables before v ≡ None
 node_none_by tables before v true leaf pass = at_leaf tables before v pass.path leaf ∙ leaf_none_by tables before v (pass.leaf leaf)
 node_none_by tables before v false inner pass = after_path tables before v pass.path ∙ ap (λ b. cond b (leaf_fault tables before v) None) inner
 
-leaf_some : (tables : Tables) → AreFractions tables → (before : List Visit) (v : Visit) (fault : GameFault) → PathFits tables v → is_leaf v ≡ true → leaf_fault tables before v ≡ Some fault → NodeFails tables before v fault
+leaf_some : (tables : Tables) → AreFractions tables → (before : List Visit) (v : Visit) (fault : GameFault)
+    → PathFits tables v → is_leaf v ≡ true → leaf_fault tables before v ≡ Some fault → NodeFails tables before v fault
 leaf_some tables h before v fault path leaf e =
     let k = Scale (number_after before) in
     let unit : ℕ = unit_so_far tables (before ++ (v ∷ [])) in
@@ -115,11 +124,13 @@ leaf_some tables h before v fault path leaf e =
           ]
     ]
 
-when_leaf : (b : Bool) (o : Option GameFault) (fault : GameFault) → cond b o None ≡ Some fault → (b ≡ true) × (o ≡ Some fault)
+when_leaf : (b : Bool) (o : Option GameFault) (fault : GameFault) → cond b o None ≡ Some fault
+    → (b ≡ true) × (o ≡ Some fault)
 when_leaf true o fault e = (refl, e)
 when_leaf false o fault e = cc
 
-node_some : (tables : Tables) → AreFractions tables → (before : List Visit) (v : Visit) (fault : GameFault) → node_fault tables before v ≡ Some fault → NodeFails tables before v fault
+node_some : (tables : Tables) → AreFractions tables → (before : List Visit) (v : Visit) (fault : GameFault)
+    → node_fault tables before v ≡ Some fault → NodeFails tables before v fault
 node_some tables h before v fault e =
     let k = Scale (number_after before) in
     let rest : Option GameFault = cond (is_leaf v) (leaf_fault tables before v) None in
@@ -136,7 +147,8 @@ node_some tables h before v fault e =
       ]
     ]
 
-node_some_by : (tables : Tables) → AreFractions tables → (before : List Visit) (v : Visit) (fault : GameFault) → NodeFails tables before v fault → node_fault tables before v ≡ Some fault
+node_some_by : (tables : Tables) → AreFractions tables → (before : List Visit) (v : Visit) (fault : GameFault)
+    → NodeFails tables before v fault → node_fault tables before v ≡ Some fault
 node_some_by tables h before v fault (reach_past fails is) =
     let k = Scale (number_after before) in
     let rest : Option GameFault = cond (is_leaf v) (leaf_fault tables before v) None in
@@ -174,7 +186,8 @@ node_some_by tables h before v fault (unit_past path leaf zero_sum within over i
     ∙ not_passed (nat_le unit most) k None fault (lt-leb unit most over) is
 
 -- the test of nodes tells exactly where reach, payoffs or unit pass the limit or payoffs aren't zero-sum
-pub node_walk : (tables : Tables) → AreFractions tables → IsWalk (node_fault tables) (NodePasses tables) (NodeFails tables)
+pub node_walk : (tables : Tables) → AreFractions tables
+    → IsWalk (node_fault tables) (NodePasses tables) (NodeFails tables)
 node_walk tables h = record {
   passes = node_none tables h;
   none = λ before v pass. node_none_by tables before v (is_leaf v) refl pass;
@@ -183,7 +196,8 @@ node_walk tables h = record {
 }
 
 -- the test of the mass tells exactly the leaf at which the mass so far passes the limit
-pub mass_walk : (tables : Tables) (unit : ℕ) → IsWalk (mass_fault tables unit) (MassPasses tables unit) (MassFails tables unit)
+pub mass_walk : (tables : Tables) (unit : ℕ)
+    → IsWalk (mass_fault tables unit) (MassPasses tables unit) (MassFails tables unit)
 mass_walk tables unit = record {
   passes = λ before v e leaf.
       let mass : ℕ = mass_so_far tables unit (before ++ (v ∷ [])) in

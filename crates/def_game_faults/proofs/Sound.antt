@@ -16,7 +16,8 @@ use Rattle.def_game_faults.proofs.Walks.{each-all}
 use Rattle.def_game_faults.proofs.First.{game_first, number_first}
 
 -- what holds of each node that is a leaf holds of each leaf
-leaves-all : (P : Visit → Type 0) (nodes : List Visit) → All (λ v. is_leaf v ≡ true → P v) nodes → All P (filter is_leaf nodes)
+leaves-all : (P : Visit → Type 0) (nodes : List Visit) → All (λ v. is_leaf v ≡ true → P v) nodes
+    → All P (filter is_leaf nodes)
 leaves-all P [] h = All-nil P
 leaves-all P (v ∷ rest) h =
     let Holds : Visit → Type 0 = λ w. is_leaf w ≡ true → P w in
@@ -27,7 +28,9 @@ leaves-all P (v ∷ rest) h =
     ] refl
 
 -- what only grows at leaves and is within the limit at each of them is so at the end
-within_along : (f : List Visit → ℕ) → ((before : List Visit) (v : Visit) → is_leaf v ≡ false → f (before ++ (v ∷ [])) ≡ f before) → (done rest : List Visit) → f done ≤ most →
+within_along : (f : List Visit → ℕ)
+    → ((before : List Visit) (v : Visit) → is_leaf v ≡ false → f (before ++ (v ∷ [])) ≡ f before)
+    → (done rest : List Visit) → f done ≤ most →
     ((before : List Visit) (v : Visit) (after : List Visit) → rest ≡ before ++ (v ∷ after) → is_leaf v ≡ true → f ((done ++ before) ++ (v ∷ [])) ≤ most) → f (done ++ rest) ≤ most
 within_along f inner done [] start each = subst (λ d. f d ≤ most) (sym (append-nil done)) start
 within_along f inner done (v ∷ rest) start each =
@@ -39,7 +42,8 @@ within_along f inner done (v ∷ rest) start each =
     (within_along f inner (done ++ (v ∷ [])) rest next
     (λ before w after p leaf. subst (λ d. f (d ++ (w ∷ [])) ≤ most) (sym (append_assoc done (v ∷ []) before)) (each (v ∷ before) w after (ap (λ xs. v ∷ xs) p) leaf)))
 
-pub passing_numbers : (tables : Tables) (tree : Forest) → AreFractions tables → PassNumbers tables tree → HasSoundNumbers tables tree
+pub passing_numbers : (tables : Tables) (tree : Forest) → AreFractions tables → PassNumbers tables tree
+    → HasSoundNumbers tables tree
 passing_numbers tables tree h numbers =
     let nodes : List Visit = visits tree in
     let unit : ℕ = game_unit tables tree in
@@ -54,9 +58,11 @@ passing_numbers tables tree h numbers =
     }
 
 -- numbers without a fault are probabilities and zero-sum payoffs, with unit and mass within the limit
-pub sound_numbers : (tables : Tables) (tree : Forest) → AreFractions tables → number_fault tables tree ≡ None → HasSoundNumbers tables tree
+pub sound_numbers : (tables : Tables) (tree : Forest) → AreFractions tables → number_fault tables tree ≡ None
+    → HasSoundNumbers tables tree
 sound_numbers tables tree h e = passing_numbers tables tree h ((number_first tables tree h).none.0 e)
 
 -- a game without a fault has sound numbers and perfect recall
-pub sound : (tables : Tables) (tree : Forest) → AreFractions tables → game_fault tables tree ≡ None → IsSound tables tree
+pub sound : (tables : Tables) (tree : Forest) → AreFractions tables → game_fault tables tree ≡ None
+    → IsSound tables tree
 sound tables tree h e = let pass = (game_first tables tree h).none.0 e in record { numbers = passing_numbers tables tree h pass.0; recall = pass.1 }

@@ -13,17 +13,20 @@ or_none None b e = (refl, e)
 or_none (Some fault) b e = cc
 
 -- of two tests one after the other the fault is the first's, or the second's where the first has none
-pub or_some : (a b : Option GameFault) (fault : GameFault) → or_else a b ≡ Some fault → (a ≡ Some fault) ⊎ ((a ≡ None) × (b ≡ Some fault))
+pub or_some : (a b : Option GameFault) (fault : GameFault) → or_else a b ≡ Some fault
+    → (a ≡ Some fault) ⊎ ((a ≡ None) × (b ≡ Some fault))
 or_some None b fault e = inr (refl, e)
 or_some (Some first) b fault e = inl e
 
 -- no fault: the test is passed, and nothing comes later
-pub passing_none : (b : Bool) (first : GameFault) (later : Option GameFault) → passing b first later ≡ None → (b ≡ true) × (later ≡ None)
+pub passing_none : (b : Bool) (first : GameFault) (later : Option GameFault) → passing b first later ≡ None
+    → (b ≡ true) × (later ≡ None)
 passing_none true first later e = (refl, e)
 passing_none false first later e = cc
 
 -- a fault: that of the test, or a later one
-pub passing_some : (b : Bool) (first : GameFault) (later : Option GameFault) (fault : GameFault) → passing b first later ≡ Some fault →
+pub passing_some : (b : Bool) (first : GameFault) (later : Option GameFault) (fault : GameFault)
+    → passing b first later ≡ Some fault →
     ((b ≡ false) × (fault ≡ first)) ⊎ ((b ≡ true) × (later ≡ Some fault))
 passing_some true first later fault e = inr (refl, e)
 passing_some false first later fault e = inl (refl, cc)
@@ -33,7 +36,8 @@ pub passed : (b : Bool) (first : GameFault) (later : Option GameFault) → b ≡
 passed b first later e = ap (λ t. passing t first later) e
 
 -- a test that is not passed gives its own fault
-pub not_passed : (b : Bool) (first : GameFault) (later : Option GameFault) (fault : GameFault) → b ≡ false → fault ≡ first → passing b first later ≡ Some fault
+pub not_passed : (b : Bool) (first : GameFault) (later : Option GameFault) (fault : GameFault) → b ≡ false
+    → fault ≡ first → passing b first later ≡ Some fault
 not_passed b first later fault e same = ap (λ t. passing t first later) e ∙ ap Some (sym same)
 
 pub none_at : (test : NodeTest) (done rest : List Visit) → found_by test done rest ≡ None →
@@ -51,7 +55,9 @@ none_at test done (w ∷ rest) e (b ∷ before) v after p =
     ap (λ x. test (done ++ (x ∷ before)) v) (sym head) ∙ ap (λ d. test d v) (sym (append_assoc done (w ∷ []) before))
     ∙ none_at test (done ++ (w ∷ [])) rest parts.1 before v after tail
 
-pub none_by : (test : NodeTest) (done rest : List Visit) → ((before : List Visit) (v : Visit) (after : List Visit) → rest ≡ before ++ (v ∷ after) → test (done ++ before) v ≡ None) →
+pub none_by : (test : NodeTest) (done rest : List Visit)
+    → ((before : List Visit) (v : Visit) (after : List Visit) → rest ≡ before ++ (v ∷ after) → test (done ++ before) v ≡ None)
+    →
     found_by test done rest ≡ None
 none_by test done [] h = refl
 none_by test done (w ∷ rest) h =
@@ -69,7 +75,8 @@ pub record FoundAt (test : NodeTest) (done rest : List Visit) (fault : GameFault
   pub none : found_by test done before ≡ None
   pub is : test (done ++ before) node ≡ Some fault
 
-pub some_at : (test : NodeTest) (done rest : List Visit) (fault : GameFault) → found_by test done rest ≡ Some fault → FoundAt test done rest fault
+pub some_at : (test : NodeTest) (done rest : List Visit) (fault : GameFault) → found_by test done rest ≡ Some fault
+    → FoundAt test done rest fault
 some_at test done [] fault e = cc
 some_at test done (w ∷ rest) fault e =
     let further : List Visit = done ++ (w ∷ []) in
@@ -87,7 +94,8 @@ some_at test done (w ∷ rest) fault e =
           }
     ]
 
-pub some_by : (test : NodeTest) (done before : List Visit) (v : Visit) (after : List Visit) (fault : GameFault) → found_by test done before ≡ None → test (done ++ before) v ≡ Some fault →
+pub some_by : (test : NodeTest) (done before : List Visit) (v : Visit) (after : List Visit) (fault : GameFault)
+    → found_by test done before ≡ None → test (done ++ before) v ≡ Some fault →
     found_by test done (before ++ (v ∷ after)) ≡ Some fault
 some_by test done [] v after fault none e =
     let here : test done v ≡ Some fault = ap (λ d. test d v) (sym (append-nil done)) ∙ e in
@@ -102,11 +110,13 @@ some_by test done (b ∷ before) v after fault none e =
 pub record IsWalk (test : NodeTest) (Passes : List Visit → Visit → Type 0) (Fails : List Visit → Visit → GameFault → Type 0) : Type 0 where
   pub passes : (before : List Visit) (v : Visit) → test before v ≡ None → Passes before v
   pub none : (before : List Visit) (v : Visit) → Passes before v → test before v ≡ None
-  pub fails : (before : List Visit) (v : Visit) (fault : GameFault) → EachPasses Passes before → test before v ≡ Some fault → Fails before v fault
+  pub fails : (before : List Visit) (v : Visit) (fault : GameFault) → EachPasses Passes before
+      → test before v ≡ Some fault → Fails before v fault
   pub some : (before : List Visit) (v : Visit) (fault : GameFault) → Fails before v fault → test before v ≡ Some fault
 
 -- a walk finds no fault exactly where each node passes
-pub none_iff : (test : NodeTest) (Passes : List Visit → Visit → Type 0) (Fails : List Visit → Visit → GameFault → Type 0) → IsWalk test Passes Fails → (nodes : List Visit) →
+pub none_iff : (test : NodeTest) (Passes : List Visit → Visit → Type 0) (Fails : List Visit → Visit → GameFault → Type 0)
+    → IsWalk test Passes Fails → (nodes : List Visit) →
     (found_by test [] nodes ≡ None) ↔ EachPasses Passes nodes
 none_iff test Passes Fails walk nodes = (
   λ e before v after p. walk.passes before v (none_at test [] nodes e before v after p),
@@ -114,7 +124,8 @@ none_iff test Passes Fails walk nodes = (
 )
 
 -- the fault that a walk finds is exactly that of the first node that fails
-pub some_iff : (test : NodeTest) (Passes : List Visit → Visit → Type 0) (Fails : List Visit → Visit → GameFault → Type 0) → IsWalk test Passes Fails → (nodes : List Visit) (fault : GameFault) →
+pub some_iff : (test : NodeTest) (Passes : List Visit → Visit → Type 0) (Fails : List Visit → Visit → GameFault → Type 0)
+    → IsWalk test Passes Fails → (nodes : List Visit) (fault : GameFault) →
     (found_by test [] nodes ≡ Some fault) ↔ FailsFirst Passes Fails nodes fault
 some_iff test Passes Fails walk nodes fault = (
   λ e.

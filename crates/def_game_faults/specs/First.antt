@@ -60,9 +60,11 @@ abbrev pub SumsPass : Tables → List Visit → Visit → Type 0
 SumsPass tables before node = node.node.kind ≡ Chance → RunningSumsFit (probabilities tables node.node.set) × AddUpToOne (probabilities tables node.node.set)
 
 pub data SumsFail (tables : Tables) (before : List Visit) (node : Visit) (fault : GameFault) : Type 0 where
-  running_past : OpensChanceSet before node → (n : ℕ) → n ≤ length (probabilities tables node.node.set) → fits (running_sum n (probabilities tables node.node.set)) ≡ false
+  running_past : OpensChanceSet before node → (n : ℕ) → n ≤ length (probabilities tables node.node.set)
+      → fits (running_sum n (probabilities tables node.node.set)) ≡ false
       → fault ≡ Scale (number_after before) → SumsFail tables before node fault
-  other_total : OpensChanceSet before node → RunningSumsFit (probabilities tables node.node.set) → sum_from nothing (probabilities tables node.node.set) ≢ certain
+  other_total : OpensChanceSet before node → RunningSumsFit (probabilities tables node.node.set)
+      → sum_from nothing (probabilities tables node.node.set) ≢ certain
       → fault ≡ ChanceSum (number_after before) → SumsFail tables before node fault
 
 -- The third walk: reach and payoffs are within the limit at each node; at each leaf the payoffs add up to 0, and reach times payoff and the unit so far are within the limit.
@@ -86,15 +88,21 @@ pub record NodePasses (tables : Tables) (before : List Visit) (node : Visit) : T
 
 -- the first of these that holds
 pub data NodeFails (tables : Tables) (before : List Visit) (node : Visit) (fault : GameFault) : Type 0 where
-  reach_past : fits (reach tables node.path) ≡ false → fault ≡ Scale (number_after before) → NodeFails tables before node fault
-  one_past : fits (reach tables node.path) ≡ true → fits (payoff_one tables node) ≡ false → fault ≡ Scale (number_after before) → NodeFails tables before node fault
-  two_past : fits (reach tables node.path) ≡ true → fits (payoff_one tables node) ≡ true → fits (payoff_two tables node) ≡ false
+  reach_past : fits (reach tables node.path) ≡ false → fault ≡ Scale (number_after before)
+      → NodeFails tables before node fault
+  one_past : fits (reach tables node.path) ≡ true → fits (payoff_one tables node) ≡ false
       → fault ≡ Scale (number_after before) → NodeFails tables before node fault
-  not_zero_sum : PathFits tables node → is_leaf node ≡ true → sum_of (payoff_one tables node) (payoff_two tables node) ≢ nothing
+  two_past : fits (reach tables node.path) ≡ true → fits (payoff_one tables node) ≡ true
+      → fits (payoff_two tables node) ≡ false
+      → fault ≡ Scale (number_after before) → NodeFails tables before node fault
+  not_zero_sum : PathFits tables node → is_leaf node ≡ true
+      → sum_of (payoff_one tables node) (payoff_two tables node) ≢ nothing
       → fault ≡ NotZeroSum (number_after before) → NodeFails tables before node fault
-  expected_past : PathFits tables node → is_leaf node ≡ true → PayoffsAreZeroSum tables node → fits (expected tables node) ≡ false
+  expected_past : PathFits tables node → is_leaf node ≡ true → PayoffsAreZeroSum tables node
+      → fits (expected tables node) ≡ false
       → fault ≡ Scale (number_after before) → NodeFails tables before node fault
-  unit_past : PathFits tables node → is_leaf node ≡ true → PayoffsAreZeroSum tables node → fits (expected tables node) ≡ true → most < unit_so_far tables (before ++ (node ∷ []))
+  unit_past : PathFits tables node → is_leaf node ≡ true → PayoffsAreZeroSum tables node
+      → fits (expected tables node) ≡ true → most < unit_so_far tables (before ++ (node ∷ []))
       → fault ≡ Scale (number_after before) → NodeFails tables before node fault
 
 -- The fourth walk: at each leaf the mass so far, in the game's unit, is within the limit.
@@ -116,11 +124,14 @@ pub record PassNumbers (tables : Tables) (tree : Forest) : Type 0 where
 
 pub data FirstNumberFault (tables : Tables) (tree : Forest) (fault : GameFault) : Type 0 where
   in_signs : FailsFirst (SignsPass tables) (SignsFail tables) (visits tree) fault → FirstNumberFault tables tree fault
-  in_sums : EachPasses (SignsPass tables) (visits tree) → FailsFirst (SumsPass tables) (SumsFail tables) (visits tree) fault → FirstNumberFault tables tree fault
+  in_sums : EachPasses (SignsPass tables) (visits tree)
+      → FailsFirst (SumsPass tables) (SumsFail tables) (visits tree) fault → FirstNumberFault tables tree fault
   in_nodes : EachPasses (SignsPass tables) (visits tree) → EachPasses (SumsPass tables) (visits tree)
       → FailsFirst (NodePasses tables) (NodeFails tables) (visits tree) fault → FirstNumberFault tables tree fault
-  in_masses : EachPasses (SignsPass tables) (visits tree) → EachPasses (SumsPass tables) (visits tree) → EachPasses (NodePasses tables) (visits tree)
-      → FailsFirst (MassPasses tables (game_unit tables tree)) (MassFails tables (game_unit tables tree)) (visits tree) fault → FirstNumberFault tables tree fault
+  in_masses : EachPasses (SignsPass tables) (visits tree) → EachPasses (SumsPass tables) (visits tree)
+      → EachPasses (NodePasses tables) (visits tree)
+      → FailsFirst (MassPasses tables (game_unit tables tree)) (MassFails tables (game_unit tables tree)) (visits tree) fault
+      → FirstNumberFault tables tree fault
 
 -- The last walk: recall.
 

@@ -39,7 +39,8 @@ pub record HasSoundNumbers (tables : Tables) (tree : Forest) : Type 0 where
   pub mass_within : game_mass tables tree ≤ most
 
 abbrev pub NoNumberFaultIsSound : Type 0
-NoNumberFaultIsSound = (tables : Tables) (tree : Forest) → AreFractions tables → number_fault tables tree ≡ None → HasSoundNumbers tables tree
+NoNumberFaultIsSound = (tables : Tables) (tree : Forest) → AreFractions tables → number_fault tables tree ≡ None
+    → HasSoundNumbers tables tree
 
 -- and all remember their choices
 pub record IsSound (tables : Tables) (tree : Forest) : Type 0 where
@@ -47,4 +48,5 @@ pub record IsSound (tables : Tables) (tree : Forest) : Type 0 where
   pub recall : HasPerfectRecall tree
 
 abbrev pub NoFaultIsSound : Type 0
-NoFaultIsSound = (tables : Tables) (tree : Forest) → AreFractions tables → game_fault tables tree ≡ None → IsSound tables tree
+NoFaultIsSound = (tables : Tables) (tree : Forest) → AreFractions tables → game_fault tables tree ≡ None
+    → IsSound tables tree

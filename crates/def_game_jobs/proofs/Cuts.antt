@@ -55,7 +55,8 @@ AreSingle-subtrees bare = tt
 AreSingle-subtrees (grown node below beside) = AreSingle-each_tree below
 
 -- below a chance node are all its leaves
-leaves-subtrees : (job : Forest) → IsSingle job → is_chance_job job ≡ true → flat_map leaves_in (subtrees job) ≡ leaves_in job
+leaves-subtrees : (job : Forest) → IsSingle job → is_chance_job job ≡ true
+    → flat_map leaves_in (subtrees job) ≡ leaves_in job
 leaves-subtrees bare h e = refl
 leaves-subtrees (grown node below beside) h e =
     leaves-each_tree below
@@ -84,7 +85,8 @@ module _ (limit : ℕ) where
         | false ↦ (h.0, AreSingle-cut_each count rest h.1)
       ]
 
-  leaves-cut_each : (count : ℕ) (jobs : List Forest) → AreSingle jobs → flat_map leaves_in (cut_each limit count jobs) ≡ flat_map leaves_in jobs
+  leaves-cut_each : (count : ℕ) (jobs : List Forest) → AreSingle jobs
+      → flat_map leaves_in (cut_each limit count jobs) ≡ flat_map leaves_in jobs
   leaves-cut_each count [] h = refl
   leaves-cut_each count (job ∷ rest) h =
       elim (is_cut limit count job) as (λ b. is_cut limit count job ≡ b →
@@ -95,12 +97,14 @@ module _ (limit : ℕ) where
         | false ↦ λ cut. ap (λ xs. leaves_in job ++ xs) (leaves-cut_each count rest h.1)
       ] refl
 
-  leaves-passes : (n : ℕ) (jobs : List Forest) → AreSingle jobs → flat_map leaves_in (passes limit n jobs) ≡ flat_map leaves_in jobs
+  leaves-passes : (n : ℕ) (jobs : List Forest) → AreSingle jobs
+      → flat_map leaves_in (passes limit n jobs) ≡ flat_map leaves_in jobs
   leaves-passes zero jobs h = refl
   leaves-passes (suc n) jobs h = leaves-passes n (pass limit jobs) (AreSingle-cut_each (length jobs) jobs h) ∙ leaves-cut_each (length jobs) jobs h
 
   -- so many jobs have been passed over, and with those that come there are `count`
-  length-cut_each : (jobs : List Forest) (before count : ℕ) → count ≡ before + length jobs → count ≤ limit → before + length (cut_each limit count jobs) ≤ limit
+  length-cut_each : (jobs : List Forest) (before count : ℕ) → count ≡ before + length jobs → count ≤ limit
+      → before + length (cut_each limit count jobs) ≤ limit
   length-cut_each [] before count e h = omega arith
   length-cut_each (job ∷ rest) before count e h =
       elim (is_cut limit count job) as (λ b. is_cut limit count job ≡ b → before + length (cond b (subtrees job ++ cut_each limit (count_after count job) rest) (job ∷ cut_each limit count rest)) ≤ limit) [

@@ -53,7 +53,8 @@ module _ (limit : ℕ) where
       ]
 
   -- the first of the jobs
-  becomes_first : (done count : ℕ) (job : Forest) (rest : List Forest) → count ≡ done + suc (length rest) → (b : Bool) → is_cut limit count job ≡ b → (parts : List (List Forest)) (part : List Forest) →
+  becomes_first : (done count : ℕ) (job : Forest) (rest : List Forest) → count ≡ done + suc (length rest) → (b : Bool)
+      → is_cut limit count job ≡ b → (parts : List (List Forest)) (part : List Forest) →
       part ≡ cond b (subtrees job) (job ∷ []) → Becomes limit done (job ∷ rest) (part ∷ parts) 0 job part
   becomes_first done count job rest many true is parts part e = record {
     cut = λ chance room. e;
@@ -72,7 +73,8 @@ module _ (limit : ℕ) where
   }
 
   -- one of the later jobs, behind what came of the first
-  becomes_later : (done : ℕ) (job : Forest) (rest : List Forest) (part : List Forest) (parts : List (List Forest)) (place : ℕ) (later : Forest) (later_part : List Forest) →
+  becomes_later : (done : ℕ) (job : Forest) (rest : List Forest) (part : List Forest) (parts : List (List Forest)) (place : ℕ) (later : Forest) (later_part : List Forest)
+      →
       Becomes limit (done + length part) rest parts place later later_part → Becomes limit done (job ∷ rest) (part ∷ parts) (suc place) later later_part
   becomes_later done job rest part parts place later later_part h =
       let many : length (part ++ together (take place parts)) ≡ length part + length (together (take place parts)) = length-append part (together (take place parts)) in
@@ -82,7 +84,8 @@ module _ (limit : ℕ) where
         kept = λ no_room. h.kept (λ chance. subst (λ n. limit < n) (sym same) (no_room chance));
       }
 
-  becomes : (done count : ℕ) (jobs : List Forest) → count ≡ done + length jobs → (place : ℕ) (none : Forest) → place < length jobs →
+  becomes : (done count : ℕ) (jobs : List Forest) → count ≡ done + length jobs → (place : ℕ) (none : Forest)
+      → place < length jobs →
       Becomes limit done jobs (parts_of limit count jobs) place (get_or jobs place none) (get_or (parts_of limit count jobs) place [])
   becomes done count [] many place none there = absurd (omega arith)
   becomes done count (job ∷ rest) many zero none there =
@@ -195,7 +198,8 @@ module _ (limit : ℕ) where
   no_room : (count : ℕ) (job : Forest) → Stays count job → is_chance_job job ≡ true → limit < count_after count job
   no_room count job stay chance = leb-false (count_after count job) limit (sym (ap (λ b. b && nat_le (count_after count job) limit) chance) ∙ stay)
 
-  stays_without_room : (count : ℕ) (job : Forest) → (is_chance_job job ≡ true → limit < count_after count job) → Stays count job
+  stays_without_room : (count : ℕ) (job : Forest) → (is_chance_job job ≡ true → limit < count_after count job)
+      → Stays count job
   stays_without_room count job none =
       elim (is_chance_job job) as (λ b. is_chance_job job ≡ b → b && nat_le (count_after count job) limit ≡ false) [
         | true ↦ λ chance. lt-leb (count_after count job) limit (none chance)
@@ -211,7 +215,8 @@ module _ (limit : ℕ) where
   keeps_without_room : (jobs : List Forest) → NoRoomToCut limit jobs → pass limit jobs ≡ jobs
   keeps_without_room jobs none = unchanged (length jobs) jobs (λ k d there. stays_without_room (length jobs) (get_or jobs k d) (none k d there))
 
-  pub only_cuts_change : (jobs : List Forest) → (pass limit jobs ≡ jobs → NoRoomToCut limit jobs) × (NoRoomToCut limit jobs → pass limit jobs ≡ jobs)
+  pub only_cuts_change : (jobs : List Forest)
+      → (pass limit jobs ≡ jobs → NoRoomToCut limit jobs) × (NoRoomToCut limit jobs → pass limit jobs ≡ jobs)
   only_cuts_change jobs = (λ e. elim (room_or_changes jobs) [ inl none ↦ none | inr changes ↦ absurd (changes e) ], keeps_without_room jobs)
 
   abbrev EachChanges : List Forest → ℕ → Type 0
@@ -220,7 +225,8 @@ module _ (limit : ℕ) where
   one_more_pass : (jobs : List Forest) (n : ℕ) → passes limit (n + 1) jobs ≡ pass limit (passes limit n jobs)
   one_more_pass jobs n = let next : n + 1 ≡ suc n = omega arith in ap (λ m. passes limit m jobs) next ∙ passes-suc limit n jobs
 
-  after_no_room : (jobs : List Forest) (n : ℕ) → NoRoomToCut limit (passes limit n jobs) → NoRoomToCut limit (passes limit (suc n) jobs)
+  after_no_room : (jobs : List Forest) (n : ℕ) → NoRoomToCut limit (passes limit n jobs)
+      → NoRoomToCut limit (passes limit (suc n) jobs)
   after_no_room jobs n none = subst (NoRoomToCut limit) (sym (passes-suc limit n jobs ∙ keeps_without_room (passes limit n jobs) none)) none
 
   pub until_no_room : (jobs : List Forest) (n : ℕ) → NoRoomToCut limit (passes limit n jobs) ⊎ EachChanges jobs n

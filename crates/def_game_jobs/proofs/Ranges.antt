@@ -11,7 +11,8 @@ use Rattle.def_game_jobs.specs.Jobs.{jobs_of, leaf_counts, leaves_in}
 use Rattle.def_game_jobs.proofs.Cuts.{leaves-jobs_of}
 use Rattle.def_game_jobs.specs.Ranges.{LeafRange, leaves_of, ranges_from, job_ranges, RangesHaveTheirJobs}
 
-leaves-ranges_from : (first : ℕ) (counts : List ℕ) → flat_map leaves_of (ranges_from first counts) ≡ range_with_len first (sum counts)
+leaves-ranges_from : (first : ℕ) (counts : List ℕ)
+    → flat_map leaves_of (ranges_from first counts) ≡ range_with_len first (sum counts)
 leaves-ranges_from first [] = refl
 leaves-ranges_from first (count ∷ rest) =
     ap (λ xs. range_with_len first count ++ xs) (leaves-ranges_from (first + count) rest) ∙ sym (range-append first count (sum rest)) ∙ ap (range_with_len first) (sym (sum_by-cons (λ n. n) count rest))
@@ -27,13 +28,15 @@ sum-counts (job ∷ rest) =
     ∙ sym (length-append (leaves_in job) (flat_map leaves_in rest))
 
 -- the ranges of the jobs, one after another, are the numbers of all leaves
-pub partition : (tree : Forest) → tree_count tree ≡ 1 → flat_map leaves_of (job_ranges tree) ≡ range_with_len 0 (leaf_count (prefix tree))
+pub partition : (tree : Forest) → tree_count tree ≡ 1
+    → flat_map leaves_of (job_ranges tree) ≡ range_with_len 0 (leaf_count (prefix tree))
 partition tree one =
     leaves-ranges_from 0 (leaf_counts tree)
     ∙ ap (range_with_len 0) (sum-counts (jobs_of tree) ∙ ap length (leaves-jobs_of tree one) ∙ length-leaves_in tree)
 
 -- behind these leaves, the leaves at a job's range are its own
-leaves_at : (before : List Node) (jobs : List Forest) (first k : ℕ) (range : LeafRange) (job : Forest) → first ≡ length before → k < length jobs →
+leaves_at : (before : List Node) (jobs : List Forest) (first k : ℕ) (range : LeafRange) (job : Forest)
+    → first ≡ length before → k < length jobs →
     take (get_or (ranges_from first (map (λ j. leaf_count (prefix j)) jobs)) k range).count (drop (get_or (ranges_from first (map (λ j. leaf_count (prefix j)) jobs)) k range).first (before ++ flat_map leaves_in jobs))
     ≡ leaves_in (get_or jobs k job)
 leaves_at before [] first k range job at there = absurd (omega arith)

@@ -90,7 +90,8 @@ pub record IsPass (limit : ℕ) (jobs after : List Forest) (parts : List (List F
       BecomesPart limit jobs parts place (slice_index_or jobs place none) (slice_index_or parts place [])
 
 abbrev pub PassesReplace : Type 0
-PassesReplace = (limit : ℕ) (jobs : List Forest) → (parts : List (List Forest)) × IsPass limit jobs (pass limit jobs) parts
+PassesReplace = (limit : ℕ) (jobs : List Forest)
+    → (parts : List (List Forest)) × IsPass limit jobs (pass limit jobs) parts
 
 -- the jobs of a tree: the whole tree, after 64 passes within 4,096 jobs
 pub record JobsComeOfPasses : Type 0 where

@@ -30,6 +30,7 @@ JobsPartition = (tree : Forest) → tree_count tree ≡ 1 → Partitions (job_ra
 
 -- the leaves at a job's range are the job's own
 abbrev pub RangesHaveTheirJobs : Type 0
-RangesHaveTheirJobs = (tree : Forest) → tree_count tree ≡ 1 → (k : ℕ) (range : LeafRange) (job : Forest) → k < length (jobs_of tree) →
+RangesHaveTheirJobs = (tree : Forest) → tree_count tree ≡ 1 → (k : ℕ) (range : LeafRange) (job : Forest)
+    → k < length (jobs_of tree) →
     let at = slice_index_or (job_ranges tree) k range in
     take at.count (drop at.first (leaves_in tree)) ≡ leaves_in (slice_index_or (jobs_of tree) k job)

@@ -14,20 +14,24 @@ use Rattle.def_game_numbers.specs.Numbers.{GameWeights, as_file_fault, file_faul
 use Rattle.def_game_numbers.specs.Laws.{IsRefusedWithTheFirst, StandsOnAnswers}
 
 -- what is refused is refused with the fault that was found, as a fault of the file
-pub refused : {A : Type 0} (o : Option GameFault) (answer : A) (fault : FileFault) → refused_or o answer ≡ Err fault → (found : GameFault) × (o ≡ Some found) × (fault ≡ file_fault found)
+pub refused : {A : Type 0} (o : Option GameFault) (answer : A) (fault : FileFault) → refused_or o answer ≡ Err fault
+    → (found : GameFault) × (o ≡ Some found) × (fault ≡ file_fault found)
 refused None answer fault e = cc
 refused (Some found) answer fault e = (found, refl, cc)
 
 -- what is accepted has no fault, and is the answer that was at hand
-pub accepted : {A : Type 0} (o : Option GameFault) (answer given : A) → refused_or o answer ≡ Ok given → (o ≡ None) × (answer ≡ given)
+pub accepted : {A : Type 0} (o : Option GameFault) (answer given : A) → refused_or o answer ≡ Ok given
+    → (o ≡ None) × (answer ≡ given)
 accepted None answer given e = (refl, cc)
 accepted (Some found) answer given e = cc
 
-broken_by : (o : Option RecallBreak) (sets : TreeSets) (broken : RecallBreak) → unless_broken o sets ≡ Err broken → o ≡ Some broken
+broken_by : (o : Option RecallBreak) (sets : TreeSets) (broken : RecallBreak) → unless_broken o sets ≡ Err broken
+    → o ≡ Some broken
 broken_by None sets broken e = cc
 broken_by (Some found) sets broken e = cc
 
-unbroken : (o : Option RecallBreak) (sets given : TreeSets) → unless_broken o sets ≡ Ok given → (o ≡ None) × (sets ≡ given)
+unbroken : (o : Option RecallBreak) (sets given : TreeSets) → unless_broken o sets ≡ Ok given
+    → (o ≡ None) × (sets ≡ given)
 unbroken None sets given e = (refl, cc)
 unbroken (Some found) sets given e = cc
 
@@ -48,7 +52,8 @@ refused_first game =
     }
 
 -- the form made of both answers is the game's: the sets that were built, and the mass that was weighed
-pub stands_on_answers : (game : GameFile) (answer : GameWeights) (sets : TreeSets) → weigh game ≡ Ok answer → sets_or_break game.tree ≡ Ok sets → StandsOnAnswers game answer sets
+pub stands_on_answers : (game : GameFile) (answer : GameWeights) (sets : TreeSets) → weigh game ≡ Ok answer
+    → sets_or_break game.tree ≡ Ok sets → StandsOnAnswers game answer sets
 stands_on_answers game answer sets e f =
     let tree : Forest = game.tree in
     let given : weights_of_game (tables_of game) tree ≡ answer = (accepted (number_fault (tables_of game) tree) (weights_of_game (tables_of game) tree) answer e).1 in

@@ -22,7 +22,8 @@ use Rattle.def_game_numbers.specs.Numbers.{GameWeights, refused_or, tables_of, w
 use Rattle.def_game_numbers.specs.Laws.{AreWeights, FitTheLimit, IsWeighed}
 use Rattle.def_game_numbers.proofs.Refusals.{accepted, refused}
 
-are_weights : (tables : Tables) (tree : Forest) → AreFractions tables → AreWeights tables tree (weights_of_game tables tree)
+are_weights : (tables : Tables) (tree : Forest) → AreFractions tables
+    → AreWeights tables tree (weights_of_game tables tree)
 are_weights tables tree h = record {
   multiple = den-divides (all_expected tables tree) (all-lowest tables tree h);
   least = λ m all. unit-divides (all_expected tables tree) m (all-lowest tables tree h) all;
@@ -31,7 +32,8 @@ are_weights tables tree h = record {
 }
 
 -- a leaf has one weight
-one_weight : (tables : Tables) (unit : ℕ) (vs : List Visit) (xs ys : List ℤ) → AllZip (IsWeightOf tables unit) vs xs → AllZip (IsWeightOf tables unit) vs ys → xs ≡ ys
+one_weight : (tables : Tables) (unit : ℕ) (vs : List Visit) (xs ys : List ℤ) → AllZip (IsWeightOf tables unit) vs xs
+    → AllZip (IsWeightOf tables unit) vs ys → xs ≡ ys
 one_weight tables unit [] [] [] p q = refl
 one_weight tables unit [] [] (y ∷ ys) p q = absurd q
 one_weight tables unit [] (x ∷ xs) ys p q = absurd p
@@ -41,7 +43,8 @@ one_weight tables unit (v ∷ vs) (x ∷ xs) (y ∷ ys) p q =
     let same : x ≡ y = ap (λ (f : Fraction). f.num) (p.0 ∙ sym q.0) in
     ap (λ w. w ∷ xs) same ∙ ap (λ ws. y ∷ ws) (one_weight tables unit vs xs ys p.1 q.1)
 
-only_weights : (tables : Tables) (tree : Forest) (a b : GameWeights) → AreWeights tables tree a → AreWeights tables tree b → a ≡ b
+only_weights : (tables : Tables) (tree : Forest) (a b : GameWeights) → AreWeights tables tree a
+    → AreWeights tables tree b → a ≡ b
 only_weights tables tree a b p q =
     let units : a.unit ≡ b.unit = dvd_antisymm (p.least b.unit q.multiple) (q.least a.unit p.multiple) in
     let leaves : a.leaves ≡ b.leaves = one_weight tables b.unit (leaf_visits tree) a.leaves b.leaves (subst (λ u. AllZip (IsWeightOf tables u) (leaf_visits tree) a.leaves) units p.leaves) q.leaves in
@@ -75,7 +78,8 @@ each_in_sum (w ∷ ws) limit h =
     All-cons (λ x. unsigned_abs x ≤ limit) w ws (omega arith) (each_in_sum ws limit (omega arith))
 
 -- the unit isn't 0, and the unit, the mass and each weight are within the limit
-pub fitting : (game : GameFile) (answer : GameWeights) → AreFractions (tables_of game) → weigh game ≡ Ok answer → FitTheLimit answer
+pub fitting : (game : GameFile) (answer : GameWeights) → AreFractions (tables_of game) → weigh game ≡ Ok answer
+    → FitTheLimit answer
 fitting game answer h e =
     let tables : Tables = tables_of game in
     let tree : Forest = game.tree in

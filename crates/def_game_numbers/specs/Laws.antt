@@ -33,8 +33,10 @@ pub record AreWeights (tables : Tables) (tree : Forest) (answer : GameWeights) :
 
 -- it is refused exactly with the first fault of its numbers, and accepted exactly where they have none
 pub record IsWeighed (game : GameFile) : Type 0 where
-  pub refused : (fault : FileFault) → (weigh game ≡ Err fault) ↔ ((found : GameFault) × FirstNumberFault (tables_of game) game.tree found × (fault ≡ file_fault found))
-  pub accepted : (answer : GameWeights) → (weigh game ≡ Ok answer) ↔ (PassNumbers (tables_of game) game.tree × AreWeights (tables_of game) game.tree answer)
+  pub refused : (fault : FileFault)
+      → (weigh game ≡ Err fault) ↔ ((found : GameFault) × FirstNumberFault (tables_of game) game.tree found × (fault ≡ file_fault found))
+  pub accepted : (answer : GameWeights)
+      → (weigh game ≡ Ok answer) ↔ (PassNumbers (tables_of game) game.tree × AreWeights (tables_of game) game.tree answer)
 
 abbrev pub WeighsExactly : Type 0
 WeighsExactly = (game : GameFile) → AreFractions (tables_of game) → IsWeighed game
@@ -42,8 +44,10 @@ WeighsExactly = (game : GameFile) → AreFractions (tables_of game) → IsWeighe
 -- what weighing refuses is the game's first fault; where it accepts, what building the sets refuses is; and where both accept there is none
 pub record IsRefusedWithTheFirst (game : GameFile) : Type 0 where
   pub by_weighing : (fault : FileFault) → weigh game ≡ Err fault → game_file_fault game ≡ Some fault
-  pub by_sets : (answer : GameWeights) (broken : RecallBreak) → weigh game ≡ Ok answer → sets_or_break game.tree ≡ Err broken → game_file_fault game ≡ Some (faults.NotRecall broken.node broken.earlier)
-  pub accepted : (answer : GameWeights) (sets : TreeSets) → weigh game ≡ Ok answer → sets_or_break game.tree ≡ Ok sets → game_file_fault game ≡ None
+  pub by_sets : (answer : GameWeights) (broken : RecallBreak) → weigh game ≡ Ok answer
+      → sets_or_break game.tree ≡ Err broken → game_file_fault game ≡ Some (faults.NotRecall broken.node broken.earlier)
+  pub accepted : (answer : GameWeights) (sets : TreeSets) → weigh game ≡ Ok answer → sets_or_break game.tree ≡ Ok sets
+      → game_file_fault game ≡ None
 
 abbrev pub NumbersRefusedWithTheFirst : Type 0
 NumbersRefusedWithTheFirst = (game : GameFile) → IsRefusedWithTheFirst game
@@ -56,7 +60,8 @@ pub record FitTheLimit (answer : GameWeights) : Type 0 where
   pub leaves : All (λ w. unsigned_abs w ≤ most) answer.leaves
 
 abbrev pub WeightsFit : Type 0
-WeightsFit = (game : GameFile) (answer : GameWeights) → AreFractions (tables_of game) → weigh game ≡ Ok answer → FitTheLimit answer
+WeightsFit = (game : GameFile) (answer : GameWeights) → AreFractions (tables_of game) → weigh game ≡ Ok answer
+    → FitTheLimit answer
 
 -- the form that stands on both answers is the game's: it has the sets that were built, and the mass that was weighed
 pub record StandsOnAnswers (game : GameFile) (answer : GameWeights) (sets : TreeSets) : Type 0 where
@@ -66,4 +71,5 @@ pub record StandsOnAnswers (game : GameFile) (answer : GameWeights) (sets : Tree
   pub mass_is : mass_of (form_of game.tree answer.leaves).leaves ≡ answer.mass
 
 abbrev pub FormStandsOnAnswers : Type 0
-FormStandsOnAnswers = (game : GameFile) (answer : GameWeights) (sets : TreeSets) → weigh game ≡ Ok answer → sets_or_break game.tree ≡ Ok sets → StandsOnAnswers game answer sets
+FormStandsOnAnswers = (game : GameFile) (answer : GameWeights) (sets : TreeSets) → weigh game ≡ Ok answer
+    → sets_or_break game.tree ≡ Ok sets → StandsOnAnswers game answer sets

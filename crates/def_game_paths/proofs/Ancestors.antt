@@ -17,7 +17,8 @@ use Rattle.def_game_paths.specs.Sequences.{set_firsts, set_sizes, first_sequence
 use Rattle.def_game_paths.proofs.Visits.{map-visits_from}
 use Rattle.def_game_paths.proofs.Order.{node_of, KeepFrom, KeepFrom-append, KnowsSizes, knows_new, knows_later, both}
 
-GoesThrough-append : (before more : List Visit) (path : List Move) → GoesThrough before path → GoesThrough (before ++ more) path
+GoesThrough-append : (before more : List Visit) (path : List Move) → GoesThrough before path
+    → GoesThrough (before ++ more) path
 GoesThrough-append before more [] h = tt
 GoesThrough-append before more (step ∷ rest) h = ((Contains-append_left before more (record { path = rest; node = step.node }) h.0.0, h.0.1), GoesThrough-append before more rest h.1)
 
@@ -25,11 +26,14 @@ abbrev pub EachSeen : List Visit → List Visit → Type 0
 EachSeen before [] = Unit {0}
 EachSeen before (v ∷ rest) = GoesThrough before v.path × EachSeen (before ++ v ∷ []) rest
 
-EachSeen-append : (before xs ys : List Visit) → EachSeen before xs → EachSeen (before ++ xs) ys → EachSeen before (xs ++ ys)
+EachSeen-append : (before xs ys : List Visit) → EachSeen before xs → EachSeen (before ++ xs) ys
+    → EachSeen before (xs ++ ys)
 EachSeen-append before [] ys h k = subst (λ vs. EachSeen vs ys) (append-nil before) k
 EachSeen-append before (x ∷ xs) ys h k = (h.0, EachSeen-append (before ++ x ∷ []) xs ys h.1 (subst (λ vs. EachSeen vs ys) (sym (append_assoc before (x ∷ []) xs)) k))
 
-visits_seen : (above : ℕ → List Move) (action : ℕ) (trees : Forest) (before : List Visit) → HasItsChildren trees → ((a : ℕ) → action ≤ a → a < action + tree_count trees → GoesThrough before (above a)) → EachSeen before (visits_from above action trees)
+visits_seen : (above : ℕ → List Move) (action : ℕ) (trees : Forest) (before : List Visit) → HasItsChildren trees
+    → ((a : ℕ) → action ≤ a → a < action + tree_count trees → GoesThrough before (above a))
+    → EachSeen before (visits_from above action trees)
 visits_seen above action bare before has paths = tt
 visits_seen above action (grown node below beside) before has paths =
     let here : GoesThrough before (above action) = paths action (omega arith) (omega arith) in
@@ -44,7 +48,8 @@ visits_seen above action (grown node below beside) before has paths =
           (λ a low high. GoesThrough-append seen (visits_from down 1 below) (above a) (GoesThrough-append before (this ∷ []) (above a) (paths a (omega arith) (omega arith))))),
     )
 
-seen_at : (before xs : List Visit) (n : ℕ) (d : Visit) → EachSeen before xs → n < length xs → GoesThrough (before ++ take n xs) (get_or xs n d).path
+seen_at : (before xs : List Visit) (n : ℕ) (d : Visit) → EachSeen before xs → n < length xs
+    → GoesThrough (before ++ take n xs) (get_or xs n d).path
 seen_at before [] n d h there = absurd (omega arith)
 seen_at before (x ∷ xs) zero d h there = GoesThrough-append before [] x.path h.0
 seen_at before (x ∷ xs) (suc n) d h there = subst (λ vs. GoesThrough vs (get_or xs n d).path) (append_assoc before (x ∷ []) (take n xs)) (seen_at (before ++ x ∷ []) xs n d h.1 (omega arith))
@@ -62,7 +67,8 @@ pub record LastChoice (kind : Kind) (before : List Visit) (own : List Choice) (a
   pub made : own ≡ record { set = at.node.set; action = action } ∷ past at
 
 -- a path has no own choice, or its last one is made at a node before and follows that node's past
-pub last_choice : (kind : Kind) (before : List Visit) (path : List Move) → GoesThrough before path → (own_choices kind path ≡ []) ⊎ ((at : Visit) × ((action : ℕ) × LastChoice kind before (own_choices kind path) at action))
+pub last_choice : (kind : Kind) (before : List Visit) (path : List Move) → GoesThrough before path
+    → (own_choices kind path ≡ []) ⊎ ((at : Visit) × ((action : ℕ) × LastChoice kind before (own_choices kind path) at action))
 last_choice kind before [] h = inl refl
 last_choice kind before (step ∷ rest) h =
     elim (is_same_kind kind step.node.kind) as (λ b. is_same_kind kind step.node.kind ≡ b →
@@ -76,7 +82,9 @@ last_choice kind before (step ∷ rest) h =
     ] refl
 
 -- once all nodes are visited, the sizes of all sets are known
-pub knows_all : (kind : Kind) (vs : List Visit) (before : List Node) (done : List ℕ) (seen : ℕ) → is_leaf_kind kind ≡ false → seen ≡ length done → KeepRules before → KeepFrom before (map node_of vs) → KnowsSizes kind before done →
+pub knows_all : (kind : Kind) (vs : List Visit) (before : List Node) (done : List ℕ) (seen : ℕ)
+    → is_leaf_kind kind ≡ false → seen ≡ length done → KeepRules before → KeepFrom before (map node_of vs)
+    → KnowsSizes kind before done →
     KnowsSizes kind (before ++ map node_of vs) (done ++ map (λ (v : Visit). v.node.children) (set_firsts kind seen vs))
 knows_all kind [] before done seen inner many keep fits knows =
     subst (λ ns. KnowsSizes kind ns (done ++ [])) (sym (append-nil before)) (subst (KnowsSizes kind before) (sym (append-nil done)) knows)
@@ -102,7 +110,8 @@ knows_all kind (v ∷ rest) before done seen inner many keep fits knows =
     ] refl
 
 -- the set sizes of a game tree are the numbers of children of its nodes, set by set
-pub sizes_known : (tree : Forest) (kind : Kind) → IsGameTree tree → is_leaf_kind kind ≡ false → KnowsSizes kind (map node_of (visits tree)) (set_sizes kind tree)
+pub sizes_known : (tree : Forest) (kind : Kind) → IsGameTree tree → is_leaf_kind kind ≡ false
+    → KnowsSizes kind (map node_of (visits tree)) (set_sizes kind tree)
 sizes_known tree kind game inner =
     let nodes : map node_of (visits tree) ≡ prefix tree = map-visits_from (λ _. []) 1 tree in
     let keep : KeepFrom [] (map node_of (visits tree)) = subst (KeepFrom []) (sym nodes) (KeepFrom-append [] (prefix tree) game.rules) in
@@ -121,7 +130,8 @@ pub record AreChoices (sizes : List ℕ) (set action : ℕ) : Type 0 where
   pub some : 1 ≤ action
   pub limit : action ≤ get_or sizes (set - 1) 0
 
-below_next : (sizes : List ℕ) (s a t b : ℕ) → AreChoices sizes s a → AreChoices sizes t b → s < t → first_sequence sizes s + (a - 1) < first_sequence sizes t + (b - 1)
+below_next : (sizes : List ℕ) (s a t b : ℕ) → AreChoices sizes s a → AreChoices sizes t b → s < t
+    → first_sequence sizes s + (a - 1) < first_sequence sizes t + (b - 1)
 below_next sizes s a t b x y less =
     let counts : 1 ≤ s = x.counts in
     let known : s ≤ length sizes = x.known in
@@ -132,7 +142,8 @@ below_next sizes s a t b x y less =
     let upto : sum (take s sizes) ≤ sum (take (t - 1) sizes) = sum-take-le sizes s (t - 1) (omega arith) in
     omega (arith, ap (λ n. sum (take n sizes)) index)
 
-pub same_choice : (sizes : List ℕ) (s a t b : ℕ) → AreChoices sizes s a → AreChoices sizes t b → first_sequence sizes s + (a - 1) ≡ first_sequence sizes t + (b - 1) → (s ≡ t) × (a ≡ b)
+pub same_choice : (sizes : List ℕ) (s a t b : ℕ) → AreChoices sizes s a → AreChoices sizes t b
+    → first_sequence sizes s + (a - 1) ≡ first_sequence sizes t + (b - 1) → (s ≡ t) × (a ≡ b)
 same_choice sizes s a t b x y same = elim (cases_lt s t) [
   | inl less ↦ absurd (omega (arith, below_next sizes s a t b x y less))
   | inr no_less ↦ elim (cases_lt t s) [
@@ -166,7 +177,9 @@ place_in all i v there =
     let long : length (take i all) ≡ min i (length all) = length-take i all in
     (there.0, record { below = omega arith; there = omega arith; is = sym (get_or-take i all there.0 v (omega arith)) ∙ there.2 })
 
-same_past : (all : List Visit) (n i j p q : ℕ) (v w : Visit) → RecallsUpTo all n → i ≤ n → j ≤ n → IsAt all i v p → IsAt all j w q → is_personal v.node.kind ≡ true → v.node.kind ≡ w.node.kind → v.node.set ≡ w.node.set → past v ≡ past w
+same_past : (all : List Visit) (n i j p q : ℕ) (v w : Visit) → RecallsUpTo all n → i ≤ n → j ≤ n → IsAt all i v p
+    → IsAt all j w q → is_personal v.node.kind ≡ true → v.node.kind ≡ w.node.kind → v.node.set ≡ w.node.set
+    → past v ≡ past w
 same_past all n i j p q v w recall hi hj at_v at_w personal kinds sets =
     let below_v : p < i = at_v.below in
     let below_w : q < j = at_w.below in
@@ -190,12 +203,15 @@ inner_by Two e = refl
 inner_by Leaf e = cc
 
 -- a node that was visited is in a set that is known, with its size
-pub size_held : (tree : Forest) (kind : Kind) → IsGameTree tree → is_leaf_kind kind ≡ false → (i : ℕ) (at : Visit) → Contains (take i (visits tree)) at → at.node.kind ≡ kind →
+pub size_held : (tree : Forest) (kind : Kind) → IsGameTree tree → is_leaf_kind kind ≡ false → (i : ℕ) (at : Visit)
+    → Contains (take i (visits tree)) at → at.node.kind ≡ kind →
     (1 ≤ at.node.set) × (at.node.set ≤ length (set_sizes kind tree)) × (get_or (set_sizes kind tree) (at.node.set - 1) 0 ≡ at.node.children)
 size_held tree kind game inner i at there is =
     let found = place_in (visits tree) i at there in (sizes_known tree kind game inner).each at.node (Contains-map (visits tree) at (found.0, found.1.there, found.1.is)) is
 
-choice_known : (tree : Forest) (kind : Kind) → IsGameTree tree → is_leaf_kind kind ≡ false → (i : ℕ) (own : List Choice) (at : Visit) (action : ℕ) → LastChoice kind (take i (visits tree)) own at action → AreChoices (set_sizes kind tree) at.node.set action
+choice_known : (tree : Forest) (kind : Kind) → IsGameTree tree → is_leaf_kind kind ≡ false
+    → (i : ℕ) (own : List Choice) (at : Visit) (action : ℕ) → LastChoice kind (take i (visits tree)) own at action
+    → AreChoices (set_sizes kind tree) at.node.set action
 choice_known tree kind game inner i own at action last =
     let held = size_held tree kind game inner i at last.there last.kinds in
     let size : get_or (set_sizes kind tree) (at.node.set - 1) 0 ≡ at.node.children = held.2 in
@@ -203,7 +219,8 @@ choice_known tree kind game inner i own at action last =
     record { counts = held.0; known = held.1; some = last.some; limit = omega arith }
 
 -- where recall holds so far, equal numbers tell equal choices
-pub choices_told : (tree : Forest) (kind : Kind) (n i j : ℕ) (d : Visit) → IsGameTree tree → is_personal kind ≡ true → RecallsUpTo (visits tree) n → i ≤ n → j ≤ n → i < length (visits tree) → j < length (visits tree) →
+pub choices_told : (tree : Forest) (kind : Kind) (n i j : ℕ) (d : Visit) → IsGameTree tree → is_personal kind ≡ true
+    → RecallsUpTo (visits tree) n → i ≤ n → j ≤ n → i < length (visits tree) → j < length (visits tree) →
     sequence_at kind tree (get_or (visits tree) i d) ≡ sequence_at kind tree (get_or (visits tree) j d) → own_choices kind (get_or (visits tree) i d).path ≡ own_choices kind (get_or (visits tree) j d).path
 choices_told tree kind n i j d game personal recall hi hj there_i there_j same =
     let all : List Visit = visits tree in

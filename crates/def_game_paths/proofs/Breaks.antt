@@ -98,11 +98,13 @@ break_or_none : (a b : Option RecallBreak) → break_or a b ≡ None → (a ≡ 
 break_or_none None b e = (refl, e)
 break_or_none (Some broken) b e = cc
 
-break_or_some : (a b : Option RecallBreak) (broken : RecallBreak) → break_or a b ≡ Some broken → (a ≡ Some broken) ⊎ ((a ≡ None) × (b ≡ Some broken))
+break_or_some : (a b : Option RecallBreak) (broken : RecallBreak) → break_or a b ≡ Some broken
+    → (a ≡ Some broken) ⊎ ((a ≡ None) × (b ≡ Some broken))
 break_or_some None b broken e = inr (refl, e)
 break_or_some (Some first) b broken e = inl e
 
-scan_none : (all : List Visit) (k : ℕ) (rest : List Visit) (d : Visit) → first_break differ_in_past all k rest ≡ None → (i : ℕ) → i < length rest → break_of all (k + i) (get_or rest i d) ≡ None
+scan_none : (all : List Visit) (k : ℕ) (rest : List Visit) (d : Visit) → first_break differ_in_past all k rest ≡ None
+    → (i : ℕ) → i < length rest → break_of all (k + i) (get_or rest i d) ≡ None
 scan_none all k [] d e i h = absurd (omega arith)
 scan_none all k (v ∷ rest) d e zero h = let here : k + 0 ≡ k = omega arith in ap (λ n. break_of all n v) here ∙ (break_or_none (break_of all k v) (first_break differ_in_past all (k + 1) rest) e).0
 scan_none all k (v ∷ rest) d e (suc i) h =
@@ -114,7 +116,8 @@ record Scan (all : List Visit) (k : ℕ) (rest : List Visit) (d : Visit) (broken
   is : break_of all (k + place) (get_or rest place d) ≡ Some broken
   before : (i : ℕ) → i < place → break_of all (k + i) (get_or rest i d) ≡ None
 
-scan_some : (all : List Visit) (k : ℕ) (rest : List Visit) (d : Visit) (broken : RecallBreak) → first_break differ_in_past all k rest ≡ Some broken → (place : ℕ) × Scan all k rest d broken place
+scan_some : (all : List Visit) (k : ℕ) (rest : List Visit) (d : Visit) (broken : RecallBreak)
+    → first_break differ_in_past all k rest ≡ Some broken → (place : ℕ) × Scan all k rest d broken place
 scan_some all k [] d broken e = cc
 scan_some all k (v ∷ rest) d broken e =
     let here : k + 0 ≡ k = omega arith in
@@ -138,7 +141,8 @@ scan_some all k (v ∷ rest) d broken e =
     scan_before all k v rest d place none before (suc i) h = let far : k + suc i ≡ k + 1 + i = omega arith in ap (λ n. break_of all n (get_or rest i d)) far ∙ before i (omega arith)
 
 -- where a player's node has no break with its set's first node, the player made the same choices before both
-pub no_break_some : (k : ℕ) (v : Visit) (first : Numbered) → break_against differ_in_past k v (Some first) ≡ None → is_personal v.node.kind ≡ true → past first.visit ≡ past v
+pub no_break_some : (k : ℕ) (v : Visit) (first : Numbered) → break_against differ_in_past k v (Some first) ≡ None
+    → is_personal v.node.kind ≡ true → past first.visit ≡ past v
 no_break_some k v first e personal =
     let broken : Option RecallBreak = Some (record { node = k; earlier = first.number }) in
     elim (is_same_choices (past first.visit) (past v)) as (λ b. is_same_choices (past first.visit) (past v) ≡ b → cond (is_personal v.node.kind && not b) broken None ≡ None → past first.visit ≡ past v) [
@@ -152,7 +156,8 @@ cond_some : (b : Bool) (x y : RecallBreak) → cond b (Some x) None ≡ Some y �
 cond_some true x y e = (refl, cc)
 cond_some false x y e = cc
 
-break_some : (k : ℕ) (v : Visit) (first : Numbered) (broken : RecallBreak) → break_against differ_in_past k v (Some first) ≡ Some broken →
+break_some : (k : ℕ) (v : Visit) (first : Numbered) (broken : RecallBreak)
+    → break_against differ_in_past k v (Some first) ≡ Some broken →
     (record { node = k; earlier = first.number } ≡ broken) × (is_personal v.node.kind ≡ true) × (past first.visit ≢ past v)
 break_some k v first broken e =
     let found = cond_some (is_personal v.node.kind && not (is_same_choices (past first.visit) (past v))) (record { node = k; earlier = first.number }) broken e in
@@ -166,12 +171,14 @@ break_some k v first broken e =
     )
 
 -- two nodes of one set have the same first node of their set
-pub first_of_set_same : (k : ℕ) (x y : Node) (vs : List Visit) → x.kind ≡ y.kind → x.set ≡ y.set → first_of_set k x vs ≡ first_of_set k y vs
+pub first_of_set_same : (k : ℕ) (x y : Node) (vs : List Visit) → x.kind ≡ y.kind → x.set ≡ y.set
+    → first_of_set k x vs ≡ first_of_set k y vs
 first_of_set_same k x y [] kinds sets = refl
 first_of_set_same k x y (v ∷ rest) kinds sets =
     λ i. cond (is_same_kind v.node.kind (kinds i) && nat_eq v.node.set (sets i)) (Some (record { number = k; visit = v })) (first_of_set_same (k + 1) x y rest kinds sets i)
 
-same_past : (k l : ℕ) (v w : Visit) (all : List Visit) (d : Visit) (i : ℕ) (o : Option Numbered) → i < length all → v ≡ get_or all i d → HasFirst 1 v.node all d o → is_personal v.node.kind ≡ true → is_personal w.node.kind ≡ true →
+same_past : (k l : ℕ) (v w : Visit) (all : List Visit) (d : Visit) (i : ℕ) (o : Option Numbered) → i < length all
+    → v ≡ get_or all i d → HasFirst 1 v.node all d o → is_personal v.node.kind ≡ true → is_personal w.node.kind ≡ true →
     break_against differ_in_past k v o ≡ None → break_against differ_in_past l w o ≡ None → past v ≡ past w
 same_past k l v w all d i None there is none pv pw e f =
     let yes : is_same_set (get_or all i d).node v.node ≡ true = is_same_set_by (get_or all i d).node v.node (ap (λ x. x.node.kind) (sym is)) (ap (λ x. x.node.set) (sym is)) in
@@ -191,7 +198,8 @@ recall_of_none tree e i j d below there personal kinds sets =
     same_past (1 + i) (1 + j) v w all d i (first_of_set 1 v.node all) (omega arith) refl (first_found 1 v.node all d) personal (ap is_personal (sym kinds) ∙ personal) none_v (ap (break_against differ_in_past (1 + j) w) same ∙ none_w)
 
 -- a place of the scan breaks recall
-breaks_at : (all : List Visit) (d : Visit) (broken : RecallBreak) (j : ℕ) (o : Option Numbered) → j < length all → HasFirst 1 (get_or all j d).node all d o → break_against differ_in_past (1 + j) (get_or all j d) o ≡ Some broken →
+breaks_at : (all : List Visit) (d : Visit) (broken : RecallBreak) (j : ℕ) (o : Option Numbered) → j < length all
+    → HasFirst 1 (get_or all j d).node all d o → break_against differ_in_past (1 + j) (get_or all j d) o ≡ Some broken →
     BreaksRecall (λ k. get_or all (k - 1) d) (length all) broken
 breaks_at all d broken j None there none e = cc
 breaks_at all d broken j (Some first) there found e =
@@ -242,7 +250,9 @@ none_of_recall tree recall =
           absurd (breaks.differs (recall (broken.earlier - 1) (broken.node - 1) d (omega arith) (omega arith) (ap is_personal alike.0 ∙ breaks.personal) alike.0 alike.1))
     ] refl
 
-no_earlier : (all : List Visit) (d : Visit) (m : ℕ) (other : RecallBreak) (o : Option Numbered) → other.node ≡ 1 + m → BreaksRecall (λ k. get_or all (k - 1) d) (length all) other → HasFirst 1 (get_or all m d).node all d o → break_against differ_in_past (1 + m) (get_or all m d) o ≡ None → ⊥
+no_earlier : (all : List Visit) (d : Visit) (m : ℕ) (other : RecallBreak) (o : Option Numbered) → other.node ≡ 1 + m
+    → BreaksRecall (λ k. get_or all (k - 1) d) (length all) other → HasFirst 1 (get_or all m d).node all d o
+    → break_against differ_in_past (1 + m) (get_or all m d) o ≡ None → ⊥
 no_earlier all d m other None number breaks none e =
     let at_node : get_or all (other.node - 1) d ≡ get_or all m d = ap (λ n. get_or all n d) (omega arith) in
     let range = breaks.in_range in
@@ -273,12 +283,14 @@ no_earlier all d m other (Some first) number breaks found e =
       ]
     ]
 
-scan_number : (all : List Visit) (j : ℕ) (d : Visit) (broken : RecallBreak) (o : Option Numbered) → break_against differ_in_past (1 + j) (get_or all j d) o ≡ Some broken → broken.node ≡ 1 + j
+scan_number : (all : List Visit) (j : ℕ) (d : Visit) (broken : RecallBreak) (o : Option Numbered)
+    → break_against differ_in_past (1 + j) (get_or all j d) o ≡ Some broken → broken.node ≡ 1 + j
 scan_number all j d broken None e = cc
 scan_number all j d broken (Some first) e = sym (ap (λ f. f.node) (break_some (1 + j) (get_or all j d) first broken e).0)
 
 -- the break that is found is one, and no node before it has one
-pub break_first : (tree : Forest) (d : Visit) (broken : RecallBreak) → recall_break tree ≡ Some broken → IsFirstBreak (λ k. get_or (visits tree) (k - 1) d) (length (visits tree)) broken
+pub break_first : (tree : Forest) (d : Visit) (broken : RecallBreak) → recall_break tree ≡ Some broken
+    → IsFirstBreak (λ k. get_or (visits tree) (k - 1) d) (length (visits tree)) broken
 break_first tree d broken e =
     let all : List Visit = visits tree in
     let found = scan_some all 1 all d broken e in

@@ -7,7 +7,8 @@ use Rattle.def_game_paths.specs.Paths.{Choice}
 use Rattle.def_game_paths.specs.Sequences.{choice_from, choice_of, sequence_number, IsChoiceOf, SequencesNameChoices}
 
 -- a choice is told by its number among the sequences that end at these sets
-named_from : (sizes : List ℕ) (base i : ℕ) (choice : Choice) → i < length sizes → choice.set ≡ base + i → 1 ≤ choice.action → choice.action ≤ get_or sizes i 0 →
+named_from : (sizes : List ℕ) (base i : ℕ) (choice : Choice) → i < length sizes → choice.set ≡ base + i
+    → 1 ≤ choice.action → choice.action ≤ get_or sizes i 0 →
     choice_from base sizes (sum (take i sizes) + (choice.action - 1)) ≡ Some choice
 named_from [] base i choice there set some limit = absurd (omega arith)
 named_from (size ∷ rest) base zero choice there set some limit =
@@ -30,7 +31,8 @@ record Named (sizes : List ℕ) (base n : ℕ) (choice : Choice) (i : ℕ) : Typ
   limit : choice.action ≤ get_or sizes i 0
   number : sum (take i sizes) + (choice.action - 1) ≡ n
 
-names_from : (sizes : List ℕ) (base n : ℕ) (choice : Choice) → choice_from base sizes n ≡ Some choice → (i : ℕ) × Named sizes base n choice i
+names_from : (sizes : List ℕ) (base n : ℕ) (choice : Choice) → choice_from base sizes n ≡ Some choice
+    → (i : ℕ) × Named sizes base n choice i
 names_from [] base n choice e = cc
 names_from (size ∷ rest) base n choice e =
     elim (nat_lt n size) as (λ b. nat_lt n size ≡ b → cond b (Some (record { set = base; action = n + 1 })) (choice_from (base + 1) rest (n - size)) ≡ Some choice → (i : ℕ) × Named (size ∷ rest) base n choice i) [
@@ -60,7 +62,8 @@ some_from (size ∷ rest) base n below =
           some_from rest (base + 1) (n - size) (omega arith)
     ] refl
 
-of_number : (sizes : List ℕ) (sequence : ℕ) (choice : Choice) → choice_of sizes sequence ≡ Some choice → IsChoiceOf sizes choice × (sequence_number sizes (choice ∷ []) ≡ sequence)
+of_number : (sizes : List ℕ) (sequence : ℕ) (choice : Choice) → choice_of sizes sequence ≡ Some choice
+    → IsChoiceOf sizes choice × (sequence_number sizes (choice ∷ []) ≡ sequence)
 of_number sizes zero choice e = cc
 of_number sizes (suc n) choice e =
     let found = names_from sizes 1 n choice e in
@@ -78,7 +81,8 @@ some_of sizes zero low high = absurd (omega arith)
 some_of sizes (suc n) low high = some_from sizes 1 n (omega arith)
 
 -- the number of a sequence that ends with a choice names this choice
-pub of_choice : (sizes : List ℕ) (choice : Choice) (rest : List Choice) → IsChoiceOf sizes choice → choice_of sizes (sequence_number sizes (choice ∷ rest)) ≡ Some choice
+pub of_choice : (sizes : List ℕ) (choice : Choice) (rest : List Choice) → IsChoiceOf sizes choice
+    → choice_of sizes (sequence_number sizes (choice ∷ rest)) ≡ Some choice
 of_choice sizes choice rest is =
     let counts : 1 ≤ choice.set = is.counts in
     let known : choice.set ≤ length sizes = is.known in

@@ -41,7 +41,8 @@ next_visit tree n game there =
     }
 
 -- the tree's node there is the node that is visited
-pub next_node : (tree : Forest) (n m : ℕ) (x : Node) → n < node_count tree → m ≡ n → slice_get (prefix tree) m ≡ Some x → (visit_after tree n).node ≡ x
+pub next_node : (tree : Forest) (n m : ℕ) (x : Node) → n < node_count tree → m ≡ n → slice_get (prefix tree) m ≡ Some x
+    → (visit_after tree n).node ≡ x
 next_node tree n m x there same read =
     let nodes : map node_of (visits tree) ≡ prefix tree = map-visits_from (λ _. []) 1 tree in
     sym (get_or-map node_of (visits tree) n no_visit x (omega (arith, length-visits tree)))
@@ -57,7 +58,9 @@ pub record StartsWith (above : ℕ → List Move) (action : ℕ) (trees : Forest
   pub rest_is : rest ≡ visits_from (λ next. record { node = node; action = next } ∷ above action) 1 below ++ (visits_from above (action + 1) beside ++ later)
 
 -- where there is a tree, its root is the first of the visits
-pub starts_with : (above : ℕ → List Move) (action : ℕ) (trees : Forest) (later : List Visit) (v : Visit) (rest : List Visit) → 1 ≤ tree_count trees → v ∷ rest ≡ visits_from above action trees ++ later → StartsWith above action trees later v rest
+pub starts_with : (above : ℕ → List Move) (action : ℕ) (trees : Forest) (later : List Visit) (v : Visit) (rest : List Visit)
+    → 1 ≤ tree_count trees → v ∷ rest ≡ visits_from above action trees ++ later
+    → StartsWith above action trees later v rest
 starts_with above action bare later v rest some e = absurd (omega arith)
 starts_with above action (grown node below beside) later v rest some e =
     let down : List Visit = visits_from (λ next. record { node = node; action = next } ∷ above action) 1 below in
@@ -68,12 +71,14 @@ starts_with above action (grown node below beside) later v rest some e =
     let behind : rest ≡ (down ++ beyond) ++ later = cc in
     record { node = node; below = below; beside = beside; trees_are = refl; first = first; rest_is = behind ∙ append_assoc down beyond later }
 
-none_under : (trees : Forest) (above : ℕ → List Move) (action : ℕ) (later : List Visit) → tree_count trees ≡ 0 → visits_from above action trees ++ later ≡ later
+none_under : (trees : Forest) (above : ℕ → List Move) (action : ℕ) (later : List Visit) → tree_count trees ≡ 0
+    → visits_from above action trees ++ later ≡ later
 none_under bare above action later none = refl
 none_under (grown node below beside) above action later none = absurd (omega arith)
 
 -- a parent is kept within the others exactly where trees are to come under it
-pub stand_over : {P : Type 0} (Over : ComingTrees → P → Type 0) (parent : P) (outer : List P) (above : ℕ → List Move) (action : ℕ) (trees : Forest) (later : List Visit) (keeps : Bool) →
+pub stand_over : {P : Type 0} (Over : ComingTrees → P → Type 0) (parent : P) (outer : List P) (above : ℕ → List Move) (action : ℕ) (trees : Forest) (later : List Visit) (keeps : Bool)
+    →
     (keeps ≡ true → Over (record { above = above; action = action; trees = trees }) parent) → (keeps ≡ false → tree_count trees ≡ 0) → StandOver Over outer later →
     StandOver Over (cond keeps (parent ∷ outer) outer) (visits_from above action trees ++ later)
 stand_over Over parent outer above action trees later true over none stand = (record { above = above; action = action; trees = trees }, later, over refl, refl, stand)

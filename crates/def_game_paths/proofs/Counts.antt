@@ -16,7 +16,8 @@ use Rattle.def_game_paths.proofs.Order.{node_of, both, joins_of}
 use Rattle.def_game_paths.proofs.Ancestors.{parents_come_before, size_held, sizes_known}
 
 module _ (tree : Forest) (kind : Kind) (game : IsGameTree tree) (inner : is_leaf_kind kind ≡ false) where
-  choices_known : (i : ℕ) (path : List Move) → GoesThrough (take i (visits tree)) path → All (IsChoiceOf (set_sizes kind tree)) (own_choices kind path)
+  choices_known : (i : ℕ) (path : List Move) → GoesThrough (take i (visits tree)) path
+      → All (IsChoiceOf (set_sizes kind tree)) (own_choices kind path)
   choices_known i [] through = All-nil (IsChoiceOf (set_sizes kind tree))
   choices_known i (move ∷ rest) through =
       elim (is_same_kind kind move.node.kind) as (λ b. is_same_kind kind move.node.kind ≡ b →
@@ -30,7 +31,8 @@ module _ (tree : Forest) (kind : Kind) (game : IsGameTree tree) (inner : is_leaf
         | false ↦ λ other. choices_known i rest through.1
       ] refl
 
-number_small : (sizes : List ℕ) (own : List Choice) → All (IsChoiceOf sizes) own → sequence_number sizes own < 1 + sum sizes
+number_small : (sizes : List ℕ) (own : List Choice) → All (IsChoiceOf sizes) own
+    → sequence_number sizes own < 1 + sum sizes
 number_small sizes [] are = omega arith
 number_small sizes (choice ∷ rest) are =
     let is : IsChoiceOf sizes choice = All-head (IsChoiceOf sizes) choice rest are in
@@ -48,7 +50,8 @@ each_sequence_is_in_range tree game kind inner k d there =
     record { choices = are; below = number_small (set_sizes kind tree) (own_choices kind v.path) are }
 
 -- what holds of the kind's nodes holds of the first ones of its sets
-pub firsts_all : (P : Visit → Type 0) (kind : Kind) (seen : ℕ) (vs : List Visit) → All (λ v. v.node.kind ≡ kind → P v) vs → All P (set_firsts kind seen vs)
+pub firsts_all : (P : Visit → Type 0) (kind : Kind) (seen : ℕ) (vs : List Visit)
+    → All (λ v. v.node.kind ≡ kind → P v) vs → All P (set_firsts kind seen vs)
 firsts_all P kind seen [] all = All-nil P
 firsts_all P kind seen (v ∷ rest) all =
     let later : All (λ (w : Visit). w.node.kind ≡ kind → P w) rest = All-tail (λ w. w.node.kind ≡ kind → P w) v rest all in
@@ -63,13 +66,15 @@ firsts_all P kind seen (v ∷ rest) all =
 abbrev HasActions : Node → Type 0
 HasActions node = (1 ≤ node.children) × (node.children ≤ 1024)
 
-nodes_have : (kind : Kind) (nodes : List Node) → is_leaf_kind kind ≡ false → KeepRules nodes → All (λ node. node.kind ≡ kind → HasActions node) nodes
+nodes_have : (kind : Kind) (nodes : List Node) → is_leaf_kind kind ≡ false → KeepRules nodes
+    → All (λ node. node.kind ≡ kind → HasActions node) nodes
 nodes_have kind nodes inner keep k d there is =
     let joins : JoinsSet (take k nodes) (get_or nodes k d) = joins_of kind (take k nodes) (get_or nodes k d) inner is (subst (λ h. FitsAs h (take k nodes) (get_or nodes k d)) is (keep k d there)) in
     (joins.some, joins.limit)
 
 -- each first node of a set has 1 to 1,024 children
-pub firsts_have : (tree : Forest) (kind : Kind) → IsGameTree tree → is_leaf_kind kind ≡ false → All (λ v. HasActions v.node) (set_firsts kind 0 (visits tree))
+pub firsts_have : (tree : Forest) (kind : Kind) → IsGameTree tree → is_leaf_kind kind ≡ false
+    → All (λ v. HasActions v.node) (set_firsts kind 0 (visits tree))
 firsts_have tree kind game inner =
     let P : Node → Type 0 = λ node. node.kind ≡ kind → HasActions node in
     let nodes : map node_of (visits tree) ≡ prefix tree = map-visits_from (λ _. []) 1 tree in
@@ -84,7 +89,8 @@ abbrev children_of : Node → ℕ
 children_of node = node.children
 
 -- each node but the roots is a child
-children_all : (trees : Forest) → HasItsChildren trees → sum (map children_of (prefix trees)) + tree_count trees ≡ length (prefix trees)
+children_all : (trees : Forest) → HasItsChildren trees
+    → sum (map children_of (prefix trees)) + tree_count trees ≡ length (prefix trees)
 children_all bare has = refl
 children_all (grown node below beside) has =
     let count : tree_count below ≡ node.children = has.0 in
@@ -98,7 +104,8 @@ children_all (grown node below beside) has =
       length-append (prefix below) (prefix beside),
     )
 
-firsts_sum : (kind : Kind) (seen : ℕ) (vs : List Visit) → sum (map size_of (set_firsts kind seen vs)) ≤ sum (map children_of (map node_of vs))
+firsts_sum : (kind : Kind) (seen : ℕ) (vs : List Visit)
+    → sum (map size_of (set_firsts kind seen vs)) ≤ sum (map children_of (map node_of vs))
 firsts_sum kind seen [] = omega arith
 firsts_sum kind seen (v ∷ rest) =
     let whole : sum (map children_of (map node_of (v ∷ rest))) ≡ v.node.children + sum (map children_of (map node_of rest)) = sum_by-cons (λ n. n) v.node.children (map children_of (map node_of rest)) in

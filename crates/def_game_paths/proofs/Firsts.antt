@@ -43,7 +43,8 @@ other_kind kind x y is other =
     apart e = cc e
 
 -- a node that isn't the first of a set is in no set that comes later
-not_later : (kind : Kind) (before : List Node) (done : List ℕ) (x y : Node) (i : ℕ) → is_leaf_kind kind ≡ false → Fits before x → KnowsSizes kind before done →
+not_later : (kind : Kind) (before : List Node) (done : List ℕ) (x y : Node) (i : ℕ) → is_leaf_kind kind ≡ false
+    → Fits before x → KnowsSizes kind before done →
     is_same_kind kind x.kind && nat_eq x.set (length done + 1) ≡ false → y.kind ≡ kind → y.set ≡ length done + i + 1 → is_same_set x y ≡ false
 not_later kind before done x y i inner fits knows other is number =
     elim (is_same_kind kind x.kind) as (λ b. is_same_kind kind x.kind ≡ b → b && nat_eq x.set (length done + 1) ≡ false → is_same_set x y ≡ false) [
@@ -57,11 +58,14 @@ not_later kind before done x y i inner fits knows other is number =
       | false ↦ λ differs not_next. other_kind kind x y is differs
     ] refl other
 
-skip : (k : ℕ) (v w : Visit) (rest : List Visit) (number : ℕ) → is_same_set v.node w.node ≡ false → first_of_set (k + 1) w.node rest ≡ Some (record { number = number; visit = w }) →
+skip : (k : ℕ) (v w : Visit) (rest : List Visit) (number : ℕ) → is_same_set v.node w.node ≡ false
+    → first_of_set (k + 1) w.node rest ≡ Some (record { number = number; visit = w }) →
     first_of_set k w.node (v ∷ rest) ≡ Some (record { number = number; visit = w })
 skip k v w rest number other found = ap (λ b. cond b (Some (record { number = k; visit = v })) (first_of_set (k + 1) w.node rest)) other ∙ found
 
-found_at : (kind : Kind) (vs : List Visit) (before : List Node) (done : List ℕ) (seen k : ℕ) (d : Visit) → is_leaf_kind kind ≡ false → seen ≡ length done → KeepRules before → KeepFrom before (map node_of vs) → KnowsSizes kind before done →
+found_at : (kind : Kind) (vs : List Visit) (before : List Node) (done : List ℕ) (seen k : ℕ) (d : Visit)
+    → is_leaf_kind kind ≡ false → seen ≡ length done → KeepRules before → KeepFrom before (map node_of vs)
+    → KnowsSizes kind before done →
     (i : ℕ) → i < length (set_firsts kind seen vs) → FoundAt kind seen k vs i (get_or (set_firsts kind seen vs) i d)
 found_at kind [] before done seen k d inner many keep fits knows = λ i there. absurd (omega arith)
 found_at kind (v ∷ rest) before done seen k d inner many keep fits knows =

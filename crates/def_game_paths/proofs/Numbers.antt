@@ -17,7 +17,8 @@ use Rattle.def_game_paths.proofs.Breaks.{HasFirst, first_found, is_same_choices_
 use Rattle.def_game_paths.proofs.Ancestors.{Contains-map, LastChoice, RecallsUpTo, choices_told, knows_all, last_choice, parents_come_before}
 
 -- Numbers that are known on the way.
-pub set_firsts-append : (kind : Kind) (seen : ℕ) (xs ys : List Visit) → set_firsts kind seen (xs ++ ys) ≡ set_firsts kind seen xs ++ set_firsts kind (seen + length (set_firsts kind seen xs)) ys
+pub set_firsts-append : (kind : Kind) (seen : ℕ) (xs ys : List Visit)
+    → set_firsts kind seen (xs ++ ys) ≡ set_firsts kind seen xs ++ set_firsts kind (seen + length (set_firsts kind seen xs)) ys
 set_firsts-append kind seen [] ys = let same : seen ≡ seen + 0 = omega arith in ap (λ n. set_firsts kind n ys) same
 set_firsts-append kind seen (x ∷ xs) ys =
     elim (is_same_kind kind x.node.kind && nat_eq x.node.set (seen + 1)) as (λ b.
@@ -30,7 +31,8 @@ set_firsts-append kind seen (x ∷ xs) ys =
     ]
 
 -- the sizes of the first nodes' sets stand first
-pub sizes_front : (kind : Kind) (k : ℕ) (vs : List Visit) → (later : List ℕ) × (sizes_so_far kind vs ≡ sizes_so_far kind (take k vs) ++ later)
+pub sizes_front : (kind : Kind) (k : ℕ) (vs : List Visit)
+    → (later : List ℕ) × (sizes_so_far kind vs ≡ sizes_so_far kind (take k vs) ++ later)
 sizes_front kind k vs =
     let xs : List Visit = take k vs in
     let rest : List Visit = set_firsts kind (0 + length (set_firsts kind 0 xs)) (drop k vs) in (
@@ -43,7 +45,8 @@ KeepFrom-front before [] ys keep = tt
 KeepFrom-front before (x ∷ xs) ys keep = (keep.0, KeepFrom-front (before ++ x ∷ []) xs ys keep.1)
 
 -- the sizes of the sets so far are known
-pub known_so_far : (tree : Forest) (kind : Kind) → IsGameTree tree → is_leaf_kind kind ≡ false → (k : ℕ) → KnowsSizes kind (map node_of (take k (visits tree))) (sizes_so_far kind (take k (visits tree)))
+pub known_so_far : (tree : Forest) (kind : Kind) → IsGameTree tree → is_leaf_kind kind ≡ false → (k : ℕ)
+    → KnowsSizes kind (map node_of (take k (visits tree))) (sizes_so_far kind (take k (visits tree)))
 known_so_far tree kind game inner k =
     let all : List Visit = visits tree in
     let nodes : map node_of (take k all) ++ map node_of (drop k all) ≡ prefix tree = sym (map-append node_of (take k all) (drop k all)) ∙ ap (map node_of) (take-append-drop k all) ∙ map-visits_from (λ _. []) 1 tree in
@@ -54,7 +57,8 @@ known_so_far tree kind game inner k =
     nothing_in : (x : Node) → Contains [] x → ⊥
     nothing_in x there = let h : there.0 < 0 = there.1 in absurd (omega arith)
 
-same_number : (kind : Kind) (before : List Visit) (done later : List ℕ) (own : List Choice) → KnowsSizes kind (map node_of before) done →
+same_number : (kind : Kind) (before : List Visit) (done later : List ℕ) (own : List Choice)
+    → KnowsSizes kind (map node_of before) done →
     (own ≡ []) ⊎ ((at : Visit) × ((action : ℕ) × LastChoice kind before own at action)) → sequence_number done own ≡ sequence_number (done ++ later) own
 same_number kind before done later own knows (inl none) = ap (sequence_number done) none ∙ sym (ap (sequence_number (done ++ later)) none)
 same_number kind before done later own knows (inr last) =
@@ -89,7 +93,8 @@ same_test xs ys m n there back =
     apart e = cc e
 
 -- the first node of a node's set comes no later than any node of the set
-pub not_behind : (all : List Visit) (node : Node) (d : Visit) (first : Numbered) (found : HasFirst 1 node all d (Some first)) (j : ℕ) → is_same_set (get_or all j d).node node ≡ true → found.0 ≤ j
+pub not_behind : (all : List Visit) (node : Node) (d : Visit) (first : Numbered) (found : HasFirst 1 node all d (Some first)) (j : ℕ)
+    → is_same_set (get_or all j d).node node ≡ true → found.0 ≤ j
 not_behind all node d first found j same = elim (cases_lt j found.0) [
   | inl before ↦ absurd (apart (sym same ∙ found.1.before j before))
   | inr after ↦ after
@@ -100,7 +105,8 @@ not_behind all node d first found j same = elim (cases_lt j found.0) [
 
 module _ (tree : Forest) (game : IsGameTree tree) where
   -- where recall holds for the nodes before, the two tests of a node against an earlier one agree
-  tests_agree : (i p : ℕ) (d : Visit) → p ≤ i → i < length (visits tree) → RecallsUpTo (visits tree) i → (get_or (visits tree) p d).node.kind ≡ (get_or (visits tree) i d).node.kind →
+  tests_agree : (i p : ℕ) (d : Visit) → p ≤ i → i < length (visits tree) → RecallsUpTo (visits tree) i
+      → (get_or (visits tree) p d).node.kind ≡ (get_or (visits tree) i d).node.kind →
       is_personal (get_or (visits tree) i d).node.kind ≡ true → differ_in_number tree (get_or (visits tree) p d) (get_or (visits tree) i d) ≡ differ_in_past (get_or (visits tree) p d) (get_or (visits tree) i d)
   tests_agree i p d below there recall kinds personal =
       let w : Visit = get_or (visits tree) p d in
@@ -111,7 +117,8 @@ module _ (tree : Forest) (game : IsGameTree tree) where
       (λ same. number_w ∙ ap (sequence_number (set_sizes v.node.kind tree)) (sym past_w ∙ same))
       (λ same. past_w ∙ choices_told tree v.node.kind i p i d game personal recall below (omega arith) (omega arith) there (sym number_w ∙ same)))
 
-  against_agree : (i : ℕ) (d : Visit) (o : Option Numbered) → i < length (visits tree) → RecallsUpTo (visits tree) i → HasFirst 1 (get_or (visits tree) i d).node (visits tree) d o →
+  against_agree : (i : ℕ) (d : Visit) (o : Option Numbered) → i < length (visits tree) → RecallsUpTo (visits tree) i
+      → HasFirst 1 (get_or (visits tree) i d).node (visits tree) d o →
       break_against (differ_in_number tree) (1 + i) (get_or (visits tree) i d) o ≡ break_against differ_in_past (1 + i) (get_or (visits tree) i d) o
   against_agree i d None there recall found = refl
   against_agree i d (Some first) there recall found =
@@ -127,7 +134,8 @@ module _ (tree : Forest) (game : IsGameTree tree) where
       ] refl
 
   -- where a node doesn't break recall, it holds up to the node
-  one_more : (i : ℕ) (d : Visit) (o : Option Numbered) → i < length (visits tree) → RecallsUpTo (visits tree) i → HasFirst 1 (get_or (visits tree) i d).node (visits tree) d o →
+  one_more : (i : ℕ) (d : Visit) (o : Option Numbered) → i < length (visits tree) → RecallsUpTo (visits tree) i
+      → HasFirst 1 (get_or (visits tree) i d).node (visits tree) d o →
       break_against differ_in_past (1 + i) (get_or (visits tree) i d) o ≡ None → (p : ℕ) → p < i → AgreeOnPast (get_or (visits tree) p d) (get_or (visits tree) i d)
   one_more i d None there recall found none p below personal kinds sets =
       let yes : is_same_set (get_or (visits tree) p d).node (get_or (visits tree) i d).node ≡ true = is_same_set_by (get_or (visits tree) p d).node (get_or (visits tree) i d).node kinds sets in
@@ -152,7 +160,8 @@ module _ (tree : Forest) (game : IsGameTree tree) where
             ap (λ n. past (get_or all n d)) same ∙ from_first
       ]
 
-  recalls_more : (i : ℕ) (d : Visit) (o : Option Numbered) → i < length (visits tree) → RecallsUpTo (visits tree) i → HasFirst 1 (get_or (visits tree) i d).node (visits tree) d o →
+  recalls_more : (i : ℕ) (d : Visit) (o : Option Numbered) → i < length (visits tree) → RecallsUpTo (visits tree) i
+      → HasFirst 1 (get_or (visits tree) i d).node (visits tree) d o →
       break_against differ_in_past (1 + i) (get_or (visits tree) i d) o ≡ None → RecallsUpTo (visits tree) (suc i)
   recalls_more i d o there recall found none p q e less below inside =
       let all : List Visit = visits tree in
@@ -166,7 +175,8 @@ module _ (tree : Forest) (game : IsGameTree tree) where
       ]
 
   -- the two scans agree from a node on, where recall holds for the nodes before it
-  scans_agree : (i : ℕ) (rest : List Visit) (d : Visit) → i + length rest ≡ length (visits tree) → ((j : ℕ) → j < length rest → get_or rest j d ≡ get_or (visits tree) (i + j) d) → RecallsUpTo (visits tree) i →
+  scans_agree : (i : ℕ) (rest : List Visit) (d : Visit) → i + length rest ≡ length (visits tree)
+      → ((j : ℕ) → j < length rest → get_or rest j d ≡ get_or (visits tree) (i + j) d) → RecallsUpTo (visits tree) i →
       first_break (differ_in_number tree) (visits tree) (1 + i) rest ≡ first_break differ_in_past (visits tree) (1 + i) rest
   scans_agree i [] d long at recall = refl
   scans_agree i (v ∷ rest) d long at recall =

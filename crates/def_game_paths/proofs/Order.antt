@@ -37,12 +37,15 @@ abbrev PathsIn : List Node → List Visit → Type 0
 PathsIn before [] = Unit {0}
 PathsIn before (v ∷ rest) = PathIn before v.path × PathsIn (before ++ v.node ∷ []) rest
 
-PathsIn-append : (before : List Node) (xs ys : List Visit) → PathsIn before xs → PathsIn (before ++ map node_of xs) ys → PathsIn before (xs ++ ys)
+PathsIn-append : (before : List Node) (xs ys : List Visit) → PathsIn before xs → PathsIn (before ++ map node_of xs) ys
+    → PathsIn before (xs ++ ys)
 PathsIn-append before [] ys h k = subst (λ ns. PathsIn ns ys) (append-nil before) k
 PathsIn-append before (x ∷ xs) ys h k =
     (h.0, PathsIn-append (before ++ x.node ∷ []) xs ys h.1 (subst (λ ns. PathsIn ns ys) (sym (append_assoc before (x.node ∷ []) (map node_of xs))) k))
 
-visits_in : (above : ℕ → List Move) (action : ℕ) (trees : Forest) (before : List Node) → HasItsChildren trees → ((a : ℕ) → action ≤ a → a < action + tree_count trees → PathIn before (above a)) → PathsIn before (visits_from above action trees)
+visits_in : (above : ℕ → List Move) (action : ℕ) (trees : Forest) (before : List Node) → HasItsChildren trees
+    → ((a : ℕ) → action ≤ a → a < action + tree_count trees → PathIn before (above a))
+    → PathsIn before (visits_from above action trees)
 visits_in above action bare before has paths = tt
 visits_in above action (grown node below beside) before has paths =
     let here : PathIn before (above action) = paths action (omega arith) (omega arith) in
@@ -73,7 +76,8 @@ KeepFrom-append before (x ∷ xs) keep =
     )
 
 -- a node of a kind with sets that keeps the rules is in one of those sets or in the next one
-pub joins_of : (kind : Kind) (before : List Node) (node : Node) → is_leaf_kind kind ≡ false → node.kind ≡ kind → FitsAs kind before node → JoinsSet before node
+pub joins_of : (kind : Kind) (before : List Node) (node : Node) → is_leaf_kind kind ≡ false → node.kind ≡ kind
+    → FitsAs kind before node → JoinsSet before node
 joins_of Chance before node inner is fits = fits
 joins_of One before node inner is fits = fits
 joins_of Two before node inner is fits = fits
@@ -82,9 +86,11 @@ joins_of Leaf before node inner is fits = cc
 -- the sizes of the sets of a kind that these nodes are in
 pub record KnowsSizes (kind : Kind) (before : List Node) (done : List ℕ) : Type 0 where
   pub count : length done ≡ set_count kind before
-  pub each : (x : Node) → Contains before x → x.kind ≡ kind → (1 ≤ x.set) × (x.set ≤ length done) × (get_or done (x.set - 1) 0 ≡ x.children)
+  pub each : (x : Node) → Contains before x → x.kind ≡ kind
+      → (1 ≤ x.set) × (x.set ≤ length done) × (get_or done (x.set - 1) 0 ≡ x.children)
 
-knows_other : (kind : Kind) (before : List Node) (done : List ℕ) (node : Node) → is_same_kind kind node.kind ≡ false → KnowsSizes kind before done → KnowsSizes kind (before ++ node ∷ []) done
+knows_other : (kind : Kind) (before : List Node) (done : List ℕ) (node : Node) → is_same_kind kind node.kind ≡ false
+    → KnowsSizes kind before done → KnowsSizes kind (before ++ node ∷ []) done
 knows_other kind before done node other knows = record {
   count = knows.count ∙ sym (set_count-push_other kind before node other);
   each = λ x there is. elim (Contains-push_cases before node x there) [
@@ -93,7 +99,9 @@ knows_other kind before done node other knows = record {
   ];
 }
 
-knows_seen : (kind : Kind) (before : List Node) (done : List ℕ) (node : Node) → is_leaf_kind kind ≡ false → node.kind ≡ kind → KeepRules before → JoinsSet before node → node.set ≤ length done → KnowsSizes kind before done → KnowsSizes kind (before ++ node ∷ []) done
+knows_seen : (kind : Kind) (before : List Node) (done : List ℕ) (node : Node) → is_leaf_kind kind ≡ false
+    → node.kind ≡ kind → KeepRules before → JoinsSet before node → node.set ≤ length done → KnowsSizes kind before done
+    → KnowsSizes kind (before ++ node ∷ []) done
 knows_seen kind before done node inner is keep joins low knows =
     let count : length done ≡ set_count kind before = knows.count in
     let more : set_count kind (before ++ node ∷ []) ≡ max node.set (set_count kind before) = set_count-push_same kind before node (is_same_kind_self kind node.kind is) in
@@ -111,7 +119,9 @@ knows_seen kind before done node inner is keep joins low knows =
     }
 
 -- the first node of the next set adds its number of children to the known sizes
-pub knows_new : (kind : Kind) (before : List Node) (done : List ℕ) (node : Node) → node.kind ≡ kind → node.set ≡ length done + 1 → KnowsSizes kind before done → KnowsSizes kind (before ++ node ∷ []) (done ++ node.children ∷ [])
+pub knows_new : (kind : Kind) (before : List Node) (done : List ℕ) (node : Node) → node.kind ≡ kind
+    → node.set ≡ length done + 1 → KnowsSizes kind before done
+    → KnowsSizes kind (before ++ node ∷ []) (done ++ node.children ∷ [])
 knows_new kind before done node is next knows =
     let count : length done ≡ set_count kind before = knows.count in
     let more : set_count kind (before ++ node ∷ []) ≡ max node.set (set_count kind before) = set_count-push_same kind before node (is_same_kind_self kind node.kind is) in
@@ -131,7 +141,8 @@ knows_new kind before done node is next knows =
     }
 
 -- the sequence of a path through these nodes has a smaller number than the first of the next set
-number_below : (kind : Kind) (before : List Node) (done later : List ℕ) (path : List Move) → KnowsSizes kind before done → PathIn before path →
+number_below : (kind : Kind) (before : List Node) (done later : List ℕ) (path : List Move) → KnowsSizes kind before done
+    → PathIn before path →
     sequence_number (done ++ later) (own_choices kind path) < 1 + sum (take (length done) (done ++ later))
 number_below kind before done later [] knows paths = omega arith
 number_below kind before done later (step ∷ rest) knows paths =
@@ -162,7 +173,8 @@ both true b e = (refl, e)
 both false b e = cc
 
 -- a node that isn't the first of its set leaves the sizes as they are
-pub knows_later : (kind : Kind) (before : List Node) (done : List ℕ) (node : Node) → is_leaf_kind kind ≡ false → KeepRules before → Fits before node → is_same_kind kind node.kind && nat_eq node.set (length done + 1) ≡ false →
+pub knows_later : (kind : Kind) (before : List Node) (done : List ℕ) (node : Node) → is_leaf_kind kind ≡ false
+    → KeepRules before → Fits before node → is_same_kind kind node.kind && nat_eq node.set (length done + 1) ≡ false →
     KnowsSizes kind before done → KnowsSizes kind (before ++ node ∷ []) done
 knows_later kind before done node inner keep fits other knows =
     elim (is_same_kind kind node.kind) as (λ b. is_same_kind kind node.kind ≡ b → b && nat_eq node.set (length done + 1) ≡ false → KnowsSizes kind (before ++ node ∷ []) done) [
@@ -181,7 +193,9 @@ knows_later kind before done node inner keep fits other knows =
     apart : true ≡ false → ⊥
     apart e = cc e
 
-in_order : (kind : Kind) (vs : List Visit) (before : List Node) (done sizes : List ℕ) (seen : ℕ) (d : Visit) → is_leaf_kind kind ≡ false → seen ≡ length done → KeepRules before → KeepFrom before (map node_of vs) → PathsIn before vs → KnowsSizes kind before done →
+in_order : (kind : Kind) (vs : List Visit) (before : List Node) (done sizes : List ℕ) (seen : ℕ) (d : Visit)
+    → is_leaf_kind kind ≡ false → seen ≡ length done → KeepRules before → KeepFrom before (map node_of vs)
+    → PathsIn before vs → KnowsSizes kind before done →
     sizes ≡ done ++ map (λ (v : Visit). v.node.children) (set_firsts kind seen vs) →
     (i : ℕ) → i < length (set_firsts kind seen vs) → sequence_number sizes (own_choices kind (get_or (set_firsts kind seen vs) i d).path) < first_sequence sizes (seen + i + 1)
 in_order kind [] before done sizes seen d inner many keep fits paths knows = λ all i h. absurd (omega arith)
@@ -216,7 +230,8 @@ in_order kind (v ∷ rest) before done sizes seen d inner many keep fits paths k
     ] refl
 
 -- the sequence before a set has a smaller number than those that end at the set
-pub sets_in_order : (tree : Forest) → IsGameTree tree → (kind : Kind) → is_leaf_kind kind ≡ false → (i : ℕ) → i < length (sequences_before kind tree) →
+pub sets_in_order : (tree : Forest) → IsGameTree tree → (kind : Kind) → is_leaf_kind kind ≡ false → (i : ℕ)
+    → i < length (sequences_before kind tree) →
     get_or (sequences_before kind tree) i 0 < first_sequence (set_sizes kind tree) (i + 1)
 sets_in_order tree game kind inner i h =
     let d : Visit = record { path = []; node = record { kind = Leaf; set = 0; outcome = 0; children = 0 } } in

@@ -7,7 +7,8 @@ use Rattle.def_tree.specs.Rules.{is_same_kind}
 use Rattle.def_game_paths.specs.Paths.{Choice, Move, OwnChoicesAreMoves, Visit, own_choices, visits_from}
 
 -- the nodes that are visited are those of the trees, in prefix order
-pub map-visits_from : (above : ℕ → List Move) (action : ℕ) (trees : Forest) → map (λ visit. visit.node) (visits_from above action trees) ≡ prefix trees
+pub map-visits_from : (above : ℕ → List Move) (action : ℕ) (trees : Forest)
+    → map (λ visit. visit.node) (visits_from above action trees) ≡ prefix trees
 map-visits_from above action bare = refl
 map-visits_from above action (grown node below beside) =
     ap (λ rest. node ∷ rest)

@@ -8,7 +8,8 @@ use Rattle.def_game_paths.specs.Paths.{Move, Visit, visits_from, LeadsTo, LeadsT
 
 -- where each path above leads to its tree, each visit's path leads to its node
 lead_from : (tree : Forest) (above : ℕ → List Move) (action : ℕ) (trees : Forest)
-    → ((a : ℕ) → action ≤ a → a < action + tree_count trees → LeadsTo tree (above a) (drop_trees (a - action) trees)) → All (LeadsToNode tree) (visits_from above action trees)
+    → ((a : ℕ) → action ≤ a → a < action + tree_count trees → LeadsTo tree (above a) (drop_trees (a - action) trees))
+    → All (LeadsToNode tree) (visits_from above action trees)
 lead_from tree above action bare lead = All-nil (LeadsToNode tree)
 lead_from tree above action (grown node below beside) lead =
     let none : action - action ≡ 0 = omega arith in
@@ -25,7 +26,8 @@ lead_from tree above action (grown node below beside) lead =
 pub paths_lead_to_nodes : PathsLeadToNodes
 paths_lead_to_nodes tree one = lead_from tree (λ _. []) 1 tree (λ a low high. let none : a - 1 ≡ 0 = omega arith in ap (λ n. drop_trees n tree) none)
 
-paths_deep : (above : ℕ → List Move) (action depth : ℕ) (trees : Forest) → ((a : ℕ) → length (above a) ≡ depth) → map (λ v. length v.path) (visits_from above action trees) ≡ depths_from depth trees
+paths_deep : (above : ℕ → List Move) (action depth : ℕ) (trees : Forest) → ((a : ℕ) → length (above a) ≡ depth)
+    → map (λ v. length v.path) (visits_from above action trees) ≡ depths_from depth trees
 paths_deep above action depth bare deep = refl
 paths_deep above action depth (grown node below beside) deep =
     let down : ℕ → List Move = λ next. record { node = node; action = next } ∷ above action in

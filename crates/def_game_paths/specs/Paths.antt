@@ -71,7 +71,8 @@ GoesThrough before (move ∷ rest) = (Contains before (record { path = rest; nod
 
 -- the path of a node is that of its parent with one move more, and the parent is visited before it
 abbrev pub ParentsComeBefore : Type 0
-ParentsComeBefore = (tree : Forest) → IsTree tree → (k : ℕ) (d : Visit) → k < length (visits tree) → GoesThrough (take k (visits tree)) (slice_index_or (visits tree) k d).path
+ParentsComeBefore = (tree : Forest) → IsTree tree → (k : ℕ) (d : Visit) → k < length (visits tree)
+    → GoesThrough (take k (visits tree)) (slice_index_or (visits tree) k d).path
 
 -- how far below the root each node is, in prefix order, where the first of these trees is so far below it
 abbrev pub depths_from : ℕ → Forest → List ℕ

@@ -56,18 +56,22 @@ sequences_before kind tree = map (sequence_at kind tree) (set_firsts kind 0 (vis
 
 -- the sequence before a set has a smaller number than those that end at it
 abbrev pub SetsAreInOrder : Type 0
-SetsAreInOrder = (tree : Forest) → IsGameTree tree → (kind : Kind) → is_leaf_kind kind ≡ false → (i : ℕ) → i < length (sequences_before kind tree) →
+SetsAreInOrder = (tree : Forest) → IsGameTree tree → (kind : Kind) → is_leaf_kind kind ≡ false → (i : ℕ)
+    → i < length (sequences_before kind tree) →
     slice_index (sequences_before kind tree) i < first_sequence (set_sizes kind tree) (i + 1)
 
 -- with perfect recall, the number of a player's sequence at a node tells which choices the player has made there
 abbrev pub NumbersTellChoices : Type 0
-NumbersTellChoices = (tree : Forest) → IsGameTree tree → HasPerfectRecall tree → (kind : Kind) → is_personal kind ≡ true →
+NumbersTellChoices = (tree : Forest) → IsGameTree tree → HasPerfectRecall tree → (kind : Kind) → is_personal kind ≡ true
+    →
     AllPairs (λ v w. (sequence_at kind tree v ≡ sequence_at kind tree w) ↔ (own_choices kind v.path ≡ own_choices kind w.path)) (visits tree)
 
 -- a sequence's number names the set and the action at which it ends, and each choice the sequence that ends with it
 pub record SequencesNameChoices : Type 0 where
-  pub of_choice : (sizes : List ℕ) (choice : Choice) (rest : List Choice) → IsChoiceOf sizes choice → choice_of sizes (sequence_number sizes (choice ∷ rest)) ≡ Some choice
-  pub of_number : (sizes : List ℕ) (sequence : ℕ) (choice : Choice) → choice_of sizes sequence ≡ Some choice → IsChoiceOf sizes choice × (sequence_number sizes (choice ∷ []) ≡ sequence)
+  pub of_choice : (sizes : List ℕ) (choice : Choice) (rest : List Choice) → IsChoiceOf sizes choice
+      → choice_of sizes (sequence_number sizes (choice ∷ rest)) ≡ Some choice
+  pub of_number : (sizes : List ℕ) (sequence : ℕ) (choice : Choice) → choice_of sizes sequence ≡ Some choice
+      → IsChoiceOf sizes choice × (sequence_number sizes (choice ∷ []) ≡ sequence)
   pub each : (sizes : List ℕ) (sequence : ℕ) → 1 ≤ sequence → sequence ≤ sum sizes → IsSome (choice_of sizes sequence)
   pub none : (sizes : List ℕ) → choice_of sizes 0 ≡ None
 
@@ -77,7 +81,8 @@ pub record SequencesAreInRange (tree : Forest) (kind : Kind) (v : Visit) : Type 
   pub below : sequence_at kind tree v < 1 + sum (set_sizes kind tree)
 
 abbrev pub EachSequenceIsInRange : Type 0
-EachSequenceIsInRange = (tree : Forest) → IsGameTree tree → (kind : Kind) → is_leaf_kind kind ≡ false → All (SequencesAreInRange tree kind) (visits tree)
+EachSequenceIsInRange = (tree : Forest) → IsGameTree tree → (kind : Kind) → is_leaf_kind kind ≡ false
+    → All (SequencesAreInRange tree kind) (visits tree)
 
 -- the sets of a kind have 1 to 1,024 actions each, and a game has no more sets and no more sequences of a kind than nodes
 pub record HasFewSequences (tree : Forest) (kind : Kind) : Type 0 where
@@ -87,7 +92,8 @@ pub record HasFewSequences (tree : Forest) (kind : Kind) : Type 0 where
   pub few_sequences : 1 + sum (set_sizes kind tree) ≤ node_count tree
 
 abbrev pub SequencesAreFew : Type 0
-SequencesAreFew = (tree : Forest) → IsGameTree tree → (kind : Kind) → is_leaf_kind kind ≡ false → HasFewSequences tree kind
+SequencesAreFew = (tree : Forest) → IsGameTree tree → (kind : Kind) → is_leaf_kind kind ≡ false
+    → HasFewSequences tree kind
 
 -- the i-th of the first nodes is in set number i, and a search for the first node of this set finds it
 pub record IsFirstOfSet (kind : Kind) (visits_of : List Visit) (set : ℕ) (v : Visit) : Type 0 where
@@ -96,12 +102,14 @@ pub record IsFirstOfSet (kind : Kind) (visits_of : List Visit) (set : ℕ) (v : 
   pub first : (number : ℕ) × (first_of_set 1 v.node visits_of ≡ Some (record { number = number; visit = v }))
 
 abbrev pub FirstsAreFirst : Type 0
-FirstsAreFirst = (tree : Forest) → IsGameTree tree → (kind : Kind) → is_leaf_kind kind ≡ false → (i : ℕ) (d : Visit) → i < set_count kind (prefix tree) →
+FirstsAreFirst = (tree : Forest) → IsGameTree tree → (kind : Kind) → is_leaf_kind kind ≡ false → (i : ℕ) (d : Visit)
+    → i < set_count kind (prefix tree) →
     IsFirstOfSet kind (visits tree) (i + 1) (slice_index_or (set_firsts kind 0 (visits tree)) i d)
 
 -- a sequence's number is known once its node is reached: the sets of the nodes before it tell it
 abbrev pub NumbersAreKnownOnTheWay : Type 0
-NumbersAreKnownOnTheWay = (tree : Forest) → IsGameTree tree → (kind : Kind) → is_leaf_kind kind ≡ false → (k : ℕ) (d : Visit) → k < length (visits tree) →
+NumbersAreKnownOnTheWay = (tree : Forest) → IsGameTree tree → (kind : Kind) → is_leaf_kind kind ≡ false
+    → (k : ℕ) (d : Visit) → k < length (visits tree) →
     let v = slice_index_or (visits tree) k d in
     sequence_number (sizes_so_far kind (take k (visits tree))) (own_choices kind v.path) ≡ sequence_at kind tree v
 

@@ -35,7 +35,8 @@ at-or P xs i d all default = elim (cases_lt i (length xs)) [
   | inr past ↦ subst P (sym (get_or-eq_default xs d past)) default
 ]
 
-probability-fraction : (tables : Tables) (set action : ℕ) → AreFractions tables → IsFraction (probability tables set action)
+probability-fraction : (tables : Tables) (set action : ℕ) → AreFractions tables
+    → IsFraction (probability tables set action)
 probability-fraction tables set action h =
     at-or IsFraction (get_or tables.chance (set - 1) []) (action - 1) nothing
     (λ k d there. (at-or (λ row. All IsInLowestTerms row) tables.chance (set - 1) [] h.chance (All-nil IsInLowestTerms) k d there).positive) (omega arith)
@@ -53,7 +54,8 @@ reach-fraction tables (step ∷ rest) h =
       | false ↦ reach-fraction tables rest h
     ]
 
-path-fraction : (tables : Tables) (path : List Move) → AreFractions tables → IsFraction (path_payoff (λ payoffs. payoffs.one) tables path)
+path-fraction : (tables : Tables) (path : List Move) → AreFractions tables
+    → IsFraction (path_payoff (λ payoffs. payoffs.one) tables path)
 path-fraction tables [] h = omega arith
 path-fraction tables (step ∷ rest) h =
     (lowest-sum (path_payoff (λ payoffs. payoffs.one) tables rest) (payoffs_of tables step.node.outcome).one (path-fraction tables rest h) (payoff-fraction tables step.node.outcome h)).positive
@@ -65,5 +67,6 @@ expected-lowest tables leaf h =
     (lowest-sum (path_payoff (λ payoffs. payoffs.one) tables leaf.path) (payoffs_of tables leaf.node.outcome).one (path-fraction tables leaf.path h) (payoff-fraction tables leaf.node.outcome h)).positive
 
 -- what the leaves of a tree are expected to pay is in lowest terms at each
-pub all-lowest : (tables : Tables) (tree : Forest) → AreFractions tables → All IsInLowestTerms (all_expected tables tree)
+pub all-lowest : (tables : Tables) (tree : Forest) → AreFractions tables
+    → All IsInLowestTerms (all_expected tables tree)
 all-lowest tables tree h = All-map IsInLowestTerms (expected tables) (leaf_visits tree) (λ k d there. expected-lowest tables (get_or (leaf_visits tree) k d) h)

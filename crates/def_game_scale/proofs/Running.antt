@@ -18,7 +18,8 @@ use Rattle.def_game_scale.proofs.Units.{den-divides, unit-divides, unit-positive
 use Rattle.def_game_scale.proofs.Expected.{expected-lowest}
 
 -- the unit of one fraction more is the least common multiple of its denominator and the unit
-pub unit-snoc : (fs : List Fraction) (f : Fraction) → All IsInLowestTerms fs → IsInLowestTerms f → unit_of (fs ++ (f ∷ [])) ≡ lcm f.den (unit_of fs)
+pub unit-snoc : (fs : List Fraction) (f : Fraction) → All IsInLowestTerms fs → IsInLowestTerms f
+    → unit_of (fs ++ (f ∷ [])) ≡ lcm f.den (unit_of fs)
 unit-snoc fs f low last =
     let all : List Fraction = fs ++ (f ∷ []) in
     let all_low : All IsInLowestTerms all = All-append IsInLowestTerms fs (f ∷ []) low (All-cons IsInLowestTerms f [] last (All-nil IsInLowestTerms)) in
@@ -43,7 +44,8 @@ unit-snoc fs f low last =
 abbrev is_leaf : Visit → Bool
 is_leaf v = is_leaf_kind v.node.kind
 
-expected_at-lowest : (tables : Tables) (vs : List Visit) → AreFractions tables → All IsInLowestTerms (expected_at tables vs)
+expected_at-lowest : (tables : Tables) (vs : List Visit) → AreFractions tables
+    → All IsInLowestTerms (expected_at tables vs)
 expected_at-lowest tables vs h = All-map IsInLowestTerms (expected tables) (filter is_leaf vs) (λ k d there. expected-lowest tables (get_or (filter is_leaf vs) k d) h)
 
 -- what the nodes pay with one more, which is a leaf or not
@@ -57,7 +59,8 @@ expected-snoc tables before v b e =
     last true e = ap (λ t. map (expected tables) (cond t (v ∷ []) [])) e
     last false e = ap (λ t. map (expected tables) (cond t (v ∷ []) [])) e
 
-mass-snoc : (unit : ℕ) (fs : List Fraction) (f : Fraction) → sum (map unsigned_abs (map (weight_of unit) (fs ++ (f ∷ [])))) ≡ sum (map unsigned_abs (map (weight_of unit) fs)) + unsigned_abs (weight_of unit f)
+mass-snoc : (unit : ℕ) (fs : List Fraction) (f : Fraction)
+    → sum (map unsigned_abs (map (weight_of unit) (fs ++ (f ∷ [])))) ≡ sum (map unsigned_abs (map (weight_of unit) fs)) + unsigned_abs (weight_of unit f)
 mass-snoc unit fs f =
     ap (λ ws. sum (map unsigned_abs ws)) (map-append (weight_of unit) fs (f ∷ [])) ∙ ap sum (map-append unsigned_abs (map (weight_of unit) fs) (weight_of unit f ∷ []))
     ∙ sum_by-append (λ x. x) (map unsigned_abs (map (weight_of unit) fs)) (unsigned_abs (weight_of unit f) ∷ []) ∙ ap (λ k. sum (map unsigned_abs (map (weight_of unit) fs)) + k) (from_zero (unsigned_abs (weight_of unit f)))
@@ -66,7 +69,8 @@ mass-snoc unit fs f =
     from_zero k = omega arith
 
 -- a leaf takes its denominator into the unit and its weight into the mass; other nodes change neither
-pub grows : (tables : Tables) → AreFractions tables → (unit : ℕ) (before : List Visit) (v : Visit) → NumbersGrowBy tables unit before v
+pub grows : (tables : Tables) → AreFractions tables → (unit : ℕ) (before : List Visit) (v : Visit)
+    → NumbersGrowBy tables unit before v
 grows tables h unit before v =
     let fs : List Fraction = expected_at tables before in
     let f : Fraction = expected tables v in

@@ -21,7 +21,8 @@ pub whole-lowest : (n : ℤ) → IsInLowestTerms (whole_number n)
 whole-lowest n = record { positive = omega arith; coprime = gcd-with_one (unsigned_abs n) }
 
 -- a multiple of a fraction is the product with that number
-multiple-product : (m : ℕ) (f : Fraction) (w : ℤ) → 1 ≤ f.den → IsMultiple m f w → whole_number w ≡ product_of (whole_number (pos m)) f
+multiple-product : (m : ℕ) (f : Fraction) (w : ℤ) → 1 ≤ f.den → IsMultiple m f w
+    → whole_number w ≡ product_of (whole_number (pos m)) f
 multiple-product m f w positive e =
     let value : w *ℤ pos (1 * f.den) ≡ (pos m *ℤ f.num) *ℤ pos 1 =
     ap (λ d. w *ℤ pos d) (one-mul f.den) ∙ e ∙ *ℤ_comm f.num (pos m) ∙ sym (times-one (pos m *ℤ f.num)) in
@@ -33,7 +34,8 @@ multiple-product m f w positive e =
     times-one : (n : ℤ) → n *ℤ pos 1 ≡ n
     times-one n = omega (arith, ints)
 
-whole-along : (tables : Tables) (unit : ℕ) (vs : List Visit) → AreFractions tables → All (λ f. f.den ∣ unit) (map (expected tables) vs) →
+whole-along : (tables : Tables) (unit : ℕ) (vs : List Visit) → AreFractions tables
+    → All (λ f. f.den ∣ unit) (map (expected tables) vs) →
     AllZip (IsWeightOf tables unit) vs (map (weight_of unit) (map (expected tables) vs))
 whole-along tables unit [] h all = tt
 whole-along tables unit (v ∷ rest) h all = (
@@ -43,5 +45,6 @@ whole-along tables unit (v ∷ rest) h all = (
 )
 
 -- there are as many weights as leaves, and each is exactly the unit times its leaf's reach times payoff
-pub whole-weights : (tables : Tables) (tree : Forest) → AreFractions tables → AllZip (IsWeightOf tables (game_unit tables tree)) (leaf_visits tree) (weights tables tree)
+pub whole-weights : (tables : Tables) (tree : Forest) → AreFractions tables
+    → AllZip (IsWeightOf tables (game_unit tables tree)) (leaf_visits tree) (weights tables tree)
 whole-weights tables tree h = whole-along tables (game_unit tables tree) (leaf_visits tree) h (den-divides (map (expected tables) (leaf_visits tree)) (all-lowest tables tree h))

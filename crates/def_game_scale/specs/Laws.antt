@@ -32,7 +32,8 @@ UnitIsLeast = (fractions : List Fraction) → All IsInLowestTerms fractions → 
 
 -- what leaves are expected to pay is in lowest terms
 abbrev pub ExpectedAreFractions : Type 0
-ExpectedAreFractions = (tables : Tables) (tree : Forest) → AreFractions tables → All IsInLowestTerms (all_expected tables tree)
+ExpectedAreFractions = (tables : Tables) (tree : Forest) → AreFractions tables
+    → All IsInLowestTerms (all_expected tables tree)
 
 -- a leaf's weight is unit times reach times player one's payoff
 abbrev pub IsWeightOf : Tables → ℕ → Visit → ℤ → Type 0
@@ -40,15 +41,19 @@ IsWeightOf tables unit leaf w = whole_number w ≡ product_of (whole_number (pos
 
 -- in the game's unit each leaf's weight is whole: there are as many weights as leaves, and each is its leaf's
 abbrev pub WeightsAreWhole : Type 0
-WeightsAreWhole = (tables : Tables) (tree : Forest) → AreFractions tables → AllZip (IsWeightOf tables (game_unit tables tree)) (leaf_visits tree) (weights tables tree)
+WeightsAreWhole = (tables : Tables) (tree : Forest) → AreFractions tables
+    → AllZip (IsWeightOf tables (game_unit tables tree)) (leaf_visits tree) (weights tables tree)
 
 -- what one more node makes of the unit and the mass of those before it
 pub record NumbersGrowBy (tables : Tables) (unit : ℕ) (before : List Visit) (node : Visit) : Type 0 where
-  pub leaf_unit : is_leaf_kind node.node.kind ≡ true → unit_so_far tables (before ++ (node ∷ [])) ≡ lcm (expected tables node).den (unit_so_far tables before)
-  pub inner_unit : is_leaf_kind node.node.kind ≡ false → unit_so_far tables (before ++ (node ∷ [])) ≡ unit_so_far tables before
+  pub leaf_unit : is_leaf_kind node.node.kind ≡ true
+      → unit_so_far tables (before ++ (node ∷ [])) ≡ lcm (expected tables node).den (unit_so_far tables before)
+  pub inner_unit : is_leaf_kind node.node.kind ≡ false
+      → unit_so_far tables (before ++ (node ∷ [])) ≡ unit_so_far tables before
   pub leaf_mass : is_leaf_kind node.node.kind ≡ true →
       mass_so_far tables unit (before ++ (node ∷ [])) ≡ mass_so_far tables unit before + unsigned_abs (weight_of unit (expected tables node))
-  pub inner_mass : is_leaf_kind node.node.kind ≡ false → mass_so_far tables unit (before ++ (node ∷ [])) ≡ mass_so_far tables unit before
+  pub inner_mass : is_leaf_kind node.node.kind ≡ false
+      → mass_so_far tables unit (before ++ (node ∷ [])) ≡ mass_so_far tables unit before
 
 -- the running unit and the running mass: node after node from 1 and from 0 to those of the game
 pub record RunningNumbers (tables : Tables) : Type 0 where

@@ -51,7 +51,8 @@ is_right : ℕ → ℕ → Right → Bool
 is_right job stripe right = eqb right.job job && eqb right.stripe stripe
 
 -- a right is in a list as often as at its head and in its tail together
-pub times_right-cons : (job stripe : ℕ) (head : Right) (tail : List Right) → times_right job stripe (head ∷ tail) ≡ cond (eqb head.job job && eqb head.stripe stripe) 1 0 + times_right job stripe tail
+pub times_right-cons : (job stripe : ℕ) (head : Right) (tail : List Right)
+    → times_right job stripe (head ∷ tail) ≡ cond (eqb head.job job && eqb head.stripe stripe) 1 0 + times_right job stripe tail
 times_right-cons job stripe head tail = sum_by-cons (λ (right : Right). cond (eqb right.job job && eqb right.stripe stripe) 1 0) head tail
 
 -- the test of a right on itself counts one
@@ -59,7 +60,8 @@ pub same_right : (job stripe : ℕ) → one_if (eqb job job && eqb stripe stripe
 same_right job stripe = grind (arith, nat_tests)
 
 -- a right that is in a list is counted there at least once
-pub times_right_from_Contains : (job stripe : ℕ) (rights : List Right) → Contains rights (record { job = job; stripe = stripe }) → 1 ≤ times_right job stripe rights
+pub times_right_from_Contains : (job stripe : ℕ) (rights : List Right)
+    → Contains rights (record { job = job; stripe = stripe }) → 1 ≤ times_right job stripe rights
 times_right_from_Contains job stripe rights (k, below, is) =
     let right : Right = record { job = job; stripe = stripe } in
     let at = get_or-le-sum_by (λ (right : Right). cond (eqb right.job job && eqb right.stripe stripe) 1 0) rights k right below in
@@ -75,7 +77,8 @@ and-right true b e = e
 and-right false b e = absurd (cc)
 
 -- a right of the same job and the same stripe is that right
-pub right_is : (head : Right) (job stripe : ℕ) → (eqb head.job job && eqb head.stripe stripe) ≡ true → head ≡ record { job = job; stripe = stripe }
+pub right_is : (head : Right) (job stripe : ℕ) → (eqb head.job job && eqb head.stripe stripe) ≡ true
+    → head ≡ record { job = job; stripe = stripe }
 right_is head job stripe e =
     let p = and-left (eqb head.job job) (eqb head.stripe stripe) e in
     let q = and-right (eqb head.job job) (eqb head.stripe stripe) e in
@@ -84,7 +87,8 @@ right_is head job stripe e =
     λ i. record { job = a i; stripe = b i }
 
 -- a right that is counted at least once in a list is in it
-pub Contains_from_times_right : (job stripe : ℕ) (rights : List Right) → 1 ≤ times_right job stripe rights → Contains rights (record { job = job; stripe = stripe })
+pub Contains_from_times_right : (job stripe : ℕ) (rights : List Right) → 1 ≤ times_right job stripe rights
+    → Contains rights (record { job = job; stripe = stripe })
 Contains_from_times_right job stripe [] h = absurd (omega arith)
 Contains_from_times_right job stripe (head ∷ tail) h = by_head (Contains_from_times_right job stripe tail) (eqb head.job job && eqb head.stripe stripe) refl
   where
@@ -96,7 +100,8 @@ Contains_from_times_right job stripe (head ∷ tail) h = by_head (Contains_from_
         Contains-tail head (record { job = job; stripe = stripe }) tail (later rest)
 
 -- each number of a range is in it once
-pub times-range : (first count job : ℕ) → times job (range_with_len first count) ≡ cond (ltb job first) 0 (cond (ltb job (first + count)) 1 0)
+pub times-range : (first count job : ℕ)
+    → times job (range_with_len first count) ≡ cond (ltb job first) 0 (cond (ltb job (first + count)) 1 0)
 times-range first zero job = grind (arith, nat_tests)
 times-range first (suc count) job = rw times-cons (rw (times-range (first + 1) count job) (step first count job))
   where
@@ -108,7 +113,8 @@ pub times-job_numbers : (jobs job : ℕ) → times job (job_numbers jobs) ≡ co
 times-job_numbers jobs job = let r = times-range 0 jobs job in grind (arith, nat_tests, r)
 
 -- a job's rights for all stripes: each once
-pub times_right-range : (of job stripe first count : ℕ) → times_right job stripe (map (λ (s : ℕ). record { job = of; stripe = s }) (range_with_len first count)) ≡ cond (eqb of job) (times stripe (range_with_len first count)) 0
+pub times_right-range : (of job stripe first count : ℕ)
+    → times_right job stripe (map (λ (s : ℕ). record { job = of; stripe = s }) (range_with_len first count)) ≡ cond (eqb of job) (times stripe (range_with_len first count)) 0
 times_right-range of job stripe first zero = grind (arith, nat_tests)
 times_right-range of job stripe first (suc count) =
     rw times_right-cons (rw (times_right-range of job stripe (first + 1) count) (rw times-cons (step of job stripe first (times stripe (range_with_len (first + 1) count)))))
@@ -117,7 +123,8 @@ times_right-range of job stripe first (suc count) =
     step of job stripe first rest = grind (arith, nat_tests)
 
 -- a job's rights have each stripe once, and nothing of another job
-pub times_right-rights_of : (of stripes job stripe : ℕ) → times_right job stripe (rights_of of stripes) ≡ cond (eqb of job) (cond (ltb stripe stripes) 1 0) 0
+pub times_right-rights_of : (of stripes job stripe : ℕ)
+    → times_right job stripe (rights_of of stripes) ≡ cond (eqb of job) (cond (ltb stripe stripes) 1 0) 0
 times_right-rights_of of stripes job stripe =
     let a = times_right-range of job stripe 0 stripes in
     let b = times-job_numbers stripes stripe in

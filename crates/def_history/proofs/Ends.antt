@@ -15,7 +15,8 @@ use Rattle.def_history.proofs.Counts.{one_if, times-cons, times-self, times-job_
 use Rattle.def_history.proofs.Steps.{IsBalanced, reached_balanced, end_holds_none}
 
 -- ---- legal
-legal_at : (jobs : ℕ) (state : State) → IsBalanced jobs state → (stripe : ℕ) → stripe < stripe_count state → IsLegal jobs (history_of state stripe)
+legal_at : (jobs : ℕ) (state : State) → IsBalanced jobs state → (stripe : ℕ) → stripe < stripe_count state
+    → IsLegal jobs (history_of state stripe)
 legal_at jobs state balanced stripe is_stripe = record { once = once; named = named }
   where
     at_most : (b : Bool) → one_if b ≤ 1
@@ -73,7 +74,8 @@ histories_legal jobs state reached k d below =
     subst (λ (h : List ℕ). IsLegal jobs h) (same_element state.histories k [] d below) legal
 
 -- ---- complete
-complete_at : (jobs : ℕ) (state : State) → IsReached jobs state → IsAtEnd state → (stripe : ℕ) → stripe < stripe_count state → IsComplete jobs (history_of state stripe)
+complete_at : (jobs : ℕ) (state : State) → IsReached jobs state → IsAtEnd state → (stripe : ℕ)
+    → stripe < stripe_count state → IsComplete jobs (history_of state stripe)
 complete_at jobs state reached (empty, none_held) stripe is_stripe job is_job =
     let balance = (reached_balanced jobs state reached).balance job stripe is_stripe in
     let one : one_if (ltb job jobs) ≡ 1 = grind (arith, nat_tests) in
@@ -101,12 +103,14 @@ split_at x (y ∷ ys) h = by_head (split_at x ys) (eqb y x) refl
         from (front, back, is) = (y ∷ front, back, ap (λ zs. y ∷ zs) is)
 
 -- a list with x in its middle has a job as often as without it, and once more where the job is x
-pub times-middle : (job x : ℕ) (front back : List ℕ) → times job (front ++ x ∷ back) ≡ one_if (eqb x job) + times job (front ++ back)
+pub times-middle : (job x : ℕ) (front back : List ℕ)
+    → times job (front ++ x ∷ back) ≡ one_if (eqb x job) + times job (front ++ back)
 times-middle job x front back =
     let f : ℕ → ℕ = λ other. cond (eqb other job) 1 0 in
     omega (arith, sum_by-append f front (x ∷ back), sum_by-append f front back, sum_by-cons f x back)
 
-sum_over-middle : (f : ℕ → ℤ) (x : ℕ) (front back : List ℕ) → sum_over f (front ++ x ∷ back) ≡ f x +ℤ sum_over f (front ++ back)
+sum_over-middle : (f : ℕ → ℤ) (x : ℕ) (front back : List ℕ)
+    → sum_over f (front ++ x ∷ back) ≡ f x +ℤ sum_over f (front ++ back)
 sum_over-middle f x [] back = refl
 sum_over-middle f x (y ∷ front) back = ap (λ s. f y +ℤ s) (sum_over-middle f x front back) ∙ swap (f y) (f x) (sum_over f (front ++ back))
   where

@@ -19,7 +19,8 @@ counts_once jobs state reached job stripe is_job is_stripe =
     b ∙ one
 
 -- an element of a sum that isn't 0
-some_positive : {X : Type 0} (f : X → ℕ) (d : X) (xs : List X) → 1 ≤ sum_by f xs → (i : ℕ) × (i < length xs) × (1 ≤ f (get_or xs i d))
+some_positive : {X : Type 0} (f : X → ℕ) (d : X) (xs : List X) → 1 ≤ sum_by f xs
+    → (i : ℕ) × (i < length xs) × (1 ≤ f (get_or xs i d))
 some_positive f d [] h = absurd (omega arith)
 some_positive f d (x ∷ xs) h = elim (cases_lt 0 (f x)) [ inl here ↦ (0, omega arith, here) | inr none ↦ later (some_positive f d xs (omega (arith, sum_by-cons f x xs, h, none))) ]
   where
@@ -27,7 +28,8 @@ some_positive f d (x ∷ xs) h = elim (cases_lt 0 (f x)) [ inl here ↦ (0, omeg
     later (i, below, at) = (suc i, omega arith, at)
 
 -- two elements of a sum
-two_positive : {X : Type 0} (f : X → ℕ) (d : X) (xs : List X) (i j : ℕ) → f d ≡ 0 → i < length xs → j < length xs → i ≢ j → f (get_or xs i d) + f (get_or xs j d) ≤ sum_by f xs
+two_positive : {X : Type 0} (f : X → ℕ) (d : X) (xs : List X) (i j : ℕ) → f d ≡ 0 → i < length xs → j < length xs
+    → i ≢ j → f (get_or xs i d) + f (get_or xs j d) ≤ sum_by f xs
 two_positive f d xs i j none in_i in_j apart =
     let a = sum_by-set f xs i d d in_i in
     let b : f (get_or (set xs i d) j d) ≤ sum_by f (set xs i d) = get_or-le-sum_by f (set xs i d) j d (let e = length-set xs i d in omega (arith, e)) in
@@ -36,7 +38,8 @@ two_positive f d xs i j none in_i in_j apart =
     omega (arith, a, b, c, none)
 
 -- a pass that holds a right is a pass
-is_pass : (state : State) (pass job stripe : ℕ) → 1 ≤ times_right job stripe (rights_held state pass) → pass < length state.passes
+is_pass : (state : State) (pass job stripe : ℕ) → 1 ≤ times_right job stripe (rights_held state pass)
+    → pass < length state.passes
 is_pass state pass job stripe h = elim (cases_lt pass (length state.passes)) [ inl below ↦ below | inr past ↦ absurd (no past) ]
   where
     no : length state.passes ≤ pass → ⊥
@@ -44,7 +47,8 @@ is_pass state pass job stripe h = elim (cases_lt pass (length state.passes)) [ i
         let none : times_right job stripe (rights_held state pass) ≡ 0 = ap (λ (rights : List Right). times_right job stripe rights) (get_or_past state.passes pass [] past) in
         omega (arith, h, none)
 
-held_by_pass : (state : State) (pass job stripe : ℕ) → Holds state (the_pass pass) job stripe → 1 ≤ times_held state job stripe
+held_by_pass : (state : State) (pass job stripe : ℕ) → Holds state (the_pass pass) job stripe
+    → 1 ≤ times_held state job stripe
 held_by_pass state pass job stripe holds =
     let one = times_right_from_Contains job stripe (rights_held state pass) holds in
     let below = is_pass state pass job stripe one in

@@ -9,12 +9,15 @@ use Rattle.def_history.specs.Leaves.{job_amount, amounts}
 use Rattle.def_history.specs.Laws.{JobsAddUpToLeaves, EndsWithLeafSums}
 use Rattle.def_history.proofs.Ends.{ends_with_plain_sums}
 
-sum_over-flat_map : {X Y : Type 0} (f : Y → ℤ) (g : X → List Y) (xs : List X) → sum_over f (flat_map g xs) ≡ sum_over (λ x. sum_over f (g x)) xs
+sum_over-flat_map : {X Y : Type 0} (f : Y → ℤ) (g : X → List Y) (xs : List X)
+    → sum_over f (flat_map g xs) ≡ sum_over (λ x. sum_over f (g x)) xs
 sum_over-flat_map f g [] = refl
 sum_over-flat_map f g (x ∷ xs) = sum_over-append f (g x) (flat_map g xs) ∙ ap (λ s. sum_over f (g x) +ℤ s) (sum_over-flat_map f g xs)
 
 -- a sum over the places of a list is the sum over its elements
-pub sum_over-places : {X : Type 0} (f : X → ℤ) (d : X) (xs : List X) (g : ℕ → ℤ) (from : ℕ) → ((place : ℕ) → place < length xs → g (from + place) ≡ f (get_or xs place d)) → sum_over g (range_with_len from (length xs)) ≡ sum_over f xs
+pub sum_over-places : {X : Type 0} (f : X → ℤ) (d : X) (xs : List X) (g : ℕ → ℤ) (from : ℕ)
+    → ((place : ℕ) → place < length xs → g (from + place) ≡ f (get_or xs place d))
+    → sum_over g (range_with_len from (length xs)) ≡ sum_over f xs
 sum_over-places f d [] g from same = refl
 sum_over-places f d (x ∷ xs) g from same =
     let here : g from ≡ f x = ap g (sym (add-zero from)) ∙ same 0 (omega arith) in

@@ -39,7 +39,8 @@ local_steps_are_steps = record {
 }
 
 -- ---- rights by counts
-right_split : (x : Right) (ys : List Right) → 1 ≤ times_right x.job x.stripe ys → (front : List Right) × (back : List Right) × (ys ≡ front ++ x ∷ back)
+right_split : (x : Right) (ys : List Right) → 1 ≤ times_right x.job x.stripe ys
+    → (front : List Right) × (back : List Right) × (ys ≡ front ++ x ∷ back)
 right_split x [] h = absurd (omega arith)
 right_split x (y ∷ ys) h = by_head (right_split x ys) (eqb y.job x.job && eqb y.stripe x.stripe) refl
   where
@@ -53,7 +54,8 @@ right_split x (y ∷ ys) h = by_head (right_split x ys) (eqb y.job x.job && eqb 
         from : (front : List Right) × (back : List Right) × (ys ≡ front ++ x ∷ back) → (front : List Right) × (back : List Right) × (y ∷ ys ≡ front ++ x ∷ back)
         from (front, back, is) = (y ∷ front, back, ap (λ zs. y ∷ zs) is)
 
-right-middle : (job stripe : ℕ) (x : Right) (front back : List Right) → times_right job stripe (front ++ x ∷ back) ≡ one_if (eqb x.job job && eqb x.stripe stripe) + times_right job stripe (front ++ back)
+right-middle : (job stripe : ℕ) (x : Right) (front back : List Right)
+    → times_right job stripe (front ++ x ∷ back) ≡ one_if (eqb x.job job && eqb x.stripe stripe) + times_right job stripe (front ++ back)
 right-middle job stripe x front back =
     let f : Right → ℕ = λ right. cond (eqb right.job job && eqb right.stripe stripe) 1 0 in
     omega (arith, sum_by-append f front (x ∷ back), sum_by-append f front back, sum_by-cons f x back)
@@ -65,7 +67,8 @@ no_right : (ys : List Right) → ((job stripe : ℕ) → 0 ≡ times_right job s
 no_right [] e = refl
 no_right (y ∷ ys) e = absurd (let a = has_itself y ys in let b = e y.job y.stripe in omega (arith, a, b))
 
-permuted : (xs ys : List Right) → ((job stripe : ℕ) → times_right job stripe xs ≡ times_right job stripe ys) → IsPermutation xs ys
+permuted : (xs ys : List Right) → ((job stripe : ℕ) → times_right job stripe xs ≡ times_right job stripe ys)
+    → IsPermutation xs ys
 permuted [] ys same = subst (IsPermutation []) (sym (no_right ys same)) (IsPermutation-refl [])
 permuted (x ∷ xs) ys same = from (permuted xs) (right_split x ys (let a = has_itself x xs in let b = same x.job x.stripe in omega (arith, a, b)))
   where
@@ -96,12 +99,14 @@ counts_tell_rights = record {
     both false b = refl
 
 -- ---- the size of a replay
-nat-middle : (f : ℕ → ℕ) (x : ℕ) (front back : List ℕ) → nat_sum_over f (front ++ x ∷ back) ≡ f x + nat_sum_over f (front ++ back)
+nat-middle : (f : ℕ → ℕ) (x : ℕ) (front back : List ℕ)
+    → nat_sum_over f (front ++ x ∷ back) ≡ f x + nat_sum_over f (front ++ back)
 nat-middle f x [] back = refl
 nat-middle f x (y ∷ front) back = let rest = nat-middle f x front back in omega (arith, rest)
 
 -- a list that has each number no more often than another has no greater sum
-pub no_greater_sum : (f : ℕ → ℕ) (xs ys : List ℕ) → ((job : ℕ) → times job xs ≤ times job ys) → nat_sum_over f xs ≤ nat_sum_over f ys
+pub no_greater_sum : (f : ℕ → ℕ) (xs ys : List ℕ) → ((job : ℕ) → times job xs ≤ times job ys)
+    → nat_sum_over f xs ≤ nat_sum_over f ys
 no_greater_sum f [] ys fewer = omega arith
 no_greater_sum f (x ∷ xs) ys fewer = from (no_greater_sum f xs) (split_at x ys (let a = times-self x xs in let b = fewer x in omega (arith, a, b)))
   where
@@ -114,7 +119,8 @@ no_greater_sum f (x ∷ xs) ys fewer = from (no_greater_sum f xs) (split_at x ys
         omega (arith, without, whole, nat-middle f x front back)
 
 -- a legal history has each number no more often than the list of all jobs
-legal_is_fewer : (jobs : ℕ) (history : List ℕ) → IsLegal jobs history → (job : ℕ) → times job history ≤ times job (job_numbers jobs)
+legal_is_fewer : (jobs : ℕ) (history : List ℕ) → IsLegal jobs history → (job : ℕ)
+    → times job history ≤ times job (job_numbers jobs)
 legal_is_fewer jobs history legal job = elim (cases_lt job jobs) [ inl is_job ↦ inside is_job | inr above ↦ outside above ]
   where
     inside : job < jobs → times job history ≤ times job (job_numbers jobs)

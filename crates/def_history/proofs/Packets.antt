@@ -8,7 +8,8 @@ use Rattle.def_sums.proofs.RingLaws.{zero-+ℤ, +ℤ-zero}
 use Rattle.def_history.specs.Packets.{Entry, AreRising, brought, PacketsBringAmounts, StripesHoldTheirRows}
 
 -- rows above this one bring nothing to it
-later_bring_nothing : (row : ℕ) (entries : List Entry) → All (λ later. row < later.row) entries → brought entries row ≡ pos 0
+later_bring_nothing : (row : ℕ) (entries : List Entry) → All (λ later. row < later.row) entries
+    → brought entries row ≡ pos 0
 later_bring_nothing row [] above = refl
 later_bring_nothing row (entry ∷ entries) above =
     let here : row < entry.row = above 0 entry (omega arith) in
@@ -16,7 +17,8 @@ later_bring_nothing row (entry ∷ entries) above =
     rw other (zero-+ℤ (brought entries row) ∙ later_bring_nothing row entries (λ k d inside. above (suc k) d (omega arith)))
 
 -- either an entry brings the row its amount, or no entry has the row
-found : (amount : ℕ → ℕ → ℤ) (job row : ℕ) (entries : List Entry) → AreRising entries → All (λ entry. entry.amount ≡ amount job entry.row) entries
+found : (amount : ℕ → ℕ → ℤ) (job row : ℕ) (entries : List Entry) → AreRising entries
+    → All (λ entry. entry.amount ≡ amount job entry.row) entries
     → (brought entries row ≡ amount job row) ⊎ (All (λ entry. entry.row ≢ row) entries × (brought entries row ≡ pos 0))
 found amount job row [] rising have = inr (All-nil (λ (entry : Entry). entry.row ≢ row), refl)
 found amount job row (entry ∷ entries) (above, rising) have =

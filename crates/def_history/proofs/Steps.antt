@@ -11,23 +11,28 @@ use Rattle.def_history.specs.Core.{State, Right, Step, draw, add, Draws, Adds, T
 use Rattle.def_history.proofs.Counts.{one_if, times-job_numbers, times_right-rights_of}
 
 pub record IsBalanced (jobs : ℕ) (state : State) : Type 0 where
-  pub balance : (job stripe : ℕ) → stripe < stripe_count state → times job state.bag + times_held state job stripe + times job (history_of state stripe) ≡ one_if (ltb job jobs)
+  pub balance : (job stripe : ℕ) → stripe < stripe_count state
+      → times job state.bag + times_held state job stripe + times job (history_of state stripe) ≡ one_if (ltb job jobs)
   pub no_stripe : (job stripe : ℕ) → stripe_count state ≤ stripe → times_held state job stripe ≡ 0
   pub bag_once : (job : ℕ) → times job state.bag ≤ one_if (ltb job jobs)
 
 -- what the passes hold after one of them changed
-held_after : (before after : State) (pass : ℕ) → pass < length before.passes → after.passes ≡ set before.passes pass (rights_held after pass)
-    → (job stripe : ℕ) → times_held after job stripe + times_right job stripe (rights_held before pass) ≡ times_held before job stripe + times_right job stripe (rights_held after pass)
+held_after : (before after : State) (pass : ℕ) → pass < length before.passes
+    → after.passes ≡ set before.passes pass (rights_held after pass)
+    → (job stripe : ℕ)
+    → times_held after job stripe + times_right job stripe (rights_held before pass) ≡ times_held before job stripe + times_right job stripe (rights_held after pass)
 held_after before after pass below is job stripe =
     let f : List Right → ℕ = λ rights. times_right job stripe rights in
     let e = sum_by-set f before.passes pass (rights_held after pass) [] below in
     subst (λ (passes : List (List Right)). sum_by f passes + f (rights_held before pass) ≡ sum_by f before.passes + f (rights_held after pass)) (sym is) e
 
 -- counts over a permutation
-times_popped : (job other : ℕ) (xs ys : List ℕ) → IsPermutation xs (job ∷ ys) → times other ys + one_if (eqb job other) ≡ times other xs
+times_popped : (job other : ℕ) (xs ys : List ℕ) → IsPermutation xs (job ∷ ys)
+    → times other ys + one_if (eqb job other) ≡ times other xs
 times_popped job other xs ys perm = sum_by_popped (λ (x : ℕ). cond (eqb x other) 1 0) job xs ys perm
 
-right_popped : (job stripe : ℕ) (right : Right) (xs ys : List Right) → IsPermutation xs (right ∷ ys) → times_right job stripe ys + one_if (eqb right.job job && eqb right.stripe stripe) ≡ times_right job stripe xs
+right_popped : (job stripe : ℕ) (right : Right) (xs ys : List Right) → IsPermutation xs (right ∷ ys)
+    → times_right job stripe ys + one_if (eqb right.job job && eqb right.stripe stripe) ≡ times_right job stripe xs
 right_popped job stripe right xs ys perm = sum_by_popped (λ (x : Right). cond (eqb x.job job && eqb x.stripe stripe) 1 0) right xs ys perm
 
 -- ---- a draw
@@ -41,7 +46,8 @@ draw_held before pass drawn after step job stripe =
     let d = times_right-rights_of drawn (stripe_count before) job stripe in
     omega (arith, a, b, c, d)
 
-draw_keeps : (jobs : ℕ) (before : State) (pass drawn : ℕ) (after : State) → IsBalanced jobs before → Draws before pass drawn after → IsBalanced jobs after
+draw_keeps : (jobs : ℕ) (before : State) (pass drawn : ℕ) (after : State) → IsBalanced jobs before
+    → Draws before pass drawn after → IsBalanced jobs after
 draw_keeps jobs before pass drawn after old step = record { balance = balance; no_stripe = no_stripe; bag_once = bag_once }
   where
     bag_once : (job : ℕ) → times job after.bag ≤ one_if (ltb job jobs)
@@ -72,7 +78,8 @@ draw_keeps jobs before pass drawn after old step = record { balance = balance; n
         both false = refl
 
 -- ---- an addition
-histories_after : (before : State) (pass job stripe : ℕ) (after : State) → Adds before pass job stripe after → after.histories ≡ set before.histories stripe (history_of before stripe ++ job ∷ [])
+histories_after : (before : State) (pass job stripe : ℕ) (after : State) → Adds before pass job stripe after
+    → after.histories ≡ set before.histories stripe (history_of before stripe ++ job ∷ [])
 histories_after before pass job stripe after step = step.other_histories ∙ ap (λ (h : List ℕ). set before.histories stripe h) step.gives_up.joins_history
 
 add_held : (before : State) (pass job stripe : ℕ) (after : State) → Adds before pass job stripe after → (j k : ℕ)
@@ -83,7 +90,8 @@ add_held before pass job stripe after step j k =
     omega (arith, a, b)
 
 -- a right that is held is one of a stripe
-add_is_stripe : (jobs : ℕ) (before : State) (pass job stripe : ℕ) (after : State) → IsBalanced jobs before → Adds before pass job stripe after → stripe < stripe_count before
+add_is_stripe : (jobs : ℕ) (before : State) (pass job stripe : ℕ) (after : State) → IsBalanced jobs before
+    → Adds before pass job stripe after → stripe < stripe_count before
 add_is_stripe jobs before pass job stripe after old step = elim (cases_lt stripe (stripe_count before)) [ inl h ↦ h | inr above ↦ absurd (no above) ]
   where
     no : stripe_count before ≤ stripe → ⊥
@@ -91,7 +99,8 @@ add_is_stripe jobs before pass job stripe after old step = elim (cases_lt stripe
         let one : one_if (eqb job job && eqb stripe stripe) ≡ 1 = grind (arith, nat_tests) in
         omega (arith, add_held before pass job stripe after step job stripe, one, old.no_stripe job stripe above)
 
-add_history : (before : State) (pass job stripe : ℕ) (after : State) → Adds before pass job stripe after → stripe < stripe_count before → (j k : ℕ)
+add_history : (before : State) (pass job stripe : ℕ) (after : State) → Adds before pass job stripe after
+    → stripe < stripe_count before → (j k : ℕ)
     → times j (history_of after k) ≡ times j (history_of before k) + one_if (eqb job j && eqb stripe k)
 add_history before pass job stripe after step below j k =
     let e : history_of after k ≡ get_or (set before.histories stripe (history_of before stripe ++ job ∷ [])) k [] = ap (λ (h : List (List ℕ)). get_or h k []) (histories_after before pass job stripe after step) in
@@ -111,7 +120,8 @@ add_history before pass job stripe after step below j k =
         let zero' : one_if (eqb job j && eqb stripe k) ≡ 0 = grind (arith, nat_tests) in
         omega (arith, ap (times j) at, zero')
 
-add_keeps : (jobs : ℕ) (before : State) (pass job stripe : ℕ) (after : State) → IsBalanced jobs before → Adds before pass job stripe after → IsBalanced jobs after
+add_keeps : (jobs : ℕ) (before : State) (pass job stripe : ℕ) (after : State) → IsBalanced jobs before
+    → Adds before pass job stripe after → IsBalanced jobs after
 add_keeps jobs before pass job stripe after old step = record { balance = balance; no_stripe = no_stripe; bag_once = bag_once }
   where
     bag_once : (j : ℕ) → times j after.bag ≤ one_if (ltb j jobs)
@@ -135,16 +145,19 @@ add_keeps jobs before pass job stripe after old step = record { balance = balanc
         omega (arith, add_held before pass job stripe after step j k, old.no_stripe j k above')
 
 -- ---- every list of steps
-pub step_keeps : (jobs : ℕ) (before : State) (step : Step) (after : State) → IsBalanced jobs before → Takes before step after → IsBalanced jobs after
+pub step_keeps : (jobs : ℕ) (before : State) (step : Step) (after : State) → IsBalanced jobs before
+    → Takes before step after → IsBalanced jobs after
 step_keeps jobs before (draw pass job) after old step = draw_keeps jobs before pass job after old step
 step_keeps jobs before (add pass job stripe) after old step = add_keeps jobs before pass job stripe after old step
 
-pub steps_keep : (jobs : ℕ) {before : State} {steps : List Step} {after : State} → Leads before steps after → IsBalanced jobs before → IsBalanced jobs after
+pub steps_keep : (jobs : ℕ) {before : State} {steps : List Step} {after : State} → Leads before steps after
+    → IsBalanced jobs before → IsBalanced jobs after
 steps_keep jobs none old = old
 steps_keep jobs (first {before} {step} {between} taken rest) old = steps_keep jobs rest (step_keeps jobs before step between old taken)
 
 -- ---- the opening
-no_rights : (passes : List (List Right)) → All (λ rights. rights ≡ []) passes → (job stripe : ℕ) → sum_by (λ rights. times_right job stripe rights) passes ≡ 0
+no_rights : (passes : List (List Right)) → All (λ rights. rights ≡ []) passes → (job stripe : ℕ)
+    → sum_by (λ rights. times_right job stripe rights) passes ≡ 0
 no_rights [] empty job stripe = refl
 no_rights (head ∷ tail) empty job stripe =
     let here : times_right job stripe head ≡ 0 = ap (λ (rights : List Right). times_right job stripe rights) (empty 0 [] (omega arith)) in
@@ -167,5 +180,6 @@ pub reached_balanced : (jobs : ℕ) (state : State) → IsReached jobs state →
 reached_balanced jobs state (opening, steps, opens, leads) = steps_keep jobs leads (opening_balanced jobs opening opens)
 
 -- where each pass's list is empty, no right is held
-pub end_holds_none : (state : State) → All (λ rights. rights ≡ []) state.passes → (job stripe : ℕ) → times_held state job stripe ≡ 0
+pub end_holds_none : (state : State) → All (λ rights. rights ≡ []) state.passes → (job stripe : ℕ)
+    → times_held state job stripe ≡ 0
 end_holds_none state empty job stripe = no_rights state.passes empty job stripe

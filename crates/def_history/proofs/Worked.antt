@@ -11,19 +11,23 @@ right job stripe = record { job = job; stripe = stripe }
 holding : List ℕ → List Right → List ℕ → List ℕ → State
 holding bag rights one two = record { bag = bag; passes = rights ∷ []; histories = one ∷ two ∷ [] }
 
-drawn : (job : ℕ) (bag one two : List ℕ) → Draws (holding (job ∷ bag) [] one two) 0 job (holding bag (right job 0 ∷ right job 1 ∷ []) one two)
+drawn : (job : ℕ) (bag one two : List ℕ)
+    → Draws (holding (job ∷ bag) [] one two) 0 job (holding bag (right job 0 ∷ right job 1 ∷ []) one two)
 unfolding right holding
 drawn job bag one two = record { is_pass = omega arith; takes_job = record { held_none = refl; leaves_bag = IsPermutation-refl (job ∷ bag); gets_rights = IsPermutation-refl (right job 0 ∷ right job 1 ∷ []) }; other_passes = refl; histories = refl }
 
-added_first : (job : ℕ) (bag : List ℕ) (rights : List Right) (one two : List ℕ) → Adds (holding bag (right job 0 ∷ rights) one two) 0 job 0 (holding bag rights (one ++ job ∷ []) two)
+added_first : (job : ℕ) (bag : List ℕ) (rights : List Right) (one two : List ℕ)
+    → Adds (holding bag (right job 0 ∷ rights) one two) 0 job 0 (holding bag rights (one ++ job ∷ []) two)
 unfolding right holding
 added_first job bag rights one two = record { is_pass = omega arith; gives_up = record { gives_right = IsPermutation-refl (right job 0 ∷ rights); joins_history = refl }; other_passes = refl; other_histories = refl; bag = refl }
 
-added_second : (job : ℕ) (bag one two : List ℕ) → Adds (holding bag (right job 1 ∷ []) one two) 0 job 1 (holding bag [] one (two ++ job ∷ []))
+added_second : (job : ℕ) (bag one two : List ℕ)
+    → Adds (holding bag (right job 1 ∷ []) one two) 0 job 1 (holding bag [] one (two ++ job ∷ []))
 unfolding right holding
 added_second job bag one two = record { is_pass = omega arith; gives_up = record { gives_right = IsPermutation-refl (right job 1 ∷ []); joins_history = refl }; other_passes = refl; other_histories = refl; bag = refl }
 
-second_before_first : (job : ℕ) (bag one two : List ℕ) → Adds (holding bag (right job 0 ∷ right job 1 ∷ []) one two) 0 job 1 (holding bag (right job 0 ∷ []) one (two ++ job ∷ []))
+second_before_first : (job : ℕ) (bag one two : List ℕ)
+    → Adds (holding bag (right job 0 ∷ right job 1 ∷ []) one two) 0 job 1 (holding bag (right job 0 ∷ []) one (two ++ job ∷ []))
 unfolding right holding
 second_before_first job bag one two = record { is_pass = omega arith; gives_up = record { gives_right = IsPermutation-swap (right job 0 ∷ right job 1 ∷ []) (right job 1 ∷ right job 0 ∷ []) 0 1 (omega arith) (omega arith) refl; joins_history = refl }; other_passes = refl; other_histories = refl; bag = refl }
 

@@ -64,7 +64,8 @@ Takes before (add pass job stripe) after = Adds before pass job stripe after
 -- a list of steps leads from one state to another
 pub data Leads : State → List Step → State → Type 0 where
   none : {state : State} → Leads state [] state
-  first : {before : State} {step : Step} {between : State} {steps : List Step} {after : State} → Takes before step between → Leads between steps after → Leads before (step ∷ steps) after
+  first : {before : State} {step : Step} {between : State} {steps : List Step} {after : State}
+      → Takes before step between → Leads between steps after → Leads before (step ∷ steps) after
 
 -- the bag has every job once, no pass holds a right, and the histories are empty
 pub record IsOpening (jobs : ℕ) (state : State) : Type 0 where

@@ -15,22 +15,26 @@ KeepsBagLegal = (jobs : ℕ) (state : State) → IsReached jobs state → IsLega
 
 -- for each job and stripe: times in the bag, rights held by passes, and times in the history, together one
 abbrev pub CountsEachRightOnce : Type 0
-CountsEachRightOnce = (jobs : ℕ) (state : State) → IsReached jobs state → (job stripe : ℕ) → job < jobs → stripe < stripe_count state
+CountsEachRightOnce = (jobs : ℕ) (state : State) → IsReached jobs state → (job stripe : ℕ) → job < jobs
+    → stripe < stripe_count state
     → times job state.bag + times_held state job stripe + times job (history_of state stripe) ≡ 1
 
 -- a right is held by one holder and no other, or given up
 abbrev pub HoldsOrGivesUp : Type 0
-HoldsOrGivesUp = (jobs : ℕ) (state : State) → IsReached jobs state → (job stripe : ℕ) → job < jobs → stripe < stripe_count state
+HoldsOrGivesUp = (jobs : ℕ) (state : State) → IsReached jobs state → (job stripe : ℕ) → job < jobs
+    → stripe < stripe_count state
     → ((holder : Holder) × Holds state holder job stripe × ((other : Holder) → Holds state other job stripe → other ≡ holder)) ⊎ IsGivenUp state job stripe
 
 -- a right is given up exactly where the job is in that stripe's history
 abbrev pub GivesUpByAdding : Type 0
-GivesUpByAdding = (jobs : ℕ) (state : State) → IsReached jobs state → (job stripe : ℕ) → job < jobs → stripe < stripe_count state
+GivesUpByAdding = (jobs : ℕ) (state : State) → IsReached jobs state → (job stripe : ℕ) → job < jobs
+    → stripe < stripe_count state
     → IsGivenUp state job stripe ↔ Contains (history_of state stripe) job
 
 -- no pass holds a right of what is no job or no stripe
 abbrev pub HoldsOnlyRights : Type 0
-HoldsOnlyRights = (jobs : ℕ) (state : State) → IsReached jobs state → (pass job stripe : ℕ) → Holds state (Holder.the_pass pass) job stripe
+HoldsOnlyRights = (jobs : ℕ) (state : State) → IsReached jobs state → (pass job stripe : ℕ)
+    → Holds state (Holder.the_pass pass) job stripe
     → (job < jobs) × (stripe < stripe_count state)
 
 -- with the bag empty and no right held, every history is complete
@@ -43,7 +47,8 @@ EndsComplete = (jobs : ℕ) (state : State) → IsReached jobs state → IsAtEnd
 -- and then each row's replay, in the stripe that has the row, is the plain sum over all jobs
 abbrev pub EndsWithPlainSums : Type 0
 EndsWithPlainSums = (jobs : ℕ) (state : State) → IsReached jobs state → IsAtEnd state → 0 < stripe_count state
-    → (amount : ℕ → ℕ → ℤ) (row : ℕ) → replay amount (history_of state (stripe_of (stripe_count state) row)) row ≡ sum_over_jobs amount jobs row
+    → (amount : ℕ → ℕ → ℤ) (row : ℕ)
+    → replay amount (history_of state (stripe_of (stripe_count state) row)) row ≡ sum_over_jobs amount jobs row
 
 -- a history that is legal and complete, in whatever order, replays to the plain sum
 abbrev pub ReplaysToPlainSum : Type 0
@@ -54,7 +59,8 @@ ReplaysToPlainSum = (jobs : ℕ) (history : List ℕ) → IsLegal jobs history �
 pub record LiesOnce (stripes row : ℕ) : Type 0 where
   pub stripe : stripe_of stripes row < stripes
   pub there : place_of stripes row * stripes + stripe_of stripes row ≡ row
-  pub alone : (stripe place : ℕ) → stripe < stripes → place * stripes + stripe ≡ row → (stripe ≡ stripe_of stripes row) × (place ≡ place_of stripes row)
+  pub alone : (stripe place : ℕ) → stripe < stripes → place * stripes + stripe ≡ row
+      → (stripe ≡ stripe_of stripes row) × (place ≡ place_of stripes row)
 
 abbrev pub PlacesEachRowOnce : Type 0
 PlacesEachRowOnce = (stripes row : ℕ) → 0 < stripes → LiesOnce stripes row
@@ -62,10 +68,12 @@ PlacesEachRowOnce = (stripes row : ℕ) → 0 < stripes → LiesOnce stripes row
 -- where the jobs' leaves are all leaves, each once, the jobs' amounts at a row add up to the plain sum over all leaves
 abbrev pub JobsAddUpToLeaves : Type 0
 JobsAddUpToLeaves = (leaf_amount : ℕ → ℕ → ℤ) (ranges : List LeafRange) (leaves : ℕ) → Partitions ranges leaves
-    → (row : ℕ) → sum_over_jobs (amounts leaf_amount ranges) (length ranges) row ≡ sum_over_leaves leaf_amount leaves row
+    → (row : ℕ)
+    → sum_over_jobs (amounts leaf_amount ranges) (length ranges) row ≡ sum_over_leaves leaf_amount leaves row
 
 -- so the replays at the end are the plain sums over all leaves
 abbrev pub EndsWithLeafSums : Type 0
 EndsWithLeafSums = (leaf_amount : ℕ → ℕ → ℤ) (ranges : List LeafRange) (leaves : ℕ) → Partitions ranges leaves
     → (state : State) → IsReached (length ranges) state → IsAtEnd state → 0 < stripe_count state
-    → (row : ℕ) → replay (amounts leaf_amount ranges) (history_of state (stripe_of (stripe_count state) row)) row ≡ sum_over_leaves leaf_amount leaves row
+    → (row : ℕ)
+    → replay (amounts leaf_amount ranges) (history_of state (stripe_of (stripe_count state) row)) row ≡ sum_over_leaves leaf_amount leaves row

@@ -34,4 +34,5 @@ place_count stripes rows stripe = (rows + stripes - 1 - stripe) / stripes
 
 -- exactly the places below this number have a row
 abbrev pub StripesHoldTheirRows : Type 0
-StripesHoldTheirRows = (stripes rows stripe place : ℕ) → stripe < stripes → (place < place_count stripes rows stripe) ↔ (place * stripes + stripe < rows)
+StripesHoldTheirRows = (stripes rows stripe place : ℕ) → stripe < stripes
+    → (place < place_count stripes rows stripe) ↔ (place * stripes + stripe < rows)

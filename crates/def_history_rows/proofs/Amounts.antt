@@ -16,7 +16,9 @@ use Rattle.def_rows.specs.Rows.{amount_at, amount_in_row}
 use Rattle.def_history_rows.specs.JobRows.{leaf_amount}
 use Rattle.def_history_rows.specs.Laws.{AmountsAreSmall}
 
-nat_places : {X : Type 0} (f : X → ℕ) (d : X) (xs : List X) (g : ℕ → ℕ) (from : ℕ) → ((place : ℕ) → g (from + place) ≡ f (get_or xs place d)) → nat_sum_over g (range_with_len from (length xs)) ≡ nat_sum_over f xs
+nat_places : {X : Type 0} (f : X → ℕ) (d : X) (xs : List X) (g : ℕ → ℕ) (from : ℕ)
+    → ((place : ℕ) → g (from + place) ≡ f (get_or xs place d))
+    → nat_sum_over g (range_with_len from (length xs)) ≡ nat_sum_over f xs
 nat_places f d [] g from same = refl
 nat_places f d (x ∷ xs) g from same =
     let here : g from ≡ f x = ap g (sym (add-zero from)) ∙ same 0 in
@@ -26,11 +28,14 @@ nat_places f d (x ∷ xs) g from same =
     shift : (from place : ℕ) → from + 1 + place ≡ from + suc place
     shift from place = omega arith
 
-nat_flat_map : {X Y : Type 0} (f : Y → ℕ) (g : X → List Y) (xs : List X) → nat_sum_over f (flat_map g xs) ≡ nat_sum_over (λ x. nat_sum_over f (g x)) xs
+nat_flat_map : {X Y : Type 0} (f : Y → ℕ) (g : X → List Y) (xs : List X)
+    → nat_sum_over f (flat_map g xs) ≡ nat_sum_over (λ x. nat_sum_over f (g x)) xs
 nat_flat_map f g [] = refl
 nat_flat_map f g (x ∷ xs) = omega (arith, nat_sum_over-append f (g x) (flat_map g xs), nat_flat_map f g xs)
 
-amount_size : (player : Player) (against : List ℕ) (bound : ℕ) (z : Leaf) (s : ℕ) → ((t : ℕ) → slice_index against t ≤ bound) → unsigned_abs (amount_at player against z s) ≤ unsigned_abs z.weight * bound
+amount_size : (player : Player) (against : List ℕ) (bound : ℕ) (z : Leaf) (s : ℕ)
+    → ((t : ℕ) → slice_index against t ≤ bound)
+    → unsigned_abs (amount_at player against z s) ≤ unsigned_abs z.weight * bound
 amount_size player against bound z s small = by_test (eqb (leaf_sequence player z) s)
   where
     by_test : (b : Bool) → unsigned_abs (cond b (z.weight *ℤ pos (slice_index against (leaf_sequence (opponent player) z))) (pos 0)) ≤ unsigned_abs z.weight * bound

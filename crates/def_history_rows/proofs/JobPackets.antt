@@ -22,7 +22,9 @@ abbrev kept : (ℕ → ℤ) → (ℕ → Bool) → ℕ → ℕ → List Entry
 kept amount test from count = map (λ (row : ℕ). record { row = row; amount = amount row }) (filter test (range_with_len from count))
 
 -- what holds of the entry at each number of the range holds of each that is kept
-all_kept : (P : Entry → Type 0) (amount : ℕ → ℤ) (test : ℕ → Bool) (from count : ℕ) → ((row : ℕ) → from ≤ row → row < from + count → P (record { row = row; amount = amount row })) → All P (kept amount test from count)
+all_kept : (P : Entry → Type 0) (amount : ℕ → ℤ) (test : ℕ → Bool) (from count : ℕ)
+    → ((row : ℕ) → from ≤ row → row < from + count → P (record { row = row; amount = amount row }))
+    → All P (kept amount test from count)
 all_kept P amount test from zero holds = All-nil P
 all_kept P amount test from (suc count) holds = by_test (test from) refl (all_kept P amount test (from + 1) count (λ row low high. holds row (omega arith) (omega arith)))
   where
@@ -39,7 +41,8 @@ rising amount test from (suc count) = by_test (test from) refl (rising amount te
     by_test false e later = rw e later
 
 -- no entry has a number of the range that passes: there is none
-passes_is_kept : (amount : ℕ → ℤ) (test : ℕ → Bool) (from count row : ℕ) → from ≤ row → row < from + count → test row ≡ true → All (λ (x : Entry). x.row ≢ row) (kept amount test from count) → ⊥
+passes_is_kept : (amount : ℕ → ℤ) (test : ℕ → Bool) (from count row : ℕ) → from ≤ row → row < from + count
+    → test row ≡ true → All (λ (x : Entry). x.row ≢ row) (kept amount test from count) → ⊥
 passes_is_kept amount test from zero row low high passes none = absurd (omega arith)
 passes_is_kept amount test from (suc count) row low high passes none =
     by_place (λ next others. passes_is_kept amount test (from + 1) count row next (omega arith) passes others) (eqb from row) refl (test from) refl
@@ -59,7 +62,8 @@ passes_is_kept amount test from (suc count) row low high passes none =
         later next (rw e at none)
 
 -- ---- a row that no leaf has
-no_leaf_no_amount : (form : SequenceForm) (numbers_one numbers_two : List ℕ) (row : ℕ) (leaves : List Leaf) → is_touched form leaves row ≡ false
+no_leaf_no_amount : (form : SequenceForm) (numbers_one numbers_two : List ℕ) (row : ℕ) (leaves : List Leaf)
+    → is_touched form leaves row ≡ false
     → sum_over (λ z. amount_in_row form numbers_one numbers_two z row) leaves ≡ pos 0
 no_leaf_no_amount form numbers_one numbers_two row [] untouched = refl
 no_leaf_no_amount form numbers_one numbers_two row (z ∷ leaves) untouched =
@@ -83,8 +87,10 @@ no_leaf_no_amount form numbers_one numbers_two row (z ∷ leaves) untouched =
     nothing false e = rw e refl
 
 -- a row of the form that no entry has
-untouched_amount : (form : SequenceForm) (numbers_one numbers_two : List ℕ) (range : LeafRange) → range.first + range.count ≤ length form.leaves → (row : ℕ) → row < row_count form
-    → All (λ (x : Entry). x.row ≢ row) (packet_of form numbers_one numbers_two range) → job_amount (leaf_amount form numbers_one numbers_two) range row ≡ pos 0
+untouched_amount : (form : SequenceForm) (numbers_one numbers_two : List ℕ) (range : LeafRange)
+    → range.first + range.count ≤ length form.leaves → (row : ℕ) → row < row_count form
+    → All (λ (x : Entry). x.row ≢ row) (packet_of form numbers_one numbers_two range)
+    → job_amount (leaf_amount form numbers_one numbers_two) range row ≡ pos 0
 untouched_amount form numbers_one numbers_two range within row is_row none = by_test (is_touched form (job_leaves form range) row) refl
   where
     by_test : (b : Bool) → is_touched form (job_leaves form range) row ≡ b → job_amount (leaf_amount form numbers_one numbers_two) range row ≡ pos 0
@@ -105,7 +111,8 @@ touched_rows_make_packets form numbers_one numbers_two ranges job within =
     }
 
 -- ---- which rows are touched
-touched_is : (form : SequenceForm) (row : ℕ) (leaves : List Leaf) → is_touched form leaves row ≡ true → (z : Leaf) × Contains leaves z × (has_row form z row ≡ true)
+touched_is : (form : SequenceForm) (row : ℕ) (leaves : List Leaf) → is_touched form leaves row ≡ true
+    → (z : Leaf) × Contains leaves z × (has_row form z row ≡ true)
 touched_is form row [] e = absurd (cc)
 touched_is form row (x ∷ leaves) e = by_head (touched_is form row leaves) (has_row form x row) refl
   where
@@ -116,7 +123,8 @@ touched_is form row (x ∷ leaves) e = by_head (touched_is form row leaves) (has
         from : (z : Leaf) × Contains leaves z × (has_row form z row ≡ true) → (z : Leaf) × Contains (x ∷ leaves) z × (has_row form z row ≡ true)
         from (z, there, has) = (z, Contains-tail x z leaves there, has)
 
-is_touched_by : (form : SequenceForm) (row : ℕ) (leaves : List Leaf) (z : Leaf) → Contains leaves z → has_row form z row ≡ true → is_touched form leaves row ≡ true
+is_touched_by : (form : SequenceForm) (row : ℕ) (leaves : List Leaf) (z : Leaf) → Contains leaves z
+    → has_row form z row ≡ true → is_touched form leaves row ≡ true
 is_touched_by form row [] z (k, below, is) has = absurd (omega arith)
 is_touched_by form row (x ∷ leaves) z (zero, below, is) has = let h : has_row form x row ≡ true = ap (λ y. has_row form y row) is ∙ has in rw h refl
 is_touched_by form row (x ∷ leaves) z (suc k, below, is) has = let later = is_touched_by form row leaves z (k, omega arith, is) has in rw later (or-true (has_row form x row))
@@ -125,7 +133,8 @@ is_touched_by form row (x ∷ leaves) z (suc k, below, is) has = let later = is_
     or-true true = refl
     or-true false = refl
 
-in_range_is : (test : ℕ → Bool) (from count row : ℕ) → Contains (filter test (range_with_len from count)) row → (from ≤ row) × (row < from + count) × (test row ≡ true)
+in_range_is : (test : ℕ → Bool) (from count row : ℕ) → Contains (filter test (range_with_len from count)) row
+    → (from ≤ row) × (row < from + count) × (test row ≡ true)
 in_range_is test from zero row (k, below, is) = absurd (omega arith)
 in_range_is test from (suc count) row there = by_test (λ later. widen (in_range_is test (from + 1) count row later)) (test from) refl
   where
@@ -133,7 +142,8 @@ in_range_is test from (suc count) row there = by_test (λ later. widen (in_range
     widen (low, high, passes) = (omega arith, omega arith, passes)
 
     at : (Contains (filter test (range_with_len (from + 1) count)) row → (from ≤ row) × (row < from + suc count) × (test row ≡ true)) → test from ≡ true
-        → Contains (from ∷ filter test (range_with_len (from + 1) count)) row → (from ≤ row) × (row < from + suc count) × (test row ≡ true)
+        → Contains (from ∷ filter test (range_with_len (from + 1) count)) row
+        → (from ≤ row) × (row < from + suc count) × (test row ≡ true)
     at later e (zero, below, is) = let here : from ≡ row = is in (omega arith, omega arith, sym (ap test here) ∙ e)
     at later e (suc k, below, is) = later (k, omega arith, is)
 
@@ -142,7 +152,8 @@ in_range_is test from (suc count) row there = by_test (λ later. widen (in_range
     by_test later true e = at later e (rw e at there)
     by_test later false e = later (rw e at there)
 
-is_in_range : (test : ℕ → Bool) (from count row : ℕ) → from ≤ row → row < from + count → test row ≡ true → Contains (filter test (range_with_len from count)) row
+is_in_range : (test : ℕ → Bool) (from count row : ℕ) → from ≤ row → row < from + count → test row ≡ true
+    → Contains (filter test (range_with_len from count)) row
 is_in_range test from zero row low high passes = absurd (omega arith)
 is_in_range test from (suc count) row low high passes = by_place (λ next. is_in_range test (from + 1) count row next (omega arith) passes) (eqb from row) refl (test from) refl
   where

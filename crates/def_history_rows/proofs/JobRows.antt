@@ -14,7 +14,8 @@ use Rattle.def_history_rows.specs.JobRows.{leaf_of, leaf_amount, job_leaves}
 use Rattle.def_history_rows.specs.Laws.{RowsSumOverLeaves, JobsHaveTheirLeafSums, ReplaysEndAsRows}
 
 -- the leaves by their numbers
-pub by_number : (form : SequenceForm) (numbers_one numbers_two : List ℕ) (range : LeafRange) (row : ℕ) → range.first + range.count ≤ length form.leaves
+pub by_number : (form : SequenceForm) (numbers_one numbers_two : List ℕ) (range : LeafRange) (row : ℕ)
+    → range.first + range.count ≤ length form.leaves
     → job_amount (leaf_amount form numbers_one numbers_two) range row ≡ sum_over (λ z. amount_in_row form numbers_one numbers_two z row) (job_leaves form range)
 by_number form numbers_one numbers_two range row within =
     let long : length (job_leaves form range) ≡ range.count = simp (length-take, length-drop) (omega arith) in

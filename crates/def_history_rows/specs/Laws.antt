@@ -19,7 +19,8 @@ pub record SumToLeafSums (form : SequenceForm) (numbers_one numbers_two : List �
       → sum_over_leaves (leaf_amount form numbers_one numbers_two) (length form.leaves) (sequence_count form.sets_one + s) ≡ leaf_sum Two form.leaves numbers_one s
 
 abbrev pub RowsSumOverLeaves : Type 0
-RowsSumOverLeaves = (form : SequenceForm) (numbers_one numbers_two : List ℕ) → SumToLeafSums form numbers_one numbers_two
+RowsSumOverLeaves = (form : SequenceForm) (numbers_one numbers_two : List ℕ)
+    → SumToLeafSums form numbers_one numbers_two
 
 -- a job's amounts are the leaf sums of its leaves alone
 pub record IsPartOfLeafSums (form : SequenceForm) (numbers_one numbers_two : List ℕ) (range : LeafRange) : Type 0 where
@@ -29,7 +30,8 @@ pub record IsPartOfLeafSums (form : SequenceForm) (numbers_one numbers_two : Lis
       → job_amount (leaf_amount form numbers_one numbers_two) range (sequence_count form.sets_one + s) ≡ leaf_sum Two (job_leaves form range) numbers_one s
 
 abbrev pub JobsHaveTheirLeafSums : Type 0
-JobsHaveTheirLeafSums = (form : SequenceForm) (numbers_one numbers_two : List ℕ) (range : LeafRange) → range.first + range.count ≤ length form.leaves
+JobsHaveTheirLeafSums = (form : SequenceForm) (numbers_one numbers_two : List ℕ) (range : LeafRange)
+    → range.first + range.count ≤ length form.leaves
     → IsPartOfLeafSums form numbers_one numbers_two range
 
 -- with the bag empty and no right held, each row's replay is the leaf sum of the row's sequence
@@ -40,13 +42,16 @@ pub record ReplaysToLeafSums (form : SequenceForm) (numbers_one numbers_two : Li
       replay (amounts (leaf_amount form numbers_one numbers_two) ranges) (history_of state (stripe_of (stripe_count state) row)) row ≡ leaf_sum Two form.leaves numbers_one s
 
 abbrev pub ReplaysEndAsRows : Type 0
-ReplaysEndAsRows = (form : SequenceForm) (numbers_one numbers_two : List ℕ) (ranges : List LeafRange) → Partitions ranges (length form.leaves)
+ReplaysEndAsRows = (form : SequenceForm) (numbers_one numbers_two : List ℕ) (ranges : List LeafRange)
+    → Partitions ranges (length form.leaves)
     → (state : State) → IsReached (length ranges) state → IsAtEnd state → 0 < stripe_count state
     → ReplaysToLeafSums form numbers_one numbers_two ranges state
 
 -- at each row the sizes of all jobs' amounts add up to at most the mass times the greatest number of the plans, so each
 -- sum of some of them is no larger
 abbrev pub AmountsAreSmall : Type 0
-AmountsAreSmall = (form : SequenceForm) (numbers_one numbers_two : List ℕ) (bound : ℕ) (ranges : List LeafRange) → Partitions ranges (length form.leaves)
+AmountsAreSmall = (form : SequenceForm) (numbers_one numbers_two : List ℕ) (bound : ℕ) (ranges : List LeafRange)
+    → Partitions ranges (length form.leaves)
     → ((s : ℕ) → slice_index numbers_one s ≤ bound) → ((s : ℕ) → slice_index numbers_two s ≤ bound)
-    → (row : ℕ) → nat_sum_over (λ job. unsigned_abs (amounts (leaf_amount form numbers_one numbers_two) ranges job row)) (job_numbers (length ranges)) ≤ mass_of form.leaves * bound
+    → (row : ℕ)
+    → nat_sum_over (λ job. unsigned_abs (amounts (leaf_amount form numbers_one numbers_two) ranges job row)) (job_numbers (length ranges)) ≤ mass_of form.leaves * bound

@@ -15,7 +15,8 @@ length-added (a ∷ x) [] e = omega arith
 length-added (a ∷ x) (b ∷ y) e = ap suc (length-added x y (omega arith))
 
 -- each number of a sum is the sum of the two plans' numbers there
-pub at-added : (x y : List ℕ) (s : ℕ) → length x ≡ length y → slice_index (added x y) s ≡ slice_index x s + slice_index y s
+pub at-added : (x y : List ℕ) (s : ℕ) → length x ≡ length y
+    → slice_index (added x y) s ≡ slice_index x s + slice_index y s
 at-added [] [] s e = omega arith
 at-added [] (b ∷ y) s e = omega arith
 at-added (a ∷ x) [] s e = omega arith
@@ -28,7 +29,8 @@ zeros-added [] = refl
 zeros-added (a ∷ x) = ap (λ n. n ∷ added (replicate (length x) 0) x) (omega arith) ∙ ap (λ xs. a ∷ xs) (zeros-added x)
 
 -- two plans add up to a plan, and their roots to its root
-pub added-is_plan : (sets : List InformationSet) (d e : ℕ) (x y : List ℕ) → IsPlan sets d x → IsPlan sets e y → IsPlan sets (d + e) (added x y)
+pub added-is_plan : (sets : List InformationSet) (d e : ℕ) (x y : List ℕ) → IsPlan sets d x → IsPlan sets e y
+    → IsPlan sets (d + e) (added x y)
 added-is_plan sets d e x y p q =
     let same : length x ≡ length y = omega (arith, p.all_sequences, q.all_sequences) in
     let sum_at : (s : ℕ) → slice_index (added x y) s ≡ slice_index x s + slice_index y s = λ s. at-added x y s same in
@@ -54,7 +56,8 @@ first_zeros n x e = ap (λ m. added (replicate m 0) x) (sym e) ∙ zeros-added x
 second_zeros : (n : ℕ) (x : List ℕ) → length x ≡ n → added x (replicate n 0) ≡ x
 second_zeros n x e = ap (λ m. added x (replicate m 0)) (sym e) ∙ added_zeros x
 
-cleared_sums : (sets : List InformationSet) (d e : ℕ) (x y : List ℕ) → IsPlanOrCleared sets d x → IsPlanOrCleared sets e y → IsPlanOrCleared sets (d + e) (added x y)
+cleared_sums : (sets : List InformationSet) (d e : ℕ) (x y : List ℕ) → IsPlanOrCleared sets d x
+    → IsPlanOrCleared sets e y → IsPlanOrCleared sets (d + e) (added x y)
 cleared_sums sets zero zero x y p q =
     ap (λ z. added z y) p ∙ ap (added (cleared sets)) q ∙ first_zeros (sequence_count sets) (cleared sets) (length-replicate (sequence_count sets) 0)
 cleared_sums sets zero (suc e) x y p q =
@@ -78,7 +81,8 @@ at_start n = ap (λ m. slice_index (replicate m 0) 0) more
 no_plan : (sets : List InformationSet) (root : ℕ) → IsPlan sets root (cleared sets) → ⊥
 no_plan sets root p = let zero' : slice_index (cleared sets) 0 ≡ 0 = at_start (nat_sum_over (λ h. h.actions) sets) in omega (arith, p.some_root, p.root_weight, zero')
 
-root_is : (sets : List InformationSet) (root : ℕ) (plan : List ℕ) → IsPlanOrCleared sets root plan → (length plan ≡ sequence_count sets) × (slice_index plan 0 ≡ root)
+root_is : (sets : List InformationSet) (root : ℕ) (plan : List ℕ) → IsPlanOrCleared sets root plan
+    → (length plan ≡ sequence_count sets) × (slice_index plan 0 ≡ root)
 root_is sets zero plan p =
     (ap length p ∙ length-replicate (sequence_count sets) 0, ap (λ x. slice_index x 0) p ∙ at_start (nat_sum_over (λ h. h.actions) sets))
 root_is sets (suc root) plan p = (p.all_sequences, p.root_weight)

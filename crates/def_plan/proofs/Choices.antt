@@ -18,13 +18,15 @@ same_test a b c d to from =
     ⊎_elim (λ yes. yes.0 ∙ sym (eq-eqb c d (to yes.1))) (λ no. no.0 ∙ sym (ne_eqb c d (λ e. no.1 (from e)))) (eqb_tells a b)
 
 -- the share of all_to is nothing before the chosen action, and all from it on
-none_to : (a m choice n : ℕ) → choice < a → nat_sum_over (λ x. x) (map (λ s. cond (eqb s choice) n 0) (range_with_len a m)) ≡ 0
+none_to : (a m choice n : ℕ) → choice < a
+    → nat_sum_over (λ x. x) (map (λ s. cond (eqb s choice) n 0) (range_with_len a m)) ≡ 0
 none_to a zero choice n h = refl
 none_to a (suc m) choice n h =
     ap (λ b. cond b n 0 + nat_sum_over (λ x. x) (map (λ s. cond (eqb s choice) n 0) (range_with_len (a + 1) m))) (ne_eqb a choice (λ e. omega arith))
     ∙ omega (arith, none_to (a + 1) m choice n (omega arith))
 
-all_from : (a m choice n : ℕ) → a ≤ choice → choice < a + m → nat_sum_over (λ x. x) (map (λ s. cond (eqb s choice) n 0) (range_with_len a m)) ≡ n
+all_from : (a m choice n : ℕ) → a ≤ choice → choice < a + m
+    → nat_sum_over (λ x. x) (map (λ s. cond (eqb s choice) n 0) (range_with_len a m)) ≡ n
 all_from a zero choice n low high = absurd (omega arith)
 all_from a (suc m) choice n low high =
     ⊎_elim
@@ -32,7 +34,8 @@ all_from a (suc m) choice n low high =
     (λ no. ap (λ b. cond b n 0 + nat_sum_over (λ x. x) (map (λ s. cond (eqb s choice) n 0) (range_with_len (a + 1) m))) no.0 ∙ omega (arith, all_from (a + 1) m choice n (omega (arith, no.1)) (omega arith)))
     (eqb_tells a choice)
 
-pub all_to-whole : (h : InformationSet) (choice : ℕ) → 1 ≤ choice → choice ≤ h.actions → DealsWhole h (all_to h.actions choice)
+pub all_to-whole : (h : InformationSet) (choice : ℕ) → 1 ≤ choice → choice ≤ h.actions
+    → DealsWhole h (all_to h.actions choice)
 all_to-whole h choice low high = record {
   each_action = λ n. length-map (range_with_len 1 h.actions) (λ a. cond (eqb a choice) n 0) ∙ length-range_with_len 1 h.actions;
   adds_up = λ n. all_from 1 h.actions choice n low (omega arith);
@@ -41,20 +44,23 @@ all_to-whole h choice low high = record {
 abbrev rules_of : List InformationSet → List ℕ → List (ℕ → List ℕ)
 rules_of sets choices = map (λ p. all_to p.0.actions p.1) (zip sets choices)
 
-rules-whole : (sets : List InformationSet) (choices : List ℕ) → AreActions sets choices → AllZip DealsWhole sets (rules_of sets choices)
+rules-whole : (sets : List InformationSet) (choices : List ℕ) → AreActions sets choices
+    → AllZip DealsWhole sets (rules_of sets choices)
 rules-whole [] [] h = h
 rules-whole [] (c ∷ cs) h = elim h [ ]
 rules-whole (g ∷ gs) [] h = elim h [ ]
 rules-whole (g ∷ gs) (c ∷ cs) h = (all_to-whole g c h.0.0 h.0.1, rules-whole gs cs h.1)
 
 -- one choice at each set makes a plan of root 1
-pub pure_plan-is_plan : (sets : List InformationSet) (choices : List ℕ) → AreInOrder sets → AreActions sets choices → IsPlan sets 1 (pure_plan sets choices)
+pub pure_plan-is_plan : (sets : List InformationSet) (choices : List ℕ) → AreInOrder sets → AreActions sets choices
+    → IsPlan sets 1 (pure_plan sets choices)
 pure_plan-is_plan sets choices order are = dealt-is_plan 1 sets (rules_of sets choices) (omega arith) order (rules-whole sets choices are)
 
 abbrev Follows : List ℕ → PlacedSet → ℕ → Type 0
 Follows r h choice = All (λ s. slice_index r s ≡ cond (eqb s (chosen h choice)) (slice_index r h.before) 0) (sequences_of h)
 
-follows : (first : ℕ) (x : List ℕ) (hs : List InformationSet) (choices : List ℕ) → length x ≡ first → All IsInOrder (placed_from first hs) → AreActions hs choices
+follows : (first : ℕ) (x : List ℕ) (hs : List InformationSet) (choices : List ℕ) → length x ≡ first
+    → All IsInOrder (placed_from first hs) → AreActions hs choices
     → AllZip (Follows (dealt_onto x hs (rules_of hs choices))) (placed_from first hs) choices
 follows first x [] [] e order are = are
 follows first x [] (c ∷ cs) e order are = elim are [ ]
@@ -83,12 +89,15 @@ follows first x (h ∷ hs) (c ∷ cs) e order are =
     (All-range (λ s. slice_index r s ≡ cond (eqb s (chosen here c)) (slice_index r h.before) 0) first h.actions gives, follows (first + h.actions) x' hs cs e' later are.1)
 
 -- the plan of some choices gives each chosen sequence all, and the others of its set nothing
-pub pure_plan-follows : (sets : List InformationSet) (choices : List ℕ) → AreInOrder sets → AreActions sets choices → FollowsChoices sets choices (pure_plan sets choices)
+pub pure_plan-follows : (sets : List InformationSet) (choices : List ℕ) → AreInOrder sets → AreActions sets choices
+    → FollowsChoices sets choices (pure_plan sets choices)
 pure_plan-follows sets choices order are = follows 1 (1 ∷ []) sets choices refl order are
 
 -- two lists that follow the same choices from the same beginning are the same
-agree : (first : ℕ) (x y : List ℕ) (hs : List InformationSet) (choices : List ℕ) → All IsInOrder (placed_from first hs) → AllZip (Follows x) (placed_from first hs) choices → AllZip (Follows y) (placed_from first hs) choices
-    → ((s : ℕ) → s < first → slice_index x s ≡ slice_index y s) → (s : ℕ) → s < first + nat_sum_over (λ h. h.actions) hs → slice_index x s ≡ slice_index y s
+agree : (first : ℕ) (x y : List ℕ) (hs : List InformationSet) (choices : List ℕ) → All IsInOrder (placed_from first hs)
+    → AllZip (Follows x) (placed_from first hs) choices → AllZip (Follows y) (placed_from first hs) choices
+    → ((s : ℕ) → s < first → slice_index x s ≡ slice_index y s) → (s : ℕ) → s < first + nat_sum_over (λ h. h.actions) hs
+    → slice_index x s ≡ slice_index y s
 agree first x y [] choices order f g h s low = h s (omega arith)
 agree first x y (a ∷ hs) [] order f g h s low = elim f [ ]
 agree first x y (a ∷ hs) (c ∷ cs) order f g h s low =
@@ -104,7 +113,8 @@ agree first x y (a ∷ hs) (c ∷ cs) order f g h s low =
     s (omega arith)
 
 -- a plan of root 1 that follows the choices is the one that they make
-pub pure_plan-only : (sets : List InformationSet) (choices plan : List ℕ) → AreInOrder sets → AreActions sets choices → IsPlan sets 1 plan → FollowsChoices sets choices plan → plan ≡ pure_plan sets choices
+pub pure_plan-only : (sets : List InformationSet) (choices plan : List ℕ) → AreInOrder sets → AreActions sets choices
+    → IsPlan sets 1 plan → FollowsChoices sets choices plan → plan ≡ pure_plan sets choices
 pure_plan-only sets choices plan order are p f =
     let q = pure_plan-is_plan sets choices order are in
     ext_get_or 0 plan (pure_plan sets choices) (p.all_sequences ∙ sym q.all_sequences)

@@ -16,7 +16,9 @@ pub record IsDealt (first : ℕ) (x : List ℕ) (hs : List InformationSet) (r : 
   pub sums : All (AddsUp r) (placed_from first hs)
 
 -- dealing keeps the numbers that are there, and those that it adds at each set add up
-pub dealt_onto-is_dealt : (first : ℕ) (x : List ℕ) (hs : List InformationSet) (rules : List (ℕ → List ℕ)) → length x ≡ first → All IsInOrder (placed_from first hs) → AllZip DealsWhole hs rules → IsDealt first x hs (dealt_onto x hs rules)
+pub dealt_onto-is_dealt : (first : ℕ) (x : List ℕ) (hs : List InformationSet) (rules : List (ℕ → List ℕ))
+    → length x ≡ first → All IsInOrder (placed_from first hs) → AllZip DealsWhole hs rules
+    → IsDealt first x hs (dealt_onto x hs rules)
 dealt_onto-is_dealt first x [] rules e order whole = record {
   long = omega arith;
   kept = λ s below. refl;
@@ -49,7 +51,8 @@ dealt_onto-is_dealt first x (h ∷ hs) (rule ∷ rules) e order whole =
     }
 
 -- rules that deal each number whole make a plan of the root that they begin with
-pub dealt-is_plan : (root : ℕ) (sets : List InformationSet) (rules : List (ℕ → List ℕ)) → 1 ≤ root → AreInOrder sets → AllZip DealsWhole sets rules → IsPlan sets root (dealt root sets rules)
+pub dealt-is_plan : (root : ℕ) (sets : List InformationSet) (rules : List (ℕ → List ℕ)) → 1 ≤ root → AreInOrder sets
+    → AllZip DealsWhole sets rules → IsPlan sets root (dealt root sets rules)
 dealt-is_plan root sets rules some order whole =
     let d = dealt_onto-is_dealt 1 (root ∷ []) sets rules refl order whole in
     record {

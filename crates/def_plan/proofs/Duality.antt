@@ -40,7 +40,9 @@ two_orders sums sets values root x plan =
 
 -- at one set
 at_set : (R : ℤ → ℤ → Type 0) → R (pos 0) (pos 0) → ((a b c d : ℤ) → R a b → R c d → R (a +ℤ c) (b +ℤ d))
-    → (w : ℕ → ℤ) (value : ℤ) (x : List ℕ) (n : ℕ) (xs : List ℕ) → All (λ s. R (w s *ℤ pos (slice_index x s)) (value *ℤ pos (slice_index x s))) xs → nat_sum_over (λ s. slice_index x s) xs ≡ n
+    → (w : ℕ → ℤ) (value : ℤ) (x : List ℕ) (n : ℕ) (xs : List ℕ)
+    → All (λ s. R (w s *ℤ pos (slice_index x s)) (value *ℤ pos (slice_index x s))) xs
+    → nat_sum_over (λ s. slice_index x s) xs ≡ n
     → R (sum_over (λ s. w s *ℤ pos (slice_index x s)) xs) (value *ℤ pos n)
 at_set R none add w value x n xs h e =
     subst (R (sum_over (λ s. w s *ℤ pos (slice_index x s)) xs))
@@ -61,7 +63,8 @@ at_each R none add w x (g ∷ gs) (v ∷ vs) h sums =
     (at_set R none add w v x (slice_index x g.before) (sequences_of g) h.0 (All-head (AddsUp x) g gs sums))
     (at_each R none add w x gs vs h.1 (All-tail (AddsUp x) g gs sums))
 
-AllZip-weaker : {A B : Type 0} (P Q : A → B → Type 0) → ((a : A) (b : B) → P a b → Q a b) → (xs : List A) (ys : List B) → AllZip P xs ys → AllZip Q xs ys
+AllZip-weaker : {A B : Type 0} (P Q : A → B → Type 0) → ((a : A) (b : B) → P a b → Q a b) → (xs : List A) (ys : List B)
+    → AllZip P xs ys → AllZip Q xs ys
 AllZip-weaker P Q f [] [] h = h
 AllZip-weaker P Q f [] (y ∷ ys) h = h
 AllZip-weaker P Q f (x ∷ xs) [] h = h
@@ -71,11 +74,13 @@ no_better-zero : (player : Player) → IsNoBetter player (pos 0) (pos 0)
 no_better-zero One = ≤ℤ_refl (pos 0)
 no_better-zero Two = ≤ℤ_refl (pos 0)
 
-no_better-add : (player : Player) (a b c d : ℤ) → IsNoBetter player a b → IsNoBetter player c d → IsNoBetter player (a +ℤ c) (b +ℤ d)
+no_better-add : (player : Player) (a b c d : ℤ) → IsNoBetter player a b → IsNoBetter player c d
+    → IsNoBetter player (a +ℤ c) (b +ℤ d)
 no_better-add One a b c d h k = +ℤ-mono a b c d h k
 no_better-add Two a b c d h k = +ℤ-mono b a d c h k
 
-no_better-times : (player : Player) (n : ℕ) (a b : ℤ) → IsNoBetter player a b → IsNoBetter player (a *ℤ pos n) (b *ℤ pos n)
+no_better-times : (player : Player) (n : ℕ) (a b : ℤ) → IsNoBetter player a b
+    → IsNoBetter player (a *ℤ pos n) (b *ℤ pos n)
 no_better-times One n a b h = *ℤ-mono_right n a b h
 no_better-times Two n a b h = *ℤ-mono_right n b a h
 
@@ -85,7 +90,8 @@ no_better-cancel Two g v t s e h = omega (arith, ints)
 
 -- values of which no action is better bound what every plan of every root gains
 pub weak_duality_lem : (player : Player) (sums : ℕ → ℤ) (sets : List InformationSet) (values : List ℤ) (root : ℕ) (x : List ℕ)
-    → NoActionIsBetter player sums sets values → IsPlan sets root x → IsNoBetter player (gain sums sets x) (pos root *ℤ worth sums (placed sets) values 0)
+    → NoActionIsBetter player sums sets values → IsPlan sets root x
+    → IsNoBetter player (gain sums sets x) (pos root *ℤ worth sums (placed sets) values 0)
 weak_duality_lem player sums sets values root x h plan =
     let w : ℕ → ℤ = worth sums (placed sets) values in
     no_better-cancel player _ _ _ _ (two_orders sums sets values root x plan)
@@ -99,7 +105,8 @@ same_times (suc n) a b h = ap (λ z. z *ℤ pos (suc n)) (h (omega arith))
 
 -- a plan that plays only where the worth is the set's value gains exactly the bound of weak duality
 pub complementary_slackness_lem : (sums : ℕ → ℤ) (sets : List InformationSet) (values : List ℤ) (root : ℕ) (x : List ℕ)
-    → PlaysOnlyTight sums sets values x → IsPlan sets root x → gain sums sets x ≡ pos root *ℤ worth sums (placed sets) values 0
+    → PlaysOnlyTight sums sets values x → IsPlan sets root x
+    → gain sums sets x ≡ pos root *ℤ worth sums (placed sets) values 0
 complementary_slackness_lem sums sets values root x h plan =
     let w : ℕ → ℤ = worth sums (placed sets) values in
     let sides : at_sets w x (placed sets) ≡ of_values x (placed sets) values =

@@ -20,15 +20,18 @@ abbrev pub after : ℕ → List (PlacedSet × ℤ) → ℕ
 after s zs = nat_sum_over size (filter (λ p. eqb p.0.before s) zs)
 
 -- a filter takes or leaves the first
-pub kept : (b : Bool) (p : PlacedSet × ℤ) (ps : List (PlacedSet × ℤ)) → nat_sum_over size (cond b (p ∷ ps) ps) ≡ cond b (size p) 0 + nat_sum_over size ps
+pub kept : (b : Bool) (p : PlacedSet × ℤ) (ps : List (PlacedSet × ℤ))
+    → nat_sum_over size (cond b (p ∷ ps) ps) ≡ cond b (size p) 0 + nat_sum_over size ps
 kept true p ps = refl
 kept false p ps = omega arith
 
-at_one : (b s first next v : ℕ) → first ≤ s → s < next → cond (eqb b s) v 0 + cond (ltb b first) v 0 ≤ cond (ltb b next) v 0
+at_one : (b s first next v : ℕ) → first ≤ s → s < next
+    → cond (eqb b s) v 0 + cond (ltb b first) v 0 ≤ cond (ltb b next) v 0
 at_one b s first next v low high = grind (arith, nat_tests)
 
 -- what hangs on one sequence and on those before a first one hangs below the next
-pub after-hanging : (s first next : ℕ) (zs : List (PlacedSet × ℤ)) → first ≤ s → s < next → after s zs + hanging first zs ≤ hanging next zs
+pub after-hanging : (s first next : ℕ) (zs : List (PlacedSet × ℤ)) → first ≤ s → s < next
+    → after s zs + hanging first zs ≤ hanging next zs
 after-hanging s first next [] low high = omega arith
 after-hanging s first next (p ∷ ps) low high =
     omega (arith, kept (eqb p.0.before s) p (filter (λ q. eqb q.0.before s) ps), at_one p.0.before s first next (size p) low high, after-hanging s first next ps low high)
@@ -49,7 +52,8 @@ from-cons sums first h hs =
     ∙ nat_sum_over-append (λ s. unsigned_abs (sums s)) (range_with_len first h.actions) (range_with_len (first + h.actions) (nat_sum_over (λ g. g.actions) hs))
 
 -- all leaf sums
-pub all_sums : (sums : ℕ → ℤ) (sets : List InformationSet) → nat_sum_over (λ s. unsigned_abs (sums s)) (sequences sets) ≡ unsigned_abs (sums 0) + from sums 1 sets
+pub all_sums : (sums : ℕ → ℤ) (sets : List InformationSet)
+    → nat_sum_over (λ s. unsigned_abs (sums s)) (sequences sets) ≡ unsigned_abs (sums 0) + from sums 1 sets
 all_sums sums sets =
     let one_first : sequence_count sets ≡ suc (nat_sum_over (λ h. h.actions) sets) = omega arith in
     ap (λ n. nat_sum_over (λ s. unsigned_abs (sums s)) (range_with_len 0 n)) one_first

@@ -9,7 +9,8 @@ use Rattle.def_plan.specs.Laws.{SequencesAreNumbered}
 abbrev pub actions_of : List InformationSet → ℕ
 actions_of hs = nat_sum_over (λ h. h.actions) hs
 
-from_first : (first : ℕ) (hs : List InformationSet) → range_with_len first (actions_of hs) ≡ flat_map sequences_of (placed_from first hs)
+from_first : (first : ℕ) (hs : List InformationSet)
+    → range_with_len first (actions_of hs) ≡ flat_map sequences_of (placed_from first hs)
 from_first first [] = refl
 from_first first (h ∷ hs) =
     range-append first h.actions (actions_of hs) ∙ ap (λ ss. range_with_len first h.actions ++ ss) (from_first (first + h.actions) hs)
@@ -30,7 +31,8 @@ at-placed first (a ∷ hs) (suc k) h g low =
     let later : first + a.actions + actions_of (take k hs) ≡ first + (a.actions + actions_of (take k hs)) = omega arith in
     at-placed (first + a.actions) hs k h g (omega arith) ∙ ap (λ n. record { first = n; before = (get_or hs k g).before; actions = (get_or hs k g).actions }) later
 
-pub drop-placed : (first k : ℕ) (hs : List InformationSet) → drop k (placed_from first hs) ≡ placed_from (first + actions_of (take k hs)) (drop k hs)
+pub drop-placed : (first k : ℕ) (hs : List InformationSet)
+    → drop k (placed_from first hs) ≡ placed_from (first + actions_of (take k hs)) (drop k hs)
 drop-placed first zero hs = ap (λ n. placed_from n hs) (omega arith)
 drop-placed first (suc k) [] = refl
 drop-placed first (suc k) (a ∷ hs) = drop-placed (first + a.actions) k hs ∙ ap (λ n. placed_from n (drop k hs)) (omega arith)

@@ -14,12 +14,14 @@ abbrev Follows : List ℕ → PlacedSet → (ℕ → List ℕ) → Type 0
 Follows x h rule = map (λ s. slice_index x s) (sequences_of h) ≡ rule (slice_index x h.before)
 
 -- the places of a list, read one after the other
-read : (f : ℕ → ℕ) (a n : ℕ) (ys : List ℕ) → length ys ≡ n → ((i : ℕ) → i < n → f (a + i) ≡ get_or ys i 0) → map f (range_with_len a n) ≡ ys
+read : (f : ℕ → ℕ) (a n : ℕ) (ys : List ℕ) → length ys ≡ n → ((i : ℕ) → i < n → f (a + i) ≡ get_or ys i 0)
+    → map f (range_with_len a n) ≡ ys
 read f a n ys e h =
     ext_get_or 0 (map f (range_with_len a n)) ys (length-map-range_with_len f a n ∙ sym e)
     (λ i low. let less : i < n = omega (arith, length-map-range_with_len f a n) in get_or-map-range_with_len f a n i (a + i) 0 less refl ∙ h i less)
 
-follows : (first : ℕ) (x : List ℕ) (hs : List InformationSet) (rules : List (ℕ → List ℕ)) → length x ≡ first → All IsInOrder (placed_from first hs) → AllZip DealsWhole hs rules
+follows : (first : ℕ) (x : List ℕ) (hs : List InformationSet) (rules : List (ℕ → List ℕ)) → length x ≡ first
+    → All IsInOrder (placed_from first hs) → AllZip DealsWhole hs rules
     → AllZip (Follows (dealt_onto x hs rules)) (placed_from first hs) rules
 follows first x [] [] e order whole = whole
 follows first x [] (rule ∷ rules) e order whole = elim whole [ ]
@@ -42,12 +44,16 @@ follows first x (h ∷ hs) (rule ∷ rules) e order whole =
     (made ∙ ap rule (sym had), follows (first + h.actions) x' hs rules e' later whole.1)
 
 -- a dealt plan follows the rules that it is dealt by
-pub dealt-follows : (sets : List InformationSet) (root : ℕ) (rules : List (ℕ → List ℕ)) → AreInOrder sets → AllZip DealsWhole sets rules → FollowsRules sets rules (dealt root sets rules)
+pub dealt-follows : (sets : List InformationSet) (root : ℕ) (rules : List (ℕ → List ℕ)) → AreInOrder sets
+    → AllZip DealsWhole sets rules → FollowsRules sets rules (dealt root sets rules)
 dealt-follows sets root rules order whole = follows 1 (root ∷ []) sets rules refl order whole
 
 -- two lists that follow the same rules from the same beginning are the same
-agree : (first : ℕ) (x y : List ℕ) (hs : List InformationSet) (rules : List (ℕ → List ℕ)) → All IsInOrder (placed_from first hs) → AllZip (Follows x) (placed_from first hs) rules → AllZip (Follows y) (placed_from first hs) rules
-    → ((s : ℕ) → s < first → slice_index x s ≡ slice_index y s) → (s : ℕ) → s < first + nat_sum_over (λ h. h.actions) hs → slice_index x s ≡ slice_index y s
+agree : (first : ℕ) (x y : List ℕ) (hs : List InformationSet) (rules : List (ℕ → List ℕ))
+    → All IsInOrder (placed_from first hs) → AllZip (Follows x) (placed_from first hs) rules
+    → AllZip (Follows y) (placed_from first hs) rules
+    → ((s : ℕ) → s < first → slice_index x s ≡ slice_index y s) → (s : ℕ) → s < first + nat_sum_over (λ h. h.actions) hs
+    → slice_index x s ≡ slice_index y s
 agree first x y [] rules order f g h s low = h s (omega arith)
 agree first x y (a ∷ hs) [] order f g h s low = elim f [ ]
 agree first x y (a ∷ hs) (rule ∷ rules) order f g h s low =
@@ -66,7 +72,8 @@ agree first x y (a ∷ hs) (rule ∷ rules) order f g h s low =
     s (omega arith)
 
 -- a plan of the same root that follows the rules is the dealt one
-pub dealt-only : (sets : List InformationSet) (root : ℕ) (rules : List (ℕ → List ℕ)) (plan : List ℕ) → AreInOrder sets → AllZip DealsWhole sets rules → IsPlan sets root plan → FollowsRules sets rules plan → plan ≡ dealt root sets rules
+pub dealt-only : (sets : List InformationSet) (root : ℕ) (rules : List (ℕ → List ℕ)) (plan : List ℕ) → AreInOrder sets
+    → AllZip DealsWhole sets rules → IsPlan sets root plan → FollowsRules sets rules plan → plan ≡ dealt root sets rules
 dealt-only sets root rules plan order whole p f =
     let made = dealt_onto-is_dealt 1 (root ∷ []) sets rules refl order whole in
     ext_get_or 0 plan (dealt root sets rules) (p.all_sequences ∙ sym made.long)

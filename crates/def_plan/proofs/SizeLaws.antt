@@ -15,8 +15,10 @@ use Rattle.def_plan.specs.Form.{InformationSet, PlacedSet, placed_from, sequence
 use Rattle.def_plan.specs.Plan.{AddsUp, IsPlan}
 use Rattle.def_plan.specs.Payoff.{leaf_sum, mass_of}
 
-below : (root first : ℕ) (x : List ℕ) (hs : List InformationSet) → All IsInOrder (placed_from first hs) → All (AddsUp x) (placed_from first hs)
-    → ((s : ℕ) → s < first → slice_index x s ≤ root) → (s : ℕ) → s < first + nat_sum_over (λ h. h.actions) hs → slice_index x s ≤ root
+below : (root first : ℕ) (x : List ℕ) (hs : List InformationSet) → All IsInOrder (placed_from first hs)
+    → All (AddsUp x) (placed_from first hs)
+    → ((s : ℕ) → s < first → slice_index x s ≤ root) → (s : ℕ) → s < first + nat_sum_over (λ h. h.actions) hs
+    → slice_index x s ≤ root
 below root first x [] order sums h s low = h s (omega arith)
 below root first x (g ∷ gs) order sums h s low =
     let here : PlacedSet = record { first = first; before = g.before; actions = g.actions } in
@@ -29,7 +31,8 @@ below root first x (g ∷ gs) order sums h s low =
     s (omega arith)
 
 -- no number of a plan is greater than its root
-pub plan-below_root : (sets : List InformationSet) (root : ℕ) (x : List ℕ) → AreInOrder sets → IsPlan sets root x → (s : ℕ) → slice_index x s ≤ root
+pub plan-below_root : (sets : List InformationSet) (root : ℕ) (x : List ℕ) → AreInOrder sets → IsPlan sets root x
+    → (s : ℕ) → slice_index x s ≤ root
 plan-below_root sets root x order p s =
     ⊎_elim
     (λ low. below root 1 x sets order p.each_set (λ t first. let none : t ≡ 0 = omega arith in omega (arith, p.root_weight, ap (λ k. slice_index x k) none)) s low)
@@ -41,7 +44,8 @@ term w n root h = omega (arith, unsigned_abs-mul w (pos n), mul-le-mul_left (uns
 
 -- the leaf sums against a plan are together at most the leaves' mass times the plan's root
 pub leaf_sums-below : (player : Player) (leaves : List Leaf) (sets against_sets : List InformationSet) (root : ℕ) (x : List ℕ)
-    → AreInOrder against_sets → IsPlan against_sets root x → nat_sum_over (λ s. unsigned_abs (leaf_sum player leaves x s)) (sequences sets) ≤ mass_of leaves * root
+    → AreInOrder against_sets → IsPlan against_sets root x
+    → nat_sum_over (λ s. unsigned_abs (leaf_sum player leaves x s)) (sequences sets) ≤ mass_of leaves * root
 leaf_sums-below player leaves sets against_sets root x order p =
     let size : Leaf → ℕ = λ z. unsigned_abs z.weight * root in
     let amount : Leaf → ℤ = λ z. z.weight *ℤ pos (slice_index x (leaf_sequence (opponent player) z)) in
@@ -63,9 +67,11 @@ leaf_sums-below player leaves sets against_sets root x order p =
     )
 
 -- under a round's limits the mass times the root is at most 2 ^ 82
-pub of_a_round : (leaves : List Leaf) (root : ℕ) → mass_of leaves ≤ most_mass → root ≤ most_scale → mass_of leaves * root ≤ 2 ^ 82
+pub of_a_round : (leaves : List Leaf) (root : ℕ) → mass_of leaves ≤ most_mass → root ≤ most_scale
+    → mass_of leaves * root ≤ 2 ^ 82
 of_a_round leaves root h k = mul-le-mul h k
 
 -- under an evaluation's limits the mass times the root is at most 2 ^ 98
-pub of_an_evaluation : (leaves : List Leaf) (root : ℕ) → mass_of leaves ≤ most_mass → root ≤ most_root → mass_of leaves * root ≤ 2 ^ 98
+pub of_an_evaluation : (leaves : List Leaf) (root : ℕ) → mass_of leaves ≤ most_mass → root ≤ most_root
+    → mass_of leaves * root ≤ 2 ^ 98
 of_an_evaluation leaves root h k = mul-le-mul h k

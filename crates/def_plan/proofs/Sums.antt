@@ -14,13 +14,15 @@ by_two : (w : ℤ) (m n : ℕ) → w *ℤ pos m *ℤ pos n ≡ w *ℤ pos (m * n
 by_two w m n = *ℤ_assoc w (pos m) (pos n)
 
 -- what player one's plan gains from the leaf sums against player two's is the payoff of both
-pub gain_is_pay_one : (leaves : List Leaf) (sets : List InformationSet) (x y : List ℕ) → length x ≡ sequence_count sets → gain (leaf_sum One leaves y) sets x ≡ pay leaves x y
+pub gain_is_pay_one : (leaves : List Leaf) (sets : List InformationSet) (x y : List ℕ) → length x ≡ sequence_count sets
+    → gain (leaf_sum One leaves y) sets x ≡ pay leaves x y
 gain_is_pay_one leaves sets x y e =
     regroup leaves (λ z. z.sequence_one) (λ z. z.weight *ℤ pos (slice_index y z.sequence_two)) x (sequence_count sets) e
     ∙ sum_over-ext _ _ leaves (λ z. by_one z.weight (slice_index x z.sequence_one) (slice_index y z.sequence_two))
 
 -- what player two's plan gains from the leaf sums against player one's is the payoff of both
-pub gain_is_pay_two : (leaves : List Leaf) (sets : List InformationSet) (x y : List ℕ) → length y ≡ sequence_count sets → gain (leaf_sum Two leaves x) sets y ≡ pay leaves x y
+pub gain_is_pay_two : (leaves : List Leaf) (sets : List InformationSet) (x y : List ℕ) → length y ≡ sequence_count sets
+    → gain (leaf_sum Two leaves x) sets y ≡ pay leaves x y
 gain_is_pay_two leaves sets x y e =
     regroup leaves (λ z. z.sequence_two) (λ z. z.weight *ℤ pos (slice_index x z.sequence_one)) y (sequence_count sets) e
     ∙ sum_over-ext _ _ leaves (λ z. by_two z.weight (slice_index x z.sequence_one) (slice_index y z.sequence_two))

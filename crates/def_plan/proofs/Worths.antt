@@ -7,21 +7,25 @@ use Rattle.def_plan.specs.Form.{PlacedSet}
 use Rattle.def_plan.specs.Payoff.{worth}
 
 -- one more set adds its value to the worth of the sequence before it, and changes no other
-kept : (b : Bool) (p : PlacedSet × ℤ) (ps : List (PlacedSet × ℤ)) (w : ℤ) → w +ℤ sum_over (λ q. q.1) (cond b (p ∷ ps) ps) ≡ cond b (w +ℤ sum_over (λ q. q.1) ps +ℤ p.1) (w +ℤ sum_over (λ q. q.1) ps)
+kept : (b : Bool) (p : PlacedSet × ℤ) (ps : List (PlacedSet × ℤ)) (w : ℤ)
+    → w +ℤ sum_over (λ q. q.1) (cond b (p ∷ ps) ps) ≡ cond b (w +ℤ sum_over (λ q. q.1) ps +ℤ p.1) (w +ℤ sum_over (λ q. q.1) ps)
 kept true p ps w = omega (arith, ints)
 kept false p ps w = refl
 
-pub worth-cons : (sums : ℕ → ℤ) (h : PlacedSet) (hs : List PlacedSet) (v : ℤ) (vs : List ℤ) (s : ℕ) → worth sums (h ∷ hs) (v ∷ vs) s ≡ cond (eqb h.before s) (worth sums hs vs s +ℤ v) (worth sums hs vs s)
+pub worth-cons : (sums : ℕ → ℤ) (h : PlacedSet) (hs : List PlacedSet) (v : ℤ) (vs : List ℤ) (s : ℕ)
+    → worth sums (h ∷ hs) (v ∷ vs) s ≡ cond (eqb h.before s) (worth sums hs vs s +ℤ v) (worth sums hs vs s)
 worth-cons sums h hs v vs s = kept (eqb h.before s) (h, v) (filter (λ p. eqb p.0.before s) (zip hs vs)) (sums s)
 
 -- a fact on two lists by places
-pub AllZip-from_places : {A B : Type 0} (R : A → B → Type 0) (xs : List A) (ys : List B) → length xs ≡ length ys → ((k : ℕ) (a : A) (b : B) → k < length xs → R (get_or xs k a) (get_or ys k b)) → AllZip R xs ys
+pub AllZip-from_places : {A B : Type 0} (R : A → B → Type 0) (xs : List A) (ys : List B) → length xs ≡ length ys
+    → ((k : ℕ) (a : A) (b : B) → k < length xs → R (get_or xs k a) (get_or ys k b)) → AllZip R xs ys
 AllZip-from_places R [] [] e h = tt
 AllZip-from_places R [] (y ∷ ys) e h = absurd (omega arith)
 AllZip-from_places R (x ∷ xs) [] e h = absurd (omega arith)
 AllZip-from_places R (x ∷ xs) (y ∷ ys) e h = (h 0 x y (omega arith), AllZip-from_places R xs ys (omega arith) (λ k a b low. h (suc k) a b (omega arith)))
 
-pub AllZip-at : {A B : Type 0} (R : A → B → Type 0) (xs : List A) (ys : List B) → AllZip R xs ys → (k : ℕ) (a : A) (b : B) → k < length xs → R (get_or xs k a) (get_or ys k b)
+pub AllZip-at : {A B : Type 0} (R : A → B → Type 0) (xs : List A) (ys : List B) → AllZip R xs ys
+    → (k : ℕ) (a : A) (b : B) → k < length xs → R (get_or xs k a) (get_or ys k b)
 AllZip-at R [] [] h k a b low = absurd (omega arith)
 AllZip-at R [] (y ∷ ys) h k a b low = elim h [ ]
 AllZip-at R (x ∷ xs) [] h k a b low = elim h [ ]

@@ -23,38 +23,48 @@ pub record DealingMakesPlans : Type 0 where
   pub follows : (sets : List InformationSet) (root : ℕ) (rules : List (ℕ → List ℕ))
       → AreInOrder sets → AllZip DealsWhole sets rules → FollowsRules sets rules (dealt root sets rules)
   pub only : (sets : List InformationSet) (root : ℕ) (rules : List (ℕ → List ℕ)) (plan : List ℕ)
-      → AreInOrder sets → AllZip DealsWhole sets rules → IsPlan sets root plan → FollowsRules sets rules plan → plan ≡ dealt root sets rules
+      → AreInOrder sets → AllZip DealsWhole sets rules → IsPlan sets root plan → FollowsRules sets rules plan
+      → plan ≡ dealt root sets rules
 
 -- a choice at each set makes a plan of root 1 that follows it, and makes the only such plan
 pub record ChoicesMakeAPlan : Type 0 where
-  pub is_plan : (sets : List InformationSet) (choices : List ℕ) → AreInOrder sets → AreActions sets choices → IsPlan sets 1 (pure_plan sets choices)
-  pub follows : (sets : List InformationSet) (choices : List ℕ) → AreInOrder sets → AreActions sets choices → FollowsChoices sets choices (pure_plan sets choices)
+  pub is_plan : (sets : List InformationSet) (choices : List ℕ) → AreInOrder sets → AreActions sets choices
+      → IsPlan sets 1 (pure_plan sets choices)
+  pub follows : (sets : List InformationSet) (choices : List ℕ) → AreInOrder sets → AreActions sets choices
+      → FollowsChoices sets choices (pure_plan sets choices)
   pub only : (sets : List InformationSet) (choices : List ℕ) (plan : List ℕ)
-      → AreInOrder sets → AreActions sets choices → IsPlan sets 1 plan → FollowsChoices sets choices plan → plan ≡ pure_plan sets choices
+      → AreInOrder sets → AreActions sets choices → IsPlan sets 1 plan → FollowsChoices sets choices plan
+      → plan ≡ pure_plan sets choices
 
 -- two plans add up to a plan, and their roots to its root; zeros add nothing
 pub record SumsArePlans : Type 0 where
   pub is_plan : (sets : List InformationSet) (root other_root : ℕ) (plan other : List ℕ)
       → IsPlan sets root plan → IsPlan sets other_root other → IsPlan sets (root + other_root) (added plan other)
-  pub each_number : (plan other : List ℕ) (s : ℕ) → length plan ≡ length other → slice_index (added plan other) s ≡ slice_index plan s + slice_index other s
+  pub each_number : (plan other : List ℕ) (s : ℕ) → length plan ≡ length other
+      → slice_index (added plan other) s ≡ slice_index plan s + slice_index other s
   pub zeros : (plan : List ℕ) → added (replicate (length plan) 0) plan ≡ plan
 
 -- a cleared plan is no plan, adds nothing, and is what sums begin with: sums of plans and cleared ones are plans or cleared
 pub record ClearedPlansAddNothing : Type 0 where
   pub no_plan : (sets : List InformationSet) (root : ℕ) → ¬ (IsPlan sets root (cleared sets))
-  pub first : (sets : List InformationSet) (plan : List ℕ) → length plan ≡ sequence_count sets → added (cleared sets) plan ≡ plan
-  pub second : (sets : List InformationSet) (plan : List ℕ) → length plan ≡ sequence_count sets → added plan (cleared sets) ≡ plan
+  pub first : (sets : List InformationSet) (plan : List ℕ) → length plan ≡ sequence_count sets
+      → added (cleared sets) plan ≡ plan
+  pub second : (sets : List InformationSet) (plan : List ℕ) → length plan ≡ sequence_count sets
+      → added plan (cleared sets) ≡ plan
   pub sums : (sets : List InformationSet) (root other_root : ℕ) (plan other : List ℕ)
-      → IsPlanOrCleared sets root plan → IsPlanOrCleared sets other_root other → IsPlanOrCleared sets (root + other_root) (added plan other)
+      → IsPlanOrCleared sets root plan → IsPlanOrCleared sets other_root other
+      → IsPlanOrCleared sets (root + other_root) (added plan other)
   pub root : (sets : List InformationSet) (root : ℕ) (plan : List ℕ) → IsPlanOrCleared sets root plan
       → (length plan ≡ sequence_count sets) × (slice_index plan 0 ≡ root)
 
 -- the payoff is the sum over one player's sequences of leaf sum times number, for either player
 pub record LeafSumsGiveThePayoff : Type 0 where
   pub for_one : (leaves : List Leaf) (sets : List InformationSet) (plan_one plan_two : List ℕ)
-      → length plan_one ≡ sequence_count sets → gain (leaf_sum One leaves plan_two) sets plan_one ≡ pay leaves plan_one plan_two
+      → length plan_one ≡ sequence_count sets
+      → gain (leaf_sum One leaves plan_two) sets plan_one ≡ pay leaves plan_one plan_two
   pub for_two : (leaves : List Leaf) (sets : List InformationSet) (plan_one plan_two : List ℕ)
-      → length plan_two ≡ sequence_count sets → gain (leaf_sum Two leaves plan_one) sets plan_two ≡ pay leaves plan_one plan_two
+      → length plan_two ≡ sequence_count sets
+      → gain (leaf_sum Two leaves plan_one) sets plan_two ≡ pay leaves plan_one plan_two
 
 -- weak duality: values of which no action is better bound what every plan of every root gains
 abbrev pub WeakDuality : Type 0
@@ -72,14 +82,19 @@ ComplementarySlackness =
 
 -- the test of a list finds exactly what the words say
 pub record BadSetIsExact : Type 0 where
-  pub none : (sets : List InformationSet) (root : ℕ) (plan : List ℕ) → (bad_set sets root plan ≡ None) ↔ IsPlan sets root plan
-  pub some : (sets : List InformationSet) (root : ℕ) (plan : List ℕ) (k : ℕ) → (bad_set sets root plan ≡ Some k) ↔ IsBadSet sets root plan k
+  pub none : (sets : List InformationSet) (root : ℕ) (plan : List ℕ)
+      → (bad_set sets root plan ≡ None) ↔ IsPlan sets root plan
+  pub some : (sets : List InformationSet) (root : ℕ) (plan : List ℕ) (k : ℕ)
+      → (bad_set sets root plan ≡ Some k) ↔ IsBadSet sets root plan k
 
 -- no number of a plan is greater than its root, and the leaf sums against it are at most the mass times the root together
 pub record PlansAreSmall : Type 0 where
-  pub numbers : (sets : List InformationSet) (root : ℕ) (plan : List ℕ) → AreInOrder sets → IsPlan sets root plan → (s : ℕ) → slice_index plan s ≤ root
+  pub numbers : (sets : List InformationSet) (root : ℕ) (plan : List ℕ) → AreInOrder sets → IsPlan sets root plan
+      → (s : ℕ) → slice_index plan s ≤ root
   pub leaf_sums : (player : Player) (leaves : List Leaf) (sets against_sets : List InformationSet) (root : ℕ) (plan : List ℕ)
       → AreInOrder against_sets → IsPlan against_sets root plan
       → nat_sum_over (λ s. unsigned_abs (leaf_sum player leaves plan s)) (sequences sets) ≤ mass_of leaves * root
-  pub of_a_round : (leaves : List Leaf) (root : ℕ) → mass_of leaves ≤ most_mass → root ≤ most_scale → mass_of leaves * root ≤ 2 ^ 82
-  pub of_an_evaluation : (leaves : List Leaf) (root : ℕ) → mass_of leaves ≤ most_mass → root ≤ most_root → mass_of leaves * root ≤ 2 ^ 98
+  pub of_a_round : (leaves : List Leaf) (root : ℕ) → mass_of leaves ≤ most_mass → root ≤ most_scale
+      → mass_of leaves * root ≤ 2 ^ 82
+  pub of_an_evaluation : (leaves : List Leaf) (root : ℕ) → mass_of leaves ≤ most_mass → root ≤ most_root
+      → mass_of leaves * root ≤ 2 ^ 98

@@ -15,7 +15,8 @@ pub no_better-refl : (player : Player) (a : ℤ) → IsNoBetter player a a
 no_better-refl One a = ≤ℤ_refl a
 no_better-refl Two a = ≤ℤ_refl a
 
-pub no_better-trans : (player : Player) (a b c : ℤ) → IsNoBetter player a b → IsNoBetter player b c → IsNoBetter player a c
+pub no_better-trans : (player : Player) (a b c : ℤ) → IsNoBetter player a b → IsNoBetter player b c
+    → IsNoBetter player a c
 no_better-trans One a b c h k = ≤ℤ_trans a b c h k
 no_better-trans Two a b c h k = ≤ℤ_trans c b a k h
 
@@ -50,12 +51,14 @@ none-better player (w ∷ v ∷ ws) =
     (All-weaker (λ u. IsNoBetter player u rest) (λ u. IsNoBetter player u (better player w rest)) (λ u h. no_better-trans player u rest (better player w rest) h (better-right player w rest)) (v ∷ ws) (none-better player (v ∷ ws)))
 
 -- some worth is the best
-at_either : (w rest best : ℤ) (ws : List ℤ) (i : ℕ) → i < length ws → ((d : ℤ) → get_or ws i d ≡ rest) → (best ≡ w) ⊎ (best ≡ rest) → (k : ℕ) × (k < suc (length ws)) × ((d : ℤ) → get_or (w ∷ ws) k d ≡ best)
+at_either : (w rest best : ℤ) (ws : List ℤ) (i : ℕ) → i < length ws → ((d : ℤ) → get_or ws i d ≡ rest)
+    → (best ≡ w) ⊎ (best ≡ rest) → (k : ℕ) × (k < suc (length ws)) × ((d : ℤ) → get_or (w ∷ ws) k d ≡ best)
 at_either w rest best ws i low is (inl e) = (0, omega arith, λ d. sym e)
 at_either w rest best ws i low is (inr e) = (suc i, omega arith, λ d. is d ∙ sym e)
 
 -- of some worths, if there are any, one is the best of all
-pub best-reached : (player : Player) (ws : List ℤ) → 1 ≤ length ws → (i : ℕ) × (i < length ws) × ((d : ℤ) → get_or ws i d ≡ best_of player ws)
+pub best-reached : (player : Player) (ws : List ℤ) → 1 ≤ length ws
+    → (i : ℕ) × (i < length ws) × ((d : ℤ) → get_or ws i d ≡ best_of player ws)
 best-reached player [] h = absurd (omega arith)
 best-reached player (w ∷ []) h = (0, omega arith, λ d. refl)
 best-reached player (w ∷ v ∷ ws) h =
@@ -92,7 +95,8 @@ at_later value w ws c differs h = record {
     one_or_more : (k : ℕ) → 1 ≤ k → (k ≡ 1) ⊎ (2 ≤ k)
     one_or_more k h = ⊎_elim (λ less. inl (omega arith)) (λ le. inr le) (cases_lt k 2)
 
-first_with-one : (value w : ℤ) (ws : List ℤ) → (w ≢ value → IsFirstWith value ws (first_with value ws)) → IsFirstWith value (w ∷ ws) (first_with value (w ∷ ws))
+first_with-one : (value w : ℤ) (ws : List ℤ) → (w ≢ value → IsFirstWith value ws (first_with value ws))
+    → IsFirstWith value (w ∷ ws) (first_with value (w ∷ ws))
 first_with-one value w ws rest =
     ⊎_elim
     (λ yes. subst (λ b. IsFirstWith value (w ∷ ws) (cond b 1 (first_with value ws + 1))) (sym yes.0) (at_first value w ws yes.1))
@@ -100,7 +104,8 @@ first_with-one value w ws rest =
     (int_eq_tells w value)
 
 -- where some worth is the value, the place that is found is the first such one
-pub first_with-is_first : (value : ℤ) (ws : List ℤ) (i : ℕ) → i < length ws → ((d : ℤ) → get_or ws i d ≡ value) → IsFirstWith value ws (first_with value ws)
+pub first_with-is_first : (value : ℤ) (ws : List ℤ) (i : ℕ) → i < length ws → ((d : ℤ) → get_or ws i d ≡ value)
+    → IsFirstWith value ws (first_with value ws)
 first_with-is_first value [] i low e = absurd (omega arith)
 first_with-is_first value (w ∷ ws) zero low e = first_with-one value w ws (λ no. absurd (no (e w)))
 first_with-is_first value (w ∷ ws) (suc i) low e = first_with-one value w ws (λ no. first_with-is_first value ws i (omega arith) e)

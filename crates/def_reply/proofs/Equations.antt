@@ -14,15 +14,18 @@ use Rattle.def_reply.specs.Reply.{SetReply, values_of, best_of, first_with, repl
 use Rattle.def_reply.proofs.Bests.{no_better-antisym, none-better, best-reached, IsFirstWith, first_with-is_first}
 
 -- ---- the worth at a set counts later sets alone
-dropped : (b : Bool) (p : PlacedSet × ℤ) (ps : List (PlacedSet × ℤ)) → b ≡ false → sum_over (λ q. q.1) (cond b (p ∷ ps) ps) ≡ sum_over (λ q. q.1) ps
+dropped : (b : Bool) (p : PlacedSet × ℤ) (ps : List (PlacedSet × ℤ)) → b ≡ false
+    → sum_over (λ q. q.1) (cond b (p ∷ ps) ps) ≡ sum_over (λ q. q.1) ps
 dropped b p ps e = ap (λ t. sum_over (λ q. q.1) (cond t (p ∷ ps) ps)) e
 
-pub worth-later : (sums : ℕ → ℤ) (h : PlacedSet) (hs : List PlacedSet) (v : ℤ) (vs : List ℤ) (s : ℕ) → h.before < s → worth sums (h ∷ hs) (v ∷ vs) s ≡ worth sums hs vs s
+pub worth-later : (sums : ℕ → ℤ) (h : PlacedSet) (hs : List PlacedSet) (v : ℤ) (vs : List ℤ) (s : ℕ) → h.before < s
+    → worth sums (h ∷ hs) (v ∷ vs) s ≡ worth sums hs vs s
 worth-later sums h hs v vs s less =
     ap (λ z. sums s +ℤ z) (dropped (eqb h.before s) (h, v) (filter (λ p. eqb p.0.before s) (zip hs vs)) (ne_eqb h.before s (λ e. omega arith)))
 
 -- ---- two worths that agree from a sequence on
-first_tight-same : (player : Player) (w w' : ℕ → ℤ) (from : ℕ) → ((s : ℕ) → from ≤ s → w s ≡ w' s) → (h : PlacedSet) (r : SetReply) → from ≤ h.first → IsFirstTight player w h r → IsFirstTight player w' h r
+first_tight-same : (player : Player) (w w' : ℕ → ℤ) (from : ℕ) → ((s : ℕ) → from ≤ s → w s ≡ w' s)
+    → (h : PlacedSet) (r : SetReply) → from ≤ h.first → IsFirstTight player w h r → IsFirstTight player w' h r
 first_tight-same player w w' from same h r le f = record {
   tight = record {
     no_better = All-range (λ s. IsNoBetter player (w' s) r.value) h.first h.actions (λ s low high. subst (λ z. IsNoBetter player z r.value) (same s (omega arith)) (range-All (λ s. IsNoBetter player (w s) r.value) h.first h.actions f.tight.no_better s low high));
@@ -32,8 +35,10 @@ first_tight-same player w w' from same h r le f = record {
   first = λ c low high e. f.first c low high (same (chosen h c) (omega arith) ∙ e);
 }
 
-all_same : (player : Player) (w w' : ℕ → ℤ) (from : ℕ) → ((s : ℕ) → from ≤ s → w s ≡ w' s) → (first : ℕ) (hs : List InformationSet) (rs : List SetReply) → from ≤ first
-    → AllZip (IsFirstTight player w) (placed_from first hs) rs → AllZip (IsFirstTight player w') (placed_from first hs) rs
+all_same : (player : Player) (w w' : ℕ → ℤ) (from : ℕ) → ((s : ℕ) → from ≤ s → w s ≡ w' s)
+    → (first : ℕ) (hs : List InformationSet) (rs : List SetReply) → from ≤ first
+    → AllZip (IsFirstTight player w) (placed_from first hs) rs
+    → AllZip (IsFirstTight player w') (placed_from first hs) rs
 all_same player w w' from same first [] [] le f = f
 all_same player w w' from same first [] (r ∷ rs) le f = f
 all_same player w w' from same first (h ∷ hs) [] le f = f
@@ -47,11 +52,13 @@ abbrev pub head_of : Player → (ℕ → ℤ) → PlacedSet → SetReply
 head_of player w h =
     let value = best_of player (map w (sequences_of h)) in record { value = value; choice = first_with value (map w (sequences_of h)) }
 
-at_choice : (w : ℕ → ℤ) (h : PlacedSet) (c : ℕ) (d : ℤ) → 1 ≤ c → c ≤ h.actions → get_or (map w (sequences_of h)) (c - 1) d ≡ w (chosen h c)
+at_choice : (w : ℕ → ℤ) (h : PlacedSet) (c : ℕ) (d : ℤ) → 1 ≤ c → c ≤ h.actions
+    → get_or (map w (sequences_of h)) (c - 1) d ≡ w (chosen h c)
 at_choice w h c d low high = get_or-map-range_with_len w h.first h.actions (c - 1) (chosen h c) d (omega arith) refl
 
 -- at a set with an action the best worth and the first action of that worth solve the set's equations
-pub head-first_tight : (player : Player) (w : ℕ → ℤ) (h : PlacedSet) → 1 ≤ h.actions → IsFirstTight player w h (head_of player w h)
+pub head-first_tight : (player : Player) (w : ℕ → ℤ) (h : PlacedSet) → 1 ≤ h.actions
+    → IsFirstTight player w h (head_of player w h)
 head-first_tight player w h some =
     let worths : List ℤ = map w (sequences_of h) in
     let value : ℤ = best_of player worths in
@@ -69,15 +76,18 @@ head-first_tight player w h some =
     }
 
 -- two replies at one set that are first tight are the same
-pub chosen-at : (h : PlacedSet) (c : ℕ) → 1 ≤ c → c ≤ h.actions → (h.first ≤ chosen h c) × (chosen h c < h.first + h.actions)
+pub chosen-at : (h : PlacedSet) (c : ℕ) → 1 ≤ c → c ≤ h.actions
+    → (h.first ≤ chosen h c) × (chosen h c < h.first + h.actions)
 chosen-at h c low high = omega arith
 
-value_best : (player : Player) (w : ℕ → ℤ) (h : PlacedSet) (r q : SetReply) → IsTight player w h r → IsTight player w h q → IsNoBetter player q.value r.value
+value_best : (player : Player) (w : ℕ → ℤ) (h : PlacedSet) (r q : SetReply) → IsTight player w h r
+    → IsTight player w h q → IsNoBetter player q.value r.value
 value_best player w h r q f g =
     let place = chosen-at h q.choice g.an_action.0 g.an_action.1 in
     subst (λ z. IsNoBetter player z r.value) g.reached (range-All (λ s. IsNoBetter player (w s) r.value) h.first h.actions f.no_better (chosen h q.choice) place.0 place.1)
 
-one_head : (player : Player) (w : ℕ → ℤ) (h : PlacedSet) (r q : SetReply) → IsFirstTight player w h r → IsFirstTight player w h q → r ≡ q
+one_head : (player : Player) (w : ℕ → ℤ) (h : PlacedSet) (r q : SetReply) → IsFirstTight player w h r
+    → IsFirstTight player w h q → r ≡ q
 one_head player w h r q f g =
     let same_value : r.value ≡ q.value = no_better-antisym player r.value q.value (value_best player w h q r g.tight f.tight) (value_best player w h r q f.tight g.tight) in
     let same_choice : r.choice ≡ q.choice =
@@ -88,7 +98,8 @@ one_head player w h r q f g =
     λ i. record { value = same_value i; choice = same_choice i }
 
 -- ---- all sets
-pub solves_from : (player : Player) (sums : ℕ → ℤ) (first : ℕ) (hs : List InformationSet) → All IsInOrder (placed_from first hs)
+pub solves_from : (player : Player) (sums : ℕ → ℤ) (first : ℕ) (hs : List InformationSet)
+    → All IsInOrder (placed_from first hs)
     → AllZip (IsFirstTight player (worth sums (placed_from first hs) (values_of (replies_at player sums (placed_from first hs))))) (placed_from first hs) (replies_at player sums (placed_from first hs))
 solves_from player sums first [] order = tt
 solves_from player sums first (h ∷ hs) order =
@@ -103,8 +114,10 @@ solves_from player sums first (h ∷ hs) order =
     )
 
 -- replies that solve the equations are the best ones, from any first sequence on
-pub only_from : (player : Player) (sums : ℕ → ℤ) (first : ℕ) (hs : List InformationSet) (rs : List SetReply) → All IsInOrder (placed_from first hs)
-    → AllZip (IsFirstTight player (worth sums (placed_from first hs) (values_of rs))) (placed_from first hs) rs → rs ≡ replies_at player sums (placed_from first hs)
+pub only_from : (player : Player) (sums : ℕ → ℤ) (first : ℕ) (hs : List InformationSet) (rs : List SetReply)
+    → All IsInOrder (placed_from first hs)
+    → AllZip (IsFirstTight player (worth sums (placed_from first hs) (values_of rs))) (placed_from first hs) rs
+    → rs ≡ replies_at player sums (placed_from first hs)
 only_from player sums first [] [] order f = refl
 only_from player sums first [] (r ∷ rs) order f = elim f [ ]
 only_from player sums first (h ∷ hs) [] order f = elim f [ ]
@@ -120,7 +133,8 @@ only_from player sums first (h ∷ hs) (r ∷ rs) order f =
     ap (λ q. q ∷ rs) head ∙ ap (λ qs. head_of player (worth sums rest (values_of qs)) here ∷ qs) later
 
 -- the best reply from a set on is the reply at those sets alone
-pub from_set : (player : Player) (sums : ℕ → ℤ) (k : ℕ) (hs : List PlacedSet) → drop k (replies_at player sums hs) ≡ replies_at player sums (drop k hs)
+pub from_set : (player : Player) (sums : ℕ → ℤ) (k : ℕ) (hs : List PlacedSet)
+    → drop k (replies_at player sums hs) ≡ replies_at player sums (drop k hs)
 from_set player sums zero hs = refl
 from_set player sums (suc k) [] = refl
 from_set player sums (suc k) (h ∷ hs) = from_set player sums k hs

@@ -13,7 +13,8 @@ use Rattle.def_reply.specs.Laws.{RepliesNeedOwnSums}
 use Rattle.def_reply.proofs.Equations.{chosen-at}
 
 -- worths agree where the sums do
-worth_same : (sums other : ℕ → ℤ) (hs : List PlacedSet) (values : List ℤ) (s : ℕ) → sums s ≡ other s → worth sums hs values s ≡ worth other hs values s
+worth_same : (sums other : ℕ → ℤ) (hs : List PlacedSet) (values : List ℤ) (s : ℕ) → sums s ≡ other s
+    → worth sums hs values s ≡ worth other hs values s
 worth_same sums other hs values s e = ap (λ x. x +ℤ values_after hs values s) e
 
 replies_same : (player : Player) (sums other : ℕ → ℤ) (first : ℕ) (hs : List InformationSet)
@@ -33,7 +34,8 @@ replies_same player sums other first (h ∷ hs) agree =
     ∙ ap (λ ws. record { value = best_of player ws; choice = first_with (best_of player ws) ws } ∷ replies_at player other rest) worths_same
 
 -- a tight reply at a set, by worths that agree there
-tight_same : (player : Player) (f g : ℕ → ℤ) (h : PlacedSet) (r : SetReply) → ((s : ℕ) → h.first ≤ s → s < h.first + h.actions → f s ≡ g s) → IsTight player f h r → IsTight player g h r
+tight_same : (player : Player) (f g : ℕ → ℤ) (h : PlacedSet) (r : SetReply)
+    → ((s : ℕ) → h.first ≤ s → s < h.first + h.actions → f s ≡ g s) → IsTight player f h r → IsTight player g h r
 tight_same player f g h r same t =
     let place = chosen-at h r.choice t.an_action.0 t.an_action.1 in
     record {

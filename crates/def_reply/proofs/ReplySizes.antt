@@ -19,7 +19,8 @@ use Rattle.def_reply.specs.Reply.{SetReply, values_of, replies_at, best_reply, t
 use Rattle.def_reply.specs.Laws.{BoundsAreSmall}
 use Rattle.def_reply.proofs.Equations.{head_of, head-first_tight, chosen-at}
 
-worth-size : (sums : ℕ → ℤ) (hs : List PlacedSet) (vs : List ℤ) (s : ℕ) → unsigned_abs (worth sums hs vs s) ≤ unsigned_abs (sums s) + after s (zip hs vs)
+worth-size : (sums : ℕ → ℤ) (hs : List PlacedSet) (vs : List ℤ) (s : ℕ)
+    → unsigned_abs (worth sums hs vs s) ≤ unsigned_abs (sums s) + after s (zip hs vs)
 worth-size sums hs vs s =
     omega (arith, unsigned_abs-+ℤ (sums s) (values_after hs vs s), unsigned_abs-sum_over (λ (p : PlacedSet × ℤ). p.1) (filter (λ p. eqb p.0.before s) (zip hs vs)))
 
@@ -27,7 +28,8 @@ pub record Bounded (player : Player) (sums : ℕ → ℤ) (first : ℕ) (hs : Li
   pub hangs : hanging first (zip (placed_from first hs) (values_of (replies_at player sums (placed_from first hs)))) ≤ from sums first hs
   pub values : All (λ r. unsigned_abs r.value ≤ from sums first hs) (replies_at player sums (placed_from first hs))
 
-bounded : (player : Player) (sums : ℕ → ℤ) (first : ℕ) (hs : List InformationSet) → All IsInOrder (placed_from first hs) → Bounded player sums first hs
+bounded : (player : Player) (sums : ℕ → ℤ) (first : ℕ) (hs : List InformationSet) → All IsInOrder (placed_from first hs)
+    → Bounded player sums first hs
 bounded player sums first [] order = record { hangs = omega arith; values = All-nil (λ r. unsigned_abs r.value ≤ from sums first []) }
 bounded player sums first (h ∷ hs) order =
     let here : PlacedSet = record { first = first; before = h.before; actions = h.actions } in
@@ -60,7 +62,8 @@ values-below player sums sets order =
     (λ r le. omega (arith, all_sums sums sets)) (best_reply player sums sets) (bounded player sums 1 sets order).values
 
 -- at a sequence of a set, or at an earlier one
-worth_at : (player : Player) (sums : ℕ → ℤ) (first : ℕ) (hs : List InformationSet) (s : ℕ) → All IsInOrder (placed_from first hs) → first ≤ s → s < first + nat_sum_over (λ h. h.actions) hs
+worth_at : (player : Player) (sums : ℕ → ℤ) (first : ℕ) (hs : List InformationSet) (s : ℕ)
+    → All IsInOrder (placed_from first hs) → first ≤ s → s < first + nat_sum_over (λ h. h.actions) hs
     → unsigned_abs (sums s) + after s (zip (placed_from first hs) (values_of (replies_at player sums (placed_from first hs)))) ≤ from sums first hs
 worth_at player sums first [] s order low high = absurd (omega arith)
 worth_at player sums first (h ∷ hs) s order low high =
@@ -90,7 +93,8 @@ worth_at player sums first (h ∷ hs) s order low high =
     not_here b s v n less = grind (arith, nat_tests)
 
 -- the parts of a sequence's worth are together no larger than the leaf sums
-pub worths-below : (player : Player) (sums : ℕ → ℤ) (sets : List InformationSet) (s : ℕ) → AreInOrder sets → s < sequence_count sets
+pub worths-below : (player : Player) (sums : ℕ → ℤ) (sets : List InformationSet) (s : ℕ) → AreInOrder sets
+    → s < sequence_count sets
     → unsigned_abs (sums s) + nat_sum_over (λ p. unsigned_abs p.1) (filter (λ p. eqb p.0.before s) (zip (placed sets) (values_of (best_reply player sums sets))))
     ≤ nat_sum_over (λ s. unsigned_abs (sums s)) (sequences sets)
 worths-below player sums sets s order low =

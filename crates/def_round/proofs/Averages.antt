@@ -34,19 +34,24 @@ floor_at_least n d low some le =
     (λ le. le)
 
 -- the sum of what each unit carries, where all carry the same
-same_for_all : (play : ℕ → ℕ) (c : ℤ) (xs : List ℕ) → sum_over (λ s. pos (play s) *ℤ c) xs ≡ c *ℤ pos (nat_sum_over play xs)
+same_for_all : (play : ℕ → ℕ) (c : ℤ) (xs : List ℕ)
+    → sum_over (λ s. pos (play s) *ℤ c) xs ≡ c *ℤ pos (nat_sum_over play xs)
 same_for_all play c xs =
     sum_over-same (λ s. pos (play s) *ℤ c) (λ s. c *ℤ pos (play s)) xs (λ k d low. *ℤ_comm _ c)
     ∙ sum_over-factor c (λ s. pos (play s)) xs ∙ ap (λ z. c *ℤ z) (sum_over-pos play xs)
 
-pub value_at_most : (play : List ℕ) (w : ℕ → ℤ) (h : PlacedSet) (high : ℤ) → nat_sum_over (λ s. slice_index play s) (sequences_of h) ≡ units → All (λ s. w s ≤ℤ high) (sequences_of h) → set_value play w h ≤ℤ high
+pub value_at_most : (play : List ℕ) (w : ℕ → ℤ) (h : PlacedSet) (high : ℤ)
+    → nat_sum_over (λ s. slice_index play s) (sequences_of h) ≡ units → All (λ s. w s ≤ℤ high) (sequences_of h)
+    → set_value play w h ≤ℤ high
 value_at_most play w h high all le =
     let sum = sum_over-mono (λ s. pos (slice_index play s) *ℤ w s) (λ s. pos (slice_index play s) *ℤ high) (sequences_of h) (λ k d low. *ℤ-mono (slice_index play _) (w _) high (le k d low)) in
     let whole : sum_over (λ s. pos (slice_index play s) *ℤ high) (sequences_of h) ≡ high *ℤ pos units = same_for_all (λ s. slice_index play s) high (sequences_of h) ∙ ap (λ n. high *ℤ pos n) all in
     floor_at_most (sum_over (λ s. pos (slice_index play s) *ℤ w s) (sequences_of h)) units high (omega arith)
     (subst (λ z. sum_over (λ s. pos (slice_index play s) *ℤ w s) (sequences_of h) ≤ℤ z) whole sum)
 
-pub value_at_least : (play : List ℕ) (w : ℕ → ℤ) (h : PlacedSet) (low : ℤ) → nat_sum_over (λ s. slice_index play s) (sequences_of h) ≡ units → All (λ s. low ≤ℤ w s) (sequences_of h) → low ≤ℤ set_value play w h
+pub value_at_least : (play : List ℕ) (w : ℕ → ℤ) (h : PlacedSet) (low : ℤ)
+    → nat_sum_over (λ s. slice_index play s) (sequences_of h) ≡ units → All (λ s. low ≤ℤ w s) (sequences_of h)
+    → low ≤ℤ set_value play w h
 value_at_least play w h low all le =
     let sum = sum_over-mono (λ s. pos (slice_index play s) *ℤ low) (λ s. pos (slice_index play s) *ℤ w s) (sequences_of h) (λ k d below. *ℤ-mono (slice_index play _) low (w _) (le k d below)) in
     let whole : sum_over (λ s. pos (slice_index play s) *ℤ low) (sequences_of h) ≡ low *ℤ pos units = same_for_all (λ s. slice_index play s) low (sequences_of h) ∙ ap (λ n. low *ℤ pos n) all in
@@ -54,7 +59,8 @@ value_at_least play w h low all le =
     (subst (λ z. z ≤ℤ sum_over (λ s. pos (slice_index play s) *ℤ w s) (sequences_of h)) whole sum)
 
 -- ---- at a set whose worths together are within a bound
-two_in_range : (f : ℕ → ℕ) (a n s t : ℕ) → a ≤ s → s < a + n → a ≤ t → t < a + n → s ≢ t → f s + f t ≤ nat_sum_over f (range_with_len a n)
+two_in_range : (f : ℕ → ℕ) (a n s t : ℕ) → a ≤ s → s < a + n → a ≤ t → t < a + n → s ≢ t
+    → f s + f t ≤ nat_sum_over f (range_with_len a n)
 two_in_range f a zero s t low_s high_s low_t high_t apart = absurd (omega arith)
 two_in_range f a (suc n) s t low_s high_s low_t high_t apart =
     ⊎_elim
@@ -66,7 +72,9 @@ two_in_range f a (suc n) s t low_s high_s low_t high_t apart =
     (cases_eq s a)
 
 -- where a set gives out all units, its value is at most the sizes of its worths together
-pub value_within : (play : List ℕ) (w : ℕ → ℤ) (h : PlacedSet) → nat_sum_over (λ s. slice_index play s) (sequences_of h) ≡ units → unsigned_abs (set_value play w h) ≤ nat_sum_over (λ s. unsigned_abs (w s)) (sequences_of h)
+pub value_within : (play : List ℕ) (w : ℕ → ℤ) (h : PlacedSet)
+    → nat_sum_over (λ s. slice_index play s) (sequences_of h) ≡ units
+    → unsigned_abs (set_value play w h) ≤ nat_sum_over (λ s. unsigned_abs (w s)) (sequences_of h)
 value_within play w h all =
     let bound : ℕ = nat_sum_over (λ s. unsigned_abs (w s)) (sequences_of h) in
     let high = value_at_most play w h (pos bound) all (All-range (λ s. w s ≤ℤ pos bound) h.first h.actions (λ s low high. let e = at_most_sum (λ s. unsigned_abs (w s)) h.first h.actions s low high in omega (arith, ints))) in
@@ -74,7 +82,8 @@ value_within play w h all =
     omega (arith, ints)
 
 -- two worths of a set are no further from each other than the bound
-apart_within : (w : ℕ → ℤ) (h : PlacedSet) (s t : ℕ) → h.first ≤ s → s < h.first + h.actions → h.first ≤ t → t < h.first + h.actions
+apart_within : (w : ℕ → ℤ) (h : PlacedSet) (s t : ℕ) → h.first ≤ s → s < h.first + h.actions → h.first ≤ t
+    → t < h.first + h.actions
     → unsigned_abs (w s -ℤ w t) ≤ nat_sum_over (λ s. unsigned_abs (w s)) (sequences_of h)
 apart_within w h s t low_s high_s low_t high_t =
     ⊎_elim
@@ -83,7 +92,8 @@ apart_within w h s t low_s high_s low_t high_t =
     (cases_eq s t)
 
 -- and none of its worths is further than that from its value
-pub growth_within : (play : List ℕ) (w : ℕ → ℤ) (h : PlacedSet) → nat_sum_over (λ s. slice_index play s) (sequences_of h) ≡ units → (s : ℕ) → h.first ≤ s → s < h.first + h.actions
+pub growth_within : (play : List ℕ) (w : ℕ → ℤ) (h : PlacedSet)
+    → nat_sum_over (λ s. slice_index play s) (sequences_of h) ≡ units → (s : ℕ) → h.first ≤ s → s < h.first + h.actions
     → unsigned_abs (w s -ℤ set_value play w h) ≤ nat_sum_over (λ s. unsigned_abs (w s)) (sequences_of h)
 growth_within play w h all s low_s high_s =
     let bound : ℕ = nat_sum_over (λ s. unsigned_abs (w s)) (sequences_of h) in
@@ -92,7 +102,9 @@ growth_within play w h all s low_s high_s =
     omega (arith, ints)
 
 -- products of play and worth
-pub products_within : (play : List ℕ) (w : ℕ → ℤ) (h : PlacedSet) (bound : ℕ) → nat_sum_over (λ s. slice_index play s) (sequences_of h) ≡ units → nat_sum_over (λ s. unsigned_abs (w s)) (sequences_of h) ≤ bound
+pub products_within : (play : List ℕ) (w : ℕ → ℤ) (h : PlacedSet) (bound : ℕ)
+    → nat_sum_over (λ s. slice_index play s) (sequences_of h) ≡ units
+    → nat_sum_over (λ s. unsigned_abs (w s)) (sequences_of h) ≤ bound
     → nat_sum_over (λ s. unsigned_abs (pos (slice_index play s) *ℤ w s)) (sequences_of h) ≤ units * bound
 products_within play w h bound all le =
     let each = nat_sum_over-mono (λ s. unsigned_abs (pos (slice_index play s) *ℤ w s)) (λ s. slice_index play s * bound) (sequences_of h)

@@ -9,19 +9,22 @@ use Rattle.def_sums.specs.Sum.{nat_sum_over}
 use Rattle.def_plan.specs.Form.{InformationSet, PlacedSet, placed_from, sequences_of}
 
 -- two functions with one list of values at a row agree there
-pub same_at : {A : Type 0} (f g : ℕ → A) (a n : ℕ) → map f (range_with_len a n) ≡ map g (range_with_len a n) → (s : ℕ) → a ≤ s → s < a + n → f s ≡ g s
+pub same_at : {A : Type 0} (f g : ℕ → A) (a n : ℕ) → map f (range_with_len a n) ≡ map g (range_with_len a n) → (s : ℕ)
+    → a ≤ s → s < a + n → f s ≡ g s
 same_at f g a n same s low high =
     let below : s - a < n = omega arith in
     let is : a + (s - a) ≡ s = omega arith in
     sym (get_or-map-range_with_len f a n (s - a) s (f s) below is) ∙ ap (λ xs. get_or xs (s - a) (f s)) same ∙ get_or-map-range_with_len g a n (s - a) s (f s) below is
 
 -- what stands in a list after its front
-pub at_front : {A : Type 0} (front : List A) (x : A) (rest : List A) (first : ℕ) (d : A) → length front ≡ first → get_or (front ++ x ∷ rest) first d ≡ x
+pub at_front : {A : Type 0} (front : List A) (x : A) (rest : List A) (first : ℕ) (d : A) → length front ≡ first
+    → get_or (front ++ x ∷ rest) first d ≡ x
 at_front front x rest first d e =
     ap (λ k. get_or (front ++ x ∷ rest) k d) (sym e ∙ sym (add-zero (length front))) ∙ get_or-append-add front (x ∷ rest) 0 d
 
 -- the elements behind a front, as many as the block has, are the block
-pub map-block : {A : Type 0} (front block rest : List A) (first : ℕ) (d : A) → length front ≡ first → map (λ s. get_or (front ++ (block ++ rest)) s d) (range_with_len first (length block)) ≡ block
+pub map-block : {A : Type 0} (front block rest : List A) (first : ℕ) (d : A) → length front ≡ first
+    → map (λ s. get_or (front ++ (block ++ rest)) s d) (range_with_len first (length block)) ≡ block
 map-block front [] rest first d e = refl
 map-block front (x ∷ block) rest first d e =
     let longer : length (front ++ x ∷ []) ≡ first + 1 = omega (arith, length-append front (x ∷ [])) in
@@ -31,7 +34,8 @@ map-block front (x ∷ block) rest first d e =
     ∙ ap (λ xs. x ∷ xs) (map-block (front ++ x ∷ []) block rest (first + 1) d longer)
 
 -- the blocks of sets, from a function of the set
-pub blocks : {A : Type 0} (f : PlacedSet → List A) (d : A) → ((h : PlacedSet) → length (f h) ≡ h.actions) → (front : List A) (first : ℕ) (sets : List InformationSet) → length front ≡ first
+pub blocks : {A : Type 0} (f : PlacedSet → List A) (d : A) → ((h : PlacedSet) → length (f h) ≡ h.actions)
+    → (front : List A) (first : ℕ) (sets : List InformationSet) → length front ≡ first
     → All (λ h. map (λ s. get_or (front ++ flat_map f (placed_from first sets)) s d) (sequences_of h) ≡ f h) (placed_from first sets)
 blocks f d sizes front first [] e = All-nil (λ h. map (λ s. get_or (front ++ []) s d) (sequences_of h) ≡ f h)
 blocks f d sizes front first (h ∷ hs) e =
@@ -44,14 +48,19 @@ blocks f d sizes front first (h ∷ hs) e =
     (subst (λ w. All (λ h'. map (λ s. get_or w s d) (sequences_of h') ≡ f h') rest) same (blocks f d sizes (front ++ f here) (first + h.actions) hs longer))
 
 -- blocks with an element for each action have together as many elements as the sets have actions
-pub length-blocks : {A : Type 0} (f : PlacedSet → List A) → ((h : PlacedSet) → length (f h) ≡ h.actions) → (first : ℕ) (sets : List InformationSet) → length (flat_map f (placed_from first sets)) ≡ nat_sum_over (λ h. h.actions) sets
+pub length-blocks : {A : Type 0} (f : PlacedSet → List A) → ((h : PlacedSet) → length (f h) ≡ h.actions)
+    → (first : ℕ) (sets : List InformationSet)
+    → length (flat_map f (placed_from first sets)) ≡ nat_sum_over (λ h. h.actions) sets
 length-blocks f sizes first [] = refl
 length-blocks f sizes first (h ∷ hs) =
     let here : PlacedSet = record { first = first; before = h.before; actions = h.actions } in
     omega (arith, length-append (f here) (flat_map f (placed_from (first + h.actions) hs)), sizes here, length-blocks f sizes (first + h.actions) hs)
 
 -- the same from a function of the set and a second list
-pub blocks_zip : {A B : Type 0} (f : PlacedSet → B → List A) (d : A) → ((h : PlacedSet) (b : B) → length (f h b) ≡ h.actions) → (front : List A) (first : ℕ) (sets : List InformationSet) (bs : List B) → length bs ≡ length sets → length front ≡ first
+pub blocks_zip : {A B : Type 0} (f : PlacedSet → B → List A) (d : A)
+    → ((h : PlacedSet) (b : B) → length (f h b) ≡ h.actions)
+    → (front : List A) (first : ℕ) (sets : List InformationSet) (bs : List B) → length bs ≡ length sets
+    → length front ≡ first
     → AllZip (λ h b. map (λ s. get_or (front ++ flat_map (λ p. f p.0 p.1) (zip (placed_from first sets) bs)) s d) (sequences_of h) ≡ f h b) (placed_from first sets) bs
 blocks_zip f d sizes front first [] [] l e = tt
 blocks_zip f d sizes front first [] (b ∷ bs) l e = absurd (omega arith)
@@ -67,7 +76,9 @@ blocks_zip {A} {B} f d sizes front first (h ∷ hs) (b ∷ bs) l e =
     )
 
 -- so have the blocks that are made from a second list too
-pub length-blocks_zip : {A B : Type 0} (f : PlacedSet → B → List A) → ((h : PlacedSet) (b : B) → length (f h b) ≡ h.actions) → (first : ℕ) (sets : List InformationSet) (bs : List B) → length bs ≡ length sets
+pub length-blocks_zip : {A B : Type 0} (f : PlacedSet → B → List A)
+    → ((h : PlacedSet) (b : B) → length (f h b) ≡ h.actions) → (first : ℕ) (sets : List InformationSet) (bs : List B)
+    → length bs ≡ length sets
     → length (flat_map (λ p. f p.0 p.1) (zip (placed_from first sets) bs)) ≡ nat_sum_over (λ h. h.actions) sets
 length-blocks_zip f sizes first [] [] l = refl
 length-blocks_zip f sizes first [] (b ∷ bs) l = absurd (omega arith)
@@ -77,7 +88,8 @@ length-blocks_zip f sizes first (h ∷ hs) (b ∷ bs) l =
     omega (arith, length-append (f here b) (flat_map (λ p. f p.0 p.1) (zip (placed_from (first + h.actions) hs) bs)), sizes here b, length-blocks_zip f sizes (first + h.actions) hs bs (omega arith))
 
 -- a list is what its blocks say
-pub drop-range : {A : Type 0} (xs : List A) (d : A) (first n : ℕ) → first + n ≤ length xs → drop first xs ≡ map (λ s. get_or xs s d) (range_with_len first n) ++ drop (first + n) xs
+pub drop-range : {A : Type 0} (xs : List A) (d : A) (first n : ℕ) → first + n ≤ length xs
+    → drop first xs ≡ map (λ s. get_or xs s d) (range_with_len first n) ++ drop (first + n) xs
 drop-range xs d first zero fits = ap (λ k. drop k xs) (sym (add-zero first))
 drop-range xs d first (suc n) fits =
     let below : first < length xs = omega arith in

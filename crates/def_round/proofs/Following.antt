@@ -17,10 +17,12 @@ record HaveAll (form : SequenceForm) (standing : Standing) : Type 0 where
   of_one : length standing.sum_one ≡ sequence_count form.sets_one
   of_two : length standing.sum_two ≡ sequence_count form.sets_two
 
-plan_length : (sets : List InformationSet) (play : List ℕ) (root : ℕ) → AreInOrder sets → 1 ≤ root → length (plan_of_play sets play root) ≡ sequence_count sets
+plan_length : (sets : List InformationSet) (play : List ℕ) (root : ℕ) → AreInOrder sets → 1 ≤ root
+    → length (plan_of_play sets play root) ≡ sequence_count sets
 plan_length sets play root order some = (plays_deal_plans sets play root order some).all_sequences
 
-have_all : (form : SequenceForm) (root n : ℕ) → AreInOrder form.sets_one → AreInOrder form.sets_two → 1 ≤ root → HaveAll form (rounds form root n)
+have_all : (form : SequenceForm) (root n : ℕ) → AreInOrder form.sets_one → AreInOrder form.sets_two → 1 ≤ root
+    → HaveAll form (rounds form root n)
 have_all form root zero order_one order_two some =
     record { of_one = length-replicate (sequence_count form.sets_one) 0; of_two = length-replicate (sequence_count form.sets_two) 0 }
 have_all form root (suc n) order_one order_two some =
@@ -36,10 +38,12 @@ have_all form root (suc n) order_one order_two some =
 grows : (before plan : List ℕ) (n : ℕ) → length before ≡ n → length plan ≡ n → GrowsBy before plan (added before plan)
 grows before plan n e f = record { all_sequences = length-added before plan (e ∙ sym f); each_number = λ s. at-added before plan s (e ∙ sym f) }
 
-deals : (sets : List InformationSet) (play : List ℕ) (root : ℕ) → AreInOrder sets → 1 ≤ root → IsPlanOfPlay sets play root (plan_of_play sets play root)
+deals : (sets : List InformationSet) (play : List ℕ) (root : ℕ) → AreInOrder sets → 1 ≤ root
+    → IsPlanOfPlay sets play root (plan_of_play sets play root)
 deals sets play root order some = record { is_plan = plays_deal_plans sets play root order some; each_set = plays_deal_by_shares sets play root order }
 
-next : (form : SequenceForm) (root : ℕ) (before : Standing) → AreInOrder form.sets_one → AreInOrder form.sets_two → 1 ≤ root → HaveAll form before
+next : (form : SequenceForm) (root : ℕ) (before : Standing) → AreInOrder form.sets_one → AreInOrder form.sets_two
+    → 1 ≤ root → HaveAll form before
     → IsNextRound form root before (next_round form root before)
 next form root before order_one order_two some all =
     let play_one : List ℕ = play_of form.sets_one before.regrets_one in

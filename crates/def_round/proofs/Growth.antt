@@ -33,23 +33,28 @@ own_sums_small player leaves sets against_sets root plan order is =
     omega (arith, same, leaf_sums-below player leaves sets against_sets root plan order is)
 
 -- ---- one round
-AllZip-weaker : {A B : Type 0} (R S : A → B → Type 0) → ((a : A) (b : B) → R a b → S a b) → (xs : List A) (ys : List B) → AllZip R xs ys → AllZip S xs ys
+AllZip-weaker : {A B : Type 0} (R S : A → B → Type 0) → ((a : A) (b : B) → R a b → S a b) → (xs : List A) (ys : List B)
+    → AllZip R xs ys → AllZip S xs ys
 AllZip-weaker R S weaker [] [] all = tt
 AllZip-weaker R S weaker [] (y ∷ ys) all = elim all [ ]
 AllZip-weaker R S weaker (x ∷ xs) [] all = elim all [ ]
 AllZip-weaker R S weaker (x ∷ xs) (y ∷ ys) all = (weaker x y all.0, AllZip-weaker R S weaker xs ys all.1)
 
-All-blocks : {A B C : Type 0} (P : C → Type 0) (f : A → B → List C) (xs : List A) (ys : List B) → AllZip (λ x y. All P (f x y)) xs ys → All P (flat_map (λ p. f p.0 p.1) (zip xs ys))
+All-blocks : {A B C : Type 0} (P : C → Type 0) (f : A → B → List C) (xs : List A) (ys : List B)
+    → AllZip (λ x y. All P (f x y)) xs ys → All P (flat_map (λ p. f p.0 p.1) (zip xs ys))
 All-blocks P f [] ys all = All-nil P
 All-blocks P f (x ∷ xs) [] all = elim all [ ]
 All-blocks P f (x ∷ xs) (y ∷ ys) all = All-append P (f x y) (flat_map (λ p. f p.0 p.1) (zip xs ys)) all.0 (All-blocks P f xs ys all.1)
 
-at_each : (bound : ℕ) (regrets : List ℤ) → All (λ r. unsigned_abs r ≤ bound) regrets → (s : ℕ) → unsigned_abs (regret_of regrets s) ≤ bound
+at_each : (bound : ℕ) (regrets : List ℤ) → All (λ r. unsigned_abs r ≤ bound) regrets → (s : ℕ)
+    → unsigned_abs (regret_of regrets s) ≤ bound
 at_each bound regrets all s =
     ⊎_elim (λ low. all s (pos 0) low) (λ past. subst (λ r. unsigned_abs r ≤ bound) (sym (get_or_past regrets s (pos 0) past)) (omega arith)) (cases_lt s (length regrets))
 
-one_round : (sums : ℕ → ℤ) (play : List ℕ) (sets : List InformationSet) (before : List ℤ) (so_far bound : ℕ) → AreInOrder sets → GivesAllUnits play sets
-    → size_of_sums sums sets ≤ bound → ((s : ℕ) → unsigned_abs (regret_of before s) ≤ so_far) → All (λ r. unsigned_abs r ≤ so_far + bound) (regrets_after sums play sets before)
+one_round : (sums : ℕ → ℤ) (play : List ℕ) (sets : List InformationSet) (before : List ℤ) (so_far bound : ℕ)
+    → AreInOrder sets → GivesAllUnits play sets
+    → size_of_sums sums sets ≤ bound → ((s : ℕ) → unsigned_abs (regret_of before s) ≤ so_far)
+    → All (λ r. unsigned_abs r ≤ so_far + bound) (regrets_after sums play sets before)
 one_round sums play sets before so_far bound order whole le small =
     All-cons (λ r. unsigned_abs r ≤ so_far + bound) (pos 0) (flat_map (λ p. set_regrets sums (placed sets) (round_values sums play sets) before p.0 p.1) (zip (placed sets) (round_values sums play sets))) (omega arith)
     (All-blocks (λ r. unsigned_abs r ≤ so_far + bound) (λ h v. set_regrets sums (placed sets) (round_values sums play sets) before h v) (placed sets) (round_values sums play sets)
@@ -77,7 +82,8 @@ record AllWithin (bound : ℕ) (standing : Standing) : Type 0 where
   of_one : All (λ r. unsigned_abs r ≤ bound) standing.regrets_one
   of_two : All (λ r. unsigned_abs r ≤ bound) standing.regrets_two
 
-rounds_within : (form : SequenceForm) (root n : ℕ) → AreInOrder form.sets_one → AreInOrder form.sets_two → 1 ≤ root → AllWithin (n * (mass_of form.leaves * root)) (rounds form root n)
+rounds_within : (form : SequenceForm) (root n : ℕ) → AreInOrder form.sets_one → AreInOrder form.sets_two → 1 ≤ root
+    → AllWithin (n * (mass_of form.leaves * root)) (rounds form root n)
 rounds_within form root zero order_one order_two some = record {
   of_one = All-replicate (λ r. unsigned_abs r ≤ 0 * (mass_of form.leaves * root)) (sequence_count form.sets_one) (pos 0) (omega arith);
   of_two = All-replicate (λ r. unsigned_abs r ≤ 0 * (mass_of form.leaves * root)) (sequence_count form.sets_two) (pos 0) (omega arith);
@@ -117,7 +123,8 @@ rounds_small form root n limits = of_a_round form.leaves root limits.small_mass 
 pub products_small : PlayProductsAreSmall
 products_small form root n limits = omega (arith, rounds_small form root n limits)
 
-regret_bound : (form : SequenceForm) (root n : ℕ) → IsWithinRunLimits form root n → n * (mass_of form.leaves * root) ≤ 2 ^ 98
+regret_bound : (form : SequenceForm) (root n : ℕ) → IsWithinRunLimits form root n
+    → n * (mass_of form.leaves * root) ≤ 2 ^ 98
 regret_bound form root n limits = mul-le-mul limits.few_rounds (rounds_small form root n limits)
 
 -- within the limits of a run, no regret of either player is larger than 2 ^ 98
@@ -132,7 +139,8 @@ part_size (pos n) = omega arith
 part_size (negsuc n) = omega arith
 
 -- all units times a set's positive regrets, where none is above 2 ^ 98
-pub deals_within : (sets : List InformationSet) (regrets : List ℤ) → ((s : ℕ) → unsigned_abs (regret_of regrets s) ≤ 2 ^ 98) → DealsWithin sets regrets
+pub deals_within : (sets : List InformationSet) (regrets : List ℤ)
+    → ((s : ℕ) → unsigned_abs (regret_of regrets s) ≤ 2 ^ 98) → DealsWithin sets regrets
 deals_within sets regrets small = record {
   each_set = λ k d below few.
       let h : PlacedSet = get_or (placed sets) k d in

@@ -12,7 +12,8 @@ use Rattle.def_round.specs.Laws.{RoundsNeedOwnSums}
 use Rattle.def_round.proofs.Values.{set_value_same}
 
 -- worths agree where the sums do
-worth_same : (sums other : ℕ → ℤ) (hs : List PlacedSet) (values : List ℤ) (s : ℕ) → sums s ≡ other s → worth sums hs values s ≡ worth other hs values s
+worth_same : (sums other : ℕ → ℤ) (hs : List PlacedSet) (values : List ℤ) (s : ℕ) → sums s ≡ other s
+    → worth sums hs values s ≡ worth other hs values s
 worth_same sums other hs values s e = ap (λ x. x +ℤ values_after hs values s) e
 
 values_same : (sums other : ℕ → ℤ) (play : List ℕ) (first : ℕ) (hs : List InformationSet)

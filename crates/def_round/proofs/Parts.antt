@@ -17,12 +17,14 @@ use Rattle.def_round.proofs.Trees.{hanging_below, tree_size}
 abbrev IsWhole : List ℕ → PlacedSet → Type 0
 IsWhole play h = nat_sum_over (λ s. slice_index play s) (sequences_of h) ≡ units
 
-hangs : (sums : ℕ → ℤ) (play : List ℕ) (first : ℕ) (hs : List InformationSet) → All (IsWhole play) (placed_from first hs)
+hangs : (sums : ℕ → ℤ) (play : List ℕ) (first : ℕ) (hs : List InformationSet)
+    → All (IsWhole play) (placed_from first hs)
     → hanging first (zip (placed_from first hs) (values_from sums play (placed_from first hs))) ≤ from sums first hs
 hangs sums play first hs whole =
     omega (arith, hanging_below first (zip (placed_from first hs) (values_from sums play (placed_from first hs))), tree_size sums play first hs whole)
 
-parts_at : (sums : ℕ → ℤ) (play : List ℕ) (first : ℕ) (hs : List InformationSet) (s : ℕ) → All IsInOrder (placed_from first hs) → All (IsWhole play) (placed_from first hs)
+parts_at : (sums : ℕ → ℤ) (play : List ℕ) (first : ℕ) (hs : List InformationSet) (s : ℕ)
+    → All IsInOrder (placed_from first hs) → All (IsWhole play) (placed_from first hs)
     → first ≤ s → s < first + nat_sum_over (λ h. h.actions) hs
     → unsigned_abs (sums s) + after s (zip (placed_from first hs) (values_from sums play (placed_from first hs))) ≤ from sums first hs
 parts_at sums play first [] s order whole low high = absurd (omega arith)

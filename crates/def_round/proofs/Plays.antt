@@ -81,7 +81,8 @@ plays_positive_regrets sets regrets k d below s t is_s is_t positive none =
     ∙ no_weight_no_share units weights i (omega (arith, long, inside)) some zero'
 
 -- the rules of a play deal all
-play_rules_whole : (play : List ℕ) (first : ℕ) (sets : List InformationSet) → All IsInOrder (placed_from first sets) → AllZip DealsWhole sets (map (play_rule play) (placed_from first sets))
+play_rules_whole : (play : List ℕ) (first : ℕ) (sets : List InformationSet) → All IsInOrder (placed_from first sets)
+    → AllZip DealsWhole sets (map (play_rule play) (placed_from first sets))
 play_rules_whole play first [] order = tt
 play_rules_whole play first (h ∷ hs) order =
     let here : PlacedSet = record { first = first; before = h.before; actions = h.actions } in
@@ -98,7 +99,8 @@ pub plays_deal_plans : PlaysDealPlans
 plays_deal_plans sets play root order some = dealt-is_plan root sets (map (play_rule play) (placed sets)) some order (play_rules_whole play 1 sets order)
 
 -- at each set the rule's numbers
-dealt_by_rule : (play : List ℕ) (first : ℕ) (x : List ℕ) (sets : List InformationSet) → length x ≡ first → All IsInOrder (placed_from first sets)
+dealt_by_rule : (play : List ℕ) (first : ℕ) (x : List ℕ) (sets : List InformationSet) → length x ≡ first
+    → All IsInOrder (placed_from first sets)
     → All (λ h. map (λ s. slice_index (dealt_onto x sets (map (play_rule play) (placed_from first sets))) s) (sequences_of h) ≡ play_rule play h (slice_index (dealt_onto x sets (map (play_rule play) (placed_from first sets))) h.before)) (placed_from first sets)
 dealt_by_rule play first x [] e order = All-nil (λ h. map (λ s. slice_index x s) (sequences_of h) ≡ play_rule play h (slice_index x h.before))
 dealt_by_rule play first x (h ∷ hs) e order =

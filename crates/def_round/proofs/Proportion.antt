@@ -24,7 +24,8 @@ module _ (n : ℕ) (share part : ℕ → ℕ) (first long : ℕ) (are : map shar
   unfolding weights
   all_weighed = sym (sum_of_map part (range_with_len first long))
 
-  given : (i : ℕ) → i ≤ long → nat_sum_over share (range_with_len first i) ≡ nat_sum_over (λ x. x) (take i (shares n weights))
+  given : (i : ℕ) → i ≤ long
+      → nat_sum_over share (range_with_len first i) ≡ nat_sum_over (λ x. x) (take i (shares n weights))
   unfolding weights
   given i within =
       sum_of_map share (range_with_len first i) ∙ ap (nat_sum_over (λ x. x)) (sym (take-map-range_with_len share first long i within))
@@ -41,7 +42,8 @@ module _ (n : ℕ) (share part : ℕ → ℕ) (first long : ℕ) (are : map shar
       given i within ∙ add.by_weight (omega (arith, all_weighed))
       ∙ ap (λ p. n * p / weight_sum weights) (weighed i within) ∙ ap (λ w. n * nat_sum_over part (range_with_len first i) / w) all_weighed
 
-  pub first_evenly : (i : ℕ) → i ≤ long → nat_sum_over part (range_with_len first long) ≡ 0 → nat_sum_over share (range_with_len first i) ≡ n * i / long
+  pub first_evenly : (i : ℕ) → i ≤ long → nat_sum_over part (range_with_len first long) ≡ 0
+      → nat_sum_over share (range_with_len first i) ≡ n * i / long
   first_evenly i within none =
       let add = before_add_up n weights i (omega (arith, long_enough)) in
       given i within ∙ add.evenly (all_weighed ∙ none) ∙ ap (λ l. n * i / l) long_enough

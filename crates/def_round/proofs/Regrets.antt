@@ -13,7 +13,8 @@ use Rattle.def_round.specs.Laws.{RoundsAreComputed}
 use Rattle.def_round.proofs.Blocks.{same_at, blocks_zip, length-blocks_zip, drop-blocks_zip}
 use Rattle.def_round.proofs.Values.{values_solve, values_are_unique, length-values_from}
 
-AllZip-weaker : {A B : Type 0} (R S : A → B → Type 0) → ((a : A) (b : B) → R a b → S a b) → (xs : List A) (ys : List B) → AllZip R xs ys → AllZip S xs ys
+AllZip-weaker : {A B : Type 0} (R S : A → B → Type 0) → ((a : A) (b : B) → R a b → S a b) → (xs : List A) (ys : List B)
+    → AllZip R xs ys → AllZip S xs ys
 AllZip-weaker R S weaker [] [] all = tt
 AllZip-weaker R S weaker [] (y ∷ ys) all = elim all [ ]
 AllZip-weaker R S weaker (x ∷ xs) [] all = elim all [ ]
@@ -40,7 +41,8 @@ module _ (sums : ℕ → ℤ) (sets : List InformationSet) (values : List ℤ) (
   block_long h value = length-map-range_with_len (λ s. regret_of before s +ℤ (worth sums (placed sets) values s -ℤ value)) h.first h.actions
 
   -- what is computed is what a round adds
-  pub computed_adds : length values ≡ length sets → AddsRegrets sums sets values before (regrets_with sums (placed sets) before values)
+  pub computed_adds : length values ≡ length sets
+      → AddsRegrets sums sets values before (regrets_with sums (placed sets) before values)
   computed_adds long = record {
     all_sequences = ap suc (length-blocks_zip (λ h v. set_regrets sums (placed sets) values before h v) block_long 1 sets values long) ∙ omega arith;
     none_of_empty = refl;
@@ -54,7 +56,8 @@ module _ (sums : ℕ → ℤ) (sets : List InformationSet) (values : List ℤ) (
   }
 
   -- and nothing else is
-  pub added_is_computed : (after : List ℤ) → AddsRegrets sums sets values before after → after ≡ regrets_with sums (placed sets) before values
+  pub added_is_computed : (after : List ℤ) → AddsRegrets sums sets values before after
+      → after ≡ regrets_with sums (placed sets) before values
   added_is_computed after adds =
       drop-cons after 0 (pos 0) (omega (arith, adds.all_sequences))
       ∙ ap (λ r. r ∷ drop 1 after) adds.none_of_empty
@@ -66,7 +69,8 @@ module _ (sums : ℕ → ℤ) (sets : List InformationSet) (values : List ℤ) (
       (range-All (λ s. regret_of after s ≡ regret_of before s +ℤ (worth sums (placed sets) values s -ℤ v)) h.first h.actions all))
       (placed sets) values adds.each_set))
 
-pub length-values_of : (sums : ℕ → ℤ) (play : List ℕ) (sets : List InformationSet) → length (round_values sums play sets) ≡ length sets
+pub length-values_of : (sums : ℕ → ℤ) (play : List ℕ) (sets : List InformationSet)
+    → length (round_values sums play sets) ≡ length sets
 length-values_of sums play sets = length-values_from sums play (placed sets) ∙ length-placed_from 1 sets
 
 -- regrets solve the equations of a round exactly where they are the computed ones

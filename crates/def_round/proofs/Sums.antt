@@ -9,13 +9,15 @@ use Rattle.def_round.specs.Laws.{AreSumsOfPlans, RoundsSumToPlans}
 use Rattle.def_round.proofs.Plays.{plays_deal_plans}
 
 -- a first plan is the sum of itself
-first_sum : (sets : List InformationSet) (root : ℕ) (plan : List ℕ) → IsPlan sets root plan → IsPlan sets (1 * root) (added (replicate (sequence_count sets) 0) plan)
+first_sum : (sets : List InformationSet) (root : ℕ) (plan : List ℕ) → IsPlan sets root plan
+    → IsPlan sets (1 * root) (added (replicate (sequence_count sets) 0) plan)
 first_sum sets root plan is =
     let same : added (replicate (sequence_count sets) 0) plan ≡ plan = ap (λ n. added (replicate n 0) plan) (sym is.all_sequences) ∙ zeros-added plan in
     let once : 1 * root ≡ root = omega arith in
     subst (λ r. IsPlan sets r (added (replicate (sequence_count sets) 0) plan)) (sym once) (subst (λ x. IsPlan sets root x) (sym same) is)
 
-next_sum : (sets : List InformationSet) (n root : ℕ) (sum plan : List ℕ) → IsPlan sets (n * root) sum → IsPlan sets root plan → IsPlan sets (suc n * root) (added sum plan)
+next_sum : (sets : List InformationSet) (n root : ℕ) (sum plan : List ℕ) → IsPlan sets (n * root) sum
+    → IsPlan sets root plan → IsPlan sets (suc n * root) (added sum plan)
 next_sum sets n root sum plan so_far is =
     let more : n * root + root ≡ suc n * root = omega arith in
     subst (λ r. IsPlan sets r (added sum plan)) more (added-is_plan sets (n * root) root sum plan so_far is)

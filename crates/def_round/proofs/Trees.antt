@@ -43,7 +43,8 @@ one_further b (p ∷ ps) = omega (arith, one_further b ps, here p.0.before b (un
     here : (x b v : ℕ) → cond (ltb x b) v 0 + cond (eqb x b) v 0 ≡ cond (ltb x (b + 1)) v 0
     here x b v = grind (arith, nat_tests)
 
-further : (b n : ℕ) (ps : List (PlacedSet × ℤ)) → after_below b ps + nat_sum_over (λ s. after_at s ps) (range_with_len b n) ≡ after_below (b + n) ps
+further : (b n : ℕ) (ps : List (PlacedSet × ℤ))
+    → after_below b ps + nat_sum_over (λ s. after_at s ps) (range_with_len b n) ≡ after_below (b + n) ps
 further b zero ps = omega (arith, ap (λ k. after_below k ps) (add-zero b))
 further b (suc n) ps =
     let next : b + 1 + n ≡ b + suc n = omega arith in
@@ -57,7 +58,8 @@ none_below_zero (p ∷ ps) = omega (arith, none_below_zero ps, here p.0.before (
     here : (x v : ℕ) → cond (ltb x 0) v 0 ≡ 0
     here x v = grind (arith, nat_tests)
 
-values_after_size : (s : ℕ) (ps : List (PlacedSet × ℤ)) → unsigned_abs (sum_over (λ p. p.1) (filter (λ p. eqb p.0.before s) ps)) ≤ after_at s ps
+values_after_size : (s : ℕ) (ps : List (PlacedSet × ℤ))
+    → unsigned_abs (sum_over (λ p. p.1) (filter (λ p. eqb p.0.before s) ps)) ≤ after_at s ps
 unfolding after_at
 values_after_size s [] = omega arith
 values_after_size s (p ∷ ps) = by_test (eqb p.0.before s) (values_after_size s ps)
@@ -67,7 +69,8 @@ values_after_size s (p ∷ ps) = by_test (eqb p.0.before s) (values_after_size s
     by_test true rest = omega (arith, rest, unsigned_abs-+ℤ p.1 (sum_over (λ p. p.1) (filter (λ p. eqb p.0.before s) ps)))
     by_test false rest = omega (arith, rest)
 
-worth_size : (sums : ℕ → ℤ) (hs : List PlacedSet) (values : List ℤ) (s : ℕ) → unsigned_abs (worth sums hs values s) ≤ unsigned_abs (sums s) + after_at s (zip hs values)
+worth_size : (sums : ℕ → ℤ) (hs : List PlacedSet) (values : List ℤ) (s : ℕ)
+    → unsigned_abs (worth sums hs values s) ≤ unsigned_abs (sums s) + after_at s (zip hs values)
 worth_size sums hs values s = omega (arith, unsigned_abs-+ℤ (sums s) (values_after hs values s), values_after_size s (zip hs values))
 
 -- the worths at a set, together
@@ -79,7 +82,8 @@ worths_size sums hs values first n =
     omega (arith, each, nat_sum_over-add (λ s. unsigned_abs (sums s)) (λ s. after_at s (zip hs values)) (range_with_len first n), further first n (zip hs values))
 
 -- the sets from one on that come after earlier sequences
-pub tree_size : (sums : ℕ → ℤ) (play : List ℕ) (first : ℕ) (sets : List InformationSet) → All (λ h. nat_sum_over (λ s. slice_index play s) (sequences_of h) ≡ units) (placed_from first sets)
+pub tree_size : (sums : ℕ → ℤ) (play : List ℕ) (first : ℕ) (sets : List InformationSet)
+    → All (λ h. nat_sum_over (λ s. slice_index play s) (sequences_of h) ≡ units) (placed_from first sets)
     → after_below first (zip (placed_from first sets) (values_from sums play (placed_from first sets))) ≤ nat_sum_over (λ s. unsigned_abs (sums s)) (range_with_len first (nat_sum_over (λ h. h.actions) sets))
 unfolding after_below
 tree_size sums play first [] all = omega arith
@@ -100,7 +104,8 @@ tree_size sums play first (set ∷ sets) all =
 
 -- ---- each set
 within_from : (sums : ℕ → ℤ) (play : List ℕ) (bound : ℕ) (front : List PlacedSet) (front_values : List ℤ) (first : ℕ) (sets : List InformationSet) (all_sets : List InformationSet) (all_values : List ℤ)
-    → placed all_sets ≡ front ++ placed_from first sets → all_values ≡ front_values ++ values_from sums play (placed_from first sets)
+    → placed all_sets ≡ front ++ placed_from first sets
+    → all_values ≡ front_values ++ values_from sums play (placed_from first sets)
     → AreEarlier front front_values first → All IsInOrder (placed_from first sets)
     → All (λ h. nat_sum_over (λ s. slice_index play s) (sequences_of h) ≡ units) (placed_from first sets)
     → nat_sum_over (λ s. unsigned_abs (sums s)) (range_with_len first (nat_sum_over (λ h. h.actions) sets)) ≤ bound
@@ -141,7 +146,8 @@ within_from sums play bound front front_values first (set ∷ sets) all_sets all
           (one_more_earlier front front_values h value earlier before) (All-tail IsInOrder h rest order) whole' (omega (arith, parts, le)),
     )
 
-all_sums : (sums : ℕ → ℤ) (sets : List InformationSet) → size_of_sums sums sets ≡ unsigned_abs (sums 0) + nat_sum_over (λ s. unsigned_abs (sums s)) (range_with_len 1 (nat_sum_over (λ h. h.actions) sets))
+all_sums : (sums : ℕ → ℤ) (sets : List InformationSet)
+    → size_of_sums sums sets ≡ unsigned_abs (sums 0) + nat_sum_over (λ s. unsigned_abs (sums s)) (range_with_len 1 (nat_sum_over (λ h. h.actions) sets))
 all_sums sums sets = ap (nat_sum_over (λ s. unsigned_abs (sums s))) (range-append 0 1 (nat_sum_over (λ h. h.actions) sets))
 
 -- a set's value, worths and growths in a round are at most the sizes of all leaf sums together
@@ -150,8 +156,10 @@ values_within sums play sets order whole =
     within_from sums play (size_of_sums sums sets) [] [] 1 sets sets (round_values sums play sets) refl refl (none_earlier 1) order whole (omega (arith, all_sums sums sets))
 
 -- every sequence but the empty one ends at a set
-at_some_set : (P : ℕ → Type 0) (R : PlacedSet → ℤ → Type 0) → ((h : PlacedSet) (v : ℤ) → R h v → (s : ℕ) → h.first ≤ s → s < h.first + h.actions → P s)
-    → (first : ℕ) (sets : List InformationSet) (values : List ℤ) → AllZip R (placed_from first sets) values → (s : ℕ) → first ≤ s → s < first + nat_sum_over (λ h. h.actions) sets → P s
+at_some_set : (P : ℕ → Type 0) (R : PlacedSet → ℤ → Type 0)
+    → ((h : PlacedSet) (v : ℤ) → R h v → (s : ℕ) → h.first ≤ s → s < h.first + h.actions → P s)
+    → (first : ℕ) (sets : List InformationSet) (values : List ℤ) → AllZip R (placed_from first sets) values → (s : ℕ)
+    → first ≤ s → s < first + nat_sum_over (λ h. h.actions) sets → P s
 at_some_set P R gives first [] values all s low high = absurd (omega arith)
 at_some_set P R gives first (set ∷ sets) [] all s low high = elim all [ ]
 at_some_set P R gives first (set ∷ sets) (v ∷ vs) all s low high =

@@ -15,7 +15,8 @@ use Rattle.def_round.specs.Round.{set_value, values_from}
 use Rattle.def_round.specs.Laws.{WorthsNeedLaterSets, ValuesSolveTheEquations, ValuesAreUnique, ValuesOfTheRest}
 
 -- sets that come after smaller sequences are not directly after s
-earlier_sets : (s : ℕ) (front back : List PlacedSet) (front_values back_values : List ℤ) → length front ≡ length front_values → All (λ h. h.before < s) front
+earlier_sets : (s : ℕ) (front back : List PlacedSet) (front_values back_values : List ℤ)
+    → length front ≡ length front_values → All (λ h. h.before < s) front
     → filter (λ p. eqb p.0.before s) (zip (front ++ back) (front_values ++ back_values)) ≡ filter (λ p. eqb p.0.before s) (zip back back_values)
 earlier_sets s [] back [] back_values e less = refl
 earlier_sets s [] back (v ∷ vs) back_values e less = absurd (omega arith)
@@ -26,13 +27,15 @@ earlier_sets s (h ∷ hs) back (v ∷ vs) back_values e less =
     ∙ earlier_sets s hs back vs back_values (omega arith) (All-tail (λ h'. h'.before < s) h hs less)
 
 -- so the worth of s needs the later sets alone
-pub worth_later : (sums : ℕ → ℤ) (s : ℕ) (front back : List PlacedSet) (front_values back_values : List ℤ) → length front ≡ length front_values → All (λ h. h.before < s) front
+pub worth_later : (sums : ℕ → ℤ) (s : ℕ) (front back : List PlacedSet) (front_values back_values : List ℤ)
+    → length front ≡ length front_values → All (λ h. h.before < s) front
     → worth sums (front ++ back) (front_values ++ back_values) s ≡ worth sums back back_values s
 worth_later sums s front back front_values back_values e less =
     ap (λ ps. sums s +ℤ sum_over (λ p. p.1) ps) (earlier_sets s front back front_values back_values e less)
 
 -- a set's value from worths that agree at its sequences
-pub set_value_same : (play : List ℕ) (f g : ℕ → ℤ) (h : PlacedSet) → ((s : ℕ) → h.first ≤ s → s < h.first + h.actions → f s ≡ g s) → set_value play f h ≡ set_value play g h
+pub set_value_same : (play : List ℕ) (f g : ℕ → ℤ) (h : PlacedSet)
+    → ((s : ℕ) → h.first ≤ s → s < h.first + h.actions → f s ≡ g s) → set_value play f h ≡ set_value play g h
 set_value_same play f g h same =
     ap (λ n. floor_div n units) (sum_over-same (λ s. pos (slice_index play s) *ℤ f s) (λ s. pos (slice_index play s) *ℤ g s) (sequences_of h)
     (All-range (λ s. pos (slice_index play s) *ℤ f s ≡ pos (slice_index play s) *ℤ g s) h.first h.actions (λ s low high. ap (λ w. pos (slice_index play s) *ℤ w) (same s low high))))
@@ -43,8 +46,10 @@ pub record AreEarlier (front : List PlacedSet) (front_values : List ℤ) (first 
   pub less : All (λ h. h.before < first) front
 
 -- a set's worths from all sets and from the later ones alone
-pub worth_at_set : (sums : ℕ → ℤ) (front : List PlacedSet) (front_values : List ℤ) (h : PlacedSet) (rest : List PlacedSet) (value : ℤ) (values : List ℤ) → AreEarlier front front_values h.first → h.before < h.first
-    → (s : ℕ) → h.first ≤ s → worth sums (front ++ h ∷ rest) (front_values ++ value ∷ values) s ≡ worth sums rest values s
+pub worth_at_set : (sums : ℕ → ℤ) (front : List PlacedSet) (front_values : List ℤ) (h : PlacedSet) (rest : List PlacedSet) (value : ℤ) (values : List ℤ)
+    → AreEarlier front front_values h.first → h.before < h.first
+    → (s : ℕ) → h.first ≤ s
+    → worth sums (front ++ h ∷ rest) (front_values ++ value ∷ values) s ≡ worth sums rest values s
 worth_at_set sums front front_values h rest value values earlier before s low =
     ap (λ hs. worth sums hs (front_values ++ value ∷ values) s) (sym (append_assoc front (h ∷ []) rest))
     ∙ ap (λ vs. worth sums ((front ++ h ∷ []) ++ rest) vs s) (sym (append_assoc front_values (value ∷ []) values))
@@ -59,7 +64,9 @@ worth_at_set sums front front_values h rest value values earlier before s low =
         (All-cons (λ h'. h'.before < s) h [] (omega arith) (All-nil (λ h'. h'.before < s)))
 
 -- the front with one set more comes before the sequences behind that set
-pub one_more_earlier : (front : List PlacedSet) (front_values : List ℤ) (h : PlacedSet) (value : ℤ) → AreEarlier front front_values h.first → h.before < h.first → AreEarlier (front ++ h ∷ []) (front_values ++ value ∷ []) (h.first + h.actions)
+pub one_more_earlier : (front : List PlacedSet) (front_values : List ℤ) (h : PlacedSet) (value : ℤ)
+    → AreEarlier front front_values h.first → h.before < h.first
+    → AreEarlier (front ++ h ∷ []) (front_values ++ value ∷ []) (h.first + h.actions)
 one_more_earlier front front_values h value earlier before = record {
   same_length = omega (arith, length-append front (h ∷ []), length-append front_values (value ∷ []), earlier.same_length);
   less = All-append (λ h'. h'.before < h.first + h.actions) front (h ∷ [])
@@ -68,7 +75,8 @@ one_more_earlier front front_values h value earlier before = record {
 }
 
 -- ---- the computation solves the equations
-solves_from : (sums : ℕ → ℤ) (play : List ℕ) (front : List PlacedSet) (front_values : List ℤ) (first : ℕ) (sets : List InformationSet) → AreEarlier front front_values first → All IsInOrder (placed_from first sets)
+solves_from : (sums : ℕ → ℤ) (play : List ℕ) (front : List PlacedSet) (front_values : List ℤ) (first : ℕ) (sets : List InformationSet)
+    → AreEarlier front front_values first → All IsInOrder (placed_from first sets)
     → AllZip (λ h value. value ≡ set_value play (worth sums (front ++ placed_from first sets) (front_values ++ values_from sums play (placed_from first sets))) h) (placed_from first sets) (values_from sums play (placed_from first sets))
 solves_from sums play front front_values first [] earlier order = tt
 solves_from sums play front front_values first (set ∷ sets) earlier order =
@@ -94,7 +102,8 @@ pub values_solve : ValuesSolveTheEquations
 values_solve sums play sets order = solves_from sums play [] [] 1 sets (none_earlier 1) order
 
 -- ---- and they have no other solution
-unique_from : (sums : ℕ → ℤ) (play : List ℕ) (front : List PlacedSet) (front_values : List ℤ) (first : ℕ) (sets : List InformationSet) (values : List ℤ) → AreEarlier front front_values first → All IsInOrder (placed_from first sets)
+unique_from : (sums : ℕ → ℤ) (play : List ℕ) (front : List PlacedSet) (front_values : List ℤ) (first : ℕ) (sets : List InformationSet) (values : List ℤ)
+    → AreEarlier front front_values first → All IsInOrder (placed_from first sets)
     → AllZip (λ h value. value ≡ set_value play (worth sums (front ++ placed_from first sets) (front_values ++ values)) h) (placed_from first sets) values
     → values ≡ values_from sums play (placed_from first sets)
 unique_from sums play front front_values first [] [] earlier order all = refl
@@ -120,7 +129,8 @@ pub values_are_unique : ValuesAreUnique
 values_are_unique sums play sets values order all = unique_from sums play [] [] 1 sets values (none_earlier 1) order all
 
 -- ---- the values of the rest
-rest_from : (sums : ℕ → ℤ) (play : List ℕ) (k : ℕ) (hs : List PlacedSet) → drop k (values_from sums play hs) ≡ values_from sums play (drop k hs)
+rest_from : (sums : ℕ → ℤ) (play : List ℕ) (k : ℕ) (hs : List PlacedSet)
+    → drop k (values_from sums play hs) ≡ values_from sums play (drop k hs)
 rest_from sums play zero hs = refl
 rest_from sums play (suc k) [] = refl
 rest_from sums play (suc k) (h ∷ hs) = rest_from sums play k hs
@@ -130,7 +140,8 @@ pub values_of_the_rest : ValuesOfTheRest
 values_of_the_rest sums play sets k = rest_from sums play k (placed sets)
 
 -- there is one value for each set
-pub length-values_from : (sums : ℕ → ℤ) (play : List ℕ) (hs : List PlacedSet) → length (values_from sums play hs) ≡ length hs
+pub length-values_from : (sums : ℕ → ℤ) (play : List ℕ) (hs : List PlacedSet)
+    → length (values_from sums play hs) ≡ length hs
 length-values_from sums play [] = refl
 length-values_from sums play (h ∷ hs) = ap suc (length-values_from sums play hs)
 
@@ -138,14 +149,16 @@ length-values_from sums play (h ∷ hs) = ap suc (length-values_from sums play h
 some_is : {X : Type 0} (x y : X) → Some x ≡ Some y → x ≡ y
 some_is x y e = cc
 
-first_rises : (first : ℕ) (sets : List InformationSet) (k : ℕ) (h : PlacedSet) → slice_get (placed_from first sets) k ≡ Some h → first ≤ h.first
+first_rises : (first : ℕ) (sets : List InformationSet) (k : ℕ) (h : PlacedSet)
+    → slice_get (placed_from first sets) k ≡ Some h → first ≤ h.first
 first_rises first [] k h e = absurd (cc)
 first_rises first (set ∷ sets) zero h e =
     let same : first ≡ h.first = ap (λ (x : PlacedSet). x.first) (some_is (record { first = first; before = set.before; actions = set.actions }) h e) in
     omega (arith, same)
 first_rises first (set ∷ sets) (suc k) h e = omega (arith, first_rises (first + set.actions) sets k h e)
 
-later_sets : (sums : ℕ → ℤ) (first : ℕ) (sets : List InformationSet) (values : List ℤ) → All IsInOrder (placed_from first sets) → length values ≡ length sets
+later_sets : (sums : ℕ → ℤ) (first : ℕ) (sets : List InformationSet) (values : List ℤ)
+    → All IsInOrder (placed_from first sets) → length values ≡ length sets
     → (k : ℕ) (h : PlacedSet) → slice_get (placed_from first sets) k ≡ Some h → (s : ℕ) → h.first ≤ s
     → worth sums (placed_from first sets) values s ≡ worth sums (drop (suc k) (placed_from first sets)) (drop (suc k) values) s
 later_sets sums first [] values order long k h e s low = absurd (cc)

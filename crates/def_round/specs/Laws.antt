@@ -24,7 +24,8 @@ PlaysHaveEachSet = (sets : List InformationSet) (regrets : List ℤ) → IsPlayO
 
 -- at each set the play gives out all units
 abbrev pub PlaysGiveAllUnits : Type 0
-PlaysGiveAllUnits = (sets : List InformationSet) (regrets : List ℤ) → AreInOrder sets → GivesAllUnits (play_of sets regrets) sets
+PlaysGiveAllUnits = (sets : List InformationSet) (regrets : List ℤ) → AreInOrder sets
+    → GivesAllUnits (play_of sets regrets) sets
 
 -- regret matching: where some action of a set has a positive regret, those without one are not played
 abbrev pub PlaysPositiveRegrets : Type 0
@@ -48,11 +49,13 @@ pub record IsInProportion (regrets : List ℤ) (play : List ℕ) (h : PlacedSet)
       → nat_sum_over (λ s. slice_index play s) (range_with_len h.first i) ≡ units * i / h.actions
 
 abbrev pub PlaysAreInProportion : Type 0
-PlaysAreInProportion = (sets : List InformationSet) (regrets : List ℤ) → All (IsInProportion regrets (play_of sets regrets)) (placed sets)
+PlaysAreInProportion = (sets : List InformationSet) (regrets : List ℤ)
+    → All (IsInProportion regrets (play_of sets regrets)) (placed sets)
 
 -- what a play deals is a plan
 abbrev pub PlaysDealPlans : Type 0
-PlaysDealPlans = (sets : List InformationSet) (play : List ℕ) (root : ℕ) → AreInOrder sets → 1 ≤ root → IsPlan sets root (plan_of_play sets play root)
+PlaysDealPlans = (sets : List InformationSet) (play : List ℕ) (root : ℕ) → AreInOrder sets → 1 ≤ root
+    → IsPlan sets root (plan_of_play sets play root)
 
 -- and at each set it deals the number of the sequence before it by shares, with the set's play as the weights
 abbrev pub PlaysDealByShares : Type 0
@@ -71,8 +74,10 @@ PlansOfPlaysAreUnique = (sets : List InformationSet) (play : List ℕ) (root : �
 
 -- a plan gains from its player's sums what it pays player one, and player two gets the negative
 pub record GainWhatIsPaid (form : SequenceForm) (plan_one plan_two : List ℕ) : Type 0 where
-  pub of_one : length plan_one ≡ sequence_count form.sets_one → gain (own_sum One form.leaves plan_two) form.sets_one plan_one ≡ pay form.leaves plan_one plan_two
-  pub of_two : length plan_two ≡ sequence_count form.sets_two → gain (own_sum Two form.leaves plan_one) form.sets_two plan_two ≡ neg_ℤ (pay form.leaves plan_one plan_two)
+  pub of_one : length plan_one ≡ sequence_count form.sets_one
+      → gain (own_sum One form.leaves plan_two) form.sets_one plan_one ≡ pay form.leaves plan_one plan_two
+  pub of_two : length plan_two ≡ sequence_count form.sets_two
+      → gain (own_sum Two form.leaves plan_one) form.sets_two plan_two ≡ neg_ℤ (pay form.leaves plan_one plan_two)
 
 abbrev pub OwnSumsGainWhatIsPaid : Type 0
 OwnSumsGainWhatIsPaid = (form : SequenceForm) (plan_one plan_two : List ℕ) → GainWhatIsPaid form plan_one plan_two
@@ -84,7 +89,8 @@ SetValuesAreAverages = (play : List ℕ) (worths : ℕ → ℤ) (h : PlacedSet)
 
 -- the equations of a round have a solution, which is computed, and no other
 abbrev pub ValuesSolveTheEquations : Type 0
-ValuesSolveTheEquations = (sums : ℕ → ℤ) (play : List ℕ) (sets : List InformationSet) → AreInOrder sets → AreValues sums play sets (round_values sums play sets)
+ValuesSolveTheEquations = (sums : ℕ → ℤ) (play : List ℕ) (sets : List InformationSet) → AreInOrder sets
+    → AreValues sums play sets (round_values sums play sets)
 
 abbrev pub ValuesAreUnique : Type 0
 ValuesAreUnique = (sums : ℕ → ℤ) (play : List ℕ) (sets : List InformationSet) (values : List ℤ) → AreInOrder sets
@@ -99,18 +105,21 @@ ValuesOfTheRest = (sums : ℕ → ℤ) (play : List ℕ) (sets : List Informatio
 pub record RoundsNeedOwnSums : Type 0 where
   pub values : (sums other : ℕ → ℤ) (play : List ℕ) (sets : List InformationSet) → AgreeOn sets sums other
       → round_values sums play sets ≡ round_values other play sets
-  pub regrets : (sums other : ℕ → ℤ) (play : List ℕ) (sets : List InformationSet) (before : List ℤ) → AgreeOn sets sums other
+  pub regrets : (sums other : ℕ → ℤ) (play : List ℕ) (sets : List InformationSet) (before : List ℤ)
+      → AgreeOn sets sums other
       → regrets_after sums play sets before ≡ regrets_after other play sets before
 
 -- the worth of a sequence that isn't before those of a set needs the sets after that set alone
 abbrev pub WorthsNeedLaterSets : Type 0
-WorthsNeedLaterSets = (sums : ℕ → ℤ) (sets : List InformationSet) (values : List ℤ) → AreInOrder sets → length values ≡ length sets
+WorthsNeedLaterSets = (sums : ℕ → ℤ) (sets : List InformationSet) (values : List ℤ) → AreInOrder sets
+    → length values ≡ length sets
     → (k : ℕ) (h : PlacedSet) → slice_get (placed sets) k ≡ Some h → (s : ℕ) → h.first ≤ s
     → worth sums (placed sets) values s ≡ worth sums (drop (k + 1) (placed sets)) (drop (k + 1) values) s
 
 -- the regrets after a round are those that the equations allow, and no others
 abbrev pub RoundsAreComputed : Type 0
-RoundsAreComputed = (sums : ℕ → ℤ) (play : List ℕ) (sets : List InformationSet) (before after : List ℤ) → AreInOrder sets
+RoundsAreComputed = (sums : ℕ → ℤ) (play : List ℕ) (sets : List InformationSet) (before after : List ℤ)
+    → AreInOrder sets
     → IsRound sums play sets before after ↔ (after ≡ regrets_after sums play sets before)
 
 -- a run begins with no regrets, and nothing in the sums
@@ -153,4 +162,5 @@ pub record AreSumsOfPlans (form : SequenceForm) (root n : ℕ) : Type 0 where
   pub of_two : IsPlan form.sets_two (n * root) (rounds form root n).sum_two
 
 abbrev pub RoundsSumToPlans : Type 0
-RoundsSumToPlans = (form : SequenceForm) (root n : ℕ) → AreInOrder form.sets_one → AreInOrder form.sets_two → 1 ≤ root → 1 ≤ n → AreSumsOfPlans form root n
+RoundsSumToPlans = (form : SequenceForm) (root n : ℕ) → AreInOrder form.sets_one → AreInOrder form.sets_two → 1 ≤ root
+    → 1 ≤ n → AreSumsOfPlans form root n

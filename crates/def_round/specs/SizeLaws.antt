@@ -15,26 +15,32 @@ use Rattle.def_round.specs.Sizes.{size_of_sums, IsWithin, RegretsAreWithin, IsWi
 -- a player's leaf sums against a plan, together, are at most the mass times the plan's root
 abbrev pub OwnSumsAreSmall : Type 0
 OwnSumsAreSmall = (player : Player) (leaves : List Leaf) (sets against_sets : List InformationSet) (root : ℕ) (plan : List ℕ)
-    → AreInOrder against_sets → IsPlan against_sets root plan → size_of_sums (own_sum player leaves plan) sets ≤ mass_of leaves * root
+    → AreInOrder against_sets → IsPlan against_sets root plan
+    → size_of_sums (own_sum player leaves plan) sets ≤ mass_of leaves * root
 
 -- the values of a round stay within the sum of the sizes of the leaf sums, and so do the worths and what a round adds to a regret
 abbrev pub ValuesAreWithinSums : Type 0
-ValuesAreWithinSums = (sums : ℕ → ℤ) (play : List ℕ) (sets : List InformationSet) → AreInOrder sets → GivesAllUnits play sets
+ValuesAreWithinSums = (sums : ℕ → ℤ) (play : List ℕ) (sets : List InformationSet) → AreInOrder sets
+    → GivesAllUnits play sets
     → AllZip (IsWithin (size_of_sums sums sets) sums play sets (round_values sums play sets)) (placed sets) (round_values sums play sets)
 
 abbrev pub WorthsAreWithinSums : Type 0
-WorthsAreWithinSums = (sums : ℕ → ℤ) (play : List ℕ) (sets : List InformationSet) → AreInOrder sets → GivesAllUnits play sets
-    → (s : ℕ) → s < sequence_count sets → unsigned_abs (worth sums (placed sets) (round_values sums play sets) s) ≤ size_of_sums sums sets
+WorthsAreWithinSums = (sums : ℕ → ℤ) (play : List ℕ) (sets : List InformationSet) → AreInOrder sets
+    → GivesAllUnits play sets
+    → (s : ℕ) → s < sequence_count sets
+    → unsigned_abs (worth sums (placed sets) (round_values sums play sets) s) ≤ size_of_sums sums sets
 
 -- the parts of the sum that a worth is, together, stay within the same bound, so any part of the sum does
 abbrev pub WorthPartsAreWithinSums : Type 0
-WorthPartsAreWithinSums = (sums : ℕ → ℤ) (play : List ℕ) (sets : List InformationSet) → AreInOrder sets → GivesAllUnits play sets
+WorthPartsAreWithinSums = (sums : ℕ → ℤ) (play : List ℕ) (sets : List InformationSet) → AreInOrder sets
+    → GivesAllUnits play sets
     → (s : ℕ) → s < sequence_count sets
     → unsigned_abs (sums s) + nat_sum_over (λ p. unsigned_abs p.1) (filter (λ p. p.0.before == s) (zip (placed sets) (round_values sums play sets))) ≤ size_of_sums sums sets
 
 -- a round adds at most the leaf sums together to a regret, whatever regrets and plays it begins with
 abbrev pub RegretsGrowByTheSums : Type 0
-RegretsGrowByTheSums = (sums : ℕ → ℤ) (play : List ℕ) (sets : List InformationSet) (before : List ℤ) (so_far bound : ℕ) → AreInOrder sets → GivesAllUnits play sets
+RegretsGrowByTheSums = (sums : ℕ → ℤ) (play : List ℕ) (sets : List InformationSet) (before : List ℤ) (so_far bound : ℕ)
+    → AreInOrder sets → GivesAllUnits play sets
     → size_of_sums sums sets ≤ bound → ((s : ℕ) → unsigned_abs (regret_of before s) ≤ so_far)
     → (s : ℕ) → unsigned_abs (regret_of (regrets_after sums play sets before) s) ≤ so_far + bound
 
@@ -45,8 +51,10 @@ pub record StaySmall (after : List ℤ) (rounds_so_far : ℕ) : Type 0 where
   pub at_most : (s : ℕ) → unsigned_abs (regret_of after s) ≤ 2 ^ 98
 
 abbrev pub RegretsStaySmall : Type 0
-RegretsStaySmall = (sums : ℕ → ℤ) (play : List ℕ) (sets : List InformationSet) (before : List ℤ) (rounds_so_far : ℕ) → AreInOrder sets → GivesAllUnits play sets
-    → size_of_sums sums sets ≤ 2 ^ 82 → rounds_so_far < most_rounds → ((s : ℕ) → unsigned_abs (regret_of before s) ≤ rounds_so_far * 2 ^ 82)
+RegretsStaySmall = (sums : ℕ → ℤ) (play : List ℕ) (sets : List InformationSet) (before : List ℤ) (rounds_so_far : ℕ)
+    → AreInOrder sets → GivesAllUnits play sets
+    → size_of_sums sums sets ≤ 2 ^ 82 → rounds_so_far < most_rounds
+    → ((s : ℕ) → unsigned_abs (regret_of before s) ≤ rounds_so_far * 2 ^ 82)
     → StaySmall (regrets_after sums play sets before) rounds_so_far
 
 -- a round adds at most the mass times the root to a regret
@@ -56,15 +64,18 @@ RegretsGrowSlowly = (form : SequenceForm) (root n : ℕ) → AreInOrder form.set
 
 -- a round's leaf sums together are at most 2 ^ 82
 abbrev pub RoundsAreSmall : Type 0
-RoundsAreSmall = (form : SequenceForm) (root n : ℕ) → IsWithinRunLimits form root n → mass_of form.leaves * root ≤ 2 ^ 82
+RoundsAreSmall = (form : SequenceForm) (root n : ℕ) → IsWithinRunLimits form root n
+    → mass_of form.leaves * root ≤ 2 ^ 82
 
 -- products of play and worth at a set, together, are at most 2 ^ 98
 abbrev pub PlayProductsAreSmall : Type 0
-PlayProductsAreSmall = (form : SequenceForm) (root n : ℕ) → IsWithinRunLimits form root n → units * (mass_of form.leaves * root) ≤ 2 ^ 98
+PlayProductsAreSmall = (form : SequenceForm) (root n : ℕ) → IsWithinRunLimits form root n
+    → units * (mass_of form.leaves * root) ≤ 2 ^ 98
 
 -- a regret is at most 2 ^ 98, so below 2 ^ 99
 abbrev pub RegretsAreSmall : Type 0
-RegretsAreSmall = (form : SequenceForm) (root n : ℕ) → AreInOrder form.sets_one → AreInOrder form.sets_two → 1 ≤ root → IsWithinRunLimits form root n
+RegretsAreSmall = (form : SequenceForm) (root n : ℕ) → AreInOrder form.sets_one → AreInOrder form.sets_two → 1 ≤ root
+    → IsWithinRunLimits form root n
     → RegretsAreWithin (2 ^ 98) (rounds form root n)
 
 -- and all units times a set's regrets are below 2 ^ 126, where a set has at most 1,024 actions
@@ -76,8 +87,10 @@ pub record BothDealWithin (form : SequenceForm) (root n : ℕ) : Type 0 where
   pub of_two : DealsWithin form.sets_two (rounds form root n).regrets_two
 
 abbrev pub SmallRegretsDealSmallProducts : Type 0
-SmallRegretsDealSmallProducts = (sets : List InformationSet) (regrets : List ℤ) → ((s : ℕ) → unsigned_abs (regret_of regrets s) ≤ 2 ^ 98) → DealsWithin sets regrets
+SmallRegretsDealSmallProducts = (sets : List InformationSet) (regrets : List ℤ)
+    → ((s : ℕ) → unsigned_abs (regret_of regrets s) ≤ 2 ^ 98) → DealsWithin sets regrets
 
 abbrev pub DealtProductsAreSmall : Type 0
-DealtProductsAreSmall = (form : SequenceForm) (root n : ℕ) → AreInOrder form.sets_one → AreInOrder form.sets_two → 1 ≤ root → IsWithinRunLimits form root n
+DealtProductsAreSmall = (form : SequenceForm) (root n : ℕ) → AreInOrder form.sets_one → AreInOrder form.sets_two
+    → 1 ≤ root → IsWithinRunLimits form root n
     → BothDealWithin form root n

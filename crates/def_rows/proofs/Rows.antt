@@ -16,12 +16,14 @@ use Rattle.def_rows.specs.Rows.{player_rows, rows, amount_at, amount_in_row}
 use Rattle.def_rows.specs.Laws.{RowsAreLeafSums, PlayerRowsAreLeafSums, RowsAddAmounts}
 
 -- a leaf sum as a sum over all leaves of a list
-pub leaf_sums_add_amounts : (player : Player) (leaves : List Leaf) (against : List ℕ) (s : ℕ) → sum_over (λ z. amount_at player against z s) leaves ≡ leaf_sum player leaves against s
+pub leaf_sums_add_amounts : (player : Player) (leaves : List Leaf) (against : List ℕ) (s : ℕ)
+    → sum_over (λ z. amount_at player against z s) leaves ≡ leaf_sum player leaves against s
 leaf_sums_add_amounts player leaves against s =
     sym (sum_over-filter (λ z. z.weight *ℤ pos (slice_index against (leaf_sequence (opponent player) z))) (λ z. eqb (leaf_sequence player z) s) leaves)
 
 -- a row of player one by what its leaves add
-pub in_row_of_one : (form : SequenceForm) (numbers_one numbers_two : List ℕ) (leaves : List Leaf) (s : ℕ) → s < sequence_count form.sets_one
+pub in_row_of_one : (form : SequenceForm) (numbers_one numbers_two : List ℕ) (leaves : List Leaf) (s : ℕ)
+    → s < sequence_count form.sets_one
     → sum_over (λ z. amount_in_row form numbers_one numbers_two z s) leaves ≡ leaf_sum One leaves numbers_two s
 in_row_of_one form numbers_one numbers_two leaves s below =
     let inside : ltb s (sequence_count form.sets_one) ≡ true = grind (arith, nat_tests) in

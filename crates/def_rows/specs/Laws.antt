@@ -26,7 +26,8 @@ pub record ArePlayerLeafSums (form : SequenceForm) (player : Player) (against : 
       → slice_index_or (player_rows form player against) s (pos 0) ≡ leaf_sum player form.leaves against s
 
 abbrev pub PlayerRowsAreLeafSums : Type 0
-PlayerRowsAreLeafSums = (form : SequenceForm) (player : Player) (against : List ℕ) → ArePlayerLeafSums form player against
+PlayerRowsAreLeafSums = (form : SequenceForm) (player : Player) (against : List ℕ)
+    → ArePlayerLeafSums form player against
 
 -- a leaf sum is the sum over all leaves, each of which adds its amount
 abbrev pub LeafSumsAddAmounts : Type 0

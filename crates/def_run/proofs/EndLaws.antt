@@ -25,7 +25,8 @@ trace_of_run_never_widens form root every last j k line le low =
     never_widens es j k line (rounds_of form root every last) le (omega (arith, trace_lines.count es, low))
 
 -- the rounds of a run's evaluations are the evaluated ones
-rounds_are : (form : SequenceForm) (root : ℕ) (ks : List ℕ) → map (λ (e : Evaluation). e.round) (map (evaluation form root) ks) ≡ ks
+rounds_are : (form : SequenceForm) (root : ℕ) (ks : List ℕ)
+    → map (λ (e : Evaluation). e.round) (map (evaluation form root) ks) ≡ ks
 rounds_are form root [] = refl
 rounds_are form root (k ∷ ks) = ap (λ rest. k ∷ rest) (rounds_are form root ks)
 
@@ -43,7 +44,8 @@ record AreBounds (form : SequenceForm) (root : ℕ) (ends : BracketEnds) : Type 
   left : IsLeft form (plan_at_lower form root ends) ends.lower.low
   best : IsBestAgainst form (plan_at_upper form root ends) ends.upper.high
 
-are_bounds : (form : SequenceForm) (root every last : ℕ) (ends : BracketEnds) → AreInOrder form.sets_one → AreInOrder form.sets_two → 1 ≤ root
+are_bounds : (form : SequenceForm) (root every last : ℕ) (ends : BracketEnds) → AreInOrder form.sets_one
+    → AreInOrder form.sets_two → 1 ≤ root
     → ends_of (evaluations form root every last) ≡ Some ends → AreBounds form root ends
 are_bounds form root every last ends order_one order_two some are =
     let of_rounds = ends_are_of_their_rounds form root every last ends are in
@@ -91,11 +93,14 @@ offers_of_run_are_fair form root round order_one order_two some small some_round
       against_two = refl;
     }
 
-evaluated : (form : SequenceForm) (root : ℕ) (ks : List ℕ) → map evaluation_of_offer (map (offer_after form root) ks) ≡ map (evaluation form root) ks
+evaluated : (form : SequenceForm) (root : ℕ) (ks : List ℕ)
+    → map evaluation_of_offer (map (offer_after form root) ks) ≡ map (evaluation form root) ks
 evaluated form root [] = refl
 evaluated form root (k ∷ ks) = ap (λ rest. evaluation form root k ∷ rest) (evaluated form root ks)
 
-offer_at : (form : SequenceForm) (root : ℕ) (ks : List ℕ) (place : ℕ) (d : Offer) → place < length (map (offer_after form root) ks) → (k : ℕ) × (get_or (map (offer_after form root) ks) place d ≡ offer_after form root k)
+offer_at : (form : SequenceForm) (root : ℕ) (ks : List ℕ) (place : ℕ) (d : Offer)
+    → place < length (map (offer_after form root) ks)
+    → (k : ℕ) × (get_or (map (offer_after form root) ks) place d ≡ offer_after form root k)
 offer_at form root [] place d below = absurd (omega arith)
 offer_at form root (k ∷ ks) zero d below = (k, refl)
 offer_at form root (k ∷ ks) (suc place) d below = offer_at form root ks place d (omega arith)

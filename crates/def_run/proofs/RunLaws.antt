@@ -33,7 +33,8 @@ length_evaluations : (form : SequenceForm) (root : ℕ) (ks : List ℕ) → leng
 length_evaluations form root [] = refl
 length_evaluations form root (k ∷ ks) = ap suc (length_evaluations form root ks)
 
-get_or_map : (form : SequenceForm) (root : ℕ) (ks : List ℕ) (k : ℕ) (d : Evaluation) → k < length ks → get_or (map (evaluation form root) ks) k d ≡ evaluation form root (get_or ks k 0)
+get_or_map : (form : SequenceForm) (root : ℕ) (ks : List ℕ) (k : ℕ) (d : Evaluation) → k < length ks
+    → get_or (map (evaluation form root) ks) k d ≡ evaluation form root (get_or ks k 0)
 get_or_map form root [] k d below = absurd (omega arith)
 get_or_map form root (x ∷ ks) zero d below = refl
 get_or_map form root (x ∷ ks) (suc k) d below = get_or_map form root ks k d (omega arith)
@@ -51,7 +52,10 @@ rounds_of form root every last k d below =
 divisors_of : (form : SequenceForm) (root every last : ℕ) → HaveDivisors (evaluations form root every last)
 divisors_of form root every last k d below = let r = rounds_of form root every last k d below in omega (arith, r.0, r.1)
 
-of_its_round : (form : SequenceForm) (root every last : ℕ) (place : ℕ) (end : Evaluation) → place < length (evaluations form root every last) → ((d : Evaluation) → get_or (evaluations form root every last) place d ≡ end) → IsOfItsRound form root every last end
+of_its_round : (form : SequenceForm) (root every last : ℕ) (place : ℕ) (end : Evaluation)
+    → place < length (evaluations form root every last)
+    → ((d : Evaluation) → get_or (evaluations form root every last) place d ≡ end)
+    → IsOfItsRound form root every last end
 of_its_round form root every last place end within stands =
     let ks : List ℕ = evaluated_rounds every last in
     let in_range : place < length ks = omega (arith, length_evaluations form root ks, within) in
@@ -88,7 +92,8 @@ runs_have_ends form root every last some =
     some_ends (evaluations form root every last) (omega (arith, length_evaluations form root (evaluated_rounds every last), has.1))
 
 -- both sides without the root
-without_root : (low high : ℤ) (one two root : ℕ) → 1 ≤ root → (pos (two * root) *ℤ low) ≤ℤ (pos (one * root) *ℤ high) → (low *ℤ pos two) ≤ℤ (high *ℤ pos one)
+without_root : (low high : ℤ) (one two root : ℕ) → 1 ≤ root → (pos (two * root) *ℤ low) ≤ℤ (pos (one * root) *ℤ high)
+    → (low *ℤ pos two) ≤ℤ (high *ℤ pos one)
 without_root low high one two root some le =
     *ℤ-cancel root (low *ℤ pos two) (high *ℤ pos one) some (subst (λ a. a ≤ℤ (pos root *ℤ (high *ℤ pos one))) (turned two low) (subst (λ b. (pos (two * root) *ℤ low) ≤ℤ b) (turned one high) le))
   where

@@ -27,7 +27,8 @@ use Rattle.def_sequence_form.specs.Laws.{last_of_choices, LeafHasItsChoices, Tel
 use Rattle.def_sequence_form.proofs.Sets.{counts_agree, set_at}
 
 -- the leaves among visits are as many as among their nodes
-leaves_alike : (vs : List Visit) → length (filter (λ (v : Visit). is_leaf_kind v.node.kind) vs) ≡ length (filter (λ (n : Node). is_leaf_kind n.kind) (map node_of vs))
+leaves_alike : (vs : List Visit)
+    → length (filter (λ (v : Visit). is_leaf_kind v.node.kind) vs) ≡ length (filter (λ (n : Node). is_leaf_kind n.kind) (map node_of vs))
 leaves_alike [] = refl
 leaves_alike (v ∷ rest) =
     elim (is_leaf_kind v.node.kind) as (λ b. length (cond b (v ∷ filter (λ (w : Visit). is_leaf_kind w.node.kind) rest) (filter (λ (w : Visit). is_leaf_kind w.node.kind) rest))
@@ -43,25 +44,30 @@ leaves_counted tree = leaves_alike (visits tree) ∙ ap (λ ns. length (filter (
 abbrev leaf_at : Forest → Visit → ℤ → Leaf
 leaf_at tree v weight = record { sequence_one = sequence_at One tree v; sequence_two = sequence_at Two tree v; weight = weight }
 
-length-leaves_with : (tree : Forest) (vs : List Visit) (weights : List ℤ) → length weights ≡ length vs → length (leaves_with tree vs weights) ≡ length vs
+length-leaves_with : (tree : Forest) (vs : List Visit) (weights : List ℤ) → length weights ≡ length vs
+    → length (leaves_with tree vs weights) ≡ length vs
 length-leaves_with tree [] weights e = refl
 length-leaves_with tree (v ∷ rest) [] e = absurd (omega arith)
 length-leaves_with tree (v ∷ rest) (w ∷ weights) e = ap suc (length-leaves_with tree rest weights (omega arith))
 
-weights-leaves_with : (tree : Forest) (vs : List Visit) (weights : List ℤ) → length weights ≡ length vs → map (λ (leaf : Leaf). leaf.weight) (leaves_with tree vs weights) ≡ weights
+weights-leaves_with : (tree : Forest) (vs : List Visit) (weights : List ℤ) → length weights ≡ length vs
+    → map (λ (leaf : Leaf). leaf.weight) (leaves_with tree vs weights) ≡ weights
 weights-leaves_with tree [] [] e = refl
 weights-leaves_with tree [] (w ∷ weights) e = absurd (omega arith)
 weights-leaves_with tree (v ∷ rest) [] e = absurd (omega arith)
 weights-leaves_with tree (v ∷ rest) (w ∷ weights) e = ap (λ ws. w ∷ ws) (weights-leaves_with tree rest weights (omega arith))
 
-leaves_with-at : (tree : Forest) (vs : List Visit) (weights : List ℤ) (z : ℕ) (leaf : Leaf) (v : Visit) (w : ℤ) → length weights ≡ length vs → z < length vs → get_or (leaves_with tree vs weights) z leaf ≡ leaf_at tree (get_or vs z v) (get_or weights z w)
+leaves_with-at : (tree : Forest) (vs : List Visit) (weights : List ℤ) (z : ℕ) (leaf : Leaf) (v : Visit) (w : ℤ)
+    → length weights ≡ length vs → z < length vs
+    → get_or (leaves_with tree vs weights) z leaf ≡ leaf_at tree (get_or vs z v) (get_or weights z w)
 leaves_with-at tree [] weights z leaf d e same there = absurd (omega arith)
 leaves_with-at tree (v ∷ rest) [] z leaf d e same there = absurd (omega arith)
 leaves_with-at tree (v ∷ rest) (w ∷ weights) zero leaf d e same there = refl
 leaves_with-at tree (v ∷ rest) (w ∷ weights) (suc z) leaf d e same there = leaves_with-at tree rest weights z leaf d e (omega arith) (omega arith)
 
 -- the number of a sequence names its last choice
-last_named : (sizes : List ℕ) (own : List Choice) → All (IsChoiceOf sizes) own → choice_of sizes (sequence_number sizes own) ≡ last_of_choices own
+last_named : (sizes : List ℕ) (own : List Choice) → All (IsChoiceOf sizes) own
+    → choice_of sizes (sequence_number sizes own) ≡ last_of_choices own
 last_named sizes [] are = refl
 last_named sizes (choice ∷ rest) are = of_choice sizes choice rest (All-head (IsChoiceOf sizes) choice rest are)
 
@@ -83,7 +89,8 @@ module _ (tables : Tables) (tree : Forest) (game : IsGameTree tree) where
       }
 
   -- of visited nodes, equal numbers tell equal choices
-  visits_told : (kind : Kind) (v w : Visit) → HasPerfectRecall tree → is_personal kind ≡ true → Contains (visits tree) v → Contains (visits tree) w → sequence_at kind tree v ≡ sequence_at kind tree w →
+  visits_told : (kind : Kind) (v w : Visit) → HasPerfectRecall tree → is_personal kind ≡ true → Contains (visits tree) v
+      → Contains (visits tree) w → sequence_at kind tree v ≡ sequence_at kind tree w →
       own_choices kind v.path ≡ own_choices kind w.path
   visits_told kind v w recall personal at_v at_w same =
       let all : List Visit = visits tree in
@@ -99,7 +106,8 @@ module _ (tables : Tables) (tree : Forest) (game : IsGameTree tree) where
   leaves_visited : All (Contains (visits tree)) (leaf_visits tree)
   leaves_visited = All-filter (λ v. is_leaf_kind v.node.kind) (Contains (visits tree)) (visits tree) (All-contains_itself (visits tree))
 
-  tells : HasPerfectRecall tree → (y z : ℕ) (d : Visit) (weight other_weight : ℤ) → y < length (leaf_visits tree) → z < length (leaf_visits tree) →
+  tells : HasPerfectRecall tree → (y z : ℕ) (d : Visit) (weight other_weight : ℤ) → y < length (leaf_visits tree)
+      → z < length (leaf_visits tree) →
       TellsChoices (leaf_entry tables (get_or (leaf_visits tree) y d)) (leaf_entry tables (get_or (leaf_visits tree) z d)) (leaf_at tree (get_or (leaf_visits tree) y d) weight) (leaf_at tree (get_or (leaf_visits tree) z d) other_weight)
   tells recall y z d weight other_weight here there =
       let v : Visit = get_or (leaf_visits tree) y d in
@@ -144,7 +152,8 @@ sizes_of : (leaves : List Leaf) → mass_of leaves ≡ sum (map unsigned_abs (ma
 sizes_of [] = refl
 sizes_of (leaf ∷ rest) = ap (λ n. unsigned_abs leaf.weight + n) (sizes_of rest) ∙ sym (sum_by-cons (λ n. n) (unsigned_abs leaf.weight) (map unsigned_abs (map (λ (z : Leaf). z.weight) rest)))
 
-mass_of_weights : (tree : Forest) (weights : List ℤ) → length weights ≡ leaf_count (prefix tree) → mass_of (form_of tree weights).leaves ≡ sum (map unsigned_abs weights)
+mass_of_weights : (tree : Forest) (weights : List ℤ) → length weights ≡ leaf_count (prefix tree)
+    → mass_of (form_of tree weights).leaves ≡ sum (map unsigned_abs weights)
 mass_of_weights tree weights many =
     let vs : List Visit = leaf_visits tree in
     sizes_of (leaves_with tree vs weights) ∙ ap (λ ws. sum (map unsigned_abs ws)) (weights-leaves_with tree vs weights (many ∙ sym (leaves_counted tree)))
@@ -156,11 +165,13 @@ form_has_the_mass = record {
   of_game = λ tables tree. mass_of_weights tree (weights tables tree) (length-map (all_expected tables tree) _ ∙ length-map (leaf_visits tree) (expected tables) ∙ leaves_counted tree);
 }
 
-sizes_map : (kind : Kind) (tree : Forest) (vs : List Visit) → map (λ (set : InformationSet). set.actions) (map (set_at kind tree) vs) ≡ map (λ (v : Visit). v.node.children) vs
+sizes_map : (kind : Kind) (tree : Forest) (vs : List Visit)
+    → map (λ (set : InformationSet). set.actions) (map (set_at kind tree) vs) ≡ map (λ (v : Visit). v.node.children) vs
 sizes_map kind tree [] = refl
 sizes_map kind tree (v ∷ rest) = ap (λ ns. v.node.children ∷ ns) (sizes_map kind tree rest)
 
-tells_each_node : (tree : Forest) (kind : Kind) → IsGameTree tree → is_leaf_kind kind ≡ false → TellsEachNode tree kind (told_sets kind tree)
+tells_each_node : (tree : Forest) (kind : Kind) → IsGameTree tree → is_leaf_kind kind ≡ false
+    → TellsEachNode tree kind (told_sets kind tree)
 tells_each_node tree kind game inner =
     let all : List Visit = visits tree in
     let long : length all ≡ node_count tree = sym (length-map all node_of) ∙ ap length (map-visits_from (λ _. []) 1 tree) in

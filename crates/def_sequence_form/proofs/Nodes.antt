@@ -18,11 +18,13 @@ use Rattle.def_sequence_form.specs.Sets.{TreeSets, tree_sets, unless_broken}
 use Rattle.def_sequence_form.specs.Laws.{SetsAreExact, SetsHaveTheirNodes}
 use Rattle.def_sequence_form.proofs.Sets.{set_at}
 
-told_none : (o : Option RecallBreak) (sets told : TreeSets) → unless_broken o sets ≡ Ok told → (o ≡ None) × (told ≡ sets)
+told_none : (o : Option RecallBreak) (sets told : TreeSets) → unless_broken o sets ≡ Ok told
+    → (o ≡ None) × (told ≡ sets)
 told_none None sets told e = (refl, cc)
 told_none (Some broken) sets told e = cc
 
-told_break : (o : Option RecallBreak) (sets : TreeSets) (broken : RecallBreak) → unless_broken o sets ≡ Err broken → o ≡ Some broken
+told_break : (o : Option RecallBreak) (sets : TreeSets) (broken : RecallBreak) → unless_broken o sets ≡ Err broken
+    → o ≡ Some broken
 told_break None sets broken e = cc
 told_break (Some found) sets broken e = cc
 
@@ -38,7 +40,8 @@ sets_are_exact = record {
 }
 
 -- the first node of a node's set has the node's own choices before it
-past_of_first : (tree : Forest) → HasPerfectRecall tree → (k : ℕ) (d f : Visit) (number : ℕ) (o : Option Numbered) → k < length (visits tree) → is_personal (get_or (visits tree) k d).node.kind ≡ true →
+past_of_first : (tree : Forest) → HasPerfectRecall tree → (k : ℕ) (d f : Visit) (number : ℕ) (o : Option Numbered)
+    → k < length (visits tree) → is_personal (get_or (visits tree) k d).node.kind ≡ true →
     f.node.kind ≡ (get_or (visits tree) k d).node.kind → f.node.set ≡ (get_or (visits tree) k d).node.set → HasFirst 1 (get_or (visits tree) k d).node (visits tree) d o →
     o ≡ Some (record { number = number; visit = f }) → past f ≡ past (get_or (visits tree) k d)
 past_of_first tree recall k d f number None there personal kinds sets found e = cc

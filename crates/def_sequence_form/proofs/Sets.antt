@@ -36,7 +36,8 @@ module _ (kind : Kind) (tree : Forest) where
   abbrev firsts : List Visit
   firsts = set_firsts kind 0 (visits tree)
 
-  sizes_agree : (k : ℕ) (vs : List Visit) → nat_sum_over actions_of (take k (map set_at vs)) ≡ sum (take k (map (λ v. v.node.children) vs))
+  sizes_agree : (k : ℕ) (vs : List Visit)
+      → nat_sum_over actions_of (take k (map set_at vs)) ≡ sum (take k (map (λ v. v.node.children) vs))
   sizes_agree zero vs = refl
   sizes_agree (suc k) [] = refl
   sizes_agree (suc k) (v ∷ vs) = ap (λ n. v.node.children + n) (sizes_agree k vs) ∙ sym (sum_by-cons (λ n. n) v.node.children (take k (map (λ w. w.node.children) vs)))
@@ -48,7 +49,8 @@ module _ (kind : Kind) (tree : Forest) where
   pub counts_agree : sequence_count (information_sets kind tree) ≡ 1 + sum (set_sizes kind tree)
   counts_agree = ap (λ n. 1 + n) (sizes_total firsts)
 
-  places_agree : (i : ℕ) (d : PlacedSet) → i < length (information_sets kind tree) → get_or (placed (information_sets kind tree)) i d
+  places_agree : (i : ℕ) (d : PlacedSet) → i < length (information_sets kind tree)
+      → get_or (placed (information_sets kind tree)) i d
       ≡ record { first = first_sequence (set_sizes kind tree) (i + 1); before = get_or (sequences_before kind tree) i 0; actions = get_or (set_sizes kind tree) i 0 }
   places_agree i d there =
       let none : Visit = record { path = []; node = record { kind = Leaf; set = 0; outcome = 0; children = 0 } } in

@@ -16,31 +16,36 @@ use Rattle.def_sequence_form.specs.Sets.{PlayerSets, TreeSets, tree_sets, sets_o
 
 -- each set has actions, and the sequence before it comes before its own
 abbrev pub FormIsInOrder : Type 0
-FormIsInOrder = (tree : Forest) → IsGameTree tree → (kind : Kind) → is_leaf_kind kind ≡ false → AreInOrder (information_sets kind tree)
+FormIsInOrder = (tree : Forest) → IsGameTree tree → (kind : Kind) → is_leaf_kind kind ≡ false
+    → AreInOrder (information_sets kind tree)
 
 -- the sets are told exactly where both players have perfect recall, and otherwise its first break
 pub record SetsAreExact : Type 0 where
   pub told : (tree : Forest) → (sets_or_break tree ≡ Ok (tree_sets tree)) ↔ HasPerfectRecall tree
   pub only : (tree : Forest) (sets : TreeSets) → sets_or_break tree ≡ Ok sets → sets ≡ tree_sets tree
-  pub broken : (tree : Forest) (d : Visit) (broken : RecallBreak) → sets_or_break tree ≡ Err broken → IsFirstBreak (λ k. slice_index_or (visits tree) (k - 1) d) (length (visits tree)) broken
+  pub broken : (tree : Forest) (d : Visit) (broken : RecallBreak) → sets_or_break tree ≡ Err broken
+      → IsFirstBreak (λ k. slice_index_or (visits tree) (k - 1) d) (length (visits tree)) broken
 
 -- with perfect recall a set's own sequence before it is that of each of its nodes, which all have its actions
 abbrev pub SetsHaveTheirNodes : Type 0
-SetsHaveTheirNodes = (tree : Forest) → IsGameTree tree → HasPerfectRecall tree → (kind : Kind) → is_personal kind ≡ true → (none : InformationSet) →
+SetsHaveTheirNodes = (tree : Forest) → IsGameTree tree → HasPerfectRecall tree → (kind : Kind) → is_personal kind ≡ true
+    → (none : InformationSet) →
     All (λ v. v.node.kind ≡ kind → slice_index_or (information_sets kind tree) (v.node.set - 1) none ≡ record { before = sequence_at kind tree v; actions = v.node.children }) (visits tree)
 
 -- the form counts and places a tree's sequences as they are numbered in the tree, and has no more sets and sequences than the tree has nodes
 pub record NumbersAsTheTree (tree : Forest) (kind : Kind) : Type 0 where
   pub count : sequence_count (information_sets kind tree) ≡ 1 + sum (set_sizes kind tree)
   pub sets : length (information_sets kind tree) ≡ set_count kind (prefix tree)
-  pub places : (i : ℕ) (d : PlacedSet) → i < length (information_sets kind tree) → slice_index_or (placed (information_sets kind tree)) i d
+  pub places : (i : ℕ) (d : PlacedSet) → i < length (information_sets kind tree)
+      → slice_index_or (placed (information_sets kind tree)) i d
       ≡ record { first = first_sequence (set_sizes kind tree) (i + 1); before = slice_index (sequences_before kind tree) i; actions = slice_index (set_sizes kind tree) i }
   pub actions : All (λ set. (1 ≤ set.actions) × (set.actions ≤ 1024)) (information_sets kind tree)
   pub few_sets : length (information_sets kind tree) ≤ node_count tree
   pub few_sequences : sequence_count (information_sets kind tree) ≤ node_count tree
 
 abbrev pub FormNumbersAsTheTree : Type 0
-FormNumbersAsTheTree = (tree : Forest) → IsGameTree tree → (kind : Kind) → is_leaf_kind kind ≡ false → NumbersAsTheTree tree kind
+FormNumbersAsTheTree = (tree : Forest) → IsGameTree tree → (kind : Kind) → is_leaf_kind kind ≡ false
+    → NumbersAsTheTree tree kind
 
 -- the last own choice of a list in which it stands first
 abbrev pub last_of_choices : List Choice → Option Choice
@@ -66,23 +71,27 @@ pub record LeavesAreTheList (tables : Tables) (tree : Forest) (weights : List �
   pub weights_are : map (λ leaf. leaf.weight) (form_of tree weights).leaves ≡ weights
   pub each : (z : ℕ) (entry : LeafEntry) (leaf : Leaf) → z < leaf_count (prefix tree) →
       LeafHasItsChoices tree (form_of tree weights) (slice_index_or (leaf_list tables tree) z entry) (slice_index_or (form_of tree weights).leaves z leaf)
-  pub pairs : HasPerfectRecall tree → (y z : ℕ) (entry : LeafEntry) (leaf : Leaf) → y < leaf_count (prefix tree) → z < leaf_count (prefix tree) →
+  pub pairs : HasPerfectRecall tree → (y z : ℕ) (entry : LeafEntry) (leaf : Leaf) → y < leaf_count (prefix tree)
+      → z < leaf_count (prefix tree) →
       TellsChoices (slice_index_or (leaf_list tables tree) y entry) (slice_index_or (leaf_list tables tree) z entry)
       (slice_index_or (form_of tree weights).leaves y leaf) (slice_index_or (form_of tree weights).leaves z leaf)
 
 abbrev pub FormHasTheLeafList : Type 0
-FormHasTheLeafList = (tables : Tables) (tree : Forest) (weights : List ℤ) → IsGameTree tree → length weights ≡ leaf_count (prefix tree) → LeavesAreTheList tables tree weights
+FormHasTheLeafList = (tables : Tables) (tree : Forest) (weights : List ℤ) → IsGameTree tree
+    → length weights ≡ leaf_count (prefix tree) → LeavesAreTheList tables tree weights
 
 -- the sizes of the form's weights add up to the game's mass
 pub record FormHasTheMass : Type 0 where
-  pub of_weights : (tree : Forest) (weights : List ℤ) → length weights ≡ leaf_count (prefix tree) → mass_of (form_of tree weights).leaves ≡ sum (map unsigned_abs weights)
+  pub of_weights : (tree : Forest) (weights : List ℤ) → length weights ≡ leaf_count (prefix tree)
+      → mass_of (form_of tree weights).leaves ≡ sum (map unsigned_abs weights)
   pub of_game : (tables : Tables) (tree : Forest) → mass_of (form_of_game tables tree).leaves ≡ game_mass tables tree
 
 -- what is told of a player's sets: those of the form, and for each node the number of the sequence that ends with the player's last own choice before it
 pub record TellsEachNode (tree : Forest) (kind : Kind) (told : PlayerSets) : Type 0 where
   pub sets : told.sets ≡ information_sets kind tree
   pub count : length told.at_nodes ≡ node_count tree
-  pub last : (k : ℕ) (d : Visit) → k < node_count tree → choice_of (map (λ set. set.actions) told.sets) (slice_index told.at_nodes k) ≡ last_of_choices (own_choices kind (slice_index_or (visits tree) k d).path)
+  pub last : (k : ℕ) (d : Visit) → k < node_count tree
+      → choice_of (map (λ set. set.actions) told.sets) (slice_index told.at_nodes k) ≡ last_of_choices (own_choices kind (slice_index_or (visits tree) k d).path)
 
 pub record TreeSetsTellNodes : Type 0 where
   pub one : (tree : Forest) → IsGameTree tree → TellsEachNode tree One (tree_sets tree).one

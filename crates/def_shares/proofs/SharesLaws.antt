@@ -31,14 +31,16 @@ some_weight weights some = by_sum (eqb (weight_sum weights) 0) refl
     by_sum false e = grind (arith, nat_tests)
 
 -- ---- prefix sums
-prefix-more : (weights : List ℕ) (i : ℕ) → i < length weights → prefix_sum weights (i + 1) ≡ prefix_sum weights i + get_or weights i 0
+prefix-more : (weights : List ℕ) (i : ℕ) → i < length weights
+    → prefix_sum weights (i + 1) ≡ prefix_sum weights i + get_or weights i 0
 prefix-more weights i below = ap weight_sum (take_more weights i 0 below) ∙ nat_sum_over-append (λ w. w) (take i weights) (get_or weights i 0 ∷ []) ∙ ap (λ n. prefix_sum weights i + n) (add-zero (get_or weights i 0))
 
 prefix-all : (weights : List ℕ) → prefix_sum weights (length weights) ≡ weight_sum weights
 prefix-all weights = ap weight_sum (take-length weights)
 
 -- ---- floors of two products, one after the other
-quotients : (low part high sum : ℕ) → 1 ≤ sum → low + part ≡ high → (low / sum ≤ high / sum) × (part < (high / sum - low / sum + 1) * sum) × ((high / sum - low / sum) * sum < part + sum)
+quotients : (low part high sum : ℕ) → 1 ≤ sum → low + part ≡ high
+    → (low / sum ≤ high / sum) × (part < (high / sum - low / sum + 1) * sum) × ((high / sum - low / sum) * sum < part + sum)
 quotients low part high sum some is = (no_less, above, below)
   where
     no_less : low / sum ≤ high / sum
@@ -53,19 +55,23 @@ quotients low part high sum some is = (no_less, above, below)
     below : (high / sum - low / sum) * sum < part + sum
     below = omega (arith, split, div-add-mod' low sum, div-add-mod' high sum, mod_below low sum some, is)
 
-step_of : (n : ℕ) (weights : List ℕ) (i : ℕ) → i < length weights → n * prefix_sum weights i + n * get_or weights i 0 ≡ n * prefix_sum weights (i + 1)
+step_of : (n : ℕ) (weights : List ℕ) (i : ℕ) → i < length weights
+    → n * prefix_sum weights i + n * get_or weights i 0 ≡ n * prefix_sum weights (i + 1)
 step_of n weights i below = sym (mul-add n (prefix_sum weights i) (get_or weights i 0)) ∙ ap (λ c. n * c) (sym (prefix-more weights i below))
 
 -- ---- the shares of weights that don't add up to 0
-share_at : (n : ℕ) (weights : List ℕ) (i : ℕ) → i < length weights → get_or (shares_in_proportion n weights) i 0 ≡ prefix_share n weights (i + 1) - prefix_share n weights i
+share_at : (n : ℕ) (weights : List ℕ) (i : ℕ) → i < length weights
+    → get_or (shares_in_proportion n weights) i 0 ≡ prefix_share n weights (i + 1) - prefix_share n weights i
 share_at n weights i below = get_or-map-range_with_len (λ (i : ℕ). prefix_share n weights (i + 1) - prefix_share n weights i) 0 (length weights) i i 0 below (omega arith)
 
-difference : (n : ℕ) (weights : List ℕ) → 1 ≤ weight_sum weights → (i : ℕ) → i < length weights → get_or (shares_in_proportion n weights) i 0 + prefix_share n weights i ≡ prefix_share n weights (i + 1)
+difference : (n : ℕ) (weights : List ℕ) → 1 ≤ weight_sum weights → (i : ℕ) → i < length weights
+    → get_or (shares_in_proportion n weights) i 0 + prefix_share n weights i ≡ prefix_share n weights (i + 1)
 difference n weights some i below =
     let q = quotients (n * prefix_sum weights i) (n * get_or weights i 0) (n * prefix_sum weights (i + 1)) (weight_sum weights) some (step_of n weights i below) in
     omega (arith, share_at n weights i below, q.0)
 
-within : (n : ℕ) (weights : List ℕ) → 1 ≤ weight_sum weights → (i : ℕ) → i < length weights → IsWithinOne n (get_or weights i 0) (weight_sum weights) (get_or (shares_in_proportion n weights) i 0)
+within : (n : ℕ) (weights : List ℕ) → 1 ≤ weight_sum weights → (i : ℕ) → i < length weights
+    → IsWithinOne n (get_or weights i 0) (weight_sum weights) (get_or (shares_in_proportion n weights) i 0)
 within n weights some i below =
     let q = quotients (n * prefix_sum weights i) (n * get_or weights i 0) (n * prefix_sum weights (i + 1)) (weight_sum weights) some (step_of n weights i below) in
     rw share_at (record { above = q.1; below = q.2 })
@@ -73,7 +79,8 @@ within n weights some i below =
 length-shares_in_proportion : (n : ℕ) (weights : List ℕ) → length (shares_in_proportion n weights) ≡ length weights
 length-shares_in_proportion n weights = length-map-range_with_len (λ (i : ℕ). prefix_share n weights (i + 1) - prefix_share n weights i) 0 (length weights)
 
-before : (n : ℕ) (weights : List ℕ) → 1 ≤ weight_sum weights → (i : ℕ) → i ≤ length weights → weight_sum (take i (shares_in_proportion n weights)) ≡ prefix_share n weights i
+before : (n : ℕ) (weights : List ℕ) → 1 ≤ weight_sum weights → (i : ℕ) → i ≤ length weights
+    → weight_sum (take i (shares_in_proportion n weights)) ≡ prefix_share n weights i
 before n weights some zero within = sym (zero_over n (weight_sum weights) some)
   where
     zero_over : (n sum : ℕ) → 1 ≤ sum → n * 0 / sum ≡ 0
@@ -87,7 +94,8 @@ before n weights some (suc i) within =
     omega (arith, more, difference n weights some i below', before n weights some i (omega arith), e, f)
 
 -- ---- the laws
-before_all : (n : ℕ) (weights : List ℕ) (i : ℕ) → i ≤ length weights → weight_sum (take i (shares n weights)) ≡ prefix_share n (weights_or_ones weights) i
+before_all : (n : ℕ) (weights : List ℕ) (i : ℕ) → i ≤ length weights
+    → weight_sum (take i (shares n weights)) ≡ prefix_share n (weights_or_ones weights) i
 before_all n [] zero within = none n
   where
     none : (n : ℕ) → 0 ≡ n * 0 / 0
@@ -104,7 +112,8 @@ whole_share : (n sum : ℕ) → 1 ≤ sum → n * sum / sum ≡ n
 whole_share n sum some = mul-div_left n some
 
 -- where there is a weight, the shares add up to n
-pub shares_whole : (n : ℕ) (weights : List ℕ) → 1 ≤ length weights → nat_sum_over (λ share. share) (shares n weights) ≡ n
+pub shares_whole : (n : ℕ) (weights : List ℕ) → 1 ≤ length weights
+    → nat_sum_over (λ share. share) (shares n weights) ≡ n
 shares_whole n weights some =
     let all : take (length weights) (shares n weights) ≡ shares n weights = ap (λ k. take k (shares n weights)) (sym (length-shares n weights)) ∙ take-length (shares n weights) in
     let e = before_all n weights (length weights) (le_refl (length weights)) in

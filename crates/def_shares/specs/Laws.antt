@@ -14,8 +14,10 @@ SharesDealAll = (n : ℕ) (weights : List ℕ) → 1 ≤ length weights → Deal
 -- the shares before place i add up to the floor of n times the sum of the weights before i, divided by the sum of all
 -- weights; where all weights are 0, each counts as 1
 pub record AddUpBefore (n : ℕ) (weights : List ℕ) (i : ℕ) : Type 0 where
-  pub by_weight : 1 ≤ weight_sum weights → nat_sum_over (λ share. share) (take i (shares n weights)) ≡ n * prefix_sum weights i / weight_sum weights
-  pub evenly : weight_sum weights ≡ 0 → nat_sum_over (λ share. share) (take i (shares n weights)) ≡ n * i / length weights
+  pub by_weight : 1 ≤ weight_sum weights
+      → nat_sum_over (λ share. share) (take i (shares n weights)) ≡ n * prefix_sum weights i / weight_sum weights
+  pub evenly : weight_sum weights ≡ 0
+      → nat_sum_over (λ share. share) (take i (shares n weights)) ≡ n * i / length weights
 
 abbrev pub SharesBeforeAddUp : Type 0
 SharesBeforeAddUp = (n : ℕ) (weights : List ℕ) (i : ℕ) → i ≤ length weights → AddUpBefore n weights i
@@ -24,7 +26,8 @@ SharesBeforeAddUp = (n : ℕ) (weights : List ℕ) (i : ℕ) → i ≤ length we
 pub record IsDifference (n : ℕ) (weights : List ℕ) (i : ℕ) : Type 0 where
   pub by_weight : 1 ≤ weight_sum weights
       → slice_index (shares n weights) i + n * prefix_sum weights i / weight_sum weights ≡ n * prefix_sum weights (i + 1) / weight_sum weights
-  pub evenly : weight_sum weights ≡ 0 → slice_index (shares n weights) i + n * i / length weights ≡ n * (i + 1) / length weights
+  pub evenly : weight_sum weights ≡ 0
+      → slice_index (shares n weights) i + n * i / length weights ≡ n * (i + 1) / length weights
 
 abbrev pub SharesAreDifferences : Type 0
 SharesAreDifferences = (n : ℕ) (weights : List ℕ) (i : ℕ) → i < length weights → IsDifference n weights i

@@ -34,7 +34,8 @@ range-All P a n h s low high =
     subst P (get_or-range_with_len a n (s - a) 0 (omega arith) ∙ omega arith) (h (s - a) 0 (omega (arith, length-range_with_len a n)))
 
 -- a sum in which one number alone counts
-pub pick_out : (f : ℕ → ℤ) (k a n : ℕ) → k < a → sum_over (λ s. cond (eqb k s) (f s) (pos 0)) (range_with_len a n) ≡ pos 0
+pub pick_out : (f : ℕ → ℤ) (k a n : ℕ) → k < a
+    → sum_over (λ s. cond (eqb k s) (f s) (pos 0)) (range_with_len a n) ≡ pos 0
 pick_out f k a zero h = refl
 pick_out f k a (suc n) h =
     ap (λ b. cond b (f a) (pos 0) +ℤ sum_over (λ s. cond (eqb k s) (f s) (pos 0)) (range_with_len (a + 1) n)) (ne_eqb k a (λ e. omega arith))
@@ -42,7 +43,8 @@ pick_out f k a (suc n) h =
     ∙ pick_out f k (a + 1) n (omega arith)
 
 -- a row that ends before k gets nothing of what counts at k alone
-pub pick_past : (f : ℕ → ℤ) (k a n : ℕ) → a + n ≤ k → sum_over (λ s. cond (eqb k s) (f s) (pos 0)) (range_with_len a n) ≡ pos 0
+pub pick_past : (f : ℕ → ℤ) (k a n : ℕ) → a + n ≤ k
+    → sum_over (λ s. cond (eqb k s) (f s) (pos 0)) (range_with_len a n) ≡ pos 0
 pick_past f k a zero h = refl
 pick_past f k a (suc n) h =
     ap (λ b. cond b (f a) (pos 0) +ℤ sum_over (λ s. cond (eqb k s) (f s) (pos 0)) (range_with_len (a + 1) n)) (ne_eqb k a (λ e. omega arith))
@@ -61,12 +63,14 @@ pick_later f k a n false e low high rest =
     zero-+ℤ (sum_over (λ s. cond (eqb k s) (f s) (pos 0)) (range_with_len (a + 1) n)) ∙ rest after (omega arith)
 
 -- a row that has k gets what counts at k alone
-pub pick_in : (f : ℕ → ℤ) (k a n : ℕ) → a ≤ k → k < a + n → sum_over (λ s. cond (eqb k s) (f s) (pos 0)) (range_with_len a n) ≡ f k
+pub pick_in : (f : ℕ → ℤ) (k a n : ℕ) → a ≤ k → k < a + n
+    → sum_over (λ s. cond (eqb k s) (f s) (pos 0)) (range_with_len a n) ≡ f k
 pick_in f k a zero low high = absurd (omega arith)
 pick_in f k a (suc n) low high = pick_later f k a n (eqb k a) refl low high (λ l h. pick_in f k (a + 1) n l h)
 
 -- a sum over the places of a list is the sum of its elements
-pub nat_sum_over-read : (f : ℕ → ℕ) (a : ℕ) (ys : List ℕ) → ((i : ℕ) → i < length ys → f (a + i) ≡ get_or ys i 0) → nat_sum_over f (range_with_len a (length ys)) ≡ nat_sum_over (λ y. y) ys
+pub nat_sum_over-read : (f : ℕ → ℕ) (a : ℕ) (ys : List ℕ) → ((i : ℕ) → i < length ys → f (a + i) ≡ get_or ys i 0)
+    → nat_sum_over f (range_with_len a (length ys)) ≡ nat_sum_over (λ y. y) ys
 nat_sum_over-read f a [] h = refl
 nat_sum_over-read f a (y ∷ ys) h =
     let here : a ≡ a + 0 = omega arith in
@@ -75,7 +79,8 @@ nat_sum_over-read f a (y ∷ ys) h =
     ∙ ap (λ z. y + z) (nat_sum_over-read f (a + 1) ys later)
 
 -- a sum over the places behind a front is the sum of the elements there
-pub nat_sum_over-places : (xs ys : List ℕ) (a : ℕ) → length xs ≡ a → nat_sum_over (λ s. slice_index (xs ++ ys) s) (range_with_len a (length ys)) ≡ nat_sum_over (λ y. y) ys
+pub nat_sum_over-places : (xs ys : List ℕ) (a : ℕ) → length xs ≡ a
+    → nat_sum_over (λ s. slice_index (xs ++ ys) s) (range_with_len a (length ys)) ≡ nat_sum_over (λ y. y) ys
 nat_sum_over-places xs ys a e =
     nat_sum_over-read (λ s. slice_index (xs ++ ys) s) a ys (λ i low. ap (λ k. get_or (xs ++ ys) (k + i) 0) (sym e) ∙ get_or-append-add xs ys i 0)
 
@@ -103,7 +108,8 @@ nat_pick v k a (suc n) =
     (λ no. subst (λ b. cond b v 0 + nat_sum_over (λ s. cond (eqb k s) v 0) (range_with_len (a + 1) n) ≤ v) (sym no.0) (omega (arith, nat_pick v k (a + 1) n)))
     (eqb_tells k a)
 
-kept_nat : {A : Type 0} (f : A → ℕ) (b : Bool) (x : A) (xs : List A) → nat_sum_over f (cond b (x ∷ xs) xs) ≡ cond b (f x) 0 + nat_sum_over f xs
+kept_nat : {A : Type 0} (f : A → ℕ) (b : Bool) (x : A) (xs : List A)
+    → nat_sum_over f (cond b (x ∷ xs) xs) ≡ cond b (f x) 0 + nat_sum_over f xs
 kept_nat f true x xs = refl
 kept_nat f false x xs = omega arith
 
@@ -120,7 +126,8 @@ nat_gathered key v a n (z ∷ zs) =
     )
 
 -- functions that agree at each number of a row
-pub map-range_same : {A : Type 0} (f g : ℕ → A) (a n : ℕ) → ((s : ℕ) → a ≤ s → s < a + n → f s ≡ g s) → map f (range_with_len a n) ≡ map g (range_with_len a n)
+pub map-range_same : {A : Type 0} (f g : ℕ → A) (a n : ℕ) → ((s : ℕ) → a ≤ s → s < a + n → f s ≡ g s)
+    → map f (range_with_len a n) ≡ map g (range_with_len a n)
 map-range_same f g a zero same = refl
 map-range_same f g a (suc n) same =
     ap (λ x. x ∷ map f (range_with_len (a + 1) n)) (same a (omega arith) (omega arith))

@@ -26,14 +26,16 @@ pub record BoundSizes : Type 0 where
   pub of_sum : (a b : ℤ) → unsigned_abs (a +ℤ b) ≤ unsigned_abs a + unsigned_abs b
   pub of_product : (a b : ℤ) → unsigned_abs (a *ℤ b) ≡ unsigned_abs a * unsigned_abs b
   pub of_sum_over : (f : ℕ → ℤ) (xs : List ℕ) → unsigned_abs (sum_over f xs) ≤ nat_sum_over (λ x. unsigned_abs (f x)) xs
-  pub of_bounded : (f : ℕ → ℕ) (bound : ℕ) (xs : List ℕ) → All (λ x. f x ≤ bound) xs → nat_sum_over f xs ≤ length xs * bound
+  pub of_bounded : (f : ℕ → ℕ) (bound : ℕ) (xs : List ℕ) → All (λ x. f x ≤ bound) xs
+      → nat_sum_over f xs ≤ length xs * bound
 
 -- a sum over a list spreads over parts of the list, over sums and over a common factor, and two sums can be taken in either order
 pub record SumsAreLinear : Type 0 where
   pub over_parts : (f : ℕ → ℤ) (xs ys : List ℕ) → sum_over f (xs ++ ys) ≡ sum_over f xs +ℤ sum_over f ys
   pub over_sum : (f g : ℕ → ℤ) (xs : List ℕ) → sum_over (λ x. f x +ℤ g x) xs ≡ sum_over f xs +ℤ sum_over g xs
   pub over_factor : (c : ℤ) (f : ℕ → ℤ) (xs : List ℕ) → sum_over (λ x. c *ℤ f x) xs ≡ c *ℤ sum_over f xs
-  pub exchange : (f : ℕ → ℕ → ℤ) (xs ys : List ℕ) → sum_over (λ x. sum_over (λ y. f x y) ys) xs ≡ sum_over (λ y. sum_over (λ x. f x y) xs) ys
+  pub exchange : (f : ℕ → ℕ → ℤ) (xs ys : List ℕ)
+      → sum_over (λ x. sum_over (λ y. f x y) ys) xs ≡ sum_over (λ y. sum_over (λ x. f x y) xs) ys
   pub in_order : (f g : ℕ → ℤ) (xs : List ℕ) → All (λ x. f x ≤ℤ g x) xs → sum_over f xs ≤ℤ sum_over g xs
   pub of_naturals : (f : ℕ → ℕ) (xs : List ℕ) → sum_over (λ x. pos (f x)) xs ≡ pos (nat_sum_over f xs)
   pub as_sum : (xs : List ℕ) → nat_sum_over (λ x. x) xs ≡ sum xs

@@ -32,7 +32,8 @@ drop_trees-joined bare ys = refl
 drop_trees-joined (grown node below beside) ys = drop_trees-joined beside ys
 
 -- the nodes of some trees, and then others: the trees stand first, and then those of the others
-pub forest_of-prefix : (xs : Forest) (rest : List Node) → HasItsChildren xs → forest_of (prefix xs ++ rest) ≡ joined xs (forest_of rest)
+pub forest_of-prefix : (xs : Forest) (rest : List Node) → HasItsChildren xs
+    → forest_of (prefix xs ++ rest) ≡ joined xs (forest_of rest)
 forest_of-prefix bare rest h = refl
 forest_of-prefix (grown node below beside) rest h =
     let behind : forest_of ((prefix below ++ prefix beside) ++ rest) ≡ joined below (joined beside (forest_of rest)) =

@@ -15,7 +15,8 @@ Begins-append n [] ys h k = k
 Begins-append n (x ∷ xs) ys h k = (h.0, Begins-append (n + x.children - 1) xs ys h.1 k)
 
 -- nodes that begin n trees and want no more are n trees
-pub trees_of : (n : ℕ) (nodes : List Node) → Begins n nodes → wanted n nodes ≡ 0 → (tree_count (forest_of nodes) ≡ n) × HasItsChildren (forest_of nodes)
+pub trees_of : (n : ℕ) (nodes : List Node) → Begins n nodes → wanted n nodes ≡ 0
+    → (tree_count (forest_of nodes) ≡ n) × HasItsChildren (forest_of nodes)
 trees_of n [] h e = (sym e, tt)
 trees_of n (node ∷ rest) h e =
     let behind : (tree_count (forest_of rest) ≡ n + node.children - 1) × HasItsChildren (forest_of rest) = trees_of (n + node.children - 1) rest h.1 e in
@@ -26,7 +27,8 @@ trees_of n (node ∷ rest) h e =
     (omega arith, (below, HasItsChildren-take_trees node.children (forest_of rest) behind.1, HasItsChildren-drop_trees node.children (forest_of rest) behind.1))
 
 -- the nodes of some trees, put before others, want as many more as there are trees
-pub wanted-prefix : (xs : Forest) (n : ℕ) (rest : List Node) → HasItsChildren xs → wanted (tree_count xs + n) (prefix xs ++ rest) ≡ wanted n rest
+pub wanted-prefix : (xs : Forest) (n : ℕ) (rest : List Node) → HasItsChildren xs
+    → wanted (tree_count xs + n) (prefix xs ++ rest) ≡ wanted n rest
 wanted-prefix bare n rest h = ap (λ m. wanted m rest) (omega arith)
 wanted-prefix (grown node below beside) n rest h =
     let has : tree_count below ≡ node.children = h.0 in
@@ -34,7 +36,8 @@ wanted-prefix (grown node below beside) n rest h =
     ap (λ m. wanted m ((prefix below ++ prefix beside) ++ rest)) left ∙ ap (wanted (tree_count below + (tree_count beside + n))) (append_assoc (prefix below) (prefix beside) rest)
     ∙ wanted-prefix below (tree_count beside + n) (prefix beside ++ rest) h.1 ∙ wanted-prefix beside n rest h.2
 
-pub Begins-prefix : (xs : Forest) (n : ℕ) (rest : List Node) → HasItsChildren xs → Begins n rest → Begins (tree_count xs + n) (prefix xs ++ rest)
+pub Begins-prefix : (xs : Forest) (n : ℕ) (rest : List Node) → HasItsChildren xs → Begins n rest
+    → Begins (tree_count xs + n) (prefix xs ++ rest)
 Begins-prefix bare n rest h b = let e : 0 + n ≡ n = omega arith in subst (λ m. Begins m rest) (sym e) b
 Begins-prefix (grown node below beside) n rest h b =
     let has : tree_count below ≡ node.children = h.0 in

@@ -8,7 +8,8 @@ use Rattle.def_tree.specs.Tree.{Forest, bare, grown, prefix, node_count, tree_co
 use Rattle.def_tree.specs.Events.{Event, Enter, Leave, events_from, events, left, OpenNode, KeepsNesting, outside, LeavesAfterLastChild, LeavesEachOnce}
 
 -- steps, and then others
-KeepsNesting-append : (opened between end : List OpenNode) (xs ys : List Event) → KeepsNesting opened xs between → KeepsNesting between ys end → KeepsNesting opened (xs ++ ys) end
+KeepsNesting-append : (opened between end : List OpenNode) (xs ys : List Event) → KeepsNesting opened xs between
+    → KeepsNesting between ys end → KeepsNesting opened (xs ++ ys) end
 KeepsNesting-append opened between end [] ys h k = subst (λ o. KeepsNesting o ys end) (sym h) k
 KeepsNesting-append [] between end (Enter n node ∷ xs) ys h k = absurd h
 KeepsNesting-append (top ∷ outer) between end (Enter n node ∷ xs) ys h k =
@@ -20,7 +21,9 @@ KeepsNesting-append (top ∷ outer) between end (Leave n ∷ xs) ys h k = (h.0, 
 abbrev fewer : OpenNode → ℕ → List OpenNode → List OpenNode
 fewer top n outer = record { number = top.number; to_come = top.to_come - n } ∷ outer
 
-nests : (k : ℕ) (trees : Forest) (top : OpenNode) (outer : List OpenNode) → HasItsChildren trees → tree_count trees ≤ top.to_come → KeepsNesting (top ∷ outer) (events_from k trees) (fewer top (tree_count trees) outer)
+nests : (k : ℕ) (trees : Forest) (top : OpenNode) (outer : List OpenNode) → HasItsChildren trees
+    → tree_count trees ≤ top.to_come
+    → KeepsNesting (top ∷ outer) (events_from k trees) (fewer top (tree_count trees) outer)
 nests k bare top outer has enough = let same : top.to_come ≡ top.to_come - 0 = omega arith in ap (λ n. record { number = top.number; to_come = n } ∷ outer) same
 nests k (grown node below beside) top outer has enough =
     let this : OpenNode = record { number = k; to_come = node.children } in
@@ -63,7 +66,8 @@ left_here n k rest same = ap (λ b. cond b (k ∷ as_left n rest) (as_left n res
 abbrev nodes_in : Forest → ℕ
 nodes_in trees = length (prefix trees)
 
-nodes_in-grown : (node : Node) (below beside : Forest) → nodes_in (grown node below beside) ≡ 1 + nodes_in below + nodes_in beside
+nodes_in-grown : (node : Node) (below beside : Forest)
+    → nodes_in (grown node below beside) ≡ 1 + nodes_in below + nodes_in beside
 nodes_in-grown node below beside = omega (arith, length-append (prefix below) (prefix beside))
 
 -- no node outside of these trees is left

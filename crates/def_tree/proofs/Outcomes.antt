@@ -8,11 +8,13 @@ use Rattle.def_tree.specs.declared.Kind.TheVariants.{Leaf}
 use Rattle.def_tree.specs.declared.Node.{Node}
 use Rattle.def_tree.specs.Outcomes.{outcome_count, CountOutcomes, EachOutcomeAppears}
 
-outcome_count-push : (nodes : List Node) (node : Node) → outcome_count (nodes ++ node ∷ []) ≡ max node.outcome (outcome_count nodes)
+outcome_count-push : (nodes : List Node) (node : Node)
+    → outcome_count (nodes ++ node ∷ []) ≡ max node.outcome (outcome_count nodes)
 outcome_count-push [] node = refl
 outcome_count-push (x ∷ xs) node = let rest : outcome_count (xs ++ node ∷ []) ≡ max node.outcome (outcome_count xs) = outcome_count-push xs node in omega arith
 
-appears_before : (nodes : List Node) (n : ℕ) (d : Node) → CountOutcomes nodes → n ≤ length nodes → (i : ℕ) → 1 ≤ i → i ≤ outcome_count (take n nodes) → (node : Node) × (Contains nodes node × (node.outcome ≡ i))
+appears_before : (nodes : List Node) (n : ℕ) (d : Node) → CountOutcomes nodes → n ≤ length nodes → (i : ℕ) → 1 ≤ i
+    → i ≤ outcome_count (take n nodes) → (node : Node) × (Contains nodes node × (node.outcome ≡ i))
 appears_before nodes zero d counts short i low high = absurd (omega arith)
 appears_before nodes (suc n) d counts short i low high =
     let there : n < length nodes = omega arith in

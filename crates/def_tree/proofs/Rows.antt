@@ -7,7 +7,8 @@ use Rattle.def_tree.specs.declared.Node.{Node}
 use Rattle.def_tree.specs.Rules.{AgreeOnSize, JoinsSet, RuleRows, inner_node}
 
 -- the nodes before a node that is to join agree with it on its size
-agree : (before : Node) (node : Node) → AgreeOnSize before node → All (λ earlier. AgreeOnSize earlier node) (before ∷ [])
+agree : (before : Node) (node : Node) → AgreeOnSize before node
+    → All (λ earlier. AgreeOnSize earlier node) (before ∷ [])
 agree before node is = All-cons (λ earlier. AgreeOnSize earlier node) before [] is (All-nil (λ earlier. AgreeOnSize earlier node))
 
 first_joins : (n : ℕ) → 1 ≤ n → n ≤ 1024 → JoinsSet [] (inner_node Chance 1 n)

@@ -27,18 +27,21 @@ max_max true a r m s e = omega arith
 max_max false a r m s e = e
 
 -- one more node of a kind makes its set the kind's last one, where none with a greater number came before
-pub set_count-push_same : (kind : Kind) (nodes : List Node) (node : Node) → is_same_kind kind node.kind ≡ true → set_count kind (nodes ++ node ∷ []) ≡ max node.set (set_count kind nodes)
+pub set_count-push_same : (kind : Kind) (nodes : List Node) (node : Node) → is_same_kind kind node.kind ≡ true
+    → set_count kind (nodes ++ node ∷ []) ≡ max node.set (set_count kind nodes)
 set_count-push_same kind [] node same = ap (λ b. cond b (max node.set 0) 0) same
 set_count-push_same kind (x ∷ xs) node same =
     max_max (is_same_kind kind x.kind) x.set (set_count kind xs) (set_count kind (xs ++ node ∷ [])) node.set (set_count-push_same kind xs node same)
 
 -- one more node of another kind adds no set to a kind
-pub set_count-push_other : (kind : Kind) (nodes : List Node) (node : Node) → is_same_kind kind node.kind ≡ false → set_count kind (nodes ++ node ∷ []) ≡ set_count kind nodes
+pub set_count-push_other : (kind : Kind) (nodes : List Node) (node : Node) → is_same_kind kind node.kind ≡ false
+    → set_count kind (nodes ++ node ∷ []) ≡ set_count kind nodes
 set_count-push_other kind [] node other = ap (λ b. cond b (max node.set 0) 0) other
 set_count-push_other kind (x ∷ xs) node other = ap (λ n. cond (is_same_kind kind x.kind) (max x.set n) n) (set_count-push_other kind xs node other)
 
 -- nodes that keep the rules keep them with one node more that fits behind them
-pub KeepRules-push : (nodes : List Node) (node : Node) → KeepRules nodes → Fits nodes node → KeepRules (nodes ++ node ∷ [])
+pub KeepRules-push : (nodes : List Node) (node : Node) → KeepRules nodes → Fits nodes node
+    → KeepRules (nodes ++ node ∷ [])
 KeepRules-push nodes node keep fits k d there =
     let long : length (nodes ++ node ∷ []) ≡ length nodes + 1 = length-append nodes (node ∷ []) in
     elim (cases_lt k (length nodes)) [
@@ -82,7 +85,8 @@ is_same_kind-true Leaf Chance e = cc
 is_same_kind-true Leaf One e = cc
 is_same_kind-true Leaf Two e = cc
 
-next_as : (kind : Kind) (nodes : List Node) (node : Node) → node.kind ≡ kind → FitsAs kind nodes node → node.set ≤ set_count kind nodes + 1
+next_as : (kind : Kind) (nodes : List Node) (node : Node) → node.kind ≡ kind → FitsAs kind nodes node
+    → node.set ≤ set_count kind nodes + 1
 next_as Chance nodes node is fits = subst (λ k. node.set ≤ set_count k nodes + 1) is fits.next
 next_as One nodes node is fits = subst (λ k. node.set ≤ set_count k nodes + 1) is fits.next
 next_as Two nodes node is fits = subst (λ k. node.set ≤ set_count k nodes + 1) is fits.next
@@ -92,7 +96,8 @@ next_as Leaf nodes node is fits = let e : node.set ≡ 0 = fits.set in omega ari
 pub set-le-next : (nodes : List Node) (node : Node) → Fits nodes node → node.set ≤ set_count node.kind nodes + 1
 set-le-next nodes node fits = next_as node.kind nodes node refl fits
 
-appears_before : (kind : Kind) (nodes : List Node) (n : ℕ) (d : Node) → KeepRules nodes → n ≤ length nodes → (i : ℕ) → 1 ≤ i → i ≤ set_count kind (take n nodes) →
+appears_before : (kind : Kind) (nodes : List Node) (n : ℕ) (d : Node) → KeepRules nodes → n ≤ length nodes → (i : ℕ)
+    → 1 ≤ i → i ≤ set_count kind (take n nodes) →
     (node : Node) × (Contains nodes node × ((node.kind ≡ kind) × (node.set ≡ i)))
 appears_before kind nodes zero d keep short i low high = absurd (omega arith)
 appears_before kind nodes (suc n) d keep short i low high =

@@ -28,13 +28,15 @@ module _ {V : Type 0} (may_enter : V → ℕ → Node → Type 0) (enters : V �
   Leads-invariant I enter leave (Leave k ∷ rest) v w h leads =
       let step = leave k rest v h in Leads-invariant I enter leave rest leads.0 w (step.1 leads.0 leads.1) leads.2
 
-  pub Accepts-append : (xs ys : List Event) (v : V) → Accepts may_enter enters may_leave leaves xs v → ((w : V) → Leads may_enter enters may_leave leaves xs v w → Accepts may_enter enters may_leave leaves ys w) →
+  pub Accepts-append : (xs ys : List Event) (v : V) → Accepts may_enter enters may_leave leaves xs v
+      → ((w : V) → Leads may_enter enters may_leave leaves xs v w → Accepts may_enter enters may_leave leaves ys w) →
       Accepts may_enter enters may_leave leaves (xs ++ ys) v
   Accepts-append [] ys v h on = on v refl
   Accepts-append (Enter k node ∷ xs) ys v h on = (h.0, λ u step. Accepts-append xs ys u (h.1 u step) (λ w leads. on w (u, step, leads)))
   Accepts-append (Leave k ∷ xs) ys v h on = (h.0, λ u step. Accepts-append xs ys u (h.1 u step) (λ w leads. on w (u, step, leads)))
 
-  pub Leads-append : (xs ys : List Event) (v u w : V) → Leads may_enter enters may_leave leaves xs v u → Leads may_enter enters may_leave leaves ys u w → Leads may_enter enters may_leave leaves (xs ++ ys) v w
+  pub Leads-append : (xs ys : List Event) (v u w : V) → Leads may_enter enters may_leave leaves xs v u
+      → Leads may_enter enters may_leave leaves ys u w → Leads may_enter enters may_leave leaves (xs ++ ys) v w
   Leads-append [] ys v u w h k = subst (λ x. Leads may_enter enters may_leave leaves ys x w) h k
   Leads-append (Enter n node ∷ xs) ys v u w h k = (h.0, h.1, Leads-append xs ys h.0 u w h.2 k)
   Leads-append (Leave n ∷ xs) ys v u w h k = (h.0, h.1, Leads-append xs ys h.0 u w h.2 k)
@@ -50,7 +52,8 @@ entered-append [] ys = refl
 entered-append (Enter k node ∷ xs) ys = ap (λ rest. (k, node) ∷ rest) (entered-append xs ys)
 entered-append (Leave k ∷ xs) ys = entered-append xs ys
 
-enumerate_from-append : (k : ℕ) (xs ys : List Node) → enumerate_from k (xs ++ ys) ≡ enumerate_from k xs ++ enumerate_from (k + length xs) ys
+enumerate_from-append : (k : ℕ) (xs ys : List Node)
+    → enumerate_from k (xs ++ ys) ≡ enumerate_from k xs ++ enumerate_from (k + length xs) ys
 enumerate_from-append k [] ys = ap (λ n. enumerate_from n ys) (omega arith)
 enumerate_from-append k (x ∷ xs) ys =
     let far : k + 1 + length xs ≡ k + length (x ∷ xs) = omega arith in

@@ -40,7 +40,8 @@ left (Leave k ∷ rest) = k ∷ left rest
 
 -- a walk leaves each node once
 abbrev pub LeavesEachOnce : Type 0
-LeavesEachOnce = (tree : Forest) (k : ℕ) → 1 ≤ k → k ≤ node_count tree → filter (λ n. nat_eq n k) (left (events tree)) ≡ k ∷ []
+LeavesEachOnce = (tree : Forest) (k : ℕ) → 1 ≤ k → k ≤ node_count tree
+    → filter (λ n. nat_eq n k) (left (events tree)) ≡ k ∷ []
 
 -- a node that was entered and isn't left yet: its number, and how many of its children are still to be entered
 pub record OpenNode : Type 0 where

@@ -13,4 +13,5 @@ CountOutcomes nodes = (k : ℕ) (d : Node) → k < length nodes → (slice_index
 
 -- then each number is that of a node's outcome
 abbrev pub EachOutcomeAppears : Type 0
-EachOutcomeAppears = (nodes : List Node) → CountOutcomes nodes → (i : ℕ) → 1 ≤ i → i ≤ outcome_count nodes → (node : Node) × (Contains nodes node × (node.outcome ≡ i))
+EachOutcomeAppears = (nodes : List Node) → CountOutcomes nodes → (i : ℕ) → 1 ≤ i → i ≤ outcome_count nodes
+    → (node : Node) × (Contains nodes node × (node.outcome ≡ i))

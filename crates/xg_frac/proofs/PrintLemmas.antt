@@ -17,13 +17,15 @@ on_err (Ok x) P p = tt
 on_err (Err e) P p = p
 
 -- a front of the first piece is a front of the whole
-pub prefix_first : (before now : Option (List ℕ)) (xs ys : List ℕ) → AppendsPrefix before now xs → AppendsPrefix before now (xs ++ ys)
+pub prefix_first : (before now : Option (List ℕ)) (xs ys : List ℕ) → AppendsPrefix before now xs
+    → AppendsPrefix before now (xs ++ ys)
 prefix_first before now xs ys p =
     let short : take (min p.count (length xs)) (xs ++ ys) ≡ take p.count xs = take-append-le (min p.count (length xs)) xs ys (omega arith) ∙ take_min p.count xs in
     record { count = min p.count (length xs); appended = p.appended ∙ ap (append_known before) (sym short) }
 
 -- the first piece and a front of the second are a front of the whole
-pub prefix_then : (before middle now : Option (List ℕ)) (xs ys : List ℕ) → middle ≡ append_known before xs → AppendsPrefix middle now ys → AppendsPrefix before now (xs ++ ys)
+pub prefix_then : (before middle now : Option (List ℕ)) (xs ys : List ℕ) → middle ≡ append_known before xs
+    → AppendsPrefix middle now ys → AppendsPrefix before now (xs ++ ys)
 prefix_then before middle now xs ys e p = record {
   count = length xs + p.count;
   appended = p.appended ∙ ap (λ (known : Option (List ℕ)). append_known known (take p.count ys)) e ∙ append_known-append before xs (take p.count ys) ∙ ap (append_known before) (sym (take-append-add xs ys p.count));
@@ -31,12 +33,14 @@ prefix_then before middle now xs ys e p = record {
 
 -- ---- a fraction
 
-front_if : (before now : Option (List ℕ)) (xs ys : List ℕ) (one : Bool) → AppendsPrefix before now xs → AppendsPrefix before now (cond one xs (xs ++ ys))
+front_if : (before now : Option (List ℕ)) (xs ys : List ℕ) (one : Bool) → AppendsPrefix before now xs
+    → AppendsPrefix before now (cond one xs (xs ++ ys))
 front_if before now xs ys true p = p
 front_if before now xs ys false p = prefix_first before now xs ys p
 
 -- the numerator failed
-pub num_failed : (before now : Option (List ℕ)) (f : Fraction) (num : ℤ) → num ≡ f.num → AppendsPrefix before now (int_text num) → AppendsPrefix before now (fraction_text f)
+pub num_failed : (before now : Option (List ℕ)) (f : Fraction) (num : ℤ) → num ≡ f.num
+    → AppendsPrefix before now (int_text num) → AppendsPrefix before now (fraction_text f)
 num_failed before now f num e p =
     front_if before now (int_text f.num) (47 ∷ decimal f.den) (eqb f.den 1) (subst (λ (z : ℤ). AppendsPrefix before now (int_text z)) e p)
 
@@ -44,14 +48,18 @@ text_with_bar : (f : Fraction) → (f.den ≡ 1 → ⊥) → fraction_text f ≡
 text_with_bar f h = rw (ne_eqb f.den 1 h) refl
 
 -- the bar failed
-pub bar_failed : (before middle now : Option (List ℕ)) (f : Fraction) (num : ℤ) → (f.den ≡ 1 → ⊥) → num ≡ f.num → middle ≡ append_known before (int_text num) → AppendsPrefix middle now (47 ∷ []) → AppendsPrefix before now (fraction_text f)
+pub bar_failed : (before middle now : Option (List ℕ)) (f : Fraction) (num : ℤ) → (f.den ≡ 1 → ⊥) → num ≡ f.num
+    → middle ≡ append_known before (int_text num) → AppendsPrefix middle now (47 ∷ [])
+    → AppendsPrefix before now (fraction_text f)
 bar_failed before middle now f num h e first p =
     subst (λ (text : List ℕ). AppendsPrefix before now text) (sym (text_with_bar f h))
     (prefix_then before middle now (int_text f.num) (47 ∷ decimal f.den) (first ∙ ap (λ z. append_known before (int_text z)) e) (prefix_first middle now (47 ∷ []) (decimal f.den) p))
 
 -- the denominator failed
-pub den_failed : (before middle bar now : Option (List ℕ)) (f : Fraction) (num den : ℤ) → (f.den ≡ 1 → ⊥) → num ≡ f.num → den ≡ pos f.den → middle ≡ append_known before (int_text num)
-    → bar ≡ append_known middle (47 ∷ []) → AppendsPrefix bar now (int_text den) → AppendsPrefix before now (fraction_text f)
+pub den_failed : (before middle bar now : Option (List ℕ)) (f : Fraction) (num den : ℤ) → (f.den ≡ 1 → ⊥) → num ≡ f.num
+    → den ≡ pos f.den → middle ≡ append_known before (int_text num)
+    → bar ≡ append_known middle (47 ∷ []) → AppendsPrefix bar now (int_text den)
+    → AppendsPrefix before now (fraction_text f)
 den_failed before middle bar now f num den h e d first second p =
     subst (λ (text : List ℕ). AppendsPrefix before now text) (sym (text_with_bar f h))
     (prefix_then before middle now (int_text f.num) (47 ∷ decimal f.den) (first ∙ ap (λ z. append_known before (int_text z)) e)

@@ -29,7 +29,8 @@ abbrev over_zero : Result Fraction NumberFault
 over_zero = Err ZeroDenominator
 
 -- an answer that is out of range either way
-out : (d : ℕ) (a b : Bool) (f g : Fraction) → a ≡ false → b ≡ false → cond (eqb d 0) over_zero (cond a (Ok f) (Err Range)) ≡ cond (eqb (min d past_all) 0) (Err ZeroDenominator) (cond b (Ok g) (Err Range))
+out : (d : ℕ) (a b : Bool) (f g : Fraction) → a ≡ false → b ≡ false
+    → cond (eqb d 0) over_zero (cond a (Ok f) (Err Range)) ≡ cond (eqb (min d past_all) 0) (Err ZeroDenominator) (cond b (Ok g) (Err Range))
 out d a b f g p q = rw (p, q, zero_capped d) refl
 
 first_false : (a b c : Bool) → a ≡ false → (a && b && c) ≡ false
@@ -41,7 +42,8 @@ second_false true false c e = refl
 second_false false false c e = refl
 second_false a true c e = cc
 
-tests_agree : (negative : Bool) (n d : ℕ) → ltb n past_all ≡ true → ltb d past_all ≡ true → leb n (2 ^ 127 - 1) ≡ true → leb d (2 ^ 127 - 1) ≡ true
+tests_agree : (negative : Bool) (n d : ℕ) → ltb n past_all ≡ true → ltb d past_all ≡ true → leb n (2 ^ 127 - 1) ≡ true
+    → leb d (2 ^ 127 - 1) ≡ true
     → cond (eqb d 0) (Err ZeroDenominator) (cond (leb n (2 ^ 127 - 1) && leb d (2 ^ 127 - 1) && fits (fraction_of (signed negative n) d)) (Ok (fraction_of (signed negative n) d)) (Err Range)) ≡ answer_of negative n d
 tests_agree negative n d a b p q =
     let F = fraction_of (signed negative n) d in
@@ -66,13 +68,16 @@ capped_answer negative n d =
     (λ n_large. out d _ _ _ _ (first_false (leb n (2 ^ 127 - 1)) (leb d (2 ^ 127 - 1)) _ (lt-leb n (2 ^ 127 - 1) (omega arith))) (first_false (ltb (min n past_all) past_all) (ltb (min d past_all) past_all) _ (le-ltb (min n past_all) past_all (omega arith))))
     (cases_lt n past_all)
 
-by_body : (bytes : List ℕ) (b : Option Body) → answer_if (is_minus (sign_of bytes)) (option_map quotient_of b) ≡ value_if (option_map (λ body. record { sign = sign_of bytes; body = body }) b)
+by_body : (bytes : List ℕ) (b : Option Body)
+    → answer_if (is_minus (sign_of bytes)) (option_map quotient_of b) ≡ value_if (option_map (λ body. record { sign = sign_of bytes; body = body }) b)
 unfolding value_of
 by_body bytes None = refl
 by_body bytes (Some b) = sym (capped_answer (is_minus (sign_of bytes)) (numerator b) (denominator b))
 
 -- a literal is answered by its sign and the two numbers of its body, as far as they are kept
-pub read_as_literal-answer : (bytes : List ℕ) (o : Option Quotient) (negative : Bool) → o ≡ option_map quotient_of (body_of (after_sign bytes)) → negative ≡ is_minus (sign_of bytes) → answer_if negative o ≡ read_as_literal bytes
+pub read_as_literal-answer : (bytes : List ℕ) (o : Option Quotient) (negative : Bool)
+    → o ≡ option_map quotient_of (body_of (after_sign bytes)) → negative ≡ is_minus (sign_of bytes)
+    → answer_if negative o ≡ read_as_literal bytes
 unfolding read_as_literal literal_of
 read_as_literal-answer bytes o negative e f =
     ap (answer_if negative) e ∙ ap (λ b. answer_if b (option_map quotient_of (body_of (after_sign bytes)))) f ∙ by_body bytes (body_of (after_sign bytes))
@@ -88,19 +93,23 @@ pub zero_answer : (negative : Bool) (q : Quotient) → q.den ≡ 0 → Err ZeroD
 zero_answer negative q e = rw e refl
 
 -- a part past all limits is answered as out of range
-pub past_answer : (negative : Bool) (q : Quotient) → (q.den ≡ 0 → ⊥) → (past_all ≤ q.num) ⊎ (past_all ≤ q.den) → Err Range ≡ answer_of negative q.num q.den
+pub past_answer : (negative : Bool) (q : Quotient) → (q.den ≡ 0 → ⊥) → (past_all ≤ q.num) ⊎ (past_all ≤ q.den)
+    → Err Range ≡ answer_of negative q.num q.den
 past_answer negative q some h =
     let no : (ltb q.num past_all && ltb q.den past_all && fits (fraction_of (signed negative q.num) q.den)) ≡ false =
     ⊎_elim (λ p. first_false (ltb q.num past_all) (ltb q.den past_all) _ (le-ltb q.num past_all p)) (λ p. second_false (ltb q.num past_all) (ltb q.den past_all) _ (le-ltb q.den past_all p)) h in
     rw (ne_eqb q.den 0 some, no) refl
 
-fit_answer : (o : Option Fraction) (f : Fraction) → SomeIff o (IsTrue (fits f)) f → ok_or o Range ≡ cond (fits f) (Ok f) (Err Range)
+fit_answer : (o : Option Fraction) (f : Fraction) → SomeIff o (IsTrue (fits f)) f
+    → ok_or o Range ≡ cond (fits f) (Ok f) (Err Range)
 fit_answer None f h = rw (unless_true (fits f) h) refl
 fit_answer (Some x) f h = rw h.0 (ap Ok h.1)
 
 -- two parts that are kept exactly are answered by their fraction if it fits, and else as out of range
-pub within_answer : (negative : Bool) (q : Quotient) (o : Option Fraction) (r : Result Fraction NumberFault) → (q.den ≡ 0 → ⊥) → q.num < past_all → q.den < past_all
-    → SomeIff o (IsTrue (fits (fraction_of (signed negative q.num) q.den))) (fraction_of (signed negative q.num) q.den) → r ≡ ok_or o Range → r ≡ answer_of negative q.num q.den
+pub within_answer : (negative : Bool) (q : Quotient) (o : Option Fraction) (r : Result Fraction NumberFault)
+    → (q.den ≡ 0 → ⊥) → q.num < past_all → q.den < past_all
+    → SomeIff o (IsTrue (fits (fraction_of (signed negative q.num) q.den))) (fraction_of (signed negative q.num) q.den)
+    → r ≡ ok_or o Range → r ≡ answer_of negative q.num q.den
 within_answer negative q o r some n d h e =
     e ∙ fit_answer o (fraction_of (signed negative q.num) q.den) h ∙ sym (rw (ne_eqb q.den 0 some, lt-ltb q.num past_all n, lt-ltb q.den past_all d) refl)
 

@@ -18,13 +18,15 @@ use Rattle.xg_frac.specs.declared.literal.Quotient.{Quotient}
 use Rattle.xg_frac.specs.Scan.{capped, past_all, quotient_of, decimal_quotient}
 
 -- the digit at an index is the next one
-pub leading_digits-drop : (bs : List ℕ) (i : ℕ) → i < length bs → is_ascii_digit (get_or bs i 0) ≡ true → leading_digits (drop i bs) ≡ get_or bs i 0 ∷ leading_digits (drop (i + 1) bs)
+pub leading_digits-drop : (bs : List ℕ) (i : ℕ) → i < length bs → is_ascii_digit (get_or bs i 0) ≡ true
+    → leading_digits (drop i bs) ≡ get_or bs i 0 ∷ leading_digits (drop (i + 1) bs)
 leading_digits-drop bs i h digit =
     ap leading_digits (drop-cons bs i 0 h) ∙ ap (λ b. cond b (get_or bs i 0 ∷ leading_digits (drop (suc i) bs)) []) digit
     ∙ ap (λ k. get_or bs i 0 ∷ leading_digits (drop k bs)) (sym (add-one i))
 
 -- and what follows the digits is the same behind it
-pub after_digits-drop : (bs : List ℕ) (i : ℕ) → i < length bs → is_ascii_digit (get_or bs i 0) ≡ true → after_digits (drop i bs) ≡ after_digits (drop (i + 1) bs)
+pub after_digits-drop : (bs : List ℕ) (i : ℕ) → i < length bs → is_ascii_digit (get_or bs i 0) ≡ true
+    → after_digits (drop i bs) ≡ after_digits (drop (i + 1) bs)
 after_digits-drop bs i h digit =
     ap after_digits (drop-cons bs i 0 h) ∙ ap (λ b. cond b (after_digits (drop (suc i) bs)) (get_or bs i 0 ∷ drop (suc i) bs)) digit
     ∙ ap (λ k. after_digits (drop k bs)) (sym (add-one i))
@@ -37,7 +39,8 @@ times_one : (n p : ℕ) → 1 ≤ p → n ≤ n * p
 times_one n p h = omega (arith, mul-le n 1 n p (omega arith) h)
 
 -- below the limit the number is the exact one, and past_all it it stays past_all
-joined : (n d p rest m : ℕ) → 1 ≤ p → m ≡ min (n * 10 + d) past_all → min (m * p + rest) past_all ≡ min (n * (p * 10) + (d * p + rest)) past_all
+joined : (n d p rest m : ℕ) → 1 ≤ p → m ≡ min (n * 10 + d) past_all
+    → min (m * p + rest) past_all ≡ min (n * (p * 10) + (d * p + rest)) past_all
 joined n d p rest m h e =
     let whole : (n * 10 + d) * p ≡ n * (p * 10) + d * p = omega arith in
     ⊎_elim
@@ -71,7 +74,8 @@ leading_digits-whole bs h =
     sym (append-nil (leading_digits bs)) ∙ ap (λ ys. leading_digits bs ++ ys) (sym (nothing_left (leading_digits bs) (after_digits bs) short)) ∙ split
 
 -- what follows the digits, as a part of the slice has it
-pub after_digits-part : (bs : List ℕ) (k : ℕ) → k ≡ length (leading_digits bs) → take (length bs - k) (drop k bs) ≡ after_digits bs
+pub after_digits-part : (bs : List ℕ) (k : ℕ) → k ≡ length (leading_digits bs)
+    → take (length bs - k) (drop k bs) ≡ after_digits bs
 after_digits-part bs k e =
     let split = digits_split bs in
     let front : drop (length (leading_digits bs)) bs ≡ after_digits bs = front_rest bs (leading_digits bs) (after_digits bs) (sym split) in
@@ -83,7 +87,8 @@ pub leading_digits-digits_only : (bs : List ℕ) → all_ascii_digits bs ≡ tru
 leading_digits-digits_only bs h = ap leading_digits (sym (append-nil bs)) ∙ leading_digits-append bs [] h tt
 
 -- bytes that are digits up to the end, and some, are a numeral
-pub numeral_yes : (bs : List ℕ) → (length (leading_digits bs) ≡ 0 → ⊥) → length bs ≤ length (leading_digits bs) → is_numeral bs ≡ true
+pub numeral_yes : (bs : List ℕ) → (length (leading_digits bs) ≡ 0 → ⊥) → length bs ≤ length (leading_digits bs)
+    → is_numeral bs ≡ true
 numeral_yes bs some h =
     let whole = leading_digits-whole bs h in
     and_from _ _ (subst (λ (xs : List ℕ). all_ascii_digits xs ≡ true) whole (leading_digits-digits bs)) (lt-ltb 0 (length bs) (omega (arith, ap length whole)))
@@ -93,7 +98,8 @@ false_unless true h = absurd (h refl)
 false_unless false h = refl
 
 -- bytes with no digit in front, or with more than the digits, are no numeral
-pub numeral_no : (bs : List ℕ) → (length (leading_digits bs) ≡ 0) ⊎ (length (leading_digits bs) < length bs) → is_numeral bs ≡ false
+pub numeral_no : (bs : List ℕ) → (length (leading_digits bs) ≡ 0) ⊎ (length (leading_digits bs) < length bs)
+    → is_numeral bs ≡ false
 numeral_no bs h = false_unless (is_numeral bs) (λ e.
     let parts = and_parts (all_ascii_digits bs) (ltb 0 (length bs)) e in
     let same = ap length (leading_digits-digits_only bs parts.0) in
@@ -136,7 +142,8 @@ capped_times n p h =
     (cases_lt n past_all)
 
 -- the digits after the point continue the number
-pub capped-append : (xs ys : List ℕ) (n : ℕ) → n ≡ min (number_of xs) past_all → capped n ys ≡ min (number_of (xs ++ ys)) past_all
+pub capped-append : (xs ys : List ℕ) (n : ℕ) → n ≡ min (number_of xs) past_all
+    → capped n ys ≡ min (number_of (xs ++ ys)) past_all
 capped-append xs ys n e =
     let p = 10 ^ length ys in
     let h : 1 ≤ p = one-le-pow (length ys) 10 (omega arith) in
@@ -149,23 +156,27 @@ capped-append xs ys n e =
     ap (λ x. min (x * p + number_of ys) past_all) top ∙ omega (arith, times_one past_all p h, times_one (number_of xs) p h, whole))
     (cases_lt (number_of xs) past_all)
 
-quotient_of-decimal : (before : List ℕ) (after : Option (List ℕ)) (power : Option Power) (n : ℕ) → n ≡ min (number_of (before ++ digits_after after)) past_all
+quotient_of-decimal : (before : List ℕ) (after : Option (List ℕ)) (power : Option Power) (n : ℕ)
+    → n ≡ min (number_of (before ++ digits_after after)) past_all
     → quotient_of (decimal before after power) ≡ decimal_quotient n (length (digits_after after)) power
 quotient_of-decimal before after power n e =
     let make : ℕ → Quotient = λ x. record { num = x; den = min (10 ^ (length (digits_after after) + lowered power - raised power)) past_all } in
     let p = 10 ^ (raised power - (length (digits_after after) + lowered power)) in
     ap make (sym (capped_times (number_of (before ++ digits_after after)) p (one-le-pow (raised power - (length (digits_after after) + lowered power)) 10 (omega arith))) ∙ ap (λ x. min (x * p) past_all) (sym e))
 
-option_map-option_map : {A B C : Type 0} (f : A → B) (g : B → C) (h : A → C) → ((x : A) → g (f x) ≡ h x) → (o : Option A) → option_map g (option_map f o) ≡ option_map h o
+option_map-option_map : {A B C : Type 0} (f : A → B) (g : B → C) (h : A → C) → ((x : A) → g (f x) ≡ h x)
+    → (o : Option A) → option_map g (option_map f o) ≡ option_map h o
 option_map-option_map f g h e None = refl
 option_map-option_map f g h e (Some x) = ap Some (e x)
 
-if_some : {A B : Type 0} (b : Bool) (o : Option A) (f : A → B) → option_map f (cond b o None) ≡ cond b (option_map f o) None
+if_some : {A B : Type 0} (b : Bool) (o : Option A) (f : A → B)
+    → option_map f (cond b o None) ≡ cond b (option_map f o) None
 if_some true o f = refl
 if_some false o f = refl
 
 -- a decimal's two kept numbers come of its number, its places and its power, if it has a digit
-pub quotient_of-decimal_of : (before : List ℕ) (after : Option (List ℕ)) (rest : List ℕ) (n : ℕ) → n ≡ min (number_of (before ++ digits_after after)) past_all
+pub quotient_of-decimal_of : (before : List ℕ) (after : Option (List ℕ)) (rest : List ℕ) (n : ℕ)
+    → n ≡ min (number_of (before ++ digits_after after)) past_all
     → option_map quotient_of (decimal_of before after rest) ≡ cond (ltb 0 (length (before ++ digits_after after))) (option_map (decimal_quotient n (length (digits_after after))) (power_of rest)) None
 unfolding decimal_of
 quotient_of-decimal_of before after rest n e =
@@ -179,13 +190,15 @@ pub part-rest : (bs : List ℕ) → take (length bs - 1) (drop 1 bs) ≡ drop 1 
 part-rest bs = ap (λ k. take k (drop 1 bs)) (sym (length-drop 1 bs)) ∙ take-length (drop 1 bs)
 
 -- digits with a point behind them are a decimal with the digits behind the point as its places
-pub body_after-point : (before rest : List ℕ) → 1 ≤ length rest → get_or rest 0 0 ≡ 46 → body_after before rest ≡ decimal_of before (Some (leading_digits (drop 1 rest))) (after_digits (drop 1 rest))
+pub body_after-point : (before rest : List ℕ) → 1 ≤ length rest → get_or rest 0 0 ≡ 46
+    → body_after before rest ≡ decimal_of before (Some (leading_digits (drop 1 rest))) (after_digits (drop 1 rest))
 unfolding body_after
 body_after-point before [] h e = absurd (omega arith)
 body_after-point before (c ∷ cs) h e = rw (ne_eqb c 47 (λ f. omega arith), eq-eqb c 46 e) refl
 
 -- digits with neither a bar nor a point behind them are a decimal without places
-pub body_after-other : (before rest : List ℕ) → (get_or rest 0 0 ≡ 47 → ⊥) → (get_or rest 0 0 ≡ 46 → ⊥) → body_after before rest ≡ decimal_of before None rest
+pub body_after-other : (before rest : List ℕ) → (get_or rest 0 0 ≡ 47 → ⊥) → (get_or rest 0 0 ≡ 46 → ⊥)
+    → body_after before rest ≡ decimal_of before None rest
 unfolding body_after
 body_after-other before [] h e = refl
 body_after-other before (c ∷ cs) h e = rw (ne_eqb c 47 h, ne_eqb c 46 e) refl

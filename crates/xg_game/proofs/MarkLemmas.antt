@@ -25,10 +25,12 @@ at_end first end within none = by (ltb first end) refl none
 
 -- the place of a number that is put last
 module _ (p : ℕ → Bool) (xs : List ℕ) (x : ℕ) where
-  seen : (first : ℕ) → position_or_len p (xs ++ x ∷ []) ≡ first → position p (xs ++ x ∷ []) ≡ cond (ltb first (length xs + 1)) (Some first) None
+  seen : (first : ℕ) → position_or_len p (xs ++ x ∷ []) ≡ first
+      → position p (xs ++ x ∷ []) ≡ cond (ltb first (length xs + 1)) (Some first) None
   seen first is = λ i. cond (ltb (is i) (length-append xs (x ∷ []) i)) (Some (is i)) None
 
-  pushed : (b : Bool) → eqb (position_or_len p xs) (length xs) ≡ b → position_or_len p (xs ++ x ∷ []) ≡ cond b (length xs + cond (p x) 0 1) (position_or_len p xs)
+  pushed : (b : Bool) → eqb (position_or_len p xs) (length xs) ≡ b
+      → position_or_len p (xs ++ x ∷ []) ≡ cond b (length xs + cond (p x) 0 1) (position_or_len p xs)
   pushed b e = position_or_len_push p xs x ∙ ap (λ c. cond c (length xs + cond (p x) 0 1) (position_or_len p xs)) e
 
   -- none passes, and the last does
@@ -56,8 +58,10 @@ module _ (p : ℕ → Bool) (xs : List ℕ) (x : ℕ) where
           ∙ sym (ap (λ c. cond c (Some (position_or_len p xs)) None) (lt-ltb (position_or_len p xs) (length xs) (omega arith)))
 
 -- one number more, with its mark
-pub MarksEach-push : (numbers near new : List ℕ) (far after : BTreeMap ℕ ℕ) (number : ℕ) → MarksEach numbers near far → position (nat_eq number) numbers ≡ None
-    → ((n : ℕ) → mark_of new after n ≡ cond (nat_eq n number) (length numbers + 1) (mark_of near far n)) → MarksEach (numbers ++ number ∷ []) new after
+pub MarksEach-push : (numbers near new : List ℕ) (far after : BTreeMap ℕ ℕ) (number : ℕ) → MarksEach numbers near far
+    → position (nat_eq number) numbers ≡ None
+    → ((n : ℕ) → mark_of new after n ≡ cond (nat_eq n number) (length numbers + 1) (mark_of near far n))
+    → MarksEach (numbers ++ number ∷ []) new after
 MarksEach-push numbers near new far after number marks none set = record { each = λ n. by n (nat_eq n number) refl }
   where
     by : (n : ℕ) (b : Bool) → nat_eq n number ≡ b → mark_of new after n ≡ marked (position (nat_eq n) (numbers ++ number ∷ []))
@@ -69,7 +73,8 @@ MarksEach-push numbers near new far after number marks none set = record { each 
         set n ∙ ap (λ b. cond b (length numbers + 1) (mark_of near far n)) e ∙ marks.each n ∙ ap marked (sym (position-before (nat_eq n) numbers number e))
 
 -- and none above it
-pub above-push : (numbers : List ℕ) (greatest next number : ℕ) → ((n : ℕ) → greatest < n → marked (position (nat_eq n) numbers) ≡ 0) → greatest ≤ next → number ≤ next
+pub above-push : (numbers : List ℕ) (greatest next number : ℕ)
+    → ((n : ℕ) → greatest < n → marked (position (nat_eq n) numbers) ≡ 0) → greatest ≤ next → number ≤ next
     → (n : ℕ) → next < n → marked (position (nat_eq n) (numbers ++ number ∷ [])) ≡ 0
 above-push numbers greatest next number above rises within n beyond =
     ap marked (position-before (nat_eq n) numbers number (ne_eqb n number (λ same. omega arith))) ∙ above n (omega arith)

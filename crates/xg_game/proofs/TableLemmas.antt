@@ -26,31 +26,36 @@ there (x ∷ xs) (suc i) within = there xs i (omega arith)
 
 module _ {D E : Type 0} (entry : ℕ × D → E) where
   -- an element that is seen
-  seen_at : (es : List (ℕ × D)) (i : ℕ) (e : ℕ × D) (none : E) → slice_get es i ≡ Some e → get_or (map entry es) i none ≡ entry e
+  seen_at : (es : List (ℕ × D)) (i : ℕ) (e : ℕ × D) (none : E) → slice_get es i ≡ Some e
+      → get_or (map entry es) i none ≡ entry e
   seen_at [] i e none at = cc
   seen_at (x ∷ es) zero e none at = let same : x ≡ e = cc in ap entry same
   seen_at (x ∷ es) (suc i) e none at = seen_at es i e none at
 
 module _ {D E : Type 0} (entry : ℕ × D → E) (number : E → ℕ) (numbered : (e : ℕ × D) → number (entry e) ≡ e.0) where
-  first_seen : (n : ℕ) (es : List (ℕ × D)) → position_or_len (λ e. nat_eq n (number e)) (map entry es) ≡ position_or_len (nat_eq n) (keys_of es)
+  first_seen : (n : ℕ) (es : List (ℕ × D))
+      → position_or_len (λ e. nat_eq n (number e)) (map entry es) ≡ position_or_len (nat_eq n) (keys_of es)
   first_seen n [] = refl
   first_seen n (e ∷ es) = λ i. cond (not (nat_eq n (numbered e i))) (1 + first_seen n es i) 0
 
   -- an entry stands where its key does
-  place_seen : (n : ℕ) (es : List (ℕ × D)) → position (nat_eq n) (keys_of es) ≡ position (λ e. nat_eq n (number e)) (map entry es)
+  place_seen : (n : ℕ) (es : List (ℕ × D))
+      → position (nat_eq n) (keys_of es) ≡ position (λ e. nat_eq n (number e)) (map entry es)
   place_seen n es =
       let first : position_or_len (nat_eq n) (keys_of es) ≡ position_or_len (λ e. nat_eq n (number e)) (map entry es) = sym (first_seen n es) in
       let long : length (keys_of es) ≡ length (map entry es) = length-map es (λ e. e.0) ∙ sym (length-map es entry) in
       λ i. cond (nat_lt (first i) (long i)) (Some (first i)) None
 
   -- an entry has its key as its number
-  number_seen : (es : List (ℕ × D)) (i k : ℕ) (none : E) → slice_get (keys_of es) i ≡ Some k → k ≡ number (get_or (map entry es) i none)
+  number_seen : (es : List (ℕ × D)) (i k : ℕ) (none : E) → slice_get (keys_of es) i ≡ Some k
+      → k ≡ number (get_or (map entry es) i none)
   number_seen [] i k none at = cc
   number_seen (e ∷ es) zero k none at = let same : k ≡ e.0 = cc in same ∙ sym (numbered e)
   number_seen (e ∷ es) (suc i) k none at = number_seen es i k none at
 
   -- and is that of its value
-  value_seen : (es : List (ℕ × D)) (i : ℕ) (value : D) (none : E) → slice_get (values_of es) i ≡ Some value → entry (number (get_or (map entry es) i none), value) ≡ get_or (map entry es) i none
+  value_seen : (es : List (ℕ × D)) (i : ℕ) (value : D) (none : E) → slice_get (values_of es) i ≡ Some value
+      → entry (number (get_or (map entry es) i none), value) ≡ get_or (map entry es) i none
   value_seen [] i value none at = cc
   value_seen (e ∷ es) zero value none at = let same : value ≡ e.1 = cc in λ j. entry (numbered e j, same j)
   value_seen (e ∷ es) (suc i) value none at = value_seen es i value none at
@@ -65,19 +70,23 @@ pub set_place : (n : ℕ) (es : List (ℕ × KnownSet)) → position (nat_eq n) 
 set_place = place_seen set_of (λ s. s.number) (λ e. refl)
 
 -- the key at a place of a table is the number of the set there
-pub set_number : (es : List (ℕ × KnownSet)) (i k : ℕ) → slice_get (keys_of es) i ≡ Some k → k ≡ (set_at (map set_of es) i).number
+pub set_number : (es : List (ℕ × KnownSet)) (i k : ℕ) → slice_get (keys_of es) i ≡ Some k
+    → k ≡ (set_at (map set_of es) i).number
 set_number es i k at = number_seen set_of (λ s. s.number) (λ e. refl) es i k no_set at
 
 -- what a table keeps at a place, with the number there, is the set there
-pub set_value : (es : List (ℕ × KnownSet)) (i : ℕ) (kept : KnownSet) → slice_get (values_of es) i ≡ Some kept → set_of ((set_at (map set_of es) i).number, kept) ≡ set_at (map set_of es) i
+pub set_value : (es : List (ℕ × KnownSet)) (i : ℕ) (kept : KnownSet) → slice_get (values_of es) i ≡ Some kept
+    → set_of ((set_at (map set_of es) i).number, kept) ≡ set_at (map set_of es) i
 set_value es i kept at = value_seen set_of (λ s. s.number) (λ e. refl) es i kept no_set at
 
 -- one more entry in a table is one more set behind the others
-pub set_added : (es : List (ℕ × KnownSet)) (e : ℕ × KnownSet) → map set_of (es ++ e ∷ []) ≡ map set_of es ++ set_of e ∷ []
+pub set_added : (es : List (ℕ × KnownSet)) (e : ℕ × KnownSet)
+    → map set_of (es ++ e ∷ []) ≡ map set_of es ++ set_of e ∷ []
 set_added es e = map-append set_of es (e ∷ [])
 
 -- a set with the first name that is given to it
-pub set_named : (es : List (ℕ × KnownSet)) (i : ℕ) (e : ℕ × KnownSet) (given : Option (List ℕ)) → slice_get es i ≡ Some e
+pub set_named : (es : List (ℕ × KnownSet)) (i : ℕ) (e : ℕ × KnownSet) (given : Option (List ℕ))
+    → slice_get es i ≡ Some e
     → map set_of (set es i (e.0, record e.1 { name = kept_name e.1.name given })) ≡ set (map set_of es) i (record (set_at (map set_of es) i) { name = kept_name (set_at (map set_of es) i).name given })
 set_named es i e given at =
     map-set set_of es i (e.0, record e.1 { name = kept_name e.1.name given })
@@ -89,23 +98,29 @@ abbrev pub KnownOutcome : Type 0
 KnownOutcome = Described PayoffPair
 
 -- a number stands among a table's keys where its outcome stands among the outcomes
-pub outcome_place : (n : ℕ) (es : List (ℕ × KnownOutcome)) → position (nat_eq n) (keys_of es) ≡ outcome_place_of n (map outcome_of es)
+pub outcome_place : (n : ℕ) (es : List (ℕ × KnownOutcome))
+    → position (nat_eq n) (keys_of es) ≡ outcome_place_of n (map outcome_of es)
 outcome_place = place_seen outcome_of (λ s. s.number) (λ e. refl)
 
 -- the key at a place of a table is the number of the outcome there
-pub outcome_number : (es : List (ℕ × KnownOutcome)) (i k : ℕ) → slice_get (keys_of es) i ≡ Some k → k ≡ (outcome_at (map outcome_of es) i).number
+pub outcome_number : (es : List (ℕ × KnownOutcome)) (i k : ℕ) → slice_get (keys_of es) i ≡ Some k
+    → k ≡ (outcome_at (map outcome_of es) i).number
 outcome_number es i k at = number_seen outcome_of (λ s. s.number) (λ e. refl) es i k null_outcome at
 
 -- what a table keeps at a place, with the number there, is the outcome there
-pub outcome_value : (es : List (ℕ × KnownOutcome)) (i : ℕ) (kept : KnownOutcome) → slice_get (values_of es) i ≡ Some kept → outcome_of ((outcome_at (map outcome_of es) i).number, kept) ≡ outcome_at (map outcome_of es) i
+pub outcome_value : (es : List (ℕ × KnownOutcome)) (i : ℕ) (kept : KnownOutcome)
+    → slice_get (values_of es) i ≡ Some kept
+    → outcome_of ((outcome_at (map outcome_of es) i).number, kept) ≡ outcome_at (map outcome_of es) i
 outcome_value es i kept at = value_seen outcome_of (λ s. s.number) (λ e. refl) es i kept null_outcome at
 
 -- one more entry in a table is one more outcome behind the others
-pub outcome_added : (es : List (ℕ × KnownOutcome)) (e : ℕ × KnownOutcome) → map outcome_of (es ++ e ∷ []) ≡ map outcome_of es ++ outcome_of e ∷ []
+pub outcome_added : (es : List (ℕ × KnownOutcome)) (e : ℕ × KnownOutcome)
+    → map outcome_of (es ++ e ∷ []) ≡ map outcome_of es ++ outcome_of e ∷ []
 outcome_added es e = map-append outcome_of es (e ∷ [])
 
 -- an outcome with the first name that is given to it
-pub outcome_named : (es : List (ℕ × KnownOutcome)) (i : ℕ) (e : ℕ × KnownOutcome) (given : Option (List ℕ)) → slice_get es i ≡ Some e
+pub outcome_named : (es : List (ℕ × KnownOutcome)) (i : ℕ) (e : ℕ × KnownOutcome) (given : Option (List ℕ))
+    → slice_get es i ≡ Some e
     → map outcome_of (set es i (e.0, record e.1 { name = kept_name e.1.name given })) ≡ set (map outcome_of es) i (record (outcome_at (map outcome_of es) i) { name = kept_name (outcome_at (map outcome_of es) i).name given })
 outcome_named es i e given at =
     map-set outcome_of es i (e.0, record e.1 { name = kept_name e.1.name given })

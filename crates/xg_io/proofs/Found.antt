@@ -14,7 +14,8 @@ cond_none true x e = cc
 cond_none false x e = refl
 
 -- where nothing is found there is nothing
-pub absent : {X Y : Type 0} (f : Option X → Option Y) (p : X → Bool) (xs : List X) (place : Option ℕ) → f None ≡ None → place ≡ position p xs
+pub absent : {X Y : Type 0} (f : Option X → Option Y) (p : X → Bool) (xs : List X) (place : Option ℕ) → f None ≡ None
+    → place ≡ position p xs
     → IfNone place (f (find p xs) ≡ None)
 absent f p xs (Some i) n e = tt
 absent f p xs None n e = ap f (find_at p xs ∙ slice_get_past xs (position_or_len p xs)
@@ -27,7 +28,8 @@ located f p xs None e = tt
 located f p xs (Some i) e = ap f (find_at p xs ∙ ap (slice_get xs) ((cond_some (ltb (position_or_len p xs) (length xs)) (position_or_len p xs) i (sym e)).1))
 
 -- the place is one of the list's
-pub in_list : {X : Type 0} (p : X → Bool) (xs : List X) (place : Option ℕ) → place ≡ position p xs → IfSome place (λ i. i < length xs)
+pub in_list : {X : Type 0} (p : X → Bool) (xs : List X) (place : Option ℕ) → place ≡ position p xs
+    → IfSome place (λ i. i < length xs)
 in_list p xs None e = tt
 in_list p xs (Some i) e = let f = cond_some (ltb (position_or_len p xs) (length xs)) (position_or_len p xs) i (sym e) in omega (arith, ltb-true (position_or_len p xs) (length xs) f.0, f.1)
 

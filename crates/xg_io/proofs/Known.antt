@@ -11,7 +11,8 @@ append_known-nil None = refl
 append_known-nil (Some xs) = ap Some (append-nil xs)
 
 -- one piece and then another
-pub append_known-append : (known : Option (List ℕ)) (a b : List ℕ) → append_known (append_known known a) b ≡ append_known known (a ++ b)
+pub append_known-append : (known : Option (List ℕ)) (a b : List ℕ)
+    → append_known (append_known known a) b ≡ append_known known (a ++ b)
 append_known-append None a b = refl
 append_known-append (Some xs) a b = ap Some (append_assoc xs a b)
 
@@ -38,11 +39,13 @@ go_on before now next bytes rest n p e = rw (take-rest rest n) (record {
 })
 
 -- all was appended
-pub whole : (before now : Option (List ℕ)) (bytes rest : List ℕ) → Progress before now bytes rest → rest ≡ [] → now ≡ append_known before bytes
+pub whole : (before now : Option (List ℕ)) (bytes rest : List ℕ) → Progress before now bytes rest → rest ≡ []
+    → now ≡ append_known before bytes
 whole before now bytes rest p e = p.appended ∙ ap (append_known before) (sym (p.split ∙ ap (λ (xs : List ℕ). p.front ++ xs) e ∙ append-nil p.front))
 
 -- a front was appended
-pub a_front : (before now next : Option (List ℕ)) (bytes rest : List ℕ) → Progress before now bytes rest → next ≡ now → AppendsPrefix before next bytes
+pub a_front : (before now next : Option (List ℕ)) (bytes rest : List ℕ) → Progress before now bytes rest → next ≡ now
+    → AppendsPrefix before next bytes
 a_front before now next bytes rest p e = record {
   count = length p.front;
   appended = e ∙ p.appended ∙ ap (append_known before) (sym (ap (take (length p.front)) p.split ∙ take-append_seam p.front rest));
@@ -61,13 +64,15 @@ Consumes-append (Some xs) (Some ys) None x y p q = absurd q
 Consumes-append (Some xs) (Some ys) (Some zs) x y p q = p ∙ ap (λ (w : List ℕ). x ++ w) q ∙ sym (append_assoc x y zs)
 
 -- with nothing left, what was read is all
-pub Consumes-whole : (a b : Option (List ℕ)) (x : List ℕ) → Consumes a b x → IfSome b (λ rest. rest ≡ []) → IfSome a (λ all. x ≡ all)
+pub Consumes-whole : (a b : Option (List ℕ)) (x : List ℕ) → Consumes a b x → IfSome b (λ rest. rest ≡ [])
+    → IfSome a (λ all. x ≡ all)
 Consumes-whole None b x p q = tt
 Consumes-whole (Some xs) None x p q = absurd p
 Consumes-whole (Some xs) (Some ys) x p q = sym (p ∙ ap (λ (w : List ℕ). x ++ w) q ∙ append-nil x)
 
 -- all has at least as many bytes as were read
-pub Consumes-longer : (limit : ℕ) (a b : Option (List ℕ)) (x : List ℕ) → Consumes a b x → limit < length x → IfSome a (λ all. limit < length all)
+pub Consumes-longer : (limit : ℕ) (a b : Option (List ℕ)) (x : List ℕ) → Consumes a b x → limit < length x
+    → IfSome a (λ all. limit < length all)
 Consumes-longer limit None b x p h = tt
 Consumes-longer limit (Some xs) None x p h = absurd p
 Consumes-longer limit (Some xs) (Some ys) x p h = omega (arith, ap length p, length-append x ys)

@@ -11,12 +11,14 @@ abbrev pub NoMarkBelow : List ℕ → ℕ → Type 0
 NoMarkBelow bs k = (j : ℕ) → j < k → eqb (get_or bs j 0) 34 ≡ false
 
 -- one byte that is no mark
-closing_from-cons : (at before b : ℕ) (bs : List ℕ) → eqb b 34 ≡ false → closing_from at before (b ∷ bs) ≡ closing_from (at + 1) b bs
+closing_from-cons : (at before b : ℕ) (bs : List ℕ) → eqb b 34 ≡ false
+    → closing_from at before (b ∷ bs) ≡ closing_from (at + 1) b bs
 unfolding closing_from
 closing_from-cons at before b bs plain = rw plain refl
 
 -- the bytes in front of the first mark are passed over
-pub closing_from-drop : (k at before : ℕ) (bs : List ℕ) → k ≤ length bs → NoMarkBelow bs k → closing_from at before bs ≡ closing_from (at + k) (get_or (before ∷ bs) k 0) (drop k bs)
+pub closing_from-drop : (k at before : ℕ) (bs : List ℕ) → k ≤ length bs → NoMarkBelow bs k
+    → closing_from at before bs ≡ closing_from (at + k) (get_or (before ∷ bs) k 0) (drop k bs)
 closing_from-drop zero at before bs within none = rw add-zero refl
 closing_from-drop (suc k) at before [] within none = absurd (omega arith)
 closing_from-drop (suc k) at before (b ∷ bs) within none =
@@ -32,12 +34,14 @@ closing_from-none at before [] none = refl
 closing_from-none at before (b ∷ bs) none = closing_from-cons at before b bs (none 0 (omega arith)) ∙ closing_from-none (at + 1) b bs (λ j h. none (suc j) (omega arith))
 
 -- a mark behind a byte that is no backslash closes
-closing_from-closes : (at before b : ℕ) (bs : List ℕ) → eqb b 34 ≡ true → eqb before 92 ≡ false → closing_from at before (b ∷ bs) ≡ Some at
+closing_from-closes : (at before b : ℕ) (bs : List ℕ) → eqb b 34 ≡ true → eqb before 92 ≡ false
+    → closing_from at before (b ∷ bs) ≡ Some at
 unfolding closing_from
 closing_from-closes at before b bs mark plain = rw (mark, plain) refl
 
 -- a mark behind a backslash doesn't
-closing_from-goes_on : (at before b : ℕ) (bs : List ℕ) → eqb b 34 ≡ true → eqb before 92 ≡ true → closing_from at before (b ∷ bs) ≡ closing_from (at + 1) b bs
+closing_from-goes_on : (at before b : ℕ) (bs : List ℕ) → eqb b 34 ≡ true → eqb before 92 ≡ true
+    → closing_from at before (b ∷ bs) ≡ closing_from (at + 1) b bs
 unfolding closing_from
 closing_from-goes_on at before b bs mark escaped = rw (mark, escaped) refl
 
@@ -53,7 +57,8 @@ SearchesOn-start bytes start h =
     record { begun = omega arith; within = omega arith; same = ap (λ n. closing_from (start + 1) (get_or bytes n 0) (drop (start + 1) bytes)) back }
 
 -- the byte before the first mark, k bytes behind `at`
-byte_before : (bytes : List ℕ) (at k : ℕ) → 0 < at → at ≤ length bytes → get_or (get_or bytes (at - 1) 0 ∷ drop at bytes) k 0 ≡ get_or bytes (at + k - 1) 0
+byte_before : (bytes : List ℕ) (at k : ℕ) → 0 < at → at ≤ length bytes
+    → get_or (get_or bytes (at - 1) 0 ∷ drop at bytes) k 0 ≡ get_or bytes (at + k - 1) 0
 byte_before bytes at k begun within =
     let next : at - 1 + 1 ≡ at = omega arith in
     let place : at - 1 + k ≡ at + k - 1 = omega arith in
@@ -82,7 +87,8 @@ module _ (bytes : List ℕ) (start at k : ℕ) (hay : List ℕ) (is_rest : hay �
       ∙ sym (closing_from-drop k at (get_or bytes (at - 1) 0) (drop at bytes) (omega (arith, length-drop at bytes, on.within)) no_mark)
       ∙ on.same
 
-  pub SearchesOn-closes : get_or bytes (at + k - 1) 0 ≢ 92 → Some (at + k) ≡ closing_from (start + 1) (get_or bytes start 0) (drop (start + 1) bytes)
+  pub SearchesOn-closes : get_or bytes (at + k - 1) 0 ≢ 92
+      → Some (at + k) ≡ closing_from (start + 1) (get_or bytes start 0) (drop (start + 1) bytes)
   SearchesOn-closes plain = sym (closing_from-closes (at + k) (get_or bytes (at + k - 1) 0) _ _ mark_at (ne_eqb _ 92 plain)) ∙ from_mark
 
   pub SearchesOn-next : get_or bytes (at + k - 1) 0 ≡ 92 → SearchesOn bytes start (at + k + 1)
@@ -98,7 +104,9 @@ module _ (bytes : List ℕ) (start at k : ℕ) (hay : List ℕ) (is_rest : hay �
       }
 
 -- where what is still to search has no quotation mark, the text has no closing mark
-pub SearchesOn-end : (bytes : List ℕ) (start at : ℕ) (hay : List ℕ) → hay ≡ drop at bytes → SearchesOn bytes start at → Nowhere (Passes (is_byte 34) hay) 0 (length hay) → None ≡ closing_from (start + 1) (get_or bytes start 0) (drop (start + 1) bytes)
+pub SearchesOn-end : (bytes : List ℕ) (start at : ℕ) (hay : List ℕ) → hay ≡ drop at bytes → SearchesOn bytes start at
+    → Nowhere (Passes (is_byte 34) hay) 0 (length hay)
+    → None ≡ closing_from (start + 1) (get_or bytes start 0) (drop (start + 1) bytes)
 SearchesOn-end bytes start at hay is_rest on none =
     sym (closing_from-none at (get_or bytes (at - 1) 0) (drop at bytes) (λ j below. false_from_ne_true _ (λ passes. none j (omega arith) (omega (arith, ap length is_rest)) (ap (λ l. eqb (get_or l j 0) 34) is_rest ∙ passes))))
     ∙ on.same

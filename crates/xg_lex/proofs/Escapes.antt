@@ -10,14 +10,16 @@ use Rattle.def_file_tokens.specs.Texts.{MarksEscaped, IsInside, unescaped, begin
 use Rattle.xg_lex.proofs.Closing.{NoMarkBelow}
 
 -- a mark has a backslash right before it
-MarksEscaped-at : (k before : ℕ) (bs : List ℕ) → k < length bs → MarksEscaped before bs → get_or bs k 0 ≡ 34 → get_or (before ∷ bs) k 0 ≡ 92
+MarksEscaped-at : (k before : ℕ) (bs : List ℕ) → k < length bs → MarksEscaped before bs → get_or bs k 0 ≡ 34
+    → get_or (before ∷ bs) k 0 ≡ 92
 MarksEscaped-at zero before [] within all mark = absurd (omega arith)
 MarksEscaped-at zero before (b ∷ bs) within all mark = all.0 mark
 MarksEscaped-at (suc k) before [] within all mark = absurd (omega arith)
 MarksEscaped-at (suc k) before (b ∷ bs) within all mark = MarksEscaped-at k b bs (omega arith) all.1 mark
 
 -- and so have those behind a byte
-MarksEscaped-drop : (k before : ℕ) (bs : List ℕ) → k < length bs → MarksEscaped before bs → MarksEscaped (get_or bs k 0) (drop (suc k) bs)
+MarksEscaped-drop : (k before : ℕ) (bs : List ℕ) → k < length bs → MarksEscaped before bs
+    → MarksEscaped (get_or bs k 0) (drop (suc k) bs)
 MarksEscaped-drop zero before [] within all = absurd (omega arith)
 MarksEscaped-drop zero before (b ∷ bs) within all = all.1
 MarksEscaped-drop (suc k) before [] within all = absurd (omega arith)
@@ -45,7 +47,8 @@ unfolding unescaped
 escape-cons bs = refl
 
 -- up to a first mark all stays but the backslash before it
-unescaped-first : (k : ℕ) (bs : List ℕ) → suc k < length bs → NoMarkBelow bs (suc k) → get_or bs (suc k) 0 ≡ 34 → get_or bs k 0 ≡ 92 → unescaped bs ≡ take k bs ++ 34 ∷ unescaped (drop (suc (suc k)) bs)
+unescaped-first : (k : ℕ) (bs : List ℕ) → suc k < length bs → NoMarkBelow bs (suc k) → get_or bs (suc k) 0 ≡ 34
+    → get_or bs k 0 ≡ 92 → unescaped bs ≡ take k bs ++ 34 ∷ unescaped (drop (suc (suc k)) bs)
 unescaped-first k [] within none mark backslash = absurd (omega arith)
 unescaped-first zero (b ∷ []) within none mark backslash = absurd (omega arith)
 unescaped-first zero (b ∷ c ∷ bs) within none mark backslash =
@@ -119,7 +122,8 @@ module _ (raw : List ℕ) (at k : ℕ) (bytes hay : List ℕ) (is_rest : hay ≡
       }
 
 -- where what is left has no quotation mark, it is copied as it is
-pub StandsFor-end : (raw : List ℕ) (at : ℕ) (bytes hay : List ℕ) → hay ≡ drop at raw → StandsFor raw at bytes → Nowhere (Passes (is_byte 34) hay) 0 (length hay) → bytes ++ drop at raw ≡ unescaped raw
+pub StandsFor-end : (raw : List ℕ) (at : ℕ) (bytes hay : List ℕ) → hay ≡ drop at raw → StandsFor raw at bytes
+    → Nowhere (Passes (is_byte 34) hay) 0 (length hay) → bytes ++ drop at raw ≡ unescaped raw
 StandsFor-end raw at bytes hay is_rest on none =
     ap (λ l. bytes ++ l) (sym (unescaped-none (drop at raw) (λ j below. false_from_ne_true _ (λ passes. none j (omega arith) (omega (arith, ap length is_rest)) (ap (λ l. eqb (get_or l j 0) 34) is_rest ∙ passes)))))
     ∙ on.same

@@ -20,7 +20,8 @@ module _ (bytes : List ℕ) (start : ℕ) (within : start < length bytes) where
   rest : {X : Type 0} (F : List ℕ → X) → F (drop start bytes) ≡ F (get_or bytes start 0 ∷ drop (start + 1) bytes)
   rest F = ap F (drop_more bytes start 0 within)
 
-  pub text_here : get_or bytes start 0 ≡ 34 → text_from start (closing_from (start + 1) (get_or bytes start 0) (drop (start + 1) bytes)) ≡ token_at start (drop start bytes)
+  pub text_here : get_or bytes start 0 ≡ 34
+      → text_from start (closing_from (start + 1) (get_or bytes start 0) (drop (start + 1) bytes)) ≡ token_at start (drop start bytes)
   text_here is = sym (rest (token_at start) ∙ token_at-text start _ _ is)
 
   pub open_here : get_or bytes start 0 ≡ 123 → Ok (span Open start (start + 1)) ≡ token_at start (drop start bytes)
@@ -32,24 +33,30 @@ module _ (bytes : List ℕ) (start : ℕ) (within : start < length bytes) where
   pub comma_here : get_or bytes start 0 ≡ 44 → Ok (span Comma start (start + 1)) ≡ token_at start (drop start bytes)
   comma_here is = sym (rest (token_at start) ∙ token_at-comma start _ _ is)
 
-  pub word_here : begins_word (get_or bytes start 0) ≡ true → Ok (span Word start (start + prefix_len in_run (drop start bytes))) ≡ token_at start (drop start bytes)
+  pub word_here : begins_word (get_or bytes start 0) ≡ true
+      → Ok (span Word start (start + prefix_len in_run (drop start bytes))) ≡ token_at start (drop start bytes)
   word_here word =
       sym (rest (token_at start) ∙ token_at-word start _ _ word ∙ ap (λ n. Ok (span Word start (start + n))) (sym (rest (prefix_len in_run))))
 
-  pub number_here : begins_word (get_or bytes start 0) ≡ false → begins_number (get_or bytes start 0) ≡ true → Ok (span Number start (start + prefix_len in_run (drop start bytes))) ≡ token_at start (drop start bytes)
+  pub number_here : begins_word (get_or bytes start 0) ≡ false → begins_number (get_or bytes start 0) ≡ true
+      → Ok (span Number start (start + prefix_len in_run (drop start bytes))) ≡ token_at start (drop start bytes)
   number_here no_word number =
       sym (rest (token_at start) ∙ token_at-number start _ _ no_word number ∙ ap (λ n. Ok (span Number start (start + n))) (sym (rest (prefix_len in_run))))
 
-  pub fault_here : get_or bytes start 0 ≢ 34 → get_or bytes start 0 ≢ 123 → get_or bytes start 0 ≢ 125 → get_or bytes start 0 ≢ 44 → begins_word (get_or bytes start 0) ≡ false → begins_number (get_or bytes start 0) ≡ false → Err (Syntax start) ≡ token_at start (drop start bytes)
+  pub fault_here : get_or bytes start 0 ≢ 34 → get_or bytes start 0 ≢ 123 → get_or bytes start 0 ≢ 125
+      → get_or bytes start 0 ≢ 44 → begins_word (get_or bytes start 0) ≡ false
+      → begins_number (get_or bytes start 0) ≡ false → Err (Syntax start) ≡ token_at start (drop start bytes)
   fault_here not_quote not_open not_close not_comma no_word no_number =
       sym (rest (token_at start) ∙ token_at-fault start _ _ not_quote not_open not_close not_comma no_word no_number)
 
 -- behind the last byte the token is that of the end
-pub end_here : (bytes : List ℕ) (start : ℕ) → length bytes ≤ start → Ok (span End start start) ≡ token_at start (drop start bytes)
+pub end_here : (bytes : List ℕ) (start : ℕ) → length bytes ≤ start
+    → Ok (span End start start) ≡ token_at start (drop start bytes)
 end_here bytes start past = sym (ap (token_at start) (drop_all start bytes past) ∙ token_at-end start)
 
 -- the token behind the white space is the next one
-pub next_here : (bytes : List ℕ) (at start : ℕ) → start ≡ after_space bytes at → token_at start (drop start bytes) ≡ next_from bytes at
+pub next_here : (bytes : List ℕ) (at start : ℕ) → start ≡ after_space bytes at
+    → token_at start (drop start bytes) ≡ next_from bytes at
 unfolding next_from
 next_here bytes at start is_start = ap (λ k. token_at k (drop k bytes)) is_start
 

@@ -13,25 +13,30 @@ use Rattle.xg_game.specs.declared.fault.Refused.{Refused}
 use Rattle.xg_game.specs.declared.fault.Refused.TheVariants.{File, NoMemory}
 use Rattle.xg_read.specs.Gives.{next_at, GivesFor, GivesNext}
 
-judged_ok : (contents : Contents) (r : Record) → record_fault contents r ≡ None → judged contents r ≡ Ok (with_record contents r)
+judged_ok : (contents : Contents) (r : Record) → record_fault contents r ≡ None
+    → judged contents r ≡ Ok (with_record contents r)
 unfolding judged
 judged_ok contents r e = ap (λ (f : Option FileFault). unless_fault f (with_record contents r)) e
 
-judged_err : (contents : Contents) (r : Record) (fault : FileFault) → record_fault contents r ≡ Some fault → judged contents r ≡ Err fault
+judged_err : (contents : Contents) (r : Record) (fault : FileFault) → record_fault contents r ≡ Some fault
+    → judged contents r ≡ Err fault
 unfolding judged
 judged_err contents r fault e = ap (λ (f : Option FileFault). unless_fault f (with_record contents r)) e
 
 -- the next entry is taken, or has a fault
-pub next_taken : (contents : Contents) (whole : List ℕ) (at end : ℕ) (r : Record) → entry_at whole at ≡ Ok (r, end) → record_fault contents r ≡ None
+pub next_taken : (contents : Contents) (whole : List ℕ) (at end : ℕ) (r : Record) → entry_at whole at ≡ Ok (r, end)
+    → record_fault contents r ≡ None
     → next_at contents whole at ≡ Ok (with_record contents r, end)
 next_taken contents whole at end r read sound = rw (read, judged_ok contents r sound) refl
 
-pub next_judged : (contents : Contents) (whole : List ℕ) (at end : ℕ) (r : Record) (fault : FileFault) → entry_at whole at ≡ Ok (r, end) → record_fault contents r ≡ Some fault
+pub next_judged : (contents : Contents) (whole : List ℕ) (at end : ℕ) (r : Record) (fault : FileFault)
+    → entry_at whole at ≡ Ok (r, end) → record_fault contents r ≡ Some fault
     → next_at contents whole at ≡ Err fault
 next_judged contents whole at end r fault read bad = rw (read, judged_err contents r fault bad) refl
 
 -- a whole tree has no further entry
-pub entries_done : (left : ℕ) (contents : Contents) (whole : List ℕ) (at : ℕ) → 0 < left → wanted 1 contents.nodes ≡ 0 → entries_from left contents whole at ≡ Ok (contents, at)
+pub entries_done : (left : ℕ) (contents : Contents) (whole : List ℕ) (at : ℕ) → 0 < left → wanted 1 contents.nodes ≡ 0
+    → entries_from left contents whole at ≡ Ok (contents, at)
 unfolding entries_from
 entries_done zero contents whole at some done = absurd (omega arith)
 entries_done (suc left) contents whole at some done =
@@ -62,20 +67,24 @@ entries_more (suc left) contents whole at some goes =
     ∙ regrouped left whole contents (entry_at whole at))
 
 -- it stops there
-pub entries_stopped : (left : ℕ) (contents : Contents) (whole : List ℕ) (at : ℕ) (fault : FileFault) → 0 < left → wanted 1 contents.nodes ≢ 0
+pub entries_stopped : (left : ℕ) (contents : Contents) (whole : List ℕ) (at : ℕ) (fault : FileFault) → 0 < left
+    → wanted 1 contents.nodes ≢ 0
     → next_at contents whole at ≡ Err fault → entries_from left contents whole at ≡ Err fault
 entries_stopped left contents whole at fault some goes bad =
     entries_more left contents whole at some goes ∙ ap (λ (x : Result (Contents × ℕ) FileFault). x >>= λ next. entries_from (left - 1) next.0 whole next.1) bad
 
 -- no more may come
-pub entries_full : (left : ℕ) (contents : Contents) (whole : List ℕ) (at : ℕ) → left ≡ 0 → entries_from left contents whole at ≡ Err TooManyNodes
+pub entries_full : (left : ℕ) (contents : Contents) (whole : List ℕ) (at : ℕ) → left ≡ 0
+    → entries_from left contents whole at ≡ Err TooManyNodes
 unfolding entries_from
 entries_full zero contents whole at none = refl
 entries_full (suc left) contents whole at none = absurd (omega arith)
 
 -- what is read from here on is what is read behind the next entry
-pub entries_next : (left after : ℕ) (contents next : Contents) (whole seen : List ℕ) (at end : ℕ) → seen ≡ whole → left ≡ after + 1 → wanted 1 contents.nodes ≢ 0
-    → next_at contents seen at ≡ Ok (next, end) → entries_from left contents whole at ≡ entries_from after next whole end
+pub entries_next : (left after : ℕ) (contents next : Contents) (whole seen : List ℕ) (at end : ℕ) → seen ≡ whole
+    → left ≡ after + 1 → wanted 1 contents.nodes ≢ 0
+    → next_at contents seen at ≡ Ok (next, end)
+    → entries_from left contents whole at ≡ entries_from after next whole end
 entries_next left after contents next whole seen at end same e goes read =
     let some : 0 < left = omega arith in
     let one : left - 1 ≡ after = omega arith in
@@ -85,8 +94,10 @@ entries_next left after contents next whole seen at end same e goes read =
     ∙ ap (λ (n : ℕ). entries_from n next whole end) one
 
 -- an entry that was pushed
-pub pushed : (result : Result (Unit {0}) Refused) (old new : Made) (whole : List ℕ) (at end : ℕ) (r : Record) → entry_at whole at ≡ Ok (r, end)
-    → OnOk result (record_fault old.contents r ≡ None) → OnOk result (new ≡ record old { contents = with_record old.contents r })
+pub pushed : (result : Result (Unit {0}) Refused) (old new : Made) (whole : List ℕ) (at end : ℕ) (r : Record)
+    → entry_at whole at ≡ Ok (r, end)
+    → OnOk result (record_fault old.contents r ≡ None)
+    → OnOk result (new ≡ record old { contents = with_record old.contents r })
     → ((fault : FileFault) → result ≡ Err (File fault) → (record_fault old.contents r ≡ Some fault) × (new ≡ old))
     → GivesNext result new.contents end (next_at old.contents whole at)
 pushed (Ok _) old new whole at end r read sound put refused =

@@ -23,7 +23,8 @@ quoted_len : (bytes inside : List ℕ) → bytes ≡ 34 ∷ (inside ++ 34 ∷ []
 quoted_len bytes inside e = omega (arith, ap length e, length-append inside (34 ∷ []))
 
 -- a text token has at least its two quotation marks
-pub text_room : (whole : List ℕ) (at : ℕ) (token : Lexeme) → IsLexemeFrom whole at token → token.kind ≡ kinds.Text → token.start + 2 ≤ token.end
+pub text_room : (whole : List ℕ) (at : ℕ) (token : Lexeme) → IsLexemeFrom whole at token → token.kind ≡ kinds.Text
+    → token.start + 2 ≤ token.end
 text_room whole at token is text =
     let quoted = subst (λ (kind : Token). IsToken kind (slice_range whole token.start token.end) (drop token.end whole)) text is.token in
     let long = quoted_len (slice_range whole token.start token.end) quoted.inside quoted.quoted in

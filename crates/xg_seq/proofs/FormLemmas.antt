@@ -17,13 +17,15 @@ use Rattle.xg_seq.specs.Leaves.{AreLeaves, KeepsLeaves, form_with}
 use Rattle.xg_seq.specs.Table.{most_sequences}
 use Rattle.xg_seq.proofs.LeafLemmas.{leaves_are_few}
 
-pub sets_in_limit : (tree : Forest) → IsGameTree tree → (kind : Kind) → is_leaf_kind kind ≡ false → sequence_count (information_sets kind tree) ≤ most_sequences
+pub sets_in_limit : (tree : Forest) → IsGameTree tree → (kind : Kind) → is_leaf_kind kind ≡ false
+    → sequence_count (information_sets kind tree) ≤ most_sequences
 sets_in_limit tree game kind inner = omega (arith, (form_numbers_as_the_tree tree game kind inner).few_sequences, game.limit)
 
 abbrev no_tables : Tables
 no_tables = record { chance = []; outcomes = [] }
 
-pub keeps_leaves : (tree : Forest) (weights : List ℤ) → IsGameTree tree → length weights ≡ leaf_count (prefix tree) → sum (map unsigned_abs weights) ≤ most_mass → KeepsLeaves (form_of tree weights)
+pub keeps_leaves : (tree : Forest) (weights : List ℤ) → IsGameTree tree → length weights ≡ leaf_count (prefix tree)
+    → sum (map unsigned_abs weights) ≤ most_mass → KeepsLeaves (form_of tree weights)
 keeps_leaves tree weights game many mass =
     let list = form_has_the_leaf_list no_tables tree weights game many in
     record {
@@ -35,7 +37,8 @@ keeps_leaves tree weights game many mass =
     }
 
 -- the sets and the leaves make the form
-pub form_is : (tree : Forest) (weights : List ℤ) (sets : TreeSets) (one two : List InformationSet) (leaves : List Leaf) → sets ≡ tree_sets tree → one ≡ sets.one.sets → two ≡ sets.two.sets → AreLeaves tree weights leaves →
+pub form_is : (tree : Forest) (weights : List ℤ) (sets : TreeSets) (one two : List InformationSet) (leaves : List Leaf)
+    → sets ≡ tree_sets tree → one ≡ sets.one.sets → two ≡ sets.two.sets → AreLeaves tree weights leaves →
     form_with one two leaves ≡ form_of tree weights
 form_is tree weights sets one two leaves told is_one is_two are = λ i. record {
   sets_one = (is_one ∙ ap (λ (s : TreeSets). s.one.sets) told) i;

@@ -30,7 +30,8 @@ leaves_before tree k = filter (λ v. is_leaf_kind v.node.kind) (take k (visits t
 abbrev pub AreLeavesBefore : Forest → List ℤ → ℕ → List LeafRow → Type 0
 AreLeavesBefore tree weights k leaves = map leaf_of leaves ≡ leaves_with tree (leaves_before tree k) weights
 
-length-leaves_with : (tree : Forest) (vs : List Visit) (weights : List ℤ) → length vs ≤ length weights → length (leaves_with tree vs weights) ≡ length vs
+length-leaves_with : (tree : Forest) (vs : List Visit) (weights : List ℤ) → length vs ≤ length weights
+    → length (leaves_with tree vs weights) ≡ length vs
 length-leaves_with tree [] weights few = refl
 length-leaves_with tree (v ∷ vs) [] few = absurd (omega arith)
 length-leaves_with tree (v ∷ vs) (w ∷ weights) few = ap suc (length-leaves_with tree vs weights (omega arith))
@@ -38,7 +39,9 @@ length-leaves_with tree (v ∷ vs) (w ∷ weights) few = ap suc (length-leaves_w
 abbrev leaf_at : Forest → Visit → ℤ → FormLeaf
 leaf_at tree v weight = record { sequence_one = sequence_at One tree v; sequence_two = sequence_at Two tree v; weight = weight }
 
-leaves_with-append : (tree : Forest) (vs : List Visit) (v : Visit) (weights : List ℤ) (d : ℤ) → length vs < length weights → leaves_with tree (vs ++ v ∷ []) weights ≡ leaves_with tree vs weights ++ leaf_at tree v (get_or weights (length vs) d) ∷ []
+leaves_with-append : (tree : Forest) (vs : List Visit) (v : Visit) (weights : List ℤ) (d : ℤ)
+    → length vs < length weights
+    → leaves_with tree (vs ++ v ∷ []) weights ≡ leaves_with tree vs weights ++ leaf_at tree v (get_or weights (length vs) d) ∷ []
 leaves_with-append tree vs v [] d few = absurd (omega arith)
 leaves_with-append tree [] v (w ∷ weights) d few = refl
 leaves_with-append tree (u ∷ vs) v (w ∷ weights) d few = ap (λ zs. leaf_at tree u w ∷ zs) (leaves_with-append tree vs v weights d (omega arith))

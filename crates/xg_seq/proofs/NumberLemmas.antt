@@ -12,7 +12,8 @@ length-numbers_of k [] = refl
 length-numbers_of k (row ∷ rows) = omega (arith, length-append (replicate row.actions k) (numbers_of (k + 1) rows), length-replicate row.actions k, length-numbers_of (k + 1) rows)
 
 -- a number is kept for each sequence but the empty one
-pub numbers_for_all : (rows : List SetRow) (numbers : List ℕ) → KeepsSets rows numbers → length numbers + 1 ≡ sequence_count (map set_of rows)
+pub numbers_for_all : (rows : List SetRow) (numbers : List ℕ) → KeepsSets rows numbers
+    → length numbers + 1 ≡ sequence_count (map set_of rows)
 numbers_for_all rows numbers keeps = omega (arith, ap length keeps.numbers, length-numbers_of 1 rows)
 
 -- of sets whose first has the number k, and whose sequences are counted from `first` on, sequence s ends at the set of this number
@@ -21,9 +22,11 @@ record EndsAmong (k first : ℕ) (sets : List InformationSet) (s number : ℕ) :
   is : number ≡ k + place
   there : place < length sets
   from : (d : PlacedSet) → (get_or (placed_from first sets) place d).first ≤ first + s
-  end : (d : PlacedSet) → first + s < (get_or (placed_from first sets) place d).first + (get_or (placed_from first sets) place d).actions
+  end : (d : PlacedSet)
+      → first + s < (get_or (placed_from first sets) place d).first + (get_or (placed_from first sets) place d).actions
 
-ends_among : (k first : ℕ) (rows : List SetRow) (s : ℕ) → s < length (numbers_of k rows) → EndsAmong k first (map set_of rows) s (get_or (numbers_of k rows) s 0)
+ends_among : (k first : ℕ) (rows : List SetRow) (s : ℕ) → s < length (numbers_of k rows)
+    → EndsAmong k first (map set_of rows) s (get_or (numbers_of k rows) s 0)
 ends_among k first [] s there = absurd (omega arith)
 ends_among k first (row ∷ rows) s there =
     let own : List ℕ = replicate row.actions k in
@@ -46,7 +49,9 @@ ends_among k first (row ∷ rows) s there =
     ]
 
 -- a sequence ends at the set of its number
-pub ends_at : (rows : List SetRow) (numbers : List ℕ) → KeepsSets rows numbers → (sequence number : ℕ) → 1 ≤ sequence → sequence < sequence_count (map set_of rows) → number ≡ get_or numbers (sequence - 1) 0 → EndsAt (map set_of rows) sequence number
+pub ends_at : (rows : List SetRow) (numbers : List ℕ) → KeepsSets rows numbers → (sequence number : ℕ) → 1 ≤ sequence
+    → sequence < sequence_count (map set_of rows) → number ≡ get_or numbers (sequence - 1) 0
+    → EndsAt (map set_of rows) sequence number
 ends_at rows numbers keeps sequence number some there read =
     let found = ends_among 1 1 rows (sequence - 1) (omega (arith, length-numbers_of 1 rows)) in
     let is : number ≡ get_or (numbers_of 1 rows) (sequence - 1) 0 = read ∙ ap (λ ns. get_or ns (sequence - 1) 0) keeps.numbers in
@@ -58,7 +63,8 @@ ends_at rows numbers keeps sequence number some there read =
       end = λ d. subst (λ n. sequence < (get_or (placed_from 1 (map set_of rows)) n d).first + (get_or (placed_from 1 (map set_of rows)) n d).actions) (sym place) (omega (arith, found.end d));
     }
 
-numbers-append : (k : ℕ) (rows : List SetRow) (row : SetRow) → numbers_of k (rows ++ row ∷ []) ≡ numbers_of k rows ++ replicate row.actions (k + length rows)
+numbers-append : (k : ℕ) (rows : List SetRow) (row : SetRow)
+    → numbers_of k (rows ++ row ∷ []) ≡ numbers_of k rows ++ replicate row.actions (k + length rows)
 numbers-append k [] row =
     let here : k ≡ k + 0 = omega arith in append-nil (replicate row.actions k) ∙ ap (replicate row.actions) here
 numbers-append k (r ∷ rows) row =
@@ -67,7 +73,8 @@ numbers-append k (r ∷ rows) row =
     ∙ sym (append_assoc (replicate r.actions k) (numbers_of (k + 1) rows) (replicate row.actions (k + suc (length rows))))
 
 -- the numbers of the first i rows' sequences, and of one more row's
-pub numbers_more : (rows : List SetRow) (i : ℕ) (d : SetRow) → i < length rows → numbers_of 1 (take (i + 1) rows) ≡ numbers_of 1 (take i rows) ++ replicate (get_or rows i d).actions (i + 1)
+pub numbers_more : (rows : List SetRow) (i : ℕ) (d : SetRow) → i < length rows
+    → numbers_of 1 (take (i + 1) rows) ≡ numbers_of 1 (take i rows) ++ replicate (get_or rows i d).actions (i + 1)
 numbers_more rows i d there =
     let long : 1 + length (take i rows) ≡ i + 1 = omega (arith, length-take-le i rows (omega arith)) in
     ap (numbers_of 1) (take_more rows i d there) ∙ numbers-append 1 (take i rows) (get_or rows i d) ∙ ap (λ n. numbers_of 1 (take i rows) ++ replicate (get_or rows i d).actions n) long

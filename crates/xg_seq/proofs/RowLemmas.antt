@@ -22,29 +22,34 @@ rows-without [] = refl
 rows-without (row ∷ rows) = ap (λ gs. set_of row ∷ gs) (rows-without rows)
 
 -- rows that are placed as some sets are have these sets
-pub sets_of_rows : (rows : List SetRow) (sets : List InformationSet) → map place_of rows ≡ placed sets → map set_of rows ≡ sets
+pub sets_of_rows : (rows : List SetRow) (sets : List InformationSet) → map place_of rows ≡ placed sets
+    → map set_of rows ≡ sets
 sets_of_rows rows sets same = sym (rows-without rows) ∙ ap (map without_place) same ∙ placed-without 1 sets
 
 -- such rows, with the numbers of their sequences' sets, are kept
-pub keeps_sets : (rows : List SetRow) (numbers : List ℕ) (sets : List InformationSet) → map place_of rows ≡ placed sets → numbers ≡ numbers_of 1 rows → AreInOrder sets → sequence_count sets ≤ most_sequences → KeepsSets rows numbers
+pub keeps_sets : (rows : List SetRow) (numbers : List ℕ) (sets : List InformationSet) → map place_of rows ≡ placed sets
+    → numbers ≡ numbers_of 1 rows → AreInOrder sets → sequence_count sets ≤ most_sequences → KeepsSets rows numbers
 keeps_sets rows numbers sets same are order limit =
     let sets_are : map set_of rows ≡ sets = sets_of_rows rows sets same in
     record { places = same ∙ ap placed (sym sets_are); numbers = are; order = subst AreInOrder (sym sets_are) order; limit = omega (arith, limit, ap sequence_count sets_are) }
 
 -- what a row tells of its set is told at the set's place
-pub told_at : (sets : List InformationSet) (f : InformationSet → ℕ) (i : ℕ) (h : PlacedSet) → slice_get (placed sets) i ≡ Some h → slice_get (map f sets) i ≡ Some (f (without_place h))
+pub told_at : (sets : List InformationSet) (f : InformationSet → ℕ) (i : ℕ) (h : PlacedSet)
+    → slice_get (placed sets) i ≡ Some h → slice_get (map f sets) i ≡ Some (f (without_place h))
 told_at sets f i h read =
     ap (λ gs. slice_get (map f gs) i) (sym (placed-without 1 sets)) ∙ slice_get-map f (map without_place (placed sets)) i
     ∙ ap (option_map f) (slice_get-map without_place (placed sets) i ∙ ap (option_map without_place) read)
 
-placed-append : (first : ℕ) (sets : List InformationSet) (h : InformationSet) → placed_from first (sets ++ h ∷ []) ≡ placed_from first sets ++ record { first = first + actions_of sets; before = h.before; actions = h.actions } ∷ []
+placed-append : (first : ℕ) (sets : List InformationSet) (h : InformationSet)
+    → placed_from first (sets ++ h ∷ []) ≡ placed_from first sets ++ record { first = first + actions_of sets; before = h.before; actions = h.actions } ∷ []
 placed-append first [] h = let here : first ≡ first + 0 = omega arith in ap (λ n. record { first = n; before = h.before; actions = h.actions } ∷ []) here
 placed-append first (g ∷ gs) h =
     let there : first + g.actions + actions_of gs ≡ first + (g.actions + actions_of gs) = omega arith in
     ap (λ hs. record { first = first; before = g.before; actions = g.actions } ∷ hs) (placed-append (first + g.actions) gs h ∙ ap (λ n. placed_from (first + g.actions) gs ++ record { first = n; before = h.before; actions = h.actions } ∷ []) there)
 
 -- sets in order are no more than their sequences
-pub sets_are_few : (first : ℕ) (sets : List InformationSet) → All IsInOrder (placed_from first sets) → length sets ≤ actions_of sets
+pub sets_are_few : (first : ℕ) (sets : List InformationSet) → All IsInOrder (placed_from first sets)
+    → length sets ≤ actions_of sets
 sets_are_few first [] order = omega arith
 sets_are_few first (h ∷ hs) order =
     let here : PlacedSet = record { first = first; before = h.before; actions = h.actions } in
@@ -52,7 +57,8 @@ sets_are_few first (h ∷ hs) order =
     omega (arith, (All-head IsInOrder here rest order).0, sets_are_few (first + h.actions) hs (All-tail IsInOrder here rest order))
 
 -- nor are their rows
-pub rows_are_few : (rows : List SetRow) (sets : List InformationSet) → map place_of rows ≡ placed sets → AreInOrder sets → length rows < sequence_count sets
+pub rows_are_few : (rows : List SetRow) (sets : List InformationSet) → map place_of rows ≡ placed sets → AreInOrder sets
+    → length rows < sequence_count sets
 rows_are_few rows sets same order = omega (arith, length-map rows set_of, ap length (sets_of_rows rows sets same), sets_are_few 1 sets order)
 
 -- the rows of the first k sets, and the first sequence of the next one

@@ -24,7 +24,8 @@ pub record EndsAt (sets : List InformationSet) (sequence set : ℕ) : Type 0 whe
   pub from_one : 1 ≤ set
   pub there : set ≤ length sets
   pub first : (d : PlacedSet) → (slice_index_or (placed sets) (set - 1) d).first ≤ sequence
-  pub end : (d : PlacedSet) → sequence < (slice_index_or (placed sets) (set - 1) d).first + (slice_index_or (placed sets) (set - 1) d).actions
+  pub end : (d : PlacedSet)
+      → sequence < (slice_index_or (placed sets) (set - 1) d).first + (slice_index_or (placed sets) (set - 1) d).actions
 
 -- the rows are sets in order, each in its place, and these are the numbers of their sequences' sets
 pub record KeepsSets (rows : List SetRow) (set_numbers : List ℕ) : Type 0 where

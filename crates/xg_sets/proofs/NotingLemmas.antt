@@ -35,7 +35,9 @@ use Rattle.xg_sets.specs.Table.{BeginsSet, JoinsRow, Notes, NotesIn, SetRows, wi
 use Rattle.xg_sets.specs.Told.{set_of}
 
 -- behind nodes of other sets, a search for the first node of a set finds the next one
-first_after : (k : ℕ) (x : Node) (before : List Visit) (v : Visit) (rest : List Visit) → ((i : ℕ) (d : Visit) → i < length before → is_same_set (get_or before i d).node x ≡ false) → is_same_set v.node x ≡ true →
+first_after : (k : ℕ) (x : Node) (before : List Visit) (v : Visit) (rest : List Visit)
+    → ((i : ℕ) (d : Visit) → i < length before → is_same_set (get_or before i d).node x ≡ false)
+    → is_same_set v.node x ≡ true →
     first_of_set k x (before ++ v ∷ rest) ≡ Some (record { number = k + length before; visit = v })
 first_after k x [] v rest none same =
     let here : k ≡ k + 0 = omega arith in
@@ -97,11 +99,13 @@ module _ (tree : Forest) (kind : Kind) (game : IsGameTree tree) (inner : is_leaf
   sequences_more : map (sequence_at kind tree) (take (n + 1) all) ≡ map (sequence_at kind tree) done ++ sequence_at kind tree v ∷ []
   sequences_more = ap (map (sequence_at kind tree)) next.taken ∙ map-append (sequence_at kind tree) done (v ∷ [])
 
-  put_more : (table : SetRows) (s : ℕ) → table.at_nodes ≡ map (sequence_at kind tree) done → s ≡ sequence_at kind tree v → table.at_nodes ++ s ∷ [] ≡ map (sequence_at kind tree) (take (n + 1) all)
+  put_more : (table : SetRows) (s : ℕ) → table.at_nodes ≡ map (sequence_at kind tree) done → s ≡ sequence_at kind tree v
+      → table.at_nodes ++ s ∷ [] ≡ map (sequence_at kind tree) (take (n + 1) all)
   put_more table s stands is = (λ i. stands i ++ is i ∷ []) ∙ sym sequences_more
 
   -- a node that begins no set of the kind
-  quiet_stands : (table : SetRows) (s : ℕ) → IsTableOf tree kind n table → begins ≡ false → s ≡ sequence_at kind tree v → IsTableOf tree kind (n + 1) (put table s)
+  quiet_stands : (table : SetRows) (s : ℕ) → IsTableOf tree kind n table → begins ≡ false → s ≡ sequence_at kind tree v
+      → IsTableOf tree kind (n + 1) (put table s)
   quiet_stands table s stands other is =
       let same : firsts ≡ set_firsts kind 0 (take (n + 1) all) = sym (firsts_quiet other) in
       record {
@@ -131,7 +135,8 @@ module _ (tree : Forest) (kind : Kind) (game : IsGameTree tree) (inner : is_leaf
             | false ↦ λ differs. other_kind kind w.node x kinds differs
           ] refl
 
-  row_stands : (table : SetRows) (s : ℕ) → IsTableOf tree kind n table → v.node.kind ≡ kind → v.node.set ≡ length firsts + 1 → s ≡ sequence_at kind tree v →
+  row_stands : (table : SetRows) (s : ℕ) → IsTableOf tree kind n table → v.node.kind ≡ kind
+      → v.node.set ≡ length firsts + 1 → s ≡ sequence_at kind tree v →
       IsRowOf tree kind (length table.rows + 1) (record { first = table.next; before = s; actions = v.node.children; node = n + 1 })
   row_stands table s stands is set sequence =
       let rows : length table.rows ≡ length firsts = rows_count table stands in
@@ -151,7 +156,9 @@ module _ (tree : Forest) (kind : Kind) (game : IsGameTree tree) (inner : is_leaf
         );
       }
 
-  new_stands : (table : SetRows) (s : ℕ) → IsTableOf tree kind n table → v.node.kind ≡ kind → v.node.set ≡ length firsts + 1 → s ≡ sequence_at kind tree v → IsTableOf tree kind (n + 1) (put (with_set table (n + 1) v.node s) s)
+  new_stands : (table : SetRows) (s : ℕ) → IsTableOf tree kind n table → v.node.kind ≡ kind
+      → v.node.set ≡ length firsts + 1 → s ≡ sequence_at kind tree v
+      → IsTableOf tree kind (n + 1) (put (with_set table (n + 1) v.node s) s)
   new_stands table s stands is set sequence =
       let first : begins ≡ true = ap (λ b. b && nat_eq v.node.set (length firsts + 1)) (is_same_kind_self kind v.node.kind is) ∙ eq-eqb v.node.set (length firsts + 1) set in
       let more : set_firsts kind 0 (take (n + 1) all) ≡ firsts ++ v ∷ [] = firsts_new first in
@@ -175,13 +182,16 @@ module _ (tree : Forest) (kind : Kind) (game : IsGameTree tree) (inner : is_leaf
   abbrev against : Option RecallBreak
   against = break_against (differ_in_number tree) (n + 1) v (first_of_set 1 v.node all)
 
-  same_numbers : (first : Numbered) → sequence_at first.visit.node.kind tree first.visit ≡ sequence_at v.node.kind tree v → break_against (differ_in_number tree) (n + 1) v (Some first) ≡ None
+  same_numbers : (first : Numbered)
+      → sequence_at first.visit.node.kind tree first.visit ≡ sequence_at v.node.kind tree v
+      → break_against (differ_in_number tree) (n + 1) v (Some first) ≡ None
   same_numbers first e =
       let broken : Option RecallBreak = Some (record { node = n + 1; earlier = first.number }) in
       ap (λ b. cond (is_personal v.node.kind && not b) broken None) (eq-eqb (sequence_at first.visit.node.kind tree first.visit) (sequence_at v.node.kind tree v) e)
       ∙ ap (λ b. cond b broken None) (and_false (is_personal v.node.kind) false refl)
 
-  other_numbers : (first : Numbered) → is_personal v.node.kind ≡ true → sequence_at first.visit.node.kind tree first.visit ≢ sequence_at v.node.kind tree v →
+  other_numbers : (first : Numbered) → is_personal v.node.kind ≡ true
+      → sequence_at first.visit.node.kind tree first.visit ≢ sequence_at v.node.kind tree v →
       break_against (differ_in_number tree) (n + 1) v (Some first) ≡ Some (record { node = n + 1; earlier = first.number })
   other_numbers first personal ne =
       let broken : Option RecallBreak = Some (record { node = n + 1; earlier = first.number }) in
@@ -209,7 +219,8 @@ module _ (tree : Forest) (kind : Kind) (game : IsGameTree tree) (inner : is_leaf
       let many : length sizes ≡ length firsts = length-map firsts (λ (w : Visit). w.node.children) in
       (joins.counts, omega arith)
 
-  begun : v.node.kind ≡ kind → (table : SetRows) (s : ℕ) (new : SetRows) → IsTableOf tree kind n table → s ≡ sequence_at kind tree v → length table.rows ≤ v.node.set - 1 →
+  begun : v.node.kind ≡ kind → (table : SetRows) (s : ℕ) (new : SetRows) → IsTableOf tree kind n table
+      → s ≡ sequence_at kind tree v → length table.rows ≤ v.node.set - 1 →
       (result : Result ℕ RecallFault) → BeginsSet table (n + 1) v.node s new result → After new s result
   begun is table s new stands sequence past (Ok first) (first_is, new_is) =
       let rows : length table.rows ≡ length firsts = rows_count table stands in
@@ -231,7 +242,8 @@ module _ (tree : Forest) (kind : Kind) (game : IsGameTree tree) (inner : is_leaf
     first : row.first ≡ first_sequence (set_sizes kind tree) v.node.set
     node : (w : Visit) × IsFirstNode tree kind row v.node w
 
-  its_row : v.node.kind ≡ kind → (table : SetRows) (row : SetRow) → IsTableOf tree kind n table → slice_get table.rows (v.node.set - 1) ≡ Some row → IsRow row
+  its_row : v.node.kind ≡ kind → (table : SetRows) (row : SetRow) → IsTableOf tree kind n table
+      → slice_get table.rows (v.node.set - 1) ≡ Some row → IsRow row
   its_row is table row stands read =
       let counts : 1 ≤ v.node.set = (set_of_node is).0 in
       let set : v.node.set ≡ v.node.set - 1 + 1 = omega arith in
@@ -239,7 +251,8 @@ module _ (tree : Forest) (kind : Kind) (game : IsGameTree tree) (inner : is_leaf
       subst (IsRowOf tree kind (v.node.set - 1 + 1)) (get_or_from_slice_get table.rows (v.node.set - 1) row row read) (stands.each (v.node.set - 1) row (is_read table.rows (v.node.set - 1) row read)) in
       record { first = stood.first ∙ ap (first_sequence (set_sizes kind tree)) (sym set); node = stood.node v.node is set }
 
-  joined : is_personal kind ≡ true → v.node.kind ≡ kind → (table : SetRows) (s : ℕ) (new : SetRows) (row : SetRow) → IsTableOf tree kind n table → s ≡ sequence_at kind tree v → slice_get table.rows (v.node.set - 1) ≡ Some row →
+  joined : is_personal kind ≡ true → v.node.kind ≡ kind → (table : SetRows) (s : ℕ) (new : SetRows) (row : SetRow)
+      → IsTableOf tree kind n table → s ≡ sequence_at kind tree v → slice_get table.rows (v.node.set - 1) ≡ Some row →
       (result : Result ℕ RecallFault) → JoinsRow row table (n + 1) s new result → After new s result
   joined personal is table s new row stands sequence read (Ok first) (same, first_is, new_is) =
       let rows : length table.rows ≡ length firsts = rows_count table stands in
@@ -266,7 +279,9 @@ module _ (tree : Forest) (kind : Kind) (game : IsGameTree tree) (inner : is_leaf
       ∙ other_numbers (record { number = row.node; visit = w }) (ap is_personal is ∙ personal) (λ e. differs (sym of_first ∙ e ∙ of_v))
       ∙ (λ i. Some (record { node = sym node_is i; earlier = sym earlier_is i }))
 
-  after_note : is_personal kind ≡ true → v.node.kind ≡ kind → (table : SetRows) (s : ℕ) (new : SetRows) (result : Result ℕ RecallFault) → IsTableOf tree kind n table → s ≡ sequence_at kind tree v → Notes table (n + 1) v.node s new result → After new s result
+  after_note : is_personal kind ≡ true → v.node.kind ≡ kind
+      → (table : SetRows) (s : ℕ) (new : SetRows) (result : Result ℕ RecallFault) → IsTableOf tree kind n table
+      → s ≡ sequence_at kind tree v → Notes table (n + 1) v.node s new result → After new s result
   after_note personal is table s new result stands sequence notes =
       elim (slice_get table.rows (v.node.set - 1)) as (λ o. slice_get table.rows (v.node.set - 1) ≡ o → NotesIn o table (n + 1) v.node s new result → After new s result) [
         | None ↦ λ past h. begun is table s new stands sequence (not_read table.rows (v.node.set - 1) past) result h
@@ -296,31 +311,38 @@ module _ (tree : Forest) (game : IsGameTree tree) (n : ℕ) (v : Visit) (next : 
   none_here : number_break tree ≡ rest_break tree n → here ≡ None → number_break tree ≡ rest_break tree (n + 1)
   none_here so_far none = break_more so_far ∙ ap (λ o. break_or o (rest_break tree (n + 1))) none
 
-  some_here : number_break tree ≡ rest_break tree n → (broken : RecallBreak) → here ≡ Some broken → number_break tree ≡ Some broken
+  some_here : number_break tree ≡ rest_break tree n → (broken : RecallBreak) → here ≡ Some broken
+      → number_break tree ≡ Some broken
   some_here so_far broken some = break_more so_far ∙ ap (λ o. break_or o (rest_break tree (n + 1))) some
 
-  not_personal : is_personal v.node.kind ≡ false → (o : Option Numbered) → break_against (differ_in_number tree) (n + 1) v o ≡ None
+  not_personal : is_personal v.node.kind ≡ false → (o : Option Numbered)
+      → break_against (differ_in_number tree) (n + 1) v o ≡ None
   not_personal other None = refl
   not_personal other (Some first) = ap (λ p. cond (p && differ_in_number tree first.visit v) (Some (record { node = n + 1; earlier = first.number })) None) other
 
   -- a kind that doesn't move at the node
-  quiet : (kind : Kind) → is_leaf_kind kind ≡ false → is_same_kind kind v.node.kind ≡ false → (table : SetRows) (s : ℕ) → IsTableOf tree kind n table → s ≡ sequence_at kind tree v → IsTableOf tree kind (n + 1) (put table s)
+  quiet : (kind : Kind) → is_leaf_kind kind ≡ false → is_same_kind kind v.node.kind ≡ false → (table : SetRows) (s : ℕ)
+      → IsTableOf tree kind n table → s ≡ sequence_at kind tree v → IsTableOf tree kind (n + 1) (put table s)
   quiet kind inner other table s stands sequence =
       quiet_stands tree kind game inner n v next table s stands (ap (λ b. b && nat_eq v.node.set (length (set_firsts kind 0 (take n (visits tree))) + 1)) other) sequence
 
-  other_below : (kind : Kind) (s : ℕ) → is_same_kind kind v.node.kind ≡ false → s ≡ sequence_at kind tree v → IsAtFirstChild tree kind v s
+  other_below : (kind : Kind) (s : ℕ) → is_same_kind kind v.node.kind ≡ false → s ≡ sequence_at kind tree v
+      → IsAtFirstChild tree kind v s
   other_below kind s other sequence = record { own = λ same. absurd (apart (sym same ∙ other)); other = λ _. sequence }
     where
       apart : true ≡ false → ⊥
       apart e = cc e
 
-  own_below : (kind : Kind) (s : ℕ) → is_same_kind kind v.node.kind ≡ true → s ≡ first_sequence (set_sizes kind tree) v.node.set → IsAtFirstChild tree kind v s
+  own_below : (kind : Kind) (s : ℕ) → is_same_kind kind v.node.kind ≡ true
+      → s ≡ first_sequence (set_sizes kind tree) v.node.set → IsAtFirstChild tree kind v s
   own_below kind s same first = record { own = λ _. first; other = λ other. absurd (apart (sym same ∙ other)) }
     where
       apart : true ≡ false → ⊥
       apart e = cc e
 
-  quiet_node : is_personal v.node.kind ≡ false → is_same_kind One v.node.kind ≡ false → is_same_kind Two v.node.kind ≡ false → (one two : SetRows) (at : Sequences) → AreTablesOf tree n one two → AreAt tree v.path at →
+  quiet_node : is_personal v.node.kind ≡ false → is_same_kind One v.node.kind ≡ false
+      → is_same_kind Two v.node.kind ≡ false → (one two : SetRows) (at : Sequences) → AreTablesOf tree n one two
+      → AreAt tree v.path at →
       AreTablesOf tree (n + 1) (put one at.one) (put two at.two) × AreAtFirstChild tree v at
   quiet_node personal not_one not_two one two at stand are = (
     record {
@@ -331,7 +353,8 @@ module _ (tree : Forest) (game : IsGameTree tree) (n : ℕ) (v : Visit) (next : 
     record { one = other_below One at.one not_one are.one; two = other_below Two at.two not_two are.two },
   )
 
-  noted_one : v.node.kind ≡ One → (one two new : SetRows) (at : Sequences) (first : ℕ) → AreTablesOf tree n one two → AreAt tree v.path at → Notes one (n + 1) v.node at.one new (Ok first) →
+  noted_one : v.node.kind ≡ One → (one two new : SetRows) (at : Sequences) (first : ℕ) → AreTablesOf tree n one two
+      → AreAt tree v.path at → Notes one (n + 1) v.node at.one new (Ok first) →
       AreTablesOf tree (n + 1) (put new at.one) (put two at.two) × AreAtFirstChild tree v (record { one = first; two = at.two })
   noted_one is one two new at first stand are notes =
       let noted = after_note tree One game refl n v next refl is one at.one new (Ok first) stand.table_one are.one notes in
@@ -345,7 +368,8 @@ module _ (tree : Forest) (game : IsGameTree tree) (n : ℕ) (v : Visit) (next : 
         record { one = own_below One first same noted.first_is; two = other_below Two at.two other are.two },
       )
 
-  noted_two : v.node.kind ≡ Two → (one two new : SetRows) (at : Sequences) (first : ℕ) → AreTablesOf tree n one two → AreAt tree v.path at → Notes two (n + 1) v.node at.two new (Ok first) →
+  noted_two : v.node.kind ≡ Two → (one two new : SetRows) (at : Sequences) (first : ℕ) → AreTablesOf tree n one two
+      → AreAt tree v.path at → Notes two (n + 1) v.node at.two new (Ok first) →
       AreTablesOf tree (n + 1) (put one at.one) (put new at.two) × AreAtFirstChild tree v (record { one = at.one; two = first })
   noted_two is one two new at first stand are notes =
       let noted = after_note tree Two game refl n v next refl is two at.two new (Ok first) stand.table_two are.two notes in
@@ -359,16 +383,22 @@ module _ (tree : Forest) (game : IsGameTree tree) (n : ℕ) (v : Visit) (next : 
         record { one = other_below One at.one other are.one; two = own_below Two first same noted.first_is },
       )
 
-  broken_at : (kind : Kind) → is_leaf_kind kind ≡ false → is_personal kind ≡ true → v.node.kind ≡ kind → (table new : SetRows) (s : ℕ) → IsTableOf tree kind n table → number_break tree ≡ rest_break tree n → s ≡ sequence_at kind tree v →
+  broken_at : (kind : Kind) → is_leaf_kind kind ≡ false → is_personal kind ≡ true → v.node.kind ≡ kind
+      → (table new : SetRows) (s : ℕ) → IsTableOf tree kind n table → number_break tree ≡ rest_break tree n
+      → s ≡ sequence_at kind tree v →
       (fault : RecallFault) → Notes table (n + 1) v.node s new (Err fault) → FindsBreak tree fault
   broken_at kind inner personal is table new s stands so_far sequence NoMemory notes = tt
   broken_at kind inner personal is table new s stands so_far sequence (NotRecall node earlier) notes =
       some_here so_far (record { node = node; earlier = earlier }) (after_note tree kind game inner n v next personal is table s new (Err (NotRecall node earlier)) stands sequence notes)
 
-  broken_one : v.node.kind ≡ One → (one two new : SetRows) (at : Sequences) (fault : RecallFault) → AreTablesOf tree n one two → AreAt tree v.path at → Notes one (n + 1) v.node at.one new (Err fault) → FindsBreak tree fault
+  broken_one : v.node.kind ≡ One → (one two new : SetRows) (at : Sequences) (fault : RecallFault)
+      → AreTablesOf tree n one two → AreAt tree v.path at → Notes one (n + 1) v.node at.one new (Err fault)
+      → FindsBreak tree fault
   broken_one is one two new at fault stand are notes = broken_at One refl refl is one new at.one stand.table_one stand.no_break are.one fault notes
 
-  broken_two : v.node.kind ≡ Two → (one two new : SetRows) (at : Sequences) (fault : RecallFault) → AreTablesOf tree n one two → AreAt tree v.path at → Notes two (n + 1) v.node at.two new (Err fault) → FindsBreak tree fault
+  broken_two : v.node.kind ≡ Two → (one two new : SetRows) (at : Sequences) (fault : RecallFault)
+      → AreTablesOf tree n one two → AreAt tree v.path at → Notes two (n + 1) v.node at.two new (Err fault)
+      → FindsBreak tree fault
   broken_two is one two new at fault stand are notes = broken_at Two refl refl is two new at.two stand.table_two stand.no_break are.two fault notes
 
 -- the same of the node that the tree gives, as node number n + 1
@@ -389,26 +419,30 @@ module _ (tree : Forest) (game : IsGameTree tree) (n : ℕ) (there : n < node_co
 
   -- the sequences of the next set have small numbers
 
-  pub room_at : (kind : Kind) → is_leaf_kind kind ≡ false → (table : SetRows) → IsTableOf tree kind n table → table.next + x.children < 2 ^ 32
+  pub room_at : (kind : Kind) → is_leaf_kind kind ≡ false → (table : SetRows) → IsTableOf tree kind n table
+      → table.next + x.children < 2 ^ 32
   room_at kind inner table stands = subst (λ y. table.next + y.children < 2 ^ 32) is_node (room_for tree kind game inner n v next table stands)
 
   -- player one moves there, and was noted
 
-  pub noted_one_at : x.kind ≡ One → (one two new : SetRows) (at : Sequences) (first : ℕ) → AreTablesOf tree n one two → AreAt tree v.path at → Notes one (n + 1) x at.one new (Ok first) →
+  pub noted_one_at : x.kind ≡ One → (one two new : SetRows) (at : Sequences) (first : ℕ) → AreTablesOf tree n one two
+      → AreAt tree v.path at → Notes one (n + 1) x at.one new (Ok first) →
       AreTablesOf tree (n + 1) (put new at.one) (put two at.two) × AreAtFirstChild tree v (record { one = first; two = at.two })
   noted_one_at is one two new at first stand are notes =
       noted_one tree game n v next (ap (λ y. y.kind) is_node ∙ is) one two new at first stand are (subst (λ y. Notes one (n + 1) y at.one new (Ok first)) (sym is_node) notes)
 
   -- player two moves there, and was noted
 
-  pub noted_two_at : x.kind ≡ Two → (one two new : SetRows) (at : Sequences) (first : ℕ) → AreTablesOf tree n one two → AreAt tree v.path at → Notes two (n + 1) x at.two new (Ok first) →
+  pub noted_two_at : x.kind ≡ Two → (one two new : SetRows) (at : Sequences) (first : ℕ) → AreTablesOf tree n one two
+      → AreAt tree v.path at → Notes two (n + 1) x at.two new (Ok first) →
       AreTablesOf tree (n + 1) (put one at.one) (put new at.two) × AreAtFirstChild tree v (record { one = at.one; two = first })
   noted_two_at is one two new at first stand are notes =
       noted_two tree game n v next (ap (λ y. y.kind) is_node ∙ is) one two new at first stand are (subst (λ y. Notes two (n + 1) y at.two new (Ok first)) (sym is_node) notes)
 
   -- no player moves there
 
-  pub quiet_at : is_personal x.kind ≡ false → (one two : SetRows) (at : Sequences) → AreTablesOf tree n one two → AreAt tree v.path at →
+  pub quiet_at : is_personal x.kind ≡ false → (one two : SetRows) (at : Sequences) → AreTablesOf tree n one two
+      → AreAt tree v.path at →
       AreTablesOf tree (n + 1) (put one at.one) (put two at.two) × AreAtFirstChild tree v at
   quiet_at other one two at stand are =
       let personal : is_personal v.node.kind ≡ false = ap (λ y. is_personal y.kind) is_node ∙ other in
@@ -422,12 +456,16 @@ module _ (tree : Forest) (game : IsGameTree tree) (n : ℕ) (there : n < node_co
 
   -- player one moves there, and recall breaks
 
-  pub broken_one_at : x.kind ≡ One → (one two new : SetRows) (at : Sequences) (fault : RecallFault) → AreTablesOf tree n one two → AreAt tree v.path at → Notes one (n + 1) x at.one new (Err fault) → FindsBreak tree fault
+  pub broken_one_at : x.kind ≡ One → (one two new : SetRows) (at : Sequences) (fault : RecallFault)
+      → AreTablesOf tree n one two → AreAt tree v.path at → Notes one (n + 1) x at.one new (Err fault)
+      → FindsBreak tree fault
   broken_one_at is one two new at fault stand are notes =
       broken_one tree game n v next (ap (λ y. y.kind) is_node ∙ is) one two new at fault stand are (subst (λ y. Notes one (n + 1) y at.one new (Err fault)) (sym is_node) notes)
 
   -- player two moves there, and recall breaks
 
-  pub broken_two_at : x.kind ≡ Two → (one two new : SetRows) (at : Sequences) (fault : RecallFault) → AreTablesOf tree n one two → AreAt tree v.path at → Notes two (n + 1) x at.two new (Err fault) → FindsBreak tree fault
+  pub broken_two_at : x.kind ≡ Two → (one two new : SetRows) (at : Sequences) (fault : RecallFault)
+      → AreTablesOf tree n one two → AreAt tree v.path at → Notes two (n + 1) x at.two new (Err fault)
+      → FindsBreak tree fault
   broken_two_at is one two new at fault stand are notes =
       broken_two tree game n v next (ap (λ y. y.kind) is_node ∙ is) one two new at fault stand are (subst (λ y. Notes two (n + 1) y at.two new (Err fault)) (sym is_node) notes)

@@ -17,13 +17,15 @@ use Rattle.xg_sets.specs.declared.parents.Sequences.{Sequences}
 use Rattle.xg_sets.specs.Parents.{HasChild, TakesChild, after, sequences_after, with_parent, without_child}
 use Rattle.xg_sets.specs.Entered.{AreAt, AreAtFirstChild, IsAtFirstChild, IsParentOf, number_of}
 
-one_after : (kind : Kind) (next : Sequences) (j : ℕ) → next.one + cond (is_same_kind One kind) (j + 1) 0 ≡ (sequences_after kind next).one + cond (is_same_kind One kind) j 0
+one_after : (kind : Kind) (next : Sequences) (j : ℕ)
+    → next.one + cond (is_same_kind One kind) (j + 1) 0 ≡ (sequences_after kind next).one + cond (is_same_kind One kind) j 0
 one_after Chance next j = refl
 one_after One next j = omega arith
 one_after Two next j = refl
 one_after Leaf next j = refl
 
-two_after : (kind : Kind) (next : Sequences) (j : ℕ) → next.two + cond (is_same_kind Two kind) (j + 1) 0 ≡ (sequences_after kind next).two + cond (is_same_kind Two kind) j 0
+two_after : (kind : Kind) (next : Sequences) (j : ℕ)
+    → next.two + cond (is_same_kind Two kind) (j + 1) 0 ≡ (sequences_after kind next).two + cond (is_same_kind Two kind) j 0
 two_after Chance next j = refl
 two_after One next j = refl
 two_after Two next j = omega arith
@@ -43,7 +45,8 @@ module _ (tree : Forest) where
       ] refl
 
   -- the first tree under the innermost parent is entered
-  enter_first : (node : Node) (below beside : Forest) (above : ℕ → List Move) (action : ℕ) (later : List Visit) (innermost : Parent) (outer : List Parent) (at : Sequences) →
+  enter_first : (node : Node) (below beside : Forest) (above : ℕ → List Move) (action : ℕ) (later : List Visit) (innermost : Parent) (outer : List Parent) (at : Sequences)
+      →
       IsParentOf tree (record { above = above; action = action; trees = grown node below beside }) innermost → Stand outer later → AreAtFirstChild tree (record { path = above action; node = node }) at →
       Stand (with_parent node at (without_child innermost outer)) (visits_from (λ next. record { node = node; action = next } ∷ above action) 1 below ++ (visits_from above (action + 1) beside ++ later))
   enter_first node below beside above action later innermost outer at is_parent stand are =

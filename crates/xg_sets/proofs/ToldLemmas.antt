@@ -31,7 +31,8 @@ use Rattle.xg_sets.specs.Table.{HasFewRows, SetRows}
 use Rattle.xg_sets.specs.Told.{of_player, set_of, told}
 
 -- what a row tells of its set is told at the set's place
-pub told_at : (rows : List SetRow) (sets : List InformationSet) (f : InformationSet → ℕ) (i : ℕ) (row : SetRow) → map set_of rows ≡ sets → slice_get rows i ≡ Some row → slice_get (map f sets) i ≡ Some (f (set_of row))
+pub told_at : (rows : List SetRow) (sets : List InformationSet) (f : InformationSet → ℕ) (i : ℕ) (row : SetRow)
+    → map set_of rows ≡ sets → slice_get rows i ≡ Some row → slice_get (map f sets) i ≡ Some (f (set_of row))
 told_at rows sets f i row same read =
     ap (λ xs. slice_get (map f xs) i) (sym same) ∙ slice_get-map f (map set_of rows) i
     ∙ ap (option_map f) (slice_get-map set_of rows i ∙ ap (option_map set_of) read)
@@ -46,7 +47,8 @@ abbrev pub whole : Parent
 whole = record { kind = Chance; to_come = 1; next = record { one = 0; two = 0 } }
 
 -- before the first node the whole tree is to come
-pub stands_first : (tree : Forest) → IsGameTree tree → HasEntered tree 0 (record { tables = record { one = no_sets; two = no_sets }; parents = whole ∷ [] })
+pub stands_first : (tree : Forest) → IsGameTree tree
+    → HasEntered tree 0 (record { tables = record { one = no_sets; two = no_sets }; parents = whole ∷ [] })
 stands_first tree game = record {
   tables = record { table_one = table_starts tree One; table_two = table_starts tree Two; no_break = refl };
   nodes = (
@@ -59,12 +61,14 @@ stands_first tree game = record {
 }
 
 -- what numbers find is the break that is told
-pub tells_break : (tree : Forest) → IsGameTree tree → (fault : RecallFault) → FindsBreak tree fault → TellsBreakOf tree fault
+pub tells_break : (tree : Forest) → IsGameTree tree → (fault : RecallFault) → FindsBreak tree fault
+    → TellsBreakOf tree fault
 tells_break tree game NoMemory found = tt
 tells_break tree game (NotRecall node earlier) found = ap (λ o. unless_broken o (tree_sets tree)) (sym (numbers_find_the_break tree game) ∙ found)
 
 -- what numbers find is the first break
-pub is_first_break : (tree : Forest) → IsGameTree tree → (fault : RecallFault) → FindsBreak tree fault → IsFirstBreakOf tree fault
+pub is_first_break : (tree : Forest) → IsGameTree tree → (fault : RecallFault) → FindsBreak tree fault
+    → IsFirstBreakOf tree fault
 is_first_break tree game NoMemory found = tt
 is_first_break tree game (NotRecall node earlier) found = λ d. break_first tree d (record { node = node; earlier = earlier }) (sym (numbers_find_the_break tree game) ∙ found)
 
@@ -80,7 +84,8 @@ module _ (tree : Forest) (game : IsGameTree tree) (n : ℕ) (last : n ≡ node_c
 
   -- a tree has no more sets than nodes
 
-  pub has_few : (kind : Kind) → is_leaf_kind kind ≡ false → (table : SetRows) → IsTableOf tree kind n table → HasFewRows table
+  pub has_few : (kind : Kind) → is_leaf_kind kind ≡ false → (table : SetRows) → IsTableOf tree kind n table
+      → HasFewRows table
   has_few kind inner table stands =
       let few = sequences_are_few tree game kind inner in
       let limit : node_count tree ≤ 1048576 = game.limit in
@@ -105,7 +110,8 @@ module _ (tree : Forest) (game : IsGameTree tree) (n : ℕ) (last : n ≡ node_c
   has_recall one two stand = recall_of_none tree (no_break one two stand)
 
 -- a sequence is told for each node of the tree
-pub told_for_nodes : (tree : Forest) (sets : TreeSets) (player : Player) → sets_or_break tree ≡ Ok sets → length (of_player player sets).at_nodes ≡ node_count tree
+pub told_for_nodes : (tree : Forest) (sets : TreeSets) (player : Player) → sets_or_break tree ≡ Ok sets
+    → length (of_player player sets).at_nodes ≡ node_count tree
 told_for_nodes tree sets player told = ap (λ all. length (of_player player all).at_nodes) (sets_are_exact.only tree sets told) ∙ many player
   where
     many : (player : Player) → length (of_player player (tree_sets tree)).at_nodes ≡ node_count tree

@@ -56,8 +56,10 @@ pub record IsParentOf (tree : Forest) (trees : ComingTrees) (parent : Parent) : 
   pub some : 1 ≤ parent.to_come
   pub count : tree_count trees.trees ≡ parent.to_come
   pub children : HasItsChildren trees.trees
-  pub one : (j : ℕ) → number_of One tree (trees.above (trees.action + j)) ≡ parent.next.one + (if is_same_kind One parent.kind then j else 0)
-  pub two : (j : ℕ) → number_of Two tree (trees.above (trees.action + j)) ≡ parent.next.two + (if is_same_kind Two parent.kind then j else 0)
+  pub one : (j : ℕ)
+      → number_of One tree (trees.above (trees.action + j)) ≡ parent.next.one + (if is_same_kind One parent.kind then j else 0)
+  pub two : (j : ℕ)
+      → number_of Two tree (trees.above (trees.action + j)) ≡ parent.next.two + (if is_same_kind Two parent.kind then j else 0)
 
 -- the first k nodes were entered
 pub record HasEntered (tree : Forest) (k : ℕ) (building : Building) : Type 0 where

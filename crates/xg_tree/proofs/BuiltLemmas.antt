@@ -17,7 +17,8 @@ use Rattle.xg_tree.proofs.SizesLemmas.{HoldSizes-push, no_sizes}
 pub all_few : (nodes : List Node) → KeepRules nodes → All (λ node. node.children ≤ 1024) nodes
 all_few nodes keep k d there = children-le (take k nodes) (get_or nodes k d) (keep k d there)
 
-pub wanted-le : (n : ℕ) (nodes : List Node) → All (λ node. node.children ≤ 1024) nodes → wanted n nodes ≤ n + 1024 * length nodes
+pub wanted-le : (n : ℕ) (nodes : List Node) → All (λ node. node.children ≤ 1024) nodes
+    → wanted n nodes ≤ n + 1024 * length nodes
 wanted-le n [] few = omega arith
 wanted-le n (x ∷ xs) few =
     let this : x.children ≤ 1024 = All-head (λ node. node.children ≤ 1024) x xs few in
@@ -25,14 +26,17 @@ wanted-le n (x ∷ xs) few =
     omega arith
 
 -- what is still wanted is a 32-bit number
-pub wanted_fits : (nodes : List Node) (node : Node) → KeepRules nodes → Fits nodes node → length nodes < 1048576 → wanted 1 nodes - 1 + node.children < 2 ^ 32
+pub wanted_fits : (nodes : List Node) (node : Node) → KeepRules nodes → Fits nodes node → length nodes < 1048576
+    → wanted 1 nodes - 1 + node.children < 2 ^ 32
 wanted_fits nodes node keep fits short =
     let bound : wanted 1 nodes ≤ 1 + 1024 * length nodes = wanted-le 1 nodes (all_few nodes keep) in
     let few : node.children ≤ 1024 = children-le nodes node fits in
     omega arith
 
 -- one node more, where one is wanted and it fits, takes its place and opens one for each child
-pub IsBuilt-push : (nodes : List Node) (wanting ended : ℕ) (sizes : SizeLists) (node : Node) → IsBuilt nodes wanting ended sizes → wanting ≢ 0 → Fits nodes node → length nodes < 1048576 → IsBuilt (nodes ++ node ∷ []) (wanting - 1 + node.children) (ended + leaf_count (node ∷ [])) (with_size sizes node)
+pub IsBuilt-push : (nodes : List Node) (wanting ended : ℕ) (sizes : SizeLists) (node : Node)
+    → IsBuilt nodes wanting ended sizes → wanting ≢ 0 → Fits nodes node → length nodes < 1048576
+    → IsBuilt (nodes ++ node ∷ []) (wanting - 1 + node.children) (ended + leaf_count (node ∷ [])) (with_size sizes node)
 IsBuilt-push nodes wanting ended sizes node built some fits short =
     let wants : wanting ≡ wanted 1 nodes = built.wants in
     let ends : ended ≡ leaf_count nodes = built.ends in
@@ -60,9 +64,11 @@ no_nodes = record {
 }
 
 -- where no node is wanted any more, the nodes are a tree's
-pub kept_of_built : (nodes : List Node) (wanting ended : ℕ) (sizes : SizeLists) → IsBuilt nodes wanting ended sizes → wanted 1 nodes ≡ 0 → IsKept nodes ended
+pub kept_of_built : (nodes : List Node) (wanting ended : ℕ) (sizes : SizeLists) → IsBuilt nodes wanting ended sizes
+    → wanted 1 nodes ≡ 0 → IsKept nodes ended
 kept_of_built nodes wanting ended sizes built none = record { whole = record { begins = built.begins; ends = none }; rules = built.rules; limit = built.limit; ends = built.ends }
 
 -- what is built of some nodes is built of equal ones, with equal counts of leaves and equal sizes
-pub IsBuilt-same : (xs ys : List Node) (wanting l m : ℕ) (s t : SizeLists) → xs ≡ ys → l ≡ m → s ≡ t → IsBuilt ys wanting m t → IsBuilt xs wanting l s
+pub IsBuilt-same : (xs ys : List Node) (wanting l m : ℕ) (s t : SizeLists) → xs ≡ ys → l ≡ m → s ≡ t
+    → IsBuilt ys wanting m t → IsBuilt xs wanting l s
 IsBuilt-same xs ys wanting l m s t nodes ends sizes built = subst (λ v. IsBuilt v wanting l s) (sym nodes) (subst (λ v. IsBuilt ys wanting v s) (sym ends) (subst (IsBuilt ys wanting m) (sym sizes) built))

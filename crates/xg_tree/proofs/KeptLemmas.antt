@@ -13,7 +13,8 @@ pub prefix_seen : (nodes : List Node) (tree : Forest) → forest_of nodes ≡ tr
 prefix_seen nodes tree e = ap prefix (sym e) ∙ prefix-forest_of nodes
 
 -- the tree that kept nodes make is one of a game
-pub game_tree_seen : (nodes : List Node) (ended : ℕ) (tree : Forest) → forest_of nodes ≡ tree → IsKept nodes ended → IsGameTree tree
+pub game_tree_seen : (nodes : List Node) (ended : ℕ) (tree : Forest) → forest_of nodes ≡ tree → IsKept nodes ended
+    → IsGameTree tree
 game_tree_seen nodes ended tree e h =
     let same : prefix tree ≡ nodes = prefix_seen nodes tree e in
     let limit : length nodes ≤ 1048576 = h.limit in
@@ -24,5 +25,6 @@ game_tree_seen nodes ended tree e h =
     }
 
 -- the node at a place of the list is the node there of the tree in prefix order
-pub node_seen : (nodes : List Node) (tree : Forest) (k : ℕ) (node : Node) → forest_of nodes ≡ tree → k < length nodes → node ≡ get_or nodes k node → slice_get (prefix tree) k ≡ Some node
+pub node_seen : (nodes : List Node) (tree : Forest) (k : ℕ) (node : Node) → forest_of nodes ≡ tree → k < length nodes
+    → node ≡ get_or nodes k node → slice_get (prefix tree) k ≡ Some node
 node_seen nodes tree k node e there is = ap (λ xs. slice_get xs k) (prefix_seen nodes tree e) ∙ slice_get_read nodes (length nodes) k node refl there is

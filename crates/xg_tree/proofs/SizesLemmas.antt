@@ -11,7 +11,8 @@ use Rattle.def_tree.specs.Rules.{is_same_kind, set_count, AgreeOnSize, JoinsSet,
 use Rattle.def_tree.proofs.Sets.{is_same_kind_self, set_count-push_same, set_count-push_other}
 use Rattle.xg_tree.specs.Sizes.{SizeLists, JoinsSizes, FitsSizes, FitsSizesAs, noted, with_size, noted_as, HasSize, AreSizes, HoldSizes}
 
-pub joins_set_of_sizes : (kind : Kind) (nodes : List Node) (sizes : List ℕ) (node : Node) → node.kind ≡ kind → AreSizes kind nodes sizes → JoinsSizes sizes node.set node.children → JoinsSet nodes node
+pub joins_set_of_sizes : (kind : Kind) (nodes : List Node) (sizes : List ℕ) (node : Node) → node.kind ≡ kind
+    → AreSizes kind nodes sizes → JoinsSizes sizes node.set node.children → JoinsSet nodes node
 joins_set_of_sizes kind nodes sizes node is held joins =
     let count : length sizes ≡ set_count kind nodes = held.count in
     let same : set_count node.kind nodes ≡ set_count kind nodes = ap (λ k. set_count k nodes) is in
@@ -28,7 +29,8 @@ joins_set_of_sizes kind nodes sizes node is held joins =
           sym has.size ∙ ap (λ n. get_or sizes (n - 1) 0) sets ∙ joins.agrees here;
     }
 
-pub joins_sizes_of_set : (kind : Kind) (nodes : List Node) (sizes : List ℕ) (node : Node) → node.kind ≡ kind → AreSizes kind nodes sizes → JoinsSet nodes node → JoinsSizes sizes node.set node.children
+pub joins_sizes_of_set : (kind : Kind) (nodes : List Node) (sizes : List ℕ) (node : Node) → node.kind ≡ kind
+    → AreSizes kind nodes sizes → JoinsSet nodes node → JoinsSizes sizes node.set node.children
 joins_sizes_of_set kind nodes sizes node is held joins =
     let count : length sizes ≡ set_count kind nodes = held.count in
     let same : set_count node.kind nodes ≡ set_count kind nodes = ap (λ k. set_count k nodes) is in
@@ -45,14 +47,16 @@ joins_sizes_of_set kind nodes sizes node is held joins =
           sym met.1.1.1.1 ∙ All-contains (λ earlier. AgreeOnSize earlier node) nodes met.0 joins.agrees met.1.0 (met.1.1.0 ∙ sym is) (omega arith);
     }
 
-fits_as : (kind : Kind) (nodes : List Node) (sizes : SizeLists) (node : Node) → node.kind ≡ kind → HoldSizes nodes sizes → FitsSizesAs kind sizes node ↔ FitsAs kind nodes node
+fits_as : (kind : Kind) (nodes : List Node) (sizes : SizeLists) (node : Node) → node.kind ≡ kind → HoldSizes nodes sizes
+    → FitsSizesAs kind sizes node ↔ FitsAs kind nodes node
 fits_as Chance nodes sizes node is held = (joins_set_of_sizes Chance nodes sizes.chance node is held.chance, joins_sizes_of_set Chance nodes sizes.chance node is held.chance)
 fits_as One nodes sizes node is held = (joins_set_of_sizes One nodes sizes.one node is held.one, joins_sizes_of_set One nodes sizes.one node is held.one)
 fits_as Two nodes sizes node is held = (joins_set_of_sizes Two nodes sizes.two node is held.two, joins_sizes_of_set Two nodes sizes.two node is held.two)
 fits_as Leaf nodes sizes node is held = (λ h. h, λ h. h)
 
 -- the sizes tell exactly which nodes keep the rules
-pub fits_iff : (nodes : List Node) (sizes : SizeLists) (node : Node) → HoldSizes nodes sizes → FitsSizes sizes node ↔ Fits nodes node
+pub fits_iff : (nodes : List Node) (sizes : SizeLists) (node : Node) → HoldSizes nodes sizes
+    → FitsSizes sizes node ↔ Fits nodes node
 fits_iff nodes sizes node held = fits_as node.kind nodes sizes node refl held
 
 -- where there are no nodes yet, there are no sizes of sets
@@ -60,7 +64,8 @@ pub no_sizes : (kind : Kind) → AreSizes kind [] []
 no_sizes kind = record { count = refl; each = λ k d h. absurd (omega arith); met = λ i h. absurd (omega arith) }
 
 -- a node of another kind leaves the sizes as they are
-pub sizes-push_other : (kind : Kind) (nodes : List Node) (sizes : List ℕ) (node : Node) → is_same_kind kind node.kind ≡ false → AreSizes kind nodes sizes → AreSizes kind (nodes ++ node ∷ []) sizes
+pub sizes-push_other : (kind : Kind) (nodes : List Node) (sizes : List ℕ) (node : Node)
+    → is_same_kind kind node.kind ≡ false → AreSizes kind nodes sizes → AreSizes kind (nodes ++ node ∷ []) sizes
 sizes-push_other kind nodes sizes node other held = record {
   count = held.count ∙ sym (set_count-push_other kind nodes node other);
   each = All-push (λ x. x.kind ≡ kind → HasSize sizes x.set x.children) nodes node held.each
@@ -69,7 +74,9 @@ sizes-push_other kind nodes sizes node other held = record {
 }
 
 -- one of the kind, in a set that came before
-sizes-push_seen : (kind : Kind) (nodes : List Node) (sizes : List ℕ) (node : Node) → node.kind ≡ kind → AreSizes kind nodes sizes → JoinsSizes sizes node.set node.children → node.set ≤ length sizes → AreSizes kind (nodes ++ node ∷ []) sizes
+sizes-push_seen : (kind : Kind) (nodes : List Node) (sizes : List ℕ) (node : Node) → node.kind ≡ kind
+    → AreSizes kind nodes sizes → JoinsSizes sizes node.set node.children → node.set ≤ length sizes
+    → AreSizes kind (nodes ++ node ∷ []) sizes
 sizes-push_seen kind nodes sizes node is held joins here =
     let count : length sizes ≡ set_count kind nodes = held.count in
     let more : set_count kind (nodes ++ node ∷ []) ≡ max node.set (set_count kind nodes) = set_count-push_same kind nodes node (is_same_kind_self kind node.kind is) in
@@ -80,7 +87,9 @@ sizes-push_seen kind nodes sizes node is held joins here =
     }
 
 -- and in a new one
-sizes-push_new : (kind : Kind) (nodes : List Node) (sizes : List ℕ) (node : Node) → node.kind ≡ kind → AreSizes kind nodes sizes → JoinsSizes sizes node.set node.children → length sizes < node.set → AreSizes kind (nodes ++ node ∷ []) (sizes ++ node.children ∷ [])
+sizes-push_new : (kind : Kind) (nodes : List Node) (sizes : List ℕ) (node : Node) → node.kind ≡ kind
+    → AreSizes kind nodes sizes → JoinsSizes sizes node.set node.children → length sizes < node.set
+    → AreSizes kind (nodes ++ node ∷ []) (sizes ++ node.children ∷ [])
 sizes-push_new kind nodes sizes node is held joins beyond =
     let count : length sizes ≡ set_count kind nodes = held.count in
     let more : set_count kind (nodes ++ node ∷ []) ≡ max node.set (set_count kind nodes) = set_count-push_same kind nodes node (is_same_kind_self kind node.kind is) in
@@ -110,13 +119,16 @@ sizes-push_new kind nodes sizes node is held joins beyond =
     }
 
 -- one of the kind, in a set that fits
-pub sizes-push_same : (kind : Kind) (nodes : List Node) (sizes : List ℕ) (node : Node) → node.kind ≡ kind → AreSizes kind nodes sizes → JoinsSizes sizes node.set node.children → AreSizes kind (nodes ++ node ∷ []) (noted sizes node.set node.children)
+pub sizes-push_same : (kind : Kind) (nodes : List Node) (sizes : List ℕ) (node : Node) → node.kind ≡ kind
+    → AreSizes kind nodes sizes → JoinsSizes sizes node.set node.children
+    → AreSizes kind (nodes ++ node ∷ []) (noted sizes node.set node.children)
 sizes-push_same kind nodes sizes node is held joins = elim (cases_lt (length sizes) node.set) [
   | inl beyond ↦ subst (AreSizes kind (nodes ++ node ∷ [])) (sym (ap (λ b. cond b (sizes ++ node.children ∷ []) sizes) (lt-ltb (length sizes) node.set beyond))) (sizes-push_new kind nodes sizes node is held joins beyond)
   | inr here ↦ subst (AreSizes kind (nodes ++ node ∷ [])) (sym (ap (λ b. cond b (sizes ++ node.children ∷ []) sizes) (le-ltb (length sizes) node.set here))) (sizes-push_seen kind nodes sizes node is held joins here)
 ]
 
-push_as : (kind : Kind) (nodes : List Node) (sizes : SizeLists) (node : Node) → node.kind ≡ kind → HoldSizes nodes sizes → FitsSizesAs kind sizes node → HoldSizes (nodes ++ node ∷ []) (noted_as kind sizes node)
+push_as : (kind : Kind) (nodes : List Node) (sizes : SizeLists) (node : Node) → node.kind ≡ kind → HoldSizes nodes sizes
+    → FitsSizesAs kind sizes node → HoldSizes (nodes ++ node ∷ []) (noted_as kind sizes node)
 push_as Chance nodes sizes node is held fits = record {
   chance = sizes-push_same Chance nodes sizes.chance node is held.chance fits;
   one = sizes-push_other One nodes sizes.one node (ap (is_same_kind One) is) held.one;
@@ -139,5 +151,6 @@ push_as Leaf nodes sizes node is held fits = record {
 }
 
 -- the sizes with that of a node that fits are those of all the nodes
-pub HoldSizes-push : (nodes : List Node) (sizes : SizeLists) (node : Node) → HoldSizes nodes sizes → Fits nodes node → HoldSizes (nodes ++ node ∷ []) (with_size sizes node)
+pub HoldSizes-push : (nodes : List Node) (sizes : SizeLists) (node : Node) → HoldSizes nodes sizes → Fits nodes node
+    → HoldSizes (nodes ++ node ∷ []) (with_size sizes node)
 HoldSizes-push nodes sizes node held fits = push_as node.kind nodes sizes node refl held ((fits_iff nodes sizes node held).1 fits)

@@ -50,7 +50,8 @@ pub record HasSize (sizes : List ℕ) (set children : ℕ) : Type 0 where
 pub record AreSizes (kind : Kind) (nodes : List Node) (sizes : List ℕ) : Type 0 where
   pub count : length sizes ≡ set_count kind nodes
   pub each : All (λ node. node.kind ≡ kind → HasSize sizes node.set node.children) nodes
-  pub met : (i : ℕ) → i < length sizes → (node : Node) × (Contains nodes node × ((node.kind ≡ kind) × ((node.set ≡ i + 1) × (node.children ≡ slice_index sizes i))))
+  pub met : (i : ℕ) → i < length sizes
+      → (node : Node) × (Contains nodes node × ((node.kind ≡ kind) × ((node.set ≡ i + 1) × (node.children ≡ slice_index sizes i))))
 
 pub record HoldSizes (nodes : List Node) (sizes : SizeLists) : Type 0 where
   pub chance : AreSizes Chance nodes sizes.chance

@@ -5,12 +5,14 @@ use Rattle.def_fraction.specs.Fraction.{Fraction, fits, signed}
 use Rattle.xg_frac.proofs.PartLemmas.{AreParts-from_divisor, view-from_divisor, over_limit}
 use Rattle.xg_frac.proofs.fraction.reduced.Goals as goal
 
-kept_num : (c : goal.After-with_sign) → to_z w64 (of_z w64 c.with_sign.result) ≡ signed c.args.negative (c.args.num / c.greatest_common_divisor-common.result)
+kept_num : (c : goal.After-with_sign)
+    → to_z w64 (of_z w64 c.with_sign.result) ≡ signed c.args.negative (c.args.num / c.greatest_common_divisor-common.result)
 kept_num c =
     to_z-of_z w64 c.with_sign.result (record { sfits = c.with_sign.type_inv }) ∙ c.with_sign.ensures
     ∙ ap (signed c.args.negative) c.quotient-num.ensures
 
-kept_den : (c : goal.After-with_sign) → to_z w64 c.quotient-den.result ≡ pos (c.args.den / c.greatest_common_divisor-common.result)
+kept_den : (c : goal.After-with_sign)
+    → to_z w64 c.quotient-den.result ≡ pos (c.args.den / c.greatest_common_divisor-common.result)
 kept_den c = to_z_pos w64 _ (omega arith) ∙ ap pos c.quotient-den.ensures
 
 pub returns-then-num-gt-MOST : goal.returns-then-num-gt-MOST

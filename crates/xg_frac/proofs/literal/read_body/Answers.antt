@@ -9,9 +9,13 @@ use Rattle.xg_frac.proofs.ScanLemmas.{quotient_of-decimal_of, capped-append, par
 use Rattle.xg_frac.proofs.literal.read_body.Goals as goal
 
 -- the decimal with a point, by what the parts of the reading gave
-with_point : (bs rest tail : List ℕ) (n m digits places : ℕ) (r : Option Quotient) → rest ≡ after_digits bs → 1 ≤ length rest → get_or rest 0 0 ≡ 46 → n ≡ capped 0 (leading_digits bs)
-    → m ≡ capped n (leading_digits (take (length rest - 1) (drop 1 rest))) → digits ≡ length (leading_digits bs) + places → places ≡ length (leading_digits (take (length rest - 1) (drop 1 rest)))
-    → tail ≡ after_digits (take (length rest - 1) (drop 1 rest)) → r ≡ cond (ltb 0 digits) (option_map (decimal_quotient m places) (power_of tail)) None
+with_point : (bs rest tail : List ℕ) (n m digits places : ℕ) (r : Option Quotient) → rest ≡ after_digits bs
+    → 1 ≤ length rest → get_or rest 0 0 ≡ 46 → n ≡ capped 0 (leading_digits bs)
+    → m ≡ capped n (leading_digits (take (length rest - 1) (drop 1 rest)))
+    → digits ≡ length (leading_digits bs) + places
+    → places ≡ length (leading_digits (take (length rest - 1) (drop 1 rest)))
+    → tail ≡ after_digits (take (length rest - 1) (drop 1 rest))
+    → r ≡ cond (ltb 0 digits) (option_map (decimal_quotient m places) (power_of tail)) None
     → r ≡ option_map quotient_of (body_of bs)
 unfolding body_of
 with_point bs rest tail n m digits places r e some point en em ed ep et er =
@@ -30,8 +34,11 @@ with_point bs rest tail n m digits places r e some point en em ed ep et er =
     ∙ sym (quotient_of-decimal_of before (Some ds) (after_digits inner) m number)
     ∙ ap (option_map quotient_of) (sym body)
 
-without_point : (bs rest : List ℕ) (n digits : ℕ) (r : Option Quotient) → rest ≡ after_digits bs → (get_or rest 0 0 ≡ 47 → ⊥) → (get_or rest 0 0 ≡ 46 → ⊥) → n ≡ capped 0 (leading_digits bs)
-    → digits ≡ length (leading_digits bs) → r ≡ cond (ltb 0 digits) (option_map (decimal_quotient n 0) (power_of rest)) None → r ≡ option_map quotient_of (body_of bs)
+without_point : (bs rest : List ℕ) (n digits : ℕ) (r : Option Quotient) → rest ≡ after_digits bs
+    → (get_or rest 0 0 ≡ 47 → ⊥) → (get_or rest 0 0 ≡ 46 → ⊥) → n ≡ capped 0 (leading_digits bs)
+    → digits ≡ length (leading_digits bs)
+    → r ≡ cond (ltb 0 digits) (option_map (decimal_quotient n 0) (power_of rest)) None
+    → r ≡ option_map quotient_of (body_of bs)
 unfolding body_of
 without_point bs rest n digits r e no_slash no_point en ed er =
     let before = leading_digits bs in
