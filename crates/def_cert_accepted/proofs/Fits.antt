@@ -32,7 +32,8 @@ use Rattle.def_run.specs.Run.{outcome, total_against, evaluation, evaluations}
 use Rattle.def_run.proofs.RunLaws.{evaluations_are_bounds, ends_are_of_their_rounds, rounds_of, runs_have_ends}
 use Rattle.def_cert_verdict.specs.Verdict.{WeighedGame}
 use Rattle.def_tree.specs.Rules.{most_actions}
-use Rattle.def_cert_ranges.specs.Ranges.{IsFromTo, most_unit, IsPrintable, HeadFits, LineFits, PlanWeightsFit, PlanFits, ReplyFits, BoundFits, BoundsFit, CertificateFits}
+use Rattle.def_fraction.specs.Fraction.{most}
+use Rattle.def_cert_ranges.specs.Ranges.{IsFromTo, IsPrintable, HeadFits, LineFits, PlanWeightsFit, PlanFits, ReplyFits, BoundFits, BoundsFit, CertificateFits}
 use Rattle.def_cert_accepted.specs.Laws.{TheCertificateOfARunFits}
 use Rattle.def_cert_accepted.specs.OfOutcome.{by_sets, printed_plan, certificate_of}
 use Rattle.def_cert_accepted.proofs.OfRun.{own_head, same_head, bounds_of_run, certificate_with, certificate_without}
@@ -141,7 +142,7 @@ reply_fits form player sets root plan order other is small light few =
 
 end_fits : (game : WeighedGame) (player : Player) (sets : List InformationSet) (root : ℕ) (plan : List ℕ)
     → AreInOrder (player_sets game.form player) → AreInOrder sets → IsPlan sets root plan
-    → mass_of game.form.leaves ≤ most_mass → root ≤ most_root → IsFromTo 1 most_unit game.unit
+    → mass_of game.form.leaves ≤ most_mass → root ≤ most_root → IsFromTo 1 most game.unit
     → BoundFits (fraction_of (total_against game.form player plan) (game.unit * slice_index plan 0))
 end_fits game player sets root plan order other is light few unit =
     let at : slice_index plan 0 ≡ root = is.root_weight in

@@ -11,7 +11,9 @@ use Rattle.def_bracket.specs.Bracket.{TraceLine}
 use Rattle.def_bracket.specs.Outcome.{Head}
 use Rattle.def_cert_verdict.specs.Certificate.{PrintedPlan, Certificate, printed_numbers}
 use Rattle.def_cert_verdict.specs.Verdict.{WeighedGame, Verdict, head_only, verdict}
-use Rattle.def_cert_ranges.specs.Ranges.{TraceFits, PlanFits, ReplyFits, CertificateFits, most_unit, most_entries, HeadFits}
+use Rattle.def_cert_ranges.specs.Ranges.{TraceFits, PlanFits, ReplyFits, CertificateFits, HeadFits}
+use Rattle.def_fraction.specs.Fraction.{most}
+use Rattle.def_tree.specs.Rules.{most_nodes}
 
 -- an accepted certificate shows its head alone exactly where no round was asked
 abbrev pub HeadAloneWithoutRounds : Type 0
@@ -35,7 +37,7 @@ pub record SumsOfPlan (unit : ℕ) (plan : PrintedPlan) : Type 0 where
   pub scaled : unit * plan.root ≤ 2 ^ 98
 
 abbrev pub PlanSumsAreSmall : Type 0
-PlanSumsAreSmall = (unit sets : ℕ) (plan : PrintedPlan) → unit ≤ most_unit → PlanFits sets plan → SumsOfPlan unit plan
+PlanSumsAreSmall = (unit sets : ℕ) (plan : PrintedPlan) → unit ≤ most → PlanFits sets plan → SumsOfPlan unit plan
 
 -- all leaves' products with a printed plan together, all printed values together, and so each part of each worth
 pub record SumsOfReply (player : Player) (leaves : List Leaf) (sets : List InformationSet) (plan : PrintedPlan) (reply : Reply) : Type 0 where
@@ -46,5 +48,5 @@ pub record SumsOfReply (player : Player) (leaves : List Leaf) (sets : List Infor
 
 abbrev pub WorthsAreSmall : Type 0
 WorthsAreSmall = (player : Player) (leaves : List Leaf) (sets : List InformationSet) (plan_sets reply_sets : ℕ) (plan : PrintedPlan) (reply : Reply)
-    → mass_of leaves ≤ most_mass → PlanFits plan_sets plan → reply_sets ≤ most_entries → ReplyFits reply_sets reply
+    → mass_of leaves ≤ most_mass → PlanFits plan_sets plan → reply_sets ≤ most_nodes → ReplyFits reply_sets reply
     → SumsOfReply player leaves sets plan reply

@@ -6,17 +6,12 @@ use Rattle.def_sums.specs.Limits.{most_mass, most_rounds, most_scale, most_root}
 use Rattle.def_reply.specs.Reply.{Reply}
 use Rattle.def_bracket.specs.Bracket.{TraceLine}
 use Rattle.def_bracket.specs.Outcome.{Head}
+use Rattle.def_fraction.specs.Fraction.{most}
+use Rattle.def_tree.specs.Rules.{most_nodes}
 use Rattle.def_cert_verdict.specs.Certificate.{PrintedPlan, PrintedBounds, Certificate}
 
 abbrev pub IsFromTo : ℕ → ℕ → ℕ → Type 0
 IsFromTo low high n = (low ≤ n) × (n ≤ high)
-
--- nodes, and with them leaves, sets and sequences
-abbrev pub most_entries : ℕ
-most_entries = 2 ^ 20
-
-abbrev pub most_unit : ℕ
-most_unit = 2 ^ 62
 
 -- ends, totals and values, and the parts of the bracket
 abbrev pub most_printed : ℕ
@@ -27,13 +22,13 @@ IsPrintable n = unsigned_abs n ≤ most_printed
 
 -- ---- parts
 pub record HeadFits (head : Head) : Type 0 where
-  pub nodes : IsFromTo 1 most_entries head.nodes
-  pub leaves : IsFromTo 1 most_entries head.leaves
-  pub sets_one : head.sets_one ≤ most_entries
-  pub sets_two : head.sets_two ≤ most_entries
-  pub sequences_one : IsFromTo 1 most_entries head.sequences_one
-  pub sequences_two : IsFromTo 1 most_entries head.sequences_two
-  pub unit : IsFromTo 1 most_unit head.unit
+  pub nodes : IsFromTo 1 most_nodes head.nodes
+  pub leaves : IsFromTo 1 most_nodes head.leaves
+  pub sets_one : head.sets_one ≤ most_nodes
+  pub sets_two : head.sets_two ≤ most_nodes
+  pub sequences_one : IsFromTo 1 most_nodes head.sequences_one
+  pub sequences_two : IsFromTo 1 most_nodes head.sequences_two
+  pub unit : IsFromTo 1 most head.unit
   pub mass : head.mass ≤ most_mass
   pub rounds : head.rounds ≤ most_rounds
   pub every : IsFromTo 1 most_rounds head.every

@@ -1,4 +1,5 @@
 -- Reading a game file: what it says and stands for, or its first fault.
+--     most_bytes                a game file's greatest length
 --     ◌>>=◌                     one reading after another, up to the first fault
 --     token_where test whole at the token from the offset `at` on, if it passes the test
 --     next_is byte whole at     whether this byte comes next, white space aside
@@ -29,6 +30,10 @@ use Rattle.def_file.specs.declared.FileFault.TheVariants.{Syntax, UnexpectedEnd,
 use Rattle.def_file.specs.Content.{Prologue, Action, SetMention, OutcomeMention, Record, Contents, GameFile, no_set_mention, no_contents, game_with, zero_fraction}
 use Rattle.def_file.specs.Faults.{record_fault}
 use Rattle.def_file.specs.Adding.{with_record}
+
+-- the greatest number of bytes of a game file
+abbrev pub most_bytes : ℕ
+most_bytes = 67108864
 
 infixl 10 ◌>>=◌
 abbrev pub ◌>>=◌ : {A B : Type 0} → Result A FileFault → (A → Result B FileFault) → Result B FileFault

@@ -22,13 +22,16 @@ record FoundAt (kind : Kind) (seen k : ℕ) (vs : List Visit) (i : ℕ) (v : Vis
   sets : v.node.set ≡ seen + i + 1
   first : (number : ℕ) × (first_of_set k v.node vs ≡ Some (record { number = number; visit = v }))
 
+-- what is false makes a conjunction false
 pub and_false : (a b : Bool) → b ≡ false → a && b ≡ false
 and_false true b e = e
 and_false false b e = refl
 
+-- nodes whose sets have other numbers are of other sets
 pub other_number : (x y : Node) → x.set ≢ y.set → is_same_set x y ≡ false
 other_number x y other = and_false (is_same_kind x.kind y.kind) (nat_eq x.set y.set) (ne_eqb x.set y.set other)
 
+-- a node of another kind is of another set
 pub other_kind : (kind : Kind) (x y : Node) → y.kind ≡ kind → is_same_kind kind x.kind ≡ false → is_same_set x y ≡ false
 other_kind kind x y is other =
     elim (is_same_kind x.kind y.kind) as (λ b. is_same_kind x.kind y.kind ≡ b → b && nat_eq x.set y.set ≡ false) [

@@ -7,7 +7,7 @@ use Rattle.std.proofs.lemmas.List.Sorted.{sum_by_popped, sum_by-IsPermutation}
 use Rattle.std.proofs.lemmas.Bool.Decides.{nat_tests}
 use Rattle.std.proofs.lemmas.Bool.{cases_lt, cases_eq}
 use Rattle.def_history.specs.History.{times}
-use Rattle.def_history.specs.Core.{State, Right, Step, draw, add, Draws, Adds, Takes, Leads, none, first, IsOpening, IsReached, times_right, times_held, rights_of, rights_held, history_of, stripe_count}
+use Rattle.def_history.specs.Core.{State, Right, Step, draw, add, Draws, Adds, Takes, StepsLead, none, first, IsOpening, IsReached, times_right, times_held, rights_of, rights_held, history_of, stripe_count}
 use Rattle.def_history.proofs.Counts.{one_if, times-job_numbers, times_right-rights_of}
 
 pub record IsBalanced (jobs : ℕ) (state : State) : Type 0 where
@@ -150,7 +150,7 @@ pub step_keeps : (jobs : ℕ) (before : State) (step : Step) (after : State) →
 step_keeps jobs before (draw pass job) after old step = draw_keeps jobs before pass job after old step
 step_keeps jobs before (add pass job stripe) after old step = add_keeps jobs before pass job stripe after old step
 
-pub steps_keep : (jobs : ℕ) {before : State} {steps : List Step} {after : State} → Leads before steps after
+pub steps_keep : (jobs : ℕ) {before : State} {steps : List Step} {after : State} → StepsLead before steps after
     → IsBalanced jobs before → IsBalanced jobs after
 steps_keep jobs none old = old
 steps_keep jobs (first {before} {step} {between} taken rest) old = steps_keep jobs rest (step_keeps jobs before step between old taken)

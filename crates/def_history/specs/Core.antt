@@ -62,10 +62,10 @@ Takes before (draw pass job) after = Draws before pass job after
 Takes before (add pass job stripe) after = Adds before pass job stripe after
 
 -- a list of steps leads from one state to another
-pub data Leads : State → List Step → State → Type 0 where
-  none : {state : State} → Leads state [] state
+pub data StepsLead : State → List Step → State → Type 0 where
+  none : {state : State} → StepsLead state [] state
   first : {before : State} {step : Step} {between : State} {steps : List Step} {after : State}
-      → Takes before step between → Leads between steps after → Leads before (step ∷ steps) after
+      → Takes before step between → StepsLead between steps after → StepsLead before (step ∷ steps) after
 
 -- the bag has every job once, no pass holds a right, and the histories are empty
 pub record IsOpening (jobs : ℕ) (state : State) : Type 0 where
@@ -75,7 +75,7 @@ pub record IsOpening (jobs : ℕ) (state : State) : Type 0 where
 
 -- a list of steps from an opening leads to this state
 abbrev pub IsReached : ℕ → State → Type 0
-IsReached jobs state = (opening : State) × (steps : List Step) × IsOpening jobs opening × Leads opening steps state
+IsReached jobs state = (opening : State) × (steps : List Step) × IsOpening jobs opening × StepsLead opening steps state
 
 -- who may hold a right: the bag, or one of the passes
 pub data Holder : Type 0 where

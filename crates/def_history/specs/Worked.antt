@@ -1,6 +1,6 @@
 -- A worked run of the core: two jobs, one pass, two stripes.
 use Rattle.std.specs.Prelude.{List, [], ◌∷◌}
-use Rattle.def_history.specs.Core.{State, Step, draw, add, Leads, IsOpening}
+use Rattle.def_history.specs.Core.{State, Step, draw, add, StepsLead, IsOpening}
 use Rattle.def_game_jobs.specs.Ranges.{Partitions}
 
 -- nothing is drawn yet
@@ -15,7 +15,7 @@ abbrev pub all_added : State
 all_added = record { bag = []; passes = [] ∷ []; histories = (0 ∷ 1 ∷ []) ∷ (0 ∷ 1 ∷ []) ∷ [] }
 
 abbrev pub RunsToTheEnd : Type 0
-RunsToTheEnd = IsOpening 2 two_jobs × Leads two_jobs all_steps all_added
+RunsToTheEnd = IsOpening 2 two_jobs × StepsLead two_jobs all_steps all_added
 
 -- a job of two leaves and one of one leaf have all three leaves
 abbrev pub TwoJobsHaveThreeLeaves : Type 0

@@ -10,7 +10,7 @@ use Rattle.def_history.specs.Leaves.{job_amount, sum_over_leaves}
 use Rattle.def_history.proofs.Leaves.{sum_over-places, ends_with_leaf_sums}
 use Rattle.def_rows.specs.Rows.{amount_in_row}
 use Rattle.def_rows.proofs.Rows.{in_row_of_one, in_row_of_two}
-use Rattle.def_history_rows.specs.JobRows.{leaf_of, leaf_amount, job_leaves}
+use Rattle.def_history_rows.specs.JobRows.{form_leaf, leaf_amount, job_leaves}
 use Rattle.def_history_rows.specs.Laws.{RowsSumOverLeaves, JobsHaveTheirLeafSums, ReplaysEndAsRows}
 
 -- the leaves by their numbers
@@ -23,7 +23,7 @@ by_number form numbers_one numbers_two range row within =
     ∙ sum_over-places (λ z. amount_in_row form numbers_one numbers_two z row) (record { sequence_one = 0; sequence_two = 0; weight = pos 0 }) (job_leaves form range) (λ leaf. leaf_amount form numbers_one numbers_two leaf row) range.first
     (λ place below. ap (λ z. amount_in_row form numbers_one numbers_two z row) (sym (at_place place (omega (arith, long, below)))))
   where
-    at_place : (place : ℕ) → place < range.count → get_or (job_leaves form range) place (record { sequence_one = 0; sequence_two = 0; weight = pos 0 }) ≡ leaf_of form (range.first + place)
+    at_place : (place : ℕ) → place < range.count → get_or (job_leaves form range) place (record { sequence_one = 0; sequence_two = 0; weight = pos 0 }) ≡ form_leaf form (range.first + place)
     at_place place below = rw (get_or-take, get_or-drop)
 
 all_by_number : (form : SequenceForm) (numbers_one numbers_two : List ℕ) (row : ℕ)

@@ -6,11 +6,11 @@ use Rattle.def_game_jobs.specs.Ranges.{LeafRange}
 use Rattle.def_rows.specs.Rows.{amount_in_row}
 
 -- past the end there is no weight
-abbrev pub leaf_of : SequenceForm → ℕ → Leaf
-leaf_of form leaf = slice_index_or form.leaves leaf (record { sequence_one = 0; sequence_two = 0; weight = pos 0 })
+abbrev pub form_leaf : SequenceForm → ℕ → Leaf
+form_leaf form leaf = slice_index_or form.leaves leaf (record { sequence_one = 0; sequence_two = 0; weight = pos 0 })
 
 abbrev pub leaf_amount : SequenceForm → List ℕ → List ℕ → ℕ → ℕ → ℤ
-leaf_amount form numbers_one numbers_two leaf row = amount_in_row form numbers_one numbers_two (leaf_of form leaf) row
+leaf_amount form numbers_one numbers_two leaf row = amount_in_row form numbers_one numbers_two (form_leaf form leaf) row
 
 -- the leaves of a job
 abbrev pub job_leaves : SequenceForm → LeafRange → List Leaf

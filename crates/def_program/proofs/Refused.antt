@@ -4,10 +4,10 @@ use Rattle.std.proofs.lemmas.Bool.{ltb-true, ltb-false, lt-ltb, le-ltb}
 use Rattle.def_file.specs.declared.FileFault.{FileFault}
 use Rattle.def_file.specs.declared.FileFault.TheVariants.{TooLong}
 use Rattle.def_file.specs.Content.{GameFile}
-use Rattle.def_file.specs.Reading.{game_at}
+use Rattle.def_file.specs.Reading.{game_at, most_bytes}
 use Rattle.def_file_form.proofs.Whole.{game_read, game_taken}
 use Rattle.def_file_fault.specs.Laws.{FileFaultIsFirst, FirstIsFileFault}
-use Rattle.def_program.specs.Program.{most_bytes, read_as_game}
+use Rattle.def_program.specs.Program.{read_as_game}
 use Rattle.def_program.specs.FirstFault.{IsFirstFault, in_length, within}
 use Rattle.def_program.specs.Meaning.{IsAccepted}
 use Rattle.def_program.specs.Laws.{RefusedWithTheFirst, AcceptedWithoutFault}

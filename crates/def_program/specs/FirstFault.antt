@@ -3,7 +3,7 @@ use Rattle.std.specs.Prelude.{◌≡◌, ℕ, ◌<◌, ◌≤◌, List, length}
 use Rattle.def_file.specs.declared.FileFault.{FileFault}
 use Rattle.def_file.specs.declared.FileFault.TheVariants.{TooLong}
 use Rattle.def_file_fault.specs.First.{FirstFault}
-use Rattle.def_program.specs.Program.{most_bytes}
+use Rattle.def_file.specs.Reading.{most_bytes}
 
 pub data IsFirstFault (bytes : List ℕ) (fault : FileFault) : Type 0 where
   in_length : fault ≡ TooLong → most_bytes < length bytes → IsFirstFault bytes fault

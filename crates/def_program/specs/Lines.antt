@@ -4,7 +4,8 @@ use Rattle.def_outside.specs.Calls.{SinkCall, Says}
 use Rattle.def_file.specs.declared.FileFault.{FileFault}
 use Rattle.def_file.specs.declared.FileFault.TheVariants.{TooLong}
 use Rattle.def_text.specs.Lines.{fault_line, usage_line, read_line, write_line, memory_line}
-use Rattle.def_program.specs.Program.{Answer, most_bytes}
+use Rattle.def_file.specs.Reading.{most_bytes}
+use Rattle.def_program.specs.Program.{Answer}
 use Rattle.def_program.specs.Meaning.{EachMeant}
 
 -- The line goes with the status, where so many bytes were taken of the file that was opened last. That a file is too

@@ -10,7 +10,8 @@ use Rattle.def_file_form.specs.Laws.{StandsFor}
 use Rattle.def_command.specs.Command.{Command, Solve, command_of, named_files}
 use Rattle.def_text.specs.Text.{game_text, no_rounds}
 use Rattle.def_text.specs.Lines.{fault_line}
-use Rattle.def_program.specs.Program.{Answer, most_bytes, success, refusal, usage}
+use Rattle.def_file.specs.Reading.{most_bytes}
+use Rattle.def_program.specs.Program.{Answer, success, refusal, usage}
 use Rattle.def_program.specs.FirstFault.{IsFirstFault}
 
 pub record IsAccepted (bytes : List ℕ) (game : GameFile) : Type 0 where

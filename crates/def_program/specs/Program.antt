@@ -7,14 +7,10 @@ use Rattle.std.specs.Option.{option_map}
 use Rattle.def_file.specs.declared.FileFault.{FileFault}
 use Rattle.def_file.specs.declared.FileFault.TheVariants.{TooLong}
 use Rattle.def_file.specs.Content.{GameFile}
-use Rattle.def_file.specs.Reading.{game_at}
+use Rattle.def_file.specs.Reading.{game_at, most_bytes}
 use Rattle.def_command.specs.Command.{Command, Solve, command_of}
 use Rattle.def_text.specs.Text.{game_text, no_rounds}
 use Rattle.def_text.specs.Lines.{fault_line, usage_line}
-
--- the greatest number of bytes of a game file
-abbrev pub most_bytes : ℕ
-most_bytes = 67108864
 
 unfoldable pub read_as_game : List ℕ → Result GameFile FileFault
 read_as_game bytes = if nat_lt most_bytes (length bytes) then Err TooLong else game_at bytes

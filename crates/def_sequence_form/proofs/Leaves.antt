@@ -37,6 +37,7 @@ leaves_alike (v ∷ rest) =
       | false ↦ leaves_alike rest
     ]
 
+-- a tree has as many visits of leaves as leaves
 pub leaves_counted : (tree : Forest) → length (leaf_visits tree) ≡ leaf_count (prefix tree)
 leaves_counted tree = leaves_alike (visits tree) ∙ ap (λ ns. length (filter (λ (n : Node). is_leaf_kind n.kind) ns)) (map-visits_from (λ _. []) 1 tree) ∙ length-filter (λ (n : Node). is_leaf_kind n.kind) (prefix tree)
 
@@ -44,11 +45,12 @@ leaves_counted tree = leaves_alike (visits tree) ∙ ap (λ ns. length (filter (
 abbrev leaf_at : Forest → Visit → ℤ → Leaf
 leaf_at tree v weight = record { sequence_one = sequence_at One tree v; sequence_two = sequence_at Two tree v; weight = weight }
 
-length-leaves_with : (tree : Forest) (vs : List Visit) (weights : List ℤ) → length weights ≡ length vs
+-- there is a leaf for each visit, where there are weights enough
+pub length-leaves_with : (tree : Forest) (vs : List Visit) (weights : List ℤ) → length vs ≤ length weights
     → length (leaves_with tree vs weights) ≡ length vs
-length-leaves_with tree [] weights e = refl
-length-leaves_with tree (v ∷ rest) [] e = absurd (omega arith)
-length-leaves_with tree (v ∷ rest) (w ∷ weights) e = ap suc (length-leaves_with tree rest weights (omega arith))
+length-leaves_with tree [] weights few = refl
+length-leaves_with tree (v ∷ rest) [] few = absurd (omega arith)
+length-leaves_with tree (v ∷ rest) (w ∷ weights) few = ap suc (length-leaves_with tree rest weights (omega arith))
 
 weights-leaves_with : (tree : Forest) (vs : List Visit) (weights : List ℤ) → length weights ≡ length vs
     → map (λ (leaf : Leaf). leaf.weight) (leaves_with tree vs weights) ≡ weights
@@ -129,7 +131,7 @@ form_has_the_leaf_list tables tree weights game many =
     let leaf_is : (z : ℕ) (leaf : Leaf) → z < length vs → get_or (leaves_with tree vs weights) z leaf ≡ leaf_at tree (get_or vs z d) (get_or weights z none) =
     λ z leaf there. leaves_with-at tree vs weights z leaf d none same there in
     record {
-      count = length-leaves_with tree vs weights same ∙ count;
+      count = length-leaves_with tree vs weights (omega (arith, same)) ∙ count;
       entries = length-map vs (leaf_entry tables) ∙ count;
       weights_are = weights-leaves_with tree vs weights same;
       each = λ z entry leaf there.

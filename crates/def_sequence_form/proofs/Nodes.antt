@@ -31,7 +31,7 @@ told_break (Some found) sets broken e = cc
 -- the sets are told exactly where both players have perfect recall, and otherwise its first break
 pub sets_are_exact : SetsAreExact
 sets_are_exact = record {
-  told = λ tree. (
+  found = λ tree. (
     λ e. recall_of_none tree (told_none (recall_break tree) (tree_sets tree) (tree_sets tree) e).0,
     λ recall. ap (λ o. unless_broken o (tree_sets tree)) (none_of_recall tree recall),
   );

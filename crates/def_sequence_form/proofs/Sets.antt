@@ -17,16 +17,16 @@ use Rattle.def_plan.proofs.BadSets.{length-placed}
 use Rattle.def_sequence_form.specs.Form.{information_sets}
 use Rattle.def_sequence_form.specs.Laws.{FormIsInOrder, FormNumbersAsTheTree}
 
-abbrev actions_of : InformationSet → ℕ
-actions_of h = h.actions
+abbrev set_actions : InformationSet → ℕ
+set_actions h = h.actions
 
 -- where a set is placed
 placed-at : (first : ℕ) (sets : List InformationSet) (k : ℕ) (d : PlacedSet) (e : InformationSet) → k < length sets →
-    get_or (placed_from first sets) k d ≡ record { first = first + nat_sum_over actions_of (take k sets); before = (get_or sets k e).before; actions = (get_or sets k e).actions }
+    get_or (placed_from first sets) k d ≡ record { first = first + nat_sum_over set_actions (take k sets); before = (get_or sets k e).before; actions = (get_or sets k e).actions }
 placed-at first [] k d e there = absurd (omega arith)
 placed-at first (h ∷ hs) zero d e there = let same : first ≡ first + 0 = omega arith in ap (λ n. record { first = n; before = h.before; actions = h.actions }) same
 placed-at first (h ∷ hs) (suc k) d e there =
-    let far : first + h.actions + nat_sum_over actions_of (take k hs) ≡ first + (h.actions + nat_sum_over actions_of (take k hs)) = omega arith in
+    let far : first + h.actions + nat_sum_over set_actions (take k hs) ≡ first + (h.actions + nat_sum_over set_actions (take k hs)) = omega arith in
     placed-at (first + h.actions) hs k d e (omega arith) ∙ ap (λ n. record { first = n; before = (get_or hs k e).before; actions = (get_or hs k e).actions }) far
 
 module _ (kind : Kind) (tree : Forest) where
@@ -37,12 +37,12 @@ module _ (kind : Kind) (tree : Forest) where
   firsts = set_firsts kind 0 (visits tree)
 
   sizes_agree : (k : ℕ) (vs : List Visit)
-      → nat_sum_over actions_of (take k (map set_at vs)) ≡ sum (take k (map (λ v. v.node.children) vs))
+      → nat_sum_over set_actions (take k (map set_at vs)) ≡ sum (take k (map (λ v. v.node.children) vs))
   sizes_agree zero vs = refl
   sizes_agree (suc k) [] = refl
   sizes_agree (suc k) (v ∷ vs) = ap (λ n. v.node.children + n) (sizes_agree k vs) ∙ sym (sum_by-cons (λ n. n) v.node.children (take k (map (λ w. w.node.children) vs)))
 
-  sizes_total : (vs : List Visit) → nat_sum_over actions_of (map set_at vs) ≡ sum (map (λ v. v.node.children) vs)
+  sizes_total : (vs : List Visit) → nat_sum_over set_actions (map set_at vs) ≡ sum (map (λ v. v.node.children) vs)
   sizes_total [] = refl
   sizes_total (v ∷ vs) = ap (λ n. v.node.children + n) (sizes_total vs) ∙ sym (sum_by-cons (λ n. n) v.node.children (map (λ w. w.node.children) vs))
 
@@ -59,7 +59,7 @@ module _ (kind : Kind) (tree : Forest) where
       let v : Visit = get_or firsts i none in
       let is : get_or sets i (set_at none) ≡ set_at v = get_or-map set_at firsts i none (set_at none) here in
       let index : i ≡ i + 1 - 1 = omega arith in
-      let first : 1 + nat_sum_over actions_of (take i sets) ≡ first_sequence (set_sizes kind tree) (i + 1) =
+      let first : 1 + nat_sum_over set_actions (take i sets) ≡ first_sequence (set_sizes kind tree) (i + 1) =
       ap (λ n. 1 + n) (sizes_agree i firsts) ∙ ap (λ n. 1 + sum (take n (set_sizes kind tree))) index in
       let before : (get_or sets i (set_at none)).before ≡ get_or (sequences_before kind tree) i 0 = ap (λ h. h.before) is ∙ sym (get_or-map (sequence_at kind tree) firsts i none 0 here) in
       let actions : (get_or sets i (set_at none)).actions ≡ get_or (set_sizes kind tree) i 0 = ap (λ h. h.actions) is ∙ sym (get_or-map (λ w. w.node.children) firsts i none 0 here) in

@@ -21,7 +21,7 @@ FormIsInOrder = (tree : Forest) → IsGameTree tree → (kind : Kind) → is_lea
 
 -- the sets are told exactly where both players have perfect recall, and otherwise its first break
 pub record SetsAreExact : Type 0 where
-  pub told : (tree : Forest) → (sets_or_break tree ≡ Ok (tree_sets tree)) ↔ HasPerfectRecall tree
+  pub found : (tree : Forest) → (sets_or_break tree ≡ Ok (tree_sets tree)) ↔ HasPerfectRecall tree
   pub only : (tree : Forest) (sets : TreeSets) → sets_or_break tree ≡ Ok sets → sets ≡ tree_sets tree
   pub broken : (tree : Forest) (d : Visit) (broken : RecallBreak) → sets_or_break tree ≡ Err broken
       → IsFirstBreak (λ k. slice_index_or (visits tree) (k - 1) d) (length (visits tree)) broken

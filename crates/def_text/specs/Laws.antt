@@ -5,30 +5,30 @@ use Rattle.def_file.specs.declared.FileFault.TheVariants.{TooLong, Syntax, Unexp
 use Rattle.def_text.specs.Lines.{fault_line}
 
 -- the numbers in a fault
-abbrev pub numbers_of : FileFault → List ℕ
-numbers_of TooLong = []
-numbers_of (Syntax at) = at ∷ []
-numbers_of UnexpectedEnd = []
-numbers_of (TrailingText at) = at ∷ []
-numbers_of (Number at fault) = at ∷ []
-numbers_of (Players count) = count ∷ []
-numbers_of (PlayerNumber node) = node ∷ []
-numbers_of (SetUndefined node) = node ∷ []
-numbers_of (SetMismatch node) = node ∷ []
-numbers_of (OutcomeUndefined node) = node ∷ []
-numbers_of (OutcomeMismatch node) = node ∷ []
-numbers_of (PayoffCount node) = node ∷ []
-numbers_of TooManyNodes = []
-numbers_of (ActionCount node) = node ∷ []
-numbers_of (ChanceNegative node) = node ∷ []
-numbers_of (ChanceSum node) = node ∷ []
-numbers_of (NotZeroSum node) = node ∷ []
-numbers_of (NotRecall node earlier) = node ∷ earlier ∷ []
-numbers_of (Scale node) = node ∷ []
+abbrev pub fault_numbers : FileFault → List ℕ
+fault_numbers TooLong = []
+fault_numbers (Syntax at) = at ∷ []
+fault_numbers UnexpectedEnd = []
+fault_numbers (TrailingText at) = at ∷ []
+fault_numbers (Number at fault) = at ∷ []
+fault_numbers (Players count) = count ∷ []
+fault_numbers (PlayerNumber node) = node ∷ []
+fault_numbers (SetUndefined node) = node ∷ []
+fault_numbers (SetMismatch node) = node ∷ []
+fault_numbers (OutcomeUndefined node) = node ∷ []
+fault_numbers (OutcomeMismatch node) = node ∷ []
+fault_numbers (PayoffCount node) = node ∷ []
+fault_numbers TooManyNodes = []
+fault_numbers (ActionCount node) = node ∷ []
+fault_numbers (ChanceNegative node) = node ∷ []
+fault_numbers (ChanceSum node) = node ∷ []
+fault_numbers (NotZeroSum node) = node ∷ []
+fault_numbers (NotRecall node earlier) = node ∷ earlier ∷ []
+fault_numbers (Scale node) = node ∷ []
 
 -- 64 bits hold each number in the fault
 abbrev pub HasNarrowNumbers : FileFault → Type 0
-HasNarrowNumbers fault = All (λ n. n < 2 ^ 64) (numbers_of fault)
+HasNarrowNumbers fault = All (λ n. n < 2 ^ 64) (fault_numbers fault)
 
 abbrev pub LinesTellFaults : Type 0
 LinesTellFaults = (f g : FileFault) → HasNarrowNumbers f → HasNarrowNumbers g → fault_line f ≡ fault_line g → f ≡ g

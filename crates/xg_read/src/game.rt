@@ -3,22 +3,22 @@ ghost use Rattle.std.specs.Prelude.{◌≡◌, ◌≢◌, ◌-◌, ◌≤◌, fa
 ghost use Rattle.def_tree.specs.Tree.{wanted};
 ghost use Rattle.def_file.specs.declared.FileFault.{FileFault};
 ghost use Rattle.def_file.specs.Content.{GameFile};
-ghost use Rattle.def_file.specs.Reading.{entries_from, game_at};
+ghost use Rattle.def_file.specs.Reading.{entries_from, game_at, most_bytes};
 ghost use Rattle.def_file_form.specs.Laws.{StandsFor};
 ghost use Rattle.def_file_fault.specs.First.{FirstFault};
-ghost use Rattle.def_program.specs.Program.{most_bytes};
 ghost use Rattle.xg_read.specs.Gives.{Answers, GivesFor, GivesNext, next_at};
 
 use crate::reader::Reader;
 use def_file::FileFault;
 use std::alloc::Global;
 use xg_game::{Game, GameMaker, Refused};
+use xg_tree::MOST_NODES;
 
 /// The greatest number of bytes of a game file.
 pub const MOST_BYTES: usize = 67_108_864;
 
 /// One more than the greatest number of nodes: the entry behind the last one that may be is read and judged, too.
-const MOST_ENTRIES: usize = 1_048_577;
+const MOST_ENTRIES: usize = MOST_NODES + 1;
 
 /// Reads a game from the bytes of its file, of at most 67,108,864 bytes.
 ///

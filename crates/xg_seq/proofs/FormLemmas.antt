@@ -17,6 +17,7 @@ use Rattle.xg_seq.specs.Leaves.{AreLeaves, KeepsLeaves, form_with}
 use Rattle.xg_seq.specs.Table.{most_sequences}
 use Rattle.xg_seq.proofs.LeafLemmas.{leaves_are_few}
 
+-- the sequences of a game's tree are within the limit
 pub sets_in_limit : (tree : Forest) → IsGameTree tree → (kind : Kind) → is_leaf_kind kind ≡ false
     → sequence_count (information_sets kind tree) ≤ most_sequences
 sets_in_limit tree game kind inner = omega (arith, (form_numbers_as_the_tree tree game kind inner).few_sequences, game.limit)
@@ -24,6 +25,7 @@ sets_in_limit tree game kind inner = omega (arith, (form_numbers_as_the_tree tre
 abbrev no_tables : Tables
 no_tables = record { chance = []; outcomes = [] }
 
+-- the form of a game's tree keeps the rules of its leaves
 pub keeps_leaves : (tree : Forest) (weights : List ℤ) → IsGameTree tree → length weights ≡ leaf_count (prefix tree)
     → sum (map unsigned_abs weights) ≤ most_mass → KeepsLeaves (form_of tree weights)
 keeps_leaves tree weights game many mass =

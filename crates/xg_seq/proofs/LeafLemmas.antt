@@ -13,7 +13,7 @@ use Rattle.def_game_paths.specs.Paths.{Visit, leaf_visits, visits}
 use Rattle.def_game_paths.specs.Sequences.{sequence_at}
 use Rattle.def_plan.specs.Form.{Leaf as FormLeaf}
 use Rattle.def_sequence_form.specs.Form.{leaves_with}
-use Rattle.def_sequence_form.proofs.Leaves.{leaves_counted}
+use Rattle.def_sequence_form.proofs.Leaves.{leaves_counted, length-leaves_with}
 use Rattle.def_game_paths.specs.Coming.{no_visit, visit_after}
 use Rattle.def_game_paths.proofs.Coming.{IsNext, length-visits, next_node, next_visit}
 use Rattle.xg_seq.specs.declared.leaf.Leaf.{Leaf as LeafRow}
@@ -29,12 +29,6 @@ leaves_before tree k = filter (λ v. is_leaf_kind v.node.kind) (take k (visits t
 -- these leaves, with the weights in turn
 abbrev pub AreLeavesBefore : Forest → List ℤ → ℕ → List LeafRow → Type 0
 AreLeavesBefore tree weights k leaves = map leaf_of leaves ≡ leaves_with tree (leaves_before tree k) weights
-
-length-leaves_with : (tree : Forest) (vs : List Visit) (weights : List ℤ) → length vs ≤ length weights
-    → length (leaves_with tree vs weights) ≡ length vs
-length-leaves_with tree [] weights few = refl
-length-leaves_with tree (v ∷ vs) [] few = absurd (omega arith)
-length-leaves_with tree (v ∷ vs) (w ∷ weights) few = ap suc (length-leaves_with tree vs weights (omega arith))
 
 abbrev leaf_at : Forest → Visit → ℤ → FormLeaf
 leaf_at tree v weight = record { sequence_one = sequence_at One tree v; sequence_two = sequence_at Two tree v; weight = weight }

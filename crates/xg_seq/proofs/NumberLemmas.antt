@@ -3,18 +3,18 @@ use Rattle.std.proofs.Common.{◌≡◌, ℕ, suc, ◌+◌, ◌-◌, ◌<◌, �
 use Rattle.std.proofs.lemmas.Bool.{cases_lt}
 use Rattle.std.proofs.lemmas.List.{get_or-append_right, get_or-replicate, get_or_append_left, length-replicate, replicate-append-replicate, take_more}
 use Rattle.def_plan.specs.Form.{InformationSet, PlacedSet, placed_from, sequence_count}
-use Rattle.def_plan.proofs.Places.{actions_of}
+use Rattle.def_plan.proofs.Places.{form_action_counts}
 use Rattle.xg_seq.specs.declared.table.SetRow.{SetRow}
-use Rattle.xg_seq.specs.Table.{EndsAt, KeepsSets, numbers_of, set_of}
+use Rattle.xg_seq.specs.Table.{EndsAt, KeepsSets, set_numbers_from, set_of_row}
 
-length-numbers_of : (k : ℕ) (rows : List SetRow) → length (numbers_of k rows) ≡ actions_of (map set_of rows)
-length-numbers_of k [] = refl
-length-numbers_of k (row ∷ rows) = omega (arith, length-append (replicate row.actions k) (numbers_of (k + 1) rows), length-replicate row.actions k, length-numbers_of (k + 1) rows)
+length-set_numbers_from : (k : ℕ) (rows : List SetRow) → length (set_numbers_from k rows) ≡ form_action_counts (map set_of_row rows)
+length-set_numbers_from k [] = refl
+length-set_numbers_from k (row ∷ rows) = omega (arith, length-append (replicate row.actions k) (set_numbers_from (k + 1) rows), length-replicate row.actions k, length-set_numbers_from (k + 1) rows)
 
 -- a number is kept for each sequence but the empty one
 pub numbers_for_all : (rows : List SetRow) (numbers : List ℕ) → KeepsSets rows numbers
-    → length numbers + 1 ≡ sequence_count (map set_of rows)
-numbers_for_all rows numbers keeps = omega (arith, ap length keeps.numbers, length-numbers_of 1 rows)
+    → length numbers + 1 ≡ sequence_count (map set_of_row rows)
+numbers_for_all rows numbers keeps = omega (arith, ap length keeps.numbers, length-set_numbers_from 1 rows)
 
 -- of sets whose first has the number k, and whose sequences are counted from `first` on, sequence s ends at the set of this number
 record EndsAmong (k first : ℕ) (sets : List InformationSet) (s number : ℕ) : Type 0 where
@@ -25,12 +25,12 @@ record EndsAmong (k first : ℕ) (sets : List InformationSet) (s number : ℕ) :
   end : (d : PlacedSet)
       → first + s < (get_or (placed_from first sets) place d).first + (get_or (placed_from first sets) place d).actions
 
-ends_among : (k first : ℕ) (rows : List SetRow) (s : ℕ) → s < length (numbers_of k rows)
-    → EndsAmong k first (map set_of rows) s (get_or (numbers_of k rows) s 0)
+ends_among : (k first : ℕ) (rows : List SetRow) (s : ℕ) → s < length (set_numbers_from k rows)
+    → EndsAmong k first (map set_of_row rows) s (get_or (set_numbers_from k rows) s 0)
 ends_among k first [] s there = absurd (omega arith)
 ends_among k first (row ∷ rows) s there =
     let own : List ℕ = replicate row.actions k in
-    let later : List ℕ = numbers_of (k + 1) rows in
+    let later : List ℕ = set_numbers_from (k + 1) rows in
     let long : length own ≡ row.actions = length-replicate row.actions k in
     elim (cases_lt s row.actions) [
       | inl here ↦
@@ -50,34 +50,34 @@ ends_among k first (row ∷ rows) s there =
 
 -- a sequence ends at the set of its number
 pub ends_at : (rows : List SetRow) (numbers : List ℕ) → KeepsSets rows numbers → (sequence number : ℕ) → 1 ≤ sequence
-    → sequence < sequence_count (map set_of rows) → number ≡ get_or numbers (sequence - 1) 0
-    → EndsAt (map set_of rows) sequence number
+    → sequence < sequence_count (map set_of_row rows) → number ≡ get_or numbers (sequence - 1) 0
+    → EndsAt (map set_of_row rows) sequence number
 ends_at rows numbers keeps sequence number some there read =
-    let found = ends_among 1 1 rows (sequence - 1) (omega (arith, length-numbers_of 1 rows)) in
-    let is : number ≡ get_or (numbers_of 1 rows) (sequence - 1) 0 = read ∙ ap (λ ns. get_or ns (sequence - 1) 0) keeps.numbers in
+    let found = ends_among 1 1 rows (sequence - 1) (omega (arith, length-set_numbers_from 1 rows)) in
+    let is : number ≡ get_or (set_numbers_from 1 rows) (sequence - 1) 0 = read ∙ ap (λ ns. get_or ns (sequence - 1) 0) keeps.numbers in
     let place : number - 1 ≡ found.place = omega (arith, found.is) in
     record {
       from_one = omega (arith, found.is);
       there = omega (arith, found.is, found.there);
-      first = λ d. subst (λ n. (get_or (placed_from 1 (map set_of rows)) n d).first ≤ sequence) (sym place) (omega (arith, found.from d));
-      end = λ d. subst (λ n. sequence < (get_or (placed_from 1 (map set_of rows)) n d).first + (get_or (placed_from 1 (map set_of rows)) n d).actions) (sym place) (omega (arith, found.end d));
+      first = λ d. subst (λ n. (get_or (placed_from 1 (map set_of_row rows)) n d).first ≤ sequence) (sym place) (omega (arith, found.from d));
+      end = λ d. subst (λ n. sequence < (get_or (placed_from 1 (map set_of_row rows)) n d).first + (get_or (placed_from 1 (map set_of_row rows)) n d).actions) (sym place) (omega (arith, found.end d));
     }
 
 numbers-append : (k : ℕ) (rows : List SetRow) (row : SetRow)
-    → numbers_of k (rows ++ row ∷ []) ≡ numbers_of k rows ++ replicate row.actions (k + length rows)
+    → set_numbers_from k (rows ++ row ∷ []) ≡ set_numbers_from k rows ++ replicate row.actions (k + length rows)
 numbers-append k [] row =
     let here : k ≡ k + 0 = omega arith in append-nil (replicate row.actions k) ∙ ap (replicate row.actions) here
 numbers-append k (r ∷ rows) row =
     let there : k + 1 + length rows ≡ k + suc (length rows) = omega arith in
-    ap (λ ns. replicate r.actions k ++ ns) (numbers-append (k + 1) rows row ∙ ap (λ n. numbers_of (k + 1) rows ++ replicate row.actions n) there)
-    ∙ sym (append_assoc (replicate r.actions k) (numbers_of (k + 1) rows) (replicate row.actions (k + suc (length rows))))
+    ap (λ ns. replicate r.actions k ++ ns) (numbers-append (k + 1) rows row ∙ ap (λ n. set_numbers_from (k + 1) rows ++ replicate row.actions n) there)
+    ∙ sym (append_assoc (replicate r.actions k) (set_numbers_from (k + 1) rows) (replicate row.actions (k + suc (length rows))))
 
 -- the numbers of the first i rows' sequences, and of one more row's
 pub numbers_more : (rows : List SetRow) (i : ℕ) (d : SetRow) → i < length rows
-    → numbers_of 1 (take (i + 1) rows) ≡ numbers_of 1 (take i rows) ++ replicate (get_or rows i d).actions (i + 1)
+    → set_numbers_from 1 (take (i + 1) rows) ≡ set_numbers_from 1 (take i rows) ++ replicate (get_or rows i d).actions (i + 1)
 numbers_more rows i d there =
     let long : 1 + length (take i rows) ≡ i + 1 = omega (arith, length-take-le i rows (omega arith)) in
-    ap (numbers_of 1) (take_more rows i d there) ∙ numbers-append 1 (take i rows) (get_or rows i d) ∙ ap (λ n. numbers_of 1 (take i rows) ++ replicate (get_or rows i d).actions n) long
+    ap (set_numbers_from 1) (take_more rows i d there) ∙ numbers-append 1 (take i rows) (get_or rows i d) ∙ ap (λ n. set_numbers_from 1 (take i rows) ++ replicate (get_or rows i d).actions n) long
 
 -- one more sequence of the set i
 pub one_more : (ns : List ℕ) (j n : ℕ) → (ns ++ replicate j n) ++ n ∷ [] ≡ ns ++ replicate (j + 1) n

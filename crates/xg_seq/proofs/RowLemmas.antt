@@ -6,9 +6,9 @@ use Rattle.std.proofs.lemmas.List.Elements.{All-head, All-tail}
 use Rattle.std.proofs.lemmas.Option.{get_or_from_slice_get, slice_get-map}
 use Rattle.def_sums.proofs.SumLaws.{nat_sum_over-append}
 use Rattle.def_plan.specs.Form.{AreInOrder, InformationSet, IsInOrder, PlacedSet, placed, placed_from, sequence_count}
-use Rattle.def_plan.proofs.Places.{actions_of}
+use Rattle.def_plan.proofs.Places.{form_action_counts}
 use Rattle.xg_seq.specs.declared.table.SetRow.{SetRow}
-use Rattle.xg_seq.specs.Table.{KeepsSets, most_sequences, numbers_of, place_of, set_of}
+use Rattle.xg_seq.specs.Table.{KeepsSets, most_sequences, set_numbers_from, placed_of_row, set_of_row}
 
 abbrev without_place : PlacedSet → InformationSet
 without_place h = record { before = h.before; actions = h.actions }
@@ -17,20 +17,20 @@ placed-without : (first : ℕ) (sets : List InformationSet) → map without_plac
 placed-without first [] = refl
 placed-without first (h ∷ hs) = ap (λ gs. h ∷ gs) (placed-without (first + h.actions) hs)
 
-rows-without : (rows : List SetRow) → map without_place (map place_of rows) ≡ map set_of rows
+rows-without : (rows : List SetRow) → map without_place (map placed_of_row rows) ≡ map set_of_row rows
 rows-without [] = refl
-rows-without (row ∷ rows) = ap (λ gs. set_of row ∷ gs) (rows-without rows)
+rows-without (row ∷ rows) = ap (λ gs. set_of_row row ∷ gs) (rows-without rows)
 
 -- rows that are placed as some sets are have these sets
-pub sets_of_rows : (rows : List SetRow) (sets : List InformationSet) → map place_of rows ≡ placed sets
-    → map set_of rows ≡ sets
+pub sets_of_rows : (rows : List SetRow) (sets : List InformationSet) → map placed_of_row rows ≡ placed sets
+    → map set_of_row rows ≡ sets
 sets_of_rows rows sets same = sym (rows-without rows) ∙ ap (map without_place) same ∙ placed-without 1 sets
 
 -- such rows, with the numbers of their sequences' sets, are kept
-pub keeps_sets : (rows : List SetRow) (numbers : List ℕ) (sets : List InformationSet) → map place_of rows ≡ placed sets
-    → numbers ≡ numbers_of 1 rows → AreInOrder sets → sequence_count sets ≤ most_sequences → KeepsSets rows numbers
+pub keeps_sets : (rows : List SetRow) (numbers : List ℕ) (sets : List InformationSet) → map placed_of_row rows ≡ placed sets
+    → numbers ≡ set_numbers_from 1 rows → AreInOrder sets → sequence_count sets ≤ most_sequences → KeepsSets rows numbers
 keeps_sets rows numbers sets same are order limit =
-    let sets_are : map set_of rows ≡ sets = sets_of_rows rows sets same in
+    let sets_are : map set_of_row rows ≡ sets = sets_of_rows rows sets same in
     record { places = same ∙ ap placed (sym sets_are); numbers = are; order = subst AreInOrder (sym sets_are) order; limit = omega (arith, limit, ap sequence_count sets_are) }
 
 -- what a row tells of its set is told at the set's place
@@ -41,15 +41,15 @@ told_at sets f i h read =
     ∙ ap (option_map f) (slice_get-map without_place (placed sets) i ∙ ap (option_map without_place) read)
 
 placed-append : (first : ℕ) (sets : List InformationSet) (h : InformationSet)
-    → placed_from first (sets ++ h ∷ []) ≡ placed_from first sets ++ record { first = first + actions_of sets; before = h.before; actions = h.actions } ∷ []
+    → placed_from first (sets ++ h ∷ []) ≡ placed_from first sets ++ record { first = first + form_action_counts sets; before = h.before; actions = h.actions } ∷ []
 placed-append first [] h = let here : first ≡ first + 0 = omega arith in ap (λ n. record { first = n; before = h.before; actions = h.actions } ∷ []) here
 placed-append first (g ∷ gs) h =
-    let there : first + g.actions + actions_of gs ≡ first + (g.actions + actions_of gs) = omega arith in
+    let there : first + g.actions + form_action_counts gs ≡ first + (g.actions + form_action_counts gs) = omega arith in
     ap (λ hs. record { first = first; before = g.before; actions = g.actions } ∷ hs) (placed-append (first + g.actions) gs h ∙ ap (λ n. placed_from (first + g.actions) gs ++ record { first = n; before = h.before; actions = h.actions } ∷ []) there)
 
 -- sets in order are no more than their sequences
 pub sets_are_few : (first : ℕ) (sets : List InformationSet) → All IsInOrder (placed_from first sets)
-    → length sets ≤ actions_of sets
+    → length sets ≤ form_action_counts sets
 sets_are_few first [] order = omega arith
 sets_are_few first (h ∷ hs) order =
     let here : PlacedSet = record { first = first; before = h.before; actions = h.actions } in
@@ -57,13 +57,13 @@ sets_are_few first (h ∷ hs) order =
     omega (arith, (All-head IsInOrder here rest order).0, sets_are_few (first + h.actions) hs (All-tail IsInOrder here rest order))
 
 -- nor are their rows
-pub rows_are_few : (rows : List SetRow) (sets : List InformationSet) → map place_of rows ≡ placed sets → AreInOrder sets
+pub rows_are_few : (rows : List SetRow) (sets : List InformationSet) → map placed_of_row rows ≡ placed sets → AreInOrder sets
     → length rows < sequence_count sets
-rows_are_few rows sets same order = omega (arith, length-map rows set_of, ap length (sets_of_rows rows sets same), sets_are_few 1 sets order)
+rows_are_few rows sets same order = omega (arith, length-map rows set_of_row, ap length (sets_of_rows rows sets same), sets_are_few 1 sets order)
 
 -- the rows of the first k sets, and the first sequence of the next one
 pub record StandFor (sets : List InformationSet) (k : ℕ) (rows : List SetRow) (first : ℕ) : Type 0 where
-  pub places : map place_of rows ≡ placed (take k sets)
+  pub places : map placed_of_row rows ≡ placed (take k sets)
   pub next : first ≡ sequence_count (take k sets)
 
 module _ (sets : List InformationSet) (k a b : ℕ) (there : k < length sets)
@@ -79,15 +79,15 @@ module _ (sets : List InformationSet) (k a b : ℕ) (there : k < length sets)
   more : take (k + 1) sets ≡ take k sets ++ h ∷ []
   more = take_more sets k (record { before = 0; actions = 0 }) there
 
-  count_more : actions_of (take (k + 1) sets) ≡ actions_of (take k sets) + a
+  count_more : form_action_counts (take (k + 1) sets) ≡ form_action_counts (take k sets) + a
   count_more =
-      ap actions_of more ∙ nat_sum_over-append (λ (g : InformationSet). g.actions) (take k sets) (h ∷ [])
-      ∙ (let one : h.actions + 0 ≡ a = omega (arith, read (λ g. g.actions) a actions) in ap (λ n. actions_of (take k sets) + n) one)
+      ap form_action_counts more ∙ nat_sum_over-append (λ (g : InformationSet). g.actions) (take k sets) (h ∷ [])
+      ∙ (let one : h.actions + 0 ≡ a = omega (arith, read (λ g. g.actions) a actions) in ap (λ n. form_action_counts (take k sets) + n) one)
 
   -- one more set
   pub stand_for_more : (rows : List SetRow) (first : ℕ) → StandFor sets k rows first → StandFor sets (k + 1) (rows ++ record { first = first; before = b; actions = a } ∷ []) (first + a)
   stand_for_more rows first stand = record {
-    places = map-append place_of rows (record { first = first; before = b; actions = a } ∷ [])
+    places = map-append placed_of_row rows (record { first = first; before = b; actions = a } ∷ [])
         ∙ (λ i. stand.places i ++ record { first = stand.next i; before = sym (read (λ g. g.before) b before) i; actions = sym (read (λ g. g.actions) a actions) i } ∷ [])
         ∙ sym (placed-append 1 (take k sets) h) ∙ ap placed (sym more);
     next = omega (arith, stand.next, count_more);
@@ -96,4 +96,4 @@ module _ (sets : List InformationSet) (k a b : ℕ) (there : k < length sets)
   -- leaves no more sequences than there are
   pub sequences_last : (first : ℕ) → first ≡ sequence_count (take k sets) → first + a ≤ sequence_count sets
   sequences_last first is =
-      omega (arith, count_more, is, ap actions_of (take-append-drop (k + 1) sets), nat_sum_over-append (λ (g : InformationSet). g.actions) (take (k + 1) sets) (drop (k + 1) sets))
+      omega (arith, count_more, is, ap form_action_counts (take-append-drop (k + 1) sets), nat_sum_over-append (λ (g : InformationSet). g.actions) (take (k + 1) sets) (drop (k + 1) sets))

@@ -25,12 +25,12 @@ abbrev pub firsts_of : Player → SequenceForm → List ℕ
 firsts_of player form = map (λ h. h.first) (placed (player_sets form player))
 
 -- how many actions each of a player's sets has
-abbrev pub actions_of : Player → SequenceForm → List ℕ
-actions_of player form = map (λ h. h.actions) (player_sets form player)
+abbrev pub form_action_counts : Player → SequenceForm → List ℕ
+form_action_counts player form = map (λ h. h.actions) (player_sets form player)
 
 -- the player's sequence before each of the sets
-abbrev pub befores_of : Player → SequenceForm → List ℕ
-befores_of player form = map (λ h. h.before) (player_sets form player)
+abbrev pub form_sequences_before : Player → SequenceForm → List ℕ
+form_sequences_before player form = map (λ h. h.before) (player_sets form player)
 
 -- the leaf's sequences are sequences of their players
 pub record HasSequences (form : SequenceForm) (z : FormLeaf) : Type 0 where

@@ -8,16 +8,16 @@ use Rattle.xg_seq.specs.declared.table.SetRow.{SetRow}
 abbrev pub most_sequences : ℕ
 most_sequences = most_nodes
 
-abbrev pub set_of : SetRow → InformationSet
-set_of row = record { before = row.before; actions = row.actions }
+abbrev pub set_of_row : SetRow → InformationSet
+set_of_row row = record { before = row.before; actions = row.actions }
 
-abbrev pub place_of : SetRow → PlacedSet
-place_of row = record { first = row.first; before = row.before; actions = row.actions }
+abbrev pub placed_of_row : SetRow → PlacedSet
+placed_of_row row = record { first = row.first; before = row.before; actions = row.actions }
 
 -- for each sequence that ends at these sets, in turn, the number of its set, where the first set has the number k
-abbrev pub numbers_of : ℕ → List SetRow → List ℕ
-numbers_of k [] = []
-numbers_of k (row ∷ rows) = replicate row.actions k ++ numbers_of (k + 1) rows
+abbrev pub set_numbers_from : ℕ → List SetRow → List ℕ
+set_numbers_from k [] = []
+set_numbers_from k (row ∷ rows) = replicate row.actions k ++ set_numbers_from (k + 1) rows
 
 -- the sequence ends at the set of this number: it is one of those that the set's place tells
 pub record EndsAt (sets : List InformationSet) (sequence set : ℕ) : Type 0 where
@@ -29,7 +29,7 @@ pub record EndsAt (sets : List InformationSet) (sequence set : ℕ) : Type 0 whe
 
 -- the rows are sets in order, each in its place, and these are the numbers of their sequences' sets
 pub record KeepsSets (rows : List SetRow) (set_numbers : List ℕ) : Type 0 where
-  pub places : map place_of rows ≡ placed (map set_of rows)
-  pub numbers : set_numbers ≡ numbers_of 1 rows
-  pub order : AreInOrder (map set_of rows)
-  pub limit : sequence_count (map set_of rows) ≤ most_sequences
+  pub places : map placed_of_row rows ≡ placed (map set_of_row rows)
+  pub numbers : set_numbers ≡ set_numbers_from 1 rows
+  pub order : AreInOrder (map set_of_row rows)
+  pub limit : sequence_count (map set_of_row rows) ≤ most_sequences

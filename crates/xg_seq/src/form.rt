@@ -6,7 +6,7 @@ ghost use Rattle.def_sequence_form.specs.Sets.{tree_sets};
 ghost use Rattle.def_sums.specs.Limits.{most_mass};
 ghost use Rattle.def_tree.specs.Rules.{most_nodes};
 ghost use Rattle.def_tree.specs.Tree.{leaf_count, prefix};
-ghost use Rattle.xg_seq.specs.Leaves.{HasSequences, actions_of, befores_of, firsts_of, leaf_of};
+ghost use Rattle.xg_seq.specs.Leaves.{HasSequences, form_action_counts, form_sequences_before, firsts_of, leaf_of};
 ghost use Rattle.xg_seq.specs.Table.{EndsAt, most_sequences};
 
 use crate::leaf::Leaf;
@@ -90,7 +90,7 @@ impl SeqForm {
     pub fn actions_of(&self, player: Player, set: u32) -> u32
         requires from_one { 1 ≤ set }
         requires there { set ≤ length (player_sets self.now player) }
-        ensures { slice_get (actions_of player self.now) (set - 1) ≡ Some result }
+        ensures { slice_get (form_action_counts player self.now) (set - 1) ≡ Some result }
     {
         self.table(player).row(set).actions
     }
@@ -99,7 +99,7 @@ impl SeqForm {
     pub fn parent_of(&self, player: Player, set: u32) -> u32
         requires from_one { 1 ≤ set }
         requires there { set ≤ length (player_sets self.now player) }
-        ensures { slice_get (befores_of player self.now) (set - 1) ≡ Some result }
+        ensures { slice_get (form_sequences_before player self.now) (set - 1) ≡ Some result }
     {
         self.table(player).row(set).before
     }

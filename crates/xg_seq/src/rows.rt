@@ -1,7 +1,7 @@
 ghost use Rattle.std.specs.Prelude.{◌≡◌, ◌^◌, ◌<◌, ◌≤◌, length, IfOk, map};
 ghost use Rattle.def_plan.specs.Form.{AreInOrder, placed, sequence_count};
 ghost use Rattle.xg_sets.specs.Told.{of_player};
-ghost use Rattle.xg_seq.specs.Table.{most_sequences, numbers_of, place_of};
+ghost use Rattle.xg_seq.specs.Table.{most_sequences, set_numbers_from, placed_of_row};
 
 use crate::table::{SetRow, SetTable};
 use def_tree::Player;
@@ -22,7 +22,7 @@ pub(crate) fn table_of(alloc: Global, sets: &Sets, player: Player) -> Result<Set
 // The player's sets, each placed after the one before it.
 fn rows_of(alloc: Global, sets: &Sets, player: Player) -> Result<Vec<SetRow>, AllocError>
     requires { sequence_count (of_player player sets.now).sets ≤ most_sequences }
-    ensures { IfOk result (λ rows. map place_of rows.items ≡ placed (of_player player sets.now).sets) }
+    ensures { IfOk result (λ rows. map placed_of_row rows.items ≡ placed (of_player player sets.now).sets) }
 {
     let mut rows = Vec::new(alloc);
     let mut first = 1;
@@ -41,7 +41,7 @@ fn rows_of(alloc: Global, sets: &Sets, player: Player) -> Result<Vec<SetRow>, Al
 // For each sequence from 1 on the number of its set.
 fn set_numbers_of(alloc: Global, rows: &[SetRow]) -> Result<Vec<u32>, AllocError>
     requires { length rows.now < 2 ^ 32 }
-    ensures { IfOk result (λ numbers. numbers.items ≡ numbers_of 1 rows.now) }
+    ensures { IfOk result (λ numbers. numbers.items ≡ set_numbers_from 1 rows.now) }
 {
     let mut set_numbers = Vec::new(alloc);
     for (i, row) in rows.iter().enumerate() {

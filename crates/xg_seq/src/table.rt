@@ -1,6 +1,6 @@
 ghost use Rattle.std.specs.Prelude.{◌≡◌, ◌-◌, ◌<◌, ◌≤◌, length, map, Some, slice_get};
 ghost use Rattle.def_plan.specs.Form.{AreInOrder, placed, sequence_count};
-ghost use Rattle.xg_seq.specs.Table.{EndsAt, KeepsSets, most_sequences, place_of, set_of};
+ghost use Rattle.xg_seq.specs.Table.{EndsAt, KeepsSets, most_sequences, placed_of_row, set_of_row};
 
 use std::marker::Model;
 
@@ -26,9 +26,9 @@ impl Model for SetTable {
 
     ghost Value = { List InformationSet };
 
-    ghost use Rattle.xg_seq.specs.Table.{KeepsSets, set_of};
+    ghost use Rattle.xg_seq.specs.Table.{KeepsSets, set_of_row};
 
-    ghost view = { λ t. map set_of t.rows.items };
+    ghost view = { λ t. map set_of_row t.rows.items };
 
     ghost invariant = { λ t. KeepsSets t.rows.items t.set_numbers.items };
 }
@@ -37,7 +37,7 @@ impl SetTable {
     // The sets of these rows.
     pub(crate) fn of(rows: Vec<SetRow>, set_numbers: Vec<u32>) -> SetTable
         requires { KeepsSets rows.items set_numbers.items }
-        ensures { result ≡ map set_of rows.items }
+        ensures { result ≡ map set_of_row rows.items }
     {
         SetTable { rows, set_numbers }
     }
@@ -61,7 +61,7 @@ impl SetTable {
     pub(crate) fn row(&self, set: u32) -> SetRow
         requires from_one { 1 ≤ set }
         requires there { set ≤ length self.now }
-        ensures { slice_get (placed self.now) (set - 1) ≡ Some (place_of result) }
+        ensures { slice_get (placed self.now) (set - 1) ≡ Some (placed_of_row result) }
     {
         self.rows[set as usize - 1]
     }

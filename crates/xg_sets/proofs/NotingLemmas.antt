@@ -32,7 +32,7 @@ use Rattle.xg_sets.specs.declared.parents.Sequences.{Sequences}
 use Rattle.xg_sets.specs.declared.table.SetRow.{SetRow}
 use Rattle.xg_sets.specs.Entered.{AreAt, AreAtFirstChild, AreTablesOf, FindsBreak, IsAtFirstChild, IsFirstNode, IsRowOf, IsTableOf}
 use Rattle.xg_sets.specs.Table.{BeginsSet, JoinsRow, Notes, NotesIn, SetRows, with_set}
-use Rattle.xg_sets.specs.Told.{set_of}
+use Rattle.xg_sets.specs.Told.{set_in_row}
 
 -- behind nodes of other sets, a search for the first node of a set finds the next one
 first_after : (k : ℕ) (x : Node) (before : List Visit) (v : Visit) (rest : List Visit)
@@ -94,7 +94,7 @@ module _ (tree : Forest) (kind : Kind) (game : IsGameTree tree) (inner : is_leaf
   firsts_new first = firsts_more ∙ ap (λ b. firsts ++ cond b (v ∷ []) []) first
 
   rows_count : (table : SetRows) → IsTableOf tree kind n table → length table.rows ≡ length firsts
-  rows_count table stands = sym (length-map table.rows set_of) ∙ ap length stands.sets ∙ length-map firsts (set_at kind tree)
+  rows_count table stands = sym (length-map table.rows set_in_row) ∙ ap length stands.sets ∙ length-map firsts (set_at kind tree)
 
   sequences_more : map (sequence_at kind tree) (take (n + 1) all) ≡ map (sequence_at kind tree) done ++ sequence_at kind tree v ∷ []
   sequences_more = ap (map (sequence_at kind tree)) next.taken ∙ map-append (sequence_at kind tree) done (v ∷ [])
@@ -166,7 +166,7 @@ module _ (tree : Forest) (kind : Kind) (game : IsGameTree tree) (inner : is_leaf
       let next_sizes : sizes_so_far kind (take (n + 1) all) ≡ sizes ++ v.node.children ∷ [] = ap (map (λ (w : Visit). w.node.children)) more ∙ map-append (λ (w : Visit). w.node.children) firsts (v ∷ []) in
       let next_is : table.next ≡ 1 + sum sizes = stands.next in
       record {
-        sets = map-append set_of table.rows (row ∷ []) ∙ (λ i. stands.sets i ++ record { before = sequence i; actions = v.node.children } ∷ []) ∙ sym (map-append (set_at kind tree) firsts (v ∷ [])) ∙ ap (map (set_at kind tree)) (sym more);
+        sets = map-append set_in_row table.rows (row ∷ []) ∙ (λ i. stands.sets i ++ record { before = sequence i; actions = v.node.children } ∷ []) ∙ sym (map-append (set_at kind tree) firsts (v ∷ [])) ∙ ap (map (set_at kind tree)) (sym more);
         each = λ i d there. elim (cases_lt i (length table.rows)) [
           | inl below ↦ subst (IsRowOf tree kind (i + 1)) (sym (get_or-append table.rows (row ∷ []) d i below)) (stands.each i d below)
           | inr past ↦

@@ -15,7 +15,7 @@ use Rattle.def_game_paths.proofs.Coming.{IsNext, stand_over, starts_with}
 use Rattle.xg_sets.specs.declared.parents.Parent.{Parent}
 use Rattle.xg_sets.specs.declared.parents.Sequences.{Sequences}
 use Rattle.xg_sets.specs.Parents.{HasChild, TakesChild, after, sequences_after, with_parent, without_child}
-use Rattle.xg_sets.specs.Entered.{AreAt, AreAtFirstChild, IsAtFirstChild, IsParentOf, number_of}
+use Rattle.xg_sets.specs.Entered.{AreAt, AreAtFirstChild, IsAtFirstChild, IsParentOf, path_number}
 
 one_after : (kind : Kind) (next : Sequences) (j : ℕ)
     → next.one + cond (is_same_kind One kind) (j + 1) 0 ≡ (sequences_after kind next).one + cond (is_same_kind One kind) j 0
@@ -36,7 +36,7 @@ module _ (tree : Forest) where
   Stand = StandOver (IsParentOf tree)
 
   at_child : (kind : Kind) (node : Node) (path : List Move) (s j : ℕ) → IsAtFirstChild tree kind (record { path = path; node = node }) s →
-      number_of kind tree (record { node = node; action = 1 + j } ∷ path) ≡ s + cond (is_same_kind kind node.kind) j 0
+      path_number kind tree (record { node = node; action = 1 + j } ∷ path) ≡ s + cond (is_same_kind kind node.kind) j 0
   at_child kind node path s j starts =
       elim (is_same_kind kind node.kind) as (λ b. is_same_kind kind node.kind ≡ b →
       sequence_number (set_sizes kind tree) (cond b (record { set = node.set; action = 1 + j } ∷ own_choices kind path) (own_choices kind path)) ≡ s + cond b j 0) [
@@ -68,8 +68,8 @@ module _ (tree : Forest) where
         some = omega arith;
         count = omega arith;
         children = is_parent.children.2;
-        one = λ j. let far : action + 1 + j ≡ action + (j + 1) = omega arith in ap (λ a. number_of One tree (above a)) far ∙ is_parent.one (j + 1) ∙ one_after innermost.kind innermost.next j;
-        two = λ j. let far : action + 1 + j ≡ action + (j + 1) = omega arith in ap (λ a. number_of Two tree (above a)) far ∙ is_parent.two (j + 1) ∙ two_after innermost.kind innermost.next j;
+        one = λ j. let far : action + 1 + j ≡ action + (j + 1) = omega arith in ap (λ a. path_number One tree (above a)) far ∙ is_parent.one (j + 1) ∙ one_after innermost.kind innermost.next j;
+        two = λ j. let far : action + 1 + j ≡ action + (j + 1) = omega arith in ap (λ a. path_number Two tree (above a)) far ∙ is_parent.two (j + 1) ∙ two_after innermost.kind innermost.next j;
       })
       (λ last. let few : innermost.to_come ≤ 1 = ltb-false 1 innermost.to_come last in omega arith)
       stand)
@@ -90,13 +90,13 @@ module _ (tree : Forest) where
         let over : IsParentOf tree (record { above = trees.above; action = trees.action; trees = grown starts.node starts.below starts.beside }) innermost =
         subst (λ forest. IsParentOf tree (record { above = trees.above; action = trees.action; trees = forest }) innermost) starts.trees_are is_parent in
         let path : v.path ≡ trees.above trees.action = ap (λ w. w.path) starts.first in
-        let one : number_of One tree (trees.above (trees.action + 0)) ≡ innermost.next.one + cond (is_same_kind One innermost.kind) 0 0 = is_parent.one 0 in
-        let two : number_of Two tree (trees.above (trees.action + 0)) ≡ innermost.next.two + cond (is_same_kind Two innermost.kind) 0 0 = is_parent.two 0 in
+        let one : path_number One tree (trees.above (trees.action + 0)) ≡ innermost.next.one + cond (is_same_kind One innermost.kind) 0 0 = is_parent.one 0 in
+        let two : path_number Two tree (trees.above (trees.action + 0)) ≡ innermost.next.two + cond (is_same_kind Two innermost.kind) 0 0 = is_parent.two 0 in
         record {
           some = some;
           at = record {
-            one = sym (nothing (is_same_kind One innermost.kind) innermost.next.one) ∙ sym one ∙ ap (λ a. number_of One tree (trees.above a)) (sym from) ∙ ap (number_of One tree) (sym path);
-            two = sym (nothing (is_same_kind Two innermost.kind) innermost.next.two) ∙ sym two ∙ ap (λ a. number_of Two tree (trees.above a)) (sym from) ∙ ap (number_of Two tree) (sym path);
+            one = sym (nothing (is_same_kind One innermost.kind) innermost.next.one) ∙ sym one ∙ ap (λ a. path_number One tree (trees.above a)) (sym from) ∙ ap (path_number One tree) (sym path);
+            two = sym (nothing (is_same_kind Two innermost.kind) innermost.next.two) ∙ sym two ∙ ap (λ a. path_number Two tree (trees.above a)) (sym from) ∙ ap (path_number Two tree) (sym path);
           };
           entered = λ below are.
               let Entered : Visit → Type 0 = λ w. AreAtFirstChild tree w below → Stand (with_parent w.node below (without_child innermost outer)) (drop (n + 1) (visits tree)) in

@@ -28,14 +28,14 @@ use Rattle.xg_sets.specs.declared.table.SetRow.{SetRow}
 use Rattle.xg_sets.specs.Fault.{IsFirstBreakOf, TellsBreakOf}
 use Rattle.xg_sets.specs.Entered.{FindsBreak, HasEntered, IsTableOf, AreTablesOf}
 use Rattle.xg_sets.specs.Table.{HasFewRows, SetRows}
-use Rattle.xg_sets.specs.Told.{of_player, set_of, told}
+use Rattle.xg_sets.specs.Told.{of_player, set_in_row, as_player_sets}
 
 -- what a row tells of its set is told at the set's place
 pub told_at : (rows : List SetRow) (sets : List InformationSet) (f : InformationSet → ℕ) (i : ℕ) (row : SetRow)
-    → map set_of rows ≡ sets → slice_get rows i ≡ Some row → slice_get (map f sets) i ≡ Some (f (set_of row))
+    → map set_in_row rows ≡ sets → slice_get rows i ≡ Some row → slice_get (map f sets) i ≡ Some (f (set_in_row row))
 told_at rows sets f i row same read =
-    ap (λ xs. slice_get (map f xs) i) (sym same) ∙ slice_get-map f (map set_of rows) i
-    ∙ ap (option_map f) (slice_get-map set_of rows i ∙ ap (option_map set_of) read)
+    ap (λ xs. slice_get (map f xs) i) (sym same) ∙ slice_get-map f (map set_in_row rows) i
+    ∙ ap (option_map f) (slice_get-map set_in_row rows i ∙ ap (option_map set_in_row) read)
 
 abbrev pub no_sets : SetRows
 no_sets = record { rows = []; at_nodes = []; next = 1 }
@@ -76,9 +76,9 @@ module _ (tree : Forest) (game : IsGameTree tree) (n : ℕ) (last : n ≡ node_c
   all_taken : take n (visits tree) ≡ visits tree
   all_taken = take_all n (visits tree) (omega (arith, length-visits tree))
 
-  table_told : (kind : Kind) (table : SetRows) → IsTableOf tree kind n table → told table ≡ told_sets kind tree
+  table_told : (kind : Kind) (table : SetRows) → IsTableOf tree kind n table → as_player_sets table ≡ told_sets kind tree
   table_told kind table stands =
-      let sets : map set_of table.rows ≡ information_sets kind tree = stands.sets ∙ ap (λ vs. map (set_at kind tree) (set_firsts kind 0 vs)) all_taken in
+      let sets : map set_in_row table.rows ≡ information_sets kind tree = stands.sets ∙ ap (λ vs. map (set_at kind tree) (set_firsts kind 0 vs)) all_taken in
       let at_nodes : table.at_nodes ≡ map (sequence_at kind tree) (visits tree) = stands.at_nodes ∙ ap (map (sequence_at kind tree)) all_taken in
       λ i. record { sets = sets i; at_nodes = at_nodes i }
 
@@ -90,8 +90,8 @@ module _ (tree : Forest) (game : IsGameTree tree) (n : ℕ) (last : n ≡ node_c
       let few = sequences_are_few tree game kind inner in
       let limit : node_count tree ≤ 1048576 = game.limit in
       let firsts : List Visit = set_firsts kind 0 (visits tree) in
-      let sets : map set_of table.rows ≡ map (set_at kind tree) firsts = stands.sets ∙ ap (λ vs. map (set_at kind tree) (set_firsts kind 0 vs)) all_taken in
-      omega (arith, few.few_sets, length-map firsts (λ (w : Visit). w.node.children), length-map firsts (set_at kind tree), length-map table.rows set_of, ap length sets)
+      let sets : map set_in_row table.rows ≡ map (set_at kind tree) firsts = stands.sets ∙ ap (λ vs. map (set_at kind tree) (set_firsts kind 0 vs)) all_taken in
+      omega (arith, few.few_sets, length-map firsts (λ (w : Visit). w.node.children), length-map firsts (set_at kind tree), length-map table.rows set_in_row, ap length sets)
 
   no_break : (one two : SetRows) → AreTablesOf tree n one two → recall_break tree ≡ None
   no_break one two stand =
@@ -99,7 +99,7 @@ module _ (tree : Forest) (game : IsGameTree tree) (n : ℕ) (last : n ≡ node_c
 
   -- after the last node the tables are what is told of the tree
 
-  pub all_told : (one two : SetRows) → AreTablesOf tree n one two → sets_or_break tree ≡ Ok (record { one = told one; two = told two })
+  pub all_told : (one two : SetRows) → AreTablesOf tree n one two → sets_or_break tree ≡ Ok (record { one = as_player_sets one; two = as_player_sets two })
   all_told one two stand =
       ap (λ o. unless_broken o (tree_sets tree)) (no_break one two stand)
       ∙ (λ i. Ok (record { one = sym (table_told One one stand.table_one) i; two = sym (table_told Two two stand.table_two) i }))

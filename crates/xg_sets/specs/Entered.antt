@@ -16,7 +16,7 @@ use Rattle.xg_sets.specs.declared.parents.Parent.{Parent}
 use Rattle.xg_sets.specs.declared.parents.Sequences.{Sequences}
 use Rattle.xg_sets.specs.declared.table.SetRow.{SetRow}
 use Rattle.xg_sets.specs.Table.{SetRows}
-use Rattle.xg_sets.specs.Told.{set_of}
+use Rattle.xg_sets.specs.Told.{set_in_row}
 
 -- a search for the first node of the set finds the row's node, and the sequence there is the row's
 pub record IsFirstNode (tree : Forest) (kind : Kind) (row : SetRow) (x : Node) (v : Visit) : Type 0 where
@@ -31,7 +31,7 @@ pub record IsRowOf (tree : Forest) (kind : Kind) (set : ℕ) (row : SetRow) : Ty
 
 -- a player's sets so far, each with its first node, and the sequences at the first k nodes
 pub record IsTableOf (tree : Forest) (kind : Kind) (k : ℕ) (table : SetRows) : Type 0 where
-  pub sets : map set_of table.rows ≡ map (λ v. record { before = sequence_at kind tree v; actions = v.node.children }) (set_firsts kind 0 (take k (visits tree)))
+  pub sets : map set_in_row table.rows ≡ map (λ v. record { before = sequence_at kind tree v; actions = v.node.children }) (set_firsts kind 0 (take k (visits tree)))
   pub each : (i : ℕ) (d : SetRow) → i < length table.rows → IsRowOf tree kind (i + 1) (slice_index_or table.rows i d)
   pub next : table.next ≡ 1 + sum (sizes_so_far kind (take k (visits tree)))
   pub at_nodes : table.at_nodes ≡ map (sequence_at kind tree) (take k (visits tree))
@@ -43,13 +43,13 @@ pub record AreTablesOf (tree : Forest) (k : ℕ) (one two : SetRows) : Type 0 wh
   pub no_break : number_break tree ≡ first_break (differ_in_number tree) (visits tree) (k + 1) (drop k (visits tree))
 
 -- the number of the kind's sequence on a path
-abbrev pub number_of : Kind → Forest → List Move → ℕ
-number_of kind tree path = sequence_number (set_sizes kind tree) (own_choices kind path)
+abbrev pub path_number : Kind → Forest → List Move → ℕ
+path_number kind tree path = sequence_number (set_sizes kind tree) (own_choices kind path)
 
 -- both players' sequences on a path
 pub record AreAt (tree : Forest) (path : List Move) (at : Sequences) : Type 0 where
-  pub one : at.one ≡ number_of One tree path
-  pub two : at.two ≡ number_of Two tree path
+  pub one : at.one ≡ path_number One tree path
+  pub two : at.two ≡ path_number Two tree path
 
 -- these trees are to come under the parent: as many as it says, and it tells the sequences at each of them
 pub record IsParentOf (tree : Forest) (trees : ComingTrees) (parent : Parent) : Type 0 where
@@ -57,9 +57,9 @@ pub record IsParentOf (tree : Forest) (trees : ComingTrees) (parent : Parent) : 
   pub count : tree_count trees.trees ≡ parent.to_come
   pub children : HasItsChildren trees.trees
   pub one : (j : ℕ)
-      → number_of One tree (trees.above (trees.action + j)) ≡ parent.next.one + (if is_same_kind One parent.kind then j else 0)
+      → path_number One tree (trees.above (trees.action + j)) ≡ parent.next.one + (if is_same_kind One parent.kind then j else 0)
   pub two : (j : ℕ)
-      → number_of Two tree (trees.above (trees.action + j)) ≡ parent.next.two + (if is_same_kind Two parent.kind then j else 0)
+      → path_number Two tree (trees.above (trees.action + j)) ≡ parent.next.two + (if is_same_kind Two parent.kind then j else 0)
 
 -- the first k nodes were entered
 pub record HasEntered (tree : Forest) (k : ℕ) (building : Building) : Type 0 where

@@ -1,5 +1,5 @@
 ghost use Rattle.std.specs.Prelude.{◌≡◌, ◌-◌, ◌≤◌, length, Some, slice_get};
-ghost use Rattle.xg_sets.specs.Told.{actions_of, befores_of, of_player, told};
+ghost use Rattle.xg_sets.specs.Told.{action_counts, sequences_before, of_player, as_player_sets};
 ghost use Rattle.xg_sets.specs.Table.{HasFewRows};
 
 use crate::table::SetTable;
@@ -18,11 +18,11 @@ pub struct Sets {
 impl Model for Sets {
     ghost use Rattle.def_sequence_form.specs.Sets.{TreeSets};
     ghost use Rattle.xg_sets.specs.Table.{HasFewRows};
-    ghost use Rattle.xg_sets.specs.Told.{told};
+    ghost use Rattle.xg_sets.specs.Told.{as_player_sets};
 
     ghost Value = { TreeSets };
 
-    ghost view = { λ s. record { one = told s.one; two = told s.two } };
+    ghost view = { λ s. record { one = as_player_sets s.one; two = as_player_sets s.two } };
 
     ghost invariant = { λ s. HasFewRows s.one × HasFewRows s.two };
 }
@@ -32,7 +32,7 @@ impl Sets {
     pub(crate) fn of(one: SetTable, two: SetTable) -> Sets
         requires few_one { HasFewRows one }
         requires few_two { HasFewRows two }
-        ensures { result ≡ record { one = told one; two = told two } }
+        ensures { result ≡ record { one = as_player_sets one; two = as_player_sets two } }
     {
         Sets { one, two }
     }
@@ -48,7 +48,7 @@ impl Sets {
     pub fn actions(&self, player: Player, set: u32) -> u32
         requires from_one { 1 ≤ set }
         requires there { set ≤ length (of_player player self.now).sets }
-        ensures { slice_get (actions_of player self.now) (set - 1) ≡ Some result }
+        ensures { slice_get (action_counts player self.now) (set - 1) ≡ Some result }
     {
         self.table(player).row(set).actions
     }
@@ -57,7 +57,7 @@ impl Sets {
     pub fn before(&self, player: Player, set: u32) -> u32
         requires from_one { 1 ≤ set }
         requires there { set ≤ length (of_player player self.now).sets }
-        ensures { slice_get (befores_of player self.now) (set - 1) ≡ Some result }
+        ensures { slice_get (sequences_before player self.now) (set - 1) ≡ Some result }
     {
         self.table(player).row(set).before
     }
@@ -72,7 +72,7 @@ impl Sets {
     }
 
     fn table(&self, player: Player) -> &SetTable
-        ensures told { told result.now ≡ of_player player self.now }
+        ensures told { as_player_sets result.now ≡ of_player player self.now }
         ensures few { HasFewRows result.now }
     {
         match player {

@@ -6,7 +6,8 @@ use Rattle.def_file.specs.declared.FileFault.{FileFault}
 use Rattle.def_file.specs.declared.FileFault.TheVariants.{TooLong}
 use Rattle.def_file.specs.Content.{GameFile}
 use Rattle.def_text.specs.Text.{game_text, no_rounds}
-use Rattle.def_program.specs.Program.{Answer, most_bytes, read_as_game, solve_answer, success, refusal}
+use Rattle.def_file.specs.Reading.{most_bytes}
+use Rattle.def_program.specs.Program.{Answer, read_as_game, solve_answer, success, refusal}
 use Rattle.def_program.specs.Meaning.{SolveMeans, MeansOnly}
 use Rattle.def_program.specs.Lines.{of_file}
 use Rattle.def_program.proofs.Meant.{solve_computed}

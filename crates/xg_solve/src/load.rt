@@ -1,7 +1,6 @@
 //! Loading a game from its file.
 ghost use Rattle.std.specs.Prelude.{◌≡◌, ◌≢◌, ◌<◌, ◌≤◌, length, IsTrue, IsErrOf};
-ghost use Rattle.def_file.specs.Reading.{game_at};
-ghost use Rattle.def_program.specs.Program.{most_bytes};
+ghost use Rattle.def_file.specs.Reading.{game_at, most_bytes};
 ghost use Rattle.xg_solve.specs.Loads.{Loads, LoadHasCause, ReadsGame};
 
 use std::alloc::Global;

@@ -1,6 +1,6 @@
 use Rattle.std.proofs.Common.{◌∙◌, ap, arith, length}
 use Rattle.xg_sets.specs.Told.{of_player}
-use Rattle.xg_seq.specs.Table.{numbers_of}
+use Rattle.xg_seq.specs.Table.{set_numbers_from}
 use Rattle.xg_seq.proofs.RowLemmas.{keeps_sets, rows_are_few, sets_of_rows}
 use Rattle.xg_seq.proofs.rows.table_of.Goals as goal
 
@@ -11,7 +11,7 @@ set_numbers_of-requires c =
 pub of-requires : goal.of-requires
 of-requires c =
     keeps_sets c.in_ok-rows.rows.items c.in_ok-set_numbers.set_numbers.items (of_player c.args.player c.args.sets.now).sets c.in_ok-rows.ensures
-    (c.in_ok-set_numbers.ensures ∙ ap (numbers_of 1) c.deref.ensures.value) c.requires.order c.requires.limit
+    (c.in_ok-set_numbers.ensures ∙ ap (set_numbers_from 1) c.deref.ensures.value) c.requires.order c.requires.limit
 
 pub returns : goal.returns
 returns c = c.of.ensures ∙ sets_of_rows c.in_ok-rows.rows.items (of_player c.args.player c.args.sets.now).sets c.in_ok-rows.ensures
