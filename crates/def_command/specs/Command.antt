@@ -8,6 +8,7 @@ use Rattle.std.specs.Cmp.Lexicographic.{pointwise}
 
 pub data Command : Type 0 where
   Solve : (file : List ℕ) → Command
+  Info : (file : List ℕ) → Command
 
 -- an option begins with a minus
 abbrev pub is_option : List ℕ → Bool
@@ -17,11 +18,12 @@ is_option (byte ∷ bytes) = nat_eq byte 45
 abbrev pub is_word : List ℕ → List ℕ → Bool
 is_word word expected = pointwise nat_eq word expected
 
--- so far `solve FILE --rounds 0` alone, in this order and spelling
+-- so far `solve FILE --rounds 0`, in this order and spelling, and `info FILE`
 abbrev pub command_of : List (List ℕ) → Option Command
 command_of [] = None
 command_of (command ∷ []) = None
-command_of (command ∷ file ∷ []) = None
+command_of (command ∷ file ∷ []) =
+    if is_word command (codes "info") && not (is_option file) then Some (Info file) else None
 command_of (command ∷ file ∷ rounds ∷ []) = None
 command_of (command ∷ file ∷ rounds ∷ count ∷ []) =
     if is_word command (codes "solve")
@@ -31,6 +33,7 @@ command_of (command ∷ file ∷ rounds ∷ count ∷ word ∷ words) = None
 
 abbrev pub file_words : Command → List (List ℕ)
 file_words (Solve file) = file ∷ []
+file_words (Info file) = file ∷ []
 
 abbrev pub files_of : Option Command → List (List ℕ)
 files_of None = []

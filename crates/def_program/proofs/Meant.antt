@@ -4,54 +4,73 @@ use Rattle.std.specs.Prelude.{All, IsSome, IsSomeAnd}
 use Rattle.std.specs.Option.{option_map}
 use Rattle.def_file.specs.declared.FileFault.{FileFault}
 use Rattle.def_file.specs.Content.{GameFile}
+use Rattle.def_file_form.proofs.WholeGames.{stands_for_whole_game}
 use Rattle.def_file_fault.proofs.Stopped.{fault_first}
 use Rattle.def_file_fault.proofs.Reached.{first_faulted}
-use Rattle.def_command.specs.Command.{Command, Solve, command_of, files_of}
-use Rattle.def_program.specs.Program.{Answer, read_as_game, solve_answer, command_answer, answer_of, program, usage}
-use Rattle.def_program.specs.Meaning.{SolveMeans, played, refused, CommandMeans, IsMeant, Means}
-use Rattle.def_program.specs.Laws.{RefusedWithTheFirst, MeaningIsComputed, ToldWordsMeanOne}
-use Rattle.def_program.proofs.Refused.{refused_first, accepted_whole}
+use Rattle.def_game_faults.proofs.First.{game_first}
+use Rattle.def_game_faults.proofs.Sound.{sound}
+use Rattle.def_game_numbers.proofs.Fractions.{tables_lowest}
+use Rattle.def_command.specs.Command.{Command, Info, Solve, command_of, files_of}
+use Rattle.def_text.specs.Text.{info_text}
+use Rattle.def_program.specs.Program.{Answer, answer_of, command_answer, file_answer, game_answer, program, read_as_accepted, solved, usage}
+use Rattle.def_program.specs.Meaning.{CommandMeans, FileMeans, IsMeant, Means, refused, written}
+use Rattle.def_program.specs.Laws.{AcceptedGamesAreSound, AcceptedWithoutFault, MeaningIsComputed, ReadingIsExact, RefusedWithTheFirst, ToldWordsMeanOne}
+use Rattle.def_program.proofs.Refused.{GameLaws, accepted_sound, accepted_whole, reading_exact, refused_with_first}
+
+-- the laws of the crates below
+reading_is_exact : ReadingIsExact
+reading_is_exact = reading_exact fault_first first_faulted
+
+game_laws : GameLaws
+game_laws = record { whole = stands_for_whole_game; fractions = tables_lowest; first = game_first; sound = sound }
 
 -- a file is refused exactly with its first fault
 pub first_refused : RefusedWithTheFirst
-first_refused = refused_first fault_first first_faulted
+first_refused = refused_with_first reading_is_exact game_laws
+
+-- a file is accepted exactly where it can be read and its game has no fault
+pub accepted_whole_file : AcceptedWithoutFault
+accepted_whole_file = accepted_whole reading_is_exact game_laws
 
 -- ---- one file
 
--- an answer that is meant of a file is computed
-pub solve_computed : (bytes : List ℕ) (answer : Answer) → SolveMeans bytes answer
-    → solve_answer (read_as_game bytes) ≡ answer
-solve_computed bytes answer (played game is same) = ap solve_answer ((accepted_whole bytes game).1 is) ∙ sym same
-solve_computed bytes answer (refused fault is same) = ap solve_answer ((first_refused bytes fault).1 is) ∙ sym same
+module _ (text : GameFile → List ℕ) where
+  -- an answer that is meant of a file is computed
+  pub file_computed : (bytes : List ℕ) (answer : Answer) → FileMeans text bytes answer → file_answer text bytes ≡ answer
+  file_computed bytes answer (written game is same) =
+      ap (game_answer text) ((accepted_whole_file bytes game).1 is) ∙ sym same
+  file_computed bytes answer (refused fault is same) = ap (game_answer text) ((first_refused bytes fault).1 is) ∙ sym same
 
--- what is computed of a file is meant
-solve_meant : (bytes : List ℕ) (r : Result GameFile FileFault) → read_as_game bytes ≡ r
-    → SolveMeans bytes (solve_answer r)
-solve_meant bytes (Ok game) is = played game ((accepted_whole bytes game).0 is) refl
-solve_meant bytes (Err fault) is = refused fault ((first_refused bytes fault).0 is) refl
+  -- what is computed of a file is meant
+  file_meant : (bytes : List ℕ) (r : Result GameFile FileFault) → read_as_accepted bytes ≡ r
+      → FileMeans text bytes (game_answer text r)
+  file_meant bytes (Ok game) is = written game ((accepted_whole_file bytes game).0 is) refl
+  file_meant bytes (Err fault) is = refused fault ((first_refused bytes fault).0 is) refl
+
+  content_computed : (content : Option (List ℕ)) (answer : Answer)
+      → IsSomeAnd content (λ bytes. FileMeans text bytes answer)
+      → option_map (file_answer text) content ≡ Some answer
+  content_computed None answer means = absurd means
+  content_computed (Some bytes) answer means = ap Some (file_computed bytes answer means)
+
+  content_meant : (content : Option (List ℕ)) (answer : Answer) → option_map (file_answer text) content ≡ Some answer
+      → IsSomeAnd content (λ bytes. FileMeans text bytes answer)
+  content_meant None answer computed = absurd cc
+  content_meant (Some bytes) answer computed =
+      let same : file_answer text bytes ≡ answer = cc in
+      subst (λ (a : Answer). FileMeans text bytes a) same (file_meant bytes (read_as_accepted bytes) refl)
 
 -- ---- commands
 
 command_computed : (command : Command) (told : List ℕ → Option (List ℕ)) (answer : Answer)
     → CommandMeans command told answer → command_answer command told ≡ Some answer
-command_computed (Solve file) told answer means = by_content (told file) means
-  where
-    by_content : (content : Option (List ℕ)) → IsSomeAnd content (λ bytes. SolveMeans bytes answer)
-        → option_map (λ bytes. solve_answer (read_as_game bytes)) content ≡ Some answer
-    by_content None means = absurd means
-    by_content (Some bytes) means = ap Some (solve_computed bytes answer means)
+command_computed (Solve file) told answer means = content_computed solved (told file) answer means
+command_computed (Info file) told answer means = content_computed info_text (told file) answer means
 
 command_meant : (command : Command) (told : List ℕ → Option (List ℕ)) (answer : Answer)
     → command_answer command told ≡ Some answer → CommandMeans command told answer
-command_meant (Solve file) told answer computed = by_content (told file) computed
-  where
-    by_content : (content : Option (List ℕ))
-        → option_map (λ bytes. solve_answer (read_as_game bytes)) content ≡ Some answer
-        → IsSomeAnd content (λ bytes. SolveMeans bytes answer)
-    by_content None computed = absurd cc
-    by_content (Some bytes) computed =
-        let same : solve_answer (read_as_game bytes) ≡ answer = cc in
-        subst (λ (a : Answer). SolveMeans bytes a) same (solve_meant bytes (read_as_game bytes) refl)
+command_meant (Solve file) told answer computed = content_meant solved (told file) answer computed
+command_meant (Info file) told answer computed = content_meant info_text (told file) answer computed
 
 -- what words mean in the format's terms is what the program computes
 pub meaning_computed : MeaningIsComputed
@@ -73,15 +92,16 @@ record Computed (answers : Option Answer) : Type 0 where
   answer : Answer
   is : answers ≡ Some answer
 
+content_answered : (text : GameFile → List ℕ) (content : Option (List ℕ)) → IsSome content
+    → Computed (option_map (file_answer text) content)
+content_answered text None is_told = absurd cc
+content_answered text (Some bytes) is_told = record { answer = file_answer text bytes; is = refl }
+
 told_computed : (command : Option Command) (told : List ℕ → Option (List ℕ))
     → All (λ file. IsSome (told file)) (files_of command) → Computed (answer_of command told)
 told_computed None told are_told = record { answer = usage; is = refl }
-told_computed (Some (Solve file)) told are_told = by_content (told file) (are_told 0 [] (omega arith))
-  where
-    by_content : (content : Option (List ℕ)) → IsSome content
-        → Computed (option_map (λ bytes. solve_answer (read_as_game bytes)) content)
-    by_content None is_told = absurd cc
-    by_content (Some bytes) is_told = record { answer = solve_answer (read_as_game bytes); is = refl }
+told_computed (Some (Solve file)) told are_told = content_answered solved (told file) (are_told 0 [] (omega arith))
+told_computed (Some (Info file)) told are_told = content_answered info_text (told file) (are_told 0 [] (omega arith))
 
 -- words whose files are told mean one answer, and no other one
 pub told_means_one : ToldWordsMeanOne
@@ -96,3 +116,11 @@ told_means_one words told are_told = record {
 
     only : (other : Answer) → Means words told other → other ≡ found.answer
     only other means = injective other found.answer (sym ((meaning_computed words told other).0 means) ∙ found.is)
+
+-- an accepted file's game is sound
+pub accepted_games_sound : AcceptedGamesAreSound
+accepted_games_sound = accepted_sound reading_is_exact game_laws
+
+-- reading is exact
+pub reading_is : ReadingIsExact
+reading_is = reading_is_exact

@@ -6,27 +6,36 @@
 use Rattle.std.specs.Prelude.{◌≡◌, ◌⊎◌, ℕ, ◌≤◌, List, length, All, Option, Some, None, IsSome, IsSomeAnd}
 use Rattle.def_file.specs.declared.FileFault.{FileFault}
 use Rattle.def_file.specs.Content.{GameFile}
-use Rattle.def_file_form.specs.Laws.{StandsFor}
-use Rattle.def_command.specs.Command.{Command, Solve, command_of, named_files}
-use Rattle.def_text.specs.Text.{game_text, no_rounds}
-use Rattle.def_text.specs.Lines.{fault_line}
 use Rattle.def_file.specs.Reading.{most_bytes}
-use Rattle.def_program.specs.Program.{Answer, success, refusal, usage}
+use Rattle.def_file_form.specs.Laws.{StandsFor}
+use Rattle.def_game_paths.specs.Recall.{HasPerfectRecall}
+use Rattle.def_game_faults.specs.First.{PassNumbers}
+use Rattle.def_game_numbers.specs.Numbers.{tables_of}
+use Rattle.def_command.specs.Command.{Command, Info, Solve, command_of, named_files}
+use Rattle.def_text.specs.Text.{info_text}
+use Rattle.def_text.specs.Lines.{fault_line}
+use Rattle.def_program.specs.Program.{Answer, refusal, solved, success, usage}
 use Rattle.def_program.specs.FirstFault.{IsFirstFault}
 
-pub record IsAccepted (bytes : List ℕ) (game : GameFile) : Type 0 where
+-- a file that can be read
+pub record IsReadable (bytes : List ℕ) (game : GameFile) : Type 0 where
   pub length_within : length bytes ≤ most_bytes
   pub stands : StandsFor bytes game
 
--- `solve` of a file of these bytes: the text of the game that it stands for, or the line of its first fault
-pub data SolveMeans (bytes : List ℕ) (answer : Answer) : Type 0 where
-  played : (game : GameFile) → IsAccepted bytes game → answer ≡ success (game_text game no_rounds)
-      → SolveMeans bytes answer
+pub record IsAccepted (bytes : List ℕ) (game : GameFile) : Type 0 where
+  pub readable : IsReadable bytes game
+  pub numbers : PassNumbers (tables_of game) game.tree
+  pub recall : HasPerfectRecall game.tree
+
+-- a command that writes this text of the game of a file of these bytes: the text, or the line of the file's first fault
+pub data FileMeans (text : GameFile → List ℕ) (bytes : List ℕ) (answer : Answer) : Type 0 where
+  written : (game : GameFile) → IsAccepted bytes game → answer ≡ success (text game) → FileMeans text bytes answer
   refused : (fault : FileFault) → IsFirstFault bytes fault → answer ≡ refusal (fault_line fault)
-      → SolveMeans bytes answer
+      → FileMeans text bytes answer
 
 abbrev pub CommandMeans : Command → (List ℕ → Option (List ℕ)) → Answer → Type 0
-CommandMeans (Solve file) told answer = IsSomeAnd (told file) (λ bytes. SolveMeans bytes answer)
+CommandMeans (Solve file) told answer = IsSomeAnd (told file) (λ bytes. FileMeans solved bytes answer)
+CommandMeans (Info file) told answer = IsSomeAnd (told file) (λ bytes. FileMeans info_text bytes answer)
 
 -- words that aren't taken mean the usage
 abbrev pub IsMeant : Option Command → (List ℕ → Option (List ℕ)) → Answer → Type 0

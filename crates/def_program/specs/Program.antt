@@ -1,19 +1,34 @@
 -- The program as a function of the words and of what the files hold.
---     read_as_game bytes   the game of a file, or its first fault
---     Answer               the status, what is written, and the line that says why there is nothing
---     program words told   the answer, where the bytes of the files that it rests on are told
+--     read_as_game bytes       the game of a file that can be read, or the first fault of its text
+--     read_as_accepted bytes   the game of a file that is accepted, or its first fault
+--     Answer                   the status, what is written, and the line that says why there is nothing
+--     program words told       the answer, where the bytes of the files that it rests on are told
 use Rattle.std.specs.Prelude.{ℕ, nat_lt, if◌then◌else◌, List, [], length, Option, Some, None, Result, Ok, Err}
 use Rattle.std.specs.Option.{option_map}
 use Rattle.def_file.specs.declared.FileFault.{FileFault}
 use Rattle.def_file.specs.declared.FileFault.TheVariants.{TooLong}
 use Rattle.def_file.specs.Content.{GameFile}
 use Rattle.def_file.specs.Reading.{game_at, most_bytes}
-use Rattle.def_command.specs.Command.{Command, Solve, command_of}
-use Rattle.def_text.specs.Text.{game_text, no_rounds}
+use Rattle.def_game_numbers.specs.Numbers.{game_file_fault}
+use Rattle.def_command.specs.Command.{Command, Info, Solve, command_of}
+use Rattle.def_text.specs.Text.{info_text, no_rounds, solve_text}
 use Rattle.def_text.specs.Lines.{fault_line, usage_line}
 
 unfoldable pub read_as_game : List ℕ → Result GameFile FileFault
 read_as_game bytes = if nat_lt most_bytes (length bytes) then Err TooLong else game_at bytes
+
+-- the game, unless it has this fault
+abbrev pub unless_faulty : Option FileFault → GameFile → Result GameFile FileFault
+unless_faulty None game = Ok game
+unless_faulty (Some fault) game = Err fault
+
+-- what was read is accepted unless its game has a fault
+abbrev pub accepted : Result GameFile FileFault → Result GameFile FileFault
+accepted (Ok game) = unless_faulty (game_file_fault game) game
+accepted (Err fault) = Err fault
+
+abbrev pub read_as_accepted : List ℕ → Result GameFile FileFault
+read_as_accepted bytes = accepted (read_as_game bytes)
 
 pub record Answer : Type 0 where
   pub status : ℕ
@@ -32,12 +47,21 @@ refusal reason = record { status = 1; text = []; line = reason }
 abbrev pub usage : Answer
 usage = record { status = 2; text = []; line = usage_line }
 
-abbrev pub solve_answer : Result GameFile FileFault → Answer
-solve_answer (Ok game) = success (game_text game no_rounds)
-solve_answer (Err fault) = refusal (fault_line fault)
+-- what is written of an accepted file's game
+abbrev pub game_answer : (GameFile → List ℕ) → Result GameFile FileFault → Answer
+game_answer text (Ok game) = success (text game)
+game_answer text (Err fault) = refusal (fault_line fault)
+
+abbrev pub file_answer : (GameFile → List ℕ) → List ℕ → Answer
+file_answer text bytes = game_answer text (read_as_accepted bytes)
+
+-- what a command of one file writes of its game
+abbrev pub solved : GameFile → List ℕ
+solved game = solve_text game no_rounds
 
 abbrev pub command_answer : Command → (List ℕ → Option (List ℕ)) → Option Answer
-command_answer (Solve file) told = option_map (λ bytes. solve_answer (read_as_game bytes)) (told file)
+command_answer (Solve file) told = option_map (file_answer solved) (told file)
+command_answer (Info file) told = option_map (file_answer info_text) (told file)
 
 abbrev pub answer_of : Option Command → (List ℕ → Option (List ℕ)) → Option Answer
 answer_of None told = Some usage

@@ -1,9 +1,21 @@
--- The text of a solved game: its head, and the end line.
-use Rattle.std.specs.Prelude.{ℕ, List, [], ◌∷◌, ◌++◌, codes}
-use Rattle.std.specs.Fmt.{decimal}
+-- The texts that are written of a file's game: the certificate of its solution, and what `info` tells.
+--     head_of game settings      the game's numbers, with what is asked
+--     outcome_of game settings   what the rounds leave
+--     solve_text game settings   the certificate of the outcome
+--     info_text game             its title and players, and its numbers
+use Rattle.std.specs.Prelude.{ℕ, List, [], ◌∷◌, ◌++◌, codes, length}
 use Rattle.def_sums.specs.Limits.{most_scale}
 use Rattle.def_tree.specs.Tree.{prefix, node_count, leaf_count}
+use Rattle.def_file_tokens.specs.Texts.{escaped}
 use Rattle.def_file.specs.Content.{GameFile}
+use Rattle.def_game_scale.specs.Scale.{game_mass, game_unit}
+use Rattle.def_game_numbers.specs.Numbers.{tables_of}
+use Rattle.def_plan.specs.Form.{SequenceForm, sequence_count}
+use Rattle.def_sequence_form.specs.Form.{form_of_game}
+use Rattle.def_bracket.specs.Outcome.{Head, Outcome}
+use Rattle.def_run.specs.Run.{outcome}
+use Rattle.def_cert_accepted.specs.OfOutcome.{certificate_of}
+use Rattle.def_cert_text.specs.CertText.{cert_text, head_text}
 
 -- how many rounds are played, after how many of them the plans are evaluated, and the scale of a plan
 pub record Settings : Type 0 where
@@ -18,12 +30,39 @@ line_feed = 10 ∷ []
 abbrev pub no_rounds : Settings
 no_rounds = record { rounds = 0; every = 1; scale = most_scale }
 
-abbrev pub game_text : GameFile → Settings → List ℕ
-game_text game settings =
-    codes "XGCERT 1" ++ (line_feed
-    ++ (codes "nodes " ++ (decimal (node_count game.tree)
-    ++ (codes " leaves " ++ (decimal (leaf_count (prefix game.tree)) ++ (line_feed
-    ++ (codes "rounds " ++ (decimal settings.rounds
-    ++ (codes " every " ++ (decimal settings.every
-    ++ (codes " scale " ++ (decimal settings.scale ++ (line_feed
-    ++ (codes "end" ++ line_feed))))))))))))))
+abbrev pub form_of_file : GameFile → SequenceForm
+form_of_file game = form_of_game (tables_of game) game.tree
+
+abbrev pub head_with : GameFile → SequenceForm → Settings → Head
+head_with game form settings = record {
+  nodes = node_count game.tree;
+  leaves = leaf_count (prefix game.tree);
+  sets_one = length form.sets_one;
+  sets_two = length form.sets_two;
+  sequences_one = sequence_count form.sets_one;
+  sequences_two = sequence_count form.sets_two;
+  unit = game_unit (tables_of game) game.tree;
+  mass = game_mass (tables_of game) game.tree;
+  rounds = settings.rounds;
+  every = settings.every;
+  scale = settings.scale;
+}
+
+abbrev pub head_of : GameFile → Settings → Head
+head_of game settings = head_with game (form_of_file game) settings
+
+abbrev pub outcome_of : GameFile → Settings → Outcome
+outcome_of game settings = outcome (form_of_file game) (head_of game settings)
+
+abbrev pub solve_text : GameFile → Settings → List ℕ
+solve_text game settings = cert_text (certificate_of (form_of_file game) (outcome_of game settings))
+
+-- a text between quotation marks
+abbrev pub quoted : List ℕ → List ℕ
+quoted text = 34 ∷ (escaped text ++ 34 ∷ [])
+
+abbrev pub info_text : GameFile → List ℕ
+info_text game =
+    codes "title " ++ (quoted game.prologue.title ++ (line_feed
+    ++ (codes "players " ++ (quoted game.prologue.one ++ (codes " " ++ (quoted game.prologue.two ++ (line_feed
+    ++ head_text (head_of game no_rounds))))))))

@@ -2,11 +2,11 @@
 #![tactic(auto)]
 
 ghost use Rattle.def_text.specs.Laws.{LinesTellFaults};
-ghost use Rattle.def_text.specs.Rows.{FaultLineRows, LeafRow};
+ghost use Rattle.def_text.specs.Rows.{FaultLineRows, LeafRows};
 
-/// Row: the text of a game of one leaf.
-pub fn leaf_row()
-    ensures { LeafRow }
+/// Rows: the texts of a game of one leaf.
+pub fn leaf_rows()
+    ensures { LeafRows }
 {}
 
 /// Rows: the lines of five faults, with their numbers, names and places.

@@ -1,0 +1,10 @@
+use Rattle.std.proofs.Common.{refl}
+use Rattle.std.specs.Fmt.{digits}
+use Rattle.def_fraction.specs.Divisors.{gcd}
+use Rattle.def_fraction.specs.Fraction.{fraction_of}
+use Rattle.def_file_tokens.specs.Texts.{escaped}
+use Rattle.def_text.proofs.leaf_rows.Goals as goal
+
+pub returns : goal.returns
+unfolding digits gcd fraction_of escaped
+returns c = record { solved = refl; info = refl }
