@@ -1,0 +1,123 @@
+-- The laws of the lines, and of the whole text.
+use Rattle.std.proofs.Common.{◌≡◌, ℕ, ◌*◌, ◌^◌, ◌≤◌, true, false, ltb, List, Option, refl, arith}
+use Rattle.std.specs.Prelude.{codes}
+use Rattle.std.specs.Fmt.{decimal}
+use Rattle.std.proofs.lemmas.Bool.{ltb-true}
+use Rattle.std.proofs.lemmas.Nat.{mul-le}
+use Rattle.def_fraction.specs.Fraction.{Fraction}
+use Rattle.def_reply.specs.Reply.{SetReply, Reply}
+use Rattle.def_bracket.specs.Bracket.{TraceLine}
+use Rattle.def_bracket.specs.Outcome.{Head}
+use Rattle.def_cert_verdict.specs.Certificate.{PrintedPlan, PrintedBounds, Certificate}
+use Rattle.def_cert_ranges.specs.Ranges.{HeadFits}
+use Rattle.def_cert_text.specs.Fields.{space, feed, fixed_word, number, version, is_field_byte}
+use Rattle.def_cert_text.specs.Formats.{Format, whole_field, fixed_field, and_then, where_asked}
+use Rattle.def_cert_text.specs.CertText.{after_word, after_set_number, after_player, NumbersOfGame, size_line, sets_line, sequences_line, unit_line, mass_line, game_lines, asked_line, head_lines, line_of_round, round_of_evaluation, evaluation_count, trace_lines, weights_line, plan_lines, value_line, reply_lines, bracket_line, PartsOfBounds, bounds_lines, whole_certificate}
+use Rattle.def_cert_text.proofs.FieldLaws.{all_pass, decimal_inside}
+use Rattle.def_cert_text.proofs.FormatLaws.{IsFormat, pair_laws}
+use Rattle.def_cert_text.proofs.OneField.{whole_laws, integer_laws, fraction_laws, fixed_laws}
+use Rattle.def_cert_text.proofs.Fits.{head_fits}
+use Rattle.def_cert_text.proofs.MoreFormats.{seen_laws, after_laws, each_laws, asked_laws, row_laws}
+
+word_laws : (A : Type 0) (wanted : List ℕ) (f : Format A) → all_pass is_field_byte wanted ≡ true → IsFormat A f → IsFormat A (after_word wanted f)
+word_laws A wanted f h laws = after_laws A fixed_word wanted space f h refl laws
+
+two_laws : (A B : Type 0) (f : Format A) (g : Format B) → IsFormat A f → IsFormat B g → IsFormat (A × B) (and_then f (λ _. g))
+two_laws A B f g first second = pair_laws A B f (λ _. g) first (λ x fit. second)
+
+entries_laws : (low sep : ℕ) → low ≤ 2 ^ 20 → is_field_byte sep ≡ false → IsFormat ℕ (whole_field low (2 ^ 20) sep)
+entries_laws low sep small s = whole_laws low (2 ^ 20) sep small (omega arith) s
+
+-- ---- the head
+pub game_laws : IsFormat NumbersOfGame game_lines
+game_laws =
+    two_laws _ _ size_line _ (word_laws _ (codes "nodes") _ refl (two_laws _ _ _ _ (entries_laws 1 space (omega arith) refl) (word_laws _ (codes "leaves") _ refl (entries_laws 1 feed (omega arith) refl))))
+    (two_laws _ _ sets_line _ (word_laws _ (codes "sets") _ refl (two_laws _ _ _ _ (entries_laws 0 space (omega arith) refl) (entries_laws 0 feed (omega arith) refl)))
+    (two_laws _ _ sequences_line _ (word_laws _ (codes "sequences") _ refl (two_laws _ _ _ _ (entries_laws 1 space (omega arith) refl) (entries_laws 1 feed (omega arith) refl)))
+    (two_laws _ _ unit_line mass_line (word_laws _ (codes "unit") _ refl (whole_laws 1 (2 ^ 62) feed (omega arith) (omega arith) refl))
+    (word_laws _ (codes "mass") _ refl (whole_laws 0 (2 ^ 62) feed (omega arith) (omega arith) refl)))))
+
+asked_line_laws : IsFormat (ℕ × (ℕ × ℕ)) asked_line
+asked_line_laws =
+    word_laws _ (codes "rounds") _ refl (two_laws _ _ _ _ (whole_laws 0 65536 space (omega arith) (omega arith) refl)
+    (word_laws _ (codes "every") _ refl (two_laws _ _ _ _ (whole_laws 1 65536 space (omega arith) (omega arith) refl)
+    (word_laws _ (codes "scale") _ refl (whole_laws 1 1048576 feed (omega arith) (omega arith) refl)))))
+
+pub head_laws : IsFormat Head head_lines
+head_laws = seen_laws _ Head _ _ _ (λ p. refl) (λ h. refl) (two_laws _ _ game_lines asked_line game_laws asked_line_laws)
+
+-- ---- the trace
+pub round_line_laws : (k : ℕ) → 1 ≤ k → k ≤ 65536 → IsFormat TraceLine (line_of_round k)
+round_line_laws k some small =
+    seen_laws _ TraceLine _ _ _ (λ p. refl) (λ line. refl)
+    (word_laws _ (codes "trace") _ refl (two_laws _ _ _ _ (whole_laws k k space (omega arith) (omega arith) refl)
+    (two_laws _ _ _ _ (whole_laws 1 k space some (omega arith) refl)
+    (two_laws _ _ _ _ (integer_laws (2 ^ 100) space (omega arith) refl)
+    (two_laws _ _ _ _ (whole_laws 1 k space some (omega arith) refl) (integer_laws (2 ^ 100) feed (omega arith) refl))))))
+
+pub record AsksRounds (head : Head) : Type 0 where
+  pub rounds : (1 ≤ head.rounds) × (head.rounds ≤ 65536)
+  pub every : 1 ≤ head.every
+  pub sets_one : head.sets_one ≤ 2 ^ 20
+  pub sets_two : head.sets_two ≤ 2 ^ 20
+
+round_from_one : (head : Head) (k : ℕ) → AsksRounds head → 1 ≤ k → (1 ≤ round_of_evaluation head k) × (round_of_evaluation head k ≤ 65536)
+round_from_one head k asks some =
+    let product : 1 ≤ k * head.every = omega (arith, mul-le 1 1 k head.every some asks.every) in
+    (omega (arith, product, asks.rounds.0), omega (arith, asks.rounds.1))
+
+pub trace_laws : (head : Head) → AsksRounds head → IsFormat (List TraceLine) (trace_lines head)
+trace_laws head asks = each_laws TraceLine (λ k. line_of_round (round_of_evaluation head k)) (evaluation_count head) 1 (λ k low high.
+    let r = round_from_one head k asks low in round_line_laws (round_of_evaluation head k) r.0 r.1)
+
+-- ---- plans and replies
+set_laws : (A : Type 0) (wanted : List ℕ) (set : ℕ) (f : Format A) → all_pass is_field_byte wanted ≡ true → set ≤ 2 ^ 20 → IsFormat A f → IsFormat A (after_set_number wanted set f)
+set_laws A wanted set f h small laws = word_laws A wanted _ h (after_laws A number (decimal set) space f (decimal_inside set (omega arith)) refl laws)
+
+player_laws : (A : Type 0) (wanted player : List ℕ) (f : Format A) → all_pass is_field_byte wanted ≡ true → all_pass is_field_byte player ≡ true → IsFormat A f → IsFormat A (after_player wanted player f)
+player_laws A wanted player f h k laws = word_laws A wanted _ h (word_laws A player f k laws)
+
+weights_laws : (set : ℕ) → set ≤ 2 ^ 20 → IsFormat (List ℕ) (weights_line set)
+weights_laws set small = set_laws _ (codes "weights") set _ refl small (row_laws _ (omega arith) 1023)
+
+plan_laws : (player : List ℕ) (sets : ℕ) → all_pass is_field_byte player ≡ true → sets ≤ 2 ^ 20 → IsFormat PrintedPlan (plan_lines player sets)
+plan_laws player sets h small =
+    seen_laws _ PrintedPlan _ _ _ (λ p. refl) (λ plan. refl)
+    (player_laws _ (codes "plan") player _ refl h (two_laws _ _ _ _ (whole_laws 1 _ feed (omega arith) (omega arith) refl)
+    (each_laws (List ℕ) weights_line sets 1 (λ set low high. weights_laws set (omega arith)))))
+
+value_laws : (set : ℕ) → set ≤ 2 ^ 20 → IsFormat SetReply (value_line set)
+value_laws set small =
+    seen_laws _ SetReply _ _ _ (λ p. refl) (λ reply. refl)
+    (set_laws _ (codes "value") set _ refl small (two_laws _ _ _ _ (integer_laws (2 ^ 100) space (omega arith) refl) (whole_laws 1 1024 feed (omega arith) (omega arith) refl)))
+
+reply_laws : (player : List ℕ) (sets : ℕ) → all_pass is_field_byte player ≡ true → sets ≤ 2 ^ 20 → IsFormat Reply (reply_lines player sets)
+reply_laws player sets h small =
+    seen_laws _ Reply _ _ _ (λ p. refl) (λ reply. refl)
+    (player_laws _ (codes "reply") player _ refl h (two_laws _ _ _ _ (integer_laws (2 ^ 100) feed (omega arith) refl)
+    (each_laws SetReply value_line sets 1 (λ set low high. value_laws set (omega arith)))))
+
+bracket_laws : IsFormat (Fraction × Fraction) bracket_line
+bracket_laws = word_laws _ (codes "bracket") _ refl (two_laws _ _ _ _ (fraction_laws (2 ^ 100) space (omega arith) (omega arith) refl) (fraction_laws (2 ^ 100) feed (omega arith) (omega arith) refl))
+
+-- ---- the whole
+pub bounds_laws : (head : Head) → AsksRounds head → IsFormat PrintedBounds (bounds_lines head)
+bounds_laws head asks =
+    seen_laws PartsOfBounds PrintedBounds _ _ _ (λ p. refl) (λ b. refl)
+    (two_laws _ _ (trace_lines head) _ (trace_laws head asks)
+    (two_laws _ _ (plan_lines (codes "1") head.sets_one) _ (plan_laws (codes "1") head.sets_one refl asks.sets_one)
+    (two_laws _ _ (reply_lines (codes "2") head.sets_two) _ (reply_laws (codes "2") head.sets_two refl asks.sets_two)
+    (two_laws _ _ (plan_lines (codes "2") head.sets_two) _ (plan_laws (codes "2") head.sets_two refl asks.sets_two)
+    (two_laws _ _ (reply_lines (codes "1") head.sets_one) bracket_line (reply_laws (codes "1") head.sets_one refl asks.sets_one) bracket_laws)))))
+
+asks_rounds : (head : Head) → HeadFits head → ltb 0 head.rounds ≡ true → AsksRounds head
+asks_rounds head f asked = record { rounds = (ltb-true 0 head.rounds asked, f.rounds); every = f.every.0; sets_one = f.sets_one; sets_two = f.sets_two }
+
+pub certificate_laws : IsFormat Certificate whole_certificate
+certificate_laws =
+    seen_laws (Head × (Option PrintedBounds × Unit {0})) Certificate _ _ _ (λ p. refl) (λ c. refl)
+    (word_laws _ (codes "XGCERT") _ refl (after_laws _ version (codes "1") feed _ refl refl
+    (pair_laws Head (Option PrintedBounds × Unit {0}) head_lines _ head_laws (λ head fit.
+    two_laws (Option PrintedBounds) (Unit {0}) (where_asked (ltb 0 head.rounds) (bounds_lines head)) (fixed_field fixed_word (codes "end") feed)
+    (asked_laws PrintedBounds (ltb 0 head.rounds) (bounds_lines head) (λ asked. bounds_laws head (asks_rounds head (head_fits head fit) asked)))
+    (fixed_laws fixed_word (codes "end") feed refl refl)))))

@@ -1,0 +1,24 @@
+//! The text of a certificate, version 1: one definition for who writes it and who reads it. There is no code here: the
+//! functions' contracts are laws of the definitions, which stand in `specs/`.
+#![tactic(auto)]
+
+ghost use Rattle.def_cert_text.specs.Laws.{FirstFaultDecides, ReadingIsExact, TextsTellCertificates};
+
+mod fault;
+
+pub use fault::CertFault;
+
+/// Reading gives a certificate exactly where it is within its ranges and the bytes are its text.
+pub fn reading_is_exact()
+    ensures { ReadingIsExact }
+{}
+
+/// Two certificates within their ranges whose texts are the same are the same certificate.
+pub fn texts_tell_certificates()
+    ensures { TextsTellCertificates }
+{}
+
+/// Reading stops with a fault exactly where it is the first.
+pub fn first_fault_decides()
+    ensures { FirstFaultDecides }
+{}
