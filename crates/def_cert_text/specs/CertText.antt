@@ -8,7 +8,9 @@ use Rattle.def_reply.specs.Reply.{SetReply, Reply}
 use Rattle.def_bracket.specs.Bracket.{TraceLine}
 use Rattle.def_bracket.specs.Outcome.{Head}
 use Rattle.def_cert_verdict.specs.Certificate.{PrintedPlan, PrintedBounds, Certificate}
-use Rattle.def_cert_ranges.specs.Ranges.{most_entries, most_unit, most_printed}
+use Rattle.def_cert_ranges.specs.Ranges.{most_printed}
+use Rattle.def_fraction.specs.Fraction.{most}
+use Rattle.def_tree.specs.Rules.{most_nodes}
 use Rattle.def_cert_text.specs.declared.fault.CertFault.{CertFault}
 use Rattle.def_cert_text.specs.declared.fault.CertFault.TheVariants.{CertTrailing}
 use Rattle.def_cert_text.specs.Fields.{◌>>=◌, space, feed, fixed_word, number, version}
@@ -22,16 +24,16 @@ abbrev pub NumbersOfGame : Type 0
 NumbersOfGame = (ℕ × ℕ) × ((ℕ × ℕ) × ((ℕ × ℕ) × (ℕ × ℕ)))
 
 abbrev pub size_line : Format (ℕ × ℕ)
-size_line = after_word (codes "nodes") (and_then (whole_field 1 most_entries space) (λ nodes. after_word (codes "leaves") (whole_field 1 most_entries feed)))
+size_line = after_word (codes "nodes") (and_then (whole_field 1 most_nodes space) (λ nodes. after_word (codes "leaves") (whole_field 1 most_nodes feed)))
 
 abbrev pub sets_line : Format (ℕ × ℕ)
-sets_line = after_word (codes "sets") (and_then (whole_field 0 most_entries space) (λ one. whole_field 0 most_entries feed))
+sets_line = after_word (codes "sets") (and_then (whole_field 0 most_nodes space) (λ one. whole_field 0 most_nodes feed))
 
 abbrev pub sequences_line : Format (ℕ × ℕ)
-sequences_line = after_word (codes "sequences") (and_then (whole_field 1 most_entries space) (λ one. whole_field 1 most_entries feed))
+sequences_line = after_word (codes "sequences") (and_then (whole_field 1 most_nodes space) (λ one. whole_field 1 most_nodes feed))
 
 abbrev pub unit_line : Format ℕ
-unit_line = after_word (codes "unit") (whole_field 1 most_unit feed)
+unit_line = after_word (codes "unit") (whole_field 1 most feed)
 
 abbrev pub mass_line : Format ℕ
 mass_line = after_word (codes "mass") (whole_field 0 most_mass feed)

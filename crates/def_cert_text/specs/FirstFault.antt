@@ -48,7 +48,8 @@ Needs f items place = (item : Item) × (place_of_item item ≡ place) × CanGoOn
 
 pub data Stops {A : Type 0} (f : Format A) (items : List Item) (place : Place) (total : ℕ) (left : List ℕ) (fault : CertFault) : Type 0 where
   cut_short : is_cut_short place left ≡ true → fault ≡ CertShort → Stops f items place total left fault
-  unfit : is_cut_short place left ≡ false → (CanGoOn f (items ++ item_there place left ∷ []) → ⊥) → fault ≡ fault_there place (total - length left)
+  unfit : is_cut_short place left ≡ false → (CanGoOn f (items ++ item_there place left ∷ []) → ⊥)
+      → fault ≡ fault_there place (total - length left)
       → Stops f items place total left fault
 
 -- The bytes end a text of so many bytes in all. The field before a separator's place is a whole one.

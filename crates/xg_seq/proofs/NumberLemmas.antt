@@ -7,7 +7,8 @@ use Rattle.def_plan.proofs.Places.{form_action_counts}
 use Rattle.xg_seq.specs.declared.table.SetRow.{SetRow}
 use Rattle.xg_seq.specs.Table.{EndsAt, KeepsSets, set_numbers_from, set_of_row}
 
-length-set_numbers_from : (k : ℕ) (rows : List SetRow) → length (set_numbers_from k rows) ≡ form_action_counts (map set_of_row rows)
+length-set_numbers_from : (k : ℕ) (rows : List SetRow)
+    → length (set_numbers_from k rows) ≡ form_action_counts (map set_of_row rows)
 length-set_numbers_from k [] = refl
 length-set_numbers_from k (row ∷ rows) = omega (arith, length-append (replicate row.actions k) (set_numbers_from (k + 1) rows), length-replicate row.actions k, length-set_numbers_from (k + 1) rows)
 

@@ -27,8 +27,10 @@ pub sets_of_rows : (rows : List SetRow) (sets : List InformationSet) → map pla
 sets_of_rows rows sets same = sym (rows-without rows) ∙ ap (map without_place) same ∙ placed-without 1 sets
 
 -- such rows, with the numbers of their sequences' sets, are kept
-pub keeps_sets : (rows : List SetRow) (numbers : List ℕ) (sets : List InformationSet) → map placed_of_row rows ≡ placed sets
-    → numbers ≡ set_numbers_from 1 rows → AreInOrder sets → sequence_count sets ≤ most_sequences → KeepsSets rows numbers
+pub keeps_sets : (rows : List SetRow) (numbers : List ℕ) (sets : List InformationSet)
+    → map placed_of_row rows ≡ placed sets
+    → numbers ≡ set_numbers_from 1 rows → AreInOrder sets → sequence_count sets ≤ most_sequences
+    → KeepsSets rows numbers
 keeps_sets rows numbers sets same are order limit =
     let sets_are : map set_of_row rows ≡ sets = sets_of_rows rows sets same in
     record { places = same ∙ ap placed (sym sets_are); numbers = are; order = subst AreInOrder (sym sets_are) order; limit = omega (arith, limit, ap sequence_count sets_are) }
@@ -57,7 +59,8 @@ sets_are_few first (h ∷ hs) order =
     omega (arith, (All-head IsInOrder here rest order).0, sets_are_few (first + h.actions) hs (All-tail IsInOrder here rest order))
 
 -- nor are their rows
-pub rows_are_few : (rows : List SetRow) (sets : List InformationSet) → map placed_of_row rows ≡ placed sets → AreInOrder sets
+pub rows_are_few : (rows : List SetRow) (sets : List InformationSet) → map placed_of_row rows ≡ placed sets
+    → AreInOrder sets
     → length rows < sequence_count sets
 rows_are_few rows sets same order = omega (arith, length-map rows set_of_row, ap length (sets_of_rows rows sets same), sets_are_few 1 sets order)
 

@@ -76,7 +76,8 @@ module _ (tree : Forest) (game : IsGameTree tree) (n : ℕ) (last : n ≡ node_c
   all_taken : take n (visits tree) ≡ visits tree
   all_taken = take_all n (visits tree) (omega (arith, length-visits tree))
 
-  table_told : (kind : Kind) (table : SetRows) → IsTableOf tree kind n table → as_player_sets table ≡ told_sets kind tree
+  table_told : (kind : Kind) (table : SetRows) → IsTableOf tree kind n table
+      → as_player_sets table ≡ told_sets kind tree
   table_told kind table stands =
       let sets : map set_in_row table.rows ≡ information_sets kind tree = stands.sets ∙ ap (λ vs. map (set_at kind tree) (set_firsts kind 0 vs)) all_taken in
       let at_nodes : table.at_nodes ≡ map (sequence_at kind tree) (visits tree) = stands.at_nodes ∙ ap (map (sequence_at kind tree)) all_taken in
