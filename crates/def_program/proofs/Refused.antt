@@ -94,7 +94,7 @@ module _ (reading : ReadingIsExact) (laws : GameLaws) (bytes : List ℕ) where
   found_in_game game is None same fault e = absurd cc
   found_in_game game is (Some found) same fault e =
       in_game is.length_within game is.stands found
-      ((laws.first (tables_of game) game.tree (in_lowest_terms game is)).some found).0 same) (cc)
+      (((laws.first (tables_of game) game.tree (in_lowest_terms game is)).some found).0 same) (cc)
 
   -- a refused file has this first fault
   pub refused_is_first : (fault : FileFault) → (r : Result GameFile FileFault) → read_as_game bytes ≡ r
@@ -113,8 +113,8 @@ module _ (reading : ReadingIsExact) (laws : GameLaws) (bytes : List ℕ) where
   -- a file with this first fault is refused with it
   pub first_is_refused : (fault : FileFault) → IsFirstFault bytes fault → read_as_accepted bytes ≡ Err fault
   first_is_refused fault (in_text is) = ap accepted ((reading.refused bytes fault).1 is)
-  first_is_refused fault (in_game within game stands found first same) =
-      let readable : IsReadable bytes game = record { length_within = within; stands = stands } in
+  first_is_refused fault (in_game short game stands found first same) =
+      let readable : IsReadable bytes game = record { length_within = short; stands = stands } in
       let is : game_fault (tables_of game) game.tree ≡ Some found =
           ((laws.first (tables_of game) game.tree (in_lowest_terms game readable)).some found).1 first in
       ap accepted ((reading.read bytes game).1 readable) ∙ ap (λ o. unless_faulty (as_file_fault o) game) is
