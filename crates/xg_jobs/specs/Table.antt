@@ -1,0 +1,31 @@
+-- What a table of jobs tells of a game: the jobs' ranges of leaves, and the leaves of each of player one's sequences.
+use Rattle.std.specs.Prelude.{◌≡◌, List, length, map, filter, ◌==◌, ℤ}
+use Rattle.def_tree.specs.Tree.{Forest, leaf_count, prefix}
+use Rattle.def_tree.specs.Rules.{IsGameTree}
+use Rattle.def_game_jobs.specs.Ranges.{LeafRange, job_ranges}
+use Rattle.def_plan.specs.Form.{Leaf, SequenceForm, sequences}
+use Rattle.def_sequence_form.specs.Form.{form_of}
+
+pub record TableOfJobs : Type 0 where
+  pub ranges : List LeafRange
+  pub groups : List (List Leaf)
+
+-- for each sequence of player one in turn, the leaves that have it
+abbrev pub leaf_groups : SequenceForm → List (List Leaf)
+leaf_groups form = map (λ s. filter (λ z. z.sequence_one == s) form.leaves) (sequences form.sets_one)
+
+abbrev pub job_table : SequenceForm → Forest → TableOfJobs
+job_table form tree = record { ranges = job_ranges tree; groups = leaf_groups form }
+
+-- the form is that of the tree, with a weight for each leaf
+pub record IsFormOf (form : SequenceForm) (tree : Forest) : Type 0 where
+  pub weights : List ℤ
+  pub count : length weights ≡ leaf_count (prefix tree)
+  pub form_is : form ≡ form_of tree weights
+
+-- the table was built from the form and its tree
+pub record IsTableOf (form : SequenceForm) (table : TableOfJobs) : Type 0 where
+  pub tree : Forest
+  pub rules : IsGameTree tree
+  pub form_is : IsFormOf form tree
+  pub table_is : table ≡ job_table form tree

@@ -1,0 +1,8 @@
+use xg_seq::SeqForm;
+
+/// What rows are made from: a form, and a number for each sequence of each player.
+pub struct RowInput<'a> {
+    pub form: &'a SeqForm,
+    pub one: &'a [u64],
+    pub two: &'a [u64],
+}

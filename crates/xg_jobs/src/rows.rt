@@ -1,0 +1,67 @@
+ghost use Rattle.std.specs.Prelude.{◌≡◌, ◌+◌, ◌<◌, length, replicate, pos, slice_set, IfOk};
+ghost use Rattle.def_plan.specs.Form.{sequence_count};
+ghost use Rattle.xg_jobs.specs.Rows.{all_rows};
+
+use def_tree::Player;
+use std::alloc::{AllocError, Global};
+use std::marker::Model;
+use xg_seq::SeqForm;
+
+/// The amounts at the rows of a form, in player one's payoff.
+///
+/// Row `s` is player one's sequence `s`, and player two's sequences come behind them.
+#[derive(Drop)]
+pub struct Rows {
+    one: Vec<i128>,
+    two: Vec<i128>,
+}
+
+impl Model for Rows {
+    ghost use Rattle.xg_jobs.specs.Rows.{Amounts};
+
+    ghost Value = { Amounts };
+
+    ghost view = { λ r. record { one = r.one.items; two = r.two.items } };
+}
+
+impl Rows {
+    /// The amount 0 at each row of the form.
+    pub fn new(alloc: Global, form: &SeqForm) -> Result<Rows, AllocError>
+        ensures one { IfOk result (λ rows. rows.one ≡ replicate (sequence_count form.now.sets_one) (pos 0)) }
+        ensures two { IfOk result (λ rows. rows.two ≡ replicate (sequence_count form.now.sets_two) (pos 0)) }
+    {
+        Ok(Rows {
+            one: vec![in alloc; 0; form.sequence_count(Player::One) as usize]?,
+            two: vec![in alloc; 0; form.sequence_count(Player::Two) as usize]?,
+        })
+    }
+
+    /// Puts an amount at a row.
+    pub fn put(&mut self, row: u32, amount: i128)
+        requires { row < length (all_rows self.old) }
+        ensures rows { all_rows self.new ≡ slice_set (all_rows self.old) row amount }
+        ensures count { length self.new.one ≡ length self.old.one }
+    {
+        let row = row as usize;
+        let count = self.one.len();
+        if row < count {
+            self.one[row] = amount;
+        } else {
+            self.two[row - count] = amount;
+        }
+    }
+
+    /// Player one's amounts, by sequence.
+    pub fn one(&self) -> &[i128]
+        ensures { result.now ≡ self.now.one }
+    {
+        &self.one
+    }
+
+    /// Player two's amounts, by sequence.
+    pub fn two(&self) -> &[i128]
+        ensures { result.now ≡ self.now.two }
+    {
+        &self.two
+    }
+}

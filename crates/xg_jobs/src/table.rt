@@ -1,0 +1,59 @@
+ghost use Rattle.std.specs.Prelude.{◌≡◌, ◌-◌, ◌<◌, ◌≤◌, length, IfOk, Some, slice_get};
+ghost use Rattle.def_game_jobs.specs.Jobs.{most_jobs};
+ghost use Rattle.xg_jobs.specs.Table.{IsFormOf, IsTableOf, job_table};
+
+use crate::groups::LeafGroups;
+use std::alloc::{AllocError, Global};
+use std::marker::Model;
+use xg_seq::SeqForm;
+use xg_tree::Tree;
+
+/// The jobs of a game: the subtrees below the chance nodes at the top of its tree, each with its leaves.
+///
+/// Jobs are numbered from 0, and there are at most 4,096.
+#[derive(Drop)]
+pub struct JobTable {
+    ranges: Vec<LeafRange>,
+    groups: LeafGroups,
+}
+
+/// Some leaves in a row: how many come before them, and how many they are.
+#[derive(Clone, Copy)]
+pub(crate) struct LeafRange {
+    pub(crate) first: u32,
+    pub(crate) count: u32,
+}
+
+impl Model for JobTable {
+    ghost use Rattle.std.specs.Prelude.{map};
+    ghost use Rattle.xg_jobs.specs.Table.{TableOfJobs};
+    ghost use Rattle.xg_jobs.specs.Ranges.{KeepsRanges, range_of};
+
+    ghost Value = { TableOfJobs };
+
+    ghost view = { λ t. record { ranges = map range_of t.ranges.items; groups = t.groups } };
+
+    ghost invariant = { λ t. KeepsRanges t.ranges.items };
+}
+
+impl JobTable {
+    /// The number of jobs.
+    pub fn count(&self) -> u32
+        ensures count { result ≡ length self.now.ranges }
+
+        // What is true of every table.
+        ensures limit { result ≤ most_jobs }
+    {
+        self.ranges.len() as u32
+    }
+
+    /// A job's first leaf, and the number of its leaves.
+    pub fn leaves_of(&self, job: u32) -> (u32, u32)
+        requires { job < length self.now.ranges }
+        ensures from_one { 1 ≤ result.0 }
+        ensures leaves { slice_get self.now.ranges job ≡ Some (record { first = result.0 - 1; count = result.1 }) }
+    {
+        let range = self.ranges[job as usize];
+        (range.first + 1, range.count)
+    }
+}
