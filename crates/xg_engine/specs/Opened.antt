@@ -1,0 +1,30 @@
+-- What opening a game gives, and what a head asks.
+use Rattle.std.specs.Prelude.{◌≡◌, ℕ}
+use Rattle.def_tree.specs.Tree.{node_count}
+use Rattle.def_file.specs.Content.{GameFile}
+use Rattle.def_game_scale.specs.Scale.{game_unit}
+use Rattle.def_game_numbers.specs.Numbers.{tables_of}
+use Rattle.def_plan.specs.Form.{SequenceForm}
+use Rattle.def_plan.specs.Payoff.{mass_of}
+use Rattle.def_sequence_form.specs.Form.{form_of_game}
+use Rattle.def_bracket.specs.Outcome.{Head}
+use Rattle.def_cert_verdict.specs.Verdict.{WeighedGame}
+use Rattle.xg_engine.specs.declared.settings.Settings.{Settings}
+
+-- a file's game in numbers
+abbrev pub weighed_game : GameFile → WeighedGame
+weighed_game game = record {
+  nodes = node_count game.tree;
+  unit = game_unit (tables_of game) game.tree;
+  form = form_of_game (tables_of game) game.tree;
+}
+
+-- the head has these settings
+pub record Asks (settings : Settings) (head : Head) : Type 0 where
+  pub rounds : head.rounds ≡ settings.rounds
+  pub every : head.every ≡ settings.every
+  pub scale : head.scale ≡ settings.scale
+
+-- the sizes of the form's weights add up to this
+abbrev pub KeepsMass : SequenceForm → ℕ → Type 0
+KeepsMass form mass = mass ≡ mass_of form.leaves

@@ -1,0 +1,82 @@
+ghost use Rattle.std.specs.Prelude.{◌≡◌, ◌≢◌, Err, IfOk, None, Some};
+ghost use Rattle.def_cert_verdict.specs.Laws.{IsHeadOf};
+ghost use Rattle.def_file.specs.declared.FileFault.{FileFault};
+ghost use Rattle.def_game_numbers.specs.Numbers.{game_file_fault};
+ghost use Rattle.xg_cert.specs.Outcome.{head_of};
+ghost use Rattle.xg_engine.specs.Opened.{Asks, weighed_game};
+
+use crate::settings::Settings;
+use std::alloc::Global;
+use std::marker::Model;
+use xg_cert::Head;
+use xg_game::{FileFault, Game, Refused};
+use xg_plan::Player;
+use xg_scale::{Weights, weigh};
+use xg_seq::SeqForm;
+use xg_sets::{RecallFault, Sets, build_sets};
+
+/// A game in numbers, ready for rounds.
+#[derive(Drop)]
+pub struct Engine {
+    form: SeqForm,
+    nodes: u32,
+    unit: u64,
+    mass: u64,
+}
+
+impl Model for Engine {
+    ghost use Rattle.def_cert_verdict.specs.Verdict.{WeighedGame};
+    ghost use Rattle.xg_engine.specs.Opened.{KeepsMass};
+
+    ghost Value = { WeighedGame };
+
+    ghost view = { λ e. record { nodes = e.nodes; unit = e.unit; form = e.form } };
+
+    ghost invariant = { λ e. KeepsMass e.form e.mass };
+}
+
+impl Engine {
+    /// The game in numbers, or its first fault: of the probabilities, payoffs and weights, and then of recall.
+    pub fn open(alloc: Global, game: &Game) -> Result<Engine, Refused>
+        ensures opened { IfOk result (λ engine. engine ≡ weighed_game game.now) }
+        ensures faultless { IfOk result (λ _. game_file_fault game.now ≡ None) }
+        ensures refused { (fault : FileFault) → result ≡ Err (Refused.File fault)
+            → game_file_fault game.now ≡ Some fault }
+    {
+        let weights = weigh(alloc, game)?;
+        let sets = sets_of(alloc, game)?;
+        let form = form_of(alloc, game, &weights, &sets)?;
+        Ok(Engine {
+            form,
+            nodes: game.tree().len(),
+            unit: weights.unit(),
+            mass: weights.mass(),
+        })
+    }
+
+    /// The game's sequence form.
+    pub fn form(&self) -> &SeqForm
+        ensures { result.now ≡ self.now.form }
+    {
+        &self.form
+    }
+
+    /// The game's numbers, with what is asked.
+    pub fn head(&self, settings: Settings) -> Head
+        ensures game { IsHeadOf self.now (head_of result) }
+        ensures asked { Asks settings (head_of result) }
+    {
+        let form = &self.form;
+        Head {
+            nodes: self.nodes,
+            leaves: form.leaf_count(),
+            sets: (form.set_count(Player::One), form.set_count(Player::Two)),
+            sequences: (form.sequence_count(Player::One), form.sequence_count(Player::Two)),
+            unit: self.unit,
+            mass: self.mass,
+            rounds: settings.rounds,
+            every: settings.every,
+            scale: settings.scale,
+        }
+    }
+}
