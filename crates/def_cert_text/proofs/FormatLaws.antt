@@ -1,12 +1,12 @@
 -- What a format writes it reads again, what it reads was written so, and its faults are the first ones: a law for each way to make a format.
-use Rattle.std.proofs.Common.{◌≡◌, ℕ, ◌<◌, ◌≤◌, true, List, [], ◌∷◌, ◌++◌, length, Result, Ok, Err, refl, sym, ap, ◌∙◌, subst, append_assoc, arith, ◌⊎◌, inl, inr, ⊎_elim}
+use Rattle.std.proofs.Common.{◌≡◌, ℕ, ◌<◌, ◌≤◌, Bool, true, not, List, [], ◌∷◌, ◌++◌, ◌&&◌, length, Result, Ok, Err, refl, sym, ap, ◌∙◌, subst, append_assoc, arith, ◌⊎◌, inl, inr, ⊎_elim}
 use Rattle.std.proofs.lemmas.List.{append-nil, append_cancel_left, length-append}
 use Rattle.std.proofs.lemmas.Bool.{and_parts, and_from, cases_lt}
 use Rattle.def_cert_text.specs.declared.fault.CertFault.{CertFault}
-use Rattle.def_cert_text.specs.Fields.{◌>>=◌, Item, item_bytes, items_text}
+use Rattle.def_cert_text.specs.Fields.{◌>>=◌, Item, field, separator, item_bytes, items_text, is_field_byte}
 use Rattle.def_cert_text.specs.Formats.{Format, text_of, and_then}
 use Rattle.def_cert_text.specs.FirstFault.{Place, item_there, CanGoOn, Needs, Stops, cut_short, unfit, HasFirstFault}
-use Rattle.def_cert_text.proofs.FieldLaws.{bind_ok, ok_is}
+use Rattle.def_cert_text.proofs.FieldLaws.{bind_ok, ok_is, all_pass}
 
 pub items_text-append : (xs ys : List Item) → items_text (xs ++ ys) ≡ items_text xs ++ items_text ys
 items_text-append [] ys = refl
@@ -17,6 +17,19 @@ pub bind_err : {A B : Type 0} (r : Result A CertFault) (k : A → Result B CertF
 bind_err (Ok x) k fault e = inr (x, refl, e)
 bind_err (Err other) k fault e = inl (let same : other ≡ fault = cc in λ i. Err (same i))
 
+-- fields hold no byte that separates, and separators are bytes that do
+abbrev pub is_clean : Item → Bool
+is_clean (field kind bytes) = all_pass is_field_byte bytes
+is_clean (separator byte) = not (is_field_byte byte)
+
+abbrev pub all_clean : List Item → Bool
+all_clean [] = true
+all_clean (item ∷ items) = is_clean item && all_clean items
+
+clean_append : (xs ys : List Item) → all_clean xs ≡ true → all_clean ys ≡ true → all_clean (xs ++ ys) ≡ true
+clean_append [] ys h k = k
+clean_append (x ∷ xs) ys h k = let q = and_parts (is_clean x) (all_clean xs) h in and_from (is_clean x) (all_clean (xs ++ ys)) q.0 (clean_append xs ys q.1 k)
+
 -- what holds of a format
 pub record IsFormat (A : Type 0) (f : Format A) : Type 0 where
   pub again : (total : ℕ) (x : A) (left : List ℕ) → f.fits x ≡ true → f.read total (text_of f x ++ left) ≡ Ok (x, left)
@@ -24,10 +37,16 @@ pub record IsFormat (A : Type 0) (f : Format A) : Type 0 where
       → (f.fits x ≡ true) × (bytes ≡ text_of f x ++ left)
   pub some : A
   pub some_fits : f.fits some ≡ true
+<<<<<<< HEAD
   pub faults : (total : ℕ) (bytes : List ℕ) (fault : CertFault) → f.read total bytes ≡ Err fault
       → HasFirstFault f total bytes fault
   pub found : (total : ℕ) (bytes : List ℕ) (fault : CertFault) → HasFirstFault f total bytes fault
       → f.read total bytes ≡ Err fault
+=======
+  pub clean : (x : A) → f.fits x ≡ true → all_clean (f.items x) ≡ true
+  pub faults : (total : ℕ) (bytes : List ℕ) (fault : CertFault) → f.read total bytes ≡ Err fault → HasFirstFault f total bytes fault
+  pub found : (total : ℕ) (bytes : List ℕ) (fault : CertFault) → HasFirstFault f total bytes fault → f.read total bytes ≡ Err fault
+>>>>>>> 9d9f77cda94831753213b8c851adf776e569447e
 
 -- ---- the same values under another form
 pub record IsView (A B : Type 0) (f : Format A) (g : Format B) (to : A → B) : Type 0 where
@@ -92,6 +111,9 @@ view_laws A B f g to is laws = record {
       (is.fits x.0 one.0, one.1 ∙ ap (λ (items : List Item). items_text items ++ x.1) (sym (is.items x.0 one.0)));
   some = to laws.some;
   some_fits = is.fits laws.some laws.some_fits;
+  clean = λ y fits.
+      let b = is.back y fits in
+      subst (λ (z : B). all_clean (g.items z) ≡ true) b.2 (ap all_clean (is.items b.0 b.1) ∙ laws.clean b.0 b.1);
   faults = λ total bytes fault e.
       first_by A B f g (to_view A B f g to is) (from_view A B f g to is) total bytes fault
       (laws.faults total bytes fault (view_fault A B to (f.read total bytes) fault (sym (is.read total bytes) ∙ e)));
@@ -121,6 +143,7 @@ nothing_laws A f x is = record {
       (is.fits, ap (λ (items : List Item). items_text items ++ bytes) (sym is.items));
   some = x;
   some_fits = is.fits;
+  clean = λ y fits. ap (λ z. all_clean (f.items z)) (is.alone y fits) ∙ ap all_clean is.items;
   faults = λ total bytes fault e. absurd (let bad = sym (is.read total bytes) ∙ e in cc);
   found = λ total bytes fault h.
       let p = h.needed.2 in
@@ -363,6 +386,9 @@ pair_laws A B f g first second =
       only = pair_only A B f g first second;
       some = (first.some, h.some);
       some_fits = and_from (f.fits first.some) ((g first.some).fits h.some) first.some_fits h.some_fits;
+      clean = λ p fits.
+          let q = and_parts (f.fits p.0) ((g p.0).fits p.1) fits in
+          clean_append (f.items p.0) ((g p.0).items p.1) (first.clean p.0 q.0) ((second p.0 q.0).clean p.1 q.1);
       faults = pair_faults A B f g first second;
       found = pair_found A B f g first second;
     }
