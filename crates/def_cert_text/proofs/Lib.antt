@@ -5,3 +5,5 @@ pub mod MoreFormats
 pub mod Fits
 pub mod LineLaws
 pub mod TextLaws
+pub mod CutTexts
+pub mod TextLines

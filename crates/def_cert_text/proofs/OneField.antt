@@ -250,6 +250,9 @@ any_laws A kind fits spelled test ok is seps = record {
   only = any_only A kind fits spelled test ok is;
   some = (is.some, seps.some_sep);
   some_fits = and_from (fits is.some) (ok seps.some_sep) is.some_fits seps.some_ok;
+  clean = λ p fit.
+      let q = and_parts (fits p.0) (ok p.1) fit in
+      and_from (all_pass is_field_byte (spelled p.0)) (not (is_field_byte p.1) && true) (is.inside p.0 q.0) (and_from (not (is_field_byte p.1)) true (ap not (seps.separates p.1 q.1)) refl);
   faults = λ total bytes fault e. any_fault A kind fits spelled test ok is seps total bytes fault (test (next_field bytes)) (behind_field bytes) refl refl e;
   found = λ total bytes fault h.
       let p = h.needed.2 in

@@ -1,5 +1,5 @@
 -- The text of a certificate, version 1: its lines as formats, and what reading gives.
-use Rattle.std.specs.Prelude.{ℕ, ◌+◌, ◌-◌, ◌*◌, ◌/◌, nat_lt, min, List, [], ◌∷◌, codes, length, Option, Result, Ok, Err, ℤ}
+use Rattle.std.specs.Prelude.{ℕ, ◌+◌, ◌-◌, ◌*◌, ◌/◌, nat_lt, min, List, [], ◌∷◌, ◌++◌, codes, length, Option, Result, Ok, Err, ℤ}
 use Rattle.std.specs.Fmt.{decimal}
 use Rattle.def_fraction.specs.Fraction.{Fraction}
 use Rattle.def_tree.specs.Rules.{most_actions}
@@ -161,6 +161,19 @@ cert_text c = text_of whole_certificate c
 
 abbrev pub head_text : Head → List ℕ
 head_text head = text_of game_lines (numbers_of_game head)
+
+-- the other lines
+abbrev pub first_text : List ℕ
+first_text = codes "XGCERT 1" ++ feed ∷ []
+
+abbrev pub asked_text : Head → List ℕ
+asked_text head = text_of asked_line (head.rounds, (head.every, head.scale))
+
+abbrev pub bounds_text : Head → PrintedBounds → List ℕ
+bounds_text head b = text_of (bounds_lines head) b
+
+abbrev pub last_text : List ℕ
+last_text = codes "end" ++ feed ∷ []
 
 -- nothing may stand behind
 abbrev pub if_at_end : {A : Type 0} → ℕ → A → List ℕ → Result A CertFault

@@ -2,7 +2,8 @@
 //! functions' contracts are laws of the definitions, which stand in `specs/`.
 #![tactic(auto)]
 
-ghost use Rattle.def_cert_text.specs.Laws.{FirstFaultDecides, ReadingIsExact, TextsTellCertificates};
+ghost use Rattle.def_cert_text.specs.Laws.{CutTextsAreShort, FirstFaultDecides, ReadingIsExact, TextIsItsLines};
+ghost use Rattle.def_cert_text.specs.Laws.{TextsTellCertificates};
 
 mod fault;
 
@@ -21,4 +22,14 @@ pub fn texts_tell_certificates()
 /// Reading stops with a fault exactly where it is the first.
 pub fn first_fault_decides()
     ensures { FirstFaultDecides }
+{}
+
+/// The text of a certificate within its ranges is short where it is cut, wherever that is.
+pub fn cut_texts_are_short()
+    ensures { CutTextsAreShort }
+{}
+
+/// The text is its lines one after another.
+pub fn text_is_its_lines()
+    ensures { TextIsItsLines }
 {}

@@ -1,6 +1,6 @@
 -- The texts that are written of a file's game: the certificate of its solution, and what `info` tells.
---     head_of game settings      the game's numbers, with what is asked
---     outcome_of game settings   what the rounds leave
+--     game_head game settings      the game's numbers, with what is asked
+--     game_outcome game settings   what the rounds leave
 --     solve_text game settings   the certificate of the outcome
 --     info_text game             its title and players, and its numbers
 use Rattle.std.specs.Prelude.{ℕ, List, [], ◌∷◌, ◌++◌, codes, length}
@@ -48,14 +48,14 @@ head_with game form settings = record {
   scale = settings.scale;
 }
 
-abbrev pub head_of : GameFile → Settings → Head
-head_of game settings = head_with game (form_of_file game) settings
+abbrev pub game_head : GameFile → Settings → Head
+game_head game settings = head_with game (form_of_file game) settings
 
-abbrev pub outcome_of : GameFile → Settings → Outcome
-outcome_of game settings = outcome (form_of_file game) (head_of game settings)
+abbrev pub game_outcome : GameFile → Settings → Outcome
+game_outcome game settings = outcome (form_of_file game) (game_head game settings)
 
 abbrev pub solve_text : GameFile → Settings → List ℕ
-solve_text game settings = cert_text (certificate_of (form_of_file game) (outcome_of game settings))
+solve_text game settings = cert_text (certificate_of (form_of_file game) (game_outcome game settings))
 
 -- a text between quotation marks
 abbrev pub quoted : List ℕ → List ℕ
@@ -65,4 +65,4 @@ abbrev pub info_text : GameFile → List ℕ
 info_text game =
     codes "title " ++ (quoted game.prologue.title ++ (line_feed
     ++ (codes "players " ++ (quoted game.prologue.one ++ (codes " " ++ (quoted game.prologue.two ++ (line_feed
-    ++ head_text (head_of game no_rounds))))))))
+    ++ head_text (game_head game no_rounds))))))))

@@ -1,0 +1,8 @@
+use Rattle.std.proofs.Common.{refl}
+use Rattle.std.specs.Fmt.{digits}
+use Rattle.def_cert_text.specs.Formats.{each_items}
+use Rattle.def_cert_text_rows.proofs.kuhn_text.Goals as goal
+
+pub returns : goal.returns
+unfolding digits each_items
+returns c = refl

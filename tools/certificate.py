@@ -1,0 +1,102 @@
+"""Reads the text that `solve` prints: its head, the trace of the bracket, both plans, both replies and the bracket.
+
+The form of each line is tested, and that there are as many lines as the head says. Whether the text is true isn't
+looked at.
+"""
+import re
+from fractions import Fraction
+
+WHOLE = r"(?:0|-?[1-9][0-9]{0,39})"
+COUNT = r"(?:0|[1-9][0-9]{0,39})"
+FRACTION = rf"{WHOLE}(?:/[1-9][0-9]{{0,39}})?"
+
+
+class Fault(Exception):
+    """Why a text can't be read."""
+
+
+class End:
+    """One end of the bracket: a plan with its root and the weights of each set, and the reply to it with its total and,
+    for each set, its value and its choice."""
+
+    def __init__(self, root, weights, total, replies):
+        self.root, self.weights, self.total, self.replies = root, weights, total, replies
+
+
+class Text:
+    """A text. `ends` has the plan of player one and of player two, each with the other's reply; without rounds it is
+    None, as are `low` and `high`."""
+
+    def __init__(self):
+        self.nodes = self.leaves = self.sets = self.sequences = self.unit = self.mass = None
+        self.rounds = self.every = self.scale = None
+        self.trace, self.ends, self.low, self.high = [], None, None, None
+
+    def bracket_after(self, row):
+        """The bracket of a trace line in units of payoff."""
+        _, low_round, low, high_round, high = row
+        return tuple(Fraction(end, self.unit * self.scale * k) for end, k in ((low, low_round), (high, high_round)))
+
+
+class Lines:
+    def __init__(self, data):
+        self.rest, self.number = data.decode("ascii", "replace").split("\n"), 0
+        if self.rest.pop() != "":
+            raise Fault("the text doesn't end with a line feed")
+        self.rest.reverse()
+
+    def take(self, form, what):
+        """The numbers of the next line, which must be of this form."""
+        self.number += 1
+        found = re.fullmatch(form, self.rest.pop()) if self.rest else None
+        if not found:
+            raise Fault(f"line {self.number} isn't {what}")
+        return found.groups()
+
+    def counts(self, words, what):
+        return [int(it) for it in self.take(words.replace("N", f"({COUNT})"), what)]
+
+
+def read_text(data):
+    lines, text = Lines(data), Text()
+    lines.take("XGCERT 1", "the first line of a text, XGCERT 1")
+    text.nodes, text.leaves = lines.counts("nodes N leaves N", "the line of nodes and leaves")
+    text.sets = lines.counts("sets N N", "the line of sets")
+    text.sequences = lines.counts("sequences N N", "the line of sequences")
+    (text.unit,) = lines.counts("unit N", "the line of the unit")
+    (text.mass,) = lines.counts("mass N", "the line of the mass")
+    text.rounds, text.every, text.scale = lines.counts("rounds N every N scale N", "the line of the rounds")
+    if 0 in (text.unit, text.every, text.scale):
+        raise Fault("the unit, the rounds between evaluations or the scale is 0")
+    if text.rounds:
+        read_outcome(lines, text)
+    lines.take("end", "the last line, end")
+    if lines.rest:
+        raise Fault(f"line {lines.number + 1} comes after the end")
+    return text
+
+
+def read_outcome(lines, text):
+    for k in range(1, -(-text.rounds // text.every) + 1):
+        row = lines.take(rf"trace ({COUNT}) ({COUNT}) ({WHOLE}) ({COUNT}) ({WHOLE})", "a line of the trace")
+        row = tuple(map(int, row))
+        if row[0] != min(k * text.every, text.rounds) or not (1 <= row[1] <= row[0] and 1 <= row[3] <= row[0]):
+            raise Fault(f"line {lines.number} isn't the trace of round {min(k * text.every, text.rounds)}")
+        text.trace.append(row)
+    text.ends = (read_end(lines, text, 1), read_end(lines, text, 2))
+    text.low, text.high = map(Fraction, lines.take(rf"bracket ({FRACTION}) ({FRACTION})", "the bracket"))
+
+
+def read_end(lines, text, player):
+    other = 3 - player
+    (root,) = lines.counts(f"plan {player} N", f"the line of player {player}'s plan")
+    weights = []
+    for k in range(1, text.sets[player - 1] + 1):
+        found = lines.take(rf"weights {k}((?: {COUNT})+)", f"the weights of set {k}")[0]
+        weights.append([int(it) for it in found.split()])
+    (total,) = lines.take(rf"reply {other} ({WHOLE})", f"the line of player {other}'s reply")
+    replies = []
+    for k in range(1, text.sets[other - 1] + 1):
+        value, choice = lines.take(rf"value {k} ({WHOLE}) ({COUNT})", f"the value of set {k}")
+        replies.append((int(value), int(choice)))
+    return End(root, weights, int(total), replies)
