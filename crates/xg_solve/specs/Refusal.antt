@@ -2,6 +2,8 @@
 use Rattle.std.specs.Prelude.{◌≡◌, string_bytes}
 use Rattle.def_file.specs.declared.FileFault.{FileFault}
 use Rattle.def_text.specs.Lines.{fault_line}
+use Rattle.xg_solve.specs.declared.load.LoadFault.{LoadFault}
+use Rattle.xg_solve.specs.declared.load.LoadFault.TheVariants as faults
 use Rattle.xg_solve.specs.declared.ending.Ending.{Ending}
 use Rattle.xg_solve.specs.declared.ending.Ending.TheVariants.{Done, Refused, Usage, ReadFault, WriteFault, NoMemory}
 
@@ -13,3 +15,9 @@ IsRefusal fault Done = ⊥
 IsRefusal fault Usage = ⊥
 IsRefusal fault ReadFault = ⊥
 IsRefusal fault WriteFault = ⊥
+
+-- the end where a game isn't loaded: the fault's line, or the cause
+abbrev pub IsUnloaded : LoadFault → Ending → Type 0
+IsUnloaded (faults.Refused fault) ending = IsRefusal fault ending
+IsUnloaded faults.ReadFault ending = ending ≡ ReadFault
+IsUnloaded faults.NoMemory ending = ending ≡ NoMemory

@@ -1,8 +1,9 @@
 //! Loading a game from its file.
 ghost use Rattle.std.specs.Prelude.{◌≡◌, ◌≢◌, ◌<◌, ◌≤◌, length, IsTrue, IsErrOf};
 ghost use Rattle.def_file.specs.Reading.{game_at, most_bytes};
-ghost use Rattle.xg_solve.specs.Loads.{Loads, LoadHasCause, ReadsGame};
+ghost use Rattle.xg_solve.specs.Loads.{Accepts, LoadHasCause, Loads, LoadsGame, ReadsGame};
 
+use crate::accepted::Accepted;
 use std::alloc::Global;
 use xg_io::{Files, ReadAllFault, read_all};
 use xg_read::{FileFault, Game, MOST_BYTES, Refused, read_game};
@@ -18,11 +19,36 @@ pub enum LoadFault {
     NoMemory,
 }
 
-/// The game of the file of a name.
-#[tactic(auto, unfolding(def_program::specs::Program::read_as_game))]
-pub fn load<F: Files>(alloc: Global, files: &mut F, name: &str) -> Result<Game, LoadFault>
+/// The accepted game of the file of a name.
+pub fn load<F: Files>(alloc: Global, files: &mut F, name: &str) -> Result<Accepted, LoadFault>
     requires { IsTrue (F.may_open files.old name.now) }
     ensures exact { Loads (F.told files.old name.now) result }
+    ensures too_long { IsErrOf result (LoadFault.Refused FileFault.TooLong) → most_bytes < F.taken files.new }
+    ensures same_told { F.told files.new ≡ F.told files.old }
+    ensures same_names { F.may_open files.new ≡ F.may_open files.old }
+    ensures cause { LoadHasCause (F.faults files.old) (F.faults files.new) result }
+{
+    let game = load_game(alloc, files, name)?;
+    accept(alloc, game)
+}
+
+/// The game, where it has no fault.
+fn accept(alloc: Global, game: Game) -> Result<Accepted, LoadFault>
+    ensures exact { Accepts game result }
+    ensures any_length { result ≢ Err (LoadFault.Refused FileFault.TooLong) }
+{
+    match Accepted::open(alloc, game) {
+        Ok(accepted) => Ok(accepted),
+        Err(Refused::File(fault)) => Err(LoadFault::Refused(fault)),
+        Err(Refused::NoMemory) => Err(LoadFault::NoMemory),
+    }
+}
+
+/// The game of the file of a name.
+#[tactic(auto, unfolding(def_program::specs::Program::read_as_game))]
+fn load_game<F: Files>(alloc: Global, files: &mut F, name: &str) -> Result<Game, LoadFault>
+    requires { IsTrue (F.may_open files.old name.now) }
+    ensures exact { LoadsGame (F.told files.old name.now) result }
     ensures too_long { IsErrOf result (LoadFault.Refused FileFault.TooLong) → most_bytes < F.taken files.new }
     ensures same_told { F.told files.new ≡ F.told files.old }
     ensures same_names { F.may_open files.new ≡ F.may_open files.old }

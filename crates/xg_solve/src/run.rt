@@ -2,16 +2,17 @@
 ghost use Rattle.std.specs.Prelude.{◌≡◌, ◌≢◌, ◌⊎◌, ◌↔◌, ◌≤◌, All, IsNone, IsTrue};
 ghost use Rattle.def_outside.specs.Calls.{HasFailed, MayHaveFailed, Wrote, WroteFront, WroteNothing};
 ghost use Rattle.def_outside.specs.Calls.{files_call, sink_call};
-ghost use Rattle.def_command.specs.Command.{Solve, command_of, named_files};
+ghost use Rattle.def_command.specs.Command.{Info, Solve, command_of, named_files};
 ghost use Rattle.def_program.specs.Lines.{SaysLine};
 ghost use Rattle.def_program.specs.Meaning.{CommandMeans, EachMeant, EndsWith, Means};
 ghost use Rattle.xg_solve.specs.Concludes.{Concludes};
 ghost use Rattle.xg_solve.specs.Endings.{status_of};
-ghost use Rattle.xg_solve.specs.Refusal.{IsRefusal};
+ghost use Rattle.xg_solve.specs.Refusal.{IsRefusal, IsUnloaded};
+ghost use Rattle.xg_solve.specs.Writes.{Writes};
 
 use crate::ending::Ending;
 use crate::load::{LoadFault, load};
-use crate::text::{NO_ROUNDS, fault_line, game_text};
+use crate::text::{fault_line, info_text, solve_text};
 use crate::words::{Command, Words};
 use std::alloc::Global;
 use std::marker::Sync;
@@ -27,18 +28,50 @@ fn solve<F: Files, O: Sink>(alloc: Global, file: &str, files: &mut F, out: &mut 
         (files_call F.told F.taken F.faults files.old files.new) (sink_call O.written O.faults out.old out.new) result }
     ensures command { status_of result ≢ 2 }
 {
-    let game = match load(alloc, files, file) {
-        Ok(game) => game,
-        Err(LoadFault::Refused(fault)) => return refused(alloc, fault),
-        Err(LoadFault::ReadFault) => return Ending::ReadFault,
-        Err(LoadFault::NoMemory) => return Ending::NoMemory,
+    let accepted = match load(alloc, files, file) {
+        Ok(accepted) => accepted,
+        Err(fault) => return unloaded(alloc, fault),
     };
-    let Ok(text) = game_text(alloc, &game, NO_ROUNDS) else {
+    let Ok(text) = solve_text(alloc, &accepted) else {
         return Ending::NoMemory;
     };
-    match write_all(out, text.as_bytes()) {
+    written(out, text.as_bytes())
+}
+
+/// Tells of the game of a file.
+fn info<F: Files, O: Sink>(alloc: Global, file: &str, files: &mut F, out: &mut O) -> Ending
+    requires { IsTrue (F.may_open files.old file.now) }
+    ensures concludes { Concludes (CommandMeans (Info file.now) (F.told files.old))
+        (files_call F.told F.taken F.faults files.old files.new) (sink_call O.written O.faults out.old out.new) result }
+    ensures command { status_of result ≢ 2 }
+{
+    match load(alloc, files, file) {
+        Ok(accepted) => match info_text(alloc, &accepted) {
+            Ok(text) => written(out, &text),
+            Err(_) => Ending::NoMemory,
+        },
+        Err(fault) => unloaded(alloc, fault),
+    }
+}
+
+/// The end of a run that writes this text.
+fn written<O: Sink>(out: &mut O, text: &[u8]) -> Ending
+    ensures { Writes (sink_call O.written O.faults out.old out.new) text.now result }
+{
+    match write_all(out, text) {
         Ok(()) => Ending::Done,
         Err(_) => Ending::WriteFault,
+    }
+}
+
+/// The end of a run whose game isn't loaded.
+fn unloaded(alloc: Global, fault: LoadFault) -> Ending
+    ensures { IsUnloaded fault result }
+{
+    match fault {
+        LoadFault::Refused(fault) => refused(alloc, fault),
+        LoadFault::ReadFault => Ending::ReadFault,
+        LoadFault::NoMemory => Ending::NoMemory,
     }
 }
 
@@ -61,6 +94,7 @@ fn conclude<F: Files, O: Sink>(alloc: Global, words: &Words, files: &mut F, out:
 {
     match words.command() {
         Command::Solve { file } => solve(alloc, file, files, out),
+        Command::Info { file } => info(alloc, file, files, out),
         Command::Unknown => Ending::Usage,
     }
 }

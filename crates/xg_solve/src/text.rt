@@ -1,44 +1,83 @@
 //! The texts that are written.
-ghost use Rattle.std.specs.Prelude.{◌≡◌, IfOk, string_bytes};
-ghost use Rattle.def_text.specs.Text.{game_text};
+ghost use Rattle.std.specs.Prelude.{◌≡◌, ◌++◌, IfOk, OnOk, string_bytes};
+ghost use Rattle.def_cert_text.specs.CertText.{head_text};
+ghost use Rattle.def_text.specs.Text.{info_text, no_rounds, quoted, solve_text};
 ghost use Rattle.def_text.specs.Lines.{fault_line, node_line, number_fault_name};
-ghost use Rattle.xg_solve.specs.Settings.{settings_of};
+ghost use Rattle.xg_cert.specs.Outcome.{head_of};
 
+use crate::accepted::Accepted;
 use std::alloc::{AllocError, Global};
-use xg_read::{FileFault, Game, NumberFault};
-
-/// How many rounds are played, after how many of them the plans are evaluated, and the scale of a plan.
-#[derive(Clone, Copy, Debug, PartialEq, Eq)]
-pub struct Settings {
-    pub rounds: u32,
-    pub every: u32,
-    pub scale: u32,
-}
+use xg_cert::Head;
+use xg_engine::Settings;
+use xg_plan::Player;
+use xg_read::{FileFault, NumberFault};
 
 /// The greatest scale of a plan.
 const MOST_SCALE: u32 = 1_048_576;
 
 /// No rounds, at the greatest scale.
-pub const NO_ROUNDS: Settings = Settings {
+const NO_ROUNDS: Settings = Settings {
     rounds: 0,
     every: 1,
     scale: MOST_SCALE,
 };
 
-/// The text of a game that is solved with these settings.
-pub fn game_text(alloc: Global, game: &Game, settings: Settings) -> Result<String, AllocError>
-    ensures { IfOk result (λ text. string_bytes text ≡ game_text game.now (settings_of settings)) }
+/// The text of a game that is solved in no rounds.
+pub fn solve_text(alloc: Global, accepted: &Accepted) -> Result<String, AllocError>
+    ensures { IfOk result (λ text. string_bytes text ≡ solve_text accepted.now no_rounds) }
 {
-    let nodes = game.tree().len();
-    let leaves = game.tree().leaves();
-    let Settings {
-        rounds,
-        every,
-        scale,
-    } = settings;
+    let numbers = numbers_text(alloc, &accepted.head(NO_ROUNDS))?;
+    format!(in alloc; "XGCERT 1\n{numbers}rounds 0 every 1 scale 1048576\nend\n")
+}
+
+/// What is told of a game: its title, its players and its numbers.
+pub fn info_text(alloc: Global, accepted: &Accepted) -> Result<Vec<u8>, AllocError>
+    ensures { IfOk result (λ text. text.items ≡ info_text accepted.now) }
+{
+    let game = accepted.game();
+    let mut text = Vec::new(alloc);
+    text.extend_from_slice(b"title ")?;
+    put_quoted(&mut text, game.title())?;
+    text.extend_from_slice(b"\nplayers ")?;
+    put_quoted(&mut text, game.player_name(Player::One))?;
+    text.push(b' ')?;
+    put_quoted(&mut text, game.player_name(Player::Two))?;
+    text.push(b'\n')?;
+    let numbers = numbers_text(alloc, &accepted.head(NO_ROUNDS))?;
+    text.extend_from_slice(numbers.as_bytes())?;
+    Ok(text)
+}
+
+/// The lines of a game's numbers.
+fn numbers_text(alloc: Global, head: &Head) -> Result<String, AllocError>
+    ensures { IfOk result (λ text. string_bytes text ≡ head_text (head_of head.now)) }
+{
+    let Head {
+        nodes,
+        leaves,
+        sets: (sets_one, sets_two),
+        sequences: (sequences_one, sequences_two),
+        unit,
+        mass,
+        ..
+    } = *head;
     format!(in alloc;
-        "XGCERT 1\nnodes {nodes} leaves {leaves}\nrounds {rounds} every {every} scale {scale}\nend\n"
+        "nodes {nodes} leaves {leaves}\nsets {sets_one} {sets_two}\nsequences {sequences_one} {sequences_two}\nunit {unit}\nmass {mass}\n"
     )
+}
+
+/// Puts a text between quotation marks last, with a backslash before each mark inside.
+fn put_quoted(out: &mut Vec<u8>, text: &[u8]) -> Result<(), AllocError>
+    ensures { OnOk result (out.new.items ≡ out.old.items ++ quoted text.now) }
+{
+    out.push(b'"')?;
+    for byte in text {
+        if *byte == b'"' {
+            out.push(b'\\')?;
+        }
+        out.push(*byte)?;
+    }
+    out.push(b'"')
 }
 
 /// The line of a file's fault.

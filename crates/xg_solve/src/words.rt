@@ -10,6 +10,8 @@ use std::marker::Model;
 pub(crate) enum Command<'a> {
     /// The game of a file is solved.
     Solve { file: &'a str },
+    /// It is told of the game of a file.
+    Info { file: &'a str },
     /// The words name none.
     Unknown,
 }
@@ -60,6 +62,11 @@ impl Words {
                     && rounds.as_str() == "--rounds"
                     && count.as_str() == "0" => {
                 Command::Solve {
+                    file: file.as_str(),
+                }
+            }
+            [command, file] if command.as_str() == "info" && !file.as_str().starts_with('-') => {
+                Command::Info {
                     file: file.as_str(),
                 }
             }
