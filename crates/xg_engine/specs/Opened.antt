@@ -1,6 +1,10 @@
 -- What opening a game gives, and what a head asks.
-use Rattle.std.specs.Prelude.{◌≡◌, ℕ}
-use Rattle.def_tree.specs.Tree.{node_count}
+use Rattle.std.specs.Prelude.{◌≡◌, ℕ, Err}
+use Rattle.def_tree.specs.Tree.{Forest, node_count}
+use Rattle.def_game_paths.specs.Recall.{RecallBreak}
+use Rattle.def_sequence_form.specs.Sets.{sets_or_break}
+use Rattle.def_file.specs.declared.FileFault.{FileFault}
+use Rattle.def_file.specs.declared.FileFault.TheVariants.{NotRecall}
 use Rattle.def_file.specs.Content.{GameFile}
 use Rattle.def_game_scale.specs.Scale.{game_unit}
 use Rattle.def_game_numbers.specs.Numbers.{tables_of}
@@ -28,3 +32,7 @@ pub record Asks (settings : Settings) (head : Head) : Type 0 where
 -- the sizes of the form's weights add up to this
 abbrev pub KeepsMass : SequenceForm → ℕ → Type 0
 KeepsMass form mass = mass ≡ mass_of form.leaves
+
+-- recall breaks there first, and the fault says so
+abbrev pub IsBreakOf : Forest → FileFault → Type 0
+IsBreakOf tree fault = (broken : RecallBreak) × (sets_or_break tree ≡ Err broken) × (fault ≡ NotRecall broken.node broken.earlier)

@@ -1,9 +1,11 @@
-ghost use Rattle.std.specs.Prelude.{◌≡◌, ◌≢◌, Err, IfOk, None, Some};
+ghost use Rattle.std.specs.Prelude.{◌≡◌, ◌≢◌, Err, IfOk, None, Ok, Some};
 ghost use Rattle.def_cert_verdict.specs.Laws.{IsHeadOf};
 ghost use Rattle.def_file.specs.declared.FileFault.{FileFault};
-ghost use Rattle.def_game_numbers.specs.Numbers.{game_file_fault};
+ghost use Rattle.def_game_numbers.specs.Numbers.{game_file_fault, tables_of, weigh};
+ghost use Rattle.def_sequence_form.specs.Form.{form_of_game};
+ghost use Rattle.def_sequence_form.specs.Sets.{sets_or_break};
 ghost use Rattle.xg_cert.specs.Outcome.{head_of};
-ghost use Rattle.xg_engine.specs.Opened.{Asks, weighed_game};
+ghost use Rattle.xg_engine.specs.Opened.{Asks, IsBreakOf, KeepsMass, weighed_game};
 
 use crate::settings::Settings;
 use std::alloc::Global;
@@ -78,5 +80,33 @@ impl Engine {
             every: settings.every,
             scale: settings.scale,
         }
+    }
+}
+
+/// The game's sets, where its players remember their choices.
+fn sets_of(alloc: Global, game: &Game) -> Result<Sets, Refused>
+    ensures sets { IfOk result (λ sets. sets_or_break game.now.tree ≡ Ok sets) }
+    ensures broken { (fault : FileFault) → result ≡ Err (Refused.File fault) → IsBreakOf game.now.tree fault }
+{
+    match build_sets(alloc, game.tree()) {
+        Ok(sets) => Ok(sets),
+        Err(RecallFault::NotRecall { node, earlier }) => {
+            Err(Refused::File(FileFault::NotRecall { node, earlier }))
+        }
+        Err(RecallFault::NoMemory) => Err(Refused::NoMemory),
+    }
+}
+
+/// The game's sequence form.
+fn form_of(alloc: Global, game: &Game, weights: &Weights, sets: &Sets) -> Result<SeqForm, Refused>
+    requires weighed { weigh game.now ≡ Ok weights.now }
+    requires sets { sets_or_break game.now.tree ≡ Ok sets.now }
+    ensures form { IfOk result (λ form. form ≡ form_of_game (tables_of game.now) game.now.tree) }
+    ensures mass { IfOk result (λ form. KeepsMass form weights.now.mass) }
+    ensures accepted { (fault : FileFault) → result ≢ Err (Refused.File fault) }
+{
+    match SeqForm::build(alloc, game.tree(), sets, weights.leaves()) {
+        Ok(form) => Ok(form),
+        Err(_) => Err(Refused::NoMemory),
     }
 }
