@@ -8,7 +8,7 @@ use Rattle.def_sums.proofs.SumLaws.{nat_sum_over-append}
 use Rattle.def_plan.specs.Form.{AreInOrder, InformationSet, IsInOrder, PlacedSet, placed, placed_from, sequence_count}
 use Rattle.def_plan.proofs.Places.{actions_of}
 use Rattle.xg_seq.specs.declared.table.SetRow.{SetRow}
-use Rattle.xg_seq.specs.Table.{KeepsSets, most_sequences, numbers_of, place_of, set_of}
+use Rattle.xg_seq.specs.Table.{HaveFewActions, KeepsSets, most_sequences, numbers_of, place_of, set_of}
 
 abbrev without_place : PlacedSet → InformationSet
 without_place h = record { before = h.before; actions = h.actions }
@@ -26,10 +26,10 @@ pub sets_of_rows : (rows : List SetRow) (sets : List InformationSet) → map pla
 sets_of_rows rows sets same = sym (rows-without rows) ∙ ap (map without_place) same ∙ placed-without 1 sets
 
 -- such rows, with the numbers of their sequences' sets, are kept
-pub keeps_sets : (rows : List SetRow) (numbers : List ℕ) (sets : List InformationSet) → map place_of rows ≡ placed sets → numbers ≡ numbers_of 1 rows → AreInOrder sets → sequence_count sets ≤ most_sequences → KeepsSets rows numbers
-keeps_sets rows numbers sets same are order limit =
+pub keeps_sets : (rows : List SetRow) (numbers : List ℕ) (sets : List InformationSet) → map place_of rows ≡ placed sets → numbers ≡ numbers_of 1 rows → AreInOrder sets → sequence_count sets ≤ most_sequences → HaveFewActions sets → KeepsSets rows numbers
+keeps_sets rows numbers sets same are order limit few =
     let sets_are : map set_of rows ≡ sets = sets_of_rows rows sets same in
-    record { places = same ∙ ap placed (sym sets_are); numbers = are; order = subst AreInOrder (sym sets_are) order; limit = omega (arith, limit, ap sequence_count sets_are) }
+    record { places = same ∙ ap placed (sym sets_are); numbers = are; order = subst AreInOrder (sym sets_are) order; limit = omega (arith, limit, ap sequence_count sets_are); few_actions = subst HaveFewActions (sym sets_are) few }
 
 -- what a row tells of its set is told at the set's place
 pub told_at : (sets : List InformationSet) (f : InformationSet → ℕ) (i : ℕ) (h : PlacedSet) → slice_get (placed sets) i ≡ Some h → slice_get (map f sets) i ≡ Some (f (without_place h))
