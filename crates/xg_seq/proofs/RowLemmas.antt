@@ -8,7 +8,7 @@ use Rattle.def_sums.proofs.SumLaws.{nat_sum_over-append}
 use Rattle.def_plan.specs.Form.{AreInOrder, InformationSet, IsInOrder, PlacedSet, placed, placed_from, sequence_count}
 use Rattle.def_plan.proofs.Places.{total_actions}
 use Rattle.xg_seq.specs.declared.table.SetRow.{SetRow}
-use Rattle.xg_seq.specs.Table.{KeepsSets, most_sequences, set_numbers_from, placed_of_row, set_of_row}
+use Rattle.xg_seq.specs.Table.{HaveFewActions, KeepsSets, most_sequences, set_numbers_from, placed_of_row, set_of_row}
 
 abbrev without_place : PlacedSet → InformationSet
 without_place h = record { before = h.before; actions = h.actions }
@@ -28,12 +28,11 @@ sets_of_rows rows sets same = sym (rows-without rows) ∙ ap (map without_place)
 
 -- such rows, with the numbers of their sequences' sets, are kept
 pub keeps_sets : (rows : List SetRow) (numbers : List ℕ) (sets : List InformationSet)
-    → map placed_of_row rows ≡ placed sets
-    → numbers ≡ set_numbers_from 1 rows → AreInOrder sets → sequence_count sets ≤ most_sequences
-    → KeepsSets rows numbers
-keeps_sets rows numbers sets same are order limit =
+    → map placed_of_row rows ≡ placed sets → numbers ≡ set_numbers_from 1 rows → AreInOrder sets
+    → sequence_count sets ≤ most_sequences → HaveFewActions sets → KeepsSets rows numbers
+keeps_sets rows numbers sets same are order limit few =
     let sets_are : map set_of_row rows ≡ sets = sets_of_rows rows sets same in
-    record { places = same ∙ ap placed (sym sets_are); numbers = are; order = subst AreInOrder (sym sets_are) order; limit = omega (arith, limit, ap sequence_count sets_are) }
+    record { places = same ∙ ap placed (sym sets_are); numbers = are; order = subst AreInOrder (sym sets_are) order; limit = omega (arith, limit, ap sequence_count sets_are); few_actions = subst HaveFewActions (sym sets_are) few }
 
 -- what a row tells of its set is told at the set's place
 pub told_at : (sets : List InformationSet) (f : InformationSet → ℕ) (i : ℕ) (h : PlacedSet)
@@ -60,8 +59,7 @@ sets_are_few first (h ∷ hs) order =
 
 -- nor are their rows
 pub rows_are_few : (rows : List SetRow) (sets : List InformationSet) → map placed_of_row rows ≡ placed sets
-    → AreInOrder sets
-    → length rows < sequence_count sets
+    → AreInOrder sets → length rows < sequence_count sets
 rows_are_few rows sets same order = omega (arith, length-map rows set_of_row, ap length (sets_of_rows rows sets same), sets_are_few 1 sets order)
 
 -- the rows of the first k sets, and the first sequence of the next one
