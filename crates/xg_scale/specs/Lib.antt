@@ -1,0 +1,7 @@
+pub mod Told
+pub mod Chance
+pub mod Leaf
+pub mod Ancestors
+pub mod Walked
+pub mod Weighed
+pub mod Words

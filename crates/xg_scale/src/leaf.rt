@@ -1,0 +1,90 @@
+//! What a leaf is expected to pay, and the unit.
+ghost use Rattle.std.specs.Prelude.{◌≡◌, ◌≤◌, ◌++◌, None, IfErr, IfOk, OnOk};
+ghost use Rattle.def_fraction.specs.Divisors.{lcm};
+ghost use Rattle.def_fraction.specs.Fraction.{most, product_of, sum_of};
+ghost use Rattle.def_game_faults.specs.Faults as faults;
+ghost use Rattle.def_tree.specs.Tree.{is_leaf_kind};
+ghost use Rattle.xg_scale.specs.Told.{IsFaultOf, RefusesBy};
+ghost use Rattle.xg_scale.specs.Leaf.{judged_leaf, judged_node, unit_with, with_expected};
+
+use crate::ancestors::PathNumbers;
+use crate::parts::{denominator, is_zero, known};
+use std::alloc::Global;
+use xg_frac::{Frac, add, lcm, mul};
+use xg_game::{FileFault, Kind, Refused};
+use xg_tree::Node;
+
+/// Reach times player one's payoff at each leaf so far, and their unit.
+#[derive(Drop)]
+pub(crate) struct Expected {
+    pub(crate) unit: u64,
+    pub(crate) fractions: Vec<Frac>,
+}
+
+impl Expected {
+    /// Judges node `k`. What a leaf is expected to pay comes last.
+    pub(crate) fn judge(&mut self, k: u32, node: Node, numbers: &PathNumbers) -> Result<(), Refused>
+        requires from_one { 1 ≤ self.old.unit }
+        requires limit { self.old.unit ≤ most }
+        ensures ok { OnOk result (judged_node k node self.old.unit numbers.now ≡ None) }
+        ensures unit { OnOk result (self.new.unit ≡ unit_with node self.old.unit numbers.now) }
+        ensures limit { OnOk result (self.new.unit ≤ most) }
+        ensures fractions { OnOk result
+            (self.new.fractions.items ≡ self.old.fractions.items ++ with_expected node numbers.now) }
+        ensures err { IfErr result (RefusesBy (judged_node k node self.old.unit numbers.now)) }
+    {
+        if !is_leaf(node) {
+            return Ok(());
+        }
+        let leaf = judge_leaf(k, self.unit, numbers)?;
+        let Ok(()) = self.fractions.push(leaf.expected) else {
+            return Err(Refused::NoMemory);
+        };
+        self.unit = leaf.unit;
+        Ok(())
+    }
+}
+
+/// What a leaf is expected to pay, and the unit with it.
+#[derive(Clone, Copy)]
+struct LeafNumbers {
+    expected: Frac,
+    unit: u64,
+}
+
+fn judge_leaf(k: u32, so_far: u64, numbers: &PathNumbers) -> Result<LeafNumbers, FileFault>
+    requires from_one { 1 ≤ so_far }
+    requires limit { so_far ≤ most }
+    ensures ok { OnOk result (judged_leaf k so_far numbers.now ≡ None) }
+    ensures expected { IfOk result (λ leaf. leaf.expected ≡ product_of numbers.now.reach numbers.now.one) }
+    ensures unit { IfOk result (λ leaf. leaf.unit ≡ lcm (product_of numbers.now.reach numbers.now.one).den so_far) }
+    ensures limit { IfOk result (λ leaf. leaf.unit ≤ most) }
+    ensures err { IfErr result (IsFaultOf (judged_leaf k so_far numbers.now)) }
+{
+    if !cancel(numbers.one, numbers.two) {
+        return Err(FileFault::NotZeroSum { node: k });
+    }
+    let Ok(expected) = mul(numbers.reach, numbers.one) else {
+        return Err(FileFault::Scale { node: k });
+    };
+    let Ok(unit) = lcm(denominator(expected), so_far) else {
+        return Err(FileFault::Scale { node: k });
+    };
+    Ok(LeafNumbers { expected, unit })
+}
+
+/// Whether the sum is 0.
+fn cancel(a: Frac, b: Frac) -> bool
+    ensures { result ≡ faults.is_zero (sum_of a b) }
+{
+    match add(known(a), known(b)) {
+        Ok(sum) => is_zero(sum),
+        Err(_) => false,
+    }
+}
+
+pub(crate) fn is_leaf(node: Node) -> bool
+    ensures { result ≡ is_leaf_kind node.kind }
+{
+    matches!(node.kind, Kind::Leaf)
+}

@@ -1,0 +1,18 @@
+#![tactic(auto)]
+//! A game in whole numbers: the unit by which its payoffs are multiplied, the weights of its leaves and their mass.
+
+mod ancestors;
+mod chance;
+mod fractions;
+mod leaf;
+mod nodes;
+mod parts;
+mod weighing;
+mod weights;
+
+pub use weighing::weigh;
+pub use weights::Weights;
+pub use xg_game::{FileFault, Refused};
+
+#[cfg(test)]
+mod tests;

@@ -1,0 +1,60 @@
+//! The weighing of a game.
+ghost use Rattle.std.specs.Prelude.{◌≡◌, Err, IfOk, Ok, OnOk, length};
+ghost use Rattle.std.specs.List.{AllZip};
+ghost use Rattle.def_file.specs.declared.FileFault.{FileFault};
+ghost use Rattle.def_game_faults.specs.Laws.{HasSoundNumbers};
+ghost use Rattle.def_game_numbers.specs.Laws.{AreWeights};
+ghost use Rattle.def_game_numbers.specs.Numbers.{GameWeights, tables_of, weigh};
+ghost use Rattle.def_game_paths.specs.Paths.{leaf_visits};
+ghost use Rattle.def_game_scale.specs.Laws.{IsWeightOf};
+ghost use Rattle.def_game_scale.specs.Tables.{AreFractions};
+ghost use Rattle.def_tree.specs.Tree.{leaf_count, prefix};
+ghost use Rattle.xg_read.specs.Gives.{Answers};
+ghost use Rattle.xg_scale.specs.Words.{HasNoNumberFault, IsCommonMultiple, IsFirstNumberFault, IsLeastCommonMultiple};
+
+use crate::chance::{SetTest, check_sets};
+use crate::fractions::are_in_lowest_terms;
+use crate::nodes::expect;
+use crate::weights::{Weights, weigh_leaves};
+use std::alloc::Global;
+use xg_game::{Game, Refused};
+
+/// The unit of a game, the weights of its leaves and their mass.
+///
+/// Memory apart, the answer is the weights, or the first fault of the game's numbers: a probability below 0, a chance
+/// set whose probabilities don't add up to 1, a leaf whose payoffs don't add up to 0, or a number past 2^62.
+pub fn weigh(alloc: Global, game: &Game) -> Result<Weights, Refused>
+    ensures exact { Answers result (weigh game.now) }
+
+    // A fault is the first of the game's numbers, and the first one is the fault.
+    ensures first { (fault : FileFault) → result ≡ Err (Refused.File fault) → IsFirstNumberFault game.now fault }
+    ensures faults { (fault : FileFault) → IsFirstNumberFault game.now fault → Answers result (Err fault) }
+
+    // What is weighed has no fault, and each game without one is weighed.
+    ensures faultless { OnOk result (HasNoNumberFault game.now) }
+    ensures sound { OnOk result (HasSoundNumbers (tables_of game.now) game.now.tree) }
+    ensures weighed { (weights : GameWeights) → HasNoNumberFault game.now →
+        AreWeights (tables_of game.now) game.now.tree weights → Answers result (Ok weights) }
+
+    // The unit is the least common multiple of the denominators of reach times payoff.
+    ensures unit { IfOk result (λ weights. IsCommonMultiple game.now weights.unit) }
+    ensures least { IfOk result (λ weights. IsLeastCommonMultiple game.now weights.unit) }
+
+    // Each leaf has one weight, the unit times reach times payoff.
+    ensures leaves { IfOk result (λ weights.
+        AllZip (IsWeightOf (tables_of game.now) weights.unit) (leaf_visits game.now.tree) weights.leaves) }
+    ensures count { IfOk result (λ weights. length weights.leaves ≡ leaf_count (prefix game.now.tree)) }
+{
+    weigh_exactly(alloc, game)
+}
+
+fn weigh_exactly(alloc: Global, game: &Game) -> Result<Weights, Refused>
+    ensures exact { Answers result (weigh game.now) }
+    ensures lowest { AreFractions (tables_of game.now) }
+{
+    are_in_lowest_terms(game);
+    check_sets(game, SetTest::Signs)?;
+    check_sets(game, SetTest::Sums)?;
+    let expected = expect(alloc, game)?;
+    weigh_leaves(alloc, game, &expected)
+}
