@@ -10,7 +10,10 @@ amount_of rows s = slice_index_or rows s (pos 0)
 
 -- the whole best reply to leaf sums
 abbrev pub reply_to_sums : Player → (ℕ → ℤ) → List InformationSet → Reply
-reply_to_sums player sums sets = record { total = total sums sets (best_reply player sums sets); sets = best_reply player sums sets }
+reply_to_sums player sums sets = record {
+  total = total sums sets (best_reply player sums sets);
+  sets = best_reply player sums sets;
+}
 
 -- the reply at a set whose sequences are worth so much
 abbrev pub reply_by : Player → (ℕ → ℤ) → PlacedSet → SetReply

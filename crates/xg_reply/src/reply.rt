@@ -27,13 +27,15 @@ pub fn best_reply(form: &SeqForm, player: Player, rows: &[i128], into: &mut Repl
     requires small { nat_sum_over unsigned_abs rows.now ≤ 2 ^ 98 }
     ensures reply { into.new.reply ≡ reply_to_sums player (amount_of rows.now) (player_sets form.now player) }
     ensures worths { let sets = player_sets form.now player in
-        into.new.worths ≡ map (worth (amount_of rows.now) (placed sets) (values_of into.new.reply.sets)) (sequences sets) }
+        into.new.worths
+        ≡ map (worth (amount_of rows.now) (placed sets) (values_of into.new.reply.sets)) (sequences sets) }
     ensures set_count { length into.new.reply.sets ≡ length into.old.reply.sets }
     ensures worth_count { length into.new.worths ≡ length into.old.worths }
 
     // No plan gains more, and that of the choices gains just the total.
     ensures bound { (root : ℕ) (plan : List ℕ) → IsPlan (player_sets form.now player) root plan
-        → IsNoBetter player (gain (amount_of rows.now) (player_sets form.now player) plan) (pos root *ℤ into.new.reply.total) }
+        → IsNoBetter player (gain (amount_of rows.now) (player_sets form.now player) plan)
+        (pos root *ℤ into.new.reply.total) }
     ensures choices { let sets = player_sets form.now player in
         IsPlan sets 1 (pure_plan sets (choices_of into.new.reply.sets)) }
     ensures attained { let sets = player_sets form.now player in
@@ -45,7 +47,8 @@ pub fn best_reply(form: &SeqForm, player: Player, rows: &[i128], into: &mut Repl
     ensures floor { (plan : List ℕ) → player ≡ Two → rows.now ≡ player_rows form.now Two plan
         → IsFloor form.now plan into.new.reply.total }
     ensures floor_attained { (plan : List ℕ) → player ≡ Two → rows.now ≡ player_rows form.now Two plan
-        → AttainsFloor form.now plan into.new.reply.total (pure_plan form.now.sets_two (choices_of into.new.reply.sets)) }
+        → AttainsFloor form.now plan into.new.reply.total
+        (pure_plan form.now.sets_two (choices_of into.new.reply.sets)) }
     ensures ceiling { (plan : List ℕ) → player ≡ One → rows.now ≡ player_rows form.now One plan
         → IsCeiling form.now plan into.new.reply.total }
     ensures ceiling_attained { (plan : List ℕ) → player ≡ One → rows.now ≡ player_rows form.now One plan
