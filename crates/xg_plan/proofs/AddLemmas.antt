@@ -15,7 +15,8 @@ pub record IsAddedUpTo (plan other : List ℕ) (i : ℕ) (sums : List ℕ) : Typ
   pub done : (s : ℕ) → s < i → get_or sums s 0 ≡ get_or plan s 0 + get_or other s 0
   pub rest : (s : ℕ) → i ≤ s → get_or sums s 0 ≡ get_or plan s 0
 
-pub added_more : (plan other : List ℕ) (i : ℕ) (sums : List ℕ) → i < length plan → IsAddedUpTo plan other i sums → IsAddedUpTo plan other (i + 1) (set sums i (get_or sums i 0 + get_or other i 0))
+pub added_more : (plan other : List ℕ) (i : ℕ) (sums : List ℕ) → i < length plan → IsAddedUpTo plan other i sums
+    → IsAddedUpTo plan other (i + 1) (set sums i (get_or sums i 0 + get_or other i 0))
 added_more plan other i sums below upto =
     let n : ℕ = get_or sums i 0 + get_or other i 0 in
     record {
@@ -29,7 +30,8 @@ added_more plan other i sums below upto =
       rest = λ s low. let apart : s ≢ i = omega arith in get_or-set_other sums i s n 0 apart ∙ upto.rest s (omega arith);
     }
 
-pub added_all : (plan other : List ℕ) (i : ℕ) (sums : List ℕ) → length plan ≡ length other → length plan ≤ i → IsAddedUpTo plan other i sums → sums ≡ added plan other
+pub added_all : (plan other : List ℕ) (i : ℕ) (sums : List ℕ) → length plan ≡ length other → length plan ≤ i
+    → IsAddedUpTo plan other i sums → sums ≡ added plan other
 added_all plan other i sums same all upto =
     same_number_lists sums (added plan other) (omega (arith, upto.count, length-added plan other same))
     (λ s low. omega (arith, upto.done s (omega (arith, upto.count)), at-added plan other s same))
@@ -38,6 +40,7 @@ zeros : (n s : ℕ) → ◌≡◌ {A = ℕ} (get_or (replicate n 0) s 0) 0
 zeros n s = ⊎_elim (λ low. get_or-replicate n s 0 0 low) (λ past. get_or_past (replicate n 0) s 0 (omega (arith, length-replicate {A = ℕ} n 0))) (cases_lt s n)
 
 -- no number of a plan or a cleared one is above the root
-pub below_root : (sets : List InformationSet) (root : ℕ) (plan : List ℕ) → AreInOrder sets → IsPlanOrCleared sets root plan → (s : ℕ) → slice_index plan s ≤ root
+pub below_root : (sets : List InformationSet) (root : ℕ) (plan : List ℕ) → AreInOrder sets
+    → IsPlanOrCleared sets root plan → (s : ℕ) → slice_index plan s ≤ root
 below_root sets zero plan order is s = omega (arith, ap (λ x. slice_index x s) is, zeros (sequence_count sets) s)
 below_root sets (suc root) plan order is s = plan-below_root sets (suc root) plan order is s

@@ -11,8 +11,10 @@ use Rattle.def_round.proofs.Plays.{sum_of_map}
 use Rattle.xg_plan.proofs.PlaceLemmas.{IsTold, no_place, part_is}
 
 -- a set's numbers as a part of the list
-pub part_sum : (sets : List InformationSet) (plan : List ℕ) (k first actions before : ℕ) → IsTold sets k first actions before → length plan ≡ sequence_count sets
-    → (d : PlacedSet) → weight_sum (take (first + actions - first) (drop first plan)) ≡ nat_sum_over (λ s. slice_index plan s) (sequences_of (get_or (placed sets) k d))
+pub part_sum : (sets : List InformationSet) (plan : List ℕ) (k first actions before : ℕ)
+    → IsTold sets k first actions before → length plan ≡ sequence_count sets
+    → (d : PlacedSet)
+    → weight_sum (take (first + actions - first) (drop first plan)) ≡ nat_sum_over (λ s. slice_index plan s) (sequences_of (get_or (placed sets) k d))
 part_sum sets plan k first actions before told long d =
     ap weight_sum (part_is plan first actions (omega (arith, told.inside, long))) ∙ sym (sum_of_map (λ s. slice_index plan s) (range_with_len first actions))
     ∙ ap (λ (h : PlacedSet). nat_sum_over (λ s. slice_index plan s) (sequences_of h)) (sym (told.is d))
@@ -22,7 +24,8 @@ abbrev pub AddUpTo : List InformationSet → List ℕ → ℕ → Type 0
 AddUpTo sets plan k = (j : ℕ) (d : PlacedSet) → j < k → AddsUp plan (get_or (placed sets) j d)
 
 -- at set k they are the first that don't
-pub bad_at : (sets : List InformationSet) (root : ℕ) (plan : List ℕ) (k : ℕ) → HasRoot sets root plan → AddUpTo sets plan k → k < length sets
+pub bad_at : (sets : List InformationSet) (root : ℕ) (plan : List ℕ) (k : ℕ) → HasRoot sets root plan
+    → AddUpTo sets plan k → k < length sets
     → ((d : PlacedSet) → ¬ (AddsUp plan (get_or (placed sets) (k + 1 - 1) d))) → IsBadSet sets root plan (k + 1)
 bad_at sets root plan k has upto below bad =
     let index : k + 1 - 1 ≡ k = omega arith in
@@ -35,7 +38,8 @@ bad_at sets root plan k has upto below bad =
     )
 
 -- after all sets it is a plan
-pub plan_at_last : (sets : List InformationSet) (root : ℕ) (plan : List ℕ) → HasRoot sets root plan → AddUpTo sets plan (length sets) → IsPlan sets root plan
+pub plan_at_last : (sets : List InformationSet) (root : ℕ) (plan : List ℕ) → HasRoot sets root plan
+    → AddUpTo sets plan (length sets) → IsPlan sets root plan
 plan_at_last sets root plan has upto = record {
   all_sequences = has.all_sequences;
   some_root = has.some_root;
@@ -44,7 +48,8 @@ plan_at_last sets root plan has upto = record {
 }
 
 -- what has a set at which the numbers don't add up is no plan
-pub no_plan_at : (sets : List InformationSet) (root : ℕ) (plan : List ℕ) (k : ℕ) → k < length sets → ((d : PlacedSet) → ¬ (AddsUp plan (get_or (placed sets) (k + 1 - 1) d))) → ¬ (IsPlan sets root plan)
+pub no_plan_at : (sets : List InformationSet) (root : ℕ) (plan : List ℕ) (k : ℕ) → k < length sets
+    → ((d : PlacedSet) → ¬ (AddsUp plan (get_or (placed sets) (k + 1 - 1) d))) → ¬ (IsPlan sets root plan)
 no_plan_at sets root plan k below bad is =
     let there : k + 1 - 1 < length (placed sets) = omega (arith, length-placed 1 sets) in
     bad no_place (is.each_set (k + 1 - 1) no_place there)

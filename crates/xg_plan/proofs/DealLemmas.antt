@@ -34,7 +34,8 @@ adds_up play plan h some dealt =
     ∙ shares_whole (slice_index plan h.before) weights (omega (arith, length-map-range_with_len (λ s. slice_index play s) h.first h.actions))
 
 -- nothing but the root
-pub dealt_to_none : (sets : List InformationSet) (play plan : List ℕ) (root : ℕ) → length plan ≡ sequence_count sets → slice_index plan 0 ≡ root → IsDealtUpTo sets play root 0 plan
+pub dealt_to_none : (sets : List InformationSet) (play plan : List ℕ) (root : ℕ) → length plan ≡ sequence_count sets
+    → slice_index plan 0 ≡ root → IsDealtUpTo sets play root 0 plan
 dealt_to_none sets play plan root long is_root = record {
   all_sequences = long;
   root_weight = is_root;
@@ -43,7 +44,8 @@ dealt_to_none sets play plan root long is_root = record {
 }
 
 -- the number before a set stands there when the set is dealt
-pub small_before : (sets : List InformationSet) (play : List ℕ) (root k : ℕ) (plan : List ℕ) → AreInOrder sets → k < length sets → IsDealtUpTo sets play root k plan
+pub small_before : (sets : List InformationSet) (play : List ℕ) (root k : ℕ) (plan : List ℕ) → AreInOrder sets
+    → k < length sets → IsDealtUpTo sets play root k plan
     → (d : PlacedSet) → slice_index plan (get_or (placed sets) k d).before ≤ root
 small_before sets play root k plan order below upto d = let at = set_at sets k d order below in upto.small (get_or (placed sets) k d).before (omega (arith, at.first, at.earlier))
 
@@ -51,10 +53,13 @@ small_before sets play root k plan order below upto d = let at = set_at sets k d
 pub record Deals (sets : List InformationSet) (play : List ℕ) (k : ℕ) (plan next : List ℕ) : Type 0 where
   pub count : length next ≡ length plan
   pub earlier : (d : PlacedSet) (s : ℕ) → s < (get_or (placed sets) k d).first → slice_index next s ≡ slice_index plan s
-  pub dealt : (d : PlacedSet) → map (λ s. slice_index next s) (sequences_of (get_or (placed sets) k d)) ≡ play_rule play (get_or (placed sets) k d) (slice_index plan (get_or (placed sets) k d).before)
+  pub dealt : (d : PlacedSet)
+      → map (λ s. slice_index next s) (sequences_of (get_or (placed sets) k d)) ≡ play_rule play (get_or (placed sets) k d) (slice_index plan (get_or (placed sets) k d).before)
 
 -- one set more
-pub dealt_more_sets : (sets : List InformationSet) (play : List ℕ) (root k : ℕ) (plan next : List ℕ) → AreInOrder sets → k < length sets → IsDealtUpTo sets play root k plan → Deals sets play k plan next → IsDealtUpTo sets play root (k + 1) next
+pub dealt_more_sets : (sets : List InformationSet) (play : List ℕ) (root k : ℕ) (plan next : List ℕ) → AreInOrder sets
+    → k < length sets → IsDealtUpTo sets play root k plan → Deals sets play k plan next
+    → IsDealtUpTo sets play root (k + 1) next
 dealt_more_sets sets play root k plan next order below upto deals =
     let h : PlacedSet = get_or (placed sets) k no_place in
     let at : SetAt sets k h = set_at sets k no_place order below in
@@ -87,7 +92,8 @@ dealt_more_sets sets play root k plan next order below upto deals =
     }
 
 -- all sets
-pub dealt_to_all : (sets : List InformationSet) (play : List ℕ) (root : ℕ) (plan : List ℕ) → AreInOrder sets → 1 ≤ root → IsDealtUpTo sets play root (length sets) plan → IsPlanOfPlay sets play root plan
+pub dealt_to_all : (sets : List InformationSet) (play : List ℕ) (root : ℕ) (plan : List ℕ) → AreInOrder sets → 1 ≤ root
+    → IsDealtUpTo sets play root (length sets) plan → IsPlanOfPlay sets play root plan
 dealt_to_all sets play root plan order some upto = record {
   is_plan = record {
     all_sequences = upto.all_sequences;
@@ -100,28 +106,34 @@ dealt_to_all sets play root plan order some upto = record {
   each_set = λ j d low. upto.dealt j d (omega (arith, length-placed 1 sets));
 }
 
-pub dealt_is_plan_of_play : (sets : List InformationSet) (play : List ℕ) (root : ℕ) (plan : List ℕ) → AreInOrder sets → 1 ≤ root → IsDealtUpTo sets play root (length sets) plan → plan ≡ plan_of_play sets play root
+pub dealt_is_plan_of_play : (sets : List InformationSet) (play : List ℕ) (root : ℕ) (plan : List ℕ) → AreInOrder sets
+    → 1 ≤ root → IsDealtUpTo sets play root (length sets) plan → plan ≡ plan_of_play sets play root
 dealt_is_plan_of_play sets play root plan order some upto = plans_of_plays_are_unique sets play root plan order (dealt_to_all sets play root plan order some upto)
 
 -- the play of a set gives out all units, as a part of the list
-pub part_whole : (sets : List InformationSet) (play : List ℕ) (k first actions before : ℕ) → IsTold sets k first actions before → k < length sets → length play ≡ sequence_count sets → GivesAllUnits play sets
+pub part_whole : (sets : List InformationSet) (play : List ℕ) (k first actions before : ℕ)
+    → IsTold sets k first actions before → k < length sets → length play ≡ sequence_count sets → GivesAllUnits play sets
     → weight_sum (take (first + actions - first) (drop first play)) ≡ 65536
 part_whole sets play k first actions before told below long all =
     ap weight_sum (part_is play first actions (omega (arith, told.inside, long))) ∙ sym (sum_of_map (λ s. slice_index play s) (range_with_len first actions))
     ∙ ap (λ (h : PlacedSet). nat_sum_over (λ s. slice_index play s) (sequences_of h)) (sym (told.is no_place)) ∙ all k no_place (omega (arith, length-placed 1 sets))
 
 -- a block that is put at a set's place keeps what stands before it
-pub block_keeps : (sets : List InformationSet) (plan block rest : List ℕ) (k first actions before : ℕ) → IsTold sets k first actions before → length plan ≡ sequence_count sets
-    → (d : PlacedSet) (s : ℕ) → s < (get_or (placed sets) k d).first → slice_index (take first plan ++ (block ++ rest)) s ≡ slice_index plan s
+pub block_keeps : (sets : List InformationSet) (plan block rest : List ℕ) (k first actions before : ℕ)
+    → IsTold sets k first actions before → length plan ≡ sequence_count sets
+    → (d : PlacedSet) (s : ℕ) → s < (get_or (placed sets) k d).first
+    → slice_index (take first plan ++ (block ++ rest)) s ≡ slice_index plan s
 block_keeps sets plan block rest k first actions before told long d s low =
     let below : s < first = omega (arith, ap (λ (h : PlacedSet). h.first) (told.is d)) in
     let front : length (take first plan) ≡ first = length-take-le first plan (omega (arith, told.inside, long)) in
     get_or_append_left (take first plan) (block ++ rest) 0 s (omega (arith, front)) ∙ get_or-take first plan s 0 below
 
 -- and is what the play deals, where it is the shares by the set's part of the play
-pub block_deals : (sets : List InformationSet) (play plan block rest : List ℕ) (k first actions before : ℕ) → IsTold sets k first actions before → length plan ≡ sequence_count sets → length play ≡ sequence_count sets
+pub block_deals : (sets : List InformationSet) (play plan block rest : List ℕ) (k first actions before : ℕ)
+    → IsTold sets k first actions before → length plan ≡ sequence_count sets → length play ≡ sequence_count sets
     → block ≡ shares (slice_index plan before) (take (first + actions - first) (drop first play))
-    → (d : PlacedSet) → map (λ s. slice_index (take first plan ++ (block ++ rest)) s) (sequences_of (get_or (placed sets) k d)) ≡ play_rule play (get_or (placed sets) k d) (slice_index plan (get_or (placed sets) k d).before)
+    → (d : PlacedSet)
+    → map (λ s. slice_index (take first plan ++ (block ++ rest)) s) (sequences_of (get_or (placed sets) k d)) ≡ play_rule play (get_or (placed sets) k d) (slice_index plan (get_or (placed sets) k d).before)
 block_deals sets play plan block rest k first actions before told long play_long dealt d =
     let n : ℕ = slice_index plan before in
     let weights : List ℕ = map (λ s. slice_index play s) (range_with_len first actions) in

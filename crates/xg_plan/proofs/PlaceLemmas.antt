@@ -8,7 +8,7 @@ use Rattle.std.proofs.lemmas.Option.{get_or_from_slice_get}
 use Rattle.def_sums.proofs.SumLaws.{nat_sum_over-append}
 use Rattle.def_plan.specs.Form.{AreInOrder, InformationSet, PlacedSet, placed, sequence_count}
 use Rattle.def_plan.proofs.BadSets.{length-placed}
-use Rattle.def_plan.proofs.Places.{actions_of, at-placed}
+use Rattle.def_plan.proofs.Places.{total_actions, at-placed}
 use Rattle.def_round.proofs.Blocks.{drop-range}
 
 abbrev pub no_place : PlacedSet
@@ -19,16 +19,16 @@ no_set = record { before = 0; actions = 0 }
 
 -- the number of the first sequence at set k, counted from 0, or of the next one after all
 abbrev pub first_of : List InformationSet → ℕ → ℕ
-first_of sets k = 1 + actions_of (take k sets)
+first_of sets k = 1 + total_actions (take k sets)
 
-pub few_before : (hs : List InformationSet) (i j : ℕ) → i ≤ j → actions_of (take i hs) ≤ actions_of (take j hs)
+pub few_before : (hs : List InformationSet) (i j : ℕ) → i ≤ j → total_actions (take i hs) ≤ total_actions (take j hs)
 few_before hs zero j h = omega arith
 few_before [] (suc i) (suc j) h = omega arith
 few_before [] (suc i) zero h = omega arith
 few_before (g ∷ gs) (suc i) zero h = absurd (omega arith)
 few_before (g ∷ gs) (suc i) (suc j) h = omega (arith, few_before gs i j (omega arith))
 
-pub few_of_all : (hs : List InformationSet) (i : ℕ) → actions_of (take i hs) ≤ actions_of hs
+pub few_of_all : (hs : List InformationSet) (i : ℕ) → total_actions (take i hs) ≤ total_actions hs
 few_of_all hs zero = omega arith
 few_of_all [] (suc i) = omega arith
 few_of_all (g ∷ gs) (suc i) = omega (arith, few_of_all gs i)
@@ -40,12 +40,13 @@ pub record SetAt (sets : List InformationSet) (k : ℕ) (h : PlacedSet) : Type 0
   pub some : 1 ≤ h.actions
   pub earlier : h.before < h.first
 
-pub set_at : (sets : List InformationSet) (k : ℕ) (d : PlacedSet) → AreInOrder sets → k < length sets → SetAt sets k (get_or (placed sets) k d)
+pub set_at : (sets : List InformationSet) (k : ℕ) (d : PlacedSet) → AreInOrder sets → k < length sets
+    → SetAt sets k (get_or (placed sets) k d)
 set_at sets k d order below =
     let is = at-placed 1 sets k d no_set below in
     let ordered = order k d (omega (arith, length-placed 1 sets)) in
-    let more : actions_of (take (k + 1) sets) ≡ actions_of (take k sets) + (get_or sets k no_set).actions =
-    ap actions_of (take_more sets k no_set below) ∙ nat_sum_over-append (λ (h : InformationSet). h.actions) (take k sets) (get_or sets k no_set ∷ []) ∙ omega arith in
+    let more : total_actions (take (k + 1) sets) ≡ total_actions (take k sets) + (get_or sets k no_set).actions =
+    ap total_actions (take_more sets k no_set below) ∙ nat_sum_over-append (λ (h : InformationSet). h.actions) (take k sets) (get_or sets k no_set ∷ []) ∙ omega arith in
     record {
       first = ap (λ (h : PlacedSet). h.first) is;
       next = omega (arith, more, ap (λ (h : PlacedSet). h.first) is, ap (λ (h : PlacedSet). h.actions) is);
@@ -61,7 +62,8 @@ pub record IsTold (sets : List InformationSet) (k first actions before : ℕ) : 
   pub earlier : before < first
 
 pub is_told : (sets : List InformationSet) (k first actions before : ℕ) → AreInOrder sets → k < length sets
-    → slice_get (map (λ (h : PlacedSet). h.first) (placed sets)) k ≡ Some first → slice_get (map (λ (h : InformationSet). h.actions) sets) k ≡ Some actions
+    → slice_get (map (λ (h : PlacedSet). h.first) (placed sets)) k ≡ Some first
+    → slice_get (map (λ (h : InformationSet). h.actions) sets) k ≡ Some actions
     → slice_get (map (λ (h : InformationSet). h.before) sets) k ≡ Some before → IsTold sets k first actions before
 is_told sets k first actions before order below read_first read_actions read_before =
     let there : k < length (placed sets) = omega (arith, length-placed 1 sets) in
@@ -82,7 +84,8 @@ is_told sets k first actions before order below read_first read_actions read_bef
     }
 
 -- a part of a list, read number by number
-pub part_is : (xs : List ℕ) (first n : ℕ) → first + n ≤ length xs → take (first + n - first) (drop first xs) ≡ map (λ s. slice_index xs s) (range_with_len first n)
+pub part_is : (xs : List ℕ) (first n : ℕ) → first + n ≤ length xs
+    → take (first + n - first) (drop first xs) ≡ map (λ s. slice_index xs s) (range_with_len first n)
 part_is xs first n inside =
     let block : List ℕ = map (λ s. slice_index xs s) (range_with_len first n) in
     let long : first + n - first ≡ length block = omega (arith, length-map-range_with_len (λ s. slice_index xs s) first n) in

@@ -56,7 +56,8 @@ zero_over : (n sum : ℕ) → 1 ≤ sum → 0 * n / sum ≡ 0
 zero_over n sum some = omega arith
 
 -- of nothing each share is 0
-pub zeros_are_shares : (ws out : List ℕ) → length out ≡ length ws → ((k : ℕ) → k < length ws → get_or out k 0 ≡ 0) → out ≡ shares 0 ws
+pub zeros_are_shares : (ws out : List ℕ) → length out ≡ length ws → ((k : ℕ) → k < length ws → get_or out k 0 ≡ 0)
+    → out ≡ shares 0 ws
 zeros_are_shares ws out long each =
     ⊎_elim
     (λ some. dealt_is_shares 0 ws out long some (λ k below. omega (arith, each k below, zero_over (prefix_sum ws k) (weight_sum ws) some, zero_over (prefix_sum ws (k + 1)) (weight_sum ws) some)))
@@ -70,8 +71,10 @@ no_shares n m ws out none zeros many =
     ∙ ap (λ a. shares a ws) (sym none)
 
 -- one more share in a list of differences
-pub dealt_more : (share_upto : ℕ → ℕ) (out : List ℕ) (i share : ℕ) → i < length out → share + share_upto i ≡ share_upto (i + 1)
-    → ((k : ℕ) → k < i → get_or out k 0 + share_upto k ≡ share_upto (k + 1)) → (k : ℕ) → k < i + 1 → get_or (set out i share) k 0 + share_upto k ≡ share_upto (k + 1)
+pub dealt_more : (share_upto : ℕ → ℕ) (out : List ℕ) (i share : ℕ) → i < length out
+    → share + share_upto i ≡ share_upto (i + 1)
+    → ((k : ℕ) → k < i → get_or out k 0 + share_upto k ≡ share_upto (k + 1)) → (k : ℕ) → k < i + 1
+    → get_or (set out i share) k 0 + share_upto k ≡ share_upto (k + 1)
 dealt_more share_upto out i share below here before =
     below_more _ _ (λ k h. let ne : k ≢ i = omega arith in rw get_or-set_other (before k h)) (rw get_or-set_same here)
 
@@ -83,7 +86,8 @@ pub record Step (n : ℕ) (ws : List ℕ) (i upto sum : ℕ) : Type 0 where
   pub share_within : n * upto / sum ≤ n
   pub grows : prefix_share n ws i ≤ n * upto / sum
 
-pub step_of : (n : ℕ) (ws : List ℕ) (i before_upto weight sum : ℕ) → i < length ws → 1 ≤ sum → sum ≡ weight_sum ws → before_upto ≡ prefix_sum ws i → weight ≡ get_or ws i 0
+pub step_of : (n : ℕ) (ws : List ℕ) (i before_upto weight sum : ℕ) → i < length ws → 1 ≤ sum → sum ≡ weight_sum ws
+    → before_upto ≡ prefix_sum ws i → weight ≡ get_or ws i 0
     → Step n ws i (before_upto + weight) sum
 step_of n ws i before_upto weight sum below some whole is at =
     let next : before_upto + weight ≡ prefix_sum ws (i + 1) = omega (arith, prefix-more ws i below) in
@@ -103,7 +107,8 @@ pub none_more : (n before_upto weight sum : ℕ) → weight ≡ 0 → n * before
 none_more n before_upto weight sum none = ap (λ k. n * k / sum) (omega (arith, none))
 
 -- one weight gets all
-pub one_share : (n : ℕ) (ws out : List ℕ) → length ws ≡ 1 → length out ≡ 1 → 1 ≤ weight_sum ws → get_or out 0 0 ≡ n → out ≡ shares n ws
+pub one_share : (n : ℕ) (ws out : List ℕ) → length ws ≡ 1 → length out ≡ 1 → 1 ≤ weight_sum ws → get_or out 0 0 ≡ n
+    → out ≡ shares n ws
 one_share n ws out one long some all =
     let whole : prefix_sum ws 1 ≡ weight_sum ws = ap (λ k. prefix_sum ws k) (sym one) ∙ prefix-all ws in
     let at_one : prefix_share n ws 1 ≡ n = ap (λ c. n * c / weight_sum ws) whole ∙ mul-div_left n some in
@@ -116,7 +121,8 @@ one_share n ws out one long some all =
     zero_of n sum some = omega arith
 
 -- the first of two weights gets its part, rounded down, and the other one the rest
-pub two_shares : (n q : ℕ) (ws out : List ℕ) → length ws ≡ 2 → length out ≡ 2 → 1 ≤ weight_sum ws → get_or out 0 0 ≡ q → get_or out 1 0 + q ≡ n
+pub two_shares : (n q : ℕ) (ws out : List ℕ) → length ws ≡ 2 → length out ≡ 2 → 1 ≤ weight_sum ws → get_or out 0 0 ≡ q
+    → get_or out 1 0 + q ≡ n
     → q ≡ n * get_or ws 0 0 / weight_sum ws → out ≡ shares n ws
 two_shares n q ws out two long some first second is =
     let one : prefix_sum ws 1 ≡ get_or ws 0 0 = omega (arith, prefix-more ws 0 (omega arith)) in

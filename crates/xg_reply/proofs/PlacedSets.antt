@@ -7,7 +7,7 @@ use Rattle.std.proofs.lemmas.Option.{get_or_from_slice_get}
 use Rattle.def_sums.proofs.SumLaws.{nat_sum_over-append}
 use Rattle.def_plan.specs.Form.{AreInOrder, InformationSet, IsInOrder, PlacedSet, placed, sequence_count}
 use Rattle.def_plan.proofs.BadSets.{length-placed}
-use Rattle.def_plan.proofs.Places.{actions_of, numbered}
+use Rattle.def_plan.proofs.Places.{total_actions, numbered}
 use Rattle.xg_reply.specs.Replies.{placed_set}
 
 -- what is read of a list of facts is the fact of the element
@@ -32,7 +32,7 @@ module _ (sets : List InformationSet) (set : ℕ) (from_one : 1 ≤ set) (there 
   placed_low = omega (arith, length-placed 1 sets)
 
   -- where the set stands among all sets
-  is_numbered : h ≡ record { first = 1 + actions_of (take (set - 1) sets); before = g.before; actions = g.actions }
+  is_numbered : h ≡ record { first = 1 + total_actions (take (set - 1) sets); before = g.before; actions = g.actions }
   is_numbered = numbered.each_set sets (set - 1) none (record { before = 0; actions = 0 }) low
 
   -- what the form tells of the first sequence, the actions and the sequence before
@@ -57,9 +57,9 @@ module _ (sets : List InformationSet) (set : ℕ) (from_one : 1 ≤ set) (there 
         arith,
         ap (λ (p : PlacedSet). p.first) is_numbered,
         ap (λ (p : PlacedSet). p.actions) is_numbered,
-        ap actions_of (take_more sets (set - 1) (record { before = 0; actions = 0 }) low),
+        ap total_actions (take_more sets (set - 1) (record { before = 0; actions = 0 }) low),
         nat_sum_over-append (λ (s : InformationSet). s.actions) (take (set - 1) sets) (g ∷ []),
-        ap actions_of (take-append-drop (set - 1 + 1) sets),
+        ap total_actions (take-append-drop (set - 1 + 1) sets),
         nat_sum_over-append (λ (s : InformationSet). s.actions) (take (set - 1 + 1) sets) (drop (set - 1 + 1) sets),
       )
 
