@@ -24,7 +24,8 @@ FirstFaultDecides = (bytes : List ℕ) (fault : CertFault) → (cert_in bytes �
 
 -- a text that is cut anywhere is short
 abbrev pub CutTextsAreShort : Type 0
-CutTextsAreShort = (c : Certificate) (n : ℕ) → CertificateFits c → n < length (cert_text c) → cert_in (take n (cert_text c)) ≡ Err CertShort
+CutTextsAreShort = (c : Certificate) (n : ℕ) → CertificateFits c → n < length (cert_text c)
+    → cert_in (take n (cert_text c)) ≡ Err CertShort
 
 -- the text is its lines one after another
 pub record TextIsItsLines : Type 0 where

@@ -1,2 +1,3 @@
+pub mod Plan
 pub mod Play
 pub mod Reply

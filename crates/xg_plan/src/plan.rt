@@ -12,7 +12,7 @@ use xg_seq::SeqForm;
 /// The number of the empty sequence is the plan's root. A plan of which nothing is dealt yet has only zeros.
 #[derive(Drop)]
 pub struct Plan {
-    weights: Vec<u64>,
+    pub(crate) weights: Vec<u64>,
 }
 
 impl Model for Plan {

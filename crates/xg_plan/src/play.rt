@@ -11,7 +11,7 @@ use xg_seq::SeqForm;
 /// The empty sequence, at which no action ends, has 0.
 #[derive(Drop)]
 pub struct Play {
-    units: Vec<u32>,
+    pub(crate) units: Vec<u32>,
 }
 
 impl Model for Play {

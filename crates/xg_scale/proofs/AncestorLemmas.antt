@@ -22,6 +22,7 @@ use Rattle.xg_scale.specs.Ancestors.{HasNextChild, TakesNextChild, chance_set_of
 use Rattle.xg_scale.specs.Walked.{IsOpenOver, MayCome, numbers_below, numbers_of, reach_below}
 use Rattle.xg_scale.proofs.GameLemmas.{in_chance_set}
 
+-- what the whole tree is to come under
 abbrev pub whole_tree : OpenNode
 whole_tree = record { chance_set = None; action = 1; to_come = 1; numbers = record { reach = certain; one = nothing; two = nothing } }
 

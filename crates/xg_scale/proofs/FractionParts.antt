@@ -38,5 +38,6 @@ zero_fits f low zero =
     and_from (nat_le (unsigned_abs f.num) most) (nat_le f.den most) (le-leb (unsigned_abs f.num) most (omega (arith, none))) (le-leb f.den most (omega (arith, one)))
 
 -- a sum that doesn't fit isn't 0
-pub sum_past : (f g : Fraction) → IsInLowestTerms f → IsInLowestTerms g → (IsTrue (fits (sum_of f g)) → ⊥) → is_zero (sum_of f g) ≡ false
+pub sum_past : (f g : Fraction) → IsInLowestTerms f → IsInLowestTerms g → (IsTrue (fits (sum_of f g)) → ⊥)
+    → is_zero (sum_of f g) ≡ false
 sum_past f g low_f low_g past = false_from_ne_true (is_zero (sum_of f g)) (λ zero. past (zero_fits (sum_of f g) (lowest-sum f g low_f.positive low_g.positive) zero))

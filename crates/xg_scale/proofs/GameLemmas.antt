@@ -32,36 +32,43 @@ pub tree_rules : (game : GameFile) → IsWholeGame game → IsGameTree game.tree
 tree_rules game whole = record { tree = whole.tree; rules = whole.together.rules; limit = whole.together.limit }
 
 -- a node's set and outcome are in the tables
-pub goes_with : (game : GameFile) → IsWholeGame game → (k : ℕ) (x : Node) → slice_get (prefix game.tree) (k + 1 - 1) ≡ Some x → GoesWith game.sets game.outcomes x
+pub goes_with : (game : GameFile) → IsWholeGame game → (k : ℕ) (x : Node)
+    → slice_get (prefix game.tree) (k + 1 - 1) ≡ Some x → GoesWith game.sets game.outcomes x
 goes_with game whole k x read = kept_at (GoesWith game.sets game.outcomes) (prefix game.tree) (k + 1 - 1) x whole.together.tables read
 
 chance-not_leaf : Chance ≢ Leaf
 chance-not_leaf e = cc e
 
 -- a chance node's set is in the table
-pub in_chance_set : (game : GameFile) → IsWholeGame game → (k : ℕ) (x : Node) → slice_get (prefix game.tree) (k + 1 - 1) ≡ Some x → x.kind ≡ Chance → IsInSet game.sets.chance x
+pub in_chance_set : (game : GameFile) → IsWholeGame game → (k : ℕ) (x : Node)
+    → slice_get (prefix game.tree) (k + 1 - 1) ≡ Some x → x.kind ≡ Chance → IsInSet game.sets.chance x
 in_chance_set game whole k x read chance =
     let inner : x.kind ≢ Leaf = λ leaf. chance-not_leaf (sym chance ∙ leaf) in
     subst (λ kind. IsInSet (sets_of_kind kind game.sets) x) chance ((goes_with game whole k x read).set inner)
 
 -- the probabilities of a set are those of its actions
-pub probabilities_are : (game : GameFile) (set : ℕ) → 1 ≤ set → set ≤ length game.sets.chance → probabilities (tables_of game) set ≡ chances_of (set_at game.sets.chance (set - 1))
+pub probabilities_are : (game : GameFile) (set : ℕ) → 1 ≤ set → set ≤ length game.sets.chance
+    → probabilities (tables_of game) set ≡ chances_of (set_at game.sets.chance (set - 1))
 probabilities_are game set from_one there = get_or-map chances_of game.sets.chance (set - 1) no_set [] (omega arith)
 
 -- as many as there are actions
-pub probabilities_count : (game : GameFile) (set : ℕ) → 1 ≤ set → set ≤ length game.sets.chance → length (probabilities (tables_of game) set) ≡ length (set_at game.sets.chance (set - 1)).actions
+pub probabilities_count : (game : GameFile) (set : ℕ) → 1 ≤ set → set ≤ length game.sets.chance
+    → length (probabilities (tables_of game) set) ≡ length (set_at game.sets.chance (set - 1)).actions
 probabilities_count game set from_one there =
     ap length (probabilities_are game set from_one there) ∙ length-map (set_at game.sets.chance (set - 1)).actions (λ (a : Action). a.chance)
 
 -- what is read of an action is read of them
-pub probability_read : (game : GameFile) (set i : ℕ) (f : Fraction) → 1 ≤ set → set ≤ length game.sets.chance → option_map (λ (a : Action). a.chance) (slice_get (set_at game.sets.chance (set - 1)).actions i) ≡ Some f →
+pub probability_read : (game : GameFile) (set i : ℕ) (f : Fraction) → 1 ≤ set → set ≤ length game.sets.chance
+    → option_map (λ (a : Action). a.chance) (slice_get (set_at game.sets.chance (set - 1)).actions i) ≡ Some f →
     slice_get (probabilities (tables_of game) set) i ≡ Some f
 probability_read game set i f from_one there read =
     ap (λ fs. slice_get fs i) (probabilities_are game set from_one there)
     ∙ slice_get-map (λ (a : Action). a.chance) (set_at game.sets.chance (set - 1)).actions i ∙ read
 
 -- and it is the action's probability
-pub probability_is : (game : GameFile) (set action : ℕ) (f : Fraction) → 1 ≤ set → set ≤ length game.sets.chance → option_map (λ (a : Action). a.chance) (slice_get (set_at game.sets.chance (set - 1)).actions (action - 1)) ≡ Some f →
+pub probability_is : (game : GameFile) (set action : ℕ) (f : Fraction) → 1 ≤ set → set ≤ length game.sets.chance
+    → option_map (λ (a : Action). a.chance) (slice_get (set_at game.sets.chance (set - 1)).actions (action - 1)) ≡ Some f
+    →
     probability (tables_of game) set action ≡ f
 probability_is game set action f from_one there read =
     get_or_from_slice_get (probabilities (tables_of game) set) (action - 1) f nothing (probability_read game set (action - 1) f from_one there read)
@@ -70,25 +77,29 @@ paid_given : (player : Player) (entry : OutcomeEntry) → payoff_to player entry
 paid_given One entry = refl
 paid_given Two entry = refl
 
-numbered : (outcome : ℕ) (outcomes : List OutcomeEntry) → outcome_numbered (suc outcome) outcomes ≡ outcome_at outcomes outcome
+numbered : (outcome : ℕ) (outcomes : List OutcomeEntry)
+    → outcome_numbered (suc outcome) outcomes ≡ outcome_at outcomes outcome
 numbered outcome outcomes =
     let index : suc outcome - 1 ≡ outcome = omega arith in
     ap (λ b. cond b null_outcome (outcome_at outcomes (suc outcome - 1))) (ne_eqb (suc outcome) 0 (λ e. absurd (omega arith))) ∙ ap (outcome_at outcomes) index
 
 -- the payoff of an outcome, the null outcome included
-pub paid_is : (game : GameFile) (player : Player) (outcome : ℕ) → outcome ≤ length game.outcomes → payoff_to player (outcome_numbered outcome game.outcomes) ≡ paid_to player (payoffs_of (tables_of game) outcome)
+pub paid_is : (game : GameFile) (player : Player) (outcome : ℕ) → outcome ≤ length game.outcomes
+    → payoff_to player (outcome_numbered outcome game.outcomes) ≡ paid_to player (payoffs_of (tables_of game) outcome)
 paid_is game player zero there = paid_given player null_outcome
 paid_is game player (suc outcome) there =
     ap (payoff_to player) (numbered outcome game.outcomes) ∙
     paid_given player (outcome_at game.outcomes outcome)
     ∙ ap (paid_to player) (sym (get_or-map payoffs_given game.outcomes outcome null_outcome (record { one = nothing; two = nothing }) (omega arith)))
 
+-- the null outcome pays nothing
 pub paid_null : (game : GameFile) (player : Player) → paid_to player (payoffs_of (tables_of game) 0) ≡ nothing
 paid_null game One = refl
 paid_null game Two = refl
 
 -- a chance node's set counts from 1
-pub set_counts : (game : GameFile) → IsWholeGame game → (k : ℕ) (x : Node) → slice_get (prefix game.tree) (k + 1 - 1) ≡ Some x → 1 ≤ x.set ⊎ (is_same_kind Chance x.kind ≡ false)
+pub set_counts : (game : GameFile) → IsWholeGame game → (k : ℕ) (x : Node)
+    → slice_get (prefix game.tree) (k + 1 - 1) ≡ Some x → 1 ≤ x.set ⊎ (is_same_kind Chance x.kind ≡ false)
 set_counts game whole k x read = by (is_same_kind Chance x.kind) refl
   where
     by : (b : Bool) → is_same_kind Chance x.kind ≡ b → 1 ≤ x.set ⊎ (is_same_kind Chance x.kind ≡ false)

@@ -24,7 +24,8 @@ use Rattle.xg_scale.specs.Walked.{all_fit, numbers_of}
 use Rattle.xg_scale.proofs.FoundLemmas.{found_later, number_next, refuses_here}
 
 -- the leaves among some nodes and one more node
-pub expected_more : (tables : Tables) (before : List Visit) (v : Visit) → expected_at tables (before ++ v ∷ []) ≡ expected_at tables before ++ cond (is_leaf_kind v.node.kind) (expected tables v ∷ []) []
+pub expected_more : (tables : Tables) (before : List Visit) (v : Visit)
+    → expected_at tables (before ++ v ∷ []) ≡ expected_at tables before ++ cond (is_leaf_kind v.node.kind) (expected tables v ∷ []) []
 expected_more tables before v =
     ap (map (expected tables)) (filter-append (λ (w : Visit). is_leaf_kind w.node.kind) before (v ∷ []))
     ∙ map-append (expected tables) (filter (λ (w : Visit). is_leaf_kind w.node.kind) before) (filter (λ (w : Visit). is_leaf_kind w.node.kind) (v ∷ []))
@@ -35,7 +36,8 @@ expected_more tables before v =
     last false = refl
 
 -- all expected are those among all nodes
-pub expected_all : (tables : Tables) (tree : Forest) (k : ℕ) → k ≡ node_count tree → expected_at tables (take k (visits tree)) ≡ all_expected tables tree
+pub expected_all : (tables : Tables) (tree : Forest) (k : ℕ) → k ≡ node_count tree
+    → expected_at tables (take k (visits tree)) ≡ all_expected tables tree
 expected_all tables tree k last = ap (expected_at tables) (take_all k (visits tree) (omega (arith, length-visits tree)))
 
 -- the unit of some leaves isn't 0
@@ -43,7 +45,8 @@ pub unit_from_one : (tables : Tables) → AreFractions tables → (before : List
 unit_from_one tables h before = unit-positive (expected_at tables before) (All-map IsInLowestTerms (expected tables) (filter (λ (w : Visit). is_leaf_kind w.node.kind) before) (λ k d there. expected-lowest tables (get_or (filter (λ (w : Visit). is_leaf_kind w.node.kind) before) k d) h))
 
 -- tests that fit together
-all_passing : (a b c : Bool) (fault : GameFault) (later : Option GameFault) → passing a fault (passing b fault (passing c fault later)) ≡ cond (a && (b && c)) later (Some fault)
+all_passing : (a b c : Bool) (fault : GameFault) (later : Option GameFault)
+    → passing a fault (passing b fault (passing c fault later)) ≡ cond (a && (b && c)) later (Some fault)
 all_passing true true true fault later = refl
 all_passing true true false fault later = refl
 all_passing true false c fault later = refl
@@ -68,7 +71,8 @@ module _ (tables : Tables) (lowest : AreFractions tables) (tree : Forest) (game 
   number : number_after before ≡ n + 1
   number = number_next tree n there
 
-  leaf_judged : is_leaf_kind v.node.kind ≡ true → leaf_fault tables before v ≡ judged_leaf (n + 1) (unit_so_far tables before) (numbers_of tables v)
+  leaf_judged : is_leaf_kind v.node.kind ≡ true
+      → leaf_fault tables before v ≡ judged_leaf (n + 1) (unit_so_far tables before) (numbers_of tables v)
   leaf_judged leaf =
       let unit : unit_so_far tables (before ++ v ∷ []) ≡ lcm (expected tables v).den (unit_so_far tables before) = ((running tables lowest).grow 0 before v).leaf_unit leaf in
       λ i. passing (is_zero (sum_of (payoff_one tables v) (payoff_two tables v))) (NotZeroSum (number i))
@@ -101,21 +105,25 @@ module _ (tables : Tables) (lowest : AreFractions tables) (tree : Forest) (game 
   expected_with = ap (expected_at tables) next.taken ∙ expected_more tables before v ∙ ap (λ b. expected_at tables before ++ cond b (expected tables v ∷ []) []) is_leaf
 
   -- a node whose numbers fit and that is judged to have no fault is passed over
-  pub node_passed : all_fit (numbers_of tables v) ≡ true → judged_node (n + 1) x (unit_so_far tables before) (numbers_of tables v) ≡ None →
+  pub node_passed : all_fit (numbers_of tables v) ≡ true
+      → judged_node (n + 1) x (unit_so_far tables before) (numbers_of tables v) ≡ None →
       found_by (node_fault tables) before (drop n (visits tree)) ≡ found_by (node_fault tables) (take (n + 1) (visits tree)) (drop (n + 1) (visits tree))
   node_passed fit none =
       found_later tree (node_fault tables) n v next
       (node_judged ∙ ap (λ b. cond b (judged_node (n + 1) x (unit_so_far tables before) (numbers_of tables v)) (Some (Scale (n + 1)))) fit ∙ none)
 
   -- a fault that is judged is found
-  pub node_broken : all_fit (numbers_of tables v) ≡ true → (refusal : Refused) → RefusesBy (judged_node (n + 1) x (unit_so_far tables before) (numbers_of tables v)) refusal →
+  pub node_broken : all_fit (numbers_of tables v) ≡ true → (refusal : Refused)
+      → RefusesBy (judged_node (n + 1) x (unit_so_far tables before) (numbers_of tables v)) refusal →
       RefusesBy (found_by (node_fault tables) before (drop n (visits tree))) refusal
   node_broken fit refusal refuses =
       refuses_here tree (node_fault tables) n v next (judged_node (n + 1) x (unit_so_far tables before) (numbers_of tables v)) refusal
       (node_judged ∙ ap (λ b. cond b (judged_node (n + 1) x (unit_so_far tables before) (numbers_of tables v)) (Some (Scale (n + 1)))) fit) refuses
 
   -- a path that doesn't fit is found
-  pub path_broken : all_fit (numbers_of tables v) ≡ false → (refusal : Refused) → RefusesBy (Some (Scale (n + 1))) refusal → RefusesBy (found_by (node_fault tables) before (drop n (visits tree))) refusal
+  pub path_broken : all_fit (numbers_of tables v) ≡ false → (refusal : Refused)
+      → RefusesBy (Some (Scale (n + 1))) refusal
+      → RefusesBy (found_by (node_fault tables) before (drop n (visits tree))) refusal
   path_broken fit refusal refuses =
       refuses_here tree (node_fault tables) n v next (Some (Scale (n + 1))) refusal
       (node_judged ∙ ap (λ b. cond b (judged_node (n + 1) x (unit_so_far tables before) (numbers_of tables v)) (Some (Scale (n + 1)))) fit) refuses

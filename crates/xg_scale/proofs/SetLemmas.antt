@@ -27,16 +27,19 @@ use Rattle.xg_scale.specs.Told.{IsFaultOf}
 use Rattle.xg_scale.proofs.FoundLemmas.{found_here, found_later, number_next}
 
 -- at a chance node a walk asks its set
-at_chance : (test : SetTest) (tables : Tables) (before : List Visit) (v : Visit) → is_same_kind Chance v.node.kind ≡ true →
+at_chance : (test : SetTest) (tables : Tables) (before : List Visit) (v : Visit)
+    → is_same_kind Chance v.node.kind ≡ true →
     test_of test tables before v ≡ set_fault test (number_after before) (probabilities tables v.node.set)
 at_chance Signs tables before v is = ap (λ c. passing (not (c && list_any is_negative (probabilities tables v.node.set))) (ChanceNegative (number_after before)) None) is
 at_chance Sums tables before v is = ap (λ c. cond c (adding_fault (number_after before) nothing (probabilities tables v.node.set)) None) is
 
-elsewhere : (test : SetTest) (tables : Tables) (before : List Visit) (v : Visit) → is_same_kind Chance v.node.kind ≡ false → test_of test tables before v ≡ None
+elsewhere : (test : SetTest) (tables : Tables) (before : List Visit) (v : Visit)
+    → is_same_kind Chance v.node.kind ≡ false → test_of test tables before v ≡ None
 elsewhere Signs tables before v other = ap (λ c. passing (not (c && list_any is_negative (probabilities tables v.node.set))) (ChanceNegative (number_after before)) None) other
 elsewhere Sums tables before v other = ap (λ c. cond c (adding_fault (number_after before) nothing (probabilities tables v.node.set)) None) other
 
-adding_none : (m n : ℕ) (running : Fraction) (ps : List Fraction) → adding_fault m running ps ≡ None → adding_fault n running ps ≡ None
+adding_none : (m n : ℕ) (running : Fraction) (ps : List Fraction) → adding_fault m running ps ≡ None
+    → adding_fault n running ps ≡ None
 adding_none m n running [] none = passed (is_one running) (ChanceSum n) None (passing_none (is_one running) (ChanceSum m) None none).0
 adding_none m n running (p ∷ ps) none =
     let parts = passing_none (fits (sum_of running p)) (Scale m) (adding_fault m (sum_of running p) ps) none in
@@ -68,13 +71,15 @@ module _ (test : SetTest) (tables : Tables) (tree : Forest) (game : IsGameTree t
   nodes_more : map (λ (w : Visit). w.node) (take (k + 1) (visits tree)) ≡ before ++ x ∷ []
   nodes_more = ap (map (λ (w : Visit). w.node)) next.taken ∙ map-append (λ (w : Visit). w.node) (take k (visits tree)) (v ∷ []) ∙ ap (λ y. before ++ y ∷ []) is_node
 
-  asked : (chance : is_same_kind Chance x.kind ≡ true) → test_of test tables (take k (visits tree)) v ≡ set_fault test (k + 1) (probabilities tables x.set)
+  asked : (chance : is_same_kind Chance x.kind ≡ true)
+      → test_of test tables (take k (visits tree)) v ≡ set_fault test (k + 1) (probabilities tables x.set)
   asked chance =
       at_chance test tables (take k (visits tree)) v (ap (λ (y : Node). is_same_kind Chance y.kind) is_node ∙ chance)
       ∙ ap (λ n. set_fault test n (probabilities tables v.node.set)) (number_next tree k there)
       ∙ ap (λ (y : Node). set_fault test (k + 1) (probabilities tables y.set)) is_node
 
-  count_more : is_same_kind Chance x.kind ≡ true → set_count Chance (map (λ (w : Visit). w.node) (take (k + 1) (visits tree))) ≡ max x.set seen
+  count_more : is_same_kind Chance x.kind ≡ true
+      → set_count Chance (map (λ (w : Visit). w.node) (take (k + 1) (visits tree))) ≡ max x.set seen
   count_more chance = ap (set_count Chance) nodes_more ∙ set_count-push_same Chance before x chance ∙ ap (max x.set) (sym h.seen_is)
 
   next_set : is_same_kind Chance x.kind ≡ true → x.set ≤ seen + 1
@@ -84,7 +89,8 @@ module _ (test : SetTest) (tables : Tables) (tree : Forest) (game : IsGameTree t
       omega (arith, subst (λ c. x.set ≤ set_count c before + 1) kind least, h.seen_is)
 
   -- a set that is new and has no fault is one more
-  pub set_opened : is_same_kind Chance x.kind && nat_lt seen x.set ≡ true → set_fault test (k + 1) (probabilities tables x.set) ≡ None → PassedSets test tables tree (k + 1) x.set
+  pub set_opened : is_same_kind Chance x.kind && nat_lt seen x.set ≡ true
+      → set_fault test (k + 1) (probabilities tables x.set) ≡ None → PassedSets test tables tree (k + 1) x.set
   set_opened opens none =
       let parts = both (is_same_kind Chance x.kind) (nat_lt seen x.set) opens in
       let new : seen < x.set = ltb-true seen x.set parts.1 in
@@ -102,13 +108,16 @@ module _ (test : SetTest) (tables : Tables) (tree : Forest) (game : IsGameTree t
       }
 
   -- the fault of a set that is new is found
-  pub set_broken : is_same_kind Chance x.kind && nat_lt seen x.set ≡ true → (fault : FileFault) → IsFaultOf (set_fault test (k + 1) (probabilities tables x.set)) fault → IsFaultOf (found_by (test_of test tables) [] (visits tree)) fault
+  pub set_broken : is_same_kind Chance x.kind && nat_lt seen x.set ≡ true → (fault : FileFault)
+      → IsFaultOf (set_fault test (k + 1) (probabilities tables x.set)) fault
+      → IsFaultOf (found_by (test_of test tables) [] (visits tree)) fault
   set_broken opens fault broken =
       let parts = both (is_same_kind Chance x.kind) (nat_lt seen x.set) opens in
       subst (λ o. IsFaultOf o fault) (sym h.rest) (found_here tree (test_of test tables) k v next (set_fault test (k + 1) (probabilities tables x.set)) fault (asked parts.0) broken)
 
   -- each other node is passed over
-  pub set_passed : 1 ≤ x.set ⊎ (is_same_kind Chance x.kind ≡ false) → is_same_kind Chance x.kind && nat_lt seen x.set ≡ false → PassedSets test tables tree (k + 1) seen
+  pub set_passed : 1 ≤ x.set ⊎ (is_same_kind Chance x.kind ≡ false)
+      → is_same_kind Chance x.kind && nat_lt seen x.set ≡ false → PassedSets test tables tree (k + 1) seen
   set_passed counts closed = by (is_same_kind Chance x.kind) refl
     where
       by : (b : Bool) → is_same_kind Chance x.kind ≡ b → PassedSets test tables tree (k + 1) seen
@@ -134,18 +143,21 @@ sets_first test tables tree = record { rest = refl; seen_is = refl; sets = λ se
 
 -- one fraction after the other
 
-drop_read : (ps : List Fraction) (i : ℕ) (p : Fraction) → slice_get ps (i + 1 - 1) ≡ Some p → i < length ps → drop i ps ≡ p ∷ drop (i + 1) ps
+drop_read : (ps : List Fraction) (i : ℕ) (p : Fraction) → slice_get ps (i + 1 - 1) ≡ Some p → i < length ps
+    → drop i ps ≡ p ∷ drop (i + 1) ps
 drop_read ps i p read there =
     let index : i + 1 - 1 ≡ i = omega arith in
     let on : suc i ≡ i + 1 = omega arith in
     drop-cons ps i p there ∙ (λ j. get_or_from_slice_get ps i p p (ap (slice_get ps) (sym index) ∙ read) j ∷ drop (on j) ps)
 
 -- the sign of one more is asked
-pub sign_more : (ps : List Fraction) (i : ℕ) (p : Fraction) (b : Bool) → slice_get ps (i + 1 - 1) ≡ Some p → i < length ps → is_negative p ≡ b →
+pub sign_more : (ps : List Fraction) (i : ℕ) (p : Fraction) (b : Bool) → slice_get ps (i + 1 - 1) ≡ Some p
+    → i < length ps → is_negative p ≡ b →
     list_any is_negative (drop i ps) ≡ b || list_any is_negative (drop (i + 1) ps)
 sign_more ps i p b read there is = ap (list_any is_negative) (drop_read ps i p read there) ∙ ap (λ c. c || list_any is_negative (drop (i + 1) ps)) is
 
 -- one more is added
-pub sum_more : (n : ℕ) (running : Fraction) (ps : List Fraction) (i : ℕ) (p : Fraction) → slice_get ps (i + 1 - 1) ≡ Some p → i < length ps →
+pub sum_more : (n : ℕ) (running : Fraction) (ps : List Fraction) (i : ℕ) (p : Fraction)
+    → slice_get ps (i + 1 - 1) ≡ Some p → i < length ps →
     adding_fault n running (drop i ps) ≡ passing (fits (sum_of running p)) (Scale n) (adding_fault n (sum_of running p) (drop (i + 1) ps))
 sum_more n running ps i p read there = ap (adding_fault n running) (drop_read ps i p read there)

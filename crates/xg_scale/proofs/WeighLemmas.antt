@@ -28,7 +28,8 @@ use Rattle.xg_scale.specs.Weighed.{HasWeighed, KeepsWeights, weights_with}
 use Rattle.xg_scale.proofs.FoundLemmas.{found_later, found_none, number_next, refuses_here}
 use Rattle.xg_scale.proofs.JudgeLemmas.{expected_all, expected_more}
 
-expected-append : (tables : Tables) (before after : List Visit) → expected_at tables (before ++ after) ≡ expected_at tables before ++ expected_at tables after
+expected-append : (tables : Tables) (before after : List Visit)
+    → expected_at tables (before ++ after) ≡ expected_at tables before ++ expected_at tables after
 expected-append tables before after =
     ap (map (expected tables)) (filter-append (λ (w : Visit). is_leaf_kind w.node.kind) before after)
     ∙ map-append (expected tables) (filter (λ (w : Visit). is_leaf_kind w.node.kind) before) (filter (λ (w : Visit). is_leaf_kind w.node.kind) after)
@@ -49,14 +50,17 @@ module _ (tables : Tables) (lowest : AreFractions tables) (tree : Forest) (game 
   is_leaf : is_leaf_kind v.node.kind ≡ is_leaf_kind x.kind
   is_leaf = ap (λ (y : Node). is_leaf_kind y.kind) is_node
 
-  all_split : is_leaf_kind x.kind ≡ true → all_expected tables tree ≡ expected_at tables before ++ (expected tables v ∷ expected_at tables (drop (k + 1) (visits tree)))
+  all_split : is_leaf_kind x.kind ≡ true
+      → all_expected tables tree ≡ expected_at tables before ++ (expected tables v ∷ expected_at tables (drop (k + 1) (visits tree)))
   all_split leaf =
       ap (expected_at tables) (sym (take-append-drop k (visits tree)) ∙ ap (λ vs. before ++ vs) next.cons)
       ∙ expected-append tables before (v ∷ drop (k + 1) (visits tree))
       ∙ ap (λ b. expected_at tables before ++ map (expected tables) (cond b (v ∷ filter (λ (w : Visit). is_leaf_kind w.node.kind) (drop (k + 1) (visits tree))) (filter (λ (w : Visit). is_leaf_kind w.node.kind) (drop (k + 1) (visits tree))))) (is_leaf ∙ leaf)
 
   -- what a walk over the masses looks for at a leaf
-  mass_at : (unit : ℕ) (b : Bool) → is_leaf_kind x.kind ≡ true → nat_lt most (mass_so_far tables unit (before ++ v ∷ [])) ≡ b → mass_fault tables unit before v ≡ passing (not b) (Scale (k + 1)) None
+  mass_at : (unit : ℕ) (b : Bool) → is_leaf_kind x.kind ≡ true
+      → nat_lt most (mass_so_far tables unit (before ++ v ∷ [])) ≡ b
+      → mass_fault tables unit before v ≡ passing (not b) (Scale (k + 1)) None
   mass_at unit b leaf past =
       let leaf_is : is_leaf_kind v.node.kind ≡ true = is_leaf ∙ leaf in
       λ i. passing (not (leaf_is i && past i)) (Scale (number_next tree k there i)) None
@@ -117,7 +121,8 @@ module _ (tables : Tables) (lowest : AreFractions tables) (tree : Forest) (game 
         }
 
 -- before the first node
-pub weighed_first : (tables : Tables) (tree : Forest) (unit : ℕ) (w : Weighed) → w.mass ≡ 0 → w.leaves.items ≡ [] → HasWeighed tables tree unit 0 w
+pub weighed_first : (tables : Tables) (tree : Forest) (unit : ℕ) (w : Weighed) → w.mass ≡ 0 → w.leaves.items ≡ []
+    → HasWeighed tables tree unit 0 w
 weighed_first tables tree unit w mass leaves = record { rest = refl; mass_is = mass; limit = omega (arith, mass); leaves_are = leaves }
 
 module _ (tables : Tables) (lowest : AreFractions tables) (tree : Forest) (found : Expected) (are : IsExpectedOf tables tree found) (k : ℕ) (last : k ≡ node_count tree) (w : Weighed) (h : HasWeighed tables tree found.unit k w) where
@@ -139,6 +144,7 @@ module _ (tables : Tables) (lowest : AreFractions tables) (tree : Forest) (found
     leaves = (leaves_all ∙ ap (λ unit. map (weight_of unit) (all_expected tables tree)) are.unit) i;
   }
 
+  -- which are within the limits
   pub keeps_weights : KeepsWeights (weights_with found.unit w)
   keeps_weights = record {
     positive = omega (arith, are.unit, unit-positive (all_expected tables tree) (all-lowest tables tree lowest));

@@ -27,22 +27,28 @@ as_long R (x ∷ xs) [] h = absurd h
 as_long R (x ∷ xs) (y ∷ ys) h = ap suc (as_long R xs ys h.1)
 
 -- the answer that is exact is each that is known
-pub answers_known : (r : Result GameWeights Refused) (a b : Result GameWeights FileFault) → Answers r a → a ≡ b → Answers r b
+pub answers_known : (r : Result GameWeights Refused) (a b : Result GameWeights FileFault) → Answers r a → a ≡ b
+    → Answers r b
 answers_known r a b answers same = subst (Answers r) same answers
 
 module _ (game : GameFile) (lowest : AreFractions (tables_of game)) where
   -- a fault that is answered is the first
-  pub first_answered : (r : Result GameWeights Refused) (fault : FileFault) → Answers r (weigh game) → r ≡ Err (File fault) → IsFirstNumberFault game fault
+  pub first_answered : (r : Result GameWeights Refused) (fault : FileFault) → Answers r (weigh game)
+      → r ≡ Err (File fault) → IsFirstNumberFault game fault
   first_answered r fault answers is = ((weighing game lowest).refused fault).0 (subst (λ q. Answers q (weigh game)) is answers)
 
   -- and the first is answered
-  pub fault_answered : (r : Result GameWeights Refused) (fault : FileFault) → Answers r (weigh game) → IsFirstNumberFault game fault → Answers r (Err fault)
+  pub fault_answered : (r : Result GameWeights Refused) (fault : FileFault) → Answers r (weigh game)
+      → IsFirstNumberFault game fault → Answers r (Err fault)
   fault_answered r fault answers first = answers_known r (weigh game) (Err fault) answers (((weighing game lowest).refused fault).1 first)
 
-  pub weights_answered : (r : Result GameWeights Refused) (weights : GameWeights) → Answers r (weigh game) → PassNumbers (tables_of game) game.tree → AreWeights (tables_of game) game.tree weights → Answers r (Ok weights)
+  -- a game without a fault is answered with its weights
+  pub weights_answered : (r : Result GameWeights Refused) (weights : GameWeights) → Answers r (weigh game)
+      → PassNumbers (tables_of game) game.tree → AreWeights (tables_of game) game.tree weights → Answers r (Ok weights)
   weights_answered r weights answers passes are = answers_known r (weigh game) (Ok weights) answers (((weighing game lowest).accepted weights).1 (passes, are))
 
-  accepted : (weights : GameWeights) → weigh game ≡ Ok weights → PassNumbers (tables_of game) game.tree × AreWeights (tables_of game) game.tree weights
+  accepted : (weights : GameWeights) → weigh game ≡ Ok weights
+      → PassNumbers (tables_of game) game.tree × AreWeights (tables_of game) game.tree weights
   accepted weights is = ((weighing game lowest).accepted weights).0 is
 
   -- what is weighed passes each walk
@@ -50,24 +56,32 @@ module _ (game : GameFile) (lowest : AreFractions (tables_of game)) where
   answer_passes (Ok weights) is = (accepted weights is).0
   answer_passes (Err _) is = tt
 
-  pub answer_sound : (r : Result GameWeights Refused) → Answers r (weigh game) → OnOk r (HasSoundNumbers (tables_of game) game.tree)
+  -- and has sound numbers
+  pub answer_sound : (r : Result GameWeights Refused) → Answers r (weigh game)
+      → OnOk r (HasSoundNumbers (tables_of game) game.tree)
   answer_sound (Ok weights) is = passing_numbers (tables_of game) game.tree lowest (accepted weights is).0
   answer_sound (Err _) is = tt
 
   -- the unit is the least common multiple
-  pub answer_unit : (r : Result GameWeights Refused) → Answers r (weigh game) → IfOk r (λ weights. IsCommonMultiple game weights.unit)
+  pub answer_unit : (r : Result GameWeights Refused) → Answers r (weigh game)
+      → IfOk r (λ weights. IsCommonMultiple game weights.unit)
   answer_unit (Ok weights) is = (accepted weights is).1.multiple
   answer_unit (Err _) is = tt
 
-  pub answer_least : (r : Result GameWeights Refused) → Answers r (weigh game) → IfOk r (λ weights. IsLeastCommonMultiple game weights.unit)
+  -- of all common multiples
+  pub answer_least : (r : Result GameWeights Refused) → Answers r (weigh game)
+      → IfOk r (λ weights. IsLeastCommonMultiple game weights.unit)
   answer_least (Ok weights) is = (accepted weights is).1.least
   answer_least (Err _) is = tt
 
   -- each leaf has its weight
-  pub answer_leaves : (r : Result GameWeights Refused) → Answers r (weigh game) → IfOk r (λ weights. AllZip (IsWeightOf (tables_of game) weights.unit) (leaf_visits game.tree) weights.leaves)
+  pub answer_leaves : (r : Result GameWeights Refused) → Answers r (weigh game)
+      → IfOk r (λ weights. AllZip (IsWeightOf (tables_of game) weights.unit) (leaf_visits game.tree) weights.leaves)
   answer_leaves (Ok weights) is = (accepted weights is).1.leaves
   answer_leaves (Err _) is = tt
 
-  pub answer_count : (r : Result GameWeights Refused) → Answers r (weigh game) → IfOk r (λ weights. length weights.leaves ≡ leaf_count (prefix game.tree))
+  -- and there are as many
+  pub answer_count : (r : Result GameWeights Refused) → Answers r (weigh game)
+      → IfOk r (λ weights. length weights.leaves ≡ leaf_count (prefix game.tree))
   answer_count (Ok weights) is = as_long (IsWeightOf (tables_of game) weights.unit) (leaf_visits game.tree) weights.leaves (accepted weights is).1.leaves ∙ leaves_counted game.tree
   answer_count (Err _) is = tt

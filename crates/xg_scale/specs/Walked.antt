@@ -56,9 +56,12 @@ pub record IsOpenOver (game : GameFile) (trees : ComingTrees) (parent : OpenNode
   pub room : parent.action + parent.to_come ≤ 1025
   pub set : (set : ℕ) → parent.chance_set ≡ Some set →
       (1 ≤ set) × (set ≤ length game.sets.chance) × (parent.action + parent.to_come ≡ length (set_at game.sets.chance (set - 1)).actions + 1)
-  pub reach_is : (j : ℕ) → reach (tables_of game) (trees.above (trees.action + j)) ≡ reach_below (tables_of game) parent.chance_set (parent.action + j) parent.numbers.reach
-  pub one : (j : ℕ) → path_payoff (λ payoffs. payoffs.one) (tables_of game) (trees.above (trees.action + j)) ≡ parent.numbers.one
-  pub two : (j : ℕ) → path_payoff (λ payoffs. payoffs.two) (tables_of game) (trees.above (trees.action + j)) ≡ parent.numbers.two
+  pub reach_is : (j : ℕ)
+      → reach (tables_of game) (trees.above (trees.action + j)) ≡ reach_below (tables_of game) parent.chance_set (parent.action + j) parent.numbers.reach
+  pub one : (j : ℕ)
+      → path_payoff (λ payoffs. payoffs.one) (tables_of game) (trees.above (trees.action + j)) ≡ parent.numbers.one
+  pub two : (j : ℕ)
+      → path_payoff (λ payoffs. payoffs.two) (tables_of game) (trees.above (trees.action + j)) ≡ parent.numbers.two
 
 -- the first k nodes were entered, and have no fault
 pub record HasWalked (game : GameFile) (k : ℕ) (walk : Walk) : Type 0 where

@@ -100,7 +100,8 @@ fn numbers_at(game: &Game, above: &OpenNode, node: Node) -> Result<PathNumbers, 
 /// The reach of the next child.
 fn reach_at(game: &Game, above: &OpenNode) -> Result<Frac, OverLimit>
     requires { MayCome game.now above.now }
-    ensures { let exact = reach_below (tables_of game.now) above.now.chance_set above.now.action above.now.numbers.reach in
+    ensures { let so_far = above.now.numbers.reach in
+        let exact = reach_below (tables_of game.now) above.now.chance_set above.now.action so_far in
         OkIff result (IsTrue (fits exact)) exact }
 {
     match above.chance_set {

@@ -21,8 +21,8 @@ use xg_game::{Game, Refused};
 
 /// The unit of a game, the weights of its leaves and their mass.
 ///
-/// Memory apart, the answer is the weights, or the first fault of the game's numbers: a probability below 0, a chance set
-/// whose probabilities don't add up to 1, a leaf whose payoffs don't add up to 0, or a number past 2^62.
+/// Memory apart, the answer is the weights, or the first fault of the game's numbers: a probability below 0, a chance
+/// set whose probabilities don't add up to 1, a leaf whose payoffs don't add up to 0, or a number past 2^62.
 pub fn weigh(alloc: Global, game: &Game) -> Result<Weights, Refused>
     ensures exact { Answers result (weigh game.now) }
 

@@ -1,5 +1,5 @@
 //! The weights of a game's leaves.
-ghost use Rattle.std.specs.Prelude.{◌≡◌, ◌≤◌, ◌<◌, ◌+◌, ◌^◌, [], map, sum, unsigned_abs, IfErr, IfOk, OnErr, OnOk, None};
+ghost use Rattle.std.specs.Prelude.{◌≡◌, ◌≤◌, ◌<◌, ◌+◌, ◌^◌, [], None, map, sum, unsigned_abs, IfErr, IfOk, OnErr, OnOk};
 ghost use Rattle.def_fraction.specs.Fraction.{most, signed};
 ghost use Rattle.def_game_faults.specs.Faults.{found_by, mass_fault};
 ghost use Rattle.def_game_numbers.specs.Numbers.{tables_of, weights_of_game};

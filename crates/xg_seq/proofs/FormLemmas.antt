@@ -14,13 +14,18 @@ use Rattle.def_sequence_form.proofs.Sets.{form_numbers_as_the_tree}
 use Rattle.def_game_paths.specs.Coming.{no_visit}
 use Rattle.xg_seq.specs.declared.leaf.Leaf.{Leaf}
 use Rattle.xg_seq.specs.Leaves.{AreLeaves, KeepsLeaves, form_with}
-use Rattle.xg_seq.specs.Table.{most_sequences}
+use Rattle.xg_seq.specs.Table.{HaveFewActions, most_sequences}
 use Rattle.xg_seq.proofs.LeafLemmas.{leaves_are_few}
 
 -- the sequences of a game's tree are within the limit
 pub sets_in_limit : (tree : Forest) → IsGameTree tree → (kind : Kind) → is_leaf_kind kind ≡ false
     → sequence_count (information_sets kind tree) ≤ most_sequences
 sets_in_limit tree game kind inner = omega (arith, (form_numbers_as_the_tree tree game kind inner).few_sequences, game.limit)
+
+-- no set of a game's tree has too many actions
+pub sets_have_few_actions : (tree : Forest) → IsGameTree tree → (kind : Kind) → is_leaf_kind kind ≡ false
+    → HaveFewActions (information_sets kind tree)
+sets_have_few_actions tree game kind inner = λ h d there. ((form_numbers_as_the_tree tree game kind inner).actions h d there).1
 
 abbrev no_tables : Tables
 no_tables = record { chance = []; outcomes = [] }

@@ -3,12 +3,12 @@ use Rattle.std.proofs.Common.{◌≡◌, ℕ, suc, ◌+◌, ◌-◌, ◌<◌, �
 use Rattle.std.proofs.lemmas.Bool.{cases_lt}
 use Rattle.std.proofs.lemmas.List.{get_or-append_right, get_or-replicate, get_or_append_left, length-replicate, replicate-append-replicate, take_more}
 use Rattle.def_plan.specs.Form.{InformationSet, PlacedSet, placed_from, sequence_count}
-use Rattle.def_plan.proofs.Places.{form_action_counts}
+use Rattle.def_plan.proofs.Places.{total_actions}
 use Rattle.xg_seq.specs.declared.table.SetRow.{SetRow}
 use Rattle.xg_seq.specs.Table.{EndsAt, KeepsSets, set_numbers_from, set_of_row}
 
 length-set_numbers_from : (k : ℕ) (rows : List SetRow)
-    → length (set_numbers_from k rows) ≡ form_action_counts (map set_of_row rows)
+    → length (set_numbers_from k rows) ≡ total_actions (map set_of_row rows)
 length-set_numbers_from k [] = refl
 length-set_numbers_from k (row ∷ rows) = omega (arith, length-append (replicate row.actions k) (set_numbers_from (k + 1) rows), length-replicate row.actions k, length-set_numbers_from (k + 1) rows)
 

@@ -6,9 +6,9 @@ use Rattle.std.proofs.lemmas.List.Elements.{All-head, All-tail}
 use Rattle.std.proofs.lemmas.Option.{get_or_from_slice_get, slice_get-map}
 use Rattle.def_sums.proofs.SumLaws.{nat_sum_over-append}
 use Rattle.def_plan.specs.Form.{AreInOrder, InformationSet, IsInOrder, PlacedSet, placed, placed_from, sequence_count}
-use Rattle.def_plan.proofs.Places.{form_action_counts}
+use Rattle.def_plan.proofs.Places.{total_actions}
 use Rattle.xg_seq.specs.declared.table.SetRow.{SetRow}
-use Rattle.xg_seq.specs.Table.{KeepsSets, most_sequences, set_numbers_from, placed_of_row, set_of_row}
+use Rattle.xg_seq.specs.Table.{HaveFewActions, KeepsSets, most_sequences, set_numbers_from, placed_of_row, set_of_row}
 
 abbrev without_place : PlacedSet → InformationSet
 without_place h = record { before = h.before; actions = h.actions }
@@ -28,12 +28,11 @@ sets_of_rows rows sets same = sym (rows-without rows) ∙ ap (map without_place)
 
 -- such rows, with the numbers of their sequences' sets, are kept
 pub keeps_sets : (rows : List SetRow) (numbers : List ℕ) (sets : List InformationSet)
-    → map placed_of_row rows ≡ placed sets
-    → numbers ≡ set_numbers_from 1 rows → AreInOrder sets → sequence_count sets ≤ most_sequences
-    → KeepsSets rows numbers
-keeps_sets rows numbers sets same are order limit =
+    → map placed_of_row rows ≡ placed sets → numbers ≡ set_numbers_from 1 rows → AreInOrder sets
+    → sequence_count sets ≤ most_sequences → HaveFewActions sets → KeepsSets rows numbers
+keeps_sets rows numbers sets same are order limit few =
     let sets_are : map set_of_row rows ≡ sets = sets_of_rows rows sets same in
-    record { places = same ∙ ap placed (sym sets_are); numbers = are; order = subst AreInOrder (sym sets_are) order; limit = omega (arith, limit, ap sequence_count sets_are) }
+    record { places = same ∙ ap placed (sym sets_are); numbers = are; order = subst AreInOrder (sym sets_are) order; limit = omega (arith, limit, ap sequence_count sets_are); few_actions = subst HaveFewActions (sym sets_are) few }
 
 -- what a row tells of its set is told at the set's place
 pub told_at : (sets : List InformationSet) (f : InformationSet → ℕ) (i : ℕ) (h : PlacedSet)
@@ -43,15 +42,15 @@ told_at sets f i h read =
     ∙ ap (option_map f) (slice_get-map without_place (placed sets) i ∙ ap (option_map without_place) read)
 
 placed-append : (first : ℕ) (sets : List InformationSet) (h : InformationSet)
-    → placed_from first (sets ++ h ∷ []) ≡ placed_from first sets ++ record { first = first + form_action_counts sets; before = h.before; actions = h.actions } ∷ []
+    → placed_from first (sets ++ h ∷ []) ≡ placed_from first sets ++ record { first = first + total_actions sets; before = h.before; actions = h.actions } ∷ []
 placed-append first [] h = let here : first ≡ first + 0 = omega arith in ap (λ n. record { first = n; before = h.before; actions = h.actions } ∷ []) here
 placed-append first (g ∷ gs) h =
-    let there : first + g.actions + form_action_counts gs ≡ first + (g.actions + form_action_counts gs) = omega arith in
+    let there : first + g.actions + total_actions gs ≡ first + (g.actions + total_actions gs) = omega arith in
     ap (λ hs. record { first = first; before = g.before; actions = g.actions } ∷ hs) (placed-append (first + g.actions) gs h ∙ ap (λ n. placed_from (first + g.actions) gs ++ record { first = n; before = h.before; actions = h.actions } ∷ []) there)
 
 -- sets in order are no more than their sequences
 pub sets_are_few : (first : ℕ) (sets : List InformationSet) → All IsInOrder (placed_from first sets)
-    → length sets ≤ form_action_counts sets
+    → length sets ≤ total_actions sets
 sets_are_few first [] order = omega arith
 sets_are_few first (h ∷ hs) order =
     let here : PlacedSet = record { first = first; before = h.before; actions = h.actions } in
@@ -60,8 +59,7 @@ sets_are_few first (h ∷ hs) order =
 
 -- nor are their rows
 pub rows_are_few : (rows : List SetRow) (sets : List InformationSet) → map placed_of_row rows ≡ placed sets
-    → AreInOrder sets
-    → length rows < sequence_count sets
+    → AreInOrder sets → length rows < sequence_count sets
 rows_are_few rows sets same order = omega (arith, length-map rows set_of_row, ap length (sets_of_rows rows sets same), sets_are_few 1 sets order)
 
 -- the rows of the first k sets, and the first sequence of the next one
@@ -82,10 +80,10 @@ module _ (sets : List InformationSet) (k a b : ℕ) (there : k < length sets)
   more : take (k + 1) sets ≡ take k sets ++ h ∷ []
   more = take_more sets k (record { before = 0; actions = 0 }) there
 
-  count_more : form_action_counts (take (k + 1) sets) ≡ form_action_counts (take k sets) + a
+  count_more : total_actions (take (k + 1) sets) ≡ total_actions (take k sets) + a
   count_more =
-      ap form_action_counts more ∙ nat_sum_over-append (λ (g : InformationSet). g.actions) (take k sets) (h ∷ [])
-      ∙ (let one : h.actions + 0 ≡ a = omega (arith, read (λ g. g.actions) a actions) in ap (λ n. form_action_counts (take k sets) + n) one)
+      ap total_actions more ∙ nat_sum_over-append (λ (g : InformationSet). g.actions) (take k sets) (h ∷ [])
+      ∙ (let one : h.actions + 0 ≡ a = omega (arith, read (λ g. g.actions) a actions) in ap (λ n. total_actions (take k sets) + n) one)
 
   -- one more set
   pub stand_for_more : (rows : List SetRow) (first : ℕ) → StandFor sets k rows first → StandFor sets (k + 1) (rows ++ record { first = first; before = b; actions = a } ∷ []) (first + a)
@@ -99,4 +97,4 @@ module _ (sets : List InformationSet) (k a b : ℕ) (there : k < length sets)
   -- leaves no more sequences than there are
   pub sequences_last : (first : ℕ) → first ≡ sequence_count (take k sets) → first + a ≤ sequence_count sets
   sequences_last first is =
-      omega (arith, count_more, is, ap form_action_counts (take-append-drop (k + 1) sets), nat_sum_over-append (λ (g : InformationSet). g.actions) (take (k + 1) sets) (drop (k + 1) sets))
+      omega (arith, count_more, is, ap total_actions (take-append-drop (k + 1) sets), nat_sum_over-append (λ (g : InformationSet). g.actions) (take (k + 1) sets) (drop (k + 1) sets))

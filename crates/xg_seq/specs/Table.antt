@@ -1,12 +1,16 @@
 -- A player's sets in rows, and the number of the set at which each sequence ends.
-use Rattle.std.specs.Prelude.{◌≡◌, ℕ, ◌+◌, ◌-◌, ◌<◌, ◌≤◌, List, [], ◌∷◌, ◌++◌, length, map, replicate, slice_index_or}
-use Rattle.def_tree.specs.Rules.{most_nodes}
+use Rattle.std.specs.Prelude.{◌≡◌, ℕ, ◌+◌, ◌-◌, ◌<◌, ◌≤◌, List, [], ◌∷◌, ◌++◌, length, map, replicate, slice_index_or, All}
+use Rattle.def_tree.specs.Rules.{most_actions, most_nodes}
 use Rattle.def_plan.specs.Form.{AreInOrder, InformationSet, PlacedSet, placed, sequence_count}
 use Rattle.xg_seq.specs.declared.table.SetRow.{SetRow}
 
 -- a player has no more sequences than the tree has nodes
 abbrev pub most_sequences : ℕ
 most_sequences = most_nodes
+
+-- no set has more actions than a node of the tree can have
+abbrev pub HaveFewActions : List InformationSet → Type 0
+HaveFewActions sets = All (λ h. h.actions ≤ most_actions) sets
 
 abbrev pub set_of_row : SetRow → InformationSet
 set_of_row row = record { before = row.before; actions = row.actions }
@@ -33,3 +37,4 @@ pub record KeepsSets (rows : List SetRow) (set_numbers : List ℕ) : Type 0 wher
   pub numbers : set_numbers ≡ set_numbers_from 1 rows
   pub order : AreInOrder (map set_of_row rows)
   pub limit : sequence_count (map set_of_row rows) ≤ most_sequences
+  pub few_actions : HaveFewActions (map set_of_row rows)

@@ -7,7 +7,7 @@ ghost use Rattle.def_sums.specs.Limits.{most_mass};
 ghost use Rattle.def_tree.specs.Rules.{most_nodes};
 ghost use Rattle.def_tree.specs.Tree.{leaf_count, prefix};
 ghost use Rattle.xg_seq.specs.Leaves.{HasSequences, form_action_counts, form_sequences_before, firsts_of, leaf_of};
-ghost use Rattle.xg_seq.specs.Table.{EndsAt, most_sequences};
+ghost use Rattle.xg_seq.specs.Table.{EndsAt, HaveFewActions, most_sequences};
 
 use crate::leaf::Leaf;
 use crate::leaves::leaves_of;
@@ -73,6 +73,7 @@ impl SeqForm {
         // What is true of every form.
         ensures order { AreInOrder (player_sets self.now player) }
         ensures limit { result ≤ most_sequences }
+        ensures few_actions { HaveFewActions (player_sets self.now player) }
     {
         self.table(player).sequence_count()
     }

@@ -1,7 +1,7 @@
 ghost use Rattle.std.specs.Prelude.{◌≡◌, ◌^◌, ◌<◌, ◌≤◌, length, IfOk, map};
 ghost use Rattle.def_plan.specs.Form.{AreInOrder, placed, sequence_count};
 ghost use Rattle.xg_sets.specs.Told.{of_player};
-ghost use Rattle.xg_seq.specs.Table.{most_sequences, set_numbers_from, placed_of_row};
+ghost use Rattle.xg_seq.specs.Table.{HaveFewActions, most_sequences, set_numbers_from, placed_of_row};
 
 use crate::table::{SetRow, SetTable};
 use def_tree::Player;
@@ -12,6 +12,7 @@ use xg_sets::Sets;
 pub(crate) fn table_of(alloc: Global, sets: &Sets, player: Player) -> Result<SetTable, AllocError>
     requires order { AreInOrder (of_player player sets.now).sets }
     requires limit { sequence_count (of_player player sets.now).sets ≤ most_sequences }
+    requires few_actions { HaveFewActions (of_player player sets.now).sets }
     ensures { IfOk result (λ table. table ≡ (of_player player sets.now).sets) }
 {
     let rows = rows_of(alloc, sets, player)?;

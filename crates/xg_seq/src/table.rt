@@ -1,6 +1,6 @@
 ghost use Rattle.std.specs.Prelude.{◌≡◌, ◌-◌, ◌<◌, ◌≤◌, length, map, Some, slice_get};
 ghost use Rattle.def_plan.specs.Form.{AreInOrder, placed, sequence_count};
-ghost use Rattle.xg_seq.specs.Table.{EndsAt, KeepsSets, most_sequences, placed_of_row, set_of_row};
+ghost use Rattle.xg_seq.specs.Table.{EndsAt, HaveFewActions, KeepsSets, most_sequences, placed_of_row, set_of_row};
 
 use std::marker::Model;
 
@@ -54,6 +54,7 @@ impl SetTable {
         // What is true of every table.
         ensures order { AreInOrder self.now }
         ensures limit { result ≤ most_sequences }
+        ensures few_actions { HaveFewActions self.now }
     {
         self.set_numbers.len() as u32 + 1
     }

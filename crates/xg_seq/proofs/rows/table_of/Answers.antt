@@ -11,7 +11,7 @@ set_numbers_of-requires c =
 pub of-requires : goal.of-requires
 of-requires c =
     keeps_sets c.in_ok-rows.rows.items c.in_ok-set_numbers.set_numbers.items (of_player c.args.player c.args.sets.now).sets c.in_ok-rows.ensures
-    (c.in_ok-set_numbers.ensures ∙ ap (set_numbers_from 1) c.deref.ensures.value) c.requires.order c.requires.limit
+    (c.in_ok-set_numbers.ensures ∙ ap (set_numbers_from 1) c.deref.ensures.value) c.requires.order c.requires.limit c.requires.few_actions
 
 pub returns : goal.returns
 returns c = c.of.ensures ∙ sets_of_rows c.in_ok-rows.rows.items (of_player c.args.player c.args.sets.now).sets c.in_ok-rows.ensures

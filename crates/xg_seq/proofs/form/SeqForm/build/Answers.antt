@@ -4,8 +4,8 @@ use Rattle.def_sequence_form.specs.Sets.{TreeSets}
 use Rattle.def_sequence_form.proofs.Sets.{form_is_in_order}
 use Rattle.def_tree.specs.declared.Kind.TheVariants.{One, Two}
 use Rattle.xg_seq.specs.Leaves.{KeepsLeaves}
-use Rattle.xg_seq.specs.Table.{most_sequences}
-use Rattle.xg_seq.proofs.FormLemmas.{form_is, keeps_leaves, sets_in_limit}
+use Rattle.xg_seq.specs.Table.{HaveFewActions, most_sequences}
+use Rattle.xg_seq.proofs.FormLemmas.{form_is, keeps_leaves, sets_have_few_actions, sets_in_limit}
 use Rattle.xg_seq.proofs.form.SeqForm.build.Goals as goal
 
 pub table_of-requires-clause-order : goal.table_of-requires-clause-order
@@ -18,6 +18,11 @@ table_of-requires-clause-limit c =
     let P : TreeSets → Type 0 = λ sets. sequence_count sets.one.sets ≤ most_sequences in
     subst P (sym c.requires.sets) (sets_in_limit c.args.tree.now c.leaves_of.ensures.rules One refl)
 
+pub table_of-requires-clause-few_actions : goal.table_of-requires-clause-few_actions
+table_of-requires-clause-few_actions c =
+    let P : TreeSets → Type 0 = λ sets. HaveFewActions sets.one.sets in
+    subst P (sym c.requires.sets) (sets_have_few_actions c.args.tree.now c.leaves_of.ensures.rules One refl)
+
 pub table_of-requires-2-clause-order : goal.table_of-requires-2-clause-order
 table_of-requires-2-clause-order c =
     let P : TreeSets → Type 0 = λ sets. AreInOrder sets.two.sets in
@@ -27,6 +32,11 @@ pub table_of-requires-2-clause-limit : goal.table_of-requires-2-clause-limit
 table_of-requires-2-clause-limit c =
     let P : TreeSets → Type 0 = λ sets. sequence_count sets.two.sets ≤ most_sequences in
     subst P (sym c.requires.sets) (sets_in_limit c.args.tree.now c.leaves_of.ensures.rules Two refl)
+
+pub table_of-requires-2-clause-few_actions : goal.table_of-requires-2-clause-few_actions
+table_of-requires-2-clause-few_actions c =
+    let P : TreeSets → Type 0 = λ sets. HaveFewActions sets.two.sets in
+    subst P (sym c.requires.sets) (sets_have_few_actions c.args.tree.now c.leaves_of.ensures.rules Two refl)
 
 pub invariant_of-result : goal.invariant_of-result
 invariant_of-result c =

@@ -1,0 +1,4 @@
+mod Arguments
+mod CallsAreComputed
+mod Named
+mod WordByWord

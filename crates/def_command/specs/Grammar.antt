@@ -1,0 +1,232 @@
+-- The command that the words of a call name, and how its words are spelled. The program's own name is none of them.
+--     Settings, Command          what is to be done, and with which settings
+--     command_of_words words     the command, or none where the words aren't taken: word by word
+--     IsCall words command       the words are a call of the command: in the words of the format
+use Rattle.std.specs.Prelude.{◌≡◌, ◌⊎◌, ℕ, ◌≤◌, Bool, true, false, ◌&&◌, ◌==◌, nat_lt, nat_le, if◌then◌else◌, List, [], ◌∷◌, ◌++◌, length, find, Contains, Option, Some, None, is_none, unwrap_or, option_map, option_and_then}
+use Rattle.def_fraction.specs.Digits.{is_numeral, number_of}
+use Rattle.def_command.specs.Command.{is_option, is_word}
+use Rattle.def_command.specs.Table as table
+use Rattle.def_command.specs.Table.{CommandName, OptionName, Rounds, Every, Scale, Workers, built_commands, built_options, least_cards, most_cards, command_word, plain_count, takes, option_name, least_number, most_number, default_number}
+
+-- how many rounds are played, after how many of them the plans are evaluated, and the scale of a plan
+pub record Settings : Type 0 where
+  pub rounds : ℕ
+  pub every : ℕ
+  pub scale : ℕ
+
+pub data Command : Type 0 where
+  Solve : (file : List ℕ) (settings : Settings) (workers : ℕ) → Command
+  Check : (file certificate : List ℕ) → Command
+  Info : (file : List ℕ) → Command
+  Gen : (cards : ℕ) → Command
+  Drill : (cards : ℕ) (settings : Settings) (workers : ℕ) → Command
+
+-- ---- the numbers of options, each given or absent
+abbrev pub settings_from : Option ℕ → Option ℕ → Option ℕ → Settings
+settings_from rounds every scale =
+    let played = unwrap_or rounds (default_number Rounds 0) in record {
+      rounds = played;
+      every = unwrap_or every (default_number Every played);
+      scale = unwrap_or scale (default_number Scale played);
+    }
+
+abbrev pub workers_from : Option ℕ → ℕ
+workers_from workers = unwrap_or workers (default_number Workers 0)
+
+abbrev pub is_same_option : OptionName → OptionName → Bool
+is_same_option Rounds Rounds = true
+is_same_option Every Every = true
+is_same_option Scale Scale = true
+is_same_option Workers Workers = true
+is_same_option option other = false
+
+-- ---- in the words of the format
+
+-- digits that write this number, which is in a range
+pub record IsNumberFromTo (least most : ℕ) (digits : List ℕ) (number : ℕ) : Type 0 where
+  pub digits_alone : is_numeral digits ≡ true
+  pub value : number_of digits ≡ number
+  pub from : least ≤ number
+  pub to : number ≤ most
+
+-- what stands behind the command's word: plain words, and options with their numbers
+pub data Argument : Type 0 where
+  Plain : (word : List ℕ) → Argument
+  Number : (option : OptionName) (number : ℕ) → Argument
+
+-- an option and its number, as two words or as one
+pub record IsSpelledOption (option : OptionName) (number : ℕ) (words : List (List ℕ)) : Type 0 where
+  pub built : Contains built_options option
+  pub digits : List ℕ
+  pub in_range : IsNumberFromTo (least_number option) (most_number option) digits number
+  pub spelled : (words ≡ option_name option ∷ digits ∷ []) ⊎ (words ≡ (option_name option ++ 61 ∷ digits) ∷ [])
+
+-- these words are the argument; a plain word doesn't begin with a minus
+abbrev pub IsSpelled : Argument → List (List ℕ) → Type 0
+IsSpelled (Plain word) words = (is_option word ≡ false) × (words ≡ word ∷ [])
+IsSpelled (Number option number) words = IsSpelledOption option number words
+
+-- the words are these arguments, one after another
+abbrev pub AreSpelled : List Argument → List (List ℕ) → Type 0
+AreSpelled [] words = words ≡ []
+AreSpelled (argument ∷ arguments) words = (front : List (List ℕ)) × (rest : List (List ℕ)) × IsSpelled argument front
+    × AreSpelled arguments rest × (words ≡ front ++ rest)
+
+abbrev pub plain_words : List Argument → List (List ℕ)
+plain_words [] = []
+plain_words (Plain word ∷ arguments) = word ∷ plain_words arguments
+plain_words (Number option number ∷ arguments) = plain_words arguments
+
+-- the number that an option is given, if it is
+abbrev pub number_given : OptionName → List Argument → Option ℕ
+number_given option [] = None
+number_given option (Plain word ∷ arguments) = number_given option arguments
+number_given option (Number other number ∷ arguments) =
+    if is_same_option option other then Some number else number_given option arguments
+
+-- each option is one of the command's, and isn't given again
+abbrev pub AreOptionsOf : CommandName → List Argument → Type 0
+AreOptionsOf name [] = Unit {0}
+AreOptionsOf name (Plain word ∷ arguments) = AreOptionsOf name arguments
+AreOptionsOf name (Number option number ∷ arguments) = (takes name option ≡ true)
+    × (number_given option arguments ≡ None) × AreOptionsOf name arguments
+
+abbrev pub settings_of : List Argument → Settings
+settings_of arguments =
+    settings_from (number_given Rounds arguments) (number_given Every arguments) (number_given Scale arguments)
+
+abbrev pub workers_of : List Argument → ℕ
+workers_of arguments = workers_from (number_given Workers arguments)
+
+-- what a command is with these arguments
+abbrev pub IsCommand : CommandName → List Argument → Command → Type 0
+IsCommand table.Solve arguments command = (file : List ℕ) × (plain_words arguments ≡ file ∷ [])
+    × (command ≡ Solve file (settings_of arguments) (workers_of arguments))
+IsCommand table.Check arguments command = (file : List ℕ) × (certificate : List ℕ)
+    × (plain_words arguments ≡ file ∷ certificate ∷ []) × (command ≡ Check file certificate)
+IsCommand table.Info arguments command = (file : List ℕ) × (plain_words arguments ≡ file ∷ []) × (command ≡ Info file)
+IsCommand table.Gen arguments command = (word : List ℕ) × (cards : ℕ) × (plain_words arguments ≡ word ∷ [])
+    × IsNumberFromTo least_cards most_cards word cards × (command ≡ Gen cards)
+IsCommand table.Drill arguments command = (word : List ℕ) × (cards : ℕ) × (plain_words arguments ≡ word ∷ [])
+    × IsNumberFromTo least_cards most_cards word cards
+    × (command ≡ Drill cards (settings_of arguments) (workers_of arguments))
+
+-- the first word is a command's, and the others are its arguments in any order
+pub record IsCall (words : List (List ℕ)) (command : Command) : Type 0 where
+  pub name : CommandName
+  pub rest : List (List ℕ)
+  pub arguments : List Argument
+  pub built : Contains built_commands name
+  pub words_are : words ≡ command_word name ∷ rest
+  pub spelled : AreSpelled arguments rest
+  pub plain : length (plain_words arguments) ≡ plain_count name
+  pub options : AreOptionsOf name arguments
+  pub command_is : IsCommand name arguments command
+
+-- ---- word by word
+
+-- the numbers of the options that were given so far
+pub record Numbers : Type 0 where
+  pub rounds : Option ℕ
+  pub every : Option ℕ
+  pub scale : Option ℕ
+  pub workers : Option ℕ
+
+abbrev pub number_in : Numbers → OptionName → Option ℕ
+number_in numbers Rounds = numbers.rounds
+number_in numbers Every = numbers.every
+number_in numbers Scale = numbers.scale
+number_in numbers Workers = numbers.workers
+
+abbrev pub with_number : Numbers → OptionName → ℕ → Numbers
+with_number numbers Rounds number = record numbers { rounds = Some number }
+with_number numbers Every number = record numbers { every = Some number }
+with_number numbers Scale number = record numbers { scale = Some number }
+with_number numbers Workers number = record numbers { workers = Some number }
+
+-- the plain words and the options that were read so far
+pub record Taken : Type 0 where
+  pub plain : List (List ℕ)
+  pub numbers : Numbers
+
+abbrev pub nothing : Taken
+nothing = record { plain = []; numbers = record { rounds = None; every = None; scale = None; workers = None } }
+
+abbrev pub command_named : List ℕ → Option CommandName
+command_named word = find (λ name. is_word word (command_word name)) built_commands
+
+abbrev pub option_named : List ℕ → Option OptionName
+option_named word = find (λ option. is_word word (option_name option)) built_options
+
+-- what stands before and behind the first `=` of a word
+abbrev pub around_equals : List ℕ → Option (List ℕ × List ℕ)
+around_equals [] = None
+around_equals (byte ∷ bytes) = if byte == 61 then Some ([], bytes)
+    else option_map (λ (parts : List ℕ × List ℕ). (byte ∷ parts.0, parts.1)) (around_equals bytes)
+
+abbrev pub number_from_to : ℕ → ℕ → List ℕ → Option ℕ
+number_from_to least most digits =
+    if is_numeral digits && (nat_le least (number_of digits) && nat_le (number_of digits) most)
+    then Some (number_of digits) else None
+
+abbrev pub take_plain : CommandName → Taken → List ℕ → Option Taken
+take_plain name taken word = if nat_lt (length taken.plain) (plain_count name)
+    then Some (record taken { plain = taken.plain ++ word ∷ [] }) else None
+
+abbrev pub take_number : CommandName → Taken → OptionName → ℕ → Option Taken
+take_number name taken option number = if takes name option && is_none (number_in taken.numbers option)
+    then Some (record taken { numbers = with_number taken.numbers option number }) else None
+
+abbrev pub take_digits : CommandName → Taken → OptionName → List ℕ → Option Taken
+take_digits name taken option digits =
+    option_and_then (take_number name taken option) (number_from_to (least_number option) (most_number option) digits)
+
+-- a word that begins with a minus: an option's name, whose number is the next word, or the name and the number
+abbrev pub read_option : CommandName → Taken → List ℕ → Option (List ℕ × List ℕ) → Option (Taken × Option OptionName)
+read_option name taken word None = option_map (λ option. (taken, Some option)) (option_named word)
+read_option name taken word (Some parts) =
+    option_and_then (λ option. option_map (λ next. (next, None)) (take_digits name taken option parts.1))
+    (option_named parts.0)
+
+-- a word where no option waits for its number, or where one does
+abbrev pub read_word : CommandName → Taken → Option OptionName → List ℕ → Option (Taken × Option OptionName)
+read_word name taken None word = if is_option word then read_option name taken word (around_equals word)
+    else option_map (λ next. (next, None)) (take_plain name taken word)
+read_word name taken (Some option) word = option_map (λ next. (next, None)) (take_digits name taken option word)
+
+abbrev pub read_words : CommandName → Taken → Option OptionName → List (List ℕ) → Option Taken
+read_words name taken None [] = Some taken
+read_words name taken (Some option) [] = None
+read_words name taken waiting (word ∷ words) =
+    option_and_then (λ next. read_words name next.0 next.1 words) (read_word name taken waiting word)
+
+abbrev pub with_one : (List ℕ → Option Command) → List (List ℕ) → Option Command
+with_one make [] = None
+with_one make (word ∷ []) = make word
+with_one make (word ∷ second ∷ words) = None
+
+abbrev pub with_two : (List ℕ → List ℕ → Option Command) → List (List ℕ) → Option Command
+with_two make [] = None
+with_two make (word ∷ []) = None
+with_two make (word ∷ second ∷ []) = make word second
+with_two make (word ∷ second ∷ third ∷ words) = None
+
+abbrev pub settings_in : Numbers → Settings
+settings_in numbers = settings_from numbers.rounds numbers.every numbers.scale
+
+abbrev pub command_from : CommandName → Taken → Option Command
+command_from table.Solve taken =
+    with_one (λ file. Some (Solve file (settings_in taken.numbers) (workers_from taken.numbers.workers))) taken.plain
+command_from table.Check taken = with_two (λ file certificate. Some (Check file certificate)) taken.plain
+command_from table.Info taken = with_one (λ file. Some (Info file)) taken.plain
+command_from table.Gen taken =
+    with_one (λ word. option_map Gen (number_from_to least_cards most_cards word)) taken.plain
+command_from table.Drill taken =
+    with_one (λ word. option_map (λ cards. Drill cards (settings_in taken.numbers) (workers_from taken.numbers.workers))
+    (number_from_to least_cards most_cards word)) taken.plain
+
+abbrev pub command_of_words : List (List ℕ) → Option Command
+command_of_words [] = None
+command_of_words (word ∷ words) =
+    option_and_then (λ name. option_and_then (command_from name) (read_words name nothing None words))
+    (command_named word)

@@ -1,0 +1,166 @@
+-- The ends never worsen, so a line lies within each earlier one.
+use Rattle.std.proofs.Common.{◌≡◌, ℕ, zero, suc, ◌+◌, ◌^◌, ◌<◌, ◌≤◌, Bool, true, false, cond, List, [], ◌∷◌, ◌++◌, All, length, get_or, map, ℤ, pos, ◌*ℤ◌, ◌≤ℤ◌, unsigned_abs, int_lt, refl, ap, sym, subst, ◌∙◌, arith, length-append, ⊎_elim}
+use Rattle.std.proofs.lemmas.List.{get_or_at, length-map}
+use Rattle.std.proofs.lemmas.List.Elements.{All-push}
+use Rattle.def_sums.specs.Limits.{most_rounds}
+use Rattle.def_sums.proofs.RingLaws.{≤ℤ_refl}
+use Rattle.def_bracket.specs.Bracket.{LiesWithin, TraceLine as Line}
+use Rattle.def_bracket.specs.Offers.{KeptEnd, keep_lower, keep_upper}
+use Rattle.def_bracket.proofs.Compares.{at_most-trans, int_lt_tells, less_at_most}
+use Rattle.xg_bracket.specs.Board.{KeepsBoard}
+use Rattle.xg_bracket.specs.Ends.{end_after, kept_of, line_of, line_with}
+use Rattle.xg_bracket.specs.declared.end.End.{End}
+use Rattle.xg_bracket.specs.declared.trace.TraceLine.{TraceLine}
+
+picked : {A : Type 0} (P : A → Type 0) (b : Bool) (x y : A) → P x → P y → P (cond b x y)
+picked P true x y of_x of_y = of_x
+picked P false x y of_x of_y = of_y
+
+-- the second floor is no lower than the first, each by its round; the second ceiling is no higher
+abbrev Rises : KeptEnd → KeptEnd → Type 0
+Rises a b = (a.reply.total *ℤ pos b.divisor) ≤ℤ (b.reply.total *ℤ pos a.divisor)
+
+abbrev Falls : KeptEnd → KeptEnd → Type 0
+Falls a b = (b.reply.total *ℤ pos a.divisor) ≤ℤ (a.reply.total *ℤ pos b.divisor)
+
+module _ (P : KeptEnd → Type 0) (kept next : KeptEnd) where
+  -- what holds of both ends holds of the one that is kept
+  lower_has : (offers : ℕ) → (1 ≤ offers → P kept) → P next → P (keep_lower (end_after offers kept) next)
+  lower_has zero of_kept of_next = of_next
+  lower_has (suc n) of_kept of_next =
+      let less : Bool = int_lt (kept.reply.total *ℤ pos next.divisor) (next.reply.total *ℤ pos kept.divisor) in
+      picked P less next kept of_next (of_kept (omega arith))
+
+  upper_has : (offers : ℕ) → (1 ≤ offers → P kept) → P next → P (keep_upper (end_after offers kept) next)
+  upper_has zero of_kept of_next = of_next
+  upper_has (suc n) of_kept of_next =
+      let less : Bool = int_lt (next.reply.total *ℤ pos kept.divisor) (kept.reply.total *ℤ pos next.divisor) in
+      picked P less next kept of_next (of_kept (omega arith))
+
+-- a floor is kept or replaced by a greater one
+lower_rises : (offers : ℕ) (kept next : KeptEnd) → 1 ≤ offers → Rises kept (keep_lower (end_after offers kept) next)
+lower_rises zero kept next some = absurd (omega arith)
+lower_rises (suc n) kept next some =
+    let a : ℤ = kept.reply.total *ℤ pos next.divisor in
+    let b : ℤ = next.reply.total *ℤ pos kept.divisor in
+    let P : Bool → Type 0 = λ t. Rises kept (cond t next kept) in
+    ⊎_elim
+    (λ yes. subst P (sym yes.0) (less_at_most a b yes.1))
+    (λ no. subst P (sym no.0) (≤ℤ_refl (kept.reply.total *ℤ pos kept.divisor)))
+    (int_lt_tells a b)
+
+-- a ceiling is kept or replaced by a lower one
+upper_falls : (offers : ℕ) (kept next : KeptEnd) → 1 ≤ offers → Falls kept (keep_upper (end_after offers kept) next)
+upper_falls zero kept next some = absurd (omega arith)
+upper_falls (suc n) kept next some =
+    let a : ℤ = next.reply.total *ℤ pos kept.divisor in
+    let b : ℤ = kept.reply.total *ℤ pos next.divisor in
+    let P : Bool → Type 0 = λ t. Falls kept (cond t next kept) in
+    ⊎_elim
+    (λ yes. subst P (sym yes.0) (less_at_most a b yes.1))
+    (λ no. subst P (sym no.0) (≤ℤ_refl (kept.reply.total *ℤ pos kept.divisor)))
+    (int_lt_tells a b)
+
+-- ends that are no worse lie within the same lines
+narrower : (line : Line) (lower upper lower' upper' : End) (round : ℕ) → 1 ≤ lower.round → 1 ≤ upper.round
+    → Rises (kept_of lower) (kept_of lower') → Falls (kept_of upper) (kept_of upper')
+    → LiesWithin (line_with 0 lower upper) line → LiesWithin (line_with round lower' upper') line
+narrower line lower upper lower' upper' round low_some high_some rises falls w =
+    let low : ℤ = lower.reply.reply.total in
+    let low' : ℤ = lower'.reply.reply.total in
+    let high : ℤ = upper.reply.reply.total in
+    let high' : ℤ = upper'.reply.reply.total in
+    let m : ℕ = line.low_round in
+    let n : ℕ = line.high_round in
+    record {
+      not_lower = at_most-trans line.low low low' m lower.round lower'.round low_some w.not_lower rises;
+      not_higher = at_most-trans high' high line.high upper'.round upper.round n high_some falls w.not_higher;
+    }
+
+-- the line that is appended
+pub last_is : (lines all : List Line) (line last : Line) → all ≡ lines ++ line ∷ [] → all ≡ lines ++ last ∷ []
+    → last ≡ line
+last_is lines all line last first second =
+    let n : ℕ = length lines in
+    sym (get_or_at lines last [] line n refl) ∙ ap (λ xs. get_or xs n line) (sym second ∙ first)
+    ∙ get_or_at lines line [] line n refl
+
+-- a round from 1 on and a bound, within the limits
+pub record IsBounded (end : KeptEnd) : Type 0 where
+  pub some : 1 ≤ end.round
+  pub rounds : end.round ≤ most_rounds
+  pub small : unsigned_abs end.reply.total ≤ 2 ^ 98
+
+-- one offer more
+module _ (lines : List TraceLine) (room capacity : ℕ) (lower upper lower' upper' : End)
+    (next_lower next_upper : KeptEnd) (b : KeepsBoard lines room capacity lower upper)
+    (offers : ℕ) (count : offers ≡ length lines)
+    (low : kept_of lower' ≡ keep_lower (end_after offers (kept_of lower)) next_lower)
+    (high : kept_of upper' ≡ keep_upper (end_after offers (kept_of upper)) next_upper) where
+  -- the new ends lie within each line
+  pub narrowed : (round : ℕ) → All (λ line. LiesWithin (line_with round lower' upper') line) (map line_of lines)
+  narrowed round k d there =
+      let some : 1 ≤ length lines = omega (arith, length-map lines line_of) in
+      let rises : Rises (kept_of lower) (kept_of lower') =
+      subst (Rises (kept_of lower)) (sym low) (lower_rises offers (kept_of lower) next_lower (omega arith)) in
+      let falls : Falls (kept_of upper) (kept_of upper') =
+      subst (Falls (kept_of upper)) (sym high) (upper_falls offers (kept_of upper) next_upper (omega arith)) in
+      narrower (get_or (map line_of lines) k d) lower upper lower' upper' round (b.lower_round some)
+      (b.upper_round some) rises falls (b.narrows k d there)
+
+  -- and the board is kept
+  module _ (round room' : ℕ) (lines' : List TraceLine) (fewer : length lines < capacity) (as_much : room ≤ room')
+      (appended : map line_of lines' ≡ map line_of lines ++ line_with round lower' upper' ∷ [])
+      (of_lower : IsBounded next_lower) (of_upper : IsBounded next_upper) where
+    old_lower : 1 ≤ offers → IsBounded (kept_of lower)
+    old_lower some = record {
+      some = b.lower_round (omega arith);
+      rounds = b.lower_end.rounds;
+      small = b.lower_end.small;
+    }
+
+    old_upper : 1 ≤ offers → IsBounded (kept_of upper)
+    old_upper some = record {
+      some = b.upper_round (omega arith);
+      rounds = b.upper_end.rounds;
+      small = b.upper_end.small;
+    }
+
+    new_lower : IsBounded (kept_of lower')
+    new_lower = subst IsBounded (sym low) (lower_has IsBounded (kept_of lower) next_lower offers old_lower of_lower)
+
+    new_upper : IsBounded (kept_of upper')
+    new_upper = subst IsBounded (sym high) (upper_has IsBounded (kept_of upper) next_upper offers old_upper of_upper)
+
+    one_more : length lines' ≡ length lines + 1
+    one_more =
+        let line : Line = line_with round lower' upper' in
+        omega (
+          arith,
+          length-map lines' line_of,
+          ap length appended,
+          length-append (map line_of lines) (line ∷ []),
+          length-map lines line_of,
+        )
+
+    itself : LiesWithin (line_with 0 lower' upper') (line_with round lower' upper')
+    itself = record {
+      not_lower = ≤ℤ_refl (lower'.reply.reply.total *ℤ pos lower'.round);
+      not_higher = ≤ℤ_refl (upper'.reply.reply.total *ℤ pos upper'.round);
+    }
+
+    pub keeps_more : length lower'.reply.reply.sets ≡ lower'.sets → length upper'.reply.reply.sets ≡ upper'.sets
+        → KeepsBoard lines' room' capacity lower' upper'
+    keeps_more lower_sets upper_sets =
+        let W : Line → Type 0 = λ line. LiesWithin (line_with 0 lower' upper') line in
+        record {
+          within = omega (arith, one_more);
+          reserved = omega (arith, b.reserved);
+          lower_end = record { sets = lower_sets; rounds = new_lower.rounds; small = new_lower.small };
+          upper_end = record { sets = upper_sets; rounds = new_upper.rounds; small = new_upper.small };
+          lower_round = λ some. new_lower.some;
+          upper_round = λ some. new_upper.some;
+          narrows =
+              subst (All W) (sym appended)
+              (All-push W (map line_of lines) (line_with round lower' upper') (narrowed 0) itself);
+        }

@@ -1,0 +1,71 @@
+-- The ends that a board keeps, and its lines.
+use Rattle.std.specs.Prelude.{◌≡◌, ℕ, zero, suc, ◌≤◌, ◌^◌, List, length, Option, Some, None, unsigned_abs}
+use Rattle.def_sums.specs.Limits.{most_root, most_rounds}
+use Rattle.def_tree.specs.declared.Player.{Player}
+use Rattle.def_plan.specs.Form.{AreInOrder, InformationSet, SequenceForm, player_sets, sequence_count}
+use Rattle.def_plan.specs.Plan.{IsPlan}
+use Rattle.def_reply.specs.Reply.{Reply}
+use Rattle.def_bracket.specs.Bracket.{TraceLine as Line}
+use Rattle.def_bracket.specs.Offers.{KeptEnd}
+use Rattle.xg_bracket.specs.declared.end.End.{End}
+use Rattle.xg_bracket.specs.declared.trace.TraceLine.{TraceLine}
+
+-- an end whose bounds are divided by its round
+abbrev pub kept_end : ℕ → List ℕ → Reply → KeptEnd
+kept_end round plan reply = record { round = round; divisor = round; plan = plan; reply = reply }
+
+abbrev pub kept_of : End → KeptEnd
+kept_of end = kept_end end.round end.plan end.reply.reply
+
+-- what is kept after so many offers: before the first there is no end
+abbrev pub end_after : ℕ → KeptEnd → Option KeptEnd
+end_after zero end = None
+end_after (suc _) end = Some end
+
+abbrev pub line_of : TraceLine → Line
+line_of line = record {
+  round = line.round;
+  low_round = line.low_round;
+  low = line.low;
+  high_round = line.high_round;
+  high = line.high;
+}
+
+-- the line of a round with these ends
+abbrev pub line_with : ℕ → End → End → Line
+line_with round lower upper = record {
+  round = round;
+  low_round = lower.round;
+  low = lower.reply.reply.total;
+  high_round = upper.round;
+  high = upper.reply.reply.total;
+}
+
+-- a plan of some player, within the limit of roots
+pub record IsSomePlan (plan : List ℕ) : Type 0 where
+  pub sets : List InformationSet
+  pub root : ℕ
+  pub order : AreInOrder sets
+  pub is_plan : IsPlan sets root plan
+  pub limit : root ≤ most_root
+
+-- the end has a bound within the limits, and room for a plan and a reply of its sizes
+pub record IsEnd (end : End) : Type 0 where
+  pub sets : length end.reply.reply.sets ≡ end.sets
+  pub rounds : end.round ≤ most_rounds
+  pub small : unsigned_abs end.reply.reply.total ≤ 2 ^ 98
+
+-- a plan and a reply that the end has room for, within the limits
+pub record CanKeep (end : End) (round : ℕ) (plan : List ℕ) (reply : Reply) : Type 0 where
+  pub is_end : IsEnd end
+  pub is_plan : IsSomePlan plan
+  pub sequences : length plan ≡ length end.plan
+  pub sets : length reply.sets ≡ end.sets
+  pub rounds : round ≤ most_rounds
+  pub small : unsigned_abs reply.total ≤ 2 ^ 98
+
+-- the room for a player's plan and the other player's reply
+pub record IsFreshEnd (form : SequenceForm) (player other : Player) (end : End) : Type 0 where
+  pub is_end : IsEnd end
+  pub plan : length end.plan ≡ sequence_count (player_sets form player)
+  pub reply : length end.reply.reply.sets ≡ length (player_sets form other)

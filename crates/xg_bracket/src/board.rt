@@ -1,0 +1,146 @@
+ghost use Rattle.std.specs.Prelude.{◌≡◌, ◌<◌, ◌≤◌, ◌++◌, ◌↔◌, [], ◌∷◌, All, IfOk, IsNone, None};
+ghost use Rattle.std.specs.Prelude.{length, map, vec_capacity, vec_len};
+ghost use Rattle.std.specs.Option.{option_map};
+ghost use Rattle.def_bracket.specs.Bracket.{LiesWithin, TraceLine as Line};
+ghost use Rattle.def_bracket.specs.Offers.{new_board, offered};
+ghost use Rattle.xg_bracket.specs.Board.{MayBeOffered, offer_of, sizes_of};
+ghost use Rattle.xg_bracket.specs.Ends.{IsFreshEnd, line_of, line_with};
+
+use crate::end::{End, offer_lower, offer_upper};
+use crate::trace::TraceLine;
+use std::alloc::{AllocError, Global};
+use std::marker::Model;
+use xg_plan::{Plan, Player, Reply};
+use xg_seq::SeqForm;
+
+/// The bracket of the plans that were offered: player one's with the greatest floor and player two's with the least
+/// ceiling, each by its round, and a line for each offer.
+///
+/// A floor or a ceiling is a total of a reply; divided by its plan's round it is one of the average plan (Zinkevich and
+/// others 2007), since the plans of all rounds add up to the plan.
+#[derive(Drop)]
+pub struct Board {
+    trace: Vec<TraceLine>,
+    capacity: u32,
+    lower: End,
+    upper: End,
+}
+
+impl Model for Board {
+    ghost use Rattle.xg_bracket.specs.Board.{KeepsBoard, SizedBoard, sized_board};
+
+    ghost Value = { SizedBoard };
+
+    ghost view = { λ b. sized_board b.trace.items b.capacity b.lower b.upper };
+
+    ghost use Rattle.std.specs.Prelude.{vec_capacity};
+
+    ghost invariant = { λ b. KeepsBoard b.trace.items (vec_capacity b.trace) b.capacity b.lower b.upper };
+}
+
+impl Board {
+    /// A board with room for so many offers of plans in the form.
+    pub fn new(alloc: Global, form: &SeqForm, capacity: u32) -> Result<Board, AllocError>
+        ensures { IfOk result (λ board.
+            board ≡ record { board = new_board; capacity = capacity; sizes = sizes_of form.now }) }
+    {
+        Ok(Board {
+            trace: Vec::with_capacity(alloc, capacity as usize)?,
+            capacity,
+            lower: new_end(alloc, form, Player::One, Player::Two)?,
+            upper: new_end(alloc, form, Player::Two, Player::One)?,
+        })
+    }
+
+    /// Offers both players' plans after a round, with the best reply to each.
+    pub fn offer(
+        &mut self,
+        round: u32,
+        one: &Plan,
+        two: &Plan,
+        against_one: &Reply,
+        against_two: &Reply,
+    )
+        requires room { length self.old.board.trace < self.old.capacity }
+        requires fair { MayBeOffered self.old
+            (offer_of round one.now two.now against_one.now.reply against_two.now.reply) }
+        ensures board { self.new.board
+            ≡ offered self.old.board (offer_of round one.now two.now against_one.now.reply against_two.now.reply) }
+        ensures capacity { self.new.capacity ≡ self.old.capacity }
+        ensures sizes { self.new.sizes ≡ self.old.sizes }
+
+        // The bracket never widens.
+        ensures within { (line : Line) → self.new.board.trace ≡ self.old.board.trace ++ line ∷ []
+            → All (λ earlier. LiesWithin line earlier) self.old.board.trace }
+    {
+        let offers = self.trace.len();
+        offer_lower(&mut self.lower, offers, round, one, against_one);
+        offer_upper(&mut self.upper, offers, round, two, against_two);
+        push_line(&mut self.trace, round, &self.lower, &self.upper);
+    }
+
+    /// A line for each offer.
+    pub fn trace(&self) -> &[TraceLine]
+        ensures { map line_of result.now ≡ self.now.board.trace }
+    {
+        &self.trace
+    }
+
+    /// Player one's plan with the greatest floor, and player two's reply to it; the worths are none of the reply's.
+    pub fn lower(&self) -> Option<(&Plan, &Reply)>
+        ensures none { IsNone result ↔ (self.now.board.lower ≡ None) }
+        ensures before { IsNone result ↔ (self.now.board.trace ≡ []) }
+        ensures plan { option_map (λ end. end.0.now) result ≡ option_map (λ kept. kept.plan) self.now.board.lower }
+        ensures reply { option_map (λ end. end.1.now.reply) result
+            ≡ option_map (λ kept. kept.reply) self.now.board.lower }
+    {
+        if self.trace.is_empty() {
+            return None;
+        }
+        Some((&self.lower.plan, &self.lower.reply))
+    }
+
+    /// Player two's plan with the least ceiling, and player one's reply to it; the worths are none of the reply's.
+    pub fn upper(&self) -> Option<(&Plan, &Reply)>
+        ensures none { IsNone result ↔ (self.now.board.upper ≡ None) }
+        ensures before { IsNone result ↔ (self.now.board.trace ≡ []) }
+        ensures plan { option_map (λ end. end.0.now) result ≡ option_map (λ kept. kept.plan) self.now.board.upper }
+        ensures reply { option_map (λ end. end.1.now.reply) result
+            ≡ option_map (λ kept. kept.reply) self.now.board.upper }
+    {
+        if self.trace.is_empty() {
+            return None;
+        }
+        Some((&self.upper.plan, &self.upper.reply))
+    }
+}
+
+// Room for a player's plan and the other player's reply to it.
+fn new_end(alloc: Global, form: &SeqForm, player: Player, other: Player) -> Result<End, AllocError>
+    ensures { IfOk result (λ end. IsFreshEnd form.now player other end) }
+{
+    Ok(End {
+        round: 0,
+        plan: Plan::new(alloc, form, player)?,
+        reply: Reply::new(alloc, form, other)?,
+        sets: form.set_count(other),
+    })
+}
+
+fn push_line(trace: &mut Vec<TraceLine>, round: u32, lower: &End, upper: &End)
+    requires { vec_len trace.old < vec_capacity trace.old }
+    ensures lines { map line_of trace.new.items
+        ≡ map line_of trace.old.items ++ line_with round lower.now upper.now ∷ [] }
+    ensures capacity { vec_capacity trace.old ≤ vec_capacity trace.new }
+{
+    let line = TraceLine {
+        round,
+        low_round: lower.round,
+        low: lower.reply.total(),
+        high_round: upper.round,
+        high: upper.reply.total(),
+    };
+    let Ok(()) = trace.push(line) else {
+        unreachable!()
+    };
+}

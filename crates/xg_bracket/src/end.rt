@@ -1,0 +1,96 @@
+ghost use Rattle.std.specs.Prelude.{◌≡◌, ◌*ℤ◌, ◌<◌, ◌≤◌, ◌^◌, int_lt, length, pos, unsigned_abs};
+ghost use Rattle.def_sums.specs.Limits.{most_rounds};
+ghost use Rattle.def_bracket.specs.Offers.{keep_lower, keep_upper};
+ghost use Rattle.xg_bracket.specs.Ends.{CanKeep, IsSomePlan, end_after, kept_end, kept_of};
+
+use xg_plan::{Plan, Reply, add_to};
+
+// A player's plan after a round, and the reply to it, which is one for so many sets.
+#[derive(Drop)]
+pub(crate) struct End {
+    pub(crate) round: u32,
+    pub(crate) plan: Plan,
+    pub(crate) reply: Reply,
+    pub(crate) sets: u32,
+}
+
+// Keeps the plan with the greater floor by its round, of equals the one that is kept.
+pub(crate) fn offer_lower(end: &mut End, offers: usize, round: u32, plan: &Plan, reply: &Reply)
+    requires next { CanKeep end.old round plan.now reply.now.reply }
+    ensures end { kept_of end.new
+        ≡ keep_lower (end_after offers (kept_of end.old)) (kept_end round plan.now reply.now.reply) }
+    ensures plans { length end.new.plan ≡ length end.old.plan }
+    ensures sets { end.new.sets ≡ end.old.sets }
+    ensures replies { length end.new.reply.reply.sets ≡ length end.old.reply.reply.sets }
+{
+    if offers == 0 || is_less(&end.reply, round, reply, end.round) {
+        keep(end, round, plan, reply);
+    }
+}
+
+// Keeps the plan with the lower ceiling by its round, of equals the one that is kept.
+pub(crate) fn offer_upper(end: &mut End, offers: usize, round: u32, plan: &Plan, reply: &Reply)
+    requires next { CanKeep end.old round plan.now reply.now.reply }
+    ensures end { kept_of end.new
+        ≡ keep_upper (end_after offers (kept_of end.old)) (kept_end round plan.now reply.now.reply) }
+    ensures plans { length end.new.plan ≡ length end.old.plan }
+    ensures sets { end.new.sets ≡ end.old.sets }
+    ensures replies { length end.new.reply.reply.sets ≡ length end.old.reply.reply.sets }
+{
+    if offers == 0 || is_less(reply, end.round, &end.reply, round) {
+        keep(end, round, plan, reply);
+    }
+}
+
+// The first reply's total times the first factor is below the second's times the second.
+fn is_less(first: &Reply, factor: u32, second: &Reply, other_factor: u32) -> bool
+    requires first { unsigned_abs first.now.reply.total ≤ 2 ^ 98 }
+    requires second { unsigned_abs second.now.reply.total ≤ 2 ^ 98 }
+    requires factor { factor ≤ most_rounds }
+    requires other_factor { other_factor ≤ most_rounds }
+    ensures { result ≡ int_lt (first.now.reply.total *ℤ pos factor) (second.now.reply.total *ℤ pos other_factor) }
+{
+    times(first, factor) < times(second, other_factor)
+}
+
+fn times(reply: &Reply, factor: u32) -> i128
+    requires total { unsigned_abs reply.now.reply.total ≤ 2 ^ 98 }
+    requires factor { factor ≤ most_rounds }
+    ensures { result ≡ reply.now.reply.total *ℤ pos factor }
+{
+    reply.total() * i128::from(factor)
+}
+
+fn keep(end: &mut End, round: u32, plan: &Plan, reply: &Reply)
+    requires plan { IsSomePlan plan.now }
+    requires sequences { length plan.now ≡ length end.old.plan }
+    requires kept_sets { length end.old.reply.reply.sets ≡ end.old.sets }
+    requires sets { length reply.now.reply.sets ≡ end.old.sets }
+    ensures end { kept_of end.new ≡ kept_end round plan.now reply.now.reply }
+    ensures sets { end.new.sets ≡ end.old.sets }
+{
+    end.round = round;
+    copy_plan(plan, &mut end.plan);
+    copy_reply(reply, end.sets, &mut end.reply);
+}
+
+fn copy_plan(plan: &Plan, into: &mut Plan)
+    requires plan { IsSomePlan plan.now }
+    requires sequences { length plan.now ≡ length into.old }
+    ensures { into.new ≡ plan.now }
+{
+    into.clear();
+    add_to(into, plan);
+}
+
+// The worths aren't copied.
+fn copy_reply(reply: &Reply, sets: u32, into: &mut Reply)
+    requires from { length reply.now.reply.sets ≡ sets }
+    requires into { length into.old.reply.sets ≡ sets }
+    ensures { into.new.reply ≡ reply.now.reply }
+{
+    for set in 0..sets {
+        into.put(set + 1, reply.choice(set + 1), reply.value(set + 1));
+    }
+    into.put_total(reply.total());
+}

@@ -1,0 +1,54 @@
+-- A closed round leaves the regrets of the player's own sums, which are kept.
+use Rattle.std.proofs.Common.{◌≡◌, ℕ, ◌+◌, ◌*◌, ◌^◌, ◌<◌, ◌≤◌, List, ◌++◌, length, take, drop, ℤ, pos, unsigned_abs, arith, refl, sym, subst, ap, ◌∙◌}
+use Rattle.std.proofs.Math.Seq.{take-append_seam}
+use Rattle.def_sums.specs.Limits.{most_rounds}
+use Rattle.def_sums.specs.Sum.{nat_sum_over}
+use Rattle.def_tree.specs.declared.Player.{Player}
+use Rattle.def_plan.specs.Form.{InformationSet, sequence_count, AreInOrder}
+use Rattle.def_round.specs.Play.{GivesAllUnits, regret_of}
+use Rattle.def_round.specs.Round.{regrets_after}
+use Rattle.def_round.specs.Sizes.{size_of_sums}
+use Rattle.def_round.proofs.Growth.{regrets_stay_small}
+use Rattle.xg_closer.specs.Regrets.{KeepsRegrets}
+use Rattle.xg_closer.specs.Rows.{amount_of, own_amount}
+use Rattle.xg_closer.proofs.RowSums.{own_sizes}
+use Rattle.xg_closer.proofs.SetValues.{regrets_count}
+
+-- a whole list that is written back
+pub written : (xs items : List ℤ) (n : ℕ) → length xs ≡ n → take n (xs ++ drop (length xs) items) ≡ xs
+written xs items n count = ap (λ k. take k (xs ++ drop (length xs) items)) (sym count) ∙ take-append_seam xs (drop (length xs) items)
+
+module _ (player : Player) (rows : List ℤ) (sets : List InformationSet) (count : length rows ≡ sequence_count sets) (small : nat_sum_over unsigned_abs rows ≤ 2 ^ 82) where
+  own_small : size_of_sums (own_amount player rows) sets ≤ 2 ^ 82
+  own_small = omega (arith, own_sizes player rows sets count, small)
+
+  -- worths that begin with the own sums are as small
+  pub worths_small : (worths : List ℤ) → ((s : ℕ) → amount_of worths s ≡ own_amount player rows s)
+      → size_of_sums (amount_of worths) sets ≤ 2 ^ 82
+  worths_small worths each =
+      let same : amount_of worths ≡ own_amount player rows = λ i s. each s i in
+      subst (λ sums. size_of_sums sums sets ≤ 2 ^ 82) (sym same) own_small
+
+  -- and give the same regrets
+  pub own_regrets : (worths : List ℤ) (play : List ℕ) (before after : List ℤ)
+      → ((s : ℕ) → amount_of worths s ≡ own_amount player rows s)
+      → after ≡ regrets_after (amount_of worths) play sets before
+      → after ≡ regrets_after (own_amount player rows) play sets before
+  own_regrets worths play before after each is =
+      let same : amount_of worths ≡ own_amount player rows = λ i s. each s i in
+      is ∙ ap (λ sums. regrets_after sums play sets before) same
+
+  pub keeps_regrets : (play : List ℕ) (before after worths : List ℤ) (rounds : ℕ) → AreInOrder sets
+      → GivesAllUnits play sets → rounds < most_rounds
+      → ((s : ℕ) → unsigned_abs (regret_of before s) ≤ rounds * 2 ^ 82)
+      → after ≡ regrets_after (own_amount player rows) play sets before → length worths ≡ sequence_count sets
+      → KeepsRegrets after worths (rounds + 1)
+  keeps_regrets play before after worths rounds order all_units few sizes is room =
+      let more : List ℤ = regrets_after (own_amount player rows) play sets before in
+      let stay = regrets_stay_small (own_amount player rows) play sets before rounds order all_units own_small few sizes in
+      record {
+        room = room ∙ sym (regrets_count (own_amount player rows) play sets before order) ∙ ap (length {A = ℤ}) (sym is);
+        none_of_empty = ap (λ xs. regret_of xs 0) is;
+        few_rounds = omega arith;
+        sizes = λ s. omega (arith, ap (λ xs. unsigned_abs (regret_of xs s)) is, stay.by_rounds s);
+      }

@@ -1,0 +1,10 @@
+pub mod Sets
+pub mod Deals
+pub mod Writing
+pub mod PlayedSets
+pub mod Sums
+pub mod SetValues
+pub mod AtSet
+pub mod RowSums
+pub mod Closed
+pub mod OneAction

@@ -1,0 +1,27 @@
+use Rattle.std.proofs.Common.{◌≡◌, ℕ, ◌+◌, ◌<◌, ◌≤◌, ℤ, ◌+ℤ◌, FitsSigned, to_z, of_z, arith, ap, rules, sym, ◌∙◌}
+use mir.Syntax.{w128}
+use Rattle.std.specs.Int.{int_wrap}
+use Rattle.std.proofs.lemmas.Int.{to_z-of_z}
+use Rattle.def_plan.specs.Form.{PlacedSet}
+use Rattle.def_round.specs.Play.{regret_of}
+use Rattle.xg_closer.specs.Closing.{value_by}
+use Rattle.xg_closer.specs.Places.{placed_as}
+use Rattle.xg_closer.specs.Rows.{amount_of}
+use Rattle.xg_closer.proofs.OneAction.{nothing_grows, only_value}
+use Rattle.xg_closer.proofs.closing.close_set.Goals as goal
+
+pub returns-then-place-eq1-clause-worth_before : goal.returns-then-place-eq1-clause-worth_before
+returns-then-place-eq1-clause-worth_before c =
+    let h : PlacedSet = placed_as c.args.place in
+    let worth : ℤ = amount_of c.args.worths.now h.first in
+    let fits : FitsSigned w128 worth = search rules in
+    let worth_is : to_z w128 (of_z w128 worth) ≡ value_by c.args.play.now c.args.worths.now h =
+    to_z-of_z w128 worth fits ∙ sym (only_value c.args.play.now c.args.worths.now h (omega arith) c.requires.all_units) in
+    c.add_worth.ensures.here ∙ ap (λ v. int_wrap w128 (amount_of c.args.worths.now h.before +ℤ v)) worth_is
+
+pub returns-then-place-eq1-clause-of_set : goal.returns-then-place-eq1-clause-of_set
+returns-then-place-eq1-clause-of_set c = λ s from to.
+    let h : PlacedSet = placed_as c.args.place in
+    let first : s ≡ h.first = omega arith in
+    nothing_grows (regret_of c.args.regrets.now s) (amount_of c.args.worths.now s) (value_by c.args.play.now c.args.worths.now h)
+    (only_value c.args.play.now c.args.worths.now h (omega arith) c.requires.all_units ∙ ap (amount_of c.args.worths.now) (sym first))

@@ -1,0 +1,217 @@
+use Rattle.std.proofs.Common.{◌≡◌, ℕ, ◌+◌, ◌-◌, ◌*◌, ◌^◌, ◌<◌, ◌≤◌, ◌≢◌, List, [], length, get_or, slice_get, Some, drop, ℤ, pos, ◌+ℤ◌, ◌-ℤ◌, unsigned_abs, arith, refl, sym, subst, ap, ◌∙◌, ⊎_elim}
+use mir.Syntax.{w128}
+use Rattle.std.specs.Int.{int_wrap}
+use Rattle.std.proofs.lemmas.Bool.{cases_eq, cases_lt}
+use Rattle.std.proofs.lemmas.Int.{fits_signed_from_abs, int_wrap_fits}
+use Rattle.std.proofs.lemmas.List.{drop_all, ext_get_or, get_or_past, take_all}
+use Rattle.def_sums.proofs.Ranges.{at_most_sum}
+use Rattle.def_sums.proofs.RingLaws.{+ℤ-zero}
+use Rattle.def_plan.specs.Form.{InformationSet, PlacedSet, placed, player_sets, sequence_count}
+use Rattle.def_plan.specs.Payoff.{worth}
+use Rattle.def_round.specs.Play.{regret_of}
+use Rattle.def_round.specs.Round.{regrets_after, set_value, values_from}
+use Rattle.def_round.proofs.Regrets.{length-placed_from}
+use Rattle.xg_closer.specs.Places.{placed_as}
+use Rattle.xg_closer.specs.Rows.{amount_of}
+use Rattle.xg_closer.proofs.AtSet.{KeepsWorths, SetStep, first_worths, set_step}
+use Rattle.xg_closer.proofs.Sets.{IsAt, is_at, start_of, units_at}
+use Rattle.xg_closer.proofs.SetValues.{later_worth, regrets_count}
+use Rattle.xg_closer.proofs.closing.close_sets.Goals as goal
+
+pub loop-set-init : goal.loop-set-init
+loop-set-init c =
+    let sets : List InformationSet = player_sets c.args.form.now c.args.player in
+    let sums : ℕ → ℤ = amount_of c.args.worths.now in
+    let count : length sets ≤ c.set_count-set.result = omega (arith, c.set_count-set.ensures) in
+    let last : start_of sets c.set_count-set.result ≡ sequence_count sets = ap sequence_count (take_all c.set_count-set.result sets count) in (
+      first_worths c.args.play.now sets c.set_count-set.result c.args.worths.now count c.requires.as_worths c.requires.small,
+      refl,
+      λ s low. refl,
+      λ s from. get_or_past c.args.regrets.now s (pos 0) (omega (arith, last, c.requires.as_regrets))
+          ∙ sym (get_or_past (regrets_after sums c.args.play.now sets c.args.regrets.now) s (pos 0) (omega (arith, last, regrets_count sums c.args.play.now sets c.args.regrets.now c.sets_are_kept.ensures.order))),
+    )
+
+pub close_set-requires-clause-from_one : goal.close_set-requires-clause-from_one
+close_set-requires-clause-from_one c =
+    let sets : List InformationSet = player_sets c.args.form.now c.args.player in
+    let sums : ℕ → ℤ = amount_of c.args.worths.now in
+    let m : ℕ = c.loop-set.set - 1 in
+    let same : m + 1 - 1 ≡ m = omega arith in
+    let set_is : c.loop-set.set ≡ m + 1 = omega arith in
+    let h : PlacedSet = placed_as c.placement_of-place.result in
+    let below : m < length sets = omega (arith, c.set_count-set.ensures) in
+    let at : IsAt sets m h = is_at sets m h c.sets_are_kept.ensures.order below (ap (slice_get (placed sets)) (sym same) ∙ c.placement_of-place.ensures) in
+    let kept : KeepsWorths sums c.args.play.now sets (m + 1) c.loop-set.worths = subst (λ k. KeepsWorths sums c.args.play.now sets k c.loop-set.worths) set_is c.loop-set.invariant.0 in
+    omega (arith, at.first)
+
+pub close_set-requires-clause-inside : goal.close_set-requires-clause-inside
+close_set-requires-clause-inside c =
+    let sets : List InformationSet = player_sets c.args.form.now c.args.player in
+    let sums : ℕ → ℤ = amount_of c.args.worths.now in
+    let m : ℕ = c.loop-set.set - 1 in
+    let same : m + 1 - 1 ≡ m = omega arith in
+    let set_is : c.loop-set.set ≡ m + 1 = omega arith in
+    let h : PlacedSet = placed_as c.placement_of-place.result in
+    let below : m < length sets = omega (arith, c.set_count-set.ensures) in
+    let at : IsAt sets m h = is_at sets m h c.sets_are_kept.ensures.order below (ap (slice_get (placed sets)) (sym same) ∙ c.placement_of-place.ensures) in
+    let kept : KeepsWorths sums c.args.play.now sets (m + 1) c.loop-set.worths = subst (λ k. KeepsWorths sums c.args.play.now sets k c.loop-set.worths) set_is c.loop-set.invariant.0 in
+    omega (arith, at.inside, kept.count)
+
+pub close_set-requires-clause-earlier : goal.close_set-requires-clause-earlier
+close_set-requires-clause-earlier c =
+    let sets : List InformationSet = player_sets c.args.form.now c.args.player in
+    let sums : ℕ → ℤ = amount_of c.args.worths.now in
+    let m : ℕ = c.loop-set.set - 1 in
+    let same : m + 1 - 1 ≡ m = omega arith in
+    let set_is : c.loop-set.set ≡ m + 1 = omega arith in
+    let h : PlacedSet = placed_as c.placement_of-place.result in
+    let below : m < length sets = omega (arith, c.set_count-set.ensures) in
+    let at : IsAt sets m h = is_at sets m h c.sets_are_kept.ensures.order below (ap (slice_get (placed sets)) (sym same) ∙ c.placement_of-place.ensures) in
+    let kept : KeepsWorths sums c.args.play.now sets (m + 1) c.loop-set.worths = subst (λ k. KeepsWorths sums c.args.play.now sets k c.loop-set.worths) set_is c.loop-set.invariant.0 in
+    at.earlier
+
+pub close_set-requires-clause-as_play : goal.close_set-requires-clause-as_play
+close_set-requires-clause-as_play c =
+    let sets : List InformationSet = player_sets c.args.form.now c.args.player in
+    let sums : ℕ → ℤ = amount_of c.args.worths.now in
+    let m : ℕ = c.loop-set.set - 1 in
+    let same : m + 1 - 1 ≡ m = omega arith in
+    let set_is : c.loop-set.set ≡ m + 1 = omega arith in
+    let h : PlacedSet = placed_as c.placement_of-place.result in
+    let below : m < length sets = omega (arith, c.set_count-set.ensures) in
+    let at : IsAt sets m h = is_at sets m h c.sets_are_kept.ensures.order below (ap (slice_get (placed sets)) (sym same) ∙ c.placement_of-place.ensures) in
+    let kept : KeepsWorths sums c.args.play.now sets (m + 1) c.loop-set.worths = subst (λ k. KeepsWorths sums c.args.play.now sets k c.loop-set.worths) set_is c.loop-set.invariant.0 in
+    omega (arith, kept.count, c.requires.as_play)
+
+pub close_set-requires-clause-limit : goal.close_set-requires-clause-limit
+close_set-requires-clause-limit c =
+    let sets : List InformationSet = player_sets c.args.form.now c.args.player in
+    let sums : ℕ → ℤ = amount_of c.args.worths.now in
+    let m : ℕ = c.loop-set.set - 1 in
+    let same : m + 1 - 1 ≡ m = omega arith in
+    let set_is : c.loop-set.set ≡ m + 1 = omega arith in
+    let h : PlacedSet = placed_as c.placement_of-place.result in
+    let below : m < length sets = omega (arith, c.set_count-set.ensures) in
+    let at : IsAt sets m h = is_at sets m h c.sets_are_kept.ensures.order below (ap (slice_get (placed sets)) (sym same) ∙ c.placement_of-place.ensures) in
+    let kept : KeepsWorths sums c.args.play.now sets (m + 1) c.loop-set.worths = subst (λ k. KeepsWorths sums c.args.play.now sets k c.loop-set.worths) set_is c.loop-set.invariant.0 in
+    omega (arith, kept.count, c.sets_are_kept.ensures.limit)
+
+pub close_set-requires-clause-as_regrets : goal.close_set-requires-clause-as_regrets
+close_set-requires-clause-as_regrets c =
+    let sets : List InformationSet = player_sets c.args.form.now c.args.player in
+    let sums : ℕ → ℤ = amount_of c.args.worths.now in
+    let m : ℕ = c.loop-set.set - 1 in
+    let same : m + 1 - 1 ≡ m = omega arith in
+    let set_is : c.loop-set.set ≡ m + 1 = omega arith in
+    let h : PlacedSet = placed_as c.placement_of-place.result in
+    let below : m < length sets = omega (arith, c.set_count-set.ensures) in
+    let at : IsAt sets m h = is_at sets m h c.sets_are_kept.ensures.order below (ap (slice_get (placed sets)) (sym same) ∙ c.placement_of-place.ensures) in
+    let kept : KeepsWorths sums c.args.play.now sets (m + 1) c.loop-set.worths = subst (λ k. KeepsWorths sums c.args.play.now sets k c.loop-set.worths) set_is c.loop-set.invariant.0 in
+    omega (arith, kept.count, c.loop-set.invariant.1, c.requires.as_regrets)
+
+pub close_set-requires-clause-all_units : goal.close_set-requires-clause-all_units
+close_set-requires-clause-all_units c =
+    let sets : List InformationSet = player_sets c.args.form.now c.args.player in
+    let m : ℕ = c.loop-set.set - 1 in
+    let same : m + 1 - 1 ≡ m = omega arith in
+    let h : PlacedSet = placed_as c.placement_of-place.result in
+    let below : m < length sets = omega (arith, c.set_count-set.ensures) in
+    let at : IsAt sets m h = is_at sets m h c.sets_are_kept.ensures.order below (ap (slice_get (placed sets)) (sym same) ∙ c.placement_of-place.ensures) in
+    units_at c.args.play.now sets m h at c.requires.all_units
+
+pub close_set-requires-clause-products : goal.close_set-requires-clause-products
+close_set-requires-clause-products c =
+    let sets : List InformationSet = player_sets c.args.form.now c.args.player in
+    let sums : ℕ → ℤ = amount_of c.args.worths.now in
+    let m : ℕ = c.loop-set.set - 1 in
+    let same : m + 1 - 1 ≡ m = omega arith in
+    let set_is : c.loop-set.set ≡ m + 1 = omega arith in
+    let h : PlacedSet = placed_as c.placement_of-place.result in
+    let below : m < length sets = omega (arith, c.set_count-set.ensures) in
+    let at : IsAt sets m h = is_at sets m h c.sets_are_kept.ensures.order below (ap (slice_get (placed sets)) (sym same) ∙ c.placement_of-place.ensures) in
+    let kept : KeepsWorths sums c.args.play.now sets (m + 1) c.loop-set.worths = subst (λ k. KeepsWorths sums c.args.play.now sets k c.loop-set.worths) set_is c.loop-set.invariant.0 in
+    let step : SetStep sums c.args.play.now sets c.args.regrets.now m h c.loop-set.worths =
+    set_step sums c.args.play.now sets c.args.regrets.now c.loop-set.worths m h c.sets_are_kept.ensures.order c.requires.all_units c.requires.small at kept in
+    step.products
+
+pub close_set-requires-clause-growth : goal.close_set-requires-clause-growth
+close_set-requires-clause-growth c =
+    let sets : List InformationSet = player_sets c.args.form.now c.args.player in
+    let sums : ℕ → ℤ = amount_of c.args.worths.now in
+    let m : ℕ = c.loop-set.set - 1 in
+    let same : m + 1 - 1 ≡ m = omega arith in
+    let set_is : c.loop-set.set ≡ m + 1 = omega arith in
+    let h : PlacedSet = placed_as c.placement_of-place.result in
+    let below : m < length sets = omega (arith, c.set_count-set.ensures) in
+    let at : IsAt sets m h = is_at sets m h c.sets_are_kept.ensures.order below (ap (slice_get (placed sets)) (sym same) ∙ c.placement_of-place.ensures) in
+    let kept : KeepsWorths sums c.args.play.now sets (m + 1) c.loop-set.worths = subst (λ k. KeepsWorths sums c.args.play.now sets k c.loop-set.worths) set_is c.loop-set.invariant.0 in
+    let step : SetStep sums c.args.play.now sets c.args.regrets.now m h c.loop-set.worths =
+    set_step sums c.args.play.now sets c.args.regrets.now c.loop-set.worths m h c.sets_are_kept.ensures.order c.requires.all_units c.requires.small at kept in
+    step.growth
+
+pub close_set-requires-clause-room : goal.close_set-requires-clause-room
+close_set-requires-clause-room c =
+    let sets : List InformationSet = player_sets c.args.form.now c.args.player in
+    let sums : ℕ → ℤ = amount_of c.args.worths.now in
+    let m : ℕ = c.loop-set.set - 1 in
+    let same : m + 1 - 1 ≡ m = omega arith in
+    let set_is : c.loop-set.set ≡ m + 1 = omega arith in
+    let h : PlacedSet = placed_as c.placement_of-place.result in
+    let below : m < length sets = omega (arith, c.set_count-set.ensures) in
+    let at : IsAt sets m h = is_at sets m h c.sets_are_kept.ensures.order below (ap (slice_get (placed sets)) (sym same) ∙ c.placement_of-place.ensures) in
+    let kept : KeepsWorths sums c.args.play.now sets (m + 1) c.loop-set.worths = subst (λ k. KeepsWorths sums c.args.play.now sets k c.loop-set.worths) set_is c.loop-set.invariant.0 in
+    let starts : start_of sets c.loop-set.set ≡ h.first + h.actions = ap (start_of sets) set_is ∙ at.next in
+    λ s from to. omega (arith, ap unsigned_abs (c.loop-set.invariant.2 s (omega (arith, starts))), c.requires.room s)
+
+pub loop-set-preserved : goal.loop-set-preserved
+loop-set-preserved c =
+    let sets : List InformationSet = player_sets c.args.form.now c.args.player in
+    let sums : ℕ → ℤ = amount_of c.args.worths.now in
+    let m : ℕ = c.loop-set.set - 1 in
+    let same : m + 1 - 1 ≡ m = omega arith in
+    let set_is : c.loop-set.set ≡ m + 1 = omega arith in
+    let h : PlacedSet = placed_as c.placement_of-place.result in
+    let below : m < length sets = omega (arith, c.set_count-set.ensures) in
+    let at : IsAt sets m h = is_at sets m h c.sets_are_kept.ensures.order below (ap (slice_get (placed sets)) (sym same) ∙ c.placement_of-place.ensures) in
+    let kept : KeepsWorths sums c.args.play.now sets (m + 1) c.loop-set.worths = subst (λ k. KeepsWorths sums c.args.play.now sets k c.loop-set.worths) set_is c.loop-set.invariant.0 in
+    let step : SetStep sums c.args.play.now sets c.args.regrets.now m h c.loop-set.worths =
+    set_step sums c.args.play.now sets c.args.regrets.now c.loop-set.worths m h c.sets_are_kept.ensures.order c.requires.all_units c.requires.small at kept in
+    let starts : start_of sets c.loop-set.set ≡ h.first + h.actions = ap (start_of sets) set_is ∙ at.next in (
+      record {
+        count = c.close_set.ensures.worths_count ∙ kept.count;
+        each = λ s low.
+            ⊎_elim
+            (λ here. rw here (c.close_set.ensures.worth_before ∙ step.before))
+            (λ there. c.close_set.ensures.other_worths s there ∙ step.others s low there)
+            (cases_eq s h.before);
+      },
+      c.close_set.ensures.regrets_count ∙ c.loop-set.invariant.1,
+      λ s low. c.close_set.ensures.before_set s (omega (arith, at.first)) ∙ c.loop-set.invariant.2 s (omega (arith, at.first, starts)),
+      λ s from.
+          ⊎_elim
+          (λ inside.
+          c.close_set.ensures.of_set s (omega (arith, at.first)) inside
+          ∙ ap (λ r. r +ℤ (amount_of c.loop-set.worths s -ℤ set_value c.args.play.now (amount_of c.loop-set.worths) h)) (c.loop-set.invariant.2 s (omega (arith, starts)))
+          ∙ sym (step.regret s (omega (arith, at.first)) inside))
+          (λ above. c.close_set.ensures.after_set s (omega arith) ∙ c.loop-set.invariant.3 s (omega (arith, starts)))
+          (cases_lt s (h.first + h.actions)),
+    )
+
+pub returns-clause-count : goal.returns-clause-count
+returns-clause-count c = c.loop-set.invariant.0.count ∙ sym c.requires.as_worths
+
+pub returns-clause-regrets : goal.returns-clause-regrets
+returns-clause-regrets c =
+    let sets : List InformationSet = player_sets c.args.form.now c.args.player in
+    let sums : ℕ → ℤ = amount_of c.args.worths.now in
+    let after : List ℤ = regrets_after sums c.args.play.now sets c.args.regrets.now in
+    let done : c.loop-set.set ≡ 0 = omega arith in
+    let starts : start_of sets c.loop-set.set ≡ 1 = ap (start_of sets) done in
+    ext_get_or (pos 0) c.loop-set.regrets after (omega (arith, c.loop-set.invariant.1, regrets_count sums c.args.play.now sets c.args.regrets.now c.sets_are_kept.ensures.order, c.requires.as_regrets))
+    (λ s low.
+    ⊎_elim
+    (λ first.
+    let none : s ≡ 0 = omega arith in
+    c.loop-set.invariant.2 s (omega (arith, starts)) ∙ ap (regret_of c.args.regrets.now) none ∙ c.requires.none_of_empty ∙ ap (regret_of after) (sym none))
+    (λ later. c.loop-set.invariant.3 s (omega (arith, starts)))
+    (cases_lt s 1))

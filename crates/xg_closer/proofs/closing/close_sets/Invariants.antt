@@ -1,0 +1,16 @@
+use Rattle.std.proofs.Common.{◌≡◌, ℕ, ◌<◌, ◌≤◌, length}
+use Rattle.def_plan.specs.Form.{player_sets}
+use Rattle.def_round.specs.Play.{regret_of}
+use Rattle.def_round.specs.Round.{regrets_after}
+use Rattle.xg_closer.specs.Rows.{amount_of}
+use Rattle.xg_closer.proofs.AtSet.{KeepsWorths}
+use Rattle.xg_closer.proofs.Sets.{start_of}
+use Rattle.xg_closer.proofs.closing.close_sets.Given as goal
+
+abbrev pub invariant-loop-set : goal.invariant-loop-set
+invariant-loop-set l =
+    KeepsWorths (amount_of l.initial.worths) l.play (player_sets l.form l.player) l.set l.worths
+    × (length l.regrets ≡ length l.initial.regrets)
+    × ((s : ℕ) → s < start_of (player_sets l.form l.player) l.set → regret_of l.regrets s ≡ regret_of l.initial.regrets s)
+    × ((s : ℕ) → start_of (player_sets l.form l.player) l.set ≤ s
+    → regret_of l.regrets s ≡ regret_of (regrets_after (amount_of l.initial.worths) l.play (player_sets l.form l.player) l.initial.regrets) s)

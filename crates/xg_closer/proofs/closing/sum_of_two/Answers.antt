@@ -1,0 +1,28 @@
+use Rattle.std.proofs.Common.{◌≡◌, ℕ, ◌+◌, ℤ, pos, ◌+ℤ◌, ◌*ℤ◌, slice_index, FitsSigned, to_z, of_z, arith, ap, sym, rules, ◌∙◌}
+use mir.Syntax.{w128}
+use Rattle.std.specs.List.{range_with_len}
+use Rattle.std.proofs.lemmas.Int.{to_z-of_z}
+use Rattle.def_sums.specs.Sum.{sum_over}
+use Rattle.def_sums.proofs.RingLaws.{+ℤ-zero}
+use Rattle.xg_closer.specs.Rows.{amount_of}
+use Rattle.xg_closer.proofs.closing.sum_of_two.Goals as goal
+
+pub returns : goal.returns
+returns c =
+    let first : ℕ = c.args.place.first in
+    let x : ℤ = amount_of c.args.worths.now first in
+    let y : ℤ = amount_of c.args.worths.now (first + 1) in
+    let term : ℕ → ℤ = λ s. pos (slice_index c.args.play.now s) *ℤ amount_of c.args.worths.now s in
+    let fits_x : FitsSigned w128 x = search rules in
+    let fits_y : FitsSigned w128 y = search rules in
+    let x_is : to_z w128 (of_z w128 x) ≡ x = to_z-of_z w128 x fits_x in
+    let y_is : to_z w128 (of_z w128 y) ≡ y = to_z-of_z w128 y fits_y in
+    let fits_a : FitsSigned w128 c.product-a.result = search rules in
+    let a_is : to_z w128 (of_z w128 c.product-a.result) ≡ c.product-a.result = to_z-of_z w128 c.product-a.result fits_a in
+    let fits_b : FitsSigned w128 c.product-b.result = search rules in
+    let b_is : to_z w128 (of_z w128 c.product-b.result) ≡ c.product-b.result = to_z-of_z w128 c.product-b.result fits_b in
+    let fits_sum : FitsSigned w128 c.plus.result = search rules in
+    let sum_is : to_z w128 (of_z w128 c.plus.result) ≡ c.plus.result = to_z-of_z w128 c.plus.result fits_sum in
+    let none = +ℤ-zero (pos (slice_index c.args.play.now (first + 1)) *ℤ y) in
+    let two : to_z w128 (of_z w128 c.plus.result) ≡ sum_over term (range_with_len first 2) = cc (c.plus.ensures, c.product-a.ensures, c.product-b.ensures, c.of.ensures, c.of-2.ensures) in
+    two ∙ ap (λ n. sum_over term (range_with_len first n)) (sym c.requires.two)

@@ -1,0 +1,263 @@
+ghost use Rattle.std.specs.Prelude.{◌≡◌, ℕ, ◌+◌, ◌*◌, ◌^◌, ◌<◌, ◌≤◌, ℤ, pos, ◌+ℤ◌, ◌-ℤ◌, ◌*ℤ◌, unsigned_abs, length, neg_ℤ, slice_index};
+ghost use Rattle.std.specs.Int.{int_wrap, w128};
+ghost use Rattle.def_plan.specs.Form.{player_sets, sequence_count, sequences_of};
+ghost use Rattle.def_round.specs.Play.{GivesAllUnits, regret_of, units};
+ghost use Rattle.def_round.specs.Round.{IsRound, regrets_after};
+ghost use Rattle.def_round.specs.Sizes.{size_of_sums};
+ghost use Rattle.def_sums.specs.Floor.{floor_div};
+ghost use Rattle.def_sums.specs.Limits.{most_rounds};
+ghost use Rattle.def_sums.specs.Sum.{nat_sum_over};
+ghost use Rattle.xg_closer.specs.Closing.{value_by, weighed_sizes, weighed_sum};
+ghost use Rattle.xg_closer.specs.Places.{placed_as};
+ghost use Rattle.xg_closer.specs.Rows.{amount_of, own_amount};
+ghost use Rattle.xg_seq.specs.Table.{most_sequences};
+
+use crate::places::{Placement, placement_of, sets_are_kept};
+use crate::regrets::Regrets;
+use def_tree::Player;
+use xg_plan::Play;
+use xg_seq::SeqForm;
+
+/// Adds a round's regrets: for each sequence what it is worth more than its set is by the play, where the value of a
+/// set is rounded down (Zinkevich, Johanson, Bowling and Piccione 2007, in whole numbers).
+///
+/// The rows are the leaf sums of the player's sequences against the other player's plan of this round, in player one's
+/// payoff for both players.
+pub fn close_round(
+    form: &SeqForm,
+    player: Player,
+    regrets: &mut Regrets,
+    play: &Play,
+    rows: &[i128],
+)
+    requires few_rounds { regrets.old.closed < most_rounds }
+    requires small_rows { nat_sum_over unsigned_abs rows.now ≤ 2 ^ 82 }
+    requires all_units { GivesAllUnits play.now (player_sets form.now player) }
+    requires as_regrets { length regrets.old.of_sequences ≡ sequence_count (player_sets form.now player) }
+    requires as_play { length play.now ≡ sequence_count (player_sets form.now player) }
+    requires as_rows { length rows.now ≡ sequence_count (player_sets form.now player) }
+    ensures regrets { regrets.new.of_sequences
+        ≡ regrets_after (own_amount player rows.now) play.now (player_sets form.now player) regrets.old.of_sequences }
+    ensures equations { let sets = player_sets form.now player in
+        IsRound (own_amount player rows.now) play.now sets regrets.old.of_sequences regrets.new.of_sequences }
+    ensures rounds { regrets.new.closed ≡ regrets.old.closed + 1 }
+    ensures count { length regrets.new.of_sequences ≡ length regrets.old.of_sequences }
+{
+    sets_are_kept(form, player);
+    take_rows(player, rows, &mut regrets.worths);
+    close_sets(
+        form,
+        player,
+        play,
+        &mut regrets.worths,
+        &mut regrets.regrets,
+    );
+    regrets.rounds += 1;
+}
+
+// Takes the rows as they are to the player.
+fn take_rows(player: Player, rows: &[i128], worths: &mut [i128])
+    requires as_many { length rows.now ≡ length worths.old }
+    requires small { nat_sum_over unsigned_abs rows.now ≤ 2 ^ 82 }
+    ensures count { length worths.new ≡ length worths.old }
+    ensures each { (s : ℕ) → amount_of worths.new s ≡ own_amount player rows.now s }
+{
+    match player {
+        Player::One => worths.copy_from_slice(rows),
+        Player::Two => negate_into(rows, worths),
+    }
+}
+
+fn negate_into(rows: &[i128], worths: &mut [i128])
+    requires as_many { length rows.now ≡ length worths.old }
+    requires small { nat_sum_over unsigned_abs rows.now ≤ 2 ^ 82 }
+    ensures count { length worths.new ≡ length worths.old }
+    ensures each { (s : ℕ) → s < length rows.now → amount_of worths.new s ≡ neg_ℤ (amount_of rows.now s) }
+{
+    for i in 0..rows.len() {
+        worths[i] = negative(rows[i]);
+    }
+}
+
+// Adds a round's regrets, where the worths begin with what the leaves give each sequence.
+fn close_sets(
+    form: &SeqForm,
+    player: Player,
+    play: &Play,
+    worths: &mut [i128],
+    regrets: &mut [i128],
+)
+    requires as_worths { length worths.old ≡ sequence_count (player_sets form.now player) }
+    requires as_regrets { length regrets.old ≡ sequence_count (player_sets form.now player) }
+    requires as_play { length play.now ≡ sequence_count (player_sets form.now player) }
+    requires all_units { GivesAllUnits play.now (player_sets form.now player) }
+    requires small { size_of_sums (amount_of worths.old) (player_sets form.now player) ≤ 2 ^ 82 }
+    requires room { (s : ℕ) → unsigned_abs (regret_of regrets.old s) < 2 ^ 126 }
+    requires none_of_empty { regret_of regrets.old 0 ≡ pos 0 }
+    ensures count { length worths.new ≡ length worths.old }
+    ensures regrets { regrets.new
+        ≡ regrets_after (amount_of worths.old) play.now (player_sets form.now player) regrets.old }
+{
+    sets_are_kept(form, player);
+    for set in (0..form.set_count(player)).rev() {
+        let place = placement_of(form, player, set + 1);
+        close_set(place, play, worths, regrets);
+    }
+}
+
+// Adds the regrets of one set, whose sequences' worths are complete, and its value to the sequence before it.
+fn close_set(place: Placement, play: &Play, worths: &mut [i128], regrets: &mut [i128])
+    requires from_one { 1 ≤ place.first }
+    requires inside { place.first + place.actions ≤ length worths.old }
+    requires earlier { place.before < place.first }
+    requires as_play { length play.now ≡ length worths.old }
+    requires limit { length worths.old ≤ most_sequences }
+    requires as_regrets { length regrets.old ≡ length worths.old }
+    requires all_units { nat_sum_over (λ s. slice_index play.now s) (sequences_of (placed_as place)) ≡ units }
+    requires products { weighed_sizes play.now worths.old (placed_as place) < 2 ^ 126 }
+    requires growth { (s : ℕ) → place.first ≤ s → s < place.first + place.actions
+        → unsigned_abs (amount_of worths.old s -ℤ value_by play.now worths.old (placed_as place)) < 2 ^ 126 }
+    requires room { (s : ℕ) → place.first ≤ s → s < place.first + place.actions
+        → unsigned_abs (regret_of regrets.old s) < 2 ^ 126 }
+    ensures worths_count { length worths.new ≡ length worths.old }
+    ensures worth_before { amount_of worths.new place.before
+        ≡ int_wrap w128 (amount_of worths.old place.before +ℤ value_by play.now worths.old (placed_as place)) }
+    ensures other_worths { (s : ℕ) → (s ≡ place.before → ⊥) → amount_of worths.new s ≡ amount_of worths.old s }
+    ensures regrets_count { length regrets.new ≡ length regrets.old }
+    ensures of_set { (s : ℕ) → place.first ≤ s → s < place.first + place.actions → regret_of regrets.new s
+        ≡ regret_of regrets.old s +ℤ (amount_of worths.old s -ℤ value_by play.now worths.old (placed_as place)) }
+    ensures before_set { (s : ℕ) → s < place.first → regret_of regrets.new s ≡ regret_of regrets.old s }
+    ensures after_set { (s : ℕ) → place.first + place.actions ≤ s
+        → regret_of regrets.new s ≡ regret_of regrets.old s }
+{
+    if place.actions == 1 {
+        // All units are the one action's, so the set has its worth.
+        let worth = worths[place.first as usize];
+        add_worth(worths, place.before as usize, worth);
+        return;
+    }
+    let value = value_of_set(place, play, worths);
+    add_regrets(place, worths, value, regrets);
+    add_worth(worths, place.before as usize, value);
+}
+
+// The parts of a worth may pass 128 bits on the way, and the worth itself doesn't.
+fn add_worth(worths: &mut [i128], s: usize, value: i128)
+    requires { s < length worths.old }
+    ensures count { length worths.new ≡ length worths.old }
+    ensures here { amount_of worths.new s ≡ int_wrap w128 (amount_of worths.old s +ℤ value) }
+    ensures others { (t : ℕ) → (t ≡ s → ⊥) → amount_of worths.new t ≡ amount_of worths.old t }
+{
+    worths[s] = wrapping_plus(worths[s], value);
+}
+
+fn value_of_set(place: Placement, play: &Play, worths: &[i128]) -> i128
+    requires from_one { 1 ≤ place.first }
+    requires inside { place.first + place.actions ≤ length worths.now }
+    requires as_play { length play.now ≡ length worths.now }
+    requires limit { length worths.now ≤ most_sequences }
+    requires products { weighed_sizes play.now worths.now (placed_as place) < 2 ^ 126 }
+    ensures { result ≡ value_by play.now worths.now (placed_as place) }
+{
+    if place.actions == 2 {
+        return floor_by_units(sum_of_two(place, play, worths));
+    }
+    let mut sum = 0i128;
+    for i in 0..place.actions {
+        let s = place.first + i;
+        sum = plus(sum, product(play.of(s), worths[s as usize]));
+    }
+    floor_by_units(sum)
+}
+
+fn sum_of_two(place: Placement, play: &Play, worths: &[i128]) -> i128
+    requires from_one { 1 ≤ place.first }
+    requires two { place.actions ≡ 2 }
+    requires inside { place.first + 2 ≤ length worths.now }
+    requires as_play { length play.now ≡ length worths.now }
+    requires limit { length worths.now ≤ most_sequences }
+    requires products { weighed_sizes play.now worths.now (placed_as place) < 2 ^ 126 }
+    ensures { result ≡ weighed_sum play.now worths.now (placed_as place) }
+{
+    let first = place.first;
+    let a = product(play.of(first), worths[first as usize]);
+    let b = product(play.of(first + 1), worths[first as usize + 1]);
+    plus(a, b)
+}
+
+// Adds to each regret of a set what its sequence is worth more than the set.
+fn add_regrets(place: Placement, worths: &[i128], value: i128, regrets: &mut [i128])
+    requires inside { place.first + place.actions ≤ length worths.now }
+    requires as_many { length regrets.old ≡ length worths.now }
+    requires growth { (s : ℕ) → place.first ≤ s → s < place.first + place.actions
+        → unsigned_abs (amount_of worths.now s -ℤ value) < 2 ^ 126 }
+    requires room { (s : ℕ) → place.first ≤ s → s < place.first + place.actions
+        → unsigned_abs (regret_of regrets.old s) < 2 ^ 126 }
+    ensures count { length regrets.new ≡ length regrets.old }
+    ensures of_set { (s : ℕ) → place.first ≤ s → s < place.first + place.actions
+        → regret_of regrets.new s ≡ regret_of regrets.old s +ℤ (amount_of worths.now s -ℤ value) }
+    ensures before_set { (s : ℕ) → s < place.first → regret_of regrets.new s ≡ regret_of regrets.old s }
+    ensures after_set { (s : ℕ) → place.first + place.actions ≤ s
+        → regret_of regrets.new s ≡ regret_of regrets.old s }
+{
+    if place.actions == 2 {
+        add_regret(worths, value, place.first as usize, regrets);
+        add_regret(worths, value, place.first as usize + 1, regrets);
+        return;
+    }
+    for i in 0..place.actions as usize {
+        add_regret(worths, value, place.first as usize + i, regrets);
+    }
+}
+
+fn add_regret(worths: &[i128], value: i128, s: usize, regrets: &mut [i128])
+    requires inside { s < length worths.now }
+    requires as_many { length regrets.old ≡ length worths.now }
+    requires growth { unsigned_abs (amount_of worths.now s -ℤ value) < 2 ^ 126 }
+    requires room { unsigned_abs (regret_of regrets.old s) < 2 ^ 126 }
+    ensures count { length regrets.new ≡ length regrets.old }
+    ensures here { regret_of regrets.new s ≡ regret_of regrets.old s +ℤ (amount_of worths.now s -ℤ value) }
+    ensures others { (t : ℕ) → (t ≡ s → ⊥) → regret_of regrets.new t ≡ regret_of regrets.old t }
+{
+    regrets[s] = plus(regrets[s], minus(worths[s], value));
+}
+
+fn negative(a: i128) -> i128
+    requires { unsigned_abs a < 2 ^ 127 }
+    ensures { result ≡ neg_ℤ a }
+{
+    -a
+}
+
+fn product(units: u32, worth: i128) -> i128
+    requires { unsigned_abs (pos units *ℤ worth) < 2 ^ 126 }
+    ensures { result ≡ pos units *ℤ worth }
+{
+    units as i128 * worth
+}
+
+fn plus(a: i128, b: i128) -> i128
+    requires { unsigned_abs (a +ℤ b) < 2 ^ 127 }
+    ensures { result ≡ a +ℤ b }
+{
+    a + b
+}
+
+fn minus(a: i128, b: i128) -> i128
+    requires { unsigned_abs (a -ℤ b) < 2 ^ 126 }
+    ensures { result ≡ a -ℤ b }
+{
+    a - b
+}
+
+fn wrapping_plus(a: i128, b: i128) -> i128
+    ensures { result ≡ int_wrap w128 (a +ℤ b) }
+{
+    a.wrapping_add(b)
+}
+
+fn floor_by_units(n: i128) -> i128
+    ensures { result ≡ floor_div n 65536 }
+{
+    n >> 16
+}

@@ -1,0 +1,15 @@
+#![tactic(auto)]
+//! A player's rounds of regret matching: the regrets so far, the play that they make, and what a round adds to them.
+
+mod closing;
+mod places;
+mod playing;
+mod regrets;
+
+pub use closing::close_round;
+pub use def_tree::Player;
+pub use playing::play_into;
+pub use regrets::Regrets;
+
+#[cfg(test)]
+mod tests;

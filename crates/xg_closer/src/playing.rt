@@ -1,0 +1,205 @@
+ghost use Rattle.std.specs.Prelude.{◌≡◌, ℕ, ◌+◌, ◌*◌, ◌/◌, ◌^◌, ◌<◌, ◌≤◌, unsigned_abs, length};
+ghost use Rattle.def_plan.specs.Form.{player_sets, sequence_count};
+ghost use Rattle.def_round.specs.Play.{GivesAllUnits, play_of, positive_part, regret_of, regret_sum, set_play, units};
+ghost use Rattle.def_tree.specs.Rules.{most_actions};
+ghost use Rattle.xg_closer.specs.Places.{placed_as};
+ghost use Rattle.xg_closer.specs.Playing.{PlaysSet};
+ghost use Rattle.xg_seq.specs.Table.{most_sequences};
+
+use crate::places::{Placement, placement_of, sets_are_kept};
+use crate::regrets::Regrets;
+use def_tree::Player;
+use xg_plan::Play;
+use xg_seq::SeqForm;
+
+const UNITS: u32 = 65_536;
+
+/// Makes the play of the regrets as they stand: each set's actions in proportion to their positive regrets, and all
+/// alike where no regret is positive.
+pub fn play_into(form: &SeqForm, player: Player, regrets: &Regrets, play: &mut Play)
+    requires as_regrets { length regrets.now.of_sequences ≡ sequence_count (player_sets form.now player) }
+    requires as_play { length play.old ≡ sequence_count (player_sets form.now player) }
+    ensures by_regrets { play.new ≡ play_of (player_sets form.now player) regrets.now.of_sequences }
+    ensures all_units { GivesAllUnits play.new (player_sets form.now player) }
+    ensures count { length play.new ≡ length play.old }
+{
+    play_sets(form, player, &regrets.regrets, play);
+}
+
+fn play_sets(form: &SeqForm, player: Player, regrets: &[i128], play: &mut Play)
+    requires as_regrets { length regrets.now ≡ sequence_count (player_sets form.now player) }
+    requires as_play { length play.old ≡ sequence_count (player_sets form.now player) }
+    requires small { (s : ℕ) → unsigned_abs (regret_of regrets.now s) ≤ 2 ^ 98 }
+    ensures by_regrets { play.new ≡ play_of (player_sets form.now player) regrets.now }
+    ensures all_units { GivesAllUnits play.new (player_sets form.now player) }
+    ensures count { length play.new ≡ length play.old }
+{
+    sets_are_kept(form, player);
+    play.gives_none_to_empty();
+    for set in 0..form.set_count(player) {
+        let place = placement_of(form, player, set + 1);
+        play_set(place, regrets, play);
+    }
+}
+
+fn play_set(place: Placement, regrets: &[i128], play: &mut Play)
+    requires from_one { 1 ≤ place.first }
+    requires some { 1 ≤ place.actions }
+    requires few { place.actions ≤ most_actions }
+    requires inside { place.first + place.actions ≤ length regrets.now }
+    requires as_many { length play.old ≡ length regrets.now }
+    requires limit { length regrets.now ≤ most_sequences }
+    requires small { units * regret_sum regrets.now (placed_as place) < 2 ^ 126 }
+    ensures { PlaysSet (placed_as place) (set_play regrets.now (placed_as place)) play.old play.new }
+{
+    if place.actions == 2 {
+        play_two(place, regrets, play);
+        return;
+    }
+    if place.actions == 1 {
+        play.set(place.first, UNITS);
+        return;
+    }
+    let sum = sum_of_parts(place, regrets);
+    if sum == 0 {
+        play_evenly(place, regrets, play);
+    } else {
+        play_by_parts(place, regrets, sum, play);
+    }
+}
+
+fn sum_of_parts(place: Placement, regrets: &[i128]) -> u128
+    requires inside { place.first + place.actions ≤ length regrets.now }
+    requires limit { length regrets.now ≤ most_sequences }
+    requires small { units * regret_sum regrets.now (placed_as place) < 2 ^ 126 }
+    ensures { result ≡ regret_sum regrets.now (placed_as place) }
+{
+    let mut sum = 0u128;
+    for i in 0..place.actions {
+        sum += part_of(regrets, place.first + i);
+    }
+    sum
+}
+
+fn part_of(regrets: &[i128], sequence: u32) -> u128
+    requires { sequence < length regrets.now }
+    ensures { result ≡ positive_part (regret_of regrets.now sequence) }
+{
+    let regret = regrets[sequence as usize];
+    if regret > 0 { regret as u128 } else { 0 }
+}
+
+// Plays a set where some regret is positive.
+fn play_by_parts(place: Placement, regrets: &[i128], sum: u128, play: &mut Play)
+    requires from_one { 1 ≤ place.first }
+    requires inside { place.first + place.actions ≤ length regrets.now }
+    requires as_many { length play.old ≡ length regrets.now }
+    requires limit { length regrets.now ≤ most_sequences }
+    requires small { units * sum < 2 ^ 126 }
+    requires whole { sum ≡ regret_sum regrets.now (placed_as place) }
+    requires some { 1 ≤ sum }
+    ensures { PlaysSet (placed_as place) (set_play regrets.now (placed_as place)) play.old play.new }
+{
+    let mut sum_so_far = 0u128;
+    let mut given = 0u32;
+    for i in 0..place.actions {
+        let part = part_of(regrets, place.first + i);
+        sum_so_far += part;
+        let next = next_given(given, part, sum_so_far, sum);
+        play.set(place.first + i, next - given);
+        given = next;
+    }
+}
+
+// What the actions up to one get together; one without a part gets nothing.
+fn next_given(given: u32, part: u128, sum_so_far: u128, sum: u128) -> u32
+    requires some { 1 ≤ sum }
+    requires small { units * sum < 2 ^ 126 }
+    requires within { sum_so_far ≤ sum }
+    requires none { part ≡ 0 → given ≡ units * sum_so_far / sum }
+    ensures { result ≡ units * sum_so_far / sum }
+{
+    if part == 0 {
+        given
+    } else {
+        units_of(sum_so_far, sum)
+    }
+}
+
+// A part's share of all units, rounded down.
+fn units_of(part: u128, sum: u128) -> u32
+    requires some { 1 ≤ sum }
+    requires small { units * sum < 2 ^ 126 }
+    requires within { part ≤ sum }
+    ensures { result ≡ units * part / sum }
+{
+    if part == sum {
+        UNITS
+    } else if sum < 1 << 47 {
+        (65_536 * (part as u64) / (sum as u64)) as u32
+    } else {
+        units_of_large(part, sum)
+    }
+}
+
+// A division of 128 bits takes several times as long as one of 64.
+#[inline(never)]
+fn units_of_large(part: u128, sum: u128) -> u32
+    requires some { 1 ≤ sum }
+    requires small { units * sum < 2 ^ 126 }
+    requires within { part ≤ sum }
+    ensures { result ≡ units * part / sum }
+{
+    (65_536 * part / sum) as u32
+}
+
+// Plays a set where no regret is positive.
+#[inline(never)]
+fn play_evenly(place: Placement, regrets: &[i128], play: &mut Play)
+    requires from_one { 1 ≤ place.first }
+    requires some { 1 ≤ place.actions }
+    requires few { place.actions ≤ most_actions }
+    requires inside { place.first + place.actions ≤ length regrets.now }
+    requires as_many { length play.old ≡ length regrets.now }
+    requires limit { length regrets.now ≤ most_sequences }
+    requires none { regret_sum regrets.now (placed_as place) ≡ 0 }
+    ensures { PlaysSet (placed_as place) (set_play regrets.now (placed_as place)) play.old play.new }
+{
+    let mut given = 0u32;
+    for i in 0..place.actions {
+        let next = UNITS * (i + 1) / place.actions;
+        play.set(place.first + i, next - given);
+        given = next;
+    }
+}
+
+fn play_two(place: Placement, regrets: &[i128], play: &mut Play)
+    requires from_one { 1 ≤ place.first }
+    requires two { place.actions ≡ 2 }
+    requires inside { place.first + 2 ≤ length regrets.now }
+    requires as_many { length play.old ≡ length regrets.now }
+    requires limit { length regrets.now ≤ most_sequences }
+    requires small { units * regret_sum regrets.now (placed_as place) < 2 ^ 126 }
+    ensures { PlaysSet (placed_as place) (set_play regrets.now (placed_as place)) play.old play.new }
+{
+    let a = part_of(regrets, place.first);
+    let b = part_of(regrets, place.first + 1);
+    let first = first_of_two(a, b);
+    play.set(place.first, first);
+    play.set(place.first + 1, UNITS - first);
+}
+
+fn first_of_two(a: u128, b: u128) -> u32
+    requires small { units * (a + b) < 2 ^ 126 }
+    ensures by_parts { 1 ≤ a + b → result ≡ units * a / (a + b) }
+    ensures evenly { a + b ≡ 0 → result ≡ 32768 }
+    ensures within { result ≤ units }
+{
+    if a == 0 {
+        if b == 0 { UNITS / 2 } else { 0 }
+    } else if b == 0 {
+        UNITS
+    } else {
+        units_of(a, a + b)
+    }
+}

@@ -1,0 +1,76 @@
+ghost use Rattle.std.specs.Prelude.{◌≡◌, ◌<◌, ◌≤◌, length, pos, replicate, IfOk};
+ghost use Rattle.def_plan.specs.Form.{player_sets};
+ghost use Rattle.def_round.specs.Play.{regret_of};
+ghost use Rattle.def_sums.specs.Limits.{most_rounds};
+ghost use Rattle.xg_closer.specs.Regrets.{none_so_far};
+
+use def_tree::Player;
+use std::alloc::{AllocError, Global};
+use std::marker::Model;
+use xg_seq::SeqForm;
+
+/// A player's regrets: for each sequence what playing it would have won more than the play of its set, over all rounds.
+///
+/// They are in units of the weights of the leaves times the root of the other player's plans, and are kept exactly, the
+/// negative ones too (Zinkevich, Johanson, Bowling and Piccione 2007). The empty sequence, at which no action ends, has
+/// 0. The room that a round needs is taken once, by `new`.
+#[derive(Drop)]
+pub struct Regrets {
+    pub(crate) regrets: Vec<i128>,
+    pub(crate) worths: Vec<i128>,
+    pub(crate) rounds: u32,
+}
+
+impl Model for Regrets {
+    ghost use Rattle.xg_closer.specs.Regrets.{KeepsRegrets, RegretsSoFar};
+
+    ghost Value = { RegretsSoFar };
+
+    ghost view = { λ r. record { of_sequences = r.regrets.items; closed = r.rounds } };
+
+    ghost invariant = { λ r. KeepsRegrets r.regrets.items r.worths.items r.rounds };
+}
+
+impl Regrets {
+    /// No regrets yet, with room for the player's sequences.
+    pub fn new(alloc: Global, form: &SeqForm, player: Player) -> Result<Regrets, AllocError>
+        ensures { IfOk result (λ regrets. regrets ≡ none_so_far (player_sets form.now player)) }
+    {
+        let count = form.sequence_count(player) as usize;
+        let regrets = vec![in alloc; 0i128; count]?;
+        let worths = vec![in alloc; 0i128; count]?;
+        Ok(Regrets {
+            regrets,
+            worths,
+            rounds: 0,
+        })
+    }
+
+    /// The regret of a sequence.
+    pub fn of(&self, sequence: u32) -> i128
+        requires from_one { 1 ≤ sequence }
+        requires there { sequence < length self.now.of_sequences }
+        ensures { result ≡ regret_of self.now.of_sequences sequence }
+    {
+        self.regrets[sequence as usize]
+    }
+
+    /// The number of rounds that were closed.
+    pub fn rounds(&self) -> u32
+        ensures count { result ≡ self.now.closed }
+
+        // What is true of all regrets.
+        ensures limit { result ≤ most_rounds }
+    {
+        self.rounds
+    }
+
+    /// Begins anew: no rounds, and no regrets.
+    pub fn clear(&mut self)
+        ensures regrets { self.new.of_sequences ≡ replicate (length self.old.of_sequences) (pos 0) }
+        ensures rounds { self.new.closed ≡ 0 }
+    {
+        self.regrets.fill(0);
+        self.rounds = 0;
+    }
+}

@@ -1,0 +1,27 @@
+//! What is to be done.
+
+/// How a game is solved.
+#[derive(Clone, Copy, Debug, PartialEq, Eq)]
+pub struct Settings {
+    /// The rounds that are played, at most 65,536.
+    pub rounds: u32,
+    /// After how many rounds the plans are evaluated, from 1 to 65,536.
+    pub every: u32,
+    /// The root of a round's plans, from 1 to 1,048,576.
+    pub scale: u32,
+}
+
+/// The command that the words name. The names of files are as they were written.
+#[derive(Clone, Copy, Debug, PartialEq, Eq)]
+pub enum Command<'a> {
+    /// The game of a file is solved, by 1 to 64 workers.
+    Solve {
+        file: &'a str,
+        settings: Settings,
+        workers: u32,
+    },
+    /// What a file's game is like is told.
+    Info {
+        file: &'a str,
+    },
+}

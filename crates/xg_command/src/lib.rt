@@ -1,0 +1,16 @@
+#![tactic(auto)]
+//! The words that the program is called with, and the command that they name. Reading them takes no memory.
+
+mod command;
+mod names;
+mod options;
+mod reading;
+mod words;
+
+pub use command::{Command, Settings};
+pub use words::Words;
+
+#[cfg(test)]
+mod clap_tests;
+#[cfg(test)]
+mod tests;

@@ -1,0 +1,88 @@
+//! The options of a call, and their numbers.
+ghost use Rattle.std.specs.Prelude.{◌≡◌, option_map};
+ghost use Rattle.def_command.specs.Table.{least_number, most_number};
+ghost use Rattle.def_command.specs.Grammar.{number_from_to, number_in, with_number, settings_in};
+ghost use Rattle.xg_command.specs.Names.{option_value};
+ghost use Rattle.xg_command.specs.Values.{numbers_value, no_numbers, settings_value};
+
+use crate::command::Settings;
+use crate::names::{MOST_SCALE, OptionName};
+use xg_frac::read_whole;
+
+/// The rounds that are played where no number is given.
+const DEFAULT_ROUNDS: u32 = 1000;
+
+/// The numbers of the options that were given so far.
+#[derive(Clone, Copy, Debug, PartialEq, Eq)]
+pub(crate) struct Options {
+    rounds: Option<u32>,
+    every: Option<u32>,
+    scale: Option<u32>,
+}
+
+impl Options {
+    pub(crate) fn none() -> Options
+        ensures { numbers_value result ≡ no_numbers }
+    {
+        Options {
+            rounds: None,
+            every: None,
+            scale: None,
+        }
+    }
+
+    pub(crate) fn get(self, option: OptionName) -> Option<u32>
+        ensures { result ≡ number_in (numbers_value self) (option_value option) }
+    {
+        match option {
+            OptionName::Rounds => self.rounds,
+            OptionName::Every => self.every,
+            OptionName::Scale => self.scale,
+        }
+    }
+
+    pub(crate) fn with(self, option: OptionName, number: u32) -> Options
+        ensures { numbers_value result ≡ with_number (numbers_value self) (option_value option) number }
+    {
+        let number = Some(number);
+        match option {
+            OptionName::Rounds => Options {
+                rounds: number,
+                ..self
+            },
+            OptionName::Every => Options {
+                every: number,
+                ..self
+            },
+            OptionName::Scale => Options {
+                scale: number,
+                ..self
+            },
+        }
+    }
+
+    /// The settings, with the usual number for each option that isn't given. With none for `--every` the plans are
+    /// evaluated once, after the last round.
+    pub(crate) fn settings(self) -> Settings
+        ensures { settings_value result ≡ settings_in (numbers_value self) }
+    {
+        let rounds = self.rounds.unwrap_or(DEFAULT_ROUNDS);
+        Settings {
+            rounds,
+            every: self.every.unwrap_or(if rounds == 0 { 1 } else { rounds }),
+            scale: self.scale.unwrap_or(MOST_SCALE),
+        }
+    }
+}
+
+/// The number that these digits give the option, if they are digits and it is in range.
+pub(crate) fn read_number(option: OptionName, digits: &str) -> Option<u32>
+    ensures { let name = option_value option in
+        result ≡ number_from_to (least_number name) (most_number name) digits.now }
+{
+    let number = read_whole(digits.as_bytes()).ok()?;
+    if number < option.least() as u64 || number > option.most() as u64 {
+        return None;
+    }
+    Some(number as u32)
+}

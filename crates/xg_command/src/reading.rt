@@ -1,0 +1,124 @@
+//! Reading the words behind the command's, one after another.
+ghost use Rattle.std.specs.Prelude.{◌≡◌, None, map, option_map, string_bytes};
+ghost use Rattle.def_command.specs.Table as table;
+ghost use Rattle.def_command.specs.Table.{plain_count};
+ghost use Rattle.def_command.specs.Grammar.{nothing, take_plain, take_digits, read_option, around_equals, read_word, read_words, command_from};
+ghost use Rattle.xg_command.specs.Names.{name_value, option_value};
+ghost use Rattle.xg_command.specs.Values.{taken_value, reading_value, command_value};
+
+use crate::command::Command;
+use crate::names::{CommandName, OptionName};
+use crate::options::{Options, read_number};
+
+/// The workers, while no option asks for another number.
+const WORKERS: u32 = 4;
+
+/// What was read so far.
+#[derive(Clone, Copy)]
+pub(crate) struct Reading<'a> {
+    file: Option<&'a str>,
+    options: Options,
+    /// The option whose number is the next word.
+    waiting: Option<OptionName>,
+}
+
+/// Reads the words behind the command's, all of them.
+pub(crate) fn read_words<'a>(name: CommandName, words: &'a [String]) -> Option<Reading<'a>>
+    ensures { option_map taken_value result ≡ read_words (name_value name) nothing None (map string_bytes words.now) }
+{
+    let mut reading = Reading::begin();
+    for word in words {
+        reading.take(name, word.as_str())?;
+    }
+    if reading.waiting.is_some() {
+        return None;
+    }
+    Some(reading)
+}
+
+impl<'a> Reading<'a> {
+    fn begin() -> Reading<'a>
+        ensures { reading_value result ≡ (nothing, None) }
+    {
+        Reading {
+            file: None,
+            options: Options::none(),
+            waiting: None,
+        }
+    }
+
+    /// Takes the next word, unless it can't stand there.
+    fn take(&mut self, name: CommandName, word: &'a str) -> Option<()>
+        ensures { let before = reading_value self.old in
+            option_map (λ _. reading_value self.new) result
+            ≡ read_word (name_value name) before.0 before.1 word.entry.now }
+    {
+        if let Some(option) = self.waiting {
+            return self.take_digits(name, option, word);
+        }
+        if word.starts_with('-') {
+            return self.take_option(name, word);
+        }
+        self.take_plain(word)
+    }
+
+    /// Takes a word that begins with a minus: an option's name, alone or with its number.
+    fn take_option(&mut self, name: CommandName, word: &str) -> Option<()>
+        ensures { option_map (λ _. reading_value self.new) result
+            ≡ read_option (name_value name) (taken_value self.old) word.now (around_equals word.now) }
+    {
+        match word.split_once('=') {
+            Some((option, digits)) => {
+                let option = OptionName::of_name(option)?;
+                self.take_digits(name, option, digits)
+            }
+            None => {
+                let option = OptionName::of_name(word)?;
+                self.waiting = Some(option);
+                Some(())
+            }
+        }
+    }
+
+    /// Takes an option's number, unless the command hasn't the option or it was given before.
+    fn take_digits(&mut self, name: CommandName, option: OptionName, digits: &str) -> Option<()>
+        ensures { option_map (λ _. reading_value self.new) result ≡ option_map (λ next. (next, None))
+            (take_digits (name_value name) (taken_value self.old) (option_value option) digits.now) }
+    {
+        let number = read_number(option, digits)?;
+        if !name.takes(option) || self.options.get(option).is_some() {
+            return None;
+        }
+        self.options = self.options.with(option, number);
+        self.waiting = None;
+        Some(())
+    }
+
+    /// Takes the name of a file, of which each command has one.
+    fn take_plain(&mut self, word: &'a str) -> Option<()>
+        ensures { (name : table.CommandName) → plain_count name ≡ 1 → option_map (λ _. reading_value self.new) result
+            ≡ option_map (λ next. (next, None)) (take_plain name (taken_value self.old) word.entry.now) }
+    {
+        if self.file.is_some() {
+            return None;
+        }
+        self.file = Some(word);
+        self.waiting = None;
+        Some(())
+    }
+
+    /// The command, if all its words are there.
+    pub(crate) fn command(self, name: CommandName) -> Option<Command<'a>>
+        ensures { option_map command_value result ≡ command_from (name_value name) (taken_value self.entry) }
+    {
+        let file = self.file?;
+        Some(match name {
+            CommandName::Solve => Command::Solve {
+                file,
+                settings: self.options.settings(),
+                workers: WORKERS,
+            },
+            CommandName::Info => Command::Info { file },
+        })
+    }
+}

@@ -1,0 +1,92 @@
+-- Where a set's sequences stand, from what a form tells of the set.
+use Rattle.std.proofs.Common.{◌≡◌, ℕ, zero, suc, ◌+◌, ◌-◌, ◌<◌, ◌≤◌, List, [], ◌∷◌, ◌++◌, length, get_or, take, drop, map, ap, sym, ◌∙◌, arith, Some, slice_get, slice_index}
+use Rattle.std.specs.List.{range_with_len}
+use Rattle.std.proofs.Math.Seq.{take-append_seam}
+use Rattle.std.proofs.lemmas.List.{get_or-map, take_more}
+use Rattle.std.proofs.lemmas.List.FromFn.{length-map-range_with_len}
+use Rattle.std.proofs.lemmas.Option.{get_or_from_slice_get}
+use Rattle.def_sums.proofs.SumLaws.{nat_sum_over-append}
+use Rattle.def_plan.specs.Form.{AreInOrder, InformationSet, PlacedSet, placed, sequence_count}
+use Rattle.def_plan.proofs.BadSets.{length-placed}
+use Rattle.def_plan.proofs.Places.{total_actions, at-placed}
+use Rattle.def_round.proofs.Blocks.{drop-range}
+
+abbrev pub no_place : PlacedSet
+no_place = record { first = 0; before = 0; actions = 0 }
+
+abbrev no_set : InformationSet
+no_set = record { before = 0; actions = 0 }
+
+-- the number of the first sequence at set k, counted from 0, or of the next one after all
+abbrev pub first_of : List InformationSet → ℕ → ℕ
+first_of sets k = 1 + total_actions (take k sets)
+
+pub few_before : (hs : List InformationSet) (i j : ℕ) → i ≤ j → total_actions (take i hs) ≤ total_actions (take j hs)
+few_before hs zero j h = omega arith
+few_before [] (suc i) (suc j) h = omega arith
+few_before [] (suc i) zero h = omega arith
+few_before (g ∷ gs) (suc i) zero h = absurd (omega arith)
+few_before (g ∷ gs) (suc i) (suc j) h = omega (arith, few_before gs i j (omega arith))
+
+pub few_of_all : (hs : List InformationSet) (i : ℕ) → total_actions (take i hs) ≤ total_actions hs
+few_of_all hs zero = omega arith
+few_of_all [] (suc i) = omega arith
+few_of_all (g ∷ gs) (suc i) = omega (arith, few_of_all gs i)
+
+-- set k in its place
+pub record SetAt (sets : List InformationSet) (k : ℕ) (h : PlacedSet) : Type 0 where
+  pub first : h.first ≡ first_of sets k
+  pub next : first_of sets (k + 1) ≡ h.first + h.actions
+  pub some : 1 ≤ h.actions
+  pub earlier : h.before < h.first
+
+pub set_at : (sets : List InformationSet) (k : ℕ) (d : PlacedSet) → AreInOrder sets → k < length sets
+    → SetAt sets k (get_or (placed sets) k d)
+set_at sets k d order below =
+    let is = at-placed 1 sets k d no_set below in
+    let ordered = order k d (omega (arith, length-placed 1 sets)) in
+    let more : total_actions (take (k + 1) sets) ≡ total_actions (take k sets) + (get_or sets k no_set).actions =
+    ap total_actions (take_more sets k no_set below) ∙ nat_sum_over-append (λ (h : InformationSet). h.actions) (take k sets) (get_or sets k no_set ∷ []) ∙ omega arith in
+    record {
+      first = ap (λ (h : PlacedSet). h.first) is;
+      next = omega (arith, more, ap (λ (h : PlacedSet). h.first) is, ap (λ (h : PlacedSet). h.actions) is);
+      some = ordered.0;
+      earlier = ordered.1;
+    }
+
+-- what a form tells of a set
+pub record IsTold (sets : List InformationSet) (k first actions before : ℕ) : Type 0 where
+  pub is : (d : PlacedSet) → get_or (placed sets) k d ≡ record { first = first; before = before; actions = actions }
+  pub inside : first + actions ≤ sequence_count sets
+  pub some : 1 ≤ actions
+  pub earlier : before < first
+
+pub is_told : (sets : List InformationSet) (k first actions before : ℕ) → AreInOrder sets → k < length sets
+    → slice_get (map (λ (h : PlacedSet). h.first) (placed sets)) k ≡ Some first
+    → slice_get (map (λ (h : InformationSet). h.actions) sets) k ≡ Some actions
+    → slice_get (map (λ (h : InformationSet). h.before) sets) k ≡ Some before → IsTold sets k first actions before
+is_told sets k first actions before order below read_first read_actions read_before =
+    let there : k < length (placed sets) = omega (arith, length-placed 1 sets) in
+    let at = set_at sets k no_place order below in
+    let placed_is = at-placed 1 sets k no_place no_set below in
+    let first_is : (get_or (placed sets) k no_place).first ≡ first =
+    sym (get_or-map (λ (h : PlacedSet). h.first) (placed sets) k no_place 0 there) ∙ get_or_from_slice_get (map (λ (h : PlacedSet). h.first) (placed sets)) k first 0 read_first in
+    let actions_is : (get_or sets k no_set).actions ≡ actions =
+    sym (get_or-map (λ (h : InformationSet). h.actions) sets k no_set 0 below) ∙ get_or_from_slice_get (map (λ (h : InformationSet). h.actions) sets) k actions 0 read_actions in
+    let before_is : (get_or sets k no_set).before ≡ before =
+    sym (get_or-map (λ (h : InformationSet). h.before) sets k no_set 0 below) ∙ get_or_from_slice_get (map (λ (h : InformationSet). h.before) sets) k before 0 read_before in
+    let start : first_of sets k ≡ first = sym at.first ∙ first_is in
+    record {
+      is = λ d. at-placed 1 sets k d no_set below ∙ (λ i. record { first = start i; before = before_is i; actions = actions_is i });
+      inside = omega (arith, at.next, first_is, ap (λ (h : PlacedSet). h.actions) placed_is, actions_is, few_of_all sets (k + 1));
+      some = omega (arith, at.some, ap (λ (h : PlacedSet). h.actions) placed_is, actions_is);
+      earlier = omega (arith, at.earlier, first_is, ap (λ (h : PlacedSet). h.before) placed_is, before_is);
+    }
+
+-- a part of a list, read number by number
+pub part_is : (xs : List ℕ) (first n : ℕ) → first + n ≤ length xs
+    → take (first + n - first) (drop first xs) ≡ map (λ s. slice_index xs s) (range_with_len first n)
+part_is xs first n inside =
+    let block : List ℕ = map (λ s. slice_index xs s) (range_with_len first n) in
+    let long : first + n - first ≡ length block = omega (arith, length-map-range_with_len (λ s. slice_index xs s) first n) in
+    ap (λ m. take m (drop first xs)) long ∙ ap (take (length block)) (drop-range xs 0 first n inside) ∙ take-append_seam block (drop (first + n) xs)

@@ -1,0 +1,141 @@
+-- Prefix sums of weights, and when a list is the shares of n.
+use Rattle.std.proofs.Common.{◌≡◌, ℕ, zero, suc, ◌+◌, ◌*◌, ◌/◌, ◌<◌, ◌≤◌, ◌≢◌, List, [], ◌∷◌, length, get_or, take, map, replicate, ℤ, pos, negsuc, ◌≤ℤ◌, unsigned_abs, All, refl, sym, ap, ◌∙◌, arith, add-zero, ⊎_elim, below_more}
+use Rattle.std.proofs.Math.ListN.{get_or-map, set}
+use Rattle.std.proofs.Math.Nat.{mul-le-mul_left, mul-div_left}
+use Rattle.std.proofs.Math.Seq.{take-length}
+use Rattle.std.proofs.lemmas.Bool.{cases_eq, cases_lt}
+use Rattle.std.proofs.lemmas.Grind.{same_number_lists}
+use Rattle.std.proofs.lemmas.List.{get_or-replicate, get_or-set_other, get_or-set_same, length-map, length-replicate, take_more}
+use Rattle.std.proofs.lemmas.Nat.{div-add-mod', le-div}
+use Rattle.def_sums.proofs.SumLaws.{nat_sum_over-append}
+use Rattle.def_shares.specs.Shares.{prefix_share, prefix_sum, shares, weight_sum}
+use Rattle.def_shares.proofs.SharesLaws.{are_differences, length-shares}
+
+-- the sum of one weight more
+pub prefix-more : (ws : List ℕ) (i : ℕ) → i < length ws → prefix_sum ws (i + 1) ≡ prefix_sum ws i + get_or ws i 0
+prefix-more ws i below = ap weight_sum (take_more ws i 0 below) ∙ nat_sum_over-append (λ w. w) (take i ws) (get_or ws i 0 ∷ []) ∙ ap (λ n. prefix_sum ws i + n) (add-zero (get_or ws i 0))
+
+pub prefix-within : (ws : List ℕ) (i : ℕ) → prefix_sum ws i ≤ weight_sum ws
+prefix-within ws zero = omega arith
+prefix-within [] (suc i) = omega arith
+prefix-within (w ∷ ws) (suc i) = omega (arith, prefix-within ws i)
+
+pub prefix-all : (ws : List ℕ) → prefix_sum ws (length ws) ≡ weight_sum ws
+prefix-all ws = ap weight_sum (take-length ws)
+
+pub length-sizes : (ws : List ℤ) → length (map unsigned_abs ws) ≡ length ws
+length-sizes ws = length-map ws unsigned_abs
+
+pub size_at : (ws : List ℤ) (i : ℕ) → get_or (map unsigned_abs ws) i 0 ≡ unsigned_abs (get_or ws i (pos 0))
+size_at ws i = get_or-map unsigned_abs ws i (pos 0)
+
+pub weight_is_size : (w : ℤ) → pos 0 ≤ℤ w → pos (unsigned_abs w) ≡ w
+weight_is_size (pos n) h = refl
+weight_is_size (negsuc n) h = absurd (omega arith)
+
+quotient_grows : (n a b sum : ℕ) → 1 ≤ sum → a ≤ b → n * a / sum ≤ n * b / sum
+quotient_grows n a b sum some h = le-div (n * a / sum) (n * b) sum some (omega (arith, div-add-mod' (n * a) sum, mul-le-mul_left n h))
+
+pub quotient_within : (n a sum : ℕ) → 1 ≤ sum → a ≤ sum → n * a / sum ≤ n
+quotient_within n a sum some h = omega (arith, quotient_grows n a sum sum some h, mul-div_left n some)
+
+-- a list with a share for each weight, in which each share is what its weight adds, is the shares
+pub dealt_is_shares : (n : ℕ) (ws out : List ℕ) → length out ≡ length ws → 1 ≤ weight_sum ws
+    → ((k : ℕ) → k < length ws → get_or out k 0 + prefix_share n ws k ≡ prefix_share n ws (k + 1)) → out ≡ shares n ws
+dealt_is_shares n ws out long some each =
+    same_number_lists out (shares n ws) (omega (arith, long, length-shares n ws))
+    (λ k below. let low : k < length ws = omega arith in let d = (are_differences n ws k low).by_weight some in omega (arith, d, each k low))
+
+pub even_is_shares : (n : ℕ) (ws out : List ℕ) → length out ≡ length ws → weight_sum ws ≡ 0
+    → ((k : ℕ) → k < length ws → get_or out k 0 + n * k / length ws ≡ n * (k + 1) / length ws) → out ≡ shares n ws
+even_is_shares n ws out long none each =
+    same_number_lists out (shares n ws) (omega (arith, long, length-shares n ws))
+    (λ k below. let low : k < length ws = omega arith in let d = (are_differences n ws k low).evenly none in omega (arith, d, each k low))
+
+zero_over : (n sum : ℕ) → 1 ≤ sum → 0 * n / sum ≡ 0
+zero_over n sum some = omega arith
+
+-- of nothing each share is 0
+pub zeros_are_shares : (ws out : List ℕ) → length out ≡ length ws → ((k : ℕ) → k < length ws → get_or out k 0 ≡ 0)
+    → out ≡ shares 0 ws
+zeros_are_shares ws out long each =
+    ⊎_elim
+    (λ some. dealt_is_shares 0 ws out long some (λ k below. omega (arith, each k below, zero_over (prefix_sum ws k) (weight_sum ws) some, zero_over (prefix_sum ws (k + 1)) (weight_sum ws) some)))
+    (λ none. even_is_shares 0 ws out long (omega arith) (λ k below. omega (arith, each k below, zero_over k (length ws) (omega arith), zero_over (k + 1) (length ws) (omega arith))))
+    (cases_lt 0 (weight_sum ws))
+
+-- in particular where zeros are written
+pub no_shares : (n m : ℕ) (ws out : List ℕ) → n ≡ 0 → out ≡ replicate m 0 → m ≡ length ws → out ≡ shares n ws
+no_shares n m ws out none zeros many =
+    zeros_are_shares ws out (ap length zeros ∙ length-replicate m 0 ∙ many) (λ k below. ap (λ xs. get_or xs k 0) zeros ∙ get_or-replicate m k 0 0 (omega (arith, many, below)))
+    ∙ ap (λ a. shares a ws) (sym none)
+
+-- one more share in a list of differences
+pub dealt_more : (share_upto : ℕ → ℕ) (out : List ℕ) (i share : ℕ) → i < length out
+    → share + share_upto i ≡ share_upto (i + 1)
+    → ((k : ℕ) → k < i → get_or out k 0 + share_upto k ≡ share_upto (k + 1)) → (k : ℕ) → k < i + 1
+    → get_or (set out i share) k 0 + share_upto k ≡ share_upto (k + 1)
+dealt_more share_upto out i share below here before =
+    below_more _ _ (λ k h. let ne : k ≢ i = omega arith in rw get_or-set_other (before k h)) (rw get_or-set_same here)
+
+-- one step of dealing: the next prefix, that it is within the sum, and the quotients
+pub record Step (n : ℕ) (ws : List ℕ) (i upto sum : ℕ) : Type 0 where
+  pub next : upto ≡ prefix_sum ws (i + 1)
+  pub within : upto ≤ sum
+  pub share_next : n * upto / sum ≡ prefix_share n ws (i + 1)
+  pub share_within : n * upto / sum ≤ n
+  pub grows : prefix_share n ws i ≤ n * upto / sum
+
+pub step_of : (n : ℕ) (ws : List ℕ) (i before_upto weight sum : ℕ) → i < length ws → 1 ≤ sum → sum ≡ weight_sum ws
+    → before_upto ≡ prefix_sum ws i → weight ≡ get_or ws i 0
+    → Step n ws i (before_upto + weight) sum
+step_of n ws i before_upto weight sum below some whole is at =
+    let next : before_upto + weight ≡ prefix_sum ws (i + 1) = omega (arith, prefix-more ws i below) in
+    let within : before_upto + weight ≤ sum = omega (arith, prefix-within ws (i + 1)) in
+    let share_next : n * (before_upto + weight) / sum ≡ prefix_share n ws (i + 1) = cc in
+    let low : prefix_share n ws i ≡ n * before_upto / sum = cc in
+    record {
+      next = next;
+      within = within;
+      share_next = share_next;
+      share_within = quotient_within n (before_upto + weight) sum some within;
+      grows = omega (arith, low, quotient_grows n before_upto (before_upto + weight) sum some (omega arith));
+    }
+
+-- a weight of 0 adds nothing
+pub none_more : (n before_upto weight sum : ℕ) → weight ≡ 0 → n * before_upto / sum ≡ n * (before_upto + weight) / sum
+none_more n before_upto weight sum none = ap (λ k. n * k / sum) (omega (arith, none))
+
+-- one weight gets all
+pub one_share : (n : ℕ) (ws out : List ℕ) → length ws ≡ 1 → length out ≡ 1 → 1 ≤ weight_sum ws → get_or out 0 0 ≡ n
+    → out ≡ shares n ws
+one_share n ws out one long some all =
+    let whole : prefix_sum ws 1 ≡ weight_sum ws = ap (λ k. prefix_sum ws k) (sym one) ∙ prefix-all ws in
+    let at_one : prefix_share n ws 1 ≡ n = ap (λ c. n * c / weight_sum ws) whole ∙ mul-div_left n some in
+    dealt_is_shares n ws out (omega arith) some
+    (λ k below.
+    let none : k ≡ 0 = omega arith in
+    omega (arith, ap (λ k. get_or out k 0) none, ap (λ k. prefix_share n ws k) none, ap (λ k. prefix_share n ws (k + 1)) none, zero_of n (weight_sum ws) some, at_one, all))
+  where
+    zero_of : (n sum : ℕ) → 1 ≤ sum → n * 0 / sum ≡ 0
+    zero_of n sum some = omega arith
+
+-- the first of two weights gets its part, rounded down, and the other one the rest
+pub two_shares : (n q : ℕ) (ws out : List ℕ) → length ws ≡ 2 → length out ≡ 2 → 1 ≤ weight_sum ws → get_or out 0 0 ≡ q
+    → get_or out 1 0 + q ≡ n
+    → q ≡ n * get_or ws 0 0 / weight_sum ws → out ≡ shares n ws
+two_shares n q ws out two long some first second is =
+    let one : prefix_sum ws 1 ≡ get_or ws 0 0 = omega (arith, prefix-more ws 0 (omega arith)) in
+    let all : prefix_sum ws 2 ≡ weight_sum ws = ap (λ k. prefix_sum ws k) (sym two) ∙ prefix-all ws in
+    let at_none : prefix_share n ws 0 ≡ 0 = zero_of n (weight_sum ws) some in
+    let at_one : prefix_share n ws 1 ≡ q = ap (λ c. n * c / weight_sum ws) one ∙ sym is in
+    let at_two : prefix_share n ws 2 ≡ n = ap (λ c. n * c / weight_sum ws) all ∙ mul-div_left n some in
+    dealt_is_shares n ws out (omega arith) some
+    (λ k below.
+    ⊎_elim
+    (λ zero_is. omega (arith, ap (λ k. get_or out k 0) zero_is, ap (λ k. prefix_share n ws k) zero_is, ap (λ k. prefix_share n ws (k + 1)) zero_is, at_none, at_one, first))
+    (λ other. let one_is : k ≡ 1 = omega arith in omega (arith, ap (λ k. get_or out k 0) one_is, ap (λ k. prefix_share n ws k) one_is, ap (λ k. prefix_share n ws (k + 1)) one_is, at_one, at_two, second))
+    (cases_eq k 0))
+  where
+    zero_of : (n sum : ℕ) → 1 ≤ sum → n * 0 / sum ≡ 0
+    zero_of n sum some = omega arith

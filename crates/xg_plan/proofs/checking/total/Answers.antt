@@ -1,0 +1,10 @@
+use Rattle.std.proofs.Common.{◌≡◌, ◌<◌, ◌^◌, ap, arith, get_or, length}
+use Rattle.xg_plan.proofs.ShareLemmas.{prefix-more}
+use Rattle.xg_plan.proofs.checking.total.Goals as goal
+
+pub loop-weight-preserved : goal.loop-weight-preserved
+loop-weight-preserved c =
+    let here : get_or c.args.weights.now c.loop-weight.weight-index 0 < 2 ^ 64 = omega (arith, c.type_inv.weights c.loop-weight.weight-index) in (
+      omega (arith, c.loop-weight.invariant.0, prefix-more c.args.weights.now c.loop-weight.weight-index c.loop-weight-test.true),
+      omega (arith, c.loop-weight.invariant.1, here),
+    )

@@ -1,0 +1,28 @@
+ghost use Rattle.std.specs.Prelude.{◌≡◌, ℕ, ◌+◌, ◌^◌, ◌<◌, ◌≤◌, List, length, slice_index};
+ghost use Rattle.def_sums.specs.Limits.{most_root};
+ghost use Rattle.def_plan.specs.Form.{InformationSet};
+ghost use Rattle.def_plan.specs.Plan.{IsPlan, added};
+ghost use Rattle.xg_plan.specs.Plan.{AreOfOneForm};
+
+use crate::plan::Plan;
+
+/// Adds a plan to a sum of plans of its player, sequence by sequence. Nothing but a cleared plan is no plan.
+pub fn add_to(sum: &mut Plan, plan: &Plan)
+    requires as_many { length sum.old ≡ length plan.now }
+    requires limit { slice_index sum.old 0 + slice_index plan.now 0 ≤ most_root }
+    requires one_form { AreOfOneForm sum.old plan.now }
+    ensures sum { sum.new ≡ added sum.old plan.now }
+    ensures is_plan { (sets : List InformationSet) → (root other_root : ℕ) → IsPlan sets root sum.old → IsPlan sets other_root plan.now → IsPlan sets (root + other_root) sum.new }
+{
+    add_weights(&mut sum.weights, &plan.weights);
+}
+
+fn add_weights(weights: &mut [u64], others: &[u64])
+    requires as_many { length weights.old ≡ length others.now }
+    requires small { (s : ℕ) → slice_index weights.old s + slice_index others.now s < 2 ^ 64 }
+    ensures { weights.new ≡ added weights.old others.now }
+{
+    for s in 0..weights.len() {
+        weights[s] += others[s];
+    }
+}

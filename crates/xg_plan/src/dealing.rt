@@ -1,0 +1,115 @@
+ghost use Rattle.std.specs.Prelude.{◌≡◌, ℕ, ◌*◌, ◌-◌, ◌/◌, ◌^◌, ◌<◌, ◌≤◌, length, map, slice_index, slice_index_or};
+ghost use Rattle.def_sums.specs.Limits.{most_scale};
+ghost use Rattle.def_plan.specs.Form.{AreInOrder, PlacedSet, placed, player_sets, sequence_count, sequences_of};
+ghost use Rattle.def_plan.specs.Plan.{IsPlan};
+ghost use Rattle.def_shares.specs.Shares.{shares, weight_sum};
+ghost use Rattle.def_round.specs.Play.{GivesAllUnits, plan_of_play, play_rule};
+
+use crate::plan::Plan;
+use crate::play::Play;
+use def_tree::Player;
+use xg_seq::SeqForm;
+
+/// Makes the plan that has this root and deals at each set, in order, the number of the sequence before it by the
+/// set's play.
+pub fn from_play(form: &SeqForm, player: Player, play: &Play, root: u64, into: &mut Plan)
+    requires play_there { length play.now ≡ sequence_count (player_sets form.now player) }
+    requires plan_there { length into.old ≡ sequence_count (player_sets form.now player) }
+    requires all_units { GivesAllUnits play.now (player_sets form.now player) }
+    requires from_one { 1 ≤ root }
+    requires limit { root ≤ most_scale }
+    ensures plan { into.new ≡ plan_of_play (player_sets form.now player) play.now root }
+    ensures is_plan { IsPlan (player_sets form.now player) root into.new }
+{
+    into.weights[0] = root;
+    deal_sets(form, player, &play.units, &mut into.weights);
+}
+
+// Deals the root at each set in order.
+fn deal_sets(form: &SeqForm, player: Player, units: &[u32], weights: &mut [u64])
+    requires as_many { length weights.old ≡ sequence_count (player_sets form.now player) }
+    requires play_there { length units.now ≡ sequence_count (player_sets form.now player) }
+    requires all_units { GivesAllUnits units.now (player_sets form.now player) }
+    requires from_one { 1 ≤ slice_index weights.old 0 }
+    requires limit { slice_index weights.old 0 ≤ most_scale }
+    ensures plan { weights.new ≡ plan_of_play (player_sets form.now player) units.now (slice_index weights.old 0) }
+    ensures is_plan { IsPlan (player_sets form.now player) (slice_index weights.old 0) weights.new }
+{
+    let _in_order = form.sequence_count(player);
+    for k in 0..form.set_count(player) {
+        deal_set(form, player, k + 1, units, weights);
+    }
+}
+
+// Deals the number of the sequence before a set.
+fn deal_set(form: &SeqForm, player: Player, set: u32, units: &[u32], weights: &mut [u64])
+    requires order { AreInOrder (player_sets form.now player) }
+    requires from_one { 1 ≤ set }
+    requires there { set ≤ length (player_sets form.now player) }
+    requires as_many { length weights.old ≡ sequence_count (player_sets form.now player) }
+    requires play_there { length units.now ≡ sequence_count (player_sets form.now player) }
+    requires all_units { GivesAllUnits units.now (player_sets form.now player) }
+    requires small { (d : PlacedSet) → slice_index weights.old (slice_index_or (placed (player_sets form.now player)) (set - 1) d).before < 2 ^ 47 }
+    ensures count { length weights.new ≡ length weights.old }
+    ensures earlier { (d : PlacedSet) → (s : ℕ) → s < (slice_index_or (placed (player_sets form.now player)) (set - 1) d).first → slice_index weights.new s ≡ slice_index weights.old s }
+    ensures dealt { (d : PlacedSet) → let h = slice_index_or (placed (player_sets form.now player)) (set - 1) d in map (λ s. slice_index weights.new s) (sequences_of h) ≡ play_rule units.now h (slice_index weights.old h.before) }
+{
+    let first = form.first_sequence(player, set) as usize;
+    let end = first + form.actions_of(player, set) as usize;
+    let n = weights[form.parent_of(player, set) as usize];
+    deal_by_play(n, &units[first..end], &mut weights[first..end]);
+}
+
+// Deals n by a play whose units add up to 65,536.
+fn deal_by_play(n: u64, units: &[u32], out: &mut [u64])
+    requires as_many { length out.old ≡ length units.now }
+    requires whole { weight_sum units.now ≡ 65536 }
+    requires small { n < 2 ^ 47 }
+    ensures { out.new ≡ shares n units.now }
+{
+    if n == 0 {
+        out.fill(0);
+    } else if out.len() == 1 {
+        out[0] = n;
+    } else if out.len() == 2 {
+        deal_to_two(n, units, out);
+    } else {
+        deal_to_many(n, units, out);
+    }
+}
+
+fn deal_to_two(n: u64, units: &[u32], out: &mut [u64])
+    requires as_many { length out.old ≡ length units.now }
+    requires two { length units.now ≡ 2 }
+    requires whole { weight_sum units.now ≡ 65536 }
+    requires small { n < 2 ^ 47 }
+    ensures { out.new ≡ shares n units.now }
+{
+    let first = part(n, units[0] as u64);
+    out[0] = first;
+    out[1] = n - first;
+}
+
+fn deal_to_many(n: u64, units: &[u32], out: &mut [u64])
+    requires as_many { length out.old ≡ length units.now }
+    requires whole { weight_sum units.now ≡ 65536 }
+    requires small { n < 2 ^ 47 }
+    ensures { out.new ≡ shares n units.now }
+{
+    let mut units_upto = 0;
+    let mut before = 0;
+    for i in 0..units.len() {
+        units_upto += units[i] as u64;
+        let upto = part(n, units_upto);
+        out[i] = upto - before;
+        before = upto;
+    }
+}
+
+fn part(n: u64, units: u64) -> u64
+    requires small { n < 2 ^ 47 }
+    requires part { units ≤ 65536 }
+    ensures { result ≡ n * units / 65536 }
+{
+    (n * units) >> 16
+}

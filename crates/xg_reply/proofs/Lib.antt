@@ -1,0 +1,4 @@
+pub mod PlacedSets
+pub mod FirstBest
+pub mod Passes
+pub mod AgainstPlans

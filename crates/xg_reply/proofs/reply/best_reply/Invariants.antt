@@ -1,0 +1,8 @@
+use Rattle.def_plan.specs.Form.{player_sets}
+use Rattle.xg_reply.specs.Replies.{amount_of}
+use Rattle.xg_reply.proofs.Passes.{HasPassed}
+use Rattle.xg_reply.proofs.reply.best_reply.Given as goal
+
+abbrev pub invariant-loop-k : goal.invariant-loop-k
+invariant-loop-k l =
+    HasPassed l.player (amount_of l.rows) (player_sets l.form l.player) l.k l.into.worths l.into.reply.sets
