@@ -1,9 +1,10 @@
-ghost use Rattle.std.specs.Prelude.{◌≡◌, ◌≢◌, Err, IfOk, None, Ok, Some};
+ghost use Rattle.std.specs.Prelude.{◌≡◌, ◌≢◌, length, Err, IfOk, None, Ok, Some};
 ghost use Rattle.def_cert_verdict.specs.Laws.{IsHeadOf};
 ghost use Rattle.def_file.specs.declared.FileFault.{FileFault};
 ghost use Rattle.def_game_numbers.specs.Numbers.{game_file_fault, tables_of, weigh};
 ghost use Rattle.def_sequence_form.specs.Form.{form_of_game};
 ghost use Rattle.def_sequence_form.specs.Sets.{sets_or_break};
+ghost use Rattle.def_tree.specs.Tree.{leaf_count, prefix};
 ghost use Rattle.xg_cert.specs.Outcome.{head_of};
 ghost use Rattle.xg_engine.specs.Opened.{Asks, IsBreakOf, KeepsMass, weighed_game};
 
@@ -100,6 +101,7 @@ fn sets_of(alloc: Global, game: &Game) -> Result<Sets, Refused>
 /// The game's sequence form.
 fn form_of(alloc: Global, game: &Game, weights: &Weights, sets: &Sets) -> Result<SeqForm, Refused>
     requires weighed { weigh game.now ≡ Ok weights.now }
+    requires count { length weights.now.leaves ≡ leaf_count (prefix game.now.tree) }
     requires sets { sets_or_break game.now.tree ≡ Ok sets.now }
     ensures form { IfOk result (λ form. form ≡ form_of_game (tables_of game.now) game.now.tree) }
     ensures mass { IfOk result (λ form. KeepsMass form weights.now.mass) }
