@@ -8,10 +8,12 @@ use Rattle.def_command.specs.Table.{CommandName, OptionName, Rounds, Every, Scal
 use Rattle.def_command.specs.Grammar.{Argument, Plain, Number, Taken, Numbers, number_in, with_number, take_plain, take_number, plain_words, number_given, is_same_option, AreOptionsOf}
 use Rattle.def_command.proofs.Named.{and_then_some}
 
+-- one argument is taken
 abbrev pub take_argument : CommandName → Taken → Argument → Option Taken
 take_argument name taken (Plain word) = take_plain name taken word
 take_argument name taken (Number option number) = take_number name taken option number
 
+-- all of them, one after another
 abbrev pub take_all : CommandName → Taken → List Argument → Option Taken
 take_all name taken [] = Some taken
 take_all name taken (argument ∷ arguments) =
@@ -96,6 +98,7 @@ given_once numbers option number given later =
     ∙ ap (λ b. cond b (Some number) (number_in numbers option)) (same_itself option) in
     ⊎_elim (λ e. absurd (none-some number (sym e ∙ there))) (λ e. e) later
 
+-- arguments that are taken were added
 pub merges : (name : CommandName) (arguments : List Argument) (taken final : Taken)
     → take_all name taken arguments ≡ Some final → Merges name taken arguments final
 merges name [] taken final is =
@@ -155,6 +158,7 @@ free_before numbers option number given before =
     ⊎_elim (λ e. ap is_none e)
     (λ e. absurd (none-some number (sym e ∙ ap (λ b. cond b (Some number) given) (same_itself option)))) before
 
+-- they are taken where each is given once and there is room for the plain words
 pub taken_all : (name : CommandName) (arguments : List Argument) (taken : Taken) → AreOptionsOf name arguments
     → ((option : OptionName) → (number_in taken.numbers option ≡ None) ⊎ (number_given option arguments ≡ None))
     → length taken.plain + length (plain_words arguments) ≤ plain_count name

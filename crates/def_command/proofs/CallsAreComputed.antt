@@ -118,6 +118,7 @@ numbers_given : (name : CommandName) (arguments : List Argument) (final : Taken)
 numbers_given name arguments final m option = m.numbers option
     ∙ or_none (number_in nothing.numbers option) (number_given option arguments) (none_before option)
 
+-- words with a command are a call of it
 pub call_told : (words : List (List ℕ)) (command : Command) → command_of_words words ≡ Some command
     → IsCall words command
 call_told [] command is = absurd (none-some command is)
@@ -141,6 +142,7 @@ call_told (word ∷ words) command is =
       command_is = told.1;
     }
 
+-- words that are a call have its command
 pub call_computed : (words : List (List ℕ)) (command : Command) → IsCall words command
     → command_of_words words ≡ Some command
 call_computed words command call =

@@ -42,12 +42,14 @@ found test (y ∷ ys) x is = found_at test y ys x (test y) refl (found test ys x
 same_word : (a b : List ℕ) → is_word a b ≡ true → a ≡ b
 same_word a b h = (slice_eq-Decides Decides-eqb a b _ refl).0 h
 
+-- the command that a word names is built, and its word is that one
 pub command_found : (word : List ℕ) (name : CommandName) → command_named word ≡ Some name
     → (word ≡ command_word name) × Contains built_commands name
 command_found word name is =
     let r = found (λ (c : CommandName). is_word word (command_word c)) built_commands name is in
     (same_word word (command_word name) r.0, r.1)
 
+-- the same of an option
 pub option_found : (word : List ℕ) (option : OptionName) → option_named word ≡ Some option
     → (word ≡ option_name option) × Contains built_options option
 option_found word option is =
@@ -62,6 +64,7 @@ among_three : {A : Type 0} (x y z w : A) → (x ≡ w → ⊥) → (y ≡ w → 
 among_three x y z w first second third among =
     ⊎_elim first (among_two y z w second third) (contains_first x w (y ∷ z ∷ []) among)
 
+-- a built command is found by its word
 pub command_by_word : (name : CommandName) → Contains built_commands name
     → command_named (command_word name) ≡ Some name
 command_by_word Solve built = refl
@@ -70,6 +73,7 @@ command_by_word Check built = absurd (among_two Solve Info Check (λ e. cc) (λ 
 command_by_word Gen built = absurd (among_two Solve Info Gen (λ e. cc) (λ e. cc) built)
 command_by_word Drill built = absurd (among_two Solve Info Drill (λ e. cc) (λ e. cc) built)
 
+-- a built option is found by its name
 pub option_by_name : (option : OptionName) → Contains built_options option
     → option_named (option_name option) ≡ Some option
 option_by_name Rounds built = refl
@@ -78,24 +82,28 @@ option_by_name Scale built = refl
 option_by_name Workers built = absurd (among_three Rounds Every Scale Workers (λ e. cc) (λ e. cc) (λ e. cc) built)
 
 -- ---- the parts of an option's word
+-- what begins with an option's name begins with a minus
 pub name_is_option : (option : OptionName) (rest : List ℕ) → is_option (option_name option ++ rest) ≡ true
 name_is_option Rounds rest = refl
 name_is_option Every rest = refl
 name_is_option Scale rest = refl
 name_is_option Workers rest = refl
 
+-- and so does the name alone
 pub name_alone_is_option : (option : OptionName) → is_option (option_name option) ≡ true
 name_alone_is_option Rounds = refl
 name_alone_is_option Every = refl
 name_alone_is_option Scale = refl
 name_alone_is_option Workers = refl
 
+-- an option's name has no `=`
 pub name_alone : (option : OptionName) → around_equals (option_name option) ≡ None
 name_alone Rounds = refl
 name_alone Every = refl
 name_alone Scale = refl
 name_alone Workers = refl
 
+-- the first `=` of an option's word stands behind its name
 pub name_and_digits : (option : OptionName) (digits : List ℕ)
     → around_equals (option_name option ++ 61 ∷ digits) ≡ Some (option_name option, digits)
 name_and_digits Rounds digits = refl
@@ -103,11 +111,13 @@ name_and_digits Every digits = refl
 name_and_digits Scale digits = refl
 name_and_digits Workers digits = refl
 
+-- where a chain gives something, its first part does
 pub and_then_some : {A B : Type 0} (f : A → Option B) (o : Option A) (y : B) → option_and_then f o ≡ Some y
     → (x : A) × (o ≡ Some x) × (f x ≡ Some y)
 and_then_some f None y is = absurd (none-some y is)
 and_then_some f (Some x) y is = (x, refl, is)
 
+-- where a map gives something, there was something
 pub mapped_some : {A B : Type 0} (f : A → B) (o : Option A) (y : B) → option_map f o ≡ Some y
     → (x : A) × (o ≡ Some x) × (f x ≡ y)
 mapped_some f None y is = absurd (none-some y is)

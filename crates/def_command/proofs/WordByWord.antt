@@ -13,6 +13,7 @@ use Rattle.def_command.proofs.Arguments.{take_argument, take_all}
 use Rattle.def_command.proofs.Named.{and_then_some, mapped_some, option_found, option_by_name, joined, name_alone, name_alone_is_option, name_and_digits, name_is_option}
 
 -- ---- numbers
+-- a number that is read is in range
 pub number_told : (least most : ℕ) (digits : List ℕ) (number : ℕ) → number_from_to least most digits ≡ Some number
     → IsNumberFromTo least most digits number
 number_told least most digits number is =
@@ -27,6 +28,7 @@ number_told least most digits number is =
       to = omega (arith, leb-true (number_of digits) most range.1, tests.1);
     }
 
+-- a number in range is read
 pub number_read : (least most : ℕ) (digits : List ℕ) (number : ℕ) → IsNumberFromTo least most digits number
     → number_from_to least most digits ≡ Some number
 number_read least most digits number n =
@@ -225,6 +227,7 @@ joined_read name taken next option digits built given =
     (option_by_name option built)
     ∙ ap (option_map (λ (t : Taken). (t, None))) given
 
+-- all words are read that spell arguments which are taken
 pub arguments_read : (name : CommandName) (arguments : List Argument) (words : List (List ℕ)) (taken final : Taken)
     → AreSpelled arguments words → take_all name taken arguments ≡ Some final
     → read_words name taken None words ≡ Some final

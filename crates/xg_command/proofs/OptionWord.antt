@@ -4,6 +4,7 @@ use Rattle.std.specs.Option.{option_map, option_and_then}
 use Rattle.def_command.specs.Table.{CommandName, OptionName}
 use Rattle.def_command.specs.Grammar.{Taken, around_equals, option_named, read_option, take_digits}
 
+-- a map of nothing
 pub absent : {A B : Type 0} (f : A → B) (o : Option A) → o ≡ None → option_map f o ≡ None
 absent f o is = ap (option_map f) is
 
