@@ -77,7 +77,8 @@ fn put_quoted(out: &mut Vec<u8>, text: &[u8]) -> Result<(), AllocError>
         }
         out.push(*byte)?;
     }
-    out.push(b'"')
+    out.push(b'"')?;
+    Ok(())
 }
 
 /// The line of a file's fault.
