@@ -31,13 +31,17 @@ pub record KeepsWorths (sums : ℕ → ℤ) (play : List ℕ) (sets : List Infor
 -- by such worths: what the value needs, what is added to a regret, and the worths with this set
 pub record SetStep (sums : ℕ → ℤ) (play : List ℕ) (sets : List InformationSet) (old : List ℤ) (m : ℕ) (h : PlacedSet) (worths : List ℤ) : Type 0 where
   pub products : nat_sum_over (λ s. unsigned_abs (pos (slice_index play s) *ℤ amount_of worths s)) (sequences_of h) < 2 ^ 126
-  pub growth : (s : ℕ) → h.first ≤ s → s < h.first + h.actions → unsigned_abs (amount_of worths s -ℤ set_value play (amount_of worths) h) < 2 ^ 126
-  pub regret : (s : ℕ) → h.first ≤ s → s < h.first + h.actions → regret_of (regrets_after sums play sets old) s ≡ regret_of old s +ℤ (amount_of worths s -ℤ set_value play (amount_of worths) h)
+  pub growth : (s : ℕ) → h.first ≤ s → s < h.first + h.actions
+      → unsigned_abs (amount_of worths s -ℤ set_value play (amount_of worths) h) < 2 ^ 126
+  pub regret : (s : ℕ) → h.first ≤ s → s < h.first + h.actions
+      → regret_of (regrets_after sums play sets old) s ≡ regret_of old s +ℤ (amount_of worths s -ℤ set_value play (amount_of worths) h)
   pub before : int_wrap w128 (amount_of worths h.before +ℤ set_value play (amount_of worths) h) ≡ int_wrap w128 (later_worth sums play sets m h.before)
-  pub others : (s : ℕ) → s < sequence_count sets → s ≢ h.before → amount_of worths s ≡ int_wrap w128 (later_worth sums play sets m s)
+  pub others : (s : ℕ) → s < sequence_count sets → s ≢ h.before
+      → amount_of worths s ≡ int_wrap w128 (later_worth sums play sets m s)
 
 -- before the pass the worths are the sums alone
-pub first_worths : (play : List ℕ) (sets : List InformationSet) (k : ℕ) (rows : List ℤ) → length sets ≤ k → length rows ≡ sequence_count sets → size_of_sums (amount_of rows) sets ≤ 2 ^ 82
+pub first_worths : (play : List ℕ) (sets : List InformationSet) (k : ℕ) (rows : List ℤ) → length sets ≤ k
+    → length rows ≡ sequence_count sets → size_of_sums (amount_of rows) sets ≤ 2 ^ 82
     → KeepsWorths (amount_of rows) play sets k rows
 first_worths play sets k rows all count small = record {
   count = count;
@@ -52,7 +56,8 @@ first_worths play sets k rows all count small = record {
 test_no : (a b : ℕ) → a ≢ b → eqb a b ≡ false
 test_no a b e = grind (arith, nat_tests)
 
-pub set_step : (sums : ℕ → ℤ) (play : List ℕ) (sets : List InformationSet) (old worths : List ℤ) (m : ℕ) (h : PlacedSet) → AreInOrder sets → GivesAllUnits play sets → size_of_sums sums sets ≤ 2 ^ 82 → IsAt sets m h
+pub set_step : (sums : ℕ → ℤ) (play : List ℕ) (sets : List InformationSet) (old worths : List ℤ) (m : ℕ) (h : PlacedSet)
+    → AreInOrder sets → GivesAllUnits play sets → size_of_sums sums sets ≤ 2 ^ 82 → IsAt sets m h
     → KeepsWorths sums play sets (m + 1) worths → SetStep sums play sets old m h worths
 set_step sums play sets old worths m h order all_units small at kept =
     let value : ℤ = get_or (round_values sums play sets) m (pos 0) in

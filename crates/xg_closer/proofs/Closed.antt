@@ -23,19 +23,22 @@ module _ (player : Player) (rows : List ℤ) (sets : List InformationSet) (count
   own_small = omega (arith, own_sizes player rows sets count, small)
 
   -- worths that begin with the own sums are as small
-  pub worths_small : (worths : List ℤ) → ((s : ℕ) → amount_of worths s ≡ own_amount player rows s) → size_of_sums (amount_of worths) sets ≤ 2 ^ 82
+  pub worths_small : (worths : List ℤ) → ((s : ℕ) → amount_of worths s ≡ own_amount player rows s)
+      → size_of_sums (amount_of worths) sets ≤ 2 ^ 82
   worths_small worths each =
       let same : amount_of worths ≡ own_amount player rows = λ i s. each s i in
       subst (λ sums. size_of_sums sums sets ≤ 2 ^ 82) (sym same) own_small
 
   -- and give the same regrets
-  pub own_regrets : (worths : List ℤ) (play : List ℕ) (before after : List ℤ) → ((s : ℕ) → amount_of worths s ≡ own_amount player rows s)
+  pub own_regrets : (worths : List ℤ) (play : List ℕ) (before after : List ℤ)
+      → ((s : ℕ) → amount_of worths s ≡ own_amount player rows s)
       → after ≡ regrets_after (amount_of worths) play sets before → after ≡ regrets_after (own_amount player rows) play sets before
   own_regrets worths play before after each is =
       let same : amount_of worths ≡ own_amount player rows = λ i s. each s i in
       is ∙ ap (λ sums. regrets_after sums play sets before) same
 
-  pub keeps_regrets : (play : List ℕ) (before after worths : List ℤ) (rounds : ℕ) → AreInOrder sets → GivesAllUnits play sets → rounds < most_rounds
+  pub keeps_regrets : (play : List ℕ) (before after worths : List ℤ) (rounds : ℕ) → AreInOrder sets
+      → GivesAllUnits play sets → rounds < most_rounds
       → ((s : ℕ) → unsigned_abs (regret_of before s) ≤ rounds * 2 ^ 82) → after ≡ regrets_after (own_amount player rows) play sets before → length worths ≡ sequence_count sets
       → KeepsRegrets after worths (rounds + 1)
   keeps_regrets play before after worths rounds order all_units few sizes is room =

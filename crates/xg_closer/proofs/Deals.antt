@@ -39,7 +39,8 @@ pub record OneMore (n : ℕ) (ws : List ℕ) (i sum_so_far sum : ℕ) : Type 0 w
   pub within_all : n * sum_so_far / sum ≤ n
   pub share : get_or (shares n ws) i 0 + prefix_share n ws i ≡ n * sum_so_far / sum
 
-pub one_more : (n : ℕ) (ws : List ℕ) (i before weight sum : ℕ) → i < length ws → 1 ≤ sum → sum ≡ weight_sum ws → before ≡ prefix_sum ws i → weight ≡ get_or ws i 0
+pub one_more : (n : ℕ) (ws : List ℕ) (i before weight sum : ℕ) → i < length ws → 1 ≤ sum → sum ≡ weight_sum ws
+    → before ≡ prefix_sum ws i → weight ≡ get_or ws i 0
     → OneMore n ws i (before + weight) sum
 one_more n ws i before weight sum below some whole is at =
     let next : before + weight ≡ prefix_sum ws (i + 1) = omega (arith, prefix-more ws i below) in
@@ -64,11 +65,13 @@ none_before n ws some = zero_over (weight_sum ws) some
     zero_over sum some = omega arith
 
 -- the share before it
-pub share_before : (n : ℕ) (ws : List ℕ) (i before sum : ℕ) → sum ≡ weight_sum ws → before ≡ prefix_sum ws i → prefix_share n ws i ≡ n * before / sum
+pub share_before : (n : ℕ) (ws : List ℕ) (i before sum : ℕ) → sum ≡ weight_sum ws → before ≡ prefix_sum ws i
+    → prefix_share n ws i ≡ n * before / sum
 share_before n ws i before sum whole is = cc
 
 -- where all weights are 0
-pub even_share : (n : ℕ) (ws : List ℕ) (i count : ℕ) → i < count → length ws ≡ count → weight_sum ws ≡ 0 → get_or (shares n ws) i 0 + n * i / count ≡ n * (i + 1) / count
+pub even_share : (n : ℕ) (ws : List ℕ) (i count : ℕ) → i < count → length ws ≡ count → weight_sum ws ≡ 0
+    → get_or (shares n ws) i 0 + n * i / count ≡ n * (i + 1) / count
 even_share n ws i count below long none =
     let difference = (are_differences n ws i (omega arith)).evenly none in
     omega (arith, difference, ap (λ k. n * i / k) long, ap (λ k. n * (i + 1) / k) long)
@@ -83,7 +86,8 @@ only_share n ws one = sym (sum_of_one (shares n ws) (length-shares n ws ∙ one)
     sum_of_one (x ∷ y ∷ xs) h = absurd (omega (arith, h))
 
 -- the shares of two weights
-pub two_shares : (n q : ℕ) (ws : List ℕ) → length ws ≡ 2 → (1 ≤ weight_sum ws → q ≡ n * get_or ws 0 0 / weight_sum ws) → (weight_sum ws ≡ 0 → q ≡ n * 1 / 2)
+pub two_shares : (n q : ℕ) (ws : List ℕ) → length ws ≡ 2 → (1 ≤ weight_sum ws → q ≡ n * get_or ws 0 0 / weight_sum ws)
+    → (weight_sum ws ≡ 0 → q ≡ n * 1 / 2)
     → (get_or (shares n ws) 0 0 ≡ q) × (get_or (shares n ws) 1 0 + q ≡ n)
 two_shares n q ws two by_weight evenly =
     ⊎_elim
@@ -107,7 +111,8 @@ two_shares n q ws two by_weight evenly =
 pub length-positive_parts : (regrets : List ℤ) (h : PlacedSet) → length (positive_parts regrets h) ≡ h.actions
 length-positive_parts regrets h = length-map-range_with_len (λ s. positive_part (regret_of regrets s)) h.first h.actions
 
-pub part_at : (regrets : List ℤ) (h : PlacedSet) (i : ℕ) → i < h.actions → positive_part (regret_of regrets (h.first + i)) ≡ get_or (positive_parts regrets h) i 0
+pub part_at : (regrets : List ℤ) (h : PlacedSet) (i : ℕ) → i < h.actions
+    → positive_part (regret_of regrets (h.first + i)) ≡ get_or (positive_parts regrets h) i 0
 part_at regrets h i below = sym (get_or-map-range_with_len (λ s. positive_part (regret_of regrets s)) h.first h.actions i (h.first + i) 0 below refl)
 
 pub parts_together : (regrets : List ℤ) (h : PlacedSet) → regret_sum regrets h ≡ weight_sum (positive_parts regrets h)
@@ -118,10 +123,12 @@ pub sum_more : (regrets : List ℤ) (h : PlacedSet) (i : ℕ) → i < h.actions
     → prefix_sum (positive_parts regrets h) (i + 1) ≡ prefix_sum (positive_parts regrets h) i + positive_part (regret_of regrets (h.first + i))
 sum_more regrets h i below = omega (arith, prefix-more (positive_parts regrets h) i (omega (arith, length-positive_parts regrets h)), part_at regrets h i below)
 
-pub sum_within : (regrets : List ℤ) (h : PlacedSet) (i : ℕ) → prefix_sum (positive_parts regrets h) i ≤ regret_sum regrets h
+pub sum_within : (regrets : List ℤ) (h : PlacedSet) (i : ℕ)
+    → prefix_sum (positive_parts regrets h) i ≤ regret_sum regrets h
 sum_within regrets h i = omega (arith, prefix-within (positive_parts regrets h) i, parts_together regrets h)
 
-pub sum_of_all : (regrets : List ℤ) (h : PlacedSet) → prefix_sum (positive_parts regrets h) h.actions ≡ regret_sum regrets h
+pub sum_of_all : (regrets : List ℤ) (h : PlacedSet)
+    → prefix_sum (positive_parts regrets h) h.actions ≡ regret_sum regrets h
 sum_of_all regrets h =
     ap (prefix_sum (positive_parts regrets h)) (sym (length-positive_parts regrets h)) ∙ prefix-all (positive_parts regrets h) ∙ sym (parts_together regrets h)
 

@@ -21,7 +21,8 @@ whole_part worth =
     } in
     sym (floor_div-only (pos 65536 *ℤ worth) 65536 worth is)
 
-pub only_value : (play : List ℕ) (worths : List ℤ) (h : PlacedSet) → h.actions ≡ 1 → nat_sum_over (λ s. slice_index play s) (sequences_of h) ≡ units
+pub only_value : (play : List ℕ) (worths : List ℤ) (h : PlacedSet) → h.actions ≡ 1
+    → nat_sum_over (λ s. slice_index play s) (sequences_of h) ≡ units
     → value_by play worths h ≡ amount_of worths h.first
 only_value play worths h one all =
     let given : slice_index play h.first ≡ 65536 = omega (arith, ap (λ n. nat_sum_over (λ s. slice_index play s) (range_with_len h.first n)) one, all) in

@@ -10,16 +10,19 @@ use Rattle.def_tree.specs.Rules.{most_actions}
 use Rattle.xg_seq.specs.Table.{HaveFewActions}
 use Rattle.xg_closer.proofs.Sets.{IsAt, no_place, no_set}
 
-pub few_at : (sets : List InformationSet) (m : ℕ) (h : PlacedSet) → HaveFewActions sets → m < length sets → IsAt sets m h → h.actions ≤ most_actions
+pub few_at : (sets : List InformationSet) (m : ℕ) (h : PlacedSet) → HaveFewActions sets → m < length sets
+    → IsAt sets m h → h.actions ≤ most_actions
 few_at sets m h few below at = omega (arith, All-get_or (λ (h : InformationSet). h.actions ≤ most_actions) sets m no_set below few, at.actions)
 
-pub small_at : (sets : List InformationSet) (regrets : List ℤ) (m : ℕ) (h : PlacedSet) → IsAt sets m h → ((s : ℕ) → unsigned_abs (regret_of regrets s) ≤ 2 ^ 98) → h.actions ≤ most_actions
+pub small_at : (sets : List InformationSet) (regrets : List ℤ) (m : ℕ) (h : PlacedSet) → IsAt sets m h
+    → ((s : ℕ) → unsigned_abs (regret_of regrets s) ≤ 2 ^ 98) → h.actions ≤ most_actions
     → units * regret_sum regrets h < 2 ^ 126
 small_at sets regrets m h at small few =
     subst (λ (p : PlacedSet). p.actions ≤ 1024 → units * regret_sum regrets p < 2 ^ 126) at.is ((deals_within sets regrets small).each_set m no_place at.there) few
 
 -- a set's sequences have the shares of all units by their regrets
-pub played_at : (sets : List InformationSet) (regrets : List ℤ) (m : ℕ) (h : PlacedSet) → IsAt sets m h → (i : ℕ) → i < h.actions
+pub played_at : (sets : List InformationSet) (regrets : List ℤ) (m : ℕ) (h : PlacedSet) → IsAt sets m h → (i : ℕ)
+    → i < h.actions
     → slice_index (play_of sets regrets) (h.first + i) ≡ slice_index (set_play regrets h) i
 played_at sets regrets m h at i inside =
     let each : map (λ s. slice_index (play_of sets regrets) s) (sequences_of h) ≡ set_play regrets h =

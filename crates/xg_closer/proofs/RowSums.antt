@@ -17,7 +17,8 @@ row_within [] s = omega arith
 row_within (row ∷ rows) zero = omega arith
 row_within (row ∷ rows) (suc s) = omega (arith, row_within rows s)
 
-size_of_own : (player : Player) (rows : List ℤ) (s : ℕ) → unsigned_abs (own_amount player rows s) ≡ unsigned_abs (amount_of rows s)
+size_of_own : (player : Player) (rows : List ℤ) (s : ℕ)
+    → unsigned_abs (own_amount player rows s) ≡ unsigned_abs (amount_of rows s)
 size_of_own One rows s = refl
 size_of_own Two rows s = size_of_negative (amount_of rows s)
   where
@@ -36,7 +37,8 @@ sizes_listed [] = refl
 sizes_listed (row ∷ rows) = ap (λ n. unsigned_abs row + n) (sizes_listed rows)
 
 -- the own sums together are the rows together
-pub own_sizes : (player : Player) (rows : List ℤ) (sets : List InformationSet) → length rows ≡ sequence_count sets → size_of_sums (own_amount player rows) sets ≡ nat_sum_over unsigned_abs rows
+pub own_sizes : (player : Player) (rows : List ℤ) (sets : List InformationSet) → length rows ≡ sequence_count sets
+    → size_of_sums (own_amount player rows) sets ≡ nat_sum_over unsigned_abs rows
 own_sizes player rows sets count =
     let sizes : List ℕ = map unsigned_abs rows in
     let many : sequence_count sets ≡ length sizes = sym count ∙ sym (length-map rows unsigned_abs) in

@@ -26,12 +26,17 @@ later_worth sums play sets k s = worth sums (drop k (placed sets)) (values_from 
 -- the value, the worths, what is added to a regret, and what the value adds to the sequence before the set
 pub record SetFacts (sums : ℕ → ℤ) (play : List ℕ) (sets : List InformationSet) (before : List ℤ) (m : ℕ) (h : PlacedSet) (value : ℤ) : Type 0 where
   pub is_value : value ≡ set_value play (full_worth sums play sets) h
-  pub worth_small : (s : ℕ) → h.first ≤ s → s < h.first + h.actions → unsigned_abs (full_worth sums play sets s) ≤ size_of_sums sums sets
-  pub growth : (s : ℕ) → h.first ≤ s → s < h.first + h.actions → unsigned_abs (full_worth sums play sets s -ℤ value) ≤ size_of_sums sums sets
+  pub worth_small : (s : ℕ) → h.first ≤ s → s < h.first + h.actions
+      → unsigned_abs (full_worth sums play sets s) ≤ size_of_sums sums sets
+  pub growth : (s : ℕ) → h.first ≤ s → s < h.first + h.actions
+      → unsigned_abs (full_worth sums play sets s -ℤ value) ≤ size_of_sums sums sets
   pub products : nat_sum_over (λ s. unsigned_abs (pos (slice_index play s) *ℤ full_worth sums play sets s)) (sequences_of h) ≤ units * size_of_sums sums sets
-  pub as_later : (s : ℕ) → h.first ≤ s → s < h.first + h.actions → full_worth sums play sets s ≡ later_worth sums play sets (m + 1) s
-  pub step : (s : ℕ) → later_worth sums play sets m s ≡ cond (eqb h.before s) (later_worth sums play sets (m + 1) s +ℤ value) (later_worth sums play sets (m + 1) s)
-  pub regret : (s : ℕ) → h.first ≤ s → s < h.first + h.actions → regret_of (regrets_after sums play sets before) s ≡ regret_of before s +ℤ (full_worth sums play sets s -ℤ value)
+  pub as_later : (s : ℕ) → h.first ≤ s → s < h.first + h.actions
+      → full_worth sums play sets s ≡ later_worth sums play sets (m + 1) s
+  pub step : (s : ℕ)
+      → later_worth sums play sets m s ≡ cond (eqb h.before s) (later_worth sums play sets (m + 1) s +ℤ value) (later_worth sums play sets (m + 1) s)
+  pub regret : (s : ℕ) → h.first ≤ s → s < h.first + h.actions
+      → regret_of (regrets_after sums play sets before) s ≡ regret_of before s +ℤ (full_worth sums play sets s -ℤ value)
 
 -- what is added at each set
 added_at : (sums : ℕ → ℤ) (play : List ℕ) (sets : List InformationSet) (before : List ℤ) → AreInOrder sets
@@ -43,12 +48,14 @@ added_at sums play sets before order =
     (values_are_unique sums play sets r.values order r.are_values) r.adds_regrets.each_set
 
 -- a round has a regret for each sequence
-pub regrets_count : (sums : ℕ → ℤ) (play : List ℕ) (sets : List InformationSet) (before : List ℤ) → AreInOrder sets → length (regrets_after sums play sets before) ≡ sequence_count sets
+pub regrets_count : (sums : ℕ → ℤ) (play : List ℕ) (sets : List InformationSet) (before : List ℤ) → AreInOrder sets
+    → length (regrets_after sums play sets before) ≡ sequence_count sets
 regrets_count sums play sets before order =
     let r : IsRound sums play sets before (regrets_after sums play sets before) = (rounds_are_computed sums play sets before (regrets_after sums play sets before) order).1 refl in
     r.adds_regrets.all_sequences
 
-step_of : (sums : ℕ → ℤ) (play : List ℕ) (sets : List InformationSet) (m : ℕ) (h : PlacedSet) (value : ℤ) → m < length (placed sets) → get_or (placed sets) m no_place ≡ h
+step_of : (sums : ℕ → ℤ) (play : List ℕ) (sets : List InformationSet) (m : ℕ) (h : PlacedSet) (value : ℤ)
+    → m < length (placed sets) → get_or (placed sets) m no_place ≡ h
     → value ≡ set_value play (later_worth sums play sets (m + 1)) h
     → (s : ℕ) → later_worth sums play sets m s ≡ cond (eqb h.before s) (later_worth sums play sets (m + 1) s +ℤ value) (later_worth sums play sets (m + 1) s)
 step_of sums play sets m h value below at is s =
@@ -58,7 +65,8 @@ step_of sums play sets m h value below at is s =
     ∙ worth-cons sums h rest (set_value play (later_worth sums play sets (m + 1)) h) (values_from sums play rest) s
     ∙ ap (λ v. cond (eqb h.before s) (later_worth sums play sets (m + 1) s +ℤ v) (later_worth sums play sets (m + 1) s)) (sym is)
 
-pub set_facts : (sums : ℕ → ℤ) (play : List ℕ) (sets : List InformationSet) (before : List ℤ) (m : ℕ) (h : PlacedSet) → AreInOrder sets → GivesAllUnits play sets → IsAt sets m h
+pub set_facts : (sums : ℕ → ℤ) (play : List ℕ) (sets : List InformationSet) (before : List ℤ) (m : ℕ) (h : PlacedSet)
+    → AreInOrder sets → GivesAllUnits play sets → IsAt sets m h
     → SetFacts sums play sets before m h (get_or (round_values sums play sets) m (pos 0))
 set_facts sums play sets before m h order all_units at =
     let values : List ℤ = round_values sums play sets in

@@ -20,11 +20,13 @@ no_set = record { before = 0; actions = 0 }
 abbrev pub start_of : List InformationSet → ℕ → ℕ
 start_of sets k = sequence_count (take k sets)
 
-start_more : (sets : List InformationSet) (m : ℕ) → m < length sets → start_of sets (m + 1) ≡ start_of sets m + (get_or sets m no_set).actions
+start_more : (sets : List InformationSet) (m : ℕ) → m < length sets
+    → start_of sets (m + 1) ≡ start_of sets m + (get_or sets m no_set).actions
 start_more sets m below =
     omega (arith, ap (nat_sum_over (λ s. s.actions)) (take_more sets m no_set below), nat_sum_over-append (λ s. s.actions) (take m sets) (get_or sets m no_set ∷ []))
 
-front : (sets : List InformationSet) (m : ℕ) → nat_sum_over (λ s. s.actions) (take m sets) ≤ nat_sum_over (λ s. s.actions) sets
+front : (sets : List InformationSet) (m : ℕ)
+    → nat_sum_over (λ s. s.actions) (take m sets) ≤ nat_sum_over (λ s. s.actions) sets
 front sets zero = omega arith
 front [] (suc m) = omega arith
 front (h ∷ hs) (suc m) = omega (arith, front hs m)
@@ -43,7 +45,8 @@ pub record IsAt (sets : List InformationSet) (m : ℕ) (h : PlacedSet) : Type 0 
   pub earlier : h.before < h.first
   pub some : 1 ≤ h.actions
 
-pub is_at : (sets : List InformationSet) (m : ℕ) (h : PlacedSet) → AreInOrder sets → m < length sets → slice_get (placed sets) m ≡ Some h → IsAt sets m h
+pub is_at : (sets : List InformationSet) (m : ℕ) (h : PlacedSet) → AreInOrder sets → m < length sets
+    → slice_get (placed sets) m ≡ Some h → IsAt sets m h
 is_at sets m h order below read =
     let there : m < length (placed sets) = omega (arith, length-placed_from 1 sets) in
     let is : get_or (placed sets) m no_place ≡ h = get_or_from_slice_get (placed sets) m h no_place read in
@@ -64,7 +67,8 @@ is_at sets m h order below read =
     }
 
 -- at the set a play gives out all units
-pub units_at : (play : List ℕ) (sets : List InformationSet) (m : ℕ) (h : PlacedSet) → IsAt sets m h → GivesAllUnits play sets → nat_sum_over (λ s. slice_index play s) (sequences_of h) ≡ units
+pub units_at : (play : List ℕ) (sets : List InformationSet) (m : ℕ) (h : PlacedSet) → IsAt sets m h
+    → GivesAllUnits play sets → nat_sum_over (λ s. slice_index play s) (sequences_of h) ≡ units
 units_at play sets m h at all_units = subst (λ (p : PlacedSet). nat_sum_over (λ s. slice_index play s) (sequences_of p) ≡ units) at.is (all_units m no_place at.there)
 
 -- what is told of a set one by one makes its place

@@ -13,7 +13,8 @@ plays_none first shares before = record {
   later = λ s from. refl;
 }
 
-pub plays_more : (first n : ℕ) (shares before after : List ℕ) (share : ℕ) → PlaysFirst first n shares before after → first + n < length after → share ≡ get_or shares n 0
+pub plays_more : (first n : ℕ) (shares before after : List ℕ) (share : ℕ) → PlaysFirst first n shares before after
+    → first + n < length after → share ≡ get_or shares n 0
     → PlaysFirst first (n + 1) shares before (set after (first + n) share)
 plays_more first n shares before after share so_far inside is = record {
   count = length-set after (first + n) share ∙ so_far.count;
