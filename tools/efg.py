@@ -22,6 +22,11 @@ MARK = re.compile(rb'(?<!\\)"')
 DIGITS = re.compile(rb"[0-9]+")
 RATIO = re.compile(rb"([+-]?)([0-9]+)/([0-9]+)")
 DECIMAL = re.compile(rb"([+-]?)(?=\.?[0-9])([0-9]*)\.?([0-9]*)(?:[eE]([+-]?[0-9]{1,2}))?")
+# An entry without descriptions, up to the letter of the next one: most entries of a large file.
+SHORT_ENTRY = re.compile(
+    rb'[\x09-\x0d ]*([cpt])[\x09-\x0d ]*"[^"\\]*"[\x09-\x0d ]*((?:[0-9]{1,18}[\x09-\x0d ]+)+)(?=[cpt])'
+)
+NUMBERS_OF_ENTRY = {b"c": 2, b"p": 3, b"t": 1}
 
 
 class Fault(Exception):
@@ -217,9 +222,21 @@ def read_prologue(reader):
     return Game(title, players, reader.optional(b'"', reader.text) or b"")
 
 
-def read_entry(reader, game):
-    """The next entry as a node, which is judged and put into the game's tables."""
-    place = len(game.nodes) + 1
+def read_short_entry(reader):
+    """What `read_told` reads, where it is an entry without descriptions that has no fault of its own; else None."""
+    found = SHORT_ENTRY.match(reader.data, reader.at)
+    if not found:
+        return None
+    kind, numbers = found[1], [int(it) for it in found[2].split()]
+    if len(numbers) != NUMBERS_OF_ENTRY[kind] or kind != b"t" and numbers[-2] == 0:
+        return None
+    reader.at = found.end()
+    told_set = None if kind == b"t" else (numbers[-2], None, None)
+    return numbers[0] if kind == b"p" else 0, told_set, (numbers[-1], None, None)
+
+
+def read_told(reader):
+    """The next entry: its player, 0 for none, and what it tells of its set, None at a leaf, and of its outcome."""
     kind = reader.word(b"c", b"p", b"t")
     reader.text()
     player = reader.whole() if kind == b"p" else 0
@@ -228,11 +245,18 @@ def read_entry(reader, game):
         number = reader.whole(least=1)
         name = reader.optional(b'"', reader.text)
         told_set = (number, name, reader.optional(b"{", lambda: reader.actions(kind == b"c")))
+        if kind == b"p" and player not in (1, 2):
+            player = None
     number = reader.whole()
     name = reader.optional(b'"', reader.text)
-    told_outcome = (number, name, reader.optional(b"{", reader.payoffs))
+    return player, told_set, (number, name, reader.optional(b"{", reader.payoffs))
 
-    if kind == b"p" and player not in (1, 2):
+
+def read_entry(reader, game):
+    """The next entry as a node, which is judged and put into the game's tables."""
+    place = len(game.nodes) + 1
+    player, told_set, told_outcome = read_short_entry(reader) or read_told(reader)
+    if player not in (0, 1, 2):
         raise Fault(f"refused 7 PlayerNumber node {place}")
     set_ = kept_set(game, player, told_set, place) if told_set else None
     outcome = kept_outcome(game, told_outcome, place)
@@ -310,7 +334,8 @@ def read_game(data):
         if player:
             note_choices(game, node, own)
         for action in reversed(range(len(node.set.actions))):
-            below = own if player == 0 else tuple((node.set, action) if k == player else own[k] for k in range(3))
+            choice = (node.set, action)
+            below = (own, (None, choice, own[2]), (None, own[1], choice))[player]
             wanted.append((node, below))
     if reader.next_byte():
         raise Fault(f"refused 4 TrailingText at {reader.at}")
