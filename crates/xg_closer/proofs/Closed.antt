@@ -32,14 +32,16 @@ module _ (player : Player) (rows : List ℤ) (sets : List InformationSet) (count
   -- and give the same regrets
   pub own_regrets : (worths : List ℤ) (play : List ℕ) (before after : List ℤ)
       → ((s : ℕ) → amount_of worths s ≡ own_amount player rows s)
-      → after ≡ regrets_after (amount_of worths) play sets before → after ≡ regrets_after (own_amount player rows) play sets before
+      → after ≡ regrets_after (amount_of worths) play sets before
+      → after ≡ regrets_after (own_amount player rows) play sets before
   own_regrets worths play before after each is =
       let same : amount_of worths ≡ own_amount player rows = λ i s. each s i in
       is ∙ ap (λ sums. regrets_after sums play sets before) same
 
   pub keeps_regrets : (play : List ℕ) (before after worths : List ℤ) (rounds : ℕ) → AreInOrder sets
       → GivesAllUnits play sets → rounds < most_rounds
-      → ((s : ℕ) → unsigned_abs (regret_of before s) ≤ rounds * 2 ^ 82) → after ≡ regrets_after (own_amount player rows) play sets before → length worths ≡ sequence_count sets
+      → ((s : ℕ) → unsigned_abs (regret_of before s) ≤ rounds * 2 ^ 82)
+      → after ≡ regrets_after (own_amount player rows) play sets before → length worths ≡ sequence_count sets
       → KeepsRegrets after worths (rounds + 1)
   keeps_regrets play before after worths rounds order all_units few sizes is room =
       let more : List ℤ = regrets_after (own_amount player rows) play sets before in

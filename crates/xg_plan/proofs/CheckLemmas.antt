@@ -57,5 +57,6 @@ no_plan_at sets root plan k below bad is =
     bad no_place (is.each_set (k + 1 - 1) no_place there)
 
 -- a sum over one number more
-pub sum_more : (f : ℕ → ℕ) (first n : ℕ) → nat_sum_over f (range_with_len first (n + 1)) ≡ nat_sum_over f (range_with_len first n) + f (first + n)
+pub sum_more : (f : ℕ → ℕ) (first n : ℕ)
+    → nat_sum_over f (range_with_len first (n + 1)) ≡ nat_sum_over f (range_with_len first n) + f (first + n)
 sum_more f first n = ap (nat_sum_over f) (range-append first n 1) ∙ nat_sum_over-append f (range_with_len first n) (range_with_len (first + n) 1) ∙ omega arith

@@ -1,5 +1,6 @@
 pub mod Words
 pub mod Accepted
+pub mod Written
 pub mod Loads
 pub mod Settings
 pub mod Endings

@@ -19,10 +19,14 @@ pub struct Accepted {
 }
 
 impl Model for Accepted {
+    ghost use Rattle.std.specs.Coded.{codes};
+    ghost use Rattle.def_tree.specs.Code.{forest_code};
     ghost use Rattle.def_file.specs.Content.{GameFile};
     ghost use Rattle.xg_solve.specs.Accepted.{KeepsNumbers};
 
     ghost Value = { GameFile };
+
+    ghost coded = { Prim.hlevel (codes, forest_code) };
 
     ghost view = { λ a. a.game };
 

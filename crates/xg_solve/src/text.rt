@@ -1,9 +1,11 @@
 //! The texts that are written.
-ghost use Rattle.std.specs.Prelude.{◌≡◌, ◌++◌, IfOk, OnOk, string_bytes};
+ghost use Rattle.std.specs.Prelude.{◌≡◌, [], ◌∷◌, ◌++◌, IfOk, OnOk, string_bytes};
+ghost use Rattle.def_file_tokens.specs.Texts.{escaped};
 ghost use Rattle.def_cert_text.specs.CertText.{head_text};
 ghost use Rattle.def_text.specs.Text.{info_text, no_rounds, quoted, solve_text};
 ghost use Rattle.def_text.specs.Lines.{fault_line, node_line, number_fault_name};
 ghost use Rattle.xg_cert.specs.Outcome.{head_of};
+ghost use Rattle.xg_solve.specs.Written.{numbers_written};
 
 use crate::accepted::Accepted;
 use std::alloc::{AllocError, Global};
@@ -52,6 +54,12 @@ pub fn info_text(alloc: Global, accepted: &Accepted) -> Result<Vec<u8>, AllocErr
 fn numbers_text(alloc: Global, head: &Head) -> Result<String, AllocError>
     ensures { IfOk result (λ text. string_bytes text ≡ head_text (head_of head.now)) }
 {
+    numbers_written(alloc, head)
+}
+
+fn numbers_written(alloc: Global, head: &Head) -> Result<String, AllocError>
+    ensures { IfOk result (λ text. string_bytes text ≡ numbers_written (head_of head.now)) }
+{
     let Head {
         nodes,
         leaves,
@@ -72,12 +80,20 @@ fn put_quoted(out: &mut Vec<u8>, text: &[u8]) -> Result<(), AllocError>
 {
     out.push(b'"')?;
     for byte in text {
-        if *byte == b'"' {
-            out.push(b'\\')?;
-        }
-        out.push(*byte)?;
+        put_escaped(out, *byte)?;
     }
     out.push(b'"')?;
+    Ok(())
+}
+
+/// Puts a byte of a text last, a quotation mark with a backslash before it.
+fn put_escaped(out: &mut Vec<u8>, byte: u8) -> Result<(), AllocError>
+    ensures { OnOk result (out.new.items ≡ out.old.items ++ escaped (byte ∷ [])) }
+{
+    if byte == b'"' {
+        out.push(b'\\')?;
+    }
+    out.push(byte)?;
     Ok(())
 }
 

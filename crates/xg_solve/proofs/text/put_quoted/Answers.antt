@@ -1,0 +1,11 @@
+use Rattle.std.proofs.Common.{◌≡◌, refl}
+use Rattle.xg_solve.proofs.text.put_quoted.Goals as goal
+
+pub loop-byte-init : goal.loop-byte-init
+loop-byte-init c = ?
+
+pub loop-byte-preserved : goal.loop-byte-preserved
+loop-byte-preserved c = ?
+
+pub returns : goal.returns
+returns c = ?
