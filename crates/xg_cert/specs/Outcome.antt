@@ -1,0 +1,50 @@
+-- The parts of an outcome, as the definitions have them.
+use Rattle.std.specs.Prelude.{List, map, Option, Some, None}
+use Rattle.std.specs.Borrow.{Bor}
+use Rattle.def_bracket.specs.Bracket.{TraceLine}
+use Rattle.def_bracket.specs.Outcome as kept
+use Rattle.xg_cert.specs.declared.head.Head.{Head}
+use Rattle.xg_cert.specs.declared.outcome.TraceRow.{TraceRow}
+use Rattle.xg_cert.specs.declared.outcome.End.{End}
+
+abbrev pub head_of : Head → kept.Head
+head_of head = record {
+  nodes = head.nodes;
+  leaves = head.leaves;
+  sets_one = head.sets.0;
+  sets_two = head.sets.1;
+  sequences_one = head.sequences.0;
+  sequences_two = head.sequences.1;
+  unit = head.unit;
+  mass = head.mass;
+  rounds = head.rounds;
+  every = head.every;
+  scale = head.scale;
+}
+
+abbrev pub line_of : TraceRow → TraceLine
+line_of row = record {
+  round = row.round;
+  low_round = row.low_round;
+  low = row.low;
+  high_round = row.high_round;
+  high = row.high;
+}
+
+abbrev pub trace_of : List TraceRow → List TraceLine
+trace_of rows = map line_of rows
+
+abbrev pub end_of : End → kept.End
+end_of end = record { plan = end.plan; reply = end.reply.reply }
+
+abbrev pub ends_of : Option (End × End) → Option kept.OutcomeEnds
+ends_of None = None
+ends_of (Some ends) = Some (record { lower = end_of ends.0; upper = end_of ends.1 })
+
+-- the same of borrowed ends
+abbrev pub shown_ends : Option (Bor End × Bor End) → Option kept.OutcomeEnds
+shown_ends None = None
+shown_ends (Some ends) = Some (record { lower = end_of ends.0.now; upper = end_of ends.1.now })
+
+abbrev pub outcome_of : Head → List TraceRow → Option (End × End) → kept.Outcome
+outcome_of head trace ends = record { head = head_of head; trace = trace_of trace; ends = ends_of ends }

@@ -1,0 +1,15 @@
+/// A game's numbers, and what was asked of a run.
+///
+/// A pair is one number for each player, player one's first. The sequences count the empty one.
+#[derive(Clone, Copy, Debug, PartialEq, Eq)]
+pub struct Head {
+    pub nodes: u32,
+    pub leaves: u32,
+    pub sets: (u32, u32),
+    pub sequences: (u32, u32),
+    pub unit: u64,
+    pub mass: u64,
+    pub rounds: u32,
+    pub every: u32,
+    pub scale: u32,
+}

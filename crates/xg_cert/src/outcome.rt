@@ -1,0 +1,78 @@
+ghost use Rattle.std.specs.Prelude.{◌≡◌};
+ghost use Rattle.xg_cert.specs.Outcome.{ends_of, head_of, outcome_of, shown_ends, trace_of};
+
+use crate::head::Head;
+use std::marker::Model;
+use xg_plan::{Plan, Reply};
+
+/// A line of the trace: the round that was evaluated, and both ends of the bracket after it, each with the round that
+/// it comes from.
+///
+/// The ends are totals of best replies: in player one's payoff, times the unit and the root of the plan.
+#[derive(Clone, Copy, Debug, PartialEq, Eq)]
+pub struct TraceRow {
+    pub round: u32,
+    pub low_round: u32,
+    pub low: i128,
+    pub high_round: u32,
+    pub high: i128,
+}
+
+/// A player's plan at an end of the bracket, and the other player's best reply to it.
+#[derive(Drop)]
+pub struct End {
+    pub plan: Plan,
+    pub reply: Reply,
+}
+
+/// What a run leaves: its head, its trace, and where a round was asked both ends of the bracket.
+///
+/// The first end is the lower one: player one's plan, with player two's reply.
+#[derive(Drop)]
+pub struct Outcome {
+    head: Head,
+    trace: Vec<TraceRow>,
+    ends: Option<(End, End)>,
+}
+
+impl Model for Outcome {
+    ghost use Rattle.def_bracket.specs.Outcome as kept;
+    ghost use Rattle.xg_cert.specs.Outcome.{outcome_of};
+
+    ghost Value = { kept.Outcome };
+
+    ghost view = { λ o. outcome_of o.head o.trace.items o.ends };
+}
+
+impl Outcome {
+    /// The outcome of these parts.
+    pub fn new(head: Head, trace: Vec<TraceRow>, ends: Option<(End, End)>) -> Outcome
+        ensures { result ≡ outcome_of head trace.items ends }
+    {
+        Outcome { head, trace, ends }
+    }
+
+    /// The game's numbers, and what was asked.
+    pub fn head(&self) -> &Head
+        ensures { head_of result.now ≡ self.now.head }
+    {
+        &self.head
+    }
+
+    /// A line for each evaluation.
+    pub fn trace(&self) -> &[TraceRow]
+        ensures { trace_of result.now ≡ self.now.trace }
+    {
+        &self.trace
+    }
+
+    /// Both ends, the lower one first.
+    pub fn ends(&self) -> Option<(&End, &End)>
+        ensures { shown_ends result ≡ self.now.ends }
+    {
+        match &self.ends {
+            Some((lower, upper)) => Some((lower, upper)),
+            None => None,
+        }
+    }
+}
