@@ -32,6 +32,7 @@ pass_take (suc n) [] h = refl
 pass_take (suc n) (b ∷ bs) h = let q = and_parts (is_field_byte b) (all_pass is_field_byte bs) h in and_from (is_field_byte b) (all_pass is_field_byte (take n bs)) q.0 (pass_take n bs q.1)
 
 within_first : (item : Item) (items : List Item) (n : ℕ) → is_clean item ≡ true → n < length (item_bytes item) → IsCut (item ∷ items) n
+unfolding items_text
 within_first (field kind bytes) items n clean low = record {
   front = [];
   item = field kind bytes;
@@ -55,6 +56,7 @@ within_first (separator b) items zero clean low = record {
 within_first (separator b) items (suc n) clean low = absurd (omega (arith, low))
 
 cut_at : (items : List Item) (n : ℕ) → all_clean items ≡ true → n < length (items_text items) → IsCut items n
+unfolding items_text
 cut_at [] n clean low = absurd (omega (arith, low))
 cut_at (item ∷ items) n clean low =
     let q = and_parts (is_clean item) (all_clean items) clean in

@@ -55,6 +55,7 @@ pair_sep fault x b left t = cond t (Ok ((x, b), left)) (Err fault)
 any_again : (A : Type 0) (kind : FieldKind) (fits : A → Bool) (spelled : A → List ℕ) (test : List ℕ → Option A) (ok : ℕ → Bool) → IsField A fits spelled test → AreSeparators ok
     → (total : ℕ) (p : A × ℕ) (left : List ℕ) → (any_field kind fits spelled test ok).fits p ≡ true
     → (any_field kind fits spelled test ok).read total (text_of (any_field kind fits spelled test ok) p ++ left) ≡ Ok (p, left)
+unfolding items_text
 any_again A kind fits spelled test ok is seps total p left fit =
     let x = p.0 in
     let b = p.1 in
@@ -85,6 +86,7 @@ rest_only A fault ok total (Some x) (b ∷ more) p left e =
 any_only : (A : Type 0) (kind : FieldKind) (fits : A → Bool) (spelled : A → List ℕ) (test : List ℕ → Option A) (ok : ℕ → Bool) → IsField A fits spelled test
     → (total : ℕ) (bytes : List ℕ) (p : A × ℕ) (left : List ℕ) → (any_field kind fits spelled test ok).read total bytes ≡ Ok (p, left)
     → ((any_field kind fits spelled test ok).fits p ≡ true) × (bytes ≡ text_of (any_field kind fits spelled test ok) p ++ left)
+unfolding items_text
 any_only A kind fits spelled test ok is total bytes p left e =
     let q = rest_only A (field_fault kind (total - length bytes)) ok total (test (next_field bytes)) (behind_field bytes) p left e in
     let r = is.only (next_field bytes) p.0 q.0 in (
@@ -115,6 +117,7 @@ second_same k u v a c us vs e = (cc, cc)
 any_fault : (A : Type 0) (kind : FieldKind) (fits : A → Bool) (spelled : A → List ℕ) (test : List ℕ → Option A) (ok : ℕ → Bool) → IsField A fits spelled test → AreSeparators ok
     → (total : ℕ) (bytes : List ℕ) (fault : CertFault) (o : Option A) (r : List ℕ) → test (next_field bytes) ≡ o → behind_field bytes ≡ r
     → any_rest (field_fault kind (total - length bytes)) ok total o r ≡ Err fault → HasFirstFault (any_field kind fits spelled test ok) total bytes fault
+unfolding items_text
 any_fault A kind fits spelled test ok is seps total bytes fault o [] he hr e = record {
   items = [];
   place = of_field kind;
@@ -204,6 +207,7 @@ any_found_at : (A : Type 0) (kind : FieldKind) (fits : A → Bool) (spelled : A 
     → (total : ℕ) (fault : CertFault) (items : List Item) (item : Item) (more : List Item) (place : Place) (left : List ℕ) (x : A) (sep : ℕ) → fits x ≡ true
     → field kind (spelled x) ∷ separator sep ∷ [] ≡ (items ++ item ∷ []) ++ more → place_of_item item ≡ place → (place ≡ of_separator → next_field left ≡ [])
     → Stops (any_field kind fits spelled test ok) items place total left fault → (any_field kind fits spelled test ok).read total (items_text items ++ left) ≡ Err fault
+unfolding items_text
 any_found_at A kind fits spelled test ok is seps total fault [] item more place left x sep fx e kinds whole stop =
     let here : item ≡ field kind (spelled x) = cc in
     let at : place ≡ of_field kind = sym kinds ∙ ap place_of_item here in
