@@ -1,9 +1,11 @@
 #![tactic(auto)]
 //! The certificate of a run: what a run leaves, and its text.
 
+mod cert_lines;
 mod fields;
 mod head;
 mod lines;
+mod lists;
 mod outcome;
 
 pub use head::Head;
