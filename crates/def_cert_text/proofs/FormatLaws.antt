@@ -9,6 +9,7 @@ use Rattle.def_cert_text.specs.FirstFault.{Place, item_there, CanGoOn, Needs, St
 use Rattle.def_cert_text.proofs.FieldLaws.{bind_ok, ok_is, all_pass}
 
 pub items_text-append : (xs ys : List Item) → items_text (xs ++ ys) ≡ items_text xs ++ items_text ys
+unfolding items_text
 items_text-append [] ys = refl
 items_text-append (x ∷ xs) ys = ap (λ (bs : List ℕ). item_bytes x ++ bs) (items_text-append xs ys) ∙ sym (append_assoc (item_bytes x) (items_text xs) (items_text ys))
 
@@ -129,6 +130,7 @@ no_items [] item more e = cc
 no_items (x ∷ front) item more e = cc
 
 pub nothing_laws : (A : Type 0) (f : Format A) (x : A) → IsNothing A f x → IsFormat A f
+unfolding items_text
 nothing_laws A f x is = record {
   again = λ total y left fits.
       subst (λ (z : A). f.read total (text_of f z ++ left) ≡ Ok (z, left)) (sym (is.alone y fits))

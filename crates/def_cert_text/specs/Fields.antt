@@ -30,7 +30,7 @@ abbrev pub item_bytes : Item → List ℕ
 item_bytes (field kind bytes) = bytes
 item_bytes (separator byte) = byte ∷ []
 
-abbrev pub items_text : List Item → List ℕ
+unfoldable pub items_text : List Item → List ℕ
 items_text [] = []
 items_text (item ∷ items) = item_bytes item ++ items_text items
 

@@ -2,3 +2,4 @@ pub mod PartLemmas
 pub mod PrintLemmas
 pub mod ReadLemmas
 pub mod ScanLemmas
+pub mod WideLemmas

@@ -69,7 +69,8 @@ over_limit negative n d g e h w =
 
 -- ---- a fraction with a sign of its own
 
-signed-back : (z : ℤ) → signed (lt_z z (pos 0)) (unsigned_abs z) ≡ z
+-- a number is that of its sign and its size
+pub signed-back : (z : ℤ) → signed (lt_z z (pos 0)) (unsigned_abs z) ≡ z
 signed-back (pos n) = ap (λ b. signed b n) (le-ltb n 0 (omega arith))
 signed-back (negsuc n) = refl
 

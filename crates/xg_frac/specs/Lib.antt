@@ -1,3 +1,5 @@
 pub mod Parts
 pub mod PartsBack
 pub mod Scan
+pub mod Wide
+pub mod WideBack

@@ -1,9 +1,11 @@
-//! Sums, products and the order of fractions.
+//! Sums, products, quotients and the order of fractions.
 ghost use Rattle.std.specs.Prelude.{◌≡◌, ◌^◌, ◌≤◌, ◌↔◌, pos, ◌*ℤ◌, ◌≤ℤ◌, unsigned_abs, IsTrue, OkIff};
 ghost use Rattle.def_fraction.specs.Divisors.{lcm};
-ghost use Rattle.def_fraction.specs.Fraction.{sum_of, product_of, order_of, fits, most};
+ghost use Rattle.def_fraction.specs.Fraction.{fraction_of, sum_of, product_of, order_of, fits, most};
+ghost use Rattle.xg_frac.specs.Wide.{most_wide};
 
 use crate::fraction::{Frac, MOST, OverLimit, greatest_common_divisor, in_lowest_terms};
+use crate::wide::{Ratio, of_sizes};
 use std::cmp::Ordering;
 
 /// The exact sum.
@@ -51,4 +53,14 @@ pub fn lcm(a: u64, b: u64) -> Result<u64, OverLimit>
         return Err(OverLimit);
     }
     Ok(multiple as u64)
+}
+
+/// `num/den` in lowest terms.
+pub fn ratio(num: i128, den: i128) -> Ratio
+    requires num { unsigned_abs num ≤ most_wide }
+    requires from_one { pos 1 ≤ℤ den }
+    requires den { unsigned_abs den ≤ most_wide }
+    ensures { result ≡ fraction_of num (unsigned_abs den) }
+{
+    of_sizes(num < 0, num.unsigned_abs(), den.unsigned_abs())
 }

@@ -1,5 +1,5 @@
 //! Exact fractions: the numbers that the solver reads from a file, computes payoffs and chances with,
-//! and prints. Each part of a fraction in lowest terms is at most 2^62 in size. Nothing in this crate
+//! and prints. Each part of a fraction in lowest terms is at most 2^62 in size, of a ratio 2^100. Nothing in this crate
 //! takes memory.
 #![tactic(auto)]
 
@@ -9,9 +9,11 @@ mod literal;
 mod printing;
 #[cfg(test)]
 mod tests;
+mod wide;
 
-pub use arithmetic::{add, compare, lcm, mul};
+pub use arithmetic::{add, compare, lcm, mul, ratio};
 pub use def_fraction::NumberFault;
 pub use fraction::{Frac, OverLimit, one_over, whole};
 pub use literal::{read_literal, read_whole};
-pub use printing::{put_frac, put_int};
+pub use printing::{put_frac, put_int, put_ratio};
+pub use wide::Ratio;

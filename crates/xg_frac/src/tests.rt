@@ -1,7 +1,7 @@
 //! Values from outside: the literals of the format with their values and faults, and the printed text.
 use crate::{
-    Frac, NumberFault, OverLimit, add, compare, lcm, mul, one_over, put_frac, put_int,
-    read_literal, read_whole, whole,
+    Frac, NumberFault, OverLimit, Ratio, add, compare, lcm, mul, one_over, put_frac, put_int,
+    put_ratio, ratio, read_literal, read_whole, whole,
 };
 use std::cmp::Ordering;
 use std::marker::{Send, Sync};
@@ -177,5 +177,56 @@ fn printed(rt: HostRuntime) -> Result<(), Fail> {
     let mut short = MemSink::new(rt.alloc(), 2, &[])?;
     assert_eq!(rt; put_frac(half, &mut short), Err(WriteFault));
     assert_eq!(rt; short.bytes(), b"1/".as_slice());
+    Ok(())
+}
+
+fn ratio_within(num: i128, den: i128) -> Option<Ratio> {
+    let most: u128 = 1 << 100;
+    if num.unsigned_abs() > most || den < 1 || den.unsigned_abs() > most {
+        return None;
+    }
+    Some(ratio(num, den))
+}
+
+#[test]
+fn ratios(rt: HostRuntime) -> Result<(), Fail> {
+    let most: i128 = 1_267_650_600_228_229_401_496_703_205_376;
+    let rows: [(i128, i128, i128, i128, &str); 11] = [
+        (0, 7, 0, 1, "0"),
+        (0, most, 0, 1, "0"),
+        (1_572_864, 2_097_152, 3, 4, "3/4"),
+        (-2_621_440, 6_291_456, -5, 12, "-5/12"),
+        (3_145_728, 6_291_456, 1, 2, "1/2"),
+        (-12, 4, -3, 1, "-3"),
+        (most, most, 1, 1, "1"),
+        (-most, 1, -most, 1, "-1267650600228229401496703205376"),
+        (1, most, 1, most, "1/1267650600228229401496703205376"),
+        (
+            most - 1,
+            most,
+            most - 1,
+            most,
+            "1267650600228229401496703205375/1267650600228229401496703205376",
+        ),
+        (
+            -most,
+            6,
+            -633_825_300_114_114_700_748_351_602_688,
+            3,
+            "-633825300114114700748351602688/3",
+        ),
+    ];
+    for (num, den, lowest_num, lowest_den, text) in rows {
+        let r = ratio_within(num, den).ok_or("past the limit")?;
+        assert_eq!(rt; (r.num(), r.den()), (lowest_num, lowest_den), "{text}");
+        let mut sink = MemSink::new(rt.alloc(), 100, &[])?;
+        put_ratio(r, &mut sink).ok().ok_or("written")?;
+        assert_eq!(rt; sink.bytes(), text.as_bytes());
+    }
+    assert_eq!(rt; ratio(2, 4), ratio(1, 2));
+    let mut short = MemSink::new(rt.alloc(), 3, &[])?;
+    assert_eq!(rt; put_ratio(ratio(-5, 12), &mut short), Err(WriteFault));
+    assert_eq!(rt; short.bytes(), b"-5/".as_slice());
+    crosses_threads(ratio(1, 2));
     Ok(())
 }

@@ -1,0 +1,31 @@
+-- What a writer does.
+use Rattle.std.specs.Prelude.{◌≡◌, ℕ, List, [], ◌∷◌, ◌++◌, Option, Result, Ok, Err}
+use Rattle.std.specs.Io.KnownBytes.{append_known}
+use Rattle.std.specs.Fmt.{decimal}
+use Rattle.def_outside.specs.Sinks.{AppendsPrefix}
+use Rattle.def_bracket.specs.Outcome.{Head}
+use Rattle.def_cert_text.specs.Fields.{space, fixed_word, number, field, separator, items_text}
+use Rattle.def_cert_text.specs.Formats.{text_of}
+use Rattle.def_cert_text.specs.CertText.{size_line, sets_line, sequences_line, unit_line, mass_line}
+
+-- the whole text was appended, or a front of it where the sink failed
+abbrev pub Writes : {T E : Type 0} → Option (List ℕ) → Option (List ℕ) → List ℕ → Result T E → Type 0
+Writes before now text (Ok _) = now ≡ append_known before text
+Writes before now text (Err _) = AppendsPrefix before now text
+
+-- a field and its separator
+unfoldable pub field_text : List ℕ → ℕ → List ℕ
+field_text bytes sep = bytes ++ sep ∷ []
+
+-- a word and a number
+abbrev pub named_text : List ℕ → ℕ → ℕ → List ℕ
+named_text word n sep = items_text (field fixed_word word ∷ separator space ∷ field number (decimal n) ∷ separator sep ∷ [])
+
+-- the lines 2 to 4, and the lines 5 and 6
+abbrev pub counts_text : Head → List ℕ
+counts_text head =
+    text_of size_line (head.nodes, head.leaves) ++ (text_of sets_line (head.sets_one, head.sets_two)
+    ++ text_of sequences_line (head.sequences_one, head.sequences_two))
+
+abbrev pub units_text : Head → List ℕ
+units_text head = text_of unit_line head.unit ++ text_of mass_line head.mass

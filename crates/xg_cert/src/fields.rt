@@ -1,0 +1,48 @@
+//! A field of the text, and its separator.
+ghost use Rattle.std.specs.Prelude.{◌≡◌};
+ghost use Rattle.std.specs.Fmt.{decimal, signed_decimal};
+ghost use Rattle.def_outside.specs.Cause.{HasCause};
+ghost use Rattle.def_fraction.specs.Text.{fraction_text};
+ghost use Rattle.xg_cert.specs.Writes.{Writes, field_text};
+
+use itoa::Buffer;
+use xg_frac::{Ratio, put_int, put_ratio};
+use xg_io::{Sink, WriteFault, write_all};
+
+/// Any bytes.
+#[tactic(auto, using(crate::proofs::Written::prefix_first, crate::proofs::Written::then_rest), unfolding(crate::specs::Writes::field_text))]
+pub(crate) fn put_field<O: Sink>(field: &[u8], separator: u8, out: &mut O) -> Result<(), WriteFault>
+    ensures text { Writes (O.written out.old) (O.written out.new) (field_text field.now separator) result }
+    ensures cause { HasCause (O.faults out.old) (O.faults out.new) result }
+{
+    write_all(out, field)?;
+    write_all(out, &[separator])
+}
+
+/// A whole number.
+pub(crate) fn put_whole<O: Sink>(n: u64, separator: u8, out: &mut O) -> Result<(), WriteFault>
+    ensures text { Writes (O.written out.old) (O.written out.new) (field_text (decimal n) separator) result }
+    ensures cause { HasCause (O.faults out.old) (O.faults out.new) result }
+{
+    let mut buffer = Buffer::new();
+    put_field(buffer.format(n).as_bytes(), separator, out)
+}
+
+/// A whole number with a sign where it is negative.
+pub(crate) fn put_signed<O: Sink>(n: i128, separator: u8, out: &mut O) -> Result<(), WriteFault>
+    ensures text { Writes (O.written out.old) (O.written out.new) (field_text (signed_decimal n) separator) result }
+    ensures cause { HasCause (O.faults out.old) (O.faults out.new) result }
+{
+    let mut buffer = Buffer::new();
+    put_field(buffer.format(n).as_bytes(), separator, out)
+}
+
+/// A fraction.
+#[tactic(auto, using(crate::proofs::Written::prefix_first, crate::proofs::Written::then_rest), unfolding(crate::specs::Writes::field_text))]
+pub(crate) fn put_fraction<O: Sink>(r: Ratio, separator: u8, out: &mut O) -> Result<(), WriteFault>
+    ensures text { Writes (O.written out.old) (O.written out.new) (field_text (fraction_text r) separator) result }
+    ensures cause { HasCause (O.faults out.old) (O.faults out.new) result }
+{
+    put_ratio(r, out)?;
+    write_all(out, &[separator])
+}
