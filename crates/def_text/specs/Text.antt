@@ -61,8 +61,11 @@ solve_text game settings = cert_text (certificate_of (form_of_file game) (game_o
 abbrev pub quoted : List ℕ → List ℕ
 quoted text = 34 ∷ (escaped text ++ 34 ∷ [])
 
-abbrev pub info_text : GameFile → List ℕ
-info_text game =
+-- the lines before the game's numbers
+abbrev pub info_front : GameFile → List ℕ
+info_front game =
     codes "title " ++ (quoted game.prologue.title ++ (line_feed
-    ++ (codes "players " ++ (quoted game.prologue.one ++ (codes " " ++ (quoted game.prologue.two ++ (line_feed
-    ++ head_text (game_head game no_rounds))))))))
+    ++ (codes "players " ++ (quoted game.prologue.one ++ (codes " " ++ (quoted game.prologue.two ++ line_feed))))))
+
+abbrev pub info_text : GameFile → List ℕ
+info_text game = info_front game ++ head_text (game_head game no_rounds)

@@ -2,3 +2,4 @@ pub mod Saying
 pub mod Solved
 pub mod Ended
 pub mod Worded
+pub mod Texts

@@ -2,6 +2,8 @@
 -- tell.
 use Rattle.std.specs.Prelude.{List, ℕ, string_bytes}
 use Rattle.def_outside.specs.Calls.{FilesCall, SinkCall, MayHaveFailed, HasNoFault, Wrote, WroteFront, IsUntouched}
+use Rattle.def_file.specs.Content.{GameFile}
+use Rattle.def_text.specs.Text.{info_text}
 use Rattle.def_program.specs.Program.{Answer, success, refusal, usage}
 use Rattle.def_program.specs.Meaning.{MeansOnly}
 use Rattle.def_program.specs.Lines.{IsLine}
@@ -49,3 +51,12 @@ Concludes meant files out Usage = IsUsage meant files out
 Concludes meant files out ReadFault = IsUnread files out
 Concludes meant files out WriteFault = IsCut meant files out
 Concludes meant files out NoMemory = IsUntouched out
+
+-- the end of telling of an accepted game: its text was written or cut off, or memory ran out before
+abbrev pub Tells : GameFile → SinkCall → Ending → Type 0
+Tells game out Done = HasNoFault out.faults × Wrote out (info_text game)
+Tells game out WriteFault = MayHaveFailed out.faults × WroteFront out (info_text game)
+Tells game out NoMemory = IsUntouched out
+Tells game out (Refused line) = ⊥
+Tells game out Usage = ⊥
+Tells game out ReadFault = ⊥

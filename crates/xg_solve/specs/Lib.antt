@@ -1,9 +1,9 @@
 pub mod Words
 pub mod Accepted
-pub mod Written
+pub mod Unplayed
 pub mod Loads
 pub mod Settings
 pub mod Endings
 pub mod Concludes
 pub mod Refusal
-pub mod Writes
+pub mod Written

@@ -1,11 +1,8 @@
--- The lines of a game's numbers in one piece.
-use Rattle.std.specs.Prelude.{ℕ, List, ◌++◌, codes}
-use Rattle.std.specs.Fmt.{decimal}
-use Rattle.def_bracket.specs.Outcome.{Head}
+-- The end of a run by whether its text was written.
+use Rattle.std.specs.Prelude.{◌≡◌, Result, Ok, Err}
+use Rattle.xg_solve.specs.declared.ending.Ending.{Ending}
+use Rattle.xg_solve.specs.declared.ending.Ending.TheVariants.{Done, WriteFault}
 
-abbrev pub numbers_written : Head → List ℕ
-numbers_written head =
-    codes "nodes " ++ (decimal head.nodes ++ (codes " leaves " ++ (decimal head.leaves
-    ++ (codes "\nsets " ++ (decimal head.sets_one ++ (codes " " ++ (decimal head.sets_two
-    ++ (codes "\nsequences " ++ (decimal head.sequences_one ++ (codes " " ++ (decimal head.sequences_two
-    ++ (codes "\nunit " ++ (decimal head.unit ++ (codes "\nmass " ++ (decimal head.mass ++ codes "\n")))))))))))))))
+abbrev pub IsEndOf : {T E : Type 0} → Result T E → Ending → Type 0
+IsEndOf (Ok _) ending = ending ≡ Done
+IsEndOf (Err _) ending = ending ≡ WriteFault

@@ -5,20 +5,21 @@ ghost use Rattle.def_outside.specs.Calls.{files_call, sink_call};
 ghost use Rattle.def_command.specs.Command.{Info, Solve, command_of, named_files};
 ghost use Rattle.def_program.specs.Lines.{SaysLine};
 ghost use Rattle.def_program.specs.Meaning.{CommandMeans, EachMeant, EndsWith, Means};
-ghost use Rattle.xg_solve.specs.Concludes.{Concludes};
+ghost use Rattle.xg_solve.specs.Concludes.{Concludes, Tells};
 ghost use Rattle.xg_solve.specs.Endings.{status_of};
 ghost use Rattle.xg_solve.specs.Refusal.{IsRefusal, IsUnloaded};
-ghost use Rattle.xg_solve.specs.Writes.{Writes};
+ghost use Rattle.xg_solve.specs.Written.{IsEndOf};
 
+use crate::accepted::Accepted;
 use crate::ending::Ending;
 use crate::load::{LoadFault, load};
-use crate::text::{fault_line, info_text, solve_text};
+use crate::text::{NO_ROUNDS, fault_line, info_front, write_info, write_solution};
 use crate::words::{Command, Words};
 use std::alloc::Global;
 use std::marker::Sync;
 use std::sync::Wait;
 use std::thread::Threads;
-use xg_io::{Files, Gate, Sink, write_all};
+use xg_io::{Files, Gate, Sink, WriteFault};
 use xg_read::FileFault;
 
 /// Solves the game of a file.
@@ -32,10 +33,7 @@ fn solve<F: Files, O: Sink>(alloc: Global, file: &str, files: &mut F, out: &mut 
         Ok(accepted) => accepted,
         Err(fault) => return unloaded(alloc, fault),
     };
-    let Ok(text) = solve_text(alloc, &accepted) else {
-        return Ending::NoMemory;
-    };
-    written(out, text.as_bytes())
+    ending_of(write_solution(&accepted, out))
 }
 
 /// Tells of the game of a file.
@@ -46,19 +44,26 @@ fn info<F: Files, O: Sink>(alloc: Global, file: &str, files: &mut F, out: &mut O
     ensures command { status_of result ≢ 2 }
 {
     match load(alloc, files, file) {
-        Ok(accepted) => match info_text(alloc, &accepted) {
-            Ok(text) => written(out, &text),
-            Err(_) => Ending::NoMemory,
-        },
+        Ok(accepted) => tell(alloc, &accepted, out),
         Err(fault) => unloaded(alloc, fault),
     }
 }
 
-/// The end of a run that writes this text.
-fn written<O: Sink>(out: &mut O, text: &[u8]) -> Ending
-    ensures { Writes (sink_call O.written O.faults out.old out.new) text.now result }
+/// Tells of an accepted game.
+fn tell<O: Sink>(alloc: Global, accepted: &Accepted, out: &mut O) -> Ending
+    ensures { Tells accepted.now (sink_call O.written O.faults out.old out.new) result }
 {
-    match write_all(out, text) {
+    let Ok(front) = info_front(alloc, accepted.game()) else {
+        return Ending::NoMemory;
+    };
+    ending_of(write_info(&front, &accepted.head(NO_ROUNDS), out))
+}
+
+/// The end of a run whose text was written, or cut off.
+fn ending_of(written: Result<(), WriteFault>) -> Ending
+    ensures { IsEndOf written result }
+{
+    match written {
         Ok(()) => Ending::Done,
         Err(_) => Ending::WriteFault,
     }

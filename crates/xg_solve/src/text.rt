@@ -1,16 +1,20 @@
 //! The texts that are written.
 ghost use Rattle.std.specs.Prelude.{◌≡◌, [], ◌∷◌, ◌++◌, IfOk, OnOk, string_bytes};
+ghost use Rattle.def_outside.specs.Cause.{HasCause};
 ghost use Rattle.def_file_tokens.specs.Texts.{escaped};
-ghost use Rattle.def_cert_text.specs.CertText.{head_text};
-ghost use Rattle.def_text.specs.Text.{info_text, no_rounds, quoted, solve_text};
+ghost use Rattle.def_cert_text.specs.CertText.{first_text, head_text};
+ghost use Rattle.def_text.specs.Text.{info_front, no_rounds, quoted, solve_text};
 ghost use Rattle.def_text.specs.Lines.{fault_line, node_line, number_fault_name};
 ghost use Rattle.xg_cert.specs.Outcome.{head_of};
-ghost use Rattle.xg_solve.specs.Written.{numbers_written};
+ghost use Rattle.xg_cert.specs.Writes.{Writes};
+ghost use Rattle.xg_solve.specs.Unplayed.{unplayed_end};
 
 use crate::accepted::Accepted;
 use std::alloc::{AllocError, Global};
-use xg_cert::Head;
+use xg_cert::{Head, write_head};
 use xg_engine::Settings;
+use xg_game::Game;
+use xg_io::{Sink, WriteFault, write_all};
 use xg_plan::Player;
 use xg_read::{FileFault, NumberFault};
 
@@ -18,60 +22,76 @@ use xg_read::{FileFault, NumberFault};
 const MOST_SCALE: u32 = 1_048_576;
 
 /// No rounds, at the greatest scale.
-const NO_ROUNDS: Settings = Settings {
+pub const NO_ROUNDS: Settings = Settings {
     rounds: 0,
     every: 1,
     scale: MOST_SCALE,
 };
 
-/// The text of a game that is solved in no rounds.
-pub fn solve_text(alloc: Global, accepted: &Accepted) -> Result<String, AllocError>
-    ensures { IfOk result (λ text. string_bytes text ≡ solve_text accepted.now no_rounds) }
+/// Writes the text of a game that is solved in no rounds. After an error a front of it was written.
+pub fn write_solution<O: Sink>(accepted: &Accepted, out: &mut O) -> Result<(), WriteFault>
+    ensures text { Writes (O.written out.old) (O.written out.new) (solve_text accepted.now no_rounds) result }
+    ensures cause { HasCause (O.faults out.old) (O.faults out.new) result }
 {
-    let numbers = numbers_text(alloc, &accepted.head(NO_ROUNDS))?;
-    format!(in alloc; "XGCERT 1\n{numbers}rounds 0 every 1 scale 1048576\nend\n")
+    write_unplayed(&accepted.head(NO_ROUNDS), out)
 }
 
-/// What is told of a game: its title, its players and its numbers.
-pub fn info_text(alloc: Global, accepted: &Accepted) -> Result<Vec<u8>, AllocError>
-    ensures { IfOk result (λ text. text.items ≡ info_text accepted.now) }
+#[tactic(auto, using(xg_cert::proofs::Written::prefix_first, xg_cert::proofs::Written::then_rest))]
+fn write_unplayed<O: Sink>(head: &Head, out: &mut O) -> Result<(), WriteFault>
+    ensures text { Writes (O.written out.old) (O.written out.new)
+        (first_text ++ (head_text (head_of head.now) ++ unplayed_end)) result }
+    ensures cause { HasCause (O.faults out.old) (O.faults out.new) result }
 {
-    let game = accepted.game();
+    write_first(out)?;
+    write_numbers(head, out)
+}
+
+fn write_first<O: Sink>(out: &mut O) -> Result<(), WriteFault>
+    ensures text { Writes (O.written out.old) (O.written out.new) first_text result }
+    ensures cause { HasCause (O.faults out.old) (O.faults out.new) result }
+{
+    write_all(out, b"XGCERT 1\n")
+}
+
+#[tactic(auto, using(xg_cert::proofs::Written::prefix_first, xg_cert::proofs::Written::then_rest))]
+fn write_numbers<O: Sink>(head: &Head, out: &mut O) -> Result<(), WriteFault>
+    ensures text { Writes (O.written out.old) (O.written out.new)
+        (head_text (head_of head.now) ++ unplayed_end) result }
+    ensures cause { HasCause (O.faults out.old) (O.faults out.new) result }
+{
+    write_head(head, out)?;
+    write_all(out, b"rounds 0 every 1 scale 1048576\nend\n")
+}
+
+/// Writes what is told of a game: the lines before its numbers, and these. After an error a front of it was written.
+#[tactic(auto, using(xg_cert::proofs::Written::prefix_first, xg_cert::proofs::Written::then_rest))]
+pub fn write_info<O: Sink>(front: &[u8], head: &Head, out: &mut O) -> Result<(), WriteFault>
+    ensures text { Writes (O.written out.old) (O.written out.new) (front.now ++ head_text (head_of head.now)) result }
+    ensures cause { HasCause (O.faults out.old) (O.faults out.new) result }
+{
+    write_all(out, front)?;
+    write_head(head, out)
+}
+
+/// What is told of a game before its numbers: its title and its players.
+pub fn info_front(alloc: Global, game: &Game) -> Result<Vec<u8>, AllocError>
+    ensures { IfOk result (λ text. text.items ≡ info_front game.now) }
+{
     let mut text = Vec::new(alloc);
-    text.extend_from_slice(b"title ")?;
-    put_quoted(&mut text, game.title())?;
-    text.extend_from_slice(b"\nplayers ")?;
-    put_quoted(&mut text, game.player_name(Player::One))?;
-    text.push(b' ')?;
-    put_quoted(&mut text, game.player_name(Player::Two))?;
+    put_named(&mut text, b"title ", game.title())?;
     text.push(b'\n')?;
-    let numbers = numbers_text(alloc, &accepted.head(NO_ROUNDS))?;
-    text.extend_from_slice(numbers.as_bytes())?;
+    put_named(&mut text, b"players ", game.player_name(Player::One))?;
+    put_named(&mut text, b" ", game.player_name(Player::Two))?;
+    text.push(b'\n')?;
     Ok(text)
 }
 
-/// The lines of a game's numbers.
-fn numbers_text(alloc: Global, head: &Head) -> Result<String, AllocError>
-    ensures { IfOk result (λ text. string_bytes text ≡ head_text (head_of head.now)) }
+/// Puts a word and then a text between quotation marks last.
+fn put_named(out: &mut Vec<u8>, word: &[u8], text: &[u8]) -> Result<(), AllocError>
+    ensures { OnOk result (out.new.items ≡ out.old.items ++ (word.now ++ quoted text.now)) }
 {
-    numbers_written(alloc, head)
-}
-
-fn numbers_written(alloc: Global, head: &Head) -> Result<String, AllocError>
-    ensures { IfOk result (λ text. string_bytes text ≡ numbers_written (head_of head.now)) }
-{
-    let Head {
-        nodes,
-        leaves,
-        sets: (sets_one, sets_two),
-        sequences: (sequences_one, sequences_two),
-        unit,
-        mass,
-        ..
-    } = *head;
-    format!(in alloc;
-        "nodes {nodes} leaves {leaves}\nsets {sets_one} {sets_two}\nsequences {sequences_one} {sequences_two}\nunit {unit}\nmass {mass}\n"
-    )
+    out.extend_from_slice(word)?;
+    put_quoted(out, text)
 }
 
 /// Puts a text between quotation marks last, with a backslash before each mark inside.
@@ -87,6 +107,7 @@ fn put_quoted(out: &mut Vec<u8>, text: &[u8]) -> Result<(), AllocError>
 }
 
 /// Puts a byte of a text last, a quotation mark with a backslash before it.
+#[tactic(auto, unfolding(def_file_tokens::specs::Texts::escaped))]
 fn put_escaped(out: &mut Vec<u8>, byte: u8) -> Result<(), AllocError>
     ensures { OnOk result (out.new.items ≡ out.old.items ++ escaped (byte ∷ [])) }
 {
