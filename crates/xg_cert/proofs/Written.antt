@@ -1,13 +1,15 @@
 -- Texts that are written in pieces.
-use Rattle.std.proofs.Common.{◌≡◌, ℕ, ◌+◌, min, List, [], ◌∷◌, ◌++◌, length, take, Option, Result, Ok, Err, refl, sym, ap, ◌∙◌, subst, append_assoc, arith}
+use Rattle.std.proofs.Common.{◌≡◌, ℕ, zero, suc, ◌+◌, ◌<◌, ◌≤◌, min, List, [], ◌∷◌, ◌++◌, map, length, take, drop, get_or, Option, Result, Ok, Err, refl, sym, ap, ◌∙◌, subst, append_assoc, arith}
+use Rattle.std.specs.Fmt.{decimal}
 use Rattle.std.specs.Io.KnownBytes.{append_known}
 use Rattle.std.proofs.Math.Seq.{take-append-add}
-use Rattle.std.proofs.lemmas.List.{take-append-le, take_min}
+use Rattle.std.proofs.lemmas.List.{append-nil, take-append-le, take_min}
 use Rattle.def_outside.specs.Sinks.{AppendsPrefix}
-use Rattle.xg_io.proofs.Known.{append_known-append}
-use Rattle.def_cert_text.specs.Fields.{FieldKind, Item, field, separator, items_text}
+use Rattle.xg_io.proofs.Known.{append_known-append, append_known-nil}
+use Rattle.def_cert_text.specs.Fields.{space, feed, FieldKind, Item, field, separator, items_text}
 use Rattle.def_cert_text.proofs.FormatLaws.{items_text-append}
 use Rattle.def_bracket.specs.Outcome.{Head}
+use Rattle.def_cert_text.specs.Formats.{Format, text_of, each_items, row_items}
 use Rattle.def_cert_text.specs.CertText.{size_line, sets_line, sequences_line, unit_line, mass_line, head_text}
 use Rattle.xg_cert.specs.Writes.{Writes, field_text, counts_text, units_text}
 
@@ -20,7 +22,8 @@ prefix_first before now xs ys p =
     take-append-le few xs ys (omega arith) ∙ take_min p.count xs in
     record { count = few; appended = p.appended ∙ ap (append_known before) (sym short) }
 
-prefix_then : (before middle now : Option (List ℕ)) (xs ys : List ℕ)
+-- the first piece, and a front of the rest
+pub prefix_then : (before middle now : Option (List ℕ)) (xs ys : List ℕ)
     → middle ≡ append_known before xs → AppendsPrefix middle now ys → AppendsPrefix before now (xs ++ ys)
 prefix_then before middle now xs ys e p = record {
   count = length xs + p.count;
@@ -98,3 +101,108 @@ head-parts head =
     ∙ sym (items_text-append size (sets ++ sequences)) in
     (λ i. counts i ++ sym (items_text-append unit mass) i)
     ∙ sym (items_text-append (size ++ (sets ++ sequences)) (unit ++ mass))
+
+-- ---- loops
+
+-- of a whole text some is written and some is left
+pub record Progress (before now : Option (List ℕ)) (all left : List ℕ) : Type 0 where
+  pub front : List ℕ
+  pub written : now ≡ append_known before front
+  pub parts : front ++ left ≡ all
+
+-- a piece more is written
+pub goes_on : (before middle now : Option (List ℕ)) (all left piece rest : List ℕ)
+    → Progress before middle all left → left ≡ piece ++ rest → now ≡ append_known middle piece → Progress before now all rest
+goes_on before middle now all left piece rest p e w = record {
+  front = p.front ++ piece;
+  written = whole_then before middle now p.front piece p.written w;
+  parts = append_assoc p.front piece rest ∙ ap (λ (ys : List ℕ). p.front ++ ys) (sym e) ∙ p.parts;
+}
+
+-- a piece failed
+pub fails : (before middle now : Option (List ℕ)) (all left piece rest : List ℕ)
+    → Progress before middle all left → left ≡ piece ++ rest → AppendsPrefix middle now piece → AppendsPrefix before now all
+fails before middle now all left piece rest p e w =
+    subst (AppendsPrefix before now) (ap (λ (ys : List ℕ). p.front ++ ys) (sym e) ∙ p.parts)
+    (prefix_then before middle now p.front (piece ++ rest) p.written (prefix_first middle now piece rest w))
+
+-- nothing is left
+pub finished : (before now : Option (List ℕ)) (all : List ℕ) → Progress before now all [] → now ≡ append_known before all
+finished before now all p = p.written ∙ ap (append_known before) (sym (append-nil p.front) ∙ p.parts)
+
+-- the last piece, written or not
+pub finishes : {T E : Type 0} (before middle now : Option (List ℕ)) (all left : List ℕ) (r : Result T E)
+    → Progress before middle all left → Writes middle now left r → Writes before now all r
+finishes before middle now all left (Ok x) p w =
+    whole_then before middle now p.front left p.written w ∙ ap (append_known before) p.parts
+finishes before middle now all left (Err x) p w =
+    subst (AppendsPrefix before now) p.parts (prefix_then before middle now p.front left p.written w)
+
+-- nothing is written yet
+pub begin : (known : Option (List ℕ)) (all : List ℕ) → Progress known known all all
+begin known all = record { front = []; written = sym (append_known-nil known); parts = refl }
+
+drop_next : {A : Type 0} (xs : List A) (i : ℕ) (d : A) → i < length xs → drop i xs ≡ get_or xs i d ∷ drop (i + 1) xs
+drop_next [] i d lt = absurd (omega arith)
+drop_next (x ∷ xs) zero d lt = refl
+drop_next (x ∷ xs) (suc i) d lt = let e : suc i + 1 ≡ suc (i + 1) = omega arith in rw e (drop_next xs i d (omega arith))
+
+each_left : {A : Type 0} (f : ℕ → Format A) (k : ℕ) (xs : List A) (i : ℕ) (d : A) → i < length xs
+    → items_text (each_items f k (drop i xs)) ≡ text_of (f k) (get_or xs i d) ++ items_text (each_items f (k + 1) (drop (i + 1) xs))
+unfolding each_items
+each_left f k xs i d lt =
+    ap (λ ys. items_text (each_items f k ys)) (drop_next xs i d lt)
+    ∙ items_text-append ((f k).items (get_or xs i d)) (each_items f (k + 1) (drop (i + 1) xs))
+
+each_all : {A : Type 0} (f : ℕ → Format A) (k : ℕ) (xs : List A) (i : ℕ) → length xs ≤ i → items_text (each_items f k (drop i xs)) ≡ []
+unfolding each_items items_text
+each_all f k [] zero le = refl
+each_all f k [] (suc i) le = refl
+each_all f k (x ∷ xs) zero le = absurd (omega arith)
+each_all f k (x ∷ xs) (suc i) le = each_all f k xs i (omega arith)
+
+-- one value of many is written
+pub each_step : {A : Type 0} (f : ℕ → Format A) (before middle now : Option (List ℕ)) (xs : List A) (i : ℕ) (d : A) → i < length xs
+    → Progress before middle (items_text (each_items f 1 xs)) (items_text (each_items f (i + 1) (drop i xs)))
+    → now ≡ append_known middle (text_of (f (i + 1)) (get_or xs i d))
+    → Progress before now (items_text (each_items f 1 xs)) (items_text (each_items f (i + 1 + 1) (drop (i + 1) xs)))
+each_step f before middle now xs i d lt p w =
+    goes_on before middle now (items_text (each_items f 1 xs)) _ (text_of (f (i + 1)) (get_or xs i d)) _ p (each_left f (i + 1) xs i d lt) w
+
+-- one value of many failed
+pub each_fail : {A : Type 0} (f : ℕ → Format A) (before middle now : Option (List ℕ)) (xs : List A) (i : ℕ) (d : A) → i < length xs
+    → Progress before middle (items_text (each_items f 1 xs)) (items_text (each_items f (i + 1) (drop i xs)))
+    → AppendsPrefix middle now (text_of (f (i + 1)) (get_or xs i d)) → AppendsPrefix before now (items_text (each_items f 1 xs))
+each_fail f before middle now xs i d lt p w =
+    fails before middle now (items_text (each_items f 1 xs)) _ (text_of (f (i + 1)) (get_or xs i d)) _ p (each_left f (i + 1) xs i d lt) w
+
+-- all of many are written
+pub each_end : {A : Type 0} (f : ℕ → Format A) (before now : Option (List ℕ)) (xs : List A) (i : ℕ) → length xs ≤ i
+    → Progress before now (items_text (each_items f 1 xs)) (items_text (each_items f (i + 1) (drop i xs)))
+    → now ≡ append_known before (items_text (each_items f 1 xs))
+each_end f before now xs i le p =
+    finished before now (items_text (each_items f 1 xs))
+    (subst (Progress before now (items_text (each_items f 1 xs))) (each_all f (i + 1) xs i le) p)
+
+-- reading a mapped list
+pub get_or-map : {A B : Type 0} (f : A → B) (xs : List A) (i : ℕ) (d : A) → get_or (map f xs) i (f d) ≡ f (get_or xs i d)
+get_or-map f [] i d = refl
+get_or-map f (x ∷ xs) zero d = refl
+get_or-map f (x ∷ xs) (suc i) d = get_or-map f xs i d
+
+-- the numbers of a line from a place on, and the last
+pub row_left : (ns : List ℕ) (i d : ℕ) → i + 1 < length ns
+    → items_text (row_items (drop i ns)) ≡ field_text (decimal (get_or ns i d)) space ++ items_text (row_items (drop (i + 1) ns))
+unfolding items_text field_text
+row_left [] i d lt = absurd (omega arith)
+row_left (n ∷ []) i d lt = absurd (omega arith)
+row_left (n ∷ m ∷ ns) zero d lt = sym (append_assoc (decimal n) (space ∷ []) (items_text (row_items (m ∷ ns))))
+row_left (n ∷ m ∷ ns) (suc i) d lt = let e : suc i + 1 ≡ suc (i + 1) = omega arith in rw e (row_left (m ∷ ns) i d (omega arith))
+
+pub row_last : (ns : List ℕ) (i d : ℕ) → i + 1 ≡ length ns → items_text (row_items (drop i ns)) ≡ field_text (decimal (get_or ns i d)) feed
+unfolding items_text field_text
+row_last [] i d e = absurd (omega arith)
+row_last (n ∷ []) zero d e = refl
+row_last (n ∷ []) (suc i) d e = absurd (omega arith)
+row_last (n ∷ m ∷ ns) zero d e = absurd (omega arith)
+row_last (n ∷ m ∷ ns) (suc i) d e = row_last (m ∷ ns) i d (omega arith)

@@ -1,0 +1,111 @@
+//! Further lines of the text that have a field for each number.
+ghost use Rattle.std.specs.Prelude.{◌≡◌, [], ◌∷◌, codes};
+ghost use Rattle.std.specs.Fmt.{decimal, signed_decimal};
+ghost use Rattle.def_outside.specs.Cause.{HasCause};
+ghost use Rattle.def_cert_text.specs.Fields.{space, feed, fixed_word, number, field, separator, items_text};
+ghost use Rattle.def_cert_text.specs.Formats.{text_of};
+ghost use Rattle.def_cert_text.specs.CertText.{asked_text, bracket_line, last_text, line_of_round, value_line};
+ghost use Rattle.xg_cert.specs.Outcome.{head_of, line_of};
+ghost use Rattle.xg_cert.specs.Writable.{opening};
+ghost use Rattle.xg_cert.specs.Writes.{Writes};
+
+use crate::fields::{put_field, put_fraction, put_signed, put_whole};
+use crate::head::Head;
+use crate::lines::put_named;
+use crate::outcome::TraceRow;
+use xg_frac::Ratio;
+use xg_io::{Sink, WriteFault, write_all};
+
+#[tactic(auto, unfolding(crate::specs::Writable::opening))]
+pub(crate) fn put_first_line<O: Sink>(out: &mut O) -> Result<(), WriteFault>
+    ensures text { Writes (O.written out.old) (O.written out.new) opening result }
+    ensures cause { HasCause (O.faults out.old) (O.faults out.new) result }
+{
+    write_all(out, b"XGCERT 1\n")
+}
+
+pub(crate) fn put_last_line<O: Sink>(out: &mut O) -> Result<(), WriteFault>
+    ensures text { Writes (O.written out.old) (O.written out.new) last_text result }
+    ensures cause { HasCause (O.faults out.old) (O.faults out.new) result }
+{
+    write_all(out, b"end\n")
+}
+
+/// What was asked.
+#[tactic(auto, using(crate::proofs::Written::first_two, crate::proofs::Written::then_two))]
+pub(crate) fn put_asked<O: Sink>(head: &Head, out: &mut O) -> Result<(), WriteFault>
+    ensures text { Writes (O.written out.old) (O.written out.new) (asked_text (head_of head.now)) result }
+    ensures cause { HasCause (O.faults out.old) (O.faults out.new) result }
+{
+    put_named(b"rounds", head.rounds as u64, b' ', out)?;
+    put_steps(head.every, head.scale, out)
+}
+
+/// After how many rounds each evaluation comes, and the scale of a round's plans.
+#[tactic(auto, using(crate::proofs::Written::first_two, crate::proofs::Written::then_two))]
+fn put_steps<O: Sink>(every: u32, scale: u32, out: &mut O) -> Result<(), WriteFault>
+    ensures text { Writes (O.written out.old) (O.written out.new)
+        (items_text (field fixed_word (codes "every") ∷ separator space ∷ field number (decimal every) ∷ separator space
+        ∷ field fixed_word (codes "scale") ∷ separator space ∷ field number (decimal scale) ∷ separator feed ∷ [])) result }
+    ensures cause { HasCause (O.faults out.old) (O.faults out.new) result }
+{
+    put_named(b"every", every as u64, b' ', out)?;
+    put_named(b"scale", scale as u64, b'\n', out)
+}
+
+#[tactic(auto, using(crate::proofs::Written::first_two, crate::proofs::Written::then_two))]
+pub(crate) fn put_trace_line<O: Sink>(row: &TraceRow, out: &mut O) -> Result<(), WriteFault>
+    ensures text { Writes (O.written out.old) (O.written out.new) (text_of (line_of_round 1) (line_of row.now)) result }
+    ensures cause { HasCause (O.faults out.old) (O.faults out.new) result }
+{
+    put_named(b"trace", row.round as u64, b' ', out)?;
+    put_traced_ends(row, out)
+}
+
+/// Both ends.
+#[tactic(auto, using(crate::proofs::Written::first_two, crate::proofs::Written::then_two))]
+fn put_traced_ends<O: Sink>(row: &TraceRow, out: &mut O) -> Result<(), WriteFault>
+    ensures text { Writes (O.written out.old) (O.written out.new)
+        (items_text (field number (decimal row.now.low_round) ∷ separator space ∷ field number (signed_decimal row.now.low) ∷ separator space
+        ∷ field number (decimal row.now.high_round) ∷ separator space ∷ field number (signed_decimal row.now.high) ∷ separator feed ∷ [])) result }
+    ensures cause { HasCause (O.faults out.old) (O.faults out.new) result }
+{
+    put_traced(row.low_round, row.low, b' ', out)?;
+    put_traced(row.high_round, row.high, b'\n', out)
+}
+
+/// An end and the round that it comes from.
+#[tactic(auto, using(crate::proofs::Written::first_field, crate::proofs::Written::then_field, crate::proofs::Written::last_field))]
+fn put_traced<O: Sink>(round: u32, total: i128, end: u8, out: &mut O) -> Result<(), WriteFault>
+    ensures text { Writes (O.written out.old) (O.written out.new)
+        (items_text (field number (decimal round) ∷ separator space ∷ field number (signed_decimal total) ∷ separator end ∷ [])) result }
+    ensures cause { HasCause (O.faults out.old) (O.faults out.new) result }
+{
+    put_whole(round as u64, b' ', out)?;
+    put_signed(total, end, out)
+}
+
+#[tactic(auto, using(crate::proofs::Written::first_two, crate::proofs::Written::then_two, crate::proofs::Written::first_field, crate::proofs::Written::then_field, crate::proofs::Written::last_field))]
+pub(crate) fn put_value_line<O: Sink>(
+    set: u32,
+    value: i128,
+    choice: u32,
+    out: &mut O,
+) -> Result<(), WriteFault>
+    ensures text { Writes (O.written out.old) (O.written out.new) (text_of (value_line set) (record { value = value; choice = choice })) result }
+    ensures cause { HasCause (O.faults out.old) (O.faults out.new) result }
+{
+    put_named(b"value", set as u64, b' ', out)?;
+    put_signed(value, b' ', out)?;
+    put_whole(choice as u64, b'\n', out)
+}
+
+#[tactic(auto, using(crate::proofs::Written::first_field, crate::proofs::Written::then_field, crate::proofs::Written::last_field))]
+pub(crate) fn put_bracket<O: Sink>(low: Ratio, high: Ratio, out: &mut O) -> Result<(), WriteFault>
+    ensures text { Writes (O.written out.old) (O.written out.new) (text_of bracket_line (low, high)) result }
+    ensures cause { HasCause (O.faults out.old) (O.faults out.new) result }
+{
+    put_field(b"bracket", b' ', out)?;
+    put_fraction(low, b' ', out)?;
+    put_fraction(high, b'\n', out)
+}
