@@ -31,7 +31,8 @@ pass_take zero bs h = refl
 pass_take (suc n) [] h = refl
 pass_take (suc n) (b ∷ bs) h = let q = and_parts (is_field_byte b) (all_pass is_field_byte bs) h in and_from (is_field_byte b) (all_pass is_field_byte (take n bs)) q.0 (pass_take n bs q.1)
 
-within_first : (item : Item) (items : List Item) (n : ℕ) → is_clean item ≡ true → n < length (item_bytes item) → IsCut (item ∷ items) n
+within_first : (item : Item) (items : List Item) (n : ℕ) → is_clean item ≡ true → n < length (item_bytes item)
+    → IsCut (item ∷ items) n
 unfolding items_text
 within_first (field kind bytes) items n clean low = record {
   front = [];
@@ -81,7 +82,8 @@ cut_at (item ∷ items) n clean low =
     })
     where_is
 
-cut_fault : (c : Certificate) (n : ℕ) → whole_certificate.fits c ≡ true → IsCut (whole_certificate.items c) n → HasFirstFault whole_certificate (length (take n (cert_text c))) (take n (cert_text c)) CertShort
+cut_fault : (c : Certificate) (n : ℕ) → whole_certificate.fits c ≡ true → IsCut (whole_certificate.items c) n
+    → HasFirstFault whole_certificate (length (take n (cert_text c))) (take n (cert_text c)) CertShort
 cut_fault c n fits cut = record {
   items = cut.front;
   place = place_of_item cut.item;

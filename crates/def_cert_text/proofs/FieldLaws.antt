@@ -25,7 +25,8 @@ use Rattle.def_cert_text.specs.Numbers.{leads_no_zero, whole_in, negative_of, in
 use Rattle.def_cert_text.specs.Formats.{is_lowest_within}
 
 -- ---- results
-pub bind_ok : {A B : Type 0} (r : Result A CertFault) (f : A → Result B CertFault) (y : B) → (r >>= f) ≡ Ok y → (x : A) × (r ≡ Ok x) × (f x ≡ Ok y)
+pub bind_ok : {A B : Type 0} (r : Result A CertFault) (f : A → Result B CertFault) (y : B) → (r >>= f) ≡ Ok y
+    → (x : A) × (r ≡ Ok x) × (f x ≡ Ok y)
 bind_ok (Ok x) f y e = (x, refl, e)
 bind_ok (Err d) f y e = absurd cc
 
@@ -40,20 +41,24 @@ abbrev pub all_pass : (ℕ → Bool) → List ℕ → Bool
 all_pass p [] = true
 all_pass p (b ∷ bs) = p b && all_pass p bs
 
-pub pass_append : (p : ℕ → Bool) (xs ys : List ℕ) → all_pass p xs ≡ true → all_pass p ys ≡ true → all_pass p (xs ++ ys) ≡ true
+pub pass_append : (p : ℕ → Bool) (xs ys : List ℕ) → all_pass p xs ≡ true → all_pass p ys ≡ true
+    → all_pass p (xs ++ ys) ≡ true
 pass_append p [] ys h k = k
 pass_append p (x ∷ xs) ys h k = let q = and_parts (p x) (all_pass p xs) h in and_from (p x) (all_pass p (xs ++ ys)) q.0 (pass_append p xs ys q.1 k)
 
-run : (p : ℕ → Bool) (front : List ℕ) (b : ℕ) (left : List ℕ) → all_pass p front ≡ true → p b ≡ false → prefix_len p (front ++ b ∷ left) ≡ length front
+run : (p : ℕ → Bool) (front : List ℕ) (b : ℕ) (left : List ℕ) → all_pass p front ≡ true → p b ≡ false
+    → prefix_len p (front ++ b ∷ left) ≡ length front
 run p [] b left h s = rw s refl
 run p (x ∷ xs) b left h s =
     let q = and_parts (p x) (all_pass p xs) h in
     ap (λ t. cond t (1 + prefix_len p (xs ++ b ∷ left)) 0) q.0 ∙ ap (λ n. 1 + n) (run p xs b left q.1 s) ∙ omega arith
 
-pub front_is : (p : ℕ → Bool) (front : List ℕ) (b : ℕ) (left : List ℕ) → all_pass p front ≡ true → p b ≡ false → take (prefix_len p (front ++ b ∷ left)) (front ++ b ∷ left) ≡ front
+pub front_is : (p : ℕ → Bool) (front : List ℕ) (b : ℕ) (left : List ℕ) → all_pass p front ≡ true → p b ≡ false
+    → take (prefix_len p (front ++ b ∷ left)) (front ++ b ∷ left) ≡ front
 front_is p front b left h s = ap (λ n. take n (front ++ b ∷ left)) (run p front b left h s) ∙ take_at front (b ∷ left) (length front) refl
 
-pub behind_is : (p : ℕ → Bool) (front : List ℕ) (b : ℕ) (left : List ℕ) → all_pass p front ≡ true → p b ≡ false → drop (prefix_len p (front ++ b ∷ left)) (front ++ b ∷ left) ≡ b ∷ left
+pub behind_is : (p : ℕ → Bool) (front : List ℕ) (b : ℕ) (left : List ℕ) → all_pass p front ≡ true → p b ≡ false
+    → drop (prefix_len p (front ++ b ∷ left)) (front ++ b ∷ left) ≡ b ∷ left
 behind_is p front b left h s = ap (λ n. drop n (front ++ b ∷ left)) (run p front b left h s) ∙ drop_at front (b ∷ left) (length front) refl
 
 run_all : (p : ℕ → Bool) (front : List ℕ) → all_pass p front ≡ true → prefix_len p front ≡ length front
@@ -68,11 +73,14 @@ front_all p front h = ap (λ n. take n front) (run_all p front h) ∙ ap (λ (xs
 pub behind_all : (p : ℕ → Bool) (front : List ℕ) → all_pass p front ≡ true → drop (prefix_len p front) front ≡ []
 behind_all p front h = ap (λ n. drop n front) (run_all p front h) ∙ ap (λ (xs : List ℕ). drop (length front) xs) (sym (append-nil front)) ∙ drop_at front [] (length front) refl
 
-pub parted : (p : ℕ → Bool) (bytes : List ℕ) → take (prefix_len p bytes) bytes ++ drop (prefix_len p bytes) bytes ≡ bytes
+pub parted : (p : ℕ → Bool) (bytes : List ℕ)
+    → take (prefix_len p bytes) bytes ++ drop (prefix_len p bytes) bytes ≡ bytes
 parted p bytes = take-append-drop (prefix_len p bytes) bytes
 
 -- the byte behind the front fails it
-stops_at : (p : ℕ → Bool) (x : ℕ) (xs : List ℕ) (b : ℕ) (more : List ℕ) (t : Bool) → (drop (prefix_len p xs) xs ≡ b ∷ more → p b ≡ false) → p x ≡ t → drop (cond (p x) (1 + prefix_len p xs) 0) (x ∷ xs) ≡ b ∷ more → p b ≡ false
+stops_at : (p : ℕ → Bool) (x : ℕ) (xs : List ℕ) (b : ℕ) (more : List ℕ) (t : Bool)
+    → (drop (prefix_len p xs) xs ≡ b ∷ more → p b ≡ false) → p x ≡ t
+    → drop (cond (p x) (1 + prefix_len p xs) 0) (x ∷ xs) ≡ b ∷ more → p b ≡ false
 stops_at p x xs b more true later h e =
     let one : 1 + prefix_len p xs ≡ suc (prefix_len p xs) = omega arith in
     later (sym (ap (λ t. drop (cond t (1 + prefix_len p xs) 0) (x ∷ xs)) h ∙ ap (λ n. drop n (x ∷ xs)) one) ∙ e)
@@ -81,7 +89,8 @@ stops_at p x xs b more false later h e =
     let same : x ≡ b = cc in
     subst (λ y. p y ≡ false) same h
 
-pub stops : (p : ℕ → Bool) (bytes : List ℕ) (b : ℕ) (more : List ℕ) → drop (prefix_len p bytes) bytes ≡ b ∷ more → p b ≡ false
+pub stops : (p : ℕ → Bool) (bytes : List ℕ) (b : ℕ) (more : List ℕ) → drop (prefix_len p bytes) bytes ≡ b ∷ more
+    → p b ≡ false
 stops p [] b more e = absurd cc
 stops p (x ∷ xs) b more e = stops_at p x xs b more (p x) (stops p xs b more) refl e
 
@@ -92,8 +101,10 @@ rest_of unfit sep total o r = cond (is_empty r) (Err CertShort) (if_fit unfit se
 abbrev pub sep_of : {A : Type 0} → ℕ → A → ℕ → List ℕ → Bool → Result (A × List ℕ) CertFault
 sep_of total x b left t = cond t (Ok (x, left)) (Err (CertSyntax (total - length (b ∷ left))))
 
-pub field_again : {A : Type 0} (kind : FieldKind) (test : List ℕ → Option A) (sep total : ℕ) (bytes left : List ℕ) (x : A)
-    → all_pass is_field_byte bytes ≡ true → is_field_byte sep ≡ false → test bytes ≡ Some x → read_field kind test sep total ((bytes ++ sep ∷ []) ++ left) ≡ Ok (x, left)
+pub field_again : {A : Type 0} (kind : FieldKind) (test : List ℕ → Option A) (sep total : ℕ) (bytes left : List ℕ)
+    (x : A)
+    → all_pass is_field_byte bytes ≡ true → is_field_byte sep ≡ false → test bytes ≡ Some x
+    → read_field kind test sep total ((bytes ++ sep ∷ []) ++ left) ≡ Ok (x, left)
 unfolding read_field
 field_again {A = A} kind test sep total bytes left x h s t =
     let whole : (bytes ++ sep ∷ []) ++ left ≡ bytes ++ sep ∷ left = append_assoc bytes (sep ∷ []) left in
@@ -104,7 +115,8 @@ field_again {A = A} kind test sep total bytes left x h s t =
     ∙ ap (λ (o : Option A). rest_of unfit sep total o (sep ∷ left)) t
     ∙ ap (sep_of total x sep left) (eq-eqb sep sep refl)
 
-only_sep : {A : Type 0} (sep total : ℕ) (y : A) (b : ℕ) (more : List ℕ) (x : A) (left : List ℕ) (t : Bool) → eqb b sep ≡ t
+only_sep : {A : Type 0} (sep total : ℕ) (y : A) (b : ℕ) (more : List ℕ) (x : A) (left : List ℕ) (t : Bool)
+    → eqb b sep ≡ t
     → sep_of total y b more (eqb b sep) ≡ Ok (x, left) → (Some y ≡ Some x) × (b ∷ more ≡ sep ∷ left)
 only_sep sep total y b more x left true h e =
     let f = ok_is (y, more) (x, left) (sym (ap (sep_of total y b more) h) ∙ e) in
@@ -114,12 +126,14 @@ only_sep sep total y b more x left true h e =
     (ap Some first, λ i. third i ∷ second i)
 only_sep sep total y b more x left false h e = absurd (let bad = sym (ap (sep_of total y b more) h) ∙ e in cc)
 
-only_some : {A : Type 0} (unfit : CertFault) (sep total : ℕ) (o : Option A) (r : List ℕ) (x : A) (left : List ℕ) → rest_of unfit sep total o r ≡ Ok (x, left) → (o ≡ Some x) × (r ≡ sep ∷ left)
+only_some : {A : Type 0} (unfit : CertFault) (sep total : ℕ) (o : Option A) (r : List ℕ) (x : A) (left : List ℕ)
+    → rest_of unfit sep total o r ≡ Ok (x, left) → (o ≡ Some x) × (r ≡ sep ∷ left)
 only_some unfit sep total o [] x left e = absurd cc
 only_some unfit sep total None (b ∷ more) x left e = absurd cc
 only_some unfit sep total (Some y) (b ∷ more) x left e = only_sep sep total y b more x left (eqb b sep) refl e
 
-pub field_only : {A : Type 0} (kind : FieldKind) (test : List ℕ → Option A) (sep total : ℕ) (bytes : List ℕ) (x : A) (left : List ℕ) → read_field kind test sep total bytes ≡ Ok (x, left)
+pub field_only : {A : Type 0} (kind : FieldKind) (test : List ℕ → Option A) (sep total : ℕ) (bytes : List ℕ) (x : A)
+    (left : List ℕ) → read_field kind test sep total bytes ≡ Ok (x, left)
     → (front : List ℕ) × (test front ≡ Some x) × (bytes ≡ (front ++ sep ∷ []) ++ left)
 unfolding read_field
 field_only kind test sep total bytes x left e =
@@ -154,12 +168,14 @@ digit_no_slash d h =
     let a : eqb d 47 ≡ false = ne_eqb d 47 (λ e. omega arith) in
     rw a refl
 
-digits_pass : (p : ℕ → Bool) → ((d : ℕ) → is_ascii_digit d ≡ true → p d ≡ true) → (ds : List ℕ) → all_ascii_digits ds ≡ true → all_pass p ds ≡ true
+digits_pass : (p : ℕ → Bool) → ((d : ℕ) → is_ascii_digit d ≡ true → p d ≡ true) → (ds : List ℕ)
+    → all_ascii_digits ds ≡ true → all_pass p ds ≡ true
 digits_pass p each [] h = refl
 digits_pass p each (d ∷ ds) h = let q = and_parts (is_ascii_digit d) (all_ascii_digits ds) h in and_from (p d) (all_pass p ds) (each d q.0) (digits_pass p each ds q.1)
 
 -- digits behind a number
-value_behind : (n : ℕ) (cs : List ℕ) → 0 < n → all_ascii_digits cs ≡ true → n * 10 ^ length cs + number_of cs < 10 ^ 64 → decimal (n * 10 ^ length cs + number_of cs) ≡ decimal n ++ cs
+value_behind : (n : ℕ) (cs : List ℕ) → 0 < n → all_ascii_digits cs ≡ true → n * 10 ^ length cs + number_of cs < 10 ^ 64
+    → decimal (n * 10 ^ length cs + number_of cs) ≡ decimal n ++ cs
 value_behind n [] some d small = let e : n * 1 + 0 ≡ n = omega arith in ap decimal e ∙ sym (append-nil (decimal n))
 value_behind n (c ∷ cs) some d small =
     let p = and_parts (is_ascii_digit c) (all_ascii_digits cs) d in
@@ -177,7 +193,8 @@ value_behind n (c ∷ cs) some d small =
     ∙ append_assoc (decimal n) (c ∷ []) cs
 
 -- digits without a leading zero are the decimal text of their number
-pub plain_decimal : (ds : List ℕ) → is_numeral ds ≡ true → leads_no_zero ds ≡ true → number_of ds < 10 ^ 64 → decimal (number_of ds) ≡ ds
+pub plain_decimal : (ds : List ℕ) → is_numeral ds ≡ true → leads_no_zero ds ≡ true → number_of ds < 10 ^ 64
+    → decimal (number_of ds) ≡ ds
 plain_decimal [] h plain small = absurd cc
 plain_decimal (d ∷ []) h plain small =
     let p = and_parts (is_ascii_digit d && true) _ h in
@@ -221,7 +238,8 @@ some_if : (b : Bool) (m n : ℕ) → cond b (Some m) None ≡ Some n → (b ≡ 
 some_if true m n e = (refl, cc)
 some_if false m n e = absurd cc
 
-pub whole_only : (low high n : ℕ) (bytes : List ℕ) → high ≤ 2 ^ 127 → whole_in low high bytes ≡ Some n → (low ≤ n) × (n ≤ high) × (bytes ≡ decimal n)
+pub whole_only : (low high n : ℕ) (bytes : List ℕ) → high ≤ 2 ^ 127 → whole_in low high bytes ≡ Some n
+    → (low ≤ n) × (n ≤ high) × (bytes ≡ decimal n)
 unfolding whole_in
 whole_only low high n bytes small e =
     let v = number_of bytes in
@@ -233,14 +251,16 @@ whole_only low high n bytes small e =
     let h = leb-true v high c.1 in
     (omega (arith, p.1), omega (arith, p.1), sym (ap decimal (sym p.1) ∙ plain_decimal bytes a.0 b.0 (omega arith)))
 
-decimal_pass : (p : ℕ → Bool) → ((d : ℕ) → is_ascii_digit d ≡ true → p d ≡ true) → (n : ℕ) → n ≤ 2 ^ 127 → all_pass p (decimal n) ≡ true
+decimal_pass : (p : ℕ → Bool) → ((d : ℕ) → is_ascii_digit d ≡ true → p d ≡ true) → (n : ℕ) → n ≤ 2 ^ 127
+    → all_pass p (decimal n) ≡ true
 decimal_pass p each n small = digits_pass p each (decimal n) (and_parts (all_ascii_digits (decimal n)) _ (decimal_is n small).numeral).0
 
 pub decimal_inside : (n : ℕ) → n ≤ 2 ^ 127 → all_pass is_field_byte (decimal n) ≡ true
 decimal_inside n small = decimal_pass is_field_byte digit_inside n small
 
 -- ---- whole numbers with a sign
-none_map : {A B : Type 0} (f : A → B) (o : Option A) (y : B) → option_map f o ≡ Some y → (x : A) × (o ≡ Some x) × (f x ≡ y)
+none_map : {A B : Type 0} (f : A → B) (o : Option A) (y : B) → option_map f o ≡ Some y
+    → (x : A) × (o ≡ Some x) × (f x ≡ y)
 none_map f (Some x) y e = (x, refl, cc)
 none_map f None y e = absurd cc
 
@@ -257,7 +277,8 @@ first_digit n b ds small e z =
 abbrev by_minus : ℕ → ℕ → List ℕ → Bool → Option ℤ
 by_minus most b ds t = cond t (option_map negative_of (whole_in 1 most ds)) (option_map (λ (m : ℕ). pos m) (whole_in 0 most (b ∷ ds)))
 
-not_minus : (most n : ℕ) (bytes : List ℕ) → decimal n ≡ bytes → most ≤ 2 ^ 126 → n ≤ most → integer_in most bytes ≡ Some (pos n)
+not_minus : (most n : ℕ) (bytes : List ℕ) → decimal n ≡ bytes → most ≤ 2 ^ 126 → n ≤ most
+    → integer_in most bytes ≡ Some (pos n)
 unfolding integer_in
 not_minus most n [] e small h = absurd (some_digit n (omega arith) e)
 not_minus most n (b ∷ ds) e small h =
@@ -265,7 +286,8 @@ not_minus most n (b ∷ ds) e small h =
     let other : eqb b 45 ≡ false = ne_eqb b 45 (λ z. first_digit n b ds (omega arith) e z) in
     ap (by_minus most b ds) other ∙ ap (option_map (λ (m : ℕ). pos m)) here
 
-pub integer_again : (most : ℕ) (n : ℤ) → most ≤ 2 ^ 126 → unsigned_abs n ≤ most → integer_in most (signed_decimal n) ≡ Some n
+pub integer_again : (most : ℕ) (n : ℤ) → most ≤ 2 ^ 126 → unsigned_abs n ≤ most
+    → integer_in most (signed_decimal n) ≡ Some n
 unfolding integer_in
 integer_again most (pos n) small h = not_minus most n (decimal n) refl small h
 integer_again most (negsuc n) small h = ap (option_map negative_of) (whole_again 1 most (suc n) (omega arith) (omega arith) h)
@@ -274,7 +296,8 @@ negative_is : (m : ℕ) (n : ℤ) → 1 ≤ m → negative_of m ≡ n → n ≡ 
 negative_is zero n h e = absurd (omega arith)
 negative_is (suc m) n h e = sym e ∙ ap negsuc (omega arith)
 
-integer_only_by : (most : ℕ) (n : ℤ) (b : ℕ) (ds : List ℕ) (t : Bool) → most ≤ 2 ^ 126 → eqb b 45 ≡ t → by_minus most b ds (eqb b 45) ≡ Some n → (unsigned_abs n ≤ most) × (b ∷ ds ≡ signed_decimal n)
+integer_only_by : (most : ℕ) (n : ℤ) (b : ℕ) (ds : List ℕ) (t : Bool) → most ≤ 2 ^ 126 → eqb b 45 ≡ t
+    → by_minus most b ds (eqb b 45) ≡ Some n → (unsigned_abs n ≤ most) × (b ∷ ds ≡ signed_decimal n)
 integer_only_by most n b ds true small h e =
     let here = sym (ap (by_minus most b ds) h) ∙ e in
     let p = none_map negative_of (whole_in 1 most ds) n here in
@@ -290,12 +313,14 @@ integer_only_by most n b ds false small h e =
     let q = whole_only 0 most p.0 (b ∷ ds) (omega arith) p.1 in
     subst (λ (z : ℤ). (unsigned_abs z ≤ most) × (b ∷ ds ≡ signed_decimal z)) p.2 (q.1, q.2)
 
-pub integer_only : (most : ℕ) (n : ℤ) (bytes : List ℕ) → most ≤ 2 ^ 126 → integer_in most bytes ≡ Some n → (unsigned_abs n ≤ most) × (bytes ≡ signed_decimal n)
+pub integer_only : (most : ℕ) (n : ℤ) (bytes : List ℕ) → most ≤ 2 ^ 126 → integer_in most bytes ≡ Some n
+    → (unsigned_abs n ≤ most) × (bytes ≡ signed_decimal n)
 unfolding integer_in
 integer_only most n [] small e = absurd cc
 integer_only most n (b ∷ ds) small e = integer_only_by most n b ds (eqb b 45) small refl e
 
-integer_pass : (p : ℕ → Bool) → ((d : ℕ) → is_ascii_digit d ≡ true → p d ≡ true) → p 45 ≡ true → (n : ℤ) → unsigned_abs n ≤ 2 ^ 127 → all_pass p (signed_decimal n) ≡ true
+integer_pass : (p : ℕ → Bool) → ((d : ℕ) → is_ascii_digit d ≡ true → p d ≡ true) → p 45 ≡ true → (n : ℤ)
+    → unsigned_abs n ≤ 2 ^ 127 → all_pass p (signed_decimal n) ≡ true
 integer_pass p each sign (pos n) h = decimal_pass p each n h
 integer_pass p each sign (negsuc n) h = and_from (p 45) (all_pass p (decimal (suc n))) sign (decimal_pass p each (suc n) h)
 
@@ -325,17 +350,21 @@ lowest_from most f is =
 abbrev text_by : Fraction → Bool → List ℕ
 text_by f one = cond one (signed_decimal f.num) (signed_decimal f.num ++ slash ∷ decimal f.den)
 
-fraction_inside_by : (most : ℕ) (f : Fraction) (one : Bool) → most ≤ 2 ^ 126 → IsLowestWithin most f → all_pass is_field_byte (text_by f one) ≡ true
+fraction_inside_by : (most : ℕ) (f : Fraction) (one : Bool) → most ≤ 2 ^ 126 → IsLowestWithin most f
+    → all_pass is_field_byte (text_by f one) ≡ true
 fraction_inside_by most f true small is = integer_inside f.num (omega (arith, is.num))
 fraction_inside_by most f false small is = pass_append is_field_byte (signed_decimal f.num) (slash ∷ decimal f.den) (integer_inside f.num (omega (arith, is.num))) (decimal_inside f.den (omega (arith, is.den)))
 
-pub fraction_inside : (most : ℕ) (f : Fraction) → most ≤ 2 ^ 126 → IsLowestWithin most f → all_pass is_field_byte (fraction_text f) ≡ true
+pub fraction_inside : (most : ℕ) (f : Fraction) → most ≤ 2 ^ 126 → IsLowestWithin most f
+    → all_pass is_field_byte (fraction_text f) ≡ true
 fraction_inside most f small is = fraction_inside_by most f (eqb f.den 1) small is
 
-no_slash : (most : ℕ) (f : Fraction) → most ≤ 2 ^ 126 → IsLowestWithin most f → all_pass is_no_slash (signed_decimal f.num) ≡ true
+no_slash : (most : ℕ) (f : Fraction) → most ≤ 2 ^ 126 → IsLowestWithin most f
+    → all_pass is_no_slash (signed_decimal f.num) ≡ true
 no_slash most f small is = integer_pass is_no_slash digit_no_slash refl f.num (omega (arith, is.num))
 
-fraction_again_by : (most : ℕ) (f : Fraction) (one : Bool) → most ≤ 2 ^ 126 → IsLowestWithin most f → eqb f.den 1 ≡ one → fraction_in most (text_by f one) ≡ Some f
+fraction_again_by : (most : ℕ) (f : Fraction) (one : Bool) → most ≤ 2 ^ 126 → IsLowestWithin most f → eqb f.den 1 ≡ one
+    → fraction_in most (text_by f one) ≡ Some f
 unfolding fraction_in
 fraction_again_by most f true small is h =
     let n : List ℕ = signed_decimal f.num in
@@ -357,7 +386,8 @@ fraction_again_by most f false small is h =
     ∙ ap (over_in f.num) (whole_again 2 most f.den (omega arith) two is.den)
     ∙ ap (λ t. cond t (Some f) None) (eq-eqb (gcd (unsigned_abs f.num) f.den) 1 is.coprime)
 
-pub fraction_again : (most : ℕ) (f : Fraction) → most ≤ 2 ^ 126 → IsLowestWithin most f → fraction_in most (fraction_text f) ≡ Some f
+pub fraction_again : (most : ℕ) (f : Fraction) → most ≤ 2 ^ 126 → IsLowestWithin most f
+    → fraction_in most (fraction_text f) ≡ Some f
 fraction_again most f small is = fraction_again_by most f (eqb f.den 1) small is refl
 
 pub gcd_one : (n : ℕ) → gcd n 1 ≡ 1
@@ -368,7 +398,8 @@ slash_is : (b : ℕ) (t : Bool) → eqb b slash ≡ t → is_no_slash b ≡ fals
 slash_is b true h e = eqb-true b slash h
 slash_is b false h e = absurd (let bad = sym (ap not h) ∙ e in cc)
 
-over_only : (num : ℤ) (o : Option ℕ) (f : Fraction) → over_in num o ≡ Some f → (den : ℕ) × (o ≡ Some den) × (gcd (unsigned_abs num) den ≡ 1) × (record { num = num; den = den } ≡ f)
+over_only : (num : ℤ) (o : Option ℕ) (f : Fraction) → over_in num o ≡ Some f
+    → (den : ℕ) × (o ≡ Some den) × (gcd (unsigned_abs num) den ≡ 1) × (record { num = num; den = den } ≡ f)
 over_only num None f e = absurd cc
 over_only num (Some den) f e = (let p = by (eqb (gcd (unsigned_abs num) den) 1) refl e in (den, refl, p.0, p.1))
   where
@@ -380,7 +411,8 @@ over_only num (Some den) f e = (let p = by (eqb (gcd (unsigned_abs num) den) 1) 
         some_same g e = cc
     by false h e = absurd (let bad = sym (ap (λ t. cond t (Some (record { num = num; den = den })) None) h) ∙ e in cc)
 
-only_lowest : (most : ℕ) (front behind : List ℕ) (o : Option ℤ) (f : Fraction) → most ≤ 2 ^ 126 → 1 ≤ most → integer_in most front ≡ o → ((b : ℕ) (more : List ℕ) → behind ≡ b ∷ more → is_no_slash b ≡ false)
+only_lowest : (most : ℕ) (front behind : List ℕ) (o : Option ℤ) (f : Fraction) → most ≤ 2 ^ 126 → 1 ≤ most
+    → integer_in most front ≡ o → ((b : ℕ) (more : List ℕ) → behind ≡ b ∷ more → is_no_slash b ≡ false)
     → lowest_in most o behind ≡ Some f → IsLowestWithin most f × (front ++ behind ≡ fraction_text f)
 only_lowest most front behind None f small one h stop e = absurd cc
 only_lowest most front [] (Some num) f small one h stop e =
@@ -399,7 +431,8 @@ only_lowest most front (b ∷ ds) (Some num) f small one h stop e =
       ap (λ (xs : List ℕ). xs ++ b ∷ ds) q.1 ∙ (λ i. signed_decimal num ++ first i ∷ w.2 i) ∙ sym (ap (text_by (record { num = num; den = p.0 })) two),
     )
 
-pub fraction_only : (most : ℕ) (f : Fraction) (bytes : List ℕ) → most ≤ 2 ^ 126 → 1 ≤ most → fraction_in most bytes ≡ Some f → IsLowestWithin most f × (bytes ≡ fraction_text f)
+pub fraction_only : (most : ℕ) (f : Fraction) (bytes : List ℕ) → most ≤ 2 ^ 126 → 1 ≤ most
+    → fraction_in most bytes ≡ Some f → IsLowestWithin most f × (bytes ≡ fraction_text f)
 unfolding fraction_in
 fraction_only most f bytes small one e =
     let front = take (prefix_len is_no_slash bytes) bytes in

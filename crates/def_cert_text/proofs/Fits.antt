@@ -79,7 +79,8 @@ pub record CountsAll (A : Type 0) (P : A → Type 0) (count : ℕ) (xs : List A)
   pub count_is : length xs ≡ count
   pub each : All P xs
 
-each_all : (A : Type 0) (f : ℕ → Format A) (P : A → Type 0) → ((j : ℕ) (x : A) → (f j).fits x ≡ true → P x) → (count k : ℕ) (xs : List A) → each_fits f k count xs ≡ true → CountsAll A P count xs
+each_all : (A : Type 0) (f : ℕ → Format A) (P : A → Type 0) → ((j : ℕ) (x : A) → (f j).fits x ≡ true → P x)
+    → (count k : ℕ) (xs : List A) → each_fits f k count xs ≡ true → CountsAll A P count xs
 unfolding each_fits
 each_all A f P is zero k [] fit = record { count_is = refl; each = All-nil P }
 each_all A f P is zero k (x ∷ xs) fit = absurd cc
@@ -89,7 +90,8 @@ each_all A f P is (suc count) k (x ∷ xs) fit =
     let later = each_all A f P is count (k + 1) xs p.1 in
     record { count_is = ap suc later.count_is; each = All-cons P x xs (is k x p.0) later.each }
 
-all_taken : (A : Type 0) (f : ℕ → Format A) (P : A → Type 0) → ((j : ℕ) (x : A) → P x → (f j).fits x ≡ true) → (count k : ℕ) (xs : List A) → length xs ≡ count → All P xs → each_fits f k count xs ≡ true
+all_taken : (A : Type 0) (f : ℕ → Format A) (P : A → Type 0) → ((j : ℕ) (x : A) → P x → (f j).fits x ≡ true)
+    → (count k : ℕ) (xs : List A) → length xs ≡ count → All P xs → each_fits f k count xs ≡ true
 unfolding each_fits
 all_taken A f P is zero k [] counts all = refl
 all_taken A f P is zero k (x ∷ xs) counts all = absurd (omega (arith, counts))
@@ -102,7 +104,8 @@ pub record CountsPlaces (A : Type 0) (f : ℕ → Format A) (k count : ℕ) (xs 
   pub count_is : length xs ≡ count
   pub each : (i : ℕ) (d : A) → i < length xs → (f (k + i)).fits (get_or xs i d) ≡ true
 
-each_place : (A : Type 0) (f : ℕ → Format A) (count k : ℕ) (xs : List A) → each_fits f k count xs ≡ true → CountsPlaces A f k count xs
+each_place : (A : Type 0) (f : ℕ → Format A) (count k : ℕ) (xs : List A) → each_fits f k count xs ≡ true
+    → CountsPlaces A f k count xs
 unfolding each_fits
 each_place A f zero k [] fit = record { count_is = refl; each = λ i d low. absurd (omega (arith, low)) }
 each_place A f zero k (x ∷ xs) fit = absurd cc
@@ -116,7 +119,8 @@ each_place A f (suc count) k (x ∷ xs) fit =
     at first later zero d low = ap (λ j. (f j).fits x) (omega arith) ∙ first
     at first later (suc i) d low = ap (λ j. (f j).fits (get_or xs i d)) (omega arith) ∙ later i d (omega (arith, low))
 
-places_taken : (A : Type 0) (f : ℕ → Format A) (count k : ℕ) (xs : List A) → length xs ≡ count → ((i : ℕ) (d : A) → i < length xs → (f (k + i)).fits (get_or xs i d) ≡ true) → each_fits f k count xs ≡ true
+places_taken : (A : Type 0) (f : ℕ → Format A) (count k : ℕ) (xs : List A) → length xs ≡ count
+    → ((i : ℕ) (d : A) → i < length xs → (f (k + i)).fits (get_or xs i d) ≡ true) → each_fits f k count xs ≡ true
 unfolding each_fits
 places_taken A f zero k [] counts each = refl
 places_taken A f zero k (x ∷ xs) counts each = absurd (omega (arith, counts))
@@ -129,7 +133,8 @@ places_taken A f (suc count) k (x ∷ xs) counts each =
 abbrev line_is_within : ℕ → TraceLine → Bool
 line_is_within k l = is_within k k l.round && (is_within 1 k l.low_round && (leb (unsigned_abs l.low) (2 ^ 100) && (is_within 1 k l.high_round && leb (unsigned_abs l.high) (2 ^ 100))))
 
-line_fits : (head : Head) (i k : ℕ) (l : TraceLine) → k ≡ min ((i + 1) * head.every) head.rounds → (line_of_round k).fits l ≡ true → LineFits head i l
+line_fits : (head : Head) (i k : ℕ) (l : TraceLine) → k ≡ min ((i + 1) * head.every) head.rounds
+    → (line_of_round k).fits l ≡ true → LineFits head i l
 line_fits head i k l is fit =
     let a = and_parts (is_within k k l.round) _ fit in
     let b = and_parts (is_within 1 k l.low_round) (leb (unsigned_abs l.low) (2 ^ 100) && (is_within 1 k l.high_round && leb (unsigned_abs l.high) (2 ^ 100))) a.1 in
@@ -147,7 +152,8 @@ line_fits head i k l is fit =
       high = leb-true (unsigned_abs l.high) (2 ^ 100) d.1;
     }
 
-line_taken : (head : Head) (i k : ℕ) (l : TraceLine) → k ≡ min ((i + 1) * head.every) head.rounds → LineFits head i l → (line_of_round k).fits l ≡ true
+line_taken : (head : Head) (i k : ℕ) (l : TraceLine) → k ≡ min ((i + 1) * head.every) head.rounds → LineFits head i l
+    → (line_of_round k).fits l ≡ true
 line_taken head i k l is f =
     let same : l.round ≡ k = f.round ∙ sym is in
     and_from (is_within k k l.round) _ (to_within k k l.round (omega (arith, same), omega (arith, same)))
@@ -189,7 +195,8 @@ row_is most (suc more) (n ∷ m ∷ ns) fit =
     let later = row_is most more (m ∷ ns) p.1 in
     record { some = omega arith; few = omega (arith, later.few); each = All-cons (λ k. k ≤ most) n (m ∷ ns) (leb-true n most p.0) later.each }
 
-row_taken : (most more : ℕ) (ns : List ℕ) → 1 ≤ length ns → length ns ≤ more + 1 → All (λ n. n ≤ most) ns → row_fits most more ns ≡ true
+row_taken : (most more : ℕ) (ns : List ℕ) → 1 ≤ length ns → length ns ≤ more + 1 → All (λ n. n ≤ most) ns
+    → row_fits most more ns ≡ true
 row_taken most more [] some few all = absurd (omega (arith, some))
 row_taken most zero (n ∷ []) some few all = le-leb n most (All-head (λ k. k ≤ most) n [] all)
 row_taken most (suc more) (n ∷ []) some few all = le-leb n most (All-head (λ k. k ≤ most) n [] all)
@@ -204,13 +211,15 @@ weights_fit set ws fit = let r = row_is (65536 * 1048576) 1023 ws fit in record 
 weights_taken : (set : ℕ) (ws : List ℕ) → PlanWeightsFit ws → (weights_line set).fits ws ≡ true
 weights_taken set ws f = row_taken (65536 * 1048576) 1023 ws f.count.0 f.count.1 f.each
 
-plan_fits : (player : List ℕ) (sets : ℕ) (plan : PrintedPlan) → (plan_lines player sets).fits plan ≡ true → PlanFits sets plan
+plan_fits : (player : List ℕ) (sets : ℕ) (plan : PrintedPlan) → (plan_lines player sets).fits plan ≡ true
+    → PlanFits sets plan
 plan_fits player sets plan fit =
     let p = and_parts (is_within 1 (65536 * 1048576) plan.root) (each_fits weights_line 1 sets plan.weights) fit in
     let all = each_all (List ℕ) weights_line PlanWeightsFit weights_fit sets 1 plan.weights p.1 in
     record { root = from_to 1 (65536 * 1048576) plan.root p.0; count = all.count_is; each = all.each }
 
-plan_taken : (player : List ℕ) (sets : ℕ) (plan : PrintedPlan) → PlanFits sets plan → (plan_lines player sets).fits plan ≡ true
+plan_taken : (player : List ℕ) (sets : ℕ) (plan : PrintedPlan) → PlanFits sets plan
+    → (plan_lines player sets).fits plan ≡ true
 plan_taken player sets plan f =
     and_from (is_within 1 (65536 * 1048576) plan.root) (each_fits weights_line 1 sets plan.weights) (to_within 1 (65536 * 1048576) plan.root f.root)
     (all_taken (List ℕ) weights_line PlanWeightsFit weights_taken sets 1 plan.weights f.count f.each)
@@ -236,18 +245,21 @@ choices_of_all : (rs : List SetReply) → All SetFits rs → All (λ r. IsFromTo
 choices_of_all [] all = All-nil (λ r. IsFromTo 1 1024 r.choice)
 choices_of_all (r ∷ rs) all = All-cons (λ r. IsFromTo 1 1024 r.choice) r rs (All-head SetFits r rs all).1 (choices_of_all rs (All-tail SetFits r rs all))
 
-all_of_both : (rs : List SetReply) → All (λ r. IsPrintable r.value) rs → All (λ r. IsFromTo 1 1024 r.choice) rs → All SetFits rs
+all_of_both : (rs : List SetReply) → All (λ r. IsPrintable r.value) rs → All (λ r. IsFromTo 1 1024 r.choice) rs
+    → All SetFits rs
 all_of_both [] values choices = All-nil SetFits
 all_of_both (r ∷ rs) values choices =
     All-cons SetFits r rs (All-head (λ r. IsPrintable r.value) r rs values, All-head (λ r. IsFromTo 1 1024 r.choice) r rs choices) (all_of_both rs (All-tail (λ r. IsPrintable r.value) r rs values) (All-tail (λ r. IsFromTo 1 1024 r.choice) r rs choices))
 
-reply_fits : (player : List ℕ) (sets : ℕ) (reply : Reply) → (reply_lines player sets).fits reply ≡ true → ReplyFits sets reply
+reply_fits : (player : List ℕ) (sets : ℕ) (reply : Reply) → (reply_lines player sets).fits reply ≡ true
+    → ReplyFits sets reply
 reply_fits player sets reply fit =
     let p = and_parts (leb (unsigned_abs reply.total) (2 ^ 100)) (each_fits value_line 1 sets reply.sets) fit in
     let all = each_all SetReply value_line SetFits value_fits sets 1 reply.sets p.1 in
     record { total = leb-true (unsigned_abs reply.total) (2 ^ 100) p.0; count = all.count_is; values = values_of_all reply.sets all.each; choices = choices_of_all reply.sets all.each }
 
-reply_taken : (player : List ℕ) (sets : ℕ) (reply : Reply) → ReplyFits sets reply → (reply_lines player sets).fits reply ≡ true
+reply_taken : (player : List ℕ) (sets : ℕ) (reply : Reply) → ReplyFits sets reply
+    → (reply_lines player sets).fits reply ≡ true
 reply_taken player sets reply f =
     and_from (leb (unsigned_abs reply.total) (2 ^ 100)) (each_fits value_line 1 sets reply.sets) (le-leb (unsigned_abs reply.total) (2 ^ 100) f.total)
     (all_taken SetReply value_line SetFits value_taken sets 1 reply.sets f.count (all_of_both reply.sets f.values f.choices))
@@ -293,7 +305,8 @@ bounds_taken head b f =
     (and_from ((reply_lines (codes "1") head.sets_one).fits b.reply_one) (is_lowest_within (2 ^ 100) b.low && is_lowest_within (2 ^ 100) b.high) (reply_taken (codes "1") head.sets_one b.reply_one f.reply_one)
     (and_from (is_lowest_within (2 ^ 100) b.low) (is_lowest_within (2 ^ 100) b.high) (bound_taken b.low f.low) (bound_taken b.high f.high))))))
 
-below_fits : (head : Head) (t : Bool) (bounds : Option PrintedBounds) → ltb 0 head.rounds ≡ t → asked_fits t (bounds_lines head) bounds ≡ true → FitsBelowHead head bounds
+below_fits : (head : Head) (t : Bool) (bounds : Option PrintedBounds) → ltb 0 head.rounds ≡ t
+    → asked_fits t (bounds_lines head) bounds ≡ true → FitsBelowHead head bounds
 below_fits head true (Some b) asked fit = bounds_fit head b (ltb-true 0 head.rounds asked) fit
 below_fits head true None asked fit = absurd cc
 below_fits head false (Some b) asked fit = absurd cc
@@ -303,7 +316,8 @@ below_fits head false None asked fit = no_rounds head.rounds asked
     no_rounds zero h = refl
     no_rounds (suc n) h = absurd (let bad = sym (lt-ltb 0 (suc n) (omega arith)) ∙ h in cc)
 
-below_taken : (head : Head) (bounds : Option PrintedBounds) → FitsBelowHead head bounds → asked_fits (ltb 0 head.rounds) (bounds_lines head) bounds ≡ true
+below_taken : (head : Head) (bounds : Option PrintedBounds) → FitsBelowHead head bounds
+    → asked_fits (ltb 0 head.rounds) (bounds_lines head) bounds ≡ true
 below_taken head (Some b) f = ap (λ t. asked_fits t (bounds_lines head) (Some b)) (lt-ltb 0 head.rounds f.asked) ∙ bounds_taken head b f
 below_taken head None f = ap (λ n. asked_fits (ltb 0 n) (bounds_lines head) None) f
 

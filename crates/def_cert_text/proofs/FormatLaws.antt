@@ -13,7 +13,8 @@ unfolding items_text
 items_text-append [] ys = refl
 items_text-append (x ∷ xs) ys = ap (λ (bs : List ℕ). item_bytes x ++ bs) (items_text-append xs ys) ∙ sym (append_assoc (item_bytes x) (items_text xs) (items_text ys))
 
-pub bind_err : {A B : Type 0} (r : Result A CertFault) (k : A → Result B CertFault) (fault : CertFault) → (r >>= k) ≡ Err fault → (r ≡ Err fault) ⊎ ((x : A) × (r ≡ Ok x) × (k x ≡ Err fault))
+pub bind_err : {A B : Type 0} (r : Result A CertFault) (k : A → Result B CertFault) (fault : CertFault)
+    → (r >>= k) ≡ Err fault → (r ≡ Err fault) ⊎ ((x : A) × (r ≡ Ok x) × (k x ≡ Err fault))
 bind_err (Ok x) k fault e = inr (x, refl, e)
 bind_err (Err other) k fault e = inl (let same : other ≡ fault = cc in λ i. Err (same i))
 
@@ -50,22 +51,28 @@ pub record IsView (A B : Type 0) (f : Format A) (g : Format B) (to : A → B) : 
 abbrev put_to : {A B : Type 0} → (A → B) → (A × List ℕ) → Result (B × List ℕ) CertFault
 put_to to x = Ok (to x.0, x.1)
 
-to_view : (A B : Type 0) (f : Format A) (g : Format B) (to : A → B) → IsView A B f g to → (items : List Item) → CanGoOn f items → CanGoOn g items
+to_view : (A B : Type 0) (f : Format A) (g : Format B) (to : A → B) → IsView A B f g to → (items : List Item)
+    → CanGoOn f items → CanGoOn g items
 to_view A B f g to is items p = (to p.0, p.1, is.fits p.0 p.2, is.items p.0 p.2 ∙ p.3)
 
-from_view : (A B : Type 0) (f : Format A) (g : Format B) (to : A → B) → IsView A B f g to → (items : List Item) → CanGoOn g items → CanGoOn f items
+from_view : (A B : Type 0) (f : Format A) (g : Format B) (to : A → B) → IsView A B f g to → (items : List Item)
+    → CanGoOn g items → CanGoOn f items
 from_view A B f g to is items p =
     let b = is.back p.0 p.2 in
     (b.0, p.1, b.1, sym (is.items b.0 b.1) ∙ ap g.items b.2 ∙ p.3)
 
-stop_by : (A B : Type 0) (f : Format A) (g : Format B) (xs ys : List Item) (place : Place) (total : ℕ) (left : List ℕ) (fault : CertFault)
-    → (CanGoOn g (ys ++ item_there place left ∷ []) → CanGoOn f (xs ++ item_there place left ∷ [])) → Stops f xs place total left fault → Stops g ys place total left fault
+stop_by : (A B : Type 0) (f : Format A) (g : Format B) (xs ys : List Item) (place : Place) (total : ℕ) (left : List ℕ)
+    (fault : CertFault)
+    → (CanGoOn g (ys ++ item_there place left ∷ []) → CanGoOn f (xs ++ item_there place left ∷ []))
+    → Stops f xs place total left fault → Stops g ys place total left fault
 stop_by A B f g xs ys place total left fault back (cut_short short is) = cut_short short is
 stop_by A B f g xs ys place total left fault back (unfit long none is) = unfit long (λ p. none (back p)) is
 
 -- a fault of a format is one of another, where the same items go on
-first_by : (A B : Type 0) (f : Format A) (g : Format B) → ((items : List Item) → CanGoOn f items → CanGoOn g items) → ((items : List Item) → CanGoOn g items → CanGoOn f items)
-    → (total : ℕ) (bytes : List ℕ) (fault : CertFault) → HasFirstFault f total bytes fault → HasFirstFault g total bytes fault
+first_by : (A B : Type 0) (f : Format A) (g : Format B) → ((items : List Item) → CanGoOn f items → CanGoOn g items)
+    → ((items : List Item) → CanGoOn g items → CanGoOn f items)
+    → (total : ℕ) (bytes : List ℕ) (fault : CertFault) → HasFirstFault f total bytes fault
+    → HasFirstFault g total bytes fault
 first_by A B f g forth back total bytes fault h = record {
   items = h.items;
   place = h.place;
@@ -76,11 +83,13 @@ first_by A B f g forth back total bytes fault h = record {
   stop = stop_by A B f g h.items h.items h.place total h.left fault (back (h.items ++ item_there h.place h.left ∷ [])) h.stop;
 }
 
-view_fault : (A B : Type 0) (to : A → B) (r : Result (A × List ℕ) CertFault) (fault : CertFault) → (r >>= put_to to) ≡ Err fault → r ≡ Err fault
+view_fault : (A B : Type 0) (to : A → B) (r : Result (A × List ℕ) CertFault) (fault : CertFault)
+    → (r >>= put_to to) ≡ Err fault → r ≡ Err fault
 view_fault A B to (Ok x) fault e = absurd cc
 view_fault A B to (Err other) fault e = let same : other ≡ fault = cc in λ i. Err (same i)
 
-pub view_laws : (A B : Type 0) (f : Format A) (g : Format B) (to : A → B) → IsView A B f g to → IsFormat A f → IsFormat B g
+pub view_laws : (A B : Type 0) (f : Format A) (g : Format B) (to : A → B) → IsView A B f g to → IsFormat A f
+    → IsFormat B g
 view_laws A B f g to is laws = record {
   again = λ total y left fits.
       let b = is.back y fits in
@@ -140,8 +149,10 @@ nothing_laws A f x is = record {
 abbrev second_of : {A B : Type 0} → (A → Format B) → ℕ → (A × List ℕ) → Result ((A × B) × List ℕ) CertFault
 second_of g total x = (g x.0).read total x.1 >>= λ y. Ok ((x.0, y.0), y.1)
 
-pair_again : (A B : Type 0) (f : Format A) (g : A → Format B) → IsFormat A f → ((x : A) → f.fits x ≡ true → IsFormat B (g x))
-    → (total : ℕ) (p : A × B) (left : List ℕ) → (and_then f g).fits p ≡ true → (and_then f g).read total (text_of (and_then f g) p ++ left) ≡ Ok (p, left)
+pair_again : (A B : Type 0) (f : Format A) (g : A → Format B) → IsFormat A f
+    → ((x : A) → f.fits x ≡ true → IsFormat B (g x))
+    → (total : ℕ) (p : A × B) (left : List ℕ) → (and_then f g).fits p ≡ true
+    → (and_then f g).read total (text_of (and_then f g) p ++ left) ≡ Ok (p, left)
 pair_again A B f g first second total p left fits =
     let parts = and_parts (f.fits p.0) ((g p.0).fits p.1) fits in
     ap (λ (bytes : List ℕ). f.read total (bytes ++ left) >>= second_of g total) (items_text-append (f.items p.0) ((g p.0).items p.1))
@@ -149,8 +160,10 @@ pair_again A B f g first second total p left fits =
     ∙ ap (λ (r : Result (A × List ℕ) CertFault). r >>= second_of g total) (first.again total p.0 (text_of (g p.0) p.1 ++ left) parts.0)
     ∙ ap (λ (r : Result (B × List ℕ) CertFault). r >>= λ y. Ok ((p.0, y.0), y.1)) ((second p.0 parts.0).again total p.1 left parts.1)
 
-pair_only : (A B : Type 0) (f : Format A) (g : A → Format B) → IsFormat A f → ((x : A) → f.fits x ≡ true → IsFormat B (g x))
-    → (total : ℕ) (bytes : List ℕ) (p : A × B) (left : List ℕ) → (and_then f g).read total bytes ≡ Ok (p, left) → ((and_then f g).fits p ≡ true) × (bytes ≡ text_of (and_then f g) p ++ left)
+pair_only : (A B : Type 0) (f : Format A) (g : A → Format B) → IsFormat A f
+    → ((x : A) → f.fits x ≡ true → IsFormat B (g x))
+    → (total : ℕ) (bytes : List ℕ) (p : A × B) (left : List ℕ) → (and_then f g).read total bytes ≡ Ok (p, left)
+    → ((and_then f g).fits p ≡ true) × (bytes ≡ text_of (and_then f g) p ++ left)
 pair_only A B f g first second total bytes p left e =
     let a = bind_ok (f.read total bytes) (second_of g total) (p, left) e in
     let x = a.0 in
@@ -165,14 +178,16 @@ pair_only A B f g first second total bytes p left e =
     )
 
 -- no value's items go on to another's
-one_way : (A : Type 0) (f : Format A) → IsFormat A f → (x y : A) (u v : List Item) → f.fits x ≡ true → f.fits y ≡ true → f.items x ++ u ≡ f.items y ++ v → x ≡ y
+one_way : (A : Type 0) (f : Format A) → IsFormat A f → (x y : A) (u v : List Item) → f.fits x ≡ true → f.fits y ≡ true
+    → f.items x ++ u ≡ f.items y ++ v → x ≡ y
 one_way A f laws x y u v fx fy e =
     let bytes : text_of f x ++ items_text u ≡ text_of f y ++ items_text v = sym (items_text-append (f.items x) u) ∙ ap items_text e ∙ items_text-append (f.items y) v in
     let same = ok_is (x, items_text u) (y, items_text v) (sym (laws.again 0 x (items_text u) fx) ∙ ap (f.read 0) bytes ∙ laws.again 0 y (items_text v) fy) in
     ap (λ p. p.0) same
 
 -- lists that begin alike
-begins : (xs ys us vs : List Item) → xs ++ us ≡ ys ++ vs → length ys ≤ length xs → (more : List Item) × (xs ≡ ys ++ more)
+begins : (xs ys us vs : List Item) → xs ++ us ≡ ys ++ vs → length ys ≤ length xs
+    → (more : List Item) × (xs ≡ ys ++ more)
 begins xs [] us vs e le = (xs, refl)
 begins [] (y ∷ ys) us vs e le = absurd (omega arith)
 begins (x ∷ xs) (y ∷ ys) us vs e le =
@@ -182,7 +197,8 @@ begins (x ∷ xs) (y ∷ ys) us vs e le =
     (r.0, λ i. heads i ∷ r.1 i)
 
 -- what goes on to a value of the first goes on to one of both
-on_first : (A B : Type 0) (f : Format A) (g : A → Format B) → ((x : A) → f.fits x ≡ true → IsFormat B (g x)) → (items : List Item) → CanGoOn f items → CanGoOn (and_then f g) items
+on_first : (A B : Type 0) (f : Format A) (g : A → Format B) → ((x : A) → f.fits x ≡ true → IsFormat B (g x))
+    → (items : List Item) → CanGoOn f items → CanGoOn (and_then f g) items
 on_first A B f g second items p =
     let h = second p.0 p.2 in (
       (p.0, h.some),
@@ -192,7 +208,8 @@ on_first A B f g second items p =
     )
 
 -- and the other way round, where the first isn't over
-off_first : (A B : Type 0) (f : Format A) (g : A → Format B) → IsFormat A f → (items : List Item) (place : Place) (item : Item)
+off_first : (A B : Type 0) (f : Format A) (g : A → Format B) → IsFormat A f
+    → (items : List Item) (place : Place) (item : Item)
     → Needs f items place → CanGoOn (and_then f g) (items ++ item ∷ []) → CanGoOn f (items ++ item ∷ [])
 off_first A B f g first items place item needs p =
     let x = p.0.0 in
@@ -214,17 +231,20 @@ off_first A B f g first items place item needs p =
     long
 
 -- what goes on behind a value of the first
-on_second : (A B : Type 0) (f : Format A) (g : A → Format B) (x : A) → f.fits x ≡ true → (items : List Item) → CanGoOn (g x) items → CanGoOn (and_then f g) (f.items x ++ items)
+on_second : (A B : Type 0) (f : Format A) (g : A → Format B) (x : A) → f.fits x ≡ true → (items : List Item)
+    → CanGoOn (g x) items → CanGoOn (and_then f g) (f.items x ++ items)
 on_second A B f g x fits items p =
     ((x, p.0), p.1, and_from (f.fits x) ((g x).fits p.0) fits p.2, ap (λ (ts : List Item). f.items x ++ ts) p.3 ∙ sym (append_assoc (f.items x) items p.1))
 
-at_same : (A B : Type 0) (f : Format A) (g : A → Format B) (x x' : A) → x ≡ x' → (y : B) (whole : List Item) → (g x').fits y ≡ true → f.items x' ++ (g x').items y ≡ f.items x ++ whole
+at_same : (A B : Type 0) (f : Format A) (g : A → Format B) (x x' : A) → x ≡ x' → (y : B) (whole : List Item)
+    → (g x').fits y ≡ true → f.items x' ++ (g x').items y ≡ f.items x ++ whole
     → ((g x).fits y ≡ true) × ((g x).items y ≡ whole)
 at_same A B f g x x' same =
     subst (λ (z : A). (y : B) (whole : List Item) → (g z).fits y ≡ true → f.items z ++ (g z).items y ≡ f.items x ++ whole → ((g x).fits y ≡ true) × ((g x).items y ≡ whole)) same
     (λ y whole fits e. (fits, append_cancel_left (f.items x) ((g x).items y) whole e))
 
-off_second : (A B : Type 0) (f : Format A) (g : A → Format B) → IsFormat A f → (x : A) → f.fits x ≡ true → (items : List Item) → CanGoOn (and_then f g) (f.items x ++ items) → CanGoOn (g x) items
+off_second : (A B : Type 0) (f : Format A) (g : A → Format B) → IsFormat A f → (x : A) → f.fits x ≡ true
+    → (items : List Item) → CanGoOn (and_then f g) (f.items x ++ items) → CanGoOn (g x) items
 off_second A B f g first x fits items p =
     let x' = p.0.0 in
     let y = p.0.1 in
@@ -236,8 +256,10 @@ off_second A B f g first x fits items p =
     (y, p.1, r.0, r.1)
 
 -- a fault of the first, and a fault behind a value of the first
-lift_first : (A B : Type 0) (f : Format A) (g : A → Format B) → IsFormat A f → ((x : A) → f.fits x ≡ true → IsFormat B (g x))
-    → (total : ℕ) (bytes : List ℕ) (fault : CertFault) → HasFirstFault f total bytes fault → HasFirstFault (and_then f g) total bytes fault
+lift_first : (A B : Type 0) (f : Format A) (g : A → Format B) → IsFormat A f
+    → ((x : A) → f.fits x ≡ true → IsFormat B (g x))
+    → (total : ℕ) (bytes : List ℕ) (fault : CertFault) → HasFirstFault f total bytes fault
+    → HasFirstFault (and_then f g) total bytes fault
 lift_first A B f g first second total bytes fault h = record {
   items = h.items;
   place = h.place;
@@ -249,7 +271,8 @@ lift_first A B f g first second total bytes fault h = record {
 }
 
 lift_second : (A B : Type 0) (f : Format A) (g : A → Format B) → IsFormat A f → (x : A) → f.fits x ≡ true
-    → (total : ℕ) (bytes mid : List ℕ) (fault : CertFault) → bytes ≡ text_of f x ++ mid → HasFirstFault (g x) total mid fault → HasFirstFault (and_then f g) total bytes fault
+    → (total : ℕ) (bytes mid : List ℕ) (fault : CertFault) → bytes ≡ text_of f x ++ mid
+    → HasFirstFault (g x) total mid fault → HasFirstFault (and_then f g) total bytes fault
 lift_second A B f g first x fits total bytes mid fault is h =
     let t = h.needed in
     let behind : (item : Item) → f.items x ++ (h.items ++ item ∷ []) ≡ (f.items x ++ h.items) ++ item ∷ [] = λ item. sym (append_assoc (f.items x) h.items (item ∷ [])) in
@@ -265,8 +288,10 @@ lift_second A B f g first x fits total bytes mid fault is h =
           (λ p. off_second A B f g first x fits (h.items ++ item_there h.place h.left ∷ []) (subst (λ (ts : List Item). CanGoOn (and_then f g) ts) (sym (behind (item_there h.place h.left))) p)) h.stop;
     }
 
-pair_faults : (A B : Type 0) (f : Format A) (g : A → Format B) → IsFormat A f → ((x : A) → f.fits x ≡ true → IsFormat B (g x))
-    → (total : ℕ) (bytes : List ℕ) (fault : CertFault) → (and_then f g).read total bytes ≡ Err fault → HasFirstFault (and_then f g) total bytes fault
+pair_faults : (A B : Type 0) (f : Format A) (g : A → Format B) → IsFormat A f
+    → ((x : A) → f.fits x ≡ true → IsFormat B (g x))
+    → (total : ℕ) (bytes : List ℕ) (fault : CertFault) → (and_then f g).read total bytes ≡ Err fault
+    → HasFirstFault (and_then f g) total bytes fault
 pair_faults A B f g first second total bytes fault e =
     ⊎_elim
     (λ here. lift_first A B f g first second total bytes fault (first.faults total bytes fault here))
@@ -280,8 +305,10 @@ pair_faults A B f g first second total bytes fault e =
     (bind_err (f.read total bytes) (second_of g total) fault e)
 
 -- the other way round: before the end of the first's items, or behind them
-found_first : (A B : Type 0) (f : Format A) (g : A → Format B) → IsFormat A f → ((x : A) → f.fits x ≡ true → IsFormat B (g x))
-    → (total : ℕ) (bytes : List ℕ) (fault : CertFault) (h : HasFirstFault (and_then f g) total bytes fault) → Needs f h.items h.place → (and_then f g).read total bytes ≡ Err fault
+found_first : (A B : Type 0) (f : Format A) (g : A → Format B) → IsFormat A f
+    → ((x : A) → f.fits x ≡ true → IsFormat B (g x))
+    → (total : ℕ) (bytes : List ℕ) (fault : CertFault) (h : HasFirstFault (and_then f g) total bytes fault)
+    → Needs f h.items h.place → (and_then f g).read total bytes ≡ Err fault
 found_first A B f g first second total bytes fault h needs =
     let low : HasFirstFault f total bytes fault = record {
       items = h.items;
@@ -294,11 +321,14 @@ found_first A B f g first second total bytes fault h needs =
     } in
     ap (λ (r : Result (A × List ℕ) CertFault). r >>= second_of g total) (first.found total bytes fault low)
 
-stop_at : (A : Type 0) (f : Format A) (xs ys : List Item) (place : Place) (total : ℕ) (left : List ℕ) (fault : CertFault) → xs ≡ ys → Stops f xs place total left fault → Stops f ys place total left fault
+stop_at : (A : Type 0) (f : Format A) (xs ys : List Item) (place : Place) (total : ℕ) (left : List ℕ)
+    (fault : CertFault) → xs ≡ ys → Stops f xs place total left fault → Stops f ys place total left fault
 stop_at A f xs ys place total left fault same = subst (λ (ts : List Item). Stops f ts place total left fault) same
 
-found_second : (A B : Type 0) (f : Format A) (g : A → Format B) → IsFormat A f → ((x : A) → f.fits x ≡ true → IsFormat B (g x)) → (x : A) (y : B) → f.fits x ≡ true → (g x).fits y ≡ true
-    → (total : ℕ) (bytes : List ℕ) (fault : CertFault) (h : HasFirstFault (and_then f g) total bytes fault) (items more : List Item) → h.items ≡ f.items x ++ items
+found_second : (A B : Type 0) (f : Format A) (g : A → Format B) → IsFormat A f
+    → ((x : A) → f.fits x ≡ true → IsFormat B (g x)) → (x : A) (y : B) → f.fits x ≡ true → (g x).fits y ≡ true
+    → (total : ℕ) (bytes : List ℕ) (fault : CertFault) (h : HasFirstFault (and_then f g) total bytes fault) (items more : List Item)
+    → h.items ≡ f.items x ++ items
     → (g x).items y ≡ (items ++ h.needed.0 ∷ []) ++ more → (and_then f g).read total bytes ≡ Err fault
 found_second A B f g first second x y fx fy total bytes fault h items more is e =
     let mid : List ℕ = items_text items ++ h.left in
@@ -320,8 +350,10 @@ found_second A B f g first second x y fx fy total bytes fault h items more is e 
     ∙ ap (λ (r : Result (A × List ℕ) CertFault). r >>= second_of g total) (first.again total x mid fx)
     ∙ ap (λ (r : Result (B × List ℕ) CertFault). r >>= λ z. Ok ((x, z.0), z.1)) ((second x fx).found total mid fault low)
 
-pair_found : (A B : Type 0) (f : Format A) (g : A → Format B) → IsFormat A f → ((x : A) → f.fits x ≡ true → IsFormat B (g x))
-    → (total : ℕ) (bytes : List ℕ) (fault : CertFault) → HasFirstFault (and_then f g) total bytes fault → (and_then f g).read total bytes ≡ Err fault
+pair_found : (A B : Type 0) (f : Format A) (g : A → Format B) → IsFormat A f
+    → ((x : A) → f.fits x ≡ true → IsFormat B (g x))
+    → (total : ℕ) (bytes : List ℕ) (fault : CertFault) → HasFirstFault (and_then f g) total bytes fault
+    → (and_then f g).read total bytes ≡ Err fault
 pair_found A B f g first second total bytes fault h =
     let item = h.needed.0 in
     let p = h.needed.2 in
@@ -340,7 +372,8 @@ pair_found A B f g first second total bytes fault h =
     found_second A B f g first second x y fits.0 fits.1 total bytes fault h r.0 p.1 r.1 (append_cancel_left (f.items x) ((g x).items y) ((r.0 ++ item ∷ []) ++ p.1) e))
     long
 
-pub pair_laws : (A B : Type 0) (f : Format A) (g : A → Format B) → IsFormat A f → ((x : A) → f.fits x ≡ true → IsFormat B (g x)) → IsFormat (A × B) (and_then f g)
+pub pair_laws : (A B : Type 0) (f : Format A) (g : A → Format B) → IsFormat A f
+    → ((x : A) → f.fits x ≡ true → IsFormat B (g x)) → IsFormat (A × B) (and_then f g)
 pair_laws A B f g first second =
     let h = second first.some first.some_fits in
     record {

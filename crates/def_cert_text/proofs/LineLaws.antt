@@ -19,10 +19,12 @@ use Rattle.def_cert_text.proofs.OneField.{whole_laws, integer_laws, fraction_law
 use Rattle.def_cert_text.proofs.Fits.{head_fits}
 use Rattle.def_cert_text.proofs.MoreFormats.{seen_laws, after_laws, each_laws, asked_laws, row_laws}
 
-word_laws : (A : Type 0) (wanted : List ℕ) (f : Format A) → all_pass is_field_byte wanted ≡ true → IsFormat A f → IsFormat A (after_word wanted f)
+word_laws : (A : Type 0) (wanted : List ℕ) (f : Format A) → all_pass is_field_byte wanted ≡ true → IsFormat A f
+    → IsFormat A (after_word wanted f)
 word_laws A wanted f h laws = after_laws A fixed_word wanted space f h refl laws
 
-two_laws : (A B : Type 0) (f : Format A) (g : Format B) → IsFormat A f → IsFormat B g → IsFormat (A × B) (and_then f (λ _. g))
+two_laws : (A B : Type 0) (f : Format A) (g : Format B) → IsFormat A f → IsFormat B g
+    → IsFormat (A × B) (and_then f (λ _. g))
 two_laws A B f g first second = pair_laws A B f (λ _. g) first (λ x fit. second)
 
 entries_laws : (low sep : ℕ) → low ≤ 2 ^ 20 → is_field_byte sep ≡ false → IsFormat ℕ (whole_field low (2 ^ 20) sep)
@@ -61,7 +63,8 @@ pub record AsksRounds (head : Head) : Type 0 where
   pub sets_one : head.sets_one ≤ 2 ^ 20
   pub sets_two : head.sets_two ≤ 2 ^ 20
 
-round_from_one : (head : Head) (k : ℕ) → AsksRounds head → 1 ≤ k → (1 ≤ round_of_evaluation head k) × (round_of_evaluation head k ≤ 65536)
+round_from_one : (head : Head) (k : ℕ) → AsksRounds head → 1 ≤ k
+    → (1 ≤ round_of_evaluation head k) × (round_of_evaluation head k ≤ 65536)
 round_from_one head k asks some =
     let product : 1 ≤ k * head.every = omega (arith, mul-le 1 1 k head.every some asks.every) in
     (omega (arith, product, asks.rounds.0), omega (arith, asks.rounds.1))
@@ -71,16 +74,19 @@ trace_laws head asks = each_laws TraceLine (λ k. line_of_round (round_of_evalua
     let r = round_from_one head k asks low in round_line_laws (round_of_evaluation head k) r.0 r.1)
 
 -- ---- plans and replies
-set_laws : (A : Type 0) (wanted : List ℕ) (set : ℕ) (f : Format A) → all_pass is_field_byte wanted ≡ true → set ≤ 2 ^ 20 → IsFormat A f → IsFormat A (after_set_number wanted set f)
+set_laws : (A : Type 0) (wanted : List ℕ) (set : ℕ) (f : Format A) → all_pass is_field_byte wanted ≡ true → set ≤ 2 ^ 20
+    → IsFormat A f → IsFormat A (after_set_number wanted set f)
 set_laws A wanted set f h small laws = word_laws A wanted _ h (after_laws A number (decimal set) space f (decimal_inside set (omega arith)) refl laws)
 
-player_laws : (A : Type 0) (wanted player : List ℕ) (f : Format A) → all_pass is_field_byte wanted ≡ true → all_pass is_field_byte player ≡ true → IsFormat A f → IsFormat A (after_player wanted player f)
+player_laws : (A : Type 0) (wanted player : List ℕ) (f : Format A) → all_pass is_field_byte wanted ≡ true
+    → all_pass is_field_byte player ≡ true → IsFormat A f → IsFormat A (after_player wanted player f)
 player_laws A wanted player f h k laws = word_laws A wanted _ h (word_laws A player f k laws)
 
 weights_laws : (set : ℕ) → set ≤ 2 ^ 20 → IsFormat (List ℕ) (weights_line set)
 weights_laws set small = set_laws _ (codes "weights") set _ refl small (row_laws _ (omega arith) 1023)
 
-plan_laws : (player : List ℕ) (sets : ℕ) → all_pass is_field_byte player ≡ true → sets ≤ 2 ^ 20 → IsFormat PrintedPlan (plan_lines player sets)
+plan_laws : (player : List ℕ) (sets : ℕ) → all_pass is_field_byte player ≡ true → sets ≤ 2 ^ 20
+    → IsFormat PrintedPlan (plan_lines player sets)
 plan_laws player sets h small =
     seen_laws _ PrintedPlan _ _ _ (λ p. refl) (λ plan. refl)
     (player_laws _ (codes "plan") player _ refl h (two_laws _ _ _ _ (whole_laws 1 _ feed (omega arith) (omega arith) refl)
@@ -91,7 +97,8 @@ value_laws set small =
     seen_laws _ SetReply _ _ _ (λ p. refl) (λ reply. refl)
     (set_laws _ (codes "value") set _ refl small (two_laws _ _ _ _ (integer_laws (2 ^ 100) space (omega arith) refl) (whole_laws 1 1024 feed (omega arith) (omega arith) refl)))
 
-reply_laws : (player : List ℕ) (sets : ℕ) → all_pass is_field_byte player ≡ true → sets ≤ 2 ^ 20 → IsFormat Reply (reply_lines player sets)
+reply_laws : (player : List ℕ) (sets : ℕ) → all_pass is_field_byte player ≡ true → sets ≤ 2 ^ 20
+    → IsFormat Reply (reply_lines player sets)
 reply_laws player sets h small =
     seen_laws _ Reply _ _ _ (λ p. refl) (λ reply. refl)
     (player_laws _ (codes "reply") player _ refl h (two_laws _ _ _ _ (integer_laws (2 ^ 100) feed (omega arith) refl)

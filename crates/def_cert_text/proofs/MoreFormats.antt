@@ -14,7 +14,8 @@ abbrev got : {A : Type 0} → A → List ℕ → Result (A × List ℕ) CertFaul
 got x left = Ok (x, left)
 
 -- ---- under another form
-pub seen_laws : (A B : Type 0) (to : A → B) (from : B → A) (f : Format A) → ((x : A) → from (to x) ≡ x) → ((y : B) → to (from y) ≡ y) → IsFormat A f → IsFormat B (seen_as to from f)
+pub seen_laws : (A B : Type 0) (to : A → B) (from : B → A) (f : Format A) → ((x : A) → from (to x) ≡ x)
+    → ((y : B) → to (from y) ≡ y) → IsFormat A f → IsFormat B (seen_as to from f)
 seen_laws A B to from f there back laws = view_laws A B f (seen_as to from f) to
     (record {
       fits = λ x fit. ap f.fits (there x) ∙ fit;
@@ -33,7 +34,9 @@ after_read A f total (Ok w) = inner (f.read total w.1)
     inner (Err d) = refl
 after_read A f total (Err d) = refl
 
-pub after_laws : (A : Type 0) (kind : FieldKind) (wanted : List ℕ) (sep : ℕ) (f : Format A) → all_pass is_field_byte wanted ≡ true → is_field_byte sep ≡ false → IsFormat A f → IsFormat A (after_fixed kind wanted sep f)
+pub after_laws : (A : Type 0) (kind : FieldKind) (wanted : List ℕ) (sep : ℕ) (f : Format A)
+    → all_pass is_field_byte wanted ≡ true → is_field_byte sep ≡ false → IsFormat A f
+    → IsFormat A (after_fixed kind wanted sep f)
 after_laws A kind wanted sep f h s laws =
     view_laws (Unit {0} × A) A (and_then (fixed_field kind wanted sep) (λ _. f)) (after_fixed kind wanted sep f) (λ p. p.1)
     (record {
@@ -66,7 +69,8 @@ unfolding each_fits
 more_back A f k count [] fit = absurd cc
 more_back A f k count (x ∷ xs) fit = ((x, xs), fit, refl)
 
-pub each_laws : (A : Type 0) (f : ℕ → Format A) (count k : ℕ) → ((j : ℕ) → k ≤ j → j < k + count → IsFormat A (f j)) → IsFormat (List A) (each_from k count f)
+pub each_laws : (A : Type 0) (f : ℕ → Format A) (count k : ℕ) → ((j : ℕ) → k ≤ j → j < k + count → IsFormat A (f j))
+    → IsFormat (List A) (each_from k count f)
 unfolding each_fits each_items read_each
 each_laws A f zero k laws = nothing_laws (List A) (each_from k zero f) [] (record {
   fits = refl;
@@ -86,7 +90,8 @@ each_laws A f (suc count) k laws =
     (λ x fit. each_laws A f count (k + 1) (λ j low high. laws j (omega arith) (omega arith))))
 
 -- ---- a value that is asked for
-asked_back : (A : Type 0) (f : Format A) (y : Option A) → (where_asked true f).fits y ≡ true → (x : A) × (f.fits x ≡ true) × ◌≡◌ {A = Option A} (Some x) y
+asked_back : (A : Type 0) (f : Format A) (y : Option A) → (where_asked true f).fits y ≡ true
+    → (x : A) × (f.fits x ≡ true) × ◌≡◌ {A = Option A} (Some x) y
 asked_back A f (Some x) fit = (x, fit, refl)
 asked_back A f None fit = absurd cc
 
@@ -94,7 +99,8 @@ none_back : (A : Type 0) (f : Format A) (y : Option A) → (where_asked false f)
 none_back A f (Some x) fit = absurd cc
 none_back A f None fit = refl
 
-pub asked_laws : (A : Type 0) (asked : Bool) (f : Format A) → (asked ≡ true → IsFormat A f) → IsFormat (Option A) (where_asked asked f)
+pub asked_laws : (A : Type 0) (asked : Bool) (f : Format A) → (asked ≡ true → IsFormat A f)
+    → IsFormat (Option A) (where_asked asked f)
 asked_laws A true f laws =
     view_laws A (Option A) f (where_asked true f) Some
     (record {
@@ -122,7 +128,8 @@ row_behind n (Some ns) = n ∷ ns
 abbrev row_by : ((ℕ × Bool) × Option (List ℕ)) → List ℕ
 row_by p = row_behind p.0.0 p.1
 
-fits_by : (most more n : ℕ) (last : Bool) (o : Option (List ℕ)) → leb n most ≡ true → (behind_number most more (n, last)).fits o ≡ true → row_fits most (suc more) (row_behind n o) ≡ true
+fits_by : (most more n : ℕ) (last : Bool) (o : Option (List ℕ)) → leb n most ≡ true
+    → (behind_number most more (n, last)).fits o ≡ true → row_fits most (suc more) (row_behind n o) ≡ true
 fits_by most more n true None h fit = h
 fits_by most more n true (Some ns) h fit = absurd cc
 fits_by most more n false None h fit = absurd cc
@@ -157,7 +164,8 @@ next_row most more total n = cond n.0.1 (got (n.0.0 ∷ []) n.1) (read_row most 
 abbrev next_pair : ℕ → ℕ → ℕ → ((ℕ × Bool) × List ℕ) → Result (((ℕ × Bool) × Option (List ℕ)) × List ℕ) CertFault
 next_pair most more total n = (behind_number most more n.0).read total n.1 >>= λ y. got (n.0, y.0) y.1
 
-row_read_by : (most more total n : ℕ) (last : Bool) (left : List ℕ) → next_row most more total ((n, last), left) ≡ (next_pair most more total ((n, last), left) >>= λ p. got (row_by p.0) p.1)
+row_read_by : (most more total n : ℕ) (last : Bool) (left : List ℕ) → next_row most more total ((n, last), left) ≡
+    (next_pair most more total ((n, last), left) >>= λ p. got (row_by p.0) p.1)
 row_read_by most more total n true left = refl
 row_read_by most more total n false left = inner (read_row most more total left)
   where
@@ -166,11 +174,13 @@ row_read_by most more total n false left = inner (read_row most more total left)
     inner (Ok ns) = refl
     inner (Err d) = refl
 
-row_read : (most more total : ℕ) (r : Result ((ℕ × Bool) × List ℕ) CertFault) → (r >>= next_row most more total) ≡ ((r >>= next_pair most more total) >>= λ p. got (row_by p.0) p.1)
+row_read : (most more total : ℕ) (r : Result ((ℕ × Bool) × List ℕ) CertFault)
+    → (r >>= next_row most more total) ≡ ((r >>= next_pair most more total) >>= λ p. got (row_by p.0) p.1)
 row_read most more total (Ok n) = row_read_by most more total n.0.0 n.0.1 n.1
 row_read most more total (Err d) = refl
 
-last_back : (most : ℕ) (ns : List ℕ) → row_fits most zero ns ≡ true → (n : ℕ) × ((leb 0 n && leb n most) ≡ true) × ◌≡◌ {A = List ℕ} (n ∷ []) ns
+last_back : (most : ℕ) (ns : List ℕ) → row_fits most zero ns ≡ true
+    → (n : ℕ) × ((leb 0 n && leb n most) ≡ true) × ◌≡◌ {A = List ℕ} (n ∷ []) ns
 last_back most [] fit = absurd cc
 last_back most (n ∷ []) fit = (n, and_from (leb 0 n) (leb n most) (le-leb 0 n (omega arith)) fit, refl)
 last_back most (n ∷ m ∷ ns) fit = absurd cc

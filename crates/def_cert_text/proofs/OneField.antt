@@ -29,7 +29,8 @@ any_if_fit off ok total (Some x) left = any_sep ok total x left
 abbrev any_rest : {A : Type 0} → CertFault → (ℕ → Bool) → ℕ → Option A → List ℕ → Result ((A × ℕ) × List ℕ) CertFault
 any_rest off ok total o left = cond (is_empty left) (Err CertShort) (any_if_fit off ok total o left)
 
-abbrev any_field : {A : Type 0} → FieldKind → (A → Bool) → (A → List ℕ) → (List ℕ → Option A) → (ℕ → Bool) → Format (A × ℕ)
+abbrev any_field : {A : Type 0} → FieldKind → (A → Bool) → (A → List ℕ) → (List ℕ → Option A) → (ℕ → Bool)
+    → Format (A × ℕ)
 any_field kind fits spelled test ok = record {
   fits = λ p. fits p.0 && ok p.1;
   items = λ p. field kind (spelled p.0) ∷ separator p.1 ∷ [];
@@ -52,7 +53,8 @@ record AreSeparators (ok : ℕ → Bool) : Type 0 where
 abbrev pair_sep : {A : Type 0} → CertFault → A → ℕ → List ℕ → Bool → Result ((A × ℕ) × List ℕ) CertFault
 pair_sep fault x b left t = cond t (Ok ((x, b), left)) (Err fault)
 
-any_again : (A : Type 0) (kind : FieldKind) (fits : A → Bool) (spelled : A → List ℕ) (test : List ℕ → Option A) (ok : ℕ → Bool) → IsField A fits spelled test → AreSeparators ok
+any_again : (A : Type 0) (kind : FieldKind) (fits : A → Bool) (spelled : A → List ℕ) (test : List ℕ → Option A)
+    (ok : ℕ → Bool) → IsField A fits spelled test → AreSeparators ok
     → (total : ℕ) (p : A × ℕ) (left : List ℕ) → (any_field kind fits spelled test ok).fits p ≡ true
     → (any_field kind fits spelled test ok).read total (text_of (any_field kind fits spelled test ok) p ++ left) ≡ Ok (p, left)
 unfolding items_text
@@ -71,11 +73,13 @@ any_again A kind fits spelled test ok is seps total p left fit =
     ∙ ap (λ (o : Option A). any_rest fault ok total o (b ∷ left)) (is.again x q.0)
     ∙ ap (pair_sep (CertSyntax (total - length (b ∷ left))) x b left) q.1
 
-sep_only : (A : Type 0) (fault : CertFault) (x : A) (b : ℕ) (more : List ℕ) (p : A × ℕ) (left : List ℕ) (t : Bool) → pair_sep fault x b more t ≡ Ok (p, left) → (t ≡ true) × ((x, b) ≡ p) × (more ≡ left)
+sep_only : (A : Type 0) (fault : CertFault) (x : A) (b : ℕ) (more : List ℕ) (p : A × ℕ) (left : List ℕ) (t : Bool)
+    → pair_sep fault x b more t ≡ Ok (p, left) → (t ≡ true) × ((x, b) ≡ p) × (more ≡ left)
 sep_only A fault x b more p left true e = let f = ok_is ((x, b), more) (p, left) e in (refl, ap (λ q. q.0) f, ap (λ q. q.1) f)
 sep_only A fault x b more p left false e = absurd cc
 
-rest_only : (A : Type 0) (fault : CertFault) (ok : ℕ → Bool) (total : ℕ) (o : Option A) (r : List ℕ) (p : A × ℕ) (left : List ℕ) → any_rest fault ok total o r ≡ Ok (p, left)
+rest_only : (A : Type 0) (fault : CertFault) (ok : ℕ → Bool) (total : ℕ) (o : Option A) (r : List ℕ) (p : A × ℕ)
+    (left : List ℕ) → any_rest fault ok total o r ≡ Ok (p, left)
     → (o ≡ Some p.0) × (ok p.1 ≡ true) × (r ≡ p.1 ∷ left)
 rest_only A fault ok total o [] p left e = absurd cc
 rest_only A fault ok total None (b ∷ more) p left e = absurd cc
@@ -83,8 +87,10 @@ rest_only A fault ok total (Some x) (b ∷ more) p left e =
     let q = sep_only A (CertSyntax (total - length (b ∷ more))) x b more p left (ok b) e in
     (ap (λ z. Some z.0) q.1, ap (λ z. ok z.1) (sym q.1) ∙ q.0, (λ i. (q.1 i).1 ∷ q.2 i))
 
-any_only : (A : Type 0) (kind : FieldKind) (fits : A → Bool) (spelled : A → List ℕ) (test : List ℕ → Option A) (ok : ℕ → Bool) → IsField A fits spelled test
-    → (total : ℕ) (bytes : List ℕ) (p : A × ℕ) (left : List ℕ) → (any_field kind fits spelled test ok).read total bytes ≡ Ok (p, left)
+any_only : (A : Type 0) (kind : FieldKind) (fits : A → Bool) (spelled : A → List ℕ) (test : List ℕ → Option A)
+    (ok : ℕ → Bool) → IsField A fits spelled test
+    → (total : ℕ) (bytes : List ℕ) (p : A × ℕ) (left : List ℕ)
+    → (any_field kind fits spelled test ok).read total bytes ≡ Ok (p, left)
     → ((any_field kind fits spelled test ok).fits p ≡ true) × (bytes ≡ text_of (any_field kind fits spelled test ok) p ++ left)
 unfolding items_text
 any_only A kind fits spelled test ok is total bytes p left e =
@@ -104,19 +110,24 @@ failed fault = Err fault
 err_same : (A : Type 0) (a b : CertFault) → failed {A = A} a ≡ failed {A = A} b → a ≡ b
 err_same A a b e = cc
 
-sep_err : (A : Type 0) (fault other : CertFault) (x : A) (b : ℕ) (more : List ℕ) (t : Bool) → pair_sep other x b more t ≡ Err fault → (t ≡ false) × (fault ≡ other)
+sep_err : (A : Type 0) (fault other : CertFault) (x : A) (b : ℕ) (more : List ℕ) (t : Bool)
+    → pair_sep other x b more t ≡ Err fault → (t ≡ false) × (fault ≡ other)
 sep_err A fault other x b more true e = absurd cc
 sep_err A fault other x b more false e = (refl, sym (err_same ((A × ℕ) × List ℕ) other fault e))
 
 first_same : (k : FieldKind) (u v : List ℕ) (us vs : List Item) → field k u ∷ us ≡ field k v ∷ vs → u ≡ v
 first_same k u v us vs e = cc
 
-second_same : (k : FieldKind) (u v : List ℕ) (a c : ℕ) (us vs : List Item) → field k u ∷ separator a ∷ us ≡ field k v ∷ separator c ∷ vs → (u ≡ v) × (a ≡ c)
+second_same : (k : FieldKind) (u v : List ℕ) (a c : ℕ) (us vs : List Item)
+    → field k u ∷ separator a ∷ us ≡ field k v ∷ separator c ∷ vs → (u ≡ v) × (a ≡ c)
 second_same k u v a c us vs e = (cc, cc)
 
-any_fault : (A : Type 0) (kind : FieldKind) (fits : A → Bool) (spelled : A → List ℕ) (test : List ℕ → Option A) (ok : ℕ → Bool) → IsField A fits spelled test → AreSeparators ok
-    → (total : ℕ) (bytes : List ℕ) (fault : CertFault) (o : Option A) (r : List ℕ) → test (next_field bytes) ≡ o → behind_field bytes ≡ r
-    → any_rest (field_fault kind (total - length bytes)) ok total o r ≡ Err fault → HasFirstFault (any_field kind fits spelled test ok) total bytes fault
+any_fault : (A : Type 0) (kind : FieldKind) (fits : A → Bool) (spelled : A → List ℕ) (test : List ℕ → Option A)
+    (ok : ℕ → Bool) → IsField A fits spelled test → AreSeparators ok
+    → (total : ℕ) (bytes : List ℕ) (fault : CertFault) (o : Option A) (r : List ℕ) → test (next_field bytes) ≡ o
+    → behind_field bytes ≡ r
+    → any_rest (field_fault kind (total - length bytes)) ok total o r ≡ Err fault
+    → HasFirstFault (any_field kind fits spelled test ok) total bytes fault
 unfolding items_text
 any_fault A kind fits spelled test ok is seps total bytes fault o [] he hr e = record {
   items = [];
@@ -157,9 +168,12 @@ any_fault A kind fits spelled test ok is seps total bytes fault (Some x) (b ∷ 
     }
 
 -- ---- the other way round
-short_or : (A : Type 0) (kind : FieldKind) (fits : A → Bool) (spelled : A → List ℕ) (test : List ℕ → Option A) (ok : ℕ → Bool) → IsField A fits spelled test → AreSeparators ok
-    → (total : ℕ) (bytes : List ℕ) (fault : CertFault) (o : Option A) (r : List ℕ) → test (next_field bytes) ≡ o → behind_field bytes ≡ r
-    → Stops (any_field kind fits spelled test ok) [] (of_field kind) total bytes fault → any_rest (field_fault kind (total - length bytes)) ok total o r ≡ Err fault
+short_or : (A : Type 0) (kind : FieldKind) (fits : A → Bool) (spelled : A → List ℕ) (test : List ℕ → Option A)
+    (ok : ℕ → Bool) → IsField A fits spelled test → AreSeparators ok
+    → (total : ℕ) (bytes : List ℕ) (fault : CertFault) (o : Option A) (r : List ℕ) → test (next_field bytes) ≡ o
+    → behind_field bytes ≡ r
+    → Stops (any_field kind fits spelled test ok) [] (of_field kind) total bytes fault
+    → any_rest (field_fault kind (total - length bytes)) ok total o r ≡ Err fault
 short_or A kind fits spelled test ok is seps total bytes fault o [] he hr (cut_short short f) = ap Err (sym f)
 short_or A kind fits spelled test ok is seps total bytes fault o [] he hr (unfit long none f) = absurd (let bad = sym long ∙ ap is_empty hr in cc)
 short_or A kind fits spelled test ok is seps total bytes fault o (b ∷ more) he hr (cut_short short f) = absurd (let bad = sym short ∙ ap is_empty hr in cc)
@@ -168,7 +182,8 @@ short_or A kind fits spelled test ok is seps total bytes fault (Some x) (b ∷ m
     let q = is.only (next_field bytes) x he in
     absurd (none ((x, seps.some_sep), separator seps.some_sep ∷ [], and_from (fits x) (ok seps.some_sep) q.0 seps.some_ok, ap (λ (u : List ℕ). field kind u ∷ separator seps.some_sep ∷ []) (sym q.1)))
 
-byte_by : (b : ℕ) (more : List ℕ) (t : Bool) → is_field_byte b ≡ t → next_field (b ∷ more) ≡ [] → is_field_byte b ≡ false
+byte_by : (b : ℕ) (more : List ℕ) (t : Bool) → is_field_byte b ≡ t → next_field (b ∷ more) ≡ []
+    → is_field_byte b ≡ false
 byte_by b more true h e =
     let n = prefix_len is_field_byte more in
     let one : 1 + n ≡ suc n = omega arith in
@@ -176,7 +191,8 @@ byte_by b more true h e =
     absurd cc
 byte_by b more false h e = h
 
-after_field : (A : Type 0) (kind : FieldKind) (fits : A → Bool) (spelled : A → List ℕ) (test : List ℕ → Option A) (ok : ℕ → Bool) → IsField A fits spelled test
+after_field : (A : Type 0) (kind : FieldKind) (fits : A → Bool) (spelled : A → List ℕ) (test : List ℕ → Option A)
+    (ok : ℕ → Bool) → IsField A fits spelled test
     → (total : ℕ) (x : A) (left : List ℕ) (fault : CertFault) → fits x ≡ true → next_field left ≡ []
     → Stops (any_field kind fits spelled test ok) (field kind (spelled x) ∷ []) of_separator total left fault
     → (any_field kind fits spelled test ok).read total (spelled x ++ left) ≡ Err fault
@@ -203,10 +219,14 @@ after_field A kind fits spelled test ok is total x (b ∷ more) fault fx whole (
 abbrev at_items : {A : Type 0} → Format A → List Item → Place → ℕ → List ℕ → CertFault → Type 0
 at_items f items place total left fault = Stops f items place total left fault
 
-any_found_at : (A : Type 0) (kind : FieldKind) (fits : A → Bool) (spelled : A → List ℕ) (test : List ℕ → Option A) (ok : ℕ → Bool) → IsField A fits spelled test → AreSeparators ok
-    → (total : ℕ) (fault : CertFault) (items : List Item) (item : Item) (more : List Item) (place : Place) (left : List ℕ) (x : A) (sep : ℕ) → fits x ≡ true
-    → field kind (spelled x) ∷ separator sep ∷ [] ≡ (items ++ item ∷ []) ++ more → place_of_item item ≡ place → (place ≡ of_separator → next_field left ≡ [])
-    → Stops (any_field kind fits spelled test ok) items place total left fault → (any_field kind fits spelled test ok).read total (items_text items ++ left) ≡ Err fault
+any_found_at : (A : Type 0) (kind : FieldKind) (fits : A → Bool) (spelled : A → List ℕ) (test : List ℕ → Option A)
+    (ok : ℕ → Bool) → IsField A fits spelled test → AreSeparators ok
+    → (total : ℕ) (fault : CertFault) (items : List Item) (item : Item) (more : List Item) (place : Place) (left : List ℕ) (x : A) (sep : ℕ)
+    → fits x ≡ true
+    → field kind (spelled x) ∷ separator sep ∷ [] ≡ (items ++ item ∷ []) ++ more → place_of_item item ≡ place
+    → (place ≡ of_separator → next_field left ≡ [])
+    → Stops (any_field kind fits spelled test ok) items place total left fault
+    → (any_field kind fits spelled test ok).read total (items_text items ++ left) ≡ Err fault
 unfolding items_text
 any_found_at A kind fits spelled test ok is seps total fault [] item more place left x sep fx e kinds whole stop =
     let here : item ≡ field kind (spelled x) = cc in
@@ -227,7 +247,8 @@ any_found_at A kind fits spelled test ok is seps total fault (i ∷ j ∷ items)
     let lengths : 2 ≡ length (((i ∷ j ∷ items) ++ item ∷ []) ++ more) = ap length e in
     absurd (omega (arith, lengths, length-append ((i ∷ j ∷ items) ++ item ∷ []) more, length-append (i ∷ j ∷ items) (item ∷ [])))
 
-any_laws : (A : Type 0) (kind : FieldKind) (fits : A → Bool) (spelled : A → List ℕ) (test : List ℕ → Option A) (ok : ℕ → Bool) → IsField A fits spelled test → AreSeparators ok
+any_laws : (A : Type 0) (kind : FieldKind) (fits : A → Bool) (spelled : A → List ℕ) (test : List ℕ → Option A)
+    (ok : ℕ → Bool) → IsField A fits spelled test → AreSeparators ok
     → IsFormat (A × ℕ) (any_field kind fits spelled test ok)
 any_laws A kind fits spelled test ok is seps = record {
   again = any_again A kind fits spelled test ok is seps;
@@ -259,7 +280,8 @@ one_separator sep s = record {
 abbrev got : {A : Type 0} → A → List ℕ → Result (A × List ℕ) CertFault
 got x left = Ok (x, left)
 
-one_sep : (A : Type 0) (fault : CertFault) (x : A) (b : ℕ) (left : List ℕ) (t : Bool) → cond t (got x left) (failed fault) ≡ (pair_sep fault x b left t >>= λ p. got p.0.0 p.1)
+one_sep : (A : Type 0) (fault : CertFault) (x : A) (b : ℕ) (left : List ℕ) (t : Bool)
+    → cond t (got x left) (failed fault) ≡ (pair_sep fault x b left t >>= λ p. got p.0.0 p.1)
 one_sep A fault x b left true = refl
 one_sep A fault x b left false = refl
 
@@ -269,7 +291,8 @@ one_rest A fault sep total o [] = refl
 one_rest A fault sep total None (b ∷ left) = refl
 one_rest A fault sep total (Some x) (b ∷ left) = one_sep A (CertSyntax (total - length (b ∷ left))) x b left (eqb b sep)
 
-pub one_field_laws : (A : Type 0) (kind : FieldKind) (fits : A → Bool) (spelled : A → List ℕ) (test : List ℕ → Option A) (sep : ℕ) → is_field_byte sep ≡ false → IsField A fits spelled test
+pub one_field_laws : (A : Type 0) (kind : FieldKind) (fits : A → Bool) (spelled : A → List ℕ) (test : List ℕ → Option A)
+    (sep : ℕ) → is_field_byte sep ≡ false → IsField A fits spelled test
     → IsFormat A (one_field kind fits spelled test sep)
 unfolding read_field
 one_field_laws A kind fits spelled test sep s is =
@@ -283,7 +306,8 @@ one_field_laws A kind fits spelled test sep s is =
     (any_laws A kind fits spelled test (is_it sep) is (one_separator sep s))
 
 -- ---- the kinds of fields
-pub whole_laws : (low high sep : ℕ) → low ≤ high → high ≤ 2 ^ 127 → is_field_byte sep ≡ false → IsFormat ℕ (whole_field low high sep)
+pub whole_laws : (low high sep : ℕ) → low ≤ high → high ≤ 2 ^ 127 → is_field_byte sep ≡ false
+    → IsFormat ℕ (whole_field low high sep)
 whole_laws low high sep some small s = one_field_laws ℕ number _ decimal (whole_in low high) sep s (record {
   inside = λ n fits. (let p = and_parts (leb low n) (leb n high) fits in decimal_inside n (omega (arith, leb-true n high p.1)));
   again = λ n fits. (let p = and_parts (leb low n) (leb n high) fits in whole_again low high n small (leb-true low n p.0) (leb-true n high p.1));
@@ -301,7 +325,8 @@ integer_laws most sep small s = one_field_laws ℤ number _ signed_decimal (inte
   some_fits = le-leb 0 most (omega arith);
 })
 
-pub fraction_laws : (most sep : ℕ) → 1 ≤ most → most ≤ 2 ^ 126 → is_field_byte sep ≡ false → IsFormat Fraction (fraction_field most sep)
+pub fraction_laws : (most sep : ℕ) → 1 ≤ most → most ≤ 2 ^ 126 → is_field_byte sep ≡ false
+    → IsFormat Fraction (fraction_field most sep)
 fraction_laws most sep one small s = one_field_laws Fraction number (is_lowest_within most) fraction_text (fraction_in most) sep s (record {
   inside = λ f fits. fraction_inside most f small (lowest_parts most f fits);
   again = λ f fits. fraction_again most f small (lowest_parts most f fits);
@@ -310,11 +335,13 @@ fraction_laws most sep one small s = one_field_laws Fraction number (is_lowest_w
   some_fits = lowest_from most (record { num = ℤ.pos 0; den = 1 }) (record { positive = omega arith; coprime = gcd_one 0; num = omega arith; den = one });
 })
 
-the_word : (wanted bytes : List ℕ) (x : Unit {0}) (t : Bool) → pointwise eqb bytes wanted ≡ t → cond (pointwise eqb bytes wanted) (Some tt) None ≡ Some x → bytes ≡ wanted
+the_word : (wanted bytes : List ℕ) (x : Unit {0}) (t : Bool) → pointwise eqb bytes wanted ≡ t
+    → cond (pointwise eqb bytes wanted) (Some tt) None ≡ Some x → bytes ≡ wanted
 the_word wanted bytes x true h e = word_same bytes wanted h
 the_word wanted bytes x false h e = absurd (let bad = sym (ap (λ t. cond t (Some tt) None) h) ∙ e in cc)
 
-pub fixed_laws : (kind : FieldKind) (wanted : List ℕ) (sep : ℕ) → all_pass is_field_byte wanted ≡ true → is_field_byte sep ≡ false → IsFormat (Unit {0}) (fixed_field kind wanted sep)
+pub fixed_laws : (kind : FieldKind) (wanted : List ℕ) (sep : ℕ) → all_pass is_field_byte wanted ≡ true
+    → is_field_byte sep ≡ false → IsFormat (Unit {0}) (fixed_field kind wanted sep)
 fixed_laws kind wanted sep h s = one_field_laws (Unit {0}) kind (λ _. true) (λ _. wanted) (same_bytes wanted) sep s (record {
   inside = λ x fits. h;
   again = λ x fits. ap (λ t. cond t (Some tt) None) (word_itself wanted);
@@ -348,7 +375,8 @@ sep_by b false false h k e =
     let neither : (eqb b 32 || eqb b 10) ≡ false = λ i. h i || k i in
     absurd (let bad = sym (ap (λ t. not (not t)) neither) ∙ e in cc)
 
-end_rest : (fault : CertFault) (total : ℕ) (o : Option ℕ) (r : List ℕ) → ((b : ℕ) (more : List ℕ) → r ≡ b ∷ more → is_field_byte b ≡ false)
+end_rest : (fault : CertFault) (total : ℕ) (o : Option ℕ) (r : List ℕ)
+    → ((b : ℕ) (more : List ℕ) → r ≡ b ∷ more → is_field_byte b ≡ false)
     → cond (is_empty r) (Err CertShort) (with_end_if_fit fault o r) ≡ (any_rest fault is_separator total o r >>= λ p. got (p.0.0, eqb p.0.1 feed) p.1)
 end_rest fault total o [] s = refl
 end_rest fault total None (b ∷ left) s = refl

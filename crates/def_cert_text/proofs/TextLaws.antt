@@ -27,7 +27,8 @@ at_end : (total : ℕ) (c d : Certificate) (left : List ℕ) → if_at_end total
 at_end total c d [] e = (refl, ok_is c d e)
 at_end total c d (b ∷ more) e = absurd cc
 
-read : (bytes : List ℕ) (c : Certificate) → cert_in bytes ≡ Ok c → (whole_certificate.fits c ≡ true) × (bytes ≡ cert_text c)
+read : (bytes : List ℕ) (c : Certificate) → cert_in bytes ≡ Ok c
+    → (whole_certificate.fits c ≡ true) × (bytes ≡ cert_text c)
 unfolding cert_in
 read bytes c e =
     let total = length bytes in
@@ -51,10 +52,12 @@ texts_tell c d fc fd e = ok_is c d (sym (written c (ranges_fit c fc)) ∙ ap cer
 some_left : (b : ℕ) (more : List ℕ) → (b ∷ more) ≢ []
 some_left b more e = cc
 
-fault_of_end : (total : ℕ) (c : Certificate) (b : ℕ) (more : List ℕ) (fault : CertFault) → if_at_end total c (b ∷ more) ≡ Err fault → fault ≡ CertTrailing (total - length (b ∷ more))
+fault_of_end : (total : ℕ) (c : Certificate) (b : ℕ) (more : List ℕ) (fault : CertFault)
+    → if_at_end total c (b ∷ more) ≡ Err fault → fault ≡ CertTrailing (total - length (b ∷ more))
 fault_of_end total c b more fault e = cc
 
-trailing_of : (bytes : List ℕ) (c : Certificate) (left : List ℕ) (fault : CertFault) → whole_certificate.fits c ≡ true → bytes ≡ cert_text c ++ left → if_at_end (length bytes) c left ≡ Err fault → IsTrailing bytes fault
+trailing_of : (bytes : List ℕ) (c : Certificate) (left : List ℕ) (fault : CertFault) → whole_certificate.fits c ≡ true
+    → bytes ≡ cert_text c ++ left → if_at_end (length bytes) c left ≡ Err fault → IsTrailing bytes fault
 trailing_of bytes c [] fault fits parts e = absurd cc
 trailing_of bytes c (b ∷ more) fault fits parts e =
     let place : length bytes - length (b ∷ more) ≡ length (cert_text c) = omega (arith, ap length parts, length-append (cert_text c) (b ∷ more)) in
@@ -79,7 +82,8 @@ stops bytes fault e =
     behind (trailing_of bytes x.0 x.1 fault one.0 one.1 later.2))
     (bind_err (whole_certificate.read total bytes) (end_of total) fault e)
 
-no_end : (total : ℕ) (c : Certificate) (left : List ℕ) → left ≢ [] → if_at_end total c left ≡ Err (CertTrailing (total - length left))
+no_end : (total : ℕ) (c : Certificate) (left : List ℕ) → left ≢ []
+    → if_at_end total c left ≡ Err (CertTrailing (total - length left))
 no_end total c [] some = absurd (some refl)
 no_end total c (b ∷ more) some = refl
 

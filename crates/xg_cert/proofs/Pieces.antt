@@ -11,7 +11,8 @@ use Rattle.def_cert_text.specs.CertText.{line_of_round, round_of_evaluation, tra
 use Rattle.def_cert_text.proofs.TextLines.{text_lines}
 use Rattle.xg_cert.specs.Writable.{opening, end_text, bracket_text, ends_text, below_text, above_text}
 
-each_same : {A : Type 0} (f g : ℕ → Format A) → ((k : ℕ) (x : A) → (f k).items x ≡ (g k).items x) → (k : ℕ) (xs : List A)
+each_same : {A : Type 0} (f g : ℕ → Format A) → ((k : ℕ) (x : A) → (f k).items x ≡ (g k).items x)
+    → (k : ℕ) (xs : List A)
     → each_items f k xs ≡ each_items g k xs
 unfolding each_items
 each_same f g same k [] = refl

@@ -51,12 +51,14 @@ field-items k w s items = append_assoc w (s ∷ []) (items_text items)
 
 -- a front of the first field is a front of the whole
 pub first_field : (before now : Option (List ℕ)) (k : FieldKind) (w : List ℕ) (s : ℕ) (items : List Item)
-    → AppendsPrefix before now (field_text w s) → AppendsPrefix before now (items_text (field k w ∷ separator s ∷ items))
+    → AppendsPrefix before now (field_text w s)
+    → AppendsPrefix before now (items_text (field k w ∷ separator s ∷ items))
 first_field before now k w s items p =
     subst (AppendsPrefix before now) (field-items k w s items) (prefix_first before now (field_text w s) (items_text items) p)
 
 -- the first field, and then the rest
-pub then_field : {T E : Type 0} (before middle now : Option (List ℕ)) (k : FieldKind) (w : List ℕ) (s : ℕ) (items : List Item)
+pub then_field : {T E : Type 0} (before middle now : Option (List ℕ)) (k : FieldKind) (w : List ℕ) (s : ℕ)
+    (items : List Item)
     (r : Result T E) → middle ≡ append_known before (field_text w s) → Writes middle now (items_text items) r
     → Writes before now (items_text (field k w ∷ separator s ∷ items)) r
 then_field before middle now k w s items r e w' =
@@ -112,7 +114,8 @@ pub record Progress (before now : Option (List ℕ)) (all left : List ℕ) : Typ
 
 -- a piece more is written
 pub goes_on : (before middle now : Option (List ℕ)) (all left piece rest : List ℕ)
-    → Progress before middle all left → left ≡ piece ++ rest → now ≡ append_known middle piece → Progress before now all rest
+    → Progress before middle all left → left ≡ piece ++ rest → now ≡ append_known middle piece
+    → Progress before now all rest
 goes_on before middle now all left piece rest p e w = record {
   front = p.front ++ piece;
   written = whole_then before middle now p.front piece p.written w;
@@ -121,13 +124,15 @@ goes_on before middle now all left piece rest p e w = record {
 
 -- a piece failed
 pub fails : (before middle now : Option (List ℕ)) (all left piece rest : List ℕ)
-    → Progress before middle all left → left ≡ piece ++ rest → AppendsPrefix middle now piece → AppendsPrefix before now all
+    → Progress before middle all left → left ≡ piece ++ rest → AppendsPrefix middle now piece
+    → AppendsPrefix before now all
 fails before middle now all left piece rest p e w =
     subst (AppendsPrefix before now) (ap (λ (ys : List ℕ). p.front ++ ys) (sym e) ∙ p.parts)
     (prefix_then before middle now p.front (piece ++ rest) p.written (prefix_first middle now piece rest w))
 
 -- nothing is left
-pub finished : (before now : Option (List ℕ)) (all : List ℕ) → Progress before now all [] → now ≡ append_known before all
+pub finished : (before now : Option (List ℕ)) (all : List ℕ) → Progress before now all []
+    → now ≡ append_known before all
 finished before now all p = p.written ∙ ap (append_known before) (sym (append-nil p.front) ∙ p.parts)
 
 -- the last piece, written or not
@@ -154,7 +159,8 @@ each_left f k xs i d lt =
     ap (λ ys. items_text (each_items f k ys)) (drop_next xs i d lt)
     ∙ items_text-append ((f k).items (get_or xs i d)) (each_items f (k + 1) (drop (i + 1) xs))
 
-each_all : {A : Type 0} (f : ℕ → Format A) (k : ℕ) (xs : List A) (i : ℕ) → length xs ≤ i → items_text (each_items f k (drop i xs)) ≡ []
+each_all : {A : Type 0} (f : ℕ → Format A) (k : ℕ) (xs : List A) (i : ℕ) → length xs ≤ i
+    → items_text (each_items f k (drop i xs)) ≡ []
 unfolding each_items items_text
 each_all f k [] zero le = refl
 each_all f k [] (suc i) le = refl
@@ -162,7 +168,8 @@ each_all f k (x ∷ xs) zero le = absurd (omega arith)
 each_all f k (x ∷ xs) (suc i) le = each_all f k xs i (omega arith)
 
 -- one value of many is written
-pub each_step : {A : Type 0} (f : ℕ → Format A) (before middle now : Option (List ℕ)) (xs : List A) (i : ℕ) (d : A) → i < length xs
+pub each_step : {A : Type 0} (f : ℕ → Format A) (before middle now : Option (List ℕ)) (xs : List A) (i : ℕ) (d : A)
+    → i < length xs
     → Progress before middle (items_text (each_items f 1 xs)) (items_text (each_items f (i + 1) (drop i xs)))
     → now ≡ append_known middle (text_of (f (i + 1)) (get_or xs i d))
     → Progress before now (items_text (each_items f 1 xs)) (items_text (each_items f (i + 1 + 1) (drop (i + 1) xs)))
@@ -170,9 +177,11 @@ each_step f before middle now xs i d lt p w =
     goes_on before middle now (items_text (each_items f 1 xs)) _ (text_of (f (i + 1)) (get_or xs i d)) _ p (each_left f (i + 1) xs i d lt) w
 
 -- one value of many failed
-pub each_fail : {A : Type 0} (f : ℕ → Format A) (before middle now : Option (List ℕ)) (xs : List A) (i : ℕ) (d : A) → i < length xs
+pub each_fail : {A : Type 0} (f : ℕ → Format A) (before middle now : Option (List ℕ)) (xs : List A) (i : ℕ) (d : A)
+    → i < length xs
     → Progress before middle (items_text (each_items f 1 xs)) (items_text (each_items f (i + 1) (drop i xs)))
-    → AppendsPrefix middle now (text_of (f (i + 1)) (get_or xs i d)) → AppendsPrefix before now (items_text (each_items f 1 xs))
+    → AppendsPrefix middle now (text_of (f (i + 1)) (get_or xs i d))
+    → AppendsPrefix before now (items_text (each_items f 1 xs))
 each_fail f before middle now xs i d lt p w =
     fails before middle now (items_text (each_items f 1 xs)) _ (text_of (f (i + 1)) (get_or xs i d)) _ p (each_left f (i + 1) xs i d lt) w
 
@@ -185,7 +194,8 @@ each_end f before now xs i le p =
     (subst (Progress before now (items_text (each_items f 1 xs))) (each_all f (i + 1) xs i le) p)
 
 -- reading a mapped list
-pub get_or-map : {A B : Type 0} (f : A → B) (xs : List A) (i : ℕ) (d : A) → get_or (map f xs) i (f d) ≡ f (get_or xs i d)
+pub get_or-map : {A B : Type 0} (f : A → B) (xs : List A) (i : ℕ) (d : A)
+    → get_or (map f xs) i (f d) ≡ f (get_or xs i d)
 get_or-map f [] i d = refl
 get_or-map f (x ∷ xs) zero d = refl
 get_or-map f (x ∷ xs) (suc i) d = get_or-map f xs i d
@@ -199,7 +209,8 @@ row_left (n ∷ []) i d lt = absurd (omega arith)
 row_left (n ∷ m ∷ ns) zero d lt = sym (append_assoc (decimal n) (space ∷ []) (items_text (row_items (m ∷ ns))))
 row_left (n ∷ m ∷ ns) (suc i) d lt = let e : suc i + 1 ≡ suc (i + 1) = omega arith in rw e (row_left (m ∷ ns) i d (omega arith))
 
-pub row_last : (ns : List ℕ) (i d : ℕ) → i + 1 ≡ length ns → items_text (row_items (drop i ns)) ≡ field_text (decimal (get_or ns i d)) feed
+pub row_last : (ns : List ℕ) (i d : ℕ) → i + 1 ≡ length ns
+    → items_text (row_items (drop i ns)) ≡ field_text (decimal (get_or ns i d)) feed
 unfolding items_text field_text
 row_last [] i d e = absurd (omega arith)
 row_last (n ∷ []) zero d e = refl
