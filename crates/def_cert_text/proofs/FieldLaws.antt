@@ -101,7 +101,8 @@ rest_of unfit sep total o r = cond (is_empty r) (Err CertShort) (if_fit unfit se
 abbrev pub sep_of : {A : Type 0} → ℕ → A → ℕ → List ℕ → Bool → Result (A × List ℕ) CertFault
 sep_of total x b left t = cond t (Ok (x, left)) (Err (CertSyntax (total - length (b ∷ left))))
 
-pub field_again : {A : Type 0} (kind : FieldKind) (test : List ℕ → Option A) (sep total : ℕ) (bytes left : List ℕ) (x : A)
+pub field_again : {A : Type 0} (kind : FieldKind) (test : List ℕ → Option A) (sep total : ℕ) (bytes left : List ℕ)
+    (x : A)
     → all_pass is_field_byte bytes ≡ true → is_field_byte sep ≡ false → test bytes ≡ Some x
     → read_field kind test sep total ((bytes ++ sep ∷ []) ++ left) ≡ Ok (x, left)
 unfolding read_field
@@ -131,8 +132,8 @@ only_some unfit sep total o [] x left e = absurd cc
 only_some unfit sep total None (b ∷ more) x left e = absurd cc
 only_some unfit sep total (Some y) (b ∷ more) x left e = only_sep sep total y b more x left (eqb b sep) refl e
 
-pub field_only : {A : Type 0} (kind : FieldKind) (test : List ℕ → Option A) (sep total : ℕ) (bytes : List ℕ) (x : A) (left : List ℕ)
-    → read_field kind test sep total bytes ≡ Ok (x, left)
+pub field_only : {A : Type 0} (kind : FieldKind) (test : List ℕ → Option A) (sep total : ℕ) (bytes : List ℕ) (x : A)
+    (left : List ℕ) → read_field kind test sep total bytes ≡ Ok (x, left)
     → (front : List ℕ) × (test front ≡ Some x) × (bytes ≡ (front ++ sep ∷ []) ++ left)
 unfolding read_field
 field_only kind test sep total bytes x left e =

@@ -34,15 +34,12 @@ clean_append (x ∷ xs) ys h k = let q = and_parts (is_clean x) (all_clean xs) h
 -- what holds of a format
 pub record IsFormat (A : Type 0) (f : Format A) : Type 0 where
   pub again : (total : ℕ) (x : A) (left : List ℕ) → f.fits x ≡ true → f.read total (text_of f x ++ left) ≡ Ok (x, left)
-  pub only : (total : ℕ) (bytes : List ℕ) (x : A) (left : List ℕ) → f.read total bytes ≡ Ok (x, left)
-      → (f.fits x ≡ true) × (bytes ≡ text_of f x ++ left)
+  pub only : (total : ℕ) (bytes : List ℕ) (x : A) (left : List ℕ) → f.read total bytes ≡ Ok (x, left) → (f.fits x ≡ true) × (bytes ≡ text_of f x ++ left)
   pub some : A
   pub some_fits : f.fits some ≡ true
   pub clean : (x : A) → f.fits x ≡ true → all_clean (f.items x) ≡ true
-  pub faults : (total : ℕ) (bytes : List ℕ) (fault : CertFault) → f.read total bytes ≡ Err fault
-      → HasFirstFault f total bytes fault
-  pub found : (total : ℕ) (bytes : List ℕ) (fault : CertFault) → HasFirstFault f total bytes fault
-      → f.read total bytes ≡ Err fault
+  pub faults : (total : ℕ) (bytes : List ℕ) (fault : CertFault) → f.read total bytes ≡ Err fault → HasFirstFault f total bytes fault
+  pub found : (total : ℕ) (bytes : List ℕ) (fault : CertFault) → HasFirstFault f total bytes fault → f.read total bytes ≡ Err fault
 
 -- ---- the same values under another form
 pub record IsView (A B : Type 0) (f : Format A) (g : Format B) (to : A → B) : Type 0 where
@@ -64,7 +61,8 @@ from_view A B f g to is items p =
     let b = is.back p.0 p.2 in
     (b.0, p.1, b.1, sym (is.items b.0 b.1) ∙ ap g.items b.2 ∙ p.3)
 
-stop_by : (A B : Type 0) (f : Format A) (g : Format B) (xs ys : List Item) (place : Place) (total : ℕ) (left : List ℕ) (fault : CertFault)
+stop_by : (A B : Type 0) (f : Format A) (g : Format B) (xs ys : List Item) (place : Place) (total : ℕ) (left : List ℕ)
+    (fault : CertFault)
     → (CanGoOn g (ys ++ item_there place left ∷ []) → CanGoOn f (xs ++ item_there place left ∷ []))
     → Stops f xs place total left fault → Stops g ys place total left fault
 stop_by A B f g xs ys place total left fault back (cut_short short is) = cut_short short is
@@ -323,8 +321,8 @@ found_first A B f g first second total bytes fault h needs =
     } in
     ap (λ (r : Result (A × List ℕ) CertFault). r >>= second_of g total) (first.found total bytes fault low)
 
-stop_at : (A : Type 0) (f : Format A) (xs ys : List Item) (place : Place) (total : ℕ) (left : List ℕ) (fault : CertFault)
-    → xs ≡ ys → Stops f xs place total left fault → Stops f ys place total left fault
+stop_at : (A : Type 0) (f : Format A) (xs ys : List Item) (place : Place) (total : ℕ) (left : List ℕ)
+    (fault : CertFault) → xs ≡ ys → Stops f xs place total left fault → Stops f ys place total left fault
 stop_at A f xs ys place total left fault same = subst (λ (ts : List Item). Stops f ts place total left fault) same
 
 found_second : (A B : Type 0) (f : Format A) (g : A → Format B) → IsFormat A f

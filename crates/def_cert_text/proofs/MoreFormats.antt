@@ -164,8 +164,8 @@ next_row most more total n = cond n.0.1 (got (n.0.0 ∷ []) n.1) (read_row most 
 abbrev next_pair : ℕ → ℕ → ℕ → ((ℕ × Bool) × List ℕ) → Result (((ℕ × Bool) × Option (List ℕ)) × List ℕ) CertFault
 next_pair most more total n = (behind_number most more n.0).read total n.1 >>= λ y. got (n.0, y.0) y.1
 
-row_read_by : (most more total n : ℕ) (last : Bool) (left : List ℕ)
-    → next_row most more total ((n, last), left) ≡ (next_pair most more total ((n, last), left) >>= λ p. got (row_by p.0) p.1)
+row_read_by : (most more total n : ℕ) (last : Bool) (left : List ℕ) → next_row most more total ((n, last), left) ≡
+    (next_pair most more total ((n, last), left) >>= λ p. got (row_by p.0) p.1)
 row_read_by most more total n true left = refl
 row_read_by most more total n false left = inner (read_row most more total left)
   where

@@ -29,7 +29,8 @@ any_if_fit off ok total (Some x) left = any_sep ok total x left
 abbrev any_rest : {A : Type 0} → CertFault → (ℕ → Bool) → ℕ → Option A → List ℕ → Result ((A × ℕ) × List ℕ) CertFault
 any_rest off ok total o left = cond (is_empty left) (Err CertShort) (any_if_fit off ok total o left)
 
-abbrev any_field : {A : Type 0} → FieldKind → (A → Bool) → (A → List ℕ) → (List ℕ → Option A) → (ℕ → Bool) → Format (A × ℕ)
+abbrev any_field : {A : Type 0} → FieldKind → (A → Bool) → (A → List ℕ) → (List ℕ → Option A) → (ℕ → Bool)
+    → Format (A × ℕ)
 any_field kind fits spelled test ok = record {
   fits = λ p. fits p.0 && ok p.1;
   items = λ p. field kind (spelled p.0) ∷ separator p.1 ∷ [];
@@ -52,8 +53,8 @@ record AreSeparators (ok : ℕ → Bool) : Type 0 where
 abbrev pair_sep : {A : Type 0} → CertFault → A → ℕ → List ℕ → Bool → Result ((A × ℕ) × List ℕ) CertFault
 pair_sep fault x b left t = cond t (Ok ((x, b), left)) (Err fault)
 
-any_again : (A : Type 0) (kind : FieldKind) (fits : A → Bool) (spelled : A → List ℕ) (test : List ℕ → Option A) (ok : ℕ → Bool)
-    → IsField A fits spelled test → AreSeparators ok
+any_again : (A : Type 0) (kind : FieldKind) (fits : A → Bool) (spelled : A → List ℕ) (test : List ℕ → Option A)
+    (ok : ℕ → Bool) → IsField A fits spelled test → AreSeparators ok
     → (total : ℕ) (p : A × ℕ) (left : List ℕ) → (any_field kind fits spelled test ok).fits p ≡ true
     → (any_field kind fits spelled test ok).read total (text_of (any_field kind fits spelled test ok) p ++ left) ≡ Ok (p, left)
 unfolding items_text
@@ -77,8 +78,8 @@ sep_only : (A : Type 0) (fault : CertFault) (x : A) (b : ℕ) (more : List ℕ) 
 sep_only A fault x b more p left true e = let f = ok_is ((x, b), more) (p, left) e in (refl, ap (λ q. q.0) f, ap (λ q. q.1) f)
 sep_only A fault x b more p left false e = absurd cc
 
-rest_only : (A : Type 0) (fault : CertFault) (ok : ℕ → Bool) (total : ℕ) (o : Option A) (r : List ℕ) (p : A × ℕ) (left : List ℕ)
-    → any_rest fault ok total o r ≡ Ok (p, left)
+rest_only : (A : Type 0) (fault : CertFault) (ok : ℕ → Bool) (total : ℕ) (o : Option A) (r : List ℕ) (p : A × ℕ)
+    (left : List ℕ) → any_rest fault ok total o r ≡ Ok (p, left)
     → (o ≡ Some p.0) × (ok p.1 ≡ true) × (r ≡ p.1 ∷ left)
 rest_only A fault ok total o [] p left e = absurd cc
 rest_only A fault ok total None (b ∷ more) p left e = absurd cc
@@ -86,8 +87,8 @@ rest_only A fault ok total (Some x) (b ∷ more) p left e =
     let q = sep_only A (CertSyntax (total - length (b ∷ more))) x b more p left (ok b) e in
     (ap (λ z. Some z.0) q.1, ap (λ z. ok z.1) (sym q.1) ∙ q.0, (λ i. (q.1 i).1 ∷ q.2 i))
 
-any_only : (A : Type 0) (kind : FieldKind) (fits : A → Bool) (spelled : A → List ℕ) (test : List ℕ → Option A) (ok : ℕ → Bool)
-    → IsField A fits spelled test
+any_only : (A : Type 0) (kind : FieldKind) (fits : A → Bool) (spelled : A → List ℕ) (test : List ℕ → Option A)
+    (ok : ℕ → Bool) → IsField A fits spelled test
     → (total : ℕ) (bytes : List ℕ) (p : A × ℕ) (left : List ℕ)
     → (any_field kind fits spelled test ok).read total bytes ≡ Ok (p, left)
     → ((any_field kind fits spelled test ok).fits p ≡ true) × (bytes ≡ text_of (any_field kind fits spelled test ok) p ++ left)
@@ -121,8 +122,8 @@ second_same : (k : FieldKind) (u v : List ℕ) (a c : ℕ) (us vs : List Item)
     → field k u ∷ separator a ∷ us ≡ field k v ∷ separator c ∷ vs → (u ≡ v) × (a ≡ c)
 second_same k u v a c us vs e = (cc, cc)
 
-any_fault : (A : Type 0) (kind : FieldKind) (fits : A → Bool) (spelled : A → List ℕ) (test : List ℕ → Option A) (ok : ℕ → Bool)
-    → IsField A fits spelled test → AreSeparators ok
+any_fault : (A : Type 0) (kind : FieldKind) (fits : A → Bool) (spelled : A → List ℕ) (test : List ℕ → Option A)
+    (ok : ℕ → Bool) → IsField A fits spelled test → AreSeparators ok
     → (total : ℕ) (bytes : List ℕ) (fault : CertFault) (o : Option A) (r : List ℕ) → test (next_field bytes) ≡ o
     → behind_field bytes ≡ r
     → any_rest (field_fault kind (total - length bytes)) ok total o r ≡ Err fault
@@ -167,8 +168,8 @@ any_fault A kind fits spelled test ok is seps total bytes fault (Some x) (b ∷ 
     }
 
 -- ---- the other way round
-short_or : (A : Type 0) (kind : FieldKind) (fits : A → Bool) (spelled : A → List ℕ) (test : List ℕ → Option A) (ok : ℕ → Bool)
-    → IsField A fits spelled test → AreSeparators ok
+short_or : (A : Type 0) (kind : FieldKind) (fits : A → Bool) (spelled : A → List ℕ) (test : List ℕ → Option A)
+    (ok : ℕ → Bool) → IsField A fits spelled test → AreSeparators ok
     → (total : ℕ) (bytes : List ℕ) (fault : CertFault) (o : Option A) (r : List ℕ) → test (next_field bytes) ≡ o
     → behind_field bytes ≡ r
     → Stops (any_field kind fits spelled test ok) [] (of_field kind) total bytes fault
@@ -190,8 +191,8 @@ byte_by b more true h e =
     absurd cc
 byte_by b more false h e = h
 
-after_field : (A : Type 0) (kind : FieldKind) (fits : A → Bool) (spelled : A → List ℕ) (test : List ℕ → Option A) (ok : ℕ → Bool)
-    → IsField A fits spelled test
+after_field : (A : Type 0) (kind : FieldKind) (fits : A → Bool) (spelled : A → List ℕ) (test : List ℕ → Option A)
+    (ok : ℕ → Bool) → IsField A fits spelled test
     → (total : ℕ) (x : A) (left : List ℕ) (fault : CertFault) → fits x ≡ true → next_field left ≡ []
     → Stops (any_field kind fits spelled test ok) (field kind (spelled x) ∷ []) of_separator total left fault
     → (any_field kind fits spelled test ok).read total (spelled x ++ left) ≡ Err fault
@@ -218,8 +219,8 @@ after_field A kind fits spelled test ok is total x (b ∷ more) fault fx whole (
 abbrev at_items : {A : Type 0} → Format A → List Item → Place → ℕ → List ℕ → CertFault → Type 0
 at_items f items place total left fault = Stops f items place total left fault
 
-any_found_at : (A : Type 0) (kind : FieldKind) (fits : A → Bool) (spelled : A → List ℕ) (test : List ℕ → Option A) (ok : ℕ → Bool)
-    → IsField A fits spelled test → AreSeparators ok
+any_found_at : (A : Type 0) (kind : FieldKind) (fits : A → Bool) (spelled : A → List ℕ) (test : List ℕ → Option A)
+    (ok : ℕ → Bool) → IsField A fits spelled test → AreSeparators ok
     → (total : ℕ) (fault : CertFault) (items : List Item) (item : Item) (more : List Item) (place : Place) (left : List ℕ) (x : A) (sep : ℕ)
     → fits x ≡ true
     → field kind (spelled x) ∷ separator sep ∷ [] ≡ (items ++ item ∷ []) ++ more → place_of_item item ≡ place
@@ -246,8 +247,8 @@ any_found_at A kind fits spelled test ok is seps total fault (i ∷ j ∷ items)
     let lengths : 2 ≡ length (((i ∷ j ∷ items) ++ item ∷ []) ++ more) = ap length e in
     absurd (omega (arith, lengths, length-append ((i ∷ j ∷ items) ++ item ∷ []) more, length-append (i ∷ j ∷ items) (item ∷ [])))
 
-any_laws : (A : Type 0) (kind : FieldKind) (fits : A → Bool) (spelled : A → List ℕ) (test : List ℕ → Option A) (ok : ℕ → Bool)
-    → IsField A fits spelled test → AreSeparators ok
+any_laws : (A : Type 0) (kind : FieldKind) (fits : A → Bool) (spelled : A → List ℕ) (test : List ℕ → Option A)
+    (ok : ℕ → Bool) → IsField A fits spelled test → AreSeparators ok
     → IsFormat (A × ℕ) (any_field kind fits spelled test ok)
 any_laws A kind fits spelled test ok is seps = record {
   again = any_again A kind fits spelled test ok is seps;
@@ -290,8 +291,8 @@ one_rest A fault sep total o [] = refl
 one_rest A fault sep total None (b ∷ left) = refl
 one_rest A fault sep total (Some x) (b ∷ left) = one_sep A (CertSyntax (total - length (b ∷ left))) x b left (eqb b sep)
 
-pub one_field_laws : (A : Type 0) (kind : FieldKind) (fits : A → Bool) (spelled : A → List ℕ) (test : List ℕ → Option A) (sep : ℕ)
-    → is_field_byte sep ≡ false → IsField A fits spelled test
+pub one_field_laws : (A : Type 0) (kind : FieldKind) (fits : A → Bool) (spelled : A → List ℕ) (test : List ℕ → Option A)
+    (sep : ℕ) → is_field_byte sep ≡ false → IsField A fits spelled test
     → IsFormat A (one_field kind fits spelled test sep)
 unfolding read_field
 one_field_laws A kind fits spelled test sep s is =

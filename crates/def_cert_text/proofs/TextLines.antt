@@ -20,8 +20,8 @@ game_items head = game_lines.items (numbers_of_game head)
 abbrev asked_items : Head → List Item
 asked_items head = asked_line.items (head.rounds, (head.every, head.scale))
 
-behind_head : (head : Head) (ys : List Item) (zs : List ℕ) → items_text ys ≡ zs
-    → first_text ++ items_text ((game_items head ++ asked_items head) ++ ys) ≡ first_text ++ (head_text head ++ (asked_text head ++ zs))
+behind_head : (head : Head) (ys : List Item) (zs : List ℕ) → items_text ys ≡ zs → first_text ++ items_text
+    ((game_items head ++ asked_items head) ++ ys) ≡ first_text ++ (head_text head ++ (asked_text head ++ zs))
 unfolding items_text
 behind_head head ys zs e =
     ap (λ (bs : List ℕ). first_text ++ bs)

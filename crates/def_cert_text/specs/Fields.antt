@@ -67,7 +67,8 @@ if_fit unfit sep total None left = Err unfit
 if_fit unfit sep total (Some x) left = separated_by sep total x left
 
 -- a field that a test takes, and its separator; a field that touches the end is short, whatever it holds
-unfoldable pub read_field : {A : Type 0} → FieldKind → (List ℕ → Option A) → ℕ → ℕ → List ℕ → Result (A × List ℕ) CertFault
+unfoldable pub read_field : {A : Type 0} → FieldKind → (List ℕ → Option A) → ℕ → ℕ → List ℕ
+    → Result (A × List ℕ) CertFault
 read_field kind test sep total bytes =
     if is_empty (behind_field bytes) then Err CertShort
     else if_fit (field_fault kind (total - length bytes)) sep total (test (next_field bytes)) (behind_field bytes)

@@ -1,1 +1,3 @@
+pub mod SetLines
 pub mod Written
+pub mod Pieces

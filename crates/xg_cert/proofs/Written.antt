@@ -22,7 +22,8 @@ prefix_first before now xs ys p =
     take-append-le few xs ys (omega arith) ∙ take_min p.count xs in
     record { count = few; appended = p.appended ∙ ap (append_known before) (sym short) }
 
-prefix_then : (before middle now : Option (List ℕ)) (xs ys : List ℕ)
+-- the first piece, and a front of the rest
+pub prefix_then : (before middle now : Option (List ℕ)) (xs ys : List ℕ)
     → middle ≡ append_known before xs → AppendsPrefix middle now ys → AppendsPrefix before now (xs ++ ys)
 prefix_then before middle now xs ys e p = record {
   count = length xs + p.count;
@@ -56,7 +57,8 @@ first_field before now k w s items p =
     subst (AppendsPrefix before now) (field-items k w s items) (prefix_first before now (field_text w s) (items_text items) p)
 
 -- the first field, and then the rest
-pub then_field : {T E : Type 0} (before middle now : Option (List ℕ)) (k : FieldKind) (w : List ℕ) (s : ℕ) (items : List Item)
+pub then_field : {T E : Type 0} (before middle now : Option (List ℕ)) (k : FieldKind) (w : List ℕ) (s : ℕ)
+    (items : List Item)
     (r : Result T E) → middle ≡ append_known before (field_text w s) → Writes middle now (items_text items) r
     → Writes before now (items_text (field k w ∷ separator s ∷ items)) r
 then_field before middle now k w s items r e w' =

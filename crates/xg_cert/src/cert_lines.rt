@@ -4,8 +4,9 @@ ghost use Rattle.std.specs.Fmt.{decimal, signed_decimal};
 ghost use Rattle.def_outside.specs.Cause.{HasCause};
 ghost use Rattle.def_cert_text.specs.Fields.{space, feed, fixed_word, number, field, separator, items_text};
 ghost use Rattle.def_cert_text.specs.Formats.{text_of};
-ghost use Rattle.def_cert_text.specs.CertText.{asked_text, bracket_line, first_text, last_text, line_of_round, value_line};
+ghost use Rattle.def_cert_text.specs.CertText.{asked_text, bracket_line, last_text, line_of_round, value_line};
 ghost use Rattle.xg_cert.specs.Outcome.{head_of, line_of};
+ghost use Rattle.xg_cert.specs.Writable.{opening};
 ghost use Rattle.xg_cert.specs.Writes.{Writes};
 
 use crate::fields::{put_field, put_fraction, put_signed, put_whole};
@@ -15,8 +16,9 @@ use crate::outcome::TraceRow;
 use xg_frac::Ratio;
 use xg_io::{Sink, WriteFault, write_all};
 
+#[tactic(auto, unfolding(crate::specs::Writable::opening))]
 pub(crate) fn put_first_line<O: Sink>(out: &mut O) -> Result<(), WriteFault>
-    ensures text { Writes (O.written out.old) (O.written out.new) first_text result }
+    ensures text { Writes (O.written out.old) (O.written out.new) opening result }
     ensures cause { HasCause (O.faults out.old) (O.faults out.new) result }
 {
     write_all(out, b"XGCERT 1\n")
@@ -84,7 +86,12 @@ fn put_traced<O: Sink>(round: u32, total: i128, end: u8, out: &mut O) -> Result<
 }
 
 #[tactic(auto, using(crate::proofs::Written::first_two, crate::proofs::Written::then_two, crate::proofs::Written::first_field, crate::proofs::Written::then_field, crate::proofs::Written::last_field))]
-pub(crate) fn put_value_line<O: Sink>(set: u32, value: i128, choice: u32, out: &mut O) -> Result<(), WriteFault>
+pub(crate) fn put_value_line<O: Sink>(
+    set: u32,
+    value: i128,
+    choice: u32,
+    out: &mut O,
+) -> Result<(), WriteFault>
     ensures text { Writes (O.written out.old) (O.written out.new) (text_of (value_line set) (record { value = value; choice = choice })) result }
     ensures cause { HasCause (O.faults out.old) (O.faults out.new) result }
 {

@@ -7,7 +7,12 @@ mod head;
 mod lines;
 mod lists;
 mod outcome;
+mod writing;
 
 pub use head::Head;
 pub use lines::write_head;
 pub use outcome::{End, Outcome, TraceRow};
+pub use writing::write_cert;
+
+#[cfg(test)]
+mod tests;

@@ -1,4 +1,4 @@
-use Rattle.std.proofs.Common.{◌≡◌, ◌+◌, ◌∙◌, subst, arith, length, rules, get_or, sym, ap, List, ℕ, ◌-◌, drop}
+use Rattle.std.proofs.Common.{◌≡◌, ◌∙◌, subst, arith, length, rules, get_or, sym, ap, List, ℕ, ◌-◌, drop}
 use Rattle.std.specs.Fmt.{decimal}
 use Rattle.def_cert_text.specs.Fields.{feed, items_text}
 use Rattle.def_cert_text.specs.Formats.{row_items}
@@ -22,6 +22,6 @@ returns-clause-text g c =
     let ns = c.args.numbers.now in
     let here : c.numbers.i ≡ length ns - 1 = omega (arith, c.numbers-test.false, c.numbers.auto.i-end) in
     let last : items_text (row_items (drop c.numbers.i ns)) ≡ field_text (decimal (get_or ns (length ns - 1) 0)) feed =
-        row_last ns c.numbers.i 0 (omega (arith, c.requires)) ∙ ap (λ (i : ℕ). field_text (decimal (get_or ns i 0)) feed) here in
+    row_last ns c.numbers.i 0 (omega (arith, c.requires)) ∙ ap (λ (i : ℕ). field_text (decimal (get_or ns i 0)) feed) here in
     finishes _ (g.O.Sink.written c.numbers.out) _ _ _ c.put_whole-2.result c.numbers.invariant.so_far
     (subst (λ (t : List ℕ). Writes (g.O.Sink.written c.numbers.out) (g.O.Sink.written c.put_whole-2.new.out) t c.put_whole-2.result) (sym last) c.put_whole-2.ensures.text)
