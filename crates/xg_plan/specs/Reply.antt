@@ -13,7 +13,8 @@ abbrev pub set_replies : List ℤ → List ℕ → List SetReply
 set_replies values choices = map (λ p. record { value = p.0; choice = p.1 }) (zip values choices)
 
 abbrev pub worked : ℤ → List ℤ → List ℕ → List ℤ → WorkedReply
-worked total values choices worths = record { reply = record { total = total; sets = set_replies values choices }; worths = worths }
+worked total values choices worths =
+    record { reply = record { total = total; sets = set_replies values choices }; worths = worths }
 
 -- the first action is chosen at each set, and all else is 0
 abbrev pub first_reply : List InformationSet → WorkedReply

@@ -12,7 +12,9 @@ pub fn add_to(sum: &mut Plan, plan: &Plan)
     requires limit { slice_index sum.old 0 + slice_index plan.now 0 ≤ most_root }
     requires one_form { AreOfOneForm sum.old plan.now }
     ensures sum { sum.new ≡ added sum.old plan.now }
-    ensures is_plan { (sets : List InformationSet) → (root other_root : ℕ) → IsPlan sets root sum.old → IsPlan sets other_root plan.now → IsPlan sets (root + other_root) sum.new }
+    ensures is_plan { (sets : List InformationSet) → (root other_root : ℕ)
+        → IsPlan sets root sum.old → IsPlan sets other_root plan.now
+        → IsPlan sets (root + other_root) sum.new }
 {
     add_weights(&mut sum.weights, &plan.weights);
 }

@@ -1,4 +1,5 @@
-ghost use Rattle.std.specs.Prelude.{◌≡◌, ℕ, ◌+◌, ◌-◌, ◌^◌, ◌<◌, ◌≤◌, ◌↔◌, IfSome, IsNone, IsTrue, length, slice_index_or};
+ghost use Rattle.std.specs.Prelude.{◌≡◌, ℕ, ◌+◌, ◌-◌, ◌^◌, ◌<◌, ◌≤◌, ◌↔◌};
+ghost use Rattle.std.specs.Prelude.{IfSome, IsNone, IsTrue, length, slice_index_or};
 ghost use Rattle.def_plan.specs.Form.{AreInOrder, PlacedSet, placed, player_sets, sequence_count};
 ghost use Rattle.def_plan.specs.Plan.{AddsUp, IsBadSet, IsPlan, bad_set};
 ghost use Rattle.def_shares.specs.Shares.{weight_sum};
@@ -37,7 +38,8 @@ fn adds_up(form: &SeqForm, player: Player, set: u32, weights: &[u64]) -> bool
     requires from_one { 1 ≤ set }
     requires there { set ≤ length (player_sets form.now player) }
     requires as_many { length weights.now ≡ sequence_count (player_sets form.now player) }
-    ensures { (d : PlacedSet) → IsTrue result ↔ AddsUp weights.now (slice_index_or (placed (player_sets form.now player)) (set - 1) d) }
+    ensures { (d : PlacedSet) → IsTrue result
+        ↔ AddsUp weights.now (slice_index_or (placed (player_sets form.now player)) (set - 1) d) }
 {
     let first = form.first_sequence(player, set) as usize;
     let end = first + form.actions_of(player, set) as usize;

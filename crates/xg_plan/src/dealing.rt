@@ -49,10 +49,16 @@ fn deal_set(form: &SeqForm, player: Player, set: u32, units: &[u32], weights: &m
     requires as_many { length weights.old ≡ sequence_count (player_sets form.now player) }
     requires play_there { length units.now ≡ sequence_count (player_sets form.now player) }
     requires all_units { GivesAllUnits units.now (player_sets form.now player) }
-    requires small { (d : PlacedSet) → slice_index weights.old (slice_index_or (placed (player_sets form.now player)) (set - 1) d).before < 2 ^ 47 }
+    requires small { (d : PlacedSet)
+        → slice_index weights.old (slice_index_or (placed (player_sets form.now player)) (set - 1) d).before < 2 ^ 47 }
     ensures count { length weights.new ≡ length weights.old }
-    ensures earlier { (d : PlacedSet) → (s : ℕ) → s < (slice_index_or (placed (player_sets form.now player)) (set - 1) d).first → slice_index weights.new s ≡ slice_index weights.old s }
-    ensures dealt { (d : PlacedSet) → let h = slice_index_or (placed (player_sets form.now player)) (set - 1) d in map (λ s. slice_index weights.new s) (sequences_of h) ≡ play_rule units.now h (slice_index weights.old h.before) }
+    ensures earlier { (d : PlacedSet) (s : ℕ)
+        → s < (slice_index_or (placed (player_sets form.now player)) (set - 1) d).first
+        → slice_index weights.new s ≡ slice_index weights.old s }
+    ensures dealt { (d : PlacedSet)
+        → let h = slice_index_or (placed (player_sets form.now player)) (set - 1) d in
+        map (λ s. slice_index weights.new s) (sequences_of h)
+        ≡ play_rule units.now h (slice_index weights.old h.before) }
 {
     let first = form.first_sequence(player, set) as usize;
     let end = first + form.actions_of(player, set) as usize;

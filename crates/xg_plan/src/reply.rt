@@ -78,7 +78,8 @@ impl Reply {
     pub fn put(&mut self, set: u32, choice: u32, value: i128)
         requires from_one { 1 ≤ set }
         requires there { set ≤ length self.old.reply.sets }
-        ensures sets { self.new.reply.sets ≡ slice_set self.old.reply.sets (set - 1) (record { value = value; choice = choice }) }
+        ensures sets { self.new.reply.sets ≡ slice_set self.old.reply.sets (set - 1)
+            (record { value = value; choice = choice }) }
         ensures total { self.new.reply.total ≡ self.old.reply.total }
         ensures worths { self.new.worths ≡ self.old.worths }
     {

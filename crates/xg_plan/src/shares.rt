@@ -1,4 +1,5 @@
-ghost use Rattle.std.specs.Prelude.{◌≡◌, ℕ, ◌*◌, ◌+◌, ◌/◌, ◌^◌, ◌<◌, ◌≤◌, ◌≤ℤ◌, pos, length, map, slice_index, unsigned_abs, All};
+ghost use Rattle.std.specs.Prelude.{◌≡◌, ℕ, ◌*◌, ◌+◌, ◌/◌, ◌^◌, ◌<◌, ◌≤◌, ◌≤ℤ◌, pos};
+ghost use Rattle.std.specs.Prelude.{length, map, slice_index, unsigned_abs, All};
 ghost use Rattle.def_shares.specs.Shares.{weight_sum, shares};
 
 /// Deals `n` units over weights, of which the first ones together get their part of `n`, rounded down.
@@ -49,7 +50,8 @@ fn deal_evenly(n: u64, out: &mut [u64])
     requires some { 1 ≤ length out.old }
     requires within { n * length out.old < 2 ^ 127 }
     ensures count { length out.new ≡ length out.old }
-    ensures each { (k : ℕ) → k < length out.old → slice_index out.new k + n * k / length out.old ≡ n * (k + 1) / length out.old }
+    ensures each { (k : ℕ) → k < length out.old
+        → slice_index out.new k + n * k / length out.old ≡ n * (k + 1) / length out.old }
 {
     let count = out.len() as u128;
     let mut before = 0;

@@ -1,4 +1,5 @@
-ghost use Rattle.std.specs.Prelude.{◌≡◌, ◌-◌, ◌^◌, ◌<◌, ◌≤◌, IsTrue, length, map, slice_index, slice_index_or, sum, unsigned_abs};
+ghost use Rattle.std.specs.Prelude.{◌≡◌, ◌-◌, ◌^◌, ◌<◌, ◌≤◌, IsTrue};
+ghost use Rattle.std.specs.Prelude.{length, map, slice_index, slice_index_or, sum, unsigned_abs};
 ghost use Rattle.def_sums.specs.Limits.{most_mass};
 ghost use Rattle.def_sums.specs.Sum.{nat_sum_over};
 ghost use Rattle.def_plan.specs.Form.{AreInOrder, PlacedSet, placed, player_sets, sequence_count, sequences_of};
@@ -55,7 +56,9 @@ fn units_at(form: &SeqForm, player: Player, set: u32, play: &Play) -> u64
     requires there { set ≤ length (player_sets form.now player) }
     requires as_many { length play.now ≡ sequence_count (player_sets form.now player) }
     requires limit { length play.now < 2 ^ 32 }
-    ensures { (d : PlacedSet) → result ≡ nat_sum_over (λ s. slice_index play.now s) (sequences_of (slice_index_or (placed (player_sets form.now player)) (set - 1) d)) }
+    ensures { (d : PlacedSet)
+        → result ≡ nat_sum_over (λ s. slice_index play.now s)
+        (sequences_of (slice_index_or (placed (player_sets form.now player)) (set - 1) d)) }
 {
     let _before = form.parent_of(player, set);
     let first = form.first_sequence(player, set);
