@@ -1,3 +1,4 @@
 pub mod Copies
 pub mod Offered
 pub mod Narrowing
+pub mod PenniesOffers

@@ -7,3 +7,6 @@ mod trace;
 
 pub use board::Board;
 pub use trace::TraceLine;
+
+#[cfg(test)]
+mod tests;
