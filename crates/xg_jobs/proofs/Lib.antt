@@ -1,2 +1,12 @@
 mod RowLemmas
 mod RangeLemmas
+mod GroupSums
+mod TableSums
+mod Counting
+mod Placing
+mod Regrouped
+mod Greatest
+mod PlainSums
+mod Building
+mod Visiting
+mod Gathering

@@ -1,8 +1,12 @@
-ghost use Rattle.std.specs.Prelude.{◌≡◌, ◌-◌, ◌<◌, ◌≤◌, length, IfOk, Some, slice_get};
+ghost use Rattle.std.specs.Prelude.{◌≡◌, ◌-◌, ◌<◌, ◌≤◌, length, pos, replicate, IfOk, Some, slice_get};
 ghost use Rattle.def_game_jobs.specs.Jobs.{most_jobs};
+ghost use Rattle.def_plan.specs.Form.{sequence_count};
+ghost use Rattle.xg_jobs.specs.Rows.{AreNumbersOf, ArePlainSums};
 ghost use Rattle.xg_jobs.specs.Table.{IsFormOf, IsTableOf, job_table};
 
 use crate::groups::LeafGroups;
+use crate::input::RowInput;
+use crate::rows::Rows;
 use std::alloc::{AllocError, Global};
 use std::marker::Model;
 use xg_seq::SeqForm;
@@ -26,6 +30,8 @@ pub(crate) struct LeafRange {
 
 impl Model for JobTable {
     ghost use Rattle.std.specs.Prelude.{map};
+    ghost use Rattle.def_plan.specs.Form.{sequence_count};
+    ghost use Rattle.xg_jobs.specs.Rows.{AreNumbersOf, ArePlainSums};
     ghost use Rattle.xg_jobs.specs.Table.{TableOfJobs};
     ghost use Rattle.xg_jobs.specs.Ranges.{KeepsRanges, range_of};
 
@@ -55,5 +61,16 @@ impl JobTable {
     {
         let range = self.ranges[job as usize];
         (range.first + 1, range.count)
+    }
+
+    /// Adds the sums over all leaves to new rows.
+    pub(crate) fn add_to(&self, input: &RowInput<'_>, rows: &mut Rows)
+        requires numbers { AreNumbersOf input.now.form.now input.now.one.now input.now.two.now }
+        requires table { IsTableOf input.now.form.now self.now }
+        requires none_one { rows.old.one ≡ replicate (sequence_count input.now.form.now.sets_one) (pos 0) }
+        requires none_two { rows.old.two ≡ replicate (sequence_count input.now.form.now.sets_two) (pos 0) }
+        ensures { ArePlainSums input.now.form.now input.now.one.now input.now.two.now rows.new }
+    {
+        self.groups.add_to(input, rows);
     }
 }
