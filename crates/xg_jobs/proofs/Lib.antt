@@ -10,3 +10,7 @@ mod PlainSums
 mod Building
 mod Visiting
 mod Gathering
+mod Standing
+mod Passing
+mod Within
+mod Ranging

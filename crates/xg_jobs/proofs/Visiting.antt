@@ -131,7 +131,8 @@ pub record Room (s : TopState) (n : ℕ) : Type 0 where
   pub covered : s.covered + n ≤ most_nodes
   pub leaves : s.leaves + n ≤ most_nodes
 
-tops_few : (at : ℕ) (t : Forest) → length (tops_from at t) ≤ node_count t
+-- no more nodes at the top than nodes
+pub tops_few : (at : ℕ) (t : Forest) → length (tops_from at t) ≤ node_count t
 tops_few at bare = omega arith
 tops_few at (grown node below beside) = few (is_same_kind Chance node.kind) (tops_few (at + 1) below) (λ n. tops_few n beside)
   where
@@ -141,7 +142,8 @@ tops_few at (grown node below beside) = few (is_same_kind Chance node.kind) (top
         omega (arith, inner, rest (at + 1 + length (tops_from (at + 1) below)), length-append (tops_from (at + 1) below) (tops_from (at + 1 + length (tops_from (at + 1) below)) beside), length-append (prefix below) (prefix beside))
     few false inner rest = omega (arith, rest (at + 1 + 0), length-append (prefix below) (prefix beside))
 
-leaves_few : (xs : List Node) → leaf_count xs ≤ length xs
+-- no more leaves than nodes
+pub leaves_few : (xs : List Node) → leaf_count xs ≤ length xs
 leaves_few xs = count_by-le-length (λ node. is_leaf_kind node.kind) xs
 
 room_after : (t : Forest) (n : ℕ) (nodes : List TopNode) (at c l : ℕ) → Room (state nodes at c l) (node_count t + n) → Room (walked t (state nodes at c l)) n

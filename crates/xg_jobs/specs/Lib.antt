@@ -6,4 +6,5 @@ pub mod Grouping
 pub mod Sums
 pub mod Tops
 pub mod Visit
+pub mod Cutting
 pub mod Entries

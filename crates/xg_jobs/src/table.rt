@@ -4,6 +4,7 @@ ghost use Rattle.def_plan.specs.Form.{sequence_count};
 ghost use Rattle.xg_jobs.specs.Rows.{AreNumbersOf, ArePlainSums};
 ghost use Rattle.xg_jobs.specs.Table.{IsFormOf, IsTableOf, job_table};
 
+use crate::cutting::ranges_of;
 use crate::groups::LeafGroups;
 use crate::input::RowInput;
 use crate::rows::Rows;
@@ -43,6 +44,19 @@ impl Model for JobTable {
 }
 
 impl JobTable {
+    /// The jobs of the tree, and its leaves by player one's sequence.
+    pub fn build(alloc: Global, form: &SeqForm, tree: &Tree) -> Result<JobTable, AllocError>
+        requires { IsFormOf form.now tree.now }
+        ensures table { IfOk result (λ jobs. jobs ≡ job_table form.now tree.now) }
+        ensures whole { IfOk result (λ jobs. IsTableOf form.now jobs) }
+    {
+        let ranges = ranges_of(alloc, tree)?;
+        // a table is of a tree that keeps the rules
+        let _count = tree.len();
+        let groups = LeafGroups::build(alloc, form)?;
+        Ok(JobTable { ranges, groups })
+    }
+
     /// The number of jobs.
     pub fn count(&self) -> u32
         ensures count { result ≡ length self.now.ranges }
