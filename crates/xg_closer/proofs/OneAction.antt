@@ -1,11 +1,11 @@
 -- A set with one action is worth what the action is worth.
-use Rattle.std.proofs.Common.{◌≡◌, ℕ, ◌+◌, ◌<◌, ◌≤◌, List, ℤ, pos, ◌+ℤ◌, ◌-ℤ◌, ◌*ℤ◌, slice_index, arith, refl, sym, ap, ◌∙◌}
+use Rattle.std.proofs.Common.{◌≡◌, ℕ, List, ℤ, pos, ◌+ℤ◌, ◌-ℤ◌, ◌*ℤ◌, slice_index, arith, sym, ap, ◌∙◌}
 use Rattle.std.specs.List.{range_with_len}
 use Rattle.std.proofs.lemmas.Int.{ints}
 use Rattle.def_sums.specs.Floor.{IsFloorOf, floor_div}
 use Rattle.def_sums.specs.Sum.{nat_sum_over, sum_over}
 use Rattle.def_sums.proofs.FloorLaws.{floor_div-only}
-use Rattle.def_sums.proofs.RingLaws.{*ℤ_comm, +ℤ-*ℤ, +ℤ-zero, one-*ℤ, ≤ℤ_same}
+use Rattle.def_sums.proofs.RingLaws.{*ℤ_comm, +ℤ-*ℤ, +ℤ-zero, ≤ℤ_same}
 use Rattle.def_plan.specs.Form.{PlacedSet, sequences_of}
 use Rattle.def_round.specs.Play.{units}
 use Rattle.xg_closer.specs.Closing.{value_by, weighed_worth}

@@ -1,8 +1,8 @@
 -- What is played at one set.
-use Rattle.std.proofs.Common.{◌≡◌, ℕ, ◌+◌, ◌*◌, ◌^◌, ◌<◌, ◌≤◌, List, length, get_or, slice_index, map, ℤ, unsigned_abs, All, arith, refl, sym, subst, ap, ◌∙◌}
+use Rattle.std.proofs.Common.{◌≡◌, ℕ, ◌+◌, ◌*◌, ◌^◌, ◌<◌, ◌≤◌, List, length, get_or, slice_index, map, ℤ, unsigned_abs, arith, refl, sym, subst, ap, ◌∙◌}
 use Rattle.std.proofs.lemmas.List.Elements.{All-get_or}
 use Rattle.std.proofs.lemmas.List.FromFn.{get_or-map-range_with_len}
-use Rattle.def_plan.specs.Form.{InformationSet, PlacedSet, placed, sequences_of}
+use Rattle.def_plan.specs.Form.{InformationSet, PlacedSet, sequences_of}
 use Rattle.def_round.specs.Play.{play_of, regret_of, regret_sum, set_play, units}
 use Rattle.def_round.proofs.Growth.{deals_within}
 use Rattle.def_round.proofs.Plays.{plays_each_set}

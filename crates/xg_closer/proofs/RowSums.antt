@@ -1,5 +1,5 @@
 -- Rows, and what they are to the player.
-use Rattle.std.proofs.Common.{◌≡◌, ℕ, zero, suc, ◌+◌, ◌<◌, ◌≤◌, List, [], ◌∷◌, length, get_or, map, ℤ, pos, negsuc, unsigned_abs, arith, refl, sym, ap, ◌∙◌}
+use Rattle.std.proofs.Common.{◌≡◌, ℕ, zero, suc, ◌+◌, ◌≤◌, List, [], ◌∷◌, length, map, ℤ, pos, negsuc, unsigned_abs, arith, refl, sym, ap, ◌∙◌}
 use Rattle.std.specs.Prelude.{neg_ℤ}
 use Rattle.std.specs.List.{range_with_len}
 use Rattle.std.proofs.lemmas.List.{get_or-map, get_or_past, length-map}
@@ -7,7 +7,7 @@ use Rattle.def_sums.specs.Sum.{nat_sum_over}
 use Rattle.def_sums.proofs.Ranges.{nat_sum_over-read}
 use Rattle.def_tree.specs.declared.Player.{Player}
 use Rattle.def_tree.specs.declared.Player.TheVariants.{One, Two}
-use Rattle.def_plan.specs.Form.{InformationSet, sequence_count, sequences}
+use Rattle.def_plan.specs.Form.{InformationSet, sequence_count}
 use Rattle.def_round.specs.Sizes.{size_of_sums}
 use Rattle.xg_closer.specs.Rows.{amount_of, own_amount}
 

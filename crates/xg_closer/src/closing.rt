@@ -8,6 +8,7 @@ ghost use Rattle.def_sums.specs.Floor.{floor_div};
 ghost use Rattle.def_sums.specs.Limits.{most_rounds};
 ghost use Rattle.def_sums.specs.Sum.{nat_sum_over};
 ghost use Rattle.xg_closer.specs.Closing.{value_by, weighed_sizes, weighed_sum};
+ghost use Rattle.xg_closer.specs.Laws.{LeafSumsCloseTheRound};
 ghost use Rattle.xg_closer.specs.Places.{placed_as};
 ghost use Rattle.xg_closer.specs.Rows.{amount_of, own_amount};
 ghost use Rattle.xg_seq.specs.Table.{most_sequences};
@@ -54,6 +55,11 @@ pub fn close_round(
     );
     regrets.rounds += 1;
 }
+
+/// Rows that are the leaf sums against a plan close the round by the player's own sums against that plan.
+pub fn leaf_sums_close_the_round()
+    ensures { LeafSumsCloseTheRound }
+{}
 
 // Takes the rows as they are to the player.
 fn take_rows(player: Player, rows: &[i128], worths: &mut [i128])

@@ -6,7 +6,7 @@ mod places;
 mod playing;
 mod regrets;
 
-pub use closing::close_round;
+pub use closing::{close_round, leaf_sums_close_the_round};
 pub use def_tree::Player;
 pub use playing::play_into;
 pub use regrets::Regrets;

@@ -1,4 +1,4 @@
-use Rattle.std.proofs.Common.{◌≡◌, ℕ, ◌+◌, ◌<◌, ◌≤◌, ◌+ℤ◌, ◌-ℤ◌, length}
+use Rattle.std.proofs.Common.{◌≡◌, ℕ, ◌+◌, ◌<◌, ◌≤◌, ◌+ℤ◌, ◌-ℤ◌}
 use Rattle.def_round.specs.Play.{regret_of}
 use Rattle.xg_closer.specs.Rows.{amount_of}
 use Rattle.xg_closer.proofs.closing.add_regrets.Given as goal

@@ -1,7 +1,7 @@
 use Rattle.std.proofs.Common.{◌≡◌, ℕ, ◌+◌, ◌*◌, ◌^◌, ◌<◌, ◌≤◌, List, ◌++◌, take, drop, length, ℤ, unsigned_abs, arith, sym, subst, ap, ◌∙◌}
 use Rattle.def_plan.specs.Form.{InformationSet, player_sets, sequence_count}
 use Rattle.def_round.specs.Play.{regret_of}
-use Rattle.def_round.specs.Round.{IsRound, regrets_after}
+use Rattle.def_round.specs.Round.{regrets_after}
 use Rattle.def_round.proofs.Regrets.{rounds_are_computed}
 use Rattle.def_round.specs.Sizes.{size_of_sums}
 use Rattle.def_sums.specs.Limits.{most_rounds}

@@ -1,21 +1,14 @@
-use Rattle.std.proofs.Common.{◌≡◌, ℕ, ◌+◌, ◌-◌, ◌*◌, ◌^◌, ◌<◌, ◌≤◌, ◌≢◌, List, [], length, get_or, slice_get, Some, drop, ℤ, pos, ◌+ℤ◌, ◌-ℤ◌, unsigned_abs, arith, refl, sym, subst, ap, ◌∙◌, ⊎_elim}
-use mir.Syntax.{w128}
-use Rattle.std.specs.Int.{int_wrap}
+use Rattle.std.proofs.Common.{◌≡◌, ℕ, ◌+◌, ◌-◌, ◌<◌, ◌≤◌, List, length, slice_get, ℤ, pos, ◌+ℤ◌, ◌-ℤ◌, unsigned_abs, arith, refl, sym, subst, ap, ◌∙◌, ⊎_elim}
 use Rattle.std.proofs.lemmas.Bool.{cases_eq, cases_lt}
-use Rattle.std.proofs.lemmas.Int.{fits_signed_from_abs, int_wrap_fits}
-use Rattle.std.proofs.lemmas.List.{drop_all, ext_get_or, get_or_past, take_all}
-use Rattle.def_sums.proofs.Ranges.{at_most_sum}
-use Rattle.def_sums.proofs.RingLaws.{+ℤ-zero}
+use Rattle.std.proofs.lemmas.List.{ext_get_or, get_or_past, take_all}
 use Rattle.def_plan.specs.Form.{InformationSet, PlacedSet, placed, player_sets, sequence_count}
-use Rattle.def_plan.specs.Payoff.{worth}
 use Rattle.def_round.specs.Play.{regret_of}
-use Rattle.def_round.specs.Round.{regrets_after, set_value, values_from}
-use Rattle.def_round.proofs.Regrets.{length-placed_from}
+use Rattle.def_round.specs.Round.{regrets_after, set_value}
 use Rattle.xg_closer.specs.Places.{placed_as}
 use Rattle.xg_closer.specs.Rows.{amount_of}
 use Rattle.xg_closer.proofs.AtSet.{KeepsWorths, SetStep, first_worths, set_step}
 use Rattle.xg_closer.proofs.Sets.{IsAt, is_at, start_of, units_at}
-use Rattle.xg_closer.proofs.SetValues.{later_worth, regrets_count}
+use Rattle.xg_closer.proofs.SetValues.{regrets_count}
 use Rattle.xg_closer.proofs.closing.close_sets.Goals as goal
 
 pub loop-set-init : goal.loop-set-init

@@ -1,4 +1,4 @@
-use Rattle.std.proofs.Common.{◌≡◌, ℕ, ◌+◌, ◌<◌, ℤ, pos, unsigned_abs, neg_ℤ, length, length-set, ◌≢◌, FitsSigned, to_z, of_z, arith, ap, rules, sym, ◌∙◌, ⊎_elim}
+use Rattle.std.proofs.Common.{◌≡◌, ℕ, ◌<◌, ℤ, pos, unsigned_abs, neg_ℤ, length, length-set, FitsSigned, to_z, of_z, arith, ap, rules, ◌∙◌, ⊎_elim}
 use mir.Syntax.{w128}
 use Rattle.std.proofs.lemmas.Bool.{cases_eq}
 use Rattle.std.proofs.lemmas.Int.{to_z-of_z}

@@ -1,4 +1,4 @@
-use Rattle.std.proofs.Common.{◌≡◌, ℕ, pos, ◌*ℤ◌, slice_index}
+use Rattle.std.proofs.Common.{◌≡◌, pos, ◌*ℤ◌, slice_index}
 use Rattle.std.specs.List.{range_with_len}
 use Rattle.def_sums.specs.Sum.{sum_over}
 use Rattle.xg_closer.specs.Rows.{amount_of}

@@ -1,5 +1,4 @@
 use Rattle.std.proofs.Common.{◌≡◌, ℕ, ◌+◌, ◌-◌, ◌*◌, ◌/◌, ◌<◌, ◌≤◌, List, arith, refl, sym, subst, ap, ◌∙◌}
-use Rattle.std.proofs.Math.ListN.{set}
 use Rattle.def_plan.specs.Form.{PlacedSet}
 use Rattle.def_round.specs.Play.{set_play, units}
 use Rattle.xg_closer.specs.Places.{placed_as}

@@ -1,4 +1,4 @@
-use Rattle.std.proofs.Common.{◌≡◌, ℕ, ◌+◌, ◌<◌, ◌≤◌, List, get_or, arith, ap, sym, subst, ◌∙◌}
+use Rattle.std.proofs.Common.{◌≡◌, ℕ, ◌+◌, List, get_or, arith, sym, subst, ◌∙◌}
 use Rattle.std.proofs.Math.ListN.{set}
 use Rattle.def_plan.specs.Form.{PlacedSet}
 use Rattle.def_round.specs.Play.{set_play, units}

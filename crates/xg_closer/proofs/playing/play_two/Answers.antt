@@ -1,7 +1,7 @@
-use Rattle.std.proofs.Common.{◌≡◌, ℕ, ◌+◌, ◌-◌, ◌*◌, ◌/◌, ◌<◌, ◌≤◌, List, length, get_or, arith, refl, sym, subst, ap, ◌∙◌}
+use Rattle.std.proofs.Common.{◌≡◌, ℕ, ◌+◌, ◌-◌, ◌*◌, ◌/◌, List, length, get_or, arith, sym, subst, ap, ◌∙◌}
 use Rattle.std.proofs.Math.ListN.{set}
 use Rattle.def_plan.specs.Form.{PlacedSet}
-use Rattle.def_round.specs.Play.{positive_part, regret_of, regret_sum, set_play, units}
+use Rattle.def_round.specs.Play.{positive_part, regret_of, set_play, units}
 use Rattle.def_shares.specs.Shares.{weight_sum}
 use Rattle.xg_closer.specs.Places.{placed_as}
 use Rattle.xg_closer.specs.Playing.{PlaysFirst, positive_parts}
