@@ -7,7 +7,7 @@ use Rattle.std.proofs.lemmas.List.FromFn.{length-map-range_with_len}
 use Rattle.def_sums.specs.Sum.{nat_sum_over}
 use Rattle.def_sums.proofs.Ranges.{at_most_sum, map-range_same}
 use Rattle.def_plan.specs.Form.{AreInOrder, InformationSet, PlacedSet, placed, sequence_count, sequences_of}
-use Rattle.def_plan.specs.Plan.{AddsUp, IsPlan}
+use Rattle.def_plan.specs.Plan.{AddsUp}
 use Rattle.def_plan.proofs.BadSets.{length-placed}
 use Rattle.def_shares.specs.Shares.{shares, weight_sum}
 use Rattle.def_shares.proofs.SharesLaws.{length-shares, shares_whole}

@@ -1,5 +1,5 @@
 -- Prefix sums of weights, and when a list is the shares of n.
-use Rattle.std.proofs.Common.{◌≡◌, ℕ, zero, suc, ◌+◌, ◌*◌, ◌/◌, ◌<◌, ◌≤◌, ◌≢◌, List, [], ◌∷◌, length, get_or, take, map, replicate, ℤ, pos, negsuc, ◌≤ℤ◌, unsigned_abs, All, refl, sym, ap, ◌∙◌, arith, add-zero, ⊎_elim, below_more}
+use Rattle.std.proofs.Common.{◌≡◌, ℕ, zero, suc, ◌+◌, ◌*◌, ◌/◌, ◌<◌, ◌≤◌, ◌≢◌, List, [], ◌∷◌, length, get_or, take, map, replicate, ℤ, pos, negsuc, ◌≤ℤ◌, unsigned_abs, refl, sym, ap, ◌∙◌, arith, add-zero, ⊎_elim, below_more}
 use Rattle.std.proofs.Math.ListN.{get_or-map, set}
 use Rattle.std.proofs.Math.Nat.{mul-le-mul_left, mul-div_left}
 use Rattle.std.proofs.Math.Seq.{take-length}

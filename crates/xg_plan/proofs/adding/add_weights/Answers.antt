@@ -1,4 +1,4 @@
-use Rattle.std.proofs.Common.{arith, length}
+use Rattle.std.proofs.Common.{arith}
 use Rattle.xg_plan.proofs.AddLemmas.{added_all}
 use Rattle.xg_plan.proofs.adding.add_weights.Goals as goal
 

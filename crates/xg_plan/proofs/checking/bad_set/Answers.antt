@@ -1,4 +1,4 @@
-use Rattle.std.proofs.Common.{◌≡◌, ◌+◌, ◌-◌, ◌∙◌, arith, false, length, refl, subst, sym, true}
+use Rattle.std.proofs.Common.{◌+◌, ◌∙◌, arith, length, refl, subst, sym}
 use Rattle.std.proofs.lemmas.Bool.{false≢true}
 use Rattle.def_plan.specs.Form.{player_sets}
 use Rattle.def_plan.specs.Plan.{IsBadSet}

@@ -1,4 +1,4 @@
-use Rattle.std.proofs.Common.{◌≡◌, ◌<◌, ◌^◌, ap, arith, get_or, length}
+use Rattle.std.proofs.Common.{◌<◌, ◌^◌, arith, get_or}
 use Rattle.xg_plan.proofs.ShareLemmas.{prefix-more}
 use Rattle.xg_plan.proofs.checking.total.Goals as goal
 

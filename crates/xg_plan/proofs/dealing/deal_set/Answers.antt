@@ -1,6 +1,5 @@
-use Rattle.std.proofs.Common.{◌≡◌, ◌+◌, ◌-◌, ◌<◌, ◌≤◌, ◌∙◌, List, ap, arith, get_or, length, map, slice_index, sym, ℕ}
+use Rattle.std.proofs.Common.{◌-◌, ap, arith, slice_index}
 use Rattle.def_plan.specs.Form.{PlacedSet, player_sets}
-use Rattle.def_shares.specs.Shares.{weight_sum}
 use Rattle.xg_plan.proofs.DealLemmas.{block_deals, block_keeps, part_whole}
 use Rattle.xg_plan.proofs.PlaceLemmas.{is_told, no_place}
 use Rattle.xg_plan.proofs.dealing.deal_set.Goals as goal

@@ -1,6 +1,5 @@
-use Rattle.std.proofs.Common.{◌≡◌, ◌+◌, ◌-◌, ◌<◌, ◌≤◌, ap, arith, get_or, length, map, refl, slice_index, subst, sym, ℕ}
-use Rattle.def_plan.specs.Form.{PlacedSet, placed, player_sets, sequences_of}
-use Rattle.def_round.specs.Play.{play_rule}
+use Rattle.std.proofs.Common.{◌≡◌, ◌+◌, ◌-◌, ap, arith, get_or, length, refl, slice_index, subst}
+use Rattle.def_plan.specs.Form.{placed, player_sets}
 use Rattle.xg_plan.proofs.DealLemmas.{Deals, IsDealtUpTo, dealt_is_plan_of_play, dealt_more_sets, dealt_to_all, dealt_to_none, small_before}
 use Rattle.xg_plan.proofs.dealing.deal_sets.Goals as goal
 

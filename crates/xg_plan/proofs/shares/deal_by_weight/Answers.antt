@@ -1,6 +1,6 @@
-use Rattle.std.proofs.Common.{◌≡◌, ◌+◌, ◌∙◌, List, arith, length, map, unsigned_abs, ℕ}
+use Rattle.std.proofs.Common.{◌≡◌, ◌+◌, ◌∙◌, List, arith, map, unsigned_abs, ℕ}
 use Rattle.def_shares.specs.Shares.{prefix_share}
-use Rattle.xg_plan.proofs.ShareLemmas.{Step, dealt_is_shares, dealt_more, length-sizes, none_more, step_of}
+use Rattle.xg_plan.proofs.ShareLemmas.{Step, dealt_is_shares, dealt_more, length-sizes, step_of}
 use Rattle.xg_plan.proofs.shares.deal_by_weight.Goals as goal
 
 step_at : (c : goal.After-weight_at-weight)

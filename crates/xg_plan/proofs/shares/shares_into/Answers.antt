@@ -1,4 +1,4 @@
-use Rattle.std.proofs.Common.{◌≡◌, ◌∙◌, ◌*◌, ◌+◌, ◌/◌, ap, arith, length, map, replicate, rules, sym, unsigned_abs}
+use Rattle.std.proofs.Common.{◌≡◌, ◌*◌, ◌+◌, ◌/◌, ap, arith, length, map, replicate, rules, unsigned_abs}
 use Rattle.xg_plan.proofs.ShareLemmas.{even_is_shares, length-sizes, no_shares}
 use Rattle.xg_plan.proofs.shares.shares_into.Goals as goal
 
