@@ -1,2 +1,16 @@
 mod RowLemmas
 mod RangeLemmas
+mod GroupSums
+mod TableSums
+mod Counting
+mod Placing
+mod Regrouped
+mod Greatest
+mod PlainSums
+mod Building
+mod Visiting
+mod Gathering
+mod Standing
+mod Passing
+mod Within
+mod Ranging

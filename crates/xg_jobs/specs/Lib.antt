@@ -2,3 +2,9 @@ pub mod Rows
 pub mod Table
 pub mod Ranges
 pub mod Groups
+pub mod Grouping
+pub mod Sums
+pub mod Tops
+pub mod Visit
+pub mod Cutting
+pub mod Entries

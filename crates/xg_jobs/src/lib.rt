@@ -1,13 +1,20 @@
 #![tactic(auto)]
 //! The jobs of a game's tree, and the rows of its sequence form: for each sequence the sum over its leaves.
 
+mod cutting;
+mod entry;
+mod grouping;
 mod groups;
 mod input;
 mod maker;
+mod plain;
 mod rows;
+mod sums;
 mod table;
+mod tops;
 
 pub use input::RowInput;
 pub use maker::RowMaker;
+pub use plain::PlainRows;
 pub use rows::Rows;
 pub use table::JobTable;

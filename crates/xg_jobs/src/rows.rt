@@ -12,8 +12,8 @@ use xg_seq::SeqForm;
 /// Row `s` is player one's sequence `s`, and player two's sequences come behind them.
 #[derive(Drop)]
 pub struct Rows {
-    one: Vec<i128>,
-    two: Vec<i128>,
+    pub(crate) one: Vec<i128>,
+    pub(crate) two: Vec<i128>,
 }
 
 impl Model for Rows {

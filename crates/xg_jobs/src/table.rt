@@ -1,8 +1,13 @@
-ghost use Rattle.std.specs.Prelude.{◌≡◌, ◌-◌, ◌<◌, ◌≤◌, length, IfOk, Some, slice_get};
+ghost use Rattle.std.specs.Prelude.{◌≡◌, ◌-◌, ◌<◌, ◌≤◌, length, pos, replicate, IfOk, Some, slice_get};
 ghost use Rattle.def_game_jobs.specs.Jobs.{most_jobs};
+ghost use Rattle.def_plan.specs.Form.{sequence_count};
+ghost use Rattle.xg_jobs.specs.Rows.{AreNumbersOf, ArePlainSums};
 ghost use Rattle.xg_jobs.specs.Table.{IsFormOf, IsTableOf, job_table};
 
+use crate::cutting::ranges_of;
 use crate::groups::LeafGroups;
+use crate::input::RowInput;
+use crate::rows::Rows;
 use std::alloc::{AllocError, Global};
 use std::marker::Model;
 use xg_seq::SeqForm;
@@ -26,6 +31,8 @@ pub(crate) struct LeafRange {
 
 impl Model for JobTable {
     ghost use Rattle.std.specs.Prelude.{map};
+    ghost use Rattle.def_plan.specs.Form.{sequence_count};
+    ghost use Rattle.xg_jobs.specs.Rows.{AreNumbersOf, ArePlainSums};
     ghost use Rattle.xg_jobs.specs.Table.{TableOfJobs};
     ghost use Rattle.xg_jobs.specs.Ranges.{KeepsRanges, range_of};
 
@@ -37,6 +44,19 @@ impl Model for JobTable {
 }
 
 impl JobTable {
+    /// The jobs of the tree, and its leaves by player one's sequence.
+    pub fn build(alloc: Global, form: &SeqForm, tree: &Tree) -> Result<JobTable, AllocError>
+        requires { IsFormOf form.now tree.now }
+        ensures table { IfOk result (λ jobs. jobs ≡ job_table form.now tree.now) }
+        ensures whole { IfOk result (λ jobs. IsTableOf form.now jobs) }
+    {
+        let ranges = ranges_of(alloc, tree)?;
+        // a table is of a tree that keeps the rules
+        let _count = tree.len();
+        let groups = LeafGroups::build(alloc, form)?;
+        Ok(JobTable { ranges, groups })
+    }
+
     /// The number of jobs.
     pub fn count(&self) -> u32
         ensures count { result ≡ length self.now.ranges }
@@ -55,5 +75,16 @@ impl JobTable {
     {
         let range = self.ranges[job as usize];
         (range.first + 1, range.count)
+    }
+
+    /// Adds the sums over all leaves to new rows.
+    pub(crate) fn add_to(&self, input: &RowInput<'_>, rows: &mut Rows)
+        requires numbers { AreNumbersOf input.now.form.now input.now.one.now input.now.two.now }
+        requires table { IsTableOf input.now.form.now self.now }
+        requires none_one { rows.old.one ≡ replicate (sequence_count input.now.form.now.sets_one) (pos 0) }
+        requires none_two { rows.old.two ≡ replicate (sequence_count input.now.form.now.sets_two) (pos 0) }
+        ensures { ArePlainSums input.now.form.now input.now.one.now input.now.two.now rows.new }
+    {
+        self.groups.add_to(input, rows);
     }
 }

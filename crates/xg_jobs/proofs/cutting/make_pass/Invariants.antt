@@ -1,0 +1,12 @@
+use Rattle.std.proofs.Common.{◌≡◌, ◌+◌, ◌-◌, ◌≤◌, List, length}
+use Rattle.def_tree.specs.Tree.{Forest}
+use Rattle.def_game_jobs.specs.Jobs.{most_jobs}
+use Rattle.xg_jobs.specs.Cutting.{AreJobs}
+use Rattle.xg_jobs.proofs.Passing.{PassSome}
+use Rattle.xg_jobs.proofs.cutting.make_pass.Given as goal
+
+abbrev pub invariant-loop-job : goal.invariant-loop-job
+invariant-loop-job l =
+    (length l.after.items + (length l.jobs - l.job-index) ≡ l.count)
+    × (l.count ≤ most_jobs)
+    × ((now : List Forest) → AreJobs l.tops l.jobs now → PassSome l.tops l.jobs now l.after.items l.count l.cut l.job-index)

@@ -1,0 +1,87 @@
+-- The nodes at the top as a visitor gathers them.
+use Rattle.std.specs.Prelude.{◌≡◌, ℕ, zero, suc, ◌+◌, ◌-◌, ◌<◌, ◌≤◌, true, false, List, [], ◌∷◌, ◌++◌, length, is_ok, if◌then◌else◌, slice_index_or, slice_set}
+use Rattle.def_tree.specs.declared.Kind.TheVariants.{Chance}
+use Rattle.def_tree.specs.declared.Node.{Node}
+use Rattle.def_tree.specs.Rules.{is_same_kind, most_nodes}
+use Rattle.def_tree.specs.Tree.{leaf_count}
+use Rattle.xg_jobs.specs.declared.tops.TopNode.{TopNode}
+use Rattle.xg_jobs.specs.declared.tops.Tops.{Tops}
+use Rattle.xg_jobs.specs.declared.tops.TopVisit.{TopVisit}
+
+pub record TopState : Type 0 where
+  pub nodes : List TopNode
+  pub open_at : ℕ
+  pub covered : ℕ
+  pub leaves : ℕ
+
+abbrev pub state_of : Tops → TopState
+state_of t = record { nodes = t.nodes.items; open_at = t.«open»; covered = t.covered; leaves = t.leaves }
+
+-- the next node is put, and is open
+abbrev pub opened : Node → TopState → TopState
+opened node s = record {
+  nodes = s.nodes ++ record { chance = is_same_kind Chance node.kind; children = node.children; leaves = s.leaves; end = s.open_at } ∷ [];
+  open_at = length s.nodes;
+  covered = if is_same_kind Chance node.kind then 0 else 1;
+  leaves = s.leaves;
+}
+
+abbrev pub with_leaves : ℕ → TopState → TopState
+with_leaves n s = record { nodes = s.nodes; open_at = s.open_at; covered = s.covered; leaves = s.leaves + n }
+
+abbrev pub with_cover : ℕ → TopState → TopState
+with_cover n s = record { nodes = s.nodes; open_at = s.open_at; covered = n; leaves = s.leaves }
+
+-- a node is entered: it stands at the top where none is covered
+abbrev pub entered_as : ℕ → Node → TopState → TopState
+entered_as zero node s = opened node s
+entered_as (suc c) node s = with_cover (suc c + 1) s
+
+abbrev pub entered : Node → TopState → TopState
+entered node s = with_leaves (leaf_count (node ∷ [])) (entered_as s.covered node s)
+
+abbrev pub open_top : TopState → TopNode
+open_top s = slice_index_or s.nodes s.open_at (record { chance = false; children = 0; leaves = 0; end = 0 })
+
+-- the open node has the leaves since it was put, and ends behind the last node
+abbrev pub closed : TopState → TopState
+closed s = record {
+  nodes = slice_set s.nodes s.open_at (record { chance = (open_top s).chance; children = (open_top s).children; leaves = s.leaves - (open_top s).leaves; end = length s.nodes });
+  open_at = (open_top s).end;
+  covered = 0;
+  leaves = s.leaves;
+}
+
+-- a node is left: it is the open one at the top, or covered
+abbrev pub left_as : ℕ → TopState → TopState
+left_as zero s = closed s
+left_as (suc zero) s = closed s
+left_as (suc (suc c)) s = with_cover (suc c) s
+
+abbrev pub left : TopState → TopState
+left s = left_as s.covered s
+
+pub record HasRoom (s : TopState) : Type 0 where
+  pub nodes : length s.nodes < most_nodes
+  pub covered : s.covered < most_nodes
+  pub leaves : s.leaves < most_nodes
+
+pub record IsOpen (s : TopState) : Type 0 where
+  pub count : length s.nodes ≤ most_nodes
+  pub there : s.covered ≤ 1 → s.open_at < length s.nodes
+  pub before : s.covered ≤ 1 → (open_top s).leaves ≤ s.leaves
+
+-- what a call asks, and what it leaves, where memory hasn't failed yet
+abbrev pub MayEnter : TopVisit → Type 0
+MayEnter v = is_ok v.outcome ≡ true → HasRoom (state_of v.tops)
+
+abbrev pub MayLeave : TopVisit → Type 0
+MayLeave v = is_ok v.outcome ≡ true → IsOpen (state_of v.tops)
+
+pub record Enters (v : TopVisit) (node : Node) (w : TopVisit) : Type 0 where
+  pub before : is_ok w.outcome ≡ true → is_ok v.outcome ≡ true
+  pub state : is_ok w.outcome ≡ true → state_of w.tops ≡ entered node (state_of v.tops)
+
+pub record Leaves (v w : TopVisit) : Type 0 where
+  pub before : is_ok w.outcome ≡ true → is_ok v.outcome ≡ true
+  pub state : is_ok w.outcome ≡ true → state_of w.tops ≡ left (state_of v.tops)

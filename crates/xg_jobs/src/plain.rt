@@ -1,0 +1,29 @@
+ghost use Rattle.std.specs.Prelude.{IfOk};
+
+use crate::input::RowInput;
+use crate::maker::RowMaker;
+use crate::rows::Rows;
+use crate::table::JobTable;
+use std::alloc::{AllocError, Global};
+use std::sync::Wait;
+use std::thread::Threads;
+
+/// Makes rows by one loop over all leaves, on the caller's thread.
+#[derive(Clone, Copy)]
+pub struct PlainRows;
+
+impl RowMaker for PlainRows {
+    ghost can_make = { λ _. Unit {0} };
+
+    fn rows<Rt: Threads + Wait + Sync>(
+        &self,
+        _rt: &Rt,
+        alloc: Global,
+        input: &RowInput<'_>,
+        jobs: &JobTable,
+    ) -> Result<Rows, AllocError> {
+        let mut rows = Rows::new(alloc, input.form)?;
+        jobs.add_to(input, &mut rows);
+        Ok(rows)
+    }
+}
