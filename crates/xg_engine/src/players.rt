@@ -65,13 +65,7 @@ impl Learner {
         ensures regrets { self.new.regrets ≡ self.old.regrets }
     {
         play_into(form, player, &self.regrets, &mut self.play);
-        from_play(
-            form,
-            player,
-            &self.play,
-            u64::from(scale),
-            &mut self.plan,
-        );
+        from_play(form, player, &self.play, scale as u64, &mut self.plan);
         add_to(&mut self.sum, &self.plan);
     }
 
