@@ -5,3 +5,4 @@ pub mod Offering
 pub mod Ending
 pub mod Copying
 pub mod Shown
+pub mod Opening

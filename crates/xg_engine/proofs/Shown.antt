@@ -1,7 +1,7 @@
 -- What the outcome of a run shows.
 use Rattle.std.proofs.Common.{◌≡◌, ℕ, ◌+◌, ◌-◌, ◌*◌, ◌≤◌, ◌<◌, List, [], ◌∷◌, length, get_or, take, ℤ, pos, Some, refl, ap, ◌∙◌, subst, sym, arith}
 use Rattle.std.specs.Prelude.{◌*ℤ◌, ◌-ℤ◌}
-use Rattle.std.proofs.lemmas.Grind.{take_all}
+use Rattle.std.proofs.lemmas.List.{take_all}
 use Rattle.def_tree.specs.declared.Player.TheVariants.{One, Two}
 use Rattle.def_plan.specs.Form.{SequenceForm}
 use Rattle.def_plan.specs.Plan.{IsPlan, pure_plan}

@@ -138,7 +138,10 @@ impl Engine {
             nodes: self.nodes,
             leaves: form.leaf_count(),
             sets: (form.set_count(Player::One), form.set_count(Player::Two)),
-            sequences: (form.sequence_count(Player::One), form.sequence_count(Player::Two)),
+            sequences: (
+                form.sequence_count(Player::One),
+                form.sequence_count(Player::Two),
+            ),
             unit: self.unit,
             mass: self.mass,
             rounds: settings.rounds,

@@ -26,7 +26,11 @@ pub(crate) struct Evaluator {
 
 impl Evaluator {
     /// Nothing is evaluated yet.
-    pub(crate) fn new(alloc: Global, form: &SeqForm, evaluations: u32) -> Result<Evaluator, AllocError>
+    pub(crate) fn new(
+        alloc: Global,
+        form: &SeqForm,
+        evaluations: u32,
+    ) -> Result<Evaluator, AllocError>
         ensures room { IfOk result (λ evaluator. CanEvaluate form.now evaluations evaluator) }
         ensures board { IfOk result (λ evaluator. evaluator.board.board ≡ new_board) }
     {
@@ -60,7 +64,8 @@ impl Evaluator {
         let rows = source.rows(one, two)?;
         best_reply(source.form, Player::Two, rows.two(), &mut self.reply_two);
         best_reply(source.form, Player::One, rows.one(), &mut self.reply_one);
-        self.board.offer(round, one, two, &self.reply_two, &self.reply_one);
+        self.board
+            .offer(round, one, two, &self.reply_two, &self.reply_one);
         Ok(())
     }
 }

@@ -69,7 +69,8 @@ impl Run {
         let round = so_far + 1;
         if round % settings.every == 0 || round == settings.rounds {
             let players = &self.players;
-            self.evaluator.evaluate(source, round, &players.one.sum, &players.two.sum)?;
+            self.evaluator
+                .evaluate(source, round, &players.one.sum, &players.two.sum)?;
         }
         Ok(())
     }
@@ -87,6 +88,7 @@ pub(crate) fn play<Rt: Threads + Wait + Sync, M: RowMaker>(
     requires limits { AreWithinLimits settings }
     requires head { Asks settings (head_of head) }
     ensures outcome { IfOk result (λ run. run.outcome ≡ outcome source.now.form.now (head_of head)) }
+    ensures sound { OnOk result (IsSoundForm source.now.form.now) }
     ensures sum_one { IfOk result (λ run.
         run.sum_one ≡ (rounds source.now.form.now settings.scale settings.rounds).sum_one) }
     ensures sum_two { IfOk result (λ run.
