@@ -21,7 +21,7 @@ length-replies player sums [] = refl
 length-replies player sums (h ∷ hs) = ap suc (length-replies player sums hs)
 
 -- a best reply has one for each set
-length-best : (form : SequenceForm) (player : Player) (plan : List ℕ)
+pub length-best : (form : SequenceForm) (player : Player) (plan : List ℕ)
     → length (best_reply_to form player plan).sets ≡ length (player_sets form player)
 length-best form player plan =
     let hs : List PlacedSet = placed (player_sets form player) in

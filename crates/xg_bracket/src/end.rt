@@ -74,7 +74,8 @@ fn keep(end: &mut End, round: u32, plan: &Plan, reply: &Reply)
     copy_reply(reply, end.sets, &mut end.reply);
 }
 
-fn copy_plan(plan: &Plan, into: &mut Plan)
+/// Makes `into` a plan with the same numbers. Takes no memory.
+pub fn copy_plan(plan: &Plan, into: &mut Plan)
     requires plan { IsSomePlan plan.now }
     requires sequences { length plan.now ≡ length into.old }
     ensures { into.new ≡ plan.now }
@@ -83,8 +84,8 @@ fn copy_plan(plan: &Plan, into: &mut Plan)
     add_to(into, plan);
 }
 
-// The worths aren't copied.
-fn copy_reply(reply: &Reply, sets: u32, into: &mut Reply)
+/// Makes `into` the same reply at this number of sets. Takes no memory, and copies no worths.
+pub fn copy_reply(reply: &Reply, sets: u32, into: &mut Reply)
     requires from { length reply.now.reply.sets ≡ sets }
     requires into { length into.old.reply.sets ≡ sets }
     ensures { into.new.reply ≡ reply.now.reply }

@@ -6,6 +6,7 @@ mod end;
 mod trace;
 
 pub use board::Board;
+pub use end::{copy_plan, copy_reply};
 pub use trace::TraceLine;
 
 #[cfg(test)]

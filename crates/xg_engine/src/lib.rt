@@ -1,8 +1,13 @@
 #![tactic(auto)]
-//! The engine: a game in numbers, ready for rounds.
+//! The engine: a game in numbers, the rounds that are played on it, and the bracket that they leave.
 
+mod drafting;
 mod engine;
+mod evaluating;
+mod players;
+mod running;
 mod settings;
+mod source;
 
 pub use engine::Engine;
 pub use settings::Settings;

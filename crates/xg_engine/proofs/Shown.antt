@@ -1,0 +1,108 @@
+-- What the outcome of a run shows.
+use Rattle.std.proofs.Common.{◌≡◌, ℕ, ◌+◌, ◌-◌, ◌*◌, ◌≤◌, ◌<◌, List, [], ◌∷◌, length, get_or, take, ℤ, pos, Some, refl, ap, ◌∙◌, subst, sym, arith}
+use Rattle.std.specs.Prelude.{◌*ℤ◌, ◌-ℤ◌}
+use Rattle.std.proofs.lemmas.List.{take_all}
+use Rattle.def_tree.specs.declared.Player.TheVariants.{One, Two}
+use Rattle.def_plan.specs.Form.{SequenceForm}
+use Rattle.def_plan.specs.Plan.{IsPlan, pure_plan}
+use Rattle.def_reply.specs.Bounds.{AttainsCeiling, AttainsFloor, IsCeiling, IsExploitability, IsFloor}
+use Rattle.def_reply.specs.Reply.{Reply, best_reply_to, choices_of}
+use Rattle.def_round.specs.Rounds.{rounds}
+use Rattle.def_bracket.specs.Bracket.{BracketEnds, Evaluation, TraceLine, ends_of, trace, trace_line}
+use Rattle.def_bracket.specs.Outcome.{End, Head, OutcomeEnds}
+use Rattle.def_bracket.proofs.TraceLines.{trace_lines}
+use Rattle.def_cert_verdict.specs.Certificate.{last_line, no_line}
+use Rattle.def_run.specs.Run.{evaluation, evaluations, outcome}
+use Rattle.def_run.specs.Laws.{HasPlansOf, plan_at_lower, plan_at_upper}
+use Rattle.def_run.proofs.EndLaws.{gap_is_exploitability, outcomes_show_their_run, trace_of_run_never_widens}
+use Rattle.def_run.proofs.RunLaws.{ends_are_of_their_rounds, evaluations_are_bounds, runs_have_ends}
+use Rattle.xg_engine.specs.Ends.{AreBoundsOfLine, HasEnds, HasGapOfLine, NoLineIsWider}
+use Rattle.xg_engine.specs.Players.{IsSoundForm}
+
+some_evaluation : (es : List Evaluation) (ends : BracketEnds) → ends_of es ≡ Some ends → 1 ≤ length es
+some_evaluation [] ends are = absurd (is are)
+  where
+    is : ends_of [] ≡ Some ends → ⊥
+    is e = cc
+some_evaluation (e ∷ es) ends are = omega arith
+
+last_is : (es : List Evaluation) (ends : BracketEnds) → ends_of es ≡ Some ends
+    → (r : ℕ) × (last_line (trace es) ≡ trace_line r ends)
+last_is es ends are =
+    let k : ℕ = length es - 1 in
+    let some = some_evaluation es ends are in
+    let none : Evaluation = record { round = 0; divisor = 0; low = pos 0; high = pos 0 } in
+    let all : take (k + 1) es ≡ es = take_all (k + 1) es (omega arith) in
+    let same : last_line (trace es) ≡ get_or (trace es) k no_line = ap (λ n. get_or (trace es) (n - 1) no_line) (trace_lines.count es) in
+    ((get_or es k none).round, same ∙ trace_lines.each es k ends no_line none (omega arith) (ap ends_of all ∙ are))
+
+-- the ends of a run, by the rounds that they come from
+abbrev ends_at : SequenceForm → ℕ → BracketEnds → OutcomeEnds
+ends_at form scale ends = record {
+  lower = record { plan = plan_at_lower form scale ends; reply = best_reply_to form Two (plan_at_lower form scale ends) };
+  upper = record { plan = plan_at_upper form scale ends; reply = best_reply_to form One (plan_at_upper form scale ends) };
+}
+
+shown_are : (form : SequenceForm) (scale : ℕ) (ends : BracketEnds) (shown : OutcomeEnds)
+    → HasPlansOf form scale ends shown → shown ≡ ends_at form scale ends
+shown_are form scale ends shown h =
+    λ i. record {
+      lower = record { plan = h.lower_plan i; reply = h.lower_reply i };
+      upper = record { plan = h.upper_plan i; reply = h.upper_reply i };
+    }
+
+module _ (form : SequenceForm) (head : Head) (sound : IsSoundForm form) (some_scale : 1 ≤ head.scale) where
+  -- with at least one round: what holds of the line and the ends of the bracket holds of the outcome
+  has_ends : (P : TraceLine → OutcomeEnds → Type 0) → 1 ≤ head.rounds
+      → ((ends : BracketEnds) (r : ℕ) → ends_of (evaluations form head.scale head.every head.rounds) ≡ Some ends
+      → P (trace_line r ends) (ends_at form head.scale ends))
+      → HasEnds P (outcome form head)
+  has_ends P some holds =
+      let es : List Evaluation = evaluations form head.scale head.every head.rounds in
+      let has = runs_have_ends form head.scale head.every head.rounds some in
+      let ends : BracketEnds = has.0 in
+      let shown = outcomes_show_their_run.ends form head ends has.1 in
+      let last = last_is es ends has.1 in
+      let line : last_line (outcome form head).trace ≡ trace_line last.0 ends =
+      ap last_line (outcomes_show_their_run.trace form head) ∙ last.1 in
+      record {
+        ends = shown.0;
+        has = shown.1;
+        of_last = subst (λ l. P l shown.0) (sym line)
+            (subst (P (trace_line last.0 ends)) (sym (shown_are form head.scale ends shown.0 shown.2)) (holds ends last.0 has.1));
+      }
+
+  pub outcome_has_bounds : 1 ≤ head.rounds → HasEnds (AreBoundsOfLine form head.scale) (outcome form head)
+  outcome_has_bounds some =
+      has_ends (AreBoundsOfLine form head.scale) some
+      (λ ends r are.
+      let of_rounds = ends_are_of_their_rounds form head.scale head.every head.rounds ends are in
+      let low = evaluations_are_bounds form head.scale ends.lower.round sound.order_one sound.order_two some_scale of_rounds.of_lower.some in
+      let high = evaluations_are_bounds form head.scale ends.upper.round sound.order_one sound.order_two some_scale of_rounds.of_upper.some in
+      record {
+        plan_one = low.plan_one;
+        floor = low.floor;
+        floor_attained = low.floor_attained;
+        low = ap (λ (e : Evaluation). e.low) of_rounds.of_lower.is;
+        plan_two = high.plan_two;
+        ceiling = high.ceiling;
+        ceiling_attained = high.ceiling_attained;
+        high = ap (λ (e : Evaluation). e.high) of_rounds.of_upper.is;
+      })
+
+  pub outcome_has_gap : 1 ≤ head.rounds → HasEnds (HasGapOfLine form head.scale) (outcome form head)
+  outcome_has_gap some =
+      has_ends (HasGapOfLine form head.scale) some
+      (λ ends r are.
+      let of_rounds = ends_are_of_their_rounds form head.scale head.every head.rounds ends are in
+      let low_is = ap (λ (e : Evaluation). e.low) of_rounds.of_lower.is in
+      let high_is = ap (λ (e : Evaluation). e.high) of_rounds.of_upper.is in
+      let gap = gap_is_exploitability form head.scale head.every head.rounds ends sound.order_one sound.order_two some_scale are in
+      subst (λ (z : ℤ). IsExploitability form (ends.lower.round * head.scale) (ends.upper.round * head.scale) (plan_at_lower form head.scale ends) (plan_at_upper form head.scale ends) z)
+      (λ i. (pos (ends.lower.round * head.scale) *ℤ high_is i) -ℤ (pos (ends.upper.round * head.scale) *ℤ low_is i))
+      gap)
+
+  pub outcome_never_widens : NoLineIsWider (outcome form head).trace
+  outcome_never_widens =
+      subst NoLineIsWider (sym (outcomes_show_their_run.trace form head))
+      (λ j k line le low. trace_of_run_never_widens form head.scale head.every head.rounds j k line le low)

@@ -1,0 +1,66 @@
+-- A player from one round to the next.
+use Rattle.std.proofs.Common.{◌≡◌, ℕ, suc, ◌+◌, ℤ, List, ap, ◌∙◌, sym, subst, arith}
+use Rattle.def_tree.specs.declared.Player.{Player}
+use Rattle.def_plan.specs.Form.{InformationSet, Leaf, SequenceForm}
+use Rattle.def_plan.specs.Plan.{added}
+use Rattle.def_round.specs.Play.{plan_of_play, play_of}
+use Rattle.def_round.specs.Round.{own_sum, regrets_after}
+use Rattle.def_round.specs.Rounds.{Standing, next_round, rounds}
+use Rattle.xg_engine.specs.Players.{HasRoom, StandAfter, StandsWith}
+use Rattle.xg_engine.specs.declared.players.Learner.{Learner}
+use Rattle.xg_engine.specs.declared.players.Players.{Players}
+
+module _ (sets : List InformationSet) (root n : ℕ) (regrets : List ℤ) (sums : List ℕ) where
+  abbrev next_plan : List ℕ
+  next_plan = plan_of_play sets (play_of sets regrets) root
+
+  -- the player has played by these regrets, and the sum has the plan of this play
+  pub record HasPlayed (learner : Learner) : Type 0 where
+    pub play : learner.play ≡ play_of sets regrets
+    pub plan : learner.plan ≡ plan_of_play sets (play_of sets regrets) root
+    pub sums_are : learner.sum ≡ added sums (plan_of_play sets (play_of sets regrets) root)
+    pub regrets_are : learner.regrets.of_sequences ≡ regrets
+    pub closed : learner.regrets.closed ≡ n
+
+  pub has_played : (before after : Learner) → StandsWith sets n regrets sums before
+      → after.play ≡ play_of sets before.regrets.of_sequences → after.plan ≡ plan_of_play sets after.play root
+      → after.sum ≡ added before.sum after.plan → after.regrets ≡ before.regrets → HasPlayed after
+  has_played before after stands play plan grown same =
+      let played : after.play ≡ play_of sets regrets = play ∙ ap (play_of sets) stands.regrets_are in
+      let planned : after.plan ≡ next_plan = plan ∙ ap (λ p. plan_of_play sets p root) played in
+      record {
+        play = played;
+        plan = planned;
+        sums_are = grown ∙ (λ i. added (stands.sums_are i) (planned i));
+        regrets_are = ap (λ r. r.of_sequences) same ∙ stands.regrets_are;
+        closed = ap (λ r. r.closed) same ∙ stands.closed_are;
+      }
+
+  -- and then has learned from the other player's plan
+  pub has_learned : (player : Player) (leaves : List Leaf) (against other : List ℕ) (before after : Learner)
+      → HasPlayed before → against ≡ other → HasRoom sets after
+      → after.regrets.of_sequences ≡ regrets_after (own_sum player leaves against) before.play sets before.regrets.of_sequences
+      → after.regrets.closed ≡ before.regrets.closed + 1 → after.sum ≡ before.sum
+      → StandsWith sets (n + 1) (regrets_after (own_sum player leaves other) (play_of sets regrets) sets regrets) (added sums next_plan) after
+  has_learned player leaves against other before after played same room learned closed kept = record {
+    room = room;
+    regrets_are =
+        learned
+        ∙ (λ i. regrets_after (own_sum player leaves (same i)) (played.play i) sets (played.regrets_are i));
+    closed_are = closed ∙ ap (λ k. k + 1) played.closed;
+    sums_are = kept ∙ played.sums_are;
+  }
+
+-- both players after the next round
+pub stand_next : (form : SequenceForm) (root n : ℕ) (players : Players)
+    → let next = next_round form root (rounds form root n) in
+    StandsWith form.sets_one (n + 1) next.regrets_one next.sum_one players.one
+    → StandsWith form.sets_two (n + 1) next.regrets_two next.sum_two players.two
+    → StandAfter form root (n + 1) players
+stand_next form root n players one two =
+    let count : suc n ≡ n + 1 = omega arith in
+    let is : next_round form root (rounds form root n) ≡ rounds form root (n + 1) = ap (rounds form root) count in
+    record {
+      one = subst (λ (s : Standing). StandsWith form.sets_one (n + 1) s.regrets_one s.sum_one players.one) is one;
+      two = subst (λ (s : Standing). StandsWith form.sets_two (n + 1) s.regrets_two s.sum_two players.two) is two;
+    }

@@ -1,0 +1,33 @@
+use Rattle.std.proofs.Common.{rules, ◌≡◌, subst, sym}
+use Rattle.def_bracket.specs.Outcome.{Head, Outcome}
+use Rattle.def_plan.specs.Form.{SequenceForm}
+use Rattle.def_run.specs.Run.{outcome}
+use Rattle.xg_engine.specs.Ends.{AreBoundsOfLine, HasEnds, HasGapOfLine, NoLineIsWider}
+use Rattle.xg_engine.specs.Players.{IsSoundForm}
+use Rattle.xg_engine.specs.State.{head_with}
+use Rattle.xg_engine.proofs.Shown.{outcome_has_bounds, outcome_has_gap, outcome_never_widens}
+use Rattle.xg_engine.proofs.engine.Engine.run.Goals as goal
+
+pub returns-clause-bounds : goal.returns-clause-bounds
+returns-clause-bounds g c some =
+    let form : SequenceForm = c.args.self.now.game.form in
+    let head : Head = head_with c.args.self.now.game c.args.settings in
+    let is : c.in_ok-finished.finished.outcome ≡ outcome c.args.self.now.game.form (head_with c.args.self.now.game c.args.settings) = search rules in
+    let sound : IsSoundForm c.args.self.now.game.form = search rules in
+    subst (HasEnds (AreBoundsOfLine form c.args.settings.scale)) (sym is) (outcome_has_bounds form head sound c.requires.limits.some_scale some)
+
+pub returns-clause-gap : goal.returns-clause-gap
+returns-clause-gap g c some =
+    let form : SequenceForm = c.args.self.now.game.form in
+    let head : Head = head_with c.args.self.now.game c.args.settings in
+    let is : c.in_ok-finished.finished.outcome ≡ outcome c.args.self.now.game.form (head_with c.args.self.now.game c.args.settings) = search rules in
+    let sound : IsSoundForm c.args.self.now.game.form = search rules in
+    subst (HasEnds (HasGapOfLine form c.args.settings.scale)) (sym is) (outcome_has_gap form head sound c.requires.limits.some_scale some)
+
+pub returns-clause-trace : goal.returns-clause-trace
+returns-clause-trace g c =
+    let form : SequenceForm = c.args.self.now.game.form in
+    let head : Head = head_with c.args.self.now.game c.args.settings in
+    let is : c.in_ok-finished.finished.outcome ≡ outcome c.args.self.now.game.form (head_with c.args.self.now.game c.args.settings) = search rules in
+    let sound : IsSoundForm c.args.self.now.game.form = search rules in
+    subst (λ (o : Outcome). NoLineIsWider o.trace) (sym is) (outcome_never_widens form head sound c.requires.limits.some_scale)

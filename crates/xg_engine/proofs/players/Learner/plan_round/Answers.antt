@@ -1,0 +1,26 @@
+use Rattle.std.proofs.Common.{◌≡◌, length, ap, sym, ◌∙◌}
+use Rattle.def_plan.specs.Form.{player_sets}
+use Rattle.def_plan.proofs.Adding.{length-added}
+use Rattle.xg_engine.proofs.Growing.{one_form, within_roots}
+use Rattle.xg_engine.proofs.players.Learner.plan_round.Goals as goal
+
+pub add_to-requires-clause-limit : goal.add_to-requires-clause-limit
+add_to-requires-clause-limit c =
+    let sets = player_sets c.args.form.now c.args.player in
+    within_roots sets c.args.scale c.args.self.now.sum c.from_play.new.into c.requires.sums c.from_play.ensures.is_plan
+
+pub add_to-requires-clause-one_form : goal.add_to-requires-clause-one_form
+add_to-requires-clause-one_form c =
+    let sets = player_sets c.args.form.now c.args.player in
+    one_form sets c.args.scale c.args.self.now.sum c.from_play.new.into c.requires.sums c.from_play.ensures.is_plan
+
+pub returns-clause-room : goal.returns-clause-room
+returns-clause-room c =
+    let room = c.requires.room in
+    let plan = c.from_play.ensures.is_plan.all_sequences in
+    record {
+      regrets = room.regrets;
+      play = c.play_into.ensures.count ∙ room.play;
+      plan = plan;
+      sums = ap length c.add_to.ensures.sum ∙ length-added c.args.self.now.sum c.from_play.new.into (room.sums ∙ sym plan) ∙ room.sums;
+    }

@@ -1,0 +1,38 @@
+-- What an outcome of a run shows of its game.
+use Rattle.std.specs.Prelude.{◌≡◌, ℕ, ◌*◌, ◌≤◌, ◌<◌, List, length, slice_index_or, Some, pos, ◌*ℤ◌, ◌-ℤ◌}
+use Rattle.def_plan.specs.Form.{SequenceForm}
+use Rattle.def_plan.specs.Plan.{IsPlan, pure_plan}
+use Rattle.def_reply.specs.Reply.{choices_of}
+use Rattle.def_reply.specs.Bounds.{AttainsCeiling, AttainsFloor, IsCeiling, IsExploitability, IsFloor}
+use Rattle.def_bracket.specs.Bracket.{LiesWithin, TraceLine}
+use Rattle.def_bracket.specs.Outcome.{Outcome, OutcomeEnds}
+use Rattle.def_cert_verdict.specs.Certificate.{last_line}
+
+-- the plans at both ends are of the scale times the round that the line names, and what the line has are the attained
+-- floor of player one's and the attained ceiling of player two's, over all plans of all roots
+pub record AreBoundsOfLine (form : SequenceForm) (scale : ℕ) (line : TraceLine) (ends : OutcomeEnds) : Type 0 where
+  pub plan_one : IsPlan form.sets_one (line.low_round * scale) ends.lower.plan
+  pub floor : IsFloor form ends.lower.plan ends.lower.reply.total
+  pub floor_attained : AttainsFloor form ends.lower.plan ends.lower.reply.total (pure_plan form.sets_two (choices_of ends.lower.reply.sets))
+  pub low : line.low ≡ ends.lower.reply.total
+  pub plan_two : IsPlan form.sets_two (line.high_round * scale) ends.upper.plan
+  pub ceiling : IsCeiling form ends.upper.plan ends.upper.reply.total
+  pub ceiling_attained : AttainsCeiling form ends.upper.plan ends.upper.reply.total (pure_plan form.sets_one (choices_of ends.upper.reply.sets))
+  pub high : line.high ≡ ends.upper.reply.total
+
+-- the gap between both ends, each over its plan's root, is the total exploitability of the two plans
+abbrev pub HasGapOfLine : SequenceForm → ℕ → TraceLine → OutcomeEnds → Type 0
+HasGapOfLine form scale line ends =
+    IsExploitability form (line.low_round * scale) (line.high_round * scale) ends.lower.plan ends.upper.plan
+    ((pos (line.low_round * scale) *ℤ ends.upper.reply.total) -ℤ (pos (line.high_round * scale) *ℤ ends.lower.reply.total))
+
+-- an outcome has both ends, and its last line is theirs
+pub record HasEnds (P : TraceLine → OutcomeEnds → Type 0) (outcome : Outcome) : Type 0 where
+  pub ends : OutcomeEnds
+  pub has : outcome.ends ≡ Some ends
+  pub of_last : P (last_line outcome.trace) ends
+
+-- no line is wider than an earlier one
+abbrev pub NoLineIsWider : List TraceLine → Type 0
+NoLineIsWider lines = (j k : ℕ) (line : TraceLine) → j ≤ k → k < length lines
+    → LiesWithin (slice_index_or lines k line) (slice_index_or lines j line)

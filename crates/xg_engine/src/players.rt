@@ -1,0 +1,125 @@
+ghost use Rattle.std.specs.Prelude.{◌≡◌, ◌+◌, ◌*◌, ◌^◌, ◌<◌, ◌≤◌, ℕ, List, IfOk, OnOk, length, pos, replicate, unsigned_abs};
+ghost use Rattle.std.specs.Thread.{IsSync};
+ghost use Rattle.def_sums.specs.Limits.{most_rounds, most_scale};
+ghost use Rattle.def_sums.specs.Sum.{nat_sum_over};
+ghost use Rattle.def_plan.specs.Form.{player_sets, sequence_count};
+ghost use Rattle.def_plan.specs.Plan.{IsPlan, added, cleared};
+ghost use Rattle.def_rows.specs.Rows.{player_rows};
+ghost use Rattle.def_round.specs.Play.{GivesAllUnits, plan_of_play, play_of};
+ghost use Rattle.def_round.specs.Round.{own_sum, regrets_after};
+ghost use Rattle.xg_jobs.specs.Table.{IsTableOf};
+ghost use Rattle.xg_engine.specs.Players.{CanGrow, HasRoom, IsSoundForm, StandAfter, StandsWith};
+
+use crate::source::RowSource;
+use std::alloc::{AllocError, Global};
+use std::sync::Wait;
+use std::thread::Threads;
+use xg_closer::{Regrets, close_round, play_into};
+use xg_jobs::RowMaker;
+use xg_plan::{Plan, Play, Player, add_to, from_play};
+use xg_seq::SeqForm;
+
+/// A player's regrets and sum of plans, with the play and the plan of the last round.
+#[derive(Drop)]
+pub(crate) struct Learner {
+    pub(crate) regrets: Regrets,
+    pub(crate) play: Play,
+    pub(crate) plan: Plan,
+    pub(crate) sum: Plan,
+}
+
+/// Both players.
+#[derive(Drop)]
+pub(crate) struct Players {
+    pub(crate) one: Learner,
+    pub(crate) two: Learner,
+}
+
+impl Learner {
+    /// A player before the first round.
+    fn new(alloc: Global, form: &SeqForm, player: Player) -> Result<Learner, AllocError>
+        ensures { let sets = player_sets form.now player in
+            IfOk result (λ learner.
+            StandsWith sets 0 (replicate (sequence_count sets) (pos 0)) (cleared sets) learner) }
+    {
+        Ok(Learner {
+            regrets: Regrets::new(alloc, form, player)?,
+            play: Play::new(alloc, form, player)?,
+            plan: Plan::new(alloc, form, player)?,
+            sum: Plan::new(alloc, form, player)?,
+        })
+    }
+
+    /// Plays by the regrets as they stand, and adds the plan of this play to the sum.
+    fn plan_round(&mut self, form: &SeqForm, player: Player, scale: u32)
+        requires room { HasRoom (player_sets form.now player) self.old }
+        requires some_scale { 1 ≤ scale }
+        requires small_scale { scale ≤ most_scale }
+        requires sums { CanGrow (player_sets form.now player) scale self.old.sum }
+        ensures room { HasRoom (player_sets form.now player) self.new }
+        ensures play { self.new.play ≡ play_of (player_sets form.now player) self.old.regrets.of_sequences }
+        ensures all_units { GivesAllUnits self.new.play (player_sets form.now player) }
+        ensures plan { self.new.plan ≡ plan_of_play (player_sets form.now player) self.new.play scale }
+        ensures is_plan { IsPlan (player_sets form.now player) scale self.new.plan }
+        ensures sums { self.new.sum ≡ added self.old.sum self.new.plan }
+        ensures regrets { self.new.regrets ≡ self.old.regrets }
+    {
+        play_into(form, player, &self.regrets, &mut self.play);
+        from_play(form, player, &self.play, scale as u64, &mut self.plan);
+        add_to(&mut self.sum, &self.plan);
+    }
+
+    /// Adds the regrets of a round, by the rows against the other player's plan.
+    fn learn(&mut self, form: &SeqForm, player: Player, rows: &[i128])
+        requires room { HasRoom (player_sets form.now player) self.old }
+        requires few_rounds { self.old.regrets.closed < most_rounds }
+        requires all_units { GivesAllUnits self.old.play (player_sets form.now player) }
+        requires rows { length rows.now ≡ sequence_count (player_sets form.now player) }
+        requires small { nat_sum_over unsigned_abs rows.now ≤ 2 ^ 82 }
+        ensures room { HasRoom (player_sets form.now player) self.new }
+        ensures regrets { (against : List ℕ) → rows.now ≡ player_rows form.now player against
+            → self.new.regrets.of_sequences
+            ≡ regrets_after (own_sum player form.now.leaves against) self.old.play (player_sets form.now player) self.old.regrets.of_sequences }
+        ensures closed { self.new.regrets.closed ≡ self.old.regrets.closed + 1 }
+        ensures sums { self.new.sum ≡ self.old.sum }
+    {
+        close_round(form, player, &mut self.regrets, &self.play, rows);
+    }
+}
+
+impl Players {
+    /// Both players before the first round.
+    pub(crate) fn new(alloc: Global, form: &SeqForm) -> Result<Players, AllocError>
+        ensures { (scale : ℕ) → IfOk result (λ players. StandAfter form.now scale 0 players) }
+    {
+        Ok(Players {
+            one: Learner::new(alloc, form, Player::One)?,
+            two: Learner::new(alloc, form, Player::Two)?,
+        })
+    }
+
+    /// Plays a round: both plans are made from the regrets as they stand, and both players learn from these two plans.
+    pub(crate) fn play_round<Rt: Threads + Wait + Sync, M: RowMaker>(
+        &mut self,
+        source: &RowSource<'_, Rt, M>,
+        scale: u32,
+        round: u32,
+    ) -> Result<(), AllocError>
+        requires sync { IsSync Rt.row }
+        requires can { M.can_make source.now.maker.now }
+        requires table { IsTableOf source.now.form.now source.now.jobs.now }
+        requires form { IsSoundForm source.now.form.now }
+        requires some_scale { 1 ≤ scale }
+        requires small_scale { scale ≤ most_scale }
+        requires few_rounds { round < most_rounds }
+        requires stand { StandAfter source.now.form.now scale round self.old }
+        ensures { OnOk result (StandAfter source.now.form.now scale (round + 1) self.new) }
+    {
+        self.one.plan_round(source.form, Player::One, scale);
+        self.two.plan_round(source.form, Player::Two, scale);
+        let rows = source.rows(&self.one.plan, &self.two.plan)?;
+        self.one.learn(source.form, Player::One, rows.one());
+        self.two.learn(source.form, Player::Two, rows.two());
+        Ok(())
+    }
+}

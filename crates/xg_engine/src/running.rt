@@ -1,0 +1,141 @@
+ghost use Rattle.std.specs.Prelude.{◌≡◌, ◌+◌, ◌<◌, ◌≤◌, IfOk, OnOk, length};
+ghost use Rattle.std.specs.Thread.{IsSync};
+ghost use Rattle.def_bracket.specs.Bracket.{evaluated_rounds};
+ghost use Rattle.def_run.specs.Run.{outcome};
+ghost use Rattle.def_round.specs.Rounds.{rounds};
+ghost use Rattle.xg_cert.specs.Outcome.{head_of};
+ghost use Rattle.xg_jobs.specs.Table.{IsTableOf};
+ghost use Rattle.xg_engine.specs.Opened.{Asks};
+ghost use Rattle.xg_engine.specs.Players.{IsSoundForm};
+ghost use Rattle.xg_engine.specs.Runs.{IsAfter, IsBlank};
+ghost use Rattle.xg_engine.specs.State.{AreWithinLimits};
+
+use crate::drafting::Draft;
+use crate::evaluating::Evaluator;
+use crate::players::Players;
+use crate::settings::Settings;
+use crate::source::RowSource;
+use std::alloc::{AllocError, Global};
+use std::sync::Wait;
+use std::thread::Threads;
+use xg_cert::{Head, Outcome};
+use xg_jobs::RowMaker;
+use xg_plan::{Plan, Player};
+use xg_seq::SeqForm;
+
+/// What a run leaves.
+#[derive(Drop)]
+pub(crate) struct FinishedRun {
+    pub(crate) outcome: Outcome,
+    pub(crate) sum_one: Plan,
+    pub(crate) sum_two: Plan,
+}
+
+/// A run between rounds.
+#[derive(Drop)]
+pub(crate) struct Run {
+    pub(crate) players: Players,
+    pub(crate) evaluator: Evaluator,
+}
+
+impl Run {
+    fn new(alloc: Global, form: &SeqForm, settings: Settings) -> Result<Run, AllocError>
+        requires limits { AreWithinLimits settings }
+        ensures { IfOk result (λ run. IsAfter form.now settings 0 run) }
+    {
+        Ok(Run {
+            players: Players::new(alloc, form)?,
+            evaluator: Evaluator::new(alloc, form, evaluation_count(settings))?,
+        })
+    }
+
+    /// Plays the next round, and evaluates the sums of plans where this round is an evaluated one.
+    fn step<Rt: Threads + Wait + Sync, M: RowMaker>(
+        &mut self,
+        source: &RowSource<'_, Rt, M>,
+        settings: Settings,
+        so_far: u32,
+    ) -> Result<(), AllocError>
+        requires sync { IsSync Rt.row }
+        requires can { M.can_make source.now.maker.now }
+        requires table { IsTableOf source.now.form.now source.now.jobs.now }
+        requires form { IsSoundForm source.now.form.now }
+        requires limits { AreWithinLimits settings }
+        requires next { so_far < settings.rounds }
+        requires run { IsAfter source.now.form.now settings so_far self.old }
+        ensures { OnOk result (IsAfter source.now.form.now settings (so_far + 1) self.new) }
+    {
+        self.players.play_round(source, settings.scale, so_far)?;
+        let round = so_far + 1;
+        if round % settings.every == 0 || round == settings.rounds {
+            let players = &self.players;
+            self.evaluator
+                .evaluate(source, round, &players.one.sum, &players.two.sum)?;
+        }
+        Ok(())
+    }
+}
+
+/// Plays all rounds. Whatever outlives a round is made before the first one.
+pub(crate) fn play<Rt: Threads + Wait + Sync, M: RowMaker>(
+    source: &RowSource<'_, Rt, M>,
+    settings: Settings,
+    head: Head,
+) -> Result<FinishedRun, AllocError>
+    requires sync { IsSync Rt.row }
+    requires can { M.can_make source.now.maker.now }
+    requires table { IsTableOf source.now.form.now source.now.jobs.now }
+    requires limits { AreWithinLimits settings }
+    requires head { Asks settings (head_of head) }
+    ensures outcome { IfOk result (λ run. run.outcome ≡ outcome source.now.form.now (head_of head)) }
+    ensures sound { OnOk result (IsSoundForm source.now.form.now) }
+    ensures sum_one { IfOk result (λ run.
+        run.sum_one ≡ (rounds source.now.form.now settings.scale settings.rounds).sum_one) }
+    ensures sum_two { IfOk result (λ run.
+        run.sum_two ≡ (rounds source.now.form.now settings.scale settings.rounds).sum_two) }
+{
+    form_is_sound(source.form);
+    let draft = Draft::new(source.alloc, source.form, evaluation_count(settings))?;
+    let mut run = Run::new(source.alloc, source.form, settings)?;
+    for so_far in 0..settings.rounds {
+        run.step(source, settings, so_far)?;
+    }
+    Ok(finish(source.form, settings, head, draft, run))
+}
+
+// Nothing but what is true of every form.
+fn form_is_sound(form: &SeqForm)
+    ensures { IsSoundForm form.now }
+{
+    let _one = form.sequence_count(Player::One);
+    let _two = form.sequence_count(Player::Two);
+    let _leaves = form.leaf_count();
+}
+
+// How many rounds are evaluated.
+fn evaluation_count(settings: Settings) -> u32
+    requires limits { AreWithinLimits settings }
+    ensures { result ≡ length (evaluated_rounds settings.every settings.rounds) }
+{
+    (settings.rounds + settings.every - 1) / settings.every
+}
+
+fn finish(form: &SeqForm, settings: Settings, head: Head, draft: Draft, run: Run) -> FinishedRun
+    requires limits { AreWithinLimits settings }
+    requires head { Asks settings (head_of head) }
+    requires form { IsSoundForm form.now }
+    requires draft { IsBlank form.now (length (evaluated_rounds settings.every settings.rounds)) draft }
+    requires run { IsAfter form.now settings settings.rounds run }
+    ensures outcome { result.outcome ≡ outcome form.now (head_of head) }
+    ensures sum_one { result.sum_one ≡ (rounds form.now settings.scale settings.rounds).sum_one }
+    ensures sum_two { result.sum_two ≡ (rounds form.now settings.scale settings.rounds).sum_two }
+{
+    let Run { players, evaluator } = run;
+    let outcome = draft.fill(form, head, &evaluator.board);
+    let Players { one, two } = players;
+    FinishedRun {
+        outcome,
+        sum_one: one.sum,
+        sum_two: two.sum,
+    }
+}
