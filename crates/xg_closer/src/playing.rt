@@ -14,8 +14,10 @@ use xg_seq::SeqForm;
 
 const UNITS: u32 = 65_536;
 
-/// Makes the play of the regrets as they stand: each set's actions in proportion to their positive regrets, and all
-/// alike where no regret is positive.
+/// Makes the play of the regrets as they stand, by regret matching (Zinkevich, Johanson, Bowling and Piccione 2007).
+///
+/// The 65,536 units of each set go to its actions in proportion to their positive regrets, and to all alike where no
+/// regret is positive.
 pub fn play_into(form: &SeqForm, player: Player, regrets: &Regrets, play: &mut Play)
     requires as_regrets { length regrets.now.of_sequences ≡ sequence_count (player_sets form.now player) }
     requires as_play { length play.old ≡ sequence_count (player_sets form.now player) }
