@@ -6,7 +6,8 @@ ghost use Rattle.def_outside.specs.Cause.{HasCause};
 ghost use Rattle.def_outside.specs.Sinks.{AppendsPrefix};
 ghost use Rattle.def_plan.specs.Form.{player_sets, sequence_count};
 ghost use Rattle.def_cert_accepted.specs.OfOutcome.{certificate_of, printed_bound, printed_plan};
-ghost use Rattle.def_cert_ranges.specs.Ranges.{IsFromTo, most_unit};
+ghost use Rattle.def_cert_ranges.specs.Ranges.{IsFromTo};
+ghost use Rattle.def_fraction.specs.Fraction.{most};
 ghost use Rattle.def_sums.specs.Limits.{most_root};
 ghost use Rattle.xg_cert.specs.Outcome.{end_of, head_of, trace_of};
 ghost use Rattle.xg_cert.specs.Writable.{IsEndOf, IsOutcomeOf, above_text, below_text, end_text, ends_text};
@@ -95,7 +96,7 @@ fn put_end<O: Sink>(
 
 /// The total of the reply over unit and root.
 fn bound(unit: u64, end: &End) -> Ratio
-    requires unit { IsFromTo 1 most_unit unit }
+    requires unit { IsFromTo 1 most unit }
     requires root { IsFromTo 1 most_root (slice_index end.now.plan 0) }
     requires total { unsigned_abs end.now.reply.reply.total ≤ 2 ^ 98 }
     ensures { result ≡ printed_bound unit (end_of end.now) }
@@ -114,7 +115,7 @@ fn put_ends<O: Sink>(
     upper: &End,
     out: &mut O,
 ) -> Result<(), WriteFault>
-    requires unit { IsFromTo 1 most_unit unit }
+    requires unit { IsFromTo 1 most unit }
     requires lower { IsEndOf form.now.sets_one form.now.sets_two (end_of lower.now) }
     requires upper { IsEndOf form.now.sets_two form.now.sets_one (end_of upper.now) }
     ensures text { Writes (O.written out.old) (O.written out.new)
