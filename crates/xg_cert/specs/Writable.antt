@@ -4,7 +4,8 @@ use Rattle.def_plan.specs.Form.{InformationSet, SequenceForm, sequence_count}
 use Rattle.def_sums.specs.Limits.{most_root}
 use Rattle.def_bracket.specs.Bracket.{TraceLine}
 use Rattle.def_bracket.specs.Outcome.{Head, End, OutcomeEnds, Outcome}
-use Rattle.def_cert_ranges.specs.Ranges.{IsFromTo, most_unit}
+use Rattle.def_cert_ranges.specs.Ranges.{IsFromTo}
+use Rattle.def_fraction.specs.Fraction.{most}
 use Rattle.def_cert_accepted.specs.OfOutcome.{printed_plan, printed_bound}
 use Rattle.def_cert_text.specs.Fields.{items_text}
 use Rattle.def_cert_text.specs.Formats.{text_of, each_items}
@@ -22,7 +23,7 @@ AreEndsOf form None = Unit {0}
 AreEndsOf form (Some ends) = IsEndOf form.sets_one form.sets_two ends.lower × IsEndOf form.sets_two form.sets_one ends.upper
 
 pub record IsOutcomeOf (form : SequenceForm) (outcome : Outcome) : Type 0 where
-  pub unit : IsFromTo 1 most_unit outcome.head.unit
+  pub unit : IsFromTo 1 most outcome.head.unit
   pub ends : AreEndsOf form outcome.ends
 
 -- a plan with the reply to it, by the digits of their players
