@@ -1,5 +1,5 @@
 -- The texts that are written of an accepted game.
-use Rattle.std.proofs.Common.{◌≡◌, ℕ, ◌+◌, ◌<◌, ◌≤◌, Bool, true, false, cond, List, [], ◌∷◌, ◌++◌, length, get_or, take, refl, sym, ap, ◌∙◌, append_assoc, arith}
+use Rattle.std.proofs.Common.{◌≡◌, ℕ, ◌+◌, ◌<◌, ◌≤◌, Bool, true, false, cond, List, [], ◌∷◌, ◌++◌, length, get_or, take, refl, sym, ap, ◌∙◌, append_assoc, arith, subst}
 use Rattle.std.proofs.lemmas.List.{length-map, take_all, take_more}
 use Rattle.std.specs.Prelude.{nat_eq}
 use Rattle.std.specs.Fmt.{digits}
@@ -9,6 +9,7 @@ use Rattle.def_outside.specs.Sinks.{AppendsPrefix}
 use Rattle.def_file_tokens.specs.Texts.{escaped}
 use Rattle.def_file.specs.Content.{GameFile}
 use Rattle.def_plan.specs.Payoff.{mass_of}
+use Rattle.def_sums.specs.Limits.{most_scale}
 use Rattle.def_tree.specs.Tree.{leaf_count, prefix}
 use Rattle.def_game_paths.specs.Paths.{leaf_visits}
 use Rattle.def_game_scale.specs.Scale.{all_expected, expected, game_mass, weights}
@@ -16,15 +17,14 @@ use Rattle.def_game_numbers.specs.Numbers.{tables_of}
 use Rattle.def_sequence_form.specs.Form.{form_of_game}
 use Rattle.def_sequence_form.proofs.Leaves.{form_has_the_mass, leaves_counted, length-leaves_with}
 use Rattle.def_bracket.specs.Outcome.{Head}
+use Rattle.def_cert_verdict.specs.Verdict.{WeighedGame}
 use Rattle.def_cert_verdict.specs.Laws.{IsHeadOf}
 use Rattle.def_cert_text.specs.CertText.{asked_text, first_text, head_text, last_text}
 use Rattle.def_cert_text.specs.Fields.{items_text}
 use Rattle.def_cert_text.proofs.TextLines.{text_lines}
 use Rattle.def_text.specs.Text.{form_of_file, game_head, no_rounds, quoted, solve_text}
 use Rattle.xg_cert.specs.Writes.{Writes}
-use Rattle.xg_engine.specs.declared.settings.Settings.{Settings}
-use Rattle.xg_engine.specs.Opened.{Asks, weighed_game}
-use Rattle.xg_solve.specs.Settings.{settings_of}
+use Rattle.xg_numbers.specs.Opened.{weighed_game}
 use Rattle.xg_solve.specs.Unplayed.{unplayed_end}
 
 -- what is escaped piece by piece is escaped whole
@@ -65,22 +65,25 @@ leaves_are game =
     length-leaves_with game.tree (leaf_visits game.tree) (weights tables game.tree) (omega (arith, many))
     ∙ leaves_counted game.tree
 
--- the head of a game's numbers is the game's head
-pub head_is : (game : GameFile) (settings : Settings) (head : Head) → IsHeadOf (weighed_game game) head
-    → Asks settings head → head ≡ game_head game (settings_of settings)
-head_is game settings head is asks = λ i. record {
-  nodes = is.nodes i;
-  leaves = (is.leaves ∙ leaves_are game) i;
-  sets_one = is.sets_one i;
-  sets_two = is.sets_two i;
-  sequences_one = is.sequences_one i;
-  sequences_two = is.sequences_two i;
-  unit = is.unit i;
-  mass = (is.mass_is ∙ form_has_the_mass.of_game (tables_of game) game.tree) i;
-  rounds = asks.rounds i;
-  every = asks.every i;
-  scale = asks.scale i;
-}
+-- the head of a game's numbers, where no rounds are asked, is the game's head
+pub head_is : (game : GameFile) (numbers : WeighedGame) → numbers ≡ weighed_game game → (head : Head)
+    → IsHeadOf numbers head → head.rounds ≡ 0 → head.every ≡ 1 → head.scale ≡ most_scale
+    → head ≡ game_head game no_rounds
+head_is game numbers kept head of_numbers none one greatest =
+    let is : IsHeadOf (weighed_game game) head = subst (λ (w : WeighedGame). IsHeadOf w head) kept of_numbers in
+    λ i. record {
+      nodes = is.nodes i;
+      leaves = (is.leaves ∙ leaves_are game) i;
+      sets_one = is.sets_one i;
+      sets_two = is.sets_two i;
+      sequences_one = is.sequences_one i;
+      sequences_two = is.sequences_two i;
+      unit = is.unit i;
+      mass = (is.mass_is ∙ form_has_the_mass.of_game (tables_of game) game.tree) i;
+      rounds = none i;
+      every = one i;
+      scale = greatest i;
+    }
 
 -- the lines of a game that is solved in no rounds are its text
 pub unplayed_is : (game : GameFile)

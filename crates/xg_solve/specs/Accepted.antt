@@ -1,11 +1,11 @@
 -- A game that is accepted, and what opening one gives.
 use Rattle.std.specs.Prelude.{◌≡◌, Option, Some, None, Result, Ok, Err}
 use Rattle.def_file.specs.Content.{GameFile}
-use Rattle.def_cert_verdict.specs.Verdict.{WeighedGame}
 use Rattle.def_game_numbers.specs.Numbers.{game_file_fault}
 use Rattle.xg_game.specs.declared.fault.Refused.{Refused}
 use Rattle.xg_game.specs.declared.fault.Refused.TheVariants.{File, NoMemory}
-use Rattle.xg_engine.specs.Opened.{weighed_game}
+use Rattle.def_cert_verdict.specs.Verdict.{WeighedGame}
+use Rattle.xg_numbers.specs.Opened.{weighed_game}
 
 -- the numbers are the game's
 abbrev pub KeepsNumbers : GameFile → WeighedGame → Type 0

@@ -2,7 +2,6 @@ pub mod Words
 pub mod Accepted
 pub mod Unplayed
 pub mod Loads
-pub mod Settings
 pub mod Endings
 pub mod Concludes
 pub mod Refusal

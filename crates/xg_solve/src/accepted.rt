@@ -1,21 +1,24 @@
 //! A game that is accepted.
 ghost use Rattle.std.specs.Prelude.{◌≡◌};
-ghost use Rattle.def_text.specs.Text.{game_head};
+ghost use Rattle.def_text.specs.Text.{game_head, no_rounds};
 ghost use Rattle.xg_cert.specs.Outcome.{head_of};
 ghost use Rattle.xg_solve.specs.Accepted.{Opens};
-ghost use Rattle.xg_solve.specs.Settings.{settings_of};
 
 use std::alloc::Global;
 use std::marker::Model;
 use xg_cert::Head;
-use xg_engine::{Engine, Settings};
 use xg_game::{Game, Refused};
+use xg_numbers::Numbers;
+use xg_plan::Player;
+
+/// The greatest scale of a plan.
+const MOST_SCALE: u32 = 1_048_576;
 
 /// A game that is accepted: as its file has it, and in numbers.
 #[derive(Drop)]
 pub struct Accepted {
     game: Game,
-    engine: Engine,
+    numbers: Numbers,
 }
 
 impl Model for Accepted {
@@ -30,7 +33,7 @@ impl Model for Accepted {
 
     ghost view = { λ a. a.game };
 
-    ghost invariant = { λ a. KeepsNumbers a.game a.engine };
+    ghost invariant = { λ a. KeepsNumbers a.game a.numbers };
 }
 
 impl Accepted {
@@ -38,8 +41,8 @@ impl Accepted {
     pub fn open(alloc: Global, game: Game) -> Result<Accepted, Refused>
         ensures { Opens game result }
     {
-        let engine = Engine::open(alloc, &game)?;
-        Ok(Accepted { game, engine })
+        let numbers = Numbers::open(alloc, &game)?;
+        Ok(Accepted { game, numbers })
     }
 
     /// The game, as its file has it.
@@ -49,10 +52,24 @@ impl Accepted {
         &self.game
     }
 
-    /// The game's numbers, with what is asked.
-    pub fn head(&self, settings: Settings) -> Head
-        ensures { head_of result ≡ game_head self.now (settings_of settings) }
+    /// The game's numbers, where no rounds are asked, at the greatest scale.
+    pub fn head(&self) -> Head
+        ensures { head_of result ≡ game_head self.now no_rounds }
     {
-        self.engine.head(settings)
+        let form = self.numbers.form();
+        Head {
+            nodes: self.numbers.nodes(),
+            leaves: form.leaf_count(),
+            sets: (form.set_count(Player::One), form.set_count(Player::Two)),
+            sequences: (
+                form.sequence_count(Player::One),
+                form.sequence_count(Player::Two),
+            ),
+            unit: self.numbers.unit(),
+            mass: self.numbers.mass(),
+            rounds: 0,
+            every: 1,
+            scale: MOST_SCALE,
+        }
     }
 }

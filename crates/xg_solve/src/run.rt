@@ -13,7 +13,7 @@ ghost use Rattle.xg_solve.specs.Written.{IsEndOf};
 use crate::accepted::Accepted;
 use crate::ending::Ending;
 use crate::load::{LoadFault, load};
-use crate::text::{NO_ROUNDS, fault_line, info_front, write_info, write_solution};
+use crate::text::{fault_line, info_front, write_info, write_solution};
 use crate::words::{Command, Words};
 use std::alloc::Global;
 use std::marker::Sync;
@@ -56,7 +56,7 @@ fn tell<O: Sink>(alloc: Global, accepted: &Accepted, out: &mut O) -> Ending
     let Ok(front) = info_front(alloc, accepted.game()) else {
         return Ending::NoMemory;
     };
-    ending_of(write_info(&front, &accepted.head(NO_ROUNDS), out))
+    ending_of(write_info(&front, &accepted.head(), out))
 }
 
 /// The end of a run whose text was written, or cut off.

@@ -12,28 +12,17 @@ ghost use Rattle.xg_solve.specs.Unplayed.{unplayed_end};
 use crate::accepted::Accepted;
 use std::alloc::{AllocError, Global};
 use xg_cert::{Head, write_head};
-use xg_engine::Settings;
 use xg_game::Game;
 use xg_io::{Sink, WriteFault, write_all};
 use xg_plan::Player;
 use xg_read::{FileFault, NumberFault};
-
-/// The greatest scale of a plan.
-const MOST_SCALE: u32 = 1_048_576;
-
-/// No rounds, at the greatest scale.
-pub const NO_ROUNDS: Settings = Settings {
-    rounds: 0,
-    every: 1,
-    scale: MOST_SCALE,
-};
 
 /// Writes the text of a game that is solved in no rounds. After an error a front of it was written.
 pub fn write_solution<O: Sink>(accepted: &Accepted, out: &mut O) -> Result<(), WriteFault>
     ensures text { Writes (O.written out.old) (O.written out.new) (solve_text accepted.now no_rounds) result }
     ensures cause { HasCause (O.faults out.old) (O.faults out.new) result }
 {
-    write_unplayed(&accepted.head(NO_ROUNDS), out)
+    write_unplayed(&accepted.head(), out)
 }
 
 #[tactic(auto, using(xg_cert::proofs::Written::prefix_first, xg_cert::proofs::Written::then_rest))]

@@ -1,0 +1,112 @@
+ghost use Rattle.std.specs.Prelude.{◌≡◌, ◌≢◌, length, Err, IfOk, None, Ok, Some};
+ghost use Rattle.def_file.specs.declared.FileFault.{FileFault};
+ghost use Rattle.def_game_numbers.specs.Numbers.{game_file_fault, tables_of, weigh};
+ghost use Rattle.def_plan.specs.Payoff.{mass_of};
+ghost use Rattle.def_sequence_form.specs.Form.{form_of_game};
+ghost use Rattle.def_sequence_form.specs.Sets.{sets_or_break};
+ghost use Rattle.def_tree.specs.Tree.{leaf_count, prefix};
+ghost use Rattle.xg_numbers.specs.Opened.{IsBreakOf, KeepsMass, weighed_game};
+
+use std::alloc::Global;
+use std::marker::Model;
+use xg_game::{FileFault, Game, Refused};
+use xg_scale::{Weights, weigh};
+use xg_seq::SeqForm;
+use xg_sets::{RecallFault, Sets, build_sets};
+
+/// A game in numbers: how many nodes it has, and its sequence form with the unit and the mass of its weights.
+#[derive(Drop)]
+pub struct Numbers {
+    form: SeqForm,
+    nodes: u32,
+    unit: u64,
+    mass: u64,
+}
+
+impl Model for Numbers {
+    ghost use Rattle.def_cert_verdict.specs.Verdict.{WeighedGame};
+    ghost use Rattle.xg_numbers.specs.Opened.{KeepsMass};
+
+    ghost Value = { WeighedGame };
+
+    ghost view = { λ n. record { nodes = n.nodes; unit = n.unit; form = n.form } };
+
+    ghost invariant = { λ n. KeepsMass n.form n.mass };
+}
+
+impl Numbers {
+    /// The game in numbers, or its first fault: of the probabilities, payoffs and weights, and then of recall.
+    pub fn open(alloc: Global, game: &Game) -> Result<Numbers, Refused>
+        ensures opened { IfOk result (λ numbers. numbers ≡ weighed_game game.now) }
+        ensures faultless { IfOk result (λ _. game_file_fault game.now ≡ None) }
+        ensures refused { (fault : FileFault) → result ≡ Err (Refused.File fault)
+            → game_file_fault game.now ≡ Some fault }
+    {
+        let weights = weigh(alloc, game)?;
+        let sets = sets_of(alloc, game)?;
+        let form = form_of(alloc, game, &weights, &sets)?;
+        Ok(Numbers {
+            form,
+            nodes: game.tree().len(),
+            unit: weights.unit(),
+            mass: weights.mass(),
+        })
+    }
+
+    /// The number of nodes.
+    pub fn nodes(&self) -> u32
+        ensures { result ≡ self.now.nodes }
+    {
+        self.nodes
+    }
+
+    /// The number by which reach times payoff is multiplied.
+    pub fn unit(&self) -> u64
+        ensures { result ≡ self.now.unit }
+    {
+        self.unit
+    }
+
+    /// The sum of the sizes of the weights.
+    pub fn mass(&self) -> u64
+        ensures { result ≡ mass_of self.now.form.leaves }
+    {
+        self.mass
+    }
+
+    /// The sequence form.
+    pub fn form(&self) -> &SeqForm
+        ensures { result.now ≡ self.now.form }
+    {
+        &self.form
+    }
+}
+
+/// The game's sets, where its players remember their choices.
+fn sets_of(alloc: Global, game: &Game) -> Result<Sets, Refused>
+    ensures sets { IfOk result (λ sets. sets_or_break game.now.tree ≡ Ok sets) }
+    ensures broken { (fault : FileFault) → result ≡ Err (Refused.File fault) → IsBreakOf game.now.tree fault }
+{
+    match build_sets(alloc, game.tree()) {
+        Ok(sets) => Ok(sets),
+        Err(RecallFault::NotRecall { node, earlier }) => {
+            Err(Refused::File(FileFault::NotRecall { node, earlier }))
+        }
+        Err(RecallFault::NoMemory) => Err(Refused::NoMemory),
+    }
+}
+
+/// The game's sequence form.
+fn form_of(alloc: Global, game: &Game, weights: &Weights, sets: &Sets) -> Result<SeqForm, Refused>
+    requires weighed { weigh game.now ≡ Ok weights.now }
+    requires count { length weights.now.leaves ≡ leaf_count (prefix game.now.tree) }
+    requires sets { sets_or_break game.now.tree ≡ Ok sets.now }
+    ensures form { IfOk result (λ form. form ≡ form_of_game (tables_of game.now) game.now.tree) }
+    ensures mass { IfOk result (λ form. KeepsMass form weights.now.mass) }
+    ensures accepted { (fault : FileFault) → result ≢ Err (Refused.File fault) }
+{
+    match SeqForm::build(alloc, game.tree(), sets, weights.leaves()) {
+        Ok(form) => Ok(form),
+        Err(_) => Err(Refused::NoMemory),
+    }
+}
