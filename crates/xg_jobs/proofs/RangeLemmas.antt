@@ -11,7 +11,8 @@ use Rattle.def_tree.specs.Rules.{most_nodes}
 use Rattle.xg_jobs.specs.declared.table.LeafRange.{LeafRange}
 use Rattle.xg_jobs.specs.Ranges.{range_of}
 
-pub range_at : (ranges : List LeafRange) (job : ℕ) (r : LeafRange) → job < length (map range_of ranges) → r ≡ get_or ranges job r
+pub range_at : (ranges : List LeafRange) (job : ℕ) (r : LeafRange) → job < length (map range_of ranges)
+    → r ≡ get_or ranges job r
     → slice_get (map range_of ranges) job ≡ Some (record { first = r.first + 1 - 1; count = r.count })
 range_at ranges job r low read =
     slice_get-map range_of ranges job
@@ -21,7 +22,8 @@ range_at ranges job r low read =
     told : ℕ → RangeOfLeaves
     told n = record { first = n; count = r.count }
 
-pub first_in_limit : (ranges : List LeafRange) (job : ℕ) (r : LeafRange) → job < length (map range_of ranges) → r ≡ get_or ranges job r
+pub first_in_limit : (ranges : List LeafRange) (job : ℕ) (r : LeafRange) → job < length (map range_of ranges)
+    → r ≡ get_or ranges job r
     → All (λ range. range.first ≤ most_nodes) ranges → r.first ≤ most_nodes
 first_in_limit ranges job r low read all =
     subst (λ (x : LeafRange). x.first ≤ most_nodes) (sym read) (All-get_or (λ range. range.first ≤ most_nodes) ranges job r (subst (λ n. job < n) (length-map ranges range_of) low) all)

@@ -3,10 +3,12 @@ use Rattle.std.proofs.Common.{◌≡◌, ℕ, ◌<◌, ◌≤◌, ◌-◌, List,
 use Rattle.std.proofs.Math.Seq.{take-append_seam}
 use Rattle.std.proofs.lemmas.List.{set-append_left, set-append_right}
 
-pub put_one : (one two : List ℤ) (row : ℕ) (x y : ℤ) → x ≡ y → row < length one → set one row x ++ two ≡ set (one ++ two) row y
+pub put_one : (one two : List ℤ) (row : ℕ) (x y : ℤ) → x ≡ y → row < length one
+    → set one row x ++ two ≡ set (one ++ two) row y
 put_one one two row x y same low = ap (λ t. set one row t ++ two) same ∙ sym (set-append_left one two row y low)
 
-pub put_two : (one two : List ℤ) (row : ℕ) (x y : ℤ) → x ≡ y → length one ≤ row → one ++ set two (row - length one) x ≡ set (one ++ two) row y
+pub put_two : (one two : List ℤ) (row : ℕ) (x y : ℤ) → x ≡ y → length one ≤ row
+    → one ++ set two (row - length one) x ≡ set (one ++ two) row y
 put_two one two row x y same high = ap (λ t. one ++ set two (row - length one) t) same ∙ sym (set-append_right one two (length one) row y refl high)
 
 -- a vector whose items were written over by as many

@@ -119,7 +119,8 @@ fn keeps_matching_pennies_as_one_job(rt: HostRuntime) -> Result<(), Fail> {
     Ok(())
 }
 
-// Both players of such a tree choose their second actions, with this number.
+// Both players choose their second actions with this number. The sums are of player one's first sequence, of player two's
+// first one, and of the second one of either.
 fn sums<Rt: Abort + Threads + Wait + Sync>(
     rt: &Rt,
     alloc: Global,
@@ -147,26 +148,17 @@ fn sums<Rt: Abort + Threads + Wait + Sync>(
     Ok(())
 }
 
-// Weights and sums of one word; weights past 32 bits; sums past 64 bits.
+// Weights of 32 bits and of 64, each with sums of 64 bits and of 128.
 #[test]
 fn sums_the_leaves_of_matching_pennies(rt: HostRuntime) -> Result<(), Fail> {
     let alloc = rt.alloc();
-    let (w, n) = (1 << 40, 1 << 36);
+    let light = [1 << 28, -2 << 28, -3 << 28, 4 << 28];
+    let heavy = [1 << 40, -2 << 40, -3 << 40, 4 << 40];
+    let most = 1 << 36;
     sums(&rt, alloc, &[1, -1, -1, 1], 1, [-1, -1, 1])?;
-    sums(&rt, alloc, &[1, -2, -3, 4], 1, [-2, -3, 4])?;
-    sums(
-        &rt,
-        alloc,
-        &[w, -2 * w, -3 * w, 4 * w],
-        1,
-        [-2 << 40, -3 << 40, 4 << 40],
-    )?;
-    sums(
-        &rt,
-        alloc,
-        &[w, -2 * w, -3 * w, 4 * w],
-        n,
-        [-2 << 76, -3 << 76, 4 << 76],
-    )?;
+    sums(&rt, alloc, &light, 1, [-2 << 28, -3 << 28, 4 << 28])?;
+    sums(&rt, alloc, &light, most, [-2 << 64, -3 << 64, 4 << 64])?;
+    sums(&rt, alloc, &heavy, 1, [-2 << 40, -3 << 40, 4 << 40])?;
+    sums(&rt, alloc, &heavy, most, [-2 << 76, -3 << 76, 4 << 76])?;
     Ok(())
 }
