@@ -119,8 +119,8 @@ fn keeps_matching_pennies_as_one_job(rt: HostRuntime) -> Result<(), Fail> {
     Ok(())
 }
 
-// Both players choose their second actions with this number. The sums are of player one's first sequence, of player two's
-// first one, and of the second one of either.
+// Both players choose their second actions with this number. The sums are those of player one's first sequence, of
+// player two's first one, and of the second one of either.
 fn sums<Rt: Abort + Threads + Wait + Sync>(
     rt: &Rt,
     alloc: Global,
