@@ -28,7 +28,8 @@ has_same : (v : TopVisit) (s t : TopState) → s ≡ t → Has v s → Has v t
 has_same v s t e has = λ ok. has ok ∙ e
 
 -- the visitor can be called along the trees, and then along the rest, if it can from the state after them
-accepts : (t : Forest) (k : ℕ) (rest : List Event) (v : TopVisit) (s : TopState) → HasItsChildren t → Has v s → Room s (node_count t)
+accepts : (t : Forest) (k : ℕ) (rest : List Event) (v : TopVisit) (s : TopState) → HasItsChildren t → Has v s
+    → Room s (node_count t)
     → ((w : TopVisit) → Has w (walked t s) → CanDo rest w) → CanDo (events_from k t ++ rest) v
 accepts bare k rest v s each has room then = then v (has_same v s (walked bare s) (sym (no_trees s.nodes s.open_at s.covered s.leaves)) has)
 accepts (grown node below beside) k rest v s each has room then =
@@ -67,10 +68,12 @@ leads (grown node below beside) k rest v w s each has does =
     (second.0, (has_same second.0 (walked beside (walked (grown node below bare) s)) (walked (grown node below beside) s) (beside_it node below beside s.nodes s.open_at s.covered s.leaves) second.1.0, second.1.1))
 
 -- along a whole tree
-pub can_walk : (tree : Forest) (v : TopVisit) (s : TopState) → HasItsChildren tree → Has v s → Room s (node_count tree) → CanDo (events tree) v
+pub can_walk : (tree : Forest) (v : TopVisit) (s : TopState) → HasItsChildren tree → Has v s → Room s (node_count tree)
+    → CanDo (events tree) v
 can_walk tree v s each has room = subst (λ es. CanDo es v) (append-nil (events tree)) (accepts tree 1 [] v s each has room (λ w _. tt))
 
-pub has_walked : (tree : Forest) (v w : TopVisit) (s : TopState) → HasItsChildren tree → Has v s → Does (events tree) v w → Has w (walked tree s)
+pub has_walked : (tree : Forest) (v w : TopVisit) (s : TopState) → HasItsChildren tree → Has v s
+    → Does (events tree) v w → Has w (walked tree s)
 has_walked tree v w s each has does =
     let end = leads tree 1 [] v w s each has (subst (λ es. Does es v w) (sym (append-nil (events tree))) does) in
     subst (λ u. Has u (walked tree s)) (sym end.1.1) end.1.0

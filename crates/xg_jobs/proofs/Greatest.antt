@@ -9,7 +9,8 @@ greatest_last [] x = grind arith
 greatest_last (y ∷ ys) x = let e = greatest_last ys x in grind arith
 
 -- one number more
-pub greatest_more : (xs : List ℕ) (i x : ℕ) → i < length xs → get_or xs i x ≡ x → greatest_of (take (i + 1) xs) ≡ max (greatest_of (take i xs)) x
+pub greatest_more : (xs : List ℕ) (i x : ℕ) → i < length xs → get_or xs i x ≡ x
+    → greatest_of (take (i + 1) xs) ≡ max (greatest_of (take i xs)) x
 greatest_more xs i x low read = ap greatest_of (take_more xs i x low ∙ ap (λ y. take i xs ++ y ∷ []) read) ∙ greatest_last (take i xs) x
 
 -- each number is at most the greatest

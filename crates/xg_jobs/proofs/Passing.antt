@@ -27,7 +27,8 @@ trees_counted : (trees : Forest) → length (each_tree trees) ≡ tree_count tre
 trees_counted bare = refl
 trees_counted (grown node below beside) = ap suc (trees_counted beside)
 
-told : (tops : List TopNode) (place : ℕ) (job : Forest) (t : TopNode) → tree_count job ≡ 1 → Stand tops place job → t ≡ get_or tops place t → TellsJob tops place job t
+told : (tops : List TopNode) (place : ℕ) (job : Forest) (t : TopNode) → tree_count job ≡ 1 → Stand tops place job
+    → t ≡ get_or tops place t → TellsJob tops place job t
 told tops place bare t one stand read = absurd (omega (arith, one))
 told tops place (grown node below bare) t one stand read =
     let is = top_is tops place node below bare t stand read in
@@ -47,7 +48,8 @@ told tops place (grown node below bare) t one stand read =
     }
 told tops place (grown node below (grown n b s)) t one stand read = absurd (omega (arith, one))
 
-pub tells_job : (tops : List TopNode) (place : ℕ) (job : Forest) (t : TopNode) → IsJob tops place job → t ≡ get_or tops place t → TellsJob tops place job t
+pub tells_job : (tops : List TopNode) (place : ℕ) (job : Forest) (t : TopNode) → IsJob tops place job
+    → t ≡ get_or tops place t → TellsJob tops place job t
 tells_job tops place job t is read = told tops place job t is.one is.there read
 
 -- the first of the places is that of the first job
@@ -58,11 +60,13 @@ pub record FirstJob (tops : List TopNode) (place : ℕ) (places : List ℕ) (job
   pub are : AreJobs tops places rest
   pub jobs_are : jobs ≡ job ∷ rest
 
-pub first_job : (tops : List TopNode) (place : ℕ) (places : List ℕ) (jobs : List Forest) → AreJobs tops (place ∷ places) jobs → FirstJob tops place places jobs
+pub first_job : (tops : List TopNode) (place : ℕ) (places : List ℕ) (jobs : List Forest)
+    → AreJobs tops (place ∷ places) jobs → FirstJob tops place places jobs
 first_job tops place places [] are = absurd are
 first_job tops place places (job ∷ rest) are = record { job = job; rest = rest; is = are.0; are = are.1; jobs_are = refl }
 
-pub job_at : (tops : List TopNode) (places : List ℕ) (jobs : List Forest) (k d : ℕ) → AreJobs tops places jobs → k < length places → (job : Forest) × IsJob tops (get_or places k d) job
+pub job_at : (tops : List TopNode) (places : List ℕ) (jobs : List Forest) (k d : ℕ) → AreJobs tops places jobs
+    → k < length places → (job : Forest) × IsJob tops (get_or places k d) job
 job_at tops [] jobs k d are low = absurd (omega arith)
 job_at tops (x ∷ xs) [] k d are low = absurd are
 job_at tops (x ∷ xs) (y ∷ ys) zero d are low = (y, are.0)
@@ -77,13 +81,17 @@ pub record PassSome (tops : List TopNode) (places : List ℕ) (jobs : List Fores
   pub whole : made ++ cut_each most_jobs count rest ≡ pass most_jobs jobs
   pub same : cut ≡ false → made ++ rest ≡ jobs
 
-pub none_passed : (tops : List TopNode) (places : List ℕ) (jobs : List Forest) → AreJobs tops places jobs → PassSome tops places jobs [] (length jobs) false 0
+pub none_passed : (tops : List TopNode) (places : List ℕ) (jobs : List Forest) → AreJobs tops places jobs
+    → PassSome tops places jobs [] (length jobs) false 0
 none_passed tops places jobs are = record { made = []; rest = jobs; to_come = are; done = tt; whole = refl; same = λ _. refl }
 
-pub pass_cut : (tops : List TopNode) (places : List ℕ) (jobs : List Forest) (after after' : List ℕ) (count : ℕ) (cut : Bool) (k place : ℕ) (t : TopNode)
-    → PassSome tops places jobs after count cut k → drop k places ≡ place ∷ drop (k + 1) places → t ≡ get_or tops place t
+pub pass_cut : (tops : List TopNode) (places : List ℕ) (jobs : List Forest) (after after' : List ℕ) (count : ℕ)
+    (cut : Bool) (k place : ℕ) (t : TopNode)
+    → PassSome tops places jobs after count cut k → drop k places ≡ place ∷ drop (k + 1) places
+    → t ≡ get_or tops place t
     → (t.chance && nat_le (count - 1 + t.children) most_jobs) ≡ true → t.chance ≡ true
-    → ((trees : Forest) → Stand tops (place + 1) trees → tree_count trees ≡ t.children → (before : List Forest) → AreJobs tops after before → AreJobs tops after' (before ++ each_tree trees))
+    → ((trees : Forest) → Stand tops (place + 1) trees → tree_count trees ≡ t.children
+    → (before : List Forest) → AreJobs tops after before → AreJobs tops after' (before ++ each_tree trees))
     → PassSome tops places jobs after' (count - 1 + t.children) true (k + 1)
 pass_cut tops places jobs after after' count cut k place t some next read test chance put =
     let first = first_job tops place (drop (k + 1) places) some.rest (subst (λ ps. AreJobs tops ps some.rest) next some.to_come) in
@@ -107,8 +115,10 @@ pass_cut tops places jobs after after' count cut k place t some next read test c
     no : true ≡ false → ⊥
     no h = grind arith
 
-pub pass_kept : (tops : List TopNode) (places : List ℕ) (jobs : List Forest) (after : List ℕ) (count : ℕ) (cut : Bool) (k place : ℕ) (t : TopNode)
-    → PassSome tops places jobs after count cut k → drop k places ≡ place ∷ drop (k + 1) places → t ≡ get_or tops place t
+pub pass_kept : (tops : List TopNode) (places : List ℕ) (jobs : List Forest) (after : List ℕ) (count : ℕ) (cut : Bool)
+    (k place : ℕ) (t : TopNode)
+    → PassSome tops places jobs after count cut k → drop k places ≡ place ∷ drop (k + 1) places
+    → t ≡ get_or tops place t
     → (t.chance && nat_le (count - 1 + t.children) most_jobs) ≡ false
     → PassSome tops places jobs (after ++ place ∷ []) count cut (k + 1)
 pass_kept tops places jobs after count cut k place t some next read test =
@@ -132,20 +142,24 @@ none_left : (tops : List TopNode) (rest : List Forest) → AreJobs tops [] rest 
 none_left tops [] are = refl
 none_left tops (x ∷ xs) are = absurd are
 
-pub all_passed : (tops : List TopNode) (places : List ℕ) (jobs : List Forest) (after : List ℕ) (count : ℕ) (cut : Bool) (k : ℕ) → PassSome tops places jobs after count cut k → drop k places ≡ []
+pub all_passed : (tops : List TopNode) (places : List ℕ) (jobs : List Forest) (after : List ℕ) (count : ℕ) (cut : Bool)
+    (k : ℕ)
+    → PassSome tops places jobs after count cut k → drop k places ≡ []
     → AreJobs tops after (pass most_jobs jobs) × (cut ≡ false → pass most_jobs jobs ≡ jobs)
 all_passed tops places jobs after count cut k some past =
     let gone : some.rest ≡ [] = none_left tops some.rest (subst (λ ps. AreJobs tops ps some.rest) past some.to_come) in
     let all : some.made ≡ pass most_jobs jobs = sym (append-nil some.made) ∙ ap (λ js. some.made ++ cut_each most_jobs count js) (sym gone) ∙ some.whole in
     (subst (AreJobs tops after) all some.done, λ h. sym all ∙ sym (append-nil some.made) ∙ ap (λ js. some.made ++ js) (sym gone) ∙ some.same h)
 
-pub jobs_counted : (tops : List TopNode) (places : List ℕ) (jobs : List Forest) → AreJobs tops places jobs → length places ≡ length jobs
+pub jobs_counted : (tops : List TopNode) (places : List ℕ) (jobs : List Forest) → AreJobs tops places jobs
+    → length places ≡ length jobs
 jobs_counted tops [] [] are = refl
 jobs_counted tops [] (y ∷ ys) are = absurd are
 jobs_counted tops (x ∷ xs) [] are = absurd are
 jobs_counted tops (x ∷ xs) (y ∷ ys) are = ap suc (jobs_counted tops xs ys are.1)
 
-inside_as : (tops : List TopNode) (place : ℕ) (job : Forest) → tree_count job ≡ 1 → Stand tops place job → place < length tops
+inside_as : (tops : List TopNode) (place : ℕ) (job : Forest) → tree_count job ≡ 1 → Stand tops place job
+    → place < length tops
 inside_as tops place bare one stand = absurd (omega (arith, one))
 inside_as tops place (grown node below beside) one stand = stand_there tops place node below beside stand
 

@@ -16,7 +16,8 @@ use Rattle.xg_jobs.proofs.Greatest.{at_most_greatest, greatest_within}
 use Rattle.xg_jobs.proofs.Regrouped.{group_count, group_within, one_group, two_upto, mass_upto}
 use Rattle.xg_jobs.specs.Sums.{CanAdd}
 
-pub plain_sums : (starts : List ℕ) (entries : List GroupLeaf) (form : SequenceForm) (x y : List ℕ) (one two : List ℤ) (n : ℕ)
+pub plain_sums : (starts : List ℕ) (entries : List GroupLeaf) (form : SequenceForm) (x y : List ℕ) (one two : List ℤ)
+    (n : ℕ)
     → groups_of starts entries ≡ leaf_groups form → All (HasSequences form) form.leaves
     → n ≡ sequence_count form.sets_one → length one ≡ n → length two ≡ sequence_count form.sets_two
     → ((s : ℕ) → s < n → get_or one s (pos 0) ≡ group_sum y (group_at starts entries s))
@@ -37,15 +38,18 @@ plain_sums starts entries form x y one two n is known n_is size_one size_two of_
     }
 
 -- the numbers are small
-pub numbers_small : (form : SequenceForm) (x y : List ℕ) → AreNumbersOf form x y → max (greatest_of x) (greatest_of y) ≤ most_root
+pub numbers_small : (form : SequenceForm) (x y : List ℕ) → AreNumbersOf form x y
+    → max (greatest_of x) (greatest_of y) ≤ most_root
 numbers_small form x y numbers =
     let a = greatest_within x most_root numbers.small_one in
     let b = greatest_within y most_root numbers.small_two in
     grind arith
 
 -- and so are all sums together
-pub sums_small : (starts : List ℕ) (entries : List GroupLeaf) (form : SequenceForm) (n most : ℕ) → groups_of starts entries ≡ leaf_groups form → All (HasSequences form) form.leaves
-    → n ≡ sequence_count form.sets_one → mass_of form.leaves ≤ most_mass → most ≤ most_root → mass_of (leaves_upto starts entries n) * most < 2 ^ 126
+pub sums_small : (starts : List ℕ) (entries : List GroupLeaf) (form : SequenceForm) (n most : ℕ)
+    → groups_of starts entries ≡ leaf_groups form → All (HasSequences form) form.leaves
+    → n ≡ sequence_count form.sets_one → mass_of form.leaves ≤ most_mass → most ≤ most_root
+    → mass_of (leaves_upto starts entries n) * most < 2 ^ 126
 sums_small starts entries form n most is known n_is light small =
     let e : mass_of (leaves_upto starts entries n) ≡ mass_of form.leaves = ap (λ m. mass_of (leaves_upto starts entries m)) n_is ∙ mass_upto starts entries form is known in
     let within : mass_of (leaves_upto starts entries n) ≤ most_mass = omega (arith, e) in
@@ -53,8 +57,10 @@ sums_small starts entries form n most is known n_is light small =
     omega (arith, both)
 
 -- the table's mass is that of the first n sequences
-pub table_mass : (starts : List ℕ) (entries : List GroupLeaf) (form : SequenceForm) (n mass : ℕ) → groups_of starts entries ≡ leaf_groups form
-    → n ≡ length starts - 1 → mass ≡ mass_of (leaves_upto starts entries (length starts - 1)) → mass ≡ mass_of (leaves_upto starts entries n)
+pub table_mass : (starts : List ℕ) (entries : List GroupLeaf) (form : SequenceForm) (n mass : ℕ)
+    → groups_of starts entries ≡ leaf_groups form
+    → n ≡ length starts - 1 → mass ≡ mass_of (leaves_upto starts entries (length starts - 1))
+    → mass ≡ mass_of (leaves_upto starts entries n)
 table_mass starts entries form n mass is n_is total = total ∙ ap (λ m. mass_of (leaves_upto starts entries m)) (sym n_is)
 
 nothing : (n b : ℕ) → get_or (replicate n (pos 0)) b (pos 0) ≡ pos 0
@@ -62,10 +68,13 @@ nothing zero b = refl
 nothing (suc n) zero = refl
 nothing (suc n) (suc b) = nothing n b
 
-pub can_add : (narrow : Bool) (starts : List ℕ) (entries : List GroupLeaf) (form : SequenceForm) (x y : List ℕ) (one two : List ℤ) (mass : ℕ)
-    → groups_of starts entries ≡ leaf_groups form → All (HasSequences form) form.leaves → mass_of form.leaves ≤ most_mass → AreNumbersOf form x y
+pub can_add : (narrow : Bool) (starts : List ℕ) (entries : List GroupLeaf) (form : SequenceForm) (x y : List ℕ)
+    (one two : List ℤ) (mass : ℕ)
+    → groups_of starts entries ≡ leaf_groups form → All (HasSequences form) form.leaves
+    → mass_of form.leaves ≤ most_mass → AreNumbersOf form x y
     → one ≡ replicate (sequence_count form.sets_one) (pos 0) → two ≡ replicate (sequence_count form.sets_two) (pos 0)
-    → mass ≡ mass_of (leaves_upto starts entries (length starts - 1)) → (IsTrue narrow → mass * max (greatest_of x) (greatest_of y) < 2 ^ 63)
+    → mass ≡ mass_of (leaves_upto starts entries (length starts - 1))
+    → (IsTrue narrow → mass * max (greatest_of x) (greatest_of y) < 2 ^ 63)
     → CanAdd narrow starts entries x y one two (max (greatest_of x) (greatest_of y))
 can_add narrow starts entries form x y one two mass is known light numbers none_one none_two total fits =
     let most : ℕ = max (greatest_of x) (greatest_of y) in

@@ -19,7 +19,8 @@ use Rattle.xg_jobs.proofs.Passing.{first_job, job_inside, tells_job}
 abbrev leaves_in : Forest → ℕ
 leaves_in job = leaf_count (prefix job)
 
-counted : (first : ℕ) (jobs : List Forest) → length (flat_map leaves_of (ranges_from first (map leaves_in jobs))) ≡ nat_sum_over leaves_in jobs
+counted : (first : ℕ) (jobs : List Forest)
+    → length (flat_map leaves_of (ranges_from first (map leaves_in jobs))) ≡ nat_sum_over leaves_in jobs
 counted first [] = refl
 counted first (job ∷ rest) =
     let range : RangeOfLeaves = record { first = first; count = leaves_in job } in
@@ -32,7 +33,8 @@ counted first (job ∷ rest) =
       counted (first + leaves_in job) rest,
     )
 
-pub all_leaves : (tree : Forest) → tree_count tree ≡ 1 → nat_sum_over leaves_in (jobs_of tree) ≡ leaf_count (prefix tree)
+pub all_leaves : (tree : Forest) → tree_count tree ≡ 1
+    → nat_sum_over leaves_in (jobs_of tree) ≡ leaf_count (prefix tree)
 all_leaves tree one = sym (counted 0 (jobs_of tree)) ∙ ap length (partition tree one) ∙ length-range_with_len 0 (leaf_count (prefix tree))
 
 -- the jobs before a place have their ranges, which end before the leaf `first`
@@ -44,8 +46,10 @@ pub record RangedSome (tops : List TopNode) (places : List ℕ) (tree : Forest) 
   pub inside : All (λ range. range.first ≤ most_nodes) ranges
   pub count : length ranges ≡ k
 
-pub none_ranged : (tops : List TopNode) (places : List ℕ) (tree : Forest) (jobs : List Forest) → AreJobs tops places jobs → ranges_from 0 (map leaves_in jobs) ≡ job_ranges tree
-    → nat_sum_over leaves_in jobs ≡ leaf_count (prefix tree) → (ranges : List LeafRange) → ranges ≡ [] → RangedSome tops places tree ranges 0 0
+pub none_ranged : (tops : List TopNode) (places : List ℕ) (tree : Forest) (jobs : List Forest)
+    → AreJobs tops places jobs → ranges_from 0 (map leaves_in jobs) ≡ job_ranges tree
+    → nat_sum_over leaves_in jobs ≡ leaf_count (prefix tree) → (ranges : List LeafRange) → ranges ≡ []
+    → RangedSome tops places tree ranges 0 0
 none_ranged tops places tree jobs are whole total ranges none =
     subst (λ rs. RangedSome tops places tree rs 0 0) (sym none)
     (record { rest = jobs; to_come = are; whole = whole; total = omega (arith, total); inside = λ k d low. absurd (omega arith); count = refl })
@@ -55,8 +59,10 @@ pub record RangedNext (tops : List TopNode) (places : List ℕ) (tree : Forest) 
   pub room : first + leaves ≤ leaf_count (prefix tree)
   pub next : (r : LeafRange) → r ≡ record { first = first; count = leaves } → RangedSome tops places tree (ranges ++ r ∷ []) (first + leaves) (k + 1)
 
-pub range_more : (tops : List TopNode) (places : List ℕ) (tree : Forest) (ranges : List LeafRange) (first k place : ℕ) (t : TopNode)
-    → RangedSome tops places tree ranges first k → leaf_count (prefix tree) ≤ most_nodes → drop k places ≡ place ∷ drop (k + 1) places → t ≡ get_or tops place t
+pub range_more : (tops : List TopNode) (places : List ℕ) (tree : Forest) (ranges : List LeafRange) (first k place : ℕ)
+    (t : TopNode)
+    → RangedSome tops places tree ranges first k → leaf_count (prefix tree) ≤ most_nodes
+    → drop k places ≡ place ∷ drop (k + 1) places → t ≡ get_or tops place t
     → RangedNext tops places tree ranges first k t.leaves
 range_more tops places tree ranges first k place t some few next read =
     let front = first_job tops place (drop (k + 1) places) some.rest (subst (λ ps. AreJobs tops ps some.rest) next some.to_come) in
@@ -82,7 +88,8 @@ range_more tops places tree ranges first k place t some few next read =
     single : (r : LeafRange) → r.first ≤ most_nodes → All (λ (range : LeafRange). range.first ≤ most_nodes) (r ∷ [])
     single r h = All-cons (λ (range : LeafRange). range.first ≤ most_nodes) r [] h (λ k d low. absurd (omega arith))
 
-pub all_ranged : (tops : List TopNode) (places : List ℕ) (tree : Forest) (ranges : List LeafRange) (first k : ℕ) → RangedSome tops places tree ranges first k → drop k places ≡ []
+pub all_ranged : (tops : List TopNode) (places : List ℕ) (tree : Forest) (ranges : List LeafRange) (first k : ℕ)
+    → RangedSome tops places tree ranges first k → drop k places ≡ []
     → map range_of ranges ≡ job_ranges tree
 all_ranged tops places tree ranges first k some past =
     gone some.rest (subst (λ ps. AreJobs tops ps some.rest) past some.to_come) some.whole
@@ -91,7 +98,8 @@ all_ranged tops places tree ranges first k some past =
     gone [] are whole = sym (append-nil (map range_of ranges)) ∙ whole
     gone (x ∷ xs) are whole = absurd are
 
-pub next_inside : (tops : List TopNode) (places : List ℕ) (tree : Forest) (ranges : List LeafRange) (first k place : ℕ) → RangedSome tops places tree ranges first k
+pub next_inside : (tops : List TopNode) (places : List ℕ) (tree : Forest) (ranges : List LeafRange) (first k place : ℕ)
+    → RangedSome tops places tree ranges first k
     → drop k places ≡ place ∷ drop (k + 1) places → place < length tops
 next_inside tops places tree ranges first k place some next =
     let front = first_job tops place (drop (k + 1) places) some.rest (subst (λ ps. AreJobs tops ps some.rest) next some.to_come) in

@@ -18,7 +18,8 @@ use Rattle.xg_jobs.specs.Groups.{GroupLeaf, leaf_in, leaves_at, leaves_upto, gro
 use Rattle.xg_jobs.specs.Grouping.{leaves_with}
 use Rattle.xg_jobs.specs.Table.{leaf_groups}
 
-sum_flat : {A B : Type 0} (h : B → ℤ) (f : A → List B) (xs : List A) → sum_over h (flat_map f xs) ≡ sum_over (λ x. sum_over h (f x)) xs
+sum_flat : {A B : Type 0} (h : B → ℤ) (f : A → List B) (xs : List A)
+    → sum_over h (flat_map f xs) ≡ sum_over (λ x. sum_over h (f x)) xs
 sum_flat h f [] = refl
 sum_flat h f (x ∷ xs) = ap (sum_over h) (flat_map-cons f x xs) ∙ sum_over-append h (f x) (flat_map f xs) ∙ ap (λ n. sum_over h (f x) +ℤ n) (sum_flat h f xs)
 
@@ -31,12 +32,14 @@ sum_groups h leaves n below =
     ∙ sum_over-same _ h leaves (λ k d low. pick_in (λ s. h (get_or leaves k d)) (get_or leaves k d).sequence_one 0 n (omega arith) (omega (arith, below k d low)))
 
 -- the groups as the form's leaves
-pub group_count : (starts : List ℕ) (entries : List GroupLeaf) (form : SequenceForm) → groups_of starts entries ≡ leaf_groups form → length starts - 1 ≡ sequence_count form.sets_one
+pub group_count : (starts : List ℕ) (entries : List GroupLeaf) (form : SequenceForm)
+    → groups_of starts entries ≡ leaf_groups form → length starts - 1 ≡ sequence_count form.sets_one
 group_count starts entries form is =
     sym (length-map-range_with_len (leaves_at starts entries) 0 (length starts - 1)) ∙ ap length is
     ∙ length-map-range_with_len (λ s. leaves_with s form.leaves) 0 (sequence_count form.sets_one)
 
-pub group_is : (starts : List ℕ) (entries : List GroupLeaf) (form : SequenceForm) (s : ℕ) → groups_of starts entries ≡ leaf_groups form → s < sequence_count form.sets_one
+pub group_is : (starts : List ℕ) (entries : List GroupLeaf) (form : SequenceForm) (s : ℕ)
+    → groups_of starts entries ≡ leaf_groups form → s < sequence_count form.sets_one
     → leaves_at starts entries s ≡ leaves_with s form.leaves
 group_is starts entries form s is below =
     let count = group_count starts entries form is in
@@ -44,7 +47,8 @@ group_is starts entries form s is below =
     ∙ ap (λ xs. get_or xs s []) is
     ∙ get_or-map-range_with_len (λ t. leaves_with t form.leaves) 0 (sequence_count form.sets_one) s s [] below (omega arith)
 
-pub sum_upto : (h : Leaf → ℤ) (starts : List ℕ) (entries : List GroupLeaf) (form : SequenceForm) → groups_of starts entries ≡ leaf_groups form → All (HasSequences form) form.leaves
+pub sum_upto : (h : Leaf → ℤ) (starts : List ℕ) (entries : List GroupLeaf) (form : SequenceForm)
+    → groups_of starts entries ≡ leaf_groups form → All (HasSequences form) form.leaves
     → sum_over h (leaves_upto starts entries (sequence_count form.sets_one)) ≡ sum_over h form.leaves
 sum_upto h starts entries form is known =
     let n : ℕ = sequence_count form.sets_one in
@@ -56,7 +60,8 @@ sum_upto h starts entries form is known =
     ∙ sum_over-map (sum_over h) (λ s. leaves_with s form.leaves) (range_with_len 0 n)
     ∙ sum_groups h form.leaves n (λ k d low. (known k d low).one)
 
-pub mass_upto : (starts : List ℕ) (entries : List GroupLeaf) (form : SequenceForm) → groups_of starts entries ≡ leaf_groups form → All (HasSequences form) form.leaves
+pub mass_upto : (starts : List ℕ) (entries : List GroupLeaf) (form : SequenceForm)
+    → groups_of starts entries ≡ leaf_groups form → All (HasSequences form) form.leaves
     → mass_of (leaves_upto starts entries (sequence_count form.sets_one)) ≡ mass_of form.leaves
 mass_upto starts entries form is known =
     ap unsigned_abs (
@@ -66,7 +71,8 @@ mass_upto starts entries form is known =
     )
 
 -- player two's rows
-pub two_upto : (starts : List ℕ) (entries : List GroupLeaf) (form : SequenceForm) (x : List ℕ) (b : ℕ) → groups_of starts entries ≡ leaf_groups form → All (HasSequences form) form.leaves
+pub two_upto : (starts : List ℕ) (entries : List GroupLeaf) (form : SequenceForm) (x : List ℕ) (b : ℕ)
+    → groups_of starts entries ≡ leaf_groups form → All (HasSequences form) form.leaves
     → leaf_sum Two (leaves_upto starts entries (sequence_count form.sets_one)) x b ≡ leaf_sum Two form.leaves x b
 two_upto starts entries form x b is known =
     sym (leaf_sums_add_amounts Two (leaves_upto starts entries (sequence_count form.sets_one)) x b)
@@ -74,14 +80,16 @@ two_upto starts entries form x b is known =
     ∙ leaf_sums_add_amounts Two form.leaves x b
 
 -- player one's rows
-pub one_group : (starts : List ℕ) (entries : List GroupLeaf) (form : SequenceForm) (y : List ℕ) (s : ℕ) → groups_of starts entries ≡ leaf_groups form → s < sequence_count form.sets_one
+pub one_group : (starts : List ℕ) (entries : List GroupLeaf) (form : SequenceForm) (y : List ℕ) (s : ℕ)
+    → groups_of starts entries ≡ leaf_groups form → s < sequence_count form.sets_one
     → group_sum y (group_at starts entries s) ≡ leaf_sum One form.leaves y s
 one_group starts entries form y s is below =
     sym (sum_over-map (λ z. z.weight *ℤ pos (slice_index y z.sequence_two)) (leaf_in s) (group_at starts entries s))
     ∙ ap (sum_over (λ z. z.weight *ℤ pos (slice_index y z.sequence_two))) (group_is starts entries form s is below)
 
 -- a group's entries have sequences of player two
-pub group_within : (starts : List ℕ) (entries : List GroupLeaf) (form : SequenceForm) (s : ℕ) → groups_of starts entries ≡ leaf_groups form → All (HasSequences form) form.leaves
+pub group_within : (starts : List ℕ) (entries : List GroupLeaf) (form : SequenceForm) (s : ℕ)
+    → groups_of starts entries ≡ leaf_groups form → All (HasSequences form) form.leaves
     → s < sequence_count form.sets_one → All (λ e. e.two < sequence_count form.sets_two) (group_at starts entries s)
 group_within starts entries form s is known below =
     λ k d low.

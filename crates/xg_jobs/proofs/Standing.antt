@@ -30,19 +30,24 @@ abbrev end_at : ℕ → Node → Forest → ℕ
 end_at place node below = place + 1 + length (inner_at place node below)
 
 -- the first of some trees, and those beside it
-grouped : (tops : List TopNode) (place : ℕ) (node : Node) (below beside : Forest) (s : Stand tops place (grown node below beside))
-    → drop place tops ≡ top_node node below (end_at place node below) ∷ (inner_at place node below ++ (tops_from (end_at place node below) beside ++ s.rest))
+grouped : (tops : List TopNode) (place : ℕ) (node : Node) (below beside : Forest)
+    (s : Stand tops place (grown node below beside))
+    → drop place tops
+    ≡ top_node node below (end_at place node below)
+    ∷ (inner_at place node below ++ (tops_from (end_at place node below) beside ++ s.rest))
 grouped tops place node below beside s =
     s.here ∙ ap (λ xs. top_node node below (end_at place node below) ∷ xs) (append_assoc (inner_at place node below) (tops_from (end_at place node below) beside) s.rest)
 
-pub stand_first : (tops : List TopNode) (place : ℕ) (node : Node) (below beside : Forest) → Stand tops place (grown node below beside) → Stand tops place (grown node below bare)
+pub stand_first : (tops : List TopNode) (place : ℕ) (node : Node) (below beside : Forest)
+    → Stand tops place (grown node below beside) → Stand tops place (grown node below bare)
 stand_first tops place node below beside s = record {
   rest = tops_from (end_at place node below) beside ++ s.rest;
   here = grouped tops place node below beside s
       ∙ ap (λ xs. top_node node below (end_at place node below) ∷ (xs ++ (tops_from (end_at place node below) beside ++ s.rest))) (sym (append-nil (inner_at place node below)));
 }
 
-pub stand_beside : (tops : List TopNode) (place : ℕ) (node : Node) (below beside : Forest) → Stand tops place (grown node below beside) → Stand tops (end_at place node below) beside
+pub stand_beside : (tops : List TopNode) (place : ℕ) (node : Node) (below beside : Forest)
+    → Stand tops place (grown node below beside) → Stand tops (end_at place node below) beside
 stand_beside tops place node below beside s =
     let inner : List TopNode = inner_at place node below in
     let at : place + suc (length inner) ≡ end_at place node below = omega arith in
@@ -52,13 +57,15 @@ stand_beside tops place node below beside s =
           ∙ drop_more tops (top_node node below (end_at place node below) ∷ inner) (tops_from (end_at place node below) beside ++ s.rest) place (grouped tops place node below beside s);
     }
 
-pub top_is : (tops : List TopNode) (place : ℕ) (node : Node) (below beside : Forest) (t : TopNode) → Stand tops place (grown node below beside) → t ≡ get_or tops place t
+pub top_is : (tops : List TopNode) (place : ℕ) (node : Node) (below beside : Forest) (t : TopNode)
+    → Stand tops place (grown node below beside) → t ≡ get_or tops place t
     → t ≡ top_node node below (end_at place node below)
 top_is tops place node below beside t s read =
     let at : place ≡ place + 0 = omega arith in
     read ∙ ap (λ n. get_or tops n t) at ∙ sym (get_or-drop place tops 0 t) ∙ ap (λ xs. get_or xs 0 t) s.here
 
-pub stand_below : (tops : List TopNode) (place : ℕ) (node : Node) (below beside : Forest) → is_same_kind Chance node.kind ≡ true → Stand tops place (grown node below beside) → Stand tops (place + 1) below
+pub stand_below : (tops : List TopNode) (place : ℕ) (node : Node) (below beside : Forest)
+    → is_same_kind Chance node.kind ≡ true → Stand tops place (grown node below beside) → Stand tops (place + 1) below
 stand_below tops place node below beside chance s =
     let more : List TopNode = tops_from (end_at place node below) beside ++ s.rest in
     record {
@@ -67,10 +74,12 @@ stand_below tops place node below beside chance s =
           ∙ ap (λ b. cond b (tops_from (place + 1) below) [] ++ more) chance;
     }
 
-pub stand_there : (tops : List TopNode) (place : ℕ) (node : Node) (below beside : Forest) → Stand tops place (grown node below beside) → place < length tops
+pub stand_there : (tops : List TopNode) (place : ℕ) (node : Node) (below beside : Forest)
+    → Stand tops place (grown node below beside) → place < length tops
 stand_there tops place node below beside s = omega (arith, ap length s.here, length-drop place tops)
 
-pub push_job : (tops : List TopNode) (places : List ℕ) (jobs : List Forest) (place : ℕ) (job : Forest) → AreJobs tops places jobs → IsJob tops place job
+pub push_job : (tops : List TopNode) (places : List ℕ) (jobs : List Forest) (place : ℕ) (job : Forest)
+    → AreJobs tops places jobs → IsJob tops place job
     → AreJobs tops (places ++ place ∷ []) (jobs ++ job ∷ [])
 push_job tops [] [] place job are is = (is, tt)
 push_job tops [] (y ∷ ys) place job are is = absurd are
@@ -83,25 +92,31 @@ pub record SomeToCome (tops : List TopNode) (place count put : ℕ) : Type 0 whe
   pub stand : Stand tops place to_come
   pub counts : tree_count to_come + put ≡ count
 
-there : (tops : List TopNode) (place count put : ℕ) (to_come : Forest) → Stand tops place to_come → tree_count to_come + put ≡ count → put < count → place < length tops
+there : (tops : List TopNode) (place count put : ℕ) (to_come : Forest) → Stand tops place to_come
+    → tree_count to_come + put ≡ count → put < count → place < length tops
 there tops place count put bare stand counts less = absurd (omega arith)
 there tops place count put (grown node below beside) stand counts less = stand_there tops place node below beside stand
 
-pub next_there : (tops : List TopNode) (place count put : ℕ) → SomeToCome tops place count put → put < count → place < length tops
+pub next_there : (tops : List TopNode) (place count put : ℕ) → SomeToCome tops place count put → put < count
+    → place < length tops
 next_there tops place count put some less = there tops place count put some.to_come some.stand some.counts less
 
-fewer : (tops : List TopNode) (place count put : ℕ) (t : TopNode) (to_come : Forest) → Stand tops place to_come → tree_count to_come + put ≡ count → put < count → t ≡ get_or tops place t
+fewer : (tops : List TopNode) (place count put : ℕ) (t : TopNode) (to_come : Forest) → Stand tops place to_come
+    → tree_count to_come + put ≡ count → put < count → t ≡ get_or tops place t
     → SomeToCome tops t.end count (put + 1)
 fewer tops place count put t bare stand counts less read = absurd (omega arith)
 fewer tops place count put t (grown node below beside) stand counts less read =
     subst (λ (x : TopNode). SomeToCome tops x.end count (put + 1)) (sym (top_is tops place node below beside t stand read))
     (record { to_come = beside; stand = stand_beside tops place node below beside stand; counts = omega arith })
 
-pub next_to_come : (tops : List TopNode) (place count put : ℕ) (t : TopNode) → SomeToCome tops place count put → put < count → t ≡ get_or tops place t → SomeToCome tops t.end count (put + 1)
+pub next_to_come : (tops : List TopNode) (place count put : ℕ) (t : TopNode) → SomeToCome tops place count put
+    → put < count → t ≡ get_or tops place t → SomeToCome tops t.end count (put + 1)
 next_to_come tops place count put t some less read = fewer tops place count put t some.to_come some.stand some.counts less read
 
-more : (tops : List TopNode) (place : ℕ) (places : List ℕ) (trees : Forest) (before : List Forest) (count put : ℕ) (t : TopNode) (to_come : Forest) (made : List Forest)
-    → Stand tops place to_come → tree_count to_come + put ≡ count → made ++ each_tree to_come ≡ each_tree trees → AreJobs tops places (before ++ made) → put < count → t ≡ get_or tops place t
+more : (tops : List TopNode) (place : ℕ) (places : List ℕ) (trees : Forest) (before : List Forest) (count put : ℕ)
+    (t : TopNode) (to_come : Forest) (made : List Forest)
+    → Stand tops place to_come → tree_count to_come + put ≡ count → made ++ each_tree to_come ≡ each_tree trees
+    → AreJobs tops places (before ++ made) → put < count → t ≡ get_or tops place t
     → PutSome tops t.end (places ++ place ∷ []) trees before count (put + 1)
 more tops place places trees before count put t bare made stand counts whole jobs less read = absurd (omega arith)
 more tops place places trees before count put t (grown node below beside) made stand counts whole jobs less read =
@@ -117,23 +132,29 @@ more tops place places trees before count put t (grown node below beside) made s
           (push_job tops places (before ++ made) place first jobs (record { one = refl; there = stand_first tops place node below beside stand }));
     })
 
-pub put_more : (tops : List TopNode) (place : ℕ) (places : List ℕ) (trees : Forest) (before : List Forest) (count put : ℕ) (t : TopNode)
-    → PutSome tops place places trees before count put → put < count → t ≡ get_or tops place t → PutSome tops t.end (places ++ place ∷ []) trees before count (put + 1)
+pub put_more : (tops : List TopNode) (place : ℕ) (places : List ℕ) (trees : Forest) (before : List Forest)
+    (count put : ℕ) (t : TopNode)
+    → PutSome tops place places trees before count put → put < count → t ≡ get_or tops place t
+    → PutSome tops t.end (places ++ place ∷ []) trees before count (put + 1)
 put_more tops place places trees before count put t some less read =
     more tops place places trees before count put t some.to_come some.made some.stand some.counts some.whole some.jobs less read
 
 -- at last all are put
-ended : (tops : List TopNode) (places : List ℕ) (trees : Forest) (before : List Forest) (count put : ℕ) (to_come : Forest) (made : List Forest)
-    → tree_count to_come + put ≡ count → made ++ each_tree to_come ≡ each_tree trees → AreJobs tops places (before ++ made) → count ≤ put → AreJobs tops places (before ++ each_tree trees)
+ended : (tops : List TopNode) (places : List ℕ) (trees : Forest) (before : List Forest) (count put : ℕ)
+    (to_come : Forest) (made : List Forest)
+    → tree_count to_come + put ≡ count → made ++ each_tree to_come ≡ each_tree trees
+    → AreJobs tops places (before ++ made) → count ≤ put → AreJobs tops places (before ++ each_tree trees)
 ended tops places trees before count put bare made counts whole jobs past = subst (λ ms. AreJobs tops places (before ++ ms)) (sym (append-nil made) ∙ whole) jobs
 ended tops places trees before count put (grown node below beside) made counts whole jobs past = absurd (omega arith)
 
-pub all_put : (tops : List TopNode) (place : ℕ) (places : List ℕ) (trees : Forest) (before : List Forest) (count put : ℕ)
+pub all_put : (tops : List TopNode) (place : ℕ) (places : List ℕ) (trees : Forest) (before : List Forest)
+    (count put : ℕ)
     → PutSome tops place places trees before count put → count ≤ put → AreJobs tops places (before ++ each_tree trees)
 all_put tops place places trees before count put some past = ended tops places trees before count put some.to_come some.made some.counts some.whole some.jobs past
 
 pub none_put : (tops : List TopNode) (place : ℕ) (places : List ℕ) (trees : Forest) (before : List Forest) (count : ℕ)
-    → Stand tops place trees → tree_count trees ≡ count → AreJobs tops places before → PutSome tops place places trees before count 0
+    → Stand tops place trees → tree_count trees ≡ count → AreJobs tops places before
+    → PutSome tops place places trees before count 0
 none_put tops place places trees before count stand counts jobs = record {
   to_come = trees;
   made = [];

@@ -31,7 +31,8 @@ abbrev done : TopNode → ℕ → ℕ → TopNode
 done t l n = record { chance = t.chance; children = t.children; leaves = l - t.leaves; end = n }
 
 closing : (nodes : List TopNode) (t : TopNode) (inner : List TopNode) (c l : ℕ)
-    → closed (state (nodes ++ t ∷ inner) (length nodes) c l) ≡ state (nodes ++ done t l (length nodes + 1 + length inner) ∷ inner) t.end 0 l
+    → closed (state (nodes ++ t ∷ inner) (length nodes) c l)
+    ≡ state (nodes ++ done t l (length nodes + 1 + length inner) ∷ inner) t.end 0 l
 closing nodes t inner c l =
     let f : TopNode → ℕ → TopState = λ x n. state (set (nodes ++ t ∷ inner) (length nodes) (done x l n)) x.end 0 l in
     let long : length (nodes ++ t ∷ inner) ≡ length nodes + 1 + length inner = omega (arith, length-append nodes (t ∷ inner)) in
@@ -49,10 +50,13 @@ leaves_append xs ys =
     let e = ap length (filter-append p xs ys) in
     omega (arith, a, b, d, e, length-append (filter p xs) (filter p ys))
 
-leaves_one : (node : Node) (below : Forest) → leaf_count (prefix (grown node below bare)) ≡ leaf_count (node ∷ []) + leaf_count (prefix below)
+leaves_one : (node : Node) (below : Forest)
+    → leaf_count (prefix (grown node below bare)) ≡ leaf_count (node ∷ []) + leaf_count (prefix below)
 leaves_one node below = leaves_append (node ∷ []) (prefix below ++ []) ∙ ap (λ xs. leaf_count (node ∷ []) + leaf_count xs) (append-nil (prefix below))
 
-leaves_beside : (node : Node) (below beside : Forest) → leaf_count (prefix (grown node below beside)) ≡ leaf_count (prefix (grown node below bare)) + leaf_count (prefix beside)
+leaves_beside : (node : Node) (below beside : Forest)
+    → leaf_count (prefix (grown node below beside))
+    ≡ leaf_count (prefix (grown node below bare)) + leaf_count (prefix beside)
 leaves_beside node below beside =
     let a = leaves_append (node ∷ []) (prefix below ++ prefix beside) in
     let b = leaves_append (prefix below) (prefix beside) in
@@ -66,7 +70,8 @@ abbrev after : Bool → ℕ → ℕ → List TopNode → List TopNode → TopNod
 after b children leaves nodes inner = record { chance = b; children = children; leaves = leaves; end = length nodes + 1 + length inner }
 
 finish : (b : Bool) (nodes inner : List TopNode) (children size at l all total : ℕ) → children ≡ size → total ≡ l + all
-    → closed (state (nodes ++ before b children at l ∷ inner) (length nodes) (cond b 0 1) total) ≡ state (nodes ++ after b size all nodes inner ∷ inner) at 0 (l + all)
+    → closed (state (nodes ++ before b children at l ∷ inner) (length nodes) (cond b 0 1) total)
+    ≡ state (nodes ++ after b size all nodes inner ∷ inner) at 0 (l + all)
 finish b nodes inner children size at l all total same sum =
     let back : total - l ≡ all = omega arith in
     closing nodes (before b children at l) inner (cond b 0 1) total
@@ -74,9 +79,12 @@ finish b nodes inner children size at l all total same sum =
     ∙ ap (λ k. state (nodes ++ after b size k nodes inner ∷ inner) at 0 total) back
     ∙ ap (λ t. state (nodes ++ after b size all nodes inner ∷ inner) at 0 t) sum
 
-around_top : (b : Bool) (below : Forest) (nodes : List TopNode) (children at l m all : ℕ) → children ≡ tree_count below → m + leaf_count (prefix below) ≡ all
+around_top : (b : Bool) (below : Forest) (nodes : List TopNode) (children at l m all : ℕ) → children ≡ tree_count below
+    → m + leaf_count (prefix below) ≡ all
     → left (walked below (state (nodes ++ before b children at l ∷ []) (length nodes) (cond b 0 1) (l + m)))
-    ≡ state (nodes ++ after b (tree_count below) all nodes (cond b (tops_from (length nodes + 1) below) []) ∷ (cond b (tops_from (length nodes + 1) below) [] ++ [])) at 0 (l + all)
+    ≡ state
+    (nodes ++ after b (tree_count below) all nodes (cond b (tops_from (length nodes + 1) below) [])
+    ∷ (cond b (tops_from (length nodes + 1) below) [] ++ [])) at 0 (l + all)
 around_top true below nodes children at l m all size sum =
     let inner : List TopNode = tops_from (length nodes + 1) below in
     let x : TopNode = before true children at l in
@@ -100,7 +108,8 @@ around node below nodes at (suc c) l size =
     ap (λ k. left (walked below (state nodes at k (l + m)))) next ∙ ap (state nodes at (suc c)) sum
 
 splice : (nodes : List TopNode) (t : TopNode) (inner : List TopNode) (rest : ℕ → List TopNode)
-    → (nodes ++ t ∷ (inner ++ [])) ++ rest (length (nodes ++ t ∷ (inner ++ []))) ≡ nodes ++ t ∷ (inner ++ rest (length nodes + 1 + length inner))
+    → (nodes ++ t ∷ (inner ++ [])) ++ rest (length (nodes ++ t ∷ (inner ++ [])))
+    ≡ nodes ++ t ∷ (inner ++ rest (length nodes + 1 + length inner))
 splice nodes t inner rest =
     let long : length (nodes ++ t ∷ inner) ≡ length nodes + 1 + length inner = omega (arith, length-append nodes (t ∷ inner)) in
     ap (λ ys. (nodes ++ t ∷ ys) ++ rest (length (nodes ++ t ∷ ys))) (append-nil inner)
@@ -109,7 +118,8 @@ splice nodes t inner rest =
 
 -- and then the trees beside it
 pub beside_it : (node : Node) (below beside : Forest) (nodes : List TopNode) (at c l : ℕ)
-    → walked beside (walked (grown node below bare) (state nodes at c l)) ≡ walked (grown node below beside) (state nodes at c l)
+    → walked beside (walked (grown node below bare) (state nodes at c l))
+    ≡ walked (grown node below beside) (state nodes at c l)
 beside_it node below beside nodes at zero l =
     let inner : List TopNode = cond (is_same_kind Chance node.kind) (tops_from (length nodes + 1) below) [] in
     let all : ℕ = leaf_count (prefix (grown node below bare)) in
@@ -146,7 +156,8 @@ tops_few at (grown node below beside) = few (is_same_kind Chance node.kind) (top
 pub leaves_few : (xs : List Node) → leaf_count xs ≤ length xs
 leaves_few xs = count_by-le-length (λ node. is_leaf_kind node.kind) xs
 
-room_after : (t : Forest) (n : ℕ) (nodes : List TopNode) (at c l : ℕ) → Room (state nodes at c l) (node_count t + n) → Room (walked t (state nodes at c l)) n
+room_after : (t : Forest) (n : ℕ) (nodes : List TopNode) (at c l : ℕ) → Room (state nodes at c l) (node_count t + n)
+    → Room (walked t (state nodes at c l)) n
 room_after t n nodes at zero l room = record {
   nodes = omega (arith, room.nodes, tops_few (length nodes) t, length-append nodes (tops_from (length nodes) t));
   covered = omega (arith, room.covered);
@@ -158,17 +169,21 @@ room_after t n nodes at (suc c) l room = record {
   leaves = omega (arith, room.leaves, leaves_few (prefix t));
 }
 
-nodes_in : (node : Node) (below beside : Forest) → node_count (grown node below beside) ≡ node_count (grown node below bare) + node_count beside
+nodes_in : (node : Node) (below beside : Forest)
+    → node_count (grown node below beside) ≡ node_count (grown node below bare) + node_count beside
 nodes_in node below beside = omega (arith, length-append (prefix below) (prefix beside), length-append (prefix below) [])
 
-pub room_beside : (node : Node) (below beside : Forest) (s : TopState) → Room s (node_count (grown node below beside)) → Room (walked (grown node below bare) s) (node_count beside)
+pub room_beside : (node : Node) (below beside : Forest) (s : TopState) → Room s (node_count (grown node below beside))
+    → Room (walked (grown node below bare) s) (node_count beside)
 room_beside node below beside s room =
     room_after (grown node below bare) (node_count beside) s.nodes s.open_at s.covered s.leaves (subst (Room s) (nodes_in node below beside) room)
 
-pub room_now : (node : Node) (below beside : Forest) (s : TopState) → Room s (node_count (grown node below beside)) → HasRoom s
+pub room_now : (node : Node) (below beside : Forest) (s : TopState) → Room s (node_count (grown node below beside))
+    → HasRoom s
 room_now node below beside s room = record { nodes = omega (arith, room.nodes); covered = omega (arith, room.covered); leaves = omega (arith, room.leaves) }
 
-room_entered : (node : Node) (n : ℕ) (nodes : List TopNode) (at c l : ℕ) → Room (state nodes at c l) (suc n) → Room (entered node (state nodes at c l)) n
+room_entered : (node : Node) (n : ℕ) (nodes : List TopNode) (at c l : ℕ) → Room (state nodes at c l) (suc n)
+    → Room (entered node (state nodes at c l)) n
 room_entered node n nodes at zero l room = by_test (is_same_kind Chance node.kind)
   where
     by_test : (b : Bool) → Room (state (nodes ++ before b node.children at l ∷ []) (length nodes) (cond b 0 1) (l + leaf_count (node ∷ []))) n
@@ -188,7 +203,8 @@ room_entered node n nodes at (suc c) l room = record {
   leaves = omega (arith, room.leaves, leaves_few (node ∷ []));
 }
 
-pub room_below : (node : Node) (below beside : Forest) (s : TopState) → Room s (node_count (grown node below beside)) → Room (entered node s) (node_count below)
+pub room_below : (node : Node) (below beside : Forest) (s : TopState) → Room s (node_count (grown node below beside))
+    → Room (entered node s) (node_count below)
 room_below node below beside s room =
     room_entered node (node_count below) s.nodes s.open_at s.covered s.leaves (record {
       nodes = omega (arith, room.nodes, length-append (prefix below) (prefix beside));
@@ -197,7 +213,8 @@ room_below node below beside s room =
     })
 
 -- the node that was entered can be left
-open_at_top : (b : Bool) (below : Forest) (nodes : List TopNode) (children at l m : ℕ) → length nodes + 1 + node_count below ≤ most_nodes
+open_at_top : (b : Bool) (below : Forest) (nodes : List TopNode) (children at l m : ℕ)
+    → length nodes + 1 + node_count below ≤ most_nodes
     → IsOpen (walked below (state (nodes ++ before b children at l ∷ []) (length nodes) (cond b 0 1) (l + m)))
 open_at_top true below nodes children at l m room =
     let x : TopNode = before true children at l in
@@ -220,7 +237,8 @@ open_at_top false below nodes children at l m room =
       before = λ h. omega (arith, ap (λ (t : TopNode). t.leaves) read);
     }
 
-open_below : (node : Node) (below beside : Forest) (nodes : List TopNode) (at c l : ℕ) → Room (state nodes at c l) (node_count (grown node below beside))
+open_below : (node : Node) (below beside : Forest) (nodes : List TopNode) (at c l : ℕ)
+    → Room (state nodes at c l) (node_count (grown node below beside))
     → IsOpen (walked below (entered node (state nodes at c l)))
 open_below node below beside nodes at zero l room =
     open_at_top (is_same_kind Chance node.kind) below nodes node.children at l (leaf_count (node ∷ [])) (omega (arith, room.nodes, length-append (prefix below) (prefix beside)))
@@ -234,5 +252,6 @@ open_below node below beside nodes at (suc c) l room =
     } in
     subst (λ k. IsOpen (walked below (state nodes at k (l + m)))) (sym next) told
 
-pub can_leave : (node : Node) (below beside : Forest) (s : TopState) → Room s (node_count (grown node below beside)) → IsOpen (walked below (entered node s))
+pub can_leave : (node : Node) (below beside : Forest) (s : TopState) → Room s (node_count (grown node below beside))
+    → IsOpen (walked below (entered node s))
 can_leave node below beside s room = open_below node below beside s.nodes s.open_at s.covered s.leaves room

@@ -14,18 +14,22 @@ passes_more limit (suc n) jobs = passes_more limit n (pass limit jobs)
 pub within_more : (limit n : ℕ) (tree : Forest) → jobs_within limit (n + 1) tree ≡ pass limit (jobs_within limit n tree)
 within_more limit n tree = let e : n + 1 ≡ suc n = omega arith in ap (λ m. jobs_within limit m tree) e ∙ passes_more limit n (tree ∷ [])
 
-keeps : (limit n k : ℕ) (tree : Forest) → pass limit (jobs_within limit n tree) ≡ jobs_within limit n tree → jobs_within limit (n + k) tree ≡ jobs_within limit n tree
+keeps : (limit n k : ℕ) (tree : Forest) → pass limit (jobs_within limit n tree) ≡ jobs_within limit n tree
+    → jobs_within limit (n + k) tree ≡ jobs_within limit n tree
 keeps limit n zero tree same = let e : n + 0 ≡ n = omega arith in ap (λ m. jobs_within limit m tree) e
 keeps limit n (suc k) tree same =
     let e : n + suc k ≡ n + k + 1 = omega arith in
     ap (λ m. jobs_within limit m tree) e ∙ within_more limit (n + k) tree ∙ ap (pass limit) (keeps limit n k tree same) ∙ same
 
 -- a pass that replaces nothing is the last that matters
-pub within_end : (limit n m : ℕ) (tree : Forest) → n ≤ m → pass limit (jobs_within limit n tree) ≡ jobs_within limit n tree → jobs_within limit n tree ≡ jobs_within limit m tree
+pub within_end : (limit n m : ℕ) (tree : Forest) → n ≤ m
+    → pass limit (jobs_within limit n tree) ≡ jobs_within limit n tree
+    → jobs_within limit n tree ≡ jobs_within limit m tree
 within_end limit n m tree h same = let e : n + (m - n) ≡ m = omega arith in sym (keeps limit n (m - n) tree same) ∙ ap (λ k. jobs_within limit k tree) e
 
 -- at first the whole tree is one job
-pub whole_job : (tops : List TopNode) (tree : Forest) → tops ≡ tops_from 0 tree → tree_count tree ≡ 1 → AreJobs tops (0 ∷ []) (tree ∷ [])
+pub whole_job : (tops : List TopNode) (tree : Forest) → tops ≡ tops_from 0 tree → tree_count tree ≡ 1
+    → AreJobs tops (0 ∷ []) (tree ∷ [])
 whole_job tops tree are one = (record { one = one; there = record { rest = []; here = are ∙ sym (append-nil (tops_from 0 tree)) } }, tt)
 
 pub not_true : (b : Bool) → not b ≡ true → b ≡ false

@@ -17,7 +17,8 @@ abbrev pub leaves_in : Entries → List GroupLeaf
 leaves_in (Small entries) = map small_leaf entries.items
 leaves_in (Wide entries) = map wide_leaf entries.items
 
--- each group begins where the one before it ends, none goes on behind the last entry, and the mass is that of all groups
+-- each group begins where the one before it ends, none goes on behind the last entry, and the mass is that of all
+-- groups
 pub record KeepsGroups (starts : List ℕ) (entries : Entries) (mass : ℕ) : Type 0 where
   pub some : 1 ≤ length starts
   pub ordered : (s : ℕ) → s + 1 < length starts → slice_index starts s ≤ slice_index starts (s + 1)

@@ -4,8 +4,10 @@ use Rattle.def_tree.specs.declared.Player.TheVariants.{Two}
 use Rattle.def_plan.specs.Payoff.{leaf_sum, mass_of}
 use Rattle.xg_jobs.specs.Groups.{GroupLeaf, group_at, group_sum, leaves_upto}
 
--- one row for each number, none of player two's with anything yet, and room for the sums; in 64 bits, where `narrow` says so
-pub record CanAdd (narrow : Bool) (starts : List ℕ) (entries : List GroupLeaf) (numbers_one numbers_two : List ℕ) (one two : List ℤ) (most : ℕ) : Type 0 where
+-- one row for each number, none of player two's with anything yet, and room for the sums; in 64 bits, where `narrow`
+-- says so
+pub record CanAdd (narrow : Bool) (starts : List ℕ) (entries : List GroupLeaf)
+    (numbers_one numbers_two : List ℕ) (one two : List ℤ) (most : ℕ) : Type 0 where
   pub within : (s : ℕ) → s < length numbers_one → All (λ e. e.two < length numbers_two) (group_at starts entries s)
   pub as_one : length one ≡ length numbers_one
   pub as_two : length two ≡ length numbers_two
@@ -17,6 +19,9 @@ pub record CanAdd (narrow : Bool) (starts : List ℕ) (entries : List GroupLeaf)
   pub fits : IsTrue narrow → mass_of (leaves_upto starts entries (length numbers_one)) * most < 2 ^ 63
 
 -- the rows have the sums over the leaves of all groups
-pub record HaveSums (starts : List ℕ) (entries : List GroupLeaf) (numbers_one numbers_two : List ℕ) (one two : List ℤ) : Type 0 where
-  pub of_one : (s : ℕ) → s < length numbers_one → slice_index_or one s (pos 0) ≡ group_sum numbers_two (group_at starts entries s)
-  pub of_two : (b : ℕ) → slice_index_or two b (pos 0) ≡ leaf_sum Two (leaves_upto starts entries (length numbers_one)) numbers_one b
+pub record HaveSums (starts : List ℕ) (entries : List GroupLeaf)
+    (numbers_one numbers_two : List ℕ) (one two : List ℤ) : Type 0 where
+  pub of_one : (s : ℕ) → s < length numbers_one
+      → slice_index_or one s (pos 0) ≡ group_sum numbers_two (group_at starts entries s)
+  pub of_two : (b : ℕ)
+      → slice_index_or two b (pos 0) ≡ leaf_sum Two (leaves_upto starts entries (length numbers_one)) numbers_one b

@@ -39,7 +39,8 @@ pub(crate) fn ranges_of(alloc: Global, tree: &Tree) -> Result<Vec<LeafRange>, Al
 fn job_places(alloc: Global, tops: &[TopNode]) -> Result<Vec<u32>, AllocError>
     requires limit { length tops.now ≤ most_nodes }
     requires tree { (tree : Forest) × ((tops.now ≡ tops_from 0 tree) × (tree_count tree ≡ 1)) }
-    ensures { IfOk result (λ jobs. (tree : Forest) → tops.now ≡ tops_from 0 tree → tree_count tree ≡ 1 → AreJobs tops.now jobs.items (jobs_of tree)) }
+    ensures { IfOk result (λ jobs. (tree : Forest) → tops.now ≡ tops_from 0 tree → tree_count tree ≡ 1
+        → AreJobs tops.now jobs.items (jobs_of tree)) }
 {
     let mut jobs = vec![in alloc; 0; 1]?;
     for _ in 0..MOST_PASSES {
@@ -64,9 +65,11 @@ fn make_pass(alloc: Global, tops: &[TopNode], jobs: &[u32]) -> Result<Pass, Allo
     requires limit { length tops.now ≤ most_nodes }
     requires few { length jobs.now ≤ most_jobs }
     requires jobs { (jobs_now : List Forest) × AreJobs tops.now jobs.now jobs_now }
-    ensures jobs { IfOk result (λ after. (jobs_now : List Forest) → AreJobs tops.now jobs.now jobs_now → AreJobs tops.now after.jobs.items (pass most_jobs jobs_now)) }
+    ensures jobs { IfOk result (λ after. (jobs_now : List Forest) → AreJobs tops.now jobs.now jobs_now
+        → AreJobs tops.now after.jobs.items (pass most_jobs jobs_now)) }
     ensures few { IfOk result (λ after. length after.jobs.items ≤ most_jobs) }
-    ensures same { IfOk result (λ after. after.cut ≡ false → (jobs_now : List Forest) → AreJobs tops.now jobs.now jobs_now → pass most_jobs jobs_now ≡ jobs_now) }
+    ensures same { IfOk result (λ after. after.cut ≡ false → (jobs_now : List Forest)
+        → AreJobs tops.now jobs.now jobs_now → pass most_jobs jobs_now ≡ jobs_now) }
 {
     let mut after = Vec::new(alloc);
     let mut count = jobs.len();
@@ -102,7 +105,9 @@ fn push_trees(
     requires limit { length tops.now ≤ most_nodes }
     requires trees { (trees : Forest) × (Stand tops.now first trees × (tree_count trees ≡ count)) }
     ensures count { OnOk result (length jobs.new.items ≡ length jobs.old.items + count) }
-    ensures jobs { OnOk result ((trees : Forest) → Stand tops.now first trees → tree_count trees ≡ count → (before : List Forest) → AreJobs tops.now jobs.old.items before → AreJobs tops.now jobs.new.items (before ++ each_tree trees)) }
+    ensures jobs { OnOk result ((trees : Forest) → Stand tops.now first trees → tree_count trees ≡ count
+        → (before : List Forest) → AreJobs tops.now jobs.old.items before
+        → AreJobs tops.now jobs.new.items (before ++ each_tree trees)) }
 {
     let mut place = first;
     for _put in 0..count {

@@ -18,3 +18,6 @@ pub use maker::RowMaker;
 pub use plain::PlainRows;
 pub use rows::Rows;
 pub use table::JobTable;
+
+#[cfg(test)]
+mod tests;

@@ -1,4 +1,5 @@
-ghost use Rattle.std.specs.Prelude.{◌≡◌, ℕ, ◌+◌, ◌*◌, ◌^◌, ◌<◌, ◌≤◌, ℤ, pos, ◌+ℤ◌, ◌*ℤ◌, unsigned_abs, length, map, slice_index, slice_index_or, All, IsTrue};
+ghost use Rattle.std.specs.Prelude.{◌≡◌, ℕ, ◌+◌, ◌*◌, ◌^◌, ◌<◌, ◌≤◌, ℤ, pos, ◌+ℤ◌, ◌*ℤ◌, unsigned_abs, IsTrue};
+ghost use Rattle.std.specs.Prelude.{length, map, slice_index, slice_index_or, All};
 ghost use Rattle.xg_jobs.specs.Entries.{small_leaf, wide_leaf};
 ghost use Rattle.xg_jobs.specs.Groups.{group_mass, group_part, group_sum};
 ghost use Rattle.xg_jobs.specs.Sums.{CanAdd, HaveSums};
@@ -16,10 +17,12 @@ fn add_leaf_sums<E: Entry>(
     two: &mut [i128],
 )
     ghost most: { ℕ }
-    requires ordered { (s : ℕ) → s < length numbers_one.now → slice_index starts.now s ≤ slice_index starts.now (s + 1) }
+    requires ordered { (s : ℕ) → s < length numbers_one.now
+        → slice_index starts.now s ≤ slice_index starts.now (s + 1) }
     requires inside { (s : ℕ) → s < length numbers_one.now → slice_index starts.now (s + 1) ≤ length entries.now }
     requires all_starts { length numbers_one.now + 1 ≡ length starts.now }
-    requires can { CanAdd narrow starts.now (map E.leaf entries.now) numbers_one.now numbers_two.now one.old two.old most }
+    requires can { CanAdd narrow starts.now (map E.leaf entries.now)
+        numbers_one.now numbers_two.now one.old two.old most }
     ensures { HaveSums starts.now (map E.leaf entries.now) numbers_one.now numbers_two.now one.new two.new }
 {
     for s in 0..numbers_one.len() {
@@ -39,10 +42,12 @@ pub(crate) fn add_small_sums(
     two: &mut [i128],
 )
     ghost most: { ℕ }
-    requires ordered { (s : ℕ) → s < length numbers_one.now → slice_index starts.now s ≤ slice_index starts.now (s + 1) }
+    requires ordered { (s : ℕ) → s < length numbers_one.now
+        → slice_index starts.now s ≤ slice_index starts.now (s + 1) }
     requires inside { (s : ℕ) → s < length numbers_one.now → slice_index starts.now (s + 1) ≤ length entries.now }
     requires all_starts { length numbers_one.now + 1 ≡ length starts.now }
-    requires can { CanAdd narrow starts.now (map small_leaf entries.now) numbers_one.now numbers_two.now one.old two.old most }
+    requires can { CanAdd narrow starts.now (map small_leaf entries.now)
+        numbers_one.now numbers_two.now one.old two.old most }
     ensures { HaveSums starts.now (map small_leaf entries.now) numbers_one.now numbers_two.now one.new two.new }
 {
     add_leaf_sums(narrow, starts, entries, numbers_one, numbers_two, one, two);
@@ -59,10 +64,12 @@ pub(crate) fn add_wide_sums(
     two: &mut [i128],
 )
     ghost most: { ℕ }
-    requires ordered { (s : ℕ) → s < length numbers_one.now → slice_index starts.now s ≤ slice_index starts.now (s + 1) }
+    requires ordered { (s : ℕ) → s < length numbers_one.now
+        → slice_index starts.now s ≤ slice_index starts.now (s + 1) }
     requires inside { (s : ℕ) → s < length numbers_one.now → slice_index starts.now (s + 1) ≤ length entries.now }
     requires all_starts { length numbers_one.now + 1 ≡ length starts.now }
-    requires can { CanAdd narrow starts.now (map wide_leaf entries.now) numbers_one.now numbers_two.now one.old two.old most }
+    requires can { CanAdd narrow starts.now (map wide_leaf entries.now)
+        numbers_one.now numbers_two.now one.old two.old most }
     ensures { HaveSums starts.now (map wide_leaf entries.now) numbers_one.now numbers_two.now one.new two.new }
 {
     add_leaf_sums(narrow, starts, entries, numbers_one, numbers_two, one, two);
@@ -82,10 +89,12 @@ fn add_group<E: Entry>(
     requires small_number { number ≤ most }
     requires small_two { (b : ℕ) → slice_index numbers_two.now b ≤ most }
     requires small { most < 2 ^ 62 }
-    requires room { (b : ℕ) → unsigned_abs (slice_index_or two.old b (pos 0)) + group_mass (map E.leaf group.now) * most < 2 ^ 127 }
+    requires room { (b : ℕ)
+        → unsigned_abs (slice_index_or two.old b (pos 0)) + group_mass (map E.leaf group.now) * most < 2 ^ 127 }
     requires narrow { IsTrue narrow → group_mass (map E.leaf group.now) * most < 2 ^ 63 }
     ensures own { result ≡ group_sum numbers_two.now (map E.leaf group.now) }
-    ensures others { (b : ℕ) → slice_index_or two.new b (pos 0) ≡ slice_index_or two.old b (pos 0) +ℤ group_part number (map E.leaf group.now) b }
+    ensures others { (b : ℕ) → slice_index_or two.new b (pos 0)
+        ≡ slice_index_or two.old b (pos 0) +ℤ group_part number (map E.leaf group.now) b }
 {
     if narrow {
         add_narrow(group, number, numbers_two, two) as i128
@@ -101,10 +110,12 @@ fn add_narrow<E: Entry>(group: &[E], number: u64, numbers_two: &[u64], two: &mut
     requires small_number { number ≤ most }
     requires small_two { (b : ℕ) → slice_index numbers_two.now b ≤ most }
     requires small { most < 2 ^ 62 }
-    requires room { (b : ℕ) → unsigned_abs (slice_index_or two.old b (pos 0)) + group_mass (map E.leaf group.now) * most < 2 ^ 127 }
+    requires room { (b : ℕ)
+        → unsigned_abs (slice_index_or two.old b (pos 0)) + group_mass (map E.leaf group.now) * most < 2 ^ 127 }
     requires narrow { group_mass (map E.leaf group.now) * most < 2 ^ 63 }
     ensures own { result ≡ group_sum numbers_two.now (map E.leaf group.now) }
-    ensures others { (b : ℕ) → slice_index_or two.new b (pos 0) ≡ slice_index_or two.old b (pos 0) +ℤ group_part number (map E.leaf group.now) b }
+    ensures others { (b : ℕ) → slice_index_or two.new b (pos 0)
+        ≡ slice_index_or two.old b (pos 0) +ℤ group_part number (map E.leaf group.now) b }
 {
     let mut sum = 0;
     for e in group {
@@ -123,9 +134,11 @@ fn add_wide<E: Entry>(group: &[E], number: u64, numbers_two: &[u64], two: &mut [
     requires small_number { number ≤ most }
     requires small_two { (b : ℕ) → slice_index numbers_two.now b ≤ most }
     requires small { most < 2 ^ 62 }
-    requires room { (b : ℕ) → unsigned_abs (slice_index_or two.old b (pos 0)) + group_mass (map E.leaf group.now) * most < 2 ^ 127 }
+    requires room { (b : ℕ)
+        → unsigned_abs (slice_index_or two.old b (pos 0)) + group_mass (map E.leaf group.now) * most < 2 ^ 127 }
     ensures own { result ≡ group_sum numbers_two.now (map E.leaf group.now) }
-    ensures others { (b : ℕ) → slice_index_or two.new b (pos 0) ≡ slice_index_or two.old b (pos 0) +ℤ group_part number (map E.leaf group.now) b }
+    ensures others { (b : ℕ) → slice_index_or two.new b (pos 0)
+        ≡ slice_index_or two.old b (pos 0) +ℤ group_part number (map E.leaf group.now) b }
 {
     let mut sum = 0;
     for e in group {

@@ -11,26 +11,60 @@ const USAGE: &str =
 
 const ONE_NODE: &str = r#"XGCERT 1
 nodes 1 leaves 1
+sets 0 0
+sequences 1 1
+unit 1
+mass 0
 rounds 0 every 1 scale 1048576
 end
 "#;
 
 const THREE_NODES: &str = r#"XGCERT 1
 nodes 3 leaves 2
+sets 1 0
+sequences 3 1
+unit 1
+mass 1
 rounds 0 every 1 scale 1048576
 end
 "#;
 
-const SEVEN_NODES: &str = r#"XGCERT 1
+const PENNIES_HEAD: &str = r#"XGCERT 1
 nodes 7 leaves 4
+sets 1 1
+sequences 3 3
+unit 1
+mass 4
 rounds 0 every 1 scale 1048576
 end
 "#;
 
-const FOUR_NODES: &str = r#"XGCERT 1
-nodes 4 leaves 3
+const REPEAT_HEAD: &str = r#"XGCERT 1
+nodes 7 leaves 4
+sets 1 0
+sequences 3 1
+unit 2
+mass 2
 rounds 0 every 1 scale 1048576
 end
+"#;
+
+const PENNIES_INFO: &str = r#"title "Pennies"
+players "A" "B"
+nodes 7 leaves 4
+sets 1 1
+sequences 3 3
+unit 1
+mass 4
+"#;
+
+const MARKS_INFO: &str = r#"title "a\"b\c"
+players "\"" ""
+nodes 1 leaves 1
+sets 0 0
+sequences 1 1
+unit 1
+mass 0
 "#;
 
 const ONE_LEAF: &str = r#"EFG 2 R "" { "A" "B" }
@@ -78,6 +112,42 @@ t "" 0
 c "" 7 "coin" { "h" 0.5 "t" 5e-1 } 0
 t "" 0
 t "" 2 { -1, 1 }
+"#;
+
+const MARKS: &str = r#"EFG 2 R "a\"b\c" { "\"" "" }
+t "" 0
+"#;
+
+const NEGATIVE: &str = r#"EFG 2 R "Sum" { "A" "B" }
+c "" 1 "" { "g" -1/2 "b" 3/2 } 0
+p "" 1 1 "" { "H" "L" } 0
+t "" 1 { 4, -4 }
+t "" 2 { 0, 0 }
+t "" 3 { 10.000000 2.000000 }
+"#;
+
+const NOT_ZERO_SUM: &str = r#"EFG 2 R "Sum" { "A" "B" }
+c "" 1 "" { "g" 0.5 "b" 0.5 } 0
+p "" 1 1 "" { "H" "L" } 0
+t "" 1 { 4, -4 }
+t "" 2 { 0, 0 }
+t "" 3 { 10.000000 2.000000 }
+"#;
+
+const ABSENT: &str = r#"EFG 2 R "Absent" { "A" "B" }
+p "" 1 1 "" { "exit" "on" } 0
+t "" 0
+p "" 1 1 0
+t "" 1 { 4, -4 }
+t "" 2 { 1, -1 }
+"#;
+
+const RARE: &str = r#"EFG 2 R "Rare" { "A" "B" }
+c "" 1 "" { "a" 1/4294967296 "b" 4294967295/4294967296 } 0
+c "" 1 0
+t "" 0
+t "" 0
+t "" 0
 "#;
 
 const NORMAL_FORM: &str = r#"NFG 2 R "x" { "A" "B" }"#;
@@ -213,13 +283,12 @@ fn status<Rt: Threads + Wait + Sync + AllocGlobal>(
 #[test]
 fn texts_and_faults(rt: HostRuntime) -> Result<(), Fail> {
     let alloc = rt.alloc();
-    let rows: [(&str, u8, &str, &str); 22] = [
+    let rows: [(&str, u8, &str, &str); 26] = [
         (ONE_LEAF, 0, ONE_NODE, ""),
         (ONE_MOVER, 0, THREE_NODES, ""),
-        (PENNIES, 0, SEVEN_NODES, ""),
-        (PENNIES_REPEATED, 0, SEVEN_NODES, ""),
-        (THIRDS, 0, FOUR_NODES, ""),
-        (REPEAT, 0, SEVEN_NODES, ""),
+        (PENNIES, 0, PENNIES_HEAD, ""),
+        (PENNIES_REPEATED, 0, PENNIES_HEAD, ""),
+        (REPEAT, 0, REPEAT_HEAD, ""),
         ("", 1, "", "refused 3 UnexpectedEnd\n"),
         (NORMAL_FORM, 1, "", "refused 2 Syntax at 0\n"),
         (NO_TOKEN, 1, "", "refused 2 Syntax at 24\n"),
@@ -246,6 +315,11 @@ fn texts_and_faults(rt: HostRuntime) -> Result<(), Fail> {
         (OTHER_PAYOFFS, 1, "", "refused 11 OutcomeMismatch node 4\n"),
         (THREE_PAYOFFS, 1, "", "refused 12 PayoffCount node 3\n"),
         (NO_ACTIONS, 1, "", "refused 14 ActionCount node 1\n"),
+        (NEGATIVE, 1, "", "refused 15 ChanceNegative node 1\n"),
+        (THIRDS, 1, "", "refused 16 ChanceSum node 1\n"),
+        (NOT_ZERO_SUM, 1, "", "refused 17 NotZeroSum node 5\n"),
+        (ABSENT, 1, "", "refused 18 NotRecall node 3 earlier 1\n"),
+        (RARE, 1, "", "refused 19 Scale node 3\n"),
     ];
     for (game, expected, text, line) in rows {
         let mut files = files_with(alloc, game, &[])?;
@@ -260,15 +334,39 @@ fn texts_and_faults(rt: HostRuntime) -> Result<(), Fail> {
 }
 
 #[test]
+fn what_is_told_of_games(rt: HostRuntime) -> Result<(), Fail> {
+    let alloc = rt.alloc();
+    let rows: [(&str, u8, &str, &str); 4] = [
+        (PENNIES, 0, PENNIES_INFO, ""),
+        (MARKS, 0, MARKS_INFO, ""),
+        (ABSENT, 1, "", "refused 18 NotRecall node 3 earlier 1\n"),
+        ("", 1, "", "refused 3 UnexpectedEnd\n"),
+    ];
+    for (game, expected, text, line) in rows {
+        let mut files = files_with(alloc, game, &[])?;
+        let mut out = sink(alloc, &[])?;
+        let mut err = sink(alloc, &[])?;
+        let status = status(&rt, "info game", &mut files, &mut out, &mut err)?;
+        assert_eq!(rt; status, expected, "of {game:?}");
+        assert_eq!(rt; out.bytes(), text.as_bytes(), "of {game:?}");
+        assert_eq!(rt; err.bytes(), line.as_bytes(), "of {game:?}");
+    }
+    Ok(())
+}
+
+#[test]
 fn words_that_name_no_command(rt: HostRuntime) -> Result<(), Fail> {
     let alloc = rt.alloc();
-    let rows: [&str; 24] = [
+    let rows: [&str; 27] = [
         "",
         "solve",
         "gen 1",
         "gen 2",
         "drill 2",
-        "info game",
+        "info",
+        "info -game",
+        "info game game",
+        "info game --rounds 0",
         "check game game",
         "solve game",
         "solve game --rounds",
@@ -330,7 +428,7 @@ fn a_sink_that_fails(rt: HostRuntime) -> Result<(), Fail> {
     let alloc = rt.alloc();
     let rows: [(usize, u64, &str); 3] = [
         (1_000, 1, ""),
-        (30, 1_000, "XGCERT 1\nnodes 1 leaves 1\nroun"),
+        (30, 1_000, "XGCERT 1\nnodes 1 leaves 1\nsets"),
         (0, 1_000, ""),
     ];
     for (room, write, front) in rows {

@@ -1,0 +1,164 @@
+ghost use Rattle.std.specs.Prelude.{◌≡◌, ◌≤◌, All, IfOk, length, map, sum, unsigned_abs};
+ghost use Rattle.std.specs.Thread.{IsSync};
+ghost use Rattle.def_sums.specs.Limits.{most_mass, most_root};
+ghost use Rattle.xg_jobs.specs.Table.{IsTableOf};
+
+use crate::{JobTable, PlainRows, RowInput, RowMaker, Rows};
+use def_tree::Player;
+use std::alloc::Global;
+use std::process::Abort;
+use std::sync::Wait;
+use std::test::Fail;
+use std::thread::Threads;
+use xg_seq::SeqForm;
+use xg_sets::build_sets;
+use xg_tree::{Builder, Kind, Node, Tree};
+
+const LEAF: Node = Node {
+    kind: Kind::Leaf,
+    set: 0,
+    outcome: 0,
+    children: 0,
+};
+
+fn node(kind: Kind, set: u32, children: u32) -> Node {
+    Node {
+        kind,
+        set,
+        outcome: 0,
+        children,
+    }
+}
+
+fn pennies() -> [Node; 7] {
+    let second = node(Kind::Two, 1, 2);
+    [
+        node(Kind::One, 1, 2),
+        second,
+        LEAF,
+        LEAF,
+        second,
+        LEAF,
+        LEAF,
+    ]
+}
+
+fn tree_of(rt: &impl Abort, alloc: Global, nodes: &[Node]) -> Result<Tree, Fail> {
+    let mut builder = Builder::new(alloc);
+    for next in nodes {
+        assert!(rt; !builder.is_complete());
+        assert!(rt; builder.fits(*next));
+        builder.push(*next)?;
+    }
+    assert!(rt; builder.is_complete());
+    Ok(builder.finish())
+}
+
+// The form of the nodes' tree with these weights, and its jobs.
+fn built(
+    rt: &impl Abort,
+    alloc: Global,
+    nodes: &[Node],
+    weights: &[i64],
+) -> Result<(SeqForm, JobTable), Fail>
+    requires { sum (map unsigned_abs weights.now) ≤ most_mass }
+    ensures { IfOk result (λ both. IsTableOf both.0 both.1) }
+{
+    let tree = tree_of(rt, alloc, nodes)?;
+    let sets = build_sets(alloc, &tree)?;
+    assert_eq!(rt; weights.len(), tree.leaves() as usize);
+    let form = SeqForm::build(alloc, &tree, &sets, weights)?;
+    let jobs = JobTable::build(alloc, &form, &tree)?;
+    Ok((form, jobs))
+}
+
+// A job's first leaf, and the number of its leaves.
+fn leaves(rt: &impl Abort, jobs: &JobTable, job: u32) -> (u32, u32) {
+    assert!(rt; job < jobs.count());
+    jobs.leaves_of(job)
+}
+
+fn crosses_threads<T: Send + Sync>() {}
+
+#[test]
+fn puts_amounts(rt: HostRuntime) -> Result<(), Fail> {
+    let (form, _jobs) = built(&rt, rt.alloc(), &pennies(), &[1, -1, -1, 1])?;
+    let mut rows = Rows::new(rt.alloc(), &form)?;
+    for (row, amount) in [(1, -5), (3, 1 << 100), (5, 7)] {
+        assert!(rt; (row as usize) < rows.one().len() + rows.two().len());
+        rows.put(row, amount);
+    }
+    assert_eq!(rt; rows.one(), &[0, -5, 0][..]);
+    assert_eq!(rt; rows.two(), &[1 << 100, 0, 7][..]);
+    crosses_threads::<JobTable>();
+    crosses_threads::<Rows>();
+    Ok(())
+}
+
+#[test]
+fn cuts_the_jobs_of_a_chance_over_a_player(rt: HostRuntime) -> Result<(), Fail> {
+    let nodes = [
+        node(Kind::Chance, 1, 2),
+        node(Kind::One, 1, 2),
+        LEAF,
+        LEAF,
+        LEAF,
+    ];
+    let (_form, jobs) = built(&rt, rt.alloc(), &nodes, &[1, 2, 3])?;
+    assert_eq!(rt; jobs.count(), 2);
+    assert_eq!(rt; leaves(&rt, &jobs, 0), (1, 2));
+    assert_eq!(rt; leaves(&rt, &jobs, 1), (3, 1));
+    Ok(())
+}
+
+#[test]
+fn keeps_matching_pennies_as_one_job(rt: HostRuntime) -> Result<(), Fail> {
+    let (_form, jobs) = built(&rt, rt.alloc(), &pennies(), &[1, -1, -1, 1])?;
+    assert_eq!(rt; jobs.count(), 1);
+    assert_eq!(rt; leaves(&rt, &jobs, 0), (1, 4));
+    Ok(())
+}
+
+// Both players choose their second actions with this number. The sums are those of player one's first sequence, of
+// player two's first one, and of the second one of either.
+fn sums<Rt: Abort + Threads + Wait + Sync>(
+    rt: &Rt,
+    alloc: Global,
+    weights: &[i64],
+    number: u64,
+    sums: [i128; 3],
+) -> Result<(), Fail>
+    requires sync { IsSync Rt.row }
+    requires mass { sum (map unsigned_abs weights.now) ≤ most_mass }
+    requires number { number ≤ most_root }
+{
+    let (form, jobs) = built(rt, alloc, &pennies(), weights)?;
+    assert_eq!(rt; form.sequence_count(Player::One), 3);
+    assert_eq!(rt; form.sequence_count(Player::Two), 3);
+    let numbers = [number, 0, number];
+    let input = RowInput {
+        form: &form,
+        one: &numbers,
+        two: &numbers,
+    };
+    let rows = PlainRows.rows(rt, alloc, &input, &jobs)?;
+    let [first_one, first_two, second] = sums;
+    assert_eq!(rt; rows.one(), &[0, first_one, second][..]);
+    assert_eq!(rt; rows.two(), &[0, first_two, second][..]);
+    Ok(())
+}
+
+// Weights of 32 bits and of 64, each with sums of 64 bits and of 128.
+#[test]
+fn sums_the_leaves_of_matching_pennies(rt: HostRuntime) -> Result<(), Fail> {
+    let alloc = rt.alloc();
+    let light = [1 << 28, -2 << 28, -3 << 28, 4 << 28];
+    let heavy = [1 << 40, -2 << 40, -3 << 40, 4 << 40];
+    let most = 1 << 36;
+    sums(&rt, alloc, &[1, -1, -1, 1], 1, [-1, -1, 1])?;
+    sums(&rt, alloc, &light, 1, [-2 << 28, -3 << 28, 4 << 28])?;
+    sums(&rt, alloc, &light, most, [-2 << 64, -3 << 64, 4 << 64])?;
+    sums(&rt, alloc, &heavy, 1, [-2 << 40, -3 << 40, 4 << 40])?;
+    sums(&rt, alloc, &heavy, most, [-2 << 76, -3 << 76, 4 << 76])?;
+    Ok(())
+}
