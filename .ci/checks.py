@@ -20,9 +20,19 @@ NO_MEMORY = b"want of memory\n"
 ONE_LEAF = b'EFG 2 R "" { "A" "B" }\nt "" 1 { 0, 0 }\n'
 
 
-def text(nodes, leaves):
-    """What is printed for a game with so many nodes and leaves."""
-    return f"XGCERT 1\nnodes {nodes} leaves {leaves}\nrounds 0 every 1 scale 1048576\nend\n".encode()
+def text(nodes, leaves, sets=(0, 0), sequences=(1, 1), unit=1, mass=0):
+    """What is printed for a game with these numbers that is solved in no rounds."""
+    lines = [
+        "XGCERT 1",
+        f"nodes {nodes} leaves {leaves}",
+        f"sets {sets[0]} {sets[1]}",
+        f"sequences {sequences[0]} {sequences[1]}",
+        f"unit {unit}",
+        f"mass {mass}",
+        "rounds 0 every 1 scale 1048576",
+        "end",
+    ]
+    return "".join(line + "\n" for line in lines).encode()
 
 
 def call(words, name="xg_solve", program=PROGRAM, **options):

@@ -57,20 +57,17 @@ def file_of(lines):
 
 
 def rounds_of_cards(nodes):
-    """A game with so many nodes in which each mention of a set and an outcome has its whole description: chance deals, both players bet, one below the other."""
-    deal = 'c "" 1 "deal" { "ace" 1/3 "king" 1/6 "queen" .5 } 0'
+    """A game with about so many nodes in which each mention of a set and an outcome has its whole description: chance deals three times, and then both players bet, who see no card."""
+    tables, seats = (nodes - 1) // 1_026, 41
+    shuffle = f'c "" 1 "shuffle" {{ {" ".join([f"{chr(34)}t{chr(34)} 1/{tables}"] * tables)} }} 0'
+    seat = f'c "" 2 "seat" {{ {" ".join([f"{chr(34)}s{chr(34)} 1/{seats}"] * seats)} }} 0'
+    deal = 'c "" 3 "deal" { "ace" 1/3 "king" 1/6 "queen" .5 } 0'
     first = 'p "" 1 1 "first" { "check" "bet" "raise" } 1 "ante" { 1/2, -1/2 }'
     second = 'p "" 2 1 "second" { "fold" "call" } 0'
-    ends = ['t "" 2 "one wins" { 5/2, -2.5 }', 't "" 3 "two wins" { -1e0, 1 }', 't "" 0 "even"']
-    lines = []
-    open_nodes = 1
-    while len(lines) + open_nodes < nodes:
-        lines.append((deal, first, second)[len(lines) % 3])
-        open_nodes += (2, 2, 1)[(len(lines) - 1) % 3]
-    while open_nodes:
-        lines.append(ends[len(lines) % 3])
-        open_nodes -= 1
-    return file_of(lines)
+    wins, loses, even = 't "" 2 "one wins" { 5/2, -2.5 }', 't "" 3 "two wins" { -1e0, 1 }', 't "" 0 "even"'
+    hand = [first, second, wins, loses, second, loses, even, wins]
+    table = [seat] + ([deal] + hand * 3) * seats
+    return file_of([shuffle] + table * tables)
 
 
 def binary(nodes):
@@ -81,6 +78,21 @@ def binary(nodes):
         lines.append(f't "" {k + 1} "end {k}" {{ {k % 9}, -{k % 9} }}')
     lines.append(f't "" {nodes} "end" {{ 0, 0 }}')
     return file_of(lines)
+
+
+def path_of_sets(nodes):
+    """So many nodes below one another, each but the last in a set of player one with one action."""
+    return file_of([f'p "" 1 {k} {{ "" }} 0' for k in range(1, nodes)] + ['t "" 0'])
+
+
+def rare(leaves):
+    """About so many leaves, each reached by two deals whose probabilities have denominators of 30 bits."""
+    size, whole = round(leaves**0.5), 2**30
+    odd = [2 * k + 1 for k in range(size - 1)]
+    last = whole - sum(odd)
+    chances = " ".join(f'"d" {n}/{whole}' for n in [*odd, last])
+    ends = [f't "" {k} {{ {k % 2}, -{k % 2} }}' for k in range(1, size + 1)]
+    return file_of([f'c "" 1 {{ {chances} }} 0'] + ([f'c "" 2 {{ {chances} }} 0'] + ends) * size)
 
 
 def chain(nodes, first, later):
@@ -108,8 +120,8 @@ def colliding(count):
 def hurtful():
     """Files that are made to hurt, by what they are, with the status of an answer."""
     return {
-        "a million entries under one set": (chain(MOST_NODES, 'p "" 1 1 { "" } 0', 'p "" 1 1 0'), 0),
-        "a million repeated descriptions": (chain(MOST_NODES, 'p "" 1 1 "set" { "on" } 0', 'p "" 1 1 "set" { "on" } 0'), 0),
+        "a million entries under one set": (chain(MOST_NODES, 'p "" 1 1 { "" } 0', 'p "" 1 1 0'), 1),
+        "a million repeated descriptions": (chain(MOST_NODES, 'p "" 1 1 "set" { "on" } 0', 'p "" 1 1 "set" { "on" } 0'), 1),
         "a million sets whose numbers have the same low bits": (file_of([f'p "" 1 {k << 41} {{ "" }} 0' for k in range(1, MOST_NODES)] + ['t "" 0']), 0),
         "sets whose numbers collide in a table without a seed": (file_of([f'p "" 1 {k} {{ "" }} 0' for k in colliding(2**14)] + ['t "" 0']), 0),
         "a name of 60 MB": (file_of(['t "' + "x" * 60_000_000 + '" 0']), 0),
@@ -194,10 +206,13 @@ def main():
                 print(f"     {kind}, {nodes} nodes, {size} bytes: {times[nodes]:.3f} s, {memory} bytes of memory")
                 if nodes > 131_072:
                     report(f"{kind}, {nodes} nodes against half of them", times[nodes] / times[nodes // 2], 2.3, "times")
-                report(f"{kind}, memory at {nodes} nodes beside the file", (memory - size) / nodes, 300, "bytes a node")
+                report(f"{kind}, memory at {nodes} nodes beside the file", (memory - size) / nodes, 400, "bytes a node")
             against_words(f"{kind}, {size} bytes", path, 0)
             against_other(kind, path)
 
+        path = write("rare.efg", rare(200_000))
+        seconds, memory = solve(path)
+        print(f"     200,000 leaves of rare deals, {os.path.getsize(path)} bytes: {seconds:.3f} s, {memory} bytes of memory")
         path = write("long_names.efg", wide(524_288, "a name of a node that is somewhat longer"))
         against_words(f"long names, {os.path.getsize(path)} bytes", path, 0)
         against_other("long names", path)
