@@ -116,7 +116,7 @@ module _ (reading : ReadingIsExact) (laws : GameLaws) (bytes : List ℕ) where
   first_is_refused fault (in_game short game stands found first same) =
       let readable : IsReadable bytes game = record { length_within = short; stands = stands } in
       let is : game_fault (tables_of game) game.tree ≡ Some found =
-          ((laws.first (tables_of game) game.tree (in_lowest_terms game readable)).some found).1 first in
+      ((laws.first (tables_of game) game.tree (in_lowest_terms game readable)).some found).1 first in
       ap accepted ((reading.read bytes game).1 readable) ∙ ap (λ o. unless_faulty (as_file_fault o) game) is
       ∙ ap Err (sym same)
 
@@ -133,13 +133,13 @@ module _ (reading : ReadingIsExact) (laws : GameLaws) (bytes : List ℕ) where
           let same : other ≡ game = cc in
           let readable : IsReadable bytes game = (reading.read bytes game).0 (is ∙ ap Ok same) in
           let passes = (laws.first (tables_of game) game.tree (in_lowest_terms game readable)).none.0
-              (ap (λ (g : GameFile). game_fault (tables_of g) g.tree) (sym same) ∙ is_none) in
+          (ap (λ (g : GameFile). game_fault (tables_of g) g.tree) (sym same) ∙ is_none) in
           record { readable = readable; numbers = passes.0; recall = passes.1 }
 
   pub whole_is_accepted : (game : GameFile) → IsAccepted bytes game → read_as_accepted bytes ≡ Ok game
   whole_is_accepted game is =
       let none : game_fault (tables_of game) game.tree ≡ None =
-          (laws.first (tables_of game) game.tree (in_lowest_terms game is.readable)).none.1 (is.numbers, is.recall) in
+      (laws.first (tables_of game) game.tree (in_lowest_terms game is.readable)).none.1 (is.numbers, is.recall) in
       ap accepted ((reading.read bytes game).1 is.readable) ∙ ap (λ o. unless_faulty (as_file_fault o) game) none
 
 -- a file is refused exactly with its first fault
