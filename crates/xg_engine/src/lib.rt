@@ -11,6 +11,3 @@ mod source;
 
 pub use engine::Engine;
 pub use settings::Settings;
-
-#[cfg(test)]
-mod tests;
