@@ -28,7 +28,8 @@ pub record Merges (name : CommandName) (taken : Taken) (arguments : List Argumen
   pub apart : (option : OptionName) → (number_in taken.numbers option ≡ None) ⊎ (number_given option arguments ≡ None)
 
 -- ---- options
-same_option : (a b : OptionName) → is_same_option a b ≡ true → a ≡ b
+-- names that are the same option are one name
+pub same_option : (a b : OptionName) → is_same_option a b ≡ true → a ≡ b
 same_option Rounds Rounds is = refl
 same_option Every Every is = refl
 same_option Scale Scale is = refl

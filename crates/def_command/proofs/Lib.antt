@@ -1,4 +1,5 @@
 mod Arguments
 mod CallsAreComputed
+pub mod InRange
 mod Named
 mod WordByWord

@@ -6,7 +6,7 @@ use Rattle.std.proofs.lemmas.Bool.Decides.{Decides-eqb}
 use Rattle.std.proofs.lemmas.Bool.{eqb-true}
 use Rattle.std.proofs.lemmas.Option.{none-some, same_Some}
 use Rattle.std.proofs.lemmas.Slice.Eq.{slice_eq-Decides}
-use Rattle.def_command.specs.Command.{is_word, is_option}
+use Rattle.def_command.specs.Words.{is_option, is_word}
 use Rattle.def_command.specs.Table.{CommandName, OptionName, Solve, Check, Info, Gen, Drill, Rounds, Every, Scale, Workers, command_word, option_name, built_commands, built_options}
 use Rattle.def_command.specs.Grammar.{command_named, option_named, around_equals}
 

@@ -6,7 +6,7 @@ use Rattle.std.specs.Option.{option_map, option_and_then}
 use Rattle.std.proofs.lemmas.Bool.{and_from, and_parts, le-leb, leb-true}
 use Rattle.std.proofs.lemmas.Option.{none-some, cond_some}
 use Rattle.def_fraction.specs.Digits.{is_numeral, number_of}
-use Rattle.def_command.specs.Command.{is_option}
+use Rattle.def_command.specs.Words.{is_option}
 use Rattle.def_command.specs.Table.{CommandName, OptionName, built_options, option_name, least_number, most_number}
 use Rattle.def_command.specs.Grammar.{Argument, Plain, Number, Taken, IsNumberFromTo, AreSpelled, number_from_to, option_named, around_equals, take_plain, take_number, take_digits, read_option, read_word, read_words}
 use Rattle.def_command.proofs.Arguments.{take_argument, take_all}

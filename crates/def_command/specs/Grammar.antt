@@ -1,10 +1,12 @@
 -- The command that the words of a call name, and how its words are spelled. The program's own name is none of them.
 --     Settings, Command          what is to be done, and with which settings
 --     command_of_words words     the command, or none where the words aren't taken: word by word
+--     file_words c, named_files words
+--                                the names of the files that the command opens, and the same of the words
 --     IsCall words command       the words are a call of the command: in the words of the format
 use Rattle.std.specs.Prelude.{◌≡◌, ◌⊎◌, ℕ, ◌≤◌, Bool, true, false, ◌&&◌, ◌==◌, nat_lt, nat_le, if◌then◌else◌, List, [], ◌∷◌, ◌++◌, length, find, Contains, Option, Some, None, is_none, unwrap_or, option_map, option_and_then}
 use Rattle.def_fraction.specs.Digits.{is_numeral, number_of}
-use Rattle.def_command.specs.Command.{is_option, is_word}
+use Rattle.def_command.specs.Words.{is_option, is_word}
 use Rattle.def_command.specs.Table as table
 use Rattle.def_command.specs.Table.{CommandName, OptionName, Rounds, Every, Scale, Workers, built_commands, built_options, least_cards, most_cards, command_word, plain_count, takes, option_name, least_number, most_number, default_number}
 
@@ -230,3 +232,18 @@ command_of_words [] = None
 command_of_words (word ∷ words) =
     option_and_then (λ name. option_and_then (command_from name) (read_words name nothing None words))
     (command_named word)
+
+-- ---- the files that a command opens
+abbrev pub file_words : Command → List (List ℕ)
+file_words (Solve file settings workers) = file ∷ []
+file_words (Check file certificate) = file ∷ certificate ∷ []
+file_words (Info file) = file ∷ []
+file_words (Gen cards) = []
+file_words (Drill cards settings workers) = []
+
+abbrev pub files_of : Option Command → List (List ℕ)
+files_of None = []
+files_of (Some command) = file_words command
+
+abbrev pub named_files : List (List ℕ) → List (List ℕ)
+named_files words = files_of (command_of_words words)

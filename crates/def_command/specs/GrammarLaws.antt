@@ -1,6 +1,8 @@
 -- Which words are a call, and of which command.
-use Rattle.std.specs.Prelude.{◌≡◌, ◌↔◌, List, ℕ, Some}
-use Rattle.def_command.specs.Grammar.{Command, command_of_words, IsCall}
+use Rattle.std.specs.Prelude.{◌≡◌, ◌↔◌, ◌≤◌, List, ℕ, Some}
+use Rattle.def_sums.specs.Limits.{most_rounds, most_scale}
+use Rattle.def_command.specs.Table.{most_workers}
+use Rattle.def_command.specs.Grammar.{Settings, Command, Solve, Drill, command_of_words, IsCall}
 
 -- the command that is computed is exactly the one that the words are a call of
 abbrev pub CallsAreComputed : Type 0
@@ -10,3 +12,20 @@ CallsAreComputed =
 abbrev pub WordsCallOne : Type 0
 WordsCallOne =
     (words : List (List ℕ)) (first second : Command) → IsCall words first → IsCall words second → first ≡ second
+
+-- the settings and the number of workers are in the ranges of their options
+pub record InRange (settings : Settings) (workers : ℕ) : Type 0 where
+  pub few_rounds : settings.rounds ≤ most_rounds
+  pub some_every : 1 ≤ settings.every
+  pub small_every : settings.every ≤ most_rounds
+  pub some_scale : 1 ≤ settings.scale
+  pub small_scale : settings.scale ≤ most_scale
+  pub some_workers : 1 ≤ workers
+  pub few_workers : workers ≤ most_workers
+
+-- so they are in each command that is computed, given or not
+pub record SettingsAreInRange : Type 0 where
+  pub of_solve : (words : List (List ℕ)) (file : List ℕ) (settings : Settings) (workers : ℕ)
+      → command_of_words words ≡ Some (Solve file settings workers) → InRange settings workers
+  pub of_drill : (words : List (List ℕ)) (cards : ℕ) (settings : Settings) (workers : ℕ)
+      → command_of_words words ≡ Some (Drill cards settings workers) → InRange settings workers

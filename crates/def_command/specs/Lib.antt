@@ -1,6 +1,5 @@
-pub mod Command
+pub mod Words
 pub mod Grammar
 pub mod GrammarLaws
 pub mod GrammarRows
-pub mod Laws
 pub mod Table

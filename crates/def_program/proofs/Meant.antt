@@ -10,7 +10,7 @@ use Rattle.def_file_fault.proofs.Reached.{first_faulted}
 use Rattle.def_game_faults.proofs.First.{game_first}
 use Rattle.def_game_faults.proofs.Sound.{sound}
 use Rattle.def_game_numbers.proofs.Fractions.{tables_lowest}
-use Rattle.def_command.specs.Command.{Command, Info, Solve, command_of, files_of}
+use Rattle.def_command.specs.Grammar.{Check, Command, Drill, Gen, Info, Solve, command_of_words, files_of}
 use Rattle.def_text.specs.Text.{info_text}
 use Rattle.def_program.specs.Program.{Answer, answer_of, command_answer, file_answer, game_answer, program, read_as_accepted, solved, usage}
 use Rattle.def_program.specs.Meaning.{CommandMeans, FileMeans, IsMeant, Means, refused, written}
@@ -64,17 +64,25 @@ module _ (text : GameFile → List ℕ) where
 
 command_computed : (command : Command) (told : List ℕ → Option (List ℕ)) (answer : Answer)
     → CommandMeans command told answer → command_answer command told ≡ Some answer
-command_computed (Solve file) told answer means = content_computed solved (told file) answer means
+command_computed (Solve file settings workers) told answer means =
+    content_computed (solved settings) (told file) answer means
 command_computed (Info file) told answer means = content_computed info_text (told file) answer means
+command_computed (Check file certificate) told answer means = ap Some (sym means)
+command_computed (Gen cards) told answer means = ap Some (sym means)
+command_computed (Drill cards settings workers) told answer means = ap Some (sym means)
 
 command_meant : (command : Command) (told : List ℕ → Option (List ℕ)) (answer : Answer)
     → command_answer command told ≡ Some answer → CommandMeans command told answer
-command_meant (Solve file) told answer computed = content_meant solved (told file) answer computed
+command_meant (Solve file settings workers) told answer computed =
+    content_meant (solved settings) (told file) answer computed
 command_meant (Info file) told answer computed = content_meant info_text (told file) answer computed
+command_meant (Check file certificate) told answer computed = cc
+command_meant (Gen cards) told answer computed = cc
+command_meant (Drill cards settings workers) told answer computed = cc
 
 -- what words mean in the format's terms is what the program computes
 pub meaning_computed : MeaningIsComputed
-meaning_computed words told answer = by_command (command_of words)
+meaning_computed words told answer = by_command (command_of_words words)
   where
     by_command : (command : Option Command)
         → (IsMeant command told answer → answer_of command told ≡ Some answer)
@@ -100,7 +108,11 @@ content_answered text (Some bytes) is_told = record { answer = file_answer text 
 told_computed : (command : Option Command) (told : List ℕ → Option (List ℕ))
     → All (λ file. IsSome (told file)) (files_of command) → Computed (answer_of command told)
 told_computed None told are_told = record { answer = usage; is = refl }
-told_computed (Some (Solve file)) told are_told = content_answered solved (told file) (are_told 0 [] (omega arith))
+told_computed (Some (Solve file settings workers)) told are_told =
+    content_answered (solved settings) (told file) (are_told 0 [] (omega arith))
+told_computed (Some (Check file certificate)) told are_told = record { answer = usage; is = refl }
+told_computed (Some (Gen cards)) told are_told = record { answer = usage; is = refl }
+told_computed (Some (Drill cards settings workers)) told are_told = record { answer = usage; is = refl }
 told_computed (Some (Info file)) told are_told = content_answered info_text (told file) (are_told 0 [] (omega arith))
 
 -- words whose files are told mean one answer, and no other one
@@ -112,7 +124,7 @@ told_means_one words told are_told = record {
 }
   where
     found : Computed (program words told)
-    found = told_computed (command_of words) told are_told
+    found = told_computed (command_of_words words) told are_told
 
     only : (other : Answer) → Means words told other → other ≡ found.answer
     only other means = injective other found.answer (sym ((meaning_computed words told other).0 means) ∙ found.is)

@@ -11,7 +11,7 @@ use Rattle.def_file_form.specs.Laws.{StandsFor}
 use Rattle.def_game_paths.specs.Recall.{HasPerfectRecall}
 use Rattle.def_game_faults.specs.First.{PassNumbers}
 use Rattle.def_game_numbers.specs.Numbers.{tables_of}
-use Rattle.def_command.specs.Command.{Command, Info, Solve, command_of, named_files}
+use Rattle.def_command.specs.Grammar.{Check, Command, Drill, Gen, Info, Solve, command_of_words, named_files}
 use Rattle.def_text.specs.Text.{info_text}
 use Rattle.def_text.specs.Lines.{fault_line}
 use Rattle.def_program.specs.Program.{Answer, refusal, solved, success, usage}
@@ -33,9 +33,14 @@ pub data FileMeans (text : GameFile → List ℕ) (bytes : List ℕ) (answer : A
   refused : (fault : FileFault) → IsFirstFault bytes fault → answer ≡ refusal (fault_line fault)
       → FileMeans text bytes answer
 
+-- no words name the commands that aren't built yet
 abbrev pub CommandMeans : Command → (List ℕ → Option (List ℕ)) → Answer → Type 0
-CommandMeans (Solve file) told answer = IsSomeAnd (told file) (λ bytes. FileMeans solved bytes answer)
+CommandMeans (Solve file settings workers) told answer =
+    IsSomeAnd (told file) (λ bytes. FileMeans (solved settings) bytes answer)
 CommandMeans (Info file) told answer = IsSomeAnd (told file) (λ bytes. FileMeans info_text bytes answer)
+CommandMeans (Check file certificate) told answer = answer ≡ usage
+CommandMeans (Gen cards) told answer = answer ≡ usage
+CommandMeans (Drill cards settings workers) told answer = answer ≡ usage
 
 -- words that aren't taken mean the usage
 abbrev pub IsMeant : Option Command → (List ℕ → Option (List ℕ)) → Answer → Type 0
@@ -43,7 +48,7 @@ IsMeant None told answer = answer ≡ usage
 IsMeant (Some command) told answer = CommandMeans command told answer
 
 abbrev pub Means : List (List ℕ) → (List ℕ → Option (List ℕ)) → Answer → Type 0
-Means words told answer = IsMeant (command_of words) told answer
+Means words told answer = IsMeant (command_of_words words) told answer
 
 -- whatever answer the words mean has this property
 abbrev pub EachMeant : (Answer → Type 0) → (Answer → Type 0) → Type 0

@@ -10,8 +10,8 @@ use Rattle.def_file.specs.declared.FileFault.TheVariants.{TooLong}
 use Rattle.def_file.specs.Content.{GameFile}
 use Rattle.def_file.specs.Reading.{game_at, most_bytes}
 use Rattle.def_game_numbers.specs.Numbers.{game_file_fault}
-use Rattle.def_command.specs.Command.{Command, Info, Solve, command_of}
-use Rattle.def_text.specs.Text.{info_text, no_rounds, solve_text}
+use Rattle.def_command.specs.Grammar.{Check, Command, Drill, Gen, Info, Settings, Solve, command_of_words}
+use Rattle.def_text.specs.Text.{info_text, solve_text}
 use Rattle.def_text.specs.Lines.{fault_line, usage_line}
 
 unfoldable pub read_as_game : List ℕ → Result GameFile FileFault
@@ -55,17 +55,20 @@ game_answer text (Err fault) = refusal (fault_line fault)
 abbrev pub file_answer : (GameFile → List ℕ) → List ℕ → Answer
 file_answer text bytes = game_answer text (read_as_accepted bytes)
 
--- what a command of one file writes of its game
-abbrev pub solved : GameFile → List ℕ
-solved game = solve_text game no_rounds
+abbrev pub solved : Settings → GameFile → List ℕ
+solved settings game = solve_text game settings
 
+-- no words name the commands that aren't built yet
 abbrev pub command_answer : Command → (List ℕ → Option (List ℕ)) → Option Answer
-command_answer (Solve file) told = option_map (file_answer solved) (told file)
+command_answer (Solve file settings workers) told = option_map (file_answer (solved settings)) (told file)
 command_answer (Info file) told = option_map (file_answer info_text) (told file)
+command_answer (Check file certificate) told = Some usage
+command_answer (Gen cards) told = Some usage
+command_answer (Drill cards settings workers) told = Some usage
 
 abbrev pub answer_of : Option Command → (List ℕ → Option (List ℕ)) → Option Answer
 answer_of None told = Some usage
 answer_of (Some command) told = command_answer command told
 
 abbrev pub program : List (List ℕ) → (List ℕ → Option (List ℕ)) → Option Answer
-program words told = answer_of (command_of words) told
+program words told = answer_of (command_of_words words) told

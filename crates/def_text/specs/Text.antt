@@ -16,12 +16,7 @@ use Rattle.def_bracket.specs.Outcome.{Head, Outcome}
 use Rattle.def_run.specs.Run.{outcome}
 use Rattle.def_cert_accepted.specs.OfOutcome.{certificate_of}
 use Rattle.def_cert_text.specs.CertText.{cert_text, head_text}
-
--- how many rounds are played, after how many of them the plans are evaluated, and the scale of a plan
-pub record Settings : Type 0 where
-  pub rounds : ℕ
-  pub every : ℕ
-  pub scale : ℕ
+use Rattle.def_command.specs.Grammar.{Settings}
 
 abbrev pub line_feed : List ℕ
 line_feed = 10 ∷ []

@@ -6,3 +6,4 @@ pub mod Ending
 pub mod Copying
 pub mod Shown
 pub mod Opening
+pub mod Writable

@@ -1,18 +1,16 @@
 -- What the outcome of a run shows.
-use Rattle.std.proofs.Common.{◌≡◌, ℕ, ◌+◌, ◌-◌, ◌*◌, ◌≤◌, ◌<◌, List, [], ◌∷◌, length, get_or, take, ℤ, pos, Some, refl, ap, ◌∙◌, subst, sym, arith}
+use Rattle.std.proofs.Common.{◌≡◌, ℕ, ◌+◌, ◌-◌, ◌*◌, ◌≤◌, List, [], ◌∷◌, length, get_or, take, ℤ, pos, Some, ap, ◌∙◌, subst, sym, arith}
 use Rattle.std.specs.Prelude.{◌*ℤ◌, ◌-ℤ◌}
 use Rattle.std.proofs.lemmas.List.{take_all}
 use Rattle.def_tree.specs.declared.Player.TheVariants.{One, Two}
 use Rattle.def_plan.specs.Form.{SequenceForm}
-use Rattle.def_plan.specs.Plan.{IsPlan, pure_plan}
-use Rattle.def_reply.specs.Bounds.{AttainsCeiling, AttainsFloor, IsCeiling, IsExploitability, IsFloor}
-use Rattle.def_reply.specs.Reply.{Reply, best_reply_to, choices_of}
-use Rattle.def_round.specs.Rounds.{rounds}
+use Rattle.def_reply.specs.Bounds.{IsExploitability}
+use Rattle.def_reply.specs.Reply.{best_reply_to}
 use Rattle.def_bracket.specs.Bracket.{BracketEnds, Evaluation, TraceLine, ends_of, trace, trace_line}
-use Rattle.def_bracket.specs.Outcome.{End, Head, OutcomeEnds}
+use Rattle.def_bracket.specs.Outcome.{Head, OutcomeEnds}
 use Rattle.def_bracket.proofs.TraceLines.{trace_lines}
 use Rattle.def_cert_verdict.specs.Certificate.{last_line, no_line}
-use Rattle.def_run.specs.Run.{evaluation, evaluations, outcome}
+use Rattle.def_run.specs.Run.{evaluations, outcome}
 use Rattle.def_run.specs.Laws.{HasPlansOf, plan_at_lower, plan_at_upper}
 use Rattle.def_run.proofs.EndLaws.{gap_is_exploitability, outcomes_show_their_run, trace_of_run_never_widens}
 use Rattle.def_run.proofs.RunLaws.{ends_are_of_their_rounds, evaluations_are_bounds, runs_have_ends}
@@ -37,7 +35,7 @@ last_is es ends are =
     ((get_or es k none).round, same ∙ trace_lines.each es k ends no_line none (omega arith) (ap ends_of all ∙ are))
 
 -- the ends of a run, by the rounds that they come from
-abbrev ends_at : SequenceForm → ℕ → BracketEnds → OutcomeEnds
+abbrev pub ends_at : SequenceForm → ℕ → BracketEnds → OutcomeEnds
 ends_at form scale ends = record {
   lower = record { plan = plan_at_lower form scale ends; reply = best_reply_to form Two (plan_at_lower form scale ends) };
   upper = record { plan = plan_at_upper form scale ends; reply = best_reply_to form One (plan_at_upper form scale ends) };
@@ -53,7 +51,7 @@ shown_are form scale ends shown h =
 
 module _ (form : SequenceForm) (head : Head) (sound : IsSoundForm form) (some_scale : 1 ≤ head.scale) where
   -- with at least one round: what holds of the line and the ends of the bracket holds of the outcome
-  has_ends : (P : TraceLine → OutcomeEnds → Type 0) → 1 ≤ head.rounds
+  pub has_ends : (P : TraceLine → OutcomeEnds → Type 0) → 1 ≤ head.rounds
       → ((ends : BracketEnds) (r : ℕ) → ends_of (evaluations form head.scale head.every head.rounds) ≡ Some ends
       → P (trace_line r ends) (ends_at form head.scale ends))
       → HasEnds P (outcome form head)

@@ -8,6 +8,7 @@ ghost use Rattle.def_sequence_form.specs.Form.{form_of_game};
 ghost use Rattle.def_sequence_form.specs.Sets.{sets_or_break};
 ghost use Rattle.def_tree.specs.Tree.{leaf_count, prefix};
 ghost use Rattle.xg_cert.specs.Outcome.{head_of};
+ghost use Rattle.xg_cert.specs.Writable.{IsOutcomeOf};
 ghost use Rattle.def_round.specs.Rounds.{rounds};
 ghost use Rattle.def_run.specs.Run.{outcome};
 ghost use Rattle.xg_jobs.specs.Table.{IsFormOf, IsTableOf};
@@ -49,7 +50,7 @@ impl Model for Engine {
 
     ghost view = { λ e. engine_state e.nodes e.unit e.form e.last_run };
 
-    ghost invariant = { λ e. KeepsGame e.form e.jobs e.mass };
+    ghost invariant = { λ e. KeepsGame e.form e.jobs e.mass e.unit };
 }
 
 impl Engine {
@@ -105,6 +106,9 @@ impl Engine {
         ensures gap { OnOk result (1 ≤ settings.rounds
             → IfSome self.new.outcome (HasEnds (HasGapOfLine self.old.game.form settings.scale))) }
         ensures trace { OnOk result (IfSome self.new.outcome (λ outcome. NoLineIsWider outcome.trace)) }
+
+        // It can be written as a certificate.
+        ensures writable { OnOk result (IfSome self.new.outcome (IsOutcomeOf self.old.game.form)) }
     {
         self.last_run = None;
         let head = self.head(settings);

@@ -11,3 +11,6 @@ mod source;
 
 pub use engine::Engine;
 pub use settings::Settings;
+
+#[cfg(test)]
+mod tests;

@@ -1,5 +1,6 @@
 -- What opening a game gives.
-use Rattle.std.specs.Prelude.{◌≡◌, ℕ, Err}
+use Rattle.std.specs.Prelude.{◌≡◌, ℕ, ◌≤◌, Err}
+use Rattle.def_fraction.specs.Fraction.{most}
 use Rattle.def_tree.specs.Tree.{Forest, node_count}
 use Rattle.def_game_paths.specs.Recall.{RecallBreak}
 use Rattle.def_sequence_form.specs.Sets.{sets_or_break}
@@ -24,6 +25,12 @@ weighed_game game = record {
 -- the sizes of the form's weights add up to this
 abbrev pub KeepsMass : SequenceForm → ℕ → Type 0
 KeepsMass form mass = mass ≡ mass_of form.leaves
+
+-- and the unit is at least 1, and within the limit
+pub record KeepsNumbers (form : SequenceForm) (unit mass : ℕ) : Type 0 where
+  pub mass_is : KeepsMass form mass
+  pub some_unit : 1 ≤ unit
+  pub small_unit : unit ≤ most
 
 -- recall breaks there first, and the fault says so
 abbrev pub IsBreakOf : Forest → FileFault → Type 0

@@ -1,5 +1,6 @@
-ghost use Rattle.std.specs.Prelude.{◌≡◌, ◌≢◌, length, Err, IfOk, None, Ok, Some};
+ghost use Rattle.std.specs.Prelude.{◌≡◌, ◌≢◌, ◌≤◌, length, Err, IfOk, None, Ok, Some};
 ghost use Rattle.def_file.specs.declared.FileFault.{FileFault};
+ghost use Rattle.def_fraction.specs.Fraction.{most};
 ghost use Rattle.def_game_numbers.specs.Numbers.{game_file_fault, tables_of, weigh};
 ghost use Rattle.def_plan.specs.Payoff.{mass_of};
 ghost use Rattle.def_sequence_form.specs.Form.{form_of_game};
@@ -25,13 +26,13 @@ pub struct Numbers {
 
 impl Model for Numbers {
     ghost use Rattle.def_cert_verdict.specs.Verdict.{WeighedGame};
-    ghost use Rattle.xg_numbers.specs.Opened.{KeepsMass};
+    ghost use Rattle.xg_numbers.specs.Opened.{KeepsNumbers};
 
     ghost Value = { WeighedGame };
 
     ghost view = { λ n. record { nodes = n.nodes; unit = n.unit; form = n.form } };
 
-    ghost invariant = { λ n. KeepsMass n.form n.mass };
+    ghost invariant = { λ n. KeepsNumbers n.form n.unit n.mass };
 }
 
 impl Numbers {
@@ -62,7 +63,11 @@ impl Numbers {
 
     /// The number by which reach times payoff is multiplied.
     pub fn unit(&self) -> u64
-        ensures { result ≡ self.now.unit }
+        ensures unit { result ≡ self.now.unit }
+
+        // What is true of all numbers.
+        ensures positive { 1 ≤ result }
+        ensures limit { result ≤ most }
     {
         self.unit
     }

@@ -3,3 +3,4 @@ pub mod Solved
 pub mod Ended
 pub mod Worded
 pub mod Texts
+pub mod Asked

@@ -1,31 +1,28 @@
 -- The texts that are written of an accepted game.
-use Rattle.std.proofs.Common.{◌≡◌, ℕ, ◌+◌, ◌<◌, ◌≤◌, Bool, true, false, cond, List, [], ◌∷◌, ◌++◌, length, get_or, take, refl, sym, ap, ◌∙◌, append_assoc, arith, subst}
-use Rattle.std.proofs.lemmas.List.{length-map, take_all, take_more}
+use Rattle.std.proofs.Common.{◌≡◌, ℕ, ◌+◌, ◌<◌, ◌≤◌, Bool, true, false, cond, List, [], ◌∷◌, ◌++◌, length, get_or, take, None, Some, refl, sym, ap, ◌∙◌, append_assoc, arith, subst}
 use Rattle.std.specs.Prelude.{nat_eq}
-use Rattle.std.specs.Fmt.{digits}
-use Rattle.std.specs.Prelude.{Option, Result, Ok, Err}
-use Rattle.std.specs.Result.{IsErr}
-use Rattle.def_outside.specs.Sinks.{AppendsPrefix}
+use Rattle.std.proofs.lemmas.List.{length-map, take_all, take_more}
+use Rattle.def_tree.specs.Tree.{leaf_count, node_count, prefix}
 use Rattle.def_file_tokens.specs.Texts.{escaped}
 use Rattle.def_file.specs.Content.{GameFile}
-use Rattle.def_plan.specs.Payoff.{mass_of}
-use Rattle.def_sums.specs.Limits.{most_scale}
-use Rattle.def_tree.specs.Tree.{leaf_count, prefix}
 use Rattle.def_game_paths.specs.Paths.{leaf_visits}
-use Rattle.def_game_scale.specs.Scale.{all_expected, expected, game_mass, weights}
+use Rattle.def_game_scale.specs.Scale.{all_expected, expected, game_unit, weights}
 use Rattle.def_game_numbers.specs.Numbers.{tables_of}
-use Rattle.def_sequence_form.specs.Form.{form_of_game}
+use Rattle.def_plan.specs.Form.{SequenceForm, sequence_count}
 use Rattle.def_sequence_form.proofs.Leaves.{form_has_the_mass, leaves_counted, length-leaves_with}
-use Rattle.def_bracket.specs.Outcome.{Head}
+use Rattle.def_bracket.specs.Offers.{board_after}
+use Rattle.def_bracket.specs.Outcome.{Head, Outcome}
+use Rattle.def_run.specs.Run.{offers, outcome, outcome_with}
 use Rattle.def_cert_verdict.specs.Verdict.{WeighedGame}
 use Rattle.def_cert_verdict.specs.Laws.{IsHeadOf}
-use Rattle.def_cert_text.specs.CertText.{asked_text, first_text, head_text, last_text}
-use Rattle.def_cert_text.specs.Fields.{items_text}
-use Rattle.def_cert_text.proofs.TextLines.{text_lines}
-use Rattle.def_text.specs.Text.{form_of_file, game_head, no_rounds, quoted, solve_text}
-use Rattle.xg_cert.specs.Writes.{Writes}
+use Rattle.def_cert_accepted.specs.OfOutcome.{certificate_of}
+use Rattle.def_cert_text.specs.CertText.{cert_text}
+use Rattle.def_command.specs.Grammar.{Settings}
+use Rattle.def_text.specs.Text.{form_of_file, game_head, quoted, solve_text}
 use Rattle.xg_numbers.specs.Opened.{weighed_game}
-use Rattle.xg_solve.specs.Unplayed.{unplayed_end}
+use Rattle.xg_engine.specs.State.{head_with}
+use Rattle.xg_engine.specs.declared.settings.Settings.{Settings as RunSettings}
+use Rattle.xg_solve.specs.Settings.{settings_of}
 
 -- what is escaped piece by piece is escaped whole
 pub escaped_append : (xs ys : List ℕ) → escaped (xs ++ ys) ≡ escaped xs ++ escaped ys
@@ -65,11 +62,12 @@ leaves_are game =
     length-leaves_with game.tree (leaf_visits game.tree) (weights tables game.tree) (omega (arith, many))
     ∙ leaves_counted game.tree
 
--- the head of a game's numbers, where no rounds are asked, is the game's head
-pub head_is : (game : GameFile) (numbers : WeighedGame) → numbers ≡ weighed_game game → (head : Head)
-    → IsHeadOf numbers head → head.rounds ≡ 0 → head.every ≡ 1 → head.scale ≡ most_scale
-    → head ≡ game_head game no_rounds
-head_is game numbers kept head of_numbers none one greatest =
+-- the head of a game's numbers is the game's head
+pub head_is : (game : GameFile) (numbers : WeighedGame) → numbers ≡ weighed_game game → (settings : Settings)
+    (head : Head) → IsHeadOf numbers head
+    → head.rounds ≡ settings.rounds → head.every ≡ settings.every → head.scale ≡ settings.scale
+    → head ≡ game_head game settings
+head_is game numbers kept settings head of_numbers rounds every scale =
     let is : IsHeadOf (weighed_game game) head = subst (λ (w : WeighedGame). IsHeadOf w head) kept of_numbers in
     λ i. record {
       nodes = is.nodes i;
@@ -80,19 +78,52 @@ head_is game numbers kept head of_numbers none one greatest =
       sequences_two = is.sequences_two i;
       unit = is.unit i;
       mass = (is.mass_is ∙ form_has_the_mass.of_game (tables_of game) game.tree) i;
-      rounds = none i;
-      every = one i;
-      scale = greatest i;
+      rounds = rounds i;
+      every = every i;
+      scale = scale i;
     }
 
--- the lines of a game that is solved in no rounds are its text
-pub unplayed_is : (game : GameFile)
-    → first_text ++ (head_text (game_head game no_rounds) ++ unplayed_end) ≡ solve_text game no_rounds
-unfolding digits items_text
-unplayed_is game = sym (text_lines.head_alone (game_head game no_rounds))
+-- the head of a run is the game's head
+pub run_head_is : (game : GameFile) (settings : RunSettings)
+    → head_with (weighed_game game) settings ≡ game_head game (settings_of settings)
+run_head_is game settings = λ i. record {
+  nodes = node_count game.tree;
+  leaves = leaves_are game i;
+  sets_one = length (form_of_file game).sets_one;
+  sets_two = length (form_of_file game).sets_two;
+  sequences_one = sequence_count (form_of_file game).sets_one;
+  sequences_two = sequence_count (form_of_file game).sets_two;
+  unit = game_unit (tables_of game) game.tree;
+  mass = form_has_the_mass.of_game (tables_of game) game.tree i;
+  rounds = settings.rounds;
+  every = settings.every;
+  scale = settings.scale;
+}
 
--- what failed with a front of a text wrote no more than that
-pub cut_short : {T E : Type 0} (before now : Option (List ℕ)) (text : List ℕ) (r : Result T E) → IsErr r
-    → AppendsPrefix before now text → Writes before now text r
-cut_short before now text (Ok x) failed front = absurd cc
-cut_short before now text (Err x) failed front = front
+-- what a run leaves is written as the text of the solution
+pub played_is : (game : GameFile) (settings : RunSettings) (form : SequenceForm) (left : Outcome)
+    → form ≡ form_of_file game → left ≡ outcome (form_of_file game) (head_with (weighed_game game) settings)
+    → cert_text (certificate_of form left) ≡ solve_text game (settings_of settings)
+played_is game settings form left form_is left_is =
+    (λ i. cert_text (certificate_of (form_is i) (left_is i)))
+    ∙ ap (λ (head : Head). cert_text (certificate_of (form_of_file game) (outcome (form_of_file game) head)))
+    (run_head_is game settings)
+
+-- without rounds the trace is empty, and there are no ends
+without_rounds : (form : SequenceForm) (head : Head) → head.rounds ≡ 0
+    → record { head = head; trace = []; ends = None } ≡ outcome form head
+without_rounds form head none =
+    sym (ap (λ rounds. outcome_with head (board_after (offers form head.scale head.every rounds))) none)
+
+-- and the head alone is written
+pub unplayed_is : (game : GameFile) (settings : Settings) (form : SequenceForm) (head : Head)
+    → settings.rounds ≡ 0 → form ≡ form_of_file game → head ≡ game_head game settings
+    → cert_text (certificate_of form (record { head = head; trace = []; ends = None })) ≡ solve_text game settings
+unplayed_is game settings form head none form_is head_is =
+    (λ i. cert_text (certificate_of (form_is i) (record { head = head_is i; trace = []; ends = None })))
+    ∙ ap (λ (left : Outcome). cert_text (certificate_of (form_of_file game) left))
+    (without_rounds (form_of_file game) (game_head game settings) none)
+
+-- an outcome that is there is one
+pub same_outcome : (left other : Outcome) → Some left ≡ Some other → left ≡ other
+same_outcome left other same = cc

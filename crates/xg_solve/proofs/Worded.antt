@@ -1,13 +1,13 @@
 -- What the words mean is what their command means.
 use Rattle.std.proofs.Common.{◌≡◌, ℕ, List, Option, subst}
 use Rattle.def_outside.specs.Calls.{FilesCall, SinkCall}
-use Rattle.def_command.specs.Command.{Command, command_of}
+use Rattle.def_command.specs.Grammar.{Command, command_of_words}
 use Rattle.def_program.specs.Meaning.{IsMeant, Means}
 use Rattle.xg_solve.specs.declared.ending.Ending.{Ending}
 use Rattle.xg_solve.specs.Concludes.{Concludes}
 
 module _ (words : List (List ℕ)) (told : List ℕ → Option (List ℕ)) (files : FilesCall) (out : SinkCall) where
-  pub by_command : (command : Option Command) → command ≡ command_of words → (ending : Ending)
+  pub by_command : (command : Option Command) → command ≡ command_of_words words → (ending : Ending)
       → Concludes (IsMeant command told) files out ending → Concludes (Means words told) files out ending
   by_command command same ending is =
       subst (λ (c : Option Command). Concludes (IsMeant c told) files out ending) same is

@@ -1,11 +1,10 @@
 -- What holds of a command that ends so, whatever the command is. `meant` says which answers are meant by what the files
 -- tell.
-use Rattle.std.specs.Prelude.{List, ℕ, string_bytes}
+use Rattle.std.specs.Prelude.{List, ℕ, Option, IsSomeAnd, string_bytes}
 use Rattle.def_outside.specs.Calls.{FilesCall, SinkCall, MayHaveFailed, HasNoFault, Wrote, WroteFront, IsUntouched}
 use Rattle.def_file.specs.Content.{GameFile}
-use Rattle.def_text.specs.Text.{info_text}
 use Rattle.def_program.specs.Program.{Answer, success, refusal, usage}
-use Rattle.def_program.specs.Meaning.{MeansOnly}
+use Rattle.def_program.specs.Meaning.{FileMeans, MeansOnly}
 use Rattle.def_program.specs.Lines.{IsLine}
 use Rattle.xg_solve.specs.declared.ending.Ending.{Ending}
 use Rattle.xg_solve.specs.declared.ending.Ending.TheVariants.{Done, Refused, Usage, ReadFault, WriteFault, NoMemory}
@@ -52,11 +51,15 @@ Concludes meant files out ReadFault = IsUnread files out
 Concludes meant files out WriteFault = IsCut meant files out
 Concludes meant files out NoMemory = IsUntouched out
 
--- the end of telling of an accepted game: its text was written or cut off, or memory ran out before
-abbrev pub Tells : GameFile → SinkCall → Ending → Type 0
-Tells game out Done = HasNoFault out.faults × Wrote out (info_text game)
-Tells game out WriteFault = MayHaveFailed out.faults × WroteFront out (info_text game)
-Tells game out NoMemory = IsUntouched out
-Tells game out (Refused line) = ⊥
-Tells game out Usage = ⊥
-Tells game out ReadFault = ⊥
+-- what a command that writes this text means of a file's content, where that is told
+abbrev pub FileTold : (GameFile → List ℕ) → Option (List ℕ) → Answer → Type 0
+FileTold text content answer = IsSomeAnd content (λ bytes. FileMeans text bytes answer)
+
+-- the end of a run on an accepted game: the text was written or cut off, or memory ran out before
+abbrev pub Tells : List ℕ → SinkCall → Ending → Type 0
+Tells text out Done = HasNoFault out.faults × Wrote out text
+Tells text out WriteFault = MayHaveFailed out.faults × WroteFront out text
+Tells text out NoMemory = IsUntouched out
+Tells text out (Refused line) = ⊥
+Tells text out Usage = ⊥
+Tells text out ReadFault = ⊥

@@ -1,6 +1,5 @@
-pub mod Words
 pub mod Accepted
-pub mod Unplayed
+pub mod Settings
 pub mod Loads
 pub mod Endings
 pub mod Concludes

@@ -1,18 +1,18 @@
 //! A game that is accepted.
 ghost use Rattle.std.specs.Prelude.{◌≡◌};
-ghost use Rattle.def_text.specs.Text.{game_head, no_rounds};
+ghost use Rattle.def_text.specs.Text.{game_head};
 ghost use Rattle.xg_cert.specs.Outcome.{head_of};
+ghost use Rattle.xg_numbers.specs.Opened.{weighed_game};
 ghost use Rattle.xg_solve.specs.Accepted.{Opens};
+ghost use Rattle.xg_solve.specs.Settings.{settings_of};
 
 use std::alloc::Global;
 use std::marker::Model;
 use xg_cert::Head;
+use xg_engine::Settings;
 use xg_game::{Game, Refused};
 use xg_numbers::Numbers;
 use xg_plan::Player;
-
-/// The greatest scale of a plan.
-const MOST_SCALE: u32 = 1_048_576;
 
 /// A game that is accepted: as its file has it, and in numbers.
 #[derive(Drop)]
@@ -52,9 +52,16 @@ impl Accepted {
         &self.game
     }
 
-    /// The game's numbers, where no rounds are asked, at the greatest scale.
-    pub fn head(&self) -> Head
-        ensures { head_of result ≡ game_head self.now no_rounds }
+    /// The game in numbers.
+    pub fn numbers(&self) -> &Numbers
+        ensures { result.now ≡ weighed_game self.now }
+    {
+        &self.numbers
+    }
+
+    /// The game's numbers, with what is asked.
+    pub fn head(&self, settings: Settings) -> Head
+        ensures { head_of result ≡ game_head self.now (settings_of settings) }
     {
         let form = self.numbers.form();
         Head {
@@ -67,9 +74,9 @@ impl Accepted {
             ),
             unit: self.numbers.unit(),
             mass: self.numbers.mass(),
-            rounds: 0,
-            every: 1,
-            scale: MOST_SCALE,
+            rounds: settings.rounds,
+            every: settings.every,
+            scale: settings.scale,
         }
     }
 }

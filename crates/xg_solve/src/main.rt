@@ -9,18 +9,18 @@ mod ending;
 mod load;
 #[cfg(test)]
 mod main_tests;
+mod playing;
 mod run;
 #[cfg(test)]
 mod tests;
 mod text;
-mod words;
 
 pub use run::run;
 use std::io::ErrorKind;
 use std::process::ExitCode;
 use std::rt::Env;
 use std::{env, io};
-pub use words::Words;
+pub use xg_command::Words;
 use xg_io::{OpenGate, RealFiles, RealSink};
 
 fn main(rt: HostRuntime) -> ExitCode {

@@ -2,44 +2,67 @@
 ghost use Rattle.std.specs.Prelude.{◌≡◌, ◌≢◌, ◌⊎◌, ◌↔◌, ◌≤◌, All, IsNone, IsTrue};
 ghost use Rattle.def_outside.specs.Calls.{HasFailed, MayHaveFailed, Wrote, WroteFront, WroteNothing};
 ghost use Rattle.def_outside.specs.Calls.{files_call, sink_call};
-ghost use Rattle.def_command.specs.Command.{Info, Solve, command_of, named_files};
+ghost use Rattle.def_command.specs.Grammar.{command_of_words, named_files};
+ghost use Rattle.def_program.specs.Program.{solved};
+ghost use Rattle.def_text.specs.Text.{info_text};
+ghost use Rattle.xg_command.specs.Values.{settings_value};
+ghost use Rattle.xg_engine.specs.State.{AreWithinLimits};
+ghost use Rattle.xg_solve.specs.Settings.{settings_of};
 ghost use Rattle.def_program.specs.Lines.{SaysLine};
-ghost use Rattle.def_program.specs.Meaning.{CommandMeans, EachMeant, EndsWith, Means};
-ghost use Rattle.xg_solve.specs.Concludes.{Concludes, Tells};
+ghost use Rattle.def_program.specs.Meaning.{EachMeant, EndsWith, Means};
+ghost use Rattle.xg_solve.specs.Concludes.{Concludes, FileTold, Tells};
 ghost use Rattle.xg_solve.specs.Endings.{status_of};
 ghost use Rattle.xg_solve.specs.Refusal.{IsRefusal, IsUnloaded};
-ghost use Rattle.xg_solve.specs.Written.{IsEndOf};
 
 use crate::accepted::Accepted;
 use crate::ending::Ending;
 use crate::load::{LoadFault, load};
-use crate::text::{fault_line, info_front, write_info, write_solution};
-use crate::words::{Command, Words};
+use crate::playing::{ending_of, play};
+use crate::text::{fault_line, info_front, write_info};
 use std::alloc::Global;
 use std::marker::Sync;
 use std::sync::Wait;
 use std::thread::Threads;
-use xg_io::{Files, Gate, Sink, WriteFault};
+use xg_command::{Command, Settings as WordSettings, Words};
+use xg_engine::Settings;
+use xg_io::{Files, Gate, Sink};
 use xg_read::FileFault;
 
+/// The greatest scale of a plan.
+const MOST_SCALE: u32 = 1_048_576;
+
+/// No rounds, at the greatest scale.
+const NO_ROUNDS: Settings = Settings {
+    rounds: 0,
+    every: 1,
+    scale: MOST_SCALE,
+};
+
 /// Solves the game of a file.
-fn solve<F: Files, O: Sink>(alloc: Global, file: &str, files: &mut F, out: &mut O) -> Ending
-    requires { IsTrue (F.may_open files.old file.now) }
-    ensures concludes { Concludes (CommandMeans (Solve file.now) (F.told files.old))
+fn solve<Rt: Threads + Wait + Sync, F: Files, O: Sink>(
+    rt: &Rt,
+    alloc: Global,
+    file: &str,
+    settings: Settings,
+    files: &mut F,
+    out: &mut O,
+) -> Ending
+    requires may_open { IsTrue (F.may_open files.old file.now) }
+    requires limits { AreWithinLimits settings }
+    ensures concludes { Concludes (FileTold (solved (settings_of settings)) (F.told files.old file.now))
         (files_call F.told F.taken F.faults files.old files.new) (sink_call O.written O.faults out.old out.new) result }
     ensures command { status_of result ≢ 2 }
 {
-    let accepted = match load(alloc, files, file) {
-        Ok(accepted) => accepted,
-        Err(fault) => return unloaded(alloc, fault),
-    };
-    ending_of(write_solution(&accepted, out))
+    match load(alloc, files, file) {
+        Ok(accepted) => play(rt, alloc, &accepted, settings, out),
+        Err(fault) => unloaded(alloc, fault),
+    }
 }
 
 /// Tells of the game of a file.
 fn info<F: Files, O: Sink>(alloc: Global, file: &str, files: &mut F, out: &mut O) -> Ending
     requires { IsTrue (F.may_open files.old file.now) }
-    ensures concludes { Concludes (CommandMeans (Info file.now) (F.told files.old))
+    ensures concludes { Concludes (FileTold info_text (F.told files.old file.now))
         (files_call F.told F.taken F.faults files.old files.new) (sink_call O.written O.faults out.old out.new) result }
     ensures command { status_of result ≢ 2 }
 {
@@ -51,22 +74,12 @@ fn info<F: Files, O: Sink>(alloc: Global, file: &str, files: &mut F, out: &mut O
 
 /// Tells of an accepted game.
 fn tell<O: Sink>(alloc: Global, accepted: &Accepted, out: &mut O) -> Ending
-    ensures { Tells accepted.now (sink_call O.written O.faults out.old out.new) result }
+    ensures { Tells (info_text accepted.now) (sink_call O.written O.faults out.old out.new) result }
 {
     let Ok(front) = info_front(alloc, accepted.game()) else {
         return Ending::NoMemory;
     };
-    ending_of(write_info(&front, &accepted.head(), out))
-}
-
-/// The end of a run whose text was written, or cut off.
-fn ending_of(written: Result<(), WriteFault>) -> Ending
-    ensures { IsEndOf written result }
-{
-    match written {
-        Ok(()) => Ending::Done,
-        Err(_) => Ending::WriteFault,
-    }
+    ending_of(write_info(&front, &accepted.head(NO_ROUNDS), out))
 }
 
 /// The end of a run whose game isn't loaded.
@@ -90,17 +103,41 @@ fn refused(alloc: Global, fault: FileFault) -> Ending
     }
 }
 
+/// The settings of a command, as the engine takes them.
+fn asked(settings: WordSettings) -> Settings
+    ensures { settings_of result ≡ settings_value settings }
+{
+    Settings {
+        rounds: settings.rounds,
+        every: settings.every,
+        scale: settings.scale,
+    }
+}
+
 /// Does what the words say, and says nothing of it.
-fn conclude<F: Files, O: Sink>(alloc: Global, words: &Words, files: &mut F, out: &mut O) -> Ending
+fn conclude<Rt: Threads + Wait + Sync, F: Files, O: Sink>(
+    rt: &Rt,
+    alloc: Global,
+    words: &Words,
+    files: &mut F,
+    out: &mut O,
+) -> Ending
     requires { All (λ file. IsTrue (F.may_open files.old file)) (named_files words.now) }
     ensures concludes { Concludes (Means words.now (F.told files.old))
         (files_call F.told F.taken F.faults files.old files.new) (sink_call O.written O.faults out.old out.new) result }
-    ensures usage { (status_of result ≡ 2) ↔ IsNone (command_of words.now) }
+    ensures usage { (status_of result ≡ 2) ↔ IsNone (command_of_words words.now) }
 {
     match words.command() {
-        Command::Solve { file } => solve(alloc, file, files, out),
-        Command::Info { file } => info(alloc, file, files, out),
-        Command::Unknown => Ending::Usage,
+        Some(Command::Solve { file, settings, .. }) => solve(
+            rt,
+            alloc,
+            file,
+            asked(settings),
+            files,
+            out,
+        ),
+        Some(Command::Info { file }) => info(alloc, file, files, out),
+        None => Ending::Usage,
     }
 }
 
@@ -118,7 +155,7 @@ fn conclude<F: Files, O: Sink>(alloc: Global, words: &Words, files: &mut F, out:
 /// Nothing is written to `out` before the work is over. A fault of `err` changes no status: for 0, 2 and 4 the clauses
 /// show it, and for each status the contract of `Ending::finish`, which alone writes to `err`.
 pub fn run<Rt: Threads + Wait + Sync, F: Files, O: Sink, E: Sink, G: Gate>(
-    _rt: &Rt,
+    rt: &Rt,
     alloc: Global,
     words: &Words,
     files: &mut F,
@@ -131,7 +168,7 @@ pub fn run<Rt: Threads + Wait + Sync, F: Files, O: Sink, E: Sink, G: Gate>(
     ensures range { result ≤ 5 }
 
     // Exactly words that name no command are not taken, whatever fails.
-    ensures words { (result ≡ 2) ↔ IsNone (command_of words.now) }
+    ensures words { (result ≡ 2) ↔ IsNone (command_of_words words.now) }
 
     // A file is refused only where this is meant, and what is meant is answered where nothing failed, memory apart.
     ensures refused { result ≡ 1 → EachMeant (Means words.now (F.told files.old)) (λ answer. answer.status ≡ 1) }
@@ -161,6 +198,6 @@ pub fn run<Rt: Threads + Wait + Sync, F: Files, O: Sink, E: Sink, G: Gate>(
         (sink_call E.written E.faults err.old err.new) }
     ensures silent { result ≡ 0 → err.new ≡ err.old }
 {
-    let ending = conclude(alloc, words, files, out);
+    let ending = conclude(rt, alloc, words, files, out);
     ending.finish(err)
 }

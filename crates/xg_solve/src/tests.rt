@@ -333,6 +333,66 @@ fn texts_and_faults(rt: HostRuntime) -> Result<(), Fail> {
     Ok(())
 }
 
+const ONE_MOVER_SOLVED: &str = r#"XGCERT 1
+nodes 3 leaves 2
+sets 1 0
+sequences 3 1
+unit 1
+mass 1
+rounds 2 every 1 scale 1048576
+trace 1 1 524288 1 1048576
+trace 2 2 1572864 1 1048576
+plan 1 2097152
+weights 1 1572864 524288
+reply 2 1572864
+plan 2 1048576
+reply 1 1048576
+value 1 1048576 1
+bracket 3/4 1
+end
+"#;
+
+const PENNIES_SOLVED: &str = r#"XGCERT 1
+nodes 7 leaves 4
+sets 1 1
+sequences 3 3
+unit 1
+mass 4
+rounds 2 every 1 scale 1
+trace 1 1 -1 1 1
+trace 2 1 -1 2 0
+plan 1 1
+weights 1 0 1
+reply 2 -1
+value 1 -1 1
+plan 2 2
+weights 1 1 1
+reply 1 0
+value 1 0 1
+bracket -1 0
+end
+"#;
+
+#[test]
+fn texts_of_rounds(rt: HostRuntime) -> Result<(), Fail> {
+    let alloc = rt.alloc();
+    let rows: [(&str, &str, &str); 3] = [
+        ("solve game --rounds 2 --every 1", ONE_MOVER, ONE_MOVER_SOLVED),
+        ("solve --every=1 --scale=1 game --rounds=2", PENNIES, PENNIES_SOLVED),
+        ("solve --rounds=0 game", PENNIES, PENNIES_HEAD),
+    ];
+    for (words, game, text) in rows {
+        let mut files = files_with(alloc, game, &[])?;
+        let mut out = sink(alloc, &[])?;
+        let mut err = sink(alloc, &[])?;
+        let status = status(&rt, words, &mut files, &mut out, &mut err)?;
+        assert_eq!(rt; status, 0, "of {words:?}");
+        assert_eq!(rt; out.bytes(), text.as_bytes(), "of {words:?}");
+        assert_eq!(rt; err.bytes().len(), 0, "of {words:?}");
+    }
+    Ok(())
+}
+
 #[test]
 fn what_is_told_of_games(rt: HostRuntime) -> Result<(), Fail> {
     let alloc = rt.alloc();
@@ -368,20 +428,20 @@ fn words_that_name_no_command(rt: HostRuntime) -> Result<(), Fail> {
         "info game game",
         "info game --rounds 0",
         "check game game",
-        "solve game",
         "solve game --rounds",
-        "solve game --rounds 1",
-        "solve game --rounds 00",
-        "solve game --rounds=0",
+        "solve game --rounds=",
         "solve game --rounds 65537",
-        "solve --rounds 0 game",
+        "solve game --every 0",
+        "solve game --scale 1048577",
         "solve -game --rounds 0",
+        "--rounds 0 solve game",
         "Solve game --rounds 0",
-        "solve game --rounds 0 --every 1",
         "solve game --workers 1",
         "solve game --atomic 0",
         "solve game --rounds 1 --rounds 1",
+        "solve game --rounds=1 --rounds 1",
         "solve game game --rounds 0",
+        "solve game -",
         "upgrade game game",
         "plus game",
         "batch game",

@@ -2,55 +2,18 @@
 ghost use Rattle.std.specs.Prelude.{◌≡◌, [], ◌∷◌, ◌++◌, IfOk, OnOk, string_bytes};
 ghost use Rattle.def_outside.specs.Cause.{HasCause};
 ghost use Rattle.def_file_tokens.specs.Texts.{escaped};
-ghost use Rattle.def_cert_text.specs.CertText.{first_text, head_text};
-ghost use Rattle.def_text.specs.Text.{info_front, no_rounds, quoted, solve_text};
+ghost use Rattle.def_cert_text.specs.CertText.{head_text};
+ghost use Rattle.def_text.specs.Text.{info_front, quoted};
 ghost use Rattle.def_text.specs.Lines.{fault_line, node_line, number_fault_name};
 ghost use Rattle.xg_cert.specs.Outcome.{head_of};
 ghost use Rattle.xg_cert.specs.Writes.{Writes};
-ghost use Rattle.xg_solve.specs.Unplayed.{unplayed_end};
 
-use crate::accepted::Accepted;
 use std::alloc::{AllocError, Global};
 use xg_cert::{Head, write_head};
 use xg_game::Game;
 use xg_io::{Sink, WriteFault, write_all};
 use xg_plan::Player;
 use xg_read::{FileFault, NumberFault};
-
-/// Writes the text of a game that is solved in no rounds. After an error a front of it was written.
-pub fn write_solution<O: Sink>(accepted: &Accepted, out: &mut O) -> Result<(), WriteFault>
-    ensures text { Writes (O.written out.old) (O.written out.new) (solve_text accepted.now no_rounds) result }
-    ensures cause { HasCause (O.faults out.old) (O.faults out.new) result }
-{
-    write_unplayed(&accepted.head(), out)
-}
-
-#[tactic(auto, using(xg_cert::proofs::Written::prefix_first, xg_cert::proofs::Written::then_rest))]
-fn write_unplayed<O: Sink>(head: &Head, out: &mut O) -> Result<(), WriteFault>
-    ensures text { Writes (O.written out.old) (O.written out.new)
-        (first_text ++ (head_text (head_of head.now) ++ unplayed_end)) result }
-    ensures cause { HasCause (O.faults out.old) (O.faults out.new) result }
-{
-    write_first(out)?;
-    write_numbers(head, out)
-}
-
-fn write_first<O: Sink>(out: &mut O) -> Result<(), WriteFault>
-    ensures text { Writes (O.written out.old) (O.written out.new) first_text result }
-    ensures cause { HasCause (O.faults out.old) (O.faults out.new) result }
-{
-    write_all(out, b"XGCERT 1\n")
-}
-
-#[tactic(auto, using(xg_cert::proofs::Written::prefix_first, xg_cert::proofs::Written::then_rest))]
-fn write_numbers<O: Sink>(head: &Head, out: &mut O) -> Result<(), WriteFault>
-    ensures text { Writes (O.written out.old) (O.written out.new)
-        (head_text (head_of head.now) ++ unplayed_end) result }
-    ensures cause { HasCause (O.faults out.old) (O.faults out.new) result }
-{
-    write_head(head, out)?;
-    write_all(out, b"rounds 0 every 1 scale 1048576\nend\n")
-}
 
 /// Writes what is told of a game: the lines before its numbers, and these. After an error a front of it was written.
 #[tactic(auto, using(xg_cert::proofs::Written::prefix_first, xg_cert::proofs::Written::then_rest))]

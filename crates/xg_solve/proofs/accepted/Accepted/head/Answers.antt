@@ -3,7 +3,8 @@ use Rattle.def_plan.specs.Form.{SequenceForm, sequence_count}
 use Rattle.def_file.specs.Content.{GameFile}
 use Rattle.def_bracket.specs.Outcome.{Head}
 use Rattle.def_cert_verdict.specs.Laws.{IsHeadOf}
-use Rattle.def_text.specs.Text.{game_head, no_rounds}
+use Rattle.def_text.specs.Text.{game_head}
+use Rattle.xg_solve.specs.Settings.{settings_of}
 use Rattle.xg_solve.proofs.Texts.{head_is}
 use Rattle.xg_solve.proofs.accepted.Accepted.head.Goals as goal
 
@@ -19,9 +20,9 @@ returns c =
       sequences_two = c.sequence_count-2.result;
       unit = c.unit.result;
       mass = c.mass.result;
-      rounds = 0;
-      every = 1;
-      scale = 1048576;
+      rounds = c.args.settings.rounds;
+      every = c.args.settings.every;
+      scale = c.args.settings.scale;
     } in
     let is : IsHeadOf c.self.inside.numbers head = record {
       nodes = c.nodes.ensures;
@@ -30,8 +31,9 @@ returns c =
       sets_two = c.set_count-2.ensures ∙ ap (λ (f : SequenceForm). length f.sets_two) same;
       sequences_one = c.sequence_count.ensures.count ∙ ap (λ (f : SequenceForm). sequence_count f.sets_one) same;
       sequences_two = c.sequence_count-2.ensures.count ∙ ap (λ (f : SequenceForm). sequence_count f.sets_two) same;
-      unit = c.unit.ensures;
+      unit = c.unit.ensures.unit;
       mass_is = c.mass.ensures;
     } in
-    subst (λ (game : GameFile). head ≡ game_head game no_rounds) c.self.view_is
-    (head_is c.self.inside.game c.self.inside.numbers c.self.invariant head is refl refl refl)
+    let settings = settings_of c.args.settings in
+    subst (λ (game : GameFile). head ≡ game_head game settings) c.self.view_is
+    (head_is c.self.inside.game c.self.inside.numbers c.self.invariant settings head is refl refl refl)
