@@ -5,8 +5,8 @@ use Rattle.std.proofs.lemmas.Option.{none-some, same_Some}
 use Rattle.def_sums.specs.Limits.{most_rounds, most_scale}
 use Rattle.def_command.specs.Table as table
 use Rattle.def_command.specs.Table.{CommandName, OptionName, Rounds, Every, Scale, Workers, least_number, most_number, default_number}
-use Rattle.def_command.specs.Grammar.{Settings, Solve, Drill, Argument, Plain, Number, AreSpelled, IsCommand, is_same_option, number_given, settings_of, workers_of}
-use Rattle.def_command.specs.GrammarLaws.{InRange, SettingsAreInRange}
+use Rattle.def_command.specs.Grammar.{Settings, Solve, Gen, Drill, Argument, Plain, Number, AreSpelled, IsCommand, is_same_option, number_given, settings_of, workers_of}
+use Rattle.def_command.specs.GrammarLaws.{CardsAreInRange, CardsInRange, InRange, SettingsAreInRange}
 use Rattle.def_command.proofs.Arguments.{same_option}
 use Rattle.def_command.proofs.CallsAreComputed.{call_told}
 
@@ -112,4 +112,34 @@ settings_in_range = record {
   of_drill = λ words cards settings workers is.
       let call = call_told words (Drill cards settings workers) is in
       drill_in_range call.arguments call.rest call.spelled call.name cards settings workers call.command_is;
+}
+
+gen_cards : (arguments : List Argument) (name : CommandName) (cards : ℕ) → IsCommand name arguments (Gen cards)
+    → CardsInRange cards
+gen_cards arguments table.Gen cards (word, others, alone, number, is) =
+    let same : others ≡ cards = cc in
+    subst CardsInRange same (record { some = number.from; few = number.to })
+gen_cards arguments table.Solve cards (other, alone, is) = absurd cc
+gen_cards arguments table.Check cards (other, certificate, both, is) = absurd cc
+gen_cards arguments table.Info cards (other, alone, is) = absurd cc
+gen_cards arguments table.Drill cards (word, others, alone, number, is) = absurd cc
+
+drill_cards : (arguments : List Argument) (name : CommandName) (cards : ℕ) (settings : Settings) (workers : ℕ)
+    → IsCommand name arguments (Drill cards settings workers) → CardsInRange cards
+drill_cards arguments table.Drill cards settings workers (word, others, alone, number, is) =
+    let same : others ≡ cards = cc in
+    subst CardsInRange same (record { some = number.from; few = number.to })
+drill_cards arguments table.Solve cards settings workers (other, alone, is) = absurd cc
+drill_cards arguments table.Check cards settings workers (other, certificate, both, is) = absurd cc
+drill_cards arguments table.Info cards settings workers (other, alone, is) = absurd cc
+drill_cards arguments table.Gen cards settings workers (word, others, alone, number, is) = absurd cc
+
+-- the cards of each command that is computed
+pub cards_in_range : CardsAreInRange
+cards_in_range = record {
+  of_gen = λ words cards is.
+      let call = call_told words (Gen cards) is in gen_cards call.arguments call.name cards call.command_is;
+  of_drill = λ words cards settings workers is.
+      let call = call_told words (Drill cards settings workers) is in
+      drill_cards call.arguments call.name cards settings workers call.command_is;
 }

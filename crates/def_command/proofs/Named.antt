@@ -56,22 +56,14 @@ option_found word option is =
     let r = found (λ (o : OptionName). is_word word (option_name o)) built_options option is in
     (same_word word (option_name option) r.0, r.1)
 
-among_two : {A : Type 0} (x y z : A) → (x ≡ z → ⊥) → (y ≡ z → ⊥) → Contains (x ∷ y ∷ []) z → ⊥
-among_two x y z first second among = ⊎_elim first (λ rest. ⊎_elim second (contains_none z) (contains_first y z [] rest))
-    (contains_first x z (y ∷ []) among)
-
-among_three : {A : Type 0} (x y z w : A) → (x ≡ w → ⊥) → (y ≡ w → ⊥) → (z ≡ w → ⊥) → Contains (x ∷ y ∷ z ∷ []) w → ⊥
-among_three x y z w first second third among =
-    ⊎_elim first (among_two y z w second third) (contains_first x w (y ∷ z ∷ []) among)
-
 -- a built command is found by its word
 pub command_by_word : (name : CommandName) → Contains built_commands name
     → command_named (command_word name) ≡ Some name
 command_by_word Solve built = refl
 command_by_word Info built = refl
-command_by_word Check built = absurd (among_two Solve Info Check (λ e. cc) (λ e. cc) built)
-command_by_word Gen built = absurd (among_two Solve Info Gen (λ e. cc) (λ e. cc) built)
-command_by_word Drill built = absurd (among_two Solve Info Drill (λ e. cc) (λ e. cc) built)
+command_by_word Check built = refl
+command_by_word Gen built = refl
+command_by_word Drill built = refl
 
 -- a built option is found by its name
 pub option_by_name : (option : OptionName) → Contains built_options option
@@ -79,7 +71,7 @@ pub option_by_name : (option : OptionName) → Contains built_options option
 option_by_name Rounds built = refl
 option_by_name Every built = refl
 option_by_name Scale built = refl
-option_by_name Workers built = absurd (among_three Rounds Every Scale Workers (λ e. cc) (λ e. cc) (λ e. cc) built)
+option_by_name Workers built = refl
 
 -- ---- the parts of an option's word
 -- what begins with an option's name begins with a minus

@@ -1,8 +1,8 @@
 -- Which words are a call, and of which command.
 use Rattle.std.specs.Prelude.{◌≡◌, ◌↔◌, ◌≤◌, List, ℕ, Some}
 use Rattle.def_sums.specs.Limits.{most_rounds, most_scale}
-use Rattle.def_command.specs.Table.{most_workers}
-use Rattle.def_command.specs.Grammar.{Settings, Command, Solve, Drill, command_of_words, IsCall}
+use Rattle.def_command.specs.Table.{least_cards, most_cards, most_workers}
+use Rattle.def_command.specs.Grammar.{Settings, Command, Solve, Gen, Drill, command_of_words, IsCall}
 
 -- the command that is computed is exactly the one that the words are a call of
 abbrev pub CallsAreComputed : Type 0
@@ -29,3 +29,14 @@ pub record SettingsAreInRange : Type 0 where
       → command_of_words words ≡ Some (Solve file settings workers) → InRange settings workers
   pub of_drill : (words : List (List ℕ)) (cards : ℕ) (settings : Settings) (workers : ℕ)
       → command_of_words words ≡ Some (Drill cards settings workers) → InRange settings workers
+
+-- the number of cards is in its range
+pub record CardsInRange (cards : ℕ) : Type 0 where
+  pub some : least_cards ≤ cards
+  pub few : cards ≤ most_cards
+
+-- so it is in each command that is computed
+pub record CardsAreInRange : Type 0 where
+  pub of_gen : (words : List (List ℕ)) (cards : ℕ) → command_of_words words ≡ Some (Gen cards) → CardsInRange cards
+  pub of_drill : (words : List (List ℕ)) (cards : ℕ) (settings : Settings) (workers : ℕ)
+      → command_of_words words ≡ Some (Drill cards settings workers) → CardsInRange cards

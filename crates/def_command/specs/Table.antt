@@ -21,10 +21,10 @@ pub data OptionName : Type 0 where
   Workers : OptionName
 
 abbrev pub built_commands : List CommandName
-built_commands = Solve ∷ Info ∷ []
+built_commands = Solve ∷ Check ∷ Info ∷ Gen ∷ Drill ∷ []
 
 abbrev pub built_options : List OptionName
-built_options = Rounds ∷ Every ∷ Scale ∷ []
+built_options = Rounds ∷ Every ∷ Scale ∷ Workers ∷ []
 
 -- ---- limits
 abbrev pub most_workers : ℕ

@@ -1,7 +1,7 @@
 //! The words that the program is called with, in definitions alone.
 #![tactic(auto)]
 
-ghost use Rattle.def_command.specs.GrammarLaws.{CallsAreComputed, SettingsAreInRange, WordsCallOne};
+ghost use Rattle.def_command.specs.GrammarLaws.{CallsAreComputed, CardsAreInRange, SettingsAreInRange, WordsCallOne};
 ghost use Rattle.def_command.specs.GrammarRows.{RefusedRows, TakenRows};
 
 /// The command that is computed from words is exactly the one that they are a call of.
@@ -17,6 +17,11 @@ pub fn words_call_one()
 /// The settings of a command that is computed, and its number of workers, are in the ranges of their options.
 pub fn settings_are_in_range()
     ensures { SettingsAreInRange }
+{}
+
+/// The number of cards of a command that is computed is in its range.
+pub fn cards_are_in_range()
+    ensures { CardsAreInRange }
 {}
 
 /// Rows: words that are taken, with their command.

@@ -1,2 +1,3 @@
-pub mod Refused
 pub mod Meant
+pub mod Bounds
+pub mod Played

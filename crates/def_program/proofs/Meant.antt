@@ -1,36 +1,30 @@
 -- What the words mean is what the program computes of them.
-use Rattle.std.proofs.Common.{◌≡◌, ℕ, List, [], Option, Some, None, Result, Ok, Err, refl, sym, ◌∙◌, ap, subst, arith}
+use Rattle.std.proofs.Common.{◌≡◌, ℕ, ◌≤◌, Bool, true, false, cond, nat_lt, length, List, [], Option, Some, None, Result, Ok, Err, refl, sym, ◌∙◌, ap, subst, arith}
 use Rattle.std.specs.Prelude.{All, IsSome, IsSomeAnd}
-use Rattle.std.specs.Option.{option_map}
+use Rattle.std.specs.Option.{option_and_then, option_map}
+use Rattle.std.proofs.lemmas.Bool.{ltb-true, ltb-false, lt-ltb, le-ltb}
 use Rattle.def_file.specs.declared.FileFault.{FileFault}
+use Rattle.def_file.specs.declared.FileFault.TheVariants.{TooLong}
 use Rattle.def_file.specs.Content.{GameFile}
-use Rattle.def_file_form.proofs.WholeGames.{stands_for_whole_game}
-use Rattle.def_file_fault.proofs.Stopped.{fault_first}
-use Rattle.def_file_fault.proofs.Reached.{first_faulted}
-use Rattle.def_game_faults.proofs.First.{game_first}
-use Rattle.def_game_faults.proofs.Sound.{sound}
-use Rattle.def_game_numbers.proofs.Fractions.{tables_lowest}
+use Rattle.def_file.specs.Reading.{most_bytes}
 use Rattle.def_command.specs.Grammar.{Check, Command, Drill, Gen, Info, Solve, command_of_words, files_of}
 use Rattle.def_text.specs.Text.{info_text}
-use Rattle.def_program.specs.Program.{Answer, answer_of, command_answer, file_answer, game_answer, program, read_as_accepted, solved, usage}
-use Rattle.def_program.specs.Meaning.{CommandMeans, FileMeans, IsMeant, Means, refused, written}
-use Rattle.def_program.specs.Laws.{AcceptedGamesAreSound, AcceptedWithoutFault, MeaningIsComputed, ReadingIsExact, RefusedWithTheFirst, ToldWordsMeanOne}
-use Rattle.def_program.proofs.Refused.{GameLaws, accepted_sound, accepted_whole, reading_exact, refused_with_first}
+use Rattle.def_text.specs.Lines.{fault_line}
+use Rattle.def_text.specs.CheckLines.{cert_long_line}
+use Rattle.def_file_accepted.specs.Accepting.{read_as_accepted}
+use Rattle.def_file_accepted.proofs.Accepted.{accepted_whole_file, first_refused}
+use Rattle.def_canon.specs.Canon.{canon}
+use Rattle.def_poker.specs.Poker.{poker}
+use Rattle.def_check.specs.Check.{checked, most_cert_bytes}
+use Rattle.def_check.proofs.Checked.{checks_are}
+use Rattle.def_program.specs.Program.{Answer, answer_of, certificate_answer, check_answer, check_told, command_answer, file_answer, game_answer, made_answer, program, refusal, solved, success, usage}
+use Rattle.def_program.specs.Meaning.{CertificateMeans, CheckMeans, CommandMeans, FileMeans, IsMeant, Means, file_too_long, file_within, refused, too_long, within, written}
+use Rattle.def_program.specs.Laws.{MeaningIsComputed, ToldWordsMeanOne}
 
--- the laws of the crates below
-reading_is_exact : ReadingIsExact
-reading_is_exact = reading_exact fault_first first_faulted
-
-game_laws : GameLaws
-game_laws = record { whole = stands_for_whole_game; fractions = tables_lowest; first = game_first; sound = sound }
-
--- a file is refused exactly with its first fault
-pub first_refused : RefusedWithTheFirst
-first_refused = refused_with_first reading_is_exact game_laws
-
--- a file is accepted exactly where it can be read and its game has no fault
-pub accepted_whole_file : AcceptedWithoutFault
-accepted_whole_file = accepted_whole reading_is_exact game_laws
+-- there is an answer
+record Computed (answers : Option Answer) : Type 0 where
+  answer : Answer
+  is : answers ≡ Some answer
 
 -- ---- one file
 
@@ -60,6 +54,89 @@ module _ (text : GameFile → List ℕ) where
       let same : file_answer text bytes ≡ answer = cc in
       subst (λ (a : Answer). FileMeans text bytes a) same (file_meant bytes (read_as_accepted bytes) refl)
 
+-- ---- a check
+
+module _ (file : List ℕ) (short : length file ≤ most_bytes) where
+  certificate_computed : (bytes : List ℕ) (answer : Answer) → CertificateMeans file bytes answer
+      → certificate_answer file bytes ≡ answer
+  certificate_computed bytes answer (too_long h same) = rw (lt-ltb most_cert_bytes (length bytes) h) (sym same)
+  certificate_computed bytes answer (within h found checks same) =
+      rw (le-ltb most_cert_bytes (length bytes) h)
+      (ap check_answer ((checks_are file bytes short found).0 checks) ∙ sym same)
+
+  certificate_meant : (bytes : List ℕ) (answer : Answer) → certificate_answer file bytes ≡ answer
+      → CertificateMeans file bytes answer
+  certificate_meant bytes answer computed = by_length (nat_lt most_cert_bytes (length bytes)) refl computed
+    where
+      by_length : (b : Bool) → nat_lt most_cert_bytes (length bytes) ≡ b
+          → cond b (refusal cert_long_line) (check_answer (checked file bytes)) ≡ answer
+          → CertificateMeans file bytes answer
+      by_length true is computed = too_long (ltb-true most_cert_bytes (length bytes) is) (sym computed)
+      by_length false is computed =
+          within (ltb-false most_cert_bytes (length bytes) is) (checked file bytes)
+          ((checks_are file bytes short (checked file bytes)).1 refl) (sym computed)
+
+  content_checked : (certificate : Option (List ℕ)) (answer : Answer)
+      → IsSomeAnd certificate (λ bytes. CertificateMeans file bytes answer)
+      → option_map (certificate_answer file) certificate ≡ Some answer
+  content_checked None answer means = absurd means
+  content_checked (Some bytes) answer means = ap Some (certificate_computed bytes answer means)
+
+  content_means : (certificate : Option (List ℕ)) (answer : Answer)
+      → option_map (certificate_answer file) certificate ≡ Some answer
+      → IsSomeAnd certificate (λ bytes. CertificateMeans file bytes answer)
+  content_means None answer computed = absurd cc
+  content_means (Some bytes) answer computed = certificate_meant bytes answer (cc)
+
+module _ (file : List ℕ) where
+  -- an answer that is meant of a check is computed
+  pub check_computed : (certificate : Option (List ℕ)) (answer : Answer) → CheckMeans file certificate answer
+      → check_told file certificate ≡ Some answer
+  check_computed certificate answer (file_too_long h same) =
+      rw (lt-ltb most_bytes (length file) h) (ap Some (sym same))
+  check_computed certificate answer (file_within h means) =
+      rw (le-ltb most_bytes (length file) h) (content_checked file h certificate answer means)
+
+  -- what is computed of a check is meant
+  check_meant : (certificate : Option (List ℕ)) (answer : Answer) → check_told file certificate ≡ Some answer
+      → CheckMeans file certificate answer
+  check_meant certificate answer computed = by_length (nat_lt most_bytes (length file)) refl computed
+    where
+      by_length : (b : Bool) → nat_lt most_bytes (length file) ≡ b
+          → cond b (Some (refusal (fault_line TooLong))) (option_map (certificate_answer file) certificate) ≡ Some answer
+          → CheckMeans file certificate answer
+      by_length true is computed = file_too_long (ltb-true most_bytes (length file) is) cc
+      by_length false is computed =
+          let h = ltb-false most_bytes (length file) is in
+          file_within h (content_means file h certificate answer computed)
+
+  check_answered : (certificate : Option (List ℕ)) → IsSome certificate → Computed (check_told file certificate)
+  check_answered None is_told = absurd cc
+  check_answered (Some bytes) is_told = by_length (nat_lt most_bytes (length file))
+    where
+      by_length : (b : Bool)
+          → Computed (cond b (Some (refusal (fault_line TooLong))) (option_map (certificate_answer file) (Some bytes)))
+      by_length true = record { answer = refusal (fault_line TooLong); is = refl }
+      by_length false = record { answer = certificate_answer file bytes; is = refl }
+
+module _ (certificate : Option (List ℕ)) where
+  both_computed : (file : Option (List ℕ)) (answer : Answer)
+      → IsSomeAnd file (λ bytes. CheckMeans bytes certificate answer)
+      → option_and_then (λ bytes. check_told bytes certificate) file ≡ Some answer
+  both_computed None answer means = absurd means
+  both_computed (Some bytes) answer means = check_computed bytes certificate answer means
+
+  both_meant : (file : Option (List ℕ)) (answer : Answer)
+      → option_and_then (λ bytes. check_told bytes certificate) file ≡ Some answer
+      → IsSomeAnd file (λ bytes. CheckMeans bytes certificate answer)
+  both_meant None answer computed = absurd cc
+  both_meant (Some bytes) answer computed = check_meant bytes certificate answer computed
+
+  both_answered : (file : Option (List ℕ)) → IsSome file → IsSome certificate
+      → Computed (option_and_then (λ bytes. check_told bytes certificate) file)
+  both_answered None is_told other = absurd cc
+  both_answered (Some bytes) is_told other = check_answered bytes certificate other
+
 -- ---- commands
 
 command_computed : (command : Command) (told : List ℕ → Option (List ℕ)) (answer : Answer)
@@ -67,7 +144,8 @@ command_computed : (command : Command) (told : List ℕ → Option (List ℕ)) (
 command_computed (Solve file settings workers) told answer means =
     content_computed (solved settings) (told file) answer means
 command_computed (Info file) told answer means = content_computed info_text (told file) answer means
-command_computed (Check file certificate) told answer means = ap Some (sym means)
+command_computed (Check file certificate) told answer means =
+    both_computed (told certificate) (told file) answer means
 command_computed (Gen cards) told answer means = ap Some (sym means)
 command_computed (Drill cards settings workers) told answer means = ap Some (sym means)
 
@@ -76,7 +154,8 @@ command_meant : (command : Command) (told : List ℕ → Option (List ℕ)) (ans
 command_meant (Solve file settings workers) told answer computed =
     content_meant (solved settings) (told file) answer computed
 command_meant (Info file) told answer computed = content_meant info_text (told file) answer computed
-command_meant (Check file certificate) told answer computed = cc
+command_meant (Check file certificate) told answer computed =
+    both_meant (told certificate) (told file) answer computed
 command_meant (Gen cards) told answer computed = cc
 command_meant (Drill cards settings workers) told answer computed = cc
 
@@ -95,11 +174,6 @@ meaning_computed words told answer = by_command (command_of_words words)
 injective : (a b : Answer) → Some a ≡ Some b → a ≡ b
 injective a b same = cc
 
--- there is an answer
-record Computed (answers : Option Answer) : Type 0 where
-  answer : Answer
-  is : answers ≡ Some answer
-
 content_answered : (text : GameFile → List ℕ) (content : Option (List ℕ)) → IsSome content
     → Computed (option_map (file_answer text) content)
 content_answered text None is_told = absurd cc
@@ -110,9 +184,11 @@ told_computed : (command : Option Command) (told : List ℕ → Option (List ℕ
 told_computed None told are_told = record { answer = usage; is = refl }
 told_computed (Some (Solve file settings workers)) told are_told =
     content_answered (solved settings) (told file) (are_told 0 [] (omega arith))
-told_computed (Some (Check file certificate)) told are_told = record { answer = usage; is = refl }
-told_computed (Some (Gen cards)) told are_told = record { answer = usage; is = refl }
-told_computed (Some (Drill cards settings workers)) told are_told = record { answer = usage; is = refl }
+told_computed (Some (Check file certificate)) told are_told =
+    both_answered (told certificate) (told file) (are_told 0 [] (omega arith)) (are_told 1 [] (omega arith))
+told_computed (Some (Gen cards)) told are_told = record { answer = success (canon (poker cards)); is = refl }
+told_computed (Some (Drill cards settings workers)) told are_told =
+    record { answer = made_answer (solved settings) (poker cards); is = refl }
 told_computed (Some (Info file)) told are_told = content_answered info_text (told file) (are_told 0 [] (omega arith))
 
 -- words whose files are told mean one answer, and no other one
@@ -128,11 +204,3 @@ told_means_one words told are_told = record {
 
     only : (other : Answer) → Means words told other → other ≡ found.answer
     only other means = injective other found.answer (sym ((meaning_computed words told other).0 means) ∙ found.is)
-
--- an accepted file's game is sound
-pub accepted_games_sound : AcceptedGamesAreSound
-accepted_games_sound = accepted_sound reading_is_exact game_laws
-
--- reading is exact
-pub reading_is : ReadingIsExact
-reading_is = reading_is_exact

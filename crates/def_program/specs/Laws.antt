@@ -1,31 +1,12 @@
--- A file is refused exactly with its first fault, and accepted exactly where it has a reading without a fault. What
--- words mean in the format's terms is what the program computes, and where their files are told, they mean one answer.
-use Rattle.std.specs.Prelude.{◌≡◌, ◌↔◌, ℕ, List, Option, Some, Ok, Err}
-use Rattle.def_file.specs.declared.FileFault.{FileFault}
+-- What words mean in the format's terms is what the program computes, and where their files are told, they mean one
+-- answer. The bounds that are printed of a game that was played hold.
+use Rattle.std.specs.Prelude.{◌≡◌, ◌↔◌, ℕ, ◌≤◌, List, Option, Some}
 use Rattle.def_file.specs.Content.{GameFile}
-use Rattle.def_game_faults.specs.Laws.{IsSound}
-use Rattle.def_game_numbers.specs.Numbers.{tables_of}
-use Rattle.def_program.specs.Program.{Answer, read_as_accepted, read_as_game, program}
-use Rattle.def_program.specs.FirstFault.{IsFirstFault, IsFirstOfText}
-use Rattle.def_program.specs.Meaning.{IsAccepted, IsReadable, Means, MeansOnly, FilesAreTold}
-
--- a file can't be read exactly where its length or its text has a fault, and that is the first
-pub record ReadingIsExact : Type 0 where
-  pub refused : (bytes : List ℕ) (fault : FileFault) → (read_as_game bytes ≡ Err fault) ↔ IsFirstOfText bytes fault
-  pub read : (bytes : List ℕ) (game : GameFile) → (read_as_game bytes ≡ Ok game) ↔ IsReadable bytes game
-
-abbrev pub RefusedWithTheFirst : Type 0
-RefusedWithTheFirst = (bytes : List ℕ) (fault : FileFault)
-    → (read_as_accepted bytes ≡ Err fault) ↔ IsFirstFault bytes fault
-
-abbrev pub AcceptedWithoutFault : Type 0
-AcceptedWithoutFault = (bytes : List ℕ) (game : GameFile)
-    → (read_as_accepted bytes ≡ Ok game) ↔ IsAccepted bytes game
-
--- of an accepted file's game chance plays by probabilities, one player gets what the other pays, the unit and the mass
--- are within the limit, and all remember their choices
-abbrev pub AcceptedGamesAreSound : Type 0
-AcceptedGamesAreSound = (bytes : List ℕ) (game : GameFile) → IsAccepted bytes game → IsSound (tables_of game) game.tree
+use Rattle.def_command.specs.Grammar.{Settings}
+use Rattle.def_file_accepted.specs.Accepted.{IsAccepted}
+use Rattle.def_program.specs.Program.{Answer, program}
+use Rattle.def_program.specs.Meaning.{Means, MeansOnly, FilesAreTold}
+use Rattle.def_program.specs.Bounds.{HasItsBounds}
 
 abbrev pub MeaningIsComputed : Type 0
 MeaningIsComputed = (words : List (List ℕ)) (told : List ℕ → Option (List ℕ)) (answer : Answer)
@@ -40,3 +21,8 @@ pub record MeansOne (words : List (List ℕ)) (told : List ℕ → Option (List 
 abbrev pub ToldWordsMeanOne : Type 0
 ToldWordsMeanOne = (words : List (List ℕ)) (told : List ℕ → Option (List ℕ)) → FilesAreTold words told
     → MeansOne words told
+
+-- of an accepted file's game, after at least one round at any scale from 1
+abbrev pub PlayedGamesHaveTheirBounds : Type 0
+PlayedGamesHaveTheirBounds = (bytes : List ℕ) (game : GameFile) (settings : Settings) → IsAccepted bytes game
+    → 1 ≤ settings.rounds → 1 ≤ settings.scale → HasItsBounds game settings

@@ -1,5 +1,5 @@
 pub mod Program
-pub mod FirstFault
 pub mod Meaning
 pub mod Lines
+pub mod Bounds
 pub mod Laws

@@ -1,31 +1,24 @@
 -- What the words mean by the bytes that the files tell, in the format's own words. Where a file that an answer rests on
 -- isn't told, that answer isn't meant.
---     IsAccepted bytes game          a file of these bytes is accepted, and stands for the game
 --     CommandMeans command told a    the command means this answer, by cases of the command
 --     Means words told a             the words mean it
-use Rattle.std.specs.Prelude.{◌≡◌, ◌⊎◌, ℕ, ◌≤◌, List, length, All, Option, Some, None, IsSome, IsSomeAnd}
+use Rattle.std.specs.Prelude.{◌≡◌, ◌⊎◌, ℕ, ◌<◌, ◌≤◌, List, length, All, Option, Some, None, IsSome, IsSomeAnd, Result}
 use Rattle.def_file.specs.declared.FileFault.{FileFault}
 use Rattle.def_file.specs.Content.{GameFile}
+use Rattle.def_file.specs.declared.FileFault.TheVariants.{TooLong}
 use Rattle.def_file.specs.Reading.{most_bytes}
-use Rattle.def_file_form.specs.Laws.{StandsFor}
-use Rattle.def_game_paths.specs.Recall.{HasPerfectRecall}
-use Rattle.def_game_faults.specs.First.{PassNumbers}
-use Rattle.def_game_numbers.specs.Numbers.{tables_of}
+use Rattle.def_cert_verdict.specs.Verdict.{Verdict}
+use Rattle.def_canon.specs.Canon.{canon}
+use Rattle.def_poker.specs.Poker.{poker}
+use Rattle.def_check.specs.Check.{Refusal, most_cert_bytes}
+use Rattle.def_check.specs.Checking.{Checks}
+use Rattle.def_file_accepted.specs.Accepted.{IsAccepted}
 use Rattle.def_command.specs.Grammar.{Check, Command, Drill, Gen, Info, Solve, command_of_words, named_files}
 use Rattle.def_text.specs.Text.{info_text}
 use Rattle.def_text.specs.Lines.{fault_line}
-use Rattle.def_program.specs.Program.{Answer, refusal, solved, success, usage}
-use Rattle.def_program.specs.FirstFault.{IsFirstFault}
-
--- a file that can be read
-pub record IsReadable (bytes : List ℕ) (game : GameFile) : Type 0 where
-  pub length_within : length bytes ≤ most_bytes
-  pub stands : StandsFor bytes game
-
-pub record IsAccepted (bytes : List ℕ) (game : GameFile) : Type 0 where
-  pub readable : IsReadable bytes game
-  pub numbers : PassNumbers (tables_of game) game.tree
-  pub recall : HasPerfectRecall game.tree
+use Rattle.def_text.specs.CheckLines.{cert_long_line}
+use Rattle.def_program.specs.Program.{Answer, check_answer, made_answer, refusal, solved, success, usage}
+use Rattle.def_file_accepted.specs.FirstFault.{IsFirstFault}
 
 -- a command that writes this text of the game of a file of these bytes: the text, or the line of the file's first fault
 pub data FileMeans (text : GameFile → List ℕ) (bytes : List ℕ) (answer : Answer) : Type 0 where
@@ -33,14 +26,27 @@ pub data FileMeans (text : GameFile → List ℕ) (bytes : List ℕ) (answer : A
   refused : (fault : FileFault) → IsFirstFault bytes fault → answer ≡ refusal (fault_line fault)
       → FileMeans text bytes answer
 
--- no words name the commands that aren't built yet
+-- a certificate that is too long, or what was found of both files and is said of it
+pub data CertificateMeans (file certificate : List ℕ) (answer : Answer) : Type 0 where
+  too_long : most_cert_bytes < length certificate → answer ≡ refusal cert_long_line
+      → CertificateMeans file certificate answer
+  within : length certificate ≤ most_cert_bytes → (found : Result Verdict Refusal) → Checks file certificate found
+      → answer ≡ check_answer found → CertificateMeans file certificate answer
+
+-- a check of a file of these bytes: one that is too long is refused, whatever the certificate
+pub data CheckMeans (file : List ℕ) (certificate : Option (List ℕ)) (answer : Answer) : Type 0 where
+  file_too_long : most_bytes < length file → answer ≡ refusal (fault_line TooLong) → CheckMeans file certificate answer
+  file_within : length file ≤ most_bytes → IsSomeAnd certificate (λ bytes. CertificateMeans file bytes answer)
+      → CheckMeans file certificate answer
+
 abbrev pub CommandMeans : Command → (List ℕ → Option (List ℕ)) → Answer → Type 0
 CommandMeans (Solve file settings workers) told answer =
     IsSomeAnd (told file) (λ bytes. FileMeans (solved settings) bytes answer)
 CommandMeans (Info file) told answer = IsSomeAnd (told file) (λ bytes. FileMeans info_text bytes answer)
-CommandMeans (Check file certificate) told answer = answer ≡ usage
-CommandMeans (Gen cards) told answer = answer ≡ usage
-CommandMeans (Drill cards settings workers) told answer = answer ≡ usage
+CommandMeans (Check file certificate) told answer =
+    IsSomeAnd (told file) (λ bytes. CheckMeans bytes (told certificate) answer)
+CommandMeans (Gen cards) told answer = answer ≡ success (canon (poker cards))
+CommandMeans (Drill cards settings workers) told answer = answer ≡ made_answer (solved settings) (poker cards)
 
 -- words that aren't taken mean the usage
 abbrev pub IsMeant : Option Command → (List ℕ → Option (List ℕ)) → Answer → Type 0

@@ -1,34 +1,22 @@
 -- The program as a function of the words and of what the files hold.
---     read_as_game bytes       the game of a file that can be read, or the first fault of its text
---     read_as_accepted bytes   the game of a file that is accepted, or its first fault
 --     Answer                   the status, what is written, and the line that says why there is nothing
 --     program words told       the answer, where the bytes of the files that it rests on are told
 use Rattle.std.specs.Prelude.{ℕ, nat_lt, if◌then◌else◌, List, [], length, Option, Some, None, Result, Ok, Err}
-use Rattle.std.specs.Option.{option_map}
+use Rattle.std.specs.Option.{option_and_then, option_map}
 use Rattle.def_file.specs.declared.FileFault.{FileFault}
 use Rattle.def_file.specs.declared.FileFault.TheVariants.{TooLong}
 use Rattle.def_file.specs.Content.{GameFile}
-use Rattle.def_file.specs.Reading.{game_at, most_bytes}
+use Rattle.def_file.specs.Reading.{most_bytes}
+use Rattle.def_cert_verdict.specs.Verdict.{Verdict}
 use Rattle.def_game_numbers.specs.Numbers.{game_file_fault}
+use Rattle.def_canon.specs.Canon.{canon}
+use Rattle.def_poker.specs.Poker.{poker}
+use Rattle.def_file_accepted.specs.Accepting.{read_as_accepted, unless_faulty}
+use Rattle.def_check.specs.Check.{Refusal, checked, most_cert_bytes}
 use Rattle.def_command.specs.Grammar.{Check, Command, Drill, Gen, Info, Settings, Solve, command_of_words}
 use Rattle.def_text.specs.Text.{info_text, solve_text}
 use Rattle.def_text.specs.Lines.{fault_line, usage_line}
-
-unfoldable pub read_as_game : List ℕ → Result GameFile FileFault
-read_as_game bytes = if nat_lt most_bytes (length bytes) then Err TooLong else game_at bytes
-
--- the game, unless it has this fault
-abbrev pub unless_faulty : Option FileFault → GameFile → Result GameFile FileFault
-unless_faulty None game = Ok game
-unless_faulty (Some fault) game = Err fault
-
--- what was read is accepted unless its game has a fault
-abbrev pub accepted : Result GameFile FileFault → Result GameFile FileFault
-accepted (Ok game) = unless_faulty (game_file_fault game) game
-accepted (Err fault) = Err fault
-
-abbrev pub read_as_accepted : List ℕ → Result GameFile FileFault
-read_as_accepted bytes = accepted (read_as_game bytes)
+use Rattle.def_text.specs.CheckLines.{cert_long_line, refusal_line, verdict_text}
 
 pub record Answer : Type 0 where
   pub status : ℕ
@@ -58,13 +46,31 @@ file_answer text bytes = game_answer text (read_as_accepted bytes)
 abbrev pub solved : Settings → GameFile → List ℕ
 solved settings game = solve_text game settings
 
--- no words name the commands that aren't built yet
+-- what is said of a check
+abbrev pub check_answer : Result Verdict Refusal → Answer
+check_answer (Ok shown) = success (verdict_text shown)
+check_answer (Err why) = refusal (refusal_line why)
+
+-- where the certificate is too long, that counts before all else that the file's bytes say
+abbrev pub certificate_answer : List ℕ → List ℕ → Answer
+certificate_answer file certificate = if nat_lt most_cert_bytes (length certificate)
+    then refusal cert_long_line else check_answer (checked file certificate)
+
+-- of a file that is too long nothing else is asked, and its certificate isn't opened
+abbrev pub check_told : List ℕ → Option (List ℕ) → Option Answer
+check_told file certificate = if nat_lt most_bytes (length file) then Some (refusal (fault_line TooLong))
+    else option_map (certificate_answer file) certificate
+
+-- what is written of a game that isn't read from a file, unless it has a fault
+abbrev pub made_answer : (GameFile → List ℕ) → GameFile → Answer
+made_answer text game = game_answer text (unless_faulty (game_file_fault game) game)
+
 abbrev pub command_answer : Command → (List ℕ → Option (List ℕ)) → Option Answer
 command_answer (Solve file settings workers) told = option_map (file_answer (solved settings)) (told file)
 command_answer (Info file) told = option_map (file_answer info_text) (told file)
-command_answer (Check file certificate) told = Some usage
-command_answer (Gen cards) told = Some usage
-command_answer (Drill cards settings workers) told = Some usage
+command_answer (Check file certificate) told = option_and_then (λ bytes. check_told bytes (told certificate)) (told file)
+command_answer (Gen cards) told = Some (success (canon (poker cards)))
+command_answer (Drill cards settings workers) told = Some (made_answer (solved settings) (poker cards))
 
 abbrev pub answer_of : Option Command → (List ℕ → Option (List ℕ)) → Option Answer
 answer_of None told = Some usage

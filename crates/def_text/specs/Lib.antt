@@ -1,4 +1,5 @@
 pub mod Text
 pub mod Lines
+pub mod CheckLines
 pub mod Rows
 pub mod Laws

@@ -2,7 +2,7 @@
 #![tactic(auto)]
 
 ghost use Rattle.def_text.specs.Laws.{LinesTellFaults};
-ghost use Rattle.def_text.specs.Rows.{FaultLineRows, LeafRows};
+ghost use Rattle.def_text.specs.Rows.{CheckLineRows, FaultLineRows, LeafRows};
 
 /// Rows: the texts of a game of one leaf.
 pub fn leaf_rows()
@@ -12,6 +12,11 @@ pub fn leaf_rows()
 /// Rows: the lines of five faults, with their numbers, names and places.
 pub fn fault_line_rows()
     ensures { FaultLineRows }
+{}
+
+/// Rows: what a check says of what is accepted, and the lines of the faults of a certificate.
+pub fn check_line_rows()
+    ensures { CheckLineRows }
 {}
 
 /// Two faults whose numbers have at most 64 bits and whose lines are the same are the same fault.

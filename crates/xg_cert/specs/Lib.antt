@@ -1,3 +1,6 @@
 pub mod Outcome
 pub mod Writes
 pub mod Writable
+pub mod Printed
+pub mod ReadCert
+pub mod Answers

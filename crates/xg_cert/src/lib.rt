@@ -1,18 +1,30 @@
 #![tactic(auto)]
-//! The certificate of a run: what a run leaves, and its text.
+//! The certificate of a run: what a run leaves, its text, and what a text says.
 
+mod cert;
 mod cert_lines;
 mod fields;
 mod head;
 mod lines;
 mod lists;
 mod outcome;
+mod printed;
+mod read_lines;
+mod read_lists;
+mod reading;
+mod refused;
 mod writing;
 
+pub use cert::Cert;
+pub use def_cert_text::CertFault;
 pub use head::Head;
 pub use lines::write_head;
 pub use outcome::{End, Outcome, TraceRow};
+pub use reading::read_cert;
+pub use refused::CertRefused;
 pub use writing::write_cert;
 
+#[cfg(test)]
+mod read_tests;
 #[cfg(test)]
 mod tests;

@@ -1,2 +1,3 @@
 pub mod Names
+pub mod Plain
 pub mod Values

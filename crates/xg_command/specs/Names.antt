@@ -1,15 +1,19 @@
 -- The commands and the options, as the grammar has them.
 use Rattle.def_command.specs.Table as table
 use Rattle.xg_command.specs.declared.names.CommandName.{CommandName}
-use Rattle.xg_command.specs.declared.names.CommandName.TheVariants.{Solve, Info}
+use Rattle.xg_command.specs.declared.names.CommandName.TheVariants.{Solve, Check, Info, Gen, Drill}
 use Rattle.xg_command.specs.declared.names.OptionName.{OptionName}
-use Rattle.xg_command.specs.declared.names.OptionName.TheVariants.{Rounds, Every, Scale}
+use Rattle.xg_command.specs.declared.names.OptionName.TheVariants.{Rounds, Every, Scale, Workers}
 
 abbrev pub name_value : CommandName → table.CommandName
 name_value Solve = table.Solve
+name_value Check = table.Check
 name_value Info = table.Info
+name_value Gen = table.Gen
+name_value Drill = table.Drill
 
 abbrev pub option_value : OptionName → table.OptionName
 option_value Rounds = table.Rounds
 option_value Every = table.Every
 option_value Scale = table.Scale
+option_value Workers = table.Workers

@@ -14,46 +14,86 @@ fn numbered<'a>(alloc: Global, name: &'a str, least: i64, most: i64) -> Arg<'a> 
         .value_parser(value_parser!(u32).range(least..=most))
 }
 
-fn command_with_file<'a>(alloc: Global, name: &'a str) -> Result<clap::Command<'a>, AllocError> {
-    let file = Arg::new(alloc, "FILE")
-        .action(ArgAction::Set)
-        .required(true);
+fn plain<'a>(alloc: Global, name: &'a str) -> Arg<'a> {
+    Arg::new(alloc, name).action(ArgAction::Set).required(true)
+}
+
+fn command_with<'a>(
+    alloc: Global,
+    name: &'a str,
+    word: Arg<'a>,
+) -> Result<clap::Command<'a>, AllocError> {
     clap::Command::new(alloc, name)
         .disable_help_flag(true)
-        .arg(file)
+        .arg(word)
+}
+
+fn command_with_options<'a>(
+    alloc: Global,
+    name: &'a str,
+    word: Arg<'a>,
+) -> Result<clap::Command<'a>, AllocError> {
+    command_with(alloc, name, word)?
+        .arg(numbered(alloc, "rounds", 0, 65_536))?
+        .arg(numbered(alloc, "every", 1, 65_536))?
+        .arg(numbered(alloc, "scale", 1, 1_048_576))?
+        .arg(numbered(alloc, "workers", 1, 64))
+}
+
+fn cards<'a>(alloc: Global) -> Arg<'a> {
+    plain(alloc, "N").value_parser(value_parser!(u32).range(2..=64))
 }
 
 fn program<'a>(alloc: Global) -> Result<clap::Command<'a>, AllocError> {
-    let solve = command_with_file(alloc, "solve")?
-        .arg(numbered(alloc, "rounds", 0, 65_536))?
-        .arg(numbered(alloc, "every", 1, 65_536))?
-        .arg(numbered(alloc, "scale", 1, 1_048_576))?;
-    let info = command_with_file(alloc, "info")?;
+    let solve = command_with_options(alloc, "solve", plain(alloc, "FILE"))?;
+    let check = command_with(alloc, "check", plain(alloc, "FILE"))?.arg(plain(alloc, "CERT"))?;
+    let info = command_with(alloc, "info", plain(alloc, "FILE"))?;
+    let gen_cards = command_with(alloc, "gen", cards(alloc))?;
+    let drill = command_with_options(alloc, "drill", cards(alloc))?;
     clap::Command::new(alloc, "xg_solve")
         .disable_help_flag(true)
         .disable_help_subcommand(true)
         .subcommand_required(true)
         .subcommand(solve)?
-        .subcommand(info)
+        .subcommand(check)?
+        .subcommand(info)?
+        .subcommand(gen_cards)?
+        .subcommand(drill)
+}
+
+fn settings_of<'a>(given: &ArgMatches<'a>) -> Settings {
+    let rounds = given.get_one::<u32>("rounds").unwrap_or(1000);
+    Settings {
+        rounds,
+        every: given.get_one::<u32>("every").unwrap_or(rounds.max(1)),
+        scale: given.get_one::<u32>("scale").unwrap_or(1_048_576),
+    }
 }
 
 fn command_of<'a>(matches: &ArgMatches<'a>) -> Option<Command<'a>> {
     let (name, given) = matches.subcommand()?;
-    let file = given.get_str("FILE")?;
-    if name == "info" {
-        return Some(Command::Info { file });
+    match name {
+        "solve" => Some(Command::Solve {
+            file: given.get_str("FILE")?,
+            settings: settings_of(given),
+            workers: given.get_one::<u32>("workers").unwrap_or(4),
+        }),
+        "check" => Some(Command::Check {
+            file: given.get_str("FILE")?,
+            certificate: given.get_str("CERT")?,
+        }),
+        "info" => Some(Command::Info {
+            file: given.get_str("FILE")?,
+        }),
+        "gen" => Some(Command::Gen {
+            cards: given.get_one::<u32>("N")?,
+        }),
+        _ => Some(Command::Drill {
+            cards: given.get_one::<u32>("N")?,
+            settings: settings_of(given),
+            workers: given.get_one::<u32>("workers").unwrap_or(4),
+        }),
     }
-    let rounds = given.get_one::<u32>("rounds").unwrap_or(1000);
-    let settings = Settings {
-        rounds,
-        every: given.get_one::<u32>("every").unwrap_or(rounds.max(1)),
-        scale: given.get_one::<u32>("scale").unwrap_or(1_048_576),
-    };
-    Some(Command::Solve {
-        file,
-        settings,
-        workers: 4,
-    })
 }
 
 // The words have the program's name first.
@@ -81,7 +121,7 @@ fn agree(rt: &impl Abort, alloc: Global, row: &str) -> Result<bool, Fail> {
 }
 
 const BEHIND: &str = "F1||0|007|65537|--rounds|--rounds=7|--rounds=65537|\
-    --rounds=|--every|--every=0|--every=65536|--scale=1048577|--scale=1|--round|-x";
+    --rounds=|--every|--every=0|--every=65536|--workers=65|--workers=2|--scale=1|--round|-x";
 
 // How many rows are taken that are this one with each word behind it.
 fn count_taken(rt: &impl Abort, alloc: Global, front: &str) -> Result<u32, Fail> {
@@ -113,11 +153,13 @@ fn agrees_with_clap(rt: HostRuntime) -> Result<(), Fail> {
         let row = format!(in alloc; "solve|{word}")?;
         taken = taken.saturating_add(count_taken_by_two(&rt, alloc, row.as_str())?);
     }
-    assert_eq!(rt; taken, 120);
+    assert_eq!(rt; taken, 210);
     for (front, one, two) in [
-        ("solve", 5, 30),
+        ("solve", 5, 40),
         ("info", 5, 0),
-        ("gen", 0, 0),
+        ("gen", 1, 0),
+        ("check", 0, 25),
+        ("drill", 1, 8),
         ("--rounds=1", 0, 0),
         ("", 0, 0),
     ] {

@@ -20,8 +20,23 @@ pub enum Command<'a> {
         settings: Settings,
         workers: u32,
     },
+    /// A certificate is checked against the game of a file.
+    Check {
+        file: &'a str,
+        certificate: &'a str,
+    },
     /// What a file's game is like is told.
     Info {
         file: &'a str,
+    },
+    /// One-card poker with 2 to 64 cards is written as a file.
+    Gen {
+        cards: u32,
+    },
+    /// One-card poker with 2 to 64 cards is solved, by 1 to 64 workers.
+    Drill {
+        cards: u32,
+        settings: Settings,
+        workers: u32,
     },
 }

@@ -4,6 +4,7 @@
 mod command;
 mod names;
 mod options;
+mod plain;
 mod reading;
 mod words;
 

@@ -1,6 +1,6 @@
 //! The commands and the options by their names.
-ghost use Rattle.std.specs.Prelude.{◌≡◌, option_map};
-ghost use Rattle.def_command.specs.Table.{takes, least_number, most_number};
+ghost use Rattle.std.specs.Prelude.{◌≡◌, option_map, if◌then◌else◌};
+ghost use Rattle.def_command.specs.Table.{plain_count, takes, least_number, most_number};
 ghost use Rattle.def_command.specs.Grammar.{command_named, option_named};
 ghost use Rattle.xg_command.specs.Names.{name_value, option_value};
 
@@ -10,11 +10,23 @@ const MOST_ROUNDS: u32 = 65_536;
 /// The greatest scale, which is taken where none is given.
 pub(crate) const MOST_SCALE: u32 = 1_048_576;
 
+/// The greatest number of workers.
+const MOST_WORKERS: u32 = 64;
+
+/// The fewest cards of one-card poker.
+pub(crate) const LEAST_CARDS: u32 = 2;
+
+/// The most cards of one-card poker.
+pub(crate) const MOST_CARDS: u32 = 64;
+
 /// A command by its word.
 #[derive(Clone, Copy, Debug, PartialEq, Eq)]
 pub(crate) enum CommandName {
     Solve,
+    Check,
     Info,
+    Gen,
+    Drill,
 }
 
 /// An option by its name.
@@ -23,6 +35,7 @@ pub(crate) enum OptionName {
     Rounds,
     Every,
     Scale,
+    Workers,
 }
 
 impl CommandName {
@@ -31,24 +44,26 @@ impl CommandName {
     {
         match word {
             "solve" => Some(CommandName::Solve),
+            "check" => Some(CommandName::Check),
             "info" => Some(CommandName::Info),
+            "gen" => Some(CommandName::Gen),
+            "drill" => Some(CommandName::Drill),
             _ => None,
         }
     }
 
-    /// Whether the command has this option.
-    pub(crate) fn takes(self, option: OptionName) -> bool
-        ensures { result ≡ takes (name_value self) (option_value option) }
+    /// Whether the command has two plain words, and not one.
+    pub(crate) fn has_two_words(self) -> bool
+        ensures { plain_count (name_value self) ≡ (if result then 2 else 1) }
     {
-        match self {
-            CommandName::Solve => {
-                matches!(
-                    option,
-                    OptionName::Rounds | OptionName::Every | OptionName::Scale
-                )
-            }
-            CommandName::Info => false,
-        }
+        matches!(self, CommandName::Check)
+    }
+
+    /// Whether the command has this option: it has all or none.
+    pub(crate) fn takes(self, _option: OptionName) -> bool
+        ensures { result ≡ takes (name_value self) (option_value _option) }
+    {
+        matches!(self, CommandName::Solve | CommandName::Drill)
     }
 }
 
@@ -60,6 +75,7 @@ impl OptionName {
             "--rounds" => Some(OptionName::Rounds),
             "--every" => Some(OptionName::Every),
             "--scale" => Some(OptionName::Scale),
+            "--workers" => Some(OptionName::Workers),
             _ => None,
         }
     }
@@ -70,7 +86,7 @@ impl OptionName {
     {
         match self {
             OptionName::Rounds => 0,
-            OptionName::Every | OptionName::Scale => 1,
+            OptionName::Every | OptionName::Scale | OptionName::Workers => 1,
         }
     }
 
@@ -81,6 +97,7 @@ impl OptionName {
         match self {
             OptionName::Rounds | OptionName::Every => MOST_ROUNDS,
             OptionName::Scale => MOST_SCALE,
+            OptionName::Workers => MOST_WORKERS,
         }
     }
 }

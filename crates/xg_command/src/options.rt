@@ -1,16 +1,19 @@
 //! The options of a call, and their numbers.
 ghost use Rattle.std.specs.Prelude.{◌≡◌, option_map};
-ghost use Rattle.def_command.specs.Table.{least_number, most_number};
-ghost use Rattle.def_command.specs.Grammar.{number_from_to, number_in, with_number, settings_in};
+ghost use Rattle.def_command.specs.Table.{least_cards, most_cards, least_number, most_number};
+ghost use Rattle.def_command.specs.Grammar.{number_from_to, number_in, with_number, settings_in, workers_from};
 ghost use Rattle.xg_command.specs.Names.{option_value};
 ghost use Rattle.xg_command.specs.Values.{numbers_value, no_numbers, settings_value};
 
 use crate::command::Settings;
-use crate::names::{MOST_SCALE, OptionName};
+use crate::names::{LEAST_CARDS, MOST_CARDS, MOST_SCALE, OptionName};
 use xg_frac::read_whole;
 
 /// The rounds that are played where no number is given.
 const DEFAULT_ROUNDS: u32 = 1000;
+
+/// The workers where no number is given.
+const DEFAULT_WORKERS: u32 = 4;
 
 /// The numbers of the options that were given so far.
 #[derive(Clone, Copy, Debug, PartialEq, Eq)]
@@ -18,6 +21,7 @@ pub(crate) struct Options {
     rounds: Option<u32>,
     every: Option<u32>,
     scale: Option<u32>,
+    workers: Option<u32>,
 }
 
 impl Options {
@@ -28,6 +32,7 @@ impl Options {
             rounds: None,
             every: None,
             scale: None,
+            workers: None,
         }
     }
 
@@ -38,6 +43,7 @@ impl Options {
             OptionName::Rounds => self.rounds,
             OptionName::Every => self.every,
             OptionName::Scale => self.scale,
+            OptionName::Workers => self.workers,
         }
     }
 
@@ -58,6 +64,10 @@ impl Options {
                 scale: number,
                 ..self
             },
+            OptionName::Workers => Options {
+                workers: number,
+                ..self
+            },
         }
     }
 
@@ -73,6 +83,13 @@ impl Options {
             scale: self.scale.unwrap_or(MOST_SCALE),
         }
     }
+
+    /// The number of workers.
+    pub(crate) fn workers(self) -> u32
+        ensures { result ≡ workers_from (numbers_value self).workers }
+    {
+        self.workers.unwrap_or(DEFAULT_WORKERS)
+    }
 }
 
 /// The number that these digits give the option, if they are digits and it is in range.
@@ -80,8 +97,21 @@ pub(crate) fn read_number(option: OptionName, digits: &str) -> Option<u32>
     ensures { let name = option_value option in
         result ≡ number_from_to (least_number name) (most_number name) digits.now }
 {
+    number_from_to(option.least(), option.most(), digits)
+}
+
+/// The number of cards that these digits give, if they are digits and it is in range.
+pub(crate) fn read_cards(digits: &str) -> Option<u32>
+    ensures { result ≡ number_from_to least_cards most_cards digits.now }
+{
+    number_from_to(LEAST_CARDS, MOST_CARDS, digits)
+}
+
+fn number_from_to(least: u32, most: u32, digits: &str) -> Option<u32>
+    ensures { result ≡ number_from_to least most digits.now }
+{
     let number = read_whole(digits.as_bytes()).ok()?;
-    if number < option.least() as u64 || number > option.most() as u64 {
+    if number < least as u64 || number > most as u64 {
         return None;
     }
     Some(number as u32)

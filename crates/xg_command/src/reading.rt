@@ -1,22 +1,18 @@
 //! Reading the words behind the command's, one after another.
 ghost use Rattle.std.specs.Prelude.{◌≡◌, None, map, option_map, string_bytes};
-ghost use Rattle.def_command.specs.Table as table;
-ghost use Rattle.def_command.specs.Table.{plain_count};
 ghost use Rattle.def_command.specs.Grammar.{nothing, take_plain, take_digits, read_option, around_equals, read_word, read_words, command_from};
 ghost use Rattle.xg_command.specs.Names.{name_value, option_value};
 ghost use Rattle.xg_command.specs.Values.{taken_value, reading_value, command_value};
 
 use crate::command::Command;
 use crate::names::{CommandName, OptionName};
-use crate::options::{Options, read_number};
-
-/// The workers, while no option asks for another number.
-const WORKERS: u32 = 4;
+use crate::options::{Options, read_cards, read_number};
+use crate::plain::PlainWords;
 
 /// What was read so far.
 #[derive(Clone, Copy)]
 pub(crate) struct Reading<'a> {
-    file: Option<&'a str>,
+    plain: PlainWords<'a>,
     options: Options,
     /// The option whose number is the next word.
     waiting: Option<OptionName>,
@@ -41,7 +37,7 @@ impl<'a> Reading<'a> {
         ensures { reading_value result ≡ (nothing, None) }
     {
         Reading {
-            file: None,
+            plain: PlainWords::None,
             options: Options::none(),
             waiting: None,
         }
@@ -59,7 +55,7 @@ impl<'a> Reading<'a> {
         if word.starts_with('-') {
             return self.take_option(name, word);
         }
-        self.take_plain(word)
+        self.take_plain(name, word)
     }
 
     /// Takes a word that begins with a minus: an option's name, alone or with its number.
@@ -94,15 +90,12 @@ impl<'a> Reading<'a> {
         Some(())
     }
 
-    /// Takes the name of a file, of which each command has one.
-    fn take_plain(&mut self, word: &'a str) -> Option<()>
-        ensures { (name : table.CommandName) → plain_count name ≡ 1 → option_map (λ _. reading_value self.new) result
-            ≡ option_map (λ next. (next, None)) (take_plain name (taken_value self.old) word.entry.now) }
+    /// Takes a plain word, unless the command has all of its own.
+    fn take_plain(&mut self, name: CommandName, word: &'a str) -> Option<()>
+        ensures { option_map (λ _. reading_value self.new) result
+            ≡ option_map (λ next. (next, None)) (take_plain (name_value name) (taken_value self.old) word.entry.now) }
     {
-        if self.file.is_some() {
-            return None;
-        }
-        self.file = Some(word);
+        self.plain = self.plain.with(word, name.has_two_words())?;
         self.waiting = None;
         Some(())
     }
@@ -111,14 +104,37 @@ impl<'a> Reading<'a> {
     pub(crate) fn command(self, name: CommandName) -> Option<Command<'a>>
         ensures { option_map command_value result ≡ command_from (name_value name) (taken_value self.entry) }
     {
-        let file = self.file?;
-        Some(match name {
-            CommandName::Solve => Command::Solve {
-                file,
-                settings: self.options.settings(),
-                workers: WORKERS,
-            },
-            CommandName::Info => Command::Info { file },
-        })
+        let settings = self.options.settings();
+        let workers = self.options.workers();
+        match name {
+            CommandName::Solve => {
+                let file = self.plain.one()?;
+                Some(Command::Solve {
+                    file,
+                    settings,
+                    workers,
+                })
+            }
+            CommandName::Check => {
+                let (file, certificate) = self.plain.two()?;
+                Some(Command::Check { file, certificate })
+            }
+            CommandName::Info => {
+                let file = self.plain.one()?;
+                Some(Command::Info { file })
+            }
+            CommandName::Gen => {
+                let cards = read_cards(self.plain.one()?)?;
+                Some(Command::Gen { cards })
+            }
+            CommandName::Drill => {
+                let cards = read_cards(self.plain.one()?)?;
+                Some(Command::Drill {
+                    cards,
+                    settings,
+                    workers,
+                })
+            }
+        }
     }
 }

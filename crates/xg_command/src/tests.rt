@@ -11,15 +11,27 @@ pub(crate) fn words_of(alloc: Global, row: &str) -> Result<Words, AllocError> {
     Ok(words)
 }
 
+fn settings(rounds: u32, every: u32, scale: u32) -> Settings {
+    Settings {
+        rounds,
+        every,
+        scale,
+    }
+}
+
 fn solve(file: &str, rounds: u32, every: u32, scale: u32) -> Option<Command<'_>> {
     Some(Command::Solve {
         file,
-        settings: Settings {
-            rounds,
-            every,
-            scale,
-        },
+        settings: settings(rounds, every, scale),
         workers: 4,
+    })
+}
+
+fn drill<'a>(cards: u32, rounds: u32, workers: u32) -> Option<Command<'a>> {
+    Some(Command::Drill {
+        cards,
+        settings: settings(rounds, rounds, 1_048_576),
+        workers,
     })
 }
 
@@ -55,6 +67,29 @@ fn takes_the_words_of_solve(rt: HostRuntime) -> Result<(), Fail> {
     Ok(())
 }
 
+#[test]
+fn takes_other_commands(rt: HostRuntime) -> Result<(), Fail> {
+    let check = Command::Check {
+        file: "F1",
+        certificate: "C1",
+    };
+    let rows = [
+        ("check|F1|C1", Some(check)),
+        ("gen|2", Some(Command::Gen { cards: 2 })),
+        ("gen|007", Some(Command::Gen { cards: 7 })),
+        ("gen|64", Some(Command::Gen { cards: 64 })),
+        ("drill|3", drill(3, 1000, 4)),
+        ("drill|--rounds=1|03", drill(3, 1, 4)),
+        ("drill|64|--workers|64|--rounds|10", drill(64, 10, 64)),
+        ("drill|--workers=1|2|--rounds=5", drill(2, 5, 1)),
+    ];
+    for (row, command) in rows {
+        let words = words_of(rt.alloc(), row)?;
+        assert_eq!(rt; words.command(), command, "{row}");
+    }
+    Ok(())
+}
+
 const FILES: &str = "F1||solve|info|a=b|rounds| --rounds|a-b|10|–rounds";
 
 #[test]
@@ -82,10 +117,24 @@ Solve|F1
 solve |F1
 sol|F1
 F1
+gen
 gen|1
-gen|2
-drill|3
-check|F1|F2
+gen|65
+gen|F1
+gen|+3
+gen|3|4
+gen|3|--rounds=1
+drill
+drill|1
+drill|65
+drill|3|4
+drill|F1
+drill|3|--workers=0
+check
+check|F1
+check|F1|C1|C2
+check|F1|C1|--rounds=1
+check|F1|--
 --help
 --version
 --rounds|0|solve|F1
@@ -118,7 +167,9 @@ solve|F1|--every|0
 solve|F1|--every|65537
 solve|F1|--scale|0
 solve|F1|--scale|1048577
-solve|F1|--workers|1
+solve|F1|--workers|0
+solve|F1|--workers=65
+solve|F1|--workers=2|--workers=2
 solve|F1|--rounds|1|--rounds|1
 solve|F1|--rounds=1|--rounds|1
 solve|F1|--rounds|1|--rounds=1

@@ -1,6 +1,6 @@
 -- What the outcome of a run shows.
 use Rattle.std.proofs.Common.{◌≡◌, ℕ, ◌+◌, ◌-◌, ◌*◌, ◌≤◌, List, [], ◌∷◌, length, get_or, take, ℤ, pos, Some, ap, ◌∙◌, subst, sym, arith}
-use Rattle.std.specs.Prelude.{◌*ℤ◌, ◌-ℤ◌}
+use Rattle.std.specs.Prelude.{◌*ℤ◌, ◌-ℤ◌, ◌≤ℤ◌}
 use Rattle.std.proofs.lemmas.List.{take_all}
 use Rattle.def_tree.specs.declared.Player.TheVariants.{One, Two}
 use Rattle.def_plan.specs.Form.{SequenceForm}
@@ -12,9 +12,9 @@ use Rattle.def_bracket.proofs.TraceLines.{trace_lines}
 use Rattle.def_cert_verdict.specs.Certificate.{last_line, no_line}
 use Rattle.def_run.specs.Run.{evaluations, outcome}
 use Rattle.def_run.specs.Laws.{HasPlansOf, plan_at_lower, plan_at_upper}
-use Rattle.def_run.proofs.EndLaws.{gap_is_exploitability, outcomes_show_their_run, trace_of_run_never_widens}
+use Rattle.def_run.proofs.EndLaws.{ends_bound_all_plans, gap_is_exploitability, outcomes_show_their_run, trace_of_run_never_widens}
 use Rattle.def_run.proofs.RunLaws.{ends_are_of_their_rounds, evaluations_are_bounds, runs_have_ends}
-use Rattle.xg_engine.specs.Ends.{AreBoundsOfLine, HasEnds, HasGapOfLine, NoLineIsWider}
+use Rattle.xg_engine.specs.Ends.{AreBoundsOfLine, AreUnbeaten, HasEnds, HasGapOfLine, NoLineIsWider}
 use Rattle.xg_engine.specs.Players.{IsSoundForm}
 
 some_evaluation : (es : List Evaluation) (ends : BracketEnds) → ends_of es ≡ Some ends → 1 ≤ length es
@@ -99,6 +99,24 @@ module _ (form : SequenceForm) (head : Head) (sound : IsSoundForm form) (some_sc
       subst (λ (z : ℤ). IsExploitability form (ends.lower.round * head.scale) (ends.upper.round * head.scale) (plan_at_lower form head.scale ends) (plan_at_upper form head.scale ends) z)
       (λ i. (pos (ends.lower.round * head.scale) *ℤ high_is i) -ℤ (pos (ends.upper.round * head.scale) *ℤ low_is i))
       gap)
+
+  pub outcome_is_unbeaten : 1 ≤ head.rounds → HasEnds (AreUnbeaten form head.scale) (outcome form head)
+  outcome_is_unbeaten some =
+      has_ends (AreUnbeaten form head.scale) some
+      (λ ends r are.
+      let of_rounds = ends_are_of_their_rounds form head.scale head.every head.rounds ends are in
+      let low_is = ap (λ (e : Evaluation). e.low) of_rounds.of_lower.is in
+      let high_is = ap (λ (e : Evaluation). e.high) of_rounds.of_upper.is in
+      record {
+        floors = λ root plan floor is_plan is_floor.
+            subst (λ (z : ℤ). (pos (ends.upper.round * head.scale) *ℤ floor) ≤ℤ (pos root *ℤ z)) high_is
+            (ends_bound_all_plans.floors form head.scale head.every head.rounds ends root plan floor sound.order_one
+            sound.order_two some_scale are is_plan is_floor);
+        ceilings = λ root plan ceiling is_plan is_ceiling.
+            subst (λ (z : ℤ). (pos root *ℤ z) ≤ℤ (pos (ends.lower.round * head.scale) *ℤ ceiling)) low_is
+            (ends_bound_all_plans.ceilings form head.scale head.every head.rounds ends root plan ceiling sound.order_one
+            sound.order_two some_scale are is_plan is_ceiling);
+      })
 
   pub outcome_never_widens : NoLineIsWider (outcome form head).trace
   outcome_never_widens =

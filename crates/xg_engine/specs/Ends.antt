@@ -1,5 +1,5 @@
 -- What an outcome of a run shows of its game.
-use Rattle.std.specs.Prelude.{◌≡◌, ℕ, ◌*◌, ◌≤◌, ◌<◌, List, length, slice_index_or, Some, pos, ◌*ℤ◌, ◌-ℤ◌}
+use Rattle.std.specs.Prelude.{◌≡◌, ℕ, ◌*◌, ◌≤◌, ◌<◌, List, length, slice_index_or, Some, ℤ, pos, ◌*ℤ◌, ◌-ℤ◌, ◌≤ℤ◌}
 use Rattle.def_plan.specs.Form.{SequenceForm}
 use Rattle.def_plan.specs.Plan.{IsPlan, pure_plan}
 use Rattle.def_reply.specs.Reply.{choices_of}
@@ -25,6 +25,14 @@ abbrev pub HasGapOfLine : SequenceForm → ℕ → TraceLine → OutcomeEnds →
 HasGapOfLine form scale line ends =
     IsExploitability form (line.low_round * scale) (line.high_round * scale) ends.lower.plan ends.upper.plan
     ((pos (line.low_round * scale) *ℤ ends.upper.reply.total) -ℤ (pos (line.high_round * scale) *ℤ ends.lower.reply.total))
+
+-- no plan of player one has a floor, over its root, above the upper end, and no plan of player two a ceiling below the
+-- lower end
+pub record AreUnbeaten (form : SequenceForm) (scale : ℕ) (line : TraceLine) (ends : OutcomeEnds) : Type 0 where
+  pub floors : (root : ℕ) (plan : List ℕ) (floor : ℤ) → IsPlan form.sets_one root plan → IsFloor form plan floor
+      → (pos (line.high_round * scale) *ℤ floor) ≤ℤ (pos root *ℤ ends.upper.reply.total)
+  pub ceilings : (root : ℕ) (plan : List ℕ) (ceiling : ℤ) → IsPlan form.sets_two root plan → IsCeiling form plan ceiling
+      → (pos root *ℤ ends.lower.reply.total) ≤ℤ (pos (line.low_round * scale) *ℤ ceiling)
 
 -- an outcome has both ends, and its last line is theirs
 pub record HasEnds (P : TraceLine → OutcomeEnds → Type 0) (outcome : Outcome) : Type 0 where

@@ -1,5 +1,5 @@
 -- What an engine has: a game in numbers, and what its last run left.
-use Rattle.std.specs.Prelude.{ℕ, ◌≤◌, List, length, Option}
+use Rattle.std.specs.Prelude.{◌≡◌, ℕ, ◌≤◌, List, length, Option}
 use Rattle.def_sums.specs.Limits.{most_rounds, most_scale}
 use Rattle.def_plan.specs.Form.{sequence_count}
 use Rattle.def_plan.specs.Payoff.{mass_of}
@@ -37,6 +37,12 @@ head_with game settings = record {
   every = settings.every;
   scale = settings.scale;
 }
+
+-- the head has these settings
+pub record Asks (settings : Settings) (head : Head) : Type 0 where
+  pub rounds : head.rounds ≡ settings.rounds
+  pub every : head.every ≡ settings.every
+  pub scale : head.scale ≡ settings.scale
 
 -- what may be asked of a run
 pub record AreWithinLimits (settings : Settings) : Type 0 where

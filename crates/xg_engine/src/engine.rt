@@ -1,21 +1,18 @@
-ghost use Rattle.std.specs.Prelude.{◌≡◌, ◌≢◌, ◌≤◌, length, Err, IfOk, IfSome, None, Ok, OnErr, OnOk, Some};
+ghost use Rattle.std.specs.Prelude.{◌≡◌, ◌≤◌, Err, IfOk, IfSome, None, OnErr, OnOk, Some};
 ghost use Rattle.std.specs.Option.{option_map};
 ghost use Rattle.std.specs.Thread.{IsSync};
 ghost use Rattle.def_cert_verdict.specs.Laws.{IsHeadOf};
 ghost use Rattle.def_file.specs.declared.FileFault.{FileFault};
-ghost use Rattle.def_game_numbers.specs.Numbers.{game_file_fault, tables_of, weigh};
-ghost use Rattle.def_sequence_form.specs.Form.{form_of_game};
-ghost use Rattle.def_sequence_form.specs.Sets.{sets_or_break};
-ghost use Rattle.def_tree.specs.Tree.{leaf_count, prefix};
+ghost use Rattle.def_game_numbers.specs.Numbers.{game_file_fault};
 ghost use Rattle.xg_cert.specs.Outcome.{head_of};
 ghost use Rattle.xg_cert.specs.Writable.{IsOutcomeOf};
 ghost use Rattle.def_round.specs.Rounds.{rounds};
 ghost use Rattle.def_run.specs.Run.{outcome};
-ghost use Rattle.xg_jobs.specs.Table.{IsFormOf, IsTableOf};
-ghost use Rattle.xg_engine.specs.Ends.{AreBoundsOfLine, HasEnds, HasGapOfLine, NoLineIsWider};
-ghost use Rattle.xg_engine.specs.Opened.{Asks, IsBreakOf, KeepsMass, weighed_game};
-ghost use Rattle.xg_engine.specs.State.{AreWithinLimits, head_with, sums_of};
+ghost use Rattle.xg_numbers.specs.Opened.{weighed_game};
+ghost use Rattle.xg_engine.specs.Ends.{AreBoundsOfLine, AreUnbeaten, HasEnds, HasGapOfLine, NoLineIsWider};
+ghost use Rattle.xg_engine.specs.State.{AreWithinLimits, Asks, head_with, sums_of};
 
+use crate::asking::head_with;
 use crate::running::{FinishedRun, play};
 use crate::settings::Settings;
 use crate::source::RowSource;
@@ -26,31 +23,28 @@ use std::thread::Threads;
 use xg_cert::{Head, Outcome};
 use xg_game::{FileFault, Game, Refused};
 use xg_jobs::{JobTable, RowMaker};
-use xg_plan::{Plan, Player};
-use xg_scale::{Weights, weigh};
+use xg_numbers::Numbers;
+use xg_plan::Plan;
 use xg_seq::SeqForm;
-use xg_sets::{RecallFault, Sets, build_sets};
 
 /// A game in numbers, ready for rounds, with what its last run left.
 #[derive(Drop)]
 pub struct Engine {
-    form: SeqForm,
+    numbers: Numbers,
     jobs: JobTable,
-    nodes: u32,
-    unit: u64,
-    mass: u64,
     last_run: Option<FinishedRun>,
 }
 
 impl Model for Engine {
-    ghost use Rattle.xg_engine.specs.Engines.{KeepsGame, engine_state};
+    ghost use Rattle.xg_jobs.specs.Table.{IsTableOf};
+    ghost use Rattle.xg_engine.specs.Engines.{engine_state};
     ghost use Rattle.xg_engine.specs.State.{EngineState};
 
     ghost Value = { EngineState };
 
-    ghost view = { λ e. engine_state e.nodes e.unit e.form e.last_run };
+    ghost view = { λ e. engine_state e.numbers e.last_run };
 
-    ghost invariant = { λ e. KeepsGame e.form e.jobs e.mass e.unit };
+    ghost invariant = { λ e. IsTableOf e.numbers.form e.jobs };
 }
 
 impl Engine {
@@ -63,16 +57,21 @@ impl Engine {
         ensures refused { (fault : FileFault) → result ≡ Err (Refused.File fault)
             → game_file_fault game.now ≡ Some fault }
     {
-        let weights = weigh(alloc, game)?;
-        let sets = sets_of(alloc, game)?;
-        let form = form_of(alloc, game, &weights, &sets)?;
-        let jobs = jobs_of(alloc, game, &form)?;
+        let numbers = Numbers::open(alloc, game)?;
+        Ok(Engine::from_numbers(alloc, game, numbers)?)
+    }
+
+    /// A game whose numbers are there already.
+    pub fn from_numbers(alloc: Global, game: &Game, numbers: Numbers) -> Result<Engine, AllocError>
+        requires { numbers ≡ weighed_game game.now }
+        ensures opened { IfOk result (λ engine. engine.game ≡ numbers) }
+        ensures no_outcome { IfOk result (λ engine. engine.outcome ≡ None) }
+        ensures no_sums { IfOk result (λ engine. engine.sums ≡ None) }
+    {
+        let jobs = JobTable::build(alloc, numbers.form(), game.tree())?;
         Ok(Engine {
-            form,
+            numbers,
             jobs,
-            nodes: game.tree().len(),
-            unit: weights.unit(),
-            mass: weights.mass(),
             last_run: None,
         })
     }
@@ -100,22 +99,24 @@ impl Engine {
         ensures no_memory_sums { OnErr result (self.new.sums ≡ None) }
         ensures game { self.new.game ≡ self.old.game }
 
-        // What the ends of the bracket bound, and how far they are apart.
+        // What the ends of the bracket bound, how far they are apart, and that no plans do better.
         ensures bounds { OnOk result (1 ≤ settings.rounds
             → IfSome self.new.outcome (HasEnds (AreBoundsOfLine self.old.game.form settings.scale))) }
         ensures gap { OnOk result (1 ≤ settings.rounds
             → IfSome self.new.outcome (HasEnds (HasGapOfLine self.old.game.form settings.scale))) }
+        ensures unbeaten { OnOk result (1 ≤ settings.rounds
+            → IfSome self.new.outcome (HasEnds (AreUnbeaten self.old.game.form settings.scale))) }
         ensures trace { OnOk result (IfSome self.new.outcome (λ outcome. NoLineIsWider outcome.trace)) }
 
         // It can be written as a certificate.
         ensures writable { OnOk result (IfSome self.new.outcome (IsOutcomeOf self.old.game.form)) }
     {
         self.last_run = None;
-        let head = self.head(settings);
+        let head = head_with(&self.numbers, settings);
         let source = RowSource {
             rt,
             alloc,
-            form: &self.form,
+            form: self.numbers.form(),
             jobs: &self.jobs,
             maker,
         };
@@ -128,7 +129,7 @@ impl Engine {
     pub fn form(&self) -> &SeqForm
         ensures { result.now ≡ self.now.game.form }
     {
-        &self.form
+        self.numbers.form()
     }
 
     /// The game's numbers, with what is asked.
@@ -137,21 +138,7 @@ impl Engine {
         ensures asked { Asks settings (head_of result) }
         ensures exact { head_of result ≡ head_with self.now.game settings }
     {
-        let form = &self.form;
-        Head {
-            nodes: self.nodes,
-            leaves: form.leaf_count(),
-            sets: (form.set_count(Player::One), form.set_count(Player::Two)),
-            sequences: (
-                form.sequence_count(Player::One),
-                form.sequence_count(Player::Two),
-            ),
-            unit: self.unit,
-            mass: self.mass,
-            rounds: settings.rounds,
-            every: settings.every,
-            scale: settings.scale,
-        }
+        head_with(&self.numbers, settings)
     }
 
     /// What the last run left: none before the first one, and where there was no memory for the last one.
@@ -172,47 +159,5 @@ impl Engine {
             Some(finished) => Some((&finished.sum_one, &finished.sum_two)),
             None => None,
         }
-    }
-}
-
-/// The game's sets, where its players remember their choices.
-fn sets_of(alloc: Global, game: &Game) -> Result<Sets, Refused>
-    ensures sets { IfOk result (λ sets. sets_or_break game.now.tree ≡ Ok sets) }
-    ensures broken { (fault : FileFault) → result ≡ Err (Refused.File fault) → IsBreakOf game.now.tree fault }
-{
-    match build_sets(alloc, game.tree()) {
-        Ok(sets) => Ok(sets),
-        Err(RecallFault::NotRecall { node, earlier }) => {
-            Err(Refused::File(FileFault::NotRecall { node, earlier }))
-        }
-        Err(RecallFault::NoMemory) => Err(Refused::NoMemory),
-    }
-}
-
-/// The game's sequence form.
-fn form_of(alloc: Global, game: &Game, weights: &Weights, sets: &Sets) -> Result<SeqForm, Refused>
-    requires weighed { weigh game.now ≡ Ok weights.now }
-    requires count { length weights.now.leaves ≡ leaf_count (prefix game.now.tree) }
-    requires sets { sets_or_break game.now.tree ≡ Ok sets.now }
-    ensures form { IfOk result (λ form. form ≡ form_of_game (tables_of game.now) game.now.tree) }
-    ensures mass { IfOk result (λ form. KeepsMass form weights.now.mass) }
-    ensures of_tree { IfOk result (λ form. IsFormOf form game.now.tree) }
-    ensures accepted { (fault : FileFault) → result ≢ Err (Refused.File fault) }
-{
-    match SeqForm::build(alloc, game.tree(), sets, weights.leaves()) {
-        Ok(form) => Ok(form),
-        Err(_) => Err(Refused::NoMemory),
-    }
-}
-
-/// The jobs of the game.
-fn jobs_of(alloc: Global, game: &Game, form: &SeqForm) -> Result<JobTable, Refused>
-    requires of_tree { IsFormOf form.now game.now.tree }
-    ensures table { IfOk result (λ jobs. IsTableOf form.now jobs) }
-    ensures accepted { (fault : FileFault) → result ≢ Err (Refused.File fault) }
-{
-    match JobTable::build(alloc, form, game.tree()) {
-        Ok(jobs) => Ok(jobs),
-        Err(_) => Err(Refused::NoMemory),
     }
 }

@@ -1,6 +1,7 @@
 #![tactic(auto)]
 //! The engine: a game in numbers, the rounds that are played on it, and the bracket that they leave.
 
+mod asking;
 mod drafting;
 mod engine;
 mod evaluating;
@@ -9,8 +10,6 @@ mod running;
 mod settings;
 mod source;
 
+pub use asking::head_with;
 pub use engine::Engine;
 pub use settings::Settings;
-
-#[cfg(test)]
-mod tests;

@@ -5,10 +5,9 @@ ghost use Rattle.def_run.specs.Run.{outcome};
 ghost use Rattle.def_round.specs.Rounds.{rounds};
 ghost use Rattle.xg_cert.specs.Outcome.{head_of};
 ghost use Rattle.xg_jobs.specs.Table.{IsTableOf};
-ghost use Rattle.xg_engine.specs.Opened.{Asks};
 ghost use Rattle.xg_engine.specs.Players.{IsSoundForm};
 ghost use Rattle.xg_engine.specs.Runs.{IsAfter, IsBlank};
-ghost use Rattle.xg_engine.specs.State.{AreWithinLimits};
+ghost use Rattle.xg_engine.specs.State.{AreWithinLimits, Asks};
 
 use crate::drafting::Draft;
 use crate::evaluating::Evaluator;

@@ -4,7 +4,7 @@ use Rattle.std.proofs.lemmas.List.{take_more}
 use Rattle.std.proofs.lemmas.List.Elements.{All-head, All-tail}
 use Rattle.xg_jobs.specs.Groups.{greatest_of}
 
-greatest_last : (xs : List ℕ) (x : ℕ) → greatest_of (xs ++ x ∷ []) ≡ max (greatest_of xs) x
+pub greatest_last : (xs : List ℕ) (x : ℕ) → greatest_of (xs ++ x ∷ []) ≡ max (greatest_of xs) x
 greatest_last [] x = grind arith
 greatest_last (y ∷ ys) x = let e = greatest_last ys x in grind arith
 

@@ -14,3 +14,4 @@ mod Standing
 mod Passing
 mod Within
 mod Ranging
+mod TouchedJobs

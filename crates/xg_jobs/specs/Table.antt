@@ -1,21 +1,33 @@
--- What a table of jobs tells of a game: the jobs' ranges of leaves, and the leaves of each of player one's sequences.
-use Rattle.std.specs.Prelude.{◌≡◌, List, length, map, filter, ◌==◌, ℤ}
+-- What a table of jobs tells of a game: the jobs' ranges of leaves, the leaves of each of player one's sequences, and
+-- the rows of each job.
+use Rattle.std.specs.Prelude.{◌≡◌, ℕ, List, length, map, filter, ◌==◌, ℤ}
 use Rattle.def_tree.specs.Tree.{Forest, leaf_count, prefix}
 use Rattle.def_tree.specs.Rules.{IsGameTree}
 use Rattle.def_game_jobs.specs.Ranges.{LeafRange, job_ranges}
 use Rattle.def_plan.specs.Form.{Leaf, SequenceForm, sequences}
 use Rattle.def_sequence_form.specs.Form.{form_of}
+use Rattle.xg_touched.specs.Touched.{JobRows, job_rows}
+use Rattle.xg_jobs.specs.Groups.{greatest_of}
 
 pub record TableOfJobs : Type 0 where
   pub ranges : List LeafRange
   pub groups : List (List Leaf)
+  pub touched : List JobRows
 
 -- for each sequence of player one in turn, the leaves that have it
 abbrev pub leaf_groups : SequenceForm → List (List Leaf)
 leaf_groups form = map (λ s. filter (λ z. z.sequence_one == s) form.leaves) (sequences form.sets_one)
 
 abbrev pub job_table : SequenceForm → Forest → TableOfJobs
-job_table form tree = record { ranges = job_ranges tree; groups = leaf_groups form }
+job_table form tree = record {
+  ranges = job_ranges tree;
+  groups = leaf_groups form;
+  touched = map (job_rows form) (job_ranges tree);
+}
+
+-- the greatest number of rows that the leaves of one job have
+abbrev pub most_touched : List JobRows → ℕ
+most_touched touched = greatest_of (map (λ job. length job.rows) touched)
 
 -- the form is that of the tree, with a weight for each leaf
 pub record IsFormOf (form : SequenceForm) (tree : Forest) : Type 0 where

@@ -12,6 +12,7 @@ mod rows;
 mod sums;
 mod table;
 mod tops;
+mod touching;
 
 pub use input::RowInput;
 pub use maker::RowMaker;

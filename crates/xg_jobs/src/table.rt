@@ -1,16 +1,24 @@
-ghost use Rattle.std.specs.Prelude.{◌≡◌, ◌-◌, ◌<◌, ◌≤◌, length, pos, replicate, IfOk, Some, slice_get};
+ghost use Rattle.std.specs.Prelude.{◌≡◌, ◌-◌, ◌<◌, ◌≤◌, length, pos, replicate, IfOk, Some, slice_get, slice_index_or};
 ghost use Rattle.def_game_jobs.specs.Jobs.{most_jobs};
+ghost use Rattle.def_history.specs.Leaves.{amounts};
+ghost use Rattle.def_history.specs.Packets.{IsPacketOf};
+ghost use Rattle.def_history_rows.specs.JobPackets.{packet_of};
+ghost use Rattle.def_history_rows.specs.JobRows.{leaf_amount};
 ghost use Rattle.def_plan.specs.Form.{sequence_count};
+ghost use Rattle.def_rows.specs.Rows.{row_count};
 ghost use Rattle.xg_jobs.specs.Rows.{AreNumbersOf, ArePlainSums};
-ghost use Rattle.xg_jobs.specs.Table.{IsFormOf, IsTableOf, job_table};
+ghost use Rattle.xg_jobs.specs.Table.{IsFormOf, IsTableOf, job_table, most_touched};
 
 use crate::cutting::ranges_of;
 use crate::groups::LeafGroups;
 use crate::input::RowInput;
 use crate::rows::Rows;
+use crate::touching::{most_rows, touched_of};
 use std::alloc::{AllocError, Global};
 use std::marker::Model;
+use xg_rowcore::Packet;
 use xg_seq::SeqForm;
+use xg_touched::TouchedRows;
 use xg_tree::Tree;
 
 /// The jobs of a game: the subtrees below the chance nodes at the top of its tree, each with its leaves.
@@ -20,6 +28,7 @@ use xg_tree::Tree;
 pub struct JobTable {
     ranges: Vec<LeafRange>,
     groups: LeafGroups,
+    touched: Vec<TouchedRows>,
 }
 
 /// Some leaves in a row: how many come before them, and how many they are.
@@ -38,7 +47,11 @@ impl Model for JobTable {
 
     ghost Value = { TableOfJobs };
 
-    ghost view = { λ t. record { ranges = map range_of t.ranges.items; groups = t.groups } };
+    ghost view = { λ t. record {
+      ranges = map range_of t.ranges.items;
+      groups = t.groups;
+      touched = t.touched.items;
+    } };
 
     ghost invariant = { λ t. KeepsRanges t.ranges.items };
 }
@@ -54,7 +67,12 @@ impl JobTable {
         // a table is of a tree that keeps the rules
         let _count = tree.len();
         let groups = LeafGroups::build(alloc, form)?;
-        Ok(JobTable { ranges, groups })
+        let touched = touched_of(alloc, form, &ranges)?;
+        Ok(JobTable {
+            ranges,
+            groups,
+            touched,
+        })
     }
 
     /// The number of jobs.
@@ -75,6 +93,31 @@ impl JobTable {
     {
         let range = self.ranges[job as usize];
         (range.first + 1, range.count)
+    }
+
+    /// The room that a packet of any job needs: the greatest number of rows that the leaves of one job have.
+    pub fn room(&self) -> usize
+        ensures { result ≡ most_touched self.now.touched }
+    {
+        most_rows(&self.touched)
+    }
+
+    /// Makes the packet of a job: each row whose sequence some leaf of the job has, with the sum over these leaves.
+    pub fn packet_into(&self, job: u32, input: &RowInput<'_>, into: &mut Packet)
+        requires job { job < length self.now.ranges }
+        requires numbers { AreNumbersOf input.now.form.now input.now.one.now input.now.two.now }
+        requires table { IsTableOf input.now.form.now self.now }
+        requires room { most_touched self.now.touched ≤ into.old.entries.room }
+        ensures job { into.new.job ≡ job }
+        ensures rows { let range = slice_index_or self.now.ranges job (record { first = 0; count = 0 }) in
+            into.new.entries.list ≡ packet_of input.now.form.now input.now.one.now input.now.two.now range }
+        ensures packet { let amount = leaf_amount input.now.form.now input.now.one.now input.now.two.now in
+            IsPacketOf (amounts amount self.now.ranges) (row_count input.now.form.now) job into.new.entries.list }
+        ensures room { into.new.entries.room ≡ into.old.entries.room }
+    {
+        let range = self.ranges[job as usize];
+        let touched = &self.touched[job as usize];
+        touched.packet_into(job, range.first, input.form, input.one, input.two, into);
     }
 
     /// Adds the sums over all leaves to new rows.

@@ -10,6 +10,7 @@ use std::process::Abort;
 use std::sync::Wait;
 use std::test::Fail;
 use std::thread::Threads;
+use xg_rowcore::Packet;
 use xg_seq::SeqForm;
 use xg_sets::build_sets;
 use xg_tree::{Builder, Kind, Node, Tree};
@@ -160,5 +161,59 @@ fn sums_the_leaves_of_matching_pennies(rt: HostRuntime) -> Result<(), Fail> {
     sums(&rt, alloc, &light, most, [-2 << 64, -3 << 64, 4 << 64])?;
     sums(&rt, alloc, &heavy, 1, [-2 << 40, -3 << 40, 4 << 40])?;
     sums(&rt, alloc, &heavy, most, [-2 << 76, -3 << 76, 4 << 76])?;
+    Ok(())
+}
+
+// The packet of a job, from these numbers.
+fn packed(
+    rt: &impl Abort,
+    alloc: Global,
+    form: &SeqForm,
+    jobs: &JobTable,
+    job: u32,
+    one: &[u64],
+    two: &[u64],
+) -> Result<Vec<(u32, i128)>, Fail>
+    requires table { IsTableOf form.now jobs.now }
+    requires small_one { All (λ n. n ≤ most_root) one.now }
+    requires small_two { All (λ n. n ≤ most_root) two.now }
+{
+    assert_eq!(rt; form.sequence_count(Player::One) as usize, one.len());
+    assert_eq!(rt; form.sequence_count(Player::Two) as usize, two.len());
+    assert!(rt; job < jobs.count());
+    let input = RowInput { form, one, two };
+    let mut packet = Packet::new(alloc, jobs.room())?;
+    jobs.packet_into(job, &input, &mut packet);
+    assert_eq!(rt; packet.job, job);
+    let mut entries = Vec::new(alloc);
+    for i in 0..packet.len() {
+        entries.push(packet.entry(i))?;
+    }
+    Ok(entries)
+}
+
+#[test]
+fn packs_matching_pennies(rt: HostRuntime) -> Result<(), Fail> {
+    let (form, jobs) = built(&rt, rt.alloc(), &pennies(), &[1, -1, -1, 1])?;
+    let entries = packed(&rt, rt.alloc(), &form, &jobs, 0, &[1, 0, 1], &[1, 0, 1])?;
+    assert_eq!(rt; &entries[..], &[(1, -1), (2, 1), (4, -1), (5, 1)][..]);
+    Ok(())
+}
+
+#[test]
+fn packs_each_job_alone(rt: HostRuntime) -> Result<(), Fail> {
+    let nodes = [
+        node(Kind::Chance, 1, 2),
+        node(Kind::One, 1, 2),
+        LEAF,
+        LEAF,
+        LEAF,
+    ];
+    let (form, jobs) = built(&rt, rt.alloc(), &nodes, &[1, 2, 3])?;
+    assert_eq!(rt; jobs.room(), 3);
+    let first = packed(&rt, rt.alloc(), &form, &jobs, 0, &[5, 2, 3], &[5])?;
+    assert_eq!(rt; &first[..], &[(1, 5), (2, 10), (3, 8)][..]);
+    let second = packed(&rt, rt.alloc(), &form, &jobs, 1, &[5, 2, 3], &[5])?;
+    assert_eq!(rt; &second[..], &[(0, 15), (3, 15)][..]);
     Ok(())
 }

@@ -4,3 +4,5 @@ pub mod Ended
 pub mod Worded
 pub mod Texts
 pub mod Asked
+pub mod Checking
+pub mod MadeEnds

@@ -8,7 +8,8 @@ use Rattle.def_file.specs.declared.FileFault.{FileFault}
 use Rattle.def_file.specs.declared.FileFault.TheVariants.{TooLong}
 use Rattle.def_file.specs.Content.{GameFile}
 use Rattle.def_file.specs.Reading.{most_bytes}
-use Rattle.def_program.specs.Program.{Answer, game_answer, read_as_accepted, refusal, success}
+use Rattle.def_file_accepted.specs.Accepting.{read_as_accepted}
+use Rattle.def_program.specs.Program.{game_answer, refusal, success}
 use Rattle.def_program.specs.Meaning.{FileMeans, MeansOnly}
 use Rattle.def_program.specs.Lines.{of_file}
 use Rattle.def_program.proofs.Meant.{file_computed}

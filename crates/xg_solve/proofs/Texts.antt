@@ -1,15 +1,14 @@
 -- The texts that are written of an accepted game.
-use Rattle.std.proofs.Common.{◌≡◌, ℕ, ◌+◌, ◌<◌, ◌≤◌, Bool, true, false, cond, List, [], ◌∷◌, ◌++◌, length, get_or, take, None, Some, refl, sym, ap, ◌∙◌, append_assoc, arith, subst}
+use Rattle.std.proofs.Common.{◌≡◌, ℕ, ◌+◌, ◌<◌, ◌≤◌, Bool, true, false, cond, List, [], ◌∷◌, ◌++◌, length, get_or, take, None, Some, refl, sym, ap, ◌∙◌, append_assoc, subst}
 use Rattle.std.specs.Prelude.{nat_eq}
-use Rattle.std.proofs.lemmas.List.{length-map, take_all, take_more}
-use Rattle.def_tree.specs.Tree.{leaf_count, node_count, prefix}
+use Rattle.std.proofs.lemmas.List.{take_all, take_more}
+use Rattle.def_tree.specs.Tree.{node_count}
 use Rattle.def_file_tokens.specs.Texts.{escaped}
 use Rattle.def_file.specs.Content.{GameFile}
-use Rattle.def_game_paths.specs.Paths.{leaf_visits}
-use Rattle.def_game_scale.specs.Scale.{all_expected, expected, game_unit, weights}
+use Rattle.def_game_scale.specs.Scale.{game_unit}
 use Rattle.def_game_numbers.specs.Numbers.{tables_of}
 use Rattle.def_plan.specs.Form.{SequenceForm, sequence_count}
-use Rattle.def_sequence_form.proofs.Leaves.{form_has_the_mass, leaves_counted, length-leaves_with}
+use Rattle.def_sequence_form.proofs.Leaves.{form_has_the_mass}
 use Rattle.def_bracket.specs.Offers.{board_after}
 use Rattle.def_bracket.specs.Outcome.{Head, Outcome}
 use Rattle.def_run.specs.Run.{offers, outcome, outcome_with}
@@ -19,6 +18,7 @@ use Rattle.def_cert_accepted.specs.OfOutcome.{certificate_of}
 use Rattle.def_cert_text.specs.CertText.{cert_text}
 use Rattle.def_command.specs.Grammar.{Settings}
 use Rattle.def_text.specs.Text.{form_of_file, game_head, quoted, solve_text}
+use Rattle.def_program.proofs.Played.{leaves_are}
 use Rattle.xg_numbers.specs.Opened.{weighed_game}
 use Rattle.xg_engine.specs.State.{head_with}
 use Rattle.xg_engine.specs.declared.settings.Settings.{Settings as RunSettings}
@@ -52,15 +52,6 @@ pub quoted_whole : (text : List ℕ) (i : ℕ) (front items new : List ℕ) → 
 quoted_whole text i front items new all is more =
     more ∙ ap (λ (xs : List ℕ). xs ++ 34 ∷ []) is ∙ append_assoc front (34 ∷ escaped (take i text)) (34 ∷ [])
     ∙ ap (λ (xs : List ℕ). front ++ 34 ∷ (escaped xs ++ 34 ∷ [])) (take_all i text all)
-
--- a form has a leaf for each of its game's
-leaves_are : (game : GameFile) → length (form_of_file game).leaves ≡ leaf_count (prefix game.tree)
-leaves_are game =
-    let tables = tables_of game in
-    let many : length (weights tables game.tree) ≡ length (leaf_visits game.tree) =
-    length-map (all_expected tables game.tree) _ ∙ length-map (leaf_visits game.tree) (expected tables) in
-    length-leaves_with game.tree (leaf_visits game.tree) (weights tables game.tree) (omega (arith, many))
-    ∙ leaves_counted game.tree
 
 -- the head of a game's numbers is the game's head
 pub head_is : (game : GameFile) (numbers : WeighedGame) → numbers ≡ weighed_game game → (settings : Settings)

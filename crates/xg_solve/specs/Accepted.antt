@@ -1,5 +1,5 @@
 -- A game that is accepted, and what opening one gives.
-use Rattle.std.specs.Prelude.{◌≡◌, Option, Some, None, Result, Ok, Err}
+use Rattle.std.specs.Prelude.{◌≡◌, Some, None, Result, Ok, Err}
 use Rattle.def_file.specs.Content.{GameFile}
 use Rattle.def_game_numbers.specs.Numbers.{game_file_fault}
 use Rattle.xg_game.specs.declared.fault.Refused.{Refused}

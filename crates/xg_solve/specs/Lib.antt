@@ -1,4 +1,7 @@
 pub mod Accepted
+pub mod BothRead
+pub mod ChecksEnd
+pub mod RefusalLine
 pub mod Settings
 pub mod Loads
 pub mod Endings

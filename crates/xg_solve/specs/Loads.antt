@@ -4,7 +4,7 @@ use Rattle.def_outside.specs.Cause.{Rose}
 use Rattle.def_file.specs.declared.FileFault.{FileFault}
 use Rattle.def_file.specs.Content.{GameFile}
 use Rattle.def_game_numbers.specs.Numbers.{game_file_fault}
-use Rattle.def_program.specs.Program.{read_as_accepted, read_as_game, unless_faulty}
+use Rattle.def_file_accepted.specs.Accepting.{read_as_accepted, read_as_game, unless_faulty}
 use Rattle.xg_solve.specs.declared.load.LoadFault.{LoadFault}
 use Rattle.xg_solve.specs.declared.load.LoadFault.TheVariants.{ReadFault, Refused, NoMemory}
 

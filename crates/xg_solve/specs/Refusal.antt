@@ -1,5 +1,5 @@
 -- The end of a run on a file with a fault.
-use Rattle.std.specs.Prelude.{◌≡◌, string_bytes}
+use Rattle.std.specs.Prelude.{◌≡◌, ℕ, List, string_bytes}
 use Rattle.def_file.specs.declared.FileFault.{FileFault}
 use Rattle.def_text.specs.Lines.{fault_line}
 use Rattle.xg_solve.specs.declared.load.LoadFault.{LoadFault}
@@ -21,3 +21,12 @@ abbrev pub IsUnloaded : LoadFault → Ending → Type 0
 IsUnloaded (faults.Refused fault) ending = IsRefusal fault ending
 IsUnloaded faults.ReadFault ending = ending ≡ ReadFault
 IsUnloaded faults.NoMemory ending = ending ≡ NoMemory
+
+-- the line was made
+abbrev pub IsLineOf : List ℕ → Ending → Type 0
+IsLineOf bytes (Refused line) = string_bytes line ≡ bytes
+IsLineOf bytes Done = ⊥
+IsLineOf bytes Usage = ⊥
+IsLineOf bytes ReadFault = ⊥
+IsLineOf bytes WriteFault = ⊥
+IsLineOf bytes NoMemory = ⊥

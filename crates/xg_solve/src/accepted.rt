@@ -1,15 +1,15 @@
 //! A game that is accepted.
-ghost use Rattle.std.specs.Prelude.{◌≡◌};
+ghost use Rattle.std.specs.Prelude.{◌≡◌, IfOk, None};
 ghost use Rattle.def_text.specs.Text.{game_head};
 ghost use Rattle.xg_cert.specs.Outcome.{head_of};
 ghost use Rattle.xg_numbers.specs.Opened.{weighed_game};
 ghost use Rattle.xg_solve.specs.Accepted.{Opens};
 ghost use Rattle.xg_solve.specs.Settings.{settings_of};
 
-use std::alloc::Global;
+use std::alloc::{AllocError, Global};
 use std::marker::Model;
 use xg_cert::Head;
-use xg_engine::Settings;
+use xg_engine::{Engine, Settings};
 use xg_game::{Game, Refused};
 use xg_numbers::Numbers;
 use xg_plan::Player;
@@ -43,6 +43,15 @@ impl Accepted {
     {
         let numbers = Numbers::open(alloc, &game)?;
         Ok(Accepted { game, numbers })
+    }
+
+    /// An engine for the game.
+    pub fn into_engine(self, alloc: Global) -> Result<Engine, AllocError>
+        ensures opened { IfOk result (λ engine. engine.game ≡ weighed_game self) }
+        ensures no_outcome { IfOk result (λ engine. engine.outcome ≡ None) }
+    {
+        let Accepted { game, numbers } = self;
+        Engine::from_numbers(alloc, &game, numbers)
     }
 
     /// The game, as its file has it.

@@ -45,7 +45,7 @@ fn accept(alloc: Global, game: Game) -> Result<Accepted, LoadFault>
 }
 
 /// The game of the file of a name.
-#[tactic(auto, unfolding(def_program::specs::Program::read_as_game))]
+#[tactic(auto, unfolding(def_file_accepted::specs::Accepting::read_as_game))]
 fn load_game<F: Files>(alloc: Global, files: &mut F, name: &str) -> Result<Game, LoadFault>
     requires { IsTrue (F.may_open files.old name.now) }
     ensures exact { LoadsGame (F.told files.old name.now) result }

@@ -5,10 +5,17 @@ ghost use Rattle.std.specs.Prelude.{◌≡◌, ◌≢◌};
 ghost use Rattle.std.specs.IoError.{error_kind};
 
 mod accepted;
+mod both;
+mod certificate;
+mod check;
+mod check_lines;
 mod ending;
 mod load;
+mod made;
 #[cfg(test)]
 mod main_tests;
+#[cfg(test)]
+mod played_tests;
 mod playing;
 mod run;
 #[cfg(test)]

@@ -8,6 +8,8 @@ ghost use Rattle.def_text.specs.Text.{info_text};
 ghost use Rattle.xg_command.specs.Values.{settings_value};
 ghost use Rattle.xg_engine.specs.State.{AreWithinLimits};
 ghost use Rattle.xg_solve.specs.Settings.{settings_of};
+ghost use Rattle.def_program.specs.Bounds.{ConcedesHigh, ForEachPlayed, GapIsExploitability, GetsLow};
+ghost use Rattle.def_program.specs.Bounds.{NoPlanDoesBetter, RepliesAttain, TraceNarrows};
 ghost use Rattle.def_program.specs.Lines.{SaysLine};
 ghost use Rattle.def_program.specs.Meaning.{EachMeant, EndsWith, Means};
 ghost use Rattle.xg_solve.specs.Concludes.{Concludes, FileTold, Tells};
@@ -15,14 +17,17 @@ ghost use Rattle.xg_solve.specs.Endings.{status_of};
 ghost use Rattle.xg_solve.specs.Refusal.{IsRefusal, IsUnloaded};
 
 use crate::accepted::Accepted;
+use crate::check::check;
 use crate::ending::Ending;
 use crate::load::{LoadFault, load};
+use crate::made::{drill, generate};
 use crate::playing::{ending_of, play};
 use crate::text::{fault_line, info_front, write_info};
 use std::alloc::Global;
 use std::marker::Sync;
 use std::sync::Wait;
 use std::thread::Threads;
+use xg_board::LockedRows;
 use xg_command::{Command, Settings as WordSettings, Words};
 use xg_engine::Settings;
 use xg_io::{Files, Gate, Sink};
@@ -30,6 +35,9 @@ use xg_read::FileFault;
 
 /// The greatest scale of a plan.
 const MOST_SCALE: u32 = 1_048_576;
+
+/// How many stripes the rows are cut into that several workers add into.
+const STRIPES: u32 = 16;
 
 /// No rounds, at the greatest scale.
 const NO_ROUNDS: Settings = Settings {
@@ -39,11 +47,12 @@ const NO_ROUNDS: Settings = Settings {
 };
 
 /// Solves the game of a file.
-fn solve<Rt: Threads + Wait + Sync, F: Files, O: Sink>(
+fn solve<Rt: Threads + Wait + Sync, F: Files, O: Sink, G: Gate>(
     rt: &Rt,
     alloc: Global,
     file: &str,
     settings: Settings,
+    rows: &LockedRows<'_, G>,
     files: &mut F,
     out: &mut O,
 ) -> Ending
@@ -54,7 +63,7 @@ fn solve<Rt: Threads + Wait + Sync, F: Files, O: Sink>(
     ensures command { status_of result ≢ 2 }
 {
     match load(alloc, files, file) {
-        Ok(accepted) => play(rt, alloc, &accepted, settings, out),
+        Ok(accepted) => play(rt, alloc, accepted, settings, rows, out),
         Err(fault) => unloaded(alloc, fault),
     }
 }
@@ -94,7 +103,7 @@ fn unloaded(alloc: Global, fault: LoadFault) -> Ending
 }
 
 /// The end of a run whose file has this first fault.
-fn refused(alloc: Global, fault: FileFault) -> Ending
+pub(crate) fn refused(alloc: Global, fault: FileFault) -> Ending
     ensures { IsRefusal fault result }
 {
     match fault_line(alloc, fault) {
@@ -114,13 +123,27 @@ fn asked(settings: WordSettings) -> Settings
     }
 }
 
+/// The rows that so many workers add into.
+fn locked_rows<G: Gate>(workers: u32, gate: &G) -> LockedRows<'_, G>
+    requires some { 1 ≤ workers }
+    requires few { workers ≤ 64 }
+    ensures { result.workers ≡ workers }
+{
+    LockedRows {
+        workers,
+        stripes: STRIPES,
+        gate,
+    }
+}
+
 /// Does what the words say, and says nothing of it.
-fn conclude<Rt: Threads + Wait + Sync, F: Files, O: Sink>(
+fn conclude<Rt: Threads + Wait + Sync, F: Files, O: Sink, G: Gate>(
     rt: &Rt,
     alloc: Global,
     words: &Words,
     files: &mut F,
     out: &mut O,
+    gate: &G,
 ) -> Ending
     requires { All (λ file. IsTrue (F.may_open files.old file)) (named_files words.now) }
     ensures concludes { Concludes (Means words.now (F.told files.old))
@@ -128,15 +151,31 @@ fn conclude<Rt: Threads + Wait + Sync, F: Files, O: Sink>(
     ensures usage { (status_of result ≡ 2) ↔ IsNone (command_of_words words.now) }
 {
     match words.command() {
-        Some(Command::Solve { file, settings, .. }) => solve(
-            rt,
-            alloc,
-            file,
-            asked(settings),
-            files,
-            out,
-        ),
+        Some(
+            Command::Solve {
+                file,
+                settings,
+                workers,
+            },
+        ) => {
+            let rows = locked_rows(workers, gate);
+            solve(rt, alloc, file, asked(settings), &rows, files, out)
+        }
+        Some(Command::Check { file, certificate }) => {
+            check(alloc, file, certificate, files, out)
+        }
         Some(Command::Info { file }) => info(alloc, file, files, out),
+        Some(Command::Gen { cards }) => generate(alloc, cards, out),
+        Some(
+            Command::Drill {
+                cards,
+                settings,
+                workers,
+            },
+        ) => {
+            let rows = locked_rows(workers, gate);
+            drill(rt, alloc, cards, asked(settings), &rows, out)
+        }
         None => Ending::Usage,
     }
 }
@@ -161,7 +200,7 @@ pub fn run<Rt: Threads + Wait + Sync, F: Files, O: Sink, E: Sink, G: Gate>(
     files: &mut F,
     out: &mut O,
     err: &mut E,
-    _gate: &G,
+    gate: &G,
 ) -> u8
     // The files that the words name may be opened; nothing is known of any other name.
     requires { All (λ file. IsTrue (F.may_open files.old file)) (named_files words.now) }
@@ -193,11 +232,25 @@ pub fn run<Rt: Threads + Wait + Sync, F: Files, O: Sink, E: Sink, G: Gate>(
         (answer.status ≡ 0) × WroteFront (sink_call O.written O.faults out.old out.new) answer.text) }
     ensures nothing { result ≢ 0 → result ≢ 4 → WroteNothing (sink_call O.written O.faults out.old out.new) }
 
+    // Of each game that was played for at least one round: the bounds that were written of both plans, in payoff units.
+    ensures lower { result ≡ 0 → ForEachPlayed words.now (F.told files.old)
+        (sink_call O.written O.faults out.old out.new) GetsLow }
+    ensures upper { result ≡ 0 → ForEachPlayed words.now (F.told files.old)
+        (sink_call O.written O.faults out.old out.new) ConcedesHigh }
+    ensures attained { result ≡ 0 → ForEachPlayed words.now (F.told files.old)
+        (sink_call O.written O.faults out.old out.new) RepliesAttain }
+    ensures trace { result ≡ 0 → ForEachPlayed words.now (F.told files.old)
+        (sink_call O.written O.faults out.old out.new) TraceNarrows }
+    ensures gap { result ≡ 0 → ForEachPlayed words.now (F.told files.old)
+        (sink_call O.written O.faults out.old out.new) GapIsExploitability }
+    ensures value { result ≡ 0 → ForEachPlayed words.now (F.told files.old)
+        (sink_call O.written O.faults out.old out.new) NoPlanDoesBetter }
+
     // What was said: the line of the status, and at 0 none.
     ensures line { result ≢ 0 → SaysLine (Means words.now (F.told files.old)) result (F.taken files.new)
         (sink_call E.written E.faults err.old err.new) }
     ensures silent { result ≡ 0 → err.new ≡ err.old }
 {
-    let ending = conclude(rt, alloc, words, files, out);
+    let ending = conclude(rt, alloc, words, files, out, gate);
     ending.finish(err)
 }

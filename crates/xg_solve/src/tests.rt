@@ -29,7 +29,7 @@ rounds 0 every 1 scale 1048576
 end
 "#;
 
-const PENNIES_HEAD: &str = r#"XGCERT 1
+pub(crate) const PENNIES_HEAD: &str = r#"XGCERT 1
 nodes 7 leaves 4
 sets 1 1
 sequences 3 3
@@ -67,17 +67,17 @@ unit 1
 mass 0
 "#;
 
-const ONE_LEAF: &str = r#"EFG 2 R "" { "A" "B" }
+pub(crate) const ONE_LEAF: &str = r#"EFG 2 R "" { "A" "B" }
 t "" 1 { 0, 0 }
 "#;
 
-const ONE_MOVER: &str = r#"EFG 2 R "One mover" { "A" "B" }
+pub(crate) const ONE_MOVER: &str = r#"EFG 2 R "One mover" { "A" "B" }
 p "" 1 1 "a" { "L" "R" } 0
 t "" 1 { 1, -1 }
 t "" 2 { 0, 0 }
 "#;
 
-const PENNIES: &str = r#"EFG 2 R "Pennies" { "A" "B" }
+pub(crate) const PENNIES: &str = r#"EFG 2 R "Pennies" { "A" "B" }
 p "" 1 1 "a" { "H" "T" } 0
 p "" 2 1 "b" { "h" "t" } 0
 t "" 1 "win" { 1, -1 }
@@ -104,7 +104,7 @@ t "" 0
 t "" 0
 "#;
 
-const REPEAT: &str = r#"EFG 2 R "Repeat" { "A" "B" }
+pub(crate) const REPEAT: &str = r#"EFG 2 R "Repeat" { "A" "B" }
 p "" 1 1 "a" { "x" "y" } 0
 c "" 7 "coin" { "h" 1/2 "t" 1/2 } 0
 t "" 1 { 1, -1 }
@@ -252,8 +252,24 @@ const NO_ACTIONS: &str = r#"EFG 2 R "" { "A" "B" } p "" 1 1 { } 0"#;
 /// The words that are taken, for the file `game`.
 const SOLVE: &str = "solve game --rounds 0";
 
+const SOLVE_ONE_ROUND: &str = "solve game --rounds 1";
+
+/// The first 100 bytes of the text of `PENNIES` after one round.
+const PENNIES_FRONT: &str = r#"XGCERT 1
+nodes 7 leaves 4
+sets 1 1
+sequences 3 3
+unit 1
+mass 4
+rounds 1 every 1 scale 1048576
+trace "#;
+
 /// The file `game`. The calls of the files that are listed fail.
-fn files_with(alloc: Global, game: &str, failing: &[u64]) -> Result<MemFiles, AllocError> {
+pub(crate) fn files_with(
+    alloc: Global,
+    game: &str,
+    failing: &[u64],
+) -> Result<MemFiles, AllocError> {
     let mut files = MemFiles::new(alloc, failing)?;
     files.add("game", game.as_bytes())?;
     files.add("-game", game.as_bytes())?;
@@ -261,12 +277,12 @@ fn files_with(alloc: Global, game: &str, failing: &[u64]) -> Result<MemFiles, Al
 }
 
 /// A sink with ample room. The writes that are listed fail.
-fn sink(alloc: Global, failing: &[u64]) -> Result<MemSink, AllocError> {
+pub(crate) fn sink(alloc: Global, failing: &[u64]) -> Result<MemSink, AllocError> {
     MemSink::new(alloc, 1_000, failing)
 }
 
 /// The status of a call with these words.
-fn status<Rt: Threads + Wait + Sync + AllocGlobal>(
+pub(crate) fn status<Rt: Threads + Wait + Sync + AllocGlobal>(
     rt: &Rt,
     words: &str,
     files: &mut MemFiles,
@@ -333,66 +349,6 @@ fn texts_and_faults(rt: HostRuntime) -> Result<(), Fail> {
     Ok(())
 }
 
-const ONE_MOVER_SOLVED: &str = r#"XGCERT 1
-nodes 3 leaves 2
-sets 1 0
-sequences 3 1
-unit 1
-mass 1
-rounds 2 every 1 scale 1048576
-trace 1 1 524288 1 1048576
-trace 2 2 1572864 1 1048576
-plan 1 2097152
-weights 1 1572864 524288
-reply 2 1572864
-plan 2 1048576
-reply 1 1048576
-value 1 1048576 1
-bracket 3/4 1
-end
-"#;
-
-const PENNIES_SOLVED: &str = r#"XGCERT 1
-nodes 7 leaves 4
-sets 1 1
-sequences 3 3
-unit 1
-mass 4
-rounds 2 every 1 scale 1
-trace 1 1 -1 1 1
-trace 2 1 -1 2 0
-plan 1 1
-weights 1 0 1
-reply 2 -1
-value 1 -1 1
-plan 2 2
-weights 1 1 1
-reply 1 0
-value 1 0 1
-bracket -1 0
-end
-"#;
-
-#[test]
-fn texts_of_rounds(rt: HostRuntime) -> Result<(), Fail> {
-    let alloc = rt.alloc();
-    let rows: [(&str, &str, &str); 3] = [
-        ("solve game --rounds 2 --every 1", ONE_MOVER, ONE_MOVER_SOLVED),
-        ("solve --every=1 --scale=1 game --rounds=2", PENNIES, PENNIES_SOLVED),
-        ("solve --rounds=0 game", PENNIES, PENNIES_HEAD),
-    ];
-    for (words, game, text) in rows {
-        let mut files = files_with(alloc, game, &[])?;
-        let mut out = sink(alloc, &[])?;
-        let mut err = sink(alloc, &[])?;
-        let status = status(&rt, words, &mut files, &mut out, &mut err)?;
-        assert_eq!(rt; status, 0, "of {words:?}");
-        assert_eq!(rt; out.bytes(), text.as_bytes(), "of {words:?}");
-        assert_eq!(rt; err.bytes().len(), 0, "of {words:?}");
-    }
-    Ok(())
-}
-
 #[test]
 fn what_is_told_of_games(rt: HostRuntime) -> Result<(), Fail> {
     let alloc = rt.alloc();
@@ -417,17 +373,23 @@ fn what_is_told_of_games(rt: HostRuntime) -> Result<(), Fail> {
 #[test]
 fn words_that_name_no_command(rt: HostRuntime) -> Result<(), Fail> {
     let alloc = rt.alloc();
-    let rows: [&str; 27] = [
+    let rows: [&str; 34] = [
         "",
         "solve",
+        "gen",
         "gen 1",
-        "gen 2",
-        "drill 2",
+        "gen 65",
+        "gen game",
+        "gen 3 --rounds 1",
+        "drill 1",
+        "drill 3 4",
+        "drill game",
         "info",
         "info -game",
         "info game game",
         "info game --rounds 0",
-        "check game game",
+        "check game",
+        "check game game game",
         "solve game --rounds",
         "solve game --rounds=",
         "solve game --rounds 65537",
@@ -436,7 +398,8 @@ fn words_that_name_no_command(rt: HostRuntime) -> Result<(), Fail> {
         "solve -game --rounds 0",
         "--rounds 0 solve game",
         "Solve game --rounds 0",
-        "solve game --workers 1",
+        "solve game --workers 0",
+        "solve game --workers=65",
         "solve game --atomic 0",
         "solve game --rounds 1 --rounds 1",
         "solve game --rounds=1 --rounds 1",
@@ -486,26 +449,34 @@ fn files_that_fail(rt: HostRuntime) -> Result<(), Fail> {
 #[test]
 fn a_sink_that_fails(rt: HostRuntime) -> Result<(), Fail> {
     let alloc = rt.alloc();
-    let rows: [(usize, u64, &str); 3] = [
-        (1_000, 1, ""),
-        (30, 1_000, "XGCERT 1\nnodes 1 leaves 1\nsets"),
-        (0, 1_000, ""),
+    let rows: [(&str, &str, usize, u64, &str); 5] = [
+        (SOLVE, ONE_LEAF, 1_000, 1, ""),
+        (
+            SOLVE,
+            ONE_LEAF,
+            30,
+            1_000,
+            "XGCERT 1\nnodes 1 leaves 1\nsets",
+        ),
+        (SOLVE, ONE_LEAF, 0, 1_000, ""),
+        (SOLVE_ONE_ROUND, PENNIES, 1_000, 1, ""),
+        (SOLVE_ONE_ROUND, PENNIES, 100, 1_000, PENNIES_FRONT),
     ];
-    for (room, write, front) in rows {
-        let mut files = files_with(alloc, ONE_LEAF, &[])?;
+    for (words, game, room, write, front) in rows {
+        let mut files = files_with(alloc, game, &[])?;
         let mut out = MemSink::new(alloc, room, &[write])?;
         let mut err = sink(alloc, &[])?;
-        let status = status(&rt, SOLVE, &mut files, &mut out, &mut err)?;
-        assert_eq!(rt; status, 4, "in {room} bytes, at write {write}");
+        let status = status(&rt, words, &mut files, &mut out, &mut err)?;
+        assert_eq!(rt; status, 4, "of {words:?} in {room} bytes, at write {write}");
         assert_eq!(rt;
             out.bytes(),
             front.as_bytes(),
-            "in {room} bytes, at write {write}"
+            "of {words:?} in {room} bytes, at write {write}"
         );
         assert_eq!(rt;
             err.bytes(),
             b"write fault\n".as_slice(),
-            "in {room} bytes, at write {write}"
+            "of {words:?} in {room} bytes, at write {write}"
         );
     }
     Ok(())

@@ -1,4 +1,4 @@
-use Rattle.std.proofs.Common.{◌≡◌, ◌∙◌, sym}
+use Rattle.std.proofs.Common.{◌∙◌, sym}
 use Rattle.xg_engine.proofs.Ending.{kept_plan, some_plan}
 use Rattle.xg_engine.proofs.drafting.copy_ends.Goals as goal
 

@@ -1,8 +1,6 @@
 use Rattle.std.proofs.Common.{◌≡◌, ap, ◌∙◌}
 use Rattle.def_outside.specs.Calls.{sink_call}
 use Rattle.def_file.specs.Content.{GameFile}
-use Rattle.def_plan.specs.Form.{SequenceForm}
-use Rattle.def_bracket.specs.Outcome.{Outcome}
 use Rattle.def_cert_verdict.specs.Verdict.{WeighedGame}
 use Rattle.def_cert_accepted.specs.OfOutcome.{certificate_of}
 use Rattle.def_cert_text.specs.CertText.{cert_text}
@@ -17,21 +15,21 @@ use Rattle.xg_solve.proofs.playing.play.Goals as goal
 
 pub returns-in-Some : goal.returns-in-Some
 returns-in-Some g c =
-    let game : GameFile = c.args.accepted.now in
+    let game : GameFile = c.args.accepted in
     let settings = c.args.settings in
-    let opened : c.in-Ok.engine.game ≡ weighed_game game = c.in-Ok.ensures.opened ∙ ap weighed_game c.game.ensures in
-    let kept : c.run.new.self.game ≡ weighed_game game = c.in-Ok-run.ensures.game ∙ opened in
+    let opened : c.in-Ok.engine.game ≡ weighed_game game = c.in-Ok.ensures.opened in
+    let kept : c.play_rounds.new.engine.game ≡ weighed_game game = c.in-Ok-play_rounds.ensures.game ∙ opened in
     let form_is : c.form.result.now ≡ form_of_file game =
     c.form.ensures ∙ ap (λ (numbers : WeighedGame). numbers.form) kept in
     let left_is : c.in-Some.outcome.now ≡ outcome (form_of_file game) (head_with (weighed_game game) settings) =
     same_outcome c.in-Some.outcome.now (outcome c.in-Ok.engine.game.form (head_with c.in-Ok.engine.game settings))
-    (c.in-Some.ensures ∙ c.in-Ok-run.ensures.outcome)
+    (c.in-Some.ensures ∙ c.in-Ok-play_rounds.ensures.outcome)
     ∙ ap (λ (numbers : WeighedGame). outcome numbers.form (head_with numbers settings)) opened in
-    tells (sink_call g.O.Sink.written g.O.Sink.faults c.args.out.now c.write_cert.new.out)
+    tells (sink_call g.O.Sink.written g.O.Sink.faults c.args.out.now c.write_paged.new.out)
     (solve_text game (settings_of settings)) (cert_text (certificate_of c.form.result.now c.in-Some.outcome.now))
     (played_is game settings c.form.result.now c.in-Some.outcome.now form_is left_is)
-    c.write_cert.result c.ending_of.result c.ending_of.ensures
-    (writes_of (g.O.Sink.written c.args.out.now) (g.O.Sink.written c.write_cert.new.out)
-    (cert_text (certificate_of c.form.result.now c.in-Some.outcome.now)) c.write_cert.result
-    c.write_cert.ensures.appended c.write_cert.ensures.prefix)
-    c.write_cert.ensures.cause
+    c.write_paged.result c.ending_of.result c.ending_of.ensures
+    (writes_of (g.O.Sink.written c.args.out.now) (g.O.Sink.written c.write_paged.new.out)
+    (cert_text (certificate_of c.form.result.now c.in-Some.outcome.now)) c.write_paged.result
+    c.write_paged.ensures.appended c.write_paged.ensures.prefix)
+    c.write_paged.ensures.cause

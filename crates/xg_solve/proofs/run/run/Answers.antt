@@ -1,7 +1,9 @@
-use Rattle.std.proofs.Common.{◌≡◌, ℕ, sym, ◌∙◌}
+use Rattle.std.proofs.Common.{ℕ, List, Option, sym, ◌∙◌}
 use Rattle.def_outside.specs.Calls.{FilesCall, SinkCall, files_call, sink_call}
 use Rattle.def_program.specs.Program.{Answer}
+use Rattle.def_program.specs.Bounds.{ConcedesHigh, GapIsExploitability, GetsLow, NoPlanDoesBetter, RepliesAttain, TraceNarrows}
 use Rattle.def_program.specs.Meaning.{Means}
+use Rattle.def_program.proofs.Played.{each_played}
 use Rattle.xg_solve.specs.Endings.{line_of}
 use Rattle.xg_solve.proofs.Ended.{Shows, status_shown, status_range}
 use Rattle.xg_solve.proofs.run.run.Goals as goal
@@ -11,7 +13,9 @@ returns g c =
     let files : FilesCall =
     files_call g.F.Files.told g.F.Files.taken g.F.Files.faults c.args.files.now c.conclude-ending.new.files in
     let out : SinkCall = sink_call g.O.Sink.written g.O.Sink.faults c.args.out.now c.conclude-ending.new.out in
-    let meant : Answer → Type 0 = Means c.args.words.now (g.F.Files.told c.args.files.now) in
+    let words : List (List ℕ) = c.args.words.now in
+    let told : List ℕ → Option (List ℕ) = g.F.Files.told c.args.files.now in
+    let meant : Answer → Type 0 = Means words told in
     let ending = c.conclude-ending.result in
     let usage = c.conclude-ending.ensures.usage in
     let status = c.finish.ensures.status in
@@ -29,6 +33,12 @@ returns g c =
       whole = shows.whole;
       front = shows.front;
       nothing = shows.nothing;
+      lower = λ is. each_played words told out GetsLow (λ game settings it. it.lower) (shows.whole is);
+      upper = λ is. each_played words told out ConcedesHigh (λ game settings it. it.upper) (shows.whole is);
+      attained = λ is. each_played words told out RepliesAttain (λ game settings it. it.attained) (shows.whole is);
+      trace = λ is. each_played words told out TraceNarrows (λ game settings it. it.trace) (shows.whole is);
+      gap = λ is. each_played words told out GapIsExploitability (λ game settings it. it.gap) (shows.whole is);
+      value = λ is. each_played words told out NoPlanDoesBetter (λ game settings it. it.value) (shows.whole is);
       line = λ other. record {
         line = line_of ending;
         fits = shows.fits other;

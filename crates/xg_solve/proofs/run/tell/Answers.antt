@@ -1,6 +1,5 @@
 use Rattle.std.proofs.Common.{◌≡◌, ◌++◌, ap, ◌∙◌}
 use Rattle.def_outside.specs.Calls.{sink_call}
-use Rattle.def_bracket.specs.Outcome.{Head}
 use Rattle.def_cert_text.specs.CertText.{head_text}
 use Rattle.def_text.specs.Text.{info_front, info_text}
 use Rattle.xg_cert.specs.Outcome.{head_of}

@@ -4,10 +4,10 @@ use Rattle.def_fraction.specs.Fraction.{most}
 use Rattle.def_plan.specs.Form.{SequenceForm}
 use Rattle.def_run.specs.Run.{outcome}
 use Rattle.xg_cert.specs.Writable.{IsOutcomeOf}
-use Rattle.xg_engine.specs.Ends.{AreBoundsOfLine, HasEnds, HasGapOfLine, NoLineIsWider}
+use Rattle.xg_engine.specs.Ends.{AreBoundsOfLine, AreUnbeaten, HasEnds, HasGapOfLine, NoLineIsWider}
 use Rattle.xg_engine.specs.Players.{IsSoundForm}
 use Rattle.xg_engine.specs.State.{head_with}
-use Rattle.xg_engine.proofs.Shown.{outcome_has_bounds, outcome_has_gap, outcome_never_widens}
+use Rattle.xg_engine.proofs.Shown.{outcome_has_bounds, outcome_has_gap, outcome_is_unbeaten, outcome_never_widens}
 use Rattle.xg_engine.proofs.Writable.{outcome_is_writable}
 use Rattle.xg_engine.proofs.engine.Engine.run.Goals as goal
 
@@ -26,6 +26,14 @@ returns-clause-gap g c some =
     let is : c.in_ok-finished.finished.outcome ≡ outcome c.args.self.now.game.form (head_with c.args.self.now.game c.args.settings) = search rules in
     let sound : IsSoundForm c.args.self.now.game.form = search rules in
     subst (HasEnds (HasGapOfLine form c.args.settings.scale)) (sym is) (outcome_has_gap form head sound c.requires.limits.some_scale some)
+
+pub returns-clause-unbeaten : goal.returns-clause-unbeaten
+returns-clause-unbeaten g c some =
+    let form : SequenceForm = c.args.self.now.game.form in
+    let head : Head = head_with c.args.self.now.game c.args.settings in
+    let is : c.in_ok-finished.finished.outcome ≡ outcome c.args.self.now.game.form (head_with c.args.self.now.game c.args.settings) = search rules in
+    let sound : IsSoundForm c.args.self.now.game.form = search rules in
+    subst (HasEnds (AreUnbeaten form c.args.settings.scale)) (sym is) (outcome_is_unbeaten form head sound c.requires.limits.some_scale some)
 
 pub returns-clause-trace : goal.returns-clause-trace
 returns-clause-trace g c =

@@ -1,4 +1,4 @@
-use Rattle.std.proofs.Common.{◌≡◌, ◌*◌, ◌≤◌, ◌∙◌, sym, arith}
+use Rattle.std.proofs.Common.{◌*◌, ◌∙◌, sym, arith}
 use Rattle.def_tree.specs.declared.Player.TheVariants.{One, Two}
 use Rattle.xg_engine.proofs.Growing.{sum_within}
 use Rattle.xg_engine.proofs.RowSizes.{count_of_rows, small_in_evaluation}

@@ -1,4 +1,4 @@
-use Rattle.std.proofs.Common.{◌≡◌, ap, ◌∙◌}
+use Rattle.std.proofs.Common.{ap, ◌∙◌}
 use Rattle.def_plan.specs.Form.{player_sets}
 use Rattle.def_rows.specs.Rows.{player_rows}
 use Rattle.def_rows.proofs.Rows.{player_rows_are_leaf_sums}

@@ -1,4 +1,4 @@
-use Rattle.std.proofs.Common.{◌≡◌, length, ap, sym, ◌∙◌}
+use Rattle.std.proofs.Common.{length, ap, sym, ◌∙◌}
 use Rattle.def_plan.specs.Form.{player_sets}
 use Rattle.def_plan.proofs.Adding.{length-added}
 use Rattle.xg_engine.proofs.Growing.{one_form, within_roots}

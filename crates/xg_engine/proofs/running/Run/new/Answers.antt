@@ -1,4 +1,4 @@
-use Rattle.std.proofs.Common.{◌≡◌, ◌≤◌, ap, subst, arith}
+use Rattle.std.proofs.Common.{ap, subst, arith}
 use Rattle.def_bracket.specs.Offers.{Board}
 use Rattle.xg_bracket.specs.Board.{last_round}
 use Rattle.xg_engine.specs.Evaluations.{CanEvaluate}

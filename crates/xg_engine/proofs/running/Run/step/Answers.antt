@@ -1,4 +1,4 @@
-use Rattle.std.proofs.Common.{◌≡◌, ◌+◌, ◌<◌, ◌≤◌, length, ap, subst, arith, ◌∙◌, sym}
+use Rattle.std.proofs.Common.{◌+◌, length, ap, subst, arith, ◌∙◌, sym}
 use Rattle.def_bracket.specs.Offers.{Board}
 use Rattle.xg_engine.specs.Evaluations.{CanEvaluate}
 use Rattle.xg_engine.proofs.Growing.{sums_of_players}

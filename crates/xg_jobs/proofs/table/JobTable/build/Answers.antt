@@ -1,20 +1,33 @@
-use Rattle.std.proofs.Common.{ap, ◌∙◌, List}
-use Rattle.def_game_jobs.specs.Ranges.{LeafRange, job_ranges}
-use Rattle.def_plan.specs.Form.{Leaf}
-use Rattle.xg_jobs.specs.Table.{TableOfJobs}
+use Rattle.std.proofs.Common.{◌≡◌, ap, ◌∙◌, map}
+use Rattle.def_game_jobs.specs.Ranges.{job_ranges}
+use Rattle.xg_touched.specs.Touched.{job_rows}
+use Rattle.xg_jobs.specs.Ranges.{range_of}
+use Rattle.xg_jobs.specs.Table.{leaf_groups}
+use Rattle.xg_jobs.proofs.TouchedJobs.{told_inside}
 use Rattle.xg_jobs.proofs.table.JobTable.build.Goals as goal
+
+pub touched_of-requires : goal.touched_of-requires
+touched_of-requires c =
+    let told : map range_of c.deref.result.now ≡ job_ranges c.args.tree.now = ap (map range_of) c.deref.ensures.value ∙ c.in_ok-ranges.ensures.ranges in
+    told_inside c.args.form.now c.args.tree.now c.deref.result.now c.requires c.len-count.ensures.rules.tree.one told
 
 pub returns-clause-table : goal.returns-clause-table
 returns-clause-table c =
-    let told : List LeafRange → List (List Leaf) → TableOfJobs = λ ranges groups. record { ranges = ranges; groups = groups } in
-    ap (λ ranges. told ranges c.in_ok-groups.groups) c.in_ok-ranges.ensures.ranges ∙ ap (told (job_ranges c.args.tree.now)) c.in_ok-groups.ensures
+    let form = c.args.form.now in
+    let ranges : map range_of c.in_ok-ranges.ranges.items ≡ job_ranges c.args.tree.now = c.in_ok-ranges.ensures.ranges in
+    let groups : c.in_ok-groups.groups ≡ leaf_groups form = c.in_ok-groups.ensures in
+    let touched : c.in_ok-touched.touched.items ≡ map (job_rows form) (job_ranges c.args.tree.now) = c.in_ok-touched.ensures ∙ ap (λ rs. map (job_rows form) (map range_of rs)) c.deref.ensures.value ∙ ap (map (job_rows form)) ranges in
+    λ i. record { ranges = ranges i; groups = groups i; touched = touched i }
 
 pub returns-clause-whole : goal.returns-clause-whole
 returns-clause-whole c =
-    let told : List LeafRange → List (List Leaf) → TableOfJobs = λ ranges groups. record { ranges = ranges; groups = groups } in
+    let form = c.args.form.now in
+    let ranges : map range_of c.in_ok-ranges.ranges.items ≡ job_ranges c.args.tree.now = c.in_ok-ranges.ensures.ranges in
+    let groups : c.in_ok-groups.groups ≡ leaf_groups form = c.in_ok-groups.ensures in
+    let touched : c.in_ok-touched.touched.items ≡ map (job_rows form) (job_ranges c.args.tree.now) = c.in_ok-touched.ensures ∙ ap (λ rs. map (job_rows form) (map range_of rs)) c.deref.ensures.value ∙ ap (map (job_rows form)) ranges in
     record {
       tree = c.args.tree.now;
       rules = c.len-count.ensures.rules;
       form_is = c.requires;
-      table_is = ap (λ ranges. told ranges c.in_ok-groups.groups) c.in_ok-ranges.ensures.ranges ∙ ap (told (job_ranges c.args.tree.now)) c.in_ok-groups.ensures;
+      table_is = λ i. record { ranges = ranges i; groups = groups i; touched = touched i };
     }

@@ -1,0 +1,9 @@
+pub mod FineLines
+pub mod Lookups
+pub mod NoFault
+pub mod OwnLines
+pub mod ReadBack
+pub mod Runs
+pub mod Sizes
+pub mod Spelled
+pub mod Tables

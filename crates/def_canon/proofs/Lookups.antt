@@ -1,0 +1,132 @@
+-- What the tables of described entries have of an entry's set and outcome.
+use Rattle.std.proofs.Common.{◌≡◌, ◌≢◌, ℕ, suc, ◌+◌, ◌-◌, ◌≤◌, Bool, true, false, cond, List, [], ◌∷◌, ◌++◌, length, get_or, map, refl, sym, ap, ◌∙◌, subst, arith, eq-eqb}
+use Rattle.std.specs.Prelude.{◌||◌, filter, nat_eq, not, unwrap_or}
+use Rattle.std.specs.List.{list_any, position_or_len}
+use Rattle.std.proofs.lemmas.Bool.{eqb-true, eqb-false, ne_eqb, not_from_false}
+use Rattle.std.proofs.lemmas.Map.Views.{any-filter_same}
+use Rattle.def_tree.specs.declared.Kind.{Kind}
+use Rattle.def_tree.specs.declared.Kind.TheVariants.{Leaf}
+use Rattle.def_tree.specs.Rules.{is_same_kind}
+use Rattle.def_tree.proofs.Sets.{is_same_kind_refl}
+use Rattle.def_file.specs.Content.{SetMention, OutcomeMention, Record}
+use Rattle.def_file.specs.Faults.{mover, no_set, null_outcome}
+use Rattle.def_file.specs.Adding.{new_set, new_outcome, nth_payoff}
+use Rattle.def_file_entries.specs.Entries.{first_given, firsts, given_first, mentions, number_in, of_kind, outcome_entry, outcome_mentions, outcome_numbers, outcome_table, with_outcome, set_entry, set_numbers, set_table}
+use Rattle.def_canon.specs.Described.{Describes, Each}
+use Rattle.def_canon.proofs.Tables.{AreNames, filter_each, filter_some, first_name, first_same, given_same, mention_some, mentions_same}
+
+-- whether a number is among these, and where
+abbrev among : ℕ → List ℕ → Bool
+among n ns = list_any (λ m. nat_eq n m) ns
+
+abbrev place : ℕ → List ℕ → ℕ
+place n ns = position_or_len (λ m. nat_eq n m) ns
+
+among_kept : (n m : ℕ) (ns : List ℕ) → nat_eq n m ≡ false → among n (filter (λ k. not (nat_eq m k)) ns) ≡ among n ns
+among_kept n m ns h =
+    any-filter_same (λ k. nat_eq n k) (λ k. not (nat_eq m k)) true
+    (λ k e. not_from_false (nat_eq m k) (ne_eqb m k (λ same. eqb-false n m h (eqb-true n k e ∙ sym same)))) ns
+
+among_step : (n m : ℕ) (ns : List ℕ) (here : Bool) → nat_eq n m ≡ here → among n (firsts ns) ≡ among n ns
+    → (here || among n (filter (λ k. not (nat_eq m k)) (firsts ns))) ≡ (here || among n ns)
+among_step n m ns true e known = refl
+among_step n m ns false e known = among_kept n m (firsts ns) e ∙ known
+
+-- what appears is among the first appearances
+among-firsts : (n : ℕ) (ns : List ℕ) → among n (firsts ns) ≡ among n ns
+among-firsts n [] = refl
+among-firsts n (m ∷ ns) = among_step n m ns (nat_eq n m) refl (among-firsts n ns)
+
+look_step : {E : Type 0} (f : ℕ → E) (d : E) (n m : ℕ) (ns : List ℕ) (here : Bool) → nat_eq n m ≡ here
+    → (here || among n ns) ≡ true → (among n ns ≡ true → get_or (map f ns) (place n ns) d ≡ f n)
+    → get_or (f m ∷ map f ns) (cond (not here) (1 + place n ns) 0) d ≡ f n
+look_step f d n m ns true is h later = ap f (sym (eqb-true n m is))
+look_step f d n m ns false is h later =
+    let next : 1 + place n ns ≡ suc (place n ns) = omega arith in
+    ap (λ k. get_or (f m ∷ map f ns) k d) next ∙ later h
+
+look : {E : Type 0} (f : ℕ → E) (d : E) (n : ℕ) (ns : List ℕ) → among n ns ≡ true → get_or (map f ns) (place n ns) d ≡ f n
+look f d n [] h = absurd cc
+look f d n (m ∷ ns) h = look_step f d n m ns (nat_eq n m) refl h (look f d n ns)
+
+or_true : (b : Bool) → (b || true) ≡ true
+or_true true = refl
+or_true false = refl
+
+among_here : (key : Record → ℕ) (before : List Record) (r : Record) (behind : List Record)
+    → among (key r) (map key (before ++ r ∷ behind)) ≡ true
+among_here key [] r behind = ap (λ b. b || among (key r) (map key behind)) (eq-eqb (key r) (key r) refl)
+among_here key (x ∷ before) r behind =
+    ap (λ b. nat_eq (key r) (key x) || b) (among_here key before r behind) ∙ or_true (nat_eq (key r) (key x))
+
+-- the number of a number among the first appearances finds what is known of it
+pub found : {E : Type 0} (f : ℕ → E) (d : E) (key : Record → ℕ) (before : List Record) (r : Record) (behind : List Record)
+    → get_or (map f (firsts (map key (before ++ r ∷ behind)))) (number_in (key r) (firsts (map key (before ++ r ∷ behind))) - 1) d ≡ f (key r)
+found f d key before r behind =
+    let ns = map key (before ++ r ∷ behind) in
+    let back : number_in (key r) (firsts ns) - 1 ≡ place (key r) (firsts ns) = omega arith in
+    ap (λ k. get_or (map f (firsts ns)) k d) back
+    ∙ look f d (key r) (firsts ns) (among-firsts (key r) ns ∙ among_here key before r behind)
+
+module _ (sets : Kind → ℕ → SetMention) (outcomes : ℕ → OutcomeMention) where
+  own_entry : (rs before : List Record) (r : Record) (behind : List Record) → rs ≡ before ++ r ∷ behind
+      → Each (Describes sets outcomes) rs → mover r ≢ Leaf → r.set ≡ sets (mover r) r.set.number
+      → set_entry (mover r) rs r.set.number ≡ new_set r.set
+  own_entry rs before r behind split each some same =
+      let n = r.set.number in
+      let many : 1 ≤ length (mentions (mover r) n rs) =
+      subst (λ (xs : List Record). 1 ≤ length (mentions (mover r) n xs)) (sym split) (mention_some before r behind) in
+      let alike = mentions_same sets outcomes (mover r) some n rs each in
+      let named = first_same (sets (mover r) n) (mentions (mover r) n rs) many alike ∙ ap (λ (m : SetMention). m.name) (sym same) in
+      let listed = given_same (sets (mover r) n) (mentions (mover r) n rs) many alike ∙ ap (λ (m : SetMention). unwrap_or m.actions []) (sym same) in
+      (λ i. record { number = n; name = named i; actions = listed i })
+
+  -- the table has the entry's own set under its number
+  pub set_found : (rs before : List Record) (r : Record) (behind : List Record) → rs ≡ before ++ r ∷ behind
+      → Each (Describes sets outcomes) rs → mover r ≢ Leaf → r.set ≡ sets (mover r) r.set.number
+      → get_or (set_table (mover r) rs) (number_in r.set.number (set_numbers (mover r) rs) - 1) no_set ≡ new_set r.set
+  set_found rs before r behind split each some same =
+      let kept = filter_some (λ x. is_same_kind (mover r) (mover x)) before r behind (is_same_kind_refl (mover r)) in
+      let mine : of_kind (mover r) rs ≡ kept.0 ++ r ∷ of_kind (mover r) behind = ap (of_kind (mover r)) split ∙ kept.1 in
+      subst (λ (xs : List Record). get_or (map (set_entry (mover r) rs) (firsts (map (λ x. x.set.number) xs))) (number_in r.set.number (firsts (map (λ x. x.set.number) xs)) - 1) no_set ≡ set_entry (mover r) rs r.set.number)
+      (sym mine) (found (set_entry (mover r) rs) no_set (λ x. x.set.number) kept.0 r (of_kind (mover r) behind))
+      ∙ own_entry rs before r behind split each some same
+
+outcome_names : (v : OutcomeMention) (rs : List Record) → Each (λ r. r.outcome ≡ v) rs → AreNames v.name (map (λ r. r.outcome.name) rs)
+outcome_names v [] each = tt
+outcome_names v (r ∷ rs) each = (ap (λ (m : OutcomeMention). m.name) each.0, outcome_names v rs each.1)
+
+outcome_name_same : (v : OutcomeMention) (rs : List Record) → 1 ≤ length rs → Each (λ r. r.outcome ≡ v) rs
+    → first_given (map (λ r. r.outcome.name) rs) ≡ v.name
+outcome_name_same v [] some each = absurd (omega arith)
+outcome_name_same v (r ∷ rs) some each = first_name v.name (map (λ r. r.outcome.name) (r ∷ rs)) (omega arith) (outcome_names v (r ∷ rs) each)
+
+payoffs_same : (v : OutcomeMention) (rs : List Record) → 1 ≤ length rs → Each (λ r. r.outcome ≡ v) rs
+    → given_first (map (λ r. r.outcome.payoffs) rs) ≡ unwrap_or v.payoffs []
+payoffs_same v [] some each = absurd (omega arith)
+payoffs_same v (r ∷ rs) some each = ap (λ (m : OutcomeMention). unwrap_or m.payoffs []) each.0
+
+front_some : (front : List Record) (x : Record) (more : List Record) → 1 ≤ length (front ++ x ∷ more)
+front_some [] x more = omega arith
+front_some (y ∷ front) x more = omega arith
+
+module _ (sets : Kind → ℕ → SetMention) (outcomes : ℕ → OutcomeMention) where
+  -- the table has the entry's own outcome under its number
+  pub outcome_found : (rs before : List Record) (r : Record) (behind : List Record) → rs ≡ before ++ r ∷ behind
+      → Each (Describes sets outcomes) rs → nat_eq r.outcome.number 0 ≡ false → r.outcome ≡ outcomes r.outcome.number
+      → get_or (outcome_table rs) (number_in r.outcome.number (outcome_numbers rs) - 1) null_outcome ≡ new_outcome r.outcome
+  outcome_found rs before r behind split each some same =
+      let n = r.outcome.number in
+      let kept = filter_some (λ x. not (nat_eq x.outcome.number 0)) before r behind (ap not some) in
+      let mine : with_outcome rs ≡ kept.0 ++ r ∷ with_outcome behind = ap with_outcome split ∙ kept.1 in
+      let second = filter_some (λ x. nat_eq n x.outcome.number) kept.0 r (with_outcome behind) (eq-eqb n n refl) in
+      let hits : outcome_mentions n rs ≡ second.0 ++ r ∷ outcome_mentions n behind = ap (filter (λ x. nat_eq n x.outcome.number)) mine ∙ second.1 in
+      let many : 1 ≤ length (outcome_mentions n rs) = subst (λ (xs : List Record). 1 ≤ length xs) (sym hits) (front_some second.0 r (outcome_mentions n behind)) in
+      let alike : Each (λ x. x.outcome ≡ outcomes n) (outcome_mentions n rs) =
+      filter_each _ (Describes sets outcomes) _ (λ x known is. known.outcome.same ∙ ap outcomes (sym (eqb-true n x.outcome.number is))) (with_outcome rs)
+      (filter_each _ (Describes sets outcomes) _ (λ x known is. known) rs each) in
+      let named = outcome_name_same (outcomes n) (outcome_mentions n rs) many alike ∙ ap (λ (m : OutcomeMention). m.name) (sym same) in
+      let listed = payoffs_same (outcomes n) (outcome_mentions n rs) many alike ∙ ap (λ (m : OutcomeMention). unwrap_or m.payoffs []) (sym same) in
+      subst (λ (xs : List Record). get_or (map (outcome_entry rs) (firsts (map (λ x. x.outcome.number) xs))) (number_in n (firsts (map (λ x. x.outcome.number) xs)) - 1) null_outcome ≡ outcome_entry rs n)
+      (sym mine) (found (outcome_entry rs) null_outcome (λ x. x.outcome.number) kept.0 r (with_outcome behind))
+      ∙ (λ i. record { number = n; name = named i; one = nth_payoff (listed i) 0; two = nth_payoff (listed i) 1 })

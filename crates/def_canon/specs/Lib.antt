@@ -1,0 +1,4 @@
+pub mod Canon
+pub mod Described
+pub mod Laws
+pub mod Writable

@@ -1,0 +1,65 @@
+-- Entries whose texts, numbers and fractions can be written.
+--     IsWritable r      what an entry says is within the limits of the format
+use Rattle.std.specs.Prelude.{◌≡◌, ◌≢◌, ℕ, ◌≤◌, ◌⊎◌, true, List, [], ◌∷◌, Option, Some, None}
+use Rattle.def_fraction.specs.Fraction.{Fraction, most}
+use Rattle.def_file_tokens.specs.Texts.{EndsPlainly}
+use Rattle.def_file.specs.declared.EntryKind.{EntryKind}
+use Rattle.def_file.specs.declared.EntryKind.TheVariants.{Chance, Personal, Leaf}
+use Rattle.def_file.specs.Content.{Action, Prologue, SetMention, OutcomeMention, Record, no_set_mention, zero_fraction}
+use Rattle.def_file.specs.Faults.{has_set}
+use Rattle.def_file.specs.Game.{IsSmallFraction}
+
+-- no text ends with a backslash
+abbrev pub IsPlainName : Option (List ℕ) → Type 0
+IsPlainName None = Unit {0}
+IsPlainName (Some name) = EndsPlainly name
+
+pub record IsPlainPrologue (p : Prologue) : Type 0 where
+  pub title : EndsPlainly p.title
+  pub one : EndsPlainly p.one
+  pub two : EndsPlainly p.two
+  pub comment : EndsPlainly p.comment
+
+-- a probability where chance moves, and else none
+abbrev pub IsChanceOf : EntryKind → Fraction → Type 0
+IsChanceOf Chance f = IsSmallFraction f
+IsChanceOf Personal f = f ≡ zero_fraction
+IsChanceOf Leaf f = f ≡ zero_fraction
+
+abbrev pub AreWritableActions : EntryKind → List Action → Type 0
+AreWritableActions kind [] = Unit {0}
+AreWritableActions kind (a ∷ more) = EndsPlainly a.name × IsChanceOf kind a.chance × AreWritableActions kind more
+
+pub record IsWritableSet (kind : EntryKind) (m : SetMention) : Type 0 where
+  pub from_one : 1 ≤ m.number
+  pub limit : m.number ≤ most
+  pub name : IsPlainName m.name
+  pub actions : List Action
+  pub gives : m.actions ≡ Some actions
+  pub writable : AreWritableActions kind actions
+
+abbrev pub no_outcome_mention : OutcomeMention
+no_outcome_mention = record { number = 0; name = None; payoffs = None }
+
+-- an outcome with its two payoffs
+pub record IsWritableOutcome (m : OutcomeMention) : Type 0 where
+  pub not_null : m.number ≢ 0
+  pub limit : m.number ≤ most
+  pub name : IsPlainName m.name
+  pub one : Fraction
+  pub two : Fraction
+  pub gives : m.payoffs ≡ Some (one ∷ two ∷ [])
+  pub one_small : IsSmallFraction one
+  pub two_small : IsSmallFraction two
+
+-- the player's number, and no set at a leaf
+abbrev pub HasOwnMover : EntryKind → Record → Type 0
+HasOwnMover Chance r = r.player ≡ 0
+HasOwnMover Personal r = (r.player ≡ 1) ⊎ (r.player ≡ 2)
+HasOwnMover Leaf r = (r.player ≡ 0) × (r.set ≡ no_set_mention)
+
+pub record IsWritable (r : Record) : Type 0 where
+  pub name : EndsPlainly r.name
+  pub mover : HasOwnMover r.kind r
+  pub set : has_set r.kind ≡ true → IsWritableSet r.kind r.set
+  pub outcome : (r.outcome ≡ no_outcome_mention) ⊎ IsWritableOutcome r.outcome

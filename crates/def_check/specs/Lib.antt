@@ -1,0 +1,4 @@
+pub mod Check
+pub mod Checking
+pub mod Shown
+pub mod Laws

@@ -1,0 +1,5 @@
+pub mod Accepting
+pub mod Accepted
+pub mod FirstFault
+pub mod Laws
+pub mod Weighed

@@ -1,0 +1,4 @@
+pub mod Cards
+pub mod Described
+pub mod Sizes
+pub mod Written

@@ -1,0 +1,198 @@
+-- The bounds that are printed of a game that was played.
+use Rattle.std.proofs.Common.{◌≡◌, ℕ, ◌≤◌, List, length, Option, Some, None, refl, sym, ap, ◌∙◌, subst, arith}
+use Rattle.std.specs.Prelude.{◌*◌, IsSomeAnd, false}
+use Rattle.std.proofs.lemmas.List.{length-map}
+use Rattle.def_outside.specs.Calls.{SinkCall, Wrote}
+use Rattle.def_tree.specs.declared.Kind.{Kind}
+use Rattle.def_tree.specs.declared.Kind.TheVariants.{One, Two}
+use Rattle.def_tree.specs.Tree.{is_leaf_kind, leaf_count, prefix}
+use Rattle.def_file.specs.Content.{GameFile}
+use Rattle.def_fraction.specs.Fraction.{fraction_of}
+use Rattle.def_file_form.proofs.WholeGames.{stands_for_whole_game}
+use Rattle.def_game_paths.specs.Paths.{leaf_visits}
+use Rattle.def_game_scale.specs.Scale.{all_expected, expected, game_unit, weights}
+use Rattle.def_game_scale.proofs.Expected.{all-lowest}
+use Rattle.def_game_scale.proofs.Units.{unit-positive}
+use Rattle.def_game_numbers.specs.Numbers.{game_file_fault, tables_of}
+use Rattle.def_game_numbers.proofs.Fractions.{tables_lowest}
+use Rattle.def_plan.specs.Form.{AreInOrder}
+use Rattle.def_sequence_form.specs.Form.{information_sets}
+use Rattle.def_sequence_form.proofs.Leaves.{form_has_the_mass, leaves_counted, length-leaves_with}
+use Rattle.def_sequence_form.proofs.Sets.{form_is_in_order}
+use Rattle.def_bracket.specs.Bracket.{BracketEnds, ends_of}
+use Rattle.def_bracket.specs.Outcome.{Head}
+use Rattle.def_run.specs.Run.{evaluations, outcome}
+use Rattle.def_run.proofs.EndLaws.{trace_of_run_never_widens}
+use Rattle.def_run.proofs.RunLaws.{runs_have_ends}
+use Rattle.def_cert_verdict.specs.Certificate.{Certificate, PrintedBounds}
+use Rattle.def_cert_verdict.specs.Verdict.{WeighedGame, verdict}
+use Rattle.def_cert_verdict.specs.Laws.{IsHeadOf, ShowsItsBounds, with_bounds}
+use Rattle.def_cert_verdict.proofs.Shown.{accepted as shown}
+use Rattle.def_cert_accepted.specs.OfOutcome.{certificate_of}
+use Rattle.def_cert_accepted.proofs.Accepted.{accepted as run_accepted}
+use Rattle.def_cert_accepted.proofs.OfRun.{bounds_of_run, certificate_with, same_head}
+use Rattle.def_cert_text.specs.CertText.{cert_text}
+use Rattle.def_command.specs.Grammar.{Check, Command, Drill, Gen, Info, Settings, Solve, command_of_words}
+use Rattle.def_command.specs.Table.{least_cards, most_cards}
+use Rattle.def_command.proofs.InRange.{cards_in_range, settings_in_range}
+use Rattle.def_canon.specs.Canon.{canon}
+use Rattle.def_poker.specs.Poker.{poker}
+use Rattle.def_poker.proofs.Written.{poker_is_read_back}
+use Rattle.def_file.specs.declared.FileFault.{FileFault}
+use Rattle.def_file_form.specs.Laws.{StandsFor}
+use Rattle.def_file_accepted.specs.Accepting.{unless_faulty}
+use Rattle.def_text.specs.Text.{form_of_file, game_head, solve_text}
+use Rattle.def_program.specs.Program.{Answer, game_answer, made_answer, solved, success}
+use Rattle.def_file_accepted.specs.Accepted.{IsAccepted}
+use Rattle.def_program.specs.Meaning.{FileMeans, IsMeant, Means, written}
+use Rattle.def_file_accepted.specs.Weighed.{weighed_game}
+use Rattle.def_file_accepted.proofs.InNumbers.{some_unit, sets_in_order}
+use Rattle.def_program.specs.Bounds.{ForEachPlayed, HasItsBounds, IsPlayed, TraceNarrows, WroteBounds}
+use Rattle.def_program.specs.Laws.{PlayedGamesHaveTheirBounds}
+use Rattle.def_program.proofs.Bounds.{attained, gap, lower, no_better, upper}
+
+-- a form has a leaf for each of its game's
+pub leaves_are : (game : GameFile) → length (form_of_file game).leaves ≡ leaf_count (prefix game.tree)
+leaves_are game =
+    let tables = tables_of game in
+    let many : length (weights tables game.tree) ≡ length (leaf_visits game.tree) =
+    length-map (all_expected tables game.tree) _ ∙ length-map (leaf_visits game.tree) (expected tables) in
+    length-leaves_with game.tree (leaf_visits game.tree) (weights tables game.tree) (omega (arith, many))
+    ∙ leaves_counted game.tree
+
+-- the head is that of the game in numbers
+head_of_game : (game : GameFile) (settings : Settings) → IsHeadOf (weighed_game game) (game_head game settings)
+head_of_game game settings = record {
+  nodes = refl;
+  leaves = sym (leaves_are game);
+  sets_one = refl;
+  sets_two = refl;
+  sequences_one = refl;
+  sequences_two = refl;
+  unit = refl;
+  mass_is = sym (form_has_the_mass.of_game (tables_of game) game.tree);
+}
+
+module _ (bytes : List ℕ) (game : GameFile) (stands : StandsFor bytes game) where
+  abbrev numbers : WeighedGame
+  numbers = weighed_game game
+
+  module _ (settings : Settings) (some_scale : 1 ≤ settings.scale) (ends : BracketEnds)
+      (are : ends_of (evaluations (form_of_file game) settings.scale settings.every settings.rounds) ≡ Some ends) where
+    abbrev bounds : PrintedBounds
+    bounds = bounds_of_run numbers settings.rounds settings.every settings.scale ends
+
+    certificate_is : certificate_of numbers.form (outcome numbers.form (game_head game settings))
+        ≡ with_bounds (game_head game settings) bounds
+    certificate_is =
+        let same = same_head numbers (game_head game settings) (head_of_game game settings) in
+        ap (λ (h : Head). certificate_of numbers.form (outcome numbers.form h)) same
+        ∙ certificate_with numbers settings.rounds settings.every settings.scale ends are
+        ∙ ap (λ (h : Head). with_bounds h bounds) (sym same)
+
+    shows : ShowsItsBounds numbers bounds
+    shows =
+        let one = sets_in_order bytes game stands One refl in
+        let two = sets_in_order bytes game stands Two refl in
+        let low = fraction_of ends.lower.low (numbers.unit * (ends.lower.round * settings.scale)) in
+        let high = fraction_of ends.upper.high (numbers.unit * (ends.upper.round * settings.scale)) in
+        (shown numbers (game_head game settings) bounds low high one two (some_unit bytes game stands)
+        (ap (verdict numbers) (sym certificate_is)
+        ∙ run_accepted.some_round numbers (game_head game settings) ends one two (head_of_game game settings) (some_unit bytes game stands)
+        some_scale are)).2
+
+    trace : TraceNarrows numbers bounds
+    trace = record {
+      within_earlier = λ j k line.
+          trace_of_run_never_widens numbers.form settings.scale settings.every settings.rounds j k line;
+      last_low = sym shows.traced_low;
+      last_high = sym shows.traced_high;
+    }
+
+    has_bounds : HasItsBounds game settings
+    has_bounds = record {
+      bounds = bounds;
+      are = ap (λ (c : Certificate). c.bounds) certificate_is;
+      text = ap cert_text certificate_is;
+      lower = lower numbers bounds shows;
+      upper = upper numbers bounds shows;
+      attained = attained numbers bounds shows;
+      trace = trace;
+      gap = gap numbers bounds shows;
+      value = no_better numbers bounds shows;
+    }
+
+  -- what is printed of a game that a file stands for holds
+  pub read_game_has_bounds : (settings : Settings) → 1 ≤ settings.rounds → 1 ≤ settings.scale
+      → HasItsBounds game settings
+  read_game_has_bounds settings some_round some_scale =
+      let ends = runs_have_ends (form_of_file game) settings.scale settings.every settings.rounds some_round in
+      has_bounds settings some_scale ends.0 ends.1
+
+-- what is printed of a game that was played holds
+pub played_games_have_bounds : PlayedGamesHaveTheirBounds
+played_games_have_bounds bytes game settings is some_round some_scale =
+    read_game_has_bounds bytes game is.readable.stands settings some_round some_scale
+
+-- ---- where the text that is meant was written
+module _ (words : List (List ℕ)) (told : List ℕ → Option (List ℕ)) (out : SinkCall)
+    (Holds : WeighedGame → PrintedBounds → Type 0)
+    (holds : (game : GameFile) (settings : Settings) (it : HasItsBounds game settings)
+    → Holds (weighed_game game) it.bounds) where
+  abbrev IsWritten : Answer → Type 0
+  IsWritten answer = (answer.status ≡ 0) × Wrote out answer.text
+
+  wrote_bounds : (game : GameFile) (settings : Settings) → HasItsBounds game settings
+      → Wrote out (solve_text game settings) → WroteBounds Holds out game settings
+  wrote_bounds game settings it wrote =
+      subst (λ (o : Option PrintedBounds). IsSomeAnd o
+      (λ b. Wrote out (cert_text (with_bounds (game_head game settings) b)) × Holds (weighed_game game) b))
+      (sym it.are) (subst (Wrote out) it.text wrote, holds game settings it)
+
+  by_content : (content : Option (List ℕ)) (game : GameFile) (settings : Settings) → 1 ≤ settings.rounds
+      → 1 ≤ settings.scale → ((answer : Answer) → IsSomeAnd content (λ bytes. FileMeans (solved settings) bytes answer)
+      → IsWritten answer)
+      → IsSomeAnd content (λ bytes. IsAccepted bytes game) → WroteBounds Holds out game settings
+  by_content None game settings some_round some_scale whole plays = absurd plays
+  by_content (Some bytes) game settings some_round some_scale whole is =
+      wrote_bounds game settings (played_games_have_bounds bytes game settings is some_round some_scale)
+      (whole (success (solve_text game settings)) (written game is refl)).1
+
+  made_bounds : (cards : ℕ) (asked : Settings) → least_cards ≤ cards → cards ≤ most_cards → 1 ≤ asked.rounds
+      → 1 ≤ asked.scale → game_file_fault (poker cards) ≡ None → IsWritten (made_answer (solved asked) (poker cards))
+      → WroteBounds Holds out (poker cards) asked
+  made_bounds cards asked some few some_round some_scale none wrote =
+      let stands = (poker_is_read_back cards some few).0 in
+      wrote_bounds (poker cards) asked
+      (read_game_has_bounds (canon (poker cards)) (poker cards) stands asked some_round some_scale)
+      (subst IsWritten (ap (λ (o : Option FileFault). game_answer (solved asked) (unless_faulty o (poker cards))) none)
+      wrote).1
+
+  by_command : (command : Option Command) → command_of_words words ≡ command
+      → ((answer : Answer) → IsMeant command told answer → IsWritten answer)
+      → (game : GameFile) (settings : Settings) → IsPlayed command told game settings → 1 ≤ settings.rounds
+      → WroteBounds Holds out game settings
+  by_command (Some (Solve file asked workers)) is whole game settings plays some_round =
+      let same : settings ≡ asked = plays.1 in
+      let in_range = settings_in_range.of_solve words file asked workers is in
+      subst (λ (s : Settings). WroteBounds Holds out game s) (sym same)
+      (by_content (told file) game asked (subst (λ (s : Settings). 1 ≤ s.rounds) same some_round) in_range.some_scale
+      whole plays.0)
+  by_command (Some (Check file certificate)) is whole game settings plays some_round = absurd plays
+  by_command (Some (Info file)) is whole game settings plays some_round = absurd plays
+  by_command (Some (Gen cards)) is whole game settings plays some_round = absurd plays
+  by_command (Some (Drill cards asked workers)) is whole game settings plays some_round =
+      let same : settings ≡ asked = plays.2 in
+      let range = cards_in_range.of_drill words cards asked workers is in
+      let in_range = settings_in_range.of_drill words cards asked workers is in
+      subst (λ (s : Settings). WroteBounds Holds out game s) (sym same)
+      (subst (λ (g : GameFile). WroteBounds Holds out g asked) (sym plays.0)
+      (made_bounds cards asked range.some range.few (subst (λ (s : Settings). 1 ≤ s.rounds) same some_round)
+      in_range.some_scale (subst (λ (g : GameFile). game_file_fault g ≡ None) plays.0 plays.1)
+      (whole (made_answer (solved asked) (poker cards)) refl)))
+  by_command None is whole game settings plays some_round = absurd plays
+
+  -- the bounds were written with it, and hold
+  pub each_played : ((answer : Answer) → Means words told answer → IsWritten answer)
+      → ForEachPlayed words told out Holds
+  each_played whole = by_command (command_of_words words) refl whole

@@ -1,0 +1,121 @@
+-- What is written of a game that was played for at least one round: the bounds of both printed plans, in payoff units.
+--     game_bounds game settings  the bounds that are printed of it, where a round is played
+--     GetsLow, ConcedesHigh      each printed plan keeps its bound against every plan of the other player
+--     RepliesAttain              the printed replies attain both bounds
+--     TraceNarrows               no trace line is wider than an earlier one, and the last one has both bounds
+--     GapIsExploitability        the bounds are apart by the total exploitability of both plans
+--     NoPlanDoesBetter           no plan is sure of more than the other player's bound
+--     ForEachPlayed              what holds of the bounds that were written of the games that words play
+use Rattle.std.specs.Prelude.{◌≡◌, ℕ, ◌*◌, ◌<◌, ◌≤◌, List, length, slice_index_or, ℤ, pos, ◌-ℤ◌, ◌*ℤ◌, ◌≤ℤ◌, Option, Some, None, IsSomeAnd}
+use Rattle.def_outside.specs.Calls.{SinkCall, Wrote}
+use Rattle.def_file.specs.Content.{GameFile}
+use Rattle.def_fraction.specs.Fraction.{Fraction}
+use Rattle.def_fraction.specs.Laws.{HasValue}
+use Rattle.def_plan.specs.Plan.{IsPlan, pure_plan}
+use Rattle.def_reply.specs.Reply.{choices_of}
+use Rattle.def_reply.specs.Bounds.{IsFloor, IsCeiling, AttainsFloor, AttainsCeiling, IsExploitability}
+use Rattle.def_bracket.specs.Bracket.{TraceLine, LiesWithin}
+use Rattle.def_cert_verdict.specs.Certificate.{PrintedBounds, printed_numbers, last_line}
+use Rattle.def_cert_verdict.specs.Verdict.{WeighedGame}
+use Rattle.def_cert_verdict.specs.Laws.{GetsAtLeast, ConcedesAtMost, IsTotalOver, with_bounds}
+use Rattle.def_cert_accepted.specs.OfOutcome.{certificate_of}
+use Rattle.def_cert_text.specs.CertText.{cert_text}
+use Rattle.def_command.specs.Grammar.{Check, Command, Drill, Gen, Info, Settings, Solve, command_of_words}
+use Rattle.def_text.specs.Text.{form_of_file, game_head, game_outcome, solve_text}
+use Rattle.def_game_numbers.specs.Numbers.{game_file_fault}
+use Rattle.def_poker.specs.Poker.{poker}
+use Rattle.def_file_accepted.specs.Accepted.{IsAccepted}
+use Rattle.def_file_accepted.specs.Weighed.{weighed_game}
+
+-- the bounds in the certificate of what the rounds leave
+abbrev pub game_bounds : GameFile → Settings → Option PrintedBounds
+game_bounds game settings = (certificate_of (form_of_file game) (game_outcome game settings)).bounds
+
+-- ---- what holds of printed bounds
+
+-- player one's printed plan gets at least LOW against every plan of player two, whatever its root weight
+pub record GetsLow (game : WeighedGame) (b : PrintedBounds) : Type 0 where
+  pub is_plan : IsPlan game.form.sets_one b.plan_one.root (printed_numbers b.plan_one)
+  pub gets : GetsAtLeast game b.plan_one.root (printed_numbers b.plan_one) b.low
+
+-- player two's printed plan concedes at most HIGH to every plan of player one
+pub record ConcedesHigh (game : WeighedGame) (b : PrintedBounds) : Type 0 where
+  pub is_plan : IsPlan game.form.sets_two b.plan_two.root (printed_numbers b.plan_two)
+  pub concedes : ConcedesAtMost game b.plan_two.root (printed_numbers b.plan_two) b.high
+
+-- The total of player two's reply is the floor of player one's plan, and the plan of the reply's choices attains it.
+-- LOW is this total over the unit times the plan's root, in lowest terms. The same of player one's reply and HIGH.
+pub record RepliesAttain (game : WeighedGame) (b : PrintedBounds) : Type 0 where
+  pub floor : IsFloor game.form (printed_numbers b.plan_one) b.reply_two.total
+  pub floor_attained : AttainsFloor game.form (printed_numbers b.plan_one) b.reply_two.total
+      (pure_plan game.form.sets_two (choices_of b.reply_two.sets))
+  pub low : IsTotalOver b.low b.reply_two.total (game.unit * b.plan_one.root)
+  pub ceiling : IsCeiling game.form (printed_numbers b.plan_two) b.reply_one.total
+  pub ceiling_attained : AttainsCeiling game.form (printed_numbers b.plan_two) b.reply_one.total
+      (pure_plan game.form.sets_one (choices_of b.reply_one.sets))
+  pub high : IsTotalOver b.high b.reply_one.total (game.unit * b.plan_two.root)
+
+-- no line is wider than an earlier one, and the last one has the totals of both replies
+pub record TraceNarrows (game : WeighedGame) (b : PrintedBounds) : Type 0 where
+  pub within_earlier : (j k : ℕ) (line : TraceLine) → j ≤ k → k < length b.trace
+      → LiesWithin (slice_index_or b.trace k line) (slice_index_or b.trace j line)
+  pub last_low : (last_line b.trace).low ≡ b.reply_two.total
+  pub last_high : (last_line b.trace).high ≡ b.reply_one.total
+
+-- f less g, not in lowest terms
+abbrev pub difference : Fraction → Fraction → Fraction
+difference f g = record { num = (f.num *ℤ pos g.den) -ℤ (g.num *ℤ pos f.den); den = f.den * g.den }
+
+-- HIGH less LOW is the total exploitability of the two printed plans, in payoff units
+pub record GapIsExploitability (game : WeighedGame) (b : PrintedBounds) : Type 0 where
+  pub gap : ℤ
+  pub exploitability : IsExploitability game.form b.plan_one.root b.plan_two.root (printed_numbers b.plan_one)
+      (printed_numbers b.plan_two) gap
+  pub in_units : HasValue (difference b.high b.low) gap (game.unit * (b.plan_one.root * b.plan_two.root))
+
+-- no plan of player one is sure of more than HIGH, and none of player two is sure to concede less than LOW
+pub record NoPlanDoesBetter (game : WeighedGame) (b : PrintedBounds) : Type 0 where
+  pub floors : (root : ℕ) (plan : List ℕ) (floor : ℤ) → IsPlan game.form.sets_one root plan
+      → IsFloor game.form plan floor → (floor *ℤ pos b.high.den) ≤ℤ (b.high.num *ℤ pos (game.unit * root))
+  pub ceilings : (root : ℕ) (plan : List ℕ) (ceiling : ℤ) → IsPlan game.form.sets_two root plan
+      → IsCeiling game.form plan ceiling → (b.low.num *ℤ pos (game.unit * root)) ≤ℤ (ceiling *ℤ pos b.low.den)
+
+-- all of it holds of the bounds that are printed of a game
+pub record HasItsBounds (game : GameFile) (settings : Settings) : Type 0 where
+  pub bounds : PrintedBounds
+  pub are : game_bounds game settings ≡ Some bounds
+  pub text : solve_text game settings ≡ cert_text (with_bounds (game_head game settings) bounds)
+  pub lower : GetsLow (weighed_game game) bounds
+  pub upper : ConcedesHigh (weighed_game game) bounds
+  pub attained : RepliesAttain (weighed_game game) bounds
+  pub trace : TraceNarrows (weighed_game game) bounds
+  pub gap : GapIsExploitability (weighed_game game) bounds
+  pub value : NoPlanDoesBetter (weighed_game game) bounds
+
+-- ---- the games that words play
+
+-- the command plays this game with these settings: `solve` that of an accepted file, `drill` one-card poker where it has
+-- no fault
+abbrev pub CommandPlays : Command → (List ℕ → Option (List ℕ)) → GameFile → Settings → Type 0
+CommandPlays (Solve file asked workers) told game settings =
+    IsSomeAnd (told file) (λ bytes. IsAccepted bytes game) × (settings ≡ asked)
+CommandPlays (Check file certificate) told game settings = ⊥
+CommandPlays (Info file) told game settings = ⊥
+CommandPlays (Gen cards) told game settings = ⊥
+CommandPlays (Drill cards asked workers) told game settings =
+    (game ≡ poker cards) × (game_file_fault game ≡ None) × (settings ≡ asked)
+
+abbrev pub IsPlayed : Option Command → (List ℕ → Option (List ℕ)) → GameFile → Settings → Type 0
+IsPlayed None told game settings = ⊥
+IsPlayed (Some command) told game settings = CommandPlays command told game settings
+
+-- the text with the game's bounds was written, and this holds of them
+abbrev pub WroteBounds : (WeighedGame → PrintedBounds → Type 0) → SinkCall → GameFile → Settings → Type 0
+WroteBounds Holds out game settings = IsSomeAnd (game_bounds game settings)
+    (λ b. Wrote out (cert_text (with_bounds (game_head game settings) b)) × Holds (weighed_game game) b)
+
+-- so it is for each game that the words play for at least one round
+abbrev pub ForEachPlayed : List (List ℕ) → (List ℕ → Option (List ℕ)) → SinkCall
+    → (WeighedGame → PrintedBounds → Type 0) → Type 0
+ForEachPlayed words told out Holds = (game : GameFile) (settings : Settings)
+    → IsPlayed (command_of_words words) told game settings → 1 ≤ settings.rounds → WroteBounds Holds out game settings

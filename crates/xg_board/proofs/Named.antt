@@ -1,0 +1,58 @@
+-- Amounts that a name takes: where they are small they are themselves.
+use Rattle.std.proofs.Common.{◌≡◌, ℕ, zero, suc, ◌^◌, ◌<◌, ◌≤◌, Bool, true, false, List, [], ◌∷◌, length, All, if◌then◌else◌, refl, sym, ap, arith, ℤ, pos}
+use Rattle.std.specs.Prelude.{nat_le, slice_index, unsigned_abs}
+use Rattle.std.specs.List.{range_with_len}
+use Rattle.std.proofs.lemmas.Bool.{leb-true, le-leb}
+use Rattle.std.proofs.lemmas.List.Sums.{AllPass-from_list_all, list_all-from_AllPass}
+use Rattle.std.proofs.lemmas.List.Elements.{All-head, All-tail}
+use Rattle.std.proofs.Math.Nat.{mul-le-mul_right}
+use Rattle.def_sums.specs.Limits.{most_mass, most_root}
+use Rattle.def_sums.specs.Sum.{nat_sum_over}
+use Rattle.def_sums.proofs.Ranges.{All-range, range-All}
+use Rattle.def_sums.proofs.SumLaws.{nat_sum_over-bounded}
+use Rattle.def_plan.specs.Form.{SequenceForm}
+use Rattle.def_plan.specs.Payoff.{mass_of}
+use Rattle.def_rows.specs.Rows.{row_count}
+use Rattle.def_history.specs.History.{job_numbers}
+use Rattle.def_history_rows.proofs.Amounts.{amounts_small}
+use Rattle.xg_jobs.specs.Rows.{AreNumbersOf}
+use Rattle.xg_jobs.specs.Table.{IsTableOf, TableOfJobs}
+use Rattle.xg_board.specs.Running.{are_small, job_amounts, tested}
+use Rattle.xg_board.proofs.PlainRows.{ranges_partition}
+
+-- what a name asks is true of tested amounts
+pub tested_small : (jobs rows : ℕ) (amount : ℕ → ℕ → ℤ) (row : ℕ) → row < rows
+    → nat_sum_over (λ job. unsigned_abs (tested jobs rows amount job row)) (job_numbers jobs) ≤ 2 ^ 98
+tested_small jobs rows amount row below = by_case (are_small jobs rows amount) refl
+  where
+    by_case : (b : Bool) → are_small jobs rows amount ≡ b
+        → nat_sum_over (λ job. unsigned_abs ((if b then amount else λ (j r : ℕ). pos 0) job row)) (job_numbers jobs) ≤ 2 ^ 98
+    by_case true e =
+        let all = AllPass-from_list_all (λ row. nat_le (nat_sum_over (λ job. unsigned_abs (amount job row)) (job_numbers jobs)) (2 ^ 98)) (range_with_len 0 rows) e in
+        leb-true _ _ (range-All (λ row. nat_le (nat_sum_over (λ job. unsigned_abs (amount job row)) (job_numbers jobs)) (2 ^ 98) ≡ true) 0 rows all row (omega arith) (omega arith))
+    by_case false e = omega (arith, nat_sum_over-bounded (λ (job : ℕ). 0) 0 (job_numbers jobs) (λ k d low. omega arith))
+
+-- small amounts stay as they are
+tested_is : (jobs rows : ℕ) (amount : ℕ → ℕ → ℤ) → ((row : ℕ) → row < rows → nat_sum_over (λ job. unsigned_abs (amount job row)) (job_numbers jobs) ≤ 2 ^ 98)
+    → amount ≡ tested jobs rows amount
+tested_is jobs rows amount small = sym (ap (λ (b : Bool). if b then amount else λ (j r : ℕ). pos 0) yes)
+  where
+    yes : are_small jobs rows amount ≡ true
+    yes = list_all-from_AllPass (λ row. nat_le (nat_sum_over (λ job. unsigned_abs (amount job row)) (job_numbers jobs)) (2 ^ 98)) (range_with_len 0 rows)
+        (All-range (λ row. nat_le (nat_sum_over (λ job. unsigned_abs (amount job row)) (job_numbers jobs)) (2 ^ 98) ≡ true) 0 rows (λ row low high. le-leb _ _ (small row (omega arith))))
+
+at_most : (bound : ℕ) (numbers : List ℕ) → All (λ n. n ≤ bound) numbers → (s : ℕ) → slice_index numbers s ≤ bound
+at_most bound [] all s = omega arith
+at_most bound (n ∷ rest) all zero = All-head (λ n. n ≤ bound) n rest all
+at_most bound (n ∷ rest) all (suc s) = at_most bound rest (All-tail (λ n. n ≤ bound) n rest all) s
+
+-- so are the amounts of a form's jobs
+pub amounts_stay : (form : SequenceForm) (numbers_one numbers_two : List ℕ) (table : TableOfJobs) → AreNumbersOf form numbers_one numbers_two → IsTableOf form table
+    → mass_of form.leaves ≤ most_mass
+    → job_amounts form numbers_one numbers_two table.ranges
+    ≡ tested (length table.ranges) (row_count form) (job_amounts form numbers_one numbers_two table.ranges)
+amounts_stay form numbers_one numbers_two table numbers is mass =
+    tested_is (length table.ranges) (row_count form) (job_amounts form numbers_one numbers_two table.ranges) (λ row below.
+    let sizes = amounts_small form numbers_one numbers_two most_root table.ranges (ranges_partition form table is) (at_most most_root numbers_one numbers.small_one) (at_most most_root numbers_two numbers.small_two) row in
+    let scaled = mul-le-mul_right most_root mass in
+    omega (arith, sizes, scaled))

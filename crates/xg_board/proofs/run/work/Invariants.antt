@@ -1,0 +1,7 @@
+use Rattle.xg_jobs.specs.Table.{most_touched}
+use Rattle.xg_rights.specs.Rights.{number_from}
+use Rattle.xg_board.specs.Running.{IsReady}
+use Rattle.xg_board.proofs.run.work.Given as goal
+
+abbrev pub invariant-loop : goal.invariant-loop
+invariant-loop g l = IsReady (number_from l.board.jobs l.board.stripes) (most_touched l.jobs.touched) l.worker.pass l.worker.packet.entries

@@ -1,0 +1,5 @@
+pub mod Boards
+pub mod Holdings
+pub mod Closing
+pub mod Visits
+pub mod Running

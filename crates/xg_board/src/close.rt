@@ -1,0 +1,161 @@
+ghost use Rattle.std.specs.Prelude.{◌≡◌, ℕ, ◌<◌, ◌≤◌, ◌+◌, ◌^◌, ◌*◌, List, [], ◌∷◌, ◌++◌, length, All, pos, ◌+ℤ◌, unsigned_abs, slice_index_or, slice_set, vec_len};
+ghost use Rattle.def_history.specs.Core.{Right};
+ghost use Rattle.def_history.specs.Packets.{place_count as places_in};
+ghost use Rattle.xg_jobs.specs.Rows.{all_rows};
+ghost use Rattle.xg_rights.specs.Rights.{jobs_of, seen, stripes_of};
+ghost use Rattle.xg_locked.specs.Locked.{number_of};
+ghost use Rattle.xg_board.specs.Closing.{AddsTotals, Gathered};
+ghost use Rattle.xg_board.specs.Holdings.{Holding, tickets_of};
+
+use crate::pass::Pass;
+use std::sync::Mutex;
+use xg_jobs::Rows;
+use xg_locked::SeatedStripe;
+use xg_rights::{RightsSeat, SharedRights, meet};
+use xg_rowcore::{RowName, Stripe};
+
+// Takes in the seats of the passes.
+pub(crate) fn take_passes<N: RowName>(
+    table: &SharedRights,
+    all: &mut RightsSeat,
+    passes: Vec<Pass<N>>,
+)
+    requires table { (table.now.table_id ≡ N.table) × (0 < N.table.words) }
+    requires seat { (all.old.table_id ≡ N.table) × (all.old.me.1 ≡ []) × (0 < all.old.me.0.parts)
+        × (all.old.me.0.met ≡ number_of all.old.me) }
+    requires no_rights { All (λ (p : Holding). p.rights ≡ []) passes.items }
+    ensures table { all.new.table_id ≡ N.table }
+    ensures view { all.new.me
+        ≡ (
+          seen all.old.me.0.rights (all.old.me.0.tickets + tickets_of passes.items)
+              (all.old.me.0.parts + length passes.items) (number_of all.old.me),
+          [],
+        ) }
+{
+    for pass in passes {
+        take_pass(table, all, pass);
+    }
+}
+
+// Takes in the seat of a pass.
+fn take_pass<N: RowName>(table: &SharedRights, all: &mut RightsSeat, pass: Pass<N>)
+    requires table { (table.now.table_id ≡ N.table) × (0 < N.table.words) }
+    requires seat { (all.old.table_id ≡ N.table) × (all.old.me.1 ≡ []) × (0 < all.old.me.0.parts) }
+    requires no_rights { pass.rights ≡ [] }
+    ensures table { all.new.table_id ≡ N.table }
+    ensures view { all.new.me
+        ≡ (
+          seen all.old.me.0.rights (all.old.me.0.tickets + pass.tickets) (all.old.me.0.parts + 1)
+              (number_of all.old.me),
+          [],
+        ) }
+{
+    meet(table, all, pass.into_seat());
+}
+
+// Takes in the seats of all stripes, with their totals.
+pub(crate) fn take_stripes<N: RowName>(
+    table: &SharedRights,
+    all: &mut RightsSeat,
+    rows: &mut Rows,
+    stripes: Vec<Mutex<SeatedStripe<N>>>,
+)
+    requires table { (table.now.table_id ≡ N.table) × (0 < N.table.words) }
+    requires seat { (all.old.table_id ≡ N.table) × (all.old.me.1 ≡ []) × (0 < all.old.me.0.parts)
+        × (jobs_of (number_of all.old.me) ≡ N.jobs) × (all.old.me.0.met ≡ number_of all.old.me) }
+    requires zeros { (length (all_rows rows.old) ≡ N.rows)
+        × ((row : ℕ) → row < N.rows → slice_index_or (all_rows rows.old) row (pos 0) ≡ pos 0) }
+    ensures table { all.new.table_id ≡ N.table }
+    ensures view { all.new.me
+        ≡ (
+          seen all.new.me.0.rights all.old.me.0.tickets (all.old.me.0.parts + vec_len stripes)
+              (number_of all.old.me),
+          [],
+        ) }
+    ensures gathered { Gathered N.jobs N.rows (stripes_of (number_of all.old.me)) N.amount all.old.me.0.rights
+        all.new.me.0.rights (all_rows rows.new) }
+    ensures one { length rows.new.one ≡ length rows.old.one }
+{
+    for stripe in stripes {
+        take_stripe(table, all, rows, stripe.into_inner());
+    }
+}
+
+// Takes in the seat of a stripe, with its totals.
+fn take_stripe<N: RowName>(
+    table: &SharedRights,
+    all: &mut RightsSeat,
+    rows: &mut Rows,
+    stripe: SeatedStripe<N>,
+)
+    requires table { (table.now.table_id ≡ N.table) × (0 < N.table.words) }
+    requires seat { (all.old.table_id ≡ N.table) × (all.old.me.1 ≡ []) × (0 < all.old.me.0.parts)
+        × (jobs_of (number_of all.old.me) ≡ N.jobs) }
+    requires gathered { (start : List Right)
+        × Gathered N.jobs N.rows (stripes_of (number_of all.old.me)) N.amount start all.old.me.0.rights
+        (all_rows rows.old) }
+    ensures table { all.new.table_id ≡ N.table }
+    ensures view { all.new.me
+        ≡ (seen all.new.me.0.rights all.old.me.0.tickets (all.old.me.0.parts + 1) (number_of all.old.me), []) }
+    ensures gathered { (start : List Right)
+        → Gathered N.jobs N.rows (stripes_of (number_of all.old.me)) N.amount start all.old.me.0.rights
+        (all_rows rows.old) → Gathered N.jobs N.rows (stripes_of (number_of all.old.me)) N.amount start
+        all.new.me.0.rights (all_rows rows.new) }
+    ensures one { length rows.new.one ≡ length rows.old.one }
+{
+    let (stripe, seat) = stripe.into_parts();
+    stripe.history_is_legal();
+    meet(table, all, seat);
+    add_totals(rows, &stripe);
+}
+
+// Adds a stripe's totals to its rows.
+fn add_totals<N: RowName>(rows: &mut Rows, stripe: &Stripe<N>)
+    requires count { length (all_rows rows.old) ≡ N.rows }
+    requires small { (row : ℕ) → row < N.rows → unsigned_abs (slice_index_or (all_rows rows.old) row (pos 0)) ≤ 2 ^ 98 }
+    ensures added { AddsTotals N.amount stripe.now (all_rows rows.old) (all_rows rows.new) }
+    ensures one { length rows.new.one ≡ length rows.old.one }
+{
+    stripe.history_is_legal();
+    let index = stripe.index();
+    let stripes = stripe.stripes();
+    let places = place_count(rows.one().len() + rows.two().len(), index, stripes);
+    for place in 0..places {
+        let total = stripe.total(place);
+        add_at(rows, place * stripes + index, total);
+    }
+}
+
+// How many of the rows lie in a stripe.
+fn place_count(rows: usize, index: u32, stripes: u32) -> u32
+    requires stripe { index < stripes }
+    requires few { rows < 2 ^ 32 }
+    ensures { result ≡ places_in stripes rows index }
+{
+    ((rows + stripes as usize - 1 - index as usize) / stripes as usize) as u32
+}
+
+// Adds an amount at a row.
+fn add_at(rows: &mut Rows, row: u32, amount: i128)
+    requires there { row < length (all_rows rows.old) }
+    requires small { unsigned_abs (slice_index_or (all_rows rows.old) row (pos 0)) + unsigned_abs amount < 2 ^ 127 }
+    ensures rows { all_rows rows.new
+        ≡ slice_set (all_rows rows.old) row (slice_index_or (all_rows rows.old) row (pos 0) +ℤ amount) }
+    ensures one { length rows.new.one ≡ length rows.old.one }
+{
+    let before = amount_at(rows, row as usize);
+    rows.put(row, before + amount);
+}
+
+// The amount at a row.
+fn amount_at(rows: &Rows, row: usize) -> i128
+    requires { row < length (all_rows rows.now) }
+    ensures { result ≡ slice_index_or (all_rows rows.now) row (pos 0) }
+{
+    let one = rows.one();
+    if row < one.len() {
+        one[row]
+    } else {
+        rows.two()[row - one.len()]
+    }
+}

@@ -1,0 +1,76 @@
+ghost use Rattle.std.specs.Prelude.{◌≡◌, ◌<◌, ◌≤◌, ◌+◌, ◌-◌, []};
+ghost use Rattle.xg_rights.specs.Rights.{seen};
+ghost use Rattle.xg_locked.specs.Locked.{number_of};
+
+use std::marker::{Brand, Model, PhantomData};
+use xg_rights::{Cut, RightsSeat, SharedRights, View, cut};
+use xg_rowcore::RowName;
+
+/// What the caller of a board's opening holds: the tickets and the parts for at most 64 passes.
+#[derive(Drop)]
+pub struct Purse<N: RowName> {
+    made: u32,
+    seat: RightsSeat,
+    name: PhantomData<N>,
+}
+
+impl<N: RowName> Model for Purse<N> {
+    ghost use Rattle.xg_board.specs.Holdings.{IsPurse, PurseView};
+
+    ghost Value = { PurseView };
+
+    ghost view = { λ p. record { made = p.made; number = p.seat.me.0.number } };
+
+    ghost invariant = { λ p. IsPurse N.table p.seat.table_id p.seat.me p.made };
+}
+
+impl<N: RowName> Purse<N> {
+    pub(crate) fn of(seat: RightsSeat) -> Purse<N>
+        requires { (seat.table_id ≡ N.table) × (seat.me ≡ (seen [] 64 65 (number_of seat.me), [])) }
+        ensures { result ≡ record { made = 0; number = number_of seat.me } }
+    {
+        Purse {
+            made: 0,
+            seat,
+            name: PhantomData,
+        }
+    }
+
+    // Gives a ticket and a part for a pass.
+    pub(crate) fn give(&mut self, table: &SharedRights) -> RightsSeat
+        requires table { (table.now.table_id ≡ N.table) × (0 < N.table.words) }
+        requires few { self.old.made < 64 }
+        ensures table { result.table_id ≡ N.table }
+        ensures seat { result.me ≡ (seen [] 1 1 self.old.number, []) }
+        ensures purse { self.new ≡ record { made = self.old.made + 1; number = self.old.number } }
+    {
+        let seat = give_pass::<Brand>(table, &mut self.seat);
+        self.made += 1;
+        seat
+    }
+
+    pub(crate) fn into_seat(self) -> RightsSeat
+        ensures table { result.table_id ≡ N.table }
+        ensures view { result.me ≡ (seen [] (64 - self.made) (65 - self.made) self.number, []) }
+        ensures few { self.made ≤ 64 }
+    {
+        let Purse {
+            made: _,
+            seat,
+            name: _,
+        } = self;
+        seat
+    }
+}
+
+// Cuts off a ticket and a part.
+fn give_pass<C: Cut>(table: &SharedRights, seat: &mut RightsSeat) -> RightsSeat
+    requires table { (seat.old.table_id ≡ table.now.table_id) × (0 < table.now.table_id.words) }
+    requires rich { (1 ≤ seat.old.me.0.tickets) × (2 ≤ seat.old.me.0.parts) × (seat.old.me.0.rights ≡ []) }
+    requires kept { C.kept ≡ seen [] (seat.old.me.0.tickets - 1) (seat.old.me.0.parts - 1) (number_of seat.old.me) }
+    requires given { C.given ≡ seen [] 1 1 (number_of seat.old.me) }
+    ensures kept { (seat.new.table_id ≡ seat.old.table_id) × (seat.new.me ≡ (C.kept, seat.old.me.1)) }
+    ensures given { (result.table_id ≡ seat.old.table_id) × (result.me ≡ (C.given, [])) }
+{
+    cut::<C>(table, seat)
+}

@@ -1,0 +1,182 @@
+//! Reading the lines that have a field for each number.
+ghost use Rattle.std.specs.Prelude.{◌≡◌, ◌≤◌, ◌^◌, ℕ, IfOk};
+ghost use Rattle.std.specs.Fmt.{decimal};
+ghost use Rattle.def_sums.specs.Limits.{most_rounds};
+ghost use Rattle.def_tree.specs.Rules.{most_nodes};
+ghost use Rattle.def_cert_text.specs.Fields.{space, feed, number};
+ghost use Rattle.def_cert_text.specs.Formats.{and_then, fixed_field, whole_field};
+ghost use Rattle.def_cert_text.specs.CertText.{after_word, size_line, game_lines, asked_line, head_lines, numbers_of_game, line_of_round, value_line, bracket_line};
+ghost use Rattle.xg_cert_fields.specs.Reading.{Gives};
+ghost use Rattle.xg_cert.specs.Outcome.{head_of, line_of};
+ghost use Rattle.xg_cert.specs.ReadCert.{set_reply_of, asked_of};
+
+use crate::head::Head;
+use crate::outcome::TraceRow;
+use def_cert_text::CertFault;
+use itoa::Buffer;
+use xg_cert_fields::FieldReader;
+use xg_frac::Ratio;
+
+const MOST_NODES: u64 = 1 << 20;
+
+const MOST_ACTIONS: u64 = 1024;
+
+const MOST_UNIT: u64 = 1 << 62;
+
+const MOST_ROUNDS: u64 = 1 << 16;
+
+const MOST_SCALE: u64 = 1 << 20;
+
+/// What was asked of a run.
+#[derive(Clone, Copy)]
+pub(crate) struct Asked {
+    pub(crate) rounds: u32,
+    pub(crate) every: u32,
+    pub(crate) scale: u32,
+}
+
+/// A value and a choice.
+#[derive(Clone, Copy)]
+pub(crate) struct ValueLine {
+    pub(crate) value: i128,
+    pub(crate) choice: u32,
+}
+
+/// A word, and a number of this range.
+fn named_line(
+    reader: &mut FieldReader<'_>,
+    word: &[u8],
+    low: u64,
+    high: u64,
+) -> Result<u64, CertFault>
+    ensures exact { Gives (λ n. n) result reader.new.left
+        ((after_word word.now (whole_field low high feed)).read reader.old.total reader.old.left) }
+    ensures total { reader.new.total ≡ reader.old.total }
+{
+    reader.word(word, b' ')?;
+    reader.whole(low, high, b'\n')
+}
+
+fn size_line(reader: &mut FieldReader<'_>) -> Result<(u32, u32), CertFault>
+    ensures exact { Gives (λ p. p) result reader.new.left (size_line.read reader.old.total reader.old.left) }
+    ensures total { reader.new.total ≡ reader.old.total }
+{
+    reader.word(b"nodes", b' ')?;
+    let nodes = reader.whole(1, MOST_NODES, b' ')? as u32;
+    reader.word(b"leaves", b' ')?;
+    let leaves = reader.whole(1, MOST_NODES, b'\n')? as u32;
+    Ok((nodes, leaves))
+}
+
+/// A word, and a number of each player.
+fn pair_line(reader: &mut FieldReader<'_>, word: &[u8], low: u64) -> Result<(u32, u32), CertFault>
+    ensures exact { Gives (λ p. p) result reader.new.left
+        ((after_word word.now (and_then (whole_field low most_nodes space) (λ _. whole_field low most_nodes feed))).read
+        reader.old.total reader.old.left) }
+    ensures total { reader.new.total ≡ reader.old.total }
+    ensures range { IfOk result (λ p. (p.0 ≤ most_nodes) × (p.1 ≤ most_nodes)) }
+{
+    reader.word(word, b' ')?;
+    let one = reader.whole(low, MOST_NODES, b' ')? as u32;
+    let two = reader.whole(low, MOST_NODES, b'\n')? as u32;
+    Ok((one, two))
+}
+
+fn asked_line(reader: &mut FieldReader<'_>) -> Result<Asked, CertFault>
+    ensures exact { Gives asked_of result reader.new.left (asked_line.read reader.old.total reader.old.left) }
+    ensures total { reader.new.total ≡ reader.old.total }
+    ensures rounds { IfOk result (λ a. a.rounds ≤ most_rounds) }
+    ensures every { IfOk result (λ a. (1 ≤ a.every) × (a.every ≤ most_rounds)) }
+{
+    reader.word(b"rounds", b' ')?;
+    let rounds = reader.whole(0, MOST_ROUNDS, b' ')? as u32;
+    reader.word(b"every", b' ')?;
+    let every = reader.whole(1, MOST_ROUNDS, b' ')? as u32;
+    reader.word(b"scale", b' ')?;
+    let scale = reader.whole(1, MOST_SCALE, b'\n')? as u32;
+    Ok(Asked {
+        rounds,
+        every,
+        scale,
+    })
+}
+
+/// The lines 2 to 7.
+pub(crate) fn head_lines(reader: &mut FieldReader<'_>) -> Result<Head, CertFault>
+    ensures exact { Gives head_of result reader.new.left (head_lines.read reader.old.total reader.old.left) }
+    ensures total { reader.new.total ≡ reader.old.total }
+    ensures sets { IfOk result (λ head. (head.sets.0 ≤ most_nodes) × (head.sets.1 ≤ most_nodes)) }
+    ensures rounds { IfOk result (λ head. head.rounds ≤ most_rounds) }
+    ensures every { IfOk result (λ head. (1 ≤ head.every) × (head.every ≤ most_rounds)) }
+{
+    let (nodes, leaves) = size_line(reader)?;
+    let sets = pair_line(reader, b"sets", 0)?;
+    let sequences = pair_line(reader, b"sequences", 1)?;
+    let unit = named_line(reader, b"unit", 1, MOST_UNIT)?;
+    let mass = named_line(reader, b"mass", 0, MOST_UNIT)?;
+    let asked = asked_line(reader)?;
+    Ok(Head {
+        nodes,
+        leaves,
+        sets,
+        sequences,
+        unit,
+        mass,
+        rounds: asked.rounds,
+        every: asked.every,
+        scale: asked.scale,
+    })
+}
+
+/// The line of the evaluation after a round.
+pub(crate) fn trace_line(reader: &mut FieldReader<'_>, round: u32) -> Result<TraceRow, CertFault>
+    ensures exact { Gives line_of result reader.new.left ((line_of_round round).read reader.old.total reader.old.left) }
+    ensures total { reader.new.total ≡ reader.old.total }
+{
+    let latest = round as u64;
+    reader.word(b"trace", b' ')?;
+    reader.whole(latest, latest, b' ')?;
+    let low_round = reader.whole(1, latest, b' ')? as u32;
+    let low = reader.integer(b' ')?;
+    let high_round = reader.whole(1, latest, b' ')? as u32;
+    let high = reader.integer(b'\n')?;
+    Ok(TraceRow {
+        round,
+        low_round,
+        low,
+        high_round,
+        high,
+    })
+}
+
+/// The number of a set, which is known.
+pub(crate) fn set_number(reader: &mut FieldReader<'_>, set: u32) -> Result<(), CertFault>
+    ensures exact { Gives (λ _. tt) result reader.new.left
+        ((fixed_field number (decimal set) space).read reader.old.total reader.old.left) }
+    ensures total { reader.new.total ≡ reader.old.total }
+{
+    let mut buffer = Buffer::new();
+    reader.known_number(buffer.format(set).as_bytes(), b' ')
+}
+
+/// The line of a set in a reply.
+pub(crate) fn value_line(reader: &mut FieldReader<'_>, set: u32) -> Result<ValueLine, CertFault>
+    ensures exact { Gives set_reply_of result reader.new.left ((value_line set).read reader.old.total reader.old.left) }
+    ensures total { reader.new.total ≡ reader.old.total }
+{
+    reader.word(b"value", b' ')?;
+    set_number(reader, set)?;
+    let value = reader.integer(b' ')?;
+    let choice = reader.whole(1, MOST_ACTIONS, b'\n')? as u32;
+    Ok(ValueLine { value, choice })
+}
+
+pub(crate) fn bracket_line(reader: &mut FieldReader<'_>) -> Result<(Ratio, Ratio), CertFault>
+    ensures exact { Gives (λ p. p) result reader.new.left (bracket_line.read reader.old.total reader.old.left) }
+    ensures total { reader.new.total ≡ reader.old.total }
+{
+    reader.word(b"bracket", b' ')?;
+    let low = reader.fraction(b' ')?;
+    let high = reader.fraction(b'\n')?;
+    Ok((low, high))
+}

@@ -1,0 +1,163 @@
+//! Reading the lines of which there are many.
+ghost use Rattle.std.specs.Prelude.{◌≡◌, ◌-◌, ◌+◌, ◌*◌, ◌/◌, ◌≤◌, min, length, IfOk, slice_index_or};
+ghost use Rattle.def_sums.specs.Limits.{most_root, most_rounds};
+ghost use Rattle.def_tree.specs.Rules.{most_actions, most_nodes};
+ghost use Rattle.def_cert_text.specs.Formats.{read_each, read_row};
+ghost use Rattle.def_cert_text.specs.CertText.{evaluation_count, line_of_round, round_of_evaluation, trace_lines, value_line, weights_line};
+ghost use Rattle.xg_cert_fields.specs.Reading.{Gives};
+ghost use Rattle.xg_cert.specs.Outcome.{head_of, line_of, trace_of};
+ghost use Rattle.xg_cert.specs.Answers.{Extends, GivesFor};
+
+use crate::head::Head;
+use crate::outcome::TraceRow;
+use crate::printed::{PlanLines, ReplyLines};
+use crate::read_lines::{set_number, trace_line, value_line};
+use crate::refused::CertRefused;
+use def_cert_text::CertFault;
+use std::alloc::Global;
+use xg_cert_fields::FieldReader;
+
+/// The greatest root, which is the greatest number of a sequence, too.
+pub(crate) const MOST_ROOT: u64 = 1 << 36;
+
+/// How many numbers may follow the first one of a set.
+const MORE: u32 = 1023;
+
+fn evaluation_count(head: &Head) -> u32
+    requires rounds { head.now.rounds ≤ most_rounds }
+    requires every { (1 ≤ head.now.every) × (head.now.every ≤ most_rounds) }
+    ensures { result ≡ evaluation_count (head_of head.now) }
+{
+    (head.rounds + head.every - 1) / head.every
+}
+
+fn round_of_evaluation(head: &Head, k: u32) -> u32
+    requires k { k ≤ most_rounds + most_rounds }
+    requires rounds { head.now.rounds ≤ most_rounds }
+    requires every { head.now.every ≤ most_rounds }
+    ensures { result ≡ round_of_evaluation (head_of head.now) k }
+{
+    let round = k as u64 * head.every as u64;
+    round.min(head.rounds as u64) as u32
+}
+
+/// The line of an evaluation, which counts from 1.
+fn line_of_evaluation(
+    reader: &mut FieldReader<'_>,
+    head: &Head,
+    k: u32,
+) -> Result<TraceRow, CertFault>
+    requires k { k ≤ most_rounds + most_rounds }
+    requires rounds { head.now.rounds ≤ most_rounds }
+    requires every { head.now.every ≤ most_rounds }
+    ensures exact { Gives line_of result reader.new.left
+        ((line_of_round (round_of_evaluation (head_of head.now) k)).read reader.old.total reader.old.left) }
+    ensures total { reader.new.total ≡ reader.old.total }
+{
+    let round = round_of_evaluation(head, k);
+    trace_line(reader, round)
+}
+
+/// A line for each evaluation.
+pub(crate) fn trace_lines(
+    reader: &mut FieldReader<'_>,
+    alloc: Global,
+    head: &Head,
+) -> Result<Vec<TraceRow>, CertRefused>
+    requires rounds { head.now.rounds ≤ most_rounds }
+    requires every { (1 ≤ head.now.every) × (head.now.every ≤ most_rounds) }
+    ensures exact { GivesFor (λ rows. trace_of rows.items) result reader.new.left
+        ((trace_lines (head_of head.now)).read reader.old.total reader.old.left) }
+    ensures total { reader.new.total ≡ reader.old.total }
+{
+    let count = evaluation_count(head);
+    let mut rows = Vec::new(alloc);
+    'rows: for i in 0..count {
+        let row = line_of_evaluation(reader, head, i + 1)?;
+        rows.push(row)?;
+    }
+    Ok(rows)
+}
+
+/// The numbers of a set, put behind those before.
+fn row(reader: &mut FieldReader<'_>, numbers: &mut Vec<u64>) -> Result<(), CertRefused>
+    ensures exact { Extends numbers.old.items numbers.new.items result reader.new.left
+        (read_row most_root (most_actions - 1) reader.old.total reader.old.left) }
+    ensures total { reader.new.total ≡ reader.old.total }
+{
+    'items: for _ in 0..MORE {
+        let item = reader.row_number(MOST_ROOT)?;
+        numbers.push(item.number)?;
+        if item.last {
+            return Ok(());
+        }
+    }
+    let number = reader.whole(0, MOST_ROOT, b'\n')?;
+    numbers.push(number)?;
+    Ok(())
+}
+
+fn weights_line(
+    reader: &mut FieldReader<'_>,
+    set: u32,
+    numbers: &mut Vec<u64>,
+) -> Result<(), CertRefused>
+    ensures exact { Extends numbers.old.items numbers.new.items result reader.new.left
+        ((weights_line set).read reader.old.total reader.old.left) }
+    ensures total { reader.new.total ≡ reader.old.total }
+{
+    reader.word(b"weights", b' ')?;
+    set_number(reader, set)?;
+    row(reader, numbers)
+}
+
+/// A line for each set, below the root.
+pub(crate) fn weights_lines(
+    reader: &mut FieldReader<'_>,
+    alloc: Global,
+    root: u64,
+    sets: u32,
+) -> Result<PlanLines, CertRefused>
+    requires { sets ≤ most_nodes }
+    ensures exact { GivesFor (λ plan. plan.weights) result reader.new.left
+        (read_each weights_line 1 sets reader.old.total reader.old.left) }
+    ensures root { IfOk result (λ plan. plan.root ≡ root) }
+    ensures total { reader.new.total ≡ reader.old.total }
+{
+    let mut numbers = Vec::new(alloc);
+    numbers.push(root)?;
+    let mut starts = Vec::new(alloc);
+    starts.push(1)?;
+    'sets: for i in 0..sets {
+        weights_line(reader, i + 1, &mut numbers)?;
+        starts.push(numbers.len())?;
+    }
+    Ok(PlanLines { numbers, starts })
+}
+
+/// A line for each set, below the total.
+pub(crate) fn value_lines(
+    reader: &mut FieldReader<'_>,
+    alloc: Global,
+    total: i128,
+    sets: u32,
+) -> Result<ReplyLines, CertRefused>
+    requires { sets ≤ most_nodes }
+    ensures exact { GivesFor (λ reply. reply.sets) result reader.new.left
+        (read_each value_line 1 sets reader.old.total reader.old.left) }
+    ensures reply_total { IfOk result (λ reply. reply.total ≡ total) }
+    ensures total { reader.new.total ≡ reader.old.total }
+{
+    let mut values = Vec::new(alloc);
+    let mut choices = Vec::new(alloc);
+    'sets: for i in 0..sets {
+        let line = value_line(reader, i + 1)?;
+        values.push(line.value)?;
+        choices.push(line.choice)?;
+    }
+    Ok(ReplyLines {
+        total,
+        values,
+        choices,
+    })
+}

@@ -1,0 +1,157 @@
+//! Reading a text.
+ghost use Rattle.std.specs.Prelude.{◌≡◌, ◌≤◌, Ok, Err, IfOk, nat_lt};
+ghost use Rattle.def_tree.specs.Rules.{most_nodes};
+ghost use Rattle.def_cert_ranges.specs.Ranges.{CertificateFits};
+ghost use Rattle.def_cert_verdict.specs.Certificate.{Certificate};
+ghost use Rattle.def_cert_text.specs.declared.fault.CertFault as fault;
+ghost use Rattle.def_cert_text.specs.Formats.{where_asked};
+ghost use Rattle.def_cert_text.specs.CertText.{bounds_lines, cert_in, cert_text, plan_lines, reply_lines, whole_certificate};
+ghost use Rattle.def_cert_text.specs.FirstFault.{FirstCertFault};
+ghost use Rattle.xg_cert.specs.declared.refused.CertRefused.TheVariants as refused;
+ghost use Rattle.xg_cert.specs.Answers.{Answers, AnswersAs, GivesFor};
+ghost use Rattle.xg_cert.specs.Outcome.{head_of};
+ghost use Rattle.xg_cert.specs.ReadCert.{IsReadHead, bounds_of, bounds_where_given, certificate_of};
+
+use crate::cert::{BoundsLines, Cert};
+use crate::head::Head;
+use crate::printed::{PlanLines, ReplyLines};
+use crate::read_lines::{bracket_line, head_lines};
+use crate::read_lists::{MOST_ROOT, trace_lines, value_lines, weights_lines};
+use crate::refused::CertRefused;
+use std::alloc::Global;
+use xg_cert_fields::FieldReader;
+
+/// Reads a certificate from the bytes of its text, version 1.
+///
+/// Memory apart, the answer is the certificate that the bytes say, or their first fault.
+pub fn read_cert(alloc: Global, bytes: &[u8]) -> Result<Cert, CertRefused>
+    ensures exact { Answers result (cert_in bytes.now) }
+
+    // What is read is within its ranges and the bytes are its text, and each such text is read.
+    ensures fits { IfOk result CertificateFits }
+    ensures text { IfOk result (λ cert. bytes.now ≡ cert_text cert) }
+    ensures only { (cert : Certificate) → CertificateFits cert → bytes.now ≡ cert_text cert → Answers result (Ok cert) }
+
+    // A fault is the first of the bytes, and the first is the fault.
+    ensures first { (f : fault.CertFault) → result ≡ Err (refused.Cert f) → FirstCertFault bytes.now f }
+    ensures faults { (f : fault.CertFault) → FirstCertFault bytes.now f → Answers result (Err f) }
+{
+    read_text(alloc, bytes)
+}
+
+/// The same, by what reading gives.
+fn read_text(alloc: Global, bytes: &[u8]) -> Result<Cert, CertRefused>
+    ensures { Answers result (cert_in bytes.now) }
+{
+    let (head, bounds) = read_parts(alloc, bytes)?;
+    Ok(Cert { head, bounds })
+}
+
+#[tactic(auto, unfolding(def_cert_text::specs::CertText::cert_in))]
+fn read_parts(alloc: Global, bytes: &[u8]) -> Result<(Head, Option<BoundsLines>), CertRefused>
+    ensures { AnswersAs (λ p. certificate_of p.0 p.1) result (cert_in bytes.now) }
+{
+    let mut reader = FieldReader::new(bytes);
+    let parts = whole_certificate(&mut reader, alloc)?;
+    reader.end()?;
+    Ok(parts)
+}
+
+/// All lines up to the last.
+fn whole_certificate(
+    reader: &mut FieldReader<'_>,
+    alloc: Global,
+) -> Result<(Head, Option<BoundsLines>), CertRefused>
+    ensures exact { GivesFor (λ p. certificate_of p.0 p.1) result reader.new.left
+        (whole_certificate.read reader.old.total reader.old.left) }
+    ensures total { reader.new.total ≡ reader.old.total }
+{
+    reader.word(b"XGCERT", b' ')?;
+    reader.version(b"1", b'\n')?;
+    let head = head_lines(reader)?;
+    let bounds = bounds_where_asked(reader, alloc, &head)?;
+    reader.word(b"end", b'\n')?;
+    Ok((head, bounds))
+}
+
+/// All below the head, which is there where a round was asked.
+fn bounds_where_asked(
+    reader: &mut FieldReader<'_>,
+    alloc: Global,
+    head: &Head,
+) -> Result<Option<BoundsLines>, CertRefused>
+    requires { IsReadHead head.now }
+    ensures exact { GivesFor bounds_where_given result reader.new.left
+        ((where_asked (nat_lt 0 head.now.rounds) (bounds_lines (head_of head.now))).read
+        reader.old.total reader.old.left) }
+    ensures total { reader.new.total ≡ reader.old.total }
+{
+    if head.rounds == 0 {
+        return Ok(None);
+    }
+    let bounds = bounds_lines(reader, alloc, head)?;
+    Ok(Some(bounds))
+}
+
+fn bounds_lines(
+    reader: &mut FieldReader<'_>,
+    alloc: Global,
+    head: &Head,
+) -> Result<BoundsLines, CertRefused>
+    requires { IsReadHead head.now }
+    ensures exact { GivesFor bounds_of result reader.new.left
+        ((bounds_lines (head_of head.now)).read reader.old.total reader.old.left) }
+    ensures total { reader.new.total ≡ reader.old.total }
+{
+    let trace = trace_lines(reader, alloc, head)?;
+    let plan_one = plan_lines(reader, alloc, b"1", head.sets.0)?;
+    let reply_two = reply_lines(reader, alloc, b"2", head.sets.1)?;
+    let plan_two = plan_lines(reader, alloc, b"2", head.sets.1)?;
+    let reply_one = reply_lines(reader, alloc, b"1", head.sets.0)?;
+    let (low, high) = bracket_line(reader)?;
+    Ok(BoundsLines {
+        trace,
+        plan_one,
+        reply_two,
+        plan_two,
+        reply_one,
+        low,
+        high,
+    })
+}
+
+/// A player's plan, by the player's digit.
+fn plan_lines(
+    reader: &mut FieldReader<'_>,
+    alloc: Global,
+    digit: &[u8],
+    sets: u32,
+) -> Result<PlanLines, CertRefused>
+    requires { sets ≤ most_nodes }
+    ensures exact { GivesFor (λ plan. plan) result reader.new.left
+        ((plan_lines digit.now sets).read reader.old.total reader.old.left) }
+    ensures total { reader.new.total ≡ reader.old.total }
+{
+    reader.word(b"plan", b' ')?;
+    reader.word(digit, b' ')?;
+    let root = reader.whole(1, MOST_ROOT, b'\n')?;
+    weights_lines(reader, alloc, root, sets)
+}
+
+/// A player's reply, by the player's digit.
+fn reply_lines(
+    reader: &mut FieldReader<'_>,
+    alloc: Global,
+    digit: &[u8],
+    sets: u32,
+) -> Result<ReplyLines, CertRefused>
+    requires { sets ≤ most_nodes }
+    ensures exact { GivesFor (λ reply. reply) result reader.new.left
+        ((reply_lines digit.now sets).read reader.old.total reader.old.left) }
+    ensures total { reader.new.total ≡ reader.old.total }
+{
+    reader.word(b"reply", b' ')?;
+    reader.word(digit, b' ')?;
+    let total = reader.integer(b'\n')?;
+    value_lines(reader, alloc, total, sets)
+}

@@ -1,0 +1,38 @@
+//! Why bytes aren't read.
+ghost use Rattle.std.specs.Prelude.{◌≡◌};
+ghost use Rattle.xg_cert.specs.declared.refused.CertRefused.TheVariants.{Cert, NoMemory};
+
+use def_cert_text::CertFault;
+use std::alloc::{AllocError, AllocFailed};
+
+/// Why bytes aren't read as a certificate.
+#[derive(Clone, Copy, Debug, PartialEq, Eq)]
+pub enum CertRefused {
+    /// The first fault of the bytes.
+    Cert(CertFault),
+    NoMemory,
+}
+
+impl From<CertFault> for CertRefused {
+    ghost from_gives = { λ fault refused. refused ≡ Cert fault };
+
+    fn from(fault: CertFault) -> CertRefused {
+        CertRefused::Cert(fault)
+    }
+}
+
+impl From<AllocError> for CertRefused {
+    ghost from_gives = { λ _ refused. refused ≡ NoMemory };
+
+    fn from(_error: AllocError) -> CertRefused {
+        CertRefused::NoMemory
+    }
+}
+
+impl<T: Drop> From<AllocFailed<T>> for CertRefused {
+    ghost from_gives = { λ _ refused. refused ≡ NoMemory };
+
+    fn from(_error: AllocFailed<T>) -> CertRefused {
+        CertRefused::NoMemory
+    }
+}

@@ -1,0 +1,13 @@
+-- What a reader gives, beside what reading the bytes gives by definition.
+use Rattle.std.specs.Prelude.{◌≡◌, ℕ, List, Result, Ok, Err}
+use Rattle.def_cert_text.specs.declared.fault.CertFault.{CertFault}
+
+-- the bytes that are left of a text of so many bytes in all
+pub record Reading : Type 0 where
+  pub total : ℕ
+  pub left : List ℕ
+
+-- a value, seen by `view`, and the bytes behind it, or the fault
+abbrev pub Gives : {X Y : Type 0} → (X → Y) → Result X CertFault → List ℕ → Result (Y × List ℕ) CertFault → Type 0
+Gives view (Ok x) left read = read ≡ Ok (view x, left)
+Gives view (Err fault) left read = read ≡ Err fault

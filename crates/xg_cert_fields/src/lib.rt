@@ -1,0 +1,9 @@
+//! Reads the fields of a certificate's text one after another: words, numbers, fractions, and the separator behind
+//! each. Nothing in this crate takes memory.
+#![tactic(auto)]
+
+mod numbers;
+mod reader;
+
+pub use def_cert_text::CertFault;
+pub use reader::{FieldReader, RowNumber};

@@ -1,0 +1,128 @@
+//! Numbers as fields.
+ghost use Rattle.std.specs.Prelude.{◌≡◌, ◌^◌, ◌<◌, ◌≤◌, ◌≤ℤ◌, ◌==◌, if◌then◌else◌, length, min, pos, unsigned_abs, Some, None, IfSome, IsTrue};
+ghost use Rattle.std.specs.List.{prefix_len};
+ghost use Rattle.std.specs.Str.{all_ascii_digits};
+ghost use Rattle.def_fraction.specs.Digits.{is_numeral, number_of};
+ghost use Rattle.def_fraction.specs.Divisors.{gcd};
+ghost use Rattle.def_cert_text.specs.Numbers.{fraction_in, integer_in, is_no_slash, leads_no_zero, over_in, over_one, whole_in};
+ghost use Rattle.xg_frac.specs.Scan.{past_all};
+ghost use Rattle.def_cert_ranges.specs.Ranges.{most_printed};
+
+use def_fraction::NumberFault;
+use xg_frac::{Ratio, ratio, read_whole};
+
+/// The greatest size of an end, a total, a value and a part of the bracket.
+const MOST_PRINTED: u128 = 1 << 100;
+
+/// Stands for each number from it on.
+const PAST: u128 = 1 << 127;
+
+fn leads_no_zero(field: &[u8]) -> bool
+    ensures { result ≡ leads_no_zero field.now }
+{
+    match field {
+        [first, _, ..] => *first != b'0',
+        _ => true,
+    }
+}
+
+/// The number of digits of which there may be any number.
+fn wide_number(digits: &[u8]) -> u128
+    requires { IsTrue (all_ascii_digits digits.now) }
+    ensures { result ≡ min (number_of digits.now) past_all }
+{
+    let mut number: u128 = 0;
+    for digit in digits {
+        let units = (*digit - b'0') as u128;
+        number = number.saturating_mul(10).saturating_add(units).min(PAST);
+    }
+    number
+}
+
+/// The number that a field writes, if all its bytes are digits and there is at least one.
+fn numeral(field: &[u8]) -> Option<u128>
+    ensures { result ≡ (if is_numeral field.now then Some (min (number_of field.now) past_all) else None) }
+{
+    match read_whole(field) {
+        Ok(number) => Some(number as u128),
+        Err(NumberFault::Range) => Some(wide_number(field)),
+        Err(_) => None,
+    }
+}
+
+/// A whole number of a range.
+#[tactic(auto, unfolding(def_cert_text::specs::Numbers::whole_in))]
+pub(crate) fn whole_in(low: u128, high: u128, field: &[u8]) -> Option<u128>
+    requires { high < 2 ^ 127 }
+    ensures exact { result ≡ whole_in low high field.now }
+    ensures range { IfSome result (λ n. (low ≤ n) × (n ≤ high)) }
+{
+    let number = numeral(field)?;
+    if leads_no_zero(field) && low <= number && number <= high {
+        return Some(number);
+    }
+    None
+}
+
+/// A whole number with a sign where it is below 0.
+#[tactic(auto, unfolding(def_cert_text::specs::Numbers::integer_in))]
+pub(crate) fn integer_in(field: &[u8]) -> Option<i128>
+    ensures exact { result ≡ integer_in most_printed field.now }
+    ensures size { IfSome result (λ n. unsigned_abs n ≤ most_printed) }
+{
+    match field {
+        [] => None,
+        [b'-', digits @ ..] => {
+            let size = whole_in(1, MOST_PRINTED, digits)?;
+            Some(-(size as i128))
+        }
+        _ => {
+            let size = whole_in(0, MOST_PRINTED, field)?;
+            Some(size as i128)
+        }
+    }
+}
+
+fn over_one(num: i128) -> Ratio
+    requires { unsigned_abs num ≤ most_printed }
+    ensures { result ≡ over_one num }
+{
+    ratio(num, 1)
+}
+
+/// A numerator and a denominator, if they have no common divisor but 1.
+fn in_lowest_terms(num: i128, den: i128) -> Option<Ratio>
+    requires num { unsigned_abs num ≤ most_printed }
+    requires from_one { pos 1 ≤ℤ den }
+    requires den { unsigned_abs den ≤ most_printed }
+    ensures { result ≡ over_in num (Some (unsigned_abs den)) }
+{
+    let fraction = ratio(num, den);
+    if fraction.den() == den {
+        return Some(fraction);
+    }
+    None
+}
+
+fn front_len(field: &[u8]) -> usize
+    ensures value { result ≡ prefix_len is_no_slash field.now }
+    ensures within { result ≤ length field.now }
+{
+    field.iter().take_while(|byte| **byte != b'/').count()
+}
+
+/// A fraction in lowest terms.
+#[tactic(auto, unfolding(def_cert_text::specs::Numbers::fraction_in))]
+pub(crate) fn fraction_in(field: &[u8]) -> Option<Ratio>
+    ensures { result ≡ fraction_in most_printed field.now }
+{
+    let (above, behind) = field.split_at(front_len(field));
+    let num = integer_in(above)?;
+    match behind {
+        [] => Some(over_one(num)),
+        [_, below @ ..] => {
+            let den = whole_in(2, MOST_PRINTED, below)?;
+            in_lowest_terms(num, den as i128)
+        }
+    }
+}

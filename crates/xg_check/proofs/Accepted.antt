@@ -1,0 +1,69 @@
+-- What an accepted certificate shows, from what the verdict says.
+use Rattle.std.proofs.Common.{◌≡◌, ◌↔◌, ◌≤◌, ℕ, List, Result, Ok, Err, None, refl, subst, sym, ◌∙◌}
+use Rattle.std.specs.Prelude.{IfOk}
+use Rattle.def_file.specs.Content.{GameFile}
+use Rattle.def_file_form.specs.Laws.{StandsFor}
+use Rattle.def_game_numbers.specs.Numbers.{game_file_fault}
+use Rattle.def_plan.specs.Form.{AreInOrder}
+use Rattle.def_cert_ranges.specs.Ranges.{CertificateFits}
+use Rattle.def_cert_verdict.specs.declared.fault.TestFault.{TestFault}
+use Rattle.def_cert_verdict.specs.Certificate.{Certificate}
+use Rattle.def_cert_verdict.specs.Verdict as def
+use Rattle.def_cert_text.specs.CertText.{cert_text}
+use Rattle.def_check.specs.Check.{by_tests}
+use Rattle.def_file_accepted.specs.Weighed.{weighed_game}
+use Rattle.def_check.specs.Shown.{Shows, ShowsOfFile}
+use Rattle.def_check.proofs.Accepted.{alone_without_rounds, what_is_shown}
+use Rattle.xg_check.specs.declared.verdict.Verdict.{Verdict}
+use Rattle.xg_check.specs.declared.verdict.Verdict.TheVariants.{Bounds, HeadOnly}
+use Rattle.xg_check.specs.declared.verdict.CheckFault.{CheckFault}
+use Rattle.xg_check.specs.Answers.{Answers, IsHeadOnlyWithoutRounds, IsOpened, verdict_of}
+use Rattle.xg_game.specs.declared.fault.Refused.{Refused}
+
+passed : (t : Result def.Verdict TestFault) (v : def.Verdict) → by_tests t ≡ Ok v → t ≡ Ok v
+passed (Ok s) v e = cc
+passed (Err f) v e = absurd cc
+
+-- what holds before the verdict
+pub record IsReady (game : def.WeighedGame) (cert_bytes : List ℕ) (c : Certificate) : Type 0 where
+  pub order_one : AreInOrder game.form.sets_one
+  pub order_two : AreInOrder game.form.sets_two
+  pub some_unit : 1 ≤ game.unit
+  pub fits : CertificateFits c
+  pub text : cert_bytes ≡ cert_text c
+
+pub judged_shows : (r : Result Verdict CheckFault) (game : def.WeighedGame) (bytes : List ℕ) (c : Certificate)
+    → IsReady game bytes c → Answers r (by_tests (def.verdict game c)) → IfOk r (λ v. Shows game bytes (verdict_of v))
+judged_shows (Ok v) game bytes c ready e =
+    subst (λ (bs : List ℕ). Shows game bs (verdict_of v)) (sym ready.text)
+    (what_is_shown game c (verdict_of v) ready.order_one ready.order_two ready.some_unit ready.fits (passed (def.verdict game c) (verdict_of v) e))
+judged_shows (Err f) game bytes c ready e = tt
+
+alone : (v : Verdict) → (v ≡ HeadOnly) ↔ (verdict_of v ≡ def.head_only)
+alone HeadOnly = (λ e. refl, λ e. refl)
+alone (Bounds low high) = (λ e. absurd cc, λ e. absurd cc)
+
+pub judged_alone : (r : Result Verdict CheckFault) (game : def.WeighedGame) (bytes : List ℕ) (c : Certificate)
+    → IsReady game bytes c → Answers r (by_tests (def.verdict game c)) → IfOk r (IsHeadOnlyWithoutRounds bytes)
+judged_alone (Ok v) game bytes c ready e = λ d fits same.
+    let same_text : cert_text c ≡ cert_text d = sym ready.text ∙ same in
+    let both = alone_without_rounds game c (verdict_of v) ready.fits (passed (def.verdict game c) (verdict_of v) e) d fits same_text in
+    let here = alone v in
+    (λ only. both.0 (here.0 only), λ none. here.1 (both.1 none))
+judged_alone (Err f) game bytes c ready e = tt
+
+pub opened_as : (r : Result def.WeighedGame Refused) (bytes : List ℕ) (game : GameFile) → StandsFor bytes game
+    → IfOk r (λ numbers. numbers ≡ weighed_game game) → IfOk r (λ _. game_file_fault game ≡ None) → IfOk r (IsOpened bytes)
+opened_as (Ok numbers) bytes game stands is none = record { game = game; stands = stands; faultless = none; numbers_are = is }
+opened_as (Err f) bytes game stands is none = tt
+
+pub shown_of_file : (r : Result Verdict CheckFault) (game_bytes cert_bytes : List ℕ) (numbers : def.WeighedGame)
+    → IsOpened game_bytes numbers → IfOk r (λ v. Shows numbers cert_bytes (verdict_of v))
+    → IfOk r (λ v. ShowsOfFile game_bytes cert_bytes (verdict_of v))
+shown_of_file (Ok v) game_bytes cert_bytes numbers opened shows = record {
+  game = opened.game;
+  stands = opened.stands;
+  faultless = opened.faultless;
+  shows = subst (λ (g : def.WeighedGame). Shows g cert_bytes (verdict_of v)) opened.numbers_are shows;
+}
+shown_of_file (Err f) game_bytes cert_bytes numbers opened shows = tt

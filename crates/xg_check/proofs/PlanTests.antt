@@ -1,0 +1,95 @@
+-- How many numbers each set of a printed plan has.
+use Rattle.std.proofs.Common.{◌≡◌, ◌≢◌, ℕ, zero, suc, ◌+◌, ◌-◌, ◌<◌, ◌≤◌, Bool, true, false, cond, eqb, List, [], ◌∷◌, length, get_or, slice_index, drop, map, Option, Some, None, slice_get, All, refl, sym, ap, ◌∙◌, arith, eqb-true, eq-eqb, ne_eqb}
+use Rattle.std.proofs.lemmas.List.{drop_more, drop_all, get_or-map, length-append}
+use Rattle.std.proofs.lemmas.List.Elements.{All-append, All-cons, All-head, All-nil, All-tail}
+use Rattle.std.proofs.lemmas.Option.{get_or_from_slice_get}
+use Rattle.def_sums.specs.Sum.{nat_sum_over}
+use Rattle.def_sums.specs.Limits.{most_root}
+use Rattle.def_plan.specs.Form.{InformationSet, sequence_count}
+use Rattle.def_cert_ranges.specs.Ranges.{PlanFits, PlanWeightsFit}
+use Rattle.def_cert_verdict.specs.Certificate.{PrintedPlan, joined, printed_numbers}
+use Rattle.def_cert_verdict.specs.Verdict.{first_of_other_size}
+
+-- a set's number of numbers and its number of actions, as they are told
+size_told : (weights : List (List ℕ)) (i : ℕ) (ws : List ℕ) → ws ≡ get_or weights (i + 1 - 1) [] → get_or weights i [] ≡ ws
+size_told weights i ws e = let same : i + 1 - 1 ≡ i = omega arith in ap (λ j. get_or weights j []) (sym same) ∙ sym e
+
+actions_told : (sets : List InformationSet) (i n : ℕ) (d : InformationSet) → i < length sets
+    → slice_get (map (λ (h : InformationSet). h.actions) sets) (i + 1 - 1) ≡ Some n → (get_or sets i d).actions ≡ n
+actions_told sets i n d low e =
+    let same : i + 1 - 1 ≡ i = omega arith in
+    sym (get_or-map (λ (h : InformationSet). h.actions) sets i d 0 low)
+    ∙ get_or_from_slice_get (map (λ (h : InformationSet). h.actions) sets) i n 0 (ap (slice_get (map (λ (h : InformationSet). h.actions) sets)) (sym same) ∙ e)
+
+abbrev no_set : InformationSet
+no_set = record { before = 0; actions = 0 }
+
+-- one set more
+next_size : (sets : List InformationSet) (weights : List (List ℕ)) (i : ℕ) (ws : List ℕ) (n : ℕ) → i < length sets
+    → i < length weights → ws ≡ get_or weights (i + 1 - 1) []
+    → slice_get (map (λ (h : InformationSet). h.actions) sets) (i + 1 - 1) ≡ Some n
+    → first_of_other_size (i + 1) (drop i sets) (drop i weights)
+    ≡ cond (eqb (length ws) n) (first_of_other_size (i + 1 + 1) (drop (i + 1) sets) (drop (i + 1) weights)) (Some (i + 1))
+next_size sets weights i ws n low low' is has =
+    let rest = first_of_other_size (i + 1 + 1) (drop (i + 1) sets) (drop (i + 1) weights) in
+    ap (λ hs. first_of_other_size (i + 1) hs (drop i weights)) (drop_more sets i no_set low)
+    ∙ ap (λ wss. first_of_other_size (i + 1) (get_or sets i no_set ∷ drop (i + 1) sets) wss) (drop_more weights i [] low')
+    ∙ ap (λ m. cond (eqb (length (get_or weights i [])) m) rest (Some (i + 1))) (actions_told sets i n no_set low has)
+    ∙ ap (λ ys. cond (eqb (length ys) n) rest (Some (i + 1))) (size_told weights i ws is)
+
+pub size_differs : (sets : List InformationSet) (weights : List (List ℕ)) (i : ℕ) (ws : List ℕ) (n : ℕ) → i < length sets
+    → i < length weights → ws ≡ get_or weights (i + 1 - 1) []
+    → slice_get (map (λ (h : InformationSet). h.actions) sets) (i + 1 - 1) ≡ Some n → length ws ≢ n
+    → first_of_other_size (i + 1) (drop i sets) (drop i weights) ≡ Some (i + 1)
+size_differs sets weights i ws n low low' is has other =
+    let rest = first_of_other_size (i + 1 + 1) (drop (i + 1) sets) (drop (i + 1) weights) in
+    next_size sets weights i ws n low low' is has ∙ ap (λ b. cond b rest (Some (i + 1))) (ne_eqb (length ws) n other)
+
+pub size_agrees : (sets : List InformationSet) (weights : List (List ℕ)) (i : ℕ) (ws : List ℕ) (n : ℕ) → i < length sets
+    → i < length weights → ws ≡ get_or weights (i + 1 - 1) []
+    → slice_get (map (λ (h : InformationSet). h.actions) sets) (i + 1 - 1) ≡ Some n → length ws ≡ n
+    → first_of_other_size (i + 1) (drop i sets) (drop i weights) ≡ first_of_other_size (i + 1 + 1) (drop (i + 1) sets) (drop (i + 1) weights)
+size_agrees sets weights i ws n low low' is has same =
+    let rest = first_of_other_size (i + 1 + 1) (drop (i + 1) sets) (drop (i + 1) weights) in
+    next_size sets weights i ws n low low' is has ∙ ap (λ b. cond b rest (Some (i + 1))) (eq-eqb (length ws) n same)
+
+pub no_size_left : (k i : ℕ) (sets : List InformationSet) (weights : List (List ℕ)) → length sets ≤ i → length weights ≤ i
+    → first_of_other_size k (drop i sets) (drop i weights) ≡ None
+no_size_left k i sets weights le le' =
+    ap (λ hs. first_of_other_size k hs (drop i weights)) (drop_all i sets le)
+    ∙ ap (λ wss. first_of_other_size k [] wss) (drop_all i weights le')
+
+-- ---- where each set has its actions' numbers there is one for each sequence
+agree : (b : Bool) (rest : Option ℕ) (k : ℕ) → cond b rest (Some k) ≡ None → (b ≡ true) × (rest ≡ None)
+agree true rest k e = (refl, e)
+agree false rest k e = absurd cc
+
+joined_count : (k : ℕ) (sets : List InformationSet) (weights : List (List ℕ)) → first_of_other_size k sets weights ≡ None
+    → length (joined weights) ≡ nat_sum_over (λ (h : InformationSet). h.actions) sets
+joined_count k [] [] e = refl
+joined_count k [] (ws ∷ wss) e = absurd cc
+joined_count k (h ∷ hs) [] e = absurd cc
+joined_count k (h ∷ hs) (ws ∷ wss) e =
+    let here = agree (eqb (length ws) h.actions) (first_of_other_size (k + 1) hs wss) k e in
+    omega (arith, length-append ws (joined wss), eqb-true (length ws) h.actions here.0, joined_count (k + 1) hs wss here.1)
+
+pub has_each_sequence : (sets : List InformationSet) (plan : PrintedPlan) → first_of_other_size 1 sets plan.weights ≡ None
+    → length (printed_numbers plan) ≡ sequence_count sets
+has_each_sequence sets plan e = omega (arith, joined_count 1 sets plan.weights e)
+
+-- ---- the numbers of a plan within its ranges
+joined_small : (wss : List (List ℕ)) → All PlanWeightsFit wss → All (λ n. n ≤ most_root) (joined wss)
+joined_small [] f = All-nil (λ n. n ≤ most_root)
+joined_small (ws ∷ wss) f =
+    All-append (λ n. n ≤ most_root) ws (joined wss) (All-head PlanWeightsFit ws wss f).each (joined_small wss (All-tail PlanWeightsFit ws wss f))
+
+read_small : (most : ℕ) (xs : List ℕ) → All (λ n. n ≤ most) xs → (s : ℕ) → slice_index xs s ≤ most
+read_small most [] all zero = omega arith
+read_small most [] all (suc s) = omega arith
+read_small most (x ∷ xs) all zero = All-head (λ n. n ≤ most) x xs all
+read_small most (x ∷ xs) all (suc s) = read_small most xs (All-tail (λ n. n ≤ most) x xs all) s
+
+pub numbers_small : (sets : ℕ) (plan : PrintedPlan) → PlanFits sets plan → (s : ℕ)
+    → slice_index (printed_numbers plan) s ≤ most_root
+numbers_small sets plan fits s =
+    read_small most_root (printed_numbers plan) (All-cons (λ n. n ≤ most_root) plan.root (joined plan.weights) fits.root.1 (joined_small plan.weights fits.each)) s

@@ -1,0 +1,37 @@
+-- The first failing test of several stages.
+use Rattle.std.proofs.Common.{◌≡◌, ℕ, List, ◌++◌, Option, Some, None, Result, Ok, Err, true, false, refl, sym, ap, ◌∙◌}
+use Rattle.std.specs.Prelude.{is_some, IfOk}
+use Rattle.std.proofs.Common.{append_assoc}
+use Rattle.def_tree.specs.declared.Player.TheVariants.{One, Two}
+use Rattle.def_cert_verdict.specs.declared.fault.TestFault.{TestFault}
+use Rattle.def_cert_verdict.specs.Certificate.{PrintedBounds}
+use Rattle.def_cert_verdict.specs.Verdict.{WeighedGame, bounds_tests, first_failing, first_trace_line, trace_tests}
+use Rattle.xg_check.specs.Parts.{tests_of_plan, tests_of_plans, tests_of_replies, tests_of_reply}
+use Rattle.xg_tests.proofs.TestLemmas.{front_passes, front_stops}
+
+pub no_value : {X : Type 0} (o : Option X) → is_some o ≡ false → o ≡ None
+no_value None e = refl
+no_value (Some x) e = absurd cc
+
+-- the first stage decides, or the rest does
+pub stage_stops : (found : Option TestFault) (xs ys : List (Option TestFault)) → found ≡ first_failing xs
+    → is_some found ≡ true → found ≡ first_failing (xs ++ ys)
+stage_stops found xs ys e some = front_stops found xs ys e some
+
+pub rest_decides : (found : Option TestFault) (xs ys : List (Option TestFault)) → found ≡ first_failing xs
+    → is_some found ≡ false → first_failing ys ≡ first_failing (xs ++ ys)
+rest_decides found xs ys e none = sym (front_passes found xs ys e none)
+
+-- all below the head: both plans, both replies, the trace
+pub bounds_parts : (game : WeighedGame) (scale : ℕ) (b : PrintedBounds)
+    → tests_of_plans game scale b ++ (tests_of_replies game b ++ trace_tests first_trace_line b.trace) ≡ bounds_tests game scale b
+bounds_parts game scale b =
+    let lines = trace_tests first_trace_line b.trace in
+    append_assoc (tests_of_plan One game scale b) (tests_of_plan Two game scale b) (tests_of_replies game b ++ lines)
+    ∙ ap (λ ts. tests_of_plan One game scale b ++ (tests_of_plan Two game scale b ++ ts)) (append_assoc (tests_of_reply Two game b) (tests_of_reply One game b) lines)
+
+-- the same fault, memory apart
+pub if_ok_same : {E : Type 0} (r : Result (Option TestFault) E) (a b : Option TestFault) → a ≡ b → IfOk r (λ f. f ≡ a)
+    → IfOk r (λ f. f ≡ b)
+if_ok_same (Ok f) a b e h = h ∙ e
+if_ok_same (Err x) a b e h = h

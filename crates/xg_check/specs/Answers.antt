@@ -1,0 +1,51 @@
+-- What checking answers, memory apart.
+use Rattle.std.specs.Prelude.{◌≡◌, ◌↔◌, ℕ, ⊤, List, None, Result, Ok, Err}
+use Rattle.def_check.specs.Check.{Refusal, of_file, of_certificate, of_tests}
+use Rattle.def_file_accepted.specs.Weighed.{weighed_game}
+use Rattle.def_file.specs.Content.{GameFile}
+use Rattle.def_file_form.specs.Laws.{StandsFor}
+use Rattle.def_game_numbers.specs.Numbers.{game_file_fault}
+use Rattle.def_cert_ranges.specs.Ranges.{CertificateFits}
+use Rattle.def_cert_text.specs.CertText.{cert_text}
+use Rattle.def_cert_verdict.specs.Certificate.{Certificate}
+use Rattle.def_cert_verdict.specs.Verdict as shown
+use Rattle.def_cert_verdict.specs.declared.fault.TestFault.{TestFault}
+use Rattle.def_cert_verdict.specs.declared.fault.TestFault.TheVariants as test
+use Rattle.xg_check.specs.declared.verdict.Verdict.{Verdict}
+use Rattle.xg_check.specs.declared.verdict.Verdict.TheVariants.{Bounds, HeadOnly}
+use Rattle.xg_check.specs.declared.verdict.CheckFault.{CheckFault}
+use Rattle.xg_check.specs.declared.verdict.CheckFault.TheVariants.{File, Cert, HeadDiffers, NoMemory, NotAPlan, TotalDiffers}
+use Rattle.xg_check.specs.declared.verdict.CheckFault.TheVariants.{ReplyNotTight, TraceWidens, ValueTooGood}
+
+abbrev pub verdict_of : Verdict → shown.Verdict
+verdict_of (Bounds low high) = shown.bracket low high
+verdict_of HeadOnly = shown.head_only
+
+abbrev pub Answers : Result Verdict CheckFault → Result shown.Verdict Refusal → Type 0
+Answers (Ok verdict) checked = checked ≡ Ok (verdict_of verdict)
+Answers (Err (File fault)) checked = checked ≡ Err (of_file fault)
+Answers (Err (Cert fault)) checked = checked ≡ Err (of_certificate fault)
+Answers (Err (HeadDiffers line)) checked = checked ≡ Err (of_tests (test.HeadDiffers line))
+Answers (Err (NotAPlan player set)) checked = checked ≡ Err (of_tests (test.NotAPlan player set))
+Answers (Err (ValueTooGood player set action)) checked = checked ≡ Err (of_tests (test.ValueTooGood player set action))
+Answers (Err (ReplyNotTight player set)) checked = checked ≡ Err (of_tests (test.ReplyNotTight player set))
+Answers (Err (TotalDiffers end)) checked = checked ≡ Err (of_tests (test.TotalDiffers end))
+Answers (Err (TraceWidens line)) checked = checked ≡ Err (of_tests (test.TraceWidens line))
+Answers (Err NoMemory) checked = ⊤
+
+-- a test's fault is told so
+abbrev pub IsToldAs : TestFault → CheckFault → Type 0
+IsToldAs test fault =
+    (checked : Result shown.Verdict Refusal) → checked ≡ Err (of_tests test) → Answers (Err fault) checked
+
+-- the head alone is answered exactly where the certificate that the bytes say has no round
+abbrev pub IsHeadOnlyWithoutRounds : List ℕ → Verdict → Type 0
+IsHeadOnlyWithoutRounds cert_bytes verdict =
+    (c : Certificate) → CertificateFits c → cert_bytes ≡ cert_text c → (verdict ≡ HeadOnly) ↔ (c.head.rounds ≡ 0)
+
+-- the file stands for a game without a fault, which is this in numbers
+pub record IsOpened (game_bytes : List ℕ) (numbers : shown.WeighedGame) : Type 0 where
+  pub game : GameFile
+  pub stands : StandsFor game_bytes game
+  pub faultless : game_file_fault game ≡ None
+  pub numbers_are : numbers ≡ weighed_game game

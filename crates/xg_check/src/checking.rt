@@ -1,0 +1,73 @@
+//! Checking bytes.
+ghost use Rattle.std.specs.Prelude.{◌≡◌, ◌≤◌, IfOk, None, Ok, length};
+ghost use Rattle.def_file.specs.Reading.{game_at, most_bytes};
+ghost use Rattle.def_cert_text.specs.CertText.{cert_in};
+ghost use Rattle.def_check.specs.Check.{accepted, checked, judged, most_cert_bytes};
+ghost use Rattle.def_file_accepted.specs.Weighed.{weighed_game};
+ghost use Rattle.def_check.specs.Shown.{Shows, ShowsOfFile};
+ghost use Rattle.def_game_numbers.specs.Numbers.{game_file_fault};
+ghost use Rattle.xg_check.specs.Answers.{Answers, IsHeadOnlyWithoutRounds, IsOpened, verdict_of};
+ghost use Rattle.xg_read.specs.Gives as gives;
+
+use crate::judging::judge;
+use crate::verdict::{CheckFault, Verdict};
+use std::alloc::Global;
+use xg_cert::{CertRefused, read_cert};
+use xg_numbers::Numbers;
+use xg_read::{Game, Refused, read_game};
+
+/// The greatest number of bytes of a certificate.
+pub const MOST_CERT_BYTES: usize = 268_435_456;
+
+/// Checks a certificate of at most 268,435,456 bytes against a game file of at most 67,108,864 bytes.
+///
+/// Memory apart, the answer is the file's first fault, else the certificate's, else the first test that fails, else
+/// what the certificate shows.
+pub fn check(alloc: Global, game_bytes: &[u8], cert_bytes: &[u8]) -> Result<Verdict, CheckFault>
+    requires game { length game_bytes.now ≤ most_bytes }
+    requires certificate { length cert_bytes.now ≤ most_cert_bytes }
+    ensures exact { Answers result (checked game_bytes.now cert_bytes.now) }
+
+    // What is accepted is shown of the file's game, whoever wrote the certificate.
+    ensures shown { IfOk result (λ verdict. ShowsOfFile game_bytes.now cert_bytes.now (verdict_of verdict)) }
+
+    // The head alone is accepted exactly where no round was asked.
+    ensures head_only { IfOk result (IsHeadOnlyWithoutRounds cert_bytes.now) }
+{
+    match open(alloc, game_bytes) {
+        Ok(numbers) => judge_bytes(alloc, &numbers, cert_bytes),
+        Err(Refused::File(fault)) => Err(CheckFault::File(fault)),
+        Err(Refused::NoMemory) => Err(CheckFault::NoMemory),
+    }
+}
+
+/// The game of a file in numbers, or the file's first fault.
+fn open(alloc: Global, game_bytes: &[u8]) -> Result<Numbers, Refused>
+    requires { length game_bytes.now ≤ most_bytes }
+    ensures exact { gives.Answers result (accepted (game_at game_bytes.now)) }
+    ensures opened { IfOk result (IsOpened game_bytes.now) }
+{
+    let game = read_game(alloc, game_bytes)?;
+    open_game(alloc, &game)
+}
+
+fn open_game(alloc: Global, game: &Game) -> Result<Numbers, Refused>
+    ensures exact { gives.Answers result (accepted (Ok game.now)) }
+    ensures opened { IfOk result (λ numbers. numbers ≡ weighed_game game.now) }
+    ensures faultless { IfOk result (λ _. game_file_fault game.now ≡ None) }
+{
+    Numbers::open(alloc, game)
+}
+
+/// The verdict on the certificate that the bytes say, or its first fault.
+fn judge_bytes(alloc: Global, numbers: &Numbers, cert_bytes: &[u8]) -> Result<Verdict, CheckFault>
+    ensures exact { Answers result (judged numbers.now (cert_in cert_bytes.now)) }
+    ensures shown { IfOk result (λ verdict. Shows numbers.now cert_bytes.now (verdict_of verdict)) }
+    ensures head_only { IfOk result (IsHeadOnlyWithoutRounds cert_bytes.now) }
+{
+    match read_cert(alloc, cert_bytes) {
+        Ok(cert) => judge(alloc, numbers, &cert),
+        Err(CertRefused::Cert(fault)) => Err(CheckFault::Cert(fault)),
+        Err(CertRefused::NoMemory) => Err(CheckFault::NoMemory),
+    }
+}

@@ -1,0 +1,117 @@
+//! The tests of a reply.
+ghost use Rattle.std.specs.Prelude.{◌≡◌, ◌*◌, ◌≤◌, ◌≤ℤ◌, IfOk, pos, unsigned_abs};
+ghost use Rattle.def_fraction.specs.Fraction.{most};
+ghost use Rattle.def_sums.specs.Limits.{most_root};
+ghost use Rattle.def_tree.specs.Opponent.{opponent};
+ghost use Rattle.def_cert_verdict.specs.Certificate.{last_line};
+ghost use Rattle.def_cert_verdict.specs.Verdict.{first_failing};
+ghost use Rattle.xg_cert.specs.Outcome.{line_of};
+ghost use Rattle.xg_cert.specs.Printed.{bounds_in, plan_in, reply_in};
+ghost use Rattle.xg_check.specs.Parts.{HasEachSequence, HasSetsOf, bound_in, tests_of_reply, total_in};
+ghost use Rattle.xg_frac.specs.Wide.{most_wide};
+
+use crate::lines::last_row;
+use def_cert_verdict::TestFault;
+use def_tree::Player;
+use std::alloc::{AllocError, Global};
+use xg_cert::{Cert, TraceRow};
+use xg_frac::Ratio;
+use xg_numbers::Numbers;
+use xg_tests::{PrintedEnd, reply_fault};
+
+fn opponent(player: Player) -> Player
+    ensures { result ≡ opponent player }
+{
+    match player {
+        Player::One => Player::Two,
+        Player::Two => Player::One,
+    }
+}
+
+fn total_in(player: Player, row: &TraceRow) -> i128
+    ensures { result ≡ total_in player (line_of row.now) }
+{
+    match player {
+        Player::One => row.high,
+        Player::Two => row.low,
+    }
+}
+
+fn bound_in(player: Player, cert: &Cert) -> Ratio
+    requires { 1 ≤ cert.now.head.rounds }
+    ensures { result ≡ bound_in player (bounds_in cert.now) }
+{
+    match player {
+        Player::One => cert.high(),
+        Player::Two => cert.low(),
+    }
+}
+
+fn product(unit: u64, root: u64) -> u128
+    requires unit_from_one { 1 ≤ unit }
+    requires unit { unit ≤ most }
+    requires root_from_one { 1 ≤ root }
+    requires root { root ≤ most_root }
+    ensures value { result ≡ unit * root }
+    ensures from_one { 1 ≤ unit * root }
+    ensures small { unit * root ≤ most_wide }
+{
+    unit as u128 * root as u128
+}
+
+fn scale_of(unit: u64, root: u64) -> i128
+    requires unit_from_one { 1 ≤ unit }
+    requires unit { unit ≤ most }
+    requires root_from_one { 1 ≤ root }
+    requires root { root ≤ most_root }
+    ensures value { result ≡ pos (unit * root) }
+    ensures from_one { 1 ≤ unit * root }
+    ensures small { unit * root ≤ most_wide }
+{
+    product(unit, root) as i128
+}
+
+/// What is printed of the end that a player's reply shows.
+fn end_of(numbers: &Numbers, player: Player, cert: &Cert) -> PrintedEnd
+    requires { 1 ≤ cert.now.head.rounds }
+    ensures total { result.total ≡ (reply_in player (bounds_in cert.now)).total }
+    ensures traced { result.traced ≡ total_in player (last_line (bounds_in cert.now).trace) }
+    ensures bound { result.bound ≡ bound_in player (bounds_in cert.now) }
+    ensures scale { unsigned_abs result.scale
+        ≡ numbers.now.unit * (plan_in (opponent player) (bounds_in cert.now)).root }
+    ensures from_one { pos 1 ≤ℤ result.scale }
+    ensures small { unsigned_abs result.scale ≤ most_wide }
+{
+    let _within = cert.head();
+    PrintedEnd {
+        total: cert.total(player),
+        traced: total_in(player, &last_row(cert.trace())),
+        bound: bound_in(player, cert),
+        scale: scale_of(numbers.unit(), cert.root(opponent(player))),
+    }
+}
+
+/// The first test of a player's reply that fails.
+pub(crate) fn fault_of_reply(
+    alloc: Global,
+    numbers: &Numbers,
+    player: Player,
+    cert: &Cert,
+) -> Result<Option<TestFault>, AllocError>
+    requires sets { HasSetsOf numbers.now cert.now }
+    requires plan { HasEachSequence (opponent player) numbers.now (bounds_in cert.now) }
+    ensures { IfOk result (λ fault. fault ≡ first_failing (tests_of_reply player numbers.now (bounds_in cert.now))) }
+{
+    let _within = cert.head();
+    let against = cert.numbers(opponent(player));
+    let end = end_of(numbers, player, cert);
+    reply_fault(
+        alloc,
+        numbers.form(),
+        player,
+        against,
+        cert.values(player),
+        cert.choices(player),
+        end,
+    )
+}

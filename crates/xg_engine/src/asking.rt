@@ -1,0 +1,35 @@
+//! What is asked of a game.
+ghost use Rattle.std.specs.Prelude.{◌≡◌, ◌≤◌};
+ghost use Rattle.def_fraction.specs.Fraction.{most};
+ghost use Rattle.xg_cert.specs.Outcome.{head_of};
+ghost use Rattle.xg_engine.specs.State.{head_with};
+
+use crate::settings::Settings;
+use xg_cert::Head;
+use xg_numbers::Numbers;
+use xg_plan::Player;
+
+/// A game's numbers, with what is asked.
+pub fn head_with(numbers: &Numbers, settings: Settings) -> Head
+    ensures exact { head_of result ≡ head_with numbers.now settings }
+
+    // What is true of all numbers.
+    ensures positive { 1 ≤ numbers.now.unit }
+    ensures limit { numbers.now.unit ≤ most }
+{
+    let form = numbers.form();
+    Head {
+        nodes: numbers.nodes(),
+        leaves: form.leaf_count(),
+        sets: (form.set_count(Player::One), form.set_count(Player::Two)),
+        sequences: (
+            form.sequence_count(Player::One),
+            form.sequence_count(Player::Two),
+        ),
+        unit: numbers.unit(),
+        mass: numbers.mass(),
+        rounds: settings.rounds,
+        every: settings.every,
+        scale: settings.scale,
+    }
+}

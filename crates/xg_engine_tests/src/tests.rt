@@ -1,0 +1,274 @@
+//! Sums and traces that are known from outside.
+ghost use Rattle.std.specs.Thread.{IsSync};
+ghost use Rattle.xg_engine.specs.State.{AreWithinLimits};
+
+use std::alloc::Global;
+use std::marker::{Send, Sync};
+use std::process::Abort;
+use std::sync::Wait;
+use std::test::Fail;
+use std::thread::Threads;
+use xg_cert::TraceRow;
+use xg_engine::{Engine, Settings};
+use xg_jobs::PlainRows;
+use xg_read::{MOST_BYTES, read_game};
+
+/// Matching pennies, where the second player doesn't see the first one's coin.
+const PENNIES: &str = r#"EFG 2 R "" { "A" "B" }
+p "" 1 1 "a" { "H" "T" } 0
+p "" 2 1 "b" { "h" "t" } 0 t "" 1 { 1, -1 } t "" 2 { -1, 1 }
+p "" 2 1 0 t "" 2 t "" 1
+"#;
+
+const ONE_MOVER: &str =
+    r#"EFG 2 R "" { "A" "B" } p "" 1 1 "a" { "L" "R" } 0 t "" 1 { 1, -1 } t "" 2 { 0, 0 }"#;
+
+/// Both players choose twice, and see not all that was chosen.
+const TWICE_HIDDEN: &str = r#"EFG 2 R "" { "A" "B" }
+c "" 1 "coin" { "light" 1/3 "heavy" 2/3 } 0
+p "" 1 1 "first" { "a" "b" "c" } 0
+p "" 2 1 "answer" { "x" "y" "z" } 0
+p "" 1 2 "again" { "d" "e" } 0
+p "" 2 2 "again" { "u" "v" } 0 t "" 1 { -2, 2 } t "" 2 { -3, 3 }
+p "" 2 2 "again" { "u" "v" } 0 t "" 3 { 0, 0 } t "" 4 { -3, 3 }
+t "" 5 { 3, -3 } t "" 6 { 3, -3 }
+p "" 2 1 "answer" { "x" "y" "z" } 0 t "" 7 { 3, -3 } t "" 8 { 2, -2 } t "" 9 { -1, 1 }
+p "" 2 1 "answer" { "x" "y" "z" } 0 t "" 10 { -3, 3 } t "" 11 { 3, -3 } t "" 12 { -4, 4 }
+p "" 1 1 "first" { "a" "b" "c" } 0
+p "" 2 1 "answer" { "x" "y" "z" } 0 t "" 13 { 2, -2 } t "" 14 { 2, -2 } t "" 15 { -4, 4 }
+p "" 2 1 "answer" { "x" "y" "z" } 0 t "" 16 { 3, -3 }
+p "" 1 3 "again" { "d" "e" } 0
+p "" 2 3 "again" { "u" "v" } 0 t "" 17 { 0, 0 } t "" 18 { -1, 1 }
+p "" 2 3 "again" { "u" "v" } 0 t "" 19 { -3, 3 } t "" 20 { 1, -1 }
+t "" 21 { -4, 4 }
+p "" 2 1 "answer" { "x" "y" "z" } 0 t "" 22 { -4, 4 } t "" 23 { -4, 4 } t "" 24 { 4, -4 }
+"#;
+
+/// A line of a trace in the order of the certificate: the round, the lower end's round and total, the upper end's.
+type Line = (u32, u32, i128, u32, i128);
+
+/// What is asked of a run, with the sums of both players' plans and the trace that it leaves.
+#[derive(Clone, Copy, Drop)]
+struct Case {
+    rounds: u32,
+    every: u32,
+    scale: u32,
+    one: &'static [u64],
+    two: &'static [u64],
+    trace: &'static [Line],
+}
+
+const ROUNDS_OF_ONE_MOVER: &[Case] = &[
+    Case {
+        rounds: 2,
+        every: 1,
+        scale: 1_048_576,
+        one: &[2_097_152, 1_572_864, 524_288],
+        two: &[2_097_152],
+        trace: &[
+            (1, 1, 524_288, 1, 1_048_576),
+            (2, 2, 1_572_864, 1, 1_048_576),
+        ],
+    },
+    Case {
+        rounds: 0,
+        every: 1,
+        scale: 1_048_576,
+        one: &[0, 0, 0],
+        two: &[0],
+        trace: &[],
+    },
+];
+
+const ROUNDS_OF_PENNIES: &[Case] = &[
+    Case {
+        rounds: 3,
+        every: 2,
+        scale: 1,
+        one: &[3, 0, 3],
+        two: &[3, 2, 1],
+        trace: &[(2, 2, -2, 2, 0), (3, 2, -2, 2, 0)],
+    },
+    Case {
+        rounds: 2,
+        every: 1,
+        scale: 1,
+        one: &[2, 0, 2],
+        two: &[2, 1, 1],
+        trace: &[(1, 1, -1, 1, 1), (2, 1, -1, 2, 0)],
+    },
+];
+
+const ROUNDS_OF_TWICE_HIDDEN: &[Case] = &[
+    Case {
+        rounds: 1,
+        every: 1,
+        scale: 10,
+        one: &[10, 3, 3, 4, 1, 2, 1, 2],
+        two: &[10, 3, 3, 4, 1, 2, 1, 2],
+        trace: &[(1, 1, -26, 1, 7)],
+    },
+    Case {
+        rounds: 2,
+        every: 2,
+        scale: 10,
+        one: &[20, 10, 6, 4, 1, 9, 1, 5],
+        two: &[20, 3, 3, 14, 1, 2, 1, 2],
+        trace: &[(2, 2, -88, 2, 8)],
+    },
+    Case {
+        rounds: 3,
+        every: 3,
+        scale: 10,
+        one: &[30, 12, 6, 12, 1, 11, 1, 5],
+        two: &[30, 3, 3, 24, 1, 2, 1, 2],
+        trace: &[(3, 3, -66, 3, 48)],
+    },
+    Case {
+        rounds: 4,
+        every: 1,
+        scale: 10,
+        one: &[40, 12, 6, 22, 1, 11, 1, 5],
+        two: &[40, 7, 3, 30, 1, 6, 1, 2],
+        trace: &[
+            (1, 1, -26, 1, 7),
+            (2, 1, -26, 2, 8),
+            (3, 3, -66, 2, 8),
+            (4, 3, -66, 2, 8),
+        ],
+    },
+    Case {
+        rounds: 4,
+        every: 2,
+        scale: 10,
+        one: &[40, 12, 6, 22, 1, 11, 1, 5],
+        two: &[40, 7, 3, 30, 1, 6, 1, 2],
+        trace: &[(2, 2, -88, 2, 8), (4, 2, -88, 2, 8)],
+    },
+    Case {
+        rounds: 4,
+        every: 3,
+        scale: 10,
+        one: &[40, 12, 6, 22, 1, 11, 1, 5],
+        two: &[40, 7, 3, 30, 1, 6, 1, 2],
+        trace: &[(3, 3, -66, 3, 48), (4, 3, -66, 4, 28)],
+    },
+    Case {
+        rounds: 4,
+        every: 9,
+        scale: 10,
+        one: &[40, 12, 6, 22, 1, 11, 1, 5],
+        two: &[40, 7, 3, 30, 1, 6, 1, 2],
+        trace: &[(4, 4, -176, 4, 28)],
+    },
+];
+
+/// The settings, where they are within their limits.
+fn settings_of(rt: &impl Abort, case: &Case) -> Settings
+    ensures { AreWithinLimits result }
+{
+    assert!(rt; case.rounds <= 65_536);
+    assert!(rt; 1 <= case.every && case.every <= 65_536);
+    assert!(rt; 1 <= case.scale && case.scale <= 1_048_576);
+    Settings {
+        rounds: case.rounds,
+        every: case.every,
+        scale: case.scale,
+    }
+}
+
+/// The engine of a file's game.
+fn open(rt: &impl Abort, alloc: Global, file: &str) -> Result<Engine, Fail> {
+    assert!(rt; file.len() <= MOST_BYTES);
+    let game = read_game(alloc, file.as_bytes())?;
+    Ok(Engine::open(alloc, &game)?)
+}
+
+fn assert_sums(rt: &impl Abort, engine: &Engine, case: &Case) {
+    match engine.sums() {
+        Some(sums) => {
+            assert_eq!(rt; sums.0.weights(), case.one);
+            assert_eq!(rt; sums.1.weights(), case.two);
+        }
+        None => assert!(rt; false, "no sums"),
+    }
+}
+
+fn assert_trace(rt: &impl Abort, engine: &Engine, lines: &[Line]) {
+    match engine.outcome() {
+        Some(outcome) => assert_lines(rt, outcome.trace(), lines),
+        None => assert!(rt; false, "no outcome"),
+    }
+}
+
+fn assert_lines(rt: &impl Abort, trace: &[TraceRow], lines: &[Line]) {
+    assert_eq!(rt; trace.len(), lines.len());
+    for (shown, line) in trace.iter().zip(lines) {
+        assert_eq!(rt; *shown, row(*line), "of {line:?}");
+    }
+}
+
+fn row(line: Line) -> TraceRow {
+    TraceRow {
+        round: line.0,
+        low_round: line.1,
+        low: line.2,
+        high_round: line.3,
+        high: line.4,
+    }
+}
+
+/// Runs a case on an engine that may have run before.
+fn play<R: Abort + Threads + Wait + Sync>(
+    rt: &R,
+    alloc: Global,
+    engine: &mut Engine,
+    case: &Case,
+) -> Result<(), Fail>
+    requires { IsSync R.row }
+{
+    engine.run(rt, alloc, settings_of(rt, case), &PlainRows)?;
+    assert_sums(rt, engine, case);
+    assert_trace(rt, engine, case.trace);
+    Ok(())
+}
+
+/// Runs one case after the other on one engine.
+fn play_all<R: Abort + Threads + Wait + Sync>(
+    rt: &R,
+    alloc: Global,
+    file: &str,
+    cases: &[Case],
+) -> Result<(), Fail>
+    requires { IsSync R.row }
+{
+    let mut engine = open(rt, alloc, file)?;
+    assert!(rt; engine.sums().is_none());
+    for case in cases {
+        play(rt, alloc, &mut engine, case)?;
+    }
+    Ok(())
+}
+
+#[test]
+fn rounds_of_one_mover(rt: HostRuntime) -> Result<(), Fail> {
+    play_all(&rt, rt.alloc(), ONE_MOVER, ROUNDS_OF_ONE_MOVER)
+}
+
+#[test]
+fn rounds_of_pennies(rt: HostRuntime) -> Result<(), Fail> {
+    play_all(&rt, rt.alloc(), PENNIES, ROUNDS_OF_PENNIES)
+}
+
+#[test]
+fn rounds_of_a_hidden_game(rt: HostRuntime) -> Result<(), Fail> {
+    play_all(&rt, rt.alloc(), TWICE_HIDDEN, ROUNDS_OF_TWICE_HIDDEN)
+}
+
+fn crosses_threads<T: Send + Sync>() {}
+
+#[test]
+fn engines_cross_threads() {
+    crosses_threads::<Engine>();
+    crosses_threads::<Settings>();
+}

@@ -1,0 +1,23 @@
+use Rattle.std.proofs.Common.{ap, ◌∙◌}
+use Rattle.xg_game.specs.Made.{Made}
+use Rattle.xg_gen.proofs.Whole.{new_takes, prologue_told, then_game, then_whole}
+use Rattle.xg_gen.proofs.poker.one_card_poker.Goals as goal
+
+pub put_entries-requires-clause-takes : goal.put_entries-requires-clause-takes
+put_entries-requires-clause-takes c =
+    new_takes c.args.n c.requires.low c.requires.high c.new-maker.result (ap (λ (m : Made). m.spent) c.new-maker.ensures) (ap (λ (m : Made). m.contents) c.new-maker.ensures)
+
+pub finish-requires-clause-complete : goal.finish-requires-clause-complete
+finish-requires-clause-complete c =
+    then_whole c.args.n c.requires.low c.requires.high c.new-maker.result c.put_entries.new.maker (ap (λ (m : Made). m.contents) c.new-maker.ensures) c.in_ok-put_entries.ensures
+
+pub finish-requires-clause-unspent : goal.finish-requires-clause-unspent
+finish-requires-clause-unspent c =
+    ap (λ (m : Made). m.spent) c.in_ok-put_entries.ensures.same ∙ ap (λ (m : Made). m.spent) c.new-maker.ensures
+
+pub returns : goal.returns
+returns c =
+    c.finish.ensures
+    ∙ then_game c.args.n c.new-maker.result c.put_entries.new.maker (ap (λ (m : Made). m.contents) c.new-maker.ensures)
+    (ap (λ (m : Made). m.prologue) c.new-maker.ensures ∙ prologue_told c.args.n _ _ _ _ c.in_ok-title.ensures c.in_ok-one.ensures c.in_ok-two.ensures c.in_ok-comment.ensures)
+    c.in_ok-put_entries.ensures

@@ -1,0 +1,4 @@
+pub mod Described
+pub mod Plain
+pub mod Taken
+pub mod Writes

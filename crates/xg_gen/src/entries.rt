@@ -1,0 +1,217 @@
+//! The entries of one-card poker, as a maker takes them.
+ghost use Rattle.std.specs.Prelude.{◌≡◌, ◌≤◌, ◌<◌, [], ◌∷◌, OnOk, Ok, IsTrue};
+ghost use Rattle.def_fraction.specs.Fraction.{most};
+ghost use Rattle.def_file.specs.Faults.{has_set};
+ghost use Rattle.def_poker.specs.Poker as def;
+ghost use Rattle.xg_record.specs.Record.{record_of};
+ghost use Rattle.xg_gen.specs.Described.{outcome_of, set_of};
+ghost use Rattle.xg_gen.specs.Taken.{Adds, Takes};
+
+use crate::mentions::{
+    DescribedOutcome, DescribedSet, after_bet, after_check, answer, opening, wins_one, wins_two,
+};
+use crate::texts::plain;
+use std::alloc::{AllocError, Global};
+use xg_game::{GameMaker, Refused};
+use xg_lex::Text;
+use xg_record::{EntryKind, Record};
+use xg_tree::Player;
+
+/// The play where player one has card `i` and player two has card `j`.
+pub(crate) fn put_hand(
+    maker: &mut GameMaker,
+    alloc: Global,
+    n: u32,
+    i: u32,
+    j: u32,
+) -> Result<(), AllocError>
+    requires one { 1 ≤ i }
+    requires two { 1 ≤ j }
+    requires takes { Takes maker.old (def.hand n i j) }
+    ensures { OnOk result (Adds maker.old maker.new (def.hand n i j)) }
+{
+    put_opening(maker, alloc, i)?;
+    put_after_check(maker, alloc, j)?;
+    put_showdown(maker, alloc, i, j)?;
+    put_answer(maker, alloc, n, i, j)?;
+    put_after_bet(maker, alloc, n, i, j)?;
+    Ok(())
+}
+
+/// Who wins where the cards are compared.
+fn higher(i: u32, j: u32) -> Player
+    ensures { result ≡ def.higher i j }
+{
+    if j < i { Player::One } else { Player::Two }
+}
+
+fn put_opening(maker: &mut GameMaker, alloc: Global, i: u32) -> Result<(), AllocError>
+    requires card { 1 ≤ i }
+    requires takes { Takes maker.old (def.moves 1 (def.opening i) ∷ []) }
+    ensures { OnOk result (Adds maker.old maker.new (def.moves 1 (def.opening i) ∷ [])) }
+{
+    let set = opening(alloc, i)?;
+    put_move(maker, alloc, 1, set)
+}
+
+fn put_after_check(maker: &mut GameMaker, alloc: Global, j: u32) -> Result<(), AllocError>
+    requires card { 1 ≤ j }
+    requires takes { Takes maker.old (def.moves 2 (def.after_check j) ∷ []) }
+    ensures { OnOk result (Adds maker.old maker.new (def.moves 2 (def.after_check j) ∷ [])) }
+{
+    let set = after_check(alloc, j)?;
+    put_move(maker, alloc, 2, set)
+}
+
+/// Two checks.
+fn put_showdown(maker: &mut GameMaker, alloc: Global, i: u32, j: u32) -> Result<(), AllocError>
+    requires { Takes maker.old (def.ends (def.wins_one (def.higher i j)) ∷ []) }
+    ensures { OnOk result (Adds maker.old maker.new (def.ends (def.wins_one (def.higher i j)) ∷ [])) }
+{
+    let outcome = wins_one(alloc, higher(i, j))?;
+    put_end(maker, alloc, outcome)
+}
+
+/// Player one faces a bet.
+fn put_answer(
+    maker: &mut GameMaker,
+    alloc: Global,
+    n: u32,
+    i: u32,
+    j: u32,
+) -> Result<(), AllocError>
+    requires card { 1 ≤ i }
+    requires takes { Takes maker.old (def.facing_bet 1 (def.answer n i) (def.wins_one Player.Two) (def.wins_two (def.higher i j))) }
+    ensures { OnOk result (Adds maker.old maker.new (def.facing_bet 1 (def.answer n i) (def.wins_one Player.Two) (def.wins_two (def.higher i j)))) }
+{
+    let set = answer(alloc, n, i)?;
+    let folded = wins_one(alloc, Player::Two)?;
+    let called = wins_two(alloc, higher(i, j))?;
+    put_facing_bet(maker, alloc, 1, set, folded, called)
+}
+
+/// Player two faces a bet.
+fn put_after_bet(
+    maker: &mut GameMaker,
+    alloc: Global,
+    n: u32,
+    i: u32,
+    j: u32,
+) -> Result<(), AllocError>
+    requires card { 1 ≤ j }
+    requires takes { Takes maker.old (def.facing_bet 2 (def.after_bet n j) (def.wins_one Player.One) (def.wins_two (def.higher i j))) }
+    ensures { OnOk result (Adds maker.old maker.new (def.facing_bet 2 (def.after_bet n j) (def.wins_one Player.One) (def.wins_two (def.higher i j)))) }
+{
+    let set = after_bet(alloc, n, j)?;
+    let folded = wins_one(alloc, Player::One)?;
+    let called = wins_two(alloc, higher(i, j))?;
+    put_facing_bet(maker, alloc, 2, set, folded, called)
+}
+
+/// A player who faces a bet folds or calls.
+#[tactic(auto, using(crate::proofs::Taken::takes_one, crate::proofs::Taken::takes_more, crate::proofs::Taken::adds_more), unfolding(def_poker::specs::Poker::facing_bet))]
+fn put_facing_bet(
+    maker: &mut GameMaker,
+    alloc: Global,
+    player: u64,
+    set: DescribedSet,
+    folded: DescribedOutcome,
+    called: DescribedOutcome,
+) -> Result<(), AllocError>
+    requires from_one { 1 ≤ set.number }
+    requires set { set.number ≤ most }
+    requires folded { folded.number ≤ most }
+    requires called { called.number ≤ most }
+    requires takes { Takes maker.old (def.facing_bet player (set_of set) (outcome_of folded) (outcome_of called)) }
+    ensures { OnOk result (Adds maker.old maker.new (def.facing_bet player (set_of set) (outcome_of folded) (outcome_of called))) }
+{
+    put_move(maker, alloc, player, set)?;
+    put_end(maker, alloc, folded)?;
+    put_end(maker, alloc, called)
+}
+
+/// Chance moves.
+pub(crate) fn put_deal(
+    maker: &mut GameMaker,
+    alloc: Global,
+    set: DescribedSet,
+) -> Result<(), AllocError>
+    requires from_one { 1 ≤ set.number }
+    requires set { set.number ≤ most }
+    requires takes { Takes maker.old (def.deals (set_of set) ∷ []) }
+    ensures { OnOk result (Adds maker.old maker.new (def.deals (set_of set) ∷ [])) }
+{
+    let name = plain(alloc, b"")?;
+    put_entry(maker, inner(EntryKind::Chance, name, 0, set))
+}
+
+/// A player moves.
+fn put_move(
+    maker: &mut GameMaker,
+    alloc: Global,
+    player: u64,
+    set: DescribedSet,
+) -> Result<(), AllocError>
+    requires from_one { 1 ≤ set.number }
+    requires set { set.number ≤ most }
+    requires takes { Takes maker.old (def.moves player (set_of set) ∷ []) }
+    ensures { OnOk result (Adds maker.old maker.new (def.moves player (set_of set) ∷ [])) }
+{
+    let name = plain(alloc, b"")?;
+    put_entry(maker, inner(EntryKind::Personal, name, player, set))
+}
+
+/// The play is over.
+fn put_end(
+    maker: &mut GameMaker,
+    alloc: Global,
+    outcome: DescribedOutcome,
+) -> Result<(), AllocError>
+    requires outcome { outcome.number ≤ most }
+    requires takes { Takes maker.old (def.ends (outcome_of outcome) ∷ []) }
+    ensures { OnOk result (Adds maker.old maker.new (def.ends (outcome_of outcome) ∷ [])) }
+{
+    let entry = Record {
+        kind: EntryKind::Leaf,
+        name: plain(alloc, b"")?,
+        player: 0,
+        set: 0,
+        set_name: None,
+        actions: None,
+        outcome: outcome.number,
+        outcome_name: Some(outcome.name),
+        payoffs: Some(outcome.payoffs),
+    };
+    put_entry(maker, entry)
+}
+
+/// An entry with a set and the null outcome.
+fn inner(kind: EntryKind, name: Text, player: u64, set: DescribedSet) -> Record
+    ensures { record_of result ≡ record { kind = kind; name = name; player = player; set = set_of set; outcome = def.no_outcome } }
+{
+    Record {
+        kind,
+        name,
+        player,
+        set: set.number,
+        set_name: Some(set.name),
+        actions: Some(set.actions),
+        outcome: 0,
+        outcome_name: None,
+        payoffs: None,
+    }
+}
+
+/// One entry.
+fn put_entry(maker: &mut GameMaker, entry: Record) -> Result<(), AllocError>
+    requires outcome { entry.outcome ≤ most }
+    requires set { IsTrue (has_set entry.kind) → (1 ≤ entry.set) × (entry.set ≤ most) }
+    requires takes { Takes maker.old (record_of entry ∷ []) }
+    ensures { OnOk result (Adds maker.old maker.new (record_of entry ∷ [])) }
+{
+    match maker.push(entry) {
+        Ok(()) => Ok(()),
+        Err(Refused::NoMemory) => Err(AllocError),
+        Err(Refused::File(_)) => unreachable!(),
+    }
+}

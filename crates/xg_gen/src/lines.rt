@@ -1,0 +1,213 @@
+//! The line of a node.
+ghost use Rattle.std.specs.Prelude.{◌≡◌, ◌≢◌, ◌-◌, ◌≤◌, [], ◌∷◌, length, slice_index_or};
+ghost use Rattle.def_outside.specs.Cause.{HasCause};
+ghost use Rattle.def_file.specs.Content.{sets_of_kind};
+ghost use Rattle.def_file.specs.Faults.{outcome_at, set_at};
+ghost use Rattle.def_file.specs.Game.{GoesWith, IsInSet};
+ghost use Rattle.def_canon.specs.Canon.{action_pieces, chance_pieces, described_outcome, each, letter, list_pieces, node_pieces, outcome_pieces, payoffs_pieces, place_pieces, player_pieces, set_pieces, text_of};
+ghost use Rattle.xg_gen.specs.Writes.{Writes, no_action};
+
+use crate::tokens::{put_close, put_comma, put_fraction, put_name, put_number, put_open, put_text};
+use xg_frac::Frac;
+use xg_game::Game;
+use xg_io::{Sink, WriteFault, write_all};
+use xg_tree::{Kind, Node, Player};
+
+/// The line of a node with this name.
+#[tactic(auto, using(crate::proofs::Written::first_piece, crate::proofs::Written::then_piece, crate::proofs::Written::first_part, crate::proofs::Written::then_part), unfolding(def_canon::specs::Canon::node_pieces))]
+pub(crate) fn put_node<O: Sink>(
+    game: &Game,
+    node: Node,
+    name: &[u8],
+    out: &mut O,
+) -> Result<(), WriteFault>
+    requires { GoesWith game.now.sets game.now.outcomes node }
+    ensures text { Writes (O.written out.old) (O.written out.new)
+        (text_of (node_pieces game.now.sets game.now.outcomes node name.now)) result }
+    ensures cause { HasCause (O.faults out.old) (O.faults out.new) result }
+{
+    put_letter(node.kind, out)?;
+    put_text(name, out)?;
+    put_player(node.kind, out)?;
+    put_place(game, node.kind, node.set, out)?;
+    put_outcome(game, node.outcome, out)
+}
+
+/// The letter of a kind of node, on a new line.
+#[tactic(auto, unfolding(def_canon::specs::Canon::text_of))]
+fn put_letter<O: Sink>(kind: Kind, out: &mut O) -> Result<(), WriteFault>
+    ensures text { Writes (O.written out.old) (O.written out.new) (text_of (letter kind ∷ [])) result }
+    ensures cause { HasCause (O.faults out.old) (O.faults out.new) result }
+{
+    match kind {
+        Kind::Chance => write_all(out, b"\nc"),
+        Kind::One | Kind::Two => write_all(out, b"\np"),
+        Kind::Leaf => write_all(out, b"\nt"),
+    }
+}
+
+/// The number of the player who moves, if one does.
+#[tactic(auto, using(crate::proofs::Written::nothing), unfolding(def_canon::specs::Canon::player_pieces))]
+fn put_player<O: Sink>(kind: Kind, out: &mut O) -> Result<(), WriteFault>
+    ensures text { Writes (O.written out.old) (O.written out.new) (text_of (player_pieces kind)) result }
+    ensures cause { HasCause (O.faults out.old) (O.faults out.new) result }
+{
+    match kind {
+        Kind::One => put_number(1, out),
+        Kind::Two => put_number(2, out),
+        Kind::Chance | Kind::Leaf => Ok(()),
+    }
+}
+
+/// The set of a node, unless it is a leaf.
+#[tactic(auto, using(crate::proofs::Written::nothing), unfolding(def_canon::specs::Canon::place_pieces))]
+fn put_place<O: Sink>(game: &Game, kind: Kind, set: u32, out: &mut O) -> Result<(), WriteFault>
+    requires from_one { kind ≢ Kind.Leaf → 1 ≤ set }
+    requires there { kind ≢ Kind.Leaf → set ≤ length (sets_of_kind kind game.now.sets) }
+    ensures text { Writes (O.written out.old) (O.written out.new) (text_of (place_pieces kind game.now.sets set)) result }
+    ensures cause { HasCause (O.faults out.old) (O.faults out.new) result }
+{
+    match kind {
+        Kind::Leaf => Ok(()),
+        Kind::Chance | Kind::One | Kind::Two => put_set(game, kind, set, out),
+    }
+}
+
+/// The whole description of a set.
+#[tactic(auto, using(crate::proofs::Written::first_piece, crate::proofs::Written::then_piece, crate::proofs::Written::first_part, crate::proofs::Written::then_part), unfolding(def_canon::specs::Canon::set_pieces))]
+fn put_set<O: Sink>(game: &Game, kind: Kind, set: u32, out: &mut O) -> Result<(), WriteFault>
+    requires kind { kind ≢ Kind.Leaf }
+    requires from_one { 1 ≤ set }
+    requires there { set ≤ length (sets_of_kind kind game.now.sets) }
+    ensures text { let entry = set_at (sets_of_kind kind game.now.sets) (set - 1) in
+        Writes (O.written out.old) (O.written out.new) (text_of (set_pieces kind entry)) result }
+    ensures cause { HasCause (O.faults out.old) (O.faults out.new) result }
+{
+    put_number(game.set_number(kind, set), out)?;
+    put_name(game.set_name(kind, set), out)?;
+    put_list(game, kind, set, out)
+}
+
+/// The actions of a set in braces.
+#[tactic(auto, using(crate::proofs::Written::first_piece, crate::proofs::Written::then_piece, crate::proofs::Written::first_part, crate::proofs::Written::then_part), unfolding(def_canon::specs::Canon::list_pieces))]
+fn put_list<O: Sink>(game: &Game, kind: Kind, set: u32, out: &mut O) -> Result<(), WriteFault>
+    requires kind { kind ≢ Kind.Leaf }
+    requires from_one { 1 ≤ set }
+    requires there { set ≤ length (sets_of_kind kind game.now.sets) }
+    ensures text { let entry = set_at (sets_of_kind kind game.now.sets) (set - 1) in
+        Writes (O.written out.old) (O.written out.new) (text_of (list_pieces kind entry.actions)) result }
+    ensures cause { HasCause (O.faults out.old) (O.faults out.new) result }
+{
+    put_open(out)?;
+    put_actions(game, kind, set, out)?;
+    put_close(out)
+}
+
+/// The actions of a set.
+fn put_actions<O: Sink>(game: &Game, kind: Kind, set: u32, out: &mut O) -> Result<(), WriteFault>
+    requires kind { kind ≢ Kind.Leaf }
+    requires from_one { 1 ≤ set }
+    requires there { set ≤ length (sets_of_kind kind game.now.sets) }
+    ensures text { let entry = set_at (sets_of_kind kind game.now.sets) (set - 1) in
+        Writes (O.written out.old) (O.written out.new) (text_of (each (action_pieces kind) entry.actions)) result }
+    ensures cause { HasCause (O.faults out.old) (O.faults out.new) result }
+{
+    'actions: for i in 0..game.action_count(kind, set) {
+        put_action(game, kind, set, i + 1, out)?;
+    }
+    Ok(())
+}
+
+/// An action of a set.
+#[tactic(auto, using(crate::proofs::Written::first_piece, crate::proofs::Written::then_piece, crate::proofs::Actions::named_at), unfolding(def_canon::specs::Canon::action_pieces))]
+fn put_action<O: Sink>(
+    game: &Game,
+    kind: Kind,
+    set: u32,
+    action: u32,
+    out: &mut O,
+) -> Result<(), WriteFault>
+    requires kind { kind ≢ Kind.Leaf }
+    requires from_one { 1 ≤ set }
+    requires there { set ≤ length (sets_of_kind kind game.now.sets) }
+    requires action_from_one { 1 ≤ action }
+    requires action_there { let entry = set_at (sets_of_kind kind game.now.sets) (set - 1) in
+        action ≤ length entry.actions }
+    ensures text { let entry = set_at (sets_of_kind kind game.now.sets) (set - 1) in
+        Writes (O.written out.old) (O.written out.new)
+        (text_of (action_pieces kind (slice_index_or entry.actions (action - 1) no_action))) result }
+    ensures cause { HasCause (O.faults out.old) (O.faults out.new) result }
+{
+    put_text(game.action_name(kind, set, action), out)?;
+    put_chance(game, kind, set, action, out)
+}
+
+/// The probability of an action, where chance moves.
+#[tactic(auto, using(crate::proofs::Written::nothing, crate::proofs::Actions::chance_at), unfolding(def_canon::specs::Canon::chance_pieces))]
+fn put_chance<O: Sink>(
+    game: &Game,
+    kind: Kind,
+    set: u32,
+    action: u32,
+    out: &mut O,
+) -> Result<(), WriteFault>
+    requires kind { kind ≢ Kind.Leaf }
+    requires from_one { 1 ≤ set }
+    requires there { set ≤ length (sets_of_kind kind game.now.sets) }
+    requires action_from_one { 1 ≤ action }
+    requires action_there { let entry = set_at (sets_of_kind kind game.now.sets) (set - 1) in
+        action ≤ length entry.actions }
+    ensures text { let entry = set_at (sets_of_kind kind game.now.sets) (set - 1) in
+        Writes (O.written out.old) (O.written out.new)
+        (text_of (chance_pieces kind (slice_index_or entry.actions (action - 1) no_action).chance)) result }
+    ensures cause { HasCause (O.faults out.old) (O.faults out.new) result }
+{
+    match kind {
+        Kind::Chance => put_fraction(game.chance(set, action), out),
+        Kind::One | Kind::Two | Kind::Leaf => Ok(()),
+    }
+}
+
+/// An outcome: the whole description, or the number alone of the null outcome.
+#[tactic(auto, unfolding(def_canon::specs::Canon::outcome_pieces))]
+fn put_outcome<O: Sink>(game: &Game, outcome: u32, out: &mut O) -> Result<(), WriteFault>
+    requires { outcome ≤ length game.now.outcomes }
+    ensures text { Writes (O.written out.old) (O.written out.new) (text_of (outcome_pieces game.now.outcomes outcome)) result }
+    ensures cause { HasCause (O.faults out.old) (O.faults out.new) result }
+{
+    if outcome == 0 {
+        return put_number(0, out);
+    }
+    put_described(game, outcome, out)
+}
+
+/// The whole description of an outcome.
+#[tactic(auto, using(crate::proofs::Written::first_piece, crate::proofs::Written::then_piece, crate::proofs::Written::first_part, crate::proofs::Written::then_part), unfolding(def_canon::specs::Canon::described_outcome))]
+fn put_described<O: Sink>(game: &Game, outcome: u32, out: &mut O) -> Result<(), WriteFault>
+    requires from_one { 1 ≤ outcome }
+    requires there { outcome ≤ length game.now.outcomes }
+    ensures text { Writes (O.written out.old) (O.written out.new)
+        (text_of (described_outcome (outcome_at game.now.outcomes (outcome - 1)))) result }
+    ensures cause { HasCause (O.faults out.old) (O.faults out.new) result }
+{
+    put_number(game.outcome_number(outcome), out)?;
+    put_name(game.outcome_name(outcome), out)?;
+    put_payoffs(
+        game.payoff(outcome, Player::One),
+        game.payoff(outcome, Player::Two),
+        out,
+    )
+}
+
+/// The payoffs of an outcome in braces.
+#[tactic(auto, using(crate::proofs::Written::first_piece, crate::proofs::Written::then_piece), unfolding(def_canon::specs::Canon::payoffs_pieces))]
+fn put_payoffs<O: Sink>(one: Frac, two: Frac, out: &mut O) -> Result<(), WriteFault>
+    ensures text { Writes (O.written out.old) (O.written out.new) (text_of (payoffs_pieces one two)) result }
+    ensures cause { HasCause (O.faults out.old) (O.faults out.new) result }
+{
+    put_open(out)?;
+    put_fraction(one, out)?;
+    put_comma(out)?;
+    put_fraction(two, out)?;
+    put_close(out)
+}

@@ -1,0 +1,121 @@
+//! One-card poker.
+ghost use Rattle.std.specs.Prelude.{◌≡◌, ◌≤◌, [], ◌∷◌, IfOk, OnOk};
+ghost use Rattle.def_poker.specs.Poker as def;
+ghost use Rattle.xg_gen.specs.Taken.{Adds, Takes};
+
+use crate::entries::{put_deal, put_hand};
+use crate::mentions::{deal_one, deal_two};
+use crate::texts::{numbered, plain};
+use std::alloc::{AllocError, Global};
+use xg_game::{Game, GameMaker};
+
+/// One-card poker with `n` cards: both players put in 1 and get a card each, and then check, bet, fold or call.
+pub fn one_card_poker(alloc: Global, n: u32) -> Result<Game, AllocError>
+    requires low { 2 ≤ n }
+    requires high { n ≤ 64 }
+    ensures { IfOk result (λ game. game ≡ def.poker n) }
+{
+    let title = numbered(alloc, b"One-card poker ", n)?;
+    let one = plain(alloc, b"One")?;
+    let two = plain(alloc, b"Two")?;
+    let comment = plain(alloc, b"")?;
+    let mut maker = GameMaker::new(alloc, title, one, two, comment);
+    put_entries(&mut maker, alloc, n)?;
+    Ok(maker.finish())
+}
+
+/// All entries.
+#[tactic(auto, using(crate::proofs::Taken::takes_one, crate::proofs::Taken::takes_more, crate::proofs::Taken::adds_more), unfolding(def_poker::specs::Poker::entries))]
+fn put_entries(maker: &mut GameMaker, alloc: Global, n: u32) -> Result<(), AllocError>
+    requires low { 2 ≤ n }
+    requires high { n ≤ 64 }
+    requires takes { Takes maker.old (def.entries n) }
+    ensures { OnOk result (Adds maker.old maker.new (def.entries n)) }
+{
+    put_deal_one(maker, alloc, n)?;
+    put_rounds(maker, alloc, n)?;
+    Ok(())
+}
+
+fn put_deal_one(maker: &mut GameMaker, alloc: Global, n: u32) -> Result<(), AllocError>
+    requires low { 2 ≤ n }
+    requires high { n ≤ 64 }
+    requires takes { Takes maker.old (def.deals (def.deal_one n) ∷ []) }
+    ensures { OnOk result (Adds maker.old maker.new (def.deals (def.deal_one n) ∷ [])) }
+{
+    let set = deal_one(alloc, n)?;
+    put_deal(maker, alloc, set)
+}
+
+/// Each card for player one, and all that follows.
+fn put_rounds(maker: &mut GameMaker, alloc: Global, n: u32) -> Result<(), AllocError>
+    requires low { 2 ≤ n }
+    requires high { n ≤ 64 }
+    requires takes { Takes maker.old (def.rounds n (def.cards n)) }
+    ensures { OnOk result (Adds maker.old maker.new (def.rounds n (def.cards n))) }
+{
+    'rounds: for i in 1..n + 1 {
+        put_round(maker, alloc, n, i)?;
+    }
+    Ok(())
+}
+
+/// Card `i` for player one, and all that follows.
+#[tactic(auto, using(crate::proofs::Taken::takes_one, crate::proofs::Taken::takes_more, crate::proofs::Taken::adds_more))]
+fn put_round(maker: &mut GameMaker, alloc: Global, n: u32, i: u32) -> Result<(), AllocError>
+    requires low { 2 ≤ n }
+    requires high { n ≤ 64 }
+    requires card { 1 ≤ i }
+    requires there { i ≤ n }
+    requires takes { Takes maker.old (def.deals (def.deal_two n i) ∷ def.hands n i (def.others n i)) }
+    ensures { OnOk result (Adds maker.old maker.new (def.deals (def.deal_two n i) ∷ def.hands n i (def.others n i))) }
+{
+    put_deal_two(maker, alloc, n, i)?;
+    put_hands(maker, alloc, n, i)?;
+    Ok(())
+}
+
+fn put_deal_two(maker: &mut GameMaker, alloc: Global, n: u32, i: u32) -> Result<(), AllocError>
+    requires low { 2 ≤ n }
+    requires high { n ≤ 64 }
+    requires card { i ≤ n }
+    requires takes { Takes maker.old (def.deals (def.deal_two n i) ∷ []) }
+    ensures { OnOk result (Adds maker.old maker.new (def.deals (def.deal_two n i) ∷ [])) }
+{
+    let set = deal_two(alloc, n, i)?;
+    put_deal(maker, alloc, set)
+}
+
+/// The play of player one's card `i` against each other card.
+fn put_hands(maker: &mut GameMaker, alloc: Global, n: u32, i: u32) -> Result<(), AllocError>
+    requires low { 2 ≤ n }
+    requires high { n ≤ 64 }
+    requires card { 1 ≤ i }
+    requires takes { Takes maker.old (def.hands n i (def.others n i)) }
+    ensures { OnOk result (Adds maker.old maker.new (def.hands n i (def.others n i))) }
+{
+    'hands: for j in 1..n + 1 {
+        put_other_hand(maker, alloc, n, i, j)?;
+    }
+    Ok(())
+}
+
+/// The play of two cards, unless they are one.
+fn put_other_hand(
+    maker: &mut GameMaker,
+    alloc: Global,
+    n: u32,
+    i: u32,
+    j: u32,
+) -> Result<(), AllocError>
+    requires one { 1 ≤ i }
+    requires two { 1 ≤ j }
+    requires takes { Takes maker.old (def.hands n i (def.without i (j ∷ []))) }
+    ensures { OnOk result (Adds maker.old maker.new (def.hands n i (def.without i (j ∷ [])))) }
+{
+    if i == j {
+        return Ok(());
+    }
+    put_hand(maker, alloc, n, i, j)?;
+    Ok(())
+}

@@ -1,0 +1,102 @@
+//! Texts of generated games, and of one that is made here.
+use crate::{one_card_poker, write_game};
+use std::alloc::Global;
+use std::process::Abort;
+use std::test::Fail;
+use xg_frac::{Frac, whole};
+use xg_game::{Game, GameMaker};
+use xg_io::{MemSink, WriteFault};
+use xg_lex::{Text, Tokens, unescape};
+use xg_record::{EntryKind, Payoffs, Record};
+
+const TWO_CARDS: &[u8] = b"EFG 2 R \"One-card poker 2\" { \"One\" \"Two\" }\n\
+\"\"\n\
+c \"\" 1 \"deal one\" { \"1\" 1/2 \"2\" 1/2 } 0\n\
+c \"\" 2 \"deal two 1\" { \"2\" 1 } 0\n\
+p \"\" 1 1 \"1\" { \"check\" \"bet\" } 0\n\
+p \"\" 2 2 \"2 c\" { \"check\" \"bet\" } 0\n\
+t \"\" 2 \"Two wins 1\" { -1, 1 }\n\
+p \"\" 1 3 \"1 cb\" { \"fold\" \"call\" } 0\n\
+t \"\" 2 \"Two wins 1\" { -1, 1 }\n\
+t \"\" 4 \"Two wins 2\" { -2, 2 }\n\
+p \"\" 2 4 \"2 b\" { \"fold\" \"call\" } 0\n\
+t \"\" 1 \"One wins 1\" { 1, -1 }\n\
+t \"\" 4 \"Two wins 2\" { -2, 2 }\n\
+c \"\" 3 \"deal two 2\" { \"1\" 1 } 0\n\
+p \"\" 1 2 \"2\" { \"check\" \"bet\" } 0\n\
+p \"\" 2 1 \"1 c\" { \"check\" \"bet\" } 0\n\
+t \"\" 1 \"One wins 1\" { 1, -1 }\n\
+p \"\" 1 4 \"2 cb\" { \"fold\" \"call\" } 0\n\
+t \"\" 2 \"Two wins 1\" { -1, 1 }\n\
+t \"\" 3 \"One wins 2\" { 2, -2 }\n\
+p \"\" 2 3 \"1 b\" { \"fold\" \"call\" } 0\n\
+t \"\" 1 \"One wins 1\" { 1, -1 }\n\
+t \"\" 3 \"One wins 2\" { 2, -2 }\n";
+
+#[test]
+fn two_cards(rt: HostRuntime) -> Result<(), Fail> {
+    let game = one_card_poker(rt.alloc(), 2)?;
+    let mut sink = MemSink::new(rt.alloc(), 2000, &[])?;
+    write_game(&game, &mut sink).ok().ok_or("written")?;
+    assert_eq!(rt; sink.bytes(), TWO_CARDS);
+    let mut short = MemSink::new(rt.alloc(), 30, &[])?;
+    assert_eq!(rt; write_game(&game, &mut short), Err(WriteFault));
+    Ok(())
+}
+
+#[test]
+fn three_cards(rt: HostRuntime) -> Result<(), Fail> {
+    let game = one_card_poker(rt.alloc(), 3)?;
+    assert_eq!(rt; game.tree().len(), 58);
+    assert_eq!(rt; game.tree().leaves(), 30);
+    Ok(())
+}
+
+/// The text of a file that is one text token.
+fn text(rt: &impl Abort, alloc: Global, file: &[u8]) -> Text {
+    let token = Tokens::new(file).next().expect(rt, "a token");
+    assert!(rt; token.kind == xg_lex::Token::Text);
+    unescape(alloc, &file[token.start + 1..token.end - 1]).expect(rt, "memory")
+}
+
+fn number(rt: &impl Abort, n: i64) -> Frac {
+    whole(n).expect(rt, "a small number")
+}
+
+/// A game of one leaf with quotation marks and backslashes in its texts, and an outcome without a name.
+fn leaf_game(rt: &impl Abort, alloc: Global) -> Game {
+    let title = text(rt, alloc, b"\"a \\\"b\\\" c\\d\"");
+    let one = text(rt, alloc, b"\"\\\"\"");
+    let two = text(rt, alloc, b"\"\"");
+    let comment = text(rt, alloc, b"\"x\"");
+    let mut maker = GameMaker::new(alloc, title, one, two, comment);
+    let mut payoffs = Payoffs::new(alloc);
+    payoffs.push(number(rt, 3)).expect(rt, "memory");
+    payoffs.push(number(rt, -3)).expect(rt, "memory");
+    let entry = Record {
+        kind: EntryKind::Leaf,
+        name: text(rt, alloc, b"\"n\""),
+        player: 0,
+        set: 0,
+        set_name: None,
+        actions: None,
+        outcome: 7,
+        outcome_name: None,
+        payoffs: Some(payoffs),
+    };
+    assert!(rt; !maker.is_complete());
+    maker.push(entry).expect(rt, "memory");
+    assert!(rt; maker.is_complete());
+    assert!(rt; !maker.is_spent());
+    maker.finish()
+}
+
+#[test]
+fn marks_and_no_name(rt: HostRuntime) -> Result<(), Fail> {
+    let game = leaf_game(&rt, rt.alloc());
+    let mut sink = MemSink::new(rt.alloc(), 200, &[])?;
+    write_game(&game, &mut sink).ok().ok_or("written")?;
+    let written = b"EFG 2 R \"a \\\"b\\\" c\\d\" { \"\\\"\" \"\" }\n\"x\"\nt \"n\" 7 { 3, -3 }\n";
+    assert_eq!(rt; sink.bytes(), written.as_slice());
+    Ok(())
+}

@@ -1,0 +1,133 @@
+//! Tokens of the canonical form, each behind its white space.
+ghost use Rattle.std.specs.Prelude.{◌≡◌, [], ◌∷◌, ◌++◌};
+ghost use Rattle.std.specs.Option.{option_map};
+ghost use Rattle.def_outside.specs.Cause.{HasCause};
+ghost use Rattle.def_file_tokens.specs.Texts.{escaped};
+ghost use Rattle.def_canon.specs.Canon.{close_brace, comma, fraction, marker_pieces, name_pieces, on_new_line, open_brace, quoted, text, text_of, whole_number};
+ghost use Rattle.def_file_tokens.specs.declared.Token.TheVariants.{Text};
+ghost use Rattle.xg_gen.specs.Writes.{Writes};
+
+use itoa::Buffer;
+use memchr::memchr;
+use xg_frac::{Frac, put_frac};
+use xg_io::{Sink, WriteFault, write_all};
+
+/// The first three words of a file.
+#[tactic(auto, unfolding(def_canon::specs::Canon::text_of, def_canon::specs::Canon::marker_pieces))]
+pub(crate) fn put_marker<O: Sink>(out: &mut O) -> Result<(), WriteFault>
+    ensures text { Writes (O.written out.old) (O.written out.new) (text_of marker_pieces) result }
+    ensures cause { HasCause (O.faults out.old) (O.faults out.new) result }
+{
+    write_all(out, b"EFG 2 R")
+}
+
+#[tactic(auto, unfolding(def_canon::specs::Canon::text_of))]
+pub(crate) fn put_open<O: Sink>(out: &mut O) -> Result<(), WriteFault>
+    ensures text { Writes (O.written out.old) (O.written out.new) (text_of (open_brace ∷ [])) result }
+    ensures cause { HasCause (O.faults out.old) (O.faults out.new) result }
+{
+    write_all(out, b" {")
+}
+
+#[tactic(auto, unfolding(def_canon::specs::Canon::text_of))]
+pub(crate) fn put_close<O: Sink>(out: &mut O) -> Result<(), WriteFault>
+    ensures text { Writes (O.written out.old) (O.written out.new) (text_of (close_brace ∷ [])) result }
+    ensures cause { HasCause (O.faults out.old) (O.faults out.new) result }
+{
+    write_all(out, b" }")
+}
+
+#[tactic(auto, unfolding(def_canon::specs::Canon::text_of))]
+pub(crate) fn put_comma<O: Sink>(out: &mut O) -> Result<(), WriteFault>
+    ensures text { Writes (O.written out.old) (O.written out.new) (text_of (comma ∷ [])) result }
+    ensures cause { HasCause (O.faults out.old) (O.faults out.new) result }
+{
+    write_all(out, b",")
+}
+
+/// A whole number.
+#[tactic(auto, using(crate::proofs::Written::first_token, crate::proofs::Written::then_token))]
+pub(crate) fn put_number<O: Sink>(n: u64, out: &mut O) -> Result<(), WriteFault>
+    ensures text { Writes (O.written out.old) (O.written out.new) (text_of (whole_number n ∷ [])) result }
+    ensures cause { HasCause (O.faults out.old) (O.faults out.new) result }
+{
+    let mut buffer = Buffer::new();
+    write_all(out, b" ")?;
+    write_all(out, buffer.format(n).as_bytes())
+}
+
+#[tactic(auto, using(crate::proofs::Written::first_token, crate::proofs::Written::then_token))]
+pub(crate) fn put_fraction<O: Sink>(f: Frac, out: &mut O) -> Result<(), WriteFault>
+    ensures text { Writes (O.written out.old) (O.written out.new) (text_of (fraction f ∷ [])) result }
+    ensures cause { HasCause (O.faults out.old) (O.faults out.new) result }
+{
+    write_all(out, b" ")?;
+    put_frac(f, out)
+}
+
+/// A text behind one space.
+#[tactic(auto, using(crate::proofs::Written::first_token, crate::proofs::Written::then_token))]
+pub(crate) fn put_text<O: Sink>(bytes: &[u8], out: &mut O) -> Result<(), WriteFault>
+    ensures text { Writes (O.written out.old) (O.written out.new) (text_of (text bytes.now ∷ [])) result }
+    ensures cause { HasCause (O.faults out.old) (O.faults out.new) result }
+{
+    write_all(out, b" ")?;
+    put_quoted(bytes, out)
+}
+
+/// A text on a line of its own.
+#[tactic(auto, using(crate::proofs::Written::first_token, crate::proofs::Written::then_token))]
+pub(crate) fn put_text_line<O: Sink>(bytes: &[u8], out: &mut O) -> Result<(), WriteFault>
+    ensures text { Writes (O.written out.old) (O.written out.new) (text_of (on_new_line Text (quoted bytes.now) ∷ [])) result }
+    ensures cause { HasCause (O.faults out.old) (O.faults out.new) result }
+{
+    write_all(out, b"\n")?;
+    put_quoted(bytes, out)
+}
+
+/// A name, if there is one.
+#[tactic(auto, using(crate::proofs::Written::nothing), unfolding(def_canon::specs::Canon::name_pieces))]
+pub(crate) fn put_name<O: Sink>(name: Option<&[u8]>, out: &mut O) -> Result<(), WriteFault>
+    ensures text { Writes (O.written out.old) (O.written out.new)
+        (text_of (name_pieces (option_map (λ b. b.now) name.entry))) result }
+    ensures cause { HasCause (O.faults out.old) (O.faults out.new) result }
+{
+    match name {
+        Some(name) => put_text(name, out),
+        None => Ok(()),
+    }
+}
+
+/// Bytes between quotation marks.
+#[tactic(auto, using(crate::proofs::Written::prefix_first, crate::proofs::Written::then_rest), unfolding(def_canon::specs::Canon::quoted))]
+fn put_quoted<O: Sink>(bytes: &[u8], out: &mut O) -> Result<(), WriteFault>
+    ensures text { Writes (O.written out.old) (O.written out.new) (quoted bytes.now) result }
+    ensures cause { HasCause (O.faults out.old) (O.faults out.new) result }
+{
+    write_all(out, b"\"")?;
+    put_escaped(bytes, out)?;
+    write_all(out, b"\"")
+}
+
+/// Bytes with a backslash before each quotation mark.
+fn put_escaped<O: Sink>(bytes: &[u8], out: &mut O) -> Result<(), WriteFault>
+    ensures text { Writes (O.written out.old) (O.written out.new) (escaped bytes.now) result }
+    ensures cause { HasCause (O.faults out.old) (O.faults out.new) result }
+{
+    let mut rest = bytes;
+    'marks: while let Some(mark) = memchr(b'"', rest) {
+        put_marked(&rest[..mark], out)?;
+        rest = &rest[mark + 1..];
+    }
+    write_all(out, rest)
+}
+
+/// Bytes without a quotation mark, and one behind its backslash.
+#[tactic(auto, using(crate::proofs::Written::prefix_first, crate::proofs::Written::then_rest))]
+fn put_marked<O: Sink>(bytes: &[u8], out: &mut O) -> Result<(), WriteFault>
+    ensures text { Writes (O.written out.old) (O.written out.new) (bytes.now ++ (92 ∷ 34 ∷ [])) result }
+    ensures cause { HasCause (O.faults out.old) (O.faults out.new) result }
+{
+    write_all(out, bytes)?;
+    write_all(out, b"\\\"")
+}

@@ -1,0 +1,71 @@
+//! A game in its canonical form.
+ghost use Rattle.std.specs.Prelude.{◌≡◌, OnOk, OnErr};
+ghost use Rattle.std.specs.List.{zip};
+ghost use Rattle.std.specs.Io.KnownBytes.{append_known};
+ghost use Rattle.def_outside.specs.Cause.{HasCause};
+ghost use Rattle.def_outside.specs.Sinks.{AppendsPrefix};
+ghost use Rattle.def_tree.specs.Tree.{prefix};
+ghost use Rattle.def_canon.specs.Canon.{canon, game_pieces, lines_pieces, prologue_pieces, text_of};
+ghost use Rattle.xg_gen.specs.Writes.{Writes};
+
+use crate::lines::put_node;
+use crate::tokens::{put_close, put_marker, put_open, put_text, put_text_line};
+use xg_game::Game;
+use xg_io::{Sink, WriteFault, write_all};
+use xg_tree::Player;
+
+/// Writes a game in its canonical form: a line for each node, with the whole description of its set and its outcome.
+/// After an error a front of the text was written. Takes no memory.
+pub fn write_game<O: Sink>(game: &Game, out: &mut O) -> Result<(), WriteFault>
+    ensures appended { OnOk result (O.written out.new ≡ append_known (O.written out.old) (canon game.now)) }
+    ensures prefix { OnErr result (AppendsPrefix (O.written out.old) (O.written out.new) (canon game.now)) }
+    ensures cause { HasCause (O.faults out.old) (O.faults out.new) result }
+{
+    put_game(game, out)
+}
+
+#[tactic(auto, using(crate::proofs::Written::first_canon, crate::proofs::Written::then_feed))]
+fn put_game<O: Sink>(game: &Game, out: &mut O) -> Result<(), WriteFault>
+    ensures text { Writes (O.written out.old) (O.written out.new) (canon game.now) result }
+    ensures cause { HasCause (O.faults out.old) (O.faults out.new) result }
+{
+    put_pieces(game, out)?;
+    write_all(out, b"\n")
+}
+
+#[tactic(auto, using(crate::proofs::Written::first_part, crate::proofs::Written::then_part), unfolding(def_canon::specs::Canon::game_pieces))]
+fn put_pieces<O: Sink>(game: &Game, out: &mut O) -> Result<(), WriteFault>
+    ensures text { Writes (O.written out.old) (O.written out.new) (text_of (game_pieces game.now)) result }
+    ensures cause { HasCause (O.faults out.old) (O.faults out.new) result }
+{
+    put_prologue(game, out)?;
+    put_lines(game, out)
+}
+
+/// The first two lines, but for the line feed behind them.
+#[tactic(auto, using(crate::proofs::Written::first_piece, crate::proofs::Written::then_piece, crate::proofs::Written::first_part, crate::proofs::Written::then_part), unfolding(def_canon::specs::Canon::prologue_pieces))]
+fn put_prologue<O: Sink>(game: &Game, out: &mut O) -> Result<(), WriteFault>
+    ensures text { Writes (O.written out.old) (O.written out.new) (text_of (prologue_pieces game.now.prologue)) result }
+    ensures cause { HasCause (O.faults out.old) (O.faults out.new) result }
+{
+    put_marker(out)?;
+    put_text(game.title(), out)?;
+    put_open(out)?;
+    put_text(game.player_name(Player::One), out)?;
+    put_text(game.player_name(Player::Two), out)?;
+    put_close(out)?;
+    put_text_line(game.comment(), out)
+}
+
+/// The lines of the nodes.
+fn put_lines<O: Sink>(game: &Game, out: &mut O) -> Result<(), WriteFault>
+    ensures text { Writes (O.written out.old) (O.written out.new)
+        (text_of (lines_pieces game.now.sets game.now.outcomes (zip (prefix game.now.tree) game.now.names))) result }
+    ensures cause { HasCause (O.faults out.old) (O.faults out.new) result }
+{
+    let tree = game.tree();
+    'nodes: for i in 0..tree.len() {
+        put_node(game, tree.node(i + 1), game.node_name(i + 1), out)?;
+    }
+    Ok(())
+}

@@ -1,0 +1,114 @@
+-- The rows of each job.
+use Rattle.std.proofs.Common.{◌≡◌, ℕ, zero, suc, ◌+◌, ◌<◌, ◌≤◌, max, List, [], ◌∷◌, ◌++◌, length, get_or, take, map, All, sym, ap, subst, ◌∙◌, arith, length-append}
+use Rattle.std.specs.Prelude.{flat_map}
+use Rattle.std.proofs.lemmas.List.{take_more, map_push, get_or-map, length-map, length-take, length-drop}
+use Rattle.std.proofs.lemmas.List.FromFn.{length-range_with_len}
+use Rattle.def_tree.specs.Tree.{Forest, prefix, leaf_count, tree_count}
+use Rattle.def_game_paths.specs.Paths.{leaf_visits}
+use Rattle.def_game_jobs.specs.Jobs.{leaf_counts}
+use Rattle.def_game_jobs.specs.Ranges.{LeafRange as RangeOfLeaves, leaves_of, ranges_from, job_ranges}
+use Rattle.def_game_jobs.proofs.Ranges.{partition}
+use Rattle.def_plan.specs.Form.{SequenceForm}
+use Rattle.def_sequence_form.proofs.Leaves.{leaves_counted, length-leaves_with}
+use Rattle.def_history_rows.specs.JobRows.{job_leaves}
+use Rattle.xg_touched.specs.Touched.{JobRows, job_rows, leaf_rows}
+use Rattle.xg_jobs.specs.declared.table.LeafRange.{LeafRange}
+use Rattle.xg_jobs.specs.Groups.{greatest_of}
+use Rattle.xg_jobs.specs.Ranges.{range_of}
+use Rattle.xg_jobs.specs.Table.{IsFormOf, IsTableOf, TableOfJobs, most_touched}
+use Rattle.xg_jobs.proofs.Greatest.{greatest_last, at_most_greatest}
+
+-- ranges behind one another end where their leaves end
+ranges_end : (first : ℕ) (counts : List ℕ) (k : ℕ) (d : RangeOfLeaves) → k < length (ranges_from first counts)
+    → (get_or (ranges_from first counts) k d).first + (get_or (ranges_from first counts) k d).count
+    ≤ first + length (flat_map leaves_of (ranges_from first counts))
+ranges_end first [] k d low = absurd (omega arith)
+ranges_end first (count ∷ rest) zero d low =
+    omega (arith, length-append (leaves_of (record { first = first; count = count })) (flat_map leaves_of (ranges_from (first + count) rest)), length-range_with_len first count)
+ranges_end first (count ∷ rest) (suc k) d low =
+    omega (arith, ranges_end (first + count) rest k d (omega arith), length-append (leaves_of (record { first = first; count = count })) (flat_map leaves_of (ranges_from (first + count) rest)), length-range_with_len first count)
+
+-- a form has a leaf for each of its tree's
+form_leaves : (form : SequenceForm) (tree : Forest) → IsFormOf form tree → length form.leaves ≡ leaf_count (prefix tree)
+form_leaves form tree is =
+    let visited = leaves_counted tree in
+    ap (λ (f : SequenceForm). length f.leaves) is.form_is
+    ∙ length-leaves_with tree (leaf_visits tree) is.weights (omega (arith, visited, is.count)) ∙ visited
+
+-- each job's leaves are some of the form's
+pub ranges_inside : (form : SequenceForm) (tree : Forest) → IsFormOf form tree → tree_count tree ≡ 1
+    → All (λ (r : RangeOfLeaves). r.first + r.count ≤ length form.leaves) (job_ranges tree)
+ranges_inside form tree is one k d low =
+    omega (arith, ranges_end 0 (leaf_counts tree) k d low, ap length (partition tree one), length-range_with_len 0 (leaf_count (prefix tree)), form_leaves form tree is)
+
+-- the same of the ranges as a table has them
+pub told_inside : (form : SequenceForm) (tree : Forest) (ranges : List LeafRange) → IsFormOf form tree → tree_count tree ≡ 1
+    → map range_of ranges ≡ job_ranges tree
+    → All (λ (r : LeafRange). r.first + r.count ≤ length form.leaves) ranges
+told_inside form tree ranges is one told k d low =
+    let all = subst (All (λ (r : RangeOfLeaves). r.first + r.count ≤ length form.leaves)) (sym told) (ranges_inside form tree is one) in
+    let at = all k (range_of d) (omega (arith, length-map ranges range_of)) in
+    subst (λ (r : RangeOfLeaves). r.first + r.count ≤ length form.leaves) (get_or-map range_of ranges k d (range_of d) low) at
+
+-- the rows of one job more
+pub touched_more : (form : SequenceForm) (ranges : List LeafRange) (k : ℕ) (r : LeafRange) → k < length ranges → get_or ranges k r ≡ r
+    → map (job_rows form) (map range_of (take (k + 1) ranges)) ≡ map (job_rows form) (map range_of (take k ranges)) ++ job_rows form (range_of r) ∷ []
+touched_more form ranges k r low read =
+    ap (λ rs. map (job_rows form) (map range_of rs)) (take_more ranges k r low ∙ ap (λ x. take k ranges ++ x ∷ []) read)
+    ∙ ap (map (job_rows form)) (map_push range_of (take k ranges) r)
+    ∙ map_push (job_rows form) (map range_of (take k ranges)) (range_of r)
+
+abbrev size : JobRows → ℕ
+size job = length job.rows
+
+-- the greatest number of rows of one job more
+pub most_more : (touched : List JobRows) (k : ℕ) (job : JobRows) → k < length touched → get_or touched k job ≡ job
+    → most_touched (take (k + 1) touched) ≡ max (most_touched (take k touched)) (length job.rows)
+most_more touched k job low read =
+    ap greatest_of (map_push_here)
+    ∙ greatest_last (map size (take k touched)) (size job)
+  where
+    map_push_here : map size (take (k + 1) touched) ≡ map size (take k touched) ++ size job ∷ []
+    map_push_here = ap (map size) (take_more touched k job low ∙ ap (λ x. take k touched ++ x ∷ []) read) ∙ map_push size (take k touched) job
+
+-- each job has at most so many rows
+pub at_most_touched : (touched : List JobRows) (k : ℕ) (d : JobRows) → k < length touched → length (get_or touched k d).rows ≤ most_touched touched
+at_most_touched touched k d low =
+    omega (arith, at_most_greatest (map size touched) k, get_or-map size touched k d 0 low)
+
+-- what a table tells of a job
+pub record JobTold (form : SequenceForm) (table : TableOfJobs) (job : ℕ) (touched : JobRows) (range : LeafRange) : Type 0 where
+  pub range_is : get_or table.ranges job (record { first = 0; count = 0 }) ≡ range_of range
+  pub inside : range.first + range.count ≤ length form.leaves
+  pub count : length touched.leaves ≡ range.count
+  pub rows : touched ≡ job_rows form (record { first = range.first; count = length touched.leaves })
+  pub few : length touched.rows ≤ most_touched table.touched
+
+-- a table built from a form tells so of each of its jobs
+pub job_told : (form : SequenceForm) (table : TableOfJobs) (job : ℕ) (ranges : List LeafRange) (touched : JobRows) (range : LeafRange)
+    → IsTableOf form table → job < length table.ranges → map range_of ranges ≡ table.ranges
+    → range ≡ get_or ranges job range → touched ≡ get_or table.touched job touched
+    → JobTold form table job touched range
+job_told form table job ranges touched range is low told read found =
+    let none : RangeOfLeaves = record { first = 0; count = 0 } in
+    let tree : Forest = is.tree in
+    let ranges_are : table.ranges ≡ job_ranges tree = ap (λ (t : TableOfJobs). t.ranges) is.table_is in
+    let touched_are : table.touched ≡ map (job_rows form) (job_ranges tree) = ap (λ (t : TableOfJobs). t.touched) is.table_is in
+    let there : job < length (job_ranges tree) = subst (λ rs. job < length rs) ranges_are low in
+    let here : job < length ranges = omega (arith, ap (length {A = RangeOfLeaves}) told, length-map ranges range_of, low) in
+    let range_is : get_or table.ranges job none ≡ range_of range =
+    ap (λ rs. get_or rs job none) (sym told) ∙ get_or-map range_of ranges job range none here ∙ ap range_of (sym read) in
+    let at : get_or (job_ranges tree) job none ≡ range_of range = ap (λ rs. get_or rs job none) (sym ranges_are) ∙ range_is in
+    let whole : touched ≡ job_rows form (range_of range) =
+    found ∙ ap (λ ts. get_or ts job touched) touched_are ∙ get_or-map (job_rows form) (job_ranges tree) job none touched there ∙ ap (job_rows form) at in
+    let inside : range.first + range.count ≤ length form.leaves =
+    subst (λ (r : RangeOfLeaves). r.first + r.count ≤ length form.leaves) at (ranges_inside form tree is.form_is is.rules.tree.one job none there) in
+    let count : length touched.leaves ≡ range.count =
+    ap (λ (t : JobRows). length t.leaves) whole ∙ length-map (job_leaves form (range_of range)) (leaf_rows form) ∙ simp (length-take, length-drop) (omega arith) in
+    record {
+      range_is = range_is;
+      inside = inside;
+      count = count;
+      rows = whole ∙ ap (λ n. job_rows form (record { first = range.first; count = n })) (sym count);
+      few = omega (arith, ap (λ (t : JobRows). length t.rows) found, at_most_touched table.touched job touched (omega (arith, ap (length {A = JobRows}) touched_are, length-map (job_ranges tree) (job_rows form), there)));
+    }

@@ -1,0 +1,12 @@
+use Rattle.std.proofs.Common.{◌∙◌, sym}
+use Rattle.xg_page.proofs.Pages.{on_err, on_err_then, without_err, whole_front, front_of_sink}
+use Rattle.xg_page.proofs.named.write_by.Goals as goal
+
+pub returns-then-is_err-clause-prefix : goal.returns-then-is_err-clause-prefix
+returns-then-is_err-clause-prefix g c =
+    on_err_then c.fill-page.result.1 (front_of_sink _ _ _ _ c.fill-page.ensures.grown) c.fill-page.ensures.prefix
+
+pub returns-clause-prefix : goal.returns-clause-prefix
+returns-clause-prefix g c =
+    let filled = without_err c.fill-page.result.1 (sym c.is_err.ensures.value ∙ c.if-is_err.false) c.fill-page.ensures.appended in
+    on_err c.turn-page.result (front_of_sink _ _ _ _ (c.turn-page.ensures.grown g.L.Lender.before c.fill-page.ensures.grown) (whole_front _ _ _ (c.turn-page.ensures.same_written ∙ filled)))

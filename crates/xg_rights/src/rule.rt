@@ -1,0 +1,62 @@
+use crate::view::View;
+use atomic_table::{Join, Play, Split, TableRule};
+use std::marker::{Brand, PhantomData};
+
+/// The rule of the table: word 0 has the number, and over all seats each right stands once, there are 64 tickets, and
+/// 66 parts more than stripes.
+pub struct RightsRule;
+
+impl TableRule<(), View, u64> for RightsRule {
+    ghost use Rattle.xg_rights.specs.Rights.{IsKept, whole};
+
+    ghost holds = { λ number s. IsKept number s.words s.views };
+
+    ghost first = { whole };
+}
+
+/// A load that tells a seat what the rule says of its own view.
+pub(crate) struct Loads;
+
+impl Play<(), View> for Loads {
+    ghost use Rattle.std.specs.Prelude.{◌≡◌};
+    ghost use Rattle.xg_rights.specs.Rights.{Told};
+
+    ghost then = { λ _ me found now. (now ≡ me) × Told found me.0 };
+}
+
+/// Two views put together.
+pub(crate) struct Joins;
+
+impl Join<View> for Joins {
+    ghost use Rattle.xg_rights.specs.Rights.{both, spent};
+
+    ghost both = { both };
+
+    ghost spent = { spent };
+}
+
+/// How a view is to be cut: what the seat keeps, and what a new seat is given.
+pub trait Cut {
+    ghost use Rattle.xg_rights.specs.declared.view.View.{View};
+
+    ghost kept: { View };
+
+    ghost given: { View };
+}
+
+impl Cut for Brand {
+    ghost use Rattle.xg_rights.specs.Rights.{spent};
+
+    ghost kept = { spent };
+
+    ghost given = { spent };
+}
+
+/// A view cut as `C` says.
+pub(crate) struct Cuts<C: Cut>(PhantomData<C>);
+
+impl<C: Cut> Split<View> for Cuts<C> {
+    ghost left = { λ _. C.kept };
+
+    ghost right = { λ _. C.given };
+}

@@ -1,0 +1,17 @@
+#![tactic(auto)]
+//! Rows that several workers add into, cut into stripes: what one job adds, and the totals of a stripe with the history
+//! of the jobs that were added there.
+//!
+//! No lock and no thread stands here: each stripe is under a lock of the crates above.
+
+mod entries;
+mod name;
+mod packet;
+mod stripe;
+
+pub use name::RowName;
+pub use packet::Packet;
+pub use stripe::Stripe;
+
+#[cfg(test)]
+mod tests;

@@ -1,0 +1,93 @@
+ghost use Rattle.std.specs.Prelude.{◌≡◌, ◌<◌, ◌^◌, ◌++◌, ◌+ℤ◌, [], ◌∷◌, length, unsigned_abs, IfOk};
+ghost use Rattle.def_history.specs.Packets.{AreRising};
+ghost use Rattle.xg_rowcore.specs.Packets.{IsAboveLast, entry_at, with_added};
+
+use crate::entries::Entries;
+use std::alloc::{AllocError, Global};
+
+/// What one job adds: rows in rising order, each with an amount.
+///
+/// A packet is made once, with room for the largest job, and then filled for one job after the other.
+#[derive(Drop)]
+pub struct Packet {
+    /// The job that the rows are of.
+    pub job: u32,
+    entries: Entries,
+}
+
+impl Packet {
+    /// An empty packet with room for so many rows.
+    pub fn new(alloc: Global, room: usize) -> Result<Packet, AllocError>
+        ensures empty { IfOk result (λ packet. packet.entries.list ≡ []) }
+        ensures room { IfOk result (λ packet. packet.entries.room ≡ room) }
+        ensures job { IfOk result (λ packet. packet.job ≡ 0) }
+    {
+        let entries = Entries::new(alloc, room)?;
+        Ok(Packet { job: 0, entries })
+    }
+
+    /// How many rows it has room for.
+    pub fn room(&self) -> usize
+        ensures { result ≡ self.now.entries.room }
+    {
+        self.entries.room()
+    }
+
+    /// How many rows it has.
+    pub fn len(&self) -> usize
+        ensures { result ≡ length self.now.entries.list }
+    {
+        self.entries.len()
+    }
+
+    /// A row and its amount, by their place from 0 on.
+    pub fn entry(&self, i: usize) -> (u32, i128)
+        requires { i < length self.now.entries.list }
+        ensures row { result.0 ≡ (entry_at self.now.entries.list i).row }
+        ensures amount { result.1 ≡ (entry_at self.now.entries.list i).amount }
+    {
+        self.entries.entry(i)
+    }
+
+    /// Empties the packet, for another job.
+    pub fn start(&mut self, job: u32)
+        ensures job { self.new.job ≡ job }
+        ensures entries { self.new.entries ≡ record { list = []; room = self.old.entries.room } }
+    {
+        self.job = job;
+        self.entries.clear();
+    }
+
+    /// Puts a row last, with its amount.
+    pub fn push(&mut self, row: u32, amount: i128)
+        requires room { length self.old.entries.list < self.old.entries.room }
+        requires above { IsAboveLast self.old.entries.list row }
+        ensures job { self.new.job ≡ self.old.job }
+        ensures entries { self.new.entries ≡ record {
+          list = self.old.entries.list ++ record { row = row; amount = amount } ∷ [];
+          room = self.old.entries.room;
+        } }
+    {
+        self.entries.push(row, amount);
+    }
+
+    /// Adds to the amount at a place, from 0 on.
+    pub fn add(&mut self, i: usize, more: i128)
+        requires there { i < length self.old.entries.list }
+        requires fits { unsigned_abs ((entry_at self.old.entries.list i).amount +ℤ more) < 2 ^ 127 }
+        ensures job { self.new.job ≡ self.old.job }
+        ensures entries { self.new.entries ≡ record {
+          list = with_added self.old.entries.list i more;
+          room = self.old.entries.room;
+        } }
+    {
+        self.entries.add(i, more);
+    }
+
+    /// Each row is above all before it: what the type keeps.
+    pub fn rows_rise(&self)
+        ensures { AreRising self.now.entries.list }
+    {
+        self.entries.are_rising();
+    }
+}

@@ -1,0 +1,65 @@
+//! Two jobs over three rows and two stripes.
+ghost use Rattle.std.specs.Prelude.{◌≡◌, ◌<◌, ◌≤◌};
+ghost use Rattle.def_history.specs.Packets.{IsPacketOf};
+ghost use Rattle.xg_rowcore.specs.Names.{twofold};
+
+use crate::{Packet, RowName, Stripe};
+use std::marker::{Send, Sync};
+use std::test::Fail;
+
+/// The first job has the amounts 0, 1 and 2, the second 0, 2 and 4.
+struct TwoJobs;
+
+impl RowName for TwoJobs {
+    ghost use Rattle.xg_rowcore.specs.Names.{no_table, twofold, twofold_is_small};
+
+    ghost jobs = { 2 };
+
+    ghost rows = { 3 };
+
+    ghost amount = { twofold };
+
+    ghost table = { no_table };
+
+    ghost small = { twofold_is_small };
+}
+
+fn fill(packet: &mut Packet, job: u32)
+    requires job { job < 2 }
+    requires room { packet.old.entries.room ≡ 2 }
+    ensures job { packet.new.job ≡ job }
+    ensures room { packet.new.entries.room ≡ 2 }
+    ensures packet { IsPacketOf twofold 3 job packet.new.entries.list }
+{
+    packet.start(job);
+    packet.push(1, (job + 1) as i128);
+    packet.push(2, (2 * (job + 1)) as i128);
+}
+
+#[test]
+fn jobs_come_in_any_order(rt: HostRuntime) -> Result<(), Fail> {
+    let alloc = rt.alloc();
+    let mut packet = Packet::new(alloc, 2)?;
+    let mut even = Stripe::<TwoJobs>::new(alloc, 0, 2, 3, 2)?;
+    let mut odd = Stripe::<TwoJobs>::new(alloc, 1, 2, 3, 2)?;
+    fill(&mut packet, 1);
+    assert!(rt; packet.room() == 2 && packet.len() == 2 && packet.entry(1) == (2, 4));
+    even.add(&packet);
+    odd.add(&packet);
+    assert!(rt; even.has(1) && !even.has(0) && even.jobs_added() == 1);
+    assert!(rt; even.total(0) == 0 && even.total(1) == 4 && odd.total(0) == 2);
+    fill(&mut packet, 0);
+    even.add(&packet);
+    assert!(rt; even.total(1) == 6 && odd.total(0) == 2 && !odd.has(0));
+    assert!(rt; odd.index() == 1 && odd.stripes() == 2);
+    Ok(())
+}
+
+fn crosses_threads<T: Send + Sync>() {}
+
+#[test]
+fn packets_and_stripes_cross_threads(_rt: HostRuntime) -> Result<(), Fail> {
+    crosses_threads::<Packet>();
+    crosses_threads::<Stripe<TwoJobs>>();
+    Ok(())
+}

@@ -1,0 +1,5 @@
+mod Rising
+mod Leaves
+mod Touching
+mod Adding
+mod Sizes

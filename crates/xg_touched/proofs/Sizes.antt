@@ -1,0 +1,59 @@
+-- The sizes of what leaves bring to a row.
+use Rattle.std.proofs.Common.{ℕ, zero, suc, ◌-◌, ◌*◌, ◌^◌, ◌<◌, ◌≤◌, Bool, true, false, cond, eqb, ltb, List, [], ◌∷◌, get_or, take, drop, All, slice_index, arith}
+use Rattle.std.specs.Prelude.{pos, ◌*ℤ◌, unsigned_abs}
+use Rattle.std.proofs.lemmas.Int.{unsigned_abs-mul}
+use Rattle.std.proofs.Math.Nat.{mul-le-mul_left}
+use Rattle.def_sums.specs.Limits.{most_mass, most_root}
+use Rattle.def_sums.proofs.SumLaws.{unsigned_abs-sum_over, nat_sum_over-mono, nat_sum_over-factor}
+use Rattle.def_tree.specs.declared.Player.{Player}
+use Rattle.def_tree.specs.declared.Player.TheVariants.{One, Two}
+use Rattle.def_tree.specs.Opponent.{opponent}
+use Rattle.def_plan.specs.Form.{SequenceForm, Leaf, sequence_count, leaf_sequence}
+use Rattle.def_plan.specs.Payoff.{mass_of}
+use Rattle.def_rows.specs.Rows.{amount_at, amount_in_row}
+use Rattle.xg_touched.specs.Filling.{amount_upto}
+
+amount_size : (player : Player) (against : List ℕ) (bound : ℕ) (z : Leaf) (s : ℕ)
+    → ((t : ℕ) → slice_index against t ≤ bound)
+    → unsigned_abs (amount_at player against z s) ≤ unsigned_abs z.weight * bound
+amount_size player against bound z s small = by_test (eqb (leaf_sequence player z) s)
+  where
+    by_test : (b : Bool) → unsigned_abs (cond b (z.weight *ℤ pos (slice_index against (leaf_sequence (opponent player) z))) (pos 0)) ≤ unsigned_abs z.weight * bound
+    by_test true = omega (arith, unsigned_abs-mul z.weight (pos (slice_index against (leaf_sequence (opponent player) z))), mul-le-mul_left (unsigned_abs z.weight) (small (leaf_sequence (opponent player) z)))
+    by_test false = omega arith
+
+row_size : (form : SequenceForm) (one two : List ℕ) (bound : ℕ) (z : Leaf) (row : ℕ)
+    → ((s : ℕ) → slice_index one s ≤ bound) → ((s : ℕ) → slice_index two s ≤ bound)
+    → unsigned_abs (amount_in_row form one two z row) ≤ unsigned_abs z.weight * bound
+row_size form one two bound z row small_one small_two = by_test (ltb row (sequence_count form.sets_one))
+  where
+    by_test : (b : Bool) → unsigned_abs (cond b (amount_at One two z row) (amount_at Two one z (row - sequence_count form.sets_one))) ≤ unsigned_abs z.weight * bound
+    by_test true = amount_size One two bound z row small_two
+    by_test false = amount_size Two one bound z (row - sequence_count form.sets_one) small_one
+
+mass_take : (k : ℕ) (leaves : List Leaf) → mass_of (take k leaves) ≤ mass_of leaves
+mass_take zero leaves = omega arith
+mass_take (suc k) [] = omega arith
+mass_take (suc k) (x ∷ xs) = omega (arith, mass_take k xs)
+
+mass_drop : (k : ℕ) (leaves : List Leaf) → mass_of (drop k leaves) ≤ mass_of leaves
+mass_drop zero leaves = omega arith
+mass_drop (suc k) [] = omega arith
+mass_drop (suc k) (x ∷ xs) = omega (arith, mass_drop k xs)
+
+-- no number past the end is larger
+pub all_small : (numbers : List ℕ) (bound : ℕ) → All (λ n. n ≤ bound) numbers → (s : ℕ) → slice_index numbers s ≤ bound
+all_small [] bound small s = omega arith
+all_small (n ∷ numbers) bound small zero = small 0 0 (omega arith)
+all_small (n ∷ numbers) bound small (suc s) = all_small numbers bound (λ k d inside. small (suc k) d (omega arith)) s
+
+-- what some leaves of a form bring to a row has room
+pub upto_fits : (form : SequenceForm) (one two : List ℕ) (first k row : ℕ)
+    → All (λ n. n ≤ most_root) one → All (λ n. n ≤ most_root) two → mass_of form.leaves ≤ most_mass
+    → unsigned_abs (amount_upto form one two first k row) < 2 ^ 127
+upto_fits form one two first k row small_one small_two light =
+    let leaves : List Leaf = take k (drop first form.leaves) in
+    let sizes = unsigned_abs-sum_over (λ z. amount_in_row form one two z row) leaves in
+    let each = nat_sum_over-mono (λ z. unsigned_abs (amount_in_row form one two z row)) (λ z. unsigned_abs z.weight * most_root) leaves
+    (λ i d inside. row_size form one two most_root (get_or leaves i d) row (all_small one most_root small_one) (all_small two most_root small_two)) in
+    omega (arith, sizes, each, nat_sum_over-factor most_root (λ z. unsigned_abs z.weight) leaves, mass_take k (drop first form.leaves), mass_drop first form.leaves, light)

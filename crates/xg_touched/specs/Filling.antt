@@ -1,0 +1,15 @@
+-- Packets as they are filled.
+use Rattle.std.specs.Prelude.{ℕ, ℤ, List, map, take, drop}
+use Rattle.def_sums.specs.Sum.{sum_over}
+use Rattle.def_plan.specs.Form.{SequenceForm}
+use Rattle.def_history.specs.Packets.{Entry}
+use Rattle.def_rows.specs.Rows.{amount_in_row}
+
+-- these rows with their amounts
+abbrev pub entries_with : (ℕ → ℤ) → List ℕ → List Entry
+entries_with amount rows = map (λ row. record { row = row; amount = amount row }) rows
+
+-- what so many leaves behind the first ones bring to a row
+abbrev pub amount_upto : SequenceForm → List ℕ → List ℕ → ℕ → ℕ → ℕ → ℤ
+amount_upto form numbers_one numbers_two first count row =
+    sum_over (λ z. amount_in_row form numbers_one numbers_two z row) (take count (drop first form.leaves))
