@@ -35,6 +35,18 @@ def text(nodes, leaves, sets=(0, 0), sequences=(1, 1), unit=1, mass=0):
     return "".join(line + "\n" for line in lines).encode()
 
 
+def leaf_text(rounds, every, scale=1_048_576):
+    """What is printed for the game of `ONE_LEAF` after so many rounds: the first evaluation is never improved."""
+    first = min(every, rounds)
+    lines = [
+        *text(1, 1).decode().splitlines()[:6],
+        f"rounds {rounds} every {every} scale {scale}",
+        *(f"trace {min(k, rounds)} {first} 0 {first} 0" for k in range(every, rounds + every, every)),
+        *(f"plan 1 {first * scale}", "reply 2 0", f"plan 2 {first * scale}", "reply 1 0", "bracket 0 0", "end"),
+    ]
+    return "".join(line + "\n" for line in lines).encode()
+
+
 def call(words, name="xg_solve", program=PROGRAM, **options):
     """The status, the standard output and the standard error of a call with these words and this name of its own."""
     options = {"stdout": subprocess.PIPE, "stderr": subprocess.PIPE, "stdin": subprocess.DEVNULL, **options}
