@@ -26,7 +26,7 @@ name_fine None plain = tt
 name_fine (Some name) plain = (fine_text name plain, tt)
 
 -- the kind of entry of a kind of node
-abbrev kind_of : Kind → EntryKind
+abbrev pub kind_of : Kind → EntryKind
 kind_of movers.Chance = kinds.Chance
 kind_of movers.One = kinds.Personal
 kind_of movers.Two = kinds.Personal
@@ -117,7 +117,7 @@ pieces_fine movers.Two r w set = (
 pieces_fine movers.Leaf r w set = (fine_letter 116 refl refl, (fine_text r.name w.name, any_outcome_fine r.outcome w.outcome))
 
 -- the mover's kind is the entry's own
-own_kind : (kind : EntryKind) (player : ℕ) → kind_of (mover_as kind player) ≡ kind
+pub own_kind : (kind : EntryKind) (player : ℕ) → kind_of (mover_as kind player) ≡ kind
 own_kind kinds.Chance player = refl
 own_kind kinds.Personal player = chosen (nat_eq player 1)
   where

@@ -1,8 +1,13 @@
+pub mod Filled
+pub mod FilledRules
+pub mod FilledWritable
 pub mod FineLines
+pub mod Givers
 pub mod Lookups
 pub mod NoFault
 pub mod OwnLines
 pub mod ReadBack
+pub mod RoundTrip
 pub mod Runs
 pub mod Sizes
 pub mod Spelled

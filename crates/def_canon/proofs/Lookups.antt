@@ -16,7 +16,7 @@ use Rattle.def_canon.specs.Described.{Describes, Each}
 use Rattle.def_canon.proofs.Tables.{AreNames, filter_each, filter_some, first_name, first_same, given_same, mention_some, mentions_same}
 
 -- whether a number is among these, and where
-abbrev among : ℕ → List ℕ → Bool
+abbrev pub among : ℕ → List ℕ → Bool
 among n ns = list_any (λ m. nat_eq n m) ns
 
 abbrev place : ℕ → List ℕ → ℕ
@@ -33,7 +33,7 @@ among_step n m ns true e known = refl
 among_step n m ns false e known = among_kept n m (firsts ns) e ∙ known
 
 -- what appears is among the first appearances
-among-firsts : (n : ℕ) (ns : List ℕ) → among n (firsts ns) ≡ among n ns
+pub among-firsts : (n : ℕ) (ns : List ℕ) → among n (firsts ns) ≡ among n ns
 among-firsts n [] = refl
 among-firsts n (m ∷ ns) = among_step n m ns (nat_eq n m) refl (among-firsts n ns)
 
@@ -53,7 +53,7 @@ or_true : (b : Bool) → (b || true) ≡ true
 or_true true = refl
 or_true false = refl
 
-among_here : (key : Record → ℕ) (before : List Record) (r : Record) (behind : List Record)
+pub among_here : (key : Record → ℕ) (before : List Record) (r : Record) (behind : List Record)
     → among (key r) (map key (before ++ r ∷ behind)) ≡ true
 among_here key [] r behind = ap (λ b. b || among (key r) (map key behind)) (eq-eqb (key r) (key r) refl)
 among_here key (x ∷ before) r behind =
@@ -96,12 +96,12 @@ outcome_names : (v : OutcomeMention) (rs : List Record) → Each (λ r. r.outcom
 outcome_names v [] each = tt
 outcome_names v (r ∷ rs) each = (ap (λ (m : OutcomeMention). m.name) each.0, outcome_names v rs each.1)
 
-outcome_name_same : (v : OutcomeMention) (rs : List Record) → 1 ≤ length rs → Each (λ r. r.outcome ≡ v) rs
+pub outcome_name_same : (v : OutcomeMention) (rs : List Record) → 1 ≤ length rs → Each (λ r. r.outcome ≡ v) rs
     → first_given (map (λ r. r.outcome.name) rs) ≡ v.name
 outcome_name_same v [] some each = absurd (omega arith)
 outcome_name_same v (r ∷ rs) some each = first_name v.name (map (λ r. r.outcome.name) (r ∷ rs)) (omega arith) (outcome_names v (r ∷ rs) each)
 
-payoffs_same : (v : OutcomeMention) (rs : List Record) → 1 ≤ length rs → Each (λ r. r.outcome ≡ v) rs
+pub payoffs_same : (v : OutcomeMention) (rs : List Record) → 1 ≤ length rs → Each (λ r. r.outcome ≡ v) rs
     → given_first (map (λ r. r.outcome.payoffs) rs) ≡ unwrap_or v.payoffs []
 payoffs_same v [] some each = absurd (omega arith)
 payoffs_same v (r ∷ rs) some each = ap (λ (m : OutcomeMention). unwrap_or m.payoffs []) each.0

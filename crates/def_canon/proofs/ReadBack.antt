@@ -21,7 +21,7 @@ use Rattle.def_file_form.specs.Laws.{StandsFor}
 use Rattle.def_file_form.proofs.Whole.{game_taken}
 use Rattle.def_canon.specs.Canon.{canon, described_outcome, each, game_pieces, lines_pieces, node_pieces, outcome_pieces, place_pieces, player_pieces, prologue_pieces, set_pieces, text, letter, whole_number}
 use Rattle.def_canon.specs.Described.{Describes, Each}
-use Rattle.def_canon.specs.Laws.{CanonIsReadBack, CanonStandsForGame}
+use Rattle.def_canon.specs.Laws.{CanonIsReadBack, CanonStandsForGame, IsOfEntries}
 use Rattle.def_canon.specs.Writable.{IsPlainPrologue, IsWritable}
 use Rattle.def_canon.proofs.FineLines.{lines_fine, prologue_fine}
 use Rattle.def_canon.proofs.Lookups.{outcome_found, set_found}
@@ -139,6 +139,15 @@ pub canon_stands_for_game : CanonStandsForGame
 canon_stands_for_game game of =
     subst (λ (g : GameFile). StandsFor (canon g) g) (sym of.game_is)
     (stands of.prologue of.entries of.sets of.outcomes of.plain of.described of.writable of.few of.whole)
+
+-- the canonical form has the lines of the entries behind the prologue
+pub canon_of_lines : (game : GameFile) (of : IsOfEntries game)
+    → canon game ≡ bytes_of (prologue_pieces of.prologue ++ own_lines of.entries) (10 ∷ [])
+unfolding canon
+canon_of_lines game of =
+    ap canon of.game_is
+    ∙ ap (λ (ps : List Piece). bytes_of ps (10 ∷ [])) (game_lines of.prologue of.entries
+    (lines_own of.sets of.outcomes of.entries of.described [] of.entries refl))
 
 pub canon_is_read_back : CanonIsReadBack
 canon_is_read_back game of = game_taken (canon game) game (canon_stands_for_game game of)

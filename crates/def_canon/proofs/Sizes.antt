@@ -25,7 +25,7 @@ abbrev pub EntriesBegin : ℕ → List Record → Type 0
 EntriesBegin n [] = Unit {0}
 EntriesBegin n (r ∷ rs) = (0 < n) × EntriesBegin (n + own_children r - 1) rs
 
-not_leaf : (kind : EntryKind) (player : ℕ) → has_set kind ≡ true → mover_as kind player ≢ Leaf
+pub not_leaf : (kind : EntryKind) (player : ℕ) → has_set kind ≡ true → mover_as kind player ≢ Leaf
 not_leaf entry.Chance player has leaf = cc
 not_leaf entry.Personal player has leaf = chosen (nat_eq player 1) leaf
   where

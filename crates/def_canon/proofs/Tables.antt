@@ -38,7 +38,7 @@ filter_some p (x ∷ before) r behind is = chosen (p x) (filter_some p before r 
     chosen true later = (x ∷ later.0, ap (λ (ys : List Record). x ∷ ys) later.1)
     chosen false later = later
 
-mover_has_set : (kind : EntryKind) (player : ℕ) → mover_as kind player ≢ Leaf → has_set kind ≡ true
+pub mover_has_set : (kind : EntryKind) (player : ℕ) → mover_as kind player ≢ Leaf → has_set kind ≡ true
 mover_has_set entry.Chance player some = refl
 mover_has_set entry.Personal player some = refl
 mover_has_set entry.Leaf player some = absurd (some refl)

@@ -1,15 +1,18 @@
 -- The canonical form of a game is a file that stands for this game.
-use Rattle.std.specs.Prelude.{◌≡◌, ℕ, ◌≤◌, List, length, Ok}
+use Rattle.std.specs.Prelude.{◌≡◌, ℕ, ◌≤◌, List, [], ◌∷◌, length, Ok, None}
 use Rattle.def_tree.specs.declared.Kind.{Kind}
 use Rattle.def_tree.specs.Rules.{most_nodes}
 use Rattle.def_tree.specs.Tree.{IsWhole}
-use Rattle.def_file.specs.Content.{SetMention, OutcomeMention, Prologue, Record, GameFile}
+use Rattle.def_file.specs.Content.{SetMention, OutcomeMention, Prologue, Record, Contents, GameFile, game_with, no_contents}
+use Rattle.def_file.specs.Faults.{record_fault}
+use Rattle.def_file.specs.Adding.{with_record}
 use Rattle.def_file.specs.Reading.{game_at}
 use Rattle.def_file_entries.specs.Entries.{contents_of, game_of_entries}
+use Rattle.def_file_entries.specs.Laws.{HaveNoFault}
 use Rattle.def_file_form.specs.Laws.{StandsFor}
 use Rattle.def_canon.specs.Canon.{canon}
 use Rattle.def_canon.specs.Described.{Each, Describes}
-use Rattle.def_canon.specs.Writable.{IsPlainPrologue, IsWritable}
+use Rattle.def_canon.specs.Writable.{GivesWritable, IsPlainPrologue, IsWritable}
 
 -- a game of entries of one whole tree that describe their sets and outcomes whole, each in one way, and that can be written
 pub record IsOfEntries (game : GameFile) : Type 0 where
@@ -30,3 +33,33 @@ CanonStandsForGame = (game : GameFile) → IsOfEntries game → StandsFor (canon
 -- so it is read as this game
 abbrev pub CanonIsReadBack : Type 0
 CanonIsReadBack = (game : GameFile) → IsOfEntries game → game_at (canon game) ≡ Ok game
+
+-- a game of entries of one whole tree that have no fault, of which each gives what can be written and may leave out the rest
+pub record IsOfFaultless (game : GameFile) : Type 0 where
+  pub prologue : Prologue
+  pub entries : List Record
+  pub plain : IsPlainPrologue prologue
+  pub writable : Each GivesWritable entries
+  pub no_fault : HaveNoFault entries
+  pub whole : IsWhole (contents_of entries).nodes
+  pub game_is : game ≡ game_of_entries prologue entries
+
+abbrev pub CanonOfFaultless : Type 0
+CanonOfFaultless = (game : GameFile) → IsOfFaultless game → StandsFor (canon game) game
+
+-- a game that a file stands for is written and read back as it was
+abbrev pub CanonOfFile : Type 0
+CanonOfFile = (bytes : List ℕ) (game : GameFile) → StandsFor bytes game
+    → StandsFor (canon game) game × (game_at (canon game) ≡ Ok game)
+
+-- what is known once these entries were taken one after another, none of them with a fault
+abbrev pub Takes : Contents → List Record → Contents → Type 0
+Takes before [] now = now ≡ before
+Takes before (r ∷ rs) now = (record_fault before r ≡ None) × Takes (with_record before r) rs now
+
+-- a game that was made entry by entry is read back, too
+abbrev pub CanonOfMade : Type 0
+CanonOfMade = (prologue : Prologue) (rs : List Record) (made : Contents) → IsPlainPrologue prologue → Each GivesWritable rs
+    → Takes no_contents rs made → IsWhole made.nodes
+    → StandsFor (canon (game_with prologue made)) (game_with prologue made)
+    × (game_at (canon (game_with prologue made)) ≡ Ok (game_with prologue made))

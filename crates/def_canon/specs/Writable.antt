@@ -1,6 +1,7 @@
 -- Entries whose texts, numbers and fractions can be written.
---     IsWritable r      what an entry says is within the limits of the format
-use Rattle.std.specs.Prelude.{◌≡◌, ◌≢◌, ℕ, ◌≤◌, ◌⊎◌, true, List, [], ◌∷◌, Option, Some, None}
+--     IsWritable r      an entry says all of its set and its outcome, within the limits of the format
+--     GivesWritable r   what an entry says is within these limits, however much it leaves out
+use Rattle.std.specs.Prelude.{◌≡◌, ◌≢◌, ℕ, ◌≤◌, ◌⊎◌, true, List, [], ◌∷◌, All, Option, Some, None, IfSome}
 use Rattle.def_fraction.specs.Fraction.{Fraction, most}
 use Rattle.def_file_tokens.specs.Texts.{EndsPlainly}
 use Rattle.def_file.specs.declared.EntryKind.{EntryKind}
@@ -63,3 +64,21 @@ pub record IsWritable (r : Record) : Type 0 where
   pub mover : HasOwnMover r.kind r
   pub set : has_set r.kind ≡ true → IsWritableSet r.kind r.set
   pub outcome : (r.outcome ≡ no_outcome_mention) ⊎ IsWritableOutcome r.outcome
+
+-- a set's number, and its name and its actions where they are given
+pub record GivesWritableSet (kind : EntryKind) (m : SetMention) : Type 0 where
+  pub from_one : 1 ≤ m.number
+  pub limit : m.number ≤ most
+  pub name : IsPlainName m.name
+  pub actions : IfSome m.actions (AreWritableActions kind)
+
+-- an outcome's number, and its name and its payoffs where they are given
+pub record GivesWritableOutcome (m : OutcomeMention) : Type 0 where
+  pub limit : m.number ≤ most
+  pub name : IsPlainName m.name
+  pub payoffs : IfSome m.payoffs (All IsSmallFraction)
+
+pub record GivesWritable (r : Record) : Type 0 where
+  pub name : EndsPlainly r.name
+  pub set : has_set r.kind ≡ true → GivesWritableSet r.kind r.set
+  pub outcome : GivesWritableOutcome r.outcome

@@ -1,4 +1,5 @@
 pub mod Cards
 pub mod Described
+pub mod Short
 pub mod Sizes
 pub mod Written

@@ -88,12 +88,15 @@ rounds_length n limit (i ∷ is) are =
     omega (arith, length-append (hands n i (others n i)) (rounds n is), hands_length n i (others n i), later, count)
 
 module _ (n : ℕ) (two : 2 ≤ n) (limit : n ≤ 64) where
-  -- within the limit of nodes
-  pub entries_few : length (entries n) ≤ most_nodes
+  pub entries_count : length (entries n) ≤ 36353
   unfolding entries
-  entries_few =
+  entries_count =
       let count : length (cards n) ≡ n = length-range_with_len 1 n in
       omega (arith, rounds_length n limit (cards n) (cards_are n), count)
+
+  -- within the limit of nodes
+  pub entries_few : length (entries n) ≤ most_nodes
+  entries_few = omega (arith, entries_count)
 
   -- each entry comes where a node is wanted, and behind the last none is
   pub entries_begin : EntriesBegin 1 (entries n)

@@ -9,17 +9,20 @@ use Rattle.def_fraction.specs.Divisors.{gcd}
 use Rattle.def_fraction.specs.Fraction.{most}
 use Rattle.def_fraction.proofs.DivisorLemmas.{gcd-one}
 use Rattle.def_fraction.proofs.TextLemmas.{decimal-numeral}
+use Rattle.def_file_tokens.specs.Spelling.{bytes_of}
 use Rattle.def_file_tokens.specs.Texts.{EndsPlainly}
 use Rattle.def_tree.specs.declared.Player.{Player}
 use Rattle.def_tree.specs.declared.Player.TheVariants.{One, Two}
 use Rattle.def_file.specs.declared.EntryKind.TheVariants as kinds
 use Rattle.def_file.specs.Content.{SetMention, OutcomeMention}
 use Rattle.def_file.specs.Game.{IsSmallFraction}
+use Rattle.def_canon.specs.Canon.{canon, prologue_pieces}
 use Rattle.def_canon.specs.Described.{Each}
 use Rattle.def_canon.specs.Laws.{IsOfEntries}
 use Rattle.def_canon.specs.Writable.{AreWritableActions, IsPlainPrologue, IsWritable, IsWritableOutcome, IsWritableSet}
 use Rattle.def_canon.proofs.NoFault.{each_append}
-use Rattle.def_canon.proofs.ReadBack.{canon_stands_for_game, canon_is_read_back}
+use Rattle.def_canon.proofs.OwnLines.{own_lines}
+use Rattle.def_canon.proofs.ReadBack.{canon_is_read_back, canon_of_lines, canon_stands_for_game}
 use Rattle.def_poker.specs.Laws.{PokerIsReadBack}
 use Rattle.def_poker.specs.Poker.{after_bet, after_check, answer, cards, deal_one, deal_two, dealt, deals, described_set, ends, entries, facing_bet, hand, hands, higher, move, moves, one_over, opening, others, poker, prologue, rounds, wins_one, wins_two}
 use Rattle.def_poker.proofs.Cards.{AreCards, cards_are, others_are}
@@ -210,6 +213,11 @@ module _ (n : ℕ) (two : 2 ≤ n) (limit : n ≤ 64) where
     whole = (poker_is_game n two limit).1;
     game_is = refl;
   }
+
+  -- the canonical form has the lines of these entries behind the prologue
+  pub lines_are : canon (poker n) ≡ bytes_of (prologue_pieces (prologue n) ++ own_lines (entries n)) (10 ∷ [])
+  unfolding of_entries
+  lines_are = canon_of_lines (poker n) of_entries
 
 pub poker_is_read_back : PokerIsReadBack
 poker_is_read_back n two limit =

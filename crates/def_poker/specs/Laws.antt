@@ -1,7 +1,7 @@
 -- One-card poker is a game, and its canonical form is read as this game.
-use Rattle.std.specs.Prelude.{◌≡◌, ℕ, ◌≤◌, Ok}
+use Rattle.std.specs.Prelude.{◌≡◌, ℕ, ◌≤◌, length, Ok}
 use Rattle.def_tree.specs.Tree.{IsWhole}
-use Rattle.def_file.specs.Reading.{game_at}
+use Rattle.def_file.specs.Reading.{game_at, most_bytes}
 use Rattle.def_file_entries.specs.Entries.{contents_of}
 use Rattle.def_file_entries.specs.Laws.{HaveNoFault}
 use Rattle.def_file_form.specs.Laws.{StandsFor}
@@ -14,3 +14,7 @@ PokerIsGame = (n : ℕ) → 2 ≤ n → n ≤ 64 → HaveNoFault (entries n) × 
 
 abbrev pub PokerIsReadBack : Type 0
 PokerIsReadBack = (n : ℕ) → 2 ≤ n → n ≤ 64 → StandsFor (canon (poker n)) (poker n) × (game_at (canon (poker n)) ≡ Ok (poker n))
+
+-- and isn't too long to be read
+abbrev pub PokerIsShort : Type 0
+PokerIsShort = (n : ℕ) → 2 ≤ n → n ≤ 64 → length (canon (poker n)) ≤ most_bytes

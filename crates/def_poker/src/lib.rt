@@ -1,7 +1,7 @@
 //! One-card poker: definitions, and their laws.
 #![tactic(auto)]
 
-ghost use Rattle.def_poker.specs.Laws.{PokerIsGame, PokerIsReadBack};
+ghost use Rattle.def_poker.specs.Laws.{PokerIsGame, PokerIsReadBack, PokerIsShort};
 ghost use Rattle.def_poker.specs.Rows.{PokerRows};
 
 /// The game with two cards has this text and 21 nodes, and that with three has 58.
@@ -17,4 +17,9 @@ pub fn poker_is_game()
 /// And the canonical form is a file that stands for this game, and is read as it.
 pub fn poker_is_read_back()
     ensures { PokerIsReadBack }
+{}
+
+/// And this file isn't too long to be read.
+pub fn poker_is_short()
+    ensures { PokerIsShort }
 {}

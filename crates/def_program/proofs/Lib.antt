@@ -1,3 +1,5 @@
+pub mod Made
 pub mod Meant
 pub mod Bounds
 pub mod Played
+pub mod Checked

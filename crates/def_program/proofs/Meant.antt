@@ -8,6 +8,8 @@ use Rattle.def_file.specs.declared.FileFault.TheVariants.{TooLong}
 use Rattle.def_file.specs.Content.{GameFile}
 use Rattle.def_file.specs.Reading.{most_bytes}
 use Rattle.def_command.specs.Grammar.{Check, Command, Drill, Gen, Info, Solve, command_of_words, files_of}
+use Rattle.def_command.specs.Table.{least_cards, most_cards}
+use Rattle.def_command.proofs.InRange.{cards_in_range}
 use Rattle.def_text.specs.Text.{info_text}
 use Rattle.def_text.specs.Lines.{fault_line}
 use Rattle.def_text.specs.CheckLines.{cert_long_line}
@@ -20,11 +22,15 @@ use Rattle.def_check.proofs.Checked.{checks_are}
 use Rattle.def_program.specs.Program.{Answer, answer_of, certificate_answer, check_answer, check_told, command_answer, file_answer, game_answer, made_answer, program, refusal, solved, success, usage}
 use Rattle.def_program.specs.Meaning.{CertificateMeans, CheckMeans, CommandMeans, FileMeans, IsMeant, Means, file_too_long, file_within, refused, too_long, within, written}
 use Rattle.def_program.specs.Laws.{MeaningIsComputed, ToldWordsMeanOne}
+use Rattle.def_program.proofs.Made.{made_is}
 
 -- there is an answer
 record Computed (answers : Option Answer) : Type 0 where
   answer : Answer
   is : answers ≡ Some answer
+
+injective : (a b : Answer) → Some a ≡ Some b → a ≡ b
+injective a b same = cc
 
 -- ---- one file
 
@@ -137,42 +143,58 @@ module _ (certificate : Option (List ℕ)) where
   both_answered None is_told other = absurd cc
   both_answered (Some bytes) is_told other = check_answered bytes certificate other
 
+-- ---- a game that is made
+
+module _ (text : GameFile → List ℕ) (cards : ℕ) (some : least_cards ≤ cards) (few : cards ≤ most_cards) where
+  -- an answer that is meant of its file is computed
+  pub made_computed : (answer : Answer) → FileMeans text (canon (poker cards)) answer
+      → answer ≡ made_answer text (poker cards)
+  made_computed answer means =
+      sym (file_computed text (canon (poker cards)) answer means) ∙ made_is cards some few text
+
+  -- what is computed of it is meant of its file
+  made_meant : (answer : Answer) → made_answer text (poker cards) ≡ answer → FileMeans text (canon (poker cards)) answer
+  made_meant answer computed =
+      subst (λ (a : Answer). FileMeans text (canon (poker cards)) a) (made_is cards some few text ∙ computed)
+      (file_meant text (canon (poker cards)) (read_as_accepted (canon (poker cards))) refl)
+
 -- ---- commands
 
-command_computed : (command : Command) (told : List ℕ → Option (List ℕ)) (answer : Answer)
-    → CommandMeans command told answer → command_answer command told ≡ Some answer
-command_computed (Solve file settings workers) told answer means =
-    content_computed (solved settings) (told file) answer means
-command_computed (Info file) told answer means = content_computed info_text (told file) answer means
-command_computed (Check file certificate) told answer means =
-    both_computed (told certificate) (told file) answer means
-command_computed (Gen cards) told answer means = ap Some (sym means)
-command_computed (Drill cards settings workers) told answer means = ap Some (sym means)
+module _ (words : List (List ℕ)) (told : List ℕ → Option (List ℕ)) (answer : Answer) where
+  command_computed : (command : Command) → command_of_words words ≡ Some command → CommandMeans command told answer
+      → command_answer command told ≡ Some answer
+  command_computed (Solve file settings workers) is means =
+      content_computed (solved settings) (told file) answer means
+  command_computed (Info file) is means = content_computed info_text (told file) answer means
+  command_computed (Check file certificate) is means = both_computed (told certificate) (told file) answer means
+  command_computed (Gen cards) is means = ap Some (sym means)
+  command_computed (Drill cards settings workers) is means =
+      let range = cards_in_range.of_drill words cards settings workers is in
+      ap Some (sym (made_computed (solved settings) cards range.some range.few answer means))
 
-command_meant : (command : Command) (told : List ℕ → Option (List ℕ)) (answer : Answer)
-    → command_answer command told ≡ Some answer → CommandMeans command told answer
-command_meant (Solve file settings workers) told answer computed =
-    content_meant (solved settings) (told file) answer computed
-command_meant (Info file) told answer computed = content_meant info_text (told file) answer computed
-command_meant (Check file certificate) told answer computed =
-    both_meant (told certificate) (told file) answer computed
-command_meant (Gen cards) told answer computed = cc
-command_meant (Drill cards settings workers) told answer computed = cc
+  command_meant : (command : Command) → command_of_words words ≡ Some command
+      → command_answer command told ≡ Some answer → CommandMeans command told answer
+  command_meant (Solve file settings workers) is computed =
+      content_meant (solved settings) (told file) answer computed
+  command_meant (Info file) is computed = content_meant info_text (told file) answer computed
+  command_meant (Check file certificate) is computed = both_meant (told certificate) (told file) answer computed
+  command_meant (Gen cards) is computed = cc
+  command_meant (Drill cards settings workers) is computed =
+      let range = cards_in_range.of_drill words cards settings workers is in
+      made_meant (solved settings) cards range.some range.few answer
+      (injective (made_answer (solved settings) (poker cards)) answer computed)
+
+  by_command : (command : Option Command) → command_of_words words ≡ command
+      → (IsMeant command told answer → answer_of command told ≡ Some answer)
+      × (answer_of command told ≡ Some answer → IsMeant command told answer)
+  by_command None is = (λ means. ap Some (sym means), λ computed. cc)
+  by_command (Some command) is = (command_computed command is, command_meant command is)
 
 -- what words mean in the format's terms is what the program computes
 pub meaning_computed : MeaningIsComputed
-meaning_computed words told answer = by_command (command_of_words words)
-  where
-    by_command : (command : Option Command)
-        → (IsMeant command told answer → answer_of command told ≡ Some answer)
-        × (answer_of command told ≡ Some answer → IsMeant command told answer)
-    by_command None = (λ means. ap Some (sym means), λ computed. cc)
-    by_command (Some command) = (command_computed command told answer, command_meant command told answer)
+meaning_computed words told answer = by_command words told answer (command_of_words words) refl
 
 -- ---- one answer
-
-injective : (a b : Answer) → Some a ≡ Some b → a ≡ b
-injective a b same = cc
 
 content_answered : (text : GameFile → List ℕ) (content : Option (List ℕ)) → IsSome content
     → Computed (option_map (file_answer text) content)

@@ -1,24 +1,16 @@
 -- The bounds that are printed of a game that was played.
 use Rattle.std.proofs.Common.{◌≡◌, ℕ, ◌≤◌, List, length, Option, Some, None, refl, sym, ap, ◌∙◌, subst, arith}
-use Rattle.std.specs.Prelude.{◌*◌, IsSomeAnd, false}
+use Rattle.std.specs.Prelude.{◌*◌, IsSomeAnd}
 use Rattle.std.proofs.lemmas.List.{length-map}
 use Rattle.def_outside.specs.Calls.{SinkCall, Wrote}
-use Rattle.def_tree.specs.declared.Kind.{Kind}
 use Rattle.def_tree.specs.declared.Kind.TheVariants.{One, Two}
-use Rattle.def_tree.specs.Tree.{is_leaf_kind, leaf_count, prefix}
+use Rattle.def_tree.specs.Tree.{leaf_count, prefix}
 use Rattle.def_file.specs.Content.{GameFile}
 use Rattle.def_fraction.specs.Fraction.{fraction_of}
-use Rattle.def_file_form.proofs.WholeGames.{stands_for_whole_game}
 use Rattle.def_game_paths.specs.Paths.{leaf_visits}
-use Rattle.def_game_scale.specs.Scale.{all_expected, expected, game_unit, weights}
-use Rattle.def_game_scale.proofs.Expected.{all-lowest}
-use Rattle.def_game_scale.proofs.Units.{unit-positive}
+use Rattle.def_game_scale.specs.Scale.{all_expected, expected, weights}
 use Rattle.def_game_numbers.specs.Numbers.{game_file_fault, tables_of}
-use Rattle.def_game_numbers.proofs.Fractions.{tables_lowest}
-use Rattle.def_plan.specs.Form.{AreInOrder}
-use Rattle.def_sequence_form.specs.Form.{information_sets}
 use Rattle.def_sequence_form.proofs.Leaves.{form_has_the_mass, leaves_counted, length-leaves_with}
-use Rattle.def_sequence_form.proofs.Sets.{form_is_in_order}
 use Rattle.def_bracket.specs.Bracket.{BracketEnds, ends_of}
 use Rattle.def_bracket.specs.Outcome.{Head}
 use Rattle.def_run.specs.Run.{evaluations, outcome}
@@ -33,16 +25,12 @@ use Rattle.def_cert_accepted.proofs.Accepted.{accepted as run_accepted}
 use Rattle.def_cert_accepted.proofs.OfRun.{bounds_of_run, certificate_with, same_head}
 use Rattle.def_cert_text.specs.CertText.{cert_text}
 use Rattle.def_command.specs.Grammar.{Check, Command, Drill, Gen, Info, Settings, Solve, command_of_words}
-use Rattle.def_command.specs.Table.{least_cards, most_cards}
 use Rattle.def_command.proofs.InRange.{cards_in_range, settings_in_range}
 use Rattle.def_canon.specs.Canon.{canon}
 use Rattle.def_poker.specs.Poker.{poker}
-use Rattle.def_poker.proofs.Written.{poker_is_read_back}
-use Rattle.def_file.specs.declared.FileFault.{FileFault}
 use Rattle.def_file_form.specs.Laws.{StandsFor}
-use Rattle.def_file_accepted.specs.Accepting.{unless_faulty}
 use Rattle.def_text.specs.Text.{form_of_file, game_head, solve_text}
-use Rattle.def_program.specs.Program.{Answer, game_answer, made_answer, solved, success}
+use Rattle.def_program.specs.Program.{Answer, solved, success}
 use Rattle.def_file_accepted.specs.Accepted.{IsAccepted}
 use Rattle.def_program.specs.Meaning.{FileMeans, IsMeant, Means, written}
 use Rattle.def_file_accepted.specs.Weighed.{weighed_game}
@@ -50,6 +38,7 @@ use Rattle.def_file_accepted.proofs.InNumbers.{some_unit, sets_in_order}
 use Rattle.def_program.specs.Bounds.{ForEachPlayed, HasItsBounds, IsPlayed, TraceNarrows, WroteBounds}
 use Rattle.def_program.specs.Laws.{PlayedGamesHaveTheirBounds}
 use Rattle.def_program.proofs.Bounds.{attained, gap, lower, no_better, upper}
+use Rattle.def_program.proofs.Made.{made_accepted}
 
 -- a form has a leaf for each of its game's
 pub leaves_are : (game : GameFile) → length (form_of_file game).leaves ≡ leaf_count (prefix game.tree)
@@ -61,7 +50,7 @@ leaves_are game =
     ∙ leaves_counted game.tree
 
 -- the head is that of the game in numbers
-head_of_game : (game : GameFile) (settings : Settings) → IsHeadOf (weighed_game game) (game_head game settings)
+pub head_of_game : (game : GameFile) (settings : Settings) → IsHeadOf (weighed_game game) (game_head game settings)
 head_of_game game settings = record {
   nodes = refl;
   leaves = sym (leaves_are game);
@@ -158,16 +147,6 @@ module _ (words : List (List ℕ)) (told : List ℕ → Option (List ℕ)) (out 
       wrote_bounds game settings (played_games_have_bounds bytes game settings is some_round some_scale)
       (whole (success (solve_text game settings)) (written game is refl)).1
 
-  made_bounds : (cards : ℕ) (asked : Settings) → least_cards ≤ cards → cards ≤ most_cards → 1 ≤ asked.rounds
-      → 1 ≤ asked.scale → game_file_fault (poker cards) ≡ None → IsWritten (made_answer (solved asked) (poker cards))
-      → WroteBounds Holds out (poker cards) asked
-  made_bounds cards asked some few some_round some_scale none wrote =
-      let stands = (poker_is_read_back cards some few).0 in
-      wrote_bounds (poker cards) asked
-      (read_game_has_bounds (canon (poker cards)) (poker cards) stands asked some_round some_scale)
-      (subst IsWritten (ap (λ (o : Option FileFault). game_answer (solved asked) (unless_faulty o (poker cards))) none)
-      wrote).1
-
   by_command : (command : Option Command) → command_of_words words ≡ command
       → ((answer : Answer) → IsMeant command told answer → IsWritten answer)
       → (game : GameFile) (settings : Settings) → IsPlayed command told game settings → 1 ≤ settings.rounds
@@ -185,11 +164,12 @@ module _ (words : List (List ℕ)) (told : List ℕ → Option (List ℕ)) (out 
       let same : settings ≡ asked = plays.2 in
       let range = cards_in_range.of_drill words cards asked workers is in
       let in_range = settings_in_range.of_drill words cards asked workers is in
+      let accepted : IsAccepted (canon (poker cards)) game =
+      subst (IsAccepted (canon (poker cards))) (sym plays.0) (made_accepted cards range.some range.few
+      (subst (λ (g : GameFile). game_file_fault g ≡ None) plays.0 plays.1)) in
       subst (λ (s : Settings). WroteBounds Holds out game s) (sym same)
-      (subst (λ (g : GameFile). WroteBounds Holds out g asked) (sym plays.0)
-      (made_bounds cards asked range.some range.few (subst (λ (s : Settings). 1 ≤ s.rounds) same some_round)
-      in_range.some_scale (subst (λ (g : GameFile). game_file_fault g ≡ None) plays.0 plays.1)
-      (whole (made_answer (solved asked) (poker cards)) refl)))
+      (by_content (Some (canon (poker cards))) game asked (subst (λ (s : Settings). 1 ≤ s.rounds) same some_round)
+      in_range.some_scale whole accepted)
   by_command None is whole game settings plays some_round = absurd plays
 
   -- the bounds were written with it, and hold

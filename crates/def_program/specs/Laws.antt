@@ -1,12 +1,15 @@
 -- What words mean in the format's terms is what the program computes, and where their files are told, they mean one
--- answer. The bounds that are printed of a game that was played hold.
-use Rattle.std.specs.Prelude.{◌≡◌, ◌↔◌, ℕ, ◌≤◌, List, Option, Some}
+-- answer. The bounds that are printed of a game that was played hold, and so do those of an accepted certificate.
+use Rattle.std.specs.Prelude.{◌≡◌, ◌↔◌, ℕ, ◌≤◌, List, Option, Some, Ok}
 use Rattle.def_file.specs.Content.{GameFile}
+use Rattle.def_cert_verdict.specs.Verdict.{Verdict}
+use Rattle.def_check.specs.Checking.{Checks}
 use Rattle.def_command.specs.Grammar.{Settings}
 use Rattle.def_file_accepted.specs.Accepted.{IsAccepted}
 use Rattle.def_program.specs.Program.{Answer, program}
 use Rattle.def_program.specs.Meaning.{Means, MeansOnly, FilesAreTold}
 use Rattle.def_program.specs.Bounds.{HasItsBounds}
+use Rattle.def_program.specs.Checked.{BoundsHold, HoldsOfFile}
 
 abbrev pub MeaningIsComputed : Type 0
 MeaningIsComputed = (words : List (List ℕ)) (told : List ℕ → Option (List ℕ)) (answer : Answer)
@@ -26,3 +29,8 @@ ToldWordsMeanOne = (words : List (List ℕ)) (told : List ℕ → Option (List �
 abbrev pub PlayedGamesHaveTheirBounds : Type 0
 PlayedGamesHaveTheirBounds = (bytes : List ℕ) (game : GameFile) (settings : Settings) → IsAccepted bytes game
     → 1 ≤ settings.rounds → 1 ≤ settings.scale → HasItsBounds game settings
+
+-- whoever wrote the certificate
+abbrev pub AcceptedCertificatesHold : Type 0
+AcceptedCertificatesHold = (file bytes : List ℕ) (shown : Verdict) → Checks file bytes (Ok shown)
+    → HoldsOfFile file bytes (λ verdict. verdict ≡ shown) BoundsHold

@@ -17,7 +17,7 @@ use Rattle.def_command.specs.Grammar.{Check, Command, Drill, Gen, Info, Solve, c
 use Rattle.def_text.specs.Text.{info_text}
 use Rattle.def_text.specs.Lines.{fault_line}
 use Rattle.def_text.specs.CheckLines.{cert_long_line}
-use Rattle.def_program.specs.Program.{Answer, check_answer, made_answer, refusal, solved, success, usage}
+use Rattle.def_program.specs.Program.{Answer, check_answer, refusal, solved, success, usage}
 use Rattle.def_file_accepted.specs.FirstFault.{IsFirstFault}
 
 -- a command that writes this text of the game of a file of these bytes: the text, or the line of the file's first fault
@@ -39,6 +39,7 @@ pub data CheckMeans (file : List ℕ) (certificate : Option (List ℕ)) (answer 
   file_within : length file ≤ most_bytes → IsSomeAnd certificate (λ bytes. CertificateMeans file bytes answer)
       → CheckMeans file certificate answer
 
+-- `gen` means the canonical form of one-card poker, and `drill` what `solve` means of a file of these bytes
 abbrev pub CommandMeans : Command → (List ℕ → Option (List ℕ)) → Answer → Type 0
 CommandMeans (Solve file settings workers) told answer =
     IsSomeAnd (told file) (λ bytes. FileMeans (solved settings) bytes answer)
@@ -46,7 +47,7 @@ CommandMeans (Info file) told answer = IsSomeAnd (told file) (λ bytes. FileMean
 CommandMeans (Check file certificate) told answer =
     IsSomeAnd (told file) (λ bytes. CheckMeans bytes (told certificate) answer)
 CommandMeans (Gen cards) told answer = answer ≡ success (canon (poker cards))
-CommandMeans (Drill cards settings workers) told answer = answer ≡ made_answer (solved settings) (poker cards)
+CommandMeans (Drill cards settings workers) told answer = FileMeans (solved settings) (canon (poker cards)) answer
 
 -- words that aren't taken mean the usage
 abbrev pub IsMeant : Option Command → (List ℕ → Option (List ℕ)) → Answer → Type 0

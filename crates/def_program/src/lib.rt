@@ -1,7 +1,8 @@
 //! What the program does, in definitions alone, for a run in which nothing that it is handed fails and memory is found.
 #![tactic(auto)]
 
-ghost use Rattle.def_program.specs.Laws.{MeaningIsComputed, PlayedGamesHaveTheirBounds, ToldWordsMeanOne};
+ghost use Rattle.def_program.specs.Laws.{AcceptedCertificatesHold, MeaningIsComputed, PlayedGamesHaveTheirBounds};
+ghost use Rattle.def_program.specs.Laws.{ToldWordsMeanOne};
 
 /// The words mean, in the format's own words, exactly the answer that the program computes of them.
 pub fn meaning_is_computed()
@@ -17,4 +18,11 @@ pub fn told_words_mean_one()
 /// attain; no trace line is wider than an earlier one; the gap is the total exploitability; and no plan does better.
 pub fn played_games_have_their_bounds()
     ensures { PlayedGamesHaveTheirBounds }
+{}
+
+/// What an accepted certificate prints holds of the file's game, whoever wrote it: both plans keep their bounds, which the
+/// printed replies attain; no trace line is wider than an earlier one; the gap is the total exploitability; and no plan
+/// does better.
+pub fn accepted_certificates_hold()
+    ensures { AcceptedCertificatesHold }
 {}

@@ -7,6 +7,7 @@ use xg_frac::{Frac, whole};
 use xg_game::{Game, GameMaker};
 use xg_io::{MemSink, WriteFault};
 use xg_lex::{Text, Tokens, unescape};
+use xg_read::read_game;
 use xg_record::{EntryKind, Payoffs, Record};
 
 const TWO_CARDS: &[u8] = b"EFG 2 R \"One-card poker 2\" { \"One\" \"Two\" }\n\
@@ -99,4 +100,43 @@ fn marks_and_no_name(rt: HostRuntime) -> Result<(), Fail> {
     let written = b"EFG 2 R \"a \\\"b\\\" c\\d\" { \"\\\"\" \"\" }\n\"x\"\nt \"n\" 7 { 3, -3 }\n";
     assert_eq!(rt; sink.bytes(), written.as_slice());
     Ok(())
+}
+
+/// Names with quotation marks and backslashes; a set and an outcome that later mentions describe in part.
+const MARKED: &str = r#"EFG 2 D "a \"b\" c\d" { "\"" "\\x" } "say \"x\""
+p "\"root\"" 1 4 "one \"set\"" { "l\"" "r\r" } 0 "null"
+c "" 7 { "h" 1/2 "t" 0.5 } 3 "win \"it\"" { 1 -1 }
+t "" 0
+t "\\n" 3
+c "" 7 "late \"coin\"" 3 { 1.0, -2/2 }
+t "" 3 "win \"it\""
+t "" 5 { -1, 1 }
+"#;
+
+const MARKED_WHOLE: &str = r#"EFG 2 R "a \"b\" c\d" { "\"" "\\x" }
+"say \"x\""
+p "\"root\"" 1 4 "one \"set\"" { "l\"" "r\r" } 0
+c "" 7 "late \"coin\"" { "h" 1/2 "t" 1/2 } 3 "win \"it\"" { 1, -1 }
+t "" 0
+t "\\n" 3 "win \"it\"" { 1, -1 }
+c "" 7 "late \"coin\"" { "h" 1/2 "t" 1/2 } 3 "win \"it\"" { 1, -1 }
+t "" 3 "win \"it\"" { 1, -1 }
+t "" 5 { -1, 1 }
+"#;
+
+/// What is written of the game of a file.
+fn rewritten(rt: &impl Abort, alloc: Global, file: &[u8]) -> MemSink {
+    assert!(rt; file.len() <= 1000);
+    let game = read_game(alloc, file).ok().expect(rt, "a game");
+    let mut sink = MemSink::new(alloc, 1000, &[]).expect(rt, "memory");
+    write_game(&game, &mut sink).ok().expect(rt, "written");
+    sink
+}
+
+#[test]
+fn what_is_written_is_read_back(rt: HostRuntime) {
+    let first = rewritten(&rt, rt.alloc(), MARKED.as_bytes());
+    assert_eq!(rt; first.bytes(), MARKED_WHOLE.as_bytes());
+    let second = rewritten(&rt, rt.alloc(), first.bytes());
+    assert_eq!(rt; second.bytes(), first.bytes());
 }

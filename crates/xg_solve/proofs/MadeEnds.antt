@@ -38,20 +38,20 @@ made_any_length game fault is long = by_fault (game_fault (tables_of game) game.
     by_fault None none = cc
     by_fault (Some found) some = fault_any_length found (cc)
 
-module _ (text : GameFile → List ℕ) (game : GameFile) (files : FilesCall) (out : SinkCall)
+-- of a command that means what is computed of a game that is made
+module _ (meant : Answer → Type 0) (text : GameFile → List ℕ) (game : GameFile)
+    (computed : (answer : Answer) → meant answer → answer ≡ made_answer text game) (files : FilesCall) (out : SinkCall)
     (read : HasNoFault files.faults) where
-  abbrev meant : Answer → Type 0
-  meant answer = answer ≡ made_answer text game
-
   played : game_file_fault game ≡ None → MeansOnly meant (success (text game))
-  played none answer means = means ∙ ap (λ (o : Option FileFault). game_answer text (unless_faulty o game)) none
+  played none answer means =
+      computed answer means ∙ ap (λ (o : Option FileFault). game_answer text (unless_faulty o game)) none
 
   -- it was played, or refused
   pub made_ended : (ending : Ending) → EndsMade text game out ending → Concludes meant files out ending
   made_ended Done is = text_told meant files out read (text game) (played is.faultless) Done is.tells
   made_ended WriteFault is = text_told meant files out read (text game) (played is.faultless) WriteFault is.tells
   made_ended (Refused line) is = record {
-    means = λ answer means. means
+    means = λ answer means. computed answer means
         ∙ ap (λ (o : Option FileFault). game_answer text (unless_faulty o game)) is.faulty ∙ ap refusal (sym is.says);
     fits = of_file is.fault refl is.says (λ long. absurd (made_any_length game is.fault is.faulty long));
     read = read;

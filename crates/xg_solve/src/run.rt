@@ -10,6 +10,7 @@ ghost use Rattle.xg_engine.specs.State.{AreWithinLimits};
 ghost use Rattle.xg_solve.specs.Settings.{settings_of};
 ghost use Rattle.def_program.specs.Bounds.{ConcedesHigh, ForEachPlayed, GapIsExploitability, GetsLow};
 ghost use Rattle.def_program.specs.Bounds.{NoPlanDoesBetter, RepliesAttain, TraceNarrows};
+ghost use Rattle.def_program.specs.Checked.{ForEachChecked};
 ghost use Rattle.def_program.specs.Lines.{SaysLine};
 ghost use Rattle.def_program.specs.Meaning.{EachMeant, EndsWith, Means};
 ghost use Rattle.xg_solve.specs.Concludes.{Concludes, FileTold, Tells};
@@ -244,6 +245,20 @@ pub fn run<Rt: Threads + Wait + Sync, F: Files, O: Sink, E: Sink, G: Gate>(
     ensures gap { result ≡ 0 → ForEachPlayed words.now (F.told files.old)
         (sink_call O.written O.faults out.old out.new) GapIsExploitability }
     ensures value { result ≡ 0 → ForEachPlayed words.now (F.told files.old)
+        (sink_call O.written O.faults out.old out.new) NoPlanDoesBetter }
+
+    // Of each certificate that was accepted, whoever wrote it: the bounds that its verdict has, of the file's game.
+    ensures checked_lower { result ≡ 0 → ForEachChecked words.now (F.told files.old)
+        (sink_call O.written O.faults out.old out.new) GetsLow }
+    ensures checked_upper { result ≡ 0 → ForEachChecked words.now (F.told files.old)
+        (sink_call O.written O.faults out.old out.new) ConcedesHigh }
+    ensures checked_attained { result ≡ 0 → ForEachChecked words.now (F.told files.old)
+        (sink_call O.written O.faults out.old out.new) RepliesAttain }
+    ensures checked_trace { result ≡ 0 → ForEachChecked words.now (F.told files.old)
+        (sink_call O.written O.faults out.old out.new) TraceNarrows }
+    ensures checked_gap { result ≡ 0 → ForEachChecked words.now (F.told files.old)
+        (sink_call O.written O.faults out.old out.new) GapIsExploitability }
+    ensures checked_value { result ≡ 0 → ForEachChecked words.now (F.told files.old)
         (sink_call O.written O.faults out.old out.new) NoPlanDoesBetter }
 
     // What was said: the line of the status, and at 0 none.

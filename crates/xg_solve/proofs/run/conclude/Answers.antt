@@ -2,7 +2,12 @@ use Rattle.std.proofs.Common.{ℕ, List, Option, Some, refl, sym, ap, subst, ◌
 use Rattle.def_outside.specs.Calls.{FilesCall, SinkCall, files_call, sink_call}
 use Rattle.def_command.specs.Grammar as grammar
 use Rattle.def_command.specs.Grammar.{command_of_words}
+use Rattle.def_command.proofs.InRange.{cards_in_range}
+use Rattle.def_file.specs.Content.{GameFile}
+use Rattle.def_canon.specs.Canon.{canon}
 use Rattle.def_program.specs.Program.{solved}
+use Rattle.def_program.specs.Meaning.{FileMeans}
+use Rattle.def_program.proofs.Meant.{made_computed}
 use Rattle.xg_command.specs.declared.command.Command.{Command}
 use Rattle.xg_command.specs.Values.{command_value, settings_value}
 use Rattle.def_poker.specs.Poker.{poker}
@@ -58,11 +63,16 @@ returns-in-Some-Drill-clause-concludes g c =
     let arm = c.in-Some-Drill in
     let files : FilesCall =
     files_call g.F.Files.told g.F.Files.taken g.F.Files.faults c.args.files.now c.args.files.now in
+    let range =
+    cards_in_range.of_drill c.args.words.now arm.cards (settings_value arm.settings) arm.workers
+    (sym arm.ensures ∙ ap (λ (command : Command). Some (command_value command)) arm.field-0-is) in
+    let text : GameFile → List ℕ = solved (settings_value arm.settings) in
     let out : SinkCall = sink_call g.O.Sink.written g.O.Sink.faults c.args.out.now c.drill.new.out in
     by_command c.args.words.now (g.F.Files.told c.args.files.now) files out
     (Some (grammar.Drill arm.cards (settings_value arm.settings) arm.workers))
     (sym (sym arm.ensures ∙ ap (λ (command : Command). Some (command_value command)) arm.field-0-is)) c.drill.result
-    (made_ended (solved (settings_value arm.settings)) (poker arm.cards) files out refl c.drill.result
+    (made_ended (FileMeans text (canon (poker arm.cards))) text (poker arm.cards)
+    (made_computed text arm.cards range.some range.few) files out refl c.drill.result
     (subst (λ (s : grammar.Settings). EndsMade (solved s) (poker arm.cards) out c.drill.result)
     c.asked-in-Some-Drill.ensures c.drill.ensures))
 

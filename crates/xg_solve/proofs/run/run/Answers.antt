@@ -3,6 +3,7 @@ use Rattle.def_outside.specs.Calls.{FilesCall, SinkCall, files_call, sink_call}
 use Rattle.def_program.specs.Program.{Answer}
 use Rattle.def_program.specs.Bounds.{ConcedesHigh, GapIsExploitability, GetsLow, NoPlanDoesBetter, RepliesAttain, TraceNarrows}
 use Rattle.def_program.specs.Meaning.{Means}
+use Rattle.def_program.proofs.Checked.{each_checked}
 use Rattle.def_program.proofs.Played.{each_played}
 use Rattle.xg_solve.specs.Endings.{line_of}
 use Rattle.xg_solve.proofs.Ended.{Shows, status_shown, status_range}
@@ -39,6 +40,12 @@ returns g c =
       trace = λ is. each_played words told out TraceNarrows (λ game settings it. it.trace) (shows.whole is);
       gap = λ is. each_played words told out GapIsExploitability (λ game settings it. it.gap) (shows.whole is);
       value = λ is. each_played words told out NoPlanDoesBetter (λ game settings it. it.value) (shows.whole is);
+      checked_lower = λ is. each_checked words told out GetsLow (λ game b it. it.lower) (shows.whole is);
+      checked_upper = λ is. each_checked words told out ConcedesHigh (λ game b it. it.upper) (shows.whole is);
+      checked_attained = λ is. each_checked words told out RepliesAttain (λ game b it. it.attained) (shows.whole is);
+      checked_trace = λ is. each_checked words told out TraceNarrows (λ game b it. it.trace) (shows.whole is);
+      checked_gap = λ is. each_checked words told out GapIsExploitability (λ game b it. it.gap) (shows.whole is);
+      checked_value = λ is. each_checked words told out NoPlanDoesBetter (λ game b it. it.value) (shows.whole is);
       line = λ other. record {
         line = line_of ending;
         fits = shows.fits other;

@@ -1,0 +1,59 @@
+-- What a check that accepts a certificate shows, whoever wrote it: the bounds that the certificate prints hold of the
+-- file's game, as those of a game that was played do.
+--     BoundsHold         all that holds of printed bounds
+--     HoldsOfFile        what holds of the bounds that the bytes of a certificate print, of the game of a file
+--     ForEachChecked     so it is for the certificate that words check, and its verdict was written
+use Rattle.std.specs.Prelude.{◌≡◌, ℕ, List, Option, Some, None, IfSome}
+use Rattle.def_outside.specs.Calls.{SinkCall, Wrote}
+use Rattle.def_file.specs.Content.{GameFile}
+use Rattle.def_cert_verdict.specs.Certificate.{Certificate, PrintedBounds}
+use Rattle.def_cert_verdict.specs.Verdict.{Verdict, WeighedGame, shown_by}
+use Rattle.def_cert_verdict.specs.Laws.{IsHeadOf}
+use Rattle.def_check.specs.Checking.{AreRead}
+use Rattle.def_file_accepted.specs.Weighed.{weighed_game}
+use Rattle.def_command.specs.Grammar.{Check, Command, Drill, Gen, Info, Solve, command_of_words}
+use Rattle.def_text.specs.CheckLines.{verdict_text}
+use Rattle.def_program.specs.Bounds.{ConcedesHigh, GapIsExploitability, GetsLow, NoPlanDoesBetter, RepliesAttain}
+use Rattle.def_program.specs.Bounds.{TraceNarrows}
+
+-- ---- what holds of an accepted certificate
+
+pub record BoundsHold (game : WeighedGame) (b : PrintedBounds) : Type 0 where
+  pub lower : GetsLow game b
+  pub upper : ConcedesHigh game b
+  pub attained : RepliesAttain game b
+  pub trace : TraceNarrows game b
+  pub gap : GapIsExploitability game b
+  pub value : NoPlanDoesBetter game b
+
+-- The file is accepted, and the bytes are the text of a certificate whose head is that of the file's game. Its verdict has
+-- its bounds, or says that there are none, and this is so of that verdict; of the bounds this holds in the file's game.
+pub record HoldsOfFile (file bytes : List ℕ) (IsVerdict : Verdict → Type 0)
+    (Holds : WeighedGame → PrintedBounds → Type 0) : Type 0 where
+  pub game : GameFile
+  pub certificate : Certificate
+  pub read : AreRead file bytes game certificate
+  pub head : IsHeadOf (weighed_game game) certificate.head
+  pub verdict : IsVerdict (shown_by certificate.bounds)
+  pub bounds : IfSome certificate.bounds (Holds (weighed_game game))
+
+-- ---- the certificates that words check
+
+-- the command checks a certificate of these bytes against the file of these
+abbrev pub CommandChecks : Command → (List ℕ → Option (List ℕ)) → List ℕ → List ℕ → Type 0
+CommandChecks (Solve name asked workers) told file bytes = ⊥
+CommandChecks (Check name certificate) told file bytes = (told name ≡ Some file) × (told certificate ≡ Some bytes)
+CommandChecks (Info name) told file bytes = ⊥
+CommandChecks (Gen cards) told file bytes = ⊥
+CommandChecks (Drill cards asked workers) told file bytes = ⊥
+
+abbrev pub AreChecked : Option Command → (List ℕ → Option (List ℕ)) → List ℕ → List ℕ → Type 0
+AreChecked None told file bytes = ⊥
+AreChecked (Some command) told file bytes = CommandChecks command told file bytes
+
+-- where the words check a certificate against a file, and both are told: what was written is the line of its verdict, with
+-- LOW and HIGH where there are bounds, and of these this holds
+abbrev pub ForEachChecked : List (List ℕ) → (List ℕ → Option (List ℕ)) → SinkCall
+    → (WeighedGame → PrintedBounds → Type 0) → Type 0
+ForEachChecked words told out Holds = (file bytes : List ℕ) → AreChecked (command_of_words words) told file bytes
+    → HoldsOfFile file bytes (λ verdict. Wrote out (verdict_text verdict)) Holds

@@ -1,0 +1,4 @@
+mod Heads
+mod Widths
+mod Short
+mod Solved
