@@ -1,79 +1,120 @@
--- The visitor of the nodes at the top, called along a walk.
-use Rattle.std.proofs.Common.{◌≡◌, ℕ, ◌+◌, true, List, [], ◌∷◌, ◌++◌, is_ok, sym, ap, subst, ◌∙◌}
-use Rattle.std.proofs.lemmas.List.{append_assoc, append-nil}
+-- The nodes to come lead a walk to the state after the whole tree.
+use Rattle.std.proofs.Common.{◌≡◌, ℕ, ◌+◌, ◌-◌, ◌≤◌, List, [], ◌∷◌, ◌++◌, drop, refl, sym, ap, subst, ◌∙◌, arith, Some, slice_get}
+use Rattle.std.proofs.lemmas.List.{append_assoc, drop_more}
+use Rattle.std.proofs.lemmas.Option.{get_or_from_slice_get, slice_get_within}
 use Rattle.def_tree.specs.declared.Node.{Node}
-use Rattle.def_tree.specs.Tree.{Forest, bare, grown, node_count, HasItsChildren}
-use Rattle.def_tree.specs.Events.{Event, Leave, Accepts, Leads, events_from, events}
-use Rattle.xg_jobs.specs.declared.tops.TopVisit.{TopVisit}
-use Rattle.xg_jobs.specs.Visit.{TopState, HasRoom, IsOpen, entered, left, state_of, MayEnter, Enters, MayLeave, Leaves}
-use Rattle.xg_jobs.proofs.Visiting.{Room, walked, around, beside_it, no_trees, room_now, room_below, room_beside, can_leave}
+use Rattle.def_tree.specs.Tree.{Forest, bare, grown, prefix, tree_count}
+use Rattle.xg_jobs.specs.declared.tops.Walk.{Walk}
+use Rattle.xg_jobs.specs.Visit.{TopState, HasRoom, IsOpen, entered, left, state_of}
+use Rattle.xg_jobs.specs.Walked.{AreFirst, HasNextChild, HasWalked, LeadsTo, at_start, walked, without_next}
+use Rattle.xg_jobs.proofs.Visiting.{around, beside_it, no_trees, room_now, room_below, room_beside, can_leave}
 
--- the visitor has come to this state, if memory hasn't failed
-abbrev pub Has : TopVisit → TopState → Type 0
-Has v s = is_ok v.outcome ≡ true → state_of v.tops ≡ s
+-- the first of the nodes to come can be entered, and the others lead on
+pub record Entered (counts : List ℕ) (node : Node) (rest : List Node) (s end : TopState) : Type 0 where
+  pub room : HasRoom s
+  pub leads : LeadsTo (node.children ∷ without_next counts) rest (entered node s) end
 
-abbrev pub CanDo : List Event → TopVisit → Type 0
-CanDo es v = Accepts (λ v k node. MayEnter v) (λ v k node w. Enters v node w) (λ v k. MayLeave v) (λ v k w. Leaves v w) es v
+module _ (node : Node) (below beside : Forest) (s : TopState) where
+  abbrev first_tree : TopState
+  first_tree = walked (grown node below bare) s
 
-abbrev pub Does : List Event → TopVisit → TopVisit → Type 0
-Does es v w = Leads (λ v k node. MayEnter v) (λ v k node w. Enters v node w) (λ v k. MayLeave v) (λ v k w. Leaves v w) es v w
+  behind : walked beside first_tree ≡ walked (grown node below beside) s
+  behind = beside_it node below beside s.nodes s.open_at s.covered s.leaves
 
-has_entered : (v w : TopVisit) (node : Node) (s : TopState) → Has v s → Enters v node w → Has w (entered node s)
-has_entered v w node s has enters = λ ok. enters.state ok ∙ ap (entered node) (has (enters.before ok))
+  -- the trees below the first node come next, and then those beside it
+  entered_first : (counts : List ℕ) (later rest : List Node) (end : TopState) → AreFirst (grown node below beside) (node ∷ rest) later s
+      → (AreFirst beside (prefix beside ++ later) later first_tree → LeadsTo (without_next counts) (prefix beside ++ later) first_tree end)
+      → Entered counts node rest s end
+  entered_first counts later rest end first leads =
+      let are : rest ≡ (prefix below ++ prefix beside) ++ later = cc first.nodes_are in
+      let size : node.children ≡ tree_count below = sym first.children.0 in
+      record {
+        room = room_now node below beside s first.room;
+        leads = (
+          below,
+          prefix beside ++ later,
+          record {
+            children = first.children.1;
+            nodes_are = are ∙ append_assoc (prefix below) (prefix beside) later;
+            room = room_below node below beside s first.room;
+          },
+          first.children.0,
+          can_leave node below beside s first.room,
+          subst (λ u. LeadsTo (without_next counts) (prefix beside ++ later) u end) (sym (around node below s.nodes s.open_at s.covered s.leaves size))
+              (leads (record { children = first.children.2; nodes_are = refl; room = room_beside node below beside s first.room })),
+        );
+      }
 
-has_left : (v w : TopVisit) (s : TopState) → Has v s → Leaves v w → Has w (left s)
-has_left v w s has leaves = λ ok. leaves.state ok ∙ ap left (has (leaves.before ok))
+enter_root : (trees : Forest) (node : Node) (rest : List Node) (s end : TopState) → AreFirst trees (node ∷ rest) [] s
+    → walked trees s ≡ end → Entered [] node rest s end
+enter_root bare node rest s end first ends = absurd (cc first.nodes_are)
+enter_root (grown x below beside) node rest s end first ends =
+    let same : node ≡ x = cc first.nodes_are in
+    subst (λ n. AreFirst (grown x below beside) (n ∷ rest) [] s → Entered [] n rest s end) (sym same)
+    (λ first. entered_first x below beside s [] [] rest end first (λ next. (beside, next, behind x below beside s ∙ ends))) first
 
-has_same : (v : TopVisit) (s t : TopState) → s ≡ t → Has v s → Has v t
-has_same v s t e has = λ ok. has ok ∙ e
+enter_under : (trees : Forest) (count : ℕ) (counts : List ℕ) (node : Node) (rest later : List Node) (s end : TopState)
+    → 1 ≤ count → AreFirst trees (node ∷ rest) later s → tree_count trees ≡ count → IsOpen (walked trees s)
+    → LeadsTo counts later (left (walked trees s)) end → Entered (count ∷ counts) node rest s end
+enter_under bare count counts node rest later s end some first size opens leads = absurd (omega (arith, size))
+enter_under (grown x below beside) count counts node rest later s end some first size opens leads =
+    let same : node ≡ x = cc first.nodes_are in
+    let whole = sym (behind x below beside s) in
+    subst (λ n. AreFirst (grown x below beside) (n ∷ rest) later s → Entered (count ∷ counts) n rest s end) (sym same)
+    (λ first. entered_first x below beside s (count ∷ counts) later rest end first
+    (λ next. (beside, later, next, omega (arith, size), subst IsOpen whole opens, subst (λ u. LeadsTo counts later (left u) end) whole leads))) first
 
--- the visitor can be called along the trees, and then along the rest, if it can from the state after them
-accepts : (t : Forest) (k : ℕ) (rest : List Event) (v : TopVisit) (s : TopState) → HasItsChildren t → Has v s
-    → Room s (node_count t)
-    → ((w : TopVisit) → Has w (walked t s) → CanDo rest w) → CanDo (events_from k t ++ rest) v
-accepts bare k rest v s each has room then = then v (has_same v s (walked bare s) (sym (no_trees s.nodes s.open_at s.covered s.leaves)) has)
-accepts (grown node below beside) k rest v s each has room then =
-    let inner : List Event = events_from (k + 1) below in
-    let after : List Event = events_from (k + 1 + node_count below) beside in
-    let back = around node below s.nodes s.open_at s.covered s.leaves (sym each.0) in (
-      λ ok. subst HasRoom (sym (has ok)) (room_now node below beside s room),
-      λ w enters.
-          subst (λ es. CanDo es w) (sym (append_assoc inner (Leave k ∷ after) rest))
-          (accepts below (k + 1) (Leave k ∷ (after ++ rest)) w (entered node s) each.1 (has_entered v w node s has enters) (room_below node below beside s room)
-          (λ x has_x. (
-            λ ok. subst IsOpen (sym (has_x ok)) (can_leave node below beside s room),
-            λ y leaves.
-                accepts beside (k + 1 + node_count below) rest y (walked (grown node below bare) s) each.2
-                (has_same y (left (walked below (entered node s))) (walked (grown node below bare) s) back (has_left x y (walked below (entered node s)) has_x leaves))
-                (room_beside node below beside s room)
-                (λ z has_z. then z (has_same z (walked beside (walked (grown node below bare) s)) (walked (grown node below beside) s) (beside_it node below beside s.nodes s.open_at s.covered s.leaves) has_z)),
-          ))),
-    )
+enter_next : (counts : List ℕ) (node : Node) (rest : List Node) (s end : TopState) → HasNextChild counts
+    → LeadsTo counts (node ∷ rest) s end → Entered counts node rest s end
+enter_next [] node rest s end next (trees, first, ends) = enter_root trees node rest s end first ends
+enter_next (count ∷ counts) node rest s end next (trees, later, first, size, opens, leads) =
+    enter_under trees count counts node rest later s end next first size opens leads
 
--- called along the trees, it comes to the state after them
-leads : (t : Forest) (k : ℕ) (rest : List Event) (v w : TopVisit) (s : TopState) → HasItsChildren t → Has v s
-    → Does (events_from k t ++ rest) v w → (u : TopVisit) × (Has u (walked t s) × Does rest u w)
-leads bare k rest v w s each has does = (v, (has_same v s (walked bare s) (sym (no_trees s.nodes s.open_at s.covered s.leaves)) has, does))
-leads (grown node below beside) k rest v w s each has does =
-    let inner : List Event = events_from (k + 1) below in
-    let after : List Event = events_from (k + 1 + node_count below) beside in
-    let back = around node below s.nodes s.open_at s.covered s.leaves (sym each.0) in
-    let x : TopVisit = does.0 in
-    let has_x = has_entered v x node s has does.1 in
-    let first = leads below (k + 1) (Leave k ∷ (after ++ rest)) x w (entered node s) each.1 has_x (subst (λ es. Does es x w) (append_assoc inner (Leave k ∷ after) rest) does.2) in
-    let y : TopVisit = first.0 in
-    let z : TopVisit = first.1.1.0 in
-    let has_z = has_same z (left (walked below (entered node s))) (walked (grown node below bare) s) back (has_left y z (walked below (entered node s)) first.1.0 first.1.1.1) in
-    let second = leads beside (k + 1 + node_count below) rest z w (walked (grown node below bare) s) each.2 has_z first.1.1.2 in
-    (second.0, (has_same second.0 (walked beside (walked (grown node below bare) s)) (walked (grown node below beside) s) (beside_it node below beside s.nodes s.open_at s.covered s.leaves) second.1.0, second.1.1))
+-- the node behind the first k is the next one
+comes_next : (nodes : List Node) (k : ℕ) (node : Node) → slice_get nodes (k + 1 - 1) ≡ Some node
+    → drop k nodes ≡ node ∷ drop (k + 1) nodes
+comes_next nodes k node read =
+    let back : k ≡ k + 1 - 1 = omega arith in
+    let here : slice_get nodes k ≡ Some node = ap (slice_get nodes) back ∙ read in
+    drop_more nodes k node (slice_get_within nodes k node here) ∙ ap (λ x. x ∷ drop (k + 1) nodes) (get_or_from_slice_get nodes k node node here)
 
--- along a whole tree
-pub can_walk : (tree : Forest) (v : TopVisit) (s : TopState) → HasItsChildren tree → Has v s → Room s (node_count tree)
-    → CanDo (events tree) v
-can_walk tree v s each has room = subst (λ es. CanDo es v) (append-nil (events tree)) (accepts tree 1 [] v s each has room (λ w _. tt))
+pub enter_node : (tree : Forest) (k : ℕ) (node : Node) (walk : Walk) → slice_get (prefix tree) (k + 1 - 1) ≡ Some node
+    → HasWalked tree k walk → Entered walk.to_come node (drop (k + 1) (prefix tree)) (state_of walk.tops) (walked tree at_start)
+enter_node tree k node walk read so_far =
+    enter_next walk.to_come node (drop (k + 1) (prefix tree)) (state_of walk.tops) (walked tree at_start) so_far.next
+    (subst (λ nodes. LeadsTo walk.to_come nodes (state_of walk.tops) (walked tree at_start)) (comes_next (prefix tree) k node read) so_far.leads)
 
-pub has_walked : (tree : Forest) (v w : TopVisit) (s : TopState) → HasItsChildren tree → Has v s
-    → Does (events tree) v w → Has w (walked tree s)
-has_walked tree v w s each has does =
-    let end = leads tree 1 [] v w s each has (subst (λ es. Does es v w) (sym (append-nil (events tree))) does) in
-    subst (λ u. Has u (walked tree s)) (sym end.1.1) end.1.0
+-- the innermost node can be left, and the nodes to come lead on
+pub record Left (counts : List ℕ) (rest : List Node) (s end : TopState) : Type 0 where
+  pub opens : IsOpen s
+  pub leads : LeadsTo counts rest (left s) end
+
+leave_under : (trees : Forest) (counts : List ℕ) (rest later : List Node) (s end : TopState) → AreFirst trees rest later s
+    → tree_count trees ≡ 0 → IsOpen (walked trees s) → LeadsTo counts later (left (walked trees s)) end → Left counts rest s end
+leave_under (grown x below beside) counts rest later s end first none opens leads = absurd (omega (arith, none))
+leave_under bare counts rest later s end first none opens leads =
+    let same = no_trees s.nodes s.open_at s.covered s.leaves in
+    record {
+      opens = subst IsOpen same opens;
+      leads = subst (λ nodes. LeadsTo counts nodes (left s) end) (sym first.nodes_are) (subst (λ u. LeadsTo counts later (left u) end) same leads);
+    }
+
+-- a node none of whose children is to come is left
+pub leave_next : (old counts : List ℕ) (rest : List Node) (s end : TopState) → old ≡ 0 ∷ counts → LeadsTo old rest s end → Left counts rest s end
+leave_next old counts rest s end full leads = innermost (subst (λ ns. LeadsTo ns rest s end) full leads)
+  where
+    innermost : LeadsTo (0 ∷ counts) rest s end → Left counts rest s end
+    innermost (trees, later, first, none, opens, on) = leave_under trees counts rest later s end first none opens on
+
+-- where no node is to come, the walk has ended
+end_root : (trees : Forest) (s end : TopState) → AreFirst trees [] [] s → walked trees s ≡ end → s ≡ end
+end_root (grown x below beside) s end first ends = absurd (cc first.nodes_are)
+end_root bare s end first ends = sym (no_trees s.nodes s.open_at s.covered s.leaves) ∙ ends
+
+none_under : (trees : Forest) (count : ℕ) (later : List Node) (s : TopState) → 1 ≤ count → AreFirst trees [] later s → tree_count trees ≡ count → ⊥
+none_under bare count later s some first size = omega (arith, size)
+none_under (grown x below beside) count later s some first size = cc first.nodes_are
+
+pub all_walked : (counts : List ℕ) (s end : TopState) → HasNextChild counts → LeadsTo counts [] s end → s ≡ end
+all_walked [] s end next (trees, first, ends) = end_root trees s end first ends
+all_walked (count ∷ counts) s end next (trees, later, first, size, opens, leads) = absurd (none_under trees count later s next first size)

@@ -1,10 +1,10 @@
 mod RowLemmas
 mod RangeLemmas
 mod GroupSums
-mod TableSums
+mod PairWeights
 mod Counting
 mod Placing
-mod Regrouped
+mod OneEntry
 mod Greatest
 mod PlainSums
 mod Building

@@ -1,6 +1,5 @@
 -- An amount at a row of either player.
-use Rattle.std.proofs.Common.{◌≡◌, ℕ, ◌<◌, ◌≤◌, ◌-◌, List, ◌++◌, length, set, take, drop, ℤ, refl, sym, ap, ◌∙◌}
-use Rattle.std.proofs.Math.Seq.{take-append_seam}
+use Rattle.std.proofs.Common.{◌≡◌, ℕ, ◌<◌, ◌≤◌, ◌-◌, List, ◌++◌, length, set, ℤ, refl, sym, ap, ◌∙◌}
 use Rattle.std.proofs.lemmas.List.{set-append_left, set-append_right}
 
 pub put_one : (one two : List ℤ) (row : ℕ) (x y : ℤ) → x ≡ y → row < length one
@@ -10,7 +9,3 @@ put_one one two row x y same low = ap (λ t. set one row t ++ two) same ∙ sym 
 pub put_two : (one two : List ℤ) (row : ℕ) (x y : ℤ) → x ≡ y → length one ≤ row
     → one ++ set two (row - length one) x ≡ set (one ++ two) row y
 put_two one two row x y same high = ap (λ t. one ++ set two (row - length one) t) same ∙ sym (set-append_right one two (length one) row y refl high)
-
--- a vector whose items were written over by as many
-pub written_over : (n : ℕ) (new old : List ℤ) → length new ≡ n → take n (new ++ drop (length new) old) ≡ new
-written_over n new old e = ap (λ k. take k (new ++ drop (length new) old)) (sym e) ∙ take-append_seam new (drop (length new) old)

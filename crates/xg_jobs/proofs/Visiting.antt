@@ -11,17 +11,7 @@ use Rattle.def_tree.specs.Tree.{Forest, bare, grown, prefix, node_count, leaf_co
 use Rattle.xg_jobs.specs.declared.tops.TopNode.{TopNode}
 use Rattle.xg_jobs.specs.Tops.{tops_from, top_node}
 use Rattle.xg_jobs.specs.Visit.{TopState, HasRoom, IsOpen, closed, entered, left}
-
-abbrev pub state : List TopNode → ℕ → ℕ → ℕ → TopState
-state nodes at c l = record { nodes = nodes; open_at = at; covered = c; leaves = l }
-
--- the state after trees: where none is covered their nodes at the top are put
-abbrev pub walked_as : ℕ → Forest → TopState → TopState
-walked_as zero t s = state (s.nodes ++ tops_from (length s.nodes) t) s.open_at 0 (s.leaves + leaf_count (prefix t))
-walked_as (suc c) t s = state s.nodes s.open_at (suc c) (s.leaves + leaf_count (prefix t))
-
-abbrev pub walked : Forest → TopState → TopState
-walked t s = walked_as s.covered t s
+use Rattle.xg_jobs.specs.Walked.{Room, state, walked}
 
 abbrev none : TopNode
 none = record { chance = false; children = 0; leaves = 0; end = 0 }
@@ -134,12 +124,6 @@ beside_it node below beside nodes at (suc c) l =
 pub no_trees : (nodes : List TopNode) (at c l : ℕ) → walked bare (state nodes at c l) ≡ state nodes at c l
 no_trees nodes at zero l = let sum : l + 0 ≡ l = omega arith in ap (λ ns. state ns at 0 (l + 0)) (append-nil nodes) ∙ ap (state nodes at 0) sum
 no_trees nodes at (suc c) l = let sum : l + 0 ≡ l = omega arith in ap (state nodes at (suc c)) sum
-
--- room for so many nodes more
-pub record Room (s : TopState) (n : ℕ) : Type 0 where
-  pub nodes : length s.nodes + n ≤ most_nodes
-  pub covered : s.covered + n ≤ most_nodes
-  pub leaves : s.leaves + n ≤ most_nodes
 
 -- no more nodes at the top than nodes
 pub tops_few : (at : ℕ) (t : Forest) → length (tops_from at t) ≤ node_count t

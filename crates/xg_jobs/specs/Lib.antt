@@ -6,5 +6,7 @@ pub mod Grouping
 pub mod Sums
 pub mod Tops
 pub mod Visit
+pub mod Walked
 pub mod Cutting
 pub mod Entries
+pub mod Merging

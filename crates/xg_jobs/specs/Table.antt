@@ -1,27 +1,27 @@
--- What a table of jobs tells of a game: the jobs' ranges of leaves, the leaves of each of player one's sequences, and
--- the rows of each job.
-use Rattle.std.specs.Prelude.{◌≡◌, ℕ, List, length, map, filter, ◌==◌, ℤ}
+-- What a table of jobs tells of a game: the jobs' ranges of leaves, the weights of each pair of sequences, and the rows
+-- of each job.
+use Rattle.std.specs.Prelude.{◌≡◌, ℕ, List, length, map, ℤ}
+use Rattle.def_tree.specs.declared.Player.TheVariants.{One, Two}
 use Rattle.def_tree.specs.Tree.{Forest, leaf_count, prefix}
 use Rattle.def_tree.specs.Rules.{IsGameTree}
 use Rattle.def_game_jobs.specs.Ranges.{LeafRange, job_ranges}
-use Rattle.def_plan.specs.Form.{Leaf, SequenceForm, sequences}
+use Rattle.def_plan.specs.Form.{SequenceForm}
 use Rattle.def_sequence_form.specs.Form.{form_of}
 use Rattle.xg_touched.specs.Touched.{JobRows, job_rows}
+use Rattle.xg_jobs.specs.Grouping.{pair_weights}
 use Rattle.xg_jobs.specs.Groups.{greatest_of}
 
 pub record TableOfJobs : Type 0 where
   pub ranges : List LeafRange
-  pub groups : List (List Leaf)
+  pub weights_one : List (List ℤ)
+  pub weights_two : List (List ℤ)
   pub touched : List JobRows
-
--- for each sequence of player one in turn, the leaves that have it
-abbrev pub leaf_groups : SequenceForm → List (List Leaf)
-leaf_groups form = map (λ s. filter (λ z. z.sequence_one == s) form.leaves) (sequences form.sets_one)
 
 abbrev pub job_table : SequenceForm → Forest → TableOfJobs
 job_table form tree = record {
   ranges = job_ranges tree;
-  groups = leaf_groups form;
+  weights_one = pair_weights form One;
+  weights_two = pair_weights form Two;
   touched = map (job_rows form) (job_ranges tree);
 }
 

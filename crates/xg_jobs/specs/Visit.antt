@@ -1,12 +1,11 @@
--- The nodes at the top as a visitor gathers them.
-use Rattle.std.specs.Prelude.{◌≡◌, ℕ, zero, suc, ◌+◌, ◌-◌, ◌<◌, ◌≤◌, true, false, List, [], ◌∷◌, ◌++◌, length, is_ok, if◌then◌else◌, slice_index_or, slice_set}
+-- The nodes at the top as a walk through the tree gathers them.
+use Rattle.std.specs.Prelude.{ℕ, zero, suc, ◌+◌, ◌-◌, ◌<◌, ◌≤◌, false, List, [], ◌∷◌, ◌++◌, length, if◌then◌else◌, slice_index_or, slice_set}
 use Rattle.def_tree.specs.declared.Kind.TheVariants.{Chance}
 use Rattle.def_tree.specs.declared.Node.{Node}
 use Rattle.def_tree.specs.Rules.{is_same_kind, most_nodes}
 use Rattle.def_tree.specs.Tree.{leaf_count}
 use Rattle.xg_jobs.specs.declared.tops.TopNode.{TopNode}
 use Rattle.xg_jobs.specs.declared.tops.Tops.{Tops}
-use Rattle.xg_jobs.specs.declared.tops.TopVisit.{TopVisit}
 
 pub record TopState : Type 0 where
   pub nodes : List TopNode
@@ -70,18 +69,3 @@ pub record IsOpen (s : TopState) : Type 0 where
   pub count : length s.nodes ≤ most_nodes
   pub there : s.covered ≤ 1 → s.open_at < length s.nodes
   pub before : s.covered ≤ 1 → (open_top s).leaves ≤ s.leaves
-
--- what a call asks, and what it leaves, where memory hasn't failed yet
-abbrev pub MayEnter : TopVisit → Type 0
-MayEnter v = is_ok v.outcome ≡ true → HasRoom (state_of v.tops)
-
-abbrev pub MayLeave : TopVisit → Type 0
-MayLeave v = is_ok v.outcome ≡ true → IsOpen (state_of v.tops)
-
-pub record Enters (v : TopVisit) (node : Node) (w : TopVisit) : Type 0 where
-  pub before : is_ok w.outcome ≡ true → is_ok v.outcome ≡ true
-  pub state : is_ok w.outcome ≡ true → state_of w.tops ≡ entered node (state_of v.tops)
-
-pub record Leaves (v w : TopVisit) : Type 0 where
-  pub before : is_ok w.outcome ≡ true → is_ok v.outcome ≡ true
-  pub state : is_ok w.outcome ≡ true → state_of w.tops ≡ left (state_of v.tops)

@@ -2,19 +2,19 @@ ghost use Rattle.std.specs.Prelude.{◌≡◌, ◌<◌, ◌^◌, ℕ, ℤ, unsig
 ghost use Rattle.std.specs.Int.{w32};
 ghost use Rattle.xg_jobs.specs.Groups.{GroupLeaf};
 
-/// A leaf in the group of its sequence of player one.
+/// A leaf in the group of its sequence of one player, with the sequence of the other one.
 pub(crate) trait Entry: Copy {
     // the leaf, and which weights there is room for
     ghost leaf: { Self → GroupLeaf };
 
     ghost has_room: { ℤ → Type 0 };
 
-    fn new(two: u32, weight: i64) -> Self
+    fn new(other: u32, weight: i64) -> Self
         requires { has_room weight }
-        ensures { leaf result ≡ record { two = two; weight = weight } };
+        ensures { leaf result ≡ record { other = other; weight = weight } };
 
-    fn two(&self) -> u32
-        ensures { result ≡ (leaf self.now).two };
+    fn other(&self) -> u32
+        ensures { result ≡ (leaf self.now).other };
 
     fn weight(&self) -> i64
         ensures { result ≡ (leaf self.now).weight };
@@ -23,7 +23,7 @@ pub(crate) trait Entry: Copy {
 /// An entry of 8 bytes, which most games' weights fit.
 #[derive(Clone, Copy)]
 pub(crate) struct SmallEntry {
-    two: u32,
+    other: u32,
     weight: i32,
 }
 
@@ -31,19 +31,19 @@ impl Entry for SmallEntry {
     ghost use Rattle.std.specs.Int.{w32};
     ghost use Rattle.std.specs.Prelude.{FitsSigned};
 
-    ghost leaf = { λ e. record { two = e.two; weight = e.weight } };
+    ghost leaf = { λ e. record { other = e.other; weight = e.weight } };
 
     ghost has_room = { λ weight. FitsSigned w32 weight };
 
-    fn new(two: u32, weight: i64) -> SmallEntry {
+    fn new(other: u32, weight: i64) -> SmallEntry {
         SmallEntry {
-            two,
+            other,
             weight: weight as i32,
         }
     }
 
-    fn two(&self) -> u32 {
-        self.two
+    fn other(&self) -> u32 {
+        self.other
     }
 
     fn weight(&self) -> i64 {
@@ -54,21 +54,21 @@ impl Entry for SmallEntry {
 /// An entry for any weight.
 #[derive(Clone, Copy)]
 pub(crate) struct WideEntry {
-    two: u32,
-    weight: i64,
+    pub(crate) other: u32,
+    pub(crate) weight: i64,
 }
 
 impl Entry for WideEntry {
-    ghost leaf = { λ e. record { two = e.two; weight = e.weight } };
+    ghost leaf = { λ e. record { other = e.other; weight = e.weight } };
 
     ghost has_room = { λ _. Unit {0} };
 
-    fn new(two: u32, weight: i64) -> WideEntry {
-        WideEntry { two, weight }
+    fn new(other: u32, weight: i64) -> WideEntry {
+        WideEntry { other, weight }
     }
 
-    fn two(&self) -> u32 {
-        self.two
+    fn other(&self) -> u32 {
+        self.other
     }
 
     fn weight(&self) -> i64 {

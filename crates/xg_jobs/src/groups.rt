@@ -1,27 +1,33 @@
-ghost use Rattle.std.specs.Prelude.{◌≡◌, ℕ, ◌*◌, ◌^◌, ◌<◌, ◌≤◌, All, IfOk, IsTrue};
-ghost use Rattle.std.specs.Prelude.{length, map, pos, replicate, slice_index};
-ghost use Rattle.def_plan.specs.Form.{sequence_count};
-ghost use Rattle.xg_jobs.specs.Grouping.{AreStarts, ArePlaced};
+ghost use Rattle.std.specs.Prelude.{◌≡◌, ℕ, ◌*◌, ◌^◌, ◌<◌, ◌≤◌, All, IfOk, IsTrue, length};
+ghost use Rattle.def_sums.specs.Limits.{most_mass, most_root};
+ghost use Rattle.def_tree.specs.Rules.{most_nodes};
+ghost use Rattle.def_tree.specs.Opponent.{opponent};
+ghost use Rattle.def_plan.specs.Form.{player_sets, sequence_count};
+ghost use Rattle.def_plan.specs.Payoff.{mass_of};
+ghost use Rattle.def_rows.specs.Rows.{player_rows};
+ghost use Rattle.xg_seq.specs.Leaves.{HasSequences};
+ghost use Rattle.xg_jobs.specs.Grouping.{AreStarts, ArePlaced, pair_weights};
 ghost use Rattle.xg_jobs.specs.Groups.{greatest_of};
-ghost use Rattle.xg_jobs.specs.Rows.{AreNumbersOf, ArePlainSums};
-ghost use Rattle.xg_jobs.specs.Table.{leaf_groups};
 
-use crate::entry::{Entry, SmallEntry, WideEntry};
-use crate::grouping::{entries_of, has_small_weights, starts_of, total_mass};
-use crate::input::RowInput;
-use crate::rows::Rows;
-use crate::sums::{add_small_sums, add_wide_sums};
+use crate::entry::{SmallEntry, WideEntry};
+use crate::grouping::{entries_of, starts_of, total_mass};
+use crate::merging::merged;
+use crate::packing::{has_small_weights, small_entries};
+use crate::sums::{write_small_sums, write_wide_sums};
+use def_tree::Player;
 use std::alloc::{AllocError, Global};
 use std::marker::Model;
 use xg_seq::SeqForm;
 
-/// The leaves of each of player one's sequences.
+/// The leaves of each of a player's sequences.
 #[derive(Drop)]
 pub(crate) struct LeafGroups {
     // where each sequence's group begins, and behind them where the last one ends
     starts: Vec<u32>,
     entries: Entries,
-    // the sizes of all weights together
+    // how many sequences the other player has
+    others: u32,
+    // no less than the sizes of all weights together
     mass: u64,
 }
 
@@ -33,87 +39,96 @@ pub(crate) enum Entries {
 }
 
 impl Entries {
-    ghost use Rattle.xg_jobs.specs.Entries.{leaves_in};
+    ghost use Rattle.std.specs.Prelude.{map};
+    ghost use Rattle.xg_jobs.specs.Entries.{leaves_in, wide_leaf};
 
     // Small entries, where they have room for all weights.
-    fn build(alloc: Global, form: &SeqForm, starts: &[u32]) -> Result<Entries, AllocError>
-        requires { AreStarts form.now starts.now }
-        ensures { IfOk result (λ entries. ArePlaced form.now starts.now (leaves_in entries)) }
+    fn packed(alloc: Global, entries: Vec<WideEntry>) -> Result<Entries, AllocError>
+        ensures { IfOk result (λ packed. leaves_in packed ≡ map wide_leaf entries.items) }
     {
-        if has_small_weights(form) {
-            Ok(Entries::Small(entries_of(alloc, form, starts)?))
+        if has_small_weights(&entries) {
+            Ok(Entries::Small(small_entries(alloc, &entries)?))
         } else {
-            Ok(Entries::Wide(entries_of(alloc, form, starts)?))
+            Ok(Entries::Wide(entries))
         }
     }
 }
 
 impl Model for LeafGroups {
-    ghost use Rattle.std.specs.Prelude.{List};
-    ghost use Rattle.def_plan.specs.Form.{Leaf};
-    ghost use Rattle.xg_jobs.specs.Groups.{groups_of};
+    ghost use Rattle.std.specs.Prelude.{ℤ, ◌-◌, List, length, map};
+    ghost use Rattle.std.specs.List.{range_with_len};
+    ghost use Rattle.xg_jobs.specs.Groups.{group_at, weights_of};
     ghost use Rattle.xg_jobs.specs.Entries.{KeepsGroups, leaves_in};
 
-    ghost Value = { List (List Leaf) };
+    ghost Value = { List (List ℤ) };
 
-    ghost view = { λ g. groups_of g.starts.items (leaves_in g.entries) };
+    ghost view = { λ g. map (λ s. weights_of g.others (group_at g.starts.items (leaves_in g.entries) s))
+        (range_with_len 0 (length g.starts.items - 1)) };
 
-    ghost invariant = { λ g. KeepsGroups g.starts.items g.entries g.mass };
+    ghost invariant = { λ g. KeepsGroups g.starts.items (leaves_in g.entries) g.others g.mass };
 }
 
 impl LeafGroups {
-    /// The groups of the form's leaves.
-    pub(crate) fn build(alloc: Global, form: &SeqForm) -> Result<LeafGroups, AllocError>
-        ensures { IfOk result (λ groups. groups ≡ leaf_groups form.now) }
+    /// The groups of the form's leaves by a player's sequences.
+    pub(crate) fn build(
+        alloc: Global,
+        form: &SeqForm,
+        player: Player,
+    ) -> Result<LeafGroups, AllocError>
+        ensures { IfOk result (λ groups. groups ≡ pair_weights form.now player) }
     {
-        let starts = starts_of(alloc, form)?;
+        let starts = starts_of(alloc, form, player)?;
         let mass = total_mass(form);
-        let entries = Entries::build(alloc, form, &starts)?;
+        let others = other_count(form, player);
+        let entries = entries_of(alloc, form, player, &starts)?;
+        let groups = merged(alloc, &starts, &entries, others)?;
+        let packed = Entries::packed(alloc, groups.entries)?;
         Ok(LeafGroups {
-            starts,
-            entries,
+            starts: groups.starts,
+            entries: packed,
+            others,
             mass,
         })
     }
 
-    /// Adds the sums over all leaves to rows that have nothing yet.
-    pub(crate) fn add_to(&self, input: &RowInput<'_>, rows: &mut Rows)
-        requires groups { self.now ≡ leaf_groups input.now.form.now }
-        requires numbers { AreNumbersOf input.now.form.now input.now.one.now input.now.two.now }
-        requires none_one { rows.old.one ≡ replicate (sequence_count input.now.form.now.sets_one) (pos 0) }
-        requires none_two { rows.old.two ≡ replicate (sequence_count input.now.form.now.sets_two) (pos 0) }
-        ensures { ArePlainSums input.now.form.now input.now.one.now input.now.two.now rows.new }
+    /// Writes for each of the player's sequences the sum over its leaves against the other player's numbers.
+    pub(crate) fn write_to(
+        &self,
+        form: &SeqForm,
+        player: Player,
+        numbers: &[u64],
+        rows: &mut [i128],
+    )
+        requires groups { self.now ≡ pair_weights form.now player }
+        requires numbers { length numbers.now ≡ sequence_count (player_sets form.now (opponent player)) }
+        requires small { All (λ n. n ≤ most_root) numbers.now }
+        requires rows { length rows.old ≡ sequence_count (player_sets form.now player) }
+        ensures { rows.new ≡ player_rows form.now player numbers.now }
     {
-        // the mass and the sequences of a form's leaves are within their limits
-        let _count = input.form.leaf_count();
-        let (numbers_one, numbers_two) = (input.one, input.two);
-        let most = greatest(numbers_one).max(greatest(numbers_two));
-        let narrow = fits_word(self.mass, most);
+        // the sequences of a form's leaves are within their limits
+        let _others = other_count(form, player);
+        let narrow = fits_word(self.mass, greatest(numbers));
         let starts = &self.starts;
         match &self.entries {
-            Entries::Small(entries) => {
-                add_small_sums(
-                    narrow,
-                    starts,
-                    entries,
-                    numbers_one,
-                    numbers_two,
-                    &mut rows.one,
-                    &mut rows.two,
-                )
-            }
-            Entries::Wide(entries) => {
-                add_wide_sums(
-                    narrow,
-                    starts,
-                    entries,
-                    numbers_one,
-                    numbers_two,
-                    &mut rows.one,
-                    &mut rows.two,
-                )
-            }
+            Entries::Small(entries) => write_small_sums(narrow, starts, entries, numbers, rows),
+            Entries::Wide(entries) => write_wide_sums(narrow, starts, entries, numbers, rows),
         }
+    }
+}
+
+// How many sequences the other player has.
+fn other_count(form: &SeqForm, player: Player) -> u32
+    ensures count { result ≡ sequence_count (player_sets form.now (opponent player)) }
+
+    // What is true of every form.
+    ensures sequences { All (HasSequences form.now) form.now.leaves }
+    ensures mass { mass_of form.now.leaves ≤ most_mass }
+    ensures limit { length form.now.leaves ≤ most_nodes }
+{
+    let _leaves = form.leaf_count();
+    match player {
+        Player::One => form.sequence_count(Player::Two),
+        Player::Two => form.sequence_count(Player::One),
     }
 }
 

@@ -7,6 +7,8 @@ mod grouping;
 mod groups;
 mod input;
 mod maker;
+mod merging;
+mod packing;
 mod plain;
 mod rows;
 mod sums;

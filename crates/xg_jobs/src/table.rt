@@ -1,4 +1,4 @@
-ghost use Rattle.std.specs.Prelude.{◌≡◌, ◌-◌, ◌<◌, ◌≤◌, length, pos, replicate, IfOk, Some, slice_get, slice_index_or};
+ghost use Rattle.std.specs.Prelude.{◌≡◌, ◌-◌, ◌<◌, ◌≤◌, length, IfOk, Some, slice_get, slice_index_or};
 ghost use Rattle.def_game_jobs.specs.Jobs.{most_jobs};
 ghost use Rattle.def_history.specs.Leaves.{amounts};
 ghost use Rattle.def_history.specs.Packets.{IsPacketOf};
@@ -14,6 +14,7 @@ use crate::groups::LeafGroups;
 use crate::input::RowInput;
 use crate::rows::Rows;
 use crate::touching::{most_rows, touched_of};
+use def_tree::Player;
 use std::alloc::{AllocError, Global};
 use std::marker::Model;
 use xg_rowcore::Packet;
@@ -27,7 +28,8 @@ use xg_tree::Tree;
 #[derive(Drop)]
 pub struct JobTable {
     ranges: Vec<LeafRange>,
-    groups: LeafGroups,
+    groups_one: LeafGroups,
+    groups_two: LeafGroups,
     touched: Vec<TouchedRows>,
 }
 
@@ -49,7 +51,8 @@ impl Model for JobTable {
 
     ghost view = { λ t. record {
       ranges = map range_of t.ranges.items;
-      groups = t.groups;
+      weights_one = t.groups_one;
+      weights_two = t.groups_two;
       touched = t.touched.items;
     } };
 
@@ -57,7 +60,7 @@ impl Model for JobTable {
 }
 
 impl JobTable {
-    /// The jobs of the tree, and its leaves by player one's sequence.
+    /// The jobs of the tree, and its leaves by each player's sequence.
     pub fn build(alloc: Global, form: &SeqForm, tree: &Tree) -> Result<JobTable, AllocError>
         requires { IsFormOf form.now tree.now }
         ensures table { IfOk result (λ jobs. jobs ≡ job_table form.now tree.now) }
@@ -66,11 +69,13 @@ impl JobTable {
         let ranges = ranges_of(alloc, tree)?;
         // a table is of a tree that keeps the rules
         let _count = tree.len();
-        let groups = LeafGroups::build(alloc, form)?;
+        let groups_one = LeafGroups::build(alloc, form, Player::One)?;
+        let groups_two = LeafGroups::build(alloc, form, Player::Two)?;
         let touched = touched_of(alloc, form, &ranges)?;
         Ok(JobTable {
             ranges,
-            groups,
+            groups_one,
+            groups_two,
             touched,
         })
     }
@@ -120,14 +125,18 @@ impl JobTable {
         touched.packet_into(job, range.first, input.form, input.one, input.two, into);
     }
 
-    /// Adds the sums over all leaves to new rows.
-    pub(crate) fn add_to(&self, input: &RowInput<'_>, rows: &mut Rows)
+    /// Writes the sums over all leaves.
+    pub(crate) fn write_to(&self, input: &RowInput<'_>, rows: &mut Rows)
         requires numbers { AreNumbersOf input.now.form.now input.now.one.now input.now.two.now }
         requires table { IsTableOf input.now.form.now self.now }
-        requires none_one { rows.old.one ≡ replicate (sequence_count input.now.form.now.sets_one) (pos 0) }
-        requires none_two { rows.old.two ≡ replicate (sequence_count input.now.form.now.sets_two) (pos 0) }
+        requires rows_one { length rows.old.one ≡ sequence_count input.now.form.now.sets_one }
+        requires rows_two { length rows.old.two ≡ sequence_count input.now.form.now.sets_two }
         ensures { ArePlainSums input.now.form.now input.now.one.now input.now.two.now rows.new }
     {
-        self.groups.add_to(input, rows);
+        let RowInput { form, one, two } = *input;
+        self.groups_one
+            .write_to(form, Player::One, two, &mut rows.one);
+        self.groups_two
+            .write_to(form, Player::Two, one, &mut rows.two);
     }
 }

@@ -112,6 +112,20 @@ fn cuts_the_jobs_of_a_chance_over_a_player(rt: HostRuntime) -> Result<(), Fail> 
     Ok(())
 }
 
+// A path that is longer than a stack is deep.
+#[test]
+fn cuts_a_path_of_the_most_nodes(rt: HostRuntime) -> Result<(), Fail> {
+    let alloc = rt.alloc();
+    let mut nodes = vec![in alloc; node(Kind::Chance, 1, 1); 524_287]?;
+    nodes.push(node(Kind::One, 1, 1))?;
+    nodes.extend_from_slice(&vec![in alloc; node(Kind::Chance, 1, 1); 524_287]?)?;
+    nodes.push(LEAF)?;
+    let (_form, jobs) = built(&rt, alloc, &nodes, &[1])?;
+    assert_eq!(rt; jobs.count(), 1);
+    assert_eq!(rt; leaves(&rt, &jobs, 0), (1, 1));
+    Ok(())
+}
+
 #[test]
 fn keeps_matching_pennies_as_one_job(rt: HostRuntime) -> Result<(), Fail> {
     let (_form, jobs) = built(&rt, rt.alloc(), &pennies(), &[1, -1, -1, 1])?;

@@ -1,18 +1,17 @@
-use Rattle.std.proofs.Common.{◌≡◌, ap, [], arith, true, is_ok}
-use Rattle.xg_jobs.proofs.Visiting.{state}
-use Rattle.xg_jobs.proofs.Gathering.{can_walk, has_walked}
+use Rattle.std.proofs.Common.{◌≤◌, ap, arith, length, subst}
+use Rattle.std.proofs.lemmas.List.{drop_all}
+use Rattle.def_tree.specs.Tree.{prefix}
+use Rattle.xg_jobs.specs.Visit.{TopState, state_of}
+use Rattle.xg_jobs.specs.Walked.{LeadsTo, at_start, walked}
+use Rattle.xg_jobs.proofs.Gathering.{all_walked}
 use Rattle.xg_jobs.proofs.tops.tops_of.Goals as goal
-
-pub walk-requires : goal.walk-requires
-walk-requires c =
-    can_walk c.args.tree.now _ (state [] 0 0 0) c.len-count.ensures.rules.tree.children (λ ok. ap (λ ns. state ns 0 0 0) c.new.ensures.items)
-    (record {
-      nodes = omega (arith, c.len-count.ensures.rules.limit);
-      covered = omega (arith, c.len-count.ensures.rules.limit);
-      leaves = omega (arith, c.len-count.ensures.rules.limit);
-    })
 
 pub returns : goal.returns
 returns c =
-    let ok : is_ok c.walk.new.visitor.outcome ≡ true = ap is_ok c.in_ok-visit.was in
-    ap (λ s. s.nodes) (has_walked c.args.tree.now _ c.walk.new.visitor (state [] 0 0 0) c.len-count.ensures.rules.tree.children (λ ok. ap (λ ns. state ns 0 0 0) c.new.ensures.items) c.walk.ensures ok)
+    let walk = c.loop-k.walk in
+    let tree = c.args.tree.now in
+    let end : TopState = walked tree at_start in
+    let past : length (prefix tree) ≤ c.loop-k.k = omega (arith, c.loop-k-test.false, c.loop-k.auto.k-end, c.len-k-end.ensures.count) in
+    ap (λ (s : TopState). s.nodes)
+    (all_walked walk.to_come (state_of walk.tops) end c.loop-k.invariant.next
+    (subst (λ nodes. LeadsTo walk.to_come nodes (state_of walk.tops) end) (drop_all c.loop-k.k (prefix tree) past) c.loop-k.invariant.leads))

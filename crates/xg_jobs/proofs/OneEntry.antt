@@ -1,0 +1,199 @@
+-- One entry for the leaves of a group that have the same sequence of the other player.
+use Rattle.std.proofs.Common.{◌≡◌, ℕ, zero, suc, ◌+◌, ◌-◌, ◌<◌, ◌≤◌, Bool, true, false, Some, cond, eqb, List, [], ◌∷◌, ◌++◌, length, get_or, slice_index, set, take, drop, map, All, ℤ, pos, ◌+ℤ◌, unsigned_abs, refl, sym, ap, subst, ◌∙◌, arith, ⊎_elim}
+use Rattle.std.proofs.lemmas.List.{drop_all, take_all, take-take, take-set-le, drop-set-add, drop-take, take-append-le, drop-append-le, length-set, length-append, length-drop, length-take-le, get_or-drop, get_or-set_same, get_or-set_other}
+use Rattle.std.proofs.lemmas.List.Elements.{All-pop, All-push, All-set}
+use Rattle.std.proofs.lemmas.Bool.{cases_lt}
+use Rattle.std.proofs.lemmas.Int.{ints}
+use Rattle.std.proofs.Math.Seq.{take-append_seam}
+use Rattle.std.specs.List.{range_with_len}
+use Rattle.def_sums.proofs.Ranges.{map-range_same}
+use Rattle.def_sums.proofs.RingLaws.{unsigned_abs-+ℤ, +ℤ-zero, +ℤ_assoc}
+use Rattle.def_sums.proofs.SumLaws.{sum_over-append, nat_sum_over-append}
+use Rattle.def_tree.specs.Rules.{most_nodes}
+use Rattle.xg_jobs.specs.Entries.{KeepsGroups}
+use Rattle.xg_jobs.specs.Groups.{GroupLeaf, group_at, group_mass, weight_with, weights_of}
+use Rattle.xg_jobs.specs.Merging.{StandsFor, TakesLeaf, TakesGroup, MergedUpto, AreMerged, CanMerge}
+
+-- an entry with more weight
+abbrev pub more : GroupLeaf → ℤ → GroupLeaf
+more x w = record { other = x.other; weight = x.weight +ℤ w }
+
+weight_more : (xs : List GroupLeaf) (i : ℕ) (x : GroupLeaf) (w : ℤ) (b : ℕ) → i < length xs → get_or xs i x ≡ x
+    → weight_with b (set xs i (more x w)) ≡ weight_with b xs +ℤ cond (eqb x.other b) w (pos 0)
+weight_more [] i x w b low read = absurd (omega arith)
+weight_more (y ∷ ys) zero x w b low read =
+    by_test (eqb x.other b) ∙ ap (λ (z : GroupLeaf). (cond (eqb z.other b) z.weight (pos 0) +ℤ weight_with b ys) +ℤ cond (eqb x.other b) w (pos 0)) (sym read)
+  where
+    by_test : (t : Bool) → cond t (x.weight +ℤ w) (pos 0) +ℤ weight_with b ys ≡ (cond t x.weight (pos 0) +ℤ weight_with b ys) +ℤ cond t w (pos 0)
+    by_test true = omega (arith, ints)
+    by_test false = omega (arith, ints)
+weight_more (y ∷ ys) (suc i) x w b low read =
+    ap (λ n. cond (eqb y.other b) y.weight (pos 0) +ℤ n) (weight_more ys i x w b (omega arith) read)
+    ∙ sym (+ℤ_assoc (cond (eqb y.other b) y.weight (pos 0)) (weight_with b ys) (cond (eqb x.other b) w (pos 0)))
+
+mass_more : (xs : List GroupLeaf) (i : ℕ) (x : GroupLeaf) (w : ℤ) → i < length xs → get_or xs i x ≡ x
+    → group_mass (set xs i (more x w)) ≤ group_mass xs + unsigned_abs w
+mass_more [] i x w low read = absurd (omega arith)
+mass_more (y ∷ ys) zero x w low read = omega (arith, unsigned_abs-+ℤ x.weight w, ap (λ (z : GroupLeaf). unsigned_abs z.weight) read)
+mass_more (y ∷ ys) (suc i) x w low read = omega (arith, mass_more ys i x w (omega arith) read)
+
+-- a leaf whose sequence has an entry already
+pub leaf_added : (begin place : ℕ) (e x : GroupLeaf) (old : List GroupLeaf) → begin ≤ place → place < length old
+    → get_or old place x ≡ x → x.other ≡ e.other → TakesLeaf begin e old (set old place (more x e.weight))
+leaf_added begin place e x old from low read same =
+    let j : ℕ = place - begin in
+    let at : begin + j ≡ place = omega arith in
+    let back : drop begin (set old place (more x e.weight)) ≡ set (drop begin old) j (more x e.weight) =
+    ap (λ k. drop begin (set old k (more x e.weight))) (sym at) ∙ drop-set-add begin old j (more x e.weight) in
+    let inside : j < length (drop begin old) = omega (arith, length-drop begin old) in
+    let found : get_or (drop begin old) j x ≡ x = get_or-drop begin old j x ∙ ap (λ k. get_or old k x) at ∙ read in
+    record {
+      front = take-set-le begin old place (more x e.weight) from;
+      longer = omega (arith, length-set old place (more x e.weight));
+      shorter = omega (arith, length-set old place (more x e.weight));
+      weights = λ b.
+          ap (weight_with b) back ∙ weight_more (drop begin old) j x e.weight b inside found
+          ∙ ap (λ k. weight_with b (drop begin old) +ℤ cond (eqb k b) e.weight (pos 0)) same;
+      mass = omega (arith, ap group_mass back, mass_more (drop begin old) j x e.weight inside found);
+      within = λ others all here.
+          subst (All (λ y. y.other < others)) (sym back) (All-set (λ y. y.other < others) (drop begin old) j (more x e.weight) (omega (arith, same)) all);
+    }
+
+-- a leaf with an entry of its own
+pub leaf_pushed : (begin : ℕ) (e : GroupLeaf) (old : List GroupLeaf) → begin ≤ length old
+    → TakesLeaf begin e old (old ++ e ∷ [])
+leaf_pushed begin e old from =
+    let back : drop begin (old ++ e ∷ []) ≡ drop begin old ++ e ∷ [] = drop-append-le begin old (e ∷ []) from in
+    record {
+      front = take-append-le begin old (e ∷ []) from;
+      longer = omega (arith, length-append old (e ∷ []));
+      shorter = omega (arith, length-append old (e ∷ []));
+      weights = λ b.
+          ap (weight_with b) back ∙ sum_over-append (λ x. cond (eqb x.other b) x.weight (pos 0)) (drop begin old) (e ∷ [])
+          ∙ ap (λ n. weight_with b (drop begin old) +ℤ n) (+ℤ-zero (cond (eqb e.other b) e.weight (pos 0)));
+      mass = omega (arith, ap group_mass back, nat_sum_over-append (λ x. unsigned_abs x.weight) (drop begin old) (e ∷ []));
+      within = λ others all here. subst (All (λ y. y.other < others)) (sym back) (All-push (λ y. y.other < others) (drop begin old) e all here);
+    }
+
+-- no leaf yet
+pub takes_none : (old : List GroupLeaf) → TakesGroup [] old old
+takes_none old =
+    let none : drop (length old) old ≡ [] = drop_all (length old) old (omega arith) in
+    record {
+      front = take_all (length old) old (omega arith);
+      longer = omega arith;
+      shorter = omega arith;
+      stands = subst (λ xs. StandsFor xs []) (sym none) (record { weights = λ b. refl; mass = omega arith; within = λ others all. all });
+    }
+
+-- and one leaf more
+pub takes_more : (leaves : List GroupLeaf) (e : GroupLeaf) (old now new : List GroupLeaf) → TakesGroup leaves old now
+    → TakesLeaf (length old) e now new → TakesGroup (leaves ++ e ∷ []) old new
+takes_more leaves e old now new group leaf = record {
+  front = leaf.front ∙ group.front;
+  longer = omega (arith, group.longer, leaf.longer);
+  shorter = omega (arith, group.shorter, leaf.shorter, length-append leaves (e ∷ []));
+  stands = record {
+    weights = λ b.
+        leaf.weights b ∙ ap (λ n. n +ℤ cond (eqb e.other b) e.weight (pos 0)) (group.stands.weights b)
+        ∙ ap (λ n. weight_with b leaves +ℤ n) (sym (+ℤ-zero (cond (eqb e.other b) e.weight (pos 0))))
+        ∙ sym (sum_over-append (λ x. cond (eqb x.other b) x.weight (pos 0)) leaves (e ∷ []));
+    mass = omega (arith, leaf.mass, group.stands.mass, nat_sum_over-append (λ x. unsigned_abs x.weight) leaves (e ∷ []));
+    within = λ others all.
+        let parts = All-pop (λ x. x.other < others) (leaves ++ e ∷ []) leaves (Some e) refl all in
+        leaf.within others (group.stands.within others parts.0) parts.1;
+  };
+}
+
+-- what stands in front is as it was
+front_same : (xs old : List GroupLeaf) (a b : ℕ) → take (length old) xs ≡ old → b ≤ length old → a ≤ b
+    → take (b - a) (drop a xs) ≡ take (b - a) (drop a old)
+front_same xs old a b front low order =
+    let whole : a + (b - a) ≡ b = omega arith in
+    sym (drop-take a (b - a) xs) ∙ ap (drop a) (
+    ap (λ k. take k xs) whole ∙ sym (take-take b (length old) xs low) ∙ ap (take b) front ∙ ap (λ k. take k old) (sym whole)
+    ) ∙ drop-take a (b - a) old
+
+-- one group more
+pub upto_more : (s : ℕ) (starts : List ℕ) (entries new : List GroupLeaf) (old_starts : List ℕ)
+    (old_entries : List GroupLeaf) → s + 1 < length starts
+    → slice_index old_starts s ≤ slice_index old_starts (s + 1) → slice_index old_starts (s + 1) ≤ length old_entries
+    → MergedUpto s starts entries old_starts old_entries
+    → TakesGroup (group_at old_starts old_entries s) entries new
+    → MergedUpto (s + 1) (set starts (s + 1) (length new)) new old_starts old_entries
+upto_more s starts entries new old_starts old_entries here order inside_old upto takes =
+    let there : List ℕ = set starts (s + 1) (length new) in
+    let end : get_or there (s + 1) 0 ≡ length new = get_or-set_same starts (s + 1) (length new) 0 here in
+    let kept : (t : ℕ) → t < s + 1 → get_or there t 0 ≡ get_or starts t 0 = λ t low. get_or-set_other starts (s + 1) t (length new) 0 (λ e. omega arith) in
+    let a : ℕ = slice_index old_starts s in
+    let b : ℕ = slice_index old_starts (s + 1) in
+    let size : length (group_at old_starts old_entries s) ≡ b - a = length-take-le (b - a) (drop a old_entries) (omega (arith, length-drop a old_entries)) in
+    let begin : get_or there s 0 ≡ length entries = kept s (omega arith) ∙ upto.last in
+    record {
+      count = length-set starts (s + 1) (length new) ∙ upto.count;
+      last = end;
+      ordered = λ t low.
+          ⊎_elim
+          (λ less. omega (arith, kept t low, kept (t + 1) (omega arith), upto.ordered t less))
+          (λ later. let t_is : t ≡ s = omega arith in rw t_is (omega (arith, begin, end, takes.longer)))
+          (cases_lt t s);
+      inside = λ t low.
+          ⊎_elim
+          (λ less. omega (arith, kept t less, upto.inside t (omega arith), takes.longer))
+          (λ later. let t_is : t ≡ s + 1 = omega arith in rw t_is (omega (arith, end)))
+          (cases_lt t (s + 1));
+      each = λ t low.
+          ⊎_elim
+          (λ less.
+          let same : group_at there new t ≡ group_at starts entries t =
+          (λ i. take (kept (t + 1) (omega arith) i - kept t low i) (drop (kept t low i) new))
+          ∙ front_same new entries (slice_index starts t) (slice_index starts (t + 1)) takes.front (upto.inside (t + 1) (omega arith)) (upto.ordered t less) in
+          subst (λ g. StandsFor g (group_at old_starts old_entries t)) (sym same) (upto.each t less))
+          (λ later.
+          let t_is : t ≡ s = omega arith in
+          let same : group_at there new s ≡ drop (length entries) new =
+          (λ i. take (end i - begin i) (drop (begin i) new))
+          ∙ take_all (length new - length entries) (drop (length entries) new) (omega (arith, length-drop (length entries) new)) in
+          rw t_is (subst (λ g. StandsFor g (group_at old_starts old_entries s)) (sym same) takes.stands))
+          (cases_lt t s);
+      few = omega (arith, takes.shorter, upto.few, size);
+    }
+
+-- a table of groups is kept where each of its groups stands for one of a table that is kept
+pub can_merge : (starts : List ℕ) (entries : List GroupLeaf) (others mass : ℕ) → KeepsGroups starts entries others mass
+    → length entries ≤ most_nodes → CanMerge starts entries others
+can_merge starts entries others mass kept few = record {
+  some = omega (arith, kept.some);
+  ordered = kept.ordered;
+  inside = kept.inside;
+  within = kept.within;
+  light = λ s low. omega (arith, kept.total s low, kept.light);
+  limit = few;
+}
+
+pub merged_kept : (starts : List ℕ) (entries : List GroupLeaf) (old_starts : List ℕ) (old_entries : List GroupLeaf)
+    (others mass : ℕ) → AreMerged starts entries old_starts old_entries
+    → KeepsGroups old_starts old_entries others mass → KeepsGroups starts entries others mass
+merged_kept starts entries old_starts old_entries others mass are kept = record {
+  some = omega (arith, are.count, kept.some);
+  ordered = λ s low. are.ordered s (omega (arith, are.count));
+  inside = λ s low. are.inside s (omega (arith, are.count));
+  within = λ s low. (are.each s (omega (arith, are.count))).within others (kept.within s (omega (arith, are.count)));
+  total = λ s low. omega (arith, (are.each s (omega (arith, are.count))).mass, kept.total s (omega (arith, are.count)));
+  light = kept.light;
+}
+
+-- and it has the same weights
+pub merged_weights : (starts : List ℕ) (entries : List GroupLeaf) (old_starts : List ℕ) (old_entries : List GroupLeaf)
+    (others : ℕ) → AreMerged starts entries old_starts old_entries
+    → map (λ s. weights_of others (group_at starts entries s)) (range_with_len 0 (length starts - 1))
+    ≡ map (λ s. weights_of others (group_at old_starts old_entries s)) (range_with_len 0 (length old_starts - 1))
+merged_weights starts entries old_starts old_entries others are =
+    let n : ℕ = length starts - 1 in
+    map-range_same (λ s. weights_of others (group_at starts entries s)) (λ s. weights_of others (group_at old_starts old_entries s)) 0 n
+    (λ s from low. map-range_same (λ b. weight_with b (group_at starts entries s)) (λ b. weight_with b (group_at old_starts old_entries s)) 0 others (λ b _ _. (are.each s (omega (arith, are.count))).weights b))
+    ∙ ap (λ k. map (λ s. weights_of others (group_at old_starts old_entries s)) (range_with_len 0 (k - 1))) are.count
+
+-- a vector whose items were written over by as many
+pub written_over : (n : ℕ) (new old : List ℕ) → length new ≡ n → take n (new ++ drop (length new) old) ≡ new
+written_over n new old e = ap (λ k. take k (new ++ drop (length new) old)) (sym e) ∙ take-append_seam new (drop (length new) old)

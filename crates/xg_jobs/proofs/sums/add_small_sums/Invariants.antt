@@ -1,4 +1,0 @@
-use Rattle.xg_jobs.proofs.sums.add_small_sums.Given as goal
-
-abbrev pub ghost-add_leaf_sums : goal.ghost-add_leaf_sums
-ghost-add_leaf_sums g a = g.most
