@@ -52,6 +52,7 @@ fn add_next<Rt: Threads + Wait + Sync, N: RowName, G: Gate>(
     };
     gate.pass(rt, worker.pass.worker(), job);
     jobs.packet_into(job, input, &mut worker.packet);
+    worker.packet.group(board.stripes);
     board.add(rt, &mut worker.pass, &worker.packet, gate);
     true
 }

@@ -6,7 +6,7 @@ ghost use Rattle.xg_jobs.specs.Rows.{AreNumbersOf, ArePlainSums};
 ghost use Rattle.xg_jobs.specs.Table.{IsTableOf};
 ghost use Rattle.xg_board.specs.Running.{job_amounts};
 
-use crate::{Base, LockedRows, MadeBy, RowBoard};
+use crate::{Base, LockedRows, MadeBy, RowBoard, run_rows};
 use def_tree::Player;
 use std::alloc::{AllocError, Global};
 use std::marker::Brand;
@@ -16,7 +16,7 @@ use std::sync::atomic::{AtomicU64, Ordering};
 use std::test::Fail;
 use std::thread::Threads;
 use xg_io::{Gate, OpenGate};
-use xg_jobs::{JobTable, RowInput, RowMaker, Rows};
+use xg_jobs::{JobTable, PlainRows, RowInput, RowMaker, Rows};
 use xg_rowcore::{Packet, RowName};
 use xg_seq::SeqForm;
 use xg_sets::build_sets;
@@ -229,5 +229,95 @@ fn workers_call_the_gate_for_each_job_and_stripe(rt: HostRuntime) -> Result<(), 
     assert_eq!(rt; rows.two(), &[105][..]);
     assert_eq!(rt; gate.passes.load(Ordering::SeqCst), 3);
     assert_eq!(rt; gate.withins.load(Ordering::SeqCst), 48);
+    Ok(())
+}
+
+// The sets of each deal's two cards: player one's first and later one, and player two's after a check and after a bet.
+const DEALS: [(u32, [[u32; 4]; 2]); 3] = [
+    (2, [[1, 2, 1, 2], [1, 2, 3, 4]]),
+    (3, [[3, 4, 5, 6], [3, 4, 3, 4]]),
+    (4, [[5, 6, 5, 6], [5, 6, 1, 2]]),
+];
+
+// One-card poker with three cards: a card each, then a check or a bet, and the answers to them.
+fn kuhn_nodes(alloc: Global) -> Result<Vec<Node>, AllocError> {
+    let mut nodes = Vec::new(alloc);
+    nodes.push(node(Kind::Chance, 1, 3))?;
+    for (chance, deals) in DEALS {
+        nodes.push(node(Kind::Chance, chance, 2))?;
+        for [first, later, checked, bet] in deals {
+            nodes.extend_from_slice(&[
+                node(Kind::One, first, 2),
+                node(Kind::Two, checked, 2),
+                LEAF,
+                node(Kind::One, later, 2),
+                LEAF,
+                LEAF,
+                node(Kind::Two, bet, 2),
+                LEAF,
+                LEAF,
+            ])?;
+        }
+    }
+    Ok(nodes)
+}
+
+// What each leaf pays player one, deal by deal: both check; a bet is folded to or called, after a check or at once.
+const KUHN_WEIGHTS: [i64; 30] = [
+    -1, -1, -2, 1, -2, -1, -1, -2, 1, -2, 1, -1, 2, 1, 2, -1, -1, -2, 1, -2, 1, -1, 2, 1, 2, 1, -1,
+    2, 1, 2,
+];
+
+const HALF: u64 = 524_288;
+
+const QUARTER: u64 = 262_144;
+
+// Both players' plans of the first round.
+const KUHN_ONE: [u64; 13] = [
+    1_048_576, HALF, HALF, QUARTER, QUARTER, HALF, HALF, QUARTER, QUARTER, HALF, HALF, QUARTER,
+    QUARTER,
+];
+
+const KUHN_TWO: [u64; 13] = [
+    1_048_576, HALF, HALF, HALF, HALF, HALF, HALF, HALF, HALF, HALF, HALF, HALF, HALF,
+];
+
+// The rows by so many stripes, with how often the gate was called.
+fn counted<Rt: Threads + Wait + Sync>(
+    rt: &Rt,
+    alloc: Global,
+    input: &RowInput<'_>,
+    jobs: &JobTable,
+    stripes: u32,
+) -> Result<(Rows, u64, u64), AllocError>
+    requires numbers { AreNumbersOf input.now.form.now input.now.one.now input.now.two.now }
+    requires table { IsTableOf input.now.form.now jobs.now }
+    requires stripes { (1 ≤ stripes) × (stripes ≤ 64) }
+{
+    let gate = Counts {
+        passes: AtomicU64::new(0),
+        withins: AtomicU64::new(0),
+    };
+    let rows = run_rows(rt, alloc, input, jobs, 2, stripes, &gate)?;
+    Ok((
+        rows,
+        gate.passes.load(Ordering::SeqCst),
+        gate.withins.load(Ordering::SeqCst),
+    ))
+}
+
+#[test]
+fn workers_call_the_gate_for_each_deal_and_stripe(rt: HostRuntime) -> Result<(), Fail> {
+    let alloc = rt.alloc();
+    let (form, jobs) = built(&rt, alloc, &kuhn_nodes(alloc)?, &KUHN_WEIGHTS)?;
+    let input = input_of(&rt, &form, &KUHN_ONE, &KUHN_TWO);
+    let plain = made(&rt, alloc, &input, &jobs, &PlainRows)?;
+    for stripes in [1, 2, 16, 64] {
+        let (rows, passes, withins) = counted(&rt, alloc, &input, &jobs, stripes)?;
+        assert_eq!(rt; rows.one(), plain.one(), "of {stripes} stripes");
+        assert_eq!(rt; rows.two(), plain.two(), "of {stripes} stripes");
+        assert_eq!(rt; passes, 6, "of {stripes} stripes");
+        assert_eq!(rt; withins, 6 * stripes as u64, "of {stripes} stripes");
+    }
     Ok(())
 }

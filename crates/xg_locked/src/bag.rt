@@ -91,7 +91,7 @@ impl<N: RowName> Bag<N> {
 fn numbers_of(alloc: Global, jobs: u32) -> Result<Vec<u32>, AllocError>
     ensures { IfOk result (λ numbers. numbers.items ≡ range_with_len 0 jobs) }
 {
-    let mut numbers = Vec::new(alloc);
+    let mut numbers = Vec::with_capacity(alloc, jobs as usize)?;
     for job in 0..jobs {
         numbers.push(job)?;
     }

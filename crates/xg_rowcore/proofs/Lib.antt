@@ -2,3 +2,4 @@ pub mod Rising
 pub mod Adding
 pub mod Histories
 pub mod Amounts
+pub mod Chaining

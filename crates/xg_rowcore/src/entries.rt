@@ -1,22 +1,28 @@
-ghost use Rattle.std.specs.Prelude.{◌≡◌, ◌<◌, ◌^◌, ◌++◌, [], ◌∷◌, length, IfOk, vec_capacity};
+ghost use Rattle.std.specs.Prelude.{◌≡◌, ◌<◌, ◌≤◌, ◌+◌, ◌^◌, ◌++◌, [], ◌∷◌, length, IfOk, vec_capacity};
 ghost use Rattle.std.specs.Prelude.{pos, ◌+ℤ◌, unsigned_abs, slice_index_or, slice_set};
+ghost use Rattle.def_history.specs.History.{stripe_of};
 ghost use Rattle.def_history.specs.Packets.{AreRising};
+ghost use Rattle.xg_rowcore.specs.Chains.{IsNextOf, most_stripes, rows_of};
 ghost use Rattle.xg_rowcore.specs.Packets.{IsAboveLast, entry_at, with_added};
 
+use crate::chains::{Chains, seek};
 use std::alloc::{AllocError, Global};
 use std::marker::Model;
 
-/// The entries of a packet, in rising order of their rows, and the room for them.
+/// The entries of a packet, in rising order of their rows, the room for them, and chains through those of each stripe
+/// once they are grouped.
 #[derive(Drop)]
 pub(crate) struct Entries {
     rows: Vec<u32>,
     amounts: Vec<i128>,
     room: usize,
+    chains: Chains,
 }
 
 impl Model for Entries {
     ghost use Rattle.std.specs.Prelude.{◌≡◌, ◌≤◌, length, vec_capacity};
     ghost use Rattle.def_history.specs.Packets.{AreRising};
+    ghost use Rattle.xg_rowcore.specs.Chains.{KeepsChains};
     ghost use Rattle.xg_rowcore.specs.Packets.{Listed, entries_from};
 
     ghost Value = { Listed };
@@ -25,7 +31,8 @@ impl Model for Entries {
 
     ghost invariant = { λ e. (length e.rows.items ≡ length e.amounts.items)
         × AreRising (entries_from e.rows.items e.amounts.items)
-        × (e.room ≤ vec_capacity e.rows) × (e.room ≤ vec_capacity e.amounts) × (length e.rows.items ≤ e.room) };
+        × (e.room ≤ vec_capacity e.rows) × (e.room ≤ vec_capacity e.amounts) × (length e.rows.items ≤ e.room)
+        × KeepsChains e.rows.items e.room e.chains.stripes e.chains.first.items e.chains.next.items };
 }
 
 impl Entries {
@@ -34,10 +41,12 @@ impl Entries {
     {
         let rows = Vec::with_capacity(alloc, room)?;
         let amounts = Vec::with_capacity(alloc, room)?;
+        let chains = Chains::new(alloc, room)?;
         Ok(Entries {
             rows,
             amounts,
             room,
+            chains,
         })
     }
 
@@ -66,6 +75,7 @@ impl Entries {
     {
         self.rows.clear();
         self.amounts.clear();
+        self.chains.stripes = 0;
     }
 
     pub(crate) fn push(&mut self, row: u32, amount: i128)
@@ -78,6 +88,7 @@ impl Entries {
     {
         self.rows.push_reserved(row);
         self.amounts.push_reserved(amount);
+        self.chains.stripes = 0;
     }
 
     pub(crate) fn add(&mut self, i: usize, more: i128)
@@ -86,6 +97,39 @@ impl Entries {
         ensures { self.new ≡ record { list = with_added self.old.list i more; room = self.old.room } }
     {
         add_at(&mut self.amounts, i, more);
+    }
+
+    pub(crate) fn group(&mut self, stripes: u32)
+        requires { (1 ≤ stripes) × (stripes ≤ most_stripes) }
+        ensures { self.new ≡ self.old }
+    {
+        self.chains.link(&self.rows, stripes);
+    }
+
+    /// The first place whose row lies in the stripe.
+    pub(crate) fn first_of(&self, stripes: u32, stripe: u32) -> usize
+        requires { stripe < stripes }
+        ensures { IsNextOf stripes stripe (rows_of self.now.list) 0 result }
+    {
+        if self.chains.stripes == stripes {
+            self.chains.first[stripe as usize]
+        } else {
+            seek(&self.rows, stripes, stripe, 0)
+        }
+    }
+
+    /// The next place after one whose row lies in the same stripe.
+    pub(crate) fn next_of(&self, stripes: u32, i: usize) -> usize
+        requires stripes { 0 < stripes }
+        requires there { i < length self.now.list }
+        ensures { IsNextOf stripes (stripe_of stripes (entry_at self.now.list i).row) (rows_of self.now.list) (i + 1)
+            result }
+    {
+        if self.chains.stripes == stripes {
+            self.chains.next[i]
+        } else {
+            seek(&self.rows, stripes, self.rows[i] % stripes, i + 1)
+        }
     }
 
     /// What the type keeps.

@@ -4,6 +4,7 @@
 //!
 //! No lock and no thread stands here: each stripe is under a lock of the crates above.
 
+mod chains;
 mod entries;
 mod name;
 mod packet;

@@ -1,5 +1,7 @@
-ghost use Rattle.std.specs.Prelude.{◌≡◌, ◌<◌, ◌^◌, ◌++◌, ◌+ℤ◌, [], ◌∷◌, length, unsigned_abs, IfOk};
+ghost use Rattle.std.specs.Prelude.{◌≡◌, ◌<◌, ◌≤◌, ◌+◌, ◌^◌, ◌++◌, ◌+ℤ◌, [], ◌∷◌, length, unsigned_abs, IfOk};
+ghost use Rattle.def_history.specs.History.{stripe_of};
 ghost use Rattle.def_history.specs.Packets.{AreRising};
+ghost use Rattle.xg_rowcore.specs.Chains.{IsNextOf, most_stripes, rows_of};
 ghost use Rattle.xg_rowcore.specs.Packets.{IsAboveLast, entry_at, with_added};
 
 use crate::entries::Entries;
@@ -82,6 +84,35 @@ impl Packet {
         } }
     {
         self.entries.add(i, more);
+    }
+
+    /// Groups the rows by their stripes, so that [`Stripe::add`](crate::Stripe::add) finds its own at once. The packet
+    /// stays what it is, and the next row that is pushed ends the grouping.
+    pub fn group(&mut self, stripes: u32)
+        requires some { 1 ≤ stripes }
+        requires few { stripes ≤ most_stripes }
+        ensures job { self.new.job ≡ self.old.job }
+        ensures entries { self.new.entries ≡ self.old.entries }
+    {
+        self.entries.group(stripes);
+    }
+
+    /// The first place whose row lies in the stripe.
+    pub(crate) fn first_of(&self, stripes: u32, stripe: u32) -> usize
+        requires { stripe < stripes }
+        ensures { IsNextOf stripes stripe (rows_of self.now.entries.list) 0 result }
+    {
+        self.entries.first_of(stripes, stripe)
+    }
+
+    /// The next place after one whose row lies in the same stripe.
+    pub(crate) fn next_of(&self, stripes: u32, i: usize) -> usize
+        requires stripes { 0 < stripes }
+        requires there { i < length self.now.entries.list }
+        ensures { let stripe = stripe_of stripes (entry_at self.now.entries.list i).row in
+            IsNextOf stripes stripe (rows_of self.now.entries.list) (i + 1) result }
+    {
+        self.entries.next_of(stripes, i)
     }
 
     /// Each row is above all before it: what the type keeps.

@@ -1,5 +1,5 @@
-ghost use Rattle.std.specs.Prelude.{◌≡◌, ◌<◌, ◌≤◌, ◌*◌, ◌+◌, ◌^◌, ◌↔◌, [], ◌∷◌, length, IfOk, IsTrue, Contains, pos, ◌+ℤ◌, unsigned_abs, slice_index_or, slice_set};
-ghost use Rattle.std.specs.Prelude.{ℕ};
+ghost use Rattle.std.specs.Prelude.{◌≡◌, ◌<◌, ◌≤◌, ◌*◌, ◌+◌, ◌^◌, ◌↔◌, [], ◌∷◌, length, IfOk, IsTrue, Contains};
+ghost use Rattle.std.specs.Prelude.{ℕ, pos, ◌+ℤ◌, unsigned_abs, slice_index_or, slice_set};
 ghost use Rattle.def_history.specs.History.{IsLegal, place_of, replay, stripe_of};
 ghost use Rattle.def_history.specs.Packets.{IsPacketOf, place_count};
 ghost use Rattle.xg_rowcore.specs.Stripes.{AreTotals, HasGrown, with_job};
@@ -143,23 +143,24 @@ fn add_rows<N: RowName>(
         → unsigned_abs (slice_index_or totals.old.items place (pos 0)) ≤ 2 ^ 98 }
     ensures { HasGrown packet.now.entries.list index stripes totals.old.items totals.new.items }
 {
-    for i in 0..packet.len() {
+    let mut i = packet.first_of(stripes, index);
+    while i < packet.len() {
         let (row, amount) = packet.entry(i);
-        add_entry(totals, index, stripes, row, amount);
+        add_entry(totals, stripes, row, amount);
+        i = packet.next_of(stripes, i);
     }
 }
 
-// Adds one row's amount, if the row lies in the stripe.
-fn add_entry(totals: &mut Vec<i128>, index: u32, stripes: u32, row: u32, amount: i128)
-    requires index { index < stripes }
-    requires there { stripe_of stripes row ≡ index → place_of stripes row < length totals.old.items }
-    requires small { stripe_of stripes row ≡ index
-        → unsigned_abs (slice_index_or totals.old.items (place_of stripes row) (pos 0)) + unsigned_abs amount < 2 ^ 127 }
-    ensures { HasGrown (record { row = row; amount = amount } ∷ []) index stripes totals.old.items totals.new.items }
+// Adds the amount of one row of the stripe.
+fn add_entry(totals: &mut Vec<i128>, stripes: u32, row: u32, amount: i128)
+    requires stripes { 0 < stripes }
+    requires there { place_of stripes row < length totals.old.items }
+    requires small { unsigned_abs (slice_index_or totals.old.items (place_of stripes row) (pos 0)) + unsigned_abs amount
+        < 2 ^ 127 }
+    ensures { HasGrown (record { row = row; amount = amount } ∷ []) (stripe_of stripes row) stripes totals.old.items
+        totals.new.items }
 {
-    if row % stripes == index {
-        add_at(totals, (row / stripes) as usize, amount);
-    }
+    add_at(totals, (row / stripes) as usize, amount);
 }
 
 // Adds to one total.

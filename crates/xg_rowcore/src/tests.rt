@@ -55,6 +55,23 @@ fn jobs_come_in_any_order(rt: HostRuntime) -> Result<(), Fail> {
     Ok(())
 }
 
+#[test]
+fn grouped_packets_add_the_same(rt: HostRuntime) -> Result<(), Fail> {
+    let alloc = rt.alloc();
+    let mut packet = Packet::new(alloc, 2)?;
+    let mut even = Stripe::<TwoJobs>::new(alloc, 0, 2, 3, 2)?;
+    let mut odd = Stripe::<TwoJobs>::new(alloc, 1, 2, 3, 2)?;
+    fill(&mut packet, 1);
+    packet.group(2);
+    assert!(rt; packet.job == 1 && packet.len() == 2 && packet.entry(1) == (2, 4));
+    even.add(&packet);
+    // stripes of another number are still found
+    packet.group(3);
+    odd.add(&packet);
+    assert!(rt; even.total(0) == 0 && even.total(1) == 4 && odd.total(0) == 2);
+    Ok(())
+}
+
 fn crosses_threads<T: Send + Sync>() {}
 
 #[test]

@@ -4,6 +4,7 @@ use mir.Syntax.{w128}
 use Rattle.def_history.specs.Packets.{AreRising}
 use Rattle.xg_rowcore.specs.Packets.{Listed, IsAboveLast, entries_from}
 use Rattle.xg_rowcore.proofs.Rising.{length-entries_from, entries_from-push, rising_push}
+use Rattle.xg_rowcore.proofs.Chaining.{no_chains}
 use Rattle.xg_rowcore.proofs.entries.Entries.push.Goals as goal
 
 pub push_reserved-requires : goal.push_reserved-requires
@@ -37,6 +38,7 @@ invariant_of-self c =
       omega (arith, c.push_reserved.ensures.capacity, c.self.invariant.2),
       omega (arith, c.push_reserved-2.ensures.capacity, c.self.invariant.3),
       omega (arith, more, is, same, room, c.requires.room),
+      no_chains _ _ _ _ c.self.invariant.5.first_count c.self.invariant.5.next_count,
     )
 
 pub returns : goal.returns

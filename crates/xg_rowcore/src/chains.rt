@@ -1,0 +1,74 @@
+ghost use Rattle.std.specs.Prelude.{◌≡◌, ◌<◌, ◌≤◌, ℕ, [], length, slice_index, IfOk};
+ghost use Rattle.xg_rowcore.specs.Chains.{AreChains, IsNextOf, KeepsChains};
+
+use std::alloc::{AllocError, Global};
+
+const MOST_STRIPES: usize = 64;
+
+/// For each stripe a chain through the places of its rows, for rows that stand elsewhere.
+#[derive(Drop)]
+pub(crate) struct Chains {
+    /// How many stripes there are, or 0 where the chains are of no rows.
+    pub(crate) stripes: u32,
+    /// For each stripe the place of its first row.
+    pub(crate) first: Vec<usize>,
+    /// After each place the next of the same stripe.
+    pub(crate) next: Vec<usize>,
+}
+
+impl Chains {
+    /// No chains, and memory for those through so many rows.
+    pub(crate) fn new(alloc: Global, room: usize) -> Result<Chains, AllocError>
+        ensures { IfOk result (λ c. KeepsChains [] room c.stripes c.first.items c.next.items) }
+    {
+        let first = vec![in alloc; 0usize; MOST_STRIPES]?;
+        let next = vec![in alloc; 0usize; room]?;
+        Ok(Chains {
+            stripes: 0,
+            first,
+            next,
+        })
+    }
+
+    /// Links the places of these rows.
+    pub(crate) fn link(&mut self, rows: &[u32], stripes: u32)
+        requires stripes { (1 ≤ stripes) × (stripes ≤ length self.old.first.items) }
+        requires room { length rows.now ≤ length self.old.next.items }
+        ensures linked { AreChains 0 stripes rows.now self.new.first.items self.new.next.items }
+        ensures stripes { self.new.stripes ≡ stripes }
+        ensures first { length self.new.first.items ≡ length self.old.first.items }
+        ensures next { length self.new.next.items ≡ length self.old.next.items }
+    {
+        self.stripes = stripes;
+        self.first.fill(rows.len());
+        link_places(rows, stripes, &mut self.first, &mut self.next);
+    }
+}
+
+// Goes from the last row to the first, where each stripe's chain begins at the number of rows.
+fn link_places(rows: &[u32], stripes: u32, first: &mut [usize], next: &mut [usize])
+    requires stripes { (1 ≤ stripes) × (stripes ≤ length first.old) }
+    requires room { length rows.now ≤ length next.old }
+    requires none { (stripe : ℕ) → stripe < stripes → slice_index first.old stripe ≡ length rows.now }
+    ensures { AreChains 0 stripes rows.now first.new next.new }
+{
+    for i in (0..rows.len()).rev() {
+        let stripe = (rows[i] % stripes) as usize;
+        next[i] = first[stripe];
+        first[stripe] = i;
+    }
+}
+
+/// The first place from one on whose row lies in the stripe, or the number of rows.
+pub(crate) fn seek(rows: &[u32], stripes: u32, stripe: u32, from: usize) -> usize
+    requires stripe { stripe < stripes }
+    requires from { from ≤ length rows.now }
+    ensures { IsNextOf stripes stripe rows.now from result }
+{
+    for i in from..rows.len() {
+        if rows[i] % stripes == stripe {
+            return i;
+        }
+    }
+    rows.len()
+}
