@@ -19,4 +19,6 @@ pub use verdict::{CheckFault, Verdict};
 pub use xg_frac::Ratio;
 
 #[cfg(test)]
+mod larger_tests;
+#[cfg(test)]
 mod tests;

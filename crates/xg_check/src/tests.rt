@@ -73,19 +73,24 @@ bracket 3/4 1
 end
 "#;
 
-fn checked(rt: &impl Abort, alloc: Global, game: &str, text: &str) -> Result<Verdict, CheckFault> {
+pub(crate) fn checked(
+    rt: &impl Abort,
+    alloc: Global,
+    game: &str,
+    text: &str,
+) -> Result<Verdict, CheckFault> {
     assert!(rt; game.len() <= MOST_BYTES);
     assert!(rt; text.len() <= MOST_CERT_BYTES);
     check(alloc, game.as_bytes(), text.as_bytes())
 }
 
 // The text, or the file, where a part is replaced where it stands first.
-fn changed(alloc: Global, text: &str, part: &str, by: &str) -> Result<String, Fail> {
+pub(crate) fn changed(alloc: Global, text: &str, part: &str, by: &str) -> Result<String, Fail> {
     let (before, after) = text.split_once(part).ok_or("no such part")?;
     Ok(format!(in alloc; "{before}{by}{after}")?)
 }
 
-fn bounds(low: Ratio, high: Ratio) -> Result<Verdict, CheckFault> {
+pub(crate) fn bounds(low: Ratio, high: Ratio) -> Result<Verdict, CheckFault> {
     Ok(Verdict::Bounds { low, high })
 }
 
