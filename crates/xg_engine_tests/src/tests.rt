@@ -10,6 +10,7 @@ use std::test::Fail;
 use std::thread::Threads;
 use xg_cert::TraceRow;
 use xg_engine::{Engine, Settings};
+use xg_gen::one_card_poker;
 use xg_jobs::PlainRows;
 use xg_read::{MOST_BYTES, read_game};
 
@@ -263,6 +264,16 @@ fn rounds_of_pennies(rt: HostRuntime) -> Result<(), Fail> {
 #[test]
 fn rounds_of_a_hidden_game(rt: HostRuntime) -> Result<(), Fail> {
     play_all(&rt, rt.alloc(), TWICE_HIDDEN, ROUNDS_OF_TWICE_HIDDEN)
+}
+
+#[test]
+fn poker_has_no_fault(rt: HostRuntime) -> Result<(), Fail> {
+    let alloc = rt.alloc();
+    for cards in 2..65 {
+        let engine = Engine::open(alloc, &one_card_poker(alloc, cards)?)?;
+        assert_eq!(rt; engine.form().leaf_count(), 5 * cards * (cards - 1), "of {cards} cards");
+    }
+    Ok(())
 }
 
 fn crosses_threads<T: Send + Sync>() {}
