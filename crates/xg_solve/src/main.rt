@@ -10,6 +10,8 @@ mod certificate;
 mod check;
 mod check_lines;
 mod ending;
+#[cfg(test)]
+mod gates;
 mod load;
 mod made;
 #[cfg(test)]
@@ -21,6 +23,8 @@ mod run;
 #[cfg(test)]
 mod tests;
 mod text;
+#[cfg(test)]
+mod worker_tests;
 
 pub use run::run;
 use std::io::ErrorKind;

@@ -72,7 +72,7 @@ bracket 1/2 1
 end
 "#;
 
-const ONE_MOVER_TWO_ROUNDS: &str = r#"XGCERT 1
+pub(crate) const ONE_MOVER_TWO_ROUNDS: &str = r#"XGCERT 1
 nodes 3 leaves 2
 sets 1 0
 sequences 3 1
