@@ -271,7 +271,11 @@ fn poker_has_no_fault(rt: HostRuntime) -> Result<(), Fail> {
     let alloc = rt.alloc();
     for cards in 2..65 {
         let engine = Engine::open(alloc, &one_card_poker(alloc, cards)?)?;
-        assert_eq!(rt; engine.form().leaf_count(), 5 * cards * (cards - 1), "of {cards} cards");
+        assert_eq!(rt;
+            engine.form().leaf_count(),
+            5 * cards * (cards - 1),
+            "of {cards} cards"
+        );
     }
     Ok(())
 }
