@@ -10,7 +10,8 @@ use Rattle.def_reply.specs.Bounds.{IsFloor, IsCeiling}
 use Rattle.def_cert_verdict.specs.Certificate.{PrintedBounds, printed_numbers}
 use Rattle.def_cert_verdict.specs.Verdict.{WeighedGame}
 use Rattle.def_cert_verdict.specs.Laws.{ShowsItsBounds}
-use Rattle.def_program.specs.Bounds.{ConcedesHigh, GapIsExploitability, GetsLow, NoPlanDoesBetter, RepliesAttain}
+use Rattle.def_program.specs.Bounds.{BoundsHold, ConcedesHigh, GapIsExploitability, GetsLow, NoPlanDoesBetter}
+use Rattle.def_program.specs.Bounds.{RepliesAttain, TraceNarrows}
 
 -- x / d is best / (unit * own); over the unit and both roots
 over_both : (x best : ℤ) (d other unit own root : ℕ) → x *ℤ pos (unit * own) ≡ best *ℤ pos d
@@ -63,13 +64,13 @@ module _ (game : WeighedGame) (b : PrintedBounds) (h : ShowsItsBounds game b) wh
   abbrev two : List ℕ
   two = printed_numbers b.plan_two
 
-  pub lower : GetsLow game b
+  lower : GetsLow game b
   lower = record { is_plan = h.plan_one; gets = h.gets }
 
-  pub upper : ConcedesHigh game b
+  upper : ConcedesHigh game b
   upper = record { is_plan = h.plan_two; concedes = h.concedes }
 
-  pub attained : RepliesAttain game b
+  attained : RepliesAttain game b
   attained = record {
     floor = h.floor;
     floor_attained = h.floor_attained;
@@ -80,7 +81,7 @@ module _ (game : WeighedGame) (b : PrintedBounds) (h : ShowsItsBounds game b) wh
   }
 
   -- the bounds are apart by the exploitability of both plans
-  pub gap : GapIsExploitability game b
+  gap : GapIsExploitability game b
   gap = record {
     gap = (pos b.plan_one.root *ℤ b.reply_one.total) -ℤ (pos b.plan_two.root *ℤ b.reply_two.total);
     exploitability = record {
@@ -139,5 +140,16 @@ module _ (game : WeighedGame) (b : PrintedBounds) (h : ShowsItsBounds game b) wh
       (subst (λ (z : ℤ). z ≤ℤ ((pos own *ℤ ceiling) *ℤ pos b.low.den)) (sym (by_root b.low.num root own)) sure))
 
   -- no plan is sure of more than the other player's bound
-  pub no_better : NoPlanDoesBetter game b
+  no_better : NoPlanDoesBetter game b
   no_better = record { floors = floors_below; ceilings = ceilings_above }
+
+  -- all of it holds, where no trace line is wider than an earlier one
+  pub bounds_hold : TraceNarrows game b → BoundsHold game b
+  bounds_hold narrows = record {
+    lower = lower;
+    upper = upper;
+    attained = attained;
+    trace = narrows;
+    gap = gap;
+    value = no_better;
+  }

@@ -28,9 +28,10 @@ use Rattle.def_text.specs.Lines.{fault_line}
 use Rattle.def_text.specs.CheckLines.{cert_long_line, verdict_text}
 use Rattle.def_program.specs.Program.{Answer, check_answer, refusal}
 use Rattle.def_program.specs.Meaning.{CheckMeans, IsMeant, Means, file_too_long, file_within, too_long, within}
-use Rattle.def_program.specs.Checked.{AreChecked, BoundsHold, ForEachChecked, HoldsOfFile}
+use Rattle.def_program.specs.Bounds.{BoundsHold}
+use Rattle.def_program.specs.Checked.{AreChecked, ForEachChecked, HoldsOfFile}
 use Rattle.def_program.specs.Laws.{AcceptedCertificatesHold}
-use Rattle.def_program.proofs.Bounds.{attained, gap, lower, no_better, upper}
+use Rattle.def_program.proofs.Bounds.{bounds_hold}
 
 -- ---- the trace
 
@@ -94,18 +95,11 @@ module _ (file bytes : List ℕ) (game : GameFile) (c : Certificate) (read : Are
       let two = sets_in_order file game stands Two refl in
       let all = (shown numbers head b b.low b.high one two (some_unit file game stands) is).2 in (
         ((exact.with_bracket numbers head b b.low b.high).0 is).0,
-        record {
-          lower = lower numbers b all;
-          upper = upper numbers b all;
-          attained = attained numbers b all;
-          trace = record {
-            within_earlier = within_earlier head b.trace fits.below.trace all.trace;
-            last_low = sym all.traced_low;
-            last_high = sym all.traced_high;
-          };
-          gap = gap numbers b all;
-          value = no_better numbers b all;
-        },
+        bounds_hold numbers b all (record {
+          within_earlier = within_earlier head b.trace fits.below.trace all.trace;
+          last_low = sym all.traced_low;
+          last_high = sym all.traced_high;
+        }),
       )
 
 -- what an accepted certificate prints holds

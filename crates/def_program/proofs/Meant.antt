@@ -42,7 +42,7 @@ module _ (text : GameFile → List ℕ) where
   file_computed bytes answer (refused fault is same) = ap (game_answer text) ((first_refused bytes fault).1 is) ∙ sym same
 
   -- what is computed of a file is meant
-  file_meant : (bytes : List ℕ) (r : Result GameFile FileFault) → read_as_accepted bytes ≡ r
+  pub file_meant : (bytes : List ℕ) (r : Result GameFile FileFault) → read_as_accepted bytes ≡ r
       → FileMeans text bytes (game_answer text r)
   file_meant bytes (Ok game) is = written game ((accepted_whole_file bytes game).0 is) refl
   file_meant bytes (Err fault) is = refused fault ((first_refused bytes fault).0 is) refl

@@ -6,6 +6,7 @@ use Rattle.def_outside.specs.Calls.{SinkCall, Wrote}
 use Rattle.def_tree.specs.declared.Kind.TheVariants.{One, Two}
 use Rattle.def_tree.specs.Tree.{leaf_count, prefix}
 use Rattle.def_file.specs.Content.{GameFile}
+use Rattle.def_file.specs.declared.FileFault.{FileFault}
 use Rattle.def_fraction.specs.Fraction.{fraction_of}
 use Rattle.def_game_paths.specs.Paths.{leaf_visits}
 use Rattle.def_game_scale.specs.Scale.{all_expected, expected, weights}
@@ -25,20 +26,24 @@ use Rattle.def_cert_accepted.proofs.Accepted.{accepted as run_accepted}
 use Rattle.def_cert_accepted.proofs.OfRun.{bounds_of_run, certificate_with, same_head}
 use Rattle.def_cert_text.specs.CertText.{cert_text}
 use Rattle.def_command.specs.Grammar.{Check, Command, Drill, Gen, Info, Settings, Solve, command_of_words}
+use Rattle.def_command.specs.Table.{least_cards, most_cards}
 use Rattle.def_command.proofs.InRange.{cards_in_range, settings_in_range}
 use Rattle.def_canon.specs.Canon.{canon}
 use Rattle.def_poker.specs.Poker.{poker}
 use Rattle.def_file_form.specs.Laws.{StandsFor}
 use Rattle.def_text.specs.Text.{form_of_file, game_head, solve_text}
-use Rattle.def_program.specs.Program.{Answer, solved, success}
+use Rattle.def_text.specs.Lines.{fault_line}
+use Rattle.def_program.specs.Program.{Answer, file_answer, game_answer, refusal, solved, success}
 use Rattle.def_file_accepted.specs.Accepted.{IsAccepted}
+use Rattle.def_file_accepted.specs.Accepting.{read_as_accepted, unless_faulty}
 use Rattle.def_program.specs.Meaning.{FileMeans, IsMeant, Means, written}
 use Rattle.def_file_accepted.specs.Weighed.{weighed_game}
 use Rattle.def_file_accepted.proofs.InNumbers.{some_unit, sets_in_order}
-use Rattle.def_program.specs.Bounds.{ForEachPlayed, HasItsBounds, IsPlayed, TraceNarrows, WroteBounds}
+use Rattle.def_program.specs.Bounds.{BoundsHold, ForEachPlayed, HasItsBounds, IsPlayed, TraceNarrows, WroteBounds}
 use Rattle.def_program.specs.Laws.{PlayedGamesHaveTheirBounds}
-use Rattle.def_program.proofs.Bounds.{attained, gap, lower, no_better, upper}
-use Rattle.def_program.proofs.Made.{made_accepted}
+use Rattle.def_program.proofs.Bounds.{bounds_hold}
+use Rattle.def_program.proofs.Made.{made_accepted, made_is}
+use Rattle.def_program.proofs.Meant.{file_meant}
 
 -- a form has a leaf for each of its game's
 pub leaves_are : (game : GameFile) → length (form_of_file game).leaves ≡ leaf_count (prefix game.tree)
@@ -103,12 +108,7 @@ module _ (bytes : List ℕ) (game : GameFile) (stands : StandsFor bytes game) wh
       bounds = bounds;
       are = ap (λ (c : Certificate). c.bounds) certificate_is;
       text = ap cert_text certificate_is;
-      lower = lower numbers bounds shows;
-      upper = upper numbers bounds shows;
-      attained = attained numbers bounds shows;
-      trace = trace;
-      gap = gap numbers bounds shows;
-      value = no_better numbers bounds shows;
+      hold = bounds_hold numbers bounds shows trace;
     }
 
   -- what is printed of a game that a file stands for holds
@@ -126,8 +126,7 @@ played_games_have_bounds bytes game settings is some_round some_scale =
 -- ---- where the text that is meant was written
 module _ (words : List (List ℕ)) (told : List ℕ → Option (List ℕ)) (out : SinkCall)
     (Holds : WeighedGame → PrintedBounds → Type 0)
-    (holds : (game : GameFile) (settings : Settings) (it : HasItsBounds game settings)
-    → Holds (weighed_game game) it.bounds) where
+    (holds : (game : WeighedGame) (b : PrintedBounds) → BoundsHold game b → Holds game b) where
   abbrev IsWritten : Answer → Type 0
   IsWritten answer = (answer.status ≡ 0) × Wrote out answer.text
 
@@ -136,7 +135,7 @@ module _ (words : List (List ℕ)) (told : List ℕ → Option (List ℕ)) (out 
   wrote_bounds game settings it wrote =
       subst (λ (o : Option PrintedBounds). IsSomeAnd o
       (λ b. Wrote out (cert_text (with_bounds (game_head game settings) b)) × Holds (weighed_game game) b))
-      (sym it.are) (subst (Wrote out) it.text wrote, holds game settings it)
+      (sym it.are) (subst (Wrote out) it.text wrote, holds (weighed_game game) it.bounds it.hold)
 
   by_content : (content : Option (List ℕ)) (game : GameFile) (settings : Settings) → 1 ≤ settings.rounds
       → 1 ≤ settings.scale → ((answer : Answer) → IsSomeAnd content (λ bytes. FileMeans (solved settings) bytes answer)
@@ -146,6 +145,20 @@ module _ (words : List (List ℕ)) (told : List ℕ → Option (List ℕ)) (out 
   by_content (Some bytes) game settings some_round some_scale whole is =
       wrote_bounds game settings (played_games_have_bounds bytes game settings is some_round some_scale)
       (whole (success (solve_text game settings)) (written game is refl)).1
+
+  -- a game that was made and solved has no fault, since its line would be meant
+  faultless : (cards : ℕ) → least_cards ≤ cards → cards ≤ most_cards → (asked : Settings)
+      → ((answer : Answer) → FileMeans (solved asked) (canon (poker cards)) answer → IsWritten answer)
+      → (o : Option FileFault) → game_file_fault (poker cards) ≡ o → game_file_fault (poker cards) ≡ None
+  faultless cards some few asked whole None is = is
+  faultless cards some few asked whole (Some fault) is =
+      let answer : Answer = file_answer (solved asked) (canon (poker cards)) in
+      let refused : answer ≡ refusal (fault_line fault) =
+      made_is cards some few (solved asked)
+      ∙ ap (λ (o : Option FileFault). game_answer (solved asked) (unless_faulty o (poker cards))) is in
+      let written = whole answer
+      (file_meant (solved asked) (canon (poker cards)) (read_as_accepted (canon (poker cards))) refl) in
+      absurd (omega (arith, written.0, ap (λ (a : Answer). a.status) refused))
 
   by_command : (command : Option Command) → command_of_words words ≡ command
       → ((answer : Answer) → IsMeant command told answer → IsWritten answer)
@@ -161,12 +174,13 @@ module _ (words : List (List ℕ)) (told : List ℕ → Option (List ℕ)) (out 
   by_command (Some (Info file)) is whole game settings plays some_round = absurd plays
   by_command (Some (Gen cards)) is whole game settings plays some_round = absurd plays
   by_command (Some (Drill cards asked workers)) is whole game settings plays some_round =
-      let same : settings ≡ asked = plays.2 in
+      let same : settings ≡ asked = plays.1 in
       let range = cards_in_range.of_drill words cards asked workers is in
       let in_range = settings_in_range.of_drill words cards asked workers is in
+      let none : game_file_fault (poker cards) ≡ None =
+      faultless cards range.some range.few asked whole (game_file_fault (poker cards)) refl in
       let accepted : IsAccepted (canon (poker cards)) game =
-      subst (IsAccepted (canon (poker cards))) (sym plays.0) (made_accepted cards range.some range.few
-      (subst (λ (g : GameFile). game_file_fault g ≡ None) plays.0 plays.1)) in
+      subst (IsAccepted (canon (poker cards))) (sym plays.0) (made_accepted cards range.some range.few none) in
       subst (λ (s : Settings). WroteBounds Holds out game s) (sym same)
       (by_content (Some (canon (poker cards))) game asked (subst (λ (s : Settings). 1 ≤ s.rounds) same some_round)
       in_range.some_scale whole accepted)

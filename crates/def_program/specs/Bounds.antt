@@ -5,6 +5,7 @@
 --     TraceNarrows               no trace line is wider than an earlier one, and the last one has both bounds
 --     GapIsExploitability        the bounds are apart by the total exploitability of both plans
 --     NoPlanDoesBetter           no plan is sure of more than the other player's bound
+--     BoundsHold                 all of this
 --     ForEachPlayed              what holds of the bounds that were written of the games that words play
 use Rattle.std.specs.Prelude.{◌≡◌, ℕ, ◌*◌, ◌<◌, ◌≤◌, List, length, slice_index_or, ℤ, pos, ◌-ℤ◌, ◌*ℤ◌, ◌≤ℤ◌, Option, Some, None, IsSomeAnd}
 use Rattle.def_outside.specs.Calls.{SinkCall, Wrote}
@@ -22,7 +23,6 @@ use Rattle.def_cert_accepted.specs.OfOutcome.{certificate_of}
 use Rattle.def_cert_text.specs.CertText.{cert_text}
 use Rattle.def_command.specs.Grammar.{Check, Command, Drill, Gen, Info, Settings, Solve, command_of_words}
 use Rattle.def_text.specs.Text.{form_of_file, game_head, game_outcome, solve_text}
-use Rattle.def_game_numbers.specs.Numbers.{game_file_fault}
 use Rattle.def_poker.specs.Poker.{poker}
 use Rattle.def_file_accepted.specs.Accepted.{IsAccepted}
 use Rattle.def_file_accepted.specs.Weighed.{weighed_game}
@@ -80,30 +80,32 @@ pub record NoPlanDoesBetter (game : WeighedGame) (b : PrintedBounds) : Type 0 wh
   pub ceilings : (root : ℕ) (plan : List ℕ) (ceiling : ℤ) → IsPlan game.form.sets_two root plan
       → IsCeiling game.form plan ceiling → (b.low.num *ℤ pos (game.unit * root)) ≤ℤ (ceiling *ℤ pos b.low.den)
 
--- all of it holds of the bounds that are printed of a game
+-- all of it holds of printed bounds
+pub record BoundsHold (game : WeighedGame) (b : PrintedBounds) : Type 0 where
+  pub lower : GetsLow game b
+  pub upper : ConcedesHigh game b
+  pub attained : RepliesAttain game b
+  pub trace : TraceNarrows game b
+  pub gap : GapIsExploitability game b
+  pub value : NoPlanDoesBetter game b
+
+-- so it does of the bounds that are printed of a game
 pub record HasItsBounds (game : GameFile) (settings : Settings) : Type 0 where
   pub bounds : PrintedBounds
   pub are : game_bounds game settings ≡ Some bounds
   pub text : solve_text game settings ≡ cert_text (with_bounds (game_head game settings) bounds)
-  pub lower : GetsLow (weighed_game game) bounds
-  pub upper : ConcedesHigh (weighed_game game) bounds
-  pub attained : RepliesAttain (weighed_game game) bounds
-  pub trace : TraceNarrows (weighed_game game) bounds
-  pub gap : GapIsExploitability (weighed_game game) bounds
-  pub value : NoPlanDoesBetter (weighed_game game) bounds
+  pub hold : BoundsHold (weighed_game game) bounds
 
 -- ---- the games that words play
 
--- the command plays this game with these settings: `solve` that of an accepted file, `drill` one-card poker where it has
--- no fault
+-- the command plays this game with these settings: `solve` that of an accepted file, `drill` one-card poker
 abbrev pub CommandPlays : Command → (List ℕ → Option (List ℕ)) → GameFile → Settings → Type 0
 CommandPlays (Solve file asked workers) told game settings =
     IsSomeAnd (told file) (λ bytes. IsAccepted bytes game) × (settings ≡ asked)
 CommandPlays (Check file certificate) told game settings = ⊥
 CommandPlays (Info file) told game settings = ⊥
 CommandPlays (Gen cards) told game settings = ⊥
-CommandPlays (Drill cards asked workers) told game settings =
-    (game ≡ poker cards) × (game_file_fault game ≡ None) × (settings ≡ asked)
+CommandPlays (Drill cards asked workers) told game settings = (game ≡ poker cards) × (settings ≡ asked)
 
 abbrev pub IsPlayed : Option Command → (List ℕ → Option (List ℕ)) → GameFile → Settings → Type 0
 IsPlayed None told game settings = ⊥

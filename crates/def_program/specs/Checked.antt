@@ -1,6 +1,5 @@
 -- What a check that accepts a certificate shows, whoever wrote it: the bounds that the certificate prints hold of the
 -- file's game, as those of a game that was played do.
---     BoundsHold         all that holds of printed bounds
 --     HoldsOfFile        what holds of the bounds that the bytes of a certificate print, of the game of a file
 --     ForEachChecked     so it is for the certificate that words check, and its verdict was written
 use Rattle.std.specs.Prelude.{◌≡◌, ℕ, List, Option, Some, None, IfSome}
@@ -13,18 +12,8 @@ use Rattle.def_check.specs.Checking.{AreRead}
 use Rattle.def_file_accepted.specs.Weighed.{weighed_game}
 use Rattle.def_command.specs.Grammar.{Check, Command, Drill, Gen, Info, Solve, command_of_words}
 use Rattle.def_text.specs.CheckLines.{verdict_text}
-use Rattle.def_program.specs.Bounds.{ConcedesHigh, GapIsExploitability, GetsLow, NoPlanDoesBetter, RepliesAttain}
-use Rattle.def_program.specs.Bounds.{TraceNarrows}
 
 -- ---- what holds of an accepted certificate
-
-pub record BoundsHold (game : WeighedGame) (b : PrintedBounds) : Type 0 where
-  pub lower : GetsLow game b
-  pub upper : ConcedesHigh game b
-  pub attained : RepliesAttain game b
-  pub trace : TraceNarrows game b
-  pub gap : GapIsExploitability game b
-  pub value : NoPlanDoesBetter game b
 
 -- The file is accepted, and the bytes are the text of a certificate whose head is that of the file's game. Its verdict has
 -- its bounds, or says that there are none, and this is so of that verdict; of the bounds this holds in the file's game.

@@ -8,8 +8,8 @@ use Rattle.def_command.specs.Grammar.{Settings}
 use Rattle.def_file_accepted.specs.Accepted.{IsAccepted}
 use Rattle.def_program.specs.Program.{Answer, program}
 use Rattle.def_program.specs.Meaning.{Means, MeansOnly, FilesAreTold}
-use Rattle.def_program.specs.Bounds.{HasItsBounds}
-use Rattle.def_program.specs.Checked.{BoundsHold, HoldsOfFile}
+use Rattle.def_program.specs.Bounds.{BoundsHold, HasItsBounds}
+use Rattle.def_program.specs.Checked.{HoldsOfFile}
 
 abbrev pub MeaningIsComputed : Type 0
 MeaningIsComputed = (words : List (List ℕ)) (told : List ℕ → Option (List ℕ)) (answer : Answer)

@@ -1,4 +1,4 @@
--- What `solve` writes is accepted.
+-- What `solve` and `drill` write is accepted.
 use Rattle.std.proofs.Common.{◌≡◌, ℕ, zero, suc, ◌<◌, ◌≤◌, Bool, cond, List, length, Option, Some, Result, Ok, Err}
 use Rattle.std.proofs.Common.{refl, sym, ap, ◌∙◌, subst, arith}
 use Rattle.std.specs.Option.{option_and_then, option_map}
@@ -26,17 +26,20 @@ use Rattle.def_sequence_form.proofs.Sets.{form_numbers_as_the_tree}
 use Rattle.def_check.specs.Check.{Refusal, checked, most_cert_bytes}
 use Rattle.def_check.specs.Checking.{passed}
 use Rattle.def_check.proofs.Checked.{checks_are}
-use Rattle.def_command.specs.Grammar.{Command, Settings}
+use Rattle.def_command.specs.Grammar.{Check, Command, Settings, command_of_words}
 use Rattle.def_command.specs.GrammarLaws.{InRange}
-use Rattle.def_command.proofs.InRange.{settings_in_range}
+use Rattle.def_command.proofs.InRange.{cards_in_range, settings_in_range}
+use Rattle.def_canon.specs.Canon.{canon}
+use Rattle.def_poker.specs.Poker.{poker}
 use Rattle.def_text.specs.Lines.{fault_line}
 use Rattle.def_text.specs.CheckLines.{cert_long_line, verdict_text}
 use Rattle.def_text.specs.Text.{form_of_file, game_head, game_outcome, solve_text}
 use Rattle.def_program.specs.Program.{Answer, answer_of, certificate_answer, check_answer, check_told, file_answer}
-use Rattle.def_program.specs.Program.{game_answer, program, refusal, solved, success}
+use Rattle.def_program.specs.Program.{game_answer, made_answer, program, refusal, solved, success}
+use Rattle.def_program.proofs.Made.{made_is}
 use Rattle.def_program.proofs.Played.{head_of_game, played_games_have_bounds}
-use Rattle.def_solve_check.specs.Laws.{IsAcceptedWithBounds, SolvedTextsAreAccepted, SolvedTextsAreShort}
-use Rattle.def_solve_check.specs.Laws.{WhatSolveWritesCheckAccepts}
+use Rattle.def_solve_check.specs.Laws.{IsAcceptedWithBounds, IsTaken, SolvedTextsAreAccepted, SolvedTextsAreShort}
+use Rattle.def_solve_check.specs.Laws.{WhatDrillWritesCheckAccepts, WhatSolveWritesCheckAccepts}
 use Rattle.def_solve_check.proofs.Heads.{game_tree, head_fits}
 use Rattle.def_solve_check.proofs.Short.{accepted_short}
 
@@ -142,23 +145,47 @@ said_of bytes text shown short few is =
     (le-ltb most_cert_bytes (length text) (omega (arith, few)))
     ∙ ap (λ (r : Result Verdict Refusal). Some (check_answer r)) is
 
+-- words of `check` that name files which tell a game and what is written of it
+module _ (others : List (List ℕ)) (after : List ℕ → Option (List ℕ)) (game_path text_path bytes text : List ℕ)
+    (settings : Settings) (workers : ℕ) (range : InRange settings workers)
+    (check : command_of_words others ≡ Some (Check game_path text_path)) (game_there : after game_path ≡ Some bytes)
+    (text_there : after text_path ≡ Some text) where
+  taken : file_answer (solved settings) bytes ≡ success text → IsTaken others after
+  taken wrote =
+      let found = was_solved bytes text settings (read_as_accepted bytes) refl wrote in
+      let seen = shown_of bytes found.game settings workers found.is range settings.rounds refl in
+      let few = solved_short bytes found.game settings workers found.is range in
+      record {
+        shown = seen.shown;
+        said = ap (λ (c : Option Command). answer_of c after) check
+            ∙ ap (λ (o : Option (List ℕ)). option_and_then (λ file. check_told file (after text_path)) o) game_there
+            ∙ ap (check_told bytes) text_there
+            ∙ said_of bytes text seen.shown found.is.readable.length_within
+            (subst (λ (t : List ℕ). length t < most_cert_bytes) found.text_is few)
+            (subst (λ (t : List ℕ). checked bytes t ≡ Ok seen.shown) found.text_is seen.is);
+      }
+
 -- what `solve` wrote, `check` accepts
 pub check_accepts : WhatSolveWritesCheckAccepts
 check_accepts words others told after path game_path text_path bytes text settings workers solve holds wrote check game_there text_there =
     let answered : Some (file_answer (solved settings) bytes) ≡ program words told =
     ap (option_map (file_answer (solved settings))) (sym holds)
     ∙ ap (λ (c : Option Command). answer_of c told) (sym solve) in
-    let found = was_solved bytes text settings (read_as_accepted bytes) refl
-    (some_same (file_answer (solved settings) bytes) (success text) (answered ∙ wrote)) in
-    let range = settings_in_range.of_solve words path settings workers solve in
-    let seen = shown_of bytes found.game settings workers found.is range settings.rounds refl in
-    let few = solved_short bytes found.game settings workers found.is range in
-    record {
-      shown = seen.shown;
-      said = ap (λ (c : Option Command). answer_of c after) check
-          ∙ ap (λ (o : Option (List ℕ)). option_and_then (λ file. check_told file (after text_path)) o) game_there
-          ∙ ap (check_told bytes) text_there
-          ∙ said_of bytes text seen.shown found.is.readable.length_within
-          (subst (λ (t : List ℕ). length t < most_cert_bytes) found.text_is few)
-          (subst (λ (t : List ℕ). checked bytes t ≡ Ok seen.shown) found.text_is seen.is);
-    }
+    taken others after game_path text_path bytes text settings workers
+    (settings_in_range.of_solve words path settings workers solve) check game_there text_there
+    (some_same (file_answer (solved settings) bytes) (success text) (answered ∙ wrote))
+
+-- what `drill` wrote, `check` accepts against what `gen` wrote
+pub drill_accepts : WhatDrillWritesCheckAccepts
+drill_accepts words makers others told before after game_path text_path bytes text cards settings workers drill wrote gen made check game_there text_there =
+    let cards_are = cards_in_range.of_drill words cards settings workers drill in
+    let file_is : canon (poker cards) ≡ bytes =
+    ap (λ (a : Answer). a.text) (some_same (success (canon (poker cards))) (success bytes)
+    (ap (λ (c : Option Command). answer_of c before) (sym gen) ∙ made)) in
+    let answered : Some (made_answer (solved settings) (poker cards)) ≡ program words told =
+    ap (λ (c : Option Command). answer_of c told) (sym drill) in
+    taken others after game_path text_path bytes text settings workers
+    (settings_in_range.of_drill words cards settings workers drill) check game_there text_there
+    (ap (file_answer (solved settings)) (sym file_is)
+    ∙ made_is cards cards_are.some cards_are.few (solved settings)
+    ∙ some_same (made_answer (solved settings) (poker cards)) (success text) (answered ∙ wrote))

@@ -1,4 +1,4 @@
--- What `solve` writes of an accepted file's game is accepted by `check`. Each law is the contract of a function of this
+-- What `solve` and `drill` write is accepted by `check`. Each law is the contract of a function of this
 -- crate.
 use Rattle.std.specs.Prelude.{◌≡◌, ℕ, ◌<◌, ◌≤◌, List, length, Option, Some, Ok}
 use Rattle.def_file.specs.Content.{GameFile}
@@ -9,7 +9,7 @@ use Rattle.def_cert_verdict.specs.Laws.{with_bounds}
 use Rattle.def_cert_text.specs.CertText.{cert_text}
 use Rattle.def_file_accepted.specs.Accepted.{IsAccepted}
 use Rattle.def_check.specs.Check.{checked, most_cert_bytes}
-use Rattle.def_command.specs.Grammar.{Check, Settings, Solve, command_of_words}
+use Rattle.def_command.specs.Grammar.{Check, Drill, Gen, Settings, Solve, command_of_words}
 use Rattle.def_command.specs.GrammarLaws.{InRange}
 use Rattle.def_text.specs.Text.{game_head, solve_text}
 use Rattle.def_text.specs.CheckLines.{verdict_text}
@@ -50,5 +50,14 @@ WhatSolveWritesCheckAccepts = (words others : List (List ℕ)) (told after : Lis
     (path game_path text_path bytes text : List ℕ) (settings : Settings) (workers : ℕ)
     → command_of_words words ≡ Some (Solve path settings workers) → told path ≡ Some bytes
     → program words told ≡ Some (success text)
+    → command_of_words others ≡ Some (Check game_path text_path) → after game_path ≡ Some bytes
+    → after text_path ≡ Some text → IsTaken others after
+
+-- so it is of the text that `drill` wrote and the file that `gen` wrote for as many cards
+abbrev pub WhatDrillWritesCheckAccepts : Type 0
+WhatDrillWritesCheckAccepts = (words makers others : List (List ℕ)) (told before after : List ℕ → Option (List ℕ))
+    (game_path text_path bytes text : List ℕ) (cards : ℕ) (settings : Settings) (workers : ℕ)
+    → command_of_words words ≡ Some (Drill cards settings workers) → program words told ≡ Some (success text)
+    → command_of_words makers ≡ Some (Gen cards) → program makers before ≡ Some (success bytes)
     → command_of_words others ≡ Some (Check game_path text_path) → after game_path ≡ Some bytes
     → after text_path ≡ Some text → IsTaken others after

@@ -1,9 +1,9 @@
-//! What `solve` writes of an accepted file's game is accepted by `check`. There is no code here: the functions'
-//! contracts are laws of the definitions, which stand in `specs/`.
+//! What `solve` writes of an accepted file's game is accepted by `check`, and so is what `drill` writes. There is no code
+//! here: the functions' contracts are laws of the definitions, which stand in `specs/`.
 #![tactic(auto)]
 
 ghost use Rattle.def_solve_check.specs.Laws.{AcceptedTextsAreShort, SolvedTextsAreAccepted, SolvedTextsAreShort};
-ghost use Rattle.def_solve_check.specs.Laws.{WhatSolveWritesCheckAccepts};
+ghost use Rattle.def_solve_check.specs.Laws.{WhatDrillWritesCheckAccepts, WhatSolveWritesCheckAccepts};
 
 /// The text of `solve` of an accepted file is accepted against that file: with its bounds, and without a round with its
 /// head alone.
@@ -24,4 +24,10 @@ pub fn solved_texts_are_short()
 /// Where `solve` writes a text, `check` of the same file and that text ends with status 0 and says what it shows.
 pub fn what_solve_writes_check_accepts()
     ensures { WhatSolveWritesCheckAccepts }
+{}
+
+/// Where `drill` writes a text, `check` of what `gen` writes for as many cards and that text ends with status 0 and says
+/// what it shows.
+pub fn what_drill_writes_check_accepts()
+    ensures { WhatDrillWritesCheckAccepts }
 {}

@@ -107,17 +107,17 @@ module _ (f c : List ℕ) (short_f : length f ≤ most_bytes) (short_c : length 
 -- ---- how it ends
 
 line_fits : (file certificate : List ℕ) (taken : ℕ) (why : Refusal) → checked file certificate ≡ Err why → (line : List ℕ)
-    → line ≡ refusal_line why → IsLine taken 1 line
+    → line ≡ refusal_line why → IsLine (Unit {0}) taken 1 line
 line_fits file certificate taken (of_file fault) is line same =
     lines.of_file fault refl same
     (λ long. absurd (checked_any_length file certificate (is ∙ ap (λ x. Err (of_file x)) long)))
-line_fits file certificate taken (of_certificate fault) is line same = lines.of_certificate fault refl same
-line_fits file certificate taken (of_tests fault) is line same = lines.of_tests fault refl same
+line_fits file certificate taken (of_certificate fault) is line same = lines.of_certificate tt fault refl same
+line_fits file certificate taken (of_tests fault) is line same = lines.of_tests tt fault refl same
 
 module _ (meant : Answer → Type 0) (files : FilesCall) (out : SinkCall) (f c : List ℕ)
     (only : MeansOnly meant (check_answer (checked f c))) (read : HasNoFault files.faults) where
   -- both were read, and the bytes were checked
-  pub bytes_checked : (ending : Ending) → EndsCheck f c out ending → Concludes meant files out ending
+  pub bytes_checked : (ending : Ending) → EndsCheck f c out ending → Concludes (Unit {0}) meant files out ending
   bytes_checked Done is = record {
     text = verdict_text is.shown;
     means = λ answer means. only answer means ∙ ap check_answer is.is_shown;
@@ -146,7 +146,7 @@ module _ (meant : Answer → Type 0) (files : FilesCall) (out : SinkCall) (f c :
 pub both_checked : (file certificate : Option (List ℕ)) (files : FilesCall) (out : SinkCall) (it : Both) (f c : List ℕ)
     → f ≡ it.file.items → c ≡ it.certificate.items → ReadsBoth file certificate (Ok it) → AreWithin it
     → BothHaveCause files.faults.before files.faults.now (Ok it) → (ending : Ending) → EndsCheck f c out ending
-    → Concludes (CheckTold file certificate) files out ending
+    → Concludes (Unit {0}) (CheckTold file certificate) files out ending
 both_checked file certificate files out it f c same_f same_c reads within cause ending ends =
     bytes_checked (CheckTold file certificate) files out it.file.items it.certificate.items
     (only_checked it.file.items it.certificate.items within.file within.certificate file certificate reads.0 reads.1) cause
@@ -183,7 +183,7 @@ module _ (file certificate : Option (List ℕ)) (files : FilesCall) (out : SinkC
   pub not_both : (why : BothFault) (ending : Ending) → EndsUnread why ending → ReadsBoth file certificate (Err why)
       → (why ≡ both.FileTooLong → most_bytes < files.taken)
       → (why ≡ both.CertificateTooLong → most_cert_bytes < files.taken)
-      → BothHaveCause files.faults.before files.faults.now (Err why) → Concludes meant files out ending
+      → BothHaveCause files.faults.before files.faults.now (Err why) → Concludes (Unit {0}) meant files out ending
   not_both both.FileTooLong (Refused line) is told taken other cause = record {
     means = λ answer means. long_file told answer means ∙ ap refusal (sym is);
     fits = lines.of_file TooLong refl is (λ _. taken refl);
@@ -192,7 +192,7 @@ module _ (file certificate : Option (List ℕ)) (files : FilesCall) (out : SinkC
   }
   not_both both.CertificateTooLong (Refused line) is told other taken cause = record {
     means = λ answer means. long_certificate told.0 told.1 answer means ∙ ap refusal (sym is);
-    fits = lines.of_long_certificate refl is (taken refl);
+    fits = lines.of_long_certificate tt refl is (taken refl);
     read = cause;
     untouched = untouched;
   }
@@ -207,6 +207,6 @@ module _ (file certificate : Option (List ℕ)) (files : FilesCall) (out : SinkC
   not_both both.CertificateTooLong ReadFault is told taken other cause = absurd is
   not_both both.CertificateTooLong WriteFault is told taken other cause = absurd is
   not_both both.ReadFault ending is told taken other cause =
-      subst (λ (e : Ending). Concludes meant files out e) (sym is) (record { cause = cause; untouched = untouched })
+      subst (λ (e : Ending). Concludes (Unit {0}) meant files out e) (sym is) (record { cause = cause; untouched = untouched })
   not_both both.NoMemory ending is told taken other cause =
-      subst (λ (e : Ending). Concludes meant files out e) (sym is) untouched
+      subst (λ (e : Ending). Concludes (Unit {0}) meant files out e) (sym is) untouched

@@ -12,7 +12,7 @@ use Rattle.xg_solve.specs.Endings.{status_of, line_of}
 use Rattle.xg_solve.specs.Concludes.{Concludes, IsDone, IsRefused, IsUsage, IsUnread, IsCut}
 
 -- the promises of the status, and of the line that goes with it
-pub record Shows (meant : Answer → Type 0) (files : FilesCall) (out : SinkCall)
+pub record Shows (checks : Type 0) (meant : Answer → Type 0) (files : FilesCall) (out : SinkCall)
     (status : ℕ) (line : List ℕ) : Type 0 where
   pub refused : status ≡ 1 → EachMeant meant (λ answer. answer.status ≡ 1)
   pub complete : (MayHaveFailed files.faults → ⊥) → EachMeant meant (λ answer.
@@ -24,7 +24,7 @@ pub record Shows (meant : Answer → Type 0) (files : FilesCall) (out : SinkCall
   pub whole : status ≡ 0 → EachMeant meant (λ answer. (answer.status ≡ 0) × Wrote out answer.text)
   pub front : status ≡ 4 → EachMeant meant (λ answer. (answer.status ≡ 0) × WroteFront out answer.text)
   pub nothing : status ≢ 0 → status ≢ 4 → WroteNothing out
-  pub fits : status ≢ 0 → IsLine files.taken status line
+  pub fits : status ≢ 0 → IsLine checks files.taken status line
   pub answered : status ≡ 1 → EachMeant meant (λ answer. answer.line ≡ line)
 
 -- the status answers what is meant, unless the sink failed on its text
@@ -35,12 +35,12 @@ Answered out status answer = (answer.status ≡ 0 → MayHaveFailed out.faults �
 kept : (before now : ℕ) (P : Type 0) → now ≡ before → before < now → P
 kept before now P same h = absurd (omega arith)
 
-module _ (meant : Answer → Type 0) (files : FilesCall) (out : SinkCall) where
+module _ (checks : Type 0) (meant : Answer → Type 0) (files : FilesCall) (out : SinkCall) where
   -- each answer that is meant is this one
   by_answer : (answer : Answer) → MeansOnly meant answer → (P : Answer → Type 0) → P answer → EachMeant meant P
   by_answer answer only P holds other means = subst P (sym (only other means)) holds
 
-  done : IsDone meant files out → Shows meant files out 0 []
+  done : IsDone meant files out → Shows checks meant files out 0 []
   done is = record {
     refused = λ e. absurd cc;
     complete = λ _. by_answer (success is.text) is.means (Answered out 0) (λ _. inl refl);
@@ -55,7 +55,7 @@ module _ (meant : Answer → Type 0) (files : FilesCall) (out : SinkCall) where
     answered = λ e. absurd cc;
   }
 
-  said : (line : List ℕ) → IsRefused meant files out line → Shows meant files out 1 line
+  said : (line : List ℕ) → IsRefused checks meant files out line → Shows checks meant files out 1 line
   said line is = record {
     refused = λ _. by_answer (refusal line) is.means (λ a. a.status ≡ 1) refl;
     complete = λ _. by_answer (refusal line) is.means (Answered out 1) (λ _. inl refl);
@@ -70,7 +70,7 @@ module _ (meant : Answer → Type 0) (files : FilesCall) (out : SinkCall) where
     answered = λ _. by_answer (refusal line) is.means (λ a. a.line ≡ line) refl;
   }
 
-  unknown : IsUsage meant files out → Shows meant files out 2 usage_line
+  unknown : IsUsage meant files out → Shows checks meant files out 2 usage_line
   unknown is = record {
     refused = λ e. absurd cc;
     complete = λ _. by_answer usage is.means (Answered out 2) (λ _. inl refl);
@@ -85,7 +85,7 @@ module _ (meant : Answer → Type 0) (files : FilesCall) (out : SinkCall) where
     answered = λ e. absurd cc;
   }
 
-  unread : IsUnread files out → Shows meant files out 3 read_line
+  unread : IsUnread files out → Shows checks meant files out 3 read_line
   unread is = record {
     refused = λ e. absurd cc;
     complete = λ sound. absurd (sound is.cause);
@@ -100,7 +100,7 @@ module _ (meant : Answer → Type 0) (files : FilesCall) (out : SinkCall) where
     answered = λ e. absurd cc;
   }
 
-  cut : IsCut meant files out → Shows meant files out 4 write_line
+  cut : IsCut meant files out → Shows checks meant files out 4 write_line
   cut is = record {
     refused = λ e. absurd cc;
     complete = λ _. by_answer (success is.text) is.means (Answered out 4) (λ sound. absurd (sound refl is.cause));
@@ -115,7 +115,7 @@ module _ (meant : Answer → Type 0) (files : FilesCall) (out : SinkCall) where
     answered = λ e. absurd cc;
   }
 
-  without_memory : IsUntouched out → Shows meant files out 5 memory_line
+  without_memory : IsUntouched out → Shows checks meant files out 5 memory_line
   without_memory untouched = record {
     refused = λ e. absurd cc;
     complete = λ _ answer _ _. inr refl;
@@ -131,8 +131,8 @@ module _ (meant : Answer → Type 0) (files : FilesCall) (out : SinkCall) where
   }
 
   -- what an ending shows
-  shown : (ending : Ending) → Concludes meant files out ending
-      → Shows meant files out (status_of ending) (line_of ending)
+  shown : (ending : Ending) → Concludes checks meant files out ending
+      → Shows checks meant files out (status_of ending) (line_of ending)
   shown Done is = done is
   shown (Refused line) is = said (string_bytes line) is
   shown Usage is = unknown is
@@ -141,10 +141,10 @@ module _ (meant : Answer → Type 0) (files : FilesCall) (out : SinkCall) where
   shown NoMemory is = without_memory is
 
   -- the same of a number that is its status
-  pub status_shown : (ending : Ending) → Concludes meant files out ending → (status : ℕ) → status ≡ status_of ending
-      → Shows meant files out status (line_of ending)
+  pub status_shown : (ending : Ending) → Concludes checks meant files out ending → (status : ℕ) → status ≡ status_of ending
+      → Shows checks meant files out status (line_of ending)
   status_shown ending is status same =
-      subst (λ (n : ℕ). Shows meant files out n (line_of ending)) (sym same) (shown ending is)
+      subst (λ (n : ℕ). Shows checks meant files out n (line_of ending)) (sym same) (shown ending is)
 
 -- the status of an ending is one of 0 to 5
 pub status_range : (ending : Ending) (status : ℕ) → status ≡ status_of ending → status ≤ 5

@@ -20,7 +20,7 @@ use Rattle.xg_solve.specs.Concludes.{Concludes, EndsMade, Tells}
 module _ (meant : Answer → Type 0) (files : FilesCall) (out : SinkCall) (read : HasNoFault files.faults) where
   -- the text that is meant was written or cut off
   pub text_told : (text : List ℕ) → MeansOnly meant (success text) → (ending : Ending) → Tells text out ending
-      → Concludes meant files out ending
+      → Concludes ⊥ meant files out ending
   text_told text only Done tells =
       record { text = text; means = only; read = read; written = tells.0; wrote = tells.1 }
   text_told text only WriteFault tells =
@@ -47,7 +47,7 @@ module _ (meant : Answer → Type 0) (text : GameFile → List ℕ) (game : Game
       computed answer means ∙ ap (λ (o : Option FileFault). game_answer text (unless_faulty o game)) none
 
   -- it was played, or refused
-  pub made_ended : (ending : Ending) → EndsMade text game out ending → Concludes meant files out ending
+  pub made_ended : (ending : Ending) → EndsMade text game out ending → Concludes ⊥ meant files out ending
   made_ended Done is = text_told meant files out read (text game) (played is.faultless) Done is.tells
   made_ended WriteFault is = text_told meant files out read (text game) (played is.faultless) WriteFault is.tells
   made_ended (Refused line) is = record {

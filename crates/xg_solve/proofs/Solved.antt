@@ -48,7 +48,7 @@ module _ (text : GameFile → List ℕ) (content : Option (List ℕ)) where
     cut_off cause front = record { text = bytes; means = means_text; read = read; cause = cause; front = front }
 
     -- the same by the end of a run on the game
-    pub ended : (ending : Ending) → Tells bytes out ending → Concludes (FileTold text content) files out ending
+    pub ended : (ending : Ending) → Tells bytes out ending → Concludes ⊥ (FileTold text content) files out ending
     ended Done tells = done tells.0 tells.1
     ended WriteFault tells = cut_off tells.0 tells.1
     ended NoMemory untouched = untouched
@@ -59,7 +59,7 @@ module _ (text : GameFile → List ℕ) (content : Option (List ℕ)) where
   module _ (files : FilesCall) (out : SinkCall) (untouched : IsUntouched out) where
     refused : (fault : FileFault) (ending : Ending) → IsRefusal fault ending
         → Loads content (Err (faults.Refused fault)) → (fault ≡ TooLong → most_bytes < files.taken)
-        → HasNoFault files.faults → Concludes (FileTold text content) files out ending
+        → HasNoFault files.faults → Concludes ⊥ (FileTold text content) files out ending
     refused fault (Refused line) is loaded counted read = record {
       means = λ answer means. loaded_means (Err fault) loaded answer means ∙ ap refusal (sym is);
       fits = of_file fault refl is counted;
@@ -76,14 +76,14 @@ module _ (text : GameFile → List ℕ) (content : Option (List ℕ)) where
     pub turned_down : (why : LoadFault) (ending : Ending) → IsUnloaded why ending → Loads content (Err why)
         → (why ≡ faults.Refused TooLong → most_bytes < files.taken)
         → LoadHasCause {T = GameFile} files.faults.before files.faults.now (Err why)
-        → Concludes (FileTold text content) files out ending
+        → Concludes ⊥ (FileTold text content) files out ending
     turned_down (faults.Refused fault) ending is loaded counted cause =
         refused fault ending is loaded (λ e. counted (ap faults.Refused e)) cause
     turned_down faults.ReadFault ending is loaded counted cause =
-        subst (λ (e : Ending). Concludes (FileTold text content) files out e) (sym is)
+        subst (λ (e : Ending). Concludes ⊥ (FileTold text content) files out e) (sym is)
         (record { cause = cause; untouched = untouched })
     turned_down faults.NoMemory ending is loaded counted cause =
-        subst (λ (e : Ending). Concludes (FileTold text content) files out e) (sym is) untouched
+        subst (λ (e : Ending). Concludes ⊥ (FileTold text content) files out e) (sym is) untouched
 
 -- a text was written, or a front of it
 pub tells : {T E : Type 0} (out : SinkCall) (text bytes : List ℕ) → bytes ≡ text → (r : Result T E) (ending : Ending)

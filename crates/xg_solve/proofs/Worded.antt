@@ -2,12 +2,14 @@
 use Rattle.std.proofs.Common.{◌≡◌, ℕ, List, Option, subst}
 use Rattle.def_outside.specs.Calls.{FilesCall, SinkCall}
 use Rattle.def_command.specs.Grammar.{Command, command_of_words}
+use Rattle.def_program.specs.Lines.{IsCheck}
 use Rattle.def_program.specs.Meaning.{IsMeant, Means}
 use Rattle.xg_solve.specs.declared.ending.Ending.{Ending}
 use Rattle.xg_solve.specs.Concludes.{Concludes}
 
 module _ (words : List (List ℕ)) (told : List ℕ → Option (List ℕ)) (files : FilesCall) (out : SinkCall) where
   pub by_command : (command : Option Command) → command ≡ command_of_words words → (ending : Ending)
-      → Concludes (IsMeant command told) files out ending → Concludes (Means words told) files out ending
+      → Concludes (IsCheck command) (IsMeant command told) files out ending
+      → Concludes (IsCheck (command_of_words words)) (Means words told) files out ending
   by_command command same ending is =
-      subst (λ (c : Option Command). Concludes (IsMeant c told) files out ending) same is
+      subst (λ (c : Option Command). Concludes (IsCheck c) (IsMeant c told) files out ending) same is

@@ -1,5 +1,5 @@
--- What holds of a command that ends so, whatever the command is. `meant` says which answers are meant by what the files
--- tell.
+-- What holds of a command that ends so, whatever the command is. `checks` says whether it checks a certificate, `meant`
+-- which answers are meant by what the files tell.
 use Rattle.std.specs.Prelude.{◌≡◌, List, ℕ, Option, Some, None, IsSomeAnd, string_bytes}
 use Rattle.def_outside.specs.Calls.{FilesCall, SinkCall, MayHaveFailed, HasNoFault, Wrote, WroteFront, IsUntouched}
 use Rattle.def_file.specs.declared.FileFault.{FileFault}
@@ -21,9 +21,10 @@ pub record IsDone (meant : Answer → Type 0) (files : FilesCall) (out : SinkCal
   pub wrote : Wrote out text
 
 -- the line that is meant says why nothing was written
-pub record IsRefused (meant : Answer → Type 0) (files : FilesCall) (out : SinkCall) (line : List ℕ) : Type 0 where
+pub record IsRefused (checks : Type 0) (meant : Answer → Type 0) (files : FilesCall) (out : SinkCall) (line : List ℕ)
+    : Type 0 where
   pub means : MeansOnly meant (refusal line)
-  pub fits : IsLine files.taken 1 line
+  pub fits : IsLine checks files.taken 1 line
   pub read : HasNoFault files.faults
   pub untouched : IsUntouched out
 
@@ -46,13 +47,13 @@ pub record IsCut (meant : Answer → Type 0) (files : FilesCall) (out : SinkCall
   pub cause : MayHaveFailed out.faults
   pub front : WroteFront out text
 
-abbrev pub Concludes : (Answer → Type 0) → FilesCall → SinkCall → Ending → Type 0
-Concludes meant files out Done = IsDone meant files out
-Concludes meant files out (Refused line) = IsRefused meant files out (string_bytes line)
-Concludes meant files out Usage = IsUsage meant files out
-Concludes meant files out ReadFault = IsUnread files out
-Concludes meant files out WriteFault = IsCut meant files out
-Concludes meant files out NoMemory = IsUntouched out
+abbrev pub Concludes : Type 0 → (Answer → Type 0) → FilesCall → SinkCall → Ending → Type 0
+Concludes checks meant files out Done = IsDone meant files out
+Concludes checks meant files out (Refused line) = IsRefused checks meant files out (string_bytes line)
+Concludes checks meant files out Usage = IsUsage meant files out
+Concludes checks meant files out ReadFault = IsUnread files out
+Concludes checks meant files out WriteFault = IsCut meant files out
+Concludes checks meant files out NoMemory = IsUntouched out
 
 -- what a command that writes this text means of a file's content, where that is told
 abbrev pub FileTold : (GameFile → List ℕ) → Option (List ℕ) → Answer → Type 0

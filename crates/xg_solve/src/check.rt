@@ -34,7 +34,7 @@ pub fn check<F: Files, O: Sink>(
 ) -> Ending
     requires file { IsTrue (F.may_open files.old file.now) }
     requires certificate { IsTrue (F.may_open files.old certificate.now) }
-    ensures concludes { Concludes (CheckTold (F.told files.old file.now) (F.told files.old certificate.now))
+    ensures concludes { Concludes (Unit {0}) (CheckTold (F.told files.old file.now) (F.told files.old certificate.now))
         (files_call F.told F.taken F.faults files.old files.new) (sink_call O.written O.faults out.old out.new) result }
     ensures command { status_of result ≢ 2 }
 {

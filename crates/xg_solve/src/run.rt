@@ -11,7 +11,7 @@ ghost use Rattle.xg_solve.specs.Settings.{settings_of};
 ghost use Rattle.def_program.specs.Bounds.{ConcedesHigh, ForEachPlayed, GapIsExploitability, GetsLow};
 ghost use Rattle.def_program.specs.Bounds.{NoPlanDoesBetter, RepliesAttain, TraceNarrows};
 ghost use Rattle.def_program.specs.Checked.{ForEachChecked};
-ghost use Rattle.def_program.specs.Lines.{SaysLine};
+ghost use Rattle.def_program.specs.Lines.{IsCheck, SaysLine};
 ghost use Rattle.def_program.specs.Meaning.{EachMeant, EndsWith, Means};
 ghost use Rattle.xg_solve.specs.Concludes.{Concludes, FileTold, Tells};
 ghost use Rattle.xg_solve.specs.Endings.{status_of};
@@ -59,7 +59,7 @@ fn solve<Rt: Threads + Wait + Sync, F: Files, O: Sink, G: Gate>(
 ) -> Ending
     requires may_open { IsTrue (F.may_open files.old file.now) }
     requires limits { AreWithinLimits settings }
-    ensures concludes { Concludes (FileTold (solved (settings_of settings)) (F.told files.old file.now))
+    ensures concludes { Concludes ⊥ (FileTold (solved (settings_of settings)) (F.told files.old file.now))
         (files_call F.told F.taken F.faults files.old files.new) (sink_call O.written O.faults out.old out.new) result }
     ensures command { status_of result ≢ 2 }
 {
@@ -72,7 +72,7 @@ fn solve<Rt: Threads + Wait + Sync, F: Files, O: Sink, G: Gate>(
 /// Tells of the game of a file.
 fn info<F: Files, O: Sink>(alloc: Global, file: &str, files: &mut F, out: &mut O) -> Ending
     requires { IsTrue (F.may_open files.old file.now) }
-    ensures concludes { Concludes (FileTold info_text (F.told files.old file.now))
+    ensures concludes { Concludes ⊥ (FileTold info_text (F.told files.old file.now))
         (files_call F.told F.taken F.faults files.old files.new) (sink_call O.written O.faults out.old out.new) result }
     ensures command { status_of result ≢ 2 }
 {
@@ -147,7 +147,7 @@ fn conclude<Rt: Threads + Wait + Sync, F: Files, O: Sink, G: Gate>(
     gate: &G,
 ) -> Ending
     requires { All (λ file. IsTrue (F.may_open files.old file)) (named_files words.now) }
-    ensures concludes { Concludes (Means words.now (F.told files.old))
+    ensures concludes { Concludes (IsCheck (command_of_words words.now)) (Means words.now (F.told files.old))
         (files_call F.told F.taken F.faults files.old files.new) (sink_call O.written O.faults out.old out.new) result }
     ensures usage { (status_of result ≡ 2) ↔ IsNone (command_of_words words.now) }
 {
@@ -261,8 +261,8 @@ pub fn run<Rt: Threads + Wait + Sync, F: Files, O: Sink, E: Sink, G: Gate>(
     ensures checked_value { result ≡ 0 → ForEachChecked words.now (F.told files.old)
         (sink_call O.written O.faults out.old out.new) NoPlanDoesBetter }
 
-    // What was said: the line of the status, and at 0 none.
-    ensures line { result ≢ 0 → SaysLine (Means words.now (F.told files.old)) result (F.taken files.new)
+    // What was said: the line of the status, a certificate's fault by `check` alone, and at 0 none.
+    ensures line { result ≢ 0 → SaysLine words.now (F.told files.old) result (F.taken files.new)
         (sink_call E.written E.faults err.old err.new) }
     ensures silent { result ≡ 0 → err.new ≡ err.old }
 {

@@ -166,9 +166,10 @@ fn workers_are_all_there_at_once(rt: HostRuntime) -> Result<(), Fail> {
     Ok(())
 }
 
+// `bench/delays.py` runs this one over and over.
 #[test]
 fn texts_of_delayed_workers(rt: HostRuntime) -> Result<(), Fail> {
-    for words in [SOLVE, DRILL] {
+    for words in [SOLVE, DRILL, "drill 4 --rounds 1"] {
         let alone = written(&rt, words, ALONE, TWO_JOBS, &OpenGate)?;
         for workers in [
             BY_TWO,

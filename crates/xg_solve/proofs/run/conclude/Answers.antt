@@ -92,7 +92,7 @@ returns-in-Some-Solve-clause-concludes g c =
     by_command c.args.words.now told files out
     (Some (grammar.Solve arm.file.now (settings_value arm.settings) arm.workers))
     (sym (sym arm.ensures ∙ ap (λ (command : Command). Some (command_value command)) arm.field-0-is)) c.solve.result
-    (subst (λ (s : grammar.Settings). Concludes (FileTold (solved s) (told arm.file.now)) files out c.solve.result)
+    (subst (λ (s : grammar.Settings). Concludes ⊥ (FileTold (solved s) (told arm.file.now)) files out c.solve.result)
     c.asked.ensures c.solve.ensures.concludes)
 
 pub returns-in-Some-Info-clause-concludes : goal.returns-in-Some-Info-clause-concludes

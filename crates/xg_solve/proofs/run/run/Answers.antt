@@ -2,6 +2,8 @@ use Rattle.std.proofs.Common.{ℕ, List, Option, sym, ◌∙◌}
 use Rattle.def_outside.specs.Calls.{FilesCall, SinkCall, files_call, sink_call}
 use Rattle.def_program.specs.Program.{Answer}
 use Rattle.def_program.specs.Bounds.{ConcedesHigh, GapIsExploitability, GetsLow, NoPlanDoesBetter, RepliesAttain, TraceNarrows}
+use Rattle.def_command.specs.Grammar.{command_of_words}
+use Rattle.def_program.specs.Lines.{IsCheck}
 use Rattle.def_program.specs.Meaning.{Means}
 use Rattle.def_program.proofs.Checked.{each_checked}
 use Rattle.def_program.proofs.Played.{each_played}
@@ -20,8 +22,8 @@ returns g c =
     let ending = c.conclude-ending.result in
     let usage = c.conclude-ending.ensures.usage in
     let status = c.finish.ensures.status in
-    let shows : Shows meant files out c.finish.result (line_of ending) =
-    status_shown meant files out ending c.conclude-ending.ensures.concludes c.finish.result status in
+    let shows : Shows (IsCheck (command_of_words words)) meant files out c.finish.result (line_of ending) =
+    status_shown (IsCheck (command_of_words words)) meant files out ending c.conclude-ending.ensures.concludes c.finish.result status in
     record {
       range = status_range ending c.finish.result status;
       words = (λ is. usage.0 (sym status ∙ is), λ none. status ∙ usage.1 none);
@@ -34,12 +36,12 @@ returns g c =
       whole = shows.whole;
       front = shows.front;
       nothing = shows.nothing;
-      lower = λ is. each_played words told out GetsLow (λ game settings it. it.lower) (shows.whole is);
-      upper = λ is. each_played words told out ConcedesHigh (λ game settings it. it.upper) (shows.whole is);
-      attained = λ is. each_played words told out RepliesAttain (λ game settings it. it.attained) (shows.whole is);
-      trace = λ is. each_played words told out TraceNarrows (λ game settings it. it.trace) (shows.whole is);
-      gap = λ is. each_played words told out GapIsExploitability (λ game settings it. it.gap) (shows.whole is);
-      value = λ is. each_played words told out NoPlanDoesBetter (λ game settings it. it.value) (shows.whole is);
+      lower = λ is. each_played words told out GetsLow (λ game b it. it.lower) (shows.whole is);
+      upper = λ is. each_played words told out ConcedesHigh (λ game b it. it.upper) (shows.whole is);
+      attained = λ is. each_played words told out RepliesAttain (λ game b it. it.attained) (shows.whole is);
+      trace = λ is. each_played words told out TraceNarrows (λ game b it. it.trace) (shows.whole is);
+      gap = λ is. each_played words told out GapIsExploitability (λ game b it. it.gap) (shows.whole is);
+      value = λ is. each_played words told out NoPlanDoesBetter (λ game b it. it.value) (shows.whole is);
       checked_lower = λ is. each_checked words told out GetsLow (λ game b it. it.lower) (shows.whole is);
       checked_upper = λ is. each_checked words told out ConcedesHigh (λ game b it. it.upper) (shows.whole is);
       checked_attained = λ is. each_checked words told out RepliesAttain (λ game b it. it.attained) (shows.whole is);
