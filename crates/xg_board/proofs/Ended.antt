@@ -9,7 +9,7 @@ use Rattle.def_history.specs.History.{IsLegal, IsComplete, stripe_of, sum_over_j
 use Rattle.def_history.proofs.Counts.{Contains_from_times}
 use Rattle.def_history.proofs.Ends.{replays_to_plain_sum}
 use Rattle.xg_rights.specs.declared.view.View.{View}
-use Rattle.xg_rights.specs.Rights.{jobs_of, once, rights_for, stripes_of, Told}
+use Rattle.xg_rights.specs.Rights.{jobs_of, once, rights_for, stripes_of, IsLoaded}
 use Rattle.xg_locked.proofs.Takes.{once_at_most}
 use Rattle.xg_board.specs.Closing.{Gathered}
 
@@ -32,10 +32,10 @@ once_is number j s a b = grind (arith, nat_tests)
 pub ended : (jobs rows stripes number : ℕ) (amount : ℕ → ℕ → ℤ) (bag : List ℕ) (now : View) (sums : List ℤ) (bag_tickets made pass_tickets : ℕ)
     → jobs_of number ≡ jobs → stripes_of number ≡ stripes → 0 < stripes
     → (0 < length bag → bag_tickets ≡ 0) → now.tickets ≡ bag_tickets + (64 - made) + pass_tickets → pass_tickets < made → made ≤ 64
-    → now.parts ≡ 1 + (65 - made) + made + stripes → now.number ≡ number → Told number now
+    → now.parts ≡ 1 + (65 - made) + made + stripes → now.number ≡ number → IsLoaded number now
     → Gathered jobs rows stripes amount (rights_for bag stripes ++ []) now.rights sums
     → (row : ℕ) → row < rows → slice_index_or sums row (pos 0) ≡ sum_over_jobs amount jobs row
-ended jobs rows stripes number amount bag now sums bag_tickets made pass_tickets jobs_is stripes_is some rule tickets one_left few parts number_is told G row below =
+ended jobs rows stripes number amount bag now sums bag_tickets made pass_tickets jobs_is stripes_is some rule tickets one_left few parts number_is loaded G row below =
     G.sums_are row below ∙ replays_to_plain_sum jobs (G.orders (stripe_of stripes row)) legal complete amount row
   where
     all_parts : now.parts ≡ stripes_of number + 66
@@ -43,7 +43,7 @@ ended jobs rows stripes number amount bag now sums bag_tickets made pass_tickets
 
     no_job : (items : List ℕ) → (0 < length items → bag_tickets ≡ 0) → items ≡ []
     no_job [] r = refl
-    no_job (x ∷ xs) r = absurd (let a = told.all_tickets all_parts in let b = r (omega arith) in omega arith)
+    no_job (x ∷ xs) r = absurd (let a = loaded.all_tickets all_parts in let b = r (omega arith) in omega arith)
 
     empty : bag ≡ []
     empty = no_job bag rule
@@ -52,7 +52,7 @@ ended jobs rows stripes number amount bag now sums bag_tickets made pass_tickets
     counts j s =
         let a = G.rights j s in
         let b : times_right j s (rights_for bag stripes ++ []) ≡ 0 = ap (λ items. times_right j s (rights_for items stripes ++ [])) empty in
-        let c = told.all_rights all_parts j s in
+        let c = loaded.all_rights all_parts j s in
         omega arith
 
     is_stripe : stripe_of stripes row < stripes

@@ -33,9 +33,9 @@ Answers (Err (TotalDiffers end)) checked = checked ≡ Err (of_tests (test.Total
 Answers (Err (TraceWidens line)) checked = checked ≡ Err (of_tests (test.TraceWidens line))
 Answers (Err NoMemory) checked = ⊤
 
--- a test's fault is told so
-abbrev pub IsToldAs : TestFault → CheckFault → Type 0
-IsToldAs test fault =
+-- the check's fault is that of a test
+abbrev pub IsThatFault : TestFault → CheckFault → Type 0
+IsThatFault test fault =
     (checked : Result shown.Verdict Refusal) → checked ≡ Err (of_tests test) → Answers (Err fault) checked
 
 -- the head alone is answered exactly where the certificate that the bytes say has no round

@@ -17,7 +17,7 @@ use crate::ends::fault_of_reply;
 use crate::heads::head_fault;
 use crate::lines::{last_row, trace_fault};
 use crate::plans::plan_fault;
-use crate::verdict::{CheckFault, Verdict, told};
+use crate::verdict::{CheckFault, Verdict, as_check_fault};
 use def_cert_verdict::TestFault;
 use def_tree::Player;
 use std::alloc::{AllocError, Global};
@@ -153,7 +153,7 @@ pub(crate) fn judge(alloc: Global, numbers: &Numbers, cert: &Cert) -> Result<Ver
     let _one = numbers.form().sequence_count(Player::One);
     let _two = numbers.form().sequence_count(Player::Two);
     match first_fault(alloc, numbers, cert) {
-        Ok(Some(fault)) => Err(told(fault)),
+        Ok(Some(fault)) => Err(as_check_fault(fault)),
         Ok(None) => Ok(shown_by(cert)),
         Err(_) => Err(CheckFault::NoMemory),
     }

@@ -1,5 +1,5 @@
 //! What checking answers.
-ghost use Rattle.xg_check.specs.Answers.{IsToldAs};
+ghost use Rattle.xg_check.specs.Answers.{IsThatFault};
 
 use def_cert_text::CertFault;
 use def_cert_verdict::{TestFault, Which};
@@ -55,8 +55,8 @@ pub enum CheckFault {
 }
 
 // The test's fault as one of the check.
-pub(crate) fn told(test: TestFault) -> CheckFault
-    ensures { IsToldAs test result }
+pub(crate) fn as_check_fault(test: TestFault) -> CheckFault
+    ensures { IsThatFault test result }
 {
     match test {
         TestFault::HeadDiffers { line } => CheckFault::HeadDiffers { line },

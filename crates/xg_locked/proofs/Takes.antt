@@ -10,7 +10,7 @@ use Rattle.def_history.specs.Core.{Right, rights_of, times_right, TakesJob, Give
 use Rattle.def_history.proofs.Counts.{one_if, times-cons, times_right-cons, times_right-rights_of, times_from_Contains}
 use Rattle.def_history.proofs.Locks.{counts_tell_rights}
 use Rattle.xg_rights.specs.declared.view.View.{View}
-use Rattle.xg_rights.specs.Rights.{jobs_of, rights_for, rights_at, seen, stripes_of, once, whole, IsCut, Told}
+use Rattle.xg_rights.specs.Rights.{jobs_of, rights_for, rights_at, seen, stripes_of, once, whole, IsCut, IsLoaded}
 use Rattle.xg_rights.proofs.Sums.{times_append, times_for, times_at}
 use Rattle.xg_locked.specs.Locked.{without}
 
@@ -123,9 +123,9 @@ once_at_most number job stripe = by_case (nat_lt job (jobs_of number) && nat_lt 
 
 -- who holds the right knows that the job isn't in the order
 pub job_is_new : (stripe job n tickets number : ℕ) (order : List ℕ) (rights : List Right) → 1 ≤ times_right job stripe rights
-    → Told n (seen (rights_at stripe order ++ rights) tickets 2 number) → Contains order job → ⊥
-job_is_new stripe job n tickets number order rights has told there =
-    let a = told.once_at_most job stripe in
+    → IsLoaded n (seen (rights_at stripe order ++ rights) tickets 2 number) → Contains order job → ⊥
+job_is_new stripe job n tickets number order rights has loaded there =
+    let a = loaded.once_at_most job stripe in
     let b = times_append job stripe (rights_at stripe order) rights in
     let c = once_at_most n job stripe in
     let d = holds_right stripe job order there in

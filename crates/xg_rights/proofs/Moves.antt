@@ -6,7 +6,7 @@ use lib.ListN.{get_elem?}
 use Rattle.atomic_table.specs.Table.{State, Me, keeps, Allows, Splits, Joins}
 use Rattle.atomic_table.proofs.Lists.{at_set, at_snoc, set_again}
 use Rattle.xg_rights.specs.declared.view.View.{View}
-use Rattle.xg_rights.specs.Rights.{once, jobs_of, stripes_of, rights_for, total, whole, both, seen, spent, Fits, Kept, IsKept, Told, IsCut}
+use Rattle.xg_rights.specs.Rights.{once, jobs_of, stripes_of, rights_for, total, whole, both, seen, spent, Fits, Kept, IsKept, IsLoaded, IsCut}
 use Rattle.def_history.specs.History.{job_numbers}
 use Rattle.def_history.specs.Core.{times_right}
 use Rattle.xg_rights.proofs.Sums.{times_append, total_set, total_snoc, total_has, total_only, all_once}
@@ -79,8 +79,8 @@ same_word [] = refl
 same_word (x ∷ xs) = refl
 
 -- what the rule tells of a view
-pub told : (n : ℕ) (views : List View) (id : ℕ) (v : View) → 0 < v.parts → Kept n views → get_elem? views id ≡ some v → Told n v
-told n views id v live k at =
+pub loaded : (n : ℕ) (views : List View) (id : ℕ) (v : View) → 0 < v.parts → Kept n views → get_elem? views id ≡ some v → IsLoaded n v
+loaded n views id v live k at =
     let idle : (g : View → ℕ) → ((u : View) → (u.rights ≡ []) × (u.tickets ≡ 0) → g u ≡ 0) → v.parts ≡ n % 128 + 66 → total g views ≡ g v = λ g zero all.
     total_only g (λ u. u.parts) views id v at (λ seat u e none. zero u ((k.fits seat u e).idle none)) (all ∙ sym k.parts) in
     record {
@@ -91,13 +91,13 @@ told n views id v live k at =
       all_tickets = λ all. sym (idle (λ u. u.tickets) (λ u none. none.1) all) ∙ k.tickets;
     }
 
-pub looks : (n slots id : ℕ) (me : Me (Unit {0}) View) → 0 < me.0.parts → Allows (rule n) slots id me 0 (λ x. x) (λ found now. (now ≡ me) × Told found me.0)
+pub looks : (n slots id : ℕ) (me : Me (Unit {0}) View) → 0 < me.0.parts → Allows (rule n) slots id me 0 (λ x. x) (λ found now. (now ≡ me) × IsLoaded found me.0)
 looks n slots id me live s k homes at fits = (
   me.0,
   keeps,
   tt,
   record { word = same_word s.words ∙ k.word; kept = subst (Kept n) (sym (set_again s.views id me.0 at)) k.kept },
-  (refl, subst (λ m. Told m me.0) (sym k.word) (told n s.views id me.0 live k.kept at)),
+  (refl, subst (λ m. IsLoaded m me.0) (sym k.word) (loaded n s.views id me.0 live k.kept at)),
 )
 
 whole_once : (n j s : ℕ) → times_right j s (rights_for (job_numbers (jobs_of n)) (stripes_of n)) ≡ once n j s
@@ -120,7 +120,7 @@ opens n = record {
     one (suc seat) v e = absurd (some-ne-none v (sym e))
 
 -- what two views are, once they met
-pub met_is : (n : ℕ) (v w : View) → Told n (both v w) → (v.number ≡ w.number) × (both v w ≡ seen (v.rights ++ w.rights) (v.tickets + w.tickets) (v.parts + w.parts) v.number) × Told v.number (both v w)
-met_is n v w told =
-    let numbers : v.number ≡ w.number = told.number_is.0 ∙ sym told.number_is.1 in
-    (numbers, (λ i. record { rights = v.rights ++ w.rights; tickets = v.tickets + w.tickets; parts = v.parts + w.parts; number = v.number; met = sym numbers i }), subst (λ m. Told m (both v w)) (sym told.number_is.0) told)
+pub met_is : (n : ℕ) (v w : View) → IsLoaded n (both v w) → (v.number ≡ w.number) × (both v w ≡ seen (v.rights ++ w.rights) (v.tickets + w.tickets) (v.parts + w.parts) v.number) × IsLoaded v.number (both v w)
+met_is n v w loaded =
+    let numbers : v.number ≡ w.number = loaded.number_is.0 ∙ sym loaded.number_is.1 in
+    (numbers, (λ i. record { rights = v.rights ++ w.rights; tickets = v.tickets + w.tickets; parts = v.parts + w.parts; number = v.number; met = sym numbers i }), subst (λ m. IsLoaded m (both v w)) (sym loaded.number_is.0) loaded)

@@ -73,7 +73,7 @@ pub record IsKept (number : ℕ) (words : List ℕ) (views : List View) : Type 0
   pub kept : Kept number views
 
 -- what a load tells a seat of its own view: no right twice, and with all parts all that there is
-pub record Told (number : ℕ) (v : View) : Type 0 where
+pub record IsLoaded (number : ℕ) (v : View) : Type 0 where
   pub number_is : (v.number ≡ number) × (v.met ≡ number)
   pub once_at_most : (job stripe : ℕ) → times_right job stripe v.rights ≤ once number job stripe
   pub tickets : v.tickets ≤ 64

@@ -1,6 +1,6 @@
 #![tactic(auto)]
 //! The table of the workers' rights: what each seat holds, the rule over all seats, and how seats are cut, put together
-//! and told what the rule says of them.
+//! and shown what the rule says of them.
 
 mod rule;
 mod steps;

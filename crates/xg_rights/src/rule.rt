@@ -19,9 +19,9 @@ pub(crate) struct Loads;
 
 impl Play<(), View> for Loads {
     ghost use Rattle.std.specs.Prelude.{◌≡◌};
-    ghost use Rattle.xg_rights.specs.Rights.{Told};
+    ghost use Rattle.xg_rights.specs.Rights.{IsLoaded};
 
-    ghost then = { λ _ me found now. (now ≡ me) × Told found me.0 };
+    ghost then = { λ _ me found now. (now ≡ me) × IsLoaded found me.0 };
 }
 
 /// Two views put together.

@@ -1,5 +1,5 @@
 ghost use Rattle.std.specs.Prelude.{◌≡◌, ◌<◌, ◌+◌, ◌++◌, [], IfOk};
-ghost use Rattle.xg_rights.specs.Rights.{whole, both, seen, IsCut, Told};
+ghost use Rattle.xg_rights.specs.Rights.{whole, both, seen, IsCut, IsLoaded};
 
 use crate::rule::{Cut, Cuts, Joins, Loads, RightsRule};
 use crate::view::View;
@@ -41,7 +41,7 @@ pub fn load(table: &SharedRights, seat: &mut RightsSeat) -> u64
     requires table { (seat.old.table_id ≡ table.now.table_id) × (0 < table.now.table_id.words) }
     requires live { 0 < seat.old.me.0.parts }
     ensures same { (seat.new.table_id ≡ seat.old.table_id) × (seat.new.me ≡ seat.old.me) }
-    ensures told { Told result seat.old.me.0 }
+    ensures loaded { IsLoaded result seat.old.me.0 }
 {
     table.load::<Loads>(seat, 0)
 }
@@ -70,7 +70,7 @@ pub fn meet(table: &SharedRights, seat: &mut RightsSeat, other: RightsSeat)
               (seat.old.me.0.parts + other.me.0.parts) seat.old.me.0.number,
           seat.old.me.1,
         ) }
-    ensures told { Told seat.old.me.0.number seat.new.me.0 }
+    ensures loaded { IsLoaded seat.old.me.0.number seat.new.me.0 }
 {
     join(table, seat, other);
     load(table, seat);

@@ -9,7 +9,7 @@ pub add_totals-requires-clause-small : goal.add_totals-requires-clause-small
 add_totals-requires-clause-small g c =
     let old : View = c.args.all.now.me.0 in
     let theirs : View = c.into_parts-stripe.result.1.me.0 in
-    let at_most : (j s : ℕ) → times_right j s (old.rights ++ theirs.rights) ≤ once old.number j s = λ j s. subst (λ (v : List Right). times_right j s v ≤ once old.number j s) (ap (λ m. m.0.rights) c.meet.ensures.view) (c.meet.ensures.told.once_at_most j s) in
+    let at_most : (j s : ℕ) → times_right j s (old.rights ++ theirs.rights) ≤ once old.number j s = λ j s. subst (λ (v : List Right). times_right j s v ≤ once old.number j s) (ap (λ m. m.0.rights) c.meet.ensures.view) (c.meet.ensures.loaded.once_at_most j s) in
     sums_small g.N.RowName.jobs g.N.RowName.rows (stripes_of old.number) old.number g.N.RowName.amount c.requires.gathered.0 old.rights theirs.rights _ (2 ^ 98) c.requires.gathered.1 at_most g.N.RowName.small
 
 pub returns-clause-gathered : goal.returns-clause-gathered

@@ -3,7 +3,7 @@ use Rattle.std.specs.Prelude.{vec_len}
 use Rattle.def_history.specs.Core.{Right}
 use Rattle.xg_jobs.specs.Rows.{all_rows}
 use Rattle.xg_rights.specs.declared.view.View.{View}
-use Rattle.xg_rights.specs.Rights.{number_from, rights_for, stripes_of, Told}
+use Rattle.xg_rights.specs.Rights.{number_from, rights_for, stripes_of, IsLoaded}
 use Rattle.xg_board.specs.Closing.{Gathered}
 use Rattle.xg_board.specs.Holdings.{tickets_of}
 use Rattle.xg_board.proofs.Ended.{ended}
@@ -46,11 +46,11 @@ returns-clause-sums g c = λ row below.
     let start : q.rights ≡ rights_for bag.jobs.items n ++ [] = q_rights ∙ m_rights ∙ (λ i. b_rights i ++ p_rights i) in
     let gathered = subst (λ (k : ℕ). Gathered g.N.RowName.jobs g.N.RowName.rows (stripes_of k) g.N.RowName.amount q.rights w.rights (all_rows c.take_stripes.new.rows)) (q_number ∙ m_number) c.take_stripes.ensures.gathered in
     let gathered' = subst (λ (rs : List Right). Gathered g.N.RowName.jobs g.N.RowName.rows n g.N.RowName.amount rs w.rights (all_rows c.take_stripes.new.rows)) start gathered in
-    let told : Told b.number w = subst (λ (k : ℕ). Told k w) (sym c.load.ensures.told.number_is.0 ∙ number) c.load.ensures.told in
+    let loaded : IsLoaded b.number w = subst (λ (k : ℕ). IsLoaded k w) (sym c.load.ensures.loaded.number_is.0 ∙ number) c.load.ensures.loaded in
     ended g.N.RowName.jobs g.N.RowName.rows n b.number g.N.RowName.amount bag.jobs.items w (all_rows c.take_stripes.new.rows) b.tickets made (tickets_of c.args.passes.items)
     bag.kept.jobs_is refl some bag.kept.ticket
     (omega (arith, w_tickets, q_tickets, m_tickets, p_tickets))
     c.requires.one_spent
     c.into_seat.ensures.few
     (omega (arith, w_parts, q_parts, m_parts, p_parts, b_parts, c.requires.all, board.kept.locked_is, n_is))
-    number told gathered' row below
+    number loaded gathered' row below

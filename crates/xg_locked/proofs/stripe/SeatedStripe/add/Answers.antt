@@ -1,6 +1,6 @@
 use Rattle.std.proofs.Common.{◌≡◌, [], ap, ◌∙◌, subst}
 use Rattle.xg_rights.specs.declared.view.View.{View}
-use Rattle.xg_rights.specs.Rights.{seen, Told}
+use Rattle.xg_rights.specs.Rights.{seen, IsLoaded}
 use Rattle.xg_rowcore.specs.Stripes.{StripeHistory}
 use Rattle.xg_locked.specs.Locked.{without}
 use Rattle.xg_locked.proofs.Takes.{gives_right, opened, job_is_new}
@@ -33,7 +33,7 @@ add-requires-clause-new g c =
     let p : View = c.args.seat.me.0 in
     let w : View = c.meet.new.seat.me.0 in
     let o = opened h.index h.order v p w (ap (λ m. m.0) k.me_is) (ap (λ m. m.0) c.requires.seat.1) c.meet.ensures.numbers (ap (λ m. m.0) c.meet.ensures.view) in
-    job_is_new h.index c.args.packet.now.job v.number p.tickets p.number h.order p.rights c.requires.right (subst (Told v.number) o.plain c.meet.ensures.told)
+    job_is_new h.index c.args.packet.now.job v.number p.tickets p.number h.order p.rights c.requires.right (subst (IsLoaded v.number) o.plain c.meet.ensures.loaded)
 
 pub returns-clause-table : goal.returns-clause-table
 returns-clause-table g c = c.give_others-seat.ensures.given.0 ∙ c.meet.ensures.same ∙ c.args.self.now.kept.here
