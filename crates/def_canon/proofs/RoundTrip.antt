@@ -9,7 +9,7 @@ use Rattle.def_file_entries.specs.Laws.{HaveNoFault}
 use Rattle.def_file_entries.proofs.NoFault.{entries_limit, no_fault_more, nothing_at_fault}
 use Rattle.def_file_entries.proofs.OneMore.{one_more}
 use Rattle.def_file_form.specs.Laws.{StandsFor}
-use Rattle.def_canon.specs.Laws.{CanonOfFaultless, CanonOfFile, CanonOfMade, IsOfEntries, IsOfFaultless, Takes}
+use Rattle.def_canon.specs.Laws.{CanonOfFaultless, CanonOfFile, CanonOfMade, IsOfEntries, IsOfFaultless, AreTakenInTurn}
 use Rattle.def_canon.proofs.Filled.{filled, filled_contents, whole_outcome, whole_set}
 use Rattle.def_canon.proofs.FilledRules.{filled_described}
 use Rattle.def_canon.proofs.FilledWritable.{filled_writable}
@@ -59,12 +59,12 @@ record AreTaken (rs : List Record) (made : Contents) : Type 0 where
   known : made ≡ contents_of rs
   no_fault : HaveNoFault rs
 
-taken_from : (done rs : List Record) (made : Contents) → HaveNoFault done → Takes (contents_of done) rs made
+taken_from : (done rs : List Record) (made : Contents) → HaveNoFault done → AreTakenInTurn (contents_of done) rs made
     → AreTaken (done ++ rs) made
 taken_from done [] made fine takes =
     subst (λ (xs : List Record). AreTaken xs made) (sym (append-nil done)) (record { known = takes; no_fault = fine })
 taken_from done (r ∷ rs) made fine takes =
-    let next = subst (λ (c : Contents). Takes c rs made) (sym (one_more done r)) takes.1 in
+    let next = subst (λ (c : Contents). AreTakenInTurn c rs made) (sym (one_more done r)) takes.1 in
     subst (λ (xs : List Record). AreTaken xs made) (append_assoc done (r ∷ []) rs)
     (taken_from (done ++ r ∷ []) rs made (no_fault_more done r fine takes.0) next)
 

@@ -53,13 +53,13 @@ CanonOfFile = (bytes : List ℕ) (game : GameFile) → StandsFor bytes game
     → StandsFor (canon game) game × (game_at (canon game) ≡ Ok game)
 
 -- what is known once these entries were taken one after another, none of them with a fault
-abbrev pub Takes : Contents → List Record → Contents → Type 0
-Takes before [] now = now ≡ before
-Takes before (r ∷ rs) now = (record_fault before r ≡ None) × Takes (with_record before r) rs now
+abbrev pub AreTakenInTurn : Contents → List Record → Contents → Type 0
+AreTakenInTurn before [] now = now ≡ before
+AreTakenInTurn before (r ∷ rs) now = (record_fault before r ≡ None) × AreTakenInTurn (with_record before r) rs now
 
 -- a game that was made entry by entry is read back, too
 abbrev pub CanonOfMade : Type 0
 CanonOfMade = (prologue : Prologue) (rs : List Record) (made : Contents) → IsPlainPrologue prologue → Each GivesWritable rs
-    → Takes no_contents rs made → IsWhole made.nodes
+    → AreTakenInTurn no_contents rs made → IsWhole made.nodes
     → StandsFor (canon (game_with prologue made)) (game_with prologue made)
     × (game_at (canon (game_with prologue made)) ≡ Ok (game_with prologue made))

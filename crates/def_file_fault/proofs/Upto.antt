@@ -6,7 +6,7 @@ use Rattle.def_file.specs.declared.FileFault.{FileFault}
 use Rattle.def_file.specs.Content.{Record}
 use Rattle.def_file.specs.Reading.{name_at, PrologueHead, head_at, entry_at}
 use Rattle.def_file_form.specs.Form.{Spelled, number, IsName, IsHead, IsEntry}
-use Rattle.def_file_form.proofs.Steps.{Takes, Read}
+use Rattle.def_file_form.proofs.Steps.{StandUpTo, Read}
 use Rattle.def_file_form.proofs.Sound.{name_read}
 use Rattle.def_file_form.proofs.SoundEntries.{IsHeadOf, entry_read, head_read}
 use Rattle.def_file_fault.specs.Offends.{spelled_at, AreNext, IsFront, EndsWhole}
@@ -20,7 +20,7 @@ use Rattle.def_file_fault.proofs.Heads.{head_goes}
 
 -- Tokens from one offset up to another.
 
-pub are_next : (whole : List ℕ) (at : ℕ) (ss : List Spelled) (end : ℕ) → Takes whole at ss end → AreNext whole at ss end
+pub are_next : (whole : List ℕ) (at : ℕ) (ss : List Spelled) (end : ℕ) → StandUpTo whole at ss end → AreNext whole at ss end
 are_next whole at [] end takes = takes
 are_next whole at (s ∷ ss) end takes = let step = takes.1 in (takes.0, step.next, step.not_end, step.spelled, are_next whole takes.0.end ss end takes.2)
 

@@ -10,7 +10,7 @@ use Rattle.def_file_tokens.proofs.TokenLemmas.{next_from-sound}
 use Rattle.def_file_tokens.proofs.PieceLemmas.{reads_pieces, pieces_read}
 use Rattle.def_file.specs.Reading.{bytes_at}
 use Rattle.def_file_form.specs.Form.{Spelled, spelled}
-use Rattle.def_file_form.proofs.Steps.{spelled_at, Takes}
+use Rattle.def_file_form.proofs.Steps.{spelled_at, StandUpTo}
 use Rattle.def_file_form.proofs.Ahead.{AllFrom, Ahead}
 
 -- the end stands at the end
@@ -31,7 +31,7 @@ record TokensRead (whole : List ℕ) (at : ℕ) (ss : List Spelled) : Type 0 whe
   spelled_so : map (spelled_at whole) lexemes ≡ ss
 
 tokens_read : (whole : List ℕ) (at : ℕ) (ss : List Spelled) (mid : ℕ) (l : Lexeme) → at ≤ length whole
-    → Takes whole at ss mid → next_from whole mid ≡ Ok l → kinds.End ≡ l.kind → TokensRead whole at ss
+    → StandUpTo whole at ss mid → next_from whole mid ≡ Ok l → kinds.End ≡ l.kind → TokensRead whole at ss
 tokens_read whole at [] mid l within takes next same =
     let next_here : next_from whole at ≡ Ok l = ap (next_from whole) takes ∙ next in
     record { lexemes = []; reads = next_here ∙ ap Ok (end_is whole at l within next_here same); spelled_so = refl }
@@ -68,7 +68,7 @@ pub record PiecesFound (whole : List ℕ) (ss : List Spelled) : Type 0 where
   pub tokens : map spelled pieces ≡ ss
 
 -- where the tokens up to the end were taken, the bytes are white space and these tokens in turn
-pub pieces_found : (whole : List ℕ) (ss : List Spelled) (mid : ℕ) (l : Lexeme) → Takes whole 0 ss mid
+pub pieces_found : (whole : List ℕ) (ss : List Spelled) (mid : ℕ) (l : Lexeme) → StandUpTo whole 0 ss mid
     → next_from whole mid ≡ Ok l → kinds.End ≡ l.kind → PiecesFound whole ss
 pieces_found whole ss mid l takes next same =
     let t = tokens_read whole 0 ss mid l (omega arith) takes next same in

@@ -87,19 +87,19 @@ pub record Step (whole : List ℕ) (at : ℕ) (l : Lexeme) (s : Spelled) : Type 
   pub spelled : spelled_at whole l ≡ s
 
 -- reading from `at` on takes these tokens, up to `end`
-abbrev pub Takes : List ℕ → ℕ → List Spelled → ℕ → Type 0
-Takes whole at [] end = at ≡ end
-Takes whole at (s ∷ ss) end = (l : Lexeme) × Step whole at l s × Takes whole l.end ss end
+abbrev pub StandUpTo : List ℕ → ℕ → List Spelled → ℕ → Type 0
+StandUpTo whole at [] end = at ≡ end
+StandUpTo whole at (s ∷ ss) end = (l : Lexeme) × Step whole at l s × StandUpTo whole l.end ss end
 
-pub Takes-append : (whole : List ℕ) (at : ℕ) (ss ts : List Spelled) (mid end : ℕ) → Takes whole at ss mid
-    → Takes whole mid ts end → Takes whole at (ss ++ ts) end
-Takes-append whole at [] ts mid end a b = subst (λ n. Takes whole n ts end) (sym a) b
-Takes-append whole at (s ∷ ss) ts mid end a b = (a.0, a.1, Takes-append whole a.0.end ss ts mid end a.2 b)
+pub StandUpTo-append : (whole : List ℕ) (at : ℕ) (ss ts : List Spelled) (mid end : ℕ) → StandUpTo whole at ss mid
+    → StandUpTo whole mid ts end → StandUpTo whole at (ss ++ ts) end
+StandUpTo-append whole at [] ts mid end a b = subst (λ n. StandUpTo whole n ts end) (sym a) b
+StandUpTo-append whole at (s ∷ ss) ts mid end a b = (a.0, a.1, StandUpTo-append whole a.0.end ss ts mid end a.2 b)
 
 -- what is read from one offset up to another: the tokens that were taken are so, whatever comes behind them
 pub record Read (whole : List ℕ) (at end : ℕ) (Is : List Spelled → List Spelled → Type 0) : Type 0 where
   pub tokens : List Spelled
-  pub takes : Takes whole at tokens end
+  pub takes : StandUpTo whole at tokens end
   pub within : end ≤ length whole
   pub is : (rest : List Spelled) → Is (tokens ++ rest) rest
 
@@ -131,7 +131,7 @@ pub read_then : (whole : List ℕ) (at mid end : ℕ) (A B : List Spelled → Li
     → Read whole mid end B → Read whole at end (Then A B)
 read_then whole at mid end A B a b = record {
   tokens = a.tokens ++ b.tokens;
-  takes = Takes-append whole at a.tokens b.tokens mid end a.takes b.takes;
+  takes = StandUpTo-append whole at a.tokens b.tokens mid end a.takes b.takes;
   within = b.within;
   is = λ rest. (b.tokens ++ rest, subst (λ ss. A ss (b.tokens ++ rest)) (sym (append_assoc a.tokens b.tokens rest)) (a.is (b.tokens ++ rest)), b.is rest);
 }

@@ -7,7 +7,7 @@ use Rattle.std.proofs.lemmas.List.Sorted.{sum_by_popped, sum_by-IsPermutation}
 use Rattle.std.proofs.lemmas.Bool.Decides.{nat_tests}
 use Rattle.std.proofs.lemmas.Bool.{cases_lt, cases_eq}
 use Rattle.def_history.specs.History.{times}
-use Rattle.def_history.specs.Core.{State, Right, Step, draw, add, Draws, Adds, Takes, StepsLead, none, first, IsOpening, IsReached, times_right, times_held, rights_of, rights_held, history_of, stripe_count}
+use Rattle.def_history.specs.Core.{State, Right, Step, draw, add, Draws, Adds, OneStepLeads, StepsLead, none, first, IsOpening, IsReached, times_right, times_held, rights_of, rights_held, history_of, stripe_count}
 use Rattle.def_history.proofs.Counts.{one_if, times-job_numbers, times_right-rights_of}
 
 pub record IsBalanced (jobs : ℕ) (state : State) : Type 0 where
@@ -146,7 +146,7 @@ add_keeps jobs before pass job stripe after old step = record { balance = balanc
 
 -- ---- every list of steps
 pub step_keeps : (jobs : ℕ) (before : State) (step : Step) (after : State) → IsBalanced jobs before
-    → Takes before step after → IsBalanced jobs after
+    → OneStepLeads before step after → IsBalanced jobs after
 step_keeps jobs before (draw pass job) after old step = draw_keeps jobs before pass job after old step
 step_keeps jobs before (add pass job stripe) after old step = add_keeps jobs before pass job stripe after old step
 

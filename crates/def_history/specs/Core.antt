@@ -57,15 +57,15 @@ pub data Step : Type 0 where
   draw : (pass job : ℕ) → Step
   add : (pass job stripe : ℕ) → Step
 
-abbrev pub Takes : State → Step → State → Type 0
-Takes before (draw pass job) after = Draws before pass job after
-Takes before (add pass job stripe) after = Adds before pass job stripe after
+abbrev pub OneStepLeads : State → Step → State → Type 0
+OneStepLeads before (draw pass job) after = Draws before pass job after
+OneStepLeads before (add pass job stripe) after = Adds before pass job stripe after
 
 -- a list of steps leads from one state to another
 pub data StepsLead : State → List Step → State → Type 0 where
   none : {state : State} → StepsLead state [] state
   first : {before : State} {step : Step} {between : State} {steps : List Step} {after : State}
-      → Takes before step between → StepsLead between steps after → StepsLead before (step ∷ steps) after
+      → OneStepLeads before step between → StepsLead between steps after → StepsLead before (step ∷ steps) after
 
 -- the bag has every job once, no pass holds a right, and the histories are empty
 pub record IsOpening (jobs : ℕ) (state : State) : Type 0 where

@@ -15,7 +15,7 @@ use Rattle.def_bracket.proofs.EvaluatedRounds.{rounds as rounds_evaluated}
 use Rattle.def_bracket.proofs.TraceLines.{trace_lines, never_widens, trace_looks_back}
 use Rattle.def_bracket.proofs.KeptEnds.{offers_are_traced, offers_keep_the_ends}
 use Rattle.def_run.specs.Run.{reply_to, evaluation, evaluations, offer_after, offers, run_end, both_ends}
-use Rattle.def_run.specs.Laws.{TraceOfRunNeverWidens, TraceOfRunLooksBack, plan_at_lower, plan_at_upper, GapIsExploitability, EndsBoundAllPlans, OffersOfRunAreFair, OutcomesShowTheirRun}
+use Rattle.def_run.specs.Laws.{TraceOfRunNeverWidens, TraceOfRunLooksBack, plan_at_lower, plan_at_upper, GapOfRunIsExploitability, EndsBoundAllPlans, OffersOfRunAreFair, OutcomesShowTheirRun}
 use Rattle.def_run.proofs.RunLaws.{rounds_of, evaluations_are_bounds, ends_are_of_their_rounds}
 
 -- in the trace of a run each line's bracket lies within those of the lines before
@@ -61,8 +61,8 @@ are_bounds form root every last ends order_one order_two some are =
     }
 
 -- each over its plan's root, the two ends are apart by the total exploitability of the two plans
-pub gap_is_exploitability : GapIsExploitability
-gap_is_exploitability form root every last ends order_one order_two some are =
+pub gap_of_run_is_exploitability : GapOfRunIsExploitability
+gap_of_run_is_exploitability form root every last ends order_one order_two some are =
     let b = are_bounds form root every last ends order_one order_two some are in
     record { best = ends.upper.high; left = ends.lower.low; is_best = b.best; is_left = b.left; is = refl }
 

@@ -75,8 +75,8 @@ abbrev pub plan_at_upper : SequenceForm → ℕ → BracketEnds → List ℕ
 plan_at_upper form root ends = (rounds form root ends.upper.round).sum_two
 
 -- the gap between the ends, each over its plan's root, is the total exploitability of the two plans
-abbrev pub GapIsExploitability : Type 0
-GapIsExploitability = (form : SequenceForm) (root every last : ℕ) (ends : BracketEnds) → AreInOrder form.sets_one
+abbrev pub GapOfRunIsExploitability : Type 0
+GapOfRunIsExploitability = (form : SequenceForm) (root every last : ℕ) (ends : BracketEnds) → AreInOrder form.sets_one
     → AreInOrder form.sets_two → 1 ≤ root
     → ends_of (evaluations form root every last) ≡ Some ends
     → IsExploitability form (ends.lower.round * root) (ends.upper.round * root) (plan_at_lower form root ends) (plan_at_upper form root ends)

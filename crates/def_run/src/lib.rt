@@ -8,7 +8,7 @@ ghost use Rattle.def_round.specs.Games.{one_mover};
 ghost use Rattle.def_bracket.specs.Bracket.{trace};
 ghost use Rattle.def_bracket.specs.Offers.{board_after};
 ghost use Rattle.def_run.specs.Run.{evaluations, offers};
-ghost use Rattle.def_run.specs.Laws.{EndsAreInOrder, EndsAreOfTheirRounds, EndsBoundAllPlans, EvaluationsAreBounds, GapIsExploitability, OffersOfRunAreFair, OutcomesShowTheirRun, RunsHaveEnds, TraceOfRunLooksBack, TraceOfRunNeverWidens};
+ghost use Rattle.def_run.specs.Laws.{EndsAreInOrder, EndsAreOfTheirRounds, EndsBoundAllPlans, EvaluationsAreBounds, GapOfRunIsExploitability, OffersOfRunAreFair, OutcomesShowTheirRun, RunsHaveEnds, TraceOfRunLooksBack, TraceOfRunNeverWidens};
 
 /// After each round both sums are plans, and the evaluation is the attained floor of the one and ceiling of the other.
 pub fn evaluations_are_bounds()
@@ -41,8 +41,8 @@ pub fn trace_of_run_looks_back()
 {}
 
 /// The gap between the ends, each over its plan's root, is the total exploitability of the two plans.
-pub fn gap_is_exploitability()
-    ensures { GapIsExploitability }
+pub fn gap_of_run_is_exploitability()
+    ensures { GapOfRunIsExploitability }
 {}
 
 /// No plan of player one has a floor, over its root, above the upper end; none of player two a ceiling below the lower

@@ -12,7 +12,7 @@ use Rattle.def_bracket.proofs.TraceLines.{trace_lines}
 use Rattle.def_cert_verdict.specs.Certificate.{last_line, no_line}
 use Rattle.def_run.specs.Run.{evaluations, outcome}
 use Rattle.def_run.specs.Laws.{HasPlansOf, plan_at_lower, plan_at_upper}
-use Rattle.def_run.proofs.EndLaws.{ends_bound_all_plans, gap_is_exploitability, outcomes_show_their_run, trace_of_run_never_widens}
+use Rattle.def_run.proofs.EndLaws.{ends_bound_all_plans, gap_of_run_is_exploitability, outcomes_show_their_run, trace_of_run_never_widens}
 use Rattle.def_run.proofs.RunLaws.{ends_are_of_their_rounds, evaluations_are_bounds, runs_have_ends}
 use Rattle.xg_engine.specs.Ends.{AreBoundsOfLine, AreUnbeaten, HasEnds, HasGapOfLine, NoLineIsWider}
 use Rattle.xg_engine.specs.Players.{IsSoundForm}
@@ -95,7 +95,7 @@ module _ (form : SequenceForm) (head : Head) (sound : IsSoundForm form) (some_sc
       let of_rounds = ends_are_of_their_rounds form head.scale head.every head.rounds ends are in
       let low_is = ap (λ (e : Evaluation). e.low) of_rounds.of_lower.is in
       let high_is = ap (λ (e : Evaluation). e.high) of_rounds.of_upper.is in
-      let gap = gap_is_exploitability form head.scale head.every head.rounds ends sound.order_one sound.order_two some_scale are in
+      let gap = gap_of_run_is_exploitability form head.scale head.every head.rounds ends sound.order_one sound.order_two some_scale are in
       subst (λ (z : ℤ). IsExploitability form (ends.lower.round * head.scale) (ends.upper.round * head.scale) (plan_at_lower form head.scale ends) (plan_at_upper form head.scale ends) z)
       (λ i. (pos (ends.lower.round * head.scale) *ℤ high_is i) -ℤ (pos (ends.upper.round * head.scale) *ℤ low_is i))
       gap)

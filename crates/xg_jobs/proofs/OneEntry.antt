@@ -12,7 +12,7 @@ use Rattle.def_sums.proofs.SumLaws.{sum_over-append, nat_sum_over-append}
 use Rattle.def_tree.specs.Rules.{most_nodes}
 use Rattle.xg_jobs.specs.Entries.{KeepsGroups}
 use Rattle.xg_jobs.specs.Groups.{GroupLeaf, group_at, group_mass, weight_with, weights_of}
-use Rattle.xg_jobs.specs.Merging.{StandsFor, TakesLeaf, TakesGroup, MergedUpto, AreMerged, CanMerge}
+use Rattle.xg_jobs.specs.Merging.{MayReplace, TakesLeaf, TakesGroup, MergedUpto, AreMerged, CanMerge}
 
 -- an entry with more weight
 abbrev pub more : GroupLeaf → ℤ → GroupLeaf
@@ -83,7 +83,7 @@ takes_none old =
       front = take_all (length old) old (omega arith);
       longer = omega arith;
       shorter = omega arith;
-      stands = subst (λ xs. StandsFor xs []) (sym none) (record { weights = λ b. refl; mass = omega arith; within = λ others all. all });
+      stands = subst (λ xs. MayReplace xs []) (sym none) (record { weights = λ b. refl; mass = omega arith; within = λ others all. all });
     }
 
 -- and one leaf more
@@ -148,13 +148,13 @@ upto_more s starts entries new old_starts old_entries here order inside_old upto
           let same : group_at there new t ≡ group_at starts entries t =
           (λ i. take (kept (t + 1) (omega arith) i - kept t low i) (drop (kept t low i) new))
           ∙ front_same new entries (slice_index starts t) (slice_index starts (t + 1)) takes.front (upto.inside (t + 1) (omega arith)) (upto.ordered t less) in
-          subst (λ g. StandsFor g (group_at old_starts old_entries t)) (sym same) (upto.each t less))
+          subst (λ g. MayReplace g (group_at old_starts old_entries t)) (sym same) (upto.each t less))
           (λ later.
           let t_is : t ≡ s = omega arith in
           let same : group_at there new s ≡ drop (length entries) new =
           (λ i. take (end i - begin i) (drop (begin i) new))
           ∙ take_all (length new - length entries) (drop (length entries) new) (omega (arith, length-drop (length entries) new)) in
-          rw t_is (subst (λ g. StandsFor g (group_at old_starts old_entries s)) (sym same) takes.stands))
+          rw t_is (subst (λ g. MayReplace g (group_at old_starts old_entries s)) (sym same) takes.stands))
           (cases_lt t s);
       few = omega (arith, takes.shorter, upto.few, size);
     }

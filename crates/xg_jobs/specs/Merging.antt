@@ -5,7 +5,7 @@ use Rattle.xg_jobs.specs.Groups.{GroupLeaf, group_at, group_mass, weight_with}
 
 -- a group whose leaves may stand for those of another one: the same weights for each sequence of the other player, no
 -- more mass, and no other sequences
-pub record StandsFor (group leaves : List GroupLeaf) : Type 0 where
+pub record MayReplace (group leaves : List GroupLeaf) : Type 0 where
   pub weights : (b : ℕ) → weight_with b group ≡ weight_with b leaves
   pub mass : group_mass group ≤ group_mass leaves
   pub within : (others : ℕ) → All (λ e. e.other < others) leaves → All (λ e. e.other < others) group
@@ -34,7 +34,7 @@ pub record TakesGroup (leaves old new : List GroupLeaf) : Type 0 where
   pub front : take (length old) new ≡ old
   pub longer : length old ≤ length new
   pub shorter : length new ≤ length old + length leaves
-  pub stands : StandsFor (drop (length old) new) leaves
+  pub stands : MayReplace (drop (length old) new) leaves
 
 -- each of the first n groups stands for the same one of others, and there are no other entries
 pub record MergedUpto (n : ℕ) (starts : List ℕ) (entries : List GroupLeaf) (old_starts : List ℕ)
@@ -43,7 +43,7 @@ pub record MergedUpto (n : ℕ) (starts : List ℕ) (entries : List GroupLeaf) (
   pub last : slice_index starts n ≡ length entries
   pub ordered : (s : ℕ) → s < n → slice_index starts s ≤ slice_index starts (s + 1)
   pub inside : (s : ℕ) → s ≤ n → slice_index starts s ≤ length entries
-  pub each : (s : ℕ) → s < n → StandsFor (group_at starts entries s) (group_at old_starts old_entries s)
+  pub each : (s : ℕ) → s < n → MayReplace (group_at starts entries s) (group_at old_starts old_entries s)
   pub few : length entries ≤ slice_index old_starts n
 
 abbrev pub AreMerged : List ℕ → List GroupLeaf → List ℕ → List GroupLeaf → Type 0

@@ -6,7 +6,7 @@ use lib.ListN.{get_elem?}
 use Rattle.atomic_table.specs.Table.{State, Me, keeps, Allows, Splits, Joins}
 use Rattle.atomic_table.proofs.Lists.{at_set, at_snoc, set_again}
 use Rattle.xg_rights.specs.declared.view.View.{View}
-use Rattle.xg_rights.specs.Rights.{once, jobs_of, stripes_of, rights_for, total, whole, both, seen, spent, Fits, Kept, IsKept, IsLoaded, IsCut}
+use Rattle.xg_rights.specs.Rights.{once, jobs_of, stripes_of, rights_for, total, whole, both, seen, spent, HoldsByNumber, Kept, IsKept, IsLoaded, IsCut}
 use Rattle.def_history.specs.History.{job_numbers}
 use Rattle.def_history.specs.Core.{times_right}
 use Rattle.xg_rights.proofs.Sums.{times_append, total_set, total_snoc, total_has, total_only, all_once}
@@ -37,10 +37,10 @@ cuts_kept n views id v kept given cut k at = record {
       let number = (k.fits id v at).number_is cut.live in
       ⊎_elim
       (λ was. ⊎_elim
-      (λ (x : (seat ≡ id) × (kept ≡ u)). subst (Fits n) x.1 (record { idle = λ none. absurd (omega (arith, cut.some_kept)); number_is = λ _. (cut.numbers.0 ∙ number.0, cut.numbers.1 ∙ number.0) }))
+      (λ (x : (seat ≡ id) × (kept ≡ u)). subst (HoldsByNumber n) x.1 (record { idle = λ none. absurd (omega (arith, cut.some_kept)); number_is = λ _. (cut.numbers.0 ∙ number.0, cut.numbers.1 ∙ number.0) }))
       (λ (x : (seat ≢ id) × (get_elem? views seat ≡ some u)). k.fits seat u x.1)
       (at_set views id seat kept u was))
-      (λ (same : given ≡ u). subst (Fits n) same (record { idle = λ none. absurd (omega (arith, cut.some_given)); number_is = λ _. (cut.numbers.2 ∙ number.0, cut.numbers.3 ∙ number.0) }))
+      (λ (same : given ≡ u). subst (HoldsByNumber n) same (record { idle = λ none. absurd (omega (arith, cut.some_given)); number_is = λ _. (cut.numbers.2 ∙ number.0, cut.numbers.3 ∙ number.0) }))
       (at_snoc (set views id kept) given u seat e);
 }
 
@@ -63,9 +63,9 @@ pours_kept n views id v other w live also k at apart there =
       parts = poured n views id v other w (λ u. u.parts) refl refl at there ∙ k.parts;
       fits = λ seat u e.
           ⊎_elim
-          (λ (x : (seat ≡ other) × (spent ≡ u)). subst (Fits n) x.1 (record { idle = λ _. (refl, refl); number_is = λ some. absurd (omega arith) }))
+          (λ (x : (seat ≡ other) × (spent ≡ u)). subst (HoldsByNumber n) x.1 (record { idle = λ _. (refl, refl); number_is = λ some. absurd (omega arith) }))
           (λ (x : (seat ≢ other) × (get_elem? (set views id (both v w)) seat ≡ some u)). ⊎_elim
-          (λ (y : (seat ≡ id) × (both v w ≡ u)). subst (Fits n) y.1 (record { idle = λ none. absurd (omega arith); number_is = λ _. (((k.fits id v at).number_is live).0, ((k.fits other w was).number_is also).0) }))
+          (λ (y : (seat ≡ id) × (both v w ≡ u)). subst (HoldsByNumber n) y.1 (record { idle = λ none. absurd (omega arith); number_is = λ _. (((k.fits id v at).number_is live).0, ((k.fits other w was).number_is also).0) }))
           (λ (y : (seat ≢ id) × (get_elem? views seat ≡ some u)). k.fits seat u y.1)
           (at_set views id seat (both v w) u x.1))
           (at_set (set views id (both v w)) other seat spent u e);
@@ -115,8 +115,8 @@ opens n = record {
   };
 }
   where
-    one : (seat : ℕ) (v : View) → get_elem? (whole n ∷ []) seat ≡ some v → Fits n v
-    one zero v e = subst (Fits n) (some-injective _ _ e) (record { idle = λ none. absurd (omega arith); number_is = λ _. (refl, refl) })
+    one : (seat : ℕ) (v : View) → get_elem? (whole n ∷ []) seat ≡ some v → HoldsByNumber n v
+    one zero v e = subst (HoldsByNumber n) (some-injective _ _ e) (record { idle = λ none. absurd (omega arith); number_is = λ _. (refl, refl) })
     one (suc seat) v e = absurd (some-ne-none v (sym e))
 
 -- what two views are, once they met

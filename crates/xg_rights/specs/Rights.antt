@@ -56,7 +56,7 @@ total f [] = 0
 total f (v ∷ vs) = f v + total f vs
 
 -- a view with no part holds nothing, and every other has the number of word 0
-pub record Fits (number : ℕ) (v : View) : Type 0 where
+pub record HoldsByNumber (number : ℕ) (v : View) : Type 0 where
   pub idle : v.parts ≡ 0 → (v.rights ≡ []) × (v.tickets ≡ 0)
   pub number_is : 0 < v.parts → (v.number ≡ number) × (v.met ≡ number)
 
@@ -65,7 +65,7 @@ pub record Kept (number : ℕ) (views : List View) : Type 0 where
   pub rights : (job stripe : ℕ) → total (λ v. times_right job stripe v.rights) views ≡ once number job stripe
   pub tickets : total (λ v. v.tickets) views ≡ 64
   pub parts : total (λ v. v.parts) views ≡ stripes_of number + 66
-  pub fits : (seat : ℕ) (v : View) → get_elem? views seat ≡ some v → Fits number v
+  pub fits : (seat : ℕ) (v : View) → get_elem? views seat ≡ some v → HoldsByNumber number v
 
 -- the rule of the table
 pub record IsKept (number : ℕ) (words : List ℕ) (views : List View) : Type 0 where
