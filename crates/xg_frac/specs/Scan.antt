@@ -1,5 +1,4 @@
--- How the reader keeps numbers that may be past_all the limits: one past_all the greatest stands for all
--- that are greater.
+-- How the reader keeps numbers that may be past all the limits: one past the greatest stands for all that are greater.
 use Rattle.std.specs.Prelude.{◌≡◌, ℕ, ◌≤◌, ◌+◌, ◌-◌, ◌*◌, ◌^◌, min, List, length, Option}
 use Rattle.xg_frac.specs.declared.literal.Quotient.{Quotient}
 use Rattle.xg_frac.specs.declared.literal.Exponent.{Exponent}

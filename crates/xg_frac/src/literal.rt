@@ -60,7 +60,7 @@ pub fn read_whole(bytes: &[u8]) -> Result<u64, NumberFault>
     Ok(number as u64)
 }
 
-/// One past_all the greatest numerator and denominator before reduction. While a number is read it stands for all greater
+/// One past the greatest numerator and denominator before reduction. While a number is read it stands for all greater
 /// ones, so that nothing overflows.
 const PAST: u128 = 0x8000_0000_0000_0000_0000_0000_0000_0000;
 
