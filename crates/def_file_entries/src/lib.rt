@@ -31,6 +31,6 @@ pub fn entries_make_whole_game()
 
 /// Two small files stand for these nodes and tables, and one more entry has the fault of the first rule that it
 /// breaks, or none.
-pub fn rows()
+pub fn entry_rows()
     ensures { EntryRows }
 {}

@@ -10,7 +10,7 @@ use Rattle.std.proofs.lemmas.Bool.{cases_lt}
 use Rattle.def_sums.specs.Sum.{sum_over}
 use Rattle.def_history.specs.History.{times, job_numbers, IsLegal, IsComplete, stripe_of, place_of}
 use Rattle.def_history.specs.Core.{State, IsReached, history_of, stripe_count}
-use Rattle.def_history.specs.Laws.{KeepsHistoriesLegal, KeepsBagLegal, IsAtEnd, EndsComplete, ReplaysToPlainSum, EndsWithPlainSums, PlacesEachRowOnce}
+use Rattle.def_history.specs.Laws.{HistoriesAreLegal, BagIsLegal, IsAtEnd, HistoriesEndComplete, CompleteHistoriesReplayToPlainSums, RowsEndAsPlainSums, EachRowHasOnePlace}
 use Rattle.def_history.proofs.Counts.{one_if, times-cons, times-self, times-job_numbers, times_from_Contains, Contains_from_times}
 use Rattle.def_history.proofs.Steps.{IsBalanced, reached_balanced, end_holds_none}
 
@@ -39,7 +39,7 @@ legal_at jobs state balanced stripe is_stripe = record { once = once; named = na
             omega (arith, has, none, balanced.balance (get_or (history_of state stripe) k d) stripe is_stripe)
 
 -- in a reached state the bag has nothing but jobs, and none of them twice
-pub bag_legal : KeepsBagLegal
+pub bag_legal : BagIsLegal
 bag_legal jobs state reached = record { once = once; named = named }
   where
     balanced : IsBalanced jobs state
@@ -68,7 +68,7 @@ same_element (x ∷ xs) zero d e below = refl
 same_element (x ∷ xs) (suc k) d e below = same_element xs k d e (omega arith)
 
 -- in a reached state every history has nothing but jobs, and none of them twice
-pub histories_legal : KeepsHistoriesLegal
+pub histories_legal : HistoriesAreLegal
 histories_legal jobs state reached k d below =
     let legal = legal_at jobs state (reached_balanced jobs state reached) k below in
     subst (λ (h : List ℕ). IsLegal jobs h) (same_element state.histories k [] d below) legal
@@ -83,7 +83,7 @@ complete_at jobs state reached (empty, none_held) stripe is_stripe job is_job =
     Contains_from_times job (history_of state stripe) (omega (arith, balance, one, bag, end_holds_none state none_held job stripe))
 
 -- with nothing left to draw or to add, every stripe's history has all jobs
-pub ends_complete : EndsComplete
+pub ends_complete : HistoriesEndComplete
 ends_complete jobs state reached end k d below =
     subst (λ (h : List ℕ). IsComplete jobs h) (same_element state.histories k [] d below) (complete_at jobs state reached end k below)
 
@@ -132,7 +132,7 @@ same_sum f (x ∷ xs) ys same = from (same_sum f xs) (split_at x ys (let a = tim
         ap (λ s. f x +ℤ s) (later (front ++ back) rest) ∙ sym (sum_over-middle f x front back) ∙ ap (sum_over f) (sym is)
 
 -- a history with each job once leaves at a row the sum of all jobs' amounts, whatever its order
-pub replays_to_plain_sum : ReplaysToPlainSum
+pub replays_to_plain_sum : CompleteHistoriesReplayToPlainSums
 replays_to_plain_sum jobs history legal complete amount row = same_sum (λ job. amount job row) history (job_numbers jobs) same
   where
     same : (job : ℕ) → times job history ≡ times job (job_numbers jobs)
@@ -153,14 +153,14 @@ replays_to_plain_sum jobs history legal complete amount row = same_sum (λ job. 
             no (k, below, is) = let named = legal.named k job below in let e : get_or history k job ≡ job = is in omega (arith, named, e, above)
 
 -- at the end the history of a row's stripe leaves the sum of all jobs' amounts at that row
-pub ends_with_plain_sums : EndsWithPlainSums
+pub ends_with_plain_sums : RowsEndAsPlainSums
 ends_with_plain_sums jobs state reached end some amount row =
     let is_stripe : row % stripe_count state < stripe_count state = mod_below row (stripe_count state) some in
     replays_to_plain_sum jobs (history_of state (stripe_of (stripe_count state) row)) (legal_at jobs state (reached_balanced jobs state reached) (row % stripe_count state) is_stripe)
     (complete_at jobs state reached end (row % stripe_count state) is_stripe) amount row
 
 -- ---- rows and stripes
-pub each_row_once : PlacesEachRowOnce
+pub each_row_once : EachRowHasOnePlace
 each_row_once stripes row some = record { stripe = mod_below row stripes some; there = div-add-mod' row stripes; alone = alone }
   where
     alone : (stripe place : ℕ) → stripe < stripes → place * stripes + stripe ≡ row → (stripe ≡ stripe_of stripes row) × (place ≡ place_of stripes row)

@@ -7,12 +7,12 @@ use Rattle.std.proofs.lemmas.Bool.Decides.{nat_tests}
 use Rattle.std.proofs.lemmas.Bool.{cases_lt, cases_eq}
 use Rattle.def_history.specs.History.{times}
 use Rattle.def_history.specs.Core.{State, Right, Holder, the_bag, the_pass, Holds, IsGivenUp, times_right, times_held, rights_held, history_of, stripe_count}
-use Rattle.def_history.specs.Laws.{CountsEachRightOnce, HoldsOrGivesUp, GivesUpByAdding, HoldsOnlyRights}
+use Rattle.def_history.specs.Laws.{EachRightCountsOnce, EachRightHasOneHolder, ARightIsGivenUpByAdding, PassesHoldRightsOfJobsAndStripes}
 use Rattle.def_history.proofs.Counts.{one_if, times_from_Contains, Contains_from_times, times_right_from_Contains, Contains_from_times_right}
 use Rattle.def_history.proofs.Steps.{IsBalanced, reached_balanced}
 
 -- for each job and stripe: the bag, the passes and the history have it once between them
-pub counts_once : CountsEachRightOnce
+pub counts_once : EachRightCountsOnce
 counts_once jobs state reached job stripe is_job is_stripe =
     let one : one_if (ltb job jobs) ≡ 1 = grind (arith, nat_tests) in
     let b = (reached_balanced jobs state reached).balance job stripe is_stripe in
@@ -56,7 +56,7 @@ held_by_pass state pass job stripe holds =
     omega (arith, one, le)
 
 -- what a pass holds is the right of a job of the run for one of its stripes
-pub only_rights : HoldsOnlyRights
+pub only_rights : PassesHoldRightsOfJobsAndStripes
 only_rights jobs state reached pass job stripe holds = (is_job, is_stripe)
   where
     balanced : IsBalanced jobs state
@@ -76,7 +76,7 @@ only_rights jobs state reached pass job stripe holds = (is_job, is_stripe)
     ]
 
 -- each right has exactly one holder, or nobody holds it any more
-pub holds_or_gives_up : HoldsOrGivesUp
+pub holds_or_gives_up : EachRightHasOneHolder
 holds_or_gives_up jobs state reached job stripe is_job is_stripe =
     elim (cases_lt 0 (times job state.bag)) [
       | inl here ↦ inl (the_bag, Contains_from_times job state.bag here, only_bag here)
@@ -115,7 +115,7 @@ holds_or_gives_up jobs state reached job stripe is_job is_stripe =
     given_up no_bag no_pass (the_pass pass) holds = let a = held_by_pass state pass job stripe holds in omega (arith, a, no_pass)
 
 -- nobody holds a right any more exactly where its job is in its stripe's history
-pub gives_up_by_adding : GivesUpByAdding
+pub gives_up_by_adding : ARightIsGivenUpByAdding
 gives_up_by_adding jobs state reached job stripe is_job is_stripe = (added, given_up)
   where
     once : times job state.bag + times_held state job stripe + times job (history_of state stripe) ≡ 1

@@ -6,7 +6,7 @@ use Rattle.def_sums.specs.Sum.{sum_over}
 use Rattle.def_sums.proofs.SumLaws.{sum_over-append}
 use Rattle.def_game_jobs.specs.Ranges.{leaves_of}
 use Rattle.def_history.specs.Leaves.{job_amount, amounts}
-use Rattle.def_history.specs.Laws.{JobsAddUpToLeaves, EndsWithLeafSums}
+use Rattle.def_history.specs.Laws.{JobsAddUpToLeaves, RowsEndAsLeafSums}
 use Rattle.def_history.proofs.Ends.{ends_with_plain_sums}
 
 sum_over-flat_map : {X Y : Type 0} (f : Y → ℤ) (g : X → List Y) (xs : List X)
@@ -34,6 +34,6 @@ jobs_add_up leaf_amount ranges leaves partitions row =
     ∙ sym (sum_over-flat_map (λ leaf. leaf_amount leaf row) leaves_of ranges) ∙ ap (sum_over (λ leaf. leaf_amount leaf row)) partitions
 
 -- at the end the history of a row's stripe leaves the plain sum over all leaves at that row
-pub ends_with_leaf_sums : EndsWithLeafSums
+pub ends_with_leaf_sums : RowsEndAsLeafSums
 ends_with_leaf_sums leaf_amount ranges leaves partitions state reached end some row =
     ends_with_plain_sums (length ranges) state reached end some (amounts leaf_amount ranges) row ∙ jobs_add_up leaf_amount ranges leaves partitions row

@@ -3,7 +3,7 @@ use Rattle.std.proofs.Common.{◌≡◌, ℕ, List, [], ◌∷◌, ◌++◌, ref
 use Rattle.std.proofs.lemmas.List.Sorted.{IsPermutation-refl, IsPermutation-swap}
 use Rattle.std.proofs.lemmas.List.Elements.{All-nil, All-cons}
 use Rattle.def_history.specs.Core.{State, Right, Draws, Adds, none, first}
-use Rattle.def_history.specs.Worked.{RunsToTheEnd}
+use Rattle.def_history.specs.Worked.{TwoJobsRunToTheEnd}
 
 right : ℕ → ℕ → Right
 right job stripe = record { job = job; stripe = stripe }
@@ -32,7 +32,7 @@ unfolding right holding
 second_before_first job bag one two = record { is_pass = omega arith; gives_up = record { gives_right = IsPermutation-swap (right job 0 ∷ right job 1 ∷ []) (right job 1 ∷ right job 0 ∷ []) 0 1 (omega arith) (omega arith) refl; joins_history = refl }; other_passes = refl; other_histories = refl; bag = refl }
 
 -- one pass draws two jobs and adds each into both stripes, from an opening to the end
-pub runs_to_the_end : RunsToTheEnd
+pub runs_to_the_end : TwoJobsRunToTheEnd
 unfolding right holding
 runs_to_the_end = (
   record { bag = IsPermutation-refl (0 ∷ 1 ∷ []); passes = All-cons (λ rights. rights ≡ []) [] [] refl (All-nil (λ rights. rights ≡ [])); histories = All-cons (λ history. history ≡ []) [] ([] ∷ []) refl (All-cons (λ history. history ≡ []) [] [] refl (All-nil (λ history. history ≡ []))) },

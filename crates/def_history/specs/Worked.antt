@@ -14,8 +14,8 @@ all_steps = draw 0 0 ∷ add 0 0 1 ∷ add 0 0 0 ∷ draw 0 1 ∷ add 0 1 0 ∷ 
 abbrev pub all_added : State
 all_added = record { bag = []; passes = [] ∷ []; histories = (0 ∷ 1 ∷ []) ∷ (0 ∷ 1 ∷ []) ∷ [] }
 
-abbrev pub RunsToTheEnd : Type 0
-RunsToTheEnd = IsOpening 2 two_jobs × StepsLead two_jobs all_steps all_added
+abbrev pub TwoJobsRunToTheEnd : Type 0
+TwoJobsRunToTheEnd = IsOpening 2 two_jobs × StepsLead two_jobs all_steps all_added
 
 -- a job of two leaves and one of one leaf have all three leaves
 abbrev pub TwoJobsHaveThreeLeaves : Type 0

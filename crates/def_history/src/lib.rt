@@ -4,43 +4,43 @@
 
 ghost use Rattle.def_history.specs.Locks.{CountsTellRights, LegalReplaysAreSmall, LocalStepsAreSteps};
 ghost use Rattle.def_history.specs.Packets.{PacketsBringAmounts, StripesHoldTheirRows};
-ghost use Rattle.def_history.specs.Worked.{RunsToTheEnd, TwoJobsHaveThreeLeaves};
-ghost use Rattle.def_history.specs.Laws.{CountsEachRightOnce, EndsComplete, EndsWithLeafSums, EndsWithPlainSums, GivesUpByAdding, HoldsOnlyRights, HoldsOrGivesUp, JobsAddUpToLeaves, KeepsBagLegal, KeepsHistoriesLegal, PlacesEachRowOnce, ReplaysToPlainSum};
+ghost use Rattle.def_history.specs.Worked.{TwoJobsRunToTheEnd, TwoJobsHaveThreeLeaves};
+ghost use Rattle.def_history.specs.Laws.{EachRightCountsOnce, HistoriesEndComplete, RowsEndAsLeafSums, RowsEndAsPlainSums, ARightIsGivenUpByAdding, PassesHoldRightsOfJobsAndStripes, EachRightHasOneHolder, JobsAddUpToLeaves, BagIsLegal, HistoriesAreLegal, EachRowHasOnePlace, CompleteHistoriesReplayToPlainSums};
 
 /// Whatever steps were taken, every history is legal: each job stands in it at most once, and nothing else does.
 pub fn histories_are_legal()
-    ensures { KeepsHistoriesLegal }
+    ensures { HistoriesAreLegal }
 {}
 
 /// Whatever steps were taken, the bag has each job at most once, and nothing else.
 pub fn bag_is_legal()
-    ensures { KeepsBagLegal }
+    ensures { BagIsLegal }
 {}
 
 /// For each job and stripe, the times in the bag, the rights that passes hold, and the times in the history are
 /// together one.
 pub fn each_right_counts_once()
-    ensures { CountsEachRightOnce }
+    ensures { EachRightCountsOnce }
 {}
 
 /// Each right is held by the bag alone, by one pass alone, or given up.
 pub fn each_right_has_one_holder()
-    ensures { HoldsOrGivesUp }
+    ensures { EachRightHasOneHolder }
 {}
 
 /// A right is given up exactly where its job is in that stripe's history.
 pub fn a_right_is_given_up_by_adding()
-    ensures { GivesUpByAdding }
+    ensures { ARightIsGivenUpByAdding }
 {}
 
 /// Whatever steps were taken, each right that a pass holds names a job and a stripe.
 pub fn passes_hold_rights_of_jobs_and_stripes()
-    ensures { HoldsOnlyRights }
+    ensures { PassesHoldRightsOfJobsAndStripes }
 {}
 
 /// With the bag empty and no right held, every job is in every history.
 pub fn histories_end_complete()
-    ensures { EndsComplete }
+    ensures { HistoriesEndComplete }
 {}
 
 /// Who sees one lock's value and a pass's rights takes a step of the core, whatever the rest of the state is.
@@ -61,17 +61,17 @@ pub fn legal_replays_are_small()
 
 /// A legal and complete history, in whatever order, replays to the plain sum over all jobs.
 pub fn complete_histories_replay_to_plain_sums()
-    ensures { ReplaysToPlainSum }
+    ensures { CompleteHistoriesReplayToPlainSums }
 {}
 
 /// With the bag empty and no right held, each row's replay is the plain sum over all jobs.
 pub fn rows_end_as_plain_sums()
-    ensures { EndsWithPlainSums }
+    ensures { RowsEndAsPlainSums }
 {}
 
 /// Each row lies at its place of its stripe and nowhere else.
 pub fn each_row_has_one_place()
-    ensures { PlacesEachRowOnce }
+    ensures { EachRowHasOnePlace }
 {}
 
 /// Exactly the places of a stripe below its count of rows have a row.
@@ -93,12 +93,12 @@ pub fn jobs_add_up_to_leaves()
 /// Where the jobs' leaves are all leaves, each once, each row's replay is the plain sum over all leaves, with the bag
 /// empty and no right held.
 pub fn rows_end_as_leaf_sums()
-    ensures { EndsWithLeafSums }
+    ensures { RowsEndAsLeafSums }
 {}
 
 /// Row: steps of two jobs, one pass and two stripes lead from an opening to both jobs in both histories.
 pub fn two_jobs_run_to_the_end()
-    ensures { RunsToTheEnd }
+    ensures { TwoJobsRunToTheEnd }
 {}
 
 /// Row: a job of two leaves and one of one leaf have all three leaves, each once.

@@ -3,7 +3,7 @@ use Rattle.std.proofs.Common.{◌≡◌, ℕ, zero, suc, ◌/◌, ◌≤◌, ℤ
 use Rattle.std.proofs.lemmas.Int.{ints, by_lt_z}
 use Rattle.std.specs.Int.{int_div_euclid}
 use Rattle.def_sums.specs.Floor.{IsFloorOf, floor_div}
-use Rattle.def_sums.specs.Laws.{IsTheFloor}
+use Rattle.def_sums.specs.Laws.{FloorLaws}
 use Rattle.def_sums.proofs.RingLaws.{+ℤ-*ℤ, *ℤ-mono_right, ≤ℤ_antisym}
 
 -- the quotient is the greatest whole number that is at most n / d
@@ -32,5 +32,5 @@ floor_div-euclid (pos n) d = refl
 floor_div-euclid (negsuc n) d = refl
 
 -- the quotient is the one whole number q with q * d ≤ n < (q + 1) * d
-pub floor_laws : IsTheFloor
+pub floor_laws : FloorLaws
 floor_laws = record { is_floor = floor_div-is_floor; only = floor_div-only; as_euclid = floor_div-euclid }

@@ -4,7 +4,7 @@ use Rattle.std.proofs.Common.{◌≡◌, ℕ, zero, suc, ◌+◌, ◌*◌, ◌�
 use Rattle.std.proofs.Math.Nat.{mul-le-mul_left, le_of_mul-le-mul_left}
 use Rattle.std.proofs.lemmas.Int.{ints}
 use borrow.Author.Differences.{up, down, product_is, sum_is_lem, le_out, at_most_in}
-use Rattle.def_sums.specs.Laws.{FormARing, KeepOrder}
+use Rattle.def_sums.specs.Laws.{RingLaws, OrderLaws}
 
 -- a sum of three signed numbers can be grouped either way
 pub +ℤ_assoc : (a b c : ℤ) → (a +ℤ b) +ℤ c ≡ a +ℤ (b +ℤ c)
@@ -120,7 +120,7 @@ pub unsigned_abs-+ℤ : (a b : ℤ) → unsigned_abs (a +ℤ b) ≤ unsigned_abs
 unsigned_abs-+ℤ a b = omega (arith, ints)
 
 -- the signed numbers are a commutative ring
-pub ring_laws : FormARing
+pub ring_laws : RingLaws
 ring_laws = record {
   sum_groups = +ℤ_assoc;
   sum_commutes = +ℤ_comm;
@@ -133,5 +133,5 @@ ring_laws = record {
 }
 
 -- a natural factor keeps the order, and one that is not 0 can be taken away again
-pub order_laws : KeepOrder
+pub order_laws : OrderLaws
 order_laws = record { sum_keeps = +ℤ-mono; product_keeps = *ℤ-mono; product_cancels = *ℤ-cancel }

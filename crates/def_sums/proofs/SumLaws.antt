@@ -3,7 +3,7 @@ use Rattle.std.proofs.Common.{◌≡◌, ℕ, ◌+◌, ◌*◌, ◌≤◌, Bool,
 use Rattle.std.proofs.lemmas.Int.{ints, unsigned_abs-mul}
 use Rattle.std.proofs.lemmas.List.Elements.{All-head, All-tail}
 use Rattle.def_sums.specs.Sum.{sum_over, nat_sum_over}
-use Rattle.def_sums.specs.Laws.{BoundSizes, SumsAreLinear}
+use Rattle.def_sums.specs.Laws.{SizeLaws, SumLaws}
 use Rattle.def_sums.proofs.RingLaws.{+ℤ_assoc, zero-+ℤ, *ℤ-zero, *ℤ-+ℤ, +ℤ-mono, ≤ℤ_refl, unsigned_abs-+ℤ}
 
 -- a sum over a list is that over its front and that over the rest, added
@@ -136,7 +136,7 @@ pub nat_sum_over-sum : (xs : List ℕ) → nat_sum_over (λ x. x) xs ≡ sum xs
 nat_sum_over-sum xs = omega (arith, from_first 0 xs)
 
 -- the size of a sum is at most the sum of the sizes, and that of a product is their product
-pub size_laws : BoundSizes
+pub size_laws : SizeLaws
 size_laws = record {
   of_sum = unsigned_abs-+ℤ;
   of_product = unsigned_abs-mul;
@@ -145,7 +145,7 @@ size_laws = record {
 }
 
 -- a sum over a list spreads over its parts, over sums and over a factor, and two can be taken in either order
-pub sum_laws : SumsAreLinear
+pub sum_laws : SumLaws
 sum_laws = record {
   over_parts = λ f xs ys. sum_over-append f xs ys;
   over_sum = λ f g xs. sum_over-+ℤ f g xs;
