@@ -2,7 +2,7 @@
 use Rattle.std.specs.Prelude.{◌≡◌, ℕ, ◌+◌, ◌-◌, ◌*◌, ◌/◌, ◌%◌, ◌^◌, ◌≤◌, ◌<◌, min, ◌⊎◌, ◌↔◌, List, [], ◌∷◌, ◌++◌, map, length, take, slice_index_or, All, Contains, ℤ, pos, ◌*ℤ◌, unsigned_abs, Some}
 use Rattle.std.specs.List.{range_with_len}
 use Rattle.std.specs.List.Sorted.{IsStrictlyIncreasing}
-use Rattle.def_sums.specs.Limits.{most_rounds}
+use Rattle.def_sums.specs.Limits.{most_rounds, most_row}
 use Rattle.def_bracket.specs.Bracket.{evaluated_rounds, Evaluation, HasFloorAtMost, HasCeilingAtMost, BracketEnds, next_ends, first_ends, ends_of, TraceLine, trace_line, trace, IsLowerEnd, IsUpperEnd, LiesWithin}
 
 -- no divisor is 0
@@ -76,5 +76,5 @@ pub record RoundsAreEvaluated : Type 0 where
 
 -- a bound of an evaluation times a round
 abbrev pub BracketProductsAreSmall : Type 0
-BracketProductsAreSmall = (bound : ℤ) (round : ℕ) → unsigned_abs bound ≤ 2 ^ 98 → round ≤ most_rounds
+BracketProductsAreSmall = (bound : ℤ) (round : ℕ) → unsigned_abs bound ≤ most_row → round ≤ most_rounds
     → unsigned_abs (bound *ℤ pos round) < 2 ^ 115

@@ -2,7 +2,7 @@
 use Rattle.std.specs.Prelude.{◌≡◌, ℕ, ◌*◌, ◌^◌, ◌≤◌, ◌<◌, ◌↔◌, List, length, slice_index, slice_index_or, All, ℤ, pos, ◌*ℤ◌, unsigned_abs, Ok}
 use Rattle.def_tree.specs.declared.Player.{Player}
 use Rattle.def_tree.specs.Opponent.{opponent}
-use Rattle.def_sums.specs.Limits.{most_mass}
+use Rattle.def_sums.specs.Limits.{most_mass, most_row}
 use Rattle.def_sums.specs.Sum.{nat_sum_over}
 use Rattle.def_plan.specs.Form.{InformationSet, placed, Leaf, leaf_sequence}
 use Rattle.def_plan.specs.Payoff.{leaf_sum, worth, mass_of}
@@ -41,7 +41,7 @@ PlanSumsAreSmall = (unit sets : ℕ) (plan : PrintedPlan) → unit ≤ most → 
 
 -- all leaves' products with a printed plan together, all printed values together, and so each part of each worth
 pub record SumsOfReply (player : Player) (leaves : List Leaf) (sets : List InformationSet) (plan : PrintedPlan) (reply : Reply) : Type 0 where
-  pub leaf_sums : nat_sum_over (λ z. unsigned_abs (z.weight *ℤ pos (slice_index (printed_numbers plan) (leaf_sequence (opponent player) z)))) leaves ≤ 2 ^ 98
+  pub leaf_sums : nat_sum_over (λ z. unsigned_abs (z.weight *ℤ pos (slice_index (printed_numbers plan) (leaf_sequence (opponent player) z)))) leaves ≤ most_row
   pub values : nat_sum_over (λ r. unsigned_abs r.value) reply.sets ≤ 2 ^ 120
   pub worths : (s : ℕ)
       → unsigned_abs (worth (leaf_sum player leaves (printed_numbers plan)) (placed sets) (values_of reply.sets) s) ≤ 2 ^ 121

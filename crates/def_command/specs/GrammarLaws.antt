@@ -1,7 +1,7 @@
 -- Which words are a call, and of which command.
 use Rattle.std.specs.Prelude.{◌≡◌, ◌↔◌, ◌≤◌, List, ℕ, Some}
-use Rattle.def_sums.specs.Limits.{most_rounds, most_scale}
-use Rattle.def_command.specs.Table.{least_cards, most_cards, most_workers}
+use Rattle.def_sums.specs.Limits.{most_rounds, most_scale, most_workers}
+use Rattle.def_command.specs.Table.{least_cards, most_cards}
 use Rattle.def_command.specs.Grammar.{Settings, Command, Solve, Gen, Drill, command_of_words, IsCall}
 
 -- the command that is computed is exactly the one that the words are a call of

@@ -5,7 +5,7 @@
 --                                      of an option: its name, its range, and the number where it is absent
 --     built_commands, built_options    those that the program takes so far: the words of others aren't taken
 use Rattle.std.specs.Prelude.{ℕ, Bool, true, false, ◌==◌, if◌then◌else◌, List, [], ◌∷◌, codes}
-use Rattle.def_sums.specs.Limits.{most_rounds, most_scale}
+use Rattle.def_sums.specs.Limits.{most_rounds, most_scale, most_workers}
 
 pub data CommandName : Type 0 where
   Solve : CommandName
@@ -27,9 +27,6 @@ abbrev pub built_options : List OptionName
 built_options = Rounds ∷ Every ∷ Scale ∷ Workers ∷ []
 
 -- ---- limits
-abbrev pub most_workers : ℕ
-most_workers = 64
-
 abbrev pub least_cards : ℕ
 least_cards = 2
 

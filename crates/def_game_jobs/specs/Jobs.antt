@@ -65,7 +65,7 @@ abbrev pub EachLeafInOneJob : Type 0
 EachLeafInOneJob = (tree : Forest) → tree_count tree ≡ 1 → flat_map leaves_in (jobs_of tree) ≡ leaves_in tree
 
 abbrev pub JobsAreFew : Type 0
-JobsAreFew = (tree : Forest) → length (jobs_of tree) ≤ 4096
+JobsAreFew = (tree : Forest) → length (jobs_of tree) ≤ most_jobs
 
 -- a pass that replaces nothing is the last that matters
 abbrev pub LaterPassesKeep : Type 0
@@ -97,7 +97,7 @@ PassesReplace = (limit : ℕ) (jobs : List Forest)
 pub record JobsComeOfPasses : Type 0 where
   pub none_at_first : (limit : ℕ) (tree : Forest) → jobs_within limit 0 tree ≡ tree ∷ []
   pub one_more : (limit n : ℕ) (tree : Forest) → jobs_within limit (suc n) tree ≡ pass limit (jobs_within limit n tree)
-  pub all : (tree : Forest) → jobs_of tree ≡ jobs_within 4096 64 tree
+  pub all : (tree : Forest) → jobs_of tree ≡ jobs_within most_jobs most_passes tree
 
 -- no job can give way: where one is a chance node's, there would be too many
 abbrev pub NoRoomToCut : ℕ → List Forest → Type 0
@@ -110,4 +110,5 @@ OnlyCutsChange = (limit : ℕ) (jobs : List Forest) → (pass limit jobs ≡ job
 -- in the end no job can give way, unless each of the 64 passes replaced some
 abbrev pub CutsUntilNoRoom : Type 0
 CutsUntilNoRoom = (tree : Forest) →
-    NoRoomToCut 4096 (jobs_of tree) ⊎ ((n : ℕ) → n < 64 → jobs_within 4096 (n + 1) tree ≢ jobs_within 4096 n tree)
+    NoRoomToCut most_jobs (jobs_of tree)
+    ⊎ ((n : ℕ) → n < most_passes → jobs_within most_jobs (n + 1) tree ≢ jobs_within most_jobs n tree)

@@ -1,10 +1,10 @@
 -- What holds of plans. Each is the contract of a function of this crate.
-use Rattle.std.specs.Prelude.{◌≡◌, ℕ, ◌+◌, ◌*◌, ◌^◌, ◌≤◌, ◌<◌, ◌↔◌, List, ◌∷◌, length, take, flat_map, replicate, slice_index, slice_index_or, ℤ, pos, ◌*ℤ◌, unsigned_abs, Some, None}
+use Rattle.std.specs.Prelude.{◌≡◌, ℕ, ◌+◌, ◌*◌, ◌≤◌, ◌<◌, ◌↔◌, List, ◌∷◌, length, take, flat_map, replicate, slice_index, slice_index_or, ℤ, pos, ◌*ℤ◌, unsigned_abs, Some, None}
 use Rattle.std.specs.List.{AllZip}
 use Rattle.def_tree.specs.declared.Player.{Player}
 use Rattle.def_tree.specs.declared.Player.TheVariants.{One, Two}
 use Rattle.def_sums.specs.Sum.{nat_sum_over}
-use Rattle.def_sums.specs.Limits.{most_mass, most_scale, most_root}
+use Rattle.def_sums.specs.Limits.{most_mass, most_scale, most_root, most_round_row, most_row}
 use Rattle.def_plan.specs.Form.{InformationSet, PlacedSet, placed, sequences_of, sequence_count, sequences, AreInOrder, Leaf}
 use Rattle.def_plan.specs.Plan.{IsPlan, cleared, IsPlanOrCleared, dealt, DealsWhole, FollowsRules, AreActions, FollowsChoices, pure_plan, added, bad_set, IsBadSet}
 use Rattle.def_plan.specs.Payoff.{pay, leaf_sum, gain, worth, mass_of, IsNoBetter, NoActionIsBetter, PlaysOnlyTight}
@@ -95,6 +95,6 @@ pub record PlansAreSmall : Type 0 where
       → AreInOrder against_sets → IsPlan against_sets root plan
       → nat_sum_over (λ s. unsigned_abs (leaf_sum player leaves plan s)) (sequences sets) ≤ mass_of leaves * root
   pub of_a_round : (leaves : List Leaf) (root : ℕ) → mass_of leaves ≤ most_mass → root ≤ most_scale
-      → mass_of leaves * root ≤ 2 ^ 82
+      → mass_of leaves * root ≤ most_round_row
   pub of_an_evaluation : (leaves : List Leaf) (root : ℕ) → mass_of leaves ≤ most_mass → root ≤ most_root
-      → mass_of leaves * root ≤ 2 ^ 98
+      → mass_of leaves * root ≤ most_row

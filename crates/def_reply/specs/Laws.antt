@@ -3,7 +3,7 @@ use Rattle.std.specs.Prelude.{◌≡◌, ℕ, ◌+◌, ◌^◌, ◌≤◌, ◌<�
 use Rattle.def_tree.specs.declared.Player.{Player}
 use Rattle.def_tree.specs.declared.Player.TheVariants.{One, Two}
 use Rattle.def_sums.specs.Sum.{nat_sum_over}
-use Rattle.def_sums.specs.Limits.{most_mass, most_root}
+use Rattle.def_sums.specs.Limits.{most_mass, most_root, most_row}
 use Rattle.def_plan.specs.Form.{InformationSet, placed, sequence_count, sequences, AreInOrder, SequenceForm}
 use Rattle.def_plan.specs.Plan.{IsPlan, pure_plan}
 use Rattle.def_plan.specs.Payoff.{AgreeOn, gain, leaf_sum, mass_of, IsNoBetter}
@@ -109,8 +109,8 @@ pub record RepliesAreSmall : Type 0 where
 pub record BoundsAreSmall : Type 0 where
   pub floor : (form : SequenceForm) (root : ℕ) (plan_one : List ℕ) → AreInOrder form.sets_one → AreInOrder form.sets_two
       → IsPlan form.sets_one root plan_one → mass_of form.leaves ≤ most_mass → root ≤ most_root
-      → let sums = leaf_sum Two form.leaves plan_one in unsigned_abs (total sums form.sets_two (best_reply Two sums form.sets_two)) ≤ 2 ^ 98
+      → let sums = leaf_sum Two form.leaves plan_one in unsigned_abs (total sums form.sets_two (best_reply Two sums form.sets_two)) ≤ most_row
   pub ceiling : (form : SequenceForm) (root : ℕ) (plan_two : List ℕ) → AreInOrder form.sets_one
       → AreInOrder form.sets_two
       → IsPlan form.sets_two root plan_two → mass_of form.leaves ≤ most_mass → root ≤ most_root
-      → let sums = leaf_sum One form.leaves plan_two in unsigned_abs (total sums form.sets_one (best_reply One sums form.sets_one)) ≤ 2 ^ 98
+      → let sums = leaf_sum One form.leaves plan_two in unsigned_abs (total sums form.sets_one (best_reply One sums form.sets_one)) ≤ most_row

@@ -1,7 +1,7 @@
 -- The sizes on which fixed widths rest.
 use Rattle.std.specs.Prelude.{ℕ, ◌+◌, ◌*◌, ◌^◌, ◌≤◌, ◌<◌, ◌==◌, ℤ, unsigned_abs, List, zip, filter, All}
 use Rattle.std.specs.List.{AllZip}
-use Rattle.def_sums.specs.Limits.{most_rounds}
+use Rattle.def_sums.specs.Limits.{most_rounds, most_round_row, most_row}
 use Rattle.def_sums.specs.Sum.{nat_sum_over}
 use Rattle.def_tree.specs.declared.Player.{Player}
 use Rattle.def_plan.specs.Form.{InformationSet, placed, sequence_count, AreInOrder, SequenceForm, Leaf}
@@ -47,14 +47,14 @@ RegretsGrowByTheSums = (sums : ℕ → ℤ) (play : List ℕ) (sets : List Infor
 -- so with leaf sums that are together at most 2 ^ 82, and regrets within that times the rounds so far, one more round
 -- keeps them within that, and at most 2 ^ 98
 pub record StaySmall (after : List ℤ) (rounds_so_far : ℕ) : Type 0 where
-  pub by_rounds : (s : ℕ) → unsigned_abs (regret_of after s) ≤ (rounds_so_far + 1) * 2 ^ 82
-  pub at_most : (s : ℕ) → unsigned_abs (regret_of after s) ≤ 2 ^ 98
+  pub by_rounds : (s : ℕ) → unsigned_abs (regret_of after s) ≤ (rounds_so_far + 1) * most_round_row
+  pub at_most : (s : ℕ) → unsigned_abs (regret_of after s) ≤ most_row
 
 abbrev pub RegretsStaySmall : Type 0
 RegretsStaySmall = (sums : ℕ → ℤ) (play : List ℕ) (sets : List InformationSet) (before : List ℤ) (rounds_so_far : ℕ)
     → AreInOrder sets → GivesAllUnits play sets
-    → size_of_sums sums sets ≤ 2 ^ 82 → rounds_so_far < most_rounds
-    → ((s : ℕ) → unsigned_abs (regret_of before s) ≤ rounds_so_far * 2 ^ 82)
+    → size_of_sums sums sets ≤ most_round_row → rounds_so_far < most_rounds
+    → ((s : ℕ) → unsigned_abs (regret_of before s) ≤ rounds_so_far * most_round_row)
     → StaySmall (regrets_after sums play sets before) rounds_so_far
 
 -- a round adds at most the mass times the root to a regret
@@ -65,18 +65,18 @@ RegretsGrowSlowly = (form : SequenceForm) (root n : ℕ) → AreInOrder form.set
 -- a round's leaf sums together are at most 2 ^ 82
 abbrev pub RoundsAreSmall : Type 0
 RoundsAreSmall = (form : SequenceForm) (root n : ℕ) → IsWithinRunLimits form root n
-    → mass_of form.leaves * root ≤ 2 ^ 82
+    → mass_of form.leaves * root ≤ most_round_row
 
 -- products of play and worth at a set, together, are at most 2 ^ 98
 abbrev pub PlayProductsAreSmall : Type 0
 PlayProductsAreSmall = (form : SequenceForm) (root n : ℕ) → IsWithinRunLimits form root n
-    → units * (mass_of form.leaves * root) ≤ 2 ^ 98
+    → units * (mass_of form.leaves * root) ≤ most_row
 
 -- a regret is at most 2 ^ 98, so below 2 ^ 99
 abbrev pub RegretsAreSmall : Type 0
 RegretsAreSmall = (form : SequenceForm) (root n : ℕ) → AreInOrder form.sets_one → AreInOrder form.sets_two → 1 ≤ root
     → IsWithinRunLimits form root n
-    → RegretsAreWithin (2 ^ 98) (rounds form root n)
+    → RegretsAreWithin most_row (rounds form root n)
 
 -- and all units times a set's regrets are below 2 ^ 126, where a set has at most 1,024 actions
 pub record DealsWithin (sets : List InformationSet) (regrets : List ℤ) : Type 0 where
@@ -88,7 +88,7 @@ pub record BothDealWithin (form : SequenceForm) (root n : ℕ) : Type 0 where
 
 abbrev pub SmallRegretsDealSmallProducts : Type 0
 SmallRegretsDealSmallProducts = (sets : List InformationSet) (regrets : List ℤ)
-    → ((s : ℕ) → unsigned_abs (regret_of regrets s) ≤ 2 ^ 98) → DealsWithin sets regrets
+    → ((s : ℕ) → unsigned_abs (regret_of regrets s) ≤ most_row) → DealsWithin sets regrets
 
 abbrev pub DealtProductsAreSmall : Type 0
 DealtProductsAreSmall = (form : SequenceForm) (root n : ℕ) → AreInOrder form.sets_one → AreInOrder form.sets_two

@@ -2,6 +2,7 @@
 use Rattle.std.specs.Prelude.{◌≡◌, ℕ, ◌<◌, ◌≤◌, pos, [], length, slice_index_or}
 use Rattle.atomic_table.specs.Table.{Me}
 use Rattle.atomic_table.specs.Seated.{TableId}
+use Rattle.def_sums.specs.Limits.{most_stripes}
 use Rattle.xg_jobs.specs.Rows.{Amounts, all_rows}
 use Rattle.xg_rights.specs.declared.view.View.{View}
 use Rattle.xg_rights.specs.Rights.{number_from, whole}
@@ -9,7 +10,7 @@ use Rattle.xg_rights.specs.Rights.{number_from, whole}
 -- the table's first seat has everything, for these jobs and stripes
 pub record IsBase (table seat : TableId) (me : Me (Unit {0}) View) (jobs stripes : ℕ) : Type 0 where
   pub some : 1 ≤ stripes
-  pub few : stripes ≤ 64
+  pub few : stripes ≤ most_stripes
   pub here : seat ≡ table
   pub words : 0 < table.words
   pub all : me ≡ (whole (number_from jobs stripes), [])
@@ -23,5 +24,5 @@ pub record IsBoard (named table : TableId) (jobs rows : ℕ) (job_count stripes 
   pub rows_is : length (all_rows amounts) ≡ rows
   pub zeros : (row : ℕ) → row < rows → slice_index_or (all_rows amounts) row (pos 0) ≡ pos 0
   pub some : 1 ≤ stripes
-  pub few : stripes ≤ 64
+  pub few : stripes ≤ most_stripes
   pub locked_is : locked ≡ stripes

@@ -2,6 +2,7 @@
 use Rattle.std.specs.Prelude.{◌≡◌, ℕ, ◌+◌, ◌-◌, ◌≤◌, List, [], ◌∷◌}
 use Rattle.atomic_table.specs.Table.{Me}
 use Rattle.atomic_table.specs.Seated.{TableId}
+use Rattle.def_sums.specs.Limits.{most_workers}
 use Rattle.def_history.specs.Core.{Right}
 use Rattle.xg_rights.specs.declared.view.View.{View}
 use Rattle.xg_rights.specs.Rights.{seen, spent}
@@ -38,8 +39,8 @@ pub record PurseView : Type 0 where
 -- a purse's seat has no right, and the tickets and parts of the passes that it can still make
 pub record IsPurse (named id : TableId) (me : Me (Unit {0}) View) (made : ℕ) : Type 0 where
   pub here : id ≡ named
-  pub me_is : me ≡ (seen [] (64 - made) (65 - made) me.0.number, [])
-  pub few : made ≤ 64
+  pub me_is : me ≡ (seen [] (most_workers - made) (65 - made) me.0.number, [])
+  pub few : made ≤ most_workers
 
 abbrev pub tickets_of : List Holding → ℕ
 tickets_of [] = 0

@@ -1,6 +1,7 @@
 -- What workers are before and after their work, and the amounts that they add.
-use Rattle.std.specs.Prelude.{◌≡◌, ℕ, ◌≤◌, ◌^◌, nat_le, if◌then◌else◌, Bool, ℤ, pos, List, [], unsigned_abs}
+use Rattle.std.specs.Prelude.{◌≡◌, ℕ, ◌≤◌, nat_le, if◌then◌else◌, Bool, ℤ, pos, List, [], unsigned_abs}
 use Rattle.std.specs.List.{list_all, range_with_len}
+use Rattle.def_sums.specs.Limits.{most_row}
 use Rattle.def_sums.specs.Sum.{nat_sum_over}
 use Rattle.def_plan.specs.Form.{SequenceForm}
 use Rattle.def_game_jobs.specs.Ranges.{LeafRange}
@@ -29,7 +30,7 @@ job_amounts form numbers_one numbers_two ranges = amounts (leaf_amount form numb
 -- at each row the sizes of all jobs' amounts add up to no more than a name takes
 abbrev pub are_small : ℕ → ℕ → (ℕ → ℕ → ℤ) → Bool
 are_small jobs rows amount =
-    list_all (λ row. nat_le (nat_sum_over (λ job. unsigned_abs (amount job row)) (job_numbers jobs)) (2 ^ 98))
+    list_all (λ row. nat_le (nat_sum_over (λ job. unsigned_abs (amount job row)) (job_numbers jobs)) most_row)
     (range_with_len 0 rows)
 
 -- the amounts where they are, else none: a name takes them of any table

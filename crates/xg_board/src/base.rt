@@ -1,4 +1,5 @@
 ghost use Rattle.std.specs.Prelude.{◌≡◌, ◌≤◌, length, IfOk};
+ghost use Rattle.def_sums.specs.Limits.{most_stripes};
 ghost use Rattle.xg_board.specs.Boards.{IsBase};
 
 use std::alloc::{AllocError, Global};
@@ -19,7 +20,7 @@ impl Base {
     /// A table for the rights of these jobs and so many stripes, at most 64.
     pub fn new(alloc: Global, jobs: &JobTable, stripes: u32) -> Result<Base, AllocError>
         requires some { 1 ≤ stripes }
-        requires few { stripes ≤ 64 }
+        requires few { stripes ≤ most_stripes }
         ensures jobs { IfOk result (λ base. base.jobs ≡ length jobs.now.ranges) }
         ensures stripes { IfOk result (λ base. base.stripes ≡ stripes) }
     {

@@ -1,4 +1,5 @@
 ghost use Rattle.std.specs.Prelude.{◌≡◌, ◌<◌, ◌≤◌, ◌+◌, [], IsPermutation, MatchOption, vec_len, length, ℕ, All, pos, slice_index_or};
+ghost use Rattle.def_sums.specs.Limits.{most_workers, most_stripes};
 ghost use Rattle.def_history.specs.Core.{rights_of, times_right};
 ghost use Rattle.def_history.specs.History.{sum_over_jobs};
 ghost use Rattle.def_history.specs.Packets.{IsPacketOf};
@@ -40,7 +41,7 @@ impl<N: RowName> RowBoard<N> {
     /// visits first.
     pub fn pass(&self, purse: &mut Purse<N>, worker: u32) -> Pass<N>
         requires number { purse.old.number ≡ number_from self.now.jobs self.now.stripes }
-        requires few { purse.old.made < 64 }
+        requires few { purse.old.made < most_workers }
         ensures pass { result ≡ record { worker = worker; rights = []; tickets = 1; number = purse.old.number } }
         ensures purse { purse.new ≡ record { made = purse.old.made + 1; number = purse.old.number } }
     {
@@ -156,7 +157,7 @@ impl<N: RowName> RowBoard<N> {
 
 // The stripe that is visited after so many others.
 fn visited(start: u32, visits: u32, stripes: u32) -> u32
-    requires { (start < stripes) × (visits < stripes) × (stripes ≤ 64) }
+    requires { (start < stripes) × (visits < stripes) × (stripes ≤ most_stripes) }
     ensures { (result < stripes) × (steps_to stripes start result ≡ visits) }
 {
     if start + visits < stripes {

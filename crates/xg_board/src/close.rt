@@ -1,4 +1,5 @@
 ghost use Rattle.std.specs.Prelude.{◌≡◌, ℕ, ◌<◌, ◌≤◌, ◌+◌, ◌^◌, ◌*◌, List, [], ◌∷◌, ◌++◌, length, All, pos, ◌+ℤ◌, unsigned_abs, slice_index_or, slice_set, vec_len};
+ghost use Rattle.def_sums.specs.Limits.{most_row};
 ghost use Rattle.def_history.specs.Core.{Right};
 ghost use Rattle.def_history.specs.Packets.{place_count as places_in};
 ghost use Rattle.xg_jobs.specs.Rows.{all_rows};
@@ -112,7 +113,7 @@ fn take_stripe<N: RowName>(
 // Adds a stripe's totals to its rows.
 fn add_totals<N: RowName>(rows: &mut Rows, stripe: &Stripe<N>)
     requires count { length (all_rows rows.old) ≡ N.rows }
-    requires small { (row : ℕ) → row < N.rows → unsigned_abs (slice_index_or (all_rows rows.old) row (pos 0)) ≤ 2 ^ 98 }
+    requires small { (row : ℕ) → row < N.rows → unsigned_abs (slice_index_or (all_rows rows.old) row (pos 0)) ≤ most_row }
     ensures added { AddsTotals N.amount stripe.now (all_rows rows.old) (all_rows rows.new) }
     ensures one { length rows.new.one ≡ length rows.old.one }
 {

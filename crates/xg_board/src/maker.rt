@@ -1,4 +1,5 @@
 ghost use Rattle.std.specs.Prelude.{◌≤◌, IfOk};
+ghost use Rattle.def_sums.specs.Limits.{most_workers, most_stripes};
 ghost use Rattle.xg_jobs.specs.Rows.{AreNumbersOf, ArePlainSums};
 ghost use Rattle.xg_jobs.specs.Table.{IsTableOf};
 
@@ -21,7 +22,7 @@ pub struct LockedRows<'g, G: Gate> {
     /// Where workers may be held up.
     pub gate: &'g G,
     ghost some: { (1 ≤ workers) × (1 ≤ stripes) },
-    ghost few: { (workers ≤ 64) × (stripes ≤ 64) },
+    ghost few: { (workers ≤ most_workers) × (stripes ≤ most_stripes) },
 }
 
 impl<'g, G: Gate> LockedRows<'g, G> {

@@ -1,4 +1,5 @@
 ghost use Rattle.std.specs.Prelude.{◌≡◌, ◌<◌, ◌+◌, [], length, replicate, pos, vec_len, IfOk};
+ghost use Rattle.def_sums.specs.Limits.{most_workers};
 ghost use Rattle.def_plan.specs.Form.{sequence_count};
 ghost use Rattle.def_rows.specs.Rows.{row_count};
 ghost use Rattle.xg_jobs.specs.Table.{IsTableOf};
@@ -79,10 +80,10 @@ fn seated_stripes<N: RowName>(
     requires table { (table.now.table_id ≡ N.table) × (0 < N.table.words) × (seat.old.table_id ≡ N.table) }
     requires name { (rows ≡ N.rows) × (jobs ≡ N.jobs) }
     requires stripes { stripes_of (number_of seat.old.me) ≡ stripes }
-    requires seat { seat.old.me ≡ (seen [] 64 (stripes + 65) (number_of seat.old.me), []) }
+    requires seat { seat.old.me ≡ (seen [] most_workers (stripes + 65) (number_of seat.old.me), []) }
     ensures stripes { IfOk result (λ v. vec_len v ≡ stripes) }
     ensures table { IfOk result (λ v. seat.new.table_id ≡ N.table) }
-    ensures seat { IfOk result (λ v. seat.new.me ≡ (seen [] 64 65 (number_of seat.old.me), [])) }
+    ensures seat { IfOk result (λ v. seat.new.me ≡ (seen [] most_workers 65 (number_of seat.old.me), [])) }
 {
     let mut locked = Vec::new(alloc);
     for index in 0..stripes {

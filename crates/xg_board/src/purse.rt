@@ -1,4 +1,5 @@
 ghost use Rattle.std.specs.Prelude.{◌≡◌, ◌<◌, ◌≤◌, ◌+◌, ◌-◌, []};
+ghost use Rattle.def_sums.specs.Limits.{most_workers};
 ghost use Rattle.xg_rights.specs.Rights.{seen};
 ghost use Rattle.xg_locked.specs.Locked.{number_of};
 
@@ -26,7 +27,7 @@ impl<N: RowName> Model for Purse<N> {
 
 impl<N: RowName> Purse<N> {
     pub(crate) fn of(seat: RightsSeat) -> Purse<N>
-        requires { (seat.table_id ≡ N.table) × (seat.me ≡ (seen [] 64 65 (number_of seat.me), [])) }
+        requires { (seat.table_id ≡ N.table) × (seat.me ≡ (seen [] most_workers 65 (number_of seat.me), [])) }
         ensures { result ≡ record { made = 0; number = number_of seat.me } }
     {
         Purse {
@@ -39,7 +40,7 @@ impl<N: RowName> Purse<N> {
     // Gives a ticket and a part for a pass.
     pub(crate) fn give(&mut self, table: &SharedRights) -> RightsSeat
         requires table { (table.now.table_id ≡ N.table) × (0 < N.table.words) }
-        requires few { self.old.made < 64 }
+        requires few { self.old.made < most_workers }
         ensures table { result.table_id ≡ N.table }
         ensures seat { result.me ≡ (seen [] 1 1 self.old.number, []) }
         ensures purse { self.new ≡ record { made = self.old.made + 1; number = self.old.number } }
@@ -51,8 +52,8 @@ impl<N: RowName> Purse<N> {
 
     pub(crate) fn into_seat(self) -> RightsSeat
         ensures table { result.table_id ≡ N.table }
-        ensures view { result.me ≡ (seen [] (64 - self.made) (65 - self.made) self.number, []) }
-        ensures few { self.made ≤ 64 }
+        ensures view { result.me ≡ (seen [] (most_workers - self.made) (65 - self.made) self.number, []) }
+        ensures few { self.made ≤ most_workers }
     {
         let Purse {
             made: _,

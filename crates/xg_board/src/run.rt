@@ -1,4 +1,5 @@
 ghost use Rattle.std.specs.Prelude.{◌≡◌, ◌<◌, ◌≤◌, ◌+◌, [], IfOk, IsTrue, All, false, length, vec_capacity, vec_len};
+ghost use Rattle.def_sums.specs.Limits.{most_workers, most_stripes};
 ghost use Rattle.def_rows.specs.Rows.{row_count};
 ghost use Rattle.xg_jobs.specs.Rows.{AreNumbersOf, ArePlainSums};
 ghost use Rattle.xg_jobs.specs.Table.{IsTableOf, most_touched};
@@ -131,7 +132,7 @@ fn make_crew<N: RowName>(
     count: u32,
 ) -> Result<Vec<Worker<N>>, AllocError>
     requires purse { purse.old ≡ record { made = 0; number = number_from board.now.jobs board.now.stripes } }
-    requires few { count ≤ 64 }
+    requires few { count ≤ most_workers }
     ensures count { IfOk result (λ crew. length crew.items ≡ count) }
     ensures ready { IfOk result
         (λ crew. All (λ w. IsReady (number_from board.now.jobs board.now.stripes) room w.pass w.packet.entries)
@@ -193,7 +194,7 @@ fn run_named<Rt: Threads + Wait + Sync, N: RowName + Send + Sync, G: Gate>(
     requires rows { row_count input.now.form.now ≡ N.rows }
     requires amount { job_amounts input.now.form.now input.now.one.now input.now.two.now jobs.now.ranges ≡ N.amount }
     requires base { (base.table.shared.table_id ≡ N.table) × (base.jobs ≡ length jobs.now.ranges) }
-    requires workers { (1 ≤ workers) × (workers ≤ 64) }
+    requires workers { (1 ≤ workers) × (workers ≤ most_workers) }
     ensures { IfOk result (λ rows. ArePlainSums input.now.form.now input.now.one.now input.now.two.now rows) }
 {
     let (board, mut purse) = RowBoard::<N>::open(alloc, base, input.form, jobs)?;
@@ -220,8 +221,8 @@ pub fn run_rows<Rt: Threads + Wait + Sync, G: Gate>(
 ) -> Result<Rows, AllocError>
     requires numbers { AreNumbersOf input.now.form.now input.now.one.now input.now.two.now }
     requires table { IsTableOf input.now.form.now jobs.now }
-    requires workers { (1 ≤ workers) × (workers ≤ 64) }
-    requires stripes { (1 ≤ stripes) × (stripes ≤ 64) }
+    requires workers { (1 ≤ workers) × (workers ≤ most_workers) }
+    requires stripes { (1 ≤ stripes) × (stripes ≤ most_stripes) }
     ensures { IfOk result (λ rows. ArePlainSums input.now.form.now input.now.one.now input.now.two.now rows) }
 {
     let base = Base::new(alloc, jobs, stripes)?;

@@ -1,6 +1,6 @@
 -- The ends that a board keeps, and its lines.
-use Rattle.std.specs.Prelude.{◌≡◌, ℕ, zero, suc, ◌≤◌, ◌^◌, List, length, Option, Some, None, unsigned_abs}
-use Rattle.def_sums.specs.Limits.{most_root, most_rounds}
+use Rattle.std.specs.Prelude.{◌≡◌, ℕ, zero, suc, ◌≤◌, List, length, Option, Some, None, unsigned_abs}
+use Rattle.def_sums.specs.Limits.{most_root, most_rounds, most_row}
 use Rattle.def_tree.specs.declared.Player.{Player}
 use Rattle.def_plan.specs.Form.{AreInOrder, InformationSet, SequenceForm, player_sets, sequence_count}
 use Rattle.def_plan.specs.Plan.{IsPlan}
@@ -53,7 +53,7 @@ pub record IsSomePlan (plan : List ℕ) : Type 0 where
 pub record IsEnd (end : End) : Type 0 where
   pub sets : length end.reply.reply.sets ≡ end.sets
   pub rounds : end.round ≤ most_rounds
-  pub small : unsigned_abs end.reply.reply.total ≤ 2 ^ 98
+  pub small : unsigned_abs end.reply.reply.total ≤ most_row
 
 -- a plan and a reply that the end has room for, within the limits
 pub record CanKeep (end : End) (round : ℕ) (plan : List ℕ) (reply : Reply) : Type 0 where
@@ -62,7 +62,7 @@ pub record CanKeep (end : End) (round : ℕ) (plan : List ℕ) (reply : Reply) :
   pub sequences : length plan ≡ length end.plan
   pub sets : length reply.sets ≡ end.sets
   pub rounds : round ≤ most_rounds
-  pub small : unsigned_abs reply.total ≤ 2 ^ 98
+  pub small : unsigned_abs reply.total ≤ most_row
 
 -- the room for a player's plan and the other player's reply
 pub record IsFreshEnd (form : SequenceForm) (player other : Player) (end : End) : Type 0 where

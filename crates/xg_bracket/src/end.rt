@@ -1,5 +1,5 @@
 ghost use Rattle.std.specs.Prelude.{◌≡◌, ◌*ℤ◌, ◌<◌, ◌≤◌, ◌^◌, int_lt, length, pos, unsigned_abs};
-ghost use Rattle.def_sums.specs.Limits.{most_rounds};
+ghost use Rattle.def_sums.specs.Limits.{most_rounds, most_row};
 ghost use Rattle.def_bracket.specs.Offers.{keep_lower, keep_upper};
 ghost use Rattle.xg_bracket.specs.Ends.{CanKeep, IsSomePlan, end_after, kept_end, kept_of};
 
@@ -44,8 +44,8 @@ pub(crate) fn offer_upper(end: &mut End, offers: usize, round: u32, plan: &Plan,
 
 // The first reply's total times the first factor is below the second's times the second.
 fn is_less(first: &Reply, factor: u32, second: &Reply, other_factor: u32) -> bool
-    requires first { unsigned_abs first.now.reply.total ≤ 2 ^ 98 }
-    requires second { unsigned_abs second.now.reply.total ≤ 2 ^ 98 }
+    requires first { unsigned_abs first.now.reply.total ≤ most_row }
+    requires second { unsigned_abs second.now.reply.total ≤ most_row }
     requires factor { factor ≤ most_rounds }
     requires other_factor { other_factor ≤ most_rounds }
     ensures { result ≡ int_lt (first.now.reply.total *ℤ pos factor) (second.now.reply.total *ℤ pos other_factor) }
@@ -54,7 +54,7 @@ fn is_less(first: &Reply, factor: u32, second: &Reply, other_factor: u32) -> boo
 }
 
 fn times(reply: &Reply, factor: u32) -> i128
-    requires total { unsigned_abs reply.now.reply.total ≤ 2 ^ 98 }
+    requires total { unsigned_abs reply.now.reply.total ≤ most_row }
     requires factor { factor ≤ most_rounds }
     ensures { result ≡ reply.now.reply.total *ℤ pos factor }
 {

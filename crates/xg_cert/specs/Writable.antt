@@ -1,7 +1,7 @@
 -- Which outcomes have a text: the conditions of a writer.
-use Rattle.std.specs.Prelude.{◌≡◌, ℕ, ◌^◌, ◌≤◌, List, [], ◌++◌, codes, length, slice_index, unsigned_abs, Option, Some, None}
+use Rattle.std.specs.Prelude.{◌≡◌, ℕ, ◌≤◌, List, [], ◌++◌, codes, length, slice_index, unsigned_abs, Option, Some, None}
 use Rattle.def_plan.specs.Form.{InformationSet, SequenceForm, sequence_count}
-use Rattle.def_sums.specs.Limits.{most_root}
+use Rattle.def_sums.specs.Limits.{most_root, most_row}
 use Rattle.def_bracket.specs.Bracket.{TraceLine}
 use Rattle.def_bracket.specs.Outcome.{Head, End, OutcomeEnds, Outcome}
 use Rattle.def_cert_ranges.specs.Ranges.{IsFromTo}
@@ -16,7 +16,7 @@ pub record IsEndOf (own others : List InformationSet) (end : End) : Type 0 where
   pub plan : length end.plan ≡ sequence_count own
   pub reply : length end.reply.sets ≡ length others
   pub root : IsFromTo 1 most_root (slice_index end.plan 0)
-  pub total : unsigned_abs end.reply.total ≤ 2 ^ 98
+  pub total : unsigned_abs end.reply.total ≤ most_row
 
 abbrev pub AreEndsOf : SequenceForm → Option OutcomeEnds → Type 0
 AreEndsOf form None = Unit {0}

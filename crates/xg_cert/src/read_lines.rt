@@ -15,17 +15,9 @@ use crate::outcome::TraceRow;
 use def_cert_text::CertFault;
 use itoa::Buffer;
 use xg_cert_fields::FieldReader;
-use xg_frac::Ratio;
-
-const MOST_NODES: u64 = 1 << 20;
-
-const MOST_ACTIONS: u64 = 1024;
-
-const MOST_UNIT: u64 = 1 << 62;
-
-const MOST_ROUNDS: u64 = 1 << 16;
-
-const MOST_SCALE: u64 = 1 << 20;
+use xg_frac::{MOST_PART, Ratio};
+use xg_limits::{MOST_MASS, MOST_ROUNDS, MOST_SCALE};
+use xg_tree::{MOST_ACTIONS, MOST_NODES};
 
 /// What was asked of a run.
 #[derive(Clone, Copy)]
@@ -62,9 +54,9 @@ fn size_line(reader: &mut FieldReader<'_>) -> Result<(u32, u32), CertFault>
     ensures total { reader.new.total ≡ reader.old.total }
 {
     reader.word(b"nodes", b' ')?;
-    let nodes = reader.whole(1, MOST_NODES, b' ')? as u32;
+    let nodes = reader.whole(1, MOST_NODES as u64, b' ')? as u32;
     reader.word(b"leaves", b' ')?;
-    let leaves = reader.whole(1, MOST_NODES, b'\n')? as u32;
+    let leaves = reader.whole(1, MOST_NODES as u64, b'\n')? as u32;
     Ok((nodes, leaves))
 }
 
@@ -77,8 +69,8 @@ fn pair_line(reader: &mut FieldReader<'_>, word: &[u8], low: u64) -> Result<(u32
     ensures range { IfOk result (λ p. (p.0 ≤ most_nodes) × (p.1 ≤ most_nodes)) }
 {
     reader.word(word, b' ')?;
-    let one = reader.whole(low, MOST_NODES, b' ')? as u32;
-    let two = reader.whole(low, MOST_NODES, b'\n')? as u32;
+    let one = reader.whole(low, MOST_NODES as u64, b' ')? as u32;
+    let two = reader.whole(low, MOST_NODES as u64, b'\n')? as u32;
     Ok((one, two))
 }
 
@@ -89,11 +81,11 @@ fn asked_line(reader: &mut FieldReader<'_>) -> Result<Asked, CertFault>
     ensures every { IfOk result (λ a. (1 ≤ a.every) × (a.every ≤ most_rounds)) }
 {
     reader.word(b"rounds", b' ')?;
-    let rounds = reader.whole(0, MOST_ROUNDS, b' ')? as u32;
+    let rounds = reader.whole(0, MOST_ROUNDS as u64, b' ')? as u32;
     reader.word(b"every", b' ')?;
-    let every = reader.whole(1, MOST_ROUNDS, b' ')? as u32;
+    let every = reader.whole(1, MOST_ROUNDS as u64, b' ')? as u32;
     reader.word(b"scale", b' ')?;
-    let scale = reader.whole(1, MOST_SCALE, b'\n')? as u32;
+    let scale = reader.whole(1, MOST_SCALE as u64, b'\n')? as u32;
     Ok(Asked {
         rounds,
         every,
@@ -112,8 +104,8 @@ pub(crate) fn head_lines(reader: &mut FieldReader<'_>) -> Result<Head, CertFault
     let (nodes, leaves) = size_line(reader)?;
     let sets = pair_line(reader, b"sets", 0)?;
     let sequences = pair_line(reader, b"sequences", 1)?;
-    let unit = named_line(reader, b"unit", 1, MOST_UNIT)?;
-    let mass = named_line(reader, b"mass", 0, MOST_UNIT)?;
+    let unit = named_line(reader, b"unit", 1, MOST_PART as u64)?;
+    let mass = named_line(reader, b"mass", 0, MOST_MASS)?;
     let asked = asked_line(reader)?;
     Ok(Head {
         nodes,
@@ -167,7 +159,7 @@ pub(crate) fn value_line(reader: &mut FieldReader<'_>, set: u32) -> Result<Value
     reader.word(b"value", b' ')?;
     set_number(reader, set)?;
     let value = reader.integer(b' ')?;
-    let choice = reader.whole(1, MOST_ACTIONS, b'\n')? as u32;
+    let choice = reader.whole(1, MOST_ACTIONS as u64, b'\n')? as u32;
     Ok(ValueLine { value, choice })
 }
 

@@ -8,7 +8,7 @@ ghost use Rattle.def_plan.specs.Form.{player_sets, sequence_count};
 ghost use Rattle.def_cert_accepted.specs.OfOutcome.{certificate_of, printed_bound, printed_plan};
 ghost use Rattle.def_cert_ranges.specs.Ranges.{IsFromTo};
 ghost use Rattle.def_fraction.specs.Fraction.{most};
-ghost use Rattle.def_sums.specs.Limits.{most_root};
+ghost use Rattle.def_sums.specs.Limits.{most_root, most_row};
 ghost use Rattle.xg_cert.specs.Outcome.{end_of, head_of, trace_of};
 ghost use Rattle.xg_cert.specs.Writable.{IsEndOf, IsOutcomeOf, above_text, below_text, end_text, ends_text};
 ghost use Rattle.def_cert_text.specs.Fields.{space, feed, fixed_word, number, field, separator, items_text};
@@ -98,7 +98,7 @@ fn put_end<O: Sink>(
 fn bound(unit: u64, end: &End) -> Ratio
     requires unit { IsFromTo 1 most unit }
     requires root { IsFromTo 1 most_root (slice_index end.now.plan 0) }
-    requires total { unsigned_abs end.now.reply.reply.total ≤ 2 ^ 98 }
+    requires total { unsigned_abs end.now.reply.reply.total ≤ most_row }
     ensures { result ≡ printed_bound unit (end_of end.now) }
 {
     let scale = unit as u128 * end.plan.root() as u128;

@@ -1,6 +1,6 @@
 -- A player's regrets between rounds.
 use Rattle.std.specs.Prelude.{◌≡◌, ℕ, ◌*◌, ◌^◌, ◌≤◌, ℤ, pos, unsigned_abs, List, length, replicate}
-use Rattle.def_sums.specs.Limits.{most_rounds}
+use Rattle.def_sums.specs.Limits.{most_rounds, most_round_row}
 use Rattle.def_plan.specs.Form.{InformationSet, sequence_count}
 use Rattle.def_round.specs.Play.{regret_of}
 
@@ -18,4 +18,4 @@ pub record KeepsRegrets (regrets worths : List ℤ) (rounds : ℕ) : Type 0 wher
   pub room : length worths ≡ length regrets
   pub none_of_empty : regret_of regrets 0 ≡ pos 0
   pub few_rounds : rounds ≤ most_rounds
-  pub sizes : (s : ℕ) → unsigned_abs (regret_of regrets s) ≤ rounds * 2 ^ 82
+  pub sizes : (s : ℕ) → unsigned_abs (regret_of regrets s) ≤ rounds * most_round_row

@@ -5,7 +5,7 @@ ghost use Rattle.def_round.specs.Play.{GivesAllUnits, regret_of, units};
 ghost use Rattle.def_round.specs.Round.{IsRound, regrets_after};
 ghost use Rattle.def_round.specs.Sizes.{size_of_sums};
 ghost use Rattle.def_sums.specs.Floor.{floor_div};
-ghost use Rattle.def_sums.specs.Limits.{most_rounds};
+ghost use Rattle.def_sums.specs.Limits.{most_rounds, most_round_row};
 ghost use Rattle.def_sums.specs.Sum.{nat_sum_over};
 ghost use Rattle.xg_closer.specs.Closing.{value_by, weighed_sizes, weighed_sum};
 ghost use Rattle.xg_closer.specs.Laws.{LeafSumsCloseTheRound};
@@ -32,7 +32,7 @@ pub fn close_round(
     rows: &[i128],
 )
     requires few_rounds { regrets.old.closed < most_rounds }
-    requires small_rows { nat_sum_over unsigned_abs rows.now ≤ 2 ^ 82 }
+    requires small_rows { nat_sum_over unsigned_abs rows.now ≤ most_round_row }
     requires all_units { GivesAllUnits play.now (player_sets form.now player) }
     requires as_regrets { length regrets.old.of_sequences ≡ sequence_count (player_sets form.now player) }
     requires as_play { length play.now ≡ sequence_count (player_sets form.now player) }
@@ -64,7 +64,7 @@ pub fn leaf_sums_close_the_round()
 // Takes the rows as they are to the player.
 fn take_rows(player: Player, rows: &[i128], worths: &mut [i128])
     requires as_many { length rows.now ≡ length worths.old }
-    requires small { nat_sum_over unsigned_abs rows.now ≤ 2 ^ 82 }
+    requires small { nat_sum_over unsigned_abs rows.now ≤ most_round_row }
     ensures count { length worths.new ≡ length worths.old }
     ensures each { (s : ℕ) → amount_of worths.new s ≡ own_amount player rows.now s }
 {
@@ -76,7 +76,7 @@ fn take_rows(player: Player, rows: &[i128], worths: &mut [i128])
 
 fn negate_into(rows: &[i128], worths: &mut [i128])
     requires as_many { length rows.now ≡ length worths.old }
-    requires small { nat_sum_over unsigned_abs rows.now ≤ 2 ^ 82 }
+    requires small { nat_sum_over unsigned_abs rows.now ≤ most_round_row }
     ensures count { length worths.new ≡ length worths.old }
     ensures each { (s : ℕ) → s < length rows.now → amount_of worths.new s ≡ neg_ℤ (amount_of rows.now s) }
 {
@@ -97,7 +97,7 @@ fn close_sets(
     requires as_regrets { length regrets.old ≡ sequence_count (player_sets form.now player) }
     requires as_play { length play.now ≡ sequence_count (player_sets form.now player) }
     requires all_units { GivesAllUnits play.now (player_sets form.now player) }
-    requires small { size_of_sums (amount_of worths.old) (player_sets form.now player) ≤ 2 ^ 82 }
+    requires small { size_of_sums (amount_of worths.old) (player_sets form.now player) ≤ most_round_row }
     requires room { (s : ℕ) → unsigned_abs (regret_of regrets.old s) < 2 ^ 126 }
     requires none_of_empty { regret_of regrets.old 0 ≡ pos 0 }
     ensures count { length worths.new ≡ length worths.old }

@@ -1,4 +1,5 @@
 ghost use Rattle.std.specs.Prelude.{◌≡◌, ℕ, ◌+◌, ◌*◌, ◌/◌, ◌^◌, ◌<◌, ◌≤◌, unsigned_abs, length};
+ghost use Rattle.def_sums.specs.Limits.{most_row};
 ghost use Rattle.def_plan.specs.Form.{player_sets, sequence_count};
 ghost use Rattle.def_round.specs.Play.{GivesAllUnits, play_of, positive_part, regret_of, regret_sum, set_play, units};
 ghost use Rattle.def_tree.specs.Rules.{most_actions};
@@ -31,7 +32,7 @@ pub fn play_into(form: &SeqForm, player: Player, regrets: &Regrets, play: &mut P
 fn play_sets(form: &SeqForm, player: Player, regrets: &[i128], play: &mut Play)
     requires as_regrets { length regrets.now ≡ sequence_count (player_sets form.now player) }
     requires as_play { length play.old ≡ sequence_count (player_sets form.now player) }
-    requires small { (s : ℕ) → unsigned_abs (regret_of regrets.now s) ≤ 2 ^ 98 }
+    requires small { (s : ℕ) → unsigned_abs (regret_of regrets.now s) ≤ most_row }
     ensures by_regrets { play.new ≡ play_of (player_sets form.now player) regrets.now }
     ensures all_units { GivesAllUnits play.new (player_sets form.now player) }
     ensures count { length play.new ≡ length play.old }

@@ -1,6 +1,6 @@
 ghost use Rattle.std.specs.Prelude.{◌≡◌, ◌^◌, ◌≤◌, length, map, sum, unsigned_abs, IfOk};
 ghost use Rattle.def_plan.specs.Form.{player_sets, sequence_count};
-ghost use Rattle.def_sums.specs.Limits.{most_mass};
+ghost use Rattle.def_sums.specs.Limits.{most_mass, most_round_row};
 ghost use Rattle.def_sums.specs.Sum.{nat_sum_over};
 
 use crate::{Player, Regrets, close_round, play_into};
@@ -122,7 +122,7 @@ impl Run {
         requires as_regrets { length self.old.regrets.of_sequences
             ≡ sequence_count (player_sets self.old.form self.old.player) }
         requires as_play { length self.old.play ≡ sequence_count (player_sets self.old.form self.old.player) }
-        requires small { nat_sum_over unsigned_abs rows.now ≤ 2 ^ 82 }
+        requires small { nat_sum_over unsigned_abs rows.now ≤ most_round_row }
         ensures as_regrets { length self.new.regrets.of_sequences
             ≡ sequence_count (player_sets self.new.form self.new.player) }
         ensures as_play { length self.new.play ≡ sequence_count (player_sets self.new.form self.new.player) }

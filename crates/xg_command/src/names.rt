@@ -4,14 +4,7 @@ ghost use Rattle.def_command.specs.Table.{plain_count, takes, least_number, most
 ghost use Rattle.def_command.specs.Grammar.{command_named, option_named};
 ghost use Rattle.xg_command.specs.Names.{name_value, option_value};
 
-/// The number of rounds, and of rounds between evaluations, that an option can ask for.
-const MOST_ROUNDS: u32 = 65_536;
-
-/// The greatest scale, which is taken where none is given.
-pub(crate) const MOST_SCALE: u32 = 1_048_576;
-
-/// The greatest number of workers.
-const MOST_WORKERS: u32 = 64;
+use xg_limits::{MOST_ROUNDS, MOST_SCALE, MOST_WORKERS};
 
 /// The fewest cards of one-card poker.
 pub(crate) const LEAST_CARDS: u32 = 2;

@@ -6,8 +6,9 @@ ghost use Rattle.xg_command.specs.Names.{option_value};
 ghost use Rattle.xg_command.specs.Values.{numbers_value, no_numbers, settings_value};
 
 use crate::command::Settings;
-use crate::names::{LEAST_CARDS, MOST_CARDS, MOST_SCALE, OptionName};
+use crate::names::{LEAST_CARDS, MOST_CARDS, OptionName};
 use xg_frac::read_whole;
+use xg_limits::MOST_SCALE;
 
 /// The rounds that are played where no number is given.
 const DEFAULT_ROUNDS: u32 = 1000;

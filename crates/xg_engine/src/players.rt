@@ -1,6 +1,6 @@
 ghost use Rattle.std.specs.Prelude.{◌≡◌, ◌+◌, ◌*◌, ◌^◌, ◌<◌, ◌≤◌, ℕ, List, IfOk, OnOk, length, pos, replicate, unsigned_abs};
 ghost use Rattle.std.specs.Thread.{IsSync};
-ghost use Rattle.def_sums.specs.Limits.{most_rounds, most_scale};
+ghost use Rattle.def_sums.specs.Limits.{most_rounds, most_scale, most_round_row};
 ghost use Rattle.def_sums.specs.Sum.{nat_sum_over};
 ghost use Rattle.def_plan.specs.Form.{player_sets, sequence_count};
 ghost use Rattle.def_plan.specs.Plan.{IsPlan, added, cleared};
@@ -75,7 +75,7 @@ impl Learner {
         requires few_rounds { self.old.regrets.closed < most_rounds }
         requires all_units { GivesAllUnits self.old.play (player_sets form.now player) }
         requires rows { length rows.now ≡ sequence_count (player_sets form.now player) }
-        requires small { nat_sum_over unsigned_abs rows.now ≤ 2 ^ 82 }
+        requires small { nat_sum_over unsigned_abs rows.now ≤ most_round_row }
         ensures room { HasRoom (player_sets form.now player) self.new }
         ensures regrets { (against : List ℕ) → rows.now ≡ player_rows form.now player against
             → self.new.regrets.of_sequences

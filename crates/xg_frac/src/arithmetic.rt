@@ -4,7 +4,7 @@ ghost use Rattle.def_fraction.specs.Divisors.{lcm};
 ghost use Rattle.def_fraction.specs.Fraction.{fraction_of, sum_of, product_of, order_of, fits, most};
 ghost use Rattle.xg_frac.specs.Wide.{most_wide};
 
-use crate::fraction::{Frac, MOST, OverLimit, greatest_common_divisor, in_lowest_terms};
+use crate::fraction::{Frac, MOST_PART, OverLimit, greatest_common_divisor, in_lowest_terms};
 use crate::wide::{Ratio, of_sizes};
 use std::cmp::Ordering;
 
@@ -49,7 +49,7 @@ pub fn lcm(a: u64, b: u64) -> Result<u64, OverLimit>
 {
     let (a, b) = (a as u128, b as u128);
     let multiple = a / greatest_common_divisor(a, b) * b;
-    if multiple > MOST {
+    if multiple > MOST_PART {
         return Err(OverLimit);
     }
     Ok(multiple as u64)

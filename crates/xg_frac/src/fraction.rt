@@ -6,7 +6,7 @@ ghost use Rattle.def_fraction.specs.Fraction.{Fraction, IsInLowestTerms, signed,
 use std::marker::Model;
 
 /// The greatest size of a part of a fraction in lowest terms.
-pub(crate) const MOST: u128 = 0x4000_0000_0000_0000;
+pub const MOST_PART: u128 = 0x4000_0000_0000_0000;
 
 /// A part of the exact result in lowest terms is past 2^62 in size.
 #[derive(Clone, Copy, Debug, PartialEq, Eq)]
@@ -86,7 +86,7 @@ pub(crate) fn greatest_common_divisor(a: u128, b: u128) -> u128
     if b == 1 {
         return 1;
     }
-    if a <= MOST && b <= MOST {
+    if a <= MOST_PART && b <= MOST_PART {
         return short_common_divisor(a as u64, b as u64) as u128;
     }
     wide_common_divisor(a, b)
@@ -134,7 +134,7 @@ pub(crate) fn reduced(negative: bool, num: u128, den: u128) -> Option<Frac>
     let common = greatest_common_divisor(num, den);
     let num = quotient(num, common);
     let den = quotient(den, common);
-    if num > MOST || den > MOST {
+    if num > MOST_PART || den > MOST_PART {
         return None;
     }
     Some(Frac {
@@ -151,7 +151,7 @@ fn quotient(n: u128, divisor: u128) -> u128
     if divisor == 1 {
         return n;
     }
-    if n <= MOST && divisor <= MOST {
+    if n <= MOST_PART && divisor <= MOST_PART {
         return (n as u64 / divisor as u64) as u128;
     }
     n / divisor

@@ -13,7 +13,7 @@ mod wide;
 
 pub use arithmetic::{add, compare, lcm, mul, ratio};
 pub use def_fraction::NumberFault;
-pub use fraction::{Frac, OverLimit, one_over, whole};
+pub use fraction::{Frac, MOST_PART, OverLimit, one_over, whole};
 pub use literal::{read_literal, read_whole};
 pub use printing::{put_frac, put_int, put_ratio};
 pub use wide::Ratio;

@@ -7,7 +7,7 @@ ghost use Rattle.def_fraction.specs.Literal.{is_minus, IsNoLiteral, HasZeroDenom
 ghost use Rattle.def_fraction.specs.Reading.{sign_of, after_sign, body_of, power_of, read_as_literal, read_as_whole};
 ghost use Rattle.xg_frac.specs.Scan.{ScansPart, capped, quotient_of, decimal_quotient, exponent_of, past_all};
 
-use crate::fraction::{Frac, MOST, reduced};
+use crate::fraction::{Frac, MOST_PART, reduced};
 use def_fraction::NumberFault;
 
 /// Reads a literal: a fraction, or a decimal with or without a point and a power of ten, with or without a sign. Leading
@@ -54,7 +54,7 @@ pub fn read_whole(bytes: &[u8]) -> Result<u64, NumberFault>
     let Some(number) = scan_numeral(bytes) else {
         return Err(NumberFault::Form);
     };
-    if number > MOST {
+    if number > MOST_PART {
         return Err(NumberFault::Range);
     }
     Ok(number as u64)

@@ -1,5 +1,6 @@
 ghost use Rattle.std.specs.Prelude.{◌≡◌, ◌<◌, ◌+◌, ◌-◌, ◌++◌, [], ◌∷◌, IfOk, IfSome, IfNone};
 ghost use Rattle.std.specs.List.{range_with_len};
+ghost use Rattle.def_sums.specs.Limits.{most_workers};
 ghost use Rattle.def_history.specs.History.{job_numbers};
 ghost use Rattle.def_history.specs.Core.{TakesJob, rights_of};
 ghost use Rattle.xg_rights.specs.Rights.{jobs_of, rights_for, seen, stripes_of, whole};
@@ -36,7 +37,7 @@ impl<N: RowName> Bag<N> {
         ensures number { IfOk result (λ bag. number_of bag.seat.me ≡ number_of seat.old.me) }
         ensures table { IfOk result (λ bag. seat.new.table_id ≡ N.table) }
         ensures seat { IfOk result
-            (λ bag. seat.new.me ≡ (seen [] 64 (stripes_of (number_of seat.old.me) + 65) (number_of seat.old.me), [])) }
+            (λ bag. seat.new.me ≡ (seen [] most_workers (stripes_of (number_of seat.old.me) + 65) (number_of seat.old.me), [])) }
     {
         let jobs = numbers_of(alloc, jobs)?;
         let all = give_all::<Brand>(table, seat);
@@ -102,7 +103,7 @@ fn numbers_of(alloc: Global, jobs: u32) -> Result<Vec<u32>, AllocError>
 fn give_all<C: Cut>(table: &SharedRights, seat: &mut RightsSeat) -> RightsSeat
     requires table { (seat.old.table_id ≡ table.now.table_id) × (0 < table.now.table_id.words) }
     requires whole { seat.old.me.0 ≡ whole (number_of seat.old.me) }
-    requires kept { C.kept ≡ seen [] 64 (stripes_of (number_of seat.old.me) + 65) (number_of seat.old.me) }
+    requires kept { C.kept ≡ seen [] most_workers (stripes_of (number_of seat.old.me) + 65) (number_of seat.old.me) }
     requires given { C.given
         ≡ seen (rights_for (job_numbers (jobs_of (number_of seat.old.me))) (stripes_of (number_of seat.old.me))) 0 1
         (number_of seat.old.me) }

@@ -1,4 +1,5 @@
 ghost use Rattle.std.specs.Prelude.{◌≡◌, ℕ, ◌^◌, ◌<◌, ◌≤◌, List, length, map, pos, ◌*ℤ◌, unsigned_abs};
+ghost use Rattle.def_sums.specs.Limits.{most_row};
 ghost use Rattle.def_tree.specs.declared.Player.TheVariants.{One, Two};
 ghost use Rattle.def_sums.specs.Sum.{nat_sum_over};
 ghost use Rattle.def_plan.specs.Form.{AreInOrder, placed, player_sets, sequence_count, sequences};
@@ -24,7 +25,7 @@ pub fn best_reply(form: &SeqForm, player: Player, rows: &[i128], into: &mut Repl
     requires rows { length rows.now ≡ sequence_count (player_sets form.now player) }
     requires sets { length into.old.reply.sets ≡ length (player_sets form.now player) }
     requires worths { length into.old.worths ≡ sequence_count (player_sets form.now player) }
-    requires small { nat_sum_over unsigned_abs rows.now ≤ 2 ^ 98 }
+    requires small { nat_sum_over unsigned_abs rows.now ≤ most_row }
     ensures reply { into.new.reply ≡ reply_to_sums player (amount_of rows.now) (player_sets form.now player) }
     ensures worths { let sets = player_sets form.now player in
         into.new.worths

@@ -1,5 +1,5 @@
 ghost use Rattle.std.specs.Prelude.{◌^◌, ◌≤◌, map, sum, unsigned_abs};
-ghost use Rattle.def_sums.specs.Limits.{most_mass};
+ghost use Rattle.def_sums.specs.Limits.{most_mass, most_row};
 ghost use Rattle.def_sums.specs.Sum.{nat_sum_over};
 
 use crate::{Player, best_reply};
@@ -54,7 +54,7 @@ fn replies(
     sets: &[(u32, i128)],
     worths: &[i128],
 ) -> Result<(), Fail>
-    requires { nat_sum_over unsigned_abs rows.now ≤ 2 ^ 98 }
+    requires { nat_sum_over unsigned_abs rows.now ≤ most_row }
 {
     let mut reply = Reply::new(alloc, form, player)?;
     assert_eq!(rt; rows.len(), form.sequence_count(player) as usize);

@@ -3,6 +3,7 @@ use Rattle.std.specs.Prelude.{◌≡◌, ℕ, ◌+◌, ◌*◌, ◌/◌, ◌%◌
 use Rattle.std.specs.List.{flat_map}
 use mathlib.Core.Option.{some}
 use lib.ListN.{get_elem?}
+use Rattle.def_sums.specs.Limits.{most_workers}
 use Rattle.def_history.specs.History.{job_numbers}
 use Rattle.def_history.specs.Core.{Right, rights_of, times_right}
 use Rattle.xg_rights.specs.declared.view.View.{View}
@@ -39,7 +40,7 @@ seen rights tickets parts number =
 
 -- the first seat's view
 abbrev pub whole : ℕ → View
-whole number = seen (rights_for (job_numbers (jobs_of number)) (stripes_of number)) 64 (stripes_of number + 66) number
+whole number = seen (rights_for (job_numbers (jobs_of number)) (stripes_of number)) most_workers (stripes_of number + 66) number
 
 -- two views put together
 abbrev pub both : View → View → View
@@ -63,7 +64,7 @@ pub record HoldsByNumber (number : ℕ) (v : View) : Type 0 where
 -- the three sums
 pub record Kept (number : ℕ) (views : List View) : Type 0 where
   pub rights : (job stripe : ℕ) → total (λ v. times_right job stripe v.rights) views ≡ once number job stripe
-  pub tickets : total (λ v. v.tickets) views ≡ 64
+  pub tickets : total (λ v. v.tickets) views ≡ most_workers
   pub parts : total (λ v. v.parts) views ≡ stripes_of number + 66
   pub fits : (seat : ℕ) (v : View) → get_elem? views seat ≡ some v → HoldsByNumber number v
 
@@ -76,10 +77,10 @@ pub record IsKept (number : ℕ) (words : List ℕ) (views : List View) : Type 0
 pub record IsLoaded (number : ℕ) (v : View) : Type 0 where
   pub number_is : (v.number ≡ number) × (v.met ≡ number)
   pub once_at_most : (job stripe : ℕ) → times_right job stripe v.rights ≤ once number job stripe
-  pub tickets : v.tickets ≤ 64
+  pub tickets : v.tickets ≤ most_workers
   pub all_rights : v.parts ≡ stripes_of number + 66 → (job stripe : ℕ)
       → times_right job stripe v.rights ≡ once number job stripe
-  pub all_tickets : v.parts ≡ stripes_of number + 66 → v.tickets ≡ 64
+  pub all_tickets : v.parts ≡ stripes_of number + 66 → v.tickets ≡ most_workers
 
 -- a view is cut in two: nothing is lost, and both have a part and the number
 pub record IsCut (v kept given : View) : Type 0 where

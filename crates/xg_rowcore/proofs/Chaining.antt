@@ -3,11 +3,12 @@ use Rattle.std.proofs.Common.{◌≡◌, ◌≢◌, ℕ, zero, suc, ◌+◌, ◌
 use Rattle.std.specs.Prelude.{ℤ, slice_index}
 use Rattle.std.proofs.lemmas.List.{length-map}
 use Rattle.std.proofs.lemmas.Bool.{cases_eq}
+use Rattle.def_sums.specs.Limits.{most_stripes}
 use Rattle.def_history.specs.History.{stripe_of}
 use Rattle.def_history.specs.Packets.{Entry}
 use Rattle.xg_rowcore.specs.Packets.{entries_from, entry_at}
 use Rattle.xg_rowcore.specs.Stripes.{HasGrown}
-use Rattle.xg_rowcore.specs.Chains.{AreChains, IsNextOf, KeepsChains, rows_of, most_stripes}
+use Rattle.xg_rowcore.specs.Chains.{AreChains, IsNextOf, KeepsChains, rows_of}
 use Rattle.xg_rowcore.proofs.Adding.{grown_by_other, grown_more}
 
 -- with no chain

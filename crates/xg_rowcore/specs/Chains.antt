@@ -1,10 +1,8 @@
 -- Places of rows, stripe by stripe.
 use Rattle.std.specs.Prelude.{◌≡◌, ◌≢◌, ℕ, ◌+◌, ◌<◌, ◌≤◌, List, length, slice_index, map}
+use Rattle.def_sums.specs.Limits.{most_stripes}
 use Rattle.def_history.specs.History.{stripe_of}
 use Rattle.def_history.specs.Packets.{Entry}
-
-abbrev pub most_stripes : ℕ
-most_stripes = 64
 
 -- the rows of entries
 abbrev pub rows_of : List Entry → List ℕ

@@ -1,7 +1,8 @@
 -- What a name has where there is no job, and one of two jobs.
-use Rattle.std.specs.Prelude.{ℕ, ◌+◌, ◌*◌, ◌^◌, ◌<◌, ◌≤◌, ℤ, pos, [], unsigned_abs}
+use Rattle.std.specs.Prelude.{ℕ, ◌+◌, ◌*◌, ◌<◌, ◌≤◌, ℤ, pos, [], unsigned_abs}
 use Rattle.std.proofs.Common.{arith}
 use Rattle.atomic_table.specs.Seated.{TableId}
+use Rattle.def_sums.specs.Limits.{most_row}
 use Rattle.def_sums.specs.Sum.{nat_sum_over}
 use Rattle.def_history.specs.History.{job_numbers}
 
@@ -10,12 +11,12 @@ abbrev pub no_table : TableId
 no_table = record { words = 0; slots = 0; views_name = 0; atom = 0; block = 0; offset = 0; slot_names = [] }
 
 -- no job has no amount
-pub none_is_small : (row : ℕ) → row < 0 → nat_sum_over (λ (job : ℕ). unsigned_abs (pos 0)) (job_numbers 0) ≤ 2 ^ 98
+pub none_is_small : (row : ℕ) → row < 0 → nat_sum_over (λ (job : ℕ). unsigned_abs (pos 0)) (job_numbers 0) ≤ most_row
 none_is_small row none = omega arith
 
 -- the first job has a row's number there, the second twice as much
 abbrev pub twofold : ℕ → ℕ → ℤ
 twofold job row = pos (row * (job + 1))
 
-pub twofold_is_small : (row : ℕ) → row < 3 → nat_sum_over (λ (job : ℕ). unsigned_abs (twofold job row)) (job_numbers 2) ≤ 2 ^ 98
+pub twofold_is_small : (row : ℕ) → row < 3 → nat_sum_over (λ (job : ℕ). unsigned_abs (twofold job row)) (job_numbers 2) ≤ most_row
 twofold_is_small row below = omega arith

@@ -2,8 +2,7 @@ ghost use Rattle.std.specs.Prelude.{◌≡◌, ◌<◌, ◌≤◌, ℕ, [], leng
 ghost use Rattle.xg_rowcore.specs.Chains.{AreChains, IsNextOf, KeepsChains};
 
 use std::alloc::{AllocError, Global};
-
-const MOST_STRIPES: usize = 64;
+use xg_limits::MOST_STRIPES;
 
 /// For each stripe a chain through the places of its rows, for rows that stand elsewhere.
 #[derive(Drop)]
@@ -21,7 +20,7 @@ impl Chains {
     pub(crate) fn new(alloc: Global, room: usize) -> Result<Chains, AllocError>
         ensures { IfOk result (λ c. KeepsChains [] room c.stripes c.first.items c.next.items) }
     {
-        let first = vec![in alloc; 0usize; MOST_STRIPES]?;
+        let first = vec![in alloc; 0usize; MOST_STRIPES as usize]?;
         let next = vec![in alloc; 0usize; room]?;
         Ok(Chains {
             stripes: 0,

@@ -1,8 +1,9 @@
 ghost use Rattle.std.specs.Prelude.{◌≡◌, ◌<◌, ◌≤◌, ◌+◌, ◌^◌, ◌++◌, [], ◌∷◌, length, IfOk, vec_capacity};
 ghost use Rattle.std.specs.Prelude.{pos, ◌+ℤ◌, unsigned_abs, slice_index_or, slice_set};
+ghost use Rattle.def_sums.specs.Limits.{most_stripes};
 ghost use Rattle.def_history.specs.History.{stripe_of};
 ghost use Rattle.def_history.specs.Packets.{AreRising};
-ghost use Rattle.xg_rowcore.specs.Chains.{IsNextOf, most_stripes, rows_of};
+ghost use Rattle.xg_rowcore.specs.Chains.{IsNextOf, rows_of};
 ghost use Rattle.xg_rowcore.specs.Packets.{IsAboveLast, entry_at, with_added};
 
 use crate::chains::{Chains, seek};

@@ -5,8 +5,9 @@ use std::marker::Brand;
 ///
 /// A type that has a name for its parameter keeps its facts about these jobs, whoever uses it.
 pub trait RowName {
-    ghost use Rattle.std.specs.Prelude.{ℕ, ℤ, ◌<◌, ◌≤◌, ◌^◌, unsigned_abs};
+    ghost use Rattle.std.specs.Prelude.{ℕ, ℤ, ◌<◌, ◌≤◌, unsigned_abs};
     ghost use Rattle.atomic_table.specs.Seated.{TableId};
+    ghost use Rattle.def_sums.specs.Limits.{most_row};
     ghost use Rattle.def_sums.specs.Sum.{nat_sum_over};
     ghost use Rattle.def_history.specs.History.{job_numbers};
 
@@ -21,7 +22,7 @@ pub trait RowName {
 
     // at each row the sizes of all jobs' amounts add up to no more
     ghost small: { (row : ℕ) → row < rows
-        → nat_sum_over (λ job. unsigned_abs (amount job row)) (job_numbers jobs) ≤ 2 ^ 98 };
+        → nat_sum_over (λ job. unsigned_abs (amount job row)) (job_numbers jobs) ≤ most_row };
 }
 
 impl RowName for Brand {

@@ -1,7 +1,8 @@
 ghost use Rattle.std.specs.Prelude.{◌≡◌, ◌<◌, ◌≤◌, ◌+◌, ◌^◌, ◌++◌, ◌+ℤ◌, [], ◌∷◌, length, unsigned_abs, IfOk};
+ghost use Rattle.def_sums.specs.Limits.{most_stripes};
 ghost use Rattle.def_history.specs.History.{stripe_of};
 ghost use Rattle.def_history.specs.Packets.{AreRising};
-ghost use Rattle.xg_rowcore.specs.Chains.{IsNextOf, most_stripes, rows_of};
+ghost use Rattle.xg_rowcore.specs.Chains.{IsNextOf, rows_of};
 ghost use Rattle.xg_rowcore.specs.Packets.{IsAboveLast, entry_at, with_added};
 
 use crate::entries::Entries;

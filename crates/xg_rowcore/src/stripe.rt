@@ -1,5 +1,6 @@
 ghost use Rattle.std.specs.Prelude.{◌≡◌, ◌<◌, ◌≤◌, ◌*◌, ◌+◌, ◌^◌, ◌↔◌, [], ◌∷◌, length, IfOk, IsTrue, Contains};
 ghost use Rattle.std.specs.Prelude.{ℕ, pos, ◌+ℤ◌, unsigned_abs, slice_index_or, slice_set};
+ghost use Rattle.def_sums.specs.Limits.{most_row};
 ghost use Rattle.def_history.specs.History.{IsLegal, place_of, replay, stripe_of};
 ghost use Rattle.def_history.specs.Packets.{IsPacketOf, place_count};
 ghost use Rattle.xg_rowcore.specs.Stripes.{AreTotals, HasGrown, with_job};
@@ -111,7 +112,7 @@ impl<N: RowName> Stripe<N> {
     pub fn total(&self, place: u32) -> i128
         requires { place < place_count self.now.stripes N.rows self.now.index }
         ensures replayed { result ≡ replay N.amount self.now.order (place * self.now.stripes + self.now.index) }
-        ensures small { unsigned_abs result ≤ 2 ^ 98 }
+        ensures small { unsigned_abs result ≤ most_row }
     {
         self.totals[place as usize]
     }
@@ -140,7 +141,7 @@ fn add_rows<N: RowName>(
     requires job { packet.now.job < N.jobs }
     requires packet { IsPacketOf N.amount N.rows packet.now.job packet.now.entries.list }
     requires small { (place : ℕ) → place < length totals.old.items
-        → unsigned_abs (slice_index_or totals.old.items place (pos 0)) ≤ 2 ^ 98 }
+        → unsigned_abs (slice_index_or totals.old.items place (pos 0)) ≤ most_row }
     ensures { HasGrown packet.now.entries.list index stripes totals.old.items totals.new.items }
 {
     let mut i = packet.first_of(stripes, index);

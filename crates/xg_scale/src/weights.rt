@@ -18,9 +18,7 @@ use std::alloc::Global;
 use std::marker::Model;
 use xg_frac::{Frac, OverLimit};
 use xg_game::{FileFault, Game, Refused};
-
-/// The greatest mass.
-const MOST: u128 = 0x4000_0000_0000_0000;
+use xg_limits::MOST_MASS;
 
 /// The unit of a game, the weights of its leaves in prefix order, and their mass, which is the sum of their sizes.
 ///
@@ -153,7 +151,7 @@ fn weigh_leaf(so_far: u64, times: u64, fraction: Frac) -> Result<WeighedLeaf, Ov
 {
     let size = size(fraction) as u128 * (times / denominator(fraction)) as u128;
     let mass = so_far as u128 + size;
-    if mass > MOST {
+    if mass > MOST_MASS as u128 {
         return Err(OverLimit);
     }
     Ok(WeighedLeaf {

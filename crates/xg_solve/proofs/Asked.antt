@@ -1,9 +1,8 @@
 -- What the words ask is within the limits of a run.
 use Rattle.std.proofs.Common.{◌≡◌, ℕ, ◌≤◌, List, Some, sym, subst}
-use Rattle.def_sums.specs.Limits.{most_rounds, most_scale}
+use Rattle.def_sums.specs.Limits.{most_rounds, most_scale, most_workers}
 use Rattle.def_command.specs.Grammar.{Settings, Drill, Solve, command_of_words}
 use Rattle.def_command.specs.GrammarLaws.{InRange}
-use Rattle.def_command.specs.Table.{most_workers}
 use Rattle.def_command.proofs.InRange.{settings_in_range}
 use Rattle.xg_engine.specs.declared.settings.Settings.{Settings as RunSettings}
 use Rattle.xg_engine.specs.State.{AreWithinLimits}

@@ -1,5 +1,6 @@
 //! The top call.
 ghost use Rattle.std.specs.Prelude.{◌≡◌, ◌≢◌, ◌⊎◌, ◌↔◌, ◌≤◌, All, IsNone, IsTrue};
+ghost use Rattle.def_sums.specs.Limits.{most_workers};
 ghost use Rattle.def_outside.specs.Calls.{HasFailed, MayHaveFailed, Wrote, WroteFront, WroteNothing};
 ghost use Rattle.def_outside.specs.Calls.{files_call, sink_call};
 ghost use Rattle.def_command.specs.Grammar.{command_of_words, named_files};
@@ -32,10 +33,8 @@ use xg_board::LockedRows;
 use xg_command::{Command, Settings as WordSettings, Words};
 use xg_engine::Settings;
 use xg_io::{Files, Gate, Sink};
+use xg_limits::MOST_SCALE;
 use xg_read::FileFault;
-
-/// The greatest scale of a plan.
-const MOST_SCALE: u32 = 1_048_576;
 
 /// How many stripes the rows are cut into that several workers add into.
 const STRIPES: u32 = 16;
@@ -127,7 +126,7 @@ fn asked(settings: WordSettings) -> Settings
 /// The rows that so many workers add into.
 fn locked_rows<G: Gate>(workers: u32, gate: &G) -> LockedRows<'_, G>
     requires some { 1 ≤ workers }
-    requires few { workers ≤ 64 }
+    requires few { workers ≤ most_workers }
     ensures { result.workers ≡ workers }
 {
     LockedRows {

@@ -15,17 +15,17 @@ kept_den : (c : goal.After-with_sign)
     → to_z w64 c.quotient-den.result ≡ pos (c.args.den / c.greatest_common_divisor-common.result)
 kept_den c = to_z_pos w64 _ (omega arith) ∙ ap pos c.quotient-den.ensures
 
-pub returns-then-num-gt-MOST : goal.returns-then-num-gt-MOST
-returns-then-num-gt-MOST c =
+pub returns-then-num-gt-MOST_PART : goal.returns-then-num-gt-MOST_PART
+returns-then-num-gt-MOST_PART c =
     let past : ℕ → Type 0 = λ n. 2 ^ 62 < n in
     over_limit c.args.negative c.args.num c.args.den c.greatest_common_divisor-common.result c.greatest_common_divisor-common.ensures.value
-    (⊎_elim (λ p. inl (subst past c.quotient-num.ensures p)) (λ p. inr (subst past c.quotient-den.ensures p.1)) c.then-num-gt-MOST.either)
+    (⊎_elim (λ p. inl (subst past c.quotient-num.ensures p)) (λ p. inr (subst past c.quotient-den.ensures p.1)) c.then-num-gt-MOST_PART.either)
 
 pub invariant_of-result : goal.invariant_of-result
 invariant_of-result c =
     let within : ℕ → Type 0 = λ n. n ≤ 2 ^ 62 in
     AreParts-from_divisor c.args.negative c.args.num c.args.den c.greatest_common_divisor-common.result _ _ c.requires c.greatest_common_divisor-common.ensures.value (kept_num c) (kept_den c)
-    (subst within c.quotient-num.ensures c.if-num-gt-MOST.false) (subst within c.quotient-den.ensures c.if-den-gt-MOST.false)
+    (subst within c.quotient-num.ensures c.if-num-gt-MOST_PART.false) (subst within c.quotient-den.ensures c.if-den-gt-MOST_PART.false)
 
 pub returns : goal.returns
 returns c =

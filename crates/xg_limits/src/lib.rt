@@ -1,0 +1,17 @@
+#![tactic(auto)]
+//! The limits of a run, as `def_sums` has them.
+
+/// The greatest mass of a game: the sizes of all its weights together.
+pub const MOST_MASS: u64 = 1 << 62;
+
+/// The most rounds of a run, and rounds between evaluations.
+pub const MOST_ROUNDS: u32 = 65_536;
+
+/// The greatest scale, which is the root of each round's plans.
+pub const MOST_SCALE: u32 = 1_048_576;
+
+/// The most workers of a run.
+pub const MOST_WORKERS: u32 = 64;
+
+/// The most stripes of the rows that workers add into.
+pub const MOST_STRIPES: u32 = 64;
