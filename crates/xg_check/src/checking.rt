@@ -48,15 +48,15 @@ fn open(alloc: Global, game_bytes: &[u8]) -> Result<Numbers, Refused>
     ensures opened { IfOk result (IsOpened game_bytes.now) }
 {
     let game = read_game(alloc, game_bytes)?;
-    open_game(alloc, &game)
+    open_game(alloc, game)
 }
 
-fn open_game(alloc: Global, game: &Game) -> Result<Numbers, Refused>
-    ensures exact { gives.Answers result (accepted (Ok game.now)) }
-    ensures opened { IfOk result (λ numbers. numbers ≡ weighed_game game.now) }
-    ensures faultless { IfOk result (λ _. game_file_fault game.now ≡ None) }
+fn open_game(alloc: Global, game: Game) -> Result<Numbers, Refused>
+    ensures exact { gives.Answers result (accepted (Ok game)) }
+    ensures opened { IfOk result (λ numbers. numbers ≡ weighed_game game) }
+    ensures faultless { IfOk result (λ _. game_file_fault game ≡ None) }
 {
-    Numbers::open(alloc, game)
+    Numbers::of(alloc, game)
 }
 
 /// The verdict on the certificate that the bytes say, or its first fault.

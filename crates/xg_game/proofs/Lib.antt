@@ -1,4 +1,5 @@
 pub mod MarkLemmas
 pub mod ZipLemmas
 pub mod TableLemmas
+pub mod TextLemmas
 pub mod PairLemmas

@@ -7,3 +7,4 @@ pub mod Outcomes
 pub mod Places
 pub mod Prologues
 pub mod Sets
+pub mod Texts

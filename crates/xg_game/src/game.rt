@@ -12,6 +12,7 @@ use crate::outcomes::{OutcomeTable, zero};
 use crate::prologue::Prologue;
 use crate::sets::{SetDescription, SetTables};
 use crate::tables::Tables;
+use crate::texts::Texts;
 use std::marker::Model;
 use xg_frac::Frac;
 use xg_lex::Text;
@@ -24,7 +25,7 @@ use xg_tree::{Kind, Player, Tree};
 pub struct Game {
     prologue: Prologue,
     tree: Tree,
-    names: Vec<Text>,
+    names: Texts,
     sets: SetTables,
     outcomes: OutcomeTable,
 }
@@ -60,6 +61,13 @@ impl Game {
             sets: tables.sets,
             outcomes: tables.outcomes,
         }
+    }
+
+    /// The tree alone. The names, the sets and the outcomes are given back.
+    pub fn into_tree(self) -> Tree
+        ensures { result ≡ self.tree }
+    {
+        self.tree
     }
 
     /// The tree of the game's nodes.
@@ -102,7 +110,7 @@ impl Game {
         requires there { k ≤ node_count self.now.tree }
         ensures { slice_get self.now.names (k - 1) ≡ Some result.now }
     {
-        self.names[k as usize - 1].bytes()
+        self.names.get(k as usize - 1)
     }
 
     /// How many sets of the kind there are.

@@ -13,6 +13,7 @@ mod table;
 mod tables;
 #[cfg(test)]
 mod tests;
+mod texts;
 
 pub use def_file::FileFault;
 pub use fault::Refused;

@@ -11,11 +11,11 @@ ghost use Rattle.xg_record.specs.Record.{record_of};
 
 use crate::outcomes::OutcomeTable;
 use crate::sets::SetTables;
+use crate::texts::Texts;
 use def_file::{EntryKind, FileFault};
 use def_tree::Node;
 use std::alloc::{AllocError, Global};
 use std::marker::Model;
-use xg_lex::Text;
 use xg_record::Record;
 use xg_tree::{Builder, Kind, MOST_NODES};
 
@@ -30,7 +30,7 @@ pub(crate) struct Places {
 #[derive(Drop)]
 pub(crate) struct Tables {
     pub(crate) nodes: Builder,
-    pub(crate) names: Vec<Text>,
+    pub(crate) names: Texts,
     pub(crate) sets: SetTables,
     pub(crate) outcomes: OutcomeTable,
 }
@@ -42,7 +42,7 @@ impl Model for Tables {
 
     ghost view = { λ t. record {
       nodes = t.nodes;
-      names = t.names.items;
+      names = t.names;
       sets = t.sets;
       outcomes = t.outcomes;
     } };
@@ -55,7 +55,7 @@ impl Tables {
     {
         Tables {
             nodes: Builder::new(alloc),
-            names: Vec::new(alloc),
+            names: Texts::new(alloc),
             sets: SetTables::new(alloc),
             outcomes: OutcomeTable::new(alloc),
         }
@@ -172,7 +172,7 @@ impl Tables {
             entry.outcome_name,
             entry.payoffs,
         )?;
-        self.names.push(entry.name)?;
+        self.names.push(entry.name.bytes())?;
         self.nodes.push(node).map_err(|_| AllocError)
     }
 

@@ -1,12 +1,12 @@
 ghost use Rattle.std.specs.Prelude.{◌≡◌, ◌≢◌, ◌≤◌, length, Err, IfOk, None, Ok, Some};
 ghost use Rattle.def_file.specs.declared.FileFault.{FileFault};
 ghost use Rattle.def_fraction.specs.Fraction.{most};
-ghost use Rattle.def_game_numbers.specs.Numbers.{game_file_fault, tables_of, weigh};
+ghost use Rattle.def_game_numbers.specs.Numbers.{game_file_fault};
 ghost use Rattle.def_plan.specs.Payoff.{mass_of};
-ghost use Rattle.def_sequence_form.specs.Form.{form_of_game};
+ghost use Rattle.def_sequence_form.specs.Form.{form_of};
 ghost use Rattle.def_sequence_form.specs.Sets.{sets_or_break};
 ghost use Rattle.def_tree.specs.Tree.{leaf_count, prefix};
-ghost use Rattle.xg_numbers.specs.Opened.{IsBreakOf, KeepsMass, weighed_game};
+ghost use Rattle.xg_numbers.specs.Opened.{IsBreakOf, weighed_game};
 
 use std::alloc::Global;
 use std::marker::Model;
@@ -14,6 +14,7 @@ use xg_game::{FileFault, Game, Refused};
 use xg_scale::{Weights, weigh};
 use xg_seq::SeqForm;
 use xg_sets::{RecallFault, Sets, build_sets};
+use xg_tree::Tree;
 
 /// A game in numbers: how many nodes it has, and its sequence form with the unit and the mass of its weights.
 #[derive(Drop)]
@@ -44,13 +45,34 @@ impl Numbers {
             → game_file_fault game.now ≡ Some fault }
     {
         let weights = weigh(alloc, game)?;
-        let sets = sets_of(alloc, game)?;
-        let form = form_of(alloc, game, &weights, &sets)?;
+        let sets = sets_of(alloc, game.tree())?;
+        let form = form_of(alloc, game.tree(), &weights, &sets)?;
         Ok(Numbers {
             form,
             nodes: game.tree().len(),
             unit: weights.unit(),
             mass: weights.mass(),
+        })
+    }
+
+    /// The same of a game that isn't needed any more. Its names, sets and outcomes are given back as soon as its leaves
+    /// are weighed.
+    pub fn of(alloc: Global, game: Game) -> Result<Numbers, Refused>
+        ensures opened { IfOk result (λ numbers. numbers ≡ weighed_game game) }
+        ensures faultless { IfOk result (λ _. game_file_fault game ≡ None) }
+        ensures refused { (fault : FileFault) → result ≡ Err (Refused.File fault) → game_file_fault game ≡ Some fault }
+    {
+        let weights = weigh(alloc, &game)?;
+        let (unit, mass) = (weights.unit(), weights.mass());
+        let tree = game.into_tree();
+        let sets = sets_of(alloc, &tree)?;
+        let form = form_of(alloc, &tree, &weights, &sets)?;
+        let nodes = tree.len();
+        Ok(Numbers {
+            form,
+            nodes,
+            unit,
+            mass,
         })
     }
 
@@ -87,12 +109,12 @@ impl Numbers {
     }
 }
 
-/// The game's sets, where its players remember their choices.
-fn sets_of(alloc: Global, game: &Game) -> Result<Sets, Refused>
-    ensures sets { IfOk result (λ sets. sets_or_break game.now.tree ≡ Ok sets) }
-    ensures broken { (fault : FileFault) → result ≡ Err (Refused.File fault) → IsBreakOf game.now.tree fault }
+/// The sets of a tree, where its players remember their choices.
+fn sets_of(alloc: Global, tree: &Tree) -> Result<Sets, Refused>
+    ensures sets { IfOk result (λ sets. sets_or_break tree.now ≡ Ok sets) }
+    ensures broken { (fault : FileFault) → result ≡ Err (Refused.File fault) → IsBreakOf tree.now fault }
 {
-    match build_sets(alloc, game.tree()) {
+    match build_sets(alloc, tree) {
         Ok(sets) => Ok(sets),
         Err(RecallFault::NotRecall { node, earlier }) => {
             Err(Refused::File(FileFault::NotRecall { node, earlier }))
@@ -101,16 +123,14 @@ fn sets_of(alloc: Global, game: &Game) -> Result<Sets, Refused>
     }
 }
 
-/// The game's sequence form.
-fn form_of(alloc: Global, game: &Game, weights: &Weights, sets: &Sets) -> Result<SeqForm, Refused>
-    requires weighed { weigh game.now ≡ Ok weights.now }
-    requires count { length weights.now.leaves ≡ leaf_count (prefix game.now.tree) }
-    requires sets { sets_or_break game.now.tree ≡ Ok sets.now }
-    ensures form { IfOk result (λ form. form ≡ form_of_game (tables_of game.now) game.now.tree) }
-    ensures mass { IfOk result (λ form. KeepsMass form weights.now.mass) }
+/// The sequence form of a tree with these weights.
+fn form_of(alloc: Global, tree: &Tree, weights: &Weights, sets: &Sets) -> Result<SeqForm, Refused>
+    requires count { length weights.now.leaves ≡ leaf_count (prefix tree.now) }
+    requires sets { sets_or_break tree.now ≡ Ok sets.now }
+    ensures form { IfOk result (λ form. form ≡ form_of tree.now weights.now.leaves) }
     ensures accepted { (fault : FileFault) → result ≢ Err (Refused.File fault) }
 {
-    match SeqForm::build(alloc, game.tree(), sets, weights.leaves()) {
+    match SeqForm::build(alloc, tree, sets, weights.leaves()) {
         Ok(form) => Ok(form),
         Err(_) => Err(Refused::NoMemory),
     }
