@@ -1,4 +1,5 @@
 pub mod Access
+pub mod Actions
 pub mod Kept
 pub mod Made
 pub mod Marks

@@ -163,11 +163,7 @@ impl Game {
         ensures { let actions = (set_at (sets_of_kind kind self.now.sets) (set - 1)).actions in
             option_map (λ a. a.name) (slice_get actions (action - 1)) ≡ Some result.now }
     {
-        self.set(kind, set)
-            .value
-            .get(action as usize - 1)
-            .name
-            .bytes()
+        self.set(kind, set).value.get(action as usize - 1).name
     }
 
     /// The probability of an action of a chance set.

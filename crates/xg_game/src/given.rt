@@ -3,8 +3,10 @@ ghost use Rattle.std.specs.Prelude.{◌≡◌};
 ghost use Rattle.std.specs.Cmp.Lexicographic.{pointwise};
 ghost use Rattle.def_file.specs.Adding as adding;
 ghost use Rattle.def_file.specs.Faults as faults;
+ghost use Rattle.xg_game.specs.Actions.{action_with};
 ghost use Rattle.xg_record.specs.Action.{action_of};
 
+use crate::actions::KeptActions;
 use std::cmp::Ordering;
 use xg_frac::{Frac, compare};
 use xg_lex::Text;
@@ -25,13 +27,13 @@ pub(crate) fn same_value(a: Frac, b: Frac) -> bool
     compare(a, b) == Ordering::Equal
 }
 
-/// Whether actions have the same name and, where chance moves, the same probability.
-pub(crate) fn same_action(kind: Kind, a: &Action, b: &Action) -> bool
-    ensures { result ≡ faults.same_action kind (action_of a.now) (action_of b.now) }
+/// Whether an action has this name and, where chance moves, the same probability.
+fn same_action(kind: Kind, name: &[u8], chance: Frac, given: &Action) -> bool
+    ensures { result ≡ faults.same_action kind (action_with name.now chance) (action_of given.now) }
 {
-    same_text(&a.name, &b.name)
+    name == given.name.bytes()
         && match kind {
-            Kind::Chance => same_value(a.chance, b.chance),
+            Kind::Chance => same_value(chance, given.chance),
             Kind::One | Kind::Two | Kind::Leaf => true,
         }
 }
@@ -56,7 +58,7 @@ pub(crate) fn keep_name(kept: &mut Option<Text>, given: Option<Text>)
 }
 
 /// Whether actions are given that differ in their number, a name or a probability from those that are kept.
-pub(crate) fn actions_differ(kind: Kind, kept: &Actions, given: &Option<Actions>) -> bool
+pub(crate) fn actions_differ(kind: Kind, kept: &KeptActions, given: &Option<Actions>) -> bool
     ensures { result ≡ faults.actions_differ kind kept.now given.now }
 {
     match given {
@@ -66,14 +68,15 @@ pub(crate) fn actions_differ(kind: Kind, kept: &Actions, given: &Option<Actions>
 }
 
 /// Whether lists of actions are as long, and the same at each place.
-fn same_actions(kind: Kind, kept: &Actions, given: &Actions) -> bool
+fn same_actions(kind: Kind, kept: &KeptActions, given: &Actions) -> bool
     ensures { result ≡ pointwise (faults.same_action kind) kept.now given.now }
 {
     if kept.len() != given.len() {
         return false;
     }
     for i in 0..kept.len() {
-        if !same_action(kind, kept.get(i), given.get(i)) {
+        let action = kept.get(i);
+        if !same_action(kind, action.name, action.chance, given.get(i)) {
             return false;
         }
     }

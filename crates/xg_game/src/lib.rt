@@ -1,6 +1,7 @@
 //! The tables of a game: its nodes with their names, its sets and its outcomes, made from the entries of its file.
 #![tactic(auto)]
 
+mod actions;
 mod fault;
 mod game;
 mod given;

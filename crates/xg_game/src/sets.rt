@@ -6,6 +6,7 @@ ghost use Rattle.def_file.specs.Faults as faults;
 ghost use Rattle.xg_game.specs.Mentions.{set_mention};
 ghost use Rattle.xg_record.specs.Record.{record_of};
 
+use crate::actions::KeptActions;
 use crate::given::{actions_differ, name_differs};
 use crate::table::{Described, NumberTable};
 use std::alloc::{AllocError, Global};
@@ -15,12 +16,13 @@ use xg_record::{Actions, Record};
 use xg_tree::{Kind, MOST_ACTIONS};
 
 /// What is known of a set: the first name that is given, and the actions of the first mention.
-pub(crate) type SetDescription = Described<Actions>;
+pub(crate) type SetDescription = Described<KeptActions>;
 
 /// The sets of chance or of a player by their numbers in the file, in the order of their first mentions.
 #[derive(Drop)]
 pub(crate) struct SetTable {
-    sets: NumberTable<Actions>,
+    alloc: Global,
+    sets: NumberTable<KeptActions>,
 }
 
 impl Model for SetTable {
@@ -40,6 +42,7 @@ impl SetTable {
         ensures { result ≡ [] }
     {
         SetTable {
+            alloc,
             sets: NumberTable::new(alloc),
         }
     }
@@ -150,7 +153,7 @@ impl SetTable {
                 self.name(i, name);
                 Ok(())
             }
-            None => self.add(number, name, shrunk(actions.unwrap())),
+            None => self.add(number, name, actions.unwrap()),
         }
     }
 
@@ -171,17 +174,9 @@ impl SetTable {
         ensures { let added : SetEntry = record { number = number; name = name; actions = actions } in
             OnOk result (self.new ≡ self.old ++ added ∷ []) }
     {
-        self.sets.push(number, name, actions)
+        let kept = KeptActions::of(self.alloc, &actions)?;
+        self.sets.push(number, name, kept)
     }
-}
-
-/// The same actions, in no more memory than they need.
-fn shrunk(actions: Actions) -> Actions
-    ensures { result ≡ actions }
-{
-    let mut actions = actions;
-    actions.shrink_to_fit();
-    actions
 }
 
 /// Whether there is a list of actions that has none or too many.

@@ -1,6 +1,6 @@
 use Rattle.std.proofs.Common.{◌∷◌, [], ◌++◌, ℕ, List, map, length, ap, ◌∙◌, arith}
 use Rattle.std.proofs.Math.ListN.{length-map}
-use Rattle.def_file.specs.Content.{SetEntry}
+use Rattle.def_file.specs.Content.{Action, SetEntry}
 use Rattle.def_file.specs.Faults.{set_place_of}
 use Rattle.xg_game.specs.Sets.{set_of}
 use Rattle.xg_game.proofs.TableLemmas.{KnownSet, on_ok, set_added, set_place}
@@ -16,7 +16,8 @@ push-requires-clause-room c =
 
 pub returns : goal.returns
 returns c =
-    let known : KnownSet = record { name = c.args.name; value = c.args.actions } in
+    let known : KnownSet = record { name = c.args.name; value = c.in_ok-kept.kept } in
     on_ok c.push.result (λ put.
     ap (map set_of) put ∙ set_added c.self.inside.sets (c.args.number, known)
-    ∙ ap (λ (table : List SetEntry). table ++ set_of (c.args.number, known) ∷ []) c.self.view_is) c.push.ensures
+    ∙ ap (λ (table : List SetEntry). table ++ set_of (c.args.number, known) ∷ []) c.self.view_is
+    ∙ ap (λ (actions : List Action). c.args.self.now ++ set_of (c.args.number, record { name = c.args.name; value = actions }) ∷ []) c.in_ok-kept.ensures) c.push.ensures
