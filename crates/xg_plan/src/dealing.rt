@@ -73,9 +73,7 @@ fn deal_by_play(n: u64, units: &[u32], out: &mut [u64])
     requires small { n < 2 ^ 47 }
     ensures { out.new ≡ shares n units.now }
 {
-    if n == 0 {
-        out.fill(0);
-    } else if out.len() == 1 {
+    if out.len() == 1 {
         out[0] = n;
     } else if out.len() == 2 {
         deal_to_two(n, units, out);
