@@ -2,10 +2,14 @@
 use Rattle.std.specs.Prelude.{ℕ, ◌+◌, ◌<◌, ◌≤◌, List, length, map, All, slice_index}
 use Rattle.def_sums.specs.Limits.{most_mass}
 use Rattle.xg_jobs.specs.declared.entry.SmallEntry.{SmallEntry}
+use Rattle.xg_jobs.specs.declared.entry.TinyEntry.{TinyEntry}
 use Rattle.xg_jobs.specs.declared.entry.WideEntry.{WideEntry}
 use Rattle.xg_jobs.specs.declared.groups.Entries.{Entries}
-use Rattle.xg_jobs.specs.declared.groups.Entries.TheVariants.{Small, Wide}
+use Rattle.xg_jobs.specs.declared.groups.Entries.TheVariants.{Small, Tiny, Wide}
 use Rattle.xg_jobs.specs.Groups.{GroupLeaf, group_at, group_mass}
+
+abbrev pub tiny_leaf : TinyEntry → GroupLeaf
+tiny_leaf e = record { other = e.other; weight = e.weight }
 
 abbrev pub small_leaf : SmallEntry → GroupLeaf
 small_leaf e = record { other = e.other; weight = e.weight }
@@ -14,6 +18,7 @@ abbrev pub wide_leaf : WideEntry → GroupLeaf
 wide_leaf e = record { other = e.other; weight = e.weight }
 
 abbrev pub leaves_in : Entries → List GroupLeaf
+leaves_in (Tiny entries) = map tiny_leaf entries.items
 leaves_in (Small entries) = map small_leaf entries.items
 leaves_in (Wide entries) = map wide_leaf entries.items
 

@@ -1,16 +1,15 @@
-ghost use Rattle.std.specs.Prelude.{◌≡◌, ◌<◌, ◌^◌, ℕ, ℤ, unsigned_abs, FitsSigned};
-ghost use Rattle.std.specs.Int.{w32};
+ghost use Rattle.std.specs.Prelude.{◌≡◌};
 ghost use Rattle.xg_jobs.specs.Groups.{GroupLeaf};
 
 /// A leaf in the group of its sequence of one player, with the sequence of the other one.
 pub(crate) trait Entry: Copy {
-    // the leaf, and which weights there is room for
+    // the leaf, and which leaves there is room for
     ghost leaf: { Self → GroupLeaf };
 
-    ghost has_room: { ℤ → Type 0 };
+    ghost has_room: { GroupLeaf → Type 0 };
 
     fn new(other: u32, weight: i64) -> Self
-        requires { has_room weight }
+        requires { has_room (record { other = other; weight = weight }) }
         ensures { leaf result ≡ record { other = other; weight = weight } };
 
     fn other(&self) -> u32
@@ -18,6 +17,36 @@ pub(crate) trait Entry: Copy {
 
     fn weight(&self) -> i64
         ensures { result ≡ (leaf self.now).weight };
+}
+
+/// An entry of 4 bytes, which most games' leaves fit.
+#[derive(Clone, Copy)]
+pub(crate) struct TinyEntry {
+    other: u16,
+    weight: i16,
+}
+
+impl Entry for TinyEntry {
+    ghost use Rattle.xg_jobs.specs.Groups.{IsTiny};
+
+    ghost leaf = { λ e. record { other = e.other; weight = e.weight } };
+
+    ghost has_room = { λ leaf. IsTiny leaf };
+
+    fn new(other: u32, weight: i64) -> TinyEntry {
+        TinyEntry {
+            other: other as u16,
+            weight: weight as i16,
+        }
+    }
+
+    fn other(&self) -> u32 {
+        self.other as u32
+    }
+
+    fn weight(&self) -> i64 {
+        self.weight as i64
+    }
 }
 
 /// An entry of 8 bytes, which most games' weights fit.
@@ -28,12 +57,11 @@ pub(crate) struct SmallEntry {
 }
 
 impl Entry for SmallEntry {
-    ghost use Rattle.std.specs.Int.{w32};
-    ghost use Rattle.std.specs.Prelude.{FitsSigned};
+    ghost use Rattle.xg_jobs.specs.Groups.{IsSmall};
 
     ghost leaf = { λ e. record { other = e.other; weight = e.weight } };
 
-    ghost has_room = { λ weight. FitsSigned w32 weight };
+    ghost has_room = { λ leaf. IsSmall leaf };
 
     fn new(other: u32, weight: i64) -> SmallEntry {
         SmallEntry {

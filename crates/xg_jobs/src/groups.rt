@@ -9,15 +9,18 @@ ghost use Rattle.xg_seq.specs.Leaves.{HasSequences};
 ghost use Rattle.xg_jobs.specs.Grouping.{AreStarts, ArePlaced, pair_weights};
 ghost use Rattle.xg_jobs.specs.Groups.{greatest_of};
 
-use crate::entry::{SmallEntry, WideEntry};
+use crate::entry::{SmallEntry, TinyEntry, WideEntry};
 use crate::grouping::{entries_of, starts_of, total_mass};
 use crate::merging::merged;
-use crate::packing::{has_small_weights, small_entries};
-use crate::sums::{write_small_sums, write_wide_sums};
+use crate::packing::{are_small, are_tiny, small_entries, tiny_entries};
+use crate::sums::{write_small_sums, write_tiny_sums, write_wide_sums};
 use def_tree::Player;
 use std::alloc::{AllocError, Global};
 use std::marker::Model;
 use xg_seq::SeqForm;
+
+// The greatest root of a sum of plans.
+const MOST_NUMBER: u64 = 1 << 36;
 
 /// The leaves of each of a player's sequences.
 #[derive(Drop)]
@@ -34,6 +37,7 @@ pub(crate) struct LeafGroups {
 /// Entries in which each weight has room.
 #[derive(Drop)]
 pub(crate) enum Entries {
+    Tiny(Vec<TinyEntry>),
     Small(Vec<SmallEntry>),
     Wide(Vec<WideEntry>),
 }
@@ -42,11 +46,13 @@ impl Entries {
     ghost use Rattle.std.specs.Prelude.{map};
     ghost use Rattle.xg_jobs.specs.Entries.{leaves_in, wide_leaf};
 
-    // Small entries, where they have room for all weights.
+    // The smallest entries that have room for all leaves.
     fn packed(alloc: Global, entries: Vec<WideEntry>) -> Result<Entries, AllocError>
         ensures { IfOk result (λ packed. leaves_in packed ≡ map wide_leaf entries.items) }
     {
-        if has_small_weights(&entries) {
+        if are_tiny(&entries) {
+            Ok(Entries::Tiny(tiny_entries(alloc, &entries)?))
+        } else if are_small(&entries) {
             Ok(Entries::Small(small_entries(alloc, &entries)?))
         } else {
             Ok(Entries::Wide(entries))
@@ -107,9 +113,10 @@ impl LeafGroups {
     {
         // the sequences of a form's leaves are within their limits
         let _others = other_count(form, player);
-        let narrow = fits_word(self.mass, greatest(numbers));
+        let narrow = sums_fit_word(self.mass, numbers);
         let starts = &self.starts;
         match &self.entries {
+            Entries::Tiny(entries) => write_tiny_sums(narrow, starts, entries, numbers, rows),
             Entries::Small(entries) => write_small_sums(narrow, starts, entries, numbers, rows),
             Entries::Wide(entries) => write_wide_sums(narrow, starts, entries, numbers, rows),
         }
@@ -130,6 +137,14 @@ fn other_count(form: &SeqForm, player: Player) -> u32
         Player::One => form.sequence_count(Player::Two),
         Player::Two => form.sequence_count(Player::One),
     }
+}
+
+// Whether each sum of a group is within 64 bits, with its sign. Light weights tell it whatever the numbers are.
+fn sums_fit_word(mass: u64, numbers: &[u64]) -> bool
+    requires { All (λ n. n ≤ most_root) numbers.now }
+    ensures { IsTrue result → mass * greatest_of numbers.now < 2 ^ 63 }
+{
+    fits_word(mass, MOST_NUMBER) || fits_word(mass, greatest(numbers))
 }
 
 fn greatest(numbers: &[u64]) -> u64

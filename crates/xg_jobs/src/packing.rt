@@ -1,13 +1,47 @@
 ghost use Rattle.std.specs.Prelude.{◌≡◌, All, FitsSigned, IfOk, IsTrue, map};
 ghost use Rattle.std.specs.Int.{w32};
-ghost use Rattle.xg_jobs.specs.Entries.{small_leaf, wide_leaf};
+ghost use Rattle.xg_jobs.specs.Entries.{small_leaf, tiny_leaf, wide_leaf};
+ghost use Rattle.xg_jobs.specs.Groups.{IsSmall, IsTiny};
 
-use crate::entry::{Entry, SmallEntry, WideEntry};
+use crate::entry::{Entry, SmallEntry, TinyEntry, WideEntry};
 use std::alloc::{AllocError, Global};
 
+/// Whether each leaf has room in a tiny entry.
+pub(crate) fn are_tiny(entries: &[WideEntry]) -> bool
+    ensures { IsTrue result → All (λ e. IsTiny (wide_leaf e)) entries.now }
+{
+    for e in entries {
+        if !is_tiny(e.other(), e.weight()) {
+            return false;
+        }
+    }
+    true
+}
+
+fn is_tiny(other: u32, weight: i64) -> bool
+    ensures { IsTrue result → IsTiny (record { other = other; weight = weight }) }
+{
+    other < 1 << 16 && i16::try_from(weight).is_ok()
+}
+
+/// The same entries as tiny ones.
+pub(crate) fn tiny_entries(
+    alloc: Global,
+    entries: &[WideEntry],
+) -> Result<Vec<TinyEntry>, AllocError>
+    requires { All (λ e. IsTiny (wide_leaf e)) entries.now }
+    ensures { IfOk result (λ tiny. map tiny_leaf tiny.items ≡ map wide_leaf entries.now) }
+{
+    let mut tiny = Vec::with_capacity(alloc, entries.len())?;
+    for e in entries {
+        tiny.push(TinyEntry::new(e.other(), e.weight()))?;
+    }
+    Ok(tiny)
+}
+
 /// Whether each weight has room in a small entry.
-pub(crate) fn has_small_weights(entries: &[WideEntry]) -> bool
-    ensures { IsTrue result → All (λ e. FitsSigned w32 e.weight) entries.now }
+pub(crate) fn are_small(entries: &[WideEntry]) -> bool
+    ensures { IsTrue result → All (λ e. IsSmall (wide_leaf e)) entries.now }
 {
     for e in entries {
         if !is_small(e.weight()) {
@@ -28,7 +62,7 @@ pub(crate) fn small_entries(
     alloc: Global,
     entries: &[WideEntry],
 ) -> Result<Vec<SmallEntry>, AllocError>
-    requires { All (λ e. FitsSigned w32 e.weight) entries.now }
+    requires { All (λ e. IsSmall (wide_leaf e)) entries.now }
     ensures { IfOk result (λ small. map small_leaf small.items ≡ map wide_leaf entries.now) }
 {
     let mut small = Vec::with_capacity(alloc, entries.len())?;

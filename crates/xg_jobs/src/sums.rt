@@ -1,10 +1,10 @@
 ghost use Rattle.std.specs.Prelude.{◌≡◌, ℕ, ◌+◌, ◌*◌, ◌^◌, ◌<◌, ◌≤◌, ℤ, pos, ◌+ℤ◌, ◌*ℤ◌, unsigned_abs, IsTrue};
 ghost use Rattle.std.specs.Prelude.{length, map, slice_index, slice_index_or};
-ghost use Rattle.xg_jobs.specs.Entries.{small_leaf, wide_leaf};
+ghost use Rattle.xg_jobs.specs.Entries.{small_leaf, tiny_leaf, wide_leaf};
 ghost use Rattle.xg_jobs.specs.Groups.{group_at, group_mass, group_sum};
 ghost use Rattle.xg_jobs.specs.Sums.{CanSum, CanSumAll};
 
-use crate::entry::{Entry, SmallEntry, WideEntry};
+use crate::entry::{Entry, SmallEntry, TinyEntry, WideEntry};
 
 /// Writes the sum of each group against the numbers. Where each sum has room in 64 bits, `narrow` says so.
 fn write_sums<E: Entry>(
@@ -26,6 +26,25 @@ fn write_sums<E: Entry>(
         let group = &entries[starts[s] as usize..starts[s + 1] as usize];
         sums[s] = sum_of(narrow, group, numbers);
     }
+}
+
+/// The same over tiny entries.
+pub(crate) fn write_tiny_sums(
+    narrow: bool,
+    starts: &[u32],
+    entries: &[TinyEntry],
+    numbers: &[u64],
+    sums: &mut [i128],
+)
+    ghost most: { ℕ }
+    requires ordered { (s : ℕ) → s < length sums.old → slice_index starts.now s ≤ slice_index starts.now (s + 1) }
+    requires inside { (s : ℕ) → s < length sums.old → slice_index starts.now (s + 1) ≤ length entries.now }
+    requires all_starts { length sums.old + 1 ≡ length starts.now }
+    requires can { CanSumAll narrow starts.now (map tiny_leaf entries.now) (length sums.old) numbers.now most }
+    ensures { (s : ℕ) → s < length sums.old → slice_index_or sums.new s (pos 0)
+        ≡ group_sum numbers.now (group_at starts.now (map tiny_leaf entries.now) s) }
+{
+    write_sums(narrow, starts, entries, numbers, sums);
 }
 
 /// The same over small entries.

@@ -163,14 +163,29 @@ fn sums<Rt: Abort + Threads + Wait + Sync>(
     Ok(())
 }
 
-// Weights of 32 bits and of 64, each with sums of 64 bits and of 128.
+// Weights of 16 bits, and of 32 and 64, each of these with sums of 64 bits and of 128.
 #[test]
 fn sums_the_leaves_of_matching_pennies(rt: HostRuntime) -> Result<(), Fail> {
     let alloc = rt.alloc();
     let light = [1 << 28, -2 << 28, -3 << 28, 4 << 28];
     let heavy = [1 << 40, -2 << 40, -3 << 40, 4 << 40];
     let most = 1 << 36;
+    let (least, greatest) = (-1 << 15, (1 << 15) - 1);
     sums(&rt, alloc, &[1, -1, -1, 1], 1, [-1, -1, 1])?;
+    sums(
+        &rt,
+        alloc,
+        &[0, least, least, greatest],
+        1,
+        [-1 << 15, -1 << 15, (1 << 15) - 1],
+    )?;
+    sums(
+        &rt,
+        alloc,
+        &[0, greatest + 1, least - 1, 1],
+        1,
+        [1 << 15, (-1 << 15) - 1, 1],
+    )?;
     sums(&rt, alloc, &light, 1, [-2 << 28, -3 << 28, 4 << 28])?;
     sums(&rt, alloc, &light, most, [-2 << 64, -3 << 64, 4 << 64])?;
     sums(&rt, alloc, &heavy, 1, [-2 << 40, -3 << 40, 4 << 40])?;
