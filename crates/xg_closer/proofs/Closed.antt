@@ -1,5 +1,5 @@
 -- A closed round leaves the regrets of the player's own sums, which are kept.
-use Rattle.std.proofs.Common.{◌≡◌, ℕ, ◌+◌, ◌*◌, ◌^◌, ◌<◌, ◌≤◌, List, ◌++◌, length, take, drop, ℤ, pos, unsigned_abs, arith, refl, sym, subst, ap, ◌∙◌}
+use Rattle.std.proofs.Common.{◌≡◌, ℕ, ◌+◌, ◌*◌, ◌^◌, ◌<◌, ◌≤◌, List, [], ◌∷◌, ◌++◌, map, length, take, drop, ℤ, unsigned_abs, arith, refl, sym, subst, ap, ◌∙◌}
 use Rattle.std.proofs.Math.Seq.{take-append_seam}
 use Rattle.def_sums.specs.Limits.{most_rounds}
 use Rattle.def_sums.specs.Sum.{nat_sum_over}
@@ -17,6 +17,19 @@ use Rattle.xg_closer.proofs.SetValues.{regrets_count}
 -- a whole list that is written back
 pub written : (xs items : List ℤ) (n : ℕ) → length xs ≡ n → take n (xs ++ drop (length xs) items) ≡ xs
 written xs items n count = ap (λ k. take k (xs ++ drop (length xs) items)) (sym count) ∙ take-append_seam xs (drop (length xs) items)
+
+-- worths that begin with the own sums are as large together as the rows
+pub worths_together : (player : Player) (rows : List ℤ) (sets : List InformationSet) → length rows ≡ sequence_count sets
+    → (worths : List ℤ) → ((s : ℕ) → amount_of worths s ≡ own_amount player rows s)
+    → size_of_sums (amount_of worths) sets ≡ nat_sum_over unsigned_abs rows
+worths_together player rows sets count worths each =
+    let same : amount_of worths ≡ own_amount player rows = λ i s. each s i in
+    ap (λ sums. size_of_sums sums sets) same ∙ own_sizes player rows sets count
+
+-- each worth is its own amount
+pub same_amounts : (worths : List ℤ) → map (λ worth. worth) worths ≡ worths
+same_amounts [] = refl
+same_amounts (worth ∷ worths) = ap (λ ws. worth ∷ ws) (same_amounts worths)
 
 module _ (player : Player) (rows : List ℤ) (sets : List InformationSet) (count : length rows ≡ sequence_count sets) (small : nat_sum_over unsigned_abs rows ≤ 2 ^ 82) where
   own_small : size_of_sums (own_amount player rows) sets ≤ 2 ^ 82
@@ -38,16 +51,17 @@ module _ (player : Player) (rows : List ℤ) (sets : List InformationSet) (count
       let same : amount_of worths ≡ own_amount player rows = λ i s. each s i in
       is ∙ ap (λ sums. regrets_after sums play sets before) same
 
-  pub keeps_regrets : (play : List ℕ) (before after worths : List ℤ) (rounds : ℕ) → AreInOrder sets
+  pub keeps_regrets : (play : List ℕ) (before after worths small_worths : List ℤ) (rounds : ℕ) → AreInOrder sets
       → GivesAllUnits play sets → rounds < most_rounds
       → ((s : ℕ) → unsigned_abs (regret_of before s) ≤ rounds * 2 ^ 82)
       → after ≡ regrets_after (own_amount player rows) play sets before → length worths ≡ sequence_count sets
-      → KeepsRegrets after worths (rounds + 1)
-  keeps_regrets play before after worths rounds order all_units few sizes is room =
+      → length small_worths ≡ sequence_count sets → KeepsRegrets after worths small_worths (rounds + 1)
+  keeps_regrets play before after worths small_worths rounds order all_units few sizes is room small_room =
       let more : List ℤ = regrets_after (own_amount player rows) play sets before in
       let stay = regrets_stay_small (own_amount player rows) play sets before rounds order all_units own_small few sizes in
       record {
         room = room ∙ sym (regrets_count (own_amount player rows) play sets before order) ∙ ap (length {A = ℤ}) (sym is);
+        small_room = small_room ∙ sym (regrets_count (own_amount player rows) play sets before order) ∙ ap (length {A = ℤ}) (sym is);
         none_of_empty = ap (λ xs. regret_of xs 0) is;
         few_rounds = omega arith;
         sizes = λ s. omega (arith, ap (λ xs. unsigned_abs (regret_of xs s)) is, stay.by_rounds s);

@@ -26,6 +26,7 @@ later_worth sums play sets k s = worth sums (drop k (placed sets)) (values_from 
 -- the value, the worths, what is added to a regret, and what the value adds to the sequence before the set
 pub record SetFacts (sums : ℕ → ℤ) (play : List ℕ) (sets : List InformationSet) (before : List ℤ) (m : ℕ) (h : PlacedSet) (value : ℤ) : Type 0 where
   pub is_value : value ≡ set_value play (full_worth sums play sets) h
+  pub value_small : unsigned_abs value ≤ size_of_sums sums sets
   pub worth_small : (s : ℕ) → h.first ≤ s → s < h.first + h.actions
       → unsigned_abs (full_worth sums play sets s) ≤ size_of_sums sums sets
   pub growth : (s : ℕ) → h.first ≤ s → s < h.first + h.actions
@@ -86,6 +87,7 @@ set_facts sums play sets before m h order all_units at =
     (AllZip-at (λ h value. All (λ s. regret_of (regrets_after sums play sets before) s ≡ regret_of before s +ℤ (full_worth sums play sets s -ℤ value)) (sequences_of h)) (placed sets) values (added_at sums play sets before order) m no_place (pos 0) at.there) in
     record {
       is_value = is;
+      value_small = within.its_value;
       worth_small = λ s from to. omega (arith, at_most_sum (λ s. unsigned_abs (full_worth sums play sets s)) h.first h.actions s from to, within.worths);
       growth = λ s from to. range-All (λ s. unsigned_abs (full_worth sums play sets s -ℤ value) ≤ size_of_sums sums sets) h.first h.actions within.each_growth s from to;
       products = within.products;

@@ -1,8 +1,9 @@
-ghost use Rattle.std.specs.Prelude.{◌≡◌, ℕ, ◌+◌, ◌*◌, ◌^◌, ◌<◌, ◌≤◌, ℤ, pos, ◌+ℤ◌, ◌-ℤ◌, ◌*ℤ◌, unsigned_abs, length, neg_ℤ, slice_index};
-ghost use Rattle.std.specs.Int.{int_wrap, w128};
+ghost use Rattle.std.specs.Prelude.{◌≡◌, ℕ, ◌+◌, ◌*◌, ◌^◌, ◌<◌, ◌≤◌, ℤ, pos, ◌+ℤ◌, ◌-ℤ◌, ◌*ℤ◌, unsigned_abs, neg_ℤ};
+ghost use Rattle.std.specs.Prelude.{length, map, slice_index, FitsSigned, IfSome, IsTrue};
+ghost use Rattle.std.specs.Int.{int_wrap};
 ghost use Rattle.def_plan.specs.Form.{player_sets, sequence_count, sequences_of};
 ghost use Rattle.def_round.specs.Play.{GivesAllUnits, regret_of, units};
-ghost use Rattle.def_round.specs.Round.{IsRound, regrets_after};
+ghost use Rattle.def_round.specs.Round.{IsRound, regrets_after, utility};
 ghost use Rattle.def_round.specs.Sizes.{size_of_sums};
 ghost use Rattle.def_sums.specs.Floor.{floor_div};
 ghost use Rattle.def_sums.specs.Limits.{most_rounds, most_round_row};
@@ -15,6 +16,7 @@ ghost use Rattle.xg_seq.specs.Table.{most_sequences};
 
 use crate::places::{Placement, placement_of, sets_are_kept};
 use crate::regrets::Regrets;
+use crate::worths::{Worth, add_worth, worth_at};
 use def_tree::Player;
 use xg_plan::Play;
 use xg_seq::SeqForm;
@@ -45,11 +47,12 @@ pub fn close_round(
     ensures count { length regrets.new.of_sequences ≡ length regrets.old.of_sequences }
 {
     sets_are_kept(form, player);
-    take_rows(player, rows, &mut regrets.worths);
-    close_sets(
+    close_rows(
         form,
         player,
         play,
+        rows,
+        &mut regrets.small_worths,
         &mut regrets.worths,
         &mut regrets.regrets,
     );
@@ -60,6 +63,78 @@ pub fn close_round(
 pub fn leaf_sums_close_the_round()
     ensures { LeafSumsCloseTheRound }
 {}
+
+// Adds a round's regrets, with worths of 64 bits where the rows have room in them.
+fn close_rows(
+    form: &SeqForm,
+    player: Player,
+    play: &Play,
+    rows: &[i128],
+    small_worths: &mut [i64],
+    worths: &mut [i128],
+    regrets: &mut [i128],
+)
+    requires small_rows { nat_sum_over unsigned_abs rows.now ≤ most_round_row }
+    requires as_rows { length rows.now ≡ sequence_count (player_sets form.now player) }
+    requires as_small_worths { length small_worths.old ≡ sequence_count (player_sets form.now player) }
+    requires as_worths { length worths.old ≡ sequence_count (player_sets form.now player) }
+    requires as_regrets { length regrets.old ≡ sequence_count (player_sets form.now player) }
+    requires as_play { length play.now ≡ sequence_count (player_sets form.now player) }
+    requires all_units { GivesAllUnits play.now (player_sets form.now player) }
+    requires room { (s : ℕ) → unsigned_abs (regret_of regrets.old s) < 2 ^ 126 }
+    requires none_of_empty { regret_of regrets.old 0 ≡ pos 0 }
+    ensures small_count { length small_worths.new ≡ length small_worths.old }
+    ensures count { length worths.new ≡ length worths.old }
+    ensures regrets { regrets.new
+        ≡ regrets_after (own_amount player rows.now) play.now (player_sets form.now player) regrets.old }
+{
+    if take_small_rows(player, rows, small_worths) {
+        close_sets(form, player, play, small_worths, regrets);
+    } else {
+        take_rows(player, rows, worths);
+        close_sets(form, player, play, worths, regrets);
+    }
+}
+
+// Takes the rows as they are to the player, if all of them together have room in 64 bits.
+fn take_small_rows(player: Player, rows: &[i128], worths: &mut [i64]) -> bool
+    requires as_many { length rows.now ≡ length worths.old }
+    ensures count { length worths.new ≡ length worths.old }
+    ensures each { IsTrue result → (s : ℕ) → amount_of worths.new s ≡ own_amount player rows.now s }
+    ensures small { IsTrue result → nat_sum_over unsigned_abs rows.now ≤ 2 ^ 62 }
+{
+    let mut room = 1u64 << 62;
+    for i in 0..rows.len() {
+        let Some(row) = small_row(rows[i], room) else {
+            return false;
+        };
+        room -= row.unsigned_abs();
+        worths[i] = own_row(player, row);
+    }
+    true
+}
+
+// The row, if its size is no greater than the room.
+fn small_row(row: i128, room: u64) -> Option<i64>
+    ensures { IfSome result (λ small. (small ≡ row) × (unsigned_abs row ≤ room)) }
+{
+    let small = i64::try_from(row).ok()?;
+    if small.unsigned_abs() <= room {
+        Some(small)
+    } else {
+        None
+    }
+}
+
+fn own_row(player: Player, row: i64) -> i64
+    requires { unsigned_abs row ≤ 2 ^ 62 }
+    ensures { result ≡ utility player row }
+{
+    match player {
+        Player::One => row,
+        Player::Two => -row,
+    }
+}
 
 // Takes the rows as they are to the player.
 fn take_rows(player: Player, rows: &[i128], worths: &mut [i128])
@@ -86,23 +161,25 @@ fn negate_into(rows: &[i128], worths: &mut [i128])
 }
 
 // Adds a round's regrets, where the worths begin with what the leaves give each sequence.
-fn close_sets(
+fn close_sets<W: Worth>(
     form: &SeqForm,
     player: Player,
     play: &Play,
-    worths: &mut [i128],
+    worths: &mut [W],
     regrets: &mut [i128],
 )
     requires as_worths { length worths.old ≡ sequence_count (player_sets form.now player) }
     requires as_regrets { length regrets.old ≡ sequence_count (player_sets form.now player) }
     requires as_play { length play.now ≡ sequence_count (player_sets form.now player) }
     requires all_units { GivesAllUnits play.now (player_sets form.now player) }
-    requires small { size_of_sums (amount_of worths.old) (player_sets form.now player) ≤ most_round_row }
+    requires small { size_of_sums (amount_of (map W.amount worths.old)) (player_sets form.now player) ≤ most_round_row }
+    requires fits { (v : ℤ) → unsigned_abs v
+        ≤ size_of_sums (amount_of (map W.amount worths.old)) (player_sets form.now player) → FitsSigned W.width v }
     requires room { (s : ℕ) → unsigned_abs (regret_of regrets.old s) < 2 ^ 126 }
     requires none_of_empty { regret_of regrets.old 0 ≡ pos 0 }
     ensures count { length worths.new ≡ length worths.old }
     ensures regrets { regrets.new
-        ≡ regrets_after (amount_of worths.old) play.now (player_sets form.now player) regrets.old }
+        ≡ regrets_after (amount_of (map W.amount worths.old)) play.now (player_sets form.now player) regrets.old }
 {
     sets_are_kept(form, player);
     for set in (0..form.set_count(player)).rev() {
@@ -112,7 +189,7 @@ fn close_sets(
 }
 
 // Adds the regrets of one set, whose sequences' worths are complete, and its value to the sequence before it.
-fn close_set(place: Placement, play: &Play, worths: &mut [i128], regrets: &mut [i128])
+fn close_set<W: Worth>(place: Placement, play: &Play, worths: &mut [W], regrets: &mut [i128])
     requires from_one { 1 ≤ place.first }
     requires inside { place.first + place.actions ≤ length worths.old }
     requires earlier { place.before < place.first }
@@ -120,25 +197,30 @@ fn close_set(place: Placement, play: &Play, worths: &mut [i128], regrets: &mut [
     requires limit { length worths.old ≤ most_sequences }
     requires as_regrets { length regrets.old ≡ length worths.old }
     requires all_units { nat_sum_over (λ s. slice_index play.now s) (sequences_of (placed_as place)) ≡ units }
-    requires products { weighed_sizes play.now worths.old (placed_as place) < 2 ^ 126 }
+    requires products { weighed_sizes play.now (map W.amount worths.old) (placed_as place) < 2 ^ 126 }
+    requires fits { FitsSigned W.width (value_by play.now (map W.amount worths.old) (placed_as place)) }
     requires growth { (s : ℕ) → place.first ≤ s → s < place.first + place.actions
-        → unsigned_abs (amount_of worths.old s -ℤ value_by play.now worths.old (placed_as place)) < 2 ^ 126 }
+        → unsigned_abs (amount_of (map W.amount worths.old) s
+        -ℤ value_by play.now (map W.amount worths.old) (placed_as place)) < 2 ^ 126 }
     requires room { (s : ℕ) → place.first ≤ s → s < place.first + place.actions
         → unsigned_abs (regret_of regrets.old s) < 2 ^ 126 }
     ensures worths_count { length worths.new ≡ length worths.old }
-    ensures worth_before { amount_of worths.new place.before
-        ≡ int_wrap w128 (amount_of worths.old place.before +ℤ value_by play.now worths.old (placed_as place)) }
-    ensures other_worths { (s : ℕ) → (s ≡ place.before → ⊥) → amount_of worths.new s ≡ amount_of worths.old s }
+    ensures worth_before { amount_of (map W.amount worths.new) place.before
+        ≡ int_wrap W.width (amount_of (map W.amount worths.old) place.before
+        +ℤ value_by play.now (map W.amount worths.old) (placed_as place)) }
+    ensures other_worths { (s : ℕ) → (s ≡ place.before → ⊥)
+        → amount_of (map W.amount worths.new) s ≡ amount_of (map W.amount worths.old) s }
     ensures regrets_count { length regrets.new ≡ length regrets.old }
     ensures of_set { (s : ℕ) → place.first ≤ s → s < place.first + place.actions → regret_of regrets.new s
-        ≡ regret_of regrets.old s +ℤ (amount_of worths.old s -ℤ value_by play.now worths.old (placed_as place)) }
+        ≡ regret_of regrets.old s +ℤ (amount_of (map W.amount worths.old) s
+        -ℤ value_by play.now (map W.amount worths.old) (placed_as place)) }
     ensures before_set { (s : ℕ) → s < place.first → regret_of regrets.new s ≡ regret_of regrets.old s }
     ensures after_set { (s : ℕ) → place.first + place.actions ≤ s
         → regret_of regrets.new s ≡ regret_of regrets.old s }
 {
     if place.actions == 1 {
         // All units are the one action's, so the set has its worth.
-        let worth = worths[place.first as usize];
+        let worth = worth_at(worths, place.first as usize);
         add_worth(worths, place.before as usize, worth);
         return;
     }
@@ -147,23 +229,13 @@ fn close_set(place: Placement, play: &Play, worths: &mut [i128], regrets: &mut [
     add_worth(worths, place.before as usize, value);
 }
 
-// The parts of a worth may pass 128 bits on the way, and the worth itself doesn't.
-fn add_worth(worths: &mut [i128], s: usize, value: i128)
-    requires { s < length worths.old }
-    ensures count { length worths.new ≡ length worths.old }
-    ensures here { amount_of worths.new s ≡ int_wrap w128 (amount_of worths.old s +ℤ value) }
-    ensures others { (t : ℕ) → (t ≡ s → ⊥) → amount_of worths.new t ≡ amount_of worths.old t }
-{
-    worths[s] = wrapping_plus(worths[s], value);
-}
-
-fn value_of_set(place: Placement, play: &Play, worths: &[i128]) -> i128
+fn value_of_set<W: Worth>(place: Placement, play: &Play, worths: &[W]) -> i128
     requires from_one { 1 ≤ place.first }
     requires inside { place.first + place.actions ≤ length worths.now }
     requires as_play { length play.now ≡ length worths.now }
     requires limit { length worths.now ≤ most_sequences }
-    requires products { weighed_sizes play.now worths.now (placed_as place) < 2 ^ 126 }
-    ensures { result ≡ value_by play.now worths.now (placed_as place) }
+    requires products { weighed_sizes play.now (map W.amount worths.now) (placed_as place) < 2 ^ 126 }
+    ensures { result ≡ value_by play.now (map W.amount worths.now) (placed_as place) }
 {
     if place.actions == 2 {
         return floor_by_units(sum_of_two(place, play, worths));
@@ -171,37 +243,37 @@ fn value_of_set(place: Placement, play: &Play, worths: &[i128]) -> i128
     let mut sum = 0i128;
     for i in 0..place.actions {
         let s = place.first + i;
-        sum = plus(sum, product(play.of(s), worths[s as usize]));
+        sum = plus(sum, product(play.of(s), worth_at(worths, s as usize)));
     }
     floor_by_units(sum)
 }
 
-fn sum_of_two(place: Placement, play: &Play, worths: &[i128]) -> i128
+fn sum_of_two<W: Worth>(place: Placement, play: &Play, worths: &[W]) -> i128
     requires from_one { 1 ≤ place.first }
     requires two { place.actions ≡ 2 }
     requires inside { place.first + 2 ≤ length worths.now }
     requires as_play { length play.now ≡ length worths.now }
     requires limit { length worths.now ≤ most_sequences }
-    requires products { weighed_sizes play.now worths.now (placed_as place) < 2 ^ 126 }
-    ensures { result ≡ weighed_sum play.now worths.now (placed_as place) }
+    requires products { weighed_sizes play.now (map W.amount worths.now) (placed_as place) < 2 ^ 126 }
+    ensures { result ≡ weighed_sum play.now (map W.amount worths.now) (placed_as place) }
 {
     let first = place.first;
-    let a = product(play.of(first), worths[first as usize]);
-    let b = product(play.of(first + 1), worths[first as usize + 1]);
+    let a = product(play.of(first), worth_at(worths, first as usize));
+    let b = product(play.of(first + 1), worth_at(worths, first as usize + 1));
     plus(a, b)
 }
 
 // Adds to each regret of a set what its sequence is worth more than the set.
-fn add_regrets(place: Placement, worths: &[i128], value: i128, regrets: &mut [i128])
+fn add_regrets<W: Worth>(place: Placement, worths: &[W], value: i128, regrets: &mut [i128])
     requires inside { place.first + place.actions ≤ length worths.now }
     requires as_many { length regrets.old ≡ length worths.now }
     requires growth { (s : ℕ) → place.first ≤ s → s < place.first + place.actions
-        → unsigned_abs (amount_of worths.now s -ℤ value) < 2 ^ 126 }
+        → unsigned_abs (amount_of (map W.amount worths.now) s -ℤ value) < 2 ^ 126 }
     requires room { (s : ℕ) → place.first ≤ s → s < place.first + place.actions
         → unsigned_abs (regret_of regrets.old s) < 2 ^ 126 }
     ensures count { length regrets.new ≡ length regrets.old }
     ensures of_set { (s : ℕ) → place.first ≤ s → s < place.first + place.actions
-        → regret_of regrets.new s ≡ regret_of regrets.old s +ℤ (amount_of worths.now s -ℤ value) }
+        → regret_of regrets.new s ≡ regret_of regrets.old s +ℤ (amount_of (map W.amount worths.now) s -ℤ value) }
     ensures before_set { (s : ℕ) → s < place.first → regret_of regrets.new s ≡ regret_of regrets.old s }
     ensures after_set { (s : ℕ) → place.first + place.actions ≤ s
         → regret_of regrets.new s ≡ regret_of regrets.old s }
@@ -216,16 +288,17 @@ fn add_regrets(place: Placement, worths: &[i128], value: i128, regrets: &mut [i1
     }
 }
 
-fn add_regret(worths: &[i128], value: i128, s: usize, regrets: &mut [i128])
+fn add_regret<W: Worth>(worths: &[W], value: i128, s: usize, regrets: &mut [i128])
     requires inside { s < length worths.now }
     requires as_many { length regrets.old ≡ length worths.now }
-    requires growth { unsigned_abs (amount_of worths.now s -ℤ value) < 2 ^ 126 }
+    requires growth { unsigned_abs (amount_of (map W.amount worths.now) s -ℤ value) < 2 ^ 126 }
     requires room { unsigned_abs (regret_of regrets.old s) < 2 ^ 126 }
     ensures count { length regrets.new ≡ length regrets.old }
-    ensures here { regret_of regrets.new s ≡ regret_of regrets.old s +ℤ (amount_of worths.now s -ℤ value) }
+    ensures here { regret_of regrets.new s
+        ≡ regret_of regrets.old s +ℤ (amount_of (map W.amount worths.now) s -ℤ value) }
     ensures others { (t : ℕ) → (t ≡ s → ⊥) → regret_of regrets.new t ≡ regret_of regrets.old t }
 {
-    regrets[s] = plus(regrets[s], minus(worths[s], value));
+    regrets[s] = plus(regrets[s], minus(worth_at(worths, s), value));
 }
 
 fn negative(a: i128) -> i128
@@ -254,12 +327,6 @@ fn minus(a: i128, b: i128) -> i128
     ensures { result ≡ a -ℤ b }
 {
     a - b
-}
-
-fn wrapping_plus(a: i128, b: i128) -> i128
-    ensures { result ≡ int_wrap w128 (a +ℤ b) }
-{
-    a.wrapping_add(b)
 }
 
 fn floor_by_units(n: i128) -> i128

@@ -5,6 +5,7 @@ mod closing;
 mod places;
 mod playing;
 mod regrets;
+mod worths;
 
 pub use closing::{close_round, leaf_sums_close_the_round};
 pub use def_tree::Player;

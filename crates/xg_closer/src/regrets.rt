@@ -18,6 +18,8 @@ use xg_seq::SeqForm;
 pub struct Regrets {
     pub(crate) regrets: Vec<i128>,
     pub(crate) worths: Vec<i128>,
+    // in which a round whose rows are small enough needs half the memory
+    pub(crate) small_worths: Vec<i64>,
     pub(crate) rounds: u32,
 }
 
@@ -28,7 +30,7 @@ impl Model for Regrets {
 
     ghost view = { λ r. record { of_sequences = r.regrets.items; closed = r.rounds } };
 
-    ghost invariant = { λ r. KeepsRegrets r.regrets.items r.worths.items r.rounds };
+    ghost invariant = { λ r. KeepsRegrets r.regrets.items r.worths.items r.small_worths.items r.rounds };
 }
 
 impl Regrets {
@@ -39,9 +41,11 @@ impl Regrets {
         let count = form.sequence_count(player) as usize;
         let regrets = vec![in alloc; 0i128; count]?;
         let worths = vec![in alloc; 0i128; count]?;
+        let small_worths = vec![in alloc; 0i64; count]?;
         Ok(Regrets {
             regrets,
             worths,
+            small_worths,
             rounds: 0,
         })
     }

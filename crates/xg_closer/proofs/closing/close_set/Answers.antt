@@ -1,4 +1,4 @@
-use Rattle.std.proofs.Common.{◌≡◌, ℤ, ◌+ℤ◌, FitsSigned, to_z, of_z, arith, ap, rules, sym, ◌∙◌}
+use Rattle.std.proofs.Common.{◌≡◌, ◌+ℤ◌, FitsSigned, map, subst, to_z, of_z, arith, ap, rules, sym, ◌∙◌}
 use mir.Syntax.{w128}
 use Rattle.std.specs.Int.{int_wrap}
 use Rattle.std.proofs.lemmas.Int.{to_z-of_z}
@@ -11,17 +11,24 @@ use Rattle.xg_closer.proofs.OneAction.{nothing_grows, only_value}
 use Rattle.xg_closer.proofs.closing.close_set.Goals as goal
 
 pub returns-then-place-eq1-clause-worth_before : goal.returns-then-place-eq1-clause-worth_before
-returns-then-place-eq1-clause-worth_before c =
+returns-then-place-eq1-clause-worth_before g c =
     let h : PlacedSet = placed_as c.args.place in
-    let worth : ℤ = amount_of c.args.worths.now h.first in
-    let fits : FitsSigned w128 worth = search rules in
-    let worth_is : to_z w128 (of_z w128 worth) ≡ value_by c.args.play.now c.args.worths.now h =
-    to_z-of_z w128 worth fits ∙ sym (only_value c.args.play.now c.args.worths.now h (omega arith) c.requires.all_units) in
-    c.add_worth.ensures.here ∙ ap (λ v. int_wrap w128 (amount_of c.args.worths.now h.before +ℤ v)) worth_is
+    let fits : FitsSigned w128 c.worth_at-worth.result = search rules in
+    let worth_is : to_z w128 (of_z w128 c.worth_at-worth.result) ≡ value_by c.args.play.now (map g.W.Worth.amount c.args.worths.now) h =
+    to_z-of_z w128 c.worth_at-worth.result fits ∙ c.worth_at-worth.ensures ∙ sym (only_value c.args.play.now (map g.W.Worth.amount c.args.worths.now) h (omega arith) c.requires.all_units) in
+    c.add_worth.ensures.here ∙ ap (λ v. int_wrap g.W.Worth.width (amount_of (map g.W.Worth.amount c.args.worths.now) h.before +ℤ v)) worth_is
 
 pub returns-then-place-eq1-clause-of_set : goal.returns-then-place-eq1-clause-of_set
-returns-then-place-eq1-clause-of_set c = λ s from to.
+returns-then-place-eq1-clause-of_set g c = λ s from to.
     let h : PlacedSet = placed_as c.args.place in
     let first : s ≡ h.first = omega arith in
-    nothing_grows (regret_of c.args.regrets.now s) (amount_of c.args.worths.now s) (value_by c.args.play.now c.args.worths.now h)
-    (only_value c.args.play.now c.args.worths.now h (omega arith) c.requires.all_units ∙ ap (amount_of c.args.worths.now) (sym first))
+    nothing_grows (regret_of c.args.regrets.now s) (amount_of (map g.W.Worth.amount c.args.worths.now) s) (value_by c.args.play.now (map g.W.Worth.amount c.args.worths.now) h)
+    (only_value c.args.play.now (map g.W.Worth.amount c.args.worths.now) h (omega arith) c.requires.all_units ∙ ap (amount_of (map g.W.Worth.amount c.args.worths.now)) (sym first))
+
+pub add_worth-requires-clause-fits : goal.add_worth-requires-clause-fits
+add_worth-requires-clause-fits g c =
+    let h : PlacedSet = placed_as c.args.place in
+    let fits : FitsSigned w128 c.worth_at-worth.result = search rules in
+    let worth_is : to_z w128 (of_z w128 c.worth_at-worth.result) ≡ value_by c.args.play.now (map g.W.Worth.amount c.args.worths.now) h =
+    to_z-of_z w128 c.worth_at-worth.result fits ∙ c.worth_at-worth.ensures ∙ sym (only_value c.args.play.now (map g.W.Worth.amount c.args.worths.now) h (omega arith) c.requires.all_units) in
+    subst (FitsSigned g.W.Worth.width) (sym worth_is) c.requires.fits

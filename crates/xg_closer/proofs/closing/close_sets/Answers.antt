@@ -1,6 +1,6 @@
-use Rattle.std.proofs.Common.{◌≡◌, ℕ, ◌+◌, ◌-◌, ◌<◌, ◌≤◌, List, length, slice_get, ℤ, pos, ◌+ℤ◌, ◌-ℤ◌, unsigned_abs, arith, refl, sym, subst, ap, ◌∙◌, ⊎_elim}
+use Rattle.std.proofs.Common.{◌≡◌, ℕ, ◌+◌, ◌-◌, ◌<◌, ◌≤◌, List, length, slice_get, ℤ, pos, ◌+ℤ◌, ◌-ℤ◌, unsigned_abs, arith, refl, sym, subst, ap, map, ◌∙◌, ⊎_elim}
 use Rattle.std.proofs.lemmas.Bool.{cases_eq, cases_lt}
-use Rattle.std.proofs.lemmas.List.{ext_get_or, get_or_past, take_all}
+use Rattle.std.proofs.lemmas.List.{ext_get_or, get_or_past, length-map, take_all}
 use Rattle.def_plan.specs.Form.{InformationSet, PlacedSet, placed, player_sets, sequence_count}
 use Rattle.def_round.specs.Play.{regret_of}
 use Rattle.def_round.specs.Round.{regrets_after, set_value}
@@ -12,12 +12,12 @@ use Rattle.xg_closer.proofs.SetValues.{regrets_count}
 use Rattle.xg_closer.proofs.closing.close_sets.Goals as goal
 
 pub loop-set-init : goal.loop-set-init
-loop-set-init c =
+loop-set-init g c =
     let sets : List InformationSet = player_sets c.args.form.now c.args.player in
-    let sums : ℕ → ℤ = amount_of c.args.worths.now in
+    let sums : ℕ → ℤ = amount_of (map g.W.Worth.amount c.args.worths.now) in
     let count : length sets ≤ c.set_count-set.result = omega (arith, c.set_count-set.ensures) in
     let last : start_of sets c.set_count-set.result ≡ sequence_count sets = ap sequence_count (take_all c.set_count-set.result sets count) in (
-      first_worths c.args.play.now sets c.set_count-set.result c.args.worths.now count c.requires.as_worths c.requires.small,
+      first_worths g.W.Worth.width c.args.play.now sets c.set_count-set.result (map g.W.Worth.amount c.args.worths.now) count (length-map c.args.worths.now g.W.Worth.amount ∙ c.requires.as_worths) c.requires.fits,
       refl,
       λ s low. refl,
       λ s from. get_or_past c.args.regrets.now s (pos 0) (omega (arith, last, c.requires.as_regrets))
@@ -25,85 +25,85 @@ loop-set-init c =
     )
 
 pub close_set-requires-clause-from_one : goal.close_set-requires-clause-from_one
-close_set-requires-clause-from_one c =
+close_set-requires-clause-from_one g c =
     let sets : List InformationSet = player_sets c.args.form.now c.args.player in
-    let sums : ℕ → ℤ = amount_of c.args.worths.now in
+    let sums : ℕ → ℤ = amount_of (map g.W.Worth.amount c.args.worths.now) in
     let m : ℕ = c.loop-set.set - 1 in
     let same : m + 1 - 1 ≡ m = omega arith in
     let set_is : c.loop-set.set ≡ m + 1 = omega arith in
     let h : PlacedSet = placed_as c.placement_of-place.result in
     let below : m < length sets = omega (arith, c.set_count-set.ensures) in
     let at : IsAt sets m h = is_at sets m h c.sets_are_kept.ensures.order below (ap (slice_get (placed sets)) (sym same) ∙ c.placement_of-place.ensures) in
-    let kept : KeepsWorths sums c.args.play.now sets (m + 1) c.loop-set.worths = subst (λ k. KeepsWorths sums c.args.play.now sets k c.loop-set.worths) set_is c.loop-set.invariant.0 in
+    let kept : KeepsWorths g.W.Worth.width sums c.args.play.now sets (m + 1) (map g.W.Worth.amount c.loop-set.worths) = subst (λ k. KeepsWorths g.W.Worth.width sums c.args.play.now sets k (map g.W.Worth.amount c.loop-set.worths)) set_is c.loop-set.invariant.0 in
     omega (arith, at.first)
 
 pub close_set-requires-clause-inside : goal.close_set-requires-clause-inside
-close_set-requires-clause-inside c =
+close_set-requires-clause-inside g c =
     let sets : List InformationSet = player_sets c.args.form.now c.args.player in
-    let sums : ℕ → ℤ = amount_of c.args.worths.now in
+    let sums : ℕ → ℤ = amount_of (map g.W.Worth.amount c.args.worths.now) in
     let m : ℕ = c.loop-set.set - 1 in
     let same : m + 1 - 1 ≡ m = omega arith in
     let set_is : c.loop-set.set ≡ m + 1 = omega arith in
     let h : PlacedSet = placed_as c.placement_of-place.result in
     let below : m < length sets = omega (arith, c.set_count-set.ensures) in
     let at : IsAt sets m h = is_at sets m h c.sets_are_kept.ensures.order below (ap (slice_get (placed sets)) (sym same) ∙ c.placement_of-place.ensures) in
-    let kept : KeepsWorths sums c.args.play.now sets (m + 1) c.loop-set.worths = subst (λ k. KeepsWorths sums c.args.play.now sets k c.loop-set.worths) set_is c.loop-set.invariant.0 in
-    omega (arith, at.inside, kept.count)
+    let kept : KeepsWorths g.W.Worth.width sums c.args.play.now sets (m + 1) (map g.W.Worth.amount c.loop-set.worths) = subst (λ k. KeepsWorths g.W.Worth.width sums c.args.play.now sets k (map g.W.Worth.amount c.loop-set.worths)) set_is c.loop-set.invariant.0 in
+    omega (arith, at.inside, kept.count, length-map c.loop-set.worths g.W.Worth.amount)
 
 pub close_set-requires-clause-earlier : goal.close_set-requires-clause-earlier
-close_set-requires-clause-earlier c =
+close_set-requires-clause-earlier g c =
     let sets : List InformationSet = player_sets c.args.form.now c.args.player in
-    let sums : ℕ → ℤ = amount_of c.args.worths.now in
+    let sums : ℕ → ℤ = amount_of (map g.W.Worth.amount c.args.worths.now) in
     let m : ℕ = c.loop-set.set - 1 in
     let same : m + 1 - 1 ≡ m = omega arith in
     let set_is : c.loop-set.set ≡ m + 1 = omega arith in
     let h : PlacedSet = placed_as c.placement_of-place.result in
     let below : m < length sets = omega (arith, c.set_count-set.ensures) in
     let at : IsAt sets m h = is_at sets m h c.sets_are_kept.ensures.order below (ap (slice_get (placed sets)) (sym same) ∙ c.placement_of-place.ensures) in
-    let kept : KeepsWorths sums c.args.play.now sets (m + 1) c.loop-set.worths = subst (λ k. KeepsWorths sums c.args.play.now sets k c.loop-set.worths) set_is c.loop-set.invariant.0 in
+    let kept : KeepsWorths g.W.Worth.width sums c.args.play.now sets (m + 1) (map g.W.Worth.amount c.loop-set.worths) = subst (λ k. KeepsWorths g.W.Worth.width sums c.args.play.now sets k (map g.W.Worth.amount c.loop-set.worths)) set_is c.loop-set.invariant.0 in
     at.earlier
 
 pub close_set-requires-clause-as_play : goal.close_set-requires-clause-as_play
-close_set-requires-clause-as_play c =
+close_set-requires-clause-as_play g c =
     let sets : List InformationSet = player_sets c.args.form.now c.args.player in
-    let sums : ℕ → ℤ = amount_of c.args.worths.now in
+    let sums : ℕ → ℤ = amount_of (map g.W.Worth.amount c.args.worths.now) in
     let m : ℕ = c.loop-set.set - 1 in
     let same : m + 1 - 1 ≡ m = omega arith in
     let set_is : c.loop-set.set ≡ m + 1 = omega arith in
     let h : PlacedSet = placed_as c.placement_of-place.result in
     let below : m < length sets = omega (arith, c.set_count-set.ensures) in
     let at : IsAt sets m h = is_at sets m h c.sets_are_kept.ensures.order below (ap (slice_get (placed sets)) (sym same) ∙ c.placement_of-place.ensures) in
-    let kept : KeepsWorths sums c.args.play.now sets (m + 1) c.loop-set.worths = subst (λ k. KeepsWorths sums c.args.play.now sets k c.loop-set.worths) set_is c.loop-set.invariant.0 in
-    omega (arith, kept.count, c.requires.as_play)
+    let kept : KeepsWorths g.W.Worth.width sums c.args.play.now sets (m + 1) (map g.W.Worth.amount c.loop-set.worths) = subst (λ k. KeepsWorths g.W.Worth.width sums c.args.play.now sets k (map g.W.Worth.amount c.loop-set.worths)) set_is c.loop-set.invariant.0 in
+    omega (arith, kept.count, length-map c.loop-set.worths g.W.Worth.amount, c.requires.as_play)
 
 pub close_set-requires-clause-limit : goal.close_set-requires-clause-limit
-close_set-requires-clause-limit c =
+close_set-requires-clause-limit g c =
     let sets : List InformationSet = player_sets c.args.form.now c.args.player in
-    let sums : ℕ → ℤ = amount_of c.args.worths.now in
+    let sums : ℕ → ℤ = amount_of (map g.W.Worth.amount c.args.worths.now) in
     let m : ℕ = c.loop-set.set - 1 in
     let same : m + 1 - 1 ≡ m = omega arith in
     let set_is : c.loop-set.set ≡ m + 1 = omega arith in
     let h : PlacedSet = placed_as c.placement_of-place.result in
     let below : m < length sets = omega (arith, c.set_count-set.ensures) in
     let at : IsAt sets m h = is_at sets m h c.sets_are_kept.ensures.order below (ap (slice_get (placed sets)) (sym same) ∙ c.placement_of-place.ensures) in
-    let kept : KeepsWorths sums c.args.play.now sets (m + 1) c.loop-set.worths = subst (λ k. KeepsWorths sums c.args.play.now sets k c.loop-set.worths) set_is c.loop-set.invariant.0 in
-    omega (arith, kept.count, c.sets_are_kept.ensures.limit)
+    let kept : KeepsWorths g.W.Worth.width sums c.args.play.now sets (m + 1) (map g.W.Worth.amount c.loop-set.worths) = subst (λ k. KeepsWorths g.W.Worth.width sums c.args.play.now sets k (map g.W.Worth.amount c.loop-set.worths)) set_is c.loop-set.invariant.0 in
+    omega (arith, kept.count, length-map c.loop-set.worths g.W.Worth.amount, c.sets_are_kept.ensures.limit)
 
 pub close_set-requires-clause-as_regrets : goal.close_set-requires-clause-as_regrets
-close_set-requires-clause-as_regrets c =
+close_set-requires-clause-as_regrets g c =
     let sets : List InformationSet = player_sets c.args.form.now c.args.player in
-    let sums : ℕ → ℤ = amount_of c.args.worths.now in
+    let sums : ℕ → ℤ = amount_of (map g.W.Worth.amount c.args.worths.now) in
     let m : ℕ = c.loop-set.set - 1 in
     let same : m + 1 - 1 ≡ m = omega arith in
     let set_is : c.loop-set.set ≡ m + 1 = omega arith in
     let h : PlacedSet = placed_as c.placement_of-place.result in
     let below : m < length sets = omega (arith, c.set_count-set.ensures) in
     let at : IsAt sets m h = is_at sets m h c.sets_are_kept.ensures.order below (ap (slice_get (placed sets)) (sym same) ∙ c.placement_of-place.ensures) in
-    let kept : KeepsWorths sums c.args.play.now sets (m + 1) c.loop-set.worths = subst (λ k. KeepsWorths sums c.args.play.now sets k c.loop-set.worths) set_is c.loop-set.invariant.0 in
-    omega (arith, kept.count, c.loop-set.invariant.1, c.requires.as_regrets)
+    let kept : KeepsWorths g.W.Worth.width sums c.args.play.now sets (m + 1) (map g.W.Worth.amount c.loop-set.worths) = subst (λ k. KeepsWorths g.W.Worth.width sums c.args.play.now sets k (map g.W.Worth.amount c.loop-set.worths)) set_is c.loop-set.invariant.0 in
+    omega (arith, kept.count, length-map c.loop-set.worths g.W.Worth.amount, c.loop-set.invariant.1, c.requires.as_regrets)
 
 pub close_set-requires-clause-all_units : goal.close_set-requires-clause-all_units
-close_set-requires-clause-all_units c =
+close_set-requires-clause-all_units g c =
     let sets : List InformationSet = player_sets c.args.form.now c.args.player in
     let m : ℕ = c.loop-set.set - 1 in
     let same : m + 1 - 1 ≡ m = omega arith in
@@ -113,65 +113,80 @@ close_set-requires-clause-all_units c =
     units_at c.args.play.now sets m h at c.requires.all_units
 
 pub close_set-requires-clause-products : goal.close_set-requires-clause-products
-close_set-requires-clause-products c =
+close_set-requires-clause-products g c =
     let sets : List InformationSet = player_sets c.args.form.now c.args.player in
-    let sums : ℕ → ℤ = amount_of c.args.worths.now in
+    let sums : ℕ → ℤ = amount_of (map g.W.Worth.amount c.args.worths.now) in
     let m : ℕ = c.loop-set.set - 1 in
     let same : m + 1 - 1 ≡ m = omega arith in
     let set_is : c.loop-set.set ≡ m + 1 = omega arith in
     let h : PlacedSet = placed_as c.placement_of-place.result in
     let below : m < length sets = omega (arith, c.set_count-set.ensures) in
     let at : IsAt sets m h = is_at sets m h c.sets_are_kept.ensures.order below (ap (slice_get (placed sets)) (sym same) ∙ c.placement_of-place.ensures) in
-    let kept : KeepsWorths sums c.args.play.now sets (m + 1) c.loop-set.worths = subst (λ k. KeepsWorths sums c.args.play.now sets k c.loop-set.worths) set_is c.loop-set.invariant.0 in
-    let step : SetStep sums c.args.play.now sets c.args.regrets.now m h c.loop-set.worths =
-    set_step sums c.args.play.now sets c.args.regrets.now c.loop-set.worths m h c.sets_are_kept.ensures.order c.requires.all_units c.requires.small at kept in
+    let kept : KeepsWorths g.W.Worth.width sums c.args.play.now sets (m + 1) (map g.W.Worth.amount c.loop-set.worths) = subst (λ k. KeepsWorths g.W.Worth.width sums c.args.play.now sets k (map g.W.Worth.amount c.loop-set.worths)) set_is c.loop-set.invariant.0 in
+    let step : SetStep g.W.Worth.width sums c.args.play.now sets c.args.regrets.now m h (map g.W.Worth.amount c.loop-set.worths) =
+    set_step g.W.Worth.width sums c.args.play.now sets c.args.regrets.now (map g.W.Worth.amount c.loop-set.worths) m h c.sets_are_kept.ensures.order c.requires.all_units c.requires.small c.requires.fits at kept in
     step.products
 
-pub close_set-requires-clause-growth : goal.close_set-requires-clause-growth
-close_set-requires-clause-growth c =
+pub close_set-requires-clause-fits : goal.close_set-requires-clause-fits
+close_set-requires-clause-fits g c =
     let sets : List InformationSet = player_sets c.args.form.now c.args.player in
-    let sums : ℕ → ℤ = amount_of c.args.worths.now in
+    let sums : ℕ → ℤ = amount_of (map g.W.Worth.amount c.args.worths.now) in
     let m : ℕ = c.loop-set.set - 1 in
     let same : m + 1 - 1 ≡ m = omega arith in
     let set_is : c.loop-set.set ≡ m + 1 = omega arith in
     let h : PlacedSet = placed_as c.placement_of-place.result in
     let below : m < length sets = omega (arith, c.set_count-set.ensures) in
     let at : IsAt sets m h = is_at sets m h c.sets_are_kept.ensures.order below (ap (slice_get (placed sets)) (sym same) ∙ c.placement_of-place.ensures) in
-    let kept : KeepsWorths sums c.args.play.now sets (m + 1) c.loop-set.worths = subst (λ k. KeepsWorths sums c.args.play.now sets k c.loop-set.worths) set_is c.loop-set.invariant.0 in
-    let step : SetStep sums c.args.play.now sets c.args.regrets.now m h c.loop-set.worths =
-    set_step sums c.args.play.now sets c.args.regrets.now c.loop-set.worths m h c.sets_are_kept.ensures.order c.requires.all_units c.requires.small at kept in
+    let kept : KeepsWorths g.W.Worth.width sums c.args.play.now sets (m + 1) (map g.W.Worth.amount c.loop-set.worths) = subst (λ k. KeepsWorths g.W.Worth.width sums c.args.play.now sets k (map g.W.Worth.amount c.loop-set.worths)) set_is c.loop-set.invariant.0 in
+    let step : SetStep g.W.Worth.width sums c.args.play.now sets c.args.regrets.now m h (map g.W.Worth.amount c.loop-set.worths) =
+    set_step g.W.Worth.width sums c.args.play.now sets c.args.regrets.now (map g.W.Worth.amount c.loop-set.worths) m h c.sets_are_kept.ensures.order c.requires.all_units c.requires.small c.requires.fits at kept in
+    step.fits
+
+pub close_set-requires-clause-growth : goal.close_set-requires-clause-growth
+close_set-requires-clause-growth g c =
+    let sets : List InformationSet = player_sets c.args.form.now c.args.player in
+    let sums : ℕ → ℤ = amount_of (map g.W.Worth.amount c.args.worths.now) in
+    let m : ℕ = c.loop-set.set - 1 in
+    let same : m + 1 - 1 ≡ m = omega arith in
+    let set_is : c.loop-set.set ≡ m + 1 = omega arith in
+    let h : PlacedSet = placed_as c.placement_of-place.result in
+    let below : m < length sets = omega (arith, c.set_count-set.ensures) in
+    let at : IsAt sets m h = is_at sets m h c.sets_are_kept.ensures.order below (ap (slice_get (placed sets)) (sym same) ∙ c.placement_of-place.ensures) in
+    let kept : KeepsWorths g.W.Worth.width sums c.args.play.now sets (m + 1) (map g.W.Worth.amount c.loop-set.worths) = subst (λ k. KeepsWorths g.W.Worth.width sums c.args.play.now sets k (map g.W.Worth.amount c.loop-set.worths)) set_is c.loop-set.invariant.0 in
+    let step : SetStep g.W.Worth.width sums c.args.play.now sets c.args.regrets.now m h (map g.W.Worth.amount c.loop-set.worths) =
+    set_step g.W.Worth.width sums c.args.play.now sets c.args.regrets.now (map g.W.Worth.amount c.loop-set.worths) m h c.sets_are_kept.ensures.order c.requires.all_units c.requires.small c.requires.fits at kept in
     step.growth
 
 pub close_set-requires-clause-room : goal.close_set-requires-clause-room
-close_set-requires-clause-room c =
+close_set-requires-clause-room g c =
     let sets : List InformationSet = player_sets c.args.form.now c.args.player in
-    let sums : ℕ → ℤ = amount_of c.args.worths.now in
+    let sums : ℕ → ℤ = amount_of (map g.W.Worth.amount c.args.worths.now) in
     let m : ℕ = c.loop-set.set - 1 in
     let same : m + 1 - 1 ≡ m = omega arith in
     let set_is : c.loop-set.set ≡ m + 1 = omega arith in
     let h : PlacedSet = placed_as c.placement_of-place.result in
     let below : m < length sets = omega (arith, c.set_count-set.ensures) in
     let at : IsAt sets m h = is_at sets m h c.sets_are_kept.ensures.order below (ap (slice_get (placed sets)) (sym same) ∙ c.placement_of-place.ensures) in
-    let kept : KeepsWorths sums c.args.play.now sets (m + 1) c.loop-set.worths = subst (λ k. KeepsWorths sums c.args.play.now sets k c.loop-set.worths) set_is c.loop-set.invariant.0 in
+    let kept : KeepsWorths g.W.Worth.width sums c.args.play.now sets (m + 1) (map g.W.Worth.amount c.loop-set.worths) = subst (λ k. KeepsWorths g.W.Worth.width sums c.args.play.now sets k (map g.W.Worth.amount c.loop-set.worths)) set_is c.loop-set.invariant.0 in
     let starts : start_of sets c.loop-set.set ≡ h.first + h.actions = ap (start_of sets) set_is ∙ at.next in
     λ s from to. omega (arith, ap unsigned_abs (c.loop-set.invariant.2 s (omega (arith, starts))), c.requires.room s)
 
 pub loop-set-preserved : goal.loop-set-preserved
-loop-set-preserved c =
+loop-set-preserved g c =
     let sets : List InformationSet = player_sets c.args.form.now c.args.player in
-    let sums : ℕ → ℤ = amount_of c.args.worths.now in
+    let sums : ℕ → ℤ = amount_of (map g.W.Worth.amount c.args.worths.now) in
     let m : ℕ = c.loop-set.set - 1 in
     let same : m + 1 - 1 ≡ m = omega arith in
     let set_is : c.loop-set.set ≡ m + 1 = omega arith in
     let h : PlacedSet = placed_as c.placement_of-place.result in
     let below : m < length sets = omega (arith, c.set_count-set.ensures) in
     let at : IsAt sets m h = is_at sets m h c.sets_are_kept.ensures.order below (ap (slice_get (placed sets)) (sym same) ∙ c.placement_of-place.ensures) in
-    let kept : KeepsWorths sums c.args.play.now sets (m + 1) c.loop-set.worths = subst (λ k. KeepsWorths sums c.args.play.now sets k c.loop-set.worths) set_is c.loop-set.invariant.0 in
-    let step : SetStep sums c.args.play.now sets c.args.regrets.now m h c.loop-set.worths =
-    set_step sums c.args.play.now sets c.args.regrets.now c.loop-set.worths m h c.sets_are_kept.ensures.order c.requires.all_units c.requires.small at kept in
+    let kept : KeepsWorths g.W.Worth.width sums c.args.play.now sets (m + 1) (map g.W.Worth.amount c.loop-set.worths) = subst (λ k. KeepsWorths g.W.Worth.width sums c.args.play.now sets k (map g.W.Worth.amount c.loop-set.worths)) set_is c.loop-set.invariant.0 in
+    let step : SetStep g.W.Worth.width sums c.args.play.now sets c.args.regrets.now m h (map g.W.Worth.amount c.loop-set.worths) =
+    set_step g.W.Worth.width sums c.args.play.now sets c.args.regrets.now (map g.W.Worth.amount c.loop-set.worths) m h c.sets_are_kept.ensures.order c.requires.all_units c.requires.small c.requires.fits at kept in
     let starts : start_of sets c.loop-set.set ≡ h.first + h.actions = ap (start_of sets) set_is ∙ at.next in (
       record {
-        count = c.close_set.ensures.worths_count ∙ kept.count;
+        count = length-map c.close_set.new.worths g.W.Worth.amount ∙ c.close_set.ensures.worths_count ∙ sym (length-map c.loop-set.worths g.W.Worth.amount) ∙ kept.count;
         each = λ s low.
             ⊎_elim
             (λ here. rw here (c.close_set.ensures.worth_before ∙ step.before))
@@ -184,19 +199,19 @@ loop-set-preserved c =
           ⊎_elim
           (λ inside.
           c.close_set.ensures.of_set s (omega (arith, at.first)) inside
-          ∙ ap (λ r. r +ℤ (amount_of c.loop-set.worths s -ℤ set_value c.args.play.now (amount_of c.loop-set.worths) h)) (c.loop-set.invariant.2 s (omega (arith, starts)))
+          ∙ ap (λ r. r +ℤ (amount_of (map g.W.Worth.amount c.loop-set.worths) s -ℤ set_value c.args.play.now (amount_of (map g.W.Worth.amount c.loop-set.worths)) h)) (c.loop-set.invariant.2 s (omega (arith, starts)))
           ∙ sym (step.regret s (omega (arith, at.first)) inside))
           (λ above. c.close_set.ensures.after_set s (omega arith) ∙ c.loop-set.invariant.3 s (omega (arith, starts)))
           (cases_lt s (h.first + h.actions)),
     )
 
 pub returns-clause-count : goal.returns-clause-count
-returns-clause-count c = c.loop-set.invariant.0.count ∙ sym c.requires.as_worths
+returns-clause-count g c = sym (length-map c.loop-set.worths g.W.Worth.amount) ∙ c.loop-set.invariant.0.count ∙ sym c.requires.as_worths
 
 pub returns-clause-regrets : goal.returns-clause-regrets
-returns-clause-regrets c =
+returns-clause-regrets g c =
     let sets : List InformationSet = player_sets c.args.form.now c.args.player in
-    let sums : ℕ → ℤ = amount_of c.args.worths.now in
+    let sums : ℕ → ℤ = amount_of (map g.W.Worth.amount c.args.worths.now) in
     let after : List ℤ = regrets_after sums c.args.play.now sets c.args.regrets.now in
     let done : c.loop-set.set ≡ 0 = omega arith in
     let starts : start_of sets c.loop-set.set ≡ 1 = ap (start_of sets) done in

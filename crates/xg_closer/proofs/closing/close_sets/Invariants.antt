@@ -1,4 +1,4 @@
-use Rattle.std.proofs.Common.{◌≡◌, ℕ, ◌<◌, ◌≤◌, length}
+use Rattle.std.proofs.Common.{◌≡◌, ℕ, ◌<◌, ◌≤◌, length, map}
 use Rattle.def_plan.specs.Form.{player_sets}
 use Rattle.def_round.specs.Play.{regret_of}
 use Rattle.def_round.specs.Round.{regrets_after}
@@ -8,9 +8,9 @@ use Rattle.xg_closer.proofs.Sets.{start_of}
 use Rattle.xg_closer.proofs.closing.close_sets.Given as goal
 
 abbrev pub invariant-loop-set : goal.invariant-loop-set
-invariant-loop-set l =
-    KeepsWorths (amount_of l.initial.worths) l.play (player_sets l.form l.player) l.set l.worths
+invariant-loop-set g l =
+    KeepsWorths g.W.Worth.width (amount_of (map g.W.Worth.amount l.initial.worths)) l.play (player_sets l.form l.player) l.set (map g.W.Worth.amount l.worths)
     × (length l.regrets ≡ length l.initial.regrets)
     × ((s : ℕ) → s < start_of (player_sets l.form l.player) l.set → regret_of l.regrets s ≡ regret_of l.initial.regrets s)
     × ((s : ℕ) → start_of (player_sets l.form l.player) l.set ≤ s
-    → regret_of l.regrets s ≡ regret_of (regrets_after (amount_of l.initial.worths) l.play (player_sets l.form l.player) l.initial.regrets) s)
+    → regret_of l.regrets s ≡ regret_of (regrets_after (amount_of (map g.W.Worth.amount l.initial.worths)) l.play (player_sets l.form l.player) l.initial.regrets) s)

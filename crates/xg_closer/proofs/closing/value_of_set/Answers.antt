@@ -1,4 +1,4 @@
-use Rattle.std.proofs.Common.{◌≡◌, ℕ, ◌+◌, ◌^◌, ◌<◌, ℤ, pos, ◌+ℤ◌, ◌*ℤ◌, unsigned_abs, slice_index, FitsSigned, to_z, of_z, arith, ap, rules}
+use Rattle.std.proofs.Common.{◌≡◌, ℕ, ◌+◌, ◌^◌, ◌<◌, ℤ, pos, ◌+ℤ◌, ◌*ℤ◌, unsigned_abs, slice_index, FitsSigned, map, to_z, of_z, arith, ap, rules, ◌∙◌}
 use mir.Syntax.{w128}
 use Rattle.std.specs.List.{range_with_len}
 use Rattle.std.proofs.lemmas.Int.{to_z-of_z}
@@ -9,22 +9,22 @@ use Rattle.xg_closer.proofs.Sums.{front_size, range_more}
 use Rattle.xg_closer.proofs.closing.value_of_set.Goals as goal
 
 pub product-requires : goal.product-requires
-product-requires c =
+product-requires g c =
     let first : ℕ = c.args.place.first in
     let at : ℕ = first + c.loop-i.i in
-    let term : ℕ → ℤ = λ s. pos (slice_index c.args.play.now s) *ℤ amount_of c.args.worths.now s in
-    let fits : FitsSigned w128 (amount_of c.args.worths.now at) = search rules in
-    let worth_is : to_z w128 (of_z w128 (amount_of c.args.worths.now at)) ≡ amount_of c.args.worths.now at = to_z-of_z w128 (amount_of c.args.worths.now at) fits in
+    let term : ℕ → ℤ = λ s. pos (slice_index c.args.play.now s) *ℤ amount_of (map g.W.Worth.amount c.args.worths.now) s in
+    let fits : FitsSigned w128 c.worth_at.result = search rules in
+    let worth_is : to_z w128 (of_z w128 c.worth_at.result) ≡ amount_of (map g.W.Worth.amount c.args.worths.now) at = to_z-of_z w128 c.worth_at.result fits ∙ c.worth_at.ensures in
     let own : unsigned_abs (term at) < 2 ^ 126 = omega (arith, at_most_sum (λ s. unsigned_abs (term s)) first c.args.place.actions at (omega arith) (omega arith), c.requires.products) in
     rw c.of.ensures (rw worth_is own)
 
 pub plus-sum-requires : goal.plus-sum-requires
-plus-sum-requires c =
+plus-sum-requires g c =
     let first : ℕ = c.args.place.first in
     let at : ℕ = first + c.loop-i.i in
-    let term : ℕ → ℤ = λ s. pos (slice_index c.args.play.now s) *ℤ amount_of c.args.worths.now s in
-    let fits : FitsSigned w128 (amount_of c.args.worths.now at) = search rules in
-    let worth_is : to_z w128 (of_z w128 (amount_of c.args.worths.now at)) ≡ amount_of c.args.worths.now at = to_z-of_z w128 (amount_of c.args.worths.now at) fits in
+    let term : ℕ → ℤ = λ s. pos (slice_index c.args.play.now s) *ℤ amount_of (map g.W.Worth.amount c.args.worths.now) s in
+    let fits : FitsSigned w128 c.worth_at.result = search rules in
+    let worth_is : to_z w128 (of_z w128 c.worth_at.result) ≡ amount_of (map g.W.Worth.amount c.args.worths.now) at = to_z-of_z w128 c.worth_at.result fits ∙ c.worth_at.ensures in
     let fits_product : FitsSigned w128 c.product.result = search rules in
     let product_is : to_z w128 (of_z w128 c.product.result) ≡ c.product.result = to_z-of_z w128 c.product.result fits_product in
     let more = range_more term first c.loop-i.i in
@@ -32,12 +32,12 @@ plus-sum-requires c =
     omega (arith, ap unsigned_abs next, front_size term first (c.loop-i.i + 1) c.args.place.actions (omega arith), c.requires.products)
 
 pub loop-i-preserved : goal.loop-i-preserved
-loop-i-preserved c =
+loop-i-preserved g c =
     let first : ℕ = c.args.place.first in
     let at : ℕ = first + c.loop-i.i in
-    let term : ℕ → ℤ = λ s. pos (slice_index c.args.play.now s) *ℤ amount_of c.args.worths.now s in
-    let fits : FitsSigned w128 (amount_of c.args.worths.now at) = search rules in
-    let worth_is : to_z w128 (of_z w128 (amount_of c.args.worths.now at)) ≡ amount_of c.args.worths.now at = to_z-of_z w128 (amount_of c.args.worths.now at) fits in
+    let term : ℕ → ℤ = λ s. pos (slice_index c.args.play.now s) *ℤ amount_of (map g.W.Worth.amount c.args.worths.now) s in
+    let fits : FitsSigned w128 c.worth_at.result = search rules in
+    let worth_is : to_z w128 (of_z w128 c.worth_at.result) ≡ amount_of (map g.W.Worth.amount c.args.worths.now) at = to_z-of_z w128 c.worth_at.result fits ∙ c.worth_at.ensures in
     let fits_product : FitsSigned w128 c.product.result = search rules in
     let product_is : to_z w128 (of_z w128 c.product.result) ≡ c.product.result = to_z-of_z w128 c.product.result fits_product in
     let more = range_more term first c.loop-i.i in

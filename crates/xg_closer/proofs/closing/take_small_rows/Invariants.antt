@@ -1,0 +1,10 @@
+use Rattle.std.proofs.Common.{◌≡◌, ℕ, ◌+◌, ◌^◌, ◌<◌, length, take, unsigned_abs}
+use Rattle.def_sums.specs.Sum.{nat_sum_over}
+use Rattle.xg_closer.specs.Rows.{amount_of, own_amount}
+use Rattle.xg_closer.proofs.closing.take_small_rows.Given as goal
+
+abbrev pub invariant-loop-i : goal.invariant-loop-i
+invariant-loop-i l =
+    (length l.worths ≡ length l.initial.worths)
+    × (l.room + nat_sum_over unsigned_abs (take l.i l.rows) ≡ 2 ^ 62)
+    × ((s : ℕ) → s < l.i → amount_of l.worths s ≡ own_amount l.fn.player l.rows s)
