@@ -33,10 +33,10 @@ __attribute__((constructor)) static void take_settings(void) {
     is_short = getenv("SHORT") != NULL;
 }
 
-/* Whether this call is the one that fails. */
+/* Whether this call is the one that fails: only one is, whichever threads make them. */
 static int fails(enum kind kind) {
-    made[kind]++;
-    if (wanted[kind] == 0 || made[kind] != wanted[kind])
+    long number = __atomic_add_fetch(&made[kind], 1, __ATOMIC_SEQ_CST);
+    if (wanted[kind] == 0 || number != wanted[kind])
         return 0;
     const char *mark = getenv("FAULT_MARK");
     if (mark)
