@@ -45,6 +45,15 @@ closing_from-goes_on : (at before b : ℕ) (bs : List ℕ) → eqb b 34 ≡ true
 unfolding closing_from
 closing_from-goes_on at before b bs mark escaped = rw (mark, escaped) refl
 
+-- a mark right behind the opening one closes
+pub closing_from-at_once : (bytes : List ℕ) (start : ℕ) → start + 1 < length bytes → get_or bytes start 0 ≡ 34
+    → get_or bytes (start + 1) 0 ≡ 34
+    → closing_from (start + 1) (get_or bytes start 0) (drop (start + 1) bytes) ≡ Some (start + 1)
+closing_from-at_once bytes start within opening mark =
+    let plain : get_or bytes start 0 ≢ 92 = omega arith in
+    ap (closing_from (start + 1) (get_or bytes start 0)) (drop_more bytes (start + 1) 0 within)
+    ∙ closing_from-closes (start + 1) (get_or bytes start 0) _ _ (eq-eqb _ 34 mark) (ne_eqb _ 92 plain)
+
 -- where the search stands: what is still to search gives what all bytes give
 pub record SearchesOn (bytes : List ℕ) (start at : ℕ) : Type 0 where
   pub begun : 0 < at

@@ -42,6 +42,12 @@ unescaped-none (b ∷ bs) none =
     unescaped-cons b bs (no_mark_first bs (λ some. none 1 (omega arith)))
     ∙ ap (λ l. b ∷ l) (unescaped-none bs (λ j below. none (suc j) (omega arith)))
 
+-- and of no bytes none
+pub unescaped-empty : (bs : List ℕ) → length bs ≡ 0 → [] ≡ unescaped bs
+unfolding unescaped
+unescaped-empty [] empty = refl
+unescaped-empty (b ∷ bs) empty = absurd (omega arith)
+
 escape-cons : (bs : List ℕ) → unescaped (92 ∷ 34 ∷ bs) ≡ 34 ∷ unescaped bs
 unfolding unescaped
 escape-cons bs = refl

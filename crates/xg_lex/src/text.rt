@@ -33,15 +33,29 @@ impl Text {
 }
 
 /// The text that the inside of a text token stands for: `\"` becomes a quotation mark, and all else stays.
+#[inline]
 pub fn unescape(alloc: Global, raw: &[u8]) -> Result<Text, AllocError>
     requires { IsInside raw.now }
     ensures { IfOk result (λ text. text ≡ unescaped raw.now) }
 {
-    let bytes = without_escapes(alloc, raw)?;
+    let bytes = inside_bytes(alloc, raw)?;
     Ok(Text { bytes })
 }
 
+/// The bytes that an inside stands for. Most nodes have no name, and no byte.
+#[inline]
+fn inside_bytes(alloc: Global, raw: &[u8]) -> Result<Vec<u8>, AllocError>
+    requires { IsInside raw.now }
+    ensures { IfOk result (λ bytes. bytes.items ≡ unescaped raw.now) }
+{
+    if raw.is_empty() {
+        return Ok(Vec::new(alloc));
+    }
+    without_escapes(alloc, raw)
+}
+
 /// The bytes with the backslash right before each quotation mark left out.
+#[inline(never)]
 fn without_escapes(alloc: Global, raw: &[u8]) -> Result<Vec<u8>, AllocError>
     requires { IsInside raw.now }
     ensures { IfOk result (λ bytes. bytes.items ≡ unescaped raw.now) }

@@ -1,4 +1,4 @@
-ghost use Rattle.std.specs.Prelude.{◌≡◌, ℕ, ◌+◌, ◌-◌, ◌<◌, ◌≤◌, ◌↔◌, Option, List, drop, length, slice_index, slice_range, IfOk, IfSome};
+ghost use Rattle.std.specs.Prelude.{◌≡◌, ℕ, ◌+◌, ◌-◌, ◌<◌, ◌≤◌, ◌↔◌, IsTrue, Option, List, drop, length, slice_index, slice_range, IfOk, IfSome};
 ghost use Rattle.std.specs.List.{prefix_len, AllPass};
 ghost use Rattle.def_file_tokens.specs.Bytes.{is_space, in_run, begins_word, begins_number};
 ghost use Rattle.def_file_tokens.specs.Texts.{IsInside, closing_from};
@@ -74,13 +74,15 @@ impl<'a> Tokens<'a> {
 fn is_space(byte: u8) -> bool
     ensures { result ≡ is_space byte }
 {
-    matches!(byte, 9..=13 | b' ')
+    // Most bytes are above the space, and one comparison passes them.
+    byte <= b' ' && matches!(byte, 9..=13 | b' ')
 }
 
 fn in_run(byte: u8) -> bool
     ensures { result ≡ in_run byte }
 {
-    !matches!(byte, 9..=13 | b' ' | b'"' | b'{' | b'}' | b',')
+    // All letters, digits and signs of numbers but the plus are between these two.
+    matches!(byte, b'-'..=b'z') || !matches!(byte, 9..=13 | b' ' | b'"' | b'{' | b'}' | b',')
 }
 
 fn begins_word(byte: u8) -> bool
@@ -172,10 +174,18 @@ fn run_at(bytes: &[u8], start: usize, kind: Token) -> Lexeme
 
 /// The text whose opening mark is at `start`.
 fn text_at(bytes: &[u8], start: usize) -> Result<Lexeme, LexFault>
-    requires { start < length bytes.now }
+    requires there { start < length bytes.now }
+    requires mark { slice_index bytes.now start ≡ 34 }
     ensures value { result ≡ text_from start (closing_from (start + 1) (slice_index bytes.now start) (drop (start + 1) bytes.now)) }
     ensures within { IfOk result (λ lexeme. lexeme.end ≤ length bytes.now) }
 {
+    if is_empty_text(bytes, start) {
+        return Ok(Lexeme {
+            kind: Token::Text,
+            start,
+            end: start + 2,
+        });
+    }
     match closing_mark(bytes, start) {
         Some(close) => Ok(Lexeme {
             kind: Token::Text,
@@ -186,7 +196,16 @@ fn text_at(bytes: &[u8], start: usize) -> Result<Lexeme, LexFault>
     }
 }
 
+/// Whether the mark at `start` is followed by another one at once. Most nodes have no name.
+fn is_empty_text(bytes: &[u8], start: usize) -> bool
+    requires { start < length bytes.now }
+    ensures { IsTrue result ↔ (start + 1 < length bytes.now) × (slice_index bytes.now (start + 1) ≡ 34) }
+{
+    start + 1 < bytes.len() && bytes[start + 1] == b'"'
+}
+
 /// The offset of the first quotation mark behind `start` that no backslash stands right before.
+#[inline(never)]
 fn closing_mark(bytes: &[u8], start: usize) -> Option<usize>
     requires { start < length bytes.now }
     ensures value { result ≡ closing_from (start + 1) (slice_index bytes.now start) (drop (start + 1) bytes.now) }
