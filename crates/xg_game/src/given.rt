@@ -52,7 +52,7 @@ pub(crate) fn name_differs(kept: &Option<Text>, given: &Option<Text>) -> bool
 pub(crate) fn keep_name(kept: &mut Option<Text>, given: Option<Text>)
     ensures { kept.new ≡ adding.kept_name kept.old given }
 {
-    if kept.is_none() {
+    if kept.is_none() && given.is_some() {
         *kept = given;
     }
 }

@@ -85,6 +85,8 @@ impl GameMaker {
     }
 
     /// Takes the next entry, in prefix order. After a fault the maker is as it was, and it is spent where memory ran out.
+    // An entry is large, and inlined it isn't copied.
+    #[inline(always)]
     pub fn push(&mut self, entry: Record) -> Result<(), Refused>
         requires incomplete { wanted 1 self.old.contents.nodes ≢ 0 }
         requires unspent { self.old.spent ≡ false }

@@ -167,6 +167,7 @@ impl OutcomeTable {
     }
 
     /// Puts an outcome last.
+    #[inline(never)]
     fn add(
         &mut self,
         number: u64,

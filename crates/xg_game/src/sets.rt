@@ -135,6 +135,7 @@ impl SetTable {
     }
 
     /// Notes a mention of a set.
+    #[inline(always)]
     pub(crate) fn note(
         &mut self,
         place: Option<usize>,
@@ -168,6 +169,7 @@ impl SetTable {
     }
 
     /// Puts a set last.
+    #[inline(never)]
     fn add(&mut self, number: u64, name: Option<Text>, actions: Actions) -> Result<(), AllocError>
         requires new { faults.set_place_of number self.old ≡ None }
         requires room { length self.old + 1 < 2 ^ 32 }
