@@ -3,3 +3,4 @@ pub mod Items
 pub mod Names
 pub mod Taken
 pub mod Answered
+mod Digits

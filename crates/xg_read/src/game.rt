@@ -87,6 +87,8 @@ fn read_entries(
 }
 
 /// Reads the next entry and puts it last.
+// Apart from the loop, so that what one entry needs isn't cleared for all of them.
+#[inline(never)]
 fn take_entry(alloc: Global, reader: &mut Reader<'_>, maker: &mut GameMaker) -> Result<(), Refused>
     requires incomplete { wanted 1 maker.old.contents.nodes ≢ 0 }
     requires unspent { maker.old.spent ≡ false }

@@ -1,5 +1,6 @@
 //! Texts and numbers of a file.
 ghost use Rattle.def_fraction.specs.Fraction.{most};
+ghost use Rattle.def_fraction.specs.Reading.{read_as_whole};
 ghost use Rattle.std.specs.Prelude.{◌≡◌, ◌≤◌, IfOk};
 ghost use Rattle.def_file.specs.Reading.{literal_at, name_at, read_as_set, set_number_at, text_at, whole_at};
 ghost use Rattle.xg_read.specs.Gives.{Gives, GivesFor};
@@ -60,7 +61,7 @@ impl<'a> Reader<'a> {
         ensures limit { IfOk result (λ n. n ≤ most) }
     {
         let token = self.token(Wanted::Number)?;
-        match read_whole(self.token_bytes(token)) {
+        match read_number(self.token_bytes(token)) {
             Ok(value) => Ok(value),
             Err(fault) => Err(FileFault::Number {
                 at: token.start,
@@ -95,9 +96,21 @@ fn read_set(bytes: &[u8]) -> Result<u64, NumberFault>
     ensures from_one { IfOk result (λ n. 1 ≤ n) }
     ensures limit { IfOk result (λ n. n ≤ most) }
 {
-    match read_whole(bytes) {
+    match read_number(bytes) {
         Ok(0) => Err(NumberFault::Range),
         Ok(value) => Ok(value),
         Err(fault) => Err(fault),
+    }
+}
+
+/// The number that the bytes write in digits. Most are one digit.
+#[inline]
+fn read_number(bytes: &[u8]) -> Result<u64, NumberFault>
+    ensures exact { result ≡ read_as_whole bytes.now }
+    ensures limit { IfOk result (λ n. n ≤ most) }
+{
+    match bytes {
+        [digit @ b'0'..=b'9'] => Ok((*digit - b'0') as u64),
+        _ => read_whole(bytes),
     }
 }
