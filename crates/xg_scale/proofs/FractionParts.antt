@@ -1,15 +1,16 @@
 -- A sum with nothing, and one that is 0.
-use Rattle.std.proofs.Common.{◌≡◌, ℕ, ◌*◌, ◌≤◌, true, false, ap, sym, subst, ◌∙◌, arith}
-use Rattle.std.specs.Prelude.{ℤ, pos, ◌+ℤ◌, ◌*ℤ◌, unsigned_abs, nat_le, IsTrue}
+use Rattle.std.proofs.Common.{◌≡◌, ℕ, suc, ◌*◌, ◌/◌, ◌%◌, ◌≤◌, true, false, refl, ap, sym, subst, ◌∙◌, arith, eq-eqb}
+use Rattle.std.specs.Prelude.{ℤ, pos, negsuc, neg_ℤ, ◌+ℤ◌, ◌*ℤ◌, unsigned_abs, nat_le, IsTrue}
 use Rattle.std.proofs.lemmas.Bool.{and_from, eqb-true, false_from_ne_true, le-leb}
 use Prim.Native.Nat.{◌∣◌}
 use Rattle.std.proofs.lemmas.Int.{ints}
-use Rattle.std.proofs.lemmas.Nat.Gcd.{dvd-zero, dvd_refl, le_of_dvd}
+use Rattle.std.proofs.lemmas.Nat.Gcd.{dvd-zero, dvd_antisymm, dvd_of_mod-eq-zero, dvd_refl, le_of_dvd}
 use Rattle.std.proofs.Math.IntN.{pos-*ℤ-pos}
-use Rattle.def_fraction.specs.Divisors.{gcd}
-use Rattle.def_fraction.specs.Fraction.{Fraction, IsInLowestTerms, fits, fraction_of, most, sum_of}
-use Rattle.def_fraction.proofs.DivisorLemmas.{IsGcd-gcd}
-use Rattle.def_fraction.proofs.FractionLemmas.{fraction_of-lowest}
+use Rattle.std.proofs.Math.Nat.{zero-div}
+use Rattle.def_fraction.specs.Divisors.{gcd, lcm}
+use Rattle.def_fraction.specs.Fraction.{Fraction, IsInLowestTerms, fits, fraction_of, most, sum_of, without_factor}
+use Rattle.def_fraction.proofs.DivisorLemmas.{IsGcd-gcd, IsLcm-lcm}
+use Rattle.def_fraction.proofs.FractionLemmas.{fraction_of-lowest, neg-times, unsigned_abs-without_factor}
 use Rattle.def_game_scale.specs.Tables.{nothing}
 use Rattle.def_game_scale.proofs.Expected.{lowest-sum}
 use Rattle.def_game_faults.specs.Faults.{is_zero}
@@ -28,13 +29,84 @@ sum_nothing f low =
     times_one : (z : ℤ) → (z *ℤ pos 1) +ℤ pos 0 ≡ z
     times_one z = omega (arith, ints)
 
+-- 0 in lowest terms has the denominator 1
+zero_den : (f : Fraction) → IsInLowestTerms f → is_zero f ≡ true → f.den ≤ 1
+zero_den f low zero =
+    let none : unsigned_abs f.num ≡ 0 = eqb-true (unsigned_abs f.num) 0 zero in
+    let common : gcd 0 f.den ≡ 1 = ap (λ n. gcd n f.den) (sym none) ∙ low.coprime in
+    let divides : f.den ∣ 1 = subst (λ g. f.den ∣ g) common ((IsGcd-gcd 0 f.den).2 f.den (dvd-zero f.den) (dvd_refl f.den)) in
+    le_of_dvd (omega arith) divides
+
+zero_num : (n : ℤ) → unsigned_abs n ≡ 0 → n ≡ pos 0
+zero_num (pos n) none = ap pos none
+zero_num (negsuc n) none = absurd (omega (arith, none))
+
+-- more than nothing is what comes
+pub nothing_more : (f g : Fraction) → IsInLowestTerms f → IsInLowestTerms g → is_zero f ≡ true → sum_of f g ≡ g
+nothing_more f g low_f low_g zero =
+    let none : f.num ≡ pos 0 = zero_num f.num (eqb-true (unsigned_abs f.num) 0 zero) in
+    let at_most : f.den ≤ 1 = zero_den f low_f zero in
+    let positive = low_f.positive in
+    let one : f.den ≡ 1 = omega arith in
+    let num : (f.num *ℤ pos g.den) +ℤ (g.num *ℤ pos f.den) ≡ g.num =
+    ap (λ z. (z *ℤ pos g.den) +ℤ (g.num *ℤ pos f.den)) none
+    ∙ ap (λ n. (pos 0 *ℤ pos g.den) +ℤ (g.num *ℤ pos n)) one
+    ∙ ap (λ z. z +ℤ (g.num *ℤ pos 1)) (pos-*ℤ-pos 0 g.den ∙ ap pos (zero_times g.den))
+    ∙ times_one g.num in
+    let den : f.den * g.den ≡ g.den = ap (λ n. n * g.den) one ∙ one_times g.den in
+    (λ i. fraction_of (num i) (den i)) ∙ fraction_of-lowest g low_g
+  where
+    zero_times : (n : ℕ) → 0 * n ≡ 0
+    zero_times n = omega arith
+
+    one_times : (n : ℕ) → 1 * n ≡ n
+    one_times n = omega arith
+
+    times_one : (z : ℤ) → pos 0 +ℤ (z *ℤ pos 1) ≡ z
+    times_one z = omega (arith, ints)
+
+-- what is paid to one and taken from the other is nothing
+opposites_cancel : (a b : ℤ) (d : ℕ) → a ≡ neg_ℤ b → (a *ℤ pos d) +ℤ (b *ℤ pos d) ≡ pos 0
+opposites_cancel a (pos m) d opposite =
+    (λ i. ((opposite ∙ refl) i *ℤ pos d) +ℤ (pos m *ℤ pos d))
+    ∙ (λ i. neg-times m d i +ℤ pos-*ℤ-pos m d i)
+    ∙ together (m * d)
+  where
+    together : (k : ℕ) → neg_ℤ (pos k) +ℤ pos k ≡ pos 0
+    together k = omega (arith, ints)
+opposites_cancel a (negsuc m) d opposite =
+    (λ i. (opposite i *ℤ pos d) +ℤ (negsuc m *ℤ pos d))
+    ∙ (λ i. pos-*ℤ-pos (suc m) d i +ℤ neg-times (suc m) d i)
+    ∙ together (suc m * d)
+  where
+    together : (k : ℕ) → pos k +ℤ neg_ℤ (pos k) ≡ pos 0
+    together k = omega (arith, ints)
+
+zero_fraction : (n : ℤ) (d : ℕ) → n ≡ pos 0 → is_zero (fraction_of n d) ≡ true
+unfolding fraction_of
+zero_fraction n d none =
+    let size : unsigned_abs (without_factor n (gcd (unsigned_abs n) d)) ≡ 0 =
+    unsigned_abs-without_factor n (gcd (unsigned_abs n) d)
+    ∙ ap (λ z. unsigned_abs z / gcd (unsigned_abs n) d) none
+    ∙ zero-div (gcd (unsigned_abs n) d) in
+    eq-eqb _ 0 size
+
+-- opposite fractions add up to 0
+pub opposite_sum : (a b : Fraction) → a.num ≡ neg_ℤ b.num → a.den ≡ b.den → is_zero (sum_of a b) ≡ true
+opposite_sum a b num den =
+    zero_fraction _ (a.den * b.den) (ap (λ n. (a.num *ℤ pos b.den) +ℤ (b.num *ℤ pos n)) den ∙ opposites_cancel a.num b.num b.den num)
+
+-- a unit that the denominator divides stays
+pub unit_stays : (den unit : ℕ) → 1 ≤ den → 1 ≤ unit → unit % den ≡ 0 → lcm den unit ≡ unit
+unit_stays den unit some_den some_unit divided =
+    let multiple = IsLcm-lcm den unit some_den some_unit in
+    dvd_antisymm (multiple.least unit (dvd_of_mod-eq-zero den divided) (dvd_refl unit)) multiple.second_divides
+
 -- 0 in lowest terms fits
 zero_fits : (f : Fraction) → IsInLowestTerms f → is_zero f ≡ true → fits f ≡ true
 zero_fits f low zero =
     let none : unsigned_abs f.num ≡ 0 = eqb-true (unsigned_abs f.num) 0 zero in
-    let common : gcd 0 f.den ≡ 1 = ap (λ n. gcd n f.den) (sym none) ∙ low.coprime in
-    let divides : f.den ∣ 1 = subst (λ g. f.den ∣ g) common ((IsGcd-gcd 0 f.den).2 f.den (dvd-zero f.den) (dvd_refl f.den)) in
-    let one : f.den ≤ 1 = le_of_dvd (omega arith) divides in
+    let one : f.den ≤ 1 = zero_den f low zero in
     and_from (nat_le (unsigned_abs f.num) most) (nat_le f.den most) (le-leb (unsigned_abs f.num) most (omega (arith, none))) (le-leb f.den most (omega (arith, one)))
 
 -- a sum that doesn't fit isn't 0

@@ -1,5 +1,5 @@
 //! What a leaf is expected to pay, and the unit.
-ghost use Rattle.std.specs.Prelude.{◌≡◌, ◌≤◌, ◌++◌, None, IfErr, IfOk, OnOk};
+ghost use Rattle.std.specs.Prelude.{◌≡◌, ◌≤◌, ◌↔◌, ◌++◌, None, neg_ℤ, IfErr, IfOk, IsTrue, OkIff, OnOk};
 ghost use Rattle.def_fraction.specs.Divisors.{lcm};
 ghost use Rattle.def_fraction.specs.Fraction.{most, product_of, sum_of};
 ghost use Rattle.def_game_faults.specs.Faults as faults;
@@ -10,7 +10,7 @@ ghost use Rattle.xg_scale.specs.Leaf.{judged_leaf, judged_node, unit_with, with_
 use crate::ancestors::PathNumbers;
 use crate::parts::{denominator, is_zero, known};
 use std::alloc::Global;
-use xg_frac::{Frac, add, lcm, mul};
+use xg_frac::{Frac, OverLimit, add, lcm, mul};
 use xg_game::{FileFault, Kind, Refused};
 use xg_tree::Node;
 
@@ -67,20 +67,42 @@ fn judge_leaf(k: u32, so_far: u64, numbers: &PathNumbers) -> Result<LeafNumbers,
     let Ok(expected) = mul(numbers.reach, numbers.one) else {
         return Err(FileFault::Scale { node: k });
     };
-    let Ok(unit) = lcm(denominator(expected), so_far) else {
+    let Ok(unit) = unit_with(denominator(expected), so_far) else {
         return Err(FileFault::Scale { node: k });
     };
     Ok(LeafNumbers { expected, unit })
+}
+
+/// The least common multiple of a denominator and the unit so far, which it mostly divides.
+fn unit_with(denominator: u64, so_far: u64) -> Result<u64, OverLimit>
+    requires from_one { (1 ≤ denominator) × (1 ≤ so_far) }
+    requires within { (denominator ≤ most) × (so_far ≤ most) }
+    ensures { OkIff result (lcm denominator so_far ≤ most) (lcm denominator so_far) }
+{
+    if so_far % denominator == 0 {
+        return Ok(so_far);
+    }
+    lcm(denominator, so_far)
 }
 
 /// Whether the sum is 0.
 fn cancel(a: Frac, b: Frac) -> bool
     ensures { result ≡ faults.is_zero (sum_of a b) }
 {
+    if are_opposite(a, b) {
+        return true;
+    }
     match add(known(a), known(b)) {
         Ok(sum) => is_zero(sum),
         Err(_) => false,
     }
+}
+
+/// Whether one is the other with the other sign.
+fn are_opposite(a: Frac, b: Frac) -> bool
+    ensures { IsTrue result ↔ (a.num ≡ neg_ℤ b.num) × (a.den ≡ b.den) }
+{
+    a.num() == -b.num() && a.den() == b.den()
 }
 
 pub(crate) fn is_leaf(node: Node) -> bool

@@ -14,7 +14,7 @@ ghost use Rattle.xg_scale.specs.Walked.{HasWalked, IsExpectedOf, MayCome, all_fi
 
 use crate::ancestors::{OpenNode, OpenNodes, PathNumbers};
 use crate::leaf::Expected;
-use crate::parts::{known, zero};
+use crate::parts::{is_zero, known, zero};
 use std::alloc::{AllocError, Global};
 use xg_frac::{Frac, OverLimit, add, mul, one_over};
 use xg_game::{FileFault, Game, Player, Refused};
@@ -116,8 +116,14 @@ fn paid(game: &Game, so_far: Frac, outcome: u32, player: Player) -> Result<Frac,
     ensures { let exact = sum_of so_far (paid_to player (payoffs_of (tables_of game.now) outcome)) in
         OkIff result (IsTrue (fits exact)) exact }
 {
+    let so_far = known(so_far);
     if outcome == 0 {
-        return Ok(known(so_far));
+        return Ok(so_far);
     }
-    add(so_far, game.payoff(outcome, player))
+    let payoff = game.payoff(outcome, player);
+    // Most games pay at leaves alone.
+    if is_zero(so_far) {
+        return Ok(known(payoff));
+    }
+    add(so_far, payoff)
 }

@@ -1,8 +1,13 @@
-use Rattle.std.proofs.Common.{◌≡◌, subst, sym}
+use Rattle.std.proofs.Common.{◌≡◌, refl, subst, sym}
 use Rattle.std.specs.Prelude.{IsTrue}
 use Rattle.def_fraction.specs.Fraction.{Fraction, fits, sum_of}
-use Rattle.xg_scale.proofs.FractionParts.{sum_past}
+use Rattle.xg_scale.proofs.FractionParts.{opposite_sum, sum_past}
 use Rattle.xg_scale.proofs.leaf.cancel.Goals as goal
+
+pub returns-then-are_opposite : goal.returns-then-are_opposite
+returns-then-are_opposite c =
+    let opposite = c.if-are_opposite.ensures.0 refl in
+    sym (opposite_sum c.args.a c.args.b opposite.0 opposite.1)
 
 pub returns-in-Err : goal.returns-in-Err
 returns-in-Err c =
