@@ -1,5 +1,6 @@
 //! Texts from outside.
-use crate::{Head, write_head};
+use crate::{Cert, Head, Outcome, write_head};
+use std::marker::{Send, Sync};
 use std::test::Fail;
 use xg_io::{MemSink, WriteFault};
 
@@ -24,4 +25,13 @@ fn heads(rt: HostRuntime) -> Result<(), Fail> {
     assert_eq!(rt; write_head(&head, &mut short), Err(WriteFault));
     assert_eq!(rt; short.bytes(), &text[..30]);
     Ok(())
+}
+
+fn crosses_threads<T: Send + Sync>() {}
+
+#[test]
+fn plain_data_crosses_threads() {
+    crosses_threads::<Head>();
+    crosses_threads::<Outcome>();
+    crosses_threads::<Cert>();
 }
