@@ -20,7 +20,7 @@ use std::marker::Model;
 use xg_seq::SeqForm;
 
 // The greatest root of a sum of plans.
-const MOST_NUMBER: u64 = 1 << 36;
+const MOST_ROOT: u64 = 1 << 36;
 
 /// The leaves of each of a player's sequences.
 #[derive(Drop)]
@@ -144,7 +144,7 @@ fn sums_fit_word(mass: u64, numbers: &[u64]) -> bool
     requires { All (λ n. n ≤ most_root) numbers.now }
     ensures { IsTrue result → mass * greatest_of numbers.now < 2 ^ 63 }
 {
-    fits_word(mass, MOST_NUMBER) || fits_word(mass, greatest(numbers))
+    fits_word(mass, MOST_ROOT) || fits_word(mass, greatest(numbers))
 }
 
 fn greatest(numbers: &[u64]) -> u64
