@@ -23,7 +23,8 @@ RUNS_OF_A_GAME = 100
 
 def names():
     """The names of the tests that the program has."""
-    return subprocess.run([TESTS], capture_output=True, text=True, check=True).stdout.split()
+    listed = subprocess.run([TESTS, "--list"], capture_output=True, text=True, check=True).stdout.splitlines()
+    return [line.removesuffix(": test") for line in listed if line.endswith(": test")]
 
 
 def main():
@@ -37,7 +38,9 @@ def main():
         ended = subprocess.run([TESTS, name], capture_output=True, text=True, timeout=600)
         failed += ended.returncode != 0
         result = "ok  " if ended.returncode == 0 else "FAIL"
-        print(f"{result} {time * RUNS_OF_A_GAME} runs of each game {ended.stderr.strip()}", flush=True)
+        print(f"{result} {time * RUNS_OF_A_GAME} runs of each game", flush=True)
+        if ended.returncode != 0:
+            print(ended.stdout + ended.stderr)
     print(f"{times - failed} passed, {failed} failed")
     return 1 if failed else 0
 
