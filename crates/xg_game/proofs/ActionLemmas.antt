@@ -1,20 +1,17 @@
--- Actions by their names and their probabilities.
-use Rattle.std.proofs.Common.{◌≡◌, ℕ, zero, suc, ◌+◌, ◌≤◌, List, [], ◌∷◌, ◌++◌, length, map, take, slice_get, slice_index_or, Some, refl, sym, ap, ◌∙◌, arith}
-use Rattle.std.proofs.Math.Seq.{take-length}
+-- Actions by their names and their probabilities, and those of a set among all of them.
+use Rattle.std.proofs.Common.{◌≡◌, ℕ, zero, suc, ◌+◌, ◌-◌, ◌≤◌, ◌<◌, List, [], ◌∷◌, ◌++◌, length, take, drop, slice_get, slice_index_or, Some, refl, sym, ap, ◌∙◌, subst, arith}
+use Rattle.std.specs.List.{slice_range}
+use Rattle.std.proofs.Math.Seq.{drop-append_seam, take-length}
+use Rattle.std.proofs.lemmas.List.{drop-append-le, take-append-le, length-drop, length-append, append_assoc}
 use Rattle.def_fraction.specs.Fraction.{Fraction}
 use Rattle.def_file.specs.Content.{Action, zero_fraction}
-use Rattle.xg_game.specs.Actions.{actions_of}
+use Rattle.xg_game.specs.Actions.{GivesSame, actions_of, action_with}
 
 -- there is an action for each name
 pub length-actions_of : (names : List (List ℕ)) (chances : List Fraction) → length (actions_of names chances) ≡ length names
 length-actions_of [] chances = refl
 length-actions_of (name ∷ names) [] = omega (arith, length-actions_of names [])
 length-actions_of (name ∷ names) (chance ∷ chances) = omega (arith, length-actions_of names chances)
-
--- all names and all probabilities are the actions
-pub actions_again : (actions : List Action) → actions_of (map (λ a. a.name) actions) (map (λ a. a.chance) actions) ≡ actions
-actions_again [] = refl
-actions_again (a ∷ actions) = ap (λ rest. a ∷ rest) (actions_again actions)
 
 -- the action at a place
 pub action_at : (names : List (List ℕ)) (chances : List Fraction) (i : ℕ) (name : List ℕ) → slice_get names i ≡ Some name
@@ -27,23 +24,103 @@ action_at (first ∷ names) (chance ∷ chances) zero name at =
     let same : first ≡ name = cc in ap (λ (n : List ℕ). Some (record { name = n; chance = chance })) same
 action_at (first ∷ names) (chance ∷ chances) (suc i) name at = action_at names chances i name at
 
--- ---- one after another
-grows : {A B : Type 0} (f : A → B) (xs : List A) (i : ℕ) (x : A) → slice_get xs i ≡ Some x
-    → map f (take (suc i) xs) ≡ map f (take i xs) ++ f x ∷ []
-grows f [] i x at = cc
-grows f (y ∷ xs) zero x at = let same : y ≡ x = cc in ap (λ a. f a ∷ []) same
-grows f (y ∷ xs) (suc i) x at = ap (λ rest. f y ∷ rest) (grows f xs i x at)
+-- ---- an action more
 
--- the first of a list, and one more
-pub first_grow : {A B : Type 0} (f : A → B) (xs : List A) (i : ℕ) (x : A) (ys more : List B) → slice_get xs i ≡ Some x
-    → ys ≡ map f (take i xs) → more ≡ ys ++ f x ∷ [] → more ≡ map f (take (i + 1) xs)
-first_grow {A} {B} f xs i x ys more at are put =
-    let next : i + 1 ≡ suc i = omega arith in
-    put ∙ ap (λ (zs : List B). zs ++ f x ∷ []) are ∙ sym (grows f xs i x at) ∙ ap (λ (n : ℕ). map f (take n xs)) (sym next)
+-- a name without a probability has 0
+pub named_last : (names : List (List ℕ)) (chances : List Fraction) (name : List ℕ) → length chances ≤ length names
+    → actions_of (names ++ name ∷ []) chances ≡ actions_of names chances ++ action_with name zero_fraction ∷ []
+named_last [] [] name short = refl
+named_last [] (chance ∷ chances) name short = absurd (omega (arith, short))
+named_last (first ∷ names) [] name short =
+    ap (λ rest. action_with first zero_fraction ∷ rest) (named_last names [] name (omega arith))
+named_last (first ∷ names) (chance ∷ chances) name short =
+    ap (λ rest. action_with first chance ∷ rest) (named_last names chances name (omega (arith, short)))
 
--- the first of a list are all, as many as there are
-pub all_first : {A B : Type 0} (f : A → B) (xs : List A) (i : ℕ) (ys : List B) → length xs ≤ i → i ≤ length xs
-    → ys ≡ map f (take i xs) → ys ≡ map f xs
-all_first {A} f xs i ys past within are =
-    let all : i ≡ length xs = omega (arith, past, within) in
-    are ∙ ap (λ (n : ℕ). map f (take n xs)) all ∙ ap (map f) (take-length xs)
+-- a probability of 0 that is kept changes nothing
+pub zero_last : (names : List (List ℕ)) (chances : List Fraction) → length chances < length names
+    → actions_of names (chances ++ zero_fraction ∷ []) ≡ actions_of names chances
+zero_last [] chances short = absurd (omega (arith, short))
+zero_last (name ∷ names) [] short = refl
+zero_last (name ∷ names) (chance ∷ chances) short =
+    ap (λ rest. action_with name chance ∷ rest) (zero_last names chances (omega (arith, short)))
+
+-- nor do several
+pub zero_put : (old chances new : List Fraction) (none : Fraction) → none ≡ zero_fraction → new ≡ chances ++ none ∷ []
+    → GivesSame old chances → GivesSame old new
+zero_put old chances new none is put same names many =
+    let all : new ≡ chances ++ zero_fraction ∷ [] = put ∙ ap (λ (z : Fraction). chances ++ z ∷ []) is in
+    let size : length new ≡ length chances + 1 = ap length all ∙ length-append chances (zero_fraction ∷ []) in
+    ap (actions_of names) all ∙ zero_last names chances (omega (arith, size, many)) ∙ same names (omega (arith, size, many))
+
+-- the last name has the last probability, where there are as many
+pub chance_last : (names : List (List ℕ)) (chances : List Fraction) (name : List ℕ) (chance : Fraction)
+    → length chances ≡ length names
+    → actions_of (names ++ name ∷ []) (chances ++ chance ∷ []) ≡ actions_of names chances ++ action_with name chance ∷ []
+chance_last [] [] name chance same = refl
+chance_last [] (c ∷ chances) name chance same = absurd (omega (arith, same))
+chance_last (first ∷ names) [] name chance same = absurd (omega (arith, same))
+chance_last (first ∷ names) (c ∷ chances) name chance same =
+    ap (λ rest. action_with first c ∷ rest) (chance_last names chances name chance (omega (arith, same)))
+
+-- ---- those of a set
+
+module _ {A : Type 0} where
+  get_behind : (xs : List A) (a i : ℕ) → slice_get (drop a xs) i ≡ slice_get xs (a + i)
+  get_behind xs zero i = ap (slice_get xs) (omega arith)
+  get_behind [] (suc a) i = refl
+  get_behind (x ∷ xs) (suc a) i =
+      let next : suc a + i ≡ suc (a + i) = omega arith in
+      get_behind xs a i ∙ sym (ap (slice_get (x ∷ xs)) next)
+
+  get_before : (xs : List A) (n i : ℕ) → i < n → slice_get (take n xs) i ≡ slice_get xs i
+  get_before xs zero i below = absurd (omega (arith, below))
+  get_before [] (suc n) i below = refl
+  get_before (x ∷ xs) (suc n) zero below = refl
+  get_before (x ∷ xs) (suc n) (suc i) below = get_before xs n i (omega (arith, below))
+
+  -- an element of a part stands so many behind its start
+  pub get_part : (xs : List A) (a b i : ℕ) → i < b - a → slice_get (slice_range xs a b) i ≡ slice_get xs (a + i)
+  get_part xs a b i below = get_before (drop a xs) (b - a) i below ∙ get_behind xs a i
+
+  pub length_part : (xs : List A) (a b : ℕ) → a ≤ b → b ≤ length xs → length (slice_range xs a b) ≡ b - a
+  length_part xs a b order within = length_taken (drop a xs) (b - a) (omega (arith, length-drop a xs, order, within))
+    where
+      length_taken : (ys : List A) (n : ℕ) → n ≤ length ys → length (take n ys) ≡ n
+      length_taken ys zero most = refl
+      length_taken [] (suc n) most = absurd (omega (arith, most))
+      length_taken (y ∷ ys) (suc n) most = omega (arith, length_taken ys n (omega (arith, most)))
+
+  -- what comes behind doesn't change a part
+  pub part_stays : (xs ys : List A) (a b : ℕ) → a ≤ b → b ≤ length xs → slice_range (xs ++ ys) a b ≡ slice_range xs a b
+  part_stays xs ys a b order within =
+      ap (take (b - a)) (drop-append-le a xs ys (omega (arith, order, within)))
+      ∙ take-append-le (b - a) (drop a xs) ys (omega (arith, length-drop a xs, order, within))
+
+  -- and is the part from there on
+  pub part_behind : (xs ys zs : List A) (a b : ℕ) → zs ≡ xs ++ ys → a ≡ length xs → b ≡ length zs → slice_range zs a b ≡ ys
+  part_behind xs ys zs a b all from to =
+      let size : length zs ≡ length xs + length ys = ap length all ∙ length-append xs ys in
+      let long : b - a ≡ length ys = omega (arith, from, to, size) in
+      let behind : drop a zs ≡ ys = ap (λ (n : ℕ). drop n zs) from ∙ ap (drop (length xs)) all ∙ drop-append_seam xs ys in
+      ap (λ (n : ℕ). take n (drop a zs)) long ∙ ap (take (length ys)) behind ∙ take-length ys
+
+  -- ---- one after another
+  take_more : (xs : List A) (i : ℕ) (x : A) → slice_get xs i ≡ Some x → take (suc i) xs ≡ take i xs ++ x ∷ []
+  take_more [] i x at = cc
+  take_more (y ∷ xs) zero x at = let same : y ≡ x = cc in ap (λ a. a ∷ []) same
+  take_more (y ∷ xs) (suc i) x at = ap (λ rest. y ∷ rest) (take_more xs i x at)
+
+  -- the first of a list behind others, and one more
+  pub first_more : (front xs : List A) (i : ℕ) (x : A) (now new : List A) → slice_get xs i ≡ Some x
+      → now ≡ front ++ take i xs → new ≡ now ++ x ∷ [] → new ≡ front ++ take (i + 1) xs
+  first_more front xs i x now new at are put =
+      let next : i + 1 ≡ suc i = omega arith in
+      put ∙ ap (λ (zs : List A). zs ++ x ∷ []) are ∙ append_assoc front (take i xs) (x ∷ [])
+      ∙ ap (λ (zs : List A). front ++ zs) (sym (take_more xs i x at)) ∙ ap (λ (n : ℕ). front ++ take n xs) (sym next)
+
+  -- the first of a list are all, as many as there are
+  pub all_first : (front xs : List A) (i : ℕ) (now : List A) → length xs ≤ i → i ≤ length xs
+      → now ≡ front ++ take i xs → now ≡ front ++ xs
+  all_first front xs i now past within are =
+      let all : i ≡ length xs = omega (arith, past, within) in
+      are ∙ ap (λ (n : ℕ). front ++ take n xs) all ∙ ap (λ (zs : List A). front ++ zs) (take-length xs)

@@ -1,6 +1,6 @@
 pub mod MarkLemmas
 pub mod ZipLemmas
+pub mod ActionLemmas
 pub mod TableLemmas
 pub mod TextLemmas
-pub mod ActionLemmas
 pub mod PairLemmas

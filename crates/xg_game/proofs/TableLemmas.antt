@@ -1,17 +1,20 @@
 -- A table's entries, seen as the content of a file has them.
-use Rattle.std.proofs.Common.{◌≡◌, ℕ, zero, suc, ◌+◌, ◌<◌, not, cond, nat_eq, nat_lt, List, [], ◌∷◌, ◌++◌, map, length, get_or, set, position, slice_get, Option, Some, None, Result, Ok, Err, refl, ap, sym, ◌∙◌, arith}
+use Rattle.std.proofs.Common.{◌≡◌, ℕ, zero, suc, ◌+◌, ◌<◌, ◌≤◌, not, cond, nat_eq, nat_lt, List, [], ◌∷◌, ◌++◌, map, length, get_or, set, position, slice_get, Option, Some, None, Result, Ok, Err, refl, ap, sym, subst, ◌∙◌, arith}
 use Rattle.std.specs.List.{position_or_len}
-use Rattle.std.specs.Result.{OnOk}
+use Rattle.std.specs.Result.{OnOk, OnErr}
 use Rattle.std.specs.Map.{keys_of, values_of}
 use Rattle.std.proofs.Math.ListN.{length-map}
 use Rattle.std.proofs.lemmas.List.{map-append, map-set}
 use Rattle.def_file.specs.Content.{Action, SetEntry, OutcomeEntry}
 use Rattle.def_file.specs.Faults.{no_set, set_at, set_place_of, null_outcome, outcome_at, outcome_place_of}
 use Rattle.def_file.specs.Adding.{kept_name}
-use Rattle.xg_game.specs.Sets.{set_of}
+use Rattle.xg_game.specs.Actions.{IsWithin}
+use Rattle.xg_game.specs.Sets.{AreWithin, set_of}
 use Rattle.xg_game.specs.Outcomes.{outcome_of}
+use Rattle.xg_game.specs.declared.actions.Span.{Span}
 use Rattle.xg_game.specs.declared.table.Described.{Described}
 use Rattle.xg_game.specs.declared.outcomes.PayoffPair.{PayoffPair}
+use Rattle.xg_game.proofs.ActionLemmas.{part_behind, part_stays}
 
 -- what follows from an answer
 pub on_ok : {T E P Q : Type 0} (r : Result T E) → (P → Q) → OnOk r P → OnOk r Q
@@ -63,34 +66,84 @@ module _ {D E : Type 0} (entry : ℕ × D → E) (number : E → ℕ) (numbered 
 -- The same of sets.
 
 abbrev pub KnownSet : Type 0
-KnownSet = Described (List Action)
+KnownSet = Described Span
 
--- a number stands among a table's keys where its set stands among the sets
-pub set_place : (n : ℕ) (es : List (ℕ × KnownSet)) → position (nat_eq n) (keys_of es) ≡ set_place_of n (map set_of es)
-set_place = place_seen set_of (λ s. s.number) (λ e. refl)
+module _ (all : List Action) where
+  -- a number stands among a table's keys where its set stands among the sets
+  pub set_place : (n : ℕ) (es : List (ℕ × KnownSet))
+      → position (nat_eq n) (keys_of es) ≡ set_place_of n (map (set_of all) es)
+  set_place = place_seen (set_of all) (λ s. s.number) (λ e. refl)
 
--- the key at a place of a table is the number of the set there
-pub set_number : (es : List (ℕ × KnownSet)) (i k : ℕ) → slice_get (keys_of es) i ≡ Some k
-    → k ≡ (set_at (map set_of es) i).number
-set_number es i k at = number_seen set_of (λ s. s.number) (λ e. refl) es i k no_set at
+  -- the key at a place of a table is the number of the set there
+  pub set_number : (es : List (ℕ × KnownSet)) (i k : ℕ) → slice_get (keys_of es) i ≡ Some k
+      → k ≡ (set_at (map (set_of all) es) i).number
+  set_number es i k at = number_seen (set_of all) (λ s. s.number) (λ e. refl) es i k no_set at
 
--- what a table keeps at a place, with the number there, is the set there
-pub set_value : (es : List (ℕ × KnownSet)) (i : ℕ) (kept : KnownSet) → slice_get (values_of es) i ≡ Some kept
-    → set_of ((set_at (map set_of es) i).number, kept) ≡ set_at (map set_of es) i
-set_value es i kept at = value_seen set_of (λ s. s.number) (λ e. refl) es i kept no_set at
+  -- what a table keeps at a place, with the number there, is the set there
+  pub set_value : (es : List (ℕ × KnownSet)) (i : ℕ) (kept : KnownSet) → slice_get (values_of es) i ≡ Some kept
+      → set_of all ((set_at (map (set_of all) es) i).number, kept) ≡ set_at (map (set_of all) es) i
+  set_value es i kept at = value_seen (set_of all) (λ s. s.number) (λ e. refl) es i kept no_set at
 
--- one more entry in a table is one more set behind the others
-pub set_added : (es : List (ℕ × KnownSet)) (e : ℕ × KnownSet)
-    → map set_of (es ++ e ∷ []) ≡ map set_of es ++ set_of e ∷ []
-set_added es e = map-append set_of es (e ∷ [])
+  -- a set with the first name that is given to it
+  pub set_named : (es : List (ℕ × KnownSet)) (i : ℕ) (e : ℕ × KnownSet) (given : Option (List ℕ))
+      → slice_get es i ≡ Some e
+      → map (set_of all) (set es i (e.0, record e.1 { name = kept_name e.1.name given })) ≡ set (map (set_of all) es) i (record (set_at (map (set_of all) es) i) { name = kept_name (set_at (map (set_of all) es) i).name given })
+  set_named es i e given at =
+      map-set (set_of all) es i (e.0, record e.1 { name = kept_name e.1.name given })
+      ∙ ap (λ (s : SetEntry). set (map (set_of all) es) i (record s { name = kept_name s.name given })) (sym (seen_at (set_of all) es i e no_set at))
 
--- a set with the first name that is given to it
-pub set_named : (es : List (ℕ × KnownSet)) (i : ℕ) (e : ℕ × KnownSet) (given : Option (List ℕ))
-    → slice_get es i ≡ Some e
-    → map set_of (set es i (e.0, record e.1 { name = kept_name e.1.name given })) ≡ set (map set_of es) i (record (set_at (map set_of es) i) { name = kept_name (set_at (map set_of es) i).name given })
-set_named es i e given at =
-    map-set set_of es i (e.0, record e.1 { name = kept_name e.1.name given })
-    ∙ ap (λ (s : SetEntry). set (map set_of es) i (record s { name = kept_name s.name given })) (sym (seen_at set_of es i e no_set at))
+-- the actions of the sets are still within more of them
+pub within_more : (size more : ℕ) (es : List (ℕ × KnownSet)) → size ≤ more → AreWithin size es → AreWithin more es
+within_more size more [] grow within = tt
+within_more size more (e ∷ es) grow within =
+    ((within.0.0, omega (arith, grow, within.0.1)), within_more size more es grow within.1)
+
+-- those of one set more, too
+within_last : (size : ℕ) (es : List (ℕ × KnownSet)) (e : ℕ × KnownSet) → AreWithin size es → IsWithin size e.1.value
+    → AreWithin size (es ++ e ∷ [])
+within_last size [] e within last = (last, tt)
+within_last size (x ∷ es) e within last = (within.0, within_last size es e within.1 last)
+
+-- and where it is one more, or none more
+pub within_put : {T E : Type 0} (r : Result T E) (size more : ℕ) (es new : List (ℕ × KnownSet)) (e : ℕ × KnownSet)
+    → AreWithin size es → size ≤ more → IsWithin more e.1.value → OnOk r (new ≡ es ++ e ∷ []) → OnErr r (new ≡ es)
+    → AreWithin more new
+within_put (Ok x) size more es new e within grow last ok err =
+    subst (AreWithin more) (sym ok) (within_last more es e (within_more size more es grow within) last)
+within_put (Err x) size more es new e within grow last ok err = subst (AreWithin more) (sym err) (within_more size more es grow within)
+
+-- and of a set that gets a name
+pub within_named : (size : ℕ) (es : List (ℕ × KnownSet)) (i : ℕ) (e : ℕ × KnownSet) (name : Option (List ℕ))
+    → slice_get es i ≡ Some e → AreWithin size es → AreWithin size (set es i (e.0, record e.1 { name = name }))
+within_named size [] i e name at within = cc
+within_named size (x ∷ es) zero e name at within =
+    let same : x ≡ e = cc in (subst (λ (y : ℕ × KnownSet). IsWithin size y.1.value) same within.0, within.1)
+within_named size (x ∷ es) (suc i) e name at within = (within.0, within_named size es i e name at within.1)
+
+-- those of the set at a place
+pub within_at : (size : ℕ) (es : List (ℕ × KnownSet)) (i : ℕ) (known : KnownSet) → slice_get (values_of es) i ≡ Some known
+    → AreWithin size es → IsWithin size known.value
+within_at size [] i known at within = cc
+within_at size (x ∷ es) zero known at within =
+    let same : x.1 ≡ known = cc in subst (λ (k : KnownSet). IsWithin size k.value) same within.0
+within_at size (x ∷ es) (suc i) known at within = within_at size es i known at within.1
+
+-- actions behind those of the sets change no set
+sets_stay : (all more : List Action) (es : List (ℕ × KnownSet)) → AreWithin (length all) es
+    → map (set_of (all ++ more)) es ≡ map (set_of all) es
+sets_stay all more [] within = refl
+sets_stay all more ((n, known) ∷ es) within =
+    let stays = part_stays all more known.value.start known.value.end within.0.0 within.0.1 in
+    λ i. record { number = n; name = known.name; actions = stays i } ∷ sets_stay all more es within.1 i
+
+-- one more entry in a table, with its actions behind the others, is one more set behind the others
+pub set_added : (all more new : List Action) (es : List (ℕ × KnownSet)) (n : ℕ) (known : KnownSet)
+    → AreWithin (length all) es → new ≡ all ++ more → known.value.start ≡ length all → known.value.end ≡ length new
+    → map (set_of new) (es ++ (n, known) ∷ []) ≡ map (set_of all) es ++ record { number = n; name = known.name; actions = more } ∷ []
+set_added all more new es n known within put start end =
+    map-append (set_of new) es ((n, known) ∷ [])
+    ∙ ap (λ (ss : List SetEntry). ss ++ set_of new (n, known) ∷ []) (ap (λ (xs : List Action). map (set_of xs) es) put ∙ sets_stay all more es within)
+    ∙ ap (λ (xs : List Action). map (set_of all) es ++ record { number = n; name = known.name; actions = xs } ∷ []) (part_behind all more new known.value.start known.value.end put start end)
 
 -- The same of outcomes.
 

@@ -1,8 +1,9 @@
 -- The actions of a set by their names and their probabilities.
-use Rattle.std.specs.Prelude.{ℕ, List, [], ◌∷◌}
+use Rattle.std.specs.Prelude.{◌≡◌, ℕ, ◌≤◌, List, [], ◌∷◌, length, slice_range}
 use Rattle.def_fraction.specs.Fraction.{Fraction}
 use Rattle.def_file.specs.Content.{Action, zero_fraction}
 use Rattle.xg_game.specs.declared.actions.ActionView.{ActionView}
+use Rattle.xg_game.specs.declared.actions.Span.{Span}
 
 -- an action that has no probability of its own has 0
 abbrev pub actions_of : List (List ℕ) → List Fraction → List Action
@@ -15,3 +16,14 @@ action_with name chance = record { name = name; chance = chance }
 
 abbrev pub action_seen : ActionView → Action
 action_seen a = action_with a.name.now a.chance
+
+-- the actions of a set among those of all sets
+abbrev pub actions_in : List Action → Span → List Action
+actions_in actions span = slice_range actions span.start span.end
+
+abbrev pub IsWithin : ℕ → Span → Type 0
+IsWithin size span = (span.start ≤ span.end) × (span.end ≤ size)
+
+-- for names that are at least as many, other probabilities give the same actions
+abbrev pub GivesSame : List Fraction → List Fraction → Type 0
+GivesSame old new = (names : List (List ℕ)) → length new ≤ length names → actions_of names new ≡ actions_of names old

@@ -1,14 +1,18 @@
-//! The actions of a set, as a game keeps them.
-ghost use Rattle.std.specs.Prelude.{◌≡◌, ◌<◌, length, map, slice_get, slice_index_or, IfOk, Some};
+//! The actions of sets, as a game keeps them.
+ghost use Rattle.std.specs.Prelude.{◌≡◌, ◌↔◌, ◌<◌, ◌≤◌, [], ◌∷◌, ◌++◌, length, slice_get, slice_index_or, IfOk, IsTrue, OnOk, Some};
 ghost use Rattle.def_file.specs.Content.{zero_fraction};
-ghost use Rattle.xg_game.specs.Actions.{action_seen, actions_of};
+ghost use Rattle.xg_game.specs.Actions.{GivesSame, IsWithin, action_seen, action_with, actions_in};
 
 use crate::outcomes::zero;
 use crate::texts::Texts;
 use std::alloc::{AllocError, Global};
+use std::cmp::Ordering;
 use std::marker::Model;
-use xg_frac::Frac;
+use xg_frac::{Frac, compare};
 use xg_record::Actions;
+
+/// The greatest number of actions of all sets of a kind: more count as more than there is memory for.
+const MOST_KEPT: usize = 0xFFFF_FFFF;
 
 /// An action of a set.
 #[derive(Clone, Copy)]
@@ -17,7 +21,15 @@ pub(crate) struct ActionView<'a> {
     pub(crate) chance: Frac,
 }
 
-/// The actions of a set, in little memory.
+/// Where the actions of a set stand among those of all sets: from a place on, and before another one.
+#[derive(Clone, Copy)]
+pub(crate) struct Span {
+    pub(crate) start: u32,
+    pub(crate) end: u32,
+}
+
+/// The actions of many sets, one set's behind the other's, in little memory. Behind the last probability that is kept
+/// all are 0.
 #[derive(Drop)]
 pub(crate) struct KeptActions {
     names: Texts,
@@ -25,35 +37,37 @@ pub(crate) struct KeptActions {
 }
 
 impl Model for KeptActions {
-    ghost use Rattle.std.specs.Prelude.{List};
+    ghost use Rattle.std.specs.Prelude.{◌≤◌, List, length};
     ghost use Rattle.def_file.specs.Content as content;
     ghost use Rattle.xg_game.specs.Actions.{actions_of};
 
     ghost Value = { List content.Action };
 
     ghost view = { λ k. actions_of k.names k.chances.items };
+
+    ghost invariant = { λ k. length k.chances.items ≤ length k.names };
 }
 
 impl KeptActions {
-    /// The same actions.
-    pub(crate) fn of(alloc: Global, actions: &Actions) -> Result<KeptActions, AllocError>
-        ensures { IfOk result (λ kept. kept ≡ actions.now) }
+    /// No actions.
+    pub(crate) fn new(alloc: Global) -> KeptActions
+        ensures { result ≡ [] }
     {
-        Ok(KeptActions {
-            names: names_of(alloc, actions)?,
-            chances: chances_of(alloc, actions)?,
-        })
+        KeptActions {
+            names: Texts::new(alloc),
+            chances: Vec::new(alloc),
+        }
     }
 
     /// How many actions there are.
-    pub(crate) fn len(&self) -> usize
+    fn len(&self) -> usize
         ensures { result ≡ length self.now }
     {
         self.names.len()
     }
 
     /// The action at `i`, which counts from 0.
-    pub(crate) fn get(&self, i: usize) -> ActionView<'_>
+    fn get(&self, i: usize) -> ActionView<'_>
         requires { i < length self.now }
         ensures { slice_get self.now i ≡ Some (action_seen result) }
     {
@@ -62,28 +76,103 @@ impl KeptActions {
             chance: chance_at(&self.chances, i),
         }
     }
+
+    /// The actions of a set.
+    pub(crate) fn of(&self, span: Span) -> ActionList<'_>
+        requires { IsWithin (length self.now) span }
+        ensures { result ≡ actions_in self.now span }
+    {
+        ActionList {
+            all: self,
+            start: span.start as usize,
+            end: span.end as usize,
+        }
+    }
+
+    /// Puts the actions of a set last. Where memory runs out, some of them may be there.
+    pub(crate) fn add(&mut self, actions: &Actions) -> Result<Span, AllocError>
+        ensures ok { OnOk result (self.new ≡ self.old ++ actions.now) }
+        ensures span { IfOk result (λ span. (span.start ≡ length self.old) × (span.end ≡ length self.new)) }
+        ensures kept { length self.old ≤ length self.new }
+    {
+        let start = self.len();
+        for i in 0..actions.len() {
+            let action = actions.get(i);
+            self.push(action.name.bytes(), action.chance)?;
+        }
+        span_of(start, self.len())
+    }
+
+    /// Puts an action last.
+    fn push(&mut self, name: &[u8], chance: Frac) -> Result<(), AllocError>
+        ensures ok { OnOk result (self.new ≡ self.old ++ action_with name.now chance ∷ []) }
+        ensures kept { length self.old ≤ length self.new }
+    {
+        let before = self.names.len();
+        self.names.push(name)?;
+        if is_zero(chance) {
+            return Ok(());
+        }
+        pad(&mut self.chances, before)?;
+        self.chances.push(chance)?;
+        Ok(())
+    }
 }
 
-/// The names of actions, in their order.
-fn names_of(alloc: Global, actions: &Actions) -> Result<Texts, AllocError>
-    ensures { IfOk result (λ names. names ≡ map (λ a. a.name) actions.now) }
-{
-    let mut names = Texts::new(alloc);
-    for i in 0..actions.len() {
-        names.push(actions.get(i).name.bytes())?;
-    }
-    Ok(names)
+/// The actions of a set.
+#[derive(Drop)]
+pub(crate) struct ActionList<'a> {
+    all: &'a KeptActions,
+    start: usize,
+    end: usize,
 }
 
-/// The probabilities of actions, in their order.
-fn chances_of(alloc: Global, actions: &Actions) -> Result<Vec<Frac>, AllocError>
-    ensures { IfOk result (λ chances. actions_of (map (λ a. a.name) actions.now) chances.items ≡ actions.now) }
-{
-    let mut chances = Vec::with_capacity(alloc, actions.len())?;
-    for i in 0..actions.len() {
-        chances.push(actions.get(i).chance)?;
+impl<'a> Model for ActionList<'a> {
+    ghost use Rattle.std.specs.Prelude.{◌<◌, ◌≤◌, ◌^◌, List, length, slice_range};
+    ghost use Rattle.def_file.specs.Content as content;
+
+    ghost Value = { List content.Action };
+
+    ghost view = { λ l. slice_range l.all.now l.start l.end };
+
+    ghost invariant = { λ l. (l.start ≤ l.end) × (l.end ≤ length l.all.now) × (l.end < 2 ^ 32) };
+}
+
+impl<'a> ActionList<'a> {
+    /// How many actions there are.
+    pub(crate) fn len(&self) -> usize
+        ensures { result ≡ length self.now }
+    {
+        self.end - self.start
     }
-    Ok(chances)
+
+    /// The action at `i`, which counts from 0.
+    pub(crate) fn get(&self, i: usize) -> ActionView<'a>
+        requires { i < length self.now }
+        ensures { slice_get self.now i ≡ Some (action_seen result) }
+    {
+        self.all.get(self.start + i)
+    }
+}
+
+/// The span of the actions from one place on and before another.
+fn span_of(start: usize, end: usize) -> Result<Span, AllocError>
+    requires { start ≤ end }
+    ensures { IfOk result (λ span. (span.start ≡ start) × (span.end ≡ end)) }
+{
+    if end > MOST_KEPT {
+        return Err(AllocError);
+    }
+    Ok(Span {
+        start: start as u32,
+        end: end as u32,
+    })
+}
+
+fn is_zero(number: Frac) -> bool
+    ensures { IsTrue result ↔ (number ≡ zero_fraction) }
+{
+    matches!(compare(number, zero()), Ordering::Equal)
 }
 
 /// The probability at `i`, which is 0 behind the last one.
@@ -95,4 +184,17 @@ fn chance_at(chances: &[Frac], i: usize) -> Frac
     } else {
         zero()
     }
+}
+
+/// Puts probabilities of 0 last, until there are so many.
+fn pad(chances: &mut Vec<Frac>, len: usize) -> Result<(), AllocError>
+    requires { length chances.old.items ≤ len }
+    ensures ok { OnOk result (length chances.new.items ≡ len) }
+    ensures same { GivesSame chances.old.items chances.new.items }
+    ensures within { length chances.new.items ≤ len }
+{
+    for _ in chances.len()..len {
+        chances.push(zero())?;
+    }
+    Ok(())
 }

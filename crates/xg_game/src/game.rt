@@ -139,7 +139,7 @@ impl Game {
         ensures { let entry = set_at (sets_of_kind kind self.now.sets) (set - 1) in
             option_map (λ b. b.now) result ≡ entry.name }
     {
-        bytes_of(&self.set(kind, set).name)
+        bytes_of(self.set(kind, set).name)
     }
 
     /// How many actions a set has.
@@ -149,7 +149,7 @@ impl Game {
         requires there { set ≤ length (sets_of_kind kind self.now.sets) }
         ensures { result ≡ length (set_at (sets_of_kind kind self.now.sets) (set - 1)).actions }
     {
-        self.set(kind, set).value.len() as u32
+        self.set(kind, set).actions.len() as u32
     }
 
     /// The name of an action of a set.
@@ -163,7 +163,7 @@ impl Game {
         ensures { let actions = (set_at (sets_of_kind kind self.now.sets) (set - 1)).actions in
             option_map (λ a. a.name) (slice_get actions (action - 1)) ≡ Some result.now }
     {
-        self.set(kind, set).value.get(action as usize - 1).name
+        self.set(kind, set).actions.get(action as usize - 1).name
     }
 
     /// The probability of an action of a chance set.
@@ -176,7 +176,7 @@ impl Game {
             option_map (λ a. a.chance) (slice_get actions (action - 1)) ≡ Some result }
     {
         self.set(Kind::Chance, set)
-            .value
+            .actions
             .get(action as usize - 1)
             .chance
     }
@@ -223,15 +223,15 @@ impl Game {
     }
 
     /// What is known of a set.
-    fn set(&self, kind: Kind, set: u32) -> &SetDescription
+    fn set(&self, kind: Kind, set: u32) -> SetDescription<'_>
         requires kind { kind ≢ Kind.Leaf }
         requires from_one { 1 ≤ set }
         requires there { set ≤ length (sets_of_kind kind self.now.sets) }
         ensures name { let entry = set_at (sets_of_kind kind self.now.sets) (set - 1) in
-            result.now.name ≡ entry.name }
+            result.name.now ≡ entry.name }
         ensures actions { let entry = set_at (sets_of_kind kind self.now.sets) (set - 1) in
-            result.now.value ≡ entry.actions }
-        ensures few { length result.now.value ≤ most_actions }
+            result.actions ≡ entry.actions }
+        ensures few { length result.actions ≤ most_actions }
     {
         self.sets.of(kind).get(set as usize - 1)
     }

@@ -6,7 +6,7 @@ ghost use Rattle.def_file.specs.Faults as faults;
 ghost use Rattle.xg_game.specs.Actions.{action_with};
 ghost use Rattle.xg_record.specs.Action.{action_of};
 
-use crate::actions::KeptActions;
+use crate::actions::ActionList;
 use std::cmp::Ordering;
 use xg_frac::{Frac, compare};
 use xg_lex::Text;
@@ -58,7 +58,7 @@ pub(crate) fn keep_name(kept: &mut Option<Text>, given: Option<Text>)
 }
 
 /// Whether actions are given that differ in their number, a name or a probability from those that are kept.
-pub(crate) fn actions_differ(kind: Kind, kept: &KeptActions, given: &Option<Actions>) -> bool
+pub(crate) fn actions_differ(kind: Kind, kept: &ActionList<'_>, given: &Option<Actions>) -> bool
     ensures { result ≡ faults.actions_differ kind kept.now given.now }
 {
     match given {
@@ -68,7 +68,7 @@ pub(crate) fn actions_differ(kind: Kind, kept: &KeptActions, given: &Option<Acti
 }
 
 /// Whether lists of actions are as long, and the same at each place.
-fn same_actions(kind: Kind, kept: &KeptActions, given: &Actions) -> bool
+fn same_actions(kind: Kind, kept: &ActionList<'_>, given: &Actions) -> bool
     ensures { result ≡ pointwise (faults.same_action kind) kept.now given.now }
 {
     if kept.len() != given.len() {

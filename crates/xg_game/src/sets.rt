@@ -6,9 +6,9 @@ ghost use Rattle.def_file.specs.Faults as faults;
 ghost use Rattle.xg_game.specs.Mentions.{set_mention};
 ghost use Rattle.xg_record.specs.Record.{record_of};
 
-use crate::actions::KeptActions;
+use crate::actions::{ActionList, KeptActions, Span};
 use crate::given::{actions_differ, name_differs};
-use crate::table::{Described, NumberTable};
+use crate::table::NumberTable;
 use std::alloc::{AllocError, Global};
 use std::marker::Model;
 use xg_lex::Text;
@@ -16,24 +16,30 @@ use xg_record::{Actions, Record};
 use xg_tree::{Kind, MOST_ACTIONS};
 
 /// What is known of a set: the first name that is given, and the actions of the first mention.
-pub(crate) type SetDescription = Described<KeptActions>;
+#[derive(Drop)]
+pub(crate) struct SetDescription<'a> {
+    pub(crate) name: &'a Option<Text>,
+    pub(crate) actions: ActionList<'a>,
+}
 
 /// The sets of chance or of a player by their numbers in the file, in the order of their first mentions.
 #[derive(Drop)]
 pub(crate) struct SetTable {
-    alloc: Global,
-    sets: NumberTable<KeptActions>,
+    sets: NumberTable<Span>,
+    actions: KeptActions,
 }
 
 impl Model for SetTable {
-    ghost use Rattle.std.specs.Prelude.{List, map};
+    ghost use Rattle.std.specs.Prelude.{List, length, map};
     ghost use Rattle.def_file.specs.Content.{SetEntry};
 
     ghost Value = { List SetEntry };
 
-    ghost use Rattle.xg_game.specs.Sets.{set_of};
+    ghost use Rattle.xg_game.specs.Sets.{AreWithin, set_of};
 
-    ghost view = { λ t. map set_of t.sets };
+    ghost view = { λ t. map (set_of t.actions) t.sets };
+
+    ghost invariant = { λ t. AreWithin (length t.actions) t.sets };
 }
 
 impl SetTable {
@@ -42,8 +48,8 @@ impl SetTable {
         ensures { result ≡ [] }
     {
         SetTable {
-            alloc,
             sets: NumberTable::new(alloc),
+            actions: KeptActions::new(alloc),
         }
     }
 
@@ -71,12 +77,16 @@ impl SetTable {
     }
 
     /// What is known of the set at `i`.
-    pub(crate) fn get(&self, i: usize) -> &SetDescription
+    pub(crate) fn get(&self, i: usize) -> SetDescription<'_>
         requires { i < length self.now }
-        ensures name { result.now.name ≡ (faults.set_at self.now i).name }
-        ensures actions { result.now.value ≡ (faults.set_at self.now i).actions }
+        ensures name { result.name.now ≡ (faults.set_at self.now i).name }
+        ensures actions { result.actions ≡ (faults.set_at self.now i).actions }
     {
-        self.sets.get(i)
+        let known = self.sets.get(i);
+        SetDescription {
+            name: &known.name,
+            actions: self.actions.of(known.value),
+        }
     }
 
     /// Whether the entry is the first to mention its set, and has no actions.
@@ -95,8 +105,8 @@ impl SetTable {
         match place {
             Some(i) => {
                 let kept = self.get(i);
-                name_differs(&kept.name, &entry.set_name)
-                    || actions_differ(kind, &kept.value, &entry.actions)
+                name_differs(kept.name, &entry.set_name)
+                    || actions_differ(kind, &kept.actions, &entry.actions)
             }
             None => false,
         }
@@ -126,7 +136,7 @@ impl SetTable {
         ensures { result ≡ adding.action_count self.now (record_of entry.now).set }
     {
         match place {
-            Some(i) => self.get(i).value.len() as u32,
+            Some(i) => self.get(i).actions.len() as u32,
             None => match &entry.actions {
                 Some(actions) => actions.len() as u32,
                 None => 0,
@@ -176,8 +186,8 @@ impl SetTable {
         ensures { let added : SetEntry = record { number = number; name = name; actions = actions } in
             OnOk result (self.new ≡ self.old ++ added ∷ []) }
     {
-        let kept = KeptActions::of(self.alloc, &actions)?;
-        self.sets.push(number, name, kept)
+        let span = self.actions.add(&actions)?;
+        self.sets.push(number, name, span)
     }
 }
 

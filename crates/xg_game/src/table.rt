@@ -1,5 +1,5 @@
 //! What is known of the sets or the outcomes of a game, by their numbers in the file.
-ghost use Rattle.std.specs.Prelude.{◌≡◌, ℕ, ◌+◌, ◌<◌, ◌^◌, [], ◌∷◌, ◌++◌, None, Some, length, nat_eq, position, slice_get, slice_set, IfSome, OnOk};
+ghost use Rattle.std.specs.Prelude.{◌≡◌, ℕ, ◌+◌, ◌<◌, ◌^◌, [], ◌∷◌, ◌++◌, None, Some, length, nat_eq, position, slice_get, slice_set, IfSome, OnOk, OnErr};
 ghost use Rattle.std.specs.Map.{keys_of, values_of};
 ghost use Rattle.def_file.specs.Adding.{kept_name};
 ghost use Rattle.xg_game.specs.declared.table.Described.{Described};
@@ -96,8 +96,9 @@ impl<D: Drop> NumberTable<D> {
     ) -> Result<(), AllocError>
         requires new { position (nat_eq number) (keys_of self.old) ≡ None }
         requires room { length self.old + 1 < 2 ^ 32 }
-        ensures { let described : Described D = record { name = name; value = value } in
+        ensures ok { let described : Described D = record { name = name; value = value } in
             OnOk result (self.new ≡ self.old ++ (number, described) ∷ []) }
+        ensures err { OnErr result (self.new ≡ self.old) }
     {
         self.known.reserve(1)?;
         self.numbers.push(number)?;

@@ -13,7 +13,7 @@ push-requires-clause-room g c =
     let long = sym (zip-length c.self.inside.numbers c.self.inside.known.items c.self.invariant) ∙ ap length c.self.view_is in
     omega (arith, long, c.requires.room)
 
-pub returns : goal.returns
-returns g c =
+pub returns-clause-ok : goal.returns-clause-ok
+returns-clause-ok g c =
     pushed c.self.inside.numbers c.push.new.self c.self.inside.known.items c.reserve.new.self.items c.push_reserved.new.self.items c.args.self.now c.args.number (record { name = c.args.name; value = c.args.value }) c.self.invariant
     c.in_ok-push.ensures.ok c.reserve.ensures.items c.push_reserved.ensures.items c.self.view_is

@@ -1,0 +1,52 @@
+use Rattle.std.proofs.Common.{◌≡◌, ◌≤◌, ◌+◌, ◌++◌, ◌∷◌, [], ℕ, List, length, ap, sym, ◌∙◌, arith}
+use Rattle.std.proofs.lemmas.List.{length-append}
+use Rattle.def_fraction.specs.Fraction.{Fraction}
+use Rattle.def_file.specs.Content as content
+use Rattle.def_file.specs.Content.{zero_fraction}
+use Rattle.xg_game.specs.Actions.{action_with, actions_of}
+use Rattle.xg_game.proofs.ActionLemmas.{chance_last, length-actions_of, named_last}
+use Rattle.xg_game.proofs.actions.KeptActions.push.Goals as goal
+
+-- no action is lost, whatever is kept of their probabilities
+grows : (names new : List (List ℕ)) (name : List ℕ) (chances now : List Fraction) (actions : List content.Action)
+    → actions_of names chances ≡ actions → new ≡ names ++ name ∷ [] → length actions ≤ length (actions_of new now)
+grows names new name chances now actions seen put =
+    let before : length actions ≡ length names = sym (ap (length {A = content.Action}) seen) ∙ length-actions_of names chances in
+    let size : length new ≡ length names + 1 = ap length put ∙ length-append names (name ∷ []) in
+    omega (arith, before, size, length-actions_of new now)
+
+pub returns-then-is_zero-clause-ok : goal.returns-then-is_zero-clause-ok
+returns-then-is_zero-clause-ok c =
+    let names : List (List ℕ) = c.self.inside.names in
+    let chances : List Fraction = c.self.inside.chances.items in
+    let none : zero_fraction ≡ c.args.chance = sym (c.is_zero.ensures.0 c.if-is_zero.true) in
+    ap (λ (ns : List (List ℕ)). actions_of ns chances) c.in_ok-push.ensures.ok
+    ∙ named_last names chances c.args.name.now c.self.invariant
+    ∙ ap (λ (xs : List content.Action). xs ++ action_with c.args.name.now zero_fraction ∷ []) c.self.view_is
+    ∙ ap (λ (chance : Fraction). c.args.self.now ++ action_with c.args.name.now chance ∷ []) none
+
+pub returns-then-is_zero-clause-kept : goal.returns-then-is_zero-clause-kept
+returns-then-is_zero-clause-kept c =
+    grows c.self.inside.names c.push.new.self c.args.name.now c.self.inside.chances.items c.self.inside.chances.items c.args.self.now c.self.view_is c.in_ok-push.ensures.ok
+
+pub returns-in_err-pad-clause-kept : goal.returns-in_err-pad-clause-kept
+returns-in_err-pad-clause-kept c =
+    grows c.self.inside.names c.push.new.self c.args.name.now c.self.inside.chances.items c.pad.new.chances.items c.args.self.now c.self.view_is c.in_ok-push.ensures.ok
+
+pub returns-in_err-push-2-clause-kept : goal.returns-in_err-push-2-clause-kept
+returns-in_err-push-2-clause-kept c =
+    grows c.self.inside.names c.push.new.self c.args.name.now c.self.inside.chances.items c.push-2.new.self.items c.args.self.now c.self.view_is c.in_ok-push.ensures.ok
+
+pub returns-clause-ok : goal.returns-clause-ok
+returns-clause-ok c =
+    let names : List (List ℕ) = c.self.inside.names in
+    let before : c.len-before.result ≡ length names = c.len-before.ensures in
+    ap (λ (ns : List (List ℕ)). actions_of ns c.push-2.new.self.items) c.in_ok-push.ensures.ok
+    ∙ ap (actions_of (names ++ c.args.name.now ∷ [])) c.in_ok-push-2.ensures.items
+    ∙ chance_last names c.pad.new.chances.items c.args.name.now c.args.chance (c.in_ok-pad.ensures.ok ∙ before)
+    ∙ ap (λ (xs : List content.Action). xs ++ action_with c.args.name.now c.args.chance ∷ [])
+    (c.in_ok-pad.ensures.same names (omega (arith, c.in_ok-pad.ensures.ok, before)) ∙ c.self.view_is)
+
+pub returns-clause-kept : goal.returns-clause-kept
+returns-clause-kept c =
+    grows c.self.inside.names c.push.new.self c.args.name.now c.self.inside.chances.items c.push-2.new.self.items c.args.self.now c.self.view_is c.in_ok-push.ensures.ok

@@ -1,0 +1,12 @@
+use Rattle.std.proofs.Common.{◌≡◌, ◌+◌, ◌∷◌, [], length, ap, ◌∙◌, arith}
+use Rattle.std.proofs.lemmas.List.{length-append}
+use Rattle.xg_game.proofs.ActionLemmas.{zero_put}
+use Rattle.xg_game.proofs.actions.pad.Goals as goal
+
+pub loop-preserved : goal.loop-preserved
+loop-preserved c =
+    let size : length c.push.new.self.items ≡ length c.loop.chances.items + 1 =
+    ap length c.in_ok-push.ensures.items ∙ length-append c.loop.chances.items (c.zero.result ∷ []) in (
+      omega (arith, size, c.loop.invariant.0),
+      zero_put c.args.chances.now.items c.loop.chances.items c.push.new.self.items c.zero.result c.zero.ensures c.in_ok-push.ensures.items c.loop.invariant.1,
+    )
