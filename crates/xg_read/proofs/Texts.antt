@@ -1,13 +1,12 @@
 -- The token of a text, and its inside.
-use Rattle.std.proofs.Common.{◌≡◌, ◌≢◌, ℕ, ◌+◌, ◌-◌, ◌≤◌, min, Bool, true, false, List, [], ◌∷◌, ◌++◌, length, take, drop, Result, Ok, Err, refl, sym, ◌∙◌, ap, subst, arith}
+use Rattle.std.proofs.Common.{◌≡◌, ◌≢◌, ℕ, ◌+◌, ◌-◌, ◌≤◌, true, List, [], ◌∷◌, ◌++◌, length, drop, refl, ap, subst, arith}
 use Rattle.std.specs.Prelude.{slice_range}
 use Rattle.std.proofs.lemmas.List.{length-append, length-take}
 use Rattle.def_file_tokens.specs.declared.Token.{Token}
 use Rattle.def_file_tokens.specs.declared.Token.TheVariants as kinds
 use Rattle.def_file_tokens.specs.declared.Lexeme.{Lexeme}
-use Rattle.def_file_tokens.specs.declared.LexFault.{LexFault}
 use Rattle.def_file_tokens.specs.Texts.{IsInside}
-use Rattle.def_file_tokens.specs.Spelling.{IsLexemeFrom, IsToken, IsQuoted}
+use Rattle.def_file_tokens.specs.Spelling.{IsLexemeFrom, IsToken}
 use Rattle.def_file.specs.Reading.{is_kind}
 
 pub kind_is_text : (kind : Token) → is_kind kinds.Text kind ≡ true → kind ≡ kinds.Text

@@ -1,14 +1,14 @@
 //! The entries of a file.
 ghost use Rattle.def_fraction.specs.Fraction.{most};
 ghost use Rattle.std.specs.Prelude.{◌≡◌, ◌≤◌, IfOk};
-ghost use Rattle.def_file.specs.Reading.{chance_entry_at, entry_at, entry_behind, outcome_mention_at, personal_entry_at, set_mention_at, terminal_entry_at};
+ghost use Rattle.def_file.specs.Reading.{chance_entry_at, entry_at, outcome_mention_at, personal_entry_at, set_mention_at, terminal_entry_at};
 ghost use Rattle.xg_record.specs.Record.{record_of};
-ghost use Rattle.xg_read.specs.Gives.{GivesFor};
+ghost use Rattle.xg_read.specs.Gives.{GivesFor, GivesHead};
 ghost use Rattle.xg_read.specs.Mentions.{HasNumbers, outcome_mention_of, set_mention_of};
 
 use crate::reader::Reader;
 use crate::wanted::Wanted;
-use def_file::EntryKind;
+use def_file::{EntryKind, FileFault};
 use std::alloc::Global;
 use xg_game::Refused;
 use xg_lex::{Text, Token};
@@ -68,7 +68,7 @@ impl<'a> Reader<'a> {
 
     /// A chance entry behind its word.
     #[tactic(auto, unfolding(def_file::specs::Reading::chance_entry_at))]
-    fn chance_entry(&mut self, alloc: Global) -> Result<Record, Refused>
+    pub fn chance_entry(&mut self, alloc: Global) -> Result<Record, Refused>
         ensures exact { GivesFor record_of result self.new.at (chance_entry_at self.old.whole self.old.at) }
         ensures whole { self.new.whole ≡ self.old.whole }
         ensures numbers { IfOk result HasNumbers }
@@ -81,7 +81,7 @@ impl<'a> Reader<'a> {
 
     /// A personal entry behind its word.
     #[tactic(auto, unfolding(def_file::specs::Reading::personal_entry_at))]
-    fn personal_entry(&mut self, alloc: Global) -> Result<Record, Refused>
+    pub fn personal_entry(&mut self, alloc: Global) -> Result<Record, Refused>
         ensures exact { GivesFor record_of result self.new.at (personal_entry_at self.old.whole self.old.at) }
         ensures whole { self.new.whole ≡ self.old.whole }
         ensures numbers { IfOk result HasNumbers }
@@ -95,7 +95,7 @@ impl<'a> Reader<'a> {
 
     /// A terminal entry behind its word.
     #[tactic(auto, unfolding(def_file::specs::Reading::terminal_entry_at))]
-    fn terminal_entry(&mut self, alloc: Global) -> Result<Record, Refused>
+    pub fn terminal_entry(&mut self, alloc: Global) -> Result<Record, Refused>
         ensures exact { GivesFor record_of result self.new.at (terminal_entry_at self.old.whole self.old.at) }
         ensures whole { self.new.whole ≡ self.old.whole }
         ensures numbers { IfOk result HasNumbers }
@@ -115,21 +115,20 @@ impl<'a> Reader<'a> {
         })
     }
 
-    /// The next entry.
+    /// The word of the next entry, which tells its kind.
     #[tactic(auto, unfolding(def_file::specs::Reading::entry_at))]
-    pub fn entry(&mut self, alloc: Global) -> Result<Record, Refused>
-        ensures exact { GivesFor record_of result self.new.at (entry_at self.old.whole self.old.at) }
+    pub fn head(&mut self) -> Result<EntryKind, FileFault>
+        ensures exact { GivesHead result self.new.at self.old.whole self.old.at }
         ensures whole { self.new.whole ≡ self.old.whole }
-        ensures numbers { IfOk result HasNumbers }
     {
         let head = self.token(Wanted::Head)?;
         if self.is_exact(Token::Word, b"c", head) {
-            return self.chance_entry(alloc);
+            return Ok(EntryKind::Chance);
         }
         if self.is_exact(Token::Word, b"p", head) {
-            return self.personal_entry(alloc);
+            return Ok(EntryKind::Personal);
         }
-        self.terminal_entry(alloc)
+        Ok(EntryKind::Leaf)
     }
 }
 

@@ -3,13 +3,13 @@ ghost use Rattle.std.specs.Prelude.{◌≡◌, ◌≢◌, ◌-◌, ◌≤◌, fa
 ghost use Rattle.def_tree.specs.Tree.{wanted};
 ghost use Rattle.def_file.specs.declared.FileFault.{FileFault};
 ghost use Rattle.def_file.specs.Content.{GameFile};
-ghost use Rattle.def_file.specs.Reading.{entries_from, game_at, most_bytes};
+ghost use Rattle.def_file.specs.Reading.{chance_entry_at, entries_from, game_at, most_bytes, personal_entry_at, terminal_entry_at};
 ghost use Rattle.def_file_form.specs.Laws.{StandsFor};
 ghost use Rattle.def_file_fault.specs.First.{FirstFault};
-ghost use Rattle.xg_read.specs.Gives.{Answers, GivesFor, GivesNext, next_at};
+ghost use Rattle.xg_read.specs.Gives.{Answers, GivesFor, GivesNext, next_at, next_of};
 
 use crate::reader::Reader;
-use def_file::FileFault;
+use def_file::{EntryKind, FileFault};
 use std::alloc::Global;
 use xg_game::{Game, GameMaker, Refused};
 use xg_tree::MOST_NODES;
@@ -87,8 +87,7 @@ fn read_entries(
 }
 
 /// Reads the next entry and puts it last.
-// Apart from the loop, so that what one entry needs isn't cleared for all of them.
-#[inline(never)]
+// Each kind of entries has a function of its own, so that a leaf doesn't clear what a set needs.
 fn take_entry(alloc: Global, reader: &mut Reader<'_>, maker: &mut GameMaker) -> Result<(), Refused>
     requires incomplete { wanted 1 maker.old.contents.nodes ≢ 0 }
     requires unspent { maker.old.spent ≡ false }
@@ -97,6 +96,66 @@ fn take_entry(alloc: Global, reader: &mut Reader<'_>, maker: &mut GameMaker) -> 
     ensures prologue { maker.new.prologue ≡ maker.old.prologue }
     ensures whole { reader.new.whole ≡ reader.old.whole }
 {
-    let entry = reader.entry(alloc)?;
+    match reader.head()? {
+        EntryKind::Chance => take_chance_entry(alloc, reader, maker),
+        EntryKind::Personal => take_personal_entry(alloc, reader, maker),
+        EntryKind::Leaf => take_terminal_entry(alloc, reader, maker),
+    }
+}
+
+/// Reads a chance entry behind its word and puts it last.
+#[inline(never)]
+fn take_chance_entry(
+    alloc: Global,
+    reader: &mut Reader<'_>,
+    maker: &mut GameMaker,
+) -> Result<(), Refused>
+    requires incomplete { wanted 1 maker.old.contents.nodes ≢ 0 }
+    requires unspent { maker.old.spent ≡ false }
+    ensures exact { GivesNext result maker.new.contents reader.new.at
+        (next_of maker.old.contents (chance_entry_at reader.old.whole reader.old.at)) }
+    ensures unspent { OnOk result (maker.new.spent ≡ false) }
+    ensures prologue { maker.new.prologue ≡ maker.old.prologue }
+    ensures whole { reader.new.whole ≡ reader.old.whole }
+{
+    let entry = reader.chance_entry(alloc)?;
+    maker.push(entry)
+}
+
+/// Reads a personal entry behind its word and puts it last.
+#[inline(never)]
+fn take_personal_entry(
+    alloc: Global,
+    reader: &mut Reader<'_>,
+    maker: &mut GameMaker,
+) -> Result<(), Refused>
+    requires incomplete { wanted 1 maker.old.contents.nodes ≢ 0 }
+    requires unspent { maker.old.spent ≡ false }
+    ensures exact { GivesNext result maker.new.contents reader.new.at
+        (next_of maker.old.contents (personal_entry_at reader.old.whole reader.old.at)) }
+    ensures unspent { OnOk result (maker.new.spent ≡ false) }
+    ensures prologue { maker.new.prologue ≡ maker.old.prologue }
+    ensures whole { reader.new.whole ≡ reader.old.whole }
+{
+    let entry = reader.personal_entry(alloc)?;
+    maker.push(entry)
+}
+
+/// Reads a terminal entry behind its word and puts it last.
+#[inline(never)]
+fn take_terminal_entry(
+    alloc: Global,
+    reader: &mut Reader<'_>,
+    maker: &mut GameMaker,
+) -> Result<(), Refused>
+    requires incomplete { wanted 1 maker.old.contents.nodes ≢ 0 }
+    requires unspent { maker.old.spent ≡ false }
+    ensures exact { GivesNext result maker.new.contents reader.new.at
+        (next_of maker.old.contents (terminal_entry_at reader.old.whole reader.old.at)) }
+    ensures unspent { OnOk result (maker.new.spent ≡ false) }
+    ensures prologue { maker.new.prologue ≡ maker.old.prologue }
+    ensures whole { reader.new.whole ≡ reader.old.whole }
+{
+    let entry = reader.terminal_entry(alloc)?;
     maker.push(entry)
 }

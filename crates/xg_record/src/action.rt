@@ -50,13 +50,6 @@ impl Actions {
         Ok(())
     }
 
-    /// Gives back memory that isn't needed for these actions.
-    pub fn shrink_to_fit(&mut self)
-        ensures { self.new ≡ self.old }
-    {
-        self.actions.shrink_to_fit();
-    }
-
     /// How many actions there are.
     pub fn len(&self) -> usize
         ensures { result ≡ length self.now }

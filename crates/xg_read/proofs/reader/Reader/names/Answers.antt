@@ -1,4 +1,4 @@
-use Rattle.std.proofs.Common.{◌≡◌, ◌+◌, ◌-◌, [], ◌∷◌, ◌++◌, length, sym, ◌∙◌, arith}
+use Rattle.std.proofs.Common.{◌+◌, ◌-◌, [], ◌∷◌, ◌++◌, length, sym, ◌∙◌, arith}
 use Rattle.xg_read.proofs.Names.{names_next}
 use Rattle.xg_read.proofs.reader.Reader.names.Goals as goal
 
