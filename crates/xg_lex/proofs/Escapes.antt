@@ -48,6 +48,12 @@ unfolding unescaped
 unescaped-empty [] empty = refl
 unescaped-empty (b ∷ bs) empty = absurd (omega arith)
 
+-- of no bytes all stay
+pub unescaped-stays : (bs : List ℕ) → length bs ≡ 0 → unescaped bs ≡ bs
+unfolding unescaped
+unescaped-stays [] empty = refl
+unescaped-stays (b ∷ bs) empty = absurd (omega arith)
+
 escape-cons : (bs : List ℕ) → unescaped (92 ∷ 34 ∷ bs) ≡ 34 ∷ unescaped bs
 unfolding unescaped
 escape-cons bs = refl

@@ -2,3 +2,4 @@ mod Closing
 mod TokenAt
 mod NextByte
 mod Escapes
+mod Views

@@ -5,7 +5,7 @@ pub mod text;
 pub mod tokens;
 
 pub use def_file_tokens::{LexFault, Lexeme, Token};
-pub use text::{Text, unescape};
+pub use text::{Text, TextView, unescape};
 pub use tokens::Tokens;
 
 #[cfg(test)]
@@ -83,6 +83,27 @@ mod tests {
         assert_eq!(rt; lexeme.kind, Token::Text);
         let text = unescape(rt.alloc(), &bytes[lexeme.start + 1..lexeme.end - 1])?;
         assert_eq!(rt; text.bytes(), b"\\\"a\\b\"".as_slice());
+        Ok(())
+    }
+
+    #[test]
+    fn a_text_is_compared_where_it_stands(rt: HostRuntime) -> Result<(), Fail> {
+        let bytes = b"\"a\\\"b\\\\\"\" \"a\\b\"";
+        let mut tokens = Tokens::new(bytes);
+        let lexeme = tokens.next()?;
+        assert_eq!(rt; lexeme.kind, Token::Text);
+        let text = TextView::of(&bytes[lexeme.start + 1..lexeme.end - 1]);
+        assert!(rt; text.plain().is_none());
+        assert!(rt; text.is(b"a\"b\\\"".as_slice()));
+        assert!(rt; !text.is(b"a\"b\\".as_slice()));
+        assert!(rt; !text.is(b"a\"b\\\"\"".as_slice()));
+        assert!(rt; !text.is(b"a\\\"b\\\\\"".as_slice()));
+        let lexeme = tokens.next()?;
+        assert_eq!(rt; lexeme.kind, Token::Text);
+        let text = TextView::of(&bytes[lexeme.start + 1..lexeme.end - 1]);
+        assert!(rt; text.plain().is_some());
+        assert!(rt; text.is(b"a\\b".as_slice()));
+        assert!(rt; !text.is(b"ab".as_slice()));
         Ok(())
     }
 }

@@ -1,5 +1,6 @@
-ghost use Rattle.std.specs.Prelude.{◌≡◌, List, IfOk};
-ghost use Rattle.def_file_tokens.specs.Texts.{IsInside, EndsPlainly, unescaped};
+ghost use Rattle.std.specs.Prelude.{◌≡◌, ◌+◌, ◌<◌, ◌==◌, ◌&&◌, List, drop, length, slice_index, IfOk, IfSome, nat_eq, false};
+ghost use Rattle.std.specs.Cmp.Lexicographic.{pointwise};
+ghost use Rattle.def_file_tokens.specs.Texts.{IsInside, EndsPlainly, begins_with_mark, unescaped};
 
 use memchr::memchr;
 use std::alloc::{AllocError, Global};
@@ -30,6 +31,144 @@ impl Text {
     {
         &self.bytes
     }
+
+    /// The text, to be read where it stands.
+    pub fn view(&self) -> TextView<'_>
+        ensures { result ≡ self.now }
+    {
+        TextView {
+            bytes: &self.bytes,
+            escaped: false,
+        }
+    }
+}
+
+/// A text that stands elsewhere: in a `Text`, or in a file, where quotation marks may have a backslash before them.
+#[derive(Drop)]
+pub struct TextView<'a> {
+    bytes: &'a [u8],
+    // Whether the bytes are an inside with quotation marks.
+    escaped: bool,
+}
+
+impl<'a> Model for TextView<'a> {
+    ghost use Rattle.std.specs.Prelude.{ℕ, List};
+    ghost use Rattle.xg_lex.specs.Viewed.{IsViewed, viewed};
+
+    ghost Value = { List ℕ };
+
+    ghost view = { λ t. viewed t.escaped t.bytes.now };
+
+    ghost invariant = { λ t. IsViewed t.escaped t.bytes.now };
+}
+
+impl<'a> TextView<'a> {
+    /// The text that the inside of a text token stands for.
+    #[inline]
+    pub fn of(raw: &'a [u8]) -> TextView<'a>
+        requires { IsInside raw.now }
+        ensures { result ≡ unescaped raw.now }
+    {
+        TextView {
+            bytes: raw,
+            escaped: has_mark(raw),
+        }
+    }
+
+    /// The same text.
+    pub fn again(&self) -> TextView<'a>
+        ensures { result ≡ self.now }
+    {
+        TextView {
+            bytes: self.bytes,
+            escaped: self.escaped,
+        }
+    }
+
+    /// Whether these are the text's bytes.
+    #[inline]
+    pub fn is(&self, bytes: &[u8]) -> bool
+        ensures { result ≡ pointwise nat_eq bytes.now self.now }
+    {
+        if self.escaped {
+            return stands_for(self.bytes, bytes);
+        }
+        bytes == self.bytes
+    }
+
+    /// The text's bytes, where they stand somewhere as they are.
+    #[inline]
+    pub fn plain(&self) -> Option<&'a [u8]>
+        ensures { IfSome result (λ bytes. bytes.now ≡ self.now) }
+    {
+        if self.escaped {
+            return None;
+        }
+        Some(self.bytes)
+    }
+
+    /// A text of the same bytes.
+    pub fn to_text(&self, alloc: Global) -> Result<Text, AllocError>
+        ensures { IfOk result (λ text. text ≡ self.now) }
+    {
+        if self.escaped {
+            return unescape(alloc, self.bytes);
+        }
+        let bytes = copied(alloc, self.bytes)?;
+        Ok(Text { bytes })
+    }
+}
+
+/// Whether there is a quotation mark. Most nodes have no name, and no byte.
+#[inline]
+fn has_mark(raw: &[u8]) -> bool
+    ensures { result ≡ false → IsInside raw.now → unescaped raw.now ≡ raw.now }
+{
+    if raw.is_empty() {
+        return false;
+    }
+    match memchr(b'"', raw) {
+        Some(_) => true,
+        None => false,
+    }
+}
+
+fn copied(alloc: Global, bytes: &[u8]) -> Result<Vec<u8>, AllocError>
+    ensures { IfOk result (λ copy. copy.items ≡ bytes.now) }
+{
+    let mut copy = Vec::new(alloc);
+    copy.extend_from_slice(bytes)?;
+    Ok(copy)
+}
+
+/// Whether an inside stands for these bytes.
+#[inline(never)]
+fn stands_for(raw: &[u8], bytes: &[u8]) -> bool
+    requires { IsInside raw.now }
+    ensures { result ≡ pointwise nat_eq bytes.now (unescaped raw.now) }
+{
+    let mut at = 0;
+    for i in 0..raw.len() {
+        if is_escape(raw, i) {
+            continue;
+        }
+        if at == bytes.len() {
+            return false;
+        }
+        if bytes[at] != raw[i] {
+            return false;
+        }
+        at += 1;
+    }
+    at == bytes.len()
+}
+
+/// Whether a backslash stands at `i`, right before a quotation mark.
+fn is_escape(raw: &[u8], i: usize) -> bool
+    requires { i < length raw.now }
+    ensures { result ≡ (slice_index raw.now i == 92) && begins_with_mark (drop (i + 1) raw.now) }
+{
+    raw[i] == b'\\' && i + 1 < raw.len() && raw[i + 1] == b'"'
 }
 
 /// The text that the inside of a text token stands for: `\"` becomes a quotation mark, and all else stays.
