@@ -1,2 +1,4 @@
 pub mod Action
 pub mod Record
+pub mod Entry
+pub mod Seen

@@ -2,12 +2,16 @@
 #![tactic(auto)]
 
 mod action;
+mod entry;
 mod payoffs;
 mod record;
 #[cfg(test)]
 mod tests;
+mod views;
 
 pub use action::{Action, Actions};
 pub use def_file::EntryKind;
+pub use entry::{ActionsView, Entry};
 pub use payoffs::Payoffs;
 pub use record::Record;
+pub use views::{ActionView, ActionViews};

@@ -39,6 +39,13 @@ impl Payoffs {
         Ok(())
     }
 
+    /// Takes all payoffs out. Their memory stays, for those that come next.
+    pub fn clear(&mut self)
+        ensures { self.new ≡ [] }
+    {
+        self.payoffs.clear();
+    }
+
     /// How many payoffs there are.
     pub fn len(&self) -> usize
         ensures { result ≡ length self.now }

@@ -29,6 +29,10 @@ fn payoffs_keep_their_order(rt: HostRuntime) -> Result<(), Fail> {
     payoffs.push(one_over(4))?;
     assert_eq!(rt; payoffs.len(), 2);
     assert_eq!(rt; payoffs.get(1), one_over(4));
+    payoffs.clear();
+    assert_eq!(rt; payoffs.len(), 0);
+    payoffs.push(one_over(3))?;
+    assert_eq!(rt; payoffs.get(0), one_over(3));
     assert_eq!(rt; whole(0).is_ok(), true);
     Ok(())
 }
