@@ -21,6 +21,11 @@ pub on_ok : {T E P Q : Type 0} (r : Result T E) → (P → Q) → OnOk r P → O
 on_ok (Ok x) f on = f on
 on_ok (Err x) f on = tt
 
+-- and from an error
+pub on_err : {T E P Q : Type 0} (r : Result T E) → (P → Q) → OnErr r P → OnErr r Q
+on_err (Ok x) f on = tt
+on_err (Err x) f on = f on
+
 -- within a list there is an element
 pub there : {X : Type 0} (xs : List X) (i : ℕ) → i < length xs → (x : X) × (slice_get xs i ≡ Some x)
 there [] i within = absurd (omega arith)
@@ -85,12 +90,20 @@ module _ (all : List Action) where
   set_value es i kept at = value_seen (set_of all) (λ s. s.number) (λ e. refl) es i kept no_set at
 
   -- a set with the first name that is given to it
-  pub set_named : (es : List (ℕ × KnownSet)) (i : ℕ) (e : ℕ × KnownSet) (given : Option (List ℕ))
+  set_named : (es : List (ℕ × KnownSet)) (i : ℕ) (e : ℕ × KnownSet) (given : Option (List ℕ))
       → slice_get es i ≡ Some e
       → map (set_of all) (set es i (e.0, record e.1 { name = kept_name e.1.name given })) ≡ set (map (set_of all) es) i (record (set_at (map (set_of all) es) i) { name = kept_name (set_at (map (set_of all) es) i).name given })
   set_named es i e given at =
       map-set (set_of all) es i (e.0, record e.1 { name = kept_name e.1.name given })
       ∙ ap (λ (s : SetEntry). set (map (set_of all) es) i (record s { name = kept_name s.name given })) (sym (seen_at (set_of all) es i e no_set at))
+
+-- and in place of the set there
+pub set_renamed : (all : List Action) (es new : List (ℕ × KnownSet)) (table : List SetEntry) (i : ℕ) (e : ℕ × KnownSet) (given : Option (List ℕ))
+    → slice_get es i ≡ Some e → map (set_of all) es ≡ table → new ≡ set es i (e.0, record e.1 { name = kept_name e.1.name given })
+    → map (set_of all) new ≡ set table i (record (set_at table i) { name = kept_name (set_at table i).name given })
+set_renamed all es new table i e given at seen put =
+    ap (map (set_of all)) put ∙ set_named all es i e given at
+    ∙ ap (λ (ss : List SetEntry). set ss i (record (set_at ss i) { name = kept_name (set_at ss i).name given })) seen
 
 -- the actions of the sets are still within more of them
 pub within_more : (size more : ℕ) (es : List (ℕ × KnownSet)) → size ≤ more → AreWithin size es → AreWithin more es
@@ -113,12 +126,19 @@ within_put (Ok x) size more es new e within grow last ok err =
 within_put (Err x) size more es new e within grow last ok err = subst (AreWithin more) (sym err) (within_more size more es grow within)
 
 -- and of a set that gets a name
-pub within_named : (size : ℕ) (es : List (ℕ × KnownSet)) (i : ℕ) (e : ℕ × KnownSet) (name : Option (List ℕ))
+within_named : (size : ℕ) (es : List (ℕ × KnownSet)) (i : ℕ) (e : ℕ × KnownSet) (name : Option (List ℕ))
     → slice_get es i ≡ Some e → AreWithin size es → AreWithin size (set es i (e.0, record e.1 { name = name }))
 within_named size [] i e name at within = cc
 within_named size (x ∷ es) zero e name at within =
     let same : x ≡ e = cc in (subst (λ (y : ℕ × KnownSet). IsWithin size y.1.value) same within.0, within.1)
 within_named size (x ∷ es) (suc i) e name at within = (within.0, within_named size es i e name at within.1)
+
+-- or would get one
+pub within_given : {T E : Type 0} (r : Result T E) (size : ℕ) (es new : List (ℕ × KnownSet)) (i : ℕ) (e : ℕ × KnownSet) (name : Option (List ℕ))
+    → slice_get es i ≡ Some e → AreWithin size es → OnOk r (new ≡ set es i (e.0, record e.1 { name = name })) → OnErr r (new ≡ es)
+    → AreWithin size new
+within_given (Ok x) size es new i e name at within ok err = subst (AreWithin size) (sym ok) (within_named size es i e name at within)
+within_given (Err x) size es new i e name at within ok err = subst (AreWithin size) (sym err) within
 
 -- those of the set at a place
 pub within_at : (size : ℕ) (es : List (ℕ × KnownSet)) (i : ℕ) (known : KnownSet) → slice_get (values_of es) i ≡ Some known
@@ -172,9 +192,17 @@ pub outcome_added : (es : List (ℕ × KnownOutcome)) (e : ℕ × KnownOutcome)
 outcome_added es e = map-append outcome_of es (e ∷ [])
 
 -- an outcome with the first name that is given to it
-pub outcome_named : (es : List (ℕ × KnownOutcome)) (i : ℕ) (e : ℕ × KnownOutcome) (given : Option (List ℕ))
+outcome_named : (es : List (ℕ × KnownOutcome)) (i : ℕ) (e : ℕ × KnownOutcome) (given : Option (List ℕ))
     → slice_get es i ≡ Some e
     → map outcome_of (set es i (e.0, record e.1 { name = kept_name e.1.name given })) ≡ set (map outcome_of es) i (record (outcome_at (map outcome_of es) i) { name = kept_name (outcome_at (map outcome_of es) i).name given })
 outcome_named es i e given at =
     map-set outcome_of es i (e.0, record e.1 { name = kept_name e.1.name given })
     ∙ ap (λ (s : OutcomeEntry). set (map outcome_of es) i (record s { name = kept_name s.name given })) (sym (seen_at outcome_of es i e null_outcome at))
+
+-- and in place of the outcome there
+pub outcome_renamed : (es new : List (ℕ × KnownOutcome)) (table : List OutcomeEntry) (i : ℕ) (e : ℕ × KnownOutcome) (given : Option (List ℕ))
+    → slice_get es i ≡ Some e → map outcome_of es ≡ table → new ≡ set es i (e.0, record e.1 { name = kept_name e.1.name given })
+    → map outcome_of new ≡ set table i (record (outcome_at table i) { name = kept_name (outcome_at table i).name given })
+outcome_renamed es new table i e given at seen put =
+    ap (map outcome_of) put ∙ outcome_named es i e given at
+    ∙ ap (λ (ss : List OutcomeEntry). set ss i (record (outcome_at ss i) { name = kept_name (outcome_at ss i).name given })) seen

@@ -2,7 +2,7 @@
 use Rattle.std.specs.Prelude.{◌≡◌, ℕ, ◌≤◌, List, [], ◌∷◌, length, slice_range}
 use Rattle.def_fraction.specs.Fraction.{Fraction}
 use Rattle.def_file.specs.Content.{Action, zero_fraction}
-use Rattle.xg_game.specs.declared.actions.ActionView.{ActionView}
+use Rattle.xg_game.specs.declared.actions.KeptAction.{KeptAction}
 use Rattle.xg_game.specs.declared.actions.Span.{Span}
 
 -- an action that has no probability of its own has 0
@@ -14,8 +14,8 @@ actions_of (name ∷ names) (chance ∷ chances) = record { name = name; chance 
 abbrev pub action_with : List ℕ → Fraction → Action
 action_with name chance = record { name = name; chance = chance }
 
-abbrev pub action_seen : ActionView → Action
-action_seen a = action_with a.name.now a.chance
+abbrev pub action_kept : KeptAction → Action
+action_kept a = action_with a.name.now a.chance
 
 -- the actions of a set among those of all sets
 abbrev pub actions_in : List Action → Span → List Action

@@ -1,7 +1,8 @@
 //! The actions of sets, as a game keeps them.
 ghost use Rattle.std.specs.Prelude.{◌≡◌, ◌↔◌, ◌<◌, ◌≤◌, [], ◌∷◌, ◌++◌, length, slice_get, slice_index_or, IfOk, IsTrue, OnOk, Some};
 ghost use Rattle.def_file.specs.Content.{zero_fraction};
-ghost use Rattle.xg_game.specs.Actions.{GivesSame, IsWithin, action_seen, action_with, actions_in};
+ghost use Rattle.xg_game.specs.Actions.{GivesSame, IsWithin, action_kept, action_with, actions_in};
+ghost use Rattle.xg_record.specs.Entry.{actions_seen};
 
 use crate::outcomes::zero;
 use crate::texts::Texts;
@@ -9,14 +10,15 @@ use std::alloc::{AllocError, Global};
 use std::cmp::Ordering;
 use std::marker::Model;
 use xg_frac::{Frac, compare};
-use xg_record::Actions;
+use xg_lex::TextView;
+use xg_record::ActionsView;
 
 /// The greatest number of actions of all sets of a kind: more count as more than there is memory for.
 const MOST_KEPT: usize = 0xFFFF_FFFF;
 
 /// An action of a set.
 #[derive(Clone, Copy)]
-pub(crate) struct ActionView<'a> {
+pub(crate) struct KeptAction<'a> {
     pub(crate) name: &'a [u8],
     pub(crate) chance: Frac,
 }
@@ -67,11 +69,11 @@ impl KeptActions {
     }
 
     /// The action at `i`, which counts from 0.
-    fn get(&self, i: usize) -> ActionView<'_>
+    fn get(&self, i: usize) -> KeptAction<'_>
         requires { i < length self.now }
-        ensures { slice_get self.now i ≡ Some (action_seen result) }
+        ensures { slice_get self.now i ≡ Some (action_kept result) }
     {
-        ActionView {
+        KeptAction {
             name: self.names.get(i),
             chance: chance_at(&self.chances, i),
         }
@@ -90,26 +92,30 @@ impl KeptActions {
     }
 
     /// Puts the actions of a set last. Where memory runs out, some of them may be there.
-    pub(crate) fn add(&mut self, actions: &Actions) -> Result<Span, AllocError>
-        ensures ok { OnOk result (self.new ≡ self.old ++ actions.now) }
+    pub(crate) fn add(
+        &mut self,
+        alloc: Global,
+        actions: &ActionsView<'_>,
+    ) -> Result<Span, AllocError>
+        ensures ok { OnOk result (self.new ≡ self.old ++ actions_seen actions.now) }
         ensures span { IfOk result (λ span. (span.start ≡ length self.old) × (span.end ≡ length self.new)) }
         ensures kept { length self.old ≤ length self.new }
     {
         let start = self.len();
         for i in 0..actions.len() {
             let action = actions.get(i);
-            self.push(action.name.bytes(), action.chance)?;
+            self.push(alloc, &action.name, action.chance)?;
         }
         span_of(start, self.len())
     }
 
     /// Puts an action last.
-    fn push(&mut self, name: &[u8], chance: Frac) -> Result<(), AllocError>
+    fn push(&mut self, alloc: Global, name: &TextView<'_>, chance: Frac) -> Result<(), AllocError>
         ensures ok { OnOk result (self.new ≡ self.old ++ action_with name.now chance ∷ []) }
         ensures kept { length self.old ≤ length self.new }
     {
         let before = self.names.len();
-        self.names.push(name)?;
+        self.names.push_view(alloc, name)?;
         if is_zero(chance) {
             return Ok(());
         }
@@ -147,9 +153,9 @@ impl<'a> ActionList<'a> {
     }
 
     /// The action at `i`, which counts from 0.
-    pub(crate) fn get(&self, i: usize) -> ActionView<'a>
+    pub(crate) fn get(&self, i: usize) -> KeptAction<'a>
         requires { i < length self.now }
-        ensures { slice_get self.now i ≡ Some (action_seen result) }
+        ensures { slice_get self.now i ≡ Some (action_kept result) }
     {
         self.all.get(self.start + i)
     }

@@ -1,23 +1,25 @@
 //! What is given of a set or an outcome, beside what is kept of it.
-ghost use Rattle.std.specs.Prelude.{◌≡◌};
+ghost use Rattle.std.specs.Prelude.{◌≡◌, IfOk, OnErr, OnOk, option_map};
 ghost use Rattle.std.specs.Cmp.Lexicographic.{pointwise};
 ghost use Rattle.def_file.specs.Adding as adding;
 ghost use Rattle.def_file.specs.Faults as faults;
 ghost use Rattle.xg_game.specs.Actions.{action_with};
-ghost use Rattle.xg_record.specs.Action.{action_of};
+ghost use Rattle.xg_record.specs.Entry.{actions_seen};
+ghost use Rattle.xg_record.specs.Seen.{action_seen};
 
 use crate::actions::ActionList;
+use std::alloc::{AllocError, Global};
 use std::cmp::Ordering;
 use xg_frac::{Frac, compare};
-use xg_lex::Text;
-use xg_record::{Action, Actions};
+use xg_lex::{Text, TextView};
+use xg_record::{ActionView, ActionsView};
 use xg_tree::Kind;
 
 /// Whether texts have the same bytes.
-pub(crate) fn same_text(a: &Text, b: &Text) -> bool
+pub(crate) fn same_text(a: &Text, b: &TextView<'_>) -> bool
     ensures { result ≡ faults.same_text a.now b.now }
 {
-    a.bytes() == b.bytes()
+    b.is(a.bytes())
 }
 
 /// Whether numbers have the same value.
@@ -28,10 +30,10 @@ pub(crate) fn same_value(a: Frac, b: Frac) -> bool
 }
 
 /// Whether an action has this name and, where chance moves, the same probability.
-fn same_action(kind: Kind, name: &[u8], chance: Frac, given: &Action) -> bool
-    ensures { result ≡ faults.same_action kind (action_with name.now chance) (action_of given.now) }
+fn same_action(kind: Kind, name: &[u8], chance: Frac, given: &ActionView<'_>) -> bool
+    ensures { result ≡ faults.same_action kind (action_with name.now chance) (action_seen given.now) }
 {
-    name == given.name.bytes()
+    given.name.is(name)
         && match kind {
             Kind::Chance => same_value(chance, given.chance),
             Kind::One | Kind::Two | Kind::Leaf => true,
@@ -39,7 +41,7 @@ fn same_action(kind: Kind, name: &[u8], chance: Frac, given: &Action) -> bool
 }
 
 /// Whether a name is given that differs from the one that is kept.
-pub(crate) fn name_differs(kept: &Option<Text>, given: &Option<Text>) -> bool
+pub(crate) fn name_differs(kept: &Option<Text>, given: &Option<TextView<'_>>) -> bool
     ensures { result ≡ faults.name_differs kept.now given.now }
 {
     match (kept, given) {
@@ -49,17 +51,40 @@ pub(crate) fn name_differs(kept: &Option<Text>, given: &Option<Text>) -> bool
 }
 
 /// Keeps the name that is given, unless one is kept already.
-pub(crate) fn keep_name(kept: &mut Option<Text>, given: Option<Text>)
-    ensures { kept.new ≡ adding.kept_name kept.old given }
+pub(crate) fn keep_name(
+    alloc: Global,
+    kept: &mut Option<Text>,
+    given: &Option<TextView<'_>>,
+) -> Result<(), AllocError>
+    ensures ok { OnOk result (kept.new ≡ adding.kept_name kept.old given.now) }
+    ensures err { OnErr result (kept.new ≡ kept.old) }
 {
     if kept.is_none() && given.is_some() {
-        *kept = given;
+        *kept = to_keep(alloc, given)?;
+    }
+    Ok(())
+}
+
+/// A name of the same bytes, if one is given.
+pub(crate) fn to_keep(
+    alloc: Global,
+    given: &Option<TextView<'_>>,
+) -> Result<Option<Text>, AllocError>
+    ensures { IfOk result (λ name. name ≡ given.now) }
+{
+    match given {
+        Some(given) => Ok(Some(given.to_text(alloc)?)),
+        None => Ok(None),
     }
 }
 
 /// Whether actions are given that differ in their number, a name or a probability from those that are kept.
-pub(crate) fn actions_differ(kind: Kind, kept: &ActionList<'_>, given: &Option<Actions>) -> bool
-    ensures { result ≡ faults.actions_differ kind kept.now given.now }
+pub(crate) fn actions_differ(
+    kind: Kind,
+    kept: &ActionList<'_>,
+    given: &Option<ActionsView<'_>>,
+) -> bool
+    ensures { result ≡ faults.actions_differ kind kept.now (option_map actions_seen given.now) }
 {
     match given {
         Some(given) => !same_actions(kind, kept, given),
@@ -68,15 +93,15 @@ pub(crate) fn actions_differ(kind: Kind, kept: &ActionList<'_>, given: &Option<A
 }
 
 /// Whether lists of actions are as long, and the same at each place.
-fn same_actions(kind: Kind, kept: &ActionList<'_>, given: &Actions) -> bool
-    ensures { result ≡ pointwise (faults.same_action kind) kept.now given.now }
+fn same_actions(kind: Kind, kept: &ActionList<'_>, given: &ActionsView<'_>) -> bool
+    ensures { result ≡ pointwise (faults.same_action kind) kept.now (actions_seen given.now) }
 {
     if kept.len() != given.len() {
         return false;
     }
     for i in 0..kept.len() {
         let action = kept.get(i);
-        if !same_action(kind, action.name, action.chance, given.get(i)) {
+        if !same_action(kind, action.name, action.chance, &given.get(i)) {
             return false;
         }
     }

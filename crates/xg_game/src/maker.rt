@@ -8,6 +8,7 @@ ghost use Rattle.def_file.specs.declared.FileFault.{FileFault};
 ghost use Rattle.def_tree.specs.Rules.{KeepRules, most_nodes};
 ghost use Rattle.def_tree.specs.Tree.{Begins, wanted};
 ghost use Rattle.xg_game.specs.Prologues.{prologue_with};
+ghost use Rattle.xg_record.specs.Entry.{entry_of};
 ghost use Rattle.xg_record.specs.Record.{record_of};
 
 use crate::fault::Refused;
@@ -17,7 +18,7 @@ use crate::tables::Tables;
 use std::alloc::Global;
 use std::marker::Model;
 use xg_lex::Text;
-use xg_record::Record;
+use xg_record::{Entry, Record};
 
 /// A game in the making: its prologue and its entries so far.
 ///
@@ -85,8 +86,6 @@ impl GameMaker {
     }
 
     /// Takes the next entry, in prefix order. After a fault the maker is as it was, and it is spent where memory ran out.
-    // An entry is large, and inlined it isn't copied.
-    #[inline(always)]
     pub fn push(&mut self, entry: Record) -> Result<(), Refused>
         requires incomplete { wanted 1 self.old.contents.nodes ≢ 0 }
         requires unspent { self.old.spent ≡ false }
@@ -106,8 +105,31 @@ impl GameMaker {
         ensures spent { (result ≡ Err Refused.NoMemory) ↔ (self.new.spent ≡ true) }
         ensures prologue { self.new.prologue ≡ self.old.prologue }
     {
-        let places = self.tables.places(&entry);
-        if let Some(fault) = self.tables.fault(&entry, places) {
+        self.push_entry(&entry.view())
+    }
+
+    /// Takes the next entry, as `push`, by views of what it says.
+    pub fn push_entry(&mut self, entry: &Entry<'_>) -> Result<(), Refused>
+        requires incomplete { wanted 1 self.old.contents.nodes ≢ 0 }
+        requires unspent { self.old.spent ≡ false }
+        requires outcome { entry.now.outcome ≤ most }
+        requires set { IsTrue (has_set entry.now.kind) → (1 ≤ entry.now.set) × (entry.now.set ≤ most) }
+        ensures ok { let contents = with_record self.old.contents (entry_of entry.now) in
+            OnOk result (self.new ≡ record self.old { contents = contents }) }
+        ensures accepted { OnOk result (record_fault self.old.contents (entry_of entry.now) ≡ None) }
+
+        // A fault is the first of the entry, and is always found.
+        ensures refused { (fault : FileFault) → result ≡ Err (Refused.File fault) →
+            (record_fault self.old.contents (entry_of entry.now) ≡ Some fault) × (self.new ≡ self.old) }
+        ensures faults { (fault : FileFault) →
+            record_fault self.old.contents (entry_of entry.now) ≡ Some fault →
+            result ≡ Err (Refused.File fault) }
+
+        ensures spent { (result ≡ Err Refused.NoMemory) ↔ (self.new.spent ≡ true) }
+        ensures prologue { self.new.prologue ≡ self.old.prologue }
+    {
+        let places = self.tables.places(entry);
+        if let Some(fault) = self.tables.fault(entry, places) {
             return Err(Refused::File(fault));
         }
         if self.tables.keep(entry, places).is_err() {

@@ -1,19 +1,19 @@
 //! The outcomes of a game.
-ghost use Rattle.std.specs.Prelude.{◌≡◌, ◌+◌, ◌<◌, ◌^◌, [], ◌∷◌, ◌++◌, length, slice_set, unwrap_or, None, OnOk, IfSome};
+ghost use Rattle.std.specs.Prelude.{◌≡◌, ◌+◌, ◌<◌, ◌^◌, [], ◌∷◌, ◌++◌, length, option_map, slice_set, unwrap_or, None, OnErr, OnOk, IfSome};
 ghost use Rattle.def_file.specs.Adding as adding;
 ghost use Rattle.def_file.specs.Content.{OutcomeEntry, zero_fraction};
 ghost use Rattle.def_file.specs.Faults as faults;
 ghost use Rattle.xg_game.specs.Mentions.{outcome_mention};
 ghost use Rattle.xg_game.specs.Places.{place_of_outcome};
-ghost use Rattle.xg_record.specs.Record.{record_of};
+ghost use Rattle.xg_record.specs.Entry.{entry_of};
 
-use crate::given::{name_differs, same_value};
+use crate::given::{name_differs, same_value, to_keep};
 use crate::table::{Described, NumberTable};
 use std::alloc::{AllocError, Global};
 use std::marker::Model;
 use xg_frac::{Frac, whole};
-use xg_lex::Text;
-use xg_record::{Payoffs, Record};
+use xg_lex::TextView;
+use xg_record::{Entry, Payoffs};
 
 /// The payoffs of both players.
 #[derive(Clone, Copy)]
@@ -86,44 +86,44 @@ impl OutcomeTable {
     }
 
     /// Whether the entry is the first to mention its outcome, and has no payoffs.
-    pub(crate) fn is_undefined(&self, entry: &Record, place: Option<usize>) -> bool
+    pub(crate) fn is_undefined(&self, entry: &Entry<'_>, place: Option<usize>) -> bool
         requires { place ≡ place_of_outcome entry.now.outcome self.now }
-        ensures { result ≡ faults.is_outcome_undefined self.now (record_of entry.now).outcome }
+        ensures { result ≡ faults.is_outcome_undefined self.now (entry_of entry.now).outcome }
     {
         entry.outcome != 0 && place.is_none() && entry.payoffs.is_none()
     }
 
     /// Whether the entry has another name or other payoffs than are kept of its outcome.
-    pub(crate) fn differs(&self, entry: &Record, place: Option<usize>) -> bool
+    pub(crate) fn differs(&self, entry: &Entry<'_>, place: Option<usize>) -> bool
         requires { place ≡ place_of_outcome entry.now.outcome self.now }
-        ensures { result ≡ faults.outcome_differs self.now (record_of entry.now).outcome }
+        ensures { result ≡ faults.outcome_differs self.now (entry_of entry.now).outcome }
     {
         if entry.outcome == 0 {
-            return payoffs_differ(zero(), zero(), &entry.payoffs);
+            return payoffs_differ(zero(), zero(), entry.payoffs);
         }
         match place {
             Some(i) => {
                 let kept = self.get(i);
                 name_differs(&kept.name, &entry.outcome_name)
-                    || payoffs_differ(kept.value.one, kept.value.two, &entry.payoffs)
+                    || payoffs_differ(kept.value.one, kept.value.two, entry.payoffs)
             }
             None => false,
         }
     }
 
     /// Whether the entry is the first to mention its outcome, and has other than two payoffs.
-    pub(crate) fn is_miscounted(&self, entry: &Record, place: Option<usize>) -> bool
+    pub(crate) fn is_miscounted(&self, entry: &Entry<'_>, place: Option<usize>) -> bool
         requires { place ≡ place_of_outcome entry.now.outcome self.now }
-        ensures { result ≡ faults.is_outcome_miscounted self.now (record_of entry.now).outcome }
+        ensures { result ≡ faults.is_outcome_miscounted self.now (entry_of entry.now).outcome }
     {
-        entry.outcome != 0 && place.is_none() && has_wrong_payoffs(&entry.payoffs)
+        entry.outcome != 0 && place.is_none() && has_wrong_payoffs(entry.payoffs)
     }
 
     /// The number of the entry's outcome among those of the table, which count from 1.
-    pub(crate) fn number_with(&self, entry: &Record, place: Option<usize>) -> u32
+    pub(crate) fn number_with(&self, entry: &Entry<'_>, place: Option<usize>) -> u32
         requires place { place ≡ place_of_outcome entry.now.outcome self.now }
         requires room { length self.now + 1 < 2 ^ 32 }
-        ensures { result ≡ adding.outcome_number self.now (record_of entry.now).outcome }
+        ensures { result ≡ adding.outcome_number self.now (entry_of entry.now).outcome }
     {
         if entry.outcome == 0 {
             return 0;
@@ -134,60 +134,67 @@ impl OutcomeTable {
     /// Notes a mention of an outcome.
     pub(crate) fn note(
         &mut self,
+        alloc: Global,
         place: Option<usize>,
         number: u64,
-        name: Option<Text>,
-        payoffs: Option<Payoffs>,
+        name: &Option<TextView<'_>>,
+        payoffs: Option<&Payoffs>,
     ) -> Result<(), AllocError>
         requires place { place ≡ place_of_outcome number self.old }
         requires room { length self.old + 1 < 2 ^ 32 }
-        ensures { let mention = outcome_mention number name payoffs in
+        ensures { let mention = outcome_mention number name.now (option_map (λ p. p.now) payoffs.entry) in
             OnOk result (self.new ≡ adding.noted_outcome self.old mention) }
     {
         if number == 0 {
             return Ok(());
         }
         match place {
-            Some(i) => {
-                self.name(i, name);
-                Ok(())
-            }
-            None => self.add(number, name, payoffs),
+            Some(i) => self.name(alloc, i, name),
+            None => self.add(alloc, number, name, payoffs),
         }
     }
 
     /// Gives the outcome at `i` a name, unless it has one.
-    fn name(&mut self, i: usize, name: Option<Text>)
+    fn name(
+        &mut self,
+        alloc: Global,
+        i: usize,
+        name: &Option<TextView<'_>>,
+    ) -> Result<(), AllocError>
         requires { i < length self.old }
-        ensures { let kept = faults.outcome_at self.old i in
-            let named = record kept { name = adding.kept_name kept.name name } in
-            self.new ≡ slice_set self.old i named }
+        ensures ok { let kept = faults.outcome_at self.old i in
+            let named = record kept { name = adding.kept_name kept.name name.now } in
+            OnOk result (self.new ≡ slice_set self.old i named) }
+        ensures err { OnErr result (self.new ≡ self.old) }
     {
-        self.outcomes.name(i, name);
+        self.outcomes.name(alloc, i, name)
     }
 
     /// Puts an outcome last.
     #[inline(never)]
     fn add(
         &mut self,
+        alloc: Global,
         number: u64,
-        name: Option<Text>,
-        payoffs: Option<Payoffs>,
+        name: &Option<TextView<'_>>,
+        payoffs: Option<&Payoffs>,
     ) -> Result<(), AllocError>
         requires new { faults.outcome_place_of number self.old ≡ None }
         requires room { length self.old + 1 < 2 ^ 32 }
-        ensures { let mention = outcome_mention number name payoffs in
+        ensures { let mention = outcome_mention number name.now (option_map (λ p. p.now) payoffs.entry) in
             OnOk result (self.new ≡ self.old ++ adding.new_outcome mention ∷ []) }
     {
-        let one = payoff_at(&payoffs, 0);
-        let two = payoff_at(&payoffs, 1);
+        let name = to_keep(alloc, name)?;
+        let one = payoff_at(payoffs, 0);
+        let two = payoff_at(payoffs, 1);
         self.outcomes.push(number, name, PayoffPair { one, two })
     }
 }
 
 /// The payoff at `i`, which counts from 0, or 0 where there is none.
-fn payoff_at(payoffs: &Option<Payoffs>, i: usize) -> Frac
-    ensures { result ≡ adding.nth_payoff (unwrap_or payoffs.now []) i }
+fn payoff_at(payoffs: Option<&Payoffs>, i: usize) -> Frac
+    ensures { let given = option_map (λ p. p.now) payoffs.entry in
+        result ≡ adding.nth_payoff (unwrap_or given []) i }
 {
     match payoffs {
         Some(payoffs) if i < payoffs.len() => payoffs.get(i),
@@ -196,8 +203,8 @@ fn payoff_at(payoffs: &Option<Payoffs>, i: usize) -> Frac
 }
 
 /// Whether there is a list that has other than two payoffs.
-fn has_wrong_payoffs(payoffs: &Option<Payoffs>) -> bool
-    ensures { result ≡ faults.has_wrong_payoffs payoffs.now }
+fn has_wrong_payoffs(payoffs: Option<&Payoffs>) -> bool
+    ensures { result ≡ faults.has_wrong_payoffs (option_map (λ p. p.now) payoffs.entry) }
 {
     match payoffs {
         Some(payoffs) => payoffs.len() != 2,
@@ -206,9 +213,9 @@ fn has_wrong_payoffs(payoffs: &Option<Payoffs>) -> bool
 }
 
 /// Whether payoffs are given that differ in their number or a value from those that are kept.
-fn payoffs_differ(one: Frac, two: Frac, given: &Option<Payoffs>) -> bool
+fn payoffs_differ(one: Frac, two: Frac, given: Option<&Payoffs>) -> bool
     ensures { let kept = record faults.null_outcome { one = one; two = two } in
-        result ≡ faults.payoffs_differ kept given.now }
+        result ≡ faults.payoffs_differ kept (option_map (λ p. p.now) given.entry) }
 {
     match given {
         Some(given) => {

@@ -1,18 +1,18 @@
 //! The sets of a game.
-ghost use Rattle.std.specs.Prelude.{◌≡◌, ◌≢◌, ◌+◌, ◌<◌, ◌^◌, false, [], ◌∷◌, ◌++◌, length, slice_set, Some, None, OnOk, IfSome};
+ghost use Rattle.std.specs.Prelude.{◌≡◌, ◌≢◌, ◌+◌, ◌<◌, ◌^◌, false, [], ◌∷◌, ◌++◌, length, option_map, slice_set, Some, None, OnErr, OnOk, IfSome};
 ghost use Rattle.def_file.specs.Adding as adding;
 ghost use Rattle.def_file.specs.Content.{SetEntry, sets_of_kind, with_sets};
 ghost use Rattle.def_file.specs.Faults as faults;
 ghost use Rattle.xg_game.specs.Mentions.{set_mention};
-ghost use Rattle.xg_record.specs.Record.{record_of};
+ghost use Rattle.xg_record.specs.Entry.{actions_seen, entry_of};
 
 use crate::actions::{ActionList, KeptActions, Span};
-use crate::given::{actions_differ, name_differs};
+use crate::given::{actions_differ, name_differs, to_keep};
 use crate::table::NumberTable;
 use std::alloc::{AllocError, Global};
 use std::marker::Model;
-use xg_lex::Text;
-use xg_record::{Actions, Record};
+use xg_lex::{Text, TextView};
+use xg_record::{ActionsView, Entry};
 use xg_tree::{Kind, MOST_ACTIONS};
 
 /// What is known of a set: the first name that is given, and the actions of the first mention.
@@ -90,17 +90,17 @@ impl SetTable {
     }
 
     /// Whether the entry is the first to mention its set, and has no actions.
-    pub(crate) fn is_undefined(&self, entry: &Record, place: Option<usize>) -> bool
+    pub(crate) fn is_undefined(&self, entry: &Entry<'_>, place: Option<usize>) -> bool
         requires { place ≡ faults.set_place_of entry.now.set self.now }
-        ensures { result ≡ faults.is_set_undefined self.now (record_of entry.now).set }
+        ensures { result ≡ faults.is_set_undefined self.now (entry_of entry.now).set }
     {
         place.is_none() && entry.actions.is_none()
     }
 
     /// Whether the entry has another name or other actions than are kept of its set.
-    pub(crate) fn differs(&self, kind: Kind, entry: &Record, place: Option<usize>) -> bool
+    pub(crate) fn differs(&self, kind: Kind, entry: &Entry<'_>, place: Option<usize>) -> bool
         requires { place ≡ faults.set_place_of entry.now.set self.now }
-        ensures { result ≡ faults.set_differs kind self.now (record_of entry.now).set }
+        ensures { result ≡ faults.set_differs kind self.now (entry_of entry.now).set }
     {
         match place {
             Some(i) => {
@@ -113,27 +113,27 @@ impl SetTable {
     }
 
     /// Whether the entry is the first to mention its set, and has no action or too many.
-    pub(crate) fn is_miscounted(&self, entry: &Record, place: Option<usize>) -> bool
+    pub(crate) fn is_miscounted(&self, entry: &Entry<'_>, place: Option<usize>) -> bool
         requires { place ≡ faults.set_place_of entry.now.set self.now }
-        ensures { result ≡ faults.is_set_miscounted self.now (record_of entry.now).set }
+        ensures { result ≡ faults.is_set_miscounted self.now (entry_of entry.now).set }
     {
         place.is_none() && has_wrong_count(&entry.actions)
     }
 
     /// The number of the entry's set among those of the table, which count from 1.
-    pub(crate) fn number_with(&self, entry: &Record, place: Option<usize>) -> u32
+    pub(crate) fn number_with(&self, entry: &Entry<'_>, place: Option<usize>) -> u32
         requires place { place ≡ faults.set_place_of entry.now.set self.now }
         requires room { length self.now + 1 < 2 ^ 32 }
-        ensures { result ≡ adding.set_number self.now (record_of entry.now).set }
+        ensures { result ≡ adding.set_number self.now (entry_of entry.now).set }
     {
         place.unwrap_or(self.len()) as u32 + 1
     }
 
     /// How many actions the entry's set has.
-    pub(crate) fn action_count_with(&self, entry: &Record, place: Option<usize>) -> u32
+    pub(crate) fn action_count_with(&self, entry: &Entry<'_>, place: Option<usize>) -> u32
         requires place { place ≡ faults.set_place_of entry.now.set self.now }
-        requires few { adding.action_count self.now (record_of entry.now).set < 2 ^ 32 }
-        ensures { result ≡ adding.action_count self.now (record_of entry.now).set }
+        requires few { adding.action_count self.now (entry_of entry.now).set < 2 ^ 32 }
+        ensures { result ≡ adding.action_count self.now (entry_of entry.now).set }
     {
         match place {
             Some(i) => self.get(i).actions.len() as u32,
@@ -148,52 +148,65 @@ impl SetTable {
     #[inline(always)]
     pub(crate) fn note(
         &mut self,
+        alloc: Global,
         place: Option<usize>,
         number: u64,
-        name: Option<Text>,
-        actions: Option<Actions>,
+        name: &Option<TextView<'_>>,
+        actions: &Option<ActionsView<'_>>,
     ) -> Result<(), AllocError>
         requires place { place ≡ faults.set_place_of number self.old }
-        requires defined { faults.is_set_undefined self.old (set_mention number name actions) ≡ false }
+        requires defined { let mention = set_mention number name.now (option_map actions_seen actions.now) in
+            faults.is_set_undefined self.old mention ≡ false }
         requires room { length self.old + 1 < 2 ^ 32 }
-        ensures { let mention = set_mention number name actions in
+        ensures { let mention = set_mention number name.now (option_map actions_seen actions.now) in
             OnOk result (self.new ≡ adding.noted_set self.old mention) }
     {
         match place {
-            Some(i) => {
-                self.name(i, name);
-                Ok(())
-            }
-            None => self.add(number, name, actions.unwrap()),
+            Some(i) => self.name(alloc, i, name),
+            None => self.add(alloc, number, name, actions.as_ref().unwrap()),
         }
     }
 
     /// Gives the set at `i` a name, unless it has one.
-    fn name(&mut self, i: usize, name: Option<Text>)
+    fn name(
+        &mut self,
+        alloc: Global,
+        i: usize,
+        name: &Option<TextView<'_>>,
+    ) -> Result<(), AllocError>
         requires { i < length self.old }
-        ensures { let kept = faults.set_at self.old i in
-            let named = record kept { name = adding.kept_name kept.name name } in
-            self.new ≡ slice_set self.old i named }
+        ensures ok { let kept = faults.set_at self.old i in
+            let named = record kept { name = adding.kept_name kept.name name.now } in
+            OnOk result (self.new ≡ slice_set self.old i named) }
+        ensures err { OnErr result (self.new ≡ self.old) }
     {
-        self.sets.name(i, name);
+        self.sets.name(alloc, i, name)
     }
 
     /// Puts a set last.
     #[inline(never)]
-    fn add(&mut self, number: u64, name: Option<Text>, actions: Actions) -> Result<(), AllocError>
+    fn add(
+        &mut self,
+        alloc: Global,
+        number: u64,
+        name: &Option<TextView<'_>>,
+        actions: &ActionsView<'_>,
+    ) -> Result<(), AllocError>
         requires new { faults.set_place_of number self.old ≡ None }
         requires room { length self.old + 1 < 2 ^ 32 }
-        ensures { let added : SetEntry = record { number = number; name = name; actions = actions } in
+        ensures { let actions = actions_seen actions.now in
+            let added : SetEntry = record { number = number; name = name.now; actions = actions } in
             OnOk result (self.new ≡ self.old ++ added ∷ []) }
     {
-        let span = self.actions.add(&actions)?;
+        let name = to_keep(alloc, name)?;
+        let span = self.actions.add(alloc, actions)?;
         self.sets.push(number, name, span)
     }
 }
 
 /// Whether there is a list of actions that has none or too many.
-fn has_wrong_count(actions: &Option<Actions>) -> bool
-    ensures { result ≡ faults.has_wrong_count actions.now }
+fn has_wrong_count(actions: &Option<ActionsView<'_>>) -> bool
+    ensures { result ≡ faults.has_wrong_count (option_map actions_seen actions.now) }
 {
     match actions {
         Some(actions) => actions.len() == 0 || actions.len() > MOST_ACTIONS as usize,
@@ -257,24 +270,25 @@ impl SetTables {
     /// Notes a mention of a set of a kind. A leaf is in no set.
     pub(crate) fn note(
         &mut self,
+        alloc: Global,
         kind: Kind,
         place: Option<usize>,
         number: u64,
-        name: Option<Text>,
-        actions: Option<Actions>,
+        name: &Option<TextView<'_>>,
+        actions: &Option<ActionsView<'_>>,
     ) -> Result<(), AllocError>
         requires place { place ≡ faults.set_place_of number (sets_of_kind kind self.old) }
-        requires defined { let mention = set_mention number name actions in
+        requires defined { let mention = set_mention number name.now (option_map actions_seen actions.now) in
             kind ≢ Kind.Leaf → faults.is_set_undefined (sets_of_kind kind self.old) mention ≡ false }
         requires room { length (sets_of_kind kind self.old) + 1 < 2 ^ 32 }
-        ensures { let mention = set_mention number name actions in
+        ensures { let mention = set_mention number name.now (option_map actions_seen actions.now) in
             let table = adding.noted_set (sets_of_kind kind self.old) mention in
             OnOk result (self.new ≡ with_sets kind table self.old) }
     {
         match kind {
-            Kind::Chance => self.chance.note(place, number, name, actions),
-            Kind::One => self.one.note(place, number, name, actions),
-            Kind::Two => self.two.note(place, number, name, actions),
+            Kind::Chance => self.chance.note(alloc, place, number, name, actions),
+            Kind::One => self.one.note(alloc, place, number, name, actions),
+            Kind::Two => self.two.note(alloc, place, number, name, actions),
             Kind::Leaf => Ok(()),
         }
     }

@@ -8,7 +8,7 @@ use crate::given::keep_name;
 use crate::numbers::Numbers;
 use std::alloc::{AllocError, Global};
 use std::marker::Model;
-use xg_lex::Text;
+use xg_lex::{Text, TextView};
 
 /// What is known of a set or an outcome: the first name that is given, and what the first mention says.
 #[derive(Drop)]
@@ -79,12 +79,18 @@ impl<D: Drop> NumberTable<D> {
     }
 
     /// Gives a name at `i`, unless one is kept there.
-    pub(crate) fn name(&mut self, i: usize, name: Option<Text>)
+    pub(crate) fn name(
+        &mut self,
+        alloc: Global,
+        i: usize,
+        name: &Option<TextView<'_>>,
+    ) -> Result<(), AllocError>
         requires { i < length self.old }
-        ensures { (e : ℕ × Described D) → slice_get self.old i ≡ Some e
-            → self.new ≡ slice_set self.old i (e.0, record e.1 { name = kept_name e.1.name name }) }
+        ensures ok { (e : ℕ × Described D) → slice_get self.old i ≡ Some e
+            → OnOk result (self.new ≡ slice_set self.old i (e.0, record e.1 { name = kept_name e.1.name name.now })) }
+        ensures err { OnErr result (self.new ≡ self.old) }
     {
-        keep_name(&mut self.known[i].name, name);
+        keep_name(alloc, &mut self.known[i].name, name)
     }
 
     /// Puts a number last, with what is known of it.

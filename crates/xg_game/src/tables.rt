@@ -7,7 +7,7 @@ ghost use Rattle.def_tree.specs.Rules.{KeepRules, most_nodes};
 ghost use Rattle.def_tree.specs.Tree.{Begins, wanted};
 ghost use Rattle.def_file.specs.Game.{AreTogether};
 ghost use Rattle.xg_game.specs.Places.{ArePlacesOf, place_of_set};
-ghost use Rattle.xg_record.specs.Record.{record_of};
+ghost use Rattle.xg_record.specs.Entry.{entry_of};
 
 use crate::outcomes::OutcomeTable;
 use crate::sets::SetTables;
@@ -16,7 +16,7 @@ use def_file::{EntryKind, FileFault};
 use def_tree::Node;
 use std::alloc::{AllocError, Global};
 use std::marker::Model;
-use xg_record::Record;
+use xg_record::Entry;
 use xg_tree::{Builder, Kind, MOST_NODES};
 
 /// Where the set and the outcome of an entry are in the tables, if they are there.
@@ -33,6 +33,8 @@ pub(crate) struct Tables {
     pub(crate) names: Texts,
     pub(crate) sets: SetTables,
     pub(crate) outcomes: OutcomeTable,
+    // For names that are kept.
+    pub(crate) alloc: Global,
 }
 
 impl Model for Tables {
@@ -58,6 +60,7 @@ impl Tables {
             names: Texts::new(alloc),
             sets: SetTables::new(alloc),
             outcomes: OutcomeTable::new(alloc),
+            alloc,
         }
     }
 
@@ -74,8 +77,8 @@ impl Tables {
     }
 
     /// Where the set and the outcome of an entry are in the tables.
-    pub(crate) fn places(&self, entry: &Record) -> Places
-        ensures { ArePlacesOf (record_of entry.now) self.now result }
+    pub(crate) fn places(&self, entry: &Entry<'_>) -> Places
+        ensures { ArePlacesOf (entry_of entry.now) self.now result }
     {
         let kind = mover(entry.kind, entry.player);
         let set = self.sets.find(kind, entry.set);
@@ -87,10 +90,10 @@ impl Tables {
     }
 
     /// The first fault of an entry after those so far.
-    pub(crate) fn fault(&self, entry: &Record, places: Places) -> Option<FileFault>
+    pub(crate) fn fault(&self, entry: &Entry<'_>, places: Places) -> Option<FileFault>
         requires consistent { AreTogether self.now }
-        requires places { ArePlacesOf (record_of entry.now) self.now places }
-        ensures { result ≡ faults.record_fault self.now (record_of entry.now) }
+        requires places { ArePlacesOf (entry_of entry.now) self.now places }
+        ensures { result ≡ faults.record_fault self.now (entry_of entry.now) }
     {
         let node = self.names.len() as u32 + 1;
         if is_no_player(entry.kind, entry.player) {
@@ -120,9 +123,9 @@ impl Tables {
         None
     }
 
-    fn is_set_undefined(&self, entry: &Record, place: Option<usize>) -> bool
-        requires { place ≡ place_of_set (record_of entry.now) self.now.sets }
-        ensures { let r = record_of entry.now in
+    fn is_set_undefined(&self, entry: &Entry<'_>, place: Option<usize>) -> bool
+        requires { place ≡ place_of_set (entry_of entry.now) self.now.sets }
+        ensures { let r = entry_of entry.now in
             let table = sets_of_kind (faults.mover r) self.now.sets in
             result ≡ faults.has_set r.kind && faults.is_set_undefined table r.set }
     {
@@ -130,9 +133,9 @@ impl Tables {
         has_set(entry.kind) && self.sets.of(kind).is_undefined(entry, place)
     }
 
-    fn set_differs(&self, entry: &Record, place: Option<usize>) -> bool
-        requires { place ≡ place_of_set (record_of entry.now) self.now.sets }
-        ensures { let r = record_of entry.now in
+    fn set_differs(&self, entry: &Entry<'_>, place: Option<usize>) -> bool
+        requires { place ≡ place_of_set (entry_of entry.now) self.now.sets }
+        ensures { let r = entry_of entry.now in
             let table = sets_of_kind (faults.mover r) self.now.sets in
             result ≡ faults.has_set r.kind && faults.set_differs (faults.mover r) table r.set }
     {
@@ -140,9 +143,9 @@ impl Tables {
         has_set(entry.kind) && self.sets.of(kind).differs(kind, entry, place)
     }
 
-    fn is_set_miscounted(&self, entry: &Record, place: Option<usize>) -> bool
-        requires { place ≡ place_of_set (record_of entry.now) self.now.sets }
-        ensures { let r = record_of entry.now in
+    fn is_set_miscounted(&self, entry: &Entry<'_>, place: Option<usize>) -> bool
+        requires { place ≡ place_of_set (entry_of entry.now) self.now.sets }
+        ensures { let r = entry_of entry.now in
             let table = sets_of_kind (faults.mover r) self.now.sets in
             result ≡ faults.has_set r.kind && faults.is_set_miscounted table r.set }
     {
@@ -151,37 +154,39 @@ impl Tables {
     }
 
     /// Takes an entry that has no fault. Where memory runs out, part of it may be in the tables.
-    pub(crate) fn keep(&mut self, entry: Record, places: Places) -> Result<(), AllocError>
-        requires places { ArePlacesOf (record_of entry) self.old places }
+    pub(crate) fn keep(&mut self, entry: &Entry<'_>, places: Places) -> Result<(), AllocError>
+        requires places { ArePlacesOf (entry_of entry.now) self.old places }
         requires consistent { AreTogether self.old }
         requires incomplete { wanted 1 self.old.nodes ≢ 0 }
-        requires faultless { faults.record_fault self.old (record_of entry) ≡ None }
-        ensures { OnOk result (self.new ≡ with_record self.old (record_of entry)) }
+        requires faultless { faults.record_fault self.old (entry_of entry.now) ≡ None }
+        ensures { OnOk result (self.new ≡ with_record self.old (entry_of entry.now)) }
     {
-        let node = self.node_with(&entry, places);
+        let node = self.node_with(entry, places);
         self.sets.note(
+            self.alloc,
             node.kind,
             places.set,
             entry.set,
-            entry.set_name,
-            entry.actions,
+            &entry.set_name,
+            &entry.actions,
         )?;
         self.outcomes.note(
+            self.alloc,
             places.outcome,
             entry.outcome,
-            entry.outcome_name,
+            &entry.outcome_name,
             entry.payoffs,
         )?;
-        self.names.push(entry.name.bytes())?;
+        self.names.push_view(self.alloc, &entry.name)?;
         self.nodes.push(node).map_err(|_| AllocError)
     }
 
     /// The node of an entry that has no fault.
-    fn node_with(&self, entry: &Record, places: Places) -> Node
-        requires places { ArePlacesOf (record_of entry.now) self.now places }
+    fn node_with(&self, entry: &Entry<'_>, places: Places) -> Node
+        requires places { ArePlacesOf (entry_of entry.now) self.now places }
         requires consistent { AreTogether self.now }
-        requires faultless { faults.record_fault self.now (record_of entry.now) ≡ None }
-        ensures { result ≡ node_with self.now (record_of entry.now) }
+        requires faultless { faults.record_fault self.now (entry_of entry.now) ≡ None }
+        ensures { result ≡ node_with self.now (entry_of entry.now) }
     {
         let kind = mover(entry.kind, entry.player);
         let outcome = self.outcomes.number_with(entry, places.outcome);

@@ -4,8 +4,10 @@ use def_tree::Node;
 use std::alloc::Global;
 use std::process::Abort;
 use xg_frac::{Frac, one_over, whole};
-use xg_lex::{Text, Tokens, unescape};
-use xg_record::{Action, Actions, EntryKind, Payoffs, Record};
+use xg_lex::{Text, TextView, Tokens, unescape};
+use xg_record::{
+    Action, ActionView, ActionViews, Actions, ActionsView, Entry, EntryKind, Payoffs, Record,
+};
 
 /// The text of a file that is one text token.
 fn text(rt: &impl Abort, alloc: Global, file: &[u8]) -> Text {
@@ -335,4 +337,91 @@ fn a_fault_of_an_outcome_leaves_the_maker_as_it_was(rt: HostRuntime) {
     takes(&rt, &mut maker, leaf(&rt, alloc, 0, None, None));
     takes(&rt, &mut maker, leaf(&rt, alloc, 0, None, None));
     assert!(rt; finished(&rt, maker).outcome_count() == 0);
+}
+
+/// The text of a file that is one text token, where it stands.
+fn seen<'a>(rt: &impl Abort, file: &'a [u8]) -> TextView<'a> {
+    let token = Tokens::new(file).next().expect(rt, "a token");
+    assert!(rt; token.kind == xg_lex::Token::Text);
+    TextView::of(&file[token.start + 1..token.end - 1])
+}
+
+/// Chance's set 4, by views.
+fn seen_coin<'a>(rt: &impl Abort, set_name: &'a [u8], actions: &'a ActionViews<'a>) -> Entry<'a> {
+    Entry {
+        kind: EntryKind::Chance,
+        name: seen(rt, b"\"\""),
+        player: 0,
+        set: 4,
+        set_name: Some(seen(rt, set_name)),
+        actions: Some(ActionsView::Views(actions)),
+        outcome: 0,
+        outcome_name: None,
+        payoffs: None,
+    }
+}
+
+/// The same set, with texts that are kept.
+fn kept_coin(rt: &impl Abort, alloc: Global, set_name: &[u8], action: &[u8]) -> Record {
+    let mut actions = Actions::new(alloc);
+    let name = text(rt, alloc, action);
+    let chance = number(rt, 1);
+    actions.push(Action { name, chance }).expect(rt, "memory");
+    let set_name = Some(text(rt, alloc, set_name));
+    let name = text(rt, alloc, b"\"\"");
+    entry(EntryKind::Chance, name, 0, 4, set_name, Some(actions))
+}
+
+/// Pushes an entry by views where one is wanted.
+fn push_seen(rt: &impl Abort, maker: &mut GameMaker, entry: &Entry<'_>) -> Result<(), Refused> {
+    assert!(rt; !maker.is_complete());
+    assert!(rt; !maker.is_spent());
+    assert!(rt; entry.outcome <= 1 << 62);
+    assert!(rt; entry.set >= 1 && entry.set <= 1 << 62);
+    maker.push_entry(entry)
+}
+
+/// Mentions chance's set 4 by views.
+fn mention(
+    rt: &impl Abort,
+    maker: &mut GameMaker,
+    set_name: &[u8],
+    actions: &ActionViews<'_>,
+) -> Result<(), Refused> {
+    let entry = seen_coin(rt, set_name, actions);
+    push_seen(rt, maker, &entry)
+}
+
+fn has_quoted_names(rt: &impl Abort, game: &Game) {
+    assert!(rt; game.set_count(Kind::Chance) == 1);
+    is_named(rt, game.set_name(Kind::Chance, 1), b"a \"fair\" coin");
+    assert!(rt; game.action_count(Kind::Chance, 1) == 1);
+    assert!(rt; game.action_name(Kind::Chance, 1, 1) == b"its \"edge\"".as_slice());
+}
+
+#[test]
+fn names_with_quotation_marks_are_kept_and_compared(rt: HostRuntime) {
+    let alloc = rt.alloc();
+    let mut maker = maker(&rt, alloc);
+    let fair = b"\"a \\\"fair\\\" coin\"";
+    let edge = b"\"its \\\"edge\\\"\"";
+
+    let mut actions = ActionViews::new(alloc);
+    let name = seen(&rt, edge);
+    let chance = number(&rt, 1);
+    actions
+        .push(ActionView { name, chance })
+        .expect(&rt, "memory");
+    assert_eq!(rt; mention(&rt, &mut maker, fair, &actions), Ok(()));
+    takes(&rt, &mut maker, kept_coin(&rt, alloc, fair, edge));
+    let fault = FileFault::SetMismatch { node: 3 };
+    let cent = b"\"a \\\"fair\\\" cent\"";
+    assert_eq!(rt;
+        mention(&rt, &mut maker, cent, &actions),
+        Err(Refused::File(fault))
+    );
+    let other = kept_coin(&rt, alloc, fair, b"\"its edge\"");
+    refuses(&rt, &mut maker, other, fault);
+    takes(&rt, &mut maker, leaf(&rt, alloc, 0, None, None));
+    has_quoted_names(&rt, &finished(&rt, maker));
 }

@@ -3,6 +3,7 @@ ghost use Rattle.std.specs.Prelude.{◌≡◌, ◌<◌, ◌≤◌, ◌-◌, [], 
 
 use std::alloc::{AllocError, Global};
 use std::marker::Model;
+use xg_lex::TextView;
 
 /// The greatest number of bytes of all texts: more count as more than there is memory for.
 const MOST_BYTES: u64 = 0xFFFF_FFFF;
@@ -64,6 +65,26 @@ impl Texts {
         self.bytes.extend_from_slice(text)?;
         self.ends.push_reserved(end as u32);
         Ok(())
+    }
+
+    /// Puts a text that stands elsewhere last. After an error the texts are as they were.
+    pub(crate) fn push_view(&mut self, alloc: Global, text: &TextView<'_>) -> Result<(), AllocError>
+        ensures ok { OnOk result (self.new ≡ self.old ++ text.now ∷ []) }
+        ensures err { OnErr result (self.new ≡ self.old) }
+    {
+        match text.plain() {
+            Some(bytes) => self.push(bytes),
+            None => self.push_escaped(alloc, text),
+        }
+    }
+
+    #[inline(never)]
+    fn push_escaped(&mut self, alloc: Global, text: &TextView<'_>) -> Result<(), AllocError>
+        ensures ok { OnOk result (self.new ≡ self.old ++ text.now ∷ []) }
+        ensures err { OnErr result (self.new ≡ self.old) }
+    {
+        let text = text.to_text(alloc)?;
+        self.push(text.bytes())
     }
 }
 

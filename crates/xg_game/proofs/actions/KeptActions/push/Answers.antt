@@ -20,33 +20,33 @@ returns-then-is_zero-clause-ok c =
     let names : List (List ℕ) = c.self.inside.names in
     let chances : List Fraction = c.self.inside.chances.items in
     let none : zero_fraction ≡ c.args.chance = sym (c.is_zero.ensures.0 c.if-is_zero.true) in
-    ap (λ (ns : List (List ℕ)). actions_of ns chances) c.in_ok-push.ensures.ok
+    ap (λ (ns : List (List ℕ)). actions_of ns chances) c.in_ok-push_view.ensures.ok
     ∙ named_last names chances c.args.name.now c.self.invariant
     ∙ ap (λ (xs : List content.Action). xs ++ action_with c.args.name.now zero_fraction ∷ []) c.self.view_is
     ∙ ap (λ (chance : Fraction). c.args.self.now ++ action_with c.args.name.now chance ∷ []) none
 
 pub returns-then-is_zero-clause-kept : goal.returns-then-is_zero-clause-kept
 returns-then-is_zero-clause-kept c =
-    grows c.self.inside.names c.push.new.self c.args.name.now c.self.inside.chances.items c.self.inside.chances.items c.args.self.now c.self.view_is c.in_ok-push.ensures.ok
+    grows c.self.inside.names c.push_view.new.self c.args.name.now c.self.inside.chances.items c.self.inside.chances.items c.args.self.now c.self.view_is c.in_ok-push_view.ensures.ok
 
 pub returns-in_err-pad-clause-kept : goal.returns-in_err-pad-clause-kept
 returns-in_err-pad-clause-kept c =
-    grows c.self.inside.names c.push.new.self c.args.name.now c.self.inside.chances.items c.pad.new.chances.items c.args.self.now c.self.view_is c.in_ok-push.ensures.ok
+    grows c.self.inside.names c.push_view.new.self c.args.name.now c.self.inside.chances.items c.pad.new.chances.items c.args.self.now c.self.view_is c.in_ok-push_view.ensures.ok
 
-pub returns-in_err-push-2-clause-kept : goal.returns-in_err-push-2-clause-kept
-returns-in_err-push-2-clause-kept c =
-    grows c.self.inside.names c.push.new.self c.args.name.now c.self.inside.chances.items c.push-2.new.self.items c.args.self.now c.self.view_is c.in_ok-push.ensures.ok
+pub returns-in_err-push-clause-kept : goal.returns-in_err-push-clause-kept
+returns-in_err-push-clause-kept c =
+    grows c.self.inside.names c.push_view.new.self c.args.name.now c.self.inside.chances.items c.push.new.self.items c.args.self.now c.self.view_is c.in_ok-push_view.ensures.ok
 
 pub returns-clause-ok : goal.returns-clause-ok
 returns-clause-ok c =
     let names : List (List ℕ) = c.self.inside.names in
     let before : c.len-before.result ≡ length names = c.len-before.ensures in
-    ap (λ (ns : List (List ℕ)). actions_of ns c.push-2.new.self.items) c.in_ok-push.ensures.ok
-    ∙ ap (actions_of (names ++ c.args.name.now ∷ [])) c.in_ok-push-2.ensures.items
+    ap (λ (ns : List (List ℕ)). actions_of ns c.push.new.self.items) c.in_ok-push_view.ensures.ok
+    ∙ ap (actions_of (names ++ c.args.name.now ∷ [])) c.in_ok-push.ensures.items
     ∙ chance_last names c.pad.new.chances.items c.args.name.now c.args.chance (c.in_ok-pad.ensures.ok ∙ before)
     ∙ ap (λ (xs : List content.Action). xs ++ action_with c.args.name.now c.args.chance ∷ [])
     (c.in_ok-pad.ensures.same names (omega (arith, c.in_ok-pad.ensures.ok, before)) ∙ c.self.view_is)
 
 pub returns-clause-kept : goal.returns-clause-kept
 returns-clause-kept c =
-    grows c.self.inside.names c.push.new.self c.args.name.now c.self.inside.chances.items c.push-2.new.self.items c.args.self.now c.self.view_is c.in_ok-push.ensures.ok
+    grows c.self.inside.names c.push_view.new.self c.args.name.now c.self.inside.chances.items c.push.new.self.items c.args.self.now c.self.view_is c.in_ok-push_view.ensures.ok

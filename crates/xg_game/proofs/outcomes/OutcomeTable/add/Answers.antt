@@ -16,7 +16,7 @@ push-requires-clause-room c =
 
 pub returns : goal.returns
 returns c =
-    let known : KnownOutcome = record { name = c.args.name; value = record { one = c.payoff_at-one.result; two = c.payoff_at-two.result } } in
+    let known : KnownOutcome = record { name = c.in_ok-name.name; value = record { one = c.payoff_at-one.result; two = c.payoff_at-two.result } } in
     on_ok c.push.result (λ put.
     ap (map outcome_of) put ∙ outcome_added c.self.inside.outcomes (c.args.number, known)
-    ∙ (λ j. c.self.view_is j ++ record { number = c.args.number; name = c.args.name; one = c.payoff_at-one.ensures j; two = c.payoff_at-two.ensures j } ∷ [])) c.push.ensures.ok
+    ∙ (λ j. c.self.view_is j ++ record { number = c.args.number; name = c.in_ok-name.ensures j; one = c.payoff_at-one.ensures j; two = c.payoff_at-two.ensures j } ∷ [])) c.push.ensures.ok

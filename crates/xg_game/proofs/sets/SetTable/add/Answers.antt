@@ -2,6 +2,7 @@ use Rattle.std.proofs.Common.{◌≤◌, ◌∷◌, [], ◌++◌, ℕ, List, map
 use Rattle.std.proofs.Math.ListN.{length-map}
 use Rattle.def_file.specs.Content.{Action, SetEntry}
 use Rattle.def_file.specs.Faults.{set_place_of}
+use Rattle.xg_record.specs.Entry.{actions_seen}
 use Rattle.xg_game.specs.Sets.{set_of}
 use Rattle.xg_game.proofs.TableLemmas.{KnownSet, on_ok, set_added, set_place, within_more, within_put}
 use Rattle.xg_game.proofs.sets.SetTable.add.Goals as goal
@@ -21,7 +22,7 @@ invariant_of-self c =
 
 pub invariant_of-self-2 : goal.invariant_of-self-2
 invariant_of-self-2 c =
-    let known : KnownSet = record { name = c.args.name; value = c.in_ok-span.span } in
+    let known : KnownSet = record { name = c.in_ok-name.name; value = c.in_ok-span.span } in
     let span = c.in_ok-span.ensures.span in
     let more : length c.self.inside.actions ≤ length c.add.new.self = c.add.ensures.kept in
     within_put c.push.result (length c.self.inside.actions) (length c.add.new.self) c.self.inside.sets c.push.new.self (c.args.number, known) c.self.invariant more (omega (arith, more, span.0, span.1), omega (arith, span.1)) c.push.ensures.ok c.push.ensures.err
@@ -29,9 +30,9 @@ invariant_of-self-2 c =
 pub returns : goal.returns
 returns c =
     let all : List Action = c.self.inside.actions in
-    let known : KnownSet = record { name = c.args.name; value = c.in_ok-span.span } in
+    let known : KnownSet = record { name = c.in_ok-name.name; value = c.in_ok-span.span } in
     let span = c.in_ok-span.ensures.span in
     on_ok c.push.result (λ put.
     ap (map (set_of c.add.new.self)) put
-    ∙ set_added all c.args.actions c.add.new.self c.self.inside.sets c.args.number known c.self.invariant c.in_ok-span.ensures.ok span.0 span.1
-    ∙ ap (λ (table : List SetEntry). table ++ record { number = c.args.number; name = c.args.name; actions = c.args.actions } ∷ []) c.self.view_is) c.push.ensures.ok
+    ∙ set_added all (actions_seen c.args.actions.now) c.add.new.self c.self.inside.sets c.args.number known c.self.invariant c.in_ok-span.ensures.ok span.0 span.1
+    ∙ (λ j. c.self.view_is j ++ record { number = c.args.number; name = c.in_ok-name.ensures j; actions = actions_seen c.args.actions.now } ∷ [])) c.push.ensures.ok

@@ -1,4 +1,5 @@
 use Rattle.std.proofs.Common.{length, ap, sym, ◌∙◌, arith}
+use Rattle.xg_game.proofs.TableLemmas.{on_ok}
 use Rattle.xg_game.proofs.ZipLemmas.{zip-length, named}
 use Rattle.xg_game.proofs.table.NumberTable.name.Goals as goal
 
@@ -7,6 +8,7 @@ index_mut-requires g c =
     let long = sym (zip-length c.self.inside.numbers c.self.inside.known.items c.self.invariant) ∙ ap length c.self.view_is in
     omega (arith, long, c.requires, c.self.invariant)
 
-pub returns : goal.returns
-returns g c e at =
-    named c.self.inside.numbers c.self.inside.known.items c.args.self.now c.args.i e c.index_mut.result.now c.args.name c.keep_name.new.kept c.self.view_is c.index_mut.ensures.value c.keep_name.ensures at
+pub returns-clause-ok : goal.returns-clause-ok
+returns-clause-ok g c e at =
+    on_ok c.keep_name.result (λ kept.
+    named c.self.inside.numbers c.self.inside.known.items c.args.self.now c.args.i e c.index_mut.result.now c.args.name.now c.keep_name.new.kept c.self.view_is c.index_mut.ensures.value kept at) c.keep_name.ensures.ok
