@@ -11,7 +11,7 @@ use Rattle.def_file.specs.Reading.{◌>>=◌, entry_at, unless_fault, judged, en
 use Rattle.xg_game.specs.Made.{Made}
 use Rattle.xg_game.specs.declared.fault.Refused.{Refused}
 use Rattle.xg_game.specs.declared.fault.Refused.TheVariants.{File, NoMemory}
-use Rattle.xg_read.specs.Gives.{next_at, next_of, GivesFor, GivesNext}
+use Rattle.xg_read.specs.Gives.{next_at, GivesFor, GivesNext}
 
 judged_ok : (contents : Contents) (r : Record) → record_fault contents r ≡ None
     → judged contents r ≡ Ok (with_record contents r)
@@ -23,16 +23,16 @@ judged_err : (contents : Contents) (r : Record) (fault : FileFault) → record_f
 unfolding judged
 judged_err contents r fault e = ap (λ (f : Option FileFault). unless_fault f (with_record contents r)) e
 
--- an entry is taken, or has a fault
-next_taken : (contents : Contents) (read : Result (Record × ℕ) FileFault) (end : ℕ) (r : Record) → read ≡ Ok (r, end)
+-- the next entry is taken, or has a fault
+next_taken : (contents : Contents) (whole : List ℕ) (at end : ℕ) (r : Record) → entry_at whole at ≡ Ok (r, end)
     → record_fault contents r ≡ None
-    → next_of contents read ≡ Ok (with_record contents r, end)
-next_taken contents read end r is sound = rw (is, judged_ok contents r sound) refl
+    → next_at contents whole at ≡ Ok (with_record contents r, end)
+next_taken contents whole at end r read sound = rw (read, judged_ok contents r sound) refl
 
-next_judged : (contents : Contents) (read : Result (Record × ℕ) FileFault) (end : ℕ) (r : Record) (fault : FileFault)
-    → read ≡ Ok (r, end) → record_fault contents r ≡ Some fault
-    → next_of contents read ≡ Err fault
-next_judged contents read end r fault is bad = rw (is, judged_err contents r fault bad) refl
+next_judged : (contents : Contents) (whole : List ℕ) (at end : ℕ) (r : Record) (fault : FileFault)
+    → entry_at whole at ≡ Ok (r, end) → record_fault contents r ≡ Some fault
+    → next_at contents whole at ≡ Err fault
+next_judged contents whole at end r fault read bad = rw (read, judged_err contents r fault bad) refl
 
 -- a whole tree has no further entry
 pub entries_done : (left : ℕ) (contents : Contents) (whole : List ℕ) (at : ℕ) → 0 < left → wanted 1 contents.nodes ≡ 0
@@ -94,16 +94,16 @@ entries_next left after contents next whole seen at end same e goes read =
     ∙ ap (λ (n : ℕ). entries_from n next whole end) one
 
 -- an entry that was pushed
-pub pushed : (result : Result (Unit {0}) Refused) (old new : Made) (read : Result (Record × ℕ) FileFault) (end : ℕ) (r : Record)
-    → read ≡ Ok (r, end)
+pub pushed : (result : Result (Unit {0}) Refused) (old new : Made) (whole : List ℕ) (at end : ℕ) (r : Record)
+    → entry_at whole at ≡ Ok (r, end)
     → OnOk result (record_fault old.contents r ≡ None)
     → OnOk result (new ≡ record old { contents = with_record old.contents r })
     → ((fault : FileFault) → result ≡ Err (File fault) → (record_fault old.contents r ≡ Some fault) × (new ≡ old))
-    → GivesNext result new.contents end (next_of old.contents read)
-pushed (Ok _) old new read end r is sound put refused =
-    next_taken old.contents read end r is sound ∙ ap (λ (known : Contents). Ok (known, end)) (sym (ap (λ (made : Made). made.contents) put))
-pushed (Err (File fault)) old new read end r is sound put refused = next_judged old.contents read end r fault is (refused fault refl).0
-pushed (Err NoMemory) old new read end r is sound put refused = tt
+    → GivesNext result new.contents end (next_at old.contents whole at)
+pushed (Ok _) old new whole at end r read sound put refused =
+    next_taken old.contents whole at end r read sound ∙ ap (λ (known : Contents). Ok (known, end)) (sym (ap (λ (made : Made). made.contents) put))
+pushed (Err (File fault)) old new whole at end r read sound put refused = next_judged old.contents whole at end r fault read (refused fault refl).0
+pushed (Err NoMemory) old new whole at end r read sound put refused = tt
 
 -- reading stops with the next entry
 pub stopped : {X : Type 0} (view : X → Contents) (refused : Refused) (next : Contents) (left : ℕ) (contents : Contents) (whole seen : List ℕ) (at end place : ℕ) (all : Result (Contents × ℕ) FileFault)

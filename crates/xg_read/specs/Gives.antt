@@ -1,10 +1,8 @@
 -- What a reader gives, beside what reading the bytes gives by definition.
 use Rattle.std.specs.Prelude.{◌≡◌, ℕ, List, Result, Ok, Err}
 use Rattle.def_file.specs.declared.FileFault.{FileFault}
-use Rattle.def_file.specs.declared.EntryKind.{EntryKind}
-use Rattle.def_file.specs.declared.EntryKind.TheVariants.{Chance, Personal, Leaf}
-use Rattle.def_file.specs.Content.{Contents, Record}
-use Rattle.def_file.specs.Reading.{◌>>=◌, chance_entry_at, entry_at, judged, personal_entry_at, terminal_entry_at}
+use Rattle.def_file.specs.Content.{Contents}
+use Rattle.def_file.specs.Reading.{◌>>=◌, entry_at, judged}
 use Rattle.xg_game.specs.declared.fault.Refused.{Refused}
 use Rattle.xg_game.specs.declared.fault.Refused.TheVariants.{File, NoMemory}
 
@@ -19,23 +17,9 @@ GivesFor view (Ok x) at read = read ≡ Ok (view x, at)
 GivesFor view (Err (File fault)) at read = read ≡ Err fault
 GivesFor view (Err NoMemory) at read = Unit {0}
 
--- an entry of a kind, behind its word
-abbrev pub entry_as : EntryKind → List ℕ → ℕ → Result (Record × ℕ) FileFault
-entry_as Chance whole at = chance_entry_at whole at
-entry_as Personal whole at = personal_entry_at whole at
-entry_as Leaf whole at = terminal_entry_at whole at
-
--- the kind of the next entry, with the place behind its word, or the fault
-abbrev pub GivesHead : Result EntryKind FileFault → ℕ → List ℕ → ℕ → Type 0
-GivesHead (Ok kind) behind whole at = entry_at whole at ≡ entry_as kind whole behind
-GivesHead (Err fault) behind whole at = entry_at whole at ≡ Err fault
-
--- what is known with an entry that is read
-abbrev pub next_of : Contents → Result (Record × ℕ) FileFault → Result (Contents × ℕ) FileFault
-next_of contents read = read >>= λ entry. judged contents entry.0 >>= λ next. Ok (next, entry.1)
-
+-- the next entry, and what is known with it
 abbrev pub next_at : Contents → List ℕ → ℕ → Result (Contents × ℕ) FileFault
-next_at contents whole at = next_of contents (entry_at whole at)
+next_at contents whole at = entry_at whole at >>= λ entry. judged contents entry.0 >>= λ next. Ok (next, entry.1)
 
 -- what is known then, with the place behind the entry, or the fault, where memory may run out
 abbrev pub GivesNext : {X : Type 0} → Result X Refused → Contents → ℕ → Result (Contents × ℕ) FileFault → Type 0

@@ -1,11 +1,12 @@
 -- What an entry says of its set and its outcome, and the names of a prologue, as reading has them.
 use Rattle.def_fraction.specs.Fraction.{most}
-use Rattle.std.specs.Prelude.{◌≡◌, ℕ, ◌≤◌, true, List, [], length, slice_get, unwrap_or, Option, Result, Ok, Err}
+use Rattle.std.specs.Prelude.{◌≡◌, ℕ, ◌≤◌, true, List, [], length, slice_get, option_map, unwrap_or, Option, Result, Ok, Err}
 use Rattle.def_file.specs.declared.FileFault.{FileFault}
 use Rattle.def_file.specs.Content as content
 use Rattle.def_file.specs.Faults.{has_set}
 use Rattle.def_file.specs.Reading.{◌>>=◌, checked_names, name_at, nth_name}
-use Rattle.xg_record.specs.declared.record.Record.{Record}
+use Rattle.xg_record.specs.Entry.{actions_seen}
+use Rattle.xg_record.specs.declared.entry.Entry.{Entry}
 use Rattle.xg_read.specs.declared.entries.SetMention.{SetMention}
 use Rattle.xg_read.specs.declared.entries.OutcomeMention.{OutcomeMention}
 use Rattle.xg_read.specs.declared.prologue.PlayerNames.{PlayerNames}
@@ -15,13 +16,13 @@ use Rattle.xg_game.specs.declared.fault.Refused.{Refused}
 use Rattle.xg_game.specs.declared.fault.Refused.TheVariants.{File, NoMemory}
 
 abbrev pub set_mention_of : SetMention → content.SetMention
-set_mention_of m = record { number = m.number; name = m.name; actions = m.actions }
+set_mention_of m = record { number = m.number; name = m.name; actions = option_map actions_seen m.actions }
 
 abbrev pub outcome_mention_of : OutcomeMention → content.OutcomeMention
-outcome_mention_of m = record { number = m.number; name = m.name; payoffs = m.payoffs }
+outcome_mention_of m = record { number = m.number; name = m.name; payoffs = option_map (λ p. p.now) m.payoffs }
 
 -- the numbers of an entry are those that an entry may have
-pub record HasNumbers (r : Record) : Type 0 where
+pub record HasNumbers (r : Entry) : Type 0 where
   pub outcome : r.outcome ≤ most
   pub set : has_set r.kind ≡ true → (1 ≤ r.set) × (r.set ≤ most)
 

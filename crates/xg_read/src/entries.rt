@@ -1,47 +1,70 @@
 //! The entries of a file.
 ghost use Rattle.def_fraction.specs.Fraction.{most};
 ghost use Rattle.std.specs.Prelude.{◌≡◌, ◌≤◌, IfOk};
-ghost use Rattle.def_file.specs.Reading.{chance_entry_at, entry_at, outcome_mention_at, personal_entry_at, set_mention_at, terminal_entry_at};
-ghost use Rattle.xg_record.specs.Record.{record_of};
-ghost use Rattle.xg_read.specs.Gives.{GivesFor, GivesHead};
+ghost use Rattle.def_file.specs.Reading.{chance_entry_at, entry_at, entry_behind, outcome_mention_at, personal_entry_at, set_mention_at, terminal_entry_at};
+ghost use Rattle.xg_record.specs.Entry.{entry_of};
+ghost use Rattle.xg_read.specs.Gives.{GivesFor};
 ghost use Rattle.xg_read.specs.Mentions.{HasNumbers, outcome_mention_of, set_mention_of};
 
 use crate::reader::Reader;
 use crate::wanted::Wanted;
-use def_file::{EntryKind, FileFault};
+use def_file::EntryKind;
 use std::alloc::Global;
 use xg_game::Refused;
-use xg_lex::{Text, Token};
-use xg_record::{Actions, Payoffs, Record};
+use xg_lex::{TextView, Token};
+use xg_record::{ActionViews, ActionsView, Entry, Payoffs};
 
 /// What an entry says of its set.
 #[derive(Drop)]
-pub struct SetMention {
+pub struct SetMention<'a> {
     pub number: u64,
-    pub name: Option<Text>,
-    pub actions: Option<Actions>,
+    pub name: Option<TextView<'a>>,
+    pub actions: Option<ActionsView<'a>>,
 }
 
 /// What an entry says of its outcome.
 #[derive(Drop)]
-pub struct OutcomeMention {
+pub struct OutcomeMention<'a> {
     pub number: u64,
-    pub name: Option<Text>,
-    pub payoffs: Option<Payoffs>,
+    pub name: Option<TextView<'a>>,
+    pub payoffs: Option<&'a Payoffs>,
+}
+
+/// The lists of an entry, in memory that serves one entry after another.
+#[derive(Drop)]
+pub struct Lists<'a> {
+    pub actions: ActionViews<'a>,
+    pub payoffs: Payoffs,
+}
+
+impl<'a> Lists<'a> {
+    /// Empty lists.
+    pub fn new(alloc: Global) -> Lists<'a> {
+        Lists {
+            actions: ActionViews::new(alloc),
+            payoffs: Payoffs::new(alloc),
+        }
+    }
 }
 
 impl<'a> Reader<'a> {
     /// A set's number, and its name and actions where they come.
     #[tactic(auto, unfolding(def_file::specs::Reading::set_mention_at))]
-    fn set_mention(&mut self, alloc: Global, kind: EntryKind) -> Result<SetMention, Refused>
+    fn set_mention<'l>(
+        &mut self,
+        kind: EntryKind,
+        actions: &'l mut ActionViews<'a>,
+    ) -> Result<SetMention<'l>, Refused>
+    where
+        'a: 'l,
         ensures exact { GivesFor set_mention_of result self.new.at (set_mention_at kind self.old.whole self.old.at) }
         ensures whole { self.new.whole ≡ self.old.whole }
         ensures from_one { IfOk result (λ set. 1 ≤ set.number) }
         ensures limit { IfOk result (λ set. set.number ≤ most) }
     {
         let number = self.set_number()?;
-        let name = self.name(alloc)?;
-        let actions = self.actions(alloc, kind)?;
+        let name = self.name_view()?;
+        let actions = self.actions(kind, actions)?;
         Ok(SetMention {
             number,
             name,
@@ -51,14 +74,19 @@ impl<'a> Reader<'a> {
 
     /// An outcome's number, and its name and payoffs where they come.
     #[tactic(auto, unfolding(def_file::specs::Reading::outcome_mention_at))]
-    fn outcome_mention(&mut self, alloc: Global) -> Result<OutcomeMention, Refused>
+    fn outcome_mention<'l>(
+        &mut self,
+        payoffs: &'l mut Payoffs,
+    ) -> Result<OutcomeMention<'l>, Refused>
+    where
+        'a: 'l,
         ensures exact { GivesFor outcome_mention_of result self.new.at (outcome_mention_at self.old.whole self.old.at) }
         ensures whole { self.new.whole ≡ self.old.whole }
         ensures limit { IfOk result (λ outcome. outcome.number ≤ most) }
     {
         let number = self.whole_number()?;
-        let name = self.name(alloc)?;
-        let payoffs = self.payoffs(alloc)?;
+        let name = self.name_view()?;
+        let payoffs = self.payoffs(payoffs)?;
         Ok(OutcomeMention {
             number,
             name,
@@ -68,41 +96,47 @@ impl<'a> Reader<'a> {
 
     /// A chance entry behind its word.
     #[tactic(auto, unfolding(def_file::specs::Reading::chance_entry_at))]
-    pub fn chance_entry(&mut self, alloc: Global) -> Result<Record, Refused>
-        ensures exact { GivesFor record_of result self.new.at (chance_entry_at self.old.whole self.old.at) }
+    fn chance_entry<'l>(&mut self, lists: &'l mut Lists<'a>) -> Result<Entry<'l>, Refused>
+    where
+        'a: 'l,
+        ensures exact { GivesFor entry_of result self.new.at (chance_entry_at self.old.whole self.old.at) }
         ensures whole { self.new.whole ≡ self.old.whole }
         ensures numbers { IfOk result HasNumbers }
     {
-        let name = self.next_text(alloc)?;
-        let set = self.set_mention(alloc, EntryKind::Chance)?;
-        let outcome = self.outcome_mention(alloc)?;
+        let name = self.next_view()?;
+        let set = self.set_mention(EntryKind::Chance, &mut lists.actions)?;
+        let outcome = self.outcome_mention(&mut lists.payoffs)?;
         Ok(with_set(EntryKind::Chance, name, 0, set, outcome))
     }
 
     /// A personal entry behind its word.
     #[tactic(auto, unfolding(def_file::specs::Reading::personal_entry_at))]
-    pub fn personal_entry(&mut self, alloc: Global) -> Result<Record, Refused>
-        ensures exact { GivesFor record_of result self.new.at (personal_entry_at self.old.whole self.old.at) }
+    fn personal_entry<'l>(&mut self, lists: &'l mut Lists<'a>) -> Result<Entry<'l>, Refused>
+    where
+        'a: 'l,
+        ensures exact { GivesFor entry_of result self.new.at (personal_entry_at self.old.whole self.old.at) }
         ensures whole { self.new.whole ≡ self.old.whole }
         ensures numbers { IfOk result HasNumbers }
     {
-        let name = self.next_text(alloc)?;
+        let name = self.next_view()?;
         let player = self.whole_number()?;
-        let set = self.set_mention(alloc, EntryKind::Personal)?;
-        let outcome = self.outcome_mention(alloc)?;
+        let set = self.set_mention(EntryKind::Personal, &mut lists.actions)?;
+        let outcome = self.outcome_mention(&mut lists.payoffs)?;
         Ok(with_set(EntryKind::Personal, name, player, set, outcome))
     }
 
     /// A terminal entry behind its word.
     #[tactic(auto, unfolding(def_file::specs::Reading::terminal_entry_at))]
-    pub fn terminal_entry(&mut self, alloc: Global) -> Result<Record, Refused>
-        ensures exact { GivesFor record_of result self.new.at (terminal_entry_at self.old.whole self.old.at) }
+    fn terminal_entry<'l>(&mut self, lists: &'l mut Lists<'a>) -> Result<Entry<'l>, Refused>
+    where
+        'a: 'l,
+        ensures exact { GivesFor entry_of result self.new.at (terminal_entry_at self.old.whole self.old.at) }
         ensures whole { self.new.whole ≡ self.old.whole }
         ensures numbers { IfOk result HasNumbers }
     {
-        let name = self.next_text(alloc)?;
-        let outcome = self.outcome_mention(alloc)?;
-        Ok(Record {
+        let name = self.next_view()?;
+        let outcome = self.outcome_mention(&mut lists.payoffs)?;
+        Ok(Entry {
             kind: EntryKind::Leaf,
             name,
             player: 0,
@@ -115,34 +149,37 @@ impl<'a> Reader<'a> {
         })
     }
 
-    /// The word of the next entry, which tells its kind.
+    /// The next entry. Its lists are read into `lists`.
     #[tactic(auto, unfolding(def_file::specs::Reading::entry_at))]
-    pub fn head(&mut self) -> Result<EntryKind, FileFault>
-        ensures exact { GivesHead result self.new.at self.old.whole self.old.at }
+    pub fn entry<'l>(&mut self, lists: &'l mut Lists<'a>) -> Result<Entry<'l>, Refused>
+    where
+        'a: 'l,
+        ensures exact { GivesFor entry_of result self.new.at (entry_at self.old.whole self.old.at) }
         ensures whole { self.new.whole ≡ self.old.whole }
+        ensures numbers { IfOk result HasNumbers }
     {
         let head = self.token(Wanted::Head)?;
         if self.is_exact(Token::Word, b"c", head) {
-            return Ok(EntryKind::Chance);
+            return self.chance_entry(lists);
         }
         if self.is_exact(Token::Word, b"p", head) {
-            return Ok(EntryKind::Personal);
+            return self.personal_entry(lists);
         }
-        Ok(EntryKind::Leaf)
+        self.terminal_entry(lists)
     }
 }
 
 /// The entry of a node with a set.
-fn with_set(
+fn with_set<'a>(
     kind: EntryKind,
-    name: Text,
+    name: TextView<'a>,
     player: u64,
-    set: SetMention,
-    outcome: OutcomeMention,
-) -> Record
-    ensures { record_of result ≡ record { kind = kind; name = name; player = player; set = set_mention_of set; outcome = outcome_mention_of outcome } }
+    set: SetMention<'a>,
+    outcome: OutcomeMention<'a>,
+) -> Entry<'a>
+    ensures { entry_of result ≡ record { kind = kind; name = name.entry; player = player; set = set_mention_of set.entry; outcome = outcome_mention_of outcome.entry } }
 {
-    Record {
+    Entry {
         kind,
         name,
         player,

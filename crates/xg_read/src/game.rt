@@ -3,13 +3,14 @@ ghost use Rattle.std.specs.Prelude.{◌≡◌, ◌≢◌, ◌-◌, ◌≤◌, fa
 ghost use Rattle.def_tree.specs.Tree.{wanted};
 ghost use Rattle.def_file.specs.declared.FileFault.{FileFault};
 ghost use Rattle.def_file.specs.Content.{GameFile};
-ghost use Rattle.def_file.specs.Reading.{chance_entry_at, entries_from, game_at, most_bytes, personal_entry_at, terminal_entry_at};
+ghost use Rattle.def_file.specs.Reading.{entries_from, game_at, most_bytes};
 ghost use Rattle.def_file_form.specs.Laws.{StandsFor};
 ghost use Rattle.def_file_fault.specs.First.{FirstFault};
-ghost use Rattle.xg_read.specs.Gives.{Answers, GivesFor, GivesNext, next_at, next_of};
+ghost use Rattle.xg_read.specs.Gives.{Answers, GivesFor, GivesNext, next_at};
 
+use crate::entries::Lists;
 use crate::reader::Reader;
-use def_file::{EntryKind, FileFault};
+use def_file::FileFault;
 use std::alloc::Global;
 use xg_game::{Game, GameMaker, Refused};
 use xg_tree::MOST_NODES;
@@ -53,7 +54,8 @@ fn read_file(alloc: Global, bytes: &[u8]) -> Result<Game, Refused>
         prologue.two,
         prologue.comment,
     );
-    let maker = read_entries(alloc, &mut reader, maker, MOST_ENTRIES)?;
+    let mut lists = Lists::new(alloc);
+    let maker = read_entries(&mut reader, &mut lists, maker, MOST_ENTRIES)?;
     match reader.nothing() {
         Ok(_) => Ok(maker.finish()),
         Err(fault) => Err(Refused::File(fault)),
@@ -62,9 +64,9 @@ fn read_file(alloc: Global, bytes: &[u8]) -> Result<Game, Refused>
 
 /// Reads entries until the tree is whole, at most `most` of them.
 #[tactic(auto, using(crate::proofs::Taken::entries_done, crate::proofs::Taken::entries_stopped, crate::proofs::Taken::entries_full))]
-fn read_entries(
-    alloc: Global,
-    reader: &mut Reader<'_>,
+fn read_entries<'a>(
+    reader: &mut Reader<'a>,
+    lists: &mut Lists<'a>,
     maker: GameMaker,
     most: usize,
 ) -> Result<GameMaker, Refused>
@@ -81,14 +83,17 @@ fn read_entries(
         if maker.is_complete() {
             return Ok(maker);
         }
-        take_entry(alloc, reader, &mut maker)?;
+        take_entry(reader, lists, &mut maker)?;
     }
     Err(Refused::File(FileFault::TooManyNodes))
 }
 
 /// Reads the next entry and puts it last.
-// Each kind of entries has a function of its own, so that a leaf doesn't clear what a set needs.
-fn take_entry(alloc: Global, reader: &mut Reader<'_>, maker: &mut GameMaker) -> Result<(), Refused>
+fn take_entry<'a>(
+    reader: &mut Reader<'a>,
+    lists: &mut Lists<'a>,
+    maker: &mut GameMaker,
+) -> Result<(), Refused>
     requires incomplete { wanted 1 maker.old.contents.nodes ≢ 0 }
     requires unspent { maker.old.spent ≡ false }
     ensures exact { GivesNext result maker.new.contents reader.new.at (next_at maker.old.contents reader.old.whole reader.old.at) }
@@ -96,66 +101,6 @@ fn take_entry(alloc: Global, reader: &mut Reader<'_>, maker: &mut GameMaker) -> 
     ensures prologue { maker.new.prologue ≡ maker.old.prologue }
     ensures whole { reader.new.whole ≡ reader.old.whole }
 {
-    match reader.head()? {
-        EntryKind::Chance => take_chance_entry(alloc, reader, maker),
-        EntryKind::Personal => take_personal_entry(alloc, reader, maker),
-        EntryKind::Leaf => take_terminal_entry(alloc, reader, maker),
-    }
-}
-
-/// Reads a chance entry behind its word and puts it last.
-#[inline(never)]
-fn take_chance_entry(
-    alloc: Global,
-    reader: &mut Reader<'_>,
-    maker: &mut GameMaker,
-) -> Result<(), Refused>
-    requires incomplete { wanted 1 maker.old.contents.nodes ≢ 0 }
-    requires unspent { maker.old.spent ≡ false }
-    ensures exact { GivesNext result maker.new.contents reader.new.at
-        (next_of maker.old.contents (chance_entry_at reader.old.whole reader.old.at)) }
-    ensures unspent { OnOk result (maker.new.spent ≡ false) }
-    ensures prologue { maker.new.prologue ≡ maker.old.prologue }
-    ensures whole { reader.new.whole ≡ reader.old.whole }
-{
-    let entry = reader.chance_entry(alloc)?;
-    maker.push(entry)
-}
-
-/// Reads a personal entry behind its word and puts it last.
-#[inline(never)]
-fn take_personal_entry(
-    alloc: Global,
-    reader: &mut Reader<'_>,
-    maker: &mut GameMaker,
-) -> Result<(), Refused>
-    requires incomplete { wanted 1 maker.old.contents.nodes ≢ 0 }
-    requires unspent { maker.old.spent ≡ false }
-    ensures exact { GivesNext result maker.new.contents reader.new.at
-        (next_of maker.old.contents (personal_entry_at reader.old.whole reader.old.at)) }
-    ensures unspent { OnOk result (maker.new.spent ≡ false) }
-    ensures prologue { maker.new.prologue ≡ maker.old.prologue }
-    ensures whole { reader.new.whole ≡ reader.old.whole }
-{
-    let entry = reader.personal_entry(alloc)?;
-    maker.push(entry)
-}
-
-/// Reads a terminal entry behind its word and puts it last.
-#[inline(never)]
-fn take_terminal_entry(
-    alloc: Global,
-    reader: &mut Reader<'_>,
-    maker: &mut GameMaker,
-) -> Result<(), Refused>
-    requires incomplete { wanted 1 maker.old.contents.nodes ≢ 0 }
-    requires unspent { maker.old.spent ≡ false }
-    ensures exact { GivesNext result maker.new.contents reader.new.at
-        (next_of maker.old.contents (terminal_entry_at reader.old.whole reader.old.at)) }
-    ensures unspent { OnOk result (maker.new.spent ≡ false) }
-    ensures prologue { maker.new.prologue ≡ maker.old.prologue }
-    ensures whole { reader.new.whole ≡ reader.old.whole }
-{
-    let entry = reader.terminal_entry(alloc)?;
-    maker.push(entry)
+    let entry = reader.entry(lists)?;
+    maker.push_entry(&entry)
 }

@@ -1,17 +1,17 @@
 //! Lists of actions and of payoffs.
-ghost use Rattle.std.specs.Prelude.{◌≡◌, ◌-◌, [], length};
+ghost use Rattle.std.specs.Prelude.{◌≡◌, ◌-◌, [], length, option_map};
 ghost use Rattle.def_file.specs.Content.{zero_fraction};
 ghost use Rattle.def_file.specs.Reading.{action_at, actions_at, actions_from, chance_at, comma_at, payoff_at, payoffs_at, payoffs_from};
-ghost use Rattle.xg_record.specs.Action.{action_of};
+ghost use Rattle.xg_record.specs.Entry.{actions_seen};
+ghost use Rattle.xg_record.specs.Seen.{action_seen};
 ghost use Rattle.xg_read.specs.Gives.{Gives, GivesFor};
 
 use crate::reader::Reader;
 use crate::wanted::Wanted;
 use def_file::{EntryKind, FileFault};
-use std::alloc::Global;
 use xg_frac::{Frac, whole};
 use xg_game::Refused;
-use xg_record::{Action, Actions, Payoffs};
+use xg_record::{ActionView, ActionViews, ActionsView, Payoffs};
 
 impl<'a> Reader<'a> {
     /// The probability of an action, which is read where chance moves, and else is 0.
@@ -27,30 +27,34 @@ impl<'a> Reader<'a> {
 
     /// An action: its name, and its probability where chance moves.
     #[tactic(auto, unfolding(def_file::specs::Reading::action_at))]
-    fn action(&mut self, alloc: Global, kind: EntryKind) -> Result<Action, Refused>
-        ensures exact { GivesFor action_of result self.new.at (action_at kind self.old.whole self.old.at) }
+    fn action(&mut self, kind: EntryKind) -> Result<ActionView<'a>, Refused>
+        ensures exact { GivesFor action_seen result self.new.at (action_at kind self.old.whole self.old.at) }
         ensures whole { self.new.whole ≡ self.old.whole }
     {
-        let name = self.next_text(alloc)?;
+        let name = self.next_view()?;
         let chance = self.chance(kind)?;
-        Ok(Action { name, chance })
+        Ok(ActionView { name, chance })
     }
 
     /// The actions up to the closing brace.
     #[tactic(auto, using(crate::proofs::Items::actions_closed, crate::proofs::Items::actions_more, crate::proofs::Items::actions_full), unfolding(def_file::specs::Reading::close_at))]
-    fn actions_in_braces(&mut self, alloc: Global, kind: EntryKind) -> Result<Actions, Refused>
-        ensures exact { GivesFor (λ actions. actions) result self.new.at
+    fn actions_in_braces(
+        &mut self,
+        kind: EntryKind,
+        actions: &mut ActionViews<'a>,
+    ) -> Result<(), Refused>
+        ensures exact { GivesFor (λ _. actions.new) result self.new.at
             (actions_from kind (length self.old.whole) [] self.old.whole self.old.at) }
         ensures whole { self.new.whole ≡ self.old.whole }
     {
-        let mut actions = Actions::new(alloc);
+        actions.clear();
         let most = self.len();
         'actions: for _ in 0..most {
             if self.comes(b'}') {
                 self.token(Wanted::Close)?;
-                return Ok(actions);
+                return Ok(());
             }
-            let action = self.action(alloc, kind)?;
+            let action = self.action(kind)?;
             actions.push(action)?;
         }
         Err(Refused::File(FileFault::UnexpectedEnd))
@@ -58,16 +62,22 @@ impl<'a> Reader<'a> {
 
     /// A list of actions, if one comes.
     #[tactic(auto, unfolding(def_file::specs::Reading::actions_at))]
-    pub fn actions(&mut self, alloc: Global, kind: EntryKind) -> Result<Option<Actions>, Refused>
-        ensures exact { GivesFor (λ actions. actions) result self.new.at (actions_at kind self.old.whole self.old.at) }
+    pub fn actions<'l>(
+        &mut self,
+        kind: EntryKind,
+        actions: &'l mut ActionViews<'a>,
+    ) -> Result<Option<ActionsView<'l>>, Refused>
+    where
+        'a: 'l,
+        ensures exact { GivesFor (option_map actions_seen) result self.new.at (actions_at kind self.old.whole self.old.at) }
         ensures whole { self.new.whole ≡ self.old.whole }
     {
         if !self.comes(b'{') {
             return Ok(None);
         }
         self.token(Wanted::Open)?;
-        let actions = self.actions_in_braces(alloc, kind)?;
-        Ok(Some(actions))
+        self.actions_in_braces(kind, actions)?;
+        Ok(Some(ActionsView::Views(actions)))
     }
 }
 
@@ -87,19 +97,19 @@ impl<'a> Reader<'a> {
 
     /// The payoffs up to the closing brace.
     #[tactic(auto, using(crate::proofs::Items::payoffs_closed, crate::proofs::Items::payoffs_more, crate::proofs::Items::payoffs_full), unfolding(def_file::specs::Reading::close_at))]
-    fn payoffs_in_braces(&mut self, alloc: Global) -> Result<Payoffs, Refused>
-        ensures exact { GivesFor (λ payoffs. payoffs) result self.new.at
+    fn payoffs_in_braces(&mut self, payoffs: &mut Payoffs) -> Result<(), Refused>
+        ensures exact { GivesFor (λ _. payoffs.new) result self.new.at
             (payoffs_from (length self.old.whole) [] self.old.whole self.old.at) }
         ensures whole { self.new.whole ≡ self.old.whole }
     {
-        let mut payoffs = Payoffs::new(alloc);
+        payoffs.clear();
         let most = self.len();
         'payoffs: for _ in 0..most {
             if self.comes(b'}') {
                 self.token(Wanted::Close)?;
-                return Ok(payoffs);
+                return Ok(());
             }
-            let payoff = self.payoff(&payoffs)?;
+            let payoff = self.payoff(payoffs)?;
             payoffs.push(payoff)?;
         }
         Err(Refused::File(FileFault::UnexpectedEnd))
@@ -107,15 +117,17 @@ impl<'a> Reader<'a> {
 
     /// A list of payoffs, if one comes.
     #[tactic(auto, unfolding(def_file::specs::Reading::payoffs_at))]
-    pub fn payoffs(&mut self, alloc: Global) -> Result<Option<Payoffs>, Refused>
-        ensures exact { GivesFor (λ payoffs. payoffs) result self.new.at (payoffs_at self.old.whole self.old.at) }
+    pub fn payoffs<'l>(&mut self, payoffs: &'l mut Payoffs) -> Result<Option<&'l Payoffs>, Refused>
+    where
+        'a: 'l,
+        ensures exact { GivesFor (option_map (λ p. p.now)) result self.new.at (payoffs_at self.old.whole self.old.at) }
         ensures whole { self.new.whole ≡ self.old.whole }
     {
         if !self.comes(b'{') {
             return Ok(None);
         }
         self.token(Wanted::Open)?;
-        let payoffs = self.payoffs_in_braces(alloc)?;
+        self.payoffs_in_braces(payoffs)?;
         Ok(Some(payoffs))
     }
 }

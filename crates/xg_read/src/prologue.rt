@@ -113,8 +113,8 @@ impl<'a> Reader<'a> {
         ensures exact { GivesFor (λ text. text) result self.new.at (comment_at self.old.whole self.old.at) }
         ensures whole { self.new.whole ≡ self.old.whole }
     {
-        match self.name(alloc)? {
-            Some(text) => Ok(text),
+        match self.name_view()? {
+            Some(text) => Ok(text.to_text(alloc)?),
             None => Ok(unescape(alloc, b"")?),
         }
     }

@@ -6,9 +6,8 @@ ghost use Rattle.xg_read.specs.Wanted.{test_of};
 
 use crate::wanted::{Wanted, is_exact, is_kind};
 use def_file::FileFault;
-use std::alloc::{AllocError, Global};
 use std::marker::Model;
-use xg_lex::{LexFault, Lexeme, Text, Token, Tokens, unescape};
+use xg_lex::{LexFault, Lexeme, TextView, Token, Tokens};
 
 /// Reads a file from front to back.
 #[derive(Drop)]
@@ -118,14 +117,15 @@ impl<'a> Reader<'a> {
         is_exact(kind, exact, self.bytes, token)
     }
 
-    /// The bytes that a text token stands for.
-    pub fn text(&self, alloc: Global, token: Lexeme) -> Result<Text, AllocError>
+    /// The text that a text token stands for.
+    pub fn text(&self, token: Lexeme) -> TextView<'a>
         requires marks { token.start + 2 ≤ token.end }
         requires within { token.end ≤ length self.now.whole }
         requires inside { IsInside (slice_range self.now.whole (token.start + 1) (token.end - 1)) }
-        ensures { IfOk result (λ text. text ≡ token_text self.now.whole token) }
+        ensures { result ≡ token_text self.now.whole token }
     {
-        unescape(alloc, &self.bytes[token.start + 1..token.end - 1])
+        let bytes = self.bytes;
+        TextView::of(&bytes[token.start + 1..token.end - 1])
     }
 }
 

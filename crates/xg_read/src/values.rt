@@ -11,29 +11,38 @@ use def_file::FileFault;
 use std::alloc::Global;
 use xg_frac::{Frac, NumberFault, read_literal, read_whole};
 use xg_game::Refused;
-use xg_lex::Text;
+use xg_lex::{Text, TextView};
 
 impl<'a> Reader<'a> {
-    /// The next text token, and the bytes that it stands for.
+    /// The next text token's text, where it stands.
     #[tactic(auto, using(crate::proofs::Texts::kind_is_text), unfolding(def_file::specs::Reading::text_at))]
+    pub fn next_view(&mut self) -> Result<TextView<'a>, FileFault>
+        ensures exact { Gives result self.new.at (text_at self.old.whole self.old.at) }
+        ensures whole { self.new.whole ≡ self.old.whole }
+    {
+        let token = self.token(Wanted::Text)?;
+        Ok(self.text(token))
+    }
+
+    /// The next text token's text.
     pub fn next_text(&mut self, alloc: Global) -> Result<Text, Refused>
         ensures exact { GivesFor (λ text. text) result self.new.at (text_at self.old.whole self.old.at) }
         ensures whole { self.new.whole ≡ self.old.whole }
     {
-        let token = self.token(Wanted::Text)?;
-        Ok(self.text(alloc, token)?)
+        let text = self.next_view()?;
+        Ok(text.to_text(alloc)?)
     }
 
-    /// A name, if one comes.
+    /// A name where it stands, if one comes.
     #[tactic(auto, unfolding(def_file::specs::Reading::name_at))]
-    pub fn name(&mut self, alloc: Global) -> Result<Option<Text>, Refused>
-        ensures exact { GivesFor (λ name. name) result self.new.at (name_at self.old.whole self.old.at) }
+    pub fn name_view(&mut self) -> Result<Option<TextView<'a>>, FileFault>
+        ensures exact { Gives result self.new.at (name_at self.old.whole self.old.at) }
         ensures whole { self.new.whole ≡ self.old.whole }
     {
         if !self.comes(b'"') {
             return Ok(None);
         }
-        let text = self.next_text(alloc)?;
+        let text = self.next_view()?;
         Ok(Some(text))
     }
 
