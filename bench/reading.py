@@ -20,6 +20,7 @@ import time
 ROOT = pathlib.Path(__file__).resolve().parent.parent
 PROGRAM = ROOT / "crates" / "xg_solve" / "out" / "xg_solve"
 MOST_NODES = 1_048_576
+SIZES = (131_072, 262_144, 524_288, MOST_NODES)
 MOST_BYTES = 67_108_864
 
 
@@ -153,10 +154,17 @@ def run(words):
 
 
 def best(words, runs, want):
-    results = [run(words) for _ in range(runs)]
-    for result in results:
-        assert result[2] == want, (words, result[2])
-    return min(r[0] for r in results), max(r[1] for r in results)
+    return best_in_turn([words], runs, want)[0]
+
+
+def best_in_turn(calls, runs, want):
+    """The best time and the most memory of each call. The calls take turns, so that a change of the machine's speed meets
+    all of them."""
+    turns = [[run(words) for words in calls] for _ in range(runs)]
+    for words, results in zip(calls, zip(*turns)):
+        for result in results:
+            assert result[2] == want, (words, result[2])
+    return [(min(r[0] for r in results), max(r[1] for r in results)) for results in zip(*turns)]
 
 
 def main():
@@ -182,8 +190,11 @@ def main():
             path.write_bytes(data)
             return str(path)
 
+        def words_of(path):
+            return [str(PROGRAM), "solve", path, "--rounds", "0"]
+
         def solve(path, want=0):
-            return best([str(PROGRAM), "solve", path, "--rounds", "0"], runs, want)
+            return best(words_of(path), runs, want)
 
         def against_other(what, path):
             if not beside:
@@ -198,13 +209,13 @@ def main():
             report(f"{what}, against wc -w ({ours:.3f} s, {words:.3f} s, {memory} bytes of memory)", ours / max(words, 0.001), 6, "times")
 
         for kind, make in (("wide", wide), ("cards", rounds_of_cards), ("binary", binary)):
+            paths = {nodes: write(f"{kind}_{nodes}.efg", make(nodes - 1 + nodes % 2)) for nodes in SIZES}
+            measures = best_in_turn([words_of(path) for path in paths.values()], runs, 0)
             times = {}
-            for nodes in (131_072, 262_144, 524_288, MOST_NODES):
-                path = write(f"{kind}.efg", make(nodes - 1 + nodes % 2))
-                times[nodes], memory = solve(path)
+            for (nodes, path), (times[nodes], memory) in zip(paths.items(), measures):
                 size = os.path.getsize(path)
                 print(f"     {kind}, {nodes} nodes, {size} bytes: {times[nodes]:.3f} s, {memory} bytes of memory")
-                if nodes > 131_072:
+                if nodes > SIZES[0]:
                     report(f"{kind}, {nodes} nodes against half of them", times[nodes] / times[nodes // 2], 2.3, "times")
                 report(f"{kind}, memory at {nodes} nodes beside the file", (memory - size) / nodes, 400, "bytes a node")
             against_words(f"{kind}, {size} bytes", path, 0)
