@@ -129,7 +129,8 @@ reached : (every last k : ℕ) → 1 ≤ every → (1 ≤ k) × (k ≤ last) × 
 reached every last k some h =
     ⊎_elim (λ e. whole e) (λ e. ends e) h.2
   where
-    at : (i : ℕ) → 1 ≤ i → i ≤ how_many every last → round_at every last i ≡ k → Contains (map (round_at every last) (range_with_len 1 (how_many every last))) k
+    at : (i : ℕ) → 1 ≤ i → i ≤ how_many every last → round_at every last i ≡ k
+        → Contains (map (round_at every last) (range_with_len 1 (how_many every last))) k
     at i low high is = (i - 1, omega (arith, length-map-range_with_len (round_at every last) 1 (how_many every last)), get_or-map-range_with_len (round_at every last) 1 (how_many every last) (i - 1) i k (omega arith) (omega arith) ∙ is)
 
     whole : k % every ≡ 0 → Contains (map (round_at every last) (range_with_len 1 (how_many every last))) k

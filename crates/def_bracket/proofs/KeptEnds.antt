@@ -39,7 +39,8 @@ newest kept_of offers next = record {
   is_evaluated = λ d. ap evaluation_of_offer (get_or_at offers next [] d (length offers) refl);
 }
 
-chosen_by : (kept_of : Offer → KeptEnd) (offers : List Offer) (next : Offer) (e : Evaluation) (kept : KeptEnd) (changes : Bool)
+chosen_by : (kept_of : Offer → KeptEnd) (offers : List Offer) (next : Offer) (e : Evaluation) (kept : KeptEnd)
+    (changes : Bool)
     → ComesFrom kept_of offers e kept
     → ComesFrom kept_of (offers ++ next ∷ []) (cond changes (evaluation_of_offer next) e) (cond changes (kept_of next) kept)
 chosen_by kept_of offers next e kept true from = newest kept_of offers next

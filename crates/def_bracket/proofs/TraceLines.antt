@@ -23,12 +23,14 @@ on_ends ends [] e = refl
 on_ends ends (a ∷ es) e = on_ends (next_ends ends a) es e
 
 on_trace : (ends : BracketEnds) (es : List Evaluation) (e : Evaluation)
-    → trace_after ends (es ++ e ∷ []) ≡ trace_after ends es ++ trace_line e.round (next_ends (fold next_ends ends es) e) ∷ []
+    → trace_after ends (es ++ e ∷ [])
+    ≡ trace_after ends es ++ trace_line e.round (next_ends (fold next_ends ends es) e) ∷ []
 on_trace ends [] e = refl
 on_trace ends (a ∷ es) e = ap (λ ls. trace_line a.round (next_ends ends a) ∷ ls) (on_trace (next_ends ends a) es e)
 
 goes_on : (es : List Evaluation) (ends : BracketEnds) (e : Evaluation) → ends_of es ≡ Some ends
-    → (ends_of (es ++ e ∷ []) ≡ Some (next_ends ends e)) × (trace (es ++ e ∷ []) ≡ trace es ++ trace_line e.round (next_ends ends e) ∷ [])
+    → (ends_of (es ++ e ∷ []) ≡ Some (next_ends ends e))
+    × (trace (es ++ e ∷ []) ≡ trace es ++ trace_line e.round (next_ends ends e) ∷ [])
 goes_on [] ends e is = absurd (none-some ends is)
 goes_on (a ∷ es) ends e is =
     let now : fold next_ends (first_ends a) es ≡ ends = ends-are (fold next_ends (first_ends a) es) ends is in (
@@ -44,7 +46,8 @@ each_after ends (e ∷ es) (suc k) line d low = each_after (next_ends ends e) es
 
 -- the line k has the ends of the evaluations up to k
 each_line : (e : Evaluation) (es : List Evaluation) (k : ℕ) (line : TraceLine) (d : Evaluation) → k < suc (length es)
-    → get_or (trace (e ∷ es)) k line ≡ trace_line (get_or (e ∷ es) k d).round (fold next_ends (first_ends e) (take k es))
+    → get_or (trace (e ∷ es)) k line
+    ≡ trace_line (get_or (e ∷ es) k d).round (fold next_ends (first_ends e) (take k es))
 each_line e es zero line d low = refl
 each_line e es (suc k) line d low = each_after (first_ends e) es k line d (omega arith)
 

@@ -1,6 +1,8 @@
--- The bracket: of the evaluated average strategies (Zinkevich, Johanson, Bowling and Piccione 2007) the ones with the best bounds, and a line for each evaluation.
--- The average after t rounds is the sum of t plans, so a bound of the sum is compared after division by t. An evaluation
--- says apart from its round by what its bounds are divided, since a round may count in the sum more than once.
+-- The bracket: of the evaluated average strategies (Zinkevich, Johanson, Bowling and Piccione 2007) the ones with the
+-- best bounds, and a line for each evaluation.
+-- The average after t rounds is the sum of t plans, so a bound of the sum is compared after division by t. An
+-- evaluation says apart from its round by what its bounds are divided,
+-- since a round may count in the sum more than once.
 use Rattle.std.specs.Prelude.{◌≡◌, ℕ, ◌%◌, ◌<◌, ◌==◌, ◌||◌, List, [], ◌∷◌, length, take, filter, fold, slice_index_or, All, ℤ, pos, ◌*ℤ◌, ◌≤ℤ◌, ◌<ℤ◌, int_lt, Option, Some, None, if◌then◌else◌}
 use Rattle.std.specs.List.{range_with_len}
 
@@ -8,8 +10,8 @@ use Rattle.std.specs.List.{range_with_len}
 abbrev pub evaluated_rounds : ℕ → ℕ → List ℕ
 evaluated_rounds every last = filter (λ k. (k % every == 0) || (k == last)) (range_with_len 1 last)
 
--- an evaluation after a round: by what its bounds are divided, the floor of player one's sum of plans, and the ceiling of
--- player two's
+-- an evaluation after a round: by what its bounds are divided, the floor of player one's sum of plans,
+-- and the ceiling of player two's
 pub record Evaluation : Type 0 where
   pub round : ℕ
   pub divisor : ℕ

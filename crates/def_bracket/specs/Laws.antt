@@ -34,7 +34,8 @@ pub record TraceHasALineForEach : Type 0 where
   pub begins : (e : Evaluation)
       → (ends_of (e ∷ []) ≡ Some (first_ends e)) × (trace (e ∷ []) ≡ trace_line e.round (first_ends e) ∷ [])
   pub goes_on : (evaluations : List Evaluation) (ends : BracketEnds) (e : Evaluation) → ends_of evaluations ≡ Some ends
-      → (ends_of (evaluations ++ e ∷ []) ≡ Some (next_ends ends e)) × (trace (evaluations ++ e ∷ []) ≡ trace evaluations ++ trace_line e.round (next_ends ends e) ∷ [])
+      → (ends_of (evaluations ++ e ∷ []) ≡ Some (next_ends ends e))
+      × (trace (evaluations ++ e ∷ []) ≡ trace evaluations ++ trace_line e.round (next_ends ends e) ∷ [])
   pub each : (evaluations : List Evaluation) (k : ℕ) (ends : BracketEnds) (line : TraceLine) (e : Evaluation)
       → k < length evaluations → ends_of (take (k + 1) evaluations) ≡ Some ends
       → slice_index_or (trace evaluations) k line ≡ trace_line (slice_index_or evaluations k e).round ends

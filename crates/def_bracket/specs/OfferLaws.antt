@@ -36,7 +36,8 @@ pub record FirstOfferMakesEnds : Type 0 where
   pub lower : (offers : List Offer) → ((board_after offers).lower ≡ None) ↔ (offers ≡ [])
   pub upper : (offers : List Offer) → ((board_after offers).upper ≡ None) ↔ (offers ≡ [])
 
--- the total of the reply in a fair offer is the attained floor of player one's plan, and the attained ceiling of player two's
+-- the total of the reply in a fair offer is the attained floor of player one's plan,
+-- and the attained ceiling of player two's
 pub record HasBounds (form : SequenceForm) (offer : Offer) : Type 0 where
   pub floor : IsFloor form offer.plan_one offer.against_one.total
   pub floor_attained : AttainsFloor form offer.plan_one offer.against_one.total (pure_plan form.sets_two (choices_of offer.against_one.sets))

@@ -60,9 +60,12 @@ own_mover kinds.Leaf player = refl
 pub filled_mover : (rs : List Record) (r : Record) → mover (filled rs r) ≡ mover r
 filled_mover rs r = own_mover r.kind r.player
 
-pub filled_set : (rs : List Record) (r : Record) → has_set r.kind ≡ true → (filled rs r).set ≡ whole_set rs (mover r) r.set.number
+-- a filled entry of a kind that has a set mentions its own set with all that the entries say of it
+pub filled_set : (rs : List Record) (r : Record) → has_set r.kind ≡ true
+    → (filled rs r).set ≡ whole_set rs (mover r) r.set.number
 filled_set rs r has = ap (λ (b : Bool). cond b (whole_set rs (mover r) r.set.number) no_set_mention) has
 
+-- of an outcome that isn't the null one, the whole mention is what the entries say of it
 pub paid_is : (rs : List Record) (n : ℕ) → nat_eq n 0 ≡ false → whole_outcome rs n ≡ paid_outcome rs n
 paid_is rs n some = ap (λ (b : Bool). cond b no_outcome_mention (paid_outcome rs n)) some
 
@@ -80,7 +83,9 @@ pub each_all : (P : Record → Type 0) → ((r : Record) → P r) → (rs : List
 each_all P is [] = tt
 each_all P is (r ∷ rs) = (is r, each_all P is rs)
 
-pub each_mapped : (P : Record → Type 0) (f : Record → Record) (rs : List Record) → Each (λ r. P (f r)) rs → Each P (map f rs)
+-- what holds of f of each entry holds of each entry of the list mapped by f
+pub each_mapped : (P : Record → Type 0) (f : Record → Record) (rs : List Record) → Each (λ r. P (f r)) rs
+    → Each P (map f rs)
 each_mapped P f [] each = tt
 each_mapped P f (r ∷ rs) each = (each.0, each_mapped P f rs each.1)
 
@@ -93,7 +98,8 @@ filter_mapped p f (r ∷ rs) same =
     ∙ ap (λ (xs : List Record). cond (p r) (f r ∷ xs) xs) (filter_mapped p f rs same.1)
     ∙ pulled (p r)
   where
-    pulled : (b : Bool) → cond b (f r ∷ map f (filter p rs)) (map f (filter p rs)) ≡ map f (cond b (r ∷ filter p rs) (filter p rs))
+    pulled : (b : Bool)
+        → cond b (f r ∷ map f (filter p rs)) (map f (filter p rs)) ≡ map f (cond b (r ∷ filter p rs) (filter p rs))
     pulled true = refl
     pulled false = refl
 
@@ -114,7 +120,8 @@ movers_of who rs =
 
 -- mentions that are all one give what is known from them already
 known_same : (f : Record → Record) (v : SetMention) (ms : List Record) → Each (λ r. (f r).set ≡ v) ms
-    → v.name ≡ first_given (map (λ r. r.set.name) ms) → unwrap_or v.actions [] ≡ given_first (map (λ r. r.set.actions) ms)
+    → v.name ≡ first_given (map (λ r. r.set.name) ms)
+    → unwrap_or v.actions [] ≡ given_first (map (λ r. r.set.actions) ms)
     → (first_given (map (λ r. r.set.name) (map f ms)) ≡ first_given (map (λ r. r.set.name) ms))
     × (given_first (map (λ r. r.set.actions) (map f ms)) ≡ given_first (map (λ r. r.set.actions) ms))
 known_same f v [] each name actions = (refl, refl)
@@ -125,10 +132,13 @@ known_same f v (m ∷ ms) each name actions =
 -- the same of outcomes
 record PaidSame (f : Record → Record) (ms : List Record) : Type 0 where
   name : first_given (map (λ r. r.outcome.name) (map f ms)) ≡ first_given (map (λ r. r.outcome.name) ms)
-  one : nth_payoff (given_first (map (λ r. r.outcome.payoffs) (map f ms))) 0 ≡ nth_payoff (given_first (map (λ r. r.outcome.payoffs) ms)) 0
-  two : nth_payoff (given_first (map (λ r. r.outcome.payoffs) (map f ms))) 1 ≡ nth_payoff (given_first (map (λ r. r.outcome.payoffs) ms)) 1
+  one : nth_payoff (given_first (map (λ r. r.outcome.payoffs) (map f ms))) 0
+      ≡ nth_payoff (given_first (map (λ r. r.outcome.payoffs) ms)) 0
+  two : nth_payoff (given_first (map (λ r. r.outcome.payoffs) (map f ms))) 1
+      ≡ nth_payoff (given_first (map (λ r. r.outcome.payoffs) ms)) 1
 
-paid_same : (f : Record → Record) (v : OutcomeMention) (one two : Fraction) (ms : List Record) → Each (λ r. (f r).outcome ≡ v) ms
+paid_same : (f : Record → Record) (v : OutcomeMention) (one two : Fraction) (ms : List Record)
+    → Each (λ r. (f r).outcome ≡ v) ms
     → v.name ≡ first_given (map (λ r. r.outcome.name) ms) → v.payoffs ≡ Some (one ∷ two ∷ [])
     → one ≡ nth_payoff (given_first (map (λ r. r.outcome.payoffs) ms)) 0
     → two ≡ nth_payoff (given_first (map (λ r. r.outcome.payoffs) ms)) 1
@@ -161,13 +171,15 @@ module _ (rs : List Record) where
       ap (λ (xs : List Record). firsts (map (λ r. r.set.number) xs)) (of_kind_filled who)
       ∙ ap firsts (map_mapped (λ r. r.set.number) (filled rs) (of_kind who rs) (number_kept who some))
 
-  mentions_filled : (who : Kind) → who ≢ movers.Leaf → (n : ℕ) → mentions who n (map (filled rs) rs) ≡ map (filled rs) (mentions who n rs)
+  mentions_filled : (who : Kind) → who ≢ movers.Leaf → (n : ℕ)
+      → mentions who n (map (filled rs) rs) ≡ map (filled rs) (mentions who n rs)
   mentions_filled who some n =
       ap (filter (λ r. nat_eq n r.set.number)) (of_kind_filled who)
       ∙ filter_mapped (λ r. nat_eq n r.set.number) (filled rs) (of_kind who rs)
       (each_map (λ r. (filled rs r).set.number ≡ r.set.number) _ (λ r same. ap (nat_eq n) same) (of_kind who rs) (number_kept who some))
 
-  mentions_whole : (who : Kind) → who ≢ movers.Leaf → (n : ℕ) → Each (λ r. (filled rs r).set ≡ whole_set rs who n) (mentions who n rs)
+  mentions_whole : (who : Kind) → who ≢ movers.Leaf → (n : ℕ)
+      → Each (λ r. (filled rs r).set ≡ whole_set rs who n) (mentions who n rs)
   mentions_whole who some n =
       filter_each (λ r. nat_eq n r.set.number) (λ r. mover r ≡ who) (λ r. (filled rs r).set ≡ whole_set rs who n)
       (λ r moves is.
@@ -177,7 +189,8 @@ module _ (rs : List Record) where
       (of_kind who rs) (movers_of who rs)
 
   -- what is known of a set stays
-  set_entry_filled : (who : Kind) → who ≢ movers.Leaf → (n : ℕ) → set_entry who (map (filled rs) rs) n ≡ set_entry who rs n
+  set_entry_filled : (who : Kind) → who ≢ movers.Leaf → (n : ℕ)
+      → set_entry who (map (filled rs) rs) n ≡ set_entry who rs n
   set_entry_filled who some n =
       let same = known_same (filled rs) (whole_set rs who n) (mentions who n rs) (mentions_whole who some n) refl refl in
       let named = ap (λ (xs : List Record). first_given (map (λ r. r.set.name) xs)) (mentions_filled who some n) ∙ same.0 in

@@ -33,7 +33,8 @@ each_placed P rs before (r ∷ rest) split is =
     (is before r rest split, each_placed P rs (before ++ r ∷ []) rest (split ∙ sym (append_assoc before (r ∷ []) rest)) is)
 
 -- what holds of each of a table holds of what is known of one of its numbers
-all_at : {E : Type 0} (Q : E → Type 0) (f : ℕ → E) (n : ℕ) (ns : List ℕ) → among n ns ≡ true → All Q (map f ns) → Q (f n)
+all_at : {E : Type 0} (Q : E → Type 0) (f : ℕ → E) (n : ℕ) (ns : List ℕ) → among n ns ≡ true → All Q (map f ns)
+    → Q (f n)
 all_at Q f n [] is all = absurd cc
 all_at Q f n (m ∷ ns) is all = chosen (nat_eq n m) refl is (λ later. all_at Q f n ns later (All-tail Q (f m) (map f ns) all))
   where
@@ -52,7 +53,8 @@ module _ (p : Prologue) (rs : List Record) (fine : HaveNoFault rs) (whole : IsWh
   counted movers.Leaf some = absurd (some refl)
 
   -- a set that is mentioned has 1 to 1,024 actions
-  set_counted : (before : List Record) (r : Record) (behind : List Record) → rs ≡ before ++ r ∷ behind → has_set r.kind ≡ true
+  set_counted : (before : List Record) (r : Record) (behind : List Record) → rs ≡ before ++ r ∷ behind
+      → has_set r.kind ≡ true
       → IsCounted (set_entry (mover r) rs r.set.number)
   set_counted before r behind split has =
       let kept = filter_some (λ x. is_same_kind (mover r) (mover x)) before r behind (is_same_kind_refl (mover r)) in
@@ -63,7 +65,9 @@ module _ (p : Prologue) (rs : List Record) (fine : HaveNoFault rs) (whole : IsWh
       all_at IsCounted (set_entry (mover r) rs) r.set.number (set_numbers (mover r) rs)
       (among-firsts r.set.number (map (λ x. x.set.number) (of_kind (mover r) rs)) ∙ here) (counted (mover r) (not_leaf r.kind r.player has))
 
-  pub player_known : (before : List Record) (r : Record) (behind : List Record) → rs ≡ before ++ r ∷ behind → r.kind ≡ Personal
+  -- of faultless entries of one whole tree, each personal one has player 1 or 2
+  pub player_known : (before : List Record) (r : Record) (behind : List Record) → rs ≡ before ++ r ∷ behind
+      → r.kind ≡ Personal
       → (r.player ≡ 1) ⊎ (r.player ≡ 2)
   player_known before r behind split personal =
       ⊎_elim
@@ -76,7 +80,8 @@ module _ (p : Prologue) (rs : List Record) (fine : HaveNoFault rs) (whole : IsWh
       (eqb_tells r.player 2))
       (eqb_tells r.player 1)
 
-  set_described : (before : List Record) (r : Record) (behind : List Record) → rs ≡ before ++ r ∷ behind → has_set r.kind ≡ true
+  set_described : (before : List Record) (r : Record) (behind : List Record) → rs ≡ before ++ r ∷ behind
+      → has_set r.kind ≡ true
       → DescribesSet (whole_set rs) (filled rs r)
   set_described before r behind split has =
       let own = filled_set rs r has in
@@ -115,6 +120,7 @@ module _ (p : Prologue) (rs : List Record) (fine : HaveNoFault rs) (whole : IsWh
     outcome = outcome_described r;
   }
 
+  -- faultless entries of one whole tree, once filled, describe their sets and outcomes whole, each in one way
   pub filled_described : Each (Describes (whole_set rs) (whole_outcome rs)) (map (filled rs) rs)
   filled_described =
       each_mapped (Describes (whole_set rs) (whole_outcome rs)) (filled rs) rs

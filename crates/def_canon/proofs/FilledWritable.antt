@@ -32,7 +32,8 @@ first_plain : (name : Record → Option (List ℕ)) (ms : List Record) → Each 
 first_plain name [] each = tt
 first_plain name (m ∷ ms) each = chosen (name m) each.0 (first_plain name ms each.1)
   where
-    chosen : (o : Option (List ℕ)) → IsPlainName o → IsPlainName (first_given (map name ms)) → IsPlainName (first_given (o ∷ map name ms))
+    chosen : (o : Option (List ℕ)) → IsPlainName o → IsPlainName (first_given (map name ms))
+        → IsPlainName (first_given (o ∷ map name ms))
     chosen (Some x) plain later = plain
     chosen None plain later = later
 
@@ -55,7 +56,8 @@ first_small : (i : ℕ) (ms : List Record) → Each (λ r. IfSome r.outcome.payo
 first_small i [] each = zero_small
 first_small i (m ∷ ms) each = chosen m.outcome.payoffs each.0
   where
-    chosen : (o : Option (List Fraction)) → IfSome o (All IsSmallFraction) → IsSmallFraction (nth_payoff (unwrap_or o []) i)
+    chosen : (o : Option (List Fraction)) → IfSome o (All IsSmallFraction)
+        → IsSmallFraction (nth_payoff (unwrap_or o []) i)
     chosen (Some fs) small = nth_small fs i small
     chosen None small = zero_small
 
@@ -81,7 +83,8 @@ module _ (p : Prologue) (rs : List Record) (fine : HaveNoFault rs) (whole : IsWh
       let same : x.kind ≡ r.kind = sym (own_kind x.kind x.player) ∙ ap kind_of one.0 ∙ own_kind r.kind r.player in
       subst (λ (k : EntryKind). GivesWritableSet k x.set) same (one.1.set (ap has_set same ∙ has))
 
-  set_writable : (r : Record) → GivesWritable r → has_set r.kind ≡ true → IsWritableSet r.kind (whole_set rs (mover r) r.set.number)
+  set_writable : (r : Record) → GivesWritable r → has_set r.kind ≡ true
+      → IsWritableSet r.kind (whole_set rs (mover r) r.set.number)
   set_writable r known has =
       let ms = mentions (mover r) r.set.number rs in
       let each : Each (λ x. GivesWritableSet r.kind x.set) ms =
@@ -95,7 +98,8 @@ module _ (p : Prologue) (rs : List Record) (fine : HaveNoFault rs) (whole : IsWh
         writable = first_actions r.kind ms (each_map (λ x. GivesWritableSet r.kind x.set) _ (λ x one. one.actions) ms each);
       }
 
-  paid_writable : (r : Record) → GivesWritable r → nat_eq r.outcome.number 0 ≡ false → IsWritableOutcome (paid_outcome rs r.outcome.number)
+  paid_writable : (r : Record) → GivesWritable r → nat_eq r.outcome.number 0 ≡ false
+      → IsWritableOutcome (paid_outcome rs r.outcome.number)
   paid_writable r known some =
       let n = r.outcome.number in
       let ms = outcome_mentions n rs in
@@ -112,7 +116,8 @@ module _ (p : Prologue) (rs : List Record) (fine : HaveNoFault rs) (whole : IsWh
         two_small = first_small 1 ms payoffs;
       }
 
-  outcome_writable : (r : Record) → GivesWritable r → ((filled rs r).outcome ≡ no_outcome_mention) ⊎ IsWritableOutcome (filled rs r).outcome
+  outcome_writable : (r : Record) → GivesWritable r
+      → ((filled rs r).outcome ≡ no_outcome_mention) ⊎ IsWritableOutcome (filled rs r).outcome
   outcome_writable r known = chosen (nat_eq r.outcome.number 0) refl
     where
       chosen : (b : Bool) → nat_eq r.outcome.number 0 ≡ b
@@ -121,7 +126,8 @@ module _ (p : Prologue) (rs : List Record) (fine : HaveNoFault rs) (whole : IsWh
       chosen true null = inl refl
       chosen false some = inr (paid_writable r known some)
 
-  mover_own : (before : List Record) (r : Record) (behind : List Record) → rs ≡ before ++ r ∷ behind → (kind : EntryKind) → r.kind ≡ kind
+  mover_own : (before : List Record) (r : Record) (behind : List Record) → rs ≡ before ++ r ∷ behind
+      → (kind : EntryKind) → r.kind ≡ kind
       → HasOwnMover kind (filled rs r)
   mover_own before r behind split kinds.Chance is = ap (λ k. own_player k r.player) is
   mover_own before r behind split kinds.Personal is =
@@ -129,7 +135,8 @@ module _ (p : Prologue) (rs : List Record) (fine : HaveNoFault rs) (whole : IsWh
   mover_own before r behind split kinds.Leaf is =
       (ap (λ k. own_player k r.player) is, ap (λ k. cond (has_set k) (whole_set rs (mover r) r.set.number) no_set_mention) is)
 
-  entry_writable : (before : List Record) (r : Record) (behind : List Record) → rs ≡ before ++ r ∷ behind → IsWritable (filled rs r)
+  entry_writable : (before : List Record) (r : Record) (behind : List Record) → rs ≡ before ++ r ∷ behind
+      → IsWritable (filled rs r)
   entry_writable before r behind split =
       let known = (each_before GivesWritable before r behind (subst (Each GivesWritable) split gives)).1 in
       record {
@@ -139,5 +146,6 @@ module _ (p : Prologue) (rs : List Record) (fine : HaveNoFault rs) (whole : IsWh
         outcome = outcome_writable r known;
       }
 
+  -- faultless entries of one whole tree that give what can be written can be written once they are filled
   pub filled_writable : Each IsWritable (map (filled rs) rs)
   filled_writable = each_mapped IsWritable (filled rs) rs (each_placed (λ r. IsWritable (filled rs r)) rs [] rs refl entry_writable)

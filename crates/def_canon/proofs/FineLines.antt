@@ -39,7 +39,8 @@ chance_fine movers.One f none = tt
 chance_fine movers.Two f none = tt
 chance_fine movers.Leaf f none = tt
 
-actions_fine : (who : Kind) (actions : List Action) → AreWritableActions (kind_of who) actions → EachFine (each (action_pieces who) actions)
+actions_fine : (who : Kind) (actions : List Action) → AreWritableActions (kind_of who) actions
+    → EachFine (each (action_pieces who) actions)
 unfolding each action_pieces
 actions_fine who [] w = tt
 actions_fine who (a ∷ more) w =
@@ -82,7 +83,8 @@ any_outcome_fine m w =
     subst (λ (b : Bool). EachFine (cond b (whole_number 0 ∷ []) (described_outcome (new_outcome m)))) (sym no) (outcome_fine m some))
     w
 
-pieces_fine : (who : Kind) (r : Record) → IsWritable r → (who ≢ movers.Leaf → IsWritableSet (kind_of who) r.set) → EachFine (own_pieces who r)
+pieces_fine : (who : Kind) (r : Record) → IsWritable r → (who ≢ movers.Leaf → IsWritableSet (kind_of who) r.set)
+    → EachFine (own_pieces who r)
 unfolding player_pieces
 pieces_fine movers.Chance r w set = (
   fine_letter 99 refl refl,
@@ -131,6 +133,7 @@ set_known kinds.Chance player some = refl
 set_known kinds.Personal player some = refl
 set_known kinds.Leaf player some = absurd (some refl)
 
+-- each token of the lines of writable entries may stand behind any other
 pub lines_fine : (rs : List Record) → Each IsWritable rs → EachFine (own_lines rs)
 lines_fine [] w = tt
 lines_fine (r ∷ rs) w =
@@ -139,7 +142,8 @@ lines_fine (r ∷ rs) w =
     (lines_fine rs w.1)
 
 -- the first token has no white space before it
-pub prologue_fine : (p : Prologue) → IsPlainPrologue p → (rest : List Piece) → EachFine rest → ArePieces (prologue_pieces p ++ rest) (10 ∷ [])
+pub prologue_fine : (p : Prologue) → IsPlainPrologue p → (rest : List Piece) → EachFine rest
+    → ArePieces (prologue_pieces p ++ rest) (10 ∷ [])
 unfolding prologue_pieces marker_pieces
 prologue_fine p plain rest fine =
     let number : IsFine (spaced Number (codes "2")) = fine_digits (codes "2") refl refl in

@@ -22,18 +22,21 @@ name_plain : (name : Option (List ℕ)) (tokens rest : List Spelled) → IsName 
 name_plain None tokens rest is = tt
 name_plain (Some bytes) tokens rest is = text_plain bytes tokens rest is
 
-chance_writable : (kind : EntryKind) (f : Fraction) (tokens rest : List Spelled) → IsChance kind f tokens rest → IsChanceOf kind f
+chance_writable : (kind : EntryKind) (f : Fraction) (tokens rest : List Spelled) → IsChance kind f tokens rest
+    → IsChanceOf kind f
 chance_writable Chance f tokens rest is = fraction_small f tokens rest is
 chance_writable Personal f tokens rest is = is.0
 chance_writable Leaf f tokens rest is = is.0
 
-actions_writable : (kind : EntryKind) (actions : List Action) (tokens rest : List Spelled) → AreActionsUpTo kind actions tokens rest
+actions_writable : (kind : EntryKind) (actions : List Action) (tokens rest : List Spelled)
+    → AreActionsUpTo kind actions tokens rest
     → AreWritableActions kind actions
 actions_writable kind [] tokens rest is = tt
 actions_writable kind (a ∷ more) tokens rest is =
     (text_plain a.name tokens is.0 is.2, chance_writable kind a.chance is.0 is.1 is.3, actions_writable kind more is.1 rest is.4)
 
-list_writable : (kind : EntryKind) (given : Option (List Action)) (tokens rest : List Spelled) → IsActionList kind given tokens rest
+list_writable : (kind : EntryKind) (given : Option (List Action)) (tokens rest : List Spelled)
+    → IsActionList kind given tokens rest
     → IfSome given (AreWritableActions kind)
 list_writable kind None tokens rest is = tt
 list_writable kind (Some actions) tokens rest is = actions_writable kind actions is.0 rest is.2
@@ -43,7 +46,8 @@ payoffs_writable : (given : Option (List Fraction)) (tokens rest : List Spelled)
 payoffs_writable None tokens rest is = tt
 payoffs_writable (Some fs) tokens rest is = payoffs_small fs is.0 rest is.2
 
-set_gives : (kind : EntryKind) (m : SetMention) (tokens rest : List Spelled) → IsSet kind m tokens rest → GivesWritableSet kind m
+set_gives : (kind : EntryKind) (m : SetMention) (tokens rest : List Spelled) → IsSet kind m tokens rest
+    → GivesWritableSet kind m
 set_gives kind m tokens rest is = record {
   from_one = is.from_one;
   limit = is.number.limit;
@@ -58,7 +62,8 @@ outcome_gives m tokens rest is = record {
   payoffs = payoffs_writable m.payoffs is.named rest is.payoffs;
 }
 
-entry_gives : (kind : EntryKind) (r : Record) (tokens rest : List Spelled) → r.kind ≡ kind → IsEntryAs kind r tokens rest → GivesWritable r
+entry_gives : (kind : EntryKind) (r : Record) (tokens rest : List Spelled) → r.kind ≡ kind
+    → IsEntryAs kind r tokens rest → GivesWritable r
 entry_gives Chance r tokens rest kind is = record {
   name = text_plain r.name is.headed is.named is.name;
   set = λ _. subst (λ (k : EntryKind). GivesWritableSet k r.set) (sym kind) (set_gives Chance r.set is.named is.placed is.set);
@@ -89,10 +94,12 @@ nothing_plain : EndsPlainly []
 nothing_plain [] same = cc
 nothing_plain (x ∷ front) same = cc
 
-remark_plain : (comment : Option (List ℕ)) (tokens rest : List Spelled) → IsName comment tokens rest → EndsPlainly (unwrap_or comment [])
+remark_plain : (comment : Option (List ℕ)) (tokens rest : List Spelled) → IsName comment tokens rest
+    → EndsPlainly (unwrap_or comment [])
 remark_plain None tokens rest is = nothing_plain
 remark_plain (Some bytes) tokens rest is = text_plain bytes tokens rest is
 
+-- where tokens say a prologue, none of its texts ends with a backslash
 pub prologue_gives : (p : Prologue) (tokens rest : List Spelled) → IsPrologue p tokens rest → IsPlainPrologue p
 prologue_gives p tokens rest is =
     let names = is.head.name_texts in

@@ -45,7 +45,8 @@ look_step f d n m ns false is h later =
     let next : 1 + place n ns ≡ suc (place n ns) = omega arith in
     ap (λ k. get_or (f m ∷ map f ns) k d) next ∙ later h
 
-look : {E : Type 0} (f : ℕ → E) (d : E) (n : ℕ) (ns : List ℕ) → among n ns ≡ true → get_or (map f ns) (place n ns) d ≡ f n
+look : {E : Type 0} (f : ℕ → E) (d : E) (n : ℕ) (ns : List ℕ) → among n ns ≡ true
+    → get_or (map f ns) (place n ns) d ≡ f n
 look f d n [] h = absurd cc
 look f d n (m ∷ ns) h = look_step f d n m ns (nat_eq n m) refl h (look f d n ns)
 
@@ -53,6 +54,7 @@ or_true : (b : Bool) → (b || true) ≡ true
 or_true true = refl
 or_true false = refl
 
+-- an entry's key is among the keys of each list that the entry is in
 pub among_here : (key : Record → ℕ) (before : List Record) (r : Record) (behind : List Record)
     → among (key r) (map key (before ++ r ∷ behind)) ≡ true
 among_here key [] r behind = ap (λ b. b || among (key r) (map key behind)) (eq-eqb (key r) (key r) refl)
@@ -60,7 +62,8 @@ among_here key (x ∷ before) r behind =
     ap (λ b. nat_eq (key r) (key x) || b) (among_here key before r behind) ∙ or_true (nat_eq (key r) (key x))
 
 -- the number of a number among the first appearances finds what is known of it
-pub found : {E : Type 0} (f : ℕ → E) (d : E) (key : Record → ℕ) (before : List Record) (r : Record) (behind : List Record)
+pub found : {E : Type 0} (f : ℕ → E) (d : E) (key : Record → ℕ) (before : List Record) (r : Record)
+    (behind : List Record)
     → get_or (map f (firsts (map key (before ++ r ∷ behind)))) (number_in (key r) (firsts (map key (before ++ r ∷ behind))) - 1) d ≡ f (key r)
 found f d key before r behind =
     let ns = map key (before ++ r ∷ behind) in
@@ -92,15 +95,18 @@ module _ (sets : Kind → ℕ → SetMention) (outcomes : ℕ → OutcomeMention
       (sym mine) (found (set_entry (mover r) rs) no_set (λ x. x.set.number) kept.0 r (of_kind (mover r) behind))
       ∙ own_entry rs before r behind split each some same
 
-outcome_names : (v : OutcomeMention) (rs : List Record) → Each (λ r. r.outcome ≡ v) rs → AreNames v.name (map (λ r. r.outcome.name) rs)
+outcome_names : (v : OutcomeMention) (rs : List Record) → Each (λ r. r.outcome ≡ v) rs
+    → AreNames v.name (map (λ r. r.outcome.name) rs)
 outcome_names v [] each = tt
 outcome_names v (r ∷ rs) each = (ap (λ (m : OutcomeMention). m.name) each.0, outcome_names v rs each.1)
 
+-- of one or more entries with the same outcome mention, the first name that is given is the mention's
 pub outcome_name_same : (v : OutcomeMention) (rs : List Record) → 1 ≤ length rs → Each (λ r. r.outcome ≡ v) rs
     → first_given (map (λ r. r.outcome.name) rs) ≡ v.name
 outcome_name_same v [] some each = absurd (omega arith)
 outcome_name_same v (r ∷ rs) some each = first_name v.name (map (λ r. r.outcome.name) (r ∷ rs)) (omega arith) (outcome_names v (r ∷ rs) each)
 
+-- of one or more entries with the same outcome mention, the first payoffs given are the mention's, or none
 pub payoffs_same : (v : OutcomeMention) (rs : List Record) → 1 ≤ length rs → Each (λ r. r.outcome ≡ v) rs
     → given_first (map (λ r. r.outcome.payoffs) rs) ≡ unwrap_or v.payoffs []
 payoffs_same v [] some each = absurd (omega arith)
@@ -114,7 +120,8 @@ module _ (sets : Kind → ℕ → SetMention) (outcomes : ℕ → OutcomeMention
   -- the table has the entry's own outcome under its number
   pub outcome_found : (rs before : List Record) (r : Record) (behind : List Record) → rs ≡ before ++ r ∷ behind
       → Each (Describes sets outcomes) rs → nat_eq r.outcome.number 0 ≡ false → r.outcome ≡ outcomes r.outcome.number
-      → get_or (outcome_table rs) (number_in r.outcome.number (outcome_numbers rs) - 1) null_outcome ≡ new_outcome r.outcome
+      → get_or (outcome_table rs) (number_in r.outcome.number (outcome_numbers rs) - 1) null_outcome
+      ≡ new_outcome r.outcome
   outcome_found rs before r behind split each some same =
       let n = r.outcome.number in
       let kept = filter_some (λ x. not (nat_eq x.outcome.number 0)) before r behind (ap not some) in

@@ -14,11 +14,13 @@ use Rattle.def_file.specs.Faults.{mover, mover_as, has_set}
 use Rattle.def_file_entries.specs.EntryRules.{Moves, MentionOneSet, MentionOneOutcome, IsFirstWith, AreSameNumbers, AreSameActions, HasOtherName, HasOtherList, Breaks}
 use Rattle.def_canon.specs.Described.{Each, Describes, DescribedHaveNoFault}
 
+-- what holds of each entry holds of each one before some entry, and of this entry
 pub each_before : (P : Record → Type 0) (before : List Record) (r : Record) (behind : List Record)
     → Each P (before ++ r ∷ behind) → Each P before × P r
 each_before P [] r behind each = (tt, each.0)
 each_before P (x ∷ before) r behind each = let later = each_before P before r behind each.1 in ((each.0, later.0), later.1)
 
+-- what holds of each entry of two lists holds of each entry of the one list behind the other
 pub each_append : (P : Record → Type 0) (rs ts : List Record) → Each P rs → Each P ts → Each P (rs ++ ts)
 each_append P [] ts first second = second
 each_append P (r ∷ rs) ts first second = (first.0, each_append P rs ts first.1 second)
@@ -62,7 +64,8 @@ module _ (sets : Kind → ℕ → SetMention) (outcomes : ℕ → OutcomeMention
       let kept_is : other.kept ≡ other.given = cc in
       other.differ kept_is
 
-  no_other_list : {A : Type 0} (P : Record → Type 0) (list : Record → Option A) (Same : A → A → Type 0) (rs : List Record) (r : Record)
+  no_other_list : {A : Type 0} (P : Record → Type 0) (list : Record → Option A) (Same : A → A → Type 0)
+      (rs : List Record) (r : Record)
       → ((e : Record) → Describes sets outcomes e → P e → list r ≡ list e) → ((x : A) → Same x x)
       → Each (Describes sets outcomes) rs → HasOtherList P list Same rs r → ⊥
   no_other_list P list Same rs r same reflexive each other =
@@ -111,6 +114,7 @@ module _ (sets : Kind → ℕ → SetMention) (outcomes : ℕ → OutcomeMention
       ⊎_elim (λ none. absurd (omega (arith, s.some, none, ap length list))) (λ many. absurd (omega (arith, s.few, many, ap length list))) b.2.2
   refute rs r each d few _ b = b
 
+-- entries within the limit of nodes have no fault if they describe their sets and outcomes whole, each in one way
 pub described_have_no_fault : DescribedHaveNoFault
 described_have_no_fault sets outcomes rs each few before behind r split fault =
     let parts = each_before (Describes sets outcomes) before r behind (subst (Each (Describes sets outcomes)) split each) in

@@ -41,7 +41,8 @@ outcome_any m rest w =
     w
 
 -- the set, and then the outcome
-set_part : (who : Kind) (kind : EntryKind) → MovesAs who kind → (r : Record) (rest : List Spelled) → IsWritableSet kind r.set
+set_part : (who : Kind) (kind : EntryKind) → MovesAs who kind → (r : Record) (rest : List Spelled)
+    → IsWritableSet kind r.set
     → IsSet kind r.set (spell (set_pieces who (new_set r.set) ++ own_outcome r.outcome) rest) (spell (own_outcome r.outcome) rest)
 set_part who kind moves r rest w =
     subst (λ (tokens : List Spelled). IsSet kind r.set tokens (spell (own_outcome r.outcome) rest))
@@ -107,6 +108,7 @@ abbrev pub own_lines : List Record → List Piece
 own_lines [] = []
 own_lines (r ∷ rs) = own_pieces (mover r) r ++ own_lines rs
 
+-- the tokens of the lines of writable entries say these entries in turn, and nothing behind them
 pub entries_are : (rs : List Record) → Each IsWritable rs → AreEntries rs (spell (own_lines rs) [])
 entries_are [] w = refl
 entries_are (r ∷ rs) w = (

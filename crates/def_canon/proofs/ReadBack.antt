@@ -29,7 +29,8 @@ use Rattle.def_canon.proofs.NoFault.{described_have_no_fault, each_before}
 use Rattle.def_canon.proofs.OwnLines.{entries_are, own_lines, own_outcome, own_place}
 use Rattle.def_canon.proofs.Spelled.{prologue_is, spell, spell_append, spell_map}
 
-sets_are : (who : Kind) → who ≢ movers.Leaf → (rs : List Record) → sets_of_kind who (contents_of rs).sets ≡ set_table who rs
+sets_are : (who : Kind) → who ≢ movers.Leaf → (rs : List Record)
+    → sets_of_kind who (contents_of rs).sets ≡ set_table who rs
 sets_are movers.Chance some rs = refl
 sets_are movers.One some rs = refl
 sets_are movers.Two some rs = refl
@@ -57,7 +58,8 @@ leaf_mover kinds.Chance player has = cc
 leaf_mover kinds.Personal player has = cc
 leaf_mover kinds.Leaf player has = refl
 
-no_place : (who : Kind) → who ≡ movers.Leaf → (sets : SetTables) (n : ℕ) (m : SetMention) → place_pieces who sets n ≡ own_place who m
+no_place : (who : Kind) → who ≡ movers.Leaf → (sets : SetTables) (n : ℕ) (m : SetMention)
+    → place_pieces who sets n ≡ own_place who m
 unfolding place_pieces
 no_place movers.Chance leaf sets n m = cc
 no_place movers.One leaf sets n m = cc
@@ -70,7 +72,8 @@ module _ (sets : Kind → ℕ → SetMention) (outcomes : ℕ → OutcomeMention
   place_own before r behind split = chosen (has_set r.kind) refl
     where
       chosen : (b : Bool) → has_set r.kind ≡ b
-          → place_pieces (mover r) (contents_of rs).sets (cond b (number_in r.set.number (set_numbers (mover r) rs)) 0) ≡ own_place (mover r) r.set
+          → place_pieces (mover r) (contents_of rs).sets (cond b (number_in r.set.number (set_numbers (mover r) rs)) 0)
+          ≡ own_place (mover r) r.set
       chosen true has =
           let some = has_mover r.kind r.player has in
           let d = (each_before (Describes sets outcomes) before r behind (subst (Each (Describes sets outcomes)) split each_described)).1 in
@@ -85,7 +88,8 @@ module _ (sets : Kind → ℕ → SetMention) (outcomes : ℕ → OutcomeMention
   outcome_own before r behind split = chosen (nat_eq r.outcome.number 0) refl
     where
       chosen : (b : Bool) → nat_eq r.outcome.number 0 ≡ b
-          → outcome_pieces (outcome_table rs) (cond b 0 (number_in r.outcome.number (outcome_numbers rs))) ≡ cond b (whole_number 0 ∷ []) (described_outcome (new_outcome r.outcome))
+          → outcome_pieces (outcome_table rs) (cond b 0 (number_in r.outcome.number (outcome_numbers rs)))
+          ≡ cond b (whole_number 0 ∷ []) (described_outcome (new_outcome r.outcome))
       chosen true null = refl
       chosen false some =
           let d = (each_before (Describes sets outcomes) before r behind (subst (Each (Describes sets outcomes)) split each_described)).1 in
@@ -95,7 +99,8 @@ module _ (sets : Kind → ℕ → SetMention) (outcomes : ℕ → OutcomeMention
           ∙ ap described_outcome (outcome_found sets outcomes rs before r behind split each_described some d.outcome.same)
 
   lines_own : (before rest : List Record) → rs ≡ before ++ rest
-      → lines_pieces (contents_of rs).sets (outcome_table rs) (zip (map (node_of rs) rest) (map (λ r. r.name) rest)) ≡ own_lines rest
+      → lines_pieces (contents_of rs).sets (outcome_table rs) (zip (map (node_of rs) rest) (map (λ r. r.name) rest))
+      ≡ own_lines rest
   unfolding each node_pieces
   lines_own before [] split = refl
   lines_own before (r ∷ rest) split =
@@ -103,14 +108,17 @@ module _ (sets : Kind → ℕ → SetMention) (outcomes : ℕ → OutcomeMention
       let outcome = outcome_own before r rest split in
       (λ i. (letter (mover r) ∷ text r.name ∷ (player_pieces (mover r) ++ (place i ++ outcome i))) ++ lines_own (before ++ r ∷ []) rest (split ∙ sym (append_assoc before (r ∷ []) rest)) i)
 
-game_lines : (p : Prologue) (rs : List Record) → lines_pieces (contents_of rs).sets (outcome_table rs) (zip (contents_of rs).nodes (contents_of rs).names) ≡ own_lines rs
+game_lines : (p : Prologue) (rs : List Record)
+    → lines_pieces (contents_of rs).sets (outcome_table rs) (zip (contents_of rs).nodes (contents_of rs).names)
+    ≡ own_lines rs
     → game_pieces (game_of_entries p rs) ≡ prologue_pieces p ++ own_lines rs
 unfolding game_pieces
 game_lines p rs own =
     ap (λ (ns : List Node). prologue_pieces p ++ lines_pieces (contents_of rs).sets (outcome_table rs) (zip ns (contents_of rs).names)) (prefix-forest_of (contents_of rs).nodes)
     ∙ ap (λ l. prologue_pieces p ++ l) own
 
-stands : (p : Prologue) (rs : List Record) (sets : Kind → ℕ → SetMention) (outcomes : ℕ → OutcomeMention) → IsPlainPrologue p
+stands : (p : Prologue) (rs : List Record) (sets : Kind → ℕ → SetMention) (outcomes : ℕ → OutcomeMention)
+    → IsPlainPrologue p
     → Each (Describes sets outcomes) rs → Each IsWritable rs → length rs ≤ most_nodes → IsWhole (contents_of rs).nodes
     → StandsFor (canon (game_of_entries p rs)) (game_of_entries p rs)
 unfolding canon
@@ -135,6 +143,8 @@ stands p rs sets outcomes plain described writable few whole =
       game_is = refl;
     }
 
+-- the canonical form stands for the game, where its entries are one whole tree within the limit of nodes,
+-- describe their sets and outcomes whole, each in one way, and can be written
 pub canon_stands_for_game : CanonStandsForGame
 canon_stands_for_game game of =
     subst (λ (g : GameFile). StandsFor (canon g) g) (sym of.game_is)
@@ -149,5 +159,6 @@ canon_of_lines game of =
     ∙ ap (λ (ps : List Piece). bytes_of ps (10 ∷ [])) (game_lines of.prologue of.entries
     (lines_own of.sets of.outcomes of.entries of.described [] of.entries refl))
 
+-- the canonical form of a game of such entries is read as this game
 pub canon_is_read_back : CanonIsReadBack
 canon_is_read_back game of = game_taken (canon game) game (canon_stands_for_game game of)

@@ -35,6 +35,7 @@ of_filled game of =
       game_is = of.game_is ∙ ap (game_with of.prologue) same;
     }
 
+-- the canonical form stands for a game of faultless entries of one whole tree that give what can be written
 pub canon_of_faultless : CanonOfFaultless
 canon_of_faultless game of = canon_stands_for_game game (of_filled game of)
 
@@ -49,6 +50,7 @@ of_file bytes game is = record {
   game_is = is.game_is;
 }
 
+-- the canonical form of a game that a file stands for stands for this game too, and is read as it
 pub canon_of_file : CanonOfFile
 canon_of_file bytes game is =
     let of = of_filled game (of_file bytes game is) in
@@ -68,6 +70,8 @@ taken_from done (r ∷ rs) made fine takes =
     subst (λ (xs : List Record). AreTaken xs made) (append_assoc done (r ∷ []) rs)
     (taken_from (done ++ r ∷ []) rs made (no_fault_more done r fine takes.0) next)
 
+-- where entries that give what can be written are taken in turn without a fault and make one whole tree,
+-- the canonical form of their game stands for it, and is read as it
 pub canon_of_made : CanonOfMade
 canon_of_made prologue rs made plain writable takes whole =
     let taken = taken_from [] rs made nothing_at_fault takes in

@@ -109,15 +109,18 @@ fine_number bs is = record {
   stops = λ after. refl;
 }
 
+-- a whole number within the limit may stand behind any token
 pub fine_whole : (n : ℕ) → n ≤ most → IsFine (whole_number n)
 fine_whole n small = fine_number (decimal n) (decimal_is n (omega arith))
 
+-- a fraction within the limit may stand behind any token
 pub fine_fraction : (f : Fraction) → IsTrue (fits f) → IsFine (fraction f)
 fine_fraction f small =
     let parts = and_true (nat_le (unsigned_abs f.num) most) (nat_le f.den most) small in
     fine_number (fraction_text f) (fraction_is f (leb-true (unsigned_abs f.num) most parts.0) (leb-true f.den most parts.1))
 
-fine_quoted : (bytes space : List ℕ) → EndsPlainly bytes → AllPass is_space space → ((after : List ℕ) → FirstFails in_run (space ++ after))
+fine_quoted : (bytes space : List ℕ) → EndsPlainly bytes → AllPass is_space space
+    → ((after : List ℕ) → FirstFails in_run (space ++ after))
     → IsFine (behind space kinds.Text (quoted bytes))
 unfolding quoted
 fine_quoted bytes space plain are stop = record {
@@ -127,21 +130,27 @@ fine_quoted bytes space plain are stop = record {
   stops = λ after. stop _;
 }
 
+-- a text that doesn't end with a backslash, behind a space, may stand behind any token
 pub fine_text : (bytes : List ℕ) → EndsPlainly bytes → IsFine (text bytes)
 fine_text bytes plain = fine_quoted bytes (codes " ") plain (one_space 32 refl) (λ after. refl)
 
+-- a text that doesn't end with a backslash, on a new line, may stand behind any token
 pub fine_line : (bytes : List ℕ) → EndsPlainly bytes → IsFine (on_new_line kinds.Text (quoted bytes))
 fine_line bytes plain = fine_quoted bytes (codes "\n") plain (one_space 10 refl) (λ after. refl)
 
+-- an opening brace may stand behind any token
 pub fine_open : IsFine open_brace
 fine_open = record { space = one_space 32 refl; token = λ after stop. refl; not_end = λ e. cc; stops = λ after. refl }
 
+-- a closing brace may stand behind any token
 pub fine_close : IsFine close_brace
 fine_close = record { space = one_space 32 refl; token = λ after stop. refl; not_end = λ e. cc; stops = λ after. refl }
 
+-- a comma may stand behind any token
 pub fine_comma : IsFine comma
 fine_comma = record { space = λ k d lt. absurd (omega arith); token = λ after stop. refl; not_end = λ e. cc; stops = λ after. refl }
 
+-- a word of one letter, on a new line, may stand behind any token
 pub fine_letter : (c : ℕ) → begins_word c ≡ true → in_run c ≡ true → IsFine (on_new_line kinds.Word (c ∷ []))
 unfolding Runs
 fine_letter c begins run = record {
@@ -155,6 +164,7 @@ abbrev pub EachFine : List Piece → Type 0
 EachFine [] = Unit {0}
 EachFine (p ∷ ps) = IsFine p × EachFine ps
 
+-- if each token of two lists may stand behind any other, so may each of the one list behind the other
 pub fine_append : (ps qs : List Piece) → EachFine ps → EachFine qs → EachFine (ps ++ qs)
 fine_append [] qs first second = second
 fine_append (p ∷ ps) qs first second = (first.0, fine_append ps qs first.1 second)
@@ -169,9 +179,12 @@ fine_pieces [] fine = one_space 10 refl
 fine_pieces (p ∷ ps) fine =
     (fine.0.space, fine.0.token (bytes_of ps (10 ∷ [])) (behind_stops ps fine.1), fine.0.not_end, fine_pieces ps fine.1)
 
-pub fine_digits : (ds : List ℕ) → all_ascii_digits ds ≡ true → nat_lt 0 (length ds) ≡ true → IsFine (spaced kinds.Number ds)
+-- a number of one digit or more, behind a space, may stand behind any token
+pub fine_digits : (ds : List ℕ) → all_ascii_digits ds ≡ true → nat_lt 0 (length ds) ≡ true
+    → IsFine (spaced kinds.Number ds)
 fine_digits ds digits some = fine_number ds (record { first = digits_begin ds digits some; runs = digits_run ds digits })
 
+-- a word of one letter, behind a space, may stand behind any token
 pub fine_word : (c : ℕ) → begins_word c ≡ true → in_run c ≡ true → IsFine (spaced kinds.Word (c ∷ []))
 unfolding Runs
 fine_word c begins run = record {

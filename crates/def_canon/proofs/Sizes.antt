@@ -25,6 +25,7 @@ abbrev pub EntriesBegin : ℕ → List Record → Type 0
 EntriesBegin n [] = Unit {0}
 EntriesBegin n (r ∷ rs) = (0 < n) × EntriesBegin (n + own_children r - 1) rs
 
+-- the mover of a kind of entry that has a set isn't Leaf, whatever the player's number
 pub not_leaf : (kind : EntryKind) (player : ℕ) → has_set kind ≡ true → mover_as kind player ≢ Leaf
 not_leaf entry.Chance player has leaf = cc
 not_leaf entry.Personal player has leaf = chosen (nat_eq player 1) leaf
@@ -41,7 +42,8 @@ module _ (sets : Kind → ℕ → SetMention) (outcomes : ℕ → OutcomeMention
   own_node all before r behind split each = chosen (has_set r.kind) refl
     where
       chosen : (b : Bool) → has_set r.kind ≡ b
-          → cond b (length (set_entry (mover r) all r.set.number).actions) 0 ≡ cond b (length (unwrap_or r.set.actions [])) 0
+          → cond b (length (set_entry (mover r) all r.set.number).actions) 0
+          ≡ cond b (length (unwrap_or r.set.actions [])) 0
       chosen true has =
           let d = (each_before (Describes sets outcomes) before r behind (subst (Each (Describes sets outcomes)) split each)).1 in
           let given = given_same (sets (mover r) r.set.number) _
@@ -68,19 +70,25 @@ module _ (sets : Kind → ℕ → SetMention) (outcomes : ℕ → OutcomeMention
             (begins_here all (before ++ r ∷ []) rest (n + own_children r - 1) (split ∙ sym (append_assoc before (r ∷ []) rest)) each begins.1),
       )
 
+  -- behind the nodes of described entries as many are wanted as by the actions that each entry itself gives
   pub wanted_described : (rs : List Record) (n : ℕ) → Each (Describes sets outcomes) rs
       → wanted n (contents_of rs).nodes ≡ wanted_behind n rs
   wanted_described rs n each = wanted_here rs [] rs n refl each
 
+  -- described entries that each come where one is wanted, by the actions they give, make nodes that do so
   pub begins_described : (rs : List Record) (n : ℕ) → Each (Describes sets outcomes) rs → EntriesBegin n rs
       → Begins n (contents_of rs).nodes
   begins_described rs n each begins = begins_here rs [] rs n refl each begins
 
-pub wanted_behind-append : (n : ℕ) (rs ts : List Record) → wanted_behind n (rs ++ ts) ≡ wanted_behind (wanted_behind n rs) ts
+-- behind two lists as many are wanted as behind the second, where it begins with what the first leaves wanted
+pub wanted_behind-append : (n : ℕ) (rs ts : List Record)
+    → wanted_behind n (rs ++ ts) ≡ wanted_behind (wanted_behind n rs) ts
 wanted_behind-append n [] ts = refl
 wanted_behind-append n (r ∷ rs) ts = wanted_behind-append (n + own_children r - 1) rs ts
 
-pub begin-append : (n : ℕ) (rs ts : List Record) → EntriesBegin n rs → EntriesBegin (wanted_behind n rs) ts → EntriesBegin n (rs ++ ts)
+-- two lists have each entry where one is wanted, if the first does, and the second does behind the first
+pub begin-append : (n : ℕ) (rs ts : List Record) → EntriesBegin n rs → EntriesBegin (wanted_behind n rs) ts
+    → EntriesBegin n (rs ++ ts)
 begin-append n [] ts first second = second
 begin-append n (r ∷ rs) ts first second = (first.0, begin-append (n + own_children r - 1) rs ts first.1 second)
 

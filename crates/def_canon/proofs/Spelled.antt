@@ -26,10 +26,12 @@ abbrev pub spell : List Piece → List Spelled → List Spelled
 spell [] rest = rest
 spell (p ∷ ps) rest = spelled p ∷ spell ps rest
 
+-- the tokens of two lists of pieces are those of the first, then those of the second, and then the rest
 pub spell_append : (ps qs : List Piece) (rest : List Spelled) → spell (ps ++ qs) rest ≡ spell ps (spell qs rest)
 spell_append [] qs rest = refl
 spell_append (p ∷ ps) qs rest = ap (λ l. spelled p ∷ l) (spell_append ps qs rest)
 
+-- pieces that are spelled one by one are their tokens with nothing behind them
 pub spell_map : (ps : List Piece) → map spelled ps ≡ spell ps []
 spell_map [] = refl
 spell_map (p ∷ ps) = ap (λ l. spelled p ∷ l) (spell_map ps)
@@ -41,9 +43,12 @@ quoted_is bytes space rest plain =
     let is = escaped_is_inside (escaped bytes) bytes plain refl in
     record { inside = escaped bytes; is_inside = is.0; stands_for = is.1; spelling = refl }
 
-pub text_is : (bytes : List ℕ) (rest : List Spelled) → EndsPlainly bytes → IsText bytes (spelled (text bytes) ∷ rest) rest
+-- the token of a text that doesn't end with a backslash says this text
+pub text_is : (bytes : List ℕ) (rest : List Spelled) → EndsPlainly bytes
+    → IsText bytes (spelled (text bytes) ∷ rest) rest
 text_is bytes rest plain = quoted_is bytes (codes " ") rest plain
 
+-- the token of a whole number within the limit says this number
 pub whole_is : (n : ℕ) (rest : List Spelled) → n ≤ most → IsWholeNumber n (spelled (whole_number n) ∷ rest) rest
 whole_is n rest small = record {
   digits = decimal n;
@@ -53,30 +58,36 @@ whole_is n rest small = record {
   spelling = refl;
 }
 
-pub fraction_is : (f : Fraction) (rest : List Spelled) → IsSmallFraction f → IsFraction f (spelled (fraction f) ∷ rest) rest
+pub fraction_is : (f : Fraction) (rest : List Spelled) → IsSmallFraction f
+    → IsFraction f (spelled (fraction f) ∷ rest) rest
 fraction_is f rest small = record {
   bytes = fraction_text f;
   literal = ((read_as_literal-judged (fraction_text f)).value f).0 (read_as_literal-fraction_text f small.0 small.1);
   spelling = refl;
 }
 
-pub name_is : (name : Option (List ℕ)) (rest : List Spelled) → IsPlainName name → IsName name (spell (name_pieces name) rest) rest
+pub name_is : (name : Option (List ℕ)) (rest : List Spelled) → IsPlainName name
+    → IsName name (spell (name_pieces name) rest) rest
 unfolding name_pieces
 name_is None rest plain = refl
 name_is (Some name) rest plain = text_is name rest plain
 
 -- the probabilities of an entry's actions are spelled as the kind has them
 pub record MovesAs (who : Kind) (kind : EntryKind) : Type 0 where
-  pub chance : (f : Fraction) (rest : List Spelled) → IsChanceOf kind f → IsChance kind f (spell (chance_pieces who f) rest) rest
+  pub chance : (f : Fraction) (rest : List Spelled) → IsChanceOf kind f
+      → IsChance kind f (spell (chance_pieces who f) rest) rest
 
+-- the probability of chance's action is spelled as a chance entry has it
 pub chance_moves_as : MovesAs movers.Chance Chance
 unfolding chance_pieces
 chance_moves_as = record { chance = λ f rest small. fraction_is f rest small }
 
+-- player one's action is spelled without a probability, as a personal entry has it
 pub one_moves_as : MovesAs movers.One Personal
 unfolding chance_pieces
 one_moves_as = record { chance = λ f rest none. (none, refl) }
 
+-- player two's action is spelled without a probability, as a personal entry has it
 pub two_moves_as : MovesAs movers.Two Personal
 unfolding chance_pieces
 two_moves_as = record { chance = λ f rest none. (none, refl) }
@@ -103,7 +114,9 @@ list_is who kind moves actions rest writable = (
       (actions_are who kind moves actions rest writable),
 )
 
-pub set_is : (who : Kind) (kind : EntryKind) → MovesAs who kind → (m : SetMention) (rest : List Spelled) → IsWritableSet kind m
+-- where probabilities are spelled as the kind has them, the tokens of a writable set say this set
+pub set_is : (who : Kind) (kind : EntryKind) → MovesAs who kind → (m : SetMention) (rest : List Spelled)
+    → IsWritableSet kind m
     → IsSet kind m (spell (set_pieces who (new_set m)) rest) rest
 unfolding set_pieces
 set_is who kind moves m rest w =
@@ -129,6 +142,7 @@ payoffs_are one two rest small_one small_two =
     let parted = spelled (fraction two) ∷ behind_two in
     (_, refl, (_, fraction_is one _ small_one, (parted, behind_two, inr refl, fraction_is two behind_two small_two, refl)))
 
+-- the tokens of a writable outcome say this outcome
 pub outcome_is : (m : OutcomeMention) (rest : List Spelled) → IsWritableOutcome m
     → IsOutcome m (spell (described_outcome (new_outcome m)) rest) rest
 unfolding described_outcome
@@ -148,7 +162,9 @@ outcome_is m rest w =
           (payoffs_are one two rest (subst IsSmallFraction same_one w.one_small) (subst IsSmallFraction same_two w.two_small));
     }
 
-pub prologue_is : (p : Prologue) (rest : List Spelled) → IsPlainPrologue p → IsPrologue p (spell (prologue_pieces p) rest) rest
+-- the tokens of a prologue of which no text ends with a backslash say this prologue
+pub prologue_is : (p : Prologue) (rest : List Spelled) → IsPlainPrologue p
+    → IsPrologue p (spell (prologue_pieces p) rest) rest
 unfolding prologue_pieces marker_pieces
 prologue_is p rest plain =
     let remark = spelled (behind (codes "\n") Text (quoted p.comment)) ∷ rest in

@@ -13,12 +13,14 @@ use Rattle.def_file.specs.Faults.{mover, mover_as, has_set}
 use Rattle.def_file_entries.specs.Entries.{first_given, given_first, of_kind, mentions}
 use Rattle.def_canon.specs.Described.{Each, Describes}
 
+-- where each entry has a property from which another follows, each has the other one
 pub each_map : (P Q : Record → Type 0) → ((r : Record) → P r → Q r) → (rs : List Record) → Each P rs → Each Q rs
 each_map P Q f [] each = tt
 each_map P Q f (r ∷ rs) each = (f r each.0, each_map P Q f rs each.1)
 
 -- what passes a test
-pub filter_each : (p : Record → Bool) (P Q : Record → Type 0) → ((r : Record) → P r → p r ≡ true → Q r) → (rs : List Record)
+pub filter_each : (p : Record → Bool) (P Q : Record → Type 0) → ((r : Record) → P r → p r ≡ true → Q r)
+    → (rs : List Record)
     → Each P rs → Each Q (filter p rs)
 filter_each p P Q f [] each = tt
 filter_each p P Q f (r ∷ rs) each = chosen (p r) refl (filter_each p P Q f rs each.1)
@@ -34,10 +36,12 @@ filter_some p [] r behind is = ([], ap (λ b. cond b (r ∷ filter p behind) (fi
 filter_some p (x ∷ before) r behind is = chosen (p x) (filter_some p before r behind is)
   where
     chosen : (b : Bool) → (front : List Record) × (filter p (before ++ r ∷ behind) ≡ front ++ r ∷ filter p behind)
-        → (front : List Record) × (cond b (x ∷ filter p (before ++ r ∷ behind)) (filter p (before ++ r ∷ behind)) ≡ front ++ r ∷ filter p behind)
+        → (front : List Record)
+        × (cond b (x ∷ filter p (before ++ r ∷ behind)) (filter p (before ++ r ∷ behind)) ≡ front ++ r ∷ filter p behind)
     chosen true later = (x ∷ later.0, ap (λ (ys : List Record). x ∷ ys) later.1)
     chosen false later = later
 
+-- a kind of entry whose mover isn't Leaf has a set
 pub mover_has_set : (kind : EntryKind) (player : ℕ) → mover_as kind player ≢ Leaf → has_set kind ≡ true
 mover_has_set entry.Chance player some = refl
 mover_has_set entry.Personal player some = refl
@@ -45,6 +49,7 @@ mover_has_set entry.Leaf player some = absurd (some refl)
 
 -- all mentions of a set are one
 module _ (sets : Kind → ℕ → SetMention) (outcomes : ℕ → OutcomeMention) where
+  -- of a kind other than leaf, all mentions of a set among described entries are the one that describes it
   pub mentions_same : (kind : Kind) → kind ≢ Leaf → (n : ℕ) (rs : List Record) → Each (Describes sets outcomes) rs
       → Each (λ r. r.set ≡ sets kind n) (mentions kind n rs)
   mentions_same kind some n rs each =
@@ -88,13 +93,16 @@ names_are : (v : SetMention) (rs : List Record) → Each (λ r. r.set ≡ v) rs 
 names_are v [] each = tt
 names_are v (r ∷ rs) each = (ap (λ (m : SetMention). m.name) each.0, names_are v rs each.1)
 
-pub first_name : (name : Option (List ℕ)) (os : List (Option (List ℕ))) → 1 ≤ length os → AreNames name os → first_given os ≡ name
+-- of one or more names that are all this one, the first that is given is this one
+pub first_name : (name : Option (List ℕ)) (os : List (Option (List ℕ))) → 1 ≤ length os → AreNames name os
+    → first_given os ≡ name
 first_name name [] some are = absurd (omega arith)
 first_name (Some name) (o ∷ os) some are = ap (λ (x : Option (List ℕ)). first_given (x ∷ os)) are.0
 first_name None (o ∷ []) some are = ap (λ (x : Option (List ℕ)). first_given (x ∷ [])) are.0
 first_name None (o ∷ p ∷ os) some are =
     ap (λ (x : Option (List ℕ)). first_given (x ∷ p ∷ os)) are.0 ∙ first_name None (p ∷ os) (omega arith) are.1
 
+-- of one or more entries with the same set mention, the first name that is given is the mention's
 pub first_same : (v : SetMention) (rs : List Record) → 1 ≤ length rs → Each (λ r. r.set ≡ v) rs
     → first_given (map (λ r. r.set.name) rs) ≡ v.name
 first_same v [] some each = absurd (omega arith)

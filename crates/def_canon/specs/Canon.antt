@@ -1,4 +1,5 @@
--- The canonical form of a game: the file with one line for each node, in which each mention of a set and of an outcome has its whole description (Gambit's manual, "The extensive game (.efg) file format", in this project's profile).
+-- The canonical form of a game: the file with one line for each node, in which each mention of a set and of an outcome
+-- has its whole description (Gambit's manual, "The extensive game (.efg) file format", in this project's profile).
 --     text_of pieces                    the bytes of tokens, each behind its white space
 --     set_pieces, outcome_pieces        the description of a set and of an outcome
 --     node_pieces                       the line of a node

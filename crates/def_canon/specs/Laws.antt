@@ -14,7 +14,8 @@ use Rattle.def_canon.specs.Canon.{canon}
 use Rattle.def_canon.specs.Described.{Each, Describes}
 use Rattle.def_canon.specs.Writable.{GivesWritable, IsPlainPrologue, IsWritable}
 
--- a game of entries of one whole tree that describe their sets and outcomes whole, each in one way, and that can be written
+-- a game of entries of one whole tree that describe their sets and outcomes whole, each in one way,
+-- and that can be written
 pub record IsOfEntries (game : GameFile) : Type 0 where
   pub prologue : Prologue
   pub entries : List Record
@@ -34,7 +35,8 @@ CanonStandsForGame = (game : GameFile) → IsOfEntries game → StandsFor (canon
 abbrev pub CanonIsReadBack : Type 0
 CanonIsReadBack = (game : GameFile) → IsOfEntries game → game_at (canon game) ≡ Ok game
 
--- a game of entries of one whole tree that have no fault, of which each gives what can be written and may leave out the rest
+-- a game of entries of one whole tree that have no fault,
+-- of which each gives what can be written and may leave out the rest
 pub record IsOfFaultless (game : GameFile) : Type 0 where
   pub prologue : Prologue
   pub entries : List Record

@@ -79,7 +79,8 @@ made_of form o head lines ends h l e = ap (λ (g : Head). made form g o.trace o.
 -- where the run has ends, its certificate is the head with the bounds of these ends
 pub certificate_with : (game : WeighedGame) (last every scale : ℕ) (ends : BracketEnds)
     → ends_of (evaluations game.form scale every last) ≡ Some ends
-    → certificate_of game.form (outcome game.form (own_head game last every scale)) ≡ with_bounds (own_head game last every scale) (bounds_of_run game last every scale ends)
+    → certificate_of game.form (outcome game.form (own_head game last every scale))
+    ≡ with_bounds (own_head game last every scale) (bounds_of_run game last every scale ends)
 unfolding made
 certificate_with game last every scale ends are =
     let form = game.form in
@@ -90,7 +91,8 @@ certificate_with game last every scale ends are =
 
 -- of a run without a round the certificate is the head alone
 pub certificate_without : (game : WeighedGame) (last every scale : ℕ) → last ≡ 0
-    → certificate_of game.form (outcome game.form (own_head game last every scale)) ≡ without_bounds (own_head game last every scale)
+    → certificate_of game.form (outcome game.form (own_head game last every scale))
+    ≡ without_bounds (own_head game last every scale)
 unfolding made
 certificate_without game last every scale none =
     let form = game.form in

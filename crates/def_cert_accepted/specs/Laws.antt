@@ -11,8 +11,8 @@ use Rattle.def_tree.specs.Rules.{most_actions}
 use Rattle.def_cert_ranges.specs.Ranges.{HeadFits, CertificateFits}
 use Rattle.def_cert_accepted.specs.OfOutcome.{certificate_of}
 
--- with the game's head it is accepted: without a round its head alone, else with the bracket whose ends are those of the run's evaluations
--- in payoff units
+-- with the game's head it is accepted: without a round its head alone, else with the bracket whose ends are those of
+-- the run's evaluations in payoff units
 pub record TheCertificateOfARunIsAccepted : Type 0 where
   pub no_round : (game : WeighedGame) (head : Head) → IsHeadOf game head → head.rounds ≡ 0
       → verdict game (certificate_of game.form (outcome game.form head)) ≡ Ok head_only

@@ -1,5 +1,5 @@
--- The certificate of an outcome: its head and its trace, the plans at both ends of the bracket set by set, the replies to them, and the
--- bracket.
+-- The certificate of an outcome: its head and its trace, the plans at both ends of the bracket set by set, the replies
+-- to them, and the bracket.
 use Rattle.std.specs.Prelude.{ℕ, ◌*◌, List, [], ◌∷◌, take, drop, slice_index}
 use Rattle.std.specs.Option.{option_map}
 use Rattle.def_fraction.specs.Fraction.{Fraction, fraction_of}

@@ -1,4 +1,5 @@
--- The ranges of a certificate's numbers, which its text may not leave. Whoever wrote a certificate, one that is read is within them.
+-- The ranges of a certificate's numbers, which its text may not leave.
+-- Whoever wrote a certificate, one that is read is within them.
 use Rattle.std.specs.Prelude.{◌≡◌, ℕ, ◌+◌, ◌-◌, ◌*◌, ◌/◌, ◌^◌, ◌≤◌, ◌<◌, min, List, length, slice_index_or, All, ℤ, unsigned_abs, Option, Some, None}
 use Rattle.def_fraction.specs.Fraction.{Fraction, IsInLowestTerms}
 use Rattle.def_tree.specs.Rules.{most_actions}
@@ -34,7 +35,8 @@ pub record HeadFits (head : Head) : Type 0 where
   pub every : IsFromTo 1 most_rounds head.every
   pub scale : IsFromTo 1 most_scale head.scale
 
--- the line of the place k, from 0: its round is the one that is evaluated there, and its ends come from a round up to it
+-- the line of the place k, from 0: its round is the one that is evaluated there,
+-- and its ends come from a round up to it
 pub record LineFits (head : Head) (k : ℕ) (line : TraceLine) : Type 0 where
   pub round : line.round ≡ min ((k + 1) * head.every) head.rounds
   pub low_round : IsFromTo 1 line.round line.low_round

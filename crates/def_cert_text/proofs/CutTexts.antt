@@ -94,6 +94,7 @@ cut_fault c n fits cut = record {
   stop = cut_short cut.short refl;
 }
 
+-- the text of a certificate within its ranges, cut anywhere before its end, is read as short
 pub cut_texts : CutTextsAreShort
 cut_texts c n f low =
     let fits = ranges_fit c f in

@@ -25,6 +25,7 @@ use Rattle.def_cert_text.specs.Numbers.{leads_no_zero, whole_in, negative_of, in
 use Rattle.def_cert_text.specs.Formats.{is_lowest_within}
 
 -- ---- results
+-- where two steps in turn give a value, the first gives one, and with it the second gives that value
 pub bind_ok : {A B : Type 0} (r : Result A CertFault) (f : A → Result B CertFault) (y : B) → (r >>= f) ≡ Ok y
     → (x : A) × (r ≡ Ok x) × (f x ≡ Ok y)
 bind_ok (Ok x) f y e = (x, refl, e)
@@ -33,6 +34,7 @@ bind_ok (Err d) f y e = absurd cc
 abbrev pub done : {A : Type 0} → A → Result A CertFault
 done x = Ok x
 
+-- where two good results are equal, so are their values
 pub ok_is : {A : Type 0} (x y : A) → done x ≡ done y → x ≡ y
 ok_is x y e = cc
 
@@ -53,10 +55,12 @@ run p (x ∷ xs) b left h s =
     let q = and_parts (p x) (all_pass p xs) h in
     ap (λ t. cond t (1 + prefix_len p (xs ++ b ∷ left)) 0) q.0 ∙ ap (λ n. 1 + n) (run p xs b left q.1 s) ∙ omega arith
 
+-- where all bytes of a front pass a test and the next one fails it, this front is the longest run that passes
 pub front_is : (p : ℕ → Bool) (front : List ℕ) (b : ℕ) (left : List ℕ) → all_pass p front ≡ true → p b ≡ false
     → take (prefix_len p (front ++ b ∷ left)) (front ++ b ∷ left) ≡ front
 front_is p front b left h s = ap (λ n. take n (front ++ b ∷ left)) (run p front b left h s) ∙ take_at front (b ∷ left) (length front) refl
 
+-- where all bytes of a front pass a test and the next fails it, that and the rest are behind the longest passing run
 pub behind_is : (p : ℕ → Bool) (front : List ℕ) (b : ℕ) (left : List ℕ) → all_pass p front ≡ true → p b ≡ false
     → drop (prefix_len p (front ++ b ∷ left)) (front ++ b ∷ left) ≡ b ∷ left
 behind_is p front b left h s = ap (λ n. drop n (front ++ b ∷ left)) (run p front b left h s) ∙ drop_at front (b ∷ left) (length front) refl
@@ -70,9 +74,11 @@ run_all p (x ∷ xs) h =
 pub front_all : (p : ℕ → Bool) (front : List ℕ) → all_pass p front ≡ true → take (prefix_len p front) front ≡ front
 front_all p front h = ap (λ n. take n front) (run_all p front h) ∙ ap (λ (xs : List ℕ). take (length front) xs) (sym (append-nil front)) ∙ take_at front [] (length front) refl
 
+-- where all bytes pass a test, nothing stands behind the longest run that passes
 pub behind_all : (p : ℕ → Bool) (front : List ℕ) → all_pass p front ≡ true → drop (prefix_len p front) front ≡ []
 behind_all p front h = ap (λ n. drop n front) (run_all p front h) ∙ ap (λ (xs : List ℕ). drop (length front) xs) (sym (append-nil front)) ∙ drop_at front [] (length front) refl
 
+-- the longest run that passes a test and what stands behind it make all the bytes
 pub parted : (p : ℕ → Bool) (bytes : List ℕ)
     → take (prefix_len p bytes) bytes ++ drop (prefix_len p bytes) bytes ≡ bytes
 parted p bytes = take-append-drop (prefix_len p bytes) bytes
@@ -89,6 +95,7 @@ stops_at p x xs b more false later h e =
     let same : x ≡ b = cc in
     subst (λ y. p y ≡ false) same h
 
+-- the first byte behind the longest run that passes a test fails this test
 pub stops : (p : ℕ → Bool) (bytes : List ℕ) (b : ℕ) (more : List ℕ) → drop (prefix_len p bytes) bytes ≡ b ∷ more
     → p b ≡ false
 stops p [] b more e = absurd cc
@@ -141,12 +148,14 @@ field_only kind test sep total bytes x left e =
     (next_field bytes, p.0, sym (parted is_field_byte bytes) ∙ ap (λ (r : List ℕ). next_field bytes ++ r) p.1 ∙ sym (append_assoc (next_field bytes) (sep ∷ []) left))
 
 -- ---- words
+-- words that are the same byte by byte are equal
 pub word_same : (xs ys : List ℕ) → pointwise eqb xs ys ≡ true → xs ≡ ys
 word_same [] [] e = refl
 word_same [] (y ∷ ys) e = absurd cc
 word_same (x ∷ xs) [] e = absurd cc
 word_same (x ∷ xs) (y ∷ ys) e = let p = and_parts (eqb x y) (pointwise eqb xs ys) e in let a = eqb-true x y p.0 in let b = word_same xs ys p.1 in λ i. a i ∷ b i
 
+-- compared byte by byte, a word is equal to itself
 pub word_itself : (xs : List ℕ) → pointwise eqb xs xs ≡ true
 word_itself [] = refl
 word_itself (x ∷ xs) = and_from (eqb x x) (pointwise eqb xs xs) (eq-eqb x x refl) (word_itself xs)
@@ -226,6 +235,7 @@ decimal_is n small =
     let c = int_text-canonical (pos n) small in
     record { numeral = c.numeral; plain = plain_from n (decimal n) c.no_leading_zero c.zero; value = c.value }
 
+-- the decimal text of a whole number of a range, which ends at 2 ^ 127 at most, is read as this number
 pub whole_again : (low high n : ℕ) → high ≤ 2 ^ 127 → low ≤ n → n ≤ high → whole_in low high (decimal n) ≡ Some n
 unfolding whole_in
 whole_again low high n small a b =
@@ -238,6 +248,7 @@ some_if : (b : Bool) (m n : ℕ) → cond b (Some m) None ≡ Some n → (b ≡ 
 some_if true m n e = (refl, cc)
 some_if false m n e = absurd cc
 
+-- bytes read as a number of a range, which ends at 2 ^ 127 at most, are its decimal text, and it is in the range
 pub whole_only : (low high n : ℕ) (bytes : List ℕ) → high ≤ 2 ^ 127 → whole_in low high bytes ≡ Some n
     → (low ≤ n) × (n ≤ high) × (bytes ≡ decimal n)
 unfolding whole_in
@@ -255,6 +266,7 @@ decimal_pass : (p : ℕ → Bool) → ((d : ℕ) → is_ascii_digit d ≡ true �
     → all_pass p (decimal n) ≡ true
 decimal_pass p each n small = digits_pass p each (decimal n) (and_parts (all_ascii_digits (decimal n)) _ (decimal_is n small).numeral).0
 
+-- the decimal text of a whole number up to 2 ^ 127 holds no space and no line feed
 pub decimal_inside : (n : ℕ) → n ≤ 2 ^ 127 → all_pass is_field_byte (decimal n) ≡ true
 decimal_inside n small = decimal_pass is_field_byte digit_inside n small
 
@@ -286,6 +298,7 @@ not_minus most n (b ∷ ds) e small h =
     let other : eqb b 45 ≡ false = ne_eqb b 45 (λ z. first_digit n b ds (omega arith) e z) in
     ap (by_minus most b ds) other ∙ ap (option_map (λ (m : ℕ). pos m)) here
 
+-- the decimal text of a signed number whose size is within a limit, itself 2 ^ 126 at most, is read as this number
 pub integer_again : (most : ℕ) (n : ℤ) → most ≤ 2 ^ 126 → unsigned_abs n ≤ most
     → integer_in most (signed_decimal n) ≡ Some n
 unfolding integer_in
@@ -313,6 +326,7 @@ integer_only_by most n b ds false small h e =
     let q = whole_only 0 most p.0 (b ∷ ds) (omega arith) p.1 in
     subst (λ (z : ℤ). (unsigned_abs z ≤ most) × (b ∷ ds ≡ signed_decimal z)) p.2 (q.1, q.2)
 
+-- bytes read as a signed number within a limit, itself 2 ^ 126 at most, are its decimal text, and it is within it
 pub integer_only : (most : ℕ) (n : ℤ) (bytes : List ℕ) → most ≤ 2 ^ 126 → integer_in most bytes ≡ Some n
     → (unsigned_abs n ≤ most) × (bytes ≡ signed_decimal n)
 unfolding integer_in
@@ -324,6 +338,7 @@ integer_pass : (p : ℕ → Bool) → ((d : ℕ) → is_ascii_digit d ≡ true �
 integer_pass p each sign (pos n) h = decimal_pass p each n h
 integer_pass p each sign (negsuc n) h = and_from (p 45) (all_pass p (decimal (suc n))) sign (decimal_pass p each (suc n) h)
 
+-- the decimal text of a signed number whose size is 2 ^ 127 at most holds no space and no line feed
 pub integer_inside : (n : ℤ) → unsigned_abs n ≤ 2 ^ 127 → all_pass is_field_byte (signed_decimal n) ≡ true
 integer_inside n h = integer_pass is_field_byte digit_inside refl n h
 
@@ -334,6 +349,7 @@ pub record IsLowestWithin (most : ℕ) (f : Fraction) : Type 0 where
   pub num : unsigned_abs f.num ≤ most
   pub den : f.den ≤ most
 
+-- a fraction that passes the test is in lowest terms, its denominator isn't 0, and both parts are within the limit
 pub lowest_parts : (most : ℕ) (f : Fraction) → is_lowest_within most f ≡ true → IsLowestWithin most f
 lowest_parts most f fits =
     let a = and_parts (leb 1 f.den && eqb (gcd (unsigned_abs f.num) f.den) 1) (leb (unsigned_abs f.num) most && leb f.den most) fits in
@@ -341,6 +357,7 @@ lowest_parts most f fits =
     let c = and_parts (leb (unsigned_abs f.num) most) (leb f.den most) a.1 in
     record { positive = leb-true 1 f.den b.0; coprime = eqb-true (gcd (unsigned_abs f.num) f.den) 1 b.1; num = leb-true (unsigned_abs f.num) most c.0; den = leb-true f.den most c.1 }
 
+-- a fraction in lowest terms passes the test, where its denominator isn't 0 and both parts are within the limit
 pub lowest_from : (most : ℕ) (f : Fraction) → IsLowestWithin most f → is_lowest_within most f ≡ true
 lowest_from most f is =
     and_from (leb 1 f.den && eqb (gcd (unsigned_abs f.num) f.den) 1) (leb (unsigned_abs f.num) most && leb f.den most)
@@ -355,6 +372,7 @@ fraction_inside_by : (most : ℕ) (f : Fraction) (one : Bool) → most ≤ 2 ^ 1
 fraction_inside_by most f true small is = integer_inside f.num (omega (arith, is.num))
 fraction_inside_by most f false small is = pass_append is_field_byte (signed_decimal f.num) (slash ∷ decimal f.den) (integer_inside f.num (omega (arith, is.num))) (decimal_inside f.den (omega (arith, is.den)))
 
+-- the text of a fraction in lowest terms whose parts are 2 ^ 126 at most holds no space and no line feed
 pub fraction_inside : (most : ℕ) (f : Fraction) → most ≤ 2 ^ 126 → IsLowestWithin most f
     → all_pass is_field_byte (fraction_text f) ≡ true
 fraction_inside most f small is = fraction_inside_by most f (eqb f.den 1) small is
@@ -386,10 +404,12 @@ fraction_again_by most f false small is h =
     ∙ ap (over_in f.num) (whole_again 2 most f.den (omega arith) two is.den)
     ∙ ap (λ t. cond t (Some f) None) (eq-eqb (gcd (unsigned_abs f.num) f.den) 1 is.coprime)
 
+-- the text of a fraction in lowest terms within a limit, itself 2 ^ 126 at most, is read as this fraction
 pub fraction_again : (most : ℕ) (f : Fraction) → most ≤ 2 ^ 126 → IsLowestWithin most f
     → fraction_in most (fraction_text f) ≡ Some f
 fraction_again most f small is = fraction_again_by most f (eqb f.den 1) small is refl
 
+-- the greatest common divisor of any number and 1 is 1
 pub gcd_one : (n : ℕ) → gcd n 1 ≡ 1
 unfolding gcd
 gcd_one n = refl
@@ -431,6 +451,7 @@ only_lowest most front (b ∷ ds) (Some num) f small one h stop e =
       ap (λ (xs : List ℕ). xs ++ b ∷ ds) q.1 ∙ (λ i. signed_decimal num ++ first i ∷ w.2 i) ∙ sym (ap (text_by (record { num = num; den = p.0 })) two),
     )
 
+-- bytes read as a fraction within a limit from 1 to 2 ^ 126 are its text, and it is within it in lowest terms
 pub fraction_only : (most : ℕ) (f : Fraction) (bytes : List ℕ) → most ≤ 2 ^ 126 → 1 ≤ most
     → fraction_in most bytes ≡ Some f → IsLowestWithin most f × (bytes ≡ fraction_text f)
 unfolding fraction_in

@@ -35,6 +35,7 @@ game_fits h =
 abbrev asked_line_fits : Head → Bool
 asked_line_fits h = is_within 0 65536 h.rounds && (is_within 1 65536 h.every && is_within 1 1048576 h.scale)
 
+-- a head that the format of its lines takes is within its ranges
 pub head_fits : (h : Head) → head_lines.fits h ≡ true → HeadFits h
 head_fits h fit =
     let whole = and_parts (game_fits h) (asked_line_fits h) fit in
@@ -115,7 +116,8 @@ each_place A f (suc count) k (x ∷ xs) fit =
     let later = each_place A f count (k + 1) xs p.1 in
     record { count_is = ap suc later.count_is; each = at p.0 later.each }
   where
-    at : (f k).fits x ≡ true → ((i : ℕ) (d : A) → i < length xs → (f (k + 1 + i)).fits (get_or xs i d) ≡ true) → (i : ℕ) (d : A) → i < length (x ∷ xs) → (f (k + i)).fits (get_or (x ∷ xs) i d) ≡ true
+    at : (f k).fits x ≡ true → ((i : ℕ) (d : A) → i < length xs → (f (k + 1 + i)).fits (get_or xs i d) ≡ true)
+        → (i : ℕ) (d : A) → i < length (x ∷ xs) → (f (k + i)).fits (get_or (x ∷ xs) i d) ≡ true
     at first later zero d low = ap (λ j. (f j).fits x) (omega arith) ∙ first
     at first later (suc i) d low = ap (λ j. (f j).fits (get_or xs i d)) (omega arith) ∙ later i d (omega (arith, low))
 
@@ -324,13 +326,14 @@ below_taken head None f = ap (λ n. asked_fits (ltb 0 n) (bounds_lines head) Non
 abbrev below : Certificate → Bool
 below c = asked_fits (ltb 0 c.head.rounds) (bounds_lines c.head) c.bounds && true
 
--- the formats take a certificate exactly where it is within its ranges
+-- a certificate that the formats take is within its ranges
 pub fits_ranges : (c : Certificate) → whole_certificate.fits c ≡ true → CertificateFits c
 fits_ranges c fit =
     let p = and_parts (head_lines.fits c.head) (below c) fit in
     let q = and_parts (asked_fits (ltb 0 c.head.rounds) (bounds_lines c.head) c.bounds) true p.1 in
     record { head = head_fits c.head p.0; below = below_fits c.head (ltb 0 c.head.rounds) c.bounds refl q.0 }
 
+-- a certificate that is within its ranges is one that the formats take
 pub ranges_fit : (c : Certificate) → CertificateFits c → whole_certificate.fits c ≡ true
 ranges_fit c f =
     and_from (head_lines.fits c.head) (below c) (head_taken c.head f.head) (and_from (asked_fits (ltb 0 c.head.rounds) (bounds_lines c.head) c.bounds) true (below_taken c.head c.bounds f.below) refl)

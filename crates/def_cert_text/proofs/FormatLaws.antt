@@ -1,4 +1,5 @@
--- What a format writes it reads again, what it reads was written so, and its faults are the first ones: a law for each way to make a format.
+-- What a format writes it reads again, what it reads was written so, and its faults are the first ones:
+-- a law for each way to make a format.
 use Rattle.std.proofs.Common.{◌≡◌, ℕ, ◌<◌, ◌≤◌, Bool, true, not, List, [], ◌∷◌, ◌++◌, ◌&&◌, length, Result, Ok, Err, refl, sym, ap, ◌∙◌, subst, append_assoc, arith, ◌⊎◌, inl, inr, ⊎_elim}
 use Rattle.std.proofs.lemmas.List.{append-nil, append_cancel_left, length-append}
 use Rattle.std.proofs.lemmas.Bool.{and_parts, and_from, cases_lt}
@@ -8,11 +9,13 @@ use Rattle.def_cert_text.specs.Formats.{Format, text_of, and_then}
 use Rattle.def_cert_text.specs.FirstFault.{Place, item_there, CanGoOn, Needs, Stops, cut_short, unfit, HasFirstFault}
 use Rattle.def_cert_text.proofs.FieldLaws.{bind_ok, ok_is, all_pass}
 
+-- the text of items with others behind them is the text of the first and then that of the others
 pub items_text-append : (xs ys : List Item) → items_text (xs ++ ys) ≡ items_text xs ++ items_text ys
 unfolding items_text
 items_text-append [] ys = refl
 items_text-append (x ∷ xs) ys = ap (λ (bs : List ℕ). item_bytes x ++ bs) (items_text-append xs ys) ∙ sym (append_assoc (item_bytes x) (items_text xs) (items_text ys))
 
+-- a fault of two readings in turn is the first one's, or the first gives a value and the second has this fault
 pub bind_err : {A B : Type 0} (r : Result A CertFault) (k : A → Result B CertFault) (fault : CertFault)
     → (r >>= k) ≡ Err fault → (r ≡ Err fault) ⊎ ((x : A) × (r ≡ Ok x) × (k x ≡ Err fault))
 bind_err (Ok x) k fault e = inr (x, refl, e)
@@ -34,12 +37,15 @@ clean_append (x ∷ xs) ys h k = let q = and_parts (is_clean x) (all_clean xs) h
 -- what holds of a format
 pub record IsFormat (A : Type 0) (f : Format A) : Type 0 where
   pub again : (total : ℕ) (x : A) (left : List ℕ) → f.fits x ≡ true → f.read total (text_of f x ++ left) ≡ Ok (x, left)
-  pub only : (total : ℕ) (bytes : List ℕ) (x : A) (left : List ℕ) → f.read total bytes ≡ Ok (x, left) → (f.fits x ≡ true) × (bytes ≡ text_of f x ++ left)
+  pub only : (total : ℕ) (bytes : List ℕ) (x : A) (left : List ℕ) → f.read total bytes ≡ Ok (x, left)
+      → (f.fits x ≡ true) × (bytes ≡ text_of f x ++ left)
   pub some : A
   pub some_fits : f.fits some ≡ true
   pub clean : (x : A) → f.fits x ≡ true → all_clean (f.items x) ≡ true
-  pub faults : (total : ℕ) (bytes : List ℕ) (fault : CertFault) → f.read total bytes ≡ Err fault → HasFirstFault f total bytes fault
-  pub found : (total : ℕ) (bytes : List ℕ) (fault : CertFault) → HasFirstFault f total bytes fault → f.read total bytes ≡ Err fault
+  pub faults : (total : ℕ) (bytes : List ℕ) (fault : CertFault) → f.read total bytes ≡ Err fault
+      → HasFirstFault f total bytes fault
+  pub found : (total : ℕ) (bytes : List ℕ) (fault : CertFault) → HasFirstFault f total bytes fault
+      → f.read total bytes ≡ Err fault
 
 -- ---- the same values under another form
 pub record IsView (A B : Type 0) (f : Format A) (g : Format B) (to : A → B) : Type 0 where
@@ -88,6 +94,7 @@ view_fault : (A B : Type 0) (to : A → B) (r : Result (A × List ℕ) CertFault
 view_fault A B to (Ok x) fault e = absurd cc
 view_fault A B to (Err other) fault e = let same : other ≡ fault = cc in λ i. Err (same i)
 
+-- where a format keeps the laws, so does one that has the same values under another form
 pub view_laws : (A B : Type 0) (f : Format A) (g : Format B) (to : A → B) → IsView A B f g to → IsFormat A f
     → IsFormat B g
 view_laws A B f g to is laws = record {
@@ -127,6 +134,7 @@ no_items : (front : List Item) (item : Item) (more : List Item) → [] ≡ (fron
 no_items [] item more e = cc
 no_items (x ∷ front) item more e = cc
 
+-- a format keeps the laws where it takes one value alone, which has no items and is read from no bytes
 pub nothing_laws : (A : Type 0) (f : Format A) (x : A) → IsNothing A f x → IsFormat A f
 unfolding items_text
 nothing_laws A f x is = record {
@@ -372,6 +380,7 @@ pair_found A B f g first second total bytes fault h =
     found_second A B f g first second x y fits.0 fits.1 total bytes fault h r.0 p.1 r.1 (append_cancel_left (f.items x) ((g x).items y) ((r.0 ++ item ∷ []) ++ p.1) e))
     long
 
+-- where a format keeps the laws, and so does the next one for each value that it takes, the two in turn keep them
 pub pair_laws : (A B : Type 0) (f : Format A) (g : A → Format B) → IsFormat A f
     → ((x : A) → f.fits x ≡ true → IsFormat B (g x)) → IsFormat (A × B) (and_then f g)
 pair_laws A B f g first second =

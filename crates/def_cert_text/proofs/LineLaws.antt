@@ -120,6 +120,7 @@ bounds_laws head asks =
 asks_rounds : (head : Head) → HeadFits head → ltb 0 head.rounds ≡ true → AsksRounds head
 asks_rounds head f asked = record { rounds = (ltb-true 0 head.rounds asked, f.rounds); every = f.every.0; sets_one = f.sets_one; sets_two = f.sets_two }
 
+-- the format of a whole certificate keeps the laws of a format
 pub certificate_laws : IsFormat Certificate whole_certificate
 certificate_laws =
     seen_laws (Head × (Option PrintedBounds × Unit {0})) Certificate _ _ _ (λ p. refl) (λ c. refl)

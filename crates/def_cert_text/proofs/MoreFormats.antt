@@ -1,4 +1,5 @@
--- The laws of what is made of formats: behind a fixed field, under another form, many values, a value that is asked for, and a row of numbers.
+-- The laws of what is made of formats: behind a fixed field, under another form, many values, a value that is asked
+-- for, and a row of numbers.
 use Rattle.std.proofs.Common.{◌≡◌, ℕ, zero, suc, ◌+◌, ◌^◌, ◌<◌, ◌≤◌, Bool, true, false, cond, leb, List, [], ◌∷◌, ◌&&◌, Option, Some, None, Result, Ok, Err, refl, ap, ◌∙◌, arith}
 use Rattle.std.specs.Prelude.{not}
 use Rattle.std.specs.Fmt.{decimal}
@@ -14,6 +15,7 @@ abbrev got : {A : Type 0} → A → List ℕ → Result (A × List ℕ) CertFaul
 got x left = Ok (x, left)
 
 -- ---- under another form
+-- a format keeps the laws under another form, where from each form to the other and back nothing changes
 pub seen_laws : (A B : Type 0) (to : A → B) (from : B → A) (f : Format A) → ((x : A) → from (to x) ≡ x)
     → ((y : B) → to (from y) ≡ y) → IsFormat A f → IsFormat B (seen_as to from f)
 seen_laws A B to from f there back laws = view_laws A B f (seen_as to from f) to
@@ -26,7 +28,8 @@ seen_laws A B to from f there back laws = view_laws A B f (seen_as to from f) to
 
 -- ---- behind a fixed field
 after_read : (A : Type 0) (f : Format A) (total : ℕ) (r : Result (Unit {0} × List ℕ) CertFault)
-    → (r >>= λ w. f.read total w.1) ≡ ((r >>= λ w. f.read total w.1 >>= λ y. got {A = Unit {0} × A} (w.0, y.0) y.1) >>= λ p. got p.0.1 p.1)
+    → (r >>= λ w. f.read total w.1)
+    ≡ ((r >>= λ w. f.read total w.1 >>= λ y. got {A = Unit {0} × A} (w.0, y.0) y.1) >>= λ p. got p.0.1 p.1)
 after_read A f total (Ok w) = inner (f.read total w.1)
   where
     inner : (q : Result (A × List ℕ) CertFault) → q ≡ ((q >>= λ y. got {A = Unit {0} × A} (w.0, y.0) y.1) >>= λ p. got p.0.1 p.1)
@@ -34,6 +37,7 @@ after_read A f total (Ok w) = inner (f.read total w.1)
     inner (Err d) = refl
 after_read A f total (Err d) = refl
 
+-- a format that keeps the laws does so behind a fixed field too, where that holds no separator and one ends it
 pub after_laws : (A : Type 0) (kind : FieldKind) (wanted : List ℕ) (sep : ℕ) (f : Format A)
     → all_pass is_field_byte wanted ≡ true → is_field_byte sep ≡ false → IsFormat A f
     → IsFormat A (after_fixed kind wanted sep f)
@@ -69,6 +73,7 @@ unfolding each_fits
 more_back A f k count [] fit = absurd cc
 more_back A f k count (x ∷ xs) fit = ((x, xs), fit, refl)
 
+-- where the formats of so many numbers from k on keep the laws, so does that of a list with one value by each
 pub each_laws : (A : Type 0) (f : ℕ → Format A) (count k : ℕ) → ((j : ℕ) → k ≤ j → j < k + count → IsFormat A (f j))
     → IsFormat (List A) (each_from k count f)
 unfolding each_fits each_items read_each
@@ -99,6 +104,7 @@ none_back : (A : Type 0) (f : Format A) (y : Option A) → (where_asked false f)
 none_back A f (Some x) fit = absurd cc
 none_back A f None fit = refl
 
+-- the format of a value that is there just where asked for keeps the laws, if the value's own does when asked for
 pub asked_laws : (A : Type 0) (asked : Bool) (f : Format A) → (asked ≡ true → IsFormat A f)
     → IsFormat (Option A) (where_asked asked f)
 asked_laws A true f laws =
@@ -141,7 +147,8 @@ fits_by most more n false (Some []) h fit = absurd (none more fit)
 fits_by most more n false (Some (m ∷ ns)) h fit = and_from (leb n most) (row_fits most more (m ∷ ns)) h fit
 
 items_by : (most more n : ℕ) (last : Bool) (o : Option (List ℕ)) → (behind_number most more (n, last)).fits o ≡ true
-    → row_items (row_behind n o) ≡ field number (decimal n) ∷ separator (cond last feed space) ∷ (behind_number most more (n, last)).items o
+    → row_items (row_behind n o)
+    ≡ field number (decimal n) ∷ separator (cond last feed space) ∷ (behind_number most more (n, last)).items o
 items_by most more n true None fit = refl
 items_by most more n true (Some ns) fit = absurd cc
 items_by most more n false None fit = absurd cc
@@ -153,7 +160,8 @@ items_by most more n false (Some []) fit = absurd (none more fit)
 items_by most more n false (Some (m ∷ ns)) fit = refl
 
 row_back : (most more : ℕ) (ns : List ℕ) → row_fits most (suc more) ns ≡ true
-    → (p : (ℕ × Bool) × Option (List ℕ)) × ((leb p.0.0 most && (behind_number most more p.0).fits p.1) ≡ true) × (row_by p ≡ ns)
+    → (p : (ℕ × Bool) × Option (List ℕ)) × ((leb p.0.0 most && (behind_number most more p.0).fits p.1) ≡ true)
+    × (row_by p ≡ ns)
 row_back most more [] fit = absurd cc
 row_back most more (n ∷ []) fit = (((n, true), None), and_from (leb n most) true fit refl, refl)
 row_back most more (n ∷ m ∷ ns) fit = (((n, false), Some (m ∷ ns)), fit, refl)
@@ -170,7 +178,8 @@ row_read_by most more total n true left = refl
 row_read_by most more total n false left = inner (read_row most more total left)
   where
     inner : (q : Result (List ℕ × List ℕ) CertFault)
-        → (q >>= λ ns. got (n ∷ ns.0) ns.1) ≡ (((q >>= λ x. got (Some x.0) x.1) >>= λ y. got ((n, false), y.0) y.1) >>= λ p. got (row_by p.0) p.1)
+        → (q >>= λ ns. got (n ∷ ns.0) ns.1)
+        ≡ (((q >>= λ x. got (Some x.0) x.1) >>= λ y. got ((n, false), y.0) y.1) >>= λ p. got (row_by p.0) p.1)
     inner (Ok ns) = refl
     inner (Err d) = refl
 
@@ -185,6 +194,7 @@ last_back most [] fit = absurd cc
 last_back most (n ∷ []) fit = (n, and_from (leb 0 n) (leb n most) (le-leb 0 n (omega arith)) fit, refl)
 last_back most (n ∷ m ∷ ns) fit = absurd cc
 
+-- the format of a row, a number and up to so many more, keeps the laws where the numbers' limit is 2 ^ 127 at most
 pub row_laws : (most : ℕ) → most ≤ 2 ^ 127 → (more : ℕ) → IsFormat (List ℕ) (row_of_numbers most more)
 unfolding read_row read_last
 row_laws most small zero =

@@ -286,7 +286,8 @@ one_sep A fault x b left true = refl
 one_sep A fault x b left false = refl
 
 one_rest : (A : Type 0) (fault : CertFault) (sep total : ℕ) (o : Option A) (r : List ℕ)
-    → cond (is_empty r) (Err CertShort) (if_fit fault sep total o r) ≡ (any_rest fault (is_it sep) total o r >>= λ p. got p.0.0 p.1)
+    → cond (is_empty r) (Err CertShort) (if_fit fault sep total o r)
+    ≡ (any_rest fault (is_it sep) total o r >>= λ p. got p.0.0 p.1)
 one_rest A fault sep total o [] = refl
 one_rest A fault sep total None (b ∷ left) = refl
 one_rest A fault sep total (Some x) (b ∷ left) = one_sep A (CertSyntax (total - length (b ∷ left))) x b left (eqb b sep)
@@ -306,6 +307,7 @@ one_field_laws A kind fits spelled test sep s is =
     (any_laws A kind fits spelled test (is_it sep) is (one_separator sep s))
 
 -- ---- the kinds of fields
+-- the field of a whole number keeps the laws where its range has a number, ends by 2 ^ 127, and a separator ends it
 pub whole_laws : (low high sep : ℕ) → low ≤ high → high ≤ 2 ^ 127 → is_field_byte sep ≡ false
     → IsFormat ℕ (whole_field low high sep)
 whole_laws low high sep some small s = one_field_laws ℕ number _ decimal (whole_in low high) sep s (record {
@@ -316,6 +318,7 @@ whole_laws low high sep some small s = one_field_laws ℕ number _ decimal (whol
   some_fits = and_from (leb low low) (leb low high) (le-leb low low (omega arith)) (le-leb low high some);
 })
 
+-- the field of a signed number keeps the laws where the limit of its size is 2 ^ 126 at most and a separator ends it
 pub integer_laws : (most sep : ℕ) → most ≤ 2 ^ 126 → is_field_byte sep ≡ false → IsFormat ℤ (integer_field most sep)
 integer_laws most sep small s = one_field_laws ℤ number _ signed_decimal (integer_in most) sep s (record {
   inside = λ n fits. integer_inside n (omega (arith, leb-true (unsigned_abs n) most fits));
@@ -325,6 +328,7 @@ integer_laws most sep small s = one_field_laws ℤ number _ signed_decimal (inte
   some_fits = le-leb 0 most (omega arith);
 })
 
+-- the field of a fraction keeps the laws where the limit of its parts is from 1 to 2 ^ 126 and a separator ends it
 pub fraction_laws : (most sep : ℕ) → 1 ≤ most → most ≤ 2 ^ 126 → is_field_byte sep ≡ false
     → IsFormat Fraction (fraction_field most sep)
 fraction_laws most sep one small s = one_field_laws Fraction number (is_lowest_within most) fraction_text (fraction_in most) sep s (record {
@@ -340,6 +344,7 @@ the_word : (wanted bytes : List ℕ) (x : Unit {0}) (t : Bool) → pointwise eqb
 the_word wanted bytes x true h e = word_same bytes wanted h
 the_word wanted bytes x false h e = absurd (let bad = sym (ap (λ t. cond t (Some tt) None) h) ∙ e in cc)
 
+-- a fixed field keeps the laws where it holds no separator and one ends it
 pub fixed_laws : (kind : FieldKind) (wanted : List ℕ) (sep : ℕ) → all_pass is_field_byte wanted ≡ true
     → is_field_byte sep ≡ false → IsFormat (Unit {0}) (fixed_field kind wanted sep)
 fixed_laws kind wanted sep h s = one_field_laws (Unit {0}) kind (λ _. true) (λ _. wanted) (same_bytes wanted) sep s (record {
@@ -377,7 +382,8 @@ sep_by b false false h k e =
 
 end_rest : (fault : CertFault) (total : ℕ) (o : Option ℕ) (r : List ℕ)
     → ((b : ℕ) (more : List ℕ) → r ≡ b ∷ more → is_field_byte b ≡ false)
-    → cond (is_empty r) (Err CertShort) (with_end_if_fit fault o r) ≡ (any_rest fault is_separator total o r >>= λ p. got (p.0.0, eqb p.0.1 feed) p.1)
+    → cond (is_empty r) (Err CertShort) (with_end_if_fit fault o r)
+    ≡ (any_rest fault is_separator total o r >>= λ p. got (p.0.0, eqb p.0.1 feed) p.1)
 end_rest fault total o [] s = refl
 end_rest fault total None (b ∷ left) s = refl
 end_rest fault total (Some n) (b ∷ left) s = sym (ap (λ t. pair_sep (CertSyntax (total - length (b ∷ left))) n b left (not t) >>= λ p. got (p.0.0, eqb p.0.1 feed) p.1) (s b left refl))
@@ -385,6 +391,7 @@ end_rest fault total (Some n) (b ∷ left) s = sym (ap (λ t. pair_sep (CertSynt
 abbrev number_by : ℕ → ℕ → Bool
 number_by most n = leb 0 n && leb n most
 
+-- the format of a number, with whether it ends its line, keeps the laws where its limit is 2 ^ 127 at most
 pub number_laws : (most : ℕ) → most ≤ 2 ^ 127 → IsFormat (ℕ × Bool) (number_with_end most)
 unfolding read_number
 number_laws most small =

@@ -39,12 +39,14 @@ read bytes c e =
     subst (λ (d : Certificate). (whole_certificate.fits d ≡ true) × (bytes ≡ cert_text d)) end.1
     (one.0, one.1 ∙ ap (λ (t : List ℕ). cert_text x.0 ++ t) end.0 ∙ append-nil (cert_text x.0))
 
+-- reading gives a certificate exactly where it is within its ranges and the bytes are its text
 pub reading : ReadingIsExact
 reading bytes c = (
   λ e. (let p = read bytes c e in (fits_ranges c p.0, p.1)),
   λ p. ap cert_in p.1 ∙ written c (ranges_fit c p.0),
 )
 
+-- certificates within their ranges that have the same text are the same
 pub texts_tell : TextsTellCertificates
 texts_tell c d fc fd e = ok_is c d (sym (written c (ranges_fit c fc)) ∙ ap cert_in e ∙ written d (ranges_fit d fd))
 
@@ -100,5 +102,6 @@ stopped bytes fault (behind h) =
     ∙ ap (λ n. Err (CertTrailing n)) place
     ∙ ap Err (sym h.fault_is)
 
+-- reading stops with a fault exactly where that is the first fault of the bytes
 pub first_fault : FirstFaultDecides
 first_fault bytes fault = (stops bytes fault, stopped bytes fault)

@@ -29,6 +29,7 @@ behind_head head ys zs e =
     ∙ ap (λ (bs : List ℕ). bs ++ zs) (items_text-append (game_items head) (asked_items head))
     ∙ append_assoc (head_text head) (asked_text head) zs)
 
+-- a certificate's text is, in turn, its first line, the game's numbers, what was asked, any bounds and its last line
 pub text_lines : TextIsItsLines
 unfolding items_text
 text_lines = record {

@@ -1,6 +1,7 @@
 -- The first fault of a text, by what could stand in its place: it names no state of a reader.
 --     CanGoOn f items                  the items can go on to a value's
---     HasFirstFault f total bytes fault    behind items that can go on stands what is cut short, or goes on to no value's
+--     HasFirstFault f total bytes fault    behind items that can go on stands what is cut short,
+--                                          or goes on to no value's
 --     FirstCertFault bytes fault       the fault is the first of bytes that are to be a certificate
 use Rattle.std.specs.Prelude.{◌≡◌, ◌≢◌, ℕ, ◌-◌, Bool, true, false, List, [], ◌∷◌, ◌++◌, length}
 use Rattle.def_cert_text.specs.declared.fault.CertFault.{CertFault}

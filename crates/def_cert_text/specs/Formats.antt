@@ -1,4 +1,5 @@
--- A format says which values fit, of which items they are made, and what reading gives: one definition for writing and reading.
+-- A format says which values fit, of which items they are made, and what reading gives:
+-- one definition for writing and reading.
 use Rattle.std.specs.Prelude.{ℕ, zero, suc, ◌+◌, ◌-◌, Bool, true, false, ◌==◌, ◌&&◌, nat_le, nat_eq, List, [], ◌∷◌, ◌++◌, length, Option, Some, None, Result, Ok, Err, ℤ, unsigned_abs, if◌then◌else◌}
 use Rattle.std.specs.Cmp.Lexicographic.{pointwise}
 use Rattle.std.specs.Fmt.{decimal, signed_decimal}

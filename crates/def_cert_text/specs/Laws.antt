@@ -31,7 +31,8 @@ CutTextsAreShort = (c : Certificate) (n : ℕ) → CertificateFits c → n < len
 pub record TextIsItsLines : Type 0 where
   pub head_alone : (head : Head) → cert_text (record { head = head; bounds = None }) ≡ first_text ++ (head_text head ++ (asked_text head ++ last_text))
   pub with_bounds : (head : Head) (b : PrintedBounds)
-      → cert_text (record { head = head; bounds = Some b }) ≡ first_text ++ (head_text head ++ (asked_text head ++ (bounds_text head b ++ last_text)))
+      → cert_text (record { head = head; bounds = Some b })
+      ≡ first_text ++ (head_text head ++ (asked_text head ++ (bounds_text head b ++ last_text)))
   pub bounds : (head : Head) (b : PrintedBounds)
       → bounds_text head b
       ≡ text_of (trace_lines head) b.trace ++ (text_of (plan_lines (codes "1") head.sets_one) b.plan_one ++ (text_of (reply_lines (codes "2") head.sets_two) b.reply_two

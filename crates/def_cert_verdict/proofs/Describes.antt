@@ -8,6 +8,7 @@ use Rattle.def_cert_verdict.specs.declared.fault.TestFault.{TestFault}
 use Rattle.def_cert_verdict.specs.Verdict.{first_failing, unless}
 use Rattle.def_cert_verdict.specs.FaultCauses.{IsFirstNot}
 
+-- no test of the list fails exactly where `Holds`, and a fault is the first exactly where it `Comes`
 pub record Describes (ts : List (Option TestFault)) (Holds : Type 0) (Comes : TestFault → Type 0) : Type 0 where
   pub none : (first_failing ts ≡ None) ↔ Holds
   pub some : (f : TestFault) → (first_failing ts ≡ Some f) ↔ Comes f
@@ -71,6 +72,7 @@ Describes-like ts P Q F G d h c = record {
 }
 
 -- ---- a search for the first place where something doesn't hold, counted from n
+-- nothing is found exactly where it holds at each place, and what is made of n + i exactly where it first fails at i
 pub record Searches (X : Type 0) (made : ℕ → X) (r : Option X) (n : ℕ) (Holds : ℕ → Type 0) : Type 0 where
   pub none : (r ≡ None) ↔ ((i : ℕ) → Holds i)
   pub some : (x : X) → (r ≡ Some x) ↔ ((i : ℕ) × (x ≡ made (n + i)) × IsFirstNot Holds i)

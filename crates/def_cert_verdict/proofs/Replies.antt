@@ -83,7 +83,8 @@ no_set : (player : Player) (w : ℕ → ℤ) (j : ℕ) → TightAt player w [] [
 no_set player w zero = (tt, tt)
 no_set player w (suc j) = (tt, tt)
 
-before_next : (player : Player) (w : ℕ → ℤ) (h : PlacedSet) (hs : List PlacedSet) (r : SetReply) (rs : List SetReply) (k : ℕ)
+before_next : (player : Player) (w : ℕ → ℤ) (h : PlacedSet) (hs : List PlacedSet) (r : SetReply) (rs : List SetReply)
+    (k : ℕ)
     → TightAt player w (h ∷ hs) (r ∷ rs) 0
     → ((j : ℕ) → j < k → TightAt player w hs rs j) → (j : ℕ) → j < suc k → TightAt player w (h ∷ hs) (r ∷ rs) j
 before_next player w h hs r rs k first rest zero low = first
@@ -96,7 +97,8 @@ all_next player w h hs r rs first rest zero = first
 all_next player w h hs r rs first rest (suc j) = rest j
 
 -- a fault of the sets behind the first, where that is tight
-shifted : (player : Player) (w : ℕ → ℤ) (k : ℕ) (h : PlacedSet) (hs : List PlacedSet) (r : SetReply) (rs : List SetReply) (f : TestFault)
+shifted : (player : Player) (w : ℕ → ℤ) (k : ℕ) (h : PlacedSet) (hs : List PlacedSet) (r : SetReply)
+    (rs : List SetReply) (f : TestFault)
     → TightAt player w (h ∷ hs) (r ∷ rs) 0 → SetFault player w (k + 1) hs rs f → SetFault player w k (h ∷ hs) (r ∷ rs) f
 shifted player w k h hs r rs (ValueTooGood p set action) first c =
     let t = c.1.4 in (
@@ -125,7 +127,8 @@ shifted player w k h hs r rs (TotalDiffers end) first c = absurd c
 shifted player w k h hs r rs (TraceWidens line) first c = absurd c
 
 -- a fault at the first set
-at_first : (player : Player) (w : ℕ → ℤ) (k : ℕ) (h : PlacedSet) (hs : List PlacedSet) (r : SetReply) (rs : List SetReply) (f : TestFault)
+at_first : (player : Player) (w : ℕ → ℤ) (k : ℕ) (h : PlacedSet) (hs : List PlacedSet) (r : SetReply)
+    (rs : List SetReply) (f : TestFault)
     → SetInTurn player w k h r f → SetFault player w k (h ∷ hs) (r ∷ rs) f
 at_first player w k h hs r rs f turn =
     ⊎_elim
@@ -146,7 +149,8 @@ too_good player p set k action i same e a = ap (λ q. ValueTooGood q set action)
 not_tight : (player p : Player) (set k : ℕ) → p ≡ player → set ≡ k → ReplyNotTight p set ≡ ReplyNotTight player k
 not_tight player p set k same e = ap (λ q. ReplyNotTight q set) same ∙ ap (ReplyNotTight player) e
 
-too_good_back : (player : Player) (w : ℕ → ℤ) (k : ℕ) (h : PlacedSet) (hs : List PlacedSet) (r : SetReply) (rs : List SetReply) (p : Player) (set action : ℕ)
+too_good_back : (player : Player) (w : ℕ → ℤ) (k : ℕ) (h : PlacedSet) (hs : List PlacedSet) (r : SetReply)
+    (rs : List SetReply) (p : Player) (set action : ℕ)
     → p ≡ player
     → (n i : ℕ) → set ≡ k + n → action ≡ 1 + i → IsTooGood player w (h ∷ hs) (r ∷ rs) n i
     → Either player w k h hs r rs (ValueTooGood p set action)
@@ -176,7 +180,8 @@ too_good_back player w k h hs r rs p set action same (suc n) i e a t =
       ),
     )
 
-not_reached_back : (player : Player) (w : ℕ → ℤ) (k : ℕ) (h : PlacedSet) (hs : List PlacedSet) (r : SetReply) (rs : List SetReply) (p : Player) (set : ℕ)
+not_reached_back : (player : Player) (w : ℕ → ℤ) (k : ℕ) (h : PlacedSet) (hs : List PlacedSet) (r : SetReply)
+    (rs : List SetReply) (p : Player) (set : ℕ)
     → p ≡ player
     → (n : ℕ) → set ≡ k + n → IsNotReached player w (h ∷ hs) (r ∷ rs) n
     → Either player w k h hs r rs (ReplyNotTight p set)
@@ -184,7 +189,8 @@ not_reached_back player w k h hs r rs p set same zero e t = inl (inr (t.no_bette
 not_reached_back player w k h hs r rs p set same (suc n) e t =
     inr (t.earlier 0 (omega arith), (same, (n, omega (arith, e), record { earlier = λ j low. t.earlier (suc j) (omega arith); no_better = t.no_better; not_reached = t.not_reached })))
 
-either : (player : Player) (w : ℕ → ℤ) (k : ℕ) (h : PlacedSet) (hs : List PlacedSet) (r : SetReply) (rs : List SetReply) (f : TestFault)
+either : (player : Player) (w : ℕ → ℤ) (k : ℕ) (h : PlacedSet) (hs : List PlacedSet) (r : SetReply) (rs : List SetReply)
+    (f : TestFault)
     → SetFault player w k (h ∷ hs) (r ∷ rs) f → Either player w k h hs r rs f
 either player w k h hs r rs (ValueTooGood p set action) c = too_good_back player w k h hs r rs p set action c.0 c.1.0 c.1.1 c.1.2 c.1.3 c.1.4
 either player w k h hs r rs (ReplyNotTight p set) c = not_reached_back player w k h hs r rs p set c.0 c.1.0 c.1.1 c.1.2
@@ -298,7 +304,8 @@ total_decided sums sets reply traced bound scale =
     (Decides-int_eq reply.total (total sums sets reply.sets))
     (Decides-and (int_eq reply.total traced) (is_same_fraction bound (fraction_of reply.total scale)) (Decides-int_eq reply.total traced) (same_fraction bound (fraction_of reply.total scale))))
 
-total_caused : (player : Player) (sums : ℕ → ℤ) (sets : List InformationSet) (reply : Reply) (traced : ℤ) (bound : Fraction) (scale : ℕ) (f : TestFault)
+total_caused : (player : Player) (sums : ℕ → ℤ) (sets : List InformationSet) (reply : Reply) (traced : ℤ)
+    (bound : Fraction) (scale : ℕ) (f : TestFault)
     → TotalFault player sums sets reply traced bound scale f
     → (f ≡ TotalDiffers (end_shown_by player)) × (¬ (HoldsAsTotal sums sets reply traced bound scale))
 total_caused player sums sets reply traced bound scale (TotalDiffers end) c = (ap TotalDiffers c.0, c.1)
@@ -308,7 +315,8 @@ total_caused player sums sets reply traced bound scale (ValueTooGood p set actio
 total_caused player sums sets reply traced bound scale (ReplyNotTight p set) c = absurd c
 total_caused player sums sets reply traced bound scale (TraceWidens line) c = absurd c
 
-total_described : (player : Player) (sums : ℕ → ℤ) (sets : List InformationSet) (reply : Reply) (traced : ℤ) (bound : Fraction) (scale : ℕ)
+total_described : (player : Player) (sums : ℕ → ℤ) (sets : List InformationSet) (reply : Reply) (traced : ℤ)
+    (bound : Fraction) (scale : ℕ)
     → Describes (total_test player sums sets reply traced bound scale ∷ []) (HoldsAsTotal sums sets reply traced bound scale) (TotalFault player sums sets reply traced bound scale)
 total_described player sums sets reply traced bound scale =
     Describes-like (total_test player sums sets reply traced bound scale ∷ []) _ _ _ (TotalFault player sums sets reply traced bound scale)
@@ -317,7 +325,8 @@ total_described player sums sets reply traced bound scale =
     (λ f. (λ c. subst (TotalFault player sums sets reply traced bound scale) (sym c.0) (refl, c.1), total_caused player sums sets reply traced bound scale f))
 
 -- a reply's tests pass exactly where it is tight and its total holds, else the fault has what fails first
-pub reply_described : (player : Player) (sums : ℕ → ℤ) (sets : List InformationSet) (reply : Reply) (traced : ℤ) (bound : Fraction) (scale : ℕ)
+pub reply_described : (player : Player) (sums : ℕ → ℤ) (sets : List InformationSet) (reply : Reply) (traced : ℤ)
+    (bound : Fraction) (scale : ℕ)
     → Describes (whole_reply_tests player sums sets reply traced bound scale) (HoldsAsReply player sums sets reply traced bound scale) (ReplyFault player sums sets reply traced bound scale)
 reply_described player sums sets reply traced bound scale =
     let w : ℕ → ℤ = worth sums (placed sets) (values_of reply.sets) in

@@ -26,7 +26,8 @@ pub record NamesLine (game : WeighedGame) (head : Head) (line : ℕ) : Type 0 wh
   pub nodes : line ≡ 2 → (head.nodes ≡ game.nodes) × (head.leaves ≡ length game.form.leaves)
   pub sets : line ≡ 3 → (head.sets_one ≡ length game.form.sets_one) × (head.sets_two ≡ length game.form.sets_two)
   pub sequences : line ≡ 4
-      → (head.sequences_one ≡ sequence_count game.form.sets_one) × (head.sequences_two ≡ sequence_count game.form.sets_two)
+      → (head.sequences_one ≡ sequence_count game.form.sets_one)
+      × (head.sequences_two ≡ sequence_count game.form.sets_two)
   pub unit : line ≡ 5 → head.unit ≡ game.unit
   pub mass_is : line ≡ 6 → head.mass ≡ mass_of game.form.leaves
 

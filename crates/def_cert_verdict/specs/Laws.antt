@@ -48,7 +48,8 @@ pub record HoldsAsPlan (sets : List InformationSet) (root : ℕ) (plan : Printed
   pub sizes : AllZip (λ h weights. length weights ≡ h.actions) sets plan.weights
   pub is_plan : IsPlan sets plan.root (printed_numbers plan)
 
--- a printed total is the worth of the empty sequence and the one that is traced, and over the scale it is the printed bound
+-- a printed total is the worth of the empty sequence and the one that is traced,
+-- and over the scale it is the printed bound
 pub record HoldsAsTotal (sums : ℕ → ℤ) (sets : List InformationSet) (reply : Reply) (traced : ℤ) (bound : Fraction) (scale : ℕ) : Type 0 where
   pub worth_is : reply.total ≡ total sums sets reply.sets
   pub traced_is : reply.total ≡ traced
@@ -77,14 +78,16 @@ without_bounds head = record { head = head; bounds = None }
 abbrev pub with_bounds : Head → PrintedBounds → Certificate
 with_bounds head b = record { head = head; bounds = Some b }
 
--- a certificate is accepted exactly where its head is the game's and its bounds, if it has any, hold up; what it shows are these
+-- a certificate is accepted exactly where its head is the game's and its bounds, if it has any, hold up;
+-- what it shows are these
 pub record AcceptanceIsExact : Type 0 where
   pub head_alone : (game : WeighedGame) (head : Head)
       → (verdict game (without_bounds head) ≡ Ok head_only) ↔ IsHeadOf game head
   pub no_bracket : (game : WeighedGame) (head : Head) (low high : Fraction)
       → ¬ (verdict game (without_bounds head) ≡ Ok (bracket low high))
   pub with_bracket : (game : WeighedGame) (head : Head) (b : PrintedBounds) (low high : Fraction)
-      → (verdict game (with_bounds head b) ≡ Ok (bracket low high)) ↔ (IsHeadOf game head × HoldsUp game head.scale b × (low ≡ b.low) × (high ≡ b.high))
+      → (verdict game (with_bounds head b) ≡ Ok (bracket low high))
+      ↔ (IsHeadOf game head × HoldsUp game head.scale b × (low ≡ b.low) × (high ≡ b.high))
   pub not_head_alone : (game : WeighedGame) (head : Head) (b : PrintedBounds)
       → ¬ (verdict game (with_bounds head b) ≡ Ok head_only)
 
@@ -95,7 +98,8 @@ pub record IsTotalOver (bound : Fraction) (total : ℤ) (scale : ℕ) : Type 0 w
   pub lowest : IsInLowestTerms bound
   pub value : HasValue bound total scale
 
--- in payoff units, and with plans scaled to the root 1, player one's plan gets at least `low` against every plan of player two
+-- in payoff units, and with plans scaled to the root 1,
+-- player one's plan gets at least `low` against every plan of player two
 abbrev pub GetsAtLeast : WeighedGame → ℕ → List ℕ → Fraction → Type 0
 GetsAtLeast game root plan_one low = (root_two : ℕ) (plan_two : List ℕ) → IsPlan game.form.sets_two root_two plan_two
     → (low.num *ℤ pos (game.unit * root * root_two)) ≤ℤ (pay game.form.leaves plan_one plan_two *ℤ pos low.den)
@@ -105,8 +109,8 @@ abbrev pub ConcedesAtMost : WeighedGame → ℕ → List ℕ → Fraction → Ty
 ConcedesAtMost game root plan_two high = (root_one : ℕ) (plan_one : List ℕ) → IsPlan game.form.sets_one root_one plan_one
     → (pay game.form.leaves plan_one plan_two *ℤ pos high.den) ≤ℤ (high.num *ℤ pos (game.unit * root * root_one))
 
--- both plans are plans, their totals are floor and ceiling, attained by the printed choices; LOW and HIGH are these totals in payoff units,
--- which the plans get and concede; no trace line is wider than the one before it
+-- both plans are plans, their totals are floor and ceiling, attained by the printed choices; LOW and HIGH are these
+-- totals in payoff units, which the plans get and concede; no trace line is wider than the one before it
 pub record ShowsItsBounds (game : WeighedGame) (b : PrintedBounds) : Type 0 where
   pub plan_one : IsPlan game.form.sets_one b.plan_one.root (printed_numbers b.plan_one)
   pub plan_two : IsPlan game.form.sets_two b.plan_two.root (printed_numbers b.plan_two)

@@ -1,4 +1,5 @@
--- The tests of a certificate in their order. A worth is a leaf sum plus the printed values of the sets directly after; no test takes a greatest or a least.
+-- The tests of a certificate in their order. A worth is a leaf sum plus the printed values of the sets directly after;
+-- no test takes a greatest or a least.
 use Rattle.std.specs.Prelude.{ℕ, ◌+◌, ◌*◌, ◌==◌, Bool, ◌&&◌, ◌||◌, nat_le, List, [], ◌∷◌, ◌++◌, map, length, ℤ, pos, ◌*ℤ◌, int_lt, Option, Some, None, Result, Ok, Err, if◌then◌else◌}
 use Rattle.std.specs.Ordering.{int_eq}
 use Rattle.std.specs.List.{range_with_len}
@@ -85,7 +86,8 @@ reply_tests player worth_of k [] (r ∷ rs) = Some (ReplyNotTight player k) ∷ 
 reply_tests player worth_of k (h ∷ hs) [] = Some (ReplyNotTight player k) ∷ []
 reply_tests player worth_of k (h ∷ hs) (r ∷ rs) = set_tests player worth_of k h r ++ reply_tests player worth_of (k + 1) hs rs
 
--- ---- a total: it is the worth of the empty sequence, that of the last trace line, and over unit times root the printed bound
+-- ---- a total: it is the worth of the empty sequence, that of the last trace line,
+-- and over unit times root the printed bound
 abbrev pub is_same_fraction : Fraction → Fraction → Bool
 is_same_fraction a b = int_eq a.num b.num && a.den == b.den
 
@@ -100,7 +102,8 @@ total_test player sums sets reply traced bound scale =
     (TotalDiffers (end_shown_by player))
 
 -- all tests of a reply, whose sets begin at 1
-abbrev pub whole_reply_tests : Player → (ℕ → ℤ) → List InformationSet → Reply → ℤ → Fraction → ℕ → List (Option TestFault)
+abbrev pub whole_reply_tests : Player → (ℕ → ℤ) → List InformationSet → Reply → ℤ → Fraction → ℕ
+    → List (Option TestFault)
 whole_reply_tests player sums sets reply traced bound scale =
     reply_tests player (worth sums (placed sets) (values_of reply.sets)) 1 (placed sets) reply.sets
     ++ total_test player sums sets reply traced bound scale ∷ []

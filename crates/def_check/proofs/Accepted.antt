@@ -35,9 +35,11 @@ shows_at game head (Some b) (bracket low high) one two unit fits e =
       shows = all.2;
     }
 
+-- where a game's sets are in order and its unit isn't 0, an accepted certificate that fits shows what the verdict says
 pub what_is_shown : WhatIsAcceptedIsShown
 what_is_shown game c shown one two unit fits e = shows_at game c.head c.bounds shown one two unit fits e
 
+-- the verdict that accepts is the head alone exactly where the certificate that the text says has no round
 pub alone_without_rounds : HeadAloneExactlyWithoutRounds
 alone_without_rounds game c shown fits e d fits' same =
     let told : c ≡ d = texts_tell c d fits fits' same in

@@ -53,7 +53,8 @@ module _ (file bytes : List ℕ) (short : length file ≤ most_bytes) where
   checked_is = as_accepted (game_at file) (cert_in bytes)
       ∙ ap (λ (r : Result GameFile FileFault). of_accepted (whole.accepted r) (cert_in bytes)) (sym (read_within file short))
 
-  read_first : (game : GameFile) → IsAccepted file game → checked file bytes ≡ judged (weighed_game game) (cert_in bytes)
+  read_first : (game : GameFile) → IsAccepted file game
+      → checked file bytes ≡ judged (weighed_game game) (cert_in bytes)
   read_first game is =
       checked_is ∙ ap (λ (r : Result GameFile FileFault). of_accepted r (cert_in bytes)) ((accepted_whole_file file game).1 is)
 

@@ -1,4 +1,5 @@
--- Kuhn poker (Kuhn 1950): cards 1 to 3, one each, both put in 1. Either may bet 1 more, which the other folds to or calls.
+-- Kuhn poker (Kuhn 1950): cards 1 to 3, one each, both put in 1.
+-- Either may bet 1 more, which the other folds to or calls.
 use Rattle.std.specs.Prelude.{ℕ, ◌+◌, ◌-◌, ◌*◌, List, [], ◌∷◌, ◌++◌, ℤ, pos, neg_ℤ, nat_lt, if◌then◌else◌, ◌==◌}
 use Rattle.def_plan.specs.Form.{InformationSet, Leaf, SequenceForm}
 

@@ -1,4 +1,5 @@
--- Kuhn poker as a tree: cards 1 to 3, one each by chance, both put in 1. Either may bet 1 more, which the other folds to or calls.
+-- Kuhn poker as a tree: cards 1 to 3, one each by chance, both put in 1.
+-- Either may bet 1 more, which the other folds to or calls.
 use Rattle.std.specs.Prelude.{◌≡◌, ℕ, ◌+◌, ◌-◌, ◌*◌, pos, negsuc, List, [], ◌∷◌, ◌++◌, take, nat_lt, if◌then◌else◌, ◌==◌}
 use Rattle.def_tree.specs.declared.Kind.TheVariants.{Chance, One, Two}
 use Rattle.def_tree.specs.declared.Node.{Node}
@@ -31,7 +32,8 @@ kuhn_tree = forest_of (
     inner_node Chance 1 3 ∷ (inner_node Chance 2 2 ∷ deal 1 2 ++ deal 1 3)
     ++ ((inner_node Chance 3 2 ∷ deal 2 1 ++ deal 2 3) ++ (inner_node Chance 4 2 ∷ deal 3 1 ++ deal 3 2)))
 
--- the outcomes in the order of their first appearance: player two wins 1, player two wins 2, player one wins 1, player one wins 2
+-- the outcomes in the order of their first appearance:
+-- player two wins 1, player two wins 2, player one wins 1, player one wins 2
 abbrev pub kuhn_tables : Tables
 kuhn_tables = record {
   chance = (one_over 3 ∷ one_over 3 ∷ one_over 3 ∷ []) ∷ (one_over 2 ∷ one_over 2 ∷ []) ∷ (one_over 2 ∷ one_over 2 ∷ []) ∷ (one_over 2 ∷ one_over 2 ∷ []) ∷ [];

@@ -78,5 +78,6 @@ module _ (nodes : List Node) (names : List (List ℕ)) (sets : SetTables) (outco
 
   -- each set has 1 to 1,024 actions
   pub set_few : (kind : Kind) → kind ≢ movers.Leaf → (i : ℕ) → i < length (sets_of_kind kind sets)
-      → (1 ≤ length (set_at (sets_of_kind kind sets) i).actions) × (length (set_at (sets_of_kind kind sets) i).actions ≤ most_actions)
+      → (1 ≤ length (set_at (sets_of_kind kind sets) i).actions)
+      × (length (set_at (sets_of_kind kind sets) i).actions ≤ most_actions)
   set_few kind apart i there = (sets_of kind apart).few i no_set there

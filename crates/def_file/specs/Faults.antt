@@ -1,4 +1,5 @@
--- The faults of an entry after others, by what is known of its set and its outcome (the profile's own rules on top of Gambit's manual, "The extensive game (.efg) file format").
+-- The faults of an entry after others, by what is known of its set and its outcome (the profile's own rules on top of
+-- Gambit's manual, "The extensive game (.efg) file format").
 --     mover r                        who moves: the player's number 1 is player one
 --     set_place_of n table               where a table has the set of this number
 --     entry_faults                   the tests of an entry, in the order of the list

@@ -23,6 +23,7 @@ module _ (bytes : List ℕ) (game : GameFile) (stands : StandsFor bytes game) wh
       form_is_in_order game.tree
       (record { tree = whole.tree; rules = whole.together.rules; limit = whole.together.limit }) kind personal
 
+  -- the unit of the game that a file stands for is at least 1
   pub some_unit : 1 ≤ game_unit (tables_of game) game.tree
   some_unit =
       let fractions = tables_lowest game (stands_for_whole_game bytes game stands).1 in

@@ -71,7 +71,8 @@ differ_names a b d =
     ∙ not_from_false (same_text d.kept d.given) (false_from_ne_true (same_text d.kept d.given) (λ e. d.differ ((text_tells d.kept d.given).0 e)))
 
 -- the test of the names tells whether another name is given than the first
-pub name_tells : (t : Record → Bool) (P : Record → Type 0) (name : Record → Option (List ℕ)) (rs : List Record) (r : Record)
+pub name_tells : (t : Record → Bool) (P : Record → Type 0) (name : Record → Option (List ℕ)) (rs : List Record)
+    (r : Record)
     → Tells t P rs
     → (name_differs (first_given (map name (filter t rs))) (name r) ≡ true) ↔ HasOtherName P name rs r
 name_tells t P name rs r tells = (forth, back)
@@ -101,7 +102,8 @@ other_given same kept (Some given) e = (given, refl, not-true (same kept given) 
 other_given same kept None e = absurd cc
 
 -- the test of the lists tells whether another list is given than that of the first mention
-pub list_tells : {A : Type 0} (P : Record → Type 0) (list : Record → Option A) (same : A → A → Bool) (Same : A → A → Type 0) (rs : List Record) (r e : Record) (kept : A)
+pub list_tells : {A : Type 0} (P : Record → Type 0) (list : Record → Option A) (same : A → A → Bool)
+    (Same : A → A → Type 0) (rs : List Record) (r e : Record) (kept : A)
     → ((given : A) → (same kept given ≡ true) ↔ Same kept given) → IsFirstWith P rs e → list e ≡ Some kept
     → (other_list same kept (list r) ≡ true) ↔ HasOtherList P list Same rs r
 list_tells {A} P list same Same rs r e kept tells first keeps = (forth, back)
@@ -177,7 +179,8 @@ names_tell (a ∷ ks) (b ∷ bs) =
 
 -- the chances of actions, beside their names
 chances_split : (ks bs : List Action)
-    → pointwise (same_action movers.Chance) ks bs ≡ (pointwise (λ a b. same_text a.name b.name) ks bs && pointwise same_value (map (λ a. a.chance) ks) (map (λ b. b.chance) bs))
+    → pointwise (same_action movers.Chance) ks bs
+    ≡ (pointwise (λ a b. same_text a.name b.name) ks bs && pointwise same_value (map (λ a. a.chance) ks) (map (λ b. b.chance) bs))
 chances_split [] [] = refl
 chances_split [] (b ∷ bs) = refl
 chances_split (a ∷ ks) [] = refl
@@ -228,7 +231,8 @@ actions_tell movers.Leaf r m ks gs = absurd m
 
 -- the test of a first list of actions tells
 pub count_tells : (o : Option (List Action))
-    → (has_wrong_count o ≡ true) ↔ ((given : List Action) × (o ≡ Some given) × ((length given ≡ 0) ⊎ (most_actions < length given)))
+    → (has_wrong_count o ≡ true)
+    ↔ ((given : List Action) × (o ≡ Some given) × ((length given ≡ 0) ⊎ (most_actions < length given)))
 count_tells (Some given) = (
   λ e. (given, refl, ⊎_elim (λ h. inl (eqb-true (length given) 0 h)) (λ h. inr (ltb-true most_actions (length given) h)) (or_cases (nat_eq (length given) 0) (nat_lt most_actions (length given)) e)),
   λ (g, is, h).

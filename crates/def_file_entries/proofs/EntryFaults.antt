@@ -50,19 +50,22 @@ module _ (rs : List Record) (r : Record) (fine : HaveNoFault rs) (player : HasPl
   at_place : has_set r.kind ≡ true → SetPlace rs r
   at_place s = set_place rs r s player players
 
-  undefined_decides : ((has_set r.kind && is_set_undefined (table_of rs r) r.set) ≡ true) ↔ ((length rs + 1 ≡ length rs + 1) × IsNewSet rs r × (r.set.actions ≡ None))
+  undefined_decides : ((has_set r.kind && is_set_undefined (table_of rs r) r.set) ≡ true)
+      ↔ ((length rs + 1 ≡ length rs + 1) × IsNewSet rs r × (r.set.actions ≡ None))
   undefined_decides =
       guarded (has_set r.kind) (is_set_undefined (table_of rs r) r.set) _ (λ h. set_needed rs r h.1)
       (λ s. let tells = subst (λ (t : List SetEntry). (is_set_undefined t r.set ≡ true) ↔ (IsNewSet rs r × (r.set.actions ≡ None))) (sym (own s)) (undefined_tells rs r (at_place s)) in
       (λ e. let h = tells.0 e in (refl, h.0, h.1), λ h. tells.1 (h.1, h.2)))
 
-  same_decides : ((has_set r.kind && set_differs (mover r) (table_of rs r) r.set) ≡ true) ↔ ((length rs + 1 ≡ length rs + 1) × HasOtherSet rs r)
+  same_decides : ((has_set r.kind && set_differs (mover r) (table_of rs r) r.set) ≡ true)
+      ↔ ((length rs + 1 ≡ length rs + 1) × HasOtherSet rs r)
   same_decides =
       guarded (has_set r.kind) (set_differs (mover r) (table_of rs r) r.set) _ (λ h. other_set_needed rs r h.1)
       (λ s. let tells = subst (λ (t : List SetEntry). (set_differs (mover r) t r.set ≡ true) ↔ HasOtherSet rs r) (sym (own s)) (same_set_tells rs r fine s player players (at_place s)) in
       (λ e. (refl, tells.0 e), λ h. tells.1 h.1))
 
-  counted_decides : ((has_set r.kind && is_set_miscounted (table_of rs r) r.set) ≡ true) ↔ Breaks rs r (ActionCount (length rs + 1))
+  counted_decides : ((has_set r.kind && is_set_miscounted (table_of rs r) r.set) ≡ true)
+      ↔ Breaks rs r (ActionCount (length rs + 1))
   counted_decides =
       guarded (has_set r.kind) (is_set_miscounted (table_of rs r) r.set) _ (λ h. set_needed rs r h.1)
       (λ s. let tells = subst (λ (t : List SetEntry). (is_set_miscounted t r.set ≡ true) ↔ (IsNewSet rs r × HasNoneOrTooMany r)) (sym (own s)) (counted_tells rs r (at_place s)) in
@@ -76,17 +79,20 @@ module _ (rs : List Record) (r : Record) (fine : HaveNoFault rs) (player : HasPl
   at_outcome : has_outcome r ≡ true → OutcomePlace rs r
   at_outcome s = outcome_place rs r (eqb-false r.outcome.number 0 (not-true (nat_eq r.outcome.number 0) s))
 
-  outcome_undefined_decides : (is_outcome_undefined (outcome_table rs) r.outcome ≡ true) ↔ Breaks rs r (OutcomeUndefined (length rs + 1))
+  outcome_undefined_decides : (is_outcome_undefined (outcome_table rs) r.outcome ≡ true)
+      ↔ Breaks rs r (OutcomeUndefined (length rs + 1))
   outcome_undefined_decides =
       guarded (has_outcome r) _ _ (λ h. outcome_needed h.1.not_null)
       (λ s. let tells = outcome_undefined_tells rs r (at_outcome s) in (λ e. let h = tells.0 e in (refl, h.0, h.1), λ h. tells.1 (h.1, h.2)))
 
-  outcome_counted_decides : (is_outcome_miscounted (outcome_table rs) r.outcome ≡ true) ↔ Breaks rs r (PayoffCount (length rs + 1))
+  outcome_counted_decides : (is_outcome_miscounted (outcome_table rs) r.outcome ≡ true)
+      ↔ Breaks rs r (PayoffCount (length rs + 1))
   outcome_counted_decides =
       guarded (has_outcome r) _ _ (λ h. outcome_needed h.1.not_null)
       (λ s. let tells = outcome_counted_tells rs r (at_outcome s) in (λ e. let h = tells.0 e in (refl, h.0, h.1), λ h. tells.1 (h.1, h.2)))
 
-  same_outcome_decides : (outcome_differs (outcome_table rs) r.outcome ≡ true) ↔ Breaks rs r (OutcomeMismatch (length rs + 1))
+  same_outcome_decides : (outcome_differs (outcome_table rs) r.outcome ≡ true)
+      ↔ Breaks rs r (OutcomeMismatch (length rs + 1))
   same_outcome_decides =
       let tells = other_outcome_tells rs r fine (nat_eq r.outcome.number 0) refl in (λ e. (refl, tells.0 e), λ h. tells.1 h.1)
 

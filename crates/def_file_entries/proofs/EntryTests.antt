@@ -243,7 +243,8 @@ known_not_new_outcome rs r e first new = none_is_first (MentionOneOutcome r) (Me
 
 -- the test of a first mention without payoffs tells
 pub outcome_undefined_tells : (rs : List Record) (r : Record) → OutcomePlace rs r
-    → ((is_none (outcome_place_of r.outcome.number (outcome_table rs)) && is_none r.outcome.payoffs) ≡ true) ↔ (IsNewOutcome rs r × (r.outcome.payoffs ≡ None))
+    → ((is_none (outcome_place_of r.outcome.number (outcome_table rs)) && is_none r.outcome.payoffs) ≡ true)
+    ↔ (IsNewOutcome rs r × (r.outcome.payoffs ≡ None))
 outcome_undefined_tells rs r (new_outcome none new) =
     let test : (is_none (outcome_place_of r.outcome.number (outcome_table rs)) && is_none r.outcome.payoffs) ≡ is_none r.outcome.payoffs = ap (λ o. is_none o && is_none r.outcome.payoffs) none in
     (λ h. (new, none_if r.outcome.payoffs (sym test ∙ h)), λ p. test ∙ ap is_none p.1)
@@ -252,7 +253,8 @@ outcome_undefined_tells rs r (known_outcome i some at e more hits first) =
 
 -- the test of the number of payoffs tells
 pub outcome_counted_tells : (rs : List Record) (r : Record) → OutcomePlace rs r
-    → ((is_none (outcome_place_of r.outcome.number (outcome_table rs)) && has_wrong_payoffs r.outcome.payoffs) ≡ true) ↔ (IsNewOutcome rs r × HasOtherThanTwo r)
+    → ((is_none (outcome_place_of r.outcome.number (outcome_table rs)) && has_wrong_payoffs r.outcome.payoffs) ≡ true)
+    ↔ (IsNewOutcome rs r × HasOtherThanTwo r)
 outcome_counted_tells rs r (new_outcome none new) =
     let test : (is_none (outcome_place_of r.outcome.number (outcome_table rs)) && has_wrong_payoffs r.outcome.payoffs) ≡ has_wrong_payoffs r.outcome.payoffs = ap (λ o. is_none o && has_wrong_payoffs r.outcome.payoffs) none in
     (λ h. (new, (two_tells r.outcome.payoffs).0 (sym test ∙ h)), λ p. test ∙ (two_tells r.outcome.payoffs).1 p.1)

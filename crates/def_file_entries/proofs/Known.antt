@@ -164,7 +164,8 @@ sets_by movers.Leaf rs r e =
 
 -- the tables with one entry more
 pub sets_more : (rs : List Record) (r : Record)
-    → tables_of (rs ++ r ∷ []) ≡ with_sets (mover r) (noted_set (sets_of_kind (mover r) (tables_of rs)) r.set) (tables_of rs)
+    → tables_of (rs ++ r ∷ [])
+    ≡ with_sets (mover r) (noted_set (sets_of_kind (mover r) (tables_of rs)) r.set) (tables_of rs)
 sets_more rs r = sets_by (mover r) rs r refl
 
 -- Outcomes.
@@ -214,7 +215,8 @@ abbrev outcomes_by : List Record → List OutcomeEntry
 outcomes_by rs = map (outcome_known rs) (firsts (map outcome_key rs))
 
 outcomes_more : (rs : List Record) (r : Record)
-    → outcomes_by (rs ++ r ∷ []) ≡ noted (λ e. e.number) null_outcome (renamed_outcome r.outcome) (new_outcome r.outcome) r.outcome.number (outcomes_by rs)
+    → outcomes_by (rs ++ r ∷ [])
+    ≡ noted (λ e. e.number) null_outcome (renamed_outcome r.outcome) (new_outcome r.outcome) r.outcome.number (outcomes_by rs)
 outcomes_more rs r =
     ap (map (outcome_known (rs ++ r ∷ []))) (numbers_more outcome_key rs r)
     ∙ table-noted (λ e. e.number) null_outcome (renamed_outcome r.outcome) (new_outcome r.outcome) (outcome_known rs) (outcome_known (rs ++ r ∷ [])) r.outcome.number (map outcome_key rs) (outcome_noted rs r)
@@ -230,7 +232,8 @@ pub null_mention : (rs : List Record) (r : Record) → nat_eq r.outcome.number 0
 null_mention rs r h = filter-append (λ x. not (nat_eq x.outcome.number 0)) rs (r ∷ []) ∙ ap (λ (b : Bool). with_outcome rs ++ cond (not b) (r ∷ []) []) h ∙ append-nil (with_outcome rs)
 
 outcome_table_step : (rs : List Record) (r : Record) (b : Bool) → nat_eq r.outcome.number 0 ≡ b
-    → outcome_table (rs ++ r ∷ []) ≡ cond b (outcome_table rs) (noted (λ e. e.number) null_outcome (renamed_outcome r.outcome) (new_outcome r.outcome) r.outcome.number (outcome_table rs))
+    → outcome_table (rs ++ r ∷ [])
+    ≡ cond b (outcome_table rs) (noted (λ e. e.number) null_outcome (renamed_outcome r.outcome) (new_outcome r.outcome) r.outcome.number (outcome_table rs))
 outcome_table_step rs r true e = ap outcomes_by (null_mention rs r e)
 outcome_table_step rs r false e = ap outcomes_by (some_outcome rs r e) ∙ outcomes_more (with_outcome rs) r
 
@@ -241,7 +244,8 @@ outcome_table_more rs r = outcome_table_step rs r (nat_eq r.outcome.number 0) re
 
 -- the number of the last entry's outcome
 pub outcome_number_step : (rs : List Record) (r : Record) (b : Bool) → nat_eq r.outcome.number 0 ≡ b
-    → cond b 0 (number_in r.outcome.number (outcome_numbers (rs ++ r ∷ []))) ≡ cond b 0 (unwrap_or (found (λ (e : OutcomeEntry). e.number) r.outcome.number (outcome_table rs)) (length (outcome_table rs)) + 1)
+    → cond b 0 (number_in r.outcome.number (outcome_numbers (rs ++ r ∷ [])))
+    ≡ cond b 0 (unwrap_or (found (λ (e : OutcomeEntry). e.number) r.outcome.number (outcome_table rs)) (length (outcome_table rs)) + 1)
 outcome_number_step rs r true e = refl
 outcome_number_step rs r false e =
     ap (λ xs. number_in r.outcome.number (firsts (map outcome_key xs))) (some_outcome rs r e)

@@ -20,7 +20,8 @@ use Rattle.def_file_entries.proofs.Known.{set_key, set_known, numbers_more, set_
 
 set_known_step : (kind : Kind) (rs : List Record) (r : Record) (n : ℕ) (b : Bool) → is_same_kind kind (mover r) ≡ b
     → among n (map set_key (of_kind kind rs)) ≡ true
-    → (number_in n (set_numbers kind (rs ++ r ∷ [])) ≡ number_in n (set_numbers kind rs)) × (length (set_entry kind (rs ++ r ∷ []) n).actions ≡ length (set_entry kind rs n).actions)
+    → (number_in n (set_numbers kind (rs ++ r ∷ [])) ≡ number_in n (set_numbers kind rs))
+    × (length (set_entry kind (rs ++ r ∷ []) n).actions ≡ length (set_entry kind rs n).actions)
 set_known_step kind rs r n true e h = (
   ap (λ xs. number_in n (firsts (map set_key xs))) (own_kind kind rs r e) ∙ set_number_stays n (of_kind kind rs) r h,
   ap (λ xs. length (set_known xs n).actions) (own_kind kind rs r e) ∙ action_count_stays n (of_kind kind rs) r h,
@@ -76,7 +77,8 @@ all_known [] = tt
 all_known (x ∷ rs) = (first_known x rs, known_behind x rs rs (all_known rs))
 
 outcome_stays : (rs : List Record) (r x : Record) (b : Bool) → nat_eq x.outcome.number 0 ≡ b → IsKnown rs x
-    → cond b 0 (number_in x.outcome.number (outcome_numbers (rs ++ r ∷ []))) ≡ cond b 0 (number_in x.outcome.number (outcome_numbers rs))
+    → cond b 0 (number_in x.outcome.number (outcome_numbers (rs ++ r ∷ [])))
+    ≡ cond b 0 (number_in x.outcome.number (outcome_numbers rs))
 outcome_stays rs r x true e known = refl
 outcome_stays rs r x false e known = outcome_known_step rs r x.outcome.number (nat_eq r.outcome.number 0) refl (known.outcome e)
 
@@ -103,14 +105,16 @@ own_sets Personal player rs h = elim (nat_eq player 1) as (λ (b : Bool). sets_o
 own_sets Leaf player rs h = absurd cc
 
 last_set : (rs : List Record) (r : Record) (b : Bool) → has_set r.kind ≡ b
-    → cond b (number_in r.set.number (set_numbers (mover r) (rs ++ r ∷ []))) 0 ≡ cond b (set_number (sets_of_kind (mover r) (tables_of rs)) r.set) 0
+    → cond b (number_in r.set.number (set_numbers (mover r) (rs ++ r ∷ []))) 0
+    ≡ cond b (set_number (sets_of_kind (mover r) (tables_of rs)) r.set) 0
 last_set rs r true e =
     ap (λ xs. number_in r.set.number (firsts (map set_key xs))) (own_kind (mover r) rs r (same_kind (mover r)))
     ∙ set_number_more (of_kind (mover r) rs) r ∙ ap (λ (table : List SetEntry). set_number table r.set) (sym (own_sets r.kind r.player rs e))
 last_set rs r false e = refl
 
 last_count : (rs : List Record) (r : Record) (b : Bool) → has_set r.kind ≡ b
-    → cond b (length (set_entry (mover r) (rs ++ r ∷ []) r.set.number).actions) 0 ≡ cond b (action_count (sets_of_kind (mover r) (tables_of rs)) r.set) 0
+    → cond b (length (set_entry (mover r) (rs ++ r ∷ []) r.set.number).actions) 0
+    ≡ cond b (action_count (sets_of_kind (mover r) (tables_of rs)) r.set) 0
 last_count rs r true e =
     ap (λ xs. length (set_known xs r.set.number).actions) (own_kind (mover r) rs r (same_kind (mover r)))
     ∙ action_count_more (of_kind (mover r) rs) r ∙ ap (λ (table : List SetEntry). action_count table r.set) (sym (own_sets r.kind r.player rs e))

@@ -92,7 +92,8 @@ pub record IsNoted {E : Type 0} (number : E → ℕ) (change : E → E) (fresh :
   pub changed : among n ns ≡ true → g n ≡ change (f n)
   pub begun : among n ns ≡ false → g n ≡ fresh
 
-table_step : {E : Type 0} (number : E → ℕ) (none : E) (change : E → E) (fresh : E) (f g : ℕ → E) (n : ℕ) (ns : List ℕ) (seen : Bool)
+table_step : {E : Type 0} (number : E → ℕ) (none : E) (change : E → E) (fresh : E) (f g : ℕ → E) (n : ℕ) (ns : List ℕ)
+    (seen : Bool)
     → among n ns ≡ seen → IsNoted number change fresh f g n ns
     → map g (firsts (ns ++ n ∷ [])) ≡ noted number none change fresh n (map f (firsts ns))
 table_step number none change fresh f g n ns true e is =
@@ -111,7 +112,8 @@ table_step number none change fresh f g n ns false e is =
     ∙ ap (λ (o : Option ℕ). option_map_or (λ i. slice_set (map f (firsts ns)) i (change (slice_index_or (map f (firsts ns)) i none))) o (map f (firsts ns) ++ fresh ∷ [])) (sym (found-new number f is.shown n (firsts ns) out))
 
 -- the table with a mention more
-pub table-noted : {E : Type 0} (number : E → ℕ) (none : E) (change : E → E) (fresh : E) (f g : ℕ → E) (n : ℕ) (ns : List ℕ)
+pub table-noted : {E : Type 0} (number : E → ℕ) (none : E) (change : E → E) (fresh : E) (f g : ℕ → E) (n : ℕ)
+    (ns : List ℕ)
     → IsNoted number change fresh f g n ns
     → map g (firsts (ns ++ n ∷ [])) ≡ noted number none change fresh n (map f (firsts ns))
 table-noted number none change fresh f g n ns is = table_step number none change fresh f g n ns (among n ns) refl is
@@ -130,13 +132,15 @@ number_step number f shown n ns false e =
 
 -- the number of the last mention, by the table before it
 pub number-noted : {E : Type 0} (number : E → ℕ) (f : ℕ → E) → ((m : ℕ) → number (f m) ≡ m) → (n : ℕ) (ns : List ℕ)
-    → number_in n (firsts (ns ++ n ∷ [])) ≡ unwrap_or (found number n (map f (firsts ns))) (length (map f (firsts ns))) + 1
+    → number_in n (firsts (ns ++ n ∷ []))
+    ≡ unwrap_or (found number n (map f (firsts ns))) (length (map f (firsts ns))) + 1
 number-noted number f shown n ns = ap (λ (k : ℕ). k + 1) (number_step number f shown n ns (among n ns) refl)
 
 value_step : {E B : Type 0} (number : E → ℕ) (none : E) (h : E → B) (f g : ℕ → E) (v : B) → ((m : ℕ) → number (f m) ≡ m)
     → (n : ℕ) (ns : List ℕ) (seen : Bool) → among n ns ≡ seen
     → (among n ns ≡ true → h (g n) ≡ h (f n)) → (among n ns ≡ false → h (g n) ≡ v)
-    → h (g n) ≡ option_map_or (λ i. h (slice_index_or (map f (firsts ns)) i none)) (found number n (map f (firsts ns))) v
+    → h (g n)
+    ≡ option_map_or (λ i. h (slice_index_or (map f (firsts ns)) i none)) (found number n (map f (firsts ns))) v
 value_step number none h f g v shown n ns true e kept begun =
     let here : among n (firsts ns) ≡ true = among-firsts n ns ∙ e in
     kept e
@@ -150,7 +154,8 @@ value_step number none h f g v shown n ns false e kept begun =
 pub value-noted : {E B : Type 0} (number : E → ℕ) (none : E) (h : E → B) (f g : ℕ → E) (v : B)
     → ((m : ℕ) → number (f m) ≡ m) → (n : ℕ) (ns : List ℕ)
     → (among n ns ≡ true → h (g n) ≡ h (f n)) → (among n ns ≡ false → h (g n) ≡ v)
-    → h (g n) ≡ option_map_or (λ i. h (slice_index_or (map f (firsts ns)) i none)) (found number n (map f (firsts ns))) v
+    → h (g n)
+    ≡ option_map_or (λ i. h (slice_index_or (map f (firsts ns)) i none)) (found number n (map f (firsts ns))) v
 value-noted number none h f g v shown n ns kept begun = value_step number none h f g v shown n ns (among n ns) refl kept begun
 
 -- mentions, among things with a number each

@@ -1,4 +1,5 @@
--- The game that the entries of a file stand for (Gambit's manual, "The extensive game (.efg) file format"), by all entries at once.
+-- The game that the entries of a file stand for (Gambit's manual, "The extensive game (.efg) file format"),
+-- by all entries at once.
 --     firsts ns                      each number once, in the order of first appearance
 --     first_given os                 the first that is given
 --     mentions kind n rs             the entries that mention a set

@@ -1,4 +1,5 @@
--- What is known with one more entry is what all entries say, and the fault of an entry is that of the first rule that it breaks.
+-- What is known with one more entry is what all entries say,
+-- and the fault of an entry is that of the first rule that it breaks.
 use Rattle.std.specs.Prelude.{◌≡◌, ◌↔◌, List, [], ◌∷◌, ◌++◌, Some, None}
 use Rattle.def_tree.specs.Tree.{IsWhole}
 use Rattle.def_file.specs.declared.FileFault.{FileFault}
@@ -19,7 +20,8 @@ OneMoreIsKnown = (rs : List Record) (r : Record) → contents_of (rs ++ r ∷ []
 abbrev pub HaveNoFault : List Record → Type 0
 HaveNoFault rs = (before behind : List Record) (r : Record) → rs ≡ before ++ r ∷ behind → BreaksNone before r
 
--- behind entries without a fault, the fault of one more entry is that of the least number among the rules that it breaks
+-- behind entries without a fault, the fault of one more entry is that of the least number among the rules that it
+-- breaks
 abbrev pub EntryFaultIsFirstBroken : Type 0
 EntryFaultIsFirstBroken =
     (rs : List Record) (r : Record) (fault : FileFault) → HaveNoFault rs → (record_fault (contents_of rs) r ≡ Some fault) ↔ IsFirstBroken rs r fault

@@ -84,7 +84,8 @@ coin_contents = record {
       ∷ record { number = 2; name = None; one = whole_number (negsuc 0); two = whole_number (pos 1) } ∷ [];
 }
 
--- A choice of three over sets 9 and 3 of player two, where only the second mentions of set 9 and of outcome 6 have a name:
+-- A choice of three over sets 9 and 3 of player two,
+-- where only the second mentions of set 9 and of outcome 6 have a name:
 --     p "" 1 4 { "a" "b" "c" } 0
 --     p "" 2 9 { "l" } 0
 --     t "" 6 { 1, -1 }
@@ -142,27 +143,39 @@ pub record EntryRows : Type 0 where
   pub chance_of_player : record_fault (contents_of begun) (choice 1 uneven) ≡ None
   pub zeros : record_fault (contents_of begun) (leaf 0 None (pays (pos 0) (pos 0))) ≡ None
   pub no_zeros : record_fault (contents_of begun) (leaf 0 None (Some [])) ≡ Some (OutcomeMismatch 5)
-  pub three_payoffs : record_fault (contents_of begun) (leaf 3 None (Some (whole_number (pos 1) ∷ whole_number (negsuc 0) ∷ zero_fraction ∷ []))) ≡ Some (PayoffCount 5)
+  pub three_payoffs : record_fault (contents_of begun)
+      (leaf 3 None (Some (whole_number (pos 1) ∷ whole_number (negsuc 0) ∷ zero_fraction ∷ []))) ≡ Some (PayoffCount 5)
   pub no_payoffs : record_fault (contents_of begun) (leaf 3 None None) ≡ Some (OutcomeUndefined 5)
   pub player : record_fault (contents_of begun) (choice 3 (mention 8 None None)) ≡ Some (PlayerNumber 5)
   pub no_action : record_fault (contents_of begun) (choice 1 (mention 2 None (Some []))) ≡ Some (ActionCount 5)
   pub later_empty : record_fault (contents_of begun) (choice 1 (mention 1 None (Some []))) ≡ Some (SetMismatch 5)
   pub set_of_chance : record_fault (contents_of begun) (toss (mention 1 None None)) ≡ Some (SetUndefined 5)
-  pub set_of_two : record_fault (contents_of begun) (choice 2 (mention 1 (Some (codes "a")) None)) ≡ Some (SetUndefined 5)
+  pub set_of_two : record_fault (contents_of begun)
+      (choice 2 (mention 1 (Some (codes "a")) None)) ≡ Some (SetUndefined 5)
   pub known_set : record_fault (contents_of begun) (choice 1 (mention 1 None None)) ≡ None
   pub undefined_before_outcome : record_fault (contents_of begun) (record (choice 1 (mention 2 None None)) { outcome = unpaid }) ≡ Some (SetUndefined 5)
   pub mismatch_before_outcome : record_fault (contents_of begun) (record (choice 1 (mention 1 (Some (codes "b")) None)) { outcome = unpaid }) ≡ Some (SetMismatch 5)
-  pub more_actions : record_fault (contents_of begun) (choice 1 (mention 1 None (Some (letters ++ act (codes "z") ∷ [])))) ≡ Some (SetMismatch 5)
-  pub fewer_actions : record_fault (contents_of begun) (choice 1 (mention 1 None (Some (act (codes "x") ∷ [])))) ≡ Some (SetMismatch 5)
-  pub other_set_name : record_fault (contents_of begun) (choice 1 (mention 1 (Some (codes "b")) None)) ≡ Some (SetMismatch 5)
-  pub late_name : begun_and (leaf 1 (Some (codes "win")) None) (leaf 1 (Some (codes "loss")) None) ≡ Some (OutcomeMismatch 6)
-  pub late_name_again : begun_and (leaf 1 (Some (codes "win")) None) (leaf 1 (Some (codes "win")) (pays (pos 1) (negsuc 0))) ≡ None
-  pub first_name_kept : begun_and (choice 1 (mention 1 None None)) (choice 1 (mention 1 (Some (codes "b")) None)) ≡ Some (SetMismatch 6)
-  pub other_payoffs : record_fault (contents_of begun) (leaf 1 None (pays (negsuc 0) (pos 1))) ≡ Some (OutcomeMismatch 5)
-  pub later_three : record_fault (contents_of begun) (leaf 1 None (Some (whole_number (pos 1) ∷ whole_number (negsuc 0) ∷ zero_fraction ∷ []))) ≡ Some (OutcomeMismatch 5)
+  pub more_actions : record_fault (contents_of begun)
+      (choice 1 (mention 1 None (Some (letters ++ act (codes "z") ∷ [])))) ≡ Some (SetMismatch 5)
+  pub fewer_actions : record_fault (contents_of begun)
+      (choice 1 (mention 1 None (Some (act (codes "x") ∷ [])))) ≡ Some (SetMismatch 5)
+  pub other_set_name : record_fault (contents_of begun)
+      (choice 1 (mention 1 (Some (codes "b")) None)) ≡ Some (SetMismatch 5)
+  pub late_name : begun_and (leaf 1 (Some (codes "win")) None)
+      (leaf 1 (Some (codes "loss")) None) ≡ Some (OutcomeMismatch 6)
+  pub late_name_again : begun_and (leaf 1 (Some (codes "win")) None)
+      (leaf 1 (Some (codes "win")) (pays (pos 1) (negsuc 0))) ≡ None
+  pub first_name_kept : begun_and (choice 1 (mention 1 None None))
+      (choice 1 (mention 1 (Some (codes "b")) None)) ≡ Some (SetMismatch 6)
+  pub other_payoffs : record_fault (contents_of begun)
+      (leaf 1 None (pays (negsuc 0) (pos 1))) ≡ Some (OutcomeMismatch 5)
+  pub later_three : record_fault (contents_of begun)
+      (leaf 1 None (Some (whole_number (pos 1) ∷ whole_number (negsuc 0) ∷ zero_fraction ∷ [])))
+      ≡ Some (OutcomeMismatch 5)
   pub name_at_zero : begun_and (leaf 0 (Some (codes "even")) None) (leaf 0 (Some (codes "odd")) None) ≡ None
   pub most_actions_fit : fault_behind 0 (choice 1 (mention 1 None (Some (replicate 1024 (act []))))) ≡ None
-  pub one_action_more : fault_behind 0 (choice 1 (mention 1 None (Some (replicate 1025 (act []))))) ≡ Some (ActionCount 1)
+  pub one_action_more : fault_behind 0 (choice 1 (mention 1 None (Some (replicate 1025 (act [])))))
+      ≡ Some (ActionCount 1)
   pub last_node : fault_behind 1048575 (leaf 0 None None) ≡ None
   pub node_too_many : fault_behind 1048576 (leaf 0 None None) ≡ Some TooManyNodes
   pub payoffs_before_nodes : fault_behind 1048576 (leaf 3 None (Some [])) ≡ Some (PayoffCount 1048577)

@@ -19,8 +19,8 @@ use Rattle.def_file_fault.proofs.Nexts.{step_grows}
 abbrev pub HasWord : (List Spelled → Type 0) → Type 0
 HasWord L = (ss : List Spelled) × L ss
 
--- A language of a part and of what follows is one of what follows: `In T` are the words of the part with one of T behind
--- it, for those T that may follow.
+-- A language of a part and of what follows is one of what follows: `In T` are the words of the part with one of T
+-- behind it, for those T that may follow.
 
 -- what was read up to an offset
 pub record Past (least : ℕ) (Follows : (List Spelled → Type 0) → Type 0) (In : (List Spelled → Type 0) → List Spelled → Type 0) (whole : List ℕ) (at end : ℕ) : Type 1 where
@@ -36,7 +36,8 @@ pub record Goes {A : Type 0} (least : ℕ) (Follows : (List Spelled → Type 0) 
       → Stuck (In T) whole at fault
 
 -- a reading that gives a value goes along, if what it read does
-pub goes_past : {A : Type 0} (least : ℕ) (Follows : (List Spelled → Type 0) → Type 0) (In : (List Spelled → Type 0) → List Spelled → Type 0) (whole : List ℕ) (at : ℕ) (x : A × ℕ)
+pub goes_past : {A : Type 0} (least : ℕ) (Follows : (List Spelled → Type 0) → Type 0)
+    (In : (List Spelled → Type 0) → List Spelled → Type 0) (whole : List ℕ) (at : ℕ) (x : A × ℕ)
     → Past least Follows In whole at x.1 → Goes least Follows In whole at (Ok x)
 goes_past {A} least Follows In whole at x p = record {
   past = λ y e. let same : x ≡ y = cc in subst (λ (z : A × ℕ). Past least Follows In whole at z.1) same p;
@@ -44,7 +45,8 @@ goes_past {A} least Follows In whole at x p = record {
 }
 
 -- a reading that ends with a fault is stuck, if it is so before all that may follow
-pub goes_stuck : {A : Type 0} (least : ℕ) (Follows : (List Spelled → Type 0) → Type 0) (In : (List Spelled → Type 0) → List Spelled → Type 0) (whole : List ℕ) (at : ℕ) (fault : FileFault)
+pub goes_stuck : {A : Type 0} (least : ℕ) (Follows : (List Spelled → Type 0) → Type 0)
+    (In : (List Spelled → Type 0) → List Spelled → Type 0) (whole : List ℕ) (at : ℕ) (fault : FileFault)
     → ((T : List Spelled → Type 0) → Follows T → Stuck (In T) whole at fault)
     → Goes {A = A} least Follows In whole at (Err fault)
 goes_stuck {A} least Follows In whole at fault s = record {
@@ -53,7 +55,9 @@ goes_stuck {A} least Follows In whole at fault s = record {
 }
 
 -- one reading after another
-pub goes_then : {A B : Type 0} (least : ℕ) (F G : (List Spelled → Type 0) → Type 0) (In On : (List Spelled → Type 0) → List Spelled → Type 0) (whole : List ℕ) (at : ℕ) (r : Result (A × ℕ) FileFault) (f : A × ℕ → Result (B × ℕ) FileFault)
+pub goes_then : {A B : Type 0} (least : ℕ) (F G : (List Spelled → Type 0) → Type 0)
+    (In On : (List Spelled → Type 0) → List Spelled → Type 0) (whole : List ℕ) (at : ℕ) (r : Result (A × ℕ) FileFault)
+    (f : A × ℕ → Result (B × ℕ) FileFault)
     → Goes least F In whole at r → ((T : List Spelled → Type 0) → G T → F (On T))
     → ((x : A × ℕ) → r ≡ Ok x → x.1 ≤ length whole → at + least ≤ x.1 → Goes 0 G On whole x.1 (f x))
     → Goes least G (λ T. In (On T)) whole at (r >>= f)
@@ -76,13 +80,16 @@ goes_then least F G In On whole at (Err d) f first follows again = record {
 }
 
 -- a value from what was read
-pub goes_with : {A B : Type 0} (least : ℕ) (F : (List Spelled → Type 0) → Type 0) (In : (List Spelled → Type 0) → List Spelled → Type 0) (whole : List ℕ) (at : ℕ) (r : Result (A × ℕ) FileFault) (f : A × ℕ → B)
+pub goes_with : {A B : Type 0} (least : ℕ) (F : (List Spelled → Type 0) → Type 0)
+    (In : (List Spelled → Type 0) → List Spelled → Type 0) (whole : List ℕ) (at : ℕ) (r : Result (A × ℕ) FileFault)
+    (f : A × ℕ → B)
     → Goes least F In whole at r → Goes least F In whole at (r >>= λ x. Ok (f x, x.1))
 goes_with least F In whole at (Ok x) f first = goes_past least F In whole at (f x, x.1) (first.past x refl)
 goes_with least F In whole at (Err d) f first = goes_stuck least F In whole at d (first.stuck d refl)
 
 -- in a language with the same words, with fewer languages that may follow
-pub goes_alike : {A : Type 0} (least : ℕ) (F G : (List Spelled → Type 0) → Type 0) (In On : (List Spelled → Type 0) → List Spelled → Type 0) (whole : List ℕ) (at : ℕ) (r : Result (A × ℕ) FileFault)
+pub goes_alike : {A : Type 0} (least : ℕ) (F G : (List Spelled → Type 0) → Type 0)
+    (In On : (List Spelled → Type 0) → List Spelled → Type 0) (whole : List ℕ) (at : ℕ) (r : Result (A × ℕ) FileFault)
     → ((T : List Spelled → Type 0) → G T → F T) → ((T : List Spelled → Type 0) → G T → Alike (On T) (In T))
     → Goes least F In whole at r → Goes least G On whole at r
 goes_alike least F G In On whole at r fewer alike go = record {
@@ -93,7 +100,8 @@ goes_alike least F G In On whole at r fewer alike go = record {
 }
 
 -- with fewer bytes
-pub goes_less : {A : Type 0} (least less : ℕ) (F : (List Spelled → Type 0) → Type 0) (In : (List Spelled → Type 0) → List Spelled → Type 0) (whole : List ℕ) (at : ℕ) (r : Result (A × ℕ) FileFault)
+pub goes_less : {A : Type 0} (least less : ℕ) (F : (List Spelled → Type 0) → Type 0)
+    (In : (List Spelled → Type 0) → List Spelled → Type 0) (whole : List ℕ) (at : ℕ) (r : Result (A × ℕ) FileFault)
     → less ≤ least → Goes least F In whole at r → Goes less F In whole at r
 goes_less least less F In whole at r order go = record {
   past = λ x e. let p = go.past x e in record { within = p.within; grows = omega (arith, p.grows, order); along = p.along };
@@ -113,7 +121,8 @@ goes_other least kind not_number F In On whole at r but apart go = record {
 }
 
 -- behind a token
-pub goes_step : {A : Type 0} (F : (List Spelled → Type 0) → Type 0) (In : (List Spelled → Type 0) → List Spelled → Type 0) (whole : List ℕ) (at : ℕ)
+pub goes_step : {A : Type 0} (F : (List Spelled → Type 0) → Type 0)
+    (In : (List Spelled → Type 0) → List Spelled → Type 0) (whole : List ℕ) (at : ℕ)
     → at ≤ length whole → (t : Lexeme) → Step whole at t → (r : Result (A × ℕ) FileFault)
     → Goes 0 F (λ T. After (spelled_at whole t) (In T)) whole t.end r → Goes 1 F In whole at r
 goes_step F In whole at within t step r go =
@@ -171,26 +180,30 @@ module _ (F : (List Spelled → Type 0) → Type 0) (In : (List Spelled → Type
       → token_if (λ t. test (spelled_at whole t)) r ≡ Err fault → Stuck (In T) whole at fault
   fault_here (Ok t) fault next e = tested (test (spelled_at whole t)) refl e
     where
-      tested : (b : Bool) → test (spelled_at whole t) ≡ b → cond b (Ok t) (Err (unfit t)) ≡ Err fault → Stuck (In T) whole at fault
+      tested : (b : Bool) → test (spelled_at whole t) ≡ b → cond b (Ok t) (Err (unfit t)) ≡ Err fault
+          → Stuck (In T) whole at fault
       tested true is e = absurd cc
       tested false is e = let same : unfit t ≡ fault = cc in subst (Stuck (In T) whole at) same (unfit_here t (is_kind kinds.End t.kind) refl next is)
   fault_here (Err (lexing.Syntax p)) fault next e = let same : Syntax p ≡ fault = cc in subst (Stuck (In T) whole at) same (here (Syntax p) (Halt.bad_byte p refl unfinished next))
   fault_here (Err (lexing.Unclosed p)) fault next e = let same : UnexpectedEnd ≡ fault = cc in subst (Stuck (In T) whole at) same (here UnexpectedEnd (Halt.no_mark p refl next (λ l. absurd (unfinished l))))
 
+  -- where only tokens that pass the test come first, reading is stuck with the fault that comes instead of one
   pub token_fault : (fault : FileFault) → token_where (λ t. test (spelled_at whole t)) whole at ≡ Err fault
       → Stuck (In T) whole at fault
   unfolding token_where
   token_fault fault e = fault_here (next_from whole at) fault refl e
 
 -- a token that passes the test, and what is read behind it
-pub goes_token : {A : Type 0} (F : (List Spelled → Type 0) → Type 0) (In : (List Spelled → Type 0) → List Spelled → Type 0) (test : Spelled → Bool)
+pub goes_token : {A : Type 0} (F : (List Spelled → Type 0) → Type 0)
+    (In : (List Spelled → Type 0) → List Spelled → Type 0) (test : Spelled → Bool)
     → IsTest test → Begins F In test → (whole : List ℕ) (at : ℕ) (f : Lexeme → Result (A × ℕ) FileFault)
     → at ≤ length whole
     → ((t : Lexeme) → Step whole at t → test (spelled_at whole t) ≡ true → t.end ≤ length whole → Goes 0 F (λ T. After (spelled_at whole t) (In T)) whole t.end (f t))
     → Goes 1 F In whole at (token_where (λ t. test (spelled_at whole t)) whole at >>= f)
 goes_token {A} F In test is_test begins whole at f within again = found (token_where (λ t. test (spelled_at whole t)) whole at) refl
   where
-    found : (r : Result Lexeme FileFault) → token_where (λ t. test (spelled_at whole t)) whole at ≡ r → Goes 1 F In whole at (r >>= f)
+    found : (r : Result Lexeme FileFault) → token_where (λ t. test (spelled_at whole t)) whole at ≡ r
+        → Goes 1 F In whole at (r >>= f)
     found (Ok t) is =
         let ok = token_ok (λ t. test (spelled_at whole t)) whole at t is in
         let step : Step whole at t = record {

@@ -54,7 +54,8 @@ compared whole at (s ∷ ss) (t ∷ ts) p q a b =
     ]
 
 -- the token with which the longer goes on may come
-front_on : (L : List Spelled → Type 0) (whole : List ℕ) (place : ℕ) (ss ts : List Spelled) (on : GoesOn whole place ss ts)
+front_on : (L : List Spelled → Type 0) (whole : List ℕ) (place : ℕ) (ss ts : List Spelled)
+    (on : GoesOn whole place ss ts)
     → IsFront L ts → IsFront L (ss ++ spelled_at whole on.token ∷ [])
 front_on L whole place ss ts on front =
     let s = spelled_at whole on.token in
@@ -110,7 +111,8 @@ token_once : (whole : List ℕ) (place : ℕ) (t u : Lexeme) → next_from whole
 token_once whole place t u a b = let e = sym a ∙ b in cc
 
 -- a token that stops as number
-number_token : (L : List Spelled → Type 0) (whole : List ℕ) (ss : List Spelled) (place at : ℕ) (why : NumberFault) (n : IsNumberFault L whole ss place at why) (t : Lexeme)
+number_token : (L : List Spelled → Type 0) (whole : List ℕ) (ss : List Spelled) (place at : ℕ) (why : NumberFault)
+    (n : IsNumberFault L whole ss place at why) (t : Lexeme)
     → next_from whole place ≡ Ok t → IsFront L (ss ++ spelled_at whole t ∷ []) → ⊥
 number_token L whole ss place at why n t next front =
     let same : t ≡ n.token = token_once whole place t n.token next n.next in

@@ -31,7 +31,8 @@ actions_follow : (kind : EntryKind) (T : List Spelled → Type 0) → Follows T
     → NoFirst kinds.Text (Part (IsActionList kind) T)
 actions_follow kind T f = record { word = (f.word.0, (None, f.word.0, refl, f.word.1)); apart = λ s ss l. apart s ss l.0 l.1 l.2 l.3 }
   where
-    apart : (s : Spelled) (ss : List Spelled) (v : Option _) (rest : List Spelled) → IsActionList kind v (s ∷ ss) rest → T rest → s.kind ≢ kinds.Text
+    apart : (s : Spelled) (ss : List Spelled) (v : Option _) (rest : List Spelled) → IsActionList kind v (s ∷ ss) rest
+        → T rest → s.kind ≢ kinds.Text
     apart s ss None rest is there same = f.no_text s ss (subst T (sym is) there) same
     apart s ss (Some actions) rest is there same =
         let first : s ≡ open_brace = let e = is.1 in cc in
@@ -67,7 +68,8 @@ set_goes kind whole at within =
 payoffs_follow : (T : List Spelled → Type 0) → Follows T → NoFirst kinds.Text (Part IsPayoffList T)
 payoffs_follow T f = record { word = (f.word.0, (None, f.word.0, refl, f.word.1)); apart = λ s ss l. apart s ss l.0 l.1 l.2 l.3 }
   where
-    apart : (s : Spelled) (ss : List Spelled) (v : Option _) (rest : List Spelled) → IsPayoffList v (s ∷ ss) rest → T rest → s.kind ≢ kinds.Text
+    apart : (s : Spelled) (ss : List Spelled) (v : Option _) (rest : List Spelled) → IsPayoffList v (s ∷ ss) rest
+        → T rest → s.kind ≢ kinds.Text
     apart s ss None rest is there same = f.no_text s ss (subst T (sym is) there) same
     apart s ss (Some payoffs) rest is there same =
         let first : s ≡ open_brace = let e = is.1 in cc in
@@ -204,7 +206,8 @@ c_after T = record {
       (r, b.1, record { headed = ss; named = l.1; placed = a.1; head = refl; name = l.2; no_player = refl; set = a.2; outcome = b.2 }, b.3);
 }
   where
-    to : (ss : List Spelled) (r : Record) (rest : List Spelled) (kind : EntryKind) → r.kind ≡ kind → IsEntryAs kind r (word (codes "c") ∷ ss) rest → T rest → ChanceIn T ss
+    to : (ss : List Spelled) (r : Record) (rest : List Spelled) (kind : EntryKind) → r.kind ≡ kind
+        → IsEntryAs kind r (word (codes "c") ∷ ss) rest → T rest → ChanceIn T ss
     to ss r rest Chance is e there = chance_to T r ss rest e there
     to ss r rest Personal is e there = absurd (words_apart 99 112 ss e.headed (λ same. omega (arith, same)) e.head)
     to ss r rest Leaf is e there = absurd (words_apart 99 116 ss e.headed (λ same. omega (arith, same)) e.head)
@@ -220,7 +223,8 @@ p_after T = record {
       (r, b.1, record { headed = ss; named = l.1; moved = m.1; placed = a.1; head = refl; name = l.2; player = m.2; set = a.2; outcome = b.2 }, b.3);
 }
   where
-    to : (ss : List Spelled) (r : Record) (rest : List Spelled) (kind : EntryKind) → r.kind ≡ kind → IsEntryAs kind r (word (codes "p") ∷ ss) rest → T rest → PersonalIn T ss
+    to : (ss : List Spelled) (r : Record) (rest : List Spelled) (kind : EntryKind) → r.kind ≡ kind
+        → IsEntryAs kind r (word (codes "p") ∷ ss) rest → T rest → PersonalIn T ss
     to ss r rest Chance is e there = absurd (words_apart 112 99 ss e.headed (λ same. omega (arith, same)) e.head)
     to ss r rest Personal is e there = personal_to T r ss rest e there
     to ss r rest Leaf is e there = absurd (words_apart 112 116 ss e.headed (λ same. omega (arith, same)) e.head)
@@ -234,7 +238,8 @@ t_after T = record {
       (r, b.1, record { headed = ss; named = l.1; head = refl; name = l.2; no_player = refl; no_set = refl; outcome = b.2 }, b.3);
 }
   where
-    to : (ss : List Spelled) (r : Record) (rest : List Spelled) (kind : EntryKind) → r.kind ≡ kind → IsEntryAs kind r (word (codes "t") ∷ ss) rest → T rest → TerminalIn T ss
+    to : (ss : List Spelled) (r : Record) (rest : List Spelled) (kind : EntryKind) → r.kind ≡ kind
+        → IsEntryAs kind r (word (codes "t") ∷ ss) rest → T rest → TerminalIn T ss
     to ss r rest Chance is e there = absurd (words_apart 116 99 ss e.headed (λ same. omega (arith, same)) e.head)
     to ss r rest Personal is e there = absurd (words_apart 116 112 ss e.headed (λ same. omega (arith, same)) e.head)
     to ss r rest Leaf is e there = terminal_to T r ss rest e there
@@ -257,7 +262,8 @@ head_begins = record {
   first = λ T ss f l. first T ss l.0 l.1 l.0.kind refl l.2;
 }
   where
-    first : (T : List Spelled → Type 0) (ss : List Spelled) (r : Record) (rest : List Spelled) (kind : EntryKind) → r.kind ≡ kind → IsEntryAs kind r ss rest → FirstTaken head_test ss
+    first : (T : List Spelled → Type 0) (ss : List Spelled) (r : Record) (rest : List Spelled) (kind : EntryKind)
+        → r.kind ≡ kind → IsEntryAs kind r ss rest → FirstTaken head_test ss
     first T ss r rest Chance is e = subst (FirstTaken head_test) (sym e.head) refl
     first T ss r rest Personal is e = subst (FirstTaken head_test) (sym e.head) refl
     first T ss r rest Leaf is e = subst (FirstTaken head_test) (sym e.head) refl
@@ -270,7 +276,9 @@ entry_goes whole at within =
     goes_token Follows (Part IsEntry) head_test head_is_test head_begins whole at (entry_behind whole) within
     (λ t step passes inner. chosen t step inner (is_exact kinds.Word (codes "c") whole t) (is_exact kinds.Word (codes "p") whole t) refl refl passes)
   where
-    behind : (t : Lexeme) → Step whole at t → t.end ≤ length whole → (bytes : List ℕ) → is_exact kinds.Word bytes whole t ≡ true → (In : (List Spelled → Type 0) → List Spelled → Type 0) → ((T : List Spelled → Type 0) → Alike (After (word bytes) (Part IsEntry T)) (In T))
+    behind : (t : Lexeme) → Step whole at t → t.end ≤ length whole → (bytes : List ℕ)
+        → is_exact kinds.Word bytes whole t ≡ true → (In : (List Spelled → Type 0) → List Spelled → Type 0)
+        → ((T : List Spelled → Type 0) → Alike (After (word bytes) (Part IsEntry T)) (In T))
         → (r : Result (Record × ℕ) FileFault) → Goes 1 Follows In whole t.end r
         → Goes 0 Follows (λ T. After (spelled_at whole t) (Part IsEntry T)) whole t.end r
     behind t step inner bytes is In alike r go =
@@ -279,7 +287,9 @@ entry_goes whole at within =
         (goes_alike 0 Follows Follows In (λ T. After (word bytes) (Part IsEntry T)) whole t.end r (λ T f. f) (λ T f. alike T)
         (goes_less 1 0 Follows In whole t.end r (omega arith) go))
 
-    chosen : (t : Lexeme) → Step whole at t → t.end ≤ length whole → (b c : Bool) → is_exact kinds.Word (codes "c") whole t ≡ b → is_exact kinds.Word (codes "p") whole t ≡ c → (b || (c || is_exact kinds.Word (codes "t") whole t)) ≡ true
+    chosen : (t : Lexeme) → Step whole at t → t.end ≤ length whole → (b c : Bool)
+        → is_exact kinds.Word (codes "c") whole t ≡ b → is_exact kinds.Word (codes "p") whole t ≡ c
+        → (b || (c || is_exact kinds.Word (codes "t") whole t)) ≡ true
         → Goes 0 Follows (λ T. After (spelled_at whole t) (Part IsEntry T)) whole t.end (cond b (chance_entry_at whole t.end) (cond c (personal_entry_at whole t.end) (terminal_entry_at whole t.end)))
     chosen t step inner true c is is2 passes = behind t step inner (codes "c") is ChanceIn c_after (chance_entry_at whole t.end) (chance_entry_goes whole t.end inner)
     chosen t step inner false true is is2 passes = behind t step inner (codes "p") is2 PersonalIn p_after (personal_entry_at whole t.end) (personal_entry_goes whole t.end inner)

@@ -25,14 +25,16 @@ names_word T word = (close_brace ∷ word.0, ([], word.0, refl, word.1))
 names_closed : (T : List Spelled → Type 0) → Alike (After close_brace (Part AreNames T)) T
 names_closed T = record { to = λ ss l. to ss l.0 l.1 l.2 l.3; back = λ ss there. ([], ss, refl, there) }
   where
-    to : (ss : List Spelled) (v : List (List ℕ)) (rest : List Spelled) → AreNames v (close_brace ∷ ss) rest → T rest → T ss
+    to : (ss : List Spelled) (v : List (List ℕ)) (rest : List Spelled) → AreNames v (close_brace ∷ ss) rest → T rest
+        → T ss
     to ss [] rest is there = let same : rest ≡ ss = cc in subst T same there
     to ss (name ∷ more) rest is there = absurd (no_text_closes name ss is.0 is.1)
 
 names_but : (T : List Spelled → Type 0) → AlikeBut kinds.Close (Part AreNames T) (Part IsText (Part AreNames T))
 names_but T = record { to = λ ss fits l. to ss fits l.0 l.1 l.2 l.3; back = λ ss l. let later = l.3 in (l.0 ∷ later.0, later.1, (l.1, l.2, later.2), later.3) }
   where
-    to : (ss : List Spelled) → FirstIsOther kinds.Close ss → (v : List (List ℕ)) (rest : List Spelled) → AreNames v ss rest → T rest → Part IsText (Part AreNames T) ss
+    to : (ss : List Spelled) → FirstIsOther kinds.Close ss → (v : List (List ℕ)) (rest : List Spelled)
+        → AreNames v ss rest → T rest → Part IsText (Part AreNames T) ss
     to ss fits [] rest is there = absurd (let clash = subst (FirstIsOther kinds.Close) is fits in clash refl)
     to ss fits (name ∷ more) rest is there = (name, is.0, is.1, (more, rest, is.2, there))
 
@@ -50,7 +52,8 @@ names_goes zero done whole at within left_is = spent HasWord (Part AreNames) who
 names_goes (suc left) done whole at within left_is =
     chosen (next_is close_byte whole at) refl (λ text inner grown. names_goes left (done ++ text.0 ∷ []) whole text.1 inner (omega (arith, grown, left_is)))
   where
-    chosen : (b : Bool) → next_is close_byte whole at ≡ b → ((text : List ℕ × ℕ) → text.1 ≤ length whole → at + 1 ≤ text.1 → Goes 1 HasWord (Part AreNames) whole text.1 (names_from left (done ++ text.0 ∷ []) whole text.1))
+    chosen : (b : Bool) → next_is close_byte whole at ≡ b
+        → ((text : List ℕ × ℕ) → text.1 ≤ length whole → at + 1 ≤ text.1 → Goes 1 HasWord (Part AreNames) whole text.1 (names_from left (done ++ text.0 ∷ []) whole text.1))
         → Goes 1 HasWord (Part AreNames) whole at (cond b (close_at done whole at) (text_at whole at >>= λ text. names_from left (done ++ text.0 ∷ []) whole text.1))
     chosen true is again = close_goes done HasWord (Part AreNames) whole at within is (λ T word. names_closed T)
     chosen false is again =
@@ -152,7 +155,8 @@ numbered_after : (s : Spelled) → IsRational s → (T : List Spelled → Type 0
 numbered_after s is T = record { to = λ ss l. let same : l.1 ≡ ss = let e = l.3 in cc in subst (Titled T) same l.4; back = λ ss l. (s, ss, is, refl, l) }
 
 -- a token that a test passes, behind which the language is another
-step_goes : {A : Type 0} (In On : (List Spelled → Type 0) → List Spelled → Type 0) (s : Spelled) (whole : List ℕ) (t : Lexeme) (r : Result (A × ℕ) FileFault)
+step_goes : {A : Type 0} (In On : (List Spelled → Type 0) → List Spelled → Type 0) (s : Spelled) (whole : List ℕ)
+    (t : Lexeme) (r : Result (A × ℕ) FileFault)
     → spelled_at whole t ≡ s → ((T : List Spelled → Type 0) → Alike (After s (In T)) (On T))
     → Goes 1 HasWord On whole t.end r
     → Goes 0 HasWord (λ T. After (spelled_at whole t) (In T)) whole t.end r
@@ -187,16 +191,19 @@ head_goes whole at within =
     (opened whole title.1 inner4 opening step passes) (λ T. marked_after open_brace (Part AreNames T))
     (goes_with 1 HasWord (Part AreNames) whole opening.end (names_from (length whole) [] whole opening.end) (λ names. (title.0, names.0)) (names_goes (length whole) [] whole opening.end inner5 (omega arith)))))))))))))
   where
-    version_begins : Begins HasWord (λ T. Marked (number (codes "2")) (Numbered T)) (exact_test kinds.Number (codes "2"))
+    version_begins : Begins HasWord (λ T. Marked (number (codes "2")) (Numbered T))
+        (exact_test kinds.Number (codes "2"))
     version_begins = marked_begins (number (codes "2")) (exact_test kinds.Number (codes "2")) refl Numbered numbered_begins.word
 
     open_begins : Begins HasWord (λ T. Marked open_brace (Part AreNames T)) (λ s. is_kind kinds.Open s.kind)
     open_begins = marked_begins open_brace (λ s. is_kind kinds.Open s.kind) refl (Part AreNames) names_word
 
-    opened : (whole : List ℕ) (at : ℕ) → at ≤ length whole → (t : Lexeme) → Step whole at t → is_kind kinds.Open t.kind ≡ true → spelled_at whole t ≡ open_brace
+    opened : (whole : List ℕ) (at : ℕ) → at ≤ length whole → (t : Lexeme) → Step whole at t
+        → is_kind kinds.Open t.kind ≡ true → spelled_at whole t ≡ open_brace
     opened whole at within t step passes = (open_step whole at within t (ok_token (is_token kinds.Open whole) whole at t step.next passes)).spelled
 
-    rational : (whole : List ℕ) (at : ℕ) → at ≤ length whole → (t : Lexeme) → Step whole at t → rational_test (spelled_at whole t) ≡ true → IsRational (spelled_at whole t)
+    rational : (whole : List ℕ) (at : ℕ) → at ≤ length whole → (t : Lexeme) → Step whole at t
+        → rational_test (spelled_at whole t) ≡ true → IsRational (spelled_at whole t)
     rational whole at within t step passes =
         ⊎_elim (λ is. inl (exact_here whole at within t kinds.Word (codes "R") (λ clash. cc) step.next is).spelled) (λ is. inr (exact_here whole at within t kinds.Word (codes "D") (λ clash. cc) step.next is.1).spelled)
         (either (exact_test kinds.Word (codes "R") (spelled_at whole t)) (exact_test kinds.Word (codes "D") (spelled_at whole t)) passes)

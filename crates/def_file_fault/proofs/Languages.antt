@@ -224,7 +224,8 @@ module _ (whole : List ℕ) (fault : FileFault) where
       → NotNext kind whole at → Stuck M whole at fault → Stuck L whole at fault
   stuck_other kind no_number L M at but none s = other s.tokens s.place s.before s.front s.halt
     where
-      other : (tokens : List Spelled) (place : ℕ) → AreNext whole at tokens place → IsFront M tokens → Halt M whole tokens place fault → Stuck L whole at fault
+      other : (tokens : List Spelled) (place : ℕ) → AreNext whole at tokens place → IsFront M tokens
+          → Halt M whole tokens place fault → Stuck L whole at fault
       other [] place before front halt = record {
         tokens = [];
         place = place;
@@ -268,7 +269,8 @@ module _ (whole : List ℕ) (end : ℕ) where
       → NotNext kind whole at → EndsAt M whole end at → EndsAt L whole end at
   ends_other kind no_number L M at but none s = other s.tokens s.before s.word s.ends s.no_number
     where
-      other : (tokens : List Spelled) → AreNext whole at tokens end → M tokens → EndsWhole M whole tokens end → ((bytes : List ℕ) → IsFront M (tokens ++ number bytes ∷ []) → ⊥) → EndsAt L whole end at
+      other : (tokens : List Spelled) → AreNext whole at tokens end → M tokens → EndsWhole M whole tokens end
+          → ((bytes : List ℕ) → IsFront M (tokens ++ number bytes ∷ []) → ⊥) → EndsAt L whole end at
       other [] before word ends numbers = record {
         tokens = [];
         before = before;

@@ -46,7 +46,8 @@ open_mark whole at within is =
     record { t = found.0; step = record { next = s.next; not_end = s.not_end }; read = read; spelled = s.spelled }
 
 -- a mark, and what is read behind it
-pub goes_mark : {A : Type 0} (kind : Token) (s : Spelled) (F : (List Spelled → Type 0) → Type 0) (In : (List Spelled → Type 0) → List Spelled → Type 0) (whole : List ℕ) (at : ℕ)
+pub goes_mark : {A : Type 0} (kind : Token) (s : Spelled) (F : (List Spelled → Type 0) → Type 0)
+    (In : (List Spelled → Type 0) → List Spelled → Type 0) (whole : List ℕ) (at : ℕ)
     → at ≤ length whole → (m : MarkNext kind s whole at) → (f : Lexeme → Result (A × ℕ) FileFault)
     → Goes 0 F (λ T. After s (In T)) whole m.t.end (f m.t)
     → Goes 1 F In whole at (token_where (is_token kind whole) whole at >>= f)
@@ -55,7 +56,8 @@ goes_mark kind s F In whole at within m f go =
     (goes_step F In whole at within m.t m.step (f m.t) (subst (λ u. Goes 0 F (λ T. After u (In T)) whole m.t.end (f m.t)) (sym m.spelled) go))
 
 -- the closing brace of a list
-pub close_goes : {A : Type 0} (value : A) (F : (List Spelled → Type 0) → Type 0) (In : (List Spelled → Type 0) → List Spelled → Type 0) (whole : List ℕ) (at : ℕ)
+pub close_goes : {A : Type 0} (value : A) (F : (List Spelled → Type 0) → Type 0)
+    (In : (List Spelled → Type 0) → List Spelled → Type 0) (whole : List ℕ) (at : ℕ)
     → at ≤ length whole → next_is close_byte whole at ≡ true
     → ((T : List Spelled → Type 0) → F T → Alike (After close_brace (In T)) T)
     → Goes 1 F In whole at (close_at value whole at)
@@ -69,7 +71,8 @@ close_goes value F In whole at within is alike =
     }))
 
 -- where no more items may come, the end stands
-pub spent : {A : Type 0} (F : (List Spelled → Type 0) → Type 0) (In : (List Spelled → Type 0) → List Spelled → Type 0) (whole : List ℕ) (at : ℕ)
+pub spent : {A : Type 0} (F : (List Spelled → Type 0) → Type 0) (In : (List Spelled → Type 0) → List Spelled → Type 0)
+    (whole : List ℕ) (at : ℕ)
     → at ≤ length whole → length whole ≤ at + 0 → ((T : List Spelled → Type 0) → F T → HasWord (In T))
     → ((T : List Spelled → Type 0) → F T → In T [] → ⊥)
     → Goes {A = A} 1 F In whole at (Err UnexpectedEnd)
@@ -126,7 +129,8 @@ actions_closed : (kind : EntryKind) (T : List Spelled → Type 0)
     → Alike (After close_brace (Part (AreActionsUpTo kind) T)) T
 actions_closed kind T = record { to = λ ss l. to ss l.0 l.1 l.2 l.3; back = λ ss there. ([], ss, refl, there) }
   where
-    to : (ss : List Spelled) (v : List Action) (rest : List Spelled) → AreActionsUpTo kind v (close_brace ∷ ss) rest → T rest → T ss
+    to : (ss : List Spelled) (v : List Action) (rest : List Spelled) → AreActionsUpTo kind v (close_brace ∷ ss) rest
+        → T rest → T ss
     to ss [] rest is there = let same : rest ≡ ss = cc in subst T same there
     to ss (a ∷ more) rest is there = absurd (no_text_closes a.name ss is.0 is.2)
 
@@ -140,7 +144,8 @@ actions_but kind T = record {
       (record { name = l.0; chance = later.0 } ∷ last.0, last.1, (l.1, later.1, l.2, later.2, last.2), last.3);
 }
   where
-    to : (ss : List Spelled) → FirstIsOther kinds.Close ss → (v : List Action) (rest : List Spelled) → AreActionsUpTo kind v ss rest → T rest → IsActionIn kind (Part (AreActionsUpTo kind) T) ss
+    to : (ss : List Spelled) → FirstIsOther kinds.Close ss → (v : List Action) (rest : List Spelled)
+        → AreActionsUpTo kind v ss rest → T rest → IsActionIn kind (Part (AreActionsUpTo kind) T) ss
     to ss fits [] rest is there = absurd (let clash = subst (FirstIsOther kinds.Close) is fits in clash refl)
     to ss fits (a ∷ more) rest is there = (a.name, is.0, is.2, (a.chance, is.1, is.3, (more, rest, is.4, there)))
 
@@ -159,7 +164,8 @@ actions_goes kind zero done whole at within left_is = spent HasWord (Part (AreAc
 actions_goes kind (suc left) done whole at within left_is =
     chosen (next_is close_byte whole at) refl (λ action inner grown. actions_goes kind left (done ++ action.0 ∷ []) whole action.1 inner (omega (arith, grown, left_is)))
   where
-    chosen : (b : Bool) → next_is close_byte whole at ≡ b → ((action : Action × ℕ) → action.1 ≤ length whole → at + 1 ≤ action.1 → Goes 1 HasWord (Part (AreActionsUpTo kind)) whole action.1 (actions_from kind left (done ++ action.0 ∷ []) whole action.1))
+    chosen : (b : Bool) → next_is close_byte whole at ≡ b
+        → ((action : Action × ℕ) → action.1 ≤ length whole → at + 1 ≤ action.1 → Goes 1 HasWord (Part (AreActionsUpTo kind)) whole action.1 (actions_from kind left (done ++ action.0 ∷ []) whole action.1))
         → Goes 1 HasWord (Part (AreActionsUpTo kind)) whole at (cond b (close_at done whole at) (action_at kind whole at >>= λ action. actions_from kind left (done ++ action.0 ∷ []) whole action.1))
     chosen true is again = close_goes done HasWord (Part (AreActionsUpTo kind)) whole at within is (λ T word. actions_closed kind T)
     chosen false is again =
@@ -170,7 +176,8 @@ actions_goes kind (suc left) done whole at within left_is =
 -- A list that may be absent.
 
 -- the opening brace, and a list behind it
-pub list_goes : {A B : Type 0} (F : (List Spelled → Type 0) → Type 0) (Items In : (List Spelled → Type 0) → List Spelled → Type 0) (whole : List ℕ) (at : ℕ)
+pub list_goes : {A B : Type 0} (F : (List Spelled → Type 0) → Type 0)
+    (Items In : (List Spelled → Type 0) → List Spelled → Type 0) (whole : List ℕ) (at : ℕ)
     → at ≤ length whole → next_is open_byte whole at ≡ true → (items : ℕ → Result (A × ℕ) FileFault) (f : A × ℕ → B)
     → ((T : List Spelled → Type 0) → F T → HasWord T)
     → ((T : List Spelled → Type 0) → F T → Alike (After open_brace (In T)) (Items T))
@@ -187,7 +194,8 @@ action_list_after : (kind : EntryKind) (T : List Spelled → Type 0) → NoFirst
     → Alike (After open_brace (Part (IsActionList kind) T)) (Part (AreActionsUpTo kind) T)
 action_list_after kind T apart = record { to = λ ss l. to ss l.0 l.1 l.2 l.3; back = λ ss l. (Some l.0, l.1, (ss, refl, l.2), l.3) }
   where
-    to : (ss : List Spelled) (v : Option (List Action)) (rest : List Spelled) → IsActionList kind v (open_brace ∷ ss) rest → T rest → Part (AreActionsUpTo kind) T ss
+    to : (ss : List Spelled) (v : Option (List Action)) (rest : List Spelled)
+        → IsActionList kind v (open_brace ∷ ss) rest → T rest → Part (AreActionsUpTo kind) T ss
     to ss None rest is there = absurd (apart.apart open_brace ss (subst T (sym is) there) refl)
     to ss (Some actions) rest is there =
         let same : is.0 ≡ ss = let e = is.1 in cc in
@@ -196,7 +204,8 @@ action_list_after kind T apart = record { to = λ ss l. to ss l.0 l.1 l.2 l.3; b
 action_list_but : (kind : EntryKind) (T : List Spelled → Type 0) → AlikeBut kinds.Open (Part (IsActionList kind) T) T
 action_list_but kind T = record { to = λ ss fits l. to ss fits l.0 l.1 l.2 l.3; back = λ ss there. (None, ss, refl, there) }
   where
-    to : (ss : List Spelled) → FirstIsOther kinds.Open ss → (v : Option (List Action)) (rest : List Spelled) → IsActionList kind v ss rest → T rest → T ss
+    to : (ss : List Spelled) → FirstIsOther kinds.Open ss → (v : Option (List Action)) (rest : List Spelled)
+        → IsActionList kind v ss rest → T rest → T ss
     to ss fits None rest is there = subst T (sym is) there
     to ss fits (Some actions) rest is there = absurd (let clash = subst (FirstIsOther kinds.Open) is.1 fits in clash refl)
 

@@ -210,6 +210,7 @@ unclosed_first start c rest p apart is =
     cc
 
 module _ (kind : Token) (mark : 0 < byte_of kind) (whole : List ℕ) (at : ℕ) where
+  -- where the byte that tokens of a kind begin with isn't next, no token of this kind is next
   pub not_next : next_is (byte_of kind) whole at ≡ false → NotNext kind whole at
   not_next is = record { token = λ t next same. token t next same (next_begins_not (byte_of kind) whole at is); unclosed = λ p next same. unclosed p next same (next_begins_not (byte_of kind) whole at is) }
     where
@@ -224,7 +225,8 @@ module _ (kind : Token) (mark : 0 < byte_of kind) (whole : List ℕ) (at : ℕ) 
           let s = token_at-sound (after_space whole at) (c ∷ rest) t (sym (next_is_at whole at (c ∷ rest) begins) ∙ next) in
           apart (first_byte kind s.len c rest (drop s.len (c ∷ rest)) mark (subst (λ k. IsToken k (take s.len (c ∷ rest)) (drop s.len (c ∷ rest))) same s.token))
 
-      unclosed : (p : ℕ) → next_from whole at ≡ Err (lexing.Unclosed p) → kind ≡ kinds.Text → BeginsNot (byte_of kind) whole at → ⊥
+      unclosed : (p : ℕ) → next_from whole at ≡ Err (lexing.Unclosed p) → kind ≡ kinds.Text
+          → BeginsNot (byte_of kind) whole at → ⊥
       unclosed p next same (ended none) = let e = sym (token_at-end (after_space whole at)) ∙ (sym (next_is_at whole at [] none) ∙ next) in cc
       unclosed p next same (other c rest apart begins) =
           unclosed_first (after_space whole at) c rest p (λ is. apart (is ∙ ap byte_of (sym same))) (sym (next_is_at whole at (c ∷ rest) begins) ∙ next)

@@ -43,7 +43,9 @@ whole_from : (bytes : List ℕ) (n : ℕ) → read_as_whole bytes ≡ Ok n → (
 unfolding read_as_whole
 whole_from bytes n e rest = chosen (is_numeral bytes) (nat_le (number_of bytes) most) refl refl e
   where
-    chosen : (b c : Bool) → is_numeral bytes ≡ b → nat_le (number_of bytes) most ≡ c → cond b (cond c (Ok (number_of bytes)) (Err Range)) (Err Form) ≡ Ok n → IsWholeNumber n (number bytes ∷ rest) rest
+    chosen : (b c : Bool) → is_numeral bytes ≡ b → nat_le (number_of bytes) most ≡ c
+        → cond b (cond c (Ok (number_of bytes)) (Err Range)) (Err Form) ≡ Ok n
+        → IsWholeNumber n (number bytes ∷ rest) rest
     chosen true true numeral limit e =
         let same : number_of bytes ≡ n = cc in
         record { digits = bytes; numeral = numeral; value = same; limit = subst (λ k. k ≤ most) same (leb-true (number_of bytes) most limit); spelling = refl }
@@ -103,7 +105,8 @@ module _ {A : Type 0} (R : A → List Spelled → List Spelled → Type 0) (numb
   )
 
   module _ (read : List ℕ → Result A NumberFault) (faults : (bytes : List ℕ) → literal_fault numbers bytes ≡ fault_of (read bytes)) (whole : List ℕ) (at : ℕ) (within : at ≤ length whole) where
-    numbered_goes : (t : Lexeme) → next_from whole at ≡ Ok t → kinds.Number ≡ t.kind → (r : Result A NumberFault) → read (bytes_at whole t) ≡ r → Goes 1 HasWord (Part R) whole at (number_or_fault t r)
+    numbered_goes : (t : Lexeme) → next_from whole at ≡ Ok t → kinds.Number ≡ t.kind → (r : Result A NumberFault)
+        → read (bytes_at whole t) ≡ r → Goes 1 HasWord (Part R) whole at (number_or_fault t r)
     numbered_goes t next is (Ok v) ok =
         let step : Step whole at t = record { next = next; not_end = λ ends. let clash : kinds.Number ≡ kinds.End = is ∙ ends in cc } in
         let grown = step_grows whole at within t step in
@@ -133,7 +136,8 @@ module _ {A : Type 0} (R : A → List Spelled → List Spelled → Type 0) (numb
     pub number_goes : Goes 1 HasWord (Part R) whole at (number_at read whole at)
     number_goes = found (token_where (is_token kinds.Number whole) whole at) refl
       where
-        found : (r : Result Lexeme FileFault) → token_where (is_token kinds.Number whole) whole at ≡ r → Goes 1 HasWord (Part R) whole at (r >>= λ token. number_or_fault token (read (bytes_at whole token)))
+        found : (r : Result Lexeme FileFault) → token_where (is_token kinds.Number whole) whole at ≡ r
+            → Goes 1 HasWord (Part R) whole at (r >>= λ token. number_or_fault token (read (bytes_at whole token)))
         found (Ok t) is =
             let ok = token_ok (is_token kinds.Number whole) whole at t is in
             numbered_goes t ok.0 (is_kind-true kinds.Number t.kind ok.1) (read (bytes_at whole t)) refl

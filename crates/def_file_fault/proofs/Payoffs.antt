@@ -61,7 +61,8 @@ unfolding payoff_at
 payoff_goes [] whole at within = literal_goes whole at within
 payoff_goes (d ∷ ds) whole at within = chosen (next_is comma_byte whole at) refl
   where
-    chosen : (b : Bool) → next_is comma_byte whole at ≡ b → Goes 1 HasWord (PayoffIn (d ∷ ds)) whole at (cond b (token_where (is_token kinds.Comma whole) whole at >>= λ token. Ok token.end) (Ok at) >>= λ start. literal_at whole start)
+    chosen : (b : Bool) → next_is comma_byte whole at ≡ b
+        → Goes 1 HasWord (PayoffIn (d ∷ ds)) whole at (cond b (token_where (is_token kinds.Comma whole) whole at >>= λ token. Ok token.end) (Ok at) >>= λ start. literal_at whole start)
     chosen true is =
         let m = comma_mark whole at within is in
         let inner = (step_grows whole at within m.t m.step).1 in
@@ -89,16 +90,19 @@ payoffs_word (d ∷ ds) T word = (close_brace ∷ word.0, ([], word.0, refl, wor
 payoffs_closed : (done : List Fraction) (T : List Spelled → Type 0) → Alike (After close_brace (Part (Behind done) T)) T
 payoffs_closed [] T = record { to = λ ss l. to ss l.0 l.1 l.2 l.3; back = λ ss there. ([], ss, refl, there) }
   where
-    to : (ss : List Spelled) (v : List Fraction) (rest : List Spelled) → ArePayoffs v (close_brace ∷ ss) rest → T rest → T ss
+    to : (ss : List Spelled) (v : List Fraction) (rest : List Spelled) → ArePayoffs v (close_brace ∷ ss) rest → T rest
+        → T ss
     to ss [] rest is there = let same : rest ≡ ss = cc in subst T same there
     to ss (f ∷ fs) rest is there = absurd (no_number_closes f ss is.0 is.1)
 payoffs_closed (d ∷ ds) T = record { to = λ ss l. to ss l.0 l.1 l.2 l.3; back = λ ss there. ([], ss, refl, there) }
   where
-    clash : (f : Fraction) (ss parted done : List Spelled) → (close_brace ∷ ss ≡ parted) ⊎ (close_brace ∷ ss ≡ comma ∷ parted) → IsFraction f parted done → ⊥
+    clash : (f : Fraction) (ss parted done : List Spelled)
+        → (close_brace ∷ ss ≡ parted) ⊎ (close_brace ∷ ss ≡ comma ∷ parted) → IsFraction f parted done → ⊥
     clash f ss parted done (inl same) is = no_number_closes f ss done (subst (λ tokens. IsFraction f tokens done) (sym same) is)
     clash f ss parted done (inr same) is = no_comma_closes ss parted same
 
-    to : (ss : List Spelled) (v : List Fraction) (rest : List Spelled) → AreMorePayoffs v (close_brace ∷ ss) rest → T rest → T ss
+    to : (ss : List Spelled) (v : List Fraction) (rest : List Spelled) → AreMorePayoffs v (close_brace ∷ ss) rest
+        → T rest → T ss
     to ss [] rest is there = let same : rest ≡ ss = cc in subst T same there
     to ss (f ∷ fs) rest is there = absurd (clash f ss is.0 is.1 is.2 is.3)
 
@@ -106,16 +110,19 @@ payoffs_but : (done : List Fraction) (T : List Spelled → Type 0)
     → AlikeBut kinds.Close (Part (Behind done) T) (PayoffIn done (Part AreMorePayoffs T))
 payoffs_but [] T = record { to = λ ss fits l. to ss fits l.0 l.1 l.2 l.3; back = λ ss l. let later = l.3 in (l.0 ∷ later.0, later.1, (l.1, l.2, later.2), later.3) }
   where
-    to : (ss : List Spelled) → FirstIsOther kinds.Close ss → (v : List Fraction) (rest : List Spelled) → ArePayoffs v ss rest → T rest → Part IsFraction (Part AreMorePayoffs T) ss
+    to : (ss : List Spelled) → FirstIsOther kinds.Close ss → (v : List Fraction) (rest : List Spelled)
+        → ArePayoffs v ss rest → T rest → Part IsFraction (Part AreMorePayoffs T) ss
     to ss fits [] rest is there = absurd (let clash = subst (FirstIsOther kinds.Close) is fits in clash refl)
     to ss fits (f ∷ fs) rest is there = (f, is.0, is.1, (fs, rest, is.2, there))
 payoffs_but (d ∷ ds) T = record { to = λ ss fits l. to ss fits l.0 l.1 l.2 l.3; back = back }
   where
-    parted_is : (f : Fraction) (ss parted done : List Spelled) → (ss ≡ parted) ⊎ (ss ≡ comma ∷ parted) → IsFraction f parted done → Part AreMorePayoffs T done → Parted (Part IsFraction (Part AreMorePayoffs T)) ss
+    parted_is : (f : Fraction) (ss parted done : List Spelled) → (ss ≡ parted) ⊎ (ss ≡ comma ∷ parted)
+        → IsFraction f parted done → Part AreMorePayoffs T done → Parted (Part IsFraction (Part AreMorePayoffs T)) ss
     parted_is f ss parted done (inl same) is there = inl (f, done, subst (λ tokens. IsFraction f tokens done) (sym same) is, there)
     parted_is f ss parted done (inr same) is there = inr (parted, same, (f, done, is, there))
 
-    to : (ss : List Spelled) → FirstIsOther kinds.Close ss → (v : List Fraction) (rest : List Spelled) → AreMorePayoffs v ss rest → T rest → Parted (Part IsFraction (Part AreMorePayoffs T)) ss
+    to : (ss : List Spelled) → FirstIsOther kinds.Close ss → (v : List Fraction) (rest : List Spelled)
+        → AreMorePayoffs v ss rest → T rest → Parted (Part IsFraction (Part AreMorePayoffs T)) ss
     to ss fits [] rest is there = absurd (let clash = subst (FirstIsOther kinds.Close) is fits in clash refl)
     to ss fits (f ∷ fs) rest is there = parted_is f ss is.0 is.1 is.2 is.3 (fs, rest, is.4, there)
 
@@ -131,7 +138,8 @@ payoffs_open [] T l = unfinished l.0 l.1 l.2
     unfinished (f ∷ fs) rest is = let e = is.1.spelling in cc
 payoffs_open (d ∷ ds) T l = unfinished l.0 l.1 l.2
   where
-    parted : (f : Fraction) (tokens done : List Spelled) → ([] ≡ tokens) ⊎ ([] ≡ comma ∷ tokens) → IsFraction f tokens done → ⊥
+    parted : (f : Fraction) (tokens done : List Spelled) → ([] ≡ tokens) ⊎ ([] ≡ comma ∷ tokens)
+        → IsFraction f tokens done → ⊥
     parted f tokens done (inl same) is = let e = same ∙ is.spelling in cc
     parted f tokens done (inr same) is = cc
 
@@ -152,7 +160,8 @@ payoffs_goes zero done whole at within left_is = spent HasWord (Part (Behind don
 payoffs_goes (suc left) done whole at within left_is =
     chosen (next_is close_byte whole at) refl (λ payoff inner grown. payoffs_goes left (done ++ payoff.0 ∷ []) whole payoff.1 inner (omega (arith, grown, left_is)))
   where
-    chosen : (b : Bool) → next_is close_byte whole at ≡ b → ((payoff : Fraction × ℕ) → payoff.1 ≤ length whole → at + 1 ≤ payoff.1 → Goes 1 HasWord (Part (Behind (done ++ payoff.0 ∷ []))) whole payoff.1 (payoffs_from left (done ++ payoff.0 ∷ []) whole payoff.1))
+    chosen : (b : Bool) → next_is close_byte whole at ≡ b
+        → ((payoff : Fraction × ℕ) → payoff.1 ≤ length whole → at + 1 ≤ payoff.1 → Goes 1 HasWord (Part (Behind (done ++ payoff.0 ∷ []))) whole payoff.1 (payoffs_from left (done ++ payoff.0 ∷ []) whole payoff.1))
         → Goes 1 HasWord (Part (Behind done)) whole at (cond b (close_at done whole at) (payoff_at done whole at >>= λ payoff. payoffs_from left (done ++ payoff.0 ∷ []) whole payoff.1))
     chosen true is again = close_goes done HasWord (Part (Behind done)) whole at within is (λ T word. payoffs_closed done T)
     chosen false is again =
@@ -164,7 +173,8 @@ payoff_list_after : (T : List Spelled → Type 0) → NoFirst kinds.Open T
     → Alike (After open_brace (Part IsPayoffList T)) (Part ArePayoffs T)
 payoff_list_after T apart = record { to = λ ss l. to ss l.0 l.1 l.2 l.3; back = λ ss l. (Some l.0, l.1, (ss, refl, l.2), l.3) }
   where
-    to : (ss : List Spelled) (v : Option (List Fraction)) (rest : List Spelled) → IsPayoffList v (open_brace ∷ ss) rest → T rest → Part ArePayoffs T ss
+    to : (ss : List Spelled) (v : Option (List Fraction)) (rest : List Spelled) → IsPayoffList v (open_brace ∷ ss) rest
+        → T rest → Part ArePayoffs T ss
     to ss None rest is there = absurd (apart.apart open_brace ss (subst T (sym is) there) refl)
     to ss (Some fs) rest is there =
         let same : is.0 ≡ ss = let e = is.1 in cc in
@@ -173,7 +183,8 @@ payoff_list_after T apart = record { to = λ ss l. to ss l.0 l.1 l.2 l.3; back =
 payoff_list_but : (T : List Spelled → Type 0) → AlikeBut kinds.Open (Part IsPayoffList T) T
 payoff_list_but T = record { to = λ ss fits l. to ss fits l.0 l.1 l.2 l.3; back = λ ss there. (None, ss, refl, there) }
   where
-    to : (ss : List Spelled) → FirstIsOther kinds.Open ss → (v : Option (List Fraction)) (rest : List Spelled) → IsPayoffList v ss rest → T rest → T ss
+    to : (ss : List Spelled) → FirstIsOther kinds.Open ss → (v : Option (List Fraction)) (rest : List Spelled)
+        → IsPayoffList v ss rest → T rest → T ss
     to ss fits None rest is there = subst T (sym is) there
     to ss fits (Some fs) rest is there = absurd (let clash = subst (FirstIsOther kinds.Open) is.1 fits in clash refl)
 

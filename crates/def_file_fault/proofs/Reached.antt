@@ -42,7 +42,8 @@ behind_is : (whole title : List ℕ) (names : List (List ℕ)) (end : ℕ) → I
 behind_is whole title names end is = prologue_is whole 0 ∙ ap (λ r. r >>= behind_head whole) (head_decided whole title names end is)
 
 behind_two : (whole title one second : List ℕ) (end : ℕ)
-    → behind_head whole ((title, one ∷ second ∷ []), end) ≡ (name_at whole end >>= λ comment. Ok (record { title = title; one = one; two = second; comment = unwrap_or comment.0 [] }, comment.1))
+    → behind_head whole ((title, one ∷ second ∷ []), end)
+    ≡ (name_at whole end >>= λ comment. Ok (record { title = title; one = one; two = second; comment = unwrap_or comment.0 [] }, comment.1))
 unfolding behind_head
 behind_two whole title one second end = refl
 
@@ -85,7 +86,8 @@ entry_wanted rs r more begins =
 
 -- where the tree is open another entry is read, and where it is whole none
 more_here : (left : ℕ) (contents : Contents) (whole : List ℕ) (at : ℕ) → wanted 1 contents.nodes ≢ 0
-    → entries_from (suc left) contents whole at ≡ (entry_at whole at >>= λ x. judged contents x.0 >>= λ next. entries_from left next whole x.1)
+    → entries_from (suc left) contents whole at
+    ≡ (entry_at whole at >>= λ x. judged contents x.0 >>= λ next. entries_from left next whole x.1)
 unfolding entries_from
 more_here left contents whole at some = rw (ne_eqb (wanted 1 contents.nodes) 0 some) refl
 
@@ -103,7 +105,8 @@ judged_fault contents r fault is = ap (λ found. unless_fault found (with_record
 entries_run : (whole : List ℕ) (done rs : List Record) (at end fuel left : ℕ) → at ≤ length whole
     → AreEntriesFrom whole at rs end → HaveNoFault (done ++ rs) → Begins 1 (contents_of (done ++ rs)).nodes
     → fuel ≡ length rs + left
-    → (entries_from fuel (contents_of done) whole at ≡ entries_from left (contents_of (done ++ rs)) whole end) × (end ≤ length whole)
+    → (entries_from fuel (contents_of done) whole at ≡ entries_from left (contents_of (done ++ rs)) whole end)
+    × (end ≤ length whole)
 entries_run whole done [] at end fuel left within are no_fault begins fuel_is =
     let same : fuel ≡ left = omega (arith, fuel_is) in
     ((λ i. entries_from (same i) (contents_of (sym (append-nil done) i)) whole (are i)), omega (arith, are, within))

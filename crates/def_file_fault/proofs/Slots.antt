@@ -20,7 +20,8 @@ use Rattle.def_file_fault.proofs.Nexts.{step_grows, TextNext, closed, unclosed, 
 use Rattle.def_file_fault.proofs.Along.{HasWord, Goes, goes_past, goes_stuck, FirstTaken, IsTest, Begins, goes_token}
 
 -- some part, and then what follows
-abbrev pub Part : {A : Type 0} → (A → List Spelled → List Spelled → Type 0) → (List Spelled → Type 0) → List Spelled → Type 0
+abbrev pub Part : {A : Type 0} → (A → List Spelled → List Spelled → Type 0) → (List Spelled → Type 0) → List Spelled
+    → Type 0
 Part {A} R T ss = (v : A) × (rest : List Spelled) × R v ss rest × T rest
 
 -- Tests.
@@ -55,11 +56,13 @@ number_test = record {
 
 -- Parts of one token that fits.
 
+-- the part is always one token, which fits, and each token that fits is the part for some value
 pub record OneToken {A : Type 0} (R : A → List Spelled → List Spelled → Type 0) (Fits : Spelled → Type 0) : Type 0 where
   pub to : (v : A) (ss rest : List Spelled) → R v ss rest → (s : Spelled) × (ss ≡ s ∷ rest) × Fits s
   pub back : (s : Spelled) → Fits s → (v : A) × ((rest : List Spelled) → R v (s ∷ rest) rest)
 
 module _ {A : Type 0} (R : A → List Spelled → List Spelled → Type 0) (Fits : Spelled → Type 0) (one : OneToken R Fits) where
+  -- behind a token that fits, a part of one token and then what follows have just the words of what follows
   pub one_alike : (s : Spelled) → Fits s → (T : List Spelled → Type 0) → Alike (After s (Part R T)) T
   one_alike s fits T = record {
     to = λ ss l. let found = one.to l.0 (s ∷ ss) l.1 l.2 in let same : l.1 ≡ ss = let e = found.1 in cc in subst T same l.3;
@@ -69,6 +72,7 @@ module _ {A : Type 0} (R : A → List Spelled → List Spelled → Type 0) (Fits
   pub one_word : (s : Spelled) → Fits s → (T : List Spelled → Type 0) → HasWord T → HasWord (Part R T)
   one_word s fits T word = (s ∷ word.0, (one_alike s fits T).back word.0 word.1)
 
+  -- where some token fits, and each that fits passes a test, only tokens that pass it come first in a part of one
   pub one_begins : (test : Spelled → Bool) (s : Spelled) → Fits s → ((u : Spelled) → Fits u → test u ≡ true)
       → Begins HasWord (Part R) test
   one_begins test s fits passes = record {
@@ -126,7 +130,8 @@ pub record NoFirst (kind : Token) (T : List Spelled → Type 0) : Type 0 where
 name_but : (T : List Spelled → Type 0) → AlikeBut kinds.Text (Part IsName T) T
 name_but T = record { to = λ ss fits l. to ss fits l.0 l.1 l.2 l.3; back = λ ss there. (None, ss, refl, there) }
   where
-    to : (ss : List Spelled) → FirstIsOther kinds.Text ss → (v : Option (List ℕ)) (rest : List Spelled) → IsName v ss rest → T rest → T ss
+    to : (ss : List Spelled) → FirstIsOther kinds.Text ss → (v : Option (List ℕ)) (rest : List Spelled)
+        → IsName v ss rest → T rest → T ss
     to ss fits None rest is there = subst T (sym is) there
     to ss fits (Some bytes) rest is there = absurd (let clash = subst (FirstIsOther kinds.Text) is.spelling fits in clash refl)
 
@@ -154,7 +159,8 @@ pub name_goes : (whole : List ℕ) (at : ℕ) → at ≤ length whole
 unfolding name_at
 name_goes whole at within = chosen (next_is mark whole at) refl
   where
-    given : TextNext whole at → Goes 0 (NoFirst kinds.Text) (Part IsName) whole at (text_at whole at >>= λ text. Ok (Some text.0, text.1))
+    given : TextNext whole at
+        → Goes 0 (NoFirst kinds.Text) (Part IsName) whole at (text_at whole at >>= λ text. Ok (Some text.0, text.1))
     given (closed t next is) =
         let step : Step whole at t = record { next = next; not_end = λ ends. let clash : kinds.Text ≡ kinds.End = sym is ∙ ends in cc } in
         let grown = step_grows whole at within t step in
@@ -174,7 +180,8 @@ name_goes whole at within = chosen (next_is mark whole at) refl
           halt = Halt.no_mark p refl next (λ l. ([], no_inside, (none.word.0, (name_after T none (text []) ([], no_inside, refl)).back none.word.0 none.word.1)));
         }))
 
-    chosen : (b : Bool) → next_is mark whole at ≡ b → Goes 0 (NoFirst kinds.Text) (Part IsName) whole at (cond b (text_at whole at >>= λ text. Ok (Some text.0, text.1)) (Ok (None, at)))
+    chosen : (b : Bool) → next_is mark whole at ≡ b
+        → Goes 0 (NoFirst kinds.Text) (Part IsName) whole at (cond b (text_at whole at >>= λ text. Ok (Some text.0, text.1)) (Ok (None, at)))
     chosen true is = given (text_next whole at is)
     chosen false is = goes_past 0 (NoFirst kinds.Text) (Part IsName) whole at (None, at) (record {
       within = within;

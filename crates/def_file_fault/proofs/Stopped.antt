@@ -166,7 +166,9 @@ module _ (whole : List ℕ) (p : Prologue) (most : ℕ) (most_is : most ≡ most
       Again : Type 0
       Again = (r : Record) (end : ℕ) → end ≤ length whole → (next : Contents) → next ≡ contents_of (rs ++ r ∷ []) → IsReadUpTo whole p (rs ++ r ∷ []) end → Answer whole p (entries_from left next whole end)
 
-      judge : 0 < wanted 1 (contents_of rs).nodes → (x : Record × ℕ) → WholeRead IsEntryTokens IsEntry whole at x.0 x.1 → (j : Result Contents FileFault) → judged contents x.0 ≡ j → Again → Answer whole p (j >>= λ next. entries_from left next whole x.1)
+      judge : 0 < wanted 1 (contents_of rs).nodes → (x : Record × ℕ) → WholeRead IsEntryTokens IsEntry whole at x.0 x.1
+          → (j : Result Contents FileFault) → judged contents x.0 ≡ j → Again
+          → Answer whole p (j >>= λ next. entries_from left next whole x.1)
       judge some x w (Ok next) is again =
           let ok = judged_ok contents x.0 next is in
           again x.0 x.1 w.within next (ok.1 ∙ ap (λ c. with_record c x.0) known ∙ sym (one_more rs x.0)) (read_more whole p rs at x.0 x.1 read some (entry_from whole at x.0 x.1 w) (ap (λ c. record_fault c x.0) (sym known) ∙ ok.0))
@@ -182,11 +184,13 @@ module _ (whole : List ℕ) (p : Prologue) (most : ℕ) (most_is : most ≡ most
         rule = (entry_fault_is_first_broken rs x.0 fault read.no_fault).0 (ap (λ c. record_fault c x.0) (sym known) ∙ judged_err contents x.0 fault is);
       })
 
-      entry : 0 < wanted 1 (contents_of rs).nodes → (e : Result (Record × ℕ) FileFault) → entry_at whole at ≡ e → Again → Answer whole p (e >>= λ x. judged contents x.0 >>= λ next. entries_from left next whole x.1)
+      entry : 0 < wanted 1 (contents_of rs).nodes → (e : Result (Record × ℕ) FileFault) → entry_at whole at ≡ e → Again
+          → Answer whole p (e >>= λ x. judged contents x.0 >>= λ next. entries_from left next whole x.1)
       entry some (Ok x) is again = judge some x (entry_whole whole at within x is) (judged contents x.0) refl again
       entry some (Err fault) is again = in_entry (record { prologue = p; entries = rs; end = at; read = read; open_tree = λ none. omega (arith, some, none); offends = offends _ whole at fault (entry_stuck whole at within fault is) })
 
-      chosen : (b : Bool) → nat_eq (wanted 1 contents.nodes) 0 ≡ b → Again → Answer whole p (cond b (Ok (contents, at)) (entry_at whole at >>= λ x. judged contents x.0 >>= λ next. entries_from left next whole x.1))
+      chosen : (b : Bool) → nat_eq (wanted 1 contents.nodes) 0 ≡ b → Again
+          → Answer whole p (cond b (Ok (contents, at)) (entry_at whole at >>= λ x. judged contents x.0 >>= λ next. entries_from left next whole x.1))
       chosen true is again = record { entries = rs; read = read; whole_tree = ap (λ (c : Contents). wanted 1 c.nodes) (sym known) ∙ eqb-true _ 0 is; known = known; within = within }
       chosen false is again =
           let none : wanted 1 contents.nodes ≢ 0 = eqb-false _ 0 is in
@@ -216,11 +220,14 @@ pub nothing_fault : (whole : List ℕ) (at : ℕ) → at ≤ length whole → (f
 unfolding nothing_at
 nothing_fault whole at within fault e = by_next (next_from whole at) refl e
   where
-    chosen : (l : Lexeme) (b : Bool) → is_kind kinds.End l.kind ≡ b → next_from whole at ≡ Ok l → cond b (Ok l.end) (Err (TrailingText l.start)) ≡ Err fault → (place : ℕ) × IsFirstByteFrom whole at place × (fault ≡ TrailingText place)
+    chosen : (l : Lexeme) (b : Bool) → is_kind kinds.End l.kind ≡ b → next_from whole at ≡ Ok l
+        → cond b (Ok l.end) (Err (TrailingText l.start)) ≡ Err fault
+        → (place : ℕ) × IsFirstByteFrom whole at place × (fault ≡ TrailingText place)
     chosen l true is next e = absurd cc
     chosen l false is next e = (l.start, token_first_byte whole at within l (record { next = next; not_end = λ ends. let clash : true ≡ false = sym (ap (is_kind kinds.End) ends) ∙ is in cc }), cc)
 
-    by_next : (r : Result Lexeme LexFault) → next_from whole at ≡ r → trailing r ≡ Err fault → (place : ℕ) × IsFirstByteFrom whole at place × (fault ≡ TrailingText place)
+    by_next : (r : Result Lexeme LexFault) → next_from whole at ≡ r → trailing r ≡ Err fault
+        → (place : ℕ) × IsFirstByteFrom whole at place × (fault ≡ TrailingText place)
     by_next (Ok l) next e = chosen l (is_kind kinds.End l.kind) refl next e
     by_next (Err (lexing.Syntax place)) next e = (place, (next_from-syntax whole at within place next).first, cc)
     by_next (Err (lexing.Unclosed place)) next e = (place, (next_from-unclosed whole at within place next).first, cc)

@@ -48,6 +48,7 @@ module _ (whole : List ℕ) (at : ℕ) where
       let clash : true ≡ false = sym (space_at l.start place is.space byte.from (omega (arith, starts, byte.within)) (omega (arith, is.order, is.within))) ∙ byte.byte in
       cc
 
+  -- where a byte that isn't white space comes first, the end isn't read, but trailing text found at this byte
   pub trailing_decided : at ≤ length whole → (place : ℕ) → IsFirstByteFrom whole at place
       → nothing_at whole at ≡ Err (TrailingText place)
   trailing_decided within place byte = by_reading (nothing_at whole at) refl

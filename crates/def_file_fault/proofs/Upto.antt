@@ -20,7 +20,8 @@ use Rattle.def_file_fault.proofs.Heads.{head_goes}
 
 -- Tokens from one offset up to another.
 
-pub are_next : (whole : List ℕ) (at : ℕ) (ss : List Spelled) (end : ℕ) → StandUpTo whole at ss end → AreNext whole at ss end
+pub are_next : (whole : List ℕ) (at : ℕ) (ss : List Spelled) (end : ℕ) → StandUpTo whole at ss end
+    → AreNext whole at ss end
 are_next whole at [] end takes = takes
 are_next whole at (s ∷ ss) end takes = let step = takes.1 in (takes.0, step.next, step.not_end, step.spelled, are_next whole takes.0.end ss end takes.2)
 

@@ -2,7 +2,8 @@
 -- number of players, then the comment, then the entries one after the other, and last what stands behind them. Of each
 -- entry the first token that can't be taken counts before the rules of sets and outcomes.
 --     IsHeadTokens, IsCommentTokens, IsEntryTokens      tokens that are the whole of such a part
---     IsReadUpTo bytes p rs end                         the prologue and these entries, without a fault, up to an offset
+--     IsReadUpTo bytes p rs end                         the prologue and these entries, without a fault,
+--                                                       up to an offset
 --     FirstFault bytes fault                            the fault is the first
 use Rattle.std.specs.Prelude.{◌≡◌, ◌≢◌, ℕ, List, [], ◌∷◌, length, unwrap_or, Option}
 use Rattle.def_file_tokens.specs.Spelling.{IsFirstByteFrom}

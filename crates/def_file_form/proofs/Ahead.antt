@@ -23,6 +23,7 @@ abbrev pub AllFrom : List ℕ → ℕ → List Spelled → Type 0
 AllFrom whole at [] = next_from whole at ≡ Ok (span kinds.End (length whole) (length whole))
 AllFrom whole at (s ∷ ss) = (l : Lexeme) × Step whole at l s × AllFrom whole l.end ss
 
+-- from an offset within the bytes these tokens come, and then the end
 pub record Ahead (whole : List ℕ) (at : ℕ) (ss : List Spelled) : Type 0 where
   pub within : at ≤ length whole
   pub next : AllFrom whole at ss

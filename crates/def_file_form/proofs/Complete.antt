@@ -61,7 +61,8 @@ name_taken whole at (Some b) tokens rest is behind ahead =
 
 -- Numbers.
 
-pub number_taken : {A : Type 0} (as_read : List ℕ → Result A NumberFault) (whole : List ℕ) (at : ℕ) (bytes : List ℕ) (v : A) (tokens rest : List Spelled)
+pub number_taken : {A : Type 0} (as_read : List ℕ → Result A NumberFault) (whole : List ℕ) (at : ℕ) (bytes : List ℕ)
+    (v : A) (tokens rest : List Spelled)
     → tokens ≡ number bytes ∷ rest → as_read bytes ≡ Ok v → Ahead whole at tokens
     → Taken whole (number_at as_read whole at) v rest
 number_taken as_read whole at bytes v tokens rest is ok ahead =
@@ -143,7 +144,8 @@ chance_length Chance v tokens rest is = omega (arith, ap length is.spelling)
 chance_length Personal v tokens rest is = omega (arith, ap length is.1)
 chance_length Leaf v tokens rest is = omega (arith, ap length is.1)
 
-pub actions_taken : (kind : EntryKind) (left : ℕ) (done more : List Action) (whole : List ℕ) (at : ℕ) (tokens rest : List Spelled)
+pub actions_taken : (kind : EntryKind) (left : ℕ) (done more : List Action) (whole : List ℕ) (at : ℕ)
+    (tokens rest : List Spelled)
     → AreActionsUpTo kind more tokens rest → length tokens ≤ left → Ahead whole at tokens
     → Taken whole (actions_from kind left done whole at) (done ++ more) rest
 unfolding actions_from
@@ -165,7 +167,8 @@ open_first : (whole : List ℕ) (at : ℕ) (rest : List Spelled) → Ahead whole
     → next_is open_byte whole at ≡ true
 open_first whole at rest a = is_first open_byte 123 open_brace [] rest whole at refl refl a
 
-pub action_list_taken : (kind : EntryKind) (whole : List ℕ) (at : ℕ) (v : Option (List Action)) (tokens rest : List Spelled)
+pub action_list_taken : (kind : EntryKind) (whole : List ℕ) (at : ℕ) (v : Option (List Action))
+    (tokens rest : List Spelled)
     → IsActionList kind v tokens rest → NotNext open_byte rest → Ahead whole at tokens
     → Taken whole (actions_at kind whole at) v rest
 unfolding actions_at
@@ -268,6 +271,7 @@ payoff_list_taken whole at (Some payoffs) tokens rest is behind ahead =
 
 -- Sets and outcomes. What comes behind is neither a text nor an opening brace.
 
+-- neither a quotation mark nor an opening brace comes next
 pub record IsClear (rest : List Spelled) : Type 0 where
   pub no_text : NotNext mark rest
   pub no_brace : NotNext open_byte rest

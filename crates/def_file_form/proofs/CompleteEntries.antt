@@ -36,7 +36,8 @@ abbrev is_word : List ℕ → Spelled → Bool
 is_word bytes s = is_kind kinds.Word s.kind && pointwise nat_eq s.bytes bytes
 
 take_head : (bytes : List ℕ) (whole : List ℕ) (at : ℕ) (l : Lexeme)
-    → (pointwise nat_eq bytes (codes "c") || (pointwise nat_eq bytes (codes "p") || pointwise nat_eq bytes (codes "t"))) ≡ true
+    → (pointwise nat_eq bytes (codes "c") || (pointwise nat_eq bytes (codes "p") || pointwise nat_eq bytes (codes "t")))
+    ≡ true
     → Step whole at l (word bytes) → token_where (begins_entry whole) whole at ≡ Ok l
 take_head bytes whole at l passes step = by_spelling (λ s. is_word (codes "c") s || (is_word (codes "p") s || is_word (codes "t") s)) whole at l (word bytes) step passes
 

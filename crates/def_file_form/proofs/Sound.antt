@@ -34,7 +34,8 @@ pub name_read : (whole : List ℕ) (at : ℕ) → at ≤ length whole → (read 
 unfolding name_at
 name_read whole at within read e = chosen (next_is mark whole at) e
   where
-    chosen : (b : Bool) → cond b (text_at whole at >>= λ text. Ok (Some text.0, text.1)) (Ok (None, at)) ≡ Ok read → Read whole at read.1 (IsName read.0)
+    chosen : (b : Bool) → cond b (text_at whole at >>= λ text. Ok (Some text.0, text.1)) (Ok (None, at)) ≡ Ok read
+        → Read whole at read.1 (IsName read.0)
     chosen true e =
         then_ok (text_at whole at) _ _ e (λ text e0 e.
         let same : (Some text.0, text.1) ≡ read = cc in
@@ -78,7 +79,8 @@ whole_ok : (bytes : List ℕ) (n : ℕ) (tokens rest : List Spelled) → read_as
 unfolding read_as_whole
 whole_ok bytes n tokens rest e one = chosen (is_numeral bytes) (nat_le (number_of bytes) most) refl refl e
   where
-    chosen : (b c : Bool) → is_numeral bytes ≡ b → nat_le (number_of bytes) most ≡ c → cond b (cond c (Ok (number_of bytes)) (Err Range)) (Err Form) ≡ Ok n → IsWholeNumber n tokens rest
+    chosen : (b c : Bool) → is_numeral bytes ≡ b → nat_le (number_of bytes) most ≡ c
+        → cond b (cond c (Ok (number_of bytes)) (Err Range)) (Err Form) ≡ Ok n → IsWholeNumber n tokens rest
     chosen true true numeral limit e =
         let same : number_of bytes ≡ n = cc in
         record { digits = bytes; numeral = numeral; value = same; limit = subst (λ k. k ≤ most) same (leb-true (number_of bytes) most limit); spelling = one }
@@ -161,7 +163,8 @@ actions_read kind zero done whole at within read e = absurd cc
 actions_read kind (suc left) done whole at within read e =
     chosen (next_is close_byte whole at) e (λ action inner e. actions_read kind left (done ++ action.0 ∷ []) whole action.1 inner read e)
   where
-    chosen : (b : Bool) → cond b (close_at done whole at) (action_at kind whole at >>= λ action. actions_from kind left (done ++ action.0 ∷ []) whole action.1) ≡ Ok read
+    chosen : (b : Bool)
+        → cond b (close_at done whole at) (action_at kind whole at >>= λ action. actions_from kind left (done ++ action.0 ∷ []) whole action.1) ≡ Ok read
         → ((action : Action × ℕ) → action.1 ≤ length whole → actions_from kind left (done ++ action.0 ∷ []) whole action.1 ≡ Ok read → ItemsRead (AreActionsUpTo kind) (done ++ action.0 ∷ []) whole action.1 read)
         → ItemsRead (AreActionsUpTo kind) done whole at read
     chosen true e again =
@@ -184,7 +187,8 @@ pub action_list_read : (kind : EntryKind) (whole : List ℕ) (at : ℕ) → at �
 unfolding actions_at
 action_list_read kind whole at within read e = chosen (next_is open_byte whole at) e
   where
-    chosen : (b : Bool) → cond b (token_where (is_token kinds.Open whole) whole at >>= λ opening. actions_from kind (length whole) [] whole opening.end >>= λ actions. Ok (Some actions.0, actions.1)) (Ok (None, at)) ≡ Ok read
+    chosen : (b : Bool)
+        → cond b (token_where (is_token kinds.Open whole) whole at >>= λ opening. actions_from kind (length whole) [] whole opening.end >>= λ actions. Ok (Some actions.0, actions.1)) (Ok (None, at)) ≡ Ok read
         → Read whole at read.1 (IsActionList kind read.0)
     chosen true e =
         then_ok (token_where (is_token kinds.Open whole) whole at) _ _ e (λ opening e0 e.
@@ -217,7 +221,9 @@ comma_read : (done : List Fraction) (whole : List ℕ) (at : ℕ) → at ≤ len
 comma_read [] whole at within read e = let same : at ≡ read = cc in subst (λ n. Read whole at n IsNone) same (read_none whole at within)
 comma_read (d ∷ ds) whole at within read e = chosen (next_is comma_byte whole at) e
   where
-    chosen : (b : Bool) → cond b (token_where (is_token kinds.Comma whole) whole at >>= λ token. Ok token.end) (Ok at) ≡ Ok read → Read whole at read MayPart
+    chosen : (b : Bool)
+        → cond b (token_where (is_token kinds.Comma whole) whole at >>= λ token. Ok token.end) (Ok at) ≡ Ok read
+        → Read whole at read MayPart
     chosen true e =
         then_ok (token_where (is_token kinds.Comma whole) whole at) _ _ e (λ token e0 e.
         let same : token.end ≡ read = cc in
@@ -256,7 +262,8 @@ payoffs_read zero done whole at within read e = absurd cc
 payoffs_read (suc left) done whole at within read e =
     chosen (next_is close_byte whole at) e (λ payoff inner e. payoffs_read left (done ++ payoff.0 ∷ []) whole payoff.1 inner read e)
   where
-    chosen : (b : Bool) → cond b (close_at done whole at) (payoff_at done whole at >>= λ payoff. payoffs_from left (done ++ payoff.0 ∷ []) whole payoff.1) ≡ Ok read
+    chosen : (b : Bool)
+        → cond b (close_at done whole at) (payoff_at done whole at >>= λ payoff. payoffs_from left (done ++ payoff.0 ∷ []) whole payoff.1) ≡ Ok read
         → ((payoff : Fraction × ℕ) → payoff.1 ≤ length whole → payoffs_from left (done ++ payoff.0 ∷ []) whole payoff.1 ≡ Ok read → ItemsRead (ArePayoffsBehind (done ++ payoff.0 ∷ [])) (done ++ payoff.0 ∷ []) whole payoff.1 read)
         → ItemsRead (ArePayoffsBehind done) done whole at read
     chosen true e again =
@@ -278,7 +285,8 @@ pub payoff_list_read : (whole : List ℕ) (at : ℕ) → at ≤ length whole →
 unfolding payoffs_at
 payoff_list_read whole at within read e = chosen (next_is open_byte whole at) e
   where
-    chosen : (b : Bool) → cond b (token_where (is_token kinds.Open whole) whole at >>= λ opening. payoffs_from (length whole) [] whole opening.end >>= λ payoffs. Ok (Some payoffs.0, payoffs.1)) (Ok (None, at)) ≡ Ok read
+    chosen : (b : Bool)
+        → cond b (token_where (is_token kinds.Open whole) whole at >>= λ opening. payoffs_from (length whole) [] whole opening.end >>= λ payoffs. Ok (Some payoffs.0, payoffs.1)) (Ok (None, at)) ≡ Ok read
         → Read whole at read.1 (IsPayoffList read.0)
     chosen true e =
         then_ok (token_where (is_token kinds.Open whole) whole at) _ _ e (λ opening e0 e.

@@ -94,10 +94,12 @@ entry_read whole at within read e =
     let found = token_ok (begins_entry whole) whole at head e0 in
     chosen head (is_exact kinds.Word (codes "c") whole head) (is_exact kinds.Word (codes "p") whole head) refl refl found.0 found.1 e)
   where
-    step : (head : Lexeme) (bytes : List ℕ) → next_from whole at ≡ Ok head → is_exact kinds.Word bytes whole head ≡ true → Step whole at head (word bytes)
+    step : (head : Lexeme) (bytes : List ℕ) → next_from whole at ≡ Ok head → is_exact kinds.Word bytes whole head ≡ true
+        → Step whole at head (word bytes)
     step head bytes next is = exact_here whole at within head kinds.Word bytes (λ clash. cc) next is
 
-    chosen : (head : Lexeme) (b c : Bool) → is_exact kinds.Word (codes "c") whole head ≡ b → is_exact kinds.Word (codes "p") whole head ≡ c → next_from whole at ≡ Ok head
+    chosen : (head : Lexeme) (b c : Bool) → is_exact kinds.Word (codes "c") whole head ≡ b
+        → is_exact kinds.Word (codes "p") whole head ≡ c → next_from whole at ≡ Ok head
         → (b || (c || is_exact kinds.Word (codes "t") whole head)) ≡ true
         → cond b (chance_entry_at whole head.end) (cond c (personal_entry_at whole head.end) (terminal_entry_at whole head.end)) ≡ Ok read
         → Read whole at read.1 (IsEntry read.0)
@@ -120,7 +122,8 @@ names_read zero done whole at within read e = absurd cc
 names_read (suc left) done whole at within read e =
     chosen (next_is close_byte whole at) e (λ text inner e. names_read left (done ++ text.0 ∷ []) whole text.1 inner read e)
   where
-    chosen : (b : Bool) → cond b (close_at done whole at) (text_at whole at >>= λ text. names_from left (done ++ text.0 ∷ []) whole text.1) ≡ Ok read
+    chosen : (b : Bool)
+        → cond b (close_at done whole at) (text_at whole at >>= λ text. names_from left (done ++ text.0 ∷ []) whole text.1) ≡ Ok read
         → ((text : List ℕ × ℕ) → text.1 ≤ length whole → names_from left (done ++ text.0 ∷ []) whole text.1 ≡ Ok read → ItemsRead AreNames (done ++ text.0 ∷ []) whole text.1 read)
         → ItemsRead AreNames done whole at read
     chosen true e again =
@@ -146,7 +149,8 @@ two_names (a ∷ b ∷ c ∷ more) is = absurd (omega (arith, is))
 checked_ok : (names : List (List ℕ)) (at read : ℕ) → checked_names names at ≡ Ok read → (length names ≡ 2) × (at ≡ read)
 checked_ok names at read e = chosen (nat_eq (length names) 2) refl e
   where
-    chosen : (b : Bool) → nat_eq (length names) 2 ≡ b → cond b (Ok at) (Err (Players (length names))) ≡ Ok read → (length names ≡ 2) × (at ≡ read)
+    chosen : (b : Bool) → nat_eq (length names) 2 ≡ b → cond b (Ok at) (Err (Players (length names))) ≡ Ok read
+        → (length names ≡ 2) × (at ≡ read)
     chosen true is e = (eqb-true (length names) 2 is, cc)
     chosen false is e = absurd cc
 
@@ -158,7 +162,9 @@ numbers_step whole at within l e =
     let found = token_ok (is_numbers whole) whole at l e in
     chosen (either (is_exact kinds.Word (codes "R") whole l) (is_exact kinds.Word (codes "D") whole l) found.1) found.0
   where
-    chosen : (is_exact kinds.Word (codes "R") whole l ≡ true) ⊎ ((is_exact kinds.Word (codes "R") whole l ≡ false) × (is_exact kinds.Word (codes "D") whole l ≡ true)) → next_from whole at ≡ Ok l
+    chosen : (is_exact kinds.Word (codes "R") whole l ≡ true)
+        ⊎ ((is_exact kinds.Word (codes "R") whole l ≡ false) × (is_exact kinds.Word (codes "D") whole l ≡ true))
+        → next_from whole at ≡ Ok l
         → (s : Spelled) × ((s ≡ word (codes "R")) ⊎ (s ≡ word (codes "D"))) × Step whole at l s
     chosen (inl is) next = (word (codes "R"), inl refl, exact_here whole at within l kinds.Word (codes "R") (λ clash. cc) next is)
     chosen (inr is) next = (word (codes "D"), inr refl, exact_here whole at within l kinds.Word (codes "D") (λ clash. cc) next is.1)

@@ -64,7 +64,8 @@ pub token_ok : (test : Lexeme → Bool) (whole : List ℕ) (at : ℕ) (l : Lexem
 unfolding token_where
 token_ok test whole at l e = expected_ok (next_from whole at) l e
   where
-    chosen : (b : Bool) (m l : Lexeme) (fault : FileFault) → test m ≡ b → cond b (Ok m) (Err fault) ≡ Ok l → (m ≡ l) × (test m ≡ true)
+    chosen : (b : Bool) (m l : Lexeme) (fault : FileFault) → test m ≡ b → cond b (Ok m) (Err fault) ≡ Ok l
+        → (m ≡ l) × (test m ≡ true)
     chosen true m l fault is e = (cc, is)
     chosen false m l fault is e = absurd cc
 
@@ -104,7 +105,8 @@ pub record Read (whole : List ℕ) (at end : ℕ) (Is : List Spelled → List Sp
   pub is : (rest : List Spelled) → Is (tokens ++ rest) rest
 
 -- one part behind another
-abbrev pub Then : (List Spelled → List Spelled → Type 0) → (List Spelled → List Spelled → Type 0) → List Spelled → List Spelled → Type 0
+abbrev pub Then : (List Spelled → List Spelled → Type 0) → (List Spelled → List Spelled → Type 0) → List Spelled
+    → List Spelled → Type 0
 Then First Second tokens rest = (between : List Spelled) × First tokens between × Second between rest
 
 abbrev pub IsOne : Spelled → List Spelled → List Spelled → Type 0
@@ -149,10 +151,12 @@ module _ (whole : List ℕ) (at : ℕ) (at_within : at ≤ length whole) (l : Le
   respell : (kind : Token) (a b : List ℕ) → a ≡ b → Step whole at l (record { kind = kind; bytes = a }) → Step whole at l (record { kind = kind; bytes = b })
   respell kind a b same step = subst (λ x. Step whole at l (record { kind = kind; bytes = x })) same step
 
+  -- a next token that is of this kind and has these bytes is taken as the token spelled so
   pub exact_here : (kind : Token) (bytes : List ℕ) → kind ≢ kinds.End → next_from whole at ≡ Ok l → is_exact kind bytes whole l ≡ true → Step whole at l (record { kind = kind; bytes = bytes })
   exact_here kind bytes not_end next e =
       respell kind _ bytes (pointwise-true (bytes_at whole l) bytes (and_right _ _ e)) (step_of kind not_end next (is_kind-true kind l.kind (and_left _ _ e)))
 
+  -- where a token of this kind and with these bytes is read, it is the next one, and spelled so
   pub exact_step : (kind : Token) (bytes : List ℕ) → kind ≢ kinds.End → token_where (is_exact kind bytes whole) whole at ≡ Ok l → Step whole at l (record { kind = kind; bytes = bytes })
   exact_step kind bytes not_end e = let found = token_ok (is_exact kind bytes whole) whole at l e in exact_here kind bytes not_end found.0 found.1
 
@@ -167,12 +171,15 @@ module _ (whole : List ℕ) (at : ℕ) (at_within : at ≤ length whole) (l : Le
       let found = token_ok (is_token kind whole) whole at l e in
       mark_here kind bytes not_end fixed found.0 (is_kind-true kind l.kind found.1)
 
+  -- where an opening brace is read, the next token is spelled as one
   pub open_step : token_where (is_token kinds.Open whole) whole at ≡ Ok l → Step whole at l open_brace
   open_step e = mark_step kinds.Open (codes "{") (λ clash. cc) (λ b a is. is) e
 
+  -- where a closing brace is read, the next token is spelled as one
   pub close_step : token_where (is_token kinds.Close whole) whole at ≡ Ok l → Step whole at l close_brace
   close_step e = mark_step kinds.Close (codes "}") (λ clash. cc) (λ b a is. is) e
 
+  -- where a comma is read, the next token is spelled as one
   pub comma_step : token_where (is_token kinds.Comma whole) whole at ≡ Ok l → Step whole at l comma
   comma_step e = mark_step kinds.Comma (codes ",") (λ clash. cc) (λ b a is. is) e
 
@@ -189,10 +196,12 @@ module _ (whole : List ℕ) (at : ℕ) (at_within : at ≤ length whole) (l : Le
         ap unescaped inner.1,
       )
 
+  -- where a text is read, the next token is one, and what it says is what the bytes between its marks stand for
   pub text_step : token_where (is_token kinds.Text whole) whole at ≡ Ok l
       → (inside : List ℕ) × IsInside inside × Step whole at l (text inside) × (token_text whole l ≡ unescaped inside)
   text_step e = let found = token_ok (is_token kinds.Text whole) whole at l e in text_here found.0 (is_kind-true kinds.Text l.kind found.1)
 
+  -- where a number is read, the next token is a number, spelled by the bytes it stands on
   pub number_step : token_where (is_token kinds.Number whole) whole at ≡ Ok l
       → Step whole at l (number (bytes_at whole l))
   number_step e = let found = token_ok (is_token kinds.Number whole) whole at l e in step_of kinds.Number (λ clash. cc) found.0 (is_kind-true kinds.Number l.kind found.1)

@@ -26,11 +26,14 @@ pub nothing_ok : (whole : List ℕ) (at end : ℕ) → nothing_at whole at ≡ O
 unfolding nothing_at
 nothing_ok whole at end e = by_next (next_from whole at) refl e
   where
-    chosen : (l : Lexeme) (b : Bool) → is_kind kinds.End l.kind ≡ b → next_from whole at ≡ Ok l → cond b (Ok l.end) (Err (TrailingText l.start)) ≡ Ok end → (l : Lexeme) × (next_from whole at ≡ Ok l) × (kinds.End ≡ l.kind)
+    chosen : (l : Lexeme) (b : Bool) → is_kind kinds.End l.kind ≡ b → next_from whole at ≡ Ok l
+        → cond b (Ok l.end) (Err (TrailingText l.start)) ≡ Ok end
+        → (l : Lexeme) × (next_from whole at ≡ Ok l) × (kinds.End ≡ l.kind)
     chosen l true is next e = (l, next, is_kind-true kinds.End l.kind is)
     chosen l false is next e = absurd cc
 
-    by_next : (r : Result Lexeme LexFault) → next_from whole at ≡ r → trailing r ≡ Ok end → (l : Lexeme) × (next_from whole at ≡ Ok l) × (kinds.End ≡ l.kind)
+    by_next : (r : Result Lexeme LexFault) → next_from whole at ≡ r → trailing r ≡ Ok end
+        → (l : Lexeme) × (next_from whole at ≡ Ok l) × (kinds.End ≡ l.kind)
     by_next (Ok l) next e = chosen l (is_kind kinds.End l.kind) refl next e
     by_next (Err (lexing.Syntax place)) next e = absurd cc
     by_next (Err (lexing.Unclosed place)) next e = absurd cc

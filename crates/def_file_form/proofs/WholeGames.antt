@@ -17,6 +17,7 @@ use Rattle.def_file_entries.proofs.WholeGames.{entries_make_whole_game}
 use Rattle.def_file_form.specs.Form.{Spelled, IsFraction, IsChance, AreActionsUpTo, IsActionList, AreMorePayoffs, ArePayoffs, IsPayoffList, IsEntryAs, AreEntries}
 use Rattle.def_file_form.specs.Laws.{StandsForWholeGame}
 
+-- a fraction that tokens say is in lowest terms and within the limit
 pub fraction_small : (f : Fraction) (tokens rest : List Spelled) → IsFraction f tokens rest → IsSmallFraction f
 fraction_small f tokens rest is =
     let l = is.literal.0 in
@@ -45,7 +46,9 @@ more_payoffs_small : (fs : List Fraction) (tokens rest : List Spelled) → AreMo
 more_payoffs_small [] tokens rest is = All-nil IsSmallFraction
 more_payoffs_small (f ∷ fs) tokens rest is = All-cons IsSmallFraction f fs (fraction_small f is.0 is.1 is.3) (more_payoffs_small fs is.1 rest is.4)
 
-pub payoffs_small : (fs : List Fraction) (tokens rest : List Spelled) → ArePayoffs fs tokens rest → All IsSmallFraction fs
+-- each of the payoffs that tokens say is in lowest terms and within the limit
+pub payoffs_small : (fs : List Fraction) (tokens rest : List Spelled) → ArePayoffs fs tokens rest
+    → All IsSmallFraction fs
 payoffs_small [] tokens rest is = All-nil IsSmallFraction
 payoffs_small (f ∷ fs) tokens rest is = All-cons IsSmallFraction f fs (fraction_small f tokens is.0 is.1) (more_payoffs_small fs is.0 rest is.2)
 

@@ -1,4 +1,5 @@
--- The form of a game file, by its tokens (Gambit's manual, "The extensive game (.efg) file format", in this project's profile).
+-- The form of a game file, by its tokens (Gambit's manual, "The extensive game (.efg) file format", in this project's
+-- profile).
 --     Spelled                            a token's kind and its bytes
 --     IsText bytes tokens rest           some tokens are a text that stands for these bytes, and then the rest
 --     IsPrologue p tokens rest           they are the prologue, and then the rest

@@ -12,7 +12,8 @@ use Rattle.def_file_tokens.proofs.TokenLemmas.{next_from-sound, next_from-comple
 
 -- a piece behind other bytes is the next token there
 piece_here : (front space bytes after : List ℕ) (kind : Token) → AllPass is_space space → IsToken kind bytes after
-    → next_from (front ++ (space ++ (bytes ++ after))) (length front) ≡ Ok (span kind (length front + length space) (length front + length space + length bytes))
+    → next_from (front ++ (space ++ (bytes ++ after))) (length front)
+    ≡ Ok (span kind (length front + length space) (length front + length space + length bytes))
 piece_here front space bytes after kind all token =
     let whole = front ++ (space ++ (bytes ++ after)) in
     let at = length front in

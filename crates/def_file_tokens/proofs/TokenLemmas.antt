@@ -281,9 +281,11 @@ token_at-complete End start bytes after token =
 
 -- the white space is skipped
 module _ (whole : List ℕ) (at : ℕ) (within : at ≤ length whole) where
+  -- the place behind the white space is the end of the bytes at most
   pub space_within : after_space whole at ≤ length whole
   space_within = omega (arith, prefix_len-le-length is_space (drop at whole), length-drop at whole)
 
+  -- from the offset to the place behind the white space all bytes are white space
   pub space_passes : AllPass is_space (slice_range whole at (after_space whole at))
   space_passes =
       let len : after_space whole at - at ≡ prefix_len is_space (drop at whole) = omega arith in
@@ -292,6 +294,7 @@ module _ (whole : List ℕ) (at : ℕ) (within : at ≤ length whole) where
   space_stops : FirstFails is_space (drop (after_space whole at) whole)
   space_stops = subst (FirstFails is_space) (drop-drop (prefix_len is_space (drop at whole)) at whole) (prefix_stops is_space (drop at whole))
 
+  -- a place up to which all is white space, and at which none stands, is the one behind the white space
   pub space_is : (place : ℕ) → at ≤ place → place ≤ length whole → AllPass is_space (slice_range whole at place)
       → FirstFails is_space (drop place whole) → after_space whole at ≡ place
   space_is place from to space stops =
@@ -304,6 +307,7 @@ module _ (whole : List ℕ) (at : ℕ) (within : at ≤ length whole) where
       ∙ length-take-le (place - at) rest (omega (arith, length-drop at whole)) in
       omega (arith, len)
 
+  -- a token that reading gives is the next one from the offset on
   pub next_from-sound : (lexeme : Lexeme) → next_from whole at ≡ Ok lexeme → IsLexemeFrom whole at lexeme
   unfolding next_from
   next_from-sound lexeme is =
@@ -323,6 +327,7 @@ module _ (whole : List ℕ) (at : ℕ) (within : at ≤ length whole) where
             (subst (λ n. IsToken lexeme.kind (take t.len (drop n whole)) (drop t.len (drop start whole))) starts t.token));
       }
 
+  -- the next token from the offset on is what reading gives
   pub next_from-complete : (lexeme : Lexeme) → IsLexemeFrom whole at lexeme → next_from whole at ≡ Ok lexeme
   unfolding next_from
   next_from-complete lexeme is =
@@ -392,7 +397,8 @@ unclosed_sound start place b bs is =
       | nothing a d e f g h ↦ let clash = sym (token_at-fault start b bs a d e f g h) ∙ is in absurd cc
     ]
   where
-    text_unclosed : (start : ℕ) (found : Option ℕ) (place : ℕ) → text_from start found ≡ Err (Unclosed place) → (start ≡ place) × (found ≡ None)
+    text_unclosed : (start : ℕ) (found : Option ℕ) (place : ℕ) → text_from start found ≡ Err (Unclosed place)
+        → (start ≡ place) × (found ≡ None)
     text_unclosed start None place is = (cc, refl)
     text_unclosed start (Some close) place is = absurd cc
 
@@ -421,10 +427,12 @@ module _ (whole : List ℕ) (at : ℕ) (within : at ≤ length whole) where
       ⊎_elim (λ inner. inner) (λ past. let clash = sym (ap (token_at start) (drop_all start whole past) ∙ token_at-end start) ∙ is in absurd cc) (order start (length whole))
 
   here : (fault : LexFault) (is : next_from whole at ≡ Err fault)
-      → token_at (after_space whole at) (get_or whole (after_space whole at) 0 ∷ drop (after_space whole at + 1) whole) ≡ Err fault
+      → token_at (after_space whole at) (get_or whole (after_space whole at) 0 ∷ drop (after_space whole at + 1) whole)
+      ≡ Err fault
   unfolding next_from
   here fault is = let start = after_space whole at in ap (token_at start) (sym (drop_more whole start 0 (not_at_end fault is))) ∙ is
 
+  -- where reading gives a syntax fault, the first byte that isn't white space is at its place and begins no token
   pub next_from-syntax : (place : ℕ) → next_from whole at ≡ Err (Syntax place) → IsSyntaxFrom whole at place
   next_from-syntax place is =
       let start = after_space whole at in
@@ -434,11 +442,13 @@ module _ (whole : List ℕ) (at : ℕ) (within : at ≤ length whole) where
         no_token = subst (λ n. begins_token (get_or whole n 0) ≡ false) found.0 found.1;
       }
 
+  -- where the first byte that isn't white space begins no token, reading gives a syntax fault at its place
   pub syntax-next_from : (place : ℕ) → IsSyntaxFrom whole at place → next_from whole at ≡ Err (Syntax place)
   syntax-next_from place is =
       let none = begins_none (get_or whole place 0) is.no_token in
       first_is place is.first ∙ token_at-fault place _ _ none.0 none.1 none.2 none.3 none.4 none.5
 
+  -- where an unclosed text is found, the first byte that isn't white space is there: a quotation mark none closes
   pub next_from-unclosed : (place : ℕ) → next_from whole at ≡ Err (Unclosed place) → IsUnclosedFrom whole at place
   next_from-unclosed place is =
       let start = after_space whole at in
@@ -449,6 +459,7 @@ module _ (whole : List ℕ) (at : ℕ) (within : at ≤ length whole) where
         no_closing = subst (λ n. MarksEscaped 34 (drop (n + 1) whole)) found.0 found.2;
       }
 
+  -- where the first byte that isn't white space is a quotation mark that none closes, an unclosed text is found there
   pub unclosed-next_from : (place : ℕ) → IsUnclosedFrom whole at place → next_from whole at ≡ Err (Unclosed place)
   unclosed-next_from place is =
       let rest = drop (place + 1) whole in

@@ -22,9 +22,11 @@ use Rattle.std.proofs.lemmas.List.{length-append, get_or_append_left}
 pub numerals : IsNumeralModel (λ ds. all_ascii_digits ds ≡ true) number_of
 numerals = numerals_by_weight _ tells_all_ascii_digits number_of (search rules)
 
+-- the decimal text of a number below 2 ^ 64 is made of digits, of one at least
 pub decimal-numeral : (n : ℕ) → n < 2 ^ 64 → is_numeral (decimal_text n) ≡ true
 decimal-numeral n h = and_from _ _ (digits_decimal numerals n h) (lt-ltb 0 (length (decimal_text n)) (decimal_nonempty n h))
 
+-- the decimal text of a number below 2 ^ 64 writes this number
 pub number_of-decimal : (n : ℕ) → n < 2 ^ 64 → number_of (decimal_text n) ≡ n
 number_of-decimal n h = digits_value-decimal numerals n h
 

@@ -119,7 +119,8 @@ sign_walk tables = record {
       not_passed (not (is_chance v && list_any is_negative ps)) (ChanceNegative (number_after before)) None fault (ap not found) fails.fault_is;
 }
   where
-    signs_pass : (tables : Tables) (before : List Visit) (v : Visit) (c : Bool) → is_chance v ≡ c → SignsPass tables before v → sign_fault tables before v ≡ None
+    signs_pass : (tables : Tables) (before : List Visit) (v : Visit) (c : Bool) → is_chance v ≡ c
+        → SignsPass tables before v → sign_fault tables before v ≡ None
     signs_pass tables before v true chance pass =
         let ps = probabilities tables v.node.set in
         passed (not (is_chance v && list_any is_negative ps)) (ChanceNegative (number_after before)) None
@@ -270,7 +271,8 @@ sum_walk tables h = record {
   some = λ before v fault fails. sums_fail tables h before v fault fails;
 }
   where
-    sums_pass : (tables : Tables) (before : List Visit) (v : Visit) (c : Bool) → is_chance v ≡ c → SumsPass tables before v → sum_fault tables before v ≡ None
+    sums_pass : (tables : Tables) (before : List Visit) (v : Visit) (c : Bool) → is_chance v ≡ c
+        → SumsPass tables before v → sum_fault tables before v ≡ None
     sums_pass tables before v true chance pass =
         let sums = pass (is_chance-kind v chance) in
         at_chance tables before v (is_chance-kind v chance) ∙ adding-none_by (number_after before) nothing (probabilities tables v.node.set) sums.0 (ap is_one sums.1)
@@ -282,7 +284,8 @@ sum_walk tables h = record {
       | false ↦ λ other. refl
     ] refl
 
-    sums_fail : (tables : Tables) → AreFractions tables → (before : List Visit) (v : Visit) (fault : GameFault) → SumsFail tables before v fault → sum_fault tables before v ≡ Some fault
+    sums_fail : (tables : Tables) → AreFractions tables → (before : List Visit) (v : Visit) (fault : GameFault)
+        → SumsFail tables before v fault → sum_fault tables before v ≡ Some fault
     sums_fail tables h before v fault (running_past opens n some past is) =
         at_chance tables before v opens.chance ∙ adding-past (number_after before) nothing (probabilities tables v.node.set) n refl some past ∙ ap Some (sym is)
     sums_fail tables h before v fault (other_total opens within differs is) =

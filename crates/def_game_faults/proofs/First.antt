@@ -94,7 +94,8 @@ one_break tree d x y p q =
     let make : ℕ → ℕ → RecallBreak = λ node earlier. record { node = node; earlier = earlier } in
     ap (λ n. make n x.earlier) nodes ∙ ap (make y.node) (earliers nodes)
   where
-    none_earlier : (x y : RecallBreak) → IsFirstBreak (at_number tree d) (length (visits tree)) x → IsFirstBreak (at_number tree d) (length (visits tree)) y → x.node ≡ y.node → x.earlier < y.earlier → ⊥
+    none_earlier : (x y : RecallBreak) → IsFirstBreak (at_number tree d) (length (visits tree)) x
+        → IsFirstBreak (at_number tree d) (length (visits tree)) y → x.node ≡ y.node → x.earlier < y.earlier → ⊥
     none_earlier x y p q nodes before =
         let range = p.breaks.in_range in
         let low : 1 ≤ x.earlier = range.0 in
@@ -118,7 +119,8 @@ pub recall_first : (tree : Forest) (fault : RecallBreak)
     → (recall_break tree ≡ Some fault) ↔ ((d : Visit) → IsFirstBreak (at_number tree d) (length (visits tree)) fault)
 recall_first tree fault = (λ e d. break_first tree d fault e, λ first. found (recall_break tree) refl (first a_visit))
   where
-    found : (r : Option RecallBreak) → recall_break tree ≡ r → IsFirstBreak (at_number tree a_visit) (length (visits tree)) fault → recall_break tree ≡ Some fault
+    found : (r : Option RecallBreak) → recall_break tree ≡ r
+        → IsFirstBreak (at_number tree a_visit) (length (visits tree)) fault → recall_break tree ≡ Some fault
     found None is first = absurd (no_break tree a_visit fault (recall_of_none tree is) first)
     found (Some other) is first = is ∙ ap Some (one_break tree a_visit other fault (break_first tree a_visit other is) first)
 

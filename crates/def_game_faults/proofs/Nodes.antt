@@ -217,7 +217,8 @@ mass_walk tables unit = record {
       not_passed (not (is_leaf v && nat_lt most mass)) (Scale (number_after before)) None fault (ap not (both_true (is_leaf v) (nat_lt most mass) fails.leaf (lt-ltb most mass fails.past))) fails.fault_is;
 }
   where
-    mass_none_by : (before : List Visit) (v : Visit) (b : Bool) → is_leaf v ≡ b → MassPasses tables unit before v → mass_fault tables unit before v ≡ None
+    mass_none_by : (before : List Visit) (v : Visit) (b : Bool) → is_leaf v ≡ b → MassPasses tables unit before v
+        → mass_fault tables unit before v ≡ None
     mass_none_by before v true leaf pass =
         let mass : ℕ = mass_so_far tables unit (before ++ (v ∷ [])) in
         passed (not (is_leaf v && nat_lt most mass)) (Scale (number_after before)) None (ap not (ap (λ b. b && nat_lt most mass) leaf ∙ le-ltb most mass (pass leaf)))

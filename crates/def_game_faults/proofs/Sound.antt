@@ -42,6 +42,7 @@ within_along f inner done (v ∷ rest) start each =
     (within_along f inner (done ++ (v ∷ [])) rest next
     (λ before w after p leaf. subst (λ d. f (d ++ (w ∷ [])) ≤ most) (sym (append_assoc done (v ∷ []) before)) (each (v ∷ before) w after (ap (λ xs. v ∷ xs) p) leaf)))
 
+-- numbers are sound where the tables' fractions are in lowest terms and each node passes each walk over the numbers
 pub passing_numbers : (tables : Tables) (tree : Forest) → AreFractions tables → PassNumbers tables tree
     → HasSoundNumbers tables tree
 passing_numbers tables tree h numbers =

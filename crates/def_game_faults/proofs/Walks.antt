@@ -115,7 +115,8 @@ pub record IsWalk (test : NodeTest) (Passes : List Visit → Visit → Type 0) (
   pub some : (before : List Visit) (v : Visit) (fault : GameFault) → Fails before v fault → test before v ≡ Some fault
 
 -- a walk finds no fault exactly where each node passes
-pub none_iff : (test : NodeTest) (Passes : List Visit → Visit → Type 0) (Fails : List Visit → Visit → GameFault → Type 0)
+pub none_iff : (test : NodeTest) (Passes : List Visit → Visit → Type 0)
+    (Fails : List Visit → Visit → GameFault → Type 0)
     → IsWalk test Passes Fails → (nodes : List Visit) →
     (found_by test [] nodes ≡ None) ↔ EachPasses Passes nodes
 none_iff test Passes Fails walk nodes = (
@@ -124,7 +125,8 @@ none_iff test Passes Fails walk nodes = (
 )
 
 -- the fault that a walk finds is exactly that of the first node that fails
-pub some_iff : (test : NodeTest) (Passes : List Visit → Visit → Type 0) (Fails : List Visit → Visit → GameFault → Type 0)
+pub some_iff : (test : NodeTest) (Passes : List Visit → Visit → Type 0)
+    (Fails : List Visit → Visit → GameFault → Type 0)
     → IsWalk test Passes Fails → (nodes : List Visit) (fault : GameFault) →
     (found_by test [] nodes ≡ Some fault) ↔ FailsFirst Passes Fails nodes fault
 some_iff test Passes Fails walk nodes fault = (

@@ -1,8 +1,10 @@
--- The first fault of a game's numbers and of its recall, looked for in walks over its nodes in prefix order. The order and the limits are this project's own.
+-- The first fault of a game's numbers and of its recall, looked for in walks over its nodes in prefix order. The order
+-- and the limits are this project's own.
 --     NodeTest, found_by test before nodes     what a walk looks for at a node, and the first that it finds
 --     number_fault tables tree                the first fault of the numbers
 --     game_fault tables tree                  the first fault, recall included
--- The walks: the signs of probabilities; their sums; reach, payoffs and unit; the mass; recall. Nodes are numbered from 1.
+-- The walks: the signs of probabilities; their sums; reach, payoffs and unit; the mass; recall.
+-- Nodes are numbered from 1.
 use Rattle.std.specs.Prelude.{ℕ, ◌+◌, Bool, true, false, not, ◌&&◌, nat_eq, nat_le, nat_lt, if◌then◌else◌, List, [], ◌∷◌, ◌++◌, length, Option, Some, None, ℤ, pos, negsuc, unsigned_abs}
 use Rattle.std.specs.List.{list_any}
 use Rattle.def_tree.specs.declared.Kind.TheVariants.{Chance}
@@ -77,7 +79,8 @@ adding_fault number running (p ∷ rest) = passing (fits (sum_of running p)) (Sc
 abbrev pub sum_fault : Tables → NodeTest
 sum_fault tables before node = if is_chance node then adding_fault (number_after before) nothing (probabilities tables node.node.set) else None
 
--- at a leaf: the payoffs don't add up to 0, or what it is expected to pay passes the limit, or the unit of the leaves so far does
+-- at a leaf: the payoffs don't add up to 0, or what it is expected to pay passes the limit,
+-- or the unit of the leaves so far does
 abbrev pub leaf_fault : Tables → NodeTest
 leaf_fault tables before node =
     passing (is_zero (sum_of (payoff_one tables node) (payoff_two tables node))) (NotZeroSum (number_after before))

@@ -67,7 +67,8 @@ pub data SumsFail (tables : Tables) (before : List Visit) (node : Visit) (fault 
       → sum_from nothing (probabilities tables node.node.set) ≢ certain
       → fault ≡ ChanceSum (number_after before) → SumsFail tables before node fault
 
--- The third walk: reach and payoffs are within the limit at each node; at each leaf the payoffs add up to 0, and reach times payoff and the unit so far are within the limit.
+-- The third walk: reach and payoffs are within the limit at each node; at each leaf the payoffs add up to 0, and reach
+-- times payoff and the unit so far are within the limit.
 
 pub record PathFits (tables : Tables) (node : Visit) : Type 0 where
   pub reach_fits : fits (reach tables node.path) ≡ true

@@ -31,9 +31,11 @@ pub record AreProbabilities (fractions : List Fraction) : Type 0 where
   pub positive : All (λ p. pos 0 ≤ℤ p.num) fractions
   pub total : AddUpToOne fractions
 
--- at each chance node chance plays by probabilities, at each leaf one player gets what the other pays, and the unit and the mass are within the limit
+-- at each chance node chance plays by probabilities, at each leaf one player gets what the other pays, and the unit and
+-- the mass are within the limit
 pub record HasSoundNumbers (tables : Tables) (tree : Forest) : Type 0 where
-  pub chance : All (λ visit. visit.node.kind ≡ Chance → AreProbabilities (probabilities tables visit.node.set)) (visits tree)
+  pub chance : All (λ visit. visit.node.kind ≡ Chance → AreProbabilities (probabilities tables visit.node.set))
+      (visits tree)
   pub zero_sum : IsZeroSum tables tree
   pub unit_within : game_unit tables tree ≤ most
   pub mass_within : game_mass tables tree ≤ most

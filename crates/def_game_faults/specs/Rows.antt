@@ -39,7 +39,8 @@ rare = forest_of (node Chance 1 0 2 ∷ node Chance 1 0 2 ∷ node Leaf 0 0 0 �
 
 pub record GameFaultRows : Type 0 where
   pub sum : game_fault (sum_tables (fraction_over (pos 1) 2) (fraction_over (pos 1) 2)) sum_game ≡ Some (NotZeroSum 5)
-  pub negative : game_fault (sum_tables (fraction_over (negsuc 0) 2) (fraction_over (pos 3) 2)) sum_game ≡ Some (ChanceNegative 1)
+  pub negative : game_fault (sum_tables (fraction_over (negsuc 0) 2) (fraction_over (pos 3) 2)) sum_game
+      ≡ Some (ChanceNegative 1)
   pub decimals : game_fault (three (fraction_over (pos 333333) 1000000)) thirds ≡ Some (ChanceSum 1)
   pub exact : game_fault (three (fraction_over (pos 1) 3)) thirds ≡ None
   pub rare : game_fault (record { chance = (fraction_over (pos 1) 4294967296 ∷ fraction_over (pos 4294967295) 4294967296 ∷ []) ∷ []; outcomes = [] }) rare ≡ Some (Scale 3)

@@ -123,6 +123,7 @@ module _ (limit : ℕ) where
   length-passes (suc n) jobs h =
       length-passes n (pass limit jobs) (let few : 0 + length (cut_each limit (length jobs) jobs) ≤ limit = length-cut_each jobs 0 (length jobs) (omega arith) h in omega arith)
 
+  -- jobs that one pass leaves as they are stay so after any number of passes
   pub passes-pass : (jobs : List Forest) (n : ℕ) → pass limit jobs ≡ jobs → passes limit n jobs ≡ jobs
   passes-pass jobs zero e = refl
   passes-pass jobs (suc n) e = ap (passes limit n) e ∙ passes-pass jobs n e

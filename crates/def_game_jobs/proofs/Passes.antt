@@ -73,7 +73,8 @@ module _ (limit : ℕ) where
   }
 
   -- one of the later jobs, behind what came of the first
-  becomes_later : (done : ℕ) (job : Forest) (rest : List Forest) (part : List Forest) (parts : List (List Forest)) (place : ℕ) (later : Forest) (later_part : List Forest)
+  becomes_later : (done : ℕ) (job : Forest) (rest : List Forest) (part : List Forest) (parts : List (List Forest))
+      (place : ℕ) (later : Forest) (later_part : List Forest)
       →
       Becomes limit (done + length part) rest parts place later later_part → Becomes limit done (job ∷ rest) (part ∷ parts) (suc place) later later_part
   becomes_later done job rest part parts place later later_part h =

@@ -1,4 +1,5 @@
--- The jobs into which the sum over a game's leaves is cut: subtrees below chance nodes near the root. The way of cutting and its limits are this project's own.
+-- The jobs into which the sum over a game's leaves is cut: subtrees below chance nodes near the root. The way of
+-- cutting and its limits are this project's own.
 use Rattle.std.specs.Prelude.{◌≡◌, ◌≢◌, ◌↔◌, ◌⊎◌, ℕ, zero, suc, ◌+◌, ◌-◌, ◌<◌, ◌≤◌, Bool, true, false, ◌&&◌, nat_le, if◌then◌else◌, List, [], ◌∷◌, ◌++◌, length, map, filter, flat_map, take, drop, slice_index_or, All}
 use Rattle.def_tree.specs.declared.Kind.TheVariants.{Chance}
 use Rattle.def_tree.specs.declared.Node.{Node}
@@ -73,11 +74,13 @@ LaterPassesKeep = (limit : ℕ) (jobs : List Forest) (n : ℕ) → pass limit jo
 
 -- The passes in words.
 
--- how many jobs there are once the job at a place gives way: those that came of the jobs before it, its subtrees, and the jobs behind it
+-- how many jobs there are once the job at a place gives way:
+-- those that came of the jobs before it, its subtrees, and the jobs behind it
 abbrev pub jobs_then : List Forest → List (List Forest) → ℕ → Forest → ℕ
 jobs_then jobs parts place job = length (flat_map (λ part. part) (take place parts)) + length (subtrees job) + length (drop (suc place) jobs)
 
--- what became of the job at a place: its subtrees, where it is a chance node's and there are then at most `limit` jobs, and else itself alone
+-- what became of the job at a place: its subtrees,
+-- where it is a chance node's and there are then at most `limit` jobs, and else itself alone
 pub record BecomesPart (limit : ℕ) (jobs : List Forest) (parts : List (List Forest)) (place : ℕ) (job : Forest) (part : List Forest) : Type 0 where
   pub cut : is_chance_job job ≡ true → jobs_then jobs parts place job ≤ limit → part ≡ subtrees job
   pub kept : (is_chance_job job ≡ true → limit < jobs_then jobs parts place job) → part ≡ job ∷ []

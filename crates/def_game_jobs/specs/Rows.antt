@@ -32,7 +32,8 @@ chain zero tree = tree
 chain (suc n) tree = drawn 1 (chain n tree)
 
 pub record JobRows : Type 0 where
-  pub chance : leaf_counts (forest_of (inner_node Chance 1 2 ∷ inner_node One 1 2 ∷ leaf ∷ leaf ∷ leaf ∷ [])) ≡ 2 ∷ 1 ∷ []
+  pub chance : leaf_counts (forest_of (inner_node Chance 1 2 ∷ inner_node One 1 2 ∷ leaf ∷ leaf ∷ leaf ∷ []))
+      ≡ 2 ∷ 1 ∷ []
   pub pennies : leaf_counts (forest_of (inner_node One 1 2 ∷ inner_node Two 1 2 ∷ leaf ∷ leaf ∷ inner_node Two 1 2 ∷ leaf ∷ leaf ∷ [])) ≡ 4 ∷ []
   pub one_leaf : leaf_counts (forest_of (leaf ∷ [])) ≡ 1 ∷ []
   pub player_over_chance : leaf_counts (forest_of (inner_node One 1 2 ∷ inner_node Chance 1 2 ∷ leaf ∷ leaf ∷ leaf ∷ [])) ≡ 3 ∷ []
@@ -47,11 +48,13 @@ pub record JobRows : Type 0 where
 abbrev pub counts_within : ℕ → ℕ → Forest → List ℕ
 counts_within limit n tree = map (λ job. leaf_count (prefix job)) (jobs_within limit n tree)
 
--- the limit in small: exactly as many jobs as it lets, more trees than can be cut, and a small tree behind one that is too large
+-- the limit in small: exactly as many jobs as it lets, more trees than can be cut,
+-- and a small tree behind one that is too large
 pub record SmallLimitRows : Type 0 where
   pub at_the_limit : counts_within 16 64 (drawn 4 (draws 4 4 bare)) ≡ replicate 16 1
   pub past_the_limit : counts_within 16 64 (drawn 4 (draws 4 5 bare)) ≡ replicate 15 1 ++ (5 ∷ [])
-  pub smaller_one_behind : counts_within 16 64 (drawn 6 (draws 1 6 (draws 1 8 (draws 1 6 (leaves 3 bare))))) ≡ replicate 6 1 ++ (8 ∷ replicate 9 1)
+  pub smaller_one_behind : counts_within 16 64 (drawn 6 (draws 1 6 (draws 1 8 (draws 1 6 (leaves 3 bare)))))
+      ≡ replicate 6 1 ++ (8 ∷ replicate 9 1)
 
 -- the limit of 4,096 itself: a chance node over as many leaves gives way, and one over one leaf too many doesn't
 pub record JobLimitRows : Type 0 where

@@ -24,7 +24,8 @@ use Rattle.def_game_numbers.specs.Numbers.{GameWeights, file_fault, game_file_fa
 abbrev pub TablesAreFractions : Type 0
 TablesAreFractions = (game : GameFile) → HasFractions game.sets game.outcomes → AreFractions (tables_of game)
 
--- the unit is the least common multiple of the denominators of reach times payoff, each leaf's weight is unit times reach times payoff, and the mass is the sum of the weights' sizes
+-- the unit is the least common multiple of the denominators of reach times payoff, each leaf's weight is unit times
+-- reach times payoff, and the mass is the sum of the weights' sizes
 pub record AreWeights (tables : Tables) (tree : Forest) (answer : GameWeights) : Type 0 where
   pub multiple : All (λ f. f.den ∣ answer.unit) (all_expected tables tree)
   pub least : (m : ℕ) → All (λ f. f.den ∣ m) (all_expected tables tree) → answer.unit ∣ m
@@ -34,14 +35,17 @@ pub record AreWeights (tables : Tables) (tree : Forest) (answer : GameWeights) :
 -- it is refused exactly with the first fault of its numbers, and accepted exactly where they have none
 pub record IsWeighed (game : GameFile) : Type 0 where
   pub refused : (fault : FileFault)
-      → (weigh game ≡ Err fault) ↔ ((found : GameFault) × FirstNumberFault (tables_of game) game.tree found × (fault ≡ file_fault found))
+      → (weigh game ≡ Err fault)
+      ↔ ((found : GameFault) × FirstNumberFault (tables_of game) game.tree found × (fault ≡ file_fault found))
   pub accepted : (answer : GameWeights)
-      → (weigh game ≡ Ok answer) ↔ (PassNumbers (tables_of game) game.tree × AreWeights (tables_of game) game.tree answer)
+      → (weigh game ≡ Ok answer)
+      ↔ (PassNumbers (tables_of game) game.tree × AreWeights (tables_of game) game.tree answer)
 
 abbrev pub WeighsExactly : Type 0
 WeighsExactly = (game : GameFile) → AreFractions (tables_of game) → IsWeighed game
 
--- what weighing refuses is the game's first fault; where it accepts, what building the sets refuses is; and where both accept there is none
+-- what weighing refuses is the game's first fault; where it accepts, what building the sets refuses is;
+-- and where both accept there is none
 pub record IsRefusedWithTheFirst (game : GameFile) : Type 0 where
   pub by_weighing : (fault : FileFault) → weigh game ≡ Err fault → game_file_fault game ≡ Some fault
   pub by_sets : (answer : GameWeights) (broken : RecallBreak) → weigh game ≡ Ok answer

@@ -1,4 +1,5 @@
--- The nodes on a path are visited before, each with the rest of the path; so the numbers of sequences tell a player's choices.
+-- The nodes on a path are visited before, each with the rest of the path;
+-- so the numbers of sequences tell a player's choices.
 use Rattle.std.proofs.Common.{◌≡◌, ℕ, zero, suc, ◌+◌, ◌-◌, ◌<◌, ◌≤◌, min, true, false, cond, ◌&&◌, List, [], ◌∷◌, ◌++◌, length, get_or, take, map, refl, ap, sym, subst, ◌∙◌, arith, inl, inr, ◌⊎◌, append_assoc, append-nil, length-append}
 use Rattle.std.specs.Prelude.{nat_eq, sum, Contains, AllPairs, ◌↔◌}
 use Rattle.std.proofs.lemmas.Bool.{cases_lt, eqb-true}
@@ -68,7 +69,8 @@ pub record LastChoice (kind : Kind) (before : List Visit) (own : List Choice) (a
 
 -- a path has no own choice, or its last one is made at a node before and follows that node's past
 pub last_choice : (kind : Kind) (before : List Visit) (path : List Move) → GoesThrough before path
-    → (own_choices kind path ≡ []) ⊎ ((at : Visit) × ((action : ℕ) × LastChoice kind before (own_choices kind path) at action))
+    → (own_choices kind path ≡ [])
+    ⊎ ((at : Visit) × ((action : ℕ) × LastChoice kind before (own_choices kind path) at action))
 last_choice kind before [] h = inl refl
 last_choice kind before (step ∷ rest) h =
     elim (is_same_kind kind step.node.kind) as (λ b. is_same_kind kind step.node.kind ≡ b →
@@ -228,8 +230,10 @@ choices_told tree kind n i j d game personal recall hi hj there_i there_j same =
     let seen : EachSeen [] all = visits_seen (λ _. []) 1 tree [] game.tree.children (λ a low high. tt) in
     told (last_choice kind (take i all) (get_or all i d).path (seen_at [] all i d seen there_i)) (last_choice kind (take j all) (get_or all j d).path (seen_at [] all j d seen there_j))
   where
-    told : (own_choices kind (get_or (visits tree) i d).path ≡ []) ⊎ ((at : Visit) × ((action : ℕ) × LastChoice kind (take i (visits tree)) (own_choices kind (get_or (visits tree) i d).path) at action))
-        → (own_choices kind (get_or (visits tree) j d).path ≡ []) ⊎ ((at : Visit) × ((action : ℕ) × LastChoice kind (take j (visits tree)) (own_choices kind (get_or (visits tree) j d).path) at action))
+    told : (own_choices kind (get_or (visits tree) i d).path ≡ [])
+        ⊎ ((at : Visit) × ((action : ℕ) × LastChoice kind (take i (visits tree)) (own_choices kind (get_or (visits tree) i d).path) at action))
+        → (own_choices kind (get_or (visits tree) j d).path ≡ [])
+        ⊎ ((at : Visit) × ((action : ℕ) × LastChoice kind (take j (visits tree)) (own_choices kind (get_or (visits tree) j d).path) at action))
         → own_choices kind (get_or (visits tree) i d).path ≡ own_choices kind (get_or (visits tree) j d).path
     told (inl e) (inl f) = e ∙ sym f
     told (inl e) (inr f) =

@@ -81,12 +81,14 @@ first_found k node (v ∷ rest) d =
           ] (first_found (k + 1) node rest d)
     ] refl
   where
-    later_none : (v : Visit) (rest : List Visit) (d : Visit) (node : Node) → is_same_set v.node node ≡ false → ((i : ℕ) → i < length rest → is_same_set (get_or rest i d).node node ≡ false) →
+    later_none : (v : Visit) (rest : List Visit) (d : Visit) (node : Node) → is_same_set v.node node ≡ false
+        → ((i : ℕ) → i < length rest → is_same_set (get_or rest i d).node node ≡ false) →
         (i : ℕ) → i < length (v ∷ rest) → is_same_set (get_or (v ∷ rest) i d).node node ≡ false
     later_none v rest d node other none zero h = other
     later_none v rest d node other none (suc i) h = none i (omega arith)
 
-    earlier : (v : Visit) (rest : List Visit) (d : Visit) (node : Node) (place : ℕ) → is_same_set v.node node ≡ false → ((i : ℕ) → i < place → is_same_set (get_or rest i d).node node ≡ false) →
+    earlier : (v : Visit) (rest : List Visit) (d : Visit) (node : Node) (place : ℕ) → is_same_set v.node node ≡ false
+        → ((i : ℕ) → i < place → is_same_set (get_or rest i d).node node ≡ false) →
         (i : ℕ) → i < suc place → is_same_set (get_or (v ∷ rest) i d).node node ≡ false
     earlier v rest d node place other before zero h = other
     earlier v rest d node place other before (suc i) h = before i (omega arith)
@@ -135,7 +137,8 @@ scan_some all k (v ∷ rest) d broken e =
           )
     ]
   where
-    scan_before : (all : List Visit) (k : ℕ) (v : Visit) (rest : List Visit) (d : Visit) (place : ℕ) → break_of all k v ≡ None → ((i : ℕ) → i < place → break_of all (k + 1 + i) (get_or rest i d) ≡ None) →
+    scan_before : (all : List Visit) (k : ℕ) (v : Visit) (rest : List Visit) (d : Visit) (place : ℕ)
+        → break_of all k v ≡ None → ((i : ℕ) → i < place → break_of all (k + 1 + i) (get_or rest i d) ≡ None) →
         (i : ℕ) → i < suc place → break_of all (k + i) (get_or (v ∷ rest) i d) ≡ None
     scan_before all k v rest d place none before zero h = let here : k + 0 ≡ k = omega arith in ap (λ n. break_of all n v) here ∙ none
     scan_before all k v rest d place none before (suc i) h = let far : k + suc i ≡ k + 1 + i = omega arith in ap (λ n. break_of all n (get_or rest i d)) far ∙ before i (omega arith)

@@ -58,7 +58,8 @@ pub record StartsWith (above : ℕ → List Move) (action : ℕ) (trees : Forest
   pub rest_is : rest ≡ visits_from (λ next. record { node = node; action = next } ∷ above action) 1 below ++ (visits_from above (action + 1) beside ++ later)
 
 -- where there is a tree, its root is the first of the visits
-pub starts_with : (above : ℕ → List Move) (action : ℕ) (trees : Forest) (later : List Visit) (v : Visit) (rest : List Visit)
+pub starts_with : (above : ℕ → List Move) (action : ℕ) (trees : Forest) (later : List Visit) (v : Visit)
+    (rest : List Visit)
     → 1 ≤ tree_count trees → v ∷ rest ≡ visits_from above action trees ++ later
     → StartsWith above action trees later v rest
 starts_with above action bare later v rest some e = absurd (omega arith)
@@ -77,7 +78,8 @@ none_under bare above action later none = refl
 none_under (grown node below beside) above action later none = absurd (omega arith)
 
 -- a parent is kept within the others exactly where trees are to come under it
-pub stand_over : {P : Type 0} (Over : ComingTrees → P → Type 0) (parent : P) (outer : List P) (above : ℕ → List Move) (action : ℕ) (trees : Forest) (later : List Visit) (keeps : Bool)
+pub stand_over : {P : Type 0} (Over : ComingTrees → P → Type 0) (parent : P) (outer : List P) (above : ℕ → List Move)
+    (action : ℕ) (trees : Forest) (later : List Visit) (keeps : Bool)
     →
     (keeps ≡ true → Over (record { above = above; action = action; trees = trees }) parent) → (keeps ≡ false → tree_count trees ≡ 0) → StandOver Over outer later →
     StandOver Over (cond keeps (parent ∷ outer) outer) (visits_from above action trees ++ later)

@@ -18,7 +18,8 @@ use Rattle.def_game_paths.proofs.Ancestors.{Contains-map, LastChoice, RecallsUpT
 
 -- Numbers that are known on the way.
 pub set_firsts-append : (kind : Kind) (seen : ℕ) (xs ys : List Visit)
-    → set_firsts kind seen (xs ++ ys) ≡ set_firsts kind seen xs ++ set_firsts kind (seen + length (set_firsts kind seen xs)) ys
+    → set_firsts kind seen (xs ++ ys)
+    ≡ set_firsts kind seen xs ++ set_firsts kind (seen + length (set_firsts kind seen xs)) ys
 set_firsts-append kind seen [] ys = let same : seen ≡ seen + 0 = omega arith in ap (λ n. set_firsts kind n ys) same
 set_firsts-append kind seen (x ∷ xs) ys =
     elim (is_same_kind kind x.node.kind && nat_eq x.node.set (seen + 1)) as (λ b.
@@ -93,7 +94,8 @@ same_test xs ys m n there back =
     apart e = cc e
 
 -- the first node of a node's set comes no later than any node of the set
-pub not_behind : (all : List Visit) (node : Node) (d : Visit) (first : Numbered) (found : HasFirst 1 node all d (Some first)) (j : ℕ)
+pub not_behind : (all : List Visit) (node : Node) (d : Visit) (first : Numbered)
+    (found : HasFirst 1 node all d (Some first)) (j : ℕ)
     → is_same_set (get_or all j d).node node ≡ true → found.0 ≤ j
 not_behind all node d first found j same = elim (cases_lt j found.0) [
   | inl before ↦ absurd (apart (sym same ∙ found.1.before j before))

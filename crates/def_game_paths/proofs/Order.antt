@@ -1,4 +1,5 @@
--- The sequence before a set comes before those that end at it: what its player chose before was chosen at sets with smaller numbers.
+-- The sequence before a set comes before those that end at it:
+-- what its player chose before was chosen at sets with smaller numbers.
 use Rattle.std.proofs.Common.{◌≡◌, ℕ, zero, suc, ◌+◌, ◌-◌, ◌<◌, ◌≤◌, max, Bool, true, false, cond, ◌&&◌, List, [], ◌∷◌, ◌++◌, length, get_or, take, map, refl, ap, sym, subst, ◌∙◌, arith, inl, inr, append_assoc, append-nil, length-append}
 use Rattle.std.specs.Prelude.{nat_eq, sum, Contains}
 use Rattle.std.proofs.lemmas.Bool.{cases_lt, eqb-true, eq-eqb}

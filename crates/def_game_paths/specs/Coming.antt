@@ -1,4 +1,5 @@
--- The nodes that come after the first ones in prefix order, and the parents among the first ones that still have children to come.
+-- The nodes that come after the first ones in prefix order,
+-- and the parents among the first ones that still have children to come.
 --     visit_after t n        the node after the first n
 --     ComingTrees            trees to come, at the actions of a node from one on
 --     StandOver Over         the parents, of which the innermost comes first, stand over exactly these visits

@@ -1,5 +1,6 @@
 -- The paths from a game's root to its nodes, and each player's own choices on them (von Stengel 1996).
---     Move, Visit, visits t         a move on a path; a node with its path; the nodes in prefix order, each with its path
+--     Move, Visit, visits t         a move on a path; a node with its path;
+--                                   the nodes in prefix order, each with its path
 --     Choice, own_choices kind p    an action at a set; a player's own choices on a path
 use Rattle.std.specs.Prelude.{◌≡◌, ℕ, ◌+◌, ◌-◌, ◌<◌, ◌≤◌, if◌then◌else◌, List, [], ◌∷◌, ◌++◌, length, map, filter, take, slice_index_or, All, Contains}
 use Rattle.def_tree.specs.declared.Kind.{Kind}
@@ -17,7 +18,8 @@ pub record Visit : Type 0 where
   pub path : List Move
   pub node : Node
 
--- the nodes of the trees at the actions from one on, in prefix order; `above action` is the path to the tree at the action
+-- the nodes of the trees at the actions from one on, in prefix order;
+-- `above action` is the path to the tree at the action
 abbrev pub visits_from : (ℕ → List Move) → ℕ → Forest → List Visit
 visits_from above action bare = []
 visits_from above action (grown node below beside) =
@@ -51,7 +53,8 @@ OwnChoicesAreMoves = (kind : Kind) (path : List Move) →
 abbrev pub VisitsArePrefix : Type 0
 VisitsArePrefix = (tree : Forest) → map (λ visit. visit.node) (visits tree) ≡ prefix tree
 
--- from the root of a tree the path leads to the first of these trees: its last move goes on from a node by one of the node's actions, and leads to the child at that action
+-- from the root of a tree the path leads to the first of these trees: its last move goes on from a node by one of the
+-- node's actions, and leads to the child at that action
 abbrev pub LeadsTo : Forest → List Move → Forest → Type 0
 LeadsTo tree [] there = there ≡ tree
 LeadsTo tree (move ∷ rest) there =
@@ -64,7 +67,8 @@ LeadsToNode tree v = (below : Forest) × (beside : Forest) × LeadsTo tree v.pat
 abbrev pub PathsLeadToNodes : Type 0
 PathsLeadToNodes = (tree : Forest) → tree_count tree ≡ 1 → All (LeadsToNode tree) (visits tree)
 
--- the path goes on from a node that these visits have, with the rest as its path, by one of the node's actions; and so does the rest
+-- the path goes on from a node that these visits have, with the rest as its path, by one of the node's actions;
+-- and so does the rest
 abbrev pub GoesThrough : List Visit → List Move → Type 0
 GoesThrough before [] = Unit {0}
 GoesThrough before (move ∷ rest) = (Contains before (record { path = rest; node = move.node }) × ((1 ≤ move.action) × (move.action ≤ move.node.children))) × GoesThrough before rest

@@ -76,7 +76,8 @@ recall_break tree = first_break differ_in_past (visits tree) 1 (visits tree)
 abbrev pub NoBreakIffRecall : Type 0
 NoBreakIffRecall = (tree : Forest) → (recall_break tree ≡ None) ↔ HasPerfectRecall tree
 
--- at node number `broken.node` the player's past isn't that of the set's first node, which is `broken.earlier`; `at` reads a node by its number
+-- at node number `broken.node` the player's past isn't that of the set's first node, which is `broken.earlier`; `at`
+-- reads a node by its number
 pub record BreaksRecall (at : ℕ → Visit) (count : ℕ) (broken : RecallBreak) : Type 0 where
   pub in_range : (1 ≤ broken.earlier) × (broken.earlier < broken.node) × (broken.node ≤ count)
   pub personal : is_personal (at broken.node).node.kind ≡ true

@@ -1,5 +1,7 @@
--- A player's information sets in the order of their first nodes, and the numbers of the player's sequences (von Stengel 1996).
--- Sequence 0 is the empty one. Then come the sequences that end at set 1, in the order of its actions, then those of set 2, and so on.
+-- A player's information sets in the order of their first nodes,
+-- and the numbers of the player's sequences (von Stengel 1996).
+-- Sequence 0 is the empty one. Then come the sequences that end at set 1, in the order of its actions,
+-- then those of set 2, and so on.
 use Rattle.std.specs.Prelude.{All, AllPairs, Bool, IsSome, List, None, Option, Some, [], false, if◌then◌else◌, length, map, nat_eq, nat_lt, not, slice_index, slice_index_or, suc, sum, take, true, zero, ℕ, ◌&&◌, ◌+◌, ◌-◌, ◌<◌, ◌≤◌, ◌↔◌, ◌∷◌, ◌≡◌}
 use Rattle.def_tree.specs.declared.Kind.{Kind}
 use Rattle.def_tree.specs.Tree.{Forest, is_leaf_kind, node_count, prefix}
@@ -33,7 +35,8 @@ sequence_number sizes (choice ∷ _) = first_sequence sizes choice.set + (choice
 abbrev pub sequence_at : Kind → Forest → Visit → ℕ
 sequence_at kind tree v = sequence_number (set_sizes kind tree) (own_choices kind v.path)
 
--- the set and the action at which a sequence ends: the n-th of those that end at these sets, the first of which has this number
+-- the set and the action at which a sequence ends:
+-- the n-th of those that end at these sets, the first of which has this number
 abbrev pub choice_from : ℕ → List ℕ → ℕ → Option Choice
 choice_from set [] n = None
 choice_from set (size ∷ rest) n = if nat_lt n size then Some (record { set = set; action = n + 1 }) else choice_from (set + 1) rest (n - size)
@@ -84,7 +87,8 @@ abbrev pub EachSequenceIsInRange : Type 0
 EachSequenceIsInRange = (tree : Forest) → IsGameTree tree → (kind : Kind) → is_leaf_kind kind ≡ false
     → All (SequencesAreInRange tree kind) (visits tree)
 
--- the sets of a kind have 1 to 1,024 actions each, and a game has no more sets and no more sequences of a kind than nodes
+-- the sets of a kind have 1 to 1,024 actions each,
+-- and a game has no more sets and no more sequences of a kind than nodes
 pub record HasFewSequences (tree : Forest) (kind : Kind) : Type 0 where
   pub actions : All (λ size. (1 ≤ size) × (size ≤ 1024)) (set_sizes kind tree)
   pub sets : length (set_sizes kind tree) ≡ set_count kind (prefix tree)

@@ -55,12 +55,14 @@ expected-snoc tables before v b e =
     ap (map (expected tables)) (filter-append is_leaf before (v ∷ [])) ∙ map-append (expected tables) (filter is_leaf before) (filter is_leaf (v ∷ []))
     ∙ ap (λ xs. expected_at tables before ++ xs) (last b e)
   where
-    last : (b : Bool) → is_leaf v ≡ b → map (expected tables) (cond (is_leaf v) (v ∷ []) []) ≡ cond b (expected tables v ∷ []) []
+    last : (b : Bool) → is_leaf v ≡ b
+        → map (expected tables) (cond (is_leaf v) (v ∷ []) []) ≡ cond b (expected tables v ∷ []) []
     last true e = ap (λ t. map (expected tables) (cond t (v ∷ []) [])) e
     last false e = ap (λ t. map (expected tables) (cond t (v ∷ []) [])) e
 
 mass-snoc : (unit : ℕ) (fs : List Fraction) (f : Fraction)
-    → sum (map unsigned_abs (map (weight_of unit) (fs ++ (f ∷ [])))) ≡ sum (map unsigned_abs (map (weight_of unit) fs)) + unsigned_abs (weight_of unit f)
+    → sum (map unsigned_abs (map (weight_of unit) (fs ++ (f ∷ []))))
+    ≡ sum (map unsigned_abs (map (weight_of unit) fs)) + unsigned_abs (weight_of unit f)
 mass-snoc unit fs f =
     ap (λ ws. sum (map unsigned_abs ws)) (map-append (weight_of unit) fs (f ∷ [])) ∙ ap sum (map-append unsigned_abs (map (weight_of unit) fs) (weight_of unit f ∷ []))
     ∙ sum_by-append (λ x. x) (map unsigned_abs (map (weight_of unit) fs)) (unsigned_abs (weight_of unit f) ∷ []) ∙ ap (λ k. sum (map unsigned_abs (map (weight_of unit) fs)) + k) (from_zero (unsigned_abs (weight_of unit f)))

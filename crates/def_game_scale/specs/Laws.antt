@@ -17,8 +17,9 @@ IsMultiple m f w = w *ℤ pos f.den ≡ f.num *ℤ pos m
 abbrev pub MakesWhole : ℕ → Fraction → Type 0
 MakesWhole m f = (w : ℤ) × IsMultiple m f w
 
--- the unit is the least common multiple of the denominators: each divides it, and it divides each number that all divide;
--- so the unit times each of the fractions is a whole number, its weight, and no smaller number makes all of them whole
+-- the unit is the least common multiple of the denominators: each divides it, and it divides each number that all
+-- divide; so the unit times each of the fractions is a whole number, its weight,
+-- and no smaller number makes all of them whole
 pub record IsLeastUnit (fractions : List Fraction) : Type 0 where
   pub positive : 1 ≤ unit_of fractions
   pub multiple : All (λ f. f.den ∣ unit_of fractions) fractions

@@ -54,9 +54,15 @@ pub record ScaleRows : Type 0 where
   pub inner_unit : game_unit inner_tables inner ≡ 2
   pub inner_weights : weights inner_tables inner ≡ pos 2 ∷ pos 1 ∷ []
   pub inner_mass : game_mass inner_tables inner ≡ 3
-  pub uneven_reaches : map (λ leaf. reach uneven_tables leaf.path) (leaf_visits uneven) ≡ fraction_over (pos 1) 2 ∷ fraction_over (pos 1) 3 ∷ fraction_over (pos 1) 3 ∷ fraction_over (pos 1) 24 ∷ fraction_over (pos 1) 8 ∷ []
-  pub uneven_ones : map (payoff_one uneven_tables) (leaf_visits uneven) ≡ fraction_over (pos 5) 2 ∷ fraction_over (negsuc 0) 2 ∷ fraction_over (pos 3) 2 ∷ fraction_over (negsuc 0) 2 ∷ fraction_over (negsuc 0) 2 ∷ []
-  pub uneven_twos : map (payoff_two uneven_tables) (leaf_visits uneven) ≡ fraction_over (negsuc 1) 3 ∷ fraction_over (pos 16) 3 ∷ fraction_over (pos 13) 3 ∷ fraction_over (pos 16) 3 ∷ fraction_over (pos 16) 3 ∷ []
+  pub uneven_reaches : map (λ leaf. reach uneven_tables leaf.path)
+      (leaf_visits uneven)
+      ≡ fraction_over (pos 1) 2 ∷ fraction_over (pos 1) 3 ∷ fraction_over (pos 1) 3 ∷ fraction_over (pos 1) 24 ∷ fraction_over (pos 1) 8 ∷ []
+  pub uneven_ones : map (payoff_one uneven_tables)
+      (leaf_visits uneven)
+      ≡ fraction_over (pos 5) 2 ∷ fraction_over (negsuc 0) 2 ∷ fraction_over (pos 3) 2 ∷ fraction_over (negsuc 0) 2 ∷ fraction_over (negsuc 0) 2 ∷ []
+  pub uneven_twos : map (payoff_two uneven_tables)
+      (leaf_visits uneven)
+      ≡ fraction_over (negsuc 1) 3 ∷ fraction_over (pos 16) 3 ∷ fraction_over (pos 13) 3 ∷ fraction_over (pos 16) 3 ∷ fraction_over (pos 16) 3 ∷ []
   pub uneven_unit : game_unit uneven_tables uneven ≡ 48
   pub uneven_weights : weights uneven_tables uneven ≡ pos 60 ∷ negsuc 7 ∷ pos 24 ∷ negsuc 0 ∷ negsuc 2 ∷ []
   pub uneven_mass : game_mass uneven_tables uneven ≡ 96

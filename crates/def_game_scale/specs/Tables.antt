@@ -1,4 +1,5 @@
--- The probabilities and payoffs along a path (Gambit's manual, "The extensive game (.efg) file format"), as exact fractions.
+-- The probabilities and payoffs along a path (Gambit's manual, "The extensive game (.efg) file format"),
+-- as exact fractions.
 use Rattle.std.specs.Prelude.{◌≡◌, ℕ, zero, suc, ◌-◌, pos, if◌then◌else◌, List, [], ◌∷◌, slice_index_or, All}
 use Rattle.def_tree.specs.declared.Kind.TheVariants.{Chance}
 use Rattle.def_tree.specs.Tree.{Forest}

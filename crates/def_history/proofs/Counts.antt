@@ -39,7 +39,8 @@ pub Contains_from_times : (job : ℕ) (jobs : List ℕ) → 1 ≤ times job jobs
 Contains_from_times job [] h = absurd (omega arith)
 Contains_from_times job (head ∷ tail) h = by_head (Contains_from_times job tail) (eqb head job) refl
   where
-    by_head : (1 ≤ times job tail → Contains tail job) → (same : Bool) → eqb head job ≡ same → Contains (head ∷ tail) job
+    by_head : (1 ≤ times job tail → Contains tail job) → (same : Bool) → eqb head job ≡ same
+        → Contains (head ∷ tail) job
     by_head later true e = let is : head ≡ job = grind (arith, nat_tests) in subst (λ x. Contains (head ∷ tail) x) is (Contains-head head tail)
     by_head later false e =
         let none : one_if (eqb head job) ≡ 0 = rw e refl in
@@ -52,7 +53,8 @@ is_right job stripe right = eqb right.job job && eqb right.stripe stripe
 
 -- a right is in a list as often as at its head and in its tail together
 pub times_right-cons : (job stripe : ℕ) (head : Right) (tail : List Right)
-    → times_right job stripe (head ∷ tail) ≡ cond (eqb head.job job && eqb head.stripe stripe) 1 0 + times_right job stripe tail
+    → times_right job stripe (head ∷ tail)
+    ≡ cond (eqb head.job job && eqb head.stripe stripe) 1 0 + times_right job stripe tail
 times_right-cons job stripe head tail = sum_by-cons (λ (right : Right). cond (eqb right.job job && eqb right.stripe stripe) 1 0) head tail
 
 -- the test of a right on itself counts one
@@ -105,7 +107,9 @@ pub times-range : (first count job : ℕ)
 times-range first zero job = grind (arith, nat_tests)
 times-range first (suc count) job = rw times-cons (rw (times-range (first + 1) count job) (step first count job))
   where
-    step : (first count job : ℕ) → cond (eqb first job) 1 0 + cond (ltb job (first + 1)) 0 (cond (ltb job (first + 1 + count)) 1 0) ≡ cond (ltb job first) 0 (cond (ltb job (first + suc count)) 1 0)
+    step : (first count job : ℕ)
+        → cond (eqb first job) 1 0 + cond (ltb job (first + 1)) 0 (cond (ltb job (first + 1 + count)) 1 0)
+        ≡ cond (ltb job first) 0 (cond (ltb job (first + suc count)) 1 0)
     step first count job = grind (arith, nat_tests)
 
 -- every job is once among the numbers of the jobs, and nothing else is
@@ -114,12 +118,15 @@ times-job_numbers jobs job = let r = times-range 0 jobs job in grind (arith, nat
 
 -- a job's rights for all stripes: each once
 pub times_right-range : (of job stripe first count : ℕ)
-    → times_right job stripe (map (λ (s : ℕ). record { job = of; stripe = s }) (range_with_len first count)) ≡ cond (eqb of job) (times stripe (range_with_len first count)) 0
+    → times_right job stripe (map (λ (s : ℕ). record { job = of; stripe = s }) (range_with_len first count))
+    ≡ cond (eqb of job) (times stripe (range_with_len first count)) 0
 times_right-range of job stripe first zero = grind (arith, nat_tests)
 times_right-range of job stripe first (suc count) =
     rw times_right-cons (rw (times_right-range of job stripe (first + 1) count) (rw times-cons (step of job stripe first (times stripe (range_with_len (first + 1) count)))))
   where
-    step : (of job stripe first rest : ℕ) → cond (eqb of job && eqb first stripe) 1 0 + cond (eqb of job) rest 0 ≡ cond (eqb of job) (cond (eqb first stripe) 1 0 + rest) 0
+    step : (of job stripe first rest : ℕ)
+        → cond (eqb of job && eqb first stripe) 1 0 + cond (eqb of job) rest 0
+        ≡ cond (eqb of job) (cond (eqb first stripe) 1 0 + rest) 0
     step of job stripe first rest = grind (arith, nat_tests)
 
 -- a job's rights have each stripe once, and nothing of another job

@@ -88,18 +88,21 @@ ends_complete jobs state reached end k d below =
     subst (λ (h : List ℕ). IsComplete jobs h) (same_element state.histories k [] d below) (complete_at jobs state reached end k below)
 
 -- ---- replay: lists that have each number equally often have one sum
+-- a list that has a number at least once is a front, this number and what is behind it
 pub split_at : (x : ℕ) (ys : List ℕ) → 1 ≤ times x ys → (front : List ℕ) × (back : List ℕ) × (ys ≡ front ++ x ∷ back)
 split_at x [] h = absurd (omega arith)
 split_at x (y ∷ ys) h = by_head (split_at x ys) (eqb y x) refl
   where
-    by_head : (1 ≤ times x ys → (front : List ℕ) × (back : List ℕ) × (ys ≡ front ++ x ∷ back)) → (same : Bool) → eqb y x ≡ same → (front : List ℕ) × (back : List ℕ) × (y ∷ ys ≡ front ++ x ∷ back)
+    by_head : (1 ≤ times x ys → (front : List ℕ) × (back : List ℕ) × (ys ≡ front ++ x ∷ back)) → (same : Bool)
+        → eqb y x ≡ same → (front : List ℕ) × (back : List ℕ) × (y ∷ ys ≡ front ++ x ∷ back)
     by_head later true e = let is : y ≡ x = grind (arith, nat_tests) in ([], ys, ap (λ z. z ∷ ys) is)
     by_head later false e =
         let none : one_if (eqb y x) ≡ 0 = rw e refl in
         let rest : 1 ≤ times x ys = omega (arith, times-cons x y ys, none, h) in
         from (later rest)
       where
-        from : (front : List ℕ) × (back : List ℕ) × (ys ≡ front ++ x ∷ back) → (front : List ℕ) × (back : List ℕ) × (y ∷ ys ≡ front ++ x ∷ back)
+        from : (front : List ℕ) × (back : List ℕ) × (ys ≡ front ++ x ∷ back)
+            → (front : List ℕ) × (back : List ℕ) × (y ∷ ys ≡ front ++ x ∷ back)
         from (front, back, is) = (y ∷ front, back, ap (λ zs. y ∷ zs) is)
 
 -- a list with x in its middle has a job as often as without it, and once more where the job is x
@@ -125,7 +128,8 @@ pub same_sum : (f : ℕ → ℤ) (xs ys : List ℕ) → ((job : ℕ) → times j
 same_sum f [] ys same = ap (sum_over f) (sym (nothing_in ys same))
 same_sum f (x ∷ xs) ys same = from (same_sum f xs) (split_at x ys (let a = times-self x xs in let b = same x in omega (arith, a, b)))
   where
-    from : ((ys' : List ℕ) → ((job : ℕ) → times job xs ≡ times job ys') → sum_over f xs ≡ sum_over f ys') → (front : List ℕ) × (back : List ℕ) × (ys ≡ front ++ x ∷ back) → f x +ℤ sum_over f xs ≡ sum_over f ys
+    from : ((ys' : List ℕ) → ((job : ℕ) → times job xs ≡ times job ys') → sum_over f xs ≡ sum_over f ys')
+        → (front : List ℕ) × (back : List ℕ) × (ys ≡ front ++ x ∷ back) → f x +ℤ sum_over f xs ≡ sum_over f ys
     from later (front, back, is) =
         let rest : (job : ℕ) → times job xs ≡ times job (front ++ back) =
         (λ (job : ℕ). let a = times-cons job x xs in let b = same job in let c = times-middle job x front back in let e : times job ys ≡ times job (front ++ x ∷ back) = ap (times job) is in omega (arith, a, b, c, e)) in
@@ -160,10 +164,12 @@ ends_with_plain_sums jobs state reached end some amount row =
     (complete_at jobs state reached end (row % stripe_count state) is_stripe) amount row
 
 -- ---- rows and stripes
+-- where there is a stripe, each row is at its place of its stripe and nowhere else
 pub each_row_once : EachRowHasOnePlace
 each_row_once stripes row some = record { stripe = mod_below row stripes some; there = div-add-mod' row stripes; alone = alone }
   where
-    alone : (stripe place : ℕ) → stripe < stripes → place * stripes + stripe ≡ row → (stripe ≡ stripe_of stripes row) × (place ≡ place_of stripes row)
+    alone : (stripe place : ℕ) → stripe < stripes → place * stripes + stripe ≡ row
+        → (stripe ≡ stripe_of stripes row) × (place ≡ place_of stripes row)
     alone stripe place below is =
         let same = same_from_place place stripe (row / stripes) (row % stripes) stripes below (mod_below row stripes some) (is ∙ sym (div-add-mod' row stripes)) in
         (same.1, same.0)

@@ -24,7 +24,8 @@ some_positive : {X : Type 0} (f : X → ℕ) (d : X) (xs : List X) → 1 ≤ sum
 some_positive f d [] h = absurd (omega arith)
 some_positive f d (x ∷ xs) h = elim (cases_lt 0 (f x)) [ inl here ↦ (0, omega arith, here) | inr none ↦ later (some_positive f d xs (omega (arith, sum_by-cons f x xs, h, none))) ]
   where
-    later : ((i : ℕ) × (i < length xs) × (1 ≤ f (get_or xs i d))) → (i : ℕ) × (i < length (x ∷ xs)) × (1 ≤ f (get_or (x ∷ xs) i d))
+    later : ((i : ℕ) × (i < length xs) × (1 ≤ f (get_or xs i d)))
+        → (i : ℕ) × (i < length (x ∷ xs)) × (1 ≤ f (get_or (x ∷ xs) i d))
     later (i, below, at) = (suc i, omega arith, at)
 
 -- two elements of a sum
@@ -93,10 +94,14 @@ holds_or_gives_up jobs state reached job stripe is_job is_stripe =
     only_bag here the_bag holds = refl
     only_bag here (the_pass pass) holds = absurd (let a = held_by_pass state pass job stripe holds in omega (arith, a, here, once))
 
-    with_pass : times job state.bag ≤ 0 → 0 < times_held state job stripe → (holder : Holder) × Holds state holder job stripe × ((other : Holder) → Holds state other job stripe → other ≡ holder)
+    with_pass : times job state.bag ≤ 0 → 0 < times_held state job stripe
+        → (holder : Holder) × Holds state holder job stripe
+        × ((other : Holder) → Holds state other job stripe → other ≡ holder)
     with_pass no_bag here = from (some_positive (λ rights. times_right job stripe rights) [] state.passes here)
       where
-        from : (i : ℕ) × (i < length state.passes) × (1 ≤ times_right job stripe (get_or state.passes i [])) → (holder : Holder) × Holds state holder job stripe × ((other : Holder) → Holds state other job stripe → other ≡ holder)
+        from : (i : ℕ) × (i < length state.passes) × (1 ≤ times_right job stripe (get_or state.passes i []))
+            → (holder : Holder) × Holds state holder job stripe
+            × ((other : Holder) → Holds state other job stripe → other ≡ holder)
         from (pass, below, at) = (the_pass pass, Contains_from_times_right job stripe (rights_held state pass) at, only)
           where
             only : (other : Holder) → Holds state other job stripe → other ≡ the_pass pass

@@ -15,6 +15,7 @@ use Rattle.def_history.proofs.Counts.{one_if, times-cons, times-self, times-job_
 use Rattle.def_history.proofs.Ends.{split_at, times-middle}
 
 -- ---- what is done under one lock is a step of the core
+-- whatever else the state is, what is done under the bag's lock is a draw, and under a stripe's lock an addition
 pub local_steps_are_steps : LocalStepsAreSteps
 local_steps_are_steps = record {
   under_the_bag = λ before pass job bag held is_pass takes.
@@ -44,18 +45,22 @@ right_split : (x : Right) (ys : List Right) → 1 ≤ times_right x.job x.stripe
 right_split x [] h = absurd (omega arith)
 right_split x (y ∷ ys) h = by_head (right_split x ys) (eqb y.job x.job && eqb y.stripe x.stripe) refl
   where
-    by_head : (1 ≤ times_right x.job x.stripe ys → (front : List Right) × (back : List Right) × (ys ≡ front ++ x ∷ back)) → (same : Bool) → (eqb y.job x.job && eqb y.stripe x.stripe) ≡ same → (front : List Right) × (back : List Right) × (y ∷ ys ≡ front ++ x ∷ back)
+    by_head : (1 ≤ times_right x.job x.stripe ys → (front : List Right) × (back : List Right) × (ys ≡ front ++ x ∷ back))
+        → (same : Bool) → (eqb y.job x.job && eqb y.stripe x.stripe) ≡ same
+        → (front : List Right) × (back : List Right) × (y ∷ ys ≡ front ++ x ∷ back)
     by_head later true e = ([], ys, ap (λ z. z ∷ ys) (right_is y x.job x.stripe e))
     by_head later false e =
         let none : one_if (eqb y.job x.job && eqb y.stripe x.stripe) ≡ 0 = rw e refl in
         let rest : 1 ≤ times_right x.job x.stripe ys = omega (arith, times_right-cons x.job x.stripe y ys, none, h) in
         from (later rest)
       where
-        from : (front : List Right) × (back : List Right) × (ys ≡ front ++ x ∷ back) → (front : List Right) × (back : List Right) × (y ∷ ys ≡ front ++ x ∷ back)
+        from : (front : List Right) × (back : List Right) × (ys ≡ front ++ x ∷ back)
+            → (front : List Right) × (back : List Right) × (y ∷ ys ≡ front ++ x ∷ back)
         from (front, back, is) = (y ∷ front, back, ap (λ zs. y ∷ zs) is)
 
 right-middle : (job stripe : ℕ) (x : Right) (front back : List Right)
-    → times_right job stripe (front ++ x ∷ back) ≡ one_if (eqb x.job job && eqb x.stripe stripe) + times_right job stripe (front ++ back)
+    → times_right job stripe (front ++ x ∷ back)
+    ≡ one_if (eqb x.job job && eqb x.stripe stripe) + times_right job stripe (front ++ back)
 right-middle job stripe x front back =
     let f : Right → ℕ = λ right. cond (eqb right.job job && eqb right.stripe stripe) 1 0 in
     omega (arith, sum_by-append f front (x ∷ back), sum_by-append f front back, sum_by-cons f x back)
@@ -72,7 +77,8 @@ permuted : (xs ys : List Right) → ((job stripe : ℕ) → times_right job stri
 permuted [] ys same = subst (IsPermutation []) (sym (no_right ys same)) (IsPermutation-refl [])
 permuted (x ∷ xs) ys same = from (permuted xs) (right_split x ys (let a = has_itself x xs in let b = same x.job x.stripe in omega (arith, a, b)))
   where
-    from : ((ys' : List Right) → ((job stripe : ℕ) → times_right job stripe xs ≡ times_right job stripe ys') → IsPermutation xs ys') → (front : List Right) × (back : List Right) × (ys ≡ front ++ x ∷ back) → IsPermutation (x ∷ xs) ys
+    from : ((ys' : List Right) → ((job stripe : ℕ) → times_right job stripe xs ≡ times_right job stripe ys') → IsPermutation xs ys')
+        → (front : List Right) × (back : List Right) × (ys ≡ front ++ x ∷ back) → IsPermutation (x ∷ xs) ys
     from later (front, back, is) =
         let rest : (job stripe : ℕ) → times_right job stripe xs ≡ times_right job stripe (front ++ back) =
         (λ (job stripe : ℕ).
@@ -110,7 +116,8 @@ pub no_greater_sum : (f : ℕ → ℕ) (xs ys : List ℕ) → ((job : ℕ) → t
 no_greater_sum f [] ys fewer = omega arith
 no_greater_sum f (x ∷ xs) ys fewer = from (no_greater_sum f xs) (split_at x ys (let a = times-self x xs in let b = fewer x in omega (arith, a, b)))
   where
-    from : ((ys' : List ℕ) → ((job : ℕ) → times job xs ≤ times job ys') → nat_sum_over f xs ≤ nat_sum_over f ys') → (front : List ℕ) × (back : List ℕ) × (ys ≡ front ++ x ∷ back) → f x + nat_sum_over f xs ≤ nat_sum_over f ys
+    from : ((ys' : List ℕ) → ((job : ℕ) → times job xs ≤ times job ys') → nat_sum_over f xs ≤ nat_sum_over f ys')
+        → (front : List ℕ) × (back : List ℕ) × (ys ≡ front ++ x ∷ back) → f x + nat_sum_over f xs ≤ nat_sum_over f ys
     from later (front, back, is) =
         let rest : (job : ℕ) → times job xs ≤ times job (front ++ back) =
         (λ (job : ℕ). let a = times-cons job x xs in let b = fewer job in let c = times-middle job x front back in let e : times job ys ≡ times job (front ++ x ∷ back) = ap (times job) is in omega (arith, a, b, c, e)) in

@@ -24,8 +24,10 @@ found amount job row [] rising have = inr (All-nil (λ (entry : Entry). entry.ro
 found amount job row (entry ∷ entries) (above, rising) have =
     by_head (found amount job row entries rising (λ k d inside. have (suc k) d (omega arith))) (eqb entry.row row) refl
   where
-    by_head : (brought entries row ≡ amount job row) ⊎ (All (λ e. e.row ≢ row) entries × (brought entries row ≡ pos 0)) → (same : Bool) → eqb entry.row row ≡ same
-        → (brought (entry ∷ entries) row ≡ amount job row) ⊎ (All (λ e. e.row ≢ row) (entry ∷ entries) × (brought (entry ∷ entries) row ≡ pos 0))
+    by_head : (brought entries row ≡ amount job row) ⊎ (All (λ e. e.row ≢ row) entries × (brought entries row ≡ pos 0))
+        → (same : Bool) → eqb entry.row row ≡ same
+        → (brought (entry ∷ entries) row ≡ amount job row)
+        ⊎ (All (λ e. e.row ≢ row) (entry ∷ entries) × (brought (entry ∷ entries) row ≡ pos 0))
     by_head later true e =
         let is : entry.row ≡ row = grind (arith, nat_tests) in
         let nothing : brought entries row ≡ pos 0 = later_bring_nothing row entries (subst (λ r. All (λ l. r < l.row) entries) is above) in

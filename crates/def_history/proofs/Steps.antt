@@ -10,6 +10,8 @@ use Rattle.def_history.specs.History.{times}
 use Rattle.def_history.specs.Core.{State, Right, Step, draw, add, Draws, Adds, OneStepLeads, StepsLead, none, first, IsOpening, IsReached, times_right, times_held, rights_of, rights_held, history_of, stripe_count}
 use Rattle.def_history.proofs.Counts.{one_if, times-job_numbers, times_right-rights_of}
 
+-- for each stripe, each job is once in all in the bag, held by a pass or in the stripe's history, and no other is;
+-- no right of another stripe is held, and the bag has each job at most once, and no other
 pub record IsBalanced (jobs : ℕ) (state : State) : Type 0 where
   pub balance : (job stripe : ℕ) → stripe < stripe_count state
       → times job state.bag + times_held state job stripe + times job (history_of state stripe) ≡ one_if (ltb job jobs)
@@ -20,7 +22,8 @@ pub record IsBalanced (jobs : ℕ) (state : State) : Type 0 where
 held_after : (before after : State) (pass : ℕ) → pass < length before.passes
     → after.passes ≡ set before.passes pass (rights_held after pass)
     → (job stripe : ℕ)
-    → times_held after job stripe + times_right job stripe (rights_held before pass) ≡ times_held before job stripe + times_right job stripe (rights_held after pass)
+    → times_held after job stripe + times_right job stripe (rights_held before pass)
+    ≡ times_held before job stripe + times_right job stripe (rights_held after pass)
 held_after before after pass below is job stripe =
     let f : List Right → ℕ = λ rights. times_right job stripe rights in
     let e = sum_by-set f before.passes pass (rights_held after pass) [] below in
@@ -37,7 +40,8 @@ right_popped job stripe right xs ys perm = sum_by_popped (λ (x : Right). cond (
 
 -- ---- a draw
 draw_held : (before : State) (pass drawn : ℕ) (after : State) → Draws before pass drawn after → (job stripe : ℕ)
-    → times_held after job stripe ≡ times_held before job stripe + cond (eqb drawn job) (one_if (ltb stripe (stripe_count before))) 0
+    → times_held after job stripe
+    ≡ times_held before job stripe + cond (eqb drawn job) (one_if (ltb stripe (stripe_count before))) 0
 draw_held before pass drawn after step job stripe =
     let a = held_after before after pass step.is_pass step.other_passes job stripe in
     let b : times_right job stripe (rights_held before pass) ≡ 0 = ap (λ (rights : List Right). times_right job stripe rights) step.takes_job.held_none in
@@ -56,7 +60,9 @@ draw_keeps jobs before pass drawn after old step = record { balance = balance; n
     same_count : stripe_count after ≡ stripe_count before
     same_count = ap length step.histories
 
-    balance : (job stripe : ℕ) → stripe < stripe_count after → times job after.bag + times_held after job stripe + times job (history_of after stripe) ≡ one_if (ltb job jobs)
+    balance : (job stripe : ℕ) → stripe < stripe_count after
+        → times job after.bag + times_held after job stripe + times job (history_of after stripe)
+        ≡ one_if (ltb job jobs)
     balance job stripe below =
         let below' : stripe < stripe_count before = omega (arith, same_count) in
         let inside : ltb stripe (stripe_count before) ≡ true = grind (arith, nat_tests) in
@@ -106,7 +112,10 @@ add_history before pass job stripe after step below j k =
     let e : history_of after k ≡ get_or (set before.histories stripe (history_of before stripe ++ job ∷ [])) k [] = ap (λ (h : List (List ℕ)). get_or h k []) (histories_after before pass job stripe after step) in
     ap (times j) e ∙ elim (cases_eq k stripe) [ inl same ↦ here e same | inr other ↦ there e other ]
   where
-    here : (history_of after k ≡ get_or (set before.histories stripe (history_of before stripe ++ job ∷ [])) k []) → k ≡ stripe → times j (get_or (set before.histories stripe (history_of before stripe ++ job ∷ [])) k []) ≡ times j (history_of before k) + one_if (eqb job j && eqb stripe k)
+    here : (history_of after k ≡ get_or (set before.histories stripe (history_of before stripe ++ job ∷ [])) k [])
+        → k ≡ stripe
+        → times j (get_or (set before.histories stripe (history_of before stripe ++ job ∷ [])) k [])
+        ≡ times j (history_of before k) + one_if (eqb job j && eqb stripe k)
     here e same =
         subst (λ (k' : ℕ). times j (get_or (set before.histories stripe (history_of before stripe ++ job ∷ [])) k' []) ≡ times j (history_of before k') + one_if (eqb job j && eqb stripe k')) (sym same)
         (let at : get_or (set before.histories stripe (history_of before stripe ++ job ∷ [])) stripe [] ≡ history_of before stripe ++ job ∷ [] = get_or-set_same before.histories stripe (history_of before stripe ++ job ∷ []) [] below in
@@ -114,7 +123,10 @@ add_history before pass job stripe after step below j k =
         let one : one_if (eqb job j && eqb stripe stripe) ≡ one_if (eqb job j) = grind (arith, nat_tests) in
         ap (times j) at ∙ push ∙ ap (λ n. times j (history_of before stripe) + n) (sym one))
 
-    there : (history_of after k ≡ get_or (set before.histories stripe (history_of before stripe ++ job ∷ [])) k []) → k ≢ stripe → times j (get_or (set before.histories stripe (history_of before stripe ++ job ∷ [])) k []) ≡ times j (history_of before k) + one_if (eqb job j && eqb stripe k)
+    there : (history_of after k ≡ get_or (set before.histories stripe (history_of before stripe ++ job ∷ [])) k [])
+        → k ≢ stripe
+        → times j (get_or (set before.histories stripe (history_of before stripe ++ job ∷ [])) k [])
+        ≡ times j (history_of before k) + one_if (eqb job j && eqb stripe k)
     there e other =
         let at : get_or (set before.histories stripe (history_of before stripe ++ job ∷ [])) k [] ≡ history_of before k = get_or-set_other before.histories stripe k (history_of before stripe ++ job ∷ []) [] other in
         let zero' : one_if (eqb job j && eqb stripe k) ≡ 0 = grind (arith, nat_tests) in
@@ -133,7 +145,8 @@ add_keeps jobs before pass job stripe after old step = record { balance = balanc
     same_count : stripe_count after ≡ stripe_count before
     same_count = ap length (histories_after before pass job stripe after step) ∙ length-set before.histories stripe (history_of before stripe ++ job ∷ [])
 
-    balance : (j k : ℕ) → k < stripe_count after → times j after.bag + times_held after j k + times j (history_of after k) ≡ one_if (ltb j jobs)
+    balance : (j k : ℕ) → k < stripe_count after
+        → times j after.bag + times_held after j k + times j (history_of after k) ≡ one_if (ltb j jobs)
     balance j k inside =
         let inside' : k < stripe_count before = omega (arith, same_count) in
         let bag : times j after.bag ≡ times j before.bag = ap (times j) step.bag in
@@ -170,7 +183,9 @@ opening_balanced jobs state opening = record { balance = balance; no_stripe = λ
     bag_is : (job : ℕ) → times job state.bag ≡ one_if (ltb job jobs)
     bag_is job = sum_by-IsPermutation (λ (x : ℕ). cond (eqb x job) 1 0) _ _ opening.bag ∙ times-job_numbers jobs job
 
-    balance : (job stripe : ℕ) → stripe < stripe_count state → times job state.bag + times_held state job stripe + times job (history_of state stripe) ≡ one_if (ltb job jobs)
+    balance : (job stripe : ℕ) → stripe < stripe_count state
+        → times job state.bag + times_held state job stripe + times job (history_of state stripe)
+        ≡ one_if (ltb job jobs)
     balance job stripe below =
         let history : times job (history_of state stripe) ≡ 0 = ap (times job) (opening.histories stripe [] below) in
         omega (arith, bag_is job, history, no_rights state.passes opening.passes job stripe)

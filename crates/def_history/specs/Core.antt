@@ -33,7 +33,8 @@ pub record TakesJob (stripes : ℕ) (bag : List ℕ) (held : List Right) (job : 
   pub leaves_bag : IsPermutation bag (job ∷ bag_after)
   pub gets_rights : IsPermutation (rights_of job stripes) held_after
 
--- what is done under one stripe's lock: the right to add the job there is given up, and the job joins the history at its end
+-- what is done under one stripe's lock: the right to add the job there is given up,
+-- and the job joins the history at its end
 pub record GivesRight (stripe : ℕ) (history : List ℕ) (held : List Right) (job : ℕ) (history_after : List ℕ) (held_after : List Right) : Type 0 where
   pub gives_right : IsPermutation held (record { job = job; stripe = stripe } ∷ held_after)
   pub joins_history : history_after ≡ history ++ job ∷ []
@@ -48,7 +49,8 @@ pub record Draws (before : State) (pass job : ℕ) (after : State) : Type 0 wher
 -- a pass adds a job into a stripe; all else stays
 pub record Adds (before : State) (pass job stripe : ℕ) (after : State) : Type 0 where
   pub is_pass : pass < length before.passes
-  pub gives_up : GivesRight stripe (history_of before stripe) (rights_held before pass) job (history_of after stripe) (rights_held after pass)
+  pub gives_up : GivesRight stripe (history_of before stripe) (rights_held before pass) job (history_of after stripe)
+      (rights_held after pass)
   pub other_passes : after.passes ≡ slice_set before.passes pass (rights_held after pass)
   pub other_histories : after.histories ≡ slice_set before.histories stripe (history_of after stripe)
   pub bag : after.bag ≡ before.bag

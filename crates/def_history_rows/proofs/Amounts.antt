@@ -38,7 +38,8 @@ amount_size : (player : Player) (against : List ℕ) (bound : ℕ) (z : Leaf) (s
     → unsigned_abs (amount_at player against z s) ≤ unsigned_abs z.weight * bound
 amount_size player against bound z s small = by_test (eqb (leaf_sequence player z) s)
   where
-    by_test : (b : Bool) → unsigned_abs (cond b (z.weight *ℤ pos (slice_index against (leaf_sequence (opponent player) z))) (pos 0)) ≤ unsigned_abs z.weight * bound
+    by_test : (b : Bool)
+        → unsigned_abs (cond b (z.weight *ℤ pos (slice_index against (leaf_sequence (opponent player) z))) (pos 0)) ≤ unsigned_abs z.weight * bound
     by_test true = omega (arith, unsigned_abs-mul z.weight (pos (slice_index against (leaf_sequence (opponent player) z))), mul-le-mul_left (unsigned_abs z.weight) (small (leaf_sequence (opponent player) z)))
     by_test false = omega arith
 
@@ -56,6 +57,7 @@ amounts_small form numbers_one numbers_two bound ranges partitions small_one sma
     let each = nat_sum_over-mono (λ z. unsigned_abs (amount_in_row form numbers_one numbers_two z row)) (λ z. unsigned_abs z.weight * bound) form.leaves (λ k d below. in_row (ltb row (sequence_count form.sets_one)) (get_or form.leaves k d)) in
     omega (arith, by_range, spread, together, all, by_leaf, each, nat_sum_over-factor bound (λ z. unsigned_abs z.weight) form.leaves)
   where
-    in_row : (b : Bool) (z : Leaf) → unsigned_abs (cond b (amount_at One numbers_two z row) (amount_at Two numbers_one z (row - sequence_count form.sets_one))) ≤ unsigned_abs z.weight * bound
+    in_row : (b : Bool) (z : Leaf)
+        → unsigned_abs (cond b (amount_at One numbers_two z row) (amount_at Two numbers_one z (row - sequence_count form.sets_one))) ≤ unsigned_abs z.weight * bound
     in_row true z = amount_size One numbers_two bound z row small_two
     in_row false z = amount_size Two numbers_one bound z (row - sequence_count form.sets_one) small_one

@@ -28,7 +28,8 @@ all_kept : (P : Entry → Type 0) (amount : ℕ → ℤ) (test : ℕ → Bool) (
 all_kept P amount test from zero holds = All-nil P
 all_kept P amount test from (suc count) holds = by_test (test from) refl (all_kept P amount test (from + 1) count (λ row low high. holds row (omega arith) (omega arith)))
   where
-    by_test : (b : Bool) → test from ≡ b → All P (kept amount test (from + 1) count) → All P (kept amount test from (suc count))
+    by_test : (b : Bool) → test from ≡ b → All P (kept amount test (from + 1) count)
+        → All P (kept amount test from (suc count))
     by_test true e later = rw e (All-cons P (record { row = from; amount = amount from }) (kept amount test (from + 1) count) (holds from (omega arith) (omega arith)) later)
     by_test false e later = rw e later
 
@@ -36,7 +37,8 @@ rising : (amount : ℕ → ℤ) (test : ℕ → Bool) (from count : ℕ) → Are
 rising amount test from zero = tt
 rising amount test from (suc count) = by_test (test from) refl (rising amount test (from + 1) count)
   where
-    by_test : (b : Bool) → test from ≡ b → AreRising (kept amount test (from + 1) count) → AreRising (kept amount test from (suc count))
+    by_test : (b : Bool) → test from ≡ b → AreRising (kept amount test (from + 1) count)
+        → AreRising (kept amount test from (suc count))
     by_test true e later = rw e (all_kept (λ (x : Entry). from < x.row) amount test (from + 1) count (λ row low high. omega arith), later)
     by_test false e later = rw e later
 
@@ -47,7 +49,8 @@ passes_is_kept amount test from zero row low high passes none = absurd (omega ar
 passes_is_kept amount test from (suc count) row low high passes none =
     by_place (λ next others. passes_is_kept amount test (from + 1) count row next (omega arith) passes others) (eqb from row) refl (test from) refl
   where
-    by_place : (from + 1 ≤ row → All (λ (x : Entry). x.row ≢ row) (kept amount test (from + 1) count) → ⊥) → (here : Bool) → eqb from row ≡ here → (b : Bool) → test from ≡ b → ⊥
+    by_place : (from + 1 ≤ row → All (λ (x : Entry). x.row ≢ row) (kept amount test (from + 1) count) → ⊥)
+        → (here : Bool) → eqb from row ≡ here → (b : Bool) → test from ≡ b → ⊥
     by_place later true h true e =
         let is : from ≡ row = grind (arith, nat_tests) in
         let others = rw e at none in
@@ -81,8 +84,10 @@ no_leaf_no_amount form numbers_one numbers_two row (z ∷ leaves) untouched =
     or-right true b e = absurd (cc)
     or-right false b e = e
 
-    nothing : (b : Bool) → cond b (eqb z.sequence_one row) (eqb z.sequence_two (row - sequence_count form.sets_one)) ≡ false
-        → cond b (amount_at One numbers_two z row) (amount_at Two numbers_one z (row - sequence_count form.sets_one)) ≡ pos 0
+    nothing : (b : Bool)
+        → cond b (eqb z.sequence_one row) (eqb z.sequence_two (row - sequence_count form.sets_one)) ≡ false
+        → cond b (amount_at One numbers_two z row) (amount_at Two numbers_one z (row - sequence_count form.sets_one))
+        ≡ pos 0
     nothing true e = rw e refl
     nothing false e = rw e refl
 
@@ -93,7 +98,8 @@ untouched_amount : (form : SequenceForm) (numbers_one numbers_two : List ℕ) (r
     → job_amount (leaf_amount form numbers_one numbers_two) range row ≡ pos 0
 untouched_amount form numbers_one numbers_two range within row is_row none = by_test (is_touched form (job_leaves form range) row) refl
   where
-    by_test : (b : Bool) → is_touched form (job_leaves form range) row ≡ b → job_amount (leaf_amount form numbers_one numbers_two) range row ≡ pos 0
+    by_test : (b : Bool) → is_touched form (job_leaves form range) row ≡ b
+        → job_amount (leaf_amount form numbers_one numbers_two) range row ≡ pos 0
     by_test true e = absurd (passes_is_kept (λ r. job_amount (leaf_amount form numbers_one numbers_two) range r) (is_touched form (job_leaves form range)) 0 (row_count form) row (omega arith) (omega arith) e none)
     by_test false e = by_number form numbers_one numbers_two range row within ∙ no_leaf_no_amount form numbers_one numbers_two row (job_leaves form range) e
 
@@ -116,11 +122,13 @@ touched_is : (form : SequenceForm) (row : ℕ) (leaves : List Leaf) → is_touch
 touched_is form row [] e = absurd (cc)
 touched_is form row (x ∷ leaves) e = by_head (touched_is form row leaves) (has_row form x row) refl
   where
-    by_head : (is_touched form leaves row ≡ true → (z : Leaf) × Contains leaves z × (has_row form z row ≡ true)) → (b : Bool) → has_row form x row ≡ b → (z : Leaf) × Contains (x ∷ leaves) z × (has_row form z row ≡ true)
+    by_head : (is_touched form leaves row ≡ true → (z : Leaf) × Contains leaves z × (has_row form z row ≡ true))
+        → (b : Bool) → has_row form x row ≡ b → (z : Leaf) × Contains (x ∷ leaves) z × (has_row form z row ≡ true)
     by_head later true h = (x, Contains-head x leaves, h)
     by_head later false h = from (later (rw h at e))
       where
-        from : (z : Leaf) × Contains leaves z × (has_row form z row ≡ true) → (z : Leaf) × Contains (x ∷ leaves) z × (has_row form z row ≡ true)
+        from : (z : Leaf) × Contains leaves z × (has_row form z row ≡ true)
+            → (z : Leaf) × Contains (x ∷ leaves) z × (has_row form z row ≡ true)
         from (z, there, has) = (z, Contains-tail x z leaves there, has)
 
 is_touched_by : (form : SequenceForm) (row : ℕ) (leaves : List Leaf) (z : Leaf) → Contains leaves z
@@ -138,16 +146,19 @@ in_range_is : (test : ℕ → Bool) (from count row : ℕ) → Contains (filter 
 in_range_is test from zero row (k, below, is) = absurd (omega arith)
 in_range_is test from (suc count) row there = by_test (λ later. widen (in_range_is test (from + 1) count row later)) (test from) refl
   where
-    widen : (from + 1 ≤ row) × (row < from + 1 + count) × (test row ≡ true) → (from ≤ row) × (row < from + suc count) × (test row ≡ true)
+    widen : (from + 1 ≤ row) × (row < from + 1 + count) × (test row ≡ true)
+        → (from ≤ row) × (row < from + suc count) × (test row ≡ true)
     widen (low, high, passes) = (omega arith, omega arith, passes)
 
-    at : (Contains (filter test (range_with_len (from + 1) count)) row → (from ≤ row) × (row < from + suc count) × (test row ≡ true)) → test from ≡ true
+    at : (Contains (filter test (range_with_len (from + 1) count)) row → (from ≤ row) × (row < from + suc count) × (test row ≡ true))
+        → test from ≡ true
         → Contains (from ∷ filter test (range_with_len (from + 1) count)) row
         → (from ≤ row) × (row < from + suc count) × (test row ≡ true)
     at later e (zero, below, is) = let here : from ≡ row = is in (omega arith, omega arith, sym (ap test here) ∙ e)
     at later e (suc k, below, is) = later (k, omega arith, is)
 
-    by_test : (Contains (filter test (range_with_len (from + 1) count)) row → (from ≤ row) × (row < from + suc count) × (test row ≡ true)) → (b : Bool) → test from ≡ b
+    by_test : (Contains (filter test (range_with_len (from + 1) count)) row → (from ≤ row) × (row < from + suc count) × (test row ≡ true))
+        → (b : Bool) → test from ≡ b
         → (from ≤ row) × (row < from + suc count) × (test row ≡ true)
     by_test later true e = at later e (rw e at there)
     by_test later false e = later (rw e at there)
@@ -157,7 +168,8 @@ is_in_range : (test : ℕ → Bool) (from count row : ℕ) → from ≤ row → 
 is_in_range test from zero row low high passes = absurd (omega arith)
 is_in_range test from (suc count) row low high passes = by_place (λ next. is_in_range test (from + 1) count row next (omega arith) passes) (eqb from row) refl (test from) refl
   where
-    by_place : (from + 1 ≤ row → Contains (filter test (range_with_len (from + 1) count)) row) → (here : Bool) → eqb from row ≡ here → (b : Bool) → test from ≡ b
+    by_place : (from + 1 ≤ row → Contains (filter test (range_with_len (from + 1) count)) row) → (here : Bool)
+        → eqb from row ≡ here → (b : Bool) → test from ≡ b
         → Contains (filter test (range_with_len from (suc count))) row
     by_place later true h true e =
         let is : from ≡ row = grind (arith, nat_tests) in

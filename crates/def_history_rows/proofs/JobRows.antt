@@ -16,7 +16,8 @@ use Rattle.def_history_rows.specs.Laws.{RowsSumOverLeaves, JobsHaveTheirLeafSums
 -- the leaves by their numbers
 pub by_number : (form : SequenceForm) (numbers_one numbers_two : List ℕ) (range : LeafRange) (row : ℕ)
     → range.first + range.count ≤ length form.leaves
-    → job_amount (leaf_amount form numbers_one numbers_two) range row ≡ sum_over (λ z. amount_in_row form numbers_one numbers_two z row) (job_leaves form range)
+    → job_amount (leaf_amount form numbers_one numbers_two) range row
+    ≡ sum_over (λ z. amount_in_row form numbers_one numbers_two z row) (job_leaves form range)
 by_number form numbers_one numbers_two range row within =
     let long : length (job_leaves form range) ≡ range.count = simp (length-take, length-drop) (omega arith) in
     ap (λ n. sum_over (λ leaf. leaf_amount form numbers_one numbers_two leaf row) (range_with_len range.first n)) (sym long)
@@ -27,7 +28,8 @@ by_number form numbers_one numbers_two range row within =
     at_place place below = rw (get_or-take, get_or-drop)
 
 all_by_number : (form : SequenceForm) (numbers_one numbers_two : List ℕ) (row : ℕ)
-    → sum_over_leaves (leaf_amount form numbers_one numbers_two) (length form.leaves) row ≡ sum_over (λ z. amount_in_row form numbers_one numbers_two z row) form.leaves
+    → sum_over_leaves (leaf_amount form numbers_one numbers_two) (length form.leaves) row
+    ≡ sum_over (λ z. amount_in_row form numbers_one numbers_two z row) form.leaves
 all_by_number form numbers_one numbers_two row =
     sum_over-places (λ z. amount_in_row form numbers_one numbers_two z row) (record { sequence_one = 0; sequence_two = 0; weight = pos 0 }) form.leaves (λ leaf. leaf_amount form numbers_one numbers_two leaf row) 0
     (λ place below. ap (λ leaf. leaf_amount form numbers_one numbers_two leaf row) (zero-add place))

@@ -14,7 +14,8 @@ use Rattle.def_history_rows.specs.JobRows.{leaf_amount, job_leaves}
 -- the plain sums over all leaves are the leaf sums of both players
 pub record SumToLeafSums (form : SequenceForm) (numbers_one numbers_two : List ℕ) : Type 0 where
   pub rows_of_one : (s : ℕ) → s < sequence_count form.sets_one
-      → sum_over_leaves (leaf_amount form numbers_one numbers_two) (length form.leaves) s ≡ leaf_sum One form.leaves numbers_two s
+      → sum_over_leaves (leaf_amount form numbers_one numbers_two) (length form.leaves) s
+      ≡ leaf_sum One form.leaves numbers_two s
   pub rows_of_two : (s : ℕ)
       → sum_over_leaves (leaf_amount form numbers_one numbers_two) (length form.leaves) (sequence_count form.sets_one + s) ≡ leaf_sum Two form.leaves numbers_one s
 
@@ -25,9 +26,11 @@ RowsSumOverLeaves = (form : SequenceForm) (numbers_one numbers_two : List ℕ)
 -- a job's amounts are the leaf sums of its leaves alone
 pub record IsPartOfLeafSums (form : SequenceForm) (numbers_one numbers_two : List ℕ) (range : LeafRange) : Type 0 where
   pub rows_of_one : (s : ℕ) → s < sequence_count form.sets_one
-      → job_amount (leaf_amount form numbers_one numbers_two) range s ≡ leaf_sum One (job_leaves form range) numbers_two s
+      → job_amount (leaf_amount form numbers_one numbers_two) range s
+      ≡ leaf_sum One (job_leaves form range) numbers_two s
   pub rows_of_two : (s : ℕ)
-      → job_amount (leaf_amount form numbers_one numbers_two) range (sequence_count form.sets_one + s) ≡ leaf_sum Two (job_leaves form range) numbers_one s
+      → job_amount (leaf_amount form numbers_one numbers_two) range (sequence_count form.sets_one + s)
+      ≡ leaf_sum Two (job_leaves form range) numbers_one s
 
 abbrev pub JobsHaveTheirLeafSums : Type 0
 JobsHaveTheirLeafSums = (form : SequenceForm) (numbers_one numbers_two : List ℕ) (range : LeafRange)

@@ -22,7 +22,8 @@ of_values x hs values = sum_over (λ (p : PlacedSet × ℤ). p.1 *ℤ pos (slice
 
 -- gain + of_values and root * worth 0 + at_sets are one sum in two orders
 two_orders : (sums : ℕ → ℤ) (sets : List InformationSet) (values : List ℤ) (root : ℕ) (x : List ℕ) → IsPlan sets root x
-    → gain sums sets x +ℤ of_values x (placed sets) values ≡ pos root *ℤ worth sums (placed sets) values 0 +ℤ at_sets (worth sums (placed sets) values) x (placed sets)
+    → gain sums sets x +ℤ of_values x (placed sets) values
+    ≡ pos root *ℤ worth sums (placed sets) values 0 +ℤ at_sets (worth sums (placed sets) values) x (placed sets)
 two_orders sums sets values root x plan =
     let w : ℕ → ℤ = worth sums (placed sets) values in
     let after : ℕ → ℤ = values_after (placed sets) values in
@@ -89,7 +90,8 @@ no_better-cancel One g v t s e h = omega (arith, ints)
 no_better-cancel Two g v t s e h = omega (arith, ints)
 
 -- values of which no action is better bound what every plan of every root gains
-pub weak_duality_lem : (player : Player) (sums : ℕ → ℤ) (sets : List InformationSet) (values : List ℤ) (root : ℕ) (x : List ℕ)
+pub weak_duality_lem : (player : Player) (sums : ℕ → ℤ) (sets : List InformationSet) (values : List ℤ) (root : ℕ)
+    (x : List ℕ)
     → NoActionIsBetter player sums sets values → IsPlan sets root x
     → IsNoBetter player (gain sums sets x) (pos root *ℤ worth sums (placed sets) values 0)
 weak_duality_lem player sums sets values root x h plan =

@@ -46,7 +46,8 @@ from sums first hs = nat_sum_over (λ s. unsigned_abs (sums s)) (range_with_len 
 
 -- the leaf sums at a set, and from the next set on
 pub from-cons : (sums : ℕ → ℤ) (first : ℕ) (h : InformationSet) (hs : List InformationSet)
-    → from sums first (h ∷ hs) ≡ nat_sum_over (λ s. unsigned_abs (sums s)) (range_with_len first h.actions) + from sums (first + h.actions) hs
+    → from sums first (h ∷ hs)
+    ≡ nat_sum_over (λ s. unsigned_abs (sums s)) (range_with_len first h.actions) + from sums (first + h.actions) hs
 from-cons sums first h hs =
     ap (nat_sum_over (λ s. unsigned_abs (sums s))) (range-append first h.actions (nat_sum_over (λ g. g.actions) hs))
     ∙ nat_sum_over-append (λ s. unsigned_abs (sums s)) (range_with_len first h.actions) (range_with_len (first + h.actions) (nat_sum_over (λ g. g.actions) hs))

@@ -22,7 +22,8 @@ in_turn sets =
 
 -- the set k, and the sets from it on
 pub at-placed : (first : ℕ) (hs : List InformationSet) (k : ℕ) (h : PlacedSet) (g : InformationSet) → k < length hs
-    → get_or (placed_from first hs) k h ≡ record { first = first + total_actions (take k hs); before = (get_or hs k g).before; actions = (get_or hs k g).actions }
+    → get_or (placed_from first hs) k h
+    ≡ record { first = first + total_actions (take k hs); before = (get_or hs k g).before; actions = (get_or hs k g).actions }
 at-placed first [] k h g low = absurd (omega arith)
 at-placed first (a ∷ hs) zero h g low =
     let here : first ≡ first + 0 = omega arith in

@@ -20,7 +20,8 @@ gathered val p c [] = zero-*ℤ c
 gathered val p c (z ∷ zs) = one_more val c z (filter p zs) (p z) ∙ ap (λ y. cond (p z) (val z *ℤ c) (pos 0) +ℤ y) (gathered val p c zs)
 
 picked : (v : ℤ) (k n : ℕ) (x : List ℕ) → length x ≡ n
-    → sum_over (λ s. cond (eqb k s) (v *ℤ pos (slice_index x s)) (pos 0)) (range_with_len 0 n) ≡ v *ℤ pos (slice_index x k)
+    → sum_over (λ s. cond (eqb k s) (v *ℤ pos (slice_index x s)) (pos 0)) (range_with_len 0 n)
+    ≡ v *ℤ pos (slice_index x k)
 picked v k n x e =
     ⊎_elim (λ below. pick_in (λ s. v *ℤ pos (slice_index x s)) k 0 n (omega arith) (omega arith))
     (λ past. pick_past (λ s. v *ℤ pos (slice_index x s)) k 0 n (omega arith) ∙ sym (ap (λ m. v *ℤ pos m) (get_or_past x k 0 (omega arith)) ∙ *ℤ-zero v))
@@ -28,7 +29,8 @@ picked v k n x e =
 
 -- what is gathered at each sequence, times the plan's number there, is the sum over all that was gathered
 pub regroup : {A : Type 0} (zs : List A) (key : A → ℕ) (val : A → ℤ) (x : List ℕ) (n : ℕ) → length x ≡ n
-    → sum_over (λ s. sum_over val (filter (λ z. key z == s) zs) *ℤ pos (slice_index x s)) (range_with_len 0 n) ≡ sum_over (λ z. val z *ℤ pos (slice_index x (key z))) zs
+    → sum_over (λ s. sum_over val (filter (λ z. key z == s) zs) *ℤ pos (slice_index x s)) (range_with_len 0 n)
+    ≡ sum_over (λ z. val z *ℤ pos (slice_index x (key z))) zs
 regroup zs key val x n e =
     sum_over-ext _ _ (range_with_len 0 n) (λ s. gathered val (λ z. key z == s) (pos (slice_index x s)) zs)
     ∙ sum_over-exchange (λ s z. cond (eqb (key z) s) (val z *ℤ pos (slice_index x s)) (pos 0)) (range_with_len 0 n) zs
@@ -36,7 +38,8 @@ regroup zs key val x n e =
 
 -- all sequences are the empty one and those of each set
 pub over_sets : (f : ℕ → ℤ) (first : ℕ) (hs : List InformationSet)
-    → sum_over f (range_with_len first (nat_sum_over (λ h. h.actions) hs)) ≡ sum_over (λ h. sum_over f (sequences_of h)) (placed_from first hs)
+    → sum_over f (range_with_len first (nat_sum_over (λ h. h.actions) hs))
+    ≡ sum_over (λ h. sum_over f (sequences_of h)) (placed_from first hs)
 over_sets f first [] = refl
 over_sets f first (h ∷ hs) =
     ap (sum_over f) (range-append first h.actions (nat_sum_over (λ h. h.actions) hs))

@@ -43,7 +43,8 @@ term : (w : ℤ) (n root : ℕ) → n ≤ root → unsigned_abs (w *ℤ pos n) �
 term w n root h = omega (arith, unsigned_abs-mul w (pos n), mul-le-mul_left (unsigned_abs w) h)
 
 -- the leaf sums against a plan are together at most the leaves' mass times the plan's root
-pub leaf_sums-below : (player : Player) (leaves : List Leaf) (sets against_sets : List InformationSet) (root : ℕ) (x : List ℕ)
+pub leaf_sums-below : (player : Player) (leaves : List Leaf) (sets against_sets : List InformationSet) (root : ℕ)
+    (x : List ℕ)
     → AreInOrder against_sets → IsPlan against_sets root x
     → nat_sum_over (λ s. unsigned_abs (leaf_sum player leaves x s)) (sequences sets) ≤ mass_of leaves * root
 leaf_sums-below player leaves sets against_sets root x order p =

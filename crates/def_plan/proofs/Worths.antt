@@ -6,12 +6,14 @@ use Rattle.def_sums.specs.Sum.{sum_over}
 use Rattle.def_plan.specs.Form.{PlacedSet}
 use Rattle.def_plan.specs.Payoff.{worth}
 
--- one more set adds its value to the worth of the sequence before it, and changes no other
+-- w and a sum that takes in a pair's number if b is true are w and the sum without it, and this number if b is true
 kept : (b : Bool) (p : PlacedSet × ℤ) (ps : List (PlacedSet × ℤ)) (w : ℤ)
-    → w +ℤ sum_over (λ q. q.1) (cond b (p ∷ ps) ps) ≡ cond b (w +ℤ sum_over (λ q. q.1) ps +ℤ p.1) (w +ℤ sum_over (λ q. q.1) ps)
+    → w +ℤ sum_over (λ q. q.1) (cond b (p ∷ ps) ps)
+    ≡ cond b (w +ℤ sum_over (λ q. q.1) ps +ℤ p.1) (w +ℤ sum_over (λ q. q.1) ps)
 kept true p ps w = omega (arith, ints)
 kept false p ps w = refl
 
+-- one more set in front adds its value to the worth of the sequence before it, and to no other
 pub worth-cons : (sums : ℕ → ℤ) (h : PlacedSet) (hs : List PlacedSet) (v : ℤ) (vs : List ℤ) (s : ℕ)
     → worth sums (h ∷ hs) (v ∷ vs) s ≡ cond (eqb h.before s) (worth sums hs vs s +ℤ v) (worth sums hs vs s)
 worth-cons sums h hs v vs s = kept (eqb h.before s) (h, v) (filter (λ p. eqb p.0.before s) (zip hs vs)) (sums s)
@@ -24,6 +26,7 @@ AllZip-from_places R [] (y ∷ ys) e h = absurd (omega arith)
 AllZip-from_places R (x ∷ xs) [] e h = absurd (omega arith)
 AllZip-from_places R (x ∷ xs) (y ∷ ys) e h = (h 0 x y (omega arith), AllZip-from_places R xs ys (omega arith) (λ k a b low. h (suc k) a b (omega arith)))
 
+-- two lists that are related pair by pair are so at each place
 pub AllZip-at : {A B : Type 0} (R : A → B → Type 0) (xs : List A) (ys : List B) → AllZip R xs ys
     → (k : ℕ) (a : A) (b : B) → k < length xs → R (get_or xs k a) (get_or ys k b)
 AllZip-at R [] [] h k a b low = absurd (omega arith)

@@ -1,12 +1,15 @@
--- The sequence form of a game of two players (von Stengel 1996): each player's information sets and sequences, and the leaves.
--- A player's sequences are numbered from 0, the empty one. Then come those that end at the first set, in the order of its actions, then those of the second set, and so on.
+-- The sequence form of a game of two players (von Stengel 1996):
+-- each player's information sets and sequences, and the leaves.
+-- A player's sequences are numbered from 0, the empty one. Then come those that end at the first set, in the order of
+-- its actions, then those of the second set, and so on.
 use Rattle.std.specs.Prelude.{ℕ, ◌+◌, ◌≤◌, ◌<◌, List, [], ◌∷◌, ℤ, All}
 use Rattle.std.specs.List.{range_with_len}
 use Rattle.def_tree.specs.declared.Player.{Player}
 use Rattle.def_tree.specs.declared.Player.TheVariants.{One, Two}
 use Rattle.def_sums.specs.Sum.{nat_sum_over}
 
--- an information set: its player's sequence before it, and how many actions it has. Sets stand in the order of their first appearance
+-- an information set: its player's sequence before it, and how many actions it has.
+-- Sets stand in the order of their first appearance
 pub record InformationSet : Type 0 where
   pub before : ℕ
   pub actions : ℕ
@@ -43,7 +46,8 @@ IsInOrder h = (1 ≤ h.actions) × (h.before < h.first)
 abbrev pub AreInOrder : List InformationSet → Type 0
 AreInOrder sets = All IsInOrder (placed sets)
 
--- a leaf: the last own sequence of each player on its path, and its weight, which is reach times player one's payoff in whole numbers
+-- a leaf: the last own sequence of each player on its path, and its weight,
+-- which is reach times player one's payoff in whole numbers
 pub record Leaf : Type 0 where
   pub sequence_one : ℕ
   pub sequence_two : ℕ

@@ -44,7 +44,8 @@ pub record SumsArePlans : Type 0 where
       → slice_index (added plan other) s ≡ slice_index plan s + slice_index other s
   pub zeros : (plan : List ℕ) → added (replicate (length plan) 0) plan ≡ plan
 
--- a cleared plan is no plan, adds nothing, and is what sums begin with: sums of plans and cleared ones are plans or cleared
+-- a cleared plan is no plan, adds nothing, and is what sums begin with:
+-- sums of plans and cleared ones are plans or cleared
 pub record ClearedPlansAddNothing : Type 0 where
   pub no_plan : (sets : List InformationSet) (root : ℕ) → ¬ (IsPlan sets root (cleared sets))
   pub first : (sets : List InformationSet) (plan : List ℕ) → length plan ≡ sequence_count sets
@@ -87,11 +88,13 @@ pub record BadSetIsExact : Type 0 where
   pub some : (sets : List InformationSet) (root : ℕ) (plan : List ℕ) (k : ℕ)
       → (bad_set sets root plan ≡ Some k) ↔ IsBadSet sets root plan k
 
--- no number of a plan is greater than its root, and the leaf sums against it are at most the mass times the root together
+-- no number of a plan is greater than its root,
+-- and the leaf sums against it are at most the mass times the root together
 pub record PlansAreSmall : Type 0 where
   pub numbers : (sets : List InformationSet) (root : ℕ) (plan : List ℕ) → AreInOrder sets → IsPlan sets root plan
       → (s : ℕ) → slice_index plan s ≤ root
-  pub leaf_sums : (player : Player) (leaves : List Leaf) (sets against_sets : List InformationSet) (root : ℕ) (plan : List ℕ)
+  pub leaf_sums : (player : Player) (leaves : List Leaf) (sets against_sets : List InformationSet) (root : ℕ)
+      (plan : List ℕ)
       → AreInOrder against_sets → IsPlan against_sets root plan
       → nat_sum_over (λ s. unsigned_abs (leaf_sum player leaves plan s)) (sequences sets) ≤ mass_of leaves * root
   pub of_a_round : (leaves : List Leaf) (root : ℕ) → mass_of leaves ≤ most_mass → root ≤ most_scale

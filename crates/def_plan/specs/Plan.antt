@@ -8,7 +8,8 @@ use Rattle.def_plan.specs.Form.{InformationSet, PlacedSet, placed, sequences_of,
 abbrev pub AddsUp : List ℕ → PlacedSet → Type 0
 AddsUp plan h = nat_sum_over (λ s. slice_index plan s) (sequences_of h) ≡ slice_index plan h.before
 
--- a plan of a root weight: a number for each sequence, the root for the empty one; at each set the numbers of its sequences add up to the number of the sequence before it
+-- a plan of a root weight: a number for each sequence, the root for the empty one; at each set the numbers of its
+-- sequences add up to the number of the sequence before it
 pub record IsPlan (sets : List InformationSet) (root : ℕ) (plan : List ℕ) : Type 0 where
   pub all_sequences : length plan ≡ sequence_count sets
   pub some_root : 1 ≤ root
@@ -24,7 +25,8 @@ abbrev pub IsPlanOrCleared : List InformationSet → ℕ → List ℕ → Type 0
 IsPlanOrCleared sets zero plan = plan ≡ cleared sets
 IsPlanOrCleared sets (suc root) plan = IsPlan sets (suc root) plan
 
--- deals the sets in turn: at each one its rule makes of the number of the sequence before it the numbers of its sequences
+-- deals the sets in turn: at each one its rule makes of the number of the sequence before it the numbers of its
+-- sequences
 abbrev pub dealt_onto : List ℕ → List InformationSet → List (ℕ → List ℕ) → List ℕ
 dealt_onto plan [] rules = plan
 dealt_onto plan (h ∷ hs) [] = plan
@@ -80,7 +82,8 @@ first_not_adding plan k [] = None
 first_not_adding plan k (h ∷ hs) =
     (if nat_sum_over (λ s. slice_index plan s) (sequences_of h) == slice_index plan h.before then first_not_adding plan (k + 1) hs else Some k)
 
--- what keeps a list from being a plan: 0 where it has no such root, else the first set at which its numbers don't add up, counted from 1
+-- what keeps a list from being a plan: 0 where it has no such root,
+-- else the first set at which its numbers don't add up, counted from 1
 abbrev pub bad_set : List InformationSet → ℕ → List ℕ → Option ℕ
 bad_set sets root plan =
     (if length plan == sequence_count sets && (nat_le 1 root && slice_index plan 0 == root) then first_not_adding plan 1 (placed sets) else Some 0)

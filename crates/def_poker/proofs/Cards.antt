@@ -22,9 +22,11 @@ filter_cards p n (j ∷ js) are = chosen (p j) (filter_cards p n js are.1)
     chosen true later = (are.0, later)
     chosen false later = later
 
+-- each of n cards is a number from 1 to n
 pub cards_are : (n : ℕ) → AreCards n (cards n)
 cards_are n = range_cards n 1 n (omega arith) (omega arith)
 
+-- each card other than card i is a number from 1 to n
 pub others_are : (n i : ℕ) → AreCards n (others n i)
 others_are n i = filter_cards (λ j. not (nat_eq i j)) n (cards n) (cards_are n)
 
@@ -46,7 +48,8 @@ one_left_out i a zero low high = absurd (omega arith)
 one_left_out i a (suc m) low high = chosen (nat_eq i a) refl (λ more. one_left_out i (a + 1) m more (omega arith))
   where
     chosen : (b : Bool) → nat_eq i a ≡ b → (a + 1 ≤ i → length (without i (range_with_len (a + 1) m)) + 1 ≡ m)
-        → length (cond (not b) (a ∷ without i (range_with_len (a + 1) m)) (without i (range_with_len (a + 1) m))) + 1 ≡ suc m
+        → length (cond (not b) (a ∷ without i (range_with_len (a + 1) m)) (without i (range_with_len (a + 1) m))) + 1
+        ≡ suc m
     chosen true is later =
         let same : i ≡ a = eqb-true i a is in
         let all = none_left_out i (a + 1) m (omega arith) in

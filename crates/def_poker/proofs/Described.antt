@@ -35,7 +35,8 @@ outcome_with m =
 above : (n i : ℕ) → 1 ≤ i → nat_le (n + i) n ≡ false
 above n i low = false_from_ne_true _ (λ is. let le : n + i ≤ n = leb-true (n + i) n is in absurd (omega arith))
 
-deal_describes : (n : ℕ) (set : SetMention) (actions : List Action) → set ≡ set_with n movers.Chance set.number → set.actions ≡ Some actions
+deal_describes : (n : ℕ) (set : SetMention) (actions : List Action) → set ≡ set_with n movers.Chance set.number
+    → set.actions ≡ Some actions
     → 1 ≤ length actions → length actions ≤ most_actions → Describes (set_with n) outcome_with (deals set)
 deal_describes n set actions same gives some few = record {
   player = λ e. cc;
@@ -52,7 +53,8 @@ move_describes n player set actions who same gives two = record {
   outcome = record { same = refl; null = λ _. refl; two = λ inner. absurd (inner refl) };
 }
 
-end_describes : (n : ℕ) (o : OutcomeMention) (one two : Fraction) → o ≡ outcome_with o.number → 1 ≤ o.number → o.payoffs ≡ Some (one ∷ two ∷ [])
+end_describes : (n : ℕ) (o : OutcomeMention) (one two : Fraction) → o ≡ outcome_with o.number → 1 ≤ o.number
+    → o.payoffs ≡ Some (one ∷ two ∷ [])
     → Describes (set_with n) outcome_with (ends o)
 end_describes n o one two same some gives = record {
   player = λ e. cc;
@@ -108,7 +110,8 @@ hand_describes n i j i_low i_high j_low j_high = (
   ),
 )
 
-hands_describe : (n i : ℕ) → 1 ≤ i → i ≤ n → (js : List ℕ) → AreCards n js → Each (Describes (set_with n) outcome_with) (hands n i js)
+hands_describe : (n i : ℕ) → 1 ≤ i → i ≤ n → (js : List ℕ) → AreCards n js
+    → Each (Describes (set_with n) outcome_with) (hands n i js)
 unfolding hands
 hands_describe n i low high [] are = tt
 hands_describe n i low high (j ∷ js) are =
@@ -142,6 +145,7 @@ module _ (n : ℕ) (two : 2 ≤ n) (limit : n ≤ 64) where
         (hands_describe n i are.0.0 are.0.1 (others n i) (others_are n i)) (rounds_describe is are.1),
   )
 
+  -- each entry describes its set and its outcome whole, as the game has them by their numbers
   pub entries_describe : Each (Describes (set_with n) outcome_with) (entries n)
   unfolding entries
   entries_describe = (deal_one_describes, rounds_describe (cards n) (cards_are n))

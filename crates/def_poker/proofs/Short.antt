@@ -1,5 +1,5 @@
--- The canonical form of one-card poker isn't too long to be read: at most 64 deals of player two's card, each with at most
--- 63 hands of nine entries, and no entry that writes more than 1,400 bytes.
+-- The canonical form of one-card poker isn't too long to be read: at most 64 deals of player two's card, each with at
+-- most 63 hands of nine entries, and no entry that writes more than 1,400 bytes.
 use Rattle.std.proofs.Common.{◌≡◌, ℕ, ◌+◌, ◌-◌, ◌*◌, ◌≤◌, Bool, true, false, cond, List, [], ◌∷◌, ◌++◌, length, map, refl, ap, arith}
 use Rattle.std.specs.Prelude.{codes, nat_eq}
 use Rattle.std.proofs.lemmas.Bool.{leb-true}

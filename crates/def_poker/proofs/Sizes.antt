@@ -88,6 +88,7 @@ rounds_length n limit (i ∷ is) are =
     omega (arith, length-append (hands n i (others n i)) (rounds n is), hands_length n i (others n i), later, count)
 
 module _ (n : ℕ) (two : 2 ≤ n) (limit : n ≤ 64) where
+  -- with 2 to 64 cards there are at most 36,353 entries
   pub entries_count : length (entries n) ≤ 36353
   unfolding entries
   entries_count =
@@ -114,6 +115,7 @@ module _ (n : ℕ) (two : 2 ≤ n) (limit : n ≤ 64) where
       let later = rounds_wanted n (cards n) (1 + length (map (dealt n) (cards n)) - 1) (omega arith) in
       omega arith
 
+-- with 2 to 64 cards no entry has a fault, and the nodes are one whole tree
 pub poker_is_game : PokerIsGame
 poker_is_game n two limit =
     let each = entries_describe n two limit in (

@@ -85,7 +85,8 @@ part_small n some few =
     let fits : nat_le n most ≡ true = le-leb n most (omega arith) in
     (record { positive = some; coprime = gcd-one n }, fits)
 
-cards_writable : (n m : ℕ) → m ≤ 64 → 1 ≤ n → n ≤ 64 → (js : List ℕ) → AreCards m js → AreWritableActions kinds.Chance (map (dealt n) js)
+cards_writable : (n m : ℕ) → m ≤ 64 → 1 ≤ n → n ≤ 64 → (js : List ℕ) → AreCards m js
+    → AreWritableActions kinds.Chance (map (dealt n) js)
 cards_writable n m most_cards some few [] are = tt
 cards_writable n m most_cards some few (j ∷ js) are =
     (ends_plainly (decimal j) (decimal_plain j (omega arith)), part_small n some few, cards_writable n m most_cards some few js are.1)
@@ -112,7 +113,8 @@ unfolding wins_two gcd
 win_two One = end_written (wins_two One) (record { not_null = λ e. absurd (omega arith); limit = omega arith; name = ends_plainly (codes "One wins 2") refl; one = _; two = _; gives = refl; one_small = (record { positive = omega arith; coprime = refl }, refl); two_small = (record { positive = omega arith; coprime = refl }, refl) })
 win_two Two = end_written (wins_two Two) (record { not_null = λ e. absurd (omega arith); limit = omega arith; name = ends_plainly (codes "Two wins 2") refl; one = _; two = _; gives = refl; one_small = (record { positive = omega arith; coprime = refl }, refl); two_small = (record { positive = omega arith; coprime = refl }, refl) })
 
-moves_written : (number : ℕ) (name first second : List ℕ) → 1 ≤ number → number ≤ 128 → EndsPlainly name → plain first ≡ true → plain second ≡ true
+moves_written : (number : ℕ) (name first second : List ℕ) → 1 ≤ number → number ≤ 128 → EndsPlainly name
+    → plain first ≡ true → plain second ≡ true
     → IsWritableSet kinds.Personal (described_set number name (move first ∷ move second ∷ []))
 moves_written number name first second some few plain_name a b = record {
   from_one = some;
@@ -219,6 +221,7 @@ module _ (n : ℕ) (two : 2 ≤ n) (limit : n ≤ 64) where
   unfolding of_entries
   lines_are = canon_of_lines (poker n) of_entries
 
+-- with 2 to 64 cards the canonical form of the game stands for it, and is read as it
 pub poker_is_read_back : PokerIsReadBack
 poker_is_read_back n two limit =
     let of = of_entries n two limit in

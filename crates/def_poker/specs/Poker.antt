@@ -1,5 +1,7 @@
--- One-card poker with n cards (for three cards: Kuhn, "A simplified two-person poker", 1950). Both players put in 1 and get one card each; then they check, bet, fold or call, and of two cards that are compared the higher one wins.
---     deal_one n, deal_two n i                        the deals: player one's card, and player two's where player one has card i
+-- One-card poker with n cards (for three cards: Kuhn, "A simplified two-person poker", 1950). Both players put in 1 and
+-- get one card each; then they check, bet, fold or call, and of two cards that are compared the higher one wins.
+--     deal_one n, deal_two n i                        the deals: player one's card, and player two's where player one
+--                                                     has card i
 --     opening, after_check, answer, after_bet         the players' sets, by the card that the mover sees
 --     wins winner stake                               what is won at the end of play
 --     hand n i j                                      the play where player one has card i and player two has card j

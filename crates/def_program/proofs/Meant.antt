@@ -109,7 +109,8 @@ module _ (file : List ℕ) where
   check_meant certificate answer computed = by_length (nat_lt most_bytes (length file)) refl computed
     where
       by_length : (b : Bool) → nat_lt most_bytes (length file) ≡ b
-          → cond b (Some (refusal (fault_line TooLong))) (option_map (certificate_answer file) certificate) ≡ Some answer
+          → cond b (Some (refusal (fault_line TooLong))) (option_map (certificate_answer file) certificate)
+          ≡ Some answer
           → CheckMeans file certificate answer
       by_length true is computed = file_too_long (ltb-true most_bytes (length file) is) cc
       by_length false is computed =

@@ -15,8 +15,9 @@ use Rattle.def_text.specs.CheckLines.{verdict_text}
 
 -- ---- what holds of an accepted certificate
 
--- The file is accepted, and the bytes are the text of a certificate whose head is that of the file's game. Its verdict has
--- its bounds, or says that there are none, and this is so of that verdict; of the bounds this holds in the file's game.
+-- The file is accepted, and the bytes are the text of a certificate whose head is that of the file's game. Its verdict
+-- has its bounds, or says that there are none, and this is so of that verdict;
+-- of the bounds this holds in the file's game.
 pub record HoldsOfFile (file bytes : List ℕ) (IsVerdict : Verdict → Type 0)
     (Holds : WeighedGame → PrintedBounds → Type 0) : Type 0 where
   pub game : GameFile
@@ -40,8 +41,8 @@ abbrev pub AreChecked : Option Command → (List ℕ → Option (List ℕ)) → 
 AreChecked None told file bytes = ⊥
 AreChecked (Some command) told file bytes = CommandChecks command told file bytes
 
--- where the words check a certificate against a file, and both are told: what was written is the line of its verdict, with
--- LOW and HIGH where there are bounds, and of these this holds
+-- where the words check a certificate against a file, and both are told: what was written is the line of its verdict,
+-- with LOW and HIGH where there are bounds, and of these this holds
 abbrev pub ForEachChecked : List (List ℕ) → (List ℕ → Option (List ℕ)) → SinkCall
     → (WeighedGame → PrintedBounds → Type 0) → Type 0
 ForEachChecked words told out Holds = (file bytes : List ℕ) → AreChecked (command_of_words words) told file bytes

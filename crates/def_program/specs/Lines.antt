@@ -22,8 +22,8 @@ IsCheck (Some (Gen cards)) = ⊥
 IsCheck (Some (Drill cards settings workers)) = ⊥
 
 -- The line goes with the status, where so many bytes were taken of the file that was opened last. Only where a
--- certificate is checked, which `checks` says, a fault of it is said. That a file or a certificate is too long comes only
--- where more bytes than its limit were taken, also of one that isn't told.
+-- certificate is checked, which `checks` says, a fault of it is said. That a file or a certificate is too long comes
+-- only where more bytes than its limit were taken, also of one that isn't told.
 pub data IsLine (checks : Type 0) (taken status : ℕ) (line : List ℕ) : Type 0 where
   of_file : (fault : FileFault) → status ≡ 1 → line ≡ fault_line fault → (fault ≡ TooLong → most_bytes < taken)
       → IsLine checks taken status line

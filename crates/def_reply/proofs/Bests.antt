@@ -11,10 +11,12 @@ use Rattle.def_sums.proofs.RingLaws.{≤ℤ_refl, ≤ℤ_trans, ≤ℤ_antisym}
 use Rattle.def_plan.specs.Payoff.{IsNoBetter}
 use Rattle.def_reply.specs.Reply.{better, best_of, first_with}
 
+-- a payoff is no better for the player than itself
 pub no_better-refl : (player : Player) (a : ℤ) → IsNoBetter player a a
 no_better-refl One a = ≤ℤ_refl a
 no_better-refl Two a = ≤ℤ_refl a
 
+-- a payoff no better for the player than one that is no better than a third is no better than the third
 pub no_better-trans : (player : Player) (a b c : ℤ) → IsNoBetter player a b → IsNoBetter player b c
     → IsNoBetter player a c
 no_better-trans One a b c h k = ≤ℤ_trans a b c h k

@@ -98,6 +98,7 @@ one_head player w h r q f g =
     λ i. record { value = same_value i; choice = same_choice i }
 
 -- ---- all sets
+-- where sets with sequences from `first` on are in order, each one's reply is tight, and no earlier choice would be
 pub solves_from : (player : Player) (sums : ℕ → ℤ) (first : ℕ) (hs : List InformationSet)
     → All IsInOrder (placed_from first hs)
     → AllZip (IsFirstTight player (worth sums (placed_from first hs) (values_of (replies_at player sums (placed_from first hs))))) (placed_from first hs) (replies_at player sums (placed_from first hs))

@@ -44,7 +44,8 @@ only_tight player w plan (h ∷ hs) (r ∷ rs) t f = (
 )
 
 -- what a plan gains is no better for the player than the total of tight replies times its root
-pub tight-bound : (player : Player) (sums : ℕ → ℤ) (sets : List InformationSet) (replies : List SetReply) (root : ℕ) (plan : List ℕ)
+pub tight-bound : (player : Player) (sums : ℕ → ℤ) (sets : List InformationSet) (replies : List SetReply) (root : ℕ)
+    (plan : List ℕ)
     → AreTight player sums sets replies → IsPlan sets root plan
     → IsNoBetter player (gain sums sets plan) (pos root *ℤ total sums sets replies)
 tight-bound player sums sets replies root plan t p =

@@ -1,4 +1,5 @@
--- How large the values of a best reply are. The sizes of the values that come directly after the sequences so far are at most the sizes of the leaf sums from there on.
+-- How large the values of a best reply are. The sizes of the values that come directly after the sequences so far are
+-- at most the sizes of the leaf sums from there on.
 use Rattle.std.proofs.Common.{◌≡◌, ℕ, ◌+◌, ◌≤◌, ◌<◌, cond, eqb, List, [], ◌∷◌, zip, filter, ℤ, unsigned_abs, All, arith, ap, ◌∙◌, subst, ⊎_elim}
 use Rattle.std.specs.List.{range_with_len}
 use Rattle.std.proofs.lemmas.Bool.{cases_lt}

@@ -1,4 +1,5 @@
--- What a plan is sure of, against every plan of the other player in whole numbers: bounds of its security level (von Neumann and Morgenstern 1944).
+-- What a plan is sure of, against every plan of the other player in whole numbers: bounds of its security level (von
+-- Neumann and Morgenstern 1944).
 use Rattle.std.specs.Prelude.{◌≡◌, ℕ, List, ℤ, pos, ◌-ℤ◌, ◌*ℤ◌, ◌≤ℤ◌}
 use Rattle.def_plan.specs.Form.{SequenceForm}
 use Rattle.def_plan.specs.Plan.{IsPlan}

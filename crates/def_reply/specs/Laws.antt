@@ -29,9 +29,11 @@ pub record RepliesNeedOwnSums : Type 0 where
       → AgreeOn sets sums other
       → AreTight player sums sets replies → AreTight player other sets replies
 
--- values and choices that are tight bound every plan of every root by their total, and the plan of the choices gains just that, whoever wrote them
+-- values and choices that are tight bound every plan of every root by their total, and the plan of the choices gains
+-- just that, whoever wrote them
 pub record TightRepliesAreOptimal : Type 0 where
-  pub bound : (player : Player) (sums : ℕ → ℤ) (sets : List InformationSet) (replies : List SetReply) (root : ℕ) (plan : List ℕ)
+  pub bound : (player : Player) (sums : ℕ → ℤ) (sets : List InformationSet) (replies : List SetReply) (root : ℕ)
+      (plan : List ℕ)
       → AreTight player sums sets replies → IsPlan sets root plan
       → IsNoBetter player (gain sums sets plan) (pos root *ℤ total sums sets replies)
   pub is_plan : (player : Player) (sums : ℕ → ℤ) (sets : List InformationSet) (replies : List SetReply)
@@ -49,9 +51,11 @@ pub record BestRepliesAreOptimal : Type 0 where
       → AreInOrder sets → IsPlan sets 1 (pure_plan sets (choices_of (best_reply player sums sets)))
   pub gained : (player : Player) (sums : ℕ → ℤ) (sets : List InformationSet)
       → AreInOrder sets
-      → gain sums sets (pure_plan sets (choices_of (best_reply player sums sets))) ≡ total sums sets (best_reply player sums sets)
+      → gain sums sets (pure_plan sets (choices_of (best_reply player sums sets)))
+      ≡ total sums sets (best_reply player sums sets)
 
--- tight replies to a plan's leaf sums show an attained floor of player one's plan, and an attained ceiling of player two's
+-- tight replies to a plan's leaf sums show an attained floor of player one's plan,
+-- and an attained ceiling of player two's
 pub record TightRepliesGiveBounds : Type 0 where
   pub floor : (form : SequenceForm) (plan_one : List ℕ) (replies : List SetReply)
       → AreInOrder form.sets_two → AreTight Two (leaf_sum Two form.leaves plan_one) form.sets_two replies
@@ -79,7 +83,8 @@ pub record BestRepliesGiveBounds : Type 0 where
       → let sums = leaf_sum One form.leaves plan_two in
       AttainsCeiling form plan_two (total sums form.sets_one (best_reply One sums form.sets_one)) (pure_plan form.sets_one (choices_of (best_reply One sums form.sets_one)))
 
--- no floor is above an attained number, and no ceiling below: an attained floor is the greatest one, an attained ceiling the least
+-- no floor is above an attained number, and no ceiling below:
+-- an attained floor is the greatest one, an attained ceiling the least
 pub record AttainedBoundsAreBest : Type 0 where
   pub floor : (form : SequenceForm) (plan_one plan_two : List ℕ) (floor attained : ℤ)
       → IsFloor form plan_one floor → AttainsFloor form plan_one attained plan_two → floor ≤ℤ attained
@@ -94,7 +99,8 @@ FloorsAreBelowCeilings =
     → IsCeiling form plan_two ceiling
     → (pos root_two *ℤ floor) ≤ℤ (pos root_one *ℤ ceiling)
 
--- no value, no worth and no total of a best reply is larger than the leaf sums together, nor is any part of the sum that a worth is
+-- no value, no worth and no total of a best reply is larger than the leaf sums together,
+-- nor is any part of the sum that a worth is
 pub record RepliesAreSmall : Type 0 where
   pub values : (player : Player) (sums : ℕ → ℤ) (sets : List InformationSet) → AreInOrder sets
       → All (λ r. unsigned_abs r.value ≤ nat_sum_over (λ s. unsigned_abs (sums s)) (sequences sets)) (best_reply player sums sets)

@@ -101,7 +101,8 @@ drop-range xs d first (suc n) fits =
     ∙ ap (λ k. get_or xs first d ∷ (map (λ s. get_or xs s d) (range_with_len (first + 1) n) ++ drop k xs)) end
 
 -- a list that has each set's block at its place is, from the first place on, one block after the other
-pub drop-blocks_zip : {A B : Type 0} (f : PlacedSet → B → List A) (d : A) (xs : List A) (first : ℕ) (sets : List InformationSet) (bs : List B)
+pub drop-blocks_zip : {A B : Type 0} (f : PlacedSet → B → List A) (d : A) (xs : List A) (first : ℕ)
+    (sets : List InformationSet) (bs : List B)
     → length xs ≡ first + nat_sum_over (λ h. h.actions) sets
     → AllZip (λ h b. map (λ s. get_or xs s d) (sequences_of h) ≡ f h b) (placed_from first sets) bs
     → drop first xs ≡ flat_map (λ p. f p.0 p.1) (zip (placed_from first sets) bs)

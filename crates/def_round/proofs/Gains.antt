@@ -11,7 +11,8 @@ use Rattle.def_plan.proofs.Sums.{gain_is_pay_one, gain_is_pay_two}
 use Rattle.def_round.specs.Laws.{OwnSumsGainWhatIsPaid}
 
 negated : (f : ℕ → ℤ) (plan : List ℕ) (xs : List ℕ)
-    → sum_over (λ s. neg_ℤ (f s) *ℤ pos (slice_index plan s)) xs ≡ neg_ℤ (sum_over (λ s. f s *ℤ pos (slice_index plan s)) xs)
+    → sum_over (λ s. neg_ℤ (f s) *ℤ pos (slice_index plan s)) xs
+    ≡ neg_ℤ (sum_over (λ s. f s *ℤ pos (slice_index plan s)) xs)
 negated f plan [] = refl
 negated f plan (x ∷ xs) = omega (arith, ints, neg-*ℤ (f x) (pos (slice_index plan x)), negated f plan xs)
 

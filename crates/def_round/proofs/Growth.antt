@@ -63,7 +63,8 @@ one_round sums play sets before so_far bound order whole le small =
     (λ k d low. grows (regret_of before (get_or (sequences_of h) k d)) (worth sums (placed sets) (round_values sums play sets) (get_or (sequences_of h) k d) -ℤ v) (small (get_or (sequences_of h) k d)) (is.each_growth k d low)))
     (placed sets) (round_values sums play sets) (values_within sums play sets order whole)))
   where
-    grows : (r g : ℤ) → unsigned_abs r ≤ so_far → unsigned_abs g ≤ size_of_sums sums sets → unsigned_abs (r +ℤ g) ≤ so_far + bound
+    grows : (r g : ℤ) → unsigned_abs r ≤ so_far → unsigned_abs g ≤ size_of_sums sums sets
+        → unsigned_abs (r +ℤ g) ≤ so_far + bound
     grows r g h k = omega (arith, ints, le)
 
 -- a round changes a regret by at most the sizes of the leaf sums together
@@ -116,6 +117,7 @@ regrets_grow_slowly form root n order_one order_two some =
     }
 
 -- ---- with the limits
+-- within the limits of a run, the mass times the root is at most 2 ^ 82
 pub rounds_small : RoundsAreSmall
 rounds_small form root n limits = of_a_round form.leaves root limits.small_mass limits.small_root
 

@@ -29,9 +29,11 @@ values_same sums other play first (h ∷ hs) agree =
     (set_value_same play (worth sums rest (values_from other play rest)) (worth other rest (values_from other play rest)) here
     (λ s low high. worth_same sums other rest (values_from other play rest) s (agree s (omega arith))))
 
-regrets_same : (sums other : ℕ → ℤ) (all : List PlacedSet) (values : List ℤ) (before : List ℤ) (first : ℕ) (hs : List InformationSet) (vs : List ℤ)
+regrets_same : (sums other : ℕ → ℤ) (all : List PlacedSet) (values : List ℤ) (before : List ℤ) (first : ℕ)
+    (hs : List InformationSet) (vs : List ℤ)
     → ((s : ℕ) → s < first + nat_sum_over (λ h. h.actions) hs → sums s ≡ other s)
-    → flat_map (λ p. set_regrets sums all values before p.0 p.1) (zip (placed_from first hs) vs) ≡ flat_map (λ p. set_regrets other all values before p.0 p.1) (zip (placed_from first hs) vs)
+    → flat_map (λ p. set_regrets sums all values before p.0 p.1) (zip (placed_from first hs) vs)
+    ≡ flat_map (λ p. set_regrets other all values before p.0 p.1) (zip (placed_from first hs) vs)
 regrets_same sums other all values before first [] vs agree = refl
 regrets_same sums other all values before first (h ∷ hs) [] agree = refl
 regrets_same sums other all values before first (h ∷ hs) (v ∷ vs) agree =

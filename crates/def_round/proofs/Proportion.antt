@@ -36,7 +36,8 @@ module _ (n : ℕ) (share part : ℕ → ℕ) (first long : ℕ) (are : map shar
   long_enough = length-map-range_with_len part first long
 
   pub first_ones : (i : ℕ) → i ≤ long → 1 ≤ nat_sum_over part (range_with_len first long)
-      → nat_sum_over share (range_with_len first i) ≡ n * nat_sum_over part (range_with_len first i) / nat_sum_over part (range_with_len first long)
+      → nat_sum_over share (range_with_len first i)
+      ≡ n * nat_sum_over part (range_with_len first i) / nat_sum_over part (range_with_len first long)
   first_ones i within some =
       let add = before_add_up n weights i (omega (arith, long_enough)) in
       given i within ∙ add.by_weight (omega (arith, all_weighed))

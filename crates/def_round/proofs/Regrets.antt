@@ -26,6 +26,7 @@ length_zipped R [] (y ∷ ys) all = elim all [ ]
 length_zipped R (x ∷ xs) [] all = elim all [ ]
 length_zipped R (x ∷ xs) (y ∷ ys) all = ap suc (length_zipped R xs ys all.1)
 
+-- as many sets are placed as there are, whichever sequence comes first
 pub length-placed_from : (first : ℕ) (sets : List InformationSet) → length (placed_from first sets) ≡ length sets
 length-placed_from first [] = refl
 length-placed_from first (h ∷ hs) = ap suc (length-placed_from (first + h.actions) hs)
@@ -69,6 +70,7 @@ module _ (sums : ℕ → ℤ) (sets : List InformationSet) (values : List ℤ) (
       (range-All (λ s. regret_of after s ≡ regret_of before s +ℤ (worth sums (placed sets) values s -ℤ v)) h.first h.actions all))
       (placed sets) values adds.each_set))
 
+-- a round has one value for each set
 pub length-values_of : (sums : ℕ → ℤ) (play : List ℕ) (sets : List InformationSet)
     → length (round_values sums play sets) ≡ length sets
 length-values_of sums play sets = length-values_from sums play (placed sets) ∙ length-placed_from 1 sets

@@ -103,7 +103,8 @@ tree_size sums play first (set ∷ sets) all =
     at_most false v = omega arith
 
 -- ---- each set
-within_from : (sums : ℕ → ℤ) (play : List ℕ) (bound : ℕ) (front : List PlacedSet) (front_values : List ℤ) (first : ℕ) (sets : List InformationSet) (all_sets : List InformationSet) (all_values : List ℤ)
+within_from : (sums : ℕ → ℤ) (play : List ℕ) (bound : ℕ) (front : List PlacedSet) (front_values : List ℤ) (first : ℕ)
+    (sets : List InformationSet) (all_sets : List InformationSet) (all_values : List ℤ)
     → placed all_sets ≡ front ++ placed_from first sets
     → all_values ≡ front_values ++ values_from sums play (placed_from first sets)
     → AreEarlier front front_values first → All IsInOrder (placed_from first sets)
@@ -147,7 +148,8 @@ within_from sums play bound front front_values first (set ∷ sets) all_sets all
     )
 
 all_sums : (sums : ℕ → ℤ) (sets : List InformationSet)
-    → size_of_sums sums sets ≡ unsigned_abs (sums 0) + nat_sum_over (λ s. unsigned_abs (sums s)) (range_with_len 1 (nat_sum_over (λ h. h.actions) sets))
+    → size_of_sums sums sets
+    ≡ unsigned_abs (sums 0) + nat_sum_over (λ s. unsigned_abs (sums s)) (range_with_len 1 (nat_sum_over (λ h. h.actions) sets))
 all_sums sums sets = ap (nat_sum_over (λ s. unsigned_abs (sums s))) (range-append 0 1 (nat_sum_over (λ h. h.actions) sets))
 
 -- a set's value, worths and growths in a round are at most the sizes of all leaf sums together

@@ -17,7 +17,8 @@ use Rattle.def_round.specs.Laws.{WorthsNeedLaterSets, ValuesSolveTheEquations, V
 -- sets that come after smaller sequences are not directly after s
 earlier_sets : (s : ℕ) (front back : List PlacedSet) (front_values back_values : List ℤ)
     → length front ≡ length front_values → All (λ h. h.before < s) front
-    → filter (λ p. eqb p.0.before s) (zip (front ++ back) (front_values ++ back_values)) ≡ filter (λ p. eqb p.0.before s) (zip back back_values)
+    → filter (λ p. eqb p.0.before s) (zip (front ++ back) (front_values ++ back_values))
+    ≡ filter (λ p. eqb p.0.before s) (zip back back_values)
 earlier_sets s [] back [] back_values e less = refl
 earlier_sets s [] back (v ∷ vs) back_values e less = absurd (omega arith)
 earlier_sets s (h ∷ hs) back [] back_values e less = absurd (omega arith)
@@ -46,7 +47,8 @@ pub record AreEarlier (front : List PlacedSet) (front_values : List ℤ) (first 
   pub less : All (λ h. h.before < first) front
 
 -- a set's worths from all sets and from the later ones alone
-pub worth_at_set : (sums : ℕ → ℤ) (front : List PlacedSet) (front_values : List ℤ) (h : PlacedSet) (rest : List PlacedSet) (value : ℤ) (values : List ℤ)
+pub worth_at_set : (sums : ℕ → ℤ) (front : List PlacedSet) (front_values : List ℤ) (h : PlacedSet)
+    (rest : List PlacedSet) (value : ℤ) (values : List ℤ)
     → AreEarlier front front_values h.first → h.before < h.first
     → (s : ℕ) → h.first ≤ s
     → worth sums (front ++ h ∷ rest) (front_values ++ value ∷ values) s ≡ worth sums rest values s
@@ -75,7 +77,8 @@ one_more_earlier front front_values h value earlier before = record {
 }
 
 -- ---- the computation solves the equations
-solves_from : (sums : ℕ → ℤ) (play : List ℕ) (front : List PlacedSet) (front_values : List ℤ) (first : ℕ) (sets : List InformationSet)
+solves_from : (sums : ℕ → ℤ) (play : List ℕ) (front : List PlacedSet) (front_values : List ℤ) (first : ℕ)
+    (sets : List InformationSet)
     → AreEarlier front front_values first → All IsInOrder (placed_from first sets)
     → AllZip (λ h value. value ≡ set_value play (worth sums (front ++ placed_from first sets) (front_values ++ values_from sums play (placed_from first sets))) h) (placed_from first sets) (values_from sums play (placed_from first sets))
 solves_from sums play front front_values first [] earlier order = tt
@@ -102,7 +105,8 @@ pub values_solve : ValuesSolveTheEquations
 values_solve sums play sets order = solves_from sums play [] [] 1 sets (none_earlier 1) order
 
 -- ---- and they have no other solution
-unique_from : (sums : ℕ → ℤ) (play : List ℕ) (front : List PlacedSet) (front_values : List ℤ) (first : ℕ) (sets : List InformationSet) (values : List ℤ)
+unique_from : (sums : ℕ → ℤ) (play : List ℕ) (front : List PlacedSet) (front_values : List ℤ) (first : ℕ)
+    (sets : List InformationSet) (values : List ℤ)
     → AreEarlier front front_values first → All IsInOrder (placed_from first sets)
     → AllZip (λ h value. value ≡ set_value play (worth sums (front ++ placed_from first sets) (front_values ++ values)) h) (placed_from first sets) values
     → values ≡ values_from sums play (placed_from first sets)
@@ -160,7 +164,8 @@ first_rises first (set ∷ sets) (suc k) h e = omega (arith, first_rises (first 
 later_sets : (sums : ℕ → ℤ) (first : ℕ) (sets : List InformationSet) (values : List ℤ)
     → All IsInOrder (placed_from first sets) → length values ≡ length sets
     → (k : ℕ) (h : PlacedSet) → slice_get (placed_from first sets) k ≡ Some h → (s : ℕ) → h.first ≤ s
-    → worth sums (placed_from first sets) values s ≡ worth sums (drop (suc k) (placed_from first sets)) (drop (suc k) values) s
+    → worth sums (placed_from first sets) values s
+    ≡ worth sums (drop (suc k) (placed_from first sets)) (drop (suc k) values) s
 later_sets sums first [] values order long k h e s low = absurd (cc)
 later_sets sums first (set ∷ sets) [] order long k h e s low = absurd (omega arith)
 later_sets sums first (set ∷ sets) (v ∷ vs) order long k h e s low =

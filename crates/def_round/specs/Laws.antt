@@ -38,7 +38,8 @@ pub record PositivePartsAreExact : Type 0 where
   pub of_others : (regret : ℤ) → regret ≤ℤ pos 0 → positive_part regret ≡ 0
 
 -- where a set has a positive regret, an action's play is its positive part of the units, out of the sum of the positive
--- parts, but for less than one unit, and what the first actions get together is rounded down; else all are played evenly
+-- parts, but for less than one unit, and what the first actions get together is rounded down;
+-- else all are played evenly
 pub record IsInProportion (regrets : List ℤ) (play : List ℕ) (h : PlacedSet) : Type 0 where
   pub each_action : (s : ℕ) → IsSequenceOf h s → 1 ≤ regret_sum regrets h
       → IsWithinOne units (positive_part (regret_of regrets s)) (regret_sum regrets h) (slice_index play s)

@@ -1,5 +1,6 @@
 -- One round of counterfactual regret minimisation (Zinkevich, Johanson, Bowling and Piccione 2007) in fixed point: the
--- counterfactual values of a player's sequences and sets against a plan of the other player, and the regrets that they add.
+-- counterfactual values of a player's sequences and sets against a plan of the other player,
+-- and the regrets that they add.
 use Rattle.std.specs.Prelude.{◌≡◌, ℕ, ℤ, pos, neg_ℤ, ◌+ℤ◌, ◌-ℤ◌, ◌*ℤ◌, List, [], ◌∷◌, map, zip, length, All, flat_map, slice_index}
 use Rattle.std.specs.List.{AllZip}
 use Rattle.def_sums.specs.Sum.{sum_over}
@@ -23,7 +24,8 @@ own_sum player leaves against s = utility player (leaf_sum player leaves against
 abbrev pub set_value : List ℕ → (ℕ → ℤ) → PlacedSet → ℤ
 set_value play worths h = floor_div (sum_over (λ s. pos (slice_index play s) *ℤ worths s) (sequences_of h)) units
 
--- the equations of one round: v(s) is g(s) and the V of the sets directly after s, and each V(h) is the floor over these v
+-- the equations of one round: v(s) is g(s) and the V of the sets directly after s,
+-- and each V(h) is the floor over these v
 abbrev pub AreValues : (ℕ → ℤ) → List ℕ → List InformationSet → List ℤ → Type 0
 AreValues sums play sets values =
     AllZip (λ h value. value ≡ set_value play (worth sums (placed sets) values) h) (placed sets) values

@@ -18,7 +18,8 @@ OwnSumsAreSmall = (player : Player) (leaves : List Leaf) (sets against_sets : Li
     → AreInOrder against_sets → IsPlan against_sets root plan
     → size_of_sums (own_sum player leaves plan) sets ≤ mass_of leaves * root
 
--- the values of a round stay within the sum of the sizes of the leaf sums, and so do the worths and what a round adds to a regret
+-- the values of a round stay within the sum of the sizes of the leaf sums,
+-- and so do the worths and what a round adds to a regret
 abbrev pub ValuesAreWithinSums : Type 0
 ValuesAreWithinSums = (sums : ℕ → ℤ) (play : List ℕ) (sets : List InformationSet) → AreInOrder sets
     → GivesAllUnits play sets

@@ -32,7 +32,8 @@ in_row_of_one form numbers_one numbers_two leaves s below =
 
 -- a row of player two by what its leaves add
 pub in_row_of_two : (form : SequenceForm) (numbers_one numbers_two : List ℕ) (leaves : List Leaf) (s : ℕ)
-    → sum_over (λ z. amount_in_row form numbers_one numbers_two z (sequence_count form.sets_one + s)) leaves ≡ leaf_sum Two leaves numbers_one s
+    → sum_over (λ z. amount_in_row form numbers_one numbers_two z (sequence_count form.sets_one + s)) leaves
+    ≡ leaf_sum Two leaves numbers_one s
 in_row_of_two form numbers_one numbers_two leaves s =
     let count : ℕ = sequence_count form.sets_one in
     let past : ltb (count + s) count ≡ false = not_below count s in

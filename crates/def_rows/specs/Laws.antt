@@ -14,7 +14,8 @@ pub record AreLeafSums (form : SequenceForm) (numbers_one numbers_two : List ℕ
   pub rows_of_one : (s : ℕ) → s < sequence_count form.sets_one
       → slice_index_or (rows form numbers_one numbers_two) s (pos 0) ≡ leaf_sum One form.leaves numbers_two s
   pub rows_of_two : (s : ℕ) → s < sequence_count form.sets_two
-      → slice_index_or (rows form numbers_one numbers_two) (sequence_count form.sets_one + s) (pos 0) ≡ leaf_sum Two form.leaves numbers_one s
+      → slice_index_or (rows form numbers_one numbers_two) (sequence_count form.sets_one + s) (pos 0)
+      ≡ leaf_sum Two form.leaves numbers_one s
 
 abbrev pub RowsAreLeafSums : Type 0
 RowsAreLeafSums = (form : SequenceForm) (numbers_one numbers_two : List ℕ) → AreLeafSums form numbers_one numbers_two

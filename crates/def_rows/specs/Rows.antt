@@ -19,7 +19,8 @@ player_rows form player against = map (leaf_sum player form.leaves against) (seq
 abbrev pub rows : SequenceForm → List ℕ → List ℕ → List ℤ
 rows form numbers_one numbers_two = player_rows form One numbers_two ++ player_rows form Two numbers_one
 
--- what a leaf adds to a sequence of a player: the weight times the other player's number, where the leaf has this sequence
+-- what a leaf adds to a sequence of a player:
+-- the weight times the other player's number, where the leaf has this sequence
 abbrev pub amount_at : Player → List ℕ → Leaf → ℕ → ℤ
 amount_at player against z s =
     if leaf_sequence player z == s then z.weight *ℤ pos (slice_index against (leaf_sequence (opponent player) z)) else pos 0

@@ -78,6 +78,7 @@ ends_bound_all_plans = record {
 }
 
 -- ---- offers and the outcome
+-- where the sets are in order, and root and round within their limits, the offer is fair behind each earlier round
 pub offers_of_run_are_fair : OffersOfRunAreFair
 offers_of_run_are_fair form root round order_one order_two some small some_round few last later =
     let b = evaluations_are_bounds form root round order_one order_two some some_round in
@@ -106,7 +107,8 @@ offer_at form root (k ∷ ks) zero d below = (k, refl)
 offer_at form root (k ∷ ks) (suc place) d below = offer_at form root ks place d (omega arith)
 
 -- an end that comes from an offer of the run has the plan and the reply of its evaluation's round
-from_offer : (kept_of : Offer → KeptEnd) (form : SequenceForm) (root : ℕ) (ks : List ℕ) (e : Evaluation) (kept : KeptEnd) (d : Offer)
+from_offer : (kept_of : Offer → KeptEnd) (form : SequenceForm) (root : ℕ) (ks : List ℕ) (e : Evaluation)
+    (kept : KeptEnd) (d : Offer)
     → ComesFrom kept_of (map (offer_after form root) ks) e kept → kept ≡ kept_of (offer_after form root e.round)
 from_offer kept_of form root ks e kept d from =
     let at = offer_at form root ks from.place d from.within in

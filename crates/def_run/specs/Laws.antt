@@ -85,12 +85,14 @@ GapOfRunIsExploitability = (form : SequenceForm) (root every last : ℕ) (ends :
 -- no plan of player one has a floor that, over its root, exceeds the upper end, and no plan of player two has a ceiling
 -- that is below the lower end
 pub record EndsBoundAllPlans : Type 0 where
-  pub floors : (form : SequenceForm) (root every last : ℕ) (ends : BracketEnds) (plan_root : ℕ) (plan_one : List ℕ) (floor : ℤ)
+  pub floors : (form : SequenceForm) (root every last : ℕ) (ends : BracketEnds) (plan_root : ℕ) (plan_one : List ℕ)
+      (floor : ℤ)
       → AreInOrder form.sets_one → AreInOrder form.sets_two → 1 ≤ root
       → ends_of (evaluations form root every last) ≡ Some ends
       → IsPlan form.sets_one plan_root plan_one → IsFloor form plan_one floor
       → (pos (ends.upper.round * root) *ℤ floor) ≤ℤ (pos plan_root *ℤ ends.upper.high)
-  pub ceilings : (form : SequenceForm) (root every last : ℕ) (ends : BracketEnds) (plan_root : ℕ) (plan_two : List ℕ) (ceiling : ℤ)
+  pub ceilings : (form : SequenceForm) (root every last : ℕ) (ends : BracketEnds) (plan_root : ℕ) (plan_two : List ℕ)
+      (ceiling : ℤ)
       → AreInOrder form.sets_one → AreInOrder form.sets_two → 1 ≤ root
       → ends_of (evaluations form root every last) ≡ Some ends
       → IsPlan form.sets_two plan_root plan_two → IsCeiling form plan_two ceiling
@@ -102,8 +104,8 @@ OffersOfRunAreFair = (form : SequenceForm) (root round : ℕ) → AreInOrder for
     → 1 ≤ root → root ≤ most_scale → 1 ≤ round → round ≤ most_rounds → (last : ℕ) → last < round
     → IsFair form last (offer_after form root round)
 
--- the outcome of a run: the trace of its evaluations; and where a round was asked, the sums of plans at both ends of the
--- bracket with the best replies to them
+-- the outcome of a run: the trace of its evaluations; and where a round was asked, the sums of plans at both ends of
+-- the bracket with the best replies to them
 pub record HasPlansOf (form : SequenceForm) (root : ℕ) (ends : BracketEnds) (shown : OutcomeEnds) : Type 0 where
   pub lower_plan : shown.lower.plan ≡ plan_at_lower form root ends
   pub lower_reply : shown.lower.reply ≡ best_reply_to form Two (plan_at_lower form root ends)

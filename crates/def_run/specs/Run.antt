@@ -1,5 +1,5 @@
--- A run of rounds and its evaluations: after an evaluated round both sums of plans are met by best replies, whose totals
--- are the floor and the ceiling of the average strategies.
+-- A run of rounds and its evaluations: after an evaluated round both sums of plans are met by best replies, whose
+-- totals are the floor and the ceiling of the average strategies.
 use Rattle.std.specs.Prelude.{ℕ, ℤ, List, map, Option, Some, None}
 use Rattle.def_tree.specs.declared.Player.{Player}
 use Rattle.def_tree.specs.declared.Player.TheVariants.{One, Two}

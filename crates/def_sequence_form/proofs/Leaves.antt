@@ -28,7 +28,8 @@ use Rattle.def_sequence_form.proofs.Sets.{counts_agree, set_at}
 
 -- the leaves among visits are as many as among their nodes
 leaves_alike : (vs : List Visit)
-    → length (filter (λ (v : Visit). is_leaf_kind v.node.kind) vs) ≡ length (filter (λ (n : Node). is_leaf_kind n.kind) (map node_of vs))
+    → length (filter (λ (v : Visit). is_leaf_kind v.node.kind) vs)
+    ≡ length (filter (λ (n : Node). is_leaf_kind n.kind) (map node_of vs))
 leaves_alike [] = refl
 leaves_alike (v ∷ rest) =
     elim (is_leaf_kind v.node.kind) as (λ b. length (cond b (v ∷ filter (λ (w : Visit). is_leaf_kind w.node.kind) rest) (filter (λ (w : Visit). is_leaf_kind w.node.kind) rest))
@@ -147,7 +148,8 @@ form_has_the_leaf_list tables tree weights game many =
           (tells tables tree game recall y z d (get_or weights y none) (get_or weights z none) in_y in_z);
     }
   where
-    pair_told : (a b c e : LeafEntry) (l m n o : Leaf) → a ≡ b → c ≡ e → l ≡ m → n ≡ o → TellsChoices a c l n → TellsChoices b e m o
+    pair_told : (a b c e : LeafEntry) (l m n o : Leaf) → a ≡ b → c ≡ e → l ≡ m → n ≡ o → TellsChoices a c l n
+        → TellsChoices b e m o
     pair_told a b c e l m n o ab ce lm right h = subst (λ x. TellsChoices x e m o) ab (subst (λ x. TellsChoices a x m o) ce (subst (λ x. TellsChoices a c x o) lm (subst (TellsChoices a c l) right h)))
 
 sizes_of : (leaves : List Leaf) → mass_of leaves ≡ sum (map unsigned_abs (map (λ (leaf : Leaf). leaf.weight) leaves))

@@ -1,4 +1,5 @@
--- The sets of a tree are told exactly where recall holds, and then each set has its sequence and its actions from each of its nodes.
+-- The sets of a tree are told exactly where recall holds,
+-- and then each set has its sequence and its actions from each of its nodes.
 use Rattle.std.proofs.Common.{◌≡◌, ℕ, ◌+◌, ◌-◌, ◌<◌, ◌≤◌, true, false, List, [], length, get_or, refl, ap, sym, ◌∙◌, arith, inl, inr, Some, None, Ok, Err}
 use Rattle.std.specs.Prelude.{Option}
 use Rattle.std.proofs.lemmas.Bool.{cases_lt}

@@ -46,6 +46,7 @@ module _ (kind : Kind) (tree : Forest) where
   sizes_total [] = refl
   sizes_total (v ∷ vs) = ap (λ n. v.node.children + n) (sizes_total vs) ∙ sym (sum_by-cons (λ n. n) v.node.children (map (λ w. w.node.children) vs))
 
+  -- the form has as many sequences of a kind as the sizes of its sets in the tree add up to, and one more
   pub counts_agree : sequence_count (information_sets kind tree) ≡ 1 + sum (set_sizes kind tree)
   counts_agree = ap (λ n. 1 + n) (sizes_total firsts)
 

@@ -1,4 +1,5 @@
--- What holds of a tree's sets, its sequence form and its list of leaves. Each is the contract of a function of this crate.
+-- What holds of a tree's sets, its sequence form and its list of leaves.
+-- Each is the contract of a function of this crate.
 use Rattle.std.specs.Prelude.{◌≡◌, ◌↔◌, ℕ, ◌+◌, ◌-◌, ◌<◌, ◌≤◌, true, false, List, [], ◌∷◌, length, map, slice_index, slice_index_or, sum, All, Option, Some, None, Ok, Err, ℤ, unsigned_abs}
 use Rattle.def_tree.specs.declared.Kind.{Kind}
 use Rattle.def_tree.specs.declared.Kind.TheVariants.{One, Two}
@@ -32,7 +33,8 @@ SetsHaveTheirNodes = (tree : Forest) → IsGameTree tree → HasPerfectRecall tr
     → (none : InformationSet) →
     All (λ v. v.node.kind ≡ kind → slice_index_or (information_sets kind tree) (v.node.set - 1) none ≡ record { before = sequence_at kind tree v; actions = v.node.children }) (visits tree)
 
--- the form counts and places a tree's sequences as they are numbered in the tree, and has no more sets and sequences than the tree has nodes
+-- the form counts and places a tree's sequences as they are numbered in the tree,
+-- and has no more sets and sequences than the tree has nodes
 pub record NumbersAsTheTree (tree : Forest) (kind : Kind) : Type 0 where
   pub count : sequence_count (information_sets kind tree) ≡ 1 + sum (set_sizes kind tree)
   pub sets : length (information_sets kind tree) ≡ set_count kind (prefix tree)
@@ -52,7 +54,8 @@ abbrev pub last_of_choices : List Choice → Option Choice
 last_of_choices [] = None
 last_of_choices (choice ∷ _) = Some choice
 
--- an entry of the list of leaves and the form's leaf there: each of the leaf's sequences is one of its player's, and ends with the entry's last own choice
+-- an entry of the list of leaves and the form's leaf there: each of the leaf's sequences is one of its player's, and
+-- ends with the entry's last own choice
 pub record LeafHasItsChoices (tree : Forest) (form : SequenceForm) (entry : LeafEntry) (leaf : Leaf) : Type 0 where
   pub below_one : leaf.sequence_one < sequence_count form.sets_one
   pub below_two : leaf.sequence_two < sequence_count form.sets_two
@@ -86,12 +89,14 @@ pub record FormHasTheMass : Type 0 where
       → mass_of (form_of tree weights).leaves ≡ sum (map unsigned_abs weights)
   pub of_game : (tables : Tables) (tree : Forest) → mass_of (form_of_game tables tree).leaves ≡ game_mass tables tree
 
--- what is told of a player's sets: those of the form, and for each node the number of the sequence that ends with the player's last own choice before it
+-- what is told of a player's sets: those of the form, and for each node the number of the sequence that ends with the
+-- player's last own choice before it
 pub record TellsEachNode (tree : Forest) (kind : Kind) (told : PlayerSets) : Type 0 where
   pub sets : told.sets ≡ information_sets kind tree
   pub count : length told.at_nodes ≡ node_count tree
   pub last : (k : ℕ) (d : Visit) → k < node_count tree
-      → choice_of (map (λ set. set.actions) told.sets) (slice_index told.at_nodes k) ≡ last_of_choices (own_choices kind (slice_index_or (visits tree) k d).path)
+      → choice_of (map (λ set. set.actions) told.sets) (slice_index told.at_nodes k)
+      ≡ last_of_choices (own_choices kind (slice_index_or (visits tree) k d).path)
 
 pub record TreeSetsTellNodes : Type 0 where
   pub one : (tree : Forest) → IsGameTree tree → TellsEachNode tree One (tree_sets tree).one

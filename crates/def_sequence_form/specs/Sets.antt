@@ -11,7 +11,8 @@ use Rattle.def_game_paths.specs.Sequences.{sequence_at}
 use Rattle.def_plan.specs.Form.{InformationSet}
 use Rattle.def_sequence_form.specs.Form.{information_sets}
 
--- a player's sets in the order of their first nodes, and the number of the player's sequence at each node of the tree, in prefix order
+-- a player's sets in the order of their first nodes,
+-- and the number of the player's sequence at each node of the tree, in prefix order
 pub record PlayerSets : Type 0 where
   pub sets : List InformationSet
   pub at_nodes : List ℕ
@@ -30,6 +31,7 @@ abbrev pub unless_broken : Option RecallBreak → TreeSets → Result TreeSets R
 unless_broken None sets = Ok sets
 unless_broken (Some broken) sets = Err broken
 
--- the sets of both players, or the first node before which its player made other choices than before its set's first node
+-- the sets of both players, or the first node before which its player made other choices than before its set's first
+-- node
 abbrev pub sets_or_break : Forest → Result TreeSets RecallBreak
 sets_or_break tree = unless_broken (recall_break tree) (tree_sets tree)

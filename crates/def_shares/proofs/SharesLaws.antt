@@ -26,7 +26,8 @@ length-weights_or_ones weights = by_sum (eqb (weight_sum weights) 0)
 some_weight : (weights : List ℕ) → 1 ≤ length weights → 1 ≤ weight_sum (weights_or_ones weights)
 some_weight weights some = by_sum (eqb (weight_sum weights) 0) refl
   where
-    by_sum : (none : Bool) → eqb (weight_sum weights) 0 ≡ none → 1 ≤ weight_sum (cond none (replicate (length weights) 1) weights)
+    by_sum : (none : Bool) → eqb (weight_sum weights) 0 ≡ none
+        → 1 ≤ weight_sum (cond none (replicate (length weights) 1) weights)
     by_sum true e = omega (arith, replicate_sum (length weights))
     by_sum false e = grind (arith, nat_tests)
 
@@ -40,7 +41,8 @@ prefix-all weights = ap weight_sum (take-length weights)
 
 -- ---- floors of two products, one after the other
 quotients : (low part high sum : ℕ) → 1 ≤ sum → low + part ≡ high
-    → (low / sum ≤ high / sum) × (part < (high / sum - low / sum + 1) * sum) × ((high / sum - low / sum) * sum < part + sum)
+    → (low / sum ≤ high / sum) × (part < (high / sum - low / sum + 1) * sum)
+    × ((high / sum - low / sum) * sum < part + sum)
 quotients low part high sum some is = (no_less, above, below)
   where
     no_less : low / sum ≤ high / sum
@@ -133,7 +135,8 @@ in_proportion n weights i below = within n (weights_or_ones weights) (some_weigh
 pub own_weights : (weights : List ℕ) → 1 ≤ weight_sum weights → weights_or_ones weights ≡ weights
 own_weights weights some = by_sum (eqb (weight_sum weights) 0) refl
   where
-    by_sum : (none : Bool) → eqb (weight_sum weights) 0 ≡ none → cond none (replicate (length weights) 1) weights ≡ weights
+    by_sum : (none : Bool) → eqb (weight_sum weights) 0 ≡ none
+        → cond none (replicate (length weights) 1) weights ≡ weights
     by_sum true e = absurd (let z : weight_sum weights ≡ 0 = grind (arith, nat_tests) in omega (arith, z, some))
     by_sum false e = refl
 
@@ -141,7 +144,8 @@ own_weights weights some = by_sum (eqb (weight_sum weights) 0) refl
 all_ones : (weights : List ℕ) → weight_sum weights ≡ 0 → weights_or_ones weights ≡ replicate (length weights) 1
 all_ones weights none = by_sum (eqb (weight_sum weights) 0) (grind (arith, nat_tests))
   where
-    by_sum : (zero' : Bool) → zero' ≡ true → cond zero' (replicate (length weights) 1) weights ≡ replicate (length weights) 1
+    by_sum : (zero' : Bool) → zero' ≡ true
+        → cond zero' (replicate (length weights) 1) weights ≡ replicate (length weights) 1
     by_sum true e = refl
     by_sum false e = absurd (cc)
 

@@ -25,7 +25,8 @@ SharesBeforeAddUp = (n : ℕ) (weights : List ℕ) (i : ℕ) → i ≤ length we
 -- no difference is cut off at 0: a share and what the weights before it get make what the weights up to it get
 pub record IsDifference (n : ℕ) (weights : List ℕ) (i : ℕ) : Type 0 where
   pub by_weight : 1 ≤ weight_sum weights
-      → slice_index (shares n weights) i + n * prefix_sum weights i / weight_sum weights ≡ n * prefix_sum weights (i + 1) / weight_sum weights
+      → slice_index (shares n weights) i + n * prefix_sum weights i / weight_sum weights
+      ≡ n * prefix_sum weights (i + 1) / weight_sum weights
   pub evenly : weight_sum weights ≡ 0
       → slice_index (shares n weights) i + n * i / length weights ≡ n * (i + 1) / length weights
 

@@ -82,6 +82,7 @@ some_nodes bare one = absurd (omega (arith, one))
 some_nodes (grown node below beside) one = omega arith
 
 module _ (bytes : List ℕ) (game : GameFile) (is : IsAccepted bytes game) where
+  -- the tree of an accepted file's game is one tree that keeps the rules, within the limit of nodes
   pub game_tree : IsGameTree game.tree
   game_tree =
       let whole = (stands_for_whole_game bytes game is.readable.stands).0 in

@@ -18,9 +18,11 @@ use Rattle.def_cert_text.specs.Formats.{Format, each_items, row_items}
 use Rattle.def_cert_text.specs.CertText.{head_lines, line_of_round, weights_line, value_line, bracket_line}
 
 -- ---- numbers
+-- a number below 10 ^ k and 10 ^ 64 has at most k digits, where k is 1 at least
 pub few_digits : (k n : ℕ) → 1 ≤ k → n < 10 ^ k → n < 10 ^ 64 → length (decimal n) ≤ k
 few_digits k n some low wide = length-decimal-le_wide k n (omega (arith, some)) low wide
 
+-- the decimal text of a signed number whose size is 2 ^ 100 at most has 32 bytes at most
 pub few_signed : (z : ℤ) → IsPrintable z → length (signed_decimal z) ≤ 32
 few_signed (pos n) small = omega (arith, few_digits 31 n (omega arith) (omega (arith, small)) (omega (arith, small)))
 few_signed (negsuc n) small =
@@ -46,12 +48,14 @@ abbrev pub widths : List Item → ℕ
 widths [] = 0
 widths (item ∷ items) = width item + widths items
 
+-- the text of items has as many bytes as their widths make together
 pub text_width : (items : List Item) → length (items_text items) ≡ widths items
 unfolding items_text
 text_width [] = refl
 text_width (field kind bytes ∷ items) = omega (arith, length-append bytes (items_text items), text_width items)
 text_width (separator byte ∷ items) = omega (arith, text_width items)
 
+-- the width of items with others behind them is the widths of both, added
 pub widths-append : (xs ys : List Item) → widths (xs ++ ys) ≡ widths xs + widths ys
 widths-append [] ys = omega arith
 widths-append (x ∷ xs) ys = omega (arith, widths-append xs ys)
@@ -60,6 +64,7 @@ widths-append (x ∷ xs) ys = omega (arith, widths-append xs ys)
 abbrev pub IsWithin : (A : Type 0) → (ℕ → Format A) → (A → ℕ) → ℕ → A → Type 0
 IsWithin A f size last x = (j : ℕ) → j ≤ last → widths ((f j).items x) ≤ size x
 
+-- where values are within their sizes at each place up to the last, a list up to there is at most as wide as all sizes
 pub each_width : (A : Type 0) (f : ℕ → Format A) (size : A → ℕ) (last k : ℕ) (xs : List A) → k + length xs ≤ last + 1
     → All (IsWithin A f size last) xs → widths (each_items f k xs) ≤ nat_sum_over size xs
 unfolding each_items
@@ -73,6 +78,7 @@ each_width A f size last k (x ∷ xs) low all =
     )
 
 -- ---- lines
+-- the lines of a head that is within its ranges have together a width of 200 at most
 pub head_width : (head : Head) → HeadFits head → widths (head_lines.items head) ≤ 200
 head_width head fits =
     omega (
@@ -100,6 +106,7 @@ pub record HasSmallNumbers (line : TraceLine) : Type 0 where
   pub high_round : line.high_round ≤ 65536
   pub high : IsPrintable line.high
 
+-- a trace line with small numbers has 90 bytes at most
 pub trace_line_width : (round : ℕ) (line : TraceLine) → HasSmallNumbers line
     → widths ((line_of_round round).items line) ≤ 90
 trace_line_width round line small =
@@ -125,11 +132,13 @@ row_width (n ∷ m ∷ ns) all =
       row_width (m ∷ ns) (All-tail (λ n. n ≤ 2 ^ 36) n (m ∷ ns) all),
     )
 
+-- the line of a set's weights has at most 16 bytes and 12 more for each weight, where all numbers are in their ranges
 pub weights_width : (set : ℕ) (ws : List ℕ) → set ≤ 2 ^ 20 → PlanWeightsFit ws
     → widths ((weights_line set).items ws) ≤ 16 + 12 * length ws
 weights_width set ws small fits =
     omega (arith, few_digits 7 set (omega arith) (omega (arith, small)) (omega (arith, small)), row_width ws fits.each)
 
+-- the line of a set's value and choice has 52 bytes at most, where all its numbers are in their ranges
 pub value_width : (set : ℕ) (reply : SetReply) → set ≤ 2 ^ 20 → IsPrintable reply.value → reply.choice ≤ 1024
     → widths ((value_line set).items reply) ≤ 52
 value_width set reply small value choice =
@@ -140,6 +149,7 @@ value_width set reply small value choice =
       few_digits 4 reply.choice (omega arith) (omega (arith, choice)) (omega (arith, choice)),
     )
 
+-- the line of a bracket has 138 bytes at most, where both its ends are in their ranges
 pub bracket_width : (low high : Fraction) → BoundFits low → BoundFits high
     → widths (bracket_line.items (low, high)) ≤ 138
 bracket_width low high fits_low fits_high = omega (arith, few_of_fraction low fits_low, few_of_fraction high fits_high)

@@ -22,6 +22,7 @@ below : (n : ℤ) (d : ℕ) (p q : ℤ) → (p *ℤ pos d) ≤ℤ n → n <ℤ (
 below n d p q h k =
     by_lt_z q p (λ less. let more = *ℤ-mono_right d (q +ℤ pos 1) p (omega (arith, ints)) in omega (arith, ints)) (λ le. le)
 
+-- each whole number q with q * d ≤ n < (q + 1) * d is the quotient
 pub floor_div-only : (n : ℤ) (d : ℕ) (q : ℤ) → IsFloorOf n d q → q ≡ floor_div n d
 floor_div-only n d q h =
     let f = floor_div-is_floor n d (divides_some n d q h) in

@@ -114,7 +114,8 @@ kept_nat f true x xs = refl
 kept_nat f false x xs = omega arith
 
 -- what is gathered at the numbers of a row is at most all that there is
-pub nat_gathered : {A : Type 0} (key : A → ℕ) (v : A → ℕ) (a n : ℕ) (zs : List A) → nat_sum_over (λ s. nat_sum_over v (filter (λ z. eqb (key z) s) zs)) (range_with_len a n) ≤ nat_sum_over v zs
+pub nat_gathered : {A : Type 0} (key : A → ℕ) (v : A → ℕ) (a n : ℕ) (zs : List A)
+    → nat_sum_over (λ s. nat_sum_over v (filter (λ z. eqb (key z) s) zs)) (range_with_len a n) ≤ nat_sum_over v zs
 nat_gathered key v a n [] = omega (arith, nat_sum_over-bounded (λ s. 0) 0 (range_with_len a n) (λ k d low. omega arith))
 nat_gathered key v a n (z ∷ zs) =
     omega (

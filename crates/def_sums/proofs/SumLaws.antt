@@ -65,6 +65,7 @@ pub sum_over-pos : {A : Type 0} (f : A → ℕ) (xs : List A) → sum_over (λ x
 sum_over-pos f [] = refl
 sum_over-pos f (x ∷ xs) = ap (λ z. pos (f x) +ℤ z) (sum_over-pos f xs)
 
+-- a sum over what g makes of a list's elements is the sum over the elements themselves, each first taken through g
 pub sum_over-map : {A B : Type 0} (f : B → ℤ) (g : A → B) (xs : List A)
     → sum_over f (map g xs) ≡ sum_over (λ x. f (g x)) xs
 sum_over-map f g [] = refl
@@ -88,6 +89,7 @@ unsigned_abs-sum_over f [] = omega arith
 unsigned_abs-sum_over f (x ∷ xs) = omega (arith, unsigned_abs-+ℤ (f x) (sum_over f xs), unsigned_abs-sum_over f xs)
 
 -- ---- sums of naturals
+-- a sum of naturals over two lists one behind the other is the sums over both, added
 pub nat_sum_over-append : {A : Type 0} (f : A → ℕ) (xs ys : List A)
     → nat_sum_over f (xs ++ ys) ≡ nat_sum_over f xs + nat_sum_over f ys
 nat_sum_over-append f [] ys = omega arith

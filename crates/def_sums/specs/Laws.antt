@@ -29,7 +29,8 @@ pub record SizeLaws : Type 0 where
   pub of_bounded : (f : ℕ → ℕ) (bound : ℕ) (xs : List ℕ) → All (λ x. f x ≤ bound) xs
       → nat_sum_over f xs ≤ length xs * bound
 
--- a sum over a list spreads over parts of the list, over sums and over a common factor, and two sums can be taken in either order
+-- a sum over a list spreads over parts of the list, over sums and over a common factor,
+-- and two sums can be taken in either order
 pub record SumLaws : Type 0 where
   pub over_parts : (f : ℕ → ℤ) (xs ys : List ℕ) → sum_over f (xs ++ ys) ≡ sum_over f xs +ℤ sum_over f ys
   pub over_sum : (f g : ℕ → ℤ) (xs : List ℕ) → sum_over (λ x. f x +ℤ g x) xs ≡ sum_over f xs +ℤ sum_over g xs

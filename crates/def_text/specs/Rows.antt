@@ -62,7 +62,8 @@ pub record CheckLineRows : Type 0 where
   pub plan : test_fault_line (NotAPlan player.One 1) ≡ codes "refused 28 NotAPlan player 1 set 1" ++ line_feed
   pub value : test_fault_line (ValueTooGood player.Two 1 2)
       ≡ codes "refused 29 ValueTooGood player 2 set 1 action 2" ++ line_feed
-  pub reply : test_fault_line (ReplyNotTight player.Two 1) ≡ codes "refused 30 ReplyNotTight player 2 set 1" ++ line_feed
+  pub reply : test_fault_line (ReplyNotTight player.Two 1)
+      ≡ codes "refused 30 ReplyNotTight player 2 set 1" ++ line_feed
   pub lower : test_fault_line (TotalDiffers Lower) ≡ codes "refused 31 TotalDiffers lower" ++ line_feed
   pub upper : test_fault_line (TotalDiffers Upper) ≡ codes "refused 31 TotalDiffers upper" ++ line_feed
   pub trace : test_fault_line (TraceWidens 9) ≡ codes "refused 32 TraceWidens line 9" ++ line_feed

@@ -1,5 +1,6 @@
 -- What those who walk through a tree prove of their visitors.
---     Accepts-invariant, Leads-invariant     a fact on the visitor and the steps that are left, which each step keeps: all steps are accepted, and in the end it holds with none left
+--     Accepts-invariant, Leads-invariant     a fact on the visitor and the steps that are left, which each step keeps:
+--                                            all steps are accepted, and in the end it holds with none left
 --     Accepts-append, Leads-append, Leads-split     steps, and then others
 use Rattle.std.proofs.Common.{◌≡◌, ℕ, ◌+◌, List, [], ◌∷◌, ◌++◌, length, refl, ap, sym, ◌∙◌, subst, arith}
 use Rattle.def_tree.specs.declared.Node.{Node}
@@ -8,6 +9,7 @@ use Rattle.def_tree.specs.Events.{Event, Enter, Leave, events_from, entered, Acc
 use Rattle.std.specs.List.{enumerate_from}
 
 module _ {V : Type 0} (may_enter : V → ℕ → Node → Type 0) (enters : V → ℕ → Node → V → Type 0) (may_leave : V → ℕ → Type 0) (leaves : V → ℕ → V → Type 0) where
+  -- a visitor accepts the steps if a fact on it and the steps left holds, allows each next step and is kept by it
   pub Accepts-invariant : (I : List Event → V → Type 0)
       → ((k : ℕ) (node : Node) (rest : List Event) (v : V) → I (Enter k node ∷ rest) v → may_enter v k node × ((w : V) → enters v k node w → I rest w))
       → ((k : ℕ) (rest : List Event) (v : V) → I (Leave k ∷ rest) v → may_leave v k × ((w : V) → leaves v k w → I rest w))

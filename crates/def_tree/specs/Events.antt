@@ -13,7 +13,8 @@ pub data Event : Type 0 where
   Enter : (k : ℕ) (node : Node) → Event
   Leave : (k : ℕ) → Event
 
--- the first node is entered, then its children's trees are walked through and it is left, and then come the trees beside it
+-- the first node is entered, then its children's trees are walked through and it is left,
+-- and then come the trees beside it
 abbrev pub events_from : ℕ → Forest → List Event
 events_from k bare = []
 events_from k (grown node below beside) =
@@ -48,8 +49,8 @@ pub record OpenNode : Type 0 where
   pub number : ℕ
   pub to_come : ℕ
 
--- these steps lead from the open nodes, the innermost first, to others: a node is entered as the next child of the innermost open one, and the
--- innermost open node is left where none of its children is to come any more
+-- these steps lead from the open nodes, the innermost first, to others: a node is entered as the next child of the
+-- innermost open one, and the innermost open node is left where none of its children is to come any more
 abbrev pub KeepsNesting : List OpenNode → List Event → List OpenNode → Type 0
 KeepsNesting opened [] end = opened ≡ end
 KeepsNesting [] (Enter k node ∷ rest) end = ⊥

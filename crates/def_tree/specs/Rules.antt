@@ -37,7 +37,8 @@ pub record IsBareLeaf (node : Node) : Type 0 where
   pub set : node.set ≡ 0
   pub children : node.children ≡ 0
 
--- the node is in a set of its kind that came before, or in the next one; it has 1 to 1,024 children, and as many as each earlier node of its set
+-- the node is in a set of its kind that came before, or in the next one; it has 1 to 1,024 children, and as many as
+-- each earlier node of its set
 pub record JoinsSet (before : List Node) (node : Node) : Type 0 where
   pub counts : 1 ≤ node.set
   pub next : node.set ≤ set_count node.kind before + 1
@@ -77,7 +78,8 @@ EachSetAppears = (nodes : List Node) → KeepRules nodes → (kind : Kind) (i : 
 abbrev pub inner_node : Kind → ℕ → ℕ → Node
 inner_node kind set children = record { kind = kind; set = set; outcome = 0; children = children }
 
--- a first node has 1 to 1,024 children; after it come a node of its set with as many, one of the next set, and one of another kind's first set; a leaf has no set and no children
+-- a first node has 1 to 1,024 children; after it come a node of its set with as many, one of the next set, and one of
+-- another kind's first set; a leaf has no set and no children
 pub record RuleRows : Type 0 where
   pub first : (n : ℕ) → Fits [] (inner_node Chance 1 n) ↔ ((1 ≤ n) × (n ≤ 1024))
   pub first_set : ¬ (Fits [] (inner_node Chance 2 2))

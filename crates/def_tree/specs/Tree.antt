@@ -1,9 +1,13 @@
--- The nested tree of an extensive game, and its nodes in prefix order (Gambit's manual, "The extensive game (.efg) file format"; Knuth, The Art of Computer Programming, 2.3.2 and 2.3.3).
+-- The nested tree of an extensive game, and its nodes in prefix order (Gambit's manual, "The extensive game (.efg) file
+-- format"; Knuth, The Art of Computer Programming, 2.3.2 and 2.3.3).
 --     Forest, grown, bare                    trees side by side, each a node over the trees of its children
---     prefix t, node_count t, leaf_count t   the nodes in prefix order; how many there are, and how many of them are leaves
---     tree_count t, HasItsChildren t, IsTree t    how many trees; each node has as many children as it says; one tree, of which that holds
+--     prefix t, node_count t, leaf_count t   the nodes in prefix order; how many there are,
+--                                            and how many of them are leaves
+--     tree_count t, HasItsChildren t, IsTree t    how many trees; each node has as many children as it says;
+--                                                 one tree, of which that holds
 --     forest_of ns                           the trees whose nodes in prefix order these are
---     wanted n ns, Begins n ns, IsWhole ns   how many nodes are still to come; the nodes begin n trees; they are one whole tree
+--     wanted n ns, Begins n ns, IsWhole ns   how many nodes are still to come; the nodes begin n trees;
+--                                            they are one whole tree
 use Rattle.std.specs.Prelude.{◌≡◌, ℕ, ◌+◌, ◌-◌, ◌<◌, zero, suc, Bool, true, false, List, [], ◌∷◌, ◌++◌, length, count_by, ◌↔◌}
 use Rattle.def_tree.specs.declared.Kind.{Kind}
 use Rattle.def_tree.specs.declared.Kind.TheVariants.{Chance, One, Two, Leaf}
@@ -55,12 +59,14 @@ drop_trees zero trees = trees
 drop_trees (suc _) bare = bare
 drop_trees (suc n) (grown _ _ beside) = drop_trees n beside
 
--- the trees whose nodes in prefix order these are: the first node stands over as many of the trees behind it as it has children
+-- the trees whose nodes in prefix order these are:
+-- the first node stands over as many of the trees behind it as it has children
 abbrev pub forest_of : List Node → Forest
 forest_of [] = bare
 forest_of (node ∷ rest) = grown node (take_trees node.children (forest_of rest)) (drop_trees node.children (forest_of rest))
 
--- how many nodes are still wanted after these, where n were wanted before them: each takes its own place, and opens one for each child
+-- how many nodes are still wanted after these, where n were wanted before them:
+-- each takes its own place, and opens one for each child
 abbrev pub wanted : ℕ → List Node → ℕ
 wanted n [] = n
 wanted n (node ∷ rest) = wanted (n + node.children - 1) rest

@@ -14,8 +14,10 @@ use Rattle.xg_locked.proofs.Takes.{once_at_most}
 use Rattle.xg_board.specs.Closing.{Gathered}
 
 -- at the start nothing is gathered
-pub nothing_gathered : (jobs rows stripes : ℕ) (amount : ℕ → ℕ → ℤ) (start : List Right) (sums : List ℤ) → length sums ≡ rows
-    → ((row : ℕ) → row < rows → slice_index_or sums row (pos 0) ≡ pos 0) → Gathered jobs rows stripes amount start start sums
+pub nothing_gathered : (jobs rows stripes : ℕ) (amount : ℕ → ℕ → ℤ) (start : List Right) (sums : List ℤ)
+    → length sums ≡ rows
+    → ((row : ℕ) → row < rows → slice_index_or sums row (pos 0) ≡ pos 0)
+    → Gathered jobs rows stripes amount start start sums
 nothing_gathered jobs rows stripes amount start sums len zeros = record {
   orders = λ _. [];
   jobs_named = λ _. All-nil (λ job. job < jobs);
@@ -29,9 +31,11 @@ unfolding once
 once_is number j s a b = grind (arith, nat_tests)
 
 -- with all parts gathered and a ticket given up, no job is left and every order is complete
-pub ended : (jobs rows stripes number : ℕ) (amount : ℕ → ℕ → ℤ) (bag : List ℕ) (now : View) (sums : List ℤ) (bag_tickets made pass_tickets : ℕ)
+pub ended : (jobs rows stripes number : ℕ) (amount : ℕ → ℕ → ℤ) (bag : List ℕ) (now : View) (sums : List ℤ)
+    (bag_tickets made pass_tickets : ℕ)
     → jobs_of number ≡ jobs → stripes_of number ≡ stripes → 0 < stripes
-    → (0 < length bag → bag_tickets ≡ 0) → now.tickets ≡ bag_tickets + (64 - made) + pass_tickets → pass_tickets < made → made ≤ 64
+    → (0 < length bag → bag_tickets ≡ 0) → now.tickets ≡ bag_tickets + (64 - made) + pass_tickets → pass_tickets < made
+    → made ≤ 64
     → now.parts ≡ 1 + (65 - made) + made + stripes → now.number ≡ number → IsLoaded number now
     → Gathered jobs rows stripes amount (rights_for bag stripes ++ []) now.rights sums
     → (row : ℕ) → row < rows → slice_index_or sums row (pos 0) ≡ sum_over_jobs amount jobs row

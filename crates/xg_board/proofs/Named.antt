@@ -33,7 +33,8 @@ tested_small jobs rows amount row below = by_case (are_small jobs rows amount) r
     by_case false e = omega (arith, nat_sum_over-bounded (λ (job : ℕ). 0) 0 (job_numbers jobs) (λ k d low. omega arith))
 
 -- small amounts stay as they are
-tested_is : (jobs rows : ℕ) (amount : ℕ → ℕ → ℤ) → ((row : ℕ) → row < rows → nat_sum_over (λ job. unsigned_abs (amount job row)) (job_numbers jobs) ≤ 2 ^ 98)
+tested_is : (jobs rows : ℕ) (amount : ℕ → ℕ → ℤ)
+    → ((row : ℕ) → row < rows → nat_sum_over (λ job. unsigned_abs (amount job row)) (job_numbers jobs) ≤ 2 ^ 98)
     → amount ≡ tested jobs rows amount
 tested_is jobs rows amount small = sym (ap (λ (b : Bool). if b then amount else λ (j r : ℕ). pos 0) yes)
   where
@@ -47,7 +48,8 @@ at_most bound (n ∷ rest) all zero = All-head (λ n. n ≤ bound) n rest all
 at_most bound (n ∷ rest) all (suc s) = at_most bound rest (All-tail (λ n. n ≤ bound) n rest all) s
 
 -- so are the amounts of a form's jobs
-pub amounts_stay : (form : SequenceForm) (numbers_one numbers_two : List ℕ) (table : TableOfJobs) → AreNumbersOf form numbers_one numbers_two → IsTableOf form table
+pub amounts_stay : (form : SequenceForm) (numbers_one numbers_two : List ℕ) (table : TableOfJobs)
+    → AreNumbersOf form numbers_one numbers_two → IsTableOf form table
     → mass_of form.leaves ≤ most_mass
     → job_amounts form numbers_one numbers_two table.ranges
     ≡ tested (length table.ranges) (row_count form) (job_amounts form numbers_one numbers_two table.ranges)

@@ -3,6 +3,7 @@ use Rattle.std.proofs.Common.{◌≡◌, ℕ, zero, suc, ◌+◌, ◌++◌, leng
 use Rattle.std.proofs.lemmas.List.{length-append, length-replicate}
 use Rattle.xg_jobs.specs.Rows.{Amounts, all_rows}
 
+-- where each player has so many zeros, there are as many rows as zeros of both
 pub fresh_count : (one two : ℕ) (rows : Amounts) → rows.one ≡ replicate one (pos 0) → rows.two ≡ replicate two (pos 0)
     → length (all_rows rows) ≡ one + two
 fresh_count one two rows a b =
@@ -18,6 +19,7 @@ both zero two row = zeros two row
 both (suc k) two zero = refl
 both (suc k) two (suc row) = both k two row
 
+-- where each player has zeros alone, the amount at any row is zero
 pub fresh_zeros : (one two : ℕ) (rows : Amounts) → rows.one ≡ replicate one (pos 0) → rows.two ≡ replicate two (pos 0)
     → (row : ℕ) → get_or (all_rows rows) row (pos 0) ≡ pos 0
 fresh_zeros one two rows a b row = (λ i. get_or (a i ++ b i) row (pos 0)) ∙ both one two row

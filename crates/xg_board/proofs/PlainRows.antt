@@ -28,13 +28,15 @@ form_leaves form tree is =
     ∙ length-leaves_with tree (leaf_visits tree) is.weights (omega (arith, visited, is.count)) ∙ visited
 
 -- the jobs of a form's table have its leaves, each once
-pub ranges_partition : (form : SequenceForm) (table : TableOfJobs) → IsTableOf form table → Partitions table.ranges (length form.leaves)
+pub ranges_partition : (form : SequenceForm) (table : TableOfJobs) → IsTableOf form table
+    → Partitions table.ranges (length form.leaves)
 ranges_partition form table is =
     subst (Partitions table.ranges) (sym (form_leaves form is.tree is.form_is))
     (subst (λ (ranges : List LeafRange). Partitions ranges (leaf_count (prefix is.tree))) (sym (ap (λ (t : TableOfJobs). t.ranges) is.table_is)) (partition is.tree is.rules.tree.one))
 
 -- rows with the sums of all jobs' amounts are the plain sums
-pub plain_sums : (form : SequenceForm) (numbers_one numbers_two : List ℕ) (table : TableOfJobs) (amounts : Amounts) → IsTableOf form table
+pub plain_sums : (form : SequenceForm) (numbers_one numbers_two : List ℕ) (table : TableOfJobs) (amounts : Amounts)
+    → IsTableOf form table
     → length amounts.one ≡ sequence_count form.sets_one → length (all_rows amounts) ≡ row_count form
     → ((row : ℕ) → row < row_count form → get_or (all_rows amounts) row (pos 0) ≡ sum_over_jobs (job_amounts form numbers_one numbers_two table.ranges) (length table.ranges) row)
     → ArePlainSums form numbers_one numbers_two amounts
@@ -58,5 +60,7 @@ plain_sums form numbers_one numbers_two table amounts is count_one count sums = 
     count_two : length amounts.two ≡ sequence_count form.sets_two
     count_two = omega (arith, count, count_one, length-append amounts.one amounts.two)
 
-    at : (row : ℕ) → row < row_count form → get_or (all_rows amounts) row (pos 0) ≡ sum_over_leaves (leaf_amount form numbers_one numbers_two) (length form.leaves) row
+    at : (row : ℕ) → row < row_count form
+        → get_or (all_rows amounts) row (pos 0)
+        ≡ sum_over_leaves (leaf_amount form numbers_one numbers_two) (length form.leaves) row
     at row below = sums row below ∙ jobs_add_up (leaf_amount form numbers_one numbers_two) table.ranges (length form.leaves) (ranges_partition form table is) row

@@ -34,12 +34,14 @@ lt_more : (q p : ℕ) → q ≢ p → nat_lt q p ≡ nat_lt q (p + 1)
 lt_more q p other = grind (arith, nat_tests)
 
 -- a place more leaves every other row's share
-other_share : (amount : ℕ → ℕ → ℤ) (h : StripeHistory) (place row : ℕ) → h.index < h.stripes → row ≢ place * h.stripes + h.index
+other_share : (amount : ℕ → ℕ → ℤ) (h : StripeHistory) (place row : ℕ) → h.index < h.stripes
+    → row ≢ place * h.stripes + h.index
     → share_below amount h place row ≡ share_below amount h (place + 1) row
 other_share amount h place row inside other = by_case (stripe_of h.stripes row == h.index) refl
   where
     by_case : (b : Bool) → (stripe_of h.stripes row == h.index) ≡ b
-        → share (replay amount h.order row) (b && nat_lt (place_of h.stripes row) place) ≡ share (replay amount h.order row) (b && nat_lt (place_of h.stripes row) (place + 1))
+        → share (replay amount h.order row) (b && nat_lt (place_of h.stripes row) place)
+        ≡ share (replay amount h.order row) (b && nat_lt (place_of h.stripes row) (place + 1))
     by_case false e = refl
     by_case true e =
         let here : stripe_of h.stripes row ≡ h.index = grind (arith, nat_tests) in
@@ -47,12 +49,14 @@ other_share amount h place row inside other = by_case (stripe_of h.stripes row =
         ap (share (replay amount h.order row)) (lt_more (place_of h.stripes row) place (λ at. other (sym there ∙ ap (λ q. q * h.stripes + stripe_of h.stripes row) at ∙ ap (λ s. place * h.stripes + s) here)))
 
 -- the share of the row at a place: nothing before it, and then the replay
-share_before : (amount : ℕ → ℕ → ℤ) (h : StripeHistory) (place row : ℕ) → place_of h.stripes row ≡ place → share_below amount h place row ≡ pos 0
+share_before : (amount : ℕ → ℕ → ℤ) (h : StripeHistory) (place row : ℕ) → place_of h.stripes row ≡ place
+    → share_below amount h place row ≡ pos 0
 share_before amount h place row at =
     let no : nat_lt (place_of h.stripes row) place ≡ false = grind (arith, nat_tests) in
     ap (λ t. share (replay amount h.order row) ((stripe_of h.stripes row == h.index) && t)) no ∙ share_none (replay amount h.order row) (stripe_of h.stripes row == h.index)
 
-share_after : (amount : ℕ → ℕ → ℤ) (h : StripeHistory) (places row : ℕ) → stripe_of h.stripes row ≡ h.index → place_of h.stripes row < places
+share_after : (amount : ℕ → ℕ → ℤ) (h : StripeHistory) (places row : ℕ) → stripe_of h.stripes row ≡ h.index
+    → place_of h.stripes row < places
     → share_below amount h places row ≡ replay amount h.order row
 share_after amount h places row here below =
     let yes : (stripe_of h.stripes row == h.index) ≡ true = grind (arith, nat_tests) in
@@ -60,19 +64,23 @@ share_after amount h places row here below =
     ap (λ t. share (replay amount h.order row) (t && nat_lt (place_of h.stripes row) places)) yes ∙ ap (share (replay amount h.order row)) less
 
 -- a place's row is a row
-pub place_inside : (stripes rows index place : ℕ) → index < stripes → place < place_count stripes rows index → place * stripes + index < rows
+pub place_inside : (stripes rows index place : ℕ) → index < stripes → place < place_count stripes rows index
+    → place * stripes + index < rows
 place_inside stripes rows index place inside below = (stripes_hold_their_rows stripes rows index place inside).0 below
 
 -- until its place comes, a row is as it was
 pub before_total : (amount : ℕ → ℕ → ℤ) (h : StripeHistory) (place at : ℕ) (old now : List ℤ) → h.index < h.stripes
-    → at ≡ place * h.stripes + h.index → at < length old → AddsBelow amount h place old now → get_or now at (pos 0) ≡ get_or old at (pos 0)
+    → at ≡ place * h.stripes + h.index → at < length old → AddsBelow amount h place old now
+    → get_or now at (pos 0) ≡ get_or old at (pos 0)
 before_total amount h place at old now inside at_is at_below added =
     let alone = (each_row_once h.stripes at (omega arith)).alone h.index place inside (sym at_is) in
     added.each at at_below ∙ ap (λ v. get_or old at (pos 0) +ℤ v) (share_before amount h place at (sym alone.1)) ∙ +ℤ_idr (get_or old at (pos 0))
 
 -- the total at a place is added to its row
-pub total_added : (amount : ℕ → ℕ → ℤ) (h : StripeHistory) (place at : ℕ) (old now : List ℤ) (total : ℤ) → h.index < h.stripes
-    → at ≡ place * h.stripes + h.index → at < length now → total ≡ replay amount h.order at → AddsBelow amount h place old now
+pub total_added : (amount : ℕ → ℕ → ℤ) (h : StripeHistory) (place at : ℕ) (old now : List ℤ) (total : ℤ)
+    → h.index < h.stripes
+    → at ≡ place * h.stripes + h.index → at < length now → total ≡ replay amount h.order at
+    → AddsBelow amount h place old now
     → AddsBelow amount h (place + 1) old (set now at (get_or now at (pos 0) +ℤ total))
 total_added amount h place at old now total inside at_is at_below total_is added = record {
   same = length-set now at (get_or now at (pos 0) +ℤ total) ∙ added.same;
@@ -80,7 +88,8 @@ total_added amount h place at old now total inside at_is at_below total_is added
 }
   where
     by_row : (row : ℕ) → row < length old → (b : Bool) → eqb row at ≡ b
-        → get_or (set now at (get_or now at (pos 0) +ℤ total)) row (pos 0) ≡ get_or old row (pos 0) +ℤ share_below amount h (place + 1) row
+        → get_or (set now at (get_or now at (pos 0) +ℤ total)) row (pos 0)
+        ≡ get_or old row (pos 0) +ℤ share_below amount h (place + 1) row
     by_row row below false e =
         let other : row ≢ at = grind (arith, nat_tests) in
         get_or-set_other now at row (get_or now at (pos 0) +ℤ total) (pos 0) other ∙ added.each row below
@@ -95,7 +104,8 @@ total_added amount h place at old now total inside at_is at_below total_is added
         ∙ ap (λ v. get_or old row (pos 0) +ℤ v) (total_is ∙ ap (replay amount h.order) (sym is) ∙ sym (share_after amount h (place + 1) row (sym alone.0) (let q = alone.1 in omega arith)))
 
 -- after the last place all totals are
-pub all_added : (amount : ℕ → ℕ → ℤ) (h : StripeHistory) (places rows : ℕ) (old now : List ℤ) → h.index < h.stripes → length old ≡ rows
+pub all_added : (amount : ℕ → ℕ → ℤ) (h : StripeHistory) (places rows : ℕ) (old now : List ℤ) → h.index < h.stripes
+    → length old ≡ rows
     → places ≡ place_count h.stripes rows h.index → AddsBelow amount h places old now → AddsTotals amount h old now
 all_added amount h places rows old now inside rows_is places_is added = record {
   same = added.same;
@@ -106,7 +116,8 @@ all_added amount h places rows old now inside rows_is places_is added = record {
     whole row below = by_case (stripe_of h.stripes row == h.index) refl
       where
         by_case : (b : Bool) → (stripe_of h.stripes row == h.index) ≡ b
-            → share (replay amount h.order row) (b && nat_lt (place_of h.stripes row) places) ≡ share (replay amount h.order row) b
+            → share (replay amount h.order row) (b && nat_lt (place_of h.stripes row) places)
+            ≡ share (replay amount h.order row) b
         by_case false e = refl
         by_case true e =
             let here : stripe_of h.stripes row ≡ h.index = grind (arith, nat_tests) in

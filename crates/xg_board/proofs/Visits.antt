@@ -25,11 +25,13 @@ at_left n start i k below at = let e : steps_to n start k ≡ i = at in grind (a
 not_left : (n start i k : ℕ) → steps_to n start k ≡ i → is_left n start (i + 1) k ≡ false
 not_left n start i k at = let e : steps_to n start k ≡ i = at in grind (arith, nat_tests)
 
-others_left : (n start i s d : ℕ) → (s < n → d ≢ i) → (nat_lt s n && not (nat_lt d i)) ≡ (nat_lt s n && not (nat_lt d (i + 1)))
+others_left : (n start i s d : ℕ) → (s < n → d ≢ i)
+    → (nat_lt s n && not (nat_lt d i)) ≡ (nat_lt s n && not (nat_lt d (i + 1)))
 others_left n start i s d apart = grind (arith, nat_tests)
 
 -- before the first visit all rights of the job are left
-pub all_left : (job n start : ℕ) (rights : List Right) → IsPermutation (rights_of job n) rights → HoldsLeft job n start 0 rights
+pub all_left : (job n start : ℕ) (rights : List Right) → IsPermutation (rights_of job n) rights
+    → HoldsLeft job n start 0 rights
 all_left job n start rights same j s =
     sym ((counts_tell_rights.same (rights_of job n) rights).0 same j s) ∙ counts_tell_rights.of_a_job job n j s ∙ ap (λ t. if (job == j) && t then 1 else 0) (from_start s)
   where
@@ -37,7 +39,8 @@ all_left job n start rights same j s =
     from_start s = let none : nat_lt (steps_to n start s) 0 ≡ false = grind (arith, nat_tests) in grind (arith, nat_tests)
 
 -- the next stripe's right is there
-pub holds_next : (job n start i k : ℕ) (rights : List Right) → start < n → k < n → steps_to n start k ≡ i → HoldsLeft job n start i rights
+pub holds_next : (job n start i k : ℕ) (rights : List Right) → start < n → k < n → steps_to n start k ≡ i
+    → HoldsLeft job n start i rights
     → 1 ≤ times_right job k rights
 holds_next job n start i k rights a b at held =
     let h = held job k in
@@ -46,8 +49,10 @@ holds_next job n start i k rights a b at held =
     let e : times_right job k rights ≡ 1 = h ∙ ap (λ t. if t && is_left n start i k then 1 else 0) same ∙ ap (λ t. if t then 1 else 0) l in
     omega arith
 
-moved : (job n start i k j s : ℕ) → start < n → k < n → steps_to n start k ≡ i → (x : Bool) → eqb job j ≡ x → (y : Bool) → eqb k s ≡ y
-    → cond (eqb job j && eqb k s) 1 0 + (if (job == j) && is_left n start (i + 1) s then 1 else 0) ≡ (if (job == j) && is_left n start i s then 1 else 0)
+moved : (job n start i k j s : ℕ) → start < n → k < n → steps_to n start k ≡ i → (x : Bool) → eqb job j ≡ x → (y : Bool)
+    → eqb k s ≡ y
+    → cond (eqb job j && eqb k s) 1 0 + (if (job == j) && is_left n start (i + 1) s then 1 else 0)
+    ≡ (if (job == j) && is_left n start i s then 1 else 0)
 moved job n start i k j s a b at false ex y ey = rw ex (omega arith)
 moved job n start i k j s a b at true ex true ey =
     let is : k ≡ s = grind (arith, nat_tests) in
@@ -60,7 +65,8 @@ moved job n start i k j s a b at true ex false ey =
     rw (ex, ey, o) (omega arith)
 
 -- a visit gives up one right
-pub left_step : (job n start i k : ℕ) (rights : List Right) → start < n → k < n → steps_to n start k ≡ i → HoldsLeft job n start i rights
+pub left_step : (job n start i k : ℕ) (rights : List Right) → start < n → k < n → steps_to n start k ≡ i
+    → HoldsLeft job n start i rights
     → HoldsLeft job n start (i + 1) (without job k rights)
 left_step job n start i k rights a b at held j s =
     let w = times_without j s job k rights (holds_next job n start i k rights a b at held) in
@@ -73,7 +79,8 @@ nothing [] none = refl
 nothing (r ∷ rs) none = absurd (omega (arith, none r.job r.stripe, times_right-cons r.job r.stripe r rs, same_right r.job r.stripe))
 
 -- after all visits no right is left
-pub none_left : (job n start i : ℕ) (rights : List Right) → start < n → n ≤ i → HoldsLeft job n start i rights → rights ≡ []
+pub none_left : (job n start i : ℕ) (rights : List Right) → start < n → n ≤ i → HoldsLeft job n start i rights
+    → rights ≡ []
 none_left job n start i rights a all held = nothing rights none
   where
     none : (j s : ℕ) → times_right j s rights ≡ 0

@@ -149,6 +149,7 @@ module _ (lines : List TraceLine) (room capacity : ℕ) (lower upper lower' uppe
       not_higher = ≤ℤ_refl (upper'.reply.reply.total *ℤ pos upper'.round);
     }
 
+    -- with the new line and ends the board is kept, where each end's reply has as many sets as the end
     pub keeps_more : length lower'.reply.reply.sets ≡ lower'.sets → length upper'.reply.reply.sets ≡ upper'.sets
         → KeepsBoard lines' room' capacity lower' upper'
     keeps_more lower_sets upper_sets =

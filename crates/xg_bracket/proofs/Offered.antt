@@ -50,6 +50,7 @@ module _ (board : SizedBoard) (offer : Offer) (same : offer.divisor ≡ offer.ro
   pub bounded_lower : IsBounded (lower_of offer)
   bounded_lower = record { some = omega (arith, m.fair.some_divisor); rounds = m.fair.few_rounds; small = low_small }
 
+  -- the upper end that the offer makes has a round from 1 on and a bound, within the limits
   pub bounded_upper : IsBounded (upper_of offer)
   bounded_upper = record { some = omega (arith, m.fair.some_divisor); rounds = m.fair.few_rounds; small = high_small }
 

@@ -30,6 +30,7 @@ second_offer =
     (record { total = negsuc 1; sets = record { value = negsuc 1; choice = 1 } ∷ [] })
     (record { total = pos 0; sets = record { value = pos 0; choice = 1 } ∷ [] })
 
+-- in matching pennies the first offer is fair before any round
 pub first_fair : IsFair pennies 0 first_offer
 first_fair = record {
   scale = 1;
@@ -43,6 +44,7 @@ first_fair = record {
   against_two = refl;
 }
 
+-- in matching pennies the second offer is fair after round 1
 pub second_fair : IsFair pennies 1 second_offer
 second_fair = record {
   scale = 1;

@@ -19,7 +19,8 @@ joined_from start (next ∷ starts) numbers rise =
     ∙ take-append-drop (next - start) (drop start numbers)
 
 -- the root and the groups are all numbers
-pub all_numbers : (numbers starts : List ℕ) → IsPlanOf numbers starts → printed_numbers (plan_of numbers starts) ≡ numbers
+pub all_numbers : (numbers starts : List ℕ) → IsPlanOf numbers starts
+    → printed_numbers (plan_of numbers starts) ≡ numbers
 all_numbers [] starts plan = absurd (omega (arith, plan.root))
 all_numbers (n ∷ ns) [] plan = absurd plan.rise
 all_numbers (n ∷ ns) (start ∷ starts) plan =
@@ -61,7 +62,8 @@ group_at starts numbers k from to rise one there a b =
     group_from starts numbers (k - 1) from to rise (omega (arith, one, there)) a (b ∙ ap (λ (n : ℕ). get_or starts n to) next)
 
 -- ---- a group more
-pub starts_grow : (starts : List ℕ) (size more : ℕ) → AreStarts starts size → AreStarts (starts ++ (size + more) ∷ []) (size + more)
+pub starts_grow : (starts : List ℕ) (size more : ℕ) → AreStarts starts size
+    → AreStarts (starts ++ (size + more) ∷ []) (size + more)
 starts_grow [] size more rise = absurd rise
 starts_grow (start ∷ []) size more rise = (omega (arith, rise), refl)
 starts_grow (start ∷ next ∷ starts) size more rise = (rise.0, starts_grow (next ∷ starts) size more rise.1)
@@ -95,7 +97,9 @@ some_start : (starts : List ℕ) (size : ℕ) → AreStarts starts size → 1 �
 some_start [] size rise = absurd rise
 some_start (start ∷ starts) size rise = omega arith
 
-pub plan_grows : (numbers starts row now ends : List ℕ) → IsPlanOf numbers starts → now ≡ numbers ++ row → ends ≡ starts ++ length now ∷ []
+-- a row behind a plan's numbers, and its end behind the starts, make a plan of the same root with one group more
+pub plan_grows : (numbers starts row now ends : List ℕ) → IsPlanOf numbers starts → now ≡ numbers ++ row
+    → ends ≡ starts ++ length now ∷ []
     → IsGrown numbers starts row now ends
 plan_grows numbers starts row now ends plan grown started =
     let size : length now ≡ length numbers + length row = ap length grown ∙ length-append numbers row in

@@ -17,7 +17,8 @@ regroup front x (Ok xs) = ap (λ ys. Ok (ys, xs.1)) (sym (append_assoc front (x 
 regroup front x (Err fault) = refl
 
 -- one value more
-pub each_goes_on : {A : Type 0} (f : ℕ → Format A) (front : List A) (count i total : ℕ) (bytes : List ℕ) (x : A) (left : List ℕ)
+pub each_goes_on : {A : Type 0} (f : ℕ → Format A) (front : List A) (count i total : ℕ) (bytes : List ℕ) (x : A)
+    (left : List ℕ)
     (all : Result (List A × List ℕ) CertFault) → i < count → (f (i + 1)).read total bytes ≡ Ok (x, left)
     → behind_front front (read_each f (i + 1) (count - i) total bytes) ≡ all
     → behind_front (front ++ x ∷ []) (read_each f (i + 1 + 1) (count - (i + 1)) total left) ≡ all
@@ -28,7 +29,8 @@ each_goes_on f front count i total bytes x left all more one so_far =
     sym step ∙ so_far
 
 -- a fault on the way is the fault of all
-pub each_fails : {A : Type 0} (f : ℕ → Format A) (refused : CertRefused) (front : List A) (count i total : ℕ) (bytes : List ℕ)
+pub each_fails : {A : Type 0} (f : ℕ → Format A) (refused : CertRefused) (front : List A) (count i total : ℕ)
+    (bytes : List ℕ)
     (all : Result (List A × List ℕ) CertFault) → i < count → Fails refused ((f (i + 1)).read total bytes)
     → behind_front front (read_each f (i + 1) (count - i) total bytes) ≡ all → Fails refused all
 unfolding read_each
@@ -38,6 +40,7 @@ each_fails f (Cert fault) front count i total bytes all more one so_far =
     let step : behind_front front (read_each f (i + 1) (count - i) total bytes) ≡ Err fault = rw (k, one) refl in
     sym so_far ∙ step
 
+-- where no value is left to read, all that is read is what is in front, and no more bytes are taken
 pub each_done : {A : Type 0} (f : ℕ → Format A) (front : List A) (count i total : ℕ) (bytes : List ℕ)
     (all : Result (List A × List ℕ) CertFault) → count ≤ i → behind_front front (read_each f (i + 1) (count - i) total bytes) ≡ all
     → all ≡ Ok (front, bytes)
@@ -48,6 +51,7 @@ each_done f front count i total bytes all none so_far =
     sym so_far ∙ end
 
 -- ---- the numbers of a set
+-- a number that isn't the last of its line joins the front, and behind it the rest of the row gives all that is read
 pub row_goes_on : (most : ℕ) (front : List ℕ) (more i total : ℕ) (bytes : List ℕ) (n : ℕ) (last : Bool) (left : List ℕ)
     (all : Result (List ℕ × List ℕ) CertFault) → i < more → read_number most total bytes ≡ Ok ((n, last), left) → last ≡ false
     → behind_front front (read_row most (more - i) total bytes) ≡ all
@@ -58,6 +62,7 @@ row_goes_on most front more i total bytes n last left all there one not_last so_
     let step : behind_front front (read_row most (more - i) total bytes) ≡ behind_front (front ++ n ∷ []) (read_row most (more - (i + 1)) total left) = rw (k, one, not_last) (regroup front n (read_row most (more - (i + 1)) total left)) in
     sym step ∙ so_far
 
+-- a number that is the last of its line ends the row: all that is read is the front and this number
 pub row_ends : (most : ℕ) (front : List ℕ) (more i total : ℕ) (bytes : List ℕ) (n : ℕ) (last : Bool) (left : List ℕ)
     (all : Result (List ℕ × List ℕ) CertFault) → i < more → read_number most total bytes ≡ Ok ((n, last), left) → last ≡ true
     → behind_front front (read_row most (more - i) total bytes) ≡ all → all ≡ Ok (front ++ n ∷ [], left)
@@ -67,6 +72,7 @@ row_ends most front more i total bytes n last left all there one is_last so_far 
     let step : behind_front front (read_row most (more - i) total bytes) ≡ Ok (front ++ n ∷ [], left) = rw (k, one, is_last) refl in
     sym so_far ∙ step
 
+-- a fault at a number of a row, behind which more may come, is the fault of the whole row
 pub row_fails : (most : ℕ) (fault : CertFault) (front : List ℕ) (more i total : ℕ) (bytes : List ℕ)
     (all : Result (List ℕ × List ℕ) CertFault) → i < more → read_number most total bytes ≡ Err fault
     → behind_front front (read_row most (more - i) total bytes) ≡ all → all ≡ Err fault
@@ -77,8 +83,10 @@ row_fails most fault front more i total bytes all there one so_far =
     sym so_far ∙ step
 
 -- the last number that may come
-pub row_last : (most : ℕ) (front : List ℕ) (more i total : ℕ) (bytes : List ℕ) (all : Result (List ℕ × List ℕ) CertFault)
-    → more ≤ i → behind_front front (read_row most (more - i) total bytes) ≡ all → all ≡ behind_front front (read_last most total bytes)
+pub row_last : (most : ℕ) (front : List ℕ) (more i total : ℕ) (bytes : List ℕ)
+    (all : Result (List ℕ × List ℕ) CertFault)
+    → more ≤ i → behind_front front (read_row most (more - i) total bytes) ≡ all
+    → all ≡ behind_front front (read_last most total bytes)
 unfolding read_row
 row_last most front more i total bytes all full so_far =
     let k : more - i ≡ 0 = omega arith in
@@ -92,12 +100,15 @@ front_fails front (Ok x) fault e = cc
 front_fails front (Err other) fault e = e
 
 -- the number with which a line is full
-pub last_gives : (most total : ℕ) (bytes : List ℕ) (n : ℕ) (left : List ℕ) → (whole_field 0 most feed).read total bytes ≡ Ok (n, left)
+pub last_gives : (most total : ℕ) (bytes : List ℕ) (n : ℕ) (left : List ℕ)
+    → (whole_field 0 most feed).read total bytes ≡ Ok (n, left)
     → read_last most total bytes ≡ Ok (n ∷ [], left)
 unfolding read_last
 last_gives most total bytes n left one = rw one refl
 
-pub last_fails : (most total : ℕ) (bytes : List ℕ) (fault : CertFault) → (whole_field 0 most feed).read total bytes ≡ Err fault
+-- a fault at the number with which a line is full is the fault of reading it as the last one
+pub last_fails : (most total : ℕ) (bytes : List ℕ) (fault : CertFault)
+    → (whole_field 0 most feed).read total bytes ≡ Err fault
     → read_last most total bytes ≡ Err fault
 unfolding read_last
 last_fails most total bytes fault one = rw one refl
@@ -108,6 +119,7 @@ pub record IsPutBehind {A : Type 0} (front now : List A) (left : List ℕ) (read
   pub are_read : read ≡ Ok (values, left)
   pub are_behind : now ≡ front ++ values
 
+-- where a list is read behind a front, reading gives its part behind the front, and leaves the same bytes
 pub put_behind : {A : Type 0} (front now : List A) (left : List ℕ) (read : Result (List A × List ℕ) CertFault)
     → behind_front front read ≡ Ok (now, left) → IsPutBehind front now left read
 put_behind {A = A} front now left (Ok x) e =
@@ -119,7 +131,8 @@ put_behind front now left (Err fault) e = absurd cc
 
 -- a value and a choice more, side by side
 pub set_replies-push : (values : List ℤ) (choices : List ℕ) (value : ℤ) (choice : ℕ) → length choices ≡ length values
-    → set_replies (values ++ value ∷ []) (choices ++ choice ∷ []) ≡ set_replies values choices ++ record { value = value; choice = choice } ∷ []
+    → set_replies (values ++ value ∷ []) (choices ++ choice ∷ [])
+    ≡ set_replies values choices ++ record { value = value; choice = choice } ∷ []
 set_replies-push [] [] value choice same = refl
 set_replies-push [] (c ∷ cs) value choice same = absurd (omega arith)
 set_replies-push (v ∷ vs) [] value choice same = absurd (omega arith)

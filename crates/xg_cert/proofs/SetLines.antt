@@ -39,6 +39,7 @@ next_at (h ∷ hs) first k (suc i) n rest order e =
     let e' : suc i + 1 ≡ suc (i + 1) = omega arith in
     rw e' (next_at hs (first + h.actions) k i n rest (All-tail IsInOrder (record { first = first; before = h.before; actions = h.actions }) (placed_from (first + h.actions) hs) order) e)
 
+-- where sets are in order, a set has an action, and the counts and lines from it on are its own and then the rest's
 pub next_set : (sets : List InformationSet) (i n : ℕ) (rest : List ℕ) → All IsInOrder (placed_from 1 sets)
     → slice_get (map (λ h. h.actions) sets) i ≡ Some n → IsNextSet sets i n rest
 next_set sets i n rest order e =

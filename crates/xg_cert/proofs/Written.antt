@@ -71,7 +71,7 @@ pub last_field : {T E : Type 0} (before now : Option (List ℕ)) (k : FieldKind)
 unfolding field_text items_text
 last_field before now k w s r h = h
 
--- two fields, and then the rest
+-- a front of the first two fields is a front of the whole
 pub first_two : (before now : Option (List ℕ)) (k l : FieldKind) (w v : List ℕ) (s t : ℕ) (items : List Item)
     → AppendsPrefix before now (items_text (field k w ∷ separator s ∷ field l v ∷ separator t ∷ []))
     → AppendsPrefix before now (items_text (field k w ∷ separator s ∷ field l v ∷ separator t ∷ items))
@@ -80,6 +80,7 @@ first_two before now k l w v s t items p =
     subst (AppendsPrefix before now) (sym (items_text-append front items))
     (prefix_first before now (items_text front) (items_text items) p)
 
+-- where two fields were written whole, writing the rest, or a front of it, has written the whole, or a front of it
 pub then_two : {T E : Type 0} (before middle now : Option (List ℕ)) (k l : FieldKind) (w v : List ℕ) (s t : ℕ)
     (items : List Item) (r : Result T E)
     → middle ≡ append_known before (items_text (field k w ∷ separator s ∷ field l v ∷ separator t ∷ []))
@@ -153,7 +154,8 @@ drop_next (x ∷ xs) zero d lt = refl
 drop_next (x ∷ xs) (suc i) d lt = let e : suc i + 1 ≡ suc (i + 1) = omega arith in rw e (drop_next xs i d (omega arith))
 
 each_left : {A : Type 0} (f : ℕ → Format A) (k : ℕ) (xs : List A) (i : ℕ) (d : A) → i < length xs
-    → items_text (each_items f k (drop i xs)) ≡ text_of (f k) (get_or xs i d) ++ items_text (each_items f (k + 1) (drop (i + 1) xs))
+    → items_text (each_items f k (drop i xs))
+    ≡ text_of (f k) (get_or xs i d) ++ items_text (each_items f (k + 1) (drop (i + 1) xs))
 unfolding each_items
 each_left f k xs i d lt =
     ap (λ ys. items_text (each_items f k ys)) (drop_next xs i d lt)
@@ -202,13 +204,15 @@ get_or-map f (x ∷ xs) (suc i) d = get_or-map f xs i d
 
 -- the numbers of a line from a place on, and the last
 pub row_left : (ns : List ℕ) (i d : ℕ) → i + 1 < length ns
-    → items_text (row_items (drop i ns)) ≡ field_text (decimal (get_or ns i d)) space ++ items_text (row_items (drop (i + 1) ns))
+    → items_text (row_items (drop i ns))
+    ≡ field_text (decimal (get_or ns i d)) space ++ items_text (row_items (drop (i + 1) ns))
 unfolding items_text field_text
 row_left [] i d lt = absurd (omega arith)
 row_left (n ∷ []) i d lt = absurd (omega arith)
 row_left (n ∷ m ∷ ns) zero d lt = sym (append_assoc (decimal n) (space ∷ []) (items_text (row_items (m ∷ ns))))
 row_left (n ∷ m ∷ ns) (suc i) d lt = let e : suc i + 1 ≡ suc (i + 1) = omega arith in rw e (row_left (m ∷ ns) i d (omega arith))
 
+-- the text of a line from its last number on is that number and a line feed
 pub row_last : (ns : List ℕ) (i d : ℕ) → i + 1 ≡ length ns
     → items_text (row_items (drop i ns)) ≡ field_text (decimal (get_or ns i d)) feed
 unfolding items_text field_text

@@ -26,10 +26,12 @@ GivesFor view (Ok x) left read = read ≡ Ok (view x, left)
 GivesFor view (Err refused) left read = Fails refused read
 
 -- what is read, behind what was there before
-abbrev pub behind_front : {A : Type 0} → List A → Result (List A × List ℕ) CertFault → Result (List A × List ℕ) CertFault
+abbrev pub behind_front : {A : Type 0} → List A → Result (List A × List ℕ) CertFault
+    → Result (List A × List ℕ) CertFault
 behind_front front read = read >>= λ x. Ok (front ++ x.0, x.1)
 
 -- what stands there now is what stood there before and what reading gives
-abbrev pub Extends : {X A : Type 0} → List A → List A → Result X CertRefused → List ℕ → Result (List A × List ℕ) CertFault → Type 0
+abbrev pub Extends : {X A : Type 0} → List A → List A → Result X CertRefused → List ℕ
+    → Result (List A × List ℕ) CertFault → Type 0
 Extends before now (Ok _) left read = behind_front before read ≡ Ok (now, left)
 Extends before now (Err refused) left read = Fails refused read

@@ -17,7 +17,9 @@ pub record IsNextDigit (bytes : List ℕ) (i : ℕ) : Type 0 where
   pub digit : is_ascii_digit (get_or bytes i 0) ≡ true
   pub more : IsTrue (all_ascii_digits (drop (i + 1) bytes))
 
-pub next_digit : (bytes : List ℕ) (i : ℕ) → i < length bytes → IsTrue (all_ascii_digits (drop i bytes)) → IsNextDigit bytes i
+-- where digits alone stand from a place on, the byte there is a digit, and digits alone stand behind it
+pub next_digit : (bytes : List ℕ) (i : ℕ) → i < length bytes → IsTrue (all_ascii_digits (drop i bytes))
+    → IsNextDigit bytes i
 next_digit bytes i there digits =
     let next : suc i ≡ i + 1 = omega arith in
     let parts : drop i bytes ≡ get_or bytes i 0 ∷ drop (i + 1) bytes = drop-cons bytes i 0 there ∙ ap (λ (n : ℕ). get_or bytes i 0 ∷ drop n bytes) next in
@@ -38,6 +40,7 @@ kept_by_one num den some kept =
     let shorter : 1 < g → den / g < den = λ more. div-lt_self some more in
     ⊎_elim (λ (more : 1 < g). absurd (omega (arith, shorter more, denominator_is num den, kept))) (λ (one : g ≤ 1). omega (arith, positive, one)) (cases_lt 1 g)
 
+-- where lowest terms keep the positive denominator, num over den reads as this fraction
 pub kept_in_lowest_terms : (num den : ℤ) (f : Fraction) → f ≡ fraction_of num (unsigned_abs den) → pos 1 ≤ℤ den
     → pos f.den ≡ den → Some f ≡ over_in num (Some (unsigned_abs den))
 kept_in_lowest_terms num (negsuc d) f is some kept = cc
@@ -48,6 +51,7 @@ kept_in_lowest_terms num (pos d) f is some kept =
     let exact : f ≡ record { num = num; den = d } = is ∙ fraction_of-lowest (record { num = num; den = d }) (record { positive = positive; coprime = one }) in
     rw (eq-eqb (gcd (unsigned_abs num) d) 1 one) (ap Some exact)
 
+-- where lowest terms change the positive denominator, num over den reads as no fraction
 pub lost_in_lowest_terms : (num den : ℤ) (f : Fraction) → f ≡ fraction_of num (unsigned_abs den) → pos 1 ≤ℤ den
     → (pos f.den ≡ den → ⊥) → None ≡ over_in num (Some (unsigned_abs den))
 lost_in_lowest_terms num (negsuc d) f is some lost = absurd (omega (arith, ints, some))

@@ -32,6 +32,7 @@ pub record IsReady (game : def.WeighedGame) (cert_bytes : List ℕ) (c : Certifi
   pub fits : CertificateFits c
   pub text : cert_bytes ≡ cert_text c
 
+-- a verdict that the tests give of a certificate within its ranges is what its bytes show of the game
 pub judged_shows : (r : Result Verdict CheckFault) (game : def.WeighedGame) (bytes : List ℕ) (c : Certificate)
     → IsReady game bytes c → Answers r (by_tests (def.verdict game c)) → IfOk r (λ v. Shows game bytes (verdict_of v))
 judged_shows (Ok v) game bytes c ready e =
@@ -43,6 +44,7 @@ alone : (v : Verdict) → (v ≡ HeadOnly) ↔ (verdict_of v ≡ def.head_only)
 alone HeadOnly = (λ e. refl, λ e. refl)
 alone (Bounds low high) = (λ e. absurd cc, λ e. absurd cc)
 
+-- a verdict that the tests give is the head alone exactly where the certificate's head has no round
 pub judged_alone : (r : Result Verdict CheckFault) (game : def.WeighedGame) (bytes : List ℕ) (c : Certificate)
     → IsReady game bytes c → Answers r (by_tests (def.verdict game c)) → IfOk r (IsHeadOnlyWithoutRounds bytes)
 judged_alone (Ok v) game bytes c ready e = λ d fits same.
@@ -53,10 +55,12 @@ judged_alone (Ok v) game bytes c ready e = λ d fits same.
 judged_alone (Err f) game bytes c ready e = tt
 
 pub opened_as : (r : Result def.WeighedGame Refused) (bytes : List ℕ) (game : GameFile) → StandsFor bytes game
-    → IfOk r (λ numbers. numbers ≡ weighed_game game) → IfOk r (λ _. game_file_fault game ≡ None) → IfOk r (IsOpened bytes)
+    → IfOk r (λ numbers. numbers ≡ weighed_game game) → IfOk r (λ _. game_file_fault game ≡ None)
+    → IfOk r (IsOpened bytes)
 opened_as (Ok numbers) bytes game stands is none = record { game = game; stands = stands; faultless = none; numbers_are = is }
 opened_as (Err f) bytes game stands is none = tt
 
+-- what a certificate shows of the numbers of an opened file, it shows of the file's game
 pub shown_of_file : (r : Result Verdict CheckFault) (game_bytes cert_bytes : List ℕ) (numbers : def.WeighedGame)
     → IsOpened game_bytes numbers → IfOk r (λ v. Shows numbers cert_bytes (verdict_of v))
     → IfOk r (λ v. ShowsOfFile game_bytes cert_bytes (verdict_of v))

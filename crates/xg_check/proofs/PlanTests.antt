@@ -11,7 +11,8 @@ use Rattle.def_cert_verdict.specs.Certificate.{PrintedPlan, joined, printed_numb
 use Rattle.def_cert_verdict.specs.Verdict.{first_of_other_size}
 
 -- a set's number of numbers and its number of actions, as they are told
-size_told : (weights : List (List ℕ)) (i : ℕ) (ws : List ℕ) → ws ≡ get_or weights (i + 1 - 1) [] → get_or weights i [] ≡ ws
+size_told : (weights : List (List ℕ)) (i : ℕ) (ws : List ℕ) → ws ≡ get_or weights (i + 1 - 1) []
+    → get_or weights i [] ≡ ws
 size_told weights i ws e = let same : i + 1 - 1 ≡ i = omega arith in ap (λ j. get_or weights j []) (sym same) ∙ sym e
 
 actions_told : (sets : List InformationSet) (i n : ℕ) (d : InformationSet) → i < length sets
@@ -37,7 +38,9 @@ next_size sets weights i ws n low low' is has =
     ∙ ap (λ m. cond (eqb (length (get_or weights i [])) m) rest (Some (i + 1))) (actions_told sets i n no_set low has)
     ∙ ap (λ ys. cond (eqb (length ys) n) rest (Some (i + 1))) (size_told weights i ws is)
 
-pub size_differs : (sets : List InformationSet) (weights : List (List ℕ)) (i : ℕ) (ws : List ℕ) (n : ℕ) → i < length sets
+-- a set that has not as many numbers as actions is the first of other size from its place on
+pub size_differs : (sets : List InformationSet) (weights : List (List ℕ)) (i : ℕ) (ws : List ℕ) (n : ℕ)
+    → i < length sets
     → i < length weights → ws ≡ get_or weights (i + 1 - 1) []
     → slice_get (map (λ (h : InformationSet). h.actions) sets) (i + 1 - 1) ≡ Some n → length ws ≢ n
     → first_of_other_size (i + 1) (drop i sets) (drop i weights) ≡ Some (i + 1)
@@ -45,15 +48,19 @@ size_differs sets weights i ws n low low' is has other =
     let rest = first_of_other_size (i + 1 + 1) (drop (i + 1) sets) (drop (i + 1) weights) in
     next_size sets weights i ws n low low' is has ∙ ap (λ b. cond b rest (Some (i + 1))) (ne_eqb (length ws) n other)
 
+-- where a set has as many numbers as actions, the first of other size from it on is the first behind it
 pub size_agrees : (sets : List InformationSet) (weights : List (List ℕ)) (i : ℕ) (ws : List ℕ) (n : ℕ) → i < length sets
     → i < length weights → ws ≡ get_or weights (i + 1 - 1) []
     → slice_get (map (λ (h : InformationSet). h.actions) sets) (i + 1 - 1) ≡ Some n → length ws ≡ n
-    → first_of_other_size (i + 1) (drop i sets) (drop i weights) ≡ first_of_other_size (i + 1 + 1) (drop (i + 1) sets) (drop (i + 1) weights)
+    → first_of_other_size (i + 1) (drop i sets) (drop i weights)
+    ≡ first_of_other_size (i + 1 + 1) (drop (i + 1) sets) (drop (i + 1) weights)
 size_agrees sets weights i ws n low low' is has same =
     let rest = first_of_other_size (i + 1 + 1) (drop (i + 1) sets) (drop (i + 1) weights) in
     next_size sets weights i ws n low low' is has ∙ ap (λ b. cond b rest (Some (i + 1))) (eq-eqb (length ws) n same)
 
-pub no_size_left : (k i : ℕ) (sets : List InformationSet) (weights : List (List ℕ)) → length sets ≤ i → length weights ≤ i
+-- past the last set and the last row of numbers there is none of other size
+pub no_size_left : (k i : ℕ) (sets : List InformationSet) (weights : List (List ℕ)) → length sets ≤ i
+    → length weights ≤ i
     → first_of_other_size k (drop i sets) (drop i weights) ≡ None
 no_size_left k i sets weights le le' =
     ap (λ hs. first_of_other_size k hs (drop i weights)) (drop_all i sets le)
@@ -64,7 +71,8 @@ agree : (b : Bool) (rest : Option ℕ) (k : ℕ) → cond b rest (Some k) ≡ No
 agree true rest k e = (refl, e)
 agree false rest k e = absurd cc
 
-joined_count : (k : ℕ) (sets : List InformationSet) (weights : List (List ℕ)) → first_of_other_size k sets weights ≡ None
+joined_count : (k : ℕ) (sets : List InformationSet) (weights : List (List ℕ))
+    → first_of_other_size k sets weights ≡ None
     → length (joined weights) ≡ nat_sum_over (λ (h : InformationSet). h.actions) sets
 joined_count k [] [] e = refl
 joined_count k [] (ws ∷ wss) e = absurd cc
@@ -73,7 +81,9 @@ joined_count k (h ∷ hs) (ws ∷ wss) e =
     let here = agree (eqb (length ws) h.actions) (first_of_other_size (k + 1) hs wss) k e in
     omega (arith, length-append ws (joined wss), eqb-true (length ws) h.actions here.0, joined_count (k + 1) hs wss here.1)
 
-pub has_each_sequence : (sets : List InformationSet) (plan : PrintedPlan) → first_of_other_size 1 sets plan.weights ≡ None
+-- where each set has as many numbers as actions, a printed plan has a number for each sequence
+pub has_each_sequence : (sets : List InformationSet) (plan : PrintedPlan)
+    → first_of_other_size 1 sets plan.weights ≡ None
     → length (printed_numbers plan) ≡ sequence_count sets
 has_each_sequence sets plan e = omega (arith, joined_count 1 sets plan.weights e)
 
@@ -89,6 +99,7 @@ read_small most [] all (suc s) = omega arith
 read_small most (x ∷ xs) all zero = All-head (λ n. n ≤ most) x xs all
 read_small most (x ∷ xs) all (suc s) = read_small most xs (All-tail (λ n. n ≤ most) x xs all) s
 
+-- no number of a printed plan within its ranges is above the greatest root
 pub numbers_small : (sets : ℕ) (plan : PrintedPlan) → PlanFits sets plan → (s : ℕ)
     → slice_index (printed_numbers plan) s ≤ most_root
 numbers_small sets plan fits s =

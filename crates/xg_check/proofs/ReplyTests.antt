@@ -16,17 +16,21 @@ use Rattle.xg_plan.specs.Reply.{set_replies}
 use Rattle.xg_tests.specs.Views.{printed_reply}
 use Rattle.xg_tests.proofs.TestLemmas.{replies_again}
 
+-- where bounds are within their ranges, so is the plan of each player
 pub plan_fits : (player : Player) (head : Head) (b : PrintedBounds) → BoundsFit head b
     → PlanFits (set_count_in player head) (plan_in player b)
 plan_fits One head b fits = fits.plan_one
 plan_fits Two head b fits = fits.plan_two
 
+-- where bounds are within their ranges, so is the reply of each player
 pub reply_fits : (player : Player) (head : Head) (b : PrintedBounds) → BoundsFit head b
     → ReplyFits (set_count_in player head) (reply_in player b)
 reply_fits One head b fits = fits.reply_one
 reply_fits Two head b fits = fits.reply_two
 
-pub values_small : (rs : List SetReply) → All (λ r. IsPrintable r.value) rs → All (λ v. unsigned_abs v ≤ 2 ^ 100) (values_of rs)
+-- values of replies that can be printed are of size 2 ^ 100 at most
+pub values_small : (rs : List SetReply) → All (λ r. IsPrintable r.value) rs
+    → All (λ v. unsigned_abs v ≤ 2 ^ 100) (values_of rs)
 values_small [] all = All-nil (λ v. unsigned_abs v ≤ 2 ^ 100)
 values_small (r ∷ rs) all =
     All-cons (λ v. unsigned_abs v ≤ 2 ^ 100) r.value (values_of rs) (All-head (λ (q : SetReply). IsPrintable q.value) r rs all) (values_small rs (All-tail (λ (q : SetReply). IsPrintable q.value) r rs all))
@@ -36,7 +40,8 @@ pub bounds_fit : (c : Certificate) → CertificateFits c → c.bounds ≡ Some (
 bounds_fit c fits e = subst (FitsBelowHead c.head) e fits.below
 
 -- the tests are those of the reply that is printed
-pub same_tests : (player : Player) (form form' : SequenceForm) (against against' : List ℕ) (reply : Reply) (total traced traced' : ℤ) (bound bound' : Fraction) (scale scale' : ℕ) (vs : List ℤ) (cs : List ℕ)
+pub same_tests : (player : Player) (form form' : SequenceForm) (against against' : List ℕ) (reply : Reply)
+    (total traced traced' : ℤ) (bound bound' : Fraction) (scale scale' : ℕ) (vs : List ℤ) (cs : List ℕ)
     → form ≡ form' → against ≡ against' → total ≡ reply.total → traced ≡ traced' → bound ≡ bound' → scale ≡ scale'
     → vs ≡ values_of reply.sets → cs ≡ choices_of reply.sets
     → first_failing (whole_reply_tests player (leaf_sum player form.leaves against) (player_sets form player) (printed_reply total vs cs) traced bound scale)

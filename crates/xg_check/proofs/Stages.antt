@@ -9,6 +9,7 @@ use Rattle.def_cert_verdict.specs.Verdict.{WeighedGame, bounds_tests, first_fail
 use Rattle.xg_check.specs.Parts.{tests_of_plan, tests_of_plans, tests_of_replies, tests_of_reply}
 use Rattle.xg_tests.proofs.TestLemmas.{front_passes, front_stops}
 
+-- what isn't some value is none
 pub no_value : {X : Type 0} (o : Option X) → is_some o ≡ false → o ≡ None
 no_value None e = refl
 no_value (Some x) e = absurd cc
@@ -18,13 +19,15 @@ pub stage_stops : (found : Option TestFault) (xs ys : List (Option TestFault)) �
     → is_some found ≡ true → found ≡ first_failing (xs ++ ys)
 stage_stops found xs ys e some = front_stops found xs ys e some
 
+-- where the first stage finds no fault, the first one of all is that of the rest
 pub rest_decides : (found : Option TestFault) (xs ys : List (Option TestFault)) → found ≡ first_failing xs
     → is_some found ≡ false → first_failing ys ≡ first_failing (xs ++ ys)
 rest_decides found xs ys e none = sym (front_passes found xs ys e none)
 
 -- all below the head: both plans, both replies, the trace
 pub bounds_parts : (game : WeighedGame) (scale : ℕ) (b : PrintedBounds)
-    → tests_of_plans game scale b ++ (tests_of_replies game b ++ trace_tests first_trace_line b.trace) ≡ bounds_tests game scale b
+    → tests_of_plans game scale b ++ (tests_of_replies game b ++ trace_tests first_trace_line b.trace)
+    ≡ bounds_tests game scale b
 bounds_parts game scale b =
     let lines = trace_tests first_trace_line b.trace in
     append_assoc (tests_of_plan One game scale b) (tests_of_plan Two game scale b) (tests_of_replies game b ++ lines)

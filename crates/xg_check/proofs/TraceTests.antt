@@ -10,6 +10,7 @@ use Rattle.xg_cert.specs.declared.outcome.TraceRow.{TraceRow}
 use Rattle.xg_cert.specs.Outcome.{line_of, trace_of}
 use Rattle.xg_tests.proofs.TestLemmas.{fails_first, passes_first}
 
+-- where the products of any two lines of a trace are small, so are those of any two rows' lines
 pub products_at : (rows : List TraceRow) (j k : ℕ) (d e : TraceRow) → j < length rows → k < length rows
     → ((j k : ℕ) (line : TraceLine) → j < length rows → k < length rows
     → ProductsOfLines (get_or (trace_of rows) j line) (get_or (trace_of rows) k line))
@@ -45,6 +46,7 @@ next_line rows k d e from low =
     ∙ ap (λ ls. cond (is_wider (line_of (get_or rows k d)) (line_of (get_or rows (k - 1) e))) (Some (TraceWidens (k + 8))) None ∷ trace_tests (7 + k + 1) ls) again
     ∙ ap (λ n. cond (is_wider (line_of (get_or rows k d)) (line_of (get_or rows (k - 1) e))) (Some (TraceWidens (k + 8))) None ∷ trace_tests n (drop (k + 1 - 1) lines)) (omega arith)
 
+-- a line that is wider than the one before it is the first fault of the tests from there on
 pub line_widens : (rows : List TraceRow) (k : ℕ) (d e : TraceRow) → 1 ≤ k → k < length rows
     → is_wider (line_of (get_or rows k d)) (line_of (get_or rows (k - 1) e)) ≡ true
     → first_failing (tests_after k rows) ≡ Some (TraceWidens (k + 8))
@@ -52,6 +54,7 @@ line_widens rows k d e from low wider =
     ap first_failing (next_line rows k d e from low)
     ∙ fails_first _ _ _ (ap (λ b. cond b (Some (TraceWidens (k + 8))) None) wider)
 
+-- where a line isn't wider than the one before it, the tests of the lines behind it decide
 pub line_holds : (rows : List TraceRow) (k : ℕ) (d e : TraceRow) → 1 ≤ k → k < length rows
     → is_wider (line_of (get_or rows k d)) (line_of (get_or rows (k - 1) e)) ≡ false
     → first_failing (tests_after k rows) ≡ first_failing (tests_after (k + 1) rows)
@@ -64,6 +67,7 @@ no_pair n [] few = refl
 no_pair n (a ∷ []) few = refl
 no_pair n (a ∷ b ∷ lines) few = absurd (omega arith)
 
+-- past the last line no test of the trace fails
 pub no_line_left : (rows : List TraceRow) (k : ℕ) → 1 ≤ k → length rows ≤ k → first_failing (tests_after k rows) ≡ None
 no_line_left rows k from le =
     ap first_failing (no_pair (7 + k) (drop (k - 1) (trace_of rows)) (omega (arith, length-drop (k - 1) (trace_of rows), length-map rows line_of)))

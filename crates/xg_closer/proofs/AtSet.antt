@@ -33,13 +33,16 @@ pub record KeepsWorths (w : Width) (sums : ℕ → ℤ) (play : List ℕ) (sets 
 
 -- by such worths: what the value needs, what is added to a regret, and the worths with this set
 pub record SetStep (w : Width) (sums : ℕ → ℤ) (play : List ℕ) (sets : List InformationSet) (old : List ℤ) (m : ℕ) (h : PlacedSet) (worths : List ℤ) : Type 0 where
-  pub products : nat_sum_over (λ s. unsigned_abs (pos (slice_index play s) *ℤ amount_of worths s)) (sequences_of h) < 2 ^ 126
+  pub products : nat_sum_over (λ s. unsigned_abs (pos (slice_index play s) *ℤ amount_of worths s))
+      (sequences_of h) < 2 ^ 126
   pub fits : FitsSigned w (set_value play (amount_of worths) h)
   pub growth : (s : ℕ) → h.first ≤ s → s < h.first + h.actions
       → unsigned_abs (amount_of worths s -ℤ set_value play (amount_of worths) h) < 2 ^ 126
   pub regret : (s : ℕ) → h.first ≤ s → s < h.first + h.actions
-      → regret_of (regrets_after sums play sets old) s ≡ regret_of old s +ℤ (amount_of worths s -ℤ set_value play (amount_of worths) h)
-  pub before : int_wrap w (amount_of worths h.before +ℤ set_value play (amount_of worths) h) ≡ int_wrap w (later_worth sums play sets m h.before)
+      → regret_of (regrets_after sums play sets old) s
+      ≡ regret_of old s +ℤ (amount_of worths s -ℤ set_value play (amount_of worths) h)
+  pub before : int_wrap w (amount_of worths h.before +ℤ set_value play (amount_of worths) h)
+      ≡ int_wrap w (later_worth sums play sets m h.before)
   pub others : (s : ℕ) → s < sequence_count sets → s ≢ h.before
       → amount_of worths s ≡ int_wrap w (later_worth sums play sets m s)
 
@@ -60,7 +63,9 @@ first_worths w play sets k rows all count room = record {
 test_no : (a b : ℕ) → a ≢ b → eqb a b ≡ false
 test_no a b e = grind (arith, nat_tests)
 
-pub set_step : (w : Width) (sums : ℕ → ℤ) (play : List ℕ) (sets : List InformationSet) (old worths : List ℤ) (m : ℕ) (h : PlacedSet)
+-- by worths kept for the sets behind it, a set's step fits, adds the round's regrets, and makes the worths with it
+pub set_step : (w : Width) (sums : ℕ → ℤ) (play : List ℕ) (sets : List InformationSet) (old worths : List ℤ) (m : ℕ)
+    (h : PlacedSet)
     → AreInOrder sets → GivesAllUnits play sets → size_of_sums sums sets ≤ 2 ^ 82
     → HasRoomFor w sums sets → IsAt sets m h
     → KeepsWorths w sums play sets (m + 1) worths → SetStep w sums play sets old m h worths

@@ -51,6 +51,7 @@ module _ (player : Player) (rows : List ℤ) (sets : List InformationSet) (count
       let same : amount_of worths ≡ own_amount player rows = λ i s. each s i in
       is ∙ ap (λ sums. regrets_after sums play sets before) same
 
+  -- after one round more the worths have room for all regrets, and none is larger than 2 ^ 82 for each round
   pub keeps_regrets : (play : List ℕ) (before after worths small_worths : List ℤ) (rounds : ℕ) → AreInOrder sets
       → GivesAllUnits play sets → rounds < most_rounds
       → ((s : ℕ) → unsigned_abs (regret_of before s) ≤ rounds * 2 ^ 82)

@@ -39,6 +39,7 @@ pub record OneMore (n : ℕ) (ws : List ℕ) (i sum_so_far sum : ℕ) : Type 0 w
   pub within_all : n * sum_so_far / sum ≤ n
   pub share : get_or (shares n ws) i 0 + prefix_share n ws i ≡ n * sum_so_far / sum
 
+-- a weight and the sum before it are the sum up to it, and the weight's share is what the part of n grows by
 pub one_more : (n : ℕ) (ws : List ℕ) (i before weight sum : ℕ) → i < length ws → 1 ≤ sum → sum ≡ weight_sum ws
     → before ≡ prefix_sum ws i → weight ≡ get_or ws i 0
     → OneMore n ws i (before + weight) sum
@@ -111,27 +112,33 @@ two_shares n q ws two by_weight evenly =
 pub length-positive_parts : (regrets : List ℤ) (h : PlacedSet) → length (positive_parts regrets h) ≡ h.actions
 length-positive_parts regrets h = length-map-range_with_len (λ s. positive_part (regret_of regrets s)) h.first h.actions
 
+-- the positive part of a sequence's regret stands at the sequence's place among those of its set
 pub part_at : (regrets : List ℤ) (h : PlacedSet) (i : ℕ) → i < h.actions
     → positive_part (regret_of regrets (h.first + i)) ≡ get_or (positive_parts regrets h) i 0
 part_at regrets h i below = sym (get_or-map-range_with_len (λ s. positive_part (regret_of regrets s)) h.first h.actions i (h.first + i) 0 below refl)
 
+-- the positive parts of a set are together the set's sum
 pub parts_together : (regrets : List ℤ) (h : PlacedSet) → regret_sum regrets h ≡ weight_sum (positive_parts regrets h)
 parts_together regrets h = sum_of_map (λ s. positive_part (regret_of regrets s)) (sequences_of h)
 
--- the sum up to one more sequence is within the set's
+-- with one more of a set's first positive parts, their sum grows by the positive part of the next sequence's regret
 pub sum_more : (regrets : List ℤ) (h : PlacedSet) (i : ℕ) → i < h.actions
-    → prefix_sum (positive_parts regrets h) (i + 1) ≡ prefix_sum (positive_parts regrets h) i + positive_part (regret_of regrets (h.first + i))
+    → prefix_sum (positive_parts regrets h) (i + 1)
+    ≡ prefix_sum (positive_parts regrets h) i + positive_part (regret_of regrets (h.first + i))
 sum_more regrets h i below = omega (arith, prefix-more (positive_parts regrets h) i (omega (arith, length-positive_parts regrets h)), part_at regrets h i below)
 
+-- the first positive parts of a set are together within the set's sum
 pub sum_within : (regrets : List ℤ) (h : PlacedSet) (i : ℕ)
     → prefix_sum (positive_parts regrets h) i ≤ regret_sum regrets h
 sum_within regrets h i = omega (arith, prefix-within (positive_parts regrets h) i, parts_together regrets h)
 
+-- as many positive parts as the set has actions are together the set's sum
 pub sum_of_all : (regrets : List ℤ) (h : PlacedSet)
     → prefix_sum (positive_parts regrets h) h.actions ≡ regret_sum regrets h
 sum_of_all regrets h =
     ap (prefix_sum (positive_parts regrets h)) (sym (length-positive_parts regrets h)) ∙ prefix-all (positive_parts regrets h) ∙ sym (parts_together regrets h)
 
+-- the sum of a set with two actions is the positive parts of both regrets together
 pub parts_of_two : (regrets : List ℤ) (h : PlacedSet) → h.actions ≡ 2
     → regret_sum regrets h ≡ positive_part (regret_of regrets h.first) + positive_part (regret_of regrets (h.first + 1))
 parts_of_two regrets h two =

@@ -21,6 +21,7 @@ whole_part worth =
     } in
     sym (floor_div-only (pos 65536 *ℤ worth) 65536 worth is)
 
+-- a set with one action, which gets all units, is worth what this action is worth
 pub only_value : (play : List ℕ) (worths : List ℤ) (h : PlacedSet) → h.actions ≡ 1
     → nat_sum_over (λ s. slice_index play s) (sequences_of h) ≡ units
     → value_by play worths h ≡ amount_of worths h.first

@@ -31,11 +31,13 @@ pub record SetFacts (sums : ℕ → ℤ) (play : List ℕ) (sets : List Informat
       → unsigned_abs (full_worth sums play sets s) ≤ size_of_sums sums sets
   pub growth : (s : ℕ) → h.first ≤ s → s < h.first + h.actions
       → unsigned_abs (full_worth sums play sets s -ℤ value) ≤ size_of_sums sums sets
-  pub products : nat_sum_over (λ s. unsigned_abs (pos (slice_index play s) *ℤ full_worth sums play sets s)) (sequences_of h) ≤ units * size_of_sums sums sets
+  pub products : nat_sum_over (λ s. unsigned_abs (pos (slice_index play s) *ℤ full_worth sums play sets s))
+      (sequences_of h) ≤ units * size_of_sums sums sets
   pub as_later : (s : ℕ) → h.first ≤ s → s < h.first + h.actions
       → full_worth sums play sets s ≡ later_worth sums play sets (m + 1) s
   pub step : (s : ℕ)
-      → later_worth sums play sets m s ≡ cond (eqb h.before s) (later_worth sums play sets (m + 1) s +ℤ value) (later_worth sums play sets (m + 1) s)
+      → later_worth sums play sets m s
+      ≡ cond (eqb h.before s) (later_worth sums play sets (m + 1) s +ℤ value) (later_worth sums play sets (m + 1) s)
   pub regret : (s : ℕ) → h.first ≤ s → s < h.first + h.actions
       → regret_of (regrets_after sums play sets before) s ≡ regret_of before s +ℤ (full_worth sums play sets s -ℤ value)
 
@@ -59,7 +61,8 @@ step_of : (sums : ℕ → ℤ) (play : List ℕ) (sets : List InformationSet) (m
     → m < length (placed sets) → get_or (placed sets) m no_place ≡ h
     → value ≡ set_value play (later_worth sums play sets (m + 1)) h
     → (s : ℕ)
-    → later_worth sums play sets m s ≡ cond (eqb h.before s) (later_worth sums play sets (m + 1) s +ℤ value) (later_worth sums play sets (m + 1) s)
+    → later_worth sums play sets m s
+    ≡ cond (eqb h.before s) (later_worth sums play sets (m + 1) s +ℤ value) (later_worth sums play sets (m + 1) s)
 step_of sums play sets m h value below at is s =
     let rest : List PlacedSet = drop (m + 1) (placed sets) in
     let split : drop m (placed sets) ≡ h ∷ rest = drop-cons (placed sets) m no_place below ∙ ap (λ x. x ∷ drop (suc m) (placed sets)) at ∙ ap (λ k. h ∷ drop k (placed sets)) (sym (add-one m)) in
@@ -67,6 +70,7 @@ step_of sums play sets m h value below at is s =
     ∙ worth-cons sums h rest (set_value play (later_worth sums play sets (m + 1)) h) (values_from sums play rest) s
     ∙ ap (λ v. cond (eqb h.before s) (later_worth sums play sets (m + 1) s +ℤ v) (later_worth sums play sets (m + 1) s)) (sym is)
 
+-- a round's value at set m is by the worths, both are within the sums together, and regrets grow by worth less value
 pub set_facts : (sums : ℕ → ℤ) (play : List ℕ) (sets : List InformationSet) (before : List ℤ) (m : ℕ) (h : PlacedSet)
     → AreInOrder sets → GivesAllUnits play sets → IsAt sets m h
     → SetFacts sums play sets before m h (get_or (round_values sums play sets) m (pos 0))

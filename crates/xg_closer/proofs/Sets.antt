@@ -45,6 +45,7 @@ pub record IsAt (sets : List InformationSet) (m : ℕ) (h : PlacedSet) : Type 0 
   pub earlier : h.before < h.first
   pub some : 1 ≤ h.actions
 
+-- where sets are in order, what is read at place m of the placed ones is the set at place m
 pub is_at : (sets : List InformationSet) (m : ℕ) (h : PlacedSet) → AreInOrder sets → m < length sets
     → slice_get (placed sets) m ≡ Some h → IsAt sets m h
 is_at sets m h order below read =

@@ -5,6 +5,7 @@ use Rattle.std.proofs.lemmas.List.{get_or-set_other, get_or-set_same}
 use Rattle.std.proofs.lemmas.Bool.{cases_eq}
 use Rattle.xg_closer.specs.Playing.{PlaysFirst}
 
+-- a play that is left as it was has the first 0 shares
 pub plays_none : (first : ℕ) (shares before : List ℕ) → PlaysFirst first 0 shares before before
 plays_none first shares before = record {
   count = refl;
@@ -13,6 +14,7 @@ plays_none first shares before = record {
   later = λ s from. refl;
 }
 
+-- where the first n shares are written, the next one written behind them makes n + 1
 pub plays_more : (first n : ℕ) (shares before after : List ℕ) (share : ℕ) → PlaysFirst first n shares before after
     → first + n < length after → share ≡ get_or shares n 0
     → PlaysFirst first (n + 1) shares before (set after (first + n) share)

@@ -13,7 +13,8 @@ pub record RegretsSoFar : Type 0 where
 abbrev pub none_so_far : List InformationSet → RegretsSoFar
 none_so_far sets = record { of_sequences = replicate (sequence_count sets) (pos 0); closed = 0 }
 
--- there is room for as many worths, the empty sequence has no regret, and no regret is larger than 2 ^ 82 for each round
+-- there is room for as many worths, the empty sequence has no regret,
+-- and no regret is larger than 2 ^ 82 for each round
 pub record KeepsRegrets (regrets worths small_worths : List ℤ) (rounds : ℕ) : Type 0 where
   pub room : length worths ≡ length regrets
   pub small_room : length small_worths ≡ length regrets

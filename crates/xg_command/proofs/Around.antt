@@ -33,7 +33,8 @@ around_absent (byte ∷ bytes) free = around_first byte bytes (free 0 (omega ari
 module _ (word : List ℕ) (result : Option (Bor (List ℕ) × Bor (List ℕ))) (split : IsSplitOnceResult 61 word result)
   where
     -- two parts are those around the first `=`
-    pub parts_around : (x : Bor (List ℕ) × Bor (List ℕ)) → result ≡ Some x → around_equals word ≡ Some (x.0.now, x.1.now)
+    pub parts_around : (x : Bor (List ℕ) × Bor (List ℕ)) → result ≡ Some x
+        → around_equals word ≡ Some (x.0.now, x.1.now)
     parts_around x is =
         let (whole, free) = rw is at (split_parts 61 word result split (omega arith)) in
         ap around_equals whole ∙ around_found x.0.now x.1.now free

@@ -31,6 +31,7 @@ kept_plan (Some k) sets other_sets plan fits e =
     let same : plan ≡ k.plan = cc in
     subst (IsSmallPlan sets) (sym same) (fits k refl).plan
 
+-- a plan for these sets within the limit of roots is one of some player
 pub some_plan : (sets : List InformationSet) (plan : List ℕ) → IsSmallPlan sets plan → IsSomePlan plan
 some_plan sets plan is = record { sets = sets; root = is.root; order = is.order; is_plan = is.is_plan; limit = is.limit }
 
@@ -55,7 +56,8 @@ some_is P a b e of_a =
     subst P same of_a
 
 module _ (form : SequenceForm) (settings : Settings) (sound : IsSoundForm form) (limits : AreWithinLimits settings) where
-  fits_lower : (n : ℕ) → 1 ≤ n → n ≤ most_rounds → FitsForm form.sets_one form.sets_two (lower_of (offer_after form settings.scale n))
+  fits_lower : (n : ℕ) → 1 ≤ n → n ≤ most_rounds
+      → FitsForm form.sets_one form.sets_two (lower_of (offer_after form settings.scale n))
   fits_lower n first few =
       let sums = rounds_sum_to_plans form settings.scale n sound.order_one sound.order_two limits.some_scale first in
       record {
@@ -63,7 +65,8 @@ module _ (form : SequenceForm) (settings : Settings) (sound : IsSoundForm form) 
         reply = length-best form Two (rounds form settings.scale n).sum_one;
       }
 
-  fits_upper : (n : ℕ) → 1 ≤ n → n ≤ most_rounds → FitsForm form.sets_two form.sets_one (upper_of (offer_after form settings.scale n))
+  fits_upper : (n : ℕ) → 1 ≤ n → n ≤ most_rounds
+      → FitsForm form.sets_two form.sets_one (upper_of (offer_after form settings.scale n))
   fits_upper n first few =
       let sums = rounds_sum_to_plans form settings.scale n sound.order_one sound.order_two limits.some_scale first in
       record {
@@ -71,7 +74,8 @@ module _ (form : SequenceForm) (settings : Settings) (sound : IsSoundForm form) 
         reply = length-best form One (rounds form settings.scale n).sum_two;
       }
 
-  with_offer : (board : Board) (n : ℕ) → 1 ≤ n → n ≤ most_rounds → EndsFitForm form board → EndsFitForm form (offered board (offer_after form settings.scale n))
+  with_offer : (board : Board) (n : ℕ) → 1 ≤ n → n ≤ most_rounds → EndsFitForm form board
+      → EndsFitForm form (offered board (offer_after form settings.scale n))
   with_offer board n first few fit =
       let offer : Offer = offer_after form settings.scale n in
       let F : KeptEnd → Type 0 = FitsForm form.sets_one form.sets_two in
@@ -81,7 +85,8 @@ module _ (form : SequenceForm) (settings : Settings) (sound : IsSoundForm form) 
         upper = λ kept e. some_is G (keep_upper board.upper (upper_of offer)) kept e (upper_has G (upper_of offer) (fits_upper n first few) board.upper fit.upper);
       }
 
-  next_fits : (n : ℕ) (b : Bool) → is_due form settings (n + 1) ≡ b → n + 1 ≤ most_rounds → EndsFitForm form (board_after (offers_upto form settings n))
+  next_fits : (n : ℕ) (b : Bool) → is_due form settings (n + 1) ≡ b → n + 1 ≤ most_rounds
+      → EndsFitForm form (board_after (offers_upto form settings n))
       → EndsFitForm form (board_after (offers_upto form settings (n + 1)))
   next_fits n true now few fit =
       subst (EndsFitForm form) (sym (board_more form settings n now)) (with_offer (board_after (offers_upto form settings n)) (n + 1) (omega arith) few fit)

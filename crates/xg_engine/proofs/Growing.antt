@@ -39,6 +39,7 @@ module _ (sets : List InformationSet) (scale : ℕ) (sums plan : List ℕ) (g : 
     second = subst (λ r. IsPlanOrCleared sets r plan) (sym is.root_weight) (plan_or_cleared sets scale plan is);
   }
 
+  -- the roots of the sum and of the plan are together within the limit of roots
   pub within_roots : slice_index sums 0 + slice_index plan 0 ≤ most_root
   within_roots = omega (arith, root_of sets g.root sums g.is_sum, is.root_weight, g.limit)
 
@@ -79,6 +80,7 @@ module _ (form : SequenceForm) (root : ℕ) (sound : IsSoundForm form) (some : 1
     limit = next_within (suc n) root few small;
   }
 
+  -- after fewer rounds than the limit the sum of player two's plans can grow by one more
   pub can_grow_two : (n : ℕ) → n < most_rounds → CanGrow form.sets_two root (rounds form root n).sum_two
   can_grow_two zero few = record { root = 0; order = sound.order_two; is_sum = refl; limit = omega (arith, small) }
   can_grow_two (suc n) few = record {
@@ -103,6 +105,7 @@ module _ (form : SequenceForm) (root : ℕ) (sound : IsSoundForm form) (some : 1
         plan_two = plans.of_two;
       }
 
+  -- players who stand as after n rounds, from one up to the limit, have sums of plans over n rounds
   pub sums_of_players : (n : ℕ) (players : Players) → StandAfter form root n players → 1 ≤ n → n ≤ most_rounds
       → AreSumsAfter form n players.one.sum players.two.sum
   sums_of_players n players stand first few =

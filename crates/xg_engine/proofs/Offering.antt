@@ -18,7 +18,8 @@ use Rattle.xg_engine.specs.Evaluations.{best_offer, offers_upto}
 use Rattle.xg_engine.specs.declared.settings.Settings.{Settings}
 
 module _ (p : ℕ → Bool) where
-  kept_more : (n : ℕ) → filter p (range_with_len 1 (n + 1)) ≡ filter p (range_with_len 1 n) ++ cond (p (n + 1)) ((n + 1) ∷ []) []
+  kept_more : (n : ℕ)
+      → filter p (range_with_len 1 (n + 1)) ≡ filter p (range_with_len 1 n) ++ cond (p (n + 1)) ((n + 1) ∷ []) []
   kept_more n =
       ap (filter p) (range-append 1 n 1) ∙ filter-append p (range_with_len 1 n) (range_with_len (1 + n) 1)
       ∙ ap (λ k. filter p (range_with_len 1 n) ++ cond (p k) (k ∷ []) []) (omega arith)
@@ -48,13 +49,17 @@ module _ (form : SequenceForm) (settings : Settings) where
       ap (map (offer_after form settings.scale)) (kept_more is_due n ∙ ap (λ b. due n ++ cond b ((n + 1) ∷ []) []) now)
       ∙ map-append (offer_after form settings.scale) (due n) ((n + 1) ∷ [])
 
-  pub due_now : (n : ℕ) → ((n + 1) % settings.every ≡ 0) ⊎ (((n + 1) % settings.every ≡ 0 → ⊥) × (n + 1 ≡ settings.rounds)) → is_due (n + 1) ≡ true
+  -- a round that `every` divides, or else that is the last one, is evaluated
+  pub due_now : (n : ℕ)
+      → ((n + 1) % settings.every ≡ 0) ⊎ (((n + 1) % settings.every ≡ 0 → ⊥) × (n + 1 ≡ settings.rounds))
+      → is_due (n + 1) ≡ true
   due_now n h =
       ⊎_elim
       (λ e. ap (λ b. b || eqb (n + 1) settings.rounds) (eq-eqb ((n + 1) % settings.every) 0 e))
       (λ e. ap (λ b. eqb ((n + 1) % settings.every) 0 || b) (eq-eqb (n + 1) settings.rounds e.1) ∙ or_true (eqb ((n + 1) % settings.every) 0))
       h
 
+  -- a round that `every` doesn't divide, and that isn't the last one, isn't evaluated
   pub not_due : (n : ℕ) → ¬ ((n + 1) % settings.every ≡ 0) → ¬ (n + 1 ≡ settings.rounds) → is_due (n + 1) ≡ false
   not_due n first last = λ i. ne_eqb ((n + 1) % settings.every) 0 first i || ne_eqb (n + 1) settings.rounds last i
 
@@ -69,7 +74,8 @@ module _ (form : SequenceForm) (settings : Settings) where
 
   -- the board of one offer more
   pub board_more : (n : ℕ) → is_due (n + 1) ≡ true
-      → board_after (offers_upto form settings (n + 1)) ≡ offered (board_after (offers_upto form settings n)) (offer_after form settings.scale (n + 1))
+      → board_after (offers_upto form settings (n + 1))
+      ≡ offered (board_after (offers_upto form settings n)) (offer_after form settings.scale (n + 1))
   board_more n now =
       ap board_after (offers_more n now)
       ∙ fold-append offered new_board (offers_upto form settings n) (offer_after form settings.scale (n + 1) ∷ [])
@@ -104,11 +110,14 @@ module _ (form : SequenceForm) (settings : Settings) (n : ℕ) (one two : List �
     (are_one : one ≡ (rounds form settings.scale (n + 1)).sum_one) (are_two : two ≡ (rounds form settings.scale (n + 1)).sum_two)
     (is_before : before ≡ board_after (offers_upto form settings n))
     (is_after : after ≡ offered before (best_offer form (n + 1) one two)) where
-  pub evaluated_once_more : is_due form settings (n + 1) ≡ true → after ≡ board_after (offers_upto form settings (n + 1))
+  -- after an evaluated round the board with its best offer is that of all offers up to it
+  pub evaluated_once_more : is_due form settings (n + 1) ≡ true
+      → after ≡ board_after (offers_upto form settings (n + 1))
   evaluated_once_more now =
       is_after ∙ (λ i. offered (is_before i) (best_offer form (n + 1) (are_one i) (are_two i)))
       ∙ sym (board_more form settings n now)
 
+  -- the last line of the board with the new offer is of no later round than this one
   pub last_is_now : last_round after.trace ≤ n + 1
   last_is_now =
       let board : Board = offered before (best_offer form (n + 1) one two) in

@@ -9,6 +9,7 @@ use Rattle.def_sequence_form.proofs.Leaves.{leaves_counted}
 use Rattle.def_sequence_form.specs.Form.{form_of_game}
 use Rattle.xg_jobs.specs.Table.{IsFormOf}
 
+-- the form of a game is that of its tree, by a weight for each leaf
 pub form_of_tree : (tables : Tables) (tree : Forest) → IsFormOf (form_of_game tables tree) tree
 form_of_tree tables tree = record {
   weights = weights tables tree;

@@ -10,7 +10,8 @@ use Rattle.def_plan.specs.Plan.{IsPlan}
 use Rattle.def_plan.proofs.SizeLaws.{leaf_sums-below, of_a_round, of_an_evaluation}
 use Rattle.def_rows.specs.Rows.{player_rows}
 
-sizes_of_map : (f : ℕ → ℤ) (xs : List ℕ) → nat_sum_over unsigned_abs (map f xs) ≡ nat_sum_over (λ s. unsigned_abs (f s)) xs
+sizes_of_map : (f : ℕ → ℤ) (xs : List ℕ)
+    → nat_sum_over unsigned_abs (map f xs) ≡ nat_sum_over (λ s. unsigned_abs (f s)) xs
 sizes_of_map f [] = refl
 sizes_of_map f (x ∷ xs) = ap (λ n. unsigned_abs (f x) + n) (sizes_of_map f xs)
 

@@ -70,6 +70,7 @@ module _ (form : SequenceForm) (head : Head) (sound : IsSoundForm form) (some_sc
             (subst (P (trace_line last.0 ends)) (sym (shown_are form head.scale ends shown.0 shown.2)) (holds ends last.0 has.1));
       }
 
+  -- with at least one round: the ends are plans with their attained floor and ceiling, which the last line has
   pub outcome_has_bounds : 1 ≤ head.rounds → HasEnds (AreBoundsOfLine form head.scale) (outcome form head)
   outcome_has_bounds some =
       has_ends (AreBoundsOfLine form head.scale) some
@@ -88,6 +89,7 @@ module _ (form : SequenceForm) (head : Head) (sound : IsSoundForm form) (some_sc
         high = ap (λ (e : Evaluation). e.high) of_rounds.of_upper.is;
       })
 
+  -- with at least one round: the gap between the ends is the total exploitability of their plans
   pub outcome_has_gap : 1 ≤ head.rounds → HasEnds (HasGapOfLine form head.scale) (outcome form head)
   outcome_has_gap some =
       has_ends (HasGapOfLine form head.scale) some
@@ -100,6 +102,7 @@ module _ (form : SequenceForm) (head : Head) (sound : IsSoundForm form) (some_sc
       (λ i. (pos (ends.lower.round * head.scale) *ℤ high_is i) -ℤ (pos (ends.upper.round * head.scale) *ℤ low_is i))
       gap)
 
+  -- with at least one round: no plan has, over its root, a floor above the upper end or a ceiling below the lower one
   pub outcome_is_unbeaten : 1 ≤ head.rounds → HasEnds (AreUnbeaten form head.scale) (outcome form head)
   outcome_is_unbeaten some =
       has_ends (AreUnbeaten form head.scale) some
@@ -118,6 +121,7 @@ module _ (form : SequenceForm) (head : Head) (sound : IsSoundForm form) (some_sc
             sound.order_two some_scale are is_plan is_ceiling);
       })
 
+  -- no line of the outcome's trace is wider than an earlier one
   pub outcome_never_widens : NoLineIsWider (outcome form head).trace
   outcome_never_widens =
       subst NoLineIsWider (sym (outcomes_show_their_run.trace form head))

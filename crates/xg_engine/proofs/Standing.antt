@@ -22,6 +22,7 @@ module _ (sets : List InformationSet) (root n : ℕ) (regrets : List ℤ) (sums 
     pub regrets_are : learner.regrets.of_sequences ≡ regrets
     pub closed : learner.regrets.closed ≡ n
 
+  -- a player who stood with these regrets, and whose play, plan and sum come of them, has played by them
   pub has_played : (before after : Learner) → StandsWith sets n regrets sums before
       → after.play ≡ play_of sets before.regrets.of_sequences → after.plan ≡ plan_of_play sets after.play root
       → after.sum ≡ added before.sum after.plan → after.regrets ≡ before.regrets → HasPlayed after
@@ -39,7 +40,8 @@ module _ (sets : List InformationSet) (root n : ℕ) (regrets : List ℤ) (sums 
   -- and then has learned from the other player's plan
   pub has_learned : (player : Player) (leaves : List Leaf) (against other : List ℕ) (before after : Learner)
       → HasPlayed before → against ≡ other → HasRoom sets after
-      → after.regrets.of_sequences ≡ regrets_after (own_sum player leaves against) before.play sets before.regrets.of_sequences
+      → after.regrets.of_sequences
+      ≡ regrets_after (own_sum player leaves against) before.play sets before.regrets.of_sequences
       → after.regrets.closed ≡ before.regrets.closed + 1 → after.sum ≡ before.sum
       → StandsWith sets (n + 1) (regrets_after (own_sum player leaves other) (play_of sets regrets) sets regrets) (added sums next_plan) after
   has_learned player leaves against other before after played same room learned closed kept = record {

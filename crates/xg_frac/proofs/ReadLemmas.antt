@@ -30,7 +30,8 @@ over_zero = Err ZeroDenominator
 
 -- an answer that is out of range either way
 out : (d : ℕ) (a b : Bool) (f g : Fraction) → a ≡ false → b ≡ false
-    → cond (eqb d 0) over_zero (cond a (Ok f) (Err Range)) ≡ cond (eqb (min d past_all) 0) (Err ZeroDenominator) (cond b (Ok g) (Err Range))
+    → cond (eqb d 0) over_zero (cond a (Ok f) (Err Range))
+    ≡ cond (eqb (min d past_all) 0) (Err ZeroDenominator) (cond b (Ok g) (Err Range))
 out d a b f g p q = rw (p, q, zero_capped d) refl
 
 first_false : (a b c : Bool) → a ≡ false → (a && b && c) ≡ false
@@ -69,7 +70,8 @@ capped_answer negative n d =
     (cases_lt n past_all)
 
 by_body : (bytes : List ℕ) (b : Option Body)
-    → answer_if (is_minus (sign_of bytes)) (option_map quotient_of b) ≡ value_if (option_map (λ body. record { sign = sign_of bytes; body = body }) b)
+    → answer_if (is_minus (sign_of bytes)) (option_map quotient_of b)
+    ≡ value_if (option_map (λ body. record { sign = sign_of bytes; body = body }) b)
 unfolding value_of
 by_body bytes None = refl
 by_body bytes (Some b) = sym (capped_answer (is_minus (sign_of bytes)) (numerator b) (denominator b))

@@ -177,7 +177,8 @@ if_some false o f = refl
 -- a decimal's two kept numbers come of its number, its places and its power, if it has a digit
 pub quotient_of-decimal_of : (before : List ℕ) (after : Option (List ℕ)) (rest : List ℕ) (n : ℕ)
     → n ≡ min (number_of (before ++ digits_after after)) past_all
-    → option_map quotient_of (decimal_of before after rest) ≡ cond (ltb 0 (length (before ++ digits_after after))) (option_map (decimal_quotient n (length (digits_after after))) (power_of rest)) None
+    → option_map quotient_of (decimal_of before after rest)
+    ≡ cond (ltb 0 (length (before ++ digits_after after))) (option_map (decimal_quotient n (length (digits_after after))) (power_of rest)) None
 unfolding decimal_of
 quotient_of-decimal_of before after rest n e =
     if_some (ltb 0 (length (before ++ digits_after after))) (option_map (decimal before after) (power_of rest)) quotient_of

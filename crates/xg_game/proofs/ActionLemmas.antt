@@ -8,14 +8,17 @@ use Rattle.def_file.specs.Content.{zero_fraction}
 use Rattle.xg_game.specs.Actions.{GivesSame, actions_of, action_with}
 
 -- there is an action for each name
-pub length-actions_of : (names : List (List ℕ)) (chances : List Fraction) → length (actions_of names chances) ≡ length names
+pub length-actions_of : (names : List (List ℕ)) (chances : List Fraction)
+    → length (actions_of names chances) ≡ length names
 length-actions_of [] chances = refl
 length-actions_of (name ∷ names) [] = omega (arith, length-actions_of names [])
 length-actions_of (name ∷ names) (chance ∷ chances) = omega (arith, length-actions_of names chances)
 
 -- the action at a place
-pub action_at : (names : List (List ℕ)) (chances : List Fraction) (i : ℕ) (name : List ℕ) → slice_get names i ≡ Some name
-    → slice_get (actions_of names chances) i ≡ Some (record { name = name; chance = slice_index_or chances i zero_fraction })
+pub action_at : (names : List (List ℕ)) (chances : List Fraction) (i : ℕ) (name : List ℕ)
+    → slice_get names i ≡ Some name
+    → slice_get (actions_of names chances) i
+    ≡ Some (record { name = name; chance = slice_index_or chances i zero_fraction })
 action_at [] chances i name at = cc
 action_at (first ∷ names) [] zero name at =
     let same : first ≡ name = cc in ap (λ (n : List ℕ). Some (record { name = n; chance = zero_fraction })) same
@@ -55,7 +58,8 @@ zero_put old chances new none is put same names many =
 -- the last name has the last probability, where there are as many
 pub chance_last : (names : List (List ℕ)) (chances : List Fraction) (name : List ℕ) (chance : Fraction)
     → length chances ≡ length names
-    → actions_of (names ++ name ∷ []) (chances ++ chance ∷ []) ≡ actions_of names chances ++ action_with name chance ∷ []
+    → actions_of (names ++ name ∷ []) (chances ++ chance ∷ [])
+    ≡ actions_of names chances ++ action_with name chance ∷ []
 chance_last [] [] name chance same = refl
 chance_last [] (c ∷ chances) name chance same = absurd (omega (arith, same))
 chance_last (first ∷ names) [] name chance same = absurd (omega (arith, same))
@@ -82,6 +86,7 @@ module _ {A : Type 0} where
   pub get_part : (xs : List A) (a b i : ℕ) → i < b - a → slice_get (slice_range xs a b) i ≡ slice_get xs (a + i)
   get_part xs a b i below = get_before (drop a xs) (b - a) i below ∙ get_behind xs a i
 
+  -- a part of a list has as many elements as lie between its start and its end
   pub length_part : (xs : List A) (a b : ℕ) → a ≤ b → b ≤ length xs → length (slice_range xs a b) ≡ b - a
   length_part xs a b order within = length_taken (drop a xs) (b - a) (omega (arith, length-drop a xs, order, within))
     where
@@ -97,7 +102,8 @@ module _ {A : Type 0} where
       ∙ take-append-le (b - a) (drop a xs) ys (omega (arith, length-drop a xs, order, within))
 
   -- and is the part from there on
-  pub part_behind : (xs ys zs : List A) (a b : ℕ) → zs ≡ xs ++ ys → a ≡ length xs → b ≡ length zs → slice_range zs a b ≡ ys
+  pub part_behind : (xs ys zs : List A) (a b : ℕ) → zs ≡ xs ++ ys → a ≡ length xs → b ≡ length zs
+      → slice_range zs a b ≡ ys
   part_behind xs ys zs a b all from to =
       let size : length zs ≡ length xs + length ys = ap length all ∙ length-append xs ys in
       let long : b - a ≡ length ys = omega (arith, from, to, size) in

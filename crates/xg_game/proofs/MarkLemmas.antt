@@ -64,7 +64,8 @@ pub MarksEach-push : (numbers near new : List ℕ) (far after : BTreeMap ℕ ℕ
     → MarksEach (numbers ++ number ∷ []) new after
 MarksEach-push numbers near new far after number marks none set = record { each = λ n. by n (nat_eq n number) refl }
   where
-    by : (n : ℕ) (b : Bool) → nat_eq n number ≡ b → mark_of new after n ≡ marked (position (nat_eq n) (numbers ++ number ∷ []))
+    by : (n : ℕ) (b : Bool) → nat_eq n number ≡ b
+        → mark_of new after n ≡ marked (position (nat_eq n) (numbers ++ number ∷ []))
     by n true e =
         let same : number ≡ n = sym (eqb-true n number e) in
         let absent : position (nat_eq n) numbers ≡ None = subst (λ (k : ℕ). position (nat_eq k) numbers ≡ None) same none in

@@ -92,14 +92,17 @@ module _ (all : List Action) where
   -- a set with the first name that is given to it
   set_named : (es : List (ℕ × KnownSet)) (i : ℕ) (e : ℕ × KnownSet) (given : Option (List ℕ))
       → slice_get es i ≡ Some e
-      → map (set_of all) (set es i (e.0, record e.1 { name = kept_name e.1.name given })) ≡ set (map (set_of all) es) i (record (set_at (map (set_of all) es) i) { name = kept_name (set_at (map (set_of all) es) i).name given })
+      → map (set_of all) (set es i (e.0, record e.1 { name = kept_name e.1.name given }))
+      ≡ set (map (set_of all) es) i (record (set_at (map (set_of all) es) i) { name = kept_name (set_at (map (set_of all) es) i).name given })
   set_named es i e given at =
       map-set (set_of all) es i (e.0, record e.1 { name = kept_name e.1.name given })
       ∙ ap (λ (s : SetEntry). set (map (set_of all) es) i (record s { name = kept_name s.name given })) (sym (seen_at (set_of all) es i e no_set at))
 
 -- and in place of the set there
-pub set_renamed : (all : List Action) (es new : List (ℕ × KnownSet)) (table : List SetEntry) (i : ℕ) (e : ℕ × KnownSet) (given : Option (List ℕ))
-    → slice_get es i ≡ Some e → map (set_of all) es ≡ table → new ≡ set es i (e.0, record e.1 { name = kept_name e.1.name given })
+pub set_renamed : (all : List Action) (es new : List (ℕ × KnownSet)) (table : List SetEntry) (i : ℕ) (e : ℕ × KnownSet)
+    (given : Option (List ℕ))
+    → slice_get es i ≡ Some e → map (set_of all) es ≡ table
+    → new ≡ set es i (e.0, record e.1 { name = kept_name e.1.name given })
     → map (set_of all) new ≡ set table i (record (set_at table i) { name = kept_name (set_at table i).name given })
 set_renamed all es new table i e given at seen put =
     ap (map (set_of all)) put ∙ set_named all es i e given at
@@ -134,14 +137,17 @@ within_named size (x ∷ es) zero e name at within =
 within_named size (x ∷ es) (suc i) e name at within = (within.0, within_named size es i e name at within.1)
 
 -- or would get one
-pub within_given : {T E : Type 0} (r : Result T E) (size : ℕ) (es new : List (ℕ × KnownSet)) (i : ℕ) (e : ℕ × KnownSet) (name : Option (List ℕ))
-    → slice_get es i ≡ Some e → AreWithin size es → OnOk r (new ≡ set es i (e.0, record e.1 { name = name })) → OnErr r (new ≡ es)
+pub within_given : {T E : Type 0} (r : Result T E) (size : ℕ) (es new : List (ℕ × KnownSet)) (i : ℕ) (e : ℕ × KnownSet)
+    (name : Option (List ℕ))
+    → slice_get es i ≡ Some e → AreWithin size es → OnOk r (new ≡ set es i (e.0, record e.1 { name = name }))
+    → OnErr r (new ≡ es)
     → AreWithin size new
 within_given (Ok x) size es new i e name at within ok err = subst (AreWithin size) (sym ok) (within_named size es i e name at within)
 within_given (Err x) size es new i e name at within ok err = subst (AreWithin size) (sym err) within
 
 -- those of the set at a place
-pub within_at : (size : ℕ) (es : List (ℕ × KnownSet)) (i : ℕ) (known : KnownSet) → slice_get (values_of es) i ≡ Some known
+pub within_at : (size : ℕ) (es : List (ℕ × KnownSet)) (i : ℕ) (known : KnownSet)
+    → slice_get (values_of es) i ≡ Some known
     → AreWithin size es → IsWithin size known.value
 within_at size [] i known at within = cc
 within_at size (x ∷ es) zero known at within =
@@ -159,7 +165,8 @@ sets_stay all more ((n, known) ∷ es) within =
 -- one more entry in a table, with its actions behind the others, is one more set behind the others
 pub set_added : (all more new : List Action) (es : List (ℕ × KnownSet)) (n : ℕ) (known : KnownSet)
     → AreWithin (length all) es → new ≡ all ++ more → known.value.start ≡ length all → known.value.end ≡ length new
-    → map (set_of new) (es ++ (n, known) ∷ []) ≡ map (set_of all) es ++ record { number = n; name = known.name; actions = more } ∷ []
+    → map (set_of new) (es ++ (n, known) ∷ [])
+    ≡ map (set_of all) es ++ record { number = n; name = known.name; actions = more } ∷ []
 set_added all more new es n known within put start end =
     map-append (set_of new) es ((n, known) ∷ [])
     ∙ ap (λ (ss : List SetEntry). ss ++ set_of new (n, known) ∷ []) (ap (λ (xs : List Action). map (set_of xs) es) put ∙ sets_stay all more es within)
@@ -194,15 +201,19 @@ outcome_added es e = map-append outcome_of es (e ∷ [])
 -- an outcome with the first name that is given to it
 outcome_named : (es : List (ℕ × KnownOutcome)) (i : ℕ) (e : ℕ × KnownOutcome) (given : Option (List ℕ))
     → slice_get es i ≡ Some e
-    → map outcome_of (set es i (e.0, record e.1 { name = kept_name e.1.name given })) ≡ set (map outcome_of es) i (record (outcome_at (map outcome_of es) i) { name = kept_name (outcome_at (map outcome_of es) i).name given })
+    → map outcome_of (set es i (e.0, record e.1 { name = kept_name e.1.name given }))
+    ≡ set (map outcome_of es) i (record (outcome_at (map outcome_of es) i) { name = kept_name (outcome_at (map outcome_of es) i).name given })
 outcome_named es i e given at =
     map-set outcome_of es i (e.0, record e.1 { name = kept_name e.1.name given })
     ∙ ap (λ (s : OutcomeEntry). set (map outcome_of es) i (record s { name = kept_name s.name given })) (sym (seen_at outcome_of es i e null_outcome at))
 
 -- and in place of the outcome there
-pub outcome_renamed : (es new : List (ℕ × KnownOutcome)) (table : List OutcomeEntry) (i : ℕ) (e : ℕ × KnownOutcome) (given : Option (List ℕ))
-    → slice_get es i ≡ Some e → map outcome_of es ≡ table → new ≡ set es i (e.0, record e.1 { name = kept_name e.1.name given })
-    → map outcome_of new ≡ set table i (record (outcome_at table i) { name = kept_name (outcome_at table i).name given })
+pub outcome_renamed : (es new : List (ℕ × KnownOutcome)) (table : List OutcomeEntry) (i : ℕ) (e : ℕ × KnownOutcome)
+    (given : Option (List ℕ))
+    → slice_get es i ≡ Some e → map outcome_of es ≡ table
+    → new ≡ set es i (e.0, record e.1 { name = kept_name e.1.name given })
+    → map outcome_of new
+    ≡ set table i (record (outcome_at table i) { name = kept_name (outcome_at table i).name given })
 outcome_renamed es new table i e given at seen put =
     ap (map outcome_of) put ∙ outcome_named es i e given at
     ∙ ap (λ (ss : List OutcomeEntry). set ss i (record (outcome_at ss i) { name = kept_name (outcome_at ss i).name given })) seen

@@ -19,6 +19,7 @@ pub record IsText (start : ℕ) (ends bytes : List ℕ) (i from to : ℕ) : Type
   pub within : to ≤ length bytes
   pub text : slice_get (cut_from start ends bytes) i ≡ Some (take (to - from) (drop from bytes))
 
+-- where the ends rise, the text at a place is the bytes between the end before it, or the start of all, and its own end
 pub text_at : (start : ℕ) (ends bytes : List ℕ) (i from to : ℕ) → AreEnds start ends (length bytes) → i < length ends
     → from ≡ get_or (start ∷ ends) i 0 → to ≡ get_or ends i to → IsText start ends bytes i from to
 text_at start [] bytes i from to rise there a b = absurd (omega (arith, there))
@@ -40,7 +41,8 @@ ends_grow start [] size more rise = (omega (arith, rise), refl)
 ends_grow start (stop ∷ stops) size more rise = (rise.0, ends_grow stop stops size more rise.1)
 
 cut_grows : (start : ℕ) (ends bytes text : List ℕ) → AreEnds start ends (length bytes)
-    → cut_from start (ends ++ (length bytes + length text) ∷ []) (bytes ++ text) ≡ cut_from start ends bytes ++ text ∷ []
+    → cut_from start (ends ++ (length bytes + length text) ∷ []) (bytes ++ text)
+    ≡ cut_from start ends bytes ++ text ∷ []
 cut_grows start [] bytes text rise =
     let size : length bytes + length text - start ≡ length text = omega (arith, rise) in
     let behind : drop start (bytes ++ text) ≡ text = ap (λ n. drop n (bytes ++ text)) rise ∙ drop-append_seam bytes text in
@@ -58,6 +60,7 @@ pub record IsPut (ends bytes text new now : List ℕ) : Type 0 where
   pub rise : AreEnds 0 new (length now)
   pub texts : cut_from 0 new now ≡ cut_from 0 ends bytes ++ text ∷ []
 
+-- with a text's bytes and its end put behind the others, the ends still rise, and the texts are the others and it
 pub put_last : (ends bytes text new now : List ℕ) (last : ℕ) → AreEnds 0 ends (length bytes)
     → last ≡ length bytes + length text → now ≡ bytes ++ text → new ≡ ends ++ last ∷ [] → IsPut ends bytes text new now
 put_last ends bytes text new now last rise is grown put =

@@ -44,10 +44,12 @@ module _ {D : Type 0} where
       ∙ zip-push ns ks n k long ∙ ap (λ (xs : List (ℕ × D)). xs ++ (n, k) ∷ []) seen
 
 -- a name that is given at a place
-pub named : {D : Type 0} (ns : List ℕ) (ks : List (Described D)) (es : List (ℕ × Described D)) (i : ℕ) (e : ℕ × Described D) (kept : Described D) (given new : Option (List ℕ))
+pub named : {D : Type 0} (ns : List ℕ) (ks : List (Described D)) (es : List (ℕ × Described D)) (i : ℕ)
+    (e : ℕ × Described D) (kept : Described D) (given new : Option (List ℕ))
     → zip ns ks ≡ es → kept ≡ get_or ks i kept
     → new ≡ kept_name kept.name given → slice_get es i ≡ Some e
-    → zip ns (set ks i (record { name = new; value = kept.value })) ≡ set es i (e.0, record { name = kept_name e.1.name given; value = e.1.value })
+    → zip ns (set ks i (record { name = new; value = kept.value }))
+    ≡ set es i (e.0, record { name = kept_name e.1.name given; value = e.1.value })
 named {D} ns ks es i e kept given new seen is first at =
     let here : slice_get (zip ns ks) i ≡ Some e = ap (λ (xs : List (ℕ × Described D)). slice_get xs i) seen ∙ at in
     let same : kept ≡ e.1 = is ∙ zip-get ns ks i e kept here in

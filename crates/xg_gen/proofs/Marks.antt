@@ -23,7 +23,8 @@ escaped_first (suc k) (b ∷ bs) within none mark =
     rw (none 0 (omega arith)) (ap (λ l. b ∷ l) (escaped_first k bs (omega arith) (λ j below. none (suc j) (omega arith)) mark))
 
 -- up to the first mark, and that mark behind a backslash
-pub to_first_mark : (k : ℕ) (bs : List ℕ) → NoneBefore (Passes (is_byte 34) bs) 0 (length bs) k → Passes (is_byte 34) bs k
+pub to_first_mark : (k : ℕ) (bs : List ℕ) → NoneBefore (Passes (is_byte 34) bs) 0 (length bs) k
+    → Passes (is_byte 34) bs k
     → escaped bs ≡ (take k bs ++ 92 ∷ 34 ∷ []) ++ escaped (drop (k + 1) bs)
 unfolding NoMark
 to_first_mark k bs first mark =

@@ -16,7 +16,8 @@ and_true true false e = cc
 and_true false b e = cc
 
 -- the first byte is no mark and no backslash
-first_plain : (b : ℕ) (bs : List ℕ) → is_plain (b ∷ bs) ≡ true → (nat_eq b 34 ≡ false) × (nat_eq b 92 ≡ false) × (is_plain bs ≡ true)
+first_plain : (b : ℕ) (bs : List ℕ) → is_plain (b ∷ bs) ≡ true
+    → (nat_eq b 34 ≡ false) × (nat_eq b 92 ≡ false) × (is_plain bs ≡ true)
 first_plain b bs e = chosen (nat_eq b 34) (nat_eq b 92) e
   where
     chosen : (x y : Bool) → (not (x || y) && is_plain bs) ≡ true → (x ≡ false) × (y ≡ false) × (is_plain bs ≡ true)
@@ -46,6 +47,7 @@ ends_plainly (b ∷ bs) e (x ∷ front) same =
 plain_is_inside : (bs : List ℕ) → is_plain bs ≡ true → IsInside bs × (bs ≡ unescaped bs)
 plain_is_inside bs e = escaped_is_inside bs bs (ends_plainly bs e) (sym (escaped_plain bs e))
 
+-- bytes without quotation marks and without backslashes may stand between a text's quotation marks
 pub plain_inside : (bs : List ℕ) → is_plain bs ≡ true → IsInside bs
 plain_inside bs e = (plain_is_inside bs e).0
 

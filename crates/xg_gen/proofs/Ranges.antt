@@ -19,7 +19,8 @@ pub range_none : (n a : ℕ) → n + 1 ≤ a → range_with_len a (n + 1 - a) �
 range_none n a high = let none : n + 1 - a ≡ 0 = omega arith in ap (range_with_len a) none
 
 pub others_next : (n i a : ℕ) → a < n + 1
-    → without i (range_with_len a (n + 1 - a)) ≡ without i (a ∷ []) ++ without i (range_with_len (a + 1) (n + 1 - (a + 1)))
+    → without i (range_with_len a (n + 1 - a))
+    ≡ without i (a ∷ []) ++ without i (range_with_len (a + 1) (n + 1 - (a + 1)))
 others_next n i a low =
     ap (without i) (range_next n a low) ∙ filter-append (λ j. not (nat_eq i j)) (a ∷ []) (range_with_len (a + 1) (n + 1 - (a + 1)))
 
@@ -36,6 +37,7 @@ card_pushed f n a actions new all low so_far push =
     ∙ append_assoc actions (f a ∷ []) (map f (range_with_len (a + 1) (n + 1 - (a + 1))))
     ∙ ap (λ l. actions ++ map f l) (sym (range_next n a low)) ∙ so_far
 
+-- the actions so far and those of the cards from a on, all but card i, still make all when that of card a moves over
 pub other_pushed : (f : ℕ → Action) (n i a : ℕ) (actions new all : List Action) → a < n + 1
     → actions ++ map f (without i (range_with_len a (n + 1 - a))) ≡ all → new ≡ actions ++ map f (without i (a ∷ []))
     → new ++ map f (without i (range_with_len (a + 1) (n + 1 - (a + 1)))) ≡ all
@@ -53,10 +55,12 @@ hands_append n i (j ∷ js) ks =
 
 -- the play of a card, and of those behind it
 pub hands_next : (n i a : ℕ) → a < n + 1
-    → hands n i (without i (range_with_len a (n + 1 - a))) ≡ hands n i (without i (a ∷ [])) ++ hands n i (without i (range_with_len (a + 1) (n + 1 - (a + 1))))
+    → hands n i (without i (range_with_len a (n + 1 - a)))
+    ≡ hands n i (without i (a ∷ [])) ++ hands n i (without i (range_with_len (a + 1) (n + 1 - (a + 1))))
 hands_next n i a low =
     ap (hands n i) (others_next n i a low) ∙ hands_append n i (without i (a ∷ [])) (without i (range_with_len (a + 1) (n + 1 - (a + 1))))
 
+-- where a is above the last card, there is no play against the cards from a on
 pub hands_none : (n i a : ℕ) → n + 1 ≤ a → hands n i (without i (range_with_len a (n + 1 - a))) ≡ []
 unfolding hands
 hands_none n i a high = ap (λ l. hands n i (without i l)) (range_none n a high)
@@ -66,18 +70,23 @@ pub one_hand : (n i j : ℕ) → (i ≡ j → ⊥) → hands n i (without i (j �
 unfolding hands
 one_hand n i j other = let no : nat_eq i j ≡ false = ne_eqb i j other in rw no (append-nil (hand n i j))
 
+-- there is no play against the card that is dealt already
 pub no_hand : (n i j : ℕ) → i ≡ j → hands n i (without i (j ∷ [])) ≡ []
 unfolding hands
 no_hand n i j own = let yes : nat_eq i j ≡ true = eq-eqb i j own in rw yes refl
 
+-- the cards are those from card 1 on
 pub all_cards : (n : ℕ) → cards n ≡ range_with_len 1 (n + 1 - 1)
 all_cards n = let same : n ≡ n + 1 - 1 = omega arith in ap (range_with_len 1) same
 
+-- from card a on, player one's cards give player two's deal and the play with card a, then what those behind it give
 pub rounds_next : (n a : ℕ) → a < n + 1
-    → rounds n (range_with_len a (n + 1 - a)) ≡ (deals (deal_two n a) ∷ hands n a (others n a)) ++ rounds n (range_with_len (a + 1) (n + 1 - (a + 1)))
+    → rounds n (range_with_len a (n + 1 - a))
+    ≡ (deals (deal_two n a) ∷ hands n a (others n a)) ++ rounds n (range_with_len (a + 1) (n + 1 - (a + 1)))
 unfolding rounds
 rounds_next n a low = ap (rounds n) (range_next n a low)
 
+-- where a is above the last card, the cards from a on give no round
 pub rounds_none : (n a : ℕ) → n + 1 ≤ a → rounds n (range_with_len a (n + 1 - a)) ≡ []
 unfolding rounds
 rounds_none n a high = ap (rounds n) (range_none n a high)

@@ -6,7 +6,8 @@ use Rattle.def_file.specs.Adding.{with_record}
 use Rattle.xg_game.specs.Made.{Made}
 use Rattle.xg_gen.specs.Taken.{AreWanted, with_entries, Takes, Adds}
 
-with_append : (contents : Contents) (rs ts : List Record) → with_entries contents (rs ++ ts) ≡ with_entries (with_entries contents rs) ts
+with_append : (contents : Contents) (rs ts : List Record)
+    → with_entries contents (rs ++ ts) ≡ with_entries (with_entries contents rs) ts
 with_append contents [] ts = refl
 with_append contents (r ∷ rs) ts = with_append (with_record contents r) rs ts
 
@@ -14,7 +15,8 @@ wanted_first : (contents : Contents) (rs ts : List Record) → AreWanted content
 wanted_first contents [] ts w = tt
 wanted_first contents (r ∷ rs) ts w = (w.0, w.1, wanted_first (with_record contents r) rs ts w.2)
 
-wanted_then : (contents : Contents) (rs ts : List Record) → AreWanted contents (rs ++ ts) → AreWanted (with_entries contents rs) ts
+wanted_then : (contents : Contents) (rs ts : List Record) → AreWanted contents (rs ++ ts)
+    → AreWanted (with_entries contents rs) ts
 wanted_then contents [] ts w = w
 wanted_then contents (r ∷ rs) ts w = wanted_then (with_record contents r) rs ts w.2
 
@@ -29,7 +31,9 @@ takes_then maker next rs ts takes adds = record {
   wanted = subst (λ (m : Made). AreWanted m.contents ts) (sym adds.same) (wanted_then maker.contents rs ts takes.wanted);
 }
 
-pub adds_then : (maker next last : Made) (rs ts : List Record) → Adds maker next rs → Adds next last ts → Adds maker last (rs ++ ts)
+-- where some entries are added and then others, both are added, one after the other
+pub adds_then : (maker next last : Made) (rs ts : List Record) → Adds maker next rs → Adds next last ts
+    → Adds maker last (rs ++ ts)
 adds_then maker next last rs ts first second = record {
   same = second.same ∙ ap (λ (m : Made). record m { contents = with_entries m.contents ts }) first.same
       ∙ ap (λ (c : Contents). record maker { contents = c }) (sym (with_append maker.contents rs ts));
@@ -37,13 +41,18 @@ adds_then maker next last rs ts first second = record {
 
 -- The same of one entry and others.
 
+-- a maker that takes an entry and others takes that entry alone
 pub takes_one : (maker : Made) (r : Record) (ts : List Record) → Takes maker (r ∷ ts) → Takes maker (r ∷ [])
 takes_one maker r ts takes = takes_first maker (r ∷ []) ts takes
 
-pub takes_more : (maker next : Made) (r : Record) (ts : List Record) → Takes maker (r ∷ ts) → Adds maker next (r ∷ []) → Takes next ts
+-- where a maker takes an entry and others, with that entry added it takes the others
+pub takes_more : (maker next : Made) (r : Record) (ts : List Record) → Takes maker (r ∷ ts) → Adds maker next (r ∷ [])
+    → Takes next ts
 takes_more maker next r ts takes adds = takes_then maker next (r ∷ []) ts takes adds
 
-pub adds_more : (maker next last : Made) (r : Record) (ts : List Record) → Adds maker next (r ∷ []) → Adds next last ts → Adds maker last (r ∷ ts)
+-- where an entry is added and then others, all are added, that entry first
+pub adds_more : (maker next last : Made) (r : Record) (ts : List Record) → Adds maker next (r ∷ []) → Adds next last ts
+    → Adds maker last (r ∷ ts)
 adds_more maker next last r ts first second = adds_then maker next last (r ∷ []) ts first second
 
 -- nothing is added
@@ -57,10 +66,13 @@ pub record Goes (before now : Made) (all left : List Record) : Type 0 where
   pub adds : Adds before now taken
   pub takes : Takes now left
 
+-- at the start, where a maker takes all entries, none of them was added and all are left
 pub begin : (maker : Made) (all left : List Record) → Takes maker all → all ≡ left → Goes maker maker all left
 begin maker all left takes same = record { taken = []; split = sym same; adds = adds_none maker; takes = subst (Takes maker) same takes }
 
-pub goes_on : (before now next : Made) (all left some rest : List Record) → Goes before now all left → left ≡ some ++ rest
+-- where the next of the entries that are left are added, the rest of them is left
+pub goes_on : (before now next : Made) (all left some rest : List Record) → Goes before now all left
+    → left ≡ some ++ rest
     → Adds now next some → Goes before next all rest
 goes_on before now next all left some rest goes is adds = record {
   taken = goes.taken ++ some;
@@ -69,10 +81,13 @@ goes_on before now next all left some rest goes is adds = record {
   takes = takes_then now next some rest (subst (Takes now) is goes.takes) adds;
 }
 
+-- where some of all entries were taken, the maker takes the next of those that are left
 pub next_takes : (before now : Made) (all left some rest : List Record) → Goes before now all left → left ≡ some ++ rest
     → Takes now some
 next_takes before now all left some rest goes is = takes_first now some rest (subst (Takes now) is goes.takes)
 
-pub all_taken : (before now : Made) (all left : List Record) → Goes before now all left → left ≡ [] → Adds before now all
+-- where no entry is left, all were added
+pub all_taken : (before now : Made) (all left : List Record) → Goes before now all left → left ≡ []
+    → Adds before now all
 all_taken before now all left goes is =
     subst (Adds before now) (sym (append-nil goes.taken) ∙ ap (λ (rs : List Record). goes.taken ++ rs) (sym is) ∙ goes.split) goes.adds

@@ -26,7 +26,8 @@ with_all done (r ∷ rest) =
     ap (λ c. with_entries c rest) (sym (one_more done r)) ∙ with_all (done ++ r ∷ []) rest ∙ ap contents_of (append_assoc done (r ∷ []) rest)
 
 module _ (sets : Kind → ℕ → SetMention) (outcomes : ℕ → OutcomeMention) where
-  are_wanted : (all done rest : List Record) → all ≡ done ++ rest → Each (Describes sets outcomes) all → HaveNoFault all → EntriesBegin 1 all
+  are_wanted : (all done rest : List Record) → all ≡ done ++ rest → Each (Describes sets outcomes) all → HaveNoFault all
+      → EntriesBegin 1 all
       → AreWanted (contents_of done) rest
   are_wanted all done [] split each fine begins = tt
   are_wanted all done (r ∷ rest) split each fine begins =
@@ -40,7 +41,8 @@ module _ (sets : Kind → ℕ → SetMention) (outcomes : ℕ → OutcomeMention
       )
 
 -- a new maker takes all entries
-pub new_takes : (n : ℕ) → 2 ≤ n → n ≤ 64 → (maker : Made) → maker.spent ≡ false → maker.contents ≡ no_contents → Takes maker (entries n)
+pub new_takes : (n : ℕ) → 2 ≤ n → n ≤ 64 → (maker : Made) → maker.spent ≡ false → maker.contents ≡ no_contents
+    → Takes maker (entries n)
 new_takes n two limit maker unspent empty = record {
   unspent = unspent;
   wanted = subst (λ (c : Contents). AreWanted c (entries n)) (sym empty)
@@ -54,12 +56,15 @@ then_has n maker now empty adds =
     ap (λ (m : Made). m.contents) adds.same ∙ ap (λ (c : Contents). with_entries c (entries n)) empty ∙ with_all [] (entries n)
 
 -- whose nodes are a whole tree
-pub then_whole : (n : ℕ) → 2 ≤ n → n ≤ 64 → (maker now : Made) → maker.contents ≡ no_contents → Adds maker now (entries n)
+pub then_whole : (n : ℕ) → 2 ≤ n → n ≤ 64 → (maker now : Made) → maker.contents ≡ no_contents
+    → Adds maker now (entries n)
     → wanted 1 now.contents.nodes ≡ 0
 then_whole n two limit maker now empty adds =
     ap (λ (c : Contents). wanted 1 c.nodes) (then_has n maker now empty adds) ∙ (poker_is_game n two limit).1.ends
 
-pub then_game : (n : ℕ) (maker now : Made) → maker.contents ≡ no_contents → maker.prologue ≡ prologue n → Adds maker now (entries n)
+-- with the prologue of one-card poker, and its entries added to no contents, the game that was made is one-card poker
+pub then_game : (n : ℕ) (maker now : Made) → maker.contents ≡ no_contents → maker.prologue ≡ prologue n
+    → Adds maker now (entries n)
     → game_with now.prologue now.contents ≡ poker n
 unfolding poker
 then_game n maker now empty texts adds =
@@ -67,7 +72,9 @@ then_game n maker now empty texts adds =
     let known : now.contents ≡ contents_of (entries n) = then_has n maker now empty adds in
     (λ i. game_with (told i) (known i))
 
-pub prologue_told : (n : ℕ) (title one two comment : List ℕ) → title ≡ codes "One-card poker " ++ decimal n → one ≡ codes "One"
+-- one-card poker's title, the players' names One and Two and an empty comment make its prologue
+pub prologue_told : (n : ℕ) (title one two comment : List ℕ) → title ≡ codes "One-card poker " ++ decimal n
+    → one ≡ codes "One"
     → two ≡ codes "Two" → comment ≡ []
     → prologue_with title one two comment ≡ prologue n
 unfolding prologue

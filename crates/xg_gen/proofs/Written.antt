@@ -68,8 +68,10 @@ first_token before now space bytes kind p =
     subst (AppendsPrefix before now) (one_token space bytes kind) (prefix_first before now space bytes p)
 
 -- the white space, and then the bytes of the token
-pub then_token : {T E : Type 0} (before middle now : Option (List ℕ)) (space bytes : List ℕ) (kind : Token) (r : Result T E)
-    → middle ≡ append_known before space → Writes middle now bytes r → Writes before now (text_of (behind space kind bytes ∷ [])) r
+pub then_token : {T E : Type 0} (before middle now : Option (List ℕ)) (space bytes : List ℕ) (kind : Token)
+    (r : Result T E)
+    → middle ≡ append_known before space → Writes middle now bytes r
+    → Writes before now (text_of (behind space kind bytes ∷ [])) r
 then_token before middle now space bytes kind r e w =
     subst (λ (t : List ℕ). Writes before now t r) (one_token space bytes kind) (then_rest before middle now space bytes r e w)
 
@@ -85,7 +87,8 @@ first_part before now ps qs p =
     subst (AppendsPrefix before now) (text_of-append ps qs) (prefix_first before now (text_of ps) (text_of qs) p)
 
 pub then_part : {T E : Type 0} (before middle now : Option (List ℕ)) (ps qs : List Piece) (r : Result T E)
-    → middle ≡ append_known before (text_of ps) → Writes middle now (text_of qs) r → Writes before now (text_of (ps ++ qs)) r
+    → middle ≡ append_known before (text_of ps) → Writes middle now (text_of qs) r
+    → Writes before now (text_of (ps ++ qs)) r
 then_part before middle now ps qs r e w =
     subst (λ (t : List ℕ). Writes before now t r) (text_of-append ps qs) (then_rest before middle now (text_of ps) (text_of qs) r e w)
 
@@ -95,7 +98,8 @@ pub first_piece : (before now : Option (List ℕ)) (p : Piece) (qs : List Piece)
 first_piece before now p qs w = first_part before now (p ∷ []) qs w
 
 pub then_piece : {T E : Type 0} (before middle now : Option (List ℕ)) (p : Piece) (qs : List Piece) (r : Result T E)
-    → middle ≡ append_known before (text_of (p ∷ [])) → Writes middle now (text_of qs) r → Writes before now (text_of (p ∷ qs)) r
+    → middle ≡ append_known before (text_of (p ∷ [])) → Writes middle now (text_of qs) r
+    → Writes before now (text_of (p ∷ qs)) r
 then_piece before middle now p qs r e w = then_part before middle now (p ∷ []) qs r e w
 
 -- all tokens, and then the last line feed
@@ -109,7 +113,8 @@ first_canon before now game p =
     subst (AppendsPrefix before now) (canon_parts game) (prefix_first before now (text_of (game_pieces game)) (codes "\n") p)
 
 pub then_feed : {T E : Type 0} (before middle now : Option (List ℕ)) (game : GameFile) (r : Result T E)
-    → middle ≡ append_known before (text_of (game_pieces game)) → Writes middle now (codes "\n") r → Writes before now (canon game) r
+    → middle ≡ append_known before (text_of (game_pieces game)) → Writes middle now (codes "\n") r
+    → Writes before now (canon game) r
 then_feed before middle now game r e w =
     subst (λ (t : List ℕ). Writes before now t r) (canon_parts game) (then_rest before middle now (text_of (game_pieces game)) (codes "\n") r e w)
 

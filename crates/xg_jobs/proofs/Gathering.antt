@@ -22,7 +22,8 @@ module _ (node : Node) (below beside : Forest) (s : TopState) where
   behind = beside_it node below beside s.nodes s.open_at s.covered s.leaves
 
   -- the trees below the first node come next, and then those beside it
-  entered_first : (counts : List ℕ) (later rest : List Node) (end : TopState) → AreFirst (grown node below beside) (node ∷ rest) later s
+  entered_first : (counts : List ℕ) (later rest : List Node) (end : TopState)
+      → AreFirst (grown node below beside) (node ∷ rest) later s
       → (AreFirst beside (prefix beside ++ later) later first_tree → LeadsTo (without_next counts) (prefix beside ++ later) first_tree end)
       → Entered counts node rest s end
   entered_first counts later rest end first leads =
@@ -78,8 +79,11 @@ comes_next nodes k node read =
     let here : slice_get nodes k ≡ Some node = ap (slice_get nodes) back ∙ read in
     drop_more nodes k node (slice_get_within nodes k node here) ∙ ap (λ x. x ∷ drop (k + 1) nodes) (get_or_from_slice_get nodes k node node here)
 
+-- where the first k nodes were entered, there is room to enter the next one, and the nodes behind it then lead on to
+-- the state after the whole tree
 pub enter_node : (tree : Forest) (k : ℕ) (node : Node) (walk : Walk) → slice_get (prefix tree) (k + 1 - 1) ≡ Some node
-    → HasWalked tree k walk → Entered walk.to_come node (drop (k + 1) (prefix tree)) (state_of walk.tops) (walked tree at_start)
+    → HasWalked tree k walk
+    → Entered walk.to_come node (drop (k + 1) (prefix tree)) (state_of walk.tops) (walked tree at_start)
 enter_node tree k node walk read so_far =
     enter_next walk.to_come node (drop (k + 1) (prefix tree)) (state_of walk.tops) (walked tree at_start) so_far.next
     (subst (λ nodes. LeadsTo walk.to_come nodes (state_of walk.tops) (walked tree at_start)) (comes_next (prefix tree) k node read) so_far.leads)
@@ -89,8 +93,10 @@ pub record Left (counts : List ℕ) (rest : List Node) (s end : TopState) : Type
   pub opens : IsOpen s
   pub leads : LeadsTo counts rest (left s) end
 
-leave_under : (trees : Forest) (counts : List ℕ) (rest later : List Node) (s end : TopState) → AreFirst trees rest later s
-    → tree_count trees ≡ 0 → IsOpen (walked trees s) → LeadsTo counts later (left (walked trees s)) end → Left counts rest s end
+leave_under : (trees : Forest) (counts : List ℕ) (rest later : List Node) (s end : TopState)
+    → AreFirst trees rest later s
+    → tree_count trees ≡ 0 → IsOpen (walked trees s) → LeadsTo counts later (left (walked trees s)) end
+    → Left counts rest s end
 leave_under (grown x below beside) counts rest later s end first none opens leads = absurd (omega (arith, none))
 leave_under bare counts rest later s end first none opens leads =
     let same = no_trees s.nodes s.open_at s.covered s.leaves in
@@ -100,7 +106,8 @@ leave_under bare counts rest later s end first none opens leads =
     }
 
 -- a node none of whose children is to come is left
-pub leave_next : (old counts : List ℕ) (rest : List Node) (s end : TopState) → old ≡ 0 ∷ counts → LeadsTo old rest s end → Left counts rest s end
+pub leave_next : (old counts : List ℕ) (rest : List Node) (s end : TopState) → old ≡ 0 ∷ counts → LeadsTo old rest s end
+    → Left counts rest s end
 leave_next old counts rest s end full leads = innermost (subst (λ ns. LeadsTo ns rest s end) full leads)
   where
     innermost : LeadsTo (0 ∷ counts) rest s end → Left counts rest s end
@@ -111,10 +118,12 @@ end_root : (trees : Forest) (s end : TopState) → AreFirst trees [] [] s → wa
 end_root (grown x below beside) s end first ends = absurd (cc first.nodes_are)
 end_root bare s end first ends = sym (no_trees s.nodes s.open_at s.covered s.leaves) ∙ ends
 
-none_under : (trees : Forest) (count : ℕ) (later : List Node) (s : TopState) → 1 ≤ count → AreFirst trees [] later s → tree_count trees ≡ count → ⊥
+none_under : (trees : Forest) (count : ℕ) (later : List Node) (s : TopState) → 1 ≤ count → AreFirst trees [] later s
+    → tree_count trees ≡ count → ⊥
 none_under bare count later s some first size = omega (arith, size)
 none_under (grown x below beside) count later s some first size = cc first.nodes_are
 
+-- where no node is to come, and the innermost one, if there is one, has a child to come, the end is reached
 pub all_walked : (counts : List ℕ) (s end : TopState) → HasNextChild counts → LeadsTo counts [] s end → s ≡ end
 all_walked [] s end next (trees, first, ends) = end_root trees s end first ends
 all_walked (count ∷ counts) s end next (trees, later, first, size, opens, leads) = absurd (none_under trees count later s next first size)

@@ -16,6 +16,7 @@ one_more f group i e below read =
     ap (sum_over f) (take_more group i e below) ∙ sum_over-append f (take i group) (get_or group i e ∷ [])
     ∙ ap (λ n. sum_over f (take i group) +ℤ n) (+ℤ-zero (f (get_or group i e))) ∙ ap (λ x. sum_over f (take i group) +ℤ f x) read
 
+-- one more entry adds its weight times the number at its sequence of the other player
 pub sum_more : (y : List ℕ) (group : List GroupLeaf) (i : ℕ) (e : GroupLeaf) → i < length group → get_or group i e ≡ e
     → group_sum y (take (i + 1) group) ≡ group_sum y (take i group) +ℤ (e.weight *ℤ pos (slice_index y e.other))
 sum_more y group i e below read = one_more (λ e. e.weight *ℤ pos (slice_index y e.other)) group i e below read
@@ -32,6 +33,7 @@ weight_at [] i d below = absurd (omega arith)
 weight_at (e ∷ es) zero d below = omega arith
 weight_at (e ∷ es) (suc i) d below = omega (arith, weight_at es i d (omega arith))
 
+-- the size of an entry's weight is at most the mass of its group
 pub weight_within : (group : List GroupLeaf) (i : ℕ) (e : GroupLeaf) → i < length group → get_or group i e ≡ e
     → unsigned_abs e.weight ≤ group_mass group
 weight_within group i e below read = subst (λ (x : GroupLeaf). unsigned_abs x.weight ≤ group_mass group) read (weight_at group i e below)
@@ -55,6 +57,7 @@ sized f most group each =
 term : (w : ℤ) (n most : ℕ) → n ≤ most → unsigned_abs (w *ℤ pos n) ≤ unsigned_abs w * most
 term w n most h = omega (arith, unsigned_abs-mul w (pos n), mul-le-mul_left (unsigned_abs w) h)
 
+-- the size of the sum over a group's first entries is at most the group's mass times a bound of the numbers
 pub sum_size : (y : List ℕ) (most : ℕ) (group : List GroupLeaf) (i : ℕ) → ((b : ℕ) → slice_index y b ≤ most)
     → unsigned_abs (group_sum y (take i group)) ≤ group_mass group * most
 sum_size y most group i small =

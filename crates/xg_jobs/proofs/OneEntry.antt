@@ -24,7 +24,9 @@ weight_more [] i x w b low read = absurd (omega arith)
 weight_more (y ∷ ys) zero x w b low read =
     by_test (eqb x.other b) ∙ ap (λ (z : GroupLeaf). (cond (eqb z.other b) z.weight (pos 0) +ℤ weight_with b ys) +ℤ cond (eqb x.other b) w (pos 0)) (sym read)
   where
-    by_test : (t : Bool) → cond t (x.weight +ℤ w) (pos 0) +ℤ weight_with b ys ≡ (cond t x.weight (pos 0) +ℤ weight_with b ys) +ℤ cond t w (pos 0)
+    by_test : (t : Bool)
+        → cond t (x.weight +ℤ w) (pos 0) +ℤ weight_with b ys
+        ≡ (cond t x.weight (pos 0) +ℤ weight_with b ys) +ℤ cond t w (pos 0)
     by_test true = omega (arith, ints)
     by_test false = omega (arith, ints)
 weight_more (y ∷ ys) (suc i) x w b low read =
@@ -159,7 +161,7 @@ upto_more s starts entries new old_starts old_entries here order inside_old upto
       few = omega (arith, takes.shorter, upto.few, size);
     }
 
--- a table of groups is kept where each of its groups stands for one of a table that is kept
+-- the groups of a table that is kept can be merged, where it has 1,048,576 leaves at most
 pub can_merge : (starts : List ℕ) (entries : List GroupLeaf) (others mass : ℕ) → KeepsGroups starts entries others mass
     → length entries ≤ most_nodes → CanMerge starts entries others
 can_merge starts entries others mass kept few = record {
@@ -171,6 +173,7 @@ can_merge starts entries others mass kept few = record {
   limit = few;
 }
 
+-- groups that stand for those of a table that is kept are kept too, with the same mass
 pub merged_kept : (starts : List ℕ) (entries : List GroupLeaf) (old_starts : List ℕ) (old_entries : List GroupLeaf)
     (others mass : ℕ) → AreMerged starts entries old_starts old_entries
     → KeepsGroups old_starts old_entries others mass → KeepsGroups starts entries others mass

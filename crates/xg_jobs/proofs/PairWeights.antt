@@ -30,9 +30,11 @@ by_pairs y n group within =
     (λ k d low. pick_in (λ b. (get_or group k d).weight *ℤ pos (slice_index y b)) (get_or group k d).other 0 n (omega arith) (omega (arith, within k d low)))
 
 -- one of the weights
-pub weight_read : (n b : ℕ) (group : List GroupLeaf) → b < n → get_or (weights_of n group) b (pos 0) ≡ weight_with b group
+pub weight_read : (n b : ℕ) (group : List GroupLeaf) → b < n
+    → get_or (weights_of n group) b (pos 0) ≡ weight_with b group
 weight_read n b group low = get_or-map-range_with_len (λ k. weight_with k group) 0 n b b (pos 0) low (omega arith)
 
+-- the weights of a group for the first n sequences of the other player are n numbers
 pub weights_count : (n : ℕ) (group : List GroupLeaf) → length (weights_of n group) ≡ n
 weights_count n group = length-map-range_with_len (λ k. weight_with k group) 0 n
 

@@ -48,6 +48,7 @@ told tops place (grown node below bare) t one stand read =
     }
 told tops place (grown node below (grown n b s)) t one stand read = absurd (omega (arith, one))
 
+-- the node that is read at a job's place tells of this job
 pub tells_job : (tops : List TopNode) (place : ℕ) (job : Forest) (t : TopNode) → IsJob tops place job
     → t ≡ get_or tops place t → TellsJob tops place job t
 tells_job tops place job t is read = told tops place job t is.one is.there read
@@ -60,11 +61,13 @@ pub record FirstJob (tops : List TopNode) (place : ℕ) (places : List ℕ) (job
   pub are : AreJobs tops places rest
   pub jobs_are : jobs ≡ job ∷ rest
 
+-- where there is a first place, there is a first job, whose place it is, and the other places are those of the others
 pub first_job : (tops : List TopNode) (place : ℕ) (places : List ℕ) (jobs : List Forest)
     → AreJobs tops (place ∷ places) jobs → FirstJob tops place places jobs
 first_job tops place places [] are = absurd are
 first_job tops place places (job ∷ rest) are = record { job = job; rest = rest; is = are.0; are = are.1; jobs_are = refl }
 
+-- at each of the places there is a job
 pub job_at : (tops : List TopNode) (places : List ℕ) (jobs : List Forest) (k d : ℕ) → AreJobs tops places jobs
     → k < length places → (job : Forest) × IsJob tops (get_or places k d) job
 job_at tops [] jobs k d are low = absurd (omega arith)
@@ -81,10 +84,12 @@ pub record PassSome (tops : List TopNode) (places : List ℕ) (jobs : List Fores
   pub whole : made ++ cut_each most_jobs count rest ≡ pass most_jobs jobs
   pub same : cut ≡ false → made ++ rest ≡ jobs
 
+-- at first no job has been passed over, all are to come, and none was cut
 pub none_passed : (tops : List TopNode) (places : List ℕ) (jobs : List Forest) → AreJobs tops places jobs
     → PassSome tops places jobs [] (length jobs) false 0
 none_passed tops places jobs are = record { made = []; rest = jobs; to_come = are; done = tt; whole = refl; same = λ _. refl }
 
+-- where the next job gives way, and the places of its subtrees are put, it has been passed over
 pub pass_cut : (tops : List TopNode) (places : List ℕ) (jobs : List Forest) (after after' : List ℕ) (count : ℕ)
     (cut : Bool) (k place : ℕ) (t : TopNode)
     → PassSome tops places jobs after count cut k → drop k places ≡ place ∷ drop (k + 1) places
@@ -115,6 +120,7 @@ pass_cut tops places jobs after after' count cut k place t some next read test c
     no : true ≡ false → ⊥
     no h = grind arith
 
+-- where the next job doesn't give way, and its own place is put, it has been passed over
 pub pass_kept : (tops : List TopNode) (places : List ℕ) (jobs : List Forest) (after : List ℕ) (count : ℕ) (cut : Bool)
     (k place : ℕ) (t : TopNode)
     → PassSome tops places jobs after count cut k → drop k places ≡ place ∷ drop (k + 1) places
@@ -151,6 +157,7 @@ all_passed tops places jobs after count cut k some past =
     let all : some.made ≡ pass most_jobs jobs = sym (append-nil some.made) ∙ ap (λ js. some.made ++ cut_each most_jobs count js) (sym gone) ∙ some.whole in
     (subst (AreJobs tops after) all some.done, λ h. sym all ∙ sym (append-nil some.made) ∙ ap (λ js. some.made ++ js) (sym gone) ∙ some.same h)
 
+-- there are as many places as jobs
 pub jobs_counted : (tops : List TopNode) (places : List ℕ) (jobs : List Forest) → AreJobs tops places jobs
     → length places ≡ length jobs
 jobs_counted tops [] [] are = refl
@@ -163,18 +170,22 @@ inside_as : (tops : List TopNode) (place : ℕ) (job : Forest) → tree_count jo
 inside_as tops place bare one stand = absurd (omega (arith, one))
 inside_as tops place (grown node below beside) one stand = stand_there tops place node below beside stand
 
+-- a job's place is that of a node at the top
 pub job_inside : (tops : List TopNode) (place : ℕ) (job : Forest) → IsJob tops place job → place < length tops
 job_inside tops place job is = inside_as tops place job is.one is.there
 
+-- where two tests hold together, the first one holds
 pub and_left : (a b : Bool) → (a && b) ≡ true → a ≡ true
 and_left true b e = refl
 and_left false b e = e
 
+-- from a place on there is the number at this place, and then those from the next one on
 pub drop_one : (xs : List ℕ) (k : ℕ) → k < length xs → drop k xs ≡ get_or xs k 0 ∷ drop (k + 1) xs
 drop_one [] k low = absurd (omega arith)
 drop_one (x ∷ xs) zero low = refl
 drop_one (x ∷ xs) (suc k) low = let e : suc k + 1 ≡ suc (k + 1) = omega arith in drop_one xs k (omega arith) ∙ ap (λ n. get_or xs k 0 ∷ drop n (x ∷ xs)) (sym e)
 
+-- where a test holds together with that of n being at most m, n is at most m
 pub fits_in : (a : Bool) (n m : ℕ) → (a && nat_le n m) ≡ true → n ≤ m
 fits_in true n m e = grind (arith, nat_tests)
 fits_in false n m e = absurd (no e)

@@ -67,6 +67,7 @@ group_row form player starts entries others mass s y is kept known low =
     (sym (ap (λ m. weights_of m (group_at starts entries s)) others_is) ∙ group_weights form player starts entries others s is low)
     ∙ sum_over-map (λ e. e.weight *ℤ pos (get_or y e.other 0)) (entry_of player) (leaves_with player s form.leaves)
 
+-- where the groups have the form's pair weights, their sums against some numbers are the player's rows against them
 pub sums_are_rows : (form : SequenceForm) (player : Player) (starts : List ℕ) (entries : List GroupLeaf)
     (others mass : ℕ) (y : List ℕ) (sums : List ℤ)
     → weights_in starts entries others ≡ pair_weights form player → KeepsGroups starts entries others mass

@@ -11,6 +11,7 @@ use Rattle.def_tree.specs.Rules.{most_nodes}
 use Rattle.xg_jobs.specs.declared.table.LeafRange.{LeafRange}
 use Rattle.xg_jobs.specs.Ranges.{range_of}
 
+-- a job's range is that which is read at its place, its first leaf counted from 1 and then from 0 again
 pub range_at : (ranges : List LeafRange) (job : ℕ) (r : LeafRange) → job < length (map range_of ranges)
     → r ≡ get_or ranges job r
     → slice_get (map range_of ranges) job ≡ Some (record { first = r.first + 1 - 1; count = r.count })
@@ -22,6 +23,7 @@ range_at ranges job r low read =
     told : ℕ → RangeOfLeaves
     told n = record { first = n; count = r.count }
 
+-- where all ranges of a table begin within the limit of nodes, so does the one that is read
 pub first_in_limit : (ranges : List LeafRange) (job : ℕ) (r : LeafRange) → job < length (map range_of ranges)
     → r ≡ get_or ranges job r
     → All (λ range. range.first ≤ most_nodes) ranges → r.first ≤ most_nodes

@@ -33,6 +33,7 @@ counted first (job ∷ rest) =
       counted (first + leaves_in job) rest,
     )
 
+-- the jobs of one tree have together as many leaves as the tree
 pub all_leaves : (tree : Forest) → tree_count tree ≡ 1
     → nat_sum_over leaves_in (jobs_of tree) ≡ leaf_count (prefix tree)
 all_leaves tree one = sym (counted 0 (jobs_of tree)) ∙ ap length (partition tree one) ∙ length-range_with_len 0 (leaf_count (prefix tree))
@@ -46,6 +47,7 @@ pub record RangedSome (tops : List TopNode) (places : List ℕ) (tree : Forest) 
   pub inside : All (λ range. range.first ≤ most_nodes) ranges
   pub count : length ranges ≡ k
 
+-- at first no job has its range, and the first one's begins at leaf 0
 pub none_ranged : (tops : List TopNode) (places : List ℕ) (tree : Forest) (jobs : List Forest)
     → AreJobs tops places jobs → ranges_from 0 (map leaves_in jobs) ≡ job_ranges tree
     → nat_sum_over leaves_in jobs ≡ leaf_count (prefix tree) → (ranges : List LeafRange) → ranges ≡ []
@@ -59,6 +61,7 @@ pub record RangedNext (tops : List TopNode) (places : List ℕ) (tree : Forest) 
   pub room : first + leaves ≤ leaf_count (prefix tree)
   pub next : (r : LeafRange) → r ≡ record { first = first; count = leaves } → RangedSome tops places tree (ranges ++ r ∷ []) (first + leaves) (k + 1)
 
+-- the next job's leaves are within those of the tree, and with its range behind the others one more job has its own
 pub range_more : (tops : List TopNode) (places : List ℕ) (tree : Forest) (ranges : List LeafRange) (first k place : ℕ)
     (t : TopNode)
     → RangedSome tops places tree ranges first k → leaf_count (prefix tree) ≤ most_nodes
@@ -88,16 +91,20 @@ range_more tops places tree ranges first k place t some few next read =
     single : (r : LeafRange) → r.first ≤ most_nodes → All (λ (range : LeafRange). range.first ≤ most_nodes) (r ∷ [])
     single r h = All-cons (λ (range : LeafRange). range.first ≤ most_nodes) r [] h (λ k d low. absurd (omega arith))
 
+-- where no place is left, the ranges are those of all jobs of the tree
 pub all_ranged : (tops : List TopNode) (places : List ℕ) (tree : Forest) (ranges : List LeafRange) (first k : ℕ)
     → RangedSome tops places tree ranges first k → drop k places ≡ []
     → map range_of ranges ≡ job_ranges tree
 all_ranged tops places tree ranges first k some past =
     gone some.rest (subst (λ ps. AreJobs tops ps some.rest) past some.to_come) some.whole
   where
-    gone : (rest : List Forest) → AreJobs tops [] rest → map range_of ranges ++ ranges_from first (map leaves_in rest) ≡ job_ranges tree → map range_of ranges ≡ job_ranges tree
+    gone : (rest : List Forest) → AreJobs tops [] rest
+        → map range_of ranges ++ ranges_from first (map leaves_in rest) ≡ job_ranges tree
+        → map range_of ranges ≡ job_ranges tree
     gone [] are whole = sym (append-nil (map range_of ranges)) ∙ whole
     gone (x ∷ xs) are whole = absurd are
 
+-- the place of the next job that has no range yet is that of a node at the top
 pub next_inside : (tops : List TopNode) (places : List ℕ) (tree : Forest) (ranges : List LeafRange) (first k place : ℕ)
     → RangedSome tops places tree ranges first k
     → drop k places ≡ place ∷ drop (k + 1) places → place < length tops

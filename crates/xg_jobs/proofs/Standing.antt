@@ -57,6 +57,7 @@ stand_beside tops place node below beside s =
           ∙ drop_more tops (top_node node below (end_at place node below) ∷ inner) (tops_from (end_at place node below) beside ++ s.rest) place (grouped tops place node below beside s);
     }
 
+-- the node that is read where some trees stand is the top node of the first one
 pub top_is : (tops : List TopNode) (place : ℕ) (node : Node) (below beside : Forest) (t : TopNode)
     → Stand tops place (grown node below beside) → t ≡ get_or tops place t
     → t ≡ top_node node below (end_at place node below)
@@ -64,6 +65,7 @@ top_is tops place node below beside t s read =
     let at : place ≡ place + 0 = omega arith in
     read ∙ ap (λ n. get_or tops n t) at ∙ sym (get_or-drop place tops 0 t) ∙ ap (λ xs. get_or xs 0 t) s.here
 
+-- the trees below a chance node stand from the next place on
 pub stand_below : (tops : List TopNode) (place : ℕ) (node : Node) (below beside : Forest)
     → is_same_kind Chance node.kind ≡ true → Stand tops place (grown node below beside) → Stand tops (place + 1) below
 stand_below tops place node below beside chance s =
@@ -74,10 +76,12 @@ stand_below tops place node below beside chance s =
           ∙ ap (λ b. cond b (tops_from (place + 1) below) [] ++ more) chance;
     }
 
+-- where there is a tree, the place at which it stands is that of a node at the top
 pub stand_there : (tops : List TopNode) (place : ℕ) (node : Node) (below beside : Forest)
     → Stand tops place (grown node below beside) → place < length tops
 stand_there tops place node below beside s = omega (arith, ap length s.here, length-drop place tops)
 
+-- with a job behind the others and its place behind theirs, each place is still that of its job
 pub push_job : (tops : List TopNode) (places : List ℕ) (jobs : List Forest) (place : ℕ) (job : Forest)
     → AreJobs tops places jobs → IsJob tops place job
     → AreJobs tops (places ++ place ∷ []) (jobs ++ job ∷ [])
@@ -97,6 +101,7 @@ there : (tops : List TopNode) (place count put : ℕ) (to_come : Forest) → Sta
 there tops place count put bare stand counts less = absurd (omega arith)
 there tops place count put (grown node below beside) stand counts less = stand_there tops place node below beside stand
 
+-- where not all trees are put, the next one's place is that of a node at the top
 pub next_there : (tops : List TopNode) (place count put : ℕ) → SomeToCome tops place count put → put < count
     → place < length tops
 next_there tops place count put some less = there tops place count put some.to_come some.stand some.counts less
@@ -109,6 +114,7 @@ fewer tops place count put t (grown node below beside) stand counts less read =
     subst (λ (x : TopNode). SomeToCome tops x.end count (put + 1)) (sym (top_is tops place node below beside t stand read))
     (record { to_come = beside; stand = stand_beside tops place node below beside stand; counts = omega arith })
 
+-- where not all trees are put, those behind the next one are to come from its end on
 pub next_to_come : (tops : List TopNode) (place count put : ℕ) (t : TopNode) → SomeToCome tops place count put
     → put < count → t ≡ get_or tops place t → SomeToCome tops t.end count (put + 1)
 next_to_come tops place count put t some less read = fewer tops place count put t some.to_come some.stand some.counts less read
@@ -132,6 +138,7 @@ more tops place places trees before count put t (grown node below beside) made s
           (push_job tops places (before ++ made) place first jobs (record { one = refl; there = stand_first tops place node below beside stand }));
     })
 
+-- with the place of the next tree one more is put, and those behind it are to come from its end on
 pub put_more : (tops : List TopNode) (place : ℕ) (places : List ℕ) (trees : Forest) (before : List Forest)
     (count put : ℕ) (t : TopNode)
     → PutSome tops place places trees before count put → put < count → t ≡ get_or tops place t
@@ -147,11 +154,13 @@ ended : (tops : List TopNode) (places : List ℕ) (trees : Forest) (before : Lis
 ended tops places trees before count put bare made counts whole jobs past = subst (λ ms. AreJobs tops places (before ++ ms)) (sym (append-nil made) ∙ whole) jobs
 ended tops places trees before count put (grown node below beside) made counts whole jobs past = absurd (omega arith)
 
+-- where as many are put as there are trees, the places are those of the jobs before and of each of these trees
 pub all_put : (tops : List TopNode) (place : ℕ) (places : List ℕ) (trees : Forest) (before : List Forest)
     (count put : ℕ)
     → PutSome tops place places trees before count put → count ≤ put → AreJobs tops places (before ++ each_tree trees)
 all_put tops place places trees before count put some past = ended tops places trees before count put some.to_come some.made some.counts some.whole some.jobs past
 
+-- at first none of the trees is put, and all are to come
 pub none_put : (tops : List TopNode) (place : ℕ) (places : List ℕ) (trees : Forest) (before : List Forest) (count : ℕ)
     → Stand tops place trees → tree_count trees ≡ count → AreJobs tops places before
     → PutSome tops place places trees before count 0

@@ -42,7 +42,8 @@ ranges_inside form tree is one k d low =
     omega (arith, ranges_end 0 (leaf_counts tree) k d low, ap length (partition tree one), length-range_with_len 0 (leaf_count (prefix tree)), form_leaves form tree is)
 
 -- the same of the ranges as a table has them
-pub told_inside : (form : SequenceForm) (tree : Forest) (ranges : List LeafRange) → IsFormOf form tree → tree_count tree ≡ 1
+pub told_inside : (form : SequenceForm) (tree : Forest) (ranges : List LeafRange) → IsFormOf form tree
+    → tree_count tree ≡ 1
     → map range_of ranges ≡ job_ranges tree
     → All (λ (r : LeafRange). r.first + r.count ≤ length form.leaves) ranges
 told_inside form tree ranges is one told k d low =
@@ -51,8 +52,10 @@ told_inside form tree ranges is one told k d low =
     subst (λ (r : RangeOfLeaves). r.first + r.count ≤ length form.leaves) (get_or-map range_of ranges k d (range_of d) low) at
 
 -- the rows of one job more
-pub touched_more : (form : SequenceForm) (ranges : List LeafRange) (k : ℕ) (r : LeafRange) → k < length ranges → get_or ranges k r ≡ r
-    → map (job_rows form) (map range_of (take (k + 1) ranges)) ≡ map (job_rows form) (map range_of (take k ranges)) ++ job_rows form (range_of r) ∷ []
+pub touched_more : (form : SequenceForm) (ranges : List LeafRange) (k : ℕ) (r : LeafRange) → k < length ranges
+    → get_or ranges k r ≡ r
+    → map (job_rows form) (map range_of (take (k + 1) ranges))
+    ≡ map (job_rows form) (map range_of (take k ranges)) ++ job_rows form (range_of r) ∷ []
 touched_more form ranges k r low read =
     ap (λ rs. map (job_rows form) (map range_of rs)) (take_more ranges k r low ∙ ap (λ x. take k ranges ++ x ∷ []) read)
     ∙ ap (map (job_rows form)) (map_push range_of (take k ranges) r)
@@ -72,7 +75,8 @@ most_more touched k job low read =
     map_push_here = ap (map size) (take_more touched k job low ∙ ap (λ x. take k touched ++ x ∷ []) read) ∙ map_push size (take k touched) job
 
 -- each job has at most so many rows
-pub at_most_touched : (touched : List JobRows) (k : ℕ) (d : JobRows) → k < length touched → length (get_or touched k d).rows ≤ most_touched touched
+pub at_most_touched : (touched : List JobRows) (k : ℕ) (d : JobRows) → k < length touched
+    → length (get_or touched k d).rows ≤ most_touched touched
 at_most_touched touched k d low =
     omega (arith, at_most_greatest (map size touched) k, get_or-map size touched k d 0 low)
 
@@ -85,7 +89,8 @@ pub record JobTold (form : SequenceForm) (table : TableOfJobs) (job : ℕ) (touc
   pub few : length touched.rows ≤ most_touched table.touched
 
 -- a table built from a form tells so of each of its jobs
-pub job_told : (form : SequenceForm) (table : TableOfJobs) (job : ℕ) (ranges : List LeafRange) (touched : JobRows) (range : LeafRange)
+pub job_told : (form : SequenceForm) (table : TableOfJobs) (job : ℕ) (ranges : List LeafRange) (touched : JobRows)
+    (range : LeafRange)
     → IsTableOf form table → job < length table.ranges → map range_of ranges ≡ table.ranges
     → range ≡ get_or ranges job range → touched ≡ get_or table.touched job touched
     → JobTold form table job touched range

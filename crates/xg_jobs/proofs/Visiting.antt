@@ -130,7 +130,8 @@ pub tops_few : (at : ℕ) (t : Forest) → length (tops_from at t) ≤ node_coun
 tops_few at bare = omega arith
 tops_few at (grown node below beside) = few (is_same_kind Chance node.kind) (tops_few (at + 1) below) (λ n. tops_few n beside)
   where
-    few : (b : Bool) → length (tops_from (at + 1) below) ≤ node_count below → ((n : ℕ) → length (tops_from n beside) ≤ node_count beside)
+    few : (b : Bool) → length (tops_from (at + 1) below) ≤ node_count below
+        → ((n : ℕ) → length (tops_from n beside) ≤ node_count beside)
         → suc (length (cond b (tops_from (at + 1) below) [] ++ tops_from (at + 1 + length (cond b (tops_from (at + 1) below) [])) beside)) ≤ suc (length (prefix below ++ prefix beside))
     few true inner rest =
         omega (arith, inner, rest (at + 1 + length (tops_from (at + 1) below)), length-append (tops_from (at + 1) below) (tops_from (at + 1 + length (tops_from (at + 1) below)) beside), length-append (prefix below) (prefix beside))
@@ -157,11 +158,13 @@ nodes_in : (node : Node) (below beside : Forest)
     → node_count (grown node below beside) ≡ node_count (grown node below bare) + node_count beside
 nodes_in node below beside = omega (arith, length-append (prefix below) (prefix beside), length-append (prefix below) [])
 
+-- after the first tree there is room for the nodes beside it, where there was room for all nodes
 pub room_beside : (node : Node) (below beside : Forest) (s : TopState) → Room s (node_count (grown node below beside))
     → Room (walked (grown node below bare) s) (node_count beside)
 room_beside node below beside s room =
     room_after (grown node below bare) (node_count beside) s.nodes s.open_at s.covered s.leaves (subst (Room s) (nodes_in node below beside) room)
 
+-- with room for the nodes of some trees there is room for the first node
 pub room_now : (node : Node) (below beside : Forest) (s : TopState) → Room s (node_count (grown node below beside))
     → HasRoom s
 room_now node below beside s room = record { nodes = omega (arith, room.nodes); covered = omega (arith, room.covered); leaves = omega (arith, room.leaves) }
@@ -170,7 +173,8 @@ room_entered : (node : Node) (n : ℕ) (nodes : List TopNode) (at c l : ℕ) →
     → Room (entered node (state nodes at c l)) n
 room_entered node n nodes at zero l room = by_test (is_same_kind Chance node.kind)
   where
-    by_test : (b : Bool) → Room (state (nodes ++ before b node.children at l ∷ []) (length nodes) (cond b 0 1) (l + leaf_count (node ∷ []))) n
+    by_test : (b : Bool)
+        → Room (state (nodes ++ before b node.children at l ∷ []) (length nodes) (cond b 0 1) (l + leaf_count (node ∷ []))) n
     by_test true = record {
       nodes = omega (arith, room.nodes, length-append nodes (before true node.children at l ∷ []));
       covered = omega (arith, room.covered);
@@ -187,6 +191,7 @@ room_entered node n nodes at (suc c) l room = record {
   leaves = omega (arith, room.leaves, leaves_few (node ∷ []));
 }
 
+-- after the first node there is room for the nodes below it, where there was room for all nodes
 pub room_below : (node : Node) (below beside : Forest) (s : TopState) → Room s (node_count (grown node below beside))
     → Room (entered node s) (node_count below)
 room_below node below beside s room =
@@ -236,6 +241,7 @@ open_below node below beside nodes at (suc c) l room =
     } in
     subst (λ k. IsOpen (walked below (state nodes at k (l + m)))) (sym next) told
 
+-- a node that was entered can be left after the trees below it, where there was room for all nodes
 pub can_leave : (node : Node) (below beside : Forest) (s : TopState) → Room s (node_count (grown node below beside))
     → IsOpen (walked below (entered node s))
 can_leave node below beside s room = open_below node below beside s.nodes s.open_at s.covered s.leaves room

@@ -11,6 +11,7 @@ passes_more : (limit n : ℕ) (jobs : List Forest) → passes limit (suc n) jobs
 passes_more limit zero jobs = refl
 passes_more limit (suc n) jobs = passes_more limit n (pass limit jobs)
 
+-- the jobs after one more pass are those that a pass makes of the jobs before it
 pub within_more : (limit n : ℕ) (tree : Forest) → jobs_within limit (n + 1) tree ≡ pass limit (jobs_within limit n tree)
 within_more limit n tree = let e : n + 1 ≡ suc n = omega arith in ap (λ m. jobs_within limit m tree) e ∙ passes_more limit n (tree ∷ [])
 
@@ -32,6 +33,7 @@ pub whole_job : (tops : List TopNode) (tree : Forest) → tops ≡ tops_from 0 t
     → AreJobs tops (0 ∷ []) (tree ∷ [])
 whole_job tops tree are one = (record { one = one; there = record { rest = []; here = are ∙ sym (append-nil (tops_from 0 tree)) } }, tt)
 
+-- what isn't true is false
 pub not_true : (b : Bool) → not b ≡ true → b ≡ false
 not_true true e = sym e
 not_true false e = refl

@@ -25,9 +25,11 @@ pub record TakesLeaf (begin : ℕ) (e : GroupLeaf) (old new : List GroupLeaf) : 
   pub front : take begin new ≡ take begin old
   pub longer : length old ≤ length new
   pub shorter : length new ≤ length old + 1
-  pub weights : (b : ℕ) → weight_with b (drop begin new) ≡ weight_with b (drop begin old) +ℤ (if e.other == b then e.weight else pos 0)
+  pub weights : (b : ℕ)
+      → weight_with b (drop begin new) ≡ weight_with b (drop begin old) +ℤ (if e.other == b then e.weight else pos 0)
   pub mass : group_mass (drop begin new) ≤ group_mass (drop begin old) + unsigned_abs e.weight
-  pub within : (others : ℕ) → All (λ e. e.other < others) (drop begin old) → e.other < others → All (λ e. e.other < others) (drop begin new)
+  pub within : (others : ℕ) → All (λ e. e.other < others) (drop begin old) → e.other < others
+      → All (λ e. e.other < others) (drop begin new)
 
 -- a group more, which stands for these leaves
 pub record TakesGroup (leaves old new : List GroupLeaf) : Type 0 where

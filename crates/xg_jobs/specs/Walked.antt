@@ -41,8 +41,9 @@ pub record AreFirst (trees : Forest) (nodes later : List Node) (s : TopState) : 
   pub nodes_are : nodes ≡ prefix trees ++ later
   pub room : Room s (node_count trees)
 
--- the nodes to come lead from one state to the other: first come those under the innermost node that isn't left, behind which it is left, then those under
--- the one around it, and so on. Of each of these nodes it is told how many children are to come
+-- the nodes to come lead from one state to the other: first come those under the innermost node that isn't left, behind
+-- which it is left, then those under the one around it, and so on.
+-- Of each of these nodes it is told how many children are to come
 abbrev pub LeadsTo : List ℕ → List Node → TopState → TopState → Type 0
 LeadsTo [] nodes s end = (trees : Forest) × AreFirst trees nodes [] s × (walked trees s ≡ end)
 LeadsTo (count ∷ counts) nodes s end =

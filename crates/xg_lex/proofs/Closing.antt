@@ -58,7 +58,8 @@ closing_from-at_once bytes start within opening mark =
 pub record SearchesOn (bytes : List ℕ) (start at : ℕ) : Type 0 where
   pub begun : 0 < at
   pub within : at ≤ length bytes
-  pub same : closing_from at (get_or bytes (at - 1) 0) (drop at bytes) ≡ closing_from (start + 1) (get_or bytes start 0) (drop (start + 1) bytes)
+  pub same : closing_from at (get_or bytes (at - 1) 0) (drop at bytes) ≡ closing_from (start + 1) (get_or bytes start 0)
+      (drop (start + 1) bytes)
 
 pub SearchesOn-start : (bytes : List ℕ) (start : ℕ) → start < length bytes → SearchesOn bytes start (start + 1)
 SearchesOn-start bytes start h =
@@ -88,7 +89,9 @@ module _ (bytes : List ℕ) (start at k : ℕ) (hay : List ℕ) (is_rest : hay �
   mark_at = ap (λ n. eqb n 34) (sym (get_or-drop at bytes k 0) ∙ sym (ap (λ l. get_or l k 0) is_rest)) ∙ mark
 
   -- from the mark on
-  from_mark : closing_from (at + k) (get_or bytes (at + k - 1) 0) (get_or bytes (at + k) 0 ∷ drop (at + k + 1) bytes) ≡ closing_from (start + 1) (get_or bytes start 0) (drop (start + 1) bytes)
+  from_mark : closing_from (at + k) (get_or bytes (at + k - 1) 0)
+      (get_or bytes (at + k) 0 ∷ drop (at + k + 1) bytes) ≡ closing_from (start + 1) (get_or bytes start 0)
+      (drop (start + 1) bytes)
   from_mark =
       let here = within in
       ap (λ l. closing_from (at + k) (get_or bytes (at + k - 1) 0) l) (sym (drop_more bytes (at + k) 0 here) ∙ sym (drop-drop k at bytes))
@@ -96,10 +99,12 @@ module _ (bytes : List ℕ) (start at k : ℕ) (hay : List ℕ) (is_rest : hay �
       ∙ sym (closing_from-drop k at (get_or bytes (at - 1) 0) (drop at bytes) (omega (arith, length-drop at bytes, on.within)) no_mark)
       ∙ on.same
 
+  -- the mark that was found, where no backslash stands right before it, is the one that closes the text
   pub SearchesOn-closes : get_or bytes (at + k - 1) 0 ≢ 92
       → Some (at + k) ≡ closing_from (start + 1) (get_or bytes start 0) (drop (start + 1) bytes)
   SearchesOn-closes plain = sym (closing_from-closes (at + k) (get_or bytes (at + k - 1) 0) _ _ mark_at (ne_eqb _ 92 plain)) ∙ from_mark
 
+  -- where a backslash stands right before the mark that was found, the search goes on behind that mark
   pub SearchesOn-next : get_or bytes (at + k - 1) 0 ≡ 92 → SearchesOn bytes start (at + k + 1)
   SearchesOn-next escaped =
       let here = within in

@@ -93,6 +93,7 @@ pub record StandsFor (raw : List ℕ) (at : ℕ) (bytes : List ℕ) : Type 0 whe
   pub escaped : MarksEscaped 34 (drop at raw)
   pub same : bytes ++ unescaped (drop at raw) ≡ unescaped raw
 
+-- before the first byte of an inside nothing is copied, and all of it is left
 pub StandsFor-start : (raw : List ℕ) → IsInside raw → StandsFor raw 0 []
 StandsFor-start raw inside = record { within = omega arith; escaped = inside.escaped; same = refl }
 
@@ -113,6 +114,7 @@ module _ (raw : List ℕ) (at k : ℕ) (bytes hay : List ℕ) (is_rest : hay ≡
   pub mark_within : at + k < length raw
   mark_within = omega (arith, in_rest, length-drop at raw, on.within)
 
+  -- with all up to the found mark copied, but for the backslash right before it, what is left begins behind the mark
   pub StandsFor-next : StandsFor raw (at + k + 1) (bytes ++ take (at + k - 1 - at) (drop at raw) ++ 34 ∷ [])
   StandsFor-next =
       let positive = mark_follows in

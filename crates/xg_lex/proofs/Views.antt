@@ -13,7 +13,8 @@ unescaped-escape : (b : ℕ) (bs : List ℕ) → ((b == 92) && begins_with_mark 
 unfolding unescaped
 unescaped-escape b bs escape = rw escape refl
 
-unescaped-other : (b : ℕ) (bs : List ℕ) → ((b == 92) && begins_with_mark bs) ≡ false → unescaped (b ∷ bs) ≡ b ∷ unescaped bs
+unescaped-other : (b : ℕ) (bs : List ℕ) → ((b == 92) && begins_with_mark bs) ≡ false
+    → unescaped (b ∷ bs) ≡ b ∷ unescaped bs
 unfolding unescaped
 unescaped-other b bs other = rw other refl
 
@@ -26,6 +27,7 @@ pub ComparesOn-start : (raw bytes : List ℕ) → ComparesOn raw bytes 0 0
 ComparesOn-start raw bytes = record { within = omega arith; same = refl }
 
 module _ (raw bytes : List ℕ) (i at : ℕ) (here : i < length raw) (on : ComparesOn raw bytes i at) where
+  -- behind a backslash right before a quotation mark the comparison goes on with the same byte of the bytes
   pub ComparesOn-escape : escape_at raw i ≡ true → ComparesOn raw bytes (i + 1) at
   ComparesOn-escape escape = record {
     within = on.within;
@@ -35,11 +37,14 @@ module _ (raw bytes : List ℕ) (i at : ℕ) (here : i < length raw) (on : Compa
   }
 
   -- the next byte is one that the inside stands for
-  next_is : escape_at raw i ≡ false → pointwise nat_eq (drop at bytes) (get_or raw i 0 ∷ unescaped (drop (i + 1) raw)) ≡ pointwise nat_eq bytes (unescaped raw)
+  next_is : escape_at raw i ≡ false
+      → pointwise nat_eq (drop at bytes) (get_or raw i 0 ∷ unescaped (drop (i + 1) raw))
+      ≡ pointwise nat_eq bytes (unescaped raw)
   next_is other =
       ap (pointwise nat_eq (drop at bytes)) (sym (ap unescaped (drop_more raw i 0 here) ∙ unescaped-other (get_or raw i 0) (drop (i + 1) raw) other))
       ∙ on.same
 
+  -- where the bytes are at their end and the inside goes on with a byte that stays, it doesn't stand for them
   pub ComparesOn-short : escape_at raw i ≡ false → at ≡ length bytes → false ≡ pointwise nat_eq bytes (unescaped raw)
   ComparesOn-short other end =
       ap (λ l. pointwise nat_eq l (get_or raw i 0 ∷ unescaped (drop (i + 1) raw))) (sym (drop_all at bytes (omega arith))) ∙ next_is other
@@ -49,9 +54,12 @@ module _ (raw bytes : List ℕ) (i at : ℕ) (here : i < length raw) (on : Compa
     compared =
         ap (λ l. pointwise nat_eq l (get_or raw i 0 ∷ unescaped (drop (i + 1) raw))) (sym (drop_more bytes at 0 there)) ∙ next_is other
 
-    pub ComparesOn-differs : nat_eq (get_or bytes at 0) (get_or raw i 0) ≡ false → false ≡ pointwise nat_eq bytes (unescaped raw)
+    -- where the next bytes of both differ, the inside doesn't stand for the bytes
+    pub ComparesOn-differs : nat_eq (get_or bytes at 0) (get_or raw i 0) ≡ false
+        → false ≡ pointwise nat_eq bytes (unescaped raw)
     ComparesOn-differs differs = ap (λ b. b && pointwise nat_eq (drop (at + 1) bytes) (unescaped (drop (i + 1) raw))) (sym differs) ∙ compared
 
+    -- where the next bytes of both are the same, the comparison goes on behind them
     pub ComparesOn-next : nat_eq (get_or bytes at 0) (get_or raw i 0) ≡ true → ComparesOn raw bytes (i + 1) (at + 1)
     ComparesOn-next equal = record { within = omega arith; same = ap (λ b. b && pointwise nat_eq (drop (at + 1) bytes) (unescaped (drop (i + 1) raw))) (sym equal) ∙ compared }
 

@@ -69,7 +69,8 @@ times_without j s job stripe (r ∷ rs) has = taken (times_without j s job strip
   where
     taken : (1 ≤ times_right job stripe rs → cond (eqb job j && eqb stripe s) 1 0 + times_right j s (without job stripe rs) ≡ times_right j s rs)
         → (b : Bool) → (eqb r.job job && eqb r.stripe stripe) ≡ b → 1 ≤ times_right job stripe (r ∷ rs)
-        → cond (eqb job j && eqb stripe s) 1 0 + times_right j s (if b then rs else r ∷ without job stripe rs) ≡ times_right j s (r ∷ rs)
+        → cond (eqb job j && eqb stripe s) 1 0 + times_right j s (if b then rs else r ∷ without job stripe rs)
+        ≡ times_right j s (r ∷ rs)
     taken later true is has =
         let a : r.job ≡ job = grind (arith, nat_tests) in
         let b : r.stripe ≡ stripe = grind (arith, nat_tests) in
@@ -81,7 +82,8 @@ times_without j s job stripe (r ∷ rs) has = taken (times_without j s job strip
         omega (arith, later rest, times_right-cons j s r rs, times_right-cons j s r (without job stripe rs))
 
 -- a right goes to the stripe
-pub right_is_cut : (stripe job tickets number : ℕ) (order : List ℕ) (rights : List Right) → 1 ≤ times_right job stripe rights
+pub right_is_cut : (stripe job tickets number : ℕ) (order : List ℕ) (rights : List Right)
+    → 1 ≤ times_right job stripe rights
     → IsCut (seen (rights_at stripe order ++ rights) tickets 2 number) (seen (rights_at stripe (order ++ job ∷ [])) 0 1 number) (seen (without job stripe rights) tickets 1 number)
 right_is_cut stripe job tickets number order rights has = record {
   live = omega arith;
@@ -101,11 +103,13 @@ right_is_cut stripe job tickets number order rights has = record {
     counted false true all at pushed held left more less a b c d e = omega arith
     counted false false all at pushed held left more less a b c d e = omega arith
 
-pub rights_at_drop : (stripe : ℕ) (order : List ℕ) (rights : List Right) → drop (length order) (rights_at stripe order ++ rights) ≡ rights
+pub rights_at_drop : (stripe : ℕ) (order : List ℕ) (rights : List Right)
+    → drop (length order) (rights_at stripe order ++ rights) ≡ rights
 rights_at_drop stripe [] rights = refl
 rights_at_drop stripe (x ∷ xs) rights = rights_at_drop stripe xs rights
 
-holds_right : (stripe job : ℕ) (order : List ℕ) → Contains order job → 1 ≤ times_right job stripe (rights_at stripe order)
+holds_right : (stripe job : ℕ) (order : List ℕ) → Contains order job
+    → 1 ≤ times_right job stripe (rights_at stripe order)
 holds_right stripe job order there =
     let a = times_at job stripe stripe order in
     let b = times_from_Contains job order there in
@@ -113,6 +117,7 @@ holds_right stripe job order there =
     let c : times_right job stripe (rights_at stripe order) ≡ times job order = a ∙ ap (λ t. if t then times job order else 0) same in
     omega (arith, b, c)
 
+-- a right is there at most once
 pub once_at_most : (number job stripe : ℕ) → once number job stripe ≤ 1
 unfolding once
 once_at_most number job stripe = by_case (nat_lt job (jobs_of number) && nat_lt stripe (stripes_of number))
@@ -122,7 +127,8 @@ once_at_most number job stripe = by_case (nat_lt job (jobs_of number) && nat_lt 
     by_case false = omega arith
 
 -- who holds the right knows that the job isn't in the order
-pub job_is_new : (stripe job n tickets number : ℕ) (order : List ℕ) (rights : List Right) → 1 ≤ times_right job stripe rights
+pub job_is_new : (stripe job n tickets number : ℕ) (order : List ℕ) (rights : List Right)
+    → 1 ≤ times_right job stripe rights
     → IsLoaded n (seen (rights_at stripe order ++ rights) tickets 2 number) → Contains order job → ⊥
 job_is_new stripe job n tickets number order rights has loaded there =
     let a = loaded.once_at_most job stripe in
@@ -137,8 +143,11 @@ pub record Opened (stripe : ℕ) (order : List ℕ) (p w : View) : Type 0 where
   pub theirs : drop (length order) w.rights ≡ p.rights
   pub view : w ≡ seen (rights_at stripe order ++ drop (length order) w.rights) w.tickets 2 w.number
 
-pub opened : (stripe : ℕ) (order : List ℕ) (v p w : View) → v ≡ seen (rights_at stripe order) 0 1 v.number → p ≡ seen p.rights p.tickets 1 p.number
-    → v.number ≡ p.number → w ≡ seen (v.rights ++ p.rights) (v.tickets + p.tickets) (v.parts + p.parts) v.number → Opened stripe order p w
+-- a pass's view that is joined into a stripe's adds its rights behind those of the order, its tickets and its part
+pub opened : (stripe : ℕ) (order : List ℕ) (v p w : View) → v ≡ seen (rights_at stripe order) 0 1 v.number
+    → p ≡ seen p.rights p.tickets 1 p.number
+    → v.number ≡ p.number → w ≡ seen (v.rights ++ p.rights) (v.tickets + p.tickets) (v.parts + p.parts) v.number
+    → Opened stripe order p w
 opened stripe order v p w v_is p_is numbers w_is = record { plain = plain; theirs = theirs; view = view }
   where
     less : 0 + p.tickets ≡ p.tickets
@@ -154,7 +163,8 @@ opened stripe order v p w v_is p_is numbers w_is = record { plain = plain; their
     view = plain ∙ (λ i. seen (rights_at stripe order ++ sym theirs i) (sym (ap (λ (u : View). u.tickets) plain) i) 2 (sym (ap (λ (u : View). u.number) plain) i))
 
 -- what is done under the locks, as steps of the core
-pub takes_job : (stripes job : ℕ) (bag after : List ℕ) (held now : List Right) → bag ≡ after ++ job ∷ [] → held ≡ [] → now ≡ rights_of job stripes
+pub takes_job : (stripes job : ℕ) (bag after : List ℕ) (held now : List Right) → bag ≡ after ++ job ∷ [] → held ≡ []
+    → now ≡ rights_of job stripes
     → TakesJob stripes bag held job after now
 takes_job stripes job bag after held now b h n = rw (b, h, n) (record {
   held_none = refl;
@@ -166,7 +176,9 @@ takes_job stripes job bag after held now b h n = rw (b, h, n) (record {
 pub named_below : (jobs : ℕ) → All (λ job. job < jobs) (job_numbers jobs)
 named_below jobs = All-range (λ job. job < jobs) 0 jobs (λ s low high. omega arith)
 
-pub gives_right : (stripe job : ℕ) (history after : List ℕ) (held now : List Right) → 1 ≤ times_right job stripe held → after ≡ history ++ job ∷ [] → now ≡ without job stripe held
+-- to take a held right away and to put its job behind the stripe's history is to give the right up
+pub gives_right : (stripe job : ℕ) (history after : List ℕ) (held now : List Right) → 1 ≤ times_right job stripe held
+    → after ≡ history ++ job ∷ [] → now ≡ without job stripe held
     → GivesRight stripe history held job after now
 gives_right stripe job history after held now has a n = record {
   gives_right = rw n ((counts_tell_rights.same held (record { job = job; stripe = stripe } ∷ without job stripe held)).1

@@ -25,7 +25,8 @@ waiting-put bytes piece start end n order within is =
     ∙ ap (λ (xs : List ℕ). xs ++ piece) (sym (waiting_is bytes start end order))
 
 -- a piece more of the bytes
-pub written_more : (first now next : Option (List ℕ)) (bytes : List ℕ) (taken n : ℕ) → now ≡ append_known first (take taken bytes)
+pub written_more : (first now next : Option (List ℕ)) (bytes : List ℕ) (taken n : ℕ)
+    → now ≡ append_known first (take taken bytes)
     → next ≡ append_known now (take n (take (length bytes - taken) (drop taken bytes)))
     → next ≡ append_known first (take (taken + n) bytes)
 written_more first now next bytes taken n before after =
@@ -67,7 +68,8 @@ front_of_sink (Some bytes) (Some taken) waiting text grown front =
     record { count = length more; appended = grown ∙ ap (λ (xs : List ℕ). Some (bytes ++ xs)) (sym (take-append_seam more (waiting ++ drop front.count text)) ∙ ap (take (length more)) begins) }
 
 -- a whole text is a front of itself
-pub whole_front : (before now : Option (List ℕ)) (text : List ℕ) → now ≡ append_known before text → AppendsPrefix before now text
+pub whole_front : (before now : Option (List ℕ)) (text : List ℕ) → now ≡ append_known before text
+    → AppendsPrefix before now text
 whole_front before now text is = record { count = length text; appended = is ∙ ap (append_known before) (sym (take-length text)) }
 
 -- what holds anyway holds on an error
@@ -76,11 +78,13 @@ on_err (Ok value) holds = tt
 on_err (Err fault) holds = holds
 
 -- a page that nothing waits in shows what its sink has
-pub nothing_waits : (known before : Option (List ℕ)) (bytes : List ℕ) (start end : ℕ) → known ≡ before → start ≡ end → append_known known (waiting_in bytes start end) ≡ before
+pub nothing_waits : (known before : Option (List ℕ)) (bytes : List ℕ) (start end : ℕ) → known ≡ before → start ≡ end
+    → append_known known (waiting_in bytes start end) ≡ before
 nothing_waits known before bytes start end is same =
     let none : end - start ≡ 0 = omega (arith, same) in
     ap (λ (k : ℕ). append_known known (take k (drop start bytes))) none ∙ append_known-nil known ∙ is
 
+-- where something holds on an error, what follows from it holds there too
 pub on_err_then : {T E P Q : Type 0} (result : Result T E) → (P → Q) → OnErr result P → OnErr result Q
 on_err_then (Ok value) follows holds = tt
 on_err_then (Err fault) follows holds = follows holds

@@ -30,6 +30,7 @@ added_more plan other i sums below upto =
       rest = λ s low. let apart : s ≢ i = omega arith in get_or-set_other sums i s n 0 apart ∙ upto.rest s (omega arith);
     }
 
+-- a list in which the numbers of all places are added is the sum of both plans
 pub added_all : (plan other : List ℕ) (i : ℕ) (sums : List ℕ) → length plan ≡ length other → length plan ≤ i
     → IsAddedUpTo plan other i sums → sums ≡ added plan other
 added_all plan other i sums same all upto =

@@ -16,7 +16,8 @@ use Rattle.xg_plan.proofs.PlaceLemmas.{IsTold, no_place, part_is}
 pub part_sum : (sets : List InformationSet) (plan : List ℕ) (k first actions before : ℕ)
     → IsTold sets k first actions before → length plan ≡ sequence_count sets
     → (d : PlacedSet)
-    → weight_sum (take (first + actions - first) (drop first plan)) ≡ nat_sum_over (λ s. slice_index plan s) (sequences_of (get_or (placed sets) k d))
+    → weight_sum (take (first + actions - first) (drop first plan))
+    ≡ nat_sum_over (λ s. slice_index plan s) (sequences_of (get_or (placed sets) k d))
 part_sum sets plan k first actions before told long d =
     ap weight_sum (part_is plan first actions (omega (arith, told.inside, long))) ∙ sym (sum_of_map (λ s. slice_index plan s) (range_with_len first actions))
     ∙ ap (λ (h : PlacedSet). nat_sum_over (λ s. slice_index plan s) (sequences_of h)) (sym (told.is d))

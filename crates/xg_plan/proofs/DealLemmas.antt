@@ -21,6 +21,7 @@ use Rattle.xg_plan.proofs.PlaceLemmas.{IsTold, SetAt, few_before, first_of, no_p
 abbrev pub IsDealtAt : List ℕ → List ℕ → PlacedSet → Type 0
 IsDealtAt play plan h = map (λ s. slice_index plan s) (sequences_of h) ≡ play_rule play h (slice_index plan h.before)
 
+-- each sequence has a number, the first one the root, and the first k sets are dealt by the play, within the root
 pub record IsDealtUpTo (sets : List InformationSet) (play : List ℕ) (root k : ℕ) (plan : List ℕ) : Type 0 where
   pub all_sequences : length plan ≡ sequence_count sets
   pub root_weight : slice_index plan 0 ≡ root
@@ -54,7 +55,8 @@ pub record Deals (sets : List InformationSet) (play : List ℕ) (k : ℕ) (plan 
   pub count : length next ≡ length plan
   pub earlier : (d : PlacedSet) (s : ℕ) → s < (get_or (placed sets) k d).first → slice_index next s ≡ slice_index plan s
   pub dealt : (d : PlacedSet)
-      → map (λ s. slice_index next s) (sequences_of (get_or (placed sets) k d)) ≡ play_rule play (get_or (placed sets) k d) (slice_index plan (get_or (placed sets) k d).before)
+      → map (λ s. slice_index next s) (sequences_of (get_or (placed sets) k d))
+      ≡ play_rule play (get_or (placed sets) k d) (slice_index plan (get_or (placed sets) k d).before)
 
 -- one set more
 pub dealt_more_sets : (sets : List InformationSet) (play : List ℕ) (root k : ℕ) (plan next : List ℕ) → AreInOrder sets
@@ -106,6 +108,7 @@ dealt_to_all sets play root plan order some upto = record {
   each_set = λ j d low. upto.dealt j d (omega (arith, length-placed 1 sets));
 }
 
+-- what is dealt up to the last set is the plan of the play
 pub dealt_is_plan_of_play : (sets : List InformationSet) (play : List ℕ) (root : ℕ) (plan : List ℕ) → AreInOrder sets
     → 1 ≤ root → IsDealtUpTo sets play root (length sets) plan → plan ≡ plan_of_play sets play root
 dealt_is_plan_of_play sets play root plan order some upto = plans_of_plays_are_unique sets play root plan order (dealt_to_all sets play root plan order some upto)
@@ -133,7 +136,8 @@ pub block_deals : (sets : List InformationSet) (play plan block rest : List ℕ)
     → IsTold sets k first actions before → length plan ≡ sequence_count sets → length play ≡ sequence_count sets
     → block ≡ shares (slice_index plan before) (take (first + actions - first) (drop first play))
     → (d : PlacedSet)
-    → map (λ s. slice_index (take first plan ++ (block ++ rest)) s) (sequences_of (get_or (placed sets) k d)) ≡ play_rule play (get_or (placed sets) k d) (slice_index plan (get_or (placed sets) k d).before)
+    → map (λ s. slice_index (take first plan ++ (block ++ rest)) s) (sequences_of (get_or (placed sets) k d))
+    ≡ play_rule play (get_or (placed sets) k d) (slice_index plan (get_or (placed sets) k d).before)
 block_deals sets play plan block rest k first actions before told long play_long dealt d =
     let n : ℕ = slice_index plan before in
     let weights : List ℕ = map (λ s. slice_index play s) (range_with_len first actions) in

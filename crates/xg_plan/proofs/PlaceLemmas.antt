@@ -21,6 +21,7 @@ no_set = record { before = 0; actions = 0 }
 abbrev pub first_of : List InformationSet → ℕ → ℕ
 first_of sets k = 1 + total_actions (take k sets)
 
+-- the sets before a place have together no more actions than those before a later one
 pub few_before : (hs : List InformationSet) (i j : ℕ) → i ≤ j → total_actions (take i hs) ≤ total_actions (take j hs)
 few_before hs zero j h = omega arith
 few_before [] (suc i) (suc j) h = omega arith
@@ -40,6 +41,7 @@ pub record SetAt (sets : List InformationSet) (k : ℕ) (h : PlacedSet) : Type 0
   pub some : 1 ≤ h.actions
   pub earlier : h.before < h.first
 
+-- where sets are in order, set k has an action, and its sequences come right behind those of the sets before
 pub set_at : (sets : List InformationSet) (k : ℕ) (d : PlacedSet) → AreInOrder sets → k < length sets
     → SetAt sets k (get_or (placed sets) k d)
 set_at sets k d order below =
@@ -61,6 +63,7 @@ pub record IsTold (sets : List InformationSet) (k first actions before : ℕ) : 
   pub some : 1 ≤ actions
   pub earlier : before < first
 
+-- where sets are in order, the first sequence, actions and sequence before that are read at set k are the set's
 pub is_told : (sets : List InformationSet) (k first actions before : ℕ) → AreInOrder sets → k < length sets
     → slice_get (map (λ (h : PlacedSet). h.first) (placed sets)) k ≡ Some first
     → slice_get (map (λ (h : InformationSet). h.actions) sets) k ≡ Some actions

@@ -20,6 +20,7 @@ choices-set_replies [] (c ∷ cs) same = absurd (omega arith)
 choices-set_replies (v ∷ vs) [] same = absurd (omega arith)
 choices-set_replies (v ∷ vs) (c ∷ cs) same = ap (λ ds. c ∷ ds) (choices-set_replies vs cs (omega arith))
 
+-- where there are as many choices as values, there are as many replies
 pub length-set_replies : (values : List ℤ) (choices : List ℕ) → length choices ≡ length values
     → length (set_replies values choices) ≡ length values
 length-set_replies [] choices same = refl
@@ -29,7 +30,8 @@ length-set_replies (v ∷ vs) (c ∷ cs) same = ap suc (length-set_replies vs cs
 -- a value and a choice that are put at a place are put there side by side
 pub set-set_replies : (values : List ℤ) (choices : List ℕ) (k : ℕ) (value : ℤ) (choice : ℕ)
     → length choices ≡ length values
-    → set_replies (set values k value) (set choices k choice) ≡ set (set_replies values choices) k (record { value = value; choice = choice })
+    → set_replies (set values k value) (set choices k choice)
+    ≡ set (set_replies values choices) k (record { value = value; choice = choice })
 set-set_replies [] [] k value choice same = refl
 set-set_replies [] (c ∷ cs) k value choice same = absurd (omega arith)
 set-set_replies (v ∷ vs) [] k value choice same = absurd (omega arith)

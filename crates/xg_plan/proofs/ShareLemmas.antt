@@ -15,14 +15,17 @@ use Rattle.def_shares.proofs.SharesLaws.{are_differences, length-shares}
 pub prefix-more : (ws : List ℕ) (i : ℕ) → i < length ws → prefix_sum ws (i + 1) ≡ prefix_sum ws i + get_or ws i 0
 prefix-more ws i below = ap weight_sum (take_more ws i 0 below) ∙ nat_sum_over-append (λ w. w) (take i ws) (get_or ws i 0 ∷ []) ∙ ap (λ n. prefix_sum ws i + n) (add-zero (get_or ws i 0))
 
+-- the first i weights are together within the sum of all
 pub prefix-within : (ws : List ℕ) (i : ℕ) → prefix_sum ws i ≤ weight_sum ws
 prefix-within ws zero = omega arith
 prefix-within [] (suc i) = omega arith
 prefix-within (w ∷ ws) (suc i) = omega (arith, prefix-within ws i)
 
+-- the weights up to the last one are together the sum of all
 pub prefix-all : (ws : List ℕ) → prefix_sum ws (length ws) ≡ weight_sum ws
 prefix-all ws = ap weight_sum (take-length ws)
 
+-- there is a size for each weight
 pub length-sizes : (ws : List ℤ) → length (map unsigned_abs ws) ≡ length ws
 length-sizes ws = length-map ws unsigned_abs
 
@@ -36,6 +39,7 @@ weight_is_size (negsuc n) h = absurd (omega arith)
 quotient_grows : (n a b sum : ℕ) → 1 ≤ sum → a ≤ b → n * a / sum ≤ n * b / sum
 quotient_grows n a b sum some h = le-div (n * a / sum) (n * b) sum some (omega (arith, div-add-mod' (n * a) sum, mul-le-mul_left n h))
 
+-- what a part within the sum gets of n is within n
 pub quotient_within : (n a sum : ℕ) → 1 ≤ sum → a ≤ sum → n * a / sum ≤ n
 quotient_within n a sum some h = omega (arith, quotient_grows n a sum sum some h, mul-div_left n some)
 
@@ -46,6 +50,7 @@ dealt_is_shares n ws out long some each =
     same_number_lists out (shares n ws) (omega (arith, long, length-shares n ws))
     (λ k below. let low : k < length ws = omega arith in let d = (are_differences n ws k low).by_weight some in omega (arith, d, each k low))
 
+-- where all weights are 0, a list with a share for each, which are the differences of equal parts, is the shares
 pub even_is_shares : (n : ℕ) (ws out : List ℕ) → length out ≡ length ws → weight_sum ws ≡ 0
     → ((k : ℕ) → k < length ws → get_or out k 0 + n * k / length ws ≡ n * (k + 1) / length ws) → out ≡ shares n ws
 even_is_shares n ws out long none each =
@@ -86,6 +91,7 @@ pub record Step (n : ℕ) (ws : List ℕ) (i upto sum : ℕ) : Type 0 where
   pub share_within : n * upto / sum ≤ n
   pub grows : prefix_share n ws i ≤ n * upto / sum
 
+-- a weight and the sum before it are the sum up to it, whose part of n is no smaller than before and within n
 pub step_of : (n : ℕ) (ws : List ℕ) (i before_upto weight sum : ℕ) → i < length ws → 1 ≤ sum → sum ≡ weight_sum ws
     → before_upto ≡ prefix_sum ws i → weight ≡ get_or ws i 0
     → Step n ws i (before_upto + weight) sum

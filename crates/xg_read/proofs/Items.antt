@@ -18,7 +18,8 @@ actions_closed kind (suc left) done whole at some closes = rw closes refl
 -- one more may come
 pub actions_more : (kind : EntryKind) (left : ℕ) (done : List Action) (whole : List ℕ) (at : ℕ) → 0 < left
     → next_is close_byte whole at ≡ false
-    → actions_from kind left done whole at ≡ (action_at kind whole at >>= λ action. actions_from kind (left - 1) (done ++ action.0 ∷ []) whole action.1)
+    → actions_from kind left done whole at
+    ≡ (action_at kind whole at >>= λ action. actions_from kind (left - 1) (done ++ action.0 ∷ []) whole action.1)
 unfolding actions_from
 actions_more kind zero done whole at some goes = absurd (omega arith)
 actions_more kind (suc left) done whole at some goes = let e : suc left - 1 ≡ left = omega arith in rw (e, goes) refl
@@ -40,7 +41,8 @@ payoffs_closed (suc left) done whole at some closes = rw closes refl
 
 pub payoffs_more : (left : ℕ) (done : List Fraction) (whole : List ℕ) (at : ℕ) → 0 < left
     → next_is close_byte whole at ≡ false
-    → payoffs_from left done whole at ≡ (payoff_at done whole at >>= λ payoff. payoffs_from (left - 1) (done ++ payoff.0 ∷ []) whole payoff.1)
+    → payoffs_from left done whole at
+    ≡ (payoff_at done whole at >>= λ payoff. payoffs_from (left - 1) (done ++ payoff.0 ∷ []) whole payoff.1)
 unfolding payoffs_from
 payoffs_more zero done whole at some goes = absurd (omega arith)
 payoffs_more (suc left) done whole at some goes = let e : suc left - 1 ≡ left = omega arith in rw (e, goes) refl
@@ -52,7 +54,8 @@ payoffs_full zero done whole at none = refl
 payoffs_full (suc left) done whole at none = absurd (omega arith)
 
 -- what is read from here on is what is read behind the next item
-pub actions_next : (kind : EntryKind) (left after : ℕ) (done next : List Action) (whole seen : List ℕ) (at end : ℕ) (action : Action)
+pub actions_next : (kind : EntryKind) (left after : ℕ) (done next : List Action) (whole seen : List ℕ) (at end : ℕ)
+    (action : Action)
     → seen ≡ whole → left ≡ after + 1
     → next_is close_byte seen at ≡ false → action_at kind seen at ≡ Ok (action, end) → next ≡ done ++ action ∷ []
     → actions_from kind left done whole at ≡ actions_from kind after next whole end

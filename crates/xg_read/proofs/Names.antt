@@ -15,7 +15,8 @@ names_closed (suc left) done whole at some closes = rw closes refl
 
 pub names_more : (left : ℕ) (done : List (List ℕ)) (whole : List ℕ) (at : ℕ) → 0 < left
     → next_is close_byte whole at ≡ false
-    → names_from left done whole at ≡ (text_at whole at >>= λ text. names_from (left - 1) (done ++ text.0 ∷ []) whole text.1)
+    → names_from left done whole at
+    ≡ (text_at whole at >>= λ text. names_from (left - 1) (done ++ text.0 ∷ []) whole text.1)
 unfolding names_from
 names_more zero done whole at some goes = absurd (omega arith)
 names_more (suc left) done whole at some goes = let e : suc left - 1 ≡ left = omega arith in rw (e, goes) refl

@@ -47,17 +47,21 @@ paired end next = Ok (next, end)
 
 -- one reading after another, regrouped
 regrouped : (left : ℕ) (whole : List ℕ) (contents : Contents) (read : Result (Record × ℕ) FileFault)
-    → (read >>= λ entry. judged contents entry.0 >>= λ next. entries_from left next whole entry.1) ≡ ((read >>= λ entry. judged contents entry.0 >>= paired entry.1) >>= λ next. entries_from left next.0 whole next.1)
+    → (read >>= λ entry. judged contents entry.0 >>= λ next. entries_from left next whole entry.1)
+    ≡ ((read >>= λ entry. judged contents entry.0 >>= paired entry.1) >>= λ next. entries_from left next.0 whole next.1)
 regrouped left whole contents (Ok entry) = behind (judged contents entry.0) entry.1
   where
-    behind : (known : Result Contents FileFault) (end : ℕ) → (known >>= λ next. entries_from left next whole end) ≡ ((known >>= paired end) >>= λ next. entries_from left next.0 whole next.1)
+    behind : (known : Result Contents FileFault) (end : ℕ)
+        → (known >>= λ next. entries_from left next whole end)
+        ≡ ((known >>= paired end) >>= λ next. entries_from left next.0 whole next.1)
     behind (Ok next) end = refl
     behind (Err fault) end = refl
 regrouped left whole contents (Err fault) = refl
 
 -- one more comes
 entries_more : (left : ℕ) (contents : Contents) (whole : List ℕ) (at : ℕ) → 0 < left → wanted 1 contents.nodes ≢ 0
-    → entries_from left contents whole at ≡ (next_at contents whole at >>= λ next. entries_from (left - 1) next.0 whole next.1)
+    → entries_from left contents whole at
+    ≡ (next_at contents whole at >>= λ next. entries_from (left - 1) next.0 whole next.1)
 unfolding entries_from
 entries_more zero contents whole at some goes = absurd (omega arith)
 entries_more (suc left) contents whole at some goes =
@@ -106,7 +110,8 @@ pushed (Err (File fault)) old new whole at end r read sound put refused = next_j
 pushed (Err NoMemory) old new whole at end r read sound put refused = tt
 
 -- reading stops with the next entry
-pub stopped : {X : Type 0} (view : X → Contents) (refused : Refused) (next : Contents) (left : ℕ) (contents : Contents) (whole seen : List ℕ) (at end place : ℕ) (all : Result (Contents × ℕ) FileFault)
+pub stopped : {X : Type 0} (view : X → Contents) (refused : Refused) (next : Contents) (left : ℕ) (contents : Contents)
+    (whole seen : List ℕ) (at end place : ℕ) (all : Result (Contents × ℕ) FileFault)
     → all ≡ entries_from left contents whole at → seen ≡ whole → 0 < left → wanted 1 contents.nodes ≢ 0
     → GivesNext {X = Unit {0}} (Err refused) next end (next_at contents seen at) → GivesFor view (Err refused) place all
 stopped view (File fault) next left contents whole seen at end place all same seen_is some goes given =

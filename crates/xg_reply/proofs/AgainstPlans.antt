@@ -49,6 +49,7 @@ module _ (form : SequenceForm) (plan : List ℕ) (rows : List ℤ) (reply : Repl
       at_player (P reply) Two two are
       (λ order is are. subst P (sym (is ∙ against_plan form Two plan rows are)) (best_bounds.floor form plan order))
 
+  -- player two's choices are a plan of root 1 under which the plan's payoff is that floor
   pub attains_floor : player ≡ Two → rows ≡ player_rows form Two plan
       → AttainsFloor form plan reply.total (pure_plan form.sets_two (choices_of reply.sets))
   attains_floor two are =
@@ -64,6 +65,7 @@ module _ (form : SequenceForm) (plan : List ℕ) (rows : List ℤ) (reply : Repl
       at_player (P reply) One one are
       (λ order is are. subst P (sym (is ∙ against_plan form One plan rows are)) (best_bounds.ceiling form plan order))
 
+  -- player one's choices are a plan of root 1 under which the plan's payoff is that ceiling
   pub attains_ceiling : player ≡ One → rows ≡ player_rows form One plan
       → AttainsCeiling form plan reply.total (pure_plan form.sets_one (choices_of reply.sets))
   attains_ceiling one are =

@@ -39,12 +39,14 @@ module _ (sets : List InformationSet) (set : ℕ) (from_one : 1 ≤ set) (there 
   pub first_told : (n : ℕ) → slice_get (map (λ (p : PlacedSet). p.first) (placed sets)) (set - 1) ≡ Some n → n ≡ h.first
   first_told n read = told (λ (p : PlacedSet). p.first) (placed sets) (set - 1) n none placed_low read
 
+  -- the number of actions that is read for the set is that of the set in its place
   pub actions_told : (n : ℕ) → slice_get (map (λ (s : InformationSet). s.actions) sets) (set - 1) ≡ Some n
       → n ≡ h.actions
   actions_told n read =
       told (λ (s : InformationSet). s.actions) sets (set - 1) n (record { before = 0; actions = 0 }) low read
       ∙ sym (ap (λ (p : PlacedSet). p.actions) is_numbered)
 
+  -- the sequence before that is read for the set is that of the set in its place
   pub before_told : (n : ℕ) → slice_get (map (λ (s : InformationSet). s.before) sets) (set - 1) ≡ Some n → n ≡ h.before
   before_told n read =
       told (λ (s : InformationSet). s.before) sets (set - 1) n (record { before = 0; actions = 0 }) low read

@@ -14,7 +14,8 @@ use Rattle.xg_rights.proofs.Sums.{times_append, total_set, total_snoc, total_has
 abbrev pub rule : ℕ → State (Unit {0}) View → Type 0
 rule n s = IsKept n s.words s.views
 
-pub cuts_kept : (n : ℕ) (views : List View) (id : ℕ) (v kept given : View) → IsCut v kept given → Kept n views → get_elem? views id ≡ some v → Kept n (set views id kept ++ given ∷ [])
+pub cuts_kept : (n : ℕ) (views : List View) (id : ℕ) (v kept given : View) → IsCut v kept given → Kept n views
+    → get_elem? views id ≡ some v → Kept n (set views id kept ++ given ∷ [])
 cuts_kept n views id v kept given cut k at = record {
   rights = λ j s.
       let f : View → ℕ = λ u. times_right j s u.rights in
@@ -44,17 +45,22 @@ cuts_kept n views id v kept given cut k at = record {
       (at_snoc (set views id kept) given u seat e);
 }
 
+-- a seat's view may be cut in two with a new seat for the second part, and the rule is kept
 pub cuts : (n id : ℕ) (v kept given : View) → IsCut v kept given → Splits (rule n) id v kept given
 cuts n id v kept given cut s k at = record { word = k.word; kept = cuts_kept n s.views id v kept given cut k.kept at }
 
-poured : (n : ℕ) (views : List View) (id : ℕ) (v : View) (other : ℕ) (w : View) → (f : View → ℕ) → f (both v w) ≡ f v + f w → f spent ≡ 0 → get_elem? views id ≡ some v → get_elem? (set views id (both v w)) other ≡ some w
+poured : (n : ℕ) (views : List View) (id : ℕ) (v : View) (other : ℕ) (w : View) → (f : View → ℕ)
+    → f (both v w) ≡ f v + f w → f spent ≡ 0 → get_elem? views id ≡ some v
+    → get_elem? (set views id (both v w)) other ≡ some w
     → total f (set (set views id (both v w)) other spent) ≡ total f views
 poured n views id v other w f sum none at there =
     let a = total_set f views id v (both v w) at in
     let b = total_set f (set views id (both v w)) other w spent there in
     omega arith
 
-pub pours_kept : (n : ℕ) (views : List View) (id : ℕ) (v : View) (other : ℕ) (w : View) → 0 < v.parts → 0 < w.parts → Kept n views → get_elem? views id ≡ some v → ¬ (other ≡ id) → get_elem? (set views id (both v w)) other ≡ some w → Kept n (set (set views id (both v w)) other spent)
+pub pours_kept : (n : ℕ) (views : List View) (id : ℕ) (v : View) (other : ℕ) (w : View) → 0 < v.parts → 0 < w.parts
+    → Kept n views → get_elem? views id ≡ some v → ¬ (other ≡ id) → get_elem? (set views id (both v w)) other ≡ some w
+    → Kept n (set (set views id (both v w)) other spent)
 pours_kept n views id v other w live also k at apart there =
     let was : get_elem? views other ≡ some w = ⊎_elim (λ (x : (other ≡ id) × (both v w ≡ w)). absurd (apart x.0)) (λ (x : (other ≢ id) × (get_elem? views other ≡ some w)). x.1) (at_set views id other (both v w) w there) in
     record {
@@ -71,7 +77,9 @@ pours_kept n views id v other w live also k at apart there =
           (at_set (set views id (both v w)) other seat spent u e);
     }
 
-pub pours : (n id : ℕ) (v : View) (other : ℕ) (w : View) → 0 < v.parts → 0 < w.parts → Joins (rule n) id v other w (both v w) spent
+-- a seat may take in the view of another one, where both have a part, and the rule is kept
+pub pours : (n id : ℕ) (v : View) (other : ℕ) (w : View) → 0 < v.parts → 0 < w.parts
+    → Joins (rule n) id v other w (both v w) spent
 pours n id v other w live also s k at apart there = record { word = k.word; kept = pours_kept n s.views id v other w live also k.kept at apart there }
 
 same_word : (ws : List ℕ) → slice_index (set ws 0 (slice_index ws 0)) 0 ≡ slice_index ws 0
@@ -79,7 +87,8 @@ same_word [] = refl
 same_word (x ∷ xs) = refl
 
 -- what the rule tells of a view
-pub loaded : (n : ℕ) (views : List View) (id : ℕ) (v : View) → 0 < v.parts → Kept n views → get_elem? views id ≡ some v → IsLoaded n v
+pub loaded : (n : ℕ) (views : List View) (id : ℕ) (v : View) → 0 < v.parts → Kept n views → get_elem? views id ≡ some v
+    → IsLoaded n v
 loaded n views id v live k at =
     let idle : (g : View → ℕ) → ((u : View) → (u.rights ≡ []) × (u.tickets ≡ 0) → g u ≡ 0) → v.parts ≡ n % 128 + 66 → total g views ≡ g v = λ g zero all.
     total_only g (λ u. u.parts) views id v at (λ seat u e none. zero u ((k.fits seat u e).idle none)) (all ∙ sym k.parts) in
@@ -91,7 +100,9 @@ loaded n views id v live k at =
       all_tickets = λ all. sym (idle (λ u. u.tickets) (λ u none. none.1) all) ∙ k.tickets;
     }
 
-pub looks : (n slots id : ℕ) (me : Me (Unit {0}) View) → 0 < me.0.parts → Allows (rule n) slots id me 0 (λ x. x) (λ found now. (now ≡ me) × IsLoaded found me.0)
+-- a seat with a part may load word 0, which leaves it as it is and tells it what the rule says of its view
+pub looks : (n slots id : ℕ) (me : Me (Unit {0}) View) → 0 < me.0.parts
+    → Allows (rule n) slots id me 0 (λ x. x) (λ found now. (now ≡ me) × IsLoaded found me.0)
 looks n slots id me live s k homes at fits = (
   me.0,
   keeps,
@@ -104,6 +115,7 @@ whole_once : (n j s : ℕ) → times_right j s (rights_for (job_numbers (jobs_of
 unfolding once
 whole_once n j s = all_once j s (jobs_of n) (stripes_of n)
 
+-- the table with a number as its word and the whole as its one view keeps the rule
 pub opens : (n : ℕ) → IsKept n (n ∷ []) (whole n ∷ [])
 opens n = record {
   word = refl;
@@ -120,7 +132,10 @@ opens n = record {
     one (suc seat) v e = absurd (some-ne-none v (sym e))
 
 -- what two views are, once they met
-pub met_is : (n : ℕ) (v w : View) → IsLoaded n (both v w) → (v.number ≡ w.number) × (both v w ≡ seen (v.rights ++ w.rights) (v.tickets + w.tickets) (v.parts + w.parts) v.number) × IsLoaded v.number (both v w)
+pub met_is : (n : ℕ) (v w : View) → IsLoaded n (both v w)
+    → (v.number ≡ w.number)
+    × (both v w ≡ seen (v.rights ++ w.rights) (v.tickets + w.tickets) (v.parts + w.parts) v.number)
+    × IsLoaded v.number (both v w)
 met_is n v w loaded =
     let numbers : v.number ≡ w.number = loaded.number_is.0 ∙ sym loaded.number_is.1 in
     (numbers, (λ i. record { rights = v.rights ++ w.rights; tickets = v.tickets + w.tickets; parts = v.parts + w.parts; number = v.number; met = sym numbers i }), subst (λ m. IsLoaded m (both v w)) (sym loaded.number_is.0) loaded)

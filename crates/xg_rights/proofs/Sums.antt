@@ -38,7 +38,8 @@ times_at job stripe of (x ∷ xs) =
 
 -- all jobs' rights have each right once
 pub all_once : (job stripe jobs stripes : ℕ)
-    → times_right job stripe (rights_for (job_numbers jobs) stripes) ≡ (if nat_lt job jobs && nat_lt stripe stripes then 1 else 0)
+    → times_right job stripe (rights_for (job_numbers jobs) stripes)
+    ≡ (if nat_lt job jobs && nat_lt stripe stripes then 1 else 0)
 all_once job stripe jobs stripes =
     let for = times_for job stripe stripes (job_numbers jobs) in
     let numbers = times-job_numbers jobs job in
@@ -57,13 +58,16 @@ total_snoc f [] v = omega arith
 total_snoc f (x ∷ xs) v = omega (arith, total_snoc f xs v)
 
 -- a view counts for no more than all
-pub total_has : (f : View → ℕ) (views : List View) (seat : ℕ) (v : View) → get_elem? views seat ≡ some v → f v ≤ total f views
+pub total_has : (f : View → ℕ) (views : List View) (seat : ℕ) (v : View) → get_elem? views seat ≡ some v
+    → f v ≤ total f views
 total_has f [] seat v e = absurd (some-ne-none v (sym e))
 total_has f (x ∷ xs) zero v e = let same : f x ≡ f v = ap f (some-injective x v e) in omega arith
 total_has f (x ∷ xs) (suc seat) v e = omega (arith, total_has f xs seat v e)
 
 -- where no view has a part, and a view with no part counts for nothing, nothing is counted
-total_none : (f g : View → ℕ) (views : List View) → ((seat : ℕ) (u : View) → get_elem? views seat ≡ some u → g u ≡ 0 → f u ≡ 0) → total g views ≡ 0 → total f views ≡ 0
+total_none : (f g : View → ℕ) (views : List View)
+    → ((seat : ℕ) (u : View) → get_elem? views seat ≡ some u → g u ≡ 0 → f u ≡ 0) → total g views ≡ 0
+    → total f views ≡ 0
 total_none f g [] idle none = refl
 total_none f g (x ∷ xs) idle none =
     let here : f x ≡ 0 = idle 0 x refl (omega arith) in
@@ -71,7 +75,9 @@ total_none f g (x ∷ xs) idle none =
     omega arith
 
 -- where one view has all parts, it counts for all
-pub total_only : (f g : View → ℕ) (views : List View) (seat : ℕ) (v : View) → get_elem? views seat ≡ some v → ((seat : ℕ) (u : View) → get_elem? views seat ≡ some u → g u ≡ 0 → f u ≡ 0) → g v ≡ total g views → total f views ≡ f v
+pub total_only : (f g : View → ℕ) (views : List View) (seat : ℕ) (v : View) → get_elem? views seat ≡ some v
+    → ((seat : ℕ) (u : View) → get_elem? views seat ≡ some u → g u ≡ 0 → f u ≡ 0) → g v ≡ total g views
+    → total f views ≡ f v
 total_only f g [] seat v e idle all = absurd (some-ne-none v (sym e))
 total_only f g (x ∷ xs) zero v e idle all =
     let same : f x ≡ f v = ap f (some-injective x v e) in

@@ -22,7 +22,8 @@ brought-push entries i row below = ap (λ es. brought es row) (take_more entries
     ∙ sum_over-append (λ (entry : Entry). if eqb entry.row row then entry.amount else pos 0) (take i entries) (entry_at entries i ∷ [])
 
 -- what stands before an entry brings nothing to its row
-pub before_bring_nothing : (entries : List Entry) (i : ℕ) → AreRising entries → i < length entries → brought (take i entries) (entry_at entries i).row ≡ pos 0
+pub before_bring_nothing : (entries : List Entry) (i : ℕ) → AreRising entries → i < length entries
+    → brought (take i entries) (entry_at entries i).row ≡ pos 0
 before_bring_nothing [] i rising below = absurd (omega arith)
 before_bring_nothing (entry ∷ entries) zero rising below = refl
 before_bring_nothing (entry ∷ entries) (suc i) (above, rising) below =
@@ -36,8 +37,10 @@ pub grown_by_none : (index stripes : ℕ) (totals : List ℤ) → HasGrown [] in
 grown_by_none index stripes totals = record { length_kept = refl; grown = λ place under. sym (+ℤ-zero (slice_index_or totals place (pos 0))) }
 
 -- one entry more
-pub grown_more : (entries : List Entry) (i index stripes : ℕ) (old middle new : List ℤ) → i < length entries → HasGrown (take i entries) index stripes old middle
-    → HasGrown (entry_at entries i ∷ []) index stripes middle new → HasGrown (take (i + 1) entries) index stripes old new
+pub grown_more : (entries : List Entry) (i index stripes : ℕ) (old middle new : List ℤ) → i < length entries
+    → HasGrown (take i entries) index stripes old middle
+    → HasGrown (entry_at entries i ∷ []) index stripes middle new
+    → HasGrown (take (i + 1) entries) index stripes old new
 grown_more entries i index stripes old middle new below first second = record {
   length_kept = second.length_kept ∙ first.length_kept;
   grown = λ place under.
@@ -49,13 +52,16 @@ grown_more entries i index stripes old middle new below first second = record {
 }
 
 -- with all entries added
-pub grown_all : (entries : List Entry) (i index stripes : ℕ) (old new : List ℤ) → length entries ≤ i → HasGrown (take i entries) index stripes old new → HasGrown entries index stripes old new
+pub grown_all : (entries : List Entry) (i index stripes : ℕ) (old new : List ℤ) → length entries ≤ i
+    → HasGrown (take i entries) index stripes old new → HasGrown entries index stripes old new
 grown_all entries i index stripes old new all grown = rw (sym (take_all i entries all)) grown
 
 -- a total before the packet's entry of its row is added
-pub total_before : (entries : List Entry) (i index stripes : ℕ) (old middle : List ℤ) → AreRising entries → i < length entries → stripe_of stripes (entry_at entries i).row ≡ index
+pub total_before : (entries : List Entry) (i index stripes : ℕ) (old middle : List ℤ) → AreRising entries
+    → i < length entries → stripe_of stripes (entry_at entries i).row ≡ index
     → place_of stripes (entry_at entries i).row < length old → HasGrown (take i entries) index stripes old middle
-    → slice_index_or middle (place_of stripes (entry_at entries i).row) (pos 0) ≡ slice_index_or old (place_of stripes (entry_at entries i).row) (pos 0)
+    → slice_index_or middle (place_of stripes (entry_at entries i).row) (pos 0)
+    ≡ slice_index_or old (place_of stripes (entry_at entries i).row) (pos 0)
 total_before entries i index stripes old middle rising below here under grown =
     let row : ℕ = (entry_at entries i).row in
     let place : ℕ = row / stripes in
@@ -79,7 +85,8 @@ grown_by_other index stripes row amount totals is_stripe other = record {
 }
 
 -- a row of this stripe changes its own total
-pub grown_by_own : (index stripes row : ℕ) (amount : ℤ) (totals : List ℤ) → index < stripes → stripe_of stripes row ≡ index → place_of stripes row < length totals
+pub grown_by_own : (index stripes row : ℕ) (amount : ℤ) (totals : List ℤ) → index < stripes
+    → stripe_of stripes row ≡ index → place_of stripes row < length totals
     → HasGrown (record { row = row; amount = amount } ∷ []) index stripes totals (set totals (place_of stripes row) (slice_index_or totals (place_of stripes row) (pos 0) +ℤ amount))
 grown_by_own index stripes row amount totals is_stripe here under = record {
   length_kept = length-set totals (row / stripes) (slice_index_or totals (row / stripes) (pos 0) +ℤ amount);
@@ -105,21 +112,26 @@ grown_by_own index stripes row amount totals is_stripe here under = record {
         ∙ sym (ap (λ v. slice_index_or totals place (pos 0) +ℤ v) (other_brings row (place * stripes + index) amount other) ∙ +ℤ-zero (slice_index_or totals place (pos 0)))
 
 -- a row of the stripe has a place there
-pub place_there : (stripes rows index row : ℕ) → index < stripes → row < rows → stripe_of stripes row ≡ index → place_of stripes row < place_count stripes rows index
+pub place_there : (stripes rows index row : ℕ) → index < stripes → row < rows → stripe_of stripes row ≡ index
+    → place_of stripes row < place_count stripes rows index
 place_there stripes rows index row is_stripe is_row here =
     let is : row / stripes * stripes + index ≡ row = ap (λ r. row / stripes * stripes + r) (sym here) ∙ div-add-mod' row stripes in
     (stripes_hold_their_rows stripes rows index (row / stripes) is_stripe).1 (omega arith)
 
 -- and a place there has a row
-pub row_there : (stripes rows index place : ℕ) → index < stripes → place < place_count stripes rows index → place * stripes + index < rows
+pub row_there : (stripes rows index place : ℕ) → index < stripes → place < place_count stripes rows index
+    → place * stripes + index < rows
 row_there stripes rows index place is_stripe under = (stripes_hold_their_rows stripes rows index place is_stripe).0 under
 
-replay-push : (amount : ℕ → ℕ → ℤ) (order : List ℕ) (job row : ℕ) → replay amount (order ++ job ∷ []) row ≡ replay amount order row +ℤ amount job row
+replay-push : (amount : ℕ → ℕ → ℤ) (order : List ℕ) (job row : ℕ)
+    → replay amount (order ++ job ∷ []) row ≡ replay amount order row +ℤ amount job row
 replay-push amount order job row = sum_over-append (λ j. amount j row) order (job ∷ []) ∙ ap (λ v. replay amount order row +ℤ v) (+ℤ-zero (amount job row))
 
 -- with a job's packet added, the totals are the replay of the history with that job
-pub totals_with_job : (rows : ℕ) (amount : ℕ → ℕ → ℤ) (index stripes : ℕ) (order : List ℕ) (old new : List ℤ) (job : ℕ) (entries : List Entry) → index < stripes
-    → AreTotals rows amount index stripes order old → IsPacketOf amount rows job entries → HasGrown entries index stripes old new
+pub totals_with_job : (rows : ℕ) (amount : ℕ → ℕ → ℤ) (index stripes : ℕ) (order : List ℕ) (old new : List ℤ) (job : ℕ)
+    (entries : List Entry) → index < stripes
+    → AreTotals rows amount index stripes order old → IsPacketOf amount rows job entries
+    → HasGrown entries index stripes old new
     → AreTotals rows amount index stripes (order ++ job ∷ []) new
 totals_with_job rows amount index stripes order old new job entries is_stripe totals packet grown = record {
   length_is = grown.length_kept ∙ totals.length_is;
@@ -132,7 +144,8 @@ totals_with_job rows amount index stripes order old new job entries is_stripe to
 }
 
 -- so it is still small
-pub small_before : (entries : List Entry) (i index stripes row bound : ℕ) (old middle : List ℤ) → AreRising entries → i < length entries → row ≡ (entry_at entries i).row → stripe_of stripes row ≡ index
+pub small_before : (entries : List Entry) (i index stripes row bound : ℕ) (old middle : List ℤ) → AreRising entries
+    → i < length entries → row ≡ (entry_at entries i).row → stripe_of stripes row ≡ index
     → place_of stripes row < length old → HasGrown (take i entries) index stripes old middle
     → ((place : ℕ) → place < length old → unsigned_abs (slice_index_or old place (pos 0)) ≤ bound)
     → unsigned_abs (slice_index_or middle (place_of stripes row) (pos 0)) ≤ bound
@@ -141,13 +154,17 @@ small_before entries i index stripes row bound old middle rising below row_is =
     (sym row_is) (λ here under grown small. rw (total_before entries i index stripes old middle rising below here under grown) (small (place_of stripes (entry_at entries i).row) under))
 
 -- an entry of a packet: its row is one of the rows, and its amount the job's there
-pub entry_of_packet : (amount : ℕ → ℕ → ℤ) (rows job : ℕ) (entries : List Entry) (i : ℕ) → IsPacketOf amount rows job entries → i < length entries
+pub entry_of_packet : (amount : ℕ → ℕ → ℤ) (rows job : ℕ) (entries : List Entry) (i : ℕ)
+    → IsPacketOf amount rows job entries → i < length entries
     → ((entry_at entries i).row < rows) × ((entry_at entries i).amount ≡ amount job (entry_at entries i).row)
 entry_of_packet amount rows job entries i packet below = (packet.are_rows i (record { row = 0; amount = pos 0 }) below, packet.have_amounts i (record { row = 0; amount = pos 0 }) below)
 
 -- one entry more, as it was read
-pub grown_by_read : (entries : List Entry) (i index stripes row : ℕ) (amount : ℤ) (old middle new : List ℤ) → i < length entries → row ≡ (entry_at entries i).row → amount ≡ (entry_at entries i).amount
-    → HasGrown (take i entries) index stripes old middle → HasGrown (record { row = row; amount = amount } ∷ []) index stripes middle new → HasGrown (take (i + 1) entries) index stripes old new
+pub grown_by_read : (entries : List Entry) (i index stripes row : ℕ) (amount : ℤ) (old middle new : List ℤ)
+    → i < length entries → row ≡ (entry_at entries i).row → amount ≡ (entry_at entries i).amount
+    → HasGrown (take i entries) index stripes old middle
+    → HasGrown (record { row = row; amount = amount } ∷ []) index stripes middle new
+    → HasGrown (take (i + 1) entries) index stripes old new
 grown_by_read entries i index stripes row amount old middle new below row_is amount_is first second =
     let is : record { row = row; amount = amount } ≡ entry_at entries i = (λ k. record { row = row_is k; amount = amount_is k }) in
     grown_more entries i index stripes old middle new below first (subst (λ (e : Entry). HasGrown (e ∷ []) index stripes middle new) is second)

@@ -7,7 +7,8 @@ use Rattle.xg_rowcore.specs.Packets.{entries_from, entry_at}
 
 -- another amount at a place is another entry there, of the same row
 pub entries_from-set : (rows : List ℕ) (amounts : List ℤ) (i : ℕ) (amount : ℤ) → length rows ≡ length amounts
-    → entries_from rows (set amounts i amount) ≡ set (entries_from rows amounts) i (record { row = (entry_at (entries_from rows amounts) i).row; amount = amount })
+    → entries_from rows (set amounts i amount)
+    ≡ set (entries_from rows amounts) i (record { row = (entry_at (entries_from rows amounts) i).row; amount = amount })
 entries_from-set [] amounts i amount same = refl
 entries_from-set (row ∷ rows) [] i amount same = refl
 entries_from-set (row ∷ rows) (was ∷ amounts) zero amount same = refl

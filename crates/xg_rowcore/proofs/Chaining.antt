@@ -65,7 +65,8 @@ past_place stripes stripe rows i place apart behind = record {
 -- one place more is linked
 pub linked_more : (i stripe stripes : ℕ) (rows first next : List ℕ) → stripe ≡ stripe_of stripes (slice_index rows i)
     → i < length rows → i < length next → stripe < length first → stripe < stripes
-    → AreChains (i + 1) stripes rows first next → AreChains i stripes rows (set first stripe i) (set next i (slice_index first stripe))
+    → AreChains (i + 1) stripes rows first next
+    → AreChains i stripes rows (set first stripe i) (set next i (slice_index first stripe))
 linked_more i stripe stripes rows first next stripe_is below there known few linked = record {
   firsts = λ other under.
       ⊎_elim
@@ -142,6 +143,7 @@ pub found_inside : (entries : List Entry) (stripes stripe from place : ℕ)
     → IsNextOf stripes stripe (rows_of entries) from place → place ≤ length entries
 found_inside entries stripes stripe from place found = omega (arith, found.inside, length-map entries (λ (entry : Entry). entry.row))
 
+-- what is found before the end is an entry whose row lies in the stripe
 pub found_own : (entries : List Entry) (stripes stripe from place : ℕ)
     → IsNextOf stripes stripe (rows_of entries) from place → place < length entries
     → stripe_of stripes (entry_at entries place).row ≡ stripe

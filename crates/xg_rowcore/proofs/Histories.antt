@@ -28,12 +28,14 @@ length_legal jobs order legal =
     omega (arith, small, is, ones order, ones (job_numbers jobs), length-range 0 jobs)
 
 -- its replay is small where the amounts are
-pub replay_small : (amount : ℕ → ℕ → ℤ) (jobs : ℕ) (order : List ℕ) (row bound : ℕ) → IsLegal jobs order → nat_sum_over (λ job. unsigned_abs (amount job row)) (job_numbers jobs) ≤ bound
+pub replay_small : (amount : ℕ → ℕ → ℤ) (jobs : ℕ) (order : List ℕ) (row bound : ℕ) → IsLegal jobs order
+    → nat_sum_over (λ job. unsigned_abs (amount job row)) (job_numbers jobs) ≤ bound
     → unsigned_abs (replay amount order row) ≤ bound
 replay_small amount jobs order row bound legal small = let a = legal_replays_are_small jobs order legal amount row in omega arith
 
 -- and so is each amount
-pub amount_small : (amount : ℕ → ℕ → ℤ) (jobs job row bound : ℕ) → job < jobs → nat_sum_over (λ j. unsigned_abs (amount j row)) (job_numbers jobs) ≤ bound → unsigned_abs (amount job row) ≤ bound
+pub amount_small : (amount : ℕ → ℕ → ℤ) (jobs job row bound : ℕ) → job < jobs
+    → nat_sum_over (λ j. unsigned_abs (amount j row)) (job_numbers jobs) ≤ bound → unsigned_abs (amount job row) ≤ bound
 amount_small amount jobs job row bound is small = let a = at_most_sum (λ j. unsigned_abs (amount j row)) 0 jobs job (omega arith) (omega arith) in omega arith
 
 times-push : (job new : ℕ) (xs : List ℕ) → times job (xs ++ new ∷ []) ≡ times job xs + cond (eqb new job) 1 0
@@ -45,7 +47,8 @@ All_push P [] x all is = All-cons P x [] is (All-nil P)
 All_push P (y ∷ ys) x all is = All-cons P y (ys ++ x ∷ []) (all 0 y (omega arith)) (All_push P ys x (λ k d inside. all (suc k) d (omega arith)) is)
 
 -- a job that isn't in a legal history may follow
-pub legal_push : (jobs : ℕ) (order : List ℕ) (job : ℕ) → IsLegal jobs order → job < jobs → (Contains order job → ⊥) → IsLegal jobs (order ++ job ∷ [])
+pub legal_push : (jobs : ℕ) (order : List ℕ) (job : ℕ) → IsLegal jobs order → job < jobs → (Contains order job → ⊥)
+    → IsLegal jobs (order ++ job ∷ [])
 legal_push jobs order job legal is new = record { once = once; named = All_push (λ j. j < jobs) order job legal.named is }
   where
     none : times job order ≡ 0

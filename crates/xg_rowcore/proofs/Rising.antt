@@ -6,14 +6,16 @@ use Rattle.def_history.specs.Packets.{Entry, AreRising}
 use Rattle.xg_rowcore.specs.Packets.{entries_from, entry_at, IsAboveLast}
 
 -- as many entries as rows
-pub length-entries_from : (rows : List ℕ) (amounts : List ℤ) → length rows ≡ length amounts → length (entries_from rows amounts) ≡ length rows
+pub length-entries_from : (rows : List ℕ) (amounts : List ℤ) → length rows ≡ length amounts
+    → length (entries_from rows amounts) ≡ length rows
 length-entries_from [] amounts same = refl
 length-entries_from (row ∷ rows) [] same = absurd (omega arith)
 length-entries_from (row ∷ rows) (amount ∷ amounts) same = let rest = length-entries_from rows amounts (omega arith) in omega arith
 
 -- an entry has the row and the amount of its place
 pub entry_at-entries_from : (rows : List ℕ) (amounts : List ℤ) (i : ℕ) → length rows ≡ length amounts → i < length rows
-    → entry_at (entries_from rows amounts) i ≡ record { row = slice_index rows i; amount = slice_index_or amounts i (pos 0) }
+    → entry_at (entries_from rows amounts) i
+    ≡ record { row = slice_index rows i; amount = slice_index_or amounts i (pos 0) }
 entry_at-entries_from [] amounts i same below = absurd (omega arith)
 entry_at-entries_from (row ∷ rows) [] i same below = absurd (omega arith)
 entry_at-entries_from (row ∷ rows) (amount ∷ amounts) zero same below = refl
@@ -21,14 +23,16 @@ entry_at-entries_from (row ∷ rows) (amount ∷ amounts) (suc i) same below = e
 
 -- a row and an amount more are an entry more
 pub entries_from-push : (rows : List ℕ) (amounts : List ℤ) (row : ℕ) (amount : ℤ) → length rows ≡ length amounts
-    → entries_from (rows ++ row ∷ []) (amounts ++ amount ∷ []) ≡ entries_from rows amounts ++ record { row = row; amount = amount } ∷ []
+    → entries_from (rows ++ row ∷ []) (amounts ++ amount ∷ [])
+    ≡ entries_from rows amounts ++ record { row = row; amount = amount } ∷ []
 entries_from-push [] [] row amount same = refl
 entries_from-push [] (b ∷ amounts) row amount same = absurd (omega arith)
 entries_from-push (r ∷ rows) [] row amount same = absurd (omega arith)
 entries_from-push (r ∷ rows) (b ∷ amounts) row amount same = ap (λ rest. record { row = r; amount = b } ∷ rest) (entries_from-push rows amounts row amount (omega arith))
 
 -- what is above the last of rising entries is above the first
-above_first : (entry : Entry) (entries : List Entry) (row : ℕ) → AreRising (entry ∷ entries) → IsAboveLast (entry ∷ entries) row → entry.row < row
+above_first : (entry : Entry) (entries : List Entry) (row : ℕ) → AreRising (entry ∷ entries)
+    → IsAboveLast (entry ∷ entries) row → entry.row < row
 above_first entry [] row rising above = above entry refl
 above_first entry (next ∷ entries) row (first, rising) above =
     let later = above_first next entries row rising above in
@@ -40,7 +44,8 @@ All_push P [] x all is = All-cons P x [] is (All-nil P)
 All_push P (y ∷ ys) x all is = All-cons P y (ys ++ x ∷ []) (all 0 y (omega arith)) (All_push P ys x (λ k d inside. all (suc k) d (omega arith)) is)
 
 -- rising entries and one above the last of them rise
-pub rising_push : (entries : List Entry) (entry : Entry) → AreRising entries → IsAboveLast entries entry.row → AreRising (entries ++ entry ∷ [])
+pub rising_push : (entries : List Entry) (entry : Entry) → AreRising entries → IsAboveLast entries entry.row
+    → AreRising (entries ++ entry ∷ [])
 rising_push [] entry rising above = (All-nil (λ (later : Entry). entry.row < later.row), tt)
 rising_push (first ∷ []) entry (before, rising) above =
     (All-cons (λ (later : Entry). first.row < later.row) entry [] (above first refl) (All-nil (λ (later : Entry). first.row < later.row)), (All-nil (λ (later : Entry). entry.row < later.row), tt))
@@ -57,7 +62,8 @@ above_all (first ∷ []) row all last is = rw (sym (only_first first last is)) (
 above_all (first ∷ next ∷ entries) row all last is = above_all (next ∷ entries) row (λ k d inside. all (suc k) d (omega arith)) last is
 
 -- an element of a list, whatever stands for one past its end
-pub same_element : {A : Type 0} (xs : List A) (k : ℕ) (d e : A) → k < length xs → slice_index_or xs k d ≡ slice_index_or xs k e
+pub same_element : {A : Type 0} (xs : List A) (k : ℕ) (d e : A) → k < length xs
+    → slice_index_or xs k d ≡ slice_index_or xs k e
 same_element [] k d e below = absurd (omega arith)
 same_element (x ∷ xs) zero d e below = refl
 same_element (x ∷ xs) (suc k) d e below = same_element xs k d e (omega arith)

@@ -18,5 +18,6 @@ none_is_small row none = omega arith
 abbrev pub twofold : ℕ → ℕ → ℤ
 twofold job row = pos (row * (job + 1))
 
-pub twofold_is_small : (row : ℕ) → row < 3 → nat_sum_over (λ (job : ℕ). unsigned_abs (twofold job row)) (job_numbers 2) ≤ most_row
+pub twofold_is_small : (row : ℕ) → row < 3
+    → nat_sum_over (λ (job : ℕ). unsigned_abs (twofold job row)) (job_numbers 2) ≤ most_row
 twofold_is_small row below = omega arith

@@ -75,11 +75,14 @@ module _ (game : GameFile) where
     few_children : x.children ≤ 1024
     few_children = children-le (map (λ (w : Visit). w.node) (take n (visits game.tree))) x (subst (Fits (map (λ (w : Visit). w.node) (take n (visits game.tree)))) is_node next.fits)
 
-    chance_kind : (set : ℕ) (b : Bool) → is_same_kind Chance x.kind ≡ b → cond b (Some x.set) None ≡ Some set → (x.kind ≡ Chance) × (x.set ≡ set)
+    chance_kind : (set : ℕ) (b : Bool) → is_same_kind Chance x.kind ≡ b → cond b (Some x.set) None ≡ Some set
+        → (x.kind ≡ Chance) × (x.set ≡ set)
     chance_kind set true chance e = (is_same_kind-true Chance x.kind chance, cc)
     chance_kind set false other e = cc
 
-    chance_set_there : (set : ℕ) → chance_set_of x ≡ Some set → (1 ≤ set) × (set ≤ length game.sets.chance) × (1 + x.children ≡ length (set_at game.sets.chance (set - 1)).actions + 1)
+    chance_set_there : (set : ℕ) → chance_set_of x ≡ Some set
+        → (1 ≤ set) × (set ≤ length game.sets.chance)
+        × (1 + x.children ≡ length (set_at game.sets.chance (set - 1)).actions + 1)
     chance_set_there set e =
         let is = chance_kind set (is_same_kind Chance x.kind) refl e in
         let known = in_chance_set game whole n x read is.0 in
@@ -87,7 +90,8 @@ module _ (game : GameFile) where
         subst InTable is.1 (known.from_one, known.there, omega (arith, known.actions))
 
     -- the first tree under the innermost is entered
-    enter_first : (below beside : Forest) (above : ℕ → List Move) (action : ℕ) (later : List Visit) (innermost : OpenNode) (outer : List OpenNode) (numbers : PathNumbers) →
+    enter_first : (below beside : Forest) (above : ℕ → List Move) (action : ℕ) (later : List Visit)
+        (innermost : OpenNode) (outer : List OpenNode) (numbers : PathNumbers) →
         IsOpenOver game (record { above = above; action = action; trees = grown x below beside }) innermost → Stand outer later → numbers ≡ numbers_of tables (record { path = above action; node = x }) →
         Stand (with_open x numbers (without_next innermost outer)) (visits_from (λ next. record { node = x; action = next } ∷ above action) 1 below ++ (visits_from above (action + 1) beside ++ later))
     enter_first below beside above action later innermost outer numbers over stand are =
@@ -132,9 +136,11 @@ module _ (game : GameFile) where
       room : innermost.action + innermost.to_come ≤ 1025
       come : MayCome game innermost
       at : numbers_below tables innermost x ≡ numbers_of tables v
-      entered : (numbers : PathNumbers) → numbers ≡ numbers_of tables v → Stand (with_open x numbers (without_next innermost outer)) (drop (n + 1) (visits game.tree))
+      entered : (numbers : PathNumbers) → numbers ≡ numbers_of tables v
+          → Stand (with_open x numbers (without_next innermost outer)) (drop (n + 1) (visits game.tree))
 
-    tells : (innermost : OpenNode) (outer : List OpenNode) → Stand (innermost ∷ outer) (drop n (visits game.tree)) → Tells innermost outer
+    tells : (innermost : OpenNode) (outer : List OpenNode) → Stand (innermost ∷ outer) (drop n (visits game.tree))
+        → Tells innermost outer
     tells innermost outer (trees, later, over, to_come, stand) =
         let some : 1 ≤ innermost.to_come = over.some in
         let count : tree_count trees.trees ≡ innermost.to_come = over.count in
@@ -177,17 +183,22 @@ module _ (game : GameFile) where
     has_next (innermost ∷ outer) stand = let told = tells innermost outer stand in (told.some, omega (arith, told.room, told.some))
 
     -- which may come
-    pub next_may_come : (nodes : List OpenNode) → Stand nodes (drop n (visits game.tree)) → (new : List OpenNode) (taken : OpenNode) → TakesNextChild nodes new taken → MayCome game taken
+    pub next_may_come : (nodes : List OpenNode) → Stand nodes (drop n (visits game.tree))
+        → (new : List OpenNode) (taken : OpenNode) → TakesNextChild nodes new taken → MayCome game taken
     next_may_come [] stand new taken takes = absurd takes
     next_may_come (innermost ∷ outer) stand new taken takes = subst (MayCome game) (sym takes.0) (tells innermost outer stand).come
 
     -- its numbers are those of the next node
-    pub next_numbers : (nodes : List OpenNode) → Stand nodes (drop n (visits game.tree)) → (new : List OpenNode) (taken : OpenNode) → TakesNextChild nodes new taken → numbers_below tables taken x ≡ numbers_of tables v
+    pub next_numbers : (nodes : List OpenNode) → Stand nodes (drop n (visits game.tree))
+        → (new : List OpenNode) (taken : OpenNode) → TakesNextChild nodes new taken
+        → numbers_below tables taken x ≡ numbers_of tables v
     next_numbers [] stand new taken takes = absurd takes
     next_numbers (innermost ∷ outer) stand new taken takes = ap (λ o. numbers_below tables o x) takes.0 ∙ (tells innermost outer stand).at
 
     -- with the next node, the open nodes stand over the nodes behind it
-    pub open_next : (nodes : List OpenNode) → Stand nodes (drop n (visits game.tree)) → (new : List OpenNode) (taken : OpenNode) (numbers : PathNumbers) → TakesNextChild nodes new taken → numbers ≡ numbers_of tables v →
+    pub open_next : (nodes : List OpenNode) → Stand nodes (drop n (visits game.tree))
+        → (new : List OpenNode) (taken : OpenNode) (numbers : PathNumbers) → TakesNextChild nodes new taken
+        → numbers ≡ numbers_of tables v →
         Stand (with_open x numbers new) (drop (n + 1) (visits game.tree))
     open_next [] stand new taken numbers takes are = absurd takes
     open_next (innermost ∷ outer) stand new taken numbers takes are =

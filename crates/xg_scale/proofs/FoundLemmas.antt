@@ -36,13 +36,15 @@ module _ (tree : Forest) (test : NodeTest) where
     found_later none = here ∙ ap (λ o. or_else o (found_after (n + 1))) none
 
     -- a node's fault is found
-    pub found_here : (o : Option GameFault) (fault : FileFault) → test (take n (visits tree)) v ≡ o → IsFaultOf o fault → IsFaultOf (found_after n) fault
+    pub found_here : (o : Option GameFault) (fault : FileFault) → test (take n (visits tree)) v ≡ o → IsFaultOf o fault
+        → IsFaultOf (found_after n) fault
     found_here None fault is found = cc
     found_here (Some x) fault is found =
         let first : found_after n ≡ Some x = here ∙ ap (λ o. or_else o (found_after (n + 1))) is in
         ap (λ o. as_file_fault o) first ∙ found
 
     -- and what refuses by it refuses by what is found
-    pub refuses_here : (o : Option GameFault) (refusal : Refused) → test (take n (visits tree)) v ≡ o → RefusesBy o refusal → RefusesBy (found_after n) refusal
+    pub refuses_here : (o : Option GameFault) (refusal : Refused) → test (take n (visits tree)) v ≡ o
+        → RefusesBy o refusal → RefusesBy (found_after n) refusal
     refuses_here o (File fault) is refuses = found_here o fault is refuses
     refuses_here o NoMemory is refuses = tt

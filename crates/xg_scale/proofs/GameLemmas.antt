@@ -67,7 +67,8 @@ probability_read game set i f from_one there read =
 
 -- and it is the action's probability
 pub probability_is : (game : GameFile) (set action : ℕ) (f : Fraction) → 1 ≤ set → set ≤ length game.sets.chance
-    → option_map (λ (a : Action). a.chance) (slice_get (set_at game.sets.chance (set - 1)).actions (action - 1)) ≡ Some f
+    → option_map (λ (a : Action). a.chance) (slice_get (set_at game.sets.chance (set - 1)).actions (action - 1))
+    ≡ Some f
     →
     probability (tables_of game) set action ≡ f
 probability_is game set action f from_one there read =

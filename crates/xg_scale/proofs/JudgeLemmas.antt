@@ -25,7 +25,8 @@ use Rattle.xg_scale.proofs.FoundLemmas.{found_later, number_next, refuses_here}
 
 -- the leaves among some nodes and one more node
 pub expected_more : (tables : Tables) (before : List Visit) (v : Visit)
-    → expected_at tables (before ++ v ∷ []) ≡ expected_at tables before ++ cond (is_leaf_kind v.node.kind) (expected tables v ∷ []) []
+    → expected_at tables (before ++ v ∷ [])
+    ≡ expected_at tables before ++ cond (is_leaf_kind v.node.kind) (expected tables v ∷ []) []
 expected_more tables before v =
     ap (map (expected tables)) (filter-append (λ (w : Visit). is_leaf_kind w.node.kind) before (v ∷ []))
     ∙ map-append (expected tables) (filter (λ (w : Visit). is_leaf_kind w.node.kind) before) (filter (λ (w : Visit). is_leaf_kind w.node.kind) (v ∷ []))
@@ -80,28 +81,36 @@ module _ (tables : Tables) (lowest : AreFractions tables) (tree : Forest) (game 
       (passing (nat_le (unit i) most) (Scale (number i)) None))
 
   -- what a walk looks for, by the numbers of the path
-  node_judged : node_fault tables before v ≡ cond (all_fit (numbers_of tables v)) (judged_node (n + 1) x (unit_so_far tables before) (numbers_of tables v)) (Some (Scale (n + 1)))
+  node_judged : node_fault tables before v ≡ cond (all_fit (numbers_of tables v))
+      (judged_node (n + 1) x (unit_so_far tables before) (numbers_of tables v)) (Some (Scale (n + 1)))
   node_judged =
       all_passing (fits (reach tables v.path)) (fits (payoff_one tables v)) (fits (payoff_two tables v)) (Scale (number_after before)) (cond (is_leaf_kind v.node.kind) (leaf_fault tables before v) None)
       ∙ (λ i. cond (all_fit (numbers_of tables v)) (judged i) (Some (Scale (number i))))
     where
-      judged : cond (is_leaf_kind v.node.kind) (leaf_fault tables before v) None ≡ judged_node (n + 1) x (unit_so_far tables before) (numbers_of tables v)
+      judged : cond (is_leaf_kind v.node.kind)
+          (leaf_fault tables before v) None ≡ judged_node (n + 1) x (unit_so_far tables before) (numbers_of tables v)
       judged = by (is_leaf_kind x.kind) refl
         where
-          by : (b : Bool) → is_leaf_kind x.kind ≡ b → cond (is_leaf_kind v.node.kind) (leaf_fault tables before v) None ≡ cond (is_leaf_kind x.kind) (judged_leaf (n + 1) (unit_so_far tables before) (numbers_of tables v)) None
+          by : (b : Bool) → is_leaf_kind x.kind ≡ b
+              → cond (is_leaf_kind v.node.kind) (leaf_fault tables before v) None
+              ≡ cond (is_leaf_kind x.kind) (judged_leaf (n + 1) (unit_so_far tables before) (numbers_of tables v)) None
           by true leaf = ap (λ b. cond b (leaf_fault tables before v) None) (is_leaf ∙ leaf) ∙ leaf_judged (is_leaf ∙ leaf) ∙ sym (ap (λ b. cond b (judged_leaf (n + 1) (unit_so_far tables before) (numbers_of tables v)) None) leaf)
           by false inner = ap (λ b. cond b (leaf_fault tables before v) None) (is_leaf ∙ inner) ∙ sym (ap (λ b. cond b (judged_leaf (n + 1) (unit_so_far tables before) (numbers_of tables v)) None) inner)
 
   -- the unit with one more node
-  pub unit_more : unit_so_far tables (take (n + 1) (visits tree)) ≡ unit_with x (unit_so_far tables before) (numbers_of tables v)
+  pub unit_more : unit_so_far tables (take (n + 1) (visits tree)) ≡ unit_with x (unit_so_far tables before)
+      (numbers_of tables v)
   unit_more = ap (unit_so_far tables) next.taken ∙ by (is_leaf_kind x.kind) refl
     where
-      by : (b : Bool) → is_leaf_kind x.kind ≡ b → unit_so_far tables (before ++ v ∷ []) ≡ cond (is_leaf_kind x.kind) (lcm (expected tables v).den (unit_so_far tables before)) (unit_so_far tables before)
+      by : (b : Bool) → is_leaf_kind x.kind ≡ b
+          → unit_so_far tables (before ++ v ∷ [])
+          ≡ cond (is_leaf_kind x.kind) (lcm (expected tables v).den (unit_so_far tables before)) (unit_so_far tables before)
       by true leaf = ((running tables lowest).grow 0 before v).leaf_unit (is_leaf ∙ leaf) ∙ sym (ap (λ b. cond b (lcm (expected tables v).den (unit_so_far tables before)) (unit_so_far tables before)) leaf)
       by false inner = ((running tables lowest).grow 0 before v).inner_unit (is_leaf ∙ inner) ∙ sym (ap (λ b. cond b (lcm (expected tables v).den (unit_so_far tables before)) (unit_so_far tables before)) inner)
 
   -- what one more node is expected to pay
-  pub expected_with : expected_at tables (take (n + 1) (visits tree)) ≡ expected_at tables before ++ with_expected x (numbers_of tables v)
+  pub expected_with : expected_at tables (take (n + 1) (visits tree))
+      ≡ expected_at tables before ++ with_expected x (numbers_of tables v)
   expected_with = ap (expected_at tables) next.taken ∙ expected_more tables before v ∙ ap (λ b. expected_at tables before ++ cond b (expected tables v ∷ []) []) is_leaf
 
   -- a node whose numbers fit and that is judged to have no fault is passed over

@@ -51,7 +51,8 @@ module _ (tables : Tables) (lowest : AreFractions tables) (tree : Forest) (game 
   is_leaf = ap (λ (y : Node). is_leaf_kind y.kind) is_node
 
   all_split : is_leaf_kind x.kind ≡ true
-      → all_expected tables tree ≡ expected_at tables before ++ (expected tables v ∷ expected_at tables (drop (k + 1) (visits tree)))
+      → all_expected tables tree
+      ≡ expected_at tables before ++ (expected tables v ∷ expected_at tables (drop (k + 1) (visits tree)))
   all_split leaf =
       ap (expected_at tables) (sym (take-append-drop k (visits tree)) ∙ ap (λ vs. before ++ vs) next.cons)
       ∙ expected-append tables before (v ∷ drop (k + 1) (visits tree))
@@ -78,16 +79,20 @@ module _ (tables : Tables) (lowest : AreFractions tables) (tree : Forest) (game 
         omega (arith, count, ap length are.fractions, ap length (all_split leaf), length-append (expected_at tables before) (expected tables v ∷ expected_at tables (drop (k + 1) (visits tree))))
 
     -- and it is what the leaf is expected to pay
-    pub fraction_is : is_leaf_kind x.kind ≡ true → (f d : Fraction) → get_or found.fractions.items (length w.leaves.items) d ≡ f → expected tables v ≡ f
+    pub fraction_is : is_leaf_kind x.kind ≡ true → (f d : Fraction)
+        → get_or found.fractions.items (length w.leaves.items) d ≡ f → expected tables v ≡ f
     fraction_is leaf f d at =
         sym (get_or-append_seam (expected_at tables before) (expected tables v) (expected_at tables (drop (k + 1) (visits tree))) d)
         ∙ (λ i. get_or (sym (are.fractions ∙ all_split leaf) i) (sym count i) d) ∙ at
 
-    mass_with : is_leaf_kind x.kind ≡ true → mass_so_far tables unit (before ++ v ∷ []) ≡ w.mass + unsigned_abs (weight_of unit (expected tables v))
+    mass_with : is_leaf_kind x.kind ≡ true
+        → mass_so_far tables unit (before ++ v ∷ []) ≡ w.mass + unsigned_abs (weight_of unit (expected tables v))
     mass_with leaf = ((running tables lowest).grow unit before v).leaf_mass (is_leaf ∙ leaf) ∙ ap (λ m. m + unsigned_abs (weight_of unit (expected tables v))) (sym h.mass_is)
 
     -- a leaf more, within the limit
-    pub weighed_leaf : is_leaf_kind x.kind ≡ true → (f : Fraction) → expected tables v ≡ f → w.mass + unsigned_abs (weight_of unit f) ≤ most → (new : Weighed) → new.mass ≡ w.mass + unsigned_abs (weight_of unit f) →
+    pub weighed_leaf : is_leaf_kind x.kind ≡ true → (f : Fraction) → expected tables v ≡ f
+        → w.mass + unsigned_abs (weight_of unit f) ≤ most → (new : Weighed)
+        → new.mass ≡ w.mass + unsigned_abs (weight_of unit f) →
         new.leaves.items ≡ w.leaves.items ++ weight_of unit f ∷ [] → HasWeighed tables tree unit (k + 1) new
     weighed_leaf leaf f pays fits new mass leaves =
         let total : mass_so_far tables unit (before ++ v ∷ []) ≡ w.mass + unsigned_abs (weight_of unit f) = mass_with leaf ∙ ap (λ g. w.mass + unsigned_abs (weight_of unit g)) pays in
@@ -101,7 +106,9 @@ module _ (tables : Tables) (lowest : AreFractions tables) (tree : Forest) (game 
         }
 
     -- a leaf more, past it
-    pub weighed_past : is_leaf_kind x.kind ≡ true → (f : Fraction) → expected tables v ≡ f → most < w.mass + unsigned_abs (weight_of unit f) → (refusal : Refused) → RefusesBy (Some (Scale (k + 1))) refusal →
+    pub weighed_past : is_leaf_kind x.kind ≡ true → (f : Fraction) → expected tables v ≡ f
+        → most < w.mass + unsigned_abs (weight_of unit f) → (refusal : Refused)
+        → RefusesBy (Some (Scale (k + 1))) refusal →
         RefusesBy (found_by (mass_fault tables unit) [] (visits tree)) refusal
     weighed_past leaf f pays past refusal refuses =
         let total : mass_so_far tables unit (before ++ v ∷ []) ≡ w.mass + unsigned_abs (weight_of unit f) = mass_with leaf ∙ ap (λ g. w.mass + unsigned_abs (weight_of unit g)) pays in

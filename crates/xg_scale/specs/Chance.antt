@@ -23,6 +23,7 @@ set_fault Sums number fractions = adding_fault number nothing fractions
 
 -- nothing is found at the first k nodes, which are in so many chance sets
 pub record PassedSets (test : SetTest) (tables : Tables) (tree : Forest) (k seen : ℕ) : Type 0 where
-  pub rest : found_by (test_of test tables) [] (visits tree) ≡ found_by (test_of test tables) (take k (visits tree)) (drop k (visits tree))
+  pub rest : found_by (test_of test tables) [] (visits tree) ≡ found_by (test_of test tables) (take k (visits tree))
+      (drop k (visits tree))
   pub seen_is : seen ≡ set_count Chance (map (λ (v : Visit). v.node) (take k (visits tree)))
   pub sets : (set : ℕ) → 1 ≤ set → set ≤ seen → set_fault test 0 (probabilities tables set) ≡ None

@@ -57,7 +57,8 @@ pub record IsOpenOver (game : GameFile) (trees : ComingTrees) (parent : OpenNode
   pub set : (set : ℕ) → parent.chance_set ≡ Some set →
       (1 ≤ set) × (set ≤ length game.sets.chance) × (parent.action + parent.to_come ≡ length (set_at game.sets.chance (set - 1)).actions + 1)
   pub reach_is : (j : ℕ)
-      → reach (tables_of game) (trees.above (trees.action + j)) ≡ reach_below (tables_of game) parent.chance_set (parent.action + j) parent.numbers.reach
+      → reach (tables_of game) (trees.above (trees.action + j))
+      ≡ reach_below (tables_of game) parent.chance_set (parent.action + j) parent.numbers.reach
   pub one : (j : ℕ)
       → path_payoff (λ payoffs. payoffs.one) (tables_of game) (trees.above (trees.action + j)) ≡ parent.numbers.one
   pub two : (j : ℕ)
@@ -65,7 +66,8 @@ pub record IsOpenOver (game : GameFile) (trees : ComingTrees) (parent : OpenNode
 
 -- the first k nodes were entered, and have no fault
 pub record HasWalked (game : GameFile) (k : ℕ) (walk : Walk) : Type 0 where
-  pub rest : found_by (node_fault (tables_of game)) [] (visits game.tree) ≡ found_by (node_fault (tables_of game)) (take k (visits game.tree)) (drop k (visits game.tree))
+  pub rest : found_by (node_fault (tables_of game)) [] (visits game.tree) ≡ found_by (node_fault (tables_of game))
+      (take k (visits game.tree)) (drop k (visits game.tree))
   pub unit : walk.expected.unit ≡ unit_so_far (tables_of game) (take k (visits game.tree))
   pub limit : walk.expected.unit ≤ most
   pub fractions : walk.expected.fractions.items ≡ expected_at (tables_of game) (take k (visits game.tree))

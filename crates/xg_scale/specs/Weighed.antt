@@ -28,7 +28,8 @@ pub record IsLeafWeighed (before : ℕ) (given : ℤ) (leaf : WeighedLeaf) : Typ
 
 -- the leaves among the first k nodes were weighed in this unit, and have no fault
 pub record HasWeighed (tables : Tables) (tree : Forest) (unit k : ℕ) (weighed : Weighed) : Type 0 where
-  pub rest : found_by (mass_fault tables unit) [] (visits tree) ≡ found_by (mass_fault tables unit) (take k (visits tree)) (drop k (visits tree))
+  pub rest : found_by (mass_fault tables unit) [] (visits tree) ≡ found_by (mass_fault tables unit)
+      (take k (visits tree)) (drop k (visits tree))
   pub mass_is : weighed.mass ≡ mass_so_far tables unit (take k (visits tree))
   pub limit : weighed.mass ≤ most
   pub leaves_are : weighed.leaves.items ≡ map (weight_of unit) (expected_at tables (take k (visits tree)))

@@ -35,7 +35,8 @@ leaf_at tree v weight = record { sequence_one = sequence_at One tree v; sequence
 
 leaves_with-append : (tree : Forest) (vs : List Visit) (v : Visit) (weights : List ℤ) (d : ℤ)
     → length vs < length weights
-    → leaves_with tree (vs ++ v ∷ []) weights ≡ leaves_with tree vs weights ++ leaf_at tree v (get_or weights (length vs) d) ∷ []
+    → leaves_with tree (vs ++ v ∷ []) weights
+    ≡ leaves_with tree vs weights ++ leaf_at tree v (get_or weights (length vs) d) ∷ []
 leaves_with-append tree vs v [] d few = absurd (omega arith)
 leaves_with-append tree [] v (w ∷ weights) d few = refl
 leaves_with-append tree (u ∷ vs) v (w ∷ weights) d few = ap (λ zs. leaf_at tree u w ∷ zs) (leaves_with-append tree vs v weights d (omega arith))
@@ -91,14 +92,17 @@ module _ (tree : Forest) (game : IsGameTree tree) (k : ℕ) (there : k < node_co
     pub weight_there : is_leaf_kind x.kind ≡ true → length leaves < length weights
     weight_there is = omega (arith, count, room is)
 
-    told : (kind : Kind) (s : ℕ) → slice_get (map (sequence_at kind tree) (visits tree)) (k + 1 - 1) ≡ Some s → s ≡ sequence_at kind tree v
+    told : (kind : Kind) (s : ℕ) → slice_get (map (sequence_at kind tree) (visits tree)) (k + 1 - 1) ≡ Some s
+        → s ≡ sequence_at kind tree v
     told kind s got =
         let index : k + 1 - 1 ≡ k = omega arith in
         sym (get_or_from_slice_get (map (sequence_at kind tree) (visits tree)) k s 0 (ap (slice_get (map (sequence_at kind tree) (visits tree))) (sym index) ∙ got))
         ∙ get_or-map (sequence_at kind tree) (visits tree) k no_visit 0 next.there
 
     -- the leaf with its sequences and its weight is one more
-    pub leaves_more : is_leaf_kind x.kind ≡ true → (z : LeafRow) → slice_get (map (sequence_at One tree) (visits tree)) (k + 1 - 1) ≡ Some z.seq1 → slice_get (map (sequence_at Two tree) (visits tree)) (k + 1 - 1) ≡ Some z.seq2 →
+    pub leaves_more : is_leaf_kind x.kind ≡ true → (z : LeafRow)
+        → slice_get (map (sequence_at One tree) (visits tree)) (k + 1 - 1) ≡ Some z.seq1
+        → slice_get (map (sequence_at Two tree) (visits tree)) (k + 1 - 1) ≡ Some z.seq2 →
         z.w ≡ get_or weights (length leaves) (pos 0) → AreLeavesBefore tree weights (k + 1) (leaves ++ z ∷ [])
     leaves_more is z one two weight =
         let weight_is : z.w ≡ get_or weights (length (leaves_before tree k)) (pos 0) = weight ∙ ap (λ n. get_or weights n (pos 0)) count in

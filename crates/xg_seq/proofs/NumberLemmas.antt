@@ -17,7 +17,8 @@ pub numbers_for_all : (rows : List SetRow) (numbers : List ℕ) → KeepsSets ro
     → length numbers + 1 ≡ sequence_count (map set_of_row rows)
 numbers_for_all rows numbers keeps = omega (arith, ap length keeps.numbers, length-set_numbers_from 1 rows)
 
--- of sets whose first has the number k, and whose sequences are counted from `first` on, sequence s ends at the set of this number
+-- of sets whose first has the number k, and whose sequences are counted from `first` on,
+-- sequence s ends at the set of this number
 record EndsAmong (k first : ℕ) (sets : List InformationSet) (s number : ℕ) : Type 0 where
   place : ℕ
   is : number ≡ k + place
@@ -75,7 +76,8 @@ numbers-append k (r ∷ rows) row =
 
 -- the numbers of the first i rows' sequences, and of one more row's
 pub numbers_more : (rows : List SetRow) (i : ℕ) (d : SetRow) → i < length rows
-    → set_numbers_from 1 (take (i + 1) rows) ≡ set_numbers_from 1 (take i rows) ++ replicate (get_or rows i d).actions (i + 1)
+    → set_numbers_from 1 (take (i + 1) rows)
+    ≡ set_numbers_from 1 (take i rows) ++ replicate (get_or rows i d).actions (i + 1)
 numbers_more rows i d there =
     let long : 1 + length (take i rows) ≡ i + 1 = omega (arith, length-take-le i rows (omega arith)) in
     ap (set_numbers_from 1) (take_more rows i d there) ∙ numbers-append 1 (take i rows) (get_or rows i d) ∙ ap (λ n. set_numbers_from 1 (take i rows) ++ replicate (get_or rows i d).actions n) long

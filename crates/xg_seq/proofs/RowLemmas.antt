@@ -42,7 +42,8 @@ told_at sets f i h read =
     ∙ ap (option_map f) (slice_get-map without_place (placed sets) i ∙ ap (option_map without_place) read)
 
 placed-append : (first : ℕ) (sets : List InformationSet) (h : InformationSet)
-    → placed_from first (sets ++ h ∷ []) ≡ placed_from first sets ++ record { first = first + total_actions sets; before = h.before; actions = h.actions } ∷ []
+    → placed_from first (sets ++ h ∷ [])
+    ≡ placed_from first sets ++ record { first = first + total_actions sets; before = h.before; actions = h.actions } ∷ []
 placed-append first [] h = let here : first ≡ first + 0 = omega arith in ap (λ n. record { first = n; before = h.before; actions = h.actions } ∷ []) here
 placed-append first (g ∷ gs) h =
     let there : first + g.actions + total_actions gs ≡ first + (g.actions + total_actions gs) = omega arith in

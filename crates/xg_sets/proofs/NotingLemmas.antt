@@ -96,7 +96,8 @@ module _ (tree : Forest) (kind : Kind) (game : IsGameTree tree) (inner : is_leaf
   rows_count : (table : SetRows) → IsTableOf tree kind n table → length table.rows ≡ length firsts
   rows_count table stands = sym (length-map table.rows set_in_row) ∙ ap length stands.sets ∙ length-map firsts (set_at kind tree)
 
-  sequences_more : map (sequence_at kind tree) (take (n + 1) all) ≡ map (sequence_at kind tree) done ++ sequence_at kind tree v ∷ []
+  sequences_more : map (sequence_at kind tree)
+      (take (n + 1) all) ≡ map (sequence_at kind tree) done ++ sequence_at kind tree v ∷ []
   sequences_more = ap (map (sequence_at kind tree)) next.taken ∙ map-append (sequence_at kind tree) done (v ∷ [])
 
   put_more : (table : SetRows) (s : ℕ) → table.at_nodes ≡ map (sequence_at kind tree) done → s ≡ sequence_at kind tree v
@@ -124,7 +125,8 @@ module _ (tree : Forest) (kind : Kind) (game : IsGameTree tree) (inner : is_leaf
       let number : 1 + length done ≡ n + 1 = omega (arith, length-take n all) in
       ap (first_of_set 1 x) parts ∙ first_after 1 x done v (drop (n + 1) all) (λ i d h. other knows x kinds sets i d h) same ∙ ap (λ m. Some (record { number = m; visit = v })) number
     where
-      other : KnowsSizes kind (map node_of done) sizes → (x : Node) → x.kind ≡ kind → x.set ≡ length sizes + 1 → (i : ℕ) (d : Visit) → i < length done → is_same_set (get_or done i d).node x ≡ false
+      other : KnowsSizes kind (map node_of done) sizes → (x : Node) → x.kind ≡ kind → x.set ≡ length sizes + 1
+          → (i : ℕ) (d : Visit) → i < length done → is_same_set (get_or done i d).node x ≡ false
       other knows x kinds sets i d h =
           let w : Visit = get_or done i d in
           elim (is_same_kind kind w.node.kind) as (λ b. is_same_kind kind w.node.kind ≡ b → is_same_set w.node x ≡ false) [
@@ -412,35 +414,30 @@ module _ (tree : Forest) (game : IsGameTree tree) (n : ℕ) (there : n < node_co
   is_node : v.node ≡ x
   is_node = next_node tree n (n + 1 - 1) x there (omega arith) read
 
-  -- sets are numbered from 1
-
+  -- the set of a node that isn't a leaf has a number of 1 at least
   pub counts_at : (kind : Kind) → is_leaf_kind kind ≡ false → x.kind ≡ kind → 1 ≤ x.set
   counts_at kind inner is = subst (λ y. 1 ≤ y.set) is_node (set_of_node tree kind game inner n v next (ap (λ y. y.kind) is_node ∙ is)).0
 
-  -- the sequences of the next set have small numbers
-
+  -- the first sequence of a table's next set, with as many more as the node has children, is below 2 ^ 32
   pub room_at : (kind : Kind) → is_leaf_kind kind ≡ false → (table : SetRows) → IsTableOf tree kind n table
       → table.next + x.children < 2 ^ 32
   room_at kind inner table stands = subst (λ y. table.next + y.children < 2 ^ 32) is_node (room_for tree kind game inner n v next table stands)
 
-  -- player one moves there, and was noted
-
+  -- with player one's node noted, the tables are those of one node more, and its first child has the answered sequence
   pub noted_one_at : x.kind ≡ One → (one two new : SetRows) (at : Sequences) (first : ℕ) → AreTablesOf tree n one two
       → AreAt tree v.path at → Notes one (n + 1) x at.one new (Ok first) →
       AreTablesOf tree (n + 1) (put new at.one) (put two at.two) × AreAtFirstChild tree v (record { one = first; two = at.two })
   noted_one_at is one two new at first stand are notes =
       noted_one tree game n v next (ap (λ y. y.kind) is_node ∙ is) one two new at first stand are (subst (λ y. Notes one (n + 1) y at.one new (Ok first)) (sym is_node) notes)
 
-  -- player two moves there, and was noted
-
+  -- with player two's node noted, the tables are those of one node more, and its first child has the answered sequence
   pub noted_two_at : x.kind ≡ Two → (one two new : SetRows) (at : Sequences) (first : ℕ) → AreTablesOf tree n one two
       → AreAt tree v.path at → Notes two (n + 1) x at.two new (Ok first) →
       AreTablesOf tree (n + 1) (put one at.one) (put new at.two) × AreAtFirstChild tree v (record { one = at.one; two = first })
   noted_two_at is one two new at first stand are notes =
       noted_two tree game n v next (ap (λ y. y.kind) is_node ∙ is) one two new at first stand are (subst (λ y. Notes two (n + 1) y at.two new (Ok first)) (sym is_node) notes)
 
-  -- no player moves there
-
+  -- where no player moves, the tables with the sequences there are those of one node more, and its first child has them
   pub quiet_at : is_personal x.kind ≡ false → (one two : SetRows) (at : Sequences) → AreTablesOf tree n one two
       → AreAt tree v.path at →
       AreTablesOf tree (n + 1) (put one at.one) (put two at.two) × AreAtFirstChild tree v at
@@ -448,22 +445,21 @@ module _ (tree : Forest) (game : IsGameTree tree) (n : ℕ) (there : n < node_co
       let personal : is_personal v.node.kind ≡ false = ap (λ y. is_personal y.kind) is_node ∙ other in
       quiet_node tree game n v next personal (not_mover v.node.kind personal).0 (not_mover v.node.kind personal).1 one two at stand are
     where
-      not_mover : (kind : Kind) → is_personal kind ≡ false → (is_same_kind One kind ≡ false) × (is_same_kind Two kind ≡ false)
+      not_mover : (kind : Kind) → is_personal kind ≡ false
+          → (is_same_kind One kind ≡ false) × (is_same_kind Two kind ≡ false)
       not_mover Chance e = (refl, refl)
       not_mover One e = cc
       not_mover Two e = cc
       not_mover Leaf e = (refl, refl)
 
-  -- player one moves there, and recall breaks
-
+  -- where a node of player one can't be noted, a break of recall that is told is the first, by numbers
   pub broken_one_at : x.kind ≡ One → (one two new : SetRows) (at : Sequences) (fault : RecallFault)
       → AreTablesOf tree n one two → AreAt tree v.path at → Notes one (n + 1) x at.one new (Err fault)
       → FindsBreak tree fault
   broken_one_at is one two new at fault stand are notes =
       broken_one tree game n v next (ap (λ y. y.kind) is_node ∙ is) one two new at fault stand are (subst (λ y. Notes one (n + 1) y at.one new (Err fault)) (sym is_node) notes)
 
-  -- player two moves there, and recall breaks
-
+  -- where a node of player two can't be noted, a break of recall that is told is the first, by numbers
   pub broken_two_at : x.kind ≡ Two → (one two new : SetRows) (at : Sequences) (fault : RecallFault)
       → AreTablesOf tree n one two → AreAt tree v.path at → Notes two (n + 1) x at.two new (Err fault)
       → FindsBreak tree fault

@@ -1,4 +1,5 @@
--- The next child of the innermost parent is the next node, and stands within the parents where it has children of its own.
+-- The next child of the innermost parent is the next node,
+-- and stands within the parents where it has children of its own.
 use Rattle.std.proofs.Common.{◌≡◌, ℕ, suc, ◌+◌, ◌<◌, ◌≤◌, Bool, true, false, cond, List, [], ◌∷◌, ◌++◌, drop, refl, ap, sym, subst, ◌∙◌, arith}
 use Rattle.std.specs.Prelude.{nat_lt, sum}
 use Rattle.std.proofs.lemmas.Bool.{ltb-true, ltb-false}
@@ -18,14 +19,16 @@ use Rattle.xg_sets.specs.Parents.{HasChild, TakesChild, after, sequences_after, 
 use Rattle.xg_sets.specs.Entered.{AreAt, AreAtFirstChild, IsAtFirstChild, IsParentOf, path_number}
 
 one_after : (kind : Kind) (next : Sequences) (j : ℕ)
-    → next.one + cond (is_same_kind One kind) (j + 1) 0 ≡ (sequences_after kind next).one + cond (is_same_kind One kind) j 0
+    → next.one + cond (is_same_kind One kind) (j + 1) 0
+    ≡ (sequences_after kind next).one + cond (is_same_kind One kind) j 0
 one_after Chance next j = refl
 one_after One next j = omega arith
 one_after Two next j = refl
 one_after Leaf next j = refl
 
 two_after : (kind : Kind) (next : Sequences) (j : ℕ)
-    → next.two + cond (is_same_kind Two kind) (j + 1) 0 ≡ (sequences_after kind next).two + cond (is_same_kind Two kind) j 0
+    → next.two + cond (is_same_kind Two kind) (j + 1) 0
+    ≡ (sequences_after kind next).two + cond (is_same_kind Two kind) j 0
 two_after Chance next j = refl
 two_after One next j = refl
 two_after Two next j = omega arith
@@ -45,7 +48,8 @@ module _ (tree : Forest) where
       ] refl
 
   -- the first tree under the innermost parent is entered
-  enter_first : (node : Node) (below beside : Forest) (above : ℕ → List Move) (action : ℕ) (later : List Visit) (innermost : Parent) (outer : List Parent) (at : Sequences)
+  enter_first : (node : Node) (below beside : Forest) (above : ℕ → List Move) (action : ℕ) (later : List Visit)
+      (innermost : Parent) (outer : List Parent) (at : Sequences)
       →
       IsParentOf tree (record { above = above; action = action; trees = grown node below beside }) innermost → Stand outer later → AreAtFirstChild tree (record { path = above action; node = node }) at →
       Stand (with_parent node at (without_child innermost outer)) (visits_from (λ next. record { node = node; action = next } ∷ above action) 1 below ++ (visits_from above (action + 1) beside ++ later))
@@ -79,9 +83,11 @@ module _ (tree : Forest) where
     record Tells (innermost : Parent) (outer : List Parent) : Type 0 where
       some : 1 ≤ innermost.to_come
       at : AreAt tree v.path innermost.next
-      entered : (below : Sequences) → AreAtFirstChild tree v below → Stand (with_parent v.node below (without_child innermost outer)) (drop (n + 1) (visits tree))
+      entered : (below : Sequences) → AreAtFirstChild tree v below
+          → Stand (with_parent v.node below (without_child innermost outer)) (drop (n + 1) (visits tree))
 
-    tells : (innermost : Parent) (outer : List Parent) → Stand (innermost ∷ outer) (drop n (visits tree)) → Tells innermost outer
+    tells : (innermost : Parent) (outer : List Parent) → Stand (innermost ∷ outer) (drop n (visits tree))
+        → Tells innermost outer
     tells innermost outer (trees, later, is_parent, to_come, stand) =
         let some : 1 ≤ innermost.to_come = is_parent.some in
         let count : tree_count trees.trees ≡ innermost.to_come = is_parent.count in
@@ -112,15 +118,16 @@ module _ (tree : Forest) where
     none_left : Stand [] (drop n (visits tree)) → ⊥
     none_left none = let e : v ∷ drop (n + 1) (visits tree) ≡ [] = sym next.cons ∙ none in cc e
 
-    -- the child that is taken has the sequences at the next node
-
-    pub next_at : (parents : List Parent) → Stand parents (drop n (visits tree)) → (new : List Parent) (at : Sequences) → TakesChild parents new at → AreAt tree v.path at
+    -- the sequences that are taken with a child are both players' at the next node
+    pub next_at : (parents : List Parent) → Stand parents (drop n (visits tree)) → (new : List Parent) (at : Sequences)
+        → TakesChild parents new at → AreAt tree v.path at
     next_at [] stand new at takes = absurd takes
     next_at (innermost ∷ outer) stand new at takes = subst (AreAt tree v.path) (sym takes.0) (tells innermost outer stand).at
 
-    -- with the next node within them, the parents stand over the nodes behind it
-
-    pub stand_next : (parents : List Parent) → Stand parents (drop n (visits tree)) → (new : List Parent) (at below : Sequences) → TakesChild parents new at → AreAtFirstChild tree v below → Stand (with_parent v.node below new) (drop (n + 1) (visits tree))
+    -- without the child taken, and with the next node if it has children, the parents stand over the nodes behind it
+    pub stand_next : (parents : List Parent) → Stand parents (drop n (visits tree))
+        → (new : List Parent) (at below : Sequences) → TakesChild parents new at → AreAtFirstChild tree v below
+        → Stand (with_parent v.node below new) (drop (n + 1) (visits tree))
     stand_next [] stand new at below takes are = absurd takes
     stand_next (innermost ∷ outer) stand new at below takes are =
         subst (λ nodes. Stand (with_parent v.node below nodes) (drop (n + 1) (visits tree))) (sym takes.1) ((tells innermost outer stand).entered below are)
@@ -134,9 +141,9 @@ module _ (tree : Forest) where
         let limit : node_count tree ≤ 1048576 = game.limit in
         subst (λ w. sequence_at kind tree w < 1048576) (sym is) (omega arith)
 
-    -- where a node is to come, the innermost parent has a child
-
-    pub has_child : (parents : List Parent) → v ≡ visit_after tree n → Stand parents (drop n (visits tree)) → HasChild parents
+    -- parents that stand over a next node have a child for it, with room for the next numbers of sequences
+    pub has_child : (parents : List Parent) → v ≡ visit_after tree n → Stand parents (drop n (visits tree))
+        → HasChild parents
     has_child [] is stand = absurd (none_left stand)
     has_child (innermost ∷ outer) is stand =
         let told = tells innermost outer stand in

@@ -83,8 +83,7 @@ module _ (tree : Forest) (game : IsGameTree tree) (n : ℕ) (last : n ≡ node_c
       let at_nodes : table.at_nodes ≡ map (sequence_at kind tree) (visits tree) = stands.at_nodes ∙ ap (map (sequence_at kind tree)) all_taken in
       λ i. record { sets = sets i; at_nodes = at_nodes i }
 
-  -- a tree has no more sets than nodes
-
+  -- a table of all nodes has 1048576 rows at most
   pub has_few : (kind : Kind) → is_leaf_kind kind ≡ false → (table : SetRows) → IsTableOf tree kind n table
       → HasFewRows table
   has_few kind inner table stands =
@@ -98,15 +97,13 @@ module _ (tree : Forest) (game : IsGameTree tree) (n : ℕ) (last : n ≡ node_c
   no_break one two stand =
       sym (numbers_find_the_break tree game) ∙ stand.no_break ∙ ap (first_break (differ_in_number tree) (visits tree) (n + 1)) (drop_all n (visits tree) (omega (arith, length-visits tree)))
 
-  -- after the last node the tables are what is told of the tree
-
+  -- where both tables are those of all nodes, their sets are what is told of the tree, and no break is
   pub all_told : (one two : SetRows) → AreTablesOf tree n one two → sets_or_break tree ≡ Ok (record { one = as_player_sets one; two = as_player_sets two })
   all_told one two stand =
       ap (λ o. unless_broken o (tree_sets tree)) (no_break one two stand)
       ∙ (λ i. Ok (record { one = sym (table_told One one stand.table_one) i; two = sym (table_told Two two stand.table_two) i }))
 
-  -- after the last node recall holds
-
+  -- a tree whose tables are those of all nodes has perfect recall
   pub has_recall : (one two : SetRows) → AreTablesOf tree n one two → HasPerfectRecall tree
   has_recall one two stand = recall_of_none tree (no_break one two stand)
 

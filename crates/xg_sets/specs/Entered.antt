@@ -57,9 +57,11 @@ pub record IsParentOf (tree : Forest) (trees : ComingTrees) (parent : Parent) : 
   pub count : tree_count trees.trees ≡ parent.to_come
   pub children : HasItsChildren trees.trees
   pub one : (j : ℕ)
-      → path_number One tree (trees.above (trees.action + j)) ≡ parent.next.one + (if is_same_kind One parent.kind then j else 0)
+      → path_number One tree (trees.above (trees.action + j))
+      ≡ parent.next.one + (if is_same_kind One parent.kind then j else 0)
   pub two : (j : ℕ)
-      → path_number Two tree (trees.above (trees.action + j)) ≡ parent.next.two + (if is_same_kind Two parent.kind then j else 0)
+      → path_number Two tree (trees.above (trees.action + j))
+      ≡ parent.next.two + (if is_same_kind Two parent.kind then j else 0)
 
 -- the first k nodes were entered
 pub record HasEntered (tree : Forest) (k : ℕ) (building : Building) : Type 0 where

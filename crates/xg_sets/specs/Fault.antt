@@ -12,7 +12,8 @@ abbrev pub TellsBreakOf : Forest → RecallFault → Type 0
 TellsBreakOf tree (NotRecall node earlier) = sets_or_break tree ≡ Err (record { node = node; earlier = earlier })
 TellsBreakOf tree NoMemory = Unit {0}
 
--- no node before this one has another past than its set's first node, and this one has another than `earlier`, its set's first node
+-- no node before this one has another past than its set's first node, and this one has another than `earlier`,
+-- its set's first node
 abbrev pub IsFirstBreakOf : Forest → RecallFault → Type 0
 IsFirstBreakOf tree (NotRecall node earlier) =
     (d : Visit) → IsFirstBreak (λ k. slice_index_or (visits tree) (k - 1) d) (length (visits tree)) (record { node = node; earlier = earlier })

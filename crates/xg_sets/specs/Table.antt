@@ -27,7 +27,8 @@ BeginsSet old k node before new (Ok first) = (first ≡ old.next) × (new ≡ wi
 BeginsSet old k node before new (Err NoMemory) = Unit {0}
 BeginsSet old k node before new (Err (NotRecall _ _)) = ⊥
 
--- node k joins a set, whose first sequence is answered where the sequence before it is the same, and whose first node otherwise
+-- node k joins a set, whose first sequence is answered where the sequence before it is the same,
+-- and whose first node otherwise
 abbrev pub JoinsRow : SetRow → SetRows → ℕ → ℕ → SetRows → Result ℕ RecallFault → Type 0
 JoinsRow row old k before new (Ok first) = (row.before ≡ before) × (first ≡ row.first) × (new ≡ old)
 JoinsRow row old k before new (Err NoMemory) = ⊥

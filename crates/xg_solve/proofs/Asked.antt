@@ -25,8 +25,10 @@ pub asked_within : (words : List (List ℕ)) (file : List ℕ) (settings : Setti
 asked_within words file settings workers asked is same =
     within settings workers asked (settings_in_range.of_solve words file settings workers is) same
 
+-- the settings of a drill that the words name are within the limits of a run
 pub drill_within : (words : List (List ℕ)) (cards : ℕ) (settings : Settings) (workers : ℕ) (asked : RunSettings)
-    → command_of_words words ≡ Some (Drill cards settings workers) → settings_of asked ≡ settings → AreWithinLimits asked
+    → command_of_words words ≡ Some (Drill cards settings workers) → settings_of asked ≡ settings
+    → AreWithinLimits asked
 drill_within words cards settings workers asked is same =
     within settings workers asked (settings_in_range.of_drill words cards settings workers is) same
 
@@ -36,6 +38,7 @@ pub workers_within : (words : List (List ℕ)) (file : List ℕ) (settings : Set
 workers_within words file settings workers is =
     let range = settings_in_range.of_solve words file settings workers is in (range.some_workers, range.few_workers)
 
+-- a drill that the words name has at least one worker, and no more than the limit
 pub drill_workers_within : (words : List (List ℕ)) (cards : ℕ) (settings : Settings) (workers : ℕ)
     → command_of_words words ≡ Some (Drill cards settings workers) → (1 ≤ workers) × (workers ≤ most_workers)
 drill_workers_within words cards settings workers is =

@@ -106,7 +106,8 @@ module _ (f c : List ℕ) (short_f : length f ≤ most_bytes) (short_c : length 
 
 -- ---- how it ends
 
-line_fits : (file certificate : List ℕ) (taken : ℕ) (why : Refusal) → checked file certificate ≡ Err why → (line : List ℕ)
+line_fits : (file certificate : List ℕ) (taken : ℕ) (why : Refusal) → checked file certificate ≡ Err why
+    → (line : List ℕ)
     → line ≡ refusal_line why → IsLine (Unit {0}) taken 1 line
 line_fits file certificate taken (of_file fault) is line same =
     lines.of_file fault refl same

@@ -141,7 +141,8 @@ module _ (checks : Type 0) (meant : Answer → Type 0) (files : FilesCall) (out 
   shown NoMemory is = without_memory is
 
   -- the same of a number that is its status
-  pub status_shown : (ending : Ending) → Concludes checks meant files out ending → (status : ℕ) → status ≡ status_of ending
+  pub status_shown : (ending : Ending) → Concludes checks meant files out ending → (status : ℕ)
+      → status ≡ status_of ending
       → Shows checks meant files out status (line_of ending)
   status_shown ending is status same =
       subst (λ (n : ℕ). Shows checks meant files out n (line_of ending)) (sym same) (shown ending is)

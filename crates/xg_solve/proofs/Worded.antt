@@ -8,6 +8,7 @@ use Rattle.xg_solve.specs.declared.ending.Ending.{Ending}
 use Rattle.xg_solve.specs.Concludes.{Concludes}
 
 module _ (words : List (List ℕ)) (told : List ℕ → Option (List ℕ)) (files : FilesCall) (out : SinkCall) where
+  -- an ending that concludes what the words' command means concludes what the words mean
   pub by_command : (command : Option Command) → command ≡ command_of_words words → (ending : Ending)
       → Concludes (IsCheck command) (IsMeant command told) files out ending
       → Concludes (IsCheck (command_of_words words)) (Means words told) files out ending

@@ -19,7 +19,8 @@ picked f true x rest = refl
 picked f false x rest = sym (zero-+ℤ (sum_over f rest))
 
 leaf_more : (player : Player) (z : Leaf) (zs : List Leaf) (against : List ℕ) (s : ℕ)
-    → leaf_sum player (z ∷ zs) against s ≡ cond (eqb (leaf_sequence player z) s) (paid player against z) (pos 0) +ℤ leaf_sum player zs against s
+    → leaf_sum player (z ∷ zs) against s
+    ≡ cond (eqb (leaf_sequence player z) s) (paid player against z) (pos 0) +ℤ leaf_sum player zs against s
 leaf_more player z zs against s =
     picked (paid player against) (eqb (leaf_sequence player z) s) z (filter (λ y. eqb (leaf_sequence player y) s) zs)
 
@@ -36,7 +37,9 @@ added before now left next term whole h n l =
 pub told : {X : Type 0} (xs : List X) (i : ℕ) (x d : X) → slice_get xs (i + 1 - 1) ≡ Some x → get_or xs i d ≡ x
 told xs i x d e = let same : i + 1 - 1 ≡ i = omega arith in get_or_from_slice_get xs i x d (ap (slice_get xs) (sym same) ∙ e)
 
-pub leaf_step : (player : Player) (against : List ℕ) (before now : List ℤ) (leaves : List Leaf) (i : ℕ) (z : Leaf) (whole : ℕ → ℤ)
+-- where a leaf's part is added at its sequence, the rows and what the leaves behind it add still make the whole
+pub leaf_step : (player : Player) (against : List ℕ) (before now : List ℤ) (leaves : List Leaf) (i : ℕ) (z : Leaf)
+    (whole : ℕ → ℤ)
     → i < length leaves → slice_get leaves (i + 1 - 1) ≡ Some z
     → IsLeft (row before) (leaf_sum player (drop i leaves) against) whole
     → AddsAt before now (leaf_sequence player z) (paid player against z)
@@ -49,7 +52,8 @@ leaf_step player against before now leaves i z whole low is h a s =
     added (row before s) (row now s) _ _ _ (whole s) (h s) (a s) more
 
 pub no_leaf_left : (player : Player) (against : List ℕ) (rows : List ℤ) (leaves : List Leaf) (i : ℕ) (whole : ℕ → ℤ)
-    → length leaves ≤ i → IsLeft (row rows) (leaf_sum player (drop i leaves) against) whole → (s : ℕ) → row rows s ≡ whole s
+    → length leaves ≤ i → IsLeft (row rows) (leaf_sum player (drop i leaves) against) whole → (s : ℕ)
+    → row rows s ≡ whole s
 no_leaf_left player against rows leaves i whole le h s =
     sym (+ℤ-zero (row rows s)) ∙ ap (λ zs. row rows s +ℤ leaf_sum player zs against s) (sym (drop_all i leaves le)) ∙ h s
 
@@ -69,6 +73,7 @@ term_size : (t : Bool) (x : ℤ) (most : ℕ) → unsigned_abs x ≤ most → un
 term_size true x most h = h
 term_size false x most h = omega arith
 
+-- rows within a size, where a number within another is added at one place, are within both together
 pub within_step : (before now : List ℤ) (k : ℕ) (x : ℤ) (most more : ℕ) → IsWithin most before → AddsAt before now k x
     → unsigned_abs x ≤ more → IsWithin (most + more) now
 within_step before now k x most more h a small s =
@@ -85,6 +90,7 @@ values_more : (p : PlacedSet) (ps : List PlacedSet) (v : ℤ) (vs : List ℤ) (s
 values_more p ps v vs s =
     picked (λ (q : PlacedSet × ℤ). q.1) (eqb p.before s) (p, v) (filter (λ (q : PlacedSet × ℤ). eqb q.0.before s) (zip ps vs))
 
+-- where a set's value is added at the sequence before it, the rows and the later sets' values still make the whole
 pub value_step : (before now : List ℤ) (hs : List PlacedSet) (vs : List ℤ) (k : ℕ) (h : PlacedSet) (whole : ℕ → ℤ)
     → k < length hs → k < length vs → get_or hs k h ≡ h
     → IsLeft (row before) (values_after (drop k hs) (drop k vs)) whole → AddsAt before now h.before (row vs k)
@@ -97,6 +103,7 @@ value_step before now hs vs k h whole low low' is p a s =
     ∙ values_more h (drop (k + 1) hs) (row vs k) (drop (k + 1) vs) s in
     added (row before s) (row now s) _ _ _ (whole s) (p s) (a s) more
 
+-- where no set is left, the rows alone are the whole
 pub no_value_left : (rows : List ℤ) (hs : List PlacedSet) (vs : List ℤ) (k : ℕ) (whole : ℕ → ℤ) → length hs ≤ k
     → IsLeft (row rows) (values_after (drop k hs) (drop k vs)) whole → (s : ℕ) → row rows s ≡ whole s
 no_value_left rows hs vs k whole le h s =
@@ -106,7 +113,8 @@ no_value_left rows hs vs k whole le h s =
 empty : (x : ℤ) → unsigned_abs x ≤ 0 → x ≡ pos 0
 empty x h = omega (arith, ints)
 
-at_each : (rows0 rows1 rows2 : List ℤ) (sums values : ℕ → ℤ) → IsWithin 0 rows0 → ((s : ℕ) → row rows1 s ≡ row rows0 s +ℤ sums s)
+at_each : (rows0 rows1 rows2 : List ℤ) (sums values : ℕ → ℤ) → IsWithin 0 rows0
+    → ((s : ℕ) → row rows1 s ≡ row rows0 s +ℤ sums s)
     → ((s : ℕ) → row rows2 s ≡ row rows1 s +ℤ values s) → (s : ℕ) → row rows2 s ≡ sums s +ℤ values s
 at_each rows0 rows1 rows2 sums values none one two s =
     two s ∙ ap (λ x. x +ℤ values s) (one s ∙ ap (λ x. x +ℤ sums s) (empty (row rows0 s) (none s)) ∙ zero-+ℤ (sums s))

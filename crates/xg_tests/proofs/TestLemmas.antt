@@ -16,16 +16,20 @@ use Rattle.xg_plan.specs.Reply.{set_replies}
 use Rattle.xg_tests.specs.Views.{printed_reply, row}
 
 -- ---- lists of tests
-pub passes_first : (x : Option TestFault) (xs : List (Option TestFault)) → x ≡ None → first_failing (x ∷ xs) ≡ first_failing xs
+-- with a passing test in front, the first fault is that of the tests behind it
+pub passes_first : (x : Option TestFault) (xs : List (Option TestFault)) → x ≡ None
+    → first_failing (x ∷ xs) ≡ first_failing xs
 passes_first None xs e = refl
 passes_first (Some f) xs e = absurd cc
 
+-- a failing test in front of all others gives the first fault
 pub fails_first : (x : Option TestFault) (xs : List (Option TestFault)) (f : TestFault) → x ≡ Some f
     → first_failing (x ∷ xs) ≡ Some f
 fails_first (Some g) xs f e = e
 fails_first None xs f e = absurd cc
 
-pub passes_all : (xs ys : List (Option TestFault)) → first_failing xs ≡ None → first_failing (xs ++ ys) ≡ first_failing ys
+pub passes_all : (xs ys : List (Option TestFault)) → first_failing xs ≡ None
+    → first_failing (xs ++ ys) ≡ first_failing ys
 passes_all [] ys e = refl
 passes_all (None ∷ xs) ys e = passes_all xs ys e
 passes_all (Some f ∷ xs) ys e = absurd cc
@@ -42,6 +46,7 @@ pub front_stops : (found : Option TestFault) (xs ys : List (Option TestFault)) �
 front_stops (Some f) xs ys e some = sym (fails_in xs ys f (sym e))
 front_stops None xs ys e some = absurd cc
 
+-- where a front of tests finds no fault, the first one of all is that of the rest
 pub front_passes : (found : Option TestFault) (xs ys : List (Option TestFault)) → found ≡ first_failing xs
     → is_some found ≡ false → first_failing (xs ++ ys) ≡ first_failing ys
 front_passes (Some f) xs ys e none = absurd cc
@@ -83,6 +88,7 @@ action_fails player rows k h r a low e =
     ap first_failing (next_action (action_test player (row rows) k h r) a h.actions (last_test player rows k h r) low)
     ∙ fails_first _ _ _ (action_here player rows k h r a true e)
 
+-- where the next action isn't better than the value, the tests behind it decide
 pub action_passes : (player : Player) (rows : List ℤ) (k : ℕ) (h : PlacedSet) (r : SetReply) (a : ℕ) → a < h.actions
     → is_better player (row rows (h.first + a)) r.value ≡ false
     → first_failing (from_action (action_test player (row rows) k h r) (a + 1) (h.actions - a) (last_test player rows k h r))
@@ -98,7 +104,8 @@ tests_from player rows k hs rs = reply_tests player (row rows) k hs rs
 abbrev pub tests_at : Player → List ℤ → ℕ → PlacedSet → SetReply → List (Option TestFault)
 tests_at player rows k h r = set_tests player (row rows) (k + 1) h r
 
-next_set : (player : Player) (rows : List ℤ) (hs : List PlacedSet) (rs : List SetReply) (k : ℕ) (h : PlacedSet) (r : SetReply)
+next_set : (player : Player) (rows : List ℤ) (hs : List PlacedSet) (rs : List SetReply) (k : ℕ) (h : PlacedSet)
+    (r : SetReply)
     → k < length hs → k < length rs → get_or hs k h ≡ h → get_or rs k r ≡ r
     → tests_from player rows (k + 1) (drop k hs) (drop k rs)
     ≡ tests_at player rows k h r ++ tests_from player rows (k + 1 + 1) (drop (k + 1) hs) (drop (k + 1) rs)
@@ -106,13 +113,16 @@ next_set player rows hs rs k h r low low' is is' =
     ap (λ ys. tests_from player rows (k + 1) ys (drop k rs)) (drop_more hs k h low ∙ ap (λ y. y ∷ drop (k + 1) hs) is)
     ∙ ap (λ ys. tests_from player rows (k + 1) (h ∷ drop (k + 1) hs) ys) (drop_more rs k r low' ∙ ap (λ y. y ∷ drop (k + 1) rs) is')
 
+-- past the last set and the last reply no tests are left
 pub no_set : (player : Player) (rows : List ℤ) (hs : List PlacedSet) (rs : List SetReply) (k : ℕ) → length hs ≤ k
     → length rs ≤ k → tests_from player rows (k + 1) (drop k hs) (drop k rs) ≡ []
 no_set player rows hs rs k le le' =
     ap (λ ys. tests_from player rows (k + 1) ys (drop k rs)) (drop_all k hs le)
     ∙ ap (λ ys. tests_from player rows (k + 1) [] ys) (drop_all k rs le')
 
-pub set_stops : (player : Player) (rows : List ℤ) (hs : List PlacedSet) (rs : List SetReply) (k : ℕ) (h : PlacedSet) (r : SetReply) (found : Option TestFault)
+-- a fault that a set's own tests find is the first one of the tests from this set on
+pub set_stops : (player : Player) (rows : List ℤ) (hs : List PlacedSet) (rs : List SetReply) (k : ℕ) (h : PlacedSet)
+    (r : SetReply) (found : Option TestFault)
     → k < length hs → k < length rs → get_or hs k h ≡ h → get_or rs k r ≡ r
     → found ≡ first_failing (tests_at player rows k h r) → is_some found ≡ true
     → found ≡ first_failing (tests_from player rows (k + 1) (drop k hs) (drop k rs))
@@ -120,7 +130,9 @@ set_stops player rows hs rs k h r found low low' is is' e some =
     front_stops found (tests_at player rows k h r) (tests_from player rows (k + 1 + 1) (drop (k + 1) hs) (drop (k + 1) rs)) e some
     ∙ ap first_failing (sym (next_set player rows hs rs k h r low low' is is'))
 
-pub set_passes : (player : Player) (rows : List ℤ) (hs : List PlacedSet) (rs : List SetReply) (k : ℕ) (h : PlacedSet) (r : SetReply) (found : Option TestFault)
+-- where a set's own tests find no fault, the tests from the next set on decide
+pub set_passes : (player : Player) (rows : List ℤ) (hs : List PlacedSet) (rs : List SetReply) (k : ℕ) (h : PlacedSet)
+    (r : SetReply) (found : Option TestFault)
     → k < length hs → k < length rs → get_or hs k h ≡ h → get_or rs k r ≡ r
     → found ≡ first_failing (tests_at player rows k h r) → is_some found ≡ false
     → first_failing (tests_from player rows (k + 1) (drop k hs) (drop k rs))
@@ -130,11 +142,13 @@ set_passes player rows hs rs k h r found low low' is is' e none =
     ∙ front_passes found (tests_at player rows k h r) (tests_from player rows (k + 1 + 1) (drop (k + 1) hs) (drop (k + 1) rs)) e none
 
 -- ---- replies by their values and choices
+-- as many values as choices make as many replies
 pub replies_count : (vs : List ℤ) (cs : List ℕ) → length vs ≡ length cs → length (set_replies vs cs) ≡ length vs
 replies_count [] cs e = refl
 replies_count (v ∷ vs) [] e = absurd (omega arith)
 replies_count (v ∷ vs) (c ∷ cs) e = ap suc (replies_count vs cs (omega arith))
 
+-- the reply at a place is the value and the choice at this place
 pub reply_there : (vs : List ℤ) (cs : List ℕ) (k : ℕ) (d : SetReply) → length vs ≡ length cs → k < length vs
     → get_or (set_replies vs cs) k d ≡ record { value = get_or vs k (pos 0); choice = get_or cs k 0 }
 reply_there [] cs k d e low = absurd (omega arith)
@@ -160,7 +174,9 @@ abbrev pub total_part : Player → (ℕ → ℤ) → ℤ → ℤ → Fraction �
 total_part player w total traced bound scale =
     unless (int_eq total (w 0) && (int_eq total traced && is_same_fraction bound (fraction_of total scale))) (TotalDiffers (end_shown_by player)) ∷ []
 
-pub by_rows : (player : Player) (sums : ℕ → ℤ) (sets : List InformationSet) (vs : List ℤ) (cs : List ℕ) (total traced : ℤ) (bound : Fraction) (scale : ℕ) (rows : List ℤ)
+-- where the rows are the worths, the first fault of a reply is that of its sets and its total by the rows
+pub by_rows : (player : Player) (sums : ℕ → ℤ) (sets : List InformationSet) (vs : List ℤ) (cs : List ℕ)
+    (total traced : ℤ) (bound : Fraction) (scale : ℕ) (rows : List ℤ)
     → length vs ≡ length cs → row rows ≡ worth sums (placed sets) vs
     → first_failing (whole_reply_tests player sums sets (printed_reply total vs cs) traced bound scale)
     ≡ first_failing (sets_part player (row rows) sets vs cs ++ total_part player (row rows) total traced bound scale)
@@ -168,6 +184,7 @@ by_rows player sums sets vs cs total traced bound scale rows equal whole =
     ap (λ (w : ℕ → ℤ). first_failing (sets_part player w sets vs cs ++ total_part player w total traced bound scale))
     (ap (worth sums (placed sets)) (values_are vs cs equal) ∙ sym whole)
 
+-- the first fault of a single test is what this test finds
 pub one_test : (x : Option TestFault) → first_failing (x ∷ []) ≡ x
 one_test None = refl
 one_test (Some f) = refl

@@ -30,7 +30,8 @@ entry_with f rows i below = get_or-map (λ (row : ℕ). let e : Entry = record {
 
 -- so much more at one place is so much more at its row
 pub added : (f : ℕ → ℤ) (rows : List ℕ) (i : ℕ) (a : ℤ) → IsStrictlyIncreasing rows → i < length rows
-    → with_added (entries_with f rows) i a ≡ entries_with (λ row. f row +ℤ cond (eqb row (get_or rows i 0)) a (pos 0)) rows
+    → with_added (entries_with f rows) i a
+    ≡ entries_with (λ row. f row +ℤ cond (eqb row (get_or rows i 0)) a (pos 0)) rows
 added f rows i a up below =
     let none : Entry = record { row = 0; amount = pos 0 } in
     let r : ℕ = get_or rows i 0 in
@@ -79,7 +80,8 @@ to_one form one two z fit =
     same_number n = grind (arith, nat_tests)
 
 pub to_two : (form : SequenceForm) (one two : List ℕ) (z : Leaf)
-    → amount_in_row form one two z (sequence_count form.sets_one + z.sequence_two) ≡ z.weight *ℤ pos (slice_index one z.sequence_one)
+    → amount_in_row form one two z (sequence_count form.sets_one + z.sequence_two)
+    ≡ z.weight *ℤ pos (slice_index one z.sequence_one)
 to_two form one two z = past (sequence_count form.sets_one)
   where
     outside : (n s : ℕ) → ltb (n + s) n ≡ false
@@ -136,7 +138,8 @@ upto_more form one two first k row there =
     ∙ ap (λ n. amount_upto form one two first k row +ℤ n) (+ℤ-zero (amount_in_row form one two x row))
 
 -- with the leaf's amounts at its places, the entries are those of one leaf more
-pub next_leaf : (form : SequenceForm) (one two : List ℕ) (first k i j : ℕ) (entries : List Entry) (rows : List ℕ) (z : Leaf)
+pub next_leaf : (form : SequenceForm) (one two : List ℕ) (first k i j : ℕ) (entries : List Entry) (rows : List ℕ)
+    (z : Leaf)
     → entries ≡ entries_with (amount_upto form one two first k) rows
     → IsStrictlyIncreasing rows → i < length rows → j < length rows
     → get_or rows i 0 ≡ z.sequence_one → get_or rows j 0 ≡ sequence_count form.sets_one + z.sequence_two
@@ -159,11 +162,13 @@ next_leaf form one two first k i j entries rows z before up low_i low_j is_i is_
     ∙ (λ t. entries_with (λ row. each row t) rows)
 
 -- the amounts at the leaf's places are then those of one leaf more
-pub one_next : (form : SequenceForm) (one two : List ℕ) (first k i : ℕ) (entries : List Entry) (rows : List ℕ) (z : Leaf)
+pub one_next : (form : SequenceForm) (one two : List ℕ) (first k i : ℕ) (entries : List Entry) (rows : List ℕ)
+    (z : Leaf)
     → entries ≡ entries_with (amount_upto form one two first k) rows
     → i < length rows → get_or rows i 0 ≡ z.sequence_one
     → first + k < length form.leaves → form_leaf form (first + k) ≡ z → HasSequences form z
-    → (entry_at entries i).amount +ℤ z.weight *ℤ pos (slice_index two z.sequence_two) ≡ amount_upto form one two first (k + 1) z.sequence_one
+    → (entry_at entries i).amount +ℤ z.weight *ℤ pos (slice_index two z.sequence_two)
+    ≡ amount_upto form one two first (k + 1) z.sequence_one
 one_next form one two first k i entries rows z before low is there read fit =
     let f : ℕ → ℤ = amount_upto form one two first k in
     ap (λ es. (entry_at es i).amount +ℤ z.weight *ℤ pos (slice_index two z.sequence_two)) before
@@ -171,7 +176,9 @@ one_next form one two first k i entries rows z before low is there read fit =
     ∙ (λ t. f (is t) +ℤ sym (to_one form one two z fit) t)
     ∙ sym (upto_more form one two first k z.sequence_one there ∙ ap (λ x. f z.sequence_one +ℤ amount_in_row form one two x z.sequence_one) read)
 
-pub two_next : (form : SequenceForm) (one two : List ℕ) (first k i j : ℕ) (entries : List Entry) (rows : List ℕ) (z : Leaf)
+-- once player one's amount is added, player two's makes the amount at its place that of one leaf more
+pub two_next : (form : SequenceForm) (one two : List ℕ) (first k i j : ℕ) (entries : List Entry) (rows : List ℕ)
+    (z : Leaf)
     → entries ≡ entries_with (amount_upto form one two first k) rows
     → IsStrictlyIncreasing rows → i < length rows → j < length rows
     → get_or rows i 0 ≡ z.sequence_one → get_or rows j 0 ≡ sequence_count form.sets_one + z.sequence_two

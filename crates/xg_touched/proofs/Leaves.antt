@@ -45,5 +45,6 @@ leaf_there form first count k low within =
     (k, inside, get_or-take count (drop first form.leaves) k x low ∙ get_or-drop first form.leaves k x ∙ get_or_default form.leaves (first + k) x (record { sequence_one = 0; sequence_two = 0; weight = pos 0 }) (omega arith))
 
 -- a job's leaves have sequences of the form
-pub job_fits : (form : SequenceForm) (range : LeafRange) → All (HasSequences form) form.leaves → All (HasSequences form) (job_leaves form range)
+pub job_fits : (form : SequenceForm) (range : LeafRange) → All (HasSequences form) form.leaves
+    → All (HasSequences form) (job_leaves form range)
 job_fits form range fit = All-take (HasSequences form) range.count (drop range.first form.leaves) (All-drop (HasSequences form) range.first form.leaves fit)

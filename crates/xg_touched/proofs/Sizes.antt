@@ -18,7 +18,8 @@ amount_size : (player : Player) (against : List ℕ) (bound : ℕ) (z : Leaf) (s
     → unsigned_abs (amount_at player against z s) ≤ unsigned_abs z.weight * bound
 amount_size player against bound z s small = by_test (eqb (leaf_sequence player z) s)
   where
-    by_test : (b : Bool) → unsigned_abs (cond b (z.weight *ℤ pos (slice_index against (leaf_sequence (opponent player) z))) (pos 0)) ≤ unsigned_abs z.weight * bound
+    by_test : (b : Bool)
+        → unsigned_abs (cond b (z.weight *ℤ pos (slice_index against (leaf_sequence (opponent player) z))) (pos 0)) ≤ unsigned_abs z.weight * bound
     by_test true = omega (arith, unsigned_abs-mul z.weight (pos (slice_index against (leaf_sequence (opponent player) z))), mul-le-mul_left (unsigned_abs z.weight) (small (leaf_sequence (opponent player) z)))
     by_test false = omega arith
 
@@ -27,7 +28,8 @@ row_size : (form : SequenceForm) (one two : List ℕ) (bound : ℕ) (z : Leaf) (
     → unsigned_abs (amount_in_row form one two z row) ≤ unsigned_abs z.weight * bound
 row_size form one two bound z row small_one small_two = by_test (ltb row (sequence_count form.sets_one))
   where
-    by_test : (b : Bool) → unsigned_abs (cond b (amount_at One two z row) (amount_at Two one z (row - sequence_count form.sets_one))) ≤ unsigned_abs z.weight * bound
+    by_test : (b : Bool)
+        → unsigned_abs (cond b (amount_at One two z row) (amount_at Two one z (row - sequence_count form.sets_one))) ≤ unsigned_abs z.weight * bound
     by_test true = amount_size One two bound z row small_two
     by_test false = amount_size Two one bound z (row - sequence_count form.sets_one) small_one
 

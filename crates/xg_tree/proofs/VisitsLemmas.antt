@@ -16,7 +16,8 @@ module _ {V : Type 0} (may_enter : V → ℕ → Node → Type 0) (enters : V �
   -- of a walk that began at `start`, these steps are still to come, and the visitor is `now`
   pub record IsGoing (whole : List Event) (start : V) (rest : List Event) (now : V) : Type 0 where
     pub accepts : Accepts may_enter enters may_leave leaves rest now
-    pub leads : (end : V) → Leads may_enter enters may_leave leaves rest now end → Leads may_enter enters may_leave leaves whole start end
+    pub leads : (end : V) → Leads may_enter enters may_leave leaves rest now end
+        → Leads may_enter enters may_leave leaves whole start end
 
   pub going_begins : (whole : List Event) (start : V) → Accepts may_enter enters may_leave leaves whole start
       → IsGoing whole start whole start
@@ -157,7 +158,8 @@ trees_of_kept nodes ended kept =
     record { limit = kept.limit; some = omega (arith, trees.0); children = trees.1 }
 
 module _ {V : Type 0} (may_enter : V → ℕ → Node → Type 0) (enters : V → ℕ → Node → V → Type 0) (may_leave : V → ℕ → Type 0) (leaves : V → ℕ → V → Type 0) where
-  -- the walk through the tree at `at` began at `start`; so many of its root's children are left, from `next` on, and the visitor is `now`
+  -- the walk through the tree at `at` began at `start`;
+  -- so many of its root's children are left, from `next` on, and the visitor is `now`
   pub record IsAmongChildren (nodes : List Node) (at : ℕ) (start : V) (left next : ℕ) (now : V) : Type 0 where
     pub trees : HasTreesAt nodes next left
     pub end : row_end nodes next left ≡ row_end nodes at 1
@@ -220,6 +222,7 @@ module _ {V : Type 0} (may_enter : V → ℕ → Node → Type 0) (enters : V �
       let few : suc left ≤ tree_count (forest_of (drop next nodes)) = among.trees.some in
       (record { limit = among.trees.limit; some = omega arith; children = among.trees.children }, child_accepts nodes at start left next now among)
 
+  -- after the walk through one child's tree there is one child fewer left, from the end of that tree on
   pub at_next_child : (nodes : List Node) (at : ℕ) (start : V) (more left next after : ℕ) (now then : V)
       → more ≡ suc left → after ≡ row_end nodes next 1 → IsAmongChildren nodes at start more next now →
       Leads may_enter enters may_leave leaves (row_events nodes next 1) now then → IsAmongChildren nodes at start left after then

@@ -1,4 +1,5 @@
--- The sizes of sets that a `Builder` keeps: for each kind, how many children the nodes of its first set have, then those of its second, and so on.
+-- The sizes of sets that a `Builder` keeps: for each kind, how many children the nodes of its first set have, then
+-- those of its second, and so on.
 use Rattle.std.specs.Prelude.{◌≡◌, ℕ, ◌+◌, ◌-◌, ◌<◌, ◌≤◌, if◌then◌else◌, nat_lt, List, [], ◌∷◌, ◌++◌, length, slice_index, All, Contains}
 use Rattle.def_tree.specs.declared.Kind.{Kind}
 use Rattle.def_tree.specs.declared.Kind.TheVariants.{Chance, One, Two, Leaf}
@@ -51,7 +52,8 @@ pub record AreSizes (kind : Kind) (nodes : List Node) (sizes : List ℕ) : Type 
   pub count : length sizes ≡ set_count kind nodes
   pub each : All (λ node. node.kind ≡ kind → HasSize sizes node.set node.children) nodes
   pub met : (i : ℕ) → i < length sizes
-      → (node : Node) × (Contains nodes node × ((node.kind ≡ kind) × ((node.set ≡ i + 1) × (node.children ≡ slice_index sizes i))))
+      → (node : Node)
+      × (Contains nodes node × ((node.kind ≡ kind) × ((node.set ≡ i + 1) × (node.children ≡ slice_index sizes i))))
 
 pub record HoldSizes (nodes : List Node) (sizes : SizeLists) : Type 0 where
   pub chance : AreSizes Chance nodes sizes.chance

@@ -7,6 +7,8 @@ use Rattle.xg_cert.proofs.lists.put_values.Given as goal
 
 abbrev pub invariant-sets : goal.invariant-sets
 invariant-sets g l = record {
-  so_far : Progress (g.O.Sink.written l.fn.out) (g.O.Sink.written l.out) (items_text (each_items value_line 1 l.reply.reply.sets)) (items_text (each_items value_line (l.i + 1) (drop l.i l.reply.reply.sets)));
+  so_far : Progress (g.O.Sink.written l.fn.out) (g.O.Sink.written l.out)
+      (items_text (each_items value_line 1 l.reply.reply.sets))
+      (items_text (each_items value_line (l.i + 1) (drop l.i l.reply.reply.sets)));
   blameless : g.O.Sink.faults l.out ≡ g.O.Sink.faults l.fn.out;
 }

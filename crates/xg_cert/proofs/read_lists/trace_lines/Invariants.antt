@@ -10,6 +10,7 @@ invariant-rows l =
     let head = head_of l.fn.head in
     record {
       total : l.reader.total ≡ l.fn.reader.total;
-      rest : behind_front (trace_of l.rows.items) (read_each (λ k. line_of_round (round_of_evaluation head k)) (l.i + 1) (evaluation_count head - l.i) l.fn.reader.total l.reader.left)
+      rest : behind_front (trace_of l.rows.items)
+          (read_each (λ k. line_of_round (round_of_evaluation head k)) (l.i + 1) (evaluation_count head - l.i) l.fn.reader.total l.reader.left)
           ≡ read_each (λ k. line_of_round (round_of_evaluation head k)) 1 (evaluation_count head) l.fn.reader.total l.fn.reader.left;
     }

@@ -9,6 +9,7 @@ abbrev pub invariant-sets : goal.invariant-sets
 invariant-sets l = record {
   total : l.reader.total ≡ l.fn.reader.total;
   same : length l.choices.items ≡ length l.values.items;
-  rest : behind_front (set_replies l.values.items l.choices.items) (read_each value_line (l.i + 1) (l.fn.sets - l.i) l.fn.reader.total l.reader.left)
+  rest : behind_front (set_replies l.values.items l.choices.items)
+      (read_each value_line (l.i + 1) (l.fn.sets - l.i) l.fn.reader.total l.reader.left)
       ≡ read_each value_line 1 l.fn.sets l.fn.reader.total l.fn.reader.left;
 }

@@ -10,6 +10,7 @@ invariant-sets l = record {
   total : l.reader.total ≡ l.fn.reader.total;
   plan : IsPlanOf l.numbers.items l.starts.items;
   root : get_or l.numbers.items 0 0 ≡ l.fn.root;
-  rest : behind_front (cut_at l.starts.items l.numbers.items) (read_each weights_line (l.i + 1) (l.fn.sets - l.i) l.fn.reader.total l.reader.left)
+  rest : behind_front (cut_at l.starts.items l.numbers.items)
+      (read_each weights_line (l.i + 1) (l.fn.sets - l.i) l.fn.reader.total l.reader.left)
       ≡ read_each weights_line 1 l.fn.sets l.fn.reader.total l.fn.reader.left;
 }

@@ -6,7 +6,8 @@ use Rattle.xg_frac.proofs.PartLemmas.{AreParts-from_divisor, view-from_divisor, 
 use Rattle.xg_frac.proofs.fraction.reduced.Goals as goal
 
 kept_num : (c : goal.After-with_sign)
-    → to_z w64 (of_z w64 c.with_sign.result) ≡ signed c.args.negative (c.args.num / c.greatest_common_divisor-common.result)
+    → to_z w64 (of_z w64 c.with_sign.result)
+    ≡ signed c.args.negative (c.args.num / c.greatest_common_divisor-common.result)
 kept_num c =
     to_z-of_z w64 c.with_sign.result (record { sfits = c.with_sign.type_inv }) ∙ c.with_sign.ensures
     ∙ ap (signed c.args.negative) c.quotient-num.ensures

@@ -7,11 +7,13 @@ use Rattle.xg_frac.proofs.WideLemmas.{AreWideParts-from_divisor, quotient-le}
 use Rattle.xg_frac.proofs.wide.of_sizes.Goals as goal
 
 kept_num : (c : goal.After-with_wide_sign)
-    → to_z w128 (of_z w128 c.with_wide_sign.result) ≡ signed c.args.negative (c.args.num / c.greatest_common_divisor-common.result)
+    → to_z w128 (of_z w128 c.with_wide_sign.result)
+    ≡ signed c.args.negative (c.args.num / c.greatest_common_divisor-common.result)
 kept_num c = to_z-of_z w128 c.with_wide_sign.result (record { sfits = c.with_wide_sign.type_inv }) ∙ c.with_wide_sign.ensures
 
 kept_den : (c : goal.After-with_wide_sign)
-    → to_z w128 (c.args.den / c.greatest_common_divisor-common.result) ≡ pos (c.args.den / c.greatest_common_divisor-common.result)
+    → to_z w128 (c.args.den / c.greatest_common_divisor-common.result)
+    ≡ pos (c.args.den / c.greatest_common_divisor-common.result)
 kept_den c = to_z_pos w128 _ (omega (arith, c.requires.den, quotient-le c.args.den c.greatest_common_divisor-common.result (c.greatest_common_divisor-common.ensures.positive c.requires.from_one)))
 
 pub invariant_of-result : goal.invariant_of-result

@@ -8,5 +8,6 @@ invariant-entries l = record {
   unspent : l.maker.spent ≡ false;
   prologue : l.maker.prologue ≡ l.fn.maker.prologue;
   whole : l.reader.whole ≡ l.fn.reader.whole;
-  rest : entries_from l.most l.fn.maker.contents l.fn.reader.whole l.fn.reader.at ≡ entries_from (l.most - l.counter) l.maker.contents l.fn.reader.whole l.reader.at;
+  rest : entries_from l.most l.fn.maker.contents l.fn.reader.whole l.fn.reader.at
+      ≡ entries_from (l.most - l.counter) l.maker.contents l.fn.reader.whole l.reader.at;
 }

@@ -26,7 +26,8 @@ twofold_packet job = record {
   nothing_else = rest;
 }
   where
-    rest : (row : ℕ) → row < 3 → All (λ entry. entry.row ≢ row) (first_at job ∷ second_at job ∷ []) → twofold job row ≡ pos 0
+    rest : (row : ℕ) → row < 3 → All (λ entry. entry.row ≢ row) (first_at job ∷ second_at job ∷ [])
+        → twofold job row ≡ pos 0
     rest zero below apart = ap pos (omega arith)
     rest (suc zero) below apart = absurd (apart 0 (first_at job) (omega arith) refl)
     rest (suc (suc zero)) below apart = absurd (apart 1 (first_at job) (omega arith) refl)

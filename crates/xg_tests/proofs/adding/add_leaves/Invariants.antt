@@ -6,7 +6,8 @@ use Rattle.xg_tests.proofs.adding.add_leaves.Given as goal
 
 abbrev pub invariant-loop-z : goal.invariant-loop-z
 invariant-loop-z l = record {
-  left : IsLeft (row l.rows) (leaf_sum l.player (drop l.z l.form.leaves) l.against) (λ s. row l.initial.rows s +ℤ leaf_sum l.player l.form.leaves l.against s);
+  left : IsLeft (row l.rows) (leaf_sum l.player (drop l.z l.form.leaves) l.against)
+      (λ s. row l.initial.rows s +ℤ leaf_sum l.player l.form.leaves l.against s);
   small : IsWithin (l.z * 2 ^ 99) l.rows;
   same : length l.rows ≡ length l.initial.rows;
 }

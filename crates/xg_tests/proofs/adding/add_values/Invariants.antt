@@ -7,7 +7,8 @@ use Rattle.xg_tests.proofs.adding.add_values.Given as goal
 
 abbrev pub invariant-loop-k : goal.invariant-loop-k
 invariant-loop-k l = record {
-  left : IsLeft (row l.rows) (values_after (drop l.k (placed (player_sets l.form l.player))) (drop l.k l.values)) (λ s. row l.initial.rows s +ℤ values_after (placed (player_sets l.form l.player)) l.values s);
+  left : IsLeft (row l.rows) (values_after (drop l.k (placed (player_sets l.form l.player))) (drop l.k l.values))
+      (λ s. row l.initial.rows s +ℤ values_after (placed (player_sets l.form l.player)) l.values s);
   small : IsWithin (2 ^ 119 + l.k * 2 ^ 100) l.rows;
   same : length l.rows ≡ length l.initial.rows;
 }

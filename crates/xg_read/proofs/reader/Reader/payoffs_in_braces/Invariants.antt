@@ -6,5 +6,6 @@ use Rattle.xg_read.proofs.reader.Reader.payoffs_in_braces.Given as goal
 abbrev pub invariant-payoffs : goal.invariant-payoffs
 invariant-payoffs l = record {
   whole : l.self.whole ≡ l.fn.self.whole;
-  rest : payoffs_from (length l.fn.self.whole) [] l.fn.self.whole l.fn.self.at ≡ payoffs_from (length l.fn.self.whole - l.counter) l.payoffs l.fn.self.whole l.self.at;
+  rest : payoffs_from (length l.fn.self.whole) [] l.fn.self.whole l.fn.self.at
+      ≡ payoffs_from (length l.fn.self.whole - l.counter) l.payoffs l.fn.self.whole l.self.at;
 }
