@@ -9,7 +9,8 @@ use Rattle.def_sums.specs.Limits.{most_rounds}
 lt_yes : (x y : ℤ) → int_lt x y ≡ true → x <ℤ y
 lt_yes x y e = omega (arith, ints)
 
-lt_no : (x y : ℤ) → int_lt x y ≡ false → y ≤ℤ x
+-- where the test says no, y is at most x
+pub lt_no : (x y : ℤ) → int_lt x y ≡ false → y ≤ℤ x
 lt_no x y e = omega (arith, ints)
 
 -- the test says yes and x is below y, or it says no and y is at most x

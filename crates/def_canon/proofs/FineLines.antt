@@ -14,7 +14,7 @@ use Rattle.def_file.specs.Content.{Prologue, Action, SetMention, OutcomeMention,
 use Rattle.def_file.specs.Faults.{has_set, mover, mover_as}
 use Rattle.def_file.specs.Adding.{new_set, new_outcome}
 use Rattle.def_file.specs.Game.{IsSmallFraction}
-use Rattle.def_canon.specs.Canon.{on_new_line, open_brace, quoted, text, marker_pieces, prologue_pieces, spaced, action_pieces, chance_pieces, close_brace, described_outcome, each, list_pieces, name_pieces, payoffs_pieces, player_pieces, set_pieces, whole_number}
+use Rattle.def_canon.specs.Canon.{on_new_line, open_piece, quoted, text_piece, marker_pieces, prologue_pieces, spaced, action_pieces, chance_pieces, close_piece, described_outcome, each, list_pieces, name_pieces, payoffs_pieces, player_pieces, set_pieces, whole_piece}
 use Rattle.def_canon.specs.Described.{Each}
 use Rattle.def_canon.specs.Writable.{IsPlainPrologue, AreWritableActions, IsChanceOf, IsPlainName, IsWritable, IsWritableOutcome, IsWritableSet, no_outcome_mention}
 use Rattle.def_canon.proofs.OwnLines.{own_lines, own_outcome, own_pieces}
@@ -53,7 +53,7 @@ set_fine who m w =
       fine_whole m.number w.limit,
       fine_append (name_pieces m.name) _ (name_fine m.name w.name) (
         fine_open,
-        fine_append (each (action_pieces who) (unwrap_or m.actions [])) (close_brace ∷ [])
+        fine_append (each (action_pieces who) (unwrap_or m.actions [])) (close_piece ∷ [])
             (actions_fine who (unwrap_or m.actions []) (subst (AreWritableActions (kind_of who)) own w.writable)) (fine_close, tt),
       ),
     )
@@ -77,10 +77,10 @@ outcome_fine m w =
 any_outcome_fine : (m : OutcomeMention) → (m ≡ no_outcome_mention) ⊎ IsWritableOutcome m → EachFine (own_outcome m)
 any_outcome_fine m w =
     ⊎_elim
-    (λ none. let null : EachFine (whole_number 0 ∷ []) = (fine_whole 0 (omega arith), tt) in
+    (λ none. let null : EachFine (whole_piece 0 ∷ []) = (fine_whole 0 (omega arith), tt) in
     subst (λ (o : OutcomeMention). EachFine (own_outcome o)) (sym none) null)
     (λ some. let no : nat_eq m.number 0 ≡ false = ne_eqb m.number 0 some.not_null in
-    subst (λ (b : Bool). EachFine (cond b (whole_number 0 ∷ []) (described_outcome (new_outcome m)))) (sym no) (outcome_fine m some))
+    subst (λ (b : Bool). EachFine (cond b (whole_piece 0 ∷ []) (described_outcome (new_outcome m)))) (sym no) (outcome_fine m some))
     w
 
 pieces_fine : (who : Kind) (r : Record) → IsWritable r → (who ≢ movers.Leaf → IsWritableSet (kind_of who) r.set)
@@ -148,6 +148,6 @@ unfolding prologue_pieces marker_pieces
 prologue_fine p plain rest fine =
     let number : IsFine (spaced Number (codes "2")) = fine_digits (codes "2") refl refl in
     let word : IsFine (spaced Word (codes "R")) = fine_word 82 refl refl in
-    let tail : List Piece = spaced Number (codes "2") ∷ spaced Word (codes "R") ∷ text p.title ∷ open_brace ∷ text p.one ∷ text p.two ∷ close_brace ∷ on_new_line Text (quoted p.comment) ∷ rest in
+    let tail : List Piece = spaced Number (codes "2") ∷ spaced Word (codes "R") ∷ text_piece p.title ∷ open_piece ∷ text_piece p.one ∷ text_piece p.two ∷ close_piece ∷ on_new_line Text (quoted p.comment) ∷ rest in
     let behind : EachFine tail = (number, (word, (fine_text p.title plain.title, (fine_open, (fine_text p.one plain.one, (fine_text p.two plain.two, (fine_close, (fine_line p.comment plain.comment, fine)))))))) in
     first_word tail behind

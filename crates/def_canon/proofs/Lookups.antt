@@ -1,9 +1,8 @@
 -- What the tables of described entries have of an entry's set and outcome.
 use Rattle.std.proofs.Common.{◌≡◌, ◌≢◌, ℕ, suc, ◌+◌, ◌-◌, ◌≤◌, Bool, true, false, cond, List, [], ◌∷◌, ◌++◌, length, get_or, map, refl, sym, ap, ◌∙◌, subst, arith, eq-eqb}
 use Rattle.std.specs.Prelude.{◌||◌, filter, nat_eq, not, unwrap_or}
-use Rattle.std.specs.List.{list_any, position_or_len}
-use Rattle.std.proofs.lemmas.Bool.{eqb-true, eqb-false, ne_eqb, not_from_false}
-use Rattle.std.proofs.lemmas.Map.Views.{any-filter_same}
+use Rattle.std.proofs.lemmas.Bool.{eqb-true}
+use Rattle.std.proofs.Math.Bool.{or-true}
 use Rattle.def_tree.specs.declared.Kind.{Kind}
 use Rattle.def_tree.specs.declared.Kind.TheVariants.{Leaf}
 use Rattle.def_tree.specs.Rules.{is_same_kind}
@@ -12,30 +11,9 @@ use Rattle.def_file.specs.Content.{SetMention, OutcomeMention, Record}
 use Rattle.def_file.specs.Faults.{mover, no_set, null_outcome}
 use Rattle.def_file.specs.Adding.{new_set, new_outcome, nth_payoff}
 use Rattle.def_file_entries.specs.Entries.{first_given, firsts, given_first, mentions, number_in, of_kind, outcome_entry, outcome_mentions, outcome_numbers, outcome_table, with_outcome, set_entry, set_numbers, set_table}
+use Rattle.def_file_entries.proofs.Firsts.{among, among-firsts, place}
 use Rattle.def_canon.specs.Described.{Describes, Each}
-use Rattle.def_canon.proofs.Tables.{AreNames, filter_each, filter_some, first_name, first_same, given_same, mention_some, mentions_same}
-
--- whether a number is among these, and where
-abbrev pub among : ℕ → List ℕ → Bool
-among n ns = list_any (λ m. nat_eq n m) ns
-
-abbrev place : ℕ → List ℕ → ℕ
-place n ns = position_or_len (λ m. nat_eq n m) ns
-
-among_kept : (n m : ℕ) (ns : List ℕ) → nat_eq n m ≡ false → among n (filter (λ k. not (nat_eq m k)) ns) ≡ among n ns
-among_kept n m ns h =
-    any-filter_same (λ k. nat_eq n k) (λ k. not (nat_eq m k)) true
-    (λ k e. not_from_false (nat_eq m k) (ne_eqb m k (λ same. eqb-false n m h (eqb-true n k e ∙ sym same)))) ns
-
-among_step : (n m : ℕ) (ns : List ℕ) (here : Bool) → nat_eq n m ≡ here → among n (firsts ns) ≡ among n ns
-    → (here || among n (filter (λ k. not (nat_eq m k)) (firsts ns))) ≡ (here || among n ns)
-among_step n m ns true e known = refl
-among_step n m ns false e known = among_kept n m (firsts ns) e ∙ known
-
--- what appears is among the first appearances
-pub among-firsts : (n : ℕ) (ns : List ℕ) → among n (firsts ns) ≡ among n ns
-among-firsts n [] = refl
-among-firsts n (m ∷ ns) = among_step n m ns (nat_eq n m) refl (among-firsts n ns)
+use Rattle.def_canon.proofs.Tables.{AreNames, filter_each, filter_some, first_name, first_same, front_some, given_same, mention_some, mentions_same}
 
 look_step : {E : Type 0} (f : ℕ → E) (d : E) (n m : ℕ) (ns : List ℕ) (here : Bool) → nat_eq n m ≡ here
     → (here || among n ns) ≡ true → (among n ns ≡ true → get_or (map f ns) (place n ns) d ≡ f n)
@@ -50,16 +28,12 @@ look : {E : Type 0} (f : ℕ → E) (d : E) (n : ℕ) (ns : List ℕ) → among 
 look f d n [] h = absurd cc
 look f d n (m ∷ ns) h = look_step f d n m ns (nat_eq n m) refl h (look f d n ns)
 
-or_true : (b : Bool) → (b || true) ≡ true
-or_true true = refl
-or_true false = refl
-
 -- an entry's key is among the keys of each list that the entry is in
 pub among_here : (key : Record → ℕ) (before : List Record) (r : Record) (behind : List Record)
     → among (key r) (map key (before ++ r ∷ behind)) ≡ true
 among_here key [] r behind = ap (λ b. b || among (key r) (map key behind)) (eq-eqb (key r) (key r) refl)
 among_here key (x ∷ before) r behind =
-    ap (λ b. nat_eq (key r) (key x) || b) (among_here key before r behind) ∙ or_true (nat_eq (key r) (key x))
+    ap (λ b. nat_eq (key r) (key x) || b) (among_here key before r behind) ∙ or-true (nat_eq (key r) (key x))
 
 -- the number of a number among the first appearances finds what is known of it
 pub found : {E : Type 0} (f : ℕ → E) (d : E) (key : Record → ℕ) (before : List Record) (r : Record)
@@ -111,10 +85,6 @@ pub payoffs_same : (v : OutcomeMention) (rs : List Record) → 1 ≤ length rs �
     → given_first (map (λ r. r.outcome.payoffs) rs) ≡ unwrap_or v.payoffs []
 payoffs_same v [] some each = absurd (omega arith)
 payoffs_same v (r ∷ rs) some each = ap (λ (m : OutcomeMention). unwrap_or m.payoffs []) each.0
-
-front_some : (front : List Record) (x : Record) (more : List Record) → 1 ≤ length (front ++ x ∷ more)
-front_some [] x more = omega arith
-front_some (y ∷ front) x more = omega arith
 
 module _ (sets : Kind → ℕ → SetMention) (outcomes : ℕ → OutcomeMention) where
   -- the table has the entry's own outcome under its number

@@ -13,7 +13,7 @@ use Rattle.def_file.specs.Content.{SetMention, OutcomeMention, Record}
 use Rattle.def_file.specs.Faults.{has_set, mover, mover_as}
 use Rattle.def_file.specs.Adding.{new_set, new_outcome}
 use Rattle.def_file_form.specs.Form.{AreEntries, IsEntry, IsEntryAs, IsOutcome, IsSet, IsWholeNumber, Spelled, spelled}
-use Rattle.def_canon.specs.Canon.{described_outcome, letter, player_pieces, set_pieces, text, whole_number}
+use Rattle.def_canon.specs.Canon.{described_outcome, letter, player_pieces, set_pieces, text_piece, whole_piece}
 use Rattle.def_canon.specs.Described.{Each}
 use Rattle.def_canon.specs.Writable.{HasOwnMover, IsWritable, IsWritableOutcome, IsWritableSet, no_outcome_mention}
 use Rattle.def_canon.proofs.Spelled.{MovesAs, chance_moves_as, one_moves_as, outcome_is, set_is, spell, spell_append, text_is, two_moves_as, whole_is}
@@ -25,10 +25,10 @@ own_place movers.One m = set_pieces movers.One (new_set m)
 own_place movers.Two m = set_pieces movers.Two (new_set m)
 
 abbrev pub own_outcome : OutcomeMention → List Piece
-own_outcome m = if nat_eq m.number 0 then whole_number 0 ∷ [] else described_outcome (new_outcome m)
+own_outcome m = if nat_eq m.number 0 then whole_piece 0 ∷ [] else described_outcome (new_outcome m)
 
 abbrev pub own_pieces : Kind → Record → List Piece
-own_pieces who r = letter who ∷ text r.name ∷ (player_pieces who ++ (own_place who r.set ++ own_outcome r.outcome))
+own_pieces who r = letter who ∷ text_piece r.name ∷ (player_pieces who ++ (own_place who r.set ++ own_outcome r.outcome))
 
 outcome_any : (m : OutcomeMention) (rest : List Spelled) → (m ≡ no_outcome_mention) ⊎ IsWritableOutcome m
     → IsOutcome m (spell (own_outcome m) rest) rest
@@ -37,7 +37,7 @@ outcome_any m rest w =
     (λ none. subst (λ (o : OutcomeMention). IsOutcome o (spell (own_outcome o) rest) rest) (sym none)
     (record { numbered = rest; named = rest; number = whole_is 0 rest (omega arith); name = refl; payoffs = refl }))
     (λ some. let no : nat_eq m.number 0 ≡ false = ne_eqb m.number 0 some.not_null in
-    subst (λ (b : Bool). IsOutcome m (spell (cond b (whole_number 0 ∷ []) (described_outcome (new_outcome m))) rest) rest) (sym no) (outcome_is m rest some))
+    subst (λ (b : Bool). IsOutcome m (spell (cond b (whole_piece 0 ∷ []) (described_outcome (new_outcome m))) rest) rest) (sym no) (outcome_is m rest some))
     w
 
 -- the set, and then the outcome
@@ -48,8 +48,8 @@ set_part who kind moves r rest w =
     subst (λ (tokens : List Spelled). IsSet kind r.set tokens (spell (own_outcome r.outcome) rest))
     (sym (spell_append (set_pieces who (new_set r.set)) (own_outcome r.outcome) rest)) (set_is who kind moves r.set (spell (own_outcome r.outcome) rest) w)
 
-player_is : (p q : ℕ) (rest : List Spelled) → p ≡ q → q ≤ most → IsWholeNumber p (spelled (whole_number q) ∷ rest) rest
-player_is p q rest same small = subst (λ (n : ℕ). IsWholeNumber n (spelled (whole_number q) ∷ rest) rest) (sym same) (whole_is q rest small)
+player_is : (p q : ℕ) (rest : List Spelled) → p ≡ q → q ≤ most → IsWholeNumber p (spelled (whole_piece q) ∷ rest) rest
+player_is p q rest same small = subst (λ (n : ℕ). IsWholeNumber n (spelled (whole_piece q) ∷ rest) rest) (sym same) (whole_is q rest small)
 
 entry_as : (r : Record) (kind : EntryKind) (rest : List Spelled) → r.kind ≡ kind → IsWritable r
     → HasOwnMover kind r → (has_set kind ≡ true → IsWritableSet kind r.set)

@@ -19,7 +19,7 @@ use Rattle.def_file_entries.specs.Entries.{contents_of, game_of_entries, node_of
 use Rattle.def_file_form.specs.Form.{IsPrologue, Spelled}
 use Rattle.def_file_form.specs.Laws.{StandsFor}
 use Rattle.def_file_form.proofs.Whole.{game_taken}
-use Rattle.def_canon.specs.Canon.{canon, described_outcome, each, game_pieces, lines_pieces, node_pieces, outcome_pieces, place_pieces, player_pieces, prologue_pieces, set_pieces, text, letter, whole_number}
+use Rattle.def_canon.specs.Canon.{canon, described_outcome, each, game_pieces, lines_pieces, node_pieces, outcome_pieces, place_pieces, player_pieces, prologue_pieces, set_pieces, text_piece, letter, whole_piece}
 use Rattle.def_canon.specs.Described.{Describes, Each}
 use Rattle.def_canon.specs.Laws.{CanonIsReadBack, CanonStandsForGame, IsOfEntries}
 use Rattle.def_canon.specs.Writable.{IsPlainPrologue, IsWritable}
@@ -89,13 +89,13 @@ module _ (sets : Kind → ℕ → SetMention) (outcomes : ℕ → OutcomeMention
     where
       chosen : (b : Bool) → nat_eq r.outcome.number 0 ≡ b
           → outcome_pieces (outcome_table rs) (cond b 0 (number_in r.outcome.number (outcome_numbers rs)))
-          ≡ cond b (whole_number 0 ∷ []) (described_outcome (new_outcome r.outcome))
+          ≡ cond b (whole_piece 0 ∷ []) (described_outcome (new_outcome r.outcome))
       chosen true null = refl
       chosen false some =
           let d = (each_before (Describes sets outcomes) before r behind (subst (Each (Describes sets outcomes)) split each_described)).1 in
           let n = number_in r.outcome.number (outcome_numbers rs) in
           let positive : nat_eq n 0 ≡ false = ne_eqb n 0 (omega arith) in
-          ap (λ b. cond b (whole_number 0 ∷ []) (described_outcome (outcome_at (outcome_table rs) (n - 1)))) positive
+          ap (λ b. cond b (whole_piece 0 ∷ []) (described_outcome (outcome_at (outcome_table rs) (n - 1)))) positive
           ∙ ap described_outcome (outcome_found sets outcomes rs before r behind split each_described some d.outcome.same)
 
   lines_own : (before rest : List Record) → rs ≡ before ++ rest
@@ -106,7 +106,7 @@ module _ (sets : Kind → ℕ → SetMention) (outcomes : ℕ → OutcomeMention
   lines_own before (r ∷ rest) split =
       let place = place_own before r rest split in
       let outcome = outcome_own before r rest split in
-      (λ i. (letter (mover r) ∷ text r.name ∷ (player_pieces (mover r) ++ (place i ++ outcome i))) ++ lines_own (before ++ r ∷ []) rest (split ∙ sym (append_assoc before (r ∷ []) rest)) i)
+      (λ i. (letter (mover r) ∷ text_piece r.name ∷ (player_pieces (mover r) ++ (place i ++ outcome i))) ++ lines_own (before ++ r ∷ []) rest (split ∙ sym (append_assoc before (r ∷ []) rest)) i)
 
 game_lines : (p : Prologue) (rs : List Record)
     → lines_pieces (contents_of rs).sets (outcome_table rs) (zip (contents_of rs).nodes (contents_of rs).names)

@@ -1,11 +1,11 @@
 -- The tokens of the canonical form are spelled as the format says.
 use Rattle.std.proofs.Common.{◌≡◌, ◌≢◌, ℕ, zero, suc, ◌≤◌, ◌<◌, ◌^◌, Bool, true, false, List, [], ◌∷◌, ◌++◌, length, refl, arith}
-use Rattle.std.specs.Prelude.{ℤ, cond, pos, negsuc, ◌&&◌, IsTrue, nat_eq, nat_le, nat_lt, codes, unsigned_abs}
+use Rattle.std.specs.Prelude.{ℤ, cond, pos, negsuc, IsTrue, nat_eq, nat_le, nat_lt, codes, unsigned_abs}
 use Rattle.std.specs.Char.{is_ascii_digit}
 use Rattle.std.specs.Fmt.{decimal, signed_decimal}
 use Rattle.std.specs.List.{AllPass}
 use Rattle.std.specs.Str.{all_ascii_digits}
-use Rattle.std.proofs.lemmas.Bool.{le-leb, leb-true, false_from_ne_true, ne_eqb}
+use Rattle.std.proofs.lemmas.Bool.{and_parts, le-leb, leb-true, false_from_ne_true, ne_eqb}
 use Rattle.def_fraction.specs.Fraction.{Fraction, fits, most}
 use Rattle.def_fraction.specs.Text.{fraction_text}
 use Rattle.def_fraction.proofs.TextLemmas.{decimal-numeral}
@@ -14,7 +14,7 @@ use Rattle.def_file_tokens.specs.Bytes.{is_space, in_run, begins_number, begins_
 use Rattle.def_file_tokens.specs.Spelling.{Piece, ArePieces, bytes_of, FirstFails, FirstPasses, IsToken}
 use Rattle.def_file_tokens.specs.Texts.{EndsPlainly, escaped}
 use Rattle.def_file_tokens.proofs.TextLemmas.{escaped_is_inside}
-use Rattle.def_canon.specs.Canon.{behind, close_brace, comma, fraction, on_new_line, open_brace, quoted, spaced, text, whole_number}
+use Rattle.def_canon.specs.Canon.{behind, close_piece, comma_piece, fraction, on_new_line, open_piece, quoted, spaced, text_piece, whole_piece}
 
 -- each byte goes on with a run
 Runs : List ℕ → Type 0
@@ -32,14 +32,9 @@ unfolding Runs
 runs_append [] ys first second = second
 runs_append (x ∷ xs) ys first second = (first.0, runs_append xs ys first.1 second)
 
-and_true : (a b : Bool) → (a && b) ≡ true → (a ≡ true) × (b ≡ true)
-and_true true true e = (refl, refl)
-and_true true false e = cc
-and_true false b e = cc
-
 digit_runs : (d : ℕ) → is_ascii_digit d ≡ true → (in_run d ≡ true) × (begins_number d ≡ true)
 digit_runs d e =
-    let parts = and_true (nat_le 48 d) (nat_le d 57) e in
+    let parts = and_parts (nat_le 48 d) (nat_le d 57) e in
     let low : 48 ≤ d = leb-true 48 d parts.0 in
     let high : d ≤ 57 = leb-true d 57 parts.1 in
     let a : nat_le 9 d ≡ true = le-leb 9 d (omega arith) in
@@ -54,11 +49,11 @@ digit_runs d e =
 digits_run : (ds : List ℕ) → all_ascii_digits ds ≡ true → Runs ds
 unfolding Runs
 digits_run [] e = tt
-digits_run (d ∷ ds) e = let parts = and_true (is_ascii_digit d) (all_ascii_digits ds) e in ((digit_runs d parts.0).0, digits_run ds parts.1)
+digits_run (d ∷ ds) e = let parts = and_parts (is_ascii_digit d) (all_ascii_digits ds) e in ((digit_runs d parts.0).0, digits_run ds parts.1)
 
 digits_begin : (ds : List ℕ) → all_ascii_digits ds ≡ true → nat_lt 0 (length ds) ≡ true → FirstPasses begins_number ds
 digits_begin [] e some = cc
-digits_begin (d ∷ ds) e some = (digit_runs d (and_true (is_ascii_digit d) (all_ascii_digits ds) e).0).1
+digits_begin (d ∷ ds) e some = (digit_runs d (and_parts (is_ascii_digit d) (all_ascii_digits ds) e).0).1
 
 begin_more : (xs ys : List ℕ) → FirstPasses begins_number xs → FirstPasses begins_number (xs ++ ys)
 begin_more [] ys first = absurd first
@@ -71,7 +66,7 @@ record IsNumber (bs : List ℕ) : Type 0 where
 
 decimal_is : (n : ℕ) → n < 2 ^ 64 → IsNumber (decimal n)
 decimal_is n limit =
-    let parts = and_true (all_ascii_digits (decimal n)) (nat_lt 0 (length (decimal n))) (decimal-numeral n limit) in
+    let parts = and_parts (all_ascii_digits (decimal n)) (nat_lt 0 (length (decimal n))) (decimal-numeral n limit) in
     record { first = digits_begin (decimal n) parts.0 parts.1; runs = digits_run (decimal n) parts.0 }
 
 int_is : (z : ℤ) → unsigned_abs z ≤ most → IsNumber (signed_decimal z)
@@ -110,13 +105,13 @@ fine_number bs is = record {
 }
 
 -- a whole number within the limit may stand behind any token
-pub fine_whole : (n : ℕ) → n ≤ most → IsFine (whole_number n)
+pub fine_whole : (n : ℕ) → n ≤ most → IsFine (whole_piece n)
 fine_whole n small = fine_number (decimal n) (decimal_is n (omega arith))
 
 -- a fraction within the limit may stand behind any token
 pub fine_fraction : (f : Fraction) → IsTrue (fits f) → IsFine (fraction f)
 fine_fraction f small =
-    let parts = and_true (nat_le (unsigned_abs f.num) most) (nat_le f.den most) small in
+    let parts = and_parts (nat_le (unsigned_abs f.num) most) (nat_le f.den most) small in
     fine_number (fraction_text f) (fraction_is f (leb-true (unsigned_abs f.num) most parts.0) (leb-true f.den most parts.1))
 
 fine_quoted : (bytes space : List ℕ) → EndsPlainly bytes → AllPass is_space space
@@ -131,7 +126,7 @@ fine_quoted bytes space plain are stop = record {
 }
 
 -- a text that doesn't end with a backslash, behind a space, may stand behind any token
-pub fine_text : (bytes : List ℕ) → EndsPlainly bytes → IsFine (text bytes)
+pub fine_text : (bytes : List ℕ) → EndsPlainly bytes → IsFine (text_piece bytes)
 fine_text bytes plain = fine_quoted bytes (codes " ") plain (one_space 32 refl) (λ after. refl)
 
 -- a text that doesn't end with a backslash, on a new line, may stand behind any token
@@ -139,15 +134,15 @@ pub fine_line : (bytes : List ℕ) → EndsPlainly bytes → IsFine (on_new_line
 fine_line bytes plain = fine_quoted bytes (codes "\n") plain (one_space 10 refl) (λ after. refl)
 
 -- an opening brace may stand behind any token
-pub fine_open : IsFine open_brace
+pub fine_open : IsFine open_piece
 fine_open = record { space = one_space 32 refl; token = λ after stop. refl; not_end = λ e. cc; stops = λ after. refl }
 
 -- a closing brace may stand behind any token
-pub fine_close : IsFine close_brace
+pub fine_close : IsFine close_piece
 fine_close = record { space = one_space 32 refl; token = λ after stop. refl; not_end = λ e. cc; stops = λ after. refl }
 
 -- a comma may stand behind any token
-pub fine_comma : IsFine comma
+pub fine_comma : IsFine comma_piece
 fine_comma = record { space = λ k d lt. absurd (omega arith); token = λ after stop. refl; not_end = λ e. cc; stops = λ after. refl }
 
 -- a word of one letter, on a new line, may stand behind any token

@@ -18,7 +18,7 @@ use Rattle.def_file.specs.Content.{Action, Prologue, SetMention, OutcomeMention}
 use Rattle.def_file.specs.Adding.{new_set, new_outcome}
 use Rattle.def_file.specs.Game.{IsSmallFraction}
 use Rattle.def_file_form.specs.Form.{Spelled, spelled, IsText, IsName, IsWholeNumber, IsFraction, IsChance, AreActionsUpTo, IsActionList, IsPayoffList, IsSet, IsOutcome, IsPrologue}
-use Rattle.def_canon.specs.Canon.{action_pieces, behind, chance_pieces, close_brace, described_outcome, each, fraction, list_pieces, marker_pieces, name_pieces, payoffs_pieces, prologue_pieces, quoted, set_pieces, text, whole_number}
+use Rattle.def_canon.specs.Canon.{action_pieces, behind, chance_pieces, close_piece, described_outcome, each, fraction, list_pieces, marker_pieces, name_pieces, payoffs_pieces, prologue_pieces, quoted, set_pieces, text_piece, whole_piece}
 use Rattle.def_canon.specs.Writable.{AreWritableActions, IsChanceOf, IsPlainName, IsPlainPrologue, IsWritableOutcome, IsWritableSet}
 
 -- the tokens of pieces, and then the rest
@@ -45,11 +45,11 @@ quoted_is bytes space rest plain =
 
 -- the token of a text that doesn't end with a backslash says this text
 pub text_is : (bytes : List ℕ) (rest : List Spelled) → EndsPlainly bytes
-    → IsText bytes (spelled (text bytes) ∷ rest) rest
+    → IsText bytes (spelled (text_piece bytes) ∷ rest) rest
 text_is bytes rest plain = quoted_is bytes (codes " ") rest plain
 
 -- the token of a whole number within the limit says this number
-pub whole_is : (n : ℕ) (rest : List Spelled) → n ≤ most → IsWholeNumber n (spelled (whole_number n) ∷ rest) rest
+pub whole_is : (n : ℕ) (rest : List Spelled) → n ≤ most → IsWholeNumber n (spelled (whole_piece n) ∷ rest) rest
 whole_is n rest small = record {
   digits = decimal n;
   numeral = decimal-numeral n (omega arith);
@@ -94,23 +94,23 @@ two_moves_as = record { chance = λ f rest none. (none, refl) }
 
 actions_are : (who : Kind) (kind : EntryKind) → MovesAs who kind → (actions : List Action) (rest : List Spelled)
     → AreWritableActions kind actions
-    → AreActionsUpTo kind actions (spell (each (action_pieces who) actions) (spelled close_brace ∷ rest)) rest
+    → AreActionsUpTo kind actions (spell (each (action_pieces who) actions) (spelled close_piece ∷ rest)) rest
 unfolding each action_pieces
 actions_are who kind moves [] rest writable = refl
 actions_are who kind moves (a ∷ more) rest writable =
-    let tail = spell (each (action_pieces who) more) (spelled close_brace ∷ rest) in
+    let tail = spell (each (action_pieces who) more) (spelled close_piece ∷ rest) in
     let named = spell (chance_pieces who a.chance) tail in
-    subst (λ (tokens : List Spelled). AreActionsUpTo kind (a ∷ more) (spelled (text a.name) ∷ tokens) rest)
-    (sym (spell_append (chance_pieces who a.chance) (each (action_pieces who) more) (spelled close_brace ∷ rest)))
+    subst (λ (tokens : List Spelled). AreActionsUpTo kind (a ∷ more) (spelled (text_piece a.name) ∷ tokens) rest)
+    (sym (spell_append (chance_pieces who a.chance) (each (action_pieces who) more) (spelled close_piece ∷ rest)))
     (named, tail, text_is a.name named writable.0, moves.chance a.chance tail writable.1, actions_are who kind moves more rest writable.2)
 
 list_is : (who : Kind) (kind : EntryKind) → MovesAs who kind → (actions : List Action) (rest : List Spelled)
     → AreWritableActions kind actions → IsActionList kind (Some actions) (spell (list_pieces who actions) rest) rest
 unfolding list_pieces
 list_is who kind moves actions rest writable = (
-  spell (each (action_pieces who) actions ++ close_brace ∷ []) rest,
+  spell (each (action_pieces who) actions ++ close_piece ∷ []) rest,
   refl,
-  subst (λ (tokens : List Spelled). AreActionsUpTo kind actions tokens rest) (sym (spell_append (each (action_pieces who) actions) (close_brace ∷ []) rest))
+  subst (λ (tokens : List Spelled). AreActionsUpTo kind actions tokens rest) (sym (spell_append (each (action_pieces who) actions) (close_piece ∷ []) rest))
       (actions_are who kind moves actions rest writable),
 )
 
@@ -138,7 +138,7 @@ payoffs_are : (one two : Fraction) (rest : List Spelled) → IsSmallFraction one
     → IsPayoffList (Some (one ∷ two ∷ [])) (spell (payoffs_pieces one two) rest) rest
 unfolding payoffs_pieces
 payoffs_are one two rest small_one small_two =
-    let behind_two = spelled close_brace ∷ rest in
+    let behind_two = spelled close_piece ∷ rest in
     let parted = spelled (fraction two) ∷ behind_two in
     (_, refl, (_, fraction_is one _ small_one, (parted, behind_two, inr refl, fraction_is two behind_two small_two, refl)))
 

@@ -1,5 +1,5 @@
 -- The tables of entries that describe their sets and their outcomes whole.
-use Rattle.std.proofs.Common.{◌≡◌, ◌≢◌, ℕ, ◌≤◌, Bool, true, false, cond, List, [], ◌∷◌, ◌++◌, length, map, Option, Some, None, refl, sym, ap, ◌∙◌, subst, arith, eq-eqb}
+use Rattle.std.proofs.Common.{◌≡◌, ◌≢◌, ℕ, ◌≤◌, Bool, true, false, cond, List, [], ◌∷◌, ◌++◌, length, map, Option, Some, None, refl, sym, ap, ◌∙◌, subst, arith}
 use Rattle.std.proofs.lemmas.Bool.{eqb-true}
 use Rattle.std.specs.Prelude.{filter, nat_eq, unwrap_or}
 use Rattle.def_tree.specs.declared.Kind.{Kind}
@@ -11,6 +11,7 @@ use Rattle.def_file.specs.declared.EntryKind.TheVariants as entry
 use Rattle.def_file.specs.Content.{SetMention, OutcomeMention, Record}
 use Rattle.def_file.specs.Faults.{mover, mover_as, has_set}
 use Rattle.def_file_entries.specs.Entries.{first_given, given_first, of_kind, mentions}
+use Rattle.def_file_entries.proofs.Firsts.{nat_eq-same}
 use Rattle.def_canon.specs.Described.{Each, Describes}
 
 -- where each entry has a property from which another follows, each has the other one
@@ -61,22 +62,20 @@ module _ (sets : Kind → ℕ → SetMention) (outcomes : ℕ → OutcomeMention
       (of_kind kind rs)
       (filter_each _ (Describes sets outcomes) _ (λ r known is. (is_same_kind-true kind (mover r) is, known)) rs each)
 
+-- with one in the midst there is one
+pub front_some : (front : List Record) (x : Record) (more : List Record) → 1 ≤ length (front ++ x ∷ more)
+front_some [] x more = omega arith
+front_some (y ∷ front) x more = omega arith
+
 -- a mention is among them
 pub mention_some : (before : List Record) (r : Record) (behind : List Record)
     → 1 ≤ length (mentions (mover r) r.set.number (before ++ r ∷ behind))
 mention_some before r behind =
     let first = filter_some (λ x. is_same_kind (mover r) (mover x)) before r behind (is_same_kind_refl (mover r)) in
-    let second = filter_some (λ x. nat_eq r.set.number x.set.number) first.0 r (of_kind (mover r) behind) (is_own r.set.number) in
+    let second = filter_some (λ x. nat_eq r.set.number x.set.number) first.0 r (of_kind (mover r) behind) (nat_eq-same r.set.number) in
     let split : mentions (mover r) r.set.number (before ++ r ∷ behind) ≡ second.0 ++ r ∷ mentions (mover r) r.set.number behind =
     ap (filter (λ x. nat_eq r.set.number x.set.number)) first.1 ∙ second.1 in
     subst (λ (xs : List Record). 1 ≤ length xs) (sym split) (front_some second.0 r (mentions (mover r) r.set.number behind))
-  where
-    is_own : (n : ℕ) → nat_eq n n ≡ true
-    is_own n = eq-eqb n n refl
-
-    front_some : (front : List Record) (x : Record) (more : List Record) → 1 ≤ length (front ++ x ∷ more)
-    front_some [] x more = omega arith
-    front_some (y ∷ front) x more = omega arith
 
 -- what the mentions give, where all are one
 pub given_same : (v : SetMention) (rs : List Record) → 1 ≤ length rs → Each (λ r. r.set ≡ v) rs

@@ -23,8 +23,8 @@ use Rattle.def_file.specs.Content.{Prologue, Action, SetEntry, OutcomeEntry, Set
 use Rattle.def_file.specs.Faults.{set_at, outcome_at}
 
 -- the bytes of tokens, each behind its white space
-unfoldable pub text_of : List Piece → List ℕ
-text_of pieces = bytes_of pieces []
+unfoldable pub text_of_pieces : List Piece → List ℕ
+text_of_pieces pieces = bytes_of pieces []
 
 -- the tokens of several things, one after another
 unfoldable pub each : {A : Type 0} → (A → List Piece) → List A → List Piece
@@ -48,30 +48,30 @@ on_new_line kind bytes = behind (codes "\n") kind bytes
 unfoldable pub quoted : List ℕ → List ℕ
 quoted bytes = 34 ∷ (escaped bytes ++ 34 ∷ [])
 
-abbrev pub text : List ℕ → Piece
-text bytes = spaced kinds.Text (quoted bytes)
+abbrev pub text_piece : List ℕ → Piece
+text_piece bytes = spaced kinds.Text (quoted bytes)
 
-abbrev pub whole_number : ℕ → Piece
-whole_number n = spaced kinds.Number (decimal n)
+abbrev pub whole_piece : ℕ → Piece
+whole_piece n = spaced kinds.Number (decimal n)
 
 abbrev pub fraction : Fraction → Piece
 fraction f = spaced kinds.Number (fraction_text f)
 
-abbrev pub open_brace : Piece
-open_brace = spaced kinds.Open (codes "{")
+abbrev pub open_piece : Piece
+open_piece = spaced kinds.Open (codes "{")
 
-abbrev pub close_brace : Piece
-close_brace = spaced kinds.Close (codes "}")
+abbrev pub close_piece : Piece
+close_piece = spaced kinds.Close (codes "}")
 
-abbrev pub comma : Piece
-comma = behind [] kinds.Comma (codes ",")
+abbrev pub comma_piece : Piece
+comma_piece = behind [] kinds.Comma (codes ",")
 
 -- Sets and outcomes.
 
 -- a name that was never given is left out
 unfoldable pub name_pieces : Option (List ℕ) → List Piece
 name_pieces None = []
-name_pieces (Some name) = text name ∷ []
+name_pieces (Some name) = text_piece name ∷ []
 
 -- the probability of an action, where chance moves
 unfoldable pub chance_pieces : Kind → Fraction → List Piece
@@ -81,25 +81,25 @@ chance_pieces Two f = []
 chance_pieces Leaf f = []
 
 unfoldable pub action_pieces : Kind → Action → List Piece
-action_pieces kind a = text a.name ∷ chance_pieces kind a.chance
+action_pieces kind a = text_piece a.name ∷ chance_pieces kind a.chance
 
 unfoldable pub list_pieces : Kind → List Action → List Piece
-list_pieces kind actions = open_brace ∷ (each (action_pieces kind) actions ++ close_brace ∷ [])
+list_pieces kind actions = open_piece ∷ (each (action_pieces kind) actions ++ close_piece ∷ [])
 
 -- a set of this kind: its number, its name and its actions
 unfoldable pub set_pieces : Kind → SetEntry → List Piece
-set_pieces kind entry = whole_number entry.number ∷ (name_pieces entry.name ++ list_pieces kind entry.actions)
+set_pieces kind entry = whole_piece entry.number ∷ (name_pieces entry.name ++ list_pieces kind entry.actions)
 
 unfoldable pub payoffs_pieces : Fraction → Fraction → List Piece
-payoffs_pieces one two = open_brace ∷ fraction one ∷ comma ∷ fraction two ∷ close_brace ∷ []
+payoffs_pieces one two = open_piece ∷ fraction one ∷ comma_piece ∷ fraction two ∷ close_piece ∷ []
 
 -- an outcome: its number, its name and its payoffs
 unfoldable pub described_outcome : OutcomeEntry → List Piece
-described_outcome entry = whole_number entry.number ∷ (name_pieces entry.name ++ payoffs_pieces entry.one entry.two)
+described_outcome entry = whole_piece entry.number ∷ (name_pieces entry.name ++ payoffs_pieces entry.one entry.two)
 
 -- outcomes count from 1; the null outcome is its number alone
 unfoldable pub outcome_pieces : List OutcomeEntry → ℕ → List Piece
-outcome_pieces outcomes n = if nat_eq n 0 then whole_number 0 ∷ [] else described_outcome (outcome_at outcomes (n - 1))
+outcome_pieces outcomes n = if nat_eq n 0 then whole_piece 0 ∷ [] else described_outcome (outcome_at outcomes (n - 1))
 
 -- Lines.
 
@@ -115,8 +115,8 @@ letter kind = on_new_line kinds.Word (letter_of kind)
 -- the number of the player who moves
 unfoldable pub player_pieces : Kind → List Piece
 player_pieces Chance = []
-player_pieces One = whole_number 1 ∷ []
-player_pieces Two = whole_number 2 ∷ []
+player_pieces One = whole_piece 1 ∷ []
+player_pieces Two = whole_piece 2 ∷ []
 player_pieces Leaf = []
 
 -- the set of a node, of which a leaf has none
@@ -126,7 +126,7 @@ place_pieces kind sets n = set_pieces kind (set_at (sets_of_kind kind sets) (n -
 
 unfoldable pub node_pieces : SetTables → List OutcomeEntry → Node → List ℕ → List Piece
 node_pieces sets outcomes node name =
-    letter node.kind ∷ text name
+    letter node.kind ∷ text_piece name
     ∷ (player_pieces node.kind ++ (place_pieces node.kind sets node.set ++ outcome_pieces outcomes node.outcome))
 
 -- `EFG 2 R`
@@ -136,7 +136,7 @@ marker_pieces = behind [] kinds.Word (codes "EFG") ∷ spaced kinds.Number (code
 -- the title and the players' names, and the comment on a line of its own
 unfoldable pub prologue_pieces : Prologue → List Piece
 prologue_pieces p =
-    marker_pieces ++ (text p.title ∷ open_brace ∷ text p.one ∷ text p.two ∷ close_brace ∷ on_new_line kinds.Text (quoted p.comment) ∷ [])
+    marker_pieces ++ (text_piece p.title ∷ open_piece ∷ text_piece p.one ∷ text_piece p.two ∷ close_piece ∷ on_new_line kinds.Text (quoted p.comment) ∷ [])
 
 -- nodes with their names
 abbrev pub lines_pieces : SetTables → List OutcomeEntry → List (Node × List ℕ) → List Piece

@@ -1,8 +1,7 @@
 -- The certificate of a run holds up.
-use Rattle.std.proofs.Common.{◌≡◌, ℕ, ◌+◌, ◌-◌, ◌*◌, ◌≤◌, List, [], ◌∷◌, ◌++◌, length, get_or, slice_index, take, drop, ℤ, pos, Some, Ok, refl, sym, ap, ◌∙◌, subst, arith}
+use Rattle.std.proofs.Common.{◌≡◌, ℕ, ◌+◌, ◌-◌, ◌*◌, ◌≤◌, List, [], ◌∷◌, ◌++◌, length, slice_index, take, drop, ℤ, Some, Ok, refl, sym, ap, ◌∙◌, subst, arith}
 use Rattle.std.specs.List.{AllZip}
-use Rattle.std.proofs.lemmas.Option.{none-some}
-use Rattle.std.proofs.lemmas.List.{length-take, length-drop, take-append-drop, take_all}
+use Rattle.std.proofs.lemmas.List.{length-take, length-drop, take-append-drop}
 use Rattle.def_tree.specs.declared.Player.{Player}
 use Rattle.def_tree.specs.declared.Player.TheVariants.{One, Two}
 use Rattle.def_sums.specs.Sum.{nat_sum_over}
@@ -13,15 +12,16 @@ use Rattle.def_plan.specs.Payoff.{leaf_sum}
 use Rattle.def_reply.specs.Reply.{best_reply_to}
 use Rattle.def_reply.proofs.Optimal.{best-tight}
 use Rattle.def_round.specs.Rounds.{rounds}
-use Rattle.def_bracket.specs.Bracket.{Evaluation, BracketEnds, ends_of, TraceLine, trace_line, trace}
+use Rattle.def_bracket.specs.Bracket.{Evaluation, BracketEnds, ends_of, TraceLine, trace}
 use Rattle.def_bracket.proofs.TraceLines.{trace_lines, never_widens}
 use Rattle.def_bracket.specs.Outcome.{Head}
 use Rattle.def_run.specs.Run.{outcome, total_against, evaluation, evaluations}
 use Rattle.def_run.proofs.RunLaws.{evaluations_are_bounds, ends_are_of_their_rounds, rounds_of}
-use Rattle.def_cert_verdict.specs.Certificate.{PrintedPlan, PrintedBounds, joined, printed_numbers, no_line, last_line}
+use Rattle.def_cert_verdict.specs.Certificate.{PrintedPlan, PrintedBounds, joined, printed_numbers, last_line}
 use Rattle.def_cert_verdict.specs.Verdict.{WeighedGame, head_only, bracket, verdict}
 use Rattle.def_cert_verdict.specs.Laws.{HoldsAsPlan, HoldsAsReply, HoldsUp}
 use Rattle.def_cert_verdict.proofs.Decided.{exact}
+use Rattle.def_cert_verdict.proofs.LastLine.{last_is}
 use Rattle.def_cert_accepted.specs.OfOutcome.{by_sets, printed_plan, certificate_of}
 use Rattle.def_cert_accepted.specs.Laws.{TheCertificateOfARunIsAccepted}
 use Rattle.def_cert_accepted.proofs.OfRun.{own_head, own_head-is, same_head, bounds_of_run, certificate_with, certificate_without}
@@ -74,21 +74,6 @@ reply_holds game player plan printed traced order back root is =
         bound_is = ap (λ (r : ℕ). fraction_of (total_against game.form player plan) (game.unit * r)) (sym root);
       };
     })
-
--- ---- the last line has the ends of all evaluations
-some_evaluation : (es : List Evaluation) (ends : BracketEnds) → ends_of es ≡ Some ends → 1 ≤ length es
-some_evaluation [] ends are = absurd (none-some ends are)
-some_evaluation (e ∷ es) ends are = omega arith
-
-last_is : (es : List Evaluation) (ends : BracketEnds) → ends_of es ≡ Some ends
-    → (r : ℕ) × (last_line (trace es) ≡ trace_line r ends)
-last_is es ends are =
-    let k : ℕ = length es - 1 in
-    let some = some_evaluation es ends are in
-    let none : Evaluation = record { round = 0; divisor = 0; low = pos 0; high = pos 0 } in
-    let all : take (k + 1) es ≡ es = take_all (k + 1) es (omega arith) in
-    let same : last_line (trace es) ≡ get_or (trace es) k no_line = ap (λ n. get_or (trace es) (n - 1) no_line) (trace_lines.count es) in
-    ((get_or es k none).round, same ∙ trace_lines.each es k ends no_line none (omega arith) (ap ends_of all ∙ are))
 
 -- ---- all of it
 holds : (game : WeighedGame) (last every scale : ℕ) (ends : BracketEnds) → AreInOrder game.form.sets_one

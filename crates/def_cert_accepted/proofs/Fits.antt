@@ -29,7 +29,7 @@ use Rattle.def_bracket.proofs.EvaluatedRounds.{rounds as rounds_are}
 use Rattle.def_bracket.proofs.BestEnds.{best_ends}
 use Rattle.def_bracket.proofs.TraceLines.{trace_lines}
 use Rattle.def_run.specs.Run.{outcome, total_against, evaluation, evaluations}
-use Rattle.def_run.proofs.RunLaws.{evaluations_are_bounds, ends_are_of_their_rounds, rounds_of, runs_have_ends}
+use Rattle.def_run.proofs.RunLaws.{evaluations_are_bounds, ends_are_of_their_rounds, rounds_of, runs_have_ends, some_ends}
 use Rattle.def_cert_verdict.specs.Verdict.{WeighedGame}
 use Rattle.def_tree.specs.Rules.{most_actions}
 use Rattle.def_fraction.specs.Fraction.{most}
@@ -37,9 +37,6 @@ use Rattle.def_cert_ranges.specs.Ranges.{IsFromTo, IsPrintable, HeadFits, LineFi
 use Rattle.def_cert_accepted.specs.Laws.{TheCertificateOfARunFits}
 use Rattle.def_cert_accepted.specs.OfOutcome.{by_sets, printed_plan, certificate_of}
 use Rattle.def_cert_accepted.proofs.OfRun.{own_head, same_head, bounds_of_run, certificate_with, certificate_without}
-
-times : (a b p q : ℕ) → a ≤ p → b ≤ q → a * b ≤ p * q
-times a b p q h k = mul-le a b p q h k
 
 -- ---- bounds: no part of a fraction in lowest terms is larger than that of the whole one
 bound_fits : (total : ℤ) (scale : ℕ) → 1 ≤ scale → unsigned_abs total ≤ 2 ^ 100 → scale ≤ 2 ^ 100
@@ -115,7 +112,7 @@ small_total form player sets root plan order other is light few =
       arith,
       total-below player (leaf_sum player form.leaves plan) (player_sets form player) order,
       leaf_sums-below player form.leaves (player_sets form player) sets root plan other is,
-      times (mass_of form.leaves) root (2 ^ 62) (2 ^ 36) light few,
+      mul-le (mass_of form.leaves) root (2 ^ 62) (2 ^ 36) light few,
     )
 
 reply_fits : (form : SequenceForm) (player : Player) (sets : List InformationSet) (root : ℕ) (plan : List ℕ)
@@ -135,7 +132,7 @@ reply_fits form player sets root plan order other is small light few =
         arith,
         values-below player sums own order k d low,
         leaf_sums-below player form.leaves own sets root plan other is,
-        times (mass_of form.leaves) root (2 ^ 62) (2 ^ 36) light few,
+        mul-le (mass_of form.leaves) root (2 ^ 62) (2 ^ 36) light few,
       );
       choices = chosen.1;
     }
@@ -147,9 +144,9 @@ end_fits : (game : WeighedGame) (player : Player) (sets : List InformationSet) (
 end_fits game player sets root plan order other is light few unit =
     let at : slice_index plan 0 ≡ root = is.root_weight in
     bound_fits (total_against game.form player plan) (game.unit * slice_index plan 0)
-    (omega (arith, times 1 1 game.unit (slice_index plan 0) unit.0 (omega (arith, is.some_root))))
+    (omega (arith, mul-le 1 1 game.unit (slice_index plan 0) unit.0 (omega (arith, is.some_root))))
     (omega (arith, small_total game.form player sets root plan order other is light few))
-    (omega (arith, times game.unit (slice_index plan 0) (2 ^ 62) (2 ^ 36) unit.1 (omega (arith, few))))
+    (omega (arith, mul-le game.unit (slice_index plan 0) (2 ^ 62) (2 ^ 36) unit.1 (omega (arith, few))))
 
 -- ---- the trace
 rounds_evaluated : RoundsAreEvaluated
@@ -187,16 +184,12 @@ evaluation_fits : (game : WeighedGame) (last every scale r : ℕ) → AreInOrder
 evaluation_fits game last every scale r order_one order_two fits some low =
     let form = game.form in
     let worth = evaluations_are_bounds form scale r order_one order_two fits.scale.0 some in
-    let few : r * scale ≤ most_root = omega (arith, times r scale most_rounds most_scale (omega (arith, fits.rounds)) fits.scale.1) in
+    let few : r * scale ≤ most_root = omega (arith, mul-le r scale most_rounds most_scale (omega (arith, fits.rounds)) fits.scale.1) in
     record {
       round = (some, omega arith);
       low = omega (arith, small_total form Two form.sets_one (r * scale) (rounds form scale r).sum_one order_two order_one worth.plan_one fits.mass few);
       high = omega (arith, small_total form One form.sets_two (r * scale) (rounds form scale r).sum_two order_one order_two worth.plan_two fits.mass few);
     }
-
-some_ends : (es : List Evaluation) → 1 ≤ length es → (ends : BracketEnds) × (ends_of es ≡ Some ends)
-some_ends [] some = absurd (omega arith)
-some_ends (e ∷ es) some = (_, refl)
 
 -- an evaluation at a place up to k
 up_to : (game : WeighedGame) (last every scale k place : ℕ) (e : Evaluation) → AreInOrder game.form.sets_one
@@ -211,7 +204,7 @@ up_to game last every scale k place e order_one order_two fits le low stands =
     let same : e ≡ evaluation form scale r = sym stands ∙ is in
     let first : 1 ≤ r = subst (λ (d : Evaluation). 1 ≤ d.round) is (rounds_of form scale every last place e (omega arith)).0 in
     let in_time : r ≤ last = omega arith in
-    let not_later : r ≤ min ((k + 1) * every) last = omega (arith, times (place + 1) every (k + 1) every (omega arith) (omega arith)) in
+    let not_later : r ≤ min ((k + 1) * every) last = omega (arith, mul-le (place + 1) every (k + 1) every (omega arith) (omega arith)) in
     let here = evaluation_fits game last every scale r order_one order_two fits first in_time in
     subst (EvaluationFits (min ((k + 1) * every) last)) (sym same) (record { round = (first, not_later); low = here.low; high = here.high })
 
@@ -266,8 +259,8 @@ bounds_fit game last every scale ends order_one order_two small_one small_two fi
     let two : List ℕ = (rounds form scale ends.upper.round).sum_two in
     let low = evaluations_are_bounds form scale ends.lower.round order_one order_two fits.scale.0 of_rounds.of_lower.some in
     let high = evaluations_are_bounds form scale ends.upper.round order_one order_two fits.scale.0 of_rounds.of_upper.some in
-    let few_low : ends.lower.round * scale ≤ most_root = omega (arith, times ends.lower.round scale most_rounds most_scale (omega (arith, of_rounds.of_lower.in_time, fits.rounds)) fits.scale.1) in
-    let few_high : ends.upper.round * scale ≤ most_root = omega (arith, times ends.upper.round scale most_rounds most_scale (omega (arith, of_rounds.of_upper.in_time, fits.rounds)) fits.scale.1) in
+    let few_low : ends.lower.round * scale ≤ most_root = omega (arith, mul-le ends.lower.round scale most_rounds most_scale (omega (arith, of_rounds.of_lower.in_time, fits.rounds)) fits.scale.1) in
+    let few_high : ends.upper.round * scale ≤ most_root = omega (arith, mul-le ends.upper.round scale most_rounds most_scale (omega (arith, of_rounds.of_upper.in_time, fits.rounds)) fits.scale.1) in
     record {
       asked = omega (arith, of_rounds.of_lower.some, of_rounds.of_lower.in_time);
       trace = record {

@@ -1,15 +1,12 @@
 -- The certificate of a run, by its evaluations.
 use Rattle.std.proofs.Common.{◌≡◌, ℕ, List, length, Option, Some, None, refl, ap, ◌∙◌}
-use Rattle.def_tree.specs.declared.Player.TheVariants.{One, Two}
 use Rattle.def_plan.specs.Form.{SequenceForm, sequence_count}
 use Rattle.def_plan.specs.Payoff.{mass_of}
-use Rattle.def_reply.specs.Reply.{Reply, best_reply_to}
 use Rattle.def_round.specs.Rounds.{rounds}
 use Rattle.def_bracket.specs.Bracket.{BracketEnds, ends_of, TraceLine, trace}
 use Rattle.def_bracket.specs.Outcome.{Head, OutcomeEnds, Outcome}
 use Rattle.def_run.specs.Run.{evaluations, outcome}
-use Rattle.def_run.specs.Laws.{HasPlansOf}
-use Rattle.def_run.proofs.EndLaws.{outcomes_show_their_run}
+use Rattle.def_run.proofs.EndLaws.{ends_at, outcomes_show_their_run, shown_are}
 use Rattle.def_cert_verdict.specs.Certificate.{PrintedBounds, Certificate}
 use Rattle.def_cert_verdict.specs.Verdict.{WeighedGame}
 use Rattle.def_cert_verdict.specs.Laws.{IsHeadOf, with_bounds, without_bounds}
@@ -48,24 +45,8 @@ same_head game head h =
     ∙ ap (λ n. record (own_head game head.rounds head.every head.scale) { unit = n; mass = head.mass }) h.unit
     ∙ ap (λ n. record (own_head game head.rounds head.every head.scale) { mass = n }) h.mass_is
 
--- ---- the ends of an outcome
-abbrev pub ends_at : SequenceForm → ℕ → BracketEnds → OutcomeEnds
-ends_at form scale ends =
-    let one : List ℕ = (rounds form scale ends.lower.round).sum_one in
-    let two : List ℕ = (rounds form scale ends.upper.round).sum_two in
-    record { lower = record { plan = one; reply = best_reply_to form Two one }; upper = record { plan = two; reply = best_reply_to form One two } }
-
 abbrev pub bounds_of_run : WeighedGame → ℕ → ℕ → ℕ → BracketEnds → PrintedBounds
 bounds_of_run game last every scale ends = printed_bounds game.form game.unit (trace (evaluations game.form scale every last)) (ends_at game.form scale ends)
-
-shown_are : (form : SequenceForm) (scale : ℕ) (ends : BracketEnds) (shown : OutcomeEnds)
-    → HasPlansOf form scale ends shown → shown ≡ ends_at form scale ends
-shown_are form scale ends shown h =
-    let there = ends_at form scale ends in
-    ap (λ (p : List ℕ). record { lower = record { plan = p; reply = shown.lower.reply }; upper = shown.upper }) h.lower_plan
-    ∙ ap (λ (r : Reply). record { lower = record { plan = there.lower.plan; reply = r }; upper = shown.upper }) h.lower_reply
-    ∙ ap (λ (p : List ℕ). record { lower = there.lower; upper = record { plan = p; reply = shown.upper.reply } }) h.upper_plan
-    ∙ ap (λ (r : Reply). record { lower = there.lower; upper = record { plan = there.upper.plan; reply = r } }) h.upper_reply
 
 made : SequenceForm → Head → List TraceLine → Option OutcomeEnds → Certificate
 made form head lines ends = certificate_of form (record { head = head; trace = lines; ends = ends })

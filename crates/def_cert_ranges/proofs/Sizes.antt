@@ -1,5 +1,5 @@
 -- Sizes of what a checker sums.
-use Rattle.std.proofs.Common.{◌≡◌, ℕ, zero, suc, ◌+◌, ◌-◌, ◌*◌, ◌^◌, ◌≤◌, ◌↔◌, List, [], ◌∷◌, filter, zip, length, get_or, slice_index, Option, Some, None, Ok, Bool, true, false, cond, All, ℤ, pos, ◌*ℤ◌, ◌+ℤ◌, unsigned_abs, eqb, refl, ap, ◌∙◌, arith}
+use Rattle.std.proofs.Common.{◌≡◌, ℕ, ◌+◌, ◌-◌, ◌*◌, ◌^◌, ◌≤◌, ◌↔◌, List, [], ◌∷◌, filter, zip, length, get_or, slice_index, Option, Some, None, Ok, Bool, true, false, cond, All, ℤ, pos, ◌*ℤ◌, ◌+ℤ◌, unsigned_abs, eqb, refl, ap, ◌∙◌, arith}
 use Rattle.std.proofs.lemmas.Int.{unsigned_abs-mul}
 use Rattle.std.proofs.lemmas.Nat.{mul-le}
 use Rattle.std.proofs.lemmas.List.Elements.{All-append, All-cons, All-nil, All-head, All-tail}
@@ -10,6 +10,7 @@ use Rattle.def_sums.proofs.RingLaws.{unsigned_abs-+ℤ}
 use Rattle.def_sums.proofs.SumLaws.{sum_over-filter, nat_sum_over-bounded, nat_sum_over-mono, nat_sum_over-factor, unsigned_abs-sum_over}
 use Rattle.def_plan.specs.Form.{PlacedSet, placed, Leaf, leaf_sequence}
 use Rattle.def_plan.specs.Payoff.{leaf_sum, values_after, mass_of}
+use Rattle.def_plan.proofs.SizeLaws.{slice_index-at_most}
 use Rattle.def_reply.specs.Reply.{Reply, SetReply, values_of}
 use Rattle.def_bracket.specs.Bracket.{TraceLine}
 use Rattle.def_bracket.specs.Outcome.{Head}
@@ -22,9 +23,6 @@ use Rattle.def_cert_ranges.specs.Laws.{TraceProductsAreSmall, PlanSumsAreSmall, 
 product_size : (a : ℤ) (n : ℕ) → unsigned_abs (a *ℤ pos n) ≡ unsigned_abs a * n
 product_size a n = unsigned_abs-mul a (pos n)
 
-times : (a b p q : ℕ) → a ≤ p → b ≤ q → a * b ≤ p * q
-times a b p q h k = mul-le a b p q h k
-
 -- within the ranges, an end times the round of another line's end is at most 2 ^ 116
 pub trace_products : TraceProductsAreSmall
 trace_products head lines j k line fits trace low_j low_k =
@@ -33,12 +31,12 @@ trace_products head lines j k line fits trace low_j low_k =
     let fa = trace.each j line low_j in
     let fb = trace.each k line low_k in
     record {
-      low = omega (arith, product_size a.low b.low_round, times (unsigned_abs a.low) b.low_round (2 ^ 100) (2 ^ 16) fa.low (omega (arith, fb.low_round.1, fb.round, fits.rounds)));
-      high = omega (arith, product_size a.high b.high_round, times (unsigned_abs a.high) b.high_round (2 ^ 100) (2 ^ 16) fa.high (omega (arith, fb.high_round.1, fb.round, fits.rounds)));
+      low = omega (arith, product_size a.low b.low_round, mul-le (unsigned_abs a.low) b.low_round (2 ^ 100) (2 ^ 16) fa.low (omega (arith, fb.low_round.1, fb.round, fits.rounds)));
+      high = omega (arith, product_size a.high b.high_round, mul-le (unsigned_abs a.high) b.high_round (2 ^ 100) (2 ^ 16) fa.high (omega (arith, fb.high_round.1, fb.round, fits.rounds)));
     }
 
 set_sum : (ws : List ℕ) → PlanWeightsFit ws → nat_sum_over (λ n. n) ws ≤ 2 ^ 46
-set_sum ws f = omega (arith, nat_sum_over-bounded (λ n. n) (2 ^ 36) ws f.each, times (length ws) (2 ^ 36) 1024 (2 ^ 36) f.count.1 (omega arith))
+set_sum ws f = omega (arith, nat_sum_over-bounded (λ n. n) (2 ^ 36) ws f.each, mul-le (length ws) (2 ^ 36) 1024 (2 ^ 36) f.count.1 (omega arith))
 
 all_sets : (wss : List (List ℕ)) → All PlanWeightsFit wss → All (λ ws. nat_sum_over (λ n. n) ws ≤ 2 ^ 46) wss
 all_sets [] f = All-nil (λ ws. nat_sum_over (λ n. n) ws ≤ 2 ^ 46)
@@ -48,19 +46,13 @@ all_sets (ws ∷ wss) f = All-cons (λ ws. nat_sum_over (λ n. n) ws ≤ 2 ^ 46)
 pub plan_sums : PlanSumsAreSmall
 plan_sums unit sets plan small fits = record {
   sets = all_sets plan.weights fits.each;
-  scaled = omega (arith, times unit plan.root (2 ^ 62) (2 ^ 36) small fits.root.1);
+  scaled = omega (arith, mul-le unit plan.root (2 ^ 62) (2 ^ 36) small fits.root.1);
 }
 
 -- ---- worths
 joined_small : (wss : List (List ℕ)) → All PlanWeightsFit wss → All (λ n. n ≤ 2 ^ 36) (joined wss)
 joined_small [] f = All-nil (λ n. n ≤ 2 ^ 36)
 joined_small (ws ∷ wss) f = All-append (λ n. n ≤ 2 ^ 36) ws (joined wss) (All-head PlanWeightsFit ws wss f).each (joined_small wss (All-tail PlanWeightsFit ws wss f))
-
-read_small : (most : ℕ) (xs : List ℕ) → All (λ n. n ≤ most) xs → (s : ℕ) → slice_index xs s ≤ most
-read_small most [] all zero = omega arith
-read_small most [] all (suc s) = omega arith
-read_small most (x ∷ xs) all zero = All-head (λ n. n ≤ most) x xs all
-read_small most (x ∷ xs) all (suc s) = read_small most xs (All-tail (λ n. n ≤ most) x xs all) s
 
 each_of : {A : Type 0} (P : A → Type 0) (xs : List A) → ((x : A) → P x) → All P xs
 each_of P [] h = All-nil P
@@ -93,7 +85,7 @@ one_leaf player xs small z =
     omega (
       arith,
       product_size z.weight (slice_index xs (leaf_sequence (opponent player) z)),
-      times (unsigned_abs z.weight) (slice_index xs (leaf_sequence (opponent player) z)) (unsigned_abs z.weight) (2 ^ 36) (omega arith) (small (leaf_sequence (opponent player) z)),
+      mul-le (unsigned_abs z.weight) (slice_index xs (leaf_sequence (opponent player) z)) (unsigned_abs z.weight) (2 ^ 36) (omega arith) (small (leaf_sequence (opponent player) z)),
     )
 
 all_leaves : (player : Player) (leaves : List Leaf) (xs : List ℕ) → ((s : ℕ) → slice_index xs s ≤ 2 ^ 36)
@@ -105,19 +97,19 @@ all_leaves player leaves xs small light =
       nat_sum_over-mono (λ z. unsigned_abs (z.weight *ℤ pos (slice_index xs (leaf_sequence (opponent player) z)))) (λ z. unsigned_abs z.weight * 2 ^ 36) leaves
           (each_of (λ z. unsigned_abs (z.weight *ℤ pos (slice_index xs (leaf_sequence (opponent player) z))) ≤ unsigned_abs z.weight * 2 ^ 36) leaves (one_leaf player xs small)),
       nat_sum_over-factor (2 ^ 36) (λ (z : Leaf). unsigned_abs z.weight) leaves,
-      times (mass_of leaves) (2 ^ 36) (2 ^ 62) (2 ^ 36) light (omega arith),
+      mul-le (mass_of leaves) (2 ^ 36) (2 ^ 62) (2 ^ 36) light (omega arith),
     )
 
 all_values : (sets : ℕ) (reply : Reply) → sets ≤ 2 ^ 20 → ReplyFits sets reply
     → nat_sum_over (λ r. unsigned_abs r.value) reply.sets ≤ 2 ^ 120
 all_values sets reply few fits =
-    omega (arith, nat_sum_over-bounded (λ r. unsigned_abs r.value) (2 ^ 100) reply.sets fits.values, times (length reply.sets) (2 ^ 100) (2 ^ 20) (2 ^ 100) (omega (arith, fits.count)) (omega arith))
+    omega (arith, nat_sum_over-bounded (λ r. unsigned_abs r.value) (2 ^ 100) reply.sets fits.values, mul-le (length reply.sets) (2 ^ 100) (2 ^ 20) (2 ^ 100) (omega (arith, fits.count)) (omega arith))
 
 -- within the ranges, leaf products sum to at most 2 ^ 98, values to 2 ^ 120, and a worth is at most 2 ^ 121
 pub worths : WorthsAreSmall
 worths player leaves sets plan_sets reply_sets plan reply light fits few fit =
     let xs : List ℕ = printed_numbers plan in
-    let small : (s : ℕ) → slice_index xs s ≤ 2 ^ 36 = read_small (2 ^ 36) xs (All-cons (λ n. n ≤ 2 ^ 36) plan.root (joined plan.weights) fits.root.1 (joined_small plan.weights fits.each)) in
+    let small : (s : ℕ) → slice_index xs s ≤ 2 ^ 36 = slice_index-at_most (2 ^ 36) xs (All-cons (λ n. n ≤ 2 ^ 36) plan.root (joined plan.weights) fits.root.1 (joined_small plan.weights fits.each)) in
     let of_leaves = all_leaves player leaves xs small light in
     let of_values = all_values reply_sets reply few fit in
     record {

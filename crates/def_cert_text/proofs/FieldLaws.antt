@@ -17,6 +17,8 @@ use Rattle.def_fraction.specs.Divisors.{gcd}
 use Rattle.def_fraction.specs.Fraction.{Fraction}
 use Rattle.def_fraction.specs.Literal.{slash}
 use Rattle.def_fraction.specs.Text.{fraction_text}
+use Rattle.def_fraction.proofs.DivisorLemmas.{gcd-with_one}
+use Rattle.def_fraction.proofs.LiteralLemmas.{digit_range, option_map_some}
 use Rattle.def_fraction.proofs.TextLemmas.{int_text-canonical}
 use Rattle.def_cert_text.specs.declared.fault.CertFault.{CertFault}
 use Rattle.def_cert_text.specs.declared.fault.CertFault.TheVariants.{CertSyntax, CertShort}
@@ -148,32 +150,22 @@ field_only kind test sep total bytes x left e =
     (next_field bytes, p.0, sym (parted is_field_byte bytes) ∙ ap (λ (r : List ℕ). next_field bytes ++ r) p.1 ∙ sym (append_assoc (next_field bytes) (sep ∷ []) left))
 
 -- ---- words
--- words that are the same byte by byte are equal
-pub word_same : (xs ys : List ℕ) → pointwise eqb xs ys ≡ true → xs ≡ ys
-word_same [] [] e = refl
-word_same [] (y ∷ ys) e = absurd cc
-word_same (x ∷ xs) [] e = absurd cc
-word_same (x ∷ xs) (y ∷ ys) e = let p = and_parts (eqb x y) (pointwise eqb xs ys) e in let a = eqb-true x y p.0 in let b = word_same xs ys p.1 in λ i. a i ∷ b i
-
 -- compared byte by byte, a word is equal to itself
 pub word_itself : (xs : List ℕ) → pointwise eqb xs xs ≡ true
 word_itself [] = refl
 word_itself (x ∷ xs) = and_from (eqb x x) (pointwise eqb xs xs) (eq-eqb x x refl) (word_itself xs)
 
 -- ---- whole numbers
-pub digit_low : (d : ℕ) → is_ascii_digit d ≡ true → (48 ≤ d) × (d ≤ 57)
-digit_low d h = let p = and_parts (leb 48 d) (leb d 57) h in (leb-true 48 d p.0, leb-true d 57 p.1)
-
 digit_inside : (d : ℕ) → is_ascii_digit d ≡ true → is_field_byte d ≡ true
 digit_inside d h =
-    let r = digit_low d h in
+    let r = digit_range d h in
     let a : eqb d 32 ≡ false = ne_eqb d 32 (λ e. omega arith) in
     let b : eqb d 10 ≡ false = ne_eqb d 10 (λ e. omega arith) in
     rw (a, b) refl
 
 digit_no_slash : (d : ℕ) → is_ascii_digit d ≡ true → is_no_slash d ≡ true
 digit_no_slash d h =
-    let r = digit_low d h in
+    let r = digit_range d h in
     let a : eqb d 47 ≡ false = ne_eqb d 47 (λ e. omega arith) in
     rw a refl
 
@@ -188,7 +180,7 @@ value_behind : (n : ℕ) (cs : List ℕ) → 0 < n → all_ascii_digits cs ≡ t
 value_behind n [] some d small = let e : n * 1 + 0 ≡ n = omega arith in ap decimal e ∙ sym (append-nil (decimal n))
 value_behind n (c ∷ cs) some d small =
     let p = and_parts (is_ascii_digit c) (all_ascii_digits cs) d in
-    let r = digit_low c p.0 in
+    let r = digit_range c p.0 in
     let m : ℕ = n * 10 + (c - 48) in
     let t = 10 ^ length cs in
     let power : 10 ^ length (c ∷ cs) ≡ t * 10 = pow-suc 10 (length cs) in
@@ -208,12 +200,12 @@ plain_decimal [] h plain small = absurd cc
 plain_decimal (d ∷ []) h plain small =
     let p = and_parts (is_ascii_digit d && true) _ h in
     let q = and_parts (is_ascii_digit d) true p.0 in
-    let r = digit_low d q.0 in
+    let r = digit_range d q.0 in
     ap decimal (omega arith) ∙ decimal_digit (d - 48) (omega arith) ∙ ap (λ (x : ℕ). x ∷ []) (omega arith)
 plain_decimal (d ∷ e ∷ cs) h plain small =
     let p = and_parts (all_ascii_digits (d ∷ e ∷ cs)) _ h in
     let q = and_parts (is_ascii_digit d) (all_ascii_digits (e ∷ cs)) p.0 in
-    let r = digit_low d q.0 in
+    let r = digit_range d q.0 in
     let some : d ≡ 48 → ⊥ = λ z. (let bad = sym (ap not (eq-eqb d 48 z)) ∙ plain in cc) in
     value_behind (d - 48) (e ∷ cs) (omega (arith, some)) q.1 small
     ∙ ap (λ (x : List ℕ). x ++ e ∷ cs) (decimal_digit (d - 48) (omega arith) ∙ ap (λ (x : ℕ). x ∷ []) (omega arith))
@@ -271,11 +263,6 @@ pub decimal_inside : (n : ℕ) → n ≤ 2 ^ 127 → all_pass is_field_byte (dec
 decimal_inside n small = decimal_pass is_field_byte digit_inside n small
 
 -- ---- whole numbers with a sign
-none_map : {A B : Type 0} (f : A → B) (o : Option A) (y : B) → option_map f o ≡ Some y
-    → (x : A) × (o ≡ Some x) × (f x ≡ y)
-none_map f (Some x) y e = (x, refl, cc)
-none_map f None y e = absurd cc
-
 some_digit : (n : ℕ) → n ≤ 2 ^ 127 → decimal n ≡ [] → ⊥
 some_digit n small e = let t = decimal_is n small in let bad = sym (ap is_numeral e) ∙ t.numeral in cc
 
@@ -284,7 +271,7 @@ first_digit n b ds small e z =
     let t = decimal_is n small in
     let digits = and_parts (all_ascii_digits (b ∷ ds)) _ (sym (ap is_numeral e) ∙ t.numeral) in
     let first = and_parts (is_ascii_digit b) (all_ascii_digits ds) digits.0 in
-    omega (arith, (digit_low b first.0).0)
+    omega (arith, (digit_range b first.0).0)
 
 abbrev by_minus : ℕ → ℕ → List ℕ → Bool → Option ℤ
 by_minus most b ds t = cond t (option_map negative_of (whole_in 1 most ds)) (option_map (λ (m : ℕ). pos m) (whole_in 0 most (b ∷ ds)))
@@ -313,7 +300,7 @@ integer_only_by : (most : ℕ) (n : ℤ) (b : ℕ) (ds : List ℕ) (t : Bool) �
     → by_minus most b ds (eqb b 45) ≡ Some n → (unsigned_abs n ≤ most) × (b ∷ ds ≡ signed_decimal n)
 integer_only_by most n b ds true small h e =
     let here = sym (ap (by_minus most b ds) h) ∙ e in
-    let p = none_map negative_of (whole_in 1 most ds) n here in
+    let p = option_map_some negative_of (whole_in 1 most ds) n here in
     let q = whole_only 1 most p.0 ds (omega arith) p.1 in
     let is = negative_is p.0 n q.0 p.2 in
     let next : suc (p.0 - 1) ≡ p.0 = omega (arith, q.0) in
@@ -322,7 +309,7 @@ integer_only_by most n b ds true small h e =
     (omega (arith, q.1, next), (λ i. first i ∷ ds) ∙ ap (λ (xs : List ℕ). 45 ∷ xs) (q.2 ∙ ap decimal (sym next)))
 integer_only_by most n b ds false small h e =
     let here = sym (ap (by_minus most b ds) h) ∙ e in
-    let p = none_map (λ (m : ℕ). pos m) (whole_in 0 most (b ∷ ds)) n here in
+    let p = option_map_some (λ (m : ℕ). pos m) (whole_in 0 most (b ∷ ds)) n here in
     let q = whole_only 0 most p.0 (b ∷ ds) (omega arith) p.1 in
     subst (λ (z : ℤ). (unsigned_abs z ≤ most) × (b ∷ ds ≡ signed_decimal z)) p.2 (q.1, q.2)
 
@@ -409,11 +396,6 @@ pub fraction_again : (most : ℕ) (f : Fraction) → most ≤ 2 ^ 126 → IsLowe
     → fraction_in most (fraction_text f) ≡ Some f
 fraction_again most f small is = fraction_again_by most f (eqb f.den 1) small is refl
 
--- the greatest common divisor of any number and 1 is 1
-pub gcd_one : (n : ℕ) → gcd n 1 ≡ 1
-unfolding gcd
-gcd_one n = refl
-
 slash_is : (b : ℕ) (t : Bool) → eqb b slash ≡ t → is_no_slash b ≡ false → b ≡ slash
 slash_is b true h e = eqb-true b slash h
 slash_is b false h e = absurd (let bad = sym (ap not h) ∙ e in cc)
@@ -439,7 +421,7 @@ only_lowest most front [] (Some num) f small one h stop e =
     let q = integer_only most num front small h in
     let is : over_one num ≡ f = cc in
     subst (λ (g : Fraction). IsLowestWithin most g × (front ++ [] ≡ fraction_text g)) is
-    (record { positive = omega arith; coprime = gcd_one (unsigned_abs num); num = q.0; den = one }, append-nil front ∙ q.1)
+    (record { positive = omega arith; coprime = gcd-with_one (unsigned_abs num); num = q.0; den = one }, append-nil front ∙ q.1)
 only_lowest most front (b ∷ ds) (Some num) f small one h stop e =
     let q = integer_only most num front small h in
     let p = over_only num (whole_in 2 most ds) f e in

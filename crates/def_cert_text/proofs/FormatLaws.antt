@@ -6,7 +6,7 @@ use Rattle.std.proofs.lemmas.Bool.{and_parts, and_from, cases_lt}
 use Rattle.def_cert_text.specs.declared.fault.CertFault.{CertFault}
 use Rattle.def_cert_text.specs.Fields.{◌>>=◌, Item, field, separator, item_bytes, items_text, is_field_byte}
 use Rattle.def_cert_text.specs.Formats.{Format, text_of, and_then}
-use Rattle.def_cert_text.specs.FirstFault.{Place, item_there, CanGoOn, Needs, Stops, cut_short, unfit, HasFirstFault}
+use Rattle.def_cert_text.specs.FirstFault.{Place, item_there, CanGoOn, Needs, StopsReading, cut_short, unfit, HasFirstFault}
 use Rattle.def_cert_text.proofs.FieldLaws.{bind_ok, ok_is, all_pass}
 
 -- the text of items with others behind them is the text of the first and then that of the others
@@ -70,7 +70,7 @@ from_view A B f g to is items p =
 stop_by : (A B : Type 0) (f : Format A) (g : Format B) (xs ys : List Item) (place : Place) (total : ℕ) (left : List ℕ)
     (fault : CertFault)
     → (CanGoOn g (ys ++ item_there place left ∷ []) → CanGoOn f (xs ++ item_there place left ∷ []))
-    → Stops f xs place total left fault → Stops g ys place total left fault
+    → StopsReading f xs place total left fault → StopsReading g ys place total left fault
 stop_by A B f g xs ys place total left fault back (cut_short short is) = cut_short short is
 stop_by A B f g xs ys place total left fault back (unfit long none is) = unfit long (λ p. none (back p)) is
 
@@ -330,8 +330,8 @@ found_first A B f g first second total bytes fault h needs =
     ap (λ (r : Result (A × List ℕ) CertFault). r >>= second_of g total) (first.found total bytes fault low)
 
 stop_at : (A : Type 0) (f : Format A) (xs ys : List Item) (place : Place) (total : ℕ) (left : List ℕ)
-    (fault : CertFault) → xs ≡ ys → Stops f xs place total left fault → Stops f ys place total left fault
-stop_at A f xs ys place total left fault same = subst (λ (ts : List Item). Stops f ts place total left fault) same
+    (fault : CertFault) → xs ≡ ys → StopsReading f xs place total left fault → StopsReading f ys place total left fault
+stop_at A f xs ys place total left fault same = subst (λ (ts : List Item). StopsReading f ts place total left fault) same
 
 found_second : (A B : Type 0) (f : Format A) (g : A → Format B) → IsFormat A f
     → ((x : A) → f.fits x ≡ true → IsFormat B (g x)) → (x : A) (y : B) → f.fits x ≡ true → (g x).fits y ≡ true

@@ -2,19 +2,20 @@
 use Rattle.std.proofs.Common.{◌≡◌, ℕ, suc, ◌+◌, ◌-◌, ◌^◌, ◌≤◌, Bool, true, false, cond, eqb, leb, List, [], ◌∷◌, ◌++◌, ◌&&◌, ◌||◌, length, take, Option, Some, None, Result, Ok, Err, ℤ, unsigned_abs, refl, sym, ap, ◌∙◌, subst, append_assoc, arith}
 use Rattle.std.specs.Prelude.{not}
 use Rattle.std.specs.List.{prefix_len}
-use Rattle.std.specs.Cmp.Lexicographic.{pointwise}
+use Rattle.std.specs.Cmp.Lexicographic.{pointwise, same_text}
 use Rattle.std.specs.Fmt.{decimal, signed_decimal}
 use Rattle.std.proofs.lemmas.List.{append-nil, length-append}
-use Rattle.std.proofs.lemmas.Bool.{and_parts, and_from, leb-true, le-leb, eqb-true, eq-eqb}
+use Rattle.std.proofs.lemmas.Bool.{and_parts, and_from, leb-true, le-leb, eqb-true, eq-eqb, not-true}
 use Rattle.def_fraction.specs.Fraction.{Fraction}
 use Rattle.def_fraction.specs.Text.{fraction_text}
+use Rattle.def_fraction.proofs.DivisorLemmas.{gcd-with_one}
 use Rattle.def_cert_text.specs.declared.fault.CertFault.{CertFault}
 use Rattle.def_cert_text.specs.declared.fault.CertFault.TheVariants.{CertSyntax, CertNumber, CertShort}
 use Rattle.def_cert_text.specs.Fields.{◌>>=◌, space, feed, FieldKind, number, Item, field, separator, items_text, is_field_byte, next_field, behind_field, is_empty, field_fault, if_fit, read_field}
 use Rattle.def_cert_text.specs.Numbers.{whole_in, integer_in, fraction_in}
 use Rattle.def_cert_text.specs.Formats.{Format, text_of, one_field, whole_field, integer_field, is_lowest_within, fraction_field, same_bytes, fixed_field, with_end_if_fit, read_number}
-use Rattle.def_cert_text.specs.FirstFault.{Place, of_field, of_separator, place_of_item, Stops, cut_short, unfit, HasFirstFault}
-use Rattle.def_cert_text.proofs.FieldLaws.{ok_is, all_pass, front_is, behind_is, behind_all, parted, stops, word_same, word_itself, whole_again, whole_only, decimal_inside, integer_again, integer_only, integer_inside, lowest_parts, lowest_from, fraction_inside, fraction_again, fraction_only, gcd_one}
+use Rattle.def_cert_text.specs.FirstFault.{Place, of_field, of_separator, place_of_item, StopsReading, cut_short, unfit, HasFirstFault}
+use Rattle.def_cert_text.proofs.FieldLaws.{ok_is, all_pass, front_is, behind_is, behind_all, parted, stops, word_itself, whole_again, whole_only, decimal_inside, integer_again, integer_only, integer_inside, lowest_parts, lowest_from, fraction_inside, fraction_again, fraction_only}
 use Rattle.def_cert_text.proofs.FormatLaws.{IsFormat, view_laws}
 
 -- ---- a field with one of some separators, which is part of the value
@@ -172,7 +173,7 @@ short_or : (A : Type 0) (kind : FieldKind) (fits : A → Bool) (spelled : A → 
     (ok : ℕ → Bool) → IsField A fits spelled test → AreSeparators ok
     → (total : ℕ) (bytes : List ℕ) (fault : CertFault) (o : Option A) (r : List ℕ) → test (next_field bytes) ≡ o
     → behind_field bytes ≡ r
-    → Stops (any_field kind fits spelled test ok) [] (of_field kind) total bytes fault
+    → StopsReading (any_field kind fits spelled test ok) [] (of_field kind) total bytes fault
     → any_rest (field_fault kind (total - length bytes)) ok total o r ≡ Err fault
 short_or A kind fits spelled test ok is seps total bytes fault o [] he hr (cut_short short f) = ap Err (sym f)
 short_or A kind fits spelled test ok is seps total bytes fault o [] he hr (unfit long none f) = absurd (let bad = sym long ∙ ap is_empty hr in cc)
@@ -194,7 +195,7 @@ byte_by b more false h e = h
 after_field : (A : Type 0) (kind : FieldKind) (fits : A → Bool) (spelled : A → List ℕ) (test : List ℕ → Option A)
     (ok : ℕ → Bool) → IsField A fits spelled test
     → (total : ℕ) (x : A) (left : List ℕ) (fault : CertFault) → fits x ≡ true → next_field left ≡ []
-    → Stops (any_field kind fits spelled test ok) (field kind (spelled x) ∷ []) of_separator total left fault
+    → StopsReading (any_field kind fits spelled test ok) (field kind (spelled x) ∷ []) of_separator total left fault
     → (any_field kind fits spelled test ok).read total (spelled x ++ left) ≡ Err fault
 after_field A kind fits spelled test ok is total x [] fault fx whole (cut_short short f) =
     let bytes : List ℕ = spelled x in
@@ -217,7 +218,7 @@ after_field A kind fits spelled test ok is total x (b ∷ more) fault fx whole (
     no_sep false h = ap (pair_sep (CertSyntax (total - length (b ∷ more))) x b more) h ∙ ap Err (sym f)
 
 abbrev at_items : {A : Type 0} → Format A → List Item → Place → ℕ → List ℕ → CertFault → Type 0
-at_items f items place total left fault = Stops f items place total left fault
+at_items f items place total left fault = StopsReading f items place total left fault
 
 any_found_at : (A : Type 0) (kind : FieldKind) (fits : A → Bool) (spelled : A → List ℕ) (test : List ℕ → Option A)
     (ok : ℕ → Bool) → IsField A fits spelled test → AreSeparators ok
@@ -225,21 +226,21 @@ any_found_at : (A : Type 0) (kind : FieldKind) (fits : A → Bool) (spelled : A 
     → fits x ≡ true
     → field kind (spelled x) ∷ separator sep ∷ [] ≡ (items ++ item ∷ []) ++ more → place_of_item item ≡ place
     → (place ≡ of_separator → next_field left ≡ [])
-    → Stops (any_field kind fits spelled test ok) items place total left fault
+    → StopsReading (any_field kind fits spelled test ok) items place total left fault
     → (any_field kind fits spelled test ok).read total (items_text items ++ left) ≡ Err fault
 unfolding items_text
 any_found_at A kind fits spelled test ok is seps total fault [] item more place left x sep fx e kinds whole stop =
     let here : item ≡ field kind (spelled x) = cc in
     let at : place ≡ of_field kind = sym kinds ∙ ap place_of_item here in
     short_or A kind fits spelled test ok is seps total left fault (test (next_field left)) (behind_field left) refl refl
-    (subst (λ (p : Place). Stops (any_field kind fits spelled test ok) [] p total left fault) at stop)
+    (subst (λ (p : Place). StopsReading (any_field kind fits spelled test ok) [] p total left fault) at stop)
 any_found_at A kind fits spelled test ok is seps total fault (i ∷ []) item more place left x sep fx e kinds whole stop =
     let first : i ≡ field kind (spelled x) = cc in
     let second : item ≡ separator sep = cc in
     let at : place ≡ of_separator = sym kinds ∙ ap place_of_item second in
-    let there : Stops (any_field kind fits spelled test ok) (field kind (spelled x) ∷ []) of_separator total left fault =
-    subst (λ (p : Place). Stops (any_field kind fits spelled test ok) (field kind (spelled x) ∷ []) p total left fault) at
-    (subst (λ (j : Item). Stops (any_field kind fits spelled test ok) (j ∷ []) place total left fault) first stop) in
+    let there : StopsReading (any_field kind fits spelled test ok) (field kind (spelled x) ∷ []) of_separator total left fault =
+    subst (λ (p : Place). StopsReading (any_field kind fits spelled test ok) (field kind (spelled x) ∷ []) p total left fault) at
+    (subst (λ (j : Item). StopsReading (any_field kind fits spelled test ok) (j ∷ []) place total left fault) first stop) in
     ap (λ (j : Item). (any_field kind fits spelled test ok).read total (items_text (j ∷ []) ++ left)) first
     ∙ ap (λ (bs : List ℕ). (any_field kind fits spelled test ok).read total (bs ++ left)) (append-nil (spelled x))
     ∙ after_field A kind fits spelled test ok is total x left fault fx (whole at) there
@@ -336,12 +337,12 @@ fraction_laws most sep one small s = one_field_laws Fraction number (is_lowest_w
   again = λ f fits. fraction_again most f small (lowest_parts most f fits);
   only = λ bytes f e. (let q = fraction_only most f bytes small one e in (lowest_from most f q.0, q.1));
   some = record { num = ℤ.pos 0; den = 1 };
-  some_fits = lowest_from most (record { num = ℤ.pos 0; den = 1 }) (record { positive = omega arith; coprime = gcd_one 0; num = omega arith; den = one });
+  some_fits = lowest_from most (record { num = ℤ.pos 0; den = 1 }) (record { positive = omega arith; coprime = gcd-with_one 0; num = omega arith; den = one });
 })
 
 the_word : (wanted bytes : List ℕ) (x : Unit {0}) (t : Bool) → pointwise eqb bytes wanted ≡ t
     → cond (pointwise eqb bytes wanted) (Some tt) None ≡ Some x → bytes ≡ wanted
-the_word wanted bytes x true h e = word_same bytes wanted h
+the_word wanted bytes x true h e = same_text bytes wanted (sym h)
 the_word wanted bytes x false h e = absurd (let bad = sym (ap (λ t. cond t (Some tt) None) h) ∙ e in cc)
 
 -- a fixed field keeps the laws where it holds no separator and one ends it
@@ -366,12 +367,8 @@ number_with_end most = record {
 abbrev is_separator : ℕ → Bool
 is_separator b = not (is_field_byte b)
 
-not_false : (t : Bool) → not t ≡ true → t ≡ false
-not_false true h = absurd cc
-not_false false h = refl
-
 both_separators : AreSeparators is_separator
-both_separators = record { separates = λ b h. not_false (is_field_byte b) h; some_sep = space; some_ok = refl }
+both_separators = record { separates = λ b h. not-true (is_field_byte b) h; some_sep = space; some_ok = refl }
 
 sep_by : (b : ℕ) (s t : Bool) → eqb b 32 ≡ s → eqb b 10 ≡ t → is_separator b ≡ true → cond (eqb b 10) feed space ≡ b
 sep_by b s true h k e = ap (λ t. cond t feed space) k ∙ sym (eqb-true b 10 k)

@@ -7,7 +7,7 @@ use Rattle.def_cert_verdict.specs.Certificate.{Certificate}
 use Rattle.def_cert_text.specs.Fields.{◌>>=◌}
 use Rattle.def_cert_text.specs.CertText.{whole_certificate, cert_text, if_at_end, cert_in}
 use Rattle.def_cert_text.specs.FirstFault.{IsTrailing, FirstCertFault, within, behind}
-use Rattle.def_cert_text.specs.Laws.{ReadingIsExact, TextsTellCertificates, FirstFaultDecides}
+use Rattle.def_cert_text.specs.Laws.{CertificateReadingIsExact, TextsTellCertificates, FirstFaultDecides}
 use Rattle.def_cert_text.proofs.FieldLaws.{bind_ok, ok_is}
 use Rattle.def_cert_text.proofs.FormatLaws.{bind_err}
 use Rattle.def_cert_text.proofs.Fits.{fits_ranges, ranges_fit}
@@ -40,7 +40,7 @@ read bytes c e =
     (one.0, one.1 ∙ ap (λ (t : List ℕ). cert_text x.0 ++ t) end.0 ∙ append-nil (cert_text x.0))
 
 -- reading gives a certificate exactly where it is within its ranges and the bytes are its text
-pub reading : ReadingIsExact
+pub reading : CertificateReadingIsExact
 reading bytes c = (
   λ e. (let p = read bytes c e in (fits_ranges c p.0, p.1)),
   λ p. ap cert_in p.1 ∙ written c (ranges_fit c p.0),

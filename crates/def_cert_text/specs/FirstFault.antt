@@ -47,11 +47,11 @@ CanGoOn {A = A} f items = (x : A) × (more : List Item) × (f.fits x ≡ true) �
 abbrev pub Needs : {A : Type 0} → Format A → List Item → Place → Type 0
 Needs f items place = (item : Item) × (place_of_item item ≡ place) × CanGoOn f (items ++ item ∷ [])
 
-pub data Stops {A : Type 0} (f : Format A) (items : List Item) (place : Place) (total : ℕ) (left : List ℕ) (fault : CertFault) : Type 0 where
-  cut_short : is_cut_short place left ≡ true → fault ≡ CertShort → Stops f items place total left fault
+pub data StopsReading {A : Type 0} (f : Format A) (items : List Item) (place : Place) (total : ℕ) (left : List ℕ) (fault : CertFault) : Type 0 where
+  cut_short : is_cut_short place left ≡ true → fault ≡ CertShort → StopsReading f items place total left fault
   unfit : is_cut_short place left ≡ false → (CanGoOn f (items ++ item_there place left ∷ []) → ⊥)
       → fault ≡ fault_there place (total - length left)
-      → Stops f items place total left fault
+      → StopsReading f items place total left fault
 
 -- The bytes end a text of so many bytes in all. The field before a separator's place is a whole one.
 pub record HasFirstFault {A : Type 0} (f : Format A) (total : ℕ) (bytes : List ℕ) (fault : CertFault) : Type 0 where
@@ -61,7 +61,7 @@ pub record HasFirstFault {A : Type 0} (f : Format A) (total : ℕ) (bytes : List
   pub parts : bytes ≡ items_text items ++ left
   pub whole_before : place ≡ of_separator → next_field left ≡ []
   pub needed : Needs f items place
-  pub stop : Stops f items place total left fault
+  pub stop : StopsReading f items place total left fault
 
 -- more stands behind a whole certificate
 pub record IsTrailing (bytes : List ℕ) (fault : CertFault) : Type 0 where

@@ -10,8 +10,8 @@ use Rattle.def_cert_text.specs.CertText.{trace_lines, plan_lines, reply_lines, b
 use Rattle.def_cert_text.specs.FirstFault.{FirstCertFault}
 
 -- reading gives a certificate exactly where that is within its ranges and the bytes are its text
-abbrev pub ReadingIsExact : Type 0
-ReadingIsExact = (bytes : List ℕ) (c : Certificate)
+abbrev pub CertificateReadingIsExact : Type 0
+CertificateReadingIsExact = (bytes : List ℕ) (c : Certificate)
     → (cert_in bytes ≡ Ok c) ↔ (CertificateFits c × (bytes ≡ cert_text c))
 
 -- a text says one certificate

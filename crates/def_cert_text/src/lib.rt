@@ -2,7 +2,7 @@
 //! functions' contracts are laws of the definitions, which stand in `specs/`.
 #![tactic(auto)]
 
-ghost use Rattle.def_cert_text.specs.Laws.{CutTextsAreShort, FirstFaultDecides, ReadingIsExact, TextIsItsLines};
+ghost use Rattle.def_cert_text.specs.Laws.{CutTextsAreShort, FirstFaultDecides, CertificateReadingIsExact, TextIsItsLines};
 ghost use Rattle.def_cert_text.specs.Laws.{TextsTellCertificates};
 
 mod fault;
@@ -11,7 +11,7 @@ pub use fault::CertFault;
 
 /// Reading gives a certificate exactly where it is within its ranges and the bytes are its text.
 pub fn reading_is_exact()
-    ensures { ReadingIsExact }
+    ensures { CertificateReadingIsExact }
 {}
 
 /// Two certificates within their ranges whose texts are the same are the same certificate.

@@ -2,8 +2,9 @@
 use Rattle.std.proofs.Common.{◌≡◌, ℕ, zero, suc, ◌+◌, ◌<◌, ◌⊎◌, ◌↔◌, Bool, true, false, not, cond, List, [], ◌∷◌, ◌++◌, ℤ, ◌≤ℤ◌, int_lt, Option, Some, None, refl, sym, ap, ◌∙◌, arith, ⊎_elim, inl, inr}
 use Rattle.std.specs.Bool.{Decides}
 use Rattle.std.proofs.lemmas.Int.{ints}
-use Rattle.std.proofs.lemmas.Bool.{false≢true}
+use Rattle.std.proofs.lemmas.Bool.{false≢true, not-true}
 use Rattle.std.proofs.lemmas.Option.{none-some, same_Some}
+use Rattle.def_bracket.proofs.Compares.{lt_no}
 use Rattle.def_cert_verdict.specs.declared.fault.TestFault.{TestFault}
 use Rattle.def_cert_verdict.specs.Verdict.{first_failing, unless}
 use Rattle.def_cert_verdict.specs.FaultCauses.{IsFirstNot}
@@ -160,16 +161,9 @@ pub Describes-search : (made : ℕ → TestFault) (ts : List (Option TestFault))
 Describes-search made ts n Holds s = record { none = s.none; some = s.some }
 
 -- ---- comparisons
-not_true : (b : Bool) → not b ≡ true → b ≡ false
-not_true true e = sym e
-not_true false e = refl
-
-not_less : (x y : ℤ) → int_lt x y ≡ false → y ≤ℤ x
-not_less x y e = omega (arith, ints)
-
 less_not : (x y : ℤ) → y ≤ℤ x → false ≡ int_lt x y
 less_not x y h = omega (arith, ints)
 
 -- the test that x isn't below y tells whether y is at most x
 pub not_less-Decides : (x y : ℤ) → Decides (not (int_lt x y)) (y ≤ℤ x)
-not_less-Decides x y = (λ e. not_less x y (not_true (int_lt x y) e), λ h. ap not (sym (less_not x y h)))
+not_less-Decides x y = (λ e. lt_no x y (not-true (int_lt x y) e), λ h. ap not (sym (less_not x y h)))

@@ -5,4 +5,5 @@ pub mod Replies
 pub mod Traces
 pub mod Decided
 pub mod Shown
+pub mod LastLine
 pub mod FirstFailure

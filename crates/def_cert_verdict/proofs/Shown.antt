@@ -1,6 +1,6 @@
 -- An accepted certificate shows its bounds.
-use Rattle.std.proofs.Common.{◌≡◌, ℕ, ◌*◌, ◌≤◌, List, ℤ, pos, ◌*ℤ◌, ◌≤ℤ◌, sym, ap, ◌∙◌, subst, arith}
-use Rattle.std.proofs.lemmas.Nat.{mul-le}
+use Rattle.std.proofs.Common.{◌≡◌, ℕ, ◌*◌, ◌≤◌, List, ℤ, pos, ◌*ℤ◌, ◌≤ℤ◌, sym, ap, ◌∙◌, subst}
+use Rattle.std.proofs.Math.Nat.{mul-pos}
 use Rattle.def_fraction.specs.Fraction.{Fraction, IsInLowestTerms, fraction_of}
 use Rattle.def_fraction.specs.Laws.{HasValue}
 use Rattle.def_fraction.proofs.FractionLemmas.{fraction_of-reduced}
@@ -13,9 +13,6 @@ use Rattle.def_reply.proofs.BoundLaws.{tight_bounds}
 use Rattle.def_cert_verdict.specs.Certificate.{printed_numbers}
 use Rattle.def_cert_verdict.specs.Laws.{HoldsUp, IsTotalOver, AcceptedCertificatesShowTheirBounds}
 use Rattle.def_cert_verdict.proofs.Decided.{exact}
-
-some_scale : (unit root : ℕ) → 1 ≤ unit → 1 ≤ root → 1 ≤ unit * root
-some_scale unit root u r = omega (arith, mul-le 1 1 unit root u r)
 
 total_over : (bound : Fraction) (total : ℤ) (scale : ℕ) → 1 ≤ scale → bound ≡ fraction_of total scale
     → IsTotalOver bound total scale
@@ -43,8 +40,8 @@ accepted game head b low high order_one order_two some_unit e =
     let upper = h.reply_one in
     let floor : IsFloor game.form x b.reply_two.total = subst (IsFloor game.form x) (sym lower.total_is.worth_is) (tight_bounds.floor game.form x b.reply_two.sets order_two lower.tight) in
     let ceiling : IsCeiling game.form y b.reply_one.total = subst (IsCeiling game.form y) (sym upper.total_is.worth_is) (tight_bounds.ceiling game.form y b.reply_one.sets order_one upper.tight) in
-    let at_low = total_over b.low b.reply_two.total (game.unit * b.plan_one.root) (some_scale game.unit b.plan_one.root some_unit h.plan_one.is_plan.some_root) lower.total_is.bound_is in
-    let at_high = total_over b.high b.reply_one.total (game.unit * b.plan_two.root) (some_scale game.unit b.plan_two.root some_unit h.plan_two.is_plan.some_root) upper.total_is.bound_is in (
+    let at_low = total_over b.low b.reply_two.total (game.unit * b.plan_one.root) (mul-pos some_unit h.plan_one.is_plan.some_root) lower.total_is.bound_is in
+    let at_high = total_over b.high b.reply_one.total (game.unit * b.plan_two.root) (mul-pos some_unit h.plan_two.is_plan.some_root) upper.total_is.bound_is in (
       a.2,
       a.3,
       record {

@@ -21,7 +21,7 @@ use Rattle.def_file_accepted.specs.Accepted.{IsAccepted}
 use Rattle.def_file_accepted.specs.Weighed.{weighed_game}
 use Rattle.def_file_accepted.proofs.Accepted.{accepted_whole_file, first_refused}
 use Rattle.def_file_accepted.proofs.InNumbers.{sets_in_order, some_unit}
-use Rattle.def_check.specs.Check.{Refusal, accepted, by_tests, checked, judged, judged_if_accepted, of_file, unless_faulty}
+use Rattle.def_check.specs.Check.{Refusal, accepted_in_numbers, by_tests, checked, verdict_on, judged_if_accepted, of_file, numbers_unless_faulty}
 use Rattle.def_check.specs.Shown.{Shows, ShowsOfFile}
 use Rattle.def_check.specs.Checking.{AreRead, Checks, failed, passed, refused, unreadable}
 use Rattle.def_check.specs.Laws.{AcceptedChecksAreShown, ChecksAreComputed}
@@ -29,17 +29,18 @@ use Rattle.def_check.proofs.Accepted.{what_is_shown}
 
 -- what is judged of a file that was accepted, or refused
 abbrev of_accepted : Result GameFile FileFault → Result Certificate CertFault → Result Verdict Refusal
-of_accepted (Ok game) certificate = judged (weighed_game game) certificate
+of_accepted (Ok game) certificate = verdict_on (weighed_game game) certificate
 of_accepted (Err fault) certificate = Err (of_file fault)
 
 -- a file that was read is judged as one that is accepted, or not
 as_accepted : (read : Result GameFile FileFault) (certificate : Result Certificate CertFault)
-    → judged_if_accepted (accepted read) certificate ≡ of_accepted (whole.accepted read) certificate
+    → judged_if_accepted (accepted_in_numbers read) certificate ≡ of_accepted (whole.accepted read) certificate
 as_accepted (Err fault) certificate = refl
 as_accepted (Ok game) certificate = by_fault (game_file_fault game) refl
   where
     by_fault : (o : Option FileFault) → game_file_fault game ≡ o
-        → judged_if_accepted (accepted (Ok game)) certificate ≡ of_accepted (whole.accepted (Ok game)) certificate
+        → judged_if_accepted (accepted_in_numbers (Ok game)) certificate
+        ≡ of_accepted (whole.accepted (Ok game)) certificate
     by_fault None is = rw is refl
     by_fault (Some fault) is = rw is refl
 
@@ -54,14 +55,14 @@ module _ (file bytes : List ℕ) (short : length file ≤ most_bytes) where
       ∙ ap (λ (r : Result GameFile FileFault). of_accepted (whole.accepted r) (cert_in bytes)) (sym (read_within file short))
 
   read_first : (game : GameFile) → IsAccepted file game
-      → checked file bytes ≡ judged (weighed_game game) (cert_in bytes)
+      → checked file bytes ≡ verdict_on (weighed_game game) (cert_in bytes)
   read_first game is =
       checked_is ∙ ap (λ (r : Result GameFile FileFault). of_accepted r (cert_in bytes)) ((accepted_whole_file file game).1 is)
 
   test_first : (game : GameFile) (c : Certificate) → AreRead file bytes game c
       → checked file bytes ≡ by_tests (verdict (weighed_game game) c)
   test_first game c are = read_first game are.accepted
-      ∙ ap (judged (weighed_game game)) ((reading bytes c).1 (are.text.fits, are.text.text))
+      ∙ ap (verdict_on (weighed_game game)) ((reading bytes c).1 (are.text.fits, are.text.text))
 
   -- what is computed of what the words say
   checks_computed : (answer : Result Verdict Refusal) → Checks file bytes answer → checked file bytes ≡ answer
@@ -69,7 +70,7 @@ module _ (file bytes : List ℕ) (short : length file ≤ most_bytes) where
       checked_is
       ∙ ap (λ (r : Result GameFile FileFault). of_accepted r (cert_in bytes)) ((first_refused file fault).1 first) ∙ sym same
   checks_computed answer (unreadable game is fault first same) =
-      read_first game is ∙ ap (judged (weighed_game game)) ((first_fault bytes fault).1 first) ∙ sym same
+      read_first game is ∙ ap (verdict_on (weighed_game game)) ((first_fault bytes fault).1 first) ∙ sym same
   checks_computed answer (failed game c are fault fails same) = test_first game c are ∙ ap by_tests fails ∙ sym same
   checks_computed answer (passed game c are shown passes same) = test_first game c are ∙ ap by_tests passes ∙ sym same
 
@@ -79,7 +80,7 @@ module _ (file bytes : List ℕ) (short : length file ≤ most_bytes) where
   by_verdict game c are (Err fault) is = failed game c are fault is refl
 
   by_text : (game : GameFile) → IsAccepted file game → (r : Result Certificate CertFault) → cert_in bytes ≡ r
-      → Checks file bytes (judged (weighed_game game) r)
+      → Checks file bytes (verdict_on (weighed_game game) r)
   by_text game is (Ok c) read =
       let text = (reading bytes c).0 read in
       by_verdict game c (record { accepted = is; text = record { fits = text.0; text = text.1 } })
@@ -110,7 +111,8 @@ fault_any_length (NotZeroSum node) is = cc
 fault_any_length (NotRecall node earlier) is = cc
 fault_any_length (Scale node) is = cc
 
-judged_any_length : (game : WeighedGame) (r : Result Certificate CertFault) → judged game r ≡ Err (of_file TooLong) → ⊥
+judged_any_length : (game : WeighedGame) (r : Result Certificate CertFault) → verdict_on game r ≡ Err (of_file TooLong)
+    → ⊥
 judged_any_length game (Err fault) is = cc
 judged_any_length game (Ok c) is = by_verdict (verdict game c) is
   where
@@ -120,7 +122,8 @@ judged_any_length game (Ok c) is = by_verdict (verdict game c) is
 
 module _ (game : GameFile) (certificate : Result Certificate CertFault) where
   faulty_any_length : (o : Option GameFault)
-      → judged_if_accepted (unless_faulty (as_file_fault o) (weighed_game game)) certificate ≡ Err (of_file TooLong) → ⊥
+      → judged_if_accepted (numbers_unless_faulty (as_file_fault o) (weighed_game game)) certificate
+      ≡ Err (of_file TooLong) → ⊥
   faulty_any_length None is = judged_any_length (weighed_game game) certificate is
   faulty_any_length (Some found) is = fault_any_length found cc
 
@@ -129,7 +132,7 @@ pub checked_any_length : (file bytes : List ℕ) → checked file bytes ≡ Err 
 checked_any_length file bytes is = by_read (game_at file) refl is
   where
     by_read : (r : Result GameFile FileFault) → game_at file ≡ r
-        → judged_if_accepted (accepted r) (cert_in bytes) ≡ Err (of_file TooLong) → ⊥
+        → judged_if_accepted (accepted_in_numbers r) (cert_in bytes) ≡ Err (of_file TooLong) → ⊥
     by_read (Err fault) read is =
         let same : fault ≡ TooLong = cc in
         game_any_length file (read ∙ ap Err same)
@@ -143,7 +146,7 @@ tested_ok (Err fault) shown is = absurd cc
 
 module _ (file bytes : List ℕ) (shown : Verdict) (short : length file ≤ most_bytes) where
   by_certificate : (game : GameFile) → game_at file ≡ Ok game → game_file_fault game ≡ None
-      → (r : Result Certificate CertFault) → cert_in bytes ≡ r → judged (weighed_game game) r ≡ Ok shown
+      → (r : Result Certificate CertFault) → cert_in bytes ≡ r → verdict_on (weighed_game game) r ≡ Ok shown
       → ShowsOfFile file bytes shown
   by_certificate game read none (Err fault) is_read is = absurd cc
   by_certificate game read none (Ok c) is_read is =
@@ -162,13 +165,13 @@ module _ (file bytes : List ℕ) (shown : Verdict) (short : length file ≤ most
       }
 
   by_fault : (game : GameFile) → game_at file ≡ Ok game → (o : Option FileFault) → game_file_fault game ≡ o
-      → judged_if_accepted (unless_faulty o (weighed_game game)) (cert_in bytes) ≡ Ok shown
+      → judged_if_accepted (numbers_unless_faulty o (weighed_game game)) (cert_in bytes) ≡ Ok shown
       → ShowsOfFile file bytes shown
   by_fault game read None none is = by_certificate game read none (cert_in bytes) refl is
   by_fault game read (Some fault) some is = absurd cc
 
   by_read : (r : Result GameFile FileFault) → game_at file ≡ r
-      → judged_if_accepted (accepted r) (cert_in bytes) ≡ Ok shown → ShowsOfFile file bytes shown
+      → judged_if_accepted (accepted_in_numbers r) (cert_in bytes) ≡ Ok shown → ShowsOfFile file bytes shown
   by_read (Err fault) read is = absurd cc
   by_read (Ok game) read is = by_fault game read (game_file_fault game) refl is
 

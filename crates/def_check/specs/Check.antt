@@ -29,22 +29,22 @@ by_tests (Ok shown) = Ok shown
 by_tests (Err fault) = Err (of_tests fault)
 
 -- a game without a fault against what the certificate's bytes say
-abbrev pub judged : WeighedGame → Result Certificate CertFault → Result Verdict Refusal
-judged game (Ok certificate) = by_tests (verdict game certificate)
-judged game (Err fault) = Err (of_certificate fault)
+abbrev pub verdict_on : WeighedGame → Result Certificate CertFault → Result Verdict Refusal
+verdict_on game (Ok certificate) = by_tests (verdict game certificate)
+verdict_on game (Err fault) = Err (of_certificate fault)
 
-abbrev pub unless_faulty : Option FileFault → WeighedGame → Result WeighedGame FileFault
-unless_faulty None game = Ok game
-unless_faulty (Some fault) game = Err fault
+abbrev pub numbers_unless_faulty : Option FileFault → WeighedGame → Result WeighedGame FileFault
+numbers_unless_faulty None game = Ok game
+numbers_unless_faulty (Some fault) game = Err fault
 
 -- a game that was read, in numbers
-abbrev pub accepted : Result GameFile FileFault → Result WeighedGame FileFault
-accepted (Ok game) = unless_faulty (game_file_fault game) (weighed_game game)
-accepted (Err fault) = Err fault
+abbrev pub accepted_in_numbers : Result GameFile FileFault → Result WeighedGame FileFault
+accepted_in_numbers (Ok game) = numbers_unless_faulty (game_file_fault game) (weighed_game game)
+accepted_in_numbers (Err fault) = Err fault
 
 abbrev pub judged_if_accepted : Result WeighedGame FileFault → Result Certificate CertFault → Result Verdict Refusal
-judged_if_accepted (Ok game) certificate = judged game certificate
+judged_if_accepted (Ok game) certificate = verdict_on game certificate
 judged_if_accepted (Err fault) certificate = Err (of_file fault)
 
 abbrev pub checked : List ℕ → List ℕ → Result Verdict Refusal
-checked game_bytes cert_bytes = judged_if_accepted (accepted (game_at game_bytes)) (cert_in cert_bytes)
+checked game_bytes cert_bytes = judged_if_accepted (accepted_in_numbers (game_at game_bytes)) (cert_in cert_bytes)

@@ -5,7 +5,7 @@ use Rattle.std.proofs.lemmas.Bool.{and_from, and_parts, lt-ltb}
 use Rattle.std.proofs.lemmas.List.{append-nil, length-append}
 use Rattle.std.proofs.lemmas.Option.{none-some, same_Some, cond_some}
 use Rattle.def_command.specs.Table.{CommandName, OptionName, Rounds, Every, Scale, Workers, plain_count, takes}
-use Rattle.def_command.specs.Grammar.{Argument, Plain, Number, Taken, Numbers, number_in, with_number, take_plain, take_number, plain_words, number_given, is_same_option, AreOptionsOf}
+use Rattle.def_command.specs.Grammar.{Argument, Plain, Number, Taken, NumbersSoFar, number_so_far, with_number, take_plain, take_number, plain_words, number_given, is_same_option, AreOptionsOf}
 use Rattle.def_command.proofs.Named.{and_then_some}
 
 -- one argument is taken
@@ -23,9 +23,11 @@ take_all name taken (argument ∷ arguments) =
 pub record Merges (name : CommandName) (taken : Taken) (arguments : List Argument) (final : Taken) : Type 0 where
   pub plain : final.plain ≡ taken.plain ++ plain_words arguments
   pub numbers : (option : OptionName)
-      → number_in final.numbers option ≡ option_or (number_in taken.numbers option) (number_given option arguments)
+      → number_so_far final.numbers option
+      ≡ option_or (number_so_far taken.numbers option) (number_given option arguments)
   pub options : AreOptionsOf name arguments
-  pub apart : (option : OptionName) → (number_in taken.numbers option ≡ None) ⊎ (number_given option arguments ≡ None)
+  pub apart : (option : OptionName)
+      → (number_so_far taken.numbers option ≡ None) ⊎ (number_given option arguments ≡ None)
 
 -- ---- options
 -- names that are the same option are one name
@@ -42,9 +44,9 @@ same_itself Every = refl
 same_itself Scale = refl
 same_itself Workers = refl
 
-number_in-with : (numbers : Numbers) (option other : OptionName) (number : ℕ)
-    → number_in (with_number numbers other number) option ≡ cond (is_same_option option other) (Some number)
-    (number_in numbers option)
+number_in-with : (numbers : NumbersSoFar) (option other : OptionName) (number : ℕ)
+    → number_so_far (with_number numbers other number) option ≡ cond (is_same_option option other) (Some number)
+    (number_so_far numbers option)
 number_in-with numbers Rounds Rounds number = refl
 number_in-with numbers Every Every number = refl
 number_in-with numbers Scale Scale number = refl
@@ -60,43 +62,44 @@ none_from_test None is = refl
 none_from_test (Some x) is = cc
 
 -- ---- what was taken tells the arguments
-module _ (numbers : Numbers) (option other : OptionName) (number : ℕ) (given : Option ℕ)
-    (free : number_in numbers other ≡ None) where
+module _ (numbers : NumbersSoFar) (option other : OptionName) (number : ℕ) (given : Option ℕ)
+    (free : number_so_far numbers other ≡ None) where
   number_merged : (b : Bool) → is_same_option option other ≡ b
-      → option_or (number_in (with_number numbers other number) option) given ≡ option_or (number_in numbers option)
+      → option_or (number_so_far (with_number numbers other number) option) given
+      ≡ option_or (number_so_far numbers option)
       (cond (is_same_option option other) (Some number) given)
   number_merged true same =
       let e : option ≡ other = same_option option other same in
-      let left : number_in (with_number numbers other number) option ≡ Some number = number_in-with numbers option other
+      let left : number_so_far (with_number numbers other number) option ≡ Some number = number_in-with numbers option other
       number
-      ∙ ap (λ b. cond b (Some number) (number_in numbers option)) same in
-      let right : number_in numbers option ≡ None = ap (number_in numbers) e ∙ free in
+      ∙ ap (λ b. cond b (Some number) (number_so_far numbers option)) same in
+      let right : number_so_far numbers option ≡ None = ap (number_so_far numbers) e ∙ free in
       ap (λ o. option_or o given) left
       ∙ sym (ap (λ o. option_or o (cond (is_same_option option other) (Some number) given)) right
       ∙ ap (λ b. option_or None (cond b (Some number) given)) same)
   number_merged false same =
-      let left : number_in (with_number numbers other number) option ≡ number_in numbers option = number_in-with numbers
+      let left : number_so_far (with_number numbers other number) option ≡ number_so_far numbers option = number_in-with numbers
       option other number
-      ∙ ap (λ b. cond b (Some number) (number_in numbers option)) same in
+      ∙ ap (λ b. cond b (Some number) (number_so_far numbers option)) same in
       ap (λ o. option_or o given) left
-      ∙ sym (ap (λ b. option_or (number_in numbers option) (cond b (Some number) given)) same)
+      ∙ sym (ap (λ b. option_or (number_so_far numbers option) (cond b (Some number) given)) same)
 
   number_apart : (b : Bool) → is_same_option option other ≡ b
-      → (number_in (with_number numbers other number) option ≡ None) ⊎ (given ≡ None)
-      → (number_in numbers option ≡ None) ⊎ (cond (is_same_option option other) (Some number) given ≡ None)
-  number_apart true same later = inl (ap (number_in numbers) (same_option option other same) ∙ free)
+      → (number_so_far (with_number numbers other number) option ≡ None) ⊎ (given ≡ None)
+      → (number_so_far numbers option ≡ None) ⊎ (cond (is_same_option option other) (Some number) given ≡ None)
+  number_apart true same later = inl (ap (number_so_far numbers) (same_option option other same) ∙ free)
   number_apart false same later =
-      let left : number_in (with_number numbers other number) option ≡ number_in numbers option = number_in-with numbers
+      let left : number_so_far (with_number numbers other number) option ≡ number_so_far numbers option = number_in-with numbers
       option other number
-      ∙ ap (λ b. cond b (Some number) (number_in numbers option)) same in
+      ∙ ap (λ b. cond b (Some number) (number_so_far numbers option)) same in
       ⊎_elim (λ e. inl (sym left ∙ e)) (λ e. inr (ap (λ b. cond b (Some number) given) same ∙ e)) later
 
-given_once : (numbers : Numbers) (option : OptionName) (number : ℕ) (given : Option ℕ)
-    → (number_in (with_number numbers option number) option ≡ None) ⊎ (given ≡ None) → given ≡ None
+given_once : (numbers : NumbersSoFar) (option : OptionName) (number : ℕ) (given : Option ℕ)
+    → (number_so_far (with_number numbers option number) option ≡ None) ⊎ (given ≡ None) → given ≡ None
 given_once numbers option number given later =
-    let there : number_in (with_number numbers option number) option ≡ Some number = number_in-with numbers option
+    let there : number_so_far (with_number numbers option number) option ≡ Some number = number_in-with numbers option
     option number
-    ∙ ap (λ b. cond b (Some number) (number_in numbers option)) (same_itself option) in
+    ∙ ap (λ b. cond b (Some number) (number_so_far numbers option)) (same_itself option) in
     ⊎_elim (λ e. absurd (none-some number (sym e ∙ there))) (λ e. e) later
 
 -- arguments that are taken were added
@@ -106,7 +109,7 @@ merges name [] taken final is =
     let same : taken ≡ final = same_Some taken final is in
     subst (Merges name taken []) same (record {
       plain = sym (append-nil taken.plain);
-      numbers = λ option. option_or-none (number_in taken.numbers option);
+      numbers = λ option. option_or-none (number_so_far taken.numbers option);
       options = tt;
       apart = λ option. inr refl;
     })
@@ -125,8 +128,8 @@ merges name (Number option number ∷ arguments) taken final is =
     let (next, first, later) = and_then_some (λ next. take_all name next arguments)
     (take_number name taken option number) final is in
     let tests = cond_some _ _ _ first in
-    let parts = and_parts (takes name option) (is_none (number_in taken.numbers option)) tests.0 in
-    let free : number_in taken.numbers option ≡ None = none_from_test (number_in taken.numbers option) parts.1 in
+    let parts = and_parts (takes name option) (is_none (number_so_far taken.numbers option)) tests.0 in
+    let free : number_so_far taken.numbers option ≡ None = none_from_test (number_so_far taken.numbers option) parts.1 in
     let same : record taken { numbers = with_number taken.numbers option number } ≡ next = tests.1 in
     let m = subst (λ (t : Taken). Merges name t arguments final) (sym same) (merges name arguments next final later) in
     record {
@@ -140,28 +143,28 @@ merges name (Number option number ∷ arguments) taken final is =
     }
 
 -- ---- arguments that fit are taken
-module _ (numbers : Numbers) (option other : OptionName) (number : ℕ) (given : Option ℕ)
+module _ (numbers : NumbersSoFar) (option other : OptionName) (number : ℕ) (given : Option ℕ)
     (once : option ≡ other → given ≡ None) where
   stays_apart : (b : Bool) → is_same_option option other ≡ b
-      → (number_in numbers option ≡ None) ⊎ (cond (is_same_option option other) (Some number) given ≡ None)
-      → (number_in (with_number numbers other number) option ≡ None) ⊎ (given ≡ None)
+      → (number_so_far numbers option ≡ None) ⊎ (cond (is_same_option option other) (Some number) given ≡ None)
+      → (number_so_far (with_number numbers other number) option ≡ None) ⊎ (given ≡ None)
   stays_apart true same before = inr (once (same_option option other same))
   stays_apart false same before =
-      let left : number_in (with_number numbers other number) option ≡ number_in numbers option = number_in-with numbers
+      let left : number_so_far (with_number numbers other number) option ≡ number_so_far numbers option = number_in-with numbers
       option other number
-      ∙ ap (λ b. cond b (Some number) (number_in numbers option)) same in
+      ∙ ap (λ b. cond b (Some number) (number_so_far numbers option)) same in
       ⊎_elim (λ e. inl (left ∙ e)) (λ e. inr (sym (ap (λ b. cond b (Some number) given) same) ∙ e)) before
 
-free_before : (numbers : Numbers) (option : OptionName) (number : ℕ) (given : Option ℕ)
-    → (number_in numbers option ≡ None) ⊎ (cond (is_same_option option option) (Some number) given ≡ None)
-    → is_none (number_in numbers option) ≡ true
+free_before : (numbers : NumbersSoFar) (option : OptionName) (number : ℕ) (given : Option ℕ)
+    → (number_so_far numbers option ≡ None) ⊎ (cond (is_same_option option option) (Some number) given ≡ None)
+    → is_none (number_so_far numbers option) ≡ true
 free_before numbers option number given before =
     ⊎_elim (λ e. ap is_none e)
     (λ e. absurd (none-some number (sym e ∙ ap (λ b. cond b (Some number) given) (same_itself option)))) before
 
 -- they are taken where each is given once and there is room for the plain words
 pub taken_all : (name : CommandName) (arguments : List Argument) (taken : Taken) → AreOptionsOf name arguments
-    → ((option : OptionName) → (number_in taken.numbers option ≡ None) ⊎ (number_given option arguments ≡ None))
+    → ((option : OptionName) → (number_so_far taken.numbers option ≡ None) ⊎ (number_given option arguments ≡ None))
     → length taken.plain + length (plain_words arguments) ≤ plain_count name
     → (final : Taken) × (take_all name taken arguments ≡ Some final)
 taken_all name [] taken options apart room = (taken, refl)
@@ -176,7 +179,7 @@ taken_all name (Number option number ∷ arguments) taken (takes_it, once, optio
     let next : Taken = record taken { numbers = with_number taken.numbers option number } in
     let free = free_before taken.numbers option number (number_given option arguments) (apart option) in
     let first : take_number name taken option number ≡ Some next = ap (λ b. cond b (Some next) None)
-    (and_from (takes name option) (is_none (number_in taken.numbers option)) takes_it free) in
+    (and_from (takes name option) (is_none (number_so_far taken.numbers option)) takes_it free) in
     let later = taken_all name arguments next options
     (λ o. stays_apart taken.numbers o option number (number_given o arguments)
     (λ e. ap (λ (x : OptionName). number_given x arguments) e ∙ once) (is_same_option o option) refl (apart o))

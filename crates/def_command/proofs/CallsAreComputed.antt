@@ -2,10 +2,11 @@
 use Rattle.std.proofs.Common.{◌≡◌, ℕ, List, [], ◌∷◌, length, Option, Some, None, refl, sym, ap, ◌∙◌, inl, arith}
 use Rattle.std.specs.Option.{option_map, option_and_then, option_or}
 use Rattle.std.proofs.lemmas.Option.{none-some, same_Some}
+use Rattle.def_fraction.proofs.LiteralLemmas.{option_map_some}
 use Rattle.def_command.specs.Table as table
-use Rattle.def_command.specs.Table.{CommandName, OptionName, Rounds, Every, Scale, Workers, least_cards, most_cards, command_word, plain_count}
-use Rattle.def_command.specs.Grammar.{Settings, Command, Solve, Check, Info, Gen, Drill, Argument, Taken, nothing, IsCall, IsCommand, number_in, number_given, number_from_to, plain_words, settings_from, settings_in, settings_of, workers_from, workers_of, with_one, with_two, read_words, command_from, command_named, command_of_words}
-use Rattle.def_command.proofs.Named.{and_then_some, mapped_some, command_found, command_by_word}
+use Rattle.def_command.specs.Table.{CommandName, OptionName, Rounds, Every, Scale, Workers, least_cards, most_cards, plain_count}
+use Rattle.def_command.specs.Grammar.{Settings, Command, Solve, Check, Info, Gen, Drill, Argument, Taken, takes_nothing, IsCall, IsCommand, number_so_far, number_given, number_from_to, plain_words, settings_from, settings_in, settings_of, workers_from, workers_of, with_one, with_two, read_words, command_from, command_named, command_of_words}
+use Rattle.def_command.proofs.Named.{and_then_some, command_found, command_by_word}
 use Rattle.def_command.proofs.Arguments.{Merges, merges, taken_all}
 use Rattle.def_command.proofs.WordByWord.{number_told, number_read, arguments_told, arguments_read}
 
@@ -25,7 +26,7 @@ two_told make (word ∷ second ∷ third ∷ words) command is = absurd (none-so
 
 -- what was taken is what the arguments say
 module _ (arguments : List Argument) (taken : Taken) (plain : taken.plain ≡ plain_words arguments)
-    (numbers : (option : OptionName) → number_in taken.numbers option ≡ number_given option arguments) where
+    (numbers : (option : OptionName) → number_so_far taken.numbers option ≡ number_given option arguments) where
   same_settings : settings_in taken.numbers ≡ settings_of arguments
   same_settings = ap (λ (n : Option ℕ). settings_from n taken.numbers.every taken.numbers.scale) (numbers Rounds)
       ∙ ap (λ (n : Option ℕ). settings_from (number_given Rounds arguments) n taken.numbers.scale) (numbers Every)
@@ -64,12 +65,12 @@ module _ (arguments : List Argument) (taken : Taken) (plain : taken.plain ≡ pl
   command_told table.Gen command is =
       let (word, words, made) = one_told _ taken.plain command is in
       let alone : plain_words arguments ≡ word ∷ [] = sym plain ∙ words in
-      let (cards, read, same) = mapped_some Gen (number_from_to least_cards most_cards word) command made in
+      let (cards, read, same) = option_map_some Gen (number_from_to least_cards most_cards word) command made in
       (ap length alone, (word, cards, alone, number_told least_cards most_cards word cards read, sym same))
   command_told table.Drill command is =
       let (word, words, made) = one_told _ taken.plain command is in
       let alone : plain_words arguments ≡ word ∷ [] = sym plain ∙ words in
-      let (cards, read, same) = mapped_some (λ (n : ℕ). Drill n (settings_in taken.numbers)
+      let (cards, read, same) = option_map_some (λ (n : ℕ). Drill n (settings_in taken.numbers)
       (workers_from taken.numbers.workers)) (number_from_to least_cards most_cards word) command made in (
         ap length alone,
         (
@@ -103,7 +104,7 @@ module _ (arguments : List Argument) (taken : Taken) (plain : taken.plain ≡ pl
       ∙ ap Some (same_drill cards ∙ sym is)
 
 -- of a call all of whose words are read
-none_before : (option : OptionName) → number_in nothing.numbers option ≡ None
+none_before : (option : OptionName) → number_so_far takes_nothing.numbers option ≡ None
 none_before Rounds = refl
 none_before Every = refl
 none_before Scale = refl
@@ -113,10 +114,11 @@ or_none : (o other : Option ℕ) → o ≡ None → option_or o other ≡ other
 or_none None other is = refl
 or_none (Some n) other is = cc
 
-numbers_given : (name : CommandName) (arguments : List Argument) (final : Taken) → Merges name nothing arguments final
-    → (option : OptionName) → number_in final.numbers option ≡ number_given option arguments
+numbers_given : (name : CommandName) (arguments : List Argument) (final : Taken)
+    → Merges name takes_nothing arguments final
+    → (option : OptionName) → number_so_far final.numbers option ≡ number_given option arguments
 numbers_given name arguments final m option = m.numbers option
-    ∙ or_none (number_in nothing.numbers option) (number_given option arguments) (none_before option)
+    ∙ or_none (number_so_far takes_nothing.numbers option) (number_given option arguments) (none_before option)
 
 -- words with a command are a call of it
 pub call_told : (words : List (List ℕ)) (command : Command) → command_of_words words ≡ Some command
@@ -124,11 +126,11 @@ pub call_told : (words : List (List ℕ)) (command : Command) → command_of_wor
 call_told [] command is = absurd (none-some command is)
 call_told (word ∷ words) command is =
     let (name, named, next) = and_then_some (λ (n : CommandName). option_and_then (command_from n)
-    (read_words n nothing None words)) (command_named word) command is in
+    (read_words n takes_nothing None words)) (command_named word) command is in
     let found = command_found word name named in
-    let (final, read, made) = and_then_some (command_from name) (read_words name nothing None words) command next in
-    let (arguments, spelled, all) = arguments_told name words nothing final read in
-    let m = merges name arguments nothing final all in
+    let (final, read, made) = and_then_some (command_from name) (read_words name takes_nothing None words) command next in
+    let (arguments, spelled, all) = arguments_told name words takes_nothing final read in
+    let m = merges name arguments takes_nothing final all in
     let told = command_told arguments final m.plain (numbers_given name arguments final m) name command made in
     record {
       name = name;
@@ -147,13 +149,13 @@ pub call_computed : (words : List (List ℕ)) (command : Command) → IsCall wor
     → command_of_words words ≡ Some command
 call_computed words command call =
     let room : length (plain_words call.arguments) ≡ plain_count call.name = call.plain in
-    let (final, all) = taken_all call.name call.arguments nothing call.options (λ option. inl (none_before option))
+    let (final, all) = taken_all call.name call.arguments takes_nothing call.options (λ option. inl (none_before option))
     (omega arith) in
-    let read = arguments_read call.name call.arguments call.rest nothing final call.spelled all in
-    let m = merges call.name call.arguments nothing final all in
+    let read = arguments_read call.name call.arguments call.rest takes_nothing final call.spelled all in
+    let m = merges call.name call.arguments takes_nothing final all in
     let made = command_made call.arguments final m.plain (numbers_given call.name call.arguments final m) call.name
     command call.command_is in
     ap command_of_words call.words_are
-    ∙ ap (option_and_then (λ (n : CommandName). option_and_then (command_from n) (read_words n nothing None call.rest)))
+    ∙ ap (option_and_then (λ (n : CommandName). option_and_then (command_from n) (read_words n takes_nothing None call.rest)))
     (command_by_word call.name call.built)
     ∙ ap (option_and_then (command_from call.name)) read ∙ made

@@ -1,11 +1,12 @@
 -- What is found by its name in a list, and the parts of an option's word.
-use Rattle.std.proofs.Common.{◌≡◌, ◌⊎◌, ⊎_elim, ℕ, zero, suc, ◌<◌, Bool, true, false, cond, ◌==◌, List, [], ◌∷◌, ◌++◌, length, slice_index_or, Option, Some, None, refl, sym, ap, ◌∙◌, inl, inr, arith}
+use Rattle.std.proofs.Common.{◌≡◌, ◌⊎◌, ℕ, zero, suc, ◌<◌, Bool, true, false, cond, ◌==◌, List, [], ◌∷◌, ◌++◌, length, slice_index_or, Option, Some, None, refl, sym, ap, ◌∙◌, inl, inr, arith}
 use Rattle.std.specs.List.{Contains, find}
 use Rattle.std.specs.Option.{option_map, option_and_then}
 use Rattle.std.proofs.lemmas.Bool.Decides.{Decides-eqb}
 use Rattle.std.proofs.lemmas.Bool.{eqb-true}
 use Rattle.std.proofs.lemmas.Option.{none-some, same_Some}
 use Rattle.std.proofs.lemmas.Slice.Eq.{slice_eq-Decides}
+use Rattle.def_fraction.proofs.LiteralLemmas.{option_map_some}
 use Rattle.def_command.specs.Words.{is_option, is_word}
 use Rattle.def_command.specs.Table.{CommandName, OptionName, Solve, Check, Info, Gen, Drill, Rounds, Every, Scale, Workers, command_word, option_name, built_commands, built_options}
 use Rattle.def_command.specs.Grammar.{command_named, option_named, around_equals}
@@ -109,12 +110,6 @@ pub and_then_some : {A B : Type 0} (f : A → Option B) (o : Option A) (y : B) �
 and_then_some f None y is = absurd (none-some y is)
 and_then_some f (Some x) y is = (x, refl, is)
 
--- where a map gives something, there was something
-pub mapped_some : {A B : Type 0} (f : A → B) (o : Option A) (y : B) → option_map f o ≡ Some y
-    → (x : A) × (o ≡ Some x) × (f x ≡ y)
-mapped_some f None y is = absurd (none-some y is)
-mapped_some f (Some x) y is = (x, refl, same_Some (f x) y is)
-
 abbrev around_at : Bool → ℕ → List ℕ → Option (List ℕ × List ℕ)
 around_at true byte bytes = Some ([], bytes)
 around_at false byte bytes = option_map (λ (parts : List ℕ × List ℕ). (byte ∷ parts.0, parts.1)) (around_equals bytes)
@@ -141,7 +136,7 @@ joined_at byte bytes front back true equals later is =
     let at : byte ≡ 61 = eqb-true byte 61 equals in
     rw (← first, ← second, at) refl
 joined_at byte bytes front back false equals later is =
-    let (parts, there, same) = mapped_some (λ (parts : List ℕ × List ℕ). (byte ∷ parts.0, parts.1))
+    let (parts, there, same) = option_map_some (λ (parts : List ℕ × List ℕ). (byte ∷ parts.0, parts.1))
     (around_equals bytes) (front, back) is in
     let first : byte ∷ parts.0 ≡ front = ap (λ (x : List ℕ × List ℕ). x.0) same in
     let second : parts.1 ≡ back = ap (λ (x : List ℕ × List ℕ). x.1) same in

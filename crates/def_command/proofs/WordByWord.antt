@@ -6,11 +6,12 @@ use Rattle.std.specs.Option.{option_map, option_and_then}
 use Rattle.std.proofs.lemmas.Bool.{and_from, and_parts, le-leb, leb-true}
 use Rattle.std.proofs.lemmas.Option.{none-some, cond_some}
 use Rattle.def_fraction.specs.Digits.{is_numeral, number_of}
+use Rattle.def_fraction.proofs.LiteralLemmas.{option_map_some}
 use Rattle.def_command.specs.Words.{is_option}
 use Rattle.def_command.specs.Table.{CommandName, OptionName, built_options, option_name, least_number, most_number}
 use Rattle.def_command.specs.Grammar.{Argument, Plain, Number, Taken, IsNumberFromTo, AreSpelled, number_from_to, option_named, around_equals, take_plain, take_number, take_digits, read_option, read_word, read_words}
 use Rattle.def_command.proofs.Arguments.{take_argument, take_all}
-use Rattle.def_command.proofs.Named.{and_then_some, mapped_some, option_found, option_by_name, joined, name_alone, name_alone_is_option, name_and_digits, name_is_option}
+use Rattle.def_command.proofs.Named.{and_then_some, option_found, option_by_name, joined, name_alone, name_alone_is_option, name_and_digits, name_is_option}
 
 -- ---- numbers
 -- a number that is read is in range
@@ -80,7 +81,7 @@ tells_digits : (name : CommandName) (taken : Taken) (option : OptionName) (digit
     → Tells name next.0 next.1 words final
     → Tells name taken (Some option) (digits ∷ words) final
 tells_digits name taken option digits words next final step later =
-    let (t, there, same) = mapped_some (λ (t : Taken). (t, None)) (take_digits name taken option digits) next step in
+    let (t, there, same) = option_map_some (λ (t : Taken). (t, None)) (take_digits name taken option digits) next step in
     let is = digits_taken name taken option digits t there in
     let rest : Tells name t None words final = subst (λ (x : Taken × Option OptionName). Tells name x.0 x.1 words final)
     (sym same) later in (
@@ -102,7 +103,7 @@ tells_option : (name : CommandName) (taken : Taken) (word : List ℕ) (words : L
     → Tells name next.0 next.1 words final
     → Tells name taken None (word ∷ words) final
 tells_option name taken word words next final None around step later =
-    let (option, named, same) = mapped_some (λ (o : OptionName). (taken, Some o)) (option_named word) next step in
+    let (option, named, same) = option_map_some (λ (o : OptionName). (taken, Some o)) (option_named word) next step in
     let found = option_found word option named in
     let rest : Tells name taken (Some option) words final = subst
     (λ (x : Taken × Option OptionName). Tells name x.0 x.1 words final) (sym same) later in
@@ -127,7 +128,7 @@ tells_option name taken word words next final (Some parts) around step later =
     let (option, named, given) = and_then_some (λ (o : OptionName). option_map (λ (t : Taken). (t, None))
     (take_digits name taken o parts.1)) (option_named parts.0) next step in
     let found = option_found parts.0 option named in
-    let (t, there, same) = mapped_some (λ (t : Taken). (t, None)) (take_digits name taken option parts.1) next given in
+    let (t, there, same) = option_map_some (λ (t : Taken). (t, None)) (take_digits name taken option parts.1) next given in
     let is = digits_taken name taken option parts.1 t there in
     let rest : Tells name t None words final = subst (λ (x : Taken × Option OptionName). Tells name x.0 x.1 words final)
     (sym same) later in
@@ -158,7 +159,7 @@ tells_word : (name : CommandName) (taken : Taken) (word : List ℕ) (words : Lis
 tells_word name taken word words next final true begins step later =
     tells_option name taken word words next final (around_equals word) refl step later
 tells_word name taken word words next final false begins step later =
-    let (t, there, same) = mapped_some (λ (t : Taken). (t, None)) (take_plain name taken word) next step in
+    let (t, there, same) = option_map_some (λ (t : Taken). (t, None)) (take_plain name taken word) next step in
     let rest : Tells name t None words final = subst (λ (x : Taken × Option OptionName). Tells name x.0 x.1 words final)
     (sym same) later in (
       Plain word ∷ rest.0,

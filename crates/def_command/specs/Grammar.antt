@@ -128,19 +128,19 @@ pub record IsCall (words : List (List ℕ)) (command : Command) : Type 0 where
 -- ---- word by word
 
 -- the numbers of the options that were given so far
-pub record Numbers : Type 0 where
+pub record NumbersSoFar : Type 0 where
   pub rounds : Option ℕ
   pub every : Option ℕ
   pub scale : Option ℕ
   pub workers : Option ℕ
 
-abbrev pub number_in : Numbers → OptionName → Option ℕ
-number_in numbers Rounds = numbers.rounds
-number_in numbers Every = numbers.every
-number_in numbers Scale = numbers.scale
-number_in numbers Workers = numbers.workers
+abbrev pub number_so_far : NumbersSoFar → OptionName → Option ℕ
+number_so_far numbers Rounds = numbers.rounds
+number_so_far numbers Every = numbers.every
+number_so_far numbers Scale = numbers.scale
+number_so_far numbers Workers = numbers.workers
 
-abbrev pub with_number : Numbers → OptionName → ℕ → Numbers
+abbrev pub with_number : NumbersSoFar → OptionName → ℕ → NumbersSoFar
 with_number numbers Rounds number = record numbers { rounds = Some number }
 with_number numbers Every number = record numbers { every = Some number }
 with_number numbers Scale number = record numbers { scale = Some number }
@@ -149,10 +149,10 @@ with_number numbers Workers number = record numbers { workers = Some number }
 -- the plain words and the options that were read so far
 pub record Taken : Type 0 where
   pub plain : List (List ℕ)
-  pub numbers : Numbers
+  pub numbers : NumbersSoFar
 
-abbrev pub nothing : Taken
-nothing = record { plain = []; numbers = record { rounds = None; every = None; scale = None; workers = None } }
+abbrev pub takes_nothing : Taken
+takes_nothing = record { plain = []; numbers = record { rounds = None; every = None; scale = None; workers = None } }
 
 abbrev pub command_named : List ℕ → Option CommandName
 command_named word = find (λ name. is_word word (command_word name)) built_commands
@@ -176,7 +176,7 @@ take_plain name taken word = if nat_lt (length taken.plain) (plain_count name)
     then Some (record taken { plain = taken.plain ++ word ∷ [] }) else None
 
 abbrev pub take_number : CommandName → Taken → OptionName → ℕ → Option Taken
-take_number name taken option number = if takes name option && is_none (number_in taken.numbers option)
+take_number name taken option number = if takes name option && is_none (number_so_far taken.numbers option)
     then Some (record taken { numbers = with_number taken.numbers option number }) else None
 
 abbrev pub take_digits : CommandName → Taken → OptionName → List ℕ → Option Taken
@@ -213,7 +213,7 @@ with_two make (word ∷ []) = None
 with_two make (word ∷ second ∷ []) = make word second
 with_two make (word ∷ second ∷ third ∷ words) = None
 
-abbrev pub settings_in : Numbers → Settings
+abbrev pub settings_in : NumbersSoFar → Settings
 settings_in numbers = settings_from numbers.rounds numbers.every numbers.scale
 
 abbrev pub command_from : CommandName → Taken → Option Command
@@ -230,7 +230,7 @@ command_from table.Drill taken =
 abbrev pub command_of_words : List (List ℕ) → Option Command
 command_of_words [] = None
 command_of_words (word ∷ words) =
-    option_and_then (λ name. option_and_then (command_from name) (read_words name nothing None words))
+    option_and_then (λ name. option_and_then (command_from name) (read_words name takes_nothing None words))
     (command_named word)
 
 -- ---- the files that a command opens

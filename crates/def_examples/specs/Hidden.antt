@@ -7,7 +7,8 @@ use Rattle.def_tree.specs.Tree.{Forest, forest_of}
 use Rattle.def_game_scale.specs.Tables.{Tables}
 use Rattle.def_plan.specs.Form.{SequenceForm}
 use Rattle.def_tree.specs.Rules.{inner_node}
-use Rattle.def_examples.specs.Nodes.{leaf_node, one_over, paid, set_after, weighted}
+use Rattle.def_examples.specs.Nodes.{leaf_node, paid, set_after, weighted}
+use Rattle.def_fraction.specs.Fraction.{one_over}
 
 abbrev pub hidden_tree : Forest
 hidden_tree = forest_of (

@@ -1,16 +1,13 @@
 -- How example games are written: nodes of a tree, payoffs, and the parts of a sequence form.
-use Rattle.std.specs.Prelude.{ℕ, ℤ, pos, neg_ℤ}
+use Rattle.std.specs.Prelude.{ℕ, ℤ, neg_ℤ}
 use Rattle.def_tree.specs.declared.Kind.TheVariants.{Leaf}
 use Rattle.def_tree.specs.declared.Node.{Node}
-use Rattle.def_fraction.specs.Fraction.{Fraction, whole_number}
+use Rattle.def_fraction.specs.Fraction.{whole_number}
 use Rattle.def_game_scale.specs.Tables.{Payoffs}
 use Rattle.def_plan.specs.Form.{InformationSet, Leaf as WeightedLeaf}
 
 abbrev pub leaf_node : ℕ → Node
 leaf_node outcome = record { kind = Leaf; set = 0; outcome = outcome; children = 0 }
-
-abbrev pub one_over : ℕ → Fraction
-one_over n = record { num = pos 1; den = n }
 
 -- player one is paid this, and player two its negative
 abbrev pub paid : ℤ → Payoffs

@@ -28,7 +28,8 @@ faultless contents r none =
     let later = (none_met (record_faults contents r) none).1 in
     record { defined = later.0; room = later.1.1.1.1.1.0; counted = later.1.1.1.1.1.1.0 }
 
-at_first : (first i n : ℕ) (b : Bool) → nat_lt first n ≡ b → cond b (Some first) None ≡ Some i → i < n
+-- a first place that is found is one below the end
+pub at_first : (first i n : ℕ) (b : Bool) → nat_lt first n ≡ b → cond b (Some first) None ≡ Some i → i < n
 at_first first i n true e at = let same : first ≡ i = cc in omega (arith, ltb-true first n e)
 at_first first i n false e at = absurd cc
 

@@ -1,8 +1,8 @@
 -- Nodes and tables go together, with one entry more.
-use Rattle.std.proofs.Common.{◌≡◌, ◌≢◌, ℕ, ◌+◌, ◌-◌, ◌<◌, ◌≤◌, max, Bool, true, false, cond, ◌&&◌, nat_eq, nat_lt, List, [], ◌∷◌, ◌++◌, length, get_or, set, is_none, Option, Some, None, unwrap_or, refl, ap, sym, subst, ◌∙◌, arith, length-append, ⊎_elim}
+use Rattle.std.proofs.Common.{◌≡◌, ◌≢◌, ℕ, ◌+◌, ◌-◌, ◌<◌, ◌≤◌, max, Bool, true, false, cond, ◌&&◌, nat_eq, List, [], ◌∷◌, ◌++◌, length, get_or, set, is_none, Option, Some, None, unwrap_or, refl, ap, sym, subst, ◌∙◌, arith, length-append, ⊎_elim}
 use Rattle.std.specs.List.{All, position_or_len}
 use Rattle.std.specs.Option.{option_map_or}
-use Rattle.std.proofs.lemmas.Bool.{eqb-false, ltb-true, cases_eq}
+use Rattle.std.proofs.lemmas.Bool.{eqb-false, cases_eq}
 use Rattle.std.proofs.lemmas.List.{get_or-set_same, get_or-set_other, length-set, length-map}
 use Rattle.std.proofs.lemmas.List.Elements.{All-push, All-set}
 use Rattle.std.proofs.Math.ListN.{get_or-append}
@@ -18,7 +18,7 @@ use Rattle.def_file.specs.Content.{SetEntry, SetMention, OutcomeEntry, OutcomeMe
 use Rattle.def_file.specs.Faults.{mover_as, has_set, no_set, set_at, set_place_of, outcome_place_of, outcome_at, has_wrong_count, is_set_undefined, is_set_miscounted, record_fault}
 use Rattle.def_file.specs.Adding.{kept_name, new_set, noted_set, new_outcome, noted_outcome, set_number, outcome_number, action_count, with_record}
 use Rattle.def_file.specs.Game.{IsInSet, GoesWith, AreSetsOf, GoTogether, AreTogether}
-use Rattle.def_file.proofs.Faultless.{faultless, place-lt, given_count}
+use Rattle.def_file.proofs.Faultless.{at_first, faultless, place-lt, given_count}
 
 abbrev IsFew : SetEntry → Type 0
 IsFew entry = (1 ≤ length entry.actions) × (length entry.actions ≤ most_actions)
@@ -107,15 +107,11 @@ outcomes_noted : (outcomes : List OutcomeEntry) (m : OutcomeMention)
     → AreNoted outcomes (noted_outcome outcomes m) (outcome_number outcomes m)
 outcomes_noted outcomes m = by (nat_eq m.number 0) (outcome_place_of m.number outcomes) refl
   where
-    at_place : (first i n : ℕ) (b : Bool) → nat_lt first n ≡ b → cond b (Some first) None ≡ Some i → i < n
-    at_place first i n true e at = let same : first ≡ i = cc in omega (arith, ltb-true first n e)
-    at_place first i n false e at = absurd cc
-
     by : (null : Bool) (place : Option ℕ) → outcome_place_of m.number outcomes ≡ place
         → AreNoted outcomes (cond null outcomes (option_map_or (λ i. set outcomes i (record (outcome_at outcomes i) { name = kept_name (outcome_at outcomes i).name m.name })) place (outcomes ++ new_outcome m ∷ []))) (cond null 0 (unwrap_or place (length outcomes) + 1))
     by true place at = record { longer = omega arith; next = omega arith; there = omega arith }
     by false (Some i) at =
-        let within : i < length outcomes = at_place (position_or_len (λ e. nat_eq m.number e.number) outcomes) i (length outcomes) _ refl at in
+        let within : i < length outcomes = at_first (position_or_len (λ e. nat_eq m.number e.number) outcomes) i (length outcomes) _ refl at in
         let long = length-set outcomes i (record (outcome_at outcomes i) { name = kept_name (outcome_at outcomes i).name m.name }) in
         record { longer = omega (arith, long); next = omega (arith, long); there = omega (arith, long, within) }
     by false None at =

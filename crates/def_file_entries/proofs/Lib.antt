@@ -1,4 +1,4 @@
-mod Firsts
+pub mod Firsts
 mod Tables
 mod Known
 pub mod OneMore

@@ -7,6 +7,7 @@ use Rattle.def_tree.specs.declared.Kind.{Kind}
 use Rattle.def_tree.specs.declared.Kind.TheVariants as movers
 use Rattle.def_tree.specs.declared.Node.{Node}
 use Rattle.def_tree.specs.Rules.{is_same_kind}
+use Rattle.def_tree.proofs.Sets.{is_same_kind_refl}
 use Rattle.def_file.specs.declared.EntryKind.{EntryKind}
 use Rattle.def_file.specs.declared.EntryKind.TheVariants.{Chance, Personal, Leaf}
 use Rattle.def_file.specs.Content.{Record, SetEntry, sets_of_kind}
@@ -60,15 +61,9 @@ known_behind y rs (x ∷ xs) h = (
   known_behind y rs xs h.1,
 )
 
-same_kind : (kind : Kind) → is_same_kind kind kind ≡ true
-same_kind movers.Chance = refl
-same_kind movers.One = refl
-same_kind movers.Two = refl
-same_kind movers.Leaf = refl
-
 first_known : (x : Record) (rs : List Record) → IsKnown (x ∷ rs) x
 first_known x rs = record {
-  set = ap (λ (b : Bool). among x.set.number (map set_key (cond b (x ∷ of_kind (mover x) rs) (of_kind (mover x) rs)))) (same_kind (mover x)) ∙ or_left (nat_eq x.set.number x.set.number) (among x.set.number (map set_key (of_kind (mover x) rs))) (nat_eq-same x.set.number);
+  set = ap (λ (b : Bool). among x.set.number (map set_key (cond b (x ∷ of_kind (mover x) rs) (of_kind (mover x) rs)))) (is_same_kind_refl (mover x)) ∙ or_left (nat_eq x.set.number x.set.number) (among x.set.number (map set_key (of_kind (mover x) rs))) (nat_eq-same x.set.number);
   outcome = λ e. ap (λ (b : Bool). among x.outcome.number (map outcome_key (cond (not b) (x ∷ with_outcome rs) (with_outcome rs)))) e ∙ or_left (nat_eq x.outcome.number x.outcome.number) (among x.outcome.number (map outcome_key (with_outcome rs))) (nat_eq-same x.outcome.number);
 }
 
@@ -108,7 +103,7 @@ last_set : (rs : List Record) (r : Record) (b : Bool) → has_set r.kind ≡ b
     → cond b (number_in r.set.number (set_numbers (mover r) (rs ++ r ∷ []))) 0
     ≡ cond b (set_number (sets_of_kind (mover r) (tables_of rs)) r.set) 0
 last_set rs r true e =
-    ap (λ xs. number_in r.set.number (firsts (map set_key xs))) (own_kind (mover r) rs r (same_kind (mover r)))
+    ap (λ xs. number_in r.set.number (firsts (map set_key xs))) (own_kind (mover r) rs r (is_same_kind_refl (mover r)))
     ∙ set_number_more (of_kind (mover r) rs) r ∙ ap (λ (table : List SetEntry). set_number table r.set) (sym (own_sets r.kind r.player rs e))
 last_set rs r false e = refl
 
@@ -116,7 +111,7 @@ last_count : (rs : List Record) (r : Record) (b : Bool) → has_set r.kind ≡ b
     → cond b (length (set_entry (mover r) (rs ++ r ∷ []) r.set.number).actions) 0
     ≡ cond b (action_count (sets_of_kind (mover r) (tables_of rs)) r.set) 0
 last_count rs r true e =
-    ap (λ xs. length (set_known xs r.set.number).actions) (own_kind (mover r) rs r (same_kind (mover r)))
+    ap (λ xs. length (set_known xs r.set.number).actions) (own_kind (mover r) rs r (is_same_kind_refl (mover r)))
     ∙ action_count_more (of_kind (mover r) rs) r ∙ ap (λ (table : List SetEntry). action_count table r.set) (sym (own_sets r.kind r.player rs e))
 last_count rs r false e = refl
 

@@ -16,6 +16,7 @@ use Rattle.def_file_tokens.specs.Spelling.{IsToken, IsFirstByteFrom}
 use Rattle.def_file_tokens.specs.Tokens.{span, text_from, token_at, after_space, byte_from, next_from}
 use Rattle.def_file_tokens.proofs.TokenLemmas.{token_at-text, token_at-open, token_at-close, token_at-comma, token_at-end, token_at-sound, next_from-sound}
 use Rattle.def_file.specs.Reading.{is_byte, next_is}
+use Rattle.def_file_form.proofs.Ahead.{first_get}
 use Rattle.def_file_fault.proofs.Languages.{Step, NotNext}
 
 -- A token has a byte at least.
@@ -61,13 +62,6 @@ no_space_first kinds.Open bytes after apart token = (123, [], token, refl)
 no_space_first kinds.Close bytes after apart token = (125, [], token, refl)
 no_space_first kinds.Comma bytes after apart token = (44, [], token, refl)
 no_space_first kinds.End bytes after apart token = absurd (apart refl)
-
-first_get : (n i : ℕ) (xs : List ℕ) (b : ℕ) (bs : List ℕ) → take n (drop i xs) ≡ b ∷ bs → slice_get xs i ≡ Some b
-first_get zero i xs b bs e = absurd cc
-first_get (suc n) zero [] b bs e = absurd cc
-first_get (suc n) zero (x ∷ xs) b bs e = cc
-first_get (suc n) (suc i) [] b bs e = absurd cc
-first_get (suc n) (suc i) (x ∷ xs) b bs e = first_get (suc n) i xs b bs e
 
 -- a token begins with the first byte that isn't white space
 pub token_first_byte : (whole : List ℕ) (at : ℕ) → at ≤ length whole → (t : Lexeme) → Step whole at t

@@ -1,22 +1,21 @@
 -- With the first fault reading stops.
-use Rattle.std.proofs.Common.{◌≡◌, ◌≢◌, ℕ, zero, suc, ◌+◌, ◌-◌, ◌<◌, ◌≤◌, List, [], ◌∷◌, ◌++◌, length, Some, Result, Ok, Err, sym, refl, ap, ◌∙◌, subst, arith, append_assoc, append-nil, eq-eqb}
+use Rattle.std.proofs.Common.{◌≡◌, ◌≢◌, ℕ, zero, suc, ◌+◌, ◌-◌, ◌≤◌, List, [], ◌∷◌, ◌++◌, length, Some, Result, Ok, Err, sym, refl, ap, ◌∙◌, subst, arith, append_assoc, append-nil, eq-eqb}
 use Rattle.std.specs.Prelude.{unwrap_or}
 use Rattle.std.proofs.lemmas.Bool.{ne_eqb}
-use Rattle.def_tree.specs.declared.Node.{Node}
 use Rattle.def_tree.specs.Tree.{wanted, Begins}
 use Rattle.def_file.specs.declared.FileFault.{FileFault}
 use Rattle.def_file.specs.declared.FileFault.TheVariants.{Players}
 use Rattle.def_file.specs.Content.{Prologue, Record, Contents, no_contents}
 use Rattle.def_tree.specs.Rules.{most_nodes}
 use Rattle.def_file.specs.Faults.{record_fault}
-use Rattle.def_file.specs.Adding.{with_record, node_with}
+use Rattle.def_file.specs.Adding.{with_record}
 use Rattle.def_file.specs.Reading.{◌>>=◌, name_at, checked_names, prologue_at, entry_at, unless_fault, judged, entries_from, nothing_at, game_at, behind_head}
 use Rattle.def_file_entries.specs.Entries.{contents_of}
 use Rattle.def_file_entries.specs.Laws.{HaveNoFault}
 use Rattle.def_file_entries.proofs.OneMore.{one_more}
 use Rattle.def_file_entries.proofs.EntryFaults.{entry_fault_is_first_broken}
 use Rattle.def_file_entries.proofs.NoFault.{no_fault_here, entries_limit}
-use Rattle.def_file_form.proofs.Entries.{ok_judged}
+use Rattle.def_file_form.proofs.Entries.{entry_wanted, ok_judged}
 use Rattle.def_file_fault.specs.Offends.{Offends}
 use Rattle.def_file_fault.specs.First.{IsHeadUpTo, AreEntriesFrom, IsPrologueUpTo, IsReadUpTo, IsPlayersFault, IsCommentFault, IsEntryFault, IsRuleFault, IsTrailingFault, FirstFault, in_head, in_players, in_comment, in_entry, in_rules, behind_tree, IsHeadTokens}
 use Rattle.def_file_fault.proofs.Heads.{prologue_is}
@@ -61,29 +60,6 @@ prologue_decided whole p end is =
 
 -- Entries.
 
--- the nodes of more entries
-nodes_behind : (rs more : List Record)
-    → (extra : List Node) × ((contents_of (rs ++ more)).nodes ≡ (contents_of rs).nodes ++ extra)
-nodes_behind rs [] = ([], ap (λ l. (contents_of l).nodes) (append-nil rs) ∙ sym (append-nil (contents_of rs).nodes))
-nodes_behind rs (r ∷ more) =
-    let later = nodes_behind (rs ++ r ∷ []) more in
-    let node = node_with (contents_of rs) r in (
-      node ∷ later.0,
-      ap (λ l. (contents_of l).nodes) (sym (append_assoc rs (r ∷ []) more)) ∙ later.1 ∙ ap (λ (c : Contents). c.nodes ++ later.0) (one_more rs r) ∙ append_assoc (contents_of rs).nodes (node ∷ []) later.0,
-    )
-
--- a node comes only where one is wanted
-wanted_there : (n : ℕ) (xs : List Node) (y : Node) (ys : List Node) → Begins n (xs ++ y ∷ ys) → 0 < wanted n xs
-wanted_there n [] y ys begins = begins.0
-wanted_there n (x ∷ xs) y ys begins = wanted_there (n + x.children - 1) xs y ys begins.1
-
-entry_wanted : (rs : List Record) (r : Record) (more : List Record) → Begins 1 (contents_of (rs ++ r ∷ more)).nodes
-    → 0 < wanted 1 (contents_of rs).nodes
-entry_wanted rs r more begins =
-    let later = nodes_behind (rs ++ r ∷ []) more in
-    let split = ap (λ l. (contents_of l).nodes) (sym (append_assoc rs (r ∷ []) more)) ∙ later.1 ∙ ap (λ (c : Contents). c.nodes ++ later.0) (one_more rs r) ∙ append_assoc (contents_of rs).nodes (node_with (contents_of rs) r ∷ []) later.0 in
-    wanted_there 1 (contents_of rs).nodes (node_with (contents_of rs) r) later.0 (subst (Begins 1) split begins)
-
 -- where the tree is open another entry is read, and where it is whole none
 more_here : (left : ℕ) (contents : Contents) (whole : List ℕ) (at : ℕ) → wanted 1 contents.nodes ≢ 0
     → entries_from (suc left) contents whole at
@@ -96,7 +72,8 @@ none_here : (left : ℕ) (contents : Contents) (whole : List ℕ) (at : ℕ) →
 unfolding entries_from
 none_here left contents whole at none = rw (eq-eqb (wanted 1 contents.nodes) 0 none) refl
 
-judged_fault : (contents : Contents) (r : Record) (fault : FileFault) → record_fault contents r ≡ Some fault
+-- an entry with a fault gives the fault
+pub judged_fault : (contents : Contents) (r : Record) (fault : FileFault) → record_fault contents r ≡ Some fault
     → judged contents r ≡ Err fault
 unfolding judged
 judged_fault contents r fault is = ap (λ found. unless_fault found (with_record contents r)) is

@@ -25,7 +25,7 @@ use Rattle.def_file_form.proofs.Steps.{then_ok}
 use Rattle.def_file_entries.proofs.EntryFaults.{entry_fault_is_first_broken}
 use Rattle.def_file_entries.proofs.NoFault.{nothing_at_fault, no_fault_more, entries_limit}
 use Rattle.def_file_form.proofs.Entries.{judged_ok}
-use Rattle.def_file_form.proofs.SoundEntries.{IsHeadOf}
+use Rattle.def_file_form.proofs.SoundEntries.{IsHeadOf, two_names}
 use Rattle.def_file_fault.specs.First.{IsHeadTokens, IsEntryTokens, IsHeadUpTo, IsEntryFrom, AreEntriesFrom, IsPrologueUpTo, IsReadUpTo, FirstFault, in_head, in_players, in_comment, in_entry, in_rules, behind_tree}
 use Rattle.def_file_fault.proofs.Languages.{offends}
 use Rattle.def_file_fault.proofs.Nexts.{token_first_byte}
@@ -50,12 +50,6 @@ checked names at = chosen (nat_eq (length names) 2) refl
     chosen : (b : Bool) → nat_eq (length names) 2 ≡ b → Checked names at
     chosen true is = two (eqb-true (length names) 2 is) (rw is refl)
     chosen false is = others (eqb-false (length names) 2 is) (rw is refl)
-
-pub two_names : (names : List (List ℕ)) → length names ≡ 2 → names ≡ nth_name names 0 ∷ nth_name names 1 ∷ []
-two_names [] is = absurd (omega (arith, is))
-two_names (a ∷ []) is = absurd (omega (arith, is))
-two_names (a ∷ b ∷ []) is = refl
-two_names (a ∷ b ∷ c ∷ more) is = absurd (omega (arith, is))
 
 -- The prologue.
 

@@ -36,7 +36,8 @@ pub record Taken {A : Type 0} (whole : List ℕ) (reading : Result (A × ℕ) Fi
 
 -- The first byte of the next token.
 
-first_get : (n i : ℕ) (xs : List ℕ) (b : ℕ) (bs : List ℕ) → take n (drop i xs) ≡ b ∷ bs → slice_get xs i ≡ Some b
+-- the first of the elements from a place on is the one at the place
+pub first_get : (n i : ℕ) (xs : List ℕ) (b : ℕ) (bs : List ℕ) → take n (drop i xs) ≡ b ∷ bs → slice_get xs i ≡ Some b
 first_get zero i xs b bs e = absurd cc
 first_get (suc n) zero [] b bs e = absurd cc
 first_get (suc n) zero (x ∷ xs) b bs e = cc

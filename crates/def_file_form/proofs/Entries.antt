@@ -41,7 +41,8 @@ Begins-wanted : (n : ℕ) (xs : List Node) (y : Node) (ys : List Node) → Begin
 Begins-wanted n [] y ys begins = begins.0
 Begins-wanted n (x ∷ xs) y ys begins = Begins-wanted (n + x.children - 1) xs y ys begins.1
 
-entry_wanted : (rs : List Record) (r : Record) (more : List Record) → Begins 1 (contents_of (rs ++ r ∷ more)).nodes
+-- an entry that comes is wanted by those before it
+pub entry_wanted : (rs : List Record) (r : Record) (more : List Record) → Begins 1 (contents_of (rs ++ r ∷ more)).nodes
     → 0 < wanted 1 (contents_of rs).nodes
 entry_wanted rs r more begins =
     let later = nodes_behind (rs ++ r ∷ []) more in

@@ -139,8 +139,8 @@ names_read (suc left) done whole at within read e =
           taken = read_then whole at text.1 read.1 (IsText text.0) (AreNames later.more) here later.taken;
         })
 
--- two names
-two_names : (names : List (List ℕ)) → length names ≡ 2 → names ≡ nth_name names 0 ∷ nth_name names 1 ∷ []
+-- two names are the first and the second one
+pub two_names : (names : List (List ℕ)) → length names ≡ 2 → names ≡ nth_name names 0 ∷ nth_name names 1 ∷ []
 two_names [] is = absurd (omega (arith, is))
 two_names (a ∷ []) is = absurd (omega (arith, is))
 two_names (a ∷ b ∷ []) is = refl

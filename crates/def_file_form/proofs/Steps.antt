@@ -1,8 +1,8 @@
 -- Reading token by token: what each test of a token says, and the tokens that a reading takes.
-use Rattle.std.proofs.Common.{◌≡◌, ◌≢◌, ℕ, ◌≤◌, Bool, true, false, cond, ◌&&◌, ◌||◌, List, [], ◌∷◌, ◌++◌, length, drop, Result, Ok, Err, sym, refl, ap, ◌∙◌, subst, ◌⊎◌, inl, inr, append_assoc}
+use Rattle.std.proofs.Common.{◌≡◌, ◌≢◌, ℕ, ◌≤◌, Bool, true, false, cond, ◌||◌, List, [], ◌∷◌, ◌++◌, length, drop, Result, Ok, Err, sym, refl, ap, ◌∙◌, subst, ◌⊎◌, inl, inr, append_assoc}
 use Rattle.std.specs.Prelude.{codes, nat_eq}
 use Rattle.std.specs.Cmp.Lexicographic.{pointwise}
-use Rattle.std.proofs.lemmas.Bool.{eqb-true}
+use Rattle.std.proofs.lemmas.Bool.{and_parts, eqb-true}
 use Rattle.def_file_tokens.specs.declared.Token.{Token}
 use Rattle.def_file_tokens.specs.declared.Token.TheVariants as kinds
 use Rattle.def_file_tokens.specs.declared.Lexeme.{Lexeme}
@@ -27,15 +27,6 @@ pub then_ok : {A B G : Type 0} (r : Result A FileFault) (f : A → Result B File
 then_ok (Ok x) f y e go = go x refl e
 then_ok (Err d) f y e go = absurd cc
 
--- both sides of tests
-pub and_left : (a b : Bool) → (a && b) ≡ true → a ≡ true
-and_left true b e = refl
-and_left false b e = absurd cc
-
-pub and_right : (a b : Bool) → (a && b) ≡ true → b ≡ true
-and_right true b e = e
-and_right false b e = absurd cc
-
 -- of two tests the first passes, or it fails and the second passes
 pub either : (a b : Bool) → (a || b) ≡ true → (a ≡ true) ⊎ ((a ≡ false) × (b ≡ true))
 either true b e = inl refl
@@ -56,7 +47,9 @@ pub pointwise-true : (a b : List ℕ) → pointwise nat_eq a b ≡ true → a �
 pointwise-true [] [] e = refl
 pointwise-true [] (y ∷ ys) e = absurd cc
 pointwise-true (x ∷ xs) [] e = absurd cc
-pointwise-true (x ∷ xs) (y ∷ ys) e = ap (λ z. z ∷ xs) (eqb-true x y (and_left _ _ e)) ∙ ap (λ l. y ∷ l) (pointwise-true xs ys (and_right _ _ e))
+pointwise-true (x ∷ xs) (y ∷ ys) e =
+    let parts = and_parts _ _ e in
+    ap (λ z. z ∷ xs) (eqb-true x y parts.0) ∙ ap (λ l. y ∷ l) (pointwise-true xs ys parts.1)
 
 -- a token that passed a test was the next one, and the other way round
 pub token_ok : (test : Lexeme → Bool) (whole : List ℕ) (at : ℕ) (l : Lexeme) → token_where test whole at ≡ Ok l
@@ -154,7 +147,8 @@ module _ (whole : List ℕ) (at : ℕ) (at_within : at ≤ length whole) (l : Le
   -- a next token that is of this kind and has these bytes is taken as the token spelled so
   pub exact_here : (kind : Token) (bytes : List ℕ) → kind ≢ kinds.End → next_from whole at ≡ Ok l → is_exact kind bytes whole l ≡ true → Step whole at l (record { kind = kind; bytes = bytes })
   exact_here kind bytes not_end next e =
-      respell kind _ bytes (pointwise-true (bytes_at whole l) bytes (and_right _ _ e)) (step_of kind not_end next (is_kind-true kind l.kind (and_left _ _ e)))
+      let parts = and_parts _ _ e in
+      respell kind _ bytes (pointwise-true (bytes_at whole l) bytes parts.1) (step_of kind not_end next (is_kind-true kind l.kind parts.0))
 
   -- where a token of this kind and with these bytes is read, it is the next one, and spelled so
   pub exact_step : (kind : Token) (bytes : List ℕ) → kind ≢ kinds.End → token_where (is_exact kind bytes whole) whole at ≡ Ok l → Step whole at l (record { kind = kind; bytes = bytes })

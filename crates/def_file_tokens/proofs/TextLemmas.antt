@@ -36,7 +36,8 @@ unescaped-stays : (b : ℕ) (bs : List ℕ) → (b ≡ 92 → begins_with_mark b
 unfolding unescaped
 unescaped-stays b bs plain = ⊎_elim (λ is. rw (plain is.1, and-false) refl) (λ other. rw other.0 refl) (eqb_tells b 92)
 
-unescaped-goes : (bs : List ℕ) → unescaped (92 ∷ 34 ∷ bs) ≡ 34 ∷ unescaped bs
+-- of a backslash before a mark the mark stays
+pub unescaped-goes : (bs : List ℕ) → unescaped (92 ∷ 34 ∷ bs) ≡ 34 ∷ unescaped bs
 unfolding unescaped
 unescaped-goes bs = refl
 

@@ -1,7 +1,7 @@
 -- What the answer of reading a literal says of the bytes.
 use Rattle.std.proofs.Common.{◌≡◌, ◌≢◌, ℕ, zero, suc, ◌<◌, Bool, true, false, cond, ◌&&◌, eqb, List, Option, Some, None, Result, Ok, Err, refl, sym, ap, ◌∙◌, subst, arith}
 use Rattle.std.specs.Prelude.{◌↔◌, nat_le}
-use Rattle.std.proofs.lemmas.Bool.{and_parts, and_from, leb-true, le-leb, eqb-true, eqb-false, eq-eqb, ne_eqb, false≢true}
+use Rattle.std.proofs.lemmas.Bool.{and_parts, and_from, leb-true, le-leb, eqb-true, eqb-false, eq-eqb, ne_eqb, false≢true, false_from_ne_true}
 use Rattle.def_fraction.specs.declared.fault.NumberFault.{NumberFault}
 use Rattle.def_fraction.specs.declared.fault.NumberFault.TheVariants.{Form, ZeroDenominator, Range}
 use Rattle.def_fraction.specs.Fraction.{Fraction, fits}
@@ -66,10 +66,6 @@ positive_from_test (suc d) h = omega arith
 test_from_positive : (d : ℕ) → 0 < d → eqb d 0 ≡ false
 test_from_positive d h = ne_eqb d 0 (λ e. omega arith)
 
-false_unless : (b : Bool) → (b ≡ true → ⊥) → b ≡ false
-false_unless true h = absurd (h refl)
-false_unless false h = refl
-
 -- the answers by the literal that is read
 by_literal : (bytes : List ℕ) (read : Option Literal) → literal_of bytes ≡ read → JudgesLiteral bytes (value_if read)
 by_literal bytes None e =
@@ -94,7 +90,7 @@ by_literal bytes (Some l) e =
         λ h. let t = j.range.0 h in (l, shown, positive_from_test (denominator l.body) t.0, λ w. false≢true (sym t.1 ∙ test_from_within l w)),
         λ w. j.range.1 (
           test_from_positive (denominator l.body) (subst (λ (k : Literal). 0 < denominator k.body) (only w.0 w.1) w.2),
-          false_unless (within_test l) (λ t. w.3 (subst (λ (k : Literal). IsInRange k) (sym (only w.0 w.1)) (within_from_test l t))),
+          false_from_ne_true (within_test l) (λ t. w.3 (subst (λ (k : Literal). IsInRange k) (sym (only w.0 w.1)) (within_from_test l t))),
         ),
       );
       value = λ f. (

@@ -173,7 +173,8 @@ cond_some : {A : Type 0} (t : Bool) (x : Option A) (y : A) → cond t x None ≡
 cond_some true x y h = (refl, h)
 cond_some false x y h = cc
 
-option_map_some : {A B : Type 0} (f : A → B) (o : Option A) (y : B) → option_map f o ≡ Some y
+-- where a map gives something, there was something
+pub option_map_some : {A B : Type 0} (f : A → B) (o : Option A) (y : B) → option_map f o ≡ Some y
     → (x : A) × (o ≡ Some x) × (f x ≡ y)
 option_map_some f None y h = cc
 option_map_some f (Some x) y h = (x, refl, cc)

@@ -12,7 +12,8 @@ use Rattle.def_fraction.specs.Fraction.{Fraction, IsInLowestTerms, order_of}
 use Rattle.def_fraction.specs.Laws.{OrdersValues}
 use Rattle.def_fraction.proofs.FractionLemmas.{same_from_value, neg-times}
 
-times-times : (x : ℤ) (d k : ℕ) → (x *ℤ pos d) *ℤ pos k ≡ x *ℤ pos (d * k)
+-- times one number and times another is times their product
+pub times-times : (x : ℤ) (d k : ℕ) → (x *ℤ pos d) *ℤ pos k ≡ x *ℤ pos (d * k)
 times-times (pos n) d k = ap pos (mul_assoc n d k)
 times-times (negsuc n) d k = neg-times (suc n * d) k ∙ ap (λ m. neg_ℤ (pos m)) (mul_assoc (suc n) d k)
 

@@ -33,6 +33,10 @@ fraction_of num den =
 abbrev pub whole_number : ℤ → Fraction
 whole_number n = record { num = n; den = 1 }
 
+-- 1 / n
+abbrev pub one_over : ℕ → Fraction
+one_over n = record { num = pos 1; den = n }
+
 abbrev pub sum_of : Fraction → Fraction → Fraction
 sum_of a b = fraction_of ((a.num *ℤ pos b.den) +ℤ (b.num *ℤ pos a.den)) (a.den * b.den)
 

@@ -2,7 +2,7 @@
 use Rattle.std.proofs.Common.{◌≡◌, ◌≢◌, ℕ, zero, suc, ◌-◌, ◌*◌, ◌≤◌, Bool, true, false, not, cond, ◌&&◌, List, [], ◌∷◌, length, take, refl, ap, sym, subst, ◌∙◌, arith, Some, None, inl, inr, ◌⊎◌}
 use Rattle.std.specs.Prelude.{Option, All, Any, ℤ, pos, negsuc, ◌*ℤ◌, ◌<ℤ◌, ◌≤ℤ◌, unsigned_abs, nat_eq, ◌||◌}
 use Rattle.std.specs.List.{list_any}
-use Rattle.std.proofs.lemmas.Bool.{eqb-true}
+use Rattle.std.proofs.lemmas.Bool.{and_from, and_parts, eqb-true, not-false, not-true}
 use Rattle.std.proofs.lemmas.List.Elements.{All-cons, All-head, All-nil, All-tail, All-weaker}
 use Rattle.std.proofs.lemmas.List.Folds.{Any-from_list_any, list_any-from_Any, list_any_none}
 use Rattle.std.proofs.lemmas.Int.{ints}
@@ -19,25 +19,6 @@ use Rattle.def_game_scale.proofs.Expected.{at-or, lowest-sum}
 use Rattle.def_game_faults.specs.Faults.{GameFault, ChanceNegative, ChanceSum, Scale, passing, number_after, is_chance, is_below_zero, is_negative, is_one, sign_fault, adding_fault, sum_fault}
 use Rattle.def_game_faults.specs.First.{OpensChanceSet, SignsPass, SignsFail, sum_from, RunningSumsFit, AddUpToOne, SumsPass, SumsFail, running_past, other_total}
 use Rattle.def_game_faults.proofs.Walks.{passing_none, passing_some, passed, not_passed, IsWalk, each-all}
-
--- two tests that are passed together are each passed
-pub both : (a b : Bool) → a && b ≡ true → (a ≡ true) × (b ≡ true)
-both true b e = (refl, e)
-both false b e = cc
-
--- two tests that are each passed are passed together
-pub both_true : (a b : Bool) → a ≡ true → b ≡ true → a && b ≡ true
-both_true a b p q = ap (λ x. x && b) p ∙ q
-
--- a test whose opposite is passed is not passed
-pub not_false : (b : Bool) → not b ≡ true → b ≡ false
-not_false true e = cc
-not_false false e = refl
-
--- a test whose opposite is not passed is passed
-pub not_true : (b : Bool) → not b ≡ false → b ≡ true
-not_true true e = refl
-not_true false e = cc
 
 pub is_chance-kind : (v : Visit) → is_chance v ≡ true → v.node.kind ≡ Chance
 is_chance-kind v e = is_same_kind-true Chance v.node.kind e
@@ -97,7 +78,7 @@ sign_walk tables = record {
   passes = λ before v e chance.
       let ps = probabilities tables v.node.set in
       let test = (passing_none (not (is_chance v && list_any is_negative ps)) (ChanceNegative (number_after before)) None e).0 in
-      let found : true && list_any is_negative ps ≡ false = ap (λ c. c && list_any is_negative ps) (sym (kind-is_chance v chance)) ∙ not_false (is_chance v && list_any is_negative ps) test in
+      let found : true && list_any is_negative ps ≡ false = ap (λ c. c && list_any is_negative ps) (sym (kind-is_chance v chance)) ∙ not-true (is_chance v && list_any is_negative ps) test in
       none_negative ps found;
   none = λ before v pass. signs_pass tables before v (is_chance v) refl pass;
   fails = λ before v fault earlier e.
@@ -105,7 +86,7 @@ sign_walk tables = record {
       elim (passing_some (not (is_chance v && list_any is_negative ps)) (ChanceNegative (number_after before)) None fault e) [
         | inr later ↦ let no = later.1 in cc
         | inl here ↦
-            let parts = both (is_chance v) (list_any is_negative ps) (not_true (is_chance v && list_any is_negative ps) here.0) in
+            let parts = and_parts (is_chance v) (list_any is_negative ps) (not-false (is_chance v && list_any is_negative ps) here.0) in
             record {
               opens = opens (λ xs. All (λ p. pos 0 ≤ℤ p.num) xs) tables before v (is_chance-kind v parts.0) (each-all (SignsPass tables []) before earlier)
                   (λ all. let no : true ≡ false = sym parts.1 ∙ none_negative-is ps all in cc);
@@ -115,7 +96,7 @@ sign_walk tables = record {
       ];
   some = λ before v fault fails.
       let ps = probabilities tables v.node.set in
-      let found = both_true (is_chance v) (list_any is_negative ps) (kind-is_chance v fails.opens.chance) (some_negative-is ps fails.negative) in
+      let found = and_from (is_chance v) (list_any is_negative ps) (kind-is_chance v fails.opens.chance) (some_negative-is ps fails.negative) in
       not_passed (not (is_chance v && list_any is_negative ps)) (ChanceNegative (number_after before)) None fault (ap not found) fails.fault_is;
 }
   where
@@ -222,9 +203,9 @@ whole_size (negsuc n) e = cc
 -- a fraction in lowest terms whose numerator is its denominator is 1
 is-certain : (f : Fraction) → IsInLowestTerms f → is_one f ≡ true → f ≡ certain
 is-certain f low e =
-    let parts = both (not (is_negative f)) (nat_eq (unsigned_abs f.num) f.den) e in
+    let parts = and_parts (not (is_negative f)) (nat_eq (unsigned_abs f.num) f.den) e in
     let size : unsigned_abs f.num ≡ f.den = eqb-true (unsigned_abs f.num) f.den parts.1 in
-    let num : f.num ≡ pos f.den = whole_size f.num (not_false (is_negative f) parts.0) ∙ ap pos size in
+    let num : f.num ≡ pos f.den = whole_size f.num (not-true (is_negative f) parts.0) ∙ ap pos size in
     let same : f.den * 1 ≡ 1 * f.den = omega arith in
     same_from_value f certain low certain-lowest (ap (λ n. n *ℤ pos 1) num ∙ pos-*ℤ-pos f.den 1 ∙ ap pos same ∙ sym (pos-*ℤ-pos 1 f.den))
 
@@ -242,10 +223,11 @@ at_chance : (tables : Tables) (before : List Visit) (v : Visit) → v.node.kind 
     → sum_fault tables before v ≡ adding_fault (number_after before) nothing (probabilities tables v.node.set)
 at_chance tables before v chance = ap (λ c. cond c (adding_fault (number_after before) nothing (probabilities tables v.node.set)) None) (kind-is_chance v chance)
 
-elsewhere : (c : Bool) (o : Option GameFault) (fault : GameFault) → cond c o None ≡ Some fault
+-- where a test that answers only at some nodes tells a fault, it is at such a node, and the answer there
+pub test_passed : (c : Bool) (o : Option GameFault) (fault : GameFault) → cond c o None ≡ Some fault
     → (c ≡ true) × (o ≡ Some fault)
-elsewhere true o fault e = (refl, e)
-elsewhere false o fault e = cc
+test_passed true o fault e = (refl, e)
+test_passed false o fault e = cc
 
 -- the test of sums tells exactly where probabilities pass the limit or don't come to 1
 pub sum_walk : (tables : Tables) → AreFractions tables → IsWalk (sum_fault tables) (SumsPass tables) (SumsFail tables)
@@ -258,7 +240,7 @@ sum_walk tables h = record {
   fails = λ before v fault earlier e.
       let ps = probabilities tables v.node.set in
       let k = number_after before in
-      let there = elsewhere (is_chance v) (adding_fault k nothing ps) fault e in
+      let there = test_passed (is_chance v) (adding_fault k nothing ps) fault e in
       let chance = is_chance-kind v there.0 in
       let open_by : (RunningSumsFit ps × AddUpToOne ps → ⊥) → OpensChanceSet before v =
       opens (λ xs. RunningSumsFit xs × AddUpToOne xs) tables before v chance (each-all (SumsPass tables []) before earlier) in

@@ -1,7 +1,7 @@
 -- The walks over the nodes' numbers: reach, payoffs and unit, and the mass.
 use Rattle.std.proofs.Common.{◌≡◌, ◌≢◌, ℕ, ◌≤◌, Bool, true, false, not, cond, ◌&&◌, List, [], ◌∷◌, ◌++◌, refl, ap, sym, ◌∙◌, arith, zero, suc, Some, None, inl, inr}
 use Rattle.std.specs.Prelude.{Option, ℤ, pos, negsuc, ◌*ℤ◌, unsigned_abs, nat_le, nat_lt}
-use Rattle.std.proofs.lemmas.Bool.{eqb-true, le-leb, le-ltb, leb-false, leb-true, lt-leb, lt-ltb, ltb-false, ltb-true}
+use Rattle.std.proofs.lemmas.Bool.{and_from, and_parts, eqb-true, le-leb, le-ltb, leb-false, leb-true, lt-leb, lt-ltb, ltb-false, ltb-true, not-false, not-true}
 use Rattle.std.proofs.Math.IntN.{zero-*ℤ}
 use Rattle.def_fraction.specs.Fraction.{Fraction, IsInLowestTerms, fits, most, sum_of}
 use Rattle.def_fraction.proofs.FractionLemmas.{same_from_value}
@@ -12,9 +12,10 @@ use Rattle.def_game_scale.proofs.Expected.{at-or, lowest-sum}
 use Rattle.def_game_faults.specs.Faults.{GameFault, NotZeroSum, Scale, passing, number_after, is_leaf, is_zero, leaf_fault, node_fault, mass_fault}
 use Rattle.def_game_faults.specs.First.{PathFits, LeafPasses, NodePasses, NodeFails, reach_past, one_past, two_past, not_zero_sum, expected_past, unit_past, MassPasses, MassFails}
 use Rattle.def_game_faults.proofs.Walks.{passing_none, passing_some, passed, not_passed, IsWalk}
-use Rattle.def_game_faults.proofs.Chance.{both, both_true, not_false, not_true, nothing-lowest}
+use Rattle.def_game_faults.proofs.Chance.{nothing-lowest, test_passed}
 
-no_size : (n : ℤ) → unsigned_abs n ≡ 0 → n ≡ pos 0
+-- a signed number whose size is 0 is 0
+pub no_size : (n : ℤ) → unsigned_abs n ≡ 0 → n ≡ pos 0
 no_size (pos n) e = ap pos e
 no_size (negsuc n) e = absurd (omega arith)
 
@@ -124,11 +125,6 @@ leaf_some tables h before v fault path leaf e =
           ]
     ]
 
-when_leaf : (b : Bool) (o : Option GameFault) (fault : GameFault) → cond b o None ≡ Some fault
-    → (b ≡ true) × (o ≡ Some fault)
-when_leaf true o fault e = (refl, e)
-when_leaf false o fault e = cc
-
 node_some : (tables : Tables) → AreFractions tables → (before : List Visit) (v : Visit) (fault : GameFault)
     → node_fault tables before v ≡ Some fault → NodeFails tables before v fault
 node_some tables h before v fault e =
@@ -141,7 +137,7 @@ node_some tables h before v fault e =
         | inr second ↦ elim (passing_some (fits (payoff_two tables v)) k rest fault second.1) [
           | inl here ↦ two_past first.0 second.0 here.0 here.1
           | inr third ↦
-              let leaf = when_leaf (is_leaf v) (leaf_fault tables before v) fault third.1 in
+              let leaf = test_passed (is_leaf v) (leaf_fault tables before v) fault third.1 in
               leaf_some tables h before v fault (record { reach_fits = first.0; one_fits = second.0; two_fits = third.0 }) leaf.0 leaf.1
         ]
       ]
@@ -201,20 +197,20 @@ pub mass_walk : (tables : Tables) (unit : ℕ)
 mass_walk tables unit = record {
   passes = λ before v e leaf.
       let mass : ℕ = mass_so_far tables unit (before ++ (v ∷ [])) in
-      let test = not_false (is_leaf v && nat_lt most mass) (passing_none (not (is_leaf v && nat_lt most mass)) (Scale (number_after before)) None e).0 in
+      let test = not-true (is_leaf v && nat_lt most mass) (passing_none (not (is_leaf v && nat_lt most mass)) (Scale (number_after before)) None e).0 in
       ltb-false most mass (ap (λ b. b && nat_lt most mass) (sym leaf) ∙ test);
   none = λ before v pass. mass_none_by before v (is_leaf v) refl pass;
   fails = λ before v fault earlier e.
       let mass : ℕ = mass_so_far tables unit (before ++ (v ∷ [])) in
       elim (passing_some (not (is_leaf v && nat_lt most mass)) (Scale (number_after before)) None fault e) [
         | inl here ↦
-            let parts = both (is_leaf v) (nat_lt most mass) (not_true (is_leaf v && nat_lt most mass) here.0) in
+            let parts = and_parts (is_leaf v) (nat_lt most mass) (not-false (is_leaf v && nat_lt most mass) here.0) in
             record { leaf = parts.0; past = ltb-true most mass parts.1; fault_is = here.1 }
         | inr none ↦ let no = none.1 in cc
       ];
   some = λ before v fault fails.
       let mass : ℕ = mass_so_far tables unit (before ++ (v ∷ [])) in
-      not_passed (not (is_leaf v && nat_lt most mass)) (Scale (number_after before)) None fault (ap not (both_true (is_leaf v) (nat_lt most mass) fails.leaf (lt-ltb most mass fails.past))) fails.fault_is;
+      not_passed (not (is_leaf v && nat_lt most mass)) (Scale (number_after before)) None fault (ap not (and_from (is_leaf v) (nat_lt most mass) fails.leaf (lt-ltb most mass fails.past))) fails.fault_is;
 }
   where
     mass_none_by : (before : List Visit) (v : Visit) (b : Bool) → is_leaf v ≡ b → MassPasses tables unit before v

@@ -1,10 +1,10 @@
 -- Cutting jobs loses no leaf, and keeps within the limit.
-use Rattle.std.proofs.Common.{◌≡◌, ℕ, zero, suc, ◌+◌, ◌≤◌, Bool, true, false, cond, ◌&&◌, List, [], ◌∷◌, ◌++◌, length, refl, ap, sym, ◌∙◌, arith, append-nil, length-append}
+use Rattle.std.proofs.Common.{◌≡◌, ℕ, zero, suc, ◌+◌, ◌≤◌, Bool, true, false, cond, List, [], ◌∷◌, ◌++◌, length, refl, ap, sym, ◌∙◌, arith, append-nil, length-append}
 use Rattle.std.specs.List.{flat_map, filter}
 use Rattle.std.specs.Prelude.{nat_le}
 use Rattle.std.proofs.lemmas.List.Elements.{filter-append}
 use Rattle.std.proofs.lemmas.Grind.{flat_map-append}
-use Rattle.std.proofs.lemmas.Bool.{leb-true}
+use Rattle.std.proofs.lemmas.Bool.{and_parts, leb-true}
 use Rattle.def_tree.specs.declared.Kind.{Kind}
 use Rattle.def_tree.specs.declared.Kind.TheVariants.{Chance, One, Two, Leaf}
 use Rattle.def_tree.specs.declared.Node.{Node}
@@ -64,17 +64,9 @@ leaves-subtrees (grown node below beside) h e =
     ∙ ap (λ xs. filter in_leaf (node ∷ xs)) (sym (append-nil (prefix below)))
     ∙ ap (λ f. filter in_leaf (node ∷ (prefix below ++ prefix f))) (sym h)
 
-first_of_both : (a b : Bool) → a && b ≡ true → a ≡ true
-first_of_both true b e = refl
-first_of_both false b e = cc
-
-second_of_both : (a b : Bool) → a && b ≡ true → b ≡ true
-second_of_both true b e = e
-second_of_both false b e = cc
-
 -- where a job gives way to its subtrees, there are no more jobs than the limit allows
 pub within_if_cut : (limit count : ℕ) (job : Forest) → is_cut limit count job ≡ true → count_after count job ≤ limit
-within_if_cut limit count job cut = leb-true (count_after count job) limit (second_of_both (is_chance_job job) (nat_le (count_after count job) limit) cut)
+within_if_cut limit count job cut = leb-true (count_after count job) limit (and_parts (is_chance_job job) (nat_le (count_after count job) limit) cut).1
 
 module _ (limit : ℕ) where
   AreSingle-cut_each : (count : ℕ) (jobs : List Forest) → AreSingle jobs → AreSingle (cut_each limit count jobs)
@@ -93,7 +85,7 @@ module _ (limit : ℕ) where
       flat_map leaves_in (cond b (subtrees job ++ cut_each limit (count_after count job) rest) (job ∷ cut_each limit count rest)) ≡ leaves_in job ++ flat_map leaves_in rest) [
         | true ↦ λ cut.
             flat_map-append leaves_in (subtrees job) (cut_each limit (count_after count job) rest)
-            ∙ (λ i. leaves-subtrees job h.0 (first_of_both (is_chance_job job) (nat_le (count_after count job) limit) cut) i ++ leaves-cut_each (count_after count job) rest h.1 i)
+            ∙ (λ i. leaves-subtrees job h.0 (and_parts (is_chance_job job) (nat_le (count_after count job) limit) cut).0 i ++ leaves-cut_each (count_after count job) rest h.1 i)
         | false ↦ λ cut. ap (λ xs. leaves_in job ++ xs) (leaves-cut_each count rest h.1)
       ] refl
 

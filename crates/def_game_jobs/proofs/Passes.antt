@@ -4,22 +4,19 @@ use Rattle.std.specs.List.{flat_map}
 use Rattle.std.specs.Prelude.{nat_le, All}
 use Rattle.std.proofs.lemmas.List.Elements.{All-nil, All-cons, All-head, All-tail}
 use Rattle.std.proofs.lemmas.Grind.{flat_map-append}
-use Rattle.std.proofs.lemmas.Bool.{cases_lt, leb-false, lt-leb, le-leb}
+use Rattle.std.proofs.lemmas.Bool.{and_parts, cases_lt, leb-false, lt-leb, le-leb}
 use Rattle.def_tree.specs.Tree.{Forest, bare, grown, prefix}
 use Rattle.def_game_jobs.specs.Jobs.{each_tree, subtrees, is_chance_job, is_cut, count_after, cut_each, pass, passes, jobs_then, IsPass, JobsComeOfPasses, NoRoomToCut, CutsUntilNoRoom}
 use Rattle.def_game_jobs.proofs.Cuts.{within_if_cut}
 
-passes-suc : (limit n : ℕ) (jobs : List Forest) → passes limit (suc n) jobs ≡ pass limit (passes limit n jobs)
+-- one pass more is a pass over what the passes before it leave
+pub passes-suc : (limit n : ℕ) (jobs : List Forest) → passes limit (suc n) jobs ≡ pass limit (passes limit n jobs)
 passes-suc limit zero jobs = refl
 passes-suc limit (suc n) jobs = passes-suc limit n (pass limit jobs)
 
 -- the jobs of a tree are what 64 passes within 4,096 jobs make of the whole tree
 pub jobs_come_of_passes : JobsComeOfPasses
 jobs_come_of_passes = record { none_at_first = λ limit tree. refl; one_more = λ limit n tree. passes-suc limit n (tree ∷ []); all = λ tree. refl }
-
-cut_parts : (a b : Bool) → a && b ≡ true → (a ≡ true) × (b ≡ true)
-cut_parts true b e = (refl, e)
-cut_parts false b e = cc
 
 -- what becomes of each job
 abbrev parts_of : ℕ → ℕ → List Forest → List (List Forest)
@@ -59,7 +56,7 @@ module _ (limit : ℕ) where
   becomes_first done count job rest many true is parts part e = record {
     cut = λ chance room. e;
     kept = λ no_room.
-        let both = cut_parts (is_chance_job job) (nat_le (count_after count job) limit) is in
+        let both = and_parts (is_chance_job job) (nat_le (count_after count job) limit) is in
         let over : limit < done + jobs_then (job ∷ rest) (part ∷ parts) 0 job = no_room both.0 in
         let within : count_after count job ≤ limit = within_if_cut limit count job is in
         absurd (omega arith);
@@ -154,7 +151,7 @@ module _ (limit : ℕ) where
   no_more_nodes count (job ∷ rest) =
       elim (is_cut limit count job) as (λ b. is_cut limit count job ≡ b → nodes_of (cond b (subtrees job ++ cut_each limit (count_after count job) rest) (job ∷ cut_each limit count rest)) ≤ nodes_of (job ∷ rest)) [
         | true ↦ λ is.
-            let chance = cut_parts (is_chance_job job) (nat_le (count_after count job) limit) is in
+            let chance = and_parts (is_chance_job job) (nat_le (count_after count job) limit) is in
             omega (
               arith,
               fewer_nodes job chance.0,
@@ -177,7 +174,7 @@ module _ (limit : ℕ) where
       elim (is_cut limit count job) as (λ b. is_cut limit count job ≡ b →
       All (Stays count) (job ∷ rest) ⊎ (cond b (subtrees job ++ cut_each limit (count_after count job) rest) (job ∷ cut_each limit count rest) ≢ job ∷ rest)) [
         | true ↦ λ is. inr (λ e.
-            let chance = cut_parts (is_chance_job job) (nat_le (count_after count job) limit) is in
+            let chance = and_parts (is_chance_job job) (nat_le (count_after count job) limit) is in
             let less : nodes_of (subtrees job) < length (prefix job) = fewer_nodes job chance.0 in
             let rest_less : nodes_of (cut_each limit (count_after count job) rest) ≤ nodes_of rest = no_more_nodes (count_after count job) rest in
             let cut : nodes_of (subtrees job ++ cut_each limit (count_after count job) rest) ≡ nodes_of (subtrees job) + nodes_of (cut_each limit (count_after count job) rest) = nodes-append (subtrees job) (cut_each limit (count_after count job) rest) in

@@ -31,7 +31,7 @@ abbrev pub chain : ℕ → Forest → Forest
 chain zero tree = tree
 chain (suc n) tree = drawn 1 (chain n tree)
 
-pub record JobRows : Type 0 where
+pub record LeafCountRows : Type 0 where
   pub chance : leaf_counts (forest_of (inner_node Chance 1 2 ∷ inner_node One 1 2 ∷ leaf ∷ leaf ∷ leaf ∷ []))
       ≡ 2 ∷ 1 ∷ []
   pub pennies : leaf_counts (forest_of (inner_node One 1 2 ∷ inner_node Two 1 2 ∷ leaf ∷ leaf ∷ inner_node Two 1 2 ∷ leaf ∷ leaf ∷ [])) ≡ 4 ∷ []

@@ -4,7 +4,7 @@
 ghost use Rattle.def_game_jobs.specs.Jobs.{CutsUntilNoRoom, EachLeafInOneJob, JobsAreFew, JobsComeOfPasses};
 ghost use Rattle.def_game_jobs.specs.Jobs.{LaterPassesKeep, OnlyCutsChange, PassesReplace};
 ghost use Rattle.def_game_jobs.specs.Ranges.{JobsPartition, RangesHaveTheirJobs};
-ghost use Rattle.def_game_jobs.specs.Rows.{JobLimitRows, JobRows, SmallLimitRows};
+ghost use Rattle.def_game_jobs.specs.Rows.{JobLimitRows, LeafCountRows, SmallLimitRows};
 
 /// In one tree, the jobs' leaves are all leaves, each once, in their order.
 pub fn each_leaf_in_one_job()
@@ -55,7 +55,7 @@ pub fn ranges_have_their_jobs()
 /// Chance nodes at the top give way to their subtrees, and those below a player's node don't; 64 chance nodes one
 /// below the other are all cut, and of 65 the last isn't.
 pub fn job_rows()
-    ensures { JobRows }
+    ensures { LeafCountRows }
 {}
 
 /// Within 16 jobs exactly 16 are reached, a tree with a job too many stays whole, and a small tree behind one that is

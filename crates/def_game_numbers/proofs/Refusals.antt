@@ -10,6 +10,7 @@ use Rattle.def_plan.specs.Payoff.{mass_of}
 use Rattle.def_sequence_form.specs.Form.{form_of}
 use Rattle.def_sequence_form.specs.Sets.{TreeSets, sets_or_break, tree_sets, unless_broken}
 use Rattle.def_sequence_form.proofs.Leaves.{form_has_the_mass}
+use Rattle.def_sequence_form.proofs.Nodes.{told_break}
 use Rattle.def_game_numbers.specs.Numbers.{GameWeights, as_file_fault, file_fault, refused_or, tables_of, weigh, weights_of_game}
 use Rattle.def_game_numbers.specs.Laws.{IsRefusedWithTheFirst, StandsOnAnswers}
 
@@ -24,11 +25,6 @@ pub accepted : {A : Type 0} (o : Option GameFault) (answer given : A) → refuse
     → (o ≡ None) × (answer ≡ given)
 accepted None answer given e = (refl, cc)
 accepted (Some found) answer given e = cc
-
-broken_by : (o : Option RecallBreak) (sets : TreeSets) (broken : RecallBreak) → unless_broken o sets ≡ Err broken
-    → o ≡ Some broken
-broken_by None sets broken e = cc
-broken_by (Some found) sets broken e = cc
 
 unbroken : (o : Option RecallBreak) (sets given : TreeSets) → unless_broken o sets ≡ Ok given
     → (o ≡ None) × (sets ≡ given)
@@ -45,7 +41,7 @@ refused_first game =
       by_weighing = λ fault e. let found = refused numbers weights fault e in ap (λ o. as_file_fault (or_else o (of_recall recall))) found.1 ∙ ap Some (sym found.2);
       by_sets = λ answer fault e f.
           ap (λ o. as_file_fault (or_else o (of_recall recall))) (accepted numbers weights answer e).0
-          ∙ ap (λ o. as_file_fault (of_recall o)) (broken_by recall (tree_sets game.tree) fault f);
+          ∙ ap (λ o. as_file_fault (of_recall o)) (told_break recall (tree_sets game.tree) fault f);
       accepted = λ answer sets e f.
           ap (λ o. as_file_fault (or_else o (of_recall recall))) (accepted numbers weights answer e).0
           ∙ ap (λ o. as_file_fault (of_recall o)) (unbroken recall (tree_sets game.tree) sets f).0;

@@ -2,7 +2,7 @@
 -- so the numbers of sequences tell a player's choices.
 use Rattle.std.proofs.Common.{◌≡◌, ℕ, zero, suc, ◌+◌, ◌-◌, ◌<◌, ◌≤◌, min, true, false, cond, ◌&&◌, List, [], ◌∷◌, ◌++◌, length, get_or, take, map, refl, ap, sym, subst, ◌∙◌, arith, inl, inr, ◌⊎◌, append_assoc, append-nil, length-append}
 use Rattle.std.specs.Prelude.{nat_eq, sum, Contains, AllPairs, ◌↔◌}
-use Rattle.std.proofs.lemmas.Bool.{cases_lt, eqb-true}
+use Rattle.std.proofs.lemmas.Bool.{and_parts, cases_lt, eqb-true}
 use Rattle.std.proofs.lemmas.List.{take-take, get_or-take, get_or-map, get_or_default, length-map, length-take}
 use Rattle.std.proofs.lemmas.List.Elements.{Contains-append_left, Contains-push}
 use Rattle.std.proofs.lemmas.List.Sums.{sum_by_more, sum_by-take-le}
@@ -16,7 +16,7 @@ use Rattle.def_game_paths.specs.Paths.{Move, Visit, visits_from, visits, Choice,
 use Rattle.def_game_paths.specs.Recall.{is_personal, past, AgreeOnPast, HasPerfectRecall}
 use Rattle.def_game_paths.specs.Sequences.{set_firsts, set_sizes, first_sequence, sequence_number, sequence_at}
 use Rattle.def_game_paths.proofs.Visits.{map-visits_from}
-use Rattle.def_game_paths.proofs.Order.{node_of, KeepFrom, KeepFrom-append, KnowsSizes, knows_new, knows_later, both}
+use Rattle.def_game_paths.proofs.Order.{node_of, KeepFrom, KeepFrom-append, KnowsSizes, knows_new, knows_later}
 
 GoesThrough-append : (before more : List Visit) (path : List Move) → GoesThrough before path
     → GoesThrough (before ++ more) path
@@ -97,7 +97,7 @@ knows_all kind (v ∷ rest) before done seen inner many keep fits knows =
     elim (is_same_kind kind v.node.kind && nat_eq v.node.set (seen + 1)) as (λ b. is_same_kind kind v.node.kind && nat_eq v.node.set (seen + 1) ≡ b →
     KnowsSizes kind (before ++ map node_of (v ∷ rest)) (done ++ map (λ (w : Visit). w.node.children) (cond b (v ∷ set_firsts kind (seen + 1) rest) (set_firsts kind seen rest)))) [
       | true ↦ λ first.
-          let parts = both (is_same_kind kind v.node.kind) (nat_eq v.node.set (seen + 1)) first in
+          let parts = and_parts (is_same_kind kind v.node.kind) (nat_eq v.node.set (seen + 1)) first in
           let is : v.node.kind ≡ kind = is_same_kind-true kind v.node.kind parts.0 in
           let number : v.node.set ≡ seen + 1 = eqb-true v.node.set (seen + 1) parts.1 in
           let long : seen + 1 ≡ length (done ++ v.node.children ∷ []) = omega (arith, length-append done (v.node.children ∷ [])) in

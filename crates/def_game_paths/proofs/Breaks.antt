@@ -1,7 +1,7 @@
 -- Where perfect recall fails first.
 use Rattle.std.proofs.Common.{◌≡◌, ◌≢◌, ℕ, zero, suc, ◌+◌, ◌-◌, ◌<◌, ◌≤◌, Bool, true, false, cond, not, ◌&&◌, List, [], ◌∷◌, length, get_or, refl, ap, sym, subst, ◌∙◌, arith, Some, None, inl, inr, ◌⊎◌}
 use Rattle.std.specs.Prelude.{Option, nat_eq}
-use Rattle.std.proofs.lemmas.Bool.{cases_lt, eqb-true, eq-eqb}
+use Rattle.std.proofs.lemmas.Bool.{and_from, and_parts, cases_lt, eqb-true, eq-eqb}
 use Rattle.def_tree.specs.declared.Kind.TheVariants.{Leaf}
 use Rattle.def_tree.specs.declared.Node.{Node}
 use Rattle.def_tree.specs.Tree.{Forest}
@@ -10,21 +10,14 @@ use Rattle.def_tree.proofs.Sets.{is_same_kind_refl, is_same_kind-true}
 use Rattle.def_game_paths.specs.Paths.{Visit, visits, Choice}
 use Rattle.def_game_paths.specs.Recall.{is_personal, past, HasPerfectRecall, is_same_set, is_same_choices, Numbered, first_of_set, RecallBreak, break_against, break_or, first_break, differ_in_past, recall_break, BreaksRecall, IsFirstBreak}
 
-both : (a b : Bool) → a && b ≡ true → (a ≡ true) × (b ≡ true)
-both true b e = (refl, e)
-both false b e = cc
-
-and_true : (a b : Bool) → a ≡ true → b ≡ true → a && b ≡ true
-and_true a b p q = ap (λ x. x && b) p ∙ q
-
 -- two lists of choices that pass the test of sameness are equal
 pub same_choices : (xs ys : List Choice) → is_same_choices xs ys ≡ true → xs ≡ ys
 same_choices [] [] e = refl
 same_choices [] (y ∷ ys) e = cc
 same_choices (x ∷ xs) [] e = cc
 same_choices (x ∷ xs) (y ∷ ys) e =
-    let first = both (nat_eq x.set y.set) (nat_eq x.action y.action && is_same_choices xs ys) e in
-    let second = both (nat_eq x.action y.action) (is_same_choices xs ys) first.1 in
+    let first = and_parts (nat_eq x.set y.set) (nat_eq x.action y.action && is_same_choices xs ys) e in
+    let second = and_parts (nat_eq x.action y.action) (is_same_choices xs ys) first.1 in
     let set : x.set ≡ y.set = eqb-true x.set y.set first.0 in
     let action : x.action ≡ y.action = eqb-true x.action y.action second.0 in
     λ i. record { set = set i; action = action i } ∷ same_choices xs ys second.1 i
@@ -33,19 +26,19 @@ same_choices (x ∷ xs) (y ∷ ys) e =
 pub is_same_choices_refl : (xs : List Choice) → is_same_choices xs xs ≡ true
 is_same_choices_refl [] = refl
 is_same_choices_refl (x ∷ xs) =
-    and_true (nat_eq x.set x.set) (nat_eq x.action x.action && is_same_choices xs xs) (eq-eqb x.set x.set refl)
-    (and_true (nat_eq x.action x.action) (is_same_choices xs xs) (eq-eqb x.action x.action refl) (is_same_choices_refl xs))
+    and_from (nat_eq x.set x.set) (nat_eq x.action x.action && is_same_choices xs xs) (eq-eqb x.set x.set refl)
+    (and_from (nat_eq x.action x.action) (is_same_choices xs xs) (eq-eqb x.action x.action refl) (is_same_choices_refl xs))
 
 -- two nodes that pass the test of one set have one kind and one set number
 pub same_set : (x y : Node) → is_same_set x y ≡ true → (x.kind ≡ y.kind) × (x.set ≡ y.set)
 same_set x y e =
-    let parts = both (is_same_kind x.kind y.kind) (nat_eq x.set y.set) e in
+    let parts = and_parts (is_same_kind x.kind y.kind) (nat_eq x.set y.set) e in
     (sym (is_same_kind-true x.kind y.kind parts.0), eqb-true x.set y.set parts.1)
 
 -- two nodes with one kind and one set number pass the test of one set
 pub is_same_set_by : (x y : Node) → x.kind ≡ y.kind → x.set ≡ y.set → is_same_set x y ≡ true
 is_same_set_by x y kinds sets =
-    and_true (is_same_kind x.kind y.kind) (nat_eq x.set y.set) (ap (is_same_kind x.kind) (sym kinds) ∙ is_same_kind_refl x.kind) (eq-eqb x.set y.set sets)
+    and_from (is_same_kind x.kind y.kind) (nat_eq x.set y.set) (ap (is_same_kind x.kind) (sym kinds) ∙ is_same_kind_refl x.kind) (eq-eqb x.set y.set sets)
 
 -- what a search for a set's first node finds
 pub record IsFirstAt (k : ℕ) (node : Node) (vs : List Visit) (d : Visit) (found : Numbered) (place : ℕ) : Type 0 where
@@ -164,7 +157,7 @@ break_some : (k : ℕ) (v : Visit) (first : Numbered) (broken : RecallBreak)
     (record { node = k; earlier = first.number } ≡ broken) × (is_personal v.node.kind ≡ true) × (past first.visit ≢ past v)
 break_some k v first broken e =
     let found = cond_some (is_personal v.node.kind && not (is_same_choices (past first.visit) (past v))) (record { node = k; earlier = first.number }) broken e in
-    let parts = both (is_personal v.node.kind) (not (is_same_choices (past first.visit) (past v))) found.0 in (
+    let parts = and_parts (is_personal v.node.kind) (not (is_same_choices (past first.visit) (past v))) found.0 in (
       found.1,
       parts.0,
       λ same.

@@ -1,6 +1,7 @@
 -- The own choices on a path are actions of the player's sets; and sets and sequences are no more than nodes.
 use Rattle.std.proofs.Common.{◌≡◌, ℕ, suc, ◌+◌, ◌-◌, ◌<◌, ◌≤◌, true, false, cond, ◌&&◌, List, [], ◌∷◌, ◌++◌, length, get_or, take, map, refl, ap, sym, subst, ◌∙◌, arith, length-append}
 use Rattle.std.specs.Prelude.{sum, nat_eq, All}
+use Rattle.std.proofs.lemmas.Bool.{and_parts}
 use Rattle.std.proofs.lemmas.List.{get_or-map, length-map, map-append}
 use Rattle.std.proofs.lemmas.List.Elements.{All-nil, All-cons, All-head, All-tail, All-map}
 use Rattle.std.proofs.lemmas.List.Sums.{sum_by-append, sum_by-cons, sum_by_more_le}
@@ -12,7 +13,7 @@ use Rattle.def_tree.proofs.Sets.{is_same_kind-true}
 use Rattle.def_game_paths.specs.Paths.{Move, Visit, visits, Choice, own_choices, GoesThrough}
 use Rattle.def_game_paths.specs.Sequences.{set_firsts, set_sizes, sequence_number, IsChoiceOf, EachSequenceIsInRange, SequencesAreFew}
 use Rattle.def_game_paths.proofs.Visits.{map-visits_from}
-use Rattle.def_game_paths.proofs.Order.{node_of, both, joins_of}
+use Rattle.def_game_paths.proofs.Order.{node_of, joins_of}
 use Rattle.def_game_paths.proofs.Ancestors.{parents_come_before, size_held, sizes_known}
 
 module _ (tree : Forest) (kind : Kind) (game : IsGameTree tree) (inner : is_leaf_kind kind ≡ false) where
@@ -58,7 +59,7 @@ firsts_all P kind seen (v ∷ rest) all =
     elim (is_same_kind kind v.node.kind && nat_eq v.node.set (seen + 1)) as (λ b. is_same_kind kind v.node.kind && nat_eq v.node.set (seen + 1) ≡ b →
     All P (cond b (v ∷ set_firsts kind (seen + 1) rest) (set_firsts kind seen rest))) [
       | true ↦ λ first.
-          let parts = both (is_same_kind kind v.node.kind) (nat_eq v.node.set (seen + 1)) first in
+          let parts = and_parts (is_same_kind kind v.node.kind) (nat_eq v.node.set (seen + 1)) first in
           All-cons P v (set_firsts kind (seen + 1) rest) (All-head (λ w. w.node.kind ≡ kind → P w) v rest all (is_same_kind-true kind v.node.kind parts.0)) (firsts_all P kind (seen + 1) rest later)
       | false ↦ λ other. firsts_all P kind seen rest later
     ] refl

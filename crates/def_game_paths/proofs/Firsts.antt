@@ -1,7 +1,7 @@
 -- The first nodes of the sets are those that a search for a set's first node finds.
 use Rattle.std.proofs.Common.{◌≡◌, ◌≢◌, ℕ, ◌+◌, ◌<◌, ◌≤◌, Bool, true, false, cond, ◌&&◌, List, [], ◌∷◌, ◌++◌, length, get_or, map, refl, ap, sym, subst, ◌∙◌, arith, length-append, Some}
 use Rattle.std.specs.Prelude.{nat_eq, Contains}
-use Rattle.std.proofs.lemmas.Bool.{eqb-true, eqb-false, ne_eqb}
+use Rattle.std.proofs.lemmas.Bool.{and_parts, eqb-true, eqb-false, ne_eqb}
 use Rattle.std.proofs.lemmas.List.{length-map}
 use Rattle.def_tree.specs.declared.Kind.{Kind}
 use Rattle.def_tree.specs.declared.Node.{Node}
@@ -12,7 +12,7 @@ use Rattle.def_game_paths.specs.Paths.{Visit, visits}
 use Rattle.def_game_paths.specs.Recall.{is_same_set, first_of_set}
 use Rattle.def_game_paths.specs.Sequences.{set_firsts, set_sizes, FirstsAreFirst}
 use Rattle.def_game_paths.proofs.Visits.{map-visits_from}
-use Rattle.def_game_paths.proofs.Order.{node_of, both, joins_of, nat_cases, KeepFrom, KeepFrom-append, KnowsSizes, knows_new, knows_later}
+use Rattle.def_game_paths.proofs.Order.{node_of, joins_of, nat_cases, KeepFrom, KeepFrom-append, KnowsSizes, knows_new, knows_later}
 use Rattle.def_game_paths.proofs.Breaks.{is_same_set_by}
 use Rattle.def_game_paths.proofs.Ancestors.{sizes_known}
 
@@ -78,7 +78,7 @@ found_at kind (v ∷ rest) before done seen k d inner many keep fits knows =
     (i : ℕ) → i < length (cond b (v ∷ set_firsts kind (seen + 1) rest) (set_firsts kind seen rest)) →
     FoundAt kind seen k (v ∷ rest) i (get_or (cond b (v ∷ set_firsts kind (seen + 1) rest) (set_firsts kind seen rest)) i d)) [
       | true ↦ λ first.
-          let parts = both (is_same_kind kind v.node.kind) (nat_eq v.node.set (seen + 1)) first in
+          let parts = and_parts (is_same_kind kind v.node.kind) (nat_eq v.node.set (seen + 1)) first in
           let is : v.node.kind ≡ kind = is_same_kind-true kind v.node.kind parts.0 in
           let number : v.node.set ≡ seen + 1 = eqb-true v.node.set (seen + 1) parts.1 in
           nat_cases (λ i. i < length (v ∷ set_firsts kind (seen + 1) rest) → FoundAt kind seen k (v ∷ rest) i (get_or (v ∷ set_firsts kind (seen + 1) rest) i d))

@@ -1,8 +1,8 @@
 -- The sequence before a set comes before those that end at it:
 -- what its player chose before was chosen at sets with smaller numbers.
-use Rattle.std.proofs.Common.{◌≡◌, ℕ, zero, suc, ◌+◌, ◌-◌, ◌<◌, ◌≤◌, max, Bool, true, false, cond, ◌&&◌, List, [], ◌∷◌, ◌++◌, length, get_or, take, map, refl, ap, sym, subst, ◌∙◌, arith, inl, inr, append_assoc, append-nil, length-append}
+use Rattle.std.proofs.Common.{◌≡◌, ℕ, zero, suc, ◌+◌, ◌-◌, ◌<◌, ◌≤◌, max, true, false, cond, ◌&&◌, List, [], ◌∷◌, ◌++◌, length, get_or, take, map, refl, ap, sym, subst, ◌∙◌, arith, inl, inr, append_assoc, append-nil, length-append}
 use Rattle.std.specs.Prelude.{nat_eq, sum, Contains}
-use Rattle.std.proofs.lemmas.Bool.{cases_lt, eqb-true, eq-eqb}
+use Rattle.std.proofs.lemmas.Bool.{and_parts, cases_lt, eqb-true, eq-eqb}
 use Rattle.std.proofs.lemmas.List.{take-append-le, get_or-map, length-map}
 use Rattle.std.proofs.lemmas.List.Elements.{All-contains, Contains-append_left, Contains-push, Contains-push_cases}
 use Rattle.std.proofs.lemmas.List.Sums.{sum_by_more_le}
@@ -168,11 +168,6 @@ pub nat_cases : (P : ℕ → Type 0) → P zero → ((i : ℕ) → P (suc i)) �
 nat_cases P first later zero = first
 nat_cases P first later (suc i) = later i
 
--- two tests that are passed together are each passed
-pub both : (a b : Bool) → a && b ≡ true → (a ≡ true) × (b ≡ true)
-both true b e = (refl, e)
-both false b e = cc
-
 -- a node that isn't the first of its set leaves the sizes as they are
 pub knows_later : (kind : Kind) (before : List Node) (done : List ℕ) (node : Node) → is_leaf_kind kind ≡ false
     → KeepRules before → Fits before node → is_same_kind kind node.kind && nat_eq node.set (length done + 1) ≡ false →
@@ -208,7 +203,7 @@ in_order kind (v ∷ rest) before done sizes seen d inner many keep fits paths k
     (i : ℕ) → i < length (cond b (v ∷ set_firsts kind (seen + 1) rest) (set_firsts kind seen rest)) →
     sequence_number sizes (own_choices kind (get_or (cond b (v ∷ set_firsts kind (seen + 1) rest) (set_firsts kind seen rest)) i d).path) < first_sequence sizes (seen + i + 1)) [
       | true ↦ λ first all.
-          let parts = both (is_same_kind kind v.node.kind) (nat_eq v.node.set (seen + 1)) first in
+          let parts = and_parts (is_same_kind kind v.node.kind) (nat_eq v.node.set (seen + 1)) first in
           let is : v.node.kind ≡ kind = is_same_kind-true kind v.node.kind parts.0 in
           let number : v.node.set ≡ seen + 1 = eqb-true v.node.set (seen + 1) parts.1 in
           let later : List ℕ = map (λ (w : Visit). w.node.children) (v ∷ set_firsts kind (seen + 1) rest) in

@@ -4,6 +4,7 @@ use Rattle.std.specs.Prelude.{All}
 use Rattle.std.proofs.lemmas.Bool.{cases_lt}
 use Rattle.std.proofs.lemmas.List.Elements.{All-nil, All-map}
 use Rattle.std.proofs.Math.ListN.{get_or-eq_default}
+use Rattle.std.proofs.Math.Nat.{one-le-mul}
 use Rattle.def_tree.specs.declared.Kind.TheVariants.{Chance}
 use Rattle.def_tree.specs.Tree.{Forest}
 use Rattle.def_tree.specs.Rules.{is_same_kind}
@@ -16,17 +17,12 @@ use Rattle.def_game_scale.specs.Scale.{expected, all_expected}
 abbrev pub IsFraction : Fraction → Type 0
 IsFraction f = 1 ≤ f.den
 
-product-positive : (a b : ℕ) → 1 ≤ a → 1 ≤ b → 1 ≤ a * b
-product-positive (suc a) (suc b) ha hb = omega arith
-product-positive zero b ha hb = absurd (omega arith)
-product-positive (suc a) zero ha hb = absurd (omega arith)
-
 lowest-product : (a b : Fraction) → IsFraction a → IsFraction b → IsInLowestTerms (product_of a b)
-lowest-product a b ha hb = (fraction_of-reduced _ (a.den * b.den) (product-positive a.den b.den ha hb)).lowest
+lowest-product a b ha hb = (fraction_of-reduced _ (a.den * b.den) (one-le-mul ha hb)).lowest
 
 -- the sum of two fractions is in lowest terms
 pub lowest-sum : (a b : Fraction) → IsFraction a → IsFraction b → IsInLowestTerms (sum_of a b)
-lowest-sum a b ha hb = (fraction_of-reduced _ (a.den * b.den) (product-positive a.den b.den ha hb)).lowest
+lowest-sum a b ha hb = (fraction_of-reduced _ (a.den * b.den) (one-le-mul ha hb)).lowest
 
 -- an element of the list, or the default
 pub at-or : {X : Type 0} (P : X → Type 0) (xs : List X) (i : ℕ) (d : X) → All P xs → P d → P (get_or xs i d)

@@ -1,16 +1,15 @@
 -- The least common multiple of the denominators is the least unit.
 use Rattle.std.proofs.Common.{◌≡◌, ℕ, zero, suc, ◌*◌, ◌/◌, ◌≤◌, List, [], ◌∷◌, get_or, ap, sym, subst, ◌∙◌, arith}
-use Rattle.std.specs.Prelude.{ℤ, pos, negsuc, neg_ℤ, ◌*ℤ◌, unsigned_abs, All}
+use Rattle.std.specs.Prelude.{ℤ, pos, ◌*ℤ◌, unsigned_abs, All}
 use Prim.Native.Nat.{◌∣◌}
 use Rattle.std.proofs.lemmas.Int.{unsigned_abs-mul}
 use Rattle.std.proofs.lemmas.List.Elements.{All-nil, All-cons, All-head, All-tail, All-weaker}
 use Rattle.std.proofs.lemmas.Nat.Gcd.{dvd_trans, le_of_dvd}
-use Rattle.std.proofs.Math.Nat.{div-mul_cancel, dvd-mul_left, dvd-mul_right, mul_assoc, one-dvd, eq-zero_of_zero-dvd}
-use Rattle.std.proofs.Math.IntN.{pos-*ℤ-pos, negsuc-*ℤ-pos}
-use Rattle.def_fraction.proofs.FractionLemmas.{neg-times}
+use Rattle.std.proofs.Math.Nat.{div-mul_cancel, dvd-mul_left, dvd-mul_right, one-dvd, eq-zero_of_zero-dvd, one-le-mul}
 use Rattle.def_fraction.specs.Divisors.{lcm}
 use Rattle.def_fraction.specs.Fraction.{Fraction, IsInLowestTerms}
 use Rattle.def_fraction.proofs.DivisorLemmas.{divides_other, IsLcm-lcm}
+use Rattle.def_fraction.proofs.OrderLemmas.{times-times}
 use Rattle.def_game_scale.specs.Scale.{unit_of, weight_of}
 use Rattle.def_game_scale.specs.Laws.{IsMultiple, MakesWhole, IsLeastUnit}
 
@@ -20,12 +19,7 @@ divisor-positive zero n h k = absurd (omega (arith, eq-zero_of_zero-dvd h))
 divisor-positive (suc m) n h k = omega arith
 
 pub lcm-positive : (a b : ℕ) → 1 ≤ a → 1 ≤ b → 1 ≤ lcm a b
-lcm-positive a b ha hb = divisor-positive (lcm a b) (a * b) ((IsLcm-lcm a b ha hb).least (a * b) (dvd-mul_right a b) (dvd-mul_left b a)) (product-positive a b ha hb)
-  where
-    product-positive : (a b : ℕ) → 1 ≤ a → 1 ≤ b → 1 ≤ a * b
-    product-positive (suc a) (suc b) ha hb = omega arith
-    product-positive zero b ha hb = absurd (omega arith)
-    product-positive (suc a) zero ha hb = absurd (omega arith)
+lcm-positive a b ha hb = divisor-positive (lcm a b) (a * b) ((IsLcm-lcm a b ha hb).least (a * b) (dvd-mul_right a b) (dvd-mul_left b a)) (one-le-mul ha hb)
 
 -- the unit of fractions in lowest terms isn't 0
 pub unit-positive : (fs : List Fraction) → All IsInLowestTerms fs → 1 ≤ unit_of fs
@@ -56,12 +50,7 @@ den-divides_whole m f low whole =
 
 -- the weight is unit times the fraction
 pub whole-weight : (unit : ℕ) (f : Fraction) → f.den ∣ unit → IsMultiple unit f (weight_of unit f)
-whole-weight unit f divides = times-twice f.num (unit / f.den) f.den ∙ ap (λ n. f.num *ℤ pos n) (div-mul_cancel f.den divides)
-  where
-    times-twice : (n : ℤ) (a b : ℕ) → (n *ℤ pos a) *ℤ pos b ≡ n *ℤ pos (a * b)
-    times-twice (pos n) a b = ap (λ z. z *ℤ pos b) (pos-*ℤ-pos n a) ∙ pos-*ℤ-pos (n * a) b ∙ ap pos (mul_assoc n a b) ∙ sym (pos-*ℤ-pos n (a * b))
-    times-twice (negsuc n) a b =
-        ap (λ z. z *ℤ pos b) (negsuc-*ℤ-pos n a) ∙ neg-times (suc n * a) b ∙ ap (λ z. neg_ℤ (pos z)) (mul_assoc (suc n) a b) ∙ sym (negsuc-*ℤ-pos n (a * b))
+whole-weight unit f divides = times-times f.num (unit / f.den) f.den ∙ ap (λ n. f.num *ℤ pos n) (div-mul_cancel f.den divides)
 
 -- the unit makes each of the fractions whole, and no smaller number but 0 does
 pub unit_is_least : (fs : List Fraction) → All IsInLowestTerms fs → IsLeastUnit fs

@@ -6,6 +6,7 @@ use Prim.Native.Nat.{◌∣◌}
 use Rattle.std.proofs.lemmas.List.Elements.{All-head, All-tail}
 use Rattle.std.proofs.lemmas.Int.{ints}
 use Rattle.std.proofs.Math.IntN.{*ℤ_comm}
+use Rattle.std.proofs.Math.Nat.{one-mul}
 use Rattle.def_tree.specs.Tree.{Forest}
 use Rattle.def_fraction.specs.Fraction.{Fraction, IsInLowestTerms, product_of, whole_number}
 use Rattle.def_fraction.proofs.DivisorLemmas.{gcd-with_one}
@@ -28,9 +29,6 @@ multiple-product m f w positive e =
     ap (λ d. w *ℤ pos d) (one-mul f.den) ∙ e ∙ *ℤ_comm f.num (pos m) ∙ sym (times-one (pos m *ℤ f.num)) in
     sym (fraction_of-value (whole_number w) (pos m *ℤ f.num) (1 * f.den) (whole-lowest w) (omega (arith, positive)) value)
   where
-    one-mul : (n : ℕ) → 1 * n ≡ n
-    one-mul n = omega arith
-
     times-one : (n : ℤ) → n *ℤ pos 1 ≡ n
     times-one n = omega (arith, ints)
 

@@ -3,6 +3,7 @@ use Rattle.std.proofs.Common.{◌≡◌, ℕ, zero, suc, ◌+◌, ◌≤◌, Boo
 use Rattle.std.specs.Prelude.{Contains}
 use Rattle.std.specs.List.{range_with_len}
 use Rattle.std.proofs.lemmas.List.Sums.{sum_by-cons, get_or-le-sum_by}
+use Rattle.std.proofs.lemmas.Bool.{and_parts, eqb-true}
 use Rattle.std.proofs.lemmas.Bool.Decides.{nat_tests}
 use Rattle.def_history.specs.History.{times, job_numbers}
 use Rattle.def_history.specs.Core.{Right, times_right, rights_of}
@@ -70,22 +71,13 @@ times_right_from_Contains job stripe rights (k, below, is) =
     let one : one_if (eqb (get_or rights k right).job job && eqb (get_or rights k right).stripe stripe) ≡ 1 = rw is (same_right job stripe) in
     omega (arith, at, one)
 
-and-left : (a b : Bool) → (a && b) ≡ true → a ≡ true
-and-left true b e = refl
-and-left false b e = absurd (cc)
-
-and-right : (a b : Bool) → (a && b) ≡ true → b ≡ true
-and-right true b e = e
-and-right false b e = absurd (cc)
-
 -- a right of the same job and the same stripe is that right
 pub right_is : (head : Right) (job stripe : ℕ) → (eqb head.job job && eqb head.stripe stripe) ≡ true
     → head ≡ record { job = job; stripe = stripe }
 right_is head job stripe e =
-    let p = and-left (eqb head.job job) (eqb head.stripe stripe) e in
-    let q = and-right (eqb head.job job) (eqb head.stripe stripe) e in
-    let a : head.job ≡ job = grind (arith, nat_tests) in
-    let b : head.stripe ≡ stripe = grind (arith, nat_tests) in
+    let both = and_parts (eqb head.job job) (eqb head.stripe stripe) e in
+    let a : head.job ≡ job = eqb-true head.job job both.0 in
+    let b : head.stripe ≡ stripe = eqb-true head.stripe stripe both.1 in
     λ i. record { job = a i; stripe = b i }
 
 -- a right that is counted at least once in a list is in it

@@ -21,11 +21,8 @@ pub sum_over-places : {X : Type 0} (f : X → ℤ) (d : X) (xs : List X) (g : �
 sum_over-places f d [] g from same = refl
 sum_over-places f d (x ∷ xs) g from same =
     let here : g from ≡ f x = ap g (sym (add-zero from)) ∙ same 0 (omega arith) in
-    let later : (place : ℕ) → place < length xs → g (from + 1 + place) ≡ f (get_or xs place d) = (λ (place : ℕ) (below : place < length xs). ap g (shift from place) ∙ same (suc place) (omega arith)) in
+    let later : (place : ℕ) → place < length xs → g (from + 1 + place) ≡ f (get_or xs place d) = (λ (place : ℕ) (below : place < length xs). let shift : from + 1 + place ≡ from + suc place = omega arith in ap g shift ∙ same (suc place) (omega arith)) in
     ap (λ s. s +ℤ sum_over g (range_with_len (from + 1) (length xs))) here ∙ ap (λ s. f x +ℤ s) (sum_over-places f d xs g (from + 1) later)
-  where
-    shift : (from place : ℕ) → from + 1 + place ≡ from + suc place
-    shift from place = omega arith
 
 -- jobs that have every leaf once add to a row what all leaves add to it
 pub jobs_add_up : JobsAddUpToLeaves

@@ -9,7 +9,7 @@ use Rattle.def_sums.proofs.SumLaws.{unsigned_abs-sum_over, nat_sum_over-mono, na
 use Rattle.def_tree.specs.declared.Player.{Player}
 use Rattle.def_tree.specs.declared.Player.TheVariants.{One, Two}
 use Rattle.def_tree.specs.Opponent.{opponent}
-use Rattle.def_plan.specs.Form.{Leaf, sequence_count, leaf_sequence}
+use Rattle.def_plan.specs.Form.{SequenceForm, Leaf, sequence_count, leaf_sequence}
 use Rattle.def_game_jobs.specs.Ranges.{LeafRange, leaves_of}
 use Rattle.def_history.specs.Leaves.{job_amount, amounts}
 use Rattle.def_rows.specs.Rows.{amount_at, amount_in_row}
@@ -22,11 +22,8 @@ nat_places : {X : Type 0} (f : X → ℕ) (d : X) (xs : List X) (g : ℕ → ℕ
 nat_places f d [] g from same = refl
 nat_places f d (x ∷ xs) g from same =
     let here : g from ≡ f x = ap g (sym (add-zero from)) ∙ same 0 in
-    let later : (place : ℕ) → g (from + 1 + place) ≡ f (get_or xs place d) = (λ (place : ℕ). ap g (shift from place) ∙ same (suc place)) in
+    let later : (place : ℕ) → g (from + 1 + place) ≡ f (get_or xs place d) = (λ (place : ℕ). let shift : from + 1 + place ≡ from + suc place = omega arith in ap g shift ∙ same (suc place)) in
     omega (arith, here, nat_places f d xs g (from + 1) later)
-  where
-    shift : (from place : ℕ) → from + 1 + place ≡ from + suc place
-    shift from place = omega arith
 
 nat_flat_map : {X Y : Type 0} (f : Y → ℕ) (g : X → List Y) (xs : List X)
     → nat_sum_over f (flat_map g xs) ≡ nat_sum_over (λ x. nat_sum_over f (g x)) xs
@@ -43,6 +40,17 @@ amount_size player against bound z s small = by_test (eqb (leaf_sequence player 
     by_test true = omega (arith, unsigned_abs-mul z.weight (pos (slice_index against (leaf_sequence (opponent player) z))), mul-le-mul_left (unsigned_abs z.weight) (small (leaf_sequence (opponent player) z)))
     by_test false = omega arith
 
+-- what a leaf adds to a row has a size of at most the leaf's weight's size times the bound on the numbers
+pub row_size : (form : SequenceForm) (one two : List ℕ) (bound : ℕ) (z : Leaf) (row : ℕ)
+    → ((s : ℕ) → slice_index one s ≤ bound) → ((s : ℕ) → slice_index two s ≤ bound)
+    → unsigned_abs (amount_in_row form one two z row) ≤ unsigned_abs z.weight * bound
+row_size form one two bound z row small_one small_two = by_test (ltb row (sequence_count form.sets_one))
+  where
+    by_test : (b : Bool)
+        → unsigned_abs (cond b (amount_at One two z row) (amount_at Two one z (row - sequence_count form.sets_one))) ≤ unsigned_abs z.weight * bound
+    by_test true = amount_size One two bound z row small_two
+    by_test false = amount_size Two one bound z (row - sequence_count form.sets_one) small_one
+
 -- all jobs' amounts at a row have sizes of at most the mass times the bound on the numbers together
 pub amounts_small : AmountsAreSmall
 amounts_small form numbers_one numbers_two bound ranges partitions small_one small_two row =
@@ -54,10 +62,5 @@ amounts_small form numbers_one numbers_two bound ranges partitions small_one sma
     let together = nat_flat_map (λ leaf. unsigned_abs (leaf_amount form numbers_one numbers_two leaf row)) leaves_of ranges in
     let all = ap (nat_sum_over (λ leaf. unsigned_abs (leaf_amount form numbers_one numbers_two leaf row))) partitions in
     let by_leaf = nat_places (λ z. unsigned_abs (amount_in_row form numbers_one numbers_two z row)) nowhere form.leaves (λ leaf. unsigned_abs (leaf_amount form numbers_one numbers_two leaf row)) 0 (λ place. ap (λ leaf. unsigned_abs (leaf_amount form numbers_one numbers_two leaf row)) (zero-add place)) in
-    let each = nat_sum_over-mono (λ z. unsigned_abs (amount_in_row form numbers_one numbers_two z row)) (λ z. unsigned_abs z.weight * bound) form.leaves (λ k d below. in_row (ltb row (sequence_count form.sets_one)) (get_or form.leaves k d)) in
+    let each = nat_sum_over-mono (λ z. unsigned_abs (amount_in_row form numbers_one numbers_two z row)) (λ z. unsigned_abs z.weight * bound) form.leaves (λ k d below. row_size form numbers_one numbers_two bound (get_or form.leaves k d) row small_one small_two) in
     omega (arith, by_range, spread, together, all, by_leaf, each, nat_sum_over-factor bound (λ z. unsigned_abs z.weight) form.leaves)
-  where
-    in_row : (b : Bool) (z : Leaf)
-        → unsigned_abs (cond b (amount_at One numbers_two z row) (amount_at Two numbers_one z (row - sequence_count form.sets_one))) ≤ unsigned_abs z.weight * bound
-    in_row true z = amount_size One numbers_two bound z row small_two
-    in_row false z = amount_size Two numbers_one bound z (row - sequence_count form.sets_one) small_one

@@ -4,6 +4,7 @@ use Rattle.std.specs.Prelude.{ℤ, pos, ◌+ℤ◌, All, Contains, filter, slice
 use Rattle.std.specs.List.{range_with_len}
 use Rattle.std.proofs.lemmas.List.Elements.{All-nil, All-cons}
 use Rattle.std.proofs.lemmas.Bool.Decides.{nat_tests}
+use Rattle.std.proofs.Math.Bool.{or-true}
 use Rattle.def_sums.specs.Sum.{sum_over}
 use Rattle.def_sums.proofs.RingLaws.{zero-+ℤ}
 use Rattle.def_tree.specs.declared.Player.TheVariants.{One, Two}
@@ -125,21 +126,13 @@ touched_is form row (x ∷ leaves) e = by_head (touched_is form row leaves) (has
     by_head : (is_touched form leaves row ≡ true → (z : Leaf) × Contains leaves z × (has_row form z row ≡ true))
         → (b : Bool) → has_row form x row ≡ b → (z : Leaf) × Contains (x ∷ leaves) z × (has_row form z row ≡ true)
     by_head later true h = (x, Contains-head x leaves, h)
-    by_head later false h = from (later (rw h at e))
-      where
-        from : (z : Leaf) × Contains leaves z × (has_row form z row ≡ true)
-            → (z : Leaf) × Contains (x ∷ leaves) z × (has_row form z row ≡ true)
-        from (z, there, has) = (z, Contains-tail x z leaves there, has)
+    by_head later false h = let rest = later (rw h at e) in (rest.0, Contains-tail x rest.0 leaves rest.1, rest.2)
 
 is_touched_by : (form : SequenceForm) (row : ℕ) (leaves : List Leaf) (z : Leaf) → Contains leaves z
     → has_row form z row ≡ true → is_touched form leaves row ≡ true
 is_touched_by form row [] z (k, below, is) has = absurd (omega arith)
 is_touched_by form row (x ∷ leaves) z (zero, below, is) has = let h : has_row form x row ≡ true = ap (λ y. has_row form y row) is ∙ has in rw h refl
 is_touched_by form row (x ∷ leaves) z (suc k, below, is) has = let later = is_touched_by form row leaves z (k, omega arith, is) has in rw later (or-true (has_row form x row))
-  where
-    or-true : (b : Bool) → (b || true) ≡ true
-    or-true true = refl
-    or-true false = refl
 
 in_range_is : (test : ℕ → Bool) (from count row : ℕ) → Contains (filter test (range_with_len from count)) row
     → (from ≤ row) × (row < from + count) × (test row ≡ true)

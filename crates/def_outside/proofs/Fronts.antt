@@ -10,11 +10,12 @@ pub whole_is_front : (sink : SinkCall) (bytes : List ℕ) → Wrote sink bytes �
 whole_is_front sink bytes whole =
     record { count = length bytes; appended = whole ∙ ap (append_known sink.before) (sym (take-length bytes)) }
 
-nothing_appended : (known : Option (List ℕ)) → append_known known [] ≡ known
-nothing_appended None = refl
-nothing_appended (Some bytes) = ap Some (append-nil bytes)
+-- nothing is appended
+pub append_known-nil : (known : Option (List ℕ)) → append_known known [] ≡ known
+append_known-nil None = refl
+append_known-nil (Some bytes) = ap Some (append-nil bytes)
 
 -- none of the bytes is a front of them
 pub nothing_is_front : (sink : SinkCall) (bytes : List ℕ) → WroteNothing sink → WroteFront sink bytes
 nothing_is_front sink bytes nothing =
-    record { count = 0; appended = nothing ∙ sym (nothing_appended sink.before) }
+    record { count = 0; appended = nothing ∙ sym (append_known-nil sink.before) }

@@ -1,8 +1,13 @@
 -- What was written, where a sink tells it.
-use Rattle.std.specs.Prelude.{◌≡◌, ℕ, List, take, Option}
+use Rattle.std.specs.Prelude.{◌≡◌, ℕ, List, take, Option, Result, Ok, Err}
 use Rattle.std.specs.Io.KnownBytes.{append_known}
 
 -- A front of the bytes was appended, and nothing else.
 pub record AppendsPrefix (before now : Option (List ℕ)) (bytes : List ℕ) : Type 0 where
   pub count : ℕ
   pub appended : now ≡ append_known before (take count bytes)
+
+-- The whole text was appended, or a front of it where the sink failed.
+abbrev pub Writes : {T E : Type 0} → Option (List ℕ) → Option (List ℕ) → List ℕ → Result T E → Type 0
+Writes before now text (Ok _) = now ≡ append_known before text
+Writes before now text (Err _) = AppendsPrefix before now text

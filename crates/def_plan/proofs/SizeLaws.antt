@@ -1,5 +1,5 @@
 -- How large the numbers of a plan and the leaf sums against it are.
-use Rattle.std.proofs.Common.{◌≡◌, ℕ, ◌+◌, ◌*◌, ◌^◌, ◌≤◌, ◌<◌, eqb, List, [], ◌∷◌, slice_index, get_or, filter, All, ℤ, pos, ◌*ℤ◌, unsigned_abs, arith, ap, ⊎_elim}
+use Rattle.std.proofs.Common.{◌≡◌, ℕ, zero, suc, ◌+◌, ◌*◌, ◌^◌, ◌≤◌, ◌<◌, eqb, List, [], ◌∷◌, slice_index, get_or, filter, All, ℤ, pos, ◌*ℤ◌, unsigned_abs, arith, ap, ⊎_elim}
 use Rattle.std.proofs.Math.Nat.{mul-le-mul, mul-le-mul_left}
 use Rattle.std.proofs.lemmas.Int.{unsigned_abs-mul}
 use Rattle.std.proofs.lemmas.Bool.{cases_lt}
@@ -14,6 +14,13 @@ use Rattle.def_sums.specs.Limits.{most_mass, most_scale, most_root}
 use Rattle.def_plan.specs.Form.{InformationSet, PlacedSet, placed_from, sequence_count, sequences, IsInOrder, AreInOrder, Leaf, leaf_sequence}
 use Rattle.def_plan.specs.Plan.{AddsUp, IsPlan}
 use Rattle.def_plan.specs.Payoff.{leaf_sum, mass_of}
+
+-- no number that is read of a list exceeds what none of its numbers exceeds
+pub slice_index-at_most : (most : ℕ) (xs : List ℕ) → All (λ n. n ≤ most) xs → (s : ℕ) → slice_index xs s ≤ most
+slice_index-at_most most [] all zero = omega arith
+slice_index-at_most most [] all (suc s) = omega arith
+slice_index-at_most most (x ∷ xs) all zero = All-head (λ n. n ≤ most) x xs all
+slice_index-at_most most (x ∷ xs) all (suc s) = slice_index-at_most most xs (All-tail (λ n. n ≤ most) x xs all) s
 
 below : (root first : ℕ) (x : List ℕ) (hs : List InformationSet) → All IsInOrder (placed_from first hs)
     → All (AddsUp x) (placed_from first hs)

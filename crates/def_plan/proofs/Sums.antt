@@ -10,9 +10,6 @@ use Rattle.def_plan.proofs.Regroup.{regroup}
 by_one : (w : ℤ) (m n : ℕ) → w *ℤ pos n *ℤ pos m ≡ w *ℤ pos (m * n)
 by_one w m n = *ℤ_assoc w (pos n) (pos m) ∙ ap (λ z. w *ℤ pos z) (omega arith)
 
-by_two : (w : ℤ) (m n : ℕ) → w *ℤ pos m *ℤ pos n ≡ w *ℤ pos (m * n)
-by_two w m n = *ℤ_assoc w (pos m) (pos n)
-
 -- what player one's plan gains from the leaf sums against player two's is the payoff of both
 pub gain_is_pay_one : (leaves : List Leaf) (sets : List InformationSet) (x y : List ℕ) → length x ≡ sequence_count sets
     → gain (leaf_sum One leaves y) sets x ≡ pay leaves x y
@@ -25,4 +22,4 @@ pub gain_is_pay_two : (leaves : List Leaf) (sets : List InformationSet) (x y : L
     → gain (leaf_sum Two leaves x) sets y ≡ pay leaves x y
 gain_is_pay_two leaves sets x y e =
     regroup leaves (λ z. z.sequence_two) (λ z. z.weight *ℤ pos (slice_index x z.sequence_one)) y (sequence_count sets) e
-    ∙ sum_over-ext _ _ leaves (λ z. by_two z.weight (slice_index x z.sequence_one) (slice_index y z.sequence_two))
+    ∙ sum_over-ext _ _ leaves (λ z. *ℤ_assoc z.weight (pos (slice_index x z.sequence_one)) (pos (slice_index y z.sequence_two)))

@@ -1,10 +1,10 @@
 -- For code that goes over the sets from the last one on, or tests them one by one.
-use Rattle.std.proofs.Common.{◌≡◌, ℕ, zero, suc, ◌<◌, Bool, true, false, cond, eqb, List, [], ◌∷◌, zip, filter, length, get_or, ℤ, ◌+ℤ◌, arith, refl}
+use Rattle.std.proofs.Common.{◌≡◌, ℕ, zero, suc, ◌<◌, Bool, true, false, cond, eqb, List, [], ◌∷◌, zip, filter, length, get_or, ℤ, ◌+ℤ◌, arith, ap, refl}
 use Rattle.std.specs.List.{AllZip}
 use Rattle.std.proofs.lemmas.Int.{ints}
 use Rattle.def_sums.specs.Sum.{sum_over}
 use Rattle.def_plan.specs.Form.{PlacedSet}
-use Rattle.def_plan.specs.Payoff.{worth}
+use Rattle.def_plan.specs.Payoff.{worth, values_after}
 
 -- w and a sum that takes in a pair's number if b is true are w and the sum without it, and this number if b is true
 kept : (b : Bool) (p : PlacedSet × ℤ) (ps : List (PlacedSet × ℤ)) (w : ℤ)
@@ -17,6 +17,11 @@ kept false p ps w = refl
 pub worth-cons : (sums : ℕ → ℤ) (h : PlacedSet) (hs : List PlacedSet) (v : ℤ) (vs : List ℤ) (s : ℕ)
     → worth sums (h ∷ hs) (v ∷ vs) s ≡ cond (eqb h.before s) (worth sums hs vs s +ℤ v) (worth sums hs vs s)
 worth-cons sums h hs v vs s = kept (eqb h.before s) (h, v) (filter (λ p. eqb p.0.before s) (zip hs vs)) (sums s)
+
+-- worths agree where the sums do
+pub worth_same : (sums other : ℕ → ℤ) (hs : List PlacedSet) (values : List ℤ) (s : ℕ) → sums s ≡ other s
+    → worth sums hs values s ≡ worth other hs values s
+worth_same sums other hs values s e = ap (λ x. x +ℤ values_after hs values s) e
 
 -- a fact on two lists by places
 pub AllZip-from_places : {A B : Type 0} (R : A → B → Type 0) (xs : List A) (ys : List B) → length xs ≡ length ys

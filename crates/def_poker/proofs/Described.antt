@@ -14,13 +14,13 @@ use Rattle.def_file.specs.Faults.{mover}
 use Rattle.def_fraction.specs.Fraction.{Fraction}
 use Rattle.def_canon.specs.Described.{Each, Describes}
 use Rattle.def_canon.proofs.NoFault.{each_append}
-use Rattle.def_poker.specs.Poker.{after_bet, after_check, answer, cards, deal_one, deal_two, dealt, deals, ends, entries, facing_bet, hand, hands, higher, moves, no_outcome, opening, others, rounds, wins_one, wins_two}
+use Rattle.def_poker.specs.Poker.{after_bet, after_check, answer, cards, deal_one, deal_two, dealt_card, deals, ending_entry, entries, facing_bet, hand, hands, higher, moves, no_outcome, opening_set, others, rounds_with_cards, wins_one, wins_two}
 use Rattle.def_poker.proofs.Cards.{AreCards, cards_are, others_are, others_count}
 
 -- the set with a number, and the outcome
 abbrev pub set_with : ℕ → Kind → ℕ → SetMention
 set_with n movers.Chance m = if nat_eq m 1 then deal_one n else deal_two n (m - 1)
-set_with n movers.One m = if nat_le m n then opening m else answer n (m - n)
+set_with n movers.One m = if nat_le m n then opening_set m else answer n (m - n)
 set_with n movers.Two m = if nat_le m n then after_check m else after_bet n (m - n)
 set_with n movers.Leaf m = no_set_mention
 
@@ -55,27 +55,27 @@ move_describes n player set actions who same gives two = record {
 
 end_describes : (n : ℕ) (o : OutcomeMention) (one two : Fraction) → o ≡ outcome_with o.number → 1 ≤ o.number
     → o.payoffs ≡ Some (one ∷ two ∷ [])
-    → Describes (set_with n) outcome_with (ends o)
+    → Describes (set_with n) outcome_with (ending_entry o)
 end_describes n o one two same some gives = record {
   player = λ e. cc;
   set = λ e. cc;
   outcome = record { same = same; null = λ none. absurd (omega arith); two = λ _. (one, two, gives) };
 }
 
-win_one : (n : ℕ) (p : Player) → Describes (set_with n) outcome_with (ends (wins_one p))
+win_one : (n : ℕ) (p : Player) → Describes (set_with n) outcome_with (ending_entry (wins_one p))
 unfolding wins_one
 win_one n One = end_describes n (wins_one One) _ _ refl (omega arith) refl
 win_one n Two = end_describes n (wins_one Two) _ _ refl (omega arith) refl
 
-win_two : (n : ℕ) (p : Player) → Describes (set_with n) outcome_with (ends (wins_two p))
+win_two : (n : ℕ) (p : Player) → Describes (set_with n) outcome_with (ending_entry (wins_two p))
 unfolding wins_two
 win_two n One = end_describes n (wins_two One) _ _ refl (omega arith) refl
 win_two n Two = end_describes n (wins_two Two) _ _ refl (omega arith) refl
 
-open_describes : (n i : ℕ) → i ≤ n → Describes (set_with n) outcome_with (moves 1 (opening i))
-unfolding opening
+open_describes : (n i : ℕ) → i ≤ n → Describes (set_with n) outcome_with (moves 1 (opening_set i))
+unfolding opening_set
 open_describes n i high =
-    move_describes n 1 (opening i) _ (inl refl) (ap (λ b. cond b (opening i) (answer n (i - n))) (sym (le-leb i n high))) refl refl
+    move_describes n 1 (opening_set i) _ (inl refl) (ap (λ b. cond b (opening_set i) (answer n (i - n))) (sym (le-leb i n high))) refl refl
 
 after_check_describes : (n j : ℕ) → j ≤ n → Describes (set_with n) outcome_with (moves 2 (after_check j))
 unfolding after_check
@@ -86,7 +86,7 @@ answer_describes : (n i : ℕ) → 1 ≤ i → Describes (set_with n) outcome_wi
 unfolding answer
 answer_describes n i low =
     let back : n + i - n ≡ i = omega arith in
-    move_describes n 1 (answer n i) _ (inl refl) (ap (answer n) (sym back) ∙ ap (λ b. cond b (opening (n + i)) (answer n (n + i - n))) (sym (above n i low))) refl refl
+    move_describes n 1 (answer n i) _ (inl refl) (ap (answer n) (sym back) ∙ ap (λ b. cond b (opening_set (n + i)) (answer n (n + i - n))) (sym (above n i low))) refl refl
 
 after_bet_describes : (n j : ℕ) → 1 ≤ j → Describes (set_with n) outcome_with (moves 2 (after_bet n j))
 unfolding after_bet
@@ -123,25 +123,25 @@ module _ (n : ℕ) (two : 2 ≤ n) (limit : n ≤ 64) where
   unfolding deal_two
   deal_two_describes i low high =
       let count = others_count n i low high in
-      let many : length (map (dealt (n - 1)) (others n i)) ≡ length (others n i) = length-map (others n i) (dealt (n - 1)) in
+      let many : length (map (dealt_card (n - 1)) (others n i)) ≡ length (others n i) = length-map (others n i) (dealt_card (n - 1)) in
       let not_first : nat_eq (1 + i) 1 ≡ false = ne_eqb (1 + i) 1 (omega arith) in
       let back : 1 + i - 1 ≡ i = omega arith in
-      deal_describes n (deal_two n i) (map (dealt (n - 1)) (others n i))
+      deal_describes n (deal_two n i) (map (dealt_card (n - 1)) (others n i))
       (ap (deal_two n) (sym back) ∙ ap (λ b. cond b (deal_one n) (deal_two n (1 + i - 1))) (sym not_first)) refl (omega arith) (omega arith)
 
   deal_one_describes : Describes (set_with n) outcome_with (deals (deal_one n))
   unfolding deal_one
   deal_one_describes =
-      let many : length (map (dealt n) (cards n)) ≡ length (cards n) = length-map (cards n) (dealt n) in
+      let many : length (map (dealt_card n) (cards n)) ≡ length (cards n) = length-map (cards n) (dealt_card n) in
       let count : length (cards n) ≡ n = length-range_with_len 1 n in
-      deal_describes n (deal_one n) (map (dealt n) (cards n)) refl refl (omega arith) (omega arith)
+      deal_describes n (deal_one n) (map (dealt_card n) (cards n)) refl refl (omega arith) (omega arith)
 
-  rounds_describe : (is : List ℕ) → AreCards n is → Each (Describes (set_with n) outcome_with) (rounds n is)
-  unfolding rounds
+  rounds_describe : (is : List ℕ) → AreCards n is → Each (Describes (set_with n) outcome_with) (rounds_with_cards n is)
+  unfolding rounds_with_cards
   rounds_describe [] are = tt
   rounds_describe (i ∷ is) are = (
     deal_two_describes i are.0.0 are.0.1,
-    each_append (Describes (set_with n) outcome_with) (hands n i (others n i)) (rounds n is)
+    each_append (Describes (set_with n) outcome_with) (hands n i (others n i)) (rounds_with_cards n is)
         (hands_describe n i are.0.0 are.0.1 (others n i) (others_are n i)) (rounds_describe is are.1),
   )
 

@@ -17,17 +17,18 @@ use Rattle.def_tree.specs.declared.Player.TheVariants.{One, Two}
 use Rattle.def_file.specs.Adding.{new_set}
 use Rattle.def_file.specs.Content.{Action, Record}
 use Rattle.def_file.specs.Faults.{mover}
-use Rattle.def_canon.specs.Canon.{action_pieces, chance_pieces, described_outcome, each, list_pieces, marker_pieces, name_pieces, payoffs_pieces, player_pieces, prologue_pieces, quoted, set_pieces, text}
+use Rattle.def_canon.specs.Canon.{action_pieces, chance_pieces, described_outcome, each, list_pieces, marker_pieces, name_pieces, payoffs_pieces, player_pieces, prologue_pieces, quoted, set_pieces}
 use Rattle.def_canon.specs.Canon as canonical
 use Rattle.def_canon.specs.Canon.{canon}
 use Rattle.def_canon.specs.Described.{Each}
 use Rattle.def_canon.proofs.NoFault.{each_append}
 use Rattle.def_canon.proofs.OwnLines.{own_lines, own_pieces}
 use Rattle.def_poker.specs.Laws.{PokerIsShort}
-use Rattle.def_poker.specs.Poker.{after_bet, after_check, answer, cards, deal_one, deal_two, dealt, deals, described_set, ends, entries, facing_bet, hand, hands, higher, moves, one_over, opening, others, poker, prologue, rounds, wins_one, wins_two}
+use Rattle.def_poker.specs.Poker.{after_bet, after_check, answer, cards, deal_one, deal_two, dealt_card, deals, described_set, ending_entry, entries, facing_bet, hand, hands, higher, moves, opening_set, others, poker, prologue, rounds_with_cards, wins_one, wins_two}
 use Rattle.def_poker.proofs.Cards.{AreCards, cards_are, others_are, others_count}
 use Rattle.def_poker.proofs.Sizes.{entries_count}
 use Rattle.def_poker.proofs.Written.{lines_are}
+use Rattle.def_fraction.specs.Fraction.{one_over}
 
 -- ---- pieces
 
@@ -83,11 +84,11 @@ set_short : (who : Kind) (number : ℕ) (name : List ℕ) (actions : List Action
     → size (set_pieces who (new_set (described_set number name actions))) ≤ 2 * letters + room + 12
 unfolding set_pieces name_pieces list_pieces
 set_short who number name actions letters room few short fits =
-    let both = size_append (each (action_pieces who) actions) (canonical.close_brace ∷ []) in
+    let both = size_append (each (action_pieces who) actions) (canonical.close_piece ∷ []) in
     omega (arith, decimal_short number few, quoted_short name, both)
 
 deals_short : (n : ℕ) → n ≤ 64 → (m : ℕ) → m ≤ 64 → (js : List ℕ) → AreCards m js
-    → size (each (action_pieces movers.Chance) (map (dealt n) js)) ≤ 16 * length js
+    → size (each (action_pieces movers.Chance) (map (dealt_card n) js)) ≤ 16 * length js
 unfolding each action_pieces chance_pieces
 deals_short n few m most_cards [] are = omega arith
 deals_short n few m most_cards (j ∷ js) are =
@@ -106,7 +107,7 @@ unfolding player_pieces quoted escaped
 deal_is_short number name actions few short fits =
     let set = set_pieces movers.Chance (new_set (described_set number name actions)) in
     let own = set_short movers.Chance number name actions 20 1024 few short fits in
-    omega (arith, own, size_append set (canonical.whole_number 0 ∷ []), decimal_short 0 (omega arith))
+    omega (arith, own, size_append set (canonical.whole_piece 0 ∷ []), decimal_short 0 (omega arith))
 
 -- a player's move, by what it says of its set
 move_one_short : (number : ℕ) (name : List ℕ) (actions : List Action) → number ≤ 200 → length name ≤ 20
@@ -115,7 +116,7 @@ unfolding player_pieces quoted escaped
 move_one_short number name actions few short fits =
     let set = set_pieces movers.One (new_set (described_set number name actions)) in
     let own = set_short movers.One number name actions 20 100 few short fits in
-    omega (arith, own, size_append set (canonical.whole_number 0 ∷ []), decimal_short 0 (omega arith), decimal_short 1 (omega arith))
+    omega (arith, own, size_append set (canonical.whole_piece 0 ∷ []), decimal_short 0 (omega arith), decimal_short 1 (omega arith))
 
 move_two_short : (number : ℕ) (name : List ℕ) (actions : List Action) → number ≤ 200 → length name ≤ 20
     → size (each (action_pieces movers.Two) actions) ≤ 100 → IsShort (moves 2 (described_set number name actions))
@@ -123,14 +124,14 @@ unfolding player_pieces quoted escaped
 move_two_short number name actions few short fits =
     let set = set_pieces movers.Two (new_set (described_set number name actions)) in
     let own = set_short movers.Two number name actions 20 100 few short fits in
-    omega (arith, own, size_append set (canonical.whole_number 0 ∷ []), decimal_short 0 (omega arith), decimal_short 2 (omega arith))
+    omega (arith, own, size_append set (canonical.whole_piece 0 ∷ []), decimal_short 0 (omega arith), decimal_short 2 (omega arith))
 
-win_one : (p : Player) → IsShort (ends (wins_one p))
+win_one : (p : Player) → IsShort (ending_entry (wins_one p))
 unfolding player_pieces quoted escaped described_outcome name_pieces payoffs_pieces wins_one digits
 win_one One = leb-true _ 1400 refl
 win_one Two = leb-true _ 1400 refl
 
-win_two : (p : Player) → IsShort (ends (wins_two p))
+win_two : (p : Player) → IsShort (ending_entry (wins_two p))
 unfolding player_pieces quoted escaped described_outcome name_pieces payoffs_pieces wins_two digits
 win_two One = leb-true _ 1400 refl
 win_two Two = leb-true _ 1400 refl
@@ -140,7 +141,7 @@ name_short n more few short = omega (arith, length-append (decimal n) more, deci
 
 module _ (n : ℕ) (two : 2 ≤ n) (limit : n ≤ 64) where
   hand_short : (i j : ℕ) → i ≤ n → j ≤ n → Each IsShort (hand n i j)
-  unfolding hand facing_bet opening after_check answer after_bet each action_pieces chance_pieces quoted escaped
+  unfolding hand facing_bet opening_set after_check answer after_bet each action_pieces chance_pieces quoted escaped
   hand_short i j i_high j_high = (
     move_one_short i (decimal i) _ (omega arith) (omega (arith, decimal_short i (omega arith))) (omega arith),
     (
@@ -177,7 +178,7 @@ module _ (n : ℕ) (two : 2 ≤ n) (limit : n ≤ 64) where
   unfolding deal_two
   deal_two_short i low high =
       let count = others_count n i low high in
-      deal_is_short (1 + i) (codes "deal two " ++ decimal i) (map (dealt (n - 1)) (others n i)) (omega arith)
+      deal_is_short (1 + i) (codes "deal two " ++ decimal i) (map (dealt_card (n - 1)) (others n i)) (omega arith)
       (omega (arith, length-append (codes "deal two ") (decimal i), decimal_short i (omega arith)))
       (omega (arith, deals_short (n - 1) (omega arith) n limit (others n i) (others_are n i), count))
 
@@ -185,15 +186,15 @@ module _ (n : ℕ) (two : 2 ≤ n) (limit : n ≤ 64) where
   unfolding deal_one
   deal_one_short =
       let count : length (cards n) ≡ n = length-range_with_len 1 n in
-      deal_is_short 1 (codes "deal one") (map (dealt n) (cards n)) (omega arith) (omega arith)
+      deal_is_short 1 (codes "deal one") (map (dealt_card n) (cards n)) (omega arith) (omega arith)
       (omega (arith, deals_short n limit n limit (cards n) (cards_are n), count))
 
-  rounds_short : (is : List ℕ) → AreCards n is → Each IsShort (rounds n is)
-  unfolding rounds
+  rounds_short : (is : List ℕ) → AreCards n is → Each IsShort (rounds_with_cards n is)
+  unfolding rounds_with_cards
   rounds_short [] are = tt
   rounds_short (i ∷ is) are = (
     deal_two_short i are.0.0 are.0.1,
-    each_append IsShort (hands n i (others n i)) (rounds n is)
+    each_append IsShort (hands n i (others n i)) (rounds_with_cards n is)
         (hands_short i are.0.1 (others n i) (others_are n i)) (rounds_short is are.1),
   )
 

@@ -4,9 +4,9 @@ use Rattle.std.specs.Prelude.{◌&&◌, codes, nat_eq, nat_le, not}
 use Rattle.std.specs.Char.{is_ascii_digit}
 use Rattle.std.specs.Fmt.{decimal}
 use Rattle.std.specs.Str.{all_ascii_digits}
-use Rattle.std.proofs.lemmas.Bool.{leb-true, le-leb, ne_eqb}
+use Rattle.std.proofs.lemmas.Bool.{leb-true, le-leb, ne_eqb, and_parts}
 use Rattle.def_fraction.specs.Divisors.{gcd}
-use Rattle.def_fraction.specs.Fraction.{most}
+use Rattle.def_fraction.specs.Fraction.{most, one_over}
 use Rattle.def_fraction.proofs.DivisorLemmas.{gcd-one}
 use Rattle.def_fraction.proofs.TextLemmas.{decimal-numeral}
 use Rattle.def_file_tokens.specs.Spelling.{bytes_of}
@@ -24,7 +24,7 @@ use Rattle.def_canon.proofs.NoFault.{each_append}
 use Rattle.def_canon.proofs.OwnLines.{own_lines}
 use Rattle.def_canon.proofs.ReadBack.{canon_is_read_back, canon_of_lines, canon_stands_for_game}
 use Rattle.def_poker.specs.Laws.{PokerIsReadBack}
-use Rattle.def_poker.specs.Poker.{after_bet, after_check, answer, cards, deal_one, deal_two, dealt, deals, described_set, ends, entries, facing_bet, hand, hands, higher, move, moves, one_over, opening, others, poker, prologue, rounds, wins_one, wins_two}
+use Rattle.def_poker.specs.Poker.{after_bet, after_check, answer, cards, deal_one, deal_two, dealt_card, deals, described_set, ending_entry, entries, facing_bet, hand, hands, higher, move, moves, opening_set, others, poker, prologue, rounds_with_cards, wins_one, wins_two}
 use Rattle.def_poker.proofs.Cards.{AreCards, cards_are, others_are}
 use Rattle.def_poker.proofs.Described.{entries_describe, outcome_with, set_with}
 use Rattle.def_poker.proofs.Sizes.{entries_few, poker_is_game}
@@ -34,17 +34,12 @@ abbrev plain : List ℕ → Bool
 plain [] = true
 plain (b ∷ bs) = not (nat_eq b 92) && plain bs
 
-and_true : (a b : Bool) → (a && b) ≡ true → (a ≡ true) × (b ≡ true)
-and_true true true e = (refl, refl)
-and_true true false e = cc
-and_true false b e = cc
-
 first_plain : (b : ℕ) (bs : List ℕ) → plain (b ∷ bs) ≡ true → (nat_eq b 92 ≡ false) × (plain bs ≡ true)
 first_plain b bs e = chosen (nat_eq b 92) e
   where
     chosen : (x : Bool) → (not x && plain bs) ≡ true → (x ≡ false) × (plain bs ≡ true)
     chosen true e = cc
-    chosen false e = (refl, (and_true true (plain bs) e).1)
+    chosen false e = (refl, (and_parts true (plain bs) e).1)
 
 ends_plainly : (bs : List ℕ) → plain bs ≡ true → EndsPlainly bs
 ends_plainly [] e [] same = cc
@@ -65,14 +60,14 @@ plain_append (x ∷ xs) ys first second = let parts = first_plain x xs first in 
 digits_plain : (ds : List ℕ) → all_ascii_digits ds ≡ true → plain ds ≡ true
 digits_plain [] e = refl
 digits_plain (d ∷ ds) e =
-    let parts = and_true (is_ascii_digit d) (all_ascii_digits ds) e in
-    let range = and_true (nat_le 48 d) (nat_le d 57) parts.0 in
+    let parts = and_parts (is_ascii_digit d) (all_ascii_digits ds) e in
+    let range = and_parts (nat_le 48 d) (nat_le d 57) parts.0 in
     let high : d ≤ 57 = leb-true d 57 range.1 in
     let no : nat_eq d 92 ≡ false = ne_eqb d 92 (omega arith) in
     rw no (digits_plain ds parts.1)
 
 decimal_plain : (n : ℕ) → n ≤ 64 → plain (decimal n) ≡ true
-decimal_plain n few = digits_plain (decimal n) (and_true _ _ (decimal-numeral n (omega arith))).0
+decimal_plain n few = digits_plain (decimal n) (and_parts _ _ (decimal-numeral n (omega arith))).0
 
 before_number : (bs : List ℕ) (n : ℕ) → n ≤ 64 → plain bs ≡ true → EndsPlainly (bs ++ decimal n)
 before_number bs n few is = ends_plainly (bs ++ decimal n) (plain_append bs (decimal n) is (decimal_plain n few))
@@ -86,7 +81,7 @@ part_small n some few =
     (record { positive = some; coprime = gcd-one n }, fits)
 
 cards_writable : (n m : ℕ) → m ≤ 64 → 1 ≤ n → n ≤ 64 → (js : List ℕ) → AreCards m js
-    → AreWritableActions kinds.Chance (map (dealt n) js)
+    → AreWritableActions kinds.Chance (map (dealt_card n) js)
 cards_writable n m most_cards some few [] are = tt
 cards_writable n m most_cards some few (j ∷ js) are =
     (ends_plainly (decimal j) (decimal_plain j (omega arith)), part_small n some few, cards_writable n m most_cards some few js are.1)
@@ -100,15 +95,15 @@ move_one_written set w = record { name = ends_plainly [] refl; mover = inl refl;
 move_two_written : (set : SetMention) → IsWritableSet kinds.Personal set → IsWritable (moves 2 set)
 move_two_written set w = record { name = ends_plainly [] refl; mover = inr refl; set = λ _. w; outcome = inl refl }
 
-end_written : (o : OutcomeMention) → IsWritableOutcome o → IsWritable (ends o)
+end_written : (o : OutcomeMention) → IsWritableOutcome o → IsWritable (ending_entry o)
 end_written o w = record { name = ends_plainly [] refl; mover = (refl, refl); set = λ e. cc; outcome = inr w }
 
-win_one : (p : Player) → IsWritable (ends (wins_one p))
+win_one : (p : Player) → IsWritable (ending_entry (wins_one p))
 unfolding wins_one gcd
 win_one One = end_written (wins_one One) (record { not_null = λ e. absurd (omega arith); limit = omega arith; name = ends_plainly (codes "One wins 1") refl; one = _; two = _; gives = refl; one_small = (record { positive = omega arith; coprime = refl }, refl); two_small = (record { positive = omega arith; coprime = refl }, refl) })
 win_one Two = end_written (wins_one Two) (record { not_null = λ e. absurd (omega arith); limit = omega arith; name = ends_plainly (codes "Two wins 1") refl; one = _; two = _; gives = refl; one_small = (record { positive = omega arith; coprime = refl }, refl); two_small = (record { positive = omega arith; coprime = refl }, refl) })
 
-win_two : (p : Player) → IsWritable (ends (wins_two p))
+win_two : (p : Player) → IsWritable (ending_entry (wins_two p))
 unfolding wins_two gcd
 win_two One = end_written (wins_two One) (record { not_null = λ e. absurd (omega arith); limit = omega arith; name = ends_plainly (codes "One wins 2") refl; one = _; two = _; gives = refl; one_small = (record { positive = omega arith; coprime = refl }, refl); two_small = (record { positive = omega arith; coprime = refl }, refl) })
 win_two Two = end_written (wins_two Two) (record { not_null = λ e. absurd (omega arith); limit = omega arith; name = ends_plainly (codes "Two wins 2") refl; one = _; two = _; gives = refl; one_small = (record { positive = omega arith; coprime = refl }, refl); two_small = (record { positive = omega arith; coprime = refl }, refl) })
@@ -127,9 +122,9 @@ moves_written number name first second some few plain_name a b = record {
 
 module _ (n : ℕ) (two : 2 ≤ n) (limit : n ≤ 64) where
   hand_written : (i j : ℕ) → 1 ≤ i → i ≤ n → 1 ≤ j → j ≤ n → Each IsWritable (hand n i j)
-  unfolding hand facing_bet opening after_check answer after_bet
+  unfolding hand facing_bet opening_set after_check answer after_bet
   hand_written i j i_low i_high j_low j_high = (
-    move_one_written (opening i) (moves_written i (decimal i) (codes "check") (codes "bet") i_low (omega arith) (ends_plainly (decimal i) (decimal_plain i (omega arith))) refl refl),
+    move_one_written (opening_set i) (moves_written i (decimal i) (codes "check") (codes "bet") i_low (omega arith) (ends_plainly (decimal i) (decimal_plain i (omega arith))) refl refl),
     (
       move_two_written (after_check j) (moves_written j (decimal j ++ codes " c") (codes "check") (codes "bet") j_low (omega arith) (behind_number (codes " c") j (omega arith) refl) refl refl),
       (
@@ -179,12 +174,12 @@ module _ (n : ℕ) (two : 2 ≤ n) (limit : n ≤ 64) where
     writable = cards_writable n n limit (omega arith) limit (cards n) (cards_are n);
   })
 
-  rounds_written : (is : List ℕ) → AreCards n is → Each IsWritable (rounds n is)
-  unfolding rounds
+  rounds_written : (is : List ℕ) → AreCards n is → Each IsWritable (rounds_with_cards n is)
+  unfolding rounds_with_cards
   rounds_written [] are = tt
   rounds_written (i ∷ is) are = (
     deal_two_written i are.0.0 are.0.1,
-    each_append IsWritable (hands n i (others n i)) (rounds n is)
+    each_append IsWritable (hands n i (others n i)) (rounds_with_cards n is)
         (hands_written i are.0.0 are.0.1 (others n i) (others_are n i)) (rounds_written is are.1),
   )
 

@@ -10,7 +10,7 @@
 use Rattle.std.specs.Prelude.{ℕ, ℤ, pos, neg_ℤ, ◌+◌, ◌-◌, nat_eq, nat_lt, not, if◌then◌else◌, List, [], ◌∷◌, ◌++◌, map, filter, codes, Some, None}
 use Rattle.std.specs.List.{range_with_len}
 use Rattle.std.specs.Fmt.{decimal}
-use Rattle.def_fraction.specs.Fraction.{Fraction, whole_number}
+use Rattle.def_fraction.specs.Fraction.{whole_number, one_over}
 use Rattle.def_tree.specs.declared.Player.{Player}
 use Rattle.def_tree.specs.declared.Player.TheVariants.{One, Two}
 use Rattle.def_file.specs.declared.EntryKind.TheVariants as kinds
@@ -23,29 +23,26 @@ abbrev pub cards : ℕ → List ℕ
 cards n = range_with_len 1 n
 
 -- what is left of some cards where card i is dealt
-abbrev pub without : ℕ → List ℕ → List ℕ
-without i js = filter (λ j. not (nat_eq i j)) js
+abbrev pub cards_without : ℕ → List ℕ → List ℕ
+cards_without i js = filter (λ j. not (nat_eq i j)) js
 
 -- the other cards, in rising order
 abbrev pub others : ℕ → ℕ → List ℕ
-others n i = without i (cards n)
+others n i = cards_without i (cards n)
 
 -- Each card is as likely as any other.
 
-abbrev pub one_over : ℕ → Fraction
-one_over n = record { num = pos 1; den = n }
-
-abbrev pub dealt : ℕ → ℕ → Action
-dealt n card = record { name = decimal card; chance = one_over n }
+abbrev pub dealt_card : ℕ → ℕ → Action
+dealt_card n card = record { name = decimal card; chance = one_over n }
 
 abbrev pub described_set : ℕ → List ℕ → List Action → SetMention
 described_set number name actions = record { number = number; name = Some name; actions = Some actions }
 
 unfoldable pub deal_one : ℕ → SetMention
-deal_one n = described_set 1 (codes "deal one") (map (dealt n) (cards n))
+deal_one n = described_set 1 (codes "deal one") (map (dealt_card n) (cards n))
 
 unfoldable pub deal_two : ℕ → ℕ → SetMention
-deal_two n i = described_set (1 + i) (codes "deal two " ++ decimal i) (map (dealt (n - 1)) (others n i))
+deal_two n i = described_set (1 + i) (codes "deal two " ++ decimal i) (map (dealt_card (n - 1)) (others n i))
 
 -- The players' sets.
 
@@ -59,8 +56,8 @@ abbrev pub fold_or_call : List Action
 fold_or_call = move (codes "fold") ∷ move (codes "call") ∷ []
 
 -- player one with card i opens
-unfoldable pub opening : ℕ → SetMention
-opening i = described_set i (decimal i) check_or_bet
+unfoldable pub opening_set : ℕ → SetMention
+opening_set i = described_set i (decimal i) check_or_bet
 
 -- player two with card j, after a check
 unfoldable pub after_check : ℕ → SetMention
@@ -76,18 +73,18 @@ after_bet n j = described_set (n + j) (decimal j ++ codes " b") fold_or_call
 
 -- Outcomes.
 
-abbrev pub described_outcome : ℕ → List ℕ → ℤ → OutcomeMention
-described_outcome number name one =
+abbrev pub mentioned_outcome : ℕ → List ℕ → ℤ → OutcomeMention
+mentioned_outcome number name one =
     record { number = number; name = Some name; payoffs = Some (whole_number one ∷ whole_number (neg_ℤ one) ∷ []) }
 
 -- this player wins 1, or 2
 unfoldable pub wins_one : Player → OutcomeMention
-wins_one One = described_outcome 1 (codes "One wins 1") (pos 1)
-wins_one Two = described_outcome 2 (codes "Two wins 1") (neg_ℤ (pos 1))
+wins_one One = mentioned_outcome 1 (codes "One wins 1") (pos 1)
+wins_one Two = mentioned_outcome 2 (codes "Two wins 1") (neg_ℤ (pos 1))
 
 unfoldable pub wins_two : Player → OutcomeMention
-wins_two One = described_outcome 3 (codes "One wins 2") (pos 2)
-wins_two Two = described_outcome 4 (codes "Two wins 2") (neg_ℤ (pos 2))
+wins_two One = mentioned_outcome 3 (codes "One wins 2") (pos 2)
+wins_two Two = mentioned_outcome 4 (codes "Two wins 2") (neg_ℤ (pos 2))
 
 -- who wins where the cards i and j are compared
 abbrev pub higher : ℕ → ℕ → Player
@@ -104,19 +101,19 @@ deals set = record { kind = kinds.Chance; name = []; player = 0; set = set; outc
 abbrev pub moves : ℕ → SetMention → Record
 moves player set = record { kind = kinds.Personal; name = []; player = player; set = set; outcome = no_outcome }
 
-abbrev pub ends : OutcomeMention → Record
-ends outcome = record { kind = kinds.Leaf; name = []; player = 0; set = no_set_mention; outcome = outcome }
+abbrev pub ending_entry : OutcomeMention → Record
+ending_entry outcome = record { kind = kinds.Leaf; name = []; player = 0; set = no_set_mention; outcome = outcome }
 
 -- a player who faces a bet folds or calls
 unfoldable pub facing_bet : ℕ → SetMention → OutcomeMention → OutcomeMention → List Record
-facing_bet player set folded called = moves player set ∷ ends folded ∷ ends called ∷ []
+facing_bet player set folded called = moves player set ∷ ending_entry folded ∷ ending_entry called ∷ []
 
 -- player one checks and player two checks or bets, or player one bets
 unfoldable pub hand : ℕ → ℕ → ℕ → List Record
 hand n i j =
-    moves 1 (opening i)
+    moves 1 (opening_set i)
     ∷ moves 2 (after_check j)
-    ∷ ends (wins_one (higher i j))
+    ∷ ending_entry (wins_one (higher i j))
     ∷ (facing_bet 1 (answer n i) (wins_one Two) (wins_two (higher i j))
     ++ facing_bet 2 (after_bet n j) (wins_one One) (wins_two (higher i j)))
 
@@ -126,12 +123,12 @@ hands n i [] = []
 hands n i (j ∷ js) = hand n i j ++ hands n i js
 
 -- each of some cards for player one, and all that follows
-unfoldable pub rounds : ℕ → List ℕ → List Record
-rounds n [] = []
-rounds n (i ∷ is) = deals (deal_two n i) ∷ (hands n i (others n i) ++ rounds n is)
+unfoldable pub rounds_with_cards : ℕ → List ℕ → List Record
+rounds_with_cards n [] = []
+rounds_with_cards n (i ∷ is) = deals (deal_two n i) ∷ (hands n i (others n i) ++ rounds_with_cards n is)
 
 unfoldable pub entries : ℕ → List Record
-entries n = deals (deal_one n) ∷ rounds n (cards n)
+entries n = deals (deal_one n) ∷ rounds_with_cards n (cards n)
 
 -- The game.
 

@@ -3,6 +3,7 @@ use Rattle.std.proofs.Common.{◌≡◌, ℕ, ◌≤◌, Bool, true, false, cond
 use Rattle.std.specs.Prelude.{All, IsSome, IsSomeAnd}
 use Rattle.std.specs.Option.{option_and_then, option_map}
 use Rattle.std.proofs.lemmas.Bool.{ltb-true, ltb-false, lt-ltb, le-ltb}
+use Rattle.std.proofs.lemmas.Option.{same_Some}
 use Rattle.def_file.specs.declared.FileFault.{FileFault}
 use Rattle.def_file.specs.declared.FileFault.TheVariants.{TooLong}
 use Rattle.def_file.specs.Content.{GameFile}
@@ -28,9 +29,6 @@ use Rattle.def_program.proofs.Made.{made_is}
 record Computed (answers : Option Answer) : Type 0 where
   answer : Answer
   is : answers ≡ Some answer
-
-injective : (a b : Answer) → Some a ≡ Some b → a ≡ b
-injective a b same = cc
 
 -- ---- one file
 
@@ -183,7 +181,7 @@ module _ (words : List (List ℕ)) (told : List ℕ → Option (List ℕ)) (answ
   command_meant (Drill cards settings workers) is computed =
       let range = cards_in_range.of_drill words cards settings workers is in
       made_meant (solved settings) cards range.some range.few answer
-      (injective (made_answer (solved settings) (poker cards)) answer computed)
+      (same_Some (made_answer (solved settings) (poker cards)) answer computed)
 
   by_command : (command : Option Command) → command_of_words words ≡ command
       → (IsMeant command told answer → answer_of command told ≡ Some answer)
@@ -226,4 +224,4 @@ told_means_one words told are_told = record {
     found = told_computed (command_of_words words) told are_told
 
     only : (other : Answer) → Means words told other → other ≡ found.answer
-    only other means = injective other found.answer (sym ((meaning_computed words told other).0 means) ∙ found.is)
+    only other means = same_Some other found.answer (sym ((meaning_computed words told other).0 means) ∙ found.is)

@@ -1,21 +1,17 @@
 -- Replies from sums that agree at the player's own sequences.
 use Rattle.std.proofs.Common.{◌≡◌, ℕ, ◌+◌, ◌<◌, ◌≤◌, List, [], ◌∷◌, map, arith, ap, sym, ◌∙◌, refl, subst}
-use Rattle.std.specs.Prelude.{ℤ, ◌+ℤ◌}
+use Rattle.std.specs.Prelude.{ℤ}
 use Rattle.std.specs.List.{AllZip}
 use Rattle.def_tree.specs.declared.Player.{Player}
 use Rattle.def_sums.specs.Sum.{nat_sum_over}
 use Rattle.def_sums.proofs.Ranges.{map-range_same, All-range, range-All}
 use Rattle.def_plan.specs.Form.{InformationSet, PlacedSet, placed_from, placed, sequences_of}
 use Rattle.def_plan.specs.Plan.{chosen}
-use Rattle.def_plan.specs.Payoff.{worth, values_after, IsNoBetter}
+use Rattle.def_plan.specs.Payoff.{worth, IsNoBetter}
+use Rattle.def_plan.proofs.Worths.{worth_same}
 use Rattle.def_reply.specs.Reply.{SetReply, values_of, best_of, first_with, replies_at, IsTight}
 use Rattle.def_reply.specs.Laws.{RepliesNeedOwnSums}
 use Rattle.def_reply.proofs.Equations.{chosen-at}
-
--- worths agree where the sums do
-worth_same : (sums other : ℕ → ℤ) (hs : List PlacedSet) (values : List ℤ) (s : ℕ) → sums s ≡ other s
-    → worth sums hs values s ≡ worth other hs values s
-worth_same sums other hs values s e = ap (λ x. x +ℤ values_after hs values s) e
 
 replies_same : (player : Player) (sums other : ℕ → ℤ) (first : ℕ) (hs : List InformationSet)
     → ((s : ℕ) → s < first + nat_sum_over (λ h. h.actions) hs → sums s ≡ other s)

@@ -1,9 +1,8 @@
 -- How large the values of a best reply are. The sizes of the values that come directly after the sequences so far are
 -- at most the sizes of the leaf sums from there on.
-use Rattle.std.proofs.Common.{◌≡◌, ℕ, ◌+◌, ◌≤◌, ◌<◌, cond, eqb, List, [], ◌∷◌, zip, filter, ℤ, unsigned_abs, All, arith, ap, ◌∙◌, subst, ⊎_elim}
+use Rattle.std.proofs.Common.{◌≡◌, ℕ, ◌+◌, ◌≤◌, ◌<◌, eqb, List, [], ◌∷◌, zip, filter, ℤ, unsigned_abs, All, arith, ap, ◌∙◌, subst, ⊎_elim}
 use Rattle.std.specs.List.{range_with_len}
 use Rattle.std.proofs.lemmas.Bool.{cases_lt}
-use Rattle.std.proofs.lemmas.Bool.Decides.{nat_tests}
 use Rattle.std.proofs.lemmas.List.Elements.{All-head, All-tail, All-nil, All-cons, All-weaker}
 use Rattle.def_tree.specs.declared.Player.{Player}
 use Rattle.def_tree.specs.declared.Player.TheVariants.{One, Two}
@@ -11,7 +10,7 @@ use Rattle.def_sums.specs.Sum.{nat_sum_over}
 use Rattle.def_sums.proofs.RingLaws.{unsigned_abs-+ℤ}
 use Rattle.def_sums.proofs.SumLaws.{unsigned_abs-sum_over}
 use Rattle.def_sums.proofs.Ranges.{at_most_sum}
-use Rattle.def_plan.proofs.Hanging.{hanging, after, kept, after-hanging, after-first, from, from-cons, all_sums}
+use Rattle.def_plan.proofs.Hanging.{hanging, after, kept, after-hanging, after-first, not_here, from, from-cons, all_sums}
 use Rattle.def_plan.proofs.SizeLaws.{leaf_sums-below, of_an_evaluation}
 use Rattle.def_plan.specs.Form.{InformationSet, PlacedSet, placed_from, placed, sequence_count, sequences, IsInOrder, AreInOrder}
 use Rattle.def_plan.specs.Plan.{chosen}
@@ -89,9 +88,6 @@ worth_at player sums first (h ∷ hs) s order low high =
     ))
     (λ beyond. omega (arith, skips, from-cons sums first h hs, worth_at player sums (first + h.actions) hs s later beyond (omega arith)))
     (cases_lt s (first + h.actions))
-  where
-    not_here : (b s v n : ℕ) → b < s → cond (eqb b s) v 0 + n ≡ n
-    not_here b s v n less = grind (arith, nat_tests)
 
 -- the parts of a sequence's worth are together no larger than the leaf sums
 pub worths-below : (player : Player) (sums : ℕ → ℤ) (sets : List InformationSet) (s : ℕ) → AreInOrder sets

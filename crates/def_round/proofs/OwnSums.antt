@@ -5,16 +5,12 @@ use Rattle.std.specs.List.{flat_map}
 use Rattle.def_sums.specs.Sum.{nat_sum_over}
 use Rattle.def_sums.proofs.Ranges.{map-range_same}
 use Rattle.def_plan.specs.Form.{InformationSet, PlacedSet, placed_from, placed}
-use Rattle.def_plan.specs.Payoff.{worth, values_after}
+use Rattle.def_plan.specs.Payoff.{worth}
+use Rattle.def_plan.proofs.Worths.{worth_same}
 use Rattle.def_round.specs.Play.{regret_of}
 use Rattle.def_round.specs.Round.{set_value, values_from, round_values, set_regrets, regrets_with}
 use Rattle.def_round.specs.Laws.{RoundsNeedOwnSums}
 use Rattle.def_round.proofs.Values.{set_value_same}
-
--- worths agree where the sums do
-worth_same : (sums other : ℕ → ℤ) (hs : List PlacedSet) (values : List ℤ) (s : ℕ) → sums s ≡ other s
-    → worth sums hs values s ≡ worth other hs values s
-worth_same sums other hs values s e = ap (λ x. x +ℤ values_after hs values s) e
 
 values_same : (sums other : ℕ → ℤ) (play : List ℕ) (first : ℕ) (hs : List InformationSet)
     → ((s : ℕ) → s < first + nat_sum_over (λ h. h.actions) hs → sums s ≡ other s)

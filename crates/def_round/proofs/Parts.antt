@@ -1,14 +1,13 @@
 -- A leaf sum and the values directly after its sequence stay within all leaf sums.
-use Rattle.std.proofs.Common.{◌≡◌, ℕ, ◌+◌, ◌≤◌, ◌<◌, cond, eqb, List, [], ◌∷◌, zip, filter, slice_index, All, arith, ap, ◌∙◌, ⊎_elim}
+use Rattle.std.proofs.Common.{◌≡◌, ℕ, ◌+◌, ◌≤◌, ◌<◌, eqb, List, [], ◌∷◌, zip, filter, slice_index, All, arith, ap, ◌∙◌, ⊎_elim}
 use Rattle.std.specs.Prelude.{ℤ, unsigned_abs}
 use Rattle.std.proofs.lemmas.Bool.{cases_lt}
-use Rattle.std.proofs.lemmas.Bool.Decides.{nat_tests}
 use Rattle.std.proofs.lemmas.List.Elements.{All-head, All-tail}
 use Rattle.def_sums.specs.Sum.{nat_sum_over}
 use Rattle.def_sums.proofs.Ranges.{at_most_sum}
 use Rattle.def_plan.specs.Form.{InformationSet, PlacedSet, placed_from, placed, sequences_of, IsInOrder}
 use Rattle.def_plan.specs.Payoff.{worth}
-use Rattle.def_plan.proofs.Hanging.{hanging, after, kept, after-hanging, from, from-cons, all_sums}
+use Rattle.def_plan.proofs.Hanging.{hanging, after, kept, after-hanging, not_here, from, from-cons, all_sums}
 use Rattle.def_round.specs.Play.{units}
 use Rattle.def_round.specs.Round.{set_value, values_from, round_values}
 use Rattle.def_round.specs.SizeLaws.{WorthPartsAreWithinSums}
@@ -51,9 +50,6 @@ parts_at sums play first (h ∷ hs) s order whole low high =
     ))
     (λ beyond. omega (arith, skips, from-cons sums first h hs, parts_at sums play (first + h.actions) hs s later whole' beyond (omega arith)))
     (cases_lt s (first + h.actions))
-  where
-    not_here : (b s v n : ℕ) → b < s → cond (eqb b s) v 0 + n ≡ n
-    not_here b s v n less = grind (arith, nat_tests)
 
 -- the sizes of a leaf sum and of the values that join it in a worth are together at most all leaf sums'
 pub worth_parts_are_within_sums : WorthPartsAreWithinSums

@@ -5,8 +5,9 @@ use Rattle.std.specs.List.{AllZip}
 use Rattle.std.proofs.lemmas.List.FromFn.{length-map-range_with_len}
 use Rattle.std.proofs.Math.Seq.{drop-cons}
 use Rattle.def_sums.proofs.Ranges.{All-range, range-All, map-range_same}
-use Rattle.def_plan.specs.Form.{InformationSet, PlacedSet, placed_from, placed, sequences_of}
+use Rattle.def_plan.specs.Form.{InformationSet, PlacedSet, placed, sequences_of}
 use Rattle.def_plan.specs.Payoff.{worth}
+use Rattle.def_plan.proofs.BadSets.{length-placed}
 use Rattle.def_round.specs.Play.{regret_of}
 use Rattle.def_round.specs.Round.{round_values, AddsRegrets, IsRound, set_regrets, regrets_with, regrets_after}
 use Rattle.def_round.specs.Laws.{RoundsAreComputed}
@@ -19,17 +20,6 @@ AllZip-weaker R S weaker [] [] all = tt
 AllZip-weaker R S weaker [] (y ∷ ys) all = elim all [ ]
 AllZip-weaker R S weaker (x ∷ xs) [] all = elim all [ ]
 AllZip-weaker R S weaker (x ∷ xs) (y ∷ ys) all = (weaker x y all.0, AllZip-weaker R S weaker xs ys all.1)
-
-length_zipped : {A B : Type 0} (R : A → B → Type 0) (xs : List A) (ys : List B) → AllZip R xs ys → length ys ≡ length xs
-length_zipped R [] [] all = refl
-length_zipped R [] (y ∷ ys) all = elim all [ ]
-length_zipped R (x ∷ xs) [] all = elim all [ ]
-length_zipped R (x ∷ xs) (y ∷ ys) all = ap suc (length_zipped R xs ys all.1)
-
--- as many sets are placed as there are, whichever sequence comes first
-pub length-placed_from : (first : ℕ) (sets : List InformationSet) → length (placed_from first sets) ≡ length sets
-length-placed_from first [] = refl
-length-placed_from first (h ∷ hs) = ap suc (length-placed_from (first + h.actions) hs)
 
 module _ (sums : ℕ → ℤ) (sets : List InformationSet) (values : List ℤ) (before : List ℤ) where
   grown : PlacedSet → ℤ → ℕ → ℤ
@@ -73,7 +63,7 @@ module _ (sums : ℕ → ℤ) (sets : List InformationSet) (values : List ℤ) (
 -- a round has one value for each set
 pub length-values_of : (sums : ℕ → ℤ) (play : List ℕ) (sets : List InformationSet)
     → length (round_values sums play sets) ≡ length sets
-length-values_of sums play sets = length-values_from sums play (placed sets) ∙ length-placed_from 1 sets
+length-values_of sums play sets = length-values_from sums play (placed sets) ∙ length-placed 1 sets
 
 -- regrets solve the equations of a round exactly where they are the computed ones
 pub rounds_are_computed : RoundsAreComputed

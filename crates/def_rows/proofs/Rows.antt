@@ -1,7 +1,7 @@
 -- Rows as leaf sums.
 use Rattle.std.proofs.Common.{◌≡◌, ℕ, ◌+◌, ◌-◌, ◌<◌, true, false, cond, eqb, ltb, List, length, get_or, slice_index, arith, ap, sym, ◌∙◌, length-append, ⊎_elim}
 use Rattle.std.specs.Prelude.{pos, ◌*ℤ◌}
-use Rattle.std.proofs.lemmas.Bool.{cases_lt}
+use Rattle.std.proofs.lemmas.Bool.{cases_lt, le-ltb}
 use Rattle.std.proofs.lemmas.Bool.Decides.{nat_tests}
 use Rattle.std.proofs.lemmas.List.{get_or_append_left, get_or-append-add}
 use Rattle.std.proofs.lemmas.List.FromFn.{get_or-map-range_with_len, length-map-range_with_len}
@@ -36,14 +36,11 @@ pub in_row_of_two : (form : SequenceForm) (numbers_one numbers_two : List ℕ) (
     ≡ leaf_sum Two leaves numbers_one s
 in_row_of_two form numbers_one numbers_two leaves s =
     let count : ℕ = sequence_count form.sets_one in
-    let past : ltb (count + s) count ≡ false = not_below count s in
+    let past : ltb (count + s) count ≡ false = le-ltb (count + s) count (omega arith) in
     let row : count + s - count ≡ s = omega arith in
     ap (λ b. sum_over (λ z. cond b (amount_at One numbers_two z (count + s)) (amount_at Two numbers_one z (count + s - count))) leaves) past
     ∙ ap (λ k. sum_over (λ z. amount_at Two numbers_one z k) leaves) row
     ∙ leaf_sums_add_amounts Two leaves numbers_one s
-  where
-    not_below : (count s : ℕ) → ltb (count + s) count ≡ false
-    not_below count s = grind (arith, nat_tests)
 
 -- a player has a row for each sequence, and in it the leaf sum against the other's numbers
 pub player_rows_are_leaf_sums : PlayerRowsAreLeafSums

@@ -1,7 +1,7 @@
 -- The rows of a form against two lists of numbers, one for each player's sequences: row s is player one's sequence s,
 -- and after player one's rows come player two's. A row's amount is the leaf sum of its sequence against the other
 -- player's numbers, in player one's payoff.
-use Rattle.std.specs.Prelude.{ℕ, ◌+◌, ◌-◌, ℤ, pos, ◌*ℤ◌, List, ◌++◌, map, ◌==◌, nat_lt, if◌then◌else◌, slice_index}
+use Rattle.std.specs.Prelude.{ℕ, ◌+◌, ◌-◌, ℤ, pos, ◌*ℤ◌, List, ◌++◌, map, ◌==◌, nat_lt, if◌then◌else◌, slice_index, slice_index_or}
 use Rattle.def_tree.specs.declared.Player.{Player}
 use Rattle.def_tree.specs.declared.Player.TheVariants.{One, Two}
 use Rattle.def_tree.specs.Opponent.{opponent}
@@ -18,6 +18,10 @@ player_rows form player against = map (leaf_sum player form.leaves against) (seq
 -- the amounts at all rows
 abbrev pub rows : SequenceForm → List ℕ → List ℕ → List ℤ
 rows form numbers_one numbers_two = player_rows form One numbers_two ++ player_rows form Two numbers_one
+
+-- the amount at each row
+abbrev pub amount_of : List ℤ → ℕ → ℤ
+amount_of amounts row = slice_index_or amounts row (pos 0)
 
 -- what a leaf adds to a sequence of a player:
 -- the weight times the other player's number, where the leaf has this sequence

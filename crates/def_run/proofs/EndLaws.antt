@@ -4,18 +4,19 @@ use Rattle.std.specs.List.Sorted.{IsStrictlyIncreasing}
 use Rattle.def_tree.specs.declared.Player.TheVariants.{One, Two}
 use Rattle.def_plan.specs.Form.{SequenceForm, AreInOrder}
 use Rattle.def_plan.specs.Plan.{IsPlan, pure_plan}
-use Rattle.def_reply.specs.Reply.{choices_of}
+use Rattle.def_reply.specs.Reply.{best_reply_to, choices_of}
 use Rattle.def_reply.specs.Bounds.{IsBestAgainst, IsLeft}
 use Rattle.def_reply.proofs.BoundLaws.{floors_below}
 use Rattle.def_bracket.specs.Bracket.{Evaluation, BracketEnds, ends_of, trace, evaluated_rounds}
 use Rattle.def_bracket.specs.Laws.{RoundsRise}
 use Rattle.def_bracket.specs.Offers.{Offer, evaluation_of_offer, KeptEnd, lower_of, upper_of, board_after}
+use Rattle.def_bracket.specs.Outcome.{OutcomeEnds}
 use Rattle.def_bracket.specs.OfferLaws.{ComesFrom}
 use Rattle.def_bracket.proofs.EvaluatedRounds.{rounds as rounds_evaluated}
 use Rattle.def_bracket.proofs.TraceLines.{trace_lines, never_widens, trace_looks_back}
 use Rattle.def_bracket.proofs.KeptEnds.{offers_are_traced, offers_keep_the_ends}
 use Rattle.def_run.specs.Run.{reply_to, evaluation, evaluations, offer_after, offers, run_end, both_ends}
-use Rattle.def_run.specs.Laws.{TraceOfRunNeverWidens, TraceOfRunLooksBack, plan_at_lower, plan_at_upper, GapOfRunIsExploitability, EndsBoundAllPlans, OffersOfRunAreFair, OutcomesShowTheirRun}
+use Rattle.def_run.specs.Laws.{TraceOfRunNeverWidens, TraceOfRunLooksBack, plan_at_lower, plan_at_upper, GapOfRunIsExploitability, EndsBoundAllPlans, OffersOfRunAreFair, OutcomesShowTheirRun, HasPlansOf}
 use Rattle.def_run.proofs.RunLaws.{rounds_of, evaluations_are_bounds, ends_are_of_their_rounds}
 
 -- in the trace of a run each line's bracket lies within those of the lines before
@@ -139,3 +140,19 @@ outcomes_show_their_run = record {
         },
       );
 }
+
+-- the ends of a run, by the rounds that they come from
+abbrev pub ends_at : SequenceForm → ℕ → BracketEnds → OutcomeEnds
+ends_at form root ends = record {
+  lower = record { plan = plan_at_lower form root ends; reply = best_reply_to form Two (plan_at_lower form root ends) };
+  upper = record { plan = plan_at_upper form root ends; reply = best_reply_to form One (plan_at_upper form root ends) };
+}
+
+-- ends with the plans and the replies of these rounds are those ends
+pub shown_are : (form : SequenceForm) (root : ℕ) (ends : BracketEnds) (shown : OutcomeEnds)
+    → HasPlansOf form root ends shown → shown ≡ ends_at form root ends
+shown_are form root ends shown h =
+    λ i. record {
+      lower = record { plan = h.lower_plan i; reply = h.lower_reply i };
+      upper = record { plan = h.upper_plan i; reply = h.upper_reply i };
+    }

@@ -81,7 +81,8 @@ ends_are_of_their_rounds form root every last ends are =
       of_upper = of_its_round form root every last upper.place ends.upper upper.within upper.stands;
     }
 
-some_ends : (es : List Evaluation) → 1 ≤ length es → (ends : BracketEnds) × (ends_of es ≡ Some ends)
+-- some evaluation gives ends
+pub some_ends : (es : List Evaluation) → 1 ≤ length es → (ends : BracketEnds) × (ends_of es ≡ Some ends)
 some_ends [] none = absurd (omega arith)
 some_ends (e ∷ es) some = (_, refl)
 

@@ -24,7 +24,8 @@ told_none : (o : Option RecallBreak) (sets told : TreeSets) → unless_broken o 
 told_none None sets told e = (refl, cc)
 told_none (Some broken) sets told e = cc
 
-told_break : (o : Option RecallBreak) (sets : TreeSets) (broken : RecallBreak) → unless_broken o sets ≡ Err broken
+-- what is told in place of the sets is the break that was found
+pub told_break : (o : Option RecallBreak) (sets : TreeSets) (broken : RecallBreak) → unless_broken o sets ≡ Err broken
     → o ≡ Some broken
 told_break None sets broken e = cc
 told_break (Some found) sets broken e = cc

@@ -32,11 +32,13 @@ some_weight weights some = by_sum (eqb (weight_sum weights) 0) refl
     by_sum false e = grind (arith, nat_tests)
 
 -- ---- prefix sums
-prefix-more : (weights : List ℕ) (i : ℕ) → i < length weights
+-- one weight more adds that weight to the sum of those before it
+pub prefix-more : (weights : List ℕ) (i : ℕ) → i < length weights
     → prefix_sum weights (i + 1) ≡ prefix_sum weights i + get_or weights i 0
 prefix-more weights i below = ap weight_sum (take_more weights i 0 below) ∙ nat_sum_over-append (λ w. w) (take i weights) (get_or weights i 0 ∷ []) ∙ ap (λ n. prefix_sum weights i + n) (add-zero (get_or weights i 0))
 
-prefix-all : (weights : List ℕ) → prefix_sum weights (length weights) ≡ weight_sum weights
+-- the sum before the end is that of all weights
+pub prefix-all : (weights : List ℕ) → prefix_sum weights (length weights) ≡ weight_sum weights
 prefix-all weights = ap weight_sum (take-length weights)
 
 -- ---- floors of two products, one after the other
@@ -81,12 +83,13 @@ within n weights some i below =
 length-shares_in_proportion : (n : ℕ) (weights : List ℕ) → length (shares_in_proportion n weights) ≡ length weights
 length-shares_in_proportion n weights = length-map-range_with_len (λ (i : ℕ). prefix_share n weights (i + 1) - prefix_share n weights i) 0 (length weights)
 
+-- no part of n, over a sum, is 0
+pub nothing_over : (n sum : ℕ) → 1 ≤ sum → n * 0 / sum ≡ 0
+nothing_over n sum some = omega arith
+
 before : (n : ℕ) (weights : List ℕ) → 1 ≤ weight_sum weights → (i : ℕ) → i ≤ length weights
     → weight_sum (take i (shares_in_proportion n weights)) ≡ prefix_share n weights i
-before n weights some zero within = sym (zero_over n (weight_sum weights) some)
-  where
-    zero_over : (n sum : ℕ) → 1 ≤ sum → n * 0 / sum ≡ 0
-    zero_over n sum some = omega arith
+before n weights some zero within = sym (nothing_over n (weight_sum weights) some)
 before n weights some (suc i) within =
     let below : i < length (shares_in_proportion n weights) = omega (arith, length-shares_in_proportion n weights) in
     let below' : i < length weights = omega arith in

@@ -3,6 +3,7 @@ use Rattle.std.proofs.Common.{◌≡◌, ℕ, zero, suc, ◌<◌, ◌≤◌, Boo
 use Rattle.std.proofs.Common.{refl, sym, ap, ◌∙◌, subst, arith}
 use Rattle.std.specs.Option.{option_and_then, option_map}
 use Rattle.std.proofs.lemmas.Bool.{le-ltb}
+use Rattle.std.proofs.lemmas.Option.{same_Some}
 use Rattle.def_tree.specs.declared.Kind.TheVariants.{One, Two}
 use Rattle.def_fraction.specs.Fraction.{Fraction}
 use Rattle.def_file.specs.Content.{GameFile}
@@ -120,9 +121,6 @@ solved_short file game settings workers is range =
     accepted_short file (solve_text game settings) found.shown is.readable.length_within found.is
 
 -- ---- the words of both calls
-some_same : (a b : Answer) → Some a ≡ Some b → a ≡ b
-some_same a b same = cc
-
 -- a text that was written is that of an accepted file's game
 record IsSolved (bytes text : List ℕ) (settings : Settings) : Type 0 where
   game : GameFile
@@ -173,14 +171,14 @@ check_accepts words others told after path game_path text_path bytes text settin
     ∙ ap (λ (c : Option Command). answer_of c told) (sym solve) in
     taken others after game_path text_path bytes text settings workers
     (settings_in_range.of_solve words path settings workers solve) check game_there text_there
-    (some_same (file_answer (solved settings) bytes) (success text) (answered ∙ wrote))
+    (same_Some (file_answer (solved settings) bytes) (success text) (answered ∙ wrote))
 
 -- what `drill` wrote, `check` accepts against what `gen` wrote
 pub drill_accepts : WhatDrillWritesCheckAccepts
 drill_accepts words makers others told before after game_path text_path bytes text cards settings workers drill wrote gen made check game_there text_there =
     let cards_are = cards_in_range.of_drill words cards settings workers drill in
     let file_is : canon (poker cards) ≡ bytes =
-    ap (λ (a : Answer). a.text) (some_same (success (canon (poker cards))) (success bytes)
+    ap (λ (a : Answer). a.text) (same_Some (success (canon (poker cards))) (success bytes)
     (ap (λ (c : Option Command). answer_of c before) (sym gen) ∙ made)) in
     let answered : Some (made_answer (solved settings) (poker cards)) ≡ program words told =
     ap (λ (c : Option Command). answer_of c told) (sym drill) in
@@ -188,4 +186,4 @@ drill_accepts words makers others told before after game_path text_path bytes te
     (settings_in_range.of_drill words cards settings workers drill) check game_there text_there
     (ap (file_answer (solved settings)) (sym file_is)
     ∙ made_is cards cards_are.some cards_are.few (solved settings)
-    ∙ some_same (made_answer (solved settings) (poker cards)) (success text) (answered ∙ wrote))
+    ∙ same_Some (made_answer (solved settings) (poker cards)) (success text) (answered ∙ wrote))

@@ -28,8 +28,8 @@ no_rounds = record { rounds = 0; every = 1; scale = most_scale }
 abbrev pub form_of_file : GameFile → SequenceForm
 form_of_file game = form_of_game (tables_of game) game.tree
 
-abbrev pub head_with : GameFile → SequenceForm → Settings → Head
-head_with game form settings = record {
+abbrev pub head_asked : GameFile → SequenceForm → Settings → Head
+head_asked game form settings = record {
   nodes = node_count game.tree;
   leaves = leaf_count (prefix game.tree);
   sets_one = length form.sets_one;
@@ -44,7 +44,7 @@ head_with game form settings = record {
 }
 
 abbrev pub game_head : GameFile → Settings → Head
-game_head game settings = head_with game (form_of_file game) settings
+game_head game settings = head_asked game (form_of_file game) settings
 
 abbrev pub game_outcome : GameFile → Settings → Outcome
 game_outcome game settings = outcome (form_of_file game) (game_head game settings)
@@ -53,14 +53,14 @@ abbrev pub solve_text : GameFile → Settings → List ℕ
 solve_text game settings = cert_text (certificate_of (form_of_file game) (game_outcome game settings))
 
 -- a text between quotation marks
-abbrev pub quoted : List ℕ → List ℕ
-quoted text = 34 ∷ (escaped text ++ 34 ∷ [])
+abbrev pub between_marks : List ℕ → List ℕ
+between_marks text = 34 ∷ (escaped text ++ 34 ∷ [])
 
 -- the lines before the game's numbers
 abbrev pub info_front : GameFile → List ℕ
 info_front game =
-    codes "title " ++ (quoted game.prologue.title ++ (line_feed
-    ++ (codes "players " ++ (quoted game.prologue.one ++ (codes " " ++ (quoted game.prologue.two ++ line_feed))))))
+    codes "title " ++ (between_marks game.prologue.title ++ (line_feed
+    ++ (codes "players " ++ (between_marks game.prologue.one ++ (codes " " ++ (between_marks game.prologue.two ++ line_feed))))))
 
 abbrev pub info_text : GameFile → List ℕ
 info_text game = info_front game ++ head_text (game_head game no_rounds)

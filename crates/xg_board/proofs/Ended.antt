@@ -9,7 +9,7 @@ use Rattle.def_history.specs.History.{IsLegal, IsComplete, stripe_of, sum_over_j
 use Rattle.def_history.proofs.Counts.{Contains_from_times}
 use Rattle.def_history.proofs.Ends.{replays_to_plain_sum}
 use Rattle.xg_rights.specs.declared.view.View.{View}
-use Rattle.xg_rights.specs.Rights.{jobs_of, once, rights_for, stripes_of, IsLoaded}
+use Rattle.xg_rights.specs.Rights.{job_count_of, once, rights_for, stripes_of, IsLoaded}
 use Rattle.xg_locked.proofs.Takes.{once_at_most}
 use Rattle.xg_board.specs.Closing.{Gathered}
 
@@ -26,14 +26,14 @@ nothing_gathered jobs rows stripes amount start sums len zeros = record {
   sums_are = zeros;
 }
 
-once_is : (number j s : ℕ) → j < jobs_of number → s < stripes_of number → once number j s ≡ 1
+once_is : (number j s : ℕ) → j < job_count_of number → s < stripes_of number → once number j s ≡ 1
 unfolding once
 once_is number j s a b = grind (arith, nat_tests)
 
 -- with all parts gathered and a ticket given up, no job is left and every order is complete
 pub ended : (jobs rows stripes number : ℕ) (amount : ℕ → ℕ → ℤ) (bag : List ℕ) (now : View) (sums : List ℤ)
     (bag_tickets made pass_tickets : ℕ)
-    → jobs_of number ≡ jobs → stripes_of number ≡ stripes → 0 < stripes
+    → job_count_of number ≡ jobs → stripes_of number ≡ stripes → 0 < stripes
     → (0 < length bag → bag_tickets ≡ 0) → now.tickets ≡ bag_tickets + (64 - made) + pass_tickets → pass_tickets < made
     → made ≤ 64
     → now.parts ≡ 1 + (65 - made) + made + stripes → now.number ≡ number → IsLoaded number now

@@ -1,10 +1,9 @@
 -- Amounts that a name takes: where they are small they are themselves.
-use Rattle.std.proofs.Common.{◌≡◌, ℕ, zero, suc, ◌^◌, ◌<◌, ◌≤◌, Bool, true, false, List, [], ◌∷◌, length, All, if◌then◌else◌, refl, sym, ap, arith, ℤ, pos}
-use Rattle.std.specs.Prelude.{nat_le, slice_index, unsigned_abs}
+use Rattle.std.proofs.Common.{◌≡◌, ℕ, ◌^◌, ◌<◌, ◌≤◌, Bool, true, false, List, length, if◌then◌else◌, refl, sym, ap, arith, ℤ, pos}
+use Rattle.std.specs.Prelude.{nat_le, unsigned_abs}
 use Rattle.std.specs.List.{range_with_len}
 use Rattle.std.proofs.lemmas.Bool.{leb-true, le-leb}
 use Rattle.std.proofs.lemmas.List.Sums.{AllPass-from_list_all, list_all-from_AllPass}
-use Rattle.std.proofs.lemmas.List.Elements.{All-head, All-tail}
 use Rattle.std.proofs.Math.Nat.{mul-le-mul_right}
 use Rattle.def_sums.specs.Limits.{most_mass, most_root}
 use Rattle.def_sums.specs.Sum.{nat_sum_over}
@@ -12,6 +11,7 @@ use Rattle.def_sums.proofs.Ranges.{All-range, range-All}
 use Rattle.def_sums.proofs.SumLaws.{nat_sum_over-bounded}
 use Rattle.def_plan.specs.Form.{SequenceForm}
 use Rattle.def_plan.specs.Payoff.{mass_of}
+use Rattle.def_plan.proofs.SizeLaws.{slice_index-at_most}
 use Rattle.def_rows.specs.Rows.{row_count}
 use Rattle.def_history.specs.History.{job_numbers}
 use Rattle.def_history_rows.proofs.Amounts.{amounts_small}
@@ -42,11 +42,6 @@ tested_is jobs rows amount small = sym (ap (λ (b : Bool). if b then amount else
     yes = list_all-from_AllPass (λ row. nat_le (nat_sum_over (λ job. unsigned_abs (amount job row)) (job_numbers jobs)) (2 ^ 98)) (range_with_len 0 rows)
         (All-range (λ row. nat_le (nat_sum_over (λ job. unsigned_abs (amount job row)) (job_numbers jobs)) (2 ^ 98) ≡ true) 0 rows (λ row low high. le-leb _ _ (small row (omega arith))))
 
-at_most : (bound : ℕ) (numbers : List ℕ) → All (λ n. n ≤ bound) numbers → (s : ℕ) → slice_index numbers s ≤ bound
-at_most bound [] all s = omega arith
-at_most bound (n ∷ rest) all zero = All-head (λ n. n ≤ bound) n rest all
-at_most bound (n ∷ rest) all (suc s) = at_most bound rest (All-tail (λ n. n ≤ bound) n rest all) s
-
 -- so are the amounts of a form's jobs
 pub amounts_stay : (form : SequenceForm) (numbers_one numbers_two : List ℕ) (table : TableOfJobs)
     → AreNumbersOf form numbers_one numbers_two → IsTableOf form table
@@ -55,6 +50,6 @@ pub amounts_stay : (form : SequenceForm) (numbers_one numbers_two : List ℕ) (t
     ≡ tested (length table.ranges) (row_count form) (job_amounts form numbers_one numbers_two table.ranges)
 amounts_stay form numbers_one numbers_two table numbers is mass =
     tested_is (length table.ranges) (row_count form) (job_amounts form numbers_one numbers_two table.ranges) (λ row below.
-    let sizes = amounts_small form numbers_one numbers_two most_root table.ranges (ranges_partition form table is) (at_most most_root numbers_one numbers.small_one) (at_most most_root numbers_two numbers.small_two) row in
+    let sizes = amounts_small form numbers_one numbers_two most_root table.ranges (ranges_partition form table is) (slice_index-at_most most_root numbers_one numbers.small_one) (slice_index-at_most most_root numbers_two numbers.small_two) row in
     let scaled = mul-le-mul_right most_root mass in
     omega (arith, sizes, scaled))

@@ -2,7 +2,7 @@
 use Rattle.std.proofs.Common.{◌≡◌, ℕ, ◌+◌, ◌<◌, List, length, get_or, sym, ap, ◌∙◌, subst, arith, pos}
 use Rattle.std.proofs.lemmas.List.{ext_get_or, get_or_append_left, get_or-append-add, length-append}
 use Rattle.def_tree.specs.declared.Player.TheVariants.{One, Two}
-use Rattle.def_tree.specs.Tree.{Forest, leaf_count, prefix}
+use Rattle.def_tree.specs.Tree.{leaf_count, prefix}
 use Rattle.def_game_paths.specs.Paths.{leaf_visits}
 use Rattle.def_game_jobs.specs.Ranges.{LeafRange, Partitions}
 use Rattle.def_game_jobs.proofs.Ranges.{partition}
@@ -17,21 +17,18 @@ use Rattle.def_rows.specs.Rows.{player_rows, row_count}
 use Rattle.def_rows.specs.Laws.{ArePlayerLeafSums}
 use Rattle.def_rows.proofs.Rows.{player_rows_are_leaf_sums}
 use Rattle.xg_jobs.specs.Rows.{Amounts, all_rows, ArePlainSums}
-use Rattle.xg_jobs.specs.Table.{IsFormOf, IsTableOf, TableOfJobs}
+use Rattle.xg_jobs.specs.Table.{IsTableOf, TableOfJobs}
 use Rattle.xg_board.specs.Running.{job_amounts}
-
--- a form has a leaf for each of its tree's
-form_leaves : (form : SequenceForm) (tree : Forest) → IsFormOf form tree → length form.leaves ≡ leaf_count (prefix tree)
-form_leaves form tree is =
-    let visited = leaves_counted tree in
-    ap (λ (f : SequenceForm). length f.leaves) is.form_is
-    ∙ length-leaves_with tree (leaf_visits tree) is.weights (omega (arith, visited, is.count)) ∙ visited
 
 -- the jobs of a form's table have its leaves, each once
 pub ranges_partition : (form : SequenceForm) (table : TableOfJobs) → IsTableOf form table
     → Partitions table.ranges (length form.leaves)
 ranges_partition form table is =
-    subst (Partitions table.ranges) (sym (form_leaves form is.tree is.form_is))
+    let visited = leaves_counted is.tree in
+    let leaves : length form.leaves ≡ leaf_count (prefix is.tree) =
+    ap (λ (f : SequenceForm). length f.leaves) is.form_is.form_is
+    ∙ length-leaves_with is.tree (leaf_visits is.tree) is.form_is.weights (omega (arith, visited, is.form_is.count)) ∙ visited in
+    subst (Partitions table.ranges) (sym leaves)
     (subst (λ (ranges : List LeafRange). Partitions ranges (leaf_count (prefix is.tree))) (sym (ap (λ (t : TableOfJobs). t.ranges) is.table_is)) (partition is.tree is.rules.tree.one))
 
 -- rows with the sums of all jobs' amounts are the plain sums

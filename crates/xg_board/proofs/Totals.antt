@@ -63,11 +63,6 @@ share_after amount h places row here below =
     let less : nat_lt (place_of h.stripes row) places ≡ true = grind (arith, nat_tests) in
     ap (λ t. share (replay amount h.order row) (t && nat_lt (place_of h.stripes row) places)) yes ∙ ap (share (replay amount h.order row)) less
 
--- a place's row is a row
-pub place_inside : (stripes rows index place : ℕ) → index < stripes → place < place_count stripes rows index
-    → place * stripes + index < rows
-place_inside stripes rows index place inside below = (stripes_hold_their_rows stripes rows index place inside).0 below
-
 -- until its place comes, a row is as it was
 pub before_total : (amount : ℕ → ℕ → ℤ) (h : StripeHistory) (place at : ℕ) (old now : List ℤ) → h.index < h.stripes
     → at ≡ place * h.stripes + h.index → at < length old → AddsBelow amount h place old now

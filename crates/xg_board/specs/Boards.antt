@@ -5,7 +5,7 @@ use Rattle.atomic_table.specs.Seated.{TableId}
 use Rattle.def_sums.specs.Limits.{most_stripes}
 use Rattle.xg_jobs.specs.Rows.{Amounts, all_rows}
 use Rattle.xg_rights.specs.declared.view.View.{View}
-use Rattle.xg_rights.specs.Rights.{number_from, whole}
+use Rattle.xg_rights.specs.Rights.{number_from, whole_view}
 
 -- the table's first seat has everything, for these jobs and stripes
 pub record IsBase (table seat : TableId) (me : Me (Unit {0}) View) (jobs stripes : ℕ) : Type 0 where
@@ -13,7 +13,7 @@ pub record IsBase (table seat : TableId) (me : Me (Unit {0}) View) (jobs stripes
   pub few : stripes ≤ most_stripes
   pub here : seat ≡ table
   pub words : 0 < table.words
-  pub all : me ≡ (whole (number_from jobs stripes), [])
+  pub all : me ≡ (whole_view (number_from jobs stripes), [])
 
 -- the table is the named one, and the rows that are handed out at the end have nothing yet
 pub record IsBoard (named table : TableId) (jobs rows : ℕ) (job_count stripes locked : ℕ)

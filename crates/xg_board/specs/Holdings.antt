@@ -27,7 +27,7 @@ holding_of worker views = record {
 }
 
 -- a pass's seat has one part
-pub record IsPass (named id : TableId) (views : List View) : Type 0 where
+pub record IsSeatOfPass (named id : TableId) (views : List View) : Type 0 where
   pub here : id ≡ named
   pub view_is : views ≡ seen (view_of views).rights (view_of views).tickets 1 (view_of views).number ∷ []
 
@@ -39,7 +39,7 @@ pub record PurseView : Type 0 where
 -- a purse's seat has no right, and the tickets and parts of the passes that it can still make
 pub record IsPurse (named id : TableId) (me : Me (Unit {0}) View) (made : ℕ) : Type 0 where
   pub here : id ≡ named
-  pub me_is : me ≡ (seen [] (most_workers - made) (65 - made) me.0.number, [])
+  pub me_is : me ≡ (seen [] (most_workers - made) (most_workers + 1 - made) me.0.number, [])
   pub few : made ≤ most_workers
 
 abbrev pub tickets_of : List Holding → ℕ

@@ -19,7 +19,7 @@ pub record IsReady (number room : ℕ) (pass : Holding) (entries : Listed) : Typ
   pub has_room : room ≤ entries.room
 
 -- the pass found the bag empty
-pub record IsDone (pass : Holding) : Type 0 where
+pub record IsSpent (pass : Holding) : Type 0 where
   pub no_right : pass.rights ≡ []
   pub spent : pass.tickets ≡ 0
 

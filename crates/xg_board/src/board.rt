@@ -5,7 +5,7 @@ ghost use Rattle.def_history.specs.History.{sum_over_jobs};
 ghost use Rattle.def_history.specs.Packets.{IsPacketOf};
 ghost use Rattle.xg_jobs.specs.Rows.{all_rows};
 ghost use Rattle.xg_rights.specs.Rights.{number_from, seen};
-ghost use Rattle.xg_locked.specs.Locked.{number_of, without};
+ghost use Rattle.xg_locked.specs.Locked.{number_met, without};
 ghost use Rattle.xg_board.specs.Boards.{IsBoard};
 ghost use Rattle.xg_board.specs.Holdings.{Holding, tickets_of};
 ghost use Rattle.xg_board.specs.Visits.{steps_to};
@@ -105,13 +105,13 @@ impl<N: RowName> RowBoard<N> {
     ) -> RightsSeat
         requires stripe { stripe < self.now.stripes }
         requires seat { (seat.table_id ≡ N.table)
-            × (seat.me ≡ (seen seat.me.0.rights seat.me.0.tickets 1 (number_of seat.me), [])) }
+            × (seat.me ≡ (seen seat.me.0.rights seat.me.0.tickets 1 (number_met seat.me), [])) }
         requires job { packet.now.job < N.jobs }
         requires packet { IsPacketOf N.amount N.rows packet.now.job packet.now.entries.list }
         requires right { 1 ≤ times_right packet.now.job stripe seat.me.0.rights }
         ensures table { result.table_id ≡ N.table }
         ensures seat { result.me
-            ≡ (seen (without packet.now.job stripe seat.me.0.rights) seat.me.0.tickets 1 (number_of seat.me), []) }
+            ≡ (seen (without packet.now.job stripe seat.me.0.rights) seat.me.0.tickets 1 (number_met seat.me), []) }
     {
         let mut locked = self.locked[stripe as usize].lock(rt);
         if locked.index() != stripe {

@@ -3,8 +3,8 @@ ghost use Rattle.def_sums.specs.Limits.{most_row};
 ghost use Rattle.def_history.specs.Core.{Right};
 ghost use Rattle.def_history.specs.Packets.{place_count as places_in};
 ghost use Rattle.xg_jobs.specs.Rows.{all_rows};
-ghost use Rattle.xg_rights.specs.Rights.{jobs_of, seen, stripes_of};
-ghost use Rattle.xg_locked.specs.Locked.{number_of};
+ghost use Rattle.xg_rights.specs.Rights.{job_count_of, seen, stripes_of};
+ghost use Rattle.xg_locked.specs.Locked.{number_met};
 ghost use Rattle.xg_board.specs.Closing.{AddsTotals, Gathered};
 ghost use Rattle.xg_board.specs.Holdings.{Holding, tickets_of};
 
@@ -23,13 +23,13 @@ pub(crate) fn take_passes<N: RowName>(
 )
     requires table { (table.now.table_id ≡ N.table) × (0 < N.table.words) }
     requires seat { (all.old.table_id ≡ N.table) × (all.old.me.1 ≡ []) × (0 < all.old.me.0.parts)
-        × (all.old.me.0.met ≡ number_of all.old.me) }
+        × (all.old.me.0.met ≡ number_met all.old.me) }
     requires no_rights { All (λ (p : Holding). p.rights ≡ []) passes.items }
     ensures table { all.new.table_id ≡ N.table }
     ensures view { all.new.me
         ≡ (
           seen all.old.me.0.rights (all.old.me.0.tickets + tickets_of passes.items)
-              (all.old.me.0.parts + length passes.items) (number_of all.old.me),
+              (all.old.me.0.parts + length passes.items) (number_met all.old.me),
           [],
         ) }
 {
@@ -47,7 +47,7 @@ fn take_pass<N: RowName>(table: &SharedRights, all: &mut RightsSeat, pass: Pass<
     ensures view { all.new.me
         ≡ (
           seen all.old.me.0.rights (all.old.me.0.tickets + pass.tickets) (all.old.me.0.parts + 1)
-              (number_of all.old.me),
+              (number_met all.old.me),
           [],
         ) }
 {
@@ -63,17 +63,17 @@ pub(crate) fn take_stripes<N: RowName>(
 )
     requires table { (table.now.table_id ≡ N.table) × (0 < N.table.words) }
     requires seat { (all.old.table_id ≡ N.table) × (all.old.me.1 ≡ []) × (0 < all.old.me.0.parts)
-        × (jobs_of (number_of all.old.me) ≡ N.jobs) × (all.old.me.0.met ≡ number_of all.old.me) }
+        × (job_count_of (number_met all.old.me) ≡ N.jobs) × (all.old.me.0.met ≡ number_met all.old.me) }
     requires zeros { (length (all_rows rows.old) ≡ N.rows)
         × ((row : ℕ) → row < N.rows → slice_index_or (all_rows rows.old) row (pos 0) ≡ pos 0) }
     ensures table { all.new.table_id ≡ N.table }
     ensures view { all.new.me
         ≡ (
           seen all.new.me.0.rights all.old.me.0.tickets (all.old.me.0.parts + vec_len stripes)
-              (number_of all.old.me),
+              (number_met all.old.me),
           [],
         ) }
-    ensures gathered { Gathered N.jobs N.rows (stripes_of (number_of all.old.me)) N.amount all.old.me.0.rights
+    ensures gathered { Gathered N.jobs N.rows (stripes_of (number_met all.old.me)) N.amount all.old.me.0.rights
         all.new.me.0.rights (all_rows rows.new) }
     ensures one { length rows.new.one ≡ length rows.old.one }
 {
@@ -91,16 +91,16 @@ fn take_stripe<N: RowName>(
 )
     requires table { (table.now.table_id ≡ N.table) × (0 < N.table.words) }
     requires seat { (all.old.table_id ≡ N.table) × (all.old.me.1 ≡ []) × (0 < all.old.me.0.parts)
-        × (jobs_of (number_of all.old.me) ≡ N.jobs) }
+        × (job_count_of (number_met all.old.me) ≡ N.jobs) }
     requires gathered { (start : List Right)
-        × Gathered N.jobs N.rows (stripes_of (number_of all.old.me)) N.amount start all.old.me.0.rights
+        × Gathered N.jobs N.rows (stripes_of (number_met all.old.me)) N.amount start all.old.me.0.rights
         (all_rows rows.old) }
     ensures table { all.new.table_id ≡ N.table }
     ensures view { all.new.me
-        ≡ (seen all.new.me.0.rights all.old.me.0.tickets (all.old.me.0.parts + 1) (number_of all.old.me), []) }
+        ≡ (seen all.new.me.0.rights all.old.me.0.tickets (all.old.me.0.parts + 1) (number_met all.old.me), []) }
     ensures gathered { (start : List Right)
-        → Gathered N.jobs N.rows (stripes_of (number_of all.old.me)) N.amount start all.old.me.0.rights
-        (all_rows rows.old) → Gathered N.jobs N.rows (stripes_of (number_of all.old.me)) N.amount start
+        → Gathered N.jobs N.rows (stripes_of (number_met all.old.me)) N.amount start all.old.me.0.rights
+        (all_rows rows.old) → Gathered N.jobs N.rows (stripes_of (number_met all.old.me)) N.amount start
         all.new.me.0.rights (all_rows rows.new) }
     ensures one { length rows.new.one ≡ length rows.old.one }
 {

@@ -4,7 +4,7 @@ ghost use Rattle.def_plan.specs.Form.{sequence_count};
 ghost use Rattle.def_rows.specs.Rows.{row_count};
 ghost use Rattle.xg_jobs.specs.Table.{IsTableOf};
 ghost use Rattle.xg_rights.specs.Rights.{number_from, seen, stripes_of};
-ghost use Rattle.xg_locked.specs.Locked.{number_of};
+ghost use Rattle.xg_locked.specs.Locked.{number_met};
 
 use crate::base::Base;
 use crate::board::RowBoard;
@@ -79,11 +79,11 @@ fn seated_stripes<N: RowName>(
 ) -> Result<Vec<Mutex<SeatedStripe<N>>>, AllocError>
     requires table { (table.now.table_id ≡ N.table) × (0 < N.table.words) × (seat.old.table_id ≡ N.table) }
     requires name { (rows ≡ N.rows) × (jobs ≡ N.jobs) }
-    requires stripes { stripes_of (number_of seat.old.me) ≡ stripes }
-    requires seat { seat.old.me ≡ (seen [] most_workers (stripes + 65) (number_of seat.old.me), []) }
+    requires stripes { stripes_of (number_met seat.old.me) ≡ stripes }
+    requires seat { seat.old.me ≡ (seen [] most_workers (stripes + (most_workers + 1)) (number_met seat.old.me), []) }
     ensures stripes { IfOk result (λ v. vec_len v ≡ stripes) }
     ensures table { IfOk result (λ v. seat.new.table_id ≡ N.table) }
-    ensures seat { IfOk result (λ v. seat.new.me ≡ (seen [] most_workers 65 (number_of seat.old.me), [])) }
+    ensures seat { IfOk result (λ v. seat.new.me ≡ (seen [] most_workers (most_workers + 1) (number_met seat.old.me), [])) }
 {
     let mut locked = Vec::new(alloc);
     for index in 0..stripes {

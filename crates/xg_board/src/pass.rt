@@ -1,6 +1,6 @@
 ghost use Rattle.std.specs.Prelude.{◌≡◌, []};
 ghost use Rattle.xg_rights.specs.Rights.{seen};
-ghost use Rattle.xg_locked.specs.Locked.{number_of};
+ghost use Rattle.xg_locked.specs.Locked.{number_met};
 
 use std::marker::{Model, PhantomData};
 use xg_rights::{RightsBadge, RightsSeat, View};
@@ -15,24 +15,24 @@ pub struct Pass<N: RowName> {
 }
 
 impl<N: RowName> Model for Pass<N> {
-    ghost use Rattle.xg_board.specs.Holdings.{IsPass, Holding, holding_of};
+    ghost use Rattle.xg_board.specs.Holdings.{IsSeatOfPass, Holding, holding_of};
 
     ghost Value = { Holding };
 
     ghost view = { λ p. holding_of p.worker p.badge.views };
 
-    ghost invariant = { λ p. IsPass N.table p.badge.table_id p.badge.views };
+    ghost invariant = { λ p. IsSeatOfPass N.table p.badge.table_id p.badge.views };
 }
 
 impl<N: RowName> Pass<N> {
     pub(crate) fn of(worker: u32, seat: RightsSeat) -> Pass<N>
         requires { (seat.table_id ≡ N.table)
-            × (seat.me ≡ (seen seat.me.0.rights seat.me.0.tickets 1 (number_of seat.me), [])) }
+            × (seat.me ≡ (seen seat.me.0.rights seat.me.0.tickets 1 (number_met seat.me), [])) }
         ensures { result ≡ record {
           worker = worker;
           rights = seat.me.0.rights;
           tickets = seat.me.0.tickets;
-          number = number_of seat.me;
+          number = number_met seat.me;
         } }
     {
         Pass {

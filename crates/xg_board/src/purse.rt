@@ -1,7 +1,7 @@
 ghost use Rattle.std.specs.Prelude.{◌≡◌, ◌<◌, ◌≤◌, ◌+◌, ◌-◌, []};
 ghost use Rattle.def_sums.specs.Limits.{most_workers};
 ghost use Rattle.xg_rights.specs.Rights.{seen};
-ghost use Rattle.xg_locked.specs.Locked.{number_of};
+ghost use Rattle.xg_locked.specs.Locked.{number_met};
 
 use std::marker::{Brand, Model, PhantomData};
 use xg_rights::{Cut, RightsSeat, SharedRights, View, cut};
@@ -27,8 +27,8 @@ impl<N: RowName> Model for Purse<N> {
 
 impl<N: RowName> Purse<N> {
     pub(crate) fn of(seat: RightsSeat) -> Purse<N>
-        requires { (seat.table_id ≡ N.table) × (seat.me ≡ (seen [] most_workers 65 (number_of seat.me), [])) }
-        ensures { result ≡ record { made = 0; number = number_of seat.me } }
+        requires { (seat.table_id ≡ N.table) × (seat.me ≡ (seen [] most_workers (most_workers + 1) (number_met seat.me), [])) }
+        ensures { result ≡ record { made = 0; number = number_met seat.me } }
     {
         Purse {
             made: 0,
@@ -52,7 +52,7 @@ impl<N: RowName> Purse<N> {
 
     pub(crate) fn into_seat(self) -> RightsSeat
         ensures table { result.table_id ≡ N.table }
-        ensures view { result.me ≡ (seen [] (most_workers - self.made) (65 - self.made) self.number, []) }
+        ensures view { result.me ≡ (seen [] (most_workers - self.made) (most_workers + 1 - self.made) self.number, []) }
         ensures few { self.made ≤ most_workers }
     {
         let Purse {
@@ -68,8 +68,8 @@ impl<N: RowName> Purse<N> {
 fn give_pass<C: Cut>(table: &SharedRights, seat: &mut RightsSeat) -> RightsSeat
     requires table { (seat.old.table_id ≡ table.now.table_id) × (0 < table.now.table_id.words) }
     requires rich { (1 ≤ seat.old.me.0.tickets) × (2 ≤ seat.old.me.0.parts) × (seat.old.me.0.rights ≡ []) }
-    requires kept { C.kept ≡ seen [] (seat.old.me.0.tickets - 1) (seat.old.me.0.parts - 1) (number_of seat.old.me) }
-    requires given { C.given ≡ seen [] 1 1 (number_of seat.old.me) }
+    requires kept { C.kept ≡ seen [] (seat.old.me.0.tickets - 1) (seat.old.me.0.parts - 1) (number_met seat.old.me) }
+    requires given { C.given ≡ seen [] 1 1 (number_met seat.old.me) }
     ensures kept { (seat.new.table_id ≡ seat.old.table_id) × (seat.new.me ≡ (C.kept, seat.old.me.1)) }
     ensures given { (result.table_id ≡ seat.old.table_id) × (result.me ≡ (C.given, [])) }
 {

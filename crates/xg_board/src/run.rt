@@ -5,7 +5,7 @@ ghost use Rattle.xg_jobs.specs.Rows.{AreNumbersOf, ArePlainSums};
 ghost use Rattle.xg_jobs.specs.Table.{IsTableOf, most_touched};
 ghost use Rattle.xg_rights.specs.Rights.{number_from};
 ghost use Rattle.xg_board.specs.Holdings.{Holding, tickets_of};
-ghost use Rattle.xg_board.specs.Running.{IsDone, IsReady, job_amounts};
+ghost use Rattle.xg_board.specs.Running.{IsSpent, IsReady, job_amounts};
 
 use crate::base::Base;
 use crate::board::RowBoard;
@@ -46,7 +46,7 @@ fn add_next<Rt: Threads + Wait + Sync, N: RowName, G: Gate>(
     ensures more { IsTrue result
         → IsReady (number_from board.now.jobs board.now.stripes) (most_touched jobs.now.touched) worker.new.pass
         worker.new.packet.entries }
-    ensures done { result ≡ false → IsDone worker.new.pass }
+    ensures done { result ≡ false → IsSpent worker.new.pass }
 {
     let Some(job) = board.draw(rt, &mut worker.pass) else {
         return false;
@@ -74,7 +74,7 @@ fn work<Rt: Threads + Wait + Sync, N: RowName, G: Gate>(
     requires amount { job_amounts input.now.form.now input.now.one.now input.now.two.now jobs.now.ranges ≡ N.amount }
     requires ready { IsReady (number_from board.now.jobs board.now.stripes) (most_touched jobs.now.touched)
         worker.old.pass worker.old.packet.entries }
-    ensures { IsDone worker.new.pass }
+    ensures { IsSpent worker.new.pass }
 {
     for _ in rt.forever() {
         if !add_next(rt, board, input, jobs, worker, gate) {
@@ -101,7 +101,7 @@ fn work_all<Rt: Threads + Wait + Sync, N: RowName + Send + Sync, G: Gate>(
     requires some { 0 < vec_len crew.old }
     requires ready { All (λ w. IsReady (number_from board.now.jobs board.now.stripes) (most_touched jobs.now.touched)
         w.pass w.packet.entries) crew.old.items }
-    ensures done { All (λ w. IsDone w.pass) crew.new.items }
+    ensures done { All (λ w. IsSpent w.pass) crew.new.items }
     ensures same { vec_len crew.new ≡ vec_len crew.old }
 {
     let count = crew.len();
@@ -118,7 +118,7 @@ fn work_all<Rt: Threads + Wait + Sync, N: RowName + Send + Sync, G: Gate>(
                 ≡ N.amount }
             requires ready { IsReady (number_from board.now.jobs board.now.stripes) (most_touched jobs.now.touched)
                 worker.old.pass worker.old.packet.entries }
-            ensures { IsDone worker.new.pass }
+            ensures { IsSpent worker.new.pass }
         { work(rt, board, input, jobs, worker, gate) },
     );
 }
@@ -153,7 +153,7 @@ fn make_crew<N: RowName>(
 // The passes of workers that are done.
 fn passes_of<N: RowName>(mut passes: Vec<Pass<N>>, crew: Vec<Worker<N>>) -> Vec<Pass<N>>
     requires room { (passes.items ≡ []) × (length crew.items ≤ vec_capacity passes) }
-    requires done { All (λ w. IsDone w.pass) crew.items }
+    requires done { All (λ w. IsSpent w.pass) crew.items }
     ensures count { length result.items ≡ length crew.items }
     ensures no_rights { All (λ (p : Holding). p.rights ≡ []) result.items }
     ensures spent { tickets_of result.items ≡ 0 }
@@ -167,7 +167,7 @@ fn passes_of<N: RowName>(mut passes: Vec<Pass<N>>, crew: Vec<Worker<N>>) -> Vec<
 // Keeps the pass of a worker that is done.
 fn keep_pass<N: RowName>(passes: &mut Vec<Pass<N>>, worker: Worker<N>)
     requires room { length passes.old.items < vec_capacity passes.old }
-    requires done { IsDone worker.pass }
+    requires done { IsSpent worker.pass }
     ensures count { (length passes.new.items ≡ length passes.old.items + 1)
         × (vec_capacity passes.new ≡ vec_capacity passes.old) }
     ensures no_rights { All (λ (p : Holding). p.rights ≡ []) passes.old.items

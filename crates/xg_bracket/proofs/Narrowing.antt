@@ -8,7 +8,7 @@ use Rattle.def_bracket.specs.Bracket.{LiesWithin, TraceLine as Line}
 use Rattle.def_bracket.specs.Offers.{KeptEnd, keep_lower, keep_upper}
 use Rattle.def_bracket.proofs.Compares.{at_most-trans, int_lt_tells, less_at_most}
 use Rattle.xg_bracket.specs.Board.{KeepsBoard}
-use Rattle.xg_bracket.specs.Ends.{end_after, kept_of, line_of, line_with}
+use Rattle.xg_bracket.specs.Ends.{end_after, kept_of, line_seen, line_with}
 use Rattle.xg_bracket.specs.declared.end.End.{End}
 use Rattle.xg_bracket.specs.declared.trace.TraceLine.{TraceLine}
 
@@ -98,19 +98,19 @@ module _ (lines : List TraceLine) (room capacity : ℕ) (lower upper lower' uppe
     (low : kept_of lower' ≡ keep_lower (end_after offers (kept_of lower)) next_lower)
     (high : kept_of upper' ≡ keep_upper (end_after offers (kept_of upper)) next_upper) where
   -- the new ends lie within each line
-  pub narrowed : (round : ℕ) → All (λ line. LiesWithin (line_with round lower' upper') line) (map line_of lines)
+  pub narrowed : (round : ℕ) → All (λ line. LiesWithin (line_with round lower' upper') line) (map line_seen lines)
   narrowed round k d there =
-      let some : 1 ≤ length lines = omega (arith, length-map lines line_of) in
+      let some : 1 ≤ length lines = omega (arith, length-map lines line_seen) in
       let rises : Rises (kept_of lower) (kept_of lower') =
       subst (Rises (kept_of lower)) (sym low) (lower_rises offers (kept_of lower) next_lower (omega arith)) in
       let falls : Falls (kept_of upper) (kept_of upper') =
       subst (Falls (kept_of upper)) (sym high) (upper_falls offers (kept_of upper) next_upper (omega arith)) in
-      narrower (get_or (map line_of lines) k d) lower upper lower' upper' round (b.lower_round some)
+      narrower (get_or (map line_seen lines) k d) lower upper lower' upper' round (b.lower_round some)
       (b.upper_round some) rises falls (b.narrows k d there)
 
   -- and the board is kept
   module _ (round room' : ℕ) (lines' : List TraceLine) (fewer : length lines < capacity) (as_much : room ≤ room')
-      (appended : map line_of lines' ≡ map line_of lines ++ line_with round lower' upper' ∷ [])
+      (appended : map line_seen lines' ≡ map line_seen lines ++ line_with round lower' upper' ∷ [])
       (of_lower : IsBounded next_lower) (of_upper : IsBounded next_upper) where
     old_lower : 1 ≤ offers → IsBounded (kept_of lower)
     old_lower some = record {
@@ -137,10 +137,10 @@ module _ (lines : List TraceLine) (room capacity : ℕ) (lower upper lower' uppe
         let line : Line = line_with round lower' upper' in
         omega (
           arith,
-          length-map lines' line_of,
+          length-map lines' line_seen,
           ap length appended,
-          length-append (map line_of lines) (line ∷ []),
-          length-map lines line_of,
+          length-append (map line_seen lines) (line ∷ []),
+          length-map lines line_seen,
         )
 
     itself : LiesWithin (line_with 0 lower' upper') (line_with round lower' upper')
@@ -163,5 +163,5 @@ module _ (lines : List TraceLine) (room capacity : ℕ) (lower upper lower' uppe
           upper_round = λ some. new_upper.some;
           narrows =
               subst (All W) (sym appended)
-              (All-push W (map line_of lines) (line_with round lower' upper') (narrowed 0) itself);
+              (All-push W (map line_seen lines) (line_with round lower' upper') (narrowed 0) itself);
         }

@@ -8,7 +8,7 @@ use Rattle.def_bracket.specs.Bracket.{LiesWithin, TraceLine as Line}
 use Rattle.def_bracket.specs.Offers.{Board, IsFair, Offer}
 use Rattle.xg_bracket.specs.declared.end.End.{End}
 use Rattle.xg_bracket.specs.declared.trace.TraceLine.{TraceLine}
-use Rattle.xg_bracket.specs.Ends.{IsEnd, end_after, kept_of, line_of, line_with}
+use Rattle.xg_bracket.specs.Ends.{IsEnd, end_after, kept_of, line_seen, line_with}
 
 -- how many sequences and sets each player has
 pub record FormSizes : Type 0 where
@@ -61,7 +61,7 @@ pub record MayBeOffered (board : SizedBoard) (offer : Offer) : Type 0 where
 abbrev pub sized_board : List TraceLine → ℕ → End → End → SizedBoard
 sized_board lines capacity lower upper = record {
   board = record {
-    trace = map line_of lines;
+    trace = map line_seen lines;
     lower = end_after (length lines) (kept_of lower);
     upper = end_after (length lines) (kept_of upper);
   };
@@ -82,4 +82,4 @@ pub record KeepsBoard (lines : List TraceLine) (room capacity : ℕ) (lower uppe
   pub upper_end : IsEnd upper
   pub lower_round : 1 ≤ length lines → 1 ≤ lower.round
   pub upper_round : 1 ≤ length lines → 1 ≤ upper.round
-  pub narrows : All (λ line. LiesWithin (line_with 0 lower upper) line) (map line_of lines)
+  pub narrows : All (λ line. LiesWithin (line_with 0 lower upper) line) (map line_seen lines)

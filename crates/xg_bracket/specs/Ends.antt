@@ -22,8 +22,8 @@ abbrev pub end_after : ℕ → KeptEnd → Option KeptEnd
 end_after zero end = None
 end_after (suc _) end = Some end
 
-abbrev pub line_of : TraceLine → Line
-line_of line = record {
+abbrev pub line_seen : TraceLine → Line
+line_seen line = record {
   round = line.round;
   low_round = line.low_round;
   low = line.low;

@@ -4,7 +4,7 @@ ghost use Rattle.std.specs.Option.{option_map};
 ghost use Rattle.def_bracket.specs.Bracket.{LiesWithin, TraceLine as Line};
 ghost use Rattle.def_bracket.specs.Offers.{new_board, offered};
 ghost use Rattle.xg_bracket.specs.Board.{MayBeOffered, offer_of, sizes_of};
-ghost use Rattle.xg_bracket.specs.Ends.{IsFreshEnd, line_of, line_with};
+ghost use Rattle.xg_bracket.specs.Ends.{IsFreshEnd, line_seen, line_with};
 
 use crate::end::{End, offer_lower, offer_upper};
 use crate::trace::TraceLine;
@@ -81,7 +81,7 @@ impl Board {
 
     /// A line for each offer.
     pub fn trace(&self) -> &[TraceLine]
-        ensures { map line_of result.now ≡ self.now.board.trace }
+        ensures { map line_seen result.now ≡ self.now.board.trace }
     {
         &self.trace
     }
@@ -129,8 +129,8 @@ fn new_end(alloc: Global, form: &SeqForm, player: Player, other: Player) -> Resu
 
 fn push_line(trace: &mut Vec<TraceLine>, round: u32, lower: &End, upper: &End)
     requires { vec_len trace.old < vec_capacity trace.old }
-    ensures lines { map line_of trace.new.items
-        ≡ map line_of trace.old.items ++ line_with round lower.now upper.now ∷ [] }
+    ensures lines { map line_seen trace.new.items
+        ≡ map line_seen trace.old.items ++ line_with round lower.now upper.now ∷ [] }
     ensures capacity { vec_capacity trace.old ≤ vec_capacity trace.new }
 {
     let line = TraceLine {

@@ -5,45 +5,46 @@ use Rattle.def_cert_verdict.specs.Certificate.{Certificate}
 use Rattle.def_cert_text.specs.declared.fault.CertFault.{CertFault}
 use Rattle.def_cert_text.specs.CertText.{cert_in, cert_text}
 use Rattle.def_cert_text.specs.FirstFault.{FirstCertFault}
-use Rattle.def_cert_text.specs.Laws.{ReadingIsExact, FirstFaultDecides}
+use Rattle.def_cert_text.specs.Laws.{CertificateReadingIsExact, FirstFaultDecides}
 use Rattle.xg_cert.specs.declared.refused.CertRefused.{CertRefused}
 use Rattle.xg_cert.specs.declared.refused.CertRefused.TheVariants.{Cert, NoMemory}
-use Rattle.xg_cert.specs.Answers.{Answers}
+use Rattle.xg_cert.specs.Answers.{AnswersCertificate}
 
-same_answer : {X : Type 0} (result : Result X CertRefused) (a b : Result X CertFault) → a ≡ b → Answers result a
-    → Answers result b
+same_answer : {X : Type 0} (result : Result X CertRefused) (a b : Result X CertFault) → a ≡ b
+    → AnswersCertificate result a
+    → AnswersCertificate result b
 same_answer (Ok x) a b same e = sym same ∙ e
 same_answer (Err (Cert fault)) a b same e = sym same ∙ e
 same_answer (Err NoMemory) a b same e = e
 
-pub answer_fits : ReadingIsExact → (bytes : List ℕ) (result : Result Certificate CertRefused)
-    → Answers result (cert_in bytes)
+pub answer_fits : CertificateReadingIsExact → (bytes : List ℕ) (result : Result Certificate CertRefused)
+    → AnswersCertificate result (cert_in bytes)
     → IfOk result CertificateFits
 answer_fits law bytes (Ok c) e = ((law bytes c).0 e).0
 answer_fits law bytes (Err refused) e = tt
 
 -- where reading is exact, the bytes are the text of the certificate that is answered
-pub answer_text : ReadingIsExact → (bytes : List ℕ) (result : Result Certificate CertRefused)
-    → Answers result (cert_in bytes)
+pub answer_text : CertificateReadingIsExact → (bytes : List ℕ) (result : Result Certificate CertRefused)
+    → AnswersCertificate result (cert_in bytes)
     → IfOk result (λ c. bytes ≡ cert_text c)
 answer_text law bytes (Ok c) e = ((law bytes c).0 e).1
 answer_text law bytes (Err refused) e = tt
 
 -- where reading is exact, the text of a certificate within its ranges is answered by that one, memory apart
-pub answer_only : ReadingIsExact → (bytes : List ℕ) (result : Result Certificate CertRefused)
-    → Answers result (cert_in bytes)
-    → (c : Certificate) → CertificateFits c → bytes ≡ cert_text c → Answers result (Ok c)
+pub answer_only : CertificateReadingIsExact → (bytes : List ℕ) (result : Result Certificate CertRefused)
+    → AnswersCertificate result (cert_in bytes)
+    → (c : Certificate) → CertificateFits c → bytes ≡ cert_text c → AnswersCertificate result (Ok c)
 answer_only law bytes result e c fits text = same_answer result (cert_in bytes) (Ok c) ((law bytes c).1 (fits, text)) e
 
 -- where reading stops at the first fault, a fault of the bytes that is answered is that one
 pub answer_first : FirstFaultDecides → (bytes : List ℕ) (result : Result Certificate CertRefused)
-    → Answers result (cert_in bytes)
+    → AnswersCertificate result (cert_in bytes)
     → (fault : CertFault) → result ≡ Err (Cert fault) → FirstCertFault bytes fault
 answer_first law bytes result e fault same =
-    (law bytes fault).0 (subst (λ (r : Result Certificate CertRefused). Answers r (cert_in bytes)) same e)
+    (law bytes fault).0 (subst (λ (r : Result Certificate CertRefused). AnswersCertificate r (cert_in bytes)) same e)
 
 -- where reading stops at the first fault, that one is answered, memory apart
 pub answer_faults : FirstFaultDecides → (bytes : List ℕ) (result : Result Certificate CertRefused)
-    → Answers result (cert_in bytes)
-    → (fault : CertFault) → FirstCertFault bytes fault → Answers result (Err fault)
+    → AnswersCertificate result (cert_in bytes)
+    → (fault : CertFault) → FirstCertFault bytes fault → AnswersCertificate result (Err fault)
 answer_faults law bytes result e fault first = same_answer result (cert_in bytes) (Err fault) ((law bytes fault).1 first) e

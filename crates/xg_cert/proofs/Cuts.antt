@@ -3,13 +3,13 @@ use Rattle.std.proofs.Common.{◌≡◌, ℕ, zero, suc, ◌+◌, ◌-◌, ◌�
 use Rattle.std.proofs.Math.Seq.{drop-length, drop-append_seam, take-length}
 use Rattle.std.proofs.lemmas.List.{drop-drop, take-append-drop, drop-append-le, take-append-le, length-drop, length-append}
 use Rattle.def_cert_verdict.specs.Certificate.{joined, printed_numbers}
-use Rattle.xg_cert.specs.Printed.{cut_at, AreStarts, IsPlanOf, plan_of}
+use Rattle.xg_cert.specs.Printed.{cut_at, AreStartsUpTo, IsPlanOf, plan_of}
 
-first_at_most : (start : ℕ) (starts : List ℕ) (size : ℕ) → AreStarts (start ∷ starts) size → start ≤ size
+first_at_most : (start : ℕ) (starts : List ℕ) (size : ℕ) → AreStartsUpTo (start ∷ starts) size → start ≤ size
 first_at_most start [] size rise = omega (arith, rise)
 first_at_most start (next ∷ starts) size rise = omega (arith, rise.0, first_at_most next starts size rise.1)
 
-joined_from : (start : ℕ) (starts numbers : List ℕ) → AreStarts (start ∷ starts) (length numbers)
+joined_from : (start : ℕ) (starts numbers : List ℕ) → AreStartsUpTo (start ∷ starts) (length numbers)
     → joined (cut_at (start ∷ starts) numbers) ≡ drop start numbers
 joined_from start [] numbers rise = sym (drop-length numbers) ∙ ap (λ n. drop n numbers) (sym rise)
 joined_from start (next ∷ starts) numbers rise =
@@ -39,7 +39,7 @@ pub record IsGroup (starts numbers : List ℕ) (k from to : ℕ) : Type 0 where
   pub within : to ≤ length numbers
   pub group : take (to - from) (drop from numbers) ≡ slice_index_or (cut_at starts numbers) k []
 
-group_from : (starts numbers : List ℕ) (k from to : ℕ) → AreStarts starts (length numbers) → suc k < length starts
+group_from : (starts numbers : List ℕ) (k from to : ℕ) → AreStartsUpTo starts (length numbers) → suc k < length starts
     → from ≡ get_or starts k from → to ≡ get_or starts (suc k) to → IsGroup starts numbers k from to
 group_from [] numbers k from to rise there a b = absurd (omega (arith, there))
 group_from (start ∷ []) numbers k from to rise there a b = absurd (omega (arith, there))
@@ -55,20 +55,21 @@ group_from (start ∷ next ∷ starts) numbers (suc k) from to rise there a b =
     record { rise = g.rise; within = g.within; group = g.group }
 
 -- the group of a number from 1
-pub group_at : (starts numbers : List ℕ) (k from to : ℕ) → AreStarts starts (length numbers) → 1 ≤ k → k < length starts
+pub group_at : (starts numbers : List ℕ) (k from to : ℕ) → AreStartsUpTo starts (length numbers) → 1 ≤ k
+    → k < length starts
     → from ≡ get_or starts (k - 1) from → to ≡ get_or starts k to → IsGroup starts numbers (k - 1) from to
 group_at starts numbers k from to rise one there a b =
     let next : k ≡ suc (k - 1) = omega (arith, one) in
     group_from starts numbers (k - 1) from to rise (omega (arith, one, there)) a (b ∙ ap (λ (n : ℕ). get_or starts n to) next)
 
 -- ---- a group more
-pub starts_grow : (starts : List ℕ) (size more : ℕ) → AreStarts starts size
-    → AreStarts (starts ++ (size + more) ∷ []) (size + more)
+pub starts_grow : (starts : List ℕ) (size more : ℕ) → AreStartsUpTo starts size
+    → AreStartsUpTo (starts ++ (size + more) ∷ []) (size + more)
 starts_grow [] size more rise = absurd rise
 starts_grow (start ∷ []) size more rise = (omega (arith, rise), refl)
 starts_grow (start ∷ next ∷ starts) size more rise = (rise.0, starts_grow (next ∷ starts) size more rise.1)
 
-pub cut_grows : (starts numbers row : List ℕ) → AreStarts starts (length numbers)
+pub cut_grows : (starts numbers row : List ℕ) → AreStartsUpTo starts (length numbers)
     → cut_at (starts ++ (length numbers + length row) ∷ []) (numbers ++ row) ≡ cut_at starts numbers ++ row ∷ []
 cut_grows [] numbers row rise = absurd rise
 cut_grows (start ∷ []) numbers row rise =
@@ -93,7 +94,7 @@ first_stays : (xs ys : List ℕ) → 1 ≤ length xs → get_or (xs ++ ys) 0 0 �
 first_stays [] ys some = absurd (omega (arith, some))
 first_stays (x ∷ xs) ys some = refl
 
-some_start : (starts : List ℕ) (size : ℕ) → AreStarts starts size → 1 ≤ length starts
+some_start : (starts : List ℕ) (size : ℕ) → AreStartsUpTo starts size → 1 ≤ length starts
 some_start [] size rise = absurd rise
 some_start (start ∷ starts) size rise = omega arith
 

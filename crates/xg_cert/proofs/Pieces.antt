@@ -9,7 +9,7 @@ use Rattle.def_cert_text.specs.Fields.{items_text}
 use Rattle.def_cert_text.specs.Formats.{Format, text_of, each_items}
 use Rattle.def_cert_text.specs.CertText.{line_of_round, round_of_evaluation, trace_lines, plan_lines, reply_lines, bounds_text, cert_text, head_text, asked_text, first_text, last_text}
 use Rattle.def_cert_text.proofs.TextLines.{text_lines}
-use Rattle.xg_cert.specs.Writable.{opening, end_text, bracket_text, ends_text, below_text, above_text}
+use Rattle.xg_cert.specs.Writable.{opening_line, end_text, bracket_text, ends_text, below_text, above_text}
 
 each_same : {A : Type 0} (f g : ℕ → Format A) → ((k : ℕ) (x : A) → (f k).items x ≡ (g k).items x)
     → (k : ℕ) (xs : List A)
@@ -40,7 +40,7 @@ apart xs ys zs rest = ap (λ (bs : List ℕ). xs ++ bs) (sym (append_assoc ys zs
 pub pieces : (form : SequenceForm) (head : Head) (lines : List TraceLine) (ends : Option OutcomeEnds)
     → above_text head ++ (below_text form head.unit lines ends ++ last_text)
     ≡ cert_text (certificate_of form (record { head = head; trace = lines; ends = ends }))
-unfolding opening
+unfolding opening_line
 pieces form head lines None = sym (text_lines.head_alone head ∙ apart first_text (head_text head) (asked_text head) last_text)
 pieces form head lines (Some ends) =
     sym (text_lines.with_bounds head (printed_bounds form head.unit lines ends)

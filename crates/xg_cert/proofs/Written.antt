@@ -1,46 +1,17 @@
 -- Texts that are written in pieces.
-use Rattle.std.proofs.Common.{◌≡◌, ℕ, zero, suc, ◌+◌, ◌<◌, ◌≤◌, min, List, [], ◌∷◌, ◌++◌, map, length, take, drop, get_or, Option, Result, Ok, Err, refl, sym, ap, ◌∙◌, subst, append_assoc, arith}
+use Rattle.std.proofs.Common.{◌≡◌, ℕ, zero, suc, ◌+◌, ◌<◌, ◌≤◌, List, [], ◌∷◌, ◌++◌, map, length, drop, get_or, Option, Result, refl, sym, ap, ◌∙◌, subst, append_assoc, arith}
 use Rattle.std.specs.Fmt.{decimal}
 use Rattle.std.specs.Io.KnownBytes.{append_known}
-use Rattle.std.proofs.Math.Seq.{take-append-add}
-use Rattle.std.proofs.lemmas.List.{append-nil, take-append-le, take_min}
-use Rattle.def_outside.specs.Sinks.{AppendsPrefix}
-use Rattle.xg_io.proofs.Known.{append_known-append, append_known-nil}
+use Rattle.std.proofs.lemmas.List.{drop_more}
+use Rattle.def_outside.specs.Sinks.{AppendsPrefix, Writes}
+use Rattle.xg_io.proofs.Known.{Progress, whole}
+use Rattle.xg_io.proofs.Pieces.{prefix_first, then_rest, goes_on, fails}
 use Rattle.def_cert_text.specs.Fields.{space, feed, FieldKind, Item, field, separator, items_text}
 use Rattle.def_cert_text.proofs.FormatLaws.{items_text-append}
 use Rattle.def_bracket.specs.Outcome.{Head}
 use Rattle.def_cert_text.specs.Formats.{Format, text_of, each_items, row_items}
 use Rattle.def_cert_text.specs.CertText.{size_line, sets_line, sequences_line, unit_line, mass_line, head_text}
-use Rattle.xg_cert.specs.Writes.{Writes, field_text, counts_text, units_text}
-
--- a front of the first piece is a front of the whole
-pub prefix_first : (before now : Option (List ℕ)) (xs ys : List ℕ)
-    → AppendsPrefix before now xs → AppendsPrefix before now (xs ++ ys)
-prefix_first before now xs ys p =
-    let few = min p.count (length xs) in
-    let short : take few (xs ++ ys) ≡ take p.count xs =
-    take-append-le few xs ys (omega arith) ∙ take_min p.count xs in
-    record { count = few; appended = p.appended ∙ ap (append_known before) (sym short) }
-
--- the first piece, and a front of the rest
-pub prefix_then : (before middle now : Option (List ℕ)) (xs ys : List ℕ)
-    → middle ≡ append_known before xs → AppendsPrefix middle now ys → AppendsPrefix before now (xs ++ ys)
-prefix_then before middle now xs ys e p = record {
-  count = length xs + p.count;
-  appended = p.appended ∙ ap (λ (known : Option (List ℕ)). append_known known (take p.count ys)) e
-      ∙ append_known-append before xs (take p.count ys) ∙ ap (append_known before) (sym (take-append-add xs ys p.count));
-}
-
-whole_then : (before middle now : Option (List ℕ)) (xs ys : List ℕ)
-    → middle ≡ append_known before xs → now ≡ append_known middle ys → now ≡ append_known before (xs ++ ys)
-whole_then before middle now xs ys e f =
-    f ∙ ap (λ (known : Option (List ℕ)). append_known known ys) e ∙ append_known-append before xs ys
-
--- the first piece, and then the rest, written or not
-pub then_rest : {T E : Type 0} (before middle now : Option (List ℕ)) (xs ys : List ℕ) (r : Result T E)
-    → middle ≡ append_known before xs → Writes middle now ys r → Writes before now (xs ++ ys) r
-then_rest before middle now xs ys (Ok x) e w = whole_then before middle now xs ys e w
-then_rest before middle now xs ys (Err x) e w = prefix_then before middle now xs ys e w
+use Rattle.xg_cert.specs.Writes.{field_text, counts_text, units_text}
 
 -- ---- items
 
@@ -107,58 +78,12 @@ head-parts head =
 
 -- ---- loops
 
--- of a whole text some is written and some is left
-pub record Progress (before now : Option (List ℕ)) (all left : List ℕ) : Type 0 where
-  pub front : List ℕ
-  pub written : now ≡ append_known before front
-  pub parts : front ++ left ≡ all
-
--- a piece more is written
-pub goes_on : (before middle now : Option (List ℕ)) (all left piece rest : List ℕ)
-    → Progress before middle all left → left ≡ piece ++ rest → now ≡ append_known middle piece
-    → Progress before now all rest
-goes_on before middle now all left piece rest p e w = record {
-  front = p.front ++ piece;
-  written = whole_then before middle now p.front piece p.written w;
-  parts = append_assoc p.front piece rest ∙ ap (λ (ys : List ℕ). p.front ++ ys) (sym e) ∙ p.parts;
-}
-
--- a piece failed
-pub fails : (before middle now : Option (List ℕ)) (all left piece rest : List ℕ)
-    → Progress before middle all left → left ≡ piece ++ rest → AppendsPrefix middle now piece
-    → AppendsPrefix before now all
-fails before middle now all left piece rest p e w =
-    subst (AppendsPrefix before now) (ap (λ (ys : List ℕ). p.front ++ ys) (sym e) ∙ p.parts)
-    (prefix_then before middle now p.front (piece ++ rest) p.written (prefix_first middle now piece rest w))
-
--- nothing is left
-pub finished : (before now : Option (List ℕ)) (all : List ℕ) → Progress before now all []
-    → now ≡ append_known before all
-finished before now all p = p.written ∙ ap (append_known before) (sym (append-nil p.front) ∙ p.parts)
-
--- the last piece, written or not
-pub finishes : {T E : Type 0} (before middle now : Option (List ℕ)) (all left : List ℕ) (r : Result T E)
-    → Progress before middle all left → Writes middle now left r → Writes before now all r
-finishes before middle now all left (Ok x) p w =
-    whole_then before middle now p.front left p.written w ∙ ap (append_known before) p.parts
-finishes before middle now all left (Err x) p w =
-    subst (AppendsPrefix before now) p.parts (prefix_then before middle now p.front left p.written w)
-
--- nothing is written yet
-pub begin : (known : Option (List ℕ)) (all : List ℕ) → Progress known known all all
-begin known all = record { front = []; written = sym (append_known-nil known); parts = refl }
-
-drop_next : {A : Type 0} (xs : List A) (i : ℕ) (d : A) → i < length xs → drop i xs ≡ get_or xs i d ∷ drop (i + 1) xs
-drop_next [] i d lt = absurd (omega arith)
-drop_next (x ∷ xs) zero d lt = refl
-drop_next (x ∷ xs) (suc i) d lt = let e : suc i + 1 ≡ suc (i + 1) = omega arith in rw e (drop_next xs i d (omega arith))
-
 each_left : {A : Type 0} (f : ℕ → Format A) (k : ℕ) (xs : List A) (i : ℕ) (d : A) → i < length xs
     → items_text (each_items f k (drop i xs))
     ≡ text_of (f k) (get_or xs i d) ++ items_text (each_items f (k + 1) (drop (i + 1) xs))
 unfolding each_items
 each_left f k xs i d lt =
-    ap (λ ys. items_text (each_items f k ys)) (drop_next xs i d lt)
+    ap (λ ys. items_text (each_items f k ys)) (drop_more xs i d lt)
     ∙ items_text-append ((f k).items (get_or xs i d)) (each_items f (k + 1) (drop (i + 1) xs))
 
 each_all : {A : Type 0} (f : ℕ → Format A) (k : ℕ) (xs : List A) (i : ℕ) → length xs ≤ i
@@ -192,8 +117,7 @@ pub each_end : {A : Type 0} (f : ℕ → Format A) (before now : Option (List �
     → Progress before now (items_text (each_items f 1 xs)) (items_text (each_items f (i + 1) (drop i xs)))
     → now ≡ append_known before (items_text (each_items f 1 xs))
 each_end f before now xs i le p =
-    finished before now (items_text (each_items f 1 xs))
-    (subst (Progress before now (items_text (each_items f 1 xs))) (each_all f (i + 1) xs i le) p)
+    whole before now (items_text (each_items f 1 xs)) _ p (each_all f (i + 1) xs i le)
 
 -- reading a mapped list
 pub get_or-map : {A B : Type 0} (f : A → B) (xs : List A) (i : ℕ) (d : A)

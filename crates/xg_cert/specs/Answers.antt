@@ -11,9 +11,9 @@ Fails (Cert fault) read = read ≡ Err fault
 Fails NoMemory read = ⊤
 
 -- the value or the fault that reading gives, memory apart
-abbrev pub Answers : {X : Type 0} → Result X CertRefused → Result X CertFault → Type 0
-Answers (Ok x) read = read ≡ Ok x
-Answers (Err refused) read = Fails refused read
+abbrev pub AnswersCertificate : {X : Type 0} → Result X CertRefused → Result X CertFault → Type 0
+AnswersCertificate (Ok x) read = read ≡ Ok x
+AnswersCertificate (Err refused) read = Fails refused read
 
 -- the same of a value seen by `view`
 abbrev pub AnswersAs : {X Y : Type 0} → (X → Y) → Result X CertRefused → Result Y CertFault → Type 0
@@ -21,9 +21,10 @@ AnswersAs view (Ok x) read = read ≡ Ok (view x)
 AnswersAs view (Err refused) read = Fails refused read
 
 -- a value, seen by `view`, and the bytes behind it
-abbrev pub GivesFor : {X Y : Type 0} → (X → Y) → Result X CertRefused → List ℕ → Result (Y × List ℕ) CertFault → Type 0
-GivesFor view (Ok x) left read = read ≡ Ok (view x, left)
-GivesFor view (Err refused) left read = Fails refused read
+abbrev pub GivesValueFor : {X Y : Type 0} → (X → Y) → Result X CertRefused → List ℕ → Result (Y × List ℕ) CertFault
+    → Type 0
+GivesValueFor view (Ok x) left read = read ≡ Ok (view x, left)
+GivesValueFor view (Err refused) left read = Fails refused read
 
 -- what is read, behind what was there before
 abbrev pub behind_front : {A : Type 0} → List A → Result (List A × List ℕ) CertFault

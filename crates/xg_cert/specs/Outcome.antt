@@ -34,17 +34,17 @@ line_of row = record {
 abbrev pub trace_of : List TraceRow → List TraceLine
 trace_of rows = map line_of rows
 
-abbrev pub end_of : End → kept.End
-end_of end = record { plan = end.plan; reply = end.reply.reply }
+abbrev pub end_seen : End → kept.End
+end_seen end = record { plan = end.plan; reply = end.reply.reply }
 
-abbrev pub ends_of : Option (End × End) → Option kept.OutcomeEnds
-ends_of None = None
-ends_of (Some ends) = Some (record { lower = end_of ends.0; upper = end_of ends.1 })
+abbrev pub ends_seen : Option (End × End) → Option kept.OutcomeEnds
+ends_seen None = None
+ends_seen (Some ends) = Some (record { lower = end_seen ends.0; upper = end_seen ends.1 })
 
 -- the same of borrowed ends
 abbrev pub shown_ends : Option (Bor End × Bor End) → Option kept.OutcomeEnds
 shown_ends None = None
-shown_ends (Some ends) = Some (record { lower = end_of ends.0.now; upper = end_of ends.1.now })
+shown_ends (Some ends) = Some (record { lower = end_seen ends.0.now; upper = end_seen ends.1.now })
 
-abbrev pub outcome_of : Head → List TraceRow → Option (End × End) → kept.Outcome
-outcome_of head trace ends = record { head = head_of head; trace = trace_of trace; ends = ends_of ends }
+abbrev pub outcome_seen : Head → List TraceRow → Option (End × End) → kept.Outcome
+outcome_seen head trace ends = record { head = head_of head; trace = trace_of trace; ends = ends_seen ends }

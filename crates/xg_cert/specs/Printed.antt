@@ -13,15 +13,15 @@ cut_at (start ∷ []) numbers = []
 cut_at (start ∷ next ∷ starts) numbers = take (next - start) (drop start numbers) ∷ cut_at (next ∷ starts) numbers
 
 -- the starts rise, and the last one is where the numbers end
-abbrev pub AreStarts : List ℕ → ℕ → Type 0
-AreStarts [] size = ⊥
-AreStarts (start ∷ []) size = start ≡ size
-AreStarts (start ∷ next ∷ starts) size = (start ≤ next) × AreStarts (next ∷ starts) size
+abbrev pub AreStartsUpTo : List ℕ → ℕ → Type 0
+AreStartsUpTo [] size = ⊥
+AreStartsUpTo (start ∷ []) size = start ≡ size
+AreStartsUpTo (start ∷ next ∷ starts) size = (start ≤ next) × AreStartsUpTo (next ∷ starts) size
 
 -- the root stands before the first set's numbers
 pub record IsPlanOf (numbers starts : List ℕ) : Type 0 where
   pub first : slice_index_or starts 0 0 ≡ 1
-  pub rise : AreStarts starts (length numbers)
+  pub rise : AreStartsUpTo starts (length numbers)
   pub root : 1 ≤ length numbers
 
 abbrev pub plan_of : List ℕ → List ℕ → PrintedPlan

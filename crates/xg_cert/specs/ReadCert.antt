@@ -25,8 +25,8 @@ abbrev pub bounds_where_given : Option BoundsLines → Option PrintedBounds
 bounds_where_given None = None
 bounds_where_given (Some b) = Some (bounds_of b)
 
-abbrev pub certificate_of : Head → Option BoundsLines → Certificate
-certificate_of head bounds = record { head = head_of head; bounds = bounds_where_given bounds }
+abbrev pub certificate_read : Head → Option BoundsLines → Certificate
+certificate_read head bounds = record { head = head_of head; bounds = bounds_where_given bounds }
 
 -- the parts of lines
 abbrev pub asked_of : Asked → (ℕ × (ℕ × ℕ))

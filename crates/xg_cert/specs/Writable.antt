@@ -43,8 +43,8 @@ abbrev pub below_text : SequenceForm → ℕ → List TraceLine → Option Outco
 below_text form unit lines None = []
 below_text form unit lines (Some ends) = ends_text form unit lines ends.lower ends.upper
 
-unfoldable pub opening : List ℕ
-opening = first_text
+unfoldable pub opening_line : List ℕ
+opening_line = first_text
 
 abbrev pub above_text : Head → List ℕ
-above_text head = opening ++ (head_text head ++ asked_text head)
+above_text head = opening_line ++ (head_text head ++ asked_text head)

@@ -1,17 +1,10 @@
 -- What a writer does.
-use Rattle.std.specs.Prelude.{◌≡◌, ℕ, List, [], ◌∷◌, ◌++◌, Option, Result, Ok, Err}
-use Rattle.std.specs.Io.KnownBytes.{append_known}
+use Rattle.std.specs.Prelude.{ℕ, List, [], ◌∷◌, ◌++◌}
 use Rattle.std.specs.Fmt.{decimal}
-use Rattle.def_outside.specs.Sinks.{AppendsPrefix}
 use Rattle.def_bracket.specs.Outcome.{Head}
 use Rattle.def_cert_text.specs.Fields.{space, fixed_word, number, field, separator, items_text}
 use Rattle.def_cert_text.specs.Formats.{text_of}
 use Rattle.def_cert_text.specs.CertText.{size_line, sets_line, sequences_line, unit_line, mass_line}
-
--- the whole text was appended, or a front of it where the sink failed
-abbrev pub Writes : {T E : Type 0} → Option (List ℕ) → Option (List ℕ) → List ℕ → Result T E → Type 0
-Writes before now text (Ok _) = now ≡ append_known before text
-Writes before now text (Err _) = AppendsPrefix before now text
 
 -- a field and its separator
 unfoldable pub field_text : List ℕ → ℕ → List ℕ

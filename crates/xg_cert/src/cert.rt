@@ -39,13 +39,13 @@ pub struct Cert {
 impl Model for Cert {
     ghost use Rattle.def_cert_ranges.specs.Ranges.{CertificateFits};
     ghost use Rattle.def_cert_verdict.specs.Certificate.{Certificate};
-    ghost use Rattle.xg_cert.specs.ReadCert.{certificate_of};
+    ghost use Rattle.xg_cert.specs.ReadCert.{certificate_read};
 
     ghost Value = { Certificate };
 
-    ghost view = { λ c. certificate_of c.head c.bounds };
+    ghost view = { λ c. certificate_read c.head c.bounds };
 
-    ghost invariant = { λ c. CertificateFits (certificate_of c.head c.bounds) };
+    ghost invariant = { λ c. CertificateFits (certificate_read c.head c.bounds) };
 }
 
 impl Cert {

@@ -6,8 +6,8 @@ ghost use Rattle.def_cert_text.specs.Fields.{space, feed, fixed_word, number, fi
 ghost use Rattle.def_cert_text.specs.Formats.{text_of};
 ghost use Rattle.def_cert_text.specs.CertText.{asked_text, bracket_line, last_text, line_of_round, value_line};
 ghost use Rattle.xg_cert.specs.Outcome.{head_of, line_of};
-ghost use Rattle.xg_cert.specs.Writable.{opening};
-ghost use Rattle.xg_cert.specs.Writes.{Writes};
+ghost use Rattle.xg_cert.specs.Writable.{opening_line};
+ghost use Rattle.def_outside.specs.Sinks.{Writes};
 
 use crate::fields::{put_field, put_fraction, put_signed, put_whole};
 use crate::head::Head;
@@ -16,9 +16,9 @@ use crate::outcome::TraceRow;
 use xg_frac::Ratio;
 use xg_io::{Sink, WriteFault, write_all};
 
-#[tactic(auto, unfolding(crate::specs::Writable::opening))]
+#[tactic(auto, unfolding(crate::specs::Writable::opening_line))]
 pub(crate) fn put_first_line<O: Sink>(out: &mut O) -> Result<(), WriteFault>
-    ensures text { Writes (O.written out.old) (O.written out.new) opening result }
+    ensures text { Writes (O.written out.old) (O.written out.new) opening_line result }
     ensures cause { HasCause (O.faults out.old) (O.faults out.new) result }
 {
     write_all(out, b"XGCERT 1\n")

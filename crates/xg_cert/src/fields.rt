@@ -3,14 +3,15 @@ ghost use Rattle.std.specs.Prelude.{◌≡◌};
 ghost use Rattle.std.specs.Fmt.{decimal, signed_decimal};
 ghost use Rattle.def_outside.specs.Cause.{HasCause};
 ghost use Rattle.def_fraction.specs.Text.{fraction_text};
-ghost use Rattle.xg_cert.specs.Writes.{Writes, field_text};
+ghost use Rattle.def_outside.specs.Sinks.{Writes};
+ghost use Rattle.xg_cert.specs.Writes.{field_text};
 
 use itoa::Buffer;
 use xg_frac::{Ratio, put_int, put_ratio};
 use xg_io::{Sink, WriteFault, write_all};
 
 /// Any bytes.
-#[tactic(auto, using(crate::proofs::Written::prefix_first, crate::proofs::Written::then_rest), unfolding(crate::specs::Writes::field_text))]
+#[tactic(auto, using(xg_io::proofs::Pieces::prefix_first, xg_io::proofs::Pieces::then_rest), unfolding(crate::specs::Writes::field_text))]
 pub(crate) fn put_field<O: Sink>(field: &[u8], separator: u8, out: &mut O) -> Result<(), WriteFault>
     ensures text { Writes (O.written out.old) (O.written out.new) (field_text field.now separator) result }
     ensures cause { HasCause (O.faults out.old) (O.faults out.new) result }
@@ -38,7 +39,7 @@ pub(crate) fn put_signed<O: Sink>(n: i128, separator: u8, out: &mut O) -> Result
 }
 
 /// A fraction.
-#[tactic(auto, using(crate::proofs::Written::prefix_first, crate::proofs::Written::then_rest), unfolding(crate::specs::Writes::field_text))]
+#[tactic(auto, using(xg_io::proofs::Pieces::prefix_first, xg_io::proofs::Pieces::then_rest), unfolding(crate::specs::Writes::field_text))]
 pub(crate) fn put_fraction<O: Sink>(r: Ratio, separator: u8, out: &mut O) -> Result<(), WriteFault>
     ensures text { Writes (O.written out.old) (O.written out.new) (field_text (fraction_text r) separator) result }
     ensures cause { HasCause (O.faults out.old) (O.faults out.new) result }

@@ -3,12 +3,12 @@ ghost use Rattle.std.specs.Prelude.{◌≡◌, ◌++◌, [], ◌∷◌, OnOk, On
 ghost use Rattle.std.specs.Fmt.{decimal};
 ghost use Rattle.std.specs.Io.KnownBytes.{append_known};
 ghost use Rattle.def_outside.specs.Cause.{HasCause};
-ghost use Rattle.def_outside.specs.Sinks.{AppendsPrefix};
+ghost use Rattle.def_outside.specs.Sinks.{AppendsPrefix, Writes};
 ghost use Rattle.def_cert_text.specs.Fields.{space, feed, fixed_word, number, field, separator, items_text};
 ghost use Rattle.def_cert_text.specs.Formats.{text_of};
 ghost use Rattle.def_cert_text.specs.CertText.{head_text, size_line};
 ghost use Rattle.xg_cert.specs.Outcome.{head_of};
-ghost use Rattle.xg_cert.specs.Writes.{Writes, counts_text, named_text, units_text};
+ghost use Rattle.xg_cert.specs.Writes.{counts_text, named_text, units_text};
 
 use crate::fields::{put_field, put_whole};
 use crate::head::Head;
@@ -31,7 +31,7 @@ pub(crate) fn put_head<O: Sink>(head: &Head, out: &mut O) -> Result<(), WriteFau
     put_parts(head, out)
 }
 
-#[tactic(auto, using(crate::proofs::Written::prefix_first, crate::proofs::Written::then_rest))]
+#[tactic(auto, using(xg_io::proofs::Pieces::prefix_first, xg_io::proofs::Pieces::then_rest))]
 fn put_parts<O: Sink>(head: &Head, out: &mut O) -> Result<(), WriteFault>
     ensures text { Writes (O.written out.old) (O.written out.new) (counts_text (head_of head.now) ++ units_text (head_of head.now)) result }
     ensures cause { HasCause (O.faults out.old) (O.faults out.new) result }
@@ -40,7 +40,7 @@ fn put_parts<O: Sink>(head: &Head, out: &mut O) -> Result<(), WriteFault>
     put_units(head, out)
 }
 
-#[tactic(auto, using(crate::proofs::Written::prefix_first, crate::proofs::Written::then_rest))]
+#[tactic(auto, using(xg_io::proofs::Pieces::prefix_first, xg_io::proofs::Pieces::then_rest))]
 fn put_counts<O: Sink>(head: &Head, out: &mut O) -> Result<(), WriteFault>
     ensures text { Writes (O.written out.old) (O.written out.new) (counts_text (head_of head.now)) result }
     ensures cause { HasCause (O.faults out.old) (O.faults out.new) result }
@@ -50,7 +50,7 @@ fn put_counts<O: Sink>(head: &Head, out: &mut O) -> Result<(), WriteFault>
     put_pair_line(b"sequences", head.sequences, out)
 }
 
-#[tactic(auto, using(crate::proofs::Written::prefix_first, crate::proofs::Written::then_rest))]
+#[tactic(auto, using(xg_io::proofs::Pieces::prefix_first, xg_io::proofs::Pieces::then_rest))]
 fn put_units<O: Sink>(head: &Head, out: &mut O) -> Result<(), WriteFault>
     ensures text { Writes (O.written out.old) (O.written out.new) (units_text (head_of head.now)) result }
     ensures cause { HasCause (O.faults out.old) (O.faults out.new) result }

@@ -8,7 +8,7 @@ ghost use Rattle.def_cert_accepted.specs.OfOutcome.{by_sets};
 ghost use Rattle.def_cert_text.specs.Formats.{each_items, row_items, text_of};
 ghost use Rattle.def_cert_text.specs.CertText.{line_of_round, value_line, weights_line};
 ghost use Rattle.xg_cert.specs.Outcome.{trace_of};
-ghost use Rattle.xg_cert.specs.Writes.{Writes};
+ghost use Rattle.def_outside.specs.Sinks.{Writes};
 
 use crate::cert_lines::{put_trace_line, put_value_line};
 use crate::fields::put_whole;

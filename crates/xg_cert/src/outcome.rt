@@ -1,5 +1,5 @@
 ghost use Rattle.std.specs.Prelude.{◌≡◌};
-ghost use Rattle.xg_cert.specs.Outcome.{ends_of, head_of, outcome_of, shown_ends, trace_of};
+ghost use Rattle.xg_cert.specs.Outcome.{ends_seen, head_of, outcome_seen, shown_ends, trace_of};
 
 use crate::head::Head;
 use std::marker::Model;
@@ -37,17 +37,17 @@ pub struct Outcome {
 
 impl Model for Outcome {
     ghost use Rattle.def_bracket.specs.Outcome as kept;
-    ghost use Rattle.xg_cert.specs.Outcome.{outcome_of};
+    ghost use Rattle.xg_cert.specs.Outcome.{outcome_seen};
 
     ghost Value = { kept.Outcome };
 
-    ghost view = { λ o. outcome_of o.head o.trace.items o.ends };
+    ghost view = { λ o. outcome_seen o.head o.trace.items o.ends };
 }
 
 impl Outcome {
     /// The outcome of these parts.
     pub fn new(head: Head, trace: Vec<TraceRow>, ends: Option<(End, End)>) -> Outcome
-        ensures { result ≡ outcome_of head trace.items ends }
+        ensures { result ≡ outcome_seen head trace.items ends }
     {
         Outcome { head, trace, ends }
     }

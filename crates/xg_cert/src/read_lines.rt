@@ -6,7 +6,7 @@ ghost use Rattle.def_tree.specs.Rules.{most_nodes};
 ghost use Rattle.def_cert_text.specs.Fields.{space, feed, number};
 ghost use Rattle.def_cert_text.specs.Formats.{and_then, fixed_field, whole_field};
 ghost use Rattle.def_cert_text.specs.CertText.{after_word, size_line, game_lines, asked_line, head_lines, numbers_of_game, line_of_round, value_line, bracket_line};
-ghost use Rattle.xg_cert_fields.specs.Reading.{Gives};
+ghost use Rattle.xg_cert_fields.specs.Reading.{GivesValue};
 ghost use Rattle.xg_cert.specs.Outcome.{head_of, line_of};
 ghost use Rattle.xg_cert.specs.ReadCert.{set_reply_of, asked_of};
 
@@ -41,7 +41,7 @@ fn named_line(
     low: u64,
     high: u64,
 ) -> Result<u64, CertFault>
-    ensures exact { Gives (λ n. n) result reader.new.left
+    ensures exact { GivesValue (λ n. n) result reader.new.left
         ((after_word word.now (whole_field low high feed)).read reader.old.total reader.old.left) }
     ensures total { reader.new.total ≡ reader.old.total }
 {
@@ -50,7 +50,7 @@ fn named_line(
 }
 
 fn size_line(reader: &mut FieldReader<'_>) -> Result<(u32, u32), CertFault>
-    ensures exact { Gives (λ p. p) result reader.new.left (size_line.read reader.old.total reader.old.left) }
+    ensures exact { GivesValue (λ p. p) result reader.new.left (size_line.read reader.old.total reader.old.left) }
     ensures total { reader.new.total ≡ reader.old.total }
 {
     reader.word(b"nodes", b' ')?;
@@ -62,7 +62,7 @@ fn size_line(reader: &mut FieldReader<'_>) -> Result<(u32, u32), CertFault>
 
 /// A word, and a number of each player.
 fn pair_line(reader: &mut FieldReader<'_>, word: &[u8], low: u64) -> Result<(u32, u32), CertFault>
-    ensures exact { Gives (λ p. p) result reader.new.left
+    ensures exact { GivesValue (λ p. p) result reader.new.left
         ((after_word word.now (and_then (whole_field low most_nodes space) (λ _. whole_field low most_nodes feed))).read
         reader.old.total reader.old.left) }
     ensures total { reader.new.total ≡ reader.old.total }
@@ -75,7 +75,7 @@ fn pair_line(reader: &mut FieldReader<'_>, word: &[u8], low: u64) -> Result<(u32
 }
 
 fn asked_line(reader: &mut FieldReader<'_>) -> Result<Asked, CertFault>
-    ensures exact { Gives asked_of result reader.new.left (asked_line.read reader.old.total reader.old.left) }
+    ensures exact { GivesValue asked_of result reader.new.left (asked_line.read reader.old.total reader.old.left) }
     ensures total { reader.new.total ≡ reader.old.total }
     ensures rounds { IfOk result (λ a. a.rounds ≤ most_rounds) }
     ensures every { IfOk result (λ a. (1 ≤ a.every) × (a.every ≤ most_rounds)) }
@@ -95,7 +95,7 @@ fn asked_line(reader: &mut FieldReader<'_>) -> Result<Asked, CertFault>
 
 /// The lines 2 to 7.
 pub(crate) fn head_lines(reader: &mut FieldReader<'_>) -> Result<Head, CertFault>
-    ensures exact { Gives head_of result reader.new.left (head_lines.read reader.old.total reader.old.left) }
+    ensures exact { GivesValue head_of result reader.new.left (head_lines.read reader.old.total reader.old.left) }
     ensures total { reader.new.total ≡ reader.old.total }
     ensures sets { IfOk result (λ head. (head.sets.0 ≤ most_nodes) × (head.sets.1 ≤ most_nodes)) }
     ensures rounds { IfOk result (λ head. head.rounds ≤ most_rounds) }
@@ -122,7 +122,7 @@ pub(crate) fn head_lines(reader: &mut FieldReader<'_>) -> Result<Head, CertFault
 
 /// The line of the evaluation after a round.
 pub(crate) fn trace_line(reader: &mut FieldReader<'_>, round: u32) -> Result<TraceRow, CertFault>
-    ensures exact { Gives line_of result reader.new.left ((line_of_round round).read reader.old.total reader.old.left) }
+    ensures exact { GivesValue line_of result reader.new.left ((line_of_round round).read reader.old.total reader.old.left) }
     ensures total { reader.new.total ≡ reader.old.total }
 {
     let latest = round as u64;
@@ -143,7 +143,7 @@ pub(crate) fn trace_line(reader: &mut FieldReader<'_>, round: u32) -> Result<Tra
 
 /// The number of a set, which is known.
 pub(crate) fn set_number(reader: &mut FieldReader<'_>, set: u32) -> Result<(), CertFault>
-    ensures exact { Gives (λ _. tt) result reader.new.left
+    ensures exact { GivesValue (λ _. tt) result reader.new.left
         ((fixed_field number (decimal set) space).read reader.old.total reader.old.left) }
     ensures total { reader.new.total ≡ reader.old.total }
 {
@@ -153,7 +153,7 @@ pub(crate) fn set_number(reader: &mut FieldReader<'_>, set: u32) -> Result<(), C
 
 /// The line of a set in a reply.
 pub(crate) fn value_line(reader: &mut FieldReader<'_>, set: u32) -> Result<ValueLine, CertFault>
-    ensures exact { Gives set_reply_of result reader.new.left ((value_line set).read reader.old.total reader.old.left) }
+    ensures exact { GivesValue set_reply_of result reader.new.left ((value_line set).read reader.old.total reader.old.left) }
     ensures total { reader.new.total ≡ reader.old.total }
 {
     reader.word(b"value", b' ')?;
@@ -164,7 +164,7 @@ pub(crate) fn value_line(reader: &mut FieldReader<'_>, set: u32) -> Result<Value
 }
 
 pub(crate) fn bracket_line(reader: &mut FieldReader<'_>) -> Result<(Ratio, Ratio), CertFault>
-    ensures exact { Gives (λ p. p) result reader.new.left (bracket_line.read reader.old.total reader.old.left) }
+    ensures exact { GivesValue (λ p. p) result reader.new.left (bracket_line.read reader.old.total reader.old.left) }
     ensures total { reader.new.total ≡ reader.old.total }
 {
     reader.word(b"bracket", b' ')?;

@@ -4,9 +4,9 @@ ghost use Rattle.def_sums.specs.Limits.{most_root, most_rounds};
 ghost use Rattle.def_tree.specs.Rules.{most_actions, most_nodes};
 ghost use Rattle.def_cert_text.specs.Formats.{read_each, read_row};
 ghost use Rattle.def_cert_text.specs.CertText.{evaluation_count, line_of_round, round_of_evaluation, trace_lines, value_line, weights_line};
-ghost use Rattle.xg_cert_fields.specs.Reading.{Gives};
+ghost use Rattle.xg_cert_fields.specs.Reading.{GivesValue};
 ghost use Rattle.xg_cert.specs.Outcome.{head_of, line_of, trace_of};
-ghost use Rattle.xg_cert.specs.Answers.{Extends, GivesFor};
+ghost use Rattle.xg_cert.specs.Answers.{Extends, GivesValueFor};
 
 use crate::head::Head;
 use crate::outcome::TraceRow;
@@ -16,12 +16,11 @@ use crate::refused::CertRefused;
 use def_cert_text::CertFault;
 use std::alloc::Global;
 use xg_cert_fields::FieldReader;
-
-/// The greatest root, which is the greatest number of a sequence, too.
-pub(crate) const MOST_ROOT: u64 = 1 << 36;
+use xg_limits::MOST_ROOT;
+use xg_tree::MOST_ACTIONS;
 
 /// How many numbers may follow the first one of a set.
-const MORE: u32 = 1023;
+const MORE: u32 = MOST_ACTIONS - 1;
 
 fn evaluation_count(head: &Head) -> u32
     requires rounds { head.now.rounds ≤ most_rounds }
@@ -50,7 +49,7 @@ fn line_of_evaluation(
     requires k { k ≤ most_rounds + most_rounds }
     requires rounds { head.now.rounds ≤ most_rounds }
     requires every { head.now.every ≤ most_rounds }
-    ensures exact { Gives line_of result reader.new.left
+    ensures exact { GivesValue line_of result reader.new.left
         ((line_of_round (round_of_evaluation (head_of head.now) k)).read reader.old.total reader.old.left) }
     ensures total { reader.new.total ≡ reader.old.total }
 {
@@ -66,7 +65,7 @@ pub(crate) fn trace_lines(
 ) -> Result<Vec<TraceRow>, CertRefused>
     requires rounds { head.now.rounds ≤ most_rounds }
     requires every { (1 ≤ head.now.every) × (head.now.every ≤ most_rounds) }
-    ensures exact { GivesFor (λ rows. trace_of rows.items) result reader.new.left
+    ensures exact { GivesValueFor (λ rows. trace_of rows.items) result reader.new.left
         ((trace_lines (head_of head.now)).read reader.old.total reader.old.left) }
     ensures total { reader.new.total ≡ reader.old.total }
 {
@@ -119,7 +118,7 @@ pub(crate) fn weights_lines(
     sets: u32,
 ) -> Result<PlanLines, CertRefused>
     requires { sets ≤ most_nodes }
-    ensures exact { GivesFor (λ plan. plan.weights) result reader.new.left
+    ensures exact { GivesValueFor (λ plan. plan.weights) result reader.new.left
         (read_each weights_line 1 sets reader.old.total reader.old.left) }
     ensures root { IfOk result (λ plan. plan.root ≡ root) }
     ensures total { reader.new.total ≡ reader.old.total }
@@ -143,7 +142,7 @@ pub(crate) fn value_lines(
     sets: u32,
 ) -> Result<ReplyLines, CertRefused>
     requires { sets ≤ most_nodes }
-    ensures exact { GivesFor (λ reply. reply.sets) result reader.new.left
+    ensures exact { GivesValueFor (λ reply. reply.sets) result reader.new.left
         (read_each value_line 1 sets reader.old.total reader.old.left) }
     ensures reply_total { IfOk result (λ reply. reply.total ≡ total) }
     ensures total { reader.new.total ≡ reader.old.total }

@@ -8,40 +8,41 @@ ghost use Rattle.def_cert_text.specs.Formats.{where_asked};
 ghost use Rattle.def_cert_text.specs.CertText.{bounds_lines, cert_in, cert_text, plan_lines, reply_lines, whole_certificate};
 ghost use Rattle.def_cert_text.specs.FirstFault.{FirstCertFault};
 ghost use Rattle.xg_cert.specs.declared.refused.CertRefused.TheVariants as refused;
-ghost use Rattle.xg_cert.specs.Answers.{Answers, AnswersAs, GivesFor};
+ghost use Rattle.xg_cert.specs.Answers.{AnswersCertificate, AnswersAs, GivesValueFor};
 ghost use Rattle.xg_cert.specs.Outcome.{head_of};
-ghost use Rattle.xg_cert.specs.ReadCert.{IsReadHead, bounds_of, bounds_where_given, certificate_of};
+ghost use Rattle.xg_cert.specs.ReadCert.{IsReadHead, bounds_of, bounds_where_given, certificate_read};
 
 use crate::cert::{BoundsLines, Cert};
 use crate::head::Head;
 use crate::printed::{PlanLines, ReplyLines};
 use crate::read_lines::{bracket_line, head_lines};
-use crate::read_lists::{MOST_ROOT, trace_lines, value_lines, weights_lines};
+use crate::read_lists::{trace_lines, value_lines, weights_lines};
 use crate::refused::CertRefused;
 use std::alloc::Global;
 use xg_cert_fields::FieldReader;
+use xg_limits::MOST_ROOT;
 
 /// Reads a certificate from the bytes of its text, version 1.
 ///
 /// Memory apart, the answer is the certificate that the bytes say, or their first fault.
 pub fn read_cert(alloc: Global, bytes: &[u8]) -> Result<Cert, CertRefused>
-    ensures exact { Answers result (cert_in bytes.now) }
+    ensures exact { AnswersCertificate result (cert_in bytes.now) }
 
     // What is read is within its ranges and the bytes are its text, and each such text is read.
     ensures fits { IfOk result CertificateFits }
     ensures text { IfOk result (λ cert. bytes.now ≡ cert_text cert) }
-    ensures only { (cert : Certificate) → CertificateFits cert → bytes.now ≡ cert_text cert → Answers result (Ok cert) }
+    ensures only { (cert : Certificate) → CertificateFits cert → bytes.now ≡ cert_text cert → AnswersCertificate result (Ok cert) }
 
     // A fault is the first of the bytes, and the first is the fault.
     ensures first { (f : fault.CertFault) → result ≡ Err (refused.Cert f) → FirstCertFault bytes.now f }
-    ensures faults { (f : fault.CertFault) → FirstCertFault bytes.now f → Answers result (Err f) }
+    ensures faults { (f : fault.CertFault) → FirstCertFault bytes.now f → AnswersCertificate result (Err f) }
 {
     read_text(alloc, bytes)
 }
 
 /// The same, by what reading gives.
 fn read_text(alloc: Global, bytes: &[u8]) -> Result<Cert, CertRefused>
-    ensures { Answers result (cert_in bytes.now) }
+    ensures { AnswersCertificate result (cert_in bytes.now) }
 {
     let (head, bounds) = read_parts(alloc, bytes)?;
     Ok(Cert { head, bounds })
@@ -49,7 +50,7 @@ fn read_text(alloc: Global, bytes: &[u8]) -> Result<Cert, CertRefused>
 
 #[tactic(auto, unfolding(def_cert_text::specs::CertText::cert_in))]
 fn read_parts(alloc: Global, bytes: &[u8]) -> Result<(Head, Option<BoundsLines>), CertRefused>
-    ensures { AnswersAs (λ p. certificate_of p.0 p.1) result (cert_in bytes.now) }
+    ensures { AnswersAs (λ p. certificate_read p.0 p.1) result (cert_in bytes.now) }
 {
     let mut reader = FieldReader::new(bytes);
     let parts = whole_certificate(&mut reader, alloc)?;
@@ -62,7 +63,7 @@ fn whole_certificate(
     reader: &mut FieldReader<'_>,
     alloc: Global,
 ) -> Result<(Head, Option<BoundsLines>), CertRefused>
-    ensures exact { GivesFor (λ p. certificate_of p.0 p.1) result reader.new.left
+    ensures exact { GivesValueFor (λ p. certificate_read p.0 p.1) result reader.new.left
         (whole_certificate.read reader.old.total reader.old.left) }
     ensures total { reader.new.total ≡ reader.old.total }
 {
@@ -81,7 +82,7 @@ fn bounds_where_asked(
     head: &Head,
 ) -> Result<Option<BoundsLines>, CertRefused>
     requires { IsReadHead head.now }
-    ensures exact { GivesFor bounds_where_given result reader.new.left
+    ensures exact { GivesValueFor bounds_where_given result reader.new.left
         ((where_asked (nat_lt 0 head.now.rounds) (bounds_lines (head_of head.now))).read
         reader.old.total reader.old.left) }
     ensures total { reader.new.total ≡ reader.old.total }
@@ -99,7 +100,7 @@ fn bounds_lines(
     head: &Head,
 ) -> Result<BoundsLines, CertRefused>
     requires { IsReadHead head.now }
-    ensures exact { GivesFor bounds_of result reader.new.left
+    ensures exact { GivesValueFor bounds_of result reader.new.left
         ((bounds_lines (head_of head.now)).read reader.old.total reader.old.left) }
     ensures total { reader.new.total ≡ reader.old.total }
 {
@@ -128,7 +129,7 @@ fn plan_lines(
     sets: u32,
 ) -> Result<PlanLines, CertRefused>
     requires { sets ≤ most_nodes }
-    ensures exact { GivesFor (λ plan. plan) result reader.new.left
+    ensures exact { GivesValueFor (λ plan. plan) result reader.new.left
         ((plan_lines digit.now sets).read reader.old.total reader.old.left) }
     ensures total { reader.new.total ≡ reader.old.total }
 {
@@ -146,7 +147,7 @@ fn reply_lines(
     sets: u32,
 ) -> Result<ReplyLines, CertRefused>
     requires { sets ≤ most_nodes }
-    ensures exact { GivesFor (λ reply. reply) result reader.new.left
+    ensures exact { GivesValueFor (λ reply. reply) result reader.new.left
         ((reply_lines digit.now sets).read reader.old.total reader.old.left) }
     ensures total { reader.new.total ≡ reader.old.total }
 {

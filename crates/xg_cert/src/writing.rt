@@ -3,18 +3,17 @@ ghost use Rattle.std.specs.Prelude.{◌≡◌, ◌++◌, OnOk, OnErr, ◌^◌, �
 ghost use Rattle.std.specs.Fmt.{signed_decimal};
 ghost use Rattle.std.specs.Io.KnownBytes.{append_known};
 ghost use Rattle.def_outside.specs.Cause.{HasCause};
-ghost use Rattle.def_outside.specs.Sinks.{AppendsPrefix};
+ghost use Rattle.def_outside.specs.Sinks.{AppendsPrefix, Writes};
 ghost use Rattle.def_plan.specs.Form.{player_sets, sequence_count};
 ghost use Rattle.def_cert_accepted.specs.OfOutcome.{certificate_of, printed_bound, printed_plan};
 ghost use Rattle.def_cert_ranges.specs.Ranges.{IsFromTo};
 ghost use Rattle.def_fraction.specs.Fraction.{most};
 ghost use Rattle.def_sums.specs.Limits.{most_root, most_row};
-ghost use Rattle.xg_cert.specs.Outcome.{end_of, head_of, trace_of};
+ghost use Rattle.xg_cert.specs.Outcome.{end_seen, head_of, trace_of};
 ghost use Rattle.xg_cert.specs.Writable.{IsEndOf, IsOutcomeOf, above_text, below_text, end_text, ends_text};
 ghost use Rattle.def_cert_text.specs.Fields.{space, feed, fixed_word, number, field, separator, items_text};
 ghost use Rattle.def_cert_text.specs.Formats.{text_of};
 ghost use Rattle.def_cert_text.specs.CertText.{cert_text, last_text, plan_lines, reply_lines};
-ghost use Rattle.xg_cert.specs.Writes.{Writes};
 
 use crate::cert_lines::{put_asked, put_bracket, put_first_line, put_last_line};
 use crate::fields::{put_field, put_signed};
@@ -75,7 +74,7 @@ fn put_total<O: Sink>(digit: &[u8], reply: &Reply, out: &mut O) -> Result<(), Wr
 }
 
 /// A plan of the player that the first digit names, and the reply of the other player.
-#[tactic(auto, using(crate::proofs::Written::prefix_first, crate::proofs::Written::then_rest))]
+#[tactic(auto, using(xg_io::proofs::Pieces::prefix_first, xg_io::proofs::Pieces::then_rest))]
 fn put_end<O: Sink>(
     form: &SeqForm,
     player: Player,
@@ -85,9 +84,9 @@ fn put_end<O: Sink>(
     end: &End,
     out: &mut O,
 ) -> Result<(), WriteFault>
-    requires { IsEndOf (player_sets form.now player) (player_sets form.now other) (end_of end.now) }
+    requires { IsEndOf (player_sets form.now player) (player_sets form.now other) (end_seen end.now) }
     ensures text { Writes (O.written out.old) (O.written out.new)
-        (end_text digit.now reply_digit.now (player_sets form.now player) (player_sets form.now other) (end_of end.now)) result }
+        (end_text digit.now reply_digit.now (player_sets form.now player) (player_sets form.now other) (end_seen end.now)) result }
     ensures cause { HasCause (O.faults out.old) (O.faults out.new) result }
 {
     put_plan(form, player, digit, &end.plan, out)?;
@@ -99,14 +98,14 @@ fn bound(unit: u64, end: &End) -> Ratio
     requires unit { IsFromTo 1 most unit }
     requires root { IsFromTo 1 most_root (slice_index end.now.plan 0) }
     requires total { unsigned_abs end.now.reply.reply.total ≤ most_row }
-    ensures { result ≡ printed_bound unit (end_of end.now) }
+    ensures { result ≡ printed_bound unit (end_seen end.now) }
 {
     let scale = unit as u128 * end.plan.root() as u128;
     ratio(end.reply.total(), scale as i128)
 }
 
 /// The trace, both ends and the bracket.
-#[tactic(auto, using(crate::proofs::Written::prefix_first, crate::proofs::Written::then_rest))]
+#[tactic(auto, using(xg_io::proofs::Pieces::prefix_first, xg_io::proofs::Pieces::then_rest))]
 fn put_ends<O: Sink>(
     form: &SeqForm,
     unit: u64,
@@ -116,10 +115,10 @@ fn put_ends<O: Sink>(
     out: &mut O,
 ) -> Result<(), WriteFault>
     requires unit { IsFromTo 1 most unit }
-    requires lower { IsEndOf form.now.sets_one form.now.sets_two (end_of lower.now) }
-    requires upper { IsEndOf form.now.sets_two form.now.sets_one (end_of upper.now) }
+    requires lower { IsEndOf form.now.sets_one form.now.sets_two (end_seen lower.now) }
+    requires upper { IsEndOf form.now.sets_two form.now.sets_one (end_seen upper.now) }
     ensures text { Writes (O.written out.old) (O.written out.new)
-        (ends_text form.now unit (trace_of trace.now) (end_of lower.now) (end_of upper.now)) result }
+        (ends_text form.now unit (trace_of trace.now) (end_seen lower.now) (end_seen upper.now)) result }
     ensures cause { HasCause (O.faults out.old) (O.faults out.new) result }
 {
     let low = bound(unit, lower);
@@ -144,7 +143,7 @@ fn put_below<O: Sink>(form: &SeqForm, outcome: &Outcome, out: &mut O) -> Result<
     }
 }
 
-#[tactic(auto, using(crate::proofs::Written::prefix_first, crate::proofs::Written::then_rest))]
+#[tactic(auto, using(xg_io::proofs::Pieces::prefix_first, xg_io::proofs::Pieces::then_rest))]
 fn put_above<O: Sink>(head: &Head, out: &mut O) -> Result<(), WriteFault>
     ensures text { Writes (O.written out.old) (O.written out.new) (above_text (head_of head.now)) result }
     ensures cause { HasCause (O.faults out.old) (O.faults out.new) result }
@@ -154,7 +153,7 @@ fn put_above<O: Sink>(head: &Head, out: &mut O) -> Result<(), WriteFault>
     put_asked(head, out)
 }
 
-#[tactic(auto, using(crate::proofs::Written::prefix_first, crate::proofs::Written::then_rest))]
+#[tactic(auto, using(xg_io::proofs::Pieces::prefix_first, xg_io::proofs::Pieces::then_rest))]
 fn put_pieces<O: Sink>(form: &SeqForm, outcome: &Outcome, out: &mut O) -> Result<(), WriteFault>
     requires { IsOutcomeOf form.now outcome.now }
     ensures text { Writes (O.written out.old) (O.written out.new)

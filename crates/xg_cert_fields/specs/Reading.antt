@@ -8,6 +8,6 @@ pub record Reading : Type 0 where
   pub left : List ℕ
 
 -- a value, seen by `view`, and the bytes behind it, or the fault
-abbrev pub Gives : {X Y : Type 0} → (X → Y) → Result X CertFault → List ℕ → Result (Y × List ℕ) CertFault → Type 0
-Gives view (Ok x) left read = read ≡ Ok (view x, left)
-Gives view (Err fault) left read = read ≡ Err fault
+abbrev pub GivesValue : {X Y : Type 0} → (X → Y) → Result X CertFault → List ℕ → Result (Y × List ℕ) CertFault → Type 0
+GivesValue view (Ok x) left read = read ≡ Ok (view x, left)
+GivesValue view (Err fault) left read = read ≡ Err fault

@@ -5,7 +5,7 @@ ghost use Rattle.def_cert_text.specs.Fields.{fixed_word, number, version, is_fie
 ghost use Rattle.def_cert_text.specs.Formats.{fixed_field, whole_field, integer_field, fraction_field, read_number};
 ghost use Rattle.def_cert_text.specs.CertText.{if_at_end};
 ghost use Rattle.def_cert_ranges.specs.Ranges.{most_printed};
-ghost use Rattle.xg_cert_fields.specs.Reading.{Gives};
+ghost use Rattle.xg_cert_fields.specs.Reading.{GivesValue};
 
 use crate::numbers::{fraction_in, integer_in, whole_in};
 use def_cert_text::CertFault;
@@ -69,7 +69,7 @@ impl<'a> FieldReader<'a> {
     /// A fixed word.
     #[tactic(auto, unfolding(def_cert_text::specs::Fields::read_field))]
     pub fn word(&mut self, wanted: &[u8], separator: u8) -> Result<(), CertFault>
-        ensures exact { Gives (λ _. tt) result self.new.left
+        ensures exact { GivesValue (λ _. tt) result self.new.left
             ((fixed_field fixed_word wanted.now separator).read self.old.total self.old.left) }
         ensures total { self.new.total ≡ self.old.total }
     {
@@ -88,7 +88,7 @@ impl<'a> FieldReader<'a> {
     /// The text's version.
     #[tactic(auto, unfolding(def_cert_text::specs::Fields::read_field))]
     pub fn version(&mut self, wanted: &[u8], separator: u8) -> Result<(), CertFault>
-        ensures exact { Gives (λ _. tt) result self.new.left
+        ensures exact { GivesValue (λ _. tt) result self.new.left
             ((fixed_field version wanted.now separator).read self.old.total self.old.left) }
         ensures total { self.new.total ≡ self.old.total }
     {
@@ -106,7 +106,7 @@ impl<'a> FieldReader<'a> {
     /// A number that is known, by its digits.
     #[tactic(auto, unfolding(def_cert_text::specs::Fields::read_field))]
     pub fn known_number(&mut self, wanted: &[u8], separator: u8) -> Result<(), CertFault>
-        ensures exact { Gives (λ _. tt) result self.new.left
+        ensures exact { GivesValue (λ _. tt) result self.new.left
             ((fixed_field number wanted.now separator).read self.old.total self.old.left) }
         ensures total { self.new.total ≡ self.old.total }
     {
@@ -125,7 +125,7 @@ impl<'a> FieldReader<'a> {
     /// A whole number of a range.
     #[tactic(auto, unfolding(def_cert_text::specs::Fields::read_field))]
     pub fn whole(&mut self, low: u64, high: u64, separator: u8) -> Result<u64, CertFault>
-        ensures exact { Gives (λ n. n) result self.new.left
+        ensures exact { GivesValue (λ n. n) result self.new.left
             ((whole_field low high separator).read self.old.total self.old.left) }
         ensures total { self.new.total ≡ self.old.total }
         ensures range { IfOk result (λ n. (low ≤ n) × (n ≤ high)) }
@@ -146,7 +146,7 @@ impl<'a> FieldReader<'a> {
     /// A number of at most 2^100 in size, with a sign where it is below 0.
     #[tactic(auto, unfolding(def_cert_text::specs::Fields::read_field))]
     pub fn integer(&mut self, separator: u8) -> Result<i128, CertFault>
-        ensures exact { Gives (λ n. n) result self.new.left
+        ensures exact { GivesValue (λ n. n) result self.new.left
             ((integer_field most_printed separator).read self.old.total self.old.left) }
         ensures total { self.new.total ≡ self.old.total }
     {
@@ -166,7 +166,7 @@ impl<'a> FieldReader<'a> {
     /// A fraction in lowest terms whose parts are at most 2^100 in size.
     #[tactic(auto, unfolding(def_cert_text::specs::Fields::read_field))]
     pub fn fraction(&mut self, separator: u8) -> Result<Ratio, CertFault>
-        ensures exact { Gives (λ f. f) result self.new.left
+        ensures exact { GivesValue (λ f. f) result self.new.left
             ((fraction_field most_printed separator).read self.old.total self.old.left) }
         ensures total { self.new.total ≡ self.old.total }
     {
@@ -186,7 +186,7 @@ impl<'a> FieldReader<'a> {
     /// A whole number of a line of many, up to `most`, with a space or a line feed behind it.
     #[tactic(auto, unfolding(def_cert_text::specs::Formats::read_number))]
     pub fn row_number(&mut self, most: u64) -> Result<RowNumber, CertFault>
-        ensures exact { Gives (λ n. (n.number, n.last)) result self.new.left
+        ensures exact { GivesValue (λ n. (n.number, n.last)) result self.new.left
             (read_number most self.old.total self.old.left) }
         ensures total { self.new.total ≡ self.old.total }
     {
@@ -218,7 +218,7 @@ impl<'a> FieldReader<'a> {
     }
 
     fn separator(&mut self, separator: u8) -> Result<(), CertFault>
-        ensures exact { Gives (λ _. tt) result self.new.left
+        ensures exact { GivesValue (λ _. tt) result self.new.left
             (separated_by separator self.old.total (tt {0}) self.old.left) }
         ensures total { self.new.total ≡ self.old.total }
     {

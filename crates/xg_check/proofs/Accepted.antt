@@ -17,7 +17,7 @@ use Rattle.def_check.proofs.Accepted.{alone_without_rounds, what_is_shown}
 use Rattle.xg_check.specs.declared.verdict.Verdict.{Verdict}
 use Rattle.xg_check.specs.declared.verdict.Verdict.TheVariants.{Bounds, HeadOnly}
 use Rattle.xg_check.specs.declared.verdict.CheckFault.{CheckFault}
-use Rattle.xg_check.specs.Answers.{Answers, IsHeadOnlyWithoutRounds, IsOpened, verdict_of}
+use Rattle.xg_check.specs.Answers.{AnswersVerdict, IsHeadOnlyWithoutRounds, IsOpened, verdict_of}
 use Rattle.xg_game.specs.declared.fault.Refused.{Refused}
 
 passed : (t : Result def.Verdict TestFault) (v : def.Verdict) → by_tests t ≡ Ok v → t ≡ Ok v
@@ -34,7 +34,8 @@ pub record IsReady (game : def.WeighedGame) (cert_bytes : List ℕ) (c : Certifi
 
 -- a verdict that the tests give of a certificate within its ranges is what its bytes show of the game
 pub judged_shows : (r : Result Verdict CheckFault) (game : def.WeighedGame) (bytes : List ℕ) (c : Certificate)
-    → IsReady game bytes c → Answers r (by_tests (def.verdict game c)) → IfOk r (λ v. Shows game bytes (verdict_of v))
+    → IsReady game bytes c → AnswersVerdict r (by_tests (def.verdict game c))
+    → IfOk r (λ v. Shows game bytes (verdict_of v))
 judged_shows (Ok v) game bytes c ready e =
     subst (λ (bs : List ℕ). Shows game bs (verdict_of v)) (sym ready.text)
     (what_is_shown game c (verdict_of v) ready.order_one ready.order_two ready.some_unit ready.fits (passed (def.verdict game c) (verdict_of v) e))
@@ -46,7 +47,7 @@ alone (Bounds low high) = (λ e. absurd cc, λ e. absurd cc)
 
 -- a verdict that the tests give is the head alone exactly where the certificate's head has no round
 pub judged_alone : (r : Result Verdict CheckFault) (game : def.WeighedGame) (bytes : List ℕ) (c : Certificate)
-    → IsReady game bytes c → Answers r (by_tests (def.verdict game c)) → IfOk r (IsHeadOnlyWithoutRounds bytes)
+    → IsReady game bytes c → AnswersVerdict r (by_tests (def.verdict game c)) → IfOk r (IsHeadOnlyWithoutRounds bytes)
 judged_alone (Ok v) game bytes c ready e = λ d fits same.
     let same_text : cert_text c ≡ cert_text d = sym ready.text ∙ same in
     let both = alone_without_rounds game c (verdict_of v) ready.fits (passed (def.verdict game c) (verdict_of v) e) d fits same_text in

@@ -1,11 +1,12 @@
 -- How many numbers each set of a printed plan has.
-use Rattle.std.proofs.Common.{◌≡◌, ◌≢◌, ℕ, zero, suc, ◌+◌, ◌-◌, ◌<◌, ◌≤◌, Bool, true, false, cond, eqb, List, [], ◌∷◌, length, get_or, slice_index, drop, map, Option, Some, None, slice_get, All, refl, sym, ap, ◌∙◌, arith, eqb-true, eq-eqb, ne_eqb}
+use Rattle.std.proofs.Common.{◌≡◌, ◌≢◌, ℕ, ◌+◌, ◌-◌, ◌<◌, ◌≤◌, Bool, true, false, cond, eqb, List, [], ◌∷◌, length, get_or, slice_index, drop, map, Option, Some, None, slice_get, All, refl, sym, ap, ◌∙◌, arith, eqb-true, eq-eqb, ne_eqb}
 use Rattle.std.proofs.lemmas.List.{drop_more, drop_all, get_or-map, length-append}
 use Rattle.std.proofs.lemmas.List.Elements.{All-append, All-cons, All-head, All-nil, All-tail}
 use Rattle.std.proofs.lemmas.Option.{get_or_from_slice_get}
 use Rattle.def_sums.specs.Sum.{nat_sum_over}
 use Rattle.def_sums.specs.Limits.{most_root}
 use Rattle.def_plan.specs.Form.{InformationSet, sequence_count}
+use Rattle.def_plan.proofs.SizeLaws.{slice_index-at_most}
 use Rattle.def_cert_ranges.specs.Ranges.{PlanFits, PlanWeightsFit}
 use Rattle.def_cert_verdict.specs.Certificate.{PrintedPlan, joined, printed_numbers}
 use Rattle.def_cert_verdict.specs.Verdict.{first_of_other_size}
@@ -93,14 +94,8 @@ joined_small [] f = All-nil (λ n. n ≤ most_root)
 joined_small (ws ∷ wss) f =
     All-append (λ n. n ≤ most_root) ws (joined wss) (All-head PlanWeightsFit ws wss f).each (joined_small wss (All-tail PlanWeightsFit ws wss f))
 
-read_small : (most : ℕ) (xs : List ℕ) → All (λ n. n ≤ most) xs → (s : ℕ) → slice_index xs s ≤ most
-read_small most [] all zero = omega arith
-read_small most [] all (suc s) = omega arith
-read_small most (x ∷ xs) all zero = All-head (λ n. n ≤ most) x xs all
-read_small most (x ∷ xs) all (suc s) = read_small most xs (All-tail (λ n. n ≤ most) x xs all) s
-
 -- no number of a printed plan within its ranges is above the greatest root
 pub numbers_small : (sets : ℕ) (plan : PrintedPlan) → PlanFits sets plan → (s : ℕ)
     → slice_index (printed_numbers plan) s ≤ most_root
 numbers_small sets plan fits s =
-    read_small most_root (printed_numbers plan) (All-cons (λ n. n ≤ most_root) plan.root (joined plan.weights) fits.root.1 (joined_small plan.weights fits.each)) s
+    slice_index-at_most most_root (printed_numbers plan) (All-cons (λ n. n ≤ most_root) plan.root (joined plan.weights) fits.root.1 (joined_small plan.weights fits.each)) s

@@ -1,5 +1,5 @@
 -- The first failing test of several stages.
-use Rattle.std.proofs.Common.{◌≡◌, ℕ, List, ◌++◌, Option, Some, None, Result, Ok, Err, true, false, refl, sym, ap, ◌∙◌}
+use Rattle.std.proofs.Common.{◌≡◌, ℕ, List, ◌++◌, Option, Some, None, Result, Ok, Err, false, refl, sym, ap, ◌∙◌}
 use Rattle.std.specs.Prelude.{is_some, IfOk}
 use Rattle.std.proofs.Common.{append_assoc}
 use Rattle.def_tree.specs.declared.Player.TheVariants.{One, Two}
@@ -7,7 +7,7 @@ use Rattle.def_cert_verdict.specs.declared.fault.TestFault.{TestFault}
 use Rattle.def_cert_verdict.specs.Certificate.{PrintedBounds}
 use Rattle.def_cert_verdict.specs.Verdict.{WeighedGame, bounds_tests, first_failing, first_trace_line, trace_tests}
 use Rattle.xg_check.specs.Parts.{tests_of_plan, tests_of_plans, tests_of_replies, tests_of_reply}
-use Rattle.xg_tests.proofs.TestLemmas.{front_passes, front_stops}
+use Rattle.xg_tests.proofs.TestLemmas.{front_passes}
 
 -- what isn't some value is none
 pub no_value : {X : Type 0} (o : Option X) → is_some o ≡ false → o ≡ None
@@ -15,11 +15,6 @@ no_value None e = refl
 no_value (Some x) e = absurd cc
 
 -- the first stage decides, or the rest does
-pub stage_stops : (found : Option TestFault) (xs ys : List (Option TestFault)) → found ≡ first_failing xs
-    → is_some found ≡ true → found ≡ first_failing (xs ++ ys)
-stage_stops found xs ys e some = front_stops found xs ys e some
-
--- where the first stage finds no fault, the first one of all is that of the rest
 pub rest_decides : (found : Option TestFault) (xs ys : List (Option TestFault)) → found ≡ first_failing xs
     → is_some found ≡ false → first_failing ys ≡ first_failing (xs ++ ys)
 rest_decides found xs ys e none = sym (front_passes found xs ys e none)

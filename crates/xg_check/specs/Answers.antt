@@ -21,22 +21,22 @@ abbrev pub verdict_of : Verdict → shown.Verdict
 verdict_of (Bounds low high) = shown.bracket low high
 verdict_of HeadOnly = shown.head_only
 
-abbrev pub Answers : Result Verdict CheckFault → Result shown.Verdict Refusal → Type 0
-Answers (Ok verdict) checked = checked ≡ Ok (verdict_of verdict)
-Answers (Err (File fault)) checked = checked ≡ Err (of_file fault)
-Answers (Err (Cert fault)) checked = checked ≡ Err (of_certificate fault)
-Answers (Err (HeadDiffers line)) checked = checked ≡ Err (of_tests (test.HeadDiffers line))
-Answers (Err (NotAPlan player set)) checked = checked ≡ Err (of_tests (test.NotAPlan player set))
-Answers (Err (ValueTooGood player set action)) checked = checked ≡ Err (of_tests (test.ValueTooGood player set action))
-Answers (Err (ReplyNotTight player set)) checked = checked ≡ Err (of_tests (test.ReplyNotTight player set))
-Answers (Err (TotalDiffers end)) checked = checked ≡ Err (of_tests (test.TotalDiffers end))
-Answers (Err (TraceWidens line)) checked = checked ≡ Err (of_tests (test.TraceWidens line))
-Answers (Err NoMemory) checked = ⊤
+abbrev pub AnswersVerdict : Result Verdict CheckFault → Result shown.Verdict Refusal → Type 0
+AnswersVerdict (Ok verdict) checked = checked ≡ Ok (verdict_of verdict)
+AnswersVerdict (Err (File fault)) checked = checked ≡ Err (of_file fault)
+AnswersVerdict (Err (Cert fault)) checked = checked ≡ Err (of_certificate fault)
+AnswersVerdict (Err (HeadDiffers line)) checked = checked ≡ Err (of_tests (test.HeadDiffers line))
+AnswersVerdict (Err (NotAPlan player set)) checked = checked ≡ Err (of_tests (test.NotAPlan player set))
+AnswersVerdict (Err (ValueTooGood player set action)) checked = checked ≡ Err (of_tests (test.ValueTooGood player set action))
+AnswersVerdict (Err (ReplyNotTight player set)) checked = checked ≡ Err (of_tests (test.ReplyNotTight player set))
+AnswersVerdict (Err (TotalDiffers end)) checked = checked ≡ Err (of_tests (test.TotalDiffers end))
+AnswersVerdict (Err (TraceWidens line)) checked = checked ≡ Err (of_tests (test.TraceWidens line))
+AnswersVerdict (Err NoMemory) checked = ⊤
 
 -- the check's fault is that of a test
 abbrev pub IsThatFault : TestFault → CheckFault → Type 0
 IsThatFault test fault =
-    (checked : Result shown.Verdict Refusal) → checked ≡ Err (of_tests test) → Answers (Err fault) checked
+    (checked : Result shown.Verdict Refusal) → checked ≡ Err (of_tests test) → AnswersVerdict (Err fault) checked
 
 -- the head alone is answered exactly where the certificate that the bytes say has no round
 abbrev pub IsHeadOnlyWithoutRounds : List ℕ → Verdict → Type 0

@@ -2,11 +2,11 @@
 ghost use Rattle.std.specs.Prelude.{◌≡◌, ◌≤◌, IfOk, None, Ok, length};
 ghost use Rattle.def_file.specs.Reading.{game_at, most_bytes};
 ghost use Rattle.def_cert_text.specs.CertText.{cert_in};
-ghost use Rattle.def_check.specs.Check.{accepted, checked, judged, most_cert_bytes};
+ghost use Rattle.def_check.specs.Check.{accepted_in_numbers, checked, verdict_on, most_cert_bytes};
 ghost use Rattle.def_file_accepted.specs.Weighed.{weighed_game};
 ghost use Rattle.def_check.specs.Shown.{Shows, ShowsOfFile};
 ghost use Rattle.def_game_numbers.specs.Numbers.{game_file_fault};
-ghost use Rattle.xg_check.specs.Answers.{Answers, IsHeadOnlyWithoutRounds, IsOpened, verdict_of};
+ghost use Rattle.xg_check.specs.Answers.{AnswersVerdict, IsHeadOnlyWithoutRounds, IsOpened, verdict_of};
 ghost use Rattle.xg_read.specs.Gives as gives;
 
 use crate::judging::judge;
@@ -26,7 +26,7 @@ pub const MOST_CERT_BYTES: usize = 268_435_456;
 pub fn check(alloc: Global, game_bytes: &[u8], cert_bytes: &[u8]) -> Result<Verdict, CheckFault>
     requires game { length game_bytes.now ≤ most_bytes }
     requires certificate { length cert_bytes.now ≤ most_cert_bytes }
-    ensures exact { Answers result (checked game_bytes.now cert_bytes.now) }
+    ensures exact { AnswersVerdict result (checked game_bytes.now cert_bytes.now) }
 
     // What is accepted is shown of the file's game, whoever wrote the certificate.
     ensures shown { IfOk result (λ verdict. ShowsOfFile game_bytes.now cert_bytes.now (verdict_of verdict)) }
@@ -44,7 +44,7 @@ pub fn check(alloc: Global, game_bytes: &[u8], cert_bytes: &[u8]) -> Result<Verd
 /// The game of a file in numbers, or the file's first fault.
 fn open(alloc: Global, game_bytes: &[u8]) -> Result<Numbers, Refused>
     requires { length game_bytes.now ≤ most_bytes }
-    ensures exact { gives.Answers result (accepted (game_at game_bytes.now)) }
+    ensures exact { gives.Answers result (accepted_in_numbers (game_at game_bytes.now)) }
     ensures opened { IfOk result (IsOpened game_bytes.now) }
 {
     let game = read_game(alloc, game_bytes)?;
@@ -52,7 +52,7 @@ fn open(alloc: Global, game_bytes: &[u8]) -> Result<Numbers, Refused>
 }
 
 fn open_game(alloc: Global, game: Game) -> Result<Numbers, Refused>
-    ensures exact { gives.Answers result (accepted (Ok game)) }
+    ensures exact { gives.Answers result (accepted_in_numbers (Ok game)) }
     ensures opened { IfOk result (λ numbers. numbers ≡ weighed_game game) }
     ensures faultless { IfOk result (λ _. game_file_fault game ≡ None) }
 {
@@ -61,7 +61,7 @@ fn open_game(alloc: Global, game: Game) -> Result<Numbers, Refused>
 
 /// The verdict on the certificate that the bytes say, or its first fault.
 fn judge_bytes(alloc: Global, numbers: &Numbers, cert_bytes: &[u8]) -> Result<Verdict, CheckFault>
-    ensures exact { Answers result (judged numbers.now (cert_in cert_bytes.now)) }
+    ensures exact { AnswersVerdict result (verdict_on numbers.now (cert_in cert_bytes.now)) }
     ensures shown { IfOk result (λ verdict. Shows numbers.now cert_bytes.now (verdict_of verdict)) }
     ensures head_only { IfOk result (IsHeadOnlyWithoutRounds cert_bytes.now) }
 {

@@ -9,7 +9,7 @@ ghost use Rattle.def_cert_verdict.specs.Verdict.{trace_tests, verdict};
 ghost use Rattle.def_check.specs.Check.{by_tests};
 ghost use Rattle.xg_cert.specs.Outcome.{line_of};
 ghost use Rattle.xg_cert.specs.Printed.{bounds_in, plan_in, set_count_in};
-ghost use Rattle.xg_check.specs.Answers.{Answers, verdict_of};
+ghost use Rattle.xg_check.specs.Answers.{AnswersVerdict, verdict_of};
 ghost use Rattle.xg_check.specs.Parts.{HasEachSequence, HasSetsOf, plan_round_in, tests_of_plan, tests_of_plans};
 ghost use Rattle.xg_check.specs.Parts.{tests_of_replies};
 
@@ -142,7 +142,7 @@ fn shown_by(cert: &Cert) -> Verdict
 
 /// The verdict on a certificate, or the first test that fails.
 pub(crate) fn judge(alloc: Global, numbers: &Numbers, cert: &Cert) -> Result<Verdict, CheckFault>
-    ensures exact { Answers result (by_tests (verdict numbers.now cert.now)) }
+    ensures exact { AnswersVerdict result (by_tests (verdict numbers.now cert.now)) }
 
     // What is true of all numbers of a game.
     ensures order_one { AreInOrder numbers.now.form.sets_one }

@@ -13,14 +13,14 @@ use Rattle.def_sums.proofs.Ranges.{All-range, at_most_sum}
 use Rattle.def_sums.proofs.RingLaws.{+ℤ-zero}
 use Rattle.def_plan.specs.Form.{InformationSet, PlacedSet, placed, sequences_of, sequence_count, AreInOrder}
 use Rattle.def_plan.specs.Payoff.{worth}
+use Rattle.def_plan.proofs.BadSets.{length-placed}
 use Rattle.def_round.specs.Play.{regret_of, GivesAllUnits}
 use Rattle.def_round.specs.Round.{round_values, regrets_after, set_value, values_from}
 use Rattle.def_round.specs.Sizes.{size_of_sums}
-use Rattle.def_round.proofs.Regrets.{length-placed_from}
 use Rattle.def_round.proofs.Values.{set_value_same}
-use Rattle.xg_closer.specs.Rows.{amount_of}
 use Rattle.xg_closer.proofs.Sets.{IsAt}
 use Rattle.xg_closer.proofs.SetValues.{full_worth, later_worth, SetFacts, set_facts}
+use Rattle.def_rows.specs.Rows.{amount_of}
 
 -- each number that is no larger than the sums together fits the width
 abbrev pub HasRoomFor : Width → (ℕ → ℤ) → List InformationSet → Type 0
@@ -53,7 +53,7 @@ pub first_worths : (w : Width) (play : List ℕ) (sets : List InformationSet) (k
 first_worths w play sets k rows all count room = record {
   count = count;
   each = λ s low.
-      let none : drop k (placed sets) ≡ [] = drop_all k (placed sets) (omega (arith, all, length-placed_from 1 sets)) in
+      let none : drop k (placed sets) ≡ [] = drop_all k (placed sets) (omega (arith, all, length-placed 1 sets)) in
       let is : later_worth (amount_of rows) play sets k s ≡ amount_of rows s = ap (λ hs. worth (amount_of rows) hs (values_from (amount_of rows) play hs) s) none ∙ +ℤ-zero (amount_of rows s) in
       let one_of = at_most_sum (λ s. unsigned_abs (amount_of rows s)) 0 (sequence_count sets) s (omega arith) (omega arith) in
       let light : unsigned_abs (amount_of rows s) ≤ size_of_sums (amount_of rows) sets = one_of in

@@ -10,9 +10,10 @@ use Rattle.def_round.specs.Round.{regrets_after}
 use Rattle.def_round.specs.Sizes.{size_of_sums}
 use Rattle.def_round.proofs.Growth.{regrets_stay_small}
 use Rattle.xg_closer.specs.Regrets.{KeepsRegrets}
-use Rattle.xg_closer.specs.Rows.{amount_of, own_amount}
+use Rattle.xg_closer.specs.Rows.{own_amount}
 use Rattle.xg_closer.proofs.RowSums.{own_sizes}
 use Rattle.xg_closer.proofs.SetValues.{regrets_count}
+use Rattle.def_rows.specs.Rows.{amount_of}
 
 -- a whole list that is written back
 pub written : (xs items : List ℤ) (n : ℕ) → length xs ≡ n → take n (xs ++ drop (length xs) items) ≡ xs

@@ -1,34 +1,17 @@
 -- Shares one after another: what the weights before one get together, and one weight more.
-use Rattle.std.proofs.Common.{◌≡◌, ℕ, zero, suc, ◌+◌, ◌*◌, ◌/◌, ◌<◌, ◌≤◌, List, [], ◌∷◌, length, get_or, take, ap, sym, ◌∙◌, arith, add-zero, refl, ⊎_elim}
+use Rattle.std.proofs.Common.{◌≡◌, ℕ, ◌+◌, ◌*◌, ◌/◌, ◌<◌, ◌≤◌, List, [], ◌∷◌, length, get_or, ap, sym, ◌∙◌, arith, refl, ⊎_elim}
 use Rattle.std.specs.Prelude.{ℤ}
 use Rattle.std.proofs.lemmas.Bool.{cases_lt}
-use Rattle.std.proofs.lemmas.List.{take_more}
 use Rattle.std.proofs.lemmas.List.FromFn.{length-map-range_with_len, get_or-map-range_with_len}
-use Rattle.std.proofs.Math.Nat.{mul-le-mul_left, mul-div_left}
-use Rattle.std.proofs.lemmas.Nat.{le-div, div-add-mod'}
-use Rattle.std.proofs.Math.Seq.{take-length}
+use Rattle.std.proofs.Math.Nat.{mul-div_left}
 use Rattle.def_sums.specs.Sum.{nat_sum_over}
-use Rattle.def_sums.proofs.SumLaws.{nat_sum_over-append}
 use Rattle.def_plan.specs.Form.{PlacedSet, sequences_of}
 use Rattle.def_shares.specs.Shares.{weight_sum, prefix_sum, prefix_share, shares}
-use Rattle.def_shares.proofs.SharesLaws.{are_differences, length-shares, shares_whole}
+use Rattle.def_shares.proofs.SharesLaws.{are_differences, length-shares, prefix-all, prefix-more, shares_whole}
 use Rattle.def_round.specs.Play.{positive_part, regret_of, regret_sum}
 use Rattle.def_round.proofs.Plays.{sum_of_map}
+use Rattle.xg_plan.proofs.ShareLemmas.{prefix-within, quotient_grows}
 use Rattle.xg_closer.specs.Playing.{positive_parts}
-
-prefix-more : (ws : List ℕ) (i : ℕ) → i < length ws → prefix_sum ws (i + 1) ≡ prefix_sum ws i + get_or ws i 0
-prefix-more ws i below = ap weight_sum (take_more ws i 0 below) ∙ nat_sum_over-append (λ w. w) (take i ws) (get_or ws i 0 ∷ []) ∙ ap (λ n. prefix_sum ws i + n) (add-zero (get_or ws i 0))
-
-prefix-within : (ws : List ℕ) (i : ℕ) → prefix_sum ws i ≤ weight_sum ws
-prefix-within ws zero = omega arith
-prefix-within [] (suc i) = omega arith
-prefix-within (w ∷ ws) (suc i) = omega (arith, prefix-within ws i)
-
-prefix-all : (ws : List ℕ) → prefix_sum ws (length ws) ≡ weight_sum ws
-prefix-all ws = ap weight_sum (take-length ws)
-
-quotient_grows : (n a b sum : ℕ) → 1 ≤ sum → a ≤ b → n * a / sum ≤ n * b / sum
-quotient_grows n a b sum some h = le-div (n * a / sum) (n * b) sum some (omega (arith, div-add-mod' (n * a) sum, mul-le-mul_left n h))
 
 -- one weight more: the sum up to it, and the share
 pub record OneMore (n : ℕ) (ws : List ℕ) (i sum_so_far sum : ℕ) : Type 0 where

@@ -6,9 +6,9 @@ use Rattle.std.proofs.lemmas.Option.{get_or_from_slice_get, slice_get-get_or}
 use Rattle.def_sums.specs.Sum.{nat_sum_over}
 use Rattle.def_sums.proofs.SumLaws.{nat_sum_over-append}
 use Rattle.def_plan.specs.Form.{InformationSet, PlacedSet, placed, sequences_of, sequence_count, IsInOrder, AreInOrder}
+use Rattle.def_plan.proofs.BadSets.{length-placed}
 use Rattle.def_plan.proofs.Places.{numbered}
 use Rattle.def_round.specs.Play.{GivesAllUnits, units}
-use Rattle.def_round.proofs.Regrets.{length-placed_from}
 
 abbrev pub no_place : PlacedSet
 no_place = record { first = 0; before = 0; actions = 0 }
@@ -49,7 +49,7 @@ pub record IsAt (sets : List InformationSet) (m : ℕ) (h : PlacedSet) : Type 0 
 pub is_at : (sets : List InformationSet) (m : ℕ) (h : PlacedSet) → AreInOrder sets → m < length sets
     → slice_get (placed sets) m ≡ Some h → IsAt sets m h
 is_at sets m h order below read =
-    let there : m < length (placed sets) = omega (arith, length-placed_from 1 sets) in
+    let there : m < length (placed sets) = omega (arith, length-placed 1 sets) in
     let is : get_or (placed sets) m no_place ≡ h = get_or_from_slice_get (placed sets) m h no_place read in
     let numbers = sym is ∙ numbered.each_set sets m no_place no_set below in
     let in_order : IsInOrder h = subst IsInOrder is (All-get_or IsInOrder (placed sets) m no_place there order) in
@@ -79,7 +79,7 @@ pub placed_from_parts : (sets : List InformationSet) (m first before actions : �
     → slice_get (map (λ (h : InformationSet). h.actions) sets) m ≡ Some actions
     → slice_get (placed sets) m ≡ Some (record { first = first; before = before; actions = actions })
 placed_from_parts sets m first before actions below first_read before_read actions_read =
-    let there : m < length (placed sets) = omega (arith, length-placed_from 1 sets) in
+    let there : m < length (placed sets) = omega (arith, length-placed 1 sets) in
     let numbers = numbered.each_set sets m no_place no_set below in
     let first_is : (get_or (placed sets) m no_place).first ≡ first =
     sym (get_or-map (λ (h : PlacedSet). h.first) (placed sets) m no_place 0 there) ∙ get_or_from_slice_get (map (λ (h : PlacedSet). h.first) (placed sets)) m first 0 first_read in

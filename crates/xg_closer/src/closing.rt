@@ -11,8 +11,9 @@ ghost use Rattle.def_sums.specs.Sum.{nat_sum_over};
 ghost use Rattle.xg_closer.specs.Closing.{value_by, weighed_sizes, weighed_sum};
 ghost use Rattle.xg_closer.specs.Laws.{LeafSumsCloseTheRound};
 ghost use Rattle.xg_closer.specs.Places.{placed_as};
-ghost use Rattle.xg_closer.specs.Rows.{amount_of, own_amount};
+ghost use Rattle.xg_closer.specs.Rows.{own_amount};
 ghost use Rattle.xg_seq.specs.Table.{most_sequences};
+ghost use Rattle.def_rows.specs.Rows.{amount_of};
 
 use crate::places::{Placement, placement_of, sets_are_kept};
 use crate::regrets::Regrets;
@@ -330,7 +331,7 @@ fn minus(a: i128, b: i128) -> i128
 }
 
 fn floor_by_units(n: i128) -> i128
-    ensures { result ≡ floor_div n 65536 }
+    ensures { result ≡ floor_div n units }
 {
     n >> 16
 }

@@ -139,7 +139,7 @@ fn units_of(part: u128, sum: u128) -> u32
     if part == sum {
         UNITS
     } else if sum < 1 << 47 {
-        (65_536 * (part as u64) / (sum as u64)) as u32
+        (UNITS as u64 * (part as u64) / (sum as u64)) as u32
     } else {
         units_of_large(part, sum)
     }
@@ -153,7 +153,7 @@ fn units_of_large(part: u128, sum: u128) -> u32
     requires within { part ≤ sum }
     ensures { result ≡ units * part / sum }
 {
-    (65_536 * part / sum) as u32
+    (UNITS as u128 * part / sum) as u32
 }
 
 // Plays a set where no regret is positive.

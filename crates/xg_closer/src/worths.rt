@@ -1,6 +1,6 @@
 ghost use Rattle.std.specs.Prelude.{◌≡◌, ℕ, ◌<◌, ℤ, ◌+ℤ◌, FitsSigned, length, map};
 ghost use Rattle.std.specs.Int.{Width, int_wrap};
-ghost use Rattle.xg_closer.specs.Rows.{amount_of};
+ghost use Rattle.def_rows.specs.Rows.{amount_of};
 
 /// What a sequence is worth, in as many bits as the worths of a round need.
 pub(crate) trait Worth: Copy {

@@ -1,5 +1,5 @@
 -- What was read, and the command, as the grammar has them.
-use Rattle.std.specs.Prelude.{ℕ, List, [], ◌∷◌, Option, Some, None, option_map}
+use Rattle.std.specs.Prelude.{◌∷◌, Option, None, option_map}
 use Rattle.def_command.specs.Table as table
 use Rattle.def_command.specs.Grammar as grammar
 use Rattle.xg_command.specs.declared.command.Settings.{Settings}
@@ -20,10 +20,10 @@ command_value (Info file) = grammar.Info file.now
 command_value (Gen cards) = grammar.Gen cards
 command_value (Drill cards settings workers) = grammar.Drill cards (settings_value settings) workers
 
-abbrev pub no_numbers : grammar.Numbers
+abbrev pub no_numbers : grammar.NumbersSoFar
 no_numbers = record { rounds = None; every = None; scale = None; workers = None }
 
-abbrev pub numbers_value : Options → grammar.Numbers
+abbrev pub numbers_value : Options → grammar.NumbersSoFar
 numbers_value o = record { rounds = o.rounds; every = o.every; scale = o.scale; workers = o.workers }
 
 abbrev pub taken_value : Reading → grammar.Taken

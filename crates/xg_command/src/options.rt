@@ -1,7 +1,7 @@
 //! The options of a call, and their numbers.
 ghost use Rattle.std.specs.Prelude.{◌≡◌, option_map};
 ghost use Rattle.def_command.specs.Table.{least_cards, most_cards, least_number, most_number};
-ghost use Rattle.def_command.specs.Grammar.{number_from_to, number_in, with_number, settings_in, workers_from};
+ghost use Rattle.def_command.specs.Grammar.{number_from_to, number_so_far, with_number, settings_in, workers_from};
 ghost use Rattle.xg_command.specs.Names.{option_value};
 ghost use Rattle.xg_command.specs.Values.{numbers_value, no_numbers, settings_value};
 
@@ -38,7 +38,7 @@ impl Options {
     }
 
     pub(crate) fn get(self, option: OptionName) -> Option<u32>
-        ensures { result ≡ number_in (numbers_value self) (option_value option) }
+        ensures { result ≡ number_so_far (numbers_value self) (option_value option) }
     {
         match option {
             OptionName::Rounds => self.rounds,

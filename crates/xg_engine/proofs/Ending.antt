@@ -1,8 +1,8 @@
 -- The ends of the board of a run fit its form.
-use Rattle.std.proofs.Common.{◌≡◌, ℕ, zero, suc, ◌+◌, ◌*◌, ◌<◌, ◌≤◌, Bool, true, false, cond, List, length, Option, Some, None, refl, ap, ◌∙◌, subst, sym, arith}
+use Rattle.std.proofs.Common.{◌≡◌, ℕ, zero, suc, ◌+◌, ◌*◌, ◌<◌, ◌≤◌, Bool, true, false, cond, List, Option, Some, None, refl, ◌∙◌, subst, sym, arith}
 use Rattle.std.specs.Option.{option_map}
 use Rattle.std.specs.Prelude.{pos, ◌*ℤ◌, int_lt}
-use Rattle.def_sums.specs.Limits.{most_rounds, most_scale}
+use Rattle.def_sums.specs.Limits.{most_rounds}
 use Rattle.def_tree.specs.declared.Player.TheVariants.{One, Two}
 use Rattle.def_plan.specs.Form.{InformationSet, SequenceForm}
 use Rattle.def_bracket.specs.Offers.{Board, KeptEnd, Offer, board_after, keep_lower, keep_upper, lower_of, offered, upper_of}

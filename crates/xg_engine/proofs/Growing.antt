@@ -1,8 +1,8 @@
 -- Sums of plans that grow by a plan a round.
-use Rattle.std.proofs.Common.{◌≡◌, ℕ, zero, suc, ◌+◌, ◌*◌, ◌<◌, ◌≤◌, List, All, length, slice_index, get_or, replicate, refl, ap, ◌∙◌, subst, sym, arith}
+use Rattle.std.proofs.Common.{◌≡◌, ℕ, zero, suc, ◌+◌, ◌*◌, ◌<◌, ◌≤◌, List, All, slice_index, replicate, refl, ap, ◌∙◌, subst, sym, arith}
 use Rattle.std.proofs.Math.Nat.{mul-le-mul}
 use Rattle.def_sums.specs.Limits.{most_root, most_rounds, most_scale}
-use Rattle.def_plan.specs.Form.{AreInOrder, InformationSet, SequenceForm, sequence_count}
+use Rattle.def_plan.specs.Form.{InformationSet, SequenceForm, sequence_count}
 use Rattle.def_plan.specs.Plan.{IsPlan, IsPlanOrCleared}
 use Rattle.def_plan.proofs.SizeLaws.{plan-below_root}
 use Rattle.std.proofs.lemmas.List.{get_or_default}

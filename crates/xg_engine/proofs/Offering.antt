@@ -1,6 +1,7 @@
 -- The offers of the evaluated rounds, round by round.
-use Rattle.std.proofs.Common.{◌≡◌, ℕ, zero, suc, ◌+◌, ◌-◌, ◌%◌, ◌<◌, ◌≤◌, Bool, true, false, cond, ◌||◌, eqb, eq-eqb, ne_eqb, ◌⊎◌, ⊎_elim, List, [], ◌∷◌, ◌++◌, length, map, filter, fold, refl, ap, ◌∙◌, subst, sym, arith}
+use Rattle.std.proofs.Common.{◌≡◌, ℕ, ◌+◌, ◌-◌, ◌%◌, ◌<◌, ◌≤◌, Bool, true, false, cond, ◌||◌, eqb, eq-eqb, ne_eqb, ◌⊎◌, ⊎_elim, List, [], ◌∷◌, ◌++◌, length, map, filter, refl, ap, ◌∙◌, sym, arith}
 use Rattle.std.specs.List.{range_with_len}
+use Rattle.std.proofs.Math.Bool.{or-true}
 use Rattle.std.proofs.lemmas.List.{length-map, map-append}
 use Rattle.std.proofs.lemmas.List.Elements.{filter-append}
 use Rattle.std.proofs.lemmas.List.Sums.{fold-append}
@@ -31,10 +32,6 @@ module _ (p : ℕ → Bool) where
       ∙ filter-append p (range_with_len 1 m) (range_with_len (1 + m) (n - m)) in
       omega (arith, ap length all, length-append (filter p (range_with_len 1 m)) (filter p (range_with_len (1 + m) (n - m))))
 
-or_true : (b : Bool) → (b || true) ≡ true
-or_true true = refl
-or_true false = refl
-
 module _ (form : SequenceForm) (settings : Settings) where
   abbrev pub is_due : ℕ → Bool
   is_due j = eqb (j % settings.every) 0 || eqb j settings.rounds
@@ -56,7 +53,7 @@ module _ (form : SequenceForm) (settings : Settings) where
   due_now n h =
       ⊎_elim
       (λ e. ap (λ b. b || eqb (n + 1) settings.rounds) (eq-eqb ((n + 1) % settings.every) 0 e))
-      (λ e. ap (λ b. eqb ((n + 1) % settings.every) 0 || b) (eq-eqb (n + 1) settings.rounds e.1) ∙ or_true (eqb ((n + 1) % settings.every) 0))
+      (λ e. ap (λ b. eqb ((n + 1) % settings.every) 0 || b) (eq-eqb (n + 1) settings.rounds e.1) ∙ or-true (eqb ((n + 1) % settings.every) 0))
       h
 
   -- a round that `every` doesn't divide, and that isn't the last one, isn't evaluated

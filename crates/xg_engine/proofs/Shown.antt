@@ -1,53 +1,18 @@
 -- What the outcome of a run shows.
-use Rattle.std.proofs.Common.{◌≡◌, ℕ, ◌+◌, ◌-◌, ◌*◌, ◌≤◌, List, [], ◌∷◌, length, get_or, take, ℤ, pos, Some, ap, ◌∙◌, subst, sym, arith}
+use Rattle.std.proofs.Common.{◌≡◌, ℕ, ◌-◌, ◌*◌, ◌≤◌, List, ℤ, pos, Some, ap, ◌∙◌, subst, sym}
 use Rattle.std.specs.Prelude.{◌*ℤ◌, ◌-ℤ◌, ◌≤ℤ◌}
-use Rattle.std.proofs.lemmas.List.{take_all}
-use Rattle.def_tree.specs.declared.Player.TheVariants.{One, Two}
 use Rattle.def_plan.specs.Form.{SequenceForm}
 use Rattle.def_reply.specs.Bounds.{IsExploitability}
-use Rattle.def_reply.specs.Reply.{best_reply_to}
 use Rattle.def_bracket.specs.Bracket.{BracketEnds, Evaluation, TraceLine, ends_of, trace, trace_line}
 use Rattle.def_bracket.specs.Outcome.{Head, OutcomeEnds}
-use Rattle.def_bracket.proofs.TraceLines.{trace_lines}
-use Rattle.def_cert_verdict.specs.Certificate.{last_line, no_line}
+use Rattle.def_cert_verdict.specs.Certificate.{last_line}
+use Rattle.def_cert_verdict.proofs.LastLine.{last_is}
 use Rattle.def_run.specs.Run.{evaluations, outcome}
-use Rattle.def_run.specs.Laws.{HasPlansOf, plan_at_lower, plan_at_upper}
-use Rattle.def_run.proofs.EndLaws.{ends_bound_all_plans, gap_of_run_is_exploitability, outcomes_show_their_run, trace_of_run_never_widens}
+use Rattle.def_run.specs.Laws.{plan_at_lower, plan_at_upper}
+use Rattle.def_run.proofs.EndLaws.{ends_at, ends_bound_all_plans, gap_of_run_is_exploitability, outcomes_show_their_run, shown_are, trace_of_run_never_widens}
 use Rattle.def_run.proofs.RunLaws.{ends_are_of_their_rounds, evaluations_are_bounds, runs_have_ends}
 use Rattle.xg_engine.specs.Ends.{AreBoundsOfLine, AreUnbeaten, HasEnds, HasGapOfLine, NoLineIsWider}
 use Rattle.xg_engine.specs.Players.{IsSoundForm}
-
-some_evaluation : (es : List Evaluation) (ends : BracketEnds) → ends_of es ≡ Some ends → 1 ≤ length es
-some_evaluation [] ends are = absurd (is are)
-  where
-    is : ends_of [] ≡ Some ends → ⊥
-    is e = cc
-some_evaluation (e ∷ es) ends are = omega arith
-
-last_is : (es : List Evaluation) (ends : BracketEnds) → ends_of es ≡ Some ends
-    → (r : ℕ) × (last_line (trace es) ≡ trace_line r ends)
-last_is es ends are =
-    let k : ℕ = length es - 1 in
-    let some = some_evaluation es ends are in
-    let none : Evaluation = record { round = 0; divisor = 0; low = pos 0; high = pos 0 } in
-    let all : take (k + 1) es ≡ es = take_all (k + 1) es (omega arith) in
-    let same : last_line (trace es) ≡ get_or (trace es) k no_line = ap (λ n. get_or (trace es) (n - 1) no_line) (trace_lines.count es) in
-    ((get_or es k none).round, same ∙ trace_lines.each es k ends no_line none (omega arith) (ap ends_of all ∙ are))
-
--- the ends of a run, by the rounds that they come from
-abbrev pub ends_at : SequenceForm → ℕ → BracketEnds → OutcomeEnds
-ends_at form scale ends = record {
-  lower = record { plan = plan_at_lower form scale ends; reply = best_reply_to form Two (plan_at_lower form scale ends) };
-  upper = record { plan = plan_at_upper form scale ends; reply = best_reply_to form One (plan_at_upper form scale ends) };
-}
-
-shown_are : (form : SequenceForm) (scale : ℕ) (ends : BracketEnds) (shown : OutcomeEnds)
-    → HasPlansOf form scale ends shown → shown ≡ ends_at form scale ends
-shown_are form scale ends shown h =
-    λ i. record {
-      lower = record { plan = h.lower_plan i; reply = h.lower_reply i };
-      upper = record { plan = h.upper_plan i; reply = h.upper_reply i };
-    }
 
 module _ (form : SequenceForm) (head : Head) (sound : IsSoundForm form) (some_scale : 1 ≤ head.scale) where
   -- with at least one round: what holds of the line and the ends of the bracket holds of the outcome

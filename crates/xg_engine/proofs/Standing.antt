@@ -1,12 +1,12 @@
 -- A player from one round to the next.
-use Rattle.std.proofs.Common.{◌≡◌, ℕ, suc, ◌+◌, ℤ, List, ap, ◌∙◌, sym, subst, arith}
+use Rattle.std.proofs.Common.{◌≡◌, ℕ, suc, ◌+◌, ℤ, List, ap, ◌∙◌, subst, arith}
 use Rattle.def_tree.specs.declared.Player.{Player}
 use Rattle.def_plan.specs.Form.{InformationSet, Leaf, SequenceForm}
 use Rattle.def_plan.specs.Plan.{added}
 use Rattle.def_round.specs.Play.{plan_of_play, play_of}
 use Rattle.def_round.specs.Round.{own_sum, regrets_after}
 use Rattle.def_round.specs.Rounds.{Standing, next_round, rounds}
-use Rattle.xg_engine.specs.Players.{HasRoom, StandAfter, StandsWith}
+use Rattle.xg_engine.specs.Players.{HasRoomForSequences, StandAfter, StandsWith}
 use Rattle.xg_engine.specs.declared.players.Learner.{Learner}
 use Rattle.xg_engine.specs.declared.players.Players.{Players}
 
@@ -39,7 +39,7 @@ module _ (sets : List InformationSet) (root n : ℕ) (regrets : List ℤ) (sums 
 
   -- and then has learned from the other player's plan
   pub has_learned : (player : Player) (leaves : List Leaf) (against other : List ℕ) (before after : Learner)
-      → HasPlayed before → against ≡ other → HasRoom sets after
+      → HasPlayed before → against ≡ other → HasRoomForSequences sets after
       → after.regrets.of_sequences
       ≡ regrets_after (own_sum player leaves against) before.play sets before.regrets.of_sequences
       → after.regrets.closed ≡ before.regrets.closed + 1 → after.sum ≡ before.sum

@@ -11,7 +11,7 @@ use Rattle.def_bracket.specs.Bracket.{BracketEnds, TraceLine}
 use Rattle.def_bracket.specs.Outcome.{Head, OutcomeEnds}
 use Rattle.def_cert_ranges.specs.Ranges.{IsFromTo}
 use Rattle.def_run.specs.Run.{outcome}
-use Rattle.def_run.proofs.EndLaws.{outcomes_show_their_run}
+use Rattle.def_run.proofs.EndLaws.{ends_at, outcomes_show_their_run}
 use Rattle.def_run.proofs.RunLaws.{ends_are_of_their_rounds}
 use Rattle.def_round.proofs.Sums.{rounds_sum_to_plans}
 use Rattle.xg_bracket.proofs.Offered.{length-best}
@@ -19,7 +19,7 @@ use Rattle.xg_cert.specs.Writable.{AreEndsOf, IsEndOf, IsOutcomeOf}
 use Rattle.xg_engine.specs.Ends.{HasEnds}
 use Rattle.xg_engine.specs.Players.{IsSoundForm}
 use Rattle.xg_engine.proofs.Growing.{sum_within}
-use Rattle.xg_engine.proofs.Shown.{ends_at, has_ends}
+use Rattle.xg_engine.proofs.Shown.{has_ends}
 
 module _ (form : SequenceForm) (head : Head) (sound : IsSoundForm form) (some_scale : 1 ≤ head.scale)
     (small_scale : head.scale ≤ most_scale) (few_rounds : head.rounds ≤ most_rounds) where

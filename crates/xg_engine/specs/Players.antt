@@ -4,7 +4,7 @@ use Rattle.def_sums.specs.Limits.{most_mass, most_root}
 use Rattle.def_plan.specs.Form.{AreInOrder, InformationSet, SequenceForm, sequence_count}
 use Rattle.def_plan.specs.Plan.{IsPlan, IsPlanOrCleared}
 use Rattle.def_plan.specs.Payoff.{mass_of}
-use Rattle.def_round.specs.Rounds.{Standing, rounds}
+use Rattle.def_round.specs.Rounds.{rounds}
 use Rattle.xg_engine.specs.declared.players.Learner.{Learner}
 use Rattle.xg_engine.specs.declared.players.Players.{Players}
 
@@ -15,7 +15,7 @@ pub record IsSoundForm (form : SequenceForm) : Type 0 where
   pub small_mass : mass_of form.leaves ≤ most_mass
 
 -- there is room for the numbers of all of the player's sequences
-pub record HasRoom (sets : List InformationSet) (learner : Learner) : Type 0 where
+pub record HasRoomForSequences (sets : List InformationSet) (learner : Learner) : Type 0 where
   pub regrets : length learner.regrets.of_sequences ≡ sequence_count sets
   pub play : length learner.play ≡ sequence_count sets
   pub plan : length learner.plan ≡ sequence_count sets
@@ -30,7 +30,7 @@ pub record CanGrow (sets : List InformationSet) (more : ℕ) (plan : List ℕ) :
 
 -- the player has these regrets, after so many rounds, and this sum of plans
 pub record StandsWith (sets : List InformationSet) (closed : ℕ) (regrets : List ℤ) (sums : List ℕ) (learner : Learner) : Type 0 where
-  pub room : HasRoom sets learner
+  pub room : HasRoomForSequences sets learner
   pub regrets_are : learner.regrets.of_sequences ≡ regrets
   pub closed_are : learner.regrets.closed ≡ closed
   pub sums_are : learner.sum ≡ sums

@@ -1,8 +1,8 @@
 ghost use Rattle.std.specs.Prelude.{◌≡◌, ◌<◌, ◌≤◌, ◌+◌, ◌++◌, [], ◌∷◌, IfOk, length, map, vec_capacity, vec_len};
 ghost use Rattle.def_run.specs.Run.{both_ends, outcome_with};
 ghost use Rattle.def_plan.specs.Form.{InformationSet, sequence_count};
-ghost use Rattle.xg_bracket.specs.Ends.{IsSomePlan, line_of};
-ghost use Rattle.xg_cert.specs.Outcome.{end_of, ends_of, head_of, trace_of};
+ghost use Rattle.xg_bracket.specs.Ends.{IsSomePlan, line_seen};
+ghost use Rattle.xg_cert.specs.Outcome.{end_seen, ends_seen, head_of, trace_of};
 ghost use Rattle.xg_engine.specs.Runs.{EndsFitForm, IsBlank};
 
 use std::alloc::{AllocError, Global};
@@ -59,7 +59,7 @@ impl Draft {
 fn copy_lines(lines: &[TraceLine], into: &mut Vec<TraceRow>)
     requires empty { into.old.items ≡ [] }
     requires room { length lines.now ≤ vec_capacity into.old }
-    ensures { trace_of into.new.items ≡ map line_of lines.now }
+    ensures { trace_of into.new.items ≡ map line_seen lines.now }
 {
     for line in lines {
         push_row(into, line);
@@ -68,7 +68,7 @@ fn copy_lines(lines: &[TraceLine], into: &mut Vec<TraceRow>)
 
 fn push_row(into: &mut Vec<TraceRow>, line: &TraceLine)
     requires { vec_len into.old < vec_capacity into.old }
-    ensures rows { trace_of into.new.items ≡ trace_of into.old.items ++ line_of line.now ∷ [] }
+    ensures rows { trace_of into.new.items ≡ trace_of into.old.items ++ line_seen line.now ∷ [] }
     ensures count { vec_len into.new ≡ vec_len into.old + 1 }
     ensures capacity { vec_capacity into.old ≤ vec_capacity into.new }
 {
@@ -91,7 +91,7 @@ fn copy_ends(form: &SeqForm, board: &Board, lower: End, upper: End) -> Option<(E
     requires sets_two { length lower.reply.reply.sets ≡ length form.now.sets_two }
     requires plan_two { length upper.plan ≡ sequence_count form.now.sets_two }
     requires sets_one { length upper.reply.reply.sets ≡ length form.now.sets_one }
-    ensures { ends_of result ≡ both_ends board.now.board.lower board.now.board.upper }
+    ensures { ends_seen result ≡ both_ends board.now.board.lower board.now.board.upper }
 {
     let (low, low_reply) = board.lower()?;
     let (high, high_reply) = board.upper()?;
@@ -106,7 +106,7 @@ fn copy_end(plan: &Plan, reply: &Reply, sets: u32, mut into: End) -> End
     requires plan { length plan.now ≡ length into.plan }
     requires from { length reply.now.reply.sets ≡ sets }
     requires sets { length into.reply.reply.sets ≡ sets }
-    ensures { end_of result ≡ record { plan = plan.now; reply = reply.now.reply } }
+    ensures { end_seen result ≡ record { plan = plan.now; reply = reply.now.reply } }
 {
     copy_plan(plan, &mut into.plan);
     copy_reply(reply, sets, &mut into.reply);

@@ -8,9 +8,9 @@ ghost use Rattle.xg_cert.specs.Outcome.{head_of};
 ghost use Rattle.xg_cert.specs.Writable.{IsOutcomeOf};
 ghost use Rattle.def_round.specs.Rounds.{rounds};
 ghost use Rattle.def_run.specs.Run.{outcome};
-ghost use Rattle.xg_numbers.specs.Opened.{weighed_game};
 ghost use Rattle.xg_engine.specs.Ends.{AreBoundsOfLine, AreUnbeaten, HasEnds, HasGapOfLine, NoLineIsWider};
 ghost use Rattle.xg_engine.specs.State.{AreWithinLimits, Asks, head_with, sums_of};
+ghost use Rattle.def_file_accepted.specs.Weighed.{weighed_game};
 
 use crate::asking::head_with;
 use crate::running::{FinishedRun, play};

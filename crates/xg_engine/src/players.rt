@@ -8,7 +8,7 @@ ghost use Rattle.def_rows.specs.Rows.{player_rows};
 ghost use Rattle.def_round.specs.Play.{GivesAllUnits, plan_of_play, play_of};
 ghost use Rattle.def_round.specs.Round.{own_sum, regrets_after};
 ghost use Rattle.xg_jobs.specs.Table.{IsTableOf};
-ghost use Rattle.xg_engine.specs.Players.{CanGrow, HasRoom, IsSoundForm, StandAfter, StandsWith};
+ghost use Rattle.xg_engine.specs.Players.{CanGrow, HasRoomForSequences, IsSoundForm, StandAfter, StandsWith};
 
 use crate::source::RowSource;
 use std::alloc::{AllocError, Global};
@@ -52,11 +52,11 @@ impl Learner {
 
     /// Plays by the regrets as they stand, and adds the plan of this play to the sum.
     fn plan_round(&mut self, form: &SeqForm, player: Player, scale: u32)
-        requires room { HasRoom (player_sets form.now player) self.old }
+        requires room { HasRoomForSequences (player_sets form.now player) self.old }
         requires some_scale { 1 ≤ scale }
         requires small_scale { scale ≤ most_scale }
         requires sums { CanGrow (player_sets form.now player) scale self.old.sum }
-        ensures room { HasRoom (player_sets form.now player) self.new }
+        ensures room { HasRoomForSequences (player_sets form.now player) self.new }
         ensures play { self.new.play ≡ play_of (player_sets form.now player) self.old.regrets.of_sequences }
         ensures all_units { GivesAllUnits self.new.play (player_sets form.now player) }
         ensures plan { self.new.plan ≡ plan_of_play (player_sets form.now player) self.new.play scale }
@@ -71,12 +71,12 @@ impl Learner {
 
     /// Adds the regrets of a round, by the rows against the other player's plan.
     fn learn(&mut self, form: &SeqForm, player: Player, rows: &[i128])
-        requires room { HasRoom (player_sets form.now player) self.old }
+        requires room { HasRoomForSequences (player_sets form.now player) self.old }
         requires few_rounds { self.old.regrets.closed < most_rounds }
         requires all_units { GivesAllUnits self.old.play (player_sets form.now player) }
         requires rows { length rows.now ≡ sequence_count (player_sets form.now player) }
         requires small { nat_sum_over unsigned_abs rows.now ≤ most_round_row }
-        ensures room { HasRoom (player_sets form.now player) self.new }
+        ensures room { HasRoomForSequences (player_sets form.now player) self.new }
         ensures regrets { (against : List ℕ) → rows.now ≡ player_rows form.now player against
             → self.new.regrets.of_sequences
             ≡ regrets_after (own_sum player form.now.leaves against) self.old.play (player_sets form.now player) self.old.regrets.of_sequences }

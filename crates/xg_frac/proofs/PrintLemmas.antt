@@ -1,13 +1,11 @@
 -- Texts that are written in pieces.
-use Rattle.std.proofs.Common.{◌≡◌, ℕ, ◌+◌, min, Bool, true, false, cond, eqb, List, [], ◌∷◌, ◌++◌, length, take, Option, Result, Ok, Err, ℤ, pos, refl, sym, ap, ◌∙◌, subst, arith}
+use Rattle.std.proofs.Common.{◌≡◌, ℕ, Bool, true, false, cond, eqb, List, [], ◌∷◌, ◌++◌, Option, Result, Ok, Err, ℤ, pos, refl, sym, ap, ◌∙◌, subst}
 use Rattle.std.specs.Prelude.{OnErr}
 use Rattle.std.specs.Fmt.{decimal}
 use Rattle.std.specs.Io.KnownBytes.{append_known}
-use Rattle.std.proofs.Math.Seq.{take-append-add}
-use Rattle.std.proofs.lemmas.List.{take-append-le, take_min}
 use Rattle.std.proofs.lemmas.Bool.{ne_eqb}
 use Rattle.def_outside.specs.Sinks.{AppendsPrefix}
-use Rattle.xg_io.proofs.Known.{append_known-append}
+use Rattle.xg_io.proofs.Pieces.{prefix_first, prefix_then}
 use Rattle.def_fraction.specs.Fraction.{Fraction}
 use Rattle.def_fraction.specs.Text.{int_text, fraction_text}
 
@@ -15,21 +13,6 @@ use Rattle.def_fraction.specs.Text.{int_text, fraction_text}
 pub on_err : {T E : Type 0} (r : Result T E) (P : Type 0) → P → OnErr r P
 on_err (Ok x) P p = tt
 on_err (Err e) P p = p
-
--- a front of the first piece is a front of the whole
-pub prefix_first : (before now : Option (List ℕ)) (xs ys : List ℕ) → AppendsPrefix before now xs
-    → AppendsPrefix before now (xs ++ ys)
-prefix_first before now xs ys p =
-    let short : take (min p.count (length xs)) (xs ++ ys) ≡ take p.count xs = take-append-le (min p.count (length xs)) xs ys (omega arith) ∙ take_min p.count xs in
-    record { count = min p.count (length xs); appended = p.appended ∙ ap (append_known before) (sym short) }
-
--- the first piece and a front of the second are a front of the whole
-pub prefix_then : (before middle now : Option (List ℕ)) (xs ys : List ℕ) → middle ≡ append_known before xs
-    → AppendsPrefix middle now ys → AppendsPrefix before now (xs ++ ys)
-prefix_then before middle now xs ys e p = record {
-  count = length xs + p.count;
-  appended = p.appended ∙ ap (λ (known : Option (List ℕ)). append_known known (take p.count ys)) e ∙ append_known-append before xs (take p.count ys) ∙ ap (append_known before) (sym (take-append-add xs ys p.count));
-}
 
 -- ---- a fraction
 

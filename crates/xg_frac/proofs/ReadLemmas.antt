@@ -2,7 +2,7 @@
 use Rattle.std.proofs.Common.{◌≡◌, ℕ, zero, suc, ◌-◌, ◌^◌, ◌<◌, ◌≤◌, min, Bool, true, false, cond, ◌&&◌, eqb, ltb, leb, List, Option, Some, None, Result, Ok, Err, refl, sym, ap, ◌∙◌, subst, ◌⊎◌, ⊎_elim, arith}
 use Rattle.std.specs.Prelude.{SomeIff, IsTrue, IfOk}
 use Rattle.std.specs.Option.{option_map, ok_or}
-use Rattle.std.proofs.lemmas.Bool.{cases_lt, lt-ltb, le-ltb, le-leb, lt-leb, ne_eqb}
+use Rattle.std.proofs.lemmas.Bool.{cases_lt, lt-ltb, le-ltb, le-leb, lt-leb, ne_eqb, false_from_ne_true}
 use Rattle.def_fraction.specs.declared.fault.NumberFault.{NumberFault}
 use Rattle.def_fraction.specs.declared.fault.NumberFault.TheVariants.{Form, ZeroDenominator, Range}
 use Rattle.def_fraction.specs.Fraction.{Fraction, fraction_of, fits, signed}
@@ -86,10 +86,6 @@ read_as_literal-answer bytes o negative e f =
 
 -- ---- at the returns
 
-unless_true : (b : Bool) → (b ≡ true → ⊥) → b ≡ false
-unless_true true h = absurd (h refl)
-unless_true false h = refl
-
 -- a denominator of 0 is answered with its fault
 pub zero_answer : (negative : Bool) (q : Quotient) → q.den ≡ 0 → Err ZeroDenominator ≡ answer_of negative q.num q.den
 zero_answer negative q e = rw e refl
@@ -104,7 +100,7 @@ past_answer negative q some h =
 
 fit_answer : (o : Option Fraction) (f : Fraction) → SomeIff o (IsTrue (fits f)) f
     → ok_or o Range ≡ cond (fits f) (Ok f) (Err Range)
-fit_answer None f h = rw (unless_true (fits f) h) refl
+fit_answer None f h = rw (false_from_ne_true (fits f) h) refl
 fit_answer (Some x) f h = rw h.0 (ap Ok h.1)
 
 -- two parts that are kept exactly are answered by their fraction if it fits, and else as out of range

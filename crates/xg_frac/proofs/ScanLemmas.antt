@@ -2,7 +2,7 @@
 use Rattle.std.proofs.Common.{◌≡◌, ℕ, suc, ◌+◌, ◌-◌, ◌*◌, ◌^◌, ◌<◌, ◌≤◌, min, Bool, true, false, cond, Option, Some, None, List, [], ◌∷◌, ◌++◌, length, get_or, take, drop, refl, sym, ap, ◌∙◌, subst, ◌⊎◌, ⊎_elim, add-one, ltb, arith}
 use Rattle.std.specs.Char.{is_ascii_digit}
 use Rattle.std.specs.Str.{all_ascii_digits}
-use Rattle.std.proofs.lemmas.Bool.{cases_lt, and_from, and_parts, lt-ltb, ltb-true, eq-eqb, ne_eqb}
+use Rattle.std.proofs.lemmas.Bool.{cases_lt, and_from, and_parts, lt-ltb, ltb-true, eq-eqb, ne_eqb, false_from_ne_true}
 use Rattle.std.proofs.lemmas.List.{append-nil, length-append, length-drop}
 use Rattle.std.proofs.Math.Seq.{drop-cons, take-length}
 use Rattle.std.proofs.lemmas.List.Prefix.{front_rest}
@@ -93,14 +93,10 @@ numeral_yes bs some h =
     let whole = leading_digits-whole bs h in
     and_from _ _ (subst (λ (xs : List ℕ). all_ascii_digits xs ≡ true) whole (leading_digits-digits bs)) (lt-ltb 0 (length bs) (omega (arith, ap length whole)))
 
-false_unless : (b : Bool) → (b ≡ true → ⊥) → b ≡ false
-false_unless true h = absurd (h refl)
-false_unless false h = refl
-
 -- bytes with no digit in front, or with more than the digits, are no numeral
 pub numeral_no : (bs : List ℕ) → (length (leading_digits bs) ≡ 0) ⊎ (length (leading_digits bs) < length bs)
     → is_numeral bs ≡ false
-numeral_no bs h = false_unless (is_numeral bs) (λ e.
+numeral_no bs h = false_from_ne_true (is_numeral bs) (λ e.
     let parts = and_parts (all_ascii_digits bs) (ltb 0 (length bs)) e in
     let same = ap length (leading_digits-digits_only bs parts.0) in
     let some = ltb-true 0 (length bs) parts.1 in

@@ -8,8 +8,8 @@ use Rattle.std.proofs.lemmas.List.{map-append, map-set}
 use Rattle.def_file.specs.Content.{Action, SetEntry, OutcomeEntry}
 use Rattle.def_file.specs.Faults.{no_set, set_at, set_place_of, null_outcome, outcome_at, outcome_place_of}
 use Rattle.def_file.specs.Adding.{kept_name}
-use Rattle.xg_game.specs.Actions.{IsWithin}
-use Rattle.xg_game.specs.Sets.{AreWithin, set_of}
+use Rattle.xg_game.specs.Actions.{SpanIsWithin}
+use Rattle.xg_game.specs.Sets.{SpansAreWithin, set_of}
 use Rattle.xg_game.specs.Outcomes.{outcome_of}
 use Rattle.xg_game.specs.declared.actions.Span.{Span}
 use Rattle.xg_game.specs.declared.table.Described.{Described}
@@ -109,53 +109,57 @@ set_renamed all es new table i e given at seen put =
     ∙ ap (λ (ss : List SetEntry). set ss i (record (set_at ss i) { name = kept_name (set_at ss i).name given })) seen
 
 -- the actions of the sets are still within more of them
-pub within_more : (size more : ℕ) (es : List (ℕ × KnownSet)) → size ≤ more → AreWithin size es → AreWithin more es
+pub within_more : (size more : ℕ) (es : List (ℕ × KnownSet)) → size ≤ more → SpansAreWithin size es
+    → SpansAreWithin more es
 within_more size more [] grow within = tt
 within_more size more (e ∷ es) grow within =
     ((within.0.0, omega (arith, grow, within.0.1)), within_more size more es grow within.1)
 
 -- those of one set more, too
-within_last : (size : ℕ) (es : List (ℕ × KnownSet)) (e : ℕ × KnownSet) → AreWithin size es → IsWithin size e.1.value
-    → AreWithin size (es ++ e ∷ [])
+within_last : (size : ℕ) (es : List (ℕ × KnownSet)) (e : ℕ × KnownSet) → SpansAreWithin size es
+    → SpanIsWithin size e.1.value
+    → SpansAreWithin size (es ++ e ∷ [])
 within_last size [] e within last = (last, tt)
 within_last size (x ∷ es) e within last = (within.0, within_last size es e within.1 last)
 
 -- and where it is one more, or none more
 pub within_put : {T E : Type 0} (r : Result T E) (size more : ℕ) (es new : List (ℕ × KnownSet)) (e : ℕ × KnownSet)
-    → AreWithin size es → size ≤ more → IsWithin more e.1.value → OnOk r (new ≡ es ++ e ∷ []) → OnErr r (new ≡ es)
-    → AreWithin more new
+    → SpansAreWithin size es → size ≤ more → SpanIsWithin more e.1.value → OnOk r (new ≡ es ++ e ∷ [])
+    → OnErr r (new ≡ es)
+    → SpansAreWithin more new
 within_put (Ok x) size more es new e within grow last ok err =
-    subst (AreWithin more) (sym ok) (within_last more es e (within_more size more es grow within) last)
-within_put (Err x) size more es new e within grow last ok err = subst (AreWithin more) (sym err) (within_more size more es grow within)
+    subst (SpansAreWithin more) (sym ok) (within_last more es e (within_more size more es grow within) last)
+within_put (Err x) size more es new e within grow last ok err = subst (SpansAreWithin more) (sym err) (within_more size more es grow within)
 
 -- and of a set that gets a name
 within_named : (size : ℕ) (es : List (ℕ × KnownSet)) (i : ℕ) (e : ℕ × KnownSet) (name : Option (List ℕ))
-    → slice_get es i ≡ Some e → AreWithin size es → AreWithin size (set es i (e.0, record e.1 { name = name }))
+    → slice_get es i ≡ Some e → SpansAreWithin size es
+    → SpansAreWithin size (set es i (e.0, record e.1 { name = name }))
 within_named size [] i e name at within = cc
 within_named size (x ∷ es) zero e name at within =
-    let same : x ≡ e = cc in (subst (λ (y : ℕ × KnownSet). IsWithin size y.1.value) same within.0, within.1)
+    let same : x ≡ e = cc in (subst (λ (y : ℕ × KnownSet). SpanIsWithin size y.1.value) same within.0, within.1)
 within_named size (x ∷ es) (suc i) e name at within = (within.0, within_named size es i e name at within.1)
 
 -- or would get one
 pub within_given : {T E : Type 0} (r : Result T E) (size : ℕ) (es new : List (ℕ × KnownSet)) (i : ℕ) (e : ℕ × KnownSet)
     (name : Option (List ℕ))
-    → slice_get es i ≡ Some e → AreWithin size es → OnOk r (new ≡ set es i (e.0, record e.1 { name = name }))
+    → slice_get es i ≡ Some e → SpansAreWithin size es → OnOk r (new ≡ set es i (e.0, record e.1 { name = name }))
     → OnErr r (new ≡ es)
-    → AreWithin size new
-within_given (Ok x) size es new i e name at within ok err = subst (AreWithin size) (sym ok) (within_named size es i e name at within)
-within_given (Err x) size es new i e name at within ok err = subst (AreWithin size) (sym err) within
+    → SpansAreWithin size new
+within_given (Ok x) size es new i e name at within ok err = subst (SpansAreWithin size) (sym ok) (within_named size es i e name at within)
+within_given (Err x) size es new i e name at within ok err = subst (SpansAreWithin size) (sym err) within
 
 -- those of the set at a place
 pub within_at : (size : ℕ) (es : List (ℕ × KnownSet)) (i : ℕ) (known : KnownSet)
     → slice_get (values_of es) i ≡ Some known
-    → AreWithin size es → IsWithin size known.value
+    → SpansAreWithin size es → SpanIsWithin size known.value
 within_at size [] i known at within = cc
 within_at size (x ∷ es) zero known at within =
-    let same : x.1 ≡ known = cc in subst (λ (k : KnownSet). IsWithin size k.value) same within.0
+    let same : x.1 ≡ known = cc in subst (λ (k : KnownSet). SpanIsWithin size k.value) same within.0
 within_at size (x ∷ es) (suc i) known at within = within_at size es i known at within.1
 
 -- actions behind those of the sets change no set
-sets_stay : (all more : List Action) (es : List (ℕ × KnownSet)) → AreWithin (length all) es
+sets_stay : (all more : List Action) (es : List (ℕ × KnownSet)) → SpansAreWithin (length all) es
     → map (set_of (all ++ more)) es ≡ map (set_of all) es
 sets_stay all more [] within = refl
 sets_stay all more ((n, known) ∷ es) within =
@@ -164,7 +168,7 @@ sets_stay all more ((n, known) ∷ es) within =
 
 -- one more entry in a table, with its actions behind the others, is one more set behind the others
 pub set_added : (all more new : List Action) (es : List (ℕ × KnownSet)) (n : ℕ) (known : KnownSet)
-    → AreWithin (length all) es → new ≡ all ++ more → known.value.start ≡ length all → known.value.end ≡ length new
+    → SpansAreWithin (length all) es → new ≡ all ++ more → known.value.start ≡ length all → known.value.end ≡ length new
     → map (set_of new) (es ++ (n, known) ∷ [])
     ≡ map (set_of all) es ++ record { number = n; name = known.name; actions = more } ∷ []
 set_added all more new es n known within put start end =

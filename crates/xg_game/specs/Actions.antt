@@ -21,8 +21,8 @@ action_kept a = action_with a.name.now a.chance
 abbrev pub actions_in : List Action → Span → List Action
 actions_in actions span = slice_range actions span.start span.end
 
-abbrev pub IsWithin : ℕ → Span → Type 0
-IsWithin size span = (span.start ≤ span.end) × (span.end ≤ size)
+abbrev pub SpanIsWithin : ℕ → Span → Type 0
+SpanIsWithin size span = (span.start ≤ span.end) × (span.end ≤ size)
 
 -- for names that are at least as many, other probabilities give the same actions
 abbrev pub GivesSame : List Fraction → List Fraction → Type 0

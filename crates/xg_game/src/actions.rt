@@ -1,7 +1,7 @@
 //! The actions of sets, as a game keeps them.
 ghost use Rattle.std.specs.Prelude.{◌≡◌, ◌↔◌, ◌<◌, ◌≤◌, [], ◌∷◌, ◌++◌, length, slice_get, slice_index_or, IfOk, IsTrue, OnOk, Some};
 ghost use Rattle.def_file.specs.Content.{zero_fraction};
-ghost use Rattle.xg_game.specs.Actions.{GivesSame, IsWithin, action_kept, action_with, actions_in};
+ghost use Rattle.xg_game.specs.Actions.{GivesSame, SpanIsWithin, action_kept, action_with, actions_in};
 ghost use Rattle.xg_record.specs.Entry.{actions_seen};
 
 use crate::outcomes::zero;
@@ -11,7 +11,7 @@ use std::cmp::Ordering;
 use std::marker::Model;
 use xg_frac::{Frac, compare};
 use xg_lex::TextView;
-use xg_record::ActionsView;
+use xg_record::EntryActions;
 
 /// The greatest number of actions of all sets of a kind: more count as more than there is memory for.
 const MOST_KEPT: usize = 0xFFFF_FFFF;
@@ -81,7 +81,7 @@ impl KeptActions {
 
     /// The actions of a set.
     pub(crate) fn of(&self, span: Span) -> ActionList<'_>
-        requires { IsWithin (length self.now) span }
+        requires { SpanIsWithin (length self.now) span }
         ensures { result ≡ actions_in self.now span }
     {
         ActionList {
@@ -95,7 +95,7 @@ impl KeptActions {
     pub(crate) fn add(
         &mut self,
         alloc: Global,
-        actions: &ActionsView<'_>,
+        actions: &EntryActions<'_>,
     ) -> Result<Span, AllocError>
         ensures ok { OnOk result (self.new ≡ self.old ++ actions_seen actions.now) }
         ensures span { IfOk result (λ span. (span.start ≡ length self.old) × (span.end ≡ length self.new)) }

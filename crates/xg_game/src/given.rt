@@ -12,7 +12,7 @@ use std::alloc::{AllocError, Global};
 use std::cmp::Ordering;
 use xg_frac::{Frac, compare};
 use xg_lex::{Text, TextView};
-use xg_record::{ActionView, ActionsView};
+use xg_record::{ActionView, EntryActions};
 use xg_tree::Kind;
 
 /// Whether texts have the same bytes.
@@ -59,8 +59,8 @@ pub(crate) fn keep_name(
     ensures ok { OnOk result (kept.new ≡ adding.kept_name kept.old given.now) }
     ensures err { OnErr result (kept.new ≡ kept.old) }
 {
-    if kept.is_none() && given.is_some() {
-        *kept = to_keep(alloc, given)?;
+    if let (None, Some(given)) = (&*kept, given) {
+        *kept = Some(given.to_text(alloc)?);
     }
     Ok(())
 }
@@ -82,7 +82,7 @@ pub(crate) fn to_keep(
 pub(crate) fn actions_differ(
     kind: Kind,
     kept: &ActionList<'_>,
-    given: &Option<ActionsView<'_>>,
+    given: &Option<EntryActions<'_>>,
 ) -> bool
     ensures { result ≡ faults.actions_differ kind kept.now (option_map actions_seen given.now) }
 {
@@ -93,7 +93,7 @@ pub(crate) fn actions_differ(
 }
 
 /// Whether lists of actions are as long, and the same at each place.
-fn same_actions(kind: Kind, kept: &ActionList<'_>, given: &ActionsView<'_>) -> bool
+fn same_actions(kind: Kind, kept: &ActionList<'_>, given: &EntryActions<'_>) -> bool
     ensures { result ≡ pointwise (faults.same_action kind) kept.now (actions_seen given.now) }
 {
     if kept.len() != given.len() {

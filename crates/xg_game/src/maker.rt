@@ -8,7 +8,7 @@ ghost use Rattle.def_file.specs.declared.FileFault.{FileFault};
 ghost use Rattle.def_tree.specs.Rules.{KeepRules, most_nodes};
 ghost use Rattle.def_tree.specs.Tree.{Begins, wanted};
 ghost use Rattle.xg_game.specs.Prologues.{prologue_with};
-ghost use Rattle.xg_record.specs.Entry.{entry_of};
+ghost use Rattle.xg_record.specs.Entry.{entry_seen};
 ghost use Rattle.xg_record.specs.Record.{record_of};
 
 use crate::fault::Refused;
@@ -114,15 +114,15 @@ impl GameMaker {
         requires unspent { self.old.spent ≡ false }
         requires outcome { entry.now.outcome ≤ most }
         requires set { IsTrue (has_set entry.now.kind) → (1 ≤ entry.now.set) × (entry.now.set ≤ most) }
-        ensures ok { let contents = with_record self.old.contents (entry_of entry.now) in
+        ensures ok { let contents = with_record self.old.contents (entry_seen entry.now) in
             OnOk result (self.new ≡ record self.old { contents = contents }) }
-        ensures accepted { OnOk result (record_fault self.old.contents (entry_of entry.now) ≡ None) }
+        ensures accepted { OnOk result (record_fault self.old.contents (entry_seen entry.now) ≡ None) }
 
         // A fault is the first of the entry, and is always found.
         ensures refused { (fault : FileFault) → result ≡ Err (Refused.File fault) →
-            (record_fault self.old.contents (entry_of entry.now) ≡ Some fault) × (self.new ≡ self.old) }
+            (record_fault self.old.contents (entry_seen entry.now) ≡ Some fault) × (self.new ≡ self.old) }
         ensures faults { (fault : FileFault) →
-            record_fault self.old.contents (entry_of entry.now) ≡ Some fault →
+            record_fault self.old.contents (entry_seen entry.now) ≡ Some fault →
             result ≡ Err (Refused.File fault) }
 
         ensures spent { (result ≡ Err Refused.NoMemory) ↔ (self.new.spent ≡ true) }

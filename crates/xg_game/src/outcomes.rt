@@ -5,7 +5,7 @@ ghost use Rattle.def_file.specs.Content.{OutcomeEntry, zero_fraction};
 ghost use Rattle.def_file.specs.Faults as faults;
 ghost use Rattle.xg_game.specs.Mentions.{outcome_mention};
 ghost use Rattle.xg_game.specs.Places.{place_of_outcome};
-ghost use Rattle.xg_record.specs.Entry.{entry_of};
+ghost use Rattle.xg_record.specs.Entry.{entry_seen};
 
 use crate::given::{name_differs, same_value, to_keep};
 use crate::table::{Described, NumberTable};
@@ -88,7 +88,7 @@ impl OutcomeTable {
     /// Whether the entry is the first to mention its outcome, and has no payoffs.
     pub(crate) fn is_undefined(&self, entry: &Entry<'_>, place: Option<usize>) -> bool
         requires { place ≡ place_of_outcome entry.now.outcome self.now }
-        ensures { result ≡ faults.is_outcome_undefined self.now (entry_of entry.now).outcome }
+        ensures { result ≡ faults.is_outcome_undefined self.now (entry_seen entry.now).outcome }
     {
         entry.outcome != 0 && place.is_none() && entry.payoffs.is_none()
     }
@@ -96,7 +96,7 @@ impl OutcomeTable {
     /// Whether the entry has another name or other payoffs than are kept of its outcome.
     pub(crate) fn differs(&self, entry: &Entry<'_>, place: Option<usize>) -> bool
         requires { place ≡ place_of_outcome entry.now.outcome self.now }
-        ensures { result ≡ faults.outcome_differs self.now (entry_of entry.now).outcome }
+        ensures { result ≡ faults.outcome_differs self.now (entry_seen entry.now).outcome }
     {
         if entry.outcome == 0 {
             return payoffs_differ(zero(), zero(), entry.payoffs);
@@ -114,7 +114,7 @@ impl OutcomeTable {
     /// Whether the entry is the first to mention its outcome, and has other than two payoffs.
     pub(crate) fn is_miscounted(&self, entry: &Entry<'_>, place: Option<usize>) -> bool
         requires { place ≡ place_of_outcome entry.now.outcome self.now }
-        ensures { result ≡ faults.is_outcome_miscounted self.now (entry_of entry.now).outcome }
+        ensures { result ≡ faults.is_outcome_miscounted self.now (entry_seen entry.now).outcome }
     {
         entry.outcome != 0 && place.is_none() && has_wrong_payoffs(entry.payoffs)
     }
@@ -123,7 +123,7 @@ impl OutcomeTable {
     pub(crate) fn number_with(&self, entry: &Entry<'_>, place: Option<usize>) -> u32
         requires place { place ≡ place_of_outcome entry.now.outcome self.now }
         requires room { length self.now + 1 < 2 ^ 32 }
-        ensures { result ≡ adding.outcome_number self.now (entry_of entry.now).outcome }
+        ensures { result ≡ adding.outcome_number self.now (entry_seen entry.now).outcome }
     {
         if entry.outcome == 0 {
             return 0;

@@ -4,7 +4,7 @@ ghost use Rattle.def_file.specs.Adding as adding;
 ghost use Rattle.def_file.specs.Content.{SetEntry, sets_of_kind, with_sets};
 ghost use Rattle.def_file.specs.Faults as faults;
 ghost use Rattle.xg_game.specs.Mentions.{set_mention};
-ghost use Rattle.xg_record.specs.Entry.{actions_seen, entry_of};
+ghost use Rattle.xg_record.specs.Entry.{actions_seen, entry_seen};
 
 use crate::actions::{ActionList, KeptActions, Span};
 use crate::given::{actions_differ, name_differs, to_keep};
@@ -12,7 +12,7 @@ use crate::table::NumberTable;
 use std::alloc::{AllocError, Global};
 use std::marker::Model;
 use xg_lex::{Text, TextView};
-use xg_record::{ActionsView, Entry};
+use xg_record::{Entry, EntryActions};
 use xg_tree::{Kind, MOST_ACTIONS};
 
 /// What is known of a set: the first name that is given, and the actions of the first mention.
@@ -35,11 +35,11 @@ impl Model for SetTable {
 
     ghost Value = { List SetEntry };
 
-    ghost use Rattle.xg_game.specs.Sets.{AreWithin, set_of};
+    ghost use Rattle.xg_game.specs.Sets.{SpansAreWithin, set_of};
 
     ghost view = { λ t. map (set_of t.actions) t.sets };
 
-    ghost invariant = { λ t. AreWithin (length t.actions) t.sets };
+    ghost invariant = { λ t. SpansAreWithin (length t.actions) t.sets };
 }
 
 impl SetTable {
@@ -92,7 +92,7 @@ impl SetTable {
     /// Whether the entry is the first to mention its set, and has no actions.
     pub(crate) fn is_undefined(&self, entry: &Entry<'_>, place: Option<usize>) -> bool
         requires { place ≡ faults.set_place_of entry.now.set self.now }
-        ensures { result ≡ faults.is_set_undefined self.now (entry_of entry.now).set }
+        ensures { result ≡ faults.is_set_undefined self.now (entry_seen entry.now).set }
     {
         place.is_none() && entry.actions.is_none()
     }
@@ -100,7 +100,7 @@ impl SetTable {
     /// Whether the entry has another name or other actions than are kept of its set.
     pub(crate) fn differs(&self, kind: Kind, entry: &Entry<'_>, place: Option<usize>) -> bool
         requires { place ≡ faults.set_place_of entry.now.set self.now }
-        ensures { result ≡ faults.set_differs kind self.now (entry_of entry.now).set }
+        ensures { result ≡ faults.set_differs kind self.now (entry_seen entry.now).set }
     {
         match place {
             Some(i) => {
@@ -115,7 +115,7 @@ impl SetTable {
     /// Whether the entry is the first to mention its set, and has no action or too many.
     pub(crate) fn is_miscounted(&self, entry: &Entry<'_>, place: Option<usize>) -> bool
         requires { place ≡ faults.set_place_of entry.now.set self.now }
-        ensures { result ≡ faults.is_set_miscounted self.now (entry_of entry.now).set }
+        ensures { result ≡ faults.is_set_miscounted self.now (entry_seen entry.now).set }
     {
         place.is_none() && has_wrong_count(&entry.actions)
     }
@@ -124,7 +124,7 @@ impl SetTable {
     pub(crate) fn number_with(&self, entry: &Entry<'_>, place: Option<usize>) -> u32
         requires place { place ≡ faults.set_place_of entry.now.set self.now }
         requires room { length self.now + 1 < 2 ^ 32 }
-        ensures { result ≡ adding.set_number self.now (entry_of entry.now).set }
+        ensures { result ≡ adding.set_number self.now (entry_seen entry.now).set }
     {
         place.unwrap_or(self.len()) as u32 + 1
     }
@@ -132,8 +132,8 @@ impl SetTable {
     /// How many actions the entry's set has.
     pub(crate) fn action_count_with(&self, entry: &Entry<'_>, place: Option<usize>) -> u32
         requires place { place ≡ faults.set_place_of entry.now.set self.now }
-        requires few { adding.action_count self.now (entry_of entry.now).set < 2 ^ 32 }
-        ensures { result ≡ adding.action_count self.now (entry_of entry.now).set }
+        requires few { adding.action_count self.now (entry_seen entry.now).set < 2 ^ 32 }
+        ensures { result ≡ adding.action_count self.now (entry_seen entry.now).set }
     {
         match place {
             Some(i) => self.get(i).actions.len() as u32,
@@ -152,7 +152,7 @@ impl SetTable {
         place: Option<usize>,
         number: u64,
         name: &Option<TextView<'_>>,
-        actions: &Option<ActionsView<'_>>,
+        actions: &Option<EntryActions<'_>>,
     ) -> Result<(), AllocError>
         requires place { place ≡ faults.set_place_of number self.old }
         requires defined { let mention = set_mention number name.now (option_map actions_seen actions.now) in
@@ -190,7 +190,7 @@ impl SetTable {
         alloc: Global,
         number: u64,
         name: &Option<TextView<'_>>,
-        actions: &ActionsView<'_>,
+        actions: &EntryActions<'_>,
     ) -> Result<(), AllocError>
         requires new { faults.set_place_of number self.old ≡ None }
         requires room { length self.old + 1 < 2 ^ 32 }
@@ -205,7 +205,7 @@ impl SetTable {
 }
 
 /// Whether there is a list of actions that has none or too many.
-fn has_wrong_count(actions: &Option<ActionsView<'_>>) -> bool
+fn has_wrong_count(actions: &Option<EntryActions<'_>>) -> bool
     ensures { result ≡ faults.has_wrong_count (option_map actions_seen actions.now) }
 {
     match actions {
@@ -275,7 +275,7 @@ impl SetTables {
         place: Option<usize>,
         number: u64,
         name: &Option<TextView<'_>>,
-        actions: &Option<ActionsView<'_>>,
+        actions: &Option<EntryActions<'_>>,
     ) -> Result<(), AllocError>
         requires place { place ≡ faults.set_place_of number (sets_of_kind kind self.old) }
         requires defined { let mention = set_mention number name.now (option_map actions_seen actions.now) in

@@ -7,7 +7,7 @@ ghost use Rattle.def_tree.specs.Rules.{KeepRules, most_nodes};
 ghost use Rattle.def_tree.specs.Tree.{Begins, wanted};
 ghost use Rattle.def_file.specs.Game.{AreTogether};
 ghost use Rattle.xg_game.specs.Places.{ArePlacesOf, place_of_set};
-ghost use Rattle.xg_record.specs.Entry.{entry_of};
+ghost use Rattle.xg_record.specs.Entry.{entry_seen};
 
 use crate::outcomes::OutcomeTable;
 use crate::sets::SetTables;
@@ -34,7 +34,7 @@ pub(crate) struct Tables {
     pub(crate) sets: SetTables,
     pub(crate) outcomes: OutcomeTable,
     // For names that are kept.
-    pub(crate) alloc: Global,
+    alloc: Global,
 }
 
 impl Model for Tables {
@@ -78,7 +78,7 @@ impl Tables {
 
     /// Where the set and the outcome of an entry are in the tables.
     pub(crate) fn places(&self, entry: &Entry<'_>) -> Places
-        ensures { ArePlacesOf (entry_of entry.now) self.now result }
+        ensures { ArePlacesOf (entry_seen entry.now) self.now result }
     {
         let kind = mover(entry.kind, entry.player);
         let set = self.sets.find(kind, entry.set);
@@ -92,8 +92,8 @@ impl Tables {
     /// The first fault of an entry after those so far.
     pub(crate) fn fault(&self, entry: &Entry<'_>, places: Places) -> Option<FileFault>
         requires consistent { AreTogether self.now }
-        requires places { ArePlacesOf (entry_of entry.now) self.now places }
-        ensures { result ≡ faults.record_fault self.now (entry_of entry.now) }
+        requires places { ArePlacesOf (entry_seen entry.now) self.now places }
+        ensures { result ≡ faults.record_fault self.now (entry_seen entry.now) }
     {
         let node = self.names.len() as u32 + 1;
         if is_no_player(entry.kind, entry.player) {
@@ -124,8 +124,8 @@ impl Tables {
     }
 
     fn is_set_undefined(&self, entry: &Entry<'_>, place: Option<usize>) -> bool
-        requires { place ≡ place_of_set (entry_of entry.now) self.now.sets }
-        ensures { let r = entry_of entry.now in
+        requires { place ≡ place_of_set (entry_seen entry.now) self.now.sets }
+        ensures { let r = entry_seen entry.now in
             let table = sets_of_kind (faults.mover r) self.now.sets in
             result ≡ faults.has_set r.kind && faults.is_set_undefined table r.set }
     {
@@ -134,8 +134,8 @@ impl Tables {
     }
 
     fn set_differs(&self, entry: &Entry<'_>, place: Option<usize>) -> bool
-        requires { place ≡ place_of_set (entry_of entry.now) self.now.sets }
-        ensures { let r = entry_of entry.now in
+        requires { place ≡ place_of_set (entry_seen entry.now) self.now.sets }
+        ensures { let r = entry_seen entry.now in
             let table = sets_of_kind (faults.mover r) self.now.sets in
             result ≡ faults.has_set r.kind && faults.set_differs (faults.mover r) table r.set }
     {
@@ -144,8 +144,8 @@ impl Tables {
     }
 
     fn is_set_miscounted(&self, entry: &Entry<'_>, place: Option<usize>) -> bool
-        requires { place ≡ place_of_set (entry_of entry.now) self.now.sets }
-        ensures { let r = entry_of entry.now in
+        requires { place ≡ place_of_set (entry_seen entry.now) self.now.sets }
+        ensures { let r = entry_seen entry.now in
             let table = sets_of_kind (faults.mover r) self.now.sets in
             result ≡ faults.has_set r.kind && faults.is_set_miscounted table r.set }
     {
@@ -155,11 +155,11 @@ impl Tables {
 
     /// Takes an entry that has no fault. Where memory runs out, part of it may be in the tables.
     pub(crate) fn keep(&mut self, entry: &Entry<'_>, places: Places) -> Result<(), AllocError>
-        requires places { ArePlacesOf (entry_of entry.now) self.old places }
+        requires places { ArePlacesOf (entry_seen entry.now) self.old places }
         requires consistent { AreTogether self.old }
         requires incomplete { wanted 1 self.old.nodes ≢ 0 }
-        requires faultless { faults.record_fault self.old (entry_of entry.now) ≡ None }
-        ensures { OnOk result (self.new ≡ with_record self.old (entry_of entry.now)) }
+        requires faultless { faults.record_fault self.old (entry_seen entry.now) ≡ None }
+        ensures { OnOk result (self.new ≡ with_record self.old (entry_seen entry.now)) }
     {
         let node = self.node_with(entry, places);
         self.sets.note(
@@ -183,10 +183,10 @@ impl Tables {
 
     /// The node of an entry that has no fault.
     fn node_with(&self, entry: &Entry<'_>, places: Places) -> Node
-        requires places { ArePlacesOf (entry_of entry.now) self.now places }
+        requires places { ArePlacesOf (entry_seen entry.now) self.now places }
         requires consistent { AreTogether self.now }
-        requires faultless { faults.record_fault self.now (entry_of entry.now) ≡ None }
-        ensures { result ≡ node_with self.now (entry_of entry.now) }
+        requires faultless { faults.record_fault self.now (entry_seen entry.now) ≡ None }
+        ensures { result ≡ node_with self.now (entry_seen entry.now) }
     {
         let kind = mover(entry.kind, entry.player);
         let outcome = self.outcomes.number_with(entry, places.outcome);

@@ -6,7 +6,7 @@ use std::process::Abort;
 use xg_frac::{Frac, one_over, whole};
 use xg_lex::{Text, TextView, Tokens, unescape};
 use xg_record::{
-    Action, ActionView, ActionViews, Actions, ActionsView, Entry, EntryKind, Payoffs, Record,
+    Action, ActionView, ActionViews, Actions, Entry, EntryActions, EntryKind, Payoffs, Record,
 };
 
 /// The text of a file that is one text token.
@@ -354,7 +354,7 @@ fn seen_coin<'a>(rt: &impl Abort, set_name: &'a [u8], actions: &'a ActionViews<'
         player: 0,
         set: 4,
         set_name: Some(seen(rt, set_name)),
-        actions: Some(ActionsView::Views(actions)),
+        actions: Some(EntryActions::Viewed(actions)),
         outcome: 0,
         outcome_name: None,
         payoffs: None,

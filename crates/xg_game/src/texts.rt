@@ -6,7 +6,7 @@ use std::marker::Model;
 use xg_lex::TextView;
 
 /// The greatest number of bytes of all texts: more count as more than there is memory for.
-const MOST_BYTES: u64 = 0xFFFF_FFFF;
+const MOST_TEXT_BYTES: u64 = 0xFFFF_FFFF;
 
 /// Texts in their order, one behind the other: where one ends, the next one begins.
 #[derive(Drop)]
@@ -59,7 +59,7 @@ impl Texts {
     {
         self.ends.reserve(1)?;
         let end = self.bytes.len() as u64 + text.len() as u64;
-        if end > MOST_BYTES {
+        if end > MOST_TEXT_BYTES {
             return Err(AllocError);
         }
         self.bytes.extend_from_slice(text)?;

@@ -4,16 +4,11 @@ use Rattle.std.specs.Prelude.{◌&&◌, ◌||◌, nat_eq, nat_le, not}
 use Rattle.std.specs.Char.{is_ascii_digit}
 use Rattle.std.specs.Fmt.{decimal}
 use Rattle.std.specs.Str.{all_ascii_digits}
-use Rattle.std.proofs.lemmas.Bool.{leb-true, ne_eqb}
+use Rattle.std.proofs.lemmas.Bool.{leb-true, ne_eqb, and_parts}
 use Rattle.def_file_tokens.specs.Texts.{EndsPlainly, IsInside, escaped, unescaped}
 use Rattle.def_file_tokens.proofs.TextLemmas.{escaped_is_inside}
 use Rattle.def_fraction.proofs.TextLemmas.{decimal-numeral}
 use Rattle.xg_gen.specs.Plain.{is_plain}
-
-and_true : (a b : Bool) → (a && b) ≡ true → (a ≡ true) × (b ≡ true)
-and_true true true e = (refl, refl)
-and_true true false e = cc
-and_true false b e = cc
 
 -- the first byte is no mark and no backslash
 first_plain : (b : ℕ) (bs : List ℕ) → is_plain (b ∷ bs) ≡ true
@@ -23,7 +18,7 @@ first_plain b bs e = chosen (nat_eq b 34) (nat_eq b 92) e
     chosen : (x y : Bool) → (not (x || y) && is_plain bs) ≡ true → (x ≡ false) × (y ≡ false) × (is_plain bs ≡ true)
     chosen true y e = cc
     chosen false true e = cc
-    chosen false false e = (refl, refl, (and_true true (is_plain bs) e).1)
+    chosen false false e = (refl, refl, (and_parts true (is_plain bs) e).1)
 
 escaped_plain : (bs : List ℕ) → is_plain bs ≡ true → escaped bs ≡ bs
 unfolding escaped
@@ -63,8 +58,8 @@ plain_append (x ∷ xs) ys first second =
 digits_plain : (ds : List ℕ) → all_ascii_digits ds ≡ true → is_plain ds ≡ true
 digits_plain [] e = refl
 digits_plain (d ∷ ds) e =
-    let parts = and_true (is_ascii_digit d) (all_ascii_digits ds) e in
-    let range = and_true (nat_le 48 d) (nat_le d 57) parts.0 in
+    let parts = and_parts (is_ascii_digit d) (all_ascii_digits ds) e in
+    let range = and_parts (nat_le 48 d) (nat_le d 57) parts.0 in
     let low : 48 ≤ d = leb-true 48 d range.0 in
     let high : d ≤ 57 = leb-true d 57 range.1 in
     let no_mark : nat_eq d 34 ≡ false = ne_eqb d 34 (omega arith) in
@@ -72,4 +67,4 @@ digits_plain (d ∷ ds) e =
     rw (no_mark, no_backslash) (digits_plain ds parts.1)
 
 pub decimal_plain : (n : ℕ) → n < 2 ^ 64 → is_plain (decimal n) ≡ true
-decimal_plain n fits = digits_plain (decimal n) (and_true _ _ (decimal-numeral n fits)).0
+decimal_plain n fits = digits_plain (decimal n) (and_parts _ _ (decimal-numeral n fits)).0

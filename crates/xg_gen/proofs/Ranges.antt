@@ -6,7 +6,7 @@ use Rattle.std.proofs.lemmas.List.{append-nil}
 use Rattle.std.proofs.lemmas.Bool.{ne_eqb}
 use Rattle.std.specs.Prelude.{false, nat_eq, not, true}
 use Rattle.def_file.specs.Content.{Action}
-use Rattle.def_poker.specs.Poker.{cards, deal_two, deals, hand, hands, others, rounds, without}
+use Rattle.def_poker.specs.Poker.{cards, deal_two, deals, hand, hands, others, rounds_with_cards, cards_without}
 
 range_from : (a k m : ℕ) → k ≡ suc m → range_with_len a k ≡ a ∷ range_with_len (a + 1) m
 range_from a k m e = ap (range_with_len a) e
@@ -19,10 +19,10 @@ pub range_none : (n a : ℕ) → n + 1 ≤ a → range_with_len a (n + 1 - a) �
 range_none n a high = let none : n + 1 - a ≡ 0 = omega arith in ap (range_with_len a) none
 
 pub others_next : (n i a : ℕ) → a < n + 1
-    → without i (range_with_len a (n + 1 - a))
-    ≡ without i (a ∷ []) ++ without i (range_with_len (a + 1) (n + 1 - (a + 1)))
+    → cards_without i (range_with_len a (n + 1 - a))
+    ≡ cards_without i (a ∷ []) ++ cards_without i (range_with_len (a + 1) (n + 1 - (a + 1)))
 others_next n i a low =
-    ap (without i) (range_next n a low) ∙ filter-append (λ j. not (nat_eq i j)) (a ∷ []) (range_with_len (a + 1) (n + 1 - (a + 1)))
+    ap (cards_without i) (range_next n a low) ∙ filter-append (λ j. not (nat_eq i j)) (a ∷ []) (range_with_len (a + 1) (n + 1 - (a + 1)))
 
 map_append : (f : ℕ → Action) (xs ys : List ℕ) → map f (xs ++ ys) ≡ map f xs ++ map f ys
 map_append f [] ys = refl
@@ -39,12 +39,13 @@ card_pushed f n a actions new all low so_far push =
 
 -- the actions so far and those of the cards from a on, all but card i, still make all when that of card a moves over
 pub other_pushed : (f : ℕ → Action) (n i a : ℕ) (actions new all : List Action) → a < n + 1
-    → actions ++ map f (without i (range_with_len a (n + 1 - a))) ≡ all → new ≡ actions ++ map f (without i (a ∷ []))
-    → new ++ map f (without i (range_with_len (a + 1) (n + 1 - (a + 1)))) ≡ all
+    → actions ++ map f (cards_without i (range_with_len a (n + 1 - a))) ≡ all
+    → new ≡ actions ++ map f (cards_without i (a ∷ []))
+    → new ++ map f (cards_without i (range_with_len (a + 1) (n + 1 - (a + 1)))) ≡ all
 other_pushed f n i a actions new all low so_far push =
-    ap (λ (l : List Action). l ++ map f (without i (range_with_len (a + 1) (n + 1 - (a + 1))))) push
-    ∙ append_assoc actions (map f (without i (a ∷ []))) (map f (without i (range_with_len (a + 1) (n + 1 - (a + 1)))))
-    ∙ ap (λ l. actions ++ l) (sym (map_append f (without i (a ∷ [])) (without i (range_with_len (a + 1) (n + 1 - (a + 1))))))
+    ap (λ (l : List Action). l ++ map f (cards_without i (range_with_len (a + 1) (n + 1 - (a + 1))))) push
+    ∙ append_assoc actions (map f (cards_without i (a ∷ []))) (map f (cards_without i (range_with_len (a + 1) (n + 1 - (a + 1)))))
+    ∙ ap (λ l. actions ++ l) (sym (map_append f (cards_without i (a ∷ [])) (cards_without i (range_with_len (a + 1) (n + 1 - (a + 1))))))
     ∙ ap (λ l. actions ++ map f l) (sym (others_next n i a low)) ∙ so_far
 
 hands_append : (n i : ℕ) (js ks : List ℕ) → hands n i (js ++ ks) ≡ hands n i js ++ hands n i ks
@@ -55,23 +56,23 @@ hands_append n i (j ∷ js) ks =
 
 -- the play of a card, and of those behind it
 pub hands_next : (n i a : ℕ) → a < n + 1
-    → hands n i (without i (range_with_len a (n + 1 - a)))
-    ≡ hands n i (without i (a ∷ [])) ++ hands n i (without i (range_with_len (a + 1) (n + 1 - (a + 1))))
+    → hands n i (cards_without i (range_with_len a (n + 1 - a)))
+    ≡ hands n i (cards_without i (a ∷ [])) ++ hands n i (cards_without i (range_with_len (a + 1) (n + 1 - (a + 1))))
 hands_next n i a low =
-    ap (hands n i) (others_next n i a low) ∙ hands_append n i (without i (a ∷ [])) (without i (range_with_len (a + 1) (n + 1 - (a + 1))))
+    ap (hands n i) (others_next n i a low) ∙ hands_append n i (cards_without i (a ∷ [])) (cards_without i (range_with_len (a + 1) (n + 1 - (a + 1))))
 
 -- where a is above the last card, there is no play against the cards from a on
-pub hands_none : (n i a : ℕ) → n + 1 ≤ a → hands n i (without i (range_with_len a (n + 1 - a))) ≡ []
+pub hands_none : (n i a : ℕ) → n + 1 ≤ a → hands n i (cards_without i (range_with_len a (n + 1 - a))) ≡ []
 unfolding hands
-hands_none n i a high = ap (λ l. hands n i (without i l)) (range_none n a high)
+hands_none n i a high = ap (λ l. hands n i (cards_without i l)) (range_none n a high)
 
 -- a card's own hand, and none of a card that is dealt already
-pub one_hand : (n i j : ℕ) → (i ≡ j → ⊥) → hands n i (without i (j ∷ [])) ≡ hand n i j
+pub one_hand : (n i j : ℕ) → (i ≡ j → ⊥) → hands n i (cards_without i (j ∷ [])) ≡ hand n i j
 unfolding hands
 one_hand n i j other = let no : nat_eq i j ≡ false = ne_eqb i j other in rw no (append-nil (hand n i j))
 
 -- there is no play against the card that is dealt already
-pub no_hand : (n i j : ℕ) → i ≡ j → hands n i (without i (j ∷ [])) ≡ []
+pub no_hand : (n i j : ℕ) → i ≡ j → hands n i (cards_without i (j ∷ [])) ≡ []
 unfolding hands
 no_hand n i j own = let yes : nat_eq i j ≡ true = eq-eqb i j own in rw yes refl
 
@@ -81,12 +82,12 @@ all_cards n = let same : n ≡ n + 1 - 1 = omega arith in ap (range_with_len 1) 
 
 -- from card a on, player one's cards give player two's deal and the play with card a, then what those behind it give
 pub rounds_next : (n a : ℕ) → a < n + 1
-    → rounds n (range_with_len a (n + 1 - a))
-    ≡ (deals (deal_two n a) ∷ hands n a (others n a)) ++ rounds n (range_with_len (a + 1) (n + 1 - (a + 1)))
-unfolding rounds
-rounds_next n a low = ap (rounds n) (range_next n a low)
+    → rounds_with_cards n (range_with_len a (n + 1 - a))
+    ≡ (deals (deal_two n a) ∷ hands n a (others n a)) ++ rounds_with_cards n (range_with_len (a + 1) (n + 1 - (a + 1)))
+unfolding rounds_with_cards
+rounds_next n a low = ap (rounds_with_cards n) (range_next n a low)
 
 -- where a is above the last card, the cards from a on give no round
-pub rounds_none : (n a : ℕ) → n + 1 ≤ a → rounds n (range_with_len a (n + 1 - a)) ≡ []
-unfolding rounds
-rounds_none n a high = ap (rounds n) (range_none n a high)
+pub rounds_none : (n a : ℕ) → n + 1 ≤ a → rounds_with_cards n (range_with_len a (n + 1 - a)) ≡ []
+unfolding rounds_with_cards
+rounds_none n a high = ap (rounds_with_cards n) (range_none n a high)

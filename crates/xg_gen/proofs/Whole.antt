@@ -18,7 +18,7 @@ use Rattle.def_poker.proofs.Described.{entries_describe, outcome_with, set_with}
 use Rattle.def_poker.proofs.Sizes.{entries_begin, poker_is_game}
 use Rattle.xg_game.specs.Made.{Made}
 use Rattle.xg_game.specs.Prologues.{prologue_with}
-use Rattle.xg_gen.specs.Taken.{Adds, AreWanted, Takes, with_entries}
+use Rattle.xg_gen.specs.Taken.{GainsEntries, AreWanted, Takes, with_entries}
 
 with_all : (done rest : List Record) → with_entries (contents_of done) rest ≡ contents_of (done ++ rest)
 with_all done [] = ap contents_of (sym (append-nil done))
@@ -50,21 +50,21 @@ new_takes n two limit maker unspent empty = record {
 }
 
 -- and has then the contents of the game
-pub then_has : (n : ℕ) (maker now : Made) → maker.contents ≡ no_contents → Adds maker now (entries n)
+pub then_has : (n : ℕ) (maker now : Made) → maker.contents ≡ no_contents → GainsEntries maker now (entries n)
     → now.contents ≡ contents_of (entries n)
 then_has n maker now empty adds =
     ap (λ (m : Made). m.contents) adds.same ∙ ap (λ (c : Contents). with_entries c (entries n)) empty ∙ with_all [] (entries n)
 
 -- whose nodes are a whole tree
 pub then_whole : (n : ℕ) → 2 ≤ n → n ≤ 64 → (maker now : Made) → maker.contents ≡ no_contents
-    → Adds maker now (entries n)
+    → GainsEntries maker now (entries n)
     → wanted 1 now.contents.nodes ≡ 0
 then_whole n two limit maker now empty adds =
     ap (λ (c : Contents). wanted 1 c.nodes) (then_has n maker now empty adds) ∙ (poker_is_game n two limit).1.ends
 
 -- with the prologue of one-card poker, and its entries added to no contents, the game that was made is one-card poker
 pub then_game : (n : ℕ) (maker now : Made) → maker.contents ≡ no_contents → maker.prologue ≡ prologue n
-    → Adds maker now (entries n)
+    → GainsEntries maker now (entries n)
     → game_with now.prologue now.contents ≡ poker n
 unfolding poker
 then_game n maker now empty texts adds =

@@ -22,5 +22,5 @@ pub record Takes (maker : Made) (rs : List Record) : Type 0 where
   pub wanted : AreWanted maker.contents rs
 
 -- and has them besides
-pub record Adds (before now : Made) (rs : List Record) : Type 0 where
+pub record GainsEntries (before now : Made) (rs : List Record) : Type 0 where
   pub same : now ≡ record before { contents = with_entries before.contents rs }

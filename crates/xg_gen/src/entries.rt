@@ -4,8 +4,8 @@ ghost use Rattle.def_fraction.specs.Fraction.{most};
 ghost use Rattle.def_file.specs.Faults.{has_set};
 ghost use Rattle.def_poker.specs.Poker as def;
 ghost use Rattle.xg_record.specs.Record.{record_of};
-ghost use Rattle.xg_gen.specs.Described.{outcome_of, set_of};
-ghost use Rattle.xg_gen.specs.Taken.{Adds, Takes};
+ghost use Rattle.xg_gen.specs.Described.{mention_of_outcome, mention_of_set};
+ghost use Rattle.xg_gen.specs.Taken.{GainsEntries, Takes};
 
 use crate::mentions::{
     DescribedOutcome, DescribedSet, after_bet, after_check, answer, opening, wins_one, wins_two,
@@ -28,7 +28,7 @@ pub(crate) fn put_hand(
     requires one { 1 ≤ i }
     requires two { 1 ≤ j }
     requires takes { Takes maker.old (def.hand n i j) }
-    ensures { OnOk result (Adds maker.old maker.new (def.hand n i j)) }
+    ensures { OnOk result (GainsEntries maker.old maker.new (def.hand n i j)) }
 {
     put_opening(maker, alloc, i)?;
     put_after_check(maker, alloc, j)?;
@@ -47,8 +47,8 @@ fn higher(i: u32, j: u32) -> Player
 
 fn put_opening(maker: &mut GameMaker, alloc: Global, i: u32) -> Result<(), AllocError>
     requires card { 1 ≤ i }
-    requires takes { Takes maker.old (def.moves 1 (def.opening i) ∷ []) }
-    ensures { OnOk result (Adds maker.old maker.new (def.moves 1 (def.opening i) ∷ [])) }
+    requires takes { Takes maker.old (def.moves 1 (def.opening_set i) ∷ []) }
+    ensures { OnOk result (GainsEntries maker.old maker.new (def.moves 1 (def.opening_set i) ∷ [])) }
 {
     let set = opening(alloc, i)?;
     put_move(maker, alloc, 1, set)
@@ -57,7 +57,7 @@ fn put_opening(maker: &mut GameMaker, alloc: Global, i: u32) -> Result<(), Alloc
 fn put_after_check(maker: &mut GameMaker, alloc: Global, j: u32) -> Result<(), AllocError>
     requires card { 1 ≤ j }
     requires takes { Takes maker.old (def.moves 2 (def.after_check j) ∷ []) }
-    ensures { OnOk result (Adds maker.old maker.new (def.moves 2 (def.after_check j) ∷ [])) }
+    ensures { OnOk result (GainsEntries maker.old maker.new (def.moves 2 (def.after_check j) ∷ [])) }
 {
     let set = after_check(alloc, j)?;
     put_move(maker, alloc, 2, set)
@@ -65,8 +65,8 @@ fn put_after_check(maker: &mut GameMaker, alloc: Global, j: u32) -> Result<(), A
 
 /// Two checks.
 fn put_showdown(maker: &mut GameMaker, alloc: Global, i: u32, j: u32) -> Result<(), AllocError>
-    requires { Takes maker.old (def.ends (def.wins_one (def.higher i j)) ∷ []) }
-    ensures { OnOk result (Adds maker.old maker.new (def.ends (def.wins_one (def.higher i j)) ∷ [])) }
+    requires { Takes maker.old (def.ending_entry (def.wins_one (def.higher i j)) ∷ []) }
+    ensures { OnOk result (GainsEntries maker.old maker.new (def.ending_entry (def.wins_one (def.higher i j)) ∷ [])) }
 {
     let outcome = wins_one(alloc, higher(i, j))?;
     put_end(maker, alloc, outcome)
@@ -82,7 +82,7 @@ fn put_answer(
 ) -> Result<(), AllocError>
     requires card { 1 ≤ i }
     requires takes { Takes maker.old (def.facing_bet 1 (def.answer n i) (def.wins_one Player.Two) (def.wins_two (def.higher i j))) }
-    ensures { OnOk result (Adds maker.old maker.new (def.facing_bet 1 (def.answer n i) (def.wins_one Player.Two) (def.wins_two (def.higher i j)))) }
+    ensures { OnOk result (GainsEntries maker.old maker.new (def.facing_bet 1 (def.answer n i) (def.wins_one Player.Two) (def.wins_two (def.higher i j)))) }
 {
     let set = answer(alloc, n, i)?;
     let folded = wins_one(alloc, Player::Two)?;
@@ -100,7 +100,7 @@ fn put_after_bet(
 ) -> Result<(), AllocError>
     requires card { 1 ≤ j }
     requires takes { Takes maker.old (def.facing_bet 2 (def.after_bet n j) (def.wins_one Player.One) (def.wins_two (def.higher i j))) }
-    ensures { OnOk result (Adds maker.old maker.new (def.facing_bet 2 (def.after_bet n j) (def.wins_one Player.One) (def.wins_two (def.higher i j)))) }
+    ensures { OnOk result (GainsEntries maker.old maker.new (def.facing_bet 2 (def.after_bet n j) (def.wins_one Player.One) (def.wins_two (def.higher i j)))) }
 {
     let set = after_bet(alloc, n, j)?;
     let folded = wins_one(alloc, Player::One)?;
@@ -122,8 +122,8 @@ fn put_facing_bet(
     requires set { set.number ≤ most }
     requires folded { folded.number ≤ most }
     requires called { called.number ≤ most }
-    requires takes { Takes maker.old (def.facing_bet player (set_of set) (outcome_of folded) (outcome_of called)) }
-    ensures { OnOk result (Adds maker.old maker.new (def.facing_bet player (set_of set) (outcome_of folded) (outcome_of called))) }
+    requires takes { Takes maker.old (def.facing_bet player (mention_of_set set) (mention_of_outcome folded) (mention_of_outcome called)) }
+    ensures { OnOk result (GainsEntries maker.old maker.new (def.facing_bet player (mention_of_set set) (mention_of_outcome folded) (mention_of_outcome called))) }
 {
     put_move(maker, alloc, player, set)?;
     put_end(maker, alloc, folded)?;
@@ -138,8 +138,8 @@ pub(crate) fn put_deal(
 ) -> Result<(), AllocError>
     requires from_one { 1 ≤ set.number }
     requires set { set.number ≤ most }
-    requires takes { Takes maker.old (def.deals (set_of set) ∷ []) }
-    ensures { OnOk result (Adds maker.old maker.new (def.deals (set_of set) ∷ [])) }
+    requires takes { Takes maker.old (def.deals (mention_of_set set) ∷ []) }
+    ensures { OnOk result (GainsEntries maker.old maker.new (def.deals (mention_of_set set) ∷ [])) }
 {
     let name = plain(alloc, b"")?;
     put_entry(maker, inner(EntryKind::Chance, name, 0, set))
@@ -154,8 +154,8 @@ fn put_move(
 ) -> Result<(), AllocError>
     requires from_one { 1 ≤ set.number }
     requires set { set.number ≤ most }
-    requires takes { Takes maker.old (def.moves player (set_of set) ∷ []) }
-    ensures { OnOk result (Adds maker.old maker.new (def.moves player (set_of set) ∷ [])) }
+    requires takes { Takes maker.old (def.moves player (mention_of_set set) ∷ []) }
+    ensures { OnOk result (GainsEntries maker.old maker.new (def.moves player (mention_of_set set) ∷ [])) }
 {
     let name = plain(alloc, b"")?;
     put_entry(maker, inner(EntryKind::Personal, name, player, set))
@@ -168,8 +168,8 @@ fn put_end(
     outcome: DescribedOutcome,
 ) -> Result<(), AllocError>
     requires outcome { outcome.number ≤ most }
-    requires takes { Takes maker.old (def.ends (outcome_of outcome) ∷ []) }
-    ensures { OnOk result (Adds maker.old maker.new (def.ends (outcome_of outcome) ∷ [])) }
+    requires takes { Takes maker.old (def.ending_entry (mention_of_outcome outcome) ∷ []) }
+    ensures { OnOk result (GainsEntries maker.old maker.new (def.ending_entry (mention_of_outcome outcome) ∷ [])) }
 {
     let entry = Record {
         kind: EntryKind::Leaf,
@@ -187,7 +187,7 @@ fn put_end(
 
 /// An entry with a set and the null outcome.
 fn inner(kind: EntryKind, name: Text, player: u64, set: DescribedSet) -> Record
-    ensures { record_of result ≡ record { kind = kind; name = name; player = player; set = set_of set; outcome = def.no_outcome } }
+    ensures { record_of result ≡ record { kind = kind; name = name; player = player; set = mention_of_set set; outcome = def.no_outcome } }
 {
     Record {
         kind,
@@ -207,7 +207,7 @@ fn put_entry(maker: &mut GameMaker, entry: Record) -> Result<(), AllocError>
     requires outcome { entry.outcome ≤ most }
     requires set { IsTrue (has_set entry.kind) → (1 ≤ entry.set) × (entry.set ≤ most) }
     requires takes { Takes maker.old (record_of entry ∷ []) }
-    ensures { OnOk result (Adds maker.old maker.new (record_of entry ∷ [])) }
+    ensures { OnOk result (GainsEntries maker.old maker.new (record_of entry ∷ [])) }
 {
     match maker.push(entry) {
         Ok(()) => Ok(()),

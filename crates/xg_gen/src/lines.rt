@@ -4,8 +4,9 @@ ghost use Rattle.def_outside.specs.Cause.{HasCause};
 ghost use Rattle.def_file.specs.Content.{sets_of_kind};
 ghost use Rattle.def_file.specs.Faults.{outcome_at, set_at};
 ghost use Rattle.def_file.specs.Game.{GoesWith, IsInSet};
-ghost use Rattle.def_canon.specs.Canon.{action_pieces, chance_pieces, described_outcome, each, letter, list_pieces, node_pieces, outcome_pieces, payoffs_pieces, place_pieces, player_pieces, set_pieces, text_of};
-ghost use Rattle.xg_gen.specs.Writes.{Writes, no_action};
+ghost use Rattle.def_canon.specs.Canon.{action_pieces, chance_pieces, described_outcome, each, letter, list_pieces, node_pieces, outcome_pieces, payoffs_pieces, place_pieces, player_pieces, set_pieces, text_of_pieces};
+ghost use Rattle.def_outside.specs.Sinks.{Writes};
+ghost use Rattle.xg_gen.specs.Writes.{no_action};
 
 use crate::tokens::{put_close, put_comma, put_fraction, put_name, put_number, put_open, put_text};
 use xg_frac::Frac;
@@ -23,7 +24,7 @@ pub(crate) fn put_node<O: Sink>(
 ) -> Result<(), WriteFault>
     requires { GoesWith game.now.sets game.now.outcomes node }
     ensures text { Writes (O.written out.old) (O.written out.new)
-        (text_of (node_pieces game.now.sets game.now.outcomes node name.now)) result }
+        (text_of_pieces (node_pieces game.now.sets game.now.outcomes node name.now)) result }
     ensures cause { HasCause (O.faults out.old) (O.faults out.new) result }
 {
     put_letter(node.kind, out)?;
@@ -34,9 +35,9 @@ pub(crate) fn put_node<O: Sink>(
 }
 
 /// The letter of a kind of node, on a new line.
-#[tactic(auto, unfolding(def_canon::specs::Canon::text_of))]
+#[tactic(auto, unfolding(def_canon::specs::Canon::text_of_pieces))]
 fn put_letter<O: Sink>(kind: Kind, out: &mut O) -> Result<(), WriteFault>
-    ensures text { Writes (O.written out.old) (O.written out.new) (text_of (letter kind ∷ [])) result }
+    ensures text { Writes (O.written out.old) (O.written out.new) (text_of_pieces (letter kind ∷ [])) result }
     ensures cause { HasCause (O.faults out.old) (O.faults out.new) result }
 {
     match kind {
@@ -49,7 +50,7 @@ fn put_letter<O: Sink>(kind: Kind, out: &mut O) -> Result<(), WriteFault>
 /// The number of the player who moves, if one does.
 #[tactic(auto, using(crate::proofs::Written::nothing), unfolding(def_canon::specs::Canon::player_pieces))]
 fn put_player<O: Sink>(kind: Kind, out: &mut O) -> Result<(), WriteFault>
-    ensures text { Writes (O.written out.old) (O.written out.new) (text_of (player_pieces kind)) result }
+    ensures text { Writes (O.written out.old) (O.written out.new) (text_of_pieces (player_pieces kind)) result }
     ensures cause { HasCause (O.faults out.old) (O.faults out.new) result }
 {
     match kind {
@@ -64,7 +65,7 @@ fn put_player<O: Sink>(kind: Kind, out: &mut O) -> Result<(), WriteFault>
 fn put_place<O: Sink>(game: &Game, kind: Kind, set: u32, out: &mut O) -> Result<(), WriteFault>
     requires from_one { kind ≢ Kind.Leaf → 1 ≤ set }
     requires there { kind ≢ Kind.Leaf → set ≤ length (sets_of_kind kind game.now.sets) }
-    ensures text { Writes (O.written out.old) (O.written out.new) (text_of (place_pieces kind game.now.sets set)) result }
+    ensures text { Writes (O.written out.old) (O.written out.new) (text_of_pieces (place_pieces kind game.now.sets set)) result }
     ensures cause { HasCause (O.faults out.old) (O.faults out.new) result }
 {
     match kind {
@@ -80,7 +81,7 @@ fn put_set<O: Sink>(game: &Game, kind: Kind, set: u32, out: &mut O) -> Result<()
     requires from_one { 1 ≤ set }
     requires there { set ≤ length (sets_of_kind kind game.now.sets) }
     ensures text { let entry = set_at (sets_of_kind kind game.now.sets) (set - 1) in
-        Writes (O.written out.old) (O.written out.new) (text_of (set_pieces kind entry)) result }
+        Writes (O.written out.old) (O.written out.new) (text_of_pieces (set_pieces kind entry)) result }
     ensures cause { HasCause (O.faults out.old) (O.faults out.new) result }
 {
     put_number(game.set_number(kind, set), out)?;
@@ -95,7 +96,7 @@ fn put_list<O: Sink>(game: &Game, kind: Kind, set: u32, out: &mut O) -> Result<(
     requires from_one { 1 ≤ set }
     requires there { set ≤ length (sets_of_kind kind game.now.sets) }
     ensures text { let entry = set_at (sets_of_kind kind game.now.sets) (set - 1) in
-        Writes (O.written out.old) (O.written out.new) (text_of (list_pieces kind entry.actions)) result }
+        Writes (O.written out.old) (O.written out.new) (text_of_pieces (list_pieces kind entry.actions)) result }
     ensures cause { HasCause (O.faults out.old) (O.faults out.new) result }
 {
     put_open(out)?;
@@ -109,7 +110,7 @@ fn put_actions<O: Sink>(game: &Game, kind: Kind, set: u32, out: &mut O) -> Resul
     requires from_one { 1 ≤ set }
     requires there { set ≤ length (sets_of_kind kind game.now.sets) }
     ensures text { let entry = set_at (sets_of_kind kind game.now.sets) (set - 1) in
-        Writes (O.written out.old) (O.written out.new) (text_of (each (action_pieces kind) entry.actions)) result }
+        Writes (O.written out.old) (O.written out.new) (text_of_pieces (each (action_pieces kind) entry.actions)) result }
     ensures cause { HasCause (O.faults out.old) (O.faults out.new) result }
 {
     'actions: for i in 0..game.action_count(kind, set) {
@@ -135,7 +136,7 @@ fn put_action<O: Sink>(
         action ≤ length entry.actions }
     ensures text { let entry = set_at (sets_of_kind kind game.now.sets) (set - 1) in
         Writes (O.written out.old) (O.written out.new)
-        (text_of (action_pieces kind (slice_index_or entry.actions (action - 1) no_action))) result }
+        (text_of_pieces (action_pieces kind (slice_index_or entry.actions (action - 1) no_action))) result }
     ensures cause { HasCause (O.faults out.old) (O.faults out.new) result }
 {
     put_text(game.action_name(kind, set, action), out)?;
@@ -159,7 +160,7 @@ fn put_chance<O: Sink>(
         action ≤ length entry.actions }
     ensures text { let entry = set_at (sets_of_kind kind game.now.sets) (set - 1) in
         Writes (O.written out.old) (O.written out.new)
-        (text_of (chance_pieces kind (slice_index_or entry.actions (action - 1) no_action).chance)) result }
+        (text_of_pieces (chance_pieces kind (slice_index_or entry.actions (action - 1) no_action).chance)) result }
     ensures cause { HasCause (O.faults out.old) (O.faults out.new) result }
 {
     match kind {
@@ -172,7 +173,7 @@ fn put_chance<O: Sink>(
 #[tactic(auto, unfolding(def_canon::specs::Canon::outcome_pieces))]
 fn put_outcome<O: Sink>(game: &Game, outcome: u32, out: &mut O) -> Result<(), WriteFault>
     requires { outcome ≤ length game.now.outcomes }
-    ensures text { Writes (O.written out.old) (O.written out.new) (text_of (outcome_pieces game.now.outcomes outcome)) result }
+    ensures text { Writes (O.written out.old) (O.written out.new) (text_of_pieces (outcome_pieces game.now.outcomes outcome)) result }
     ensures cause { HasCause (O.faults out.old) (O.faults out.new) result }
 {
     if outcome == 0 {
@@ -187,7 +188,7 @@ fn put_described<O: Sink>(game: &Game, outcome: u32, out: &mut O) -> Result<(), 
     requires from_one { 1 ≤ outcome }
     requires there { outcome ≤ length game.now.outcomes }
     ensures text { Writes (O.written out.old) (O.written out.new)
-        (text_of (described_outcome (outcome_at game.now.outcomes (outcome - 1)))) result }
+        (text_of_pieces (described_outcome (outcome_at game.now.outcomes (outcome - 1)))) result }
     ensures cause { HasCause (O.faults out.old) (O.faults out.new) result }
 {
     put_number(game.outcome_number(outcome), out)?;
@@ -202,7 +203,7 @@ fn put_described<O: Sink>(game: &Game, outcome: u32, out: &mut O) -> Result<(), 
 /// The payoffs of an outcome in braces.
 #[tactic(auto, using(crate::proofs::Written::first_piece, crate::proofs::Written::then_piece), unfolding(def_canon::specs::Canon::payoffs_pieces))]
 fn put_payoffs<O: Sink>(one: Frac, two: Frac, out: &mut O) -> Result<(), WriteFault>
-    ensures text { Writes (O.written out.old) (O.written out.new) (text_of (payoffs_pieces one two)) result }
+    ensures text { Writes (O.written out.old) (O.written out.new) (text_of_pieces (payoffs_pieces one two)) result }
     ensures cause { HasCause (O.faults out.old) (O.faults out.new) result }
 {
     put_open(out)?;

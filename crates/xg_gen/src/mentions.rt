@@ -3,7 +3,7 @@ ghost use Rattle.std.specs.Prelude.{◌≡◌, ◌+◌, ◌-◌, ◌≤◌, [], 
 ghost use Rattle.def_fraction.specs.Fraction.{fits, whole_number};
 ghost use Rattle.def_poker.specs.Poker as def;
 ghost use Rattle.xg_record.specs.Action.{action_of};
-ghost use Rattle.xg_gen.specs.Described.{outcome_of, set_of};
+ghost use Rattle.xg_gen.specs.Described.{mention_of_outcome, mention_of_set};
 ghost use Rattle.xg_gen.specs.Plain.{is_plain};
 
 use crate::texts::{marked, numbered, plain};
@@ -42,7 +42,7 @@ fn number(n: i64) -> Frac
 pub(crate) fn deal_one(alloc: Global, n: u32) -> Result<DescribedSet, AllocError>
     requires low { 1 ≤ n }
     requires high { n ≤ 64 }
-    ensures set { IfOk result (λ set. set_of set ≡ def.deal_one n) }
+    ensures set { IfOk result (λ set. mention_of_set set ≡ def.deal_one n) }
     ensures number { IfOk result (λ set. set.number ≡ 1) }
 {
     Ok(DescribedSet {
@@ -58,7 +58,7 @@ pub(crate) fn deal_two(alloc: Global, n: u32, i: u32) -> Result<DescribedSet, Al
     requires low { 2 ≤ n }
     requires high { n ≤ 64 }
     requires card { i ≤ n }
-    ensures set { IfOk result (λ set. set_of set ≡ def.deal_two n i) }
+    ensures set { IfOk result (λ set. mention_of_set set ≡ def.deal_two n i) }
     ensures number { IfOk result (λ set. set.number ≡ 1 + i) }
 {
     Ok(DescribedSet {
@@ -72,7 +72,7 @@ pub(crate) fn deal_two(alloc: Global, n: u32, i: u32) -> Result<DescribedSet, Al
 fn cards(alloc: Global, n: u32) -> Result<Actions, AllocError>
     requires low { 1 ≤ n }
     requires high { n ≤ 64 }
-    ensures { IfOk result (λ actions. actions ≡ map (def.dealt n) (def.cards n)) }
+    ensures { IfOk result (λ actions. actions ≡ map (def.dealt_card n) (def.cards n)) }
 {
     let mut actions = Actions::new(alloc);
     'cards: for card in 1..n + 1 {
@@ -85,7 +85,7 @@ fn cards(alloc: Global, n: u32) -> Result<Actions, AllocError>
 fn other_cards(alloc: Global, n: u32, i: u32) -> Result<Actions, AllocError>
     requires low { 2 ≤ n }
     requires high { n ≤ 64 }
-    ensures { IfOk result (λ actions. actions ≡ map (def.dealt (n - 1)) (def.others n i)) }
+    ensures { IfOk result (λ actions. actions ≡ map (def.dealt_card (n - 1)) (def.others n i)) }
 {
     let mut actions = Actions::new(alloc);
     'cards: for card in 1..n + 1 {
@@ -103,7 +103,7 @@ fn push_other(
     card: u32,
 ) -> Result<(), AllocError>
     requires { 2 ≤ n }
-    ensures { OnOk result (actions.new ≡ actions.old ++ map (def.dealt (n - 1)) (def.without i (card ∷ []))) }
+    ensures { OnOk result (actions.new ≡ actions.old ++ map (def.dealt_card (n - 1)) (def.cards_without i (card ∷ []))) }
 {
     if i != card {
         actions.push(dealt(alloc, n - 1, card)?)?;
@@ -114,7 +114,7 @@ fn push_other(
 /// A card that is dealt as one of `n`.
 fn dealt(alloc: Global, n: u32, card: u32) -> Result<Action, AllocError>
     requires { 1 ≤ n }
-    ensures { IfOk result (λ action. action_of action ≡ def.dealt n card) }
+    ensures { IfOk result (λ action. action_of action ≡ def.dealt_card n card) }
 {
     Ok(Action {
         name: numbered(alloc, b"", card)?,
@@ -123,9 +123,9 @@ fn dealt(alloc: Global, n: u32, card: u32) -> Result<Action, AllocError>
 }
 
 /// Player one opens with card `i`.
-#[tactic(auto, unfolding(def_poker::specs::Poker::opening))]
+#[tactic(auto, unfolding(def_poker::specs::Poker::opening_set))]
 pub(crate) fn opening(alloc: Global, i: u32) -> Result<DescribedSet, AllocError>
-    ensures set { IfOk result (λ set. set_of set ≡ def.opening i) }
+    ensures set { IfOk result (λ set. mention_of_set set ≡ def.opening_set i) }
     ensures number { IfOk result (λ set. set.number ≡ i) }
 {
     Ok(DescribedSet {
@@ -138,7 +138,7 @@ pub(crate) fn opening(alloc: Global, i: u32) -> Result<DescribedSet, AllocError>
 /// Player two with card `j` after a check.
 #[tactic(auto, unfolding(def_poker::specs::Poker::after_check))]
 pub(crate) fn after_check(alloc: Global, j: u32) -> Result<DescribedSet, AllocError>
-    ensures set { IfOk result (λ set. set_of set ≡ def.after_check j) }
+    ensures set { IfOk result (λ set. mention_of_set set ≡ def.after_check j) }
     ensures number { IfOk result (λ set. set.number ≡ j) }
 {
     Ok(DescribedSet {
@@ -151,7 +151,7 @@ pub(crate) fn after_check(alloc: Global, j: u32) -> Result<DescribedSet, AllocEr
 /// Player one with card `i` after a check and a bet.
 #[tactic(auto, unfolding(def_poker::specs::Poker::answer))]
 pub(crate) fn answer(alloc: Global, n: u32, i: u32) -> Result<DescribedSet, AllocError>
-    ensures set { IfOk result (λ set. set_of set ≡ def.answer n i) }
+    ensures set { IfOk result (λ set. mention_of_set set ≡ def.answer n i) }
     ensures number { IfOk result (λ set. set.number ≡ n + i) }
 {
     Ok(DescribedSet {
@@ -164,7 +164,7 @@ pub(crate) fn answer(alloc: Global, n: u32, i: u32) -> Result<DescribedSet, Allo
 /// Player two with card `j` after a bet.
 #[tactic(auto, unfolding(def_poker::specs::Poker::after_bet))]
 pub(crate) fn after_bet(alloc: Global, n: u32, j: u32) -> Result<DescribedSet, AllocError>
-    ensures set { IfOk result (λ set. set_of set ≡ def.after_bet n j) }
+    ensures set { IfOk result (λ set. mention_of_set set ≡ def.after_bet n j) }
     ensures number { IfOk result (λ set. set.number ≡ n + j) }
 {
     Ok(DescribedSet {
@@ -199,7 +199,7 @@ fn player_move(alloc: Global, name: &[u8]) -> Result<Action, AllocError>
 /// A player wins 1.
 #[tactic(auto, unfolding(def_poker::specs::Poker::wins_one))]
 pub(crate) fn wins_one(alloc: Global, winner: Player) -> Result<DescribedOutcome, AllocError>
-    ensures outcome { IfOk result (λ outcome. outcome_of outcome ≡ def.wins_one winner) }
+    ensures outcome { IfOk result (λ outcome. mention_of_outcome outcome ≡ def.wins_one winner) }
     ensures number { IfOk result (λ outcome. outcome.number ≤ 4) }
 {
     match winner {
@@ -211,7 +211,7 @@ pub(crate) fn wins_one(alloc: Global, winner: Player) -> Result<DescribedOutcome
 /// A player wins 2.
 #[tactic(auto, unfolding(def_poker::specs::Poker::wins_two))]
 pub(crate) fn wins_two(alloc: Global, winner: Player) -> Result<DescribedOutcome, AllocError>
-    ensures outcome { IfOk result (λ outcome. outcome_of outcome ≡ def.wins_two winner) }
+    ensures outcome { IfOk result (λ outcome. mention_of_outcome outcome ≡ def.wins_two winner) }
     ensures number { IfOk result (λ outcome. outcome.number ≤ 4) }
 {
     match winner {
@@ -232,7 +232,7 @@ fn outcome(
     requires one { IsTrue (fits (whole_number one)) }
     requires two { IsTrue (fits (whole_number two)) }
     ensures { let payoffs = whole_number one ∷ whole_number two ∷ [] in
-        IfOk result (λ outcome. outcome_of outcome ≡ record { number = number_of; name = Some name.now; payoffs = Some payoffs }) }
+        IfOk result (λ outcome. mention_of_outcome outcome ≡ record { number = number_of; name = Some name.now; payoffs = Some payoffs }) }
 {
     let mut payoffs = Payoffs::new(alloc);
     payoffs.push(number(one))?;

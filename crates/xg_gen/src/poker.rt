@@ -1,7 +1,7 @@
 //! One-card poker.
 ghost use Rattle.std.specs.Prelude.{◌≡◌, ◌≤◌, [], ◌∷◌, IfOk, OnOk};
 ghost use Rattle.def_poker.specs.Poker as def;
-ghost use Rattle.xg_gen.specs.Taken.{Adds, Takes};
+ghost use Rattle.xg_gen.specs.Taken.{GainsEntries, Takes};
 
 use crate::entries::{put_deal, put_hand};
 use crate::mentions::{deal_one, deal_two};
@@ -30,7 +30,7 @@ fn put_entries(maker: &mut GameMaker, alloc: Global, n: u32) -> Result<(), Alloc
     requires low { 2 ≤ n }
     requires high { n ≤ 64 }
     requires takes { Takes maker.old (def.entries n) }
-    ensures { OnOk result (Adds maker.old maker.new (def.entries n)) }
+    ensures { OnOk result (GainsEntries maker.old maker.new (def.entries n)) }
 {
     put_deal_one(maker, alloc, n)?;
     put_rounds(maker, alloc, n)?;
@@ -41,7 +41,7 @@ fn put_deal_one(maker: &mut GameMaker, alloc: Global, n: u32) -> Result<(), Allo
     requires low { 2 ≤ n }
     requires high { n ≤ 64 }
     requires takes { Takes maker.old (def.deals (def.deal_one n) ∷ []) }
-    ensures { OnOk result (Adds maker.old maker.new (def.deals (def.deal_one n) ∷ [])) }
+    ensures { OnOk result (GainsEntries maker.old maker.new (def.deals (def.deal_one n) ∷ [])) }
 {
     let set = deal_one(alloc, n)?;
     put_deal(maker, alloc, set)
@@ -51,8 +51,8 @@ fn put_deal_one(maker: &mut GameMaker, alloc: Global, n: u32) -> Result<(), Allo
 fn put_rounds(maker: &mut GameMaker, alloc: Global, n: u32) -> Result<(), AllocError>
     requires low { 2 ≤ n }
     requires high { n ≤ 64 }
-    requires takes { Takes maker.old (def.rounds n (def.cards n)) }
-    ensures { OnOk result (Adds maker.old maker.new (def.rounds n (def.cards n))) }
+    requires takes { Takes maker.old (def.rounds_with_cards n (def.cards n)) }
+    ensures { OnOk result (GainsEntries maker.old maker.new (def.rounds_with_cards n (def.cards n))) }
 {
     'rounds: for i in 1..n + 1 {
         put_round(maker, alloc, n, i)?;
@@ -68,7 +68,7 @@ fn put_round(maker: &mut GameMaker, alloc: Global, n: u32, i: u32) -> Result<(),
     requires card { 1 ≤ i }
     requires there { i ≤ n }
     requires takes { Takes maker.old (def.deals (def.deal_two n i) ∷ def.hands n i (def.others n i)) }
-    ensures { OnOk result (Adds maker.old maker.new (def.deals (def.deal_two n i) ∷ def.hands n i (def.others n i))) }
+    ensures { OnOk result (GainsEntries maker.old maker.new (def.deals (def.deal_two n i) ∷ def.hands n i (def.others n i))) }
 {
     put_deal_two(maker, alloc, n, i)?;
     put_hands(maker, alloc, n, i)?;
@@ -80,7 +80,7 @@ fn put_deal_two(maker: &mut GameMaker, alloc: Global, n: u32, i: u32) -> Result<
     requires high { n ≤ 64 }
     requires card { i ≤ n }
     requires takes { Takes maker.old (def.deals (def.deal_two n i) ∷ []) }
-    ensures { OnOk result (Adds maker.old maker.new (def.deals (def.deal_two n i) ∷ [])) }
+    ensures { OnOk result (GainsEntries maker.old maker.new (def.deals (def.deal_two n i) ∷ [])) }
 {
     let set = deal_two(alloc, n, i)?;
     put_deal(maker, alloc, set)
@@ -92,7 +92,7 @@ fn put_hands(maker: &mut GameMaker, alloc: Global, n: u32, i: u32) -> Result<(),
     requires high { n ≤ 64 }
     requires card { 1 ≤ i }
     requires takes { Takes maker.old (def.hands n i (def.others n i)) }
-    ensures { OnOk result (Adds maker.old maker.new (def.hands n i (def.others n i))) }
+    ensures { OnOk result (GainsEntries maker.old maker.new (def.hands n i (def.others n i))) }
 {
     'hands: for j in 1..n + 1 {
         put_other_hand(maker, alloc, n, i, j)?;
@@ -110,8 +110,8 @@ fn put_other_hand(
 ) -> Result<(), AllocError>
     requires one { 1 ≤ i }
     requires two { 1 ≤ j }
-    requires takes { Takes maker.old (def.hands n i (def.without i (j ∷ []))) }
-    ensures { OnOk result (Adds maker.old maker.new (def.hands n i (def.without i (j ∷ [])))) }
+    requires takes { Takes maker.old (def.hands n i (def.cards_without i (j ∷ []))) }
+    ensures { OnOk result (GainsEntries maker.old maker.new (def.hands n i (def.cards_without i (j ∷ [])))) }
 {
     if i == j {
         return Ok(());

@@ -3,9 +3,9 @@ ghost use Rattle.std.specs.Prelude.{◌≡◌, [], ◌∷◌, ◌++◌};
 ghost use Rattle.std.specs.Option.{option_map};
 ghost use Rattle.def_outside.specs.Cause.{HasCause};
 ghost use Rattle.def_file_tokens.specs.Texts.{escaped};
-ghost use Rattle.def_canon.specs.Canon.{close_brace, comma, fraction, marker_pieces, name_pieces, on_new_line, open_brace, quoted, text, text_of, whole_number};
+ghost use Rattle.def_canon.specs.Canon.{close_piece, comma_piece, fraction, marker_pieces, name_pieces, on_new_line, open_piece, quoted, text_piece, text_of_pieces, whole_piece};
 ghost use Rattle.def_file_tokens.specs.declared.Token.TheVariants.{Text};
-ghost use Rattle.xg_gen.specs.Writes.{Writes};
+ghost use Rattle.def_outside.specs.Sinks.{Writes};
 
 use itoa::Buffer;
 use memchr::memchr;
@@ -13,33 +13,33 @@ use xg_frac::{Frac, put_frac};
 use xg_io::{Sink, WriteFault, write_all};
 
 /// The first three words of a file.
-#[tactic(auto, unfolding(def_canon::specs::Canon::text_of, def_canon::specs::Canon::marker_pieces))]
+#[tactic(auto, unfolding(def_canon::specs::Canon::text_of_pieces, def_canon::specs::Canon::marker_pieces))]
 pub(crate) fn put_marker<O: Sink>(out: &mut O) -> Result<(), WriteFault>
-    ensures text { Writes (O.written out.old) (O.written out.new) (text_of marker_pieces) result }
+    ensures text { Writes (O.written out.old) (O.written out.new) (text_of_pieces marker_pieces) result }
     ensures cause { HasCause (O.faults out.old) (O.faults out.new) result }
 {
     write_all(out, b"EFG 2 R")
 }
 
-#[tactic(auto, unfolding(def_canon::specs::Canon::text_of))]
+#[tactic(auto, unfolding(def_canon::specs::Canon::text_of_pieces))]
 pub(crate) fn put_open<O: Sink>(out: &mut O) -> Result<(), WriteFault>
-    ensures text { Writes (O.written out.old) (O.written out.new) (text_of (open_brace ∷ [])) result }
+    ensures text { Writes (O.written out.old) (O.written out.new) (text_of_pieces (open_piece ∷ [])) result }
     ensures cause { HasCause (O.faults out.old) (O.faults out.new) result }
 {
     write_all(out, b" {")
 }
 
-#[tactic(auto, unfolding(def_canon::specs::Canon::text_of))]
+#[tactic(auto, unfolding(def_canon::specs::Canon::text_of_pieces))]
 pub(crate) fn put_close<O: Sink>(out: &mut O) -> Result<(), WriteFault>
-    ensures text { Writes (O.written out.old) (O.written out.new) (text_of (close_brace ∷ [])) result }
+    ensures text { Writes (O.written out.old) (O.written out.new) (text_of_pieces (close_piece ∷ [])) result }
     ensures cause { HasCause (O.faults out.old) (O.faults out.new) result }
 {
     write_all(out, b" }")
 }
 
-#[tactic(auto, unfolding(def_canon::specs::Canon::text_of))]
+#[tactic(auto, unfolding(def_canon::specs::Canon::text_of_pieces))]
 pub(crate) fn put_comma<O: Sink>(out: &mut O) -> Result<(), WriteFault>
-    ensures text { Writes (O.written out.old) (O.written out.new) (text_of (comma ∷ [])) result }
+    ensures text { Writes (O.written out.old) (O.written out.new) (text_of_pieces (comma_piece ∷ [])) result }
     ensures cause { HasCause (O.faults out.old) (O.faults out.new) result }
 {
     write_all(out, b",")
@@ -48,7 +48,7 @@ pub(crate) fn put_comma<O: Sink>(out: &mut O) -> Result<(), WriteFault>
 /// A whole number.
 #[tactic(auto, using(crate::proofs::Written::first_token, crate::proofs::Written::then_token))]
 pub(crate) fn put_number<O: Sink>(n: u64, out: &mut O) -> Result<(), WriteFault>
-    ensures text { Writes (O.written out.old) (O.written out.new) (text_of (whole_number n ∷ [])) result }
+    ensures text { Writes (O.written out.old) (O.written out.new) (text_of_pieces (whole_piece n ∷ [])) result }
     ensures cause { HasCause (O.faults out.old) (O.faults out.new) result }
 {
     let mut buffer = Buffer::new();
@@ -58,7 +58,7 @@ pub(crate) fn put_number<O: Sink>(n: u64, out: &mut O) -> Result<(), WriteFault>
 
 #[tactic(auto, using(crate::proofs::Written::first_token, crate::proofs::Written::then_token))]
 pub(crate) fn put_fraction<O: Sink>(f: Frac, out: &mut O) -> Result<(), WriteFault>
-    ensures text { Writes (O.written out.old) (O.written out.new) (text_of (fraction f ∷ [])) result }
+    ensures text { Writes (O.written out.old) (O.written out.new) (text_of_pieces (fraction f ∷ [])) result }
     ensures cause { HasCause (O.faults out.old) (O.faults out.new) result }
 {
     write_all(out, b" ")?;
@@ -68,7 +68,7 @@ pub(crate) fn put_fraction<O: Sink>(f: Frac, out: &mut O) -> Result<(), WriteFau
 /// A text behind one space.
 #[tactic(auto, using(crate::proofs::Written::first_token, crate::proofs::Written::then_token))]
 pub(crate) fn put_text<O: Sink>(bytes: &[u8], out: &mut O) -> Result<(), WriteFault>
-    ensures text { Writes (O.written out.old) (O.written out.new) (text_of (text bytes.now ∷ [])) result }
+    ensures text { Writes (O.written out.old) (O.written out.new) (text_of_pieces (text_piece bytes.now ∷ [])) result }
     ensures cause { HasCause (O.faults out.old) (O.faults out.new) result }
 {
     write_all(out, b" ")?;
@@ -78,7 +78,7 @@ pub(crate) fn put_text<O: Sink>(bytes: &[u8], out: &mut O) -> Result<(), WriteFa
 /// A text on a line of its own.
 #[tactic(auto, using(crate::proofs::Written::first_token, crate::proofs::Written::then_token))]
 pub(crate) fn put_text_line<O: Sink>(bytes: &[u8], out: &mut O) -> Result<(), WriteFault>
-    ensures text { Writes (O.written out.old) (O.written out.new) (text_of (on_new_line Text (quoted bytes.now) ∷ [])) result }
+    ensures text { Writes (O.written out.old) (O.written out.new) (text_of_pieces (on_new_line Text (quoted bytes.now) ∷ [])) result }
     ensures cause { HasCause (O.faults out.old) (O.faults out.new) result }
 {
     write_all(out, b"\n")?;
@@ -89,7 +89,7 @@ pub(crate) fn put_text_line<O: Sink>(bytes: &[u8], out: &mut O) -> Result<(), Wr
 #[tactic(auto, using(crate::proofs::Written::nothing), unfolding(def_canon::specs::Canon::name_pieces))]
 pub(crate) fn put_name<O: Sink>(name: Option<&[u8]>, out: &mut O) -> Result<(), WriteFault>
     ensures text { Writes (O.written out.old) (O.written out.new)
-        (text_of (name_pieces (option_map (λ b. b.now) name.entry))) result }
+        (text_of_pieces (name_pieces (option_map (λ b. b.now) name.entry))) result }
     ensures cause { HasCause (O.faults out.old) (O.faults out.new) result }
 {
     match name {
@@ -99,7 +99,7 @@ pub(crate) fn put_name<O: Sink>(name: Option<&[u8]>, out: &mut O) -> Result<(), 
 }
 
 /// Bytes between quotation marks.
-#[tactic(auto, using(crate::proofs::Written::prefix_first, crate::proofs::Written::then_rest), unfolding(def_canon::specs::Canon::quoted))]
+#[tactic(auto, using(xg_io::proofs::Pieces::prefix_first, xg_io::proofs::Pieces::then_rest), unfolding(def_canon::specs::Canon::quoted))]
 fn put_quoted<O: Sink>(bytes: &[u8], out: &mut O) -> Result<(), WriteFault>
     ensures text { Writes (O.written out.old) (O.written out.new) (quoted bytes.now) result }
     ensures cause { HasCause (O.faults out.old) (O.faults out.new) result }
@@ -123,7 +123,7 @@ fn put_escaped<O: Sink>(bytes: &[u8], out: &mut O) -> Result<(), WriteFault>
 }
 
 /// Bytes without a quotation mark, and one behind its backslash.
-#[tactic(auto, using(crate::proofs::Written::prefix_first, crate::proofs::Written::then_rest))]
+#[tactic(auto, using(xg_io::proofs::Pieces::prefix_first, xg_io::proofs::Pieces::then_rest))]
 fn put_marked<O: Sink>(bytes: &[u8], out: &mut O) -> Result<(), WriteFault>
     ensures text { Writes (O.written out.old) (O.written out.new) (bytes.now ++ (92 ∷ 34 ∷ [])) result }
     ensures cause { HasCause (O.faults out.old) (O.faults out.new) result }

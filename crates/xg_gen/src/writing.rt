@@ -3,10 +3,9 @@ ghost use Rattle.std.specs.Prelude.{◌≡◌, OnOk, OnErr};
 ghost use Rattle.std.specs.List.{zip};
 ghost use Rattle.std.specs.Io.KnownBytes.{append_known};
 ghost use Rattle.def_outside.specs.Cause.{HasCause};
-ghost use Rattle.def_outside.specs.Sinks.{AppendsPrefix};
+ghost use Rattle.def_outside.specs.Sinks.{AppendsPrefix, Writes};
 ghost use Rattle.def_tree.specs.Tree.{prefix};
-ghost use Rattle.def_canon.specs.Canon.{canon, game_pieces, lines_pieces, prologue_pieces, text_of};
-ghost use Rattle.xg_gen.specs.Writes.{Writes};
+ghost use Rattle.def_canon.specs.Canon.{canon, game_pieces, lines_pieces, prologue_pieces, text_of_pieces};
 
 use crate::lines::put_node;
 use crate::tokens::{put_close, put_marker, put_open, put_text, put_text_line};
@@ -35,7 +34,7 @@ fn put_game<O: Sink>(game: &Game, out: &mut O) -> Result<(), WriteFault>
 
 #[tactic(auto, using(crate::proofs::Written::first_part, crate::proofs::Written::then_part), unfolding(def_canon::specs::Canon::game_pieces))]
 fn put_pieces<O: Sink>(game: &Game, out: &mut O) -> Result<(), WriteFault>
-    ensures text { Writes (O.written out.old) (O.written out.new) (text_of (game_pieces game.now)) result }
+    ensures text { Writes (O.written out.old) (O.written out.new) (text_of_pieces (game_pieces game.now)) result }
     ensures cause { HasCause (O.faults out.old) (O.faults out.new) result }
 {
     put_prologue(game, out)?;
@@ -45,7 +44,7 @@ fn put_pieces<O: Sink>(game: &Game, out: &mut O) -> Result<(), WriteFault>
 /// The first two lines, but for the line feed behind them.
 #[tactic(auto, using(crate::proofs::Written::first_piece, crate::proofs::Written::then_piece, crate::proofs::Written::first_part, crate::proofs::Written::then_part), unfolding(def_canon::specs::Canon::prologue_pieces))]
 fn put_prologue<O: Sink>(game: &Game, out: &mut O) -> Result<(), WriteFault>
-    ensures text { Writes (O.written out.old) (O.written out.new) (text_of (prologue_pieces game.now.prologue)) result }
+    ensures text { Writes (O.written out.old) (O.written out.new) (text_of_pieces (prologue_pieces game.now.prologue)) result }
     ensures cause { HasCause (O.faults out.old) (O.faults out.new) result }
 {
     put_marker(out)?;
@@ -60,7 +59,7 @@ fn put_prologue<O: Sink>(game: &Game, out: &mut O) -> Result<(), WriteFault>
 /// The lines of the nodes.
 fn put_lines<O: Sink>(game: &Game, out: &mut O) -> Result<(), WriteFault>
     ensures text { Writes (O.written out.old) (O.written out.new)
-        (text_of (lines_pieces game.now.sets game.now.outcomes (zip (prefix game.now.tree) game.now.names))) result }
+        (text_of_pieces (lines_pieces game.now.sets game.now.outcomes (zip (prefix game.now.tree) game.now.names))) result }
     ensures cause { HasCause (O.faults out.old) (O.faults out.new) result }
 {
     let tree = game.tree();

@@ -4,11 +4,7 @@ use Rattle.std.proofs.lemmas.List.{append-nil, take-append-drop, length-append, 
 use Rattle.std.proofs.Math.Seq.{take-append_seam, take-length}
 use Rattle.std.specs.Io.KnownBytes.{append_known, Consumes}
 use Rattle.def_outside.specs.Sinks.{AppendsPrefix}
-
--- nothing is appended
-pub append_known-nil : (known : Option (List ℕ)) → append_known known [] ≡ known
-append_known-nil None = refl
-append_known-nil (Some xs) = ap Some (append-nil xs)
+use Rattle.def_outside.proofs.Fronts.{append_known-nil}
 
 -- one piece and then another
 pub append_known-append : (known : Option (List ℕ)) (a b : List ℕ)

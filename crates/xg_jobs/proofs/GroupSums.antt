@@ -54,15 +54,12 @@ sized f most group each =
       nat_sum_over-factor most (λ e. unsigned_abs e.weight) group,
     )
 
-term : (w : ℤ) (n most : ℕ) → n ≤ most → unsigned_abs (w *ℤ pos n) ≤ unsigned_abs w * most
-term w n most h = omega (arith, unsigned_abs-mul w (pos n), mul-le-mul_left (unsigned_abs w) h)
-
 -- the size of the sum over a group's first entries is at most the group's mass times a bound of the numbers
 pub sum_size : (y : List ℕ) (most : ℕ) (group : List GroupLeaf) (i : ℕ) → ((b : ℕ) → slice_index y b ≤ most)
     → unsigned_abs (group_sum y (take i group)) ≤ group_mass group * most
 sum_size y most group i small =
     let front : group_mass (take i group) ≤ group_mass group = mass_front group i in
-    omega (arith, sized (λ e. e.weight *ℤ pos (slice_index y e.other)) most (take i group) (λ e. term e.weight (slice_index y e.other) most (small e.other)), mul-le-mul_right most front)
+    omega (arith, sized (λ e. e.weight *ℤ pos (slice_index y e.other)) most (take i group) (λ e. omega (arith, unsigned_abs-mul e.weight (pos (slice_index y e.other)), mul-le-mul_left (unsigned_abs e.weight) (small e.other))), mul-le-mul_right most front)
 
 -- the product of one entry
 pub product_within : (w : ℤ) (n most mass bound : ℕ) → n ≤ most → unsigned_abs w ≤ mass → mass * most < bound

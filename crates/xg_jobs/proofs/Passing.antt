@@ -174,11 +174,6 @@ inside_as tops place (grown node below beside) one stand = stand_there tops plac
 pub job_inside : (tops : List TopNode) (place : ℕ) (job : Forest) → IsJob tops place job → place < length tops
 job_inside tops place job is = inside_as tops place job is.one is.there
 
--- where two tests hold together, the first one holds
-pub and_left : (a b : Bool) → (a && b) ≡ true → a ≡ true
-and_left true b e = refl
-and_left false b e = e
-
 -- from a place on there is the number at this place, and then those from the next one on
 pub drop_one : (xs : List ℕ) (k : ℕ) → k < length xs → drop k xs ≡ get_or xs k 0 ∷ drop (k + 1) xs
 drop_one [] k low = absurd (omega arith)

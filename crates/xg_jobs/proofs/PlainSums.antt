@@ -15,7 +15,7 @@ use Rattle.def_rows.proofs.Rows.{player_rows_are_leaf_sums}
 use Rattle.xg_seq.specs.Leaves.{HasSequences}
 use Rattle.xg_jobs.specs.Entries.{KeepsGroups}
 use Rattle.xg_jobs.specs.Groups.{GroupLeaf, group_at, group_mass, group_sum, greatest_of, weights_of}
-use Rattle.xg_jobs.specs.Grouping.{entry_of, entries_with, leaves_with, pair_weights}
+use Rattle.xg_jobs.specs.Grouping.{entry_of, entries_with, leaves_of_sequence, pair_weights}
 use Rattle.xg_jobs.specs.Sums.{CanSumAll}
 use Rattle.xg_jobs.proofs.Building.{entries_within}
 use Rattle.xg_jobs.proofs.Greatest.{at_most_greatest, greatest_within}
@@ -65,7 +65,7 @@ group_row form player starts entries others mass s y is kept known low =
     (subst (λ m. All (λ e. e.other < m) (group_at starts entries s)) others_is (kept.within s (omega arith)))
     (entries_within form player s known)
     (sym (ap (λ m. weights_of m (group_at starts entries s)) others_is) ∙ group_weights form player starts entries others s is low)
-    ∙ sum_over-map (λ e. e.weight *ℤ pos (get_or y e.other 0)) (entry_of player) (leaves_with player s form.leaves)
+    ∙ sum_over-map (λ e. e.weight *ℤ pos (get_or y e.other 0)) (entry_of player) (leaves_of_sequence player s form.leaves)
 
 -- where the groups have the form's pair weights, their sums against some numbers are the player's rows against them
 pub sums_are_rows : (form : SequenceForm) (player : Player) (starts : List ℕ) (entries : List GroupLeaf)

@@ -29,7 +29,8 @@ ranges_end first (count ∷ rest) (suc k) d low =
     omega (arith, ranges_end (first + count) rest k d (omega arith), length-append (leaves_of (record { first = first; count = count })) (flat_map leaves_of (ranges_from (first + count) rest)), length-range_with_len first count)
 
 -- a form has a leaf for each of its tree's
-form_leaves : (form : SequenceForm) (tree : Forest) → IsFormOf form tree → length form.leaves ≡ leaf_count (prefix tree)
+pub form_leaves : (form : SequenceForm) (tree : Forest) → IsFormOf form tree
+    → length form.leaves ≡ leaf_count (prefix tree)
 form_leaves form tree is =
     let visited = leaves_counted tree in
     ap (λ (f : SequenceForm). length f.leaves) is.form_is

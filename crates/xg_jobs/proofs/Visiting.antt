@@ -10,7 +10,7 @@ use Rattle.def_tree.specs.Rules.{is_same_kind, most_nodes}
 use Rattle.def_tree.specs.Tree.{Forest, bare, grown, prefix, node_count, leaf_count, is_leaf_kind, tree_count}
 use Rattle.xg_jobs.specs.declared.tops.TopNode.{TopNode}
 use Rattle.xg_jobs.specs.Tops.{tops_from, top_node}
-use Rattle.xg_jobs.specs.Visit.{TopState, HasRoom, IsOpen, closed, entered, left}
+use Rattle.xg_jobs.specs.Visit.{TopState, HasRoom, IsOpen, closed, state_entered, state_left}
 use Rattle.xg_jobs.specs.Walked.{Room, state, walked}
 
 abbrev none : TopNode
@@ -71,7 +71,7 @@ finish b nodes inner children size at l all total same sum =
 
 around_top : (b : Bool) (below : Forest) (nodes : List TopNode) (children at l m all : ℕ) → children ≡ tree_count below
     → m + leaf_count (prefix below) ≡ all
-    → left (walked below (state (nodes ++ before b children at l ∷ []) (length nodes) (cond b 0 1) (l + m)))
+    → state_left (walked below (state (nodes ++ before b children at l ∷ []) (length nodes) (cond b 0 1) (l + m)))
     ≡ state
     (nodes ++ after b (tree_count below) all nodes (cond b (tops_from (length nodes + 1) below) [])
     ∷ (cond b (tops_from (length nodes + 1) below) [] ++ [])) at 0 (l + all)
@@ -88,14 +88,15 @@ around_top false below nodes children at l m all size sum =
 
 -- a node is entered, what is below it walked through, and it is left
 pub around : (node : Node) (below : Forest) (nodes : List TopNode) (at c l : ℕ) → node.children ≡ tree_count below
-    → left (walked below (entered node (state nodes at c l))) ≡ walked (grown node below bare) (state nodes at c l)
+    → state_left (walked below (state_entered node (state nodes at c l)))
+    ≡ walked (grown node below bare) (state nodes at c l)
 around node below nodes at zero l size =
     around_top (is_same_kind Chance node.kind) below nodes node.children at l (leaf_count (node ∷ [])) (leaf_count (prefix (grown node below bare))) size (sym (leaves_one node below))
 around node below nodes at (suc c) l size =
     let m : ℕ = leaf_count (node ∷ []) in
     let next : suc c + 1 ≡ suc (suc c) = omega arith in
     let sum : l + m + leaf_count (prefix below) ≡ l + leaf_count (prefix (grown node below bare)) = omega (arith, leaves_one node below) in
-    ap (λ k. left (walked below (state nodes at k (l + m)))) next ∙ ap (state nodes at (suc c)) sum
+    ap (λ k. state_left (walked below (state nodes at k (l + m)))) next ∙ ap (state nodes at (suc c)) sum
 
 splice : (nodes : List TopNode) (t : TopNode) (inner : List TopNode) (rest : ℕ → List TopNode)
     → (nodes ++ t ∷ (inner ++ [])) ++ rest (length (nodes ++ t ∷ (inner ++ [])))
@@ -170,7 +171,7 @@ pub room_now : (node : Node) (below beside : Forest) (s : TopState) → Room s (
 room_now node below beside s room = record { nodes = omega (arith, room.nodes); covered = omega (arith, room.covered); leaves = omega (arith, room.leaves) }
 
 room_entered : (node : Node) (n : ℕ) (nodes : List TopNode) (at c l : ℕ) → Room (state nodes at c l) (suc n)
-    → Room (entered node (state nodes at c l)) n
+    → Room (state_entered node (state nodes at c l)) n
 room_entered node n nodes at zero l room = by_test (is_same_kind Chance node.kind)
   where
     by_test : (b : Bool)
@@ -193,7 +194,7 @@ room_entered node n nodes at (suc c) l room = record {
 
 -- after the first node there is room for the nodes below it, where there was room for all nodes
 pub room_below : (node : Node) (below beside : Forest) (s : TopState) → Room s (node_count (grown node below beside))
-    → Room (entered node s) (node_count below)
+    → Room (state_entered node s) (node_count below)
 room_below node below beside s room =
     room_entered node (node_count below) s.nodes s.open_at s.covered s.leaves (record {
       nodes = omega (arith, room.nodes, length-append (prefix below) (prefix beside));
@@ -228,7 +229,7 @@ open_at_top false below nodes children at l m room =
 
 open_below : (node : Node) (below beside : Forest) (nodes : List TopNode) (at c l : ℕ)
     → Room (state nodes at c l) (node_count (grown node below beside))
-    → IsOpen (walked below (entered node (state nodes at c l)))
+    → IsOpen (walked below (state_entered node (state nodes at c l)))
 open_below node below beside nodes at zero l room =
     open_at_top (is_same_kind Chance node.kind) below nodes node.children at l (leaf_count (node ∷ [])) (omega (arith, room.nodes, length-append (prefix below) (prefix beside)))
 open_below node below beside nodes at (suc c) l room =
@@ -243,5 +244,5 @@ open_below node below beside nodes at (suc c) l room =
 
 -- a node that was entered can be left after the trees below it, where there was room for all nodes
 pub can_leave : (node : Node) (below beside : Forest) (s : TopState) → Room s (node_count (grown node below beside))
-    → IsOpen (walked below (entered node s))
+    → IsOpen (walked below (state_entered node s))
 can_leave node below beside s room = open_below node below beside s.nodes s.open_at s.covered s.leaves room

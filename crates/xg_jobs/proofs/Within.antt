@@ -1,19 +1,16 @@
 -- The jobs after some passes.
-use Rattle.std.proofs.Common.{◌≡◌, Bool, true, false, not, ℕ, zero, suc, ◌+◌, ◌-◌, ◌≤◌, List, [], ◌∷◌, refl, sym, ap, ◌∙◌, arith}
+use Rattle.std.proofs.Common.{◌≡◌, ℕ, zero, suc, ◌+◌, ◌-◌, ◌≤◌, List, [], ◌∷◌, sym, ap, ◌∙◌, arith}
 use Rattle.std.proofs.lemmas.List.{append-nil}
-use Rattle.def_game_jobs.specs.Jobs.{jobs_within, passes, pass}
+use Rattle.def_game_jobs.specs.Jobs.{jobs_within, pass}
+use Rattle.def_game_jobs.proofs.Passes.{passes-suc}
 use Rattle.def_tree.specs.Tree.{Forest, tree_count}
 use Rattle.xg_jobs.specs.declared.tops.TopNode.{TopNode}
 use Rattle.xg_jobs.specs.Cutting.{AreJobs}
 use Rattle.xg_jobs.specs.Tops.{tops_from}
 
-passes_more : (limit n : ℕ) (jobs : List Forest) → passes limit (suc n) jobs ≡ pass limit (passes limit n jobs)
-passes_more limit zero jobs = refl
-passes_more limit (suc n) jobs = passes_more limit n (pass limit jobs)
-
 -- the jobs after one more pass are those that a pass makes of the jobs before it
 pub within_more : (limit n : ℕ) (tree : Forest) → jobs_within limit (n + 1) tree ≡ pass limit (jobs_within limit n tree)
-within_more limit n tree = let e : n + 1 ≡ suc n = omega arith in ap (λ m. jobs_within limit m tree) e ∙ passes_more limit n (tree ∷ [])
+within_more limit n tree = let e : n + 1 ≡ suc n = omega arith in ap (λ m. jobs_within limit m tree) e ∙ passes-suc limit n (tree ∷ [])
 
 keeps : (limit n k : ℕ) (tree : Forest) → pass limit (jobs_within limit n tree) ≡ jobs_within limit n tree
     → jobs_within limit (n + k) tree ≡ jobs_within limit n tree
@@ -32,8 +29,3 @@ within_end limit n m tree h same = let e : n + (m - n) ≡ m = omega arith in sy
 pub whole_job : (tops : List TopNode) (tree : Forest) → tops ≡ tops_from 0 tree → tree_count tree ≡ 1
     → AreJobs tops (0 ∷ []) (tree ∷ [])
 whole_job tops tree are one = (record { one = one; there = record { rest = []; here = are ∙ sym (append-nil (tops_from 0 tree)) } }, tt)
-
--- what isn't true is false
-pub not_true : (b : Bool) → not b ≡ true → b ≡ false
-not_true true e = sym e
-not_true false e = refl

@@ -17,10 +17,10 @@ small_leaf e = record { other = e.other; weight = e.weight }
 abbrev pub wide_leaf : WideEntry → GroupLeaf
 wide_leaf e = record { other = e.other; weight = e.weight }
 
-abbrev pub leaves_in : Entries → List GroupLeaf
-leaves_in (Tiny entries) = map tiny_leaf entries.items
-leaves_in (Small entries) = map small_leaf entries.items
-leaves_in (Wide entries) = map wide_leaf entries.items
+abbrev pub leaves_of_group : Entries → List GroupLeaf
+leaves_of_group (Tiny entries) = map tiny_leaf entries.items
+leaves_of_group (Small entries) = map small_leaf entries.items
+leaves_of_group (Wide entries) = map wide_leaf entries.items
 
 -- each group begins where the one before it ends, none goes on behind the last entry; its leaves have sequences of the
 -- other player, who has so many, and no group's weights are more than the mass

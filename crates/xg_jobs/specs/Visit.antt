@@ -36,8 +36,8 @@ abbrev pub entered_as : ℕ → Node → TopState → TopState
 entered_as zero node s = opened node s
 entered_as (suc c) node s = with_cover (suc c + 1) s
 
-abbrev pub entered : Node → TopState → TopState
-entered node s = with_leaves (leaf_count (node ∷ [])) (entered_as s.covered node s)
+abbrev pub state_entered : Node → TopState → TopState
+state_entered node s = with_leaves (leaf_count (node ∷ [])) (entered_as s.covered node s)
 
 abbrev pub open_top : TopState → TopNode
 open_top s = slice_index_or s.nodes s.open_at (record { chance = false; children = 0; leaves = 0; end = 0 })
@@ -57,8 +57,8 @@ left_as zero s = closed s
 left_as (suc zero) s = closed s
 left_as (suc (suc c)) s = with_cover (suc c) s
 
-abbrev pub left : TopState → TopState
-left s = left_as s.covered s
+abbrev pub state_left : TopState → TopState
+state_left s = left_as s.covered s
 
 pub record HasRoom (s : TopState) : Type 0 where
   pub nodes : length s.nodes < most_nodes

@@ -6,7 +6,7 @@ use Rattle.def_tree.specs.Tree.{Forest, HasItsChildren, leaf_count, node_count, 
 use Rattle.xg_jobs.specs.declared.tops.TopNode.{TopNode}
 use Rattle.xg_jobs.specs.declared.tops.Walk.{Walk}
 use Rattle.xg_jobs.specs.Tops.{tops_from}
-use Rattle.xg_jobs.specs.Visit.{TopState, IsOpen, left, state_of}
+use Rattle.xg_jobs.specs.Visit.{TopState, IsOpen, state_left, state_of}
 
 abbrev pub state : List TopNode → ℕ → ℕ → ℕ → TopState
 state nodes at c l = record { nodes = nodes; open_at = at; covered = c; leaves = l }
@@ -44,11 +44,11 @@ pub record AreFirst (trees : Forest) (nodes later : List Node) (s : TopState) : 
 -- the nodes to come lead from one state to the other: first come those under the innermost node that isn't left, behind
 -- which it is left, then those under the one around it, and so on.
 -- Of each of these nodes it is told how many children are to come
-abbrev pub LeadsTo : List ℕ → List Node → TopState → TopState → Type 0
-LeadsTo [] nodes s end = (trees : Forest) × AreFirst trees nodes [] s × (walked trees s ≡ end)
-LeadsTo (count ∷ counts) nodes s end =
+abbrev pub LeadsToState : List ℕ → List Node → TopState → TopState → Type 0
+LeadsToState [] nodes s end = (trees : Forest) × AreFirst trees nodes [] s × (walked trees s ≡ end)
+LeadsToState (count ∷ counts) nodes s end =
     (trees : Forest) × (later : List Node) × AreFirst trees nodes later s × (tree_count trees ≡ count)
-    × IsOpen (walked trees s) × LeadsTo counts later (left (walked trees s)) end
+    × IsOpen (walked trees s) × LeadsToState counts later (state_left (walked trees s)) end
 
 abbrev pub at_start : TopState
 at_start = state [] 0 0 0
@@ -56,4 +56,4 @@ at_start = state [] 0 0 0
 -- the first k nodes were entered, and each of them none of whose children is to come was left
 pub record HasWalked (tree : Forest) (k : ℕ) (walk : Walk) : Type 0 where
   pub next : HasNextChild walk.to_come
-  pub leads : LeadsTo walk.to_come (drop k (prefix tree)) (state_of walk.tops) (walked tree at_start)
+  pub leads : LeadsToState walk.to_come (drop k (prefix tree)) (state_of walk.tops) (walked tree at_start)

@@ -17,10 +17,8 @@ use crate::sums::{write_small_sums, write_tiny_sums, write_wide_sums};
 use def_tree::Player;
 use std::alloc::{AllocError, Global};
 use std::marker::Model;
+use xg_limits::MOST_ROOT;
 use xg_seq::SeqForm;
-
-// The greatest root of a sum of plans.
-const MOST_ROOT: u64 = 1 << 36;
 
 /// The leaves of each of a player's sequences.
 #[derive(Drop)]
@@ -44,11 +42,11 @@ pub(crate) enum Entries {
 
 impl Entries {
     ghost use Rattle.std.specs.Prelude.{map};
-    ghost use Rattle.xg_jobs.specs.Entries.{leaves_in, wide_leaf};
+    ghost use Rattle.xg_jobs.specs.Entries.{leaves_of_group, wide_leaf};
 
     // The smallest entries that have room for all leaves.
     fn packed(alloc: Global, entries: Vec<WideEntry>) -> Result<Entries, AllocError>
-        ensures { IfOk result (λ packed. leaves_in packed ≡ map wide_leaf entries.items) }
+        ensures { IfOk result (λ packed. leaves_of_group packed ≡ map wide_leaf entries.items) }
     {
         if are_tiny(&entries) {
             Ok(Entries::Tiny(tiny_entries(alloc, &entries)?))
@@ -64,14 +62,14 @@ impl Model for LeafGroups {
     ghost use Rattle.std.specs.Prelude.{ℤ, ◌-◌, List, length, map};
     ghost use Rattle.std.specs.List.{range_with_len};
     ghost use Rattle.xg_jobs.specs.Groups.{group_at, weights_of};
-    ghost use Rattle.xg_jobs.specs.Entries.{KeepsGroups, leaves_in};
+    ghost use Rattle.xg_jobs.specs.Entries.{KeepsGroups, leaves_of_group};
 
     ghost Value = { List (List ℤ) };
 
-    ghost view = { λ g. map (λ s. weights_of g.others (group_at g.starts.items (leaves_in g.entries) s))
+    ghost view = { λ g. map (λ s. weights_of g.others (group_at g.starts.items (leaves_of_group g.entries) s))
         (range_with_len 0 (length g.starts.items - 1)) };
 
-    ghost invariant = { λ g. KeepsGroups g.starts.items (leaves_in g.entries) g.others g.mass };
+    ghost invariant = { λ g. KeepsGroups g.starts.items (leaves_of_group g.entries) g.others g.mass };
 }
 
 impl LeafGroups {

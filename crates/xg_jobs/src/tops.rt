@@ -132,11 +132,11 @@ struct Tops {
 }
 
 impl Tops {
-    ghost use Rattle.xg_jobs.specs.Visit.{HasRoom, IsOpen, closed, entered, left, opened, state_of};
+    ghost use Rattle.xg_jobs.specs.Visit.{HasRoom, IsOpen, closed, state_entered, state_left, opened, state_of};
 
     fn enter(&mut self, node: Node) -> Result<(), AllocError>
         requires { HasRoom (state_of self.old) }
-        ensures { OnOk result (state_of self.new ≡ entered node (state_of self.old)) }
+        ensures { OnOk result (state_of self.new ≡ state_entered node (state_of self.old)) }
     {
         if self.covered > 0 {
             self.covered += 1;
@@ -149,7 +149,7 @@ impl Tops {
 
     fn leave(&mut self)
         requires { IsOpen (state_of self.old) }
-        ensures { state_of self.new ≡ left (state_of self.old) }
+        ensures { state_of self.new ≡ state_left (state_of self.old) }
     {
         if self.covered > 1 {
             self.covered -= 1;

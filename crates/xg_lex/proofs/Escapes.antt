@@ -7,6 +7,7 @@ use Rattle.std.proofs.Math.Bool.{and-false}
 use Rattle.std.proofs.str.Laws.{order}
 use Rattle.memchr.specs.Find.{Nowhere, NoneBefore, Passes, is_byte}
 use Rattle.def_file_tokens.specs.Texts.{MarksEscaped, IsInside, unescaped, begins_with_mark}
+use Rattle.def_file_tokens.proofs.TextLemmas.{unescaped-goes}
 use Rattle.xg_lex.proofs.Closing.{NoMarkBelow}
 
 -- a mark has a backslash right before it
@@ -54,17 +55,13 @@ unfolding unescaped
 unescaped-stays [] empty = refl
 unescaped-stays (b ∷ bs) empty = absurd (omega arith)
 
-escape-cons : (bs : List ℕ) → unescaped (92 ∷ 34 ∷ bs) ≡ 34 ∷ unescaped bs
-unfolding unescaped
-escape-cons bs = refl
-
 -- up to a first mark all stays but the backslash before it
 unescaped-first : (k : ℕ) (bs : List ℕ) → suc k < length bs → NoMarkBelow bs (suc k) → get_or bs (suc k) 0 ≡ 34
     → get_or bs k 0 ≡ 92 → unescaped bs ≡ take k bs ++ 34 ∷ unescaped (drop (suc (suc k)) bs)
 unescaped-first k [] within none mark backslash = absurd (omega arith)
 unescaped-first zero (b ∷ []) within none mark backslash = absurd (omega arith)
 unescaped-first zero (b ∷ c ∷ bs) within none mark backslash =
-    ap (λ x. unescaped (x ∷ c ∷ bs)) backslash ∙ ap (λ x. unescaped (92 ∷ x ∷ bs)) mark ∙ escape-cons bs
+    ap (λ x. unescaped (x ∷ c ∷ bs)) backslash ∙ ap (λ x. unescaped (92 ∷ x ∷ bs)) mark ∙ unescaped-goes bs
 unescaped-first (suc k) (b ∷ bs) within none mark backslash =
     unescaped-cons b bs (no_mark_first bs (λ some. none 1 (omega arith)))
     ∙ ap (λ l. b ∷ l) (unescaped-first k bs (omega arith) (λ j below. none (suc j) (omega arith)) mark backslash)

@@ -3,3 +3,4 @@ mod TokenAt
 mod NextByte
 mod Escapes
 mod Views
+mod Marks

@@ -9,11 +9,14 @@ use Rattle.def_file_tokens.specs.Texts.{begins_with_mark, unescaped}
 abbrev pub escape_at : List ℕ → ℕ → Bool
 escape_at raw i = (get_or raw i 0 == 92) && begins_with_mark (drop (i + 1) raw)
 
-unescaped-escape : (b : ℕ) (bs : List ℕ) → ((b == 92) && begins_with_mark bs) ≡ true → unescaped (b ∷ bs) ≡ unescaped bs
+-- a backslash right before a quotation mark goes
+pub unescaped-escape : (b : ℕ) (bs : List ℕ) → ((b == 92) && begins_with_mark bs) ≡ true
+    → unescaped (b ∷ bs) ≡ unescaped bs
 unfolding unescaped
 unescaped-escape b bs escape = rw escape refl
 
-unescaped-other : (b : ℕ) (bs : List ℕ) → ((b == 92) && begins_with_mark bs) ≡ false
+-- and each other byte stays
+pub unescaped-other : (b : ℕ) (bs : List ℕ) → ((b == 92) && begins_with_mark bs) ≡ false
     → unescaped (b ∷ bs) ≡ b ∷ unescaped bs
 unfolding unescaped
 unescaped-other b bs other = rw other refl

@@ -1,4 +1,4 @@
-ghost use Rattle.std.specs.Prelude.{◌≡◌, ◌+◌, ◌<◌, ◌==◌, ◌&&◌, List, drop, length, slice_index, IfOk, IfSome, nat_eq, false};
+ghost use Rattle.std.specs.Prelude.{◌≡◌, ◌+◌, ◌<◌, ◌==◌, ◌&&◌, List, drop, length, slice_index, IfOk, IfSome, nat_eq, true, false, None, Contains};
 ghost use Rattle.std.specs.Cmp.Lexicographic.{pointwise};
 ghost use Rattle.def_file_tokens.specs.Texts.{IsInside, EndsPlainly, begins_with_mark, unescaped};
 
@@ -99,7 +99,9 @@ impl<'a> TextView<'a> {
     /// The text's bytes, where they stand somewhere as they are.
     #[inline]
     pub fn plain(&self) -> Option<&'a [u8]>
-        ensures { IfSome result (λ bytes. bytes.now ≡ self.now) }
+        ensures some { IfSome result (λ bytes. bytes.now ≡ self.now) }
+        // Only a text with a quotation mark doesn't.
+        ensures none { result ≡ None → Contains self.now 34 }
     {
         if self.escaped {
             return None;
@@ -114,7 +116,7 @@ impl<'a> TextView<'a> {
         if self.escaped {
             return unescape(alloc, self.bytes);
         }
-        let bytes = copied(alloc, self.bytes)?;
+        let bytes = self.bytes.to_vec(alloc)?;
         Ok(Text { bytes })
     }
 }
@@ -122,7 +124,8 @@ impl<'a> TextView<'a> {
 /// Whether there is a quotation mark. Most nodes have no name, and no byte.
 #[inline]
 fn has_mark(raw: &[u8]) -> bool
-    ensures { result ≡ false → IsInside raw.now → unescaped raw.now ≡ raw.now }
+    ensures plain { result ≡ false → IsInside raw.now → unescaped raw.now ≡ raw.now }
+    ensures marked { result ≡ true → Contains (unescaped raw.now) 34 }
 {
     if raw.is_empty() {
         return false;
@@ -131,14 +134,6 @@ fn has_mark(raw: &[u8]) -> bool
         Some(_) => true,
         None => false,
     }
-}
-
-fn copied(alloc: Global, bytes: &[u8]) -> Result<Vec<u8>, AllocError>
-    ensures { IfOk result (λ copy. copy.items ≡ bytes.now) }
-{
-    let mut copy = Vec::new(alloc);
-    copy.extend_from_slice(bytes)?;
-    Ok(copy)
 }
 
 /// Whether an inside stands for these bytes.

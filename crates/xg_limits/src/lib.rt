@@ -10,6 +10,9 @@ pub const MOST_ROUNDS: u32 = 65_536;
 /// The greatest scale, which is the root of each round's plans.
 pub const MOST_SCALE: u32 = 1_048_576;
 
+/// The greatest root of a sum of plans.
+pub const MOST_ROOT: u64 = MOST_ROUNDS as u64 * MOST_SCALE as u64;
+
 /// The most workers of a run.
 pub const MOST_WORKERS: u32 = 64;
 

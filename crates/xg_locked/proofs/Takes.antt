@@ -2,30 +2,24 @@
 use Rattle.std.proofs.Common.{◌≡◌, ℕ, ◌+◌, ◌≤◌, ◌&&◌, Bool, true, false, cond, eqb, ltb, if◌then◌else◌, nat_lt, List, [], ◌∷◌, ◌++◌, length, drop, refl, sym, ap, ◌∙◌, arith}
 use Rattle.std.specs.Prelude.{◌<◌, All, Contains}
 use Rattle.std.proofs.lemmas.Bool.Decides.{nat_tests}
-use Rattle.std.proofs.lemmas.List.Sums.{sum_by-append}
 use Rattle.std.proofs.lemmas.List.Sorted.{IsPermutation-refl, IsPermutation-to_front}
 use Rattle.def_sums.proofs.Ranges.{All-range}
 use Rattle.def_history.specs.History.{times, job_numbers}
 use Rattle.def_history.specs.Core.{Right, rights_of, times_right, TakesJob, GivesRight}
-use Rattle.def_history.proofs.Counts.{one_if, times-cons, times_right-cons, times_right-rights_of, times_from_Contains}
+use Rattle.def_history.proofs.Counts.{one_if, times_right-cons, times_right-rights_of, times_from_Contains}
 use Rattle.def_history.proofs.Locks.{counts_tell_rights}
 use Rattle.xg_rights.specs.declared.view.View.{View}
-use Rattle.xg_rights.specs.Rights.{jobs_of, rights_for, rights_at, seen, stripes_of, once, whole, IsCut, IsLoaded}
+use Rattle.xg_rights.specs.Rights.{job_count_of, rights_for, rights_at, seen, stripes_of, once, whole_view, IsCutInTwo, IsLoaded}
 use Rattle.xg_rights.proofs.Sums.{times_append, times_for, times_at}
+use Rattle.xg_rowcore.proofs.Histories.{times-push}
 use Rattle.xg_locked.specs.Locked.{without}
-
--- a job more at the end of a list
-times_push : (j job : ℕ) (jobs : List ℕ) → times j (jobs ++ job ∷ []) ≡ times j jobs + cond (eqb job j) 1 0
-times_push j job jobs =
-    let a = sum_by-append (λ (other : ℕ). cond (eqb other j) 1 0) jobs (job ∷ []) in
-    omega (arith, a, times-cons j job [])
 
 -- all rights go to the bag
 pub all_is_cut : (number : ℕ)
-    → IsCut (whole number) (seen [] 64 (stripes_of number + 65) number) (seen (rights_for (job_numbers (jobs_of number)) (stripes_of number)) 0 1 number)
+    → IsCutInTwo (whole_view number) (seen [] 64 (stripes_of number + 65) number) (seen (rights_for (job_numbers (job_count_of number)) (stripes_of number)) 0 1 number)
 all_is_cut number = record {
   live = omega arith;
-  rights = λ j s. (let a = times_append j s [] (rights_for (job_numbers (jobs_of number)) (stripes_of number)) in sym a);
+  rights = λ j s. (let a = times_append j s [] (rights_for (job_numbers (job_count_of number)) (stripes_of number)) in sym a);
   tickets = refl;
   parts = omega arith;
   some_kept = omega arith;
@@ -35,7 +29,7 @@ all_is_cut number = record {
 
 -- a job's rights leave the bag
 pub job_is_cut : (rest : List ℕ) (job number : ℕ)
-    → IsCut (seen (rights_for (rest ++ job ∷ []) (stripes_of number) ++ []) 1 2 number) (seen (rights_for rest (stripes_of number)) 0 1 number) (seen (rights_of job (stripes_of number)) 1 1 number)
+    → IsCutInTwo (seen (rights_for (rest ++ job ∷ []) (stripes_of number) ++ []) 1 2 number) (seen (rights_for rest (stripes_of number)) 0 1 number) (seen (rights_of job (stripes_of number)) 1 1 number)
 job_is_cut rest job number = record {
   live = omega arith;
   rights = λ j s.
@@ -44,7 +38,7 @@ job_is_cut rest job number = record {
       let b = times_for j s n (rest ++ job ∷ []) in
       let c = times_for j s n rest in
       let d = times_right-rights_of job n j s in
-      let e = times_push j job rest in
+      let e = times-push j job rest in
       counted (ltb s n) (eqb job j) _ _ _ _ _ _ a b c d e;
   tickets = refl;
   parts = refl;
@@ -84,10 +78,10 @@ times_without j s job stripe (r ∷ rs) has = taken (times_without j s job strip
 -- a right goes to the stripe
 pub right_is_cut : (stripe job tickets number : ℕ) (order : List ℕ) (rights : List Right)
     → 1 ≤ times_right job stripe rights
-    → IsCut (seen (rights_at stripe order ++ rights) tickets 2 number) (seen (rights_at stripe (order ++ job ∷ [])) 0 1 number) (seen (without job stripe rights) tickets 1 number)
+    → IsCutInTwo (seen (rights_at stripe order ++ rights) tickets 2 number) (seen (rights_at stripe (order ++ job ∷ [])) 0 1 number) (seen (without job stripe rights) tickets 1 number)
 right_is_cut stripe job tickets number order rights has = record {
   live = omega arith;
-  rights = λ j s. counted (eqb stripe s) (eqb job j) _ _ _ _ _ _ _ (times_append j s (rights_at stripe order) rights) (times_at j s stripe order) (times_at j s stripe (order ++ job ∷ [])) (times_push j job order) (times_without j s job stripe rights has);
+  rights = λ j s. counted (eqb stripe s) (eqb job j) _ _ _ _ _ _ _ (times_append j s (rights_at stripe order) rights) (times_at j s stripe order) (times_at j s stripe (order ++ job ∷ [])) (times-push j job order) (times_without j s job stripe rights has);
   tickets = omega arith;
   parts = refl;
   some_kept = omega arith;
@@ -120,7 +114,7 @@ holds_right stripe job order there =
 -- a right is there at most once
 pub once_at_most : (number job stripe : ℕ) → once number job stripe ≤ 1
 unfolding once
-once_at_most number job stripe = by_case (nat_lt job (jobs_of number) && nat_lt stripe (stripes_of number))
+once_at_most number job stripe = by_case (nat_lt job (job_count_of number) && nat_lt stripe (stripes_of number))
   where
     by_case : (b : Bool) → (if b then 1 else 0) ≤ 1
     by_case true = omega arith

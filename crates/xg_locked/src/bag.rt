@@ -3,8 +3,8 @@ ghost use Rattle.std.specs.List.{range_with_len};
 ghost use Rattle.def_sums.specs.Limits.{most_workers};
 ghost use Rattle.def_history.specs.History.{job_numbers};
 ghost use Rattle.def_history.specs.Core.{TakesJob, rights_of};
-ghost use Rattle.xg_rights.specs.Rights.{jobs_of, rights_for, seen, stripes_of, whole};
-ghost use Rattle.xg_locked.specs.Locked.{IsBag, number_of};
+ghost use Rattle.xg_rights.specs.Rights.{job_count_of, rights_for, seen, stripes_of, whole_view};
+ghost use Rattle.xg_locked.specs.Locked.{IsBag, number_met};
 
 use std::alloc::{AllocError, Global};
 use std::marker::{Brand, PhantomData};
@@ -31,13 +31,13 @@ impl<N: RowName> Bag<N> {
         jobs: u32,
     ) -> Result<Bag<N>, AllocError>
         requires table { (table.now.table_id ≡ N.table) × (0 < N.table.words) × (seat.old.table_id ≡ N.table) }
-        requires seat { seat.old.me ≡ (whole (number_of seat.old.me), []) }
-        requires jobs { (jobs ≡ N.jobs) × (jobs ≡ jobs_of (number_of seat.old.me)) }
+        requires seat { seat.old.me ≡ (whole_view (number_met seat.old.me), []) }
+        requires jobs { (jobs ≡ N.jobs) × (jobs ≡ job_count_of (number_met seat.old.me)) }
         ensures bag { IfOk result (λ bag. bag.jobs.items ≡ job_numbers jobs) }
-        ensures number { IfOk result (λ bag. number_of bag.seat.me ≡ number_of seat.old.me) }
+        ensures number { IfOk result (λ bag. number_met bag.seat.me ≡ number_met seat.old.me) }
         ensures table { IfOk result (λ bag. seat.new.table_id ≡ N.table) }
         ensures seat { IfOk result
-            (λ bag. seat.new.me ≡ (seen [] most_workers (stripes_of (number_of seat.old.me) + 65) (number_of seat.old.me), [])) }
+            (λ bag. seat.new.me ≡ (seen [] most_workers (stripes_of (number_met seat.old.me) + (most_workers + 1)) (number_met seat.old.me), [])) }
     {
         let jobs = numbers_of(alloc, jobs)?;
         let all = give_all::<Brand>(table, seat);
@@ -51,15 +51,15 @@ impl<N: RowName> Bag<N> {
     /// Draws a job with all its rights, or leaves the ticket here where no job is left.
     pub fn draw(&mut self, table: &SharedRights, seat: RightsSeat) -> (Option<u32>, RightsSeat)
         requires table { (table.now.table_id ≡ N.table) × (0 < N.table.words) }
-        requires seat { (seat.table_id ≡ N.table) × (seat.me ≡ (seen [] 1 1 (number_of seat.me), [])) }
+        requires seat { (seat.table_id ≡ N.table) × (seat.me ≡ (seen [] 1 1 (number_met seat.me), [])) }
         ensures table { result.1.table_id ≡ N.table }
         ensures some { IfSome result.0
-            (λ job. result.1.me ≡ (seen (rights_of job (stripes_of (number_of seat.me))) 1 1 (number_of seat.me), [])) }
+            (λ job. result.1.me ≡ (seen (rights_of job (stripes_of (number_met seat.me))) 1 1 (number_met seat.me), [])) }
         ensures job { IfSome result.0 (λ job. job < N.jobs) }
         ensures step { IfSome result.0
-            (λ job. TakesJob (stripes_of (number_of seat.me)) self.old.jobs.items seat.me.0.rights job
+            (λ job. TakesJob (stripes_of (number_met seat.me)) self.old.jobs.items seat.me.0.rights job
             self.new.jobs.items result.1.me.0.rights) }
-        ensures none { IfNone result.0 (result.1.me ≡ (seen [] 0 1 (number_of seat.me), [])) }
+        ensures none { IfNone result.0 (result.1.me ≡ (seen [] 0 1 (number_met seat.me), [])) }
         ensures empty { IfNone result.0 ((self.old.jobs.items ≡ []) × (self.new.jobs.items ≡ [])) }
     {
         meet(table, &mut self.seat, seat);
@@ -102,11 +102,11 @@ fn numbers_of(alloc: Global, jobs: u32) -> Result<Vec<u32>, AllocError>
 // Hands out all rights, with one part.
 fn give_all<C: Cut>(table: &SharedRights, seat: &mut RightsSeat) -> RightsSeat
     requires table { (seat.old.table_id ≡ table.now.table_id) × (0 < table.now.table_id.words) }
-    requires whole { seat.old.me.0 ≡ whole (number_of seat.old.me) }
-    requires kept { C.kept ≡ seen [] most_workers (stripes_of (number_of seat.old.me) + 65) (number_of seat.old.me) }
+    requires whole { seat.old.me.0 ≡ whole_view (number_met seat.old.me) }
+    requires kept { C.kept ≡ seen [] most_workers (stripes_of (number_met seat.old.me) + (most_workers + 1)) (number_met seat.old.me) }
     requires given { C.given
-        ≡ seen (rights_for (job_numbers (jobs_of (number_of seat.old.me))) (stripes_of (number_of seat.old.me))) 0 1
-        (number_of seat.old.me) }
+        ≡ seen (rights_for (job_numbers (job_count_of (number_met seat.old.me))) (stripes_of (number_met seat.old.me))) 0 1
+        (number_met seat.old.me) }
     ensures kept { (seat.new.table_id ≡ seat.old.table_id) × (seat.new.me ≡ (C.kept, seat.old.me.1)) }
     ensures given { (result.table_id ≡ seat.old.table_id) × (result.me ≡ (C.given, [])) }
 {
@@ -122,11 +122,11 @@ fn give_job<C: Cut>(
 ) -> RightsSeat
     requires table { (seat.old.table_id ≡ table.now.table_id) × (0 < table.now.table_id.words) }
     requires joined { seat.old.me.0
-        ≡ seen (rights_for (rest.now ++ job ∷ []) (stripes_of (number_of seat.old.me)) ++ []) 1 2
-        (number_of seat.old.me) }
-    requires kept { C.kept ≡ seen (rights_for rest.now (stripes_of (number_of seat.old.me))) 0 1
-        (number_of seat.old.me) }
-    requires given { C.given ≡ seen (rights_of job (stripes_of (number_of seat.old.me))) 1 1 (number_of seat.old.me) }
+        ≡ seen (rights_for (rest.now ++ job ∷ []) (stripes_of (number_met seat.old.me)) ++ []) 1 2
+        (number_met seat.old.me) }
+    requires kept { C.kept ≡ seen (rights_for rest.now (stripes_of (number_met seat.old.me))) 0 1
+        (number_met seat.old.me) }
+    requires given { C.given ≡ seen (rights_of job (stripes_of (number_met seat.old.me))) 1 1 (number_met seat.old.me) }
     ensures kept { (seat.new.table_id ≡ seat.old.table_id) × (seat.new.me ≡ (C.kept, seat.old.me.1)) }
     ensures given { (result.table_id ≡ seat.old.table_id) × (result.me ≡ (C.given, [])) }
 {
@@ -136,9 +136,9 @@ fn give_job<C: Cut>(
 // Keeps the ticket.
 fn give_none<C: Cut>(table: &SharedRights, seat: &mut RightsSeat) -> RightsSeat
     requires table { (seat.old.table_id ≡ table.now.table_id) × (0 < table.now.table_id.words) }
-    requires joined { seat.old.me.0 ≡ seen [] seat.old.me.0.tickets 2 (number_of seat.old.me) }
-    requires kept { C.kept ≡ seen [] seat.old.me.0.tickets 1 (number_of seat.old.me) }
-    requires given { C.given ≡ seen [] 0 1 (number_of seat.old.me) }
+    requires joined { seat.old.me.0 ≡ seen [] seat.old.me.0.tickets 2 (number_met seat.old.me) }
+    requires kept { C.kept ≡ seen [] seat.old.me.0.tickets 1 (number_met seat.old.me) }
+    requires given { C.given ≡ seen [] 0 1 (number_met seat.old.me) }
     ensures kept { (seat.new.table_id ≡ seat.old.table_id) × (seat.new.me ≡ (C.kept, seat.old.me.1)) }
     ensures given { (result.table_id ≡ seat.old.table_id) × (result.me ≡ (C.given, [])) }
 {

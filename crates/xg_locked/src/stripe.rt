@@ -3,7 +3,7 @@ ghost use Rattle.def_history.specs.Core.{GivesRight, times_right};
 ghost use Rattle.def_history.specs.Packets.{IsPacketOf};
 ghost use Rattle.xg_rights.specs.Rights.{rights_at, seen, stripes_of};
 ghost use Rattle.xg_rowcore.specs.Stripes.{with_job};
-ghost use Rattle.xg_locked.specs.Locked.{IsSeated, number_of, without};
+ghost use Rattle.xg_locked.specs.Locked.{IsSeated, number_met, without};
 
 use std::alloc::{AllocError, Global};
 use std::marker::Brand;
@@ -31,14 +31,14 @@ impl<N: RowName> SeatedStripe<N> {
     ) -> Result<SeatedStripe<N>, AllocError>
         requires table { (table.now.table_id ≡ N.table) × (0 < N.table.words) × (seat.old.table_id ≡ N.table) }
         requires index { index < stripes }
-        requires stripes { stripes_of (number_of seat.old.me) ≡ stripes }
+        requires stripes { stripes_of (number_met seat.old.me) ≡ stripes }
         requires name { (rows ≡ N.rows) × (jobs ≡ N.jobs) }
         requires seat { (2 ≤ seat.old.me.0.parts)
-            × (seat.old.me ≡ (seen [] seat.old.me.0.tickets seat.old.me.0.parts (number_of seat.old.me), [])) }
+            × (seat.old.me ≡ (seen [] seat.old.me.0.tickets seat.old.me.0.parts (number_met seat.old.me), [])) }
         ensures index { IfOk result (λ s. s.stripe ≡ record { index = index; stripes = stripes; order = [] }) }
         ensures table { IfOk result (λ s. seat.new.table_id ≡ N.table) }
         ensures seat { IfOk result
-            (λ s. seat.new.me ≡ (seen [] seat.old.me.0.tickets (seat.old.me.0.parts - 1) (number_of seat.old.me), [])) }
+            (λ s. seat.new.me ≡ (seen [] seat.old.me.0.tickets (seat.old.me.0.parts - 1) (number_met seat.old.me), [])) }
     {
         let stripe = Stripe::new(alloc, index, stripes, rows, jobs)?;
         let part = give_part::<Brand>(table, seat);
@@ -56,7 +56,7 @@ impl<N: RowName> SeatedStripe<N> {
     pub fn add(&mut self, table: &SharedRights, seat: RightsSeat, packet: &Packet) -> RightsSeat
         requires table { (table.now.table_id ≡ N.table) × (0 < N.table.words) }
         requires seat { (seat.table_id ≡ N.table)
-            × (seat.me ≡ (seen seat.me.0.rights seat.me.0.tickets 1 (number_of seat.me), [])) }
+            × (seat.me ≡ (seen seat.me.0.rights seat.me.0.tickets 1 (number_met seat.me), [])) }
         requires job { packet.now.job < N.jobs }
         requires packet { IsPacketOf N.amount N.rows packet.now.job packet.now.entries.list }
         requires right { 1 ≤ times_right packet.now.job self.old.stripe.index seat.me.0.rights }
@@ -64,7 +64,7 @@ impl<N: RowName> SeatedStripe<N> {
         ensures seat { result.me
             ≡ (
               seen (without packet.now.job self.old.stripe.index seat.me.0.rights) seat.me.0.tickets 1
-                  (number_of seat.me),
+                  (number_met seat.me),
               [],
             ) }
         ensures step { GivesRight self.old.stripe.index self.old.stripe.order seat.me.0.rights packet.now.job
@@ -91,8 +91,8 @@ impl<N: RowName> SeatedStripe<N> {
 fn give_part<C: Cut>(table: &SharedRights, seat: &mut RightsSeat) -> RightsSeat
     requires table { (seat.old.table_id ≡ table.now.table_id) × (0 < table.now.table_id.words) }
     requires rich { (2 ≤ seat.old.me.0.parts) × (seat.old.me.0.rights ≡ []) }
-    requires kept { C.kept ≡ seen [] seat.old.me.0.tickets (seat.old.me.0.parts - 1) (number_of seat.old.me) }
-    requires given { C.given ≡ seen [] 0 1 (number_of seat.old.me) }
+    requires kept { C.kept ≡ seen [] seat.old.me.0.tickets (seat.old.me.0.parts - 1) (number_met seat.old.me) }
+    requires given { C.given ≡ seen [] 0 1 (number_met seat.old.me) }
     ensures kept { (seat.new.table_id ≡ seat.old.table_id) × (seat.new.me ≡ (C.kept, seat.old.me.1)) }
     ensures given { (result.table_id ≡ seat.old.table_id) × (result.me ≡ (C.given, [])) }
 {
@@ -109,13 +109,13 @@ fn give_others<N: RowName, C: Cut>(
     requires table { (seat.old.table_id ≡ table.now.table_id) × (0 < table.now.table_id.words) }
     requires joined { seat.old.me.0
         ≡ seen (rights_at stripe.now.index stripe.now.order ++ drop (length stripe.now.order) seat.old.me.0.rights)
-        seat.old.me.0.tickets 2 (number_of seat.old.me) }
+        seat.old.me.0.tickets 2 (number_met seat.old.me) }
     requires right { 1 ≤ times_right job stripe.now.index (drop (length stripe.now.order) seat.old.me.0.rights) }
     requires kept { C.kept ≡ seen (rights_at stripe.now.index (stripe.now.order ++ job ∷ [])) 0 1
-        (number_of seat.old.me) }
+        (number_met seat.old.me) }
     requires given { C.given
         ≡ seen (without job stripe.now.index (drop (length stripe.now.order) seat.old.me.0.rights))
-        seat.old.me.0.tickets 1 (number_of seat.old.me) }
+        seat.old.me.0.tickets 1 (number_met seat.old.me) }
     ensures kept { (seat.new.table_id ≡ seat.old.table_id) × (seat.new.me ≡ (C.kept, seat.old.me.1)) }
     ensures given { (result.table_id ≡ seat.old.table_id) × (result.me ≡ (C.given, [])) }
 {

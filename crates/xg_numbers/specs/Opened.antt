@@ -1,26 +1,13 @@
 -- What opening a game gives.
 use Rattle.std.specs.Prelude.{◌≡◌, ℕ, ◌≤◌, Err}
 use Rattle.def_fraction.specs.Fraction.{most}
-use Rattle.def_tree.specs.Tree.{Forest, node_count}
+use Rattle.def_tree.specs.Tree.{Forest}
 use Rattle.def_game_paths.specs.Recall.{RecallBreak}
 use Rattle.def_sequence_form.specs.Sets.{sets_or_break}
 use Rattle.def_file.specs.declared.FileFault.{FileFault}
 use Rattle.def_file.specs.declared.FileFault.TheVariants.{NotRecall}
-use Rattle.def_file.specs.Content.{GameFile}
-use Rattle.def_game_scale.specs.Scale.{game_unit}
-use Rattle.def_game_numbers.specs.Numbers.{tables_of}
 use Rattle.def_plan.specs.Form.{SequenceForm}
 use Rattle.def_plan.specs.Payoff.{mass_of}
-use Rattle.def_sequence_form.specs.Form.{form_of_game}
-use Rattle.def_cert_verdict.specs.Verdict.{WeighedGame}
-
--- a file's game in numbers
-abbrev pub weighed_game : GameFile → WeighedGame
-weighed_game game = record {
-  nodes = node_count game.tree;
-  unit = game_unit (tables_of game) game.tree;
-  form = form_of_game (tables_of game) game.tree;
-}
 
 -- the sizes of the form's weights add up to this
 abbrev pub KeepsMass : SequenceForm → ℕ → Type 0

@@ -6,7 +6,8 @@ ghost use Rattle.def_plan.specs.Payoff.{mass_of};
 ghost use Rattle.def_sequence_form.specs.Form.{form_of};
 ghost use Rattle.def_sequence_form.specs.Sets.{sets_or_break};
 ghost use Rattle.def_tree.specs.Tree.{leaf_count, prefix};
-ghost use Rattle.xg_numbers.specs.Opened.{IsBreakOf, weighed_game};
+ghost use Rattle.xg_numbers.specs.Opened.{IsBreakOf};
+ghost use Rattle.def_file_accepted.specs.Weighed.{weighed_game};
 
 use std::alloc::Global;
 use std::marker::Model;

@@ -7,7 +7,8 @@ use Rattle.std.proofs.Math.Seq.{take-append_seam, drop-append_seam, take-length,
 use borrow.Rule.Slice.PartMut.{put_mid}
 use Rattle.std.specs.Io.KnownBytes.{append_known}
 use Rattle.def_outside.specs.Sinks.{AppendsPrefix}
-use Rattle.xg_io.proofs.Known.{append_known-append, append_known-nil}
+use Rattle.def_outside.proofs.Fronts.{append_known-nil}
+use Rattle.xg_io.proofs.Known.{append_known-append}
 use Rattle.xg_page.specs.Waiting.{waiting_in, IsGrown}
 
 -- the bytes from one place to another, the other way round

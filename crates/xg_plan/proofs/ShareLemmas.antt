@@ -1,29 +1,19 @@
 -- Prefix sums of weights, and when a list is the shares of n.
-use Rattle.std.proofs.Common.{◌≡◌, ℕ, zero, suc, ◌+◌, ◌*◌, ◌/◌, ◌<◌, ◌≤◌, ◌≢◌, List, [], ◌∷◌, length, get_or, take, map, replicate, ℤ, pos, negsuc, ◌≤ℤ◌, unsigned_abs, refl, sym, ap, ◌∙◌, arith, add-zero, ⊎_elim, below_more}
+use Rattle.std.proofs.Common.{◌≡◌, ℕ, zero, suc, ◌+◌, ◌*◌, ◌/◌, ◌<◌, ◌≤◌, ◌≢◌, List, [], ◌∷◌, length, get_or, map, replicate, ℤ, pos, negsuc, ◌≤ℤ◌, unsigned_abs, refl, sym, ap, ◌∙◌, arith, ⊎_elim, below_more}
 use Rattle.std.proofs.Math.ListN.{get_or-map, set}
 use Rattle.std.proofs.Math.Nat.{mul-le-mul_left, mul-div_left}
-use Rattle.std.proofs.Math.Seq.{take-length}
 use Rattle.std.proofs.lemmas.Bool.{cases_eq, cases_lt}
 use Rattle.std.proofs.lemmas.Grind.{same_number_lists}
-use Rattle.std.proofs.lemmas.List.{get_or-replicate, get_or-set_other, get_or-set_same, length-map, length-replicate, take_more}
+use Rattle.std.proofs.lemmas.List.{get_or-replicate, get_or-set_other, get_or-set_same, length-map, length-replicate}
 use Rattle.std.proofs.lemmas.Nat.{div-add-mod', le-div}
-use Rattle.def_sums.proofs.SumLaws.{nat_sum_over-append}
 use Rattle.def_shares.specs.Shares.{prefix_share, prefix_sum, shares, weight_sum}
-use Rattle.def_shares.proofs.SharesLaws.{are_differences, length-shares}
-
--- the sum of one weight more
-pub prefix-more : (ws : List ℕ) (i : ℕ) → i < length ws → prefix_sum ws (i + 1) ≡ prefix_sum ws i + get_or ws i 0
-prefix-more ws i below = ap weight_sum (take_more ws i 0 below) ∙ nat_sum_over-append (λ w. w) (take i ws) (get_or ws i 0 ∷ []) ∙ ap (λ n. prefix_sum ws i + n) (add-zero (get_or ws i 0))
+use Rattle.def_shares.proofs.SharesLaws.{are_differences, length-shares, nothing_over, prefix-all, prefix-more}
 
 -- the first i weights are together within the sum of all
 pub prefix-within : (ws : List ℕ) (i : ℕ) → prefix_sum ws i ≤ weight_sum ws
 prefix-within ws zero = omega arith
 prefix-within [] (suc i) = omega arith
 prefix-within (w ∷ ws) (suc i) = omega (arith, prefix-within ws i)
-
--- the weights up to the last one are together the sum of all
-pub prefix-all : (ws : List ℕ) → prefix_sum ws (length ws) ≡ weight_sum ws
-prefix-all ws = ap weight_sum (take-length ws)
 
 -- there is a size for each weight
 pub length-sizes : (ws : List ℤ) → length (map unsigned_abs ws) ≡ length ws
@@ -36,7 +26,8 @@ pub weight_is_size : (w : ℤ) → pos 0 ≤ℤ w → pos (unsigned_abs w) ≡ w
 weight_is_size (pos n) h = refl
 weight_is_size (negsuc n) h = absurd (omega arith)
 
-quotient_grows : (n a b sum : ℕ) → 1 ≤ sum → a ≤ b → n * a / sum ≤ n * b / sum
+-- a greater part of n, over a sum, is no smaller
+pub quotient_grows : (n a b sum : ℕ) → 1 ≤ sum → a ≤ b → n * a / sum ≤ n * b / sum
 quotient_grows n a b sum some h = le-div (n * a / sum) (n * b) sum some (omega (arith, div-add-mod' (n * a) sum, mul-le-mul_left n h))
 
 -- what a part within the sum gets of n is within n
@@ -121,10 +112,7 @@ one_share n ws out one long some all =
     dealt_is_shares n ws out (omega arith) some
     (λ k below.
     let none : k ≡ 0 = omega arith in
-    omega (arith, ap (λ k. get_or out k 0) none, ap (λ k. prefix_share n ws k) none, ap (λ k. prefix_share n ws (k + 1)) none, zero_of n (weight_sum ws) some, at_one, all))
-  where
-    zero_of : (n sum : ℕ) → 1 ≤ sum → n * 0 / sum ≡ 0
-    zero_of n sum some = omega arith
+    omega (arith, ap (λ k. get_or out k 0) none, ap (λ k. prefix_share n ws k) none, ap (λ k. prefix_share n ws (k + 1)) none, nothing_over n (weight_sum ws) some, at_one, all))
 
 -- the first of two weights gets its part, rounded down, and the other one the rest
 pub two_shares : (n q : ℕ) (ws out : List ℕ) → length ws ≡ 2 → length out ≡ 2 → 1 ≤ weight_sum ws → get_or out 0 0 ≡ q
@@ -133,7 +121,7 @@ pub two_shares : (n q : ℕ) (ws out : List ℕ) → length ws ≡ 2 → length 
 two_shares n q ws out two long some first second is =
     let one : prefix_sum ws 1 ≡ get_or ws 0 0 = omega (arith, prefix-more ws 0 (omega arith)) in
     let all : prefix_sum ws 2 ≡ weight_sum ws = ap (λ k. prefix_sum ws k) (sym two) ∙ prefix-all ws in
-    let at_none : prefix_share n ws 0 ≡ 0 = zero_of n (weight_sum ws) some in
+    let at_none : prefix_share n ws 0 ≡ 0 = nothing_over n (weight_sum ws) some in
     let at_one : prefix_share n ws 1 ≡ q = ap (λ c. n * c / weight_sum ws) one ∙ sym is in
     let at_two : prefix_share n ws 2 ≡ n = ap (λ c. n * c / weight_sum ws) all ∙ mul-div_left n some in
     dealt_is_shares n ws out (omega arith) some
@@ -142,6 +130,3 @@ two_shares n q ws out two long some first second is =
     (λ zero_is. omega (arith, ap (λ k. get_or out k 0) zero_is, ap (λ k. prefix_share n ws k) zero_is, ap (λ k. prefix_share n ws (k + 1)) zero_is, at_none, at_one, first))
     (λ other. let one_is : k ≡ 1 = omega arith in omega (arith, ap (λ k. get_or out k 0) one_is, ap (λ k. prefix_share n ws k) one_is, ap (λ k. prefix_share n ws (k + 1)) one_is, at_one, at_two, second))
     (cases_eq k 0))
-  where
-    zero_of : (n sum : ℕ) → 1 ≤ sum → n * 0 / sum ≡ 0
-    zero_of n sum some = omega arith

@@ -4,7 +4,7 @@ use Rattle.std.proofs.lemmas.List.{length-append}
 use Rattle.def_file.specs.declared.FileFault.{FileFault}
 use Rattle.def_file.specs.declared.FileFault.TheVariants.{UnexpectedEnd, Players}
 use Rattle.def_file.specs.Reading.{◌>>=◌, next_is, close_byte, close_at, text_at, names_from, checked_names}
-use Rattle.xg_read.specs.Mentions.{AreFirst}
+use Rattle.xg_read.specs.Mentions.{AreFirstNames}
 
 pub names_closed : (left : ℕ) (done : List (List ℕ)) (whole : List ℕ) (at : ℕ) → 0 < left
     → next_is close_byte whole at ≡ true
@@ -29,18 +29,18 @@ names_full (suc left) done whole at none = absurd (omega arith)
 
 -- the first name, the second, and any other
 pub first_named : (done : List (List ℕ)) (text : List ℕ) (one two : Option (List ℕ)) (count : ℕ) → count ≡ 0
-    → AreFirst done one two count → AreFirst (done ++ text ∷ []) (Some text) two 1
+    → AreFirstNames done one two count → AreFirstNames (done ++ text ∷ []) (Some text) two 1
 first_named [] text one two count none first = record { first_is = refl; second_is = first.second_is; count_is = refl }
 first_named (name ∷ done) text one two count none first = absurd (omega (arith, first.count_is))
 
 pub second_named : (done : List (List ℕ)) (text : List ℕ) (one two : Option (List ℕ)) (count : ℕ) → count ≡ 1
-    → AreFirst done one two count → AreFirst (done ++ text ∷ []) one (Some text) 2
+    → AreFirstNames done one two count → AreFirstNames (done ++ text ∷ []) one (Some text) 2
 second_named [] text one two count single first = absurd (omega (arith, first.count_is))
 second_named (name ∷ []) text one two count single first = record { first_is = first.first_is; second_is = refl; count_is = refl }
 second_named (name ∷ other ∷ done) text one two count single first = absurd (omega (arith, first.count_is))
 
 pub other_named : (done : List (List ℕ)) (text : List ℕ) (one two : Option (List ℕ)) (count : ℕ) → 2 ≤ count
-    → AreFirst done one two count → AreFirst (done ++ text ∷ []) one two (count + 1)
+    → AreFirstNames done one two count → AreFirstNames (done ++ text ∷ []) one two (count + 1)
 other_named [] text one two count many first = absurd (omega (arith, first.count_is))
 other_named (name ∷ []) text one two count many first = absurd (omega (arith, first.count_is))
 other_named (name ∷ other ∷ done) text one two count many first = record {
@@ -63,12 +63,14 @@ names_next left after done text whole seen at end same e goes read =
     ∙ ap (λ (n : ℕ). names_from n (done ++ text ∷ []) whole end) one
 
 -- two names
-pub first_there : (done : List (List ℕ)) (two : Option (List ℕ)) (count : ℕ) → count ≡ 2 → AreFirst done None two count
+pub first_there : (done : List (List ℕ)) (two : Option (List ℕ)) (count : ℕ) → count ≡ 2
+    → AreFirstNames done None two count
     → ⊥
 first_there [] two count pair first = absurd (omega (arith, first.count_is))
 first_there (name ∷ done) two count pair first = let clash = first.first_is in cc
 
-pub second_there : (done : List (List ℕ)) (one : Option (List ℕ)) (count : ℕ) → count ≡ 2 → AreFirst done one None count
+pub second_there : (done : List (List ℕ)) (one : Option (List ℕ)) (count : ℕ) → count ≡ 2
+    → AreFirstNames done one None count
     → ⊥
 second_there [] one count pair first = absurd (omega (arith, first.count_is))
 second_there (name ∷ []) one count pair first = absurd (omega (arith, first.count_is))

@@ -1,5 +1,5 @@
 -- Reading entries one after another.
-use Rattle.std.proofs.Common.{◌≡◌, ◌≢◌, ℕ, zero, suc, ◌+◌, ◌-◌, ◌<◌, Bool, cond, List, Option, Some, None, Result, Ok, Err, refl, sym, ◌∙◌, ap, eq-eqb, ne_eqb, arith}
+use Rattle.std.proofs.Common.{◌≡◌, ◌≢◌, ℕ, zero, suc, ◌+◌, ◌-◌, ◌<◌, Bool, cond, List, Some, None, Result, Ok, Err, refl, sym, ◌∙◌, ap, eq-eqb, ne_eqb, arith}
 use Rattle.std.specs.Prelude.{OnOk}
 use Rattle.def_tree.specs.Tree.{wanted}
 use Rattle.def_file.specs.declared.FileFault.{FileFault}
@@ -7,32 +7,24 @@ use Rattle.def_file.specs.declared.FileFault.TheVariants.{TooManyNodes}
 use Rattle.def_file.specs.Content.{Record, Contents}
 use Rattle.def_file.specs.Faults.{record_fault}
 use Rattle.def_file.specs.Adding.{with_record}
-use Rattle.def_file.specs.Reading.{◌>>=◌, entry_at, unless_fault, judged, entries_from}
+use Rattle.def_file.specs.Reading.{◌>>=◌, entry_at, judged, entries_from}
+use Rattle.def_file_form.proofs.Entries.{ok_judged}
+use Rattle.def_file_fault.proofs.Reached.{judged_fault}
 use Rattle.xg_game.specs.Made.{Made}
 use Rattle.xg_game.specs.declared.fault.Refused.{Refused}
 use Rattle.xg_game.specs.declared.fault.Refused.TheVariants.{File, NoMemory}
 use Rattle.xg_read.specs.Gives.{next_at, GivesFor, GivesNext}
 
-judged_ok : (contents : Contents) (r : Record) → record_fault contents r ≡ None
-    → judged contents r ≡ Ok (with_record contents r)
-unfolding judged
-judged_ok contents r e = ap (λ (f : Option FileFault). unless_fault f (with_record contents r)) e
-
-judged_err : (contents : Contents) (r : Record) (fault : FileFault) → record_fault contents r ≡ Some fault
-    → judged contents r ≡ Err fault
-unfolding judged
-judged_err contents r fault e = ap (λ (f : Option FileFault). unless_fault f (with_record contents r)) e
-
 -- the next entry is taken, or has a fault
 next_taken : (contents : Contents) (whole : List ℕ) (at end : ℕ) (r : Record) → entry_at whole at ≡ Ok (r, end)
     → record_fault contents r ≡ None
     → next_at contents whole at ≡ Ok (with_record contents r, end)
-next_taken contents whole at end r read sound = rw (read, judged_ok contents r sound) refl
+next_taken contents whole at end r read sound = rw (read, ok_judged contents r sound) refl
 
 next_judged : (contents : Contents) (whole : List ℕ) (at end : ℕ) (r : Record) (fault : FileFault)
     → entry_at whole at ≡ Ok (r, end) → record_fault contents r ≡ Some fault
     → next_at contents whole at ≡ Err fault
-next_judged contents whole at end r fault read bad = rw (read, judged_err contents r fault bad) refl
+next_judged contents whole at end r fault read bad = rw (read, judged_fault contents r fault bad) refl
 
 -- a whole tree has no further entry
 pub entries_done : (left : ℕ) (contents : Contents) (whole : List ℕ) (at : ℕ) → 0 < left → wanted 1 contents.nodes ≡ 0

@@ -11,7 +11,12 @@ abbrev pub Gives : {X : Type 0} → Result X FileFault → ℕ → Result (X × 
 Gives (Ok x) at read = read ≡ Ok (x, at)
 Gives (Err fault) at read = read ≡ Err fault
 
--- the same, where memory may run out, of a value seen by `view`
+-- the same of a value seen by `view`
+abbrev pub GivesSeen : {X Y : Type 0} → (X → Y) → Result X FileFault → ℕ → Result (Y × ℕ) FileFault → Type 0
+GivesSeen view (Ok x) at read = read ≡ Ok (view x, at)
+GivesSeen view (Err fault) at read = read ≡ Err fault
+
+-- and where memory may run out
 abbrev pub GivesFor : {X Y : Type 0} → (X → Y) → Result X Refused → ℕ → Result (Y × ℕ) FileFault → Type 0
 GivesFor view (Ok x) at read = read ≡ Ok (view x, at)
 GivesFor view (Err (File fault)) at read = read ≡ Err fault

@@ -30,14 +30,14 @@ abbrev pub read_prologue : Prologue → content.Prologue
 read_prologue p = record { title = p.title; one = p.one; two = p.two; comment = p.comment }
 
 -- the first two of some names, and how many there are
-pub record AreFirst (names : List (List ℕ)) (first second : Option (List ℕ)) (count : ℕ) : Type 0 where
+pub record AreFirstNames (names : List (List ℕ)) (first second : Option (List ℕ)) (count : ℕ) : Type 0 where
   pub first_is : first ≡ slice_get names 0
   pub second_is : second ≡ slice_get names 1
   pub count_is : count ≡ length names
 
 -- the names that were read, by their summary
 abbrev pub GivesNames : Result PlayerNames Refused → ℕ → Result (List (List ℕ) × ℕ) FileFault → Type 0
-GivesNames (Ok n) at read = (names : List (List ℕ)) × (read ≡ Ok (names, at)) × AreFirst names n.one n.two n.count
+GivesNames (Ok n) at read = (names : List (List ℕ)) × (read ≡ Ok (names, at)) × AreFirstNames names n.one n.two n.count
 GivesNames (Err (File fault)) at read = read ≡ Err fault
 GivesNames (Err NoMemory) at read = Unit {0}
 

@@ -1,8 +1,8 @@
 //! The entries of a file.
 ghost use Rattle.def_fraction.specs.Fraction.{most};
-ghost use Rattle.std.specs.Prelude.{◌≡◌, ◌≤◌, IfOk};
+ghost use Rattle.std.specs.Prelude.{◌≡◌, ◌≤◌, [], IfOk};
 ghost use Rattle.def_file.specs.Reading.{chance_entry_at, entry_at, entry_behind, outcome_mention_at, personal_entry_at, set_mention_at, terminal_entry_at};
-ghost use Rattle.xg_record.specs.Entry.{entry_of};
+ghost use Rattle.xg_record.specs.Entry.{entry_seen};
 ghost use Rattle.xg_read.specs.Gives.{GivesFor};
 ghost use Rattle.xg_read.specs.Mentions.{HasNumbers, outcome_mention_of, set_mention_of};
 
@@ -12,14 +12,14 @@ use def_file::EntryKind;
 use std::alloc::Global;
 use xg_game::Refused;
 use xg_lex::{TextView, Token};
-use xg_record::{ActionViews, ActionsView, Entry, Payoffs};
+use xg_record::{ActionViews, Entry, EntryActions, Payoffs};
 
 /// What an entry says of its set.
 #[derive(Drop)]
 pub struct SetMention<'a> {
     pub number: u64,
     pub name: Option<TextView<'a>>,
-    pub actions: Option<ActionsView<'a>>,
+    pub actions: Option<EntryActions<'a>>,
 }
 
 /// What an entry says of its outcome.
@@ -39,7 +39,10 @@ pub struct Lists<'a> {
 
 impl<'a> Lists<'a> {
     /// Empty lists.
-    pub fn new(alloc: Global) -> Lists<'a> {
+    pub fn new(alloc: Global) -> Lists<'a>
+        ensures actions { result.actions ≡ [] }
+        ensures payoffs { result.payoffs ≡ [] }
+    {
         Lists {
             actions: ActionViews::new(alloc),
             payoffs: Payoffs::new(alloc),
@@ -99,7 +102,7 @@ impl<'a> Reader<'a> {
     fn chance_entry<'l>(&mut self, lists: &'l mut Lists<'a>) -> Result<Entry<'l>, Refused>
     where
         'a: 'l,
-        ensures exact { GivesFor entry_of result self.new.at (chance_entry_at self.old.whole self.old.at) }
+        ensures exact { GivesFor entry_seen result self.new.at (chance_entry_at self.old.whole self.old.at) }
         ensures whole { self.new.whole ≡ self.old.whole }
         ensures numbers { IfOk result HasNumbers }
     {
@@ -114,7 +117,7 @@ impl<'a> Reader<'a> {
     fn personal_entry<'l>(&mut self, lists: &'l mut Lists<'a>) -> Result<Entry<'l>, Refused>
     where
         'a: 'l,
-        ensures exact { GivesFor entry_of result self.new.at (personal_entry_at self.old.whole self.old.at) }
+        ensures exact { GivesFor entry_seen result self.new.at (personal_entry_at self.old.whole self.old.at) }
         ensures whole { self.new.whole ≡ self.old.whole }
         ensures numbers { IfOk result HasNumbers }
     {
@@ -130,7 +133,7 @@ impl<'a> Reader<'a> {
     fn terminal_entry<'l>(&mut self, lists: &'l mut Lists<'a>) -> Result<Entry<'l>, Refused>
     where
         'a: 'l,
-        ensures exact { GivesFor entry_of result self.new.at (terminal_entry_at self.old.whole self.old.at) }
+        ensures exact { GivesFor entry_seen result self.new.at (terminal_entry_at self.old.whole self.old.at) }
         ensures whole { self.new.whole ≡ self.old.whole }
         ensures numbers { IfOk result HasNumbers }
     {
@@ -154,7 +157,7 @@ impl<'a> Reader<'a> {
     pub fn entry<'l>(&mut self, lists: &'l mut Lists<'a>) -> Result<Entry<'l>, Refused>
     where
         'a: 'l,
-        ensures exact { GivesFor entry_of result self.new.at (entry_at self.old.whole self.old.at) }
+        ensures exact { GivesFor entry_seen result self.new.at (entry_at self.old.whole self.old.at) }
         ensures whole { self.new.whole ≡ self.old.whole }
         ensures numbers { IfOk result HasNumbers }
     {
@@ -177,7 +180,7 @@ fn with_set<'a>(
     set: SetMention<'a>,
     outcome: OutcomeMention<'a>,
 ) -> Entry<'a>
-    ensures { entry_of result ≡ record { kind = kind; name = name.entry; player = player; set = set_mention_of set.entry; outcome = outcome_mention_of outcome.entry } }
+    ensures { entry_seen result ≡ record { kind = kind; name = name.entry; player = player; set = set_mention_of set.entry; outcome = outcome_mention_of outcome.entry } }
 {
     Entry {
         kind,

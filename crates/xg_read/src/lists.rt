@@ -4,14 +4,14 @@ ghost use Rattle.def_file.specs.Content.{zero_fraction};
 ghost use Rattle.def_file.specs.Reading.{action_at, actions_at, actions_from, chance_at, comma_at, payoff_at, payoffs_at, payoffs_from};
 ghost use Rattle.xg_record.specs.Entry.{actions_seen};
 ghost use Rattle.xg_record.specs.Seen.{action_seen};
-ghost use Rattle.xg_read.specs.Gives.{Gives, GivesFor};
+ghost use Rattle.xg_read.specs.Gives.{Gives, GivesFor, GivesSeen};
 
 use crate::reader::Reader;
 use crate::wanted::Wanted;
 use def_file::{EntryKind, FileFault};
 use xg_frac::{Frac, whole};
 use xg_game::Refused;
-use xg_record::{ActionView, ActionViews, ActionsView, Payoffs};
+use xg_record::{ActionView, ActionViews, EntryActions, Payoffs};
 
 impl<'a> Reader<'a> {
     /// The probability of an action, which is read where chance moves, and else is 0.
@@ -27,8 +27,8 @@ impl<'a> Reader<'a> {
 
     /// An action: its name, and its probability where chance moves.
     #[tactic(auto, unfolding(def_file::specs::Reading::action_at))]
-    fn action(&mut self, kind: EntryKind) -> Result<ActionView<'a>, Refused>
-        ensures exact { GivesFor action_seen result self.new.at (action_at kind self.old.whole self.old.at) }
+    fn action(&mut self, kind: EntryKind) -> Result<ActionView<'a>, FileFault>
+        ensures exact { GivesSeen action_seen result self.new.at (action_at kind self.old.whole self.old.at) }
         ensures whole { self.new.whole ≡ self.old.whole }
     {
         let name = self.next_view()?;
@@ -66,7 +66,7 @@ impl<'a> Reader<'a> {
         &mut self,
         kind: EntryKind,
         actions: &'l mut ActionViews<'a>,
-    ) -> Result<Option<ActionsView<'l>>, Refused>
+    ) -> Result<Option<EntryActions<'l>>, Refused>
     where
         'a: 'l,
         ensures exact { GivesFor (option_map actions_seen) result self.new.at (actions_at kind self.old.whole self.old.at) }
@@ -77,7 +77,7 @@ impl<'a> Reader<'a> {
         }
         self.token(Wanted::Open)?;
         self.actions_in_braces(kind, actions)?;
-        Ok(Some(ActionsView::Views(actions)))
+        Ok(Some(EntryActions::Viewed(actions)))
     }
 }
 
@@ -118,8 +118,6 @@ impl<'a> Reader<'a> {
     /// A list of payoffs, if one comes.
     #[tactic(auto, unfolding(def_file::specs::Reading::payoffs_at))]
     pub fn payoffs<'l>(&mut self, payoffs: &'l mut Payoffs) -> Result<Option<&'l Payoffs>, Refused>
-    where
-        'a: 'l,
         ensures exact { GivesFor (option_map (λ p. p.now)) result self.new.at (payoffs_at self.old.whole self.old.at) }
         ensures whole { self.new.whole ≡ self.old.whole }
     {

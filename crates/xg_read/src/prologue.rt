@@ -2,7 +2,7 @@
 ghost use Rattle.std.specs.Prelude.{◌≡◌, ℕ, ◌+◌, ◌-◌, ◌^◌, ◌<◌, ◌≤◌, [], ◌∷◌, ◌++◌, List, length};
 ghost use Rattle.def_file.specs.Reading.{checked_names, names_from, prologue_at, most_bytes};
 ghost use Rattle.xg_read.specs.Gives.{GivesFor};
-ghost use Rattle.xg_read.specs.Mentions.{AreFirst, GivesNames, IsBoth, comment_at, read_prologue};
+ghost use Rattle.xg_read.specs.Mentions.{AreFirstNames, GivesNames, IsBoth, comment_at, read_prologue};
 
 use crate::reader::Reader;
 use crate::wanted::Wanted;
@@ -58,8 +58,8 @@ impl<'a> Reader<'a> {
 #[tactic(auto, using(crate::proofs::Names::first_named, crate::proofs::Names::second_named, crate::proofs::Names::other_named))]
 fn with_name(names: PlayerNames, text: Text) -> PlayerNames
     requires { names.count < 2 ^ 32 - 1 }
-    ensures first { (done : List (List ℕ)) → AreFirst done names.one names.two names.count
-        → AreFirst (done ++ text ∷ []) result.one result.two result.count }
+    ensures first { (done : List (List ℕ)) → AreFirstNames done names.one names.two names.count
+        → AreFirstNames (done ++ text ∷ []) result.one result.two result.count }
     ensures count { result.count ≡ names.count + 1 }
 {
     let PlayerNames { one, two, count } = names;
@@ -130,7 +130,7 @@ pub struct Players {
 /// The names of both players, where there are two names.
 #[tactic(auto, using(crate::proofs::Names::first_there, crate::proofs::Names::second_there, crate::proofs::Names::checked_two, crate::proofs::Names::checked_other))]
 fn both(names: PlayerNames) -> Result<Players, FileFault>
-    ensures { (done : List (List ℕ)) → AreFirst done names.one names.two names.count → IsBoth done result }
+    ensures { (done : List (List ℕ)) → AreFirstNames done names.one names.two names.count → IsBoth done result }
 {
     let PlayerNames { one, two, count } = names;
     if count != 2 {

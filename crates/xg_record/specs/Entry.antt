@@ -1,16 +1,16 @@
 -- An entry by views, as the content of a file has it.
 use Rattle.std.specs.Prelude.{List, option_map}
 use Rattle.def_file.specs.Content as content
-use Rattle.xg_record.specs.declared.entry.ActionsView.{ActionsView}
-use Rattle.xg_record.specs.declared.entry.ActionsView.TheVariants.{Kept, Views}
+use Rattle.xg_record.specs.declared.entry.EntryActions.{EntryActions}
+use Rattle.xg_record.specs.declared.entry.EntryActions.TheVariants.{Owned, Viewed}
 use Rattle.xg_record.specs.declared.entry.Entry.{Entry}
 
-abbrev pub actions_seen : ActionsView → List content.Action
-actions_seen (Kept actions) = actions.now
-actions_seen (Views actions) = actions.now
+abbrev pub actions_seen : EntryActions → List content.Action
+actions_seen (Owned actions) = actions.now
+actions_seen (Viewed actions) = actions.now
 
-abbrev pub entry_of : Entry → content.Record
-entry_of e = record {
+abbrev pub entry_seen : Entry → content.Record
+entry_seen e = record {
   kind = e.kind;
   name = e.name;
   player = e.player;

@@ -1,6 +1,6 @@
 //! An entry of a game file, by views of its texts and its lists.
 ghost use Rattle.std.specs.Prelude.{◌≡◌, ◌<◌, Some, length, slice_get};
-ghost use Rattle.xg_record.specs.Entry.{actions_seen, entry_of};
+ghost use Rattle.xg_record.specs.Entry.{actions_seen, entry_seen};
 ghost use Rattle.xg_record.specs.Record.{record_of};
 ghost use Rattle.xg_record.specs.Seen.{action_seen};
 
@@ -11,21 +11,23 @@ use crate::views::{ActionView, ActionViews};
 use def_file::EntryKind;
 use xg_lex::{Text, TextView};
 
-/// The actions of a set, in their order.
+/// The actions that an entry gives, in their order.
 #[derive(Drop)]
-pub enum ActionsView<'a> {
-    Kept(&'a Actions),
-    Views(&'a ActionViews<'a>),
+pub enum EntryActions<'a> {
+    /// Actions with names of their own, as a `Record` has them.
+    Owned(&'a Actions),
+    /// Actions by views of their names.
+    Viewed(&'a ActionViews<'a>),
 }
 
-impl<'a> ActionsView<'a> {
+impl<'a> EntryActions<'a> {
     /// How many actions there are.
     pub fn len(&self) -> usize
         ensures { result ≡ length (actions_seen self.now) }
     {
         match self {
-            ActionsView::Kept(actions) => actions.len(),
-            ActionsView::Views(actions) => actions.len(),
+            EntryActions::Owned(actions) => actions.len(),
+            EntryActions::Viewed(actions) => actions.len(),
         }
     }
 
@@ -35,8 +37,8 @@ impl<'a> ActionsView<'a> {
         ensures { slice_get (actions_seen self.now) i ≡ Some (action_seen result) }
     {
         match self {
-            ActionsView::Kept(actions) => actions.get(i).view(),
-            ActionsView::Views(actions) => actions.get(i),
+            EntryActions::Owned(actions) => actions.get(i).view(),
+            EntryActions::Viewed(actions) => actions.get(i),
         }
     }
 }
@@ -49,7 +51,7 @@ pub struct Entry<'a> {
     pub player: u64,
     pub set: u64,
     pub set_name: Option<TextView<'a>>,
-    pub actions: Option<ActionsView<'a>>,
+    pub actions: Option<EntryActions<'a>>,
     pub outcome: u64,
     pub outcome_name: Option<TextView<'a>>,
     pub payoffs: Option<&'a Payoffs>,
@@ -58,30 +60,18 @@ pub struct Entry<'a> {
 impl Record {
     /// The entry, by views of what this record has.
     pub fn view(&self) -> Entry<'_>
-        ensures { entry_of result ≡ record_of self.now }
+        ensures { entry_seen result ≡ record_of self.now }
     {
         Entry {
             kind: self.kind,
             name: self.name.view(),
             player: self.player,
             set: self.set,
-            set_name: view_of(&self.set_name),
-            actions: match &self.actions {
-                Some(actions) => Some(ActionsView::Kept(actions)),
-                None => None,
-            },
+            set_name: self.set_name.as_ref().map(Text::view),
+            actions: self.actions.as_ref().map(EntryActions::Owned),
             outcome: self.outcome,
-            outcome_name: view_of(&self.outcome_name),
+            outcome_name: self.outcome_name.as_ref().map(Text::view),
             payoffs: self.payoffs.as_ref(),
         }
-    }
-}
-
-fn view_of(name: &Option<Text>) -> Option<TextView<'_>>
-    ensures { result ≡ name.now }
-{
-    match name {
-        Some(name) => Some(name.view()),
-        None => None,
     }
 }

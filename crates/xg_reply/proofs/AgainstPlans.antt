@@ -5,13 +5,13 @@ use Rattle.def_tree.specs.declared.Player.TheVariants.{One, Two}
 use Rattle.def_plan.specs.Form.{AreInOrder, InformationSet, SequenceForm, player_sets}
 use Rattle.def_plan.specs.Payoff.{AgreeOn, leaf_sum}
 use Rattle.def_plan.specs.Plan.{pure_plan}
-use Rattle.def_rows.specs.Rows.{player_rows}
+use Rattle.def_rows.specs.Rows.{player_rows, amount_of}
 use Rattle.def_rows.proofs.Rows.{player_rows_are_leaf_sums}
 use Rattle.def_reply.specs.Bounds.{AttainsCeiling, AttainsFloor, IsCeiling, IsFloor}
 use Rattle.def_reply.specs.Reply.{Reply, SetReply, best_reply, best_reply_to, choices_of, total}
 use Rattle.def_reply.proofs.BoundLaws.{best_bounds}
 use Rattle.def_reply.proofs.OwnSums.{replies_need_own_sums}
-use Rattle.xg_reply.specs.Replies.{amount_of, reply_to_sums}
+use Rattle.xg_reply.specs.Replies.{reply_to_sums}
 
 -- the reply to these rows is the best reply to the plan
 pub against_plan : (form : SequenceForm) (player : Player) (plan : List ℕ) (rows : List ℤ)

@@ -19,8 +19,9 @@ use Rattle.def_plan.proofs.Hanging.{after, kept}
 use Rattle.def_plan.proofs.Worths.{worth-cons}
 use Rattle.def_reply.specs.Reply.{Reply, SetReply, best_of, best_reply, first_with, replies_at, total, values_of}
 use Rattle.def_reply.proofs.ReplySizes.{worths-below}
-use Rattle.xg_reply.specs.Replies.{amount_of, placed_set, reply_by, reply_to_sums}
+use Rattle.xg_reply.specs.Replies.{placed_set, reply_by, reply_to_sums}
 use Rattle.xg_reply.proofs.PlacedSets.{in_order, sequences_there}
+use Rattle.def_rows.specs.Rows.{amount_of}
 
 abbrev sizes : (ℕ → ℤ) → List ℕ → ℕ
 sizes f ss = nat_sum_over (λ s. unsigned_abs (f s)) ss

@@ -1,12 +1,8 @@
 -- Best replies to rows of numbers.
-use Rattle.std.specs.Prelude.{ℕ, ◌-◌, List, map, slice_index_or, ℤ, pos}
+use Rattle.std.specs.Prelude.{ℕ, ◌-◌, List, map, slice_index_or, ℤ}
 use Rattle.def_tree.specs.declared.Player.{Player}
 use Rattle.def_plan.specs.Form.{InformationSet, PlacedSet, placed, sequences_of}
 use Rattle.def_reply.specs.Reply.{Reply, SetReply, best_of, best_reply, first_with, total}
-
--- the amount of each row, where there is a row for each sequence
-abbrev pub amount_of : List ℤ → ℕ → ℤ
-amount_of rows s = slice_index_or rows s (pos 0)
 
 -- the whole best reply to leaf sums
 abbrev pub reply_to_sums : Player → (ℕ → ℤ) → List InformationSet → Reply

@@ -5,10 +5,10 @@ ghost use Rattle.def_sums.specs.Sum.{nat_sum_over};
 ghost use Rattle.def_plan.specs.Form.{AreInOrder, placed, player_sets, sequence_count, sequences};
 ghost use Rattle.def_plan.specs.Payoff.{IsNoBetter, gain, worth};
 ghost use Rattle.def_plan.specs.Plan.{IsPlan, pure_plan};
-ghost use Rattle.def_rows.specs.Rows.{player_rows};
+ghost use Rattle.def_rows.specs.Rows.{player_rows, amount_of};
 ghost use Rattle.def_reply.specs.Bounds.{AttainsCeiling, AttainsFloor, IsCeiling, IsFloor};
 ghost use Rattle.def_reply.specs.Reply.{best_reply_to, choices_of, values_of};
-ghost use Rattle.xg_reply.specs.Replies.{amount_of, reply_to_sums};
+ghost use Rattle.xg_reply.specs.Replies.{reply_to_sums};
 ghost use Rattle.xg_seq.specs.Table.{most_sequences};
 
 use crate::sets::put_reply;

@@ -3,8 +3,9 @@ ghost use Rattle.std.specs.Prelude.{All, IsTrue, length, slice_set, unsigned_abs
 ghost use Rattle.std.specs.List.{range_with_len};
 ghost use Rattle.def_plan.specs.Form.{AreInOrder, IsInOrder, player_sets, sequence_count};
 ghost use Rattle.def_plan.specs.Payoff.{IsNoBetter};
-ghost use Rattle.xg_reply.specs.Replies.{amount_of, placed_set, reply_by};
+ghost use Rattle.xg_reply.specs.Replies.{placed_set, reply_by};
 ghost use Rattle.xg_seq.specs.Table.{most_sequences};
+ghost use Rattle.def_rows.specs.Rows.{amount_of};
 
 use def_tree::Player;
 use xg_plan::Reply;

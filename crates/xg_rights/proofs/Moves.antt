@@ -6,7 +6,7 @@ use lib.ListN.{get_elem?}
 use Rattle.atomic_table.specs.Table.{State, Me, keeps, Allows, Splits, Joins}
 use Rattle.atomic_table.proofs.Lists.{at_set, at_snoc, set_again}
 use Rattle.xg_rights.specs.declared.view.View.{View}
-use Rattle.xg_rights.specs.Rights.{once, jobs_of, stripes_of, rights_for, total, whole, both, seen, spent, HoldsByNumber, Kept, IsKept, IsLoaded, IsCut}
+use Rattle.xg_rights.specs.Rights.{once, job_count_of, stripes_of, rights_for, total_of, whole_view, both, seen, spent, HoldsByNumber, Kept, IsKept, IsLoaded, IsCutInTwo}
 use Rattle.def_history.specs.History.{job_numbers}
 use Rattle.def_history.specs.Core.{times_right}
 use Rattle.xg_rights.proofs.Sums.{times_append, total_set, total_snoc, total_has, total_only, all_once}
@@ -14,7 +14,7 @@ use Rattle.xg_rights.proofs.Sums.{times_append, total_set, total_snoc, total_has
 abbrev pub rule : ℕ → State (Unit {0}) View → Type 0
 rule n s = IsKept n s.words s.views
 
-pub cuts_kept : (n : ℕ) (views : List View) (id : ℕ) (v kept given : View) → IsCut v kept given → Kept n views
+pub cuts_kept : (n : ℕ) (views : List View) (id : ℕ) (v kept given : View) → IsCutInTwo v kept given → Kept n views
     → get_elem? views id ≡ some v → Kept n (set views id kept ++ given ∷ [])
 cuts_kept n views id v kept given cut k at = record {
   rights = λ j s.
@@ -46,13 +46,13 @@ cuts_kept n views id v kept given cut k at = record {
 }
 
 -- a seat's view may be cut in two with a new seat for the second part, and the rule is kept
-pub cuts : (n id : ℕ) (v kept given : View) → IsCut v kept given → Splits (rule n) id v kept given
+pub cuts : (n id : ℕ) (v kept given : View) → IsCutInTwo v kept given → Splits (rule n) id v kept given
 cuts n id v kept given cut s k at = record { word = k.word; kept = cuts_kept n s.views id v kept given cut k.kept at }
 
 poured : (n : ℕ) (views : List View) (id : ℕ) (v : View) (other : ℕ) (w : View) → (f : View → ℕ)
     → f (both v w) ≡ f v + f w → f spent ≡ 0 → get_elem? views id ≡ some v
     → get_elem? (set views id (both v w)) other ≡ some w
-    → total f (set (set views id (both v w)) other spent) ≡ total f views
+    → total_of f (set (set views id (both v w)) other spent) ≡ total_of f views
 poured n views id v other w f sum none at there =
     let a = total_set f views id v (both v w) at in
     let b = total_set f (set views id (both v w)) other w spent there in
@@ -90,7 +90,7 @@ same_word (x ∷ xs) = refl
 pub loaded : (n : ℕ) (views : List View) (id : ℕ) (v : View) → 0 < v.parts → Kept n views → get_elem? views id ≡ some v
     → IsLoaded n v
 loaded n views id v live k at =
-    let idle : (g : View → ℕ) → ((u : View) → (u.rights ≡ []) × (u.tickets ≡ 0) → g u ≡ 0) → v.parts ≡ n % 128 + 66 → total g views ≡ g v = λ g zero all.
+    let idle : (g : View → ℕ) → ((u : View) → (u.rights ≡ []) × (u.tickets ≡ 0) → g u ≡ 0) → v.parts ≡ n % 128 + 66 → total_of g views ≡ g v = λ g zero all.
     total_only g (λ u. u.parts) views id v at (λ seat u e none. zero u ((k.fits seat u e).idle none)) (all ∙ sym k.parts) in
     record {
       number_is = (k.fits id v at).number_is live;
@@ -111,12 +111,12 @@ looks n slots id me live s k homes at fits = (
   (refl, subst (λ m. IsLoaded m me.0) (sym k.word) (loaded n s.views id me.0 live k.kept at)),
 )
 
-whole_once : (n j s : ℕ) → times_right j s (rights_for (job_numbers (jobs_of n)) (stripes_of n)) ≡ once n j s
+whole_once : (n j s : ℕ) → times_right j s (rights_for (job_numbers (job_count_of n)) (stripes_of n)) ≡ once n j s
 unfolding once
-whole_once n j s = all_once j s (jobs_of n) (stripes_of n)
+whole_once n j s = all_once j s (job_count_of n) (stripes_of n)
 
 -- the table with a number as its word and the whole as its one view keeps the rule
-pub opens : (n : ℕ) → IsKept n (n ∷ []) (whole n ∷ [])
+pub opens : (n : ℕ) → IsKept n (n ∷ []) (whole_view n ∷ [])
 opens n = record {
   word = refl;
   kept = record {
@@ -127,7 +127,7 @@ opens n = record {
   };
 }
   where
-    one : (seat : ℕ) (v : View) → get_elem? (whole n ∷ []) seat ≡ some v → HoldsByNumber n v
+    one : (seat : ℕ) (v : View) → get_elem? (whole_view n ∷ []) seat ≡ some v → HoldsByNumber n v
     one zero v e = subst (HoldsByNumber n) (some-injective _ _ e) (record { idle = λ none. absurd (omega arith); number_is = λ _. (refl, refl) })
     one (suc seat) v e = absurd (some-ne-none v (sym e))
 

@@ -8,7 +8,7 @@ use Rattle.def_history.specs.History.{times, job_numbers}
 use Rattle.def_history.specs.Core.{Right, rights_of, times_right}
 use Rattle.def_history.proofs.Counts.{times-cons, times-job_numbers, times_right-cons, times_right-rights_of}
 use Rattle.xg_rights.specs.declared.view.View.{View}
-use Rattle.xg_rights.specs.Rights.{rights_for, rights_at, total}
+use Rattle.xg_rights.specs.Rights.{rights_for, rights_at, total_of}
 
 -- a right is in two lists as often as in both together
 pub times_append : (job stripe : ℕ) (xs ys : List Right)
@@ -47,45 +47,45 @@ all_once job stripe jobs stripes =
 
 -- the total after a change of one view
 pub total_set : (f : View → ℕ) (views : List View) (seat : ℕ) (v w : View)
-    → get_elem? views seat ≡ some v → total f (set views seat w) + f v ≡ total f views + f w
+    → get_elem? views seat ≡ some v → total_of f (set views seat w) + f v ≡ total_of f views + f w
 total_set f [] seat v w e = absurd (some-ne-none v (sym e))
 total_set f (x ∷ xs) zero v w e = let same : f x ≡ f v = ap f (some-injective x v e) in omega arith
 total_set f (x ∷ xs) (suc seat) v w e = omega (arith, total_set f xs seat v w e)
 
 -- the total with one view more
-pub total_snoc : (f : View → ℕ) (views : List View) (v : View) → total f (views ++ v ∷ []) ≡ total f views + f v
+pub total_snoc : (f : View → ℕ) (views : List View) (v : View) → total_of f (views ++ v ∷ []) ≡ total_of f views + f v
 total_snoc f [] v = omega arith
 total_snoc f (x ∷ xs) v = omega (arith, total_snoc f xs v)
 
 -- a view counts for no more than all
 pub total_has : (f : View → ℕ) (views : List View) (seat : ℕ) (v : View) → get_elem? views seat ≡ some v
-    → f v ≤ total f views
+    → f v ≤ total_of f views
 total_has f [] seat v e = absurd (some-ne-none v (sym e))
 total_has f (x ∷ xs) zero v e = let same : f x ≡ f v = ap f (some-injective x v e) in omega arith
 total_has f (x ∷ xs) (suc seat) v e = omega (arith, total_has f xs seat v e)
 
 -- where no view has a part, and a view with no part counts for nothing, nothing is counted
 total_none : (f g : View → ℕ) (views : List View)
-    → ((seat : ℕ) (u : View) → get_elem? views seat ≡ some u → g u ≡ 0 → f u ≡ 0) → total g views ≡ 0
-    → total f views ≡ 0
+    → ((seat : ℕ) (u : View) → get_elem? views seat ≡ some u → g u ≡ 0 → f u ≡ 0) → total_of g views ≡ 0
+    → total_of f views ≡ 0
 total_none f g [] idle none = refl
 total_none f g (x ∷ xs) idle none =
     let here : f x ≡ 0 = idle 0 x refl (omega arith) in
-    let there : total f xs ≡ 0 = total_none f g xs (λ seat u e. idle (suc seat) u e) (omega arith) in
+    let there : total_of f xs ≡ 0 = total_none f g xs (λ seat u e. idle (suc seat) u e) (omega arith) in
     omega arith
 
 -- where one view has all parts, it counts for all
 pub total_only : (f g : View → ℕ) (views : List View) (seat : ℕ) (v : View) → get_elem? views seat ≡ some v
-    → ((seat : ℕ) (u : View) → get_elem? views seat ≡ some u → g u ≡ 0 → f u ≡ 0) → g v ≡ total g views
-    → total f views ≡ f v
+    → ((seat : ℕ) (u : View) → get_elem? views seat ≡ some u → g u ≡ 0 → f u ≡ 0) → g v ≡ total_of g views
+    → total_of f views ≡ f v
 total_only f g [] seat v e idle all = absurd (some-ne-none v (sym e))
 total_only f g (x ∷ xs) zero v e idle all =
     let same : f x ≡ f v = ap f (some-injective x v e) in
     let gsame : g x ≡ g v = ap g (some-injective x v e) in
-    let none : total f xs ≡ 0 = total_none f g xs (λ seat u e. idle (suc seat) u e) (omega arith) in
+    let none : total_of f xs ≡ 0 = total_none f g xs (λ seat u e. idle (suc seat) u e) (omega arith) in
     omega arith
 total_only f g (x ∷ xs) (suc seat) v e idle all =
-    let at_most : g v ≤ total g xs = total_has g xs seat v e in
+    let at_most : g v ≤ total_of g xs = total_has g xs seat v e in
     let none : f x ≡ 0 = idle 0 x refl (omega arith) in
-    let rest : total f xs ≡ f v = total_only f g xs seat v e (λ seat u e. idle (suc seat) u e) (omega arith) in
+    let rest : total_of f xs ≡ f v = total_only f g xs seat v e (λ seat u e. idle (suc seat) u e) (omega arith) in
     omega arith

@@ -9,8 +9,8 @@ use Rattle.def_history.specs.Core.{Right, rights_of, times_right}
 use Rattle.xg_rights.specs.declared.view.View.{View}
 
 -- the numbers of jobs and stripes that word 0 tells
-abbrev pub jobs_of : ℕ → ℕ
-jobs_of number = number / 128
+abbrev pub job_count_of : ℕ → ℕ
+job_count_of number = number / 128
 
 abbrev pub stripes_of : ℕ → ℕ
 stripes_of number = number % 128
@@ -20,7 +20,7 @@ number_from jobs stripes = 128 * jobs + stripes
 
 -- 1 for each right that there is
 unfoldable pub once : ℕ → ℕ → ℕ → ℕ
-once number job stripe = if nat_lt job (jobs_of number) && nat_lt stripe (stripes_of number) then 1 else 0
+once number job stripe = if nat_lt job (job_count_of number) && nat_lt stripe (stripes_of number) then 1 else 0
 
 -- the rights of jobs for all stripes, and for one stripe
 abbrev pub rights_for : List ℕ → ℕ → List Right
@@ -28,6 +28,10 @@ rights_for jobs stripes = flat_map (λ job. rights_of job stripes) jobs
 
 abbrev pub rights_at : ℕ → List ℕ → List Right
 rights_at stripe jobs = map (λ job. record { job = job; stripe = stripe }) jobs
+
+-- the parts that are no stripe's: the bag's, the purse's, and one for each worker's pass
+abbrev pub free_parts : ℕ
+free_parts = most_workers + 2
 
 -- a view of no seat any more
 abbrev pub spent : View
@@ -39,8 +43,8 @@ seen rights tickets parts number =
     record { rights = rights; tickets = tickets; parts = parts; number = number; met = number }
 
 -- the first seat's view
-abbrev pub whole : ℕ → View
-whole number = seen (rights_for (job_numbers (jobs_of number)) (stripes_of number)) most_workers (stripes_of number + 66) number
+abbrev pub whole_view : ℕ → View
+whole_view number = seen (rights_for (job_numbers (job_count_of number)) (stripes_of number)) most_workers (stripes_of number + free_parts) number
 
 -- two views put together
 abbrev pub both : View → View → View
@@ -52,9 +56,9 @@ both v w = record {
   met = w.number;
 }
 
-abbrev pub total : (View → ℕ) → List View → ℕ
-total f [] = 0
-total f (v ∷ vs) = f v + total f vs
+abbrev pub total_of : (View → ℕ) → List View → ℕ
+total_of f [] = 0
+total_of f (v ∷ vs) = f v + total_of f vs
 
 -- a view with no part holds nothing, and every other has the number of word 0
 pub record HoldsByNumber (number : ℕ) (v : View) : Type 0 where
@@ -63,9 +67,9 @@ pub record HoldsByNumber (number : ℕ) (v : View) : Type 0 where
 
 -- the three sums
 pub record Kept (number : ℕ) (views : List View) : Type 0 where
-  pub rights : (job stripe : ℕ) → total (λ v. times_right job stripe v.rights) views ≡ once number job stripe
-  pub tickets : total (λ v. v.tickets) views ≡ most_workers
-  pub parts : total (λ v. v.parts) views ≡ stripes_of number + 66
+  pub rights : (job stripe : ℕ) → total_of (λ v. times_right job stripe v.rights) views ≡ once number job stripe
+  pub tickets : total_of (λ v. v.tickets) views ≡ most_workers
+  pub parts : total_of (λ v. v.parts) views ≡ stripes_of number + free_parts
   pub fits : (seat : ℕ) (v : View) → get_elem? views seat ≡ some v → HoldsByNumber number v
 
 -- the rule of the table
@@ -78,12 +82,12 @@ pub record IsLoaded (number : ℕ) (v : View) : Type 0 where
   pub number_is : (v.number ≡ number) × (v.met ≡ number)
   pub once_at_most : (job stripe : ℕ) → times_right job stripe v.rights ≤ once number job stripe
   pub tickets : v.tickets ≤ most_workers
-  pub all_rights : v.parts ≡ stripes_of number + 66 → (job stripe : ℕ)
+  pub all_rights : v.parts ≡ stripes_of number + free_parts → (job stripe : ℕ)
       → times_right job stripe v.rights ≡ once number job stripe
-  pub all_tickets : v.parts ≡ stripes_of number + 66 → v.tickets ≡ most_workers
+  pub all_tickets : v.parts ≡ stripes_of number + free_parts → v.tickets ≡ most_workers
 
 -- a view is cut in two: nothing is lost, and both have a part and the number
-pub record IsCut (v kept given : View) : Type 0 where
+pub record IsCutInTwo (v kept given : View) : Type 0 where
   pub live : 0 < v.parts
   pub rights : (job stripe : ℕ)
       → times_right job stripe kept.rights + times_right job stripe given.rights ≡ times_right job stripe v.rights

@@ -2,16 +2,16 @@ use crate::view::View;
 use atomic_table::{Join, Play, Split, TableRule};
 use std::marker::{Brand, PhantomData};
 
-/// The rule of the table: word 0 has the number, and over all seats each right stands once, there are 64 tickets, and
-/// 66 parts more than stripes.
+/// The rule of the table: word 0 has the number, and over all seats each right stands once, there is a ticket for each
+/// worker, and a part for each stripe, for each worker's pass, for the bag and for the purse.
 pub struct RightsRule;
 
 impl TableRule<(), View, u64> for RightsRule {
-    ghost use Rattle.xg_rights.specs.Rights.{IsKept, whole};
+    ghost use Rattle.xg_rights.specs.Rights.{IsKept, whole_view};
 
     ghost holds = { λ number s. IsKept number s.words s.views };
 
-    ghost first = { whole };
+    ghost first = { whole_view };
 }
 
 /// A load that tells a seat what the rule says of its own view.

@@ -1,5 +1,5 @@
 ghost use Rattle.std.specs.Prelude.{◌≡◌, ◌<◌, ◌+◌, ◌++◌, [], IfOk};
-ghost use Rattle.xg_rights.specs.Rights.{whole, both, seen, IsCut, IsLoaded};
+ghost use Rattle.xg_rights.specs.Rights.{whole_view, both, seen, IsCutInTwo, IsLoaded};
 
 use crate::rule::{Cut, Cuts, Joins, Loads, RightsRule};
 use crate::view::View;
@@ -21,7 +21,7 @@ pub type RightsBadge = Badge<View>;
 /// Makes a table with its first seat, which holds all rights, tickets and parts.
 pub fn open(alloc: Global, number: u64) -> Result<(RightsTable, RightsSeat), AllocError>
     ensures table { IfOk result (λ t. (0 < t.0.shared.table_id.words) × (t.0.shared.key ≡ number)) }
-    ensures seat { IfOk result (λ t. (t.1.table_id ≡ t.0.shared.table_id) × (t.1.me ≡ (whole number, []))) }
+    ensures seat { IfOk result (λ t. (t.1.table_id ≡ t.0.shared.table_id) × (t.1.me ≡ (whole_view number, []))) }
 {
     Table::of_words(alloc, &[number], &number)
 }
@@ -29,7 +29,7 @@ pub fn open(alloc: Global, number: u64) -> Result<(RightsTable, RightsSeat), All
 /// Cuts a seat's view as `C` says.
 pub fn cut<C: Cut>(table: &SharedRights, seat: &mut RightsSeat) -> RightsSeat
     requires table { (seat.old.table_id ≡ table.now.table_id) × (0 < table.now.table_id.words) }
-    requires cut { IsCut seat.old.me.0 C.kept C.given }
+    requires cut { IsCutInTwo seat.old.me.0 C.kept C.given }
     ensures kept { (seat.new.table_id ≡ seat.old.table_id) × (seat.new.me ≡ (C.kept, seat.old.me.1)) }
     ensures given { (result.table_id ≡ seat.old.table_id) × (result.me ≡ (C.given, [])) }
 {

@@ -9,7 +9,7 @@ use Rattle.def_sums.proofs.RingLaws.{zero-+ℤ, +ℤ-zero, +ℤ_assoc}
 use Rattle.def_history.specs.History.{stripe_of, place_of, replay}
 use Rattle.def_history.specs.Packets.{Entry, AreRising, IsPacketOf, brought, place_count}
 use Rattle.def_history.proofs.Packets.{packets_bring_amounts, stripes_hold_their_rows}
-use Rattle.xg_rowcore.specs.Packets.{entry_at}
+use Rattle.xg_rowcore.specs.Packets.{entry_in}
 use Rattle.xg_rowcore.specs.Stripes.{AreTotals, HasGrown}
 
 brings : ℕ → Entry → ℤ
@@ -17,17 +17,17 @@ brings row entry = if eqb entry.row row then entry.amount else pos 0
 
 -- an entry more brings what it has
 brought-push : (entries : List Entry) (i row : ℕ) → i < length entries
-    → brought (take (i + 1) entries) row ≡ brought (take i entries) row +ℤ brought (entry_at entries i ∷ []) row
+    → brought (take (i + 1) entries) row ≡ brought (take i entries) row +ℤ brought (entry_in entries i ∷ []) row
 brought-push entries i row below = ap (λ es. brought es row) (take_more entries i (record { row = 0; amount = pos 0 }) below)
-    ∙ sum_over-append (λ (entry : Entry). if eqb entry.row row then entry.amount else pos 0) (take i entries) (entry_at entries i ∷ [])
+    ∙ sum_over-append (λ (entry : Entry). if eqb entry.row row then entry.amount else pos 0) (take i entries) (entry_in entries i ∷ [])
 
 -- what stands before an entry brings nothing to its row
 pub before_bring_nothing : (entries : List Entry) (i : ℕ) → AreRising entries → i < length entries
-    → brought (take i entries) (entry_at entries i).row ≡ pos 0
+    → brought (take i entries) (entry_in entries i).row ≡ pos 0
 before_bring_nothing [] i rising below = absurd (omega arith)
 before_bring_nothing (entry ∷ entries) zero rising below = refl
 before_bring_nothing (entry ∷ entries) (suc i) (above, rising) below =
-    let at : Entry = entry_at entries i in
+    let at : Entry = entry_in entries i in
     let lower : entry.row < at.row = above i (record { row = 0; amount = pos 0 }) (omega arith) in
     let other : eqb entry.row at.row ≡ false = grind (arith, nat_tests) in
     rw other (zero-+ℤ (brought (take i entries) at.row) ∙ before_bring_nothing entries i rising (omega arith))
@@ -39,15 +39,15 @@ grown_by_none index stripes totals = record { length_kept = refl; grown = λ pla
 -- one entry more
 pub grown_more : (entries : List Entry) (i index stripes : ℕ) (old middle new : List ℤ) → i < length entries
     → HasGrown (take i entries) index stripes old middle
-    → HasGrown (entry_at entries i ∷ []) index stripes middle new
+    → HasGrown (entry_in entries i ∷ []) index stripes middle new
     → HasGrown (take (i + 1) entries) index stripes old new
 grown_more entries i index stripes old middle new below first second = record {
   length_kept = second.length_kept ∙ first.length_kept;
   grown = λ place under.
       let row : ℕ = place * stripes + index in
       second.grown place (omega (arith, first.length_kept))
-      ∙ ap (λ v. v +ℤ brought (entry_at entries i ∷ []) row) (first.grown place under)
-      ∙ +ℤ_assoc (slice_index_or old place (pos 0)) (brought (take i entries) row) (brought (entry_at entries i ∷ []) row)
+      ∙ ap (λ v. v +ℤ brought (entry_in entries i ∷ []) row) (first.grown place under)
+      ∙ +ℤ_assoc (slice_index_or old place (pos 0)) (brought (take i entries) row) (brought (entry_in entries i ∷ []) row)
       ∙ ap (λ v. slice_index_or old place (pos 0) +ℤ v) (sym (brought-push entries i row below));
 }
 
@@ -58,12 +58,12 @@ grown_all entries i index stripes old new all grown = rw (sym (take_all i entrie
 
 -- a total before the packet's entry of its row is added
 pub total_before : (entries : List Entry) (i index stripes : ℕ) (old middle : List ℤ) → AreRising entries
-    → i < length entries → stripe_of stripes (entry_at entries i).row ≡ index
-    → place_of stripes (entry_at entries i).row < length old → HasGrown (take i entries) index stripes old middle
-    → slice_index_or middle (place_of stripes (entry_at entries i).row) (pos 0)
-    ≡ slice_index_or old (place_of stripes (entry_at entries i).row) (pos 0)
+    → i < length entries → stripe_of stripes (entry_in entries i).row ≡ index
+    → place_of stripes (entry_in entries i).row < length old → HasGrown (take i entries) index stripes old middle
+    → slice_index_or middle (place_of stripes (entry_in entries i).row) (pos 0)
+    ≡ slice_index_or old (place_of stripes (entry_in entries i).row) (pos 0)
 total_before entries i index stripes old middle rising below here under grown =
-    let row : ℕ = (entry_at entries i).row in
+    let row : ℕ = (entry_in entries i).row in
     let place : ℕ = row / stripes in
     let is : place * stripes + index ≡ row = ap (λ r. place * stripes + r) (sym here) ∙ div-add-mod' row stripes in
     grown.grown place under ∙ ap (λ r. slice_index_or old place (pos 0) +ℤ brought (take i entries) r) is
@@ -145,26 +145,26 @@ totals_with_job rows amount index stripes order old new job entries is_stripe to
 
 -- so it is still small
 pub small_before : (entries : List Entry) (i index stripes row bound : ℕ) (old middle : List ℤ) → AreRising entries
-    → i < length entries → row ≡ (entry_at entries i).row → stripe_of stripes row ≡ index
+    → i < length entries → row ≡ (entry_in entries i).row → stripe_of stripes row ≡ index
     → place_of stripes row < length old → HasGrown (take i entries) index stripes old middle
     → ((place : ℕ) → place < length old → unsigned_abs (slice_index_or old place (pos 0)) ≤ bound)
     → unsigned_abs (slice_index_or middle (place_of stripes row) (pos 0)) ≤ bound
 small_before entries i index stripes row bound old middle rising below row_is =
     subst (λ (r : ℕ). stripe_of stripes r ≡ index → place_of stripes r < length old → HasGrown (take i entries) index stripes old middle → ((place : ℕ) → place < length old → unsigned_abs (slice_index_or old place (pos 0)) ≤ bound) → unsigned_abs (slice_index_or middle (place_of stripes r) (pos 0)) ≤ bound)
-    (sym row_is) (λ here under grown small. rw (total_before entries i index stripes old middle rising below here under grown) (small (place_of stripes (entry_at entries i).row) under))
+    (sym row_is) (λ here under grown small. rw (total_before entries i index stripes old middle rising below here under grown) (small (place_of stripes (entry_in entries i).row) under))
 
 -- an entry of a packet: its row is one of the rows, and its amount the job's there
 pub entry_of_packet : (amount : ℕ → ℕ → ℤ) (rows job : ℕ) (entries : List Entry) (i : ℕ)
     → IsPacketOf amount rows job entries → i < length entries
-    → ((entry_at entries i).row < rows) × ((entry_at entries i).amount ≡ amount job (entry_at entries i).row)
+    → ((entry_in entries i).row < rows) × ((entry_in entries i).amount ≡ amount job (entry_in entries i).row)
 entry_of_packet amount rows job entries i packet below = (packet.are_rows i (record { row = 0; amount = pos 0 }) below, packet.have_amounts i (record { row = 0; amount = pos 0 }) below)
 
 -- one entry more, as it was read
 pub grown_by_read : (entries : List Entry) (i index stripes row : ℕ) (amount : ℤ) (old middle new : List ℤ)
-    → i < length entries → row ≡ (entry_at entries i).row → amount ≡ (entry_at entries i).amount
+    → i < length entries → row ≡ (entry_in entries i).row → amount ≡ (entry_in entries i).amount
     → HasGrown (take i entries) index stripes old middle
     → HasGrown (record { row = row; amount = amount } ∷ []) index stripes middle new
     → HasGrown (take (i + 1) entries) index stripes old new
 grown_by_read entries i index stripes row amount old middle new below row_is amount_is first second =
-    let is : record { row = row; amount = amount } ≡ entry_at entries i = (λ k. record { row = row_is k; amount = amount_is k }) in
+    let is : record { row = row; amount = amount } ≡ entry_in entries i = (λ k. record { row = row_is k; amount = amount_is k }) in
     grown_more entries i index stripes old middle new below first (subst (λ (e : Entry). HasGrown (e ∷ []) index stripes middle new) is second)

@@ -3,12 +3,12 @@ use Rattle.std.proofs.Common.{◌≡◌, ℕ, zero, suc, ◌<◌, List, [], ◌�
 use Rattle.std.specs.Prelude.{ℤ, pos}
 use Rattle.std.proofs.lemmas.List.Elements.{All-set}
 use Rattle.def_history.specs.Packets.{Entry, AreRising}
-use Rattle.xg_rowcore.specs.Packets.{entries_from, entry_at}
+use Rattle.xg_rowcore.specs.Packets.{entries_of_rows, entry_in}
 
 -- another amount at a place is another entry there, of the same row
 pub entries_from-set : (rows : List ℕ) (amounts : List ℤ) (i : ℕ) (amount : ℤ) → length rows ≡ length amounts
-    → entries_from rows (set amounts i amount)
-    ≡ set (entries_from rows amounts) i (record { row = (entry_at (entries_from rows amounts) i).row; amount = amount })
+    → entries_of_rows rows (set amounts i amount)
+    ≡ set (entries_of_rows rows amounts) i (record { row = (entry_in (entries_of_rows rows amounts) i).row; amount = amount })
 entries_from-set [] amounts i amount same = refl
 entries_from-set (row ∷ rows) [] i amount same = refl
 entries_from-set (row ∷ rows) (was ∷ amounts) zero amount same = refl
@@ -17,9 +17,9 @@ entries_from-set (row ∷ rows) (was ∷ amounts) (suc i) amount same =
 
 -- entries still rise where one amount changes
 pub rising_set : (entries : List Entry) (i : ℕ) (amount : ℤ) → i < length entries → AreRising entries
-    → AreRising (set entries i (record { row = (entry_at entries i).row; amount = amount }))
+    → AreRising (set entries i (record { row = (entry_in entries i).row; amount = amount }))
 rising_set [] i amount below rising = rising
 rising_set (entry ∷ entries) zero amount below rising = rising
 rising_set (entry ∷ entries) (suc i) amount below (first, rising) =
     let inside : i < length entries = omega arith in
-    (All-set (λ (later : Entry). entry.row < later.row) entries i (record { row = (entry_at entries i).row; amount = amount }) (first i (record { row = 0; amount = pos 0 }) inside) first, rising_set entries i amount inside rising)
+    (All-set (λ (later : Entry). entry.row < later.row) entries i (record { row = (entry_in entries i).row; amount = amount }) (first i (record { row = 0; amount = pos 0 }) inside) first, rising_set entries i amount inside rising)

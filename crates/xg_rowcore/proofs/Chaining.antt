@@ -6,7 +6,7 @@ use Rattle.std.proofs.lemmas.Bool.{cases_eq}
 use Rattle.def_sums.specs.Limits.{most_stripes}
 use Rattle.def_history.specs.History.{stripe_of}
 use Rattle.def_history.specs.Packets.{Entry}
-use Rattle.xg_rowcore.specs.Packets.{entries_from, entry_at}
+use Rattle.xg_rowcore.specs.Packets.{entries_of_rows, entry_in}
 use Rattle.xg_rowcore.specs.Stripes.{HasGrown}
 use Rattle.xg_rowcore.specs.Chains.{AreChains, IsNextOf, KeepsChains, rows_of}
 use Rattle.xg_rowcore.proofs.Adding.{grown_by_other, grown_more}
@@ -97,13 +97,13 @@ linked_more i stripe stripes rows first next stripe_is below there known few lin
 
 -- the rows of entries are those that they are made of
 pub rows_of-entries_from : (rows : List ℕ) (amounts : List ℤ) → length rows ≡ length amounts
-    → rows_of (entries_from rows amounts) ≡ rows
+    → rows_of (entries_of_rows rows amounts) ≡ rows
 rows_of-entries_from [] amounts same = refl
 rows_of-entries_from (row ∷ rows) [] same = absurd (omega arith)
 rows_of-entries_from (row ∷ rows) (amount ∷ amounts) same = ap (λ rest. row ∷ rest) (rows_of-entries_from rows amounts (omega arith))
 
 -- each entry has its row
-pub row_of_entry : (entries : List Entry) (i : ℕ) → slice_index (rows_of entries) i ≡ (entry_at entries i).row
+pub row_of_entry : (entries : List Entry) (i : ℕ) → slice_index (rows_of entries) i ≡ (entry_in entries i).row
 row_of_entry [] i = refl
 row_of_entry (entry ∷ entries) zero = refl
 row_of_entry (entry ∷ entries) (suc i) = row_of_entry entries i
@@ -119,13 +119,13 @@ past_others entries index stripes from zero old new is_stripe inside others grow
 past_others entries index stripes from (suc count) old new is_stripe inside others grown =
     let place : ℕ = from + count in
     let e : place + 1 ≡ from + suc count = omega arith in
-    let row : ℕ = (entry_at entries place).row in
+    let row : ℕ = (entry_in entries place).row in
     let apart : stripe_of stripes row ≢ index =
     λ is. others place (omega arith) (omega arith) (ap (stripe_of stripes) (row_of_entry entries place) ∙ is) in
     let before = past_others entries index stripes from count old new is_stripe (omega arith) (λ i low high. others i low (omega arith)) grown in
     subst (λ k. HasGrown (take k entries) index stripes old new) e
     (grown_more entries place index stripes old new new (omega arith) before
-    (grown_by_other index stripes row (entry_at entries place).amount new is_stripe apart))
+    (grown_by_other index stripes row (entry_in entries place).amount new is_stripe apart))
 
 -- up to the next entry of the stripe
 pub grown_to_next : (entries : List Entry) (index stripes from place : ℕ) (old new : List ℤ) → index < stripes
@@ -146,6 +146,6 @@ found_inside entries stripes stripe from place found = omega (arith, found.insid
 -- what is found before the end is an entry whose row lies in the stripe
 pub found_own : (entries : List Entry) (stripes stripe from place : ℕ)
     → IsNextOf stripes stripe (rows_of entries) from place → place < length entries
-    → stripe_of stripes (entry_at entries place).row ≡ stripe
+    → stripe_of stripes (entry_in entries place).row ≡ stripe
 found_own entries stripes stripe from place found below =
     sym (ap (stripe_of stripes) (row_of_entry entries place)) ∙ found.own (omega (arith, below, length-map entries (λ (entry : Entry). entry.row)))

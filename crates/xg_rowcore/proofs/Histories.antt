@@ -38,7 +38,8 @@ pub amount_small : (amount : ℕ → ℕ → ℤ) (jobs job row bound : ℕ) →
     → nat_sum_over (λ j. unsigned_abs (amount j row)) (job_numbers jobs) ≤ bound → unsigned_abs (amount job row) ≤ bound
 amount_small amount jobs job row bound is small = let a = at_most_sum (λ j. unsigned_abs (amount j row)) 0 jobs job (omega arith) (omega arith) in omega arith
 
-times-push : (job new : ℕ) (xs : List ℕ) → times job (xs ++ new ∷ []) ≡ times job xs + cond (eqb new job) 1 0
+-- a job more at the end of a list counts for itself
+pub times-push : (job new : ℕ) (xs : List ℕ) → times job (xs ++ new ∷ []) ≡ times job xs + cond (eqb new job) 1 0
 times-push job new [] = let t = times-cons job new [] in grind (arith, nat_tests)
 times-push job new (x ∷ xs) = omega (arith, times-cons job x (xs ++ new ∷ []), times-cons job x xs, times-push job new xs)
 

@@ -3,18 +3,18 @@ use Rattle.std.proofs.Common.{◌≡◌, ℕ, zero, suc, ◌<◌, List, [], ◌�
 use Rattle.std.specs.Prelude.{ℤ, pos, All, Option, Some, unwrap_or, slice_index, slice_index_or}
 use Rattle.std.proofs.lemmas.List.Elements.{All-nil, All-cons}
 use Rattle.def_history.specs.Packets.{Entry, AreRising}
-use Rattle.xg_rowcore.specs.Packets.{entries_from, entry_at, IsAboveLast}
+use Rattle.xg_rowcore.specs.Packets.{entries_of_rows, entry_in, IsAboveLast}
 
 -- as many entries as rows
 pub length-entries_from : (rows : List ℕ) (amounts : List ℤ) → length rows ≡ length amounts
-    → length (entries_from rows amounts) ≡ length rows
+    → length (entries_of_rows rows amounts) ≡ length rows
 length-entries_from [] amounts same = refl
 length-entries_from (row ∷ rows) [] same = absurd (omega arith)
 length-entries_from (row ∷ rows) (amount ∷ amounts) same = let rest = length-entries_from rows amounts (omega arith) in omega arith
 
 -- an entry has the row and the amount of its place
 pub entry_at-entries_from : (rows : List ℕ) (amounts : List ℤ) (i : ℕ) → length rows ≡ length amounts → i < length rows
-    → entry_at (entries_from rows amounts) i
+    → entry_in (entries_of_rows rows amounts) i
     ≡ record { row = slice_index rows i; amount = slice_index_or amounts i (pos 0) }
 entry_at-entries_from [] amounts i same below = absurd (omega arith)
 entry_at-entries_from (row ∷ rows) [] i same below = absurd (omega arith)
@@ -23,8 +23,8 @@ entry_at-entries_from (row ∷ rows) (amount ∷ amounts) (suc i) same below = e
 
 -- a row and an amount more are an entry more
 pub entries_from-push : (rows : List ℕ) (amounts : List ℤ) (row : ℕ) (amount : ℤ) → length rows ≡ length amounts
-    → entries_from (rows ++ row ∷ []) (amounts ++ amount ∷ [])
-    ≡ entries_from rows amounts ++ record { row = row; amount = amount } ∷ []
+    → entries_of_rows (rows ++ row ∷ []) (amounts ++ amount ∷ [])
+    ≡ entries_of_rows rows amounts ++ record { row = row; amount = amount } ∷ []
 entries_from-push [] [] row amount same = refl
 entries_from-push [] (b ∷ amounts) row amount same = absurd (omega arith)
 entries_from-push (r ∷ rows) [] row amount same = absurd (omega arith)

@@ -10,14 +10,14 @@ pub record Listed : Type 0 where
   pub room : ℕ
 
 -- each row with the amount at its place
-abbrev pub entries_from : List ℕ → List ℤ → List Entry
-entries_from [] amounts = []
-entries_from (row ∷ rows) [] = []
-entries_from (row ∷ rows) (amount ∷ amounts) = record { row = row; amount = amount } ∷ entries_from rows amounts
+abbrev pub entries_of_rows : List ℕ → List ℤ → List Entry
+entries_of_rows [] amounts = []
+entries_of_rows (row ∷ rows) [] = []
+entries_of_rows (row ∷ rows) (amount ∷ amounts) = record { row = row; amount = amount } ∷ entries_of_rows rows amounts
 
 -- past the end there is no amount
-abbrev pub entry_at : List Entry → ℕ → Entry
-entry_at entries i = slice_index_or entries i (record { row = 0; amount = pos 0 })
+abbrev pub entry_in : List Entry → ℕ → Entry
+entry_in entries i = slice_index_or entries i (record { row = 0; amount = pos 0 })
 
 -- the row is above that of the last entry, if there is one
 abbrev pub IsAboveLast : List Entry → ℕ → Type 0
@@ -26,5 +26,5 @@ IsAboveLast entries row = ForSome (last_or None entries) (λ last. last.row < ro
 -- the entries with so much more at one place
 abbrev pub with_added : List Entry → ℕ → ℤ → List Entry
 with_added entries i more =
-    let entry : Entry = entry_at entries i in
+    let entry : Entry = entry_in entries i in
     slice_set entries i (record { row = entry.row; amount = entry.amount +ℤ more })

@@ -4,7 +4,7 @@ ghost use Rattle.def_sums.specs.Limits.{most_stripes};
 ghost use Rattle.def_history.specs.History.{stripe_of};
 ghost use Rattle.def_history.specs.Packets.{AreRising};
 ghost use Rattle.xg_rowcore.specs.Chains.{IsNextOf, rows_of};
-ghost use Rattle.xg_rowcore.specs.Packets.{IsAboveLast, entry_at, with_added};
+ghost use Rattle.xg_rowcore.specs.Packets.{IsAboveLast, entry_in, with_added};
 
 use crate::chains::{Chains, seek};
 use std::alloc::{AllocError, Global};
@@ -24,14 +24,14 @@ impl Model for Entries {
     ghost use Rattle.std.specs.Prelude.{◌≡◌, ◌≤◌, length, vec_capacity};
     ghost use Rattle.def_history.specs.Packets.{AreRising};
     ghost use Rattle.xg_rowcore.specs.Chains.{KeepsChains};
-    ghost use Rattle.xg_rowcore.specs.Packets.{Listed, entries_from};
+    ghost use Rattle.xg_rowcore.specs.Packets.{Listed, entries_of_rows};
 
     ghost Value = { Listed };
 
-    ghost view = { λ e. record { list = entries_from e.rows.items e.amounts.items; room = e.room } };
+    ghost view = { λ e. record { list = entries_of_rows e.rows.items e.amounts.items; room = e.room } };
 
     ghost invariant = { λ e. (length e.rows.items ≡ length e.amounts.items)
-        × AreRising (entries_from e.rows.items e.amounts.items)
+        × AreRising (entries_of_rows e.rows.items e.amounts.items)
         × (e.room ≤ vec_capacity e.rows) × (e.room ≤ vec_capacity e.amounts) × (length e.rows.items ≤ e.room)
         × KeepsChains e.rows.items e.room e.chains.stripes e.chains.first.items e.chains.next.items };
 }
@@ -65,8 +65,8 @@ impl Entries {
 
     pub(crate) fn entry(&self, i: usize) -> (u32, i128)
         requires { i < length self.now.list }
-        ensures row { result.0 ≡ (entry_at self.now.list i).row }
-        ensures amount { result.1 ≡ (entry_at self.now.list i).amount }
+        ensures row { result.0 ≡ (entry_in self.now.list i).row }
+        ensures amount { result.1 ≡ (entry_in self.now.list i).amount }
     {
         (self.rows[i], self.amounts[i])
     }
@@ -94,7 +94,7 @@ impl Entries {
 
     pub(crate) fn add(&mut self, i: usize, more: i128)
         requires there { i < length self.old.list }
-        requires fits { unsigned_abs ((entry_at self.old.list i).amount +ℤ more) < 2 ^ 127 }
+        requires fits { unsigned_abs ((entry_in self.old.list i).amount +ℤ more) < 2 ^ 127 }
         ensures { self.new ≡ record { list = with_added self.old.list i more; room = self.old.room } }
     {
         add_at(&mut self.amounts, i, more);
@@ -123,7 +123,7 @@ impl Entries {
     pub(crate) fn next_of(&self, stripes: u32, i: usize) -> usize
         requires stripes { 0 < stripes }
         requires there { i < length self.now.list }
-        ensures { IsNextOf stripes (stripe_of stripes (entry_at self.now.list i).row) (rows_of self.now.list) (i + 1)
+        ensures { IsNextOf stripes (stripe_of stripes (entry_in self.now.list i).row) (rows_of self.now.list) (i + 1)
             result }
     {
         if self.chains.stripes == stripes {

@@ -3,7 +3,7 @@ ghost use Rattle.def_sums.specs.Limits.{most_stripes};
 ghost use Rattle.def_history.specs.History.{stripe_of};
 ghost use Rattle.def_history.specs.Packets.{AreRising};
 ghost use Rattle.xg_rowcore.specs.Chains.{IsNextOf, rows_of};
-ghost use Rattle.xg_rowcore.specs.Packets.{IsAboveLast, entry_at, with_added};
+ghost use Rattle.xg_rowcore.specs.Packets.{IsAboveLast, entry_in, with_added};
 
 use crate::entries::Entries;
 use std::alloc::{AllocError, Global};
@@ -46,8 +46,8 @@ impl Packet {
     /// A row and its amount, by their place from 0 on.
     pub fn entry(&self, i: usize) -> (u32, i128)
         requires { i < length self.now.entries.list }
-        ensures row { result.0 ≡ (entry_at self.now.entries.list i).row }
-        ensures amount { result.1 ≡ (entry_at self.now.entries.list i).amount }
+        ensures row { result.0 ≡ (entry_in self.now.entries.list i).row }
+        ensures amount { result.1 ≡ (entry_in self.now.entries.list i).amount }
     {
         self.entries.entry(i)
     }
@@ -77,7 +77,7 @@ impl Packet {
     /// Adds to the amount at a place, from 0 on.
     pub fn add(&mut self, i: usize, more: i128)
         requires there { i < length self.old.entries.list }
-        requires fits { unsigned_abs ((entry_at self.old.entries.list i).amount +ℤ more) < 2 ^ 127 }
+        requires fits { unsigned_abs ((entry_in self.old.entries.list i).amount +ℤ more) < 2 ^ 127 }
         ensures job { self.new.job ≡ self.old.job }
         ensures entries { self.new.entries ≡ record {
           list = with_added self.old.entries.list i more;
@@ -110,7 +110,7 @@ impl Packet {
     pub(crate) fn next_of(&self, stripes: u32, i: usize) -> usize
         requires stripes { 0 < stripes }
         requires there { i < length self.now.entries.list }
-        ensures { let stripe = stripe_of stripes (entry_at self.now.entries.list i).row in
+        ensures { let stripe = stripe_of stripes (entry_in self.now.entries.list i).row in
             IsNextOf stripes stripe (rows_of self.now.entries.list) (i + 1) result }
     {
         self.entries.next_of(stripes, i)

@@ -18,7 +18,7 @@ use Rattle.def_game_scale.specs.Tables.{Tables, certain, nothing, path_payoff, p
 use Rattle.def_game_numbers.specs.Numbers.{tables_of}
 use Rattle.xg_scale.specs.declared.ancestors.OpenNode.{OpenNode}
 use Rattle.xg_scale.specs.declared.ancestors.PathNumbers.{PathNumbers}
-use Rattle.xg_scale.specs.Ancestors.{HasNextChild, TakesNextChild, chance_set_of, next_child_later, with_open, without_next}
+use Rattle.xg_scale.specs.Ancestors.{HasNextAction, TakesNextChild, chance_set_of, next_child_later, with_open, without_next_child}
 use Rattle.xg_scale.specs.Walked.{IsOpenOver, MayCome, numbers_below, numbers_of, reach_below}
 use Rattle.xg_scale.proofs.GameLemmas.{in_chance_set}
 
@@ -93,13 +93,13 @@ module _ (game : GameFile) where
     enter_first : (below beside : Forest) (above : ℕ → List Move) (action : ℕ) (later : List Visit)
         (innermost : OpenNode) (outer : List OpenNode) (numbers : PathNumbers) →
         IsOpenOver game (record { above = above; action = action; trees = grown x below beside }) innermost → Stand outer later → numbers ≡ numbers_of tables (record { path = above action; node = x }) →
-        Stand (with_open x numbers (without_next innermost outer)) (visits_from (λ next. record { node = x; action = next } ∷ above action) 1 below ++ (visits_from above (action + 1) beside ++ later))
+        Stand (with_open x numbers (without_next_child innermost outer)) (visits_from (λ next. record { node = x; action = next } ∷ above action) 1 below ++ (visits_from above (action + 1) beside ++ later))
     enter_first below beside above action later innermost outer numbers over stand are =
         let down : ℕ → List Move = λ next. record { node = x; action = next } ∷ above action in
         let count : suc (tree_count beside) ≡ innermost.to_come = over.count in
         let children : tree_count below ≡ x.children = over.children.0 in
         let child : OpenNode = record { chance_set = chance_set_of x; action = 1; to_come = x.children; numbers = numbers } in
-        stand_over (IsOpenOver game) child (without_next innermost outer) down 1 below (visits_from above (action + 1) beside ++ later) (nat_lt 0 x.children)
+        stand_over (IsOpenOver game) child (without_next_child innermost outer) down 1 below (visits_from above (action + 1) beside ++ later) (nat_lt 0 x.children)
         (λ some. let many : 0 < x.children = ltb-true 0 x.children some in record {
           some = omega arith;
           count = children;
@@ -137,7 +137,7 @@ module _ (game : GameFile) where
       come : MayCome game innermost
       at : numbers_below tables innermost x ≡ numbers_of tables v
       entered : (numbers : PathNumbers) → numbers ≡ numbers_of tables v
-          → Stand (with_open x numbers (without_next innermost outer)) (drop (n + 1) (visits game.tree))
+          → Stand (with_open x numbers (without_next_child innermost outer)) (drop (n + 1) (visits game.tree))
 
     tells : (innermost : OpenNode) (outer : List OpenNode) → Stand (innermost ∷ outer) (drop n (visits game.tree))
         → Tells innermost outer
@@ -170,7 +170,7 @@ module _ (game : GameFile) where
             two = sum_of (two_there i) (payoffs_of tables (sym is_node i).outcome).two;
           };
           entered = λ numbers are.
-              subst (Stand (with_open x numbers (without_next innermost outer))) (sym rest)
+              subst (Stand (with_open x numbers (without_next_child innermost outer))) (sym rest)
               (enter_first starts.below starts.beside trees.above trees.action later innermost outer numbers over_first stand (are ∙ ap (numbers_of tables) first));
         }
 
@@ -178,7 +178,7 @@ module _ (game : GameFile) where
     none_left none = let e : v ∷ drop (n + 1) (visits game.tree) ≡ [] = sym next.cons ∙ none in cc e
 
     -- the innermost has a next child
-    pub has_next : (nodes : List OpenNode) → Stand nodes (drop n (visits game.tree)) → HasNextChild nodes
+    pub has_next : (nodes : List OpenNode) → Stand nodes (drop n (visits game.tree)) → HasNextAction nodes
     has_next [] stand = absurd (none_left stand)
     has_next (innermost ∷ outer) stand = let told = tells innermost outer stand in (told.some, omega (arith, told.room, told.some))
 

@@ -6,7 +6,7 @@ use Prim.Native.Nat.{◌∣◌}
 use Rattle.std.proofs.lemmas.Int.{ints}
 use Rattle.std.proofs.lemmas.Nat.Gcd.{dvd-zero, dvd_antisymm, dvd_of_mod-eq-zero, dvd_refl, le_of_dvd}
 use Rattle.std.proofs.Math.IntN.{pos-*ℤ-pos}
-use Rattle.std.proofs.Math.Nat.{zero-div}
+use Rattle.std.proofs.Math.Nat.{zero-div, one-mul}
 use Rattle.def_fraction.specs.Divisors.{gcd, lcm}
 use Rattle.def_fraction.specs.Fraction.{Fraction, IsInLowestTerms, fits, fraction_of, most, sum_of, without_factor}
 use Rattle.def_fraction.proofs.DivisorLemmas.{IsGcd-gcd, IsLcm-lcm}
@@ -53,14 +53,11 @@ nothing_more f g low_f low_g zero =
     ∙ ap (λ n. (pos 0 *ℤ pos g.den) +ℤ (g.num *ℤ pos n)) one
     ∙ ap (λ z. z +ℤ (g.num *ℤ pos 1)) (pos-*ℤ-pos 0 g.den ∙ ap pos (zero_times g.den))
     ∙ times_one g.num in
-    let den : f.den * g.den ≡ g.den = ap (λ n. n * g.den) one ∙ one_times g.den in
+    let den : f.den * g.den ≡ g.den = ap (λ n. n * g.den) one ∙ one-mul g.den in
     (λ i. fraction_of (num i) (den i)) ∙ fraction_of-lowest g low_g
   where
     zero_times : (n : ℕ) → 0 * n ≡ 0
     zero_times n = omega arith
-
-    one_times : (n : ℕ) → 1 * n ≡ n
-    one_times n = omega arith
 
     times_one : (z : ℤ) → pos 0 +ℤ (z *ℤ pos 1) ≡ z
     times_one z = omega (arith, ints)

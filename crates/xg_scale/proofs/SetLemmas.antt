@@ -2,7 +2,7 @@
 use Rattle.std.proofs.Common.{◌≡◌, ℕ, suc, ◌+◌, ◌-◌, ◌<◌, ◌≤◌, max, Bool, true, false, cond, ◌&&◌, not, List, [], ◌∷◌, ◌++◌, length, take, drop, map, refl, ap, sym, subst, ◌∙◌, arith, inl, inr, ◌⊎◌, Some, None, slice_get}
 use Rattle.std.specs.Prelude.{nat_lt, ◌||◌}
 use Rattle.std.specs.List.{list_any}
-use Rattle.std.proofs.lemmas.Bool.{cases_lt, ltb-true, ltb-false, true≢false}
+use Rattle.std.proofs.lemmas.Bool.{and_parts, cases_lt, ltb-true, ltb-false, true≢false}
 use Rattle.std.proofs.lemmas.List.{map-append}
 use Rattle.std.proofs.lemmas.Option.{get_or_from_slice_get}
 use Rattle.std.proofs.Math.Seq.{drop-cons}
@@ -18,23 +18,22 @@ use Rattle.def_game_paths.specs.Coming.{visit_after}
 use Rattle.def_game_paths.proofs.Coming.{IsNext, next_node, next_visit}
 use Rattle.def_game_scale.specs.Tables.{Tables, nothing, probabilities}
 use Rattle.def_game_faults.specs.Faults.{ChanceNegative, ChanceSum, Scale, adding_fault, found_by, is_negative, is_one, number_after, passing}
-use Rattle.def_game_faults.proofs.Chance.{both}
 use Rattle.def_game_faults.proofs.Walks.{passed, passing_none}
 use Rattle.xg_scale.specs.declared.chance.SetTest.{SetTest}
 use Rattle.xg_scale.specs.declared.chance.SetTest.TheVariants.{Signs, Sums}
-use Rattle.xg_scale.specs.Chance.{PassedSets, set_fault, test_of}
+use Rattle.xg_scale.specs.Chance.{PassedSets, set_fault, node_test_of}
 use Rattle.xg_scale.specs.Told.{IsFaultOf}
 use Rattle.xg_scale.proofs.FoundLemmas.{found_here, found_later, number_next}
 
 -- at a chance node a walk asks its set
 at_chance : (test : SetTest) (tables : Tables) (before : List Visit) (v : Visit)
     → is_same_kind Chance v.node.kind ≡ true →
-    test_of test tables before v ≡ set_fault test (number_after before) (probabilities tables v.node.set)
+    node_test_of test tables before v ≡ set_fault test (number_after before) (probabilities tables v.node.set)
 at_chance Signs tables before v is = ap (λ c. passing (not (c && list_any is_negative (probabilities tables v.node.set))) (ChanceNegative (number_after before)) None) is
 at_chance Sums tables before v is = ap (λ c. cond c (adding_fault (number_after before) nothing (probabilities tables v.node.set)) None) is
 
 elsewhere : (test : SetTest) (tables : Tables) (before : List Visit) (v : Visit)
-    → is_same_kind Chance v.node.kind ≡ false → test_of test tables before v ≡ None
+    → is_same_kind Chance v.node.kind ≡ false → node_test_of test tables before v ≡ None
 elsewhere Signs tables before v other = ap (λ c. passing (not (c && list_any is_negative (probabilities tables v.node.set))) (ChanceNegative (number_after before)) None) other
 elsewhere Sums tables before v other = ap (λ c. cond c (adding_fault (number_after before) nothing (probabilities tables v.node.set)) None) other
 
@@ -72,7 +71,7 @@ module _ (test : SetTest) (tables : Tables) (tree : Forest) (game : IsGameTree t
   nodes_more = ap (map (λ (w : Visit). w.node)) next.taken ∙ map-append (λ (w : Visit). w.node) (take k (visits tree)) (v ∷ []) ∙ ap (λ y. before ++ y ∷ []) is_node
 
   asked : (chance : is_same_kind Chance x.kind ≡ true)
-      → test_of test tables (take k (visits tree)) v ≡ set_fault test (k + 1) (probabilities tables x.set)
+      → node_test_of test tables (take k (visits tree)) v ≡ set_fault test (k + 1) (probabilities tables x.set)
   asked chance =
       at_chance test tables (take k (visits tree)) v (ap (λ (y : Node). is_same_kind Chance y.kind) is_node ∙ chance)
       ∙ ap (λ n. set_fault test n (probabilities tables v.node.set)) (number_next tree k there)
@@ -92,12 +91,12 @@ module _ (test : SetTest) (tables : Tables) (tree : Forest) (game : IsGameTree t
   pub set_opened : is_same_kind Chance x.kind && nat_lt seen x.set ≡ true
       → set_fault test (k + 1) (probabilities tables x.set) ≡ None → PassedSets test tables tree (k + 1) x.set
   set_opened opens none =
-      let parts = both (is_same_kind Chance x.kind) (nat_lt seen x.set) opens in
+      let parts = and_parts (is_same_kind Chance x.kind) (nat_lt seen x.set) opens in
       let new : seen < x.set = ltb-true seen x.set parts.1 in
       let least : x.set ≤ seen + 1 = next_set parts.0 in
       let more : max x.set seen ≡ x.set = omega arith in
       record {
-        rest = h.rest ∙ found_later tree (test_of test tables) k v next (asked parts.0 ∙ none);
+        rest = h.rest ∙ found_later tree (node_test_of test tables) k v next (asked parts.0 ∙ none);
         seen_is = sym (count_more parts.0 ∙ more);
         sets = λ set from_one within. elim (cases_lt seen set) [
           | inl later ↦
@@ -110,10 +109,10 @@ module _ (test : SetTest) (tables : Tables) (tree : Forest) (game : IsGameTree t
   -- the fault of a set that is new is found
   pub set_broken : is_same_kind Chance x.kind && nat_lt seen x.set ≡ true → (fault : FileFault)
       → IsFaultOf (set_fault test (k + 1) (probabilities tables x.set)) fault
-      → IsFaultOf (found_by (test_of test tables) [] (visits tree)) fault
+      → IsFaultOf (found_by (node_test_of test tables) [] (visits tree)) fault
   set_broken opens fault broken =
-      let parts = both (is_same_kind Chance x.kind) (nat_lt seen x.set) opens in
-      subst (λ o. IsFaultOf o fault) (sym h.rest) (found_here tree (test_of test tables) k v next (set_fault test (k + 1) (probabilities tables x.set)) fault (asked parts.0) broken)
+      let parts = and_parts (is_same_kind Chance x.kind) (nat_lt seen x.set) opens in
+      subst (λ o. IsFaultOf o fault) (sym h.rest) (found_here tree (node_test_of test tables) k v next (set_fault test (k + 1) (probabilities tables x.set)) fault (asked parts.0) broken)
 
   -- each other node is passed over
   pub set_passed : 1 ≤ x.set ⊎ (is_same_kind Chance x.kind ≡ false)
@@ -126,13 +125,13 @@ module _ (test : SetTest) (tables : Tables) (tree : Forest) (game : IsGameTree t
           let from_one : 1 ≤ x.set = elim counts [ inl one ↦ one | inr other ↦ absurd (true≢false (sym chance ∙ other)) ] in
           let more : max x.set seen ≡ seen = omega arith in
           record {
-            rest = h.rest ∙ found_later tree (test_of test tables) k v next (asked chance ∙ none_at test 0 (k + 1) (probabilities tables x.set) (h.sets x.set from_one old));
+            rest = h.rest ∙ found_later tree (node_test_of test tables) k v next (asked chance ∙ none_at test 0 (k + 1) (probabilities tables x.set) (h.sets x.set from_one old));
             seen_is = sym (count_more chance ∙ more);
             sets = h.sets;
           }
       by false other =
           record {
-            rest = h.rest ∙ found_later tree (test_of test tables) k v next (elsewhere test tables (take k (visits tree)) v (ap (λ (y : Node). is_same_kind Chance y.kind) is_node ∙ other));
+            rest = h.rest ∙ found_later tree (node_test_of test tables) k v next (elsewhere test tables (take k (visits tree)) v (ap (λ (y : Node). is_same_kind Chance y.kind) is_node ∙ other));
             seen_is = h.seen_is ∙ sym (ap (set_count Chance) nodes_more ∙ set_count-push_other Chance before x other);
             sets = h.sets;
           }

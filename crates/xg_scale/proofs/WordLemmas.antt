@@ -1,7 +1,8 @@
 -- What an exact answer says in the words of the game.
-use Rattle.std.proofs.Common.{◌≡◌, ◌∙◌, List, [], ◌∷◌, length, ap, subst, refl, suc}
+use Rattle.std.proofs.Common.{◌≡◌, ◌∙◌, length, subst}
 use Rattle.std.specs.Prelude.{Result, Ok, Err, IfOk, OnOk}
 use Rattle.std.specs.List.{AllZip}
+use Rattle.std.proofs.lemmas.Slice.Zip.{AllZip-long}
 use Rattle.def_tree.specs.Tree.{leaf_count, prefix}
 use Rattle.def_file.specs.declared.FileFault.{FileFault}
 use Rattle.def_file.specs.Content.{GameFile}
@@ -19,12 +20,6 @@ use Rattle.xg_game.specs.declared.fault.Refused.{Refused}
 use Rattle.xg_game.specs.declared.fault.Refused.TheVariants.{File}
 use Rattle.xg_read.specs.Gives.{Answers}
 use Rattle.xg_scale.specs.Words.{HasNoNumberFault, IsCommonMultiple, IsFirstNumberFault, IsLeastCommonMultiple}
-
-as_long : {A B : Type 0} (R : A → B → Type 0) (xs : List A) (ys : List B) → AllZip R xs ys → length ys ≡ length xs
-as_long R [] [] h = refl
-as_long R [] (y ∷ ys) h = absurd h
-as_long R (x ∷ xs) [] h = absurd h
-as_long R (x ∷ xs) (y ∷ ys) h = ap suc (as_long R xs ys h.1)
 
 -- the answer that is exact is each that is known
 pub answers_known : (r : Result GameWeights Refused) (a b : Result GameWeights FileFault) → Answers r a → a ≡ b
@@ -83,5 +78,5 @@ module _ (game : GameFile) (lowest : AreFractions (tables_of game)) where
   -- and there are as many
   pub answer_count : (r : Result GameWeights Refused) → Answers r (weigh game)
       → IfOk r (λ weights. length weights.leaves ≡ leaf_count (prefix game.tree))
-  answer_count (Ok weights) is = as_long (IsWeightOf (tables_of game) weights.unit) (leaf_visits game.tree) weights.leaves (accepted weights is).1.leaves ∙ leaves_counted game.tree
+  answer_count (Ok weights) is = AllZip-long (IsWeightOf (tables_of game) weights.unit) (leaf_visits game.tree) weights.leaves (accepted weights is).1.leaves ∙ leaves_counted game.tree
   answer_count (Err _) is = tt

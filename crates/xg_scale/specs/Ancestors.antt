@@ -14,18 +14,18 @@ abbrev pub next_child_later : OpenNode → OpenNode
 next_child_later parent = record { chance_set = parent.chance_set; action = parent.action + 1; to_come = parent.to_come - 1; numbers = parent.numbers }
 
 -- without the next child of the innermost
-abbrev pub without_next : OpenNode → List OpenNode → List OpenNode
-without_next innermost outer = if nat_lt 1 innermost.to_come then next_child_later innermost ∷ outer else outer
+abbrev pub without_next_child : OpenNode → List OpenNode → List OpenNode
+without_next_child innermost outer = if nat_lt 1 innermost.to_come then next_child_later innermost ∷ outer else outer
 
 -- the innermost has a next child, and its action leaves room for the next one
-abbrev pub HasNextChild : List OpenNode → Type 0
-HasNextChild [] = ⊥
-HasNextChild (innermost ∷ outer) = (1 ≤ innermost.to_come) × (innermost.action + 1 < 2 ^ 32)
+abbrev pub HasNextAction : List OpenNode → Type 0
+HasNextAction [] = ⊥
+HasNextAction (innermost ∷ outer) = (1 ≤ innermost.to_come) × (innermost.action + 1 < 2 ^ 32)
 
 -- the innermost as it stood before its next child was taken
 abbrev pub TakesNextChild : List OpenNode → List OpenNode → OpenNode → Type 0
 TakesNextChild [] new taken = ⊥
-TakesNextChild (innermost ∷ outer) new taken = (taken ≡ innermost) × (new ≡ without_next innermost outer)
+TakesNextChild (innermost ∷ outer) new taken = (taken ≡ innermost) × (new ≡ without_next_child innermost outer)
 
 -- with a node within them, where it has children
 abbrev pub with_open : Node → PathNumbers → List OpenNode → List OpenNode

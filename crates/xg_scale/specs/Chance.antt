@@ -12,9 +12,9 @@ use Rattle.xg_scale.specs.declared.chance.SetTest.{SetTest}
 use Rattle.xg_scale.specs.declared.chance.SetTest.TheVariants.{Signs, Sums}
 
 -- what a walk looks for at each node
-abbrev pub test_of : SetTest → Tables → NodeTest
-test_of Signs = sign_fault
-test_of Sums = sum_fault
+abbrev pub node_test_of : SetTest → Tables → NodeTest
+node_test_of Signs = sign_fault
+node_test_of Sums = sum_fault
 
 -- what it finds in a set, whose first node has this number, by the set's probabilities
 abbrev pub set_fault : SetTest → ℕ → List Fraction → Option GameFault
@@ -23,7 +23,8 @@ set_fault Sums number fractions = adding_fault number nothing fractions
 
 -- nothing is found at the first k nodes, which are in so many chance sets
 pub record PassedSets (test : SetTest) (tables : Tables) (tree : Forest) (k seen : ℕ) : Type 0 where
-  pub rest : found_by (test_of test tables) [] (visits tree) ≡ found_by (test_of test tables) (take k (visits tree))
+  pub rest : found_by (node_test_of test tables) [] (visits tree) ≡ found_by (node_test_of test tables)
+      (take k (visits tree))
       (drop k (visits tree))
   pub seen_is : seen ≡ set_count Chance (map (λ (v : Visit). v.node) (take k (visits tree)))
   pub sets : (set : ℕ) → 1 ≤ set → set ≤ seen → set_fault test 0 (probabilities tables set) ≡ None

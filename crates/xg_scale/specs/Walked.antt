@@ -65,7 +65,7 @@ pub record IsOpenOver (game : GameFile) (trees : ComingTrees) (parent : OpenNode
       → path_payoff (λ payoffs. payoffs.two) (tables_of game) (trees.above (trees.action + j)) ≡ parent.numbers.two
 
 -- the first k nodes were entered, and have no fault
-pub record HasWalked (game : GameFile) (k : ℕ) (walk : Walk) : Type 0 where
+pub record HasWalkedWithoutFault (game : GameFile) (k : ℕ) (walk : Walk) : Type 0 where
   pub rest : found_by (node_fault (tables_of game)) [] (visits game.tree) ≡ found_by (node_fault (tables_of game))
       (take k (visits game.tree)) (drop k (visits game.tree))
   pub unit : walk.expected.unit ≡ unit_so_far (tables_of game) (take k (visits game.tree))

@@ -1,6 +1,6 @@
 //! The nodes on the way that have children to come.
 ghost use Rattle.std.specs.Prelude.{◌≡◌, ◌+◌, ◌<◌, ◌≤◌, ◌^◌, [], ◌∷◌, IfOk, IfSome, IsNone, OnOk};
-ghost use Rattle.xg_scale.specs.Ancestors.{chance_set_of, HasNextChild, TakesNextChild, next_child_later, with_open};
+ghost use Rattle.xg_scale.specs.Ancestors.{chance_set_of, HasNextAction, TakesNextChild, next_child_later, with_open};
 
 use std::alloc::{AllocError, Global};
 use std::marker::Model;
@@ -80,7 +80,7 @@ impl OpenNodes {
 
     /// The innermost node as it stood before its next child, which is then no longer to come.
     pub(crate) fn take_child(&mut self) -> Result<OpenNode, AllocError>
-        requires { HasNextChild self.old }
+        requires { HasNextAction self.old }
         ensures { IfOk result (TakesNextChild self.old self.new) }
     {
         let Some(innermost) = self.pop() else {

@@ -5,7 +5,7 @@ ghost use Rattle.def_game_paths.specs.Paths.{visits};
 ghost use Rattle.def_game_scale.specs.Tables.{probabilities};
 ghost use Rattle.def_game_numbers.specs.Numbers.{tables_of};
 ghost use Rattle.def_tree.specs.Rules.{is_same_kind};
-ghost use Rattle.xg_scale.specs.Chance.{set_fault, test_of};
+ghost use Rattle.xg_scale.specs.Chance.{set_fault, node_test_of};
 ghost use Rattle.xg_scale.specs.Told.{IsFaultOf};
 
 use crate::parts::{is_negative, is_one, zero};
@@ -22,8 +22,8 @@ pub(crate) enum SetTest {
 
 /// Asks each chance set in the order of their first nodes.
 pub(crate) fn check_sets(game: &Game, test: SetTest) -> Result<(), FileFault>
-    ensures ok { OnOk result (found_by (test_of test (tables_of game.now)) [] (visits game.now.tree) ≡ None) }
-    ensures err { IfErr result (IsFaultOf (found_by (test_of test (tables_of game.now)) [] (visits game.now.tree))) }
+    ensures ok { OnOk result (found_by (node_test_of test (tables_of game.now)) [] (visits game.now.tree) ≡ None) }
+    ensures err { IfErr result (IsFaultOf (found_by (node_test_of test (tables_of game.now)) [] (visits game.now.tree))) }
 {
     let tree = game.tree();
     let mut seen = 0;

@@ -10,7 +10,7 @@ ghost use Rattle.def_game_paths.specs.Paths.{visits};
 ghost use Rattle.def_game_scale.specs.Tables.{AreFractions, payoffs_of};
 ghost use Rattle.def_tree.specs.Tree.{node_count};
 ghost use Rattle.xg_scale.specs.Told.{RefusesBy};
-ghost use Rattle.xg_scale.specs.Walked.{HasWalked, IsExpectedOf, MayCome, all_fit, numbers_below, paid_to, reach_below};
+ghost use Rattle.xg_scale.specs.Walked.{HasWalkedWithoutFault, IsExpectedOf, MayCome, all_fit, numbers_below, paid_to, reach_below};
 
 use crate::ancestors::{OpenNode, OpenNodes, PathNumbers};
 use crate::leaf::Expected;
@@ -44,7 +44,7 @@ struct Walk {
 impl Walk {
     /// No node yet, one tree to come, and room for so many leaves.
     fn new(alloc: Global, leaves: u32) -> Result<Walk, AllocError>
-        ensures { IfOk result (λ walk. (game : GameFile) → IsWholeGame game → HasWalked game 0 walk) }
+        ensures { IfOk result (λ walk. (game : GameFile) → IsWholeGame game → HasWalkedWithoutFault game 0 walk) }
     {
         let fractions = Vec::with_capacity(alloc, leaves as usize)?;
         let mut ancestors = OpenNodes::new(alloc);
@@ -68,8 +68,8 @@ impl Walk {
     fn enter(&mut self, game: &Game, k: u32) -> Result<(), Refused>
         requires lowest { AreFractions (tables_of game.now) }
         requires there { k < node_count game.now.tree }
-        requires walked { HasWalked game.now k self.old }
-        ensures ok { OnOk result (HasWalked game.now (k + 1) self.new) }
+        requires walked { HasWalkedWithoutFault game.now k self.old }
+        ensures ok { OnOk result (HasWalkedWithoutFault game.now (k + 1) self.new) }
         ensures err { IfErr result
             (RefusesBy (found_by (node_fault (tables_of game.now)) [] (visits game.now.tree))) }
     {

@@ -1,19 +1,21 @@
 -- The form of a game's tree, with a weight for each leaf, is in order and within the limits.
-use Rattle.std.proofs.Common.{◌≡◌, ◌≤◌, false, List, [], length, map, ap, ◌∙◌, arith, ℤ}
+use Rattle.std.proofs.Common.{◌≡◌, ◌<◌, ◌≤◌, false, List, [], length, map, ap, ◌∙◌, arith, ℤ}
 use Rattle.std.specs.Prelude.{sum, unsigned_abs}
 use Rattle.def_tree.specs.declared.Kind.{Kind}
+use Rattle.def_tree.specs.declared.Player.{Player}
+use Rattle.def_tree.specs.declared.Player.TheVariants.{One, Two}
 use Rattle.def_tree.specs.Tree.{Forest, is_leaf_kind, leaf_count, prefix}
 use Rattle.def_tree.specs.Rules.{IsGameTree}
 use Rattle.def_game_scale.specs.Tables.{Tables}
 use Rattle.def_sums.specs.Limits.{most_mass}
-use Rattle.def_plan.specs.Form.{InformationSet, sequence_count}
+use Rattle.def_plan.specs.Form.{InformationSet, Leaf as FormLeaf, SequenceForm, leaf_sequence, player_sets, sequence_count}
 use Rattle.def_sequence_form.specs.Form.{form_of, information_sets, leaf_entry}
 use Rattle.def_sequence_form.specs.Sets.{TreeSets, tree_sets}
 use Rattle.def_sequence_form.proofs.Leaves.{form_has_the_leaf_list, form_has_the_mass}
 use Rattle.def_sequence_form.proofs.Sets.{form_numbers_as_the_tree}
 use Rattle.def_game_paths.specs.Coming.{no_visit}
 use Rattle.xg_seq.specs.declared.leaf.Leaf.{Leaf}
-use Rattle.xg_seq.specs.Leaves.{AreLeaves, KeepsLeaves, form_with}
+use Rattle.xg_seq.specs.Leaves.{AreLeaves, HasSequences, KeepsLeaves, form_with}
 use Rattle.xg_seq.specs.Table.{HaveFewActions, most_sequences}
 use Rattle.xg_seq.proofs.LeafLemmas.{leaves_are_few}
 
@@ -42,6 +44,12 @@ keeps_leaves tree weights game many mass =
       count = omega (arith, list.count, leaves_are_few tree, game.limit);
       mass = omega (arith, form_has_the_mass.of_weights tree weights many);
     }
+
+-- a leaf's sequences are sequences of their players
+pub sequence_there : (form : SequenceForm) (player : Player) (z : FormLeaf) → HasSequences form z
+    → leaf_sequence player z < sequence_count (player_sets form player)
+sequence_there form One z has = has.one
+sequence_there form Two z has = has.two
 
 -- the sets and the leaves make the form
 pub form_is : (tree : Forest) (weights : List ℤ) (sets : TreeSets) (one two : List InformationSet) (leaves : List Leaf)

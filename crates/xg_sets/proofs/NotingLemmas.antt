@@ -30,7 +30,7 @@ use Rattle.xg_sets.specs.declared.building.RecallFault.{RecallFault}
 use Rattle.xg_sets.specs.declared.building.RecallFault.TheVariants.{NotRecall, NoMemory}
 use Rattle.xg_sets.specs.declared.parents.Sequences.{Sequences}
 use Rattle.xg_sets.specs.declared.table.SetRow.{SetRow}
-use Rattle.xg_sets.specs.Entered.{AreAt, AreAtFirstChild, AreTablesOf, FindsBreak, IsAtFirstChild, IsFirstNode, IsRowOf, IsTableOf}
+use Rattle.xg_sets.specs.Entered.{AreAt, AreAtFirstChild, AreTablesOf, FindsBreak, IsAtFirstChild, IsFirstNode, IsRowOf, IsTableUpTo}
 use Rattle.xg_sets.specs.Table.{BeginsSet, JoinsRow, Notes, NotesIn, SetRows, with_set}
 use Rattle.xg_sets.specs.Told.{set_in_row}
 
@@ -93,7 +93,7 @@ module _ (tree : Forest) (kind : Kind) (game : IsGameTree tree) (inner : is_leaf
   firsts_new : begins ≡ true → set_firsts kind 0 (take (n + 1) all) ≡ firsts ++ v ∷ []
   firsts_new first = firsts_more ∙ ap (λ b. firsts ++ cond b (v ∷ []) []) first
 
-  rows_count : (table : SetRows) → IsTableOf tree kind n table → length table.rows ≡ length firsts
+  rows_count : (table : SetRows) → IsTableUpTo tree kind n table → length table.rows ≡ length firsts
   rows_count table stands = sym (length-map table.rows set_in_row) ∙ ap length stands.sets ∙ length-map firsts (set_at kind tree)
 
   sequences_more : map (sequence_at kind tree)
@@ -105,8 +105,9 @@ module _ (tree : Forest) (kind : Kind) (game : IsGameTree tree) (inner : is_leaf
   put_more table s stands is = (λ i. stands i ++ is i ∷ []) ∙ sym sequences_more
 
   -- a node that begins no set of the kind
-  quiet_stands : (table : SetRows) (s : ℕ) → IsTableOf tree kind n table → begins ≡ false → s ≡ sequence_at kind tree v
-      → IsTableOf tree kind (n + 1) (put table s)
+  quiet_stands : (table : SetRows) (s : ℕ) → IsTableUpTo tree kind n table → begins ≡ false
+      → s ≡ sequence_at kind tree v
+      → IsTableUpTo tree kind (n + 1) (put table s)
   quiet_stands table s stands other is =
       let same : firsts ≡ set_firsts kind 0 (take (n + 1) all) = sym (firsts_quiet other) in
       record {
@@ -137,7 +138,7 @@ module _ (tree : Forest) (kind : Kind) (game : IsGameTree tree) (inner : is_leaf
             | false ↦ λ differs. other_kind kind w.node x kinds differs
           ] refl
 
-  row_stands : (table : SetRows) (s : ℕ) → IsTableOf tree kind n table → v.node.kind ≡ kind
+  row_stands : (table : SetRows) (s : ℕ) → IsTableUpTo tree kind n table → v.node.kind ≡ kind
       → v.node.set ≡ length firsts + 1 → s ≡ sequence_at kind tree v →
       IsRowOf tree kind (length table.rows + 1) (record { first = table.next; before = s; actions = v.node.children; node = n + 1 })
   row_stands table s stands is set sequence =
@@ -158,9 +159,9 @@ module _ (tree : Forest) (kind : Kind) (game : IsGameTree tree) (inner : is_leaf
         );
       }
 
-  new_stands : (table : SetRows) (s : ℕ) → IsTableOf tree kind n table → v.node.kind ≡ kind
+  new_stands : (table : SetRows) (s : ℕ) → IsTableUpTo tree kind n table → v.node.kind ≡ kind
       → v.node.set ≡ length firsts + 1 → s ≡ sequence_at kind tree v
-      → IsTableOf tree kind (n + 1) (put (with_set table (n + 1) v.node s) s)
+      → IsTableUpTo tree kind (n + 1) (put (with_set table (n + 1) v.node s) s)
   new_stands table s stands is set sequence =
       let first : begins ≡ true = ap (λ b. b && nat_eq v.node.set (length firsts + 1)) (is_same_kind_self kind v.node.kind is) ∙ eq-eqb v.node.set (length firsts + 1) set in
       let more : set_firsts kind 0 (take (n + 1) all) ≡ firsts ++ v ∷ [] = firsts_new first in
@@ -202,7 +203,7 @@ module _ (tree : Forest) (kind : Kind) (game : IsGameTree tree) (inner : is_leaf
 
   -- what stands after a node of the kind was noted, where the sequence before it is s
   record IsNoted (new : SetRows) (s first : ℕ) : Type 0 where
-    stands : IsTableOf tree kind (n + 1) (put new s)
+    stands : IsTableUpTo tree kind (n + 1) (put new s)
     first_is : first ≡ first_sequence (set_sizes kind tree) v.node.set
     none : against ≡ None
 
@@ -221,7 +222,7 @@ module _ (tree : Forest) (kind : Kind) (game : IsGameTree tree) (inner : is_leaf
       let many : length sizes ≡ length firsts = length-map firsts (λ (w : Visit). w.node.children) in
       (joins.counts, omega arith)
 
-  begun : v.node.kind ≡ kind → (table : SetRows) (s : ℕ) (new : SetRows) → IsTableOf tree kind n table
+  begun : v.node.kind ≡ kind → (table : SetRows) (s : ℕ) (new : SetRows) → IsTableUpTo tree kind n table
       → s ≡ sequence_at kind tree v → length table.rows ≤ v.node.set - 1 →
       (result : Result ℕ RecallFault) → BeginsSet table (n + 1) v.node s new result → After new s result
   begun is table s new stands sequence past (Ok first) (first_is, new_is) =
@@ -233,7 +234,7 @@ module _ (tree : Forest) (kind : Kind) (game : IsGameTree tree) (inner : is_leaf
       let row = row_stands table s stands is set sequence in
       let index : length table.rows + 1 ≡ v.node.set = omega arith in
       record {
-        stands = subst (λ t. IsTableOf tree kind (n + 1) (put t s)) (sym new_is) (new_stands table s stands is set sequence);
+        stands = subst (λ t. IsTableUpTo tree kind (n + 1) (put t s)) (sym new_is) (new_stands table s stands is set sequence);
         first_is = first_is ∙ row.first ∙ ap (first_sequence (set_sizes kind tree)) index;
         none = ap (break_against (differ_in_number tree) (n + 1) v) (found_new v.node is (omega arith) (is_same_set_by v.node v.node refl refl)) ∙ same_numbers (record { number = n + 1; visit = v }) refl;
       }
@@ -244,7 +245,7 @@ module _ (tree : Forest) (kind : Kind) (game : IsGameTree tree) (inner : is_leaf
     first : row.first ≡ first_sequence (set_sizes kind tree) v.node.set
     node : (w : Visit) × IsFirstNode tree kind row v.node w
 
-  its_row : v.node.kind ≡ kind → (table : SetRows) (row : SetRow) → IsTableOf tree kind n table
+  its_row : v.node.kind ≡ kind → (table : SetRows) (row : SetRow) → IsTableUpTo tree kind n table
       → slice_get table.rows (v.node.set - 1) ≡ Some row → IsRow row
   its_row is table row stands read =
       let counts : 1 ≤ v.node.set = (set_of_node is).0 in
@@ -254,7 +255,7 @@ module _ (tree : Forest) (kind : Kind) (game : IsGameTree tree) (inner : is_leaf
       record { first = stood.first ∙ ap (first_sequence (set_sizes kind tree)) (sym set); node = stood.node v.node is set }
 
   joined : is_personal kind ≡ true → v.node.kind ≡ kind → (table : SetRows) (s : ℕ) (new : SetRows) (row : SetRow)
-      → IsTableOf tree kind n table → s ≡ sequence_at kind tree v → slice_get table.rows (v.node.set - 1) ≡ Some row →
+      → IsTableUpTo tree kind n table → s ≡ sequence_at kind tree v → slice_get table.rows (v.node.set - 1) ≡ Some row →
       (result : Result ℕ RecallFault) → JoinsRow row table (n + 1) s new result → After new s result
   joined personal is table s new row stands sequence read (Ok first) (same, first_is, new_is) =
       let rows : length table.rows ≡ length firsts = rows_count table stands in
@@ -267,7 +268,7 @@ module _ (tree : Forest) (kind : Kind) (game : IsGameTree tree) (inner : is_leaf
       let numbers : sequence_at w.node.kind tree w ≡ sequence_at v.node.kind tree v =
       ap (λ k. sequence_at k tree w) held.node.1.kinds ∙ held.node.1.before ∙ same ∙ sequence ∙ ap (λ k. sequence_at k tree v) (sym is) in
       record {
-        stands = subst (λ t. IsTableOf tree kind (n + 1) (put t s)) (sym new_is) (quiet_stands table s stands other sequence);
+        stands = subst (λ t. IsTableUpTo tree kind (n + 1) (put t s)) (sym new_is) (quiet_stands table s stands other sequence);
         first_is = first_is ∙ held.first;
         none = ap (break_against (differ_in_number tree) (n + 1) v) held.node.1.found ∙ same_numbers (record { number = row.node; visit = w }) numbers;
       }
@@ -282,7 +283,7 @@ module _ (tree : Forest) (kind : Kind) (game : IsGameTree tree) (inner : is_leaf
       ∙ (λ i. Some (record { node = sym node_is i; earlier = sym earlier_is i }))
 
   after_note : is_personal kind ≡ true → v.node.kind ≡ kind
-      → (table : SetRows) (s : ℕ) (new : SetRows) (result : Result ℕ RecallFault) → IsTableOf tree kind n table
+      → (table : SetRows) (s : ℕ) (new : SetRows) (result : Result ℕ RecallFault) → IsTableUpTo tree kind n table
       → s ≡ sequence_at kind tree v → Notes table (n + 1) v.node s new result → After new s result
   after_note personal is table s new result stands sequence notes =
       elim (slice_get table.rows (v.node.set - 1)) as (λ o. slice_get table.rows (v.node.set - 1) ≡ o → NotesIn o table (n + 1) v.node s new result → After new s result) [
@@ -291,7 +292,7 @@ module _ (tree : Forest) (kind : Kind) (game : IsGameTree tree) (inner : is_leaf
       ] refl notes
 
   -- the next set's sequences have small numbers
-  room_for : (table : SetRows) → IsTableOf tree kind n table → table.next + v.node.children < 2 ^ 32
+  room_for : (table : SetRows) → IsTableUpTo tree kind n table → table.next + v.node.children < 2 ^ 32
   room_for table stands =
       let front = sizes_front kind n all in
       let few = sequences_are_few tree game kind inner in
@@ -324,7 +325,7 @@ module _ (tree : Forest) (game : IsGameTree tree) (n : ℕ) (v : Visit) (next : 
 
   -- a kind that doesn't move at the node
   quiet : (kind : Kind) → is_leaf_kind kind ≡ false → is_same_kind kind v.node.kind ≡ false → (table : SetRows) (s : ℕ)
-      → IsTableOf tree kind n table → s ≡ sequence_at kind tree v → IsTableOf tree kind (n + 1) (put table s)
+      → IsTableUpTo tree kind n table → s ≡ sequence_at kind tree v → IsTableUpTo tree kind (n + 1) (put table s)
   quiet kind inner other table s stands sequence =
       quiet_stands tree kind game inner n v next table s stands (ap (λ b. b && nat_eq v.node.set (length (set_firsts kind 0 (take n (visits tree))) + 1)) other) sequence
 
@@ -386,7 +387,7 @@ module _ (tree : Forest) (game : IsGameTree tree) (n : ℕ) (v : Visit) (next : 
       )
 
   broken_at : (kind : Kind) → is_leaf_kind kind ≡ false → is_personal kind ≡ true → v.node.kind ≡ kind
-      → (table new : SetRows) (s : ℕ) → IsTableOf tree kind n table → number_break tree ≡ rest_break tree n
+      → (table new : SetRows) (s : ℕ) → IsTableUpTo tree kind n table → number_break tree ≡ rest_break tree n
       → s ≡ sequence_at kind tree v →
       (fault : RecallFault) → Notes table (n + 1) v.node s new (Err fault) → FindsBreak tree fault
   broken_at kind inner personal is table new s stands so_far sequence NoMemory notes = tt
@@ -419,7 +420,7 @@ module _ (tree : Forest) (game : IsGameTree tree) (n : ℕ) (there : n < node_co
   counts_at kind inner is = subst (λ y. 1 ≤ y.set) is_node (set_of_node tree kind game inner n v next (ap (λ y. y.kind) is_node ∙ is)).0
 
   -- the first sequence of a table's next set, with as many more as the node has children, is below 2 ^ 32
-  pub room_at : (kind : Kind) → is_leaf_kind kind ≡ false → (table : SetRows) → IsTableOf tree kind n table
+  pub room_at : (kind : Kind) → is_leaf_kind kind ≡ false → (table : SetRows) → IsTableUpTo tree kind n table
       → table.next + x.children < 2 ^ 32
   room_at kind inner table stands = subst (λ y. table.next + y.children < 2 ^ 32) is_node (room_for tree kind game inner n v next table stands)
 

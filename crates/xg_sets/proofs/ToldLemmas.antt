@@ -26,7 +26,7 @@ use Rattle.xg_sets.specs.declared.building.RecallFault.TheVariants.{NotRecall, N
 use Rattle.xg_sets.specs.declared.parents.Parent.{Parent}
 use Rattle.xg_sets.specs.declared.table.SetRow.{SetRow}
 use Rattle.xg_sets.specs.Fault.{IsFirstBreakOf, TellsBreakOf}
-use Rattle.xg_sets.specs.Entered.{FindsBreak, HasEntered, IsTableOf, AreTablesOf}
+use Rattle.xg_sets.specs.Entered.{FindsBreak, HasEntered, IsTableUpTo, AreTablesOf}
 use Rattle.xg_sets.specs.Table.{HasFewRows, SetRows}
 use Rattle.xg_sets.specs.Told.{of_player, set_in_row, as_player_sets}
 
@@ -40,7 +40,7 @@ told_at rows sets f i row same read =
 abbrev pub no_sets : SetRows
 no_sets = record { rows = []; at_nodes = []; next = 1 }
 
-table_starts : (tree : Forest) (kind : Kind) → IsTableOf tree kind 0 no_sets
+table_starts : (tree : Forest) (kind : Kind) → IsTableUpTo tree kind 0 no_sets
 table_starts tree kind = record { sets = refl; each = λ i d there. absurd (omega arith); next = refl; at_nodes = refl }
 
 abbrev pub whole : Parent
@@ -76,7 +76,7 @@ module _ (tree : Forest) (game : IsGameTree tree) (n : ℕ) (last : n ≡ node_c
   all_taken : take n (visits tree) ≡ visits tree
   all_taken = take_all n (visits tree) (omega (arith, length-visits tree))
 
-  table_told : (kind : Kind) (table : SetRows) → IsTableOf tree kind n table
+  table_told : (kind : Kind) (table : SetRows) → IsTableUpTo tree kind n table
       → as_player_sets table ≡ told_sets kind tree
   table_told kind table stands =
       let sets : map set_in_row table.rows ≡ information_sets kind tree = stands.sets ∙ ap (λ vs. map (set_at kind tree) (set_firsts kind 0 vs)) all_taken in
@@ -84,7 +84,7 @@ module _ (tree : Forest) (game : IsGameTree tree) (n : ℕ) (last : n ≡ node_c
       λ i. record { sets = sets i; at_nodes = at_nodes i }
 
   -- a table of all nodes has 1048576 rows at most
-  pub has_few : (kind : Kind) → is_leaf_kind kind ≡ false → (table : SetRows) → IsTableOf tree kind n table
+  pub has_few : (kind : Kind) → is_leaf_kind kind ≡ false → (table : SetRows) → IsTableUpTo tree kind n table
       → HasFewRows table
   has_few kind inner table stands =
       let few = sequences_are_few tree game kind inner in

@@ -30,7 +30,7 @@ pub record IsRowOf (tree : Forest) (kind : Kind) (set : ℕ) (row : SetRow) : Ty
   pub node : (x : Node) → x.kind ≡ kind → x.set ≡ set → (v : Visit) × IsFirstNode tree kind row x v
 
 -- a player's sets so far, each with its first node, and the sequences at the first k nodes
-pub record IsTableOf (tree : Forest) (kind : Kind) (k : ℕ) (table : SetRows) : Type 0 where
+pub record IsTableUpTo (tree : Forest) (kind : Kind) (k : ℕ) (table : SetRows) : Type 0 where
   pub sets : map set_in_row table.rows ≡ map (λ v. record { before = sequence_at kind tree v; actions = v.node.children }) (set_firsts kind 0 (take k (visits tree)))
   pub each : (i : ℕ) (d : SetRow) → i < length table.rows → IsRowOf tree kind (i + 1) (slice_index_or table.rows i d)
   pub next : table.next ≡ 1 + sum (sizes_so_far kind (take k (visits tree)))
@@ -38,8 +38,8 @@ pub record IsTableOf (tree : Forest) (kind : Kind) (k : ℕ) (table : SetRows) :
 
 -- both players' tables, where recall breaks at none of the first k nodes
 pub record AreTablesOf (tree : Forest) (k : ℕ) (one two : SetRows) : Type 0 where
-  pub table_one : IsTableOf tree One k one
-  pub table_two : IsTableOf tree Two k two
+  pub table_one : IsTableUpTo tree One k one
+  pub table_two : IsTableUpTo tree Two k two
   pub no_break : number_break tree ≡ first_break (differ_in_number tree) (visits tree) (k + 1) (drop k (visits tree))
 
 -- the number of the kind's sequence on a path

@@ -22,5 +22,5 @@ abbrev pub action_counts : Player → TreeSets → List ℕ
 action_counts player sets = map (λ set. set.actions) (of_player player sets).sets
 
 -- the player's sequence before each of the sets
-abbrev pub sequences_before : Player → TreeSets → List ℕ
-sequences_before player sets = map (λ set. set.before) (of_player player sets).sets
+abbrev pub sequences_before_sets : Player → TreeSets → List ℕ
+sequences_before_sets player sets = map (λ set. set.before) (of_player player sets).sets

@@ -1,5 +1,5 @@
 ghost use Rattle.std.specs.Prelude.{◌≡◌, ◌-◌, ◌≤◌, length, Some, slice_get};
-ghost use Rattle.xg_sets.specs.Told.{action_counts, sequences_before, of_player, as_player_sets};
+ghost use Rattle.xg_sets.specs.Told.{action_counts, sequences_before_sets, of_player, as_player_sets};
 ghost use Rattle.xg_sets.specs.Table.{HasFewRows};
 
 use crate::table::SetTable;
@@ -57,7 +57,7 @@ impl Sets {
     pub fn before(&self, player: Player, set: u32) -> u32
         requires from_one { 1 ≤ set }
         requires there { set ≤ length (of_player player self.now).sets }
-        ensures { slice_get (sequences_before player self.now) (set - 1) ≡ Some result }
+        ensures { slice_get (sequences_before_sets player self.now) (set - 1) ≡ Some result }
     {
         self.table(player).row(set).before
     }

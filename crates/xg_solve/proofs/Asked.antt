@@ -6,11 +6,11 @@ use Rattle.def_command.specs.GrammarLaws.{InRange}
 use Rattle.def_command.proofs.InRange.{settings_in_range}
 use Rattle.xg_engine.specs.declared.settings.Settings.{Settings as RunSettings}
 use Rattle.xg_engine.specs.State.{AreWithinLimits}
-use Rattle.xg_solve.specs.Settings.{settings_of}
+use Rattle.xg_solve.specs.Settings.{settings_seen}
 
 -- settings in their ranges, as the engine has them
 within : (settings : Settings) (workers : ℕ) (asked : RunSettings) → InRange settings workers
-    → settings_of asked ≡ settings → AreWithinLimits asked
+    → settings_seen asked ≡ settings → AreWithinLimits asked
 within settings workers asked range same = record {
   few_rounds = subst (λ (s : Settings). s.rounds ≤ most_rounds) (sym same) range.few_rounds;
   some_every = subst (λ (s : Settings). 1 ≤ s.every) (sym same) range.some_every;
@@ -21,13 +21,14 @@ within settings workers asked range same = record {
 
 -- the settings of the command that the words name
 pub asked_within : (words : List (List ℕ)) (file : List ℕ) (settings : Settings) (workers : ℕ) (asked : RunSettings)
-    → command_of_words words ≡ Some (Solve file settings workers) → settings_of asked ≡ settings → AreWithinLimits asked
+    → command_of_words words ≡ Some (Solve file settings workers) → settings_seen asked ≡ settings
+    → AreWithinLimits asked
 asked_within words file settings workers asked is same =
     within settings workers asked (settings_in_range.of_solve words file settings workers is) same
 
 -- the settings of a drill that the words name are within the limits of a run
 pub drill_within : (words : List (List ℕ)) (cards : ℕ) (settings : Settings) (workers : ℕ) (asked : RunSettings)
-    → command_of_words words ≡ Some (Drill cards settings workers) → settings_of asked ≡ settings
+    → command_of_words words ≡ Some (Drill cards settings workers) → settings_seen asked ≡ settings
     → AreWithinLimits asked
 drill_within words cards settings workers asked is same =
     within settings workers asked (settings_in_range.of_drill words cards settings workers is) same

@@ -1,22 +1,22 @@
 -- How a check ends, by what was read of both files.
-use Rattle.std.proofs.Common.{◌≡◌, ℕ, ◌<◌, ◌≤◌, Bool, nat_lt, length, List, Option, Some, None, Result, Ok, Err, refl, sym, ◌∙◌, ap, subst}
-use Rattle.std.specs.Prelude.{IfSome, IsSomeAnd, string_bytes}
+use Rattle.std.proofs.Common.{◌≡◌, ℕ, ◌<◌, ◌≤◌, length, List, Option, Some, None, Ok, Err, refl, sym, ◌∙◌, ap, subst}
+use Rattle.std.specs.Prelude.{IfSome, string_bytes}
 use Rattle.std.proofs.lemmas.Bool.{lt-ltb, le-ltb}
-use Rattle.def_outside.specs.Calls.{FilesCall, SinkCall, HasNoFault, IsUntouched, MayHaveFailed}
+use Rattle.std.proofs.lemmas.Option.{same_Some}
+use Rattle.def_outside.specs.Calls.{FilesCall, SinkCall, HasNoFault, IsUntouched}
 use Rattle.def_file.specs.declared.FileFault.TheVariants.{TooLong}
 use Rattle.def_file.specs.Reading.{most_bytes}
 use Rattle.def_cert_verdict.specs.declared.fault.TestFault.TheVariants as test
-use Rattle.def_cert_verdict.specs.Verdict.{Verdict}
 use Rattle.def_check.specs.Check.{Refusal, checked, most_cert_bytes, of_certificate, of_file, of_tests}
 use Rattle.def_check.proofs.Checked.{checked_any_length}
 use Rattle.def_text.specs.Lines.{fault_line}
 use Rattle.def_text.specs.CheckLines.{cert_long_line, refusal_line, verdict_text}
-use Rattle.def_program.specs.Program.{Answer, certificate_answer, check_answer, check_told, refusal, success}
-use Rattle.def_program.specs.Meaning.{CheckMeans, MeansOnly}
+use Rattle.def_program.specs.Program.{Answer, certificate_answer, check_answer, check_told, refusal}
+use Rattle.def_program.specs.Meaning.{MeansOnly}
 use Rattle.def_program.specs.Lines as lines
 use Rattle.def_program.specs.Lines.{IsLine}
 use Rattle.def_program.proofs.Meant.{check_computed}
-use Rattle.xg_check.specs.Answers.{Answers, verdict_of}
+use Rattle.xg_check.specs.Answers.{AnswersVerdict}
 use Rattle.xg_check.specs.declared.verdict.CheckFault.{CheckFault}
 use Rattle.xg_check.specs.declared.verdict.CheckFault.TheVariants.{File, Cert, HeadDiffers, NotAPlan, ValueTooGood, ReplyNotTight, TotalDiffers, TraceWidens}
 use Rattle.xg_check.specs.declared.verdict.CheckFault.TheVariants as faults
@@ -25,7 +25,7 @@ use Rattle.xg_solve.specs.declared.both.BothFault.TheVariants as both
 use Rattle.xg_solve.specs.declared.ending.Ending.{Ending}
 use Rattle.xg_solve.specs.declared.ending.Ending.TheVariants.{Done, Refused, Usage, ReadFault, WriteFault, NoMemory}
 use Rattle.xg_solve.specs.declared.both.Both.{Both}
-use Rattle.xg_solve.specs.BothRead.{AreWithin, BothHaveCause, ReadsBoth}
+use Rattle.xg_solve.specs.BothRead.{HaveLengthsWithin, BothHaveCause, ReadsBoth}
 use Rattle.xg_solve.specs.ChecksEnd.{CheckTold, EndsCheck, EndsUnread}
 use Rattle.xg_solve.specs.RefusalLine.{IsCheckLine}
 use Rattle.xg_solve.specs.Concludes.{Concludes}
@@ -38,7 +38,7 @@ pub record Says (file certificate line : List ℕ) : Type 0 where
   pub is_refused : checked file certificate ≡ Err why
   pub line_is : line ≡ refusal_line why
 
-pub says : (file certificate line : List ℕ) (fault : CheckFault) → Answers (Err fault) (checked file certificate)
+pub says : (file certificate line : List ℕ) (fault : CheckFault) → AnswersVerdict (Err fault) (checked file certificate)
     → IsCheckLine fault line → Says file certificate line
 says file certificate line (File fault) is same = record { why = of_file fault; is_refused = is; line_is = same }
 says file certificate line (Cert fault) is same = record { why = of_certificate fault; is_refused = is; line_is = same }
@@ -58,9 +58,6 @@ says file certificate line faults.NoMemory is same = absurd same
 
 -- ---- what is meant
 
-injective : (a b : Answer) → Some a ≡ Some b → a ≡ b
-injective a b same = cc
-
 module _ (f : List ℕ) where
   too_long_told : (certificate : Option (List ℕ)) → most_bytes < length f
       → check_told f certificate ≡ Some (refusal (fault_line TooLong))
@@ -79,7 +76,7 @@ module _ (f : List ℕ) where
 -- what is computed is what is meant
 module _ (f : List ℕ) (certificate : Option (List ℕ)) (answer : Answer) where
   only_told : check_told f certificate ≡ Some answer → MeansOnly (CheckTold (Some f) certificate) answer
-  only_told is other means = injective other answer (sym (check_computed f certificate other means) ∙ is)
+  only_told is other means = same_Some other answer (sym (check_computed f certificate other means) ∙ is)
 
 -- a check of contents that aren't told means nothing
 nothing_told : (certificate : Option (List ℕ)) (answer : Answer) → MeansOnly (CheckTold None certificate) answer
@@ -145,7 +142,7 @@ module _ (meant : Answer → Type 0) (files : FilesCall) (out : SinkCall) (f c :
 
 -- both were read, as far as they are told
 pub both_checked : (file certificate : Option (List ℕ)) (files : FilesCall) (out : SinkCall) (it : Both) (f c : List ℕ)
-    → f ≡ it.file.items → c ≡ it.certificate.items → ReadsBoth file certificate (Ok it) → AreWithin it
+    → f ≡ it.file.items → c ≡ it.certificate.items → ReadsBoth file certificate (Ok it) → HaveLengthsWithin it
     → BothHaveCause files.faults.before files.faults.now (Ok it) → (ending : Ending) → EndsCheck f c out ending
     → Concludes (Unit {0}) (CheckTold file certificate) files out ending
 both_checked file certificate files out it f c same_f same_c reads within cause ending ends =

@@ -8,7 +8,7 @@ use Rattle.def_program.specs.Meaning.{EachMeant, EndsWith, MeansOnly}
 use Rattle.def_program.specs.Lines.{IsLine, of_words, of_reading, of_writing, of_memory}
 use Rattle.xg_solve.specs.declared.ending.Ending.{Ending}
 use Rattle.xg_solve.specs.declared.ending.Ending.TheVariants.{Done, Refused, Usage, ReadFault, WriteFault, NoMemory}
-use Rattle.xg_solve.specs.Endings.{status_of, line_of}
+use Rattle.xg_solve.specs.Endings.{status_of, line_at_end}
 use Rattle.xg_solve.specs.Concludes.{Concludes, IsDone, IsRefused, IsUsage, IsUnread, IsCut}
 
 -- the promises of the status, and of the line that goes with it
@@ -132,7 +132,7 @@ module _ (checks : Type 0) (meant : Answer → Type 0) (files : FilesCall) (out 
 
   -- what an ending shows
   shown : (ending : Ending) → Concludes checks meant files out ending
-      → Shows checks meant files out (status_of ending) (line_of ending)
+      → Shows checks meant files out (status_of ending) (line_at_end ending)
   shown Done is = done is
   shown (Refused line) is = said (string_bytes line) is
   shown Usage is = unknown is
@@ -143,9 +143,9 @@ module _ (checks : Type 0) (meant : Answer → Type 0) (files : FilesCall) (out 
   -- the same of a number that is its status
   pub status_shown : (ending : Ending) → Concludes checks meant files out ending → (status : ℕ)
       → status ≡ status_of ending
-      → Shows checks meant files out status (line_of ending)
+      → Shows checks meant files out status (line_at_end ending)
   status_shown ending is status same =
-      subst (λ (n : ℕ). Shows checks meant files out n (line_of ending)) (sym same) (shown ending is)
+      subst (λ (n : ℕ). Shows checks meant files out n (line_at_end ending)) (sym same) (shown ending is)
 
 -- the status of an ending is one of 0 to 5
 pub status_range : (ending : Ending) (status : ℕ) → status ≡ status_of ending → status ≤ 5

@@ -2,7 +2,7 @@
 use Rattle.std.proofs.Common.{◌≡◌, ℕ, ◌<◌, List, Option, Some, None, Result, Ok, Err, refl, sym, ◌∙◌, ap, subst}
 use Rattle.std.specs.Prelude.{IfSome, IsSomeAnd, OnErr, OnOk}
 use Rattle.std.specs.Io.KnownBytes.{append_known}
-use Rattle.def_outside.specs.Sinks.{AppendsPrefix}
+use Rattle.def_outside.specs.Sinks.{AppendsPrefix, Writes}
 use Rattle.def_outside.specs.Calls.{FilesCall, SinkCall, HasNoFault, IsUntouched, MayHaveFailed, Wrote, WroteFront}
 use Rattle.def_file.specs.declared.FileFault.{FileFault}
 use Rattle.def_file.specs.declared.FileFault.TheVariants.{TooLong}
@@ -20,8 +20,7 @@ use Rattle.xg_solve.specs.declared.ending.Ending.TheVariants.{Done, Refused, Usa
 use Rattle.xg_solve.specs.Loads.{Loads, LoadHasCause}
 use Rattle.xg_solve.specs.Refusal.{IsRefusal, IsUnloaded}
 use Rattle.def_outside.specs.Cause.{HasCause}
-use Rattle.xg_cert.specs.Writes.{Writes}
-use Rattle.xg_solve.specs.Written.{IsEndOf}
+use Rattle.xg_solve.specs.Written.{IsEndingOf}
 use Rattle.xg_solve.specs.Concludes.{Concludes, FileTold, IsCut, IsDone, Tells}
 
 module _ (text : GameFile → List ℕ) (content : Option (List ℕ)) where
@@ -87,7 +86,7 @@ module _ (text : GameFile → List ℕ) (content : Option (List ℕ)) where
 
 -- a text was written, or a front of it
 pub tells : {T E : Type 0} (out : SinkCall) (text bytes : List ℕ) → bytes ≡ text → (r : Result T E) (ending : Ending)
-    → IsEndOf r ending → Writes out.before out.now bytes r → HasCause out.faults.before out.faults.now r
+    → IsEndingOf r ending → Writes out.before out.now bytes r → HasCause out.faults.before out.faults.now r
     → Tells text out ending
 tells out text bytes is (Ok _) ending done writes cause =
     subst (λ (e : Ending). Tells text out e) (sym done) (cause, subst (Wrote out) is writes)

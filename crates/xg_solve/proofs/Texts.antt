@@ -17,12 +17,12 @@ use Rattle.def_cert_verdict.specs.Laws.{IsHeadOf}
 use Rattle.def_cert_accepted.specs.OfOutcome.{certificate_of}
 use Rattle.def_cert_text.specs.CertText.{cert_text}
 use Rattle.def_command.specs.Grammar.{Settings}
-use Rattle.def_text.specs.Text.{form_of_file, game_head, quoted, solve_text}
+use Rattle.def_text.specs.Text.{form_of_file, game_head, between_marks, solve_text}
 use Rattle.def_program.proofs.Played.{leaves_are}
-use Rattle.xg_numbers.specs.Opened.{weighed_game}
 use Rattle.xg_engine.specs.State.{head_with}
 use Rattle.xg_engine.specs.declared.settings.Settings.{Settings as RunSettings}
-use Rattle.xg_solve.specs.Settings.{settings_of}
+use Rattle.xg_solve.specs.Settings.{settings_seen}
+use Rattle.def_file_accepted.specs.Weighed.{weighed_game}
 
 -- what is escaped piece by piece is escaped whole
 pub escaped_append : (xs ys : List ℕ) → escaped (xs ++ ys) ≡ escaped xs ++ escaped ys
@@ -48,7 +48,7 @@ escaped_more text i front items new there is more =
 
 -- with the last mark the text is quoted
 pub quoted_whole : (text : List ℕ) (i : ℕ) (front items new : List ℕ) → length text ≤ i
-    → items ≡ front ++ 34 ∷ escaped (take i text) → new ≡ items ++ 34 ∷ [] → new ≡ front ++ quoted text
+    → items ≡ front ++ 34 ∷ escaped (take i text) → new ≡ items ++ 34 ∷ [] → new ≡ front ++ between_marks text
 quoted_whole text i front items new all is more =
     more ∙ ap (λ (xs : List ℕ). xs ++ 34 ∷ []) is ∙ append_assoc front (34 ∷ escaped (take i text)) (34 ∷ [])
     ∙ ap (λ (xs : List ℕ). front ++ 34 ∷ (escaped xs ++ 34 ∷ [])) (take_all i text all)
@@ -76,7 +76,7 @@ head_is game numbers kept settings head of_numbers rounds every scale =
 
 -- the head of a run is the game's head
 pub run_head_is : (game : GameFile) (settings : RunSettings)
-    → head_with (weighed_game game) settings ≡ game_head game (settings_of settings)
+    → head_with (weighed_game game) settings ≡ game_head game (settings_seen settings)
 run_head_is game settings = λ i. record {
   nodes = node_count game.tree;
   leaves = leaves_are game i;
@@ -94,7 +94,7 @@ run_head_is game settings = λ i. record {
 -- what a run leaves is written as the text of the solution
 pub played_is : (game : GameFile) (settings : RunSettings) (form : SequenceForm) (left : Outcome)
     → form ≡ form_of_file game → left ≡ outcome (form_of_file game) (head_with (weighed_game game) settings)
-    → cert_text (certificate_of form left) ≡ solve_text game (settings_of settings)
+    → cert_text (certificate_of form left) ≡ solve_text game (settings_seen settings)
 played_is game settings form left form_is left_is =
     (λ i. cert_text (certificate_of (form_is i) (left_is i)))
     ∙ ap (λ (head : Head). cert_text (certificate_of (form_of_file game) (outcome (form_of_file game) head)))

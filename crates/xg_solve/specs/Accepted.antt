@@ -5,11 +5,11 @@ use Rattle.def_game_numbers.specs.Numbers.{game_file_fault}
 use Rattle.xg_game.specs.declared.fault.Refused.{Refused}
 use Rattle.xg_game.specs.declared.fault.Refused.TheVariants.{File, NoMemory}
 use Rattle.def_cert_verdict.specs.Verdict.{WeighedGame}
-use Rattle.xg_numbers.specs.Opened.{weighed_game}
+use Rattle.def_file_accepted.specs.Weighed.{weighed_game}
 
 -- the numbers are the game's
-abbrev pub KeepsNumbers : GameFile → WeighedGame → Type 0
-KeepsNumbers game numbers = numbers ≡ weighed_game game
+abbrev pub KeepsNumbersOfGame : GameFile → WeighedGame → Type 0
+KeepsNumbersOfGame game numbers = numbers ≡ weighed_game game
 
 -- the game where it has no fault, and else its first one; memory may run out
 abbrev pub Opens : GameFile → Result GameFile Refused → Type 0

@@ -17,7 +17,7 @@ ReadsBoth file certificate (Err ReadFault) = Unit {0}
 ReadsBoth file certificate (Err NoMemory) = Unit {0}
 
 -- neither is longer than its limit
-pub record AreWithin (both : Both) : Type 0 where
+pub record HaveLengthsWithin (both : Both) : Type 0 where
   pub file : length both.file.items ≤ most_bytes
   pub certificate : length both.certificate.items ≤ most_cert_bytes
 

@@ -12,10 +12,10 @@ status_of ReadFault = 3
 status_of WriteFault = 4
 status_of NoMemory = 5
 
-abbrev pub line_of : Ending → List ℕ
-line_of Done = []
-line_of (Refused line) = string_bytes line
-line_of Usage = usage_line
-line_of ReadFault = read_line
-line_of WriteFault = write_line
-line_of NoMemory = memory_line
+abbrev pub line_at_end : Ending → List ℕ
+line_at_end Done = []
+line_at_end (Refused line) = string_bytes line
+line_at_end Usage = usage_line
+line_at_end ReadFault = read_line
+line_at_end WriteFault = write_line
+line_at_end NoMemory = memory_line

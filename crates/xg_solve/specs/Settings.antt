@@ -2,5 +2,5 @@
 use Rattle.def_command.specs.Grammar as grammar
 use Rattle.xg_engine.specs.declared.settings.Settings.{Settings}
 
-abbrev pub settings_of : Settings → grammar.Settings
-settings_of s = record { rounds = s.rounds; every = s.every; scale = s.scale }
+abbrev pub settings_seen : Settings → grammar.Settings
+settings_seen s = record { rounds = s.rounds; every = s.every; scale = s.scale }

@@ -2,9 +2,9 @@
 ghost use Rattle.std.specs.Prelude.{◌≡◌, IfOk, None};
 ghost use Rattle.def_text.specs.Text.{game_head};
 ghost use Rattle.xg_cert.specs.Outcome.{head_of};
-ghost use Rattle.xg_numbers.specs.Opened.{weighed_game};
 ghost use Rattle.xg_solve.specs.Accepted.{Opens};
-ghost use Rattle.xg_solve.specs.Settings.{settings_of};
+ghost use Rattle.xg_solve.specs.Settings.{settings_seen};
+ghost use Rattle.def_file_accepted.specs.Weighed.{weighed_game};
 
 use std::alloc::{AllocError, Global};
 use std::marker::Model;
@@ -25,7 +25,7 @@ impl Model for Accepted {
     ghost use Rattle.std.specs.Coded.{codes};
     ghost use Rattle.def_tree.specs.Code.{forest_code};
     ghost use Rattle.def_file.specs.Content.{GameFile};
-    ghost use Rattle.xg_solve.specs.Accepted.{KeepsNumbers};
+    ghost use Rattle.xg_solve.specs.Accepted.{KeepsNumbersOfGame};
 
     ghost Value = { GameFile };
 
@@ -33,7 +33,7 @@ impl Model for Accepted {
 
     ghost view = { λ a. a.game };
 
-    ghost invariant = { λ a. KeepsNumbers a.game a.numbers };
+    ghost invariant = { λ a. KeepsNumbersOfGame a.game a.numbers };
 }
 
 impl Accepted {
@@ -70,7 +70,7 @@ impl Accepted {
 
     /// The game's numbers, with what is asked.
     pub fn head(&self, settings: Settings) -> Head
-        ensures { head_of result ≡ game_head self.now (settings_of settings) }
+        ensures { head_of result ≡ game_head self.now (settings_seen settings) }
     {
         let form = self.numbers.form();
         Head {

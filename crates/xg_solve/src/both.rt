@@ -2,7 +2,7 @@
 ghost use Rattle.std.specs.Prelude.{◌<◌, IfOk, IsErrOf, IsTrue};
 ghost use Rattle.def_file.specs.Reading.{most_bytes};
 ghost use Rattle.def_check.specs.Check.{most_cert_bytes};
-ghost use Rattle.xg_solve.specs.BothRead.{AreWithin, BothHaveCause, ReadsBoth};
+ghost use Rattle.xg_solve.specs.BothRead.{HaveLengthsWithin, BothHaveCause, ReadsBoth};
 
 use std::alloc::Global;
 use xg_check::MOST_CERT_BYTES;
@@ -37,7 +37,7 @@ pub fn read_both<F: Files>(
     requires file { IsTrue (F.may_open files.old file.now) }
     requires certificate { IsTrue (F.may_open files.old certificate.now) }
     ensures exact { ReadsBoth (F.told files.old file.now) (F.told files.old certificate.now) result }
-    ensures within { IfOk result AreWithin }
+    ensures within { IfOk result HaveLengthsWithin }
     ensures file_too_long { IsErrOf result BothFault.FileTooLong → most_bytes < F.taken files.new }
     ensures certificate_too_long { IsErrOf result BothFault.CertificateTooLong
         → most_cert_bytes < F.taken files.new }

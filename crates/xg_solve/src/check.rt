@@ -6,7 +6,7 @@ ghost use Rattle.def_outside.specs.Cause.{HasCause};
 ghost use Rattle.def_file.specs.Reading.{most_bytes};
 ghost use Rattle.def_check.specs.Check.{most_cert_bytes};
 ghost use Rattle.def_text.specs.CheckLines.{verdict_text};
-ghost use Rattle.xg_cert.specs.Writes.{Writes};
+ghost use Rattle.def_outside.specs.Sinks.{Writes};
 ghost use Rattle.xg_check.specs.Answers.{verdict_of};
 ghost use Rattle.xg_solve.specs.ChecksEnd.{CheckTold, EndsCheck, EndsUnread};
 ghost use Rattle.xg_solve.specs.Concludes.{Concludes};
@@ -79,7 +79,7 @@ fn write_verdict<O: Sink>(verdict: Verdict, out: &mut O) -> Result<(), WriteFaul
 }
 
 /// Writes a word and what ends the line.
-#[tactic(auto, using(xg_cert::proofs::Written::prefix_first, xg_cert::proofs::Written::then_rest))]
+#[tactic(auto, using(xg_io::proofs::Pieces::prefix_first, xg_io::proofs::Pieces::then_rest))]
 fn write_two<O: Sink>(word: &[u8], end: &[u8], out: &mut O) -> Result<(), WriteFault>
     ensures text { Writes (O.written out.old) (O.written out.new) (word.now ++ end.now) result }
     ensures cause { HasCause (O.faults out.old) (O.faults out.new) result }
@@ -89,7 +89,7 @@ fn write_two<O: Sink>(word: &[u8], end: &[u8], out: &mut O) -> Result<(), WriteF
 }
 
 /// Writes a word and both bounds.
-#[tactic(auto, using(xg_cert::proofs::Written::prefix_first, xg_cert::proofs::Written::then_rest))]
+#[tactic(auto, using(xg_io::proofs::Pieces::prefix_first, xg_io::proofs::Pieces::then_rest))]
 fn write_words<O: Sink>(
     word: &[u8],
     low: Ratio,
@@ -106,7 +106,7 @@ fn write_words<O: Sink>(
     write_both_bounds(low, between, high, end, out)
 }
 
-#[tactic(auto, using(xg_cert::proofs::Written::prefix_first, xg_cert::proofs::Written::then_rest))]
+#[tactic(auto, using(xg_io::proofs::Pieces::prefix_first, xg_io::proofs::Pieces::then_rest))]
 fn write_both_bounds<O: Sink>(
     low: Ratio,
     between: &[u8],
@@ -122,7 +122,7 @@ fn write_both_bounds<O: Sink>(
     write_last_bound(between, high, end, out)
 }
 
-#[tactic(auto, using(xg_cert::proofs::Written::prefix_first, xg_cert::proofs::Written::then_rest))]
+#[tactic(auto, using(xg_io::proofs::Pieces::prefix_first, xg_io::proofs::Pieces::then_rest))]
 fn write_last_bound<O: Sink>(
     between: &[u8],
     high: Ratio,
@@ -136,7 +136,7 @@ fn write_last_bound<O: Sink>(
     write_bound(high, end, out)
 }
 
-#[tactic(auto, using(xg_cert::proofs::Written::prefix_first, xg_cert::proofs::Written::then_rest))]
+#[tactic(auto, using(xg_io::proofs::Pieces::prefix_first, xg_io::proofs::Pieces::then_rest))]
 fn write_bound<O: Sink>(high: Ratio, end: &[u8], out: &mut O) -> Result<(), WriteFault>
     ensures text { Writes (O.written out.old) (O.written out.new) (fraction_text high ++ end.now) result }
     ensures cause { HasCause (O.faults out.old) (O.faults out.new) result }

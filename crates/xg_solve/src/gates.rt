@@ -53,6 +53,7 @@ pub struct HeldPass {
 }
 
 impl HeldPass {
+    /// Worker `held` waits at its first pass for worker `other`.
     pub fn new(held: u32, other: u32) -> HeldPass {
         HeldPass {
             held,
@@ -88,6 +89,7 @@ pub struct HeldStripe {
 }
 
 impl HeldStripe {
+    /// No worker has come yet.
     pub fn new() -> HeldStripe {
         HeldStripe {
             zero: Event::new(),
@@ -127,6 +129,7 @@ pub struct Meeting {
 }
 
 impl Meeting {
+    /// Each worker waits for so many others.
     pub fn new(others: u64) -> Meeting {
         Meeting {
             others,
@@ -160,6 +163,7 @@ pub struct Delays {
 }
 
 impl Delays {
+    /// The delays that this seed leads to.
     pub fn new(seed: u64) -> Delays {
         Delays {
             state: AtomicU64::new(seed),

@@ -6,7 +6,7 @@ ghost use Rattle.def_poker.specs.Poker.{poker};
 ghost use Rattle.def_program.specs.Program.{solved};
 ghost use Rattle.xg_engine.specs.State.{AreWithinLimits};
 ghost use Rattle.xg_solve.specs.Concludes.{EndsMade, Tells};
-ghost use Rattle.xg_solve.specs.Settings.{settings_of};
+ghost use Rattle.xg_solve.specs.Settings.{settings_seen};
 
 use crate::accepted::Accepted;
 use crate::certificate::GameText;
@@ -48,7 +48,7 @@ pub fn drill<Rt: Threads + Wait + Sync, O: Sink, G: Gate>(
     requires low { 2 ≤ cards }
     requires high { cards ≤ 64 }
     requires limits { AreWithinLimits settings }
-    ensures { EndsMade (solved (settings_of settings)) (poker cards) (sink_call O.written O.faults out.old out.new) result }
+    ensures { EndsMade (solved (settings_seen settings)) (poker cards) (sink_call O.written O.faults out.old out.new) result }
 {
     let Ok(game) = one_card_poker(alloc, cards) else {
         return Ending::NoMemory;

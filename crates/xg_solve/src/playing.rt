@@ -9,8 +9,8 @@ ghost use Rattle.xg_engine.specs.State.{AreWithinLimits, head_with};
 ghost use Rattle.xg_jobs.specs.Rows.{AreNumbersOf, ArePlainSums};
 ghost use Rattle.xg_jobs.specs.Table.{IsTableOf};
 ghost use Rattle.xg_solve.specs.Concludes.{Tells};
-ghost use Rattle.xg_solve.specs.Settings.{settings_of};
-ghost use Rattle.xg_solve.specs.Written.{IsEndOf};
+ghost use Rattle.xg_solve.specs.Settings.{settings_seen};
+ghost use Rattle.xg_solve.specs.Written.{IsEndingOf};
 
 use crate::accepted::Accepted;
 use crate::certificate::Certificate;
@@ -36,7 +36,7 @@ pub fn play<Rt: Threads + Wait + Sync, O: Sink, G: Gate>(
     out: &mut O,
 ) -> Ending
     requires { AreWithinLimits settings }
-    ensures { Tells (solve_text accepted (settings_of settings)) (sink_call O.written O.faults out.old out.new) result }
+    ensures { Tells (solve_text accepted (settings_seen settings)) (sink_call O.written O.faults out.old out.new) result }
 {
     if settings.rounds == 0 {
         return write_unplayed(alloc, &accepted, settings, out);
@@ -95,7 +95,7 @@ fn write_unplayed<O: Sink>(
     out: &mut O,
 ) -> Ending
     requires { settings.rounds ≡ 0 }
-    ensures { Tells (solve_text accepted.now (settings_of settings)) (sink_call O.written O.faults out.old out.new) result }
+    ensures { Tells (solve_text accepted.now (settings_seen settings)) (sink_call O.written O.faults out.old out.new) result }
 {
     let numbers = accepted.numbers();
     numbers.unit();
@@ -109,7 +109,7 @@ fn write_unplayed<O: Sink>(
 
 /// The end of a run whose text was written, or cut off.
 pub fn ending_of(written: Result<(), WriteFault>) -> Ending
-    ensures { IsEndOf written result }
+    ensures { IsEndingOf written result }
 {
     match written {
         Ok(()) => Ending::Done,

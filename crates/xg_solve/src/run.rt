@@ -8,7 +8,7 @@ ghost use Rattle.def_program.specs.Program.{solved};
 ghost use Rattle.def_text.specs.Text.{info_text};
 ghost use Rattle.xg_command.specs.Values.{settings_value};
 ghost use Rattle.xg_engine.specs.State.{AreWithinLimits};
-ghost use Rattle.xg_solve.specs.Settings.{settings_of};
+ghost use Rattle.xg_solve.specs.Settings.{settings_seen};
 ghost use Rattle.def_program.specs.Bounds.{ConcedesHigh, ForEachPlayed, GapIsExploitability, GetsLow};
 ghost use Rattle.def_program.specs.Bounds.{NoPlanDoesBetter, RepliesAttain, TraceNarrows};
 ghost use Rattle.def_program.specs.Checked.{ForEachChecked};
@@ -58,7 +58,7 @@ fn solve<Rt: Threads + Wait + Sync, F: Files, O: Sink, G: Gate>(
 ) -> Ending
     requires may_open { IsTrue (F.may_open files.old file.now) }
     requires limits { AreWithinLimits settings }
-    ensures concludes { Concludes ⊥ (FileTold (solved (settings_of settings)) (F.told files.old file.now))
+    ensures concludes { Concludes ⊥ (FileTold (solved (settings_seen settings)) (F.told files.old file.now))
         (files_call F.told F.taken F.faults files.old files.new) (sink_call O.written O.faults out.old out.new) result }
     ensures command { status_of result ≢ 2 }
 {
@@ -114,7 +114,7 @@ pub(crate) fn refused(alloc: Global, fault: FileFault) -> Ending
 
 /// The settings of a command, as the engine takes them.
 fn asked(settings: WordSettings) -> Settings
-    ensures { settings_of result ≡ settings_value settings }
+    ensures { settings_seen result ≡ settings_value settings }
 {
     Settings {
         rounds: settings.rounds,

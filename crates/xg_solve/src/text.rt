@@ -3,10 +3,10 @@ ghost use Rattle.std.specs.Prelude.{◌≡◌, [], ◌∷◌, ◌++◌, IfOk, On
 ghost use Rattle.def_outside.specs.Cause.{HasCause};
 ghost use Rattle.def_file_tokens.specs.Texts.{escaped};
 ghost use Rattle.def_cert_text.specs.CertText.{head_text};
-ghost use Rattle.def_text.specs.Text.{info_front, quoted};
+ghost use Rattle.def_text.specs.Text.{info_front, between_marks};
 ghost use Rattle.def_text.specs.Lines.{fault_line, node_line, number_fault_name};
 ghost use Rattle.xg_cert.specs.Outcome.{head_of};
-ghost use Rattle.xg_cert.specs.Writes.{Writes};
+ghost use Rattle.def_outside.specs.Sinks.{Writes};
 
 use std::alloc::{AllocError, Global};
 use xg_cert::{Head, write_head};
@@ -16,7 +16,7 @@ use xg_plan::Player;
 use xg_read::{FileFault, NumberFault};
 
 /// Writes what is told of a game: the lines before its numbers, and these. After an error a front of it was written.
-#[tactic(auto, using(xg_cert::proofs::Written::prefix_first, xg_cert::proofs::Written::then_rest))]
+#[tactic(auto, using(xg_io::proofs::Pieces::prefix_first, xg_io::proofs::Pieces::then_rest))]
 pub fn write_info<O: Sink>(front: &[u8], head: &Head, out: &mut O) -> Result<(), WriteFault>
     ensures text { Writes (O.written out.old) (O.written out.new) (front.now ++ head_text (head_of head.now)) result }
     ensures cause { HasCause (O.faults out.old) (O.faults out.new) result }
@@ -40,7 +40,7 @@ pub fn info_front(alloc: Global, game: &Game) -> Result<Vec<u8>, AllocError>
 
 /// Puts a word and then a text between quotation marks last.
 fn put_named(out: &mut Vec<u8>, word: &[u8], text: &[u8]) -> Result<(), AllocError>
-    ensures { OnOk result (out.new.items ≡ out.old.items ++ (word.now ++ quoted text.now)) }
+    ensures { OnOk result (out.new.items ≡ out.old.items ++ (word.now ++ between_marks text.now)) }
 {
     out.extend_from_slice(word)?;
     put_quoted(out, text)
@@ -48,7 +48,7 @@ fn put_named(out: &mut Vec<u8>, word: &[u8], text: &[u8]) -> Result<(), AllocErr
 
 /// Puts a text between quotation marks last, with a backslash before each mark inside.
 fn put_quoted(out: &mut Vec<u8>, text: &[u8]) -> Result<(), AllocError>
-    ensures { OnOk result (out.new.items ≡ out.old.items ++ quoted text.now) }
+    ensures { OnOk result (out.new.items ≡ out.old.items ++ between_marks text.now) }
 {
     out.push(b'"')?;
     for byte in text {

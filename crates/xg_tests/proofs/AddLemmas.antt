@@ -1,28 +1,29 @@
 -- The rows after one leaf and after one value more.
-use Rattle.std.proofs.Common.{◌≡◌, ℕ, ◌+◌, ◌-◌, ◌<◌, ◌≤◌, Bool, true, false, cond, eqb, List, ◌∷◌, length, get_or, drop, filter, zip, Some, slice_get, ℤ, pos, ◌+ℤ◌, unsigned_abs, All, refl, sym, ap, ◌∙◌, subst, arith}
+use Rattle.std.proofs.Common.{◌≡◌, ℕ, ◌+◌, ◌-◌, ◌<◌, ◌≤◌, Bool, true, false, cond, eqb, List, ◌∷◌, length, get_or, drop, filter, zip, Some, slice_get, ℤ, pos, ◌+ℤ◌, unsigned_abs, All, sym, ap, ◌∙◌, subst, arith}
 use Rattle.std.proofs.lemmas.Int.{ints}
 use Rattle.std.proofs.lemmas.List.{drop_more, drop_all}
 use Rattle.std.proofs.lemmas.List.Elements.{All-get_or}
 use Rattle.std.proofs.lemmas.Option.{get_or_from_slice_get}
 use Rattle.def_tree.specs.declared.Player.{Player}
-use Rattle.def_tree.specs.declared.Player.TheVariants.{One, Two}
 use Rattle.def_sums.specs.Sum.{sum_over}
 use Rattle.def_sums.proofs.RingLaws.{+ℤ_assoc, +ℤ-zero, zero-+ℤ, unsigned_abs-+ℤ}
+use Rattle.def_sums.proofs.SumLaws.{sum_over-filter}
 use Rattle.def_plan.specs.Form.{Leaf, PlacedSet, SequenceForm, leaf_sequence, player_sets, sequence_count}
 use Rattle.def_plan.specs.Payoff.{leaf_sum, values_after}
 use Rattle.xg_seq.specs.Leaves.{HasSequences}
-use Rattle.xg_tests.specs.Views.{AddsAt, IsWithin, paid, row}
+use Rattle.xg_seq.proofs.FormLemmas.{sequence_there}
+use Rattle.xg_tests.specs.Views.{AddsAt, AreAllWithin, paid_at_leaf, row}
 
-picked : {A : Type 0} (f : A → ℤ) (t : Bool) (x : A) (rest : List A)
-    → sum_over f (cond t (x ∷ rest) rest) ≡ cond t (f x) (pos 0) +ℤ sum_over f rest
-picked f true x rest = refl
-picked f false x rest = sym (zero-+ℤ (sum_over f rest))
+-- a sum over those of a list that pass a test, by the list's first
+sum_more : {A : Type 0} (f : A → ℤ) (own : A → Bool) (x : A) (xs : List A)
+    → sum_over f (filter own (x ∷ xs)) ≡ cond (own x) (f x) (pos 0) +ℤ sum_over f (filter own xs)
+sum_more f own x xs =
+    sum_over-filter f own (x ∷ xs) ∙ ap (λ rest. cond (own x) (f x) (pos 0) +ℤ rest) (sym (sum_over-filter f own xs))
 
 leaf_more : (player : Player) (z : Leaf) (zs : List Leaf) (against : List ℕ) (s : ℕ)
     → leaf_sum player (z ∷ zs) against s
-    ≡ cond (eqb (leaf_sequence player z) s) (paid player against z) (pos 0) +ℤ leaf_sum player zs against s
-leaf_more player z zs against s =
-    picked (paid player against) (eqb (leaf_sequence player z) s) z (filter (λ y. eqb (leaf_sequence player y) s) zs)
+    ≡ cond (eqb (leaf_sequence player z) s) (paid_at_leaf player against z) (pos 0) +ℤ leaf_sum player zs against s
+leaf_more player z zs against s = sum_more (paid_at_leaf player against) (λ y. eqb (leaf_sequence player y) s) z zs
 
 -- what was there, with what is left to add
 abbrev pub IsLeft : (ℕ → ℤ) → (ℕ → ℤ) → (ℕ → ℤ) → Type 0
@@ -42,11 +43,11 @@ pub leaf_step : (player : Player) (against : List ℕ) (before now : List ℤ) (
     (whole : ℕ → ℤ)
     → i < length leaves → slice_get leaves (i + 1 - 1) ≡ Some z
     → IsLeft (row before) (leaf_sum player (drop i leaves) against) whole
-    → AddsAt before now (leaf_sequence player z) (paid player against z)
+    → AddsAt before now (leaf_sequence player z) (paid_at_leaf player against z)
     → IsLeft (row now) (leaf_sum player (drop (i + 1) leaves) against) whole
 leaf_step player against before now leaves i z whole low is h a s =
     let more : leaf_sum player (drop i leaves) against s
-    ≡ cond (eqb (leaf_sequence player z) s) (paid player against z) (pos 0) +ℤ leaf_sum player (drop (i + 1) leaves) against s =
+    ≡ cond (eqb (leaf_sequence player z) s) (paid_at_leaf player against z) (pos 0) +ℤ leaf_sum player (drop (i + 1) leaves) against s =
     ap (λ zs. leaf_sum player zs against s) (drop_more leaves i z low ∙ ap (λ y. y ∷ drop (i + 1) leaves) (told leaves i z z is))
     ∙ leaf_more player z (drop (i + 1) leaves) against s in
     added (row before s) (row now s) _ _ _ (whole s) (h s) (a s) more
@@ -56,11 +57,6 @@ pub no_leaf_left : (player : Player) (against : List ℕ) (rows : List ℤ) (lea
     → row rows s ≡ whole s
 no_leaf_left player against rows leaves i whole le h s =
     sym (+ℤ-zero (row rows s)) ∙ ap (λ zs. row rows s +ℤ leaf_sum player zs against s) (sym (drop_all i leaves le)) ∙ h s
-
-sequence_there : (form : SequenceForm) (player : Player) (z : Leaf) → HasSequences form z
-    → leaf_sequence player z < sequence_count (player_sets form player)
-sequence_there form One z has = has.one
-sequence_there form Two z has = has.two
 
 -- each player's sequence at a leaf
 pub leaf_there : (form : SequenceForm) (player : Player) (i : ℕ) (z : Leaf) → All (HasSequences form) form.leaves
@@ -74,8 +70,9 @@ term_size true x most h = h
 term_size false x most h = omega arith
 
 -- rows within a size, where a number within another is added at one place, are within both together
-pub within_step : (before now : List ℤ) (k : ℕ) (x : ℤ) (most more : ℕ) → IsWithin most before → AddsAt before now k x
-    → unsigned_abs x ≤ more → IsWithin (most + more) now
+pub within_step : (before now : List ℤ) (k : ℕ) (x : ℤ) (most more : ℕ) → AreAllWithin most before
+    → AddsAt before now k x
+    → unsigned_abs x ≤ more → AreAllWithin (most + more) now
 within_step before now k x most more h a small s =
     omega (arith, ap unsigned_abs (a s), unsigned_abs-+ℤ (row before s) (cond (eqb k s) x (pos 0)), h s, term_size (eqb k s) x more small)
 
@@ -88,7 +85,7 @@ set_there hs k h is = let same : k + 1 - 1 ≡ k = omega arith in ap (λ i. get_
 values_more : (p : PlacedSet) (ps : List PlacedSet) (v : ℤ) (vs : List ℤ) (s : ℕ)
     → values_after (p ∷ ps) (v ∷ vs) s ≡ cond (eqb p.before s) v (pos 0) +ℤ values_after ps vs s
 values_more p ps v vs s =
-    picked (λ (q : PlacedSet × ℤ). q.1) (eqb p.before s) (p, v) (filter (λ (q : PlacedSet × ℤ). eqb q.0.before s) (zip ps vs))
+    sum_more (λ (q : PlacedSet × ℤ). q.1) (λ (q : PlacedSet × ℤ). eqb q.0.before s) (p, v) (zip ps vs)
 
 -- where a set's value is added at the sequence before it, the rows and the later sets' values still make the whole
 pub value_step : (before now : List ℤ) (hs : List PlacedSet) (vs : List ℤ) (k : ℕ) (h : PlacedSet) (whole : ℕ → ℤ)
@@ -113,14 +110,14 @@ no_value_left rows hs vs k whole le h s =
 empty : (x : ℤ) → unsigned_abs x ≤ 0 → x ≡ pos 0
 empty x h = omega (arith, ints)
 
-at_each : (rows0 rows1 rows2 : List ℤ) (sums values : ℕ → ℤ) → IsWithin 0 rows0
+at_each : (rows0 rows1 rows2 : List ℤ) (sums values : ℕ → ℤ) → AreAllWithin 0 rows0
     → ((s : ℕ) → row rows1 s ≡ row rows0 s +ℤ sums s)
     → ((s : ℕ) → row rows2 s ≡ row rows1 s +ℤ values s) → (s : ℕ) → row rows2 s ≡ sums s +ℤ values s
 at_each rows0 rows1 rows2 sums values none one two s =
     two s ∙ ap (λ x. x +ℤ values s) (one s ∙ ap (λ x. x +ℤ sums s) (empty (row rows0 s) (none s)) ∙ zero-+ℤ (sums s))
 
 -- rows of zeros, to which the leaf sums were added and then the values
-pub whole_worth : (rows0 rows1 rows2 : List ℤ) (sums values : ℕ → ℤ) → IsWithin 0 rows0
+pub whole_worth : (rows0 rows1 rows2 : List ℤ) (sums values : ℕ → ℤ) → AreAllWithin 0 rows0
     → ((s : ℕ) → row rows1 s ≡ row rows0 s +ℤ sums s) → ((s : ℕ) → row rows2 s ≡ row rows1 s +ℤ values s)
     → row rows2 ≡ (λ s. sums s +ℤ values s)
 whole_worth rows0 rows1 rows2 sums values none one two = λ i. λ s. at_each rows0 rows1 rows2 sums values none one two s i

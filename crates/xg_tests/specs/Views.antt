@@ -28,9 +28,9 @@ row rows s = slice_index_or rows s (pos 0)
 abbrev pub AddsAt : List ℤ → List ℤ → ℕ → ℤ → Type 0
 AddsAt before now k x = (s : ℕ) → row now s ≡ row before s +ℤ (if k == s then x else pos 0)
 
-abbrev pub IsWithin : ℕ → List ℤ → Type 0
-IsWithin most rows = (s : ℕ) → unsigned_abs (row rows s) ≤ most
+abbrev pub AreAllWithin : ℕ → List ℤ → Type 0
+AreAllWithin most rows = (s : ℕ) → unsigned_abs (row rows s) ≤ most
 
 -- a leaf's weight times the other player's number
-abbrev pub paid : Player → List ℕ → Leaf → ℤ
-paid player against z = z.weight *ℤ pos (slice_index against (leaf_sequence (opponent player) z))
+abbrev pub paid_at_leaf : Player → List ℕ → Leaf → ℤ
+paid_at_leaf player against z = z.weight *ℤ pos (slice_index against (leaf_sequence (opponent player) z))

@@ -7,7 +7,7 @@ ghost use Rattle.def_plan.specs.Form.{AreInOrder, leaf_sequence, placed, player_
 ghost use Rattle.def_plan.specs.Payoff.{leaf_sum, values_after};
 ghost use Rattle.xg_seq.specs.Leaves.{leaf_of};
 ghost use Rattle.xg_seq.specs.Table.{most_sequences};
-ghost use Rattle.xg_tests.specs.Views.{AddsAt, IsWithin, paid, row};
+ghost use Rattle.xg_tests.specs.Views.{AddsAt, AreAllWithin, paid_at_leaf, row};
 
 use crate::parts::place_of;
 use def_tree::Player;
@@ -30,7 +30,7 @@ fn times(w: i64, n: u64) -> i128
 
 fn add_at(rows: &mut [i128], k: usize, x: i128)
     requires there { k < length rows.old }
-    requires room { IsWithin (2 ^ 125) rows.old }
+    requires room { AreAllWithin (2 ^ 125) rows.old }
     requires small { unsigned_abs x ≤ 2 ^ 125 }
     ensures added { AddsAt rows.old rows.new k x }
     ensures same_length { length rows.new ≡ length rows.old }
@@ -61,9 +61,9 @@ fn add_leaf(player: Player, z: Leaf, against: &[u64], rows: &mut [i128])
     requires own_there { leaf_sequence player (leaf_of z) < length rows.old }
     requires other_there { leaf_sequence (opponent player) (leaf_of z) < length against.now }
     requires numbers { (s : ℕ) → slice_index against.now s ≤ most_root }
-    requires room { IsWithin (2 ^ 125) rows.old }
-    ensures added { AddsAt rows.old rows.new (leaf_sequence player (leaf_of z)) (paid player against.now (leaf_of z)) }
-    ensures small { unsigned_abs (paid player against.now (leaf_of z)) ≤ 2 ^ 99 }
+    requires room { AreAllWithin (2 ^ 125) rows.old }
+    ensures added { AddsAt rows.old rows.new (leaf_sequence player (leaf_of z)) (paid_at_leaf player against.now (leaf_of z)) }
+    ensures small { unsigned_abs (paid_at_leaf player against.now (leaf_of z)) ≤ 2 ^ 99 }
     ensures same_length { length rows.new ≡ length rows.old }
 {
     let n = against[other(player, z)];
@@ -75,10 +75,10 @@ pub(crate) fn add_leaves(form: &SeqForm, player: Player, against: &[u64], rows: 
     requires rows { length rows.old ≡ sequence_count (player_sets form.now player) }
     requires against { length against.now ≡ sequence_count (player_sets form.now (opponent player)) }
     requires numbers { (s : ℕ) → slice_index against.now s ≤ most_root }
-    requires none { IsWithin 0 rows.old }
+    requires none { AreAllWithin 0 rows.old }
     ensures sums { (s : ℕ) → row rows.new s ≡ row rows.old s +ℤ leaf_sum player form.now.leaves against.now s }
     ensures same_length { length rows.new ≡ length rows.old }
-    ensures small { IsWithin (2 ^ 119) rows.new }
+    ensures small { AreAllWithin (2 ^ 119) rows.new }
 {
     for z in 0..form.leaf_count() {
         add_leaf(player, form.leaf(z + 1), against, rows);
@@ -89,7 +89,7 @@ fn add_value(before: u32, values: &[i128], k: usize, rows: &mut [i128])
     requires there { before < length rows.old }
     requires value_there { k < length values.now }
     requires value { unsigned_abs (row values.now k) ≤ 2 ^ 100 }
-    requires room { IsWithin (2 ^ 125) rows.old }
+    requires room { AreAllWithin (2 ^ 125) rows.old }
     ensures added { AddsAt rows.old rows.new before (row values.now k) }
     ensures same_length { length rows.new ≡ length rows.old }
 {
@@ -103,7 +103,7 @@ pub(crate) fn add_values(form: &SeqForm, player: Player, values: &[i128], rows: 
     requires order { AreInOrder (player_sets form.now player) }
     requires limit { sequence_count (player_sets form.now player) ≤ most_sequences }
     requires rows { length rows.old ≡ sequence_count (player_sets form.now player) }
-    requires room { IsWithin (2 ^ 119) rows.old }
+    requires room { AreAllWithin (2 ^ 119) rows.old }
     ensures sums { (s : ℕ) → row rows.new s
         ≡ row rows.old s +ℤ values_after (placed (player_sets form.now player)) values.now s }
     ensures same_length { length rows.new ≡ length rows.old }

@@ -6,7 +6,7 @@ ghost use Rattle.def_plan.specs.Form.{AreInOrder, player_sets, sequence_count};
 ghost use Rattle.def_plan.specs.Payoff.{leaf_sum};
 ghost use Rattle.def_cert_verdict.specs.Verdict.{first_failing, whole_reply_tests};
 ghost use Rattle.xg_frac.specs.Wide.{most_wide};
-ghost use Rattle.xg_tests.specs.Views.{IsWithin, printed_reply};
+ghost use Rattle.xg_tests.specs.Views.{AreAllWithin, printed_reply};
 ghost use Rattle.xg_seq.specs.Table.{most_sequences};
 
 use crate::adding::{add_leaves, add_values};
@@ -66,7 +66,7 @@ fn fault_by_rows(
     requires from_one { pos 1 ≤ℤ end.scale }
     requires scale { unsigned_abs end.scale ≤ most_wide }
     requires rows { length rows.old ≡ sequence_count (player_sets form.now player) }
-    requires none { IsWithin 0 rows.old }
+    requires none { AreAllWithin 0 rows.old }
     requires order { AreInOrder (player_sets form.now player) }
     requires limit { sequence_count (player_sets form.now player) ≤ most_sequences }
     ensures { result ≡ first_failing

@@ -2,7 +2,7 @@
 use Rattle.std.proofs.Common.{◌≡◌, ℕ, ◌+◌, ◌-◌, ◌<◌, ◌≤◌, Bool, true, false, cond, eqb, ltb, List, [], ◌∷◌, length, get_or, set, map, take, drop, slice_index, refl, sym, ap, subst, ◌∙◌, arith, ⊎_elim, length-set}
 use Rattle.std.specs.Prelude.{ℤ, pos, ◌+ℤ◌, ◌*ℤ◌}
 use Rattle.std.specs.List.Sorted.{IsStrictlyIncreasing}
-use Rattle.std.proofs.lemmas.Bool.{cases_eq}
+use Rattle.std.proofs.lemmas.Bool.{cases_eq, eq-eqb, le-ltb, lt-ltb, ne_eqb}
 use Rattle.std.proofs.lemmas.Bool.Decides.{nat_tests}
 use Rattle.std.proofs.lemmas.List.{get_or-set_other, get_or-set_same, get_or-map, length-map, ext_get_or, get_or-take, get_or-drop, length-take, length-drop}
 use Rattle.def_sums.specs.Sum.{sum_over}
@@ -14,32 +14,32 @@ use Rattle.def_history.specs.Packets.{Entry}
 use Rattle.def_rows.specs.Rows.{amount_at, amount_in_row}
 use Rattle.def_history_rows.specs.JobRows.{form_leaf, job_leaves}
 use Rattle.xg_seq.specs.Leaves.{HasSequences}
-use Rattle.xg_rowcore.specs.Packets.{entry_at, with_added}
+use Rattle.xg_rowcore.specs.Packets.{entry_in, with_added}
 use Rattle.xg_touched.specs.declared.touched.LeafRows.{LeafRows}
 use Rattle.xg_touched.specs.declared.touched.LeafPlaces.{LeafPlaces}
 use Rattle.xg_touched.specs.Touched.{leaf_rows}
 use Rattle.xg_touched.specs.Places.{rows_at}
-use Rattle.xg_touched.specs.Filling.{amount_upto, entries_with}
+use Rattle.xg_touched.specs.Filling.{amount_upto, entries_at_rows}
 use Rattle.xg_touched.proofs.Rising.{differ}
 use Rattle.xg_touched.proofs.Leaves.{leaves_more}
 
 -- the entry of a row at a place
 pub entry_with : (f : ℕ → ℤ) (rows : List ℕ) (i : ℕ) → i < length rows
-    → entry_at (entries_with f rows) i ≡ record { row = get_or rows i 0; amount = f (get_or rows i 0) }
+    → entry_in (entries_at_rows f rows) i ≡ record { row = get_or rows i 0; amount = f (get_or rows i 0) }
 entry_with f rows i below = get_or-map (λ (row : ℕ). let e : Entry = record { row = row; amount = f row } in e) rows i 0 (record { row = 0; amount = pos 0 }) below
 
 -- so much more at one place is so much more at its row
 pub added : (f : ℕ → ℤ) (rows : List ℕ) (i : ℕ) (a : ℤ) → IsStrictlyIncreasing rows → i < length rows
-    → with_added (entries_with f rows) i a
-    ≡ entries_with (λ row. f row +ℤ cond (eqb row (get_or rows i 0)) a (pos 0)) rows
+    → with_added (entries_at_rows f rows) i a
+    ≡ entries_at_rows (λ row. f row +ℤ cond (eqb row (get_or rows i 0)) a (pos 0)) rows
 added f rows i a up below =
     let none : Entry = record { row = 0; amount = pos 0 } in
     let r : ℕ = get_or rows i 0 in
     let g : ℕ → Entry = λ row. record { row = row; amount = f row } in
     let h : ℕ → Entry = λ row. record { row = row; amount = f row +ℤ cond (eqb row r) a (pos 0) } in
-    let x : Entry = record { row = (entry_at (map g rows) i).row; amount = (entry_at (map g rows) i).amount +ℤ a } in
+    let x : Entry = record { row = (entry_in (map g rows) i).row; amount = (entry_in (map g rows) i).amount +ℤ a } in
     let inside : i < length (map g rows) = omega (arith, length-map rows g) in
-    let here : eqb r r ≡ true = same_number r in
+    let here : eqb r r ≡ true = eq-eqb r r refl in
     let entry = entry_with f rows i below in
     let at_place : get_or (set (map g rows) i x) i none ≡ get_or (map h rows) i none =
     get_or-set_same (map g rows) i x none inside
@@ -52,48 +52,30 @@ added f rows i a up below =
     ⊎_elim
     (λ same. subst (λ k. get_or (set (map g rows) i x) k none ≡ get_or (map h rows) k none) (sym same) at_place)
     (λ other.
-    let elsewhere : eqb (get_or rows j 0) r ≡ false = other_number (get_or rows j 0) r (differ rows up i j below low_j other) in
+    let elsewhere : eqb (get_or rows j 0) r ≡ false = ne_eqb (get_or rows j 0) r (differ rows up i j below low_j other) in
     get_or-set_other (map g rows) i j x none other
     ∙ get_or-map g rows j 0 none low_j
     ∙ ap (λ (n : ℤ). let e : Entry = record { row = get_or rows j 0; amount = n } in e) (sym (+ℤ-zero (f (get_or rows j 0))) ∙ ap (λ b. f (get_or rows j 0) +ℤ cond b a (pos 0)) (sym elsewhere))
     ∙ sym (get_or-map h rows j 0 none low_j))
     (cases_eq j i))
-  where
-    same_number : (n : ℕ) → eqb n n ≡ true
-    same_number n = grind (arith, nat_tests)
-
-    other_number : (m n : ℕ) → (m ≡ n → ⊥) → eqb m n ≡ false
-    other_number m n apart = grind (arith, nat_tests)
 
 -- what a leaf adds to the row of player one's sequence, and to that of player two's
 pub to_one : (form : SequenceForm) (one two : List ℕ) (z : Leaf) → HasSequences form z
     → amount_in_row form one two z z.sequence_one ≡ z.weight *ℤ pos (slice_index two z.sequence_two)
 to_one form one two z fit =
-    let inside : ltb z.sequence_one (sequence_count form.sets_one) ≡ true = below_count z.sequence_one (sequence_count form.sets_one) fit.one in
-    let same : eqb z.sequence_one z.sequence_one ≡ true = same_number z.sequence_one in
+    let inside : ltb z.sequence_one (sequence_count form.sets_one) ≡ true = lt-ltb z.sequence_one (sequence_count form.sets_one) fit.one in
+    let same : eqb z.sequence_one z.sequence_one ≡ true = eq-eqb z.sequence_one z.sequence_one refl in
     rw (inside, same) refl
-  where
-    below_count : (s n : ℕ) → s < n → ltb s n ≡ true
-    below_count s n h = grind (arith, nat_tests)
-
-    same_number : (n : ℕ) → eqb n n ≡ true
-    same_number n = grind (arith, nat_tests)
 
 pub to_two : (form : SequenceForm) (one two : List ℕ) (z : Leaf)
     → amount_in_row form one two z (sequence_count form.sets_one + z.sequence_two)
     ≡ z.weight *ℤ pos (slice_index one z.sequence_one)
 to_two form one two z = past (sequence_count form.sets_one)
   where
-    outside : (n s : ℕ) → ltb (n + s) n ≡ false
-    outside n s = grind (arith, nat_tests)
-
-    same_number : (n s : ℕ) → eqb s (n + s - n) ≡ true
-    same_number n s = grind (arith, nat_tests)
-
     past : (n : ℕ)
         → cond (ltb (n + z.sequence_two) n) (amount_at One two z (n + z.sequence_two)) (amount_at Two one z (n + z.sequence_two - n))
         ≡ z.weight *ℤ pos (slice_index one z.sequence_one)
-    past n = rw (outside n z.sequence_two, same_number n z.sequence_two) refl
+    past n = rw (le-ltb (n + z.sequence_two) n (omega arith), eq-eqb z.sequence_two (n + z.sequence_two - n) (omega arith)) refl
 
 -- at each row, these are the two parts
 leaf_parts : (form : SequenceForm) (one two : List ℕ) (z : Leaf) (row : ℕ) → HasSequences form z
@@ -140,12 +122,12 @@ upto_more form one two first k row there =
 -- with the leaf's amounts at its places, the entries are those of one leaf more
 pub next_leaf : (form : SequenceForm) (one two : List ℕ) (first k i j : ℕ) (entries : List Entry) (rows : List ℕ)
     (z : Leaf)
-    → entries ≡ entries_with (amount_upto form one two first k) rows
+    → entries ≡ entries_at_rows (amount_upto form one two first k) rows
     → IsStrictlyIncreasing rows → i < length rows → j < length rows
     → get_or rows i 0 ≡ z.sequence_one → get_or rows j 0 ≡ sequence_count form.sets_one + z.sequence_two
     → first + k < length form.leaves → form_leaf form (first + k) ≡ z → HasSequences form z
     → with_added (with_added entries i (z.weight *ℤ pos (slice_index two z.sequence_two))) j (z.weight *ℤ pos (slice_index one z.sequence_one))
-    ≡ entries_with (amount_upto form one two first (k + 1)) rows
+    ≡ entries_at_rows (amount_upto form one two first (k + 1)) rows
 next_leaf form one two first k i j entries rows z before up low_i low_j is_i is_j there read fit =
     let f : ℕ → ℤ = amount_upto form one two first k in
     let a : ℤ = z.weight *ℤ pos (slice_index two z.sequence_two) in
@@ -159,19 +141,19 @@ next_leaf form one two first k i j entries rows z before up low_i low_j is_i is_
     ap (λ es. with_added (with_added es i a) j b) before
     ∙ ap (λ es. with_added es j b) (added f rows i a up low_i)
     ∙ added (λ row. f row +ℤ cond (eqb row (get_or rows i 0)) a (pos 0)) rows j b up low_j
-    ∙ (λ t. entries_with (λ row. each row t) rows)
+    ∙ (λ t. entries_at_rows (λ row. each row t) rows)
 
 -- the amounts at the leaf's places are then those of one leaf more
 pub one_next : (form : SequenceForm) (one two : List ℕ) (first k i : ℕ) (entries : List Entry) (rows : List ℕ)
     (z : Leaf)
-    → entries ≡ entries_with (amount_upto form one two first k) rows
+    → entries ≡ entries_at_rows (amount_upto form one two first k) rows
     → i < length rows → get_or rows i 0 ≡ z.sequence_one
     → first + k < length form.leaves → form_leaf form (first + k) ≡ z → HasSequences form z
-    → (entry_at entries i).amount +ℤ z.weight *ℤ pos (slice_index two z.sequence_two)
+    → (entry_in entries i).amount +ℤ z.weight *ℤ pos (slice_index two z.sequence_two)
     ≡ amount_upto form one two first (k + 1) z.sequence_one
 one_next form one two first k i entries rows z before low is there read fit =
     let f : ℕ → ℤ = amount_upto form one two first k in
-    ap (λ es. (entry_at es i).amount +ℤ z.weight *ℤ pos (slice_index two z.sequence_two)) before
+    ap (λ es. (entry_in es i).amount +ℤ z.weight *ℤ pos (slice_index two z.sequence_two)) before
     ∙ ap (λ (e : Entry). e.amount +ℤ z.weight *ℤ pos (slice_index two z.sequence_two)) (entry_with f rows i low)
     ∙ (λ t. f (is t) +ℤ sym (to_one form one two z fit) t)
     ∙ sym (upto_more form one two first k z.sequence_one there ∙ ap (λ x. f z.sequence_one +ℤ amount_in_row form one two x z.sequence_one) read)
@@ -179,11 +161,11 @@ one_next form one two first k i entries rows z before low is there read fit =
 -- once player one's amount is added, player two's makes the amount at its place that of one leaf more
 pub two_next : (form : SequenceForm) (one two : List ℕ) (first k i j : ℕ) (entries : List Entry) (rows : List ℕ)
     (z : Leaf)
-    → entries ≡ entries_with (amount_upto form one two first k) rows
+    → entries ≡ entries_at_rows (amount_upto form one two first k) rows
     → IsStrictlyIncreasing rows → i < length rows → j < length rows
     → get_or rows i 0 ≡ z.sequence_one → get_or rows j 0 ≡ sequence_count form.sets_one + z.sequence_two
     → first + k < length form.leaves → form_leaf form (first + k) ≡ z → HasSequences form z
-    → (entry_at (with_added entries i (z.weight *ℤ pos (slice_index two z.sequence_two))) j).amount +ℤ z.weight *ℤ pos (slice_index one z.sequence_one)
+    → (entry_in (with_added entries i (z.weight *ℤ pos (slice_index two z.sequence_two))) j).amount +ℤ z.weight *ℤ pos (slice_index one z.sequence_one)
     ≡ amount_upto form one two first (k + 1) (sequence_count form.sets_one + z.sequence_two)
 two_next form one two first k i j entries rows z before up low_i low_j is_i is_j there read fit =
     let f : ℕ → ℤ = amount_upto form one two first k in
@@ -191,8 +173,8 @@ two_next form one two first k i j entries rows z before up low_i low_j is_i is_j
     let b : ℤ = z.weight *ℤ pos (slice_index one z.sequence_one) in
     let r : ℕ = sequence_count form.sets_one + z.sequence_two in
     let other : eqb r z.sequence_one ≡ false = apart (sequence_count form.sets_one) z.sequence_two z.sequence_one fit.one in
-    ap (λ es. (entry_at (with_added es i a) j).amount +ℤ b) before
-    ∙ ap (λ es. (entry_at es j).amount +ℤ b) (added f rows i a up low_i)
+    ap (λ es. (entry_in (with_added es i a) j).amount +ℤ b) before
+    ∙ ap (λ es. (entry_in es j).amount +ℤ b) (added f rows i a up low_i)
     ∙ ap (λ (e : Entry). e.amount +ℤ b) (entry_with (λ row. f row +ℤ cond (eqb row (get_or rows i 0)) a (pos 0)) rows j low_j)
     ∙ (λ t. (f (is_j t) +ℤ cond (eqb (is_j t) (is_i t)) a (pos 0)) +ℤ b)
     ∙ ap (λ x. (f r +ℤ cond x a (pos 0)) +ℤ b) other

@@ -1,37 +1,13 @@
 -- The sizes of what leaves bring to a row.
-use Rattle.std.proofs.Common.{ℕ, zero, suc, ◌-◌, ◌*◌, ◌^◌, ◌<◌, ◌≤◌, Bool, true, false, cond, eqb, ltb, List, [], ◌∷◌, get_or, take, drop, All, slice_index, arith}
-use Rattle.std.specs.Prelude.{pos, ◌*ℤ◌, unsigned_abs}
-use Rattle.std.proofs.lemmas.Int.{unsigned_abs-mul}
-use Rattle.std.proofs.Math.Nat.{mul-le-mul_left}
+use Rattle.std.proofs.Common.{ℕ, zero, suc, ◌-◌, ◌*◌, ◌^◌, ◌<◌, ◌≤◌, List, [], ◌∷◌, get_or, take, drop, All, slice_index, arith}
+use Rattle.std.specs.Prelude.{unsigned_abs}
 use Rattle.def_sums.specs.Limits.{most_mass, most_root}
 use Rattle.def_sums.proofs.SumLaws.{unsigned_abs-sum_over, nat_sum_over-mono, nat_sum_over-factor}
-use Rattle.def_tree.specs.declared.Player.{Player}
-use Rattle.def_tree.specs.declared.Player.TheVariants.{One, Two}
-use Rattle.def_tree.specs.Opponent.{opponent}
-use Rattle.def_plan.specs.Form.{SequenceForm, Leaf, sequence_count, leaf_sequence}
+use Rattle.def_plan.specs.Form.{SequenceForm, Leaf}
 use Rattle.def_plan.specs.Payoff.{mass_of}
-use Rattle.def_rows.specs.Rows.{amount_at, amount_in_row}
+use Rattle.def_rows.specs.Rows.{amount_in_row}
+use Rattle.def_history_rows.proofs.Amounts.{row_size}
 use Rattle.xg_touched.specs.Filling.{amount_upto}
-
-amount_size : (player : Player) (against : List ℕ) (bound : ℕ) (z : Leaf) (s : ℕ)
-    → ((t : ℕ) → slice_index against t ≤ bound)
-    → unsigned_abs (amount_at player against z s) ≤ unsigned_abs z.weight * bound
-amount_size player against bound z s small = by_test (eqb (leaf_sequence player z) s)
-  where
-    by_test : (b : Bool)
-        → unsigned_abs (cond b (z.weight *ℤ pos (slice_index against (leaf_sequence (opponent player) z))) (pos 0)) ≤ unsigned_abs z.weight * bound
-    by_test true = omega (arith, unsigned_abs-mul z.weight (pos (slice_index against (leaf_sequence (opponent player) z))), mul-le-mul_left (unsigned_abs z.weight) (small (leaf_sequence (opponent player) z)))
-    by_test false = omega arith
-
-row_size : (form : SequenceForm) (one two : List ℕ) (bound : ℕ) (z : Leaf) (row : ℕ)
-    → ((s : ℕ) → slice_index one s ≤ bound) → ((s : ℕ) → slice_index two s ≤ bound)
-    → unsigned_abs (amount_in_row form one two z row) ≤ unsigned_abs z.weight * bound
-row_size form one two bound z row small_one small_two = by_test (ltb row (sequence_count form.sets_one))
-  where
-    by_test : (b : Bool)
-        → unsigned_abs (cond b (amount_at One two z row) (amount_at Two one z (row - sequence_count form.sets_one))) ≤ unsigned_abs z.weight * bound
-    by_test true = amount_size One two bound z row small_two
-    by_test false = amount_size Two one bound z (row - sequence_count form.sets_one) small_one
 
 mass_take : (k : ℕ) (leaves : List Leaf) → mass_of (take k leaves) ≤ mass_of leaves
 mass_take zero leaves = omega arith

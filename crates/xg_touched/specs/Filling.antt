@@ -6,8 +6,8 @@ use Rattle.def_history.specs.Packets.{Entry}
 use Rattle.def_rows.specs.Rows.{amount_in_row}
 
 -- these rows with their amounts
-abbrev pub entries_with : (ℕ → ℤ) → List ℕ → List Entry
-entries_with amount rows = map (λ row. record { row = row; amount = amount row }) rows
+abbrev pub entries_at_rows : (ℕ → ℤ) → List ℕ → List Entry
+entries_at_rows amount rows = map (λ row. record { row = row; amount = amount row }) rows
 
 -- what so many leaves behind the first ones bring to a row
 abbrev pub amount_upto : SequenceForm → List ℕ → List ℕ → ℕ → ℕ → ℕ → ℤ

@@ -1,7 +1,7 @@
 ghost use Rattle.std.specs.Prelude.{◌≡◌, ◌+◌, ◌^◌, ◌<◌, ◌≤◌, [], length, pos, slice_index, unsigned_abs, ◌+ℤ◌, ◌*ℤ◌};
 ghost use Rattle.std.specs.List.Sorted.{IsStrictlyIncreasing};
-ghost use Rattle.xg_rowcore.specs.Packets.{entry_at, with_added};
-ghost use Rattle.xg_touched.specs.Filling.{entries_with};
+ghost use Rattle.xg_rowcore.specs.Packets.{entry_in, with_added};
+ghost use Rattle.xg_touched.specs.Filling.{entries_at_rows};
 
 use crate::touched::LeafPlaces;
 use xg_rowcore::Packet;
@@ -14,7 +14,7 @@ pub(crate) fn put_rows(rows: &[u32], into: &mut Packet)
     requires room { length rows.now ≤ into.old.entries.room }
     ensures job { into.new.job ≡ into.old.job }
     ensures entries { into.new.entries ≡ record {
-      list = entries_with (λ _. pos 0) rows.now;
+      list = entries_at_rows (λ _. pos 0) rows.now;
       room = into.old.entries.room;
     } }
 {
@@ -32,10 +32,10 @@ pub(crate) fn add_leaf(leaf: Leaf, places: LeafPlaces, one: &[u64], two: &[u64],
     requires there_one { places.one < length into.old.entries.list }
     requires there_two { places.two < length into.old.entries.list }
     requires fits_one { let more = leaf.w *ℤ pos (slice_index two.now leaf.seq2) in
-        unsigned_abs ((entry_at into.old.entries.list places.one).amount +ℤ more) < 2 ^ 127 }
+        unsigned_abs ((entry_in into.old.entries.list places.one).amount +ℤ more) < 2 ^ 127 }
     requires fits_two { let more = leaf.w *ℤ pos (slice_index two.now leaf.seq2) in
         let between = with_added into.old.entries.list places.one more in
-        unsigned_abs ((entry_at between places.two).amount +ℤ leaf.w *ℤ pos (slice_index one.now leaf.seq1)) < 2 ^ 127 }
+        unsigned_abs ((entry_in between places.two).amount +ℤ leaf.w *ℤ pos (slice_index one.now leaf.seq1)) < 2 ^ 127 }
     ensures job { into.new.job ≡ into.old.job }
     ensures entries { let more = leaf.w *ℤ pos (slice_index two.now leaf.seq2) in
         let between = with_added into.old.entries.list places.one more in

@@ -2,7 +2,7 @@ ghost use Rattle.std.specs.Prelude.{◌≡◌, ◌+◌, ◌≤◌, length, All, 
 ghost use Rattle.def_sums.specs.Limits.{most_root};
 ghost use Rattle.def_plan.specs.Form.{sequence_count};
 ghost use Rattle.def_history_rows.specs.JobPackets.{packet_of};
-ghost use Rattle.xg_touched.specs.Filling.{amount_upto, entries_with};
+ghost use Rattle.xg_touched.specs.Filling.{amount_upto, entries_at_rows};
 ghost use Rattle.xg_touched.specs.Touched.{job_rows};
 
 use crate::building::{places_of, rows_of};
@@ -105,10 +105,10 @@ impl TouchedRows {
         requires count_two { length two.now ≡ sequence_count form.now.sets_two }
         requires small_one { All (λ n. n ≤ most_root) one.now }
         requires small_two { All (λ n. n ≤ most_root) two.now }
-        requires nothing { into.old.entries.list ≡ entries_with (λ _. pos 0) self.now.rows }
+        requires nothing { into.old.entries.list ≡ entries_at_rows (λ _. pos 0) self.now.rows }
         ensures job { into.new.job ≡ into.old.job }
         ensures entries { into.new.entries ≡ record {
-          list = entries_with (amount_upto form.now one.now two.now first (length self.now.leaves)) self.now.rows;
+          list = entries_at_rows (amount_upto form.now one.now two.now first (length self.now.leaves)) self.now.rows;
           room = into.old.entries.room;
         } }
     {

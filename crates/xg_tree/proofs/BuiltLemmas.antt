@@ -11,7 +11,7 @@ use Rattle.def_tree.proofs.Sets.{KeepRules-push, children-le}
 use Rattle.def_tree.proofs.Lists.{wanted-append, Begins-append}
 use Rattle.xg_tree.specs.Sizes.{SizeLists, with_size}
 use Rattle.xg_tree.specs.Built.{IsBuilt}
-use Rattle.xg_tree.specs.Kept.{IsKept}
+use Rattle.xg_tree.specs.Kept.{IsKeptTree}
 use Rattle.xg_tree.proofs.SizesLemmas.{HoldSizes-push, no_sizes}
 
 pub all_few : (nodes : List Node) → KeepRules nodes → All (λ node. node.children ≤ 1024) nodes
@@ -65,7 +65,7 @@ no_nodes = record {
 
 -- where no node is wanted any more, the nodes are a tree's
 pub kept_of_built : (nodes : List Node) (wanting ended : ℕ) (sizes : SizeLists) → IsBuilt nodes wanting ended sizes
-    → wanted 1 nodes ≡ 0 → IsKept nodes ended
+    → wanted 1 nodes ≡ 0 → IsKeptTree nodes ended
 kept_of_built nodes wanting ended sizes built none = record { whole = record { begins = built.begins; ends = none }; rules = built.rules; limit = built.limit; ends = built.ends }
 
 -- what is built of some nodes is built of equal ones, with equal counts of leaves and equal sizes

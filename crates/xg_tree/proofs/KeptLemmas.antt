@@ -6,14 +6,14 @@ use Rattle.def_tree.specs.Tree.{Forest, forest_of, prefix, IsTree}
 use Rattle.def_tree.specs.Rules.{IsGameTree, KeepRules}
 use Rattle.def_tree.proofs.Forests.{prefix-forest_of}
 use Rattle.def_tree.proofs.Lists.{tree_of_whole}
-use Rattle.xg_tree.specs.Kept.{IsKept}
+use Rattle.xg_tree.specs.Kept.{IsKeptTree}
 
 -- the tree that some nodes make has these nodes in prefix order
 pub prefix_seen : (nodes : List Node) (tree : Forest) → forest_of nodes ≡ tree → prefix tree ≡ nodes
 prefix_seen nodes tree e = ap prefix (sym e) ∙ prefix-forest_of nodes
 
 -- the tree that kept nodes make is one of a game
-pub game_tree_seen : (nodes : List Node) (ended : ℕ) (tree : Forest) → forest_of nodes ≡ tree → IsKept nodes ended
+pub game_tree_seen : (nodes : List Node) (ended : ℕ) (tree : Forest) → forest_of nodes ≡ tree → IsKeptTree nodes ended
     → IsGameTree tree
 game_tree_seen nodes ended tree e h =
     let same : prefix tree ≡ nodes = prefix_seen nodes tree e in

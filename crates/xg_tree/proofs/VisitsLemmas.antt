@@ -9,7 +9,7 @@ use Rattle.def_tree.specs.Tree.{Forest, bare, grown, forest_of, prefix, take_tre
 use Rattle.def_tree.specs.Events.{Event, Enter, Leave, events_from, events, Accepts, Leads}
 use Rattle.def_tree.proofs.Forests.{prefix-forest_of, forest_of-prefix_whole}
 use Rattle.def_tree.proofs.Lists.{trees_of}
-use Rattle.xg_tree.specs.Kept.{IsKept}
+use Rattle.xg_tree.specs.Kept.{IsKeptTree}
 use Rattle.xg_tree.specs.Visits.{row_at, row_events, row_end, HasTreesAt}
 
 module _ {V : Type 0} (may_enter : V → ℕ → Node → Type 0) (enters : V → ℕ → Node → V → Type 0) (may_leave : V → ℕ → Type 0) (leaves : V → ℕ → V → Type 0) where
@@ -152,7 +152,7 @@ pub row_split : (nodes : List Node) (at count : ℕ) → HasTreesAt nodes at (su
 row_split nodes at count has = split_at nodes at count (forest_of (drop at nodes)) refl has
 
 -- in nodes that are kept a whole tree stands from the first place on
-pub trees_of_kept : (nodes : List Node) (ended : ℕ) → IsKept nodes ended → HasTreesAt nodes 0 1
+pub trees_of_kept : (nodes : List Node) (ended : ℕ) → IsKeptTree nodes ended → HasTreesAt nodes 0 1
 trees_of_kept nodes ended kept =
     let trees : (tree_count (forest_of nodes) ≡ 1) × HasItsChildren (forest_of nodes) = trees_of 1 nodes kept.whole.begins kept.whole.ends in
     record { limit = kept.limit; some = omega (arith, trees.0); children = trees.1 }
@@ -248,7 +248,7 @@ take_trees-all bare = refl
 take_trees-all (grown node below beside) = ap (grown node below) (take_trees-all beside)
 
 -- the walk from the first place on is the walk through the tree
-pub events_seen : (nodes : List Node) (ended : ℕ) (tree : Forest) → forest_of nodes ≡ tree → IsKept nodes ended
+pub events_seen : (nodes : List Node) (ended : ℕ) (tree : Forest) → forest_of nodes ≡ tree → IsKeptTree nodes ended
     → row_events nodes 0 1 ≡ events tree
 events_seen nodes ended tree e kept =
     let trees : (tree_count (forest_of nodes) ≡ 1) × HasItsChildren (forest_of nodes) = trees_of 1 nodes kept.whole.begins kept.whole.ends in

@@ -2,7 +2,7 @@ ghost use Rattle.std.specs.Prelude.{◌≡◌, ◌-◌, ◌≤◌, slice_get};
 ghost use Rattle.def_tree.specs.Events.{Accepts, Leads, events};
 ghost use Rattle.def_tree.specs.Rules.{IsGameTree};
 ghost use Rattle.def_tree.specs.Tree.{forest_of, leaf_count, node_count, prefix};
-ghost use Rattle.xg_tree.specs.Kept.{IsKept};
+ghost use Rattle.xg_tree.specs.Kept.{IsKeptTree};
 ghost use Rattle.xg_tree.specs.Visits.{HasTreesAt, row_end, row_events};
 
 use crate::visitor::Visitor;
@@ -26,17 +26,17 @@ impl Model for Tree {
 
     ghost coded = { forest_code };
 
-    ghost use Rattle.xg_tree.specs.Kept.{IsKept};
+    ghost use Rattle.xg_tree.specs.Kept.{IsKeptTree};
 
     ghost view = { λ t. forest_of t.nodes.items };
 
-    ghost invariant = { λ t. IsKept t.nodes.items t.leaves };
+    ghost invariant = { λ t. IsKeptTree t.nodes.items t.leaves };
 }
 
 impl Tree {
     // The tree of these nodes, among which are so many leaves.
     pub(crate) fn of(nodes: Vec<Node>, leaves: u32) -> Tree
-        requires { IsKept nodes.items leaves }
+        requires { IsKeptTree nodes.items leaves }
         ensures { result ≡ forest_of nodes.items }
     {
         Tree { nodes, leaves }

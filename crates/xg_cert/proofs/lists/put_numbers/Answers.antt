@@ -2,8 +2,10 @@ use Rattle.std.proofs.Common.{◌≡◌, ◌∙◌, subst, arith, length, rules,
 use Rattle.std.specs.Fmt.{decimal}
 use Rattle.def_cert_text.specs.Fields.{feed, items_text}
 use Rattle.def_cert_text.specs.Formats.{row_items}
-use Rattle.xg_cert.specs.Writes.{Writes, field_text}
-use Rattle.xg_cert.proofs.Written.{goes_on, fails, finishes, row_left, row_last}
+use Rattle.def_outside.specs.Sinks.{Writes}
+use Rattle.xg_cert.specs.Writes.{field_text}
+use Rattle.xg_io.proofs.Pieces.{goes_on, fails, finishes}
+use Rattle.xg_cert.proofs.Written.{row_left, row_last}
 use Rattle.xg_cert.proofs.lists.put_numbers.Goals as goal
 
 pub returns-in_err-put_whole-clause-text : goal.returns-in_err-put_whole-clause-text

@@ -6,7 +6,8 @@ use Rattle.def_cert_accepted.specs.OfOutcome.{by_sets}
 use Rattle.def_cert_text.specs.Fields.{items_text}
 use Rattle.def_cert_text.specs.Formats.{each_items, text_of}
 use Rattle.def_cert_text.specs.CertText.{weights_line}
-use Rattle.xg_cert.proofs.Written.{Progress, goes_on, fails, finished}
+use Rattle.xg_io.proofs.Known.{Progress, whole}
+use Rattle.xg_io.proofs.Pieces.{goes_on, fails}
 use Rattle.xg_cert.proofs.SetLines.{next_set, no_set_left}
 use Rattle.xg_cert.proofs.lists.put_weights.Goals as goal
 
@@ -52,6 +53,5 @@ pub returns-clause-text : goal.returns-clause-text
 returns-clause-text g c =
     let sets = player_sets c.args.form.now c.args.player in
     let all : List ℕ = items_text (each_items weights_line 1 (by_sets sets c.args.weights.now)) in
-    finished _ _ all
-    (subst (Progress (g.O.Sink.written c.args.out.now) (g.O.Sink.written c.sets.out) all) (no_set_left sets (c.sets.i + 1) c.sets.i c.sets.rest.now (omega (arith, c.sets-test.false, c.set_count-i-end.ensures)))
-    c.sets.invariant.so_far)
+    whole _ (g.O.Sink.written c.sets.out) all _ c.sets.invariant.so_far
+    (no_set_left sets (c.sets.i + 1) c.sets.i c.sets.rest.now (omega (arith, c.sets-test.false, c.set_count-i-end.ensures)))

@@ -1,5 +1,5 @@
 use Rattle.std.proofs.Common.{ℕ, List, subst}
-use Rattle.xg_cert.specs.Writes.{Writes}
+use Rattle.def_outside.specs.Sinks.{Writes}
 use Rattle.xg_cert.proofs.Pieces.{pieces}
 use Rattle.xg_cert.proofs.writing.put_cert.Goals as goal
 

@@ -4,7 +4,7 @@ use Rattle.def_outside.specs.Sinks.{AppendsPrefix}
 use Rattle.def_bracket.specs.Outcome.{Head}
 use Rattle.def_cert_text.specs.CertText.{last_text}
 use Rattle.xg_cert.specs.Writable.{above_text, below_text}
-use Rattle.xg_cert.proofs.Written.{prefix_first, prefix_then}
+use Rattle.xg_io.proofs.Pieces.{prefix_first, prefix_then}
 use Rattle.xg_cert.proofs.writing.put_pieces.Goals as goal
 
 pub returns-in_err-put_above-clause-text : goal.returns-in_err-put_above-clause-text

@@ -5,7 +5,8 @@ use Rattle.def_cert_accepted.specs.OfOutcome.{by_sets}
 use Rattle.def_cert_text.specs.Fields.{feed, items_text}
 use Rattle.def_cert_text.specs.Formats.{each_items}
 use Rattle.def_cert_text.specs.CertText.{weights_line}
-use Rattle.xg_cert.specs.Writes.{Writes, named_text}
+use Rattle.def_outside.specs.Sinks.{Writes}
+use Rattle.xg_cert.specs.Writes.{named_text}
 use Rattle.xg_cert.proofs.Written.{then_field, then_two}
 use Rattle.xg_cert.proofs.SetLines.{numbers_behind}
 use Rattle.xg_cert.proofs.writing.put_plan.Goals as goal

@@ -2,7 +2,8 @@ use Rattle.std.proofs.Common.{◌++◌, ap, sym, ◌∙◌}
 use Rattle.def_cert_verdict.specs.Verdict.{first_failing, first_trace_line, trace_tests}
 use Rattle.xg_cert.specs.Printed.{bounds_in}
 use Rattle.xg_check.specs.Parts.{tests_of_plans, tests_of_replies}
-use Rattle.xg_check.proofs.Stages.{bounds_parts, rest_decides, stage_stops}
+use Rattle.xg_check.proofs.Stages.{bounds_parts, rest_decides}
+use Rattle.xg_tests.proofs.TestLemmas.{front_stops}
 use Rattle.xg_check.proofs.judging.fault_of_bounds.Goals as goal
 
 pub returns-then-is_some : goal.returns-then-is_some
@@ -10,7 +11,7 @@ returns-then-is_some c =
     let game = c.args.numbers.now in
     let scale = c.args.cert.now.head.scale in
     let b = bounds_in c.args.cert.now in
-    stage_stops c.fault_of_plans-fault.result (tests_of_plans game scale b) (tests_of_replies game b ++ trace_tests first_trace_line b.trace) c.fault_of_plans-fault.ensures.exact (sym c.is_some.ensures ∙ c.if-is_some.true)
+    front_stops c.fault_of_plans-fault.result (tests_of_plans game scale b) (tests_of_replies game b ++ trace_tests first_trace_line b.trace) c.fault_of_plans-fault.ensures.exact (sym c.is_some.ensures ∙ c.if-is_some.true)
     ∙ ap first_failing (bounds_parts game scale b)
 
 pub returns-then-is_some-2 : goal.returns-then-is_some-2
@@ -18,7 +19,7 @@ returns-then-is_some-2 c =
     let game = c.args.numbers.now in
     let scale = c.args.cert.now.head.scale in
     let b = bounds_in c.args.cert.now in
-    stage_stops c.in_ok-fault.fault (tests_of_replies game b) (trace_tests first_trace_line b.trace) c.in_ok-fault.ensures (sym c.is_some-2.ensures ∙ c.if-is_some-2.true)
+    front_stops c.in_ok-fault.fault (tests_of_replies game b) (trace_tests first_trace_line b.trace) c.in_ok-fault.ensures (sym c.is_some-2.ensures ∙ c.if-is_some-2.true)
     ∙ rest_decides c.fault_of_plans-fault.result (tests_of_plans game scale b) (tests_of_replies game b ++ trace_tests first_trace_line b.trace) c.fault_of_plans-fault.ensures.exact (sym c.is_some.ensures ∙ c.if-is_some.false)
     ∙ ap first_failing (bounds_parts game scale b)
 

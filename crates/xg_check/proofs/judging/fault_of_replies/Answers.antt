@@ -2,12 +2,13 @@ use Rattle.std.proofs.Common.{sym, ◌∙◌}
 use Rattle.def_tree.specs.declared.Player.TheVariants.{One, Two}
 use Rattle.xg_cert.specs.Printed.{bounds_in}
 use Rattle.xg_check.specs.Parts.{tests_of_reply}
-use Rattle.xg_check.proofs.Stages.{if_ok_same, rest_decides, stage_stops}
+use Rattle.xg_check.proofs.Stages.{if_ok_same, rest_decides}
+use Rattle.xg_tests.proofs.TestLemmas.{front_stops}
 use Rattle.xg_check.proofs.judging.fault_of_replies.Goals as goal
 
 pub returns-then-is_some : goal.returns-then-is_some
 returns-then-is_some c =
-    stage_stops c.in_ok-fault.fault (tests_of_reply Two c.args.numbers.now (bounds_in c.args.cert.now)) (tests_of_reply One c.args.numbers.now (bounds_in c.args.cert.now)) c.in_ok-fault.ensures (sym c.is_some.ensures ∙ c.if-is_some.true)
+    front_stops c.in_ok-fault.fault (tests_of_reply Two c.args.numbers.now (bounds_in c.args.cert.now)) (tests_of_reply One c.args.numbers.now (bounds_in c.args.cert.now)) c.in_ok-fault.ensures (sym c.is_some.ensures ∙ c.if-is_some.true)
 
 pub returns : goal.returns
 returns c =

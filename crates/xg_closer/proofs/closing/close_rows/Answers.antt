@@ -4,9 +4,9 @@ use Rattle.std.proofs.lemmas.Int.{fits_signed_from_abs}
 use Rattle.def_plan.specs.Form.{InformationSet, player_sets}
 use Rattle.def_round.specs.Round.{regrets_after}
 use Rattle.def_round.specs.Sizes.{size_of_sums}
-use Rattle.xg_closer.specs.Rows.{amount_of}
 use Rattle.xg_closer.proofs.Closed.{own_regrets, same_amounts, worths_small, worths_together}
 use Rattle.xg_closer.proofs.closing.close_rows.Goals as goal
+use Rattle.def_rows.specs.Rows.{amount_of}
 
 pub close_sets-requires-clause-small : goal.close_sets-requires-clause-small
 close_sets-requires-clause-small c =

@@ -1,4 +1,5 @@
 use Rattle.std.proofs.Common.{◌≡◌, ◌+ℤ◌, FitsSigned, map, subst, to_z, of_z, arith, ap, rules, sym, ◌∙◌}
+use Rattle.def_rows.specs.Rows.{amount_of}
 use mir.Syntax.{w128}
 use Rattle.std.specs.Int.{int_wrap}
 use Rattle.std.proofs.lemmas.Int.{to_z-of_z}
@@ -6,7 +7,6 @@ use Rattle.def_plan.specs.Form.{PlacedSet}
 use Rattle.def_round.specs.Play.{regret_of}
 use Rattle.xg_closer.specs.Closing.{value_by}
 use Rattle.xg_closer.specs.Places.{placed_as}
-use Rattle.xg_closer.specs.Rows.{amount_of}
 use Rattle.xg_closer.proofs.OneAction.{nothing_grows, only_value}
 use Rattle.xg_closer.proofs.closing.close_set.Goals as goal
 

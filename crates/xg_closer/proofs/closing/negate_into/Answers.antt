@@ -1,9 +1,9 @@
 use Rattle.std.proofs.Common.{◌≡◌, ℕ, ◌<◌, ℤ, pos, unsigned_abs, neg_ℤ, length, length-set, FitsSigned, to_z, of_z, arith, ap, rules, ◌∙◌, ⊎_elim}
+use Rattle.def_rows.specs.Rows.{amount_of}
 use mir.Syntax.{w128}
 use Rattle.std.proofs.lemmas.Bool.{cases_eq}
 use Rattle.std.proofs.lemmas.Int.{to_z-of_z}
 use Rattle.std.proofs.lemmas.List.{get_or-set_other, get_or-set_same}
-use Rattle.xg_closer.specs.Rows.{amount_of}
 use Rattle.xg_closer.proofs.RowSums.{row_within}
 use Rattle.xg_closer.proofs.closing.negate_into.Goals as goal
 

@@ -1,10 +1,10 @@
 use Rattle.std.proofs.Common.{◌≡◌, ℕ, ◌+◌, ℤ, pos, ◌*ℤ◌, slice_index, FitsSigned, map, to_z, of_z, ap, sym, rules, ◌∙◌}
+use Rattle.def_rows.specs.Rows.{amount_of}
 use mir.Syntax.{w128}
 use Rattle.std.specs.List.{range_with_len}
 use Rattle.std.proofs.lemmas.Int.{to_z-of_z}
 use Rattle.def_sums.specs.Sum.{sum_over}
 use Rattle.def_sums.proofs.RingLaws.{+ℤ-zero}
-use Rattle.xg_closer.specs.Rows.{amount_of}
 use Rattle.xg_closer.proofs.closing.sum_of_two.Goals as goal
 
 pub returns : goal.returns

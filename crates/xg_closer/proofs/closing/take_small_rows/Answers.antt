@@ -6,9 +6,9 @@ use Rattle.std.proofs.lemmas.List.{get_or-set_other, get_or-set_same, get_or_pas
 use Rattle.def_sums.specs.Sum.{nat_sum_over}
 use Rattle.def_sums.proofs.SumLaws.{nat_sum_over-append}
 use Rattle.def_round.specs.Round.{utility}
-use Rattle.xg_closer.specs.Rows.{amount_of}
 use Rattle.xg_closer.proofs.RowSums.{own_amount_beyond}
 use Rattle.xg_closer.proofs.closing.take_small_rows.Goals as goal
+use Rattle.def_rows.specs.Rows.{amount_of}
 
 pub own_row-requires : goal.own_row-requires
 own_row-requires c =

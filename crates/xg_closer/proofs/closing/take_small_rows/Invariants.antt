@@ -1,7 +1,8 @@
 use Rattle.std.proofs.Common.{◌≡◌, ℕ, ◌+◌, ◌^◌, ◌<◌, length, take, unsigned_abs}
 use Rattle.def_sums.specs.Sum.{nat_sum_over}
-use Rattle.xg_closer.specs.Rows.{amount_of, own_amount}
+use Rattle.xg_closer.specs.Rows.{own_amount}
 use Rattle.xg_closer.proofs.closing.take_small_rows.Given as goal
+use Rattle.def_rows.specs.Rows.{amount_of}
 
 abbrev pub invariant-loop-i : goal.invariant-loop-i
 invariant-loop-i l =

@@ -1,10 +1,10 @@
 use Rattle.std.proofs.Common.{◌≡◌, ℕ, ◌+◌, ◌^◌, ◌<◌, ℤ, pos, ◌+ℤ◌, ◌*ℤ◌, unsigned_abs, slice_index, FitsSigned, map, to_z, of_z, arith, ap, rules, ◌∙◌}
+use Rattle.def_rows.specs.Rows.{amount_of}
 use mir.Syntax.{w128}
 use Rattle.std.specs.List.{range_with_len}
 use Rattle.std.proofs.lemmas.Int.{to_z-of_z}
 use Rattle.def_sums.specs.Sum.{sum_over}
 use Rattle.def_sums.proofs.Ranges.{at_most_sum}
-use Rattle.xg_closer.specs.Rows.{amount_of}
 use Rattle.xg_closer.proofs.Sums.{front_size, range_more}
 use Rattle.xg_closer.proofs.closing.value_of_set.Goals as goal
 

@@ -1,11 +1,11 @@
 use Rattle.std.proofs.Common.{ap, arith}
-use Rattle.def_poker.specs.Poker.{rounds}
+use Rattle.def_poker.specs.Poker.{rounds_with_cards}
 use Rattle.xg_gen.proofs.Ranges.{all_cards, rounds_next, rounds_none}
 use Rattle.xg_gen.proofs.Taken.{all_taken, begin, goes_on, next_takes}
 use Rattle.xg_gen.proofs.poker.put_rounds.Goals as goal
 
 pub rounds-init : goal.rounds-init
-rounds-init c = begin _ _ _ c.requires.takes (ap (rounds c.args.n) (all_cards c.args.n))
+rounds-init c = begin _ _ _ c.requires.takes (ap (rounds_with_cards c.args.n) (all_cards c.args.n))
 
 pub put_round-requires-clause-takes : goal.put_round-requires-clause-takes
 put_round-requires-clause-takes c = next_takes _ _ _ _ _ _ c.rounds.invariant (rounds_next c.args.n c.rounds.i (omega (arith, c.rounds-test.true)))

@@ -2,9 +2,9 @@ use Rattle.std.proofs.Common.{ℕ, ◌+◌, List, [], ◌∷◌, ◌++◌, ◌�
 use Rattle.std.proofs.lemmas.Slice.{between_to_end}
 use Rattle.def_file_tokens.specs.Texts.{escaped}
 use Rattle.xg_io.proofs.Known.{Progress}
-use Rattle.xg_gen.specs.Writes.{Writes}
+use Rattle.def_outside.specs.Sinks.{Writes}
 use Rattle.xg_gen.proofs.Marks.{to_first_mark, no_mark}
-use Rattle.xg_gen.proofs.Written.{fails, finishes, goes_on}
+use Rattle.xg_io.proofs.Pieces.{fails, finishes, goes_on}
 use Rattle.xg_gen.proofs.tokens.put_escaped.Goals as goal
 
 pub returns-in_err-put_marked-clause-text : goal.returns-in_err-put_marked-clause-text

@@ -1,8 +1,8 @@
 use Rattle.std.proofs.Common.{[], ◌∷◌, ◌++◌, rules}
 use Rattle.def_file_tokens.specs.Texts.{escaped}
 use Rattle.def_canon.specs.Canon.{quoted}
-use Rattle.xg_gen.specs.Writes.{Writes}
-use Rattle.xg_gen.proofs.Written.{prefix_first, prefix_then, then_rest}
+use Rattle.def_outside.specs.Sinks.{Writes}
+use Rattle.xg_io.proofs.Pieces.{prefix_first, prefix_then, then_rest}
 use Rattle.xg_gen.proofs.tokens.put_quoted.Goals as goal
 
 pub returns-in_err-put_escaped-clause-text : goal.returns-in_err-put_escaped-clause-text

@@ -5,7 +5,7 @@ use Rattle.std.specs.Io.KnownBytes.{append_known}
 use Rattle.def_outside.specs.Sinks.{AppendsPrefix}
 use Rattle.def_tree.specs.declared.Node.{Node}
 use Rattle.def_tree.specs.Tree.{prefix}
-use Rattle.def_canon.specs.Canon.{node_pieces, text_of}
+use Rattle.def_canon.specs.Canon.{node_pieces, text_of_pieces}
 use Rattle.xg_gen.proofs.NamedNodes.{line_at, line_there, lines_few}
 use Rattle.xg_gen.proofs.Written.{each_step, each_fail, each_end}
 use Rattle.xg_gen.proofs.writing.put_lines.Goals as goal
@@ -22,7 +22,7 @@ returns-in_err-put_node-clause-text g c =
     let em : slice_get game.names i ≡ Some name = ap (slice_get game.names) (sym back) ∙ c.node_name.ensures in
     let f : (line : Node × List ℕ) → _ = λ (line : Node × List ℕ). node_pieces game.sets game.outcomes line.0 line.1 in
     let fact = each_fail f _ (g.O.Sink.written c.nodes.out) _ (zip ns game.names) i (node, name) (line_there ns game.names i node name en em) c.nodes.invariant.so_far
-    (subst (λ (l : Node × List ℕ). AppendsPrefix (g.O.Sink.written c.nodes.out) (g.O.Sink.written c.put_node.new.out) (text_of (f l))) (sym (line_at ns game.names i node name en em)) c.in_err-put_node.ensures.text) in
+    (subst (λ (l : Node × List ℕ). AppendsPrefix (g.O.Sink.written c.nodes.out) (g.O.Sink.written c.put_node.new.out) (text_of_pieces (f l))) (sym (line_at ns game.names i node name en em)) c.in_err-put_node.ensures.text) in
     search (rules, fact)
 
 pub nodes-preserved : goal.nodes-preserved
@@ -38,7 +38,7 @@ nodes-preserved g c =
     let f : (line : Node × List ℕ) → _ = λ (line : Node × List ℕ). node_pieces game.sets game.outcomes line.0 line.1 in
     record {
       so_far = each_step f _ (g.O.Sink.written c.nodes.out) _ (zip ns game.names) i (node, name) (line_there ns game.names i node name en em) c.nodes.invariant.so_far
-          (c.in_ok-put_node.ensures.text ∙ ap (λ (l : Node × List ℕ). append_known (g.O.Sink.written c.nodes.out) (text_of (f l))) (sym (line_at ns game.names i node name en em)));
+          (c.in_ok-put_node.ensures.text ∙ ap (λ (l : Node × List ℕ). append_known (g.O.Sink.written c.nodes.out) (text_of_pieces (f l))) (sym (line_at ns game.names i node name en em)));
       blameless = c.in_ok-put_node.ensures.cause ∙ c.nodes.invariant.blameless;
     }
 

@@ -1,8 +1,9 @@
 use Rattle.std.proofs.Common.{◌≡◌, ℕ, [], ◌∷◌, List, length, sym, ap, subst, ◌∙◌, arith, rules}
+use Rattle.std.proofs.lemmas.Bool.{not-true}
 use Rattle.def_game_jobs.specs.Jobs.{jobs_within, most_jobs, most_passes}
 use Rattle.def_tree.specs.Tree.{Forest}
 use Rattle.xg_jobs.specs.Cutting.{AreJobs}
-use Rattle.xg_jobs.proofs.Within.{not_true, whole_job, within_end, within_more}
+use Rattle.xg_jobs.proofs.Within.{whole_job, within_end, within_more}
 use Rattle.xg_jobs.proofs.cutting.job_places.Goals as goal
 use Rattle.xg_jobs.proofs.cutting.job_places.Goals.{else-loop-test, then-loop-test+in_ok-after+then-not-after}
 
@@ -43,7 +44,7 @@ returns c = λ tree are single.
           (subst (λ m. AreJobs c.args.tops.now c.loop.jobs.items (jobs_within most_jobs m tree)) end had)
       | then-loop-test+in_ok-after+then-not-after w ↦
           let had' = subst (λ ps. AreJobs c.args.tops.now ps now) (sym w.deref.ensures.value) had in
-          let same = w.in_ok-after.ensures.same (not_true w.in_ok-after.after.cut w.if-not-after.true) now had' in
+          let same = w.in_ok-after.ensures.same (not-true w.in_ok-after.after.cut w.if-not-after.true) now had' in
           subst (λ ps. AreJobs c.args.tops.now ps (jobs_within most_jobs most_passes tree)) (sym (ap (λ v. v.items) w.jobs-is))
           (subst (λ js. AreJobs c.args.tops.now w.in_ok-after.after.jobs.items js) (same ∙ within_end most_jobs n most_passes tree (omega arith) same)
           (w.in_ok-after.ensures.jobs now had'))

@@ -1,8 +1,9 @@
 use Rattle.std.proofs.Common.{◌≡◌, ℕ, ◌+◌, ◌-◌, ◌++◌, [], ◌∷◌, ◌&&◌, nat_le, length, length-append, get_or, false, true, sym, ap, subst, ◌∙◌, arith}
+use Rattle.std.proofs.lemmas.Bool.{and_parts}
 use Rattle.std.proofs.lemmas.List.{get_or_default}
 use Rattle.def_game_jobs.specs.Jobs.{most_jobs}
 use Rattle.xg_jobs.specs.declared.tops.TopNode.{TopNode}
-use Rattle.xg_jobs.proofs.Passing.{PassSome, pass_cut, pass_kept, and_left, drop_one, fits_in, job_at, job_inside, jobs_counted, none_passed, tells_job}
+use Rattle.xg_jobs.proofs.Passing.{PassSome, pass_cut, pass_kept, drop_one, fits_in, job_at, job_inside, jobs_counted, none_passed, tells_job}
 use Rattle.xg_jobs.proofs.cutting.make_pass.Goals as goal
 use Rattle.xg_jobs.proofs.cutting.make_pass.Goals.{then-is_cut+in_ok-push_trees, else-is_cut+in_ok-push}
 
@@ -28,7 +29,7 @@ push_trees-requires-clause-trees c =
     let found = job_at tops jobs c.requires.jobs.0 k 0 c.requires.jobs.1 c.loop-job-test.true in
     let read : t ≡ get_or tops j t = get_or_default tops j none t (job_inside tops j found.0 found.1) in
     let test : (t.chance && nat_le (c.loop-job.count - 1 + t.children) most_jobs) ≡ true = sym c.is_cut.ensures ∙ c.if-is_cut.true in
-    let trees = (tells_job tops j found.0 t found.1 read).below (and_left t.chance (nat_le (c.loop-job.count - 1 + t.children) most_jobs) test) in
+    let trees = (tells_job tops j found.0 t found.1 read).below (and_parts t.chance (nat_le (c.loop-job.count - 1 + t.children) most_jobs) test).0 in
     (trees.trees, (trees.stand, trees.counts))
 
 pub loop-job-preserved : goal.loop-job-preserved
@@ -45,7 +46,7 @@ loop-job-preserved c =
     elim c.if-is_cut.branch [
       | then-is_cut+in_ok-push_trees w ↦
           let test : (t.chance && nat_le (c.loop-job.count - 1 + t.children) most_jobs) ≡ true = sym c.is_cut.ensures ∙ w.if-is_cut.true in
-          let chance = and_left t.chance (nat_le (c.loop-job.count - 1 + t.children) most_jobs) test in
+          let chance = (and_parts t.chance (nat_le (c.loop-job.count - 1 + t.children) most_jobs) test).0 in
           let few = fits_in t.chance (c.loop-job.count - 1 + t.children) most_jobs test in
           let items = ap (λ v. v.items) w.after-is in (
             omega (arith, ap length items, w.in_ok-push_trees.ensures.count, w.count-is, c.loop-job.invariant.0),

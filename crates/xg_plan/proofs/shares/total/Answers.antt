@@ -1,6 +1,7 @@
 use Rattle.std.proofs.Common.{◌≡◌, ◌+◌, List, ap, arith, length, map, unsigned_abs, ℕ}
 use Rattle.def_shares.specs.Shares.{prefix_sum}
-use Rattle.xg_plan.proofs.ShareLemmas.{length-sizes, prefix-all, prefix-more, prefix-within}
+use Rattle.def_shares.proofs.SharesLaws.{prefix-all, prefix-more}
+use Rattle.xg_plan.proofs.ShareLemmas.{length-sizes, prefix-within}
 use Rattle.xg_plan.proofs.shares.total.Goals as goal
 
 pub overflow_add-sum : goal.overflow_add-sum

@@ -4,10 +4,11 @@ use Rattle.def_plan.specs.Payoff.{IsNoBetter, gain}
 use Rattle.def_plan.specs.Plan.{IsPlan, pure_plan}
 use Rattle.def_reply.specs.Reply.{Reply, choices_of}
 use Rattle.def_reply.proofs.BoundLaws.{best_optimal}
-use Rattle.xg_reply.specs.Replies.{amount_of, reply_to_sums}
+use Rattle.xg_reply.specs.Replies.{reply_to_sums}
 use Rattle.xg_reply.proofs.Passes.{passed-more, passed-none, passed-reply, passed-worths, sizes_of_rows, sum_small}
 use Rattle.xg_reply.proofs.AgainstPlans.{against_plan, attains_ceiling, attains_floor, is_ceiling, is_floor}
 use Rattle.xg_reply.proofs.reply.best_reply.Goals as goal
+use Rattle.def_rows.specs.Rows.{amount_of}
 
 pub loop-k-init : goal.loop-k-init
 loop-k-init c =

@@ -2,9 +2,10 @@ use Rattle.std.proofs.Common.{ℕ, ◌-◌, ◌^◌, ◌<◌, List, ℤ, ◌+ℤ
 use Rattle.std.proofs.Math.ListN.{set}
 use Rattle.def_plan.specs.Form.{PlacedSet, player_sets}
 use Rattle.def_reply.specs.Reply.{SetReply}
-use Rattle.xg_reply.specs.Replies.{amount_of, placed_set}
+use Rattle.xg_reply.specs.Replies.{placed_set}
 use Rattle.xg_reply.proofs.FirstBest.{reply_told}
 use Rattle.xg_reply.proofs.sets.put_reply.Goals as goal
+use Rattle.def_rows.specs.Rows.{amount_of}
 
 pub add_worth-requires-clause-small : goal.add_worth-requires-clause-small
 add_worth-requires-clause-small c =

@@ -5,7 +5,7 @@ use mir.Val.{SFits}
 use Rattle.std.specs.Prelude.{unsigned_abs}
 use Rattle.def_history.specs.History.{stripe_of}
 use Rattle.xg_rowcore.specs.Chains.{IsNextOf, rows_of}
-use Rattle.xg_rowcore.specs.Packets.{entry_at}
+use Rattle.xg_rowcore.specs.Packets.{entry_in}
 use Rattle.xg_rowcore.proofs.Adding.{small_before, entry_of_packet, grown_all, grown_by_none, grown_by_read, place_there}
 use Rattle.xg_rowcore.proofs.Chaining.{found_inside, found_own, grown_to_next}
 use Rattle.xg_rowcore.proofs.Histories.{amount_small}
@@ -39,8 +39,8 @@ add_entry-requires-clause-small g c =
     let here : stripe_of c.args.stripes c.entry-row.result.0 ≡ c.args.index = ap (stripe_of c.args.stripes) c.entry-row.ensures.row ∙ c.loop-i.invariant.own below in
     let under = place_there c.args.stripes g.N.RowName.rows c.args.index c.entry-row.result.0 c.requires.index row here in
     let total = small_before c.args.packet.now.entries.list c.loop-i.i c.args.index c.args.stripes c.entry-row.result.0 (2 ^ 98) c.args.totals.now.items c.loop-i.totals.items c.requires.packet.rising below c.entry-row.ensures.row here (omega (arith, under, c.requires.length)) c.loop-i.invariant.grown c.requires.small in
-    let is : c.entry-row.result.1 ≡ g.N.RowName.amount c.args.packet.now.job (entry_at c.args.packet.now.entries.list c.loop-i.i).row = c.entry-row.ensures.amount ∙ entry.1 in
-    let its : unsigned_abs c.entry-row.result.1 ≤ 2 ^ 98 = rw is (let a = amount_small g.N.RowName.amount g.N.RowName.jobs c.args.packet.now.job (entry_at c.args.packet.now.entries.list c.loop-i.i).row (2 ^ 98) c.requires.job (g.N.RowName.small _ entry.0) in omega arith) in
+    let is : c.entry-row.result.1 ≡ g.N.RowName.amount c.args.packet.now.job (entry_in c.args.packet.now.entries.list c.loop-i.i).row = c.entry-row.ensures.amount ∙ entry.1 in
+    let its : unsigned_abs c.entry-row.result.1 ≤ 2 ^ 98 = rw is (let a = amount_small g.N.RowName.amount g.N.RowName.jobs c.args.packet.now.job (entry_in c.args.packet.now.entries.list c.loop-i.i).row (2 ^ 98) c.requires.job (g.N.RowName.small _ entry.0) in omega arith) in
     let fits : SFits w128 c.entry-row.result.1 = search rules in
     rw (to_z-of_z w128 c.entry-row.result.1 fits) (omega (arith, total, its))
 

@@ -2,7 +2,7 @@ use Rattle.std.proofs.Common.{◌≡◌, ◌+◌, ◌-◌, ◌<◌, ◌∙◌, S
 use Rattle.std.proofs.lemmas.Result.{err_from_is_err_and}
 use Rattle.def_tree.specs.Tree.{node_count, prefix}
 use Rattle.def_game_numbers.specs.Numbers.{tables_of}
-use Rattle.xg_scale.specs.Chance.{PassedSets, test_of}
+use Rattle.xg_scale.specs.Chance.{PassedSets, node_test_of}
 use Rattle.xg_scale.proofs.FoundLemmas.{found_none}
 use Rattle.xg_scale.proofs.GameLemmas.{set_counts, tree_rules}
 use Rattle.xg_scale.proofs.SetLemmas.{set_broken, set_opened, set_passed}
@@ -41,4 +41,4 @@ pub returns-clause-ok : goal.returns-clause-ok
 returns-clause-ok c =
     let game = c.args.game.now in
     let last : c.loop-k.k ≡ node_count game.tree = omega (arith, c.loop-k-test.false, c.loop-k.auto.k-end, c.len-k-end.ensures.count, ap node_count c.tree-tree.ensures.tree) in
-    c.loop-k.invariant.rest ∙ found_none game.tree (test_of c.args.test (tables_of game)) c.loop-k.k last
+    c.loop-k.invariant.rest ∙ found_none game.tree (node_test_of c.args.test (tables_of game)) c.loop-k.k last

@@ -6,21 +6,21 @@ use Rattle.def_program.specs.Program.{solved}
 use Rattle.xg_game.specs.declared.fault.Refused.{Refused}
 use Rattle.xg_solve.specs.Accepted.{Opens}
 use Rattle.xg_solve.specs.Refusal.{IsRefusal}
-use Rattle.xg_solve.specs.Settings.{settings_of}
+use Rattle.xg_solve.specs.Settings.{settings_seen}
 use Rattle.xg_solve.proofs.MadeEnds.{made_refuses, made_tells}
 use Rattle.xg_solve.proofs.made.drill.Goals as goal
 
 pub returns-in-Ok-open : goal.returns-in-Ok-open
 returns-in-Ok-open g c =
     let opens = c.in-Ok-open.ensures in
-    made_tells (solved (settings_of c.args.settings)) (poker c.args.cards) c.in-Ok.game c.in-Ok-open.accepted
+    made_tells (solved (settings_seen c.args.settings)) (poker c.args.cards) c.in-Ok.game c.in-Ok-open.accepted
     (sink_call g.O.Sink.written g.O.Sink.faults c.args.out.now c.play.new.out) c.play.result
     c.in-Ok.ensures opens.0 opens.1 c.play.ensures
 
 pub returns-in-Err-File : goal.returns-in-Err-File
 returns-in-Err-File g c =
     let arm = c.in-Err-File in
-    made_refuses (solved (settings_of c.args.settings)) (poker c.args.cards) c.in-Ok.game
+    made_refuses (solved (settings_seen c.args.settings)) (poker c.args.cards) c.in-Ok.game
     (sink_call g.O.Sink.written g.O.Sink.faults c.args.out.now c.args.out.now) (refl, refl) arm.fault c.refused.result
     c.in-Ok.ensures (subst (λ (x : Refused). Opens c.in-Ok.game (Err x)) arm.field-0-is arm.ensures)
     (subst (λ (f : FileFault). IsRefusal f c.refused.result) arm.fault-is c.refused.ensures)

@@ -7,11 +7,11 @@ use Rattle.def_cert_text.specs.CertText.{cert_text}
 use Rattle.def_run.specs.Run.{outcome}
 use Rattle.def_text.specs.Text.{form_of_file, solve_text}
 use Rattle.xg_engine.specs.State.{head_with}
-use Rattle.xg_numbers.specs.Opened.{weighed_game}
-use Rattle.xg_solve.specs.Settings.{settings_of}
+use Rattle.xg_solve.specs.Settings.{settings_seen}
 use Rattle.xg_solve.proofs.Solved.{tells, writes_of}
 use Rattle.xg_solve.proofs.Texts.{played_is, same_outcome}
 use Rattle.xg_solve.proofs.playing.play.Goals as goal
+use Rattle.def_file_accepted.specs.Weighed.{weighed_game}
 
 pub returns-in-Some : goal.returns-in-Some
 returns-in-Some g c =
@@ -26,7 +26,7 @@ returns-in-Some g c =
     (c.in-Some.ensures ∙ c.in-Ok-play_rounds.ensures.outcome)
     ∙ ap (λ (numbers : WeighedGame). outcome numbers.form (head_with numbers settings)) opened in
     tells (sink_call g.O.Sink.written g.O.Sink.faults c.args.out.now c.write_paged.new.out)
-    (solve_text game (settings_of settings)) (cert_text (certificate_of c.form.result.now c.in-Some.outcome.now))
+    (solve_text game (settings_seen settings)) (cert_text (certificate_of c.form.result.now c.in-Some.outcome.now))
     (played_is game settings c.form.result.now c.in-Some.outcome.now form_is left_is)
     c.write_paged.result c.ending_of.result c.ending_of.ensures
     (writes_of (g.O.Sink.written c.args.out.now) (g.O.Sink.written c.write_paged.new.out)

@@ -3,7 +3,7 @@ use Rattle.std.proofs.lemmas.List.Elements.{All-get_or}
 use Rattle.def_plan.specs.Form.{PlacedSet, placed, player_sets}
 use Rattle.def_plan.proofs.BadSets.{length-placed}
 use Rattle.xg_seq.proofs.RowLemmas.{sets_are_few}
-use Rattle.xg_tests.specs.Views.{IsWithin, placed_of, row}
+use Rattle.xg_tests.specs.Views.{AreAllWithin, placed_of, row}
 use Rattle.xg_tests.proofs.AddLemmas.{no_value_left, set_there, value_step, within_step}
 use Rattle.xg_tests.proofs.adding.add_values.Goals as goal
 
@@ -22,7 +22,7 @@ loop-k-preserved c =
     let size : unsigned_abs (row c.args.values.now k) ≤ 2 ^ 100 = All-get_or (λ (v : ℤ). unsigned_abs v ≤ 2 ^ 100) c.args.values.now k (pos 0) low c.requires.values in
     record {
       left = value_step c.loop-k.rows c.add_value.new.rows hs c.args.values.now k h _ there low (set_there hs k h c.place_of-h.ensures.is) c.loop-k.invariant.left c.add_value.ensures.added;
-      small = subst (λ (most : ℕ). IsWithin most c.add_value.new.rows) next (within_step c.loop-k.rows c.add_value.new.rows _ _ (2 ^ 119 + k * 2 ^ 100) (2 ^ 100) c.loop-k.invariant.small c.add_value.ensures.added size);
+      small = subst (λ (most : ℕ). AreAllWithin most c.add_value.new.rows) next (within_step c.loop-k.rows c.add_value.new.rows _ _ (2 ^ 119 + k * 2 ^ 100) (2 ^ 100) c.loop-k.invariant.small c.add_value.ensures.added size);
       same = c.add_value.ensures.same_length ∙ c.loop-k.invariant.same;
     }
 

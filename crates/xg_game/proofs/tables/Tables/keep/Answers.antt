@@ -4,15 +4,15 @@ use Rattle.def_tree.specs.declared.Kind.{Kind}
 use Rattle.def_tree.specs.declared.Node.{Node}
 use Rattle.def_file.specs.Adding.{node_with}
 use Rattle.def_file.specs.Content.{Contents, sets_of_kind}
-use Rattle.xg_record.specs.Entry.{entry_of}
+use Rattle.xg_record.specs.Entry.{entry_seen}
 use Rattle.def_file.proofs.WholeGame.{node_fits, sets_short}
 use Rattle.xg_game.proofs.tables.Tables.keep.Goals as goal
 
 pub push-requires-clause-fits : goal.push-requires-clause-fits
 push-requires-clause-fits c =
-    let node : Node = node_with c.args.self.now (entry_of c.args.entry.now) in
+    let node : Node = node_with c.args.self.now (entry_seen c.args.entry.now) in
     subst (Fits c.self.inside.nodes) (sym c.node_with-node.ensures)
-    (subst (λ (contents : Contents). Fits contents.nodes node) (sym c.self.view_is) (node_fits c.args.self.now (entry_of c.args.entry.now) c.requires.consistent c.requires.faultless))
+    (subst (λ (contents : Contents). Fits contents.nodes node) (sym c.self.view_is) (node_fits c.args.self.now (entry_seen c.args.entry.now) c.requires.consistent c.requires.faultless))
 
 pub note-requires-clause-room : goal.note-requires-clause-room
 note-requires-clause-room c =

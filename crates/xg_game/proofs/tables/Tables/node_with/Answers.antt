@@ -5,12 +5,12 @@ use Rattle.def_file.specs.Content as content
 use Rattle.def_file.specs.Content.{Contents, SetEntry, sets_of_kind}
 use Rattle.def_file.specs.Faults.{has_set, mover}
 use Rattle.def_file.proofs.WholeGame.{node_fits, sets_short}
-use Rattle.xg_record.specs.Entry.{entry_of}
+use Rattle.xg_record.specs.Entry.{entry_seen}
 use Rattle.xg_game.proofs.tables.Tables.node_with.Goals as goal
 
 pub number_with-requires-clause-room : goal.number_with-requires-clause-room
 number_with-requires-clause-room c =
-    let r : content.Record = entry_of c.args.entry.now in
+    let r : content.Record = entry_seen c.args.entry.now in
     let now : Contents = c.args.self.now in
     let short : length (sets_of_kind (mover r) now.sets) ≤ 1048576 = sets_short now.nodes now.names now.sets now.outcomes c.requires.consistent (mover r) in
     let same : c.of-table.result.now ≡ sets_of_kind (mover r) now.sets =
@@ -19,7 +19,7 @@ number_with-requires-clause-room c =
 
 pub action_count_with-requires-clause-few : goal.action_count_with-requires-clause-few
 action_count_with-requires-clause-few c =
-    let r : content.Record = entry_of c.args.entry.now in
+    let r : content.Record = entry_seen c.args.entry.now in
     let table : List SetEntry = sets_of_kind (mover r) c.args.self.now.sets in
     let same : c.of-table.result.now ≡ table =
     c.of-table.ensures ∙ ap (λ kind. sets_of_kind kind c.self.inside.sets) c.mover-kind.ensures ∙ ap (λ (t : Contents). sets_of_kind (mover r) t.sets) c.self.view_is in

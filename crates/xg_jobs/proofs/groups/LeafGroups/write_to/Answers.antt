@@ -1,6 +1,6 @@
 use Rattle.std.proofs.Common.{◌≡◌, ℕ, ◌+◌, map, List, length, ap, sym, subst, ◌∙◌, arith}
 use Rattle.std.proofs.lemmas.List.{length-map}
-use Rattle.xg_jobs.specs.Entries.{KeepsGroups, leaves_in, small_leaf, tiny_leaf, wide_leaf}
+use Rattle.xg_jobs.specs.Entries.{KeepsGroups, leaves_of_group, small_leaf, tiny_leaf, wide_leaf}
 use Rattle.xg_jobs.specs.Groups.{GroupLeaf}
 use Rattle.xg_jobs.specs.Grouping.{pair_weights}
 use Rattle.xg_jobs.proofs.PlainSums.{can_sum, group_count, other_count, sums_are_rows, weights_in}
@@ -17,7 +17,7 @@ write_tiny_sums-requires c =
     let others : ℕ = c.self.inside.others in
     let mass : ℕ = c.self.inside.mass in
     let st_is : st ≡ c.self.inside.starts.items = c.deref.ensures.value in
-    let gs_is : gs ≡ leaves_in c.self.inside.entries = ap (map tiny_leaf) c.deref-in-Tiny.ensures.value ∙ sym (ap leaves_in c.in-Tiny.is) in
+    let gs_is : gs ≡ leaves_of_group c.self.inside.entries = ap (map tiny_leaf) c.deref-in-Tiny.ensures.value ∙ sym (ap leaves_of_group c.in-Tiny.is) in
     let is : weights_in st gs others ≡ pair_weights form player = ap (λ a. weights_in a gs others) st_is ∙ ap (λ b. weights_in c.self.inside.starts.items b others) gs_is ∙ c.self.view_is ∙ c.requires.groups in
     let kept : KeepsGroups st gs others mass = subst (λ a. KeepsGroups a gs others mass) (sym st_is) (subst (λ b. KeepsGroups c.self.inside.starts.items b others mass) (sym gs_is) c.self.invariant) in
     let count = group_count form player st gs others is in
@@ -45,7 +45,7 @@ returns-in-Tiny c =
     let others : ℕ = c.self.inside.others in
     let mass : ℕ = c.self.inside.mass in
     let st_is : st ≡ c.self.inside.starts.items = c.deref.ensures.value in
-    let gs_is : gs ≡ leaves_in c.self.inside.entries = ap (map tiny_leaf) c.deref-in-Tiny.ensures.value ∙ sym (ap leaves_in c.in-Tiny.is) in
+    let gs_is : gs ≡ leaves_of_group c.self.inside.entries = ap (map tiny_leaf) c.deref-in-Tiny.ensures.value ∙ sym (ap leaves_of_group c.in-Tiny.is) in
     let is : weights_in st gs others ≡ pair_weights form player = ap (λ a. weights_in a gs others) st_is ∙ ap (λ b. weights_in c.self.inside.starts.items b others) gs_is ∙ c.self.view_is ∙ c.requires.groups in
     let kept : KeepsGroups st gs others mass = subst (λ a. KeepsGroups a gs others mass) (sym st_is) (subst (λ b. KeepsGroups c.self.inside.starts.items b others mass) (sym gs_is) c.self.invariant) in
     let count = group_count form player st gs others is in
@@ -64,7 +64,7 @@ write_small_sums-requires c =
     let others : ℕ = c.self.inside.others in
     let mass : ℕ = c.self.inside.mass in
     let st_is : st ≡ c.self.inside.starts.items = c.deref-in-Small.ensures.value in
-    let gs_is : gs ≡ leaves_in c.self.inside.entries = ap (map small_leaf) c.deref-in-Small-2.ensures.value ∙ sym (ap leaves_in c.in-Small.is) in
+    let gs_is : gs ≡ leaves_of_group c.self.inside.entries = ap (map small_leaf) c.deref-in-Small-2.ensures.value ∙ sym (ap leaves_of_group c.in-Small.is) in
     let is : weights_in st gs others ≡ pair_weights form player = ap (λ a. weights_in a gs others) st_is ∙ ap (λ b. weights_in c.self.inside.starts.items b others) gs_is ∙ c.self.view_is ∙ c.requires.groups in
     let kept : KeepsGroups st gs others mass = subst (λ a. KeepsGroups a gs others mass) (sym st_is) (subst (λ b. KeepsGroups c.self.inside.starts.items b others mass) (sym gs_is) c.self.invariant) in
     let count = group_count form player st gs others is in
@@ -92,7 +92,7 @@ returns-in-Small c =
     let others : ℕ = c.self.inside.others in
     let mass : ℕ = c.self.inside.mass in
     let st_is : st ≡ c.self.inside.starts.items = c.deref-in-Small.ensures.value in
-    let gs_is : gs ≡ leaves_in c.self.inside.entries = ap (map small_leaf) c.deref-in-Small-2.ensures.value ∙ sym (ap leaves_in c.in-Small.is) in
+    let gs_is : gs ≡ leaves_of_group c.self.inside.entries = ap (map small_leaf) c.deref-in-Small-2.ensures.value ∙ sym (ap leaves_of_group c.in-Small.is) in
     let is : weights_in st gs others ≡ pair_weights form player = ap (λ a. weights_in a gs others) st_is ∙ ap (λ b. weights_in c.self.inside.starts.items b others) gs_is ∙ c.self.view_is ∙ c.requires.groups in
     let kept : KeepsGroups st gs others mass = subst (λ a. KeepsGroups a gs others mass) (sym st_is) (subst (λ b. KeepsGroups c.self.inside.starts.items b others mass) (sym gs_is) c.self.invariant) in
     let count = group_count form player st gs others is in
@@ -111,7 +111,7 @@ write_wide_sums-requires c =
     let others : ℕ = c.self.inside.others in
     let mass : ℕ = c.self.inside.mass in
     let st_is : st ≡ c.self.inside.starts.items = c.deref-in-Wide.ensures.value in
-    let gs_is : gs ≡ leaves_in c.self.inside.entries = ap (map wide_leaf) c.deref-in-Wide-2.ensures.value ∙ sym (ap leaves_in c.in-Wide.is) in
+    let gs_is : gs ≡ leaves_of_group c.self.inside.entries = ap (map wide_leaf) c.deref-in-Wide-2.ensures.value ∙ sym (ap leaves_of_group c.in-Wide.is) in
     let is : weights_in st gs others ≡ pair_weights form player = ap (λ a. weights_in a gs others) st_is ∙ ap (λ b. weights_in c.self.inside.starts.items b others) gs_is ∙ c.self.view_is ∙ c.requires.groups in
     let kept : KeepsGroups st gs others mass = subst (λ a. KeepsGroups a gs others mass) (sym st_is) (subst (λ b. KeepsGroups c.self.inside.starts.items b others mass) (sym gs_is) c.self.invariant) in
     let count = group_count form player st gs others is in
@@ -139,7 +139,7 @@ returns-in-Wide c =
     let others : ℕ = c.self.inside.others in
     let mass : ℕ = c.self.inside.mass in
     let st_is : st ≡ c.self.inside.starts.items = c.deref-in-Wide.ensures.value in
-    let gs_is : gs ≡ leaves_in c.self.inside.entries = ap (map wide_leaf) c.deref-in-Wide-2.ensures.value ∙ sym (ap leaves_in c.in-Wide.is) in
+    let gs_is : gs ≡ leaves_of_group c.self.inside.entries = ap (map wide_leaf) c.deref-in-Wide-2.ensures.value ∙ sym (ap leaves_of_group c.in-Wide.is) in
     let is : weights_in st gs others ≡ pair_weights form player = ap (λ a. weights_in a gs others) st_is ∙ ap (λ b. weights_in c.self.inside.starts.items b others) gs_is ∙ c.self.view_is ∙ c.requires.groups in
     let kept : KeepsGroups st gs others mass = subst (λ a. KeepsGroups a gs others mass) (sym st_is) (subst (λ b. KeepsGroups c.self.inside.starts.items b others mass) (sym gs_is) c.self.invariant) in
     let count = group_count form player st gs others is in

@@ -3,7 +3,7 @@ use Rattle.std.specs.Prelude.{slice_index}
 use Rattle.std.proofs.lemmas.Grind.{get_or_default_zero}
 use Rattle.def_history.specs.History.{stripe_of}
 use Rattle.xg_rowcore.specs.Chains.{IsNextOf, rows_of}
-use Rattle.xg_rowcore.specs.Packets.{Listed, entry_at}
+use Rattle.xg_rowcore.specs.Packets.{Listed, entry_in}
 use Rattle.xg_rowcore.proofs.Chaining.{row_of_entry, rows_of-entries_from}
 use Rattle.xg_rowcore.proofs.Rising.{length-entries_from}
 use Rattle.xg_rowcore.proofs.entries.Entries.next_of.Goals as goal
@@ -42,7 +42,7 @@ returns-then-self-stripes c =
     let below : c.args.i < length rows = omega (arith, count, now, c.requires.there) in
     let rows_are : rows ≡ rows_of c.args.self.now.list =
     sym (rows_of-entries_from rows c.self.inside.amounts.items c.self.invariant.0) ∙ ap (λ (l : Listed). rows_of l.list) c.self.view_is in
-    let row : slice_index rows c.args.i ≡ (entry_at c.args.self.now.list c.args.i).row =
+    let row : slice_index rows c.args.i ≡ (entry_in c.args.self.now.list c.args.i).row =
     ap (λ rs. slice_index rs c.args.i) rows_are ∙ row_of_entry c.args.self.now.list c.args.i in
     let is : c.self.inside.chains.stripes ≡ c.args.stripes = c.if-self-stripes.true in
     let linked = kept.linked (omega (arith, is, c.requires.stripes)) in
@@ -62,7 +62,7 @@ returns-else-self-stripes c =
     let below : c.args.i < length rows = omega (arith, count, now, c.requires.there) in
     let read : c.index-else-self-stripes.result.now ≡ slice_index rows c.args.i =
     c.index-else-self-stripes.ensures ∙ get_or_default_zero rows c.args.i c.index-else-self-stripes.result.now below in
-    let row : c.index-else-self-stripes.result.now ≡ (entry_at c.args.self.now.list c.args.i).row =
+    let row : c.index-else-self-stripes.result.now ≡ (entry_in c.args.self.now.list c.args.i).row =
     read ∙ ap (λ rs. slice_index rs c.args.i) rows_are ∙ row_of_entry c.args.self.now.list c.args.i in
     let items = c.deref.ensures.value in
     subst (λ r. IsNextOf c.args.stripes (stripe_of c.args.stripes r) (rows_of c.args.self.now.list) (c.args.i + 1) c.seek.result) row

@@ -4,7 +4,7 @@ use Rattle.def_file.specs.Content.{GameFile}
 use Rattle.def_bracket.specs.Outcome.{Head}
 use Rattle.def_cert_verdict.specs.Laws.{IsHeadOf}
 use Rattle.def_text.specs.Text.{game_head}
-use Rattle.xg_solve.specs.Settings.{settings_of}
+use Rattle.xg_solve.specs.Settings.{settings_seen}
 use Rattle.xg_solve.proofs.Texts.{head_is}
 use Rattle.xg_solve.proofs.accepted.Accepted.head.Goals as goal
 
@@ -34,6 +34,6 @@ returns c =
       unit = c.unit.ensures.unit;
       mass_is = c.mass.ensures;
     } in
-    let settings = settings_of c.args.settings in
+    let settings = settings_seen c.args.settings in
     subst (λ (game : GameFile). head ≡ game_head game settings) c.self.view_is
     (head_is c.self.inside.game c.self.inside.numbers c.self.invariant settings head is refl refl refl)

@@ -3,7 +3,7 @@ use Rattle.def_game_jobs.specs.Ranges.{LeafRange}
 use Rattle.def_history_rows.proofs.JobRows.{by_number}
 use Rattle.xg_rowcore.specs.Packets.{Listed}
 use Rattle.xg_touched.specs.Touched.{JobRows}
-use Rattle.xg_touched.specs.Filling.{entries_with}
+use Rattle.xg_touched.specs.Filling.{entries_at_rows}
 use Rattle.xg_touched.proofs.touched.TouchedRows.packet_into.Goals as goal
 
 pub returns-clause-entries : goal.returns-clause-entries
@@ -13,4 +13,4 @@ returns-clause-entries c =
     let rows = ap (λ (x : JobRows). x.rows) c.requires.rows in
     let room = ap (λ (x : Listed). x.room) c.put_rows.ensures.entries ∙ ap (λ (x : Listed). x.room) c.start.ensures.entries in
     c.add_leaves.ensures.entries
-    ∙ (λ i. record { list = entries_with (λ row. sym (by_number form c.args.one.now c.args.two.now range row c.requires.leaves) i) (rows i); room = room i })
+    ∙ (λ i. record { list = entries_at_rows (λ row. sym (by_number form c.args.one.now c.args.two.now range row c.requires.leaves) i) (rows i); room = room i })
