@@ -10,7 +10,8 @@ use Rattle.def_bracket.specs.Laws.{HaveDivisors, EndsAreTheEarliestBest}
 use Rattle.def_bracket.proofs.Compares.{int_lt_tells, less_at_most, not_less, at_most-less, less-at_most}
 
 -- e is the first of the greatest by an order
-record IsFirstGreatest (Below AtMost : Evaluation → Evaluation → Type 0) (es : List Evaluation) (e : Evaluation) : Type 0 where
+record IsFirstGreatest (Below AtMost : Evaluation → Evaluation → Type 0) (es : List Evaluation)
+    (e : Evaluation) : Type 0 where
   place : ℕ
   within : place < length es
   stands : (d : Evaluation) → get_or es place d ≡ e
@@ -18,7 +19,8 @@ record IsFirstGreatest (Below AtMost : Evaluation → Evaluation → Type 0) (es
   earliest : All (λ a. Below a e) (take place es)
 
 -- what the order is to be between evaluations after some rounds, and how an end is replaced
-record Orders (Below AtMost : Evaluation → Evaluation → Type 0) (keep : Evaluation → Evaluation → Evaluation) : Type 0 where
+record Orders (Below AtMost : Evaluation → Evaluation → Type 0)
+    (keep : Evaluation → Evaluation → Evaluation) : Type 0 where
   same : (a : Evaluation) → AtMost a a
   weaker : (a b : Evaluation) → Below a b → AtMost a b
   apart : (a b : Evaluation) → Below a b → AtMost b a → ⊥
@@ -26,12 +28,14 @@ record Orders (Below AtMost : Evaluation → Evaluation → Type 0) (keep : Eval
   keeps : (kept next : Evaluation)
       → ((keep kept next ≡ next) × Below kept next) ⊎ ((keep kept next ≡ kept) × AtMost next kept)
 
-module _ {Below AtMost : Evaluation → Evaluation → Type 0} {keep : Evaluation → Evaluation → Evaluation} (orders : Orders Below AtMost keep) where
-  abbrev First : List Evaluation → Evaluation → Type 0
-  First = IsFirstGreatest Below AtMost
+module _ {Below AtMost : Evaluation → Evaluation → Type 0} {keep : Evaluation → Evaluation → Evaluation}
+    (orders : Orders Below AtMost keep) where
+  abbrev IsFirstOfGreatest : List Evaluation → Evaluation → Type 0
+  IsFirstOfGreatest = IsFirstGreatest Below AtMost
 
-  replaced : (es : List Evaluation) (kept next : Evaluation) → HaveDivisors es → First es kept → Below kept next
-      → First (es ++ next ∷ []) next
+  replaced : (es : List Evaluation) (kept next : Evaluation) → HaveDivisors es → IsFirstOfGreatest es kept
+      → Below kept next
+      → IsFirstOfGreatest (es ++ next ∷ []) next
   replaced es kept next rounds f less =
       let below : All (λ a. Below a next) es = λ k d low. orders.chain (get_or es k d) kept next (rounds k d low) (f.greatest k d low) less in
       record {
@@ -42,8 +46,8 @@ module _ {Below AtMost : Evaluation → Evaluation → Type 0} {keep : Evaluatio
         earliest = subst (All (λ a. Below a next)) (sym (take_at es (next ∷ []) (length es) refl)) below;
       }
 
-  kept_on : (es : List Evaluation) (kept next : Evaluation) → First es kept → AtMost next kept
-      → First (es ++ next ∷ []) kept
+  kept_on : (es : List Evaluation) (kept next : Evaluation) → IsFirstOfGreatest es kept → AtMost next kept
+      → IsFirstOfGreatest (es ++ next ∷ []) kept
   kept_on es kept next f le = record {
     place = f.place;
     within = omega (arith, length-append es (next ∷ []), f.within);
@@ -52,36 +56,37 @@ module _ {Below AtMost : Evaluation → Evaluation → Type 0} {keep : Evaluatio
     earliest = subst (All (λ a. Below a kept)) (sym (take-append-le f.place es (next ∷ []) (omega (arith, f.within)))) f.earliest;
   }
 
-  one_more : (es : List Evaluation) (kept next : Evaluation) → HaveDivisors es → First es kept
-      → First (es ++ next ∷ []) (keep kept next)
+  one_more : (es : List Evaluation) (kept next : Evaluation) → HaveDivisors es → IsFirstOfGreatest es kept
+      → IsFirstOfGreatest (es ++ next ∷ []) (keep kept next)
   one_more es kept next rounds f =
       ⊎_elim
-      (λ changed. subst (First (es ++ next ∷ [])) (sym changed.0) (replaced es kept next rounds f changed.1))
-      (λ stayed. subst (First (es ++ next ∷ [])) (sym stayed.0) (kept_on es kept next f stayed.1))
+      (λ changed. subst (IsFirstOfGreatest (es ++ next ∷ [])) (sym changed.0) (replaced es kept next rounds f changed.1))
+      (λ stayed. subst (IsFirstOfGreatest (es ++ next ∷ [])) (sym stayed.0) (kept_on es kept next f stayed.1))
       (orders.keeps kept next)
 
   all_more : (es : List Evaluation) (kept : Evaluation) (later : List Evaluation) → HaveDivisors es → HaveDivisors later
-      → First es kept → First (es ++ later) (fold keep kept later)
-  all_more es kept [] rounds more f = subst (λ xs. First xs kept) (sym (append-nil es)) f
+      → IsFirstOfGreatest es kept → IsFirstOfGreatest (es ++ later) (fold keep kept later)
+  all_more es kept [] rounds more f = subst (λ xs. IsFirstOfGreatest xs kept) (sym (append-nil es)) f
   all_more es kept (e ∷ later) rounds more f =
       let r : HaveDivisors (es ++ e ∷ []) = All-push (λ a. 1 ≤ a.divisor) es e rounds (All-head (λ a. 1 ≤ a.divisor) e later more) in
-      subst (λ xs. First xs (fold keep (keep kept e) later)) (append_assoc es (e ∷ []) later)
+      subst (λ xs. IsFirstOfGreatest xs (fold keep (keep kept e) later)) (append_assoc es (e ∷ []) later)
       (all_more (es ++ e ∷ []) (keep kept e) later r (All-tail (λ a. 1 ≤ a.divisor) e later more) (one_more es kept e rounds f))
 
   from_first : (e : Evaluation) (later : List Evaluation) → HaveDivisors (e ∷ later)
-      → First (e ∷ later) (fold keep e later)
+      → IsFirstOfGreatest (e ∷ later) (fold keep e later)
   from_first e later rounds =
-      let alone : First (e ∷ []) e = record { place = 0; within = omega arith; stands = λ d. refl; greatest = All-cons (λ a. AtMost a e) e [] (orders.same e) (All-nil (λ a. AtMost a e)); earliest = All-nil (λ a. Below a e) } in
+      let alone : IsFirstOfGreatest (e ∷ []) e = record { place = 0; within = omega arith; stands = λ d. refl; greatest = All-cons (λ a. AtMost a e) e [] (orders.same e) (All-nil (λ a. AtMost a e)); earliest = All-nil (λ a. Below a e) } in
       all_more (e ∷ []) e later (All-cons (λ a. 1 ≤ a.divisor) e [] (All-head (λ a. 1 ≤ a.divisor) e later rounds) (All-nil (λ a. 1 ≤ a.divisor))) (All-tail (λ a. 1 ≤ a.divisor) e later rounds) alone
 
   -- of two such evaluations neither comes first
-  not_earlier : (es : List Evaluation) (e f : Evaluation) (a : First es e) (b : First es f) → a.place < b.place → ⊥
+  not_earlier : (es : List Evaluation) (e f : Evaluation) (a : IsFirstOfGreatest es e) (b : IsFirstOfGreatest es f)
+      → a.place < b.place → ⊥
   not_earlier es e f a b less =
       let shown : Below e f = subst (λ x. Below x f) (get_or-take b.place es a.place e less ∙ a.stands e) (b.earliest a.place e (omega (arith, b.within, length-take-le b.place es (omega (arith, b.within))))) in
       let back : AtMost f e = subst (λ x. AtMost x e) (b.stands e) (a.greatest b.place e b.within) in
       orders.apart e f shown back
 
-  one_only : (es : List Evaluation) (e f : Evaluation) → First es e → First es f → e ≡ f
+  one_only : (es : List Evaluation) (e f : Evaluation) → IsFirstOfGreatest es e → IsFirstOfGreatest es f → e ≡ f
   one_only es e f a b =
       let same_place : a.place ≡ b.place =
       ⊎_elim (λ less. absurd (not_earlier es e f a b less)) (λ le. ⊎_elim (λ less. absurd (not_earlier es f e b a less)) (λ ge. omega arith) (cases_lt b.place a.place)) (cases_lt a.place b.place)

@@ -1,10 +1,11 @@
 -- Fractions compared by products: a / m with b / n as a * n with b * m.
-use Rattle.std.proofs.Common.{◌≡◌, ℕ, ◌^◌, ◌≤◌, ◌<◌, ◌⊎◌, inl, inr, true, false, ℤ, pos, ◌*ℤ◌, ◌≤ℤ◌, ◌<ℤ◌, int_lt, unsigned_abs, arith, ap, sym, ◌∙◌, subst, ⊎_elim}
+use Rattle.std.proofs.Common.{◌≡◌, ℕ, ◌^◌, ◌≤◌, ◌<◌, ◌⊎◌, inl, inr, true, false, ℤ, pos, ◌*ℤ◌, ◌≤ℤ◌, ◌<ℤ◌, int_lt, unsigned_abs, arith, subst, ⊎_elim}
 use Rattle.std.proofs.Math.Nat.{mul-le-mul}
 use Rattle.std.proofs.lemmas.Int.{ints, by_lt_z, unsigned_abs-mul}
 use Rattle.std.proofs.lemmas.Bool.{cases_Bool}
-use Rattle.def_sums.proofs.RingLaws.{*ℤ_assoc, ≤ℤ_trans, *ℤ-mono_right, *ℤ-cancel_right}
+use Rattle.def_sums.proofs.RingLaws.{≤ℤ_trans, *ℤ-mono_right, *ℤ-cancel_right}
 use Rattle.def_sums.specs.Limits.{most_rounds}
+use Rattle.def_fraction.proofs.OrderLemmas.{times_turned}
 
 lt_yes : (x y : ℤ) → int_lt x y ≡ true → x <ℤ y
 lt_yes x y e = omega (arith, ints)
@@ -25,18 +26,15 @@ less_at_most x y h = omega (arith, ints)
 pub not_less : (x y : ℤ) → x <ℤ y → y ≤ℤ x → ⊥
 not_less x y h k = omega (arith, ints)
 
-swap : (x : ℤ) (m n : ℕ) → (x *ℤ pos m) *ℤ pos n ≡ (x *ℤ pos n) *ℤ pos m
-swap x m n = *ℤ_assoc x (pos m) (pos n) ∙ ap (λ k. x *ℤ pos k) (omega arith) ∙ sym (*ℤ_assoc x (pos n) (pos m))
-
 -- a / m at most b / n, and that at most c / o
 pub at_most-trans : (a b c : ℤ) (m n o : ℕ) → 1 ≤ n → (a *ℤ pos n) ≤ℤ (b *ℤ pos m) → (b *ℤ pos o) ≤ℤ (c *ℤ pos n)
     → (a *ℤ pos o) ≤ℤ (c *ℤ pos m)
 at_most-trans a b c m n o some h k =
     let first : ((a *ℤ pos o) *ℤ pos n) ≤ℤ ((b *ℤ pos o) *ℤ pos m) =
-    subst (λ z. z ≤ℤ ((b *ℤ pos o) *ℤ pos m)) (swap a n o) (subst (λ z. ((a *ℤ pos n) *ℤ pos o) ≤ℤ z) (swap b m o) (*ℤ-mono_right o (a *ℤ pos n) (b *ℤ pos m) h))
+    subst (λ z. z ≤ℤ ((b *ℤ pos o) *ℤ pos m)) (times_turned a n o) (subst (λ z. ((a *ℤ pos n) *ℤ pos o) ≤ℤ z) (times_turned b m o) (*ℤ-mono_right o (a *ℤ pos n) (b *ℤ pos m) h))
     in
     let second : ((b *ℤ pos o) *ℤ pos m) ≤ℤ ((c *ℤ pos m) *ℤ pos n) =
-    subst (λ z. ((b *ℤ pos o) *ℤ pos m) ≤ℤ z) (swap c n m) (*ℤ-mono_right m (b *ℤ pos o) (c *ℤ pos n) k)
+    subst (λ z. ((b *ℤ pos o) *ℤ pos m) ≤ℤ z) (times_turned c n m) (*ℤ-mono_right m (b *ℤ pos o) (c *ℤ pos n) k)
     in
     *ℤ-cancel_right n (a *ℤ pos o) (c *ℤ pos m) some (≤ℤ_trans _ _ _ first second)
 

@@ -1,5 +1,5 @@
 -- The evaluated rounds.
-use Rattle.std.proofs.Common.{◌≡◌, ℕ, zero, suc, ◌+◌, ◌-◌, ◌*◌, ◌/◌, ◌%◌, ◌≤◌, ◌<◌, min, ◌⊎◌, inl, inr, ◌↔◌, Bool, true, false, cond, ◌||◌, eqb, List, [], ◌∷◌, map, length, get_or, filter, Contains, AllPairs, arith, ap, sym, ◌∙◌, refl, subst, ⊎_elim, eq-eqb, eqb-true}
+use Rattle.std.proofs.Common.{◌≡◌, ℕ, zero, suc, ◌+◌, ◌-◌, ◌*◌, ◌/◌, ◌%◌, ◌≤◌, ◌<◌, min, ◌⊎◌, inl, inr, ◌↔◌, Bool, true, false, cond, ◌||◌, eqb, List, [], ◌∷◌, map, length, get_or, filter, Contains, arith, ap, sym, ◌∙◌, refl, ⊎_elim, eq-eqb, eqb-true}
 use Rattle.std.proofs.Math.Nat.{mul-le-mul_right, mul-mod_left}
 use Rattle.std.specs.List.{range_with_len}
 use Rattle.std.specs.List.Sorted.{IsStrictlyIncreasing}
@@ -8,6 +8,7 @@ use Rattle.std.proofs.lemmas.List.Elements.{All-filter, filter_passes, All-conta
 use Rattle.std.proofs.lemmas.List.Kept.{IsStrictlyIncreasing-filter, AllPairs-from_increasing}
 use Rattle.std.proofs.lemmas.List.FromFn.{length-range_with_len, get_or-range_with_len, length-map-range_with_len, get_or-map-range_with_len}
 use Rattle.def_sums.proofs.Ranges.{All-range}
+use Rattle.def_sums.proofs.RisingLists.{same_elements, range_rises}
 use Rattle.def_bracket.specs.Bracket.{evaluated_rounds}
 use Rattle.def_bracket.specs.Laws.{RoundsAreEvaluated}
 
@@ -50,51 +51,6 @@ which every last k = (
       contains_filter (is_evaluated every last) k (range_with_len 1 last) (k - 1) (omega (arith, h.0, h.1, length-range_with_len 1 last)) here
       (true_either (eqb (k % every) 0) (eqb k last) (⊎_elim (λ e. inl (eq-eqb (k % every) 0 e)) (λ e. inr (eq-eqb k last e)) h.2)),
 )
-
-rising : (a n : ℕ) → IsStrictlyIncreasing (range_with_len a n)
-rising a n k low =
-    let long = length-range_with_len a n in
-    let here = get_or-range_with_len a n k 0 (omega arith) in
-    let next = get_or-range_with_len a n (k + 1) 0 (omega arith) in
-    omega arith
-
--- ---- two rising lists with the same elements are one
-first_below : (x : ℕ) (xs : List ℕ) → AllPairs (λ a b. a < b) (x ∷ xs) → (k : ℕ) → Contains xs k → x < k
-first_below x xs up k c = subst (λ z. x < z) c.2 (up 0 (suc c.0) k (omega arith) (omega (arith, c.1)))
-
-rest_up : (x : ℕ) (xs : List ℕ) → AllPairs (λ a b. a < b) (x ∷ xs) → AllPairs (λ a b. a < b) xs
-rest_up x xs up i j d less low = up (suc i) (suc j) d (omega arith) (omega arith)
-
-in_cons : (x : ℕ) (xs : List ℕ) (k : ℕ) → Contains (x ∷ xs) k → (k ≡ x) ⊎ Contains xs k
-in_cons x xs k (zero, low, e) = inl (sym e)
-in_cons x xs k (suc p, low, e) = inr (p, omega arith, e)
-
-here : (x : ℕ) (xs : List ℕ) → Contains (x ∷ xs) x
-here x xs = (0, omega arith, refl)
-
-there : (x : ℕ) (xs : List ℕ) (k : ℕ) → Contains xs k → Contains (x ∷ xs) k
-there x xs k c = (suc c.0, omega (arith, c.1), c.2)
-
-none_in : (k : ℕ) → Contains [] k → ⊥
-none_in k c = omega (arith, c.1)
-
-same_elements : (xs ys : List ℕ) → AllPairs (λ a b. a < b) xs → AllPairs (λ a b. a < b) ys
-    → ((k : ℕ) → Contains xs k → Contains ys k) → ((k : ℕ) → Contains ys k → Contains xs k) → xs ≡ ys
-same_elements [] [] up up' to from = refl
-same_elements [] (y ∷ ys) up up' to from = absurd (none_in y (from y (here y ys)))
-same_elements (x ∷ xs) [] up up' to from = absurd (none_in x (to x (here x xs)))
-same_elements (x ∷ xs) (y ∷ ys) up up' to from =
-    let heads : x ≡ y =
-    ⊎_elim (λ e. e)
-    (λ later. ⊎_elim (λ e. sym e) (λ later'. absurd (omega (arith, first_below y ys up' x later, first_below x xs up y later'))) (in_cons x xs y (from y (here y ys))))
-    (in_cons y ys x (to x (here x xs)))
-    in
-    let tails : xs ≡ ys =
-    same_elements xs ys (rest_up x xs up) (rest_up y ys up')
-    (λ k c. ⊎_elim (λ e. absurd (omega (arith, first_below x xs up k c))) (λ c'. c') (in_cons y ys k (to k (there x xs k c))))
-    (λ k c. ⊎_elim (λ e. absurd (omega (arith, first_below y ys up' k c))) (λ c'. c') (in_cons x xs k (from k (there y ys k c))))
-    in
-    ap (λ z. z ∷ xs) heads ∙ ap (λ zs. y ∷ zs) tails
 
 -- ---- the i-th evaluated round
 abbrev pub round_at : ℕ → ℕ → ℕ → ℕ
@@ -155,7 +111,7 @@ listed_up every last some p low =
     omega arith
 
 in_order : (every last : ℕ) → IsStrictlyIncreasing (evaluated_rounds every last)
-in_order every last = IsStrictlyIncreasing-filter (is_evaluated every last) (range_with_len 1 last) (rising 1 last)
+in_order every last = IsStrictlyIncreasing-filter (is_evaluated every last) (range_with_len 1 last) (range_rises 1 last)
 
 one_by_one : (every last : ℕ) → 1 ≤ every
     → evaluated_rounds every last ≡ map (round_at every last) (range_with_len 1 (how_many every last))

@@ -47,13 +47,15 @@ pub record AreNoWorse (earlier later : BracketEnds) : Type 0 where
 
 abbrev pub EndsNeverWorsen : Type 0
 EndsNeverWorsen =
-    (evaluations : List Evaluation) (j k : ℕ) (earlier later : BracketEnds) → HaveDivisors evaluations → j ≤ k → k ≤ length evaluations
+    (evaluations : List Evaluation) (j k : ℕ) (earlier later : BracketEnds) → HaveDivisors evaluations → j ≤ k
+    → k ≤ length evaluations
     → ends_of (take j evaluations) ≡ Some earlier → ends_of (take k evaluations) ≡ Some later → AreNoWorse earlier later
 
 -- so where bounds are divided by their rounds no line is wider than an earlier one
 abbrev pub TraceNeverWidens : Type 0
 TraceNeverWidens =
-    (evaluations : List Evaluation) (j k : ℕ) (line : TraceLine) → DivideByRounds evaluations → j ≤ k → k < length evaluations
+    (evaluations : List Evaluation) (j k : ℕ) (line : TraceLine) → DivideByRounds evaluations → j ≤ k
+    → k < length evaluations
     → LiesWithin (slice_index_or (trace evaluations) k line) (slice_index_or (trace evaluations) j line)
 
 -- the ends of a line come from rounds up to its own
@@ -75,7 +77,7 @@ pub record RoundsAreEvaluated : Type 0 where
   pub one_by_one : (every last : ℕ) → 1 ≤ every
       → evaluated_rounds every last ≡ map (λ i. min (i * every) last) (range_with_len 1 ((last + every - 1) / every))
 
--- a bound of an evaluation times a round
+-- a bound of an evaluation times a round is below 2^115 in size
 abbrev pub BracketProductsAreSmall : Type 0
 BracketProductsAreSmall = (bound : ℤ) (round : ℕ) → unsigned_abs bound ≤ most_row → round ≤ most_rounds
     → unsigned_abs (bound *ℤ pos round) < 2 ^ 115

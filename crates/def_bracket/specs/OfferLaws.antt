@@ -12,7 +12,8 @@ abbrev pub OffersAreTraced : Type 0
 OffersAreTraced = (offers : List Offer) → (board_after offers).trace ≡ trace (map evaluation_of_offer offers)
 
 -- what is kept comes from one of the offers: the one whose evaluation this is
-pub record ComesFrom (kept_of : Offer → KeptEnd) (offers : List Offer) (evaluation : Evaluation) (kept : KeptEnd) : Type 0 where
+pub record ComesFrom (kept_of : Offer → KeptEnd) (offers : List Offer) (evaluation : Evaluation)
+    (kept : KeptEnd) : Type 0 where
   pub place : ℕ
   pub within : place < length offers
   pub is_kept : (d : Offer) → kept_of (slice_index_or offers place d) ≡ kept

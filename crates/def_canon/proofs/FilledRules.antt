@@ -1,5 +1,5 @@
 -- Entries without a fault, each with the whole description of its set and its outcome, describe them in one way.
-use Rattle.std.proofs.Common.{◌≡◌, ◌≢◌, ℕ, ◌+◌, ◌≤◌, ◌⊎◌, inl, inr, Bool, true, false, List, [], ◌∷◌, ◌++◌, length, map, refl, sym, ap, ◌∙◌, subst, append_assoc}
+use Rattle.std.proofs.Common.{◌≡◌, ◌≢◌, ℕ, ◌+◌, ◌⊎◌, inl, inr, Bool, true, false, List, [], ◌∷◌, ◌++◌, length, map, refl, sym, ap, ◌∙◌, subst, append_assoc}
 use Rattle.std.specs.Prelude.{◌||◌, nat_eq}
 use Rattle.std.specs.List.{All}
 use Rattle.std.proofs.Math.Logic.{⊎_elim}
@@ -8,13 +8,14 @@ use Rattle.std.proofs.lemmas.Bool.Decides.{eqb_tells}
 use Rattle.std.proofs.lemmas.List.Elements.{All-head, All-tail}
 use Rattle.def_tree.specs.declared.Kind.{Kind}
 use Rattle.def_tree.specs.declared.Kind.TheVariants as movers
-use Rattle.def_tree.specs.Rules.{is_same_kind, most_actions}
+use Rattle.def_tree.specs.Rules.{is_same_kind}
 use Rattle.def_tree.specs.Tree.{IsWhole}
 use Rattle.def_tree.proofs.Sets.{is_same_kind_refl}
 use Rattle.def_file.specs.declared.EntryKind.TheVariants.{Personal}
 use Rattle.def_file.specs.declared.FileFault.TheVariants.{PlayerNumber}
-use Rattle.def_file.specs.Content.{Prologue, SetMention, Record, SetEntry}
+use Rattle.def_file.specs.Content.{Prologue, SetMention, Record}
 use Rattle.def_file.specs.Faults.{has_set, mover}
+use Rattle.def_file.specs.Game.{HasFewActions}
 use Rattle.def_file_entries.specs.Entries.{contents_of, of_kind, outcome_entry, set_entry, set_numbers, set_table}
 use Rattle.def_file_entries.specs.EntryRules.{HasNoPlayer}
 use Rattle.def_file_entries.specs.Laws.{HaveNoFault}
@@ -43,11 +44,8 @@ all_at Q f n (m ∷ ns) is all = chosen (nat_eq n m) refl is (λ later. all_at Q
     chosen true same there later = subst (λ (k : ℕ). Q (f k)) (sym (eqb-true n m same)) (All-head Q (f m) (map f ns) all)
     chosen false other there later = later there
 
-abbrev IsCounted : SetEntry → Type 0
-IsCounted entry = (1 ≤ length entry.actions) × (length entry.actions ≤ most_actions)
-
 module _ (p : Prologue) (rs : List Record) (fine : HaveNoFault rs) (whole : IsWhole (contents_of rs).nodes) where
-  counted : (who : Kind) → who ≢ movers.Leaf → All IsCounted (set_table who rs)
+  counted : (who : Kind) → who ≢ movers.Leaf → All HasFewActions (set_table who rs)
   counted movers.Chance some = (entries_make_whole_game p rs fine whole).together.chance.few
   counted movers.One some = (entries_make_whole_game p rs fine whole).together.one.few
   counted movers.Two some = (entries_make_whole_game p rs fine whole).together.two.few
@@ -56,14 +54,14 @@ module _ (p : Prologue) (rs : List Record) (fine : HaveNoFault rs) (whole : IsWh
   -- a set that is mentioned has 1 to 1,024 actions
   set_counted : (before : List Record) (r : Record) (behind : List Record) → rs ≡ before ++ r ∷ behind
       → has_set r.kind ≡ true
-      → IsCounted (set_entry (mover r) rs r.set.number)
+      → HasFewActions (set_entry (mover r) rs r.set.number)
   set_counted before r behind split has =
       let kept = filter_some (λ x. is_same_kind (mover r) (mover x)) before r behind (is_same_kind_refl (mover r)) in
       let mine : of_kind (mover r) rs ≡ kept.0 ++ r ∷ of_kind (mover r) behind = ap (of_kind (mover r)) split ∙ kept.1 in
       let here : among r.set.number (map (λ x. x.set.number) (of_kind (mover r) rs)) ≡ true =
       ap (λ (xs : List Record). among r.set.number (map (λ x. x.set.number) xs)) mine
       ∙ among_here (λ x. x.set.number) kept.0 r (of_kind (mover r) behind) in
-      all_at IsCounted (set_entry (mover r) rs) r.set.number (set_numbers (mover r) rs)
+      all_at HasFewActions (set_entry (mover r) rs) r.set.number (set_numbers (mover r) rs)
       (among-firsts r.set.number (map (λ x. x.set.number) (of_kind (mover r) rs)) ∙ here) (counted (mover r) (not_leaf r.kind r.player has))
 
   -- of faultless entries of one whole tree, each personal one has player 1 or 2

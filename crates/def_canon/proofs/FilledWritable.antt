@@ -1,9 +1,8 @@
 -- Entries with the whole description of their sets and their outcomes can be written, where what each one gives can be.
-use Rattle.std.proofs.Common.{◌≡◌, ℕ, zero, suc, ◌⊎◌, inl, inr, Bool, true, false, cond, List, [], ◌∷◌, ◌++◌, map, Option, Some, None, unwrap_or, refl, sym, ap, ◌∙◌, subst}
+use Rattle.std.proofs.Common.{◌≡◌, ℕ, ◌⊎◌, inl, inr, Bool, true, false, cond, List, [], ◌∷◌, ◌++◌, map, Option, Some, None, unwrap_or, refl, sym, ap, ◌∙◌, subst}
 use Rattle.std.specs.Prelude.{IfSome, nat_eq, not}
 use Rattle.std.specs.List.{All}
 use Rattle.std.proofs.lemmas.Bool.{eqb-false}
-use Rattle.std.proofs.lemmas.List.Elements.{All-head, All-tail}
 use Rattle.def_fraction.specs.Fraction.{Fraction}
 use Rattle.def_tree.specs.declared.Kind.{Kind}
 use Rattle.def_tree.specs.Rules.{is_same_kind}
@@ -11,15 +10,15 @@ use Rattle.def_tree.specs.Tree.{IsWhole}
 use Rattle.def_tree.proofs.Sets.{is_same_kind-true}
 use Rattle.def_file.specs.declared.EntryKind.{EntryKind}
 use Rattle.def_file.specs.declared.EntryKind.TheVariants as kinds
-use Rattle.def_file.specs.Content.{Action, Prologue, Record, no_set_mention}
+use Rattle.def_file.specs.Content.{Action, Prologue, Record, no_set_mention, no_outcome_mention}
 use Rattle.def_file.specs.Faults.{has_set, mover}
 use Rattle.def_file.specs.Adding.{nth_payoff}
 use Rattle.def_file.specs.Game.{IsSmallFraction}
-use Rattle.def_file.proofs.Fractions.{zero_small}
+use Rattle.def_file.proofs.Fractions.{zero_small, nth_small}
 use Rattle.def_file_entries.specs.Entries.{contents_of, first_given, given_first, mentions, of_kind, outcome_mentions, with_outcome}
 use Rattle.def_file_entries.specs.Laws.{HaveNoFault}
 use Rattle.def_canon.specs.Described.{Each}
-use Rattle.def_canon.specs.Writable.{AreWritableActions, GivesWritable, GivesWritableOutcome, GivesWritableSet, HasOwnMover, IsPlainName, IsWritable, IsWritableOutcome, IsWritableSet, no_outcome_mention}
+use Rattle.def_canon.specs.Writable.{AreWritableActions, GivesWritable, GivesWritableOutcome, GivesWritableSet, HasOwnMover, IsPlainName, IsWritable, IsWritableOutcome, IsWritableSet}
 use Rattle.def_canon.proofs.Filled.{each_mapped, filled, filled_set, own_player, paid_outcome, whole_set}
 use Rattle.def_canon.proofs.FilledRules.{each_placed, player_known}
 use Rattle.def_canon.proofs.FineLines.{kind_of, own_kind}
@@ -46,11 +45,6 @@ first_actions kind (m ∷ ms) each = chosen m.set.actions each.0
     chosen (Some actions) writable = writable
     chosen None writable = tt
 
-nth_small : (fs : List Fraction) (i : ℕ) → All IsSmallFraction fs → IsSmallFraction (nth_payoff fs i)
-nth_small [] i small = zero_small
-nth_small (f ∷ fs) zero small = All-head IsSmallFraction f fs small
-nth_small (f ∷ fs) (suc i) small = nth_small fs i (All-tail IsSmallFraction f fs small)
-
 first_small : (i : ℕ) (ms : List Record) → Each (λ r. IfSome r.outcome.payoffs (All IsSmallFraction)) ms
     → IsSmallFraction (nth_payoff (given_first (map (λ r. r.outcome.payoffs) ms)) i)
 first_small i [] each = zero_small
@@ -65,7 +59,8 @@ first_small i (m ∷ ms) each = chosen m.outcome.payoffs each.0
 abbrev GivesAs : Kind → Record → Type 0
 GivesAs who x = (mover x ≡ who) × GivesWritable x
 
-module _ (p : Prologue) (rs : List Record) (fine : HaveNoFault rs) (whole : IsWhole (contents_of rs).nodes) (gives : Each GivesWritable rs) where
+module _ (p : Prologue) (rs : List Record) (fine : HaveNoFault rs) (whole : IsWhole (contents_of rs).nodes)
+    (gives : Each GivesWritable rs) where
   -- the mentions of a set are of one kind of entry
   mentions_give : (who : Kind) (n : ℕ) → Each (GivesAs who) (mentions who n rs)
   mentions_give who n =

@@ -10,15 +10,16 @@ use Rattle.def_tree.specs.declared.Kind.{Kind}
 use Rattle.def_tree.specs.declared.Kind.TheVariants as movers
 use Rattle.def_file.specs.declared.EntryKind.{EntryKind}
 use Rattle.def_file.specs.declared.EntryKind.TheVariants as kinds
-use Rattle.def_file.specs.Content.{Prologue, Action, SetMention, OutcomeMention, Record}
-use Rattle.def_file.specs.Faults.{has_set, mover, mover_as}
+use Rattle.def_file.specs.Content.{Prologue, Action, SetMention, OutcomeMention, Record, no_outcome_mention}
+use Rattle.def_file.specs.Faults.{mover, mover_as}
 use Rattle.def_file.specs.Adding.{new_set, new_outcome}
 use Rattle.def_file.specs.Game.{IsSmallFraction}
 use Rattle.def_canon.specs.Canon.{on_new_line, open_piece, quoted, text_piece, marker_pieces, prologue_pieces, spaced, action_pieces, chance_pieces, close_piece, described_outcome, each, list_pieces, name_pieces, payoffs_pieces, player_pieces, set_pieces, whole_piece}
 use Rattle.def_canon.specs.Described.{Each}
-use Rattle.def_canon.specs.Writable.{IsPlainPrologue, AreWritableActions, IsChanceOf, IsPlainName, IsWritable, IsWritableOutcome, IsWritableSet, no_outcome_mention}
+use Rattle.def_canon.specs.Writable.{IsPlainPrologue, AreWritableActions, IsChanceOf, IsPlainName, IsWritable, IsWritableOutcome, IsWritableSet}
 use Rattle.def_canon.proofs.OwnLines.{own_lines, own_outcome, own_pieces}
-use Rattle.def_canon.proofs.Runs.{IsFine, fine_digits, fine_line, fine_word, first_word, EachFine, fine_append, fine_close, fine_comma, fine_fraction, fine_letter, fine_open, fine_text, fine_whole}
+use Rattle.def_canon.proofs.FineTokens.{IsFine, fine_digits, fine_line, fine_word, first_word, EachFine, fine_append, fine_close, fine_comma, fine_fraction, fine_letter, fine_open, fine_text, fine_whole}
+use Rattle.def_canon.proofs.Tables.{mover_has_set}
 
 name_fine : (name : Option (List ℕ)) → IsPlainName name → EachFine (name_pieces name)
 unfolding name_pieces
@@ -128,17 +129,12 @@ own_kind kinds.Personal player = chosen (nat_eq player 1)
     chosen false = refl
 own_kind kinds.Leaf player = refl
 
-set_known : (kind : EntryKind) (player : ℕ) → mover_as kind player ≢ movers.Leaf → has_set kind ≡ true
-set_known kinds.Chance player some = refl
-set_known kinds.Personal player some = refl
-set_known kinds.Leaf player some = absurd (some refl)
-
 -- each token of the lines of writable entries may stand behind any other
 pub lines_fine : (rs : List Record) → Each IsWritable rs → EachFine (own_lines rs)
 lines_fine [] w = tt
 lines_fine (r ∷ rs) w =
     fine_append (own_pieces (mover r) r) (own_lines rs)
-    (pieces_fine (mover r) r w.0 (λ some. subst (λ (k : EntryKind). IsWritableSet k r.set) (sym (own_kind r.kind r.player)) (w.0.set (set_known r.kind r.player some))))
+    (pieces_fine (mover r) r w.0 (λ some. subst (λ (k : EntryKind). IsWritableSet k r.set) (sym (own_kind r.kind r.player)) (w.0.set (mover_has_set r.kind r.player some))))
     (lines_fine rs w.1)
 
 -- the first token has no white space before it

@@ -2,13 +2,13 @@ pub mod Filled
 pub mod FilledRules
 pub mod FilledWritable
 pub mod FineLines
-pub mod Givers
+pub mod FilesAreWritable
 pub mod Lookups
 pub mod NoFault
 pub mod OwnLines
 pub mod ReadBack
 pub mod RoundTrip
-pub mod Runs
+pub mod FineTokens
 pub mod Sizes
 pub mod Spelled
 pub mod Tables

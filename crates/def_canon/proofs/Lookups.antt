@@ -13,7 +13,7 @@ use Rattle.def_file.specs.Adding.{new_set, new_outcome, nth_payoff}
 use Rattle.def_file_entries.specs.Entries.{first_given, firsts, given_first, mentions, number_in, of_kind, outcome_entry, outcome_mentions, outcome_numbers, outcome_table, with_outcome, set_entry, set_numbers, set_table}
 use Rattle.def_file_entries.proofs.Firsts.{among, among-firsts, place}
 use Rattle.def_canon.specs.Described.{Describes, Each}
-use Rattle.def_canon.proofs.Tables.{AreNames, filter_each, filter_some, first_name, first_same, front_some, given_same, mention_some, mentions_same}
+use Rattle.def_canon.proofs.Tables.{AreAllNamed, filter_each, filter_some, first_name, first_same, front_some, given_same, mention_some, mentions_same}
 
 look_step : {E : Type 0} (f : ℕ → E) (d : E) (n m : ℕ) (ns : List ℕ) (here : Bool) → nat_eq n m ≡ here
     → (here || among n ns) ≡ true → (among n ns ≡ true → get_or (map f ns) (place n ns) d ≡ f n)
@@ -70,7 +70,7 @@ module _ (sets : Kind → ℕ → SetMention) (outcomes : ℕ → OutcomeMention
       ∙ own_entry rs before r behind split each some same
 
 outcome_names : (v : OutcomeMention) (rs : List Record) → Each (λ r. r.outcome ≡ v) rs
-    → AreNames v.name (map (λ r. r.outcome.name) rs)
+    → AreAllNamed v.name (map (λ r. r.outcome.name) rs)
 outcome_names v [] each = tt
 outcome_names v (r ∷ rs) each = (ap (λ (m : OutcomeMention). m.name) each.0, outcome_names v rs each.1)
 

@@ -9,13 +9,13 @@ use Rattle.def_tree.specs.declared.Kind.{Kind}
 use Rattle.def_tree.specs.declared.Kind.TheVariants as movers
 use Rattle.def_file.specs.declared.EntryKind.{EntryKind}
 use Rattle.def_file.specs.declared.EntryKind.TheVariants.{Chance, Personal, Leaf}
-use Rattle.def_file.specs.Content.{SetMention, OutcomeMention, Record}
+use Rattle.def_file.specs.Content.{SetMention, OutcomeMention, Record, no_outcome_mention}
 use Rattle.def_file.specs.Faults.{has_set, mover, mover_as}
 use Rattle.def_file.specs.Adding.{new_set, new_outcome}
 use Rattle.def_file_form.specs.Form.{AreEntries, IsEntry, IsEntryAs, IsOutcome, IsSet, IsWholeNumber, Spelled, spelled}
 use Rattle.def_canon.specs.Canon.{described_outcome, letter, player_pieces, set_pieces, text_piece, whole_piece}
 use Rattle.def_canon.specs.Described.{Each}
-use Rattle.def_canon.specs.Writable.{HasOwnMover, IsWritable, IsWritableOutcome, IsWritableSet, no_outcome_mention}
+use Rattle.def_canon.specs.Writable.{HasOwnMover, IsWritable, IsWritableOutcome, IsWritableSet}
 use Rattle.def_canon.proofs.Spelled.{MovesAs, chance_moves_as, one_moves_as, outcome_is, set_is, spell, spell_append, text_is, two_moves_as, whole_is}
 
 abbrev pub own_place : Kind → SetMention → List Piece

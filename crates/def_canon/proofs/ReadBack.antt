@@ -18,7 +18,7 @@ use Rattle.def_file.specs.Adding.{new_set, new_outcome}
 use Rattle.def_file_entries.specs.Entries.{contents_of, game_of_entries, node_of, number_in, outcome_numbers, outcome_table, set_numbers, set_table}
 use Rattle.def_file_form.specs.Form.{IsPrologue, Spelled}
 use Rattle.def_file_form.specs.Laws.{StandsFor}
-use Rattle.def_file_form.proofs.Whole.{game_taken}
+use Rattle.def_file_form.proofs.FileReadingIsExact.{game_taken}
 use Rattle.def_canon.specs.Canon.{canon, described_outcome, each, game_pieces, lines_pieces, node_pieces, outcome_pieces, place_pieces, player_pieces, prologue_pieces, set_pieces, text_piece, letter, whole_piece}
 use Rattle.def_canon.specs.Described.{Describes, Each}
 use Rattle.def_canon.specs.Laws.{CanonIsReadBack, CanonStandsForGame, IsOfEntries}
@@ -66,7 +66,8 @@ no_place movers.One leaf sets n m = cc
 no_place movers.Two leaf sets n m = cc
 no_place movers.Leaf leaf sets n m = refl
 
-module _ (sets : Kind → ℕ → SetMention) (outcomes : ℕ → OutcomeMention) (rs : List Record) (each_described : Each (Describes sets outcomes) rs) where
+module _ (sets : Kind → ℕ → SetMention) (outcomes : ℕ → OutcomeMention) (rs : List Record)
+    (each_described : Each (Describes sets outcomes) rs) where
   place_own : (before : List Record) (r : Record) (behind : List Record) → rs ≡ before ++ r ∷ behind
       → place_pieces (mover r) (contents_of rs).sets (node_of rs r).set ≡ own_place (mover r) r.set
   place_own before r behind split = chosen (has_set r.kind) refl

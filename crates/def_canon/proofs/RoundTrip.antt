@@ -13,7 +13,7 @@ use Rattle.def_canon.specs.Laws.{CanonOfFaultless, CanonOfFile, CanonOfMade, IsO
 use Rattle.def_canon.proofs.Filled.{filled, filled_contents, whole_outcome, whole_set}
 use Rattle.def_canon.proofs.FilledRules.{filled_described}
 use Rattle.def_canon.proofs.FilledWritable.{filled_writable}
-use Rattle.def_canon.proofs.Givers.{entries_give, prologue_gives}
+use Rattle.def_canon.proofs.FilesAreWritable.{entries_give, prologue_gives}
 use Rattle.def_canon.proofs.ReadBack.{canon_is_read_back, canon_stands_for_game}
 
 -- the same game is that of entries that describe all whole

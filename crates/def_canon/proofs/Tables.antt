@@ -84,16 +84,17 @@ given_same v [] some each = absurd (omega arith)
 given_same v (r ∷ rs) some each = ap (λ (m : SetMention). unwrap_or m.actions []) each.0
 
 -- names that are all this one
-abbrev pub AreNames : Option (List ℕ) → List (Option (List ℕ)) → Type 0
-AreNames name [] = Unit {0}
-AreNames name (x ∷ xs) = (x ≡ name) × AreNames name xs
+abbrev pub AreAllNamed : Option (List ℕ) → List (Option (List ℕ)) → Type 0
+AreAllNamed name [] = Unit {0}
+AreAllNamed name (x ∷ xs) = (x ≡ name) × AreAllNamed name xs
 
-names_are : (v : SetMention) (rs : List Record) → Each (λ r. r.set ≡ v) rs → AreNames v.name (map (λ r. r.set.name) rs)
+names_are : (v : SetMention) (rs : List Record) → Each (λ r. r.set ≡ v) rs
+    → AreAllNamed v.name (map (λ r. r.set.name) rs)
 names_are v [] each = tt
 names_are v (r ∷ rs) each = (ap (λ (m : SetMention). m.name) each.0, names_are v rs each.1)
 
 -- of one or more names that are all this one, the first that is given is this one
-pub first_name : (name : Option (List ℕ)) (os : List (Option (List ℕ))) → 1 ≤ length os → AreNames name os
+pub first_name : (name : Option (List ℕ)) (os : List (Option (List ℕ))) → 1 ≤ length os → AreAllNamed name os
     → first_given os ≡ name
 first_name name [] some are = absurd (omega arith)
 first_name (Some name) (o ∷ os) some are = ap (λ (x : Option (List ℕ)). first_given (x ∷ os)) are.0

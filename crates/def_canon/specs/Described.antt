@@ -29,11 +29,13 @@ pub record DescribesOutcome (outcomes : ℕ → OutcomeMention) (r : Record) : T
   pub null : r.outcome.number ≡ 0 → r.outcome.payoffs ≡ None
   pub two : r.outcome.number ≢ 0 → (one two : Fraction) × (r.outcome.payoffs ≡ Some (one ∷ two ∷ []))
 
+-- an entry describes its set and its outcome as the tables do, and a player's entry is of player 1 or 2
 pub record Describes (sets : Kind → ℕ → SetMention) (outcomes : ℕ → OutcomeMention) (r : Record) : Type 0 where
   pub player : r.kind ≡ Personal → (r.player ≡ 1) ⊎ (r.player ≡ 2)
   pub set : has_set r.kind ≡ true → DescribesSet sets r
   pub outcome : DescribesOutcome outcomes r
 
+-- entries that describe their sets and outcomes have no fault, up to the limit of nodes
 abbrev pub DescribedHaveNoFault : Type 0
 DescribedHaveNoFault = (sets : Kind → ℕ → SetMention) (outcomes : ℕ → OutcomeMention) (rs : List Record)
     → Each (Describes sets outcomes) rs → length rs ≤ most_nodes → HaveNoFault rs

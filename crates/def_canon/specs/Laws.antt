@@ -28,6 +28,7 @@ pub record IsOfEntries (game : GameFile) : Type 0 where
   pub whole : IsWhole (contents_of entries).nodes
   pub game_is : game ≡ game_of_entries prologue entries
 
+-- the canonical form of a game of described entries stands for this game
 abbrev pub CanonStandsForGame : Type 0
 CanonStandsForGame = (game : GameFile) → IsOfEntries game → StandsFor (canon game) game
 
@@ -46,6 +47,7 @@ pub record IsOfFaultless (game : GameFile) : Type 0 where
   pub whole : IsWhole (contents_of entries).nodes
   pub game_is : game ≡ game_of_entries prologue entries
 
+-- the canonical form of a game of entries without a fault stands for this game
 abbrev pub CanonOfFaultless : Type 0
 CanonOfFaultless = (game : GameFile) → IsOfFaultless game → StandsFor (canon game) game
 

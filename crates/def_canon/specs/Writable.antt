@@ -2,11 +2,11 @@
 --     IsWritable r      an entry says all of its set and its outcome, within the limits of the format
 --     GivesWritable r   what an entry says is within these limits, however much it leaves out
 use Rattle.std.specs.Prelude.{◌≡◌, ◌≢◌, ℕ, ◌≤◌, ◌⊎◌, true, List, [], ◌∷◌, All, Option, Some, None, IfSome}
-use Rattle.def_fraction.specs.Fraction.{Fraction, most}
+use Rattle.def_fraction.specs.Fraction.{Fraction, most, zero_fraction}
 use Rattle.def_file_tokens.specs.Texts.{EndsPlainly}
 use Rattle.def_file.specs.declared.EntryKind.{EntryKind}
 use Rattle.def_file.specs.declared.EntryKind.TheVariants.{Chance, Personal, Leaf}
-use Rattle.def_file.specs.Content.{Action, Prologue, SetMention, OutcomeMention, Record, no_set_mention, zero_fraction}
+use Rattle.def_file.specs.Content.{Action, Prologue, SetMention, OutcomeMention, Record, no_set_mention, no_outcome_mention}
 use Rattle.def_file.specs.Faults.{has_set}
 use Rattle.def_file.specs.Game.{IsSmallFraction}
 
@@ -38,9 +38,6 @@ pub record IsWritableSet (kind : EntryKind) (m : SetMention) : Type 0 where
   pub actions : List Action
   pub gives : m.actions ≡ Some actions
   pub writable : AreWritableActions kind actions
-
-abbrev pub no_outcome_mention : OutcomeMention
-no_outcome_mention = record { number = 0; name = None; payoffs = None }
 
 -- an outcome with its two payoffs
 pub record IsWritableOutcome (m : OutcomeMention) : Type 0 where

@@ -4,11 +4,11 @@ use Rattle.std.specs.List.{AllZip}
 use Rattle.std.proofs.lemmas.List.{length-take, length-drop, take-append-drop}
 use Rattle.def_tree.specs.declared.Player.{Player}
 use Rattle.def_tree.specs.declared.Player.TheVariants.{One, Two}
-use Rattle.def_sums.specs.Sum.{nat_sum_over}
 use Rattle.def_fraction.specs.Fraction.{fraction_of}
 use Rattle.def_plan.specs.Form.{InformationSet, AreInOrder, player_sets}
 use Rattle.def_plan.specs.Plan.{IsPlan}
 use Rattle.def_plan.specs.Payoff.{leaf_sum}
+use Rattle.def_plan.proofs.Places.{total_actions}
 use Rattle.def_reply.specs.Reply.{best_reply_to}
 use Rattle.def_reply.proofs.Optimal.{best-tight}
 use Rattle.def_round.specs.Rounds.{rounds}
@@ -20,16 +20,13 @@ use Rattle.def_run.proofs.RunLaws.{evaluations_are_bounds, ends_are_of_their_rou
 use Rattle.def_cert_verdict.specs.Certificate.{PrintedPlan, PrintedBounds, joined, printed_numbers, last_line}
 use Rattle.def_cert_verdict.specs.Verdict.{WeighedGame, head_only, bracket, verdict}
 use Rattle.def_cert_verdict.specs.Laws.{HoldsAsPlan, HoldsAsReply, HoldsUp}
-use Rattle.def_cert_verdict.proofs.Decided.{exact}
+use Rattle.def_cert_verdict.proofs.VerdictIsExact.{exact}
 use Rattle.def_cert_verdict.proofs.LastLine.{last_is}
 use Rattle.def_cert_accepted.specs.OfOutcome.{by_sets, printed_plan, certificate_of}
 use Rattle.def_cert_accepted.specs.Laws.{TheCertificateOfARunIsAccepted}
 use Rattle.def_cert_accepted.proofs.OfRun.{own_head, own_head-is, same_head, bounds_of_run, certificate_with, certificate_without}
 
 -- ---- plans
-abbrev total_actions : List InformationSet → ℕ
-total_actions hs = nat_sum_over (λ (h : InformationSet). h.actions) hs
-
 sizes_by_sets : (hs : List InformationSet) (xs : List ℕ) → total_actions hs ≤ length xs
     → AllZip (λ h ws. length ws ≡ h.actions) hs (by_sets hs xs)
 sizes_by_sets [] xs low = tt

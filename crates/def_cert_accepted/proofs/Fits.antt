@@ -23,13 +23,13 @@ use Rattle.def_reply.proofs.Optimal.{best-tight}
 use Rattle.def_reply.proofs.ReplySizes.{values-below, total-below}
 use Rattle.def_round.specs.Rounds.{rounds}
 use Rattle.def_bracket.specs.Bracket.{Evaluation, BracketEnds, ends_of, TraceLine, trace, evaluated_rounds}
-use Rattle.def_bracket.specs.Laws.{HaveDivisors, RoundsAreEvaluated}
+use Rattle.def_bracket.specs.Laws.{RoundsAreEvaluated}
 use Rattle.def_bracket.specs.Outcome.{Head}
 use Rattle.def_bracket.proofs.EvaluatedRounds.{rounds as rounds_are}
 use Rattle.def_bracket.proofs.BestEnds.{best_ends}
 use Rattle.def_bracket.proofs.TraceLines.{trace_lines}
 use Rattle.def_run.specs.Run.{outcome, total_against, evaluation, evaluations}
-use Rattle.def_run.proofs.RunLaws.{evaluations_are_bounds, ends_are_of_their_rounds, rounds_of, runs_have_ends, some_ends}
+use Rattle.def_run.proofs.RunLaws.{evaluations_are_bounds, ends_are_of_their_rounds, rounds_of, runs_have_ends, some_ends, divisors_of}
 use Rattle.def_cert_verdict.specs.Verdict.{WeighedGame}
 use Rattle.def_tree.specs.Rules.{most_actions}
 use Rattle.def_fraction.specs.Fraction.{most}
@@ -208,10 +208,6 @@ up_to game last every scale k place e order_one order_two fits le low stands =
     let here = evaluation_fits game last every scale r order_one order_two fits first in_time in
     subst (EvaluationFits (min ((k + 1) * every) last)) (sym same) (record { round = (first, not_later); low = here.low; high = here.high })
 
--- no evaluation of a run is divided by 0
-divisors : (form : SequenceForm) (scale every last : ℕ) → HaveDivisors (evaluations form scale every last)
-divisors form scale every last k d below = let r = rounds_of form scale every last k d below in omega (arith, r.0, r.1)
-
 line_fits : (game : WeighedGame) (last every scale : ℕ) → AreInOrder game.form.sets_one → AreInOrder game.form.sets_two
     → HeadFits (own_head game last every scale)
     → (k : ℕ) (line : TraceLine) → k < length (trace (evaluations game.form scale every last))
@@ -228,7 +224,7 @@ line_fits game last every scale order_one order_two fits k line within =
     let long : length part ≡ k + 1 = omega (arith, length-take (k + 1) es) in
     let some = some_ends part (omega arith) in
     let ends : BracketEnds = some.0 in
-    let after = All-take (λ (e : Evaluation). 1 ≤ e.divisor) (k + 1) es (divisors form scale every last) in
+    let after = All-take (λ (e : Evaluation). 1 ≤ e.divisor) (k + 1) es (divisors_of form scale every last) in
     let lower = best_ends.lower part ends after some.1 in
     let upper = best_ends.upper part ends after some.1 in
     let at_lower = sym (get_or-take (k + 1) es lower.place ends.lower (omega (arith, lower.within))) ∙ lower.stands ends.lower in

@@ -16,7 +16,7 @@ use Rattle.def_bracket.specs.Bracket.{TraceLine}
 use Rattle.def_bracket.specs.Outcome.{Head}
 use Rattle.def_cert_verdict.specs.Certificate.{PrintedBounds, joined, printed_numbers}
 use Rattle.def_cert_verdict.specs.Verdict.{WeighedGame, Verdict, head_only, bracket, verdict}
-use Rattle.def_cert_verdict.proofs.Decided.{exact}
+use Rattle.def_cert_verdict.proofs.VerdictIsExact.{exact}
 use Rattle.def_cert_ranges.specs.Ranges.{PlanWeightsFit, ReplyFits, FitsBelowHead}
 use Rattle.def_cert_ranges.specs.Laws.{TraceProductsAreSmall, PlanSumsAreSmall, WorthsAreSmall, HeadAloneWithoutRounds}
 

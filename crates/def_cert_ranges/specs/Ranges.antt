@@ -18,6 +18,10 @@ IsFromTo low high n = (low ≤ n) × (n ≤ high)
 abbrev pub most_printed : ℕ
 most_printed = 2 ^ 100
 
+-- the size of an end times a round
+abbrev pub most_line_product : ℕ
+most_line_product = most_printed * most_rounds
+
 abbrev pub IsPrintable : ℤ → Type 0
 IsPrintable n = unsigned_abs n ≤ most_printed
 

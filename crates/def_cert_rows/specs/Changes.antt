@@ -1,15 +1,9 @@
 -- Certificates with some fields changed, each by the line that it stands in. Sets and trace lines count from 1.
-use Rattle.std.specs.Prelude.{ℕ, ◌-◌, List, [], ◌∷◌, ℤ, pos, neg_ℤ, slice_set}
-use Rattle.def_fraction.specs.Fraction.{Fraction}
+use Rattle.std.specs.Prelude.{ℕ, ◌-◌, List, [], ◌∷◌, ℤ, slice_set}
+use Rattle.def_fraction.specs.Fraction.{over}
 use Rattle.def_reply.specs.Reply.{Reply, SetReply}
 use Rattle.def_bracket.specs.Bracket.{TraceLine}
 use Rattle.def_cert_verdict.specs.Certificate.{PrintedPlan, PrintedBounds}
-
-abbrev pub negative : ℕ → ℤ
-negative n = neg_ℤ (pos n)
-
-abbrev pub over : ℤ → ℕ → Fraction
-over num den = record { num = num; den = den }
 
 abbrev pub said : ℤ → ℕ → SetReply
 said value choice = record { value = value; choice = choice }
@@ -33,8 +27,8 @@ pub data Change : Type 0 where
 abbrev with_weights : ℕ → List ℕ → PrintedPlan → PrintedPlan
 with_weights set ws plan = record plan { weights = slice_set plan.weights (set - 1) ws }
 
-abbrev with_value : ℕ → ℤ → ℕ → Reply → Reply
-with_value set value choice reply = record reply { sets = slice_set reply.sets (set - 1) (said value choice) }
+abbrev with_set_reply : ℕ → ℤ → ℕ → Reply → Reply
+with_set_reply set value choice reply = record reply { sets = slice_set reply.sets (set - 1) (said value choice) }
 
 abbrev pub with_change : Change → PrintedBounds → PrintedBounds
 with_change (line k row) b = record b { trace = slice_set b.trace (k - 1) row }
@@ -44,8 +38,8 @@ with_change (weights_one set ws) b = record b { plan_one = with_weights set ws b
 with_change (weights_two set ws) b = record b { plan_two = with_weights set ws b.plan_two }
 with_change (reply_one total) b = record b { reply_one = record (b.reply_one) { total = total } }
 with_change (reply_two total) b = record b { reply_two = record (b.reply_two) { total = total } }
-with_change (value_one set value choice) b = record b { reply_one = with_value set value choice b.reply_one }
-with_change (value_two set value choice) b = record b { reply_two = with_value set value choice b.reply_two }
+with_change (value_one set value choice) b = record b { reply_one = with_set_reply set value choice b.reply_one }
+with_change (value_two set value choice) b = record b { reply_two = with_set_reply set value choice b.reply_two }
 with_change (low_end num den) b = record b { low = over num den }
 with_change (high_end num den) b = record b { high = over num den }
 

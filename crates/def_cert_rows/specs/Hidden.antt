@@ -6,7 +6,8 @@ use Rattle.def_cert_verdict.specs.declared.fault.TestFault.{TestFault}
 use Rattle.def_cert_verdict.specs.Certificate.{PrintedBounds}
 use Rattle.def_cert_verdict.specs.Verdict.{WeighedGame, Verdict, verdict}
 use Rattle.def_cert_verdict.specs.Laws.{with_bounds}
-use Rattle.def_cert_rows.specs.Changes.{Change, changed, negative, over, said, traced}
+use Rattle.def_fraction.specs.Fraction.{over, negative_of}
+use Rattle.def_cert_rows.specs.Changes.{Change, changed, said, traced}
 
 abbrev pub hidden_game : WeighedGame
 hidden_game = record { nodes = 39; unit = 3; form = hidden }
@@ -28,12 +29,12 @@ hidden_head = record {
 
 abbrev pub hidden_bounds : PrintedBounds
 hidden_bounds = record {
-  trace = traced 1 1 (negative 26) 1 (pos 7) ∷ traced 2 1 (negative 26) 2 (pos 8) ∷ traced 3 3 (negative 66) 2 (pos 8) ∷ traced 4 3 (negative 66) 2 (pos 8) ∷ [];
+  trace = traced 1 1 (negative_of 26) 1 (pos 7) ∷ traced 2 1 (negative_of 26) 2 (pos 8) ∷ traced 3 3 (negative_of 66) 2 (pos 8) ∷ traced 4 3 (negative_of 66) 2 (pos 8) ∷ [];
   plan_one = record { root = 30; weights = (12 ∷ 6 ∷ 12 ∷ []) ∷ (1 ∷ 11 ∷ []) ∷ (1 ∷ 5 ∷ []) ∷ [] };
-  reply_two = record { total = negative 66; sets = said (negative 66) 1 ∷ said (negative 36) 2 ∷ said (negative 30) 1 ∷ [] };
+  reply_two = record { total = negative_of 66; sets = said (negative_of 66) 1 ∷ said (negative_of 36) 2 ∷ said (negative_of 30) 1 ∷ [] };
   plan_two = record { root = 20; weights = (3 ∷ 3 ∷ 14 ∷ []) ∷ (1 ∷ 2 ∷ []) ∷ (1 ∷ 2 ∷ []) ∷ [] };
-  reply_one = record { total = pos 8; sets = said (pos 8) 3 ∷ said (negative 6) 2 ∷ said (negative 2) 2 ∷ [] };
-  low = over (negative 11) 15;
+  reply_one = record { total = pos 8; sets = said (pos 8) 3 ∷ said (negative_of 6) 2 ∷ said (negative_of 2) 2 ∷ [] };
+  low = over (negative_of 11) 15;
   high = over (pos 2) 15;
 }
 

@@ -6,7 +6,8 @@ use Rattle.def_cert_verdict.specs.declared.fault.TestFault.{TestFault}
 use Rattle.def_cert_verdict.specs.Certificate.{PrintedBounds}
 use Rattle.def_cert_verdict.specs.Verdict.{WeighedGame, Verdict, verdict}
 use Rattle.def_cert_verdict.specs.Laws.{with_bounds}
-use Rattle.def_cert_rows.specs.Changes.{Change, changed, negative, over, said, traced}
+use Rattle.def_fraction.specs.Fraction.{over, negative_of}
+use Rattle.def_cert_rows.specs.Changes.{Change, changed, said, traced}
 
 abbrev pub kuhn_game : WeighedGame
 kuhn_game = record { nodes = 58; unit = 6; form = kuhn }
@@ -34,18 +35,18 @@ quarters = 262144 ∷ 262144 ∷ []
 
 abbrev pub kuhn_bounds : PrintedBounds
 kuhn_bounds = record {
-  trace = traced 1 1 (negative 2621440) 1 (pos 3145728) ∷ [];
+  trace = traced 1 1 (negative_of 2621440) 1 (pos 3145728) ∷ [];
   plan_one = record { root = 1048576; weights = halves ∷ quarters ∷ halves ∷ quarters ∷ halves ∷ quarters ∷ [] };
   reply_two = record {
-    total = negative 2621440;
-    sets = said (negative 524288) 2 ∷ said (pos 0) 2 ∷ said (negative 1572864) 2 ∷ said (negative 2097152) 2 ∷ said (pos 524288) 2 ∷ said (pos 1048576) 1 ∷ [];
+    total = negative_of 2621440;
+    sets = said (negative_of 524288) 2 ∷ said (pos 0) 2 ∷ said (negative_of 1572864) 2 ∷ said (negative_of 2097152) 2 ∷ said (pos 524288) 2 ∷ said (pos 1048576) 1 ∷ [];
   };
   plan_two = record { root = 1048576; weights = halves ∷ halves ∷ halves ∷ halves ∷ halves ∷ halves ∷ [] };
   reply_one = record {
     total = pos 3145728;
-    sets = said (negative 1048576) 2 ∷ said (negative 1048576) 1 ∷ said (pos 1048576) 2 ∷ said (pos 0) 2 ∷ said (pos 3145728) 1 ∷ said (pos 2097152) 2 ∷ [];
+    sets = said (negative_of 1048576) 2 ∷ said (negative_of 1048576) 1 ∷ said (pos 1048576) 2 ∷ said (pos 0) 2 ∷ said (pos 3145728) 1 ∷ said (pos 2097152) 2 ∷ [];
   };
-  low = over (negative 5) 12;
+  low = over (negative_of 5) 12;
   high = over (pos 1) 2;
 }
 

@@ -6,7 +6,8 @@ use Rattle.def_cert_verdict.specs.declared.fault.TestFault.{TestFault}
 use Rattle.def_cert_verdict.specs.Certificate.{PrintedBounds}
 use Rattle.def_cert_verdict.specs.Verdict.{WeighedGame, Verdict, verdict}
 use Rattle.def_cert_verdict.specs.Laws.{with_bounds}
-use Rattle.def_cert_rows.specs.Changes.{Change, changed, over, said, traced}
+use Rattle.def_fraction.specs.Fraction.{over}
+use Rattle.def_cert_rows.specs.Changes.{Change, changed, said, traced}
 
 abbrev pub one_mover_game : WeighedGame
 one_mover_game = record { nodes = 3; unit = 1; form = one_mover }

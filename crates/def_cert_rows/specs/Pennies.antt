@@ -6,7 +6,8 @@ use Rattle.def_cert_verdict.specs.declared.fault.TestFault.{TestFault}
 use Rattle.def_cert_verdict.specs.Certificate.{PrintedBounds}
 use Rattle.def_cert_verdict.specs.Verdict.{WeighedGame, Verdict, verdict}
 use Rattle.def_cert_verdict.specs.Laws.{with_bounds}
-use Rattle.def_cert_rows.specs.Changes.{Change, changed, negative, over, said, traced}
+use Rattle.def_fraction.specs.Fraction.{over, negative_of}
+use Rattle.def_cert_rows.specs.Changes.{Change, changed, said, traced}
 
 abbrev pub pennies_game : WeighedGame
 pennies_game = record { nodes = 7; unit = 1; form = pennies }
@@ -50,11 +51,11 @@ scale_one_head = record pennies_head { rounds = 2; scale = 1 }
 
 abbrev pub scale_one_bounds : PrintedBounds
 scale_one_bounds = record {
-  trace = traced 1 1 (negative 1) 1 (pos 1) ∷ traced 2 1 (negative 1) 2 (pos 0) ∷ [];
+  trace = traced 1 1 (negative_of 1) 1 (pos 1) ∷ traced 2 1 (negative_of 1) 2 (pos 0) ∷ [];
   plan_one = record { root = 1; weights = (0 ∷ 1 ∷ []) ∷ [] };
-  reply_two = record { total = negative 1; sets = said (negative 1) 1 ∷ [] };
+  reply_two = record { total = negative_of 1; sets = said (negative_of 1) 1 ∷ [] };
   plan_two = record { root = 2; weights = (1 ∷ 1 ∷ []) ∷ [] };
   reply_one = record { total = pos 0; sets = said (pos 0) 1 ∷ [] };
-  low = over (negative 1) 1;
+  low = over (negative_of 1) 1;
   high = over (pos 0) 1;
 }

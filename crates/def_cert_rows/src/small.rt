@@ -8,7 +8,8 @@ ghost use Rattle.def_cert_verdict.specs.declared.fault.TestFault.TheVariants.{Tr
 ghost use Rattle.def_cert_verdict.specs.declared.fault.Which.TheVariants.{Lower, Upper};
 ghost use Rattle.def_cert_verdict.specs.Laws.{with_bounds, without_bounds};
 ghost use Rattle.def_cert_verdict.specs.Verdict.{bracket, head_only, verdict};
-ghost use Rattle.def_cert_rows.specs.Changes.{changed, high_end, line, negative, over, plan_one, reply_two, traced};
+ghost use Rattle.def_fraction.specs.Fraction.{over, negative_of};
+ghost use Rattle.def_cert_rows.specs.Changes.{changed, high_end, line, plan_one, reply_two, traced};
 ghost use Rattle.def_cert_rows.specs.Changes.{value_two, weights_one};
 ghost use Rattle.def_cert_rows.specs.Kuhn.{kuhn_verdict};
 ghost use Rattle.def_cert_rows.specs.OneMover.{one_mover_verdict};
@@ -20,7 +21,7 @@ ghost use Rattle.def_cert_rows.specs.Pennies.{pennies_head, pennies_verdict};
 pub fn pennies_lines()
     ensures unchanged { pennies_verdict [] ≡ Ok (bracket (over (pos 0) 1) (over (pos 0) 1)) }
     ensures better_value { pennies_verdict (value_two 1 (pos 1) 1 ∷ []) ≡ Err (ValueTooGood Two 1 1) }
-    ensures worse_value { pennies_verdict (value_two 1 (negative 1) 1 ∷ []) ≡ Err (ReplyNotTight Two 1) }
+    ensures worse_value { pennies_verdict (value_two 1 (negative_of 1) 1 ∷ []) ≡ Err (ReplyNotTight Two 1) }
     ensures other_choice { pennies_verdict (value_two 1 (pos 0) 2 ∷ [])
         ≡ Ok (bracket (over (pos 0) 1) (over (pos 0) 1)) }
     ensures no_action { pennies_verdict (value_two 1 (pos 0) 3 ∷ []) ≡ Err (ReplyNotTight Two 1) }
@@ -57,9 +58,9 @@ pub fn pennies_heads()
 /// Rows: Kuhn poker, whose unit is 6: accepted from -5/12 to 1/2, and refused for a value, a choice and weights.
 #[tactic(auto, unfolding(def_fraction::specs::Divisors::gcd, def_fraction::specs::Fraction::fraction_of))]
 pub fn kuhn_verdicts()
-    ensures unchanged { kuhn_verdict [] ≡ Ok (bracket (over (negative 5) 12) (over (pos 1) 2)) }
-    ensures too_good { kuhn_verdict (value_two 1 (negative 524287) 2 ∷ []) ≡ Err (ValueTooGood Two 1 2) }
-    ensures not_reached { kuhn_verdict (value_two 1 (negative 524289) 2 ∷ []) ≡ Err (ReplyNotTight Two 1) }
+    ensures unchanged { kuhn_verdict [] ≡ Ok (bracket (over (negative_of 5) 12) (over (pos 1) 2)) }
+    ensures too_good { kuhn_verdict (value_two 1 (negative_of 524287) 2 ∷ []) ≡ Err (ValueTooGood Two 1 2) }
+    ensures not_reached { kuhn_verdict (value_two 1 (negative_of 524289) 2 ∷ []) ≡ Err (ReplyNotTight Two 1) }
     ensures not_dealt { kuhn_verdict (weights_one 1 (524288 ∷ 524289 ∷ []) ∷ []) ≡ Err (NotAPlan One 1) }
 {}
 
@@ -67,7 +68,7 @@ pub fn kuhn_verdicts()
 #[tactic(auto, unfolding(def_fraction::specs::Divisors::gcd, def_fraction::specs::Fraction::fraction_of))]
 pub fn verdicts_on_two_rounds()
     ensures ends_of_two_rounds { verdict pennies_game (with_bounds scale_one_head scale_one_bounds)
-        ≡ Ok (bracket (over (negative 1) 1) (over (pos 0) 1)) }
+        ≡ Ok (bracket (over (negative_of 1) 1) (over (pos 0) 1)) }
     ensures no_set_of_two { one_mover_verdict [] ≡ Ok (bracket (over (pos 3) 4) (over (pos 1) 1)) }
     ensures widened { one_mover_verdict (line 1 (traced 1 1 (pos 1048576) 1 (pos 1048576)) ∷ [])
         ≡ Err (TraceWidens 9) }

@@ -16,7 +16,7 @@ use Rattle.def_cert_text.proofs.LineLaws.{certificate_laws}
 use Rattle.def_cert_text.proofs.TextLaws.{first_fault}
 
 -- where the bytes of items are cut: behind some items, within the next
-record IsCut (items : List Item) (n : ℕ) : Type 0 where
+record ItemsAreCut (items : List Item) (n : ℕ) : Type 0 where
   front : List Item
   item : Item
   more : List Item
@@ -32,7 +32,7 @@ pass_take (suc n) [] h = refl
 pass_take (suc n) (b ∷ bs) h = let q = and_parts (is_field_byte b) (all_pass is_field_byte bs) h in and_from (is_field_byte b) (all_pass is_field_byte (take n bs)) q.0 (pass_take n bs q.1)
 
 within_first : (item : Item) (items : List Item) (n : ℕ) → is_clean item ≡ true → n < length (item_bytes item)
-    → IsCut (item ∷ items) n
+    → ItemsAreCut (item ∷ items) n
 unfolding items_text
 within_first (field kind bytes) items n clean low = record {
   front = [];
@@ -56,7 +56,7 @@ within_first (separator b) items zero clean low = record {
 }
 within_first (separator b) items (suc n) clean low = absurd (omega (arith, low))
 
-cut_at : (items : List Item) (n : ℕ) → all_clean items ≡ true → n < length (items_text items) → IsCut items n
+cut_at : (items : List Item) (n : ℕ) → all_clean items ≡ true → n < length (items_text items) → ItemsAreCut items n
 unfolding items_text
 cut_at [] n clean low = absurd (omega (arith, low))
 cut_at (item ∷ items) n clean low =
@@ -82,7 +82,7 @@ cut_at (item ∷ items) n clean low =
     })
     where_is
 
-cut_fault : (c : Certificate) (n : ℕ) → whole_certificate.fits c ≡ true → IsCut (whole_certificate.items c) n
+cut_fault : (c : Certificate) (n : ℕ) → whole_certificate.fits c ≡ true → ItemsAreCut (whole_certificate.items c) n
     → HasFirstFault whole_certificate (length (take n (cert_text c))) (take n (cert_text c)) CertShort
 cut_fault c n fits cut = record {
   items = cut.front;

@@ -14,7 +14,7 @@ use Rattle.std.proofs.lemmas.Nat.{mul-le}
 use Rattle.std.proofs.lemmas.Fmt.{decimal_digit, decimal_step_wide}
 use Rattle.def_fraction.specs.Digits.{is_numeral, number_of}
 use Rattle.def_fraction.specs.Divisors.{gcd}
-use Rattle.def_fraction.specs.Fraction.{Fraction}
+use Rattle.def_fraction.specs.Fraction.{Fraction, negative_of, whole_number}
 use Rattle.def_fraction.specs.Literal.{slash}
 use Rattle.def_fraction.specs.Text.{fraction_text}
 use Rattle.def_fraction.proofs.DivisorLemmas.{gcd-with_one}
@@ -23,7 +23,7 @@ use Rattle.def_fraction.proofs.TextLemmas.{int_text-canonical}
 use Rattle.def_cert_text.specs.declared.fault.CertFault.{CertFault}
 use Rattle.def_cert_text.specs.declared.fault.CertFault.TheVariants.{CertSyntax, CertShort}
 use Rattle.def_cert_text.specs.Fields.{◌>>=◌, FieldKind, is_field_byte, next_field, behind_field, is_empty, field_fault, if_fit, read_field}
-use Rattle.def_cert_text.specs.Numbers.{leads_no_zero, whole_in, negative_of, integer_in, is_no_slash, over_one, over_in, lowest_in, fraction_in}
+use Rattle.def_cert_text.specs.Numbers.{leads_no_zero, whole_in, integer_in, is_no_slash, over_in, lowest_in, fraction_in}
 use Rattle.def_cert_text.specs.Formats.{is_lowest_within}
 
 -- ---- results
@@ -405,7 +405,8 @@ over_only : (num : ℤ) (o : Option ℕ) (f : Fraction) → over_in num o ≡ So
 over_only num None f e = absurd cc
 over_only num (Some den) f e = (let p = by (eqb (gcd (unsigned_abs num) den) 1) refl e in (den, refl, p.0, p.1))
   where
-    by : (t : Bool) → eqb (gcd (unsigned_abs num) den) 1 ≡ t → cond (eqb (gcd (unsigned_abs num) den) 1) (Some (record { num = num; den = den })) None ≡ Some f
+    by : (t : Bool) → eqb (gcd (unsigned_abs num) den) 1 ≡ t
+        → cond (eqb (gcd (unsigned_abs num) den) 1) (Some (record { num = num; den = den })) None ≡ Some f
         → (gcd (unsigned_abs num) den ≡ 1) × (record { num = num; den = den } ≡ f)
     by true h e = (eqb-true (gcd (unsigned_abs num) den) 1 h, some_same (record { num = num; den = den }) (sym (ap (λ t. cond t (Some (record { num = num; den = den })) None) h) ∙ e))
       where
@@ -419,7 +420,7 @@ only_lowest : (most : ℕ) (front behind : List ℕ) (o : Option ℤ) (f : Fract
 only_lowest most front behind None f small one h stop e = absurd cc
 only_lowest most front [] (Some num) f small one h stop e =
     let q = integer_only most num front small h in
-    let is : over_one num ≡ f = cc in
+    let is : whole_number num ≡ f = cc in
     subst (λ (g : Fraction). IsLowestWithin most g × (front ++ [] ≡ fraction_text g)) is
     (record { positive = omega arith; coprime = gcd-with_one (unsigned_abs num); num = q.0; den = one }, append-nil front ∙ q.1)
 only_lowest most front (b ∷ ds) (Some num) f small one h stop e =

@@ -1,7 +1,7 @@
 pub mod FieldLaws
 pub mod FormatLaws
-pub mod OneField
-pub mod MoreFormats
+pub mod FieldFormatLaws
+pub mod CombinedFormatLaws
 pub mod Fits
 pub mod LineLaws
 pub mod TextLaws

@@ -15,9 +15,9 @@ use Rattle.def_cert_text.specs.Formats.{Format, whole_field, fixed_field, and_th
 use Rattle.def_cert_text.specs.CertText.{after_word, after_set_number, after_player, NumbersOfGame, size_line, sets_line, sequences_line, unit_line, mass_line, game_lines, asked_line, head_lines, line_of_round, round_of_evaluation, evaluation_count, trace_lines, weights_line, plan_lines, value_line, reply_lines, bracket_line, PartsOfBounds, bounds_lines, whole_certificate}
 use Rattle.def_cert_text.proofs.FieldLaws.{all_pass, decimal_inside}
 use Rattle.def_cert_text.proofs.FormatLaws.{IsFormat, pair_laws}
-use Rattle.def_cert_text.proofs.OneField.{whole_laws, integer_laws, fraction_laws, fixed_laws}
+use Rattle.def_cert_text.proofs.FieldFormatLaws.{whole_laws, integer_laws, fraction_laws, fixed_laws}
 use Rattle.def_cert_text.proofs.Fits.{head_fits}
-use Rattle.def_cert_text.proofs.MoreFormats.{seen_laws, after_laws, each_laws, asked_laws, row_laws}
+use Rattle.def_cert_text.proofs.CombinedFormatLaws.{seen_laws, after_laws, each_laws, asked_laws, row_laws}
 
 word_laws : (A : Type 0) (wanted : List ℕ) (f : Format A) → all_pass is_field_byte wanted ≡ true → IsFormat A f
     → IsFormat A (after_word wanted f)

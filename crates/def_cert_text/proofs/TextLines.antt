@@ -7,7 +7,8 @@ use Rattle.def_cert_text.specs.CertText.{numbers_of_game, game_lines, asked_line
 use Rattle.def_cert_text.specs.Laws.{TextIsItsLines}
 use Rattle.def_cert_text.proofs.FormatLaws.{items_text-append}
 
-abbrev end_items : List Item
+-- the items of the last line
+abbrev pub end_items : List Item
 end_items = field fixed_word (codes "end") ∷ separator feed ∷ []
 
 -- both lists of the text's parts are laid out by computing, but for the parts of which there are many

@@ -47,7 +47,8 @@ CanGoOn {A = A} f items = (x : A) × (more : List Item) × (f.fits x ≡ true) �
 abbrev pub Needs : {A : Type 0} → Format A → List Item → Place → Type 0
 Needs f items place = (item : Item) × (place_of_item item ≡ place) × CanGoOn f (items ++ item ∷ [])
 
-pub data StopsReading {A : Type 0} (f : Format A) (items : List Item) (place : Place) (total : ℕ) (left : List ℕ) (fault : CertFault) : Type 0 where
+pub data StopsReading {A : Type 0} (f : Format A) (items : List Item) (place : Place) (total : ℕ) (left : List ℕ)
+    (fault : CertFault) : Type 0 where
   cut_short : is_cut_short place left ≡ true → fault ≡ CertShort → StopsReading f items place total left fault
   unfit : is_cut_short place left ≡ false → (CanGoOn f (items ++ item_there place left ∷ []) → ⊥)
       → fault ≡ fault_there place (total - length left)

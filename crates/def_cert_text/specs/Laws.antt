@@ -29,7 +29,8 @@ CutTextsAreShort = (c : Certificate) (n : ℕ) → CertificateFits c → n < len
 
 -- the text is its lines one after another
 pub record TextIsItsLines : Type 0 where
-  pub head_alone : (head : Head) → cert_text (record { head = head; bounds = None }) ≡ first_text ++ (head_text head ++ (asked_text head ++ last_text))
+  pub head_alone : (head : Head)
+      → cert_text (record { head = head; bounds = None }) ≡ first_text ++ (head_text head ++ (asked_text head ++ last_text))
   pub with_bounds : (head : Head) (b : PrintedBounds)
       → cert_text (record { head = head; bounds = Some b })
       ≡ first_text ++ (head_text head ++ (asked_text head ++ (bounds_text head b ++ last_text)))

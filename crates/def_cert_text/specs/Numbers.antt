@@ -1,10 +1,10 @@
 -- Numbers as fields: no leading zero, no `+`, and `-` only before a number that isn't 0.
-use Rattle.std.specs.Prelude.{ℕ, Bool, true, ◌==◌, ◌&&◌, not, nat_le, List, [], ◌∷◌, take, drop, Option, Some, None, ℤ, pos, neg_ℤ, unsigned_abs, if◌then◌else◌}
+use Rattle.std.specs.Prelude.{ℕ, Bool, true, ◌==◌, ◌&&◌, not, nat_le, List, [], ◌∷◌, take, drop, Option, Some, None, ℤ, pos, unsigned_abs, if◌then◌else◌}
 use Rattle.std.specs.List.{prefix_len}
 use Rattle.std.specs.Option.{option_map}
 use Rattle.def_fraction.specs.Digits.{is_numeral, number_of}
 use Rattle.def_fraction.specs.Divisors.{gcd}
-use Rattle.def_fraction.specs.Fraction.{Fraction}
+use Rattle.def_fraction.specs.Fraction.{Fraction, negative_of, whole_number}
 use Rattle.def_fraction.specs.Literal.{minus, slash}
 
 abbrev pub zero_digit : ℕ
@@ -20,9 +20,6 @@ unfoldable pub whole_in : ℕ → ℕ → List ℕ → Option ℕ
 whole_in low high field =
     if is_numeral field && (leads_no_zero field && (nat_le low (number_of field) && nat_le (number_of field) high)) then Some (number_of field) else None
 
-abbrev pub negative_of : ℕ → ℤ
-negative_of n = neg_ℤ (pos n)
-
 -- a number of this size at most, with a sign where it is below 0
 unfoldable pub integer_in : ℕ → List ℕ → Option ℤ
 integer_in most [] = None
@@ -30,9 +27,6 @@ integer_in most (b ∷ ds) = if b == minus then option_map negative_of (whole_in
 
 abbrev pub is_no_slash : ℕ → Bool
 is_no_slash byte = not (byte == slash)
-
-abbrev pub over_one : ℤ → Fraction
-over_one n = record { num = n; den = 1 }
 
 -- num / den, where that is in lowest terms
 abbrev pub over_in : ℤ → Option ℕ → Option Fraction
@@ -42,7 +36,7 @@ over_in num (Some den) = if gcd (unsigned_abs num) den == 1 then Some (record { 
 -- from the numerator, and the slash and the denominator behind it
 abbrev pub lowest_in : ℕ → Option ℤ → List ℕ → Option Fraction
 lowest_in most None behind = None
-lowest_in most (Some num) [] = Some (over_one num)
+lowest_in most (Some num) [] = Some (whole_number num)
 lowest_in most (Some num) (b ∷ ds) = over_in num (whole_in 2 most ds)
 
 -- a fraction in lowest terms whose parts are of this size at most: num alone, or num/den where den is 2 at least

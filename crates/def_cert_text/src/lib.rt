@@ -10,7 +10,7 @@ mod fault;
 pub use fault::CertFault;
 
 /// Reading gives a certificate exactly where it is within its ranges and the bytes are its text.
-pub fn reading_is_exact()
+pub fn certificate_reading_is_exact()
     ensures { CertificateReadingIsExact }
 {}
 

@@ -11,7 +11,7 @@ use Rattle.def_cert_verdict.specs.declared.fault.TestFault.TheVariants.{HeadDiff
 use Rattle.def_cert_verdict.specs.Verdict.{WeighedGame, first_failing, unless, head_tests}
 use Rattle.def_cert_verdict.specs.Laws.{IsHeadOf}
 use Rattle.def_cert_verdict.specs.FaultCauses.{IsFirstNot, NamesLine, HeadFault}
-use Rattle.def_cert_verdict.proofs.Describes.{Describes, Describes-search, Describes-like, Searches, Searches-end, Searches-step, first_unless}
+use Rattle.def_cert_verdict.proofs.TestsDecide.{TestsDecide, TestsDecide-search, TestsDecide-like, Searches, Searches-end, Searches-step, first_unless}
 
 -- two equations on one line
 both : (a b c d : ℕ) → Decides (eqb a b && eqb c d) ((a ≡ b) × (c ≡ d))
@@ -122,9 +122,9 @@ caused game head (TraceWidens line) c = absurd c
 
 -- the head's tests pass exactly where it is the game's, else the fault has the first line that differs
 pub head_described : (game : WeighedGame) (head : Head)
-    → Describes (head_tests game head) (IsHeadOf game head) (HeadFault game head)
+    → TestsDecide (head_tests game head) (IsHeadOf game head) (HeadFault game head)
 head_described game head =
-    Describes-like (head_tests game head) _ (IsHeadOf game head) _ (HeadFault game head)
-    (Describes-search HeadDiffers (head_tests game head) 2 (λ i. NamesLine game head (2 + i)) (searched game head))
+    TestsDecide-like (head_tests game head) _ (IsHeadOf game head) _ (HeadFault game head)
+    (TestsDecide-search HeadDiffers (head_tests game head) 2 (λ i. NamesLine game head (2 + i)) (searched game head))
     (head_of game head, λ h i. all_lines game head h (2 + i))
     (λ f. (λ c. subst (HeadFault game head) (sym c.1) (from_two game head c.0 c.2), caused game head f))

@@ -1,9 +1,9 @@
-pub mod Describes
+pub mod TestsDecide
 pub mod Heads
 pub mod Plans
 pub mod Replies
 pub mod Traces
-pub mod Decided
+pub mod VerdictIsExact
 pub mod Shown
 pub mod LastLine
 pub mod FirstFailure

@@ -17,7 +17,7 @@ use Rattle.def_cert_verdict.specs.Certificate.{PrintedPlan, joined, printed_numb
 use Rattle.def_cert_verdict.specs.Verdict.{unless, first_of_other_size, not_a_plan_at, plan_tests}
 use Rattle.def_cert_verdict.specs.Laws.{HoldsAsPlan}
 use Rattle.def_cert_verdict.specs.FaultCauses.{IsFirstNot, HasPrintedRoot, HasItsActions, AddsUpAt, IsBadPlan, other_root, other_size, not_adding, PlanFault}
-use Rattle.def_cert_verdict.proofs.Describes.{Describes, Describes-one, Describes-append, Describes-like, Searches, Searches-end, Searches-stop, Searches-step}
+use Rattle.def_cert_verdict.proofs.TestsDecide.{TestsDecide, TestsDecide-one, TestsDecide-append, TestsDecide-like, Searches, Searches-end, Searches-stop, Searches-step}
 
 abbrev itself : ℕ → ℕ
 itself n = n
@@ -88,7 +88,7 @@ each_adds plan (h ∷ hs) all (suc i) = each_adds plan hs (All-tail (AddsUp plan
 
 -- ---- the three tests
 set_described : (player : Player) (r : Option ℕ) (n : ℕ) (Holds : ℕ → Type 0) → Searches ℕ itself r n Holds
-    → Describes (not_a_plan_at player r ∷ []) ((i : ℕ) → Holds i) (λ f. (i : ℕ) × (f ≡ NotAPlan player (n + i)) × IsFirstNot Holds i)
+    → TestsDecide (not_a_plan_at player r ∷ []) ((i : ℕ) → Holds i) (λ f. (i : ℕ) × (f ≡ NotAPlan player (n + i)) × IsFirstNot Holds i)
 set_described player None n Holds s = record {
   none = (λ e. s.none.0 refl, λ h. refl);
   some = λ f. (λ e. absurd (none-some f e), λ c. absurd (c.2.fails (s.none.0 refl c.0)));
@@ -156,16 +156,16 @@ in_turn player sets root plan (TraceWidens line) c = absurd c
 
 -- a plan's tests pass exactly where it is one of the root, else the fault has what is wrong first
 pub plan_described : (player : Player) (sets : List InformationSet) (root : ℕ) (plan : PrintedPlan)
-    → Describes (plan_tests player sets root plan) (HoldsAsPlan sets root plan) (PlanFault player sets root plan)
+    → TestsDecide (plan_tests player sets root plan) (HoldsAsPlan sets root plan) (PlanFault player sets root plan)
 plan_described player sets root plan =
     let r : Option ℕ = first_of_other_size 1 sets plan.weights in
     let q : Option ℕ = first_not_adding (printed_numbers plan) 1 (placed sets) in
-    let first = Describes-one (leb 1 plan.root && eqb plan.root root) (NotAPlan player 0) (HasPrintedRoot root plan) (root_decided root plan) in
+    let first = TestsDecide-one (leb 1 plan.root && eqb plan.root root) (NotAPlan player 0) (HasPrintedRoot root plan) (root_decided root plan) in
     let second = set_described player r 1 (HasItsActions sets plan.weights) (sizes_searched 1 sets plan.weights) in
     let third = set_described player q 1 (AddsUpAt (printed_numbers plan) (placed sets)) (sums_searched (printed_numbers plan) 1 (placed sets)) in
-    Describes-like (plan_tests player sets root plan) _ (HoldsAsPlan sets root plan) _ (PlanFault player sets root plan)
-    (Describes-append (unless (leb 1 plan.root && eqb plan.root root) (NotAPlan player 0) ∷ []) _ _ _ _ _ first
-    (Describes-append (not_a_plan_at player r ∷ []) (not_a_plan_at player q ∷ []) _ _ _ _ second third)) (
+    TestsDecide-like (plan_tests player sets root plan) _ (HoldsAsPlan sets root plan) _ (PlanFault player sets root plan)
+    (TestsDecide-append (unless (leb 1 plan.root && eqb plan.root root) (NotAPlan player 0) ∷ []) _ _ _ _ _ first
+    (TestsDecide-append (not_a_plan_at player r ∷ []) (not_a_plan_at player q ∷ []) _ _ _ _ second third)) (
       λ h. holds_as_plan sets root plan h.0 h.1.0 h.1.1,
       λ h. ((h.is_plan.some_root, h.root_is), (zip_sizes sets plan.weights h.sizes, each_adds (printed_numbers plan) (placed sets) h.is_plan.each_set)),
     )

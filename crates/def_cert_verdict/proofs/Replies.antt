@@ -20,7 +20,7 @@ use Rattle.def_cert_verdict.specs.declared.fault.TestFault.TheVariants.{HeadDiff
 use Rattle.def_cert_verdict.specs.Verdict.{first_failing, unless, is_better, action_test, set_tests, reply_tests, is_same_fraction, end_shown_by, total_test, whole_reply_tests}
 use Rattle.def_cert_verdict.specs.Laws.{HoldsAsTotal, HoldsAsReply}
 use Rattle.def_cert_verdict.specs.FaultCauses.{IsFirstNot, NoActionBetterAt, ReachedAt, TightAt, IsTooGood, IsNotReached, SetFault, TotalFault, ReplyFault}
-use Rattle.def_cert_verdict.proofs.Describes.{Describes, Describes-one, Describes-append, Describes-like, Describes-search, Searches, Searches-end, Searches-step, Searches-like, first_if, not_less-Decides}
+use Rattle.def_cert_verdict.proofs.TestsDecide.{TestsDecide, TestsDecide-one, TestsDecide-append, TestsDecide-like, TestsDecide-search, Searches, Searches-end, Searches-step, Searches-like, first_if, not_less-Decides}
 
 -- ---- the actions of a set
 better_decided : (player : Player) (a b : ℤ) → Decides (not (is_better player a b)) (IsNoBetter player a b)
@@ -70,13 +70,13 @@ SetInTurn player w k h r f =
     ⊎ (((i : ℕ) → BetterFrom player w h r 1 h.actions i) × ((f ≡ ReplyNotTight player k) × (¬ (ReachedAt w (Some h) (Some r)))))
 
 set_described : (player : Player) (w : ℕ → ℤ) (k : ℕ) (h : PlacedSet) (r : SetReply)
-    → Describes (set_tests player w k h r) (((i : ℕ) → BetterFrom player w h r 1 h.actions i) × ReachedAt w (Some h) (Some r)) (SetInTurn player w k h r)
+    → TestsDecide (set_tests player w k h r) (((i : ℕ) → BetterFrom player w h r 1 h.actions i) × ReachedAt w (Some h) (Some r)) (SetInTurn player w k h r)
 set_described player w k h r =
     let b : Bool = (leb 1 r.choice && leb r.choice h.actions) && int_eq (w (chosen h r.choice)) r.value in
-    Describes-append (map (action_test player w k h r) (range_with_len 1 h.actions)) (unless b (ReplyNotTight player k) ∷ []) _ _ _ _
-    (Describes-search (ValueTooGood player k) (map (action_test player w k h r) (range_with_len 1 h.actions)) 1 (BetterFrom player w h r 1 h.actions)
+    TestsDecide-append (map (action_test player w k h r) (range_with_len 1 h.actions)) (unless b (ReplyNotTight player k) ∷ []) _ _ _ _
+    (TestsDecide-search (ValueTooGood player k) (map (action_test player w k h r) (range_with_len 1 h.actions)) 1 (BetterFrom player w h r 1 h.actions)
     (actions_searched player w k h r 1 h.actions))
-    (Describes-one b (ReplyNotTight player k) (ReachedAt w (Some h) (Some r)) (reached_decided w h r))
+    (TestsDecide-one b (ReplyNotTight player k) (ReachedAt w (Some h) (Some r)) (reached_decided w h r))
 
 -- ---- all sets
 no_set : (player : Player) (w : ℕ → ℤ) (j : ℕ) → TightAt player w [] [] j
@@ -222,7 +222,7 @@ missing : (player : Player) (w : ℕ → ℤ) (k : ℕ) (hs : List PlacedSet) (r
     → NoActionBetterAt player w (slice_get hs 0) (slice_get rs 0)
     → ¬ (ReachedAt w (slice_get hs 0) (slice_get rs 0))
     → ((i : ℕ) (h : PlacedSet) (r : SetReply) → slice_get hs i ≡ Some h → slice_get rs i ≡ Some r → ⊥)
-    → Describes (Some (ReplyNotTight player k) ∷ []) ((j : ℕ) → TightAt player w hs rs j) (SetFault player w k hs rs)
+    → TestsDecide (Some (ReplyNotTight player k) ∷ []) ((j : ℕ) → TightAt player w hs rs j) (SetFault player w k hs rs)
 missing player w k hs rs fine bad none = record {
   none = (λ e. absurd (none-some (ReplyNotTight player k) (sym e)), λ h. absurd (bad (h 0).1));
   some = λ f. (
@@ -233,7 +233,7 @@ missing player w k hs rs fine bad none = record {
 }
 
 nothing : (player : Player) (w : ℕ → ℤ) (k : ℕ)
-    → Describes [] ((j : ℕ) → TightAt player w [] [] j) (SetFault player w k [] [])
+    → TestsDecide [] ((j : ℕ) → TightAt player w [] [] j) (SetFault player w k [] [])
 nothing player w k = record {
   none = (λ e. no_set player w, λ h. refl);
   some = λ f. (λ e. absurd (none-some f e), nowhere f);
@@ -248,13 +248,13 @@ nothing player w k = record {
     nowhere (TraceWidens line) c = absurd c
 
 sets_described : (player : Player) (w : ℕ → ℤ) (k : ℕ) (hs : List PlacedSet) (rs : List SetReply)
-    → Describes (reply_tests player w k hs rs) ((j : ℕ) → TightAt player w hs rs j) (SetFault player w k hs rs)
+    → TestsDecide (reply_tests player w k hs rs) ((j : ℕ) → TightAt player w hs rs j) (SetFault player w k hs rs)
 sets_described player w k [] [] = nothing player w k
 sets_described player w k [] (r ∷ rs) = missing player w k [] (r ∷ rs) tt (λ h. h) (λ i h q there here. no_place [] refl i h there)
 sets_described player w k (h ∷ hs) [] = missing player w k (h ∷ hs) [] tt (λ h. h) (λ i g r there here. no_place [] refl i r here)
 sets_described player w k (h ∷ hs) (r ∷ rs) =
-    Describes-like (reply_tests player w k (h ∷ hs) (r ∷ rs)) _ ((j : ℕ) → TightAt player w (h ∷ hs) (r ∷ rs) j) _ (SetFault player w k (h ∷ hs) (r ∷ rs))
-    (Describes-append (set_tests player w k h r) (reply_tests player w (k + 1) hs rs) _ _ _ _ (set_described player w k h r) (sets_described player w (k + 1) hs rs))
+    TestsDecide-like (reply_tests player w k (h ∷ hs) (r ∷ rs)) _ ((j : ℕ) → TightAt player w (h ∷ hs) (r ∷ rs) j) _ (SetFault player w k (h ∷ hs) (r ∷ rs))
+    (TestsDecide-append (set_tests player w k h r) (reply_tests player w (k + 1) hs rs) _ _ _ _ (set_described player w k h r) (sets_described player w (k + 1) hs rs))
     (λ p. all_next player w h hs r rs p.0 p.1, λ t. (t 0, λ j. t (suc j)))
     (λ f. (⊎_elim (at_first player w k h hs r rs f) (λ c. shifted player w k h hs r rs f c.0 c.1), either player w k h hs r rs f))
 
@@ -317,21 +317,21 @@ total_caused player sums sets reply traced bound scale (TraceWidens line) c = ab
 
 total_described : (player : Player) (sums : ℕ → ℤ) (sets : List InformationSet) (reply : Reply) (traced : ℤ)
     (bound : Fraction) (scale : ℕ)
-    → Describes (total_test player sums sets reply traced bound scale ∷ []) (HoldsAsTotal sums sets reply traced bound scale) (TotalFault player sums sets reply traced bound scale)
+    → TestsDecide (total_test player sums sets reply traced bound scale ∷ []) (HoldsAsTotal sums sets reply traced bound scale) (TotalFault player sums sets reply traced bound scale)
 total_described player sums sets reply traced bound scale =
-    Describes-like (total_test player sums sets reply traced bound scale ∷ []) _ _ _ (TotalFault player sums sets reply traced bound scale)
-    (Describes-one _ (TotalDiffers (end_shown_by player)) (HoldsAsTotal sums sets reply traced bound scale) (total_decided sums sets reply traced bound scale))
+    TestsDecide-like (total_test player sums sets reply traced bound scale ∷ []) _ _ _ (TotalFault player sums sets reply traced bound scale)
+    (TestsDecide-one _ (TotalDiffers (end_shown_by player)) (HoldsAsTotal sums sets reply traced bound scale) (total_decided sums sets reply traced bound scale))
     (λ h. h, λ h. h)
     (λ f. (λ c. subst (TotalFault player sums sets reply traced bound scale) (sym c.0) (refl, c.1), total_caused player sums sets reply traced bound scale f))
 
 -- a reply's tests pass exactly where it is tight and its total holds, else the fault has what fails first
 pub reply_described : (player : Player) (sums : ℕ → ℤ) (sets : List InformationSet) (reply : Reply) (traced : ℤ)
     (bound : Fraction) (scale : ℕ)
-    → Describes (whole_reply_tests player sums sets reply traced bound scale) (HoldsAsReply player sums sets reply traced bound scale) (ReplyFault player sums sets reply traced bound scale)
+    → TestsDecide (whole_reply_tests player sums sets reply traced bound scale) (HoldsAsReply player sums sets reply traced bound scale) (ReplyFault player sums sets reply traced bound scale)
 reply_described player sums sets reply traced bound scale =
     let w : ℕ → ℤ = worth sums (placed sets) (values_of reply.sets) in
-    Describes-like (whole_reply_tests player sums sets reply traced bound scale) _ (HoldsAsReply player sums sets reply traced bound scale) _ (ReplyFault player sums sets reply traced bound scale)
-    (Describes-append (reply_tests player w 1 (placed sets) reply.sets) (total_test player sums sets reply traced bound scale ∷ []) _ _ _ _
+    TestsDecide-like (whole_reply_tests player sums sets reply traced bound scale) _ (HoldsAsReply player sums sets reply traced bound scale) _ (ReplyFault player sums sets reply traced bound scale)
+    (TestsDecide-append (reply_tests player w 1 (placed sets) reply.sets) (total_test player sums sets reply traced bound scale ∷ []) _ _ _ _
     (sets_described player w 1 (placed sets) reply.sets) (total_described player sums sets reply traced bound scale))
     (λ p. record { tight = tight_zip player w (placed sets) reply.sets p.0; total_is = p.1 }, λ h. (zip_tight player w (placed sets) reply.sets h.tight, h.total_is))
     (λ f. (⊎_elim inl (λ c. inr (tight_zip player w (placed sets) reply.sets c.0, c.1)), ⊎_elim inl (λ c. inr (zip_tight player w (placed sets) reply.sets c.0, c.1))))

@@ -12,7 +12,7 @@ use Rattle.def_reply.specs.Bounds.{IsFloor, IsCeiling, AttainsFloor, AttainsCeil
 use Rattle.def_reply.proofs.BoundLaws.{tight_bounds}
 use Rattle.def_cert_verdict.specs.Certificate.{printed_numbers}
 use Rattle.def_cert_verdict.specs.Laws.{HoldsUp, IsTotalOver, AcceptedCertificatesShowTheirBounds}
-use Rattle.def_cert_verdict.proofs.Decided.{exact}
+use Rattle.def_cert_verdict.proofs.VerdictIsExact.{exact}
 
 total_over : (bound : Fraction) (total : ℤ) (scale : ℕ) → 1 ≤ scale → bound ≡ fraction_of total scale
     → IsTotalOver bound total scale

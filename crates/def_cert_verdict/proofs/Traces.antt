@@ -8,7 +8,7 @@ use Rattle.def_cert_verdict.specs.declared.fault.TestFault.TheVariants.{HeadDiff
 use Rattle.def_cert_verdict.specs.Verdict.{first_failing, is_wider, trace_tests}
 use Rattle.def_cert_verdict.specs.Laws.{NeverWidens}
 use Rattle.def_cert_verdict.specs.FaultCauses.{IsFirstNot, IsNoWider, TraceFault}
-use Rattle.def_cert_verdict.proofs.Describes.{Describes, Describes-like, Describes-search, Searches, Searches-end, Searches-step, Searches-like, first_if, not_less-Decides}
+use Rattle.def_cert_verdict.proofs.TestsDecide.{TestsDecide, TestsDecide-like, TestsDecide-search, Searches, Searches-end, Searches-step, Searches-like, first_if, not_less-Decides}
 
 neither : (a b : Bool) (P Q : Type 0) → Decides (not a) P → Decides (not b) Q → Decides (not (a || b)) (P × Q)
 neither true b P Q d e = (λ h. absurd (false≢true h), λ h. d.1 h.0)
@@ -56,9 +56,9 @@ caused k lines (TotalDiffers end) c = absurd c
 
 -- a trace's tests pass exactly where none is wider than the line before, else the fault has the first that is
 pub trace_described : (k : ℕ) (lines : List TraceLine)
-    → Describes (trace_tests k lines) (NeverWidens lines) (TraceFault k lines)
+    → TestsDecide (trace_tests k lines) (NeverWidens lines) (TraceFault k lines)
 trace_described k lines =
-    Describes-like (trace_tests k lines) _ (NeverWidens lines) _ (TraceFault k lines)
-    (Describes-search TraceWidens (trace_tests k lines) (k + 1) (IsNoWider lines) (trace_searched k lines))
+    TestsDecide-like (trace_tests k lines) _ (NeverWidens lines) _ (TraceFault k lines)
+    (TestsDecide-search TraceWidens (trace_tests k lines) (k + 1) (IsNoWider lines) (trace_searched k lines))
     (λ h. h, λ h. h)
     (λ f. (λ c. subst (TraceFault k lines) (sym c.1) (c.0, omega arith, c.2), caused k lines f))

@@ -50,13 +50,15 @@ pub record HoldsAsPlan (sets : List InformationSet) (root : ℕ) (plan : Printed
 
 -- a printed total is the worth of the empty sequence and the one that is traced,
 -- and over the scale it is the printed bound
-pub record HoldsAsTotal (sums : ℕ → ℤ) (sets : List InformationSet) (reply : Reply) (traced : ℤ) (bound : Fraction) (scale : ℕ) : Type 0 where
+pub record HoldsAsTotal (sums : ℕ → ℤ) (sets : List InformationSet) (reply : Reply) (traced : ℤ) (bound : Fraction)
+    (scale : ℕ) : Type 0 where
   pub worth_is : reply.total ≡ total sums sets reply.sets
   pub traced_is : reply.total ≡ traced
   pub bound_is : bound ≡ fraction_of reply.total scale
 
 -- a printed reply is tight, and its total holds
-pub record HoldsAsReply (player : Player) (sums : ℕ → ℤ) (sets : List InformationSet) (reply : Reply) (traced : ℤ) (bound : Fraction) (scale : ℕ) : Type 0 where
+pub record HoldsAsReply (player : Player) (sums : ℕ → ℤ) (sets : List InformationSet) (reply : Reply) (traced : ℤ)
+    (bound : Fraction) (scale : ℕ) : Type 0 where
   pub tight : AreTight player sums sets reply.sets
   pub total_is : HoldsAsTotal sums sets reply traced bound scale
 
@@ -129,6 +131,7 @@ pub record ShowsItsBounds (game : WeighedGame) (b : PrintedBounds) : Type 0 wher
 -- the verdict's bracket is the certificate's, and it is shown
 abbrev pub AcceptedCertificatesShowTheirBounds : Type 0
 AcceptedCertificatesShowTheirBounds =
-    (game : WeighedGame) (head : Head) (b : PrintedBounds) (low high : Fraction) → AreInOrder game.form.sets_one → AreInOrder game.form.sets_two → 1 ≤ game.unit
+    (game : WeighedGame) (head : Head) (b : PrintedBounds) (low high : Fraction) → AreInOrder game.form.sets_one
+    → AreInOrder game.form.sets_two → 1 ≤ game.unit
     → verdict game (with_bounds head b) ≡ Ok (bracket low high)
     → (low ≡ b.low) × (high ≡ b.high) × ShowsItsBounds game b

@@ -6,7 +6,7 @@ use Rattle.def_cert_ranges.specs.Ranges.{CertificateFits}
 use Rattle.def_cert_ranges.proofs.Sizes.{heads}
 use Rattle.def_cert_verdict.specs.Certificate.{Certificate, PrintedBounds}
 use Rattle.def_cert_verdict.specs.Verdict.{Verdict, WeighedGame, bracket, head_only, verdict}
-use Rattle.def_cert_verdict.proofs.Decided.{exact}
+use Rattle.def_cert_verdict.proofs.VerdictIsExact.{exact}
 use Rattle.def_cert_verdict.proofs.Shown.{accepted}
 use Rattle.def_cert_text.specs.CertText.{cert_text}
 use Rattle.def_cert_text.proofs.TextLaws.{texts_tell}

@@ -6,7 +6,7 @@ use Rattle.std.proofs.lemmas.List.{append-nil, length-append}
 use Rattle.std.proofs.lemmas.Option.{none-some, same_Some, cond_some}
 use Rattle.def_command.specs.Table.{CommandName, OptionName, Rounds, Every, Scale, Workers, plain_count, takes}
 use Rattle.def_command.specs.Grammar.{Argument, Plain, Number, Taken, NumbersSoFar, number_so_far, with_number, take_plain, take_number, plain_words, number_given, is_same_option, AreOptionsOf}
-use Rattle.def_command.proofs.Named.{and_then_some}
+use Rattle.def_command.proofs.CommandAndOptionNames.{and_then_some}
 
 -- one argument is taken
 abbrev pub take_argument : CommandName → Taken → Argument → Option Taken

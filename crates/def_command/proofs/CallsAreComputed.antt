@@ -2,27 +2,28 @@
 use Rattle.std.proofs.Common.{◌≡◌, ℕ, List, [], ◌∷◌, length, Option, Some, None, refl, sym, ap, ◌∙◌, inl, arith}
 use Rattle.std.specs.Option.{option_map, option_and_then, option_or}
 use Rattle.std.proofs.lemmas.Option.{none-some, same_Some}
+use Rattle.def_sums.specs.Limits.{least_cards, most_cards}
 use Rattle.def_fraction.proofs.LiteralLemmas.{option_map_some}
 use Rattle.def_command.specs.Table as table
-use Rattle.def_command.specs.Table.{CommandName, OptionName, Rounds, Every, Scale, Workers, least_cards, most_cards, plain_count}
+use Rattle.def_command.specs.Table.{CommandName, OptionName, Rounds, Every, Scale, Workers, plain_count}
 use Rattle.def_command.specs.Grammar.{Settings, Command, Solve, Check, Info, Gen, Drill, Argument, Taken, takes_nothing, IsCall, IsCommand, number_so_far, number_given, number_from_to, plain_words, settings_from, settings_in, settings_of, workers_from, workers_of, with_one, with_two, read_words, command_from, command_named, command_of_words}
-use Rattle.def_command.proofs.Named.{and_then_some, command_found, command_by_word}
+use Rattle.def_command.proofs.CommandAndOptionNames.{and_then_some, command_found, command_by_word}
 use Rattle.def_command.proofs.Arguments.{Merges, merges, taken_all}
-use Rattle.def_command.proofs.WordByWord.{number_told, number_read, arguments_told, arguments_read}
+use Rattle.def_command.proofs.WordByWord.{number_is_read, number_read, arguments_are_read, arguments_read}
 
-one_told : (make : List ℕ → Option Command) (words : List (List ℕ)) (command : Command)
+one_word_made : (make : List ℕ → Option Command) (words : List (List ℕ)) (command : Command)
     → with_one make words ≡ Some command → (word : List ℕ) × (words ≡ word ∷ []) × (make word ≡ Some command)
-one_told make [] command is = absurd (none-some command is)
-one_told make (word ∷ []) command is = (word, refl, is)
-one_told make (word ∷ second ∷ words) command is = absurd (none-some command is)
+one_word_made make [] command is = absurd (none-some command is)
+one_word_made make (word ∷ []) command is = (word, refl, is)
+one_word_made make (word ∷ second ∷ words) command is = absurd (none-some command is)
 
-two_told : (make : List ℕ → List ℕ → Option Command) (words : List (List ℕ)) (command : Command)
+two_words_made : (make : List ℕ → List ℕ → Option Command) (words : List (List ℕ)) (command : Command)
     → with_two make words ≡ Some command
     → (word : List ℕ) × (second : List ℕ) × (words ≡ word ∷ second ∷ []) × (make word second ≡ Some command)
-two_told make [] command is = absurd (none-some command is)
-two_told make (word ∷ []) command is = absurd (none-some command is)
-two_told make (word ∷ second ∷ []) command is = (word, second, refl, is)
-two_told make (word ∷ second ∷ third ∷ words) command is = absurd (none-some command is)
+two_words_made make [] command is = absurd (none-some command is)
+two_words_made make (word ∷ []) command is = absurd (none-some command is)
+two_words_made make (word ∷ second ∷ []) command is = (word, second, refl, is)
+two_words_made make (word ∷ second ∷ third ∷ words) command is = absurd (none-some command is)
 
 -- what was taken is what the arguments say
 module _ (arguments : List Argument) (taken : Taken) (plain : taken.plain ≡ plain_words arguments)
@@ -48,27 +49,27 @@ module _ (arguments : List Argument) (taken : Taken) (plain : taken.plain ≡ pl
   same_drill cards = ap (λ (s : Settings). Drill cards s (workers_from taken.numbers.workers)) same_settings
       ∙ ap (Drill cards (settings_of arguments)) same_workers
 
-  pub command_told : (name : CommandName) (command : Command) → command_from name taken ≡ Some command
+  pub made_is_call : (name : CommandName) (command : Command) → command_from name taken ≡ Some command
       → (length (plain_words arguments) ≡ plain_count name) × IsCommand name arguments command
-  command_told table.Solve command is =
-      let (file, words, made) = one_told _ taken.plain command is in
+  made_is_call table.Solve command is =
+      let (file, words, made) = one_word_made _ taken.plain command is in
       let alone : plain_words arguments ≡ file ∷ [] = sym plain ∙ words in
       (ap length alone, (file, alone, sym (same_Some _ _ made) ∙ same_solve file))
-  command_told table.Check command is =
-      let (file, certificate, words, made) = two_told _ taken.plain command is in
+  made_is_call table.Check command is =
+      let (file, certificate, words, made) = two_words_made _ taken.plain command is in
       let both : plain_words arguments ≡ file ∷ certificate ∷ [] = sym plain ∙ words in
       (ap length both, (file, certificate, both, sym (same_Some _ _ made)))
-  command_told table.Info command is =
-      let (file, words, made) = one_told _ taken.plain command is in
+  made_is_call table.Info command is =
+      let (file, words, made) = one_word_made _ taken.plain command is in
       let alone : plain_words arguments ≡ file ∷ [] = sym plain ∙ words in
       (ap length alone, (file, alone, sym (same_Some _ _ made)))
-  command_told table.Gen command is =
-      let (word, words, made) = one_told _ taken.plain command is in
+  made_is_call table.Gen command is =
+      let (word, words, made) = one_word_made _ taken.plain command is in
       let alone : plain_words arguments ≡ word ∷ [] = sym plain ∙ words in
       let (cards, read, same) = option_map_some Gen (number_from_to least_cards most_cards word) command made in
-      (ap length alone, (word, cards, alone, number_told least_cards most_cards word cards read, sym same))
-  command_told table.Drill command is =
-      let (word, words, made) = one_told _ taken.plain command is in
+      (ap length alone, (word, cards, alone, number_is_read least_cards most_cards word cards read, sym same))
+  made_is_call table.Drill command is =
+      let (word, words, made) = one_word_made _ taken.plain command is in
       let alone : plain_words arguments ≡ word ∷ [] = sym plain ∙ words in
       let (cards, read, same) = option_map_some (λ (n : ℕ). Drill n (settings_in taken.numbers)
       (workers_from taken.numbers.workers)) (number_from_to least_cards most_cards word) command made in (
@@ -77,7 +78,7 @@ module _ (arguments : List Argument) (taken : Taken) (plain : taken.plain ≡ pl
           word,
           cards,
           alone,
-          number_told least_cards most_cards word cards read,
+          number_is_read least_cards most_cards word cards read,
           sym same
               ∙ same_drill cards,
         ),
@@ -121,17 +122,17 @@ numbers_given name arguments final m option = m.numbers option
     ∙ or_none (number_so_far takes_nothing.numbers option) (number_given option arguments) (none_before option)
 
 -- words with a command are a call of it
-pub call_told : (words : List (List ℕ)) (command : Command) → command_of_words words ≡ Some command
+pub computed_is_call : (words : List (List ℕ)) (command : Command) → command_of_words words ≡ Some command
     → IsCall words command
-call_told [] command is = absurd (none-some command is)
-call_told (word ∷ words) command is =
+computed_is_call [] command is = absurd (none-some command is)
+computed_is_call (word ∷ words) command is =
     let (name, named, next) = and_then_some (λ (n : CommandName). option_and_then (command_from n)
     (read_words n takes_nothing None words)) (command_named word) command is in
     let found = command_found word name named in
     let (final, read, made) = and_then_some (command_from name) (read_words name takes_nothing None words) command next in
-    let (arguments, spelled, all) = arguments_told name words takes_nothing final read in
+    let (arguments, spelled, all) = arguments_are_read name words takes_nothing final read in
     let m = merges name arguments takes_nothing final all in
-    let told = command_told arguments final m.plain (numbers_given name arguments final m) name command made in
+    let known = made_is_call arguments final m.plain (numbers_given name arguments final m) name command made in
     record {
       name = name;
       rest = words;
@@ -139,9 +140,9 @@ call_told (word ∷ words) command is =
       built = found.1;
       words_are = ap (λ (w : List ℕ). w ∷ words) found.0;
       spelled = spelled;
-      plain = told.0;
+      plain = known.0;
       options = m.options;
-      command_is = told.1;
+      command_is = known.1;
     }
 
 -- words that are a call have its command

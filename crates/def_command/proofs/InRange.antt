@@ -8,7 +8,7 @@ use Rattle.def_command.specs.Table.{CommandName, OptionName, Rounds, Every, Scal
 use Rattle.def_command.specs.Grammar.{Settings, Solve, Gen, Drill, Argument, Plain, Number, AreSpelled, IsCommand, is_same_option, number_given, settings_of, workers_of}
 use Rattle.def_command.specs.GrammarLaws.{CardsAreInRange, CardsInRange, InRange, SettingsAreInRange}
 use Rattle.def_command.proofs.Arguments.{same_option}
-use Rattle.def_command.proofs.CallsAreComputed.{call_told}
+use Rattle.def_command.proofs.CallsAreComputed.{computed_is_call}
 
 -- the number is in the option's range
 record FitsOption (option : OptionName) (number : ℕ) : Type 0 where
@@ -29,9 +29,9 @@ given_in_range : (option : OptionName) (arguments : List Argument) (words : List
 given_in_range option [] words given spelled is = absurd (none-some given is)
 given_in_range option (Plain word ∷ arguments) words given (front, rest, first, spelled, words_are) is =
     given_in_range option arguments rest given spelled is
-given_in_range option (Number other number ∷ arguments) words given (front, rest, told, spelled, words_are) is =
+given_in_range option (Number other number ∷ arguments) words given (front, rest, known, spelled, words_are) is =
     given_at option other number given (number_given option arguments) (is_same_option option other) refl
-    (record { from = told.in_range.from; to = told.in_range.to })
+    (record { from = known.in_range.from; to = known.in_range.to })
     (given_in_range option arguments rest given spelled) is
 
 or_default : (option : OptionName) (o : Option ℕ) (default : ℕ)
@@ -107,10 +107,10 @@ module _ (arguments : List Argument) (words : List (List ℕ)) (spelled : AreSpe
 pub settings_in_range : SettingsAreInRange
 settings_in_range = record {
   of_solve = λ words file settings workers is.
-      let call = call_told words (Solve file settings workers) is in
+      let call = computed_is_call words (Solve file settings workers) is in
       solve_in_range call.arguments call.rest call.spelled call.name file settings workers call.command_is;
   of_drill = λ words cards settings workers is.
-      let call = call_told words (Drill cards settings workers) is in
+      let call = computed_is_call words (Drill cards settings workers) is in
       drill_in_range call.arguments call.rest call.spelled call.name cards settings workers call.command_is;
 }
 
@@ -138,8 +138,8 @@ drill_cards arguments table.Gen cards settings workers (word, others, alone, num
 pub cards_in_range : CardsAreInRange
 cards_in_range = record {
   of_gen = λ words cards is.
-      let call = call_told words (Gen cards) is in gen_cards call.arguments call.name cards call.command_is;
+      let call = computed_is_call words (Gen cards) is in gen_cards call.arguments call.name cards call.command_is;
   of_drill = λ words cards settings workers is.
-      let call = call_told words (Drill cards settings workers) is in
+      let call = computed_is_call words (Drill cards settings workers) is in
       drill_cards call.arguments call.name cards settings workers call.command_is;
 }

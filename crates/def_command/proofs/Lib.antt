@@ -1,5 +1,5 @@
 mod Arguments
 mod CallsAreComputed
 pub mod InRange
-mod Named
+mod CommandAndOptionNames
 mod WordByWord

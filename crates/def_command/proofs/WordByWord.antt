@@ -11,13 +11,13 @@ use Rattle.def_command.specs.Words.{is_option}
 use Rattle.def_command.specs.Table.{CommandName, OptionName, built_options, option_name, least_number, most_number}
 use Rattle.def_command.specs.Grammar.{Argument, Plain, Number, Taken, IsNumberFromTo, AreSpelled, number_from_to, option_named, around_equals, take_plain, take_number, take_digits, read_option, read_word, read_words}
 use Rattle.def_command.proofs.Arguments.{take_argument, take_all}
-use Rattle.def_command.proofs.Named.{and_then_some, option_found, option_by_name, joined, name_alone, name_alone_is_option, name_and_digits, name_is_option}
+use Rattle.def_command.proofs.CommandAndOptionNames.{and_then_some, option_found, option_by_name, joined, name_alone, name_alone_is_option, name_and_digits, name_is_option}
 
 -- ---- numbers
 -- a number that is read is in range
-pub number_told : (least most : ℕ) (digits : List ℕ) (number : ℕ) → number_from_to least most digits ≡ Some number
+pub number_is_read : (least most : ℕ) (digits : List ℕ) (number : ℕ) → number_from_to least most digits ≡ Some number
     → IsNumberFromTo least most digits number
-number_told least most digits number is =
+number_is_read least most digits number is =
     let tests = cond_some _ _ _ is in
     let parts = and_parts (is_numeral digits) (nat_le least (number_of digits) && nat_le (number_of digits) most)
     tests.0 in
@@ -42,29 +42,30 @@ number_read least most digits number n =
     ap (λ b. cond b (Some (number_of digits)) None) tests ∙ ap Some n.value
 
 -- ---- what is read tells arguments
-abbrev Tells : CommandName → Taken → Option OptionName → List (List ℕ) → Taken → Type 0
-Tells name taken None words final = (arguments : List Argument) × AreSpelled arguments words
+abbrev TellsArguments : CommandName → Taken → Option OptionName → List (List ℕ) → Taken → Type 0
+TellsArguments name taken None words final = (arguments : List Argument) × AreSpelled arguments words
     × (take_all name taken arguments ≡ Some final)
-Tells name taken (Some option) words final = (digits : List ℕ) × (rest : List (List ℕ)) × (number : ℕ)
+TellsArguments name taken (Some option) words final = (digits : List ℕ) × (rest : List (List ℕ)) × (number : ℕ)
     × (arguments : List Argument) × (words ≡ digits ∷ rest)
     × IsNumberFromTo (least_number option) (most_number option) digits number × AreSpelled arguments rest
     × (take_all name taken (Number option number ∷ arguments) ≡ Some final)
 
-record IsTaken (name : CommandName) (taken : Taken) (option : OptionName) (digits : List ℕ) (next : Taken) : Type 0
+record NumberIsTaken (name : CommandName) (taken : Taken) (option : OptionName) (digits : List ℕ)
+    (next : Taken) : Type 0
   where
     pub number : ℕ
     pub in_range : IsNumberFromTo (least_number option) (most_number option) digits number
     pub first : take_number name taken option number ≡ Some next
 
 digits_taken : (name : CommandName) (taken : Taken) (option : OptionName) (digits : List ℕ) (next : Taken)
-    → take_digits name taken option digits ≡ Some next → IsTaken name taken option digits next
+    → take_digits name taken option digits ≡ Some next → NumberIsTaken name taken option digits next
 digits_taken name taken option digits next is =
     let (number, read, first) = and_then_some (take_number name taken option)
     (number_from_to (least_number option) (most_number option) digits) next is in
     record {
       number =
           number;
-      in_range = number_told (least_number option) (most_number option) digits number read;
+      in_range = number_is_read (least_number option) (most_number option) digits number read;
       first = first;
     }
 
@@ -78,12 +79,12 @@ take_more name taken next argument arguments final first later =
 tells_digits : (name : CommandName) (taken : Taken) (option : OptionName) (digits : List ℕ) (words : List (List ℕ))
     (next : Taken × Option OptionName) (final : Taken)
     → option_map (λ (t : Taken). (t, None)) (take_digits name taken option digits) ≡ Some next
-    → Tells name next.0 next.1 words final
-    → Tells name taken (Some option) (digits ∷ words) final
+    → TellsArguments name next.0 next.1 words final
+    → TellsArguments name taken (Some option) (digits ∷ words) final
 tells_digits name taken option digits words next final step later =
     let (t, there, same) = option_map_some (λ (t : Taken). (t, None)) (take_digits name taken option digits) next step in
     let is = digits_taken name taken option digits t there in
-    let rest : Tells name t None words final = subst (λ (x : Taken × Option OptionName). Tells name x.0 x.1 words final)
+    let rest : TellsArguments name t None words final = subst (λ (x : Taken × Option OptionName). TellsArguments name x.0 x.1 words final)
     (sym same) later in (
       digits,
       words,
@@ -100,13 +101,13 @@ tells_digits name taken option digits words next final step later =
 tells_option : (name : CommandName) (taken : Taken) (word : List ℕ) (words : List (List ℕ))
     (next : Taken × Option OptionName) (final : Taken)
     (parts : Option (List ℕ × List ℕ)) → around_equals word ≡ parts → read_option name taken word parts ≡ Some next
-    → Tells name next.0 next.1 words final
-    → Tells name taken None (word ∷ words) final
+    → TellsArguments name next.0 next.1 words final
+    → TellsArguments name taken None (word ∷ words) final
 tells_option name taken word words next final None around step later =
     let (option, named, same) = option_map_some (λ (o : OptionName). (taken, Some o)) (option_named word) next step in
     let found = option_found word option named in
-    let rest : Tells name taken (Some option) words final = subst
-    (λ (x : Taken × Option OptionName). Tells name x.0 x.1 words final) (sym same) later in
+    let rest : TellsArguments name taken (Some option) words final = subst
+    (λ (x : Taken × Option OptionName). TellsArguments name x.0 x.1 words final) (sym same) later in
     let (digits, behind, number, arguments, words_are, in_range, spelled, all) = rest in (
       Number option number ∷ arguments,
       (
@@ -130,7 +131,7 @@ tells_option name taken word words next final (Some parts) around step later =
     let found = option_found parts.0 option named in
     let (t, there, same) = option_map_some (λ (t : Taken). (t, None)) (take_digits name taken option parts.1) next given in
     let is = digits_taken name taken option parts.1 t there in
-    let rest : Tells name t None words final = subst (λ (x : Taken × Option OptionName). Tells name x.0 x.1 words final)
+    let rest : TellsArguments name t None words final = subst (λ (x : Taken × Option OptionName). TellsArguments name x.0 x.1 words final)
     (sym same) later in
     let whole : word ≡ option_name option ++ 61 ∷ parts.1 = joined word parts.0 parts.1 around
     ∙ ap (λ (front : List ℕ). front ++ 61 ∷ parts.1) found.0 in (
@@ -155,12 +156,12 @@ tells_word : (name : CommandName) (taken : Taken) (word : List ℕ) (words : Lis
     (next : Taken × Option OptionName) (final : Taken)
     (b : Bool) → is_option word ≡ b → cond b (read_option name taken word (around_equals word))
     (option_map (λ (t : Taken). (t, None)) (take_plain name taken word)) ≡ Some next
-    → Tells name next.0 next.1 words final → Tells name taken None (word ∷ words) final
+    → TellsArguments name next.0 next.1 words final → TellsArguments name taken None (word ∷ words) final
 tells_word name taken word words next final true begins step later =
     tells_option name taken word words next final (around_equals word) refl step later
 tells_word name taken word words next final false begins step later =
     let (t, there, same) = option_map_some (λ (t : Taken). (t, None)) (take_plain name taken word) next step in
-    let rest : Tells name t None words final = subst (λ (x : Taken × Option OptionName). Tells name x.0 x.1 words final)
+    let rest : TellsArguments name t None words final = subst (λ (x : Taken × Option OptionName). TellsArguments name x.0 x.1 words final)
     (sym same) later in (
       Plain word ∷ rest.0,
       (word ∷ [], words, (begins, refl), rest.1, refl),
@@ -169,7 +170,7 @@ tells_word name taken word words next final false begins step later =
     )
 
 tells : (name : CommandName) (words : List (List ℕ)) (taken final : Taken) (waiting : Option OptionName)
-    → read_words name taken waiting words ≡ Some final → Tells name taken waiting words final
+    → read_words name taken waiting words ≡ Some final → TellsArguments name taken waiting words final
 tells name [] taken final None is = ([], refl, is)
 tells name [] taken final (Some option) is = absurd (none-some final is)
 tells name (word ∷ words) taken final None is =
@@ -182,10 +183,10 @@ tells name (word ∷ words) taken final (Some option) is =
     tells_digits name taken option word words next final step (tells name words next.0 final next.1 later)
 
 -- words that are read spell arguments that are taken
-pub arguments_told : (name : CommandName) (words : List (List ℕ)) (taken final : Taken)
+pub arguments_are_read : (name : CommandName) (words : List (List ℕ)) (taken final : Taken)
     → read_words name taken None words ≡ Some final
     → (arguments : List Argument) × AreSpelled arguments words × (take_all name taken arguments ≡ Some final)
-arguments_told name words taken final is = tells name words taken final None is
+arguments_are_read name words taken final is = tells name words taken final None is
 
 -- ---- words that spell arguments are read
 digits_read : (name : CommandName) (taken next : Taken) (option : OptionName) (digits : List ℕ) (number : ℕ)
@@ -245,24 +246,24 @@ arguments_read name (Plain word ∷ arguments) words taken final (front, rest, (
     subst (λ (ws : List (List ℕ)). read_words name taken None ws ≡ Some final) (sym whole)
     (read_more name taken None word rest (next, None) final step
     (arguments_read name arguments rest next final spelled later))
-arguments_read name (Number option number ∷ arguments) words taken final (front, rest, told, spelled, words_are) is =
+arguments_read name (Number option number ∷ arguments) words taken final (front, rest, known, spelled, words_are) is =
     let (next, first, later) = and_then_some (λ (t : Taken). take_all name t arguments)
     (take_number name taken option number) final is in
-    let given = digits_read name taken next option told.digits number told.in_range first in
+    let given = digits_read name taken next option known.digits number known.in_range first in
     let behind = arguments_read name arguments rest next final spelled later in
     ⊎_elim
     (λ two.
-    let whole : words ≡ option_name option ∷ told.digits ∷ rest = words_are
+    let whole : words ≡ option_name option ∷ known.digits ∷ rest = words_are
     ∙ ap (λ (ws : List (List ℕ)). ws ++ rest) two in
     subst (λ (ws : List (List ℕ)). read_words name taken None ws ≡ Some final) (sym whole)
-    (read_more name taken None (option_name option) (told.digits ∷ rest) (taken, Some option) final
-    (name_read name taken option told.built)
-    (read_more name taken (Some option) told.digits rest (next, None) final
+    (read_more name taken None (option_name option) (known.digits ∷ rest) (taken, Some option) final
+    (name_read name taken option known.built)
+    (read_more name taken (Some option) known.digits rest (next, None) final
     (ap (option_map (λ (t : Taken). (t, None))) given) behind)))
     (λ one.
-    let whole : words ≡ (option_name option ++ 61 ∷ told.digits) ∷ rest = words_are
+    let whole : words ≡ (option_name option ++ 61 ∷ known.digits) ∷ rest = words_are
     ∙ ap (λ (ws : List (List ℕ)). ws ++ rest) one in
     subst (λ (ws : List (List ℕ)). read_words name taken None ws ≡ Some final) (sym whole)
-    (read_more name taken None (option_name option ++ 61 ∷ told.digits) rest (next, None) final
-    (joined_read name taken next option told.digits told.built given) behind))
-    told.spelled
+    (read_more name taken None (option_name option ++ 61 ∷ known.digits) rest (next, None) final
+    (joined_read name taken next option known.digits known.built given) behind))
+    known.spelled

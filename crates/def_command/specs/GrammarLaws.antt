@@ -1,7 +1,6 @@
 -- Which words are a call, and of which command.
 use Rattle.std.specs.Prelude.{◌≡◌, ◌↔◌, ◌≤◌, List, ℕ, Some}
-use Rattle.def_sums.specs.Limits.{most_rounds, most_scale, most_workers}
-use Rattle.def_command.specs.Table.{least_cards, most_cards}
+use Rattle.def_sums.specs.Limits.{most_rounds, most_scale, most_workers, least_cards, most_cards}
 use Rattle.def_command.specs.Grammar.{Settings, Command, Solve, Gen, Drill, command_of_words, IsCall}
 
 -- the command that is computed is exactly the one that the words are a call of
@@ -9,6 +8,7 @@ abbrev pub CallsAreComputed : Type 0
 CallsAreComputed =
     (words : List (List ℕ)) (command : Command) → (command_of_words words ≡ Some command) ↔ IsCall words command
 
+-- words are a call of one command at most
 abbrev pub WordsCallOne : Type 0
 WordsCallOne =
     (words : List (List ℕ)) (first second : Command) → IsCall words first → IsCall words second → first ≡ second

@@ -26,13 +26,6 @@ built_commands = Solve ∷ Check ∷ Info ∷ Gen ∷ Drill ∷ []
 abbrev pub built_options : List OptionName
 built_options = Rounds ∷ Every ∷ Scale ∷ Workers ∷ []
 
--- ---- limits
-abbrev pub least_cards : ℕ
-least_cards = 2
-
-abbrev pub most_cards : ℕ
-most_cards = 64
-
 -- ---- a command: its word, the number of its plain words, and its options
 abbrev pub command_word : CommandName → List ℕ
 command_word Solve = codes "solve"

@@ -5,9 +5,9 @@ use Rattle.std.specs.Prelude.{pos, negsuc, [], ◌∷◌}
 use Rattle.def_tree.specs.declared.Kind.TheVariants.{Chance, One, Two}
 use Rattle.def_tree.specs.Tree.{Forest, forest_of}
 use Rattle.def_game_scale.specs.Tables.{Tables}
-use Rattle.def_plan.specs.Form.{SequenceForm}
-use Rattle.def_tree.specs.Rules.{inner_node}
-use Rattle.def_examples.specs.Nodes.{leaf_node, paid, set_after, weighted}
+use Rattle.def_plan.specs.Form.{SequenceForm, weighted}
+use Rattle.def_tree.specs.Rules.{inner_node, leaf_node}
+use Rattle.def_examples.specs.Nodes.{paid, set_after}
 use Rattle.def_fraction.specs.Fraction.{one_over}
 
 abbrev pub hidden_tree : Forest

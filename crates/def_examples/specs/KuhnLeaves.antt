@@ -1,8 +1,7 @@
 -- The leaves of Kuhn poker, written out deal by deal in the order of the game's tree. A deal has the chance 1/6 and the
 -- unit is 6, so a leaf's weight is what player one wins.
 use Rattle.std.specs.Prelude.{pos, negsuc, List, [], ◌∷◌}
-use Rattle.def_plan.specs.Form.{Leaf}
-use Rattle.def_examples.specs.Nodes.{weighted}
+use Rattle.def_plan.specs.Form.{Leaf, weighted}
 
 abbrev pub written_leaves : List Leaf
 written_leaves =

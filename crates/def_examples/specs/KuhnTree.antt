@@ -8,8 +8,8 @@ use Rattle.def_fraction.specs.Fraction.{whole_number, one_over}
 use Rattle.def_game_paths.specs.Paths.{Choice}
 use Rattle.def_game_scale.specs.Tables.{Tables}
 use Rattle.def_game_scale.specs.Scale.{game_mass, game_unit}
-use Rattle.def_tree.specs.Rules.{inner_node}
-use Rattle.def_examples.specs.Nodes.{leaf_node, paid}
+use Rattle.def_tree.specs.Rules.{inner_node, leaf_node}
+use Rattle.def_examples.specs.Nodes.{paid}
 use Rattle.def_examples.specs.Kuhn.{kuhn}
 use Rattle.def_sequence_form.specs.Form.{LeafEntry, leaf_list, form_of_game}
 

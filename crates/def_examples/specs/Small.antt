@@ -1,18 +1,15 @@
 -- The smallest games as trees: matching pennies, where player two doesn't see player one's choice; a choice between 1
 -- and nothing; and a choice among three actions that are worth nothing.
 use Rattle.std.specs.Prelude.{◌≡◌, pos, negsuc, [], ◌∷◌}
-use Rattle.def_tree.specs.declared.Kind.TheVariants.{One, Two}
+use Rattle.def_tree.specs.declared.Kind.TheVariants.{One}
 use Rattle.def_tree.specs.Tree.{Forest, forest_of}
 use Rattle.def_game_scale.specs.Tables.{Tables}
 use Rattle.def_game_scale.specs.Scale.{game_mass, game_unit}
 use Rattle.def_plan.specs.Pennies.{pennies}
 use Rattle.def_round.specs.Games.{one_mover, three_actions}
 use Rattle.def_sequence_form.specs.Form.{form_of_game}
-use Rattle.def_tree.specs.Rules.{inner_node}
-use Rattle.def_examples.specs.Nodes.{leaf_node, paid}
-
-abbrev pub pennies_tree : Forest
-pennies_tree = forest_of (inner_node One 1 2 ∷ inner_node Two 1 2 ∷ leaf_node 1 ∷ leaf_node 2 ∷ inner_node Two 1 2 ∷ leaf_node 2 ∷ leaf_node 1 ∷ [])
+use Rattle.def_tree.specs.Rules.{inner_node, leaf_node, matching_pennies}
+use Rattle.def_examples.specs.Nodes.{paid}
 
 abbrev pub pennies_tables : Tables
 pennies_tables = record { chance = []; outcomes = paid (pos 1) ∷ paid (negsuc 0) ∷ [] }
@@ -31,9 +28,9 @@ three_actions_tables = record { chance = []; outcomes = paid (pos 0) ∷ [] }
 
 -- the forms of these trees are those from which the rows of plans, rounds and replies begin
 pub record SmallRows : Type 0 where
-  pub pennies_form : form_of_game pennies_tables pennies_tree ≡ pennies
-  pub pennies_unit : game_unit pennies_tables pennies_tree ≡ 1
-  pub pennies_mass : game_mass pennies_tables pennies_tree ≡ 4
+  pub pennies_form : form_of_game pennies_tables matching_pennies ≡ pennies
+  pub pennies_unit : game_unit pennies_tables matching_pennies ≡ 1
+  pub pennies_mass : game_mass pennies_tables matching_pennies ≡ 4
   pub one_mover_form : form_of_game one_mover_tables one_mover_tree ≡ one_mover
   pub three_actions_sets : (form_of_game three_actions_tables three_actions_tree).sets_one ≡ three_actions
   pub three_actions_mass : game_mass three_actions_tables three_actions_tree ≡ 0

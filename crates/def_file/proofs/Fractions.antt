@@ -4,10 +4,10 @@ use Rattle.std.specs.List.{All}
 use Rattle.std.specs.Option.{option_map_or}
 use Rattle.std.proofs.lemmas.List.Elements.{All-nil, All-head, All-tail, All-push, All-set}
 use Rattle.def_fraction.specs.Divisors.{gcd}
-use Rattle.def_fraction.specs.Fraction.{Fraction, IsInLowestTerms}
+use Rattle.def_fraction.specs.Fraction.{Fraction, IsInLowestTerms, zero_fraction}
 use Rattle.def_tree.specs.declared.Kind.{Kind}
 use Rattle.def_tree.specs.declared.Kind.TheVariants as movers
-use Rattle.def_file.specs.Content.{Action, SetEntry, SetMention, OutcomeEntry, OutcomeMention, SetTables, Record, Contents, with_sets, sets_of_kind, zero_fraction, no_contents}
+use Rattle.def_file.specs.Content.{Action, SetEntry, SetMention, OutcomeEntry, OutcomeMention, SetTables, Record, Contents, with_sets, sets_of_kind, no_contents}
 use Rattle.def_file.specs.Faults.{mover, set_at, set_place_of, null_outcome, outcome_at, outcome_place_of}
 use Rattle.def_file.specs.Adding.{kept_name, new_set, noted_set, new_outcome, noted_outcome, nth_payoff, with_record}
 use Rattle.def_file.specs.Game.{IsSmallFraction, chances_of, HasFractions}
@@ -48,11 +48,13 @@ sets_more : (table : List SetEntry) (m : SetMention)
     → All (λ entry. All IsSmallFraction (chances_of entry)) (noted_set table m)
 sets_more table m given h = by (set_place_of m.number table)
   where
-    by : (place : Option ℕ) → All (λ entry. All IsSmallFraction (chances_of entry)) (option_map_or (λ i. set table i (record (set_at table i) { name = kept_name (set_at table i).name m.name })) place (table ++ new_set m ∷ []))
+    by : (place : Option ℕ)
+        → All (λ entry. All IsSmallFraction (chances_of entry)) (option_map_or (λ i. set table i (record (set_at table i) { name = kept_name (set_at table i).name m.name })) place (table ++ new_set m ∷ []))
     by (Some i) = All-set (λ entry. All IsSmallFraction (chances_of entry)) table i (record (set_at table i) { name = kept_name (set_at table i).name m.name }) (entry_at table i h) h
     by None = All-push (λ entry. All IsSmallFraction (chances_of entry)) table (new_set m) h (new_chances m.actions given)
 
-nth_small : (payoffs : List Fraction) (i : ℕ) → All IsSmallFraction payoffs → IsSmallFraction (nth_payoff payoffs i)
+-- a payoff of a list of small fractions is one
+pub nth_small : (payoffs : List Fraction) (i : ℕ) → All IsSmallFraction payoffs → IsSmallFraction (nth_payoff payoffs i)
 nth_small [] i h = zero_small
 nth_small (f ∷ payoffs) zero h = All-head IsSmallFraction f payoffs h
 nth_small (f ∷ payoffs) (suc i) h = nth_small payoffs i (All-tail IsSmallFraction f payoffs h)
@@ -64,7 +66,8 @@ given_small None i h = zero_small
 
 -- a payoff of the outcomes, with one more mention
 module _ (paid : OutcomeEntry → Fraction) (at_null : IsSmallFraction (paid null_outcome)) (m : OutcomeMention)
-    (keeps : (e : OutcomeEntry) (name : Option (List ℕ)) → paid (record e { name = name }) ≡ paid e) (new : IsSmallFraction (paid (new_outcome m))) where
+    (keeps : (e : OutcomeEntry) (name : Option (List ℕ))
+    → paid (record e { name = name }) ≡ paid e) (new : IsSmallFraction (paid (new_outcome m))) where
   outcome_kept : (outcomes : List OutcomeEntry) (i : ℕ) → All (λ e. IsSmallFraction (paid e)) outcomes
       → IsSmallFraction (paid (outcome_at outcomes i))
   outcome_kept [] i h = at_null
@@ -75,7 +78,8 @@ module _ (paid : OutcomeEntry → Fraction) (at_null : IsSmallFraction (paid nul
       → All (λ e. IsSmallFraction (paid e)) (noted_outcome outcomes m)
   outcomes_more outcomes h = by (nat_eq m.number 0) (outcome_place_of m.number outcomes)
     where
-      by : (null : Bool) (place : Option ℕ) → All (λ e. IsSmallFraction (paid e)) (cond null outcomes (option_map_or (λ i. set outcomes i (record (outcome_at outcomes i) { name = kept_name (outcome_at outcomes i).name m.name })) place (outcomes ++ new_outcome m ∷ [])))
+      by : (null : Bool) (place : Option ℕ)
+          → All (λ e. IsSmallFraction (paid e)) (cond null outcomes (option_map_or (λ i. set outcomes i (record (outcome_at outcomes i) { name = kept_name (outcome_at outcomes i).name m.name })) place (outcomes ++ new_outcome m ∷ [])))
       by true place = h
       by false (Some i) =
           All-set (λ e. IsSmallFraction (paid e)) outcomes i (record (outcome_at outcomes i) { name = kept_name (outcome_at outcomes i).name m.name })

@@ -1,5 +1,5 @@
 pub mod AnyLength
 pub mod Faultless
-pub mod Together
+pub mod TablesGoWithNodes
 pub mod Fractions
 pub mod WholeGame

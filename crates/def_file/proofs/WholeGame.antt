@@ -10,7 +10,7 @@ use Rattle.def_file.specs.Content.{SetEntry, OutcomeEntry, SetTables, Record, Co
 use Rattle.def_file.specs.Faults.{set_at, no_set, record_fault}
 use Rattle.def_file.specs.Adding.{node_with}
 use Rattle.def_file.specs.Game.{AreSetsOf, GoTogether, AreTogether}
-use Rattle.def_file.proofs.Together.{together_with}
+use Rattle.def_file.proofs.TablesGoWithNodes.{together_with}
 
 fits_last : (nodes : List Node) (node : Node) → KeepRules (nodes ++ node ∷ []) → Fits nodes node
 fits_last nodes node keep =
@@ -51,7 +51,8 @@ count_within kind nodes keep =
     subst (λ ns. set_count kind ns ≤ length nodes) (take-length nodes)
     (count_below kind nodes (record { kind = movers.Leaf; set = 0; outcome = 0; children = 0 }) keep (length nodes) (omega arith))
 
-module _ (nodes : List Node) (names : List (List ℕ)) (sets : SetTables) (outcomes : List OutcomeEntry) (held : GoTogether nodes names sets outcomes) where
+module _ (nodes : List Node) (names : List (List ℕ)) (sets : SetTables) (outcomes : List OutcomeEntry)
+    (held : GoTogether nodes names sets outcomes) where
   sets_of : (kind : Kind) → kind ≢ movers.Leaf → AreSetsOf kind nodes (sets_of_kind kind sets)
   sets_of movers.Chance apart = held.chance
   sets_of movers.One apart = held.one

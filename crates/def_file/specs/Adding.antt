@@ -4,9 +4,9 @@
 --     with_record contents r         the contents with an entry
 use Rattle.std.specs.Prelude.{ℕ, ◌+◌, nat_eq, if◌then◌else◌, List, [], ◌∷◌, ◌++◌, length, unwrap_or, slice_set, slice_index_or, Option, Some, None}
 use Rattle.std.specs.Option.{option_map_or}
-use Rattle.def_fraction.specs.Fraction.{Fraction}
+use Rattle.def_fraction.specs.Fraction.{Fraction, zero_fraction}
 use Rattle.def_tree.specs.declared.Node.{Node}
-use Rattle.def_file.specs.Content.{SetMention, OutcomeMention, Record, SetEntry, OutcomeEntry, Contents, sets_of_kind, with_sets, zero_fraction}
+use Rattle.def_file.specs.Content.{SetMention, OutcomeMention, Record, SetEntry, OutcomeEntry, Contents, sets_of_kind, with_sets}
 use Rattle.def_file.specs.Faults.{mover, has_set, set_place_of, outcome_place_of, set_at, outcome_at}
 
 -- the first name that is given is kept

@@ -4,13 +4,14 @@
 --     SetEntry, OutcomeEntry            what is known of a set and of an outcome
 --     Contents                          the nodes of entries, with their names, sets and outcomes
 --     GameFile                          a game
-use Rattle.std.specs.Prelude.{ℕ, pos, List, [], Option, None}
-use Rattle.def_fraction.specs.Fraction.{Fraction, whole_number}
+use Rattle.std.specs.Prelude.{ℕ, List, [], Option, None}
+use Rattle.def_fraction.specs.Fraction.{Fraction, zero_fraction}
 use Rattle.def_tree.specs.declared.Kind.{Kind}
 use Rattle.def_tree.specs.declared.Kind.TheVariants.{Chance, One, Two, Leaf}
 use Rattle.def_tree.specs.declared.Node.{Node}
 use Rattle.def_tree.specs.Tree.{Forest, forest_of}
 use Rattle.def_file.specs.declared.EntryKind.{EntryKind}
+use Rattle.def_file.specs.declared.EntryKind.TheVariants as kinds
 
 -- The texts, by the bytes that they stand for. An absent comment is the empty text.
 pub record Prologue : Type 0 where
@@ -44,8 +45,34 @@ pub record Record : Type 0 where
   pub set : SetMention
   pub outcome : OutcomeMention
 
+abbrev pub action_with : List ℕ → Fraction → Action
+action_with name chance = record { name = name; chance = chance }
+
+-- an action of a player
+abbrev pub named_action : List ℕ → Action
+named_action name = action_with name zero_fraction
+
+abbrev pub set_mention : ℕ → Option (List ℕ) → Option (List Action) → SetMention
+set_mention number name actions = record { number = number; name = name; actions = actions }
+
 abbrev pub no_set_mention : SetMention
-no_set_mention = record { number = 0; name = None; actions = None }
+no_set_mention = set_mention 0 None None
+
+abbrev pub outcome_mention : ℕ → Option (List ℕ) → Option (List Fraction) → OutcomeMention
+outcome_mention number name payoffs = record { number = number; name = name; payoffs = payoffs }
+
+abbrev pub no_outcome_mention : OutcomeMention
+no_outcome_mention = outcome_mention 0 None None
+
+-- entries without a name, of which only a leaf says something of an outcome
+abbrev pub chance_record : SetMention → Record
+chance_record set = record { kind = kinds.Chance; name = []; player = 0; set = set; outcome = no_outcome_mention }
+
+abbrev pub player_record : ℕ → SetMention → Record
+player_record player set = record { kind = kinds.Personal; name = []; player = player; set = set; outcome = no_outcome_mention }
+
+abbrev pub leaf_record : OutcomeMention → Record
+leaf_record outcome = record { kind = kinds.Leaf; name = []; player = 0; set = no_set_mention; outcome = outcome }
 
 -- what is known of a set: the number in the file, the first name that is given, and the actions of the first mention
 pub record SetEntry : Type 0 where
@@ -105,6 +132,3 @@ with_sets Chance table sets = record sets { chance = table }
 with_sets One table sets = record sets { one = table }
 with_sets Two table sets = record sets { two = table }
 with_sets Leaf table sets = sets
-
-abbrev pub zero_fraction : Fraction
-zero_fraction = whole_number (pos 0)

@@ -10,7 +10,7 @@ use Rattle.std.specs.Option.{option_map_or}
 use Rattle.std.specs.declared.cmp.Ordering.{Ordering}
 use Rattle.std.specs.declared.cmp.Ordering.TheVariants.{Less, Equal, Greater}
 use Rattle.std.specs.Cmp.Lexicographic.{pointwise}
-use Rattle.def_fraction.specs.Fraction.{Fraction, order_of}
+use Rattle.def_fraction.specs.Fraction.{Fraction, order_of, zero_fraction}
 use Rattle.def_tree.specs.declared.Kind.{Kind}
 use Rattle.def_tree.specs.declared.Kind.TheVariants as movers
 use Rattle.def_tree.specs.Rules.{most_actions, most_nodes}
@@ -18,7 +18,7 @@ use Rattle.def_file.specs.declared.EntryKind.{EntryKind}
 use Rattle.def_file.specs.declared.EntryKind.TheVariants.{Chance, Personal, Leaf}
 use Rattle.def_file.specs.declared.FileFault.{FileFault}
 use Rattle.def_file.specs.declared.FileFault.TheVariants.{TooLong, Syntax, UnexpectedEnd, TrailingText, Number, Players, PlayerNumber, SetUndefined, SetMismatch, OutcomeUndefined, OutcomeMismatch, PayoffCount, TooManyNodes, ActionCount, ChanceNegative, ChanceSum, NotZeroSum, NotRecall, Scale}
-use Rattle.def_file.specs.Content.{Action, SetMention, OutcomeMention, Record, SetEntry, OutcomeEntry, Contents, sets_of_kind, zero_fraction}
+use Rattle.def_file.specs.Content.{Action, SetMention, OutcomeMention, Record, SetEntry, OutcomeEntry, Contents, sets_of_kind}
 
 abbrev pub mover_as : EntryKind → ℕ → Kind
 mover_as Chance player = movers.Chance

@@ -29,10 +29,13 @@ pub record GoesWith (sets : SetTables) (outcomes : List OutcomeEntry) (node : No
   pub set : node.kind ≢ Leaf → IsInSet (sets_of_kind node.kind sets) node
   pub outcome : node.outcome ≤ length outcomes
 
+abbrev pub HasFewActions : SetEntry → Type 0
+HasFewActions entry = (1 ≤ length entry.actions) × (length entry.actions ≤ most_actions)
+
 -- each set of the table is that of a node of the kind, and has 1 to 1,024 actions
 pub record AreSetsOf (kind : Kind) (nodes : List Node) (table : List SetEntry) : Type 0 where
   pub count : length table ≡ set_count kind nodes
-  pub few : All (λ entry. (1 ≤ length entry.actions) × (length entry.actions ≤ most_actions)) table
+  pub few : All HasFewActions table
 
 pub record GoTogether (nodes : List Node) (names : List (List ℕ)) (sets : SetTables) (outcomes : List OutcomeEntry) : Type 0 where
   pub rules : KeepRules nodes

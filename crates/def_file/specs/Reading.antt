@@ -19,7 +19,7 @@ use Rattle.def_file_tokens.specs.Tokens.{byte_from, next_from}
 use Rattle.def_file_tokens.specs.Texts.{unescaped}
 use Rattle.def_fraction.specs.declared.fault.NumberFault.{NumberFault}
 use Rattle.def_fraction.specs.declared.fault.NumberFault.TheVariants.{Range}
-use Rattle.def_fraction.specs.Fraction.{Fraction}
+use Rattle.def_fraction.specs.Fraction.{Fraction, zero_fraction}
 use Rattle.def_fraction.specs.Reading.{read_as_literal, read_as_whole}
 use Rattle.def_tree.specs.Rules.{most_nodes}
 use Rattle.def_tree.specs.Tree.{wanted}
@@ -27,7 +27,7 @@ use Rattle.def_file.specs.declared.EntryKind.{EntryKind}
 use Rattle.def_file.specs.declared.EntryKind.TheVariants.{Chance, Personal, Leaf}
 use Rattle.def_file.specs.declared.FileFault.{FileFault}
 use Rattle.def_file.specs.declared.FileFault.TheVariants.{Syntax, UnexpectedEnd, TrailingText, Number, Players, TooManyNodes}
-use Rattle.def_file.specs.Content.{Prologue, Action, SetMention, OutcomeMention, Record, Contents, GameFile, no_set_mention, no_contents, game_with, zero_fraction}
+use Rattle.def_file.specs.Content.{Prologue, Action, SetMention, OutcomeMention, Record, Contents, GameFile, no_set_mention, no_contents, game_with}
 use Rattle.def_file.specs.Faults.{record_fault}
 use Rattle.def_file.specs.Adding.{with_record}
 

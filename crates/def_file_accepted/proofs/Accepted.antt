@@ -1,7 +1,7 @@
 -- Which files are accepted, by the laws of what they rest on.
 use Rattle.def_file_form.proofs.WholeGames.{stands_for_whole_game}
-use Rattle.def_file_fault.proofs.Stopped.{fault_first}
-use Rattle.def_file_fault.proofs.Reached.{first_faulted}
+use Rattle.def_file_fault.proofs.ReportedFaultIsFirst.{fault_first}
+use Rattle.def_file_fault.proofs.FirstFaultIsReported.{first_faulted}
 use Rattle.def_game_faults.proofs.First.{game_first}
 use Rattle.def_game_faults.proofs.Sound.{sound}
 use Rattle.def_game_numbers.proofs.Fractions.{tables_lowest}

@@ -6,7 +6,7 @@ use Rattle.def_file.specs.declared.FileFault.TheVariants.{TooLong}
 use Rattle.def_file.specs.Content.{GameFile}
 use Rattle.def_file.specs.Reading.{game_at, most_bytes}
 use Rattle.def_file_form.specs.Laws.{StandsForWholeGame}
-use Rattle.def_file_form.proofs.Whole.{game_read, game_taken}
+use Rattle.def_file_form.proofs.FileReadingIsExact.{game_read, game_taken}
 use Rattle.def_file_fault.specs.Laws.{FileFaultIsFirst, FirstIsFileFault}
 use Rattle.def_game_scale.specs.Tables.{AreFractions}
 use Rattle.def_game_faults.specs.Faults.{GameFault, game_fault}

@@ -13,10 +13,12 @@ pub record ReadingIsExact : Type 0 where
   pub refused : (bytes : List ℕ) (fault : FileFault) → (read_as_game bytes ≡ Err fault) ↔ IsFirstOfText bytes fault
   pub read : (bytes : List ℕ) (game : GameFile) → (read_as_game bytes ≡ Ok game) ↔ IsReadable bytes game
 
+-- a file is refused exactly with its first fault
 abbrev pub RefusedWithTheFirst : Type 0
 RefusedWithTheFirst = (bytes : List ℕ) (fault : FileFault)
     → (read_as_accepted bytes ≡ Err fault) ↔ IsFirstFault bytes fault
 
+-- a file is accepted as a game exactly where it is readable as this game and the game has no fault
 abbrev pub AcceptedWithoutFault : Type 0
 AcceptedWithoutFault = (bytes : List ℕ) (game : GameFile)
     → (read_as_accepted bytes ≡ Ok game) ↔ IsAccepted bytes game

@@ -19,7 +19,7 @@ use Rattle.def_file.specs.Content.{Action, Record, OutcomeEntry}
 use Rattle.def_file.specs.Faults.{same_text, is_equal, same_value, same_action, name_differs, actions_differ, payoffs_differ, has_wrong_count, has_wrong_payoffs}
 use Rattle.def_file_entries.specs.Entries.{first_given}
 use Rattle.def_file_entries.specs.EntryRules.{Moves, IsFirstWith, AreSameNumbers, AreSameActions, HasOtherName, HasOtherList}
-use Rattle.def_file_entries.proofs.FirstWith.{Tells, given_is_first, first_is_given, first_is_one}
+use Rattle.def_file_entries.proofs.FirstWith.{TellsWhere, given_is_first, first_is_given, first_is_one}
 
 -- Tests joined.
 
@@ -73,7 +73,7 @@ differ_names a b d =
 -- the test of the names tells whether another name is given than the first
 pub name_tells : (t : Record → Bool) (P : Record → Type 0) (name : Record → Option (List ℕ)) (rs : List Record)
     (r : Record)
-    → Tells t P rs
+    → TellsWhere t P rs
     → (name_differs (first_given (map name (filter t rs))) (name r) ≡ true) ↔ HasOtherName P name rs r
 name_tells t P name rs r tells = (forth, back)
   where

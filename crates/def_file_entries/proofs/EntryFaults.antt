@@ -13,7 +13,7 @@ use Rattle.def_file.specs.Faults.{mover, has_set, is_no_player, is_set_undefined
 use Rattle.def_file_entries.specs.Entries.{node_of, set_table, outcome_table, contents_of}
 use Rattle.def_file_entries.specs.EntryRules.{IsNewSet, HasOtherSet, HasNoneOrTooMany, Breaks, BreaksNone}
 use Rattle.def_file_entries.specs.Laws.{HaveNoFault, EntryFaultIsFirstBroken, NoFaultBreaksNone}
-use Rattle.def_file_entries.proofs.Known.{tables_of}
+use Rattle.def_file_entries.proofs.EntryAddsToTables.{set_tables_of}
 use Rattle.def_file_entries.proofs.OneMore.{own_sets}
 use Rattle.def_file_entries.proofs.FirstMet.{Decide, Rise, Among, first_is_least, least_is_first, none_met_none, none_holds_none_met}
 use Rattle.def_file_entries.proofs.Differs.{guarded}
@@ -38,7 +38,7 @@ other_set_needed : (rs : List Record) (r : Record) → HasOtherSet rs r → has_
 other_set_needed rs r h = ⊎_elim (λ name. moves_set name.first.has.0.who r name.first.has.0.here) (λ list. moves_set list.first.has.who r list.first.has.here) h
 
 abbrev table_of : List Record → Record → List SetEntry
-table_of rs r = sets_of_kind (mover r) (tables_of rs)
+table_of rs r = sets_of_kind (mover r) (set_tables_of rs)
 
 module _ (rs : List Record) (r : Record) (fine : HaveNoFault rs) (player : HasPlayer r) where
   players : All HasPlayer rs

@@ -5,7 +5,7 @@ use Rattle.std.specs.Option.{option_map_or}
 use Rattle.std.specs.Cmp.Lexicographic.{pointwise}
 use Rattle.std.proofs.Math.Logic.{⊎_elim}
 use Rattle.std.proofs.lemmas.Bool.{false≢true, and_parts, and_from, or_from, or_parts, not-true, not-false, not_from_false, false_from_ne_true, eqb-true, eqb-false, eq-eqb, ne_eqb}
-use Rattle.def_fraction.specs.Fraction.{Fraction}
+use Rattle.def_fraction.specs.Fraction.{Fraction, zero_fraction}
 use Rattle.def_tree.specs.declared.Kind.{Kind}
 use Rattle.def_tree.specs.declared.Kind.TheVariants as movers
 use Rattle.def_tree.specs.Rules.{is_same_kind}
@@ -13,15 +13,15 @@ use Rattle.def_tree.proofs.Sets.{is_same_kind_self, is_same_kind-true}
 use Rattle.def_file.specs.declared.EntryKind.{EntryKind}
 use Rattle.def_file.specs.declared.EntryKind.TheVariants.{Chance, Personal, Leaf}
 use Rattle.def_file.specs.declared.FileFault.TheVariants.{SetUndefined, OutcomeUndefined, PayoffCount}
-use Rattle.def_file.specs.Content.{Action, Record, SetEntry, OutcomeEntry, zero_fraction}
+use Rattle.def_file.specs.Content.{Action, Record, SetEntry, OutcomeEntry}
 use Rattle.def_file.specs.Faults.{mover, mover_as, has_set, has_player, is_no_player, no_set, set_at, set_place_of, outcome_at, outcome_place_of, null_outcome, is_set_undefined, set_differs, is_set_miscounted, has_wrong_count, has_wrong_payoffs, same_action, same_value, name_differs, actions_differ, payoffs_differ}
 use Rattle.def_file.specs.Adding.{nth_payoff}
 use Rattle.def_file_entries.specs.Entries.{first_given, given_first, of_kind, mentions, set_entry, set_table, with_outcome, outcome_mentions, outcome_entry, outcome_table}
 use Rattle.def_file_entries.specs.EntryRules.{Moves, MentionOneSet, MentionOneOutcome, IsFirstWith, AreSameNumbers, AreSameActions, HasOtherName, HasOtherList, HasNoPlayer, IsNewSet, IsNewOutcome, HasOtherSet, HasOtherZeros, HasOtherOutcome, HasOtherThanTwo, HasNoneOrTooMany}
 use Rattle.def_file_entries.specs.Laws.{HaveNoFault}
 use Rattle.def_file_entries.proofs.Tables.{is_new, is_known, found-cases}
-use Rattle.def_file_entries.proofs.Known.{set_key, outcome_key}
-use Rattle.def_file_entries.proofs.FirstWith.{Tells, filter-filter, none_with, none_is_first, first_with}
+use Rattle.def_file_entries.proofs.EntryAddsToTables.{set_key, outcome_key}
+use Rattle.def_file_entries.proofs.FirstWith.{TellsWhere, filter-filter, none_with, none_is_first, first_with}
 use Rattle.def_file_entries.proofs.Differs.{either, none_if, some_if, name_tells, other_list, list_tells, actions_other, payoffs_other, other_given, numbers_tell, actions_tell, count_tells, two_tells}
 
 -- Players.
@@ -105,7 +105,7 @@ set_tells r x s h k = (forth, back)
         and_from (is_same_kind (mover r) (mover x)) (nat_eq r.set.number x.set.number) (is_same_kind_self (mover r) (mover x) same) (eq-eqb r.set.number x.set.number m.number)
 
 sets_tell : (rs : List Record) (r : Record) → has_set r.kind ≡ true → HasPlayer r → All HasPlayer rs
-    → Tells (in_set r) (MentionOneSet r) rs
+    → TellsWhere (in_set r) (MentionOneSet r) rs
 sets_tell rs r s h all = λ k d within. set_tells r (get_or rs k d) s h (all k d within)
 
 set_mentions : (rs : List Record) (r : Record) → mentions (mover r) r.set.number rs ≡ filter (in_set r) rs
@@ -215,7 +215,7 @@ outcome_tells r x = (
       (not_from_false (nat_eq x.outcome.number 0) (ne_eqb x.outcome.number 0 (λ zero. m.not_null (m.number ∙ zero)))) (eq-eqb r.outcome.number x.outcome.number m.number),
 )
 
-outcomes_tell : (rs : List Record) (r : Record) → Tells (in_outcome r) (MentionOneOutcome r) rs
+outcomes_tell : (rs : List Record) (r : Record) → TellsWhere (in_outcome r) (MentionOneOutcome r) rs
 outcomes_tell rs r = λ k d within. outcome_tells r (get_or rs k d)
 
 outcome_mentions_are : (rs : List Record) (r : Record) → outcome_mentions r.outcome.number rs ≡ filter (in_outcome r) rs

@@ -10,18 +10,19 @@ use Rattle.def_file_entries.specs.Entries.{first_given}
 use Rattle.def_file_entries.specs.EntryRules.{NoneWith, IsFirstWith}
 
 -- the test tells the property of each of these entries
-abbrev pub Tells : (Record → Bool) → (Record → Type 0) → List Record → Type 0
-Tells t P rs = All (λ x. (t x ≡ true) ↔ P x) rs
+abbrev pub TellsWhere : (Record → Bool) → (Record → Type 0) → List Record → Type 0
+TellsWhere t P rs = All (λ x. (t x ≡ true) ↔ P x) rs
 
-tells_first : (t : Record → Bool) (P : Record → Type 0) (x : Record) (rs : List Record) → Tells t P (x ∷ rs)
+tells_first : (t : Record → Bool) (P : Record → Type 0) (x : Record) (rs : List Record) → TellsWhere t P (x ∷ rs)
     → (t x ≡ true) ↔ P x
 tells_first t P x rs tells = All-head (λ e. (t e ≡ true) ↔ P e) x rs tells
 
-tells_rest : (t : Record → Bool) (P : Record → Type 0) (x : Record) (rs : List Record) → Tells t P (x ∷ rs)
-    → Tells t P rs
+tells_rest : (t : Record → Bool) (P : Record → Type 0) (x : Record) (rs : List Record) → TellsWhere t P (x ∷ rs)
+    → TellsWhere t P rs
 tells_rest t P x rs tells = All-tail (λ e. (t e ≡ true) ↔ P e) x rs tells
 
-fails : (t : Record → Bool) (P : Record → Type 0) (x : Record) (rs : List Record) → Tells t P (x ∷ rs) → t x ≡ false
+fails : (t : Record → Bool) (P : Record → Type 0) (x : Record) (rs : List Record) → TellsWhere t P (x ∷ rs)
+    → t x ≡ false
     → ¬ (P x)
 fails t P x rs tells e is = false≢true (sym e ∙ (tells_first t P x rs tells).1 is)
 
@@ -39,12 +40,12 @@ kept_step : (t : Record → Bool) (x : Record) (rs : List Record) (b : Bool) →
 kept_step t x rs b e = ap (λ (c : Bool). cond c (x ∷ filter t rs) (filter t rs)) e
 
 none_step : (t : Record → Bool) (P : Record → Type 0) (x : Record) (rs : List Record) (b : Bool) → t x ≡ b
-    → Tells t P (x ∷ rs) → (filter t rs ≡ [] → NoneWith P rs) → filter t (x ∷ rs) ≡ [] → NoneWith P (x ∷ rs)
+    → TellsWhere t P (x ∷ rs) → (filter t rs ≡ [] → NoneWith P rs) → filter t (x ∷ rs) ≡ [] → NoneWith P (x ∷ rs)
 none_step t P x rs true e tells later h = let kept = kept_step t x rs true e in absurd cc
 none_step t P x rs false e tells later h = All-cons (λ y. ¬ (P y)) x rs (fails t P x rs tells e) (later (sym (kept_step t x rs false e) ∙ h))
 
 -- where no entry passes the test, none has the property
-pub none_with : (t : Record → Bool) (P : Record → Type 0) (rs : List Record) → Tells t P rs → filter t rs ≡ []
+pub none_with : (t : Record → Bool) (P : Record → Type 0) (rs : List Record) → TellsWhere t P rs → filter t rs ≡ []
     → NoneWith P rs
 none_with t P [] tells h = All-nil (λ y. ¬ (P y))
 none_with t P (x ∷ rs) tells h = none_step t P x rs (t x) refl tells (none_with t P rs (tells_rest t P x rs tells)) h
@@ -95,7 +96,7 @@ none_is_first P Q goes (x ∷ rs) e none is =
     (first_cases P x rs e is)
 
 first_step : (t : Record → Bool) (P : Record → Type 0) (x : Record) (rs : List Record) (b : Bool) → t x ≡ b
-    → Tells t P (x ∷ rs)
+    → TellsWhere t P (x ∷ rs)
     → ((e : Record) (more : List Record) → filter t rs ≡ e ∷ more → IsFirstWith P rs e)
     → (e : Record) (more : List Record) → filter t (x ∷ rs) ≡ e ∷ more → IsFirstWith P (x ∷ rs) e
 first_step t P x rs true h tells later e more is =
@@ -105,7 +106,7 @@ first_step t P x rs true h tells later e more is =
 first_step t P x rs false h tells later e more is = first_later P x rs e (fails t P x rs tells h) (later e more (sym (kept_step t x rs false h) ∙ is))
 
 -- the first that passes the test has the property first
-pub first_with : (t : Record → Bool) (P : Record → Type 0) (rs : List Record) → Tells t P rs
+pub first_with : (t : Record → Bool) (P : Record → Type 0) (rs : List Record) → TellsWhere t P rs
     → (e : Record) (more : List Record) → filter t rs ≡ e ∷ more → IsFirstWith P rs e
 first_with t P [] tells e more h = absurd cc
 first_with t P (x ∷ rs) tells e more h = first_step t P x rs (t x) refl tells (first_with t P rs (tells_rest t P x rs tells)) e more h
@@ -146,14 +147,14 @@ module _ (t : Record → Bool) (P : Record → Type 0) (name : Record → Option
       record { entry = x; first = first_here (Names P name) x rs (is, λ none. cc); gives = e ∙ ap Some same }
   own_step x rs kept None e is later h = gives_later P name x rs kept (λ names. names.1 e) (later h)
 
-  given_step : (x : Record) (rs : List Record) (kept : List ℕ) (b : Bool) → t x ≡ b → Tells t P (x ∷ rs)
+  given_step : (x : Record) (rs : List Record) (kept : List ℕ) (b : Bool) → t x ≡ b → TellsWhere t P (x ∷ rs)
       → (first_given (map name (filter t rs)) ≡ Some kept → GivesFirst P name rs kept)
       → first_given (map name (cond b (x ∷ filter t rs) (filter t rs))) ≡ Some kept → GivesFirst P name (x ∷ rs) kept
   given_step x rs kept true e tells later h = own_step x rs kept (name x) refl ((tells_first t P x rs tells).0 e) later h
   given_step x rs kept false e tells later h = gives_later P name x rs kept (λ names. fails t P x rs tells e names.0) (later h)
 
   -- the name that is kept is the first one given
-  pub given_is_first : (rs : List Record) → Tells t P rs → (kept : List ℕ)
+  pub given_is_first : (rs : List Record) → TellsWhere t P rs → (kept : List ℕ)
       → first_given (map name (filter t rs)) ≡ Some kept → GivesFirst P name rs kept
   given_is_first [] tells kept h = absurd cc
   given_is_first (x ∷ rs) tells kept h = given_step x rs kept (t x) refl tells (given_is_first rs (tells_rest t P x rs tells) kept) h
@@ -168,7 +169,7 @@ module _ (t : Record → Bool) (P : Record → Type 0) (name : Record → Option
   unnamed_own x rs (Some y) e not = absurd (not (λ none. cc))
   unnamed_own x rs None e not = refl
 
-  unnamed : (x : Record) (rs : List Record) (b : Bool) → t x ≡ b → Tells t P (x ∷ rs) → ¬ (Names P name x)
+  unnamed : (x : Record) (rs : List Record) (b : Bool) → t x ≡ b → TellsWhere t P (x ∷ rs) → ¬ (Names P name x)
       → first_given (map name (filter t (x ∷ rs))) ≡ first_given (map name (filter t rs))
   unnamed x rs true e tells not =
       ap (λ ys. first_given (map name ys)) (kept_step t x rs true e)
@@ -176,7 +177,7 @@ module _ (t : Record → Bool) (P : Record → Type 0) (name : Record → Option
   unnamed x rs false e tells not = ap (λ ys. first_given (map name ys)) (kept_step t x rs false e)
 
   -- the first name given is the one that is kept
-  pub first_is_given : (rs : List Record) → Tells t P rs → (kept : List ℕ) (entry : Record)
+  pub first_is_given : (rs : List Record) → TellsWhere t P rs → (kept : List ℕ) (entry : Record)
       → IsFirstWith (Names P name) rs entry → name entry ≡ Some kept → first_given (map name (filter t rs)) ≡ Some kept
   first_is_given [] tells kept entry is gives = absurd (no_first (Names P name) entry is)
   first_is_given (x ∷ rs) tells kept entry is gives =

@@ -1,6 +1,6 @@
 pub mod Firsts
 mod Tables
-mod Known
+mod EntryAddsToTables
 pub mod OneMore
 pub mod FirstMet
 pub mod FirstWith

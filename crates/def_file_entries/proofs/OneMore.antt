@@ -15,7 +15,7 @@ use Rattle.def_file.specs.Faults.{mover, mover_as, has_set}
 use Rattle.def_file.specs.Adding.{with_record, node_with, set_number, action_count}
 use Rattle.def_file_entries.specs.Entries.{firsts, number_in, of_kind, set_numbers, set_entry, set_table, with_outcome, outcome_numbers, node_of, contents_of}
 use Rattle.def_file_entries.proofs.Firsts.{nat_eq-same, among, number-stays}
-use Rattle.def_file_entries.proofs.Known.{set_key, set_known, numbers_more, set_number_more, action_count_more, set_number_stays, action_count_stays, own_kind, other_kind, tables_of, sets_more, outcome_key, some_outcome, null_mention, outcome_table_more, outcome_number_step}
+use Rattle.def_file_entries.proofs.EntryAddsToTables.{set_key, set_known, numbers_more, set_number_more, action_count_more, set_number_stays, action_count_stays, own_kind, other_kind, set_tables_of, sets_more, outcome_key, some_outcome, null_mention, outcome_table_more, outcome_number_step}
 
 -- Nodes.
 
@@ -94,14 +94,14 @@ nodes_stay rs r (x ∷ xs) h =
 
 -- the table of the sets of an entry's mover
 pub own_sets : (kind : EntryKind) (player : ℕ) (rs : List Record) → has_set kind ≡ true
-    → sets_of_kind (mover_as kind player) (tables_of rs) ≡ set_table (mover_as kind player) rs
+    → sets_of_kind (mover_as kind player) (set_tables_of rs) ≡ set_table (mover_as kind player) rs
 own_sets Chance player rs h = refl
-own_sets Personal player rs h = elim (nat_eq player 1) as (λ (b : Bool). sets_of_kind (cond b movers.One movers.Two) (tables_of rs) ≡ set_table (cond b movers.One movers.Two) rs) [ true ↦ refl | false ↦ refl ]
+own_sets Personal player rs h = elim (nat_eq player 1) as (λ (b : Bool). sets_of_kind (cond b movers.One movers.Two) (set_tables_of rs) ≡ set_table (cond b movers.One movers.Two) rs) [ true ↦ refl | false ↦ refl ]
 own_sets Leaf player rs h = absurd cc
 
 last_set : (rs : List Record) (r : Record) (b : Bool) → has_set r.kind ≡ b
     → cond b (number_in r.set.number (set_numbers (mover r) (rs ++ r ∷ []))) 0
-    ≡ cond b (set_number (sets_of_kind (mover r) (tables_of rs)) r.set) 0
+    ≡ cond b (set_number (sets_of_kind (mover r) (set_tables_of rs)) r.set) 0
 last_set rs r true e =
     ap (λ xs. number_in r.set.number (firsts (map set_key xs))) (own_kind (mover r) rs r (is_same_kind_refl (mover r)))
     ∙ set_number_more (of_kind (mover r) rs) r ∙ ap (λ (table : List SetEntry). set_number table r.set) (sym (own_sets r.kind r.player rs e))
@@ -109,7 +109,7 @@ last_set rs r false e = refl
 
 last_count : (rs : List Record) (r : Record) (b : Bool) → has_set r.kind ≡ b
     → cond b (length (set_entry (mover r) (rs ++ r ∷ []) r.set.number).actions) 0
-    ≡ cond b (action_count (sets_of_kind (mover r) (tables_of rs)) r.set) 0
+    ≡ cond b (action_count (sets_of_kind (mover r) (set_tables_of rs)) r.set) 0
 last_count rs r true e =
     ap (λ xs. length (set_known xs r.set.number).actions) (own_kind (mover r) rs r (is_same_kind_refl (mover r)))
     ∙ action_count_more (of_kind (mover r) rs) r ∙ ap (λ (table : List SetEntry). action_count table r.set) (sym (own_sets r.kind r.player rs e))

@@ -14,8 +14,8 @@ abbrev pub found : {E : Type 0} (number : E → ℕ) → ℕ → List E → Opti
 found number n table = position (λ e. nat_eq n (number e)) table
 
 -- a table with a mention of the number n
-abbrev pub noted : {E : Type 0} (number : E → ℕ) (none : E) (change : E → E) (fresh : E) → ℕ → List E → List E
-noted number none change fresh n table = option_map_or (λ i. slice_set table i (change (slice_index_or table i none))) (found number n table) (table ++ fresh ∷ [])
+abbrev pub noted_with : {E : Type 0} (number : E → ℕ) (none : E) (change : E → E) (fresh : E) → ℕ → List E → List E
+noted_with number none change fresh n table = option_map_or (λ i. slice_set table i (change (slice_index_or table i none))) (found number n table) (table ++ fresh ∷ [])
 
 place_map : {E : Type 0} (number : E → ℕ) (f : ℕ → E) → ((m : ℕ) → number (f m) ≡ m) → (n : ℕ) (ns : List ℕ)
     → position_or_len (λ e. nat_eq n (number e)) (map f ns) ≡ place n ns
@@ -86,7 +86,8 @@ read f none n [] h = absurd cc
 read f none n (m ∷ ns) h = read_step f none n m ns (nat_eq n m) refl h (read f none n ns)
 
 -- what is known of each number by f, and with a mention of the number n after mentions of ns by g
-pub record IsNoted {E : Type 0} (number : E → ℕ) (change : E → E) (fresh : E) (f g : ℕ → E) (n : ℕ) (ns : List ℕ) : Type 0 where
+pub record IsNotedWith {E : Type 0} (number : E → ℕ) (change : E → E) (fresh : E) (f g : ℕ → E) (n : ℕ)
+    (ns : List ℕ) : Type 0 where
   pub shown : (m : ℕ) → number (f m) ≡ m
   pub stays : (m : ℕ) → nat_eq n m ≡ false → g m ≡ f m
   pub changed : among n ns ≡ true → g n ≡ change (f n)
@@ -94,8 +95,8 @@ pub record IsNoted {E : Type 0} (number : E → ℕ) (change : E → E) (fresh :
 
 table_step : {E : Type 0} (number : E → ℕ) (none : E) (change : E → E) (fresh : E) (f g : ℕ → E) (n : ℕ) (ns : List ℕ)
     (seen : Bool)
-    → among n ns ≡ seen → IsNoted number change fresh f g n ns
-    → map g (firsts (ns ++ n ∷ [])) ≡ noted number none change fresh n (map f (firsts ns))
+    → among n ns ≡ seen → IsNotedWith number change fresh f g n ns
+    → map g (firsts (ns ++ n ∷ [])) ≡ noted_with number none change fresh n (map f (firsts ns))
 table_step number none change fresh f g n ns true e is =
     let here : among n (firsts ns) ≡ true = among-firsts n ns ∙ e in
     ap (map g) (firsts-seen n ns e)
@@ -114,8 +115,8 @@ table_step number none change fresh f g n ns false e is =
 -- the table with a mention more
 pub table-noted : {E : Type 0} (number : E → ℕ) (none : E) (change : E → E) (fresh : E) (f g : ℕ → E) (n : ℕ)
     (ns : List ℕ)
-    → IsNoted number change fresh f g n ns
-    → map g (firsts (ns ++ n ∷ [])) ≡ noted number none change fresh n (map f (firsts ns))
+    → IsNotedWith number change fresh f g n ns
+    → map g (firsts (ns ++ n ∷ [])) ≡ noted_with number none change fresh n (map f (firsts ns))
 table-noted number none change fresh f g n ns is = table_step number none change fresh f g n ns (among n ns) refl is
 
 number_step : {E : Type 0} (number : E → ℕ) (f : ℕ → E) → ((m : ℕ) → number (f m) ≡ m)
@@ -187,34 +188,36 @@ hits-none key n (r ∷ rs) h =
     ap (λ (b : Bool). cond b (r ∷ hits key n rs) (hits key n rs)) parts.0 ∙ hits-none key n rs parts.1
 
 -- there is a first
-abbrev pub HasFirst : {R : Type 0} → List R → Type 0
-HasFirst {R} xs = (x : R) × (rest : List R) × (xs ≡ x ∷ rest)
+abbrev pub HasSome : {R : Type 0} → List R → Type 0
+HasSome {R} xs = (x : R) × (rest : List R) × (xs ≡ x ∷ rest)
 
 some_step : {R : Type 0} (key : R → ℕ) (n : ℕ) (r : R) (rs : List R) (here : Bool)
-    → (here || among n (map key rs)) ≡ true → (among n (map key rs) ≡ true → HasFirst (hits key n rs))
-    → HasFirst (cond here (r ∷ hits key n rs) (hits key n rs))
+    → (here || among n (map key rs)) ≡ true → (among n (map key rs) ≡ true → HasSome (hits key n rs))
+    → HasSome (cond here (r ∷ hits key n rs) (hits key n rs))
 some_step key n r rs true h known = (r, hits key n rs, refl)
 some_step key n r rs false h known = known h
 
 -- a number that is there has a first
 pub hits-some : {R : Type 0} (key : R → ℕ) (n : ℕ) (rs : List R) → among n (map key rs) ≡ true
-    → HasFirst (hits key n rs)
+    → HasSome (hits key n rs)
 hits-some key n [] h = absurd cc
 hits-some key n (r ∷ rs) h = some_step key n r rs (nat_eq n (key r)) h (hits-some key n rs)
 
 -- A number is new to a table, or the table has what is known of it.
-pub data Found {E R : Type 0} (number : E → ℕ) (none : E) (f : ℕ → E) (key : R → ℕ) (n : ℕ) (rs : List R) : Type 0 where
-  is_new : found number n (map f (firsts (map key rs))) ≡ None → hits key n rs ≡ [] → Found number none f key n rs
+pub data IsNewOrKnown {E R : Type 0} (number : E → ℕ) (none : E) (f : ℕ → E) (key : R → ℕ) (n : ℕ)
+    (rs : List R) : Type 0 where
+  is_new : found number n (map f (firsts (map key rs))) ≡ None → hits key n rs ≡ []
+      → IsNewOrKnown number none f key n rs
   is_known : (i : ℕ) → found number n (map f (firsts (map key rs))) ≡ Some i
-      → slice_index_or (map f (firsts (map key rs))) i none ≡ f n → HasFirst (hits key n rs)
-      → Found number none f key n rs
+      → slice_index_or (map f (firsts (map key rs))) i none ≡ f n → HasSome (hits key n rs)
+      → IsNewOrKnown number none f key n rs
 
 -- a number is new or known
 pub found-cases : {E R : Type 0} (number : E → ℕ) (none : E) (f : ℕ → E) → ((m : ℕ) → number (f m) ≡ m)
-    → (key : R → ℕ) (n : ℕ) (rs : List R) → Found number none f key n rs
+    → (key : R → ℕ) (n : ℕ) (rs : List R) → IsNewOrKnown number none f key n rs
 found-cases number none f shown key n rs = by (among n (map key rs)) refl
   where
-    by : (b : Bool) → among n (map key rs) ≡ b → Found number none f key n rs
+    by : (b : Bool) → among n (map key rs) ≡ b → IsNewOrKnown number none f key n rs
     by true e =
         let here : among n (firsts (map key rs)) ≡ true = among-firsts n (map key rs) ∙ e in
         is_known (place n (firsts (map key rs))) (found-seen number f shown n (firsts (map key rs)) here) (read f none n (firsts (map key rs)) here) (hits-some key n rs e)

@@ -6,7 +6,7 @@ use Rattle.def_tree.proofs.Forests.{prefix-forest_of}
 use Rattle.def_tree.proofs.Lists.{tree_of_whole}
 use Rattle.def_file.specs.Content.{Record}
 use Rattle.def_file.specs.Game.{GoTogether, AreTogether}
-use Rattle.def_file.proofs.Together.{nothing_together, together_with}
+use Rattle.def_file.proofs.TablesGoWithNodes.{nothing_together, together_with}
 use Rattle.def_file_entries.specs.Entries.{contents_of}
 use Rattle.def_file_entries.specs.Laws.{HaveNoFault, EntriesMakeWholeGame}
 use Rattle.def_file_entries.proofs.NoFault.{no_fault_here}

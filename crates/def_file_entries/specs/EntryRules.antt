@@ -7,7 +7,7 @@
 --     IsFirstBroken rs r fault          the rule of the least number that is broken
 use Rattle.std.specs.Prelude.{◌≡◌, ◌≢◌, ℕ, ◌+◌, ◌<◌, ◌⊎◌, List, [], ◌∷◌, ◌++◌, length, map, All, Option, Some, None}
 use Rattle.std.specs.List.{AllZip}
-use Rattle.def_fraction.specs.Fraction.{Fraction}
+use Rattle.def_fraction.specs.Fraction.{Fraction, zero_fraction}
 use Rattle.def_fraction.specs.Laws.{HasValue}
 use Rattle.def_tree.specs.declared.Kind.{Kind}
 use Rattle.def_tree.specs.declared.Kind.TheVariants as movers
@@ -16,7 +16,7 @@ use Rattle.def_file.specs.declared.EntryKind.{EntryKind}
 use Rattle.def_file.specs.declared.EntryKind.TheVariants.{Chance, Personal}
 use Rattle.def_file.specs.declared.FileFault.{FileFault}
 use Rattle.def_file.specs.declared.FileFault.TheVariants.{PlayerNumber, SetUndefined, SetMismatch, OutcomeUndefined, OutcomeMismatch, PayoffCount, TooManyNodes, ActionCount}
-use Rattle.def_file.specs.Content.{Action, Record, zero_fraction}
+use Rattle.def_file.specs.Content.{Action, Record}
 use Rattle.def_file.specs.Faults.{fault_number}
 
 -- chance moves, or the player of this number; nobody moves at a leaf
@@ -71,7 +71,8 @@ pub record HasOtherName (P : Record → Type 0) (name : Record → Option (List 
   pub differ : kept ≢ given
 
 -- a list is given that isn't that of the first entry with the property
-pub record HasOtherList {A : Type 0} (P : Record → Type 0) (list : Record → Option A) (Same : A → A → Type 0) (rs : List Record) (r : Record) : Type 0 where
+pub record HasOtherList {A : Type 0} (P : Record → Type 0) (list : Record → Option A) (Same : A → A → Type 0)
+    (rs : List Record) (r : Record) : Type 0 where
   pub kept : A
   pub given : A
   pub entry : Record

@@ -10,9 +10,11 @@ use Rattle.def_file.specs.Game.{IsWholeGame}
 use Rattle.def_file_entries.specs.Entries.{contents_of, game_of_entries}
 use Rattle.def_file_entries.specs.EntryRules.{BreaksNone, IsFirstBroken}
 
+-- before the first entry nothing is known
 abbrev pub NothingIsKnown : Type 0
 NothingIsKnown = contents_of [] ≡ no_contents
 
+-- what is known with one more entry is what all entries say
 abbrev pub OneMoreIsKnown : Type 0
 OneMoreIsKnown = (rs : List Record) (r : Record) → contents_of (rs ++ r ∷ []) ≡ with_record (contents_of rs) r
 
@@ -24,9 +26,10 @@ HaveNoFault rs = (before behind : List Record) (r : Record) → rs ≡ before ++
 -- breaks
 abbrev pub EntryFaultIsFirstBroken : Type 0
 EntryFaultIsFirstBroken =
-    (rs : List Record) (r : Record) (fault : FileFault) → HaveNoFault rs → (record_fault (contents_of rs) r ≡ Some fault) ↔ IsFirstBroken rs r fault
+    (rs : List Record) (r : Record) (fault : FileFault) → HaveNoFault rs
+    → (record_fault (contents_of rs) r ≡ Some fault) ↔ IsFirstBroken rs r fault
 
--- and it has no fault exactly where it breaks none
+-- behind entries without a fault, one more entry has no fault exactly where it breaks no rule
 abbrev pub NoFaultBreaksNone : Type 0
 NoFaultBreaksNone = (rs : List Record) (r : Record) → HaveNoFault rs
     → (record_fault (contents_of rs) r ≡ None) ↔ BreaksNone rs r

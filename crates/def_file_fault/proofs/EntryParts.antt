@@ -1,33 +1,32 @@
 -- Entries.
-use Rattle.std.proofs.Common.{◌≡◌, ◌≢◌, ℕ, ◌≤◌, Bool, true, false, cond, ◌&&◌, ◌||◌, List, [], ◌∷◌, length, Option, Some, None, Result, sym, refl, ap, ◌∙◌, subst, arith}
-use Rattle.std.specs.Prelude.{codes, nat_eq}
-use Rattle.std.specs.Cmp.Lexicographic.{pointwise}
+use Rattle.std.proofs.Common.{◌≡◌, ◌≢◌, ℕ, ◌≤◌, Bool, true, false, cond, ◌||◌, List, [], ◌∷◌, length, Option, Some, None, Result, sym, refl, ap, ◌∙◌, subst, arith}
+use Rattle.std.specs.Prelude.{codes}
 use Rattle.def_file_tokens.specs.declared.Token.TheVariants as kinds
 use Rattle.def_file_tokens.specs.declared.Lexeme.{Lexeme}
 use Rattle.def_file.specs.declared.FileFault.{FileFault}
 use Rattle.def_file.specs.declared.EntryKind.{EntryKind}
 use Rattle.def_file.specs.declared.EntryKind.TheVariants.{Chance, Personal, Leaf}
 use Rattle.def_file.specs.Content.{Record, no_set_mention}
-use Rattle.def_file.specs.Reading.{is_kind, is_exact, text_at, name_at, whole_at, set_number_at, actions_at, payoffs_at, set_mention_at, outcome_mention_at, chance_entry_at, personal_entry_at, terminal_entry_at, entry_behind, entry_at}
-use Rattle.def_file_form.specs.Form.{Spelled, word, number, open_brace, IsText, IsName, IsWholeNumber, IsActionList, IsPayoffList, IsSet, IsOutcome, IsChanceEntry, IsPersonalEntry, IsTerminalEntry, IsEntryAs, IsEntry}
-use Rattle.def_file_form.proofs.Steps.{exact_here}
-use Rattle.def_file_fault.specs.Offends.{spelled_at}
-use Rattle.def_file_fault.proofs.Languages.{Alike, After, Step}
-use Rattle.def_file_fault.proofs.Along.{HasWord, Goes, goes_then, goes_with, goes_alike, goes_less, FirstTaken, IsTest, Begins, goes_token}
-use Rattle.def_file_fault.proofs.Slots.{Part, NoFirst, each_takes_one, text_word, text_goes, name_goes}
+use Rattle.def_file.specs.Reading.{is_exact, text_at, name_at, whole_at, set_number_at, actions_at, payoffs_at, set_mention_at, outcome_mention_at, chance_entry_at, personal_entry_at, terminal_entry_at, entry_behind, entry_at}
+use Rattle.def_file_form.specs.Form.{Spelled, word, number, open_brace, IsText, IsName, IsWholeNumber, IsActionList, IsPayoffList, IsSet, IsOutcome, IsChanceEntry, IsPersonalEntry, IsTerminalEntry, IsEntryAs, IsEntry, spelled_at}
+use Rattle.def_file_form.proofs.TokenByToken.{exact_here}
+use Rattle.def_file_fault.proofs.Languages.{Alike, After, NextIs}
+use Rattle.def_file_fault.proofs.SuccessiveReadings.{HasWord, Goes, goes_then, goes_with, goes_alike, goes_less, FirstTaken, IsTest, BeginsPassing, goes_token}
+use Rattle.def_file_fault.proofs.OneTokenParts.{Part, NoFirst, each_takes_one, text_word, text_goes, name_goes}
 use Rattle.def_file_fault.proofs.Numerals.{IsSetNumber, set_number_goes, set_number_word, whole_goes, whole_word}
 use Rattle.def_file_fault.proofs.Lists.{action_list_goes}
 use Rattle.def_file_fault.proofs.Payoffs.{payoff_list_goes}
+use Rattle.def_file_form.proofs.CompleteEntries.{is_word_token}
 
 -- what may follow an optional part: it has a word, and begins with no text and no brace
-pub record Follows (T : List Spelled → Type 0) : Type 0 where
+pub record MayFollow (T : List Spelled → Type 0) : Type 0 where
   pub word : HasWord T
   pub no_text : (s : Spelled) (ss : List Spelled) → T (s ∷ ss) → s.kind ≢ kinds.Text
   pub no_open : (s : Spelled) (ss : List Spelled) → T (s ∷ ss) → s.kind ≢ kinds.Open
 
 -- Sets.
 
-actions_follow : (kind : EntryKind) (T : List Spelled → Type 0) → Follows T
+actions_follow : (kind : EntryKind) (T : List Spelled → Type 0) → MayFollow T
     → NoFirst kinds.Text (Part (IsActionList kind) T)
 actions_follow kind T f = record { word = (f.word.0, (None, f.word.0, refl, f.word.1)); apart = λ s ss l. apart s ss l.0 l.1 l.2 l.3 }
   where
@@ -51,21 +50,21 @@ set_alike kind T = record {
 }
 
 set_goes : (kind : EntryKind) (whole : List ℕ) (at : ℕ) → at ≤ length whole
-    → Goes 1 Follows (Part (IsSet kind)) whole at (set_mention_at kind whole at)
+    → Goes 1 MayFollow (Part (IsSet kind)) whole at (set_mention_at kind whole at)
 unfolding set_mention_at
 set_goes kind whole at within =
-    goes_alike 1 Follows Follows (SetIn kind) (Part (IsSet kind)) whole at _ (λ T f. f) (λ T f. set_alike kind T)
-    (goes_then 1 HasWord Follows (Part IsSetNumber) (λ T. Part IsName (Part (IsActionList kind) T)) whole at (set_number_at whole at) _ (set_number_goes whole at within)
+    goes_alike 1 MayFollow MayFollow (SetIn kind) (Part (IsSet kind)) whole at _ (λ T f. f) (λ T f. set_alike kind T)
+    (goes_then 1 HasWord MayFollow (Part IsSetNumber) (λ T. Part IsName (Part (IsActionList kind) T)) whole at (set_number_at whole at) _ (set_number_goes whole at within)
     (λ T f. let w = (actions_follow kind T f).word in (w.0, (None, w.0, refl, w.1)))
     (λ number e inner grown.
-    goes_then 0 (NoFirst kinds.Text) Follows (Part IsName) (Part (IsActionList kind)) whole number.1 (name_at whole number.1) _ (name_goes whole number.1 inner) (actions_follow kind)
+    goes_then 0 (NoFirst kinds.Text) MayFollow (Part IsName) (Part (IsActionList kind)) whole number.1 (name_at whole number.1) _ (name_goes whole number.1 inner) (actions_follow kind)
     (λ name e inner grown.
-    goes_alike 0 (NoFirst kinds.Open) Follows (Part (IsActionList kind)) (Part (IsActionList kind)) whole name.1 _ (λ T f. record { word = f.word; apart = f.no_open }) (λ T f. record { to = λ ss l. l; back = λ ss l. l })
+    goes_alike 0 (NoFirst kinds.Open) MayFollow (Part (IsActionList kind)) (Part (IsActionList kind)) whole name.1 _ (λ T f. record { word = f.word; apart = f.no_open }) (λ T f. record { to = λ ss l. l; back = λ ss l. l })
     (goes_with 0 (NoFirst kinds.Open) (Part (IsActionList kind)) whole name.1 (actions_at kind whole name.1) (λ actions. record { number = number.0; name = name.0; actions = actions.0 }) (action_list_goes kind whole name.1 inner)))))
 
 -- Outcomes.
 
-payoffs_follow : (T : List Spelled → Type 0) → Follows T → NoFirst kinds.Text (Part IsPayoffList T)
+payoffs_follow : (T : List Spelled → Type 0) → MayFollow T → NoFirst kinds.Text (Part IsPayoffList T)
 payoffs_follow T f = record { word = (f.word.0, (None, f.word.0, refl, f.word.1)); apart = λ s ss l. apart s ss l.0 l.1 l.2 l.3 }
   where
     apart : (s : Spelled) (ss : List Spelled) (v : Option _) (rest : List Spelled) → IsPayoffList v (s ∷ ss) rest
@@ -87,23 +86,23 @@ outcome_alike T = record {
       (record { number = l.0; name = a.0; payoffs = b.0 }, b.1, record { numbered = l.1; named = a.1; number = l.2; name = a.2; payoffs = b.2 }, b.3);
 }
 
-name_word : (T : List Spelled → Type 0) → Follows T → HasWord (Part IsName (Part IsPayoffList T))
+name_word : (T : List Spelled → Type 0) → MayFollow T → HasWord (Part IsName (Part IsPayoffList T))
 name_word T f = let w = (payoffs_follow T f).word in (w.0, (None, w.0, refl, w.1))
 
 outcome_goes : (whole : List ℕ) (at : ℕ) → at ≤ length whole
-    → Goes 1 Follows (Part IsOutcome) whole at (outcome_mention_at whole at)
+    → Goes 1 MayFollow (Part IsOutcome) whole at (outcome_mention_at whole at)
 unfolding outcome_mention_at
 outcome_goes whole at within =
-    goes_alike 1 Follows Follows OutcomeIn (Part IsOutcome) whole at _ (λ T f. f) (λ T f. outcome_alike T)
-    (goes_then 1 HasWord Follows (Part IsWholeNumber) (λ T. Part IsName (Part IsPayoffList T)) whole at (whole_at whole at) _ (whole_goes whole at within) name_word
+    goes_alike 1 MayFollow MayFollow OutcomeIn (Part IsOutcome) whole at _ (λ T f. f) (λ T f. outcome_alike T)
+    (goes_then 1 HasWord MayFollow (Part IsWholeNumber) (λ T. Part IsName (Part IsPayoffList T)) whole at (whole_at whole at) _ (whole_goes whole at within) name_word
     (λ number e inner grown.
-    goes_then 0 (NoFirst kinds.Text) Follows (Part IsName) (Part IsPayoffList) whole number.1 (name_at whole number.1) _ (name_goes whole number.1 inner) payoffs_follow
+    goes_then 0 (NoFirst kinds.Text) MayFollow (Part IsName) (Part IsPayoffList) whole number.1 (name_at whole number.1) _ (name_goes whole number.1 inner) payoffs_follow
     (λ name e inner grown.
-    goes_alike 0 (NoFirst kinds.Open) Follows (Part IsPayoffList) (Part IsPayoffList) whole name.1 _ (λ T f. record { word = f.word; apart = f.no_open }) (λ T f. record { to = λ ss l. l; back = λ ss l. l })
+    goes_alike 0 (NoFirst kinds.Open) MayFollow (Part IsPayoffList) (Part IsPayoffList) whole name.1 _ (λ T f. record { word = f.word; apart = f.no_open }) (λ T f. record { to = λ ss l. l; back = λ ss l. l })
     (goes_with 0 (NoFirst kinds.Open) (Part IsPayoffList) whole name.1 (payoffs_at whole name.1) (λ payoffs. record { number = number.0; name = name.0; payoffs = payoffs.0 }) (payoff_list_goes whole name.1 inner)))))
 
 -- a number comes first
-outcome_follow : (T : List Spelled → Type 0) → Follows T → Follows (Part IsOutcome T)
+outcome_follow : (T : List Spelled → Type 0) → MayFollow T → MayFollow (Part IsOutcome T)
 outcome_follow T f = record {
   word = let w = whole_word (Part IsName (Part IsPayoffList T)) (name_word T f) in (w.0, (outcome_alike T).back w.0 w.1);
   no_text = λ s ss l same. let clash : kinds.Text ≡ kinds.Number = sym same ∙ first s ss l in cc;
@@ -116,7 +115,7 @@ outcome_follow T f = record {
         let same : s ≡ number n.digits = let e = n.spelling in cc in
         ap (λ (u : Spelled). u.kind) same
 
-set_word : (kind : EntryKind) (T : List Spelled → Type 0) → Follows T → HasWord (Part (IsSet kind) T)
+set_word : (kind : EntryKind) (T : List Spelled → Type 0) → MayFollow T → HasWord (Part (IsSet kind) T)
 set_word kind T f =
     let w = (actions_follow kind T f).word in
     let n = set_number_word (Part IsName (Part (IsActionList kind) T)) (w.0, (None, w.0, refl, w.1)) in
@@ -134,40 +133,40 @@ abbrev TerminalIn : (List Spelled → Type 0) → List Spelled → Type 0
 TerminalIn T = Part IsText (Part IsOutcome T)
 
 chance_entry_goes : (whole : List ℕ) (at : ℕ) → at ≤ length whole
-    → Goes 1 Follows ChanceIn whole at (chance_entry_at whole at)
+    → Goes 1 MayFollow ChanceIn whole at (chance_entry_at whole at)
 unfolding chance_entry_at
 chance_entry_goes whole at within =
-    goes_then 1 HasWord Follows (Part IsText) (λ T. Part (IsSet Chance) (Part IsOutcome T)) whole at (text_at whole at) _ (text_goes whole at within) (λ T f. set_word Chance (Part IsOutcome T) (outcome_follow T f))
+    goes_then 1 HasWord MayFollow (Part IsText) (λ T. Part (IsSet Chance) (Part IsOutcome T)) whole at (text_at whole at) _ (text_goes whole at within) (λ T f. set_word Chance (Part IsOutcome T) (outcome_follow T f))
     (λ name e inner grown.
-    goes_less 1 0 Follows (λ T. Part (IsSet Chance) (Part IsOutcome T)) whole name.1 _ (omega arith)
-    (goes_then 1 Follows Follows (Part (IsSet Chance)) (Part IsOutcome) whole name.1 (set_mention_at Chance whole name.1) _ (set_goes Chance whole name.1 inner) outcome_follow
+    goes_less 1 0 MayFollow (λ T. Part (IsSet Chance) (Part IsOutcome T)) whole name.1 _ (omega arith)
+    (goes_then 1 MayFollow MayFollow (Part (IsSet Chance)) (Part IsOutcome) whole name.1 (set_mention_at Chance whole name.1) _ (set_goes Chance whole name.1 inner) outcome_follow
     (λ set e inner grown.
-    goes_less 1 0 Follows (Part IsOutcome) whole set.1 _ (omega arith)
-    (goes_with 1 Follows (Part IsOutcome) whole set.1 (outcome_mention_at whole set.1) (λ outcome. record { kind = Chance; name = name.0; player = 0; set = set.0; outcome = outcome.0 }) (outcome_goes whole set.1 inner)))))
+    goes_less 1 0 MayFollow (Part IsOutcome) whole set.1 _ (omega arith)
+    (goes_with 1 MayFollow (Part IsOutcome) whole set.1 (outcome_mention_at whole set.1) (λ outcome. record { kind = Chance; name = name.0; player = 0; set = set.0; outcome = outcome.0 }) (outcome_goes whole set.1 inner)))))
 
 personal_entry_goes : (whole : List ℕ) (at : ℕ) → at ≤ length whole
-    → Goes 1 Follows PersonalIn whole at (personal_entry_at whole at)
+    → Goes 1 MayFollow PersonalIn whole at (personal_entry_at whole at)
 unfolding personal_entry_at
 personal_entry_goes whole at within =
-    goes_then 1 HasWord Follows (Part IsText) (λ T. Part IsWholeNumber (Part (IsSet Personal) (Part IsOutcome T))) whole at (text_at whole at) _ (text_goes whole at within) (λ T f. whole_word (Part (IsSet Personal) (Part IsOutcome T)) (set_word Personal (Part IsOutcome T) (outcome_follow T f)))
+    goes_then 1 HasWord MayFollow (Part IsText) (λ T. Part IsWholeNumber (Part (IsSet Personal) (Part IsOutcome T))) whole at (text_at whole at) _ (text_goes whole at within) (λ T f. whole_word (Part (IsSet Personal) (Part IsOutcome T)) (set_word Personal (Part IsOutcome T) (outcome_follow T f)))
     (λ name e inner grown.
-    goes_less 1 0 Follows (λ T. Part IsWholeNumber (Part (IsSet Personal) (Part IsOutcome T))) whole name.1 _ (omega arith)
-    (goes_then 1 HasWord Follows (Part IsWholeNumber) (λ T. Part (IsSet Personal) (Part IsOutcome T)) whole name.1 (whole_at whole name.1) _ (whole_goes whole name.1 inner) (λ T f. set_word Personal (Part IsOutcome T) (outcome_follow T f))
+    goes_less 1 0 MayFollow (λ T. Part IsWholeNumber (Part (IsSet Personal) (Part IsOutcome T))) whole name.1 _ (omega arith)
+    (goes_then 1 HasWord MayFollow (Part IsWholeNumber) (λ T. Part (IsSet Personal) (Part IsOutcome T)) whole name.1 (whole_at whole name.1) _ (whole_goes whole name.1 inner) (λ T f. set_word Personal (Part IsOutcome T) (outcome_follow T f))
     (λ player e inner grown.
-    goes_less 1 0 Follows (λ T. Part (IsSet Personal) (Part IsOutcome T)) whole player.1 _ (omega arith)
-    (goes_then 1 Follows Follows (Part (IsSet Personal)) (Part IsOutcome) whole player.1 (set_mention_at Personal whole player.1) _ (set_goes Personal whole player.1 inner) outcome_follow
+    goes_less 1 0 MayFollow (λ T. Part (IsSet Personal) (Part IsOutcome T)) whole player.1 _ (omega arith)
+    (goes_then 1 MayFollow MayFollow (Part (IsSet Personal)) (Part IsOutcome) whole player.1 (set_mention_at Personal whole player.1) _ (set_goes Personal whole player.1 inner) outcome_follow
     (λ set e inner grown.
-    goes_less 1 0 Follows (Part IsOutcome) whole set.1 _ (omega arith)
-    (goes_with 1 Follows (Part IsOutcome) whole set.1 (outcome_mention_at whole set.1) (λ outcome. record { kind = Personal; name = name.0; player = player.0; set = set.0; outcome = outcome.0 }) (outcome_goes whole set.1 inner)))))))
+    goes_less 1 0 MayFollow (Part IsOutcome) whole set.1 _ (omega arith)
+    (goes_with 1 MayFollow (Part IsOutcome) whole set.1 (outcome_mention_at whole set.1) (λ outcome. record { kind = Personal; name = name.0; player = player.0; set = set.0; outcome = outcome.0 }) (outcome_goes whole set.1 inner)))))))
 
 terminal_entry_goes : (whole : List ℕ) (at : ℕ) → at ≤ length whole
-    → Goes 1 Follows TerminalIn whole at (terminal_entry_at whole at)
+    → Goes 1 MayFollow TerminalIn whole at (terminal_entry_at whole at)
 unfolding terminal_entry_at
 terminal_entry_goes whole at within =
-    goes_then 1 HasWord Follows (Part IsText) (Part IsOutcome) whole at (text_at whole at) _ (text_goes whole at within) (λ T f. (outcome_follow T f).word)
+    goes_then 1 HasWord MayFollow (Part IsText) (Part IsOutcome) whole at (text_at whole at) _ (text_goes whole at within) (λ T f. (outcome_follow T f).word)
     (λ name e inner grown.
-    goes_less 1 0 Follows (Part IsOutcome) whole name.1 _ (omega arith)
-    (goes_with 1 Follows (Part IsOutcome) whole name.1 (outcome_mention_at whole name.1) (λ outcome. record { kind = Leaf; name = name.0; player = 0; set = no_set_mention; outcome = outcome.0 }) (outcome_goes whole name.1 inner)))
+    goes_less 1 0 MayFollow (Part IsOutcome) whole name.1 _ (omega arith)
+    (goes_with 1 MayFollow (Part IsOutcome) whole name.1 (outcome_mention_at whole name.1) (λ outcome. record { kind = Leaf; name = name.0; player = 0; set = no_set_mention; outcome = outcome.0 }) (outcome_goes whole name.1 inner)))
 
 -- Entries.
 
@@ -244,11 +243,8 @@ t_after T = record {
     to ss r rest Personal is e there = absurd (words_apart 116 112 ss e.headed (λ same. omega (arith, same)) e.head)
     to ss r rest Leaf is e there = terminal_to T r ss rest e there
 
-abbrev is_word : List ℕ → Spelled → Bool
-is_word bytes s = is_kind kinds.Word s.kind && pointwise nat_eq s.bytes bytes
-
 abbrev head_test : Spelled → Bool
-head_test s = is_word (codes "c") s || (is_word (codes "p") s || is_word (codes "t") s)
+head_test s = is_word_token (codes "c") s || (is_word_token (codes "p") s || is_word_token (codes "t") s)
 
 head_is_test : IsTest head_test
 head_is_test = record {
@@ -256,7 +252,7 @@ head_is_test = record {
   numbers = λ s is fails. (codes "1", refl, each_takes_one);
 }
 
-head_begins : Begins Follows (Part IsEntry) head_test
+head_begins : BeginsPassing MayFollow (Part IsEntry) head_test
 head_begins = record {
   word = λ T f. let w = text_word (Part IsOutcome T) (outcome_follow T f).word in (word (codes "t") ∷ w.0, (t_after T).back w.0 w.1);
   first = λ T ss f l. first T ss l.0 l.1 l.0.kind refl l.2;
@@ -270,27 +266,27 @@ head_begins = record {
 
 -- reading an entry goes along its tokens, by one byte at least, or is stuck in them
 pub entry_goes : (whole : List ℕ) (at : ℕ) → at ≤ length whole
-    → Goes 1 Follows (Part IsEntry) whole at (entry_at whole at)
+    → Goes 1 MayFollow (Part IsEntry) whole at (entry_at whole at)
 unfolding entry_at
 entry_goes whole at within =
-    goes_token Follows (Part IsEntry) head_test head_is_test head_begins whole at (entry_behind whole) within
+    goes_token MayFollow (Part IsEntry) head_test head_is_test head_begins whole at (entry_behind whole) within
     (λ t step passes inner. chosen t step inner (is_exact kinds.Word (codes "c") whole t) (is_exact kinds.Word (codes "p") whole t) refl refl passes)
   where
-    behind : (t : Lexeme) → Step whole at t → t.end ≤ length whole → (bytes : List ℕ)
+    behind : (t : Lexeme) → NextIs whole at t → t.end ≤ length whole → (bytes : List ℕ)
         → is_exact kinds.Word bytes whole t ≡ true → (In : (List Spelled → Type 0) → List Spelled → Type 0)
         → ((T : List Spelled → Type 0) → Alike (After (word bytes) (Part IsEntry T)) (In T))
-        → (r : Result (Record × ℕ) FileFault) → Goes 1 Follows In whole t.end r
-        → Goes 0 Follows (λ T. After (spelled_at whole t) (Part IsEntry T)) whole t.end r
+        → (r : Result (Record × ℕ) FileFault) → Goes 1 MayFollow In whole t.end r
+        → Goes 0 MayFollow (λ T. After (spelled_at whole t) (Part IsEntry T)) whole t.end r
     behind t step inner bytes is In alike r go =
         let s = exact_here whole at within t kinds.Word bytes (λ clash. cc) step.next is in
-        subst (λ u. Goes 0 Follows (λ T. After u (Part IsEntry T)) whole t.end r) (sym s.spelled)
-        (goes_alike 0 Follows Follows In (λ T. After (word bytes) (Part IsEntry T)) whole t.end r (λ T f. f) (λ T f. alike T)
-        (goes_less 1 0 Follows In whole t.end r (omega arith) go))
+        subst (λ u. Goes 0 MayFollow (λ T. After u (Part IsEntry T)) whole t.end r) (sym s.spelled)
+        (goes_alike 0 MayFollow MayFollow In (λ T. After (word bytes) (Part IsEntry T)) whole t.end r (λ T f. f) (λ T f. alike T)
+        (goes_less 1 0 MayFollow In whole t.end r (omega arith) go))
 
-    chosen : (t : Lexeme) → Step whole at t → t.end ≤ length whole → (b c : Bool)
+    chosen : (t : Lexeme) → NextIs whole at t → t.end ≤ length whole → (b c : Bool)
         → is_exact kinds.Word (codes "c") whole t ≡ b → is_exact kinds.Word (codes "p") whole t ≡ c
         → (b || (c || is_exact kinds.Word (codes "t") whole t)) ≡ true
-        → Goes 0 Follows (λ T. After (spelled_at whole t) (Part IsEntry T)) whole t.end (cond b (chance_entry_at whole t.end) (cond c (personal_entry_at whole t.end) (terminal_entry_at whole t.end)))
+        → Goes 0 MayFollow (λ T. After (spelled_at whole t) (Part IsEntry T)) whole t.end (cond b (chance_entry_at whole t.end) (cond c (personal_entry_at whole t.end) (terminal_entry_at whole t.end)))
     chosen t step inner true c is is2 passes = behind t step inner (codes "c") is ChanceIn c_after (chance_entry_at whole t.end) (chance_entry_goes whole t.end inner)
     chosen t step inner false true is is2 passes = behind t step inner (codes "p") is2 PersonalIn p_after (personal_entry_at whole t.end) (personal_entry_goes whole t.end inner)
     chosen t step inner false false is is2 passes = behind t step inner (codes "t") passes TerminalIn t_after (terminal_entry_at whole t.end) (terminal_entry_goes whole t.end inner)

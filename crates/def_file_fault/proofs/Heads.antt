@@ -7,14 +7,13 @@ use Rattle.def_file_tokens.specs.declared.Token.TheVariants as kinds
 use Rattle.def_file_tokens.specs.declared.Lexeme.{Lexeme}
 use Rattle.def_file.specs.declared.FileFault.{FileFault}
 use Rattle.def_file.specs.Reading.{◌>>=◌, is_kind, is_token, next_is, close_byte, text_at, close_at, names_from, head_at, behind_head, prologue_at}
-use Rattle.def_file_form.specs.Form.{Spelled, word, number, open_brace, close_brace, IsText, AreNames}
-use Rattle.def_file_form.proofs.SoundEntries.{IsHeadOf}
-use Rattle.def_file_form.proofs.Steps.{either, exact_here, open_step, ok_token}
-use Rattle.def_file_fault.specs.Offends.{spelled_at}
-use Rattle.def_file_fault.proofs.Languages.{Alike, AlikeBut, FirstIsOther, After, Step}
-use Rattle.def_file_fault.proofs.Nexts.{not_next}
-use Rattle.def_file_fault.proofs.Along.{HasWord, Goes, goes_then, goes_with, goes_alike, goes_less, goes_other, FirstTaken, IsTest, Begins, goes_token}
-use Rattle.def_file_fault.proofs.Slots.{Part, each_takes_one, kind_test, text_word, text_goes}
+use Rattle.def_file_form.specs.Form.{Spelled, word, number, open_brace, close_brace, IsText, AreNames, spelled_at}
+use Rattle.def_file_form.proofs.SoundEntries.{IsPrologueHead}
+use Rattle.def_file_form.proofs.TokenByToken.{either, exact_here, open_step, ok_token}
+use Rattle.def_file_fault.proofs.Languages.{Alike, AlikeBut, FirstIsOther, After, NextIs}
+use Rattle.def_file_fault.proofs.NextByteTellsToken.{not_next}
+use Rattle.def_file_fault.proofs.SuccessiveReadings.{HasWord, Goes, goes_then, goes_with, goes_alike, goes_less, goes_other, FirstTaken, IsTest, BeginsPassing, goes_token}
+use Rattle.def_file_fault.proofs.OneTokenParts.{Part, each_takes_one, kind_test, text_word, text_goes}
 use Rattle.def_file_fault.proofs.Lists.{close_goes, spent, no_text_closes}
 
 -- Names.
@@ -53,7 +52,8 @@ names_goes (suc left) done whole at within left_is =
     chosen (next_is close_byte whole at) refl (λ text inner grown. names_goes left (done ++ text.0 ∷ []) whole text.1 inner (omega (arith, grown, left_is)))
   where
     chosen : (b : Bool) → next_is close_byte whole at ≡ b
-        → ((text : List ℕ × ℕ) → text.1 ≤ length whole → at + 1 ≤ text.1 → Goes 1 HasWord (Part AreNames) whole text.1 (names_from left (done ++ text.0 ∷ []) whole text.1))
+        → ((text : List ℕ × ℕ) → text.1 ≤ length whole → at + 1 ≤ text.1
+        → Goes 1 HasWord (Part AreNames) whole text.1 (names_from left (done ++ text.0 ∷ []) whole text.1))
         → Goes 1 HasWord (Part AreNames) whole at (cond b (close_at done whole at) (text_at whole at >>= λ text. names_from left (done ++ text.0 ∷ []) whole text.1))
     chosen true is again = close_goes done HasWord (Part AreNames) whole at within is (λ T word. names_closed T)
     chosen false is again =
@@ -81,11 +81,11 @@ IsRational s = (s ≡ word (codes "R")) ⊎ (s ≡ word (codes "D"))
 abbrev Titled : (List Spelled → Type 0) → List Spelled → Type 0
 Titled T = Part IsText (Marked open_brace (Part AreNames T))
 
-abbrev Numbered : (List Spelled → Type 0) → List Spelled → Type 0
-Numbered T ss = (s : Spelled) × (rest : List Spelled) × IsRational s × (ss ≡ s ∷ rest) × Titled T rest
+abbrev NumberThenTitled : (List Spelled → Type 0) → List Spelled → Type 0
+NumberThenTitled T ss = (s : Spelled) × (rest : List Spelled) × IsRational s × (ss ≡ s ∷ rest) × Titled T rest
 
 head_alike : (T : List Spelled → Type 0)
-    → Alike (Part IsHeadOf T) (Marked (word (codes "EFG")) (Marked (number (codes "2")) (Numbered T)))
+    → Alike (Part IsPrologueHead T) (Marked (word (codes "EFG")) (Marked (number (codes "2")) (NumberThenTitled T)))
 head_alike T = record {
   to = λ ss l.
       let is = l.2 in
@@ -132,7 +132,7 @@ rational_is_test = record { not_end = λ s is. rw is refl; numbers = λ s is fai
 
 marked_begins : (s : Spelled) (test : Spelled → Bool) → test s ≡ true
     → (In : (List Spelled → Type 0) → List Spelled → Type 0)
-    → ((T : List Spelled → Type 0) → HasWord T → HasWord (In T)) → Begins HasWord (λ T. Marked s (In T)) test
+    → ((T : List Spelled → Type 0) → HasWord T → HasWord (In T)) → BeginsPassing HasWord (λ T. Marked s (In T)) test
 marked_begins s test passes In word = record {
   word = λ T w. let found = word T w in (s ∷ found.0, (found.0, refl, found.1));
   first = λ T ss w l. subst (FirstTaken test) (sym l.1) passes;
@@ -141,7 +141,7 @@ marked_begins s test passes In word = record {
 titled_word : (T : List Spelled → Type 0) → HasWord T → HasWord (Titled T)
 titled_word T w = let n = names_word T w in text_word (Marked open_brace (Part AreNames T)) (open_brace ∷ n.0, (n.0, refl, n.1))
 
-numbered_begins : Begins HasWord Numbered rational_test
+numbered_begins : BeginsPassing HasWord NumberThenTitled rational_test
 numbered_begins = record {
   word = λ T w. let t = titled_word T w in (word (codes "R") ∷ t.0, (word (codes "R"), t.0, inl refl, refl, t.1));
   first = λ T ss w l. subst (FirstTaken rational_test) (sym l.3) (passes l.0 l.2);
@@ -151,7 +151,8 @@ numbered_begins = record {
     passes s (inl is) = ap rational_test is
     passes s (inr is) = ap rational_test is
 
-numbered_after : (s : Spelled) → IsRational s → (T : List Spelled → Type 0) → Alike (After s (Numbered T)) (Titled T)
+numbered_after : (s : Spelled) → IsRational s → (T : List Spelled → Type 0)
+    → Alike (After s (NumberThenTitled T)) (Titled T)
 numbered_after s is T = record { to = λ ss l. let same : l.1 ≡ ss = let e = l.3 in cc in subst (Titled T) same l.4; back = λ ss l. (s, ss, is, refl, l) }
 
 -- a token that a test passes, behind which the language is another
@@ -166,22 +167,22 @@ step_goes In On s whole t r same alike go =
 
 -- reading the prologue's head goes along its tokens, by one byte at least, or is stuck in them
 pub head_goes : (whole : List ℕ) (at : ℕ) → at ≤ length whole
-    → Goes 1 HasWord (Part IsHeadOf) whole at (head_at whole at)
+    → Goes 1 HasWord (Part IsPrologueHead) whole at (head_at whole at)
 unfolding head_at
 head_goes whole at within =
-    goes_alike 1 HasWord HasWord (λ T. Marked (word (codes "EFG")) (Marked (number (codes "2")) (Numbered T))) (Part IsHeadOf) whole at _ (λ T w. w) (λ T w. head_alike T)
-    (goes_token HasWord (λ T. Marked (word (codes "EFG")) (Marked (number (codes "2")) (Numbered T))) (exact_test kinds.Word (codes "EFG")) word_is_test
-    (marked_begins (word (codes "EFG")) (exact_test kinds.Word (codes "EFG")) refl (λ T. Marked (number (codes "2")) (Numbered T)) version_begins.word) whole at _ within
+    goes_alike 1 HasWord HasWord (λ T. Marked (word (codes "EFG")) (Marked (number (codes "2")) (NumberThenTitled T))) (Part IsPrologueHead) whole at _ (λ T w. w) (λ T w. head_alike T)
+    (goes_token HasWord (λ T. Marked (word (codes "EFG")) (Marked (number (codes "2")) (NumberThenTitled T))) (exact_test kinds.Word (codes "EFG")) word_is_test
+    (marked_begins (word (codes "EFG")) (exact_test kinds.Word (codes "EFG")) refl (λ T. Marked (number (codes "2")) (NumberThenTitled T)) version_begins.word) whole at _ within
     (λ marker step passes inner.
-    step_goes (λ T. Marked (word (codes "EFG")) (Marked (number (codes "2")) (Numbered T))) (λ T. Marked (number (codes "2")) (Numbered T)) (word (codes "EFG")) whole marker _
-    ((exact_here whole at within marker kinds.Word (codes "EFG") (λ clash. cc) step.next passes).spelled) (λ T. marked_after (word (codes "EFG")) (Marked (number (codes "2")) (Numbered T)))
-    (goes_token HasWord (λ T. Marked (number (codes "2")) (Numbered T)) (exact_test kinds.Number (codes "2")) version_is_test version_begins whole marker.end _ inner
+    step_goes (λ T. Marked (word (codes "EFG")) (Marked (number (codes "2")) (NumberThenTitled T))) (λ T. Marked (number (codes "2")) (NumberThenTitled T)) (word (codes "EFG")) whole marker _
+    ((exact_here whole at within marker kinds.Word (codes "EFG") (λ clash. cc) step.next passes).spelled) (λ T. marked_after (word (codes "EFG")) (Marked (number (codes "2")) (NumberThenTitled T)))
+    (goes_token HasWord (λ T. Marked (number (codes "2")) (NumberThenTitled T)) (exact_test kinds.Number (codes "2")) version_is_test version_begins whole marker.end _ inner
     (λ version step passes inner2.
-    step_goes (λ T. Marked (number (codes "2")) (Numbered T)) Numbered (number (codes "2")) whole version _
-    ((exact_here whole marker.end inner version kinds.Number (codes "2") (λ clash. cc) step.next passes).spelled) (λ T. marked_after (number (codes "2")) (Numbered T))
-    (goes_token HasWord Numbered rational_test rational_is_test numbered_begins whole version.end _ inner2
+    step_goes (λ T. Marked (number (codes "2")) (NumberThenTitled T)) NumberThenTitled (number (codes "2")) whole version _
+    ((exact_here whole marker.end inner version kinds.Number (codes "2") (λ clash. cc) step.next passes).spelled) (λ T. marked_after (number (codes "2")) (NumberThenTitled T))
+    (goes_token HasWord NumberThenTitled rational_test rational_is_test numbered_begins whole version.end _ inner2
     (λ numbers step passes inner3.
-    step_goes Numbered Titled (spelled_at whole numbers) whole numbers _ refl (numbered_after (spelled_at whole numbers) (rational whole version.end inner2 numbers step passes))
+    step_goes NumberThenTitled Titled (spelled_at whole numbers) whole numbers _ refl (numbered_after (spelled_at whole numbers) (rational whole version.end inner2 numbers step passes))
     (goes_then 1 HasWord HasWord (Part IsText) (λ T. Marked open_brace (Part AreNames T)) whole numbers.end (text_at whole numbers.end) _ (text_goes whole numbers.end inner3) open_begins.word
     (λ title e inner4 grown.
     goes_less 1 0 HasWord (λ T. Marked open_brace (Part AreNames T)) whole title.1 _ (omega arith)
@@ -191,18 +192,18 @@ head_goes whole at within =
     (opened whole title.1 inner4 opening step passes) (λ T. marked_after open_brace (Part AreNames T))
     (goes_with 1 HasWord (Part AreNames) whole opening.end (names_from (length whole) [] whole opening.end) (λ names. (title.0, names.0)) (names_goes (length whole) [] whole opening.end inner5 (omega arith)))))))))))))
   where
-    version_begins : Begins HasWord (λ T. Marked (number (codes "2")) (Numbered T))
+    version_begins : BeginsPassing HasWord (λ T. Marked (number (codes "2")) (NumberThenTitled T))
         (exact_test kinds.Number (codes "2"))
-    version_begins = marked_begins (number (codes "2")) (exact_test kinds.Number (codes "2")) refl Numbered numbered_begins.word
+    version_begins = marked_begins (number (codes "2")) (exact_test kinds.Number (codes "2")) refl NumberThenTitled numbered_begins.word
 
-    open_begins : Begins HasWord (λ T. Marked open_brace (Part AreNames T)) (λ s. is_kind kinds.Open s.kind)
+    open_begins : BeginsPassing HasWord (λ T. Marked open_brace (Part AreNames T)) (λ s. is_kind kinds.Open s.kind)
     open_begins = marked_begins open_brace (λ s. is_kind kinds.Open s.kind) refl (Part AreNames) names_word
 
-    opened : (whole : List ℕ) (at : ℕ) → at ≤ length whole → (t : Lexeme) → Step whole at t
+    opened : (whole : List ℕ) (at : ℕ) → at ≤ length whole → (t : Lexeme) → NextIs whole at t
         → is_kind kinds.Open t.kind ≡ true → spelled_at whole t ≡ open_brace
     opened whole at within t step passes = (open_step whole at within t (ok_token (is_token kinds.Open whole) whole at t step.next passes)).spelled
 
-    rational : (whole : List ℕ) (at : ℕ) → at ≤ length whole → (t : Lexeme) → Step whole at t
+    rational : (whole : List ℕ) (at : ℕ) → at ≤ length whole → (t : Lexeme) → NextIs whole at t
         → rational_test (spelled_at whole t) ≡ true → IsRational (spelled_at whole t)
     rational whole at within t step passes =
         ⊎_elim (λ is. inl (exact_here whole at within t kinds.Word (codes "R") (λ clash. cc) step.next is).spelled) (λ is. inr (exact_here whole at within t kinds.Word (codes "D") (λ clash. cc) step.next is.1).spelled)

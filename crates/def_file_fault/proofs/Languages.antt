@@ -9,8 +9,8 @@ use Rattle.def_file_tokens.specs.Tokens.{next_from}
 use Rattle.def_fraction.specs.declared.fault.NumberFault.{NumberFault}
 use Rattle.def_file.specs.declared.FileFault.{FileFault}
 use Rattle.def_file.specs.declared.FileFault.TheVariants.{Syntax, UnexpectedEnd, Number}
-use Rattle.def_file_form.specs.Form.{Spelled, number, text}
-use Rattle.def_file_fault.specs.Offends.{spelled_at, AreNext, Numbers, IsFront, TakesNumbers, TakesText, IsUnfit, IsNumberFault, Stops, Offends, EndsWhole}
+use Rattle.def_file_form.specs.Form.{Spelled, number, text, spelled_at}
+use Rattle.def_file_fault.specs.Offends.{AreNext, Numbers, IsFront, TakesNumbers, TakesText, IsUnfit, IsNumberFault, Stops, Offends, EndsWhole}
 
 -- two languages with the same words
 pub record Alike (L M : List Spelled → Type 0) : Type 0 where
@@ -32,7 +32,7 @@ pub record AlikeBut (kind : Token) (L M : List Spelled → Type 0) : Type 0 wher
   pub back : (ss : List Spelled) → M ss → L ss
 
 -- the next token, which isn't the end
-pub record Step (whole : List ℕ) (at : ℕ) (t : Lexeme) : Type 0 where
+pub record NextIs (whole : List ℕ) (at : ℕ) (t : Lexeme) : Type 0 where
   pub next : next_from whole at ≡ Ok t
   pub not_end : t.kind ≢ kinds.End
 
@@ -44,7 +44,7 @@ pub record NotNext (kind : Token) (whole : List ℕ) (at : ℕ) : Type 0 where
 -- what may be carried along
 pub record Walk (whole : List ℕ) (P : (List Spelled → Type 0) → ℕ → Type 0) : Type 1 where
   pub alike : (L M : List Spelled → Type 0) (at : ℕ) → Alike L M → P M at → P L at
-  pub step : (L : List Spelled → Type 0) (at : ℕ) (t : Lexeme) → Step whole at t
+  pub step : (L : List Spelled → Type 0) (at : ℕ) (t : Lexeme) → NextIs whole at t
       → P (After (spelled_at whole t) L) t.end → P L at
   pub other : (kind : Token) → kind ≢ kinds.Number → (L M : List Spelled → Type 0) (at : ℕ) → AlikeBut kind L M
       → NotNext kind whole at → P M at → P L at
@@ -59,13 +59,14 @@ record GoOnAlike (Fits : Spelled → Type 0) (L M : List Spelled → Type 0) (ts
   front_back : (s : Spelled) → Fits s → IsFront M (us ++ s ∷ []) → IsFront L (ts ++ s ∷ [])
 
 -- what comes next may come
-record MayCome (Fits : Spelled → Type 0) (whole : List ℕ) (place : ℕ) : Type 0 where
+record FitsNext (Fits : Spelled → Type 0) (whole : List ℕ) (place : ℕ) : Type 0 where
   token : (t : Lexeme) → next_from whole place ≡ Ok t → Fits (spelled_at whole t)
   number : (bytes : List ℕ) → Fits (number bytes)
   unclosed : (p : ℕ) → next_from whole place ≡ Err (lexing.Unclosed p) → (inside : List ℕ) → Fits (text inside)
 
 -- where the tokens can't be taken on, with this fault
-pub data Halt (L : List Spelled → Type 0) (whole : List ℕ) (tokens : List Spelled) (place : ℕ) (fault : FileFault) : Type 0 where
+pub data Halt (L : List Spelled → Type 0) (whole : List ℕ) (tokens : List Spelled) (place : ℕ)
+    (fault : FileFault) : Type 0 where
   bad_byte : (at : ℕ) → fault ≡ Syntax at → (L tokens → ⊥) → next_from whole place ≡ Err (lexing.Syntax at)
       → Halt L whole tokens place fault
   bad_token : (at : ℕ) → fault ≡ Syntax at → (L tokens → ⊥) → IsUnfit L whole tokens place at
@@ -77,7 +78,8 @@ pub data Halt (L : List Spelled → Type 0) (whole : List ℕ) (tokens : List Sp
   bad_number : (at : ℕ) (why : NumberFault) → fault ≡ Number at why → (L tokens → ⊥)
       → IsNumberFault L whole tokens place at why → Halt L whole tokens place fault
 
-module _ (Fits : Spelled → Type 0) (L M : List Spelled → Type 0) (whole : List ℕ) (ts us : List Spelled) (place : ℕ) (alike : GoOnAlike Fits L M ts us) (may : MayCome Fits whole place) where
+module _ (Fits : Spelled → Type 0) (L M : List Spelled → Type 0) (whole : List ℕ) (ts us : List Spelled) (place : ℕ)
+    (alike : GoOnAlike Fits L M ts us) (may : FitsNext Fits whole place) where
   text_to : (p : ℕ) → next_from whole place ≡ Err (lexing.Unclosed p) → TakesText L ts → TakesText M us
   text_to p next takes = (takes.0, takes.1, alike.front_to (text takes.0) (may.unclosed p next takes.0) takes.2)
 
@@ -140,7 +142,7 @@ pub record Stuck (L : List Spelled → Type 0) (whole : List ℕ) (at : ℕ) (fa
   pub halt : Halt L whole tokens place fault
 
 -- a part ends behind some tokens, with which it is whole, and no number goes on either
-pub record EndsAt (L : List Spelled → Type 0) (whole : List ℕ) (end at : ℕ) : Type 0 where
+pub record PartEndsAt (L : List Spelled → Type 0) (whole : List ℕ) (end at : ℕ) : Type 0 where
   pub tokens : List Spelled
   pub before : AreNext whole at tokens end
   pub word : L tokens
@@ -152,7 +154,7 @@ pub record EndsAt (L : List Spelled → Type 0) (whole : List ℕ) (end at : ℕ
 abbrev Any : Spelled → Type 0
 Any s = Unit {0}
 
-any_may : (whole : List ℕ) (place : ℕ) → MayCome Any whole place
+any_may : (whole : List ℕ) (place : ℕ) → FitsNext Any whole place
 any_may whole place = record { token = λ t next. tt; number = λ bytes. tt; unclosed = λ p next inside. tt }
 
 alike_goes : (L M : List Spelled → Type 0) → Alike L M → (ts : List Spelled) → GoOnAlike Any L M ts ts
@@ -181,7 +183,7 @@ module _ (kind : Token) (no_number : kind ≢ kinds.Number) (L M : List Spelled 
     front_back = λ s fits front. (front.0, but.back (s ∷ front.0) front.1);
   }
 
-  but_may : (whole : List ℕ) (at : ℕ) → NotNext kind whole at → MayCome (λ s. s.kind ≢ kind) whole at
+  but_may : (whole : List ℕ) (at : ℕ) → NotNext kind whole at → FitsNext (λ s. s.kind ≢ kind) whole at
   but_may whole at none = record {
     token = none.token;
     number = λ bytes same. no_number (sym same);
@@ -210,7 +212,7 @@ module _ (whole : List ℕ) (fault : FileFault) where
     halt = halt_back Any L M whole s.tokens s.tokens s.place (alike_goes L M alike s.tokens) (any_may whole s.place) fault s.halt;
   }
 
-  stuck_step : (L : List Spelled → Type 0) (at : ℕ) (t : Lexeme) → Step whole at t
+  stuck_step : (L : List Spelled → Type 0) (at : ℕ) (t : Lexeme) → NextIs whole at t
       → Stuck (After (spelled_at whole t) L) whole t.end fault → Stuck L whole at fault
   stuck_step L at t step s = record {
     tokens = spelled_at whole t ∷ s.tokens;
@@ -246,7 +248,8 @@ pub stuck_walk : (whole : List ℕ) (fault : FileFault) → Walk whole (λ L at.
 stuck_walk whole fault = record { alike = stuck_alike whole fault; step = stuck_step whole fault; other = stuck_other whole fault }
 
 module _ (whole : List ℕ) (end : ℕ) where
-  ends_alike : (L M : List Spelled → Type 0) (at : ℕ) → Alike L M → EndsAt M whole end at → EndsAt L whole end at
+  ends_alike : (L M : List Spelled → Type 0) (at : ℕ) → Alike L M → PartEndsAt M whole end at
+      → PartEndsAt L whole end at
   ends_alike L M at alike s = record {
     tokens = s.tokens;
     before = s.before;
@@ -255,8 +258,8 @@ module _ (whole : List ℕ) (end : ℕ) where
     no_number = λ bytes front. s.no_number bytes (front.0, alike.to _ front.1);
   }
 
-  ends_step : (L : List Spelled → Type 0) (at : ℕ) (t : Lexeme) → Step whole at t
-      → EndsAt (After (spelled_at whole t) L) whole end t.end → EndsAt L whole end at
+  ends_step : (L : List Spelled → Type 0) (at : ℕ) (t : Lexeme) → NextIs whole at t
+      → PartEndsAt (After (spelled_at whole t) L) whole end t.end → PartEndsAt L whole end at
   ends_step L at t step s = record {
     tokens = spelled_at whole t ∷ s.tokens;
     before = (t, step.next, step.not_end, refl, s.before);
@@ -266,11 +269,11 @@ module _ (whole : List ℕ) (end : ℕ) where
   }
 
   ends_other : (kind : Token) → kind ≢ kinds.Number → (L M : List Spelled → Type 0) (at : ℕ) → AlikeBut kind L M
-      → NotNext kind whole at → EndsAt M whole end at → EndsAt L whole end at
+      → NotNext kind whole at → PartEndsAt M whole end at → PartEndsAt L whole end at
   ends_other kind no_number L M at but none s = other s.tokens s.before s.word s.ends s.no_number
     where
       other : (tokens : List Spelled) → AreNext whole at tokens end → M tokens → EndsWhole M whole tokens end
-          → ((bytes : List ℕ) → IsFront M (tokens ++ number bytes ∷ []) → ⊥) → EndsAt L whole end at
+          → ((bytes : List ℕ) → IsFront M (tokens ++ number bytes ∷ []) → ⊥) → PartEndsAt L whole end at
       other [] before word ends numbers = record {
         tokens = [];
         before = before;
@@ -289,7 +292,7 @@ module _ (whole : List ℕ) (end : ℕ) where
           }
 
 -- where a part ends is carried along a language, from token to token
-pub ends_walk : (whole : List ℕ) (end : ℕ) → Walk whole (λ L at. EndsAt L whole end at)
+pub ends_walk : (whole : List ℕ) (end : ℕ) → Walk whole (λ L at. PartEndsAt L whole end at)
 ends_walk whole end = record { alike = ends_alike whole end; step = ends_step whole end; other = ends_other whole end }
 
 -- what is stuck offends

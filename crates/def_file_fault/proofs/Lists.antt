@@ -9,15 +9,15 @@ use Rattle.def_file.specs.declared.FileFault.{FileFault}
 use Rattle.def_file.specs.declared.FileFault.TheVariants.{UnexpectedEnd}
 use Rattle.def_file.specs.declared.EntryKind.{EntryKind}
 use Rattle.def_file.specs.declared.EntryKind.TheVariants.{Chance, Personal, Leaf}
-use Rattle.def_file.specs.Content.{Action, zero_fraction}
+use Rattle.def_fraction.specs.Fraction.{zero_fraction}
+use Rattle.def_file.specs.Content.{Action}
 use Rattle.def_file.specs.Reading.{◌>>=◌, is_kind, is_token, token_where, next_is, open_byte, close_byte, text_at, chance_at, action_at, close_at, actions_from, actions_at}
-use Rattle.def_file_form.specs.Form.{Spelled, text, open_brace, close_brace, IsText, IsFraction, IsChance, AreActionsUpTo, IsActionList}
-use Rattle.def_file_form.proofs.Steps.{ok_token, open_step, close_step}
-use Rattle.def_file_fault.specs.Offends.{spelled_at}
-use Rattle.def_file_fault.proofs.Languages.{Alike, AlikeBut, FirstIsOther, After, Step, Halt}
-use Rattle.def_file_fault.proofs.Nexts.{step_grows, open_next, close_next, not_next}
-use Rattle.def_file_fault.proofs.Along.{HasWord, Goes, goes_past, goes_stuck, goes_then, goes_with, goes_alike, goes_less, goes_other, goes_step}
-use Rattle.def_file_fault.proofs.Slots.{Part, NoFirst, text_goes}
+use Rattle.def_file_form.specs.Form.{Spelled, text, open_brace, close_brace, IsText, IsFraction, IsChance, AreActionsUpTo, IsActionList, spelled_at}
+use Rattle.def_file_form.proofs.TokenByToken.{ok_token, open_step, close_step}
+use Rattle.def_file_fault.proofs.Languages.{Alike, AlikeBut, FirstIsOther, After, NextIs, Halt}
+use Rattle.def_file_fault.proofs.NextByteTellsToken.{step_grows, open_next, close_next, not_next}
+use Rattle.def_file_fault.proofs.SuccessiveReadings.{HasWord, Goes, goes_past, goes_stuck, goes_then, goes_with, goes_alike, goes_less, goes_other, goes_step}
+use Rattle.def_file_fault.proofs.OneTokenParts.{Part, NoFirst, text_goes}
 use Rattle.def_file_fault.proofs.Numerals.{literal_goes, literal_word}
 
 -- Marks.
@@ -25,7 +25,7 @@ use Rattle.def_file_fault.proofs.Numerals.{literal_goes, literal_word}
 -- a brace stands next
 pub record MarkNext (kind : Token) (s : Spelled) (whole : List ℕ) (at : ℕ) : Type 0 where
   pub t : Lexeme
-  pub step : Step whole at t
+  pub step : NextIs whole at t
   pub read : token_where (is_token kind whole) whole at ≡ Ok t
   pub spelled : spelled_at whole t ≡ s
 
@@ -165,7 +165,8 @@ actions_goes kind (suc left) done whole at within left_is =
     chosen (next_is close_byte whole at) refl (λ action inner grown. actions_goes kind left (done ++ action.0 ∷ []) whole action.1 inner (omega (arith, grown, left_is)))
   where
     chosen : (b : Bool) → next_is close_byte whole at ≡ b
-        → ((action : Action × ℕ) → action.1 ≤ length whole → at + 1 ≤ action.1 → Goes 1 HasWord (Part (AreActionsUpTo kind)) whole action.1 (actions_from kind left (done ++ action.0 ∷ []) whole action.1))
+        → ((action : Action × ℕ) → action.1 ≤ length whole → at + 1 ≤ action.1
+        → Goes 1 HasWord (Part (AreActionsUpTo kind)) whole action.1 (actions_from kind left (done ++ action.0 ∷ []) whole action.1))
         → Goes 1 HasWord (Part (AreActionsUpTo kind)) whole at (cond b (close_at done whole at) (action_at kind whole at >>= λ action. actions_from kind left (done ++ action.0 ∷ []) whole action.1))
     chosen true is again = close_goes done HasWord (Part (AreActionsUpTo kind)) whole at within is (λ T word. actions_closed kind T)
     chosen false is again =

@@ -14,14 +14,14 @@ use Rattle.def_fraction.proofs.JudgeLemmas.{read_as_literal-judged}
 use Rattle.def_file.specs.declared.FileFault.{FileFault}
 use Rattle.def_file.specs.declared.FileFault.TheVariants.{Number}
 use Rattle.def_file.specs.Reading.{◌>>=◌, is_kind, is_token, token_where, bytes_at, number_or_fault, number_at, literal_at, whole_at, from_one, read_as_set, set_number_at}
-use Rattle.def_file_form.specs.Form.{Spelled, number, IsWholeNumber, IsFraction}
-use Rattle.def_file_form.proofs.Sound.{set_ok}
-use Rattle.def_file_form.proofs.Steps.{is_kind-true, token_ok}
-use Rattle.def_file_fault.specs.Offends.{spelled_at, Numbers, wholes, wholes_from_one, literals, fault_of, literal_fault, TakesNumbers}
-use Rattle.def_file_fault.proofs.Languages.{After, Step, Halt}
-use Rattle.def_file_fault.proofs.Nexts.{step_grows}
-use Rattle.def_file_fault.proofs.Along.{HasWord, Goes, goes_past, goes_stuck, Begins, token_fault}
-use Rattle.def_file_fault.proofs.Slots.{Part, OneToken, one_alike, one_begins, number_test, each_takes_one}
+use Rattle.def_file_form.specs.Form.{Spelled, number, IsWholeNumber, IsFraction, spelled_at}
+use Rattle.def_file_form.proofs.SoundParts.{set_ok}
+use Rattle.def_file_form.proofs.TokenByToken.{is_kind-true, token_ok}
+use Rattle.def_file_fault.specs.Offends.{Numbers, wholes, wholes_from_one, literals, fault_of, literal_fault, TakesNumbers}
+use Rattle.def_file_fault.proofs.Languages.{After, NextIs, Halt}
+use Rattle.def_file_fault.proofs.NextByteTellsToken.{step_grows}
+use Rattle.def_file_fault.proofs.SuccessiveReadings.{HasWord, Goes, goes_past, goes_stuck, BeginsPassing, token_fault}
+use Rattle.def_file_fault.proofs.OneTokenParts.{Part, OneToken, one_alike, one_begins, number_test, each_takes_one}
 
 abbrev pub NumberFits : Numbers → Spelled → Type 0
 NumberFits numbers s = (bytes : List ℕ) × (literal_fault numbers bytes ≡ None) × (s ≡ number bytes)
@@ -90,8 +90,9 @@ one_set_number = record {
 
 -- Reading a number.
 
-module _ {A : Type 0} (R : A → List Spelled → List Spelled → Type 0) (numbers : Numbers) (one : OneToken R (NumberFits numbers)) where
-  number_begins : Begins HasWord (Part R) (λ s. is_kind kinds.Number s.kind)
+module _ {A : Type 0} (R : A → List Spelled → List Spelled → Type 0) (numbers : Numbers)
+    (one : OneToken R (NumberFits numbers)) where
+  number_begins : BeginsPassing HasWord (Part R) (λ s. is_kind kinds.Number s.kind)
   number_begins = one_begins R (NumberFits numbers) one (λ s. is_kind kinds.Number s.kind) (number (codes "1")) (codes "1", each_takes_one numbers, refl) (λ u fits. ap (λ (s : Spelled). is_kind kinds.Number s.kind) fits.2)
 
   takes_numbers : (T : List Spelled → Type 0) → HasWord T → TakesNumbers (Part R T) [] numbers
@@ -104,11 +105,13 @@ module _ {A : Type 0} (R : A → List Spelled → List Spelled → Type 0) (numb
     (λ none. (word.0, (one_alike R (NumberFits numbers) one (number bytes) (bytes, none, refl) T).back word.0 word.1)),
   )
 
-  module _ (read : List ℕ → Result A NumberFault) (faults : (bytes : List ℕ) → literal_fault numbers bytes ≡ fault_of (read bytes)) (whole : List ℕ) (at : ℕ) (within : at ≤ length whole) where
+  module _ (read : List ℕ → Result A NumberFault)
+      (faults : (bytes : List ℕ) → literal_fault numbers bytes ≡ fault_of (read bytes)) (whole : List ℕ) (at : ℕ)
+      (within : at ≤ length whole) where
     numbered_goes : (t : Lexeme) → next_from whole at ≡ Ok t → kinds.Number ≡ t.kind → (r : Result A NumberFault)
         → read (bytes_at whole t) ≡ r → Goes 1 HasWord (Part R) whole at (number_or_fault t r)
     numbered_goes t next is (Ok v) ok =
-        let step : Step whole at t = record { next = next; not_end = λ ends. let clash : kinds.Number ≡ kinds.End = is ∙ ends in cc } in
+        let step : NextIs whole at t = record { next = next; not_end = λ ends. let clash : kinds.Number ≡ kinds.End = is ∙ ends in cc } in
         let grown = step_grows whole at within t step in
         goes_past 1 HasWord (Part R) whole at (v, t.end) (record {
           within = grown.1;

@@ -5,11 +5,11 @@ use Rattle.def_fraction.specs.Fraction.{Fraction}
 use Rattle.def_file.specs.declared.FileFault.{FileFault}
 use Rattle.def_file.specs.Reading.{◌>>=◌, is_kind, is_token, token_where, next_is, open_byte, close_byte, comma_byte, literal_at, close_at, payoff_at, payoffs_from, payoffs_at}
 use Rattle.def_file_form.specs.Form.{Spelled, number, open_brace, close_brace, comma, IsFraction, AreMorePayoffs, ArePayoffs, IsPayoffList}
-use Rattle.def_file_form.proofs.Steps.{ok_token, comma_step}
+use Rattle.def_file_form.proofs.TokenByToken.{ok_token, comma_step}
 use Rattle.def_file_fault.proofs.Languages.{Alike, AlikeBut, FirstIsOther, After}
-use Rattle.def_file_fault.proofs.Nexts.{step_grows, comma_next, not_next}
-use Rattle.def_file_fault.proofs.Along.{HasWord, Goes, goes_past, goes_then, goes_alike, goes_less, goes_other, goes_step}
-use Rattle.def_file_fault.proofs.Slots.{Part, NoFirst}
+use Rattle.def_file_fault.proofs.NextByteTellsToken.{step_grows, comma_next, not_next}
+use Rattle.def_file_fault.proofs.SuccessiveReadings.{HasWord, Goes, goes_past, goes_then, goes_alike, goes_less, goes_other, goes_step}
+use Rattle.def_file_fault.proofs.OneTokenParts.{Part, NoFirst}
 use Rattle.def_file_fault.proofs.Numerals.{literal_goes}
 use Rattle.def_file_fault.proofs.Lists.{MarkNext, close_goes, spent, list_goes}
 
@@ -161,7 +161,8 @@ payoffs_goes (suc left) done whole at within left_is =
     chosen (next_is close_byte whole at) refl (λ payoff inner grown. payoffs_goes left (done ++ payoff.0 ∷ []) whole payoff.1 inner (omega (arith, grown, left_is)))
   where
     chosen : (b : Bool) → next_is close_byte whole at ≡ b
-        → ((payoff : Fraction × ℕ) → payoff.1 ≤ length whole → at + 1 ≤ payoff.1 → Goes 1 HasWord (Part (Behind (done ++ payoff.0 ∷ []))) whole payoff.1 (payoffs_from left (done ++ payoff.0 ∷ []) whole payoff.1))
+        → ((payoff : Fraction × ℕ) → payoff.1 ≤ length whole → at + 1 ≤ payoff.1
+        → Goes 1 HasWord (Part (Behind (done ++ payoff.0 ∷ []))) whole payoff.1 (payoffs_from left (done ++ payoff.0 ∷ []) whole payoff.1))
         → Goes 1 HasWord (Part (Behind done)) whole at (cond b (close_at done whole at) (payoff_at done whole at >>= λ payoff. payoffs_from left (done ++ payoff.0 ∷ []) whole payoff.1))
     chosen true is again = close_goes done HasWord (Part (Behind done)) whole at within is (λ T word. payoffs_closed done T)
     chosen false is again =

@@ -12,8 +12,8 @@ use Rattle.def_file_tokens.proofs.TokenLemmas.{next_from-sound}
 use Rattle.def_file.specs.declared.FileFault.{FileFault}
 use Rattle.def_file.specs.declared.FileFault.TheVariants.{TrailingText}
 use Rattle.def_file.specs.Reading.{bytes_at, nothing_at}
-use Rattle.def_file_form.proofs.Whole.{nothing_ok}
-use Rattle.def_file_fault.proofs.Stopped.{nothing_fault}
+use Rattle.def_file_form.proofs.FileReadingIsExact.{nothing_ok}
+use Rattle.def_file_fault.proofs.ReportedFaultIsFirst.{nothing_fault}
 
 module _ (whole : List ℕ) (at : ℕ) where
   -- a byte of white space

@@ -15,11 +15,7 @@ use Rattle.def_fraction.specs.Reading.{read_as_literal, read_as_whole}
 use Rattle.def_file.specs.declared.FileFault.{FileFault}
 use Rattle.def_file.specs.declared.FileFault.TheVariants.{Syntax, UnexpectedEnd, Number}
 use Rattle.def_file.specs.Reading.{bytes_at, read_as_set}
-use Rattle.def_file_form.specs.Form.{Spelled, number, text}
-
--- a token as it is spelled
-abbrev pub spelled_at : List ℕ → Lexeme → Spelled
-spelled_at bytes token = record { kind = token.kind; bytes = bytes_at bytes token }
+use Rattle.def_file_form.specs.Form.{Spelled, number, text, spelled_at}
 
 abbrev pub AreNext : List ℕ → ℕ → List Spelled → ℕ → Type 0
 AreNext bytes at [] end = at ≡ end
@@ -53,7 +49,8 @@ abbrev pub TakesText : (List Spelled → Type 0) → List Spelled → Type 0
 TakesText Whole tokens = (inside : List ℕ) × IsInside inside × IsFront Whole (tokens ++ text inside ∷ [])
 
 -- the next token can't be taken, nor another number in its place
-pub record IsUnfit (Whole : List Spelled → Type 0) (bytes : List ℕ) (tokens : List Spelled) (place at : ℕ) : Type 0 where
+pub record IsUnfit (Whole : List Spelled → Type 0) (bytes : List ℕ) (tokens : List Spelled)
+    (place at : ℕ) : Type 0 where
   pub token : Lexeme
   pub next : next_from bytes place ≡ Ok token
   pub not_end : token.kind ≢ kinds.End
@@ -62,7 +59,8 @@ pub record IsUnfit (Whole : List Spelled → Type 0) (bytes : List ℕ) (tokens 
   pub no_number : token.kind ≡ kinds.Number → (numbers : Numbers) → TakesNumbers Whole tokens numbers → ⊥
 
 -- a number is needed, and the next token is one with this fault
-pub record IsNumberFault (Whole : List Spelled → Type 0) (bytes : List ℕ) (tokens : List Spelled) (place at : ℕ) (fault : NumberFault) : Type 0 where
+pub record IsNumberFault (Whole : List Spelled → Type 0) (bytes : List ℕ) (tokens : List Spelled) (place at : ℕ)
+    (fault : NumberFault) : Type 0 where
   pub token : Lexeme
   pub next : next_from bytes place ≡ Ok token
   pub is_number : token.kind ≡ kinds.Number

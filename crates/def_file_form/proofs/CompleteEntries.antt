@@ -9,9 +9,9 @@ use Rattle.def_file.specs.declared.EntryKind.TheVariants.{Chance, Personal, Leaf
 use Rattle.def_file.specs.Content.{Prologue, OutcomeMention, Record, no_set_mention}
 use Rattle.def_file.specs.Reading.{is_kind, is_exact, is_numbers, begins_entry, token_where, next_is, mark, open_byte, close_byte, chance_entry_at, personal_entry_at, terminal_entry_at, entry_at, names_from, head_at, behind_head, prologue_at}
 use Rattle.def_file_form.specs.Form.{Spelled, word, number, open_brace, IsOutcome, IsEntryAs, IsEntry, AreEntries, AreNames, IsPrologue}
-use Rattle.def_file_form.proofs.Steps.{Step}
-use Rattle.def_file_form.proofs.Ahead.{Ahead, Taken, not_first, not_end, by_spelling, take_exact, take_kind, behind_step, ahead_length}
-use Rattle.def_file_form.proofs.Complete.{text_taken, text_first, text_length, name_taken, whole_taken, close_taken, close_first, IsClear, clear_number, set_mention_taken, outcome_mention_taken}
+use Rattle.def_file_form.proofs.TokenByToken.{StepSpelled}
+use Rattle.def_file_form.proofs.TokensAhead.{Ahead, ReadsValue, not_first, not_end, by_spelling, take_exact, take_kind, behind_step, ahead_length}
+use Rattle.def_file_form.proofs.CompleteParts.{text_taken, text_first, text_length, name_taken, whole_taken, close_taken, close_first, IsClear, clear_number, set_mention_taken, outcome_mention_taken}
 
 clear_outcome : (m : OutcomeMention) (tokens rest : List Spelled) → IsOutcome m tokens rest → IsClear tokens
 clear_outcome m tokens rest is = subst IsClear (sym is.number.spelling) (clear_number is.number.digits is.numbered)
@@ -32,24 +32,24 @@ pub clear_entries : (rs : List Record) (tokens : List Spelled) → AreEntries rs
 clear_entries [] tokens are = subst IsClear (sym are) (record { no_text = not_end mark; no_brace = not_end open_byte })
 clear_entries (r ∷ rs) tokens are = clear_entry r.kind r tokens are.0 are.1
 
-abbrev is_word : List ℕ → Spelled → Bool
-is_word bytes s = is_kind kinds.Word s.kind && pointwise nat_eq s.bytes bytes
+abbrev pub is_word_token : List ℕ → Spelled → Bool
+is_word_token bytes s = is_kind kinds.Word s.kind && pointwise nat_eq s.bytes bytes
 
 take_head : (bytes : List ℕ) (whole : List ℕ) (at : ℕ) (l : Lexeme)
     → (pointwise nat_eq bytes (codes "c") || (pointwise nat_eq bytes (codes "p") || pointwise nat_eq bytes (codes "t")))
     ≡ true
-    → Step whole at l (word bytes) → token_where (begins_entry whole) whole at ≡ Ok l
-take_head bytes whole at l passes step = by_spelling (λ s. is_word (codes "c") s || (is_word (codes "p") s || is_word (codes "t") s)) whole at l (word bytes) step passes
+    → StepSpelled whole at l (word bytes) → token_where (begins_entry whole) whole at ≡ Ok l
+take_head bytes whole at l passes step = by_spelling (λ s. is_word_token (codes "c") s || (is_word_token (codes "p") s || is_word_token (codes "t") s)) whole at l (word bytes) step passes
 
 entry_as_taken : (kind : EntryKind) (whole : List ℕ) (at : ℕ) (r : Record) (tokens rest : List Spelled) → r.kind ≡ kind
-    → IsEntryAs kind r tokens rest → IsClear rest → Ahead whole at tokens → Taken whole (entry_at whole at) r rest
+    → IsEntryAs kind r tokens rest → IsClear rest → Ahead whole at tokens → ReadsValue whole (entry_at whole at) r rest
 unfolding entry_at chance_entry_at personal_entry_at terminal_entry_at
 entry_as_taken Chance whole at r tokens rest kind is clear ahead =
     let a : Ahead whole at (word (codes "c") ∷ is.headed) = subst (Ahead whole at) is.head ahead in
     let l : Lexeme = a.next.0 in
-    let step : Step whole at l (word (codes "c")) = a.next.1 in
+    let step : StepSpelled whole at l (word (codes "c")) = a.next.1 in
     let found = take_head (codes "c") whole at l refl step in
-    let as_c : is_exact kinds.Word (codes "c") whole l ≡ true = ap (is_word (codes "c")) step.spelled in
+    let as_c : is_exact kinds.Word (codes "c") whole l ≡ true = ap (is_word_token (codes "c")) step.spelled in
     let name = text_taken whole l.end r.name is.headed is.named is.name (behind_step whole at (word (codes "c")) is.headed a) in
     let set = set_mention_taken Chance whole name.mid r.set is.named is.placed is.set (clear_outcome r.outcome is.placed rest is.outcome) name.ahead in
     let outcome = outcome_mention_taken whole set.mid r.outcome is.placed rest is.outcome clear set.ahead in
@@ -59,10 +59,10 @@ entry_as_taken Chance whole at r tokens rest kind is clear ahead =
 entry_as_taken Personal whole at r tokens rest kind is clear ahead =
     let a : Ahead whole at (word (codes "p") ∷ is.headed) = subst (Ahead whole at) is.head ahead in
     let l : Lexeme = a.next.0 in
-    let step : Step whole at l (word (codes "p")) = a.next.1 in
+    let step : StepSpelled whole at l (word (codes "p")) = a.next.1 in
     let found = take_head (codes "p") whole at l refl step in
-    let as_c : is_exact kinds.Word (codes "c") whole l ≡ false = ap (is_word (codes "c")) step.spelled in
-    let as_p : is_exact kinds.Word (codes "p") whole l ≡ true = ap (is_word (codes "p")) step.spelled in
+    let as_c : is_exact kinds.Word (codes "c") whole l ≡ false = ap (is_word_token (codes "c")) step.spelled in
+    let as_p : is_exact kinds.Word (codes "p") whole l ≡ true = ap (is_word_token (codes "p")) step.spelled in
     let name = text_taken whole l.end r.name is.headed is.named is.name (behind_step whole at (word (codes "p")) is.headed a) in
     let player = whole_taken whole name.mid r.player is.named is.moved is.player name.ahead in
     let set = set_mention_taken Personal whole player.mid r.set is.moved is.placed is.set (clear_outcome r.outcome is.placed rest is.outcome) player.ahead in
@@ -73,10 +73,10 @@ entry_as_taken Personal whole at r tokens rest kind is clear ahead =
 entry_as_taken Leaf whole at r tokens rest kind is clear ahead =
     let a : Ahead whole at (word (codes "t") ∷ is.headed) = subst (Ahead whole at) is.head ahead in
     let l : Lexeme = a.next.0 in
-    let step : Step whole at l (word (codes "t")) = a.next.1 in
+    let step : StepSpelled whole at l (word (codes "t")) = a.next.1 in
     let found = take_head (codes "t") whole at l refl step in
-    let as_c : is_exact kinds.Word (codes "c") whole l ≡ false = ap (is_word (codes "c")) step.spelled in
-    let as_p : is_exact kinds.Word (codes "p") whole l ≡ false = ap (is_word (codes "p")) step.spelled in
+    let as_c : is_exact kinds.Word (codes "c") whole l ≡ false = ap (is_word_token (codes "c")) step.spelled in
+    let as_p : is_exact kinds.Word (codes "p") whole l ≡ false = ap (is_word_token (codes "p")) step.spelled in
     let name = text_taken whole l.end r.name is.headed is.named is.name (behind_step whole at (word (codes "t")) is.headed a) in
     let outcome = outcome_mention_taken whole name.mid r.outcome is.named rest is.outcome clear name.ahead in
     let made : Record = record { kind = Leaf; name = r.name; player = 0; set = no_set_mention; outcome = r.outcome } in
@@ -85,14 +85,14 @@ entry_as_taken Leaf whole at r tokens rest kind is clear ahead =
 
 -- where an entry comes, it is read, if no text and no brace stands behind it
 pub entry_taken : (whole : List ℕ) (at : ℕ) (r : Record) (tokens rest : List Spelled) → IsEntry r tokens rest
-    → IsClear rest → Ahead whole at tokens → Taken whole (entry_at whole at) r rest
+    → IsClear rest → Ahead whole at tokens → ReadsValue whole (entry_at whole at) r rest
 entry_taken whole at r tokens rest is clear ahead = entry_as_taken r.kind whole at r tokens rest refl is clear ahead
 
 -- The prologue.
 
 pub names_taken : (left : ℕ) (done more : List (List ℕ)) (whole : List ℕ) (at : ℕ) (tokens rest : List Spelled)
     → AreNames more tokens rest → length tokens ≤ left → Ahead whole at tokens
-    → Taken whole (names_from left done whole at) (done ++ more) rest
+    → ReadsValue whole (names_from left done whole at) (done ++ more) rest
 unfolding names_from
 names_taken zero done [] whole at tokens rest are fuel ahead = absurd (omega (arith, ap length are, fuel))
 names_taken zero done (a ∷ more) whole at tokens rest are fuel ahead = absurd (omega (arith, text_length a tokens are.0 are.1, fuel))
@@ -108,7 +108,7 @@ names_taken (suc left) done (a ∷ more) whole at tokens rest are fuel ahead =
 
 -- where the prologue comes, it is read, if no text and no brace stands behind it
 pub prologue_taken : (whole : List ℕ) (at : ℕ) (p : Prologue) (tokens rest : List Spelled) → IsPrologue p tokens rest
-    → IsClear rest → Ahead whole at tokens → Taken whole (prologue_at whole at) p rest
+    → IsClear rest → Ahead whole at tokens → ReadsValue whole (prologue_at whole at) p rest
 unfolding prologue_at head_at behind_head
 prologue_taken whole at p tokens rest is clear ahead =
     let h = is.head in
@@ -120,7 +120,7 @@ prologue_taken whole at p tokens rest is clear ahead =
     let e1 = take_exact whole l0.end l1 kinds.Number (codes "2") refl a1.next.1 in
     let a2 : Ahead whole l1.end (h.numbers ∷ h.headed) = behind_step whole l0.end (number (codes "2")) _ a1 in
     let l2 : Lexeme = a2.next.0 in
-    let test = λ (s : Spelled). is_word (codes "R") s || is_word (codes "D") s in
+    let test = λ (s : Spelled). is_word_token (codes "R") s || is_word_token (codes "D") s in
     let passes : test h.numbers ≡ true = ⊎_elim (λ same. ap test same) (λ same. ap test same) h.rational in
     let e2 : token_where (is_numbers whole) whole l1.end ≡ Ok l2 = by_spelling test whole l1.end l2 h.numbers a2.next.1 passes in
     let title = text_taken whole l2.end p.title h.headed h.titled h.title_text (behind_step whole l1.end h.numbers h.headed a2) in

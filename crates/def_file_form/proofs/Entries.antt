@@ -15,9 +15,9 @@ use Rattle.def_file_entries.specs.Laws.{HaveNoFault}
 use Rattle.def_file_entries.proofs.NoFault.{no_fault_more, no_fault_here}
 use Rattle.def_file_entries.proofs.OneMore.{one_more}
 use Rattle.def_file_form.specs.Form.{Spelled, IsEntry, AreEntries}
-use Rattle.def_file_form.proofs.Steps.{then_ok, Read, read_none, read_then}
+use Rattle.def_file_form.proofs.TokenByToken.{then_ok, Read, read_none, read_then}
 use Rattle.def_file_form.proofs.SoundEntries.{entry_read}
-use Rattle.def_file_form.proofs.Ahead.{Ahead, Taken}
+use Rattle.def_file_form.proofs.TokensAhead.{Ahead, ReadsValue}
 use Rattle.def_file_form.proofs.CompleteEntries.{clear_entries, entry_taken}
 
 -- the nodes with one more entry
@@ -100,7 +100,9 @@ entries_read (suc left) done contents known none begins whole at within read e =
   where
     chosen : (b : Bool) → nat_eq (wanted 1 contents.nodes) 0 ≡ b
         → cond b (Ok (contents, at)) (entry_at whole at >>= λ entry. judged contents entry.0 >>= λ next. entries_from left next whole entry.1) ≡ Ok read
-        → ((entry : Record × ℕ) (next : Contents) → next ≡ contents_of (done ++ entry.0 ∷ []) → HaveNoFault (done ++ entry.0 ∷ []) → Begins 1 next.nodes → entry.1 ≤ length whole → entries_from left next whole entry.1 ≡ Ok read
+        → ((entry : Record × ℕ) (next : Contents) → next ≡ contents_of (done ++ entry.0 ∷ [])
+        → HaveNoFault (done ++ entry.0 ∷ []) → Begins 1 next.nodes → entry.1 ≤ length whole
+        → entries_from left next whole entry.1 ≡ Ok read
         → EntriesRead (done ++ entry.0 ∷ []) whole entry.1 read)
         → EntriesRead done whole at read
     chosen true is e again =
@@ -135,7 +137,7 @@ entries_read (suc left) done contents known none begins whole at within read e =
 pub entries_taken : (left : ℕ) (done more : List Record) (contents : Contents) → contents ≡ contents_of done
     → HaveNoFault (done ++ more) → IsWhole (contents_of (done ++ more)).nodes → length more < left
     → (whole : List ℕ) (at : ℕ) (tokens : List Spelled) → AreEntries more tokens
-    → Ahead whole at tokens → Taken whole (entries_from left contents whole at) (contents_of (done ++ more)) []
+    → Ahead whole at tokens → ReadsValue whole (entries_from left contents whole at) (contents_of (done ++ more)) []
 unfolding entries_from
 entries_taken zero done more contents known none is_whole fuel whole at tokens are ahead = absurd (omega (arith, fuel))
 entries_taken (suc left) done [] contents known none is_whole fuel whole at tokens are ahead =

@@ -1,11 +1,11 @@
-pub mod Steps
-pub mod Sound
+pub mod TokenByToken
+pub mod SoundParts
 pub mod SoundEntries
-pub mod Ahead
-pub mod Complete
+pub mod TokensAhead
+pub mod CompleteParts
 pub mod CompleteEntries
 pub mod Pieces
-pub mod Once
+pub mod AtMostOneReading
 pub mod Entries
-pub mod Whole
+pub mod FileReadingIsExact
 pub mod WholeGames

@@ -9,9 +9,9 @@ use Rattle.def_file_tokens.specs.Tokens.{span, next_from, Reads}
 use Rattle.def_file_tokens.proofs.TokenLemmas.{next_from-sound}
 use Rattle.def_file_tokens.proofs.PieceLemmas.{reads_pieces, pieces_read}
 use Rattle.def_file.specs.Reading.{bytes_at}
-use Rattle.def_file_form.specs.Form.{Spelled, spelled}
-use Rattle.def_file_form.proofs.Steps.{spelled_at, StandUpTo}
-use Rattle.def_file_form.proofs.Ahead.{AllFrom, Ahead}
+use Rattle.def_file_form.specs.Form.{Spelled, spelled, spelled_at}
+use Rattle.def_file_form.proofs.TokenByToken.{StandUpTo}
+use Rattle.def_file_form.proofs.TokensAhead.{AllFrom, Ahead}
 
 -- the end stands at the end
 end_is : (whole : List ℕ) (at : ℕ) (l : Lexeme) → at ≤ length whole → next_from whole at ≡ Ok l → kinds.End ≡ l.kind

@@ -11,8 +11,8 @@ use Rattle.def_file.specs.declared.FileFault.TheVariants.{Players}
 use Rattle.def_file.specs.Content.{Prologue, Record, no_set_mention}
 use Rattle.def_file.specs.Reading.{◌>>=◌, is_token, is_exact, is_numbers, begins_entry, token_where, next_is, close_byte, text_at, name_at, whole_at, close_at, set_mention_at, outcome_mention_at, chance_entry_at, personal_entry_at, terminal_entry_at, entry_at, names_from, checked_names, nth_name, PrologueHead, head_at, behind_head, prologue_at}
 use Rattle.def_file_form.specs.Form.{Spelled, word, number, open_brace, IsText, IsName, IsWholeNumber, IsSet, IsOutcome, IsEntryAs, IsEntry, AreNames, IsHead, IsPrologue}
-use Rattle.def_file_form.proofs.Steps.{then_ok, either, token_ok, Step, Read, Then, IsOne, read_as, read_one, read_then, exact_here, exact_step, open_step}
-use Rattle.def_file_form.proofs.Sound.{text_read, name_read, whole_read, close_read, ItemsRead, set_mention_read, outcome_mention_read}
+use Rattle.def_file_form.proofs.TokenByToken.{then_ok, either, token_ok, StepSpelled, Read, Then, IsOne, read_as, read_one, read_then, exact_here, exact_step, open_step}
+use Rattle.def_file_form.proofs.SoundParts.{text_read, name_read, whole_read, close_read, ItemsRead, set_mention_read, outcome_mention_read}
 
 -- an entry behind its word
 abbrev pub IsEntryBehind : EntryKind → List ℕ → Record → List Spelled → List Spelled → Type 0
@@ -79,7 +79,7 @@ headed kind bytes r tokens rest t =
     subst (λ ss. IsEntry r ss rest) (sym t.1) (subst (λ k. IsEntryAs k r (word bytes ∷ t.0) rest) (sym t.2.0) t.2.1)
 
 entry_behind_read : (kind : EntryKind) (bytes : List ℕ) (whole : List ℕ) (at : ℕ) (head : Lexeme) (read : Record × ℕ)
-    → Step whole at head (word bytes) → Read whole head.end read.1 (IsEntryBehind kind bytes read.0)
+    → StepSpelled whole at head (word bytes) → Read whole head.end read.1 (IsEntryBehind kind bytes read.0)
     → Read whole at read.1 (IsEntry read.0)
 entry_behind_read kind bytes whole at head read step behind =
     read_as whole at read.1 (Then (IsOne (word bytes)) (IsEntryBehind kind bytes read.0)) (IsEntry read.0) (headed kind bytes read.0)
@@ -95,7 +95,7 @@ entry_read whole at within read e =
     chosen head (is_exact kinds.Word (codes "c") whole head) (is_exact kinds.Word (codes "p") whole head) refl refl found.0 found.1 e)
   where
     step : (head : Lexeme) (bytes : List ℕ) → next_from whole at ≡ Ok head → is_exact kinds.Word bytes whole head ≡ true
-        → Step whole at head (word bytes)
+        → StepSpelled whole at head (word bytes)
     step head bytes next is = exact_here whole at within head kinds.Word bytes (λ clash. cc) next is
 
     chosen : (head : Lexeme) (b c : Bool) → is_exact kinds.Word (codes "c") whole head ≡ b
@@ -124,7 +124,8 @@ names_read (suc left) done whole at within read e =
   where
     chosen : (b : Bool)
         → cond b (close_at done whole at) (text_at whole at >>= λ text. names_from left (done ++ text.0 ∷ []) whole text.1) ≡ Ok read
-        → ((text : List ℕ × ℕ) → text.1 ≤ length whole → names_from left (done ++ text.0 ∷ []) whole text.1 ≡ Ok read → ItemsRead AreNames (done ++ text.0 ∷ []) whole text.1 read)
+        → ((text : List ℕ × ℕ) → text.1 ≤ length whole → names_from left (done ++ text.0 ∷ []) whole text.1 ≡ Ok read
+        → ItemsRead AreNames (done ++ text.0 ∷ []) whole text.1 read)
         → ItemsRead AreNames done whole at read
     chosen true e again =
         let closed = close_read done whole at within read e in
@@ -157,7 +158,7 @@ checked_ok names at read e = chosen (nat_eq (length names) 2) refl e
 -- `R` or `D`
 numbers_step : (whole : List ℕ) (at : ℕ) → at ≤ length whole → (l : Lexeme)
     → token_where (is_numbers whole) whole at ≡ Ok l
-    → (s : Spelled) × ((s ≡ word (codes "R")) ⊎ (s ≡ word (codes "D"))) × Step whole at l s
+    → (s : Spelled) × ((s ≡ word (codes "R")) ⊎ (s ≡ word (codes "D"))) × StepSpelled whole at l s
 numbers_step whole at within l e =
     let found = token_ok (is_numbers whole) whole at l e in
     chosen (either (is_exact kinds.Word (codes "R") whole l) (is_exact kinds.Word (codes "D") whole l) found.1) found.0
@@ -165,17 +166,17 @@ numbers_step whole at within l e =
     chosen : (is_exact kinds.Word (codes "R") whole l ≡ true)
         ⊎ ((is_exact kinds.Word (codes "R") whole l ≡ false) × (is_exact kinds.Word (codes "D") whole l ≡ true))
         → next_from whole at ≡ Ok l
-        → (s : Spelled) × ((s ≡ word (codes "R")) ⊎ (s ≡ word (codes "D"))) × Step whole at l s
+        → (s : Spelled) × ((s ≡ word (codes "R")) ⊎ (s ≡ word (codes "D"))) × StepSpelled whole at l s
     chosen (inl is) next = (word (codes "R"), inl refl, exact_here whole at within l kinds.Word (codes "R") (λ clash. cc) next is)
     chosen (inr is) next = (word (codes "D"), inr refl, exact_here whole at within l kinds.Word (codes "D") (λ clash. cc) next is.1)
 
 -- what the head of the prologue says
-abbrev pub IsHeadOf : PrologueHead → List Spelled → List Spelled → Type 0
-IsHeadOf head tokens rest = IsHead head.0 head.1 tokens rest
+abbrev pub IsPrologueHead : PrologueHead → List Spelled → List Spelled → Type 0
+IsPrologueHead head tokens rest = IsHead head.0 head.1 tokens rest
 
 -- a head that is read is in the form
 pub head_read : (whole : List ℕ) (at : ℕ) → at ≤ length whole → (x : PrologueHead × ℕ) → head_at whole at ≡ Ok x
-    → Read whole at x.1 (IsHeadOf x.0)
+    → Read whole at x.1 (IsPrologueHead x.0)
 unfolding head_at
 head_read whole at within x e =
     then_ok (token_where (is_exact kinds.Word (codes "EFG") whole) whole at) _ _ e (λ marker e0 e.
@@ -202,8 +203,8 @@ head_read whole at within x e =
     let r3 = read_then whole version.end numbers.end names.1 (IsOne s2.0) Headed (read_one whole version.end numbers s2.0 s2.2) r4 in
     let r2 = read_then whole marker.end version.end names.1 (IsOne (number (codes "2"))) Numbered (read_one whole marker.end version (number (codes "2")) s1) r3 in
     let r1 = read_then whole at marker.end names.1 (IsOne (word (codes "EFG"))) Version (read_one whole at marker (word (codes "EFG")) s0) r2 in
-    subst (λ (y : PrologueHead × ℕ). Read whole at y.1 (IsHeadOf y.0)) same
-    (read_as whole at names.1 (Then (IsOne (word (codes "EFG"))) Version) (IsHeadOf (title.0, names.0)) (λ tokens rest one.
+    subst (λ (y : PrologueHead × ℕ). Read whole at y.1 (IsPrologueHead y.0)) same
+    (read_as whole at names.1 (Then (IsOne (word (codes "EFG"))) Version) (IsPrologueHead (title.0, names.0)) (λ tokens rest one.
     let v = one.2 in
     let n = v.2 in
     let h = n.2 in
@@ -232,12 +233,12 @@ prologue_read whole at within read e =
     let c = checked_ok head.0.1 head.1 behind e1 in
     let one = nth_name head.0.1 0 in
     let two = nth_name head.0.1 1 in
-    let h2 : Read whole at behind (IsHeadOf (head.0.0, one ∷ two ∷ [])) =
-    subst (λ n. Read whole at n (IsHeadOf (head.0.0, one ∷ two ∷ []))) c.1 (subst (λ ns. Read whole at head.1 (IsHeadOf (head.0.0, ns))) (two_names head.0.1 c.0) h) in
+    let h2 : Read whole at behind (IsPrologueHead (head.0.0, one ∷ two ∷ [])) =
+    subst (λ n. Read whole at n (IsPrologueHead (head.0.0, one ∷ two ∷ []))) c.1 (subst (λ ns. Read whole at head.1 (IsPrologueHead (head.0.0, ns))) (two_names head.0.1 c.0) h) in
     let remark = name_read whole behind h2.within comment e2 in
     let p : Prologue = record { title = head.0.0; one = one; two = two; comment = unwrap_or comment.0 [] } in
     let same : (p, comment.1) ≡ read = cc in
     subst (λ (r : Prologue × ℕ). Read whole at r.1 (IsPrologue r.0)) same
-    (read_as whole at comment.1 (Then (IsHeadOf (head.0.0, one ∷ two ∷ [])) (IsName comment.0)) (IsPrologue p)
+    (read_as whole at comment.1 (Then (IsPrologueHead (head.0.0, one ∷ two ∷ [])) (IsName comment.0)) (IsPrologue p)
     (λ tokens rest t. record { behind = t.0; comment = comment.0; head = t.1; remark = t.2; text = refl })
-    (read_then whole at behind comment.1 (IsHeadOf (head.0.0, one ∷ two ∷ [])) (IsName comment.0) h2 remark)))))
+    (read_then whole at behind comment.1 (IsPrologueHead (head.0.0, one ∷ two ∷ [])) (IsName comment.0) h2 remark)))))

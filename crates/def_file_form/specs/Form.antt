@@ -8,15 +8,17 @@
 use Rattle.std.specs.Prelude.{◌≡◌, ℕ, ◌≤◌, ◌⊎◌, List, [], ◌∷◌, ◌++◌, map, codes, unwrap_or, IsTrue, Option, Some, None}
 use Rattle.def_file_tokens.specs.declared.Token.{Token}
 use Rattle.def_file_tokens.specs.declared.Token.TheVariants as kinds
+use Rattle.def_file_tokens.specs.declared.Lexeme.{Lexeme}
 use Rattle.def_file_tokens.specs.Spelling.{Piece, ArePieces, bytes_of}
 use Rattle.def_file_tokens.specs.Texts.{IsInside, unescaped}
 use Rattle.def_fraction.specs.Digits.{is_numeral, number_of}
-use Rattle.def_fraction.specs.Fraction.{Fraction, most}
+use Rattle.def_fraction.specs.Fraction.{Fraction, most, zero_fraction}
 use Rattle.def_fraction.specs.Literal.{IsLiteralOf}
 use Rattle.def_tree.specs.Tree.{IsWhole}
 use Rattle.def_file.specs.declared.EntryKind.{EntryKind}
 use Rattle.def_file.specs.declared.EntryKind.TheVariants.{Chance, Personal, Leaf}
-use Rattle.def_file.specs.Content.{Prologue, Action, SetMention, OutcomeMention, Record, no_set_mention, zero_fraction}
+use Rattle.def_file.specs.Content.{Prologue, Action, SetMention, OutcomeMention, Record, no_set_mention}
+use Rattle.def_file.specs.Reading.{bytes_at}
 use Rattle.def_file_entries.specs.Entries.{contents_of}
 
 -- a token's kind and its bytes
@@ -26,6 +28,10 @@ pub record Spelled : Type 0 where
 
 abbrev pub spelled : Piece → Spelled
 spelled piece = record { kind = piece.kind; bytes = piece.bytes }
+
+-- a token as it is spelled in these bytes
+abbrev pub spelled_at : List ℕ → Lexeme → Spelled
+spelled_at bytes token = record { kind = token.kind; bytes = bytes_at bytes token }
 
 abbrev pub word : List ℕ → Spelled
 word bytes = record { kind = kinds.Word; bytes = bytes }

@@ -15,17 +15,20 @@ pub record StandsFor (bytes : List ℕ) (game : GameFile) : Type 0 where
   pub no_fault : HaveNoFault entries
   pub game_is : game ≡ game_of_entries prologue entries
 
+-- a file has one reading at most
 abbrev pub OneReading : Type 0
 OneReading = (bytes : List ℕ) (p q : Prologue) (rs ts : List Record) → IsFile bytes p rs → IsFile bytes q ts
     → (p ≡ q) × (rs ≡ ts)
 
+-- what is read as a game has a reading without a fault that stands for this game
 abbrev pub AcceptedIsFile : Type 0
 AcceptedIsFile = (bytes : List ℕ) (game : GameFile) → game_at bytes ≡ Ok game → StandsFor bytes game
 
+-- what has a reading without a fault is read as the game that it stands for
 abbrev pub FileIsAccepted : Type 0
 FileIsAccepted = (bytes : List ℕ) (game : GameFile) → StandsFor bytes game → game_at bytes ≡ Ok game
 
--- its sets and outcomes go with its tree, and its fractions are in lowest terms within the limit
+-- the sets and outcomes of a file's game go with its tree, and its fractions are in lowest terms within the limit
 abbrev pub StandsForWholeGame : Type 0
 StandsForWholeGame = (bytes : List ℕ) (game : GameFile) → StandsFor bytes game
     → IsWholeGame game × HasFractions game.sets game.outcomes

@@ -11,7 +11,7 @@ use Rattle.def_file_tokens.specs.Tokens.{after_space, byte_from}
 use Rattle.def_file_tokens.proofs.TokenLemmas.{first_byte, space_within, space_passes, space_is}
 
 module _ (whole : List ℕ) (at : ℕ) (within : at ≤ length whole) where
-  -- a next byte that is told stands at the first place from the offset on that isn't white space
+  -- a next byte that is found stands at the first place from the offset on that isn't white space
   pub byte_from-first : (b : ℕ) → byte_from whole at ≡ Some b
       → (place : ℕ) × IsFirstByteFrom whole at place × (get_or whole place 0 ≡ b)
   unfolding byte_from
@@ -19,7 +19,7 @@ module _ (whole : List ℕ) (at : ℕ) (within : at ≤ length whole) where
       let place = after_space whole at in
       (place, first_byte whole at within place refl (slice_get_within whole place b is), get_or_from_slice_get whole place b 0 is)
 
-  -- the byte at the first place from the offset on that isn't white space is told as the next one
+  -- the byte at the first place from the offset on that isn't white space is found as the next one
   pub first-byte_from : (b place : ℕ) → IsFirstByteFrom whole at place → get_or whole place 0 ≡ b
       → byte_from whole at ≡ Some b
   unfolding byte_from
@@ -31,7 +31,7 @@ module _ (whole : List ℕ) (at : ℕ) (within : at ≤ length whole) where
   to_end : slice_range whole at (length whole) ≡ drop at whole
   to_end = between_to_end whole at (length whole) (omega arith)
 
-  -- where no next byte is told, all bytes from the offset to the end are white space
+  -- where no next byte is found, all bytes from the offset to the end are white space
   pub byte_from-space : byte_from whole at ≡ None → AllPass is_space (drop at whole)
   unfolding byte_from
   byte_from-space is =
@@ -40,7 +40,7 @@ module _ (whole : List ℕ) (at : ℕ) (within : at ≤ length whole) where
       let start_is : start ≡ length whole = omega (arith, space_within whole at within) in
       subst (AllPass is_space) to_end (subst (λ n. AllPass is_space (slice_range whole at n)) start_is (space_passes whole at within))
 
-  -- where all bytes from the offset to the end are white space, no next byte is told
+  -- where all bytes from the offset to the end are white space, no next byte is found
   pub space-byte_from : AllPass is_space (drop at whole) → byte_from whole at ≡ None
   unfolding byte_from
   space-byte_from space =

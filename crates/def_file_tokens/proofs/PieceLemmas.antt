@@ -63,7 +63,7 @@ reads_pieces front rest (p ∷ ps) all =
     )
 
 -- the pieces of what is read
-pub record Found (whole : List ℕ) (at : ℕ) (lexemes : List Lexeme) : Type 0 where
+pub record PiecesFrom (whole : List ℕ) (at : ℕ) (lexemes : List Lexeme) : Type 0 where
   pub pieces : List Piece
   pub rest : List ℕ
   pub are : ArePieces pieces rest
@@ -72,7 +72,7 @@ pub record Found (whole : List ℕ) (at : ℕ) (lexemes : List Lexeme) : Type 0 
 
 -- what is read as tokens up to the end is white space and those tokens in turn
 pub pieces_read : (whole : List ℕ) (at : ℕ) (lexemes : List Lexeme) → at ≤ length whole → Reads whole at lexemes
-    → Found whole at lexemes
+    → PiecesFrom whole at lexemes
 pieces_read whole at [] within reads =
     let is = next_from-sound whole at within (span End (length whole) (length whole)) reads in
     let all : slice_range whole at (length whole) ≡ drop at whole = take_all (length whole - at) (drop at whole) (omega (arith, length-drop at whole)) in

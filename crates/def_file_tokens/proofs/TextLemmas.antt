@@ -42,11 +42,11 @@ unfolding unescaped
 unescaped-goes bs = refl
 
 -- a backslash before a mark, or another byte
-data Step (b : ℕ) (bs : List ℕ) : Type 0 where
-  goes : b ≡ 92 → begins_with_mark bs ≡ true → Step b bs
-  stays : (b ≡ 92 → begins_with_mark bs ≡ false) → Step b bs
+data EscapeStep (b : ℕ) (bs : List ℕ) : Type 0 where
+  goes : b ≡ 92 → begins_with_mark bs ≡ true → EscapeStep b bs
+  stays : (b ≡ 92 → begins_with_mark bs ≡ false) → EscapeStep b bs
 
-step_of : (b : ℕ) (bs : List ℕ) → Step b bs
+step_of : (b : ℕ) (bs : List ℕ) → EscapeStep b bs
 step_of b bs =
     ⊎_elim
     (λ backslash. ⊎_elim (λ mark. goes backslash.1 mark) (λ plain. stays (λ _. plain)) (cases_Bool (begins_with_mark bs)))

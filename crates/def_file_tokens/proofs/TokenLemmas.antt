@@ -72,16 +72,16 @@ unfolding token_at
 token_at-end start = refl
 
 -- what a first byte begins
-data Begins (b : ℕ) : Type 0 where
-  quote : b ≡ 34 → Begins b
-  opens : b ≡ 123 → Begins b
-  closes : b ≡ 125 → Begins b
-  comma : b ≡ 44 → Begins b
-  word : begins_word b ≡ true → Begins b
-  number : begins_word b ≡ false → begins_number b ≡ true → Begins b
-  nothing : b ≢ 34 → b ≢ 123 → b ≢ 125 → b ≢ 44 → begins_word b ≡ false → begins_number b ≡ false → Begins b
+data ByteBegins (b : ℕ) : Type 0 where
+  quote : b ≡ 34 → ByteBegins b
+  opens : b ≡ 123 → ByteBegins b
+  closes : b ≡ 125 → ByteBegins b
+  comma : b ≡ 44 → ByteBegins b
+  word : begins_word b ≡ true → ByteBegins b
+  number : begins_word b ≡ false → begins_number b ≡ true → ByteBegins b
+  nothing : b ≢ 34 → b ≢ 123 → b ≢ 125 → b ≢ 44 → begins_word b ≡ false → begins_number b ≡ false → ByteBegins b
 
-begins_of : (b : ℕ) → Begins b
+begins_of : (b : ℕ) → ByteBegins b
 begins_of b =
     ⊎_elim (λ is. quote is.1) (λ not_quote.
     ⊎_elim (λ is. opens is.1) (λ not_open.

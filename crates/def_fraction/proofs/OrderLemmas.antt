@@ -17,7 +17,8 @@ pub times-times : (x : ℤ) (d k : ℕ) → (x *ℤ pos d) *ℤ pos k ≡ x *ℤ
 times-times (pos n) d k = ap pos (mul_assoc n d k)
 times-times (negsuc n) d k = neg-times (suc n * d) k ∙ ap (λ m. neg_ℤ (pos m)) (mul_assoc (suc n) d k)
 
-times_turned : (x : ℤ) (d k : ℕ) → (x *ℤ pos d) *ℤ pos k ≡ (x *ℤ pos k) *ℤ pos d
+-- two factors change places
+pub times_turned : (x : ℤ) (d k : ℕ) → (x *ℤ pos d) *ℤ pos k ≡ (x *ℤ pos k) *ℤ pos d
 times_turned x d k = times-times x d k ∙ ap (λ m. x *ℤ pos m) (mul_comm d k) ∙ sym (times-times x k d)
 
 never : (x : ℤ) → x <ℤ x → ⊥

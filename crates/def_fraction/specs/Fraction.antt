@@ -14,6 +14,13 @@ pub record IsInLowestTerms (f : Fraction) : Type 0 where
   pub positive : 1 ≤ f.den
   pub coprime : gcd (unsigned_abs f.num) f.den ≡ 1
 
+-- num / den, as it is written
+abbrev pub over : ℤ → ℕ → Fraction
+over num den = record { num = num; den = den }
+
+abbrev pub negative_of : ℕ → ℤ
+negative_of n = neg_ℤ (pos n)
+
 -- a number of this size, negative or not
 abbrev pub signed : Bool → ℕ → ℤ
 signed true size = neg_ℤ (pos size)
@@ -32,6 +39,9 @@ fraction_of num den =
 
 abbrev pub whole_number : ℤ → Fraction
 whole_number n = record { num = n; den = 1 }
+
+abbrev pub zero_fraction : Fraction
+zero_fraction = whole_number (pos 0)
 
 -- 1 / n
 abbrev pub one_over : ℕ → Fraction

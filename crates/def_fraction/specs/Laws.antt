@@ -16,6 +16,7 @@ use Rattle.def_fraction.specs.Text.{int_text, fraction_text}
 abbrev pub GcdIsGreatest : Type 0
 GcdIsGreatest = (a b : ℕ) → IsGcd a b (gcd a b)
 
+-- `lcm` is a multiple of both numbers, and each common multiple is one of it
 abbrev pub LcmIsLeast : Type 0
 LcmIsLeast = (a b : ℕ) → 1 ≤ a → 1 ≤ b → IsLcm a b (lcm a b)
 
@@ -28,6 +29,7 @@ pub record ReducesExactly (num : ℤ) (den : ℕ) : Type 0 where
   pub lowest : IsInLowestTerms (fraction_of num den)
   pub exact : HasValue (fraction_of num den) num den
 
+-- `fraction_of` gives the lowest terms, and they have the value of what they were made of
 abbrev pub FractionIsReduced : Type 0
 FractionIsReduced = (num : ℤ) (den : ℕ) → 1 ≤ den → ReducesExactly num den
 
@@ -42,6 +44,7 @@ pub record OrdersValues (f g h : Fraction) : Type 0 where
   pub turned : order_of f g ≡ ordering_reverse (order_of g f)
   pub through : order_of f g ≡ Less → order_of g h ≡ Less → order_of f h ≡ Less
 
+-- `order_of` is a total order of fractions in lowest terms
 abbrev pub OrderIsTotal : Type 0
 OrderIsTotal = (f g h : Fraction) → IsInLowestTerms f → IsInLowestTerms g → IsInLowestTerms h → OrdersValues f g h
 
@@ -56,6 +59,7 @@ pub record JudgesLiteral (bytes : List ℕ) (read : Result Fraction NumberFault)
   pub range : (read ≡ Err Range) ↔ IsPastLimits bytes
   pub value : (f : Fraction) → (read ≡ Ok f) ↔ IsLiteralOf bytes f
 
+-- reading a literal gives its value exactly where it has one within the limits, and else says what is wrong
 abbrev pub LiteralIsJudged : Type 0
 LiteralIsJudged = (bytes : List ℕ) → JudgesLiteral bytes (read_as_literal bytes)
 

@@ -11,10 +11,10 @@ use Rattle.def_tree.specs.declared.Kind.TheVariants.{Chance}
 use Rattle.def_tree.specs.Rules.{is_same_kind}
 use Rattle.def_tree.proofs.Sets.{is_same_kind-true}
 use Rattle.def_fraction.specs.Divisors.{gcd}
-use Rattle.def_fraction.specs.Fraction.{Fraction, IsInLowestTerms, fits, sum_of}
+use Rattle.def_fraction.specs.Fraction.{Fraction, IsInLowestTerms, fits, sum_of, zero_fraction}
 use Rattle.def_fraction.proofs.FractionLemmas.{same_from_value}
 use Rattle.def_game_paths.specs.Paths.{Visit}
-use Rattle.def_game_scale.specs.Tables.{Tables, AreFractions, certain, nothing, probabilities}
+use Rattle.def_game_scale.specs.Tables.{Tables, AreFractions, certain, probabilities}
 use Rattle.def_game_scale.proofs.Expected.{at-or, lowest-sum}
 use Rattle.def_game_faults.specs.Faults.{GameFault, ChanceNegative, ChanceSum, Scale, passing, number_after, is_chance, is_below_zero, is_negative, is_one, sign_fault, adding_fault, sum_fault}
 use Rattle.def_game_faults.specs.First.{OpensChanceSet, SignsPass, SignsFail, sum_from, RunningSumsFit, AddUpToOne, SumsPass, SumsFail, running_past, other_total}
@@ -188,7 +188,7 @@ adding-other k start (p ∷ ps) all other =
     passed (fits (sum_of start p)) (Scale k) (adding_fault k (sum_of start p) ps) (fits_first start p ps all) ∙ adding-other k (sum_of start p) ps (fits_later start p ps all) other
 
 -- the fraction 0 is in lowest terms
-pub nothing-lowest : IsInLowestTerms nothing
+pub nothing-lowest : IsInLowestTerms zero_fraction
 unfolding gcd
 nothing-lowest = record { positive = omega arith; coprime = refl }
 
@@ -215,13 +215,13 @@ sum_from-lowest start [] low all = low
 sum_from-lowest start (p ∷ ps) low all = sum_from-lowest (sum_of start p) ps (lowest-sum start p low.positive (All-head IsInLowestTerms p ps all).positive) (All-tail IsInLowestTerms p ps all)
 
 total-lowest : (tables : Tables) (set : ℕ) → AreFractions tables
-    → IsInLowestTerms (sum_from nothing (probabilities tables set))
-total-lowest tables set h = sum_from-lowest nothing (probabilities tables set) nothing-lowest (at-or (λ row. All IsInLowestTerms row) tables.chance (set - 1) [] h.chance (All-nil IsInLowestTerms))
+    → IsInLowestTerms (sum_from zero_fraction (probabilities tables set))
+total-lowest tables set h = sum_from-lowest zero_fraction (probabilities tables set) nothing-lowest (at-or (λ row. All IsInLowestTerms row) tables.chance (set - 1) [] h.chance (All-nil IsInLowestTerms))
 
 -- what a test answers at a chance node, and elsewhere
 at_chance : (tables : Tables) (before : List Visit) (v : Visit) → v.node.kind ≡ Chance
-    → sum_fault tables before v ≡ adding_fault (number_after before) nothing (probabilities tables v.node.set)
-at_chance tables before v chance = ap (λ c. cond c (adding_fault (number_after before) nothing (probabilities tables v.node.set)) None) (kind-is_chance v chance)
+    → sum_fault tables before v ≡ adding_fault (number_after before) zero_fraction (probabilities tables v.node.set)
+at_chance tables before v chance = ap (λ c. cond c (adding_fault (number_after before) zero_fraction (probabilities tables v.node.set)) None) (kind-is_chance v chance)
 
 -- where a test that answers only at some nodes tells a fault, it is at such a node, and the answer there
 pub test_passed : (c : Bool) (o : Option GameFault) (fault : GameFault) → cond c o None ≡ Some fault
@@ -234,20 +234,20 @@ pub sum_walk : (tables : Tables) → AreFractions tables → IsWalk (sum_fault t
 sum_walk tables h = record {
   passes = λ before v e chance.
       let ps = probabilities tables v.node.set in
-      let parts = adding-none (number_after before) nothing ps refl (sym (at_chance tables before v chance) ∙ e) in
-      (parts.0, is-certain (sum_from nothing ps) (total-lowest tables v.node.set h) parts.1);
+      let parts = adding-none (number_after before) zero_fraction ps refl (sym (at_chance tables before v chance) ∙ e) in
+      (parts.0, is-certain (sum_from zero_fraction ps) (total-lowest tables v.node.set h) parts.1);
   none = λ before v pass. sums_pass tables before v (is_chance v) refl pass;
   fails = λ before v fault earlier e.
       let ps = probabilities tables v.node.set in
       let k = number_after before in
-      let there = test_passed (is_chance v) (adding_fault k nothing ps) fault e in
+      let there = test_passed (is_chance v) (adding_fault k zero_fraction ps) fault e in
       let chance = is_chance-kind v there.0 in
       let open_by : (RunningSumsFit ps × AddUpToOne ps → ⊥) → OpensChanceSet before v =
       opens (λ xs. RunningSumsFit xs × AddUpToOne xs) tables before v chance (each-all (SumsPass tables []) before earlier) in
-      elim (adding-some k nothing ps fault refl there.1) [
+      elim (adding-some k zero_fraction ps fault refl there.1) [
         | inl past ↦ running_past (open_by (λ pass. let no : true ≡ false = sym (pass.0 past.count past.some) ∙ past.past in cc)) past.count past.some past.past past.fault_is
         | inr other ↦
-            let differs : sum_from nothing ps ≢ certain = λ same. let no : true ≡ false = sym (ap is_one same) ∙ other.other in cc in
+            let differs : sum_from zero_fraction ps ≢ certain = λ same. let no : true ≡ false = sym (ap is_one same) ∙ other.other in cc in
             other_total (open_by (λ pass. differs pass.1)) other.within differs other.fault_is
       ];
   some = λ before v fault fails. sums_fail tables h before v fault fails;
@@ -257,8 +257,8 @@ sum_walk tables h = record {
         → SumsPass tables before v → sum_fault tables before v ≡ None
     sums_pass tables before v true chance pass =
         let sums = pass (is_chance-kind v chance) in
-        at_chance tables before v (is_chance-kind v chance) ∙ adding-none_by (number_after before) nothing (probabilities tables v.node.set) sums.0 (ap is_one sums.1)
-    sums_pass tables before v false other pass = ap (λ c. cond c (adding_fault (number_after before) nothing (probabilities tables v.node.set)) None) other
+        at_chance tables before v (is_chance-kind v chance) ∙ adding-none_by (number_after before) zero_fraction (probabilities tables v.node.set) sums.0 (ap is_one sums.1)
+    sums_pass tables before v false other pass = ap (λ c. cond c (adding_fault (number_after before) zero_fraction (probabilities tables v.node.set)) None) other
 
     not_one : (f : Fraction) → IsInLowestTerms f → f ≢ certain → is_one f ≡ false
     not_one f low differs = elim (is_one f) as (λ b. is_one f ≡ b → b ≡ false) [
@@ -269,8 +269,8 @@ sum_walk tables h = record {
     sums_fail : (tables : Tables) → AreFractions tables → (before : List Visit) (v : Visit) (fault : GameFault)
         → SumsFail tables before v fault → sum_fault tables before v ≡ Some fault
     sums_fail tables h before v fault (running_past opens n some past is) =
-        at_chance tables before v opens.chance ∙ adding-past (number_after before) nothing (probabilities tables v.node.set) n refl some past ∙ ap Some (sym is)
+        at_chance tables before v opens.chance ∙ adding-past (number_after before) zero_fraction (probabilities tables v.node.set) n refl some past ∙ ap Some (sym is)
     sums_fail tables h before v fault (other_total opens within differs is) =
         at_chance tables before v opens.chance
-        ∙ adding-other (number_after before) nothing (probabilities tables v.node.set) within (not_one (sum_from nothing (probabilities tables v.node.set)) (total-lowest tables v.node.set h) differs)
+        ∙ adding-other (number_after before) zero_fraction (probabilities tables v.node.set) within (not_one (sum_from zero_fraction (probabilities tables v.node.set)) (total-lowest tables v.node.set h) differs)
         ∙ ap Some (sym is)

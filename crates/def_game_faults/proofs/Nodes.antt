@@ -3,13 +3,13 @@ use Rattle.std.proofs.Common.{◌≡◌, ◌≢◌, ℕ, ◌≤◌, Bool, true, 
 use Rattle.std.specs.Prelude.{Option, ℤ, pos, negsuc, ◌*ℤ◌, unsigned_abs, nat_le, nat_lt}
 use Rattle.std.proofs.lemmas.Bool.{and_from, and_parts, eqb-true, le-leb, le-ltb, leb-false, leb-true, lt-leb, lt-ltb, ltb-false, ltb-true, not-false, not-true}
 use Rattle.std.proofs.Math.IntN.{zero-*ℤ}
-use Rattle.def_fraction.specs.Fraction.{Fraction, IsInLowestTerms, fits, most, sum_of}
+use Rattle.def_fraction.specs.Fraction.{Fraction, IsInLowestTerms, fits, most, sum_of, zero_fraction}
 use Rattle.def_fraction.proofs.FractionLemmas.{same_from_value}
-use Rattle.def_game_paths.specs.Paths.{Move, Visit}
-use Rattle.def_game_scale.specs.Tables.{Payoffs, Tables, AreFractions, nothing, path_payoff, payoffs_of, payoff_one, payoff_two, reach}
+use Rattle.def_game_paths.specs.Paths.{Move, Visit, is_leaf}
+use Rattle.def_game_scale.specs.Tables.{Payoffs, Tables, AreFractions, path_payoff, payoffs_of, payoff_one, payoff_two, reach}
 use Rattle.def_game_scale.specs.Scale.{expected, mass_so_far, unit_so_far}
 use Rattle.def_game_scale.proofs.Expected.{at-or, lowest-sum}
-use Rattle.def_game_faults.specs.Faults.{GameFault, NotZeroSum, Scale, passing, number_after, is_leaf, is_zero, leaf_fault, node_fault, mass_fault}
+use Rattle.def_game_faults.specs.Faults.{GameFault, NotZeroSum, Scale, passing, number_after, is_zero, leaf_fault, node_fault, mass_fault}
 use Rattle.def_game_faults.specs.First.{PathFits, LeafPasses, NodePasses, NodeFails, reach_past, one_past, two_past, not_zero_sum, expected_past, unit_past, MassPasses, MassFails}
 use Rattle.def_game_faults.proofs.Walks.{passing_none, passing_some, passed, not_passed, IsWalk}
 use Rattle.def_game_faults.proofs.Chance.{nothing-lowest, test_passed}
@@ -20,10 +20,10 @@ no_size (pos n) e = ap pos e
 no_size (negsuc n) e = absurd (omega arith)
 
 -- a fraction in lowest terms whose numerator is 0 is nothing
-is-nothing : (f : Fraction) → IsInLowestTerms f → is_zero f ≡ true → f ≡ nothing
+is-nothing : (f : Fraction) → IsInLowestTerms f → is_zero f ≡ true → f ≡ zero_fraction
 is-nothing f low e =
     let num : f.num ≡ pos 0 = no_size f.num (eqb-true (unsigned_abs f.num) 0 e) in
-    same_from_value f nothing low nothing-lowest (ap (λ n. n *ℤ pos 1) num ∙ zero-*ℤ (pos 1) ∙ sym (zero-*ℤ (pos f.den)))
+    same_from_value f zero_fraction low nothing-lowest (ap (λ n. n *ℤ pos 1) num ∙ zero-*ℤ (pos 1) ∙ sym (zero-*ℤ (pos f.den)))
 
 path-positive : (of : Payoffs → Fraction) (tables : Tables) (path : List Move)
     → ((o : ℕ) → 1 ≤ (of (payoffs_of tables o)).den) → 1 ≤ (path_payoff of tables path).den
@@ -32,11 +32,11 @@ path-positive of tables (step ∷ rest) h = (lowest-sum (path_payoff of tables r
 
 one-positive : (tables : Tables) → AreFractions tables → (o : ℕ) → 1 ≤ (payoffs_of tables o).one.den
 one-positive tables h zero = omega arith
-one-positive tables h (suc o) = at-or (λ (p : Payoffs). 1 ≤ p.one.den) tables.outcomes o (record { one = nothing; two = nothing }) (λ k d there. (h.outcomes k d there).0.positive) (omega arith)
+one-positive tables h (suc o) = at-or (λ (p : Payoffs). 1 ≤ p.one.den) tables.outcomes o (record { one = zero_fraction; two = zero_fraction }) (λ k d there. (h.outcomes k d there).0.positive) (omega arith)
 
 two-positive : (tables : Tables) → AreFractions tables → (o : ℕ) → 1 ≤ (payoffs_of tables o).two.den
 two-positive tables h zero = omega arith
-two-positive tables h (suc o) = at-or (λ (p : Payoffs). 1 ≤ p.two.den) tables.outcomes o (record { one = nothing; two = nothing }) (λ k d there. (h.outcomes k d there).1.positive) (omega arith)
+two-positive tables h (suc o) = at-or (λ (p : Payoffs). 1 ≤ p.two.den) tables.outcomes o (record { one = zero_fraction; two = zero_fraction }) (λ k d there. (h.outcomes k d there).1.positive) (omega arith)
 
 sum-lowest : (tables : Tables) (v : Visit) → AreFractions tables
     → IsInLowestTerms (sum_of (payoff_one tables v) (payoff_two tables v))
@@ -45,13 +45,13 @@ sum-lowest tables v h =
     (lowest-sum (path_payoff (λ p. p.one) tables v.path) (payoffs_of tables v.node.outcome).one (path-positive (λ p. p.one) tables v.path (one-positive tables h)) (one-positive tables h v.node.outcome)).positive
     (lowest-sum (path_payoff (λ p. p.two) tables v.path) (payoffs_of tables v.node.outcome).two (path-positive (λ p. p.two) tables v.path (two-positive tables h)) (two-positive tables h v.node.outcome)).positive
 
-not_zero : (f : Fraction) → IsInLowestTerms f → f ≢ nothing → is_zero f ≡ false
+not_zero : (f : Fraction) → IsInLowestTerms f → f ≢ zero_fraction → is_zero f ≡ false
 not_zero f low differs = elim (is_zero f) as (λ b. is_zero f ≡ b → b ≡ false) [
   | true ↦ λ same. absurd (differs (is-nothing f low same))
   | false ↦ λ other. refl
 ] refl
 
-not-nothing : (f : Fraction) → is_zero f ≡ false → f ≢ nothing
+not-nothing : (f : Fraction) → is_zero f ≡ false → f ≢ zero_fraction
 not-nothing f e same = let no : true ≡ false = sym (ap is_zero same) ∙ e in cc
 
 leaf_none : (tables : Tables) → AreFractions tables → (before : List Visit) (v : Visit)

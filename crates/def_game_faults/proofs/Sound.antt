@@ -5,11 +5,11 @@ use Rattle.std.proofs.lemmas.List.{append-nil, append_assoc}
 use Rattle.std.proofs.lemmas.List.Elements.{All-cons, All-head, All-nil, All-tail}
 use Rattle.def_tree.specs.Tree.{Forest}
 use Rattle.def_fraction.specs.Fraction.{most}
-use Rattle.def_game_paths.specs.Paths.{Visit, visits}
+use Rattle.def_game_paths.specs.Paths.{Visit, visits, is_leaf}
 use Rattle.def_game_scale.specs.Tables.{Tables, AreFractions}
 use Rattle.def_game_scale.specs.Scale.{game_unit, mass_so_far, unit_so_far}
 use Rattle.def_game_scale.proofs.Running.{grows}
-use Rattle.def_game_faults.specs.Faults.{game_fault, is_leaf, number_fault}
+use Rattle.def_game_faults.specs.Faults.{game_fault, number_fault}
 use Rattle.def_game_faults.specs.First.{PassNumbers, PayoffsAreZeroSum, SignsPass, SumsPass}
 use Rattle.def_game_faults.specs.Laws.{HasSoundNumbers, IsSound}
 use Rattle.def_game_faults.proofs.Walks.{each-all}
@@ -31,7 +31,9 @@ leaves-all P (v ∷ rest) h =
 within_along : (f : List Visit → ℕ)
     → ((before : List Visit) (v : Visit) → is_leaf v ≡ false → f (before ++ (v ∷ [])) ≡ f before)
     → (done rest : List Visit) → f done ≤ most →
-    ((before : List Visit) (v : Visit) (after : List Visit) → rest ≡ before ++ (v ∷ after) → is_leaf v ≡ true → f ((done ++ before) ++ (v ∷ [])) ≤ most) → f (done ++ rest) ≤ most
+    ((before : List Visit) (v : Visit) (after : List Visit) → rest ≡ before ++ (v ∷ after) → is_leaf v ≡ true
+    → f ((done ++ before) ++ (v ∷ [])) ≤ most)
+    → f (done ++ rest) ≤ most
 within_along f inner done [] start each = subst (λ d. f d ≤ most) (sym (append-nil done)) start
 within_along f inner done (v ∷ rest) start each =
     let next : f (done ++ (v ∷ [])) ≤ most = elim (is_leaf v) as (λ b. is_leaf v ≡ b → f (done ++ (v ∷ [])) ≤ most) [

@@ -41,7 +41,8 @@ pub not_passed : (b : Bool) (first : GameFault) (later : Option GameFault) (faul
 not_passed b first later fault e same = ap (λ t. passing t first later) e ∙ ap Some (sym same)
 
 pub none_at : (test : NodeTest) (done rest : List Visit) → found_by test done rest ≡ None →
-    (before : List Visit) (v : Visit) (after : List Visit) → rest ≡ before ++ (v ∷ after) → test (done ++ before) v ≡ None
+    (before : List Visit) (v : Visit) (after : List Visit) → rest ≡ before ++ (v ∷ after)
+    → test (done ++ before) v ≡ None
 none_at test done [] e [] v after p = cc
 none_at test done [] e (b ∷ before) v after p = cc
 none_at test done (w ∷ rest) e [] v after p =
@@ -56,7 +57,8 @@ none_at test done (w ∷ rest) e (b ∷ before) v after p =
     ∙ none_at test (done ++ (w ∷ [])) rest parts.1 before v after tail
 
 pub none_by : (test : NodeTest) (done rest : List Visit)
-    → ((before : List Visit) (v : Visit) (after : List Visit) → rest ≡ before ++ (v ∷ after) → test (done ++ before) v ≡ None)
+    → ((before : List Visit) (v : Visit) (after : List Visit) → rest ≡ before ++ (v ∷ after)
+    → test (done ++ before) v ≡ None)
     →
     found_by test done rest ≡ None
 none_by test done [] h = refl
@@ -67,7 +69,7 @@ none_by test done (w ∷ rest) h =
     ∙ none_by test later rest (λ before v after p. ap (λ d. test d v) (append_assoc done (w ∷ []) before) ∙ h (w ∷ before) v after (ap (λ xs. w ∷ xs) p))
 
 -- where a walk finds its fault
-pub record FoundAt (test : NodeTest) (done rest : List Visit) (fault : GameFault) : Type 0 where
+pub record FaultFoundAt (test : NodeTest) (done rest : List Visit) (fault : GameFault) : Type 0 where
   pub before : List Visit
   pub node : Visit
   pub after : List Visit
@@ -76,7 +78,7 @@ pub record FoundAt (test : NodeTest) (done rest : List Visit) (fault : GameFault
   pub is : test (done ++ before) node ≡ Some fault
 
 pub some_at : (test : NodeTest) (done rest : List Visit) (fault : GameFault) → found_by test done rest ≡ Some fault
-    → FoundAt test done rest fault
+    → FaultFoundAt test done rest fault
 some_at test done [] fault e = cc
 some_at test done (w ∷ rest) fault e =
     let further : List Visit = done ++ (w ∷ []) in
@@ -107,7 +109,8 @@ some_by test done (b ∷ before) v after fault none e =
     ∙ some_by test further before v after fault parts.1 (ap (λ d. test d v) (append_assoc done (b ∷ []) before) ∙ e)
 
 -- a walk's test says what its words say
-pub record IsWalk (test : NodeTest) (Passes : List Visit → Visit → Type 0) (Fails : List Visit → Visit → GameFault → Type 0) : Type 0 where
+pub record IsWalk (test : NodeTest) (Passes : List Visit → Visit → Type 0)
+    (Fails : List Visit → Visit → GameFault → Type 0) : Type 0 where
   pub passes : (before : List Visit) (v : Visit) → test before v ≡ None → Passes before v
   pub none : (before : List Visit) (v : Visit) → Passes before v → test before v ≡ None
   pub fails : (before : List Visit) (v : Visit) (fault : GameFault) → EachPasses Passes before

@@ -1,11 +1,11 @@
 -- Small games whose first fault is told apart from a later one by the order of the walks, or that have none.
-use Rattle.std.specs.Prelude.{ℕ, ℤ, pos, negsuc, List, [], ◌∷◌}
-use Rattle.def_tree.specs.declared.Kind.TheVariants.{Chance, One, Two, Leaf}
+use Rattle.std.specs.Prelude.{ℕ, pos, negsuc, List, [], ◌∷◌}
+use Rattle.def_tree.specs.declared.Kind.TheVariants.{Chance, One, Two}
 use Rattle.def_tree.specs.declared.Node.{Node}
 use Rattle.def_tree.specs.Tree.{Forest, forest_of}
-use Rattle.def_fraction.specs.Fraction.{Fraction, whole_number}
+use Rattle.def_tree.specs.Rules.{leaf_node, node_of_numbers}
+use Rattle.def_fraction.specs.Fraction.{Fraction, whole_number, over}
 use Rattle.def_game_scale.specs.Tables.{Payoffs, Tables}
-use Rattle.def_game_scale.specs.Rows.{fraction_over}
 
 pub record Example : Type 0 where
   pub tables : Tables
@@ -15,252 +15,250 @@ pub record Example : Type 0 where
 abbrev pub example : List (List Fraction) → List Payoffs → List Node → Example
 example chance outcomes nodes = record { tables = record { chance = chance; outcomes = outcomes }; tree = forest_of nodes }
 
-abbrev pub whole : ℤ → Fraction
-whole = whole_number
-
 abbrev pub pays : Fraction → Fraction → Payoffs
 pays one two = record { one = one; two = two }
 
 -- a set with so many actions, and the outcome of the node
 abbrev pub by_chance : ℕ → ℕ → ℕ → Node
-by_chance set children outcome = record { kind = Chance; set = set; outcome = outcome; children = children }
+by_chance set children outcome = node_of_numbers Chance set outcome children
 
 abbrev pub by_one : ℕ → ℕ → ℕ → Node
-by_one set children outcome = record { kind = One; set = set; outcome = outcome; children = children }
+by_one set children outcome = node_of_numbers One set outcome children
 
 abbrev pub by_two : ℕ → ℕ → ℕ → Node
-by_two set children outcome = record { kind = Two; set = set; outcome = outcome; children = children }
+by_two set children outcome = node_of_numbers Two set outcome children
 
-abbrev pub ends : ℕ → Node
-ends outcome = record { kind = Leaf; set = 0; outcome = outcome; children = 0 }
+-- three leaves below chance
+abbrev pub draw_of_three : List Node
+draw_of_three = by_chance 1 3 0 ∷ leaf_node 0 ∷ leaf_node 0 ∷ leaf_node 0 ∷ []
 
 -- a negative chance of the second set before a sum of the first
 abbrev pub negative_before_sum : Example
 negative_before_sum = example
-    ((fraction_over (pos 1) 2 ∷ fraction_over (pos 1) 3 ∷ []) ∷ (fraction_over (negsuc 0) 2 ∷ fraction_over (pos 3) 2 ∷ []) ∷ [])
+    ((over (pos 1) 2 ∷ over (pos 1) 3 ∷ []) ∷ (over (negsuc 0) 2 ∷ over (pos 3) 2 ∷ []) ∷ [])
     []
-    (by_chance 1 2 0 ∷ by_chance 2 2 0 ∷ ends 0 ∷ ends 0 ∷ ends 0 ∷ [])
+    (by_chance 1 2 0 ∷ by_chance 2 2 0 ∷ leaf_node 0 ∷ leaf_node 0 ∷ leaf_node 0 ∷ [])
 
 -- a running sum past the limit before the sum of the same set
 abbrev pub running_sum_in_one_set : Example
 running_sum_in_one_set = example
-    ((fraction_over (pos 1) 4611686018427387904 ∷ fraction_over (pos 1) 4611686018427387903 ∷ fraction_over (pos 1) 2 ∷ []) ∷ [])
+    ((over (pos 1) 4611686018427387904 ∷ over (pos 1) 4611686018427387903 ∷ over (pos 1) 2 ∷ []) ∷ [])
     []
-    (by_chance 1 3 0 ∷ ends 0 ∷ ends 0 ∷ ends 0 ∷ [])
+    draw_of_three
 
 -- a running sum past the limit in the second set after a wrong sum in the first
 abbrev pub sum_before_later_running_sum : Example
 sum_before_later_running_sum = example
-    ((fraction_over (pos 1) 2 ∷ fraction_over (pos 1) 3 ∷ []) ∷ (fraction_over (pos 1) 4611686018427387904 ∷ fraction_over (pos 1) 4611686018427387903 ∷ []) ∷ [])
+    ((over (pos 1) 2 ∷ over (pos 1) 3 ∷ []) ∷ (over (pos 1) 4611686018427387904 ∷ over (pos 1) 4611686018427387903 ∷ []) ∷ [])
     []
-    (by_chance 1 2 0 ∷ by_chance 2 2 0 ∷ ends 0 ∷ ends 0 ∷ ends 0 ∷ [])
+    (by_chance 1 2 0 ∷ by_chance 2 2 0 ∷ leaf_node 0 ∷ leaf_node 0 ∷ leaf_node 0 ∷ [])
 
 -- a wrong sum in the second set after a running sum past the limit in the first
 abbrev pub running_sum_before_later_sum : Example
 running_sum_before_later_sum = example
-    ((fraction_over (pos 1) 4611686018427387904 ∷ fraction_over (pos 1) 4611686018427387903 ∷ []) ∷ (fraction_over (pos 1) 2 ∷ fraction_over (pos 1) 3 ∷ []) ∷ [])
+    ((over (pos 1) 4611686018427387904 ∷ over (pos 1) 4611686018427387903 ∷ []) ∷ (over (pos 1) 2 ∷ over (pos 1) 3 ∷ []) ∷ [])
     []
-    (by_chance 1 2 0 ∷ by_chance 2 2 0 ∷ ends 0 ∷ ends 0 ∷ ends 0 ∷ [])
+    (by_chance 1 2 0 ∷ by_chance 2 2 0 ∷ leaf_node 0 ∷ leaf_node 0 ∷ leaf_node 0 ∷ [])
 
 -- a wrong sum before a leaf that isn't zero-sum
 abbrev pub sum_before_leaf : Example
 sum_before_leaf = example
-    ((fraction_over (pos 1) 2 ∷ fraction_over (pos 1) 3 ∷ []) ∷ [])
-    (pays (whole (pos 1)) (whole (pos 1)) ∷ [])
-    (by_chance 1 2 0 ∷ ends 1 ∷ ends 0 ∷ [])
+    ((over (pos 1) 2 ∷ over (pos 1) 3 ∷ []) ∷ [])
+    (pays (whole_number (pos 1)) (whole_number (pos 1)) ∷ [])
+    (by_chance 1 2 0 ∷ leaf_node 1 ∷ leaf_node 0 ∷ [])
 
 -- a sum of 1 whose running sums pass 1
 abbrev pub thirds_of_one : Example
 thirds_of_one = example
-    ((fraction_over (pos 2) 3 ∷ fraction_over (pos 1) 3 ∷ whole (pos 0) ∷ []) ∷ [])
+    ((over (pos 2) 3 ∷ over (pos 1) 3 ∷ whole_number (pos 0) ∷ []) ∷ [])
     []
-    (by_chance 1 3 0 ∷ ends 0 ∷ ends 0 ∷ ends 0 ∷ [])
+    draw_of_three
 
 -- a biased coin
 abbrev pub biased_coin : Example
 biased_coin = example
-    ((fraction_over (pos 1) 3 ∷ fraction_over (pos 2) 3 ∷ []) ∷ [])
-    (pays (whole (pos 1)) (whole (negsuc 0)) ∷ pays (whole (pos 3)) (whole (negsuc 2)) ∷ [])
-    (by_chance 1 2 0 ∷ ends 1 ∷ ends 2 ∷ [])
+    ((over (pos 1) 3 ∷ over (pos 2) 3 ∷ []) ∷ [])
+    (pays (whole_number (pos 1)) (whole_number (negsuc 0)) ∷ pays (whole_number (pos 3)) (whole_number (negsuc 2)) ∷ [])
+    (by_chance 1 2 0 ∷ leaf_node 1 ∷ leaf_node 2 ∷ [])
 
 -- a reach past the limit at an inner node
 abbrev pub rare_deals : Example
 rare_deals = example
-    ((fraction_over (pos 1) 1099511627776 ∷ fraction_over (pos 1099511627775) 1099511627776 ∷ []) ∷ (fraction_over (pos 1) 1099511627776 ∷ fraction_over (pos 1099511627775) 1099511627776 ∷ []) ∷ [])
-    (pays (whole (pos 1)) (whole (pos 1)) ∷ [])
-    (by_chance 1 2 0 ∷ by_chance 2 2 0 ∷ by_one 1 1 0 ∷ ends 1 ∷ ends 0 ∷ ends 0 ∷ [])
+    ((over (pos 1) 1099511627776 ∷ over (pos 1099511627775) 1099511627776 ∷ []) ∷ (over (pos 1) 1099511627776 ∷ over (pos 1099511627775) 1099511627776 ∷ []) ∷ [])
+    (pays (whole_number (pos 1)) (whole_number (pos 1)) ∷ [])
+    (by_chance 1 2 0 ∷ by_chance 2 2 0 ∷ by_one 1 1 0 ∷ leaf_node 1 ∷ leaf_node 0 ∷ leaf_node 0 ∷ [])
 
 -- player one's path payoff past the limit at an inner node
 abbrev pub gain_past_limit : Example
 gain_past_limit = example
     []
-    (pays (whole (pos 4611686018427387904)) (whole (negsuc 4611686018427387903)) ∷ pays (whole (pos 1)) (whole (negsuc 0)) ∷ pays (whole (negsuc 0)) (whole (pos 1)) ∷ [])
-    (by_one 1 1 1 ∷ by_two 1 1 2 ∷ ends 3 ∷ [])
+    (pays (whole_number (pos 4611686018427387904)) (whole_number (negsuc 4611686018427387903)) ∷ pays (whole_number (pos 1)) (whole_number (negsuc 0)) ∷ pays (whole_number (negsuc 0)) (whole_number (pos 1)) ∷ [])
+    (by_one 1 1 1 ∷ by_two 1 1 2 ∷ leaf_node 3 ∷ [])
 
 -- player two's path payoff past the limit at an inner node
 abbrev pub loss_past_limit : Example
 loss_past_limit = example
     []
-    (pays (whole (pos 0)) (whole (pos 4611686018427387904)) ∷ pays (whole (pos 0)) (whole (pos 1)) ∷ pays (whole (pos 1)) (whole (pos 1)) ∷ [])
-    (by_one 1 1 1 ∷ by_two 1 1 2 ∷ ends 3 ∷ [])
+    (pays (whole_number (pos 0)) (whole_number (pos 4611686018427387904)) ∷ pays (whole_number (pos 0)) (whole_number (pos 1)) ∷ pays (whole_number (pos 1)) (whole_number (pos 1)) ∷ [])
+    (by_one 1 1 1 ∷ by_two 1 1 2 ∷ leaf_node 3 ∷ [])
 
 -- player one's path payoff before player two's
 abbrev pub gain_and_loss_past_limit : Example
 gain_and_loss_past_limit = example
     []
-    (pays (whole (pos 4611686018427387904)) (whole (negsuc 4611686018427387903)) ∷ pays (whole (pos 1)) (whole (negsuc 0)) ∷ [])
-    (by_one 1 1 1 ∷ ends 2 ∷ [])
+    (pays (whole_number (pos 4611686018427387904)) (whole_number (negsuc 4611686018427387903)) ∷ pays (whole_number (pos 1)) (whole_number (negsuc 0)) ∷ [])
+    (by_one 1 1 1 ∷ leaf_node 2 ∷ [])
 
 -- a path payoff past the limit at a leaf that isn't zero-sum
 abbrev pub gain_past_limit_at_leaf : Example
 gain_past_limit_at_leaf = example
     []
-    (pays (whole (pos 4611686018427387904)) (whole (negsuc 4611686018427387903)) ∷ pays (whole (pos 1)) (whole (pos 0)) ∷ [])
-    (by_one 1 1 1 ∷ ends 2 ∷ [])
+    (pays (whole_number (pos 4611686018427387904)) (whole_number (negsuc 4611686018427387903)) ∷ pays (whole_number (pos 1)) (whole_number (pos 0)) ∷ [])
+    (by_one 1 1 1 ∷ leaf_node 2 ∷ [])
 
 -- not zero-sum before reach times payoff past the limit
 abbrev pub fraction_not_zero_sum : Example
 fraction_not_zero_sum = example
-    ((fraction_over (pos 1) 3 ∷ fraction_over (pos 2) 3 ∷ []) ∷ [])
-    (pays (fraction_over (pos 1) 4611686018427387904) (whole (pos 0)) ∷ [])
-    (by_chance 1 2 0 ∷ ends 1 ∷ ends 0 ∷ [])
+    ((over (pos 1) 3 ∷ over (pos 2) 3 ∷ []) ∷ [])
+    (pays (over (pos 1) 4611686018427387904) (whole_number (pos 0)) ∷ [])
+    (by_chance 1 2 0 ∷ leaf_node 1 ∷ leaf_node 0 ∷ [])
 
 -- reach times payoff past the limit
 abbrev pub fraction_past_limit : Example
 fraction_past_limit = example
-    ((fraction_over (pos 1) 3 ∷ fraction_over (pos 2) 3 ∷ []) ∷ [])
-    (pays (fraction_over (pos 1) 4611686018427387904) (fraction_over (negsuc 0) 4611686018427387904) ∷ [])
-    (by_chance 1 2 0 ∷ ends 1 ∷ ends 0 ∷ [])
+    ((over (pos 1) 3 ∷ over (pos 2) 3 ∷ []) ∷ [])
+    (pays (over (pos 1) 4611686018427387904) (over (negsuc 0) 4611686018427387904) ∷ [])
+    (by_chance 1 2 0 ∷ leaf_node 1 ∷ leaf_node 0 ∷ [])
 
 -- a running unit past the limit before a later leaf that isn't zero-sum
 abbrev pub unit_past_limit : Example
 unit_past_limit = example
     []
-    (pays (fraction_over (pos 1) 4294967296) (fraction_over (negsuc 0) 4294967296) ∷ pays (fraction_over (pos 1) 4294967295) (fraction_over (negsuc 0) 4294967295) ∷ pays (whole (pos 1)) (whole (pos 1)) ∷ [])
-    (by_one 1 3 0 ∷ ends 1 ∷ ends 2 ∷ ends 3 ∷ [])
+    (pays (over (pos 1) 4294967296) (over (negsuc 0) 4294967296) ∷ pays (over (pos 1) 4294967295) (over (negsuc 0) 4294967295) ∷ pays (whole_number (pos 1)) (whole_number (pos 1)) ∷ [])
+    (by_one 1 3 0 ∷ leaf_node 1 ∷ leaf_node 2 ∷ leaf_node 3 ∷ [])
 
 -- a later leaf that isn't zero-sum before a mass past the limit
 abbrev pub heavy_not_zero_sum : Example
 heavy_not_zero_sum = example
     []
-    (pays (whole (pos 4611686018427387904)) (whole (negsuc 4611686018427387903)) ∷ pays (whole (pos 1)) (whole (negsuc 0)) ∷ pays (whole (pos 1)) (whole (pos 1)) ∷ [])
-    (by_one 1 3 0 ∷ ends 1 ∷ ends 2 ∷ ends 3 ∷ [])
+    (pays (whole_number (pos 4611686018427387904)) (whole_number (negsuc 4611686018427387903)) ∷ pays (whole_number (pos 1)) (whole_number (negsuc 0)) ∷ pays (whole_number (pos 1)) (whole_number (pos 1)) ∷ [])
+    (by_one 1 3 0 ∷ leaf_node 1 ∷ leaf_node 2 ∷ leaf_node 3 ∷ [])
 
 -- a mass of exactly the limit
 abbrev pub mass_at_limit : Example
 mass_at_limit = example
     []
-    (pays (whole (pos 4611686018427387903)) (whole (negsuc 4611686018427387902)) ∷ pays (whole (negsuc 0)) (whole (pos 1)) ∷ [])
-    (by_one 1 2 0 ∷ ends 1 ∷ ends 2 ∷ [])
+    (pays (whole_number (pos 4611686018427387903)) (whole_number (negsuc 4611686018427387902)) ∷ pays (whole_number (negsuc 0)) (whole_number (pos 1)) ∷ [])
+    (by_one 1 2 0 ∷ leaf_node 1 ∷ leaf_node 2 ∷ [])
 
 -- a mass past the limit by one
 abbrev pub mass_by_one : Example
 mass_by_one = example
     []
-    (pays (whole (pos 4611686018427387904)) (whole (negsuc 4611686018427387903)) ∷ pays (whole (negsuc 0)) (whole (pos 1)) ∷ [])
-    (by_one 1 2 0 ∷ ends 1 ∷ ends 2 ∷ [])
+    (pays (whole_number (pos 4611686018427387904)) (whole_number (negsuc 4611686018427387903)) ∷ pays (whole_number (negsuc 0)) (whole_number (pos 1)) ∷ [])
+    (by_one 1 2 0 ∷ leaf_node 1 ∷ leaf_node 2 ∷ [])
 
 -- a mass past the limit at the first leaf, by the unit of the last
 abbrev pub mass_by_last_unit : Example
 mass_by_last_unit = example
     []
-    (pays (whole (pos 2305843009213693953)) (whole (negsuc 2305843009213693952)) ∷ pays (whole (pos 1)) (whole (negsuc 0)) ∷ pays (fraction_over (pos 1) 2) (fraction_over (negsuc 0) 2) ∷ [])
-    (by_one 1 3 0 ∷ ends 1 ∷ ends 2 ∷ ends 3 ∷ [])
+    (pays (whole_number (pos 2305843009213693953)) (whole_number (negsuc 2305843009213693952)) ∷ pays (whole_number (pos 1)) (whole_number (negsuc 0)) ∷ pays (over (pos 1) 2) (over (negsuc 0) 2) ∷ [])
+    (by_one 1 3 0 ∷ leaf_node 1 ∷ leaf_node 2 ∷ leaf_node 3 ∷ [])
 
 -- a leaf that isn't zero-sum before a lack of recall
 abbrev pub forgetful_not_zero_sum : Example
 forgetful_not_zero_sum = example
     []
-    (pays (whole (pos 1)) (whole (pos 1)) ∷ [])
-    (by_one 1 2 0 ∷ by_one 1 2 0 ∷ ends 1 ∷ ends 0 ∷ ends 0 ∷ [])
+    (pays (whole_number (pos 1)) (whole_number (pos 1)) ∷ [])
+    (by_one 1 2 0 ∷ by_one 1 2 0 ∷ leaf_node 1 ∷ leaf_node 0 ∷ leaf_node 0 ∷ [])
 
 -- a mass past the limit before a lack of recall
 abbrev pub forgetful_heavy : Example
 forgetful_heavy = example
     []
-    (pays (whole (pos 4611686018427387904)) (whole (negsuc 4611686018427387903)) ∷ pays (whole (pos 1)) (whole (negsuc 0)) ∷ [])
-    (by_one 1 2 0 ∷ by_one 1 2 0 ∷ ends 1 ∷ ends 2 ∷ ends 0 ∷ [])
+    (pays (whole_number (pos 4611686018427387904)) (whole_number (negsuc 4611686018427387903)) ∷ pays (whole_number (pos 1)) (whole_number (negsuc 0)) ∷ [])
+    (by_one 1 2 0 ∷ by_one 1 2 0 ∷ leaf_node 1 ∷ leaf_node 2 ∷ leaf_node 0 ∷ [])
 
 -- a lack of recall of player two at a set that follows two actions
 abbrev pub forgetful_two : Example
 forgetful_two = example
     []
     []
-    (by_two 1 2 0 ∷ by_two 2 1 0 ∷ ends 0 ∷ by_two 2 1 0 ∷ ends 0 ∷ [])
+    (by_two 1 2 0 ∷ by_two 2 1 0 ∷ leaf_node 0 ∷ by_two 2 1 0 ∷ leaf_node 0 ∷ [])
 
 -- a lack of recall of player one that follows equally many actions
 abbrev pub forgetful_one : Example
 forgetful_one = example
     []
     []
-    (by_one 1 2 0 ∷ by_one 2 1 0 ∷ ends 0 ∷ by_one 2 1 0 ∷ ends 0 ∷ [])
+    (by_one 1 2 0 ∷ by_one 2 1 0 ∷ leaf_node 0 ∷ by_one 2 1 0 ∷ leaf_node 0 ∷ [])
 
 -- what chance did is no lack of recall
 abbrev pub coin_before_choice : Example
 coin_before_choice = example
-    ((fraction_over (pos 1) 2 ∷ fraction_over (pos 1) 2 ∷ []) ∷ [])
+    ((over (pos 1) 2 ∷ over (pos 1) 2 ∷ []) ∷ [])
     []
-    (by_chance 1 2 0 ∷ by_one 1 2 0 ∷ ends 0 ∷ ends 0 ∷ by_one 1 2 0 ∷ ends 0 ∷ ends 0 ∷ [])
+    (by_chance 1 2 0 ∷ by_one 1 2 0 ∷ leaf_node 0 ∷ leaf_node 0 ∷ by_one 1 2 0 ∷ leaf_node 0 ∷ leaf_node 0 ∷ [])
 
 -- what the other player did is no lack of recall
 abbrev pub other_before_choice : Example
 other_before_choice = example
     []
     []
-    (by_two 1 2 0 ∷ by_one 1 2 0 ∷ ends 0 ∷ ends 0 ∷ by_one 1 2 0 ∷ ends 0 ∷ ends 0 ∷ [])
+    (by_two 1 2 0 ∷ by_one 1 2 0 ∷ leaf_node 0 ∷ leaf_node 0 ∷ by_one 1 2 0 ∷ leaf_node 0 ∷ leaf_node 0 ∷ [])
 
 -- a set met again under its own action, by chance in between
 abbrev pub absent_by_chance : Example
 absent_by_chance = example
-    ((fraction_over (pos 1) 2 ∷ fraction_over (pos 1) 2 ∷ []) ∷ [])
+    ((over (pos 1) 2 ∷ over (pos 1) 2 ∷ []) ∷ [])
     []
-    (by_one 1 2 0 ∷ by_chance 1 2 0 ∷ by_one 1 2 0 ∷ ends 0 ∷ ends 0 ∷ ends 0 ∷ ends 0 ∷ [])
+    (by_one 1 2 0 ∷ by_chance 1 2 0 ∷ by_one 1 2 0 ∷ leaf_node 0 ∷ leaf_node 0 ∷ leaf_node 0 ∷ leaf_node 0 ∷ [])
 
 -- the first node of a set decides, not the nearest
 abbrev pub first_in_set : Example
 first_in_set = example
-    ((whole (pos 1) ∷ []) ∷ [])
+    ((whole_number (pos 1) ∷ []) ∷ [])
     []
-    (by_one 1 3 0 ∷ by_one 2 1 0 ∷ ends 0 ∷ by_one 3 1 0 ∷ ends 0 ∷ by_chance 1 1 0 ∷ by_one 3 1 0 ∷ ends 0 ∷ [])
+    (by_one 1 3 0 ∷ by_one 2 1 0 ∷ leaf_node 0 ∷ by_one 3 1 0 ∷ leaf_node 0 ∷ by_chance 1 1 0 ∷ by_one 3 1 0 ∷ leaf_node 0 ∷ [])
 
 -- a negative chance of the second action
 abbrev pub negative_at_second : Example
 negative_at_second = example
-    ((fraction_over (pos 3) 2 ∷ fraction_over (negsuc 0) 2 ∷ []) ∷ [])
+    ((over (pos 3) 2 ∷ over (negsuc 0) 2 ∷ []) ∷ [])
     []
-    (by_chance 1 2 0 ∷ ends 0 ∷ ends 0 ∷ [])
+    (by_chance 1 2 0 ∷ leaf_node 0 ∷ leaf_node 0 ∷ [])
 
 -- a negative chance below a player's set of the same number
 abbrev pub negative_below_choice : Example
 negative_below_choice = example
-    ((fraction_over (negsuc 0) 2 ∷ fraction_over (pos 3) 2 ∷ []) ∷ [])
+    ((over (negsuc 0) 2 ∷ over (pos 3) 2 ∷ []) ∷ [])
     []
-    (by_one 1 2 0 ∷ by_chance 1 2 0 ∷ ends 0 ∷ ends 0 ∷ ends 0 ∷ [])
+    (by_one 1 2 0 ∷ by_chance 1 2 0 ∷ leaf_node 0 ∷ leaf_node 0 ∷ leaf_node 0 ∷ [])
 
 -- reach times payoff past the limit by its numerator, and so without the unit, before a later leaf that isn't zero-sum
 abbrev pub product_past_limit : Example
 product_past_limit = example
-    ((fraction_over (pos 3) 4 ∷ fraction_over (pos 1) 4 ∷ []) ∷ [])
-    (pays (whole (pos 4611686018427387903)) (whole (negsuc 4611686018427387902)) ∷ pays (whole (pos 1)) (whole (pos 1)) ∷ [])
-    (by_chance 1 2 0 ∷ ends 1 ∷ ends 2 ∷ [])
+    ((over (pos 3) 4 ∷ over (pos 1) 4 ∷ []) ∷ [])
+    (pays (whole_number (pos 4611686018427387903)) (whole_number (negsuc 4611686018427387902)) ∷ pays (whole_number (pos 1)) (whole_number (pos 1)) ∷ [])
+    (by_chance 1 2 0 ∷ leaf_node 1 ∷ leaf_node 2 ∷ [])
 
 -- a unit of exactly the limit
 abbrev pub unit_at_limit : Example
 unit_at_limit = example
     []
-    (pays (fraction_over (pos 1) 4611686018427387904) (fraction_over (negsuc 0) 4611686018427387904) ∷ [])
-    (by_one 1 2 0 ∷ ends 1 ∷ ends 0 ∷ [])
+    (pays (over (pos 1) 4611686018427387904) (over (negsuc 0) 4611686018427387904) ∷ [])
+    (by_one 1 2 0 ∷ leaf_node 1 ∷ leaf_node 0 ∷ [])
 
 -- payoffs that add up to 0 at the leaf, and not before it
 abbrev pub zero_sum_at_leaf : Example
 zero_sum_at_leaf = example
     []
-    (pays (whole (pos 1)) (whole (pos 1)) ∷ pays (whole (pos 0)) (whole (negsuc 1)) ∷ [])
-    (by_one 1 1 1 ∷ ends 2 ∷ [])
+    (pays (whole_number (pos 1)) (whole_number (pos 1)) ∷ pays (whole_number (pos 0)) (whole_number (negsuc 1)) ∷ [])
+    (by_one 1 1 1 ∷ leaf_node 2 ∷ [])
 
 -- probabilities that add up to more than 1
 abbrev pub sum_above_one : Example
 sum_above_one = example
-    ((fraction_over (pos 2) 3 ∷ fraction_over (pos 2) 3 ∷ []) ∷ [])
+    ((over (pos 2) 3 ∷ over (pos 2) 3 ∷ []) ∷ [])
     []
-    (by_chance 1 2 0 ∷ ends 0 ∷ ends 0 ∷ [])
+    (by_chance 1 2 0 ∷ leaf_node 0 ∷ leaf_node 0 ∷ [])

@@ -8,12 +8,12 @@
 use Rattle.std.specs.Prelude.{ℕ, ◌+◌, Bool, true, false, not, ◌&&◌, nat_eq, nat_le, nat_lt, if◌then◌else◌, List, [], ◌∷◌, ◌++◌, length, Option, Some, None, ℤ, pos, negsuc, unsigned_abs}
 use Rattle.std.specs.List.{list_any}
 use Rattle.def_tree.specs.declared.Kind.TheVariants.{Chance}
-use Rattle.def_tree.specs.Tree.{Forest, is_leaf_kind}
+use Rattle.def_tree.specs.Tree.{Forest}
 use Rattle.def_tree.specs.Rules.{is_same_kind}
-use Rattle.def_fraction.specs.Fraction.{Fraction, fits, most, sum_of}
-use Rattle.def_game_paths.specs.Paths.{Visit, visits}
+use Rattle.def_fraction.specs.Fraction.{Fraction, fits, most, sum_of, zero_fraction}
+use Rattle.def_game_paths.specs.Paths.{Visit, visits, is_leaf}
 use Rattle.def_game_paths.specs.Recall.{RecallBreak, recall_break}
-use Rattle.def_game_scale.specs.Tables.{Tables, nothing, payoff_one, payoff_two, probabilities, reach}
+use Rattle.def_game_scale.specs.Tables.{Tables, payoff_one, payoff_two, probabilities, reach}
 use Rattle.def_game_scale.specs.Scale.{expected, game_unit, mass_so_far, unit_so_far}
 
 pub data GameFault : Type 0 where
@@ -48,9 +48,6 @@ found_by test before (node ∷ rest) = or_else (test before node) (found_by test
 abbrev pub is_chance : Visit → Bool
 is_chance visit = is_same_kind Chance visit.node.kind
 
-abbrev pub is_leaf : Visit → Bool
-is_leaf visit = is_leaf_kind visit.node.kind
-
 abbrev pub is_below_zero : ℤ → Bool
 is_below_zero (pos _) = false
 is_below_zero (negsuc _) = true
@@ -77,7 +74,7 @@ adding_fault number running [] = passing (is_one running) (ChanceSum number) Non
 adding_fault number running (p ∷ rest) = passing (fits (sum_of running p)) (Scale number) (adding_fault number (sum_of running p) rest)
 
 abbrev pub sum_fault : Tables → NodeTest
-sum_fault tables before node = if is_chance node then adding_fault (number_after before) nothing (probabilities tables node.node.set) else None
+sum_fault tables before node = if is_chance node then adding_fault (number_after before) zero_fraction (probabilities tables node.node.set) else None
 
 -- at a leaf: the payoffs don't add up to 0, or what it is expected to pay passes the limit,
 -- or the unit of the leaves so far does

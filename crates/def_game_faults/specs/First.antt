@@ -6,18 +6,19 @@
 use Rattle.std.specs.Prelude.{◌≡◌, ◌≢◌, ℕ, ◌-◌, ◌<◌, ◌≤◌, true, false, pos, ◌<ℤ◌, ◌≤ℤ◌, List, [], ◌∷◌, ◌++◌, length, take, slice_index_or, All, Any}
 use Rattle.def_tree.specs.declared.Kind.TheVariants.{Chance}
 use Rattle.def_tree.specs.Tree.{Forest}
-use Rattle.def_fraction.specs.Fraction.{Fraction, fits, most, sum_of}
-use Rattle.def_game_paths.specs.Paths.{Visit, visits}
+use Rattle.def_fraction.specs.Fraction.{Fraction, fits, most, sum_of, zero_fraction}
+use Rattle.def_game_paths.specs.Paths.{Visit, visits, is_leaf}
 use Rattle.def_game_paths.specs.Recall.{IsFirstBreak}
-use Rattle.def_game_scale.specs.Tables.{Tables, certain, nothing, payoff_one, payoff_two, probabilities, reach}
+use Rattle.def_game_scale.specs.Tables.{Tables, certain, payoff_one, payoff_two, probabilities, reach}
 use Rattle.def_game_scale.specs.Scale.{expected, game_unit, mass_so_far, unit_so_far}
-use Rattle.def_game_faults.specs.Faults.{GameFault, ChanceNegative, ChanceSum, NotZeroSum, NotRecall, Scale, is_leaf, number_after}
+use Rattle.def_game_faults.specs.Faults.{GameFault, ChanceNegative, ChanceSum, NotZeroSum, NotRecall, Scale, number_after}
 
 -- each of the nodes passes, behind those before it
 abbrev pub EachPasses : (List Visit → Visit → Type 0) → List Visit → Type 0
 EachPasses Passes nodes = (before : List Visit) (node : Visit) (after : List Visit) → nodes ≡ before ++ (node ∷ after) → Passes before node
 
-pub record FailsFirst (Passes : List Visit → Visit → Type 0) (Fails : List Visit → Visit → GameFault → Type 0) (nodes : List Visit) (fault : GameFault) : Type 0 where
+pub record FailsFirst (Passes : List Visit → Visit → Type 0) (Fails : List Visit → Visit → GameFault → Type 0)
+    (nodes : List Visit) (fault : GameFault) : Type 0 where
   pub before : List Visit
   pub node : Visit
   pub after : List Visit
@@ -48,13 +49,13 @@ sum_from running (p ∷ rest) = sum_from (sum_of running p) rest
 
 -- the sum of the first n
 abbrev pub running_sum : ℕ → List Fraction → Fraction
-running_sum n fractions = sum_from nothing (take n fractions)
+running_sum n fractions = sum_from zero_fraction (take n fractions)
 
 abbrev pub RunningSumsFit : List Fraction → Type 0
 RunningSumsFit fractions = (n : ℕ) → n ≤ length fractions → fits (running_sum n fractions) ≡ true
 
 abbrev pub AddUpToOne : List Fraction → Type 0
-AddUpToOne fractions = sum_from nothing fractions ≡ certain
+AddUpToOne fractions = sum_from zero_fraction fractions ≡ certain
 
 abbrev pub SumsPass : Tables → List Visit → Visit → Type 0
 SumsPass tables before node = node.node.kind ≡ Chance → RunningSumsFit (probabilities tables node.node.set) × AddUpToOne (probabilities tables node.node.set)
@@ -64,7 +65,7 @@ pub data SumsFail (tables : Tables) (before : List Visit) (node : Visit) (fault 
       → fits (running_sum n (probabilities tables node.node.set)) ≡ false
       → fault ≡ Scale (number_after before) → SumsFail tables before node fault
   other_total : OpensChanceSet before node → RunningSumsFit (probabilities tables node.node.set)
-      → sum_from nothing (probabilities tables node.node.set) ≢ certain
+      → sum_from zero_fraction (probabilities tables node.node.set) ≢ certain
       → fault ≡ ChanceSum (number_after before) → SumsFail tables before node fault
 
 -- The third walk: reach and payoffs are within the limit at each node; at each leaf the payoffs add up to 0, and reach
@@ -76,7 +77,7 @@ pub record PathFits (tables : Tables) (node : Visit) : Type 0 where
   pub two_fits : fits (payoff_two tables node) ≡ true
 
 abbrev pub PayoffsAreZeroSum : Tables → Visit → Type 0
-PayoffsAreZeroSum tables leaf = sum_of (payoff_one tables leaf) (payoff_two tables leaf) ≡ nothing
+PayoffsAreZeroSum tables leaf = sum_of (payoff_one tables leaf) (payoff_two tables leaf) ≡ zero_fraction
 
 pub record LeafPasses (tables : Tables) (before : List Visit) (leaf : Visit) : Type 0 where
   pub zero_sum : PayoffsAreZeroSum tables leaf
@@ -97,7 +98,7 @@ pub data NodeFails (tables : Tables) (before : List Visit) (node : Visit) (fault
       → fits (payoff_two tables node) ≡ false
       → fault ≡ Scale (number_after before) → NodeFails tables before node fault
   not_zero_sum : PathFits tables node → is_leaf node ≡ true
-      → sum_of (payoff_one tables node) (payoff_two tables node) ≢ nothing
+      → sum_of (payoff_one tables node) (payoff_two tables node) ≢ zero_fraction
       → fault ≡ NotZeroSum (number_after before) → NodeFails tables before node fault
   expected_past : PathFits tables node → is_leaf node ≡ true → PayoffsAreZeroSum tables node
       → fits (expected tables node) ≡ false
@@ -111,7 +112,8 @@ pub data NodeFails (tables : Tables) (before : List Visit) (node : Visit) (fault
 abbrev pub MassPasses : Tables → ℕ → List Visit → Visit → Type 0
 MassPasses tables unit before node = is_leaf node ≡ true → mass_so_far tables unit (before ++ (node ∷ [])) ≤ most
 
-pub record MassFails (tables : Tables) (unit : ℕ) (before : List Visit) (node : Visit) (fault : GameFault) : Type 0 where
+pub record MassFails (tables : Tables) (unit : ℕ) (before : List Visit) (node : Visit)
+    (fault : GameFault) : Type 0 where
   pub leaf : is_leaf node ≡ true
   pub past : most < mass_so_far tables unit (before ++ (node ∷ []))
   pub fault_is : fault ≡ Scale (number_after before)
@@ -140,7 +142,8 @@ pub data FirstNumberFault (tables : Tables) (tree : Forest) (fault : GameFault) 
 pub record RecallFails (tree : Forest) (fault : GameFault) : Type 0 where
   pub node : ℕ
   pub earlier : ℕ
-  pub breaks : (d : Visit) → IsFirstBreak (λ k. slice_index_or (visits tree) (k - 1) d) (length (visits tree)) (record { node = node; earlier = earlier })
+  pub breaks : (d : Visit)
+      → IsFirstBreak (λ k. slice_index_or (visits tree) (k - 1) d) (length (visits tree)) (record { node = node; earlier = earlier })
   pub fault_is : fault ≡ NotRecall node earlier
 
 pub data FirstGameFault (tables : Tables) (tree : Forest) (fault : GameFault) : Type 0 where

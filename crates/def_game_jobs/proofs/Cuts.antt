@@ -1,5 +1,5 @@
 -- Cutting jobs loses no leaf, and keeps within the limit.
-use Rattle.std.proofs.Common.{◌≡◌, ℕ, zero, suc, ◌+◌, ◌≤◌, Bool, true, false, cond, List, [], ◌∷◌, ◌++◌, length, refl, ap, sym, ◌∙◌, arith, append-nil, length-append}
+use Rattle.std.proofs.Common.{◌≡◌, ℕ, zero, suc, ◌+◌, ◌≤◌, true, false, cond, List, [], ◌∷◌, ◌++◌, length, refl, ap, sym, ◌∙◌, arith, append-nil, length-append}
 use Rattle.std.specs.List.{flat_map, filter}
 use Rattle.std.specs.Prelude.{nat_le}
 use Rattle.std.proofs.lemmas.List.Elements.{filter-append}
@@ -7,20 +7,16 @@ use Rattle.std.proofs.lemmas.Grind.{flat_map-append}
 use Rattle.std.proofs.lemmas.Bool.{and_parts, leb-true}
 use Rattle.def_tree.specs.declared.Kind.{Kind}
 use Rattle.def_tree.specs.declared.Kind.TheVariants.{Chance, One, Two, Leaf}
-use Rattle.def_tree.specs.declared.Node.{Node}
-use Rattle.def_tree.specs.Tree.{Forest, bare, grown, prefix, is_leaf_kind, tree_count}
+use Rattle.def_tree.specs.Tree.{Forest, bare, grown, prefix, is_leaf_kind, tree_count, is_leaf_node}
 use Rattle.def_tree.specs.Rules.{is_same_kind}
 use Rattle.def_game_jobs.specs.Jobs.{each_tree, subtrees, is_chance_job, is_cut, count_after, cut_each, pass, passes, jobs_of, leaves_in}
-
-abbrev in_leaf : Node → Bool
-in_leaf node = is_leaf_kind node.kind
 
 -- side by side, the leaves of each tree
 leaves-each_tree : (trees : Forest) → flat_map leaves_in (each_tree trees) ≡ leaves_in trees
 leaves-each_tree bare = refl
 leaves-each_tree (grown node below beside) =
-    (λ i. filter in_leaf (node ∷ append-nil (prefix below) i) ++ leaves-each_tree beside i)
-    ∙ sym (filter-append in_leaf (node ∷ prefix below) (prefix beside))
+    (λ i. filter is_leaf_node (node ∷ append-nil (prefix below) i) ++ leaves-each_tree beside i)
+    ∙ sym (filter-append is_leaf_node (node ∷ prefix below) (prefix beside))
 
 not_leaf : (kind : Kind) → is_same_kind Chance kind ≡ true → is_leaf_kind kind ≡ false
 not_leaf Chance e = refl
@@ -60,9 +56,9 @@ leaves-subtrees : (job : Forest) → IsSingle job → is_chance_job job ≡ true
 leaves-subtrees bare h e = refl
 leaves-subtrees (grown node below beside) h e =
     leaves-each_tree below
-    ∙ ap (λ b. cond b (node ∷ filter in_leaf (prefix below)) (filter in_leaf (prefix below))) (sym (not_leaf node.kind e))
-    ∙ ap (λ xs. filter in_leaf (node ∷ xs)) (sym (append-nil (prefix below)))
-    ∙ ap (λ f. filter in_leaf (node ∷ (prefix below ++ prefix f))) (sym h)
+    ∙ ap (λ b. cond b (node ∷ filter is_leaf_node (prefix below)) (filter is_leaf_node (prefix below))) (sym (not_leaf node.kind e))
+    ∙ ap (λ xs. filter is_leaf_node (node ∷ xs)) (sym (append-nil (prefix below)))
+    ∙ ap (λ f. filter is_leaf_node (node ∷ (prefix below ++ prefix f))) (sym h)
 
 -- where a job gives way to its subtrees, there are no more jobs than the limit allows
 pub within_if_cut : (limit count : ℕ) (job : Forest) → is_cut limit count job ≡ true → count_after count job ≤ limit

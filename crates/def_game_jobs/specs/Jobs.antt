@@ -65,6 +65,7 @@ leaf_counts tree = map (λ job. leaf_count (prefix job)) (jobs_of tree)
 abbrev pub EachLeafInOneJob : Type 0
 EachLeafInOneJob = (tree : Forest) → tree_count tree ≡ 1 → flat_map leaves_in (jobs_of tree) ≡ leaves_in tree
 
+-- there are at most as many jobs as the limit
 abbrev pub JobsAreFew : Type 0
 JobsAreFew = (tree : Forest) → length (jobs_of tree) ≤ most_jobs
 

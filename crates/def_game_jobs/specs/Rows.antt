@@ -1,13 +1,10 @@
 -- The jobs of small games, and of games at the limits.
 use Rattle.std.specs.Prelude.{◌≡◌, ℕ, zero, suc, List, [], ◌∷◌, ◌++◌, map, replicate}
-use Rattle.def_tree.specs.declared.Kind.TheVariants.{Chance, One, Two, Leaf}
+use Rattle.def_tree.specs.declared.Kind.TheVariants.{Chance, One}
 use Rattle.def_tree.specs.declared.Node.{Node}
 use Rattle.def_tree.specs.Tree.{Forest, bare, grown, forest_of, prefix, leaf_count}
-use Rattle.def_tree.specs.Rules.{inner_node}
+use Rattle.def_tree.specs.Rules.{inner_node, leaf_node, matching_pennies}
 use Rattle.def_game_jobs.specs.Jobs.{jobs_within, leaf_counts, most_jobs}
-
-abbrev leaf : Node
-leaf = record { kind = Leaf; set = 0; outcome = 0; children = 0 }
 
 -- so many trees of one shape side by side, and then others
 abbrev pub repeated : ℕ → Node → Forest → Forest → Forest
@@ -16,7 +13,7 @@ repeated (suc n) node below others = grown node below (repeated n node below oth
 
 -- so many leaves, and then others
 abbrev pub leaves : ℕ → Forest → Forest
-leaves n others = repeated n leaf bare others
+leaves n others = repeated n (leaf_node 0) bare others
 
 -- so many chance nodes over so many leaves each, and then others
 abbrev pub draws : ℕ → ℕ → Forest → Forest
@@ -32,15 +29,15 @@ chain zero tree = tree
 chain (suc n) tree = drawn 1 (chain n tree)
 
 pub record LeafCountRows : Type 0 where
-  pub chance : leaf_counts (forest_of (inner_node Chance 1 2 ∷ inner_node One 1 2 ∷ leaf ∷ leaf ∷ leaf ∷ []))
+  pub chance : leaf_counts (forest_of (inner_node Chance 1 2 ∷ inner_node One 1 2 ∷ leaf_node 0 ∷ leaf_node 0 ∷ leaf_node 0 ∷ []))
       ≡ 2 ∷ 1 ∷ []
-  pub pennies : leaf_counts (forest_of (inner_node One 1 2 ∷ inner_node Two 1 2 ∷ leaf ∷ leaf ∷ inner_node Two 1 2 ∷ leaf ∷ leaf ∷ [])) ≡ 4 ∷ []
-  pub one_leaf : leaf_counts (forest_of (leaf ∷ [])) ≡ 1 ∷ []
-  pub player_over_chance : leaf_counts (forest_of (inner_node One 1 2 ∷ inner_node Chance 1 2 ∷ leaf ∷ leaf ∷ leaf ∷ [])) ≡ 3 ∷ []
+  pub pennies : leaf_counts matching_pennies ≡ 4 ∷ []
+  pub one_leaf : leaf_counts (forest_of (leaf_node 0 ∷ [])) ≡ 1 ∷ []
+  pub player_over_chance : leaf_counts (forest_of (inner_node One 1 2 ∷ inner_node Chance 1 2 ∷ leaf_node 0 ∷ leaf_node 0 ∷ leaf_node 0 ∷ [])) ≡ 3 ∷ []
   pub chance_over_chance :
-      leaf_counts (forest_of (inner_node Chance 1 3 ∷ inner_node Chance 2 2 ∷ leaf ∷ leaf ∷ leaf ∷ inner_node Chance 3 2 ∷ inner_node Chance 4 2 ∷ leaf ∷ leaf ∷ leaf ∷ []))
+      leaf_counts (forest_of (inner_node Chance 1 3 ∷ inner_node Chance 2 2 ∷ leaf_node 0 ∷ leaf_node 0 ∷ leaf_node 0 ∷ inner_node Chance 3 2 ∷ inner_node Chance 4 2 ∷ leaf_node 0 ∷ leaf_node 0 ∷ leaf_node 0 ∷ []))
       ≡ 1 ∷ 1 ∷ 1 ∷ 1 ∷ 1 ∷ 1 ∷ []
-  pub chance_under_a_player : leaf_counts (forest_of (inner_node Chance 1 2 ∷ inner_node One 1 2 ∷ inner_node Chance 2 2 ∷ leaf ∷ leaf ∷ leaf ∷ leaf ∷ [])) ≡ 3 ∷ 1 ∷ []
+  pub chance_under_a_player : leaf_counts (forest_of (inner_node Chance 1 2 ∷ inner_node One 1 2 ∷ inner_node Chance 2 2 ∷ leaf_node 0 ∷ leaf_node 0 ∷ leaf_node 0 ∷ leaf_node 0 ∷ [])) ≡ 3 ∷ 1 ∷ []
   pub last_pass : leaf_counts (chain 63 (drawn 2 (leaves 2 bare))) ≡ 1 ∷ 1 ∷ []
   pub past_the_last_pass : leaf_counts (chain 64 (drawn 2 (leaves 2 bare))) ≡ 2 ∷ []
 

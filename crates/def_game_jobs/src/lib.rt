@@ -54,7 +54,7 @@ pub fn ranges_have_their_jobs()
 
 /// Chance nodes at the top give way to their subtrees, and those below a player's node don't; 64 chance nodes one
 /// below the other are all cut, and of 65 the last isn't.
-pub fn job_rows()
+pub fn leaf_count_rows()
     ensures { LeafCountRows }
 {}
 

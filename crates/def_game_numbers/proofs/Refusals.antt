@@ -10,7 +10,7 @@ use Rattle.def_plan.specs.Payoff.{mass_of}
 use Rattle.def_sequence_form.specs.Form.{form_of}
 use Rattle.def_sequence_form.specs.Sets.{TreeSets, sets_or_break, tree_sets, unless_broken}
 use Rattle.def_sequence_form.proofs.Leaves.{form_has_the_mass}
-use Rattle.def_sequence_form.proofs.Nodes.{told_break}
+use Rattle.def_sequence_form.proofs.Nodes.{broken_by_break}
 use Rattle.def_game_numbers.specs.Numbers.{GameWeights, as_file_fault, file_fault, refused_or, tables_of, weigh, weights_of_game}
 use Rattle.def_game_numbers.specs.Laws.{IsRefusedWithTheFirst, StandsOnAnswers}
 
@@ -41,7 +41,7 @@ refused_first game =
       by_weighing = λ fault e. let found = refused numbers weights fault e in ap (λ o. as_file_fault (or_else o (of_recall recall))) found.1 ∙ ap Some (sym found.2);
       by_sets = λ answer fault e f.
           ap (λ o. as_file_fault (or_else o (of_recall recall))) (accepted numbers weights answer e).0
-          ∙ ap (λ o. as_file_fault (of_recall o)) (told_break recall (tree_sets game.tree) fault f);
+          ∙ ap (λ o. as_file_fault (of_recall o)) (broken_by_break recall (tree_sets game.tree) fault f);
       accepted = λ answer sets e f.
           ap (λ o. as_file_fault (or_else o (of_recall recall))) (accepted numbers weights answer e).0
           ∙ ap (λ o. as_file_fault (of_recall o)) (unbroken recall (tree_sets game.tree) sets f).0;

@@ -1,5 +1,5 @@
 -- What the calls answer for files of small games, and the forms of the games that have no fault.
-use Rattle.std.specs.Prelude.{◌≡◌, ℕ, ℤ, pos, negsuc, List, [], ◌∷◌, length, map, Some, None, Ok, Err}
+use Rattle.std.specs.Prelude.{◌≡◌, ℕ, pos, negsuc, List, [], ◌∷◌, length, map, Some, None, Ok, Err}
 use Rattle.def_tree.specs.Tree.{leaf_count, node_count, prefix}
 use Rattle.def_fraction.specs.Fraction.{Fraction}
 use Rattle.def_file.specs.declared.FileFault.TheVariants as faults
@@ -7,7 +7,7 @@ use Rattle.def_file.specs.Content.{GameFile, OutcomeEntry, SetEntry}
 use Rattle.def_game_scale.specs.Tables.{Payoffs}
 use Rattle.def_game_faults.specs.Examples as examples
 use Rattle.def_game_faults.specs.Examples.{Example}
-use Rattle.def_plan.specs.Form.{Leaf, sequence_count}
+use Rattle.def_plan.specs.Form.{Leaf, sequence_count, weighted}
 use Rattle.def_sequence_form.specs.Form.{form_of_game}
 use Rattle.def_sequence_form.specs.Sets.{sets_or_break}
 use Rattle.def_game_numbers.specs.Numbers.{game_file_fault, weigh}
@@ -17,8 +17,8 @@ use Rattle.def_game_numbers.specs.Numbers.{game_file_fault, weigh}
 abbrev set_with : List Fraction → SetEntry
 set_with chances = record { number = 1; name = None; actions = map (λ chance. record { name = []; chance = chance }) chances }
 
-abbrev outcome_with : Payoffs → OutcomeEntry
-outcome_with payoffs = record { number = 1; name = None; one = payoffs.one; two = payoffs.two }
+abbrev unnamed_outcome : Payoffs → OutcomeEntry
+unnamed_outcome payoffs = record { number = 1; name = None; one = payoffs.one; two = payoffs.two }
 
 abbrev pub file_of : Example → GameFile
 file_of game = record {
@@ -26,7 +26,7 @@ file_of game = record {
   tree = game.tree;
   names = [];
   sets = record { chance = map set_with game.tables.chance; one = []; two = [] };
-  outcomes = map outcome_with game.tables.outcomes;
+  outcomes = map unnamed_outcome game.tables.outcomes;
 }
 
 pub record FileRows : Type 0 where
@@ -43,11 +43,9 @@ pub record FileRows : Type 0 where
     two = record { sets = record { before = 0; actions = 2 } ∷ []; at_nodes = 0 ∷ 1 ∷ 1 ∷ 1 ∷ 2 ∷ 2 ∷ 2 ∷ [] };
   })
 
-abbrev leaf_at : ℕ → ℕ → ℤ → Leaf
-leaf_at one two weight = record { sequence_one = one; sequence_two = two; weight = weight }
-
 -- so many nodes and leaves, sets and sequences of each player, and these leaves
-pub record HasHead (game : Example) (nodes leaves sets_one sets_two sequences_one sequences_two : ℕ) (form_leaves : List Leaf) : Type 0 where
+pub record HasHead (game : Example) (nodes leaves sets_one sets_two sequences_one sequences_two : ℕ)
+    (form_leaves : List Leaf) : Type 0 where
   pub nodes_are : node_count game.tree ≡ nodes
   pub leaves_are : leaf_count (prefix game.tree) ≡ leaves
   pub sets_of_one : length (form_of_game game.tables game.tree).sets_one ≡ sets_one
@@ -57,8 +55,8 @@ pub record HasHead (game : Example) (nodes leaves sets_one sets_two sequences_on
   pub form_is : (form_of_game game.tables game.tree).leaves ≡ form_leaves
 
 pub record HeadRows : Type 0 where
-  pub thirds_of_one : HasHead examples.thirds_of_one 4 3 0 0 1 1 (leaf_at 0 0 (pos 0) ∷ leaf_at 0 0 (pos 0) ∷ leaf_at 0 0 (pos 0) ∷ [])
-  pub biased_coin : HasHead examples.biased_coin 3 2 0 0 1 1 (leaf_at 0 0 (pos 1) ∷ leaf_at 0 0 (pos 6) ∷ [])
-  pub mass_at_limit : HasHead examples.mass_at_limit 3 2 1 0 3 1 (leaf_at 1 0 (pos 4611686018427387903) ∷ leaf_at 2 0 (negsuc 0) ∷ [])
-  pub coin_before_choice : HasHead examples.coin_before_choice 7 4 1 0 3 1 (leaf_at 1 0 (pos 0) ∷ leaf_at 2 0 (pos 0) ∷ leaf_at 1 0 (pos 0) ∷ leaf_at 2 0 (pos 0) ∷ [])
-  pub other_before_choice : HasHead examples.other_before_choice 7 4 1 1 3 3 (leaf_at 1 1 (pos 0) ∷ leaf_at 2 1 (pos 0) ∷ leaf_at 1 2 (pos 0) ∷ leaf_at 2 2 (pos 0) ∷ [])
+  pub thirds_of_one : HasHead examples.thirds_of_one 4 3 0 0 1 1 (weighted 0 0 (pos 0) ∷ weighted 0 0 (pos 0) ∷ weighted 0 0 (pos 0) ∷ [])
+  pub biased_coin : HasHead examples.biased_coin 3 2 0 0 1 1 (weighted 0 0 (pos 1) ∷ weighted 0 0 (pos 6) ∷ [])
+  pub mass_at_limit : HasHead examples.mass_at_limit 3 2 1 0 3 1 (weighted 1 0 (pos 4611686018427387903) ∷ weighted 2 0 (negsuc 0) ∷ [])
+  pub coin_before_choice : HasHead examples.coin_before_choice 7 4 1 0 3 1 (weighted 1 0 (pos 0) ∷ weighted 2 0 (pos 0) ∷ weighted 1 0 (pos 0) ∷ weighted 2 0 (pos 0) ∷ [])
+  pub other_before_choice : HasHead examples.other_before_choice 7 4 1 1 3 3 (weighted 1 1 (pos 0) ∷ weighted 2 1 (pos 0) ∷ weighted 1 2 (pos 0) ∷ weighted 2 2 (pos 0) ∷ [])

@@ -16,7 +16,7 @@ use Rattle.def_game_paths.specs.Paths.{Move, Visit, visits_from, visits, Choice,
 use Rattle.def_game_paths.specs.Recall.{is_personal, past, AgreeOnPast, HasPerfectRecall}
 use Rattle.def_game_paths.specs.Sequences.{set_firsts, set_sizes, first_sequence, sequence_number, sequence_at}
 use Rattle.def_game_paths.proofs.Visits.{map-visits_from}
-use Rattle.def_game_paths.proofs.Order.{node_of, KeepFrom, KeepFrom-append, KnowsSizes, knows_new, knows_later}
+use Rattle.def_game_paths.proofs.Order.{visited_node, KeepFrom, KeepFrom-append, KnowsSizes, knows_new, knows_later}
 
 GoesThrough-append : (before more : List Visit) (path : List Move) → GoesThrough before path
     → GoesThrough (before ++ more) path
@@ -85,17 +85,17 @@ last_choice kind before (step ∷ rest) h =
 
 -- once all nodes are visited, the sizes of all sets are known
 pub knows_all : (kind : Kind) (vs : List Visit) (before : List Node) (done : List ℕ) (seen : ℕ)
-    → is_leaf_kind kind ≡ false → seen ≡ length done → KeepRules before → KeepFrom before (map node_of vs)
+    → is_leaf_kind kind ≡ false → seen ≡ length done → KeepRules before → KeepFrom before (map visited_node vs)
     → KnowsSizes kind before done →
-    KnowsSizes kind (before ++ map node_of vs) (done ++ map (λ (v : Visit). v.node.children) (set_firsts kind seen vs))
+    KnowsSizes kind (before ++ map visited_node vs) (done ++ map (λ (v : Visit). v.node.children) (set_firsts kind seen vs))
 knows_all kind [] before done seen inner many keep fits knows =
     subst (λ ns. KnowsSizes kind ns (done ++ [])) (sym (append-nil before)) (subst (KnowsSizes kind before) (sym (append-nil done)) knows)
 knows_all kind (v ∷ rest) before done seen inner many keep fits knows =
     let more : List Node = before ++ v.node ∷ [] in
     let kept : KeepRules more = KeepRules-push before v.node keep fits.0 in
-    let nodes : more ++ map node_of rest ≡ before ++ map node_of (v ∷ rest) = append_assoc before (v.node ∷ []) (map node_of rest) in
+    let nodes : more ++ map visited_node rest ≡ before ++ map visited_node (v ∷ rest) = append_assoc before (v.node ∷ []) (map visited_node rest) in
     elim (is_same_kind kind v.node.kind && nat_eq v.node.set (seen + 1)) as (λ b. is_same_kind kind v.node.kind && nat_eq v.node.set (seen + 1) ≡ b →
-    KnowsSizes kind (before ++ map node_of (v ∷ rest)) (done ++ map (λ (w : Visit). w.node.children) (cond b (v ∷ set_firsts kind (seen + 1) rest) (set_firsts kind seen rest)))) [
+    KnowsSizes kind (before ++ map visited_node (v ∷ rest)) (done ++ map (λ (w : Visit). w.node.children) (cond b (v ∷ set_firsts kind (seen + 1) rest) (set_firsts kind seen rest)))) [
       | true ↦ λ first.
           let parts = and_parts (is_same_kind kind v.node.kind) (nat_eq v.node.set (seen + 1)) first in
           let is : v.node.kind ≡ kind = is_same_kind-true kind v.node.kind parts.0 in
@@ -103,7 +103,7 @@ knows_all kind (v ∷ rest) before done seen inner many keep fits knows =
           let long : seen + 1 ≡ length (done ++ v.node.children ∷ []) = omega (arith, length-append done (v.node.children ∷ [])) in
           let later : List ℕ = map (λ (w : Visit). w.node.children) (set_firsts kind (seen + 1) rest) in
           subst (λ ns. KnowsSizes kind ns (done ++ v.node.children ∷ later)) nodes
-          (subst (KnowsSizes kind (more ++ map node_of rest)) (append_assoc done (v.node.children ∷ []) later)
+          (subst (KnowsSizes kind (more ++ map visited_node rest)) (append_assoc done (v.node.children ∷ []) later)
           (knows_all kind rest more (done ++ v.node.children ∷ []) (seen + 1) inner long kept fits.1 (knows_new kind before done v.node is (omega arith) knows)))
       | false ↦ λ other.
           let test : is_same_kind kind v.node.kind && nat_eq v.node.set (length done + 1) ≡ false = ap (λ n. is_same_kind kind v.node.kind && nat_eq v.node.set (n + 1)) (sym many) ∙ other in
@@ -113,10 +113,10 @@ knows_all kind (v ∷ rest) before done seen inner many keep fits knows =
 
 -- the set sizes of a game tree are the numbers of children of its nodes, set by set
 pub sizes_known : (tree : Forest) (kind : Kind) → IsGameTree tree → is_leaf_kind kind ≡ false
-    → KnowsSizes kind (map node_of (visits tree)) (set_sizes kind tree)
+    → KnowsSizes kind (map visited_node (visits tree)) (set_sizes kind tree)
 sizes_known tree kind game inner =
-    let nodes : map node_of (visits tree) ≡ prefix tree = map-visits_from (λ _. []) 1 tree in
-    let keep : KeepFrom [] (map node_of (visits tree)) = subst (KeepFrom []) (sym nodes) (KeepFrom-append [] (prefix tree) game.rules) in
+    let nodes : map visited_node (visits tree) ≡ prefix tree = map-visits_from (λ _. []) 1 tree in
+    let keep : KeepFrom [] (map visited_node (visits tree)) = subst (KeepFrom []) (sym nodes) (KeepFrom-append [] (prefix tree) game.rules) in
     knows_all kind (visits tree) [] [] 0 inner refl (λ k e there. absurd (omega arith)) keep (record { count = refl; each = λ x there is. absurd (nothing_in x there) })
   where
     nothing_in : (x : Node) → Contains [] x → ⊥
@@ -159,28 +159,28 @@ same_choice sizes s a t b x y same = elim (cases_lt s t) [
 ]
 
 -- a node that was visited is a node of the tree
-pub Contains-map : (xs : List Visit) (x : Visit) → Contains xs x → Contains (map node_of xs) x.node
+pub Contains-map : (xs : List Visit) (x : Visit) → Contains xs x → Contains (map visited_node xs) x.node
 Contains-map xs x there =
     let h : there.0 < length xs = there.1 in
-    (there.0, omega (arith, length-map xs node_of), get_or-map node_of xs there.0 x x.node h ∙ ap node_of there.2)
+    (there.0, omega (arith, length-map xs visited_node), get_or-map visited_node xs there.0 x x.node h ∙ ap visited_node there.2)
 
 -- the nodes before the n-th have the pasts that their sets ask for
 abbrev pub RecallsUpTo : List Visit → ℕ → Type 0
 RecallsUpTo all n = (p q : ℕ) (d : Visit) → p < q → q < n → q < length all → AgreeOnPast (get_or all p d) (get_or all q d)
 
-record IsAt (all : List Visit) (i : ℕ) (v : Visit) (place : ℕ) : Type 0 where
+record IsEarlierAt (all : List Visit) (i : ℕ) (v : Visit) (place : ℕ) : Type 0 where
   below : place < i
   there : place < length all
   is : get_or all place v ≡ v
 
-place_in : (all : List Visit) (i : ℕ) (v : Visit) → Contains (take i all) v → (place : ℕ) × IsAt all i v place
+place_in : (all : List Visit) (i : ℕ) (v : Visit) → Contains (take i all) v → (place : ℕ) × IsEarlierAt all i v place
 place_in all i v there =
     let h : there.0 < length (take i all) = there.1 in
     let long : length (take i all) ≡ min i (length all) = length-take i all in
     (there.0, record { below = omega arith; there = omega arith; is = sym (get_or-take i all there.0 v (omega arith)) ∙ there.2 })
 
-same_past : (all : List Visit) (n i j p q : ℕ) (v w : Visit) → RecallsUpTo all n → i ≤ n → j ≤ n → IsAt all i v p
-    → IsAt all j w q → is_personal v.node.kind ≡ true → v.node.kind ≡ w.node.kind → v.node.set ≡ w.node.set
+same_past : (all : List Visit) (n i j p q : ℕ) (v w : Visit) → RecallsUpTo all n → i ≤ n → j ≤ n → IsEarlierAt all i v p
+    → IsEarlierAt all j w q → is_personal v.node.kind ≡ true → v.node.kind ≡ w.node.kind → v.node.set ≡ w.node.set
     → past v ≡ past w
 same_past all n i j p q v w recall hi hj at_v at_w personal kinds sets =
     let below_v : p < i = at_v.below in
@@ -221,30 +221,31 @@ choice_known tree kind game inner i own at action last =
     record { counts = held.0; known = held.1; some = last.some; limit = omega arith }
 
 -- where recall holds so far, equal numbers tell equal choices
-pub choices_told : (tree : Forest) (kind : Kind) (n i j : ℕ) (d : Visit) → IsGameTree tree → is_personal kind ≡ true
+pub choices_from_numbers : (tree : Forest) (kind : Kind) (n i j : ℕ) (d : Visit) → IsGameTree tree
+    → is_personal kind ≡ true
     → RecallsUpTo (visits tree) n → i ≤ n → j ≤ n → i < length (visits tree) → j < length (visits tree) →
     sequence_at kind tree (get_or (visits tree) i d) ≡ sequence_at kind tree (get_or (visits tree) j d) → own_choices kind (get_or (visits tree) i d).path ≡ own_choices kind (get_or (visits tree) j d).path
-choices_told tree kind n i j d game personal recall hi hj there_i there_j same =
+choices_from_numbers tree kind n i j d game personal recall hi hj there_i there_j same =
     let all : List Visit = visits tree in
     let inner : is_leaf_kind kind ≡ false = inner_by kind personal in
     let seen : EachSeen [] all = visits_seen (λ _. []) 1 tree [] game.tree.children (λ a low high. tt) in
-    told (last_choice kind (take i all) (get_or all i d).path (seen_at [] all i d seen there_i)) (last_choice kind (take j all) (get_or all j d).path (seen_at [] all j d seen there_j))
+    shown (last_choice kind (take i all) (get_or all i d).path (seen_at [] all i d seen there_i)) (last_choice kind (take j all) (get_or all j d).path (seen_at [] all j d seen there_j))
   where
-    told : (own_choices kind (get_or (visits tree) i d).path ≡ [])
+    shown : (own_choices kind (get_or (visits tree) i d).path ≡ [])
         ⊎ ((at : Visit) × ((action : ℕ) × LastChoice kind (take i (visits tree)) (own_choices kind (get_or (visits tree) i d).path) at action))
         → (own_choices kind (get_or (visits tree) j d).path ≡ [])
         ⊎ ((at : Visit) × ((action : ℕ) × LastChoice kind (take j (visits tree)) (own_choices kind (get_or (visits tree) j d).path) at action))
         → own_choices kind (get_or (visits tree) i d).path ≡ own_choices kind (get_or (visits tree) j d).path
-    told (inl e) (inl f) = e ∙ sym f
-    told (inl e) (inr f) =
+    shown (inl e) (inl f) = e ∙ sym f
+    shown (inl e) (inr f) =
         let zero_is : sequence_at kind tree (get_or (visits tree) i d) ≡ 0 = ap (sequence_number (set_sizes kind tree)) e in
         let some : sequence_at kind tree (get_or (visits tree) j d) ≡ first_sequence (set_sizes kind tree) f.0.node.set + (f.1.0 - 1) = ap (sequence_number (set_sizes kind tree)) f.1.1.made in
         absurd (omega arith)
-    told (inr e) (inl f) =
+    shown (inr e) (inl f) =
         let zero_is : sequence_at kind tree (get_or (visits tree) j d) ≡ 0 = ap (sequence_number (set_sizes kind tree)) f in
         let some : sequence_at kind tree (get_or (visits tree) i d) ≡ first_sequence (set_sizes kind tree) e.0.node.set + (e.1.0 - 1) = ap (sequence_number (set_sizes kind tree)) e.1.1.made in
         absurd (omega arith)
-    told (inr e) (inr f) =
+    shown (inr e) (inr f) =
         let inner : is_leaf_kind kind ≡ false = inner_by kind personal in
         let number_i : sequence_at kind tree (get_or (visits tree) i d) ≡ first_sequence (set_sizes kind tree) e.0.node.set + (e.1.0 - 1) = ap (sequence_number (set_sizes kind tree)) e.1.1.made in
         let number_j : sequence_at kind tree (get_or (visits tree) j d) ≡ first_sequence (set_sizes kind tree) f.0.node.set + (f.1.0 - 1) = ap (sequence_number (set_sizes kind tree)) f.1.1.made in
@@ -260,6 +261,6 @@ choices_told tree kind n i j d game personal recall hi hj there_i there_j same =
 pub numbers_tell : (tree : Forest) → IsGameTree tree → HasPerfectRecall tree → (kind : Kind) → is_personal kind ≡ true →
     AllPairs (λ v w. (sequence_at kind tree v ≡ sequence_at kind tree w) ↔ (own_choices kind v.path ≡ own_choices kind w.path)) (visits tree)
 numbers_tell tree game recall kind personal i j d less there = (
-  choices_told tree kind (length (visits tree)) i j d game personal (λ p q e before below within. recall p q e before within) (omega arith) (omega arith) (omega arith) there,
+  choices_from_numbers tree kind (length (visits tree)) i j d game personal (λ p q e before below within. recall p q e before within) (omega arith) (omega arith) (omega arith) there,
   ap (sequence_number (set_sizes kind tree)),
 )

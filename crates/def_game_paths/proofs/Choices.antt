@@ -6,7 +6,7 @@ use Rattle.std.proofs.lemmas.List.Sums.{sum_by-cons}
 use Rattle.def_game_paths.specs.Paths.{Choice}
 use Rattle.def_game_paths.specs.Sequences.{choice_from, choice_of, sequence_number, IsChoiceOf, SequencesNameChoices}
 
--- a choice is told by its number among the sequences that end at these sets
+-- a choice is known by its number among the sequences that end at these sets
 named_from : (sizes : List ℕ) (base i : ℕ) (choice : Choice) → i < length sizes → choice.set ≡ base + i
     → 1 ≤ choice.action → choice.action ≤ get_or sizes i 0 →
     choice_from base sizes (sum (take i sizes) + (choice.action - 1)) ≡ Some choice
@@ -36,14 +36,14 @@ names_from : (sizes : List ℕ) (base n : ℕ) (choice : Choice) → choice_from
 names_from [] base n choice e = cc
 names_from (size ∷ rest) base n choice e =
     elim (nat_lt n size) as (λ b. nat_lt n size ≡ b → cond b (Some (record { set = base; action = n + 1 })) (choice_from (base + 1) rest (n - size)) ≡ Some choice → (i : ℕ) × Named (size ∷ rest) base n choice i) [
-      | true ↦ λ below told.
+      | true ↦ λ below shown.
           let set : base ≡ choice.set = cc in
           let action : n + 1 ≡ choice.action = cc in
           let small : n < size = ltb-true n size below in
           (0, record { there = omega arith; set = omega arith; some = omega arith; limit = omega arith; number = omega arith })
-      | false ↦ λ above told.
+      | false ↦ λ above shown.
           let large : size ≤ n = ltb-false n size above in
-          let found = names_from rest (base + 1) (n - size) choice told in
+          let found = names_from rest (base + 1) (n - size) choice shown in
           let there : found.0 < length rest = found.1.there in
           let set : choice.set ≡ base + 1 + found.0 = found.1.set in
           let number : sum (take found.0 rest) + (choice.action - 1) ≡ n - size = found.1.number in

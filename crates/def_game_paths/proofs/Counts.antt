@@ -13,7 +13,7 @@ use Rattle.def_tree.proofs.Sets.{is_same_kind-true}
 use Rattle.def_game_paths.specs.Paths.{Move, Visit, visits, Choice, own_choices, GoesThrough}
 use Rattle.def_game_paths.specs.Sequences.{set_firsts, set_sizes, sequence_number, IsChoiceOf, EachSequenceIsInRange, SequencesAreFew}
 use Rattle.def_game_paths.proofs.Visits.{map-visits_from}
-use Rattle.def_game_paths.proofs.Order.{node_of, joins_of}
+use Rattle.def_game_paths.proofs.Order.{visited_node, joins_of}
 use Rattle.def_game_paths.proofs.Ancestors.{parents_come_before, size_held, sizes_known}
 
 module _ (tree : Forest) (kind : Kind) (game : IsGameTree tree) (inner : is_leaf_kind kind ≡ false) where
@@ -78,10 +78,10 @@ pub firsts_have : (tree : Forest) (kind : Kind) → IsGameTree tree → is_leaf_
     → All (λ v. HasActions v.node) (set_firsts kind 0 (visits tree))
 firsts_have tree kind game inner =
     let P : Node → Type 0 = λ node. node.kind ≡ kind → HasActions node in
-    let nodes : map node_of (visits tree) ≡ prefix tree = map-visits_from (λ _. []) 1 tree in
-    let have : All P (map node_of (visits tree)) = subst (All P) (sym nodes) (nodes_have kind (prefix tree) inner game.rules) in
+    let nodes : map visited_node (visits tree) ≡ prefix tree = map-visits_from (λ _. []) 1 tree in
+    let have : All P (map visited_node (visits tree)) = subst (All P) (sym nodes) (nodes_have kind (prefix tree) inner game.rules) in
     firsts_all (λ v. HasActions v.node) kind 0 (visits tree)
-    (λ i e within. subst P (get_or-map node_of (visits tree) i e e.node within) (have i e.node (omega (arith, length-map (visits tree) node_of))))
+    (λ i e within. subst P (get_or-map visited_node (visits tree) i e e.node within) (have i e.node (omega (arith, length-map (visits tree) visited_node))))
 
 abbrev size_of : Visit → ℕ
 size_of v = v.node.children
@@ -106,12 +106,12 @@ children_all (grown node below beside) has =
     )
 
 firsts_sum : (kind : Kind) (seen : ℕ) (vs : List Visit)
-    → sum (map size_of (set_firsts kind seen vs)) ≤ sum (map children_of (map node_of vs))
+    → sum (map size_of (set_firsts kind seen vs)) ≤ sum (map children_of (map visited_node vs))
 firsts_sum kind seen [] = omega arith
 firsts_sum kind seen (v ∷ rest) =
-    let whole : sum (map children_of (map node_of (v ∷ rest))) ≡ v.node.children + sum (map children_of (map node_of rest)) = sum_by-cons (λ n. n) v.node.children (map children_of (map node_of rest)) in
+    let whole : sum (map children_of (map visited_node (v ∷ rest))) ≡ v.node.children + sum (map children_of (map visited_node rest)) = sum_by-cons (λ n. n) v.node.children (map children_of (map visited_node rest)) in
     elim (is_same_kind kind v.node.kind && nat_eq v.node.set (seen + 1)) as (λ b.
-    sum (map size_of (cond b (v ∷ set_firsts kind (seen + 1) rest) (set_firsts kind seen rest))) ≤ sum (map children_of (map node_of (v ∷ rest)))) [
+    sum (map size_of (cond b (v ∷ set_firsts kind (seen + 1) rest) (set_firsts kind seen rest))) ≤ sum (map children_of (map visited_node (v ∷ rest)))) [
       | true ↦ omega (arith, firsts_sum kind (seen + 1) rest, sum_by-cons (λ n. n) v.node.children (map size_of (set_firsts kind (seen + 1) rest)))
       | false ↦ omega (arith, firsts_sum kind seen rest)
     ]
@@ -128,8 +128,8 @@ firsts_length kind seen (v ∷ rest) =
 pub sequences_are_few : SequencesAreFew
 sequences_are_few tree game kind inner =
     let firsts : List Visit = set_firsts kind 0 (visits tree) in
-    let nodes : map node_of (visits tree) ≡ prefix tree = map-visits_from (λ _. []) 1 tree in
-    let many : length (visits tree) ≡ length (prefix tree) = sym (length-map (visits tree) node_of) ∙ ap length nodes in
+    let nodes : map visited_node (visits tree) ≡ prefix tree = map-visits_from (λ _. []) 1 tree in
+    let many : length (visits tree) ≡ length (prefix tree) = sym (length-map (visits tree) visited_node) ∙ ap length nodes in
     let one : tree_count tree ≡ 1 = game.tree.one in
     let below : sum (map size_of firsts) ≤ sum (map children_of (prefix tree)) = subst (λ ns. sum (map size_of firsts) ≤ sum (map children_of ns)) nodes (firsts_sum kind 0 (visits tree)) in
     record {

@@ -12,7 +12,7 @@ use Rattle.def_game_paths.specs.Paths.{Visit, visits}
 use Rattle.def_game_paths.specs.Recall.{is_same_set, first_of_set}
 use Rattle.def_game_paths.specs.Sequences.{set_firsts, set_sizes, FirstsAreFirst}
 use Rattle.def_game_paths.proofs.Visits.{map-visits_from}
-use Rattle.def_game_paths.proofs.Order.{node_of, joins_of, nat_cases, KeepFrom, KeepFrom-append, KnowsSizes, knows_new, knows_later}
+use Rattle.def_game_paths.proofs.Order.{visited_node, joins_of, nat_cases, KeepFrom, KeepFrom-append, KnowsSizes, knows_new, knows_later}
 use Rattle.def_game_paths.proofs.Breaks.{is_same_set_by}
 use Rattle.def_game_paths.proofs.Ancestors.{sizes_known}
 
@@ -67,7 +67,7 @@ skip : (k : ℕ) (v w : Visit) (rest : List Visit) (number : ℕ) → is_same_se
 skip k v w rest number other found = ap (λ b. cond b (Some (record { number = k; visit = v })) (first_of_set (k + 1) w.node rest)) other ∙ found
 
 found_at : (kind : Kind) (vs : List Visit) (before : List Node) (done : List ℕ) (seen k : ℕ) (d : Visit)
-    → is_leaf_kind kind ≡ false → seen ≡ length done → KeepRules before → KeepFrom before (map node_of vs)
+    → is_leaf_kind kind ≡ false → seen ≡ length done → KeepRules before → KeepFrom before (map visited_node vs)
     → KnowsSizes kind before done →
     (i : ℕ) → i < length (set_firsts kind seen vs) → FoundAt kind seen k vs i (get_or (set_firsts kind seen vs) i d)
 found_at kind [] before done seen k d inner many keep fits knows = λ i there. absurd (omega arith)
@@ -109,8 +109,8 @@ found_at kind (v ∷ rest) before done seen k d inner many keep fits knows =
 pub firsts_are_first : FirstsAreFirst
 firsts_are_first tree game kind inner i d there =
     let firsts : List Visit = set_firsts kind 0 (visits tree) in
-    let nodes : map node_of (visits tree) ≡ prefix tree = map-visits_from (λ _. []) 1 tree in
-    let keep : KeepFrom [] (map node_of (visits tree)) = subst (KeepFrom []) (sym nodes) (KeepFrom-append [] (prefix tree) game.rules) in
+    let nodes : map visited_node (visits tree) ≡ prefix tree = map-visits_from (λ _. []) 1 tree in
+    let keep : KeepFrom [] (map visited_node (visits tree)) = subst (KeepFrom []) (sym nodes) (KeepFrom-append [] (prefix tree) game.rules) in
     let count : length (set_sizes kind tree) ≡ set_count kind (prefix tree) = (sizes_known tree kind game inner).count ∙ ap (set_count kind) nodes in
     let long : length (set_sizes kind tree) ≡ length firsts = length-map firsts (λ v. v.node.children) in
     let knows : KnowsSizes kind [] [] = record { count = refl; each = λ x held is. absurd (nothing_in x held) } in

@@ -1,5 +1,5 @@
 pub mod Visits
-pub mod Ways
+pub mod PathsToNodes
 pub mod Breaks
 pub mod Order
 pub mod Ancestors

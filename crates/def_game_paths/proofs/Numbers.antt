@@ -12,9 +12,9 @@ use Rattle.def_game_paths.specs.Paths.{Visit, visits, Choice, own_choices}
 use Rattle.def_game_paths.specs.Recall.{AgreeOnPast, Numbered, RecallBreak, break_against, break_or, differ_in_past, first_break, first_of_set, is_personal, is_same_choices, is_same_set, past}
 use Rattle.def_game_paths.specs.Sequences.{NumbersAreKnownOnTheWay, NumbersFindTheBreak, differ_in_number, sequence_at, sequence_number, set_firsts, set_sizes, sizes_so_far}
 use Rattle.def_game_paths.proofs.Visits.{map-visits_from}
-use Rattle.def_game_paths.proofs.Order.{node_of, KeepFrom, KeepFrom-append, KnowsSizes}
+use Rattle.def_game_paths.proofs.Order.{visited_node, KeepFrom, KeepFrom-append, KnowsSizes}
 use Rattle.def_game_paths.proofs.Breaks.{HasFirst, first_found, is_same_choices_refl, is_same_set_by, no_break_some, same_choices, same_set}
-use Rattle.def_game_paths.proofs.Ancestors.{Contains-map, LastChoice, RecallsUpTo, choices_told, knows_all, last_choice, parents_come_before}
+use Rattle.def_game_paths.proofs.Ancestors.{Contains-map, LastChoice, RecallsUpTo, choices_from_numbers, knows_all, last_choice, parents_come_before}
 
 -- Numbers that are known on the way.
 pub set_firsts-append : (kind : Kind) (seen : ℕ) (xs ys : List Visit)
@@ -47,19 +47,19 @@ KeepFrom-front before (x ∷ xs) ys keep = (keep.0, KeepFrom-front (before ++ x 
 
 -- the sizes of the sets so far are known
 pub known_so_far : (tree : Forest) (kind : Kind) → IsGameTree tree → is_leaf_kind kind ≡ false → (k : ℕ)
-    → KnowsSizes kind (map node_of (take k (visits tree))) (sizes_so_far kind (take k (visits tree)))
+    → KnowsSizes kind (map visited_node (take k (visits tree))) (sizes_so_far kind (take k (visits tree)))
 known_so_far tree kind game inner k =
     let all : List Visit = visits tree in
-    let nodes : map node_of (take k all) ++ map node_of (drop k all) ≡ prefix tree = sym (map-append node_of (take k all) (drop k all)) ∙ ap (map node_of) (take-append-drop k all) ∙ map-visits_from (λ _. []) 1 tree in
-    let keep : KeepFrom [] (map node_of (take k all)) =
-    KeepFrom-front [] (map node_of (take k all)) (map node_of (drop k all)) (subst (KeepFrom []) (sym nodes) (KeepFrom-append [] (prefix tree) game.rules)) in
+    let nodes : map visited_node (take k all) ++ map visited_node (drop k all) ≡ prefix tree = sym (map-append visited_node (take k all) (drop k all)) ∙ ap (map visited_node) (take-append-drop k all) ∙ map-visits_from (λ _. []) 1 tree in
+    let keep : KeepFrom [] (map visited_node (take k all)) =
+    KeepFrom-front [] (map visited_node (take k all)) (map visited_node (drop k all)) (subst (KeepFrom []) (sym nodes) (KeepFrom-append [] (prefix tree) game.rules)) in
     knows_all kind (take k all) [] [] 0 inner refl (λ i e there. absurd (omega arith)) keep (record { count = refl; each = λ x there is. absurd (nothing_in x there) })
   where
     nothing_in : (x : Node) → Contains [] x → ⊥
     nothing_in x there = let h : there.0 < 0 = there.1 in absurd (omega arith)
 
 same_number : (kind : Kind) (before : List Visit) (done later : List ℕ) (own : List Choice)
-    → KnowsSizes kind (map node_of before) done →
+    → KnowsSizes kind (map visited_node before) done →
     (own ≡ []) ⊎ ((at : Visit) × ((action : ℕ) × LastChoice kind before own at action)) → sequence_number done own ≡ sequence_number (done ++ later) own
 same_number kind before done later own knows (inl none) = ap (sequence_number done) none ∙ sym (ap (sequence_number (done ++ later)) none)
 same_number kind before done later own knows (inr last) =
@@ -117,7 +117,7 @@ module _ (tree : Forest) (game : IsGameTree tree) where
       let past_w : past w ≡ own_choices v.node.kind w.path = ap (λ k. own_choices k w.path) kinds in
       ap not (same_test (past w) (past v) (sequence_at w.node.kind tree w) (sequence_at v.node.kind tree v)
       (λ same. number_w ∙ ap (sequence_number (set_sizes v.node.kind tree)) (sym past_w ∙ same))
-      (λ same. past_w ∙ choices_told tree v.node.kind i p i d game personal recall below (omega arith) (omega arith) there (sym number_w ∙ same)))
+      (λ same. past_w ∙ choices_from_numbers tree v.node.kind i p i d game personal recall below (omega arith) (omega arith) there (sym number_w ∙ same)))
 
   against_agree : (i : ℕ) (d : Visit) (o : Option Numbered) → i < length (visits tree) → RecallsUpTo (visits tree) i
       → HasFirst 1 (get_or (visits tree) i d).node (visits tree) d o →

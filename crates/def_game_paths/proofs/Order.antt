@@ -18,8 +18,8 @@ use Rattle.def_game_paths.specs.Paths.{Move, Visit, visits_from, visits, own_cho
 use Rattle.def_game_paths.specs.Sequences.{set_firsts, set_sizes, first_sequence, sequence_number, sequence_at, sequences_before}
 use Rattle.def_game_paths.proofs.Visits.{map-visits_from}
 
-abbrev pub node_of : Visit → Node
-node_of visit = visit.node
+abbrev pub visited_node : Visit → Node
+visited_node visit = visit.node
 
 -- the path goes through these nodes, by actions that they have
 abbrev StepIn : List Node → Move → Type 0
@@ -38,11 +38,12 @@ abbrev PathsIn : List Node → List Visit → Type 0
 PathsIn before [] = Unit {0}
 PathsIn before (v ∷ rest) = PathIn before v.path × PathsIn (before ++ v.node ∷ []) rest
 
-PathsIn-append : (before : List Node) (xs ys : List Visit) → PathsIn before xs → PathsIn (before ++ map node_of xs) ys
+PathsIn-append : (before : List Node) (xs ys : List Visit) → PathsIn before xs
+    → PathsIn (before ++ map visited_node xs) ys
     → PathsIn before (xs ++ ys)
 PathsIn-append before [] ys h k = subst (λ ns. PathsIn ns ys) (append-nil before) k
 PathsIn-append before (x ∷ xs) ys h k =
-    (h.0, PathsIn-append (before ++ x.node ∷ []) xs ys h.1 (subst (λ ns. PathsIn ns ys) (sym (append_assoc before (x.node ∷ []) (map node_of xs))) k))
+    (h.0, PathsIn-append (before ++ x.node ∷ []) xs ys h.1 (subst (λ ns. PathsIn ns ys) (sym (append_assoc before (x.node ∷ []) (map visited_node xs))) k))
 
 visits_in : (above : ℕ → List Move) (action : ℕ) (trees : Forest) (before : List Node) → HasItsChildren trees
     → ((a : ℕ) → action ≤ a → a < action + tree_count trees → PathIn before (above a))
@@ -56,8 +57,8 @@ visits_in above action (grown node below beside) before has paths =
       here,
       PathsIn-append seen (visits_from down 1 below) (visits_from above (action + 1) beside)
           (visits_in down 1 below seen has.1 (λ a low high. ((Contains-push before node, (low, omega arith)), PathIn-append before (node ∷ []) (above action) here)))
-          (visits_in above (action + 1) beside (seen ++ map node_of (visits_from down 1 below)) has.2
-          (λ a low high. PathIn-append seen (map node_of (visits_from down 1 below)) (above a) (PathIn-append before (node ∷ []) (above a) (paths a (omega arith) (omega arith))))),
+          (visits_in above (action + 1) beside (seen ++ map visited_node (visits_from down 1 below)) has.2
+          (λ a low high. PathIn-append seen (map visited_node (visits_from down 1 below)) (above a) (PathIn-append before (node ∷ []) (above a) (paths a (omega arith) (omega arith))))),
     )
 
 -- each of the later nodes keeps the rules after those before it
@@ -190,10 +191,11 @@ knows_later kind before done node inner keep fits other knows =
     apart e = cc e
 
 in_order : (kind : Kind) (vs : List Visit) (before : List Node) (done sizes : List ℕ) (seen : ℕ) (d : Visit)
-    → is_leaf_kind kind ≡ false → seen ≡ length done → KeepRules before → KeepFrom before (map node_of vs)
+    → is_leaf_kind kind ≡ false → seen ≡ length done → KeepRules before → KeepFrom before (map visited_node vs)
     → PathsIn before vs → KnowsSizes kind before done →
     sizes ≡ done ++ map (λ (v : Visit). v.node.children) (set_firsts kind seen vs) →
-    (i : ℕ) → i < length (set_firsts kind seen vs) → sequence_number sizes (own_choices kind (get_or (set_firsts kind seen vs) i d).path) < first_sequence sizes (seen + i + 1)
+    (i : ℕ) → i < length (set_firsts kind seen vs)
+    → sequence_number sizes (own_choices kind (get_or (set_firsts kind seen vs) i d).path) < first_sequence sizes (seen + i + 1)
 in_order kind [] before done sizes seen d inner many keep fits paths knows = λ all i h. absurd (omega arith)
 in_order kind (v ∷ rest) before done sizes seen d inner many keep fits paths knows =
     let more : List Node = before ++ v.node ∷ [] in
@@ -233,8 +235,8 @@ sets_in_order tree game kind inner i h =
     let d : Visit = record { path = []; node = record { kind = Leaf; set = 0; outcome = 0; children = 0 } } in
     let firsts : List Visit = set_firsts kind 0 (visits tree) in
     let long : length (sequences_before kind tree) ≡ length firsts = length-map firsts (sequence_at kind tree) in
-    let nodes : map node_of (visits tree) ≡ prefix tree = map-visits_from (λ _. []) 1 tree in
-    let keep : KeepFrom [] (map node_of (visits tree)) = subst (KeepFrom []) (sym nodes) (KeepFrom-append [] (prefix tree) game.rules) in
+    let nodes : map visited_node (visits tree) ≡ prefix tree = map-visits_from (λ _. []) 1 tree in
+    let keep : KeepFrom [] (map visited_node (visits tree)) = subst (KeepFrom []) (sym nodes) (KeepFrom-append [] (prefix tree) game.rules) in
     let paths : PathsIn [] (visits tree) = visits_in (λ _. []) 1 tree [] game.tree.children (λ a low high. tt) in
     let knows : KnowsSizes kind [] [] = record { count = refl; each = λ x there is. absurd (nothing_in x there) } in
     let below : sequence_number (set_sizes kind tree) (own_choices kind (get_or firsts i d).path) < first_sequence (set_sizes kind tree) (0 + i + 1) =

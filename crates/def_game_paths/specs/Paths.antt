@@ -2,10 +2,10 @@
 --     Move, Visit, visits t         a move on a path; a node with its path;
 --                                   the nodes in prefix order, each with its path
 --     Choice, own_choices kind p    an action at a set; a player's own choices on a path
-use Rattle.std.specs.Prelude.{◌≡◌, ℕ, ◌+◌, ◌-◌, ◌<◌, ◌≤◌, if◌then◌else◌, List, [], ◌∷◌, ◌++◌, length, map, filter, take, slice_index_or, All, Contains}
+use Rattle.std.specs.Prelude.{◌≡◌, ℕ, ◌+◌, ◌-◌, ◌<◌, ◌≤◌, Bool, if◌then◌else◌, List, [], ◌∷◌, ◌++◌, length, map, filter, take, slice_index_or, All, Contains}
 use Rattle.def_tree.specs.declared.Kind.{Kind}
 use Rattle.def_tree.specs.declared.Node.{Node}
-use Rattle.def_tree.specs.Tree.{Forest, bare, grown, prefix, is_leaf_kind, tree_count, drop_trees, IsTree}
+use Rattle.def_tree.specs.Tree.{Forest, bare, grown, prefix, tree_count, drop_trees, IsTree, is_leaf_node}
 use Rattle.def_tree.specs.Rules.{is_same_kind}
 
 -- a path goes on from this node by this action, which counts from 1
@@ -29,9 +29,12 @@ visits_from above action (grown node below beside) =
 abbrev pub visits : Forest → List Visit
 visits tree = visits_from (λ _. []) 1 tree
 
+abbrev pub is_leaf : Visit → Bool
+is_leaf visit = is_leaf_node visit.node
+
 -- the leaves in prefix order
 abbrev pub leaf_visits : Forest → List Visit
-leaf_visits tree = filter (λ visit. is_leaf_kind visit.node.kind) (visits tree)
+leaf_visits tree = filter is_leaf (visits tree)
 
 -- an action of a set, both counted from 1
 pub record Choice : Type 0 where

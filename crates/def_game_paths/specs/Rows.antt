@@ -1,30 +1,23 @@
 -- Small games, worked out.
-use Rattle.std.specs.Prelude.{◌≡◌, ℕ, [], ◌∷◌, Some, None, map}
-use Rattle.def_tree.specs.declared.Kind.TheVariants.{Chance, One, Two, Leaf}
-use Rattle.def_tree.specs.declared.Node.{Node}
+use Rattle.std.specs.Prelude.{◌≡◌, [], ◌∷◌, Some, None, map}
+use Rattle.def_tree.specs.declared.Kind.TheVariants.{Chance, One, Two}
 use Rattle.def_tree.specs.Tree.{Forest, forest_of}
-use Rattle.def_tree.specs.Rules.{inner_node}
+use Rattle.def_tree.specs.Rules.{inner_node, leaf_node, matching_pennies}
 use Rattle.def_game_paths.specs.Paths.{leaf_visits}
 use Rattle.def_game_paths.specs.Recall.{recall_break}
 use Rattle.def_game_paths.specs.Sequences.{choice_of, number_break, sequence_at, sequences_before, set_sizes}
 
-abbrev pub leaf : ℕ → Node
-leaf outcome = record { kind = Leaf; set = 0; outcome = outcome; children = 0 }
-
 -- a driver who can't tell two exits apart, so that a set holds a node and one below it
 abbrev pub absent_driver : Forest
-absent_driver = forest_of (inner_node One 1 2 ∷ leaf 0 ∷ inner_node One 1 2 ∷ leaf 1 ∷ leaf 2 ∷ [])
+absent_driver = forest_of (inner_node One 1 2 ∷ leaf_node 0 ∷ inner_node One 1 2 ∷ leaf_node 1 ∷ leaf_node 2 ∷ [])
 
 -- the same for player two, below a choice of player one
 abbrev pub absent_partner : Forest
-absent_partner = forest_of (inner_node One 1 2 ∷ inner_node Two 1 2 ∷ leaf 0 ∷ leaf 1 ∷ inner_node Two 2 2 ∷ inner_node Two 1 2 ∷ leaf 0 ∷ leaf 1 ∷ leaf 2 ∷ [])
-
-abbrev pub matching_pennies : Forest
-matching_pennies = forest_of (inner_node One 1 2 ∷ inner_node Two 1 2 ∷ leaf 1 ∷ leaf 2 ∷ inner_node Two 1 2 ∷ leaf 2 ∷ leaf 1 ∷ [])
+absent_partner = forest_of (inner_node One 1 2 ∷ inner_node Two 1 2 ∷ leaf_node 0 ∷ leaf_node 1 ∷ inner_node Two 2 2 ∷ inner_node Two 1 2 ∷ leaf_node 0 ∷ leaf_node 1 ∷ leaf_node 2 ∷ [])
 
 -- chance comes to one set after two other draws
 abbrev pub forgetful_chance : Forest
-forgetful_chance = forest_of (inner_node Chance 1 2 ∷ inner_node Chance 2 1 ∷ leaf 0 ∷ inner_node Chance 2 1 ∷ leaf 0 ∷ [])
+forgetful_chance = forest_of (inner_node Chance 1 2 ∷ inner_node Chance 2 1 ∷ leaf_node 0 ∷ inner_node Chance 2 1 ∷ leaf_node 0 ∷ [])
 
 pub record RecallRows : Type 0 where
   pub absent : recall_break absent_driver ≡ Some (record { node = 3; earlier = 1 })

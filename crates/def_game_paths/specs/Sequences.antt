@@ -5,7 +5,7 @@
 use Rattle.std.specs.Prelude.{All, AllPairs, Bool, IsSome, List, None, Option, Some, [], false, if◌then◌else◌, length, map, nat_eq, nat_lt, not, slice_index, slice_index_or, suc, sum, take, true, zero, ℕ, ◌&&◌, ◌+◌, ◌-◌, ◌<◌, ◌≤◌, ◌↔◌, ◌∷◌, ◌≡◌}
 use Rattle.def_tree.specs.declared.Kind.{Kind}
 use Rattle.def_tree.specs.Tree.{Forest, is_leaf_kind, node_count, prefix}
-use Rattle.def_tree.specs.Rules.{is_same_kind, set_count, IsGameTree}
+use Rattle.def_tree.specs.Rules.{is_same_kind, set_count, IsGameTree, most_actions}
 use Rattle.def_game_paths.specs.Recall.{HasPerfectRecall, RecallBreak, first_break, first_of_set, is_personal, recall_break}
 use Rattle.def_game_paths.specs.Paths.{Visit, visits, Choice, own_choices}
 
@@ -90,7 +90,7 @@ EachSequenceIsInRange = (tree : Forest) → IsGameTree tree → (kind : Kind) �
 -- the sets of a kind have 1 to 1,024 actions each,
 -- and a game has no more sets and no more sequences of a kind than nodes
 pub record HasFewSequences (tree : Forest) (kind : Kind) : Type 0 where
-  pub actions : All (λ size. (1 ≤ size) × (size ≤ 1024)) (set_sizes kind tree)
+  pub actions : All (λ size. (1 ≤ size) × (size ≤ most_actions)) (set_sizes kind tree)
   pub sets : length (set_sizes kind tree) ≡ set_count kind (prefix tree)
   pub few_sets : length (set_sizes kind tree) ≤ node_count tree
   pub few_sequences : 1 + sum (set_sizes kind tree) ≤ node_count tree

@@ -8,20 +8,20 @@ use Rattle.std.proofs.Math.Nat.{one-le-mul}
 use Rattle.def_tree.specs.declared.Kind.TheVariants.{Chance}
 use Rattle.def_tree.specs.Tree.{Forest}
 use Rattle.def_tree.specs.Rules.{is_same_kind}
-use Rattle.def_fraction.specs.Fraction.{Fraction, IsInLowestTerms, product_of, sum_of}
+use Rattle.def_fraction.specs.Fraction.{Fraction, IsInLowestTerms, product_of, sum_of, zero_fraction}
 use Rattle.def_fraction.proofs.FractionLemmas.{fraction_of-reduced}
 use Rattle.def_game_paths.specs.Paths.{Move, Visit, leaf_visits}
-use Rattle.def_game_scale.specs.Tables.{Payoffs, Tables, AreFractions, nothing, probability, payoffs_of, reach, path_payoff, payoff_one}
+use Rattle.def_game_scale.specs.Tables.{Payoffs, Tables, AreFractions, probability, payoffs_of, reach, path_payoff, payoff_one}
 use Rattle.def_game_scale.specs.Scale.{expected, all_expected}
 
-abbrev pub IsFraction : Fraction → Type 0
-IsFraction f = 1 ≤ f.den
+abbrev pub HasDenominator : Fraction → Type 0
+HasDenominator f = 1 ≤ f.den
 
-lowest-product : (a b : Fraction) → IsFraction a → IsFraction b → IsInLowestTerms (product_of a b)
+lowest-product : (a b : Fraction) → HasDenominator a → HasDenominator b → IsInLowestTerms (product_of a b)
 lowest-product a b ha hb = (fraction_of-reduced _ (a.den * b.den) (one-le-mul ha hb)).lowest
 
 -- the sum of two fractions is in lowest terms
-pub lowest-sum : (a b : Fraction) → IsFraction a → IsFraction b → IsInLowestTerms (sum_of a b)
+pub lowest-sum : (a b : Fraction) → HasDenominator a → HasDenominator b → IsInLowestTerms (sum_of a b)
 lowest-sum a b ha hb = (fraction_of-reduced _ (a.den * b.den) (one-le-mul ha hb)).lowest
 
 -- an element of the list, or the default
@@ -32,26 +32,26 @@ at-or P xs i d all default = elim (cases_lt i (length xs)) [
 ]
 
 probability-fraction : (tables : Tables) (set action : ℕ) → AreFractions tables
-    → IsFraction (probability tables set action)
+    → HasDenominator (probability tables set action)
 probability-fraction tables set action h =
-    at-or IsFraction (get_or tables.chance (set - 1) []) (action - 1) nothing
+    at-or HasDenominator (get_or tables.chance (set - 1) []) (action - 1) zero_fraction
     (λ k d there. (at-or (λ row. All IsInLowestTerms row) tables.chance (set - 1) [] h.chance (All-nil IsInLowestTerms) k d there).positive) (omega arith)
 
-payoff-fraction : (tables : Tables) (outcome : ℕ) → AreFractions tables → IsFraction (payoffs_of tables outcome).one
+payoff-fraction : (tables : Tables) (outcome : ℕ) → AreFractions tables → HasDenominator (payoffs_of tables outcome).one
 payoff-fraction tables zero h = omega arith
 payoff-fraction tables (suc outcome) h =
-    at-or (λ (payoffs : Payoffs). IsFraction payoffs.one) tables.outcomes outcome (record { one = nothing; two = nothing }) (λ k d there. (h.outcomes k d there).0.positive) (omega arith)
+    at-or (λ (payoffs : Payoffs). HasDenominator payoffs.one) tables.outcomes outcome (record { one = zero_fraction; two = zero_fraction }) (λ k d there. (h.outcomes k d there).0.positive) (omega arith)
 
-reach-fraction : (tables : Tables) (path : List Move) → AreFractions tables → IsFraction (reach tables path)
+reach-fraction : (tables : Tables) (path : List Move) → AreFractions tables → HasDenominator (reach tables path)
 reach-fraction tables [] h = omega arith
 reach-fraction tables (step ∷ rest) h =
-    elim (is_same_kind Chance step.node.kind) as (λ b. IsFraction (cond b (product_of (reach tables rest) (probability tables step.node.set step.action)) (reach tables rest))) [
+    elim (is_same_kind Chance step.node.kind) as (λ b. HasDenominator (cond b (product_of (reach tables rest) (probability tables step.node.set step.action)) (reach tables rest))) [
       | true ↦ (lowest-product (reach tables rest) (probability tables step.node.set step.action) (reach-fraction tables rest h) (probability-fraction tables step.node.set step.action h)).positive
       | false ↦ reach-fraction tables rest h
     ]
 
 path-fraction : (tables : Tables) (path : List Move) → AreFractions tables
-    → IsFraction (path_payoff (λ payoffs. payoffs.one) tables path)
+    → HasDenominator (path_payoff (λ payoffs. payoffs.one) tables path)
 path-fraction tables [] h = omega arith
 path-fraction tables (step ∷ rest) h =
     (lowest-sum (path_payoff (λ payoffs. payoffs.one) tables rest) (payoffs_of tables step.node.outcome).one (path-fraction tables rest h) (payoff-fraction tables step.node.outcome h)).positive

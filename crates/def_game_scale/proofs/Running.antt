@@ -6,11 +6,10 @@ use Rattle.std.proofs.lemmas.List.{append-nil, map-append}
 use Rattle.std.proofs.lemmas.List.Elements.{All-append, All-cons, All-head, All-map, All-nil, All-tail, All-weaker, filter-append}
 use Rattle.std.proofs.lemmas.List.Sums.{sum_by-append}
 use Rattle.std.proofs.lemmas.Nat.Gcd.{dvd_antisymm, dvd_trans}
-use Rattle.def_tree.specs.Tree.{is_leaf_kind}
 use Rattle.def_fraction.specs.Divisors.{lcm}
 use Rattle.def_fraction.specs.Fraction.{Fraction, IsInLowestTerms}
 use Rattle.def_fraction.proofs.DivisorLemmas.{IsLcm-lcm}
-use Rattle.def_game_paths.specs.Paths.{Visit}
+use Rattle.def_game_paths.specs.Paths.{Visit, is_leaf}
 use Rattle.def_game_scale.specs.Tables.{Tables, AreFractions}
 use Rattle.def_game_scale.specs.Scale.{expected, expected_at, unit_of, weight_of}
 use Rattle.def_game_scale.specs.Laws.{NumbersGrowBy, RunningNumbers}
@@ -40,9 +39,6 @@ unit-snoc fs f low last =
     All-behind : (P : Fraction → Type 0) (xs ys : List Fraction) → All P (xs ++ ys) → All P ys
     All-behind P [] ys h = h
     All-behind P (x ∷ xs) ys h = All-behind P xs ys (All-tail P x (xs ++ ys) h)
-
-abbrev is_leaf : Visit → Bool
-is_leaf v = is_leaf_kind v.node.kind
 
 expected_at-lowest : (tables : Tables) (vs : List Visit) → AreFractions tables
     → All IsInLowestTerms (expected_at tables vs)

@@ -56,7 +56,7 @@ pub record NumbersGrowBy (tables : Tables) (unit : ℕ) (before : List Visit) (n
   pub inner_mass : is_leaf_kind node.node.kind ≡ false
       → mass_so_far tables unit (before ++ (node ∷ [])) ≡ mass_so_far tables unit before
 
--- the running unit and the running mass: node after node from 1 and from 0 to those of the game
+-- the running unit and the running mass begin at 1 and at 0, grow with each node, and end at those of the game
 pub record RunningNumbers (tables : Tables) : Type 0 where
   pub start_unit : unit_so_far tables [] ≡ 1
   pub start_mass : (unit : ℕ) → mass_so_far tables unit [] ≡ 0
@@ -64,5 +64,6 @@ pub record RunningNumbers (tables : Tables) : Type 0 where
   pub end_unit : (tree : Forest) → unit_so_far tables (visits tree) ≡ game_unit tables tree
   pub end_mass : (tree : Forest) → mass_so_far tables (game_unit tables tree) (visits tree) ≡ game_mass tables tree
 
+-- the game's unit and mass can be computed node after node
 abbrev pub NumbersRun : Type 0
 NumbersRun = (tables : Tables) → AreFractions tables → RunningNumbers tables

@@ -1,26 +1,19 @@
 -- Units, weights and masses of small games.
-use Rattle.std.specs.Prelude.{◌≡◌, ℕ, ℤ, pos, negsuc, [], ◌∷◌, map}
-use Rattle.def_tree.specs.declared.Kind.{Kind}
+use Rattle.std.specs.Prelude.{◌≡◌, ℤ, pos, negsuc, [], ◌∷◌, map}
 use Rattle.def_tree.specs.declared.Kind.TheVariants.{Chance, One, Two, Leaf}
-use Rattle.def_tree.specs.declared.Node.{Node}
 use Rattle.def_tree.specs.Tree.{Forest, forest_of}
-use Rattle.def_fraction.specs.Fraction.{Fraction, whole_number}
+use Rattle.def_tree.specs.Rules.{node_of_numbers}
+use Rattle.def_fraction.specs.Fraction.{Fraction, whole_number, over}
 use Rattle.def_game_paths.specs.Paths.{leaf_visits}
 use Rattle.def_game_scale.specs.Tables.{Tables, payoff_one, payoff_two, reach}
 use Rattle.def_game_scale.specs.Scale.{game_mass, game_unit, weights}
 
-abbrev node : Kind → ℕ → ℕ → ℕ → Node
-node kind set outcome children = record { kind = kind; set = set; outcome = outcome; children = children }
-
 -- a choice between two tosses of one coin
 abbrev pub tosses : Forest
-tosses = forest_of (node One 1 0 2 ∷ node Chance 1 0 2 ∷ node Leaf 0 1 0 ∷ node Leaf 0 0 0 ∷ node Chance 1 0 2 ∷ node Leaf 0 0 0 ∷ node Leaf 0 2 0 ∷ [])
-
-abbrev pub fraction_over : ℤ → ℕ → Fraction
-fraction_over n d = record { num = n; den = d }
+tosses = forest_of (node_of_numbers One 1 0 2 ∷ node_of_numbers Chance 1 0 2 ∷ node_of_numbers Leaf 0 1 0 ∷ node_of_numbers Leaf 0 0 0 ∷ node_of_numbers Chance 1 0 2 ∷ node_of_numbers Leaf 0 0 0 ∷ node_of_numbers Leaf 0 2 0 ∷ [])
 
 abbrev half : ℤ → Fraction
-half n = fraction_over n 2
+half n = over n 2
 
 abbrev pub toss_tables : Tables
 toss_tables = record {
@@ -30,20 +23,20 @@ toss_tables = record {
 
 -- a choice with a payoff at once, and another at one of its leaves
 abbrev pub inner : Forest
-inner = forest_of (node One 1 1 2 ∷ node Leaf 0 2 0 ∷ node Leaf 0 0 0 ∷ [])
+inner = forest_of (node_of_numbers One 1 1 2 ∷ node_of_numbers Leaf 0 2 0 ∷ node_of_numbers Leaf 0 0 0 ∷ [])
 
 abbrev pub inner_tables : Tables
 inner_tables = record { chance = []; outcomes = record { one = half (pos 1); two = half (negsuc 0) } ∷ record { one = half (pos 1); two = half (negsuc 0) } ∷ [] }
 
 -- unequal chances, one below another, and payoffs on the way to the leaves
 abbrev pub uneven : Forest
-uneven = forest_of (node Chance 1 1 3 ∷ node Leaf 0 2 0 ∷ node Two 1 3 2 ∷ node Leaf 0 0 0 ∷ node Leaf 0 2 0 ∷ node Chance 2 3 2 ∷ node Leaf 0 0 0 ∷ node Leaf 0 0 0 ∷ [])
+uneven = forest_of (node_of_numbers Chance 1 1 3 ∷ node_of_numbers Leaf 0 2 0 ∷ node_of_numbers Two 1 3 2 ∷ node_of_numbers Leaf 0 0 0 ∷ node_of_numbers Leaf 0 2 0 ∷ node_of_numbers Chance 2 3 2 ∷ node_of_numbers Leaf 0 0 0 ∷ node_of_numbers Leaf 0 0 0 ∷ [])
 
 abbrev pub uneven_tables : Tables
 uneven_tables = record {
-  chance = (fraction_over (pos 1) 2 ∷ fraction_over (pos 1) 3 ∷ fraction_over (pos 1) 6 ∷ []) ∷ (fraction_over (pos 1) 4 ∷ fraction_over (pos 3) 4 ∷ []) ∷ [];
+  chance = (over (pos 1) 2 ∷ over (pos 1) 3 ∷ over (pos 1) 6 ∷ []) ∷ (over (pos 1) 4 ∷ over (pos 3) 4 ∷ []) ∷ [];
   outcomes =
-      record { one = half (pos 1); two = fraction_over (pos 1) 3 } ∷ record { one = whole_number (pos 2); two = whole_number (negsuc 0) }
+      record { one = half (pos 1); two = over (pos 1) 3 } ∷ record { one = whole_number (pos 2); two = whole_number (negsuc 0) }
       ∷ record { one = whole_number (negsuc 0); two = whole_number (pos 5) } ∷ [];
 }
 
@@ -56,13 +49,13 @@ pub record ScaleRows : Type 0 where
   pub inner_mass : game_mass inner_tables inner ≡ 3
   pub uneven_reaches : map (λ leaf. reach uneven_tables leaf.path)
       (leaf_visits uneven)
-      ≡ fraction_over (pos 1) 2 ∷ fraction_over (pos 1) 3 ∷ fraction_over (pos 1) 3 ∷ fraction_over (pos 1) 24 ∷ fraction_over (pos 1) 8 ∷ []
+      ≡ over (pos 1) 2 ∷ over (pos 1) 3 ∷ over (pos 1) 3 ∷ over (pos 1) 24 ∷ over (pos 1) 8 ∷ []
   pub uneven_ones : map (payoff_one uneven_tables)
       (leaf_visits uneven)
-      ≡ fraction_over (pos 5) 2 ∷ fraction_over (negsuc 0) 2 ∷ fraction_over (pos 3) 2 ∷ fraction_over (negsuc 0) 2 ∷ fraction_over (negsuc 0) 2 ∷ []
+      ≡ over (pos 5) 2 ∷ over (negsuc 0) 2 ∷ over (pos 3) 2 ∷ over (negsuc 0) 2 ∷ over (negsuc 0) 2 ∷ []
   pub uneven_twos : map (payoff_two uneven_tables)
       (leaf_visits uneven)
-      ≡ fraction_over (negsuc 1) 3 ∷ fraction_over (pos 16) 3 ∷ fraction_over (pos 13) 3 ∷ fraction_over (pos 16) 3 ∷ fraction_over (pos 16) 3 ∷ []
+      ≡ over (negsuc 1) 3 ∷ over (pos 16) 3 ∷ over (pos 13) 3 ∷ over (pos 16) 3 ∷ over (pos 16) 3 ∷ []
   pub uneven_unit : game_unit uneven_tables uneven ≡ 48
   pub uneven_weights : weights uneven_tables uneven ≡ pos 60 ∷ negsuc 7 ∷ pos 24 ∷ negsuc 0 ∷ negsuc 2 ∷ []
   pub uneven_mass : game_mass uneven_tables uneven ≡ 96

@@ -7,6 +7,7 @@ use Rattle.std.proofs.lemmas.Bool.{and_parts, eqb-true}
 use Rattle.std.proofs.lemmas.Bool.Decides.{nat_tests}
 use Rattle.def_history.specs.History.{times, job_numbers}
 use Rattle.def_history.specs.Core.{Right, times_right, rights_of}
+use Rattle.def_sums.proofs.RisingLists.{Contains-head, Contains-tail}
 
 -- 1 where a test holds, else 0
 abbrev pub one_if : Bool → ℕ
@@ -26,14 +27,6 @@ times_from_Contains job jobs (k, below, is) =
     let at = get_or-le-sum_by (λ (other : ℕ). cond (eqb other job) 1 0) jobs k job below in
     let one : one_if (eqb (get_or jobs k job) job) ≡ 1 = rw is (grind (arith, nat_tests)) in
     omega (arith, at, one)
-
--- the first element of a list is in it
-pub Contains-head : {X : Type 0} (x : X) (xs : List X) → Contains (x ∷ xs) x
-Contains-head x xs = (0, omega arith, refl)
-
--- what is in a list is still in it behind a new first element
-pub Contains-tail : {X : Type 0} (y x : X) (xs : List X) → Contains xs x → Contains (y ∷ xs) x
-Contains-tail y x xs (k, below, is) = (suc k, omega arith, is)
 
 -- a job that is counted at least once in a list is in it
 pub Contains_from_times : (job : ℕ) (jobs : List ℕ) → 1 ≤ times job jobs → Contains jobs job
@@ -86,7 +79,9 @@ pub Contains_from_times_right : (job stripe : ℕ) (rights : List Right) → 1 �
 Contains_from_times_right job stripe [] h = absurd (omega arith)
 Contains_from_times_right job stripe (head ∷ tail) h = by_head (Contains_from_times_right job stripe tail) (eqb head.job job && eqb head.stripe stripe) refl
   where
-    by_head : (1 ≤ times_right job stripe tail → Contains tail (record { job = job; stripe = stripe })) → (same : Bool) → (eqb head.job job && eqb head.stripe stripe) ≡ same → Contains (head ∷ tail) (record { job = job; stripe = stripe })
+    by_head : (1 ≤ times_right job stripe tail → Contains tail (record { job = job; stripe = stripe })) → (same : Bool)
+        → (eqb head.job job && eqb head.stripe stripe) ≡ same
+        → Contains (head ∷ tail) (record { job = job; stripe = stripe })
     by_head later true e = subst (λ x. Contains (head ∷ tail) x) (right_is head job stripe e) (Contains-head head tail)
     by_head later false e =
         let none : one_if (eqb head.job job && eqb head.stripe stripe) ≡ 0 = rw e refl in

@@ -12,7 +12,7 @@ use Rattle.def_history.specs.History.{times, job_numbers, IsLegal, IsComplete, s
 use Rattle.def_history.specs.Core.{State, IsReached, history_of, stripe_count}
 use Rattle.def_history.specs.Laws.{HistoriesAreLegal, BagIsLegal, IsAtEnd, HistoriesEndComplete, CompleteHistoriesReplayToPlainSums, RowsEndAsPlainSums, EachRowHasOnePlace}
 use Rattle.def_history.proofs.Counts.{one_if, times-cons, times-self, times-job_numbers, times_from_Contains, Contains_from_times}
-use Rattle.def_history.proofs.Steps.{IsBalanced, reached_balanced, end_holds_none}
+use Rattle.def_history.proofs.StepsKeepBalance.{IsBalanced, reached_balanced, end_holds_none}
 
 -- ---- legal
 legal_at : (jobs : ℕ) (state : State) → IsBalanced jobs state → (stripe : ℕ) → stripe < stripe_count state

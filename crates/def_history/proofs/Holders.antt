@@ -9,7 +9,7 @@ use Rattle.def_history.specs.History.{times}
 use Rattle.def_history.specs.Core.{State, Right, Holder, the_bag, the_pass, Holds, IsGivenUp, times_right, times_held, rights_held, history_of, stripe_count}
 use Rattle.def_history.specs.Laws.{EachRightCountsOnce, EachRightHasOneHolder, ARightIsGivenUpByAdding, PassesHoldRightsOfJobsAndStripes}
 use Rattle.def_history.proofs.Counts.{one_if, times_from_Contains, Contains_from_times, times_right_from_Contains, Contains_from_times_right}
-use Rattle.def_history.proofs.Steps.{IsBalanced, reached_balanced}
+use Rattle.def_history.proofs.StepsKeepBalance.{IsBalanced, reached_balanced}
 
 -- for each job and stripe: the bag, the passes and the history have it once between them
 pub counts_once : EachRightCountsOnce

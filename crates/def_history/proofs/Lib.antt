@@ -1,8 +1,8 @@
 pub mod Counts
-pub mod Steps
+pub mod StepsKeepBalance
 pub mod Holders
 pub mod Ends
 pub mod Leaves
-pub mod Worked
+pub mod TwoJobsToTheEnd
 pub mod Locks
 pub mod Packets

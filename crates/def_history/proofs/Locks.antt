@@ -45,7 +45,8 @@ right_split : (x : Right) (ys : List Right) → 1 ≤ times_right x.job x.stripe
 right_split x [] h = absurd (omega arith)
 right_split x (y ∷ ys) h = by_head (right_split x ys) (eqb y.job x.job && eqb y.stripe x.stripe) refl
   where
-    by_head : (1 ≤ times_right x.job x.stripe ys → (front : List Right) × (back : List Right) × (ys ≡ front ++ x ∷ back))
+    by_head : (1 ≤ times_right x.job x.stripe ys
+        → (front : List Right) × (back : List Right) × (ys ≡ front ++ x ∷ back))
         → (same : Bool) → (eqb y.job x.job && eqb y.stripe x.stripe) ≡ same
         → (front : List Right) × (back : List Right) × (y ∷ ys ≡ front ++ x ∷ back)
     by_head later true e = ([], ys, ap (λ z. z ∷ ys) (right_is y x.job x.stripe e))
@@ -77,7 +78,8 @@ permuted : (xs ys : List Right) → ((job stripe : ℕ) → times_right job stri
 permuted [] ys same = subst (IsPermutation []) (sym (no_right ys same)) (IsPermutation-refl [])
 permuted (x ∷ xs) ys same = from (permuted xs) (right_split x ys (let a = has_itself x xs in let b = same x.job x.stripe in omega (arith, a, b)))
   where
-    from : ((ys' : List Right) → ((job stripe : ℕ) → times_right job stripe xs ≡ times_right job stripe ys') → IsPermutation xs ys')
+    from : ((ys' : List Right) → ((job stripe : ℕ) → times_right job stripe xs ≡ times_right job stripe ys')
+        → IsPermutation xs ys')
         → (front : List Right) × (back : List Right) × (ys ≡ front ++ x ∷ back) → IsPermutation (x ∷ xs) ys
     from later (front, back, is) =
         let rest : (job stripe : ℕ) → times_right job stripe xs ≡ times_right job stripe (front ++ back) =

@@ -28,14 +28,16 @@ abbrev pub rights_of : ℕ → ℕ → List Right
 rights_of job stripes = map (λ stripe. record { job = job; stripe = stripe }) (range_with_len 0 stripes)
 
 -- what is done under the bag's lock: a job leaves the bag, and who held no right gets the job's rights for all stripes
-pub record TakesJob (stripes : ℕ) (bag : List ℕ) (held : List Right) (job : ℕ) (bag_after : List ℕ) (held_after : List Right) : Type 0 where
+pub record TakesJob (stripes : ℕ) (bag : List ℕ) (held : List Right) (job : ℕ) (bag_after : List ℕ)
+    (held_after : List Right) : Type 0 where
   pub held_none : held ≡ []
   pub leaves_bag : IsPermutation bag (job ∷ bag_after)
   pub gets_rights : IsPermutation (rights_of job stripes) held_after
 
 -- what is done under one stripe's lock: the right to add the job there is given up,
 -- and the job joins the history at its end
-pub record GivesRight (stripe : ℕ) (history : List ℕ) (held : List Right) (job : ℕ) (history_after : List ℕ) (held_after : List Right) : Type 0 where
+pub record GivesRight (stripe : ℕ) (history : List ℕ) (held : List Right) (job : ℕ) (history_after : List ℕ)
+    (held_after : List Right) : Type 0 where
   pub gives_right : IsPermutation held (record { job = job; stripe = stripe } ∷ held_after)
   pub joins_history : history_after ≡ history ++ job ∷ []
 

@@ -12,11 +12,11 @@ use Rattle.def_plan.specs.Form.{SequenceForm, Leaf, sequence_count}
 use Rattle.def_game_jobs.specs.Ranges.{LeafRange}
 use Rattle.def_history.specs.Leaves.{job_amount, amounts}
 use Rattle.def_history.specs.Packets.{Entry, AreRising}
-use Rattle.def_history.proofs.Counts.{Contains-head, Contains-tail}
 use Rattle.def_rows.specs.Rows.{row_count, amount_at, amount_in_row}
 use Rattle.def_history_rows.specs.JobRows.{leaf_amount, job_leaves}
 use Rattle.def_history_rows.specs.JobPackets.{has_row, is_touched, packet_of, TouchedRowsAreExact, TouchedRowsMakePackets}
 use Rattle.def_history_rows.proofs.JobRows.{by_number}
+use Rattle.def_sums.proofs.RisingLists.{Contains-head, Contains-tail}
 
 -- ---- entries at the numbers of a range that pass a test
 abbrev kept : (ℕ → ℤ) → (ℕ → Bool) → ℕ → ℕ → List Entry
@@ -143,14 +143,16 @@ in_range_is test from (suc count) row there = by_test (λ later. widen (in_range
         → (from ≤ row) × (row < from + suc count) × (test row ≡ true)
     widen (low, high, passes) = (omega arith, omega arith, passes)
 
-    at : (Contains (filter test (range_with_len (from + 1) count)) row → (from ≤ row) × (row < from + suc count) × (test row ≡ true))
+    at : (Contains (filter test (range_with_len (from + 1) count)) row
+        → (from ≤ row) × (row < from + suc count) × (test row ≡ true))
         → test from ≡ true
         → Contains (from ∷ filter test (range_with_len (from + 1) count)) row
         → (from ≤ row) × (row < from + suc count) × (test row ≡ true)
     at later e (zero, below, is) = let here : from ≡ row = is in (omega arith, omega arith, sym (ap test here) ∙ e)
     at later e (suc k, below, is) = later (k, omega arith, is)
 
-    by_test : (Contains (filter test (range_with_len (from + 1) count)) row → (from ≤ row) × (row < from + suc count) × (test row ≡ true))
+    by_test : (Contains (filter test (range_with_len (from + 1) count)) row
+        → (from ≤ row) × (row < from + suc count) × (test row ≡ true))
         → (b : Bool) → test from ≡ b
         → (from ≤ row) × (row < from + suc count) × (test row ≡ true)
     by_test later true e = at later e (rw e at there)

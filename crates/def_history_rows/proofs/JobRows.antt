@@ -24,7 +24,8 @@ by_number form numbers_one numbers_two range row within =
     ∙ sum_over-places (λ z. amount_in_row form numbers_one numbers_two z row) (record { sequence_one = 0; sequence_two = 0; weight = pos 0 }) (job_leaves form range) (λ leaf. leaf_amount form numbers_one numbers_two leaf row) range.first
     (λ place below. ap (λ z. amount_in_row form numbers_one numbers_two z row) (sym (at_place place (omega (arith, long, below)))))
   where
-    at_place : (place : ℕ) → place < range.count → get_or (job_leaves form range) place (record { sequence_one = 0; sequence_two = 0; weight = pos 0 }) ≡ form_leaf form (range.first + place)
+    at_place : (place : ℕ) → place < range.count
+        → get_or (job_leaves form range) place (record { sequence_one = 0; sequence_two = 0; weight = pos 0 }) ≡ form_leaf form (range.first + place)
     at_place place below = rw (get_or-take, get_or-drop)
 
 all_by_number : (form : SequenceForm) (numbers_one numbers_two : List ℕ) (row : ℕ)

@@ -38,7 +38,8 @@ JobsHaveTheirLeafSums = (form : SequenceForm) (numbers_one numbers_two : List �
     → IsPartOfLeafSums form numbers_one numbers_two range
 
 -- with the bag empty and no right held, each row's replay is the leaf sum of the row's sequence
-pub record ReplaysToLeafSums (form : SequenceForm) (numbers_one numbers_two : List ℕ) (ranges : List LeafRange) (state : State) : Type 0 where
+pub record ReplaysToLeafSums (form : SequenceForm) (numbers_one numbers_two : List ℕ) (ranges : List LeafRange)
+    (state : State) : Type 0 where
   pub rows_of_one : (s : ℕ) → s < sequence_count form.sets_one
       → replay (amounts (leaf_amount form numbers_one numbers_two) ranges) (history_of state (stripe_of (stripe_count state) s)) s ≡ leaf_sum One form.leaves numbers_two s
   pub rows_of_two : (s : ℕ) → let row : ℕ = sequence_count form.sets_one + s in

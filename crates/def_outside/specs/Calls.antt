@@ -1,6 +1,7 @@
 -- What the files and a sink did in a call.
 --     files_call, sink_call    the record of a call, from the members of the object and its states before and now
-use Rattle.std.specs.Prelude.{◌≡◌, ℕ, ◌<◌, List, Option}
+--     past_count               one past the greatest count of taken bytes at which a file is read on
+use Rattle.std.specs.Prelude.{◌≡◌, ℕ, ◌^◌, ◌<◌, List, Option}
 use Rattle.std.specs.Io.KnownBytes.{append_known}
 use Rattle.def_outside.specs.Cause.{Rose}
 use Rattle.def_outside.specs.Sinks.{AppendsPrefix}
@@ -21,6 +22,10 @@ HasNoFault faults = faults.now ≡ faults.before
 -- the count is greater than before
 abbrev pub HasFailed : Faults → Type 0
 HasFailed faults = faults.before < faults.now
+
+-- one past the greatest count of bytes that were taken of a file which is read on
+abbrev pub past_count : ℕ
+past_count = 2 ^ 62
 
 pub record FilesCall : Type 0 where
   -- the bytes of each name, where they are told

@@ -56,12 +56,12 @@ pub pure_plan-is_plan : (sets : List InformationSet) (choices : List ℕ) → Ar
     → IsPlan sets 1 (pure_plan sets choices)
 pure_plan-is_plan sets choices order are = dealt-is_plan 1 sets (rules_of sets choices) (omega arith) order (rules-whole sets choices are)
 
-abbrev Follows : List ℕ → PlacedSet → ℕ → Type 0
-Follows r h choice = All (λ s. slice_index r s ≡ cond (eqb s (chosen h choice)) (slice_index r h.before) 0) (sequences_of h)
+abbrev FollowsChoice : List ℕ → PlacedSet → ℕ → Type 0
+FollowsChoice r h choice = All (λ s. slice_index r s ≡ cond (eqb s (chosen h choice)) (slice_index r h.before) 0) (sequences_of h)
 
 follows : (first : ℕ) (x : List ℕ) (hs : List InformationSet) (choices : List ℕ) → length x ≡ first
     → All IsInOrder (placed_from first hs) → AreActions hs choices
-    → AllZip (Follows (dealt_onto x hs (rules_of hs choices))) (placed_from first hs) choices
+    → AllZip (FollowsChoice (dealt_onto x hs (rules_of hs choices))) (placed_from first hs) choices
 follows first x [] [] e order are = are
 follows first x [] (c ∷ cs) e order are = elim are [ ]
 follows first x (h ∷ hs) [] e order are = elim are [ ]
@@ -95,7 +95,7 @@ pure_plan-follows sets choices order are = follows 1 (1 ∷ []) sets choices ref
 
 -- two lists that follow the same choices from the same beginning are the same
 agree : (first : ℕ) (x y : List ℕ) (hs : List InformationSet) (choices : List ℕ) → All IsInOrder (placed_from first hs)
-    → AllZip (Follows x) (placed_from first hs) choices → AllZip (Follows y) (placed_from first hs) choices
+    → AllZip (FollowsChoice x) (placed_from first hs) choices → AllZip (FollowsChoice y) (placed_from first hs) choices
     → ((s : ℕ) → s < first → slice_index x s ≡ slice_index y s) → (s : ℕ) → s < first + nat_sum_over (λ h. h.actions) hs
     → slice_index x s ≡ slice_index y s
 agree first x y [] choices order f g h s low = h s (omega arith)

@@ -64,7 +64,9 @@ at_each R none add w x (g ∷ gs) (v ∷ vs) h sums =
     (at_set R none add w v x (slice_index x g.before) (sequences_of g) h.0 (All-head (AddsUp x) g gs sums))
     (at_each R none add w x gs vs h.1 (All-tail (AddsUp x) g gs sums))
 
-AllZip-weaker : {A B : Type 0} (P Q : A → B → Type 0) → ((a : A) (b : B) → P a b → Q a b) → (xs : List A) (ys : List B)
+-- what follows place by place follows of two lists
+pub AllZip-weaker : {A B : Type 0} (P Q : A → B → Type 0) → ((a : A) (b : B) → P a b → Q a b)
+    → (xs : List A) (ys : List B)
     → AllZip P xs ys → AllZip Q xs ys
 AllZip-weaker P Q f [] [] h = h
 AllZip-weaker P Q f [] (y ∷ ys) h = h

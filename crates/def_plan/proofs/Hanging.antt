@@ -16,8 +16,8 @@ abbrev pub hanging : ℕ → List (PlacedSet × ℤ) → ℕ
 hanging first zs = nat_sum_over (λ p. cond (ltb p.0.before first) (size p) 0) zs
 
 -- the values of the sets directly after a sequence
-abbrev pub after : ℕ → List (PlacedSet × ℤ) → ℕ
-after s zs = nat_sum_over size (filter (λ p. eqb p.0.before s) zs)
+abbrev pub hanging_size : ℕ → List (PlacedSet × ℤ) → ℕ
+hanging_size s zs = nat_sum_over size (filter (λ p. eqb p.0.before s) zs)
 
 -- a filter takes or leaves the first
 pub kept : (b : Bool) (p : PlacedSet × ℤ) (ps : List (PlacedSet × ℤ))
@@ -31,7 +31,7 @@ at_one b s first next v low high = grind (arith, nat_tests)
 
 -- what hangs on one sequence and on those before a first one hangs below the next
 pub after-hanging : (s first next : ℕ) (zs : List (PlacedSet × ℤ)) → first ≤ s → s < next
-    → after s zs + hanging first zs ≤ hanging next zs
+    → hanging_size s zs + hanging first zs ≤ hanging next zs
 after-hanging s first next [] low high = omega arith
 after-hanging s first next (p ∷ ps) low high =
     omega (arith, kept (eqb p.0.before s) p (filter (λ q. eqb q.0.before s) ps), at_one p.0.before s first next (size p) low high, after-hanging s first next ps low high)

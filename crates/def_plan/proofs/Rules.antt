@@ -10,8 +10,8 @@ use Rattle.def_plan.specs.Form.{InformationSet, PlacedSet, placed_from, sequence
 use Rattle.def_plan.specs.Plan.{IsPlan, dealt_onto, dealt, DealsWhole, FollowsRules}
 use Rattle.def_plan.proofs.Dealing.{dealt_onto-is_dealt}
 
-abbrev Follows : List ℕ → PlacedSet → (ℕ → List ℕ) → Type 0
-Follows x h rule = map (λ s. slice_index x s) (sequences_of h) ≡ rule (slice_index x h.before)
+abbrev FollowsRule : List ℕ → PlacedSet → (ℕ → List ℕ) → Type 0
+FollowsRule x h rule = map (λ s. slice_index x s) (sequences_of h) ≡ rule (slice_index x h.before)
 
 -- the places of a list, read one after the other
 read : (f : ℕ → ℕ) (a n : ℕ) (ys : List ℕ) → length ys ≡ n → ((i : ℕ) → i < n → f (a + i) ≡ get_or ys i 0)
@@ -22,7 +22,7 @@ read f a n ys e h =
 
 follows : (first : ℕ) (x : List ℕ) (hs : List InformationSet) (rules : List (ℕ → List ℕ)) → length x ≡ first
     → All IsInOrder (placed_from first hs) → AllZip DealsWhole hs rules
-    → AllZip (Follows (dealt_onto x hs rules)) (placed_from first hs) rules
+    → AllZip (FollowsRule (dealt_onto x hs rules)) (placed_from first hs) rules
 follows first x [] [] e order whole = whole
 follows first x [] (rule ∷ rules) e order whole = elim whole [ ]
 follows first x (h ∷ hs) [] e order whole = elim whole [ ]
@@ -50,8 +50,8 @@ dealt-follows sets root rules order whole = follows 1 (root ∷ []) sets rules r
 
 -- two lists that follow the same rules from the same beginning are the same
 agree : (first : ℕ) (x y : List ℕ) (hs : List InformationSet) (rules : List (ℕ → List ℕ))
-    → All IsInOrder (placed_from first hs) → AllZip (Follows x) (placed_from first hs) rules
-    → AllZip (Follows y) (placed_from first hs) rules
+    → All IsInOrder (placed_from first hs) → AllZip (FollowsRule x) (placed_from first hs) rules
+    → AllZip (FollowsRule y) (placed_from first hs) rules
     → ((s : ℕ) → s < first → slice_index x s ≡ slice_index y s) → (s : ℕ) → s < first + nat_sum_over (λ h. h.actions) hs
     → slice_index x s ≡ slice_index y s
 agree first x y [] rules order f g h s low = h s (omega arith)

@@ -53,6 +53,10 @@ pub record Leaf : Type 0 where
   pub sequence_two : ℕ
   pub weight : ℤ
 
+-- a leaf by both players' sequences and its weight
+abbrev pub weighted : ℕ → ℕ → ℤ → Leaf
+weighted sequence_one sequence_two weight = record { sequence_one = sequence_one; sequence_two = sequence_two; weight = weight }
+
 pub record SequenceForm : Type 0 where
   pub sets_one : List InformationSet
   pub sets_two : List InformationSet

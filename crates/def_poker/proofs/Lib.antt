@@ -1,5 +1,5 @@
 pub mod Cards
 pub mod Described
-pub mod Short
+pub mod PokerFileIsShort
 pub mod Sizes
 pub mod Written

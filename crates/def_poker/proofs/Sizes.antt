@@ -3,13 +3,13 @@ use Rattle.std.proofs.Common.{◌≡◌, ℕ, ◌+◌, ◌-◌, ◌*◌, ◌≤�
 use Rattle.std.proofs.lemmas.List.{length-append, length-map}
 use Rattle.std.proofs.lemmas.List.FromFn.{length-range_with_len}
 use Rattle.def_tree.specs.Rules.{most_nodes}
-use Rattle.def_file.specs.Content.{Record}
+use Rattle.def_file.specs.Content.{Record, chance_record}
 use Rattle.def_canon.proofs.NoFault.{described_have_no_fault}
 use Rattle.def_canon.proofs.Sizes.{wanted_behind, wanted_behind-append, EntriesBegin, begin-append, wanted_described, begins_described}
-use Rattle.def_poker.specs.Poker.{after_bet, after_check, answer, cards, deal_one, deal_two, dealt_card, deals, entries, facing_bet, hand, hands, opening_set, others, rounds_with_cards}
+use Rattle.def_poker.specs.Poker.{after_bet, after_check, answer, cards, deal_one, deal_two, dealt_card, entries, facing_bet, hand, hands, opening_set, others, rounds_with_cards}
 use Rattle.def_poker.specs.Laws.{PokerIsGame}
 use Rattle.def_poker.proofs.Cards.{AreCards, cards_are, others_count}
-use Rattle.def_poker.proofs.Described.{entries_describe, set_with, outcome_with}
+use Rattle.def_poker.proofs.Described.{entries_describe, set_with, outcome_of_poker}
 
 hand_wanted : (n i j k : ℕ) → 1 ≤ k → wanted_behind k (hand n i j) + 1 ≡ k
 unfolding hand facing_bet opening_set after_check answer after_bet
@@ -37,12 +37,12 @@ hands_begin n i (j ∷ js) k few =
 
 -- behind a deal as many more nodes are wanted as it has actions
 deal_wanted : (n i k : ℕ) (rs : List Record)
-    → wanted_behind k (deals (deal_two n i) ∷ rs) ≡ wanted_behind (k + length (others n i) - 1) rs
+    → wanted_behind k (chance_record (deal_two n i) ∷ rs) ≡ wanted_behind (k + length (others n i) - 1) rs
 unfolding deal_two
 deal_wanted n i k rs = ap (λ c. wanted_behind (k + c - 1) rs) (length-map (others n i) (dealt_card (n - 1)))
 
 deal_begins : (n i k : ℕ) (rs : List Record) → 1 ≤ k → EntriesBegin (k + length (others n i) - 1) rs
-    → EntriesBegin k (deals (deal_two n i) ∷ rs)
+    → EntriesBegin k (chance_record (deal_two n i) ∷ rs)
 unfolding deal_two
 deal_begins n i k rs some begins =
     (some, subst (λ c. EntriesBegin (k + c - 1) rs) (sym (length-map (others n i) (dealt_card (n - 1)))) begins)
@@ -119,9 +119,9 @@ module _ (n : ℕ) (two : 2 ≤ n) (limit : n ≤ 64) where
 pub poker_is_game : PokerIsGame
 poker_is_game n two limit =
     let each = entries_describe n two limit in (
-      described_have_no_fault (set_with n) outcome_with (entries n) each (entries_few n two limit),
+      described_have_no_fault (set_with n) outcome_of_poker (entries n) each (entries_few n two limit),
       record {
-        begins = begins_described (set_with n) outcome_with (entries n) 1 each (entries_begin n two limit);
-        ends = wanted_described (set_with n) outcome_with (entries n) 1 each ∙ entries_end n two limit;
+        begins = begins_described (set_with n) outcome_of_poker (entries n) 1 each (entries_begin n two limit);
+        ends = wanted_described (set_with n) outcome_of_poker (entries n) 1 each ∙ entries_end n two limit;
       },
     )

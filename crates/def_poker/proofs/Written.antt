@@ -14,7 +14,7 @@ use Rattle.def_file_tokens.specs.Texts.{EndsPlainly}
 use Rattle.def_tree.specs.declared.Player.{Player}
 use Rattle.def_tree.specs.declared.Player.TheVariants.{One, Two}
 use Rattle.def_file.specs.declared.EntryKind.TheVariants as kinds
-use Rattle.def_file.specs.Content.{SetMention, OutcomeMention}
+use Rattle.def_file.specs.Content.{SetMention, OutcomeMention, named_action, chance_record, player_record, leaf_record}
 use Rattle.def_file.specs.Game.{IsSmallFraction}
 use Rattle.def_canon.specs.Canon.{canon, prologue_pieces}
 use Rattle.def_canon.specs.Described.{Each}
@@ -24,9 +24,9 @@ use Rattle.def_canon.proofs.NoFault.{each_append}
 use Rattle.def_canon.proofs.OwnLines.{own_lines}
 use Rattle.def_canon.proofs.ReadBack.{canon_is_read_back, canon_of_lines, canon_stands_for_game}
 use Rattle.def_poker.specs.Laws.{PokerIsReadBack}
-use Rattle.def_poker.specs.Poker.{after_bet, after_check, answer, cards, deal_one, deal_two, dealt_card, deals, described_set, ending_entry, entries, facing_bet, hand, hands, higher, move, moves, opening_set, others, poker, prologue, rounds_with_cards, wins_one, wins_two}
+use Rattle.def_poker.specs.Poker.{after_bet, after_check, answer, cards, deal_one, deal_two, dealt_card, described_set, entries, facing_bet, hand, hands, higher, opening_set, others, poker, prologue, rounds_with_cards, wins_one, wins_two}
 use Rattle.def_poker.proofs.Cards.{AreCards, cards_are, others_are}
-use Rattle.def_poker.proofs.Described.{entries_describe, outcome_with, set_with}
+use Rattle.def_poker.proofs.Described.{entries_describe, outcome_of_poker, set_with}
 use Rattle.def_poker.proofs.Sizes.{entries_few, poker_is_game}
 
 -- no backslash
@@ -86,31 +86,31 @@ cards_writable n m most_cards some few [] are = tt
 cards_writable n m most_cards some few (j ∷ js) are =
     (ends_plainly (decimal j) (decimal_plain j (omega arith)), part_small n some few, cards_writable n m most_cards some few js are.1)
 
-deal_written : (set : SetMention) → IsWritableSet kinds.Chance set → IsWritable (deals set)
+deal_written : (set : SetMention) → IsWritableSet kinds.Chance set → IsWritable (chance_record set)
 deal_written set w = record { name = ends_plainly [] refl; mover = refl; set = λ _. w; outcome = inl refl }
 
-move_one_written : (set : SetMention) → IsWritableSet kinds.Personal set → IsWritable (moves 1 set)
+move_one_written : (set : SetMention) → IsWritableSet kinds.Personal set → IsWritable (player_record 1 set)
 move_one_written set w = record { name = ends_plainly [] refl; mover = inl refl; set = λ _. w; outcome = inl refl }
 
-move_two_written : (set : SetMention) → IsWritableSet kinds.Personal set → IsWritable (moves 2 set)
+move_two_written : (set : SetMention) → IsWritableSet kinds.Personal set → IsWritable (player_record 2 set)
 move_two_written set w = record { name = ends_plainly [] refl; mover = inr refl; set = λ _. w; outcome = inl refl }
 
-end_written : (o : OutcomeMention) → IsWritableOutcome o → IsWritable (ending_entry o)
+end_written : (o : OutcomeMention) → IsWritableOutcome o → IsWritable (leaf_record o)
 end_written o w = record { name = ends_plainly [] refl; mover = (refl, refl); set = λ e. cc; outcome = inr w }
 
-win_one : (p : Player) → IsWritable (ending_entry (wins_one p))
+win_one : (p : Player) → IsWritable (leaf_record (wins_one p))
 unfolding wins_one gcd
 win_one One = end_written (wins_one One) (record { not_null = λ e. absurd (omega arith); limit = omega arith; name = ends_plainly (codes "One wins 1") refl; one = _; two = _; gives = refl; one_small = (record { positive = omega arith; coprime = refl }, refl); two_small = (record { positive = omega arith; coprime = refl }, refl) })
 win_one Two = end_written (wins_one Two) (record { not_null = λ e. absurd (omega arith); limit = omega arith; name = ends_plainly (codes "Two wins 1") refl; one = _; two = _; gives = refl; one_small = (record { positive = omega arith; coprime = refl }, refl); two_small = (record { positive = omega arith; coprime = refl }, refl) })
 
-win_two : (p : Player) → IsWritable (ending_entry (wins_two p))
+win_two : (p : Player) → IsWritable (leaf_record (wins_two p))
 unfolding wins_two gcd
 win_two One = end_written (wins_two One) (record { not_null = λ e. absurd (omega arith); limit = omega arith; name = ends_plainly (codes "One wins 2") refl; one = _; two = _; gives = refl; one_small = (record { positive = omega arith; coprime = refl }, refl); two_small = (record { positive = omega arith; coprime = refl }, refl) })
 win_two Two = end_written (wins_two Two) (record { not_null = λ e. absurd (omega arith); limit = omega arith; name = ends_plainly (codes "Two wins 2") refl; one = _; two = _; gives = refl; one_small = (record { positive = omega arith; coprime = refl }, refl); two_small = (record { positive = omega arith; coprime = refl }, refl) })
 
 moves_written : (number : ℕ) (name first second : List ℕ) → 1 ≤ number → number ≤ 128 → EndsPlainly name
     → plain first ≡ true → plain second ≡ true
-    → IsWritableSet kinds.Personal (described_set number name (move first ∷ move second ∷ []))
+    → IsWritableSet kinds.Personal (described_set number name (named_action first ∷ named_action second ∷ []))
 moves_written number name first second some few plain_name a b = record {
   from_one = some;
   limit = omega arith;
@@ -152,7 +152,7 @@ module _ (n : ℕ) (two : 2 ≤ n) (limit : n ≤ 64) where
   hands_written i low high (j ∷ js) are =
       each_append IsWritable (hand n i j) (hands n i js) (hand_written i j low high are.0.0 are.0.1) (hands_written i low high js are.1)
 
-  deal_two_written : (i : ℕ) → 1 ≤ i → i ≤ n → IsWritable (deals (deal_two n i))
+  deal_two_written : (i : ℕ) → 1 ≤ i → i ≤ n → IsWritable (chance_record (deal_two n i))
   unfolding deal_two
   deal_two_written i low high = deal_written (deal_two n i) (record {
     from_one = omega arith;
@@ -163,7 +163,7 @@ module _ (n : ℕ) (two : 2 ≤ n) (limit : n ≤ 64) where
     writable = cards_writable (n - 1) n limit (omega arith) (omega arith) (others n i) (others_are n i);
   })
 
-  deal_one_written : IsWritable (deals (deal_one n))
+  deal_one_written : IsWritable (chance_record (deal_one n))
   unfolding deal_one
   deal_one_written = deal_written (deal_one n) (record {
     from_one = omega arith;
@@ -202,7 +202,7 @@ module _ (n : ℕ) (two : 2 ≤ n) (limit : n ≤ 64) where
     prologue = prologue n;
     entries = entries n;
     sets = set_with n;
-    outcomes = outcome_with;
+    outcomes = outcome_of_poker;
     plain = prologue_plain;
     described = entries_describe n two limit;
     writable = entries_written;

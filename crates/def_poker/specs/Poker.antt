@@ -7,14 +7,13 @@
 --     hand n i j                                      the play where player one has card i and player two has card j
 --     entries n                                       all entries, in prefix order
 --     poker n                                         the game
-use Rattle.std.specs.Prelude.{ℕ, ℤ, pos, neg_ℤ, ◌+◌, ◌-◌, nat_eq, nat_lt, not, if◌then◌else◌, List, [], ◌∷◌, ◌++◌, map, filter, codes, Some, None}
+use Rattle.std.specs.Prelude.{ℕ, ℤ, pos, neg_ℤ, ◌+◌, ◌-◌, nat_eq, nat_lt, not, if◌then◌else◌, List, [], ◌∷◌, ◌++◌, map, filter, codes, Some}
 use Rattle.std.specs.List.{range_with_len}
 use Rattle.std.specs.Fmt.{decimal}
 use Rattle.def_fraction.specs.Fraction.{whole_number, one_over}
 use Rattle.def_tree.specs.declared.Player.{Player}
 use Rattle.def_tree.specs.declared.Player.TheVariants.{One, Two}
-use Rattle.def_file.specs.declared.EntryKind.TheVariants as kinds
-use Rattle.def_file.specs.Content.{Prologue, Action, SetMention, OutcomeMention, Record, GameFile, no_set_mention, zero_fraction}
+use Rattle.def_file.specs.Content.{Prologue, Action, SetMention, OutcomeMention, Record, GameFile, named_action, chance_record, player_record, leaf_record}
 use Rattle.def_file_entries.specs.Entries.{game_of_entries}
 
 -- Cards, which count from 1.
@@ -46,14 +45,11 @@ deal_two n i = described_set (1 + i) (codes "deal two " ++ decimal i) (map (deal
 
 -- The players' sets.
 
-abbrev pub move : List ℕ → Action
-move name = record { name = name; chance = zero_fraction }
-
 abbrev pub check_or_bet : List Action
-check_or_bet = move (codes "check") ∷ move (codes "bet") ∷ []
+check_or_bet = named_action (codes "check") ∷ named_action (codes "bet") ∷ []
 
 abbrev pub fold_or_call : List Action
-fold_or_call = move (codes "fold") ∷ move (codes "call") ∷ []
+fold_or_call = named_action (codes "fold") ∷ named_action (codes "call") ∷ []
 
 -- player one with card i opens
 unfoldable pub opening_set : ℕ → SetMention
@@ -92,28 +88,16 @@ higher i j = if nat_lt j i then One else Two
 
 -- Entries. Nodes have no names, and payoffs come at the leaves alone.
 
-abbrev pub no_outcome : OutcomeMention
-no_outcome = record { number = 0; name = None; payoffs = None }
-
-abbrev pub deals : SetMention → Record
-deals set = record { kind = kinds.Chance; name = []; player = 0; set = set; outcome = no_outcome }
-
-abbrev pub moves : ℕ → SetMention → Record
-moves player set = record { kind = kinds.Personal; name = []; player = player; set = set; outcome = no_outcome }
-
-abbrev pub ending_entry : OutcomeMention → Record
-ending_entry outcome = record { kind = kinds.Leaf; name = []; player = 0; set = no_set_mention; outcome = outcome }
-
 -- a player who faces a bet folds or calls
 unfoldable pub facing_bet : ℕ → SetMention → OutcomeMention → OutcomeMention → List Record
-facing_bet player set folded called = moves player set ∷ ending_entry folded ∷ ending_entry called ∷ []
+facing_bet player set folded called = player_record player set ∷ leaf_record folded ∷ leaf_record called ∷ []
 
 -- player one checks and player two checks or bets, or player one bets
 unfoldable pub hand : ℕ → ℕ → ℕ → List Record
 hand n i j =
-    moves 1 (opening_set i)
-    ∷ moves 2 (after_check j)
-    ∷ ending_entry (wins_one (higher i j))
+    player_record 1 (opening_set i)
+    ∷ player_record 2 (after_check j)
+    ∷ leaf_record (wins_one (higher i j))
     ∷ (facing_bet 1 (answer n i) (wins_one Two) (wins_two (higher i j))
     ++ facing_bet 2 (after_bet n j) (wins_one One) (wins_two (higher i j)))
 
@@ -125,10 +109,10 @@ hands n i (j ∷ js) = hand n i j ++ hands n i js
 -- each of some cards for player one, and all that follows
 unfoldable pub rounds_with_cards : ℕ → List ℕ → List Record
 rounds_with_cards n [] = []
-rounds_with_cards n (i ∷ is) = deals (deal_two n i) ∷ (hands n i (others n i) ++ rounds_with_cards n is)
+rounds_with_cards n (i ∷ is) = chance_record (deal_two n i) ∷ (hands n i (others n i) ++ rounds_with_cards n is)
 
 unfoldable pub entries : ℕ → List Record
-entries n = deals (deal_one n) ∷ rounds_with_cards n (cards n)
+entries n = chance_record (deal_one n) ∷ rounds_with_cards n (cards n)
 
 -- The game.
 

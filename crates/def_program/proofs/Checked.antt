@@ -16,7 +16,7 @@ use Rattle.def_cert_verdict.specs.declared.fault.TestFault.{TestFault}
 use Rattle.def_cert_verdict.specs.Certificate.{Certificate, PrintedBounds}
 use Rattle.def_cert_verdict.specs.Verdict.{Verdict, WeighedGame, decided_by, first_failing, shown_by, tests, verdict}
 use Rattle.def_cert_verdict.specs.Laws.{IsHeadOf, NeverWidens}
-use Rattle.def_cert_verdict.proofs.Decided.{exact}
+use Rattle.def_cert_verdict.proofs.VerdictIsExact.{exact}
 use Rattle.def_cert_verdict.proofs.Shown.{accepted as shown}
 use Rattle.def_check.specs.Check.{Refusal, checked, most_cert_bytes}
 use Rattle.def_check.specs.Checking.{AreRead, Checks, failed, passed, refused, unreadable}

@@ -1,4 +1,4 @@
-pub mod Made
+pub mod PokerFileIsRead
 pub mod Meant
 pub mod Bounds
 pub mod Played

@@ -4,12 +4,12 @@ use Rattle.std.specs.Prelude.{All, IsSome, IsSomeAnd}
 use Rattle.std.specs.Option.{option_and_then, option_map}
 use Rattle.std.proofs.lemmas.Bool.{ltb-true, ltb-false, lt-ltb, le-ltb}
 use Rattle.std.proofs.lemmas.Option.{same_Some}
+use Rattle.def_sums.specs.Limits.{least_cards, most_cards}
 use Rattle.def_file.specs.declared.FileFault.{FileFault}
 use Rattle.def_file.specs.declared.FileFault.TheVariants.{TooLong}
 use Rattle.def_file.specs.Content.{GameFile}
 use Rattle.def_file.specs.Reading.{most_bytes}
 use Rattle.def_command.specs.Grammar.{Check, Command, Drill, Gen, Info, Solve, command_of_words, files_of}
-use Rattle.def_command.specs.Table.{least_cards, most_cards}
 use Rattle.def_command.proofs.InRange.{cards_in_range}
 use Rattle.def_text.specs.Text.{info_text}
 use Rattle.def_text.specs.Lines.{fault_line}
@@ -23,7 +23,7 @@ use Rattle.def_check.proofs.Checked.{checks_are}
 use Rattle.def_program.specs.Program.{Answer, answer_of, certificate_answer, check_answer, check_told, command_answer, file_answer, game_answer, made_answer, program, refusal, solved, success, usage}
 use Rattle.def_program.specs.Meaning.{CertificateMeans, CheckMeans, CommandMeans, FileMeans, IsMeant, Means, file_too_long, file_within, refused, too_long, within, written}
 use Rattle.def_program.specs.Laws.{MeaningIsComputed, ToldWordsMeanOne}
-use Rattle.def_program.proofs.Made.{made_is}
+use Rattle.def_program.proofs.PokerFileIsRead.{made_is}
 
 -- there is an answer
 record Computed (answers : Option Answer) : Type 0 where

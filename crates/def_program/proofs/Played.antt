@@ -2,6 +2,7 @@
 use Rattle.std.proofs.Common.{◌≡◌, ℕ, ◌≤◌, List, length, Option, Some, None, refl, sym, ap, ◌∙◌, subst, arith}
 use Rattle.std.specs.Prelude.{◌*◌, IsSomeAnd}
 use Rattle.std.proofs.lemmas.List.{length-map}
+use Rattle.def_sums.specs.Limits.{least_cards, most_cards}
 use Rattle.def_outside.specs.Calls.{SinkCall, Wrote}
 use Rattle.def_tree.specs.declared.Kind.TheVariants.{One, Two}
 use Rattle.def_tree.specs.Tree.{leaf_count, prefix}
@@ -26,7 +27,6 @@ use Rattle.def_cert_accepted.proofs.Accepted.{accepted as run_accepted}
 use Rattle.def_cert_accepted.proofs.OfRun.{bounds_of_run, certificate_with, same_head}
 use Rattle.def_cert_text.specs.CertText.{cert_text}
 use Rattle.def_command.specs.Grammar.{Check, Command, Drill, Gen, Info, Settings, Solve, command_of_words}
-use Rattle.def_command.specs.Table.{least_cards, most_cards}
 use Rattle.def_command.proofs.InRange.{cards_in_range, settings_in_range}
 use Rattle.def_canon.specs.Canon.{canon}
 use Rattle.def_poker.specs.Poker.{poker}
@@ -42,7 +42,7 @@ use Rattle.def_file_accepted.proofs.InNumbers.{some_unit, sets_in_order}
 use Rattle.def_program.specs.Bounds.{BoundsHold, ForEachPlayed, HasItsBounds, IsPlayed, TraceNarrows, WroteBounds}
 use Rattle.def_program.specs.Laws.{PlayedGamesHaveTheirBounds}
 use Rattle.def_program.proofs.Bounds.{bounds_hold}
-use Rattle.def_program.proofs.Made.{made_accepted, made_is}
+use Rattle.def_program.proofs.PokerFileIsRead.{made_accepted, made_is}
 use Rattle.def_program.proofs.Meant.{file_meant}
 
 -- a form has a leaf for each of its game's

@@ -11,6 +11,7 @@ use Rattle.def_program.specs.Meaning.{Means, MeansOnly, FilesAreTold}
 use Rattle.def_program.specs.Bounds.{BoundsHold, HasItsBounds}
 use Rattle.def_program.specs.Checked.{HoldsOfFile}
 
+-- what the words mean is exactly the answer that `program` computes
 abbrev pub MeaningIsComputed : Type 0
 MeaningIsComputed = (words : List (List ℕ)) (told : List ℕ → Option (List ℕ)) (answer : Answer)
     → Means words told answer ↔ (program words told ≡ Some answer)
@@ -21,16 +22,17 @@ pub record MeansOne (words : List (List ℕ)) (told : List ℕ → Option (List 
   pub meant : Means words told answer
   pub only : MeansOnly (Means words told) answer
 
+-- where the files that the words name are told, the words mean one answer and no other
 abbrev pub ToldWordsMeanOne : Type 0
 ToldWordsMeanOne = (words : List (List ℕ)) (told : List ℕ → Option (List ℕ)) → FilesAreTold words told
     → MeansOne words told
 
--- of an accepted file's game, after at least one round at any scale from 1
+-- an accepted file's game, played at least one round at any scale from 1, has its bounds, and they hold of it
 abbrev pub PlayedGamesHaveTheirBounds : Type 0
 PlayedGamesHaveTheirBounds = (bytes : List ℕ) (game : GameFile) (settings : Settings) → IsAccepted bytes game
     → 1 ≤ settings.rounds → 1 ≤ settings.scale → HasItsBounds game settings
 
--- whoever wrote the certificate
+-- whoever wrote the certificate: what a check shows of it holds of the game of the file
 abbrev pub AcceptedCertificatesHold : Type 0
 AcceptedCertificatesHold = (file bytes : List ℕ) (shown : Verdict) → Checks file bytes (Ok shown)
     → HoldsOfFile file bytes (λ verdict. verdict ≡ shown) BoundsHold

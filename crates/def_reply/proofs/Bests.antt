@@ -73,16 +73,17 @@ int_eq_tells x y =
     ⊎_elim (λ e. inl (e, (Decides-int_eq x y).0 e)) (λ e. inr (e, λ q. false≢true (sym e ∙ (Decides-int_eq x y).1 q))) (cases_Bool (int_eq x y))
 
 -- where `choice`, counted from 1, is the first place with the value
-pub record IsFirstWith (value : ℤ) (ws : List ℤ) (choice : ℕ) : Type 0 where
+pub record IsFirstPlaceOf (value : ℤ) (ws : List ℤ) (choice : ℕ) : Type 0 where
   pub some : 1 ≤ choice
   pub within : choice ≤ length ws
   pub at : (d : ℤ) → get_or ws (choice - 1) d ≡ value
   pub earlier : (c : ℕ) → 1 ≤ c → c < choice → (d : ℤ) → get_or ws (c - 1) d ≢ value
 
-at_first : (value w : ℤ) (ws : List ℤ) → w ≡ value → IsFirstWith value (w ∷ ws) 1
+at_first : (value w : ℤ) (ws : List ℤ) → w ≡ value → IsFirstPlaceOf value (w ∷ ws) 1
 at_first value w ws e = record { some = omega arith; within = omega arith; at = λ d. e; earlier = λ c low high. absurd (omega arith) }
 
-at_later : (value w : ℤ) (ws : List ℤ) (c : ℕ) → w ≢ value → IsFirstWith value ws c → IsFirstWith value (w ∷ ws) (c + 1)
+at_later : (value w : ℤ) (ws : List ℤ) (c : ℕ) → w ≢ value → IsFirstPlaceOf value ws c
+    → IsFirstPlaceOf value (w ∷ ws) (c + 1)
 at_later value w ws c differs h = record {
   some = omega arith;
   within = omega (arith, h.within);
@@ -97,17 +98,17 @@ at_later value w ws c differs h = record {
     one_or_more : (k : ℕ) → 1 ≤ k → (k ≡ 1) ⊎ (2 ≤ k)
     one_or_more k h = ⊎_elim (λ less. inl (omega arith)) (λ le. inr le) (cases_lt k 2)
 
-first_with-one : (value w : ℤ) (ws : List ℤ) → (w ≢ value → IsFirstWith value ws (first_with value ws))
-    → IsFirstWith value (w ∷ ws) (first_with value (w ∷ ws))
+first_with-one : (value w : ℤ) (ws : List ℤ) → (w ≢ value → IsFirstPlaceOf value ws (first_with value ws))
+    → IsFirstPlaceOf value (w ∷ ws) (first_with value (w ∷ ws))
 first_with-one value w ws rest =
     ⊎_elim
-    (λ yes. subst (λ b. IsFirstWith value (w ∷ ws) (cond b 1 (first_with value ws + 1))) (sym yes.0) (at_first value w ws yes.1))
-    (λ no. subst (λ b. IsFirstWith value (w ∷ ws) (cond b 1 (first_with value ws + 1))) (sym no.0) (at_later value w ws (first_with value ws) no.1 (rest no.1)))
+    (λ yes. subst (λ b. IsFirstPlaceOf value (w ∷ ws) (cond b 1 (first_with value ws + 1))) (sym yes.0) (at_first value w ws yes.1))
+    (λ no. subst (λ b. IsFirstPlaceOf value (w ∷ ws) (cond b 1 (first_with value ws + 1))) (sym no.0) (at_later value w ws (first_with value ws) no.1 (rest no.1)))
     (int_eq_tells w value)
 
 -- where some worth is the value, the place that is found is the first such one
 pub first_with-is_first : (value : ℤ) (ws : List ℤ) (i : ℕ) → i < length ws → ((d : ℤ) → get_or ws i d ≡ value)
-    → IsFirstWith value ws (first_with value ws)
+    → IsFirstPlaceOf value ws (first_with value ws)
 first_with-is_first value [] i low e = absurd (omega arith)
 first_with-is_first value (w ∷ ws) zero low e = first_with-one value w ws (λ no. absurd (no (e w)))
 first_with-is_first value (w ∷ ws) (suc i) low e = first_with-one value w ws (λ no. first_with-is_first value ws i (omega arith) e)

@@ -11,7 +11,7 @@ use Rattle.def_plan.specs.Form.{InformationSet, PlacedSet, placed_from, sequence
 use Rattle.def_plan.specs.Plan.{chosen}
 use Rattle.def_plan.specs.Payoff.{worth, IsNoBetter}
 use Rattle.def_reply.specs.Reply.{SetReply, values_of, best_of, first_with, replies_at, IsTight, IsFirstTight}
-use Rattle.def_reply.proofs.Bests.{no_better-antisym, none-better, best-reached, IsFirstWith, first_with-is_first}
+use Rattle.def_reply.proofs.Bests.{no_better-antisym, none-better, best-reached, IsFirstPlaceOf, first_with-is_first}
 
 -- ---- the worth at a set counts later sets alone
 dropped : (b : Bool) (p : PlacedSet × ℤ) (ps : List (PlacedSet × ℤ)) → b ≡ false
@@ -48,8 +48,8 @@ all_same player w w' from same first (h ∷ hs) (r ∷ rs) le f = (
 )
 
 -- ---- the reply at one set
-abbrev pub head_of : Player → (ℕ → ℤ) → PlacedSet → SetReply
-head_of player w h =
+abbrev pub reply_at_set : Player → (ℕ → ℤ) → PlacedSet → SetReply
+reply_at_set player w h =
     let value = best_of player (map w (sequences_of h)) in record { value = value; choice = first_with value (map w (sequences_of h)) }
 
 at_choice : (w : ℕ → ℤ) (h : PlacedSet) (c : ℕ) (d : ℤ) → 1 ≤ c → c ≤ h.actions
@@ -58,13 +58,13 @@ at_choice w h c d low high = get_or-map-range_with_len w h.first h.actions (c - 
 
 -- at a set with an action the best worth and the first action of that worth solve the set's equations
 pub head-first_tight : (player : Player) (w : ℕ → ℤ) (h : PlacedSet) → 1 ≤ h.actions
-    → IsFirstTight player w h (head_of player w h)
+    → IsFirstTight player w h (reply_at_set player w h)
 head-first_tight player w h some =
     let worths : List ℤ = map w (sequences_of h) in
     let value : ℤ = best_of player worths in
     let long : length worths ≡ h.actions = length-map-range_with_len w h.first h.actions in
     let best = best-reached player worths (omega arith) in
-    let f : IsFirstWith value worths (first_with value worths) = first_with-is_first value worths best.0 best.1 best.2 in
+    let f : IsFirstPlaceOf value worths (first_with value worths) = first_with-is_first value worths best.0 best.1 best.2 in
     record {
       tight = record {
         no_better = All-range (λ s. IsNoBetter player (w s) value) h.first h.actions
@@ -108,7 +108,7 @@ solves_from player sums first (h ∷ hs) order =
     let rest : List PlacedSet = placed_from (first + h.actions) hs in
     let ordered = All-head IsInOrder here rest order in
     let rs : List SetReply = replies_at player sums rest in
-    let r : SetReply = head_of player (worth sums rest (values_of rs)) here in
+    let r : SetReply = reply_at_set player (worth sums rest (values_of rs)) here in
     let same : (s : ℕ) → first ≤ s → worth sums rest (values_of rs) s ≡ worth sums (here ∷ rest) (r.value ∷ values_of rs) s = λ s le. sym (worth-later sums here rest r.value (values_of rs) s (omega arith)) in (
       first_tight-same player (worth sums rest (values_of rs)) (worth sums (here ∷ rest) (r.value ∷ values_of rs)) first same here r (omega arith) (head-first_tight player (worth sums rest (values_of rs)) here ordered.0),
       all_same player (worth sums rest (values_of rs)) (worth sums (here ∷ rest) (r.value ∷ values_of rs)) first same (first + h.actions) hs rs (omega arith) (solves_from player sums (first + h.actions) hs (All-tail IsInOrder here rest order)),
@@ -130,8 +130,8 @@ only_from player sums first (h ∷ hs) (r ∷ rs) order f =
     let w' : ℕ → ℤ = worth sums (here ∷ rest) (r.value ∷ values_of rs) in
     let same : (s : ℕ) → first ≤ s → w' s ≡ w s = λ s le. worth-later sums here rest r.value (values_of rs) s (omega arith) in
     let later : rs ≡ replies_at player sums rest = only_from player sums (first + h.actions) hs rs (All-tail IsInOrder here rest order) (all_same player w' w first same (first + h.actions) hs rs (omega arith) f.1) in
-    let head : r ≡ head_of player w here = one_head player w here r (head_of player w here) (first_tight-same player w' w first same here r (omega arith) f.0) (head-first_tight player w here ordered.0) in
-    ap (λ q. q ∷ rs) head ∙ ap (λ qs. head_of player (worth sums rest (values_of qs)) here ∷ qs) later
+    let head : r ≡ reply_at_set player w here = one_head player w here r (reply_at_set player w here) (first_tight-same player w' w first same here r (omega arith) f.0) (head-first_tight player w here ordered.0) in
+    ap (λ q. q ∷ rs) head ∙ ap (λ qs. reply_at_set player (worth sums rest (values_of qs)) here ∷ qs) later
 
 -- the best reply from a set on is the reply at those sets alone
 pub from_set : (player : Player) (sums : ℕ → ℤ) (k : ℕ) (hs : List PlacedSet)

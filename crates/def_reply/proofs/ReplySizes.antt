@@ -10,17 +10,17 @@ use Rattle.def_sums.specs.Sum.{nat_sum_over}
 use Rattle.def_sums.proofs.RingLaws.{unsigned_abs-+ℤ}
 use Rattle.def_sums.proofs.SumLaws.{unsigned_abs-sum_over}
 use Rattle.def_sums.proofs.Ranges.{at_most_sum}
-use Rattle.def_plan.proofs.Hanging.{hanging, after, kept, after-hanging, after-first, not_here, from, from-cons, all_sums}
+use Rattle.def_plan.proofs.Hanging.{hanging, hanging_size, kept, after-hanging, after-first, not_here, from, from-cons, all_sums}
 use Rattle.def_plan.proofs.SizeLaws.{leaf_sums-below, of_an_evaluation}
 use Rattle.def_plan.specs.Form.{InformationSet, PlacedSet, placed_from, placed, sequence_count, sequences, IsInOrder, AreInOrder}
 use Rattle.def_plan.specs.Plan.{chosen}
 use Rattle.def_plan.specs.Payoff.{worth, values_after, leaf_sum}
 use Rattle.def_reply.specs.Reply.{SetReply, values_of, replies_at, best_reply, total}
 use Rattle.def_reply.specs.Laws.{BoundsAreSmall}
-use Rattle.def_reply.proofs.Equations.{head_of, head-first_tight, chosen-at}
+use Rattle.def_reply.proofs.Equations.{reply_at_set, head-first_tight, chosen-at}
 
 worth-size : (sums : ℕ → ℤ) (hs : List PlacedSet) (vs : List ℤ) (s : ℕ)
-    → unsigned_abs (worth sums hs vs s) ≤ unsigned_abs (sums s) + after s (zip hs vs)
+    → unsigned_abs (worth sums hs vs s) ≤ unsigned_abs (sums s) + hanging_size s (zip hs vs)
 worth-size sums hs vs s =
     omega (arith, unsigned_abs-+ℤ (sums s) (values_after hs vs s), unsigned_abs-sum_over (λ (p : PlacedSet × ℤ). p.1) (filter (λ p. eqb p.0.before s) (zip hs vs)))
 
@@ -38,15 +38,15 @@ bounded player sums first (h ∷ hs) order =
     let ih = bounded player sums (first + h.actions) hs (All-tail IsInOrder here rest order) in
     let rs : List SetReply = replies_at player sums rest in
     let w : ℕ → ℤ = worth sums rest (values_of rs) in
-    let r : SetReply = head_of player w here in
+    let r : SetReply = reply_at_set player w here in
     let tight = (head-first_tight player w here ordered.0).tight in
     let best : ℕ = chosen here r.choice in
     let place = chosen-at here r.choice tight.an_action.0 tight.an_action.1 in
-    let of_value : unsigned_abs r.value ≤ unsigned_abs (sums best) + after best (zip rest (values_of rs)) =
-    subst (λ z. unsigned_abs z ≤ unsigned_abs (sums best) + after best (zip rest (values_of rs))) tight.reached (worth-size sums rest (values_of rs) best)
+    let of_value : unsigned_abs r.value ≤ unsigned_abs (sums best) + hanging_size best (zip rest (values_of rs)) =
+    subst (λ z. unsigned_abs z ≤ unsigned_abs (sums best) + hanging_size best (zip rest (values_of rs))) tight.reached (worth-size sums rest (values_of rs) best)
     in
     let of_sum : unsigned_abs (sums best) ≤ nat_sum_over (λ s. unsigned_abs (sums s)) (range_with_len first h.actions) = at_most_sum (λ s. unsigned_abs (sums s)) first h.actions best place.0 place.1 in
-    let joined : after best (zip rest (values_of rs)) + hanging first (zip rest (values_of rs)) ≤ hanging (first + h.actions) (zip rest (values_of rs)) = after-hanging best first (first + h.actions) (zip rest (values_of rs)) place.0 place.1 in
+    let joined : hanging_size best (zip rest (values_of rs)) + hanging first (zip rest (values_of rs)) ≤ hanging (first + h.actions) (zip rest (values_of rs)) = after-hanging best first (first + h.actions) (zip rest (values_of rs)) place.0 place.1 in
     let all : unsigned_abs r.value + hanging first (zip rest (values_of rs)) ≤ from sums first (h ∷ hs) = omega (arith, from-cons sums first h hs, ih.hangs) in
     record {
       hangs = omega (arith, after-first h.before first (unsigned_abs r.value) ordered.1);
@@ -64,7 +64,7 @@ values-below player sums sets order =
 -- at a sequence of a set, or at an earlier one
 worth_at : (player : Player) (sums : ℕ → ℤ) (first : ℕ) (hs : List InformationSet) (s : ℕ)
     → All IsInOrder (placed_from first hs) → first ≤ s → s < first + nat_sum_over (λ h. h.actions) hs
-    → unsigned_abs (sums s) + after s (zip (placed_from first hs) (values_of (replies_at player sums (placed_from first hs)))) ≤ from sums first hs
+    → unsigned_abs (sums s) + hanging_size s (zip (placed_from first hs) (values_of (replies_at player sums (placed_from first hs)))) ≤ from sums first hs
 worth_at player sums first [] s order low high = absurd (omega arith)
 worth_at player sums first (h ∷ hs) s order low high =
     let here : PlacedSet = record { first = first; before = h.before; actions = h.actions } in
@@ -72,9 +72,9 @@ worth_at player sums first (h ∷ hs) s order low high =
     let ordered = All-head IsInOrder here rest order in
     let later = All-tail IsInOrder here rest order in
     let rs : List SetReply = replies_at player sums rest in
-    let r : SetReply = head_of player (worth sums rest (values_of rs)) here in
-    let skips : after s (zip (here ∷ rest) (r.value ∷ values_of rs)) ≡ after s (zip rest (values_of rs)) =
-    kept (eqb h.before s) (here, r.value) (filter (λ p. eqb p.0.before s) (zip rest (values_of rs))) ∙ not_here h.before s (unsigned_abs r.value) (after s (zip rest (values_of rs))) (omega arith)
+    let r : SetReply = reply_at_set player (worth sums rest (values_of rs)) here in
+    let skips : hanging_size s (zip (here ∷ rest) (r.value ∷ values_of rs)) ≡ hanging_size s (zip rest (values_of rs)) =
+    kept (eqb h.before s) (here, r.value) (filter (λ p. eqb p.0.before s) (zip rest (values_of rs))) ∙ not_here h.before s (unsigned_abs r.value) (hanging_size s (zip rest (values_of rs))) (omega arith)
     in
     ⊎_elim
     (λ inside.

@@ -36,7 +36,8 @@ pub record IsLeft (form : SequenceForm) (plan_one : List ℕ) (left : ℤ) : Typ
 
 -- the total exploitability of two plans: player one's best payoff against the one, less what is left to the other, each
 -- over its plan's root, and together over the product of the roots
-pub record IsExploitability (form : SequenceForm) (root_one root_two : ℕ) (plan_one plan_two : List ℕ) (gap : ℤ) : Type 0 where
+pub record IsExploitability (form : SequenceForm) (root_one root_two : ℕ) (plan_one plan_two : List ℕ)
+    (gap : ℤ) : Type 0 where
   pub best : ℤ
   pub left : ℤ
   pub is_best : IsBestAgainst form plan_two best

@@ -14,6 +14,7 @@ use Rattle.def_tree.specs.declared.Player.TheVariants.{One, Two}
 use Rattle.def_plan.specs.Form.{InformationSet, PlacedSet, placed, sequences_of, sequences, sequence_count, AreInOrder, SequenceForm}
 use Rattle.def_plan.specs.Payoff.{leaf_sum, worth, mass_of}
 use Rattle.def_plan.proofs.SizeLaws.{leaf_sums-below, of_a_round}
+use Rattle.def_plan.proofs.Duality.{AllZip-weaker}
 use Rattle.def_round.specs.Play.{positive_part, regret_of, play_of, plan_of_play, GivesAllUnits}
 use Rattle.def_round.specs.Round.{utility, own_sum, round_values, set_regrets, regrets_after}
 use Rattle.def_round.specs.Rounds.{Standing, rounds}
@@ -33,13 +34,6 @@ own_sums_small player leaves sets against_sets root plan order is =
     omega (arith, same, leaf_sums-below player leaves sets against_sets root plan order is)
 
 -- ---- one round
-AllZip-weaker : {A B : Type 0} (R S : A → B → Type 0) → ((a : A) (b : B) → R a b → S a b) → (xs : List A) (ys : List B)
-    → AllZip R xs ys → AllZip S xs ys
-AllZip-weaker R S weaker [] [] all = tt
-AllZip-weaker R S weaker [] (y ∷ ys) all = elim all [ ]
-AllZip-weaker R S weaker (x ∷ xs) [] all = elim all [ ]
-AllZip-weaker R S weaker (x ∷ xs) (y ∷ ys) all = (weaker x y all.0, AllZip-weaker R S weaker xs ys all.1)
-
 All-blocks : {A B C : Type 0} (P : C → Type 0) (f : A → B → List C) (xs : List A) (ys : List B)
     → AllZip (λ x y. All P (f x y)) xs ys → All P (flat_map (λ p. f p.0 p.1) (zip xs ys))
 All-blocks P f [] ys all = All-nil P

@@ -8,6 +8,6 @@ pub mod Averages
 pub mod Trees
 pub mod Growth
 pub mod Proportion
-pub mod Following
+pub mod EachRoundFollows
 pub mod OwnSums
-pub mod Parts
+pub mod WorthPartsWithinSums

@@ -12,7 +12,8 @@ use Rattle.def_round.specs.Laws.{PlaysAreInProportion}
 use Rattle.def_round.proofs.Plays.{sum_of_map, plays_each_set}
 
 -- a number for each place of a range, where they are shares by the parts there
-module _ (n : ℕ) (share part : ℕ → ℕ) (first long : ℕ) (are : map share (range_with_len first long) ≡ shares n (map part (range_with_len first long))) where
+module _ (n : ℕ) (share part : ℕ → ℕ) (first long : ℕ)
+    (are : map share (range_with_len first long) ≡ shares n (map part (range_with_len first long))) where
   weights : List ℕ
   weights = map part (range_with_len first long)
 

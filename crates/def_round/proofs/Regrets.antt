@@ -1,25 +1,18 @@
 -- The regrets after a round.
 use Rattle.std.proofs.Common.{◌≡◌, ℕ, suc, ◌+◌, List, [], ◌∷◌, map, length, drop, All, arith, ap, sym, ◌∙◌, refl, subst}
 use Rattle.std.specs.Prelude.{ℤ, pos, ◌+ℤ◌, ◌-ℤ◌}
-use Rattle.std.specs.List.{AllZip}
 use Rattle.std.proofs.lemmas.List.FromFn.{length-map-range_with_len}
 use Rattle.std.proofs.Math.Seq.{drop-cons}
 use Rattle.def_sums.proofs.Ranges.{All-range, range-All, map-range_same}
 use Rattle.def_plan.specs.Form.{InformationSet, PlacedSet, placed, sequences_of}
 use Rattle.def_plan.specs.Payoff.{worth}
 use Rattle.def_plan.proofs.BadSets.{length-placed}
+use Rattle.def_plan.proofs.Duality.{AllZip-weaker}
 use Rattle.def_round.specs.Play.{regret_of}
 use Rattle.def_round.specs.Round.{round_values, AddsRegrets, IsRound, set_regrets, regrets_with, regrets_after}
 use Rattle.def_round.specs.Laws.{RoundsAreComputed}
 use Rattle.def_round.proofs.Blocks.{same_at, blocks_zip, length-blocks_zip, drop-blocks_zip}
 use Rattle.def_round.proofs.Values.{values_solve, values_are_unique, length-values_from}
-
-AllZip-weaker : {A B : Type 0} (R S : A → B → Type 0) → ((a : A) (b : B) → R a b → S a b) → (xs : List A) (ys : List B)
-    → AllZip R xs ys → AllZip S xs ys
-AllZip-weaker R S weaker [] [] all = tt
-AllZip-weaker R S weaker [] (y ∷ ys) all = elim all [ ]
-AllZip-weaker R S weaker (x ∷ xs) [] all = elim all [ ]
-AllZip-weaker R S weaker (x ∷ xs) (y ∷ ys) all = (weaker x y all.0, AllZip-weaker R S weaker xs ys all.1)
 
 module _ (sums : ℕ → ℤ) (sets : List InformationSet) (values : List ℤ) (before : List ℤ) where
   grown : PlacedSet → ℤ → ℕ → ℤ

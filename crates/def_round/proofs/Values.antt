@@ -181,7 +181,8 @@ later_sets sums first (set ∷ sets) (v ∷ vs) order long k h e s low =
     before : set.before < s
     before = let less : set.before < first = (All-head IsInOrder here rest order).1 in omega (arith, less, first_rises first (set ∷ sets) k h e, low)
 
-    by_place : ((k : ℕ) (h : PlacedSet) → slice_get rest k ≡ Some h → (s : ℕ) → h.first ≤ s → worth sums rest vs s ≡ worth sums (drop (suc k) rest) (drop (suc k) vs) s)
+    by_place : ((k : ℕ) (h : PlacedSet) → slice_get rest k ≡ Some h → (s : ℕ) → h.first ≤ s
+        → worth sums rest vs s ≡ worth sums (drop (suc k) rest) (drop (suc k) vs) s)
         → (k : ℕ) → slice_get (here ∷ rest) k ≡ Some h → worth sums rest vs s ≡ worth sums (drop k rest) (drop k vs) s
     by_place later zero e = refl
     by_place later (suc k) e = later k h e s low

@@ -42,7 +42,8 @@ abbrev pub round_values : (ℕ → ℤ) → List ℕ → List InformationSet →
 round_values sums play sets = values_from sums play (placed sets)
 
 -- a round adds v(s) - V(h) to the regret of each sequence s of each set h
-pub record AddsRegrets (sums : ℕ → ℤ) (sets : List InformationSet) (values : List ℤ) (before after : List ℤ) : Type 0 where
+pub record AddsRegrets (sums : ℕ → ℤ) (sets : List InformationSet) (values : List ℤ)
+    (before after : List ℤ) : Type 0 where
   pub all_sequences : length after ≡ sequence_count sets
   pub none_of_empty : regret_of after 0 ≡ pos 0
   pub each_set : AllZip (λ h value. All (λ s. regret_of after s ≡ regret_of before s +ℤ (worth sums (placed sets) values s -ℤ value)) (sequences_of h)) (placed sets) values

@@ -1,9 +1,10 @@
 -- The sizes on which fixed widths rest.
-use Rattle.std.specs.Prelude.{ℕ, ◌+◌, ◌*◌, ◌^◌, ◌≤◌, ◌<◌, ◌==◌, ℤ, unsigned_abs, List, zip, filter, All}
+use Rattle.std.specs.Prelude.{ℕ, ◌+◌, ◌*◌, ◌≤◌, ◌<◌, ◌==◌, ℤ, unsigned_abs, List, zip, filter, All}
 use Rattle.std.specs.List.{AllZip}
-use Rattle.def_sums.specs.Limits.{most_rounds, most_round_row, most_row}
+use Rattle.def_sums.specs.Limits.{most_rounds, most_round_row, most_row, past_product}
 use Rattle.def_sums.specs.Sum.{nat_sum_over}
 use Rattle.def_tree.specs.declared.Player.{Player}
+use Rattle.def_tree.specs.Rules.{most_actions}
 use Rattle.def_plan.specs.Form.{InformationSet, placed, sequence_count, AreInOrder, SequenceForm, Leaf}
 use Rattle.def_plan.specs.Plan.{IsPlan}
 use Rattle.def_plan.specs.Payoff.{worth, mass_of}
@@ -81,7 +82,7 @@ RegretsAreSmall = (form : SequenceForm) (root n : ℕ) → AreInOrder form.sets_
 
 -- and all units times a set's regrets are below 2 ^ 126, where a set has at most 1,024 actions
 pub record DealsWithin (sets : List InformationSet) (regrets : List ℤ) : Type 0 where
-  pub each_set : All (λ h. h.actions ≤ 1024 → dealt_product regrets h < 2 ^ 126) (placed sets)
+  pub each_set : All (λ h. h.actions ≤ most_actions → dealt_product regrets h < past_product) (placed sets)
 
 pub record BothDealWithin (form : SequenceForm) (root n : ℕ) : Type 0 where
   pub of_one : DealsWithin form.sets_one (rounds form root n).regrets_one

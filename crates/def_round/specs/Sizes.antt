@@ -13,7 +13,8 @@ size_of_sums sums sets = nat_sum_over (λ s. unsigned_abs (sums s)) (sequences s
 
 -- at a set: its value, what it adds to a regret, the worths of its sequences together,
 -- and the products of play and worth together
-pub record IsWithin (bound : ℕ) (sums : ℕ → ℤ) (play : List ℕ) (sets : List InformationSet) (values : List ℤ) (h : PlacedSet) (value : ℤ) : Type 0 where
+pub record IsWithin (bound : ℕ) (sums : ℕ → ℤ) (play : List ℕ) (sets : List InformationSet) (values : List ℤ)
+    (h : PlacedSet) (value : ℤ) : Type 0 where
   pub its_value : unsigned_abs value ≤ bound
   pub worths : nat_sum_over (λ s. unsigned_abs (worth sums (placed sets) values s)) (sequences_of h) ≤ bound
   pub each_growth : All (λ s. unsigned_abs (worth sums (placed sets) values s -ℤ value) ≤ bound) (sequences_of h)

@@ -49,7 +49,8 @@ rounds_of form root every last k d below =
     let first : 1 ≤ get_or ks k 0 = ((rounds_evaluated.which every last (get_or ks k 0)).0 is).0 in
     subst (λ (e : Evaluation). (1 ≤ e.round) × (e.divisor ≡ e.round)) (sym at) (first, refl)
 
-divisors_of : (form : SequenceForm) (root every last : ℕ) → HaveDivisors (evaluations form root every last)
+-- no evaluation of a run is divided by 0
+pub divisors_of : (form : SequenceForm) (root every last : ℕ) → HaveDivisors (evaluations form root every last)
 divisors_of form root every last k d below = let r = rounds_of form root every last k d below in omega (arith, r.0, r.1)
 
 of_its_round : (form : SequenceForm) (root every last : ℕ) (place : ℕ) (end : Evaluation)

@@ -63,14 +63,14 @@ pub fn outcomes_show_their_run()
 {}
 
 /// Row: one mover, two rounds: both ceilings are equal, and the first is kept.
-pub fn trace_of_one_mover()
+pub fn run_trace_of_one_mover()
     ensures { trace (evaluations one_mover 1048576 1 2)
         ≡ record { round = 1; low_round = 1; low = pos 524288; high_round = 1; high = pos 1048576 }
         ∷ record { round = 2; low_round = 2; low = pos 1572864; high_round = 1; high = pos 1048576 } ∷ [] }
 {}
 
 /// Row: matching pennies, two rounds with plans of root 1: the ends come from different rounds.
-pub fn trace_of_pennies()
+pub fn run_trace_of_pennies()
     ensures { trace (evaluations pennies 1 1 2)
         ≡ record { round = 1; low_round = 1; low = negsuc 0; high_round = 1; high = pos 1 }
         ∷ record { round = 2; low_round = 1; low = negsuc 0; high_round = 2; high = pos 0 } ∷ [] }

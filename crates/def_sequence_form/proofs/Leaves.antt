@@ -13,8 +13,8 @@ use Rattle.def_game_paths.specs.Paths.{Visit, visits, leaf_visits, Choice, own_c
 use Rattle.def_game_paths.specs.Recall.{HasPerfectRecall, is_personal}
 use Rattle.def_game_paths.specs.Sequences.{choice_of, sequence_at, sequence_number, set_firsts, set_sizes, IsChoiceOf, SequencesAreInRange}
 use Rattle.def_game_paths.proofs.Visits.{map-visits_from}
-use Rattle.def_game_paths.proofs.Order.{node_of}
-use Rattle.def_game_paths.proofs.Ancestors.{choices_told}
+use Rattle.def_game_paths.proofs.Order.{visited_node}
+use Rattle.def_game_paths.proofs.Ancestors.{choices_from_numbers}
 use Rattle.def_game_paths.proofs.Choices.{of_choice}
 use Rattle.def_game_paths.proofs.Counts.{each_sequence_is_in_range}
 use Rattle.def_game_scale.specs.Tables.{Tables}
@@ -22,18 +22,18 @@ use Rattle.def_game_scale.specs.Scale.{all_expected, expected, weights}
 use Rattle.def_plan.specs.Payoff.{mass_of}
 use Rattle.def_plan.specs.Form.{InformationSet, Leaf}
 use Rattle.def_sequence_form.specs.Form.{LeafEntry, leaf_entry, leaf_list, leaves_with, form_of}
-use Rattle.def_sequence_form.specs.Sets.{told_sets}
+use Rattle.def_sequence_form.specs.Sets.{sets_with_nodes}
 use Rattle.def_sequence_form.specs.Laws.{last_of_choices, LeafHasItsChoices, TellsChoices, FormHasTheLeafList, FormHasTheMass, TellsEachNode, TreeSetsTellNodes}
-use Rattle.def_sequence_form.proofs.Sets.{counts_agree, set_at}
+use Rattle.def_sequence_form.proofs.Sets.{counts_agree, set_of_visit}
 
 -- the leaves among visits are as many as among their nodes
 leaves_alike : (vs : List Visit)
     → length (filter (λ (v : Visit). is_leaf_kind v.node.kind) vs)
-    ≡ length (filter (λ (n : Node). is_leaf_kind n.kind) (map node_of vs))
+    ≡ length (filter (λ (n : Node). is_leaf_kind n.kind) (map visited_node vs))
 leaves_alike [] = refl
 leaves_alike (v ∷ rest) =
     elim (is_leaf_kind v.node.kind) as (λ b. length (cond b (v ∷ filter (λ (w : Visit). is_leaf_kind w.node.kind) rest) (filter (λ (w : Visit). is_leaf_kind w.node.kind) rest))
-    ≡ length (cond b (v.node ∷ filter (λ (n : Node). is_leaf_kind n.kind) (map node_of rest)) (filter (λ (n : Node). is_leaf_kind n.kind) (map node_of rest)))) [
+    ≡ length (cond b (v.node ∷ filter (λ (n : Node). is_leaf_kind n.kind) (map visited_node rest)) (filter (λ (n : Node). is_leaf_kind n.kind) (map visited_node rest)))) [
       | true ↦ ap suc (leaves_alike rest)
       | false ↦ leaves_alike rest
     ]
@@ -43,7 +43,7 @@ pub leaves_counted : (tree : Forest) → length (leaf_visits tree) ≡ leaf_coun
 leaves_counted tree = leaves_alike (visits tree) ∙ ap (λ ns. length (filter (λ (n : Node). is_leaf_kind n.kind) ns)) (map-visits_from (λ _. []) 1 tree) ∙ length-filter (λ (n : Node). is_leaf_kind n.kind) (prefix tree)
 
 -- the form's leaf at a visit, with a weight
-abbrev leaf_at : Forest → Visit → ℤ → Leaf
+abbrev pub leaf_at : Forest → Visit → ℤ → Leaf
 leaf_at tree v weight = record { sequence_one = sequence_at One tree v; sequence_two = sequence_at Two tree v; weight = weight }
 
 -- there is a leaf for each visit, where there are weights enough
@@ -92,17 +92,18 @@ module _ (tables : Tables) (tree : Forest) (game : IsGameTree tree) where
       }
 
   -- of visited nodes, equal numbers tell equal choices
-  visits_told : (kind : Kind) (v w : Visit) → HasPerfectRecall tree → is_personal kind ≡ true → Contains (visits tree) v
+  visits_by_choices : (kind : Kind) (v w : Visit) → HasPerfectRecall tree → is_personal kind ≡ true
+      → Contains (visits tree) v
       → Contains (visits tree) w → sequence_at kind tree v ≡ sequence_at kind tree w →
       own_choices kind v.path ≡ own_choices kind w.path
-  visits_told kind v w recall personal at_v at_w same =
+  visits_by_choices kind v w recall personal at_v at_w same =
       let all : List Visit = visits tree in
       let there_v : at_v.0 < length all = at_v.1 in
       let there_w : at_w.0 < length all = at_w.1 in
       let is_v : get_or all at_v.0 v ≡ v = at_v.2 in
       let is_w : get_or all at_w.0 v ≡ w = get_or_default all at_w.0 v w there_w ∙ at_w.2 in
       ap (λ (x : Visit). own_choices kind x.path) (sym is_v)
-      ∙ choices_told tree kind (length all) at_v.0 at_w.0 v game personal (λ p q e before below inside. recall p q e before inside) (omega arith) (omega arith) there_v there_w
+      ∙ choices_from_numbers tree kind (length all) at_v.0 at_w.0 v game personal (λ p q e before below inside. recall p q e before inside) (omega arith) (omega arith) there_v there_w
       (ap (sequence_at kind tree) is_v ∙ same ∙ sym (ap (sequence_at kind tree) is_w))
       ∙ ap (λ (x : Visit). own_choices kind x.path) is_w
 
@@ -116,8 +117,8 @@ module _ (tables : Tables) (tree : Forest) (game : IsGameTree tree) where
       let v : Visit = get_or (leaf_visits tree) y d in
       let w : Visit = get_or (leaf_visits tree) z d in
       record {
-        one = (visits_told One v w recall refl (leaves_visited y d here) (leaves_visited z d there), ap (sequence_number (set_sizes One tree)));
-        two = (visits_told Two v w recall refl (leaves_visited y d here) (leaves_visited z d there), ap (sequence_number (set_sizes Two tree)));
+        one = (visits_by_choices One v w recall refl (leaves_visited y d here) (leaves_visited z d there), ap (sequence_number (set_sizes One tree)));
+        two = (visits_by_choices Two v w recall refl (leaves_visited y d here) (leaves_visited z d there), ap (sequence_number (set_sizes Two tree)));
       }
 
 -- the form of a tree with a weight for each leaf has the leaves of the tree's list, in its order
@@ -142,15 +143,15 @@ form_has_the_leaf_list tables tree weights game many =
       pairs = λ recall y z entry leaf here there.
           let in_y : y < length vs = omega arith in
           let in_z : z < length vs = omega arith in
-          pair_told (leaf_entry tables (get_or vs y d)) (get_or (leaf_list tables tree) y entry) (leaf_entry tables (get_or vs z d)) (get_or (leaf_list tables tree) z entry)
+          pair_by_parts (leaf_entry tables (get_or vs y d)) (get_or (leaf_list tables tree) y entry) (leaf_entry tables (get_or vs z d)) (get_or (leaf_list tables tree) z entry)
           (leaf_at tree (get_or vs y d) (get_or weights y none)) (get_or (leaves_with tree vs weights) y leaf) (leaf_at tree (get_or vs z d) (get_or weights z none)) (get_or (leaves_with tree vs weights) z leaf)
           (sym (entry_is y entry in_y)) (sym (entry_is z entry in_z)) (sym (leaf_is y leaf in_y)) (sym (leaf_is z leaf in_z))
           (tells tables tree game recall y z d (get_or weights y none) (get_or weights z none) in_y in_z);
     }
   where
-    pair_told : (a b c e : LeafEntry) (l m n o : Leaf) → a ≡ b → c ≡ e → l ≡ m → n ≡ o → TellsChoices a c l n
+    pair_by_parts : (a b c e : LeafEntry) (l m n o : Leaf) → a ≡ b → c ≡ e → l ≡ m → n ≡ o → TellsChoices a c l n
         → TellsChoices b e m o
-    pair_told a b c e l m n o ab ce lm right h = subst (λ x. TellsChoices x e m o) ab (subst (λ x. TellsChoices a x m o) ce (subst (λ x. TellsChoices a c x o) lm (subst (TellsChoices a c l) right h)))
+    pair_by_parts a b c e l m n o ab ce lm right h = subst (λ x. TellsChoices x e m o) ab (subst (λ x. TellsChoices a x m o) ce (subst (λ x. TellsChoices a c x o) lm (subst (TellsChoices a c l) right h)))
 
 sizes_of : (leaves : List Leaf) → mass_of leaves ≡ sum (map unsigned_abs (map (λ (leaf : Leaf). leaf.weight) leaves))
 sizes_of [] = refl
@@ -170,15 +171,15 @@ form_has_the_mass = record {
 }
 
 sizes_map : (kind : Kind) (tree : Forest) (vs : List Visit)
-    → map (λ (set : InformationSet). set.actions) (map (set_at kind tree) vs) ≡ map (λ (v : Visit). v.node.children) vs
+    → map (λ (set : InformationSet). set.actions) (map (set_of_visit kind tree) vs) ≡ map (λ (v : Visit). v.node.children) vs
 sizes_map kind tree [] = refl
 sizes_map kind tree (v ∷ rest) = ap (λ ns. v.node.children ∷ ns) (sizes_map kind tree rest)
 
 tells_each_node : (tree : Forest) (kind : Kind) → IsGameTree tree → is_leaf_kind kind ≡ false
-    → TellsEachNode tree kind (told_sets kind tree)
+    → TellsEachNode tree kind (sets_with_nodes kind tree)
 tells_each_node tree kind game inner =
     let all : List Visit = visits tree in
-    let long : length all ≡ node_count tree = sym (length-map all node_of) ∙ ap length (map-visits_from (λ _. []) 1 tree) in
+    let long : length all ≡ node_count tree = sym (length-map all visited_node) ∙ ap length (map-visits_from (λ _. []) 1 tree) in
     record {
       sets = refl;
       count = length-map all (sequence_at kind tree) ∙ long;
@@ -190,6 +191,6 @@ tells_each_node tree kind game inner =
           ∙ last_named (set_sizes kind tree) (own_choices kind v.path) (each_sequence_is_in_range tree game kind inner k d here).choices;
     }
 
--- each node is told by the number of the sequence that ends with the player's last own choice before it
+-- each node is known by the number of the sequence that ends with the player's last own choice before it
 pub tree_sets_tell_nodes : TreeSetsTellNodes
 tree_sets_tell_nodes = record { one = λ tree game. tells_each_node tree One game refl; two = λ tree game. tells_each_node tree Two game refl }

@@ -1,4 +1,4 @@
--- The sets of a tree are told exactly where recall holds,
+-- The sets of a tree are answered exactly where recall holds,
 -- and then each set has its sequence and its actions from each of its nodes.
 use Rattle.std.proofs.Common.{◌≡◌, ℕ, ◌+◌, ◌-◌, ◌<◌, ◌≤◌, true, false, List, [], length, get_or, refl, ap, sym, ◌∙◌, arith, inl, inr, Some, None, Ok, Err}
 use Rattle.std.specs.Prelude.{Option}
@@ -17,28 +17,29 @@ use Rattle.def_game_paths.proofs.Firsts.{firsts_are_first}
 use Rattle.def_game_paths.proofs.Numbers.{not_behind}
 use Rattle.def_sequence_form.specs.Sets.{TreeSets, tree_sets, unless_broken}
 use Rattle.def_sequence_form.specs.Laws.{SetsAreExact, SetsHaveTheirNodes}
-use Rattle.def_sequence_form.proofs.Sets.{set_at}
+use Rattle.def_sequence_form.proofs.Sets.{set_of_visit}
 
-told_none : (o : Option RecallBreak) (sets told : TreeSets) → unless_broken o sets ≡ Ok told
-    → (o ≡ None) × (told ≡ sets)
-told_none None sets told e = (refl, cc)
-told_none (Some broken) sets told e = cc
+none_is_broken : (o : Option RecallBreak) (sets shown : TreeSets) → unless_broken o sets ≡ Ok shown
+    → (o ≡ None) × (shown ≡ sets)
+none_is_broken None sets shown e = (refl, cc)
+none_is_broken (Some broken) sets shown e = cc
 
--- what is told in place of the sets is the break that was found
-pub told_break : (o : Option RecallBreak) (sets : TreeSets) (broken : RecallBreak) → unless_broken o sets ≡ Err broken
+-- what is answered in place of the sets is the break that was found
+pub broken_by_break : (o : Option RecallBreak) (sets : TreeSets) (broken : RecallBreak)
+    → unless_broken o sets ≡ Err broken
     → o ≡ Some broken
-told_break None sets broken e = cc
-told_break (Some found) sets broken e = cc
+broken_by_break None sets broken e = cc
+broken_by_break (Some found) sets broken e = cc
 
--- the sets are told exactly where both players have perfect recall, and otherwise its first break
+-- the sets are answered exactly where both players have perfect recall, and otherwise its first break
 pub sets_are_exact : SetsAreExact
 sets_are_exact = record {
   found = λ tree. (
-    λ e. recall_of_none tree (told_none (recall_break tree) (tree_sets tree) (tree_sets tree) e).0,
+    λ e. recall_of_none tree (none_is_broken (recall_break tree) (tree_sets tree) (tree_sets tree) e).0,
     λ recall. ap (λ o. unless_broken o (tree_sets tree)) (none_of_recall tree recall),
   );
-  only = λ tree sets e. (told_none (recall_break tree) (tree_sets tree) sets e).1;
-  broken = λ tree d broken e. break_first tree d broken (told_break (recall_break tree) (tree_sets tree) broken e);
+  only = λ tree sets e. (none_is_broken (recall_break tree) (tree_sets tree) sets e).1;
+  broken = λ tree d broken e. break_first tree d broken (broken_by_break (recall_break tree) (tree_sets tree) broken e);
 }
 
 -- the first node of a node's set has the node's own choices before it
@@ -86,4 +87,4 @@ sets_have_their_nodes tree game recall kind personal none k d there is =
     (sym (first_of_set_same 1 f.node v.node all kinds sets) ∙ first.first.1) in
     let own : own_choices kind f.path ≡ own_choices kind v.path = ap (λ h. own_choices h f.path) (sym first.kinds) ∙ pasts ∙ ap (λ h. own_choices h v.path) is in
     let size : f.node.children ≡ v.node.children = sym (get_or-map (λ w. w.node.children) firsts place d 0 here) ∙ held.2 in
-    get_or-map (set_at kind tree) firsts place d none here ∙ (λ i. record { before = sequence_number (set_sizes kind tree) (own i); actions = size i })
+    get_or-map (set_of_visit kind tree) firsts place d none here ∙ (λ i. record { before = sequence_number (set_sizes kind tree) (own i); actions = size i })

@@ -4,7 +4,7 @@ use Rattle.std.specs.Prelude.{◌≡◌, ◌↔◌, ℕ, ◌+◌, ◌-◌, ◌<�
 use Rattle.def_tree.specs.declared.Kind.{Kind}
 use Rattle.def_tree.specs.declared.Kind.TheVariants.{One, Two}
 use Rattle.def_tree.specs.Tree.{Forest, prefix, node_count, leaf_count, is_leaf_kind}
-use Rattle.def_tree.specs.Rules.{IsGameTree, set_count}
+use Rattle.def_tree.specs.Rules.{IsGameTree, set_count, most_actions}
 use Rattle.def_game_paths.specs.Paths.{Visit, visits, Choice, own_choices}
 use Rattle.def_game_paths.specs.Recall.{HasPerfectRecall, IsFirstBreak, RecallBreak, is_personal}
 use Rattle.def_game_paths.specs.Sequences.{choice_of, first_sequence, sequence_at, sequences_before, set_sizes}
@@ -20,7 +20,7 @@ abbrev pub FormIsInOrder : Type 0
 FormIsInOrder = (tree : Forest) → IsGameTree tree → (kind : Kind) → is_leaf_kind kind ≡ false
     → AreInOrder (information_sets kind tree)
 
--- the sets are told exactly where both players have perfect recall, and otherwise its first break
+-- there are sets exactly where both players have perfect recall, and otherwise its first break
 pub record SetsAreExact : Type 0 where
   pub found : (tree : Forest) → (sets_or_break tree ≡ Ok (tree_sets tree)) ↔ HasPerfectRecall tree
   pub only : (tree : Forest) (sets : TreeSets) → sets_or_break tree ≡ Ok sets → sets ≡ tree_sets tree
@@ -41,7 +41,7 @@ pub record NumbersAsTheTree (tree : Forest) (kind : Kind) : Type 0 where
   pub places : (i : ℕ) (d : PlacedSet) → i < length (information_sets kind tree)
       → slice_index_or (placed (information_sets kind tree)) i d
       ≡ record { first = first_sequence (set_sizes kind tree) (i + 1); before = slice_index (sequences_before kind tree) i; actions = slice_index (set_sizes kind tree) i }
-  pub actions : All (λ set. (1 ≤ set.actions) × (set.actions ≤ 1024)) (information_sets kind tree)
+  pub actions : All (λ set. (1 ≤ set.actions) × (set.actions ≤ most_actions)) (information_sets kind tree)
   pub few_sets : length (information_sets kind tree) ≤ node_count tree
   pub few_sequences : sequence_count (information_sets kind tree) ≤ node_count tree
 
@@ -89,13 +89,13 @@ pub record FormHasTheMass : Type 0 where
       → mass_of (form_of tree weights).leaves ≡ sum (map unsigned_abs weights)
   pub of_game : (tables : Tables) (tree : Forest) → mass_of (form_of_game tables tree).leaves ≡ game_mass tables tree
 
--- what is told of a player's sets: those of the form, and for each node the number of the sequence that ends with the
+-- what is answered of a player's sets: those of the form, and for each node the number of the sequence that ends with the
 -- player's last own choice before it
-pub record TellsEachNode (tree : Forest) (kind : Kind) (told : PlayerSets) : Type 0 where
-  pub sets : told.sets ≡ information_sets kind tree
-  pub count : length told.at_nodes ≡ node_count tree
+pub record TellsEachNode (tree : Forest) (kind : Kind) (known : PlayerSets) : Type 0 where
+  pub sets : known.sets ≡ information_sets kind tree
+  pub count : length known.at_nodes ≡ node_count tree
   pub last : (k : ℕ) (d : Visit) → k < node_count tree
-      → choice_of (map (λ set. set.actions) told.sets) (slice_index told.at_nodes k)
+      → choice_of (map (λ set. set.actions) known.sets) (slice_index known.at_nodes k)
       ≡ last_of_choices (own_choices kind (slice_index_or (visits tree) k d).path)
 
 pub record TreeSetsTellNodes : Type 0 where

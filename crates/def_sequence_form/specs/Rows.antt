@@ -1,10 +1,10 @@
 -- The sets, the form and the list of leaves of small games.
-use Rattle.std.specs.Prelude.{◌≡◌, ℕ, pos, negsuc, [], ◌∷◌, Ok, Err}
+use Rattle.std.specs.Prelude.{◌≡◌, pos, negsuc, [], ◌∷◌, Ok, Err}
 use Rattle.def_tree.specs.declared.Kind.TheVariants.{Chance, One, Two}
 use Rattle.def_tree.specs.Tree.{Forest, forest_of}
-use Rattle.def_tree.specs.Rules.{inner_node}
-use Rattle.def_fraction.specs.Fraction.{Fraction, whole_number}
-use Rattle.def_game_paths.specs.Rows.{leaf, absent_driver, absent_partner, matching_pennies}
+use Rattle.def_tree.specs.Rules.{inner_node, leaf_node, matching_pennies}
+use Rattle.def_fraction.specs.Fraction.{whole_number, over}
+use Rattle.def_game_paths.specs.Rows.{absent_driver, absent_partner}
 use Rattle.def_game_scale.specs.Tables.{Tables}
 use Rattle.def_plan.specs.Pennies.{pennies}
 use Rattle.def_sequence_form.specs.Form.{form_of, leaf_list}
@@ -12,7 +12,7 @@ use Rattle.def_sequence_form.specs.Sets.{sets_or_break}
 
 -- player one goes up, where player two has three actions, or down, and then moves again
 abbrev pub uneven_game : Forest
-uneven_game = forest_of (inner_node One 1 2 ∷ inner_node Two 1 3 ∷ leaf 0 ∷ leaf 0 ∷ leaf 0 ∷ inner_node One 2 2 ∷ leaf 0 ∷ leaf 0 ∷ [])
+uneven_game = forest_of (inner_node One 1 2 ∷ inner_node Two 1 3 ∷ leaf_node 0 ∷ leaf_node 0 ∷ leaf_node 0 ∷ inner_node One 2 2 ∷ leaf_node 0 ∷ leaf_node 0 ∷ [])
 
 pub record FormRows : Type 0 where
   pub pennies_form : form_of matching_pennies (pos 1 ∷ negsuc 0 ∷ negsuc 0 ∷ pos 1 ∷ []) ≡ pennies
@@ -35,20 +35,17 @@ pub record FormRows : Type 0 where
 
 -- at odds of one to two the game ends at once, or player one moves. It isn't zero-sum
 abbrev pub early_end : Forest
-early_end = forest_of (inner_node Chance 1 2 ∷ leaf 1 ∷ inner_node One 1 2 ∷ leaf 2 ∷ leaf 0 ∷ [])
-
-abbrev thirds : ℕ → Fraction
-thirds n = record { num = pos n; den = 3 }
+early_end = forest_of (inner_node Chance 1 2 ∷ leaf_node 1 ∷ inner_node One 1 2 ∷ leaf_node 2 ∷ leaf_node 0 ∷ [])
 
 abbrev pub early_end_tables : Tables
 early_end_tables = record {
-  chance = (thirds 1 ∷ thirds 2 ∷ []) ∷ [];
-  outcomes = record { one = whole_number (pos 5); two = whole_number (pos 7) } ∷ record { one = whole_number (negsuc 1); two = thirds 1 } ∷ [];
+  chance = (over (pos 1) 3 ∷ over (pos 2) 3 ∷ []) ∷ [];
+  outcomes = record { one = whole_number (pos 5); two = whole_number (pos 7) } ∷ record { one = whole_number (negsuc 1); two = over (pos 1) 3 } ∷ [];
 }
 
 pub record LeafListRows : Type 0 where
   pub early_end_leaves : leaf_list early_end_tables early_end
-      ≡ record { reach = thirds 1; payoff_one = whole_number (pos 5); payoff_two = whole_number (pos 7); choices_one = []; choices_two = [] }
-      ∷ record { reach = thirds 2; payoff_one = whole_number (negsuc 1); payoff_two = thirds 1; choices_one = record { set = 1; action = 1 } ∷ []; choices_two = [] }
-      ∷ record { reach = thirds 2; payoff_one = whole_number (pos 0); payoff_two = whole_number (pos 0); choices_one = record { set = 1; action = 2 } ∷ []; choices_two = [] }
+      ≡ record { reach = over (pos 1) 3; payoff_one = whole_number (pos 5); payoff_two = whole_number (pos 7); choices_one = []; choices_two = [] }
+      ∷ record { reach = over (pos 2) 3; payoff_one = whole_number (negsuc 1); payoff_two = over (pos 1) 3; choices_one = record { set = 1; action = 1 } ∷ []; choices_two = [] }
+      ∷ record { reach = over (pos 2) 3; payoff_one = whole_number (pos 0); payoff_two = whole_number (pos 0); choices_one = record { set = 1; action = 2 } ∷ []; choices_two = [] }
       ∷ []

@@ -1,4 +1,4 @@
--- The information sets of a tree, as they are told where its players remember their choices (von Stengel 1996).
+-- The information sets of a tree, as they are found where its players remember their choices (von Stengel 1996).
 --     TreeSets, tree_sets t     both players' sets in order, and the numbers of their sequences at each node
 --     sets_or_break t           these, or the first break of perfect recall
 use Rattle.std.specs.Prelude.{ℕ, List, map, Option, Some, None, Result, Ok, Err}
@@ -21,11 +21,11 @@ pub record TreeSets : Type 0 where
   pub one : PlayerSets
   pub two : PlayerSets
 
-abbrev pub told_sets : Kind → Forest → PlayerSets
-told_sets kind tree = record { sets = information_sets kind tree; at_nodes = map (sequence_at kind tree) (visits tree) }
+abbrev pub sets_with_nodes : Kind → Forest → PlayerSets
+sets_with_nodes kind tree = record { sets = information_sets kind tree; at_nodes = map (sequence_at kind tree) (visits tree) }
 
 abbrev pub tree_sets : Forest → TreeSets
-tree_sets tree = record { one = told_sets One tree; two = told_sets Two tree }
+tree_sets tree = record { one = sets_with_nodes One tree; two = sets_with_nodes Two tree }
 
 abbrev pub unless_broken : Option RecallBreak → TreeSets → Result TreeSets RecallBreak
 unless_broken None sets = Ok sets

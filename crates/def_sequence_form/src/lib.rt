@@ -10,7 +10,7 @@ pub fn form_is_in_order()
     ensures { FormIsInOrder }
 {}
 
-/// The sets are told exactly where both players have perfect recall, and otherwise its first break.
+/// There are sets exactly where both players have perfect recall, and otherwise its first break.
 pub fn sets_are_exact()
     ensures { SetsAreExact }
 {}
@@ -36,7 +36,7 @@ pub fn form_has_the_mass()
     ensures { FormHasTheMass }
 {}
 
-/// What is told of the sets at each node is the number of the sequence that ends with its player's last own choice.
+/// What is answered of the sets at each node is the number of the sequence that ends with its player's last own choice.
 pub fn tree_sets_tell_nodes()
     ensures { TreeSetsTellNodes }
 {}

@@ -7,7 +7,7 @@ use Rattle.std.proofs.lemmas.List.Sums.{count_by-le-length, sum_by-append, sum_b
 use Rattle.def_tree.specs.declared.Kind.{Kind}
 use Rattle.def_tree.specs.declared.Kind.TheVariants.{Chance, One, Two, Leaf}
 use Rattle.def_tree.specs.declared.Node.{Node}
-use Rattle.def_tree.specs.Tree.{Forest, bare, grown, prefix, node_count, leaf_count, is_leaf_kind, tree_count}
+use Rattle.def_tree.specs.Tree.{Forest, bare, grown, prefix, node_count, leaf_count, is_leaf_kind, tree_count, is_leaf_node}
 use Rattle.def_tree.specs.Tree.{HasItsChildren}
 use Rattle.def_tree.specs.Rules.{FitsAs, IsGameTree, KeepRules}
 use Rattle.def_file.specs.Content.{GameFile}
@@ -50,11 +50,8 @@ All-front : (P : Node → Type 0) (xs ys : List Node) → All P (xs ++ ys) → A
 All-front P xs ys all k d low =
     subst P (get_or_append_left xs ys d k low) (all k d (omega (arith, length-append xs ys, low)))
 
-abbrev leaf : Node → Bool
-leaf node = is_leaf_kind node.kind
-
 abbrev one_if_leaf : Node → ℕ
-one_if_leaf node = cond (leaf node) 1 0
+one_if_leaf node = cond (is_leaf_node node) 1 0
 
 -- there is a leaf in each tree
 has_leaf : (trees : Forest) → HasItsChildren trees → 1 ≤ tree_count trees → All HasChildren (prefix trees)
@@ -99,7 +96,7 @@ module _ (bytes : List ℕ) (game : GameFile) (is : IsAccepted bytes game) where
       (have_children (prefix game.tree) tree.rules) in
       record {
         nodes = (some_nodes game.tree tree.tree.one, tree.limit);
-        leaves = (leaves, omega (arith, tree.limit, count_by-le-length leaf (prefix game.tree)));
+        leaves = (leaves, omega (arith, tree.limit, count_by-le-length is_leaf_node (prefix game.tree)));
         sets_one = omega (arith, one.few_sets, tree.limit);
         sets_two = omega (arith, two.few_sets, tree.limit);
         sequences_one = (omega arith, omega (arith, one.few_sequences, tree.limit));

@@ -1,4 +1,4 @@
 mod Heads
-mod Widths
-mod Short
+mod CertificateLineWidths
+mod CertificatesAreShort
 mod Solved

@@ -13,7 +13,7 @@ use Rattle.def_file.specs.Reading.{most_bytes}
 use Rattle.def_run.proofs.RunLaws.{runs_have_ends}
 use Rattle.def_cert_verdict.specs.Certificate.{PrintedBounds, Certificate}
 use Rattle.def_cert_verdict.specs.Verdict.{Verdict, bracket, head_only, verdict}
-use Rattle.def_cert_verdict.proofs.Decided.{exact}
+use Rattle.def_cert_verdict.proofs.VerdictIsExact.{exact}
 use Rattle.def_cert_accepted.specs.OfOutcome.{certificate_of}
 use Rattle.def_cert_accepted.proofs.Accepted.{accepted as run_accepted}
 use Rattle.def_cert_accepted.proofs.Fits.{fits_always}
@@ -37,12 +37,12 @@ use Rattle.def_text.specs.CheckLines.{cert_long_line, verdict_text}
 use Rattle.def_text.specs.Text.{form_of_file, game_head, game_outcome, solve_text}
 use Rattle.def_program.specs.Program.{Answer, answer_of, certificate_answer, check_answer, check_told, file_answer}
 use Rattle.def_program.specs.Program.{game_answer, made_answer, program, refusal, solved, success}
-use Rattle.def_program.proofs.Made.{made_is}
+use Rattle.def_program.proofs.PokerFileIsRead.{made_is}
 use Rattle.def_program.proofs.Played.{head_of_game, played_games_have_bounds}
 use Rattle.def_solve_check.specs.Laws.{IsAcceptedWithBounds, IsTaken, SolvedTextsAreAccepted, SolvedTextsAreShort}
 use Rattle.def_solve_check.specs.Laws.{WhatDrillWritesCheckAccepts, WhatSolveWritesCheckAccepts}
 use Rattle.def_solve_check.proofs.Heads.{game_tree, head_fits}
-use Rattle.def_solve_check.proofs.Short.{accepted_short}
+use Rattle.def_solve_check.proofs.CertificatesAreShort.{accepted_short}
 
 abbrev certificate_of_game : GameFile → Settings → Certificate
 certificate_of_game game settings = certificate_of (form_of_file game) (game_outcome game settings)
@@ -102,12 +102,12 @@ pub solved_accepted : SolvedTextsAreAccepted
 solved_accepted = record { no_round = no_round; some_round = some_round }
 
 -- what is shown, with any number of rounds
-record IsShown (file : List ℕ) (text : List ℕ) : Type 0 where
+record HasVerdict (file : List ℕ) (text : List ℕ) : Type 0 where
   shown : Verdict
   is : checked file text ≡ Ok shown
 
 shown_of : (file : List ℕ) (game : GameFile) (settings : Settings) (workers : ℕ) → IsAccepted file game
-    → InRange settings workers → (rounds : ℕ) → settings.rounds ≡ rounds → IsShown file (solve_text game settings)
+    → InRange settings workers → (rounds : ℕ) → settings.rounds ≡ rounds → HasVerdict file (solve_text game settings)
 shown_of file game settings workers is range zero none =
     record { shown = head_only; is = no_round file game settings workers is range none }
 shown_of file game settings workers is range (suc n) some =

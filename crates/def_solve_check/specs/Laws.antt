@@ -23,7 +23,8 @@ pub record IsAcceptedWithBounds (file : List ℕ) (game : GameFile) (settings : 
   pub text : solve_text game settings ≡ cert_text (with_bounds (game_head game settings) bounds)
   pub shown : checked file (solve_text game settings) ≡ Ok (bracket bounds.low bounds.high)
 
--- of an accepted file, with settings in their ranges
+-- what `solve` writes of an accepted file, with settings in their ranges, is accepted by a check of that file:
+-- without a round by its head alone, and else with its bounds
 pub record SolvedTextsAreAccepted : Type 0 where
   pub no_round : (file : List ℕ) (game : GameFile) (settings : Settings) (workers : ℕ) → IsAccepted file game
       → InRange settings workers → settings.rounds ≡ 0 → checked file (solve_text game settings) ≡ Ok head_only
@@ -35,6 +36,7 @@ abbrev pub AcceptedTextsAreShort : Type 0
 AcceptedTextsAreShort = (file bytes : List ℕ) (shown : Verdict) → length file ≤ most_bytes
     → checked file bytes ≡ Ok shown → length bytes < most_cert_bytes
 
+-- what `solve` writes of an accepted file is within the limit of a certificate's bytes
 abbrev pub SolvedTextsAreShort : Type 0
 SolvedTextsAreShort = (file : List ℕ) (game : GameFile) (settings : Settings) (workers : ℕ) → IsAccepted file game
     → InRange settings workers → length (solve_text game settings) < most_cert_bytes
@@ -44,7 +46,8 @@ pub record IsTaken (words : List (List ℕ)) (told : List ℕ → Option (List �
   pub shown : Verdict
   pub said : program words told ≡ Some (success (verdict_text shown))
 
--- where `solve` wrote a text of a file's game, the words of `check` name files that tell the same game and that text
+-- what `solve` wrote of a file's game is accepted by `check`, given a file that tells the same game and a file that
+-- tells this text
 abbrev pub WhatSolveWritesCheckAccepts : Type 0
 WhatSolveWritesCheckAccepts = (words others : List (List ℕ)) (told after : List ℕ → Option (List ℕ))
     (path game_path text_path bytes text : List ℕ) (settings : Settings) (workers : ℕ)
@@ -53,7 +56,8 @@ WhatSolveWritesCheckAccepts = (words others : List (List ℕ)) (told after : Lis
     → command_of_words others ≡ Some (Check game_path text_path) → after game_path ≡ Some bytes
     → after text_path ≡ Some text → IsTaken others after
 
--- so it is of the text that `drill` wrote and the file that `gen` wrote for as many cards
+-- what `drill` wrote is accepted by `check`, given a file that tells what `gen` wrote for as many cards and a file
+-- that tells this text
 abbrev pub WhatDrillWritesCheckAccepts : Type 0
 WhatDrillWritesCheckAccepts = (words makers others : List (List ℕ)) (told before after : List ℕ → Option (List ℕ))
     (game_path text_path bytes text : List ℕ) (cards : ℕ) (settings : Settings) (workers : ℕ)

@@ -2,3 +2,4 @@ pub mod RingLaws
 pub mod SumLaws
 pub mod Ranges
 pub mod FloorLaws
+pub mod RisingLists

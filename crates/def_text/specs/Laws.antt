@@ -30,5 +30,6 @@ fault_numbers (Scale node) = node ∷ []
 abbrev pub HasNarrowNumbers : FileFault → Type 0
 HasNarrowNumbers fault = All (λ n. n < 2 ^ 64) (fault_numbers fault)
 
+-- two faults whose numbers are within 64 bits have one line only where they are one fault
 abbrev pub LinesTellFaults : Type 0
 LinesTellFaults = (f g : FileFault) → HasNarrowNumbers f → HasNarrowNumbers g → fault_line f ≡ fault_line g → f ≡ g

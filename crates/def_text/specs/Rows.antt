@@ -45,7 +45,7 @@ pub record FaultLineRows : Type 0 where
   pub mismatch : fault_line (SetMismatch 5) ≡ codes "refused 9 SetMismatch node 5" ++ line_feed
   pub recall : fault_line (NotRecall 3 1) ≡ codes "refused 18 NotRecall node 3 earlier 1" ++ line_feed
 
--- what a check says
+-- the lines of a check: two brackets, a head alone, and faults of a certificate with their numbers and places
 pub record CheckLineRows : Type 0 where
   pub accepted : verdict_text (bracket (record { num = negsuc 4; den = 12 }) (record { num = pos 1; den = 2 }))
       ≡ codes "accepted -5/12 1/2" ++ line_feed

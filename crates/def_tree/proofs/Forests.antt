@@ -4,11 +4,11 @@ use Rattle.def_tree.specs.declared.Node.{Node}
 use Rattle.def_tree.specs.Tree.{Forest, bare, grown, prefix, tree_count, HasItsChildren, take_trees, drop_trees, forest_of}
 
 -- the trees of the first row, and then those of the second
-abbrev pub joined : Forest → Forest → Forest
-joined bare ys = ys
-joined (grown node below beside) ys = grown node below (joined beside ys)
+abbrev pub joined_forests : Forest → Forest → Forest
+joined_forests bare ys = ys
+joined_forests (grown node below beside) ys = grown node below (joined_forests beside ys)
 
-pub joined-bare : (xs : Forest) → joined xs bare ≡ xs
+pub joined-bare : (xs : Forest) → joined_forests xs bare ≡ xs
 joined-bare bare = refl
 joined-bare (grown node below beside) = ap (grown node below) (joined-bare beside)
 
@@ -23,25 +23,25 @@ pub prefix-forest_of : (nodes : List Node) → prefix (forest_of nodes) ≡ node
 prefix-forest_of [] = refl
 prefix-forest_of (node ∷ rest) = ap (λ xs. node ∷ xs) (prefix-cut node.children (forest_of rest) ∙ prefix-forest_of rest)
 
-pub take_trees-joined : (xs ys : Forest) → take_trees (tree_count xs) (joined xs ys) ≡ xs
+pub take_trees-joined : (xs ys : Forest) → take_trees (tree_count xs) (joined_forests xs ys) ≡ xs
 take_trees-joined bare ys = refl
 take_trees-joined (grown node below beside) ys = ap (grown node below) (take_trees-joined beside ys)
 
-pub drop_trees-joined : (xs ys : Forest) → drop_trees (tree_count xs) (joined xs ys) ≡ ys
+pub drop_trees-joined : (xs ys : Forest) → drop_trees (tree_count xs) (joined_forests xs ys) ≡ ys
 drop_trees-joined bare ys = refl
 drop_trees-joined (grown node below beside) ys = drop_trees-joined beside ys
 
 -- the nodes of some trees, and then others: the trees stand first, and then those of the others
 pub forest_of-prefix : (xs : Forest) (rest : List Node) → HasItsChildren xs
-    → forest_of (prefix xs ++ rest) ≡ joined xs (forest_of rest)
+    → forest_of (prefix xs ++ rest) ≡ joined_forests xs (forest_of rest)
 forest_of-prefix bare rest h = refl
 forest_of-prefix (grown node below beside) rest h =
-    let behind : forest_of ((prefix below ++ prefix beside) ++ rest) ≡ joined below (joined beside (forest_of rest)) =
-    ap forest_of (append_assoc (prefix below) (prefix beside) rest) ∙ forest_of-prefix below (prefix beside ++ rest) h.1 ∙ ap (joined below) (forest_of-prefix beside rest h.2)
-    in let first : take_trees node.children (joined below (joined beside (forest_of rest))) ≡ below =
-    ap (λ n. take_trees n (joined below (joined beside (forest_of rest)))) (sym h.0) ∙ take_trees-joined below (joined beside (forest_of rest))
-    in let others : drop_trees node.children (joined below (joined beside (forest_of rest))) ≡ joined beside (forest_of rest) =
-    ap (λ n. drop_trees n (joined below (joined beside (forest_of rest)))) (sym h.0) ∙ drop_trees-joined below (joined beside (forest_of rest))
+    let behind : forest_of ((prefix below ++ prefix beside) ++ rest) ≡ joined_forests below (joined_forests beside (forest_of rest)) =
+    ap forest_of (append_assoc (prefix below) (prefix beside) rest) ∙ forest_of-prefix below (prefix beside ++ rest) h.1 ∙ ap (joined_forests below) (forest_of-prefix beside rest h.2)
+    in let first : take_trees node.children (joined_forests below (joined_forests beside (forest_of rest))) ≡ below =
+    ap (λ n. take_trees n (joined_forests below (joined_forests beside (forest_of rest)))) (sym h.0) ∙ take_trees-joined below (joined_forests beside (forest_of rest))
+    in let others : drop_trees node.children (joined_forests below (joined_forests beside (forest_of rest))) ≡ joined_forests beside (forest_of rest) =
+    ap (λ n. drop_trees n (joined_forests below (joined_forests beside (forest_of rest)))) (sym h.0) ∙ drop_trees-joined below (joined_forests beside (forest_of rest))
     in λ i. grown node
     ((ap (take_trees node.children) behind ∙ first) i)
     ((ap (drop_trees node.children) behind ∙ others) i)

@@ -8,11 +8,14 @@ use Rattle.def_tree.specs.Tree.{Forest, bare, grown, prefix, node_count}
 use Rattle.def_tree.specs.Events.{Event, Enter, Leave, events_from, entered, Accepts, Leads}
 use Rattle.std.specs.List.{enumerate_from}
 
-module _ {V : Type 0} (may_enter : V → ℕ → Node → Type 0) (enters : V → ℕ → Node → V → Type 0) (may_leave : V → ℕ → Type 0) (leaves : V → ℕ → V → Type 0) where
+module _ {V : Type 0} (may_enter : V → ℕ → Node → Type 0) (enters : V → ℕ → Node → V → Type 0)
+    (may_leave : V → ℕ → Type 0) (leaves : V → ℕ → V → Type 0) where
   -- a visitor accepts the steps if a fact on it and the steps left holds, allows each next step and is kept by it
   pub Accepts-invariant : (I : List Event → V → Type 0)
-      → ((k : ℕ) (node : Node) (rest : List Event) (v : V) → I (Enter k node ∷ rest) v → may_enter v k node × ((w : V) → enters v k node w → I rest w))
-      → ((k : ℕ) (rest : List Event) (v : V) → I (Leave k ∷ rest) v → may_leave v k × ((w : V) → leaves v k w → I rest w))
+      → ((k : ℕ) (node : Node) (rest : List Event) (v : V) → I (Enter k node ∷ rest) v
+      → may_enter v k node × ((w : V) → enters v k node w → I rest w))
+      → ((k : ℕ) (rest : List Event) (v : V) → I (Leave k ∷ rest) v
+      → may_leave v k × ((w : V) → leaves v k w → I rest w))
       → (steps : List Event) (v : V) → I steps v → Accepts may_enter enters may_leave leaves steps v
   Accepts-invariant I enter leave [] v h = tt
   Accepts-invariant I enter leave (Enter k node ∷ rest) v h =
@@ -21,8 +24,10 @@ module _ {V : Type 0} (may_enter : V → ℕ → Node → Type 0) (enters : V �
       let step = leave k rest v h in (step.0, λ w done. Accepts-invariant I enter leave rest w (step.1 w done))
 
   pub Leads-invariant : (I : List Event → V → Type 0)
-      → ((k : ℕ) (node : Node) (rest : List Event) (v : V) → I (Enter k node ∷ rest) v → may_enter v k node × ((w : V) → enters v k node w → I rest w))
-      → ((k : ℕ) (rest : List Event) (v : V) → I (Leave k ∷ rest) v → may_leave v k × ((w : V) → leaves v k w → I rest w))
+      → ((k : ℕ) (node : Node) (rest : List Event) (v : V) → I (Enter k node ∷ rest) v
+      → may_enter v k node × ((w : V) → enters v k node w → I rest w))
+      → ((k : ℕ) (rest : List Event) (v : V) → I (Leave k ∷ rest) v
+      → may_leave v k × ((w : V) → leaves v k w → I rest w))
       → (steps : List Event) (v w : V) → I steps v → Leads may_enter enters may_leave leaves steps v w → I [] w
   Leads-invariant I enter leave [] v w h leads = subst (I []) (sym leads) h
   Leads-invariant I enter leave (Enter k node ∷ rest) v w h leads =

@@ -1,4 +1,4 @@
--- A forest as a stored value, from which it can be told.
+-- A forest as a stored value, from which it can be had again.
 use Rattle.std.specs.Prelude.{◌≡◌, ℕ, zero, suc, refl}
 use Rattle.std.proofs.Common.{sym, ap, ◌∙◌}
 use Rattle.std.specs.Coded.{Coded}
@@ -25,26 +25,26 @@ numbered_kind-kind_number One = refl
 numbered_kind-kind_number Two = refl
 numbered_kind-kind_number Leaf = refl
 
-kind_told : (x y : Kind) → kind_number x ≡ kind_number y → x ≡ y
-kind_told x y e = sym (numbered_kind-kind_number x) ∙ ap numbered_kind e ∙ numbered_kind-kind_number y
+kind_number-injective : (x y : Kind) → kind_number x ≡ kind_number y → x ≡ y
+kind_number-injective x y e = sym (numbered_kind-kind_number x) ∙ ap numbered_kind e ∙ numbered_kind-kind_number y
 
 abbrev stored : Forest → Gv
 stored bare = gnil
 stored (grown node below beside) =
     gcons (gcons (gcons (gnum (kind_number node.kind)) (gnum node.set)) (gcons (gnum node.outcome) (gnum node.children))) (gcons (stored below) (stored beside))
 
-pub told : (x y : Forest) → stored x ≡ stored y → x ≡ y
-told bare bare e = refl
-told (grown n b s) (grown n' b' s') e =
-    let kind : n.kind ≡ n'.kind = kind_told n.kind n'.kind (cc) in
+pub stored-injective : (x y : Forest) → stored x ≡ stored y → x ≡ y
+stored-injective bare bare e = refl
+stored-injective (grown n b s) (grown n' b' s') e =
+    let kind : n.kind ≡ n'.kind = kind_number-injective n.kind n'.kind (cc) in
     let set : n.set ≡ n'.set = cc in
     let outcome : n.outcome ≡ n'.outcome = cc in
     let children : n.children ≡ n'.children = cc in
-    let below : b ≡ b' = told b b' (cc) in
-    let beside : s ≡ s' = told s s' (cc) in
+    let below : b ≡ b' = stored-injective b b' (cc) in
+    let beside : s ≡ s' = stored-injective s s' (cc) in
     λ i. grown (record { kind = kind i; set = set i; outcome = outcome i; children = children i }) (below i) (beside i)
-told bare (grown n b s) e = cc
-told (grown n b s) bare e = cc
+stored-injective bare (grown n b s) e = cc
+stored-injective (grown n b s) bare e = cc
 
 abbrev pub forest_code : Coded Forest
-forest_code = record { code = stored; inj = told }
+forest_code = record { code = stored; inj = stored-injective }

@@ -68,7 +68,8 @@ abbrev pub LeavesAfterLastChild : Type 0
 LeavesAfterLastChild = (tree : Forest) → IsTree tree → KeepsNesting (outside 1) (events tree) (outside 0)
 
 -- `may_enter` and `may_leave` say when a visitor may be called, and `enters` and `leaves` what it can be after the call
-module _ {V : Type 0} (may_enter : V → ℕ → Node → Type 0) (enters : V → ℕ → Node → V → Type 0) (may_leave : V → ℕ → Type 0) (leaves : V → ℕ → V → Type 0) where
+module _ {V : Type 0} (may_enter : V → ℕ → Node → Type 0) (enters : V → ℕ → Node → V → Type 0)
+    (may_leave : V → ℕ → Type 0) (leaves : V → ℕ → V → Type 0) where
   -- the visitor may be called with these steps in their order, whatever the calls make of it
   abbrev pub Accepts : List Event → V → Type 0
   Accepts [] v = Unit {0}

@@ -8,7 +8,7 @@ use Rattle.std.specs.Prelude.{◌≡◌, ◌↔◌, ℕ, ◌+◌, ◌<◌, ◌�
 use Rattle.def_tree.specs.declared.Kind.{Kind}
 use Rattle.def_tree.specs.declared.Kind.TheVariants.{Chance, One, Two, Leaf}
 use Rattle.def_tree.specs.declared.Node.{Node}
-use Rattle.def_tree.specs.Tree.{Forest, prefix, node_count, IsTree}
+use Rattle.def_tree.specs.Tree.{Forest, forest_of, prefix, node_count, IsTree}
 
 abbrev pub most_actions : ℕ
 most_actions = 1024
@@ -73,15 +73,28 @@ abbrev pub EachSetAppears : Type 0
 EachSetAppears = (nodes : List Node) → KeepRules nodes → (kind : Kind) (i : ℕ) → 1 ≤ i → i ≤ set_count kind nodes →
     (node : Node) × (Contains nodes node × ((node.kind ≡ kind) × (node.set ≡ i)))
 
--- The rules at their edges.
+-- Nodes by their parts, and a small game, for rows.
+
+-- a node by its set, its outcome and how many children it has
+abbrev pub node_of_numbers : Kind → ℕ → ℕ → ℕ → Node
+node_of_numbers kind set outcome children = record { kind = kind; set = set; outcome = outcome; children = children }
 
 abbrev pub inner_node : Kind → ℕ → ℕ → Node
-inner_node kind set children = record { kind = kind; set = set; outcome = 0; children = children }
+inner_node kind set children = node_of_numbers kind set 0 children
+
+abbrev pub leaf_node : ℕ → Node
+leaf_node outcome = node_of_numbers Leaf 0 outcome 0
+
+-- player two doesn't see player one's choice
+abbrev pub matching_pennies : Forest
+matching_pennies = forest_of (inner_node One 1 2 ∷ inner_node Two 1 2 ∷ leaf_node 1 ∷ leaf_node 2 ∷ inner_node Two 1 2 ∷ leaf_node 2 ∷ leaf_node 1 ∷ [])
+
+-- The rules at their edges.
 
 -- a first node has 1 to 1,024 children; after it come a node of its set with as many, one of the next set, and one of
 -- another kind's first set; a leaf has no set and no children
 pub record RuleRows : Type 0 where
-  pub first : (n : ℕ) → Fits [] (inner_node Chance 1 n) ↔ ((1 ≤ n) × (n ≤ 1024))
+  pub first : (n : ℕ) → Fits [] (inner_node Chance 1 n) ↔ ((1 ≤ n) × (n ≤ most_actions))
   pub first_set : ¬ (Fits [] (inner_node Chance 2 2))
   pub set_zero : ¬ (Fits [] (inner_node Chance 0 2))
   pub same_set : (n : ℕ) → Fits (inner_node One 1 2 ∷ []) (inner_node One 1 n) ↔ (n ≡ 2)
@@ -90,4 +103,4 @@ pub record RuleRows : Type 0 where
   pub other_kind : Fits (inner_node One 1 2 ∷ []) (inner_node Two 1 3)
   pub other_kinds_next : ¬ (Fits (inner_node One 1 2 ∷ []) (inner_node Two 2 2))
   pub leaf : (set children : ℕ) → Fits [] (inner_node Leaf set children) ↔ ((set ≡ 0) × (children ≡ 0))
-  pub nodes : (tree : Forest) → IsTree tree → KeepRules (prefix tree) → IsGameTree tree ↔ (node_count tree ≤ 1048576)
+  pub nodes : (tree : Forest) → IsTree tree → KeepRules (prefix tree) → IsGameTree tree ↔ (node_count tree ≤ most_nodes)

@@ -32,6 +32,9 @@ is_leaf_kind One = false
 is_leaf_kind Two = false
 is_leaf_kind Leaf = true
 
+abbrev pub is_leaf_node : Node → Bool
+is_leaf_node node = is_leaf_kind node.kind
+
 abbrev pub leaf_count : List Node → ℕ
 leaf_count nodes = count_by (λ node. is_leaf_kind node.kind) nodes
 
@@ -85,7 +88,7 @@ pub record IsWhole (nodes : List Node) : Type 0 where
 abbrev pub PrefixOfForest : Type 0
 PrefixOfForest = (nodes : List Node) → prefix (forest_of nodes) ≡ nodes
 
--- trees whose nodes have as many children as they say are told by their nodes in prefix order
+-- trees whose nodes have as many children as they say are determined by their nodes in prefix order
 abbrev pub ForestOfPrefix : Type 0
 ForestOfPrefix = (trees : Forest) → HasItsChildren trees → forest_of (prefix trees) ≡ trees
 

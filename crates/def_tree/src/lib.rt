@@ -39,7 +39,7 @@ pub fn prefix_of_forest()
     ensures { PrefixOfForest }
 {}
 
-/// Trees whose nodes have as many children as they say are told by their nodes in prefix order.
+/// Trees whose nodes have as many children as they say are determined by their nodes in prefix order.
 pub fn forest_of_prefix()
     ensures { ForestOfPrefix }
 {}

@@ -1,7 +1,7 @@
 pub mod Visits
-pub mod Gather
-pub mod Ended
+pub mod GatheringOneStripe
+pub mod GatheredIsPlainSum
 pub mod Totals
-pub mod Opening
+pub mod NewRowsAreZero
 pub mod PlainRows
-pub mod Named
+pub mod SmallAmountsStay

@@ -3,11 +3,9 @@ use Rattle.std.proofs.Common.{◌≡◌, ℕ, ◌+◌, ◌<◌, List, length, ge
 use Rattle.std.proofs.lemmas.List.{ext_get_or, get_or_append_left, get_or-append-add, length-append}
 use Rattle.def_tree.specs.declared.Player.TheVariants.{One, Two}
 use Rattle.def_tree.specs.Tree.{leaf_count, prefix}
-use Rattle.def_game_paths.specs.Paths.{leaf_visits}
 use Rattle.def_game_jobs.specs.Ranges.{LeafRange, Partitions}
 use Rattle.def_game_jobs.proofs.Ranges.{partition}
 use Rattle.def_plan.specs.Form.{SequenceForm, sequence_count}
-use Rattle.def_sequence_form.proofs.Leaves.{leaves_counted, length-leaves_with}
 use Rattle.def_history.specs.History.{sum_over_jobs}
 use Rattle.def_history.specs.Leaves.{sum_over_leaves}
 use Rattle.def_history.proofs.Leaves.{jobs_add_up}
@@ -19,23 +17,21 @@ use Rattle.def_rows.proofs.Rows.{player_rows_are_leaf_sums}
 use Rattle.xg_jobs.specs.Rows.{Amounts, all_rows, ArePlainSums}
 use Rattle.xg_jobs.specs.Table.{IsTableOf, TableOfJobs}
 use Rattle.xg_board.specs.Running.{job_amounts}
+use Rattle.xg_jobs.proofs.TouchedJobs.{form_leaves}
 
 -- the jobs of a form's table have its leaves, each once
 pub ranges_partition : (form : SequenceForm) (table : TableOfJobs) → IsTableOf form table
     → Partitions table.ranges (length form.leaves)
 ranges_partition form table is =
-    let visited = leaves_counted is.tree in
-    let leaves : length form.leaves ≡ leaf_count (prefix is.tree) =
-    ap (λ (f : SequenceForm). length f.leaves) is.form_is.form_is
-    ∙ length-leaves_with is.tree (leaf_visits is.tree) is.form_is.weights (omega (arith, visited, is.form_is.count)) ∙ visited in
-    subst (Partitions table.ranges) (sym leaves)
+    subst (Partitions table.ranges) (sym (form_leaves form is.tree is.form_is))
     (subst (λ (ranges : List LeafRange). Partitions ranges (leaf_count (prefix is.tree))) (sym (ap (λ (t : TableOfJobs). t.ranges) is.table_is)) (partition is.tree is.rules.tree.one))
 
 -- rows with the sums of all jobs' amounts are the plain sums
 pub plain_sums : (form : SequenceForm) (numbers_one numbers_two : List ℕ) (table : TableOfJobs) (amounts : Amounts)
     → IsTableOf form table
     → length amounts.one ≡ sequence_count form.sets_one → length (all_rows amounts) ≡ row_count form
-    → ((row : ℕ) → row < row_count form → get_or (all_rows amounts) row (pos 0) ≡ sum_over_jobs (job_amounts form numbers_one numbers_two table.ranges) (length table.ranges) row)
+    → ((row : ℕ) → row < row_count form
+    → get_or (all_rows amounts) row (pos 0) ≡ sum_over_jobs (job_amounts form numbers_one numbers_two table.ranges) (length table.ranges) row)
     → ArePlainSums form numbers_one numbers_two amounts
 plain_sums form numbers_one numbers_two table amounts is count_one count sums = record {
   one = ext_get_or (pos 0) amounts.one (player_rows form One numbers_two) (count_one ∙ sym of_one.count) (λ s below.

@@ -6,7 +6,7 @@ use Rattle.def_history.specs.Core.{Right, rights_of, times_right}
 use Rattle.def_history.proofs.Counts.{times_right-cons, same_right}
 use Rattle.def_history.proofs.Locks.{counts_tell_rights}
 use Rattle.xg_locked.specs.Locked.{without}
-use Rattle.xg_locked.proofs.Takes.{times_without}
+use Rattle.xg_locked.proofs.RightsMoveUnderLocks.{times_without}
 use Rattle.xg_board.specs.Visits.{steps_to, is_left, HoldsLeft}
 
 steps_below : (n start s : ℕ) → start < n → s < n → steps_to n start s < n
@@ -86,7 +86,8 @@ none_left job n start i rights a all held = nothing rights none
     none : (j s : ℕ) → times_right j s rights ≡ 0
     none j s = held j s ∙ by_case (eqb job j) (nat_lt s n) refl
       where
-        by_case : (x y : Bool) → nat_lt s n ≡ y → ◌≡◌ {A = ℕ} (if x && (nat_lt s n && not (nat_lt (steps_to n start s) i)) then 1 else 0) 0
+        by_case : (x y : Bool) → nat_lt s n ≡ y
+            → ◌≡◌ {A = ℕ} (if x && (nat_lt s n && not (nat_lt (steps_to n start s) i)) then 1 else 0) 0
         by_case false y e = refl
         by_case true true e = let lt : s < n = grind (arith, nat_tests) in let d = steps_below n start s a lt in grind (arith, nat_tests)
         by_case true false e = grind (arith, nat_tests)

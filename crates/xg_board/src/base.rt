@@ -4,7 +4,7 @@ ghost use Rattle.xg_board.specs.Boards.{IsBase};
 
 use std::alloc::{AllocError, Global};
 use xg_jobs::JobTable;
-use xg_rights::{RightsSeat, RightsTable, open};
+use xg_rights::{CODE_BASE, RightsSeat, RightsTable, open};
 
 /// The table of the workers' rights with its first seat, for these jobs and stripes. A board is opened on it.
 #[derive(Drop)]
@@ -25,7 +25,7 @@ impl Base {
         ensures stripes { IfOk result (λ base. base.stripes ≡ stripes) }
     {
         let jobs = jobs.count();
-        let (table, seat) = open(alloc, 128 * u64::from(jobs) + u64::from(stripes))?;
+        let (table, seat) = open(alloc, CODE_BASE * u64::from(jobs) + u64::from(stripes))?;
         Ok(Base {
             table,
             seat,

@@ -85,7 +85,7 @@ cut_grows (start ∷ next ∷ starts) numbers row rise =
     ∙ ap (λ (nss : List (List ℕ)). take (next - start) (drop start numbers) ∷ nss) (cut_grows (next ∷ starts) numbers row rise.1)
 
 -- what stands there when a group is put behind the others
-pub record IsGrown (numbers starts row now ends : List ℕ) : Type 0 where
+pub record HasOneGroupMore (numbers starts row now ends : List ℕ) : Type 0 where
   pub plan : IsPlanOf now ends
   pub root : get_or now 0 0 ≡ get_or numbers 0 0
   pub groups : cut_at ends now ≡ cut_at starts numbers ++ row ∷ []
@@ -101,7 +101,7 @@ some_start (start ∷ starts) size rise = omega arith
 -- a row behind a plan's numbers, and its end behind the starts, make a plan of the same root with one group more
 pub plan_grows : (numbers starts row now ends : List ℕ) → IsPlanOf numbers starts → now ≡ numbers ++ row
     → ends ≡ starts ++ length now ∷ []
-    → IsGrown numbers starts row now ends
+    → HasOneGroupMore numbers starts row now ends
 plan_grows numbers starts row now ends plan grown started =
     let size : length now ≡ length numbers + length row = ap length grown ∙ length-append numbers row in
     let same : ends ≡ starts ++ (length numbers + length row) ∷ [] = started ∙ ap (λ (n : ℕ). starts ++ n ∷ []) size in

@@ -2,5 +2,5 @@ pub mod SetLines
 pub mod Written
 pub mod Pieces
 pub mod Cuts
-pub mod Answered
+pub mod CertificateAnswerLaws
 pub mod ManyRead

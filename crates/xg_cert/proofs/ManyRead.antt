@@ -42,7 +42,8 @@ each_fails f (Cert fault) front count i total bytes all more one so_far =
 
 -- where no value is left to read, all that is read is what is in front, and no more bytes are taken
 pub each_done : {A : Type 0} (f : ℕ → Format A) (front : List A) (count i total : ℕ) (bytes : List ℕ)
-    (all : Result (List A × List ℕ) CertFault) → count ≤ i → behind_front front (read_each f (i + 1) (count - i) total bytes) ≡ all
+    (all : Result (List A × List ℕ) CertFault) → count ≤ i
+    → behind_front front (read_each f (i + 1) (count - i) total bytes) ≡ all
     → all ≡ Ok (front, bytes)
 unfolding read_each
 each_done f front count i total bytes all none so_far =
@@ -53,7 +54,8 @@ each_done f front count i total bytes all none so_far =
 -- ---- the numbers of a set
 -- a number that isn't the last of its line joins the front, and behind it the rest of the row gives all that is read
 pub row_goes_on : (most : ℕ) (front : List ℕ) (more i total : ℕ) (bytes : List ℕ) (n : ℕ) (last : Bool) (left : List ℕ)
-    (all : Result (List ℕ × List ℕ) CertFault) → i < more → read_number most total bytes ≡ Ok ((n, last), left) → last ≡ false
+    (all : Result (List ℕ × List ℕ) CertFault) → i < more → read_number most total bytes ≡ Ok ((n, last), left)
+    → last ≡ false
     → behind_front front (read_row most (more - i) total bytes) ≡ all
     → behind_front (front ++ n ∷ []) (read_row most (more - (i + 1)) total left) ≡ all
 unfolding read_row
@@ -64,7 +66,8 @@ row_goes_on most front more i total bytes n last left all there one not_last so_
 
 -- a number that is the last of its line ends the row: all that is read is the front and this number
 pub row_ends : (most : ℕ) (front : List ℕ) (more i total : ℕ) (bytes : List ℕ) (n : ℕ) (last : Bool) (left : List ℕ)
-    (all : Result (List ℕ × List ℕ) CertFault) → i < more → read_number most total bytes ≡ Ok ((n, last), left) → last ≡ true
+    (all : Result (List ℕ × List ℕ) CertFault) → i < more → read_number most total bytes ≡ Ok ((n, last), left)
+    → last ≡ true
     → behind_front front (read_row most (more - i) total bytes) ≡ all → all ≡ Ok (front ++ n ∷ [], left)
 unfolding read_row
 row_ends most front more i total bytes n last left all there one is_last so_far =

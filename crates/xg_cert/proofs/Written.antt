@@ -4,7 +4,7 @@ use Rattle.std.specs.Fmt.{decimal}
 use Rattle.std.specs.Io.KnownBytes.{append_known}
 use Rattle.std.proofs.lemmas.List.{drop_more}
 use Rattle.def_outside.specs.Sinks.{AppendsPrefix, Writes}
-use Rattle.xg_io.proofs.Known.{Progress, whole}
+use Rattle.xg_io.proofs.KnownBytesInPieces.{Progress, whole}
 use Rattle.xg_io.proofs.Pieces.{prefix_first, then_rest, goes_on, fails}
 use Rattle.def_cert_text.specs.Fields.{space, feed, FieldKind, Item, field, separator, items_text}
 use Rattle.def_cert_text.proofs.FormatLaws.{items_text-append}

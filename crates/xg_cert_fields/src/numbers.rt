@@ -1,21 +1,19 @@
 //! Numbers as fields.
-ghost use Rattle.std.specs.Prelude.{◌≡◌, ◌^◌, ◌<◌, ◌≤◌, ◌≤ℤ◌, ◌==◌, if◌then◌else◌, length, min, pos, unsigned_abs, Some, None, IfSome, IsTrue};
+ghost use Rattle.std.specs.Prelude.{◌≡◌, ◌<◌, ◌≤◌, ◌≤ℤ◌, ◌==◌, if◌then◌else◌, length, min, pos, unsigned_abs, Some, None, IfSome, IsTrue};
 ghost use Rattle.std.specs.List.{prefix_len};
 ghost use Rattle.std.specs.Str.{all_ascii_digits};
 ghost use Rattle.def_fraction.specs.Digits.{is_numeral, number_of};
 ghost use Rattle.def_fraction.specs.Divisors.{gcd};
-ghost use Rattle.def_cert_text.specs.Numbers.{fraction_in, integer_in, is_no_slash, leads_no_zero, over_in, over_one, whole_in};
+ghost use Rattle.def_fraction.specs.Fraction.{whole_number};
+ghost use Rattle.def_cert_text.specs.Numbers.{fraction_in, integer_in, is_no_slash, leads_no_zero, over_in, whole_in};
 ghost use Rattle.xg_frac.specs.Scan.{past_all};
 ghost use Rattle.def_cert_ranges.specs.Ranges.{most_printed};
 
 use def_fraction::NumberFault;
-use xg_frac::{Ratio, ratio, read_whole};
+use xg_frac::{PAST, Ratio, ratio, read_whole};
 
 /// The greatest size of an end, a total, a value and a part of the bracket.
 const MOST_PRINTED: u128 = 1 << 100;
-
-/// Stands for each number from it on.
-const PAST: u128 = 1 << 127;
 
 fn leads_no_zero(field: &[u8]) -> bool
     ensures { result ≡ leads_no_zero field.now }
@@ -53,7 +51,7 @@ fn numeral(field: &[u8]) -> Option<u128>
 /// A whole number of a range.
 #[tactic(auto, unfolding(def_cert_text::specs::Numbers::whole_in))]
 pub(crate) fn whole_in(low: u128, high: u128, field: &[u8]) -> Option<u128>
-    requires { high < 2 ^ 127 }
+    requires { high < past_all }
     ensures exact { result ≡ whole_in low high field.now }
     ensures range { IfSome result (λ n. (low ≤ n) × (n ≤ high)) }
 {
@@ -85,7 +83,7 @@ pub(crate) fn integer_in(field: &[u8]) -> Option<i128>
 
 fn over_one(num: i128) -> Ratio
     requires { unsigned_abs num ≤ most_printed }
-    ensures { result ≡ over_one num }
+    ensures { result ≡ whole_number num }
 {
     ratio(num, 1)
 }

@@ -25,7 +25,7 @@ passed (Ok s) v e = cc
 passed (Err f) v e = absurd cc
 
 -- what holds before the verdict
-pub record IsReady (game : def.WeighedGame) (cert_bytes : List ℕ) (c : Certificate) : Type 0 where
+pub record HoldsBeforeVerdict (game : def.WeighedGame) (cert_bytes : List ℕ) (c : Certificate) : Type 0 where
   pub order_one : AreInOrder game.form.sets_one
   pub order_two : AreInOrder game.form.sets_two
   pub some_unit : 1 ≤ game.unit
@@ -34,7 +34,7 @@ pub record IsReady (game : def.WeighedGame) (cert_bytes : List ℕ) (c : Certifi
 
 -- a verdict that the tests give of a certificate within its ranges is what its bytes show of the game
 pub judged_shows : (r : Result Verdict CheckFault) (game : def.WeighedGame) (bytes : List ℕ) (c : Certificate)
-    → IsReady game bytes c → AnswersVerdict r (by_tests (def.verdict game c))
+    → HoldsBeforeVerdict game bytes c → AnswersVerdict r (by_tests (def.verdict game c))
     → IfOk r (λ v. Shows game bytes (verdict_of v))
 judged_shows (Ok v) game bytes c ready e =
     subst (λ (bs : List ℕ). Shows game bs (verdict_of v)) (sym ready.text)
@@ -47,7 +47,8 @@ alone (Bounds low high) = (λ e. absurd cc, λ e. absurd cc)
 
 -- a verdict that the tests give is the head alone exactly where the certificate's head has no round
 pub judged_alone : (r : Result Verdict CheckFault) (game : def.WeighedGame) (bytes : List ℕ) (c : Certificate)
-    → IsReady game bytes c → AnswersVerdict r (by_tests (def.verdict game c)) → IfOk r (IsHeadOnlyWithoutRounds bytes)
+    → HoldsBeforeVerdict game bytes c → AnswersVerdict r (by_tests (def.verdict game c))
+    → IfOk r (IsHeadOnlyWithoutRounds bytes)
 judged_alone (Ok v) game bytes c ready e = λ d fits same.
     let same_text : cert_text c ≡ cert_text d = sym ready.text ∙ same in
     let both = alone_without_rounds game c (verdict_of v) ready.fits (passed (def.verdict game c) (verdict_of v) e) d fits same_text in

@@ -1,5 +1,5 @@
 pub mod PlanTests
 pub mod ReplyTests
 pub mod TraceTests
-pub mod Stages
+pub mod FirstFailingStage
 pub mod Accepted

@@ -10,21 +10,19 @@ use Rattle.def_plan.proofs.SizeLaws.{slice_index-at_most}
 use Rattle.def_cert_ranges.specs.Ranges.{PlanFits, PlanWeightsFit}
 use Rattle.def_cert_verdict.specs.Certificate.{PrintedPlan, joined, printed_numbers}
 use Rattle.def_cert_verdict.specs.Verdict.{first_of_other_size}
+use Rattle.xg_plan.proofs.PlaceLemmas.{no_information_set}
 
--- a set's number of numbers and its number of actions, as they are told
-size_told : (weights : List (List ℕ)) (i : ℕ) (ws : List ℕ) → ws ≡ get_or weights (i + 1 - 1) []
+-- a set's number of numbers and its number of actions, as they are answered
+size_is : (weights : List (List ℕ)) (i : ℕ) (ws : List ℕ) → ws ≡ get_or weights (i + 1 - 1) []
     → get_or weights i [] ≡ ws
-size_told weights i ws e = let same : i + 1 - 1 ≡ i = omega arith in ap (λ j. get_or weights j []) (sym same) ∙ sym e
+size_is weights i ws e = let same : i + 1 - 1 ≡ i = omega arith in ap (λ j. get_or weights j []) (sym same) ∙ sym e
 
-actions_told : (sets : List InformationSet) (i n : ℕ) (d : InformationSet) → i < length sets
+actions_are : (sets : List InformationSet) (i n : ℕ) (d : InformationSet) → i < length sets
     → slice_get (map (λ (h : InformationSet). h.actions) sets) (i + 1 - 1) ≡ Some n → (get_or sets i d).actions ≡ n
-actions_told sets i n d low e =
+actions_are sets i n d low e =
     let same : i + 1 - 1 ≡ i = omega arith in
     sym (get_or-map (λ (h : InformationSet). h.actions) sets i d 0 low)
     ∙ get_or_from_slice_get (map (λ (h : InformationSet). h.actions) sets) i n 0 (ap (slice_get (map (λ (h : InformationSet). h.actions) sets)) (sym same) ∙ e)
-
-abbrev no_set : InformationSet
-no_set = record { before = 0; actions = 0 }
 
 -- one set more
 next_size : (sets : List InformationSet) (weights : List (List ℕ)) (i : ℕ) (ws : List ℕ) (n : ℕ) → i < length sets
@@ -34,10 +32,10 @@ next_size : (sets : List InformationSet) (weights : List (List ℕ)) (i : ℕ) (
     ≡ cond (eqb (length ws) n) (first_of_other_size (i + 1 + 1) (drop (i + 1) sets) (drop (i + 1) weights)) (Some (i + 1))
 next_size sets weights i ws n low low' is has =
     let rest = first_of_other_size (i + 1 + 1) (drop (i + 1) sets) (drop (i + 1) weights) in
-    ap (λ hs. first_of_other_size (i + 1) hs (drop i weights)) (drop_more sets i no_set low)
-    ∙ ap (λ wss. first_of_other_size (i + 1) (get_or sets i no_set ∷ drop (i + 1) sets) wss) (drop_more weights i [] low')
-    ∙ ap (λ m. cond (eqb (length (get_or weights i [])) m) rest (Some (i + 1))) (actions_told sets i n no_set low has)
-    ∙ ap (λ ys. cond (eqb (length ys) n) rest (Some (i + 1))) (size_told weights i ws is)
+    ap (λ hs. first_of_other_size (i + 1) hs (drop i weights)) (drop_more sets i no_information_set low)
+    ∙ ap (λ wss. first_of_other_size (i + 1) (get_or sets i no_information_set ∷ drop (i + 1) sets) wss) (drop_more weights i [] low')
+    ∙ ap (λ m. cond (eqb (length (get_or weights i [])) m) rest (Some (i + 1))) (actions_are sets i n no_information_set low has)
+    ∙ ap (λ ys. cond (eqb (length ys) n) rest (Some (i + 1))) (size_is weights i ws is)
 
 -- a set that has not as many numbers as actions is the first of other size from its place on
 pub size_differs : (sets : List InformationSet) (weights : List (List ℕ)) (i : ℕ) (ws : List ℕ) (n : ℕ)

@@ -3,6 +3,7 @@ ghost use Rattle.std.specs.Prelude.{◌≡◌, ℕ, ◌^◌, ◌<◌, ◌≤◌,
 ghost use Rattle.std.specs.Prelude.{length, pos, slice_index_or, unsigned_abs};
 ghost use Rattle.def_bracket.specs.Bracket.{TraceLine};
 ghost use Rattle.def_cert_ranges.specs.Laws.{ProductsOfLines};
+ghost use Rattle.def_cert_ranges.specs.Ranges.{most_line_product};
 ghost use Rattle.def_cert_verdict.specs.Certificate.{last_line};
 ghost use Rattle.def_cert_verdict.specs.Verdict.{first_failing, first_trace_line, is_wider, trace_tests};
 ghost use Rattle.xg_cert.specs.Outcome.{line_of, trace_of};
@@ -27,7 +28,7 @@ pub(crate) fn last_row(rows: &[TraceRow]) -> TraceRow
 }
 
 fn times(x: i128, n: u32) -> i128
-    requires { unsigned_abs (x *ℤ pos n) ≤ 2 ^ 116 }
+    requires { unsigned_abs (x *ℤ pos n) ≤ most_line_product }
     ensures { result ≡ x *ℤ pos n }
 {
     x * n as i128

@@ -32,7 +32,8 @@ pub same_amounts : (worths : List ℤ) → map (λ worth. worth) worths ≡ wort
 same_amounts [] = refl
 same_amounts (worth ∷ worths) = ap (λ ws. worth ∷ ws) (same_amounts worths)
 
-module _ (player : Player) (rows : List ℤ) (sets : List InformationSet) (count : length rows ≡ sequence_count sets) (small : nat_sum_over unsigned_abs rows ≤ 2 ^ 82) where
+module _ (player : Player) (rows : List ℤ) (sets : List InformationSet) (count : length rows ≡ sequence_count sets)
+    (small : nat_sum_over unsigned_abs rows ≤ 2 ^ 82) where
   own_small : size_of_sums (own_amount player rows) sets ≤ 2 ^ 82
   own_small = omega (arith, own_sizes player rows sets count, small)
 

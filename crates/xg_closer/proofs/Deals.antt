@@ -10,36 +10,22 @@ use Rattle.def_shares.specs.Shares.{weight_sum, prefix_sum, prefix_share, shares
 use Rattle.def_shares.proofs.SharesLaws.{are_differences, length-shares, prefix-all, prefix-more, shares_whole}
 use Rattle.def_round.specs.Play.{positive_part, regret_of, regret_sum}
 use Rattle.def_round.proofs.Plays.{sum_of_map}
-use Rattle.xg_plan.proofs.ShareLemmas.{prefix-within, quotient_grows}
+use Rattle.xg_plan.proofs.ShareLemmas.{prefix-within, DealStep, step_of}
 use Rattle.xg_closer.specs.Playing.{positive_parts}
 
--- one weight more: the sum up to it, and the share
+-- one weight more: the step of dealing, and the weight's share
 pub record OneMore (n : ℕ) (ws : List ℕ) (i sum_so_far sum : ℕ) : Type 0 where
-  pub next : sum_so_far ≡ prefix_sum ws (i + 1)
-  pub within : sum_so_far ≤ sum
-  pub grows : prefix_share n ws i ≤ n * sum_so_far / sum
-  pub together : n * sum_so_far / sum ≡ prefix_share n ws (i + 1)
-  pub within_all : n * sum_so_far / sum ≤ n
+  pub step : DealStep n ws i sum_so_far sum
   pub share : get_or (shares n ws) i 0 + prefix_share n ws i ≡ n * sum_so_far / sum
 
--- a weight and the sum before it are the sum up to it, and the weight's share is what the part of n grows by
+-- a weight and the sum before it make a step, and the weight's share is what the part of n grows by
 pub one_more : (n : ℕ) (ws : List ℕ) (i before weight sum : ℕ) → i < length ws → 1 ≤ sum → sum ≡ weight_sum ws
     → before ≡ prefix_sum ws i → weight ≡ get_or ws i 0
     → OneMore n ws i (before + weight) sum
 one_more n ws i before weight sum below some whole is at =
-    let next : before + weight ≡ prefix_sum ws (i + 1) = omega (arith, prefix-more ws i below) in
-    let within : before + weight ≤ sum = omega (arith, prefix-within ws (i + 1)) in
-    let together : n * (before + weight) / sum ≡ prefix_share n ws (i + 1) = cc in
-    let low : prefix_share n ws i ≡ n * before / sum = cc in
+    let step : DealStep n ws i (before + weight) sum = step_of n ws i before weight sum below some whole is at in
     let difference = (are_differences n ws i below).by_weight (omega arith) in
-    record {
-      next = next;
-      within = within;
-      grows = omega (arith, low, quotient_grows n before (before + weight) sum some (omega arith));
-      together = together;
-      within_all = omega (arith, quotient_grows n (before + weight) sum sum some within, mul-div_left n some);
-      share = omega (arith, difference, together);
-    }
+    record { step = step; share = omega (arith, difference, step.share_next) }
 
 -- nothing before the first weight
 pub none_before : (n : ℕ) (ws : List ℕ) → 1 ≤ weight_sum ws → prefix_share n ws 0 ≡ 0

@@ -4,7 +4,7 @@ pub mod Writing
 pub mod PlayedSets
 pub mod Sums
 pub mod SetValues
-pub mod AtSet
+pub mod WorthsSetBySet
 pub mod RowSums
 pub mod Closed
 pub mod OneAction

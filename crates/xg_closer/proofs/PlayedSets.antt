@@ -8,12 +8,13 @@ use Rattle.def_round.proofs.Growth.{deals_within}
 use Rattle.def_round.proofs.Plays.{plays_each_set}
 use Rattle.def_tree.specs.Rules.{most_actions}
 use Rattle.xg_seq.specs.Table.{HaveFewActions}
-use Rattle.xg_closer.proofs.Sets.{IsAt, no_place, no_set}
+use Rattle.xg_closer.proofs.Sets.{IsAt}
+use Rattle.xg_plan.proofs.PlaceLemmas.{no_place, no_information_set}
 
 -- where no set has more actions than a node can have, neither has the one at place m
 pub few_at : (sets : List InformationSet) (m : ℕ) (h : PlacedSet) → HaveFewActions sets → m < length sets
     → IsAt sets m h → h.actions ≤ most_actions
-few_at sets m h few below at = omega (arith, All-get_or (λ (h : InformationSet). h.actions ≤ most_actions) sets m no_set below few, at.actions)
+few_at sets m h few below at = omega (arith, All-get_or (λ (h : InformationSet). h.actions ≤ most_actions) sets m no_information_set below few, at.actions)
 
 -- by regrets within 2 ^ 98 and few actions, all units times the regret sum of set m are below 2 ^ 126
 pub small_at : (sets : List InformationSet) (regrets : List ℤ) (m : ℕ) (h : PlacedSet) → IsAt sets m h

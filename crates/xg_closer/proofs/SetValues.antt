@@ -14,7 +14,8 @@ use Rattle.def_round.specs.Sizes.{size_of_sums, IsWithin}
 use Rattle.def_round.proofs.Values.{set_value_same, values_solve, values_are_unique, values_of_the_rest, worths_need_later_sets}
 use Rattle.def_round.proofs.Regrets.{length-values_of, rounds_are_computed}
 use Rattle.def_round.proofs.Trees.{values_within}
-use Rattle.xg_closer.proofs.Sets.{no_place, IsAt}
+use Rattle.xg_closer.proofs.Sets.{IsAt}
+use Rattle.xg_plan.proofs.PlaceLemmas.{no_place}
 
 -- the worth of a sequence, by all sets, and by those from place k on
 abbrev pub full_worth : (ℕ → ℤ) → List ℕ → List InformationSet → ℕ → ℤ
@@ -24,7 +25,8 @@ abbrev pub later_worth : (ℕ → ℤ) → List ℕ → List InformationSet → 
 later_worth sums play sets k s = worth sums (drop k (placed sets)) (values_from sums play (drop k (placed sets))) s
 
 -- the value, the worths, what is added to a regret, and what the value adds to the sequence before the set
-pub record SetFacts (sums : ℕ → ℤ) (play : List ℕ) (sets : List InformationSet) (before : List ℤ) (m : ℕ) (h : PlacedSet) (value : ℤ) : Type 0 where
+pub record SetFacts (sums : ℕ → ℤ) (play : List ℕ) (sets : List InformationSet) (before : List ℤ) (m : ℕ)
+    (h : PlacedSet) (value : ℤ) : Type 0 where
   pub is_value : value ≡ set_value play (full_worth sums play sets) h
   pub value_small : unsigned_abs value ≤ size_of_sums sums sets
   pub worth_small : (s : ℕ) → h.first ≤ s → s < h.first + h.actions

@@ -9,21 +9,16 @@ use Rattle.def_plan.specs.Form.{InformationSet, PlacedSet, placed, sequences_of,
 use Rattle.def_plan.proofs.BadSets.{length-placed}
 use Rattle.def_plan.proofs.Places.{numbered}
 use Rattle.def_round.specs.Play.{GivesAllUnits, units}
-
-abbrev pub no_place : PlacedSet
-no_place = record { first = 0; before = 0; actions = 0 }
-
-abbrev pub no_set : InformationSet
-no_set = record { before = 0; actions = 0 }
+use Rattle.xg_plan.proofs.PlaceLemmas.{no_place, no_information_set}
 
 -- the first sequence of the set at place k
 abbrev pub start_of : List InformationSet → ℕ → ℕ
 start_of sets k = sequence_count (take k sets)
 
 start_more : (sets : List InformationSet) (m : ℕ) → m < length sets
-    → start_of sets (m + 1) ≡ start_of sets m + (get_or sets m no_set).actions
+    → start_of sets (m + 1) ≡ start_of sets m + (get_or sets m no_information_set).actions
 start_more sets m below =
-    omega (arith, ap (nat_sum_over (λ s. s.actions)) (take_more sets m no_set below), nat_sum_over-append (λ s. s.actions) (take m sets) (get_or sets m no_set ∷ []))
+    omega (arith, ap (nat_sum_over (λ s. s.actions)) (take_more sets m no_information_set below), nat_sum_over-append (λ s. s.actions) (take m sets) (get_or sets m no_information_set ∷ []))
 
 front : (sets : List InformationSet) (m : ℕ)
     → nat_sum_over (λ s. s.actions) (take m sets) ≤ nat_sum_over (λ s. s.actions) sets
@@ -38,7 +33,7 @@ start_within sets m = omega (arith, front sets m)
 pub record IsAt (sets : List InformationSet) (m : ℕ) (h : PlacedSet) : Type 0 where
   pub there : m < length (placed sets)
   pub is : get_or (placed sets) m no_place ≡ h
-  pub actions : h.actions ≡ (get_or sets m no_set).actions
+  pub actions : h.actions ≡ (get_or sets m no_information_set).actions
   pub first : h.first ≡ start_of sets m
   pub next : start_of sets (m + 1) ≡ h.first + h.actions
   pub inside : h.first + h.actions ≤ sequence_count sets
@@ -51,10 +46,10 @@ pub is_at : (sets : List InformationSet) (m : ℕ) (h : PlacedSet) → AreInOrde
 is_at sets m h order below read =
     let there : m < length (placed sets) = omega (arith, length-placed 1 sets) in
     let is : get_or (placed sets) m no_place ≡ h = get_or_from_slice_get (placed sets) m h no_place read in
-    let numbers = sym is ∙ numbered.each_set sets m no_place no_set below in
+    let numbers = sym is ∙ numbered.each_set sets m no_place no_information_set below in
     let in_order : IsInOrder h = subst IsInOrder is (All-get_or IsInOrder (placed sets) m no_place there order) in
     let first : h.first ≡ start_of sets m = ap (λ (p : PlacedSet). p.first) numbers in
-    let actions : h.actions ≡ (get_or sets m no_set).actions = ap (λ (p : PlacedSet). p.actions) numbers in
+    let actions : h.actions ≡ (get_or sets m no_information_set).actions = ap (λ (p : PlacedSet). p.actions) numbers in
     let next : start_of sets (m + 1) ≡ h.first + h.actions = omega (arith, start_more sets m below, first, actions) in
     record {
       there = there;
@@ -72,7 +67,7 @@ pub units_at : (play : List ℕ) (sets : List InformationSet) (m : ℕ) (h : Pla
     → GivesAllUnits play sets → nat_sum_over (λ s. slice_index play s) (sequences_of h) ≡ units
 units_at play sets m h at all_units = subst (λ (p : PlacedSet). nat_sum_over (λ s. slice_index play s) (sequences_of p) ≡ units) at.is (all_units m no_place at.there)
 
--- what is told of a set one by one makes its place
+-- what is known of a set one by one makes its place
 pub placed_from_parts : (sets : List InformationSet) (m first before actions : ℕ) → m < length sets
     → slice_get (map (λ (h : PlacedSet). h.first) (placed sets)) m ≡ Some first
     → slice_get (map (λ (h : InformationSet). h.before) sets) m ≡ Some before
@@ -80,11 +75,11 @@ pub placed_from_parts : (sets : List InformationSet) (m first before actions : �
     → slice_get (placed sets) m ≡ Some (record { first = first; before = before; actions = actions })
 placed_from_parts sets m first before actions below first_read before_read actions_read =
     let there : m < length (placed sets) = omega (arith, length-placed 1 sets) in
-    let numbers = numbered.each_set sets m no_place no_set below in
+    let numbers = numbered.each_set sets m no_place no_information_set below in
     let first_is : (get_or (placed sets) m no_place).first ≡ first =
     sym (get_or-map (λ (h : PlacedSet). h.first) (placed sets) m no_place 0 there) ∙ get_or_from_slice_get (map (λ (h : PlacedSet). h.first) (placed sets)) m first 0 first_read in
     let before_is : (get_or (placed sets) m no_place).before ≡ before =
-    ap (λ (p : PlacedSet). p.before) numbers ∙ sym (get_or-map (λ (h : InformationSet). h.before) sets m no_set 0 below) ∙ get_or_from_slice_get (map (λ (h : InformationSet). h.before) sets) m before 0 before_read in
+    ap (λ (p : PlacedSet). p.before) numbers ∙ sym (get_or-map (λ (h : InformationSet). h.before) sets m no_information_set 0 below) ∙ get_or_from_slice_get (map (λ (h : InformationSet). h.before) sets) m before 0 before_read in
     let actions_is : (get_or (placed sets) m no_place).actions ≡ actions =
-    ap (λ (p : PlacedSet). p.actions) numbers ∙ sym (get_or-map (λ (h : InformationSet). h.actions) sets m no_set 0 below) ∙ get_or_from_slice_get (map (λ (h : InformationSet). h.actions) sets) m actions 0 actions_read in
+    ap (λ (p : PlacedSet). p.actions) numbers ∙ sym (get_or-map (λ (h : InformationSet). h.actions) sets m no_information_set 0 below) ∙ get_or_from_slice_get (map (λ (h : InformationSet). h.actions) sets) m actions 0 actions_read in
     slice_get-get_or (placed sets) m no_place there ∙ (λ i. Some (record { first = first_is i; before = before_is i; actions = actions_is i }))

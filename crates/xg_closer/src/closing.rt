@@ -6,12 +6,12 @@ ghost use Rattle.def_round.specs.Play.{GivesAllUnits, regret_of, units};
 ghost use Rattle.def_round.specs.Round.{IsRound, regrets_after, utility};
 ghost use Rattle.def_round.specs.Sizes.{size_of_sums};
 ghost use Rattle.def_sums.specs.Floor.{floor_div};
-ghost use Rattle.def_sums.specs.Limits.{most_rounds, most_round_row};
+ghost use Rattle.def_sums.specs.Limits.{most_rounds, most_round_row, past_product};
 ghost use Rattle.def_sums.specs.Sum.{nat_sum_over};
 ghost use Rattle.xg_closer.specs.Closing.{value_by, weighed_sizes, weighed_sum};
 ghost use Rattle.xg_closer.specs.Laws.{LeafSumsCloseTheRound};
 ghost use Rattle.xg_closer.specs.Places.{placed_as};
-ghost use Rattle.xg_closer.specs.Rows.{own_amount};
+ghost use Rattle.xg_closer.specs.Rows.{most_small_rows, own_amount};
 ghost use Rattle.xg_seq.specs.Table.{most_sequences};
 ghost use Rattle.def_rows.specs.Rows.{amount_of};
 
@@ -82,7 +82,7 @@ fn close_rows(
     requires as_regrets { length regrets.old ≡ sequence_count (player_sets form.now player) }
     requires as_play { length play.now ≡ sequence_count (player_sets form.now player) }
     requires all_units { GivesAllUnits play.now (player_sets form.now player) }
-    requires room { (s : ℕ) → unsigned_abs (regret_of regrets.old s) < 2 ^ 126 }
+    requires room { (s : ℕ) → unsigned_abs (regret_of regrets.old s) < past_product }
     requires none_of_empty { regret_of regrets.old 0 ≡ pos 0 }
     ensures small_count { length small_worths.new ≡ length small_worths.old }
     ensures count { length worths.new ≡ length worths.old }
@@ -97,14 +97,17 @@ fn close_rows(
     }
 }
 
+// The sizes of all rows together, where words of 64 bits take them.
+const MOST_SMALL_ROWS: u64 = 1 << 62;
+
 // Takes the rows as they are to the player, if all of them together have room in 64 bits.
 fn take_small_rows(player: Player, rows: &[i128], worths: &mut [i64]) -> bool
     requires as_many { length rows.now ≡ length worths.old }
     ensures count { length worths.new ≡ length worths.old }
     ensures each { IsTrue result → (s : ℕ) → amount_of worths.new s ≡ own_amount player rows.now s }
-    ensures small { IsTrue result → nat_sum_over unsigned_abs rows.now ≤ 2 ^ 62 }
+    ensures small { IsTrue result → nat_sum_over unsigned_abs rows.now ≤ most_small_rows }
 {
-    let mut room = 1u64 << 62;
+    let mut room = MOST_SMALL_ROWS;
     for i in 0..rows.len() {
         let Some(row) = small_row(rows[i], room) else {
             return false;
@@ -128,7 +131,7 @@ fn small_row(row: i128, room: u64) -> Option<i64>
 }
 
 fn own_row(player: Player, row: i64) -> i64
-    requires { unsigned_abs row ≤ 2 ^ 62 }
+    requires { unsigned_abs row ≤ most_small_rows }
     ensures { result ≡ utility player row }
 {
     match player {
@@ -176,7 +179,7 @@ fn close_sets<W: Worth>(
     requires small { size_of_sums (amount_of (map W.amount worths.old)) (player_sets form.now player) ≤ most_round_row }
     requires fits { (v : ℤ) → unsigned_abs v
         ≤ size_of_sums (amount_of (map W.amount worths.old)) (player_sets form.now player) → FitsSigned W.width v }
-    requires room { (s : ℕ) → unsigned_abs (regret_of regrets.old s) < 2 ^ 126 }
+    requires room { (s : ℕ) → unsigned_abs (regret_of regrets.old s) < past_product }
     requires none_of_empty { regret_of regrets.old 0 ≡ pos 0 }
     ensures count { length worths.new ≡ length worths.old }
     ensures regrets { regrets.new
@@ -198,13 +201,13 @@ fn close_set<W: Worth>(place: Placement, play: &Play, worths: &mut [W], regrets:
     requires limit { length worths.old ≤ most_sequences }
     requires as_regrets { length regrets.old ≡ length worths.old }
     requires all_units { nat_sum_over (λ s. slice_index play.now s) (sequences_of (placed_as place)) ≡ units }
-    requires products { weighed_sizes play.now (map W.amount worths.old) (placed_as place) < 2 ^ 126 }
+    requires products { weighed_sizes play.now (map W.amount worths.old) (placed_as place) < past_product }
     requires fits { FitsSigned W.width (value_by play.now (map W.amount worths.old) (placed_as place)) }
     requires growth { (s : ℕ) → place.first ≤ s → s < place.first + place.actions
         → unsigned_abs (amount_of (map W.amount worths.old) s
-        -ℤ value_by play.now (map W.amount worths.old) (placed_as place)) < 2 ^ 126 }
+        -ℤ value_by play.now (map W.amount worths.old) (placed_as place)) < past_product }
     requires room { (s : ℕ) → place.first ≤ s → s < place.first + place.actions
-        → unsigned_abs (regret_of regrets.old s) < 2 ^ 126 }
+        → unsigned_abs (regret_of regrets.old s) < past_product }
     ensures worths_count { length worths.new ≡ length worths.old }
     ensures worth_before { amount_of (map W.amount worths.new) place.before
         ≡ int_wrap W.width (amount_of (map W.amount worths.old) place.before
@@ -235,7 +238,7 @@ fn value_of_set<W: Worth>(place: Placement, play: &Play, worths: &[W]) -> i128
     requires inside { place.first + place.actions ≤ length worths.now }
     requires as_play { length play.now ≡ length worths.now }
     requires limit { length worths.now ≤ most_sequences }
-    requires products { weighed_sizes play.now (map W.amount worths.now) (placed_as place) < 2 ^ 126 }
+    requires products { weighed_sizes play.now (map W.amount worths.now) (placed_as place) < past_product }
     ensures { result ≡ value_by play.now (map W.amount worths.now) (placed_as place) }
 {
     if place.actions == 2 {
@@ -255,7 +258,7 @@ fn sum_of_two<W: Worth>(place: Placement, play: &Play, worths: &[W]) -> i128
     requires inside { place.first + 2 ≤ length worths.now }
     requires as_play { length play.now ≡ length worths.now }
     requires limit { length worths.now ≤ most_sequences }
-    requires products { weighed_sizes play.now (map W.amount worths.now) (placed_as place) < 2 ^ 126 }
+    requires products { weighed_sizes play.now (map W.amount worths.now) (placed_as place) < past_product }
     ensures { result ≡ weighed_sum play.now (map W.amount worths.now) (placed_as place) }
 {
     let first = place.first;
@@ -269,9 +272,9 @@ fn add_regrets<W: Worth>(place: Placement, worths: &[W], value: i128, regrets: &
     requires inside { place.first + place.actions ≤ length worths.now }
     requires as_many { length regrets.old ≡ length worths.now }
     requires growth { (s : ℕ) → place.first ≤ s → s < place.first + place.actions
-        → unsigned_abs (amount_of (map W.amount worths.now) s -ℤ value) < 2 ^ 126 }
+        → unsigned_abs (amount_of (map W.amount worths.now) s -ℤ value) < past_product }
     requires room { (s : ℕ) → place.first ≤ s → s < place.first + place.actions
-        → unsigned_abs (regret_of regrets.old s) < 2 ^ 126 }
+        → unsigned_abs (regret_of regrets.old s) < past_product }
     ensures count { length regrets.new ≡ length regrets.old }
     ensures of_set { (s : ℕ) → place.first ≤ s → s < place.first + place.actions
         → regret_of regrets.new s ≡ regret_of regrets.old s +ℤ (amount_of (map W.amount worths.now) s -ℤ value) }
@@ -292,8 +295,8 @@ fn add_regrets<W: Worth>(place: Placement, worths: &[W], value: i128, regrets: &
 fn add_regret<W: Worth>(worths: &[W], value: i128, s: usize, regrets: &mut [i128])
     requires inside { s < length worths.now }
     requires as_many { length regrets.old ≡ length worths.now }
-    requires growth { unsigned_abs (amount_of (map W.amount worths.now) s -ℤ value) < 2 ^ 126 }
-    requires room { unsigned_abs (regret_of regrets.old s) < 2 ^ 126 }
+    requires growth { unsigned_abs (amount_of (map W.amount worths.now) s -ℤ value) < past_product }
+    requires room { unsigned_abs (regret_of regrets.old s) < past_product }
     ensures count { length regrets.new ≡ length regrets.old }
     ensures here { regret_of regrets.new s
         ≡ regret_of regrets.old s +ℤ (amount_of (map W.amount worths.now) s -ℤ value) }
@@ -310,7 +313,7 @@ fn negative(a: i128) -> i128
 }
 
 fn product(units: u32, worth: i128) -> i128
-    requires { unsigned_abs (pos units *ℤ worth) < 2 ^ 126 }
+    requires { unsigned_abs (pos units *ℤ worth) < past_product }
     ensures { result ≡ pos units *ℤ worth }
 {
     units as i128 * worth
@@ -324,7 +327,7 @@ fn plus(a: i128, b: i128) -> i128
 }
 
 fn minus(a: i128, b: i128) -> i128
-    requires { unsigned_abs (a -ℤ b) < 2 ^ 126 }
+    requires { unsigned_abs (a -ℤ b) < past_product }
     ensures { result ≡ a -ℤ b }
 {
     a - b

@@ -1,5 +1,5 @@
-ghost use Rattle.std.specs.Prelude.{◌≡◌, ℕ, ◌+◌, ◌*◌, ◌/◌, ◌^◌, ◌<◌, ◌≤◌, unsigned_abs, length};
-ghost use Rattle.def_sums.specs.Limits.{most_row};
+ghost use Rattle.std.specs.Prelude.{◌≡◌, ℕ, ◌+◌, ◌*◌, ◌/◌, ◌<◌, ◌≤◌, unsigned_abs, length};
+ghost use Rattle.def_sums.specs.Limits.{most_row, past_product};
 ghost use Rattle.def_plan.specs.Form.{player_sets, sequence_count};
 ghost use Rattle.def_round.specs.Play.{GivesAllUnits, play_of, positive_part, regret_of, regret_sum, set_play, units};
 ghost use Rattle.def_tree.specs.Rules.{most_actions};
@@ -14,6 +14,9 @@ use xg_plan::Play;
 use xg_seq::SeqForm;
 
 const UNITS: u32 = 65_536;
+
+// Below it a number's product with all units has room in 64 bits: `past_dealt` of the definitions.
+const PAST_DEALT: u128 = 1 << 47;
 
 /// Makes the play of the regrets as they stand, by regret matching (Zinkevich, Johanson, Bowling and Piccione 2007).
 ///
@@ -52,7 +55,7 @@ fn play_set(place: Placement, regrets: &[i128], play: &mut Play)
     requires inside { place.first + place.actions ≤ length regrets.now }
     requires as_many { length play.old ≡ length regrets.now }
     requires limit { length regrets.now ≤ most_sequences }
-    requires small { units * regret_sum regrets.now (placed_as place) < 2 ^ 126 }
+    requires small { units * regret_sum regrets.now (placed_as place) < past_product }
     ensures { PlaysSet (placed_as place) (set_play regrets.now (placed_as place)) play.old play.new }
 {
     if place.actions == 2 {
@@ -74,7 +77,7 @@ fn play_set(place: Placement, regrets: &[i128], play: &mut Play)
 fn sum_of_parts(place: Placement, regrets: &[i128]) -> u128
     requires inside { place.first + place.actions ≤ length regrets.now }
     requires limit { length regrets.now ≤ most_sequences }
-    requires small { units * regret_sum regrets.now (placed_as place) < 2 ^ 126 }
+    requires small { units * regret_sum regrets.now (placed_as place) < past_product }
     ensures { result ≡ regret_sum regrets.now (placed_as place) }
 {
     let mut sum = 0u128;
@@ -98,7 +101,7 @@ fn play_by_parts(place: Placement, regrets: &[i128], sum: u128, play: &mut Play)
     requires inside { place.first + place.actions ≤ length regrets.now }
     requires as_many { length play.old ≡ length regrets.now }
     requires limit { length regrets.now ≤ most_sequences }
-    requires small { units * sum < 2 ^ 126 }
+    requires small { units * sum < past_product }
     requires whole { sum ≡ regret_sum regrets.now (placed_as place) }
     requires some { 1 ≤ sum }
     ensures { PlaysSet (placed_as place) (set_play regrets.now (placed_as place)) play.old play.new }
@@ -117,7 +120,7 @@ fn play_by_parts(place: Placement, regrets: &[i128], sum: u128, play: &mut Play)
 // What the actions up to one get together; one without a part gets nothing.
 fn next_given(given: u32, part: u128, sum_so_far: u128, sum: u128) -> u32
     requires some { 1 ≤ sum }
-    requires small { units * sum < 2 ^ 126 }
+    requires small { units * sum < past_product }
     requires within { sum_so_far ≤ sum }
     requires none { part ≡ 0 → given ≡ units * sum_so_far / sum }
     ensures { result ≡ units * sum_so_far / sum }
@@ -132,13 +135,13 @@ fn next_given(given: u32, part: u128, sum_so_far: u128, sum: u128) -> u32
 // A part's share of all units, rounded down.
 fn units_of(part: u128, sum: u128) -> u32
     requires some { 1 ≤ sum }
-    requires small { units * sum < 2 ^ 126 }
+    requires small { units * sum < past_product }
     requires within { part ≤ sum }
     ensures { result ≡ units * part / sum }
 {
     if part == sum {
         UNITS
-    } else if sum < 1 << 47 {
+    } else if sum < PAST_DEALT {
         (UNITS as u64 * (part as u64) / (sum as u64)) as u32
     } else {
         units_of_large(part, sum)
@@ -149,7 +152,7 @@ fn units_of(part: u128, sum: u128) -> u32
 #[inline(never)]
 fn units_of_large(part: u128, sum: u128) -> u32
     requires some { 1 ≤ sum }
-    requires small { units * sum < 2 ^ 126 }
+    requires small { units * sum < past_product }
     requires within { part ≤ sum }
     ensures { result ≡ units * part / sum }
 {
@@ -182,7 +185,7 @@ fn play_two(place: Placement, regrets: &[i128], play: &mut Play)
     requires inside { place.first + 2 ≤ length regrets.now }
     requires as_many { length play.old ≡ length regrets.now }
     requires limit { length regrets.now ≤ most_sequences }
-    requires small { units * regret_sum regrets.now (placed_as place) < 2 ^ 126 }
+    requires small { units * regret_sum regrets.now (placed_as place) < past_product }
     ensures { PlaysSet (placed_as place) (set_play regrets.now (placed_as place)) play.old play.new }
 {
     let a = part_of(regrets, place.first);
@@ -193,9 +196,9 @@ fn play_two(place: Placement, regrets: &[i128], play: &mut Play)
 }
 
 fn first_of_two(a: u128, b: u128) -> u32
-    requires small { units * (a + b) < 2 ^ 126 }
+    requires small { units * (a + b) < past_product }
     ensures by_parts { 1 ≤ a + b → result ≡ units * a / (a + b) }
-    ensures evenly { a + b ≡ 0 → result ≡ 32768 }
+    ensures evenly { a + b ≡ 0 → result ≡ units / 2 }
     ensures within { result ≤ units }
 {
     if a == 0 {

@@ -1,2 +1,2 @@
-mod Around
+mod SplitAtFirstEquals
 mod OptionWord

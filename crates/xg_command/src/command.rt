@@ -25,7 +25,7 @@ pub enum Command<'a> {
         file: &'a str,
         certificate: &'a str,
     },
-    /// What a file's game is like is told.
+    /// What a file's game is like is printed.
     Info {
         file: &'a str,
     },

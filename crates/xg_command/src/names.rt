@@ -6,12 +6,6 @@ ghost use Rattle.xg_command.specs.Names.{name_value, option_value};
 
 use xg_limits::{MOST_ROUNDS, MOST_SCALE, MOST_WORKERS};
 
-/// The fewest cards of one-card poker.
-pub(crate) const LEAST_CARDS: u32 = 2;
-
-/// The most cards of one-card poker.
-pub(crate) const MOST_CARDS: u32 = 64;
-
 /// A command by its word.
 #[derive(Clone, Copy, Debug, PartialEq, Eq)]
 pub(crate) enum CommandName {

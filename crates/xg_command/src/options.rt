@@ -1,14 +1,15 @@
 //! The options of a call, and their numbers.
 ghost use Rattle.std.specs.Prelude.{◌≡◌, option_map};
-ghost use Rattle.def_command.specs.Table.{least_cards, most_cards, least_number, most_number};
+ghost use Rattle.def_sums.specs.Limits.{least_cards, most_cards};
+ghost use Rattle.def_command.specs.Table.{least_number, most_number};
 ghost use Rattle.def_command.specs.Grammar.{number_from_to, number_so_far, with_number, settings_in, workers_from};
 ghost use Rattle.xg_command.specs.Names.{option_value};
 ghost use Rattle.xg_command.specs.Values.{numbers_value, no_numbers, settings_value};
 
 use crate::command::Settings;
-use crate::names::{LEAST_CARDS, MOST_CARDS, OptionName};
+use crate::names::OptionName;
 use xg_frac::read_whole;
-use xg_limits::MOST_SCALE;
+use xg_limits::{LEAST_CARDS, MOST_CARDS, MOST_SCALE};
 
 /// The rounds that are played where no number is given.
 const DEFAULT_ROUNDS: u32 = 1000;

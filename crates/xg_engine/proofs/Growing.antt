@@ -29,7 +29,8 @@ plan_or_cleared : (sets : List InformationSet) (root : ℕ) (plan : List ℕ) �
 plan_or_cleared sets zero plan is = absurd (omega (arith, is.some_root))
 plan_or_cleared sets (suc root) plan is = is
 
-module _ (sets : List InformationSet) (scale : ℕ) (sums plan : List ℕ) (g : CanGrow sets scale sums) (is : IsPlan sets scale plan) where
+module _ (sets : List InformationSet) (scale : ℕ) (sums plan : List ℕ) (g : CanGrow sets scale sums)
+    (is : IsPlan sets scale plan) where
   -- both are plans of one form, or nothing yet
   pub one_form : AreOfOneForm sums plan
   one_form = record {

@@ -1,9 +1,9 @@
 pub mod RowSizes
 pub mod Growing
-pub mod Standing
+pub mod PlayersFollowRounds
 pub mod Offering
-pub mod Ending
+pub mod BoardEndsFitForm
 pub mod Copying
-pub mod Shown
-pub mod Opening
+pub mod OutcomeLaws
+pub mod GameFormIsOfTree
 pub mod Writable

@@ -104,7 +104,8 @@ last_of_more (x ∷ y ∷ lines) line = last_of_more (y ∷ lines) line
 
 -- one evaluation more
 module _ (form : SequenceForm) (settings : Settings) (n : ℕ) (one two : List ℕ) (before after : Board)
-    (are_one : one ≡ (rounds form settings.scale (n + 1)).sum_one) (are_two : two ≡ (rounds form settings.scale (n + 1)).sum_two)
+    (are_one : one ≡ (rounds form settings.scale (n + 1)).sum_one)
+    (are_two : two ≡ (rounds form settings.scale (n + 1)).sum_two)
     (is_before : before ≡ board_after (offers_upto form settings n))
     (is_after : after ≡ offered before (best_offer form (n + 1) one two)) where
   -- after an evaluated round the board with its best offer is that of all offers up to it

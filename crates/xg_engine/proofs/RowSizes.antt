@@ -15,7 +15,8 @@ sizes_of_map : (f : ℕ → ℤ) (xs : List ℕ)
 sizes_of_map f [] = refl
 sizes_of_map f (x ∷ xs) = ap (λ n. unsigned_abs (f x) + n) (sizes_of_map f xs)
 
-module _ (form : SequenceForm) (player : Player) (plan : List ℕ) (rows : List ℤ) (are : rows ≡ player_rows form player plan) where
+module _ (form : SequenceForm) (player : Player) (plan : List ℕ) (rows : List ℤ)
+    (are : rows ≡ player_rows form player plan) where
   -- a row for each of the player's sequences
   pub count_of_rows : length rows ≡ sequence_count (player_sets form player)
   count_of_rows =

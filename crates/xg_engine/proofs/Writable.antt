@@ -19,7 +19,7 @@ use Rattle.xg_cert.specs.Writable.{AreEndsOf, IsEndOf, IsOutcomeOf}
 use Rattle.xg_engine.specs.Ends.{HasEnds}
 use Rattle.xg_engine.specs.Players.{IsSoundForm}
 use Rattle.xg_engine.proofs.Growing.{sum_within}
-use Rattle.xg_engine.proofs.Shown.{has_ends}
+use Rattle.xg_engine.proofs.OutcomeLaws.{has_ends}
 
 module _ (form : SequenceForm) (head : Head) (sound : IsSoundForm form) (some_scale : 1 ≤ head.scale)
     (small_scale : head.scale ≤ most_scale) (few_rounds : head.rounds ≤ most_rounds) where

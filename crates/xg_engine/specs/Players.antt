@@ -29,7 +29,8 @@ pub record CanGrow (sets : List InformationSet) (more : ℕ) (plan : List ℕ) :
   pub limit : root + more ≤ most_root
 
 -- the player has these regrets, after so many rounds, and this sum of plans
-pub record StandsWith (sets : List InformationSet) (closed : ℕ) (regrets : List ℤ) (sums : List ℕ) (learner : Learner) : Type 0 where
+pub record StandsWith (sets : List InformationSet) (closed : ℕ) (regrets : List ℤ) (sums : List ℕ)
+    (learner : Learner) : Type 0 where
   pub room : HasRoomForSequences sets learner
   pub regrets_are : learner.regrets.of_sequences ≡ regrets
   pub closed_are : learner.regrets.closed ≡ closed

@@ -30,8 +30,8 @@ AreParts-one_over n h k = record {
 pub AreParts-reduced : (negative : Bool) (n d : ℕ) → 1 ≤ d → n / gcd n d ≤ 2 ^ 62 → d / gcd n d ≤ 2 ^ 62
     → AreParts (signed negative (n / gcd n d)) (pos (d / gcd n d))
 AreParts-reduced negative n d h p q =
-    let told = fraction_of-reduced (signed negative n) d h in
-    let lowest = subst IsInLowestTerms (fraction_of-signed negative n d) told.lowest in
+    let known = fraction_of-reduced (signed negative n) d h in
+    let lowest = subst IsInLowestTerms (fraction_of-signed negative n d) known.lowest in
     let some = lowest.positive in
     record {
       positive = omega (arith, ints);
@@ -59,8 +59,8 @@ view-from_divisor negative n d g z k e za ka =
 pub over_limit : (negative : Bool) (n d g : ℕ) → g ≡ gcd n d → (2 ^ 62 < n / g) ⊎ (2 ^ 62 < d / g)
     → fits (fraction_of (signed negative n) d) ≡ true → ⊥
 over_limit negative n d g e h w =
-    let told : fits (record { num = signed negative (n / gcd n d); den = d / gcd n d }) ≡ true = ap fits (sym (fraction_of-signed negative n d)) ∙ w in
-    let tests = and_parts (nat_le (unsigned_abs (signed negative (n / gcd n d))) (2 ^ 62)) (nat_le (d / gcd n d) (2 ^ 62)) told in
+    let known : fits (record { num = signed negative (n / gcd n d); den = d / gcd n d }) ≡ true = ap fits (sym (fraction_of-signed negative n d)) ∙ w in
+    let tests = and_parts (nat_le (unsigned_abs (signed negative (n / gcd n d))) (2 ^ 62)) (nat_le (d / gcd n d) (2 ^ 62)) known in
     let above : unsigned_abs (signed negative (n / gcd n d)) ≤ 2 ^ 62 = leb-true _ _ tests.0 in
     let below : d / gcd n d ≤ 2 ^ 62 = leb-true _ _ tests.1 in
     let num_fits : n / g ≤ 2 ^ 62 = subst (λ (x : ℕ). n / x ≤ 2 ^ 62) (sym e) (omega (arith, unsigned_abs-signed negative (n / gcd n d))) in
@@ -87,8 +87,8 @@ pub in_lowest_terms : {E : Type 0} (r : Result Fraction E) (o : Option Fraction)
 in_lowest_terms r o e num z n d k answer same size below h =
     let value : fraction_of (signed (lt_z z (pos 0)) n) d ≡ fraction_of num k =
     ap (λ m. fraction_of (signed (lt_z z (pos 0)) m) d) size ∙ ap (λ m. fraction_of m d) (signed-back z ∙ same) ∙ ap (fraction_of num) below in
-    let told = subst (λ (f : Fraction). SomeIff o (IsTrue (fits f)) f) value h in
-    subst (λ (x : Result Fraction _). OkIff x (IsTrue (fits (fraction_of num k))) (fraction_of num k)) (sym answer) (ok_if-from_some_if o e _ _ told)
+    let known = subst (λ (f : Fraction). SomeIff o (IsTrue (fits f)) f) value h in
+    subst (λ (x : Result Fraction _). OkIff x (IsTrue (fits (fraction_of num k))) (fraction_of num k)) (sym answer) (ok_if-from_some_if o e _ _ known)
 
 -- a whole number over 1 is that whole number
 pub fraction_of-whole : (n : ℤ) → fraction_of n 1 ≡ whole_number n

@@ -1,6 +1,5 @@
 -- Texts that are written in pieces.
-use Rattle.std.proofs.Common.{◌≡◌, ℕ, Bool, true, false, cond, eqb, List, [], ◌∷◌, ◌++◌, Option, Result, Ok, Err, ℤ, pos, refl, sym, ap, ◌∙◌, subst}
-use Rattle.std.specs.Prelude.{OnErr}
+use Rattle.std.proofs.Common.{◌≡◌, ℕ, Bool, true, false, cond, eqb, List, [], ◌∷◌, ◌++◌, Option, ℤ, pos, refl, sym, ap, ◌∙◌, subst}
 use Rattle.std.specs.Fmt.{decimal}
 use Rattle.std.specs.Io.KnownBytes.{append_known}
 use Rattle.std.proofs.lemmas.Bool.{ne_eqb}
@@ -8,11 +7,6 @@ use Rattle.def_outside.specs.Sinks.{AppendsPrefix}
 use Rattle.xg_io.proofs.Pieces.{prefix_first, prefix_then}
 use Rattle.def_fraction.specs.Fraction.{Fraction}
 use Rattle.def_fraction.specs.Text.{int_text, fraction_text}
-
--- what holds in any case holds after a failure
-pub on_err : {T E : Type 0} (r : Result T E) (P : Type 0) → P → OnErr r P
-on_err (Ok x) P p = tt
-on_err (Err e) P p = p
 
 -- ---- a fraction
 

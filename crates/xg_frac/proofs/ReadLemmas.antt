@@ -13,13 +13,13 @@ use Rattle.def_fraction.proofs.JudgeLemmas.{read_as_literal-judged}
 use Rattle.xg_frac.specs.declared.literal.Quotient.{Quotient}
 use Rattle.xg_frac.specs.Scan.{past_all, quotient_of}
 
-abbrev pub answer_of : Bool → ℕ → ℕ → Result Fraction NumberFault
-answer_of negative n d =
+abbrev pub fraction_answer : Bool → ℕ → ℕ → Result Fraction NumberFault
+fraction_answer negative n d =
     cond (eqb d 0) (Err ZeroDenominator) (cond (ltb n past_all && ltb d past_all && fits (fraction_of (signed negative n) d)) (Ok (fraction_of (signed negative n) d)) (Err Range))
 
 abbrev pub answer_if : Bool → Option Quotient → Result Fraction NumberFault
 answer_if negative None = Err Form
-answer_if negative (Some q) = answer_of negative q.num q.den
+answer_if negative (Some q) = fraction_answer negative q.num q.den
 
 zero_capped : (d : ℕ) → eqb (min d past_all) 0 ≡ eqb d 0
 zero_capped zero = refl
@@ -45,7 +45,7 @@ second_false a true c e = cc
 
 tests_agree : (negative : Bool) (n d : ℕ) → ltb n past_all ≡ true → ltb d past_all ≡ true → leb n (2 ^ 127 - 1) ≡ true
     → leb d (2 ^ 127 - 1) ≡ true
-    → cond (eqb d 0) (Err ZeroDenominator) (cond (leb n (2 ^ 127 - 1) && leb d (2 ^ 127 - 1) && fits (fraction_of (signed negative n) d)) (Ok (fraction_of (signed negative n) d)) (Err Range)) ≡ answer_of negative n d
+    → cond (eqb d 0) (Err ZeroDenominator) (cond (leb n (2 ^ 127 - 1) && leb d (2 ^ 127 - 1) && fits (fraction_of (signed negative n) d)) (Ok (fraction_of (signed negative n) d)) (Err Range)) ≡ fraction_answer negative n d
 tests_agree negative n d a b p q =
     let F = fraction_of (signed negative n) d in
     let same : (leb n (2 ^ 127 - 1) && leb d (2 ^ 127 - 1) && fits F) ≡ (ltb n past_all && ltb d past_all && fits F) =
@@ -54,7 +54,7 @@ tests_agree negative n d a b p q =
 
 -- keeping one past_all the limit for all that is past_all it changes no answer
 capped_answer : (negative : Bool) (n d : ℕ)
-    → cond (eqb d 0) (Err ZeroDenominator) (cond (leb n (2 ^ 127 - 1) && leb d (2 ^ 127 - 1) && fits (fraction_of (signed negative n) d)) (Ok (fraction_of (signed negative n) d)) (Err Range)) ≡ answer_of negative (min n past_all) (min d past_all)
+    → cond (eqb d 0) (Err ZeroDenominator) (cond (leb n (2 ^ 127 - 1) && leb d (2 ^ 127 - 1) && fits (fraction_of (signed negative n) d)) (Ok (fraction_of (signed negative n) d)) (Err Range)) ≡ fraction_answer negative (min n past_all) (min d past_all)
 capped_answer negative n d =
     ⊎_elim
     (λ n_small. ⊎_elim
@@ -63,7 +63,7 @@ capped_answer negative n d =
     let same_d : min d past_all ≡ d = omega arith in
     let n_fits : n ≤ 2 ^ 127 - 1 = omega arith in
     let d_fits : d ≤ 2 ^ 127 - 1 = omega arith in
-    tests_agree negative n d (lt-ltb n past_all n_small) (lt-ltb d past_all d_small) (le-leb n (2 ^ 127 - 1) n_fits) (le-leb d (2 ^ 127 - 1) d_fits) ∙ ap (λ x. answer_of negative x d) (sym same_n) ∙ ap (answer_of negative (min n past_all)) (sym same_d))
+    tests_agree negative n d (lt-ltb n past_all n_small) (lt-ltb d past_all d_small) (le-leb n (2 ^ 127 - 1) n_fits) (le-leb d (2 ^ 127 - 1) d_fits) ∙ ap (λ x. fraction_answer negative x d) (sym same_n) ∙ ap (fraction_answer negative (min n past_all)) (sym same_d))
     (λ d_large. out d _ _ _ _ (second_false (leb n (2 ^ 127 - 1)) (leb d (2 ^ 127 - 1)) _ (lt-leb d (2 ^ 127 - 1) (omega arith))) (second_false (ltb (min n past_all) past_all) (ltb (min d past_all) past_all) _ (le-ltb (min d past_all) past_all (omega arith))))
     (cases_lt d past_all))
     (λ n_large. out d _ _ _ _ (first_false (leb n (2 ^ 127 - 1)) (leb d (2 ^ 127 - 1)) _ (lt-leb n (2 ^ 127 - 1) (omega arith))) (first_false (ltb (min n past_all) past_all) (ltb (min d past_all) past_all) _ (le-ltb (min n past_all) past_all (omega arith))))
@@ -87,12 +87,13 @@ read_as_literal-answer bytes o negative e f =
 -- ---- at the returns
 
 -- a denominator of 0 is answered with its fault
-pub zero_answer : (negative : Bool) (q : Quotient) → q.den ≡ 0 → Err ZeroDenominator ≡ answer_of negative q.num q.den
+pub zero_answer : (negative : Bool) (q : Quotient) → q.den ≡ 0
+    → Err ZeroDenominator ≡ fraction_answer negative q.num q.den
 zero_answer negative q e = rw e refl
 
 -- a part past all limits is answered as out of range
 pub past_answer : (negative : Bool) (q : Quotient) → (q.den ≡ 0 → ⊥) → (past_all ≤ q.num) ⊎ (past_all ≤ q.den)
-    → Err Range ≡ answer_of negative q.num q.den
+    → Err Range ≡ fraction_answer negative q.num q.den
 past_answer negative q some h =
     let no : (ltb q.num past_all && ltb q.den past_all && fits (fraction_of (signed negative q.num) q.den)) ≡ false =
     ⊎_elim (λ p. first_false (ltb q.num past_all) (ltb q.den past_all) _ (le-ltb q.num past_all p)) (λ p. second_false (ltb q.num past_all) (ltb q.den past_all) _ (le-ltb q.den past_all p)) h in
@@ -107,7 +108,7 @@ fit_answer (Some x) f h = rw h.0 (ap Ok h.1)
 pub within_answer : (negative : Bool) (q : Quotient) (o : Option Fraction) (r : Result Fraction NumberFault)
     → (q.den ≡ 0 → ⊥) → q.num < past_all → q.den < past_all
     → SomeIff o (IsTrue (fits (fraction_of (signed negative q.num) q.den))) (fraction_of (signed negative q.num) q.den)
-    → r ≡ ok_or o Range → r ≡ answer_of negative q.num q.den
+    → r ≡ ok_or o Range → r ≡ fraction_answer negative q.num q.den
 within_answer negative q o r some n d h e =
     e ∙ fit_answer o (fraction_of (signed negative q.num) q.den) h ∙ sym (rw (ne_eqb q.den 0 some, lt-ltb q.num past_all n, lt-ltb q.den past_all d) refl)
 

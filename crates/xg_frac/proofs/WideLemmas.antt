@@ -17,8 +17,8 @@ quotient-le n g h = div-le_self n g
 wide_reduced : (negative : Bool) (n d : ℕ) → 1 ≤ d → n ≤ 2 ^ 100 → d ≤ 2 ^ 100
     → AreWideParts (signed negative (n / gcd n d)) (pos (d / gcd n d))
 wide_reduced negative n d h p q =
-    let told = fraction_of-reduced (signed negative n) d h in
-    let lowest = subst IsInLowestTerms (fraction_of-signed negative n d) told.lowest in
+    let known = fraction_of-reduced (signed negative n) d h in
+    let lowest = subst IsInLowestTerms (fraction_of-signed negative n d) known.lowest in
     let some = lowest.positive in
     let common = gcd-positive n d h in
     record {

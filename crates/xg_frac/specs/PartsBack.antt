@@ -1,4 +1,4 @@
--- The parts of a fraction are told by its value.
+-- The parts of a fraction are had again from its value.
 use Rattle.std.specs.Prelude.{◌≡◌, ◌≤ℤ◌, ℤ, pos, negsuc, unsigned_abs, refl}
 use Rattle.std.proofs.Common.{ap, arith}
 use Rattle.std.proofs.lemmas.Int.{ints}

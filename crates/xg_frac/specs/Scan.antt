@@ -3,10 +3,10 @@ use Rattle.std.specs.Prelude.{◌≡◌, ℕ, ◌≤◌, ◌+◌, ◌-◌, ◌*�
 use Rattle.xg_frac.specs.declared.literal.Quotient.{Quotient}
 use Rattle.xg_frac.specs.declared.literal.Exponent.{Exponent}
 use Rattle.def_fraction.specs.Digits.{number_of, leading_digits, after_digits}
-use Rattle.def_fraction.specs.Literal.{Power, Body, raised, lowered, numerator, denominator}
+use Rattle.def_fraction.specs.Literal.{Power, Body, raised, lowered, numerator, denominator, most_written}
 
 abbrev pub past_all : ℕ
-past_all = 2 ^ 127
+past_all = most_written + 1
 
 -- the number that digits write after others that write start
 abbrev pub capped : ℕ → List ℕ → ℕ

@@ -1,4 +1,4 @@
--- The large parts of a fraction are told by its value.
+-- The large parts of a fraction are had again from its value.
 use Rattle.std.specs.Prelude.{◌≡◌, ℤ, pos, unsigned_abs}
 use Rattle.std.proofs.Common.{ap}
 use Rattle.xg_frac.specs.declared.wide.Ratio.TheInside.{Inside}

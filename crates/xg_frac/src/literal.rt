@@ -62,7 +62,7 @@ pub fn read_whole(bytes: &[u8]) -> Result<u64, NumberFault>
 
 /// One past the greatest numerator and denominator before reduction. While a number is read it stands for all greater
 /// ones, so that nothing overflows.
-const PAST: u128 = 0x8000_0000_0000_0000_0000_0000_0000_0000;
+pub const PAST: u128 = 0x8000_0000_0000_0000_0000_0000_0000_0000;
 
 /// A number below this one still fits 64 bits with a digit more.
 const SHORT: u64 = 1_000_000_000_000_000_000;

@@ -3,9 +3,9 @@ use Rattle.std.proofs.Common.{◌≡◌, ℕ, zero, suc, ◌+◌, ◌-◌, ◌�
 use Rattle.std.specs.List.{slice_range}
 use Rattle.std.proofs.Math.Seq.{drop-append_seam, take-length}
 use Rattle.std.proofs.lemmas.List.{drop-append-le, take-append-le, length-drop, length-append, append_assoc}
-use Rattle.def_fraction.specs.Fraction.{Fraction}
-use Rattle.def_file.specs.Content.{zero_fraction}
-use Rattle.xg_game.specs.Actions.{GivesSame, actions_of, action_with}
+use Rattle.def_fraction.specs.Fraction.{Fraction, zero_fraction}
+use Rattle.def_file.specs.Content.{action_with}
+use Rattle.xg_game.specs.Actions.{GivesSame, actions_of}
 
 -- there is an action for each name
 pub length-actions_of : (names : List (List ℕ)) (chances : List Fraction)

@@ -16,16 +16,6 @@ use Rattle.xg_game.specs.declared.table.Described.{Described}
 use Rattle.xg_game.specs.declared.outcomes.PayoffPair.{PayoffPair}
 use Rattle.xg_game.proofs.ActionLemmas.{part_behind, part_stays}
 
--- what follows from an answer
-pub on_ok : {T E P Q : Type 0} (r : Result T E) → (P → Q) → OnOk r P → OnOk r Q
-on_ok (Ok x) f on = f on
-on_ok (Err x) f on = tt
-
--- and from an error
-pub on_err : {T E P Q : Type 0} (r : Result T E) → (P → Q) → OnErr r P → OnErr r Q
-on_err (Ok x) f on = tt
-on_err (Err x) f on = f on
-
 -- within a list there is an element
 pub there : {X : Type 0} (xs : List X) (i : ℕ) → i < length xs → (x : X) × (slice_get xs i ≡ Some x)
 there [] i within = absurd (omega arith)

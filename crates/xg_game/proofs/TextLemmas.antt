@@ -14,14 +14,14 @@ first_at_most start [] size rise = omega (arith, rise)
 first_at_most start (stop ∷ stops) size rise = omega (arith, rise.0, first_at_most stop stops size rise.1)
 
 -- the text at a place, between its start and its end
-pub record IsText (start : ℕ) (ends bytes : List ℕ) (i from to : ℕ) : Type 0 where
+pub record IsTextAt (start : ℕ) (ends bytes : List ℕ) (i from to : ℕ) : Type 0 where
   pub rise : from ≤ to
   pub within : to ≤ length bytes
   pub text : slice_get (cut_from start ends bytes) i ≡ Some (take (to - from) (drop from bytes))
 
 -- where the ends rise, the text at a place is the bytes between the end before it, or the start of all, and its own end
 pub text_at : (start : ℕ) (ends bytes : List ℕ) (i from to : ℕ) → AreEnds start ends (length bytes) → i < length ends
-    → from ≡ get_or (start ∷ ends) i 0 → to ≡ get_or ends i to → IsText start ends bytes i from to
+    → from ≡ get_or (start ∷ ends) i 0 → to ≡ get_or ends i to → IsTextAt start ends bytes i from to
 text_at start [] bytes i from to rise there a b = absurd (omega (arith, there))
 text_at start (stop ∷ stops) bytes zero from to rise there a b =
     let most = first_at_most stop stops (length bytes) rise.1 in

@@ -3,7 +3,6 @@ pub mod Actions
 pub mod Kept
 pub mod Made
 pub mod Marks
-pub mod Mentions
 pub mod Outcomes
 pub mod Places
 pub mod Prologues

@@ -1,7 +1,8 @@
 //! The actions of sets, as a game keeps them.
 ghost use Rattle.std.specs.Prelude.{◌≡◌, ◌↔◌, ◌<◌, ◌≤◌, [], ◌∷◌, ◌++◌, length, slice_get, slice_index_or, IfOk, IsTrue, OnOk, Some};
-ghost use Rattle.def_file.specs.Content.{zero_fraction};
-ghost use Rattle.xg_game.specs.Actions.{GivesSame, SpanIsWithin, action_kept, action_with, actions_in};
+ghost use Rattle.def_fraction.specs.Fraction.{zero_fraction};
+ghost use Rattle.def_file.specs.Content.{action_with};
+ghost use Rattle.xg_game.specs.Actions.{GivesSame, SpanIsWithin, action_kept, actions_in};
 ghost use Rattle.xg_record.specs.Entry.{actions_seen};
 
 use crate::outcomes::zero;

@@ -3,7 +3,7 @@ ghost use Rattle.std.specs.Prelude.{◌≡◌, IfOk, OnErr, OnOk, option_map};
 ghost use Rattle.std.specs.Cmp.Lexicographic.{pointwise};
 ghost use Rattle.def_file.specs.Adding as adding;
 ghost use Rattle.def_file.specs.Faults as faults;
-ghost use Rattle.xg_game.specs.Actions.{action_with};
+ghost use Rattle.def_file.specs.Content.{action_with};
 ghost use Rattle.xg_record.specs.Entry.{actions_seen};
 ghost use Rattle.xg_record.specs.Seen.{action_seen};
 

@@ -1,9 +1,9 @@
 //! The outcomes of a game.
 ghost use Rattle.std.specs.Prelude.{◌≡◌, ◌+◌, ◌<◌, ◌^◌, [], ◌∷◌, ◌++◌, length, option_map, slice_set, unwrap_or, None, OnErr, OnOk, IfSome};
 ghost use Rattle.def_file.specs.Adding as adding;
-ghost use Rattle.def_file.specs.Content.{OutcomeEntry, zero_fraction};
+ghost use Rattle.def_fraction.specs.Fraction.{zero_fraction};
+ghost use Rattle.def_file.specs.Content.{OutcomeEntry, outcome_mention};
 ghost use Rattle.def_file.specs.Faults as faults;
-ghost use Rattle.xg_game.specs.Mentions.{outcome_mention};
 ghost use Rattle.xg_game.specs.Places.{place_of_outcome};
 ghost use Rattle.xg_record.specs.Entry.{entry_seen};
 

@@ -1,9 +1,8 @@
 //! The sets of a game.
 ghost use Rattle.std.specs.Prelude.{◌≡◌, ◌≢◌, ◌+◌, ◌<◌, ◌^◌, false, [], ◌∷◌, ◌++◌, length, option_map, slice_set, Some, None, OnErr, OnOk, IfSome};
 ghost use Rattle.def_file.specs.Adding as adding;
-ghost use Rattle.def_file.specs.Content.{SetEntry, sets_of_kind, with_sets};
+ghost use Rattle.def_file.specs.Content.{SetEntry, sets_of_kind, with_sets, set_mention};
 ghost use Rattle.def_file.specs.Faults as faults;
-ghost use Rattle.xg_game.specs.Mentions.{set_mention};
 ghost use Rattle.xg_record.specs.Entry.{actions_seen, entry_seen};
 
 use crate::actions::{ActionList, KeptActions, Span};

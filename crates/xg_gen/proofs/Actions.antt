@@ -1,4 +1,4 @@
--- An action of a set, by what is told of it.
+-- An action of a set, by what is given of it.
 use Rattle.std.proofs.Common.{◌≡◌, ℕ, zero, suc, List, [], ◌∷◌, get_or, Some}
 use Rattle.std.specs.Prelude.{option_map, slice_get}
 use Rattle.def_fraction.specs.Fraction.{Fraction}

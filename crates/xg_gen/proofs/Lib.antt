@@ -1,8 +1,8 @@
 pub mod Actions
 pub mod Marks
 pub mod NamedNodes
-pub mod Plain
+pub mod PlainBytesStay
 pub mod Ranges
-pub mod Taken
-pub mod Whole
+pub mod EntriesTakenInPieces
+pub mod PokerEntriesMakeGame
 pub mod Written

@@ -5,8 +5,8 @@ use Rattle.std.proofs.lemmas.List.Elements.{filter-append}
 use Rattle.std.proofs.lemmas.List.{append-nil}
 use Rattle.std.proofs.lemmas.Bool.{ne_eqb}
 use Rattle.std.specs.Prelude.{false, nat_eq, not, true}
-use Rattle.def_file.specs.Content.{Action}
-use Rattle.def_poker.specs.Poker.{cards, deal_two, deals, hand, hands, others, rounds_with_cards, cards_without}
+use Rattle.def_file.specs.Content.{Action, chance_record}
+use Rattle.def_poker.specs.Poker.{cards, deal_two, hand, hands, others, rounds_with_cards, cards_without}
 
 range_from : (a k m : ℕ) → k ≡ suc m → range_with_len a k ≡ a ∷ range_with_len (a + 1) m
 range_from a k m e = ap (range_with_len a) e
@@ -83,7 +83,7 @@ all_cards n = let same : n ≡ n + 1 - 1 = omega arith in ap (range_with_len 1) 
 -- from card a on, player one's cards give player two's deal and the play with card a, then what those behind it give
 pub rounds_next : (n a : ℕ) → a < n + 1
     → rounds_with_cards n (range_with_len a (n + 1 - a))
-    ≡ (deals (deal_two n a) ∷ hands n a (others n a)) ++ rounds_with_cards n (range_with_len (a + 1) (n + 1 - (a + 1)))
+    ≡ (chance_record (deal_two n a) ∷ hands n a (others n a)) ++ rounds_with_cards n (range_with_len (a + 1) (n + 1 - (a + 1)))
 unfolding rounds_with_cards
 rounds_next n a low = ap (rounds_with_cards n) (range_next n a low)
 

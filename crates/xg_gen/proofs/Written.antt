@@ -5,7 +5,7 @@ use Rattle.std.specs.Io.KnownBytes.{append_known}
 use Rattle.std.proofs.lemmas.List.{append-nil, drop_all, drop_more}
 use Rattle.def_outside.specs.Sinks.{AppendsPrefix, Writes}
 use Rattle.def_outside.proofs.Fronts.{append_known-nil}
-use Rattle.xg_io.proofs.Known.{Progress, whole}
+use Rattle.xg_io.proofs.KnownBytesInPieces.{Progress, whole}
 use Rattle.xg_io.proofs.Pieces.{prefix_first, then_rest, goes_on, fails}
 use Rattle.def_file_tokens.specs.declared.Token.{Token}
 use Rattle.def_file_tokens.specs.Spelling.{Piece, bytes_of}

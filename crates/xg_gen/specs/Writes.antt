@@ -1,6 +1,7 @@
 -- What a writer does.
 use Rattle.std.specs.Prelude.{[]}
-use Rattle.def_file.specs.Content.{Action, zero_fraction}
+use Rattle.def_fraction.specs.Fraction.{zero_fraction}
+use Rattle.def_file.specs.Content.{Action}
 
 -- stands behind the last action of a list
 abbrev pub no_action : Action

@@ -1,6 +1,7 @@
 //! The entries of one-card poker, as a maker takes them.
 ghost use Rattle.std.specs.Prelude.{◌≡◌, ◌≤◌, ◌<◌, [], ◌∷◌, OnOk, Ok, IsTrue};
 ghost use Rattle.def_fraction.specs.Fraction.{most};
+ghost use Rattle.def_file.specs.Content.{chance_record, player_record, leaf_record, no_outcome_mention};
 ghost use Rattle.def_file.specs.Faults.{has_set};
 ghost use Rattle.def_poker.specs.Poker as def;
 ghost use Rattle.xg_record.specs.Record.{record_of};
@@ -47,8 +48,8 @@ fn higher(i: u32, j: u32) -> Player
 
 fn put_opening(maker: &mut GameMaker, alloc: Global, i: u32) -> Result<(), AllocError>
     requires card { 1 ≤ i }
-    requires takes { Takes maker.old (def.moves 1 (def.opening_set i) ∷ []) }
-    ensures { OnOk result (GainsEntries maker.old maker.new (def.moves 1 (def.opening_set i) ∷ [])) }
+    requires takes { Takes maker.old (player_record 1 (def.opening_set i) ∷ []) }
+    ensures { OnOk result (GainsEntries maker.old maker.new (player_record 1 (def.opening_set i) ∷ [])) }
 {
     let set = opening(alloc, i)?;
     put_move(maker, alloc, 1, set)
@@ -56,8 +57,8 @@ fn put_opening(maker: &mut GameMaker, alloc: Global, i: u32) -> Result<(), Alloc
 
 fn put_after_check(maker: &mut GameMaker, alloc: Global, j: u32) -> Result<(), AllocError>
     requires card { 1 ≤ j }
-    requires takes { Takes maker.old (def.moves 2 (def.after_check j) ∷ []) }
-    ensures { OnOk result (GainsEntries maker.old maker.new (def.moves 2 (def.after_check j) ∷ [])) }
+    requires takes { Takes maker.old (player_record 2 (def.after_check j) ∷ []) }
+    ensures { OnOk result (GainsEntries maker.old maker.new (player_record 2 (def.after_check j) ∷ [])) }
 {
     let set = after_check(alloc, j)?;
     put_move(maker, alloc, 2, set)
@@ -65,8 +66,8 @@ fn put_after_check(maker: &mut GameMaker, alloc: Global, j: u32) -> Result<(), A
 
 /// Two checks.
 fn put_showdown(maker: &mut GameMaker, alloc: Global, i: u32, j: u32) -> Result<(), AllocError>
-    requires { Takes maker.old (def.ending_entry (def.wins_one (def.higher i j)) ∷ []) }
-    ensures { OnOk result (GainsEntries maker.old maker.new (def.ending_entry (def.wins_one (def.higher i j)) ∷ [])) }
+    requires { Takes maker.old (leaf_record (def.wins_one (def.higher i j)) ∷ []) }
+    ensures { OnOk result (GainsEntries maker.old maker.new (leaf_record (def.wins_one (def.higher i j)) ∷ [])) }
 {
     let outcome = wins_one(alloc, higher(i, j))?;
     put_end(maker, alloc, outcome)
@@ -109,7 +110,7 @@ fn put_after_bet(
 }
 
 /// A player who faces a bet folds or calls.
-#[tactic(auto, using(crate::proofs::Taken::takes_one, crate::proofs::Taken::takes_more, crate::proofs::Taken::adds_more), unfolding(def_poker::specs::Poker::facing_bet))]
+#[tactic(auto, using(crate::proofs::EntriesTakenInPieces::takes_one, crate::proofs::EntriesTakenInPieces::takes_more, crate::proofs::EntriesTakenInPieces::adds_more), unfolding(def_poker::specs::Poker::facing_bet))]
 fn put_facing_bet(
     maker: &mut GameMaker,
     alloc: Global,
@@ -138,8 +139,8 @@ pub(crate) fn put_deal(
 ) -> Result<(), AllocError>
     requires from_one { 1 ≤ set.number }
     requires set { set.number ≤ most }
-    requires takes { Takes maker.old (def.deals (mention_of_set set) ∷ []) }
-    ensures { OnOk result (GainsEntries maker.old maker.new (def.deals (mention_of_set set) ∷ [])) }
+    requires takes { Takes maker.old (chance_record (mention_of_set set) ∷ []) }
+    ensures { OnOk result (GainsEntries maker.old maker.new (chance_record (mention_of_set set) ∷ [])) }
 {
     let name = plain(alloc, b"")?;
     put_entry(maker, inner(EntryKind::Chance, name, 0, set))
@@ -154,8 +155,8 @@ fn put_move(
 ) -> Result<(), AllocError>
     requires from_one { 1 ≤ set.number }
     requires set { set.number ≤ most }
-    requires takes { Takes maker.old (def.moves player (mention_of_set set) ∷ []) }
-    ensures { OnOk result (GainsEntries maker.old maker.new (def.moves player (mention_of_set set) ∷ [])) }
+    requires takes { Takes maker.old (player_record player (mention_of_set set) ∷ []) }
+    ensures { OnOk result (GainsEntries maker.old maker.new (player_record player (mention_of_set set) ∷ [])) }
 {
     let name = plain(alloc, b"")?;
     put_entry(maker, inner(EntryKind::Personal, name, player, set))
@@ -168,8 +169,8 @@ fn put_end(
     outcome: DescribedOutcome,
 ) -> Result<(), AllocError>
     requires outcome { outcome.number ≤ most }
-    requires takes { Takes maker.old (def.ending_entry (mention_of_outcome outcome) ∷ []) }
-    ensures { OnOk result (GainsEntries maker.old maker.new (def.ending_entry (mention_of_outcome outcome) ∷ [])) }
+    requires takes { Takes maker.old (leaf_record (mention_of_outcome outcome) ∷ []) }
+    ensures { OnOk result (GainsEntries maker.old maker.new (leaf_record (mention_of_outcome outcome) ∷ [])) }
 {
     let entry = Record {
         kind: EntryKind::Leaf,
@@ -187,7 +188,7 @@ fn put_end(
 
 /// An entry with a set and the null outcome.
 fn inner(kind: EntryKind, name: Text, player: u64, set: DescribedSet) -> Record
-    ensures { record_of result ≡ record { kind = kind; name = name; player = player; set = mention_of_set set; outcome = def.no_outcome } }
+    ensures { record_of result ≡ record { kind = kind; name = name; player = player; set = mention_of_set set; outcome = no_outcome_mention } }
 {
     Record {
         kind,

@@ -1,6 +1,8 @@
 //! The sets and the outcomes of one-card poker.
 ghost use Rattle.std.specs.Prelude.{◌≡◌, ◌+◌, ◌-◌, ◌≤◌, [], ◌∷◌, ◌++◌, map, Some, IfOk, OnOk, IsTrue};
 ghost use Rattle.def_fraction.specs.Fraction.{fits, whole_number};
+ghost use Rattle.def_sums.specs.Limits.{least_cards, most_cards};
+ghost use Rattle.def_file.specs.Content.{named_action};
 ghost use Rattle.def_poker.specs.Poker as def;
 ghost use Rattle.xg_record.specs.Action.{action_of};
 ghost use Rattle.xg_gen.specs.Described.{mention_of_outcome, mention_of_set};
@@ -41,7 +43,7 @@ fn number(n: i64) -> Frac
 #[tactic(auto, unfolding(def_poker::specs::Poker::deal_one))]
 pub(crate) fn deal_one(alloc: Global, n: u32) -> Result<DescribedSet, AllocError>
     requires low { 1 ≤ n }
-    requires high { n ≤ 64 }
+    requires high { n ≤ most_cards }
     ensures set { IfOk result (λ set. mention_of_set set ≡ def.deal_one n) }
     ensures number { IfOk result (λ set. set.number ≡ 1) }
 {
@@ -55,8 +57,8 @@ pub(crate) fn deal_one(alloc: Global, n: u32) -> Result<DescribedSet, AllocError
 /// Chance deals player two a card where player one has card `i`.
 #[tactic(auto, unfolding(def_poker::specs::Poker::deal_two))]
 pub(crate) fn deal_two(alloc: Global, n: u32, i: u32) -> Result<DescribedSet, AllocError>
-    requires low { 2 ≤ n }
-    requires high { n ≤ 64 }
+    requires low { least_cards ≤ n }
+    requires high { n ≤ most_cards }
     requires card { i ≤ n }
     ensures set { IfOk result (λ set. mention_of_set set ≡ def.deal_two n i) }
     ensures number { IfOk result (λ set. set.number ≡ 1 + i) }
@@ -71,7 +73,7 @@ pub(crate) fn deal_two(alloc: Global, n: u32, i: u32) -> Result<DescribedSet, Al
 /// Each card.
 fn cards(alloc: Global, n: u32) -> Result<Actions, AllocError>
     requires low { 1 ≤ n }
-    requires high { n ≤ 64 }
+    requires high { n ≤ most_cards }
     ensures { IfOk result (λ actions. actions ≡ map (def.dealt_card n) (def.cards n)) }
 {
     let mut actions = Actions::new(alloc);
@@ -83,8 +85,8 @@ fn cards(alloc: Global, n: u32) -> Result<Actions, AllocError>
 
 /// Each card but card `i`.
 fn other_cards(alloc: Global, n: u32, i: u32) -> Result<Actions, AllocError>
-    requires low { 2 ≤ n }
-    requires high { n ≤ 64 }
+    requires low { least_cards ≤ n }
+    requires high { n ≤ most_cards }
     ensures { IfOk result (λ actions. actions ≡ map (def.dealt_card (n - 1)) (def.others n i)) }
 {
     let mut actions = Actions::new(alloc);
@@ -178,7 +180,7 @@ pub(crate) fn after_bet(alloc: Global, n: u32, j: u32) -> Result<DescribedSet, A
 fn two_moves(alloc: Global, first: &[u8], second: &[u8]) -> Result<Actions, AllocError>
     requires first { IsTrue (is_plain first.now) }
     requires second { IsTrue (is_plain second.now) }
-    ensures { IfOk result (λ actions. actions ≡ def.move first.now ∷ def.move second.now ∷ []) }
+    ensures { IfOk result (λ actions. actions ≡ named_action first.now ∷ named_action second.now ∷ []) }
 {
     let mut actions = Actions::new(alloc);
     actions.push(player_move(alloc, first)?)?;
@@ -188,7 +190,7 @@ fn two_moves(alloc: Global, first: &[u8], second: &[u8]) -> Result<Actions, Allo
 
 fn player_move(alloc: Global, name: &[u8]) -> Result<Action, AllocError>
     requires { IsTrue (is_plain name.now) }
-    ensures { IfOk result (λ action. action_of action ≡ def.move name.now) }
+    ensures { IfOk result (λ action. action_of action ≡ named_action name.now) }
 {
     Ok(Action {
         name: plain(alloc, name)?,

@@ -1,5 +1,7 @@
 //! One-card poker.
 ghost use Rattle.std.specs.Prelude.{◌≡◌, ◌≤◌, [], ◌∷◌, IfOk, OnOk};
+ghost use Rattle.def_sums.specs.Limits.{least_cards, most_cards};
+ghost use Rattle.def_file.specs.Content.{chance_record};
 ghost use Rattle.def_poker.specs.Poker as def;
 ghost use Rattle.xg_gen.specs.Taken.{GainsEntries, Takes};
 
@@ -11,8 +13,8 @@ use xg_game::{Game, GameMaker};
 
 /// One-card poker with `n` cards: both players put in 1 and get a card each, and then check, bet, fold or call.
 pub fn one_card_poker(alloc: Global, n: u32) -> Result<Game, AllocError>
-    requires low { 2 ≤ n }
-    requires high { n ≤ 64 }
+    requires low { least_cards ≤ n }
+    requires high { n ≤ most_cards }
     ensures { IfOk result (λ game. game ≡ def.poker n) }
 {
     let title = numbered(alloc, b"One-card poker ", n)?;
@@ -25,10 +27,10 @@ pub fn one_card_poker(alloc: Global, n: u32) -> Result<Game, AllocError>
 }
 
 /// All entries.
-#[tactic(auto, using(crate::proofs::Taken::takes_one, crate::proofs::Taken::takes_more, crate::proofs::Taken::adds_more), unfolding(def_poker::specs::Poker::entries))]
+#[tactic(auto, using(crate::proofs::EntriesTakenInPieces::takes_one, crate::proofs::EntriesTakenInPieces::takes_more, crate::proofs::EntriesTakenInPieces::adds_more), unfolding(def_poker::specs::Poker::entries))]
 fn put_entries(maker: &mut GameMaker, alloc: Global, n: u32) -> Result<(), AllocError>
-    requires low { 2 ≤ n }
-    requires high { n ≤ 64 }
+    requires low { least_cards ≤ n }
+    requires high { n ≤ most_cards }
     requires takes { Takes maker.old (def.entries n) }
     ensures { OnOk result (GainsEntries maker.old maker.new (def.entries n)) }
 {
@@ -38,10 +40,10 @@ fn put_entries(maker: &mut GameMaker, alloc: Global, n: u32) -> Result<(), Alloc
 }
 
 fn put_deal_one(maker: &mut GameMaker, alloc: Global, n: u32) -> Result<(), AllocError>
-    requires low { 2 ≤ n }
-    requires high { n ≤ 64 }
-    requires takes { Takes maker.old (def.deals (def.deal_one n) ∷ []) }
-    ensures { OnOk result (GainsEntries maker.old maker.new (def.deals (def.deal_one n) ∷ [])) }
+    requires low { least_cards ≤ n }
+    requires high { n ≤ most_cards }
+    requires takes { Takes maker.old (chance_record (def.deal_one n) ∷ []) }
+    ensures { OnOk result (GainsEntries maker.old maker.new (chance_record (def.deal_one n) ∷ [])) }
 {
     let set = deal_one(alloc, n)?;
     put_deal(maker, alloc, set)
@@ -49,8 +51,8 @@ fn put_deal_one(maker: &mut GameMaker, alloc: Global, n: u32) -> Result<(), Allo
 
 /// Each card for player one, and all that follows.
 fn put_rounds(maker: &mut GameMaker, alloc: Global, n: u32) -> Result<(), AllocError>
-    requires low { 2 ≤ n }
-    requires high { n ≤ 64 }
+    requires low { least_cards ≤ n }
+    requires high { n ≤ most_cards }
     requires takes { Takes maker.old (def.rounds_with_cards n (def.cards n)) }
     ensures { OnOk result (GainsEntries maker.old maker.new (def.rounds_with_cards n (def.cards n))) }
 {
@@ -61,14 +63,14 @@ fn put_rounds(maker: &mut GameMaker, alloc: Global, n: u32) -> Result<(), AllocE
 }
 
 /// Card `i` for player one, and all that follows.
-#[tactic(auto, using(crate::proofs::Taken::takes_one, crate::proofs::Taken::takes_more, crate::proofs::Taken::adds_more))]
+#[tactic(auto, using(crate::proofs::EntriesTakenInPieces::takes_one, crate::proofs::EntriesTakenInPieces::takes_more, crate::proofs::EntriesTakenInPieces::adds_more))]
 fn put_round(maker: &mut GameMaker, alloc: Global, n: u32, i: u32) -> Result<(), AllocError>
-    requires low { 2 ≤ n }
-    requires high { n ≤ 64 }
+    requires low { least_cards ≤ n }
+    requires high { n ≤ most_cards }
     requires card { 1 ≤ i }
     requires there { i ≤ n }
-    requires takes { Takes maker.old (def.deals (def.deal_two n i) ∷ def.hands n i (def.others n i)) }
-    ensures { OnOk result (GainsEntries maker.old maker.new (def.deals (def.deal_two n i) ∷ def.hands n i (def.others n i))) }
+    requires takes { Takes maker.old (chance_record (def.deal_two n i) ∷ def.hands n i (def.others n i)) }
+    ensures { OnOk result (GainsEntries maker.old maker.new (chance_record (def.deal_two n i) ∷ def.hands n i (def.others n i))) }
 {
     put_deal_two(maker, alloc, n, i)?;
     put_hands(maker, alloc, n, i)?;
@@ -76,11 +78,11 @@ fn put_round(maker: &mut GameMaker, alloc: Global, n: u32, i: u32) -> Result<(),
 }
 
 fn put_deal_two(maker: &mut GameMaker, alloc: Global, n: u32, i: u32) -> Result<(), AllocError>
-    requires low { 2 ≤ n }
-    requires high { n ≤ 64 }
+    requires low { least_cards ≤ n }
+    requires high { n ≤ most_cards }
     requires card { i ≤ n }
-    requires takes { Takes maker.old (def.deals (def.deal_two n i) ∷ []) }
-    ensures { OnOk result (GainsEntries maker.old maker.new (def.deals (def.deal_two n i) ∷ [])) }
+    requires takes { Takes maker.old (chance_record (def.deal_two n i) ∷ []) }
+    ensures { OnOk result (GainsEntries maker.old maker.new (chance_record (def.deal_two n i) ∷ [])) }
 {
     let set = deal_two(alloc, n, i)?;
     put_deal(maker, alloc, set)
@@ -88,8 +90,8 @@ fn put_deal_two(maker: &mut GameMaker, alloc: Global, n: u32, i: u32) -> Result<
 
 /// The play of player one's card `i` against each other card.
 fn put_hands(maker: &mut GameMaker, alloc: Global, n: u32, i: u32) -> Result<(), AllocError>
-    requires low { 2 ≤ n }
-    requires high { n ≤ 64 }
+    requires low { least_cards ≤ n }
+    requires high { n ≤ most_cards }
     requires card { 1 ≤ i }
     requires takes { Takes maker.old (def.hands n i (def.others n i)) }
     ensures { OnOk result (GainsEntries maker.old maker.new (def.hands n i (def.others n i))) }

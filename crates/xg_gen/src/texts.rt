@@ -8,7 +8,7 @@ use std::alloc::{AllocError, Global};
 use xg_lex::{Text, unescape};
 
 /// The text of bytes without a quotation mark and without a backslash.
-#[tactic(auto, using(crate::proofs::Plain::plain_stays))]
+#[tactic(auto, using(crate::proofs::PlainBytesStay::plain_stays))]
 pub(crate) fn plain(alloc: Global, bytes: &[u8]) -> Result<Text, AllocError>
     requires { IsTrue (is_plain bytes.now) }
     ensures { IfOk result (λ text. text ≡ bytes.now) }
@@ -17,7 +17,7 @@ pub(crate) fn plain(alloc: Global, bytes: &[u8]) -> Result<Text, AllocError>
 }
 
 /// A number behind some bytes.
-#[tactic(auto, using(crate::proofs::Plain::plain_append, crate::proofs::Plain::decimal_plain))]
+#[tactic(auto, using(crate::proofs::PlainBytesStay::plain_append, crate::proofs::PlainBytesStay::decimal_plain))]
 pub(crate) fn numbered(alloc: Global, before: &[u8], n: u32) -> Result<Text, AllocError>
     requires { IsTrue (is_plain before.now) }
     ensures { IfOk result (λ text. text ≡ before.now ++ decimal n) }
@@ -30,7 +30,7 @@ pub(crate) fn numbered(alloc: Global, before: &[u8], n: u32) -> Result<Text, All
 }
 
 /// A number before some bytes.
-#[tactic(auto, using(crate::proofs::Plain::plain_append, crate::proofs::Plain::decimal_plain))]
+#[tactic(auto, using(crate::proofs::PlainBytesStay::plain_append, crate::proofs::PlainBytesStay::decimal_plain))]
 pub(crate) fn marked(alloc: Global, n: u32, after: &[u8]) -> Result<Text, AllocError>
     requires { IsTrue (is_plain after.now) }
     ensures { IfOk result (λ text. text ≡ decimal n ++ after.now) }

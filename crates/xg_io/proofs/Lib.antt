@@ -1,3 +1,4 @@
-pub mod Known
+pub mod KnownBytesInPieces
 pub mod Pieces
-pub mod Found
+pub mod FilesInMemory
+pub mod ResultCases

@@ -4,7 +4,7 @@ use Rattle.std.specs.Io.KnownBytes.{append_known}
 use Rattle.std.proofs.Math.Seq.{take-append-add}
 use Rattle.std.proofs.lemmas.List.{take-append-le, take_min}
 use Rattle.def_outside.specs.Sinks.{AppendsPrefix, Writes}
-use Rattle.xg_io.proofs.Known.{append_known-append, Progress}
+use Rattle.xg_io.proofs.KnownBytesInPieces.{append_known-append, Progress}
 
 -- a front of the first piece is a front of the whole
 pub prefix_first : (before now : Option (List ℕ)) (xs ys : List ℕ)

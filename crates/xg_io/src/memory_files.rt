@@ -1,8 +1,9 @@
 //! Files in memory.
-ghost use Rattle.std.specs.Prelude.{◌≡◌, ◌≢◌, ℕ, ◌+◌, ◌-◌, ◌^◌, ◌<◌, ◌≤◌, ◌↔◌, ◌⊎◌, true, List, length, take, drop, min, position, nat_eq, Option, Some, None, is_some, is_ok, IsTrue, IsErr, vec_len, [], IfOk, IfSome, IfNone, OnOk, OnErr, IsErrOf};
+ghost use Rattle.std.specs.Prelude.{◌≡◌, ◌≢◌, ℕ, ◌+◌, ◌-◌, ◌<◌, ◌≤◌, ◌↔◌, ◌⊎◌, true, List, length, take, drop, min, position, nat_eq, Option, Some, None, is_some, is_ok, IsTrue, IsErr, vec_len, [], IfOk, IfSome, IfNone, OnOk, OnErr, IsErrOf};
 ghost use Rattle.std.specs.Cmp.Lexicographic.{pointwise};
 ghost use Rattle.std.specs.Option.{ForSome};
 ghost use Rattle.std.specs.Io.KnownBytes.{Consumes};
+ghost use Rattle.def_outside.specs.Calls.{past_count};
 ghost use Rattle.def_outside.specs.Cause.{HasCause};
 ghost use Rattle.xg_io.specs.Cause.{next_count, CountsOne, OpenCountsOne, OpenHasCause};
 ghost use Rattle.xg_io.specs.Stored.{stored_bytes_of, stored_bytes_at};
@@ -115,7 +116,7 @@ impl Files for MemFiles {
     fn read(&mut self, into: &mut [u8]) -> Result<usize, Failed>
         requires file { IsTrue (is_some (current_of self.old)) }
         requires room { 0 < length into.old }
-        requires countable { taken_of self.old < 2 ^ 62 }
+        requires countable { taken_of self.old < past_count }
         ensures same_told { told_of self.new ≡ told_of self.old }
         ensures same_open { current_of self.new ≡ current_of self.old }
         ensures count { IfOk result (λ n. n ≤ length into.old) }

@@ -1,6 +1,7 @@
 //! The traits of the outside.
-ghost use Rattle.std.specs.Prelude.{◌≡◌, ℕ, ◌+◌, ◌^◌, ◌<◌, ◌≤◌, ◌↔◌, Bool, Option, Some, List, [], length, take, is_ok, IsTrue, IfOk, IfSome, OnOk, OnErr, MatchResult};
+ghost use Rattle.std.specs.Prelude.{◌≡◌, ℕ, ◌+◌, ◌<◌, ◌≤◌, ◌↔◌, Bool, Option, Some, List, [], length, take, is_ok, IsTrue, IfOk, IfSome, OnOk, OnErr, MatchResult};
 ghost use Rattle.std.specs.Io.KnownBytes.{append_known, Consumes};
+ghost use Rattle.def_outside.specs.Calls.{past_count};
 ghost use Rattle.def_outside.specs.Cause.{HasCause};
 ghost use Rattle.xg_io.specs.Cause.{OpenHasCause};
 
@@ -59,7 +60,7 @@ pub trait Files {
     fn read(&mut self, into: &mut [u8]) -> Result<usize, Failed>
         requires file { IsTrue (is_open self.old) }
         requires room { 0 < length into.old }
-        requires countable { taken self.old < 2 ^ 62 }
+        requires countable { taken self.old < past_count }
         ensures same_told { told self.new ≡ told self.old }
         ensures same_names { may_open self.new ≡ may_open self.old }
         ensures same_open { is_open self.new ≡ is_open self.old }

@@ -1,5 +1,6 @@
 //! Reading a file whole.
-ghost use Rattle.std.specs.Prelude.{◌≡◌, ◌+◌, ◌^◌, ◌<◌, ◌≤◌, ◌↔◌, length, IsTrue, IfOk, IfSome, OnErr, IsErrOf, vec_len};
+ghost use Rattle.std.specs.Prelude.{◌≡◌, ◌+◌, ◌<◌, ◌≤◌, ◌↔◌, length, IsTrue, IfOk, IfSome, OnErr, IsErrOf, vec_len};
+ghost use Rattle.def_outside.specs.Calls.{past_count};
 ghost use Rattle.xg_io.specs.Cause.{ReadAllHasCause};
 
 use crate::{Files, OpenFault};
@@ -31,7 +32,7 @@ pub fn read_all<F: Files>(
     limit: usize,
 ) -> Result<Vec<u8>, ReadAllFault>
     requires name { IsTrue (F.may_open files.old name.now) }
-    requires limit { limit < 2 ^ 62 }
+    requires limit { limit < past_count }
     ensures whole { IfOk result (λ v. IfSome (F.told files.old name.now) (λ bytes. v.items ≡ bytes)) }
     ensures within { IfOk result (λ v. vec_len v ≤ limit) }
     ensures counted { IfOk result (λ v. vec_len v ≡ F.taken files.new) }
@@ -70,7 +71,7 @@ fn read_rest<F: Files>(
     requires file { IsTrue (F.is_open files.old) }
     requires start { F.taken files.old ≡ 0 }
     requires room { 0 < length piece.old }
-    requires limit { limit < 2 ^ 62 }
+    requires limit { limit < past_count }
     ensures whole { IfOk result (λ v. IfSome (F.left files.old) (λ bytes. v.items ≡ bytes)) }
     ensures within { IfOk result (λ v. vec_len v ≤ limit) }
     ensures counted { IfOk result (λ v. vec_len v ≡ F.taken files.new) }

@@ -1,6 +1,7 @@
 //! The real outside: std's files and streams. They tell nothing of what files hold and terminals take.
-ghost use Rattle.std.specs.Prelude.{◌≡◌, ℕ, ◌+◌, ◌^◌, ◌<◌, ◌≤◌, List, length, Option, None, true, false, is_some, is_ok, IsTrue, IfOk, IfSome, OnErr};
+ghost use Rattle.std.specs.Prelude.{◌≡◌, ℕ, ◌+◌, ◌<◌, ◌≤◌, List, length, Option, None, true, false, is_some, is_ok, IsTrue, IfOk, IfSome, OnErr};
 ghost use Rattle.std.specs.Io.KnownBytes.{ReadConsumes, WriteAppends};
+ghost use Rattle.def_outside.specs.Calls.{past_count};
 ghost use Rattle.def_outside.specs.Cause.{HasCause};
 ghost use Rattle.xg_io.specs.Cause.{CountsOne, OpenCountsOne, OpenHasCause};
 
@@ -76,7 +77,7 @@ impl<R: rt::Files + Drop> Files for RealFiles<R> {
     fn read(&mut self, into: &mut [u8]) -> Result<usize, Failed>
         requires file { IsTrue (is_some self.old.file) }
         requires room { 0 < length into.old }
-        requires countable { self.old.taken < 2 ^ 62 }
+        requires countable { self.old.taken < past_count }
         ensures same_open { is_some self.new.file ≡ is_some self.old.file }
         ensures count { IfOk result (λ n. n ≤ length into.old) }
         ensures passed { IfSome self.old.file (λ before. IfSome self.new.file (λ now.

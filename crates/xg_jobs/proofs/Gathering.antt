@@ -24,7 +24,8 @@ module _ (node : Node) (below beside : Forest) (s : TopState) where
   -- the trees below the first node come next, and then those beside it
   entered_first : (counts : List ℕ) (later rest : List Node) (end : TopState)
       → AreFirst (grown node below beside) (node ∷ rest) later s
-      → (AreFirst beside (prefix beside ++ later) later first_tree → LeadsToState (without_next counts) (prefix beside ++ later) first_tree end)
+      → (AreFirst beside (prefix beside ++ later) later first_tree
+      → LeadsToState (without_next counts) (prefix beside ++ later) first_tree end)
       → Entered counts node rest s end
   entered_first counts later rest end first leads =
       let are : rest ≡ (prefix below ++ prefix beside) ++ later = cc first.nodes_are in

@@ -10,8 +10,8 @@ mod PlainSums
 mod Building
 mod Visiting
 mod Gathering
-mod Standing
-mod Passing
-mod Within
+mod TopNodesOfTrees
+mod OnePassOverJobs
+mod JobsAfterPasses
 mod Ranging
-mod TouchedJobs
+pub mod TouchedJobs

@@ -18,10 +18,10 @@ pub range_at : (ranges : List LeafRange) (job : ℕ) (r : LeafRange) → job < l
 range_at ranges job r low read =
     slice_get-map range_of ranges job
     ∙ ap (option_map range_of) (slice_get_read ranges (length ranges) job r refl (subst (λ n. job < n) (length-map ranges range_of) low) read)
-    ∙ ap (λ n. Some (told n)) (sym (add-sub_cancel r.first 1))
+    ∙ ap (λ n. Some (known n)) (sym (add-sub_cancel r.first 1))
   where
-    told : ℕ → RangeOfLeaves
-    told n = record { first = n; count = r.count }
+    known : ℕ → RangeOfLeaves
+    known n = record { first = n; count = r.count }
 
 -- where all ranges of a table begin within the limit of nodes, so does the one that is read
 pub first_in_limit : (ranges : List LeafRange) (job : ℕ) (r : LeafRange) → job < length (map range_of ranges)

@@ -14,7 +14,7 @@ use Rattle.xg_jobs.specs.declared.table.LeafRange.{LeafRange}
 use Rattle.xg_jobs.specs.declared.tops.TopNode.{TopNode}
 use Rattle.xg_jobs.specs.Cutting.{AreJobs}
 use Rattle.xg_jobs.specs.Ranges.{range_of}
-use Rattle.xg_jobs.proofs.Passing.{first_job, job_inside, tells_job}
+use Rattle.xg_jobs.proofs.OnePassOverJobs.{first_job, job_inside, tells_job}
 
 abbrev leaves_in : Forest → ℕ
 leaves_in job = leaf_count (prefix job)
@@ -39,7 +39,8 @@ pub all_leaves : (tree : Forest) → tree_count tree ≡ 1
 all_leaves tree one = sym (counted 0 (jobs_of tree)) ∙ ap length (partition tree one) ∙ length-range_with_len 0 (leaf_count (prefix tree))
 
 -- the jobs before a place have their ranges, which end before the leaf `first`
-pub record RangedSome (tops : List TopNode) (places : List ℕ) (tree : Forest) (ranges : List LeafRange) (first k : ℕ) : Type 0 where
+pub record RangedSome (tops : List TopNode) (places : List ℕ) (tree : Forest) (ranges : List LeafRange)
+    (first k : ℕ) : Type 0 where
   pub rest : List Forest
   pub to_come : AreJobs tops (drop k places) rest
   pub whole : map range_of ranges ++ ranges_from first (map leaves_in rest) ≡ job_ranges tree
@@ -57,9 +58,11 @@ none_ranged tops places tree jobs are whole total ranges none =
     (record { rest = jobs; to_come = are; whole = whole; total = omega (arith, total); inside = λ k d low. absurd (omega arith); count = refl })
 
 -- one more has its range
-pub record RangedNext (tops : List TopNode) (places : List ℕ) (tree : Forest) (ranges : List LeafRange) (first k : ℕ) (leaves : ℕ) : Type 0 where
+pub record RangedNext (tops : List TopNode) (places : List ℕ) (tree : Forest) (ranges : List LeafRange) (first k : ℕ)
+    (leaves : ℕ) : Type 0 where
   pub room : first + leaves ≤ leaf_count (prefix tree)
-  pub next : (r : LeafRange) → r ≡ record { first = first; count = leaves } → RangedSome tops places tree (ranges ++ r ∷ []) (first + leaves) (k + 1)
+  pub next : (r : LeafRange) → r ≡ record { first = first; count = leaves }
+      → RangedSome tops places tree (ranges ++ r ∷ []) (first + leaves) (k + 1)
 
 -- the next job's leaves are within those of the tree, and with its range behind the others one more job has its own
 pub range_more : (tops : List TopNode) (places : List ℕ) (tree : Forest) (ranges : List LeafRange) (first k place : ℕ)

@@ -43,12 +43,12 @@ ranges_inside form tree is one k d low =
     omega (arith, ranges_end 0 (leaf_counts tree) k d low, ap length (partition tree one), length-range_with_len 0 (leaf_count (prefix tree)), form_leaves form tree is)
 
 -- the same of the ranges as a table has them
-pub told_inside : (form : SequenceForm) (tree : Forest) (ranges : List LeafRange) → IsFormOf form tree
+pub table_inside : (form : SequenceForm) (tree : Forest) (ranges : List LeafRange) → IsFormOf form tree
     → tree_count tree ≡ 1
     → map range_of ranges ≡ job_ranges tree
     → All (λ (r : LeafRange). r.first + r.count ≤ length form.leaves) ranges
-told_inside form tree ranges is one told k d low =
-    let all = subst (All (λ (r : RangeOfLeaves). r.first + r.count ≤ length form.leaves)) (sym told) (ranges_inside form tree is one) in
+table_inside form tree ranges is one known k d low =
+    let all = subst (All (λ (r : RangeOfLeaves). r.first + r.count ≤ length form.leaves)) (sym known) (ranges_inside form tree is one) in
     let at = all k (range_of d) (omega (arith, length-map ranges range_of)) in
     subst (λ (r : RangeOfLeaves). r.first + r.count ≤ length form.leaves) (get_or-map range_of ranges k d (range_of d) low) at
 
@@ -82,7 +82,8 @@ at_most_touched touched k d low =
     omega (arith, at_most_greatest (map size touched) k, get_or-map size touched k d 0 low)
 
 -- what a table tells of a job
-pub record JobTold (form : SequenceForm) (table : TableOfJobs) (job : ℕ) (touched : JobRows) (range : LeafRange) : Type 0 where
+pub record JobIsTouched (form : SequenceForm) (table : TableOfJobs) (job : ℕ) (touched : JobRows)
+    (range : LeafRange) : Type 0 where
   pub range_is : get_or table.ranges job (record { first = 0; count = 0 }) ≡ range_of range
   pub inside : range.first + range.count ≤ length form.leaves
   pub count : length touched.leaves ≡ range.count
@@ -90,20 +91,20 @@ pub record JobTold (form : SequenceForm) (table : TableOfJobs) (job : ℕ) (touc
   pub few : length touched.rows ≤ most_touched table.touched
 
 -- a table built from a form tells so of each of its jobs
-pub job_told : (form : SequenceForm) (table : TableOfJobs) (job : ℕ) (ranges : List LeafRange) (touched : JobRows)
+pub job_is_touched : (form : SequenceForm) (table : TableOfJobs) (job : ℕ) (ranges : List LeafRange) (touched : JobRows)
     (range : LeafRange)
     → IsTableOf form table → job < length table.ranges → map range_of ranges ≡ table.ranges
     → range ≡ get_or ranges job range → touched ≡ get_or table.touched job touched
-    → JobTold form table job touched range
-job_told form table job ranges touched range is low told read found =
+    → JobIsTouched form table job touched range
+job_is_touched form table job ranges touched range is low known read found =
     let none : RangeOfLeaves = record { first = 0; count = 0 } in
     let tree : Forest = is.tree in
     let ranges_are : table.ranges ≡ job_ranges tree = ap (λ (t : TableOfJobs). t.ranges) is.table_is in
     let touched_are : table.touched ≡ map (job_rows form) (job_ranges tree) = ap (λ (t : TableOfJobs). t.touched) is.table_is in
     let there : job < length (job_ranges tree) = subst (λ rs. job < length rs) ranges_are low in
-    let here : job < length ranges = omega (arith, ap (length {A = RangeOfLeaves}) told, length-map ranges range_of, low) in
+    let here : job < length ranges = omega (arith, ap (length {A = RangeOfLeaves}) known, length-map ranges range_of, low) in
     let range_is : get_or table.ranges job none ≡ range_of range =
-    ap (λ rs. get_or rs job none) (sym told) ∙ get_or-map range_of ranges job range none here ∙ ap range_of (sym read) in
+    ap (λ rs. get_or rs job none) (sym known) ∙ get_or-map range_of ranges job range none here ∙ ap range_of (sym read) in
     let at : get_or (job_ranges tree) job none ≡ range_of range = ap (λ rs. get_or rs job none) (sym ranges_are) ∙ range_is in
     let whole : touched ≡ job_rows form (range_of range) =
     found ∙ ap (λ ts. get_or ts job touched) touched_are ∙ get_or-map (job_rows form) (job_ranges tree) job none touched there ∙ ap (job_rows form) at in

@@ -235,12 +235,12 @@ open_below node below beside nodes at zero l room =
 open_below node below beside nodes at (suc c) l room =
     let next : suc c + 1 ≡ suc (suc c) = omega arith in
     let m : ℕ = leaf_count (node ∷ []) in
-    let told : IsOpen (state nodes at (suc (suc c)) (l + m + leaf_count (prefix below))) = record {
+    let known : IsOpen (state nodes at (suc (suc c)) (l + m + leaf_count (prefix below))) = record {
       count = omega (arith, room.nodes);
       there = λ h. absurd (omega (arith, h));
       before = λ h. absurd (omega (arith, h));
     } in
-    subst (λ k. IsOpen (walked below (state nodes at k (l + m)))) (sym next) told
+    subst (λ k. IsOpen (walked below (state nodes at k (l + m)))) (sym next) known
 
 -- a node that was entered can be left after the trees below it, where there was room for all nodes
 pub can_leave : (node : Node) (below beside : Forest) (s : TopState) → Room s (node_count (grown node below beside))

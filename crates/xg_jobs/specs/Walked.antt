@@ -43,7 +43,7 @@ pub record AreFirst (trees : Forest) (nodes later : List Node) (s : TopState) : 
 
 -- the nodes to come lead from one state to the other: first come those under the innermost node that isn't left, behind
 -- which it is left, then those under the one around it, and so on.
--- Of each of these nodes it is told how many children are to come
+-- Of each of these nodes it is known how many children are to come
 abbrev pub LeadsToState : List ℕ → List Node → TopState → TopState → Type 0
 LeadsToState [] nodes s end = (trees : Forest) × AreFirst trees nodes [] s × (walked trees s ≡ end)
 LeadsToState (count ∷ counts) nodes s end =

@@ -1,5 +1,6 @@
 ghost use Rattle.std.specs.Prelude.{◌≡◌, ℕ, ◌+◌, ◌*◌, ◌^◌, ◌<◌, ◌≤◌, ℤ, pos, ◌+ℤ◌, ◌*ℤ◌, unsigned_abs, IsTrue};
 ghost use Rattle.std.specs.Prelude.{length, map, slice_index, slice_index_or};
+ghost use Rattle.def_sums.specs.Limits.{past_number};
 ghost use Rattle.xg_jobs.specs.Entries.{small_leaf, tiny_leaf, wide_leaf};
 ghost use Rattle.xg_jobs.specs.Groups.{group_at, group_mass, group_sum};
 ghost use Rattle.xg_jobs.specs.Sums.{CanSum, CanSumAll};
@@ -129,7 +130,7 @@ fn sum_wide<E: Entry>(group: &[E], numbers: &[u64]) -> i128
 }
 
 fn times(w: i64, n: u64) -> i64
-    requires small { n < 2 ^ 62 }
+    requires small { n < past_number }
     requires within { unsigned_abs w * n < 2 ^ 63 }
     ensures { result ≡ w *ℤ pos n }
 {
@@ -144,7 +145,7 @@ fn plus(a: i64, b: i64) -> i64
 }
 
 fn times_wide(w: i64, n: u64) -> i128
-    requires { n < 2 ^ 62 }
+    requires { n < past_number }
     ensures { result ≡ w *ℤ pos n }
 {
     // a product of two signed words is one instruction

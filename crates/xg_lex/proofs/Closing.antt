@@ -78,7 +78,9 @@ byte_before bytes at k begun within =
     ∙ ap (λ n. get_or bytes n 0) place
 
 -- a first mark that memchr found, k bytes behind `at`
-module _ (bytes : List ℕ) (start at k : ℕ) (hay : List ℕ) (is_rest : hay ≡ drop at bytes) (on : SearchesOn bytes start at) (first : NoneBefore (Passes (is_byte 34) hay) 0 (length hay) k) (mark : Passes (is_byte 34) hay k) where
+module _ (bytes : List ℕ) (start at k : ℕ) (hay : List ℕ) (is_rest : hay ≡ drop at bytes)
+    (on : SearchesOn bytes start at) (first : NoneBefore (Passes (is_byte 34) hay) 0 (length hay) k)
+    (mark : Passes (is_byte 34) hay k) where
   within : at + k < length bytes
   within = omega (arith, first.high, ap length is_rest, length-drop at bytes, on.within)
 

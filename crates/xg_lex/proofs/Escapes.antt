@@ -85,17 +85,18 @@ module _ (k : ℕ) (bs : List ℕ) (within : k < length bs) (all : MarksEscaped 
       subst (λ n. MarksEscaped 34 (drop n bs)) next (subst (λ b. MarksEscaped b (drop (suc k) bs)) mark (MarksEscaped-drop k 34 bs within all))
 
 -- where the copying stands: with what is left it gives what all bytes stand for
-pub record StandsFor (raw : List ℕ) (at : ℕ) (bytes : List ℕ) : Type 0 where
+pub record IsCopiedSoFar (raw : List ℕ) (at : ℕ) (bytes : List ℕ) : Type 0 where
   pub within : at ≤ length raw
   pub escaped : MarksEscaped 34 (drop at raw)
   pub same : bytes ++ unescaped (drop at raw) ≡ unescaped raw
 
 -- before the first byte of an inside nothing is copied, and all of it is left
-pub StandsFor-start : (raw : List ℕ) → IsInside raw → StandsFor raw 0 []
+pub StandsFor-start : (raw : List ℕ) → IsInside raw → IsCopiedSoFar raw 0 []
 StandsFor-start raw inside = record { within = omega arith; escaped = inside.escaped; same = refl }
 
 -- a first mark that memchr found, k bytes behind `at`
-module _ (raw : List ℕ) (at k : ℕ) (bytes hay : List ℕ) (is_rest : hay ≡ drop at raw) (on : StandsFor raw at bytes) (first : NoneBefore (Passes (is_byte 34) hay) 0 (length hay) k) (mark : Passes (is_byte 34) hay k) where
+module _ (raw : List ℕ) (at k : ℕ) (bytes hay : List ℕ) (is_rest : hay ≡ drop at raw) (on : IsCopiedSoFar raw at bytes)
+    (first : NoneBefore (Passes (is_byte 34) hay) 0 (length hay) k) (mark : Passes (is_byte 34) hay k) where
   in_rest : k < length (drop at raw)
   in_rest = omega (arith, first.high, ap length is_rest)
 
@@ -112,7 +113,7 @@ module _ (raw : List ℕ) (at k : ℕ) (bytes hay : List ℕ) (is_rest : hay ≡
   mark_within = omega (arith, in_rest, length-drop at raw, on.within)
 
   -- with all up to the found mark copied, but for the backslash right before it, what is left begins behind the mark
-  pub StandsFor-next : StandsFor raw (at + k + 1) (bytes ++ take (at + k - 1 - at) (drop at raw) ++ 34 ∷ [])
+  pub StandsFor-next : IsCopiedSoFar raw (at + k + 1) (bytes ++ take (at + k - 1 - at) (drop at raw) ++ 34 ∷ [])
   StandsFor-next =
       let positive = mark_follows in
       let here = mark_within in
@@ -133,7 +134,7 @@ module _ (raw : List ℕ) (at k : ℕ) (bytes hay : List ℕ) (is_rest : hay ≡
       }
 
 -- where what is left has no quotation mark, it is copied as it is
-pub StandsFor-end : (raw : List ℕ) (at : ℕ) (bytes hay : List ℕ) → hay ≡ drop at raw → StandsFor raw at bytes
+pub StandsFor-end : (raw : List ℕ) (at : ℕ) (bytes hay : List ℕ) → hay ≡ drop at raw → IsCopiedSoFar raw at bytes
     → Nowhere (Passes (is_byte 34) hay) 0 (length hay) → bytes ++ drop at raw ≡ unescaped raw
 StandsFor-end raw at bytes hay is_rest on none =
     ap (λ l. bytes ++ l) (sym (unescaped-none (drop at raw) (λ j below. false_from_ne_true _ (λ passes. none j (omega arith) (omega (arith, ap length is_rest)) (ap (λ l. eqb (get_or l j 0) 34) is_rest ∙ passes)))))

@@ -1,4 +1,4 @@
-mod Closing
+pub mod Closing
 mod TokenAt
 mod NextByte
 mod Escapes

@@ -69,7 +69,8 @@ unfolding next_from
 next_here bytes at start is_start = ap (λ k. token_at k (drop k bytes)) is_start
 
 -- the text that was read, with its quotation marks and its inside
-module _ (whole : List ℕ) (at : ℕ) (lexeme : Lexeme) (is : IsLexemeFrom whole at lexeme) (text : lexeme.kind ≡ Text) where
+module _ (whole : List ℕ) (at : ℕ) (lexeme : Lexeme) (is : IsLexemeFrom whole at lexeme)
+    (text : lexeme.kind ≡ Text) where
   text_is : IsQuoted (slice_range whole lexeme.start lexeme.end)
   text_is = subst (λ k. IsToken k (slice_range whole lexeme.start lexeme.end) (drop lexeme.end whole)) text is.token
 

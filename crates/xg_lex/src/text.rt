@@ -1,3 +1,4 @@
+//! Texts of a file: the bytes that stand for them, and views of them where they stand.
 ghost use Rattle.std.specs.Prelude.{◌≡◌, ◌+◌, ◌<◌, ◌==◌, ◌&&◌, List, drop, length, slice_index, IfOk, IfSome, nat_eq, true, false, None, Contains};
 ghost use Rattle.std.specs.Cmp.Lexicographic.{pointwise};
 ghost use Rattle.def_file_tokens.specs.Texts.{IsInside, EndsPlainly, begins_with_mark, unescaped};

@@ -18,3 +18,9 @@ pub const MOST_WORKERS: u32 = 64;
 
 /// The most stripes of the rows that workers add into.
 pub const MOST_STRIPES: u32 = 64;
+
+/// The fewest cards of one-card poker.
+pub const LEAST_CARDS: u32 = 2;
+
+/// The most cards of one-card poker.
+pub const MOST_CARDS: u32 = 64;

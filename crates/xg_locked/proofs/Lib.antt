@@ -1,1 +1,1 @@
-pub mod Takes
+pub mod RightsMoveUnderLocks

@@ -1,6 +1,6 @@
 -- The bytes of a page as they are kept and written, and fronts of what was written.
 use Rattle.std.proofs.Common.{◌≡◌, ℕ, ◌+◌, ◌-◌, ◌≤◌, List, ◌++◌, length, take, drop, sym, ◌∙◌, ap, append_assoc, arith}
-use Rattle.std.specs.Prelude.{Option, Some, None, Result, Ok, Err, OnOk, OnErr, false, is_err, unwrap_or}
+use Rattle.std.specs.Prelude.{Option, Some, None, unwrap_or}
 use Rattle.std.proofs.lemmas.List.{take-append-drop, drop-take, drop-drop, length-drop, length-take, drop-append-le}
 use Rattle.std.proofs.lemmas.Slice.{take-put_mid}
 use Rattle.std.proofs.Math.Seq.{take-append_seam, drop-append_seam, take-length, take-add}
@@ -8,7 +8,7 @@ use borrow.Rule.Slice.PartMut.{put_mid}
 use Rattle.std.specs.Io.KnownBytes.{append_known}
 use Rattle.def_outside.specs.Sinks.{AppendsPrefix}
 use Rattle.def_outside.proofs.Fronts.{append_known-nil}
-use Rattle.xg_io.proofs.Known.{append_known-append}
+use Rattle.xg_io.proofs.KnownBytesInPieces.{append_known-append}
 use Rattle.xg_page.specs.Waiting.{waiting_in, IsGrown}
 
 -- the bytes from one place to another, the other way round
@@ -73,24 +73,9 @@ pub whole_front : (before now : Option (List ℕ)) (text : List ℕ) → now ≡
     → AppendsPrefix before now text
 whole_front before now text is = record { count = length text; appended = is ∙ ap (append_known before) (sym (take-length text)) }
 
--- what holds anyway holds on an error
-pub on_err : {T E P : Type 0} (result : Result T E) → P → OnErr result P
-on_err (Ok value) holds = tt
-on_err (Err fault) holds = holds
-
 -- a page that nothing waits in shows what its sink has
 pub nothing_waits : (known before : Option (List ℕ)) (bytes : List ℕ) (start end : ℕ) → known ≡ before → start ≡ end
     → append_known known (waiting_in bytes start end) ≡ before
 nothing_waits known before bytes start end is same =
     let none : end - start ≡ 0 = omega (arith, same) in
     ap (λ (k : ℕ). append_known known (take k (drop start bytes))) none ∙ append_known-nil known ∙ is
-
--- where something holds on an error, what follows from it holds there too
-pub on_err_then : {T E P Q : Type 0} (result : Result T E) → (P → Q) → OnErr result P → OnErr result Q
-on_err_then (Ok value) follows holds = tt
-on_err_then (Err fault) follows holds = follows holds
-
--- what holds on success holds where there is no error
-pub without_err : {T E P : Type 0} (result : Result T E) → is_err result ≡ false → OnOk result P → P
-without_err (Ok value) is holds = holds
-without_err (Err fault) is holds = absurd (cc)

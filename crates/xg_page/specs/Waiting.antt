@@ -2,6 +2,10 @@
 use Rattle.std.specs.Prelude.{◌≡◌, ℕ, ◌-◌, List, [], length, take, drop, Option, None, Some}
 use Rattle.std.specs.Io.KnownBytes.{append_known}
 
+-- how many bytes a page holds
+abbrev pub page_size : ℕ
+page_size = 16384
+
 -- the bytes from one place to another
 abbrev pub waiting_in : List ℕ → ℕ → ℕ → List ℕ
 waiting_in bytes start end = take (end - start) (drop start bytes)

@@ -1,11 +1,11 @@
 ghost use Rattle.std.specs.Prelude.{◌≡◌, ◌+◌, ◌-◌, ◌≤◌, ◌<◌, Option, List, ℕ, ◌++◌, IfOk, OnOk, OnErr, length, take, min};
 ghost use Rattle.std.specs.Io.KnownBytes.{append_known};
 ghost use Rattle.def_outside.specs.Cause.{HasCause};
-ghost use Rattle.xg_page.specs.Waiting.{IsGrown, waiting_in, with_waiting};
+ghost use Rattle.xg_page.specs.Waiting.{IsGrown, page_size, waiting_in, with_waiting};
 
 use xg_io::{Failed, Sink, WriteFault};
 
-/// How many bytes a page holds.
+/// How many bytes a page holds: `page_size` of the definitions.
 const SIZE: usize = 16384;
 
 /// A sink, the bytes that wait for it, from `start` to `end`, and what became of the text in the end. The page takes no
@@ -17,7 +17,7 @@ pub struct Page<'a, O: Sink> {
     pub(crate) end: usize,
     pub(crate) outcome: Result<(), WriteFault>,
     ghost order: { start ≤ end },
-    ghost within: { end ≤ 16384 },
+    ghost within: { end ≤ page_size },
 }
 
 impl<'a, O: Sink> Page<'a, O> {
@@ -83,10 +83,10 @@ impl<'a, O: Sink> Page<'a, O> {
 
     // Keeps bytes from the front of the piece, as many as there is room for.
     fn keep(&mut self, piece: &[u8]) -> usize
-        requires { self.old.end < 16384 }
+        requires { self.old.end < page_size }
         ensures same_reference { self.new.sink.ghost_name ≡ self.old.sink.ghost_name }
         ensures same_sink { self.new.sink.now ≡ self.old.sink.now }
-        ensures count { result ≡ min (length piece.now) (16384 - self.old.end) }
+        ensures count { result ≡ min (length piece.now) (page_size - self.old.end) }
         ensures waiting { waiting_in self.new.bytes self.new.start self.new.end
             ≡ waiting_in self.old.bytes self.old.start self.old.end ++ take result piece.now }
     {

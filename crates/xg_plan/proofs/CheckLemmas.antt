@@ -10,17 +10,17 @@ use Rattle.def_plan.specs.Plan.{AddsUp, HasRoot, IsBadSet, IsPlan}
 use Rattle.def_plan.proofs.BadSets.{length-placed}
 use Rattle.def_shares.specs.Shares.{weight_sum}
 use Rattle.def_round.proofs.Plays.{sum_of_map}
-use Rattle.xg_plan.proofs.PlaceLemmas.{IsTold, no_place, part_is}
+use Rattle.xg_plan.proofs.PlaceLemmas.{IsPlacedAs, no_place, part_is}
 
 -- a set's numbers as a part of the list
 pub part_sum : (sets : List InformationSet) (plan : List ℕ) (k first actions before : ℕ)
-    → IsTold sets k first actions before → length plan ≡ sequence_count sets
+    → IsPlacedAs sets k first actions before → length plan ≡ sequence_count sets
     → (d : PlacedSet)
     → weight_sum (take (first + actions - first) (drop first plan))
     ≡ nat_sum_over (λ s. slice_index plan s) (sequences_of (get_or (placed sets) k d))
-part_sum sets plan k first actions before told long d =
-    ap weight_sum (part_is plan first actions (omega (arith, told.inside, long))) ∙ sym (sum_of_map (λ s. slice_index plan s) (range_with_len first actions))
-    ∙ ap (λ (h : PlacedSet). nat_sum_over (λ s. slice_index plan s) (sequences_of h)) (sym (told.is d))
+part_sum sets plan k first actions before known long d =
+    ap weight_sum (part_is plan first actions (omega (arith, known.inside, long))) ∙ sym (sum_of_map (λ s. slice_index plan s) (range_with_len first actions))
+    ∙ ap (λ (h : PlacedSet). nat_sum_over (λ s. slice_index plan s) (sequences_of h)) (sym (known.is d))
 
 -- at the sets before set k the numbers add up
 abbrev pub AddUpTo : List InformationSet → List ℕ → ℕ → Type 0

@@ -15,7 +15,7 @@ use Rattle.def_round.specs.Laws.{IsPlanOfPlay}
 use Rattle.def_round.specs.Play.{GivesAllUnits, plan_of_play, play_rule}
 use Rattle.def_round.proofs.Blocks.{map-block}
 use Rattle.def_round.proofs.Plays.{plans_of_plays_are_unique, sum_of_map}
-use Rattle.xg_plan.proofs.PlaceLemmas.{IsTold, SetAt, few_before, first_of, no_place, part_is, set_at}
+use Rattle.xg_plan.proofs.PlaceLemmas.{IsPlacedAs, SetAt, few_before, first_of, no_place, part_is, set_at}
 
 -- at a set the numbers are those that the play makes of the number before it
 abbrev pub IsDealtAt : List ℕ → List ℕ → PlacedSet → Type 0
@@ -115,35 +115,36 @@ dealt_is_plan_of_play sets play root plan order some upto = plans_of_plays_are_u
 
 -- the play of a set gives out all units, as a part of the list
 pub part_whole : (sets : List InformationSet) (play : List ℕ) (k first actions before : ℕ)
-    → IsTold sets k first actions before → k < length sets → length play ≡ sequence_count sets → GivesAllUnits play sets
+    → IsPlacedAs sets k first actions before → k < length sets → length play ≡ sequence_count sets
+    → GivesAllUnits play sets
     → weight_sum (take (first + actions - first) (drop first play)) ≡ 65536
-part_whole sets play k first actions before told below long all =
-    ap weight_sum (part_is play first actions (omega (arith, told.inside, long))) ∙ sym (sum_of_map (λ s. slice_index play s) (range_with_len first actions))
-    ∙ ap (λ (h : PlacedSet). nat_sum_over (λ s. slice_index play s) (sequences_of h)) (sym (told.is no_place)) ∙ all k no_place (omega (arith, length-placed 1 sets))
+part_whole sets play k first actions before known below long all =
+    ap weight_sum (part_is play first actions (omega (arith, known.inside, long))) ∙ sym (sum_of_map (λ s. slice_index play s) (range_with_len first actions))
+    ∙ ap (λ (h : PlacedSet). nat_sum_over (λ s. slice_index play s) (sequences_of h)) (sym (known.is no_place)) ∙ all k no_place (omega (arith, length-placed 1 sets))
 
 -- a block that is put at a set's place keeps what stands before it
 pub block_keeps : (sets : List InformationSet) (plan block rest : List ℕ) (k first actions before : ℕ)
-    → IsTold sets k first actions before → length plan ≡ sequence_count sets
+    → IsPlacedAs sets k first actions before → length plan ≡ sequence_count sets
     → (d : PlacedSet) (s : ℕ) → s < (get_or (placed sets) k d).first
     → slice_index (take first plan ++ (block ++ rest)) s ≡ slice_index plan s
-block_keeps sets plan block rest k first actions before told long d s low =
-    let below : s < first = omega (arith, ap (λ (h : PlacedSet). h.first) (told.is d)) in
-    let front : length (take first plan) ≡ first = length-take-le first plan (omega (arith, told.inside, long)) in
+block_keeps sets plan block rest k first actions before known long d s low =
+    let below : s < first = omega (arith, ap (λ (h : PlacedSet). h.first) (known.is d)) in
+    let front : length (take first plan) ≡ first = length-take-le first plan (omega (arith, known.inside, long)) in
     get_or_append_left (take first plan) (block ++ rest) 0 s (omega (arith, front)) ∙ get_or-take first plan s 0 below
 
 -- and is what the play deals, where it is the shares by the set's part of the play
 pub block_deals : (sets : List InformationSet) (play plan block rest : List ℕ) (k first actions before : ℕ)
-    → IsTold sets k first actions before → length plan ≡ sequence_count sets → length play ≡ sequence_count sets
+    → IsPlacedAs sets k first actions before → length plan ≡ sequence_count sets → length play ≡ sequence_count sets
     → block ≡ shares (slice_index plan before) (take (first + actions - first) (drop first play))
     → (d : PlacedSet)
     → map (λ s. slice_index (take first plan ++ (block ++ rest)) s) (sequences_of (get_or (placed sets) k d))
     ≡ play_rule play (get_or (placed sets) k d) (slice_index plan (get_or (placed sets) k d).before)
-block_deals sets play plan block rest k first actions before told long play_long dealt d =
+block_deals sets play plan block rest k first actions before known long play_long dealt d =
     let n : ℕ = slice_index plan before in
     let weights : List ℕ = map (λ s. slice_index play s) (range_with_len first actions) in
-    let rule : block ≡ shares n weights = dealt ∙ ap (shares n) (part_is play first actions (omega (arith, told.inside, play_long))) in
+    let rule : block ≡ shares n weights = dealt ∙ ap (shares n) (part_is play first actions (omega (arith, known.inside, play_long))) in
     let many : length block ≡ actions = ap length rule ∙ length-shares n weights ∙ length-map-range_with_len (λ s. slice_index play s) first actions in
     let new : List ℕ = take first plan ++ (block ++ rest) in
     let here : map (λ s. slice_index new s) (range_with_len first actions) ≡ shares n weights =
-    ap (λ m. map (λ s. slice_index new s) (range_with_len first m)) (sym many) ∙ map-block (take first plan) block rest first 0 (length-take-le first plan (omega (arith, told.inside, long))) ∙ rule in
-    subst (λ (h : PlacedSet). map (λ s. slice_index new s) (sequences_of h) ≡ play_rule play h (slice_index plan h.before)) (sym (told.is d)) here
+    ap (λ m. map (λ s. slice_index new s) (range_with_len first m)) (sym many) ∙ map-block (take first plan) block rest first 0 (length-take-le first plan (omega (arith, known.inside, long))) ∙ rule in
+    subst (λ (h : PlacedSet). map (λ s. slice_index new s) (sequences_of h) ≡ play_rule play h (slice_index plan h.before)) (sym (known.is d)) here

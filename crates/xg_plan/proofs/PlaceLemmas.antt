@@ -14,8 +14,8 @@ use Rattle.def_round.proofs.Blocks.{drop-range}
 abbrev pub no_place : PlacedSet
 no_place = record { first = 0; before = 0; actions = 0 }
 
-abbrev no_set : InformationSet
-no_set = record { before = 0; actions = 0 }
+abbrev pub no_information_set : InformationSet
+no_information_set = record { before = 0; actions = 0 }
 
 -- the number of the first sequence at set k, counted from 0, or of the next one after all
 abbrev pub first_of : List InformationSet → ℕ → ℕ
@@ -45,10 +45,10 @@ pub record SetAt (sets : List InformationSet) (k : ℕ) (h : PlacedSet) : Type 0
 pub set_at : (sets : List InformationSet) (k : ℕ) (d : PlacedSet) → AreInOrder sets → k < length sets
     → SetAt sets k (get_or (placed sets) k d)
 set_at sets k d order below =
-    let is = at-placed 1 sets k d no_set below in
+    let is = at-placed 1 sets k d no_information_set below in
     let ordered = order k d (omega (arith, length-placed 1 sets)) in
-    let more : total_actions (take (k + 1) sets) ≡ total_actions (take k sets) + (get_or sets k no_set).actions =
-    ap total_actions (take_more sets k no_set below) ∙ nat_sum_over-append (λ (h : InformationSet). h.actions) (take k sets) (get_or sets k no_set ∷ []) ∙ omega arith in
+    let more : total_actions (take (k + 1) sets) ≡ total_actions (take k sets) + (get_or sets k no_information_set).actions =
+    ap total_actions (take_more sets k no_information_set below) ∙ nat_sum_over-append (λ (h : InformationSet). h.actions) (take k sets) (get_or sets k no_information_set ∷ []) ∙ omega arith in
     record {
       first = ap (λ (h : PlacedSet). h.first) is;
       next = omega (arith, more, ap (λ (h : PlacedSet). h.first) is, ap (λ (h : PlacedSet). h.actions) is);
@@ -57,30 +57,30 @@ set_at sets k d order below =
     }
 
 -- what a form tells of a set
-pub record IsTold (sets : List InformationSet) (k first actions before : ℕ) : Type 0 where
+pub record IsPlacedAs (sets : List InformationSet) (k first actions before : ℕ) : Type 0 where
   pub is : (d : PlacedSet) → get_or (placed sets) k d ≡ record { first = first; before = before; actions = actions }
   pub inside : first + actions ≤ sequence_count sets
   pub some : 1 ≤ actions
   pub earlier : before < first
 
 -- where sets are in order, the first sequence, actions and sequence before that are read at set k are the set's
-pub is_told : (sets : List InformationSet) (k first actions before : ℕ) → AreInOrder sets → k < length sets
+pub is_placed_as : (sets : List InformationSet) (k first actions before : ℕ) → AreInOrder sets → k < length sets
     → slice_get (map (λ (h : PlacedSet). h.first) (placed sets)) k ≡ Some first
     → slice_get (map (λ (h : InformationSet). h.actions) sets) k ≡ Some actions
-    → slice_get (map (λ (h : InformationSet). h.before) sets) k ≡ Some before → IsTold sets k first actions before
-is_told sets k first actions before order below read_first read_actions read_before =
+    → slice_get (map (λ (h : InformationSet). h.before) sets) k ≡ Some before → IsPlacedAs sets k first actions before
+is_placed_as sets k first actions before order below read_first read_actions read_before =
     let there : k < length (placed sets) = omega (arith, length-placed 1 sets) in
     let at = set_at sets k no_place order below in
-    let placed_is = at-placed 1 sets k no_place no_set below in
+    let placed_is = at-placed 1 sets k no_place no_information_set below in
     let first_is : (get_or (placed sets) k no_place).first ≡ first =
     sym (get_or-map (λ (h : PlacedSet). h.first) (placed sets) k no_place 0 there) ∙ get_or_from_slice_get (map (λ (h : PlacedSet). h.first) (placed sets)) k first 0 read_first in
-    let actions_is : (get_or sets k no_set).actions ≡ actions =
-    sym (get_or-map (λ (h : InformationSet). h.actions) sets k no_set 0 below) ∙ get_or_from_slice_get (map (λ (h : InformationSet). h.actions) sets) k actions 0 read_actions in
-    let before_is : (get_or sets k no_set).before ≡ before =
-    sym (get_or-map (λ (h : InformationSet). h.before) sets k no_set 0 below) ∙ get_or_from_slice_get (map (λ (h : InformationSet). h.before) sets) k before 0 read_before in
+    let actions_is : (get_or sets k no_information_set).actions ≡ actions =
+    sym (get_or-map (λ (h : InformationSet). h.actions) sets k no_information_set 0 below) ∙ get_or_from_slice_get (map (λ (h : InformationSet). h.actions) sets) k actions 0 read_actions in
+    let before_is : (get_or sets k no_information_set).before ≡ before =
+    sym (get_or-map (λ (h : InformationSet). h.before) sets k no_information_set 0 below) ∙ get_or_from_slice_get (map (λ (h : InformationSet). h.before) sets) k before 0 read_before in
     let start : first_of sets k ≡ first = sym at.first ∙ first_is in
     record {
-      is = λ d. at-placed 1 sets k d no_set below ∙ (λ i. record { first = start i; before = before_is i; actions = actions_is i });
+      is = λ d. at-placed 1 sets k d no_information_set below ∙ (λ i. record { first = start i; before = before_is i; actions = actions_is i });
       inside = omega (arith, at.next, first_is, ap (λ (h : PlacedSet). h.actions) placed_is, actions_is, few_of_all sets (k + 1));
       some = omega (arith, at.some, ap (λ (h : PlacedSet). h.actions) placed_is, actions_is);
       earlier = omega (arith, at.earlier, first_is, ap (λ (h : PlacedSet). h.before) placed_is, before_is);

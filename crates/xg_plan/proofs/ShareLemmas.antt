@@ -75,7 +75,7 @@ dealt_more share_upto out i share below here before =
     below_more _ _ (λ k h. let ne : k ≢ i = omega arith in rw get_or-set_other (before k h)) (rw get_or-set_same here)
 
 -- one step of dealing: the next prefix, that it is within the sum, and the quotients
-pub record Step (n : ℕ) (ws : List ℕ) (i upto sum : ℕ) : Type 0 where
+pub record DealStep (n : ℕ) (ws : List ℕ) (i upto sum : ℕ) : Type 0 where
   pub next : upto ≡ prefix_sum ws (i + 1)
   pub within : upto ≤ sum
   pub share_next : n * upto / sum ≡ prefix_share n ws (i + 1)
@@ -85,7 +85,7 @@ pub record Step (n : ℕ) (ws : List ℕ) (i upto sum : ℕ) : Type 0 where
 -- a weight and the sum before it are the sum up to it, whose part of n is no smaller than before and within n
 pub step_of : (n : ℕ) (ws : List ℕ) (i before_upto weight sum : ℕ) → i < length ws → 1 ≤ sum → sum ≡ weight_sum ws
     → before_upto ≡ prefix_sum ws i → weight ≡ get_or ws i 0
-    → Step n ws i (before_upto + weight) sum
+    → DealStep n ws i (before_upto + weight) sum
 step_of n ws i before_upto weight sum below some whole is at =
     let next : before_upto + weight ≡ prefix_sum ws (i + 1) = omega (arith, prefix-more ws i below) in
     let within : before_upto + weight ≤ sum = omega (arith, prefix-within ws (i + 1)) in

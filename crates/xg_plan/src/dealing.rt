@@ -1,8 +1,9 @@
-ghost use Rattle.std.specs.Prelude.{◌≡◌, ℕ, ◌*◌, ◌-◌, ◌/◌, ◌^◌, ◌<◌, ◌≤◌, length, map, slice_index, slice_index_or};
-ghost use Rattle.def_sums.specs.Limits.{most_scale};
+ghost use Rattle.std.specs.Prelude.{◌≡◌, ℕ, ◌*◌, ◌-◌, ◌/◌, ◌<◌, ◌≤◌, length, map, slice_index, slice_index_or};
+ghost use Rattle.def_sums.specs.Limits.{most_scale, past_dealt};
 ghost use Rattle.def_plan.specs.Form.{AreInOrder, PlacedSet, placed, player_sets, sequence_count, sequences_of};
 ghost use Rattle.def_plan.specs.Plan.{IsPlan};
 ghost use Rattle.def_shares.specs.Shares.{shares, weight_sum};
+ghost use Rattle.def_round.specs.Play as play;
 ghost use Rattle.def_round.specs.Play.{GivesAllUnits, plan_of_play, play_rule};
 
 use crate::plan::Plan;
@@ -49,8 +50,8 @@ fn deal_set(form: &SeqForm, player: Player, set: u32, units: &[u32], weights: &m
     requires as_many { length weights.old ≡ sequence_count (player_sets form.now player) }
     requires play_there { length units.now ≡ sequence_count (player_sets form.now player) }
     requires all_units { GivesAllUnits units.now (player_sets form.now player) }
-    requires small { (d : PlacedSet)
-        → slice_index weights.old (slice_index_or (placed (player_sets form.now player)) (set - 1) d).before < 2 ^ 47 }
+    requires small { (d : PlacedSet) → slice_index weights.old
+        (slice_index_or (placed (player_sets form.now player)) (set - 1) d).before < past_dealt }
     ensures count { length weights.new ≡ length weights.old }
     ensures earlier { (d : PlacedSet) (s : ℕ)
         → s < (slice_index_or (placed (player_sets form.now player)) (set - 1) d).first
@@ -69,8 +70,8 @@ fn deal_set(form: &SeqForm, player: Player, set: u32, units: &[u32], weights: &m
 // Deals n by a play whose units add up to 65,536.
 fn deal_by_play(n: u64, units: &[u32], out: &mut [u64])
     requires as_many { length out.old ≡ length units.now }
-    requires whole { weight_sum units.now ≡ 65536 }
-    requires small { n < 2 ^ 47 }
+    requires whole { weight_sum units.now ≡ play.units }
+    requires small { n < past_dealt }
     ensures { out.new ≡ shares n units.now }
 {
     if out.len() == 1 {
@@ -85,8 +86,8 @@ fn deal_by_play(n: u64, units: &[u32], out: &mut [u64])
 fn deal_to_two(n: u64, units: &[u32], out: &mut [u64])
     requires as_many { length out.old ≡ length units.now }
     requires two { length units.now ≡ 2 }
-    requires whole { weight_sum units.now ≡ 65536 }
-    requires small { n < 2 ^ 47 }
+    requires whole { weight_sum units.now ≡ play.units }
+    requires small { n < past_dealt }
     ensures { out.new ≡ shares n units.now }
 {
     let first = part(n, units[0] as u64);
@@ -96,8 +97,8 @@ fn deal_to_two(n: u64, units: &[u32], out: &mut [u64])
 
 fn deal_to_many(n: u64, units: &[u32], out: &mut [u64])
     requires as_many { length out.old ≡ length units.now }
-    requires whole { weight_sum units.now ≡ 65536 }
-    requires small { n < 2 ^ 47 }
+    requires whole { weight_sum units.now ≡ play.units }
+    requires small { n < past_dealt }
     ensures { out.new ≡ shares n units.now }
 {
     let mut units_upto = 0;
@@ -111,9 +112,9 @@ fn deal_to_many(n: u64, units: &[u32], out: &mut [u64])
 }
 
 fn part(n: u64, units: u64) -> u64
-    requires small { n < 2 ^ 47 }
-    requires part { units ≤ 65536 }
-    ensures { result ≡ n * units / 65536 }
+    requires small { n < past_dealt }
+    requires part { units ≤ play.units }
+    ensures { result ≡ n * units / play.units }
 {
     (n * units) >> 16
 }

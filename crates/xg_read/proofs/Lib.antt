@@ -1,6 +1,6 @@
 pub mod Texts
 pub mod Items
 pub mod Names
-pub mod Taken
-pub mod Answered
+pub mod EntryByEntry
+pub mod FileAnswerLaws
 mod Digits

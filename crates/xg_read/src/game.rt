@@ -63,7 +63,7 @@ fn read_file(alloc: Global, bytes: &[u8]) -> Result<Game, Refused>
 }
 
 /// Reads entries until the tree is whole, at most `most` of them.
-#[tactic(auto, using(crate::proofs::Taken::entries_done, crate::proofs::Taken::entries_stopped, crate::proofs::Taken::entries_full))]
+#[tactic(auto, using(crate::proofs::EntryByEntry::entries_done, crate::proofs::EntryByEntry::entries_stopped, crate::proofs::EntryByEntry::entries_full))]
 fn read_entries<'a>(
     reader: &mut Reader<'a>,
     lists: &mut Lists<'a>,

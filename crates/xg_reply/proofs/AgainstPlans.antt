@@ -33,14 +33,14 @@ against_plan form player plan rows are =
 module _ (form : SequenceForm) (plan : List ℕ) (rows : List ℤ) (reply : Reply) (player : Player)
     (order : AreInOrder (player_sets form player))
     (is : reply ≡ reply_to_sums player (amount_of rows) (player_sets form player)) where
-  abbrev Shows : Type 0 → Player → Type 0
-  Shows P p =
+  abbrev FromReply : Type 0 → Player → Type 0
+  FromReply P p =
       AreInOrder (player_sets form p) → reply ≡ reply_to_sums p (amount_of rows) (player_sets form p)
       → rows ≡ player_rows form p plan → P
 
-  at_player : (P : Type 0) (p : Player) → player ≡ p → rows ≡ player_rows form p plan → Shows P p → P
+  at_player : (P : Type 0) (p : Player) → player ≡ p → rows ≡ player_rows form p plan → FromReply P p → P
   at_player P p same are shows =
-      subst (Shows P) (sym same) shows order is (subst (λ q. rows ≡ player_rows form q plan) (sym same) are)
+      subst (FromReply P) (sym same) shows order is (subst (λ q. rows ≡ player_rows form q plan) (sym same) are)
 
   -- player two's total is an attained floor of the plan
   pub is_floor : player ≡ Two → rows ≡ player_rows form Two plan → IsFloor form plan reply.total

@@ -106,11 +106,11 @@ module _ (player : Player) (w : ℕ → ℤ) (h : PlacedSet) (best : ℕ)
       (cases_lt mine r.choice)
 
 -- so is what is found among the sequences that a form tells
-pub reply_told : (player : Player) (w : ℕ → ℤ) (h : PlacedSet) (first n best : ℕ) → first ≡ h.first → n ≡ h.actions
+pub reply_of_set : (player : Player) (w : ℕ → ℤ) (h : PlacedSet) (first n best : ℕ) → first ≡ h.first → n ≡ h.actions
     → first ≤ best → best < first + n → All (λ s. IsNoBetter player (w s) (w best)) (range_with_len first n)
     → ((s : ℕ) → first ≤ s → s < best → w s ≢ w best)
     → record { value = w best; choice = best - first + 1 } ≡ reply_by player w h
-reply_told player w h first n best first_is n_is from until no_better earliest =
+reply_of_set player w h first n best first_is n_is from until no_better earliest =
     let there : IsFirstBest player w first n best =
     record {
       from = from;

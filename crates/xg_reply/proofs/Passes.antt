@@ -15,7 +15,7 @@ use Rattle.def_sums.proofs.Ranges.{map-range_same}
 use Rattle.def_plan.specs.Form.{AreInOrder, InformationSet, PlacedSet, placed, sequence_count, sequences}
 use Rattle.def_plan.specs.Payoff.{values_after, worth}
 use Rattle.def_plan.proofs.BadSets.{length-placed}
-use Rattle.def_plan.proofs.Hanging.{after, kept}
+use Rattle.def_plan.proofs.Hanging.{hanging_size, kept}
 use Rattle.def_plan.proofs.Worths.{worth-cons}
 use Rattle.def_reply.specs.Reply.{Reply, SetReply, best_of, best_reply, first_with, replies_at, total, values_of}
 use Rattle.def_reply.proofs.ReplySizes.{worths-below}
@@ -45,7 +45,7 @@ sizes_of_rows sets rows many =
 
 -- the values after a sequence, with the best reply at these sets
 abbrev after_best : Player → (ℕ → ℤ) → ℕ → List PlacedSet → ℕ
-after_best player sums s hs = after s (zip hs (values_of (replies_at player sums hs)))
+after_best player sums s hs = hanging_size s (zip hs (values_of (replies_at player sums hs)))
 
 -- fewer sets have no more of them
 after-drop : (player : Player) (sums : ℕ → ℤ) (s m : ℕ) (hs : List PlacedSet)

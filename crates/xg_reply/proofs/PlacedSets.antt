@@ -11,9 +11,9 @@ use Rattle.def_plan.proofs.Places.{total_actions, numbered}
 use Rattle.xg_reply.specs.Replies.{placed_set}
 
 -- what is read of a list of facts is the fact of the element
-told : {A : Type 0} (f : A → ℕ) (xs : List A) (i n : ℕ) (d : A) → i < length xs → slice_get (map f xs) i ≡ Some n
+there_is : {A : Type 0} (f : A → ℕ) (xs : List A) (i n : ℕ) (d : A) → i < length xs → slice_get (map f xs) i ≡ Some n
     → n ≡ f (get_or xs i d)
-told f xs i n d low read = sym (get_or_from_slice_get (map f xs) i n 0 read) ∙ get_or-map f xs i d 0 low
+there_is f xs i n d low read = sym (get_or_from_slice_get (map f xs) i n 0 read) ∙ get_or-map f xs i d 0 low
 
 module _ (sets : List InformationSet) (set : ℕ) (from_one : 1 ≤ set) (there : set ≤ length sets) where
   abbrev none : PlacedSet
@@ -36,20 +36,21 @@ module _ (sets : List InformationSet) (set : ℕ) (from_one : 1 ≤ set) (there 
   is_numbered = numbered.each_set sets (set - 1) none (record { before = 0; actions = 0 }) low
 
   -- what the form tells of the first sequence, the actions and the sequence before
-  pub first_told : (n : ℕ) → slice_get (map (λ (p : PlacedSet). p.first) (placed sets)) (set - 1) ≡ Some n → n ≡ h.first
-  first_told n read = told (λ (p : PlacedSet). p.first) (placed sets) (set - 1) n none placed_low read
+  pub first_there : (n : ℕ) → slice_get (map (λ (p : PlacedSet). p.first) (placed sets)) (set - 1) ≡ Some n
+      → n ≡ h.first
+  first_there n read = there_is (λ (p : PlacedSet). p.first) (placed sets) (set - 1) n none placed_low read
 
   -- the number of actions that is read for the set is that of the set in its place
-  pub actions_told : (n : ℕ) → slice_get (map (λ (s : InformationSet). s.actions) sets) (set - 1) ≡ Some n
+  pub actions_there : (n : ℕ) → slice_get (map (λ (s : InformationSet). s.actions) sets) (set - 1) ≡ Some n
       → n ≡ h.actions
-  actions_told n read =
-      told (λ (s : InformationSet). s.actions) sets (set - 1) n (record { before = 0; actions = 0 }) low read
+  actions_there n read =
+      there_is (λ (s : InformationSet). s.actions) sets (set - 1) n (record { before = 0; actions = 0 }) low read
       ∙ sym (ap (λ (p : PlacedSet). p.actions) is_numbered)
 
   -- the sequence before that is read for the set is that of the set in its place
-  pub before_told : (n : ℕ) → slice_get (map (λ (s : InformationSet). s.before) sets) (set - 1) ≡ Some n → n ≡ h.before
-  before_told n read =
-      told (λ (s : InformationSet). s.before) sets (set - 1) n (record { before = 0; actions = 0 }) low read
+  pub before_there : (n : ℕ) → slice_get (map (λ (s : InformationSet). s.before) sets) (set - 1) ≡ Some n → n ≡ h.before
+  before_there n read =
+      there_is (λ (s : InformationSet). s.before) sets (set - 1) n (record { before = 0; actions = 0 }) low read
       ∙ sym (ap (λ (p : PlacedSet). p.before) is_numbered)
 
   -- a set's sequences are among all sequences

@@ -19,7 +19,7 @@ use xg_seq::SeqForm;
 /// Makes `into` the player's best reply to a plan of the other player, with the worths of the player's sequences (von
 /// Stengel 1996).
 ///
-/// The plan is told by its leaf sums, a row for each of the player's sequences. Rows, values and worths are in player
+/// The plan is given by its leaf sums, a row for each of the player's sequences. Rows, values and worths are in player
 /// one's payoff, in weights, for both players: player two's best reply has the least total.
 pub fn best_reply(form: &SeqForm, player: Player, rows: &[i128], into: &mut Reply)
     requires rows { length rows.now ≡ sequence_count (player_sets form.now player) }

@@ -8,15 +8,19 @@ use Rattle.def_history.specs.History.{job_numbers}
 use Rattle.def_history.specs.Core.{Right, rights_of, times_right}
 use Rattle.xg_rights.specs.declared.view.View.{View}
 
+-- word 0 is the number of jobs times this and the number of stripes, so it is above most_stripes
+abbrev pub code_base : ℕ
+code_base = 128
+
 -- the numbers of jobs and stripes that word 0 tells
 abbrev pub job_count_of : ℕ → ℕ
-job_count_of number = number / 128
+job_count_of number = number / code_base
 
 abbrev pub stripes_of : ℕ → ℕ
-stripes_of number = number % 128
+stripes_of number = number % code_base
 
 abbrev pub number_from : ℕ → ℕ → ℕ
-number_from jobs stripes = 128 * jobs + stripes
+number_from jobs stripes = code_base * jobs + stripes
 
 -- 1 for each right that there is
 unfoldable pub once : ℕ → ℕ → ℕ → ℕ

@@ -8,4 +8,4 @@ mod view;
 
 pub use rule::{Cut, RightsRule};
 pub use steps::{RightsBadge, RightsSeat, RightsTable, SharedRights, cut, load, meet, open};
-pub use view::{Right, View};
+pub use view::{CODE_BASE, Right, View};

@@ -16,10 +16,13 @@ impl Model for Right {
     ghost view = { λ r. record { job = r.job; stripe = r.stripe } };
 }
 
+/// What the number of jobs is multiplied by where a number tells jobs and stripes: it is above the most stripes.
+pub const CODE_BASE: u64 = 128;
+
 /// What a seat holds and knows. No value of it is made.
 ///
-/// `number` is 128 times the number of jobs plus the number of stripes. `met` is the number of the seat that was joined
-/// in last, which a load shows to be the same.
+/// `number` is `CODE_BASE` times the number of jobs plus the number of stripes. `met` is the number of the seat that
+/// was joined in last, which a load shows to be the same.
 #[derive(Drop)]
 pub struct View {
     pub rights: LinkedList<Right>,

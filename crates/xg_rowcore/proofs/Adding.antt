@@ -76,7 +76,8 @@ other_brings : (row at : ℕ) (amount : ℤ) → row ≢ at → brought (record 
 other_brings row at amount apart = let other : eqb row at ≡ false = grind (arith, nat_tests) in rw other refl
 
 -- a row of another stripe changes nothing here
-pub grown_by_other : (index stripes row : ℕ) (amount : ℤ) (totals : List ℤ) → index < stripes → stripe_of stripes row ≢ index → HasGrown (record { row = row; amount = amount } ∷ []) index stripes totals totals
+pub grown_by_other : (index stripes row : ℕ) (amount : ℤ) (totals : List ℤ) → index < stripes
+    → stripe_of stripes row ≢ index → HasGrown (record { row = row; amount = amount } ∷ []) index stripes totals totals
 grown_by_other index stripes row amount totals is_stripe other = record {
   length_kept = refl;
   grown = λ place under.

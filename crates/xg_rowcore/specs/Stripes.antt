@@ -14,7 +14,8 @@ abbrev pub with_job : StripeHistory → ℕ → StripeHistory
 with_job history job = record { index = history.index; stripes = history.stripes; order = history.order ++ job ∷ [] }
 
 -- each of the stripe's rows has a total, and it is the replay of the history there
-pub record AreTotals (rows : ℕ) (amount : ℕ → ℕ → ℤ) (index stripes : ℕ) (order : List ℕ) (totals : List ℤ) : Type 0 where
+pub record AreTotals (rows : ℕ) (amount : ℕ → ℕ → ℤ) (index stripes : ℕ) (order : List ℕ)
+    (totals : List ℤ) : Type 0 where
   pub length_is : length totals ≡ place_count stripes rows index
   pub replayed : (place : ℕ) → place < length totals
       → slice_index_or totals place (pos 0) ≡ replay amount order (place * stripes + index)

@@ -7,14 +7,14 @@ use Rattle.def_tree.specs.declared.Node.{Node}
 use Rattle.def_tree.specs.Tree.{Forest, grown, node_count, prefix, tree_count}
 use Rattle.def_tree.specs.Rules.{Fits, IsGameTree, is_same_kind}
 use Rattle.def_tree.proofs.Sets.{children-le, is_same_kind-true}
-use Rattle.def_fraction.specs.Fraction.{Fraction, product_of, sum_of}
+use Rattle.def_fraction.specs.Fraction.{Fraction, product_of, sum_of, zero_fraction}
 use Rattle.def_file.specs.Content.{GameFile}
 use Rattle.def_file.specs.Faults.{set_at}
 use Rattle.def_file.specs.Game.{IsWholeGame}
 use Rattle.def_game_paths.specs.Coming.{StandOver, visit_after}
 use Rattle.def_game_paths.specs.Paths.{Move, Visit, visits, visits_from}
 use Rattle.def_game_paths.proofs.Coming.{IsNext, next_node, next_visit, stand_over, starts_with}
-use Rattle.def_game_scale.specs.Tables.{Tables, certain, nothing, path_payoff, payoffs_of, probability, reach}
+use Rattle.def_game_scale.specs.Tables.{Tables, certain, path_payoff, payoffs_of, probability, reach}
 use Rattle.def_game_numbers.specs.Numbers.{tables_of}
 use Rattle.xg_scale.specs.declared.ancestors.OpenNode.{OpenNode}
 use Rattle.xg_scale.specs.declared.ancestors.PathNumbers.{PathNumbers}
@@ -24,17 +24,17 @@ use Rattle.xg_scale.proofs.GameLemmas.{in_chance_set}
 
 -- what the whole tree is to come under
 abbrev pub whole_tree : OpenNode
-whole_tree = record { chance_set = None; action = 1; to_come = 1; numbers = record { reach = certain; one = nothing; two = nothing } }
+whole_tree = record { chance_set = None; action = 1; to_come = 1; numbers = record { reach = certain; one = zero_fraction; two = zero_fraction } }
 
 module _ (game : GameFile) where
-  abbrev Stand : List OpenNode → List Visit → Type 0
-  Stand = StandOver (IsOpenOver game)
+  abbrev OpenStand : List OpenNode → List Visit → Type 0
+  OpenStand = StandOver (IsOpenOver game)
 
   abbrev tables : Tables
   tables = tables_of game
 
   -- before the first node the whole tree is to come
-  pub open_first : IsWholeGame game → Stand (whole_tree ∷ []) (visits game.tree)
+  pub open_first : IsWholeGame game → OpenStand (whole_tree ∷ []) (visits game.tree)
   open_first whole = (
     record { above = λ _. []; action = 1; trees = game.tree },
     [],
@@ -62,7 +62,8 @@ module _ (game : GameFile) where
         | false ↦ sym is
       ]
 
-  module _ (whole : IsWholeGame game) (rules : IsGameTree game.tree) (n : ℕ) (there : n < node_count game.tree) (x : Node) (read : slice_get (prefix game.tree) (n + 1 - 1) ≡ Some x) where
+  module _ (whole : IsWholeGame game) (rules : IsGameTree game.tree) (n : ℕ) (there : n < node_count game.tree)
+      (x : Node) (read : slice_get (prefix game.tree) (n + 1 - 1) ≡ Some x) where
     abbrev v : Visit
     v = visit_after game.tree n
 
@@ -92,8 +93,8 @@ module _ (game : GameFile) where
     -- the first tree under the innermost is entered
     enter_first : (below beside : Forest) (above : ℕ → List Move) (action : ℕ) (later : List Visit)
         (innermost : OpenNode) (outer : List OpenNode) (numbers : PathNumbers) →
-        IsOpenOver game (record { above = above; action = action; trees = grown x below beside }) innermost → Stand outer later → numbers ≡ numbers_of tables (record { path = above action; node = x }) →
-        Stand (with_open x numbers (without_next_child innermost outer)) (visits_from (λ next. record { node = x; action = next } ∷ above action) 1 below ++ (visits_from above (action + 1) beside ++ later))
+        IsOpenOver game (record { above = above; action = action; trees = grown x below beside }) innermost → OpenStand outer later → numbers ≡ numbers_of tables (record { path = above action; node = x }) →
+        OpenStand (with_open x numbers (without_next_child innermost outer)) (visits_from (λ next. record { node = x; action = next } ∷ above action) 1 below ++ (visits_from above (action + 1) beside ++ later))
     enter_first below beside above action later innermost outer numbers over stand are =
         let down : ℕ → List Move = λ next. record { node = x; action = next } ∷ above action in
         let count : suc (tree_count beside) ≡ innermost.to_come = over.count in
@@ -137,9 +138,9 @@ module _ (game : GameFile) where
       come : MayCome game innermost
       at : numbers_below tables innermost x ≡ numbers_of tables v
       entered : (numbers : PathNumbers) → numbers ≡ numbers_of tables v
-          → Stand (with_open x numbers (without_next_child innermost outer)) (drop (n + 1) (visits game.tree))
+          → OpenStand (with_open x numbers (without_next_child innermost outer)) (drop (n + 1) (visits game.tree))
 
-    tells : (innermost : OpenNode) (outer : List OpenNode) → Stand (innermost ∷ outer) (drop n (visits game.tree))
+    tells : (innermost : OpenNode) (outer : List OpenNode) → OpenStand (innermost ∷ outer) (drop n (visits game.tree))
         → Tells innermost outer
     tells innermost outer (trees, later, over, to_come, stand) =
         let some : 1 ≤ innermost.to_come = over.some in
@@ -170,36 +171,36 @@ module _ (game : GameFile) where
             two = sum_of (two_there i) (payoffs_of tables (sym is_node i).outcome).two;
           };
           entered = λ numbers are.
-              subst (Stand (with_open x numbers (without_next_child innermost outer))) (sym rest)
+              subst (OpenStand (with_open x numbers (without_next_child innermost outer))) (sym rest)
               (enter_first starts.below starts.beside trees.above trees.action later innermost outer numbers over_first stand (are ∙ ap (numbers_of tables) first));
         }
 
-    none_left : Stand [] (drop n (visits game.tree)) → ⊥
+    none_left : OpenStand [] (drop n (visits game.tree)) → ⊥
     none_left none = let e : v ∷ drop (n + 1) (visits game.tree) ≡ [] = sym next.cons ∙ none in cc e
 
     -- the innermost has a next child
-    pub has_next : (nodes : List OpenNode) → Stand nodes (drop n (visits game.tree)) → HasNextAction nodes
+    pub has_next : (nodes : List OpenNode) → OpenStand nodes (drop n (visits game.tree)) → HasNextAction nodes
     has_next [] stand = absurd (none_left stand)
-    has_next (innermost ∷ outer) stand = let told = tells innermost outer stand in (told.some, omega (arith, told.room, told.some))
+    has_next (innermost ∷ outer) stand = let shown = tells innermost outer stand in (shown.some, omega (arith, shown.room, shown.some))
 
     -- which may come
-    pub next_may_come : (nodes : List OpenNode) → Stand nodes (drop n (visits game.tree))
+    pub next_may_come : (nodes : List OpenNode) → OpenStand nodes (drop n (visits game.tree))
         → (new : List OpenNode) (taken : OpenNode) → TakesNextChild nodes new taken → MayCome game taken
     next_may_come [] stand new taken takes = absurd takes
     next_may_come (innermost ∷ outer) stand new taken takes = subst (MayCome game) (sym takes.0) (tells innermost outer stand).come
 
     -- its numbers are those of the next node
-    pub next_numbers : (nodes : List OpenNode) → Stand nodes (drop n (visits game.tree))
+    pub next_numbers : (nodes : List OpenNode) → OpenStand nodes (drop n (visits game.tree))
         → (new : List OpenNode) (taken : OpenNode) → TakesNextChild nodes new taken
         → numbers_below tables taken x ≡ numbers_of tables v
     next_numbers [] stand new taken takes = absurd takes
     next_numbers (innermost ∷ outer) stand new taken takes = ap (λ o. numbers_below tables o x) takes.0 ∙ (tells innermost outer stand).at
 
     -- with the next node, the open nodes stand over the nodes behind it
-    pub open_next : (nodes : List OpenNode) → Stand nodes (drop n (visits game.tree))
+    pub open_next : (nodes : List OpenNode) → OpenStand nodes (drop n (visits game.tree))
         → (new : List OpenNode) (taken : OpenNode) (numbers : PathNumbers) → TakesNextChild nodes new taken
         → numbers ≡ numbers_of tables v →
-        Stand (with_open x numbers new) (drop (n + 1) (visits game.tree))
+        OpenStand (with_open x numbers new) (drop (n + 1) (visits game.tree))
     open_next [] stand new taken numbers takes are = absurd takes
     open_next (innermost ∷ outer) stand new taken numbers takes are =
-        subst (λ outside. Stand (with_open x numbers outside) (drop (n + 1) (visits game.tree))) (sym takes.1) ((tells innermost outer stand).entered numbers are)
+        subst (λ outside. OpenStand (with_open x numbers outside) (drop (n + 1) (visits game.tree))) (sym takes.1) ((tells innermost outer stand).entered numbers are)

@@ -10,7 +10,7 @@ use Rattle.def_game_faults.specs.Faults.{GameFault, NodeTest, found_by, number_a
 use Rattle.def_game_numbers.specs.Numbers.{as_file_fault}
 use Rattle.xg_game.specs.declared.fault.Refused.{Refused}
 use Rattle.xg_game.specs.declared.fault.Refused.TheVariants.{File, NoMemory}
-use Rattle.xg_scale.specs.Told.{IsFaultOf, RefusesBy}
+use Rattle.xg_scale.specs.FaultOfFile.{IsFaultOf, RefusesBy}
 
 -- the number of the next node
 pub number_next : (tree : Forest) (n : ℕ) → n < node_count tree → number_after (take n (visits tree)) ≡ n + 1

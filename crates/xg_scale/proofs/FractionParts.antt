@@ -8,15 +8,15 @@ use Rattle.std.proofs.lemmas.Nat.Gcd.{dvd-zero, dvd_antisymm, dvd_of_mod-eq-zero
 use Rattle.std.proofs.Math.IntN.{pos-*ℤ-pos}
 use Rattle.std.proofs.Math.Nat.{zero-div, one-mul}
 use Rattle.def_fraction.specs.Divisors.{gcd, lcm}
-use Rattle.def_fraction.specs.Fraction.{Fraction, IsInLowestTerms, fits, fraction_of, most, sum_of, without_factor}
+use Rattle.def_fraction.specs.Fraction.{Fraction, IsInLowestTerms, fits, fraction_of, most, sum_of, without_factor, zero_fraction}
 use Rattle.def_fraction.proofs.DivisorLemmas.{IsGcd-gcd, IsLcm-lcm}
 use Rattle.def_fraction.proofs.FractionLemmas.{fraction_of-lowest, neg-times, unsigned_abs-without_factor}
-use Rattle.def_game_scale.specs.Tables.{nothing}
 use Rattle.def_game_scale.proofs.Expected.{lowest-sum}
 use Rattle.def_game_faults.specs.Faults.{is_zero}
+use Rattle.def_game_faults.proofs.Nodes.{no_size}
 
 -- with nothing more a fraction stays
-pub sum_nothing : (f : Fraction) → IsInLowestTerms f → sum_of f nothing ≡ f
+pub sum_nothing : (f : Fraction) → IsInLowestTerms f → sum_of f zero_fraction ≡ f
 sum_nothing f low =
     let none : pos 0 *ℤ pos f.den ≡ pos 0 = pos-*ℤ-pos 0 f.den ∙ ap pos (zero_times f.den) in
     let num : (f.num *ℤ pos 1) +ℤ (pos 0 *ℤ pos f.den) ≡ f.num = ap (λ z. (f.num *ℤ pos 1) +ℤ z) none ∙ times_one f.num in
@@ -37,14 +37,10 @@ zero_den f low zero =
     let divides : f.den ∣ 1 = subst (λ g. f.den ∣ g) common ((IsGcd-gcd 0 f.den).2 f.den (dvd-zero f.den) (dvd_refl f.den)) in
     le_of_dvd (omega arith) divides
 
-zero_num : (n : ℤ) → unsigned_abs n ≡ 0 → n ≡ pos 0
-zero_num (pos n) none = ap pos none
-zero_num (negsuc n) none = absurd (omega (arith, none))
-
 -- more than nothing is what comes
 pub nothing_more : (f g : Fraction) → IsInLowestTerms f → IsInLowestTerms g → is_zero f ≡ true → sum_of f g ≡ g
 nothing_more f g low_f low_g zero =
-    let none : f.num ≡ pos 0 = zero_num f.num (eqb-true (unsigned_abs f.num) 0 zero) in
+    let none : f.num ≡ pos 0 = no_size f.num (eqb-true (unsigned_abs f.num) 0 zero) in
     let at_most : f.den ≤ 1 = zero_den f low_f zero in
     let positive = low_f.positive in
     let one : f.den ≡ 1 = omega arith in
@@ -79,9 +75,9 @@ opposites_cancel a (negsuc m) d opposite =
     together : (k : ℕ) → pos k +ℤ neg_ℤ (pos k) ≡ pos 0
     together k = omega (arith, ints)
 
-zero_fraction : (n : ℤ) (d : ℕ) → n ≡ pos 0 → is_zero (fraction_of n d) ≡ true
+zero_numerator : (n : ℤ) (d : ℕ) → n ≡ pos 0 → is_zero (fraction_of n d) ≡ true
 unfolding fraction_of
-zero_fraction n d none =
+zero_numerator n d none =
     let size : unsigned_abs (without_factor n (gcd (unsigned_abs n) d)) ≡ 0 =
     unsigned_abs-without_factor n (gcd (unsigned_abs n) d)
     ∙ ap (λ z. unsigned_abs z / gcd (unsigned_abs n) d) none
@@ -91,7 +87,7 @@ zero_fraction n d none =
 -- opposite fractions add up to 0
 pub opposite_sum : (a b : Fraction) → a.num ≡ neg_ℤ b.num → a.den ≡ b.den → is_zero (sum_of a b) ≡ true
 opposite_sum a b num den =
-    zero_fraction _ (a.den * b.den) (ap (λ n. (a.num *ℤ pos b.den) +ℤ (b.num *ℤ pos n)) den ∙ opposites_cancel a.num b.num b.den num)
+    zero_numerator _ (a.den * b.den) (ap (λ n. (a.num *ℤ pos b.den) +ℤ (b.num *ℤ pos n)) den ∙ opposites_cancel a.num b.num b.den num)
 
 -- a unit that the denominator divides stays
 pub unit_stays : (den unit : ℕ) → 1 ≤ den → 1 ≤ unit → unit % den ≡ 0 → lcm den unit ≡ unit

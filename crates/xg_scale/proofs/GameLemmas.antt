@@ -11,11 +11,11 @@ use Rattle.def_tree.specs.declared.Player.TheVariants.{One, Two}
 use Rattle.def_tree.specs.Tree.{prefix}
 use Rattle.def_tree.specs.Rules.{IsGameTree, is_same_kind}
 use Rattle.def_tree.proofs.Sets.{is_same_kind-true}
-use Rattle.def_fraction.specs.Fraction.{Fraction}
+use Rattle.def_fraction.specs.Fraction.{Fraction, zero_fraction}
 use Rattle.def_file.specs.Content.{Action, GameFile, OutcomeEntry, sets_of_kind}
 use Rattle.def_file.specs.Faults.{no_set, null_outcome, outcome_at, set_at}
 use Rattle.def_file.specs.Game.{GoesWith, IsInSet, IsWholeGame, chances_of}
-use Rattle.def_game_scale.specs.Tables.{nothing, payoffs_of, probabilities, probability}
+use Rattle.def_game_scale.specs.Tables.{payoffs_of, probabilities, probability}
 use Rattle.def_game_numbers.specs.Numbers.{payoffs_given, tables_of}
 use Rattle.xg_game.specs.Access.{outcome_numbered, payoff_to}
 use Rattle.xg_scale.specs.Walked.{paid_to}
@@ -72,7 +72,7 @@ pub probability_is : (game : GameFile) (set action : ℕ) (f : Fraction) → 1 �
     →
     probability (tables_of game) set action ≡ f
 probability_is game set action f from_one there read =
-    get_or_from_slice_get (probabilities (tables_of game) set) (action - 1) f nothing (probability_read game set (action - 1) f from_one there read)
+    get_or_from_slice_get (probabilities (tables_of game) set) (action - 1) f zero_fraction (probability_read game set (action - 1) f from_one there read)
 
 paid_given : (player : Player) (entry : OutcomeEntry) → payoff_to player entry ≡ paid_to player (payoffs_given entry)
 paid_given One entry = refl
@@ -91,10 +91,10 @@ paid_is game player zero there = paid_given player null_outcome
 paid_is game player (suc outcome) there =
     ap (payoff_to player) (numbered outcome game.outcomes) ∙
     paid_given player (outcome_at game.outcomes outcome)
-    ∙ ap (paid_to player) (sym (get_or-map payoffs_given game.outcomes outcome null_outcome (record { one = nothing; two = nothing }) (omega arith)))
+    ∙ ap (paid_to player) (sym (get_or-map payoffs_given game.outcomes outcome null_outcome (record { one = zero_fraction; two = zero_fraction }) (omega arith)))
 
 -- the null outcome pays nothing
-pub paid_null : (game : GameFile) (player : Player) → paid_to player (payoffs_of (tables_of game) 0) ≡ nothing
+pub paid_null : (game : GameFile) (player : Player) → paid_to player (payoffs_of (tables_of game) 0) ≡ zero_fraction
 paid_null game One = refl
 paid_null game Two = refl
 

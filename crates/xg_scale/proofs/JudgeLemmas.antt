@@ -19,7 +19,7 @@ use Rattle.def_game_scale.proofs.Expected.{expected-lowest}
 use Rattle.def_game_faults.specs.Faults.{GameFault, NotZeroSum, Scale, found_by, is_zero, leaf_fault, node_fault, number_after, passing}
 use Rattle.xg_game.specs.declared.fault.Refused.{Refused}
 use Rattle.xg_scale.specs.Leaf.{judged_leaf, judged_node, unit_with, with_expected}
-use Rattle.xg_scale.specs.Told.{RefusesBy}
+use Rattle.xg_scale.specs.FaultOfFile.{RefusesBy}
 use Rattle.xg_scale.specs.Walked.{all_fit, numbers_of}
 use Rattle.xg_scale.proofs.FoundLemmas.{found_later, number_next, refuses_here}
 
@@ -53,7 +53,8 @@ all_passing true true false fault later = refl
 all_passing true false c fault later = refl
 all_passing false b c fault later = refl
 
-module _ (tables : Tables) (lowest : AreFractions tables) (tree : Forest) (game : IsGameTree tree) (n : ℕ) (there : n < node_count tree) (x : Node) (read : slice_get (prefix tree) (n + 1 - 1) ≡ Some x) where
+module _ (tables : Tables) (lowest : AreFractions tables) (tree : Forest) (game : IsGameTree tree) (n : ℕ)
+    (there : n < node_count tree) (x : Node) (read : slice_get (prefix tree) (n + 1 - 1) ≡ Some x) where
   abbrev v : Visit
   v = visit_after tree n
 

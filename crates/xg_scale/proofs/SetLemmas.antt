@@ -11,18 +11,18 @@ use Rattle.def_tree.specs.declared.Node.{Node}
 use Rattle.def_tree.specs.Tree.{Forest, node_count, prefix}
 use Rattle.def_tree.specs.Rules.{Fits, IsGameTree, is_same_kind, set_count}
 use Rattle.def_tree.proofs.Sets.{is_same_kind-true, set-le-next, set_count-push_same, set_count-push_other}
-use Rattle.def_fraction.specs.Fraction.{Fraction, fits, sum_of}
+use Rattle.def_fraction.specs.Fraction.{Fraction, fits, sum_of, zero_fraction}
 use Rattle.def_file.specs.declared.FileFault.{FileFault}
 use Rattle.def_game_paths.specs.Paths.{Visit, visits}
 use Rattle.def_game_paths.specs.Coming.{visit_after}
 use Rattle.def_game_paths.proofs.Coming.{IsNext, next_node, next_visit}
-use Rattle.def_game_scale.specs.Tables.{Tables, nothing, probabilities}
+use Rattle.def_game_scale.specs.Tables.{Tables, probabilities}
 use Rattle.def_game_faults.specs.Faults.{ChanceNegative, ChanceSum, Scale, adding_fault, found_by, is_negative, is_one, number_after, passing}
 use Rattle.def_game_faults.proofs.Walks.{passed, passing_none}
 use Rattle.xg_scale.specs.declared.chance.SetTest.{SetTest}
 use Rattle.xg_scale.specs.declared.chance.SetTest.TheVariants.{Signs, Sums}
 use Rattle.xg_scale.specs.Chance.{PassedSets, set_fault, node_test_of}
-use Rattle.xg_scale.specs.Told.{IsFaultOf}
+use Rattle.xg_scale.specs.FaultOfFile.{IsFaultOf}
 use Rattle.xg_scale.proofs.FoundLemmas.{found_here, found_later, number_next}
 
 -- at a chance node a walk asks its set
@@ -30,12 +30,12 @@ at_chance : (test : SetTest) (tables : Tables) (before : List Visit) (v : Visit)
     → is_same_kind Chance v.node.kind ≡ true →
     node_test_of test tables before v ≡ set_fault test (number_after before) (probabilities tables v.node.set)
 at_chance Signs tables before v is = ap (λ c. passing (not (c && list_any is_negative (probabilities tables v.node.set))) (ChanceNegative (number_after before)) None) is
-at_chance Sums tables before v is = ap (λ c. cond c (adding_fault (number_after before) nothing (probabilities tables v.node.set)) None) is
+at_chance Sums tables before v is = ap (λ c. cond c (adding_fault (number_after before) zero_fraction (probabilities tables v.node.set)) None) is
 
 elsewhere : (test : SetTest) (tables : Tables) (before : List Visit) (v : Visit)
     → is_same_kind Chance v.node.kind ≡ false → node_test_of test tables before v ≡ None
 elsewhere Signs tables before v other = ap (λ c. passing (not (c && list_any is_negative (probabilities tables v.node.set))) (ChanceNegative (number_after before)) None) other
-elsewhere Sums tables before v other = ap (λ c. cond c (adding_fault (number_after before) nothing (probabilities tables v.node.set)) None) other
+elsewhere Sums tables before v other = ap (λ c. cond c (adding_fault (number_after before) zero_fraction (probabilities tables v.node.set)) None) other
 
 adding_none : (m n : ℕ) (running : Fraction) (ps : List Fraction) → adding_fault m running ps ≡ None
     → adding_fault n running ps ≡ None
@@ -47,13 +47,14 @@ adding_none m n running (p ∷ ps) none =
 -- a set without a fault has none at any of its nodes
 none_at : (test : SetTest) (m n : ℕ) (ps : List Fraction) → set_fault test m ps ≡ None → set_fault test n ps ≡ None
 none_at Signs m n ps none = passed (not (list_any is_negative ps)) (ChanceNegative n) None (passing_none (not (list_any is_negative ps)) (ChanceNegative m) None none).0
-none_at Sums m n ps none = adding_none m n nothing ps none
+none_at Sums m n ps none = adding_none m n zero_fraction ps none
 
 cases_false : (a b : Bool) → a && b ≡ false → a ≡ true → b ≡ false
 cases_false true b e is = e
 cases_false false b e is = cc
 
-module _ (test : SetTest) (tables : Tables) (tree : Forest) (game : IsGameTree tree) (k : ℕ) (there : k < node_count tree) (x : Node) (read : slice_get (prefix tree) (k + 1 - 1) ≡ Some x)
+module _ (test : SetTest) (tables : Tables) (tree : Forest) (game : IsGameTree tree) (k : ℕ)
+    (there : k < node_count tree) (x : Node) (read : slice_get (prefix tree) (k + 1 - 1) ≡ Some x)
     (seen : ℕ) (h : PassedSets test tables tree k seen) where
   abbrev v : Visit
   v = visit_after tree k

@@ -22,7 +22,7 @@ use Rattle.def_game_numbers.specs.Numbers.{weights_of_game}
 use Rattle.xg_game.specs.declared.fault.Refused.{Refused}
 use Rattle.xg_scale.specs.declared.leaf.Expected.{Expected}
 use Rattle.xg_scale.specs.declared.weights.Weighed.{Weighed}
-use Rattle.xg_scale.specs.Told.{RefusesBy}
+use Rattle.xg_scale.specs.FaultOfFile.{RefusesBy}
 use Rattle.xg_scale.specs.Walked.{IsExpectedOf}
 use Rattle.xg_scale.specs.Weighed.{HasWeighed, KeepsWeights, weights_with}
 use Rattle.xg_scale.proofs.FoundLemmas.{found_later, found_none, number_next, refuses_here}
@@ -34,7 +34,8 @@ expected-append tables before after =
     ap (map (expected tables)) (filter-append (λ (w : Visit). is_leaf_kind w.node.kind) before after)
     ∙ map-append (expected tables) (filter (λ (w : Visit). is_leaf_kind w.node.kind) before) (filter (λ (w : Visit). is_leaf_kind w.node.kind) after)
 
-module _ (tables : Tables) (lowest : AreFractions tables) (tree : Forest) (game : IsGameTree tree) (k : ℕ) (there : k < node_count tree) (x : Node) (read : slice_get (prefix tree) (k + 1 - 1) ≡ Some x) where
+module _ (tables : Tables) (lowest : AreFractions tables) (tree : Forest) (game : IsGameTree tree) (k : ℕ)
+    (there : k < node_count tree) (x : Node) (read : slice_get (prefix tree) (k + 1 - 1) ≡ Some x) where
   abbrev v : Visit
   v = visit_after tree k
 
@@ -66,7 +67,8 @@ module _ (tables : Tables) (lowest : AreFractions tables) (tree : Forest) (game 
       let leaf_is : is_leaf_kind v.node.kind ≡ true = is_leaf ∙ leaf in
       λ i. passing (not (leaf_is i && past i)) (Scale (number_next tree k there i)) None
 
-  module _ (found : Expected) (are : IsExpectedOf tables tree found) (w : Weighed) (h : HasWeighed tables tree found.unit k w) where
+  module _ (found : Expected) (are : IsExpectedOf tables tree found) (w : Weighed)
+      (h : HasWeighed tables tree found.unit k w) where
     abbrev unit : ℕ
     unit = found.unit
 
@@ -132,7 +134,9 @@ pub weighed_first : (tables : Tables) (tree : Forest) (unit : ℕ) (w : Weighed)
     → HasWeighed tables tree unit 0 w
 weighed_first tables tree unit w mass leaves = record { rest = refl; mass_is = mass; limit = omega (arith, mass); leaves_are = leaves }
 
-module _ (tables : Tables) (lowest : AreFractions tables) (tree : Forest) (found : Expected) (are : IsExpectedOf tables tree found) (k : ℕ) (last : k ≡ node_count tree) (w : Weighed) (h : HasWeighed tables tree found.unit k w) where
+module _ (tables : Tables) (lowest : AreFractions tables) (tree : Forest) (found : Expected)
+    (are : IsExpectedOf tables tree found) (k : ℕ) (last : k ≡ node_count tree) (w : Weighed)
+    (h : HasWeighed tables tree found.unit k w) where
   -- after the last node the masses have no fault
   pub masses_pass : found_by (mass_fault tables (game_unit tables tree)) [] (visits tree) ≡ None
   masses_pass = ap (λ unit. found_by (mass_fault tables unit) [] (visits tree)) (sym are.unit) ∙ h.rest ∙ found_none tree (mass_fault tables found.unit) k last

@@ -1,4 +1,4 @@
-pub mod Told
+pub mod FaultOfFile
 pub mod Chance
 pub mod Leaf
 pub mod Ancestors

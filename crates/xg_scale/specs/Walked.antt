@@ -3,6 +3,7 @@ use Rattle.std.specs.Prelude.{◌≡◌, ℕ, ◌+◌, ◌-◌, ◌≤◌, Bool,
 use Rattle.def_tree.specs.declared.Node.{Node}
 use Rattle.def_tree.specs.declared.Player.{Player}
 use Rattle.def_tree.specs.declared.Player.TheVariants.{One, Two}
+use Rattle.def_tree.specs.Rules.{most_actions}
 use Rattle.def_tree.specs.Tree.{Forest, HasItsChildren, tree_count}
 use Rattle.def_fraction.specs.Fraction.{Fraction, fits, most, product_of, sum_of}
 use Rattle.def_file.specs.Content.{GameFile}
@@ -53,7 +54,7 @@ pub record IsOpenOver (game : GameFile) (trees : ComingTrees) (parent : OpenNode
   pub count : tree_count trees.trees ≡ parent.to_come
   pub children : HasItsChildren trees.trees
   pub action : 1 ≤ parent.action
-  pub room : parent.action + parent.to_come ≤ 1025
+  pub room : parent.action + parent.to_come ≤ most_actions + 1
   pub set : (set : ℕ) → parent.chance_set ≡ Some set →
       (1 ≤ set) × (set ≤ length game.sets.chance) × (parent.action + parent.to_come ≡ length (set_at game.sets.chance (set - 1)).actions + 1)
   pub reach_is : (j : ℕ)

@@ -6,7 +6,7 @@ ghost use Rattle.def_game_scale.specs.Tables.{probabilities};
 ghost use Rattle.def_game_numbers.specs.Numbers.{tables_of};
 ghost use Rattle.def_tree.specs.Rules.{is_same_kind};
 ghost use Rattle.xg_scale.specs.Chance.{set_fault, node_test_of};
-ghost use Rattle.xg_scale.specs.Told.{IsFaultOf};
+ghost use Rattle.xg_scale.specs.FaultOfFile.{IsFaultOf};
 
 use crate::parts::{is_negative, is_one, zero};
 use xg_frac::add;

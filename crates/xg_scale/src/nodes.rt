@@ -9,7 +9,7 @@ ghost use Rattle.def_game_numbers.specs.Numbers.{tables_of};
 ghost use Rattle.def_game_paths.specs.Paths.{visits};
 ghost use Rattle.def_game_scale.specs.Tables.{AreFractions, payoffs_of};
 ghost use Rattle.def_tree.specs.Tree.{node_count};
-ghost use Rattle.xg_scale.specs.Told.{RefusesBy};
+ghost use Rattle.xg_scale.specs.FaultOfFile.{RefusesBy};
 ghost use Rattle.xg_scale.specs.Walked.{HasWalkedWithoutFault, IsExpectedOf, MayCome, all_fit, numbers_below, paid_to, reach_below};
 
 use crate::ancestors::{OpenNode, OpenNodes, PathNumbers};

@@ -8,7 +8,7 @@ ghost use Rattle.def_game_scale.specs.Scale.{game_unit, weight_of};
 ghost use Rattle.def_game_scale.specs.Tables.{AreFractions};
 ghost use Rattle.def_sums.specs.Limits.{most_mass};
 ghost use Rattle.def_tree.specs.Tree.{node_count};
-ghost use Rattle.xg_scale.specs.Told.{RefusesBy};
+ghost use Rattle.xg_scale.specs.FaultOfFile.{RefusesBy};
 ghost use Rattle.xg_scale.specs.Walked.{IsExpectedOf};
 ghost use Rattle.xg_scale.specs.Weighed.{HasWeighed, IsLeafWeighed};
 

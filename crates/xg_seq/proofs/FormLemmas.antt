@@ -55,8 +55,8 @@ sequence_there form Two z has = has.two
 pub form_is : (tree : Forest) (weights : List ℤ) (sets : TreeSets) (one two : List InformationSet) (leaves : List Leaf)
     → sets ≡ tree_sets tree → one ≡ sets.one.sets → two ≡ sets.two.sets → AreLeaves tree weights leaves →
     form_with one two leaves ≡ form_of tree weights
-form_is tree weights sets one two leaves told is_one is_two are = λ i. record {
-  sets_one = (is_one ∙ ap (λ (s : TreeSets). s.one.sets) told) i;
-  sets_two = (is_two ∙ ap (λ (s : TreeSets). s.two.sets) told) i;
+form_is tree weights sets one two leaves known is_one is_two are = λ i. record {
+  sets_one = (is_one ∙ ap (λ (s : TreeSets). s.one.sets) known) i;
+  sets_two = (is_two ∙ ap (λ (s : TreeSets). s.two.sets) known) i;
   leaves = are i;
 }

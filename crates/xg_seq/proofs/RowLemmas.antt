@@ -34,10 +34,10 @@ keeps_sets rows numbers sets same are order limit few =
     let sets_are : map set_of_row rows ≡ sets = sets_of_rows rows sets same in
     record { places = same ∙ ap placed (sym sets_are); numbers = are; order = subst AreInOrder (sym sets_are) order; limit = omega (arith, limit, ap sequence_count sets_are); few_actions = subst HaveFewActions (sym sets_are) few }
 
--- what a row tells of its set is told at the set's place
-pub told_at : (sets : List InformationSet) (f : InformationSet → ℕ) (i : ℕ) (h : PlacedSet)
+-- what a row tells of its set stands at the set's place
+pub place_shows : (sets : List InformationSet) (f : InformationSet → ℕ) (i : ℕ) (h : PlacedSet)
     → slice_get (placed sets) i ≡ Some h → slice_get (map f sets) i ≡ Some (f (without_place h))
-told_at sets f i h read =
+place_shows sets f i h read =
     ap (λ gs. slice_get (map f gs) i) (sym (placed-without 1 sets)) ∙ slice_get-map f (map without_place (placed sets)) i
     ∙ ap (option_map f) (slice_get-map without_place (placed sets) i ∙ ap (option_map without_place) read)
 
@@ -69,7 +69,8 @@ pub record StandFor (sets : List InformationSet) (k : ℕ) (rows : List SetRow) 
   pub next : first ≡ sequence_count (take k sets)
 
 module _ (sets : List InformationSet) (k a b : ℕ) (there : k < length sets)
-    (actions : slice_get (map (λ (h : InformationSet). h.actions) sets) (k + 1 - 1) ≡ Some a) (before : slice_get (map (λ (h : InformationSet). h.before) sets) (k + 1 - 1) ≡ Some b) where
+    (actions : slice_get (map (λ (h : InformationSet). h.actions) sets) (k + 1 - 1) ≡ Some a)
+    (before : slice_get (map (λ (h : InformationSet). h.before) sets) (k + 1 - 1) ≡ Some b) where
   abbrev h : InformationSet
   h = get_or sets k (record { before = 0; actions = 0 })
 
@@ -87,7 +88,8 @@ module _ (sets : List InformationSet) (k a b : ℕ) (there : k < length sets)
       ∙ (let one : h.actions + 0 ≡ a = omega (arith, read (λ g. g.actions) a actions) in ap (λ n. total_actions (take k sets) + n) one)
 
   -- one more set
-  pub stand_for_more : (rows : List SetRow) (first : ℕ) → StandFor sets k rows first → StandFor sets (k + 1) (rows ++ record { first = first; before = b; actions = a } ∷ []) (first + a)
+  pub stand_for_more : (rows : List SetRow) (first : ℕ) → StandFor sets k rows first
+      → StandFor sets (k + 1) (rows ++ record { first = first; before = b; actions = a } ∷ []) (first + a)
   stand_for_more rows first stand = record {
     places = map-append placed_of_row rows (record { first = first; before = b; actions = a } ∷ [])
         ∙ (λ i. stand.places i ++ record { first = stand.next i; before = sym (read (λ g. g.before) b before) i; actions = sym (read (λ g. g.actions) a actions) i } ∷ [])

@@ -1,6 +1,6 @@
 ghost use Rattle.std.specs.Prelude.{◌≡◌, ◌^◌, ◌<◌, ◌≤◌, length, IfOk, map};
 ghost use Rattle.def_plan.specs.Form.{AreInOrder, placed, sequence_count};
-ghost use Rattle.xg_sets.specs.Told.{of_player};
+ghost use Rattle.xg_sets.specs.OfPlayer.{of_player};
 ghost use Rattle.xg_seq.specs.Table.{HaveFewActions, most_sequences, set_numbers_from, placed_of_row};
 
 use crate::table::{SetRow, SetTable};

@@ -1,3 +1,3 @@
 pub mod NotingLemmas
 pub mod ParentLemmas
-pub mod ToldLemmas
+pub mod ShownLemmas

@@ -23,16 +23,16 @@ use Rattle.def_game_paths.proofs.Breaks.{is_same_set_by}
 use Rattle.def_game_paths.proofs.Counts.{sequences_are_few}
 use Rattle.def_game_paths.proofs.Firsts.{and_false, other_kind, other_number}
 use Rattle.def_game_paths.proofs.Numbers.{known_so_far, set_firsts-append, sizes_front}
-use Rattle.def_game_paths.proofs.Order.{KnowsSizes, joins_of, node_of}
+use Rattle.def_game_paths.proofs.Order.{KnowsSizes, joins_of, visited_node}
 use Rattle.def_game_paths.proofs.Coming.{IsNext, next_node, next_visit}
-use Rattle.def_sequence_form.proofs.Sets.{set_at}
+use Rattle.def_sequence_form.proofs.Sets.{set_of_visit}
 use Rattle.xg_sets.specs.declared.building.RecallFault.{RecallFault}
 use Rattle.xg_sets.specs.declared.building.RecallFault.TheVariants.{NotRecall, NoMemory}
 use Rattle.xg_sets.specs.declared.parents.Sequences.{Sequences}
 use Rattle.xg_sets.specs.declared.table.SetRow.{SetRow}
 use Rattle.xg_sets.specs.Entered.{AreAt, AreAtFirstChild, AreTablesOf, FindsBreak, IsAtFirstChild, IsFirstNode, IsRowOf, IsTableUpTo}
 use Rattle.xg_sets.specs.Table.{BeginsSet, JoinsRow, Notes, NotesIn, SetRows, with_set}
-use Rattle.xg_sets.specs.Told.{set_in_row}
+use Rattle.xg_sets.specs.OfPlayer.{set_in_row}
 
 -- behind nodes of other sets, a search for the first node of a set finds the next one
 first_after : (k : ℕ) (x : Node) (before : List Visit) (v : Visit) (rest : List Visit)
@@ -66,7 +66,8 @@ is_read rows i row e = elim (cases_lt i (length rows)) [
   | inr past ↦ let no : None ≡ Some row = sym (slice_get_past rows i (omega arith)) ∙ e in cc no
 ]
 
-module _ (tree : Forest) (kind : Kind) (game : IsGameTree tree) (inner : is_leaf_kind kind ≡ false) (n : ℕ) (v : Visit) (next : IsNext tree n v) where
+module _ (tree : Forest) (kind : Kind) (game : IsGameTree tree) (inner : is_leaf_kind kind ≡ false) (n : ℕ) (v : Visit)
+    (next : IsNext tree n v) where
   abbrev all : List Visit
   all = visits tree
 
@@ -94,7 +95,7 @@ module _ (tree : Forest) (kind : Kind) (game : IsGameTree tree) (inner : is_leaf
   firsts_new first = firsts_more ∙ ap (λ b. firsts ++ cond b (v ∷ []) []) first
 
   rows_count : (table : SetRows) → IsTableUpTo tree kind n table → length table.rows ≡ length firsts
-  rows_count table stands = sym (length-map table.rows set_in_row) ∙ ap length stands.sets ∙ length-map firsts (set_at kind tree)
+  rows_count table stands = sym (length-map table.rows set_in_row) ∙ ap length stands.sets ∙ length-map firsts (set_of_visit kind tree)
 
   sequences_more : map (sequence_at kind tree)
       (take (n + 1) all) ≡ map (sequence_at kind tree) done ++ sequence_at kind tree v ∷ []
@@ -111,22 +112,23 @@ module _ (tree : Forest) (kind : Kind) (game : IsGameTree tree) (inner : is_leaf
   quiet_stands table s stands other is =
       let same : firsts ≡ set_firsts kind 0 (take (n + 1) all) = sym (firsts_quiet other) in
       record {
-        sets = stands.sets ∙ ap (map (set_at kind tree)) same;
+        sets = stands.sets ∙ ap (map (set_of_visit kind tree)) same;
         each = stands.each;
         next = stands.next ∙ ap (λ vs. 1 + sum (map (λ (w : Visit). w.node.children) vs)) same;
         at_nodes = put_more table s stands.at_nodes is;
       }
 
   -- the node begins the next set
-  found_new : (x : Node) → x.kind ≡ kind → x.set ≡ length sizes + 1 → is_same_set v.node x ≡ true → first_of_set 1 x all ≡ Some (record { number = n + 1; visit = v })
+  found_new : (x : Node) → x.kind ≡ kind → x.set ≡ length sizes + 1 → is_same_set v.node x ≡ true
+      → first_of_set 1 x all ≡ Some (record { number = n + 1; visit = v })
   found_new x kinds sets same =
-      let knows : KnowsSizes kind (map node_of done) sizes = known_so_far tree kind game inner n in
+      let knows : KnowsSizes kind (map visited_node done) sizes = known_so_far tree kind game inner n in
       let there : n < length all = next.there in
       let parts : all ≡ done ++ v ∷ drop (n + 1) all = sym (take-append-drop n all) ∙ ap (λ vs. done ++ vs) next.cons in
       let number : 1 + length done ≡ n + 1 = omega (arith, length-take n all) in
       ap (first_of_set 1 x) parts ∙ first_after 1 x done v (drop (n + 1) all) (λ i d h. other knows x kinds sets i d h) same ∙ ap (λ m. Some (record { number = m; visit = v })) number
     where
-      other : KnowsSizes kind (map node_of done) sizes → (x : Node) → x.kind ≡ kind → x.set ≡ length sizes + 1
+      other : KnowsSizes kind (map visited_node done) sizes → (x : Node) → x.kind ≡ kind → x.set ≡ length sizes + 1
           → (i : ℕ) (d : Visit) → i < length done → is_same_set (get_or done i d).node x ≡ false
       other knows x kinds sets i d h =
           let w : Visit = get_or done i d in
@@ -169,7 +171,7 @@ module _ (tree : Forest) (kind : Kind) (game : IsGameTree tree) (inner : is_leaf
       let next_sizes : sizes_so_far kind (take (n + 1) all) ≡ sizes ++ v.node.children ∷ [] = ap (map (λ (w : Visit). w.node.children)) more ∙ map-append (λ (w : Visit). w.node.children) firsts (v ∷ []) in
       let next_is : table.next ≡ 1 + sum sizes = stands.next in
       record {
-        sets = map-append set_in_row table.rows (row ∷ []) ∙ (λ i. stands.sets i ++ record { before = sequence i; actions = v.node.children } ∷ []) ∙ sym (map-append (set_at kind tree) firsts (v ∷ [])) ∙ ap (map (set_at kind tree)) (sym more);
+        sets = map-append set_in_row table.rows (row ∷ []) ∙ (λ i. stands.sets i ++ record { before = sequence i; actions = v.node.children } ∷ []) ∙ sym (map-append (set_of_visit kind tree) firsts (v ∷ [])) ∙ ap (map (set_of_visit kind tree)) (sym more);
         each = λ i d there. elim (cases_lt i (length table.rows)) [
           | inl below ↦ subst (IsRowOf tree kind (i + 1)) (sym (get_or-append table.rows (row ∷ []) d i below)) (stands.each i d below)
           | inr past ↦
@@ -207,24 +209,24 @@ module _ (tree : Forest) (kind : Kind) (game : IsGameTree tree) (inner : is_leaf
     first_is : first ≡ first_sequence (set_sizes kind tree) v.node.set
     none : against ≡ None
 
-  abbrev After : SetRows → ℕ → Result ℕ RecallFault → Type 0
-  After new s (Ok first) = IsNoted new s first
-  After new s (Err NoMemory) = Unit {0}
-  After new s (Err (NotRecall node earlier)) = against ≡ Some (record { node = node; earlier = earlier })
+  abbrev AnswersNoting : SetRows → ℕ → Result ℕ RecallFault → Type 0
+  AnswersNoting new s (Ok first) = IsNoted new s first
+  AnswersNoting new s (Err NoMemory) = Unit {0}
+  AnswersNoting new s (Err (NotRecall node earlier)) = against ≡ Some (record { node = node; earlier = earlier })
 
   -- the node's set is one that came before, or the next one
   set_of_node : v.node.kind ≡ kind → (1 ≤ v.node.set) × (v.node.set ≤ length firsts + 1)
   set_of_node is =
-      let knows : KnowsSizes kind (map node_of done) sizes = known_so_far tree kind game inner n in
-      let joins : JoinsSet (map node_of done) v.node = joins_of kind (map node_of done) v.node inner is (subst (λ k. FitsAs k (map node_of done) v.node) is next.fits) in
-      let known : v.node.set ≤ set_count kind (map node_of done) + 1 = subst (λ k. v.node.set ≤ set_count k (map node_of done) + 1) is joins.next in
-      let count : length sizes ≡ set_count kind (map node_of done) = knows.count in
+      let knows : KnowsSizes kind (map visited_node done) sizes = known_so_far tree kind game inner n in
+      let joins : JoinsSet (map visited_node done) v.node = joins_of kind (map visited_node done) v.node inner is (subst (λ k. FitsAs k (map visited_node done) v.node) is next.fits) in
+      let known : v.node.set ≤ set_count kind (map visited_node done) + 1 = subst (λ k. v.node.set ≤ set_count k (map visited_node done) + 1) is joins.next in
+      let count : length sizes ≡ set_count kind (map visited_node done) = knows.count in
       let many : length sizes ≡ length firsts = length-map firsts (λ (w : Visit). w.node.children) in
       (joins.counts, omega arith)
 
   begun : v.node.kind ≡ kind → (table : SetRows) (s : ℕ) (new : SetRows) → IsTableUpTo tree kind n table
       → s ≡ sequence_at kind tree v → length table.rows ≤ v.node.set - 1 →
-      (result : Result ℕ RecallFault) → BeginsSet table (n + 1) v.node s new result → After new s result
+      (result : Result ℕ RecallFault) → BeginsSet table (n + 1) v.node s new result → AnswersNoting new s result
   begun is table s new stands sequence past (Ok first) (first_is, new_is) =
       let rows : length table.rows ≡ length firsts = rows_count table stands in
       let many : length sizes ≡ length firsts = length-map firsts (λ (w : Visit). w.node.children) in
@@ -256,7 +258,7 @@ module _ (tree : Forest) (kind : Kind) (game : IsGameTree tree) (inner : is_leaf
 
   joined : is_personal kind ≡ true → v.node.kind ≡ kind → (table : SetRows) (s : ℕ) (new : SetRows) (row : SetRow)
       → IsTableUpTo tree kind n table → s ≡ sequence_at kind tree v → slice_get table.rows (v.node.set - 1) ≡ Some row →
-      (result : Result ℕ RecallFault) → JoinsRow row table (n + 1) s new result → After new s result
+      (result : Result ℕ RecallFault) → JoinsRow row table (n + 1) s new result → AnswersNoting new s result
   joined personal is table s new row stands sequence read (Ok first) (same, first_is, new_is) =
       let rows : length table.rows ≡ length firsts = rows_count table stands in
       let counts : 1 ≤ v.node.set = (set_of_node is).0 in
@@ -284,9 +286,9 @@ module _ (tree : Forest) (kind : Kind) (game : IsGameTree tree) (inner : is_leaf
 
   after_note : is_personal kind ≡ true → v.node.kind ≡ kind
       → (table : SetRows) (s : ℕ) (new : SetRows) (result : Result ℕ RecallFault) → IsTableUpTo tree kind n table
-      → s ≡ sequence_at kind tree v → Notes table (n + 1) v.node s new result → After new s result
+      → s ≡ sequence_at kind tree v → Notes table (n + 1) v.node s new result → AnswersNoting new s result
   after_note personal is table s new result stands sequence notes =
-      elim (slice_get table.rows (v.node.set - 1)) as (λ o. slice_get table.rows (v.node.set - 1) ≡ o → NotesIn o table (n + 1) v.node s new result → After new s result) [
+      elim (slice_get table.rows (v.node.set - 1)) as (λ o. slice_get table.rows (v.node.set - 1) ≡ o → NotesIn o table (n + 1) v.node s new result → AnswersNoting new s result) [
         | None ↦ λ past h. begun is table s new stands sequence (not_read table.rows (v.node.set - 1) past) result h
         | Some row ↦ λ read h. joined personal is table s new row stands sequence read result h
       ] refl notes
@@ -299,7 +301,7 @@ module _ (tree : Forest) (kind : Kind) (game : IsGameTree tree) (inner : is_leaf
       let few_sequences : 1 + sum (set_sizes kind tree) ≤ node_count tree = few.few_sequences in
       let limit : node_count tree ≤ 1048576 = game.limit in
       let next_is : table.next ≡ 1 + sum sizes = stands.next in
-      omega (arith, ap sum front.1, sum_by-append (λ x. x) sizes front.0, children-le (map node_of done) v.node next.fits)
+      omega (arith, ap sum front.1, sum_by-append (λ x. x) sizes front.0, children-le (map visited_node done) v.node next.fits)
 
 abbrev rest_break : Forest → ℕ → Option RecallBreak
 rest_break tree n = first_break (differ_in_number tree) (visits tree) (n + 1) (drop n (visits tree))
@@ -405,7 +407,8 @@ module _ (tree : Forest) (game : IsGameTree tree) (n : ℕ) (v : Visit) (next : 
   broken_two is one two new at fault stand are notes = broken_at Two refl refl is two new at.two stand.table_two stand.no_break are.two fault notes
 
 -- the same of the node that the tree gives, as node number n + 1
-module _ (tree : Forest) (game : IsGameTree tree) (n : ℕ) (there : n < node_count tree) (x : Node) (read : slice_get (prefix tree) (n + 1 - 1) ≡ Some x) where
+module _ (tree : Forest) (game : IsGameTree tree) (n : ℕ) (there : n < node_count tree) (x : Node)
+    (read : slice_get (prefix tree) (n + 1 - 1) ≡ Some x) where
   abbrev v : Visit
   v = visit_after tree n
 
@@ -453,14 +456,14 @@ module _ (tree : Forest) (game : IsGameTree tree) (n : ℕ) (there : n < node_co
       not_mover Two e = cc
       not_mover Leaf e = (refl, refl)
 
-  -- where a node of player one can't be noted, a break of recall that is told is the first, by numbers
+  -- where a node of player one can't be noted, a break of recall that is answered is the first, by numbers
   pub broken_one_at : x.kind ≡ One → (one two new : SetRows) (at : Sequences) (fault : RecallFault)
       → AreTablesOf tree n one two → AreAt tree v.path at → Notes one (n + 1) x at.one new (Err fault)
       → FindsBreak tree fault
   broken_one_at is one two new at fault stand are notes =
       broken_one tree game n v next (ap (λ y. y.kind) is_node ∙ is) one two new at fault stand are (subst (λ y. Notes one (n + 1) y at.one new (Err fault)) (sym is_node) notes)
 
-  -- where a node of player two can't be noted, a break of recall that is told is the first, by numbers
+  -- where a node of player two can't be noted, a break of recall that is answered is the first, by numbers
   pub broken_two_at : x.kind ≡ Two → (one two new : SetRows) (at : Sequences) (fault : RecallFault)
       → AreTablesOf tree n one two → AreAt tree v.path at → Notes two (n + 1) x at.two new (Err fault)
       → FindsBreak tree fault

@@ -35,10 +35,11 @@ two_after Two next j = omega arith
 two_after Leaf next j = refl
 
 module _ (tree : Forest) where
-  abbrev Stand : List Parent → List Visit → Type 0
-  Stand = StandOver (IsParentOf tree)
+  abbrev ParentsStand : List Parent → List Visit → Type 0
+  ParentsStand = StandOver (IsParentOf tree)
 
-  at_child : (kind : Kind) (node : Node) (path : List Move) (s j : ℕ) → IsAtFirstChild tree kind (record { path = path; node = node }) s →
+  at_child : (kind : Kind) (node : Node) (path : List Move) (s j : ℕ)
+      → IsAtFirstChild tree kind (record { path = path; node = node }) s →
       path_number kind tree (record { node = node; action = 1 + j } ∷ path) ≡ s + cond (is_same_kind kind node.kind) j 0
   at_child kind node path s j starts =
       elim (is_same_kind kind node.kind) as (λ b. is_same_kind kind node.kind ≡ b →
@@ -51,8 +52,8 @@ module _ (tree : Forest) where
   enter_first : (node : Node) (below beside : Forest) (above : ℕ → List Move) (action : ℕ) (later : List Visit)
       (innermost : Parent) (outer : List Parent) (at : Sequences)
       →
-      IsParentOf tree (record { above = above; action = action; trees = grown node below beside }) innermost → Stand outer later → AreAtFirstChild tree (record { path = above action; node = node }) at →
-      Stand (with_parent node at (without_child innermost outer)) (visits_from (λ next. record { node = node; action = next } ∷ above action) 1 below ++ (visits_from above (action + 1) beside ++ later))
+      IsParentOf tree (record { above = above; action = action; trees = grown node below beside }) innermost → ParentsStand outer later → AreAtFirstChild tree (record { path = above action; node = node }) at →
+      ParentsStand (with_parent node at (without_child innermost outer)) (visits_from (λ next. record { node = node; action = next } ∷ above action) 1 below ++ (visits_from above (action + 1) beside ++ later))
   enter_first node below beside above action later innermost outer at is_parent stand are =
       let down : ℕ → List Move = λ next. record { node = node; action = next } ∷ above action in
       let count : suc (tree_count beside) ≡ innermost.to_come = is_parent.count in
@@ -84,9 +85,9 @@ module _ (tree : Forest) where
       some : 1 ≤ innermost.to_come
       at : AreAt tree v.path innermost.next
       entered : (below : Sequences) → AreAtFirstChild tree v below
-          → Stand (with_parent v.node below (without_child innermost outer)) (drop (n + 1) (visits tree))
+          → ParentsStand (with_parent v.node below (without_child innermost outer)) (drop (n + 1) (visits tree))
 
-    tells : (innermost : Parent) (outer : List Parent) → Stand (innermost ∷ outer) (drop n (visits tree))
+    tells : (innermost : Parent) (outer : List Parent) → ParentsStand (innermost ∷ outer) (drop n (visits tree))
         → Tells innermost outer
     tells innermost outer (trees, later, is_parent, to_come, stand) =
         let some : 1 ≤ innermost.to_come = is_parent.some in
@@ -105,8 +106,8 @@ module _ (tree : Forest) where
             two = sym (nothing (is_same_kind Two innermost.kind) innermost.next.two) ∙ sym two ∙ ap (λ a. path_number Two tree (trees.above a)) (sym from) ∙ ap (path_number Two tree) (sym path);
           };
           entered = λ below are.
-              let Entered : Visit → Type 0 = λ w. AreAtFirstChild tree w below → Stand (with_parent w.node below (without_child innermost outer)) (drop (n + 1) (visits tree)) in
-              let Rest : List Visit → Type 0 = λ vs. Stand (with_parent starts.node below (without_child innermost outer)) vs in
+              let Entered : Visit → Type 0 = λ w. AreAtFirstChild tree w below → ParentsStand (with_parent w.node below (without_child innermost outer)) (drop (n + 1) (visits tree)) in
+              let Rest : List Visit → Type 0 = λ vs. ParentsStand (with_parent starts.node below (without_child innermost outer)) vs in
               subst Entered (sym starts.first)
               (λ are_first. subst Rest (sym starts.rest_is) (enter_first starts.node starts.below starts.beside trees.above trees.action later innermost outer below over stand are_first)) are;
         }
@@ -115,22 +116,23 @@ module _ (tree : Forest) where
         nothing true m = omega arith
         nothing false m = omega arith
 
-    none_left : Stand [] (drop n (visits tree)) → ⊥
+    none_left : ParentsStand [] (drop n (visits tree)) → ⊥
     none_left none = let e : v ∷ drop (n + 1) (visits tree) ≡ [] = sym next.cons ∙ none in cc e
 
     -- the sequences that are taken with a child are both players' at the next node
-    pub next_at : (parents : List Parent) → Stand parents (drop n (visits tree)) → (new : List Parent) (at : Sequences)
+    pub next_at : (parents : List Parent) → ParentsStand parents (drop n (visits tree))
+        → (new : List Parent) (at : Sequences)
         → TakesChild parents new at → AreAt tree v.path at
     next_at [] stand new at takes = absurd takes
     next_at (innermost ∷ outer) stand new at takes = subst (AreAt tree v.path) (sym takes.0) (tells innermost outer stand).at
 
     -- without the child taken, and with the next node if it has children, the parents stand over the nodes behind it
-    pub stand_next : (parents : List Parent) → Stand parents (drop n (visits tree))
+    pub stand_next : (parents : List Parent) → ParentsStand parents (drop n (visits tree))
         → (new : List Parent) (at below : Sequences) → TakesChild parents new at → AreAtFirstChild tree v below
-        → Stand (with_parent v.node below new) (drop (n + 1) (visits tree))
+        → ParentsStand (with_parent v.node below new) (drop (n + 1) (visits tree))
     stand_next [] stand new at below takes are = absurd takes
     stand_next (innermost ∷ outer) stand new at below takes are =
-        subst (λ nodes. Stand (with_parent v.node below nodes) (drop (n + 1) (visits tree))) (sym takes.1) ((tells innermost outer stand).entered below are)
+        subst (λ nodes. ParentsStand (with_parent v.node below nodes) (drop (n + 1) (visits tree))) (sym takes.1) ((tells innermost outer stand).entered below are)
 
     small : (kind : Kind) → is_leaf_kind kind ≡ false → v ≡ visit_after tree n → sequence_at kind tree v < 1048576
     small kind inner is =
@@ -142,13 +144,13 @@ module _ (tree : Forest) where
         subst (λ w. sequence_at kind tree w < 1048576) (sym is) (omega arith)
 
     -- parents that stand over a next node have a child for it, with room for the next numbers of sequences
-    pub has_child : (parents : List Parent) → v ≡ visit_after tree n → Stand parents (drop n (visits tree))
+    pub has_child : (parents : List Parent) → v ≡ visit_after tree n → ParentsStand parents (drop n (visits tree))
         → HasChild parents
     has_child [] is stand = absurd (none_left stand)
     has_child (innermost ∷ outer) is stand =
-        let told = tells innermost outer stand in
-        let one : innermost.next.one ≡ sequence_at One tree v = told.at.one in
-        let two : innermost.next.two ≡ sequence_at Two tree v = told.at.two in
+        let known = tells innermost outer stand in
+        let one : innermost.next.one ≡ sequence_at One tree v = known.at.one in
+        let two : innermost.next.two ≡ sequence_at Two tree v = known.at.two in
         let small_one : sequence_at One tree v < 1048576 = small One refl is in
         let small_two : sequence_at Two tree v < 1048576 = small Two refl is in
-        (told.some, omega arith, omega arith)
+        (known.some, omega arith, omega arith)

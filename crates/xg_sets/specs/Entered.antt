@@ -16,7 +16,7 @@ use Rattle.xg_sets.specs.declared.parents.Parent.{Parent}
 use Rattle.xg_sets.specs.declared.parents.Sequences.{Sequences}
 use Rattle.xg_sets.specs.declared.table.SetRow.{SetRow}
 use Rattle.xg_sets.specs.Table.{SetRows}
-use Rattle.xg_sets.specs.Told.{set_in_row}
+use Rattle.xg_sets.specs.OfPlayer.{set_in_row}
 
 -- a search for the first node of the set finds the row's node, and the sequence there is the row's
 pub record IsFirstNode (tree : Forest) (kind : Kind) (row : SetRow) (x : Node) (v : Visit) : Type 0 where

@@ -16,5 +16,6 @@ TellsBreakOf tree NoMemory = Unit {0}
 -- its set's first node
 abbrev pub IsFirstBreakOf : Forest → RecallFault → Type 0
 IsFirstBreakOf tree (NotRecall node earlier) =
-    (d : Visit) → IsFirstBreak (λ k. slice_index_or (visits tree) (k - 1) d) (length (visits tree)) (record { node = node; earlier = earlier })
+    (d : Visit)
+    → IsFirstBreak (λ k. slice_index_or (visits tree) (k - 1) d) (length (visits tree)) (record { node = node; earlier = earlier })
 IsFirstBreakOf tree NoMemory = Unit {0}

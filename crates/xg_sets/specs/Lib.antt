@@ -1,5 +1,5 @@
 pub mod Parents
 pub mod Table
-pub mod Told
+pub mod OfPlayer
 pub mod Fault
 pub mod Entered

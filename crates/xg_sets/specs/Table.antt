@@ -1,6 +1,7 @@
 -- A player's sets so far, and the player's sequence at each node so far.
 use Rattle.std.specs.Prelude.{◌≡◌, ◌≢◌, ℕ, ◌+◌, ◌-◌, ◌≤◌, List, [], ◌∷◌, ◌++◌, length, slice_get, Option, Some, None, Result, Ok, Err}
 use Rattle.def_tree.specs.declared.Node.{Node}
+use Rattle.def_tree.specs.Rules.{most_nodes}
 use Rattle.xg_sets.specs.declared.table.SetRow.{SetRow}
 use Rattle.xg_sets.specs.declared.building.RecallFault.{RecallFault}
 use Rattle.xg_sets.specs.declared.building.RecallFault.TheVariants.{NotRecall, NoMemory}
@@ -12,7 +13,7 @@ pub record SetRows : Type 0 where
   pub next : ℕ
 
 abbrev pub HasFewRows : SetRows → Type 0
-HasFewRows table = length table.rows ≤ 1048576
+HasFewRows table = length table.rows ≤ most_nodes
 
 -- node k begins the next set, and the sequence before it is `before`
 abbrev pub with_set : SetRows → ℕ → Node → ℕ → SetRows

@@ -14,7 +14,7 @@ use std::alloc::{AllocError, Global};
 use thiserror::Error;
 use xg_tree::{Kind, Tree};
 
-/// Why a tree's sets were not told.
+/// Why a tree has no sets.
 #[derive(Debug, Drop, PartialEq, Eq, Error)]
 pub enum RecallFault {
     #[error("at node {node} its player has made other choices than at node {earlier} of the same set")]

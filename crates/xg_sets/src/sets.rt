@@ -1,5 +1,5 @@
 ghost use Rattle.std.specs.Prelude.{◌≡◌, ◌-◌, ◌≤◌, length, Some, slice_get};
-ghost use Rattle.xg_sets.specs.Told.{action_counts, sequences_before_sets, of_player, as_player_sets};
+ghost use Rattle.xg_sets.specs.OfPlayer.{action_counts, sequences_before_sets, of_player, as_player_sets};
 ghost use Rattle.xg_sets.specs.Table.{HasFewRows};
 
 use crate::table::SetTable;
@@ -18,7 +18,7 @@ pub struct Sets {
 impl Model for Sets {
     ghost use Rattle.def_sequence_form.specs.Sets.{TreeSets};
     ghost use Rattle.xg_sets.specs.Table.{HasFewRows};
-    ghost use Rattle.xg_sets.specs.Told.{as_player_sets};
+    ghost use Rattle.xg_sets.specs.OfPlayer.{as_player_sets};
 
     ghost Value = { TreeSets };
 
@@ -72,7 +72,7 @@ impl Sets {
     }
 
     fn table(&self, player: Player) -> &SetTable
-        ensures told { as_player_sets result.now ≡ of_player player self.now }
+        ensures of_player { as_player_sets result.now ≡ of_player player self.now }
         ensures few { HasFewRows result.now }
     {
         match player {

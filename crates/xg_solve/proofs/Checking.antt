@@ -33,13 +33,13 @@ use Rattle.xg_solve.specs.Concludes.{Concludes}
 -- ---- the line of a fault
 
 -- a fault that was found, with its line
-pub record Says (file certificate line : List ℕ) : Type 0 where
+pub record TellsRefusal (file certificate line : List ℕ) : Type 0 where
   pub why : Refusal
   pub is_refused : checked file certificate ≡ Err why
   pub line_is : line ≡ refusal_line why
 
 pub says : (file certificate line : List ℕ) (fault : CheckFault) → AnswersVerdict (Err fault) (checked file certificate)
-    → IsCheckLine fault line → Says file certificate line
+    → IsCheckLine fault line → TellsRefusal file certificate line
 says file certificate line (File fault) is same = record { why = of_file fault; is_refused = is; line_is = same }
 says file certificate line (Cert fault) is same = record { why = of_certificate fault; is_refused = is; line_is = same }
 says file certificate line (HeadDiffers k) is same =

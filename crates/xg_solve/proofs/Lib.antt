@@ -1,8 +1,8 @@
-pub mod Saying
+pub mod WrittenLineIsSaid
 pub mod Solved
-pub mod Ended
-pub mod Worded
+pub mod ExitStatusLaws
+pub mod WordsMeanTheirCommand
 pub mod Texts
-pub mod Asked
+pub mod SettingsWithinLimits
 pub mod Checking
 pub mod MadeEnds

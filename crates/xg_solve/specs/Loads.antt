@@ -24,11 +24,11 @@ abbrev pub Loads : Option (List ℕ) → Result GameFile LoadFault → Type 0
 Loads told result = LoadsBy read_as_accepted told result
 
 -- a game that was read is accepted, or refused with its first fault
-abbrev pub Accepts : GameFile → Result GameFile LoadFault → Type 0
-Accepts game (Ok accepted_game) = (accepted_game ≡ game) × (unless_faulty (game_file_fault game) game ≡ Ok game)
-Accepts game (Err (Refused fault)) = unless_faulty (game_file_fault game) game ≡ Err fault
-Accepts game (Err ReadFault) = ⊥
-Accepts game (Err NoMemory) = Unit {0}
+abbrev pub AcceptsOrRefuses : GameFile → Result GameFile LoadFault → Type 0
+AcceptsOrRefuses game (Ok accepted_game) = (accepted_game ≡ game) × (unless_faulty (game_file_fault game) game ≡ Ok game)
+AcceptsOrRefuses game (Err (Refused fault)) = unless_faulty (game_file_fault game) game ≡ Err fault
+AcceptsOrRefuses game (Err ReadFault) = ⊥
+AcceptsOrRefuses game (Err NoMemory) = Unit {0}
 
 -- the count of faults rose only where the file can't be read
 abbrev pub LoadHasCause : {T : Type 0} → ℕ → ℕ → Result T LoadFault → Type 0

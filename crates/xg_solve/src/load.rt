@@ -1,7 +1,7 @@
 //! Loading a game from its file.
 ghost use Rattle.std.specs.Prelude.{◌≡◌, ◌≢◌, ◌<◌, ◌≤◌, length, IsTrue, IsErrOf};
 ghost use Rattle.def_file.specs.Reading.{game_at, most_bytes};
-ghost use Rattle.xg_solve.specs.Loads.{Accepts, LoadHasCause, Loads, LoadsGame, ReadsGame};
+ghost use Rattle.xg_solve.specs.Loads.{AcceptsOrRefuses, LoadHasCause, Loads, LoadsGame, ReadsGame};
 
 use crate::accepted::Accepted;
 use std::alloc::Global;
@@ -34,7 +34,7 @@ pub fn load<F: Files>(alloc: Global, files: &mut F, name: &str) -> Result<Accept
 
 /// The game, where it has no fault.
 fn accept(alloc: Global, game: Game) -> Result<Accepted, LoadFault>
-    ensures exact { Accepts game result }
+    ensures exact { AcceptsOrRefuses game result }
     ensures any_length { result ≢ Err (LoadFault.Refused FileFault.TooLong) }
 {
     match Accepted::open(alloc, game) {

@@ -1,6 +1,7 @@
 //! Games that aren't read from a file.
 ghost use Rattle.std.specs.Prelude.{◌≤◌};
 ghost use Rattle.def_outside.specs.Calls.{sink_call};
+ghost use Rattle.def_sums.specs.Limits.{least_cards, most_cards};
 ghost use Rattle.def_canon.specs.Canon.{canon};
 ghost use Rattle.def_poker.specs.Poker.{poker};
 ghost use Rattle.def_program.specs.Program.{solved};
@@ -26,8 +27,8 @@ use xg_page::write_paged;
 
 /// Writes one-card poker as a file.
 pub fn generate<O: Sink>(alloc: Global, cards: u32, out: &mut O) -> Ending
-    requires low { 2 ≤ cards }
-    requires high { cards ≤ 64 }
+    requires low { least_cards ≤ cards }
+    requires high { cards ≤ most_cards }
     ensures { Tells (canon (poker cards)) (sink_call O.written O.faults out.old out.new) result }
 {
     match one_card_poker(alloc, cards) {
@@ -45,8 +46,8 @@ pub fn drill<Rt: Threads + Wait + Sync, O: Sink, G: Gate>(
     rows: &LockedRows<'_, G>,
     out: &mut O,
 ) -> Ending
-    requires low { 2 ≤ cards }
-    requires high { cards ≤ 64 }
+    requires low { least_cards ≤ cards }
+    requires high { cards ≤ most_cards }
     requires limits { AreWithinLimits settings }
     ensures { EndsMade (solved (settings_seen settings)) (poker cards) (sink_call O.written O.faults out.old out.new) result }
 {

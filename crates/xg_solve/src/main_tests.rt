@@ -107,10 +107,10 @@ fn words_are_taken_as_they_are_given(rt: HostRuntime) -> Result<(), Fail> {
         files.add(name, ONE_LEAF.as_bytes())?;
         let mut out = MemSink::new(alloc, 1_000, &[])?;
         let mut err = MemSink::new(alloc, 1_000, &[])?;
-        let told = run(
+        let answered = run(
             &rt, alloc, &words, &mut files, &mut out, &mut err, &OpenGate,
         );
-        assert_eq!(rt; told, status, "of {given:?} and {name:?}");
+        assert_eq!(rt; answered, status, "of {given:?} and {name:?}");
     }
     Ok(())
 }

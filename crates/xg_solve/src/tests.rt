@@ -350,7 +350,7 @@ fn texts_and_faults(rt: HostRuntime) -> Result<(), Fail> {
 }
 
 #[test]
-fn what_is_told_of_games(rt: HostRuntime) -> Result<(), Fail> {
+fn what_info_prints_of_games(rt: HostRuntime) -> Result<(), Fail> {
     let alloc = rt.alloc();
     let rows: [(&str, u8, &str, &str); 4] = [
         (PENNIES, 0, PENNIES_INFO, ""),

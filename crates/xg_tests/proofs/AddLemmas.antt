@@ -26,34 +26,34 @@ leaf_more : (player : Player) (z : Leaf) (zs : List Leaf) (against : List ℕ) (
 leaf_more player z zs against s = sum_more (paid_at_leaf player against) (λ y. eqb (leaf_sequence player y) s) z zs
 
 -- what was there, with what is left to add
-abbrev pub IsLeft : (ℕ → ℤ) → (ℕ → ℤ) → (ℕ → ℤ) → Type 0
-IsLeft rows left whole = (s : ℕ) → rows s +ℤ left s ≡ whole s
+abbrev pub AddsUpTo : (ℕ → ℤ) → (ℕ → ℤ) → (ℕ → ℤ) → Type 0
+AddsUpTo rows left whole = (s : ℕ) → rows s +ℤ left s ≡ whole s
 
 added : (before now left next term whole : ℤ) → before +ℤ left ≡ whole → now ≡ before +ℤ term → left ≡ term +ℤ next
     → now +ℤ next ≡ whole
 added before now left next term whole h n l =
     ap (λ x. x +ℤ next) n ∙ +ℤ_assoc before term next ∙ ap (λ x. before +ℤ x) (sym l) ∙ h
 
--- the element that a place is told to have
-pub told : {X : Type 0} (xs : List X) (i : ℕ) (x d : X) → slice_get xs (i + 1 - 1) ≡ Some x → get_or xs i d ≡ x
-told xs i x d e = let same : i + 1 - 1 ≡ i = omega arith in get_or_from_slice_get xs i x d (ap (slice_get xs) (sym same) ∙ e)
+-- the element that a place has
+pub there_is : {X : Type 0} (xs : List X) (i : ℕ) (x d : X) → slice_get xs (i + 1 - 1) ≡ Some x → get_or xs i d ≡ x
+there_is xs i x d e = let same : i + 1 - 1 ≡ i = omega arith in get_or_from_slice_get xs i x d (ap (slice_get xs) (sym same) ∙ e)
 
 -- where a leaf's part is added at its sequence, the rows and what the leaves behind it add still make the whole
 pub leaf_step : (player : Player) (against : List ℕ) (before now : List ℤ) (leaves : List Leaf) (i : ℕ) (z : Leaf)
     (whole : ℕ → ℤ)
     → i < length leaves → slice_get leaves (i + 1 - 1) ≡ Some z
-    → IsLeft (row before) (leaf_sum player (drop i leaves) against) whole
+    → AddsUpTo (row before) (leaf_sum player (drop i leaves) against) whole
     → AddsAt before now (leaf_sequence player z) (paid_at_leaf player against z)
-    → IsLeft (row now) (leaf_sum player (drop (i + 1) leaves) against) whole
+    → AddsUpTo (row now) (leaf_sum player (drop (i + 1) leaves) against) whole
 leaf_step player against before now leaves i z whole low is h a s =
     let more : leaf_sum player (drop i leaves) against s
     ≡ cond (eqb (leaf_sequence player z) s) (paid_at_leaf player against z) (pos 0) +ℤ leaf_sum player (drop (i + 1) leaves) against s =
-    ap (λ zs. leaf_sum player zs against s) (drop_more leaves i z low ∙ ap (λ y. y ∷ drop (i + 1) leaves) (told leaves i z z is))
+    ap (λ zs. leaf_sum player zs against s) (drop_more leaves i z low ∙ ap (λ y. y ∷ drop (i + 1) leaves) (there_is leaves i z z is))
     ∙ leaf_more player z (drop (i + 1) leaves) against s in
     added (row before s) (row now s) _ _ _ (whole s) (h s) (a s) more
 
 pub no_leaf_left : (player : Player) (against : List ℕ) (rows : List ℤ) (leaves : List Leaf) (i : ℕ) (whole : ℕ → ℤ)
-    → length leaves ≤ i → IsLeft (row rows) (leaf_sum player (drop i leaves) against) whole → (s : ℕ)
+    → length leaves ≤ i → AddsUpTo (row rows) (leaf_sum player (drop i leaves) against) whole → (s : ℕ)
     → row rows s ≡ whole s
 no_leaf_left player against rows leaves i whole le h s =
     sym (+ℤ-zero (row rows s)) ∙ ap (λ zs. row rows s +ℤ leaf_sum player zs against s) (sym (drop_all i leaves le)) ∙ h s
@@ -63,7 +63,7 @@ pub leaf_there : (form : SequenceForm) (player : Player) (i : ℕ) (z : Leaf) �
     → i < length form.leaves → slice_get form.leaves (i + 1 - 1) ≡ Some z
     → leaf_sequence player z < sequence_count (player_sets form player)
 leaf_there form player i z all low is =
-    sequence_there form player z (subst (HasSequences form) (told form.leaves i z z is) (All-get_or (HasSequences form) form.leaves i z low all))
+    sequence_there form player z (subst (HasSequences form) (there_is form.leaves i z z is) (All-get_or (HasSequences form) form.leaves i z low all))
 
 term_size : (t : Bool) (x : ℤ) (most : ℕ) → unsigned_abs x ≤ most → unsigned_abs (cond t x (pos 0)) ≤ most
 term_size true x most h = h
@@ -77,7 +77,7 @@ within_step before now k x most more h a small s =
     omega (arith, ap unsigned_abs (a s), unsigned_abs-+ℤ (row before s) (cond (eqb k s) x (pos 0)), h s, term_size (eqb k s) x more small)
 
 -- ---- values
--- the set that a place is told to have
+-- the set that a place has
 pub set_there : (hs : List PlacedSet) (k : ℕ) (h : PlacedSet) → ((d : PlacedSet) → get_or hs (k + 1 - 1) d ≡ h)
     → get_or hs k h ≡ h
 set_there hs k h is = let same : k + 1 - 1 ≡ k = omega arith in ap (λ i. get_or hs i h) (sym same) ∙ is h
@@ -90,8 +90,8 @@ values_more p ps v vs s =
 -- where a set's value is added at the sequence before it, the rows and the later sets' values still make the whole
 pub value_step : (before now : List ℤ) (hs : List PlacedSet) (vs : List ℤ) (k : ℕ) (h : PlacedSet) (whole : ℕ → ℤ)
     → k < length hs → k < length vs → get_or hs k h ≡ h
-    → IsLeft (row before) (values_after (drop k hs) (drop k vs)) whole → AddsAt before now h.before (row vs k)
-    → IsLeft (row now) (values_after (drop (k + 1) hs) (drop (k + 1) vs)) whole
+    → AddsUpTo (row before) (values_after (drop k hs) (drop k vs)) whole → AddsAt before now h.before (row vs k)
+    → AddsUpTo (row now) (values_after (drop (k + 1) hs) (drop (k + 1) vs)) whole
 value_step before now hs vs k h whole low low' is p a s =
     let more : values_after (drop k hs) (drop k vs) s
     ≡ cond (eqb h.before s) (row vs k) (pos 0) +ℤ values_after (drop (k + 1) hs) (drop (k + 1) vs) s =
@@ -102,7 +102,7 @@ value_step before now hs vs k h whole low low' is p a s =
 
 -- where no set is left, the rows alone are the whole
 pub no_value_left : (rows : List ℤ) (hs : List PlacedSet) (vs : List ℤ) (k : ℕ) (whole : ℕ → ℤ) → length hs ≤ k
-    → IsLeft (row rows) (values_after (drop k hs) (drop k vs)) whole → (s : ℕ) → row rows s ≡ whole s
+    → AddsUpTo (row rows) (values_after (drop k hs) (drop k vs)) whole → (s : ℕ) → row rows s ≡ whole s
 no_value_left rows hs vs k whole le h s =
     sym (+ℤ-zero (row rows s)) ∙ ap (λ ys. row rows s +ℤ values_after ys (drop k vs) s) (sym (drop_all k hs le)) ∙ h s
 

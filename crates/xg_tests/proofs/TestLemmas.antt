@@ -13,6 +13,7 @@ use Rattle.def_cert_verdict.specs.declared.fault.TestFault.{TestFault}
 use Rattle.def_cert_verdict.specs.declared.fault.TestFault.TheVariants.{ReplyNotTight, TotalDiffers, ValueTooGood}
 use Rattle.def_cert_verdict.specs.Verdict.{action_test, end_shown_by, first_failing, is_better, is_same_fraction, reply_tests, set_tests, unless, whole_reply_tests}
 use Rattle.xg_plan.specs.Reply.{set_replies}
+use Rattle.xg_plan.proofs.ReplyLemmas.{values-set_replies}
 use Rattle.xg_tests.specs.Views.{printed_reply, row}
 
 -- ---- lists of tests
@@ -141,13 +142,6 @@ set_passes player rows hs rs k h r found low low' is is' e none =
     ap first_failing (next_set player rows hs rs k h r low low' is is')
     ∙ front_passes found (tests_at player rows k h r) (tests_from player rows (k + 1 + 1) (drop (k + 1) hs) (drop (k + 1) rs)) e none
 
--- ---- replies by their values and choices
--- as many values as choices make as many replies
-pub replies_count : (vs : List ℤ) (cs : List ℕ) → length vs ≡ length cs → length (set_replies vs cs) ≡ length vs
-replies_count [] cs e = refl
-replies_count (v ∷ vs) [] e = absurd (omega arith)
-replies_count (v ∷ vs) (c ∷ cs) e = ap suc (replies_count vs cs (omega arith))
-
 -- the reply at a place is the value and the choice at this place
 pub reply_there : (vs : List ℤ) (cs : List ℕ) (k : ℕ) (d : SetReply) → length vs ≡ length cs → k < length vs
     → get_or (set_replies vs cs) k d ≡ record { value = get_or vs k (pos 0); choice = get_or cs k 0 }
@@ -155,11 +149,6 @@ reply_there [] cs k d e low = absurd (omega arith)
 reply_there (v ∷ vs) [] k d e low = absurd (omega arith)
 reply_there (v ∷ vs) (c ∷ cs) zero d e low = refl
 reply_there (v ∷ vs) (c ∷ cs) (suc k) d e low = reply_there vs cs k d (omega arith) (omega arith)
-
-pub values_are : (vs : List ℤ) (cs : List ℕ) → length vs ≡ length cs → values_of (set_replies vs cs) ≡ vs
-values_are [] cs e = refl
-values_are (v ∷ vs) [] e = absurd (omega arith)
-values_are (v ∷ vs) (c ∷ cs) e = ap (λ ws. v ∷ ws) (values_are vs cs (omega arith))
 
 -- the replies of these values and choices
 pub replies_again : (rs : List SetReply) → set_replies (values_of rs) (choices_of rs) ≡ rs
@@ -182,7 +171,7 @@ pub by_rows : (player : Player) (sums : ℕ → ℤ) (sets : List InformationSet
     ≡ first_failing (sets_part player (row rows) sets vs cs ++ total_part player (row rows) total traced bound scale)
 by_rows player sums sets vs cs total traced bound scale rows equal whole =
     ap (λ (w : ℕ → ℤ). first_failing (sets_part player w sets vs cs ++ total_part player w total traced bound scale))
-    (ap (worth sums (placed sets)) (values_are vs cs equal) ∙ sym whole)
+    (ap (worth sums (placed sets)) (values-set_replies vs cs (sym equal)) ∙ sym whole)
 
 -- the first fault of a single test is what this test finds
 pub one_test : (x : Option TestFault) → first_failing (x ∷ []) ≡ x

@@ -5,6 +5,7 @@ ghost use Rattle.def_sums.specs.Limits.{most_root};
 ghost use Rattle.def_tree.specs.Opponent.{opponent};
 ghost use Rattle.def_plan.specs.Form.{AreInOrder, leaf_sequence, placed, player_sets, sequence_count};
 ghost use Rattle.def_plan.specs.Payoff.{leaf_sum, values_after};
+ghost use Rattle.def_cert_ranges.specs.Ranges.{most_printed};
 ghost use Rattle.xg_seq.specs.Leaves.{leaf_of};
 ghost use Rattle.xg_seq.specs.Table.{most_sequences};
 ghost use Rattle.xg_tests.specs.Views.{AddsAt, AreAllWithin, paid_at_leaf, row};
@@ -88,7 +89,7 @@ pub(crate) fn add_leaves(form: &SeqForm, player: Player, against: &[u64], rows: 
 fn add_value(before: u32, values: &[i128], k: usize, rows: &mut [i128])
     requires there { before < length rows.old }
     requires value_there { k < length values.now }
-    requires value { unsigned_abs (row values.now k) ≤ 2 ^ 100 }
+    requires value { unsigned_abs (row values.now k) ≤ most_printed }
     requires room { AreAllWithin (2 ^ 125) rows.old }
     ensures added { AddsAt rows.old rows.new before (row values.now k) }
     ensures same_length { length rows.new ≡ length rows.old }
@@ -99,7 +100,7 @@ fn add_value(before: u32, values: &[i128], k: usize, rows: &mut [i128])
 /// Adds the printed values to the rows of the sequences before their sets.
 pub(crate) fn add_values(form: &SeqForm, player: Player, values: &[i128], rows: &mut [i128])
     requires as_many { length values.now ≡ length (player_sets form.now player) }
-    requires values { All (λ v. unsigned_abs v ≤ 2 ^ 100) values.now }
+    requires values { All (λ v. unsigned_abs v ≤ most_printed) values.now }
     requires order { AreInOrder (player_sets form.now player) }
     requires limit { sequence_count (player_sets form.now player) ≤ most_sequences }
     requires rows { length rows.old ≡ sequence_count (player_sets form.now player) }

@@ -1,9 +1,10 @@
 //! All tests of a reply.
-ghost use Rattle.std.specs.Prelude.{◌≡◌, ℕ, ◌^◌, ◌≤◌, ◌≤ℤ◌, All, IfOk, length, pos, slice_index, unsigned_abs};
+ghost use Rattle.std.specs.Prelude.{◌≡◌, ℕ, ◌≤◌, ◌≤ℤ◌, All, IfOk, length, pos, slice_index, unsigned_abs};
 ghost use Rattle.def_sums.specs.Limits.{most_root};
 ghost use Rattle.def_tree.specs.Opponent.{opponent};
 ghost use Rattle.def_plan.specs.Form.{AreInOrder, player_sets, sequence_count};
 ghost use Rattle.def_plan.specs.Payoff.{leaf_sum};
+ghost use Rattle.def_cert_ranges.specs.Ranges.{most_printed};
 ghost use Rattle.def_cert_verdict.specs.Verdict.{first_failing, whole_reply_tests};
 ghost use Rattle.xg_frac.specs.Wide.{most_wide};
 ghost use Rattle.xg_tests.specs.Views.{AreAllWithin, printed_reply};
@@ -35,7 +36,7 @@ pub fn reply_fault(
     requires numbers { (s : ℕ) → slice_index against.now s ≤ most_root }
     requires values { length values.now ≡ length (player_sets form.now player) }
     requires choices { length choices.now ≡ length (player_sets form.now player) }
-    requires small { All (λ v. unsigned_abs v ≤ 2 ^ 100) values.now }
+    requires small { All (λ v. unsigned_abs v ≤ most_printed) values.now }
     requires total { unsigned_abs end.total ≤ most_wide }
     requires from_one { pos 1 ≤ℤ end.scale }
     requires scale { unsigned_abs end.scale ≤ most_wide }
@@ -61,7 +62,7 @@ fn fault_by_rows(
     requires numbers { (s : ℕ) → slice_index against.now s ≤ most_root }
     requires values { length values.now ≡ length (player_sets form.now player) }
     requires choices { length choices.now ≡ length (player_sets form.now player) }
-    requires small { All (λ v. unsigned_abs v ≤ 2 ^ 100) values.now }
+    requires small { All (λ v. unsigned_abs v ≤ most_printed) values.now }
     requires total { unsigned_abs end.total ≤ most_wide }
     requires from_one { pos 1 ≤ℤ end.scale }
     requires scale { unsigned_abs end.scale ≤ most_wide }

@@ -1,5 +1,6 @@
 ghost use Rattle.std.specs.Prelude.{◌≡◌, ◌+◌, ◌^◌, ◌<◌, ◌≤◌, [], length, pos, slice_index, unsigned_abs, ◌+ℤ◌, ◌*ℤ◌};
 ghost use Rattle.std.specs.List.Sorted.{IsStrictlyIncreasing};
+ghost use Rattle.def_sums.specs.Limits.{past_number};
 ghost use Rattle.xg_rowcore.specs.Packets.{entry_in, with_added};
 ghost use Rattle.xg_touched.specs.Filling.{entries_at_rows};
 
@@ -27,8 +28,8 @@ pub(crate) fn put_rows(rows: &[u32], into: &mut Packet)
 pub(crate) fn add_leaf(leaf: Leaf, places: LeafPlaces, one: &[u64], two: &[u64], into: &mut Packet)
     requires known_one { leaf.seq1 < length one.now }
     requires known_two { leaf.seq2 < length two.now }
-    requires small_one { slice_index one.now leaf.seq1 < 2 ^ 62 }
-    requires small_two { slice_index two.now leaf.seq2 < 2 ^ 62 }
+    requires small_one { slice_index one.now leaf.seq1 < past_number }
+    requires small_two { slice_index two.now leaf.seq2 < past_number }
     requires there_one { places.one < length into.old.entries.list }
     requires there_two { places.two < length into.old.entries.list }
     requires fits_one { let more = leaf.w *ℤ pos (slice_index two.now leaf.seq2) in
@@ -49,7 +50,7 @@ pub(crate) fn add_leaf(leaf: Leaf, places: LeafPlaces, one: &[u64], two: &[u64],
 }
 
 fn times(w: i64, n: u64) -> i128
-    requires { n < 2 ^ 62 }
+    requires { n < past_number }
     ensures { result ≡ w *ℤ pos n }
 {
     // a product of two signed words is one instruction

@@ -12,7 +12,8 @@ use Rattle.def_tree.proofs.Lists.{trees_of}
 use Rattle.xg_tree.specs.Kept.{IsKeptTree}
 use Rattle.xg_tree.specs.Visits.{row_at, row_events, row_end, HasTreesAt}
 
-module _ {V : Type 0} (may_enter : V → ℕ → Node → Type 0) (enters : V → ℕ → Node → V → Type 0) (may_leave : V → ℕ → Type 0) (leaves : V → ℕ → V → Type 0) where
+module _ {V : Type 0} (may_enter : V → ℕ → Node → Type 0) (enters : V → ℕ → Node → V → Type 0)
+    (may_leave : V → ℕ → Type 0) (leaves : V → ℕ → V → Type 0) where
   -- of a walk that began at `start`, these steps are still to come, and the visitor is `now`
   pub record IsGoing (whole : List Event) (start : V) (rest : List Event) (now : V) : Type 0 where
     pub accepts : Accepts may_enter enters may_leave leaves rest now
@@ -157,7 +158,8 @@ trees_of_kept nodes ended kept =
     let trees : (tree_count (forest_of nodes) ≡ 1) × HasItsChildren (forest_of nodes) = trees_of 1 nodes kept.whole.begins kept.whole.ends in
     record { limit = kept.limit; some = omega (arith, trees.0); children = trees.1 }
 
-module _ {V : Type 0} (may_enter : V → ℕ → Node → Type 0) (enters : V → ℕ → Node → V → Type 0) (may_leave : V → ℕ → Type 0) (leaves : V → ℕ → V → Type 0) where
+module _ {V : Type 0} (may_enter : V → ℕ → Node → Type 0) (enters : V → ℕ → Node → V → Type 0)
+    (may_leave : V → ℕ → Type 0) (leaves : V → ℕ → V → Type 0) where
   -- the walk through the tree at `at` began at `start`;
   -- so many of its root's children are left, from `next` on, and the visitor is `now`
   pub record IsAmongChildren (nodes : List Node) (at : ℕ) (start : V) (left next : ℕ) (now : V) : Type 0 where

@@ -1,4 +1,4 @@
-use Rattle.def_file_fault.proofs.Stopped.{fault_first}
+use Rattle.def_file_fault.proofs.ReportedFaultIsFirst.{fault_first}
 use Rattle.def_file_fault.proofs.file_fault_is_first.Goals as goal
 
 pub returns : goal.returns

@@ -1,4 +1,4 @@
-use Rattle.def_file_fault.proofs.Reached.{first_faulted}
+use Rattle.def_file_fault.proofs.FirstFaultIsReported.{first_faulted}
 use Rattle.def_file_fault.proofs.first_is_file_fault.Goals as goal
 
 pub returns : goal.returns

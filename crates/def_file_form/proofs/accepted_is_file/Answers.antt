@@ -1,4 +1,4 @@
-use Rattle.def_file_form.proofs.Whole.{game_read}
+use Rattle.def_file_form.proofs.FileReadingIsExact.{game_read}
 use Rattle.def_file_form.proofs.accepted_is_file.Goals as goal
 
 pub returns : goal.returns

@@ -1,4 +1,4 @@
-use Rattle.def_file_form.proofs.Once.{one_reading}
+use Rattle.def_file_form.proofs.AtMostOneReading.{one_reading}
 use Rattle.def_file_form.proofs.one_reading.Goals as goal
 
 pub returns : goal.returns

@@ -1,4 +1,4 @@
-use Rattle.def_game_paths.proofs.Ways.{paths_are_depths as proved}
+use Rattle.def_game_paths.proofs.PathsToNodes.{paths_are_depths as proved}
 use Rattle.def_game_paths.proofs.paths_are_depths.Goals as goal
 
 pub returns : goal.returns

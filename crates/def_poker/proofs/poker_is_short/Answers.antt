@@ -1,4 +1,4 @@
-use Rattle.def_poker.proofs.Short.{poker_is_short}
+use Rattle.def_poker.proofs.PokerFileIsShort.{poker_is_short}
 use Rattle.def_poker.proofs.poker_is_short.Goals as goal
 
 pub returns : goal.returns

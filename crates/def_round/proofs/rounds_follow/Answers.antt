@@ -1,4 +1,4 @@
-use Rattle.def_round.proofs.Following.{rounds_follow}
+use Rattle.def_round.proofs.EachRoundFollows.{rounds_follow}
 use Rattle.def_round.proofs.rounds_follow.Goals as goal
 
 pub returns : goal.returns

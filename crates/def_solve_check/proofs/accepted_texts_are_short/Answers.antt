@@ -1,4 +1,4 @@
-use Rattle.def_solve_check.proofs.Short.{accepted_short}
+use Rattle.def_solve_check.proofs.CertificatesAreShort.{accepted_short}
 use Rattle.def_solve_check.proofs.accepted_texts_are_short.Goals as goal
 
 pub returns : goal.returns

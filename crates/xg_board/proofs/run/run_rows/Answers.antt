@@ -1,4 +1,4 @@
-use Rattle.xg_board.proofs.Named.{amounts_stay}
+use Rattle.xg_board.proofs.SmallAmountsStay.{amounts_stay}
 use Rattle.xg_board.proofs.run.run_rows.Goals as goal
 
 pub run_named-requires-clause-amount : goal.run_named-requires-clause-amount

@@ -1,4 +1,4 @@
-use Rattle.xg_board.proofs.Named.{amounts_stay}
+use Rattle.xg_board.proofs.SmallAmountsStay.{amounts_stay}
 use Rattle.xg_board.proofs.tests.made_by_one_pass.Goals as goal
 
 pub add_by_one_pass-requires-clause-amount : goal.add_by_one_pass-requires-clause-amount

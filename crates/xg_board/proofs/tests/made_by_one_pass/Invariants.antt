@@ -1,7 +1,7 @@
 use Rattle.std.proofs.Common.{length}
 use Rattle.def_rows.specs.Rows.{row_count}
 use Rattle.xg_board.specs.Running.{job_amounts, tested}
-use Rattle.xg_board.proofs.Named.{tested_small}
+use Rattle.xg_board.proofs.SmallAmountsStay.{tested_small}
 use Rattle.xg_board.proofs.tests.made_by_one_pass.Given as goal
 
 abbrev pub ghosts-add_by_one_pass : goal.ghosts-add_by_one_pass

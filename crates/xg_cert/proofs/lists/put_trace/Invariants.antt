@@ -3,7 +3,7 @@ use Rattle.def_cert_text.specs.Fields.{items_text}
 use Rattle.def_cert_text.specs.Formats.{each_items}
 use Rattle.def_cert_text.specs.CertText.{line_of_round}
 use Rattle.xg_cert.specs.Outcome.{trace_of}
-use Rattle.xg_io.proofs.Known.{Progress}
+use Rattle.xg_io.proofs.KnownBytesInPieces.{Progress}
 use Rattle.xg_cert.proofs.lists.put_trace.Given as goal
 
 abbrev pub invariant-rows : goal.invariant-rows

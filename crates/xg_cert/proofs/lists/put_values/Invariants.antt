@@ -2,7 +2,7 @@ use Rattle.std.proofs.Common.{◌≡◌, ◌+◌, drop}
 use Rattle.def_cert_text.specs.Fields.{items_text}
 use Rattle.def_cert_text.specs.Formats.{each_items}
 use Rattle.def_cert_text.specs.CertText.{value_line}
-use Rattle.xg_io.proofs.Known.{Progress}
+use Rattle.xg_io.proofs.KnownBytesInPieces.{Progress}
 use Rattle.xg_cert.proofs.lists.put_values.Given as goal
 
 abbrev pub invariant-sets : goal.invariant-sets

@@ -6,7 +6,7 @@ use Rattle.def_cert_accepted.specs.OfOutcome.{by_sets}
 use Rattle.def_cert_text.specs.Fields.{items_text}
 use Rattle.def_cert_text.specs.Formats.{each_items, text_of}
 use Rattle.def_cert_text.specs.CertText.{weights_line}
-use Rattle.xg_io.proofs.Known.{Progress, whole}
+use Rattle.xg_io.proofs.KnownBytesInPieces.{Progress, whole}
 use Rattle.xg_io.proofs.Pieces.{goes_on, fails}
 use Rattle.xg_cert.proofs.SetLines.{next_set, no_set_left}
 use Rattle.xg_cert.proofs.lists.put_weights.Goals as goal

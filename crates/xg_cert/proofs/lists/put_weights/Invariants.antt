@@ -5,7 +5,7 @@ use Rattle.def_cert_accepted.specs.OfOutcome.{by_sets}
 use Rattle.def_cert_text.specs.Fields.{items_text}
 use Rattle.def_cert_text.specs.Formats.{each_items}
 use Rattle.def_cert_text.specs.CertText.{weights_line}
-use Rattle.xg_io.proofs.Known.{Progress}
+use Rattle.xg_io.proofs.KnownBytesInPieces.{Progress}
 use Rattle.xg_cert.proofs.lists.put_weights.Given as goal
 
 abbrev pub invariant-sets : goal.invariant-sets

@@ -1,5 +1,5 @@
 use Rattle.def_cert_text.proofs.TextLaws.{first_fault, reading}
-use Rattle.xg_cert.proofs.Answered.{answer_faults, answer_first, answer_only, answer_text}
+use Rattle.xg_cert.proofs.CertificateAnswerLaws.{answer_faults, answer_first, answer_only, answer_text}
 use Rattle.xg_cert.proofs.reading.read_cert.Goals as goal
 
 pub returns-clause-text : goal.returns-clause-text

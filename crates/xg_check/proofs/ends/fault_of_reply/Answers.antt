@@ -6,7 +6,7 @@ use Rattle.def_cert_verdict.specs.Certificate.{printed_numbers}
 use Rattle.xg_cert.specs.Printed.{bounds_in, plan_in, reply_in, set_count_in}
 use Rattle.xg_check.proofs.PlanTests.{numbers_small}
 use Rattle.xg_check.proofs.ReplyTests.{bounds_fit, plan_fits, reply_fits, same_tests, values_small}
-use Rattle.xg_check.proofs.Stages.{if_ok_same}
+use Rattle.xg_check.proofs.FirstFailingStage.{if_ok_same}
 use Rattle.xg_check.proofs.ends.fault_of_reply.Goals as goal
 
 pub reply_fault-requires-clause-numbers : goal.reply_fault-requires-clause-numbers

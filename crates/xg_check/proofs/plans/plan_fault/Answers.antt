@@ -2,7 +2,7 @@ use Rattle.std.proofs.Common.{length, ap, sym, ◌∙◌}
 use Rattle.def_plan.specs.Form.{player_sets}
 use Rattle.xg_cert.specs.Printed.{bounds_in, plan_in}
 use Rattle.xg_check.proofs.PlanTests.{has_each_sequence}
-use Rattle.xg_check.proofs.Stages.{no_value}
+use Rattle.xg_check.proofs.FirstFailingStage.{no_value}
 use Rattle.xg_check.proofs.plans.plan_fault.Goals as goal
 
 pub first_not_adding-not_adding-requires-clause-all_sequences : goal.first_not_adding-not_adding-requires-clause-all_sequences

@@ -5,7 +5,7 @@ use Rattle.def_plan.specs.Form.{InformationSet, PlacedSet, placed, player_sets, 
 use Rattle.def_round.specs.Play.{regret_of}
 use Rattle.def_round.specs.Round.{regrets_after, set_value}
 use Rattle.xg_closer.specs.Places.{placed_as}
-use Rattle.xg_closer.proofs.AtSet.{KeepsWorths, SetStep, first_worths, set_step}
+use Rattle.xg_closer.proofs.WorthsSetBySet.{KeepsWorths, SetStep, first_worths, set_step}
 use Rattle.xg_closer.proofs.Sets.{IsAt, is_at, start_of, units_at}
 use Rattle.xg_closer.proofs.SetValues.{regrets_count}
 use Rattle.xg_closer.proofs.closing.close_sets.Goals as goal

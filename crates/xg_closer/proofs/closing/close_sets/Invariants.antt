@@ -2,7 +2,7 @@ use Rattle.std.proofs.Common.{◌≡◌, ℕ, ◌<◌, ◌≤◌, length, map}
 use Rattle.def_plan.specs.Form.{player_sets}
 use Rattle.def_round.specs.Play.{regret_of}
 use Rattle.def_round.specs.Round.{regrets_after}
-use Rattle.xg_closer.proofs.AtSet.{KeepsWorths}
+use Rattle.xg_closer.proofs.WorthsSetBySet.{KeepsWorths}
 use Rattle.xg_closer.proofs.Sets.{start_of}
 use Rattle.xg_closer.proofs.closing.close_sets.Given as goal
 use Rattle.def_rows.specs.Rows.{amount_of}

@@ -17,8 +17,8 @@ own_row-requires c =
     let row_is : to_z w128 (of_z w128 row) ≡ row = to_z-of_z w128 row fits in
     let fits_small : FitsSigned w64 c.in-Some.row = search rules in
     let small_is : to_z w64 (of_z w64 c.in-Some.row) ≡ c.in-Some.row = to_z-of_z w64 c.in-Some.row fits_small in
-    let told = c.in-Some.ensures in
-    omega (arith, ap unsigned_abs (small_is ∙ told.0), told.1, c.loop-i.invariant.1)
+    let known = c.in-Some.ensures in
+    omega (arith, ap unsigned_abs (small_is ∙ known.0), known.1, c.loop-i.invariant.1)
 
 pub loop-i-preserved : goal.loop-i-preserved
 loop-i-preserved c =
@@ -29,14 +29,14 @@ loop-i-preserved c =
     let row_is : to_z w128 (of_z w128 row) ≡ row = to_z-of_z w128 row fits in
     let fits_small : FitsSigned w64 c.in-Some.row = search rules in
     let small_is : to_z w64 (of_z w64 c.in-Some.row) ≡ c.in-Some.row = to_z-of_z w64 c.in-Some.row fits_small in
-    let told = c.in-Some.ensures in
-    let taken : to_z w64 (of_z w64 c.in-Some.row) ≡ row = small_is ∙ told.0 ∙ row_is in
+    let known = c.in-Some.ensures in
+    let taken : to_z w64 (of_z w64 c.in-Some.row) ≡ row = small_is ∙ known.0 ∙ row_is in
     let fits_own : FitsSigned w64 c.own_row.result = search rules in
     let own_is : to_z w64 (of_z w64 c.own_row.result) ≡ utility c.args.player row = to_z-of_z w64 c.own_row.result fits_own ∙ c.own_row.ensures ∙ ap (utility c.args.player) taken in
     let below : i < length rows = c.loop-i-test.true in
     let inside : i < length c.loop-i.worths = omega (arith, c.loop-i.invariant.0, c.requires.as_many) in (
       length-set c.loop-i.worths i (to_z w64 (of_z w64 c.own_row.result)) ∙ c.loop-i.invariant.0,
-      omega (arith, ap (nat_sum_over unsigned_abs) (take_more rows i (pos 0) below), nat_sum_over-append unsigned_abs (take i rows) (get_or rows i (pos 0) ∷ []), ap unsigned_abs taken, ap unsigned_abs row_is, c.unsigned_abs-room.ensures.value, told.1, c.loop-i.invariant.1),
+      omega (arith, ap (nat_sum_over unsigned_abs) (take_more rows i (pos 0) below), nat_sum_over-append unsigned_abs (take i rows) (get_or rows i (pos 0) ∷ []), ap unsigned_abs taken, ap unsigned_abs row_is, c.unsigned_abs-room.ensures.value, known.1, c.loop-i.invariant.1),
       λ s low.
           ⊎_elim
           (λ here. rw here (get_or-set_same c.loop-i.worths i (to_z w64 (of_z w64 c.own_row.result)) (pos 0) inside ∙ own_is))

@@ -24,7 +24,7 @@ overflow_add-sum_so_far c =
     let one : OneMore units ws c.loop-i.i (c.loop-i.sum_so_far + c.part_of-part.result) c.args.sum =
     one_more units ws c.loop-i.i c.loop-i.sum_so_far c.part_of-part.result c.args.sum (omega (arith, length-positive_parts c.args.regrets.now h)) c.requires.some
     (c.requires.whole ∙ parts_together c.args.regrets.now h) c.loop-i.invariant.0 (c.part_of-part.ensures ∙ part_at c.args.regrets.now h c.loop-i.i below) in
-    omega (arith, one.within, c.requires.small)
+    omega (arith, one.step.within, c.requires.small)
 
 pub next_given-next-requires-clause-within : goal.next_given-next-requires-clause-within
 next_given-next-requires-clause-within c =
@@ -34,7 +34,7 @@ next_given-next-requires-clause-within c =
     let one : OneMore units ws c.loop-i.i (c.loop-i.sum_so_far + c.part_of-part.result) c.args.sum =
     one_more units ws c.loop-i.i c.loop-i.sum_so_far c.part_of-part.result c.args.sum (omega (arith, length-positive_parts c.args.regrets.now h)) c.requires.some
     (c.requires.whole ∙ parts_together c.args.regrets.now h) c.loop-i.invariant.0 (c.part_of-part.ensures ∙ part_at c.args.regrets.now h c.loop-i.i below) in
-    one.within
+    one.step.within
 
 pub next_given-next-requires-clause-none : goal.next_given-next-requires-clause-none
 next_given-next-requires-clause-none c =
@@ -57,7 +57,7 @@ overflow_sub-next c =
     let one : OneMore units ws c.loop-i.i (c.loop-i.sum_so_far + c.part_of-part.result) c.args.sum =
     one_more units ws c.loop-i.i c.loop-i.sum_so_far c.part_of-part.result c.args.sum (omega (arith, length-positive_parts c.args.regrets.now h)) c.requires.some
     (c.requires.whole ∙ parts_together c.args.regrets.now h) c.loop-i.invariant.0 (c.part_of-part.ensures ∙ part_at c.args.regrets.now h c.loop-i.i below) in
-    omega (arith, one.grows, c.loop-i.invariant.1, c.next_given-next.ensures)
+    omega (arith, one.step.grows, c.loop-i.invariant.1, c.next_given-next.ensures)
 
 pub loop-i-preserved : goal.loop-i-preserved
 loop-i-preserved c =
@@ -69,8 +69,8 @@ loop-i-preserved c =
     (c.requires.whole ∙ parts_together c.args.regrets.now h) c.loop-i.invariant.0 (c.part_of-part.ensures ∙ part_at c.args.regrets.now h c.loop-i.i below) in
     let shares : List ℕ = set_play c.args.regrets.now h in
     let next : c.next_given-next.result ≡ units * (c.loop-i.sum_so_far + c.part_of-part.result) / c.args.sum = c.next_given-next.ensures in (
-      one.next,
-      next ∙ one.together,
+      one.step.next,
+      next ∙ one.step.share_next,
       subst (PlaysFirst h.first (c.loop-i.i + 1) shares c.args.play.now) (sym c.set.ensures)
           (plays_more h.first c.loop-i.i shares c.args.play.now c.loop-i.play (c.next_given-next.result - c.loop-i.given) c.loop-i.invariant.2
           (omega (arith, c.loop-i.invariant.2.count, c.requires.as_many, c.requires.inside)) (omega (arith, one.share, next, c.loop-i.invariant.1))),

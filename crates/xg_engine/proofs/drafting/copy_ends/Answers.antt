@@ -1,5 +1,5 @@
 use Rattle.std.proofs.Common.{◌∙◌, sym}
-use Rattle.xg_engine.proofs.Ending.{kept_plan, some_plan}
+use Rattle.xg_engine.proofs.BoardEndsFitForm.{kept_plan, some_plan}
 use Rattle.xg_engine.proofs.drafting.copy_ends.Goals as goal
 
 pub copy_end-lower-requires-clause-is_plan : goal.copy_end-lower-requires-clause-is_plan

@@ -1,6 +1,6 @@
 use Rattle.std.proofs.Common.{sym, subst}
 use Rattle.xg_engine.specs.Runs.{EndsFitForm}
-use Rattle.xg_engine.proofs.Ending.{board_fits}
+use Rattle.xg_engine.proofs.BoardEndsFitForm.{board_fits}
 use Rattle.xg_engine.proofs.running.finish.Goals as goal
 
 pub fill-outcome-requires-clause-ends : goal.fill-outcome-requires-clause-ends

@@ -1,5 +1,5 @@
 use Rattle.def_poker.specs.Poker.{hand}
-use Rattle.xg_gen.proofs.Taken.{adds_more, adds_then, takes_first, takes_more, takes_one, takes_then}
+use Rattle.xg_gen.proofs.EntriesTakenInPieces.{adds_more, adds_then, takes_first, takes_more, takes_one, takes_then}
 use Rattle.xg_gen.proofs.entries.put_hand.Goals as goal
 
 pub put_opening-requires-clause-takes : goal.put_opening-requires-clause-takes

@@ -1,5 +1,5 @@
 use Rattle.std.proofs.Common.{◌≡◌, ◌-◌, drop}
-use Rattle.xg_io.proofs.Known.{Progress}
+use Rattle.xg_io.proofs.KnownBytesInPieces.{Progress}
 use Rattle.def_file.specs.Content.{sets_of_kind}
 use Rattle.def_file.specs.Faults.{set_at}
 use Rattle.def_canon.specs.Canon.{action_pieces, each, text_of_pieces}

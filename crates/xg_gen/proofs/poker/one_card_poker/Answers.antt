@@ -1,6 +1,6 @@
 use Rattle.std.proofs.Common.{ap, ◌∙◌}
 use Rattle.xg_game.specs.Made.{Made}
-use Rattle.xg_gen.proofs.Whole.{new_takes, prologue_told, then_game, then_whole}
+use Rattle.xg_gen.proofs.PokerEntriesMakeGame.{new_takes, prologue_as_made, then_game, then_whole}
 use Rattle.xg_gen.proofs.poker.one_card_poker.Goals as goal
 
 pub put_entries-requires-clause-takes : goal.put_entries-requires-clause-takes
@@ -19,5 +19,5 @@ pub returns : goal.returns
 returns c =
     c.finish.ensures
     ∙ then_game c.args.n c.new-maker.result c.put_entries.new.maker (ap (λ (m : Made). m.contents) c.new-maker.ensures)
-    (ap (λ (m : Made). m.prologue) c.new-maker.ensures ∙ prologue_told c.args.n _ _ _ _ c.in_ok-title.ensures c.in_ok-one.ensures c.in_ok-two.ensures c.in_ok-comment.ensures)
+    (ap (λ (m : Made). m.prologue) c.new-maker.ensures ∙ prologue_as_made c.args.n _ _ _ _ c.in_ok-title.ensures c.in_ok-one.ensures c.in_ok-two.ensures c.in_ok-comment.ensures)
     c.in_ok-put_entries.ensures

@@ -1,7 +1,7 @@
 use Rattle.std.proofs.Common.{ap, arith}
 use Rattle.def_poker.specs.Poker.{hands, cards_without}
 use Rattle.xg_gen.proofs.Ranges.{all_cards, hands_next, hands_none}
-use Rattle.xg_gen.proofs.Taken.{all_taken, begin, goes_on, next_takes}
+use Rattle.xg_gen.proofs.EntriesTakenInPieces.{all_taken, begin, goes_on, next_takes}
 use Rattle.xg_gen.proofs.poker.put_hands.Goals as goal
 
 pub hands-init : goal.hands-init

@@ -2,7 +2,7 @@ use Rattle.std.proofs.Common.{List, subst, sym}
 use Rattle.def_file.specs.Content.{Record}
 use Rattle.xg_gen.specs.Taken.{GainsEntries, Takes}
 use Rattle.xg_gen.proofs.Ranges.{no_hand, one_hand}
-use Rattle.xg_gen.proofs.Taken.{adds_none}
+use Rattle.xg_gen.proofs.EntriesTakenInPieces.{adds_none}
 use Rattle.xg_gen.proofs.poker.put_other_hand.Goals as goal
 
 pub returns-then-i-j : goal.returns-then-i-j

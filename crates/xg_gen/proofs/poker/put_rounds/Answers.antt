@@ -1,7 +1,7 @@
 use Rattle.std.proofs.Common.{ap, arith}
 use Rattle.def_poker.specs.Poker.{rounds_with_cards}
 use Rattle.xg_gen.proofs.Ranges.{all_cards, rounds_next, rounds_none}
-use Rattle.xg_gen.proofs.Taken.{all_taken, begin, goes_on, next_takes}
+use Rattle.xg_gen.proofs.EntriesTakenInPieces.{all_taken, begin, goes_on, next_takes}
 use Rattle.xg_gen.proofs.poker.put_rounds.Goals as goal
 
 pub rounds-init : goal.rounds-init

@@ -1,4 +1,4 @@
-use Rattle.xg_gen.proofs.Plain.{plain_inside}
+use Rattle.xg_gen.proofs.PlainBytesStay.{plain_inside}
 use Rattle.xg_gen.proofs.texts.plain.Goals as goal
 
 pub unescape-requires : goal.unescape-requires

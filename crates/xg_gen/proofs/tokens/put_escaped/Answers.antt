@@ -1,7 +1,7 @@
 use Rattle.std.proofs.Common.{ℕ, ◌+◌, List, [], ◌∷◌, ◌++◌, ◌∙◌, length, take, sym, ap, subst, arith, length-drop, rules}
 use Rattle.std.proofs.lemmas.Slice.{between_to_end}
 use Rattle.def_file_tokens.specs.Texts.{escaped}
-use Rattle.xg_io.proofs.Known.{Progress}
+use Rattle.xg_io.proofs.KnownBytesInPieces.{Progress}
 use Rattle.def_outside.specs.Sinks.{Writes}
 use Rattle.xg_gen.proofs.Marks.{to_first_mark, no_mark}
 use Rattle.xg_io.proofs.Pieces.{fails, finishes, goes_on}

@@ -1,6 +1,6 @@
 use Rattle.std.proofs.Common.{◌≡◌, ◌≤◌, length}
 use Rattle.def_file_tokens.specs.Texts.{escaped}
-use Rattle.xg_io.proofs.Known.{Progress}
+use Rattle.xg_io.proofs.KnownBytesInPieces.{Progress}
 use Rattle.xg_gen.proofs.tokens.put_escaped.Given as goal
 
 abbrev pub invariant-marks : goal.invariant-marks

@@ -1,6 +1,6 @@
 use Rattle.std.proofs.Common.{◌≡◌, drop}
 use Rattle.std.specs.List.{zip}
-use Rattle.xg_io.proofs.Known.{Progress}
+use Rattle.xg_io.proofs.KnownBytesInPieces.{Progress}
 use Rattle.def_tree.specs.Tree.{prefix}
 use Rattle.def_canon.specs.Canon.{lines_pieces, text_of_pieces}
 use Rattle.xg_gen.proofs.writing.put_lines.Given as goal

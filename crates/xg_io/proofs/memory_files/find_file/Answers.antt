@@ -2,7 +2,7 @@ use Rattle.std.proofs.Common.{refl, nat_eq}
 use Rattle.std.specs.Cmp.Lexicographic.{pointwise}
 use Rattle.std.specs.Option.{option_map}
 use Rattle.xg_io.specs.declared.memory_files.Stored.{Stored}
-use Rattle.xg_io.proofs.Found.{absent, located, in_list}
+use Rattle.xg_io.proofs.FilesInMemory.{absent, located, in_list}
 use Rattle.xg_io.proofs.memory_files.find_file.Goals as goal
 
 pub returns-clause-found : goal.returns-clause-found

@@ -1,5 +1,5 @@
 use Rattle.std.proofs.Common.{◌∙◌}
-use Rattle.xg_io.proofs.Known.{go_on, a_front}
+use Rattle.xg_io.proofs.KnownBytesInPieces.{go_on, a_front}
 use Rattle.xg_io.proofs.writing.write_all.Goals as goal
 
 pub loop-rest-preserved : goal.loop-rest-preserved

@@ -1,5 +1,5 @@
 use Rattle.std.proofs.Common.{◌≡◌, length}
-use Rattle.xg_io.proofs.Known.{Progress}
+use Rattle.xg_io.proofs.KnownBytesInPieces.{Progress}
 use Rattle.xg_io.proofs.writing.write_all.Given as goal
 
 abbrev pub invariant-loop-rest : goal.invariant-loop-rest

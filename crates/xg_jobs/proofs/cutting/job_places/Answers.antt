@@ -3,7 +3,7 @@ use Rattle.std.proofs.lemmas.Bool.{not-true}
 use Rattle.def_game_jobs.specs.Jobs.{jobs_within, most_jobs, most_passes}
 use Rattle.def_tree.specs.Tree.{Forest}
 use Rattle.xg_jobs.specs.Cutting.{AreJobs}
-use Rattle.xg_jobs.proofs.Within.{whole_job, within_end, within_more}
+use Rattle.xg_jobs.proofs.JobsAfterPasses.{whole_job, within_end, within_more}
 use Rattle.xg_jobs.proofs.cutting.job_places.Goals as goal
 use Rattle.xg_jobs.proofs.cutting.job_places.Goals.{else-loop-test, then-loop-test+in_ok-after+then-not-after}
 

@@ -1,9 +1,9 @@
 use Rattle.std.proofs.Common.{◌≡◌, ℕ, ◌+◌, ◌-◌, ◌++◌, [], ◌∷◌, ◌&&◌, nat_le, length, length-append, get_or, false, true, sym, ap, subst, ◌∙◌, arith}
 use Rattle.std.proofs.lemmas.Bool.{and_parts}
-use Rattle.std.proofs.lemmas.List.{get_or_default}
+use Rattle.std.proofs.lemmas.List.{get_or_default, drop_more}
 use Rattle.def_game_jobs.specs.Jobs.{most_jobs}
 use Rattle.xg_jobs.specs.declared.tops.TopNode.{TopNode}
-use Rattle.xg_jobs.proofs.Passing.{PassSome, pass_cut, pass_kept, drop_one, fits_in, job_at, job_inside, jobs_counted, none_passed, tells_job}
+use Rattle.xg_jobs.proofs.OnePassOverJobs.{PassSome, pass_cut, pass_kept, fits_in, job_at, job_inside, jobs_counted, none_passed, tells_job}
 use Rattle.xg_jobs.proofs.cutting.make_pass.Goals as goal
 use Rattle.xg_jobs.proofs.cutting.make_pass.Goals.{then-is_cut+in_ok-push_trees, else-is_cut+in_ok-push}
 
@@ -42,7 +42,7 @@ loop-job-preserved c =
     let t : TopNode = get_or tops j none in
     let found = job_at tops jobs c.requires.jobs.0 k 0 c.requires.jobs.1 c.loop-job-test.true in
     let read : t ≡ get_or tops j t = get_or_default tops j none t (job_inside tops j found.0 found.1) in
-    let next = drop_one jobs k c.loop-job-test.true in
+    let next = drop_more jobs k 0 c.loop-job-test.true in
     elim c.if-is_cut.branch [
       | then-is_cut+in_ok-push_trees w ↦
           let test : (t.chance && nat_le (c.loop-job.count - 1 + t.children) most_jobs) ≡ true = sym c.is_cut.ensures ∙ w.if-is_cut.true in

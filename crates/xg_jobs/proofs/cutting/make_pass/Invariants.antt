@@ -2,7 +2,7 @@ use Rattle.std.proofs.Common.{◌≡◌, ◌+◌, ◌-◌, ◌≤◌, List, leng
 use Rattle.def_tree.specs.Tree.{Forest}
 use Rattle.def_game_jobs.specs.Jobs.{most_jobs}
 use Rattle.xg_jobs.specs.Cutting.{AreJobs}
-use Rattle.xg_jobs.proofs.Passing.{PassSome}
+use Rattle.xg_jobs.proofs.OnePassOverJobs.{PassSome}
 use Rattle.xg_jobs.proofs.cutting.make_pass.Given as goal
 
 abbrev pub invariant-loop-job : goal.invariant-loop-job

@@ -1,7 +1,7 @@
 use Rattle.std.proofs.Common.{◌≡◌, ◌<◌, ◌+◌, ◌++◌, ◌∷◌, [], ℕ, length, get_or, arith, sym, ap, subst, false, length-append}
 use Rattle.std.proofs.lemmas.List.{get_or_default}
 use Rattle.xg_jobs.specs.declared.tops.TopNode.{TopNode}
-use Rattle.xg_jobs.proofs.Standing.{PutSome, all_put, next_there, next_to_come, none_put, put_more}
+use Rattle.xg_jobs.proofs.TopNodesOfTrees.{PutSome, all_put, next_there, next_to_come, none_put, put_more}
 use Rattle.xg_jobs.proofs.cutting.push_trees.Goals as goal
 
 pub bounds-tops-place : goal.bounds-tops-place

@@ -1,7 +1,7 @@
 use Rattle.std.proofs.Common.{◌≡◌, ◌+◌, List, length}
 use Rattle.def_tree.specs.Tree.{Forest, tree_count}
 use Rattle.xg_jobs.specs.Cutting.{AreJobs, Stand}
-use Rattle.xg_jobs.proofs.Standing.{PutSome, SomeToCome}
+use Rattle.xg_jobs.proofs.TopNodesOfTrees.{PutSome, SomeToCome}
 use Rattle.xg_jobs.proofs.cutting.push_trees.Given as goal
 
 abbrev pub invariant-loop-put : goal.invariant-loop-put

@@ -1,5 +1,5 @@
 use Rattle.std.proofs.Common.{◌≤◌, ◌+◌, ℕ, length, get_or, refl, ap, sym, subst, ◌∙◌, arith}
-use Rattle.std.proofs.lemmas.List.{drop_all}
+use Rattle.std.proofs.lemmas.List.{drop_all, drop_more}
 use Rattle.def_game_jobs.specs.Jobs.{jobs_of}
 use Rattle.def_game_jobs.proofs.Cuts.{length-jobs_of}
 use Rattle.def_tree.specs.Tree.{prefix, leaf_count}
@@ -7,7 +7,7 @@ use Rattle.def_tree.specs.Rules.{most_nodes}
 use Rattle.xg_jobs.specs.declared.table.LeafRange.{LeafRange}
 use Rattle.xg_jobs.specs.Cutting.{AreJobs}
 use Rattle.xg_jobs.proofs.Visiting.{leaves_few, tops_few}
-use Rattle.xg_jobs.proofs.Passing.{drop_one, jobs_counted}
+use Rattle.xg_jobs.proofs.OnePassOverJobs.{jobs_counted}
 use Rattle.xg_jobs.proofs.Ranging.{RangedSome, all_leaves, all_ranged, next_inside, none_ranged, range_more}
 use Rattle.xg_jobs.proofs.cutting.ranges_of.Goals as goal
 
@@ -27,7 +27,7 @@ loop-job-init c =
 pub index-requires : goal.index-requires
 index-requires c =
     let places = c.deref-job-items.result.now in
-    let low = next_inside c.in_ok-tops.tops.items places c.args.tree.now c.loop-job.ranges.items c.loop-job.first c.loop-job.job-index (get_or places c.loop-job.job-index 0) c.loop-job.invariant (drop_one places c.loop-job.job-index c.loop-job-test.true) in
+    let low = next_inside c.in_ok-tops.tops.items places c.args.tree.now c.loop-job.ranges.items c.loop-job.first c.loop-job.job-index (get_or places c.loop-job.job-index 0) c.loop-job.invariant (drop_more places c.loop-job.job-index 0 c.loop-job-test.true) in
     omega (arith, low)
 
 pub overflow_add-first : goal.overflow_add-first
@@ -36,7 +36,7 @@ overflow_add-first c =
     let k : ℕ = c.loop-job.job-index in
     let few = leaves_few (prefix c.args.tree.now) in
     let limit : leaf_count (prefix c.args.tree.now) ≤ most_nodes = omega (arith, few, c.len-count.ensures.rules.limit) in
-    let next = range_more c.in_ok-tops.tops.items places c.args.tree.now c.loop-job.ranges.items c.loop-job.first k (get_or places k 0) c.index.result.now c.loop-job.invariant limit (drop_one places k c.loop-job-test.true) c.index.ensures in
+    let next = range_more c.in_ok-tops.tops.items places c.args.tree.now c.loop-job.ranges.items c.loop-job.first k (get_or places k 0) c.index.result.now c.loop-job.invariant limit (drop_more places k 0 c.loop-job-test.true) c.index.ensures in
     omega (arith, next.room, limit)
 
 pub loop-job-preserved : goal.loop-job-preserved
@@ -45,7 +45,7 @@ loop-job-preserved c =
     let k : ℕ = c.loop-job.job-index in
     let few = leaves_few (prefix c.args.tree.now) in
     let limit : leaf_count (prefix c.args.tree.now) ≤ most_nodes = omega (arith, few, c.len-count.ensures.rules.limit) in
-    let next = range_more c.in_ok-tops.tops.items places c.args.tree.now c.loop-job.ranges.items c.loop-job.first k (get_or places k 0) c.index.result.now c.loop-job.invariant limit (drop_one places k c.loop-job-test.true) c.index.ensures in
+    let next = range_more c.in_ok-tops.tops.items places c.args.tree.now c.loop-job.ranges.items c.loop-job.first k (get_or places k 0) c.index.result.now c.loop-job.invariant limit (drop_more places k 0 c.loop-job-test.true) c.index.ensures in
     let r : LeafRange = record { first = c.loop-job.first; count = c.index.result.now.leaves } in
     subst (λ rs. RangedSome c.in_ok-tops.tops.items places c.args.tree.now rs (c.loop-job.first + c.index.result.now.leaves) (k + 1)) (sym c.in_ok-push.ensures.items) (next.next r refl)
 

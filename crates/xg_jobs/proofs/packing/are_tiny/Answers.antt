@@ -16,8 +16,8 @@ loop-e-preserved c =
     let none : WideEntry = record { other = 0; weight = pos 0 } in
     let fits_w : FitsSigned w64 c.weight.result = search rules in
     let w_is : to_z w64 (of_z w64 c.weight.result) ≡ c.weight.result = to_z-of_z w64 c.weight.result fits_w in
-    let told : ℕ → ℤ → GroupLeaf = λ b w. record { other = b; weight = w } in
-    let told_is = ap (λ b. told b (to_z w64 (of_z w64 c.weight.result))) c.other.ensures ∙ ap (told _) (w_is ∙ c.weight.ensures) in
+    let known : ℕ → ℤ → GroupLeaf = λ b w. record { other = b; weight = w } in
+    let told_is = ap (λ b. known b (to_z w64 (of_z w64 c.weight.result))) c.other.ensures ∙ ap (known _) (w_is ∙ c.weight.ensures) in
     All-more P entries i none c.loop-e-test.true c.loop-e.invariant (subst IsTiny told_is (c.is_tiny.ensures c.if-not-is_tiny.false))
 
 pub returns : goal.returns

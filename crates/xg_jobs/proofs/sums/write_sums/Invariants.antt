@@ -7,4 +7,5 @@ ghost-sum_of g a = g.most
 
 abbrev pub invariant-loop-s : goal.invariant-loop-s
 invariant-loop-s g l =
-    (t : ℕ) → t < l.s → slice_index_or l.sums t (pos 0) ≡ group_sum l.numbers (group_at l.starts (map g.E.Entry.leaf l.entries) t)
+    (t : ℕ) → t < l.s
+    → slice_index_or l.sums t (pos 0) ≡ group_sum l.numbers (group_at l.starts (map g.E.Entry.leaf l.entries) t)

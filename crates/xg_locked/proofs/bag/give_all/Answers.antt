@@ -1,4 +1,4 @@
-use Rattle.xg_locked.proofs.Takes.{all_is_cut}
+use Rattle.xg_locked.proofs.RightsMoveUnderLocks.{all_is_cut}
 use Rattle.xg_locked.proofs.bag.give_all.Goals as goal
 
 pub cut-requires-clause-cut : goal.cut-requires-clause-cut

@@ -1,4 +1,4 @@
-use Rattle.xg_locked.proofs.Takes.{job_is_cut}
+use Rattle.xg_locked.proofs.RightsMoveUnderLocks.{job_is_cut}
 use Rattle.xg_locked.proofs.bag.give_job.Goals as goal
 
 pub cut-requires-clause-cut : goal.cut-requires-clause-cut

@@ -1,4 +1,4 @@
-use Rattle.xg_locked.proofs.Takes.{right_is_cut}
+use Rattle.xg_locked.proofs.RightsMoveUnderLocks.{right_is_cut}
 use Rattle.xg_locked.proofs.stripe.give_others.Goals as goal
 
 pub cut-requires-clause-cut : goal.cut-requires-clause-cut

@@ -1,10 +1,12 @@
 use Rattle.std.proofs.Common.{◌∙◌, sym}
-use Rattle.xg_page.proofs.Pages.{on_err, on_err_then, without_err, whole_front, front_of_sink}
+use Rattle.std.proofs.lemmas.Result.{on_err_weaker}
+use Rattle.xg_page.proofs.Pages.{whole_front, front_of_sink}
 use Rattle.xg_page.proofs.named.write_by.Goals as goal
+use Rattle.xg_io.proofs.ResultCases.{without_err, on_err}
 
 pub returns-then-is_err-clause-prefix : goal.returns-then-is_err-clause-prefix
 returns-then-is_err-clause-prefix g c =
-    on_err_then c.fill-page.result.1 (front_of_sink _ _ _ _ c.fill-page.ensures.grown) c.fill-page.ensures.prefix
+    on_err_weaker c.fill-page.result.1 (front_of_sink _ _ _ _ c.fill-page.ensures.grown) c.fill-page.ensures.prefix
 
 pub returns-clause-prefix : goal.returns-clause-prefix
 returns-clause-prefix g c =

@@ -1,6 +1,6 @@
 use Rattle.std.proofs.Common.{◌≡◌, ◌+◌, ◌∙◌, arith, get_or, refl, sym}
 use Rattle.def_shares.specs.Shares.{prefix_share}
-use Rattle.xg_plan.proofs.ShareLemmas.{Step, dealt_is_shares, dealt_more, step_of}
+use Rattle.xg_plan.proofs.ShareLemmas.{DealStep, dealt_is_shares, dealt_more, step_of}
 use Rattle.xg_plan.proofs.dealing.deal_to_many.Goals as goal
 
 pub overflow_add-units_upto : goal.overflow_add-units_upto
@@ -17,7 +17,7 @@ overflow_sub-out c =
 
 pub loop-i-preserved : goal.loop-i-preserved
 loop-i-preserved c =
-    let step : Step c.args.n c.args.units.now c.loop-i.i (c.loop-i.units_upto + get_or c.args.units.now c.loop-i.i 0) 65536 =
+    let step : DealStep c.args.n c.args.units.now c.loop-i.i (c.loop-i.units_upto + get_or c.args.units.now c.loop-i.i 0) 65536 =
     step_of c.args.n c.args.units.now c.loop-i.i c.loop-i.units_upto (get_or c.args.units.now c.loop-i.i 0) 65536 (omega arith) (omega arith) (sym c.requires.whole) c.loop-i.invariant.0 refl in
     let next : c.part-upto.result ≡ prefix_share c.args.n c.args.units.now (c.loop-i.i + 1) = c.part-upto.ensures ∙ step.share_next in (
       step.next,

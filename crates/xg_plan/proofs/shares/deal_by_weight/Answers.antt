@@ -1,10 +1,10 @@
 use Rattle.std.proofs.Common.{◌≡◌, ◌+◌, ◌∙◌, List, arith, map, unsigned_abs, ℕ}
 use Rattle.def_shares.specs.Shares.{prefix_share}
-use Rattle.xg_plan.proofs.ShareLemmas.{Step, dealt_is_shares, dealt_more, length-sizes, step_of}
+use Rattle.xg_plan.proofs.ShareLemmas.{DealStep, dealt_is_shares, dealt_more, length-sizes, step_of}
 use Rattle.xg_plan.proofs.shares.deal_by_weight.Goals as goal
 
 step_at : (c : goal.After-weight_at-weight)
-    → Step c.args.n (map unsigned_abs c.args.weights.now) c.loop-i.i (c.loop-i.weight_upto + c.weight_at-weight.result) c.args.sum
+    → DealStep c.args.n (map unsigned_abs c.args.weights.now) c.loop-i.i (c.loop-i.weight_upto + c.weight_at-weight.result) c.args.sum
 step_at c =
     step_of c.args.n (map unsigned_abs c.args.weights.now) c.loop-i.i c.loop-i.weight_upto c.weight_at-weight.result c.args.sum (omega (arith, length-sizes c.args.weights.now)) c.requires.some c.requires.whole c.loop-i.invariant.0 c.weight_at-weight.ensures
 

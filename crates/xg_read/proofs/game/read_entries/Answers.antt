@@ -2,7 +2,7 @@ use Rattle.std.proofs.Common.{◌≢◌, ◌+◌, ◌-◌, sym, ◌∙◌, arith
 use Rattle.std.proofs.lemmas.Result.{err_from_is_err_and}
 use Rattle.def_tree.specs.Tree.{wanted}
 use Rattle.xg_game.specs.Made.{Made}
-use Rattle.xg_read.proofs.Taken.{entries_next, stopped}
+use Rattle.xg_read.proofs.EntryByEntry.{entries_next, stopped}
 use Rattle.xg_read.proofs.game.read_entries.Goals as goal
 
 pub returns-in_err-take_entry-clause-exact : goal.returns-in_err-take_entry-clause-exact

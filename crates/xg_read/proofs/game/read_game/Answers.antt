@@ -1,7 +1,7 @@
-use Rattle.def_file_form.proofs.Whole.{game_read, game_taken}
-use Rattle.def_file_fault.proofs.Stopped.{fault_first}
-use Rattle.def_file_fault.proofs.Reached.{first_faulted}
-use Rattle.xg_read.proofs.Answered.{answer_found, answer_only, answer_first, answer_faults, answer_any_length}
+use Rattle.def_file_form.proofs.FileReadingIsExact.{game_read, game_taken}
+use Rattle.def_file_fault.proofs.ReportedFaultIsFirst.{fault_first}
+use Rattle.def_file_fault.proofs.FirstFaultIsReported.{first_faulted}
+use Rattle.xg_read.proofs.FileAnswerLaws.{answer_found, answer_only, answer_first, answer_faults, answer_any_length}
 use Rattle.xg_read.proofs.game.read_game.Goals as goal
 
 pub returns-clause-found : goal.returns-clause-found

@@ -1,4 +1,4 @@
-use Rattle.xg_read.proofs.Taken.{pushed}
+use Rattle.xg_read.proofs.EntryByEntry.{pushed}
 use Rattle.xg_read.proofs.game.take_entry.Goals as goal
 
 pub returns-clause-exact : goal.returns-clause-exact

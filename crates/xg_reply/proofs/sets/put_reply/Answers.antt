@@ -3,7 +3,7 @@ use Rattle.std.proofs.Math.ListN.{set}
 use Rattle.def_plan.specs.Form.{PlacedSet, player_sets}
 use Rattle.def_reply.specs.Reply.{SetReply}
 use Rattle.xg_reply.specs.Replies.{placed_set}
-use Rattle.xg_reply.proofs.FirstBest.{reply_told}
+use Rattle.xg_reply.proofs.FirstBest.{reply_of_set}
 use Rattle.xg_reply.proofs.sets.put_reply.Goals as goal
 use Rattle.def_rows.specs.Rows.{amount_of}
 
@@ -15,7 +15,7 @@ add_worth-requires-clause-small c =
     let place = c.place_of-h in
     let b = c.best_sequence-best.ensures in
     let reply =
-    reply_told c.args.player (amount_of ws) h place.result.first place.result.actions best place.ensures.first
+    reply_of_set c.args.player (amount_of ws) h place.result.first place.result.actions best place.ensures.first
     place.ensures.actions b.from b.until b.best b.earliest in
     let P : ℤ → Type 0 = λ z. unsigned_abs z < 2 ^ 127 in
     subst P
@@ -31,7 +31,7 @@ returns-clause-sets c =
     let b = c.best_sequence-best.ensures in
     ap (λ q. q.sets) c.add_worth.ensures.reply ∙ c.put_choice.ensures.sets
     ∙ ap (set c.args.into.now.reply.sets (c.args.set - 1))
-    (reply_told c.args.player (amount_of c.args.into.now.worths) h place.result.first place.result.actions
+    (reply_of_set c.args.player (amount_of c.args.into.now.worths) h place.result.first place.result.actions
     c.best_sequence-best.result place.ensures.first place.ensures.actions b.from b.until b.best b.earliest)
 
 pub returns-clause-worths : goal.returns-clause-worths
@@ -42,7 +42,7 @@ returns-clause-worths c =
     let place = c.place_of-h in
     let b = c.best_sequence-best.ensures in
     let reply =
-    reply_told c.args.player (amount_of ws) h place.result.first place.result.actions best place.ensures.first
+    reply_of_set c.args.player (amount_of ws) h place.result.first place.result.actions best place.ensures.first
     place.ensures.actions b.from b.until b.best b.earliest in
     c.add_worth.ensures.worths
     ∙ ap (λ (vs : List ℤ). set vs place.result.before (amount_of vs place.result.before +ℤ amount_of vs best))

@@ -1,6 +1,6 @@
 use Rattle.std.proofs.Common.{◌<◌, List, length, arith}
 use Rattle.def_plan.specs.Form.{InformationSet}
-use Rattle.xg_sets.specs.Told.{of_player}
+use Rattle.xg_sets.specs.OfPlayer.{of_player}
 use Rattle.xg_seq.proofs.RowLemmas.{sequences_last, stand_for_more}
 use Rattle.xg_seq.proofs.rows.rows_of.Goals as goal
 

@@ -1,4 +1,4 @@
-use Rattle.xg_sets.specs.Told.{of_player}
+use Rattle.xg_sets.specs.OfPlayer.{of_player}
 use Rattle.xg_seq.proofs.RowLemmas.{StandFor}
 use Rattle.xg_seq.proofs.rows.rows_of.Given as goal
 

@@ -1,5 +1,5 @@
 use Rattle.std.proofs.Common.{◌∙◌, ap, arith, length}
-use Rattle.xg_sets.specs.Told.{of_player}
+use Rattle.xg_sets.specs.OfPlayer.{of_player}
 use Rattle.xg_seq.specs.Table.{set_numbers_from}
 use Rattle.xg_seq.proofs.RowLemmas.{keeps_sets, rows_are_few, sets_of_rows}
 use Rattle.xg_seq.proofs.rows.table_of.Goals as goal

@@ -13,8 +13,8 @@ use Rattle.xg_command.specs.Values.{command_value, settings_value}
 use Rattle.def_poker.specs.Poker.{poker}
 use Rattle.xg_solve.specs.Concludes.{Concludes, EndsMade, FileTold}
 use Rattle.xg_solve.proofs.MadeEnds.{made_ended}
-use Rattle.xg_solve.proofs.Asked.{asked_within, drill_within, drill_workers_within, workers_within}
-use Rattle.xg_solve.proofs.Worded.{by_command}
+use Rattle.xg_solve.proofs.SettingsWithinLimits.{asked_within, drill_within, drill_workers_within, workers_within}
+use Rattle.xg_solve.proofs.WordsMeanTheirCommand.{by_command}
 use Rattle.xg_solve.proofs.run.conclude.Goals as goal
 
 pub locked_rows-rows-requires-clause-some : goal.locked_rows-rows-requires-clause-some

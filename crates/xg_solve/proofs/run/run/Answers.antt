@@ -8,7 +8,7 @@ use Rattle.def_program.specs.Meaning.{Means}
 use Rattle.def_program.proofs.Checked.{each_checked}
 use Rattle.def_program.proofs.Played.{each_played}
 use Rattle.xg_solve.specs.Endings.{line_at_end}
-use Rattle.xg_solve.proofs.Ended.{Shows, status_shown, status_range}
+use Rattle.xg_solve.proofs.ExitStatusLaws.{KeepsStatus, status_shown, status_range}
 use Rattle.xg_solve.proofs.run.run.Goals as goal
 
 pub returns : goal.returns
@@ -22,7 +22,7 @@ returns g c =
     let ending = c.conclude-ending.result in
     let usage = c.conclude-ending.ensures.usage in
     let status = c.finish.ensures.status in
-    let shows : Shows (IsCheck (command_of_words words)) meant files out c.finish.result (line_at_end ending) =
+    let shows : KeepsStatus (IsCheck (command_of_words words)) meant files out c.finish.result (line_at_end ending) =
     status_shown (IsCheck (command_of_words words)) meant files out ending c.conclude-ending.ensures.concludes c.finish.result status in
     record {
       range = status_range ending c.finish.result status;

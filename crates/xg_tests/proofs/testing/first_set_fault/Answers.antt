@@ -6,7 +6,8 @@ use Rattle.def_cert_verdict.specs.Verdict.{first_failing}
 use Rattle.xg_plan.specs.Reply.{set_replies}
 use Rattle.xg_tests.specs.Views.{placed_of, reply_of}
 use Rattle.xg_tests.proofs.AddLemmas.{set_there}
-use Rattle.xg_tests.proofs.TestLemmas.{no_set, replies_count, reply_there, set_passes, set_stops}
+use Rattle.xg_tests.proofs.TestLemmas.{no_set, reply_there, set_passes, set_stops}
+use Rattle.xg_plan.proofs.ReplyLemmas.{length-set_replies}
 use Rattle.xg_tests.proofs.testing.first_set_fault.Goals as goal
 
 pub returns-then-is_some : goal.returns-then-is_some
@@ -20,7 +21,7 @@ returns-then-is_some c =
     let long = length-placed 1 (player_sets c.args.form.now c.args.player) in
     let equal : length vs ≡ length cs = omega (arith, c.requires.values, c.requires.choices) in
     let below : k < length vs = omega (arith, c.loop-k-test.true, c.set_count-k-end.ensures, c.requires.values) in
-    set_stops c.args.player c.args.rows.now hs (set_replies vs cs) k h r c.set_fault-fault.result (omega (arith, below, long, c.requires.values)) (omega (arith, below, replies_count vs cs equal)) (set_there hs k h c.place_of-h.ensures.is) (reply_there vs cs k r equal below ∙ sym c.reply_at-reply.ensures) c.set_fault-fault.ensures (sym c.is_some.ensures ∙ c.if-is_some.true)
+    set_stops c.args.player c.args.rows.now hs (set_replies vs cs) k h r c.set_fault-fault.result (omega (arith, below, long, c.requires.values)) (omega (arith, below, length-set_replies vs cs (sym equal))) (set_there hs k h c.place_of-h.ensures.is) (reply_there vs cs k r equal below ∙ sym c.reply_at-reply.ensures) c.set_fault-fault.ensures (sym c.is_some.ensures ∙ c.if-is_some.true)
     ∙ sym c.loop-k.invariant
 
 pub loop-k-preserved : goal.loop-k-preserved
@@ -35,7 +36,7 @@ loop-k-preserved c =
     let equal : length vs ≡ length cs = omega (arith, c.requires.values, c.requires.choices) in
     let below : k < length vs = omega (arith, c.loop-k-test.true, c.set_count-k-end.ensures, c.requires.values) in
     c.loop-k.invariant
-    ∙ set_passes c.args.player c.args.rows.now hs (set_replies vs cs) k h r c.set_fault-fault.result (omega (arith, below, long, c.requires.values)) (omega (arith, below, replies_count vs cs equal)) (set_there hs k h c.place_of-h.ensures.is) (reply_there vs cs k r equal below ∙ sym c.reply_at-reply.ensures) c.set_fault-fault.ensures (sym c.is_some.ensures ∙ c.if-is_some.false)
+    ∙ set_passes c.args.player c.args.rows.now hs (set_replies vs cs) k h r c.set_fault-fault.result (omega (arith, below, long, c.requires.values)) (omega (arith, below, length-set_replies vs cs (sym equal))) (set_there hs k h c.place_of-h.ensures.is) (reply_there vs cs k r equal below ∙ sym c.reply_at-reply.ensures) c.set_fault-fault.ensures (sym c.is_some.ensures ∙ c.if-is_some.false)
 
 pub returns : goal.returns
 returns c =
@@ -43,4 +44,4 @@ returns c =
     let vs = c.args.values.now in
     let cs = c.args.choices.now in
     let equal : length vs ≡ length cs = omega (arith, c.requires.values, c.requires.choices) in
-    sym (c.loop-k.invariant ∙ ap first_failing (no_set c.args.player c.args.rows.now (placed sets) (set_replies vs cs) c.loop-k.k (omega (arith, c.loop-k-test.false, c.set_count-k-end.ensures, length-placed 1 sets)) (omega (arith, c.loop-k-test.false, c.set_count-k-end.ensures, c.requires.values, replies_count vs cs equal))))
+    sym (c.loop-k.invariant ∙ ap first_failing (no_set c.args.player c.args.rows.now (placed sets) (set_replies vs cs) c.loop-k.k (omega (arith, c.loop-k-test.false, c.set_count-k-end.ensures, length-placed 1 sets)) (omega (arith, c.loop-k-test.false, c.set_count-k-end.ensures, c.requires.values, length-set_replies vs cs (sym equal)))))

@@ -6,7 +6,7 @@ use Rattle.xg_rights.specs.declared.view.View.{View}
 use Rattle.xg_rights.specs.Rights.{number_from, rights_for, stripes_of, IsLoaded}
 use Rattle.xg_board.specs.Closing.{Gathered}
 use Rattle.xg_board.specs.Holdings.{tickets_of}
-use Rattle.xg_board.proofs.Ended.{ended}
+use Rattle.xg_board.proofs.GatheredIsPlainSum.{ended}
 use Rattle.xg_board.proofs.board.RowBoard.close.Goals as goal
 
 pub returns-clause-sums : goal.returns-clause-sums

@@ -2,7 +2,7 @@ use Rattle.std.proofs.Common.{Some, None, sym, ap, ◌∙◌}
 use Rattle.std.specs.Option.{option_map}
 use Rattle.xg_command.specs.Names.{name_value, option_value}
 use Rattle.xg_command.specs.Values.{taken_value}
-use Rattle.xg_command.proofs.Around.{parts_around, none_around}
+use Rattle.xg_command.proofs.SplitAtFirstEquals.{parts_around, none_around}
 use Rattle.xg_command.proofs.OptionWord.{absent, joined_option, option_alone}
 use Rattle.xg_command.proofs.reading.Reading.take_option.Goals as goal
 

@@ -5,7 +5,7 @@ use Rattle.def_game_numbers.specs.Numbers.{tables_of}
 use Rattle.def_plan.specs.Form.{SequenceForm}
 use Rattle.def_sequence_form.specs.Form.{form_of_game}
 use Rattle.xg_jobs.specs.Table.{IsFormOf}
-use Rattle.xg_engine.proofs.Opening.{form_of_tree}
+use Rattle.xg_engine.proofs.GameFormIsOfTree.{form_of_tree}
 use Rattle.xg_engine.proofs.engine.Engine.from_numbers.Goals as goal
 
 pub build-requires : goal.build-requires

@@ -7,7 +7,7 @@ use Rattle.xg_cert.specs.Writable.{IsOutcomeOf}
 use Rattle.xg_engine.specs.Ends.{AreBoundsOfLine, AreUnbeaten, HasEnds, HasGapOfLine, NoLineIsWider}
 use Rattle.xg_engine.specs.Players.{IsSoundForm}
 use Rattle.xg_engine.specs.State.{head_with}
-use Rattle.xg_engine.proofs.Shown.{outcome_has_bounds, outcome_has_gap, outcome_is_unbeaten, outcome_never_widens}
+use Rattle.xg_engine.proofs.OutcomeLaws.{outcome_has_bounds, outcome_has_gap, outcome_is_unbeaten, outcome_never_widens}
 use Rattle.xg_engine.proofs.Writable.{outcome_is_writable}
 use Rattle.xg_engine.proofs.engine.Engine.run.Goals as goal
 

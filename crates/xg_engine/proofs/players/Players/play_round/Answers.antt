@@ -5,7 +5,7 @@ use Rattle.def_round.specs.Rounds.{rounds}
 use Rattle.xg_engine.specs.Players.{CanGrow}
 use Rattle.xg_engine.proofs.Growing.{can_grow_one, can_grow_two}
 use Rattle.xg_engine.proofs.RowSizes.{count_of_rows, small_in_round}
-use Rattle.xg_engine.proofs.Standing.{has_learned, has_played, stand_next}
+use Rattle.xg_engine.proofs.PlayersFollowRounds.{has_learned, has_played, stand_next}
 use Rattle.xg_engine.proofs.players.Players.play_round.Goals as goal
 
 pub plan_round-requires-clause-sums : goal.plan_round-requires-clause-sums

@@ -1,7 +1,6 @@
 use Rattle.std.proofs.Common.{List, length, slice_get, slice_index_or, Some, ap, sym, ◌∙◌, arith}
-use Rattle.def_fraction.specs.Fraction.{Fraction}
-use Rattle.def_file.specs.Content.{Action, zero_fraction}
-use Rattle.xg_game.specs.Actions.{action_with}
+use Rattle.def_fraction.specs.Fraction.{Fraction, zero_fraction}
+use Rattle.def_file.specs.Content.{Action, action_with}
 use Rattle.xg_game.proofs.ActionLemmas.{action_at, length-actions_of}
 use Rattle.xg_game.proofs.actions.KeptActions.get.Goals as goal
 

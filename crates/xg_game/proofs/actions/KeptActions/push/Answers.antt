@@ -1,9 +1,9 @@
 use Rattle.std.proofs.Common.{◌≡◌, ◌≤◌, ◌+◌, ◌++◌, ◌∷◌, [], ℕ, List, length, ap, sym, ◌∙◌, arith}
 use Rattle.std.proofs.lemmas.List.{length-append}
-use Rattle.def_fraction.specs.Fraction.{Fraction}
+use Rattle.def_fraction.specs.Fraction.{Fraction, zero_fraction}
 use Rattle.def_file.specs.Content as content
-use Rattle.def_file.specs.Content.{zero_fraction}
-use Rattle.xg_game.specs.Actions.{action_with, actions_of}
+use Rattle.def_file.specs.Content.{action_with}
+use Rattle.xg_game.specs.Actions.{actions_of}
 use Rattle.xg_game.proofs.ActionLemmas.{chance_last, length-actions_of, named_last}
 use Rattle.xg_game.proofs.actions.KeptActions.push.Goals as goal
 

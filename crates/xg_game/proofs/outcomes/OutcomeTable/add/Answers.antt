@@ -1,9 +1,10 @@
 use Rattle.std.proofs.Common.{◌∷◌, [], ◌++◌, ℕ, List, map, length, ap, ◌∙◌, arith}
 use Rattle.std.proofs.Math.ListN.{length-map}
+use Rattle.std.proofs.lemmas.Result.{on_ok_weaker}
 use Rattle.def_file.specs.Content.{OutcomeEntry}
 use Rattle.def_file.specs.Faults.{outcome_place_of}
 use Rattle.xg_game.specs.Outcomes.{outcome_of}
-use Rattle.xg_game.proofs.TableLemmas.{KnownOutcome, on_ok, outcome_added, outcome_place}
+use Rattle.xg_game.proofs.TableLemmas.{KnownOutcome, outcome_added, outcome_place}
 use Rattle.xg_game.proofs.outcomes.OutcomeTable.add.Goals as goal
 
 pub push-requires-clause-new : goal.push-requires-clause-new
@@ -17,6 +18,6 @@ push-requires-clause-room c =
 pub returns : goal.returns
 returns c =
     let known : KnownOutcome = record { name = c.in_ok-name.name; value = record { one = c.payoff_at-one.result; two = c.payoff_at-two.result } } in
-    on_ok c.push.result (λ put.
+    on_ok_weaker c.push.result (λ put.
     ap (map outcome_of) put ∙ outcome_added c.self.inside.outcomes (c.args.number, known)
     ∙ (λ j. c.self.view_is j ++ record { number = c.args.number; name = c.in_ok-name.ensures j; one = c.payoff_at-one.ensures j; two = c.payoff_at-two.ensures j } ∷ [])) c.push.ensures.ok

@@ -1,10 +1,11 @@
 use Rattle.std.proofs.Common.{◌≤◌, ◌∷◌, [], ◌++◌, ℕ, List, map, length, ap, ◌∙◌, arith}
 use Rattle.std.proofs.Math.ListN.{length-map}
+use Rattle.std.proofs.lemmas.Result.{on_ok_weaker}
 use Rattle.def_file.specs.Content.{Action, SetEntry}
 use Rattle.def_file.specs.Faults.{set_place_of}
 use Rattle.xg_record.specs.Entry.{actions_seen}
 use Rattle.xg_game.specs.Sets.{set_of}
-use Rattle.xg_game.proofs.TableLemmas.{KnownSet, on_ok, set_added, set_place, within_more, within_put}
+use Rattle.xg_game.proofs.TableLemmas.{KnownSet, set_added, set_place, within_more, within_put}
 use Rattle.xg_game.proofs.sets.SetTable.add.Goals as goal
 
 pub push-requires-clause-new : goal.push-requires-clause-new
@@ -32,7 +33,7 @@ returns c =
     let all : List Action = c.self.inside.actions in
     let known : KnownSet = record { name = c.in_ok-name.name; value = c.in_ok-span.span } in
     let span = c.in_ok-span.ensures.span in
-    on_ok c.push.result (λ put.
+    on_ok_weaker c.push.result (λ put.
     ap (map (set_of c.add.new.self)) put
     ∙ set_added all (actions_seen c.args.actions.now) c.add.new.self c.self.inside.sets c.args.number known c.self.invariant c.in_ok-span.ensures.ok span.0 span.1
     ∙ (λ j. c.self.view_is j ++ record { number = c.args.number; name = c.in_ok-name.ensures j; actions = actions_seen c.args.actions.now } ∷ [])) c.push.ensures.ok

@@ -4,13 +4,13 @@ use Rattle.def_tree.specs.declared.Player.TheVariants.{One, Two}
 use Rattle.xg_touched.specs.Touched.{job_rows}
 use Rattle.xg_jobs.specs.Grouping.{pair_weights}
 use Rattle.xg_jobs.specs.Ranges.{range_of}
-use Rattle.xg_jobs.proofs.TouchedJobs.{told_inside}
+use Rattle.xg_jobs.proofs.TouchedJobs.{table_inside}
 use Rattle.xg_jobs.proofs.table.JobTable.build.Goals as goal
 
 pub touched_of-requires : goal.touched_of-requires
 touched_of-requires c =
-    let told : map range_of c.deref.result.now ≡ job_ranges c.args.tree.now = ap (map range_of) c.deref.ensures.value ∙ c.in_ok-ranges.ensures.ranges in
-    told_inside c.args.form.now c.args.tree.now c.deref.result.now c.requires c.len-count.ensures.rules.tree.one told
+    let known : map range_of c.deref.result.now ≡ job_ranges c.args.tree.now = ap (map range_of) c.deref.ensures.value ∙ c.in_ok-ranges.ensures.ranges in
+    table_inside c.args.form.now c.args.tree.now c.deref.result.now c.requires c.len-count.ensures.rules.tree.one known
 
 pub returns-clause-table : goal.returns-clause-table
 returns-clause-table c =

@@ -1,6 +1,6 @@
 use Rattle.std.proofs.Common.{◌≡◌, rules}
 use Rattle.std.specs.List.{range_with_len}
-use Rattle.xg_locked.proofs.Takes.{named_below}
+use Rattle.xg_locked.proofs.RightsMoveUnderLocks.{named_below}
 use Rattle.xg_locked.proofs.bag.Bag.new.Goals as goal
 
 pub invariant_of-result : goal.invariant_of-result

@@ -3,7 +3,7 @@ use Rattle.xg_rights.specs.declared.view.View.{View}
 use Rattle.xg_rights.specs.Rights.{seen, IsLoaded}
 use Rattle.xg_rowcore.specs.Stripes.{StripeHistory}
 use Rattle.xg_locked.specs.Locked.{without}
-use Rattle.xg_locked.proofs.Takes.{gives_right, opened, job_is_new}
+use Rattle.xg_locked.proofs.RightsMoveUnderLocks.{gives_right, opened, job_is_new}
 use Rattle.xg_locked.proofs.stripe.SeatedStripe.add.Goals as goal
 
 pub give_others-seat-requires-clause-right : goal.give_others-seat-requires-clause-right

@@ -9,7 +9,7 @@ use Rattle.def_game_paths.specs.Coming.{StandOver, visit_after}
 use Rattle.def_game_paths.specs.Paths.{visits}
 use Rattle.xg_game.specs.declared.fault.Refused.TheVariants.{File}
 use Rattle.xg_scale.specs.Leaf.{judged_node, unit_with, with_expected}
-use Rattle.xg_scale.specs.Told.{RefusesBy}
+use Rattle.xg_scale.specs.FaultOfFile.{RefusesBy}
 use Rattle.xg_scale.specs.Walked.{IsOpenOver, all_fit, numbers_of}
 use Rattle.xg_scale.proofs.AncestorLemmas.{has_next, next_may_come, next_numbers, open_next}
 use Rattle.xg_scale.proofs.GameLemmas.{goes_with, tree_rules}

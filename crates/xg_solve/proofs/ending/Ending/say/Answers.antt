@@ -1,6 +1,6 @@
 use Rattle.std.proofs.Common.{List, ℕ, subst}
 use Rattle.def_outside.specs.Calls.{SinkCall, Says, sink_call}
-use Rattle.xg_solve.proofs.Saying.{says_of}
+use Rattle.xg_solve.proofs.WrittenLineIsSaid.{says_of}
 use Rattle.xg_solve.proofs.ending.Ending.say.Goals as goal
 
 pub returns : goal.returns

@@ -28,7 +28,7 @@ add_leaf-requires-clause-fits_one c =
     let none : LeafPlaces = record { one = 0; two = 0 } in
     let p : LeafPlaces = get_or c.deref-places-items.result.now k none in
     let z : Leaf = leaf_of c.leaf.result in
-    let told : job_rows form (record { first = first; count = length c.args.self.now.leaves }) ≡ c.args.self.now = sym c.requires.rows in
+    let known : job_rows form (record { first = first; count = length c.args.self.now.leaves }) ≡ c.args.self.now = sym c.requires.rows in
     let own : ◌≡◌ {A = List ℕ} c.self.inside.rows.items rows = ap (λ (x : JobRows). x.rows) c.self.view_is in
     let list : places ≡ c.deref-places-items.result.now = sym c.deref-places-items.ensures.value in
     let count : length places ≡ length c.args.self.now.leaves = sym (length-map places (rows_at c.self.inside.rows.items)) ∙ ap (λ (x : JobRows). length x.leaves) c.self.view_is in
@@ -64,7 +64,7 @@ add_leaf-requires-clause-fits_two c =
     let none : LeafPlaces = record { one = 0; two = 0 } in
     let p : LeafPlaces = get_or c.deref-places-items.result.now k none in
     let z : Leaf = leaf_of c.leaf.result in
-    let told : job_rows form (record { first = first; count = length c.args.self.now.leaves }) ≡ c.args.self.now = sym c.requires.rows in
+    let known : job_rows form (record { first = first; count = length c.args.self.now.leaves }) ≡ c.args.self.now = sym c.requires.rows in
     let own : ◌≡◌ {A = List ℕ} c.self.inside.rows.items rows = ap (λ (x : JobRows). x.rows) c.self.view_is in
     let list : places ≡ c.deref-places-items.result.now = sym c.deref-places-items.ensures.value in
     let count : length places ≡ length c.args.self.now.leaves = sym (length-map places (rows_at c.self.inside.rows.items)) ∙ ap (λ (x : JobRows). length x.leaves) c.self.view_is in
@@ -100,7 +100,7 @@ loop-places-preserved c =
     let none : LeafPlaces = record { one = 0; two = 0 } in
     let p : LeafPlaces = get_or c.deref-places-items.result.now k none in
     let z : Leaf = leaf_of c.leaf.result in
-    let told : job_rows form (record { first = first; count = length c.args.self.now.leaves }) ≡ c.args.self.now = sym c.requires.rows in
+    let known : job_rows form (record { first = first; count = length c.args.self.now.leaves }) ≡ c.args.self.now = sym c.requires.rows in
     let own : ◌≡◌ {A = List ℕ} c.self.inside.rows.items rows = ap (λ (x : JobRows). x.rows) c.self.view_is in
     let list : places ≡ c.deref-places-items.result.now = sym c.deref-places-items.ensures.value in
     let count : length places ≡ length c.args.self.now.leaves = sym (length-map places (rows_at c.self.inside.rows.items)) ∙ ap (λ (x : JobRows). length x.leaves) c.self.view_is in
