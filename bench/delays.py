@@ -3,10 +3,10 @@
 
 Usage: python3 bench/delays.py [--runs N]
 
-The test `texts_of_delayed_workers` of xg_solve solves each of three games 100 times: with 2, 3, 4, 7 and 64 workers, and
-each with twenty gates of the test's own, which delay every call by another number of turns. Each text is to be that of
-one worker. The test is run until each game was solved N times (1,000 where nothing else is said). It is built where
-`rt test xg_solve` or `rt ci` was called before.
+The test `texts_of_delayed_workers` of xg_run_tests solves each of three games 100 times: with 2, 3, 4, 7 and 64
+workers, and each with twenty gates of the test's own, which delay every call by another number of turns. Each text is
+to be that of one worker. The test is run until each game was solved N times (1,000 where nothing else is said). It is
+built where `rt test xg_run_tests` or `rt ci` was called before.
 
 The last line counts the runs that passed and failed, and the status is 1 where one failed.
 """
@@ -16,7 +16,7 @@ import sys
 
 from reading import ROOT
 
-TESTS = ROOT / "crates" / "xg_solve" / "out" / "xg_solve_tests"
+TESTS = ROOT / "crates" / "xg_run_tests" / "out" / "xg_run_tests_tests"
 TEST = "texts_of_delayed_workers"
 RUNS_OF_A_GAME = 100
 

@@ -6,7 +6,7 @@ use Rattle.def_sums.specs.Limits.{least_cards, most_cards}
 use Rattle.def_fraction.proofs.LiteralLemmas.{option_map_some}
 use Rattle.def_command.specs.Table as table
 use Rattle.def_command.specs.Table.{CommandName, OptionName, Rounds, Every, Scale, Workers, plain_count}
-use Rattle.def_command.specs.Grammar.{Settings, Command, Solve, Check, Info, Gen, Drill, Argument, Taken, takes_nothing, IsCall, IsCommand, number_so_far, number_given, number_from_to, plain_words, settings_from, settings_in, settings_of, workers_from, workers_of, with_one, with_two, read_words, command_from, command_named, command_of_words}
+use Rattle.def_command.specs.Grammar.{Settings, Command, Solve, Check, Info, Gen, Drill, Argument, Taken, takes_nothing, IsCall, IsCommand, number_so_far, number_given, number_from_to, plain_words, settings_from, settings_in, settings_of, workers_of, with_one, with_two, read_words, command_from, command_named, command_of_words}
 use Rattle.def_command.proofs.CommandAndOptionNames.{and_then_some, command_found, command_by_word}
 use Rattle.def_command.proofs.Arguments.{Merges, merges, taken_all}
 use Rattle.def_command.proofs.WordByWord.{number_is_read, number_read, arguments_are_read, arguments_read}
@@ -34,19 +34,19 @@ module _ (arguments : List Argument) (taken : Taken) (plain : taken.plain ≡ pl
       ∙ ap (λ (n : Option ℕ). settings_from (number_given Rounds arguments) (number_given Every arguments) n)
       (numbers Scale)
 
-  same_workers : workers_from taken.numbers.workers ≡ workers_of arguments
-  same_workers = ap workers_from (numbers Workers)
+  same_workers : taken.numbers.workers ≡ workers_of arguments
+  same_workers = numbers Workers
 
   same_solve : (file : List ℕ)
-      → Solve file (settings_in taken.numbers) (workers_from taken.numbers.workers) ≡ Solve file (settings_of arguments)
+      → Solve file (settings_in taken.numbers) taken.numbers.workers ≡ Solve file (settings_of arguments)
       (workers_of arguments)
-  same_solve file = ap (λ (s : Settings). Solve file s (workers_from taken.numbers.workers)) same_settings
+  same_solve file = ap (λ (s : Settings). Solve file s taken.numbers.workers) same_settings
       ∙ ap (Solve file (settings_of arguments)) same_workers
 
   same_drill : (cards : ℕ)
-      → Drill cards (settings_in taken.numbers) (workers_from taken.numbers.workers) ≡ Drill cards
+      → Drill cards (settings_in taken.numbers) taken.numbers.workers ≡ Drill cards
       (settings_of arguments) (workers_of arguments)
-  same_drill cards = ap (λ (s : Settings). Drill cards s (workers_from taken.numbers.workers)) same_settings
+  same_drill cards = ap (λ (s : Settings). Drill cards s taken.numbers.workers) same_settings
       ∙ ap (Drill cards (settings_of arguments)) same_workers
 
   pub made_is_call : (name : CommandName) (command : Command) → command_from name taken ≡ Some command
@@ -72,7 +72,7 @@ module _ (arguments : List Argument) (taken : Taken) (plain : taken.plain ≡ pl
       let (word, words, made) = one_word_made _ taken.plain command is in
       let alone : plain_words arguments ≡ word ∷ [] = sym plain ∙ words in
       let (cards, read, same) = option_map_some (λ (n : ℕ). Drill n (settings_in taken.numbers)
-      (workers_from taken.numbers.workers)) (number_from_to least_cards most_cards word) command made in (
+      taken.numbers.workers) (number_from_to least_cards most_cards word) command made in (
         ap length alone,
         (
           word,
@@ -87,7 +87,7 @@ module _ (arguments : List Argument) (taken : Taken) (plain : taken.plain ≡ pl
   pub command_made : (name : CommandName) (command : Command) → IsCommand name arguments command
       → command_from name taken ≡ Some command
   command_made table.Solve command (file, alone, is) =
-      ap (with_one (λ f. Some (Solve f (settings_in taken.numbers) (workers_from taken.numbers.workers))))
+      ap (with_one (λ f. Some (Solve f (settings_in taken.numbers) taken.numbers.workers)))
       (plain ∙ alone)
       ∙ ap Some (same_solve file ∙ sym is)
   command_made table.Check command (file, certificate, both, is) =
@@ -99,8 +99,8 @@ module _ (arguments : List Argument) (taken : Taken) (plain : taken.plain ≡ pl
       ∙ ap (option_map Gen) (number_read least_cards most_cards word cards number) ∙ ap Some (sym is)
   command_made table.Drill command (word, cards, alone, number, is) =
       ap (with_one (λ w. option_map (λ (n : ℕ). Drill n (settings_in taken.numbers)
-      (workers_from taken.numbers.workers)) (number_from_to least_cards most_cards w))) (plain ∙ alone)
-      ∙ ap (option_map (λ (n : ℕ). Drill n (settings_in taken.numbers) (workers_from taken.numbers.workers)))
+      taken.numbers.workers) (number_from_to least_cards most_cards w))) (plain ∙ alone)
+      ∙ ap (option_map (λ (n : ℕ). Drill n (settings_in taken.numbers) taken.numbers.workers))
       (number_read least_cards most_cards word cards number)
       ∙ ap Some (same_drill cards ∙ sym is)
 

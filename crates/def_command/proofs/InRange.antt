@@ -1,5 +1,5 @@
 -- The settings of a command are in the ranges of their options.
-use Rattle.std.proofs.Common.{◌≡◌, ℕ, ◌≤◌, Bool, true, false, cond, ◌==◌, List, [], ◌∷◌, Option, Some, None, unwrap_or, refl, sym, subst, arith}
+use Rattle.std.proofs.Common.{◌≡◌, ℕ, ◌≤◌, Bool, true, false, cond, ◌==◌, List, [], ◌∷◌, Option, Some, None, IfSome, unwrap_or, refl, sym, subst, arith}
 use Rattle.std.proofs.lemmas.Bool.{eqb-false}
 use Rattle.std.proofs.lemmas.Option.{none-some, same_Some}
 use Rattle.def_sums.specs.Limits.{most_rounds, most_scale}
@@ -40,6 +40,11 @@ or_default : (option : OptionName) (o : Option ℕ) (default : ℕ)
 or_default option None default given_is default_is = default_is
 or_default option (Some given) default given_is default_is = given_is given refl
 
+-- what holds of each number that is given
+if_given : (o : Option ℕ) {P : ℕ → Type 0} → ((number : ℕ) → o ≡ Some number → P number) → IfSome o P
+if_given None holds = tt
+if_given (Some number) holds = holds number refl
+
 every_default : (rounds : ℕ) (b : Bool) → (rounds == 0) ≡ b → rounds ≤ most_rounds
     → FitsOption Every (cond b 1 rounds)
 every_default rounds true is few = record { from = omega arith; to = omega arith }
@@ -54,6 +59,9 @@ module _ (arguments : List Argument) (words : List (List ℕ)) (spelled : AreSpe
       or_default option (number_given option arguments) default
       (λ given is. given_in_range option arguments words given spelled is) default_is
 
+  workers_given : (number : ℕ) → workers_of arguments ≡ Some number → FitsOption Workers number
+  workers_given number is = given_in_range Workers arguments words number spelled is
+
   arguments_in_range : InRange (settings_of arguments) (workers_of arguments)
   arguments_in_range =
       let rounds : FitsOption Rounds (settings_of arguments).rounds =
@@ -63,25 +71,23 @@ module _ (arguments : List Argument) (words : List (List ℕ)) (spelled : AreSpe
       (every_default (settings_of arguments).rounds ((settings_of arguments).rounds == 0) refl rounds.to) in
       let scale : FitsOption Scale (settings_of arguments).scale =
       in_range_or Scale most_scale (record { from = omega arith; to = omega arith }) in
-      let workers : FitsOption Workers (workers_of arguments) =
-      in_range_or Workers 4 (record { from = omega arith; to = omega arith }) in
       record {
         few_rounds = rounds.to;
         some_every = every.from;
         small_every = every.to;
         some_scale = scale.from;
         small_scale = scale.to;
-        some_workers = workers.from;
-        few_workers = workers.to;
+        some_workers = if_given (workers_of arguments) (λ number is. (workers_given number is).from);
+        few_workers = if_given (workers_of arguments) (λ number is. (workers_given number is).to);
       }
 
-  like_arguments : (settings : Settings) (workers : ℕ) → settings ≡ settings_of arguments
+  like_arguments : (settings : Settings) (workers : Option ℕ) → settings ≡ settings_of arguments
       → workers ≡ workers_of arguments → InRange settings workers
   like_arguments settings workers same_settings same_workers =
       subst (λ (s : Settings). InRange s workers) (sym same_settings)
       (subst (InRange (settings_of arguments)) (sym same_workers) arguments_in_range)
 
-  solve_in_range : (name : CommandName) (file : List ℕ) (settings : Settings) (workers : ℕ)
+  solve_in_range : (name : CommandName) (file : List ℕ) (settings : Settings) (workers : Option ℕ)
       → IsCommand name arguments (Solve file settings workers) → InRange settings workers
   solve_in_range table.Solve file settings workers (other, alone, is) =
       let same_settings : settings ≡ settings_of arguments = cc in
@@ -92,7 +98,7 @@ module _ (arguments : List Argument) (words : List (List ℕ)) (spelled : AreSpe
   solve_in_range table.Gen file settings workers (word, cards, alone, number, is) = absurd cc
   solve_in_range table.Drill file settings workers (word, cards, alone, number, is) = absurd cc
 
-  drill_in_range : (name : CommandName) (cards : ℕ) (settings : Settings) (workers : ℕ)
+  drill_in_range : (name : CommandName) (cards : ℕ) (settings : Settings) (workers : Option ℕ)
       → IsCommand name arguments (Drill cards settings workers) → InRange settings workers
   drill_in_range table.Drill cards settings workers (word, others, alone, number, is) =
       let same_settings : settings ≡ settings_of arguments = cc in
@@ -124,7 +130,7 @@ gen_cards arguments table.Check cards (other, certificate, both, is) = absurd cc
 gen_cards arguments table.Info cards (other, alone, is) = absurd cc
 gen_cards arguments table.Drill cards (word, others, alone, number, is) = absurd cc
 
-drill_cards : (arguments : List Argument) (name : CommandName) (cards : ℕ) (settings : Settings) (workers : ℕ)
+drill_cards : (arguments : List Argument) (name : CommandName) (cards : ℕ) (settings : Settings) (workers : Option ℕ)
     → IsCommand name arguments (Drill cards settings workers) → CardsInRange cards
 drill_cards arguments table.Drill cards settings workers (word, others, alone, number, is) =
     let same : others ≡ cards = cc in

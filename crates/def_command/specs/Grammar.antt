@@ -17,12 +17,13 @@ pub record Settings : Type 0 where
   pub every : ℕ
   pub scale : ℕ
 
+-- the number of workers is that of the words, where they give one
 pub data Command : Type 0 where
-  Solve : (file : List ℕ) (settings : Settings) (workers : ℕ) → Command
+  Solve : (file : List ℕ) (settings : Settings) (workers : Option ℕ) → Command
   Check : (file certificate : List ℕ) → Command
   Info : (file : List ℕ) → Command
   Gen : (cards : ℕ) → Command
-  Drill : (cards : ℕ) (settings : Settings) (workers : ℕ) → Command
+  Drill : (cards : ℕ) (settings : Settings) (workers : Option ℕ) → Command
 
 -- ---- the numbers of options, each given or absent
 abbrev pub settings_from : Option ℕ → Option ℕ → Option ℕ → Settings
@@ -32,9 +33,6 @@ settings_from rounds every scale =
       every = unwrap_or every (default_number Every played);
       scale = unwrap_or scale (default_number Scale played);
     }
-
-abbrev pub workers_from : Option ℕ → ℕ
-workers_from workers = unwrap_or workers (default_number Workers 0)
 
 abbrev pub is_same_option : OptionName → OptionName → Bool
 is_same_option Rounds Rounds = true
@@ -98,8 +96,8 @@ abbrev pub settings_of : List Argument → Settings
 settings_of arguments =
     settings_from (number_given Rounds arguments) (number_given Every arguments) (number_given Scale arguments)
 
-abbrev pub workers_of : List Argument → ℕ
-workers_of arguments = workers_from (number_given Workers arguments)
+abbrev pub workers_of : List Argument → Option ℕ
+workers_of arguments = number_given Workers arguments
 
 -- what a command is with these arguments
 abbrev pub IsCommand : CommandName → List Argument → Command → Type 0
@@ -219,13 +217,13 @@ settings_in numbers = settings_from numbers.rounds numbers.every numbers.scale
 
 abbrev pub command_from : CommandName → Taken → Option Command
 command_from table.Solve taken =
-    with_one (λ file. Some (Solve file (settings_in taken.numbers) (workers_from taken.numbers.workers))) taken.plain
+    with_one (λ file. Some (Solve file (settings_in taken.numbers) taken.numbers.workers)) taken.plain
 command_from table.Check taken = with_two (λ file certificate. Some (Check file certificate)) taken.plain
 command_from table.Info taken = with_one (λ file. Some (Info file)) taken.plain
 command_from table.Gen taken =
     with_one (λ word. option_map Gen (number_from_to least_cards most_cards word)) taken.plain
 command_from table.Drill taken =
-    with_one (λ word. option_map (λ cards. Drill cards (settings_in taken.numbers) (workers_from taken.numbers.workers))
+    with_one (λ word. option_map (λ cards. Drill cards (settings_in taken.numbers) taken.numbers.workers)
     (number_from_to least_cards most_cards word)) taken.plain
 
 abbrev pub command_of_words : List (List ℕ) → Option Command

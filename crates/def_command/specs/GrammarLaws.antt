@@ -1,5 +1,5 @@
 -- Which words are a call, and of which command.
-use Rattle.std.specs.Prelude.{◌≡◌, ◌↔◌, ◌≤◌, List, ℕ, Some}
+use Rattle.std.specs.Prelude.{◌≡◌, ◌↔◌, ◌≤◌, List, ℕ, Option, Some, IfSome}
 use Rattle.def_sums.specs.Limits.{most_rounds, most_scale, most_workers, least_cards, most_cards}
 use Rattle.def_command.specs.Grammar.{Settings, Command, Solve, Gen, Drill, command_of_words, IsCall}
 
@@ -13,21 +13,21 @@ abbrev pub WordsCallOne : Type 0
 WordsCallOne =
     (words : List (List ℕ)) (first second : Command) → IsCall words first → IsCall words second → first ≡ second
 
--- the settings and the number of workers are in the ranges of their options
-pub record InRange (settings : Settings) (workers : ℕ) : Type 0 where
+-- the settings are in the ranges of their options, and so is the number of workers that is given
+pub record InRange (settings : Settings) (workers : Option ℕ) : Type 0 where
   pub few_rounds : settings.rounds ≤ most_rounds
   pub some_every : 1 ≤ settings.every
   pub small_every : settings.every ≤ most_rounds
   pub some_scale : 1 ≤ settings.scale
   pub small_scale : settings.scale ≤ most_scale
-  pub some_workers : 1 ≤ workers
-  pub few_workers : workers ≤ most_workers
+  pub some_workers : IfSome workers (λ number. 1 ≤ number)
+  pub few_workers : IfSome workers (λ number. number ≤ most_workers)
 
--- so they are in each command that is computed, given or not
+-- so they are in each command that is computed, settings given or not
 pub record SettingsAreInRange : Type 0 where
-  pub of_solve : (words : List (List ℕ)) (file : List ℕ) (settings : Settings) (workers : ℕ)
+  pub of_solve : (words : List (List ℕ)) (file : List ℕ) (settings : Settings) (workers : Option ℕ)
       → command_of_words words ≡ Some (Solve file settings workers) → InRange settings workers
-  pub of_drill : (words : List (List ℕ)) (cards : ℕ) (settings : Settings) (workers : ℕ)
+  pub of_drill : (words : List (List ℕ)) (cards : ℕ) (settings : Settings) (workers : Option ℕ)
       → command_of_words words ≡ Some (Drill cards settings workers) → InRange settings workers
 
 -- the number of cards is in its range
@@ -38,5 +38,5 @@ pub record CardsInRange (cards : ℕ) : Type 0 where
 -- so it is in each command that is computed
 pub record CardsAreInRange : Type 0 where
   pub of_gen : (words : List (List ℕ)) (cards : ℕ) → command_of_words words ≡ Some (Gen cards) → CardsInRange cards
-  pub of_drill : (words : List (List ℕ)) (cards : ℕ) (settings : Settings) (workers : ℕ)
+  pub of_drill : (words : List (List ℕ)) (cards : ℕ) (settings : Settings) (workers : Option ℕ)
       → command_of_words words ≡ Some (Drill cards settings workers) → CardsInRange cards

@@ -9,9 +9,9 @@ file = codes "F1"
 abbrev solve_with : List (List ℕ) → Option Command
 solve_with words = command_of_words (codes "solve" ∷ file ∷ words)
 
--- with the usual number of workers
+-- with no number of workers given
 abbrev solve_file : ℕ → ℕ → ℕ → Option Command
-solve_file rounds every scale = Some (Solve file (record { rounds = rounds; every = every; scale = scale }) 4)
+solve_file rounds every scale = Some (Solve file (record { rounds = rounds; every = every; scale = scale }) None)
 
 pub record TakenRows : Type 0 where
   pub no_options : solve_with [] ≡ solve_file 1000 1000 1048576
@@ -23,11 +23,11 @@ pub record TakenRows : Type 0 where
   pub all_options : command_of_words (codes "solve" ∷ codes "--scale" ∷ codes "1" ∷ codes "--every=2" ∷ file
       ∷ codes "--rounds=3" ∷ []) ≡ solve_file 3 2 1
   pub workers : solve_with (codes "--workers=64" ∷ codes "--rounds" ∷ codes "1" ∷ [])
-      ≡ Some (Solve file (record { rounds = 1; every = 1; scale = 1048576 }) 64)
+      ≡ Some (Solve file (record { rounds = 1; every = 1; scale = 1048576 }) (Some 64))
   pub check : command_of_words (codes "check" ∷ file ∷ codes "C1" ∷ []) ≡ Some (Check file (codes "C1"))
   pub gen : command_of_words (codes "gen" ∷ codes "007" ∷ []) ≡ Some (Gen 7)
   pub drill : command_of_words (codes "drill" ∷ codes "--rounds=1" ∷ codes "3" ∷ codes "--workers" ∷ codes "2" ∷ [])
-      ≡ Some (Drill 3 (record { rounds = 1; every = 1; scale = 1048576 }) 2)
+      ≡ Some (Drill 3 (record { rounds = 1; every = 1; scale = 1048576 }) (Some 2))
   pub empty_file : command_of_words (codes "info" ∷ [] ∷ []) ≡ Some (Info [])
   pub info : command_of_words (codes "info" ∷ file ∷ []) ≡ Some (Info file)
 

@@ -72,4 +72,5 @@ abbrev pub default_number : OptionName → ℕ → ℕ
 default_number Rounds rounds = 1000
 default_number Every rounds = if rounds == 0 then 1 else rounds
 default_number Scale rounds = most_scale
+-- the most that play
 default_number Workers rounds = 4

@@ -14,7 +14,8 @@ pub fn words_call_one()
     ensures { WordsCallOne }
 {}
 
-/// The settings of a command that is computed, and its number of workers, are in the ranges of their options.
+/// The settings of a command that is computed, and the number of workers that it is given, are in the ranges of their
+/// options.
 pub fn settings_are_in_range()
     ensures { SettingsAreInRange }
 {}

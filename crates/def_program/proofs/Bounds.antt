@@ -144,8 +144,8 @@ module _ (game : WeighedGame) (b : PrintedBounds) (h : ShowsItsBounds game b) wh
   no_better = record { floors = floors_below; ceilings = ceilings_above }
 
   -- all of it holds, where no trace line is wider than an earlier one
-  pub bounds_hold : TraceNarrows game b → BoundsHold game b
-  bounds_hold narrows = record {
+  pub bounds_hold : (scale : ℕ) → TraceNarrows game scale b → BoundsHold game scale b
+  bounds_hold scale narrows = record {
     lower = lower;
     upper = upper;
     attained = attained;

@@ -87,18 +87,21 @@ module _ (file bytes : List ℕ) (game : GameFile) (c : Certificate) (read : Are
   of_certificate : (head : Head) (bounds : Option PrintedBounds)
       → CertificateFits (record { head = head; bounds = bounds })
       → verdict numbers (record { head = head; bounds = bounds }) ≡ Ok (shown_by bounds)
-      → IsHeadOf numbers head × IfSome bounds (BoundsHold numbers)
+      → IsHeadOf numbers head × IfSome bounds (BoundsHold numbers head.scale)
   of_certificate head None fits is = ((exact.head_alone numbers head).0 is, tt)
   of_certificate head (Some b) fits is =
       let stands = read.accepted.readable.stands in
       let one = sets_in_order file game stands One refl in
       let two = sets_in_order file game stands Two refl in
+      let conditions = (exact.with_bracket numbers head b b.low b.high).0 is in
       let all = (shown numbers head b b.low b.high one two (some_unit file game stands) is).2 in (
-        ((exact.with_bracket numbers head b b.low b.high).0 is).0,
-        bounds_hold numbers b all (record {
+        conditions.0,
+        bounds_hold numbers b all head.scale (record {
           within_earlier = within_earlier head b.trace fits.below.trace all.trace;
           last_low = sym all.traced_low;
           last_high = sym all.traced_high;
+          low_round = conditions.1.plan_one.root_is;
+          high_round = conditions.1.plan_two.root_is;
         }),
       )
 
@@ -118,17 +121,18 @@ one_zero : ◌≡◌ {A = ℕ} 1 0 → ⊥
 one_zero is = cc
 
 module _ (words : List (List ℕ)) (told : List ℕ → Option (List ℕ)) (out : SinkCall)
-    (Holds : WeighedGame → PrintedBounds → Type 0)
-    (holds : (game : WeighedGame) (b : PrintedBounds) → BoundsHold game b → Holds game b) where
+    (Holds : WeighedGame → ℕ → PrintedBounds → Type 0)
+    (holds : (game : WeighedGame) (scale : ℕ) (b : PrintedBounds) → BoundsHold game scale b → Holds game scale b) where
   abbrev IsWritten : Answer → Type 0
   IsWritten answer = (answer.status ≡ 0) × Wrote out answer.text
 
   abbrev IsShown : List ℕ → List ℕ → Type 0
   IsShown file bytes = HoldsOfFile file bytes (λ verdict. Wrote out (verdict_text verdict)) Holds
 
-  some_hold : (game : WeighedGame) (o : Option PrintedBounds) → IfSome o (BoundsHold game) → IfSome o (Holds game)
-  some_hold game None all = tt
-  some_hold game (Some b) all = holds game b all
+  some_hold : (game : WeighedGame) (scale : ℕ) (o : Option PrintedBounds) → IfSome o (BoundsHold game scale)
+      → IfSome o (Holds game scale)
+  some_hold game scale None all = tt
+  some_hold game scale (Some b) all = holds game scale b all
 
   by_verdict : (file bytes : List ℕ) (found : Result Verdict Refusal) → Checks file bytes found
       → IsWritten (check_answer found) → IsShown file bytes
@@ -141,7 +145,7 @@ module _ (words : List (List ℕ)) (told : List ℕ → Option (List ℕ)) (out 
         read = it.read;
         head = it.head;
         verdict = subst (λ (v : Verdict). Wrote out (verdict_text v)) (sym it.verdict) wrote.1;
-        bounds = some_hold (weighed_game it.game) it.certificate.bounds it.bounds;
+        bounds = some_hold (weighed_game it.game) it.certificate.head.scale it.certificate.bounds it.bounds;
       }
 
   by_bytes : (file bytes : List ℕ) → ((answer : Answer) → CheckMeans file (Some bytes) answer → IsWritten answer)

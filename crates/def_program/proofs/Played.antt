@@ -1,5 +1,5 @@
 -- The bounds that are printed of a game that was played.
-use Rattle.std.proofs.Common.{◌≡◌, ℕ, ◌≤◌, List, length, Option, Some, None, refl, sym, ap, ◌∙◌, subst, arith}
+use Rattle.std.proofs.Common.{◌≡◌, ℕ, ◌≤◌, List, length, Option, Some, None, Ok, refl, sym, ap, ◌∙◌, subst, arith}
 use Rattle.std.specs.Prelude.{◌*◌, IsSomeAnd}
 use Rattle.std.proofs.lemmas.List.{length-map}
 use Rattle.def_sums.specs.Limits.{least_cards, most_cards}
@@ -8,7 +8,7 @@ use Rattle.def_tree.specs.declared.Kind.TheVariants.{One, Two}
 use Rattle.def_tree.specs.Tree.{leaf_count, prefix}
 use Rattle.def_file.specs.Content.{GameFile}
 use Rattle.def_file.specs.declared.FileFault.{FileFault}
-use Rattle.def_fraction.specs.Fraction.{fraction_of}
+use Rattle.def_fraction.specs.Fraction.{Fraction, fraction_of}
 use Rattle.def_game_paths.specs.Paths.{leaf_visits}
 use Rattle.def_game_scale.specs.Scale.{all_expected, expected, weights}
 use Rattle.def_game_numbers.specs.Numbers.{game_file_fault, tables_of}
@@ -19,8 +19,9 @@ use Rattle.def_run.specs.Run.{evaluations, outcome}
 use Rattle.def_run.proofs.EndLaws.{trace_of_run_never_widens}
 use Rattle.def_run.proofs.RunLaws.{runs_have_ends}
 use Rattle.def_cert_verdict.specs.Certificate.{Certificate, PrintedBounds}
-use Rattle.def_cert_verdict.specs.Verdict.{WeighedGame, verdict}
-use Rattle.def_cert_verdict.specs.Laws.{IsHeadOf, ShowsItsBounds, with_bounds}
+use Rattle.def_cert_verdict.specs.Verdict.{WeighedGame, bracket, verdict}
+use Rattle.def_cert_verdict.specs.Laws.{HoldsUp, IsHeadOf, ShowsItsBounds, with_bounds}
+use Rattle.def_cert_verdict.proofs.VerdictIsExact.{exact}
 use Rattle.def_cert_verdict.proofs.Shown.{accepted as shown}
 use Rattle.def_cert_accepted.specs.OfOutcome.{certificate_of}
 use Rattle.def_cert_accepted.proofs.Accepted.{accepted as run_accepted}
@@ -84,23 +85,35 @@ module _ (bytes : List ℕ) (game : GameFile) (stands : StandsFor bytes game) wh
         ∙ certificate_with numbers settings.rounds settings.every settings.scale ends are
         ∙ ap (λ (h : Head). with_bounds h bounds) (sym same)
 
+    abbrev low : Fraction
+    low = fraction_of ends.lower.low (numbers.unit * (ends.lower.round * settings.scale))
+
+    abbrev high : Fraction
+    high = fraction_of ends.upper.high (numbers.unit * (ends.upper.round * settings.scale))
+
+    accepted : verdict numbers (with_bounds (game_head game settings) bounds) ≡ Ok (bracket low high)
+    accepted =
+        ap (verdict numbers) (sym certificate_is)
+        ∙ run_accepted.some_round numbers (game_head game settings) ends (sets_in_order bytes game stands One refl)
+        (sets_in_order bytes game stands Two refl) (head_of_game game settings) (some_unit bytes game stands)
+        some_scale are
+
     shows : ShowsItsBounds numbers bounds
     shows =
-        let one = sets_in_order bytes game stands One refl in
-        let two = sets_in_order bytes game stands Two refl in
-        let low = fraction_of ends.lower.low (numbers.unit * (ends.lower.round * settings.scale)) in
-        let high = fraction_of ends.upper.high (numbers.unit * (ends.upper.round * settings.scale)) in
-        (shown numbers (game_head game settings) bounds low high one two (some_unit bytes game stands)
-        (ap (verdict numbers) (sym certificate_is)
-        ∙ run_accepted.some_round numbers (game_head game settings) ends one two (head_of_game game settings) (some_unit bytes game stands)
-        some_scale are)).2
+        (shown numbers (game_head game settings) bounds low high (sets_in_order bytes game stands One refl)
+        (sets_in_order bytes game stands Two refl) (some_unit bytes game stands) accepted).2
 
-    trace : TraceNarrows numbers bounds
+    holds_up : HoldsUp numbers settings.scale bounds
+    holds_up = ((exact.with_bracket numbers (game_head game settings) bounds low high).0 accepted).1
+
+    trace : TraceNarrows numbers settings.scale bounds
     trace = record {
       within_earlier = λ j k line.
           trace_of_run_never_widens numbers.form settings.scale settings.every settings.rounds j k line;
       last_low = sym shows.traced_low;
       last_high = sym shows.traced_high;
+      low_round = holds_up.plan_one.root_is;
+      high_round = holds_up.plan_two.root_is;
     }
 
     has_bounds : HasItsBounds game settings
@@ -108,7 +121,7 @@ module _ (bytes : List ℕ) (game : GameFile) (stands : StandsFor bytes game) wh
       bounds = bounds;
       are = ap (λ (c : Certificate). c.bounds) certificate_is;
       text = ap cert_text certificate_is;
-      hold = bounds_hold numbers bounds shows trace;
+      hold = bounds_hold numbers bounds shows settings.scale trace;
     }
 
   -- what is printed of a game that a file stands for holds
@@ -125,8 +138,8 @@ played_games_have_bounds bytes game settings is some_round some_scale =
 
 -- ---- where the text that is meant was written
 module _ (words : List (List ℕ)) (told : List ℕ → Option (List ℕ)) (out : SinkCall)
-    (Holds : WeighedGame → PrintedBounds → Type 0)
-    (holds : (game : WeighedGame) (b : PrintedBounds) → BoundsHold game b → Holds game b) where
+    (Holds : WeighedGame → ℕ → PrintedBounds → Type 0)
+    (holds : (game : WeighedGame) (scale : ℕ) (b : PrintedBounds) → BoundsHold game scale b → Holds game scale b) where
   abbrev IsWritten : Answer → Type 0
   IsWritten answer = (answer.status ≡ 0) × Wrote out answer.text
 
@@ -134,8 +147,9 @@ module _ (words : List (List ℕ)) (told : List ℕ → Option (List ℕ)) (out 
       → Wrote out (solve_text game settings) → WroteBounds Holds out game settings
   wrote_bounds game settings it wrote =
       subst (λ (o : Option PrintedBounds). IsSomeAnd o
-      (λ b. Wrote out (cert_text (with_bounds (game_head game settings) b)) × Holds (weighed_game game) b))
-      (sym it.are) (subst (Wrote out) it.text wrote, holds (weighed_game game) it.bounds it.hold)
+      (λ b. Wrote out (cert_text (with_bounds (game_head game settings) b))
+      × Holds (weighed_game game) settings.scale b))
+      (sym it.are) (subst (Wrote out) it.text wrote, holds (weighed_game game) settings.scale it.bounds it.hold)
 
   by_content : (content : Option (List ℕ)) (game : GameFile) (settings : Settings) → 1 ≤ settings.rounds
       → 1 ≤ settings.scale → ((answer : Answer) → IsSomeAnd content (λ bytes. FileMeans (solved settings) bytes answer)

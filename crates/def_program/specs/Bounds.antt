@@ -2,7 +2,7 @@
 --     game_bounds game settings  the bounds that are printed of it, where a round is played
 --     GetsLow, ConcedesHigh      each printed plan keeps its bound against every plan of the other player
 --     RepliesAttain              the printed replies attain both bounds
---     TraceNarrows               no trace line is wider than an earlier one, and the last one has both bounds
+--     TraceNarrows               no trace line is wider than an earlier one, and the last one has both plans and bounds
 --     GapIsExploitability        the bounds are apart by the total exploitability of both plans
 --     NoPlanDoesBetter           no plan is sure of more than the other player's bound
 --     BoundsHold                 all of this
@@ -55,12 +55,15 @@ pub record RepliesAttain (game : WeighedGame) (b : PrintedBounds) : Type 0 where
       (pure_plan game.form.sets_one (choices_of b.reply_one.sets))
   pub high : IsTotalOver b.high b.reply_one.total (game.unit * b.plan_two.root)
 
--- no line is wider than an earlier one, and the last one has the totals of both replies
-pub record TraceNarrows (game : WeighedGame) (b : PrintedBounds) : Type 0 where
+-- no line is wider than an earlier one, and the last one has the totals of both replies, and for each plan the round
+-- after which it stood: its root is so many rounds times the scale
+pub record TraceNarrows (game : WeighedGame) (scale : ℕ) (b : PrintedBounds) : Type 0 where
   pub within_earlier : (j k : ℕ) (line : TraceLine) → j ≤ k → k < length b.trace
       → LiesWithin (slice_index_or b.trace k line) (slice_index_or b.trace j line)
   pub last_low : (last_line b.trace).low ≡ b.reply_two.total
   pub last_high : (last_line b.trace).high ≡ b.reply_one.total
+  pub low_round : b.plan_one.root ≡ (last_line b.trace).low_round * scale
+  pub high_round : b.plan_two.root ≡ (last_line b.trace).high_round * scale
 
 -- f less g, not in lowest terms
 abbrev pub difference : Fraction → Fraction → Fraction
@@ -80,12 +83,12 @@ pub record NoPlanDoesBetter (game : WeighedGame) (b : PrintedBounds) : Type 0 wh
   pub ceilings : (root : ℕ) (plan : List ℕ) (ceiling : ℤ) → IsPlan game.form.sets_two root plan
       → IsCeiling game.form plan ceiling → (b.low.num *ℤ pos (game.unit * root)) ≤ℤ (ceiling *ℤ pos b.low.den)
 
--- all of it holds of printed bounds
-pub record BoundsHold (game : WeighedGame) (b : PrintedBounds) : Type 0 where
+-- all of it holds of printed bounds, where each round deals out the scale
+pub record BoundsHold (game : WeighedGame) (scale : ℕ) (b : PrintedBounds) : Type 0 where
   pub lower : GetsLow game b
   pub upper : ConcedesHigh game b
   pub attained : RepliesAttain game b
-  pub trace : TraceNarrows game b
+  pub trace : TraceNarrows game scale b
   pub gap : GapIsExploitability game b
   pub value : NoPlanDoesBetter game b
 
@@ -94,7 +97,7 @@ pub record HasItsBounds (game : GameFile) (settings : Settings) : Type 0 where
   pub bounds : PrintedBounds
   pub are : game_bounds game settings ≡ Some bounds
   pub text : solve_text game settings ≡ cert_text (with_bounds (game_head game settings) bounds)
-  pub hold : BoundsHold (weighed_game game) bounds
+  pub hold : BoundsHold (weighed_game game) settings.scale bounds
 
 -- ---- the games that words play
 
@@ -112,12 +115,13 @@ IsPlayed None told game settings = ⊥
 IsPlayed (Some command) told game settings = CommandPlays command told game settings
 
 -- the text with the game's bounds was written, and this holds of them
-abbrev pub WroteBounds : (WeighedGame → PrintedBounds → Type 0) → SinkCall → GameFile → Settings → Type 0
+abbrev pub WroteBounds : (WeighedGame → ℕ → PrintedBounds → Type 0) → SinkCall → GameFile → Settings → Type 0
 WroteBounds Holds out game settings = IsSomeAnd (game_bounds game settings)
-    (λ b. Wrote out (cert_text (with_bounds (game_head game settings) b)) × Holds (weighed_game game) b)
+    (λ b. Wrote out (cert_text (with_bounds (game_head game settings) b))
+    × Holds (weighed_game game) settings.scale b)
 
 -- so it is for each game that the words play for at least one round
 abbrev pub ForEachPlayed : List (List ℕ) → (List ℕ → Option (List ℕ)) → SinkCall
-    → (WeighedGame → PrintedBounds → Type 0) → Type 0
+    → (WeighedGame → ℕ → PrintedBounds → Type 0) → Type 0
 ForEachPlayed words told out Holds = (game : GameFile) (settings : Settings)
     → IsPlayed (command_of_words words) told game settings → 1 ≤ settings.rounds → WroteBounds Holds out game settings

@@ -19,13 +19,13 @@ use Rattle.def_text.specs.CheckLines.{verdict_text}
 -- has its bounds, or says that there are none, and this is so of that verdict;
 -- of the bounds this holds in the file's game.
 pub record HoldsOfFile (file bytes : List ℕ) (IsVerdict : Verdict → Type 0)
-    (Holds : WeighedGame → PrintedBounds → Type 0) : Type 0 where
+    (Holds : WeighedGame → ℕ → PrintedBounds → Type 0) : Type 0 where
   pub game : GameFile
   pub certificate : Certificate
   pub read : AreRead file bytes game certificate
   pub head : IsHeadOf (weighed_game game) certificate.head
   pub verdict : IsVerdict (shown_by certificate.bounds)
-  pub bounds : IfSome certificate.bounds (Holds (weighed_game game))
+  pub bounds : IfSome certificate.bounds (Holds (weighed_game game) certificate.head.scale)
 
 -- ---- the certificates that words check
 
@@ -44,6 +44,6 @@ AreChecked (Some command) told file bytes = CommandChecks command told file byte
 -- where the words check a certificate against a file, and both are told: what was written is the line of its verdict,
 -- with LOW and HIGH where there are bounds, and of these this holds
 abbrev pub ForEachChecked : List (List ℕ) → (List ℕ → Option (List ℕ)) → SinkCall
-    → (WeighedGame → PrintedBounds → Type 0) → Type 0
+    → (WeighedGame → ℕ → PrintedBounds → Type 0) → Type 0
 ForEachChecked words told out Holds = (file bytes : List ℕ) → AreChecked (command_of_words words) told file bytes
     → HoldsOfFile file bytes (λ verdict. Wrote out (verdict_text verdict)) Holds

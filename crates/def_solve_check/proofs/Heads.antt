@@ -1,5 +1,5 @@
 -- The numbers of an accepted file's game are within the ranges of a certificate's head.
-use Rattle.std.proofs.Common.{◌≡◌, ℕ, ◌≤◌, Bool, true, false, cond, List, ◌++◌, get_or, take, All, refl, sym, ap}
+use Rattle.std.proofs.Common.{◌≡◌, ℕ, ◌≤◌, Bool, true, false, cond, List, Option, ◌++◌, get_or, take, All, refl, sym, ap}
 use Rattle.std.proofs.Common.{subst, arith}
 use Rattle.std.proofs.lemmas.List.{length-append, get_or_append_left}
 use Rattle.std.proofs.lemmas.List.Elements.{All-head, All-tail}
@@ -86,7 +86,7 @@ module _ (bytes : List ℕ) (game : GameFile) (is : IsAccepted bytes game) where
       record { tree = whole.tree; rules = whole.together.rules; limit = whole.together.limit }
 
   -- the head of an accepted file's game fits, with settings in their ranges
-  pub head_fits : (settings : Settings) (workers : ℕ) → InRange settings workers → HeadFits (game_head game settings)
+  pub head_fits : (settings : Settings) (workers : Option ℕ) → InRange settings workers → HeadFits (game_head game settings)
   head_fits settings workers range =
       let tree = game_tree in
       let sound = (accepted_games_sound bytes game is).numbers in

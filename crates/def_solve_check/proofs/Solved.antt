@@ -47,7 +47,7 @@ use Rattle.def_solve_check.proofs.CertificatesAreShort.{accepted_short}
 abbrev certificate_of_game : GameFile → Settings → Certificate
 certificate_of_game game settings = certificate_of (form_of_file game) (game_outcome game settings)
 
-module _ (file : List ℕ) (game : GameFile) (settings : Settings) (workers : ℕ) (is : IsAccepted file game)
+module _ (file : List ℕ) (game : GameFile) (settings : Settings) (workers : Option ℕ) (is : IsAccepted file game)
     (range : InRange settings workers) where
   certificate_fits : CertificateFits (certificate_of_game game settings)
   certificate_fits =
@@ -106,7 +106,7 @@ record HasVerdict (file : List ℕ) (text : List ℕ) : Type 0 where
   shown : Verdict
   is : checked file text ≡ Ok shown
 
-shown_of : (file : List ℕ) (game : GameFile) (settings : Settings) (workers : ℕ) → IsAccepted file game
+shown_of : (file : List ℕ) (game : GameFile) (settings : Settings) (workers : Option ℕ) → IsAccepted file game
     → InRange settings workers → (rounds : ℕ) → settings.rounds ≡ rounds → HasVerdict file (solve_text game settings)
 shown_of file game settings workers is range zero none =
     record { shown = head_only; is = no_round file game settings workers is range none }
@@ -145,7 +145,7 @@ said_of bytes text shown short few is =
 
 -- words of `check` that name files which tell a game and what is written of it
 module _ (others : List (List ℕ)) (after : List ℕ → Option (List ℕ)) (game_path text_path bytes text : List ℕ)
-    (settings : Settings) (workers : ℕ) (range : InRange settings workers)
+    (settings : Settings) (workers : Option ℕ) (range : InRange settings workers)
     (check : command_of_words others ≡ Some (Check game_path text_path)) (game_there : after game_path ≡ Some bytes)
     (text_there : after text_path ≡ Some text) where
   taken : file_answer (solved settings) bytes ≡ success text → IsTaken others after

@@ -26,9 +26,9 @@ pub record IsAcceptedWithBounds (file : List ℕ) (game : GameFile) (settings : 
 -- what `solve` writes of an accepted file, with settings in their ranges, is accepted by a check of that file:
 -- without a round by its head alone, and else with its bounds
 pub record SolvedTextsAreAccepted : Type 0 where
-  pub no_round : (file : List ℕ) (game : GameFile) (settings : Settings) (workers : ℕ) → IsAccepted file game
+  pub no_round : (file : List ℕ) (game : GameFile) (settings : Settings) (workers : Option ℕ) → IsAccepted file game
       → InRange settings workers → settings.rounds ≡ 0 → checked file (solve_text game settings) ≡ Ok head_only
-  pub some_round : (file : List ℕ) (game : GameFile) (settings : Settings) (workers : ℕ) → IsAccepted file game
+  pub some_round : (file : List ℕ) (game : GameFile) (settings : Settings) (workers : Option ℕ) → IsAccepted file game
       → InRange settings workers → 1 ≤ settings.rounds → IsAcceptedWithBounds file game settings
 
 -- what is accepted against a file is within the limit of a certificate's bytes
@@ -38,7 +38,7 @@ AcceptedTextsAreShort = (file bytes : List ℕ) (shown : Verdict) → length fil
 
 -- what `solve` writes of an accepted file is within the limit of a certificate's bytes
 abbrev pub SolvedTextsAreShort : Type 0
-SolvedTextsAreShort = (file : List ℕ) (game : GameFile) (settings : Settings) (workers : ℕ) → IsAccepted file game
+SolvedTextsAreShort = (file : List ℕ) (game : GameFile) (settings : Settings) (workers : Option ℕ) → IsAccepted file game
     → InRange settings workers → length (solve_text game settings) < most_cert_bytes
 
 -- what is said of a certificate that is accepted
@@ -50,7 +50,7 @@ pub record IsTaken (words : List (List ℕ)) (told : List ℕ → Option (List �
 -- tells this text
 abbrev pub WhatSolveWritesCheckAccepts : Type 0
 WhatSolveWritesCheckAccepts = (words others : List (List ℕ)) (told after : List ℕ → Option (List ℕ))
-    (path game_path text_path bytes text : List ℕ) (settings : Settings) (workers : ℕ)
+    (path game_path text_path bytes text : List ℕ) (settings : Settings) (workers : Option ℕ)
     → command_of_words words ≡ Some (Solve path settings workers) → told path ≡ Some bytes
     → program words told ≡ Some (success text)
     → command_of_words others ≡ Some (Check game_path text_path) → after game_path ≡ Some bytes
@@ -60,7 +60,7 @@ WhatSolveWritesCheckAccepts = (words others : List (List ℕ)) (told after : Lis
 -- that tells this text
 abbrev pub WhatDrillWritesCheckAccepts : Type 0
 WhatDrillWritesCheckAccepts = (words makers others : List (List ℕ)) (told before after : List ℕ → Option (List ℕ))
-    (game_path text_path bytes text : List ℕ) (cards : ℕ) (settings : Settings) (workers : ℕ)
+    (game_path text_path bytes text : List ℕ) (cards : ℕ) (settings : Settings) (workers : Option ℕ)
     → command_of_words words ≡ Some (Drill cards settings workers) → program words told ≡ Some (success text)
     → command_of_words makers ≡ Some (Gen cards) → program makers before ≡ Some (success bytes)
     → command_of_words others ≡ Some (Check game_path text_path) → after game_path ≡ Some bytes

@@ -17,6 +17,3 @@ pub use maker::{LockedRows, MadeBy};
 pub use pass::Pass;
 pub use purse::Purse;
 pub use run::run_rows;
-
-#[cfg(test)]
-mod tests;

@@ -1,4 +1,3 @@
 pub mod Copies
 pub mod Offered
 pub mod Narrowing
-pub mod PenniesOffers

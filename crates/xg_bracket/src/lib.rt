@@ -8,6 +8,3 @@ mod trace;
 pub use board::Board;
 pub use end::{copy_plan, copy_reply};
 pub use trace::TraceLine;
-
-#[cfg(test)]
-mod tests;

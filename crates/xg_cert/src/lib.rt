@@ -23,8 +23,3 @@ pub use outcome::{End, Outcome, TraceRow};
 pub use reading::read_cert;
 pub use refused::CertRefused;
 pub use writing::write_cert;
-
-#[cfg(test)]
-mod read_tests;
-#[cfg(test)]
-mod tests;

@@ -7,7 +7,7 @@ use Rattle.def_cert_verdict.specs.declared.fault.TestFault.{TestFault}
 use Rattle.def_cert_verdict.specs.Certificate.{PrintedBounds}
 use Rattle.def_cert_verdict.specs.Verdict.{WeighedGame, bounds_tests, first_failing, first_trace_line, trace_tests}
 use Rattle.xg_check.specs.Parts.{tests_of_plan, tests_of_plans, tests_of_replies, tests_of_reply}
-use Rattle.xg_tests.proofs.TestLemmas.{front_passes}
+use Rattle.xg_check.proofs.TestLemmas.{front_passes}
 
 -- what isn't some value is none
 pub no_value : {X : Type 0} (o : Option X) → is_some o ≡ false → o ≡ None

@@ -1,3 +1,5 @@
+pub mod AddLemmas
+pub mod TestLemmas
 pub mod PlanTests
 pub mod ReplyTests
 pub mod TraceTests

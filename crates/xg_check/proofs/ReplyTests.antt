@@ -13,8 +13,8 @@ use Rattle.def_cert_verdict.specs.Certificate.{Certificate, PrintedBounds}
 use Rattle.def_cert_verdict.specs.Verdict.{first_failing, whole_reply_tests}
 use Rattle.xg_cert.specs.Printed.{bounds_in, plan_in, reply_in, set_count_in}
 use Rattle.xg_plan.specs.Reply.{set_replies}
-use Rattle.xg_tests.specs.Views.{printed_reply}
-use Rattle.xg_tests.proofs.TestLemmas.{replies_again}
+use Rattle.xg_check.specs.Views.{printed_reply}
+use Rattle.xg_check.proofs.TestLemmas.{replies_again}
 
 -- where bounds are within their ranges, so is the plan of each player
 pub plan_fits : (player : Player) (head : Head) (b : PrintedBounds) → BoundsFit head b

@@ -8,7 +8,7 @@ use Rattle.def_cert_verdict.specs.declared.fault.TestFault.TheVariants.{TraceWid
 use Rattle.def_cert_verdict.specs.Verdict.{first_failing, is_wider, trace_tests}
 use Rattle.xg_cert.specs.declared.outcome.TraceRow.{TraceRow}
 use Rattle.xg_cert.specs.Outcome.{line_of, trace_of}
-use Rattle.xg_tests.proofs.TestLemmas.{fails_first, passes_first}
+use Rattle.xg_check.proofs.TestLemmas.{fails_first, passes_first}
 
 -- where the products of any two lines of a trace are small, so are those of any two rows' lines
 pub products_at : (rows : List TraceRow) (j k : ℕ) (d e : TraceRow) → j < length rows → k < length rows

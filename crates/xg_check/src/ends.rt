@@ -11,13 +11,14 @@ ghost use Rattle.xg_check.specs.Parts.{HasEachSequence, HasSetsOf, bound_in, tes
 ghost use Rattle.xg_frac.specs.Wide.{most_wide};
 
 use crate::lines::last_row;
+use crate::parts::PrintedEnd;
+use crate::replies::reply_fault;
 use def_cert_verdict::TestFault;
 use def_tree::Player;
 use std::alloc::{AllocError, Global};
 use xg_cert::{Cert, TraceRow};
 use xg_frac::Ratio;
 use xg_numbers::Numbers;
-use xg_tests::{PrintedEnd, reply_fault};
 
 fn opponent(player: Player) -> Player
     ensures { result ≡ opponent player }

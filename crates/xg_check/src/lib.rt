@@ -1,13 +1,20 @@
-#![tactic(auto)]
 //! Checks a certificate against the file of a game. It plays no round and takes no least or greatest number: whoever
-//! wrote the certificate, what it accepts shows its bounds.
+//! wrote the certificate, what it accepts shows its bounds. The tests of plans and replies go over flat numbers, in one
+//! pass over the leaves, one over the values and one over the actions.
+#![tactic(auto)]
 
+mod adding;
 mod checking;
 mod ends;
 mod heads;
 mod judging;
 mod lines;
+mod parts;
+mod plan_sums;
 mod plans;
+mod replies;
+mod testing;
+mod totals;
 mod verdict;
 
 pub use checking::{MOST_CERT_BYTES, check};
@@ -17,8 +24,3 @@ pub use def_file::FileFault;
 pub use def_tree::Player;
 pub use verdict::{CheckFault, Verdict};
 pub use xg_frac::Ratio;
-
-#[cfg(test)]
-mod larger_tests;
-#[cfg(test)]
-mod tests;

@@ -5,11 +5,11 @@ ghost use Rattle.def_cert_verdict.specs.Certificate.{printed_numbers};
 ghost use Rattle.def_cert_verdict.specs.Verdict.{first_failing, first_of_other_size, not_a_plan_at, plan_tests};
 ghost use Rattle.xg_cert.specs.Printed.{bounds_in, plan_in, set_count_in};
 
+use crate::plan_sums::first_not_adding;
 use def_cert_verdict::TestFault;
 use def_tree::Player;
 use xg_cert::Cert;
 use xg_seq::SeqForm;
-use xg_tests::first_not_adding;
 
 fn is_root(root: u64, wanted: u64) -> bool
     ensures { result ≡ (nat_le 1 root && root == wanted) }

@@ -11,6 +11,3 @@ pub use closing::{close_round, leaf_sums_close_the_round};
 pub use def_tree::Player;
 pub use playing::play_into;
 pub use regrets::Regrets;
-
-#[cfg(test)]
-mod tests;

@@ -1,5 +1,5 @@
 -- What was read, and the command, as the grammar has them.
-use Rattle.std.specs.Prelude.{◌∷◌, Option, None, option_map}
+use Rattle.std.specs.Prelude.{Option, None, option_map}
 use Rattle.def_command.specs.Table as table
 use Rattle.def_command.specs.Grammar as grammar
 use Rattle.xg_command.specs.declared.command.Settings.{Settings}

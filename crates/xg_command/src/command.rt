@@ -14,11 +14,11 @@ pub struct Settings {
 /// The command that the words name. The names of files are as they were written.
 #[derive(Clone, Copy, Debug, PartialEq, Eq)]
 pub enum Command<'a> {
-    /// The game of a file is solved, by 1 to 64 workers.
+    /// The game of a file is solved, by 1 to 64 workers where a number of them is given.
     Solve {
         file: &'a str,
         settings: Settings,
-        workers: u32,
+        workers: Option<u32>,
     },
     /// A certificate is checked against the game of a file.
     Check {
@@ -33,10 +33,10 @@ pub enum Command<'a> {
     Gen {
         cards: u32,
     },
-    /// One-card poker with 2 to 64 cards is solved, by 1 to 64 workers.
+    /// One-card poker with 2 to 64 cards is solved, by 1 to 64 workers where a number of them is given.
     Drill {
         cards: u32,
         settings: Settings,
-        workers: u32,
+        workers: Option<u32>,
     },
 }

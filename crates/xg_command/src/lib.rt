@@ -10,8 +10,3 @@ mod words;
 
 pub use command::{Command, Settings};
 pub use words::Words;
-
-#[cfg(test)]
-mod clap_tests;
-#[cfg(test)]
-mod tests;

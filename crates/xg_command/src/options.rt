@@ -2,7 +2,7 @@
 ghost use Rattle.std.specs.Prelude.{◌≡◌, option_map};
 ghost use Rattle.def_sums.specs.Limits.{least_cards, most_cards};
 ghost use Rattle.def_command.specs.Table.{least_number, most_number};
-ghost use Rattle.def_command.specs.Grammar.{number_from_to, number_so_far, with_number, settings_in, workers_from};
+ghost use Rattle.def_command.specs.Grammar.{number_from_to, number_so_far, with_number, settings_in};
 ghost use Rattle.xg_command.specs.Names.{option_value};
 ghost use Rattle.xg_command.specs.Values.{numbers_value, no_numbers, settings_value};
 
@@ -13,9 +13,6 @@ use xg_limits::{LEAST_CARDS, MOST_CARDS, MOST_SCALE};
 
 /// The rounds that are played where no number is given.
 const DEFAULT_ROUNDS: u32 = 1000;
-
-/// The workers where no number is given.
-const DEFAULT_WORKERS: u32 = 4;
 
 /// The numbers of the options that were given so far.
 #[derive(Clone, Copy, Debug, PartialEq, Eq)]
@@ -86,11 +83,11 @@ impl Options {
         }
     }
 
-    /// The number of workers.
-    pub(crate) fn workers(self) -> u32
-        ensures { result ≡ workers_from (numbers_value self).workers }
+    /// The number of workers, where it is given.
+    pub(crate) fn workers(self) -> Option<u32>
+        ensures { result ≡ (numbers_value self).workers }
     {
-        self.workers.unwrap_or(DEFAULT_WORKERS)
+        self.workers
     }
 }
 

@@ -3,6 +3,7 @@ ghost use Rattle.std.specs.Prelude.{◌≡◌, Ok};
 ghost use Rattle.std.specs.Thread.{IsSync};
 ghost use Rattle.def_sequence_form.specs.Sets.{sets_or_break};
 
+use crate::calls::{open, read, run};
 use std::alloc::Global;
 use std::marker::Sync;
 use std::process::Abort;
@@ -11,9 +12,7 @@ use std::test::Fail;
 use std::thread::Threads;
 use xg_engine::{Engine, Settings};
 use xg_game::{Game, Player};
-use xg_jobs::PlainRows;
 use xg_plan::Plan;
-use xg_read::{MOST_BYTES, read_game};
 use xg_scale::weigh;
 use xg_seq::SeqForm;
 use xg_sets::{Sets, build_sets};
@@ -153,22 +152,28 @@ const ONE_ROUND: Settings = Settings {
 
 fn assert_weights(rt: &impl Abort, alloc: Global, game: &Game, row: &Row) -> Result<(), Fail> {
     let weights = weigh(alloc, game)?;
-    assert_eq!(rt; (weights.unit(), weights.mass()), (row.unit, row.mass));
-    assert_eq!(rt; weights.leaves().len(), row.leaves.len());
+    assert!(rt;
+        weights.unit() == row.unit
+            && weights.mass() == row.mass
+            && weights.leaves().len() == row.leaves.len()
+    );
     for (weight, leaf) in weights.leaves().iter().zip(row.leaves) {
-        assert_eq!(rt; *weight, leaf.2);
+        assert!(rt; *weight == leaf.2);
     }
     Ok(())
 }
 
 fn assert_set(rt: &impl Abort, sets: &Sets, player: Player, set: u32, row: (u32, u32, u32)) {
-    assert!(rt; 1 <= set && set <= sets.count(player));
-    assert_eq!(rt; sets.actions(player, set), row.1);
-    assert_eq!(rt; sets.before(player, set), row.2);
+    assert!(rt;
+        1 <= set
+            && set <= sets.count(player)
+            && sets.actions(player, set) == row.1
+            && sets.before(player, set) == row.2
+    );
 }
 
 fn assert_sets(rt: &impl Abort, sets: &Sets, player: Player, rows: &[(u32, u32, u32)]) {
-    assert_eq!(rt; sets.count(player) as usize, rows.len());
+    assert!(rt; sets.count(player) as usize == rows.len());
     for (row, set) in rows.iter().zip(1..u32::MAX) {
         assert_set(rt, sets, player, set, *row);
     }
@@ -185,15 +190,19 @@ fn sequences_at_last(rt: &impl Abort, tree: &Tree, sets: &Sets) -> (u32, u32)
     (one, two)
 }
 
+fn are_of_last_leaf(sequences: (u32, u32), leaves: &[(u32, u32, i64)]) -> bool {
+    match leaves {
+        [.., leaf] => sequences == (leaf.0, leaf.1),
+        [] => false,
+    }
+}
+
 fn assert_tree(rt: &impl Abort, alloc: Global, tree: &Tree, row: &Row) -> Result<(), Fail> {
     let sets = build_sets(alloc, tree)?;
     assert_sets(rt, &sets, Player::One, row.sets_one);
     assert_sets(rt, &sets, Player::Two, row.sets_two);
     let at_last = sequences_at_last(rt, tree, &sets);
-    assert_eq!(rt;
-        row.leaves.last().map(|leaf| (leaf.0, leaf.1)),
-        Some(at_last)
-    );
+    assert!(rt; are_of_last_leaf(at_last, row.leaves));
     Ok(())
 }
 
@@ -209,15 +218,18 @@ fn assert_form_set(
     set: u32,
     row: (u32, u32, u32),
 ) {
-    assert!(rt; 1 <= set && set <= form.set_count(player));
-    assert_eq!(rt; form.first_sequence(player, set), row.0);
-    assert_eq!(rt; form.actions_of(player, set), row.1);
-    assert_eq!(rt; form.parent_of(player, set), row.2);
-    assert_eq!(rt; set_of(rt, form, player, row.0), set);
+    assert!(rt;
+        1 <= set
+            && set <= form.set_count(player)
+            && form.first_sequence(player, set) == row.0
+            && form.actions_of(player, set) == row.1
+            && form.parent_of(player, set) == row.2
+            && set_of(rt, form, player, row.0) == set
+    );
 }
 
 fn assert_form_sets(rt: &impl Abort, form: &SeqForm, player: Player, rows: &[(u32, u32, u32)]) {
-    assert_eq!(rt; form.set_count(player) as usize, rows.len());
+    assert!(rt; form.set_count(player) as usize == rows.len());
     for (row, set) in rows.iter().zip(1..u32::MAX) {
         assert_form_set(rt, form, player, set, *row);
     }
@@ -226,11 +238,11 @@ fn assert_form_sets(rt: &impl Abort, form: &SeqForm, player: Player, rows: &[(u3
 fn assert_leaf(rt: &impl Abort, form: &SeqForm, z: u32, row: (u32, u32, i64)) {
     assert!(rt; 1 <= z && z <= form.leaf_count());
     let leaf = form.leaf(z);
-    assert_eq!(rt; (leaf.seq1, leaf.seq2, leaf.w), row);
+    assert!(rt; (leaf.seq1, leaf.seq2, leaf.w) == row);
 }
 
 fn assert_leaves(rt: &impl Abort, form: &SeqForm, rows: &[(u32, u32, i64)]) {
-    assert_eq!(rt; form.leaf_count() as usize, rows.len());
+    assert!(rt; form.leaf_count() as usize == rows.len());
     for (row, z) in rows.iter().zip(1..u32::MAX) {
         assert_leaf(rt, form, z, *row);
     }
@@ -239,20 +251,15 @@ fn assert_leaves(rt: &impl Abort, form: &SeqForm, rows: &[(u32, u32, i64)]) {
 fn assert_form(rt: &impl Abort, form: &SeqForm, row: &Row) {
     assert_form_sets(rt, form, Player::One, row.sets_one);
     assert_form_sets(rt, form, Player::Two, row.sets_two);
-    assert_eq!(rt;
-        form.sequence_count(Player::One) as usize,
-        row.plan_one.len()
-    );
-    assert_eq!(rt;
-        form.sequence_count(Player::Two) as usize,
-        row.plan_two.len()
+    assert!(rt;
+        form.sequence_count(Player::One) as usize == row.plan_one.len()
+            && form.sequence_count(Player::Two) as usize == row.plan_two.len()
     );
     assert_leaves(rt, form, row.leaves);
 }
 
 fn assert_plan(rt: &impl Abort, plan: &Plan, weights: &[u64]) {
-    assert_eq!(rt; Some(&plan.root()), weights.first());
-    assert_eq!(rt; plan.weights(), weights);
+    assert!(rt; plan.weights() == weights && weights.first() == Some(&plan.root()));
 }
 
 /// A plan of which nothing is dealt, before and after it is cleared.
@@ -264,8 +271,7 @@ fn assert_no_plan(
 ) -> Result<(), Fail> {
     let mut plan = Plan::new(alloc, form, Player::One)?;
     plan.clear();
-    assert_eq!(rt; plan.root(), 0);
-    assert_eq!(rt; plan.weights().len(), count);
+    assert!(rt; plan.root() == 0 && plan.weights().len() == count);
     Ok(())
 }
 
@@ -277,7 +283,7 @@ fn assert_plans<R: Abort + Threads + Wait + Sync>(
 ) -> Result<(), Fail>
     requires { IsSync R.row }
 {
-    engine.run(rt, alloc, ONE_ROUND, &PlainRows)?;
+    run(rt, alloc, engine, ONE_ROUND)?;
     match engine.sums() {
         Some(sums) => {
             assert_plan(rt, sums.0, row.plan_one);
@@ -288,6 +294,36 @@ fn assert_plans<R: Abort + Threads + Wait + Sync>(
     Ok(())
 }
 
+/// The form and the plans of an engine.
+fn assert_engine<R: Abort + Threads + Wait + Sync>(
+    rt: &R,
+    alloc: Global,
+    engine: &mut Engine,
+    row: &Row,
+) -> Result<(), Fail>
+    requires { IsSync R.row }
+{
+    assert_form(rt, engine.form(), row);
+    assert_no_plan(rt, alloc, engine.form(), row.plan_one.len())?;
+    assert_plans(rt, alloc, engine, row)
+}
+
+fn assert_numbers<R: Abort + Threads + Wait + Sync>(
+    rt: &R,
+    alloc: Global,
+    game: &Game,
+    row: &Row,
+) -> Result<(), Fail>
+    requires { IsSync R.row }
+{
+    assert_weights(rt, alloc, game, row)?;
+    assert_tree(rt, alloc, game.tree(), row)?;
+    let mut engine = open(alloc, game)?;
+    let asserted = assert_engine(rt, alloc, &mut engine, row);
+    drop(engine);
+    asserted
+}
+
 fn assert_row<R: Abort + Threads + Wait + Sync>(
     rt: &R,
     alloc: Global,
@@ -295,14 +331,10 @@ fn assert_row<R: Abort + Threads + Wait + Sync>(
 ) -> Result<(), Fail>
     requires { IsSync R.row }
 {
-    assert!(rt; row.file.len() <= MOST_BYTES);
-    let game = read_game(alloc, row.file.as_bytes())?;
-    assert_weights(rt, alloc, &game, row)?;
-    assert_tree(rt, alloc, game.tree(), row)?;
-    let mut engine = Engine::open(alloc, &game)?;
-    assert_form(rt, engine.form(), row);
-    assert_no_plan(rt, alloc, engine.form(), row.plan_one.len())?;
-    assert_plans(rt, alloc, &mut engine, row)
+    let game = read(rt, alloc, row.file)?;
+    let asserted = assert_numbers(rt, alloc, &game, row);
+    drop(game);
+    asserted
 }
 
 #[test]

@@ -2,6 +2,7 @@
 ghost use Rattle.std.specs.Thread.{IsSync};
 ghost use Rattle.xg_engine.specs.State.{AreWithinLimits};
 
+use crate::calls::{open, read, run};
 use std::alloc::Global;
 use std::marker::{Send, Sync};
 use std::process::Abort;
@@ -10,9 +11,8 @@ use std::test::Fail;
 use std::thread::Threads;
 use xg_cert::TraceRow;
 use xg_engine::{Engine, Settings};
+use xg_game::Game;
 use xg_gen::one_card_poker;
-use xg_jobs::PlainRows;
-use xg_read::{MOST_BYTES, read_game};
 
 /// Matching pennies, where the second player doesn't see the first one's coin.
 const PENNIES: &str = r#"EFG 2 R "" { "A" "B" }
@@ -178,18 +178,17 @@ fn settings_of(rt: &impl Abort, case: &Case) -> Settings
     }
 }
 
-/// The engine of a file's game.
-fn open(rt: &impl Abort, alloc: Global, file: &str) -> Result<Engine, Fail> {
-    assert!(rt; file.len() <= MOST_BYTES);
-    let game = read_game(alloc, file.as_bytes())?;
-    Ok(Engine::open(alloc, &game)?)
+/// The engine of a game.
+fn engine_of(alloc: Global, game: Game) -> Result<Engine, Fail> {
+    let engine = open(alloc, &game);
+    drop(game);
+    engine
 }
 
 fn assert_sums(rt: &impl Abort, engine: &Engine, case: &Case) {
     match engine.sums() {
         Some(sums) => {
-            assert_eq!(rt; sums.0.weights(), case.one);
-            assert_eq!(rt; sums.1.weights(), case.two);
+            assert!(rt; sums.0.weights() == case.one && sums.1.weights() == case.two);
         }
         None => assert!(rt; false, "no sums"),
     }
@@ -203,9 +202,9 @@ fn assert_trace(rt: &impl Abort, engine: &Engine, lines: &[Line]) {
 }
 
 fn assert_lines(rt: &impl Abort, trace: &[TraceRow], lines: &[Line]) {
-    assert_eq!(rt; trace.len(), lines.len());
+    assert!(rt; trace.len() == lines.len());
     for (shown, line) in trace.iter().zip(lines) {
-        assert_eq!(rt; *shown, row(*line), "of {line:?}");
+        assert!(rt; *shown == row(*line));
     }
 }
 
@@ -228,9 +227,24 @@ fn play<R: Abort + Threads + Wait + Sync>(
 ) -> Result<(), Fail>
     requires { IsSync R.row }
 {
-    engine.run(rt, alloc, settings_of(rt, case), &PlainRows)?;
+    run(rt, alloc, engine, settings_of(rt, case))?;
     assert_sums(rt, engine, case);
     assert_trace(rt, engine, case.trace);
+    Ok(())
+}
+
+fn play_each<R: Abort + Threads + Wait + Sync>(
+    rt: &R,
+    alloc: Global,
+    engine: &mut Engine,
+    cases: &[Case],
+) -> Result<(), Fail>
+    requires { IsSync R.row }
+{
+    assert!(rt; engine.sums().is_none());
+    for case in cases {
+        play(rt, alloc, engine, case)?;
+    }
     Ok(())
 }
 
@@ -243,12 +257,10 @@ fn play_all<R: Abort + Threads + Wait + Sync>(
 ) -> Result<(), Fail>
     requires { IsSync R.row }
 {
-    let mut engine = open(rt, alloc, file)?;
-    assert!(rt; engine.sums().is_none());
-    for case in cases {
-        play(rt, alloc, &mut engine, case)?;
-    }
-    Ok(())
+    let mut engine = engine_of(alloc, read(rt, alloc, file)?)?;
+    let played = play_each(rt, alloc, &mut engine, cases);
+    drop(engine);
+    played
 }
 
 #[test]
@@ -266,16 +278,19 @@ fn rounds_of_a_hidden_game(rt: HostRuntime) -> Result<(), Fail> {
     play_all(&rt, rt.alloc(), TWICE_HIDDEN, ROUNDS_OF_TWICE_HIDDEN)
 }
 
+fn assert_poker(rt: &impl Abort, alloc: Global, cards: u32) -> Result<(), Fail> {
+    assert!(rt; 2 <= cards && cards <= 64);
+    let engine = engine_of(alloc, one_card_poker(alloc, cards)?)?;
+    let leaves = engine.form().leaf_count();
+    drop(engine);
+    assert!(rt; leaves == 5 * cards * (cards - 1), "of {cards} cards");
+    Ok(())
+}
+
 #[test]
 fn poker_has_no_fault(rt: HostRuntime) -> Result<(), Fail> {
-    let alloc = rt.alloc();
     for cards in 2..65 {
-        let engine = Engine::open(alloc, &one_card_poker(alloc, cards)?)?;
-        assert_eq!(rt;
-            engine.form().leaf_count(),
-            5 * cards * (cards - 1),
-            "of {cards} cards"
-        );
+        assert_poker(&rt, rt.alloc(), cards)?;
     }
     Ok(())
 }

@@ -7,8 +7,6 @@ mod arithmetic;
 mod fraction;
 mod literal;
 mod printing;
-#[cfg(test)]
-mod tests;
 mod wide;
 
 pub use arithmetic::{add, compare, lcm, mul, ratio};

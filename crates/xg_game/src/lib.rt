@@ -12,8 +12,6 @@ mod prologue;
 mod sets;
 mod table;
 mod tables;
-#[cfg(test)]
-mod tests;
 mod texts;
 
 pub use def_file::FileFault;

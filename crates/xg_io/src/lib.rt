@@ -17,6 +17,3 @@ pub use reading::{ReadAllFault, read_all};
 pub use real::{RealFiles, RealSink};
 pub use schedule::Schedule;
 pub use writing::{WriteFault, write_all};
-
-#[cfg(test)]
-mod tests;

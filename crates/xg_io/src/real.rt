@@ -10,9 +10,6 @@ use std::alloc::Global;
 use std::io::{ErrorKind, Read, Write};
 use std::{fs, rt};
 
-#[cfg(test)]
-mod tests;
-
 /// The files of the system, by the paths that the names are.
 #[derive(Drop)]
 pub struct RealFiles<R: rt::Files + Drop> {

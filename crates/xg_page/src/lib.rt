@@ -6,6 +6,3 @@ mod page;
 mod text;
 
 pub use text::{Text, write_paged};
-
-#[cfg(test)]
-mod tests;

@@ -3,8 +3,6 @@ use Rattle.std.proofs.Common.{◌≡◌, ℕ, ◌+◌, ◌-◌, ◌<◌, List, l
 use Rattle.std.specs.List.{range_with_len}
 use Rattle.std.proofs.lemmas.List.{get_or-take, length-take-le}
 use Rattle.def_sums.specs.Sum.{nat_sum_over}
-use Rattle.def_sums.proofs.Ranges.{range-append}
-use Rattle.def_sums.proofs.SumLaws.{nat_sum_over-append}
 use Rattle.def_plan.specs.Form.{InformationSet, PlacedSet, placed, sequence_count, sequences_of}
 use Rattle.def_plan.specs.Plan.{AddsUp, HasRoot, IsBadSet, IsPlan}
 use Rattle.def_plan.proofs.BadSets.{length-placed}
@@ -56,8 +54,3 @@ pub no_plan_at : (sets : List InformationSet) (root : ℕ) (plan : List ℕ) (k 
 no_plan_at sets root plan k below bad is =
     let there : k + 1 - 1 < length (placed sets) = omega (arith, length-placed 1 sets) in
     bad no_place (is.each_set (k + 1 - 1) no_place there)
-
--- a sum over one number more
-pub sum_more : (f : ℕ → ℕ) (first n : ℕ)
-    → nat_sum_over f (range_with_len first (n + 1)) ≡ nat_sum_over f (range_with_len first n) + f (first + n)
-sum_more f first n = ap (nat_sum_over f) (range-append first n 1) ∙ nat_sum_over-append f (range_with_len first n) (range_with_len (first + n) 1) ∙ omega arith

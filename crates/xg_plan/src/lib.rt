@@ -18,6 +18,3 @@ pub use plan::Plan;
 pub use play::Play;
 pub use reply::Reply;
 pub use shares::shares_into;
-
-#[cfg(test)]
-mod tests;

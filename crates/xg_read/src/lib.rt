@@ -7,8 +7,6 @@ mod game;
 mod lists;
 mod prologue;
 mod reader;
-#[cfg(test)]
-mod tests;
 mod values;
 mod wanted;
 

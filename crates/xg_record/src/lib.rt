@@ -5,8 +5,6 @@ mod action;
 mod entry;
 mod payoffs;
 mod record;
-#[cfg(test)]
-mod tests;
 mod views;
 
 pub use action::{Action, Actions};

@@ -6,6 +6,3 @@ mod sets;
 
 pub use def_tree::Player;
 pub use reply::best_reply;
-
-#[cfg(test)]
-mod tests;

@@ -1,5 +1,5 @@
--- What a name has where there is no job, and one of two jobs.
-use Rattle.std.specs.Prelude.{ℕ, ◌+◌, ◌*◌, ◌<◌, ◌≤◌, ℤ, pos, [], unsigned_abs}
+-- What a name has where there is no job.
+use Rattle.std.specs.Prelude.{ℕ, ◌<◌, ◌≤◌, ℤ, pos, [], unsigned_abs}
 use Rattle.std.proofs.Common.{arith}
 use Rattle.atomic_table.specs.Seated.{TableId}
 use Rattle.def_sums.specs.Limits.{most_row}
@@ -13,11 +13,3 @@ no_table = record { words = 0; slots = 0; views_name = 0; atom = 0; block = 0; o
 -- no job has no amount
 pub none_is_small : (row : ℕ) → row < 0 → nat_sum_over (λ (job : ℕ). unsigned_abs (pos 0)) (job_numbers 0) ≤ most_row
 none_is_small row none = omega arith
-
--- the first job has a row's number there, the second twice as much
-abbrev pub twofold : ℕ → ℕ → ℤ
-twofold job row = pos (row * (job + 1))
-
-pub twofold_is_small : (row : ℕ) → row < 3
-    → nat_sum_over (λ (job : ℕ). unsigned_abs (twofold job row)) (job_numbers 2) ≤ most_row
-twofold_is_small row below = omega arith

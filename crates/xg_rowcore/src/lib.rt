@@ -13,6 +13,3 @@ mod stripe;
 pub use name::RowName;
 pub use packet::Packet;
 pub use stripe::Stripe;
-
-#[cfg(test)]
-mod tests;

@@ -13,6 +13,3 @@ mod weights;
 pub use weighing::weigh;
 pub use weights::Weights;
 pub use xg_game::{FileFault, Refused};
-
-#[cfg(test)]
-mod tests;

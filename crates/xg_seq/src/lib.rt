@@ -10,6 +10,3 @@ mod table;
 pub use def_tree::Player;
 pub use form::SeqForm;
 pub use leaf::Leaf;
-
-#[cfg(test)]
-mod tests;

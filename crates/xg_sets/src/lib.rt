@@ -10,6 +10,3 @@ mod table;
 pub use building::{RecallFault, build_sets};
 pub use def_tree::Player;
 pub use sets::Sets;
-
-#[cfg(test)]
-mod tests;

@@ -11,6 +11,3 @@ pub use def_tree::{Kind, Node, Player};
 pub use sizes::MOST_ACTIONS;
 pub use tree::Tree;
 pub use visitor::Visitor;
-
-#[cfg(test)]
-mod tests;

@@ -3,7 +3,7 @@ use Rattle.def_cert_verdict.specs.Verdict.{first_failing, first_trace_line, trac
 use Rattle.xg_cert.specs.Printed.{bounds_in}
 use Rattle.xg_check.specs.Parts.{tests_of_plans, tests_of_replies}
 use Rattle.xg_check.proofs.FirstFailingStage.{bounds_parts, rest_decides}
-use Rattle.xg_tests.proofs.TestLemmas.{front_stops}
+use Rattle.xg_check.proofs.TestLemmas.{front_stops}
 use Rattle.xg_check.proofs.judging.fault_of_bounds.Goals as goal
 
 pub returns-then-is_some : goal.returns-then-is_some

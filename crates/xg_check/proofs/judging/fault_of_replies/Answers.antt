@@ -3,7 +3,7 @@ use Rattle.def_tree.specs.declared.Player.TheVariants.{One, Two}
 use Rattle.xg_cert.specs.Printed.{bounds_in}
 use Rattle.xg_check.specs.Parts.{tests_of_reply}
 use Rattle.xg_check.proofs.FirstFailingStage.{if_ok_same, rest_decides}
-use Rattle.xg_tests.proofs.TestLemmas.{front_stops}
+use Rattle.xg_check.proofs.TestLemmas.{front_stops}
 use Rattle.xg_check.proofs.judging.fault_of_replies.Goals as goal
 
 pub returns-then-is_some : goal.returns-then-is_some

@@ -1,0 +1,231 @@
+//! Worked rows: a text with one line changed.
+use std::alloc::Global;
+use std::process::Abort;
+use std::test::Fail;
+use xg_check::{
+    CertFault, CheckFault, FileFault, MOST_CERT_BYTES, Player, Ratio, Verdict, Which, check,
+};
+use xg_frac::ratio;
+use xg_read::MOST_BYTES;
+
+const PENNIES: &str = r#"EFG 2 R "Pennies" { "A" "B" }
+p "" 1 1 "a" { "H" "T" } 0
+p "" 2 1 "b" { "h" "t" } 0
+t "" 1 "win" { 1, -1 }
+t "" 2 "lose" { -1, 1 }
+p "" 2 1 0
+t "" 2
+t "" 1
+"#;
+
+const PENNIES_TEXT: &str = r#"XGCERT 1
+nodes 7 leaves 4
+sets 1 1
+sequences 3 3
+unit 1
+mass 4
+rounds 1 every 1 scale 1048576
+trace 1 1 0 1 0
+plan 1 1048576
+weights 1 524288 524288
+reply 2 0
+value 1 0 1
+plan 2 1048576
+weights 1 524288 524288
+reply 1 0
+value 1 0 1
+bracket 0 0
+end
+"#;
+
+const PENNIES_HEAD: &str = r#"XGCERT 1
+nodes 7 leaves 4
+sets 1 1
+sequences 3 3
+unit 1
+mass 4
+rounds 0 every 1 scale 1048576
+end
+"#;
+
+const MOVER: &str = r#"EFG 2 R "One mover" { "A" "B" }
+p "" 1 1 "a" { "L" "R" } 0
+t "" 1 { 1, -1 }
+t "" 2 { 0, 0 }
+"#;
+
+const MOVER_TEXT: &str = r#"XGCERT 1
+nodes 3 leaves 2
+sets 1 0
+sequences 3 1
+unit 1
+mass 1
+rounds 2 every 1 scale 1048576
+trace 1 1 524288 1 1048576
+trace 2 2 1572864 1 1048576
+plan 1 2097152
+weights 1 1572864 524288
+reply 2 1572864
+plan 2 1048576
+reply 1 1048576
+value 1 1048576 1
+bracket 3/4 1
+end
+"#;
+
+/// A part that stands first, and what takes its place.
+pub(crate) type Change = (&'static str, &'static str);
+
+/// Changes of a text, one after another, and why it is refused then.
+pub(crate) type Row = (&'static [Change], CheckFault);
+
+pub(crate) fn checked(
+    rt: &impl Abort,
+    alloc: Global,
+    game: &str,
+    text: &str,
+) -> Result<Verdict, CheckFault> {
+    assert!(rt; game.len() <= MOST_BYTES && text.len() <= MOST_CERT_BYTES);
+    check(alloc, game.as_bytes(), text.as_bytes())
+}
+
+/// The text, or the file, where a part is replaced where it stands first.
+fn changed(alloc: Global, text: &str, part: &str, by: &str) -> Result<String, Fail> {
+    let (before, after) = text.split_once(part).ok_or("no such part")?;
+    Ok(format!(in alloc; "{before}{by}{after}")?)
+}
+
+fn changed_by_all(alloc: Global, text: &str, changes: &[Change]) -> Result<String, Fail> {
+    let mut text = String::from_str(alloc, text)?;
+    for (part, by) in changes {
+        text = changed(alloc, text.as_str(), part, by)?;
+    }
+    Ok(text)
+}
+
+/// The place of the first row that isn't refused as it says.
+pub(crate) fn first_other(
+    rt: &impl Abort,
+    alloc: Global,
+    game: &str,
+    text: &str,
+    rows: &[Row],
+) -> Result<Option<usize>, Fail> {
+    for (&(changes, fault), place) in rows.iter().zip(0..usize::MAX) {
+        let text = changed_by_all(alloc, text, changes)?;
+        if checked(rt, alloc, game, text.as_str()) != Err(fault) {
+            return Ok(Some(place));
+        }
+    }
+    Ok(None)
+}
+
+pub(crate) fn bounds(low: Ratio, high: Ratio) -> Result<Verdict, CheckFault> {
+    Ok(Verdict::Bounds { low, high })
+}
+
+#[test]
+fn accepts(rt: HostRuntime) -> Result<(), Fail> {
+    let even = bounds(ratio(0, 1), ratio(0, 1));
+    assert!(rt;
+        checked(&rt, rt.alloc(), PENNIES, PENNIES_TEXT) == even
+            && checked(&rt, rt.alloc(), PENNIES, PENNIES_HEAD) == Ok(Verdict::HeadOnly)
+            && checked(&rt, rt.alloc(), MOVER, MOVER_TEXT) == bounds(ratio(3, 4), ratio(1, 1))
+    );
+    Ok(())
+}
+
+#[test]
+fn accepts_each_best_reply(rt: HostRuntime) -> Result<(), Fail> {
+    let other = changed(rt.alloc(), PENNIES_TEXT, "value 1 0 1", "value 1 0 2")?;
+    let even = bounds(ratio(0, 1), ratio(0, 1));
+    assert!(rt; checked(&rt, rt.alloc(), PENNIES, other.as_str()) == even);
+    Ok(())
+}
+
+const PENNIES_ROWS: &[Row] = &[
+    (
+        &[("value 1 0 1", "value 1 1 1")],
+        CheckFault::ValueTooGood {
+            player: Player::Two,
+            set: 1,
+            action: 1,
+        },
+    ),
+    (
+        &[("value 1 0 1", "value 1 -1 1")],
+        CheckFault::ReplyNotTight {
+            player: Player::Two,
+            set: 1,
+        },
+    ),
+    (
+        &[("value 1 0 1", "value 1 0 3")],
+        CheckFault::ReplyNotTight {
+            player: Player::Two,
+            set: 1,
+        },
+    ),
+    (
+        &[("reply 2 0", "reply 2 1")],
+        CheckFault::TotalDiffers { end: Which::Lower },
+    ),
+    (
+        &[("bracket 0 0", "bracket 0 1")],
+        CheckFault::TotalDiffers { end: Which::Upper },
+    ),
+    (
+        &[("weights 1 524288 524288", "weights 1 524288 524289")],
+        CheckFault::NotAPlan {
+            player: Player::One,
+            set: 1,
+        },
+    ),
+    (
+        &[("plan 1 1048576", "plan 1 1048577")],
+        CheckFault::NotAPlan {
+            player: Player::One,
+            set: 0,
+        },
+    ),
+    (
+        &[("XGCERT 1", "XGCERT 3")],
+        CheckFault::Cert(CertFault::CertVersion),
+    ),
+    (&[("end\n", "end")], CheckFault::Cert(CertFault::CertShort)),
+    (
+        &[("end\n", "end\nx")],
+        CheckFault::Cert(CertFault::CertTrailing { at: 248 }),
+    ),
+];
+
+const MOVER_ROWS: &[Row] = &[(
+    &[("trace 1 1 524288 1", "trace 1 1 1048576 1")],
+    CheckFault::TraceWidens { line: 9 },
+)];
+
+#[test]
+fn refuses(rt: HostRuntime) -> Result<(), Fail> {
+    assert_eq!(rt;
+        first_other(&rt, rt.alloc(), PENNIES, PENNIES_TEXT, PENNIES_ROWS)?,
+        None
+    );
+    assert_eq!(rt;
+        first_other(&rt, rt.alloc(), MOVER, MOVER_TEXT, MOVER_ROWS)?,
+        None
+    );
+    Ok(())
+}
+
+#[test]
+fn refuses_for_the_file(rt: HostRuntime) -> Result<(), Fail> {
+    let heavier = changed(rt.alloc(), PENNIES, "{ 1, -1 }", "{ 2, -2 }")?;
+    let head = CheckFault::HeadDiffers { line: 6 };
+    // The file's fault comes before that of the text.
+    let file = CheckFault::File(FileFault::Syntax { at: 0 });
+    assert!(rt;
+        checked(&rt, rt.alloc(), heavier.as_str(), PENNIES_TEXT) == Err(head)
+            && checked(&rt, rt.alloc(), "NFG", "XGCERT 3\n") == Err(file)
+    );
+    Ok(())
+}

@@ -1,0 +1,12 @@
+#![tactic(auto)]
+//! The tests of certificates: how they are written, read and checked. They stand apart, since a crate with tests is
+//! proved twice.
+
+#[cfg(test)]
+mod checking;
+#[cfg(test)]
+mod checking_larger;
+#[cfg(test)]
+mod reading;
+#[cfg(test)]
+mod writing;

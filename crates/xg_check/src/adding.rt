@@ -1,0 +1,116 @@
+//! The worths of sequences: leaf sums, and the printed values of the sets directly after.
+ghost use Rattle.std.specs.Prelude.{◌≡◌, ℕ, ◌+◌, ◌^◌, ◌<◌, ◌≤◌, pos, ◌+ℤ◌, ◌*ℤ◌, All};
+ghost use Rattle.std.specs.Prelude.{length, slice_index, unsigned_abs};
+ghost use Rattle.def_sums.specs.Limits.{most_root};
+ghost use Rattle.def_tree.specs.Opponent.{opponent};
+ghost use Rattle.def_plan.specs.Form.{AreInOrder, leaf_sequence, placed, player_sets, sequence_count};
+ghost use Rattle.def_plan.specs.Payoff.{leaf_sum, values_after};
+ghost use Rattle.def_cert_ranges.specs.Ranges.{most_printed};
+ghost use Rattle.xg_seq.specs.Leaves.{leaf_of};
+ghost use Rattle.xg_seq.specs.Table.{most_sequences};
+ghost use Rattle.xg_check.specs.Views.{AddsAt, AreAllWithin, paid_at_leaf, row};
+
+use crate::parts::place_of;
+use def_tree::Player;
+use xg_seq::{Leaf, SeqForm};
+
+fn plus(a: i128, b: i128) -> i128
+    requires { unsigned_abs (a +ℤ b) < 2 ^ 127 }
+    ensures { result ≡ a +ℤ b }
+{
+    a + b
+}
+
+fn times(w: i64, n: u64) -> i128
+    requires { n ≤ most_root }
+    ensures value { result ≡ w *ℤ pos n }
+    ensures size { unsigned_abs result ≤ 2 ^ 99 }
+{
+    w as i128 * n as i128
+}
+
+fn add_at(rows: &mut [i128], k: usize, x: i128)
+    requires there { k < length rows.old }
+    requires room { AreAllWithin (2 ^ 125) rows.old }
+    requires small { unsigned_abs x ≤ 2 ^ 125 }
+    ensures added { AddsAt rows.old rows.new k x }
+    ensures same_length { length rows.new ≡ length rows.old }
+{
+    rows[k] = plus(rows[k], x);
+}
+
+fn own(player: Player, z: Leaf) -> usize
+    ensures { result ≡ leaf_sequence player (leaf_of z) }
+{
+    match player {
+        Player::One => z.seq1 as usize,
+        Player::Two => z.seq2 as usize,
+    }
+}
+
+fn other(player: Player, z: Leaf) -> usize
+    ensures { result ≡ leaf_sequence (opponent player) (leaf_of z) }
+{
+    match player {
+        Player::One => z.seq2 as usize,
+        Player::Two => z.seq1 as usize,
+    }
+}
+
+// Adds a leaf to the row of its sequence.
+fn add_leaf(player: Player, z: Leaf, against: &[u64], rows: &mut [i128])
+    requires own_there { leaf_sequence player (leaf_of z) < length rows.old }
+    requires other_there { leaf_sequence (opponent player) (leaf_of z) < length against.now }
+    requires numbers { (s : ℕ) → slice_index against.now s ≤ most_root }
+    requires room { AreAllWithin (2 ^ 125) rows.old }
+    ensures added { AddsAt rows.old rows.new (leaf_sequence player (leaf_of z)) (paid_at_leaf player against.now (leaf_of z)) }
+    ensures small { unsigned_abs (paid_at_leaf player against.now (leaf_of z)) ≤ 2 ^ 99 }
+    ensures same_length { length rows.new ≡ length rows.old }
+{
+    let n = against[other(player, z)];
+    add_at(rows, own(player, z), times(z.w, n));
+}
+
+/// Adds each leaf's weight, times the other player's number, to the row of the player's sequence.
+pub(crate) fn add_leaves(form: &SeqForm, player: Player, against: &[u64], rows: &mut [i128])
+    requires rows { length rows.old ≡ sequence_count (player_sets form.now player) }
+    requires against { length against.now ≡ sequence_count (player_sets form.now (opponent player)) }
+    requires numbers { (s : ℕ) → slice_index against.now s ≤ most_root }
+    requires none { AreAllWithin 0 rows.old }
+    ensures sums { (s : ℕ) → row rows.new s ≡ row rows.old s +ℤ leaf_sum player form.now.leaves against.now s }
+    ensures same_length { length rows.new ≡ length rows.old }
+    ensures small { AreAllWithin (2 ^ 119) rows.new }
+{
+    for z in 0..form.leaf_count() {
+        add_leaf(player, form.leaf(z + 1), against, rows);
+    }
+}
+
+fn add_value(before: u32, values: &[i128], k: usize, rows: &mut [i128])
+    requires there { before < length rows.old }
+    requires value_there { k < length values.now }
+    requires value { unsigned_abs (row values.now k) ≤ most_printed }
+    requires room { AreAllWithin (2 ^ 125) rows.old }
+    ensures added { AddsAt rows.old rows.new before (row values.now k) }
+    ensures same_length { length rows.new ≡ length rows.old }
+{
+    add_at(rows, before as usize, values[k]);
+}
+
+/// Adds the printed values to the rows of the sequences before their sets.
+pub(crate) fn add_values(form: &SeqForm, player: Player, values: &[i128], rows: &mut [i128])
+    requires as_many { length values.now ≡ length (player_sets form.now player) }
+    requires values { All (λ v. unsigned_abs v ≤ most_printed) values.now }
+    requires order { AreInOrder (player_sets form.now player) }
+    requires limit { sequence_count (player_sets form.now player) ≤ most_sequences }
+    requires rows { length rows.old ≡ sequence_count (player_sets form.now player) }
+    requires room { AreAllWithin (2 ^ 119) rows.old }
+    ensures sums { (s : ℕ) → row rows.new s
+        ≡ row rows.old s +ℤ values_after (placed (player_sets form.now player)) values.now s }
+    ensures same_length { length rows.new ≡ length rows.old }
+{
+    for k in 0..form.set_count(player) {
+        let h = place_of(form, player, k + 1);
+        add_value(h.before, values, k as usize, rows);
+    }
+}

@@ -1,0 +1,342 @@
+//! The same words, read by `clap` with a command of the same options.
+use crate::commands::{Row, assert_no_row, words_of};
+use clap::error::ErrorKind;
+use clap::{Arg, ArgAction, ArgMatches, value_parser};
+use std::alloc::{AllocError, Global};
+use std::process::Abort;
+use std::test::Fail;
+use xg_command::{Command, Settings};
+
+fn numbered<'a>(alloc: Global, name: &'a str, least: i64, most: i64) -> Arg<'a> {
+    Arg::new(alloc, name)
+        .long(name)
+        .action(ArgAction::Set)
+        .value_parser(value_parser!(u32).range(least..=most))
+}
+
+fn plain<'a>(alloc: Global, name: &'a str) -> Arg<'a> {
+    Arg::new(alloc, name).action(ArgAction::Set).required(true)
+}
+
+fn command_with<'a>(
+    alloc: Global,
+    name: &'a str,
+    word: Arg<'a>,
+) -> Result<clap::Command<'a>, AllocError> {
+    clap::Command::new(alloc, name)
+        .disable_help_flag(true)
+        .arg(word)
+}
+
+fn command_with_options<'a>(
+    alloc: Global,
+    name: &'a str,
+    word: Arg<'a>,
+) -> Result<clap::Command<'a>, AllocError> {
+    command_with(alloc, name, word)?
+        .arg(numbered(alloc, "rounds", 0, 65_536))?
+        .arg(numbered(alloc, "every", 1, 65_536))?
+        .arg(numbered(alloc, "scale", 1, 1_048_576))?
+        .arg(numbered(alloc, "workers", 1, 64))
+}
+
+fn cards<'a>(alloc: Global) -> Arg<'a> {
+    plain(alloc, "N").value_parser(value_parser!(u32).range(2..=64))
+}
+
+/// The command that has this one below it too, where there is memory for it.
+fn with_subcommand<'a>(
+    program: clap::Command<'a>,
+    below: Result<clap::Command<'a>, AllocError>,
+) -> Result<clap::Command<'a>, AllocError> {
+    match below {
+        Ok(below) => program.subcommand(below),
+        Err(error) => Err(error),
+    }
+}
+
+fn check<'a>(alloc: Global) -> Result<clap::Command<'a>, AllocError> {
+    command_with(alloc, "check", plain(alloc, "FILE"))?.arg(plain(alloc, "CERT"))
+}
+
+fn program<'a>(alloc: Global) -> Result<clap::Command<'a>, AllocError> {
+    let program = clap::Command::new(alloc, "xg_solve")
+        .disable_help_flag(true)
+        .disable_help_subcommand(true)
+        .subcommand_required(true);
+    let solve = command_with_options(alloc, "solve", plain(alloc, "FILE"));
+    let program = with_subcommand(program, solve)?;
+    let program = with_subcommand(program, check(alloc))?;
+    let info = command_with(alloc, "info", plain(alloc, "FILE"));
+    let program = with_subcommand(program, info)?;
+    let program = with_subcommand(program, command_with(alloc, "gen", cards(alloc)))?;
+    with_subcommand(program, command_with_options(alloc, "drill", cards(alloc)))
+}
+
+fn number<'a>(given: &ArgMatches<'a>, name: &str, otherwise: u32) -> u32 {
+    given.get_one::<u32>(name).unwrap_or(otherwise)
+}
+
+fn settings_of<'a>(given: &ArgMatches<'a>) -> Settings {
+    let rounds = number(given, "rounds", 1000);
+    Settings {
+        rounds,
+        every: number(given, "every", rounds.max(1)),
+        scale: number(given, "scale", 1_048_576),
+    }
+}
+
+fn command_of<'a>(matches: &ArgMatches<'a>) -> Option<Command<'a>> {
+    let (name, given) = matches.subcommand()?;
+    match name {
+        "solve" => Some(Command::Solve {
+            file: given.get_str("FILE")?,
+            settings: settings_of(given),
+            workers: given.get_one::<u32>("workers"),
+        }),
+        "check" => Some(Command::Check {
+            file: given.get_str("FILE")?,
+            certificate: given.get_str("CERT")?,
+        }),
+        "info" => Some(Command::Info {
+            file: given.get_str("FILE")?,
+        }),
+        "gen" => Some(Command::Gen {
+            cards: given.get_one::<u32>("N")?,
+        }),
+        _ => Some(Command::Drill {
+            cards: given.get_one::<u32>("N")?,
+            settings: settings_of(given),
+            workers: given.get_one::<u32>("workers"),
+        }),
+    }
+}
+
+/// The words have the program's name first.
+fn read_by_clap<'a>(alloc: Global, words: &'a [&'a str]) -> Result<Option<Command<'a>>, Fail> {
+    match program(alloc)?.try_get_matches_from(words) {
+        Ok(matches) => Ok(command_of(&matches)),
+        Err(error) if error.kind() == ErrorKind::OutOfMemory => Err(Fail::from(error)),
+        Err(_) => Ok(None),
+    }
+}
+
+/// The words behind the program's name.
+fn behind_name<'a>(words: &'a [&'a str]) -> &'a [&'a str] {
+    match words {
+        [_, rest @ ..] => rest,
+        [] => words,
+    }
+}
+
+/// Whether words are taken, by both in the same way.
+fn agree<'a>(rt: &impl Abort, alloc: Global, words: &'a [&'a str]) -> Result<bool, Fail> {
+    let by_clap = read_by_clap(alloc, words)?;
+    let taken = words_of(alloc, behind_name(words))?;
+    assert!(rt; taken.command() == by_clap, "{words:?}");
+    Ok(by_clap.is_some())
+}
+
+const BEHIND: Row = &[
+    "F1",
+    "",
+    "0",
+    "007",
+    "65537",
+    "--rounds",
+    "--rounds=7",
+    "--rounds=65537",
+    "--rounds=",
+    "--every",
+    "--every=0",
+    "--every=65536",
+    "--workers=65",
+    "--workers=2",
+    "--scale=1",
+    "--round",
+    "-x",
+];
+
+/// How often words are taken with each word of `BEHIND` behind them.
+fn count_taken(rt: &impl Abort, alloc: Global, words: &mut Vec<&'static str>) -> Result<u32, Fail> {
+    let mut taken = 0u32;
+    for word in BEHIND {
+        words.push(word)?;
+        taken = taken.saturating_add(agree(rt, alloc, words)? as u32);
+        words.pop();
+    }
+    Ok(taken)
+}
+
+/// The same with two words behind them.
+fn count_taken_by_two(
+    rt: &impl Abort,
+    alloc: Global,
+    words: &mut Vec<&'static str>,
+) -> Result<u32, Fail> {
+    let mut taken = 0u32;
+    for word in BEHIND {
+        words.push(word)?;
+        taken = taken.saturating_add(count_taken(rt, alloc, words)?);
+        words.pop();
+    }
+    Ok(taken)
+}
+
+/// The same with three words behind them.
+fn count_taken_by_three(
+    rt: &impl Abort,
+    alloc: Global,
+    words: &mut Vec<&'static str>,
+) -> Result<u32, Fail> {
+    let mut taken = 0u32;
+    for word in BEHIND {
+        words.push(word)?;
+        taken = taken.saturating_add(count_taken_by_two(rt, alloc, words)?);
+        words.pop();
+    }
+    Ok(taken)
+}
+
+/// A first word, with how often it is taken with one word behind it, and with two.
+type Front = (&'static str, u32, u32);
+
+const FRONTS: &[Front] = &[
+    ("solve", 5, 40),
+    ("info", 5, 0),
+    ("gen", 1, 0),
+    ("check", 0, 25),
+    ("drill", 1, 8),
+    ("--rounds=1", 0, 0),
+    ("", 0, 0),
+];
+
+/// The first word behind the program's name.
+fn list_of(alloc: Global, first: &'static str) -> Result<Vec<&'static str>, Fail> {
+    Ok(vec![in alloc; "xg_solve", first]?)
+}
+
+fn is_as_told(rt: &impl Abort, alloc: Global, front: Front) -> Result<bool, Fail> {
+    let mut words = list_of(alloc, front.0)?;
+    Ok(
+        !agree(rt, alloc, words.as_slice())?
+            && count_taken(rt, alloc, &mut words)? == front.1
+            && count_taken_by_two(rt, alloc, &mut words)? == front.2,
+    )
+}
+
+/// The first of `FRONTS` that is taken in another number.
+fn first_other(rt: &impl Abort, alloc: Global) -> Result<Option<&'static str>, Fail> {
+    for front in FRONTS {
+        if !is_as_told(rt, alloc, *front)? {
+            return Ok(Some(front.0));
+        }
+    }
+    Ok(None)
+}
+
+#[test]
+fn agrees_with_clap(rt: HostRuntime) -> Result<(), Fail> {
+    let mut solve = list_of(rt.alloc(), "solve")?;
+    assert!(rt; count_taken_by_three(&rt, rt.alloc(), &mut solve)? == 210);
+    assert_eq!(rt; first_other(&rt, rt.alloc())?, None);
+    Ok(())
+}
+
+/// Words that both take, and such that neither takes.
+const MORE: &[(Row, bool)] = &[
+    (&["xg_solve", "solve", "--rounds=0", "F1"], true),
+    (
+        &["xg_solve", "solve", "F2", "--rounds", "2", "--every", "1"],
+        true,
+    ),
+    (
+        &[
+            "xg_solve",
+            "solve",
+            "--scale",
+            "3",
+            "--every=2",
+            "F2",
+            "--rounds",
+            "1",
+        ],
+        true,
+    ),
+    (
+        &[
+            "xg_solve",
+            "solve",
+            "F2",
+            "--rounds",
+            "2",
+            "--every",
+            "1",
+            "--rounds=2",
+        ],
+        false,
+    ),
+    (
+        &[
+            "xg_solve",
+            "solve",
+            "--rounds",
+            "2",
+            "--every",
+            "1",
+            "--scale=1",
+        ],
+        false,
+    ),
+    (
+        &[
+            "xg_solve",
+            "solve",
+            "F1",
+            "--rounds",
+            "18446744073709551616",
+        ],
+        false,
+    ),
+];
+
+#[test]
+fn agrees_with_clap_on_more_words(rt: HostRuntime) -> Result<(), Fail> {
+    for &(words, is_taken) in MORE {
+        assert!(rt; agree(&rt, rt.alloc(), words)? == is_taken);
+    }
+    Ok(())
+}
+
+/// Words that `clap` takes and the program refuses. Behind `--` each word is a plain one to clap, and a lone minus is
+/// one anywhere; and a number in Rust's spelling may have a plus.
+const TAKEN_BY_CLAP: &[Row] = &[
+    &["xg_solve", "solve", "--", "F1"],
+    &["xg_solve", "solve", "--", "-x"],
+    &["xg_solve", "info", "F1", "--"],
+    &["xg_solve", "info", "-"],
+    &["xg_solve", "solve", "F1", "--rounds=+1"],
+    &["xg_solve", "solve", "F1", "--rounds", "+1"],
+];
+
+fn is_taken_by_clap_alone<'a>(alloc: Global, words: &'a [&'a str]) -> Result<bool, Fail> {
+    let by_clap = read_by_clap(alloc, words)?;
+    let taken = words_of(alloc, behind_name(words))?;
+    Ok(by_clap.is_some() && taken.command().is_none())
+}
+
+/// The first of `TAKEN_BY_CLAP` that isn't taken by clap alone.
+fn first_not_by_clap_alone(alloc: Global) -> Result<Option<Row>, Fail> {
+    for words in TAKEN_BY_CLAP {
+        if !is_taken_by_clap_alone(alloc, words)? {
+            return Ok(Some(words));
+        }
+    }
+    Ok(None)
+}
+
+#[test]
+fn differs_from_clap_by_nature(rt: HostRuntime) -> Result<(), Fail> {
+    assert_no_row(&rt, first_not_by_clap_alone(rt.alloc())?);
+    Ok(())
+}

@@ -1,0 +1,299 @@
+//! Rows of words, each with the command that it names or with none.
+use std::alloc::{AllocError, Global};
+use std::process::Abort;
+use std::test::Fail;
+use xg_command::{Command, Settings, Words};
+
+fn push_all(words: &mut Words, row: &[&str]) -> Result<(), AllocError> {
+    for word in row {
+        words.push(word)?;
+    }
+    Ok(())
+}
+
+pub(crate) fn words_of(alloc: Global, row: &[&str]) -> Result<Words, AllocError> {
+    let mut words = Words::new(alloc);
+    push_all(&mut words, row)?;
+    Ok(words)
+}
+
+/// Words of a call.
+pub(crate) type Row = &'static [&'static str];
+
+/// Shows the row that is there.
+pub(crate) fn assert_no_row(rt: &impl Abort, row: Option<Row>) {
+    assert_eq!(rt; row, None);
+}
+
+const fn settings(rounds: u32, every: u32, scale: u32) -> Settings {
+    Settings {
+        rounds,
+        every,
+        scale,
+    }
+}
+
+const fn solve(file: &str, rounds: u32, every: u32, scale: u32) -> Option<Command<'_>> {
+    Some(Command::Solve {
+        file,
+        settings: settings(rounds, every, scale),
+        workers: None,
+    })
+}
+
+const fn drill(cards: u32, rounds: u32, workers: Option<u32>) -> Option<Command<'static>> {
+    Some(Command::Drill {
+        cards,
+        settings: settings(rounds, rounds, 1_048_576),
+        workers,
+    })
+}
+
+/// Whether the words of a row name this command.
+fn names(alloc: Global, row: &[&str], command: Option<Command<'_>>) -> Result<bool, AllocError> {
+    let words = words_of(alloc, row)?;
+    Ok(words.command() == command)
+}
+
+/// The words, the rounds, after how many of them the plans are evaluated, and the scale.
+const SOLVED: &[(Row, u32, u32, u32)] = &[
+    (&["solve", "F1"], 1000, 1000, 1_048_576),
+    (&["solve", "--rounds=0", "F1"], 0, 1, 1_048_576),
+    (&["solve", "--rounds", "0", "F1"], 0, 1, 1_048_576),
+    (&["solve", "F1", "--rounds", "0"], 0, 1, 1_048_576),
+    (&["solve", "F1", "--rounds", "1"], 1, 1, 1_048_576),
+    (&["solve", "F1", "--rounds", "007"], 7, 7, 1_048_576),
+    (
+        &[
+            "solve",
+            "F1",
+            "--rounds=000000000000000000000000000000000000000012",
+        ],
+        12,
+        12,
+        1_048_576,
+    ),
+    (
+        &["solve", "F1", "--rounds", "65536"],
+        65_536,
+        65_536,
+        1_048_576,
+    ),
+    (&["solve", "F1", "--every=65536"], 1000, 65_536, 1_048_576),
+    (&["solve", "F1", "--every", "1"], 1000, 1, 1_048_576),
+    (&["solve", "F1", "--rounds=0", "--every=3"], 0, 3, 1_048_576),
+    (&["solve", "F1", "--scale", "1"], 1000, 1000, 1),
+    (&["solve", "F1", "--scale=1048576"], 1000, 1000, 1_048_576),
+    (
+        &["solve", "--rounds", "2", "F1", "--every", "1"],
+        2,
+        1,
+        1_048_576,
+    ),
+    (
+        &["solve", "--every=3", "--rounds", "4", "--scale", "5", "F1"],
+        4,
+        3,
+        5,
+    ),
+];
+
+/// The first row of `SOLVED` whose words name another command.
+fn first_not_solved(alloc: Global) -> Result<Option<Row>, AllocError> {
+    for &(row, rounds, every, scale) in SOLVED {
+        if !names(alloc, row, solve("F1", rounds, every, scale))? {
+            return Ok(Some(row));
+        }
+    }
+    Ok(None)
+}
+
+#[test]
+fn takes_the_words_of_solve(rt: HostRuntime) -> Result<(), Fail> {
+    assert_no_row(&rt, first_not_solved(rt.alloc())?);
+    Ok(())
+}
+
+/// The words, the cards, the rounds, and the workers where their number is given.
+const DRILLED: &[(Row, u32, u32, Option<u32>)] = &[
+    (&["drill", "3"], 3, 1000, None),
+    (&["drill", "--rounds=1", "03"], 3, 1, None),
+    (
+        &["drill", "64", "--workers", "64", "--rounds", "10"],
+        64,
+        10,
+        Some(64),
+    ),
+    (&["drill", "--workers=1", "2", "--rounds=5"], 2, 5, Some(1)),
+];
+
+/// The first row of `DRILLED` whose words name another command.
+fn first_not_drilled(alloc: Global) -> Result<Option<Row>, AllocError> {
+    for &(row, cards, rounds, workers) in DRILLED {
+        if !names(alloc, row, drill(cards, rounds, workers))? {
+            return Ok(Some(row));
+        }
+    }
+    Ok(None)
+}
+
+const OTHERS: &[(Row, Command<'static>)] = &[
+    (
+        &["check", "F1", "C1"],
+        Command::Check {
+            file: "F1",
+            certificate: "C1",
+        },
+    ),
+    (&["gen", "2"], Command::Gen { cards: 2 }),
+    (&["gen", "007"], Command::Gen { cards: 7 }),
+    (&["gen", "64"], Command::Gen { cards: 64 }),
+];
+
+/// The first row of `OTHERS` whose words name another command.
+fn first_other(alloc: Global) -> Result<Option<Row>, AllocError> {
+    for &(row, command) in OTHERS {
+        if !names(alloc, row, Some(command))? {
+            return Ok(Some(row));
+        }
+    }
+    Ok(None)
+}
+
+#[test]
+fn takes_other_commands(rt: HostRuntime) -> Result<(), Fail> {
+    assert_no_row(&rt, first_other(rt.alloc())?);
+    assert_no_row(&rt, first_not_drilled(rt.alloc())?);
+    Ok(())
+}
+
+const FILES: Row = &[
+    "F1",
+    "",
+    "solve",
+    "info",
+    "a=b",
+    "rounds",
+    " --rounds",
+    "a-b",
+    "10",
+    "–rounds",
+];
+
+/// Whether `info` and `solve` take this word as a file.
+fn is_taken_as_a_file(alloc: Global, file: &str) -> Result<bool, AllocError> {
+    let solved = solve(file, 1000, 1000, 1_048_576);
+    Ok(
+        names(alloc, &["info", file], Some(Command::Info { file }))?
+            && names(alloc, &["solve", file], solved)?,
+    )
+}
+
+/// The first word that isn't taken as a file.
+fn first_no_file(alloc: Global) -> Result<Option<&'static str>, AllocError> {
+    for file in FILES {
+        if !is_taken_as_a_file(alloc, file)? {
+            return Ok(Some(file));
+        }
+    }
+    Ok(None)
+}
+
+#[test]
+fn takes_any_word_as_a_file(rt: HostRuntime) -> Result<(), Fail> {
+    assert_eq!(rt; first_no_file(rt.alloc())?, None);
+    Ok(())
+}
+
+const REFUSED: &[Row] = &[
+    &[""],
+    &["solve"],
+    &["info"],
+    &["Solve", "F1"],
+    &["solve ", "F1"],
+    &["sol", "F1"],
+    &["F1"],
+    &["gen"],
+    &["gen", "1"],
+    &["gen", "65"],
+    &["gen", "F1"],
+    &["gen", "+3"],
+    &["gen", "3", "4"],
+    &["gen", "3", "--rounds=1"],
+    &["drill"],
+    &["drill", "1"],
+    &["drill", "65"],
+    &["drill", "3", "4"],
+    &["drill", "F1"],
+    &["drill", "3", "--workers=0"],
+    &["check"],
+    &["check", "F1"],
+    &["check", "F1", "C1", "C2"],
+    &["check", "F1", "C1", "--rounds=1"],
+    &["check", "F1", "--"],
+    &["--help"],
+    &["--version"],
+    &["--rounds", "0", "solve", "F1"],
+    &["--rounds=0", "solve", "F1"],
+    &["solve", "F1", "F1"],
+    &["solve", "F1", ""],
+    &["solve", "-"],
+    &["solve", "F1", "-"],
+    &["solve", "F1", "--"],
+    &["solve", "--", "F1"],
+    &["solve", "F1", "-r"],
+    &["solve", "F1", "--help"],
+    &["solve", "F1", "--rounds"],
+    &["solve", "F1", "--rounds="],
+    &["solve", "F1", "--rounds", ""],
+    &["solve", "F1", "--rounds=+1"],
+    &["solve", "F1", "--rounds", "+1"],
+    &["solve", "F1", "--rounds=-1"],
+    &["solve", "F1", "--rounds", "1 "],
+    &["solve", "F1", "--rounds=0x1"],
+    &["solve", "F1", "--rounds==1"],
+    &["solve", "F1", "--rounds 1"],
+    &["solve", "F1", "--round", "1"],
+    &["solve", "F1", "-rounds", "1"],
+    &["solve", "F1", "--Rounds", "1"],
+    &["solve", "F1", "--rounds", "65537"],
+    &["solve", "F1", "--rounds", "18446744073709551616"],
+    &[
+        "solve",
+        "F1",
+        "--rounds",
+        "340282366920938463463374607431768211457",
+    ],
+    &["solve", "F1", "--every", "0"],
+    &["solve", "F1", "--every", "65537"],
+    &["solve", "F1", "--scale", "0"],
+    &["solve", "F1", "--scale", "1048577"],
+    &["solve", "F1", "--workers", "0"],
+    &["solve", "F1", "--workers=65"],
+    &["solve", "F1", "--workers=2", "--workers=2"],
+    &["solve", "F1", "--rounds", "1", "--rounds", "1"],
+    &["solve", "F1", "--rounds=1", "--rounds", "1"],
+    &["solve", "F1", "--rounds", "1", "--rounds=1"],
+    &["info", "F1", "--rounds", "1"],
+    &["info", "--rounds=1", "F1"],
+    &["info", "F1", "--scale", "1"],
+    &["info", "F1", "F1"],
+    &["info", "-"],
+];
+
+/// The first row of `REFUSED` whose words name a command.
+fn first_taken(alloc: Global) -> Result<Option<Row>, AllocError> {
+    for row in REFUSED {
+        if !names(alloc, row, None)? {
+            return Ok(Some(row));
+        }
+    }
+    Ok(None)
+}
+
+#[test]
+fn refuses_other_words(rt: HostRuntime) -> Result<(), Fail> {
+    assert!(rt; Words::new(rt.alloc()).command().is_none());
+    assert_no_row(&rt, first_taken(rt.alloc())?);
+    Ok(())
+}

@@ -1,0 +1,326 @@
+//! Workers that add into the rows of small games.
+ghost use Rattle.std.specs.Prelude.{◌≡◌, ◌≤◌, All, IfOk, length};
+ghost use Rattle.std.specs.Thread.{IsSync};
+ghost use Rattle.def_rows.specs.Rows.{row_count};
+ghost use Rattle.def_sums.specs.Limits.{most_root};
+ghost use Rattle.xg_jobs.specs.Rows.{AreNumbersOf, ArePlainSums};
+ghost use Rattle.xg_jobs.specs.Table.{IsTableOf, most_touched};
+ghost use Rattle.xg_board.specs.Running.{job_amounts};
+
+use crate::made::{Built, LEAF, PENNIES, PENNIES_WEIGHTS, are_rows, build, input_of, node};
+use std::alloc::{AllocError, Global};
+use std::marker::Brand;
+use std::process::Abort;
+use std::sync::Wait;
+use std::sync::atomic::{AtomicU64, Ordering};
+use std::test::Fail;
+use std::thread::Threads;
+use xg_board::{Base, LockedRows, MadeBy, RowBoard, run_rows};
+use xg_io::{Gate, OpenGate};
+use xg_jobs::{JobTable, PlainRows, RowInput, RowMaker, Rows};
+use xg_rowcore::{Packet, RowName};
+use xg_tree::{Kind, Node};
+
+// Draws, adds and closes with one pass.
+fn add_by_one_pass<Rt: Abort + Threads + Wait + Sync, N: RowName>(
+    rt: &Rt,
+    alloc: Global,
+    base: Base,
+    packet: &mut Packet,
+    input: &RowInput<'_>,
+    jobs: &JobTable,
+) -> Result<Rows, Fail>
+    requires room { most_touched jobs.now.touched ≤ packet.old.entries.room }
+    requires numbers { AreNumbersOf input.now.form.now input.now.one.now input.now.two.now }
+    requires table { IsTableOf input.now.form.now jobs.now }
+    requires jobs { length jobs.now.ranges ≡ N.jobs }
+    requires rows { row_count input.now.form.now ≡ N.rows }
+    requires amount { job_amounts input.now.form.now input.now.one.now input.now.two.now jobs.now.ranges ≡ N.amount }
+    requires base { (base.table.shared.table_id ≡ N.table) × (base.jobs ≡ length jobs.now.ranges) }
+{
+    let mut passes = Vec::with_capacity(alloc, 1)?;
+    let (board, mut purse) = RowBoard::<N>::open(alloc, base, input.form, jobs)?;
+    let mut pass = board.pass(&mut purse, 5);
+    let Some(job) = board.draw(rt, &mut pass) else {
+        panic!(rt; "a job is in the bag");
+    };
+    assert!(rt; job == 0);
+    jobs.packet_into(job, input, packet);
+    board.add(rt, &mut pass, packet, &OpenGate);
+    let None = board.draw(rt, &mut pass) else {
+        panic!(rt; "no job is left");
+    };
+    passes.push_reserved(pass);
+    Ok(board.close(rt, purse, passes))
+}
+
+fn made_by_one_pass<Rt: Abort + Threads + Wait + Sync>(
+    rt: &Rt,
+    alloc: Global,
+    input: &RowInput<'_>,
+    jobs: &JobTable,
+) -> Result<Rows, Fail>
+    requires numbers { AreNumbersOf input.now.form.now input.now.one.now input.now.two.now }
+    requires table { IsTableOf input.now.form.now jobs.now }
+{
+    let mut packet = Packet::new(alloc, jobs.room())?;
+    let base = Base::new(alloc, jobs, 3)?;
+    let _leaves = input.form.leaf_count();
+    add_by_one_pass::<Rt, Brand>(rt, alloc, base, &mut packet, input, jobs)
+}
+
+fn assert_one_pass<Rt: Abort + Threads + Wait + Sync>(
+    rt: &Rt,
+    alloc: Global,
+    built: &Built,
+) -> Result<(), Fail>
+    requires sync { IsSync Rt.row }
+    requires table { IsTableOf built.now.form built.now.jobs }
+{
+    let input = input_of(rt, &built.form, &[1, 0, 1], &[1, 0, 1]);
+    let rows = made_by_one_pass(rt, alloc, &input, &built.jobs)?;
+    assert!(rt; are_rows(&rows, &[0, -1, 1], &[0, -1, 1]));
+    Ok(())
+}
+
+#[test]
+fn one_pass_adds_matching_pennies(rt: HostRuntime) -> Result<(), Fail> {
+    let built = build(&rt, rt.alloc(), &PENNIES, &PENNIES_WEIGHTS)?;
+    let asserted = assert_one_pass(&rt, rt.alloc(), &built);
+    drop(built);
+    asserted
+}
+
+/// Counts the calls.
+#[derive(Drop)]
+struct Counts {
+    passes: AtomicU64,
+    withins: AtomicU64,
+}
+
+impl Gate for Counts {
+    fn pass<Rt: Threads + Wait + Sync>(&self, _rt: &Rt, _worker: u32, _job: u32) {
+        self.passes.fetch_add(1, Ordering::SeqCst);
+    }
+
+    fn within<Rt: Threads + Wait + Sync>(&self, _rt: &Rt, _worker: u32, _stripe: u32) {
+        self.withins.fetch_add(1, Ordering::SeqCst);
+    }
+}
+
+fn made<Rt: Threads + Wait + Sync, M: RowMaker>(
+    rt: &Rt,
+    alloc: Global,
+    input: &RowInput<'_>,
+    jobs: &JobTable,
+    maker: &M,
+) -> Result<Rows, AllocError>
+    requires can { M.can_make maker.now }
+    requires numbers { AreNumbersOf input.now.form.now input.now.one.now input.now.two.now }
+    requires table { IsTableOf input.now.form.now jobs.now }
+    ensures { IfOk result (λ rows. ArePlainSums input.now.form.now input.now.one.now input.now.two.now rows) }
+{
+    maker.rows(rt, alloc, input, jobs)
+}
+
+// The rows of a maker over these workers.
+fn made_by_workers<Rt: Threads + Wait + Sync, G: Gate>(
+    rt: &Rt,
+    alloc: Global,
+    input: &RowInput<'_>,
+    jobs: &JobTable,
+    workers: &LockedRows<'_, G>,
+) -> Result<Rows, AllocError>
+    requires numbers { AreNumbersOf input.now.form.now input.now.one.now input.now.two.now }
+    requires table { IsTableOf input.now.form.now jobs.now }
+    ensures { IfOk result (λ rows. ArePlainSums input.now.form.now input.now.one.now input.now.two.now rows) }
+{
+    let maker = MadeBy {
+        make: |input: &RowInput<'_>, jobs: &JobTable| -> Result<Rows, AllocError>
+            requires sync { IsSync Rt.row × IsSync G.row }
+            requires numbers { AreNumbersOf input.now.form.now input.now.one.now input.now.two.now }
+            requires table { IsTableOf input.now.form.now jobs.now }
+            ensures { IfOk result (λ rows. ArePlainSums input.now.form.now input.now.one.now input.now.two.now rows) }
+        { workers.rows(rt, alloc, input, jobs) },
+    };
+    made(rt, alloc, input, jobs, &maker)
+}
+
+/// Three jobs of two leaves each.
+static THREE_JOBS: [Node; 10] = [
+    node!(Chance, 1, 3),
+    node!(One, 1, 2),
+    LEAF,
+    LEAF,
+    node!(One, 2, 2),
+    LEAF,
+    LEAF,
+    node!(One, 3, 2),
+    LEAF,
+    LEAF,
+];
+
+static THREE_JOBS_WEIGHTS: [i64; 6] = [1, 2, 3, 4, 5, 6];
+
+fn assert_three_jobs<Rt: Abort + Threads + Wait + Sync>(
+    rt: &Rt,
+    alloc: Global,
+    built: &Built,
+) -> Result<(), AllocError>
+    requires sync { IsSync Rt.row }
+    requires table { IsTableOf built.now.form built.now.jobs }
+{
+    let input = input_of(rt, &built.form, &[10, 10, 0, 5, 5, 0, 10], &[2]);
+    let gate = Counts {
+        passes: AtomicU64::new(0),
+        withins: AtomicU64::new(0),
+    };
+    let workers = LockedRows {
+        workers: 2,
+        stripes: 16,
+        gate: &gate,
+    };
+    let rows = made_by_workers(rt, alloc, &input, &built.jobs, &workers)?;
+    assert!(rt;
+        are_rows(&rows, &[0, 2, 4, 6, 8, 10, 12], &[105])
+            && gate.passes.load(Ordering::SeqCst) == 3
+            && gate.withins.load(Ordering::SeqCst) == 48
+    );
+    Ok(())
+}
+
+#[test]
+fn workers_call_the_gate_for_each_job_and_stripe(rt: HostRuntime) -> Result<(), Fail> {
+    let built = build(&rt, rt.alloc(), &THREE_JOBS, &THREE_JOBS_WEIGHTS)?;
+    let asserted = assert_three_jobs(&rt, rt.alloc(), &built);
+    drop(built);
+    Ok(asserted?)
+}
+
+/// Puts what comes after a deal, from player one's first set, her later one, and player two's sets after a check and
+/// after a bet: a check or a bet, and the answers to them.
+fn put_deal(nodes: &mut Vec<Node>, sets: [u32; 4]) -> Result<(), AllocError> {
+    let [first, later, checked, bet] = sets;
+    nodes.extend_from_slice(&[
+        node!(One, first, 2),
+        node!(Two, checked, 2),
+        LEAF,
+        node!(One, later, 2),
+        LEAF,
+        LEAF,
+        node!(Two, bet, 2),
+        LEAF,
+        LEAF,
+    ])
+}
+
+/// Puts a card of player one: the chance node of player two's, and both deals.
+fn put_card(nodes: &mut Vec<Node>, chance: u32, deals: [[u32; 4]; 2]) -> Result<(), AllocError> {
+    nodes.push(node!(Chance, chance, 2))?;
+    put_deal(nodes, deals[0])?;
+    put_deal(nodes, deals[1])
+}
+
+/// Puts one-card poker with three cards.
+fn put_kuhn(nodes: &mut Vec<Node>) -> Result<(), AllocError> {
+    nodes.push(node!(Chance, 1, 3))?;
+    put_card(nodes, 2, [[1, 2, 1, 2], [1, 2, 3, 4]])?;
+    put_card(nodes, 3, [[3, 4, 5, 6], [3, 4, 3, 4]])?;
+    put_card(nodes, 4, [[5, 6, 5, 6], [5, 6, 1, 2]])
+}
+
+// What each leaf pays player one, deal by deal: both check; a bet is folded to or called, after a check or at once.
+static KUHN_WEIGHTS: [i64; 30] = [
+    -1, -1, -2, 1, -2, -1, -1, -2, 1, -2, 1, -1, 2, 1, 2, -1, -1, -2, 1, -2, 1, -1, 2, 1, 2, 1, -1,
+    2, 1, 2,
+];
+
+const HALF: u64 = 524_288;
+
+const QUARTER: u64 = 262_144;
+
+// Both players' plans of the first round.
+static KUHN_ONE: [u64; 13] = [
+    1_048_576, HALF, HALF, QUARTER, QUARTER, HALF, HALF, QUARTER, QUARTER, HALF, HALF, QUARTER,
+    QUARTER,
+];
+
+static KUHN_TWO: [u64; 13] = [
+    1_048_576, HALF, HALF, HALF, HALF, HALF, HALF, HALF, HALF, HALF, HALF, HALF, HALF,
+];
+
+/// Whether the rows by so many stripes are these, with a call of the gate for each deal, and for each stripe of it.
+fn has_rows<Rt: Threads + Wait + Sync>(
+    rt: &Rt,
+    alloc: Global,
+    input: &RowInput<'_>,
+    jobs: &JobTable,
+    stripes: u32,
+    plain: &Rows,
+) -> Result<bool, AllocError>
+    requires sync { IsSync Rt.row }
+    requires numbers { AreNumbersOf input.now.form.now input.now.one.now input.now.two.now }
+    requires table { IsTableOf input.now.form.now jobs.now }
+    requires stripes { (1 ≤ stripes) × (stripes ≤ 64) }
+{
+    let gate = Counts {
+        passes: AtomicU64::new(0),
+        withins: AtomicU64::new(0),
+    };
+    let rows = run_rows(rt, alloc, input, jobs, 2, stripes, &gate)?;
+    Ok(
+        are_rows(&rows, plain.one(), plain.two())
+            && gate.passes.load(Ordering::SeqCst) == 6
+            && gate.withins.load(Ordering::SeqCst) == 6 * stripes as u64,
+    )
+}
+
+static STRIPES: [u32; 4] = [1, 2, 16, 64];
+
+/// The first of these numbers of stripes with other rows or calls.
+fn first_other_stripes<Rt: Threads + Wait + Sync>(
+    rt: &Rt,
+    alloc: Global,
+    input: &RowInput<'_>,
+    jobs: &JobTable,
+    plain: &Rows,
+    numbers: &[u32],
+) -> Result<Option<u32>, AllocError>
+    requires sync { IsSync Rt.row }
+    requires numbers { AreNumbersOf input.now.form.now input.now.one.now input.now.two.now }
+    requires table { IsTableOf input.now.form.now jobs.now }
+    requires stripes { All (λ stripes. (1 ≤ stripes) × (stripes ≤ 64)) numbers.now }
+{
+    for stripes in numbers {
+        if !has_rows(rt, alloc, input, jobs, *stripes, plain)? {
+            return Ok(Some(*stripes));
+        }
+    }
+    Ok(None)
+}
+
+fn assert_deals<Rt: Abort + Threads + Wait + Sync>(
+    rt: &Rt,
+    alloc: Global,
+    built: &Built,
+) -> Result<(), AllocError>
+    requires sync { IsSync Rt.row }
+    requires table { IsTableOf built.now.form built.now.jobs }
+{
+    let input = input_of(rt, &built.form, &KUHN_ONE, &KUHN_TWO);
+    let plain = made(rt, alloc, &input, &built.jobs, &PlainRows)?;
+    let other = first_other_stripes(rt, alloc, &input, &built.jobs, &plain, &STRIPES);
+    drop(plain);
+    assert_eq!(rt; other?, None);
+    Ok(())
+}
+
+#[test]
+fn workers_call_the_gate_for_each_deal_and_stripe(rt: HostRuntime) -> Result<(), Fail> {
+    let mut nodes = Vec::new(rt.alloc());
+    put_kuhn(&mut nodes)?;
+    let built = build(&rt, rt.alloc(), &nodes, &KUHN_WEIGHTS)?;
+    let asserted = assert_deals(&rt, rt.alloc(), &built);
+    drop(built);
+    Ok(asserted?)
+}

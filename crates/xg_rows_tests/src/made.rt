@@ -1,0 +1,137 @@
+//! Small trees, and their forms and jobs.
+ghost use Rattle.std.specs.Prelude.{◌≡◌, ◌≤◌, All, IfOk, map, sum, unsigned_abs};
+ghost use Rattle.def_sums.specs.Limits.{most_mass, most_root};
+ghost use Rattle.xg_jobs.specs.Rows.{AreNumbersOf};
+ghost use Rattle.xg_jobs.specs.Table.{IsFormOf, IsTableOf};
+
+use def_tree::Player;
+use std::alloc::Global;
+use std::process::Abort;
+use std::test::Fail;
+use xg_jobs::{JobTable, RowInput, Rows};
+use xg_seq::SeqForm;
+use xg_sets::build_sets;
+use xg_tree::{Builder, Kind, Node, PushFault, Tree};
+
+/// A node with its kind, the number of its set and the number of its children.
+macro_rules! node {
+    ($kind:ident, $set:expr, $children:expr) => {
+        Node {
+            kind: Kind::$kind,
+            set: $set,
+            outcome: 0,
+            children: $children,
+        }
+    };
+}
+
+pub(crate) use node;
+
+pub(crate) const LEAF: Node = node!(Leaf, 0, 0);
+
+/// Both players choose one of two sides, and player two doesn't see player one's.
+pub(crate) static PENNIES: [Node; 7] = [
+    node!(One, 1, 2),
+    node!(Two, 1, 2),
+    LEAF,
+    LEAF,
+    node!(Two, 1, 2),
+    LEAF,
+    LEAF,
+];
+
+pub(crate) static PENNIES_WEIGHTS: [i64; 4] = [1, -1, -1, 1];
+
+fn put(rt: &impl Abort, builder: &mut Builder, nodes: &[Node]) -> Result<(), PushFault> {
+    for node in nodes {
+        assert!(rt; !builder.is_complete());
+        assert!(rt; builder.fits(*node));
+        builder.push(*node)?;
+    }
+    Ok(())
+}
+
+fn tree_of(rt: &impl Abort, alloc: Global, nodes: &[Node]) -> Result<Tree, PushFault> {
+    let mut builder = Builder::new(alloc);
+    match put(rt, &mut builder, nodes) {
+        Ok(()) => {
+            assert!(rt; builder.is_complete());
+            Ok(builder.finish())
+        }
+        Err(fault) => {
+            drop(builder);
+            Err(fault)
+        }
+    }
+}
+
+fn form_of(rt: &impl Abort, alloc: Global, tree: &Tree, weights: &[i64]) -> Result<SeqForm, Fail>
+    requires { sum (map unsigned_abs weights.now) ≤ most_mass }
+    ensures { IfOk result (λ form. IsFormOf form tree.now) }
+{
+    assert!(rt; weights.len() == tree.leaves() as usize);
+    let sets = build_sets(alloc, tree)?;
+    let built = SeqForm::build(alloc, tree, &sets, weights);
+    drop(sets);
+    Ok(built?)
+}
+
+/// The form of a tree with its jobs.
+#[derive(Drop)]
+pub(crate) struct Built {
+    pub(crate) form: SeqForm,
+    pub(crate) jobs: JobTable,
+}
+
+fn with_jobs(alloc: Global, form: SeqForm, tree: &Tree) -> Result<Built, Fail>
+    requires { IsFormOf form tree.now }
+    ensures { IfOk result (λ built. IsTableOf built.form built.jobs) }
+{
+    match JobTable::build(alloc, &form, tree) {
+        Ok(jobs) => Ok(Built { form, jobs }),
+        Err(error) => {
+            drop(form);
+            Err(error.into())
+        }
+    }
+}
+
+/// The form of the nodes' tree with these weights, and its jobs.
+pub(crate) fn build(
+    rt: &impl Abort,
+    alloc: Global,
+    nodes: &[Node],
+    weights: &[i64],
+) -> Result<Built, Fail>
+    requires { sum (map unsigned_abs weights.now) ≤ most_mass }
+    ensures { IfOk result (λ built. IsTableOf built.form built.jobs) }
+{
+    let tree = tree_of(rt, alloc, nodes)?;
+    let built = match form_of(rt, alloc, &tree, weights) {
+        Ok(form) => with_jobs(alloc, form, &tree),
+        Err(error) => Err(error),
+    };
+    drop(tree);
+    built
+}
+
+/// What rows are made from, if there is a number for each sequence.
+pub(crate) fn input_of<'a>(
+    rt: &impl Abort,
+    form: &'a SeqForm,
+    one: &'a [u64],
+    two: &'a [u64],
+) -> RowInput<'a>
+    requires one { All (λ n. n ≤ most_root) one.now }
+    requires two { All (λ n. n ≤ most_root) two.now }
+    ensures form { result.form.now ≡ form.now }
+    ensures numbers { AreNumbersOf result.form.now result.one.now result.two.now }
+{
+    assert!(rt; form.sequence_count(Player::One) as usize == one.len());
+    assert!(rt; form.sequence_count(Player::Two) as usize == two.len());
+    RowInput { form, one, two }
+}
+
+pub(crate) fn are_rows(rows: &Rows, one: &[i128], two: &[i128]) -> bool {
+    rows.one() == one && rows.two() == two
+}

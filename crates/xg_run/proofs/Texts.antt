@@ -1,0 +1,120 @@
+-- The texts that are written of an accepted game.
+use Rattle.std.proofs.Common.{◌≡◌, ℕ, ◌+◌, ◌<◌, ◌≤◌, Bool, true, false, cond, List, [], ◌∷◌, ◌++◌, length, get_or, take, None, Some, refl, sym, ap, ◌∙◌, append_assoc, subst}
+use Rattle.std.specs.Prelude.{nat_eq}
+use Rattle.std.proofs.lemmas.List.{take_all, take_more}
+use Rattle.def_tree.specs.Tree.{node_count}
+use Rattle.def_file_tokens.specs.Texts.{escaped}
+use Rattle.def_file.specs.Content.{GameFile}
+use Rattle.def_game_scale.specs.Scale.{game_unit}
+use Rattle.def_game_numbers.specs.Numbers.{tables_of}
+use Rattle.def_plan.specs.Form.{SequenceForm, sequence_count}
+use Rattle.def_sequence_form.proofs.Leaves.{form_has_the_mass}
+use Rattle.def_bracket.specs.Offers.{board_after}
+use Rattle.def_bracket.specs.Outcome.{Head, Outcome}
+use Rattle.def_run.specs.Run.{offers, outcome, outcome_with}
+use Rattle.def_cert_verdict.specs.Verdict.{WeighedGame}
+use Rattle.def_cert_verdict.specs.Laws.{IsHeadOf}
+use Rattle.def_cert_accepted.specs.OfOutcome.{certificate_of}
+use Rattle.def_cert_text.specs.CertText.{cert_text}
+use Rattle.def_command.specs.Grammar.{Settings}
+use Rattle.def_text.specs.Text.{form_of_file, game_head, between_marks, solve_text}
+use Rattle.def_program.proofs.Played.{leaves_are}
+use Rattle.xg_engine.specs.State.{head_with}
+use Rattle.xg_engine.specs.declared.settings.Settings.{Settings as RunSettings}
+use Rattle.xg_run.specs.Settings.{settings_seen}
+use Rattle.def_file_accepted.specs.Weighed.{weighed_game}
+
+-- what is escaped piece by piece is escaped whole
+pub escaped_append : (xs ys : List ℕ) → escaped (xs ++ ys) ≡ escaped xs ++ escaped ys
+unfolding escaped
+escaped_append [] ys = refl
+escaped_append (x ∷ xs) ys = by_mark (nat_eq x 34) (escaped_append xs ys)
+  where
+    by_mark : (b : Bool) → escaped (xs ++ ys) ≡ escaped xs ++ escaped ys
+        → cond b (92 ∷ x ∷ escaped (xs ++ ys)) (x ∷ escaped (xs ++ ys))
+        ≡ cond b (92 ∷ x ∷ escaped xs) (x ∷ escaped xs) ++ escaped ys
+    by_mark true rest = ap (λ zs. 92 ∷ x ∷ zs) rest
+    by_mark false rest = ap (λ zs. x ∷ zs) rest
+
+-- one byte more of a text is escaped
+pub escaped_more : (text : List ℕ) (i : ℕ) (front items new : List ℕ) → i < length text
+    → items ≡ front ++ 34 ∷ escaped (take i text) → new ≡ items ++ escaped (get_or text i 0 ∷ [])
+    → new ≡ front ++ 34 ∷ escaped (take (i + 1) text)
+escaped_more text i front items new there is more =
+    let byte : List ℕ = get_or text i 0 ∷ [] in
+    more ∙ ap (λ (xs : List ℕ). xs ++ escaped byte) is ∙ append_assoc front (34 ∷ escaped (take i text)) (escaped byte)
+    ∙ ap (λ (xs : List ℕ). front ++ 34 ∷ xs)
+    (sym (escaped_append (take i text) byte) ∙ ap escaped (sym (take_more text i 0 there)))
+
+-- with the last mark the text is quoted
+pub quoted_whole : (text : List ℕ) (i : ℕ) (front items new : List ℕ) → length text ≤ i
+    → items ≡ front ++ 34 ∷ escaped (take i text) → new ≡ items ++ 34 ∷ [] → new ≡ front ++ between_marks text
+quoted_whole text i front items new all is more =
+    more ∙ ap (λ (xs : List ℕ). xs ++ 34 ∷ []) is ∙ append_assoc front (34 ∷ escaped (take i text)) (34 ∷ [])
+    ∙ ap (λ (xs : List ℕ). front ++ 34 ∷ (escaped xs ++ 34 ∷ [])) (take_all i text all)
+
+-- the head of a game's numbers is the game's head
+pub head_is : (game : GameFile) (numbers : WeighedGame) → numbers ≡ weighed_game game → (settings : Settings)
+    (head : Head) → IsHeadOf numbers head
+    → head.rounds ≡ settings.rounds → head.every ≡ settings.every → head.scale ≡ settings.scale
+    → head ≡ game_head game settings
+head_is game numbers kept settings head of_numbers rounds every scale =
+    let is : IsHeadOf (weighed_game game) head = subst (λ (w : WeighedGame). IsHeadOf w head) kept of_numbers in
+    λ i. record {
+      nodes = is.nodes i;
+      leaves = (is.leaves ∙ leaves_are game) i;
+      sets_one = is.sets_one i;
+      sets_two = is.sets_two i;
+      sequences_one = is.sequences_one i;
+      sequences_two = is.sequences_two i;
+      unit = is.unit i;
+      mass = (is.mass_is ∙ form_has_the_mass.of_game (tables_of game) game.tree) i;
+      rounds = rounds i;
+      every = every i;
+      scale = scale i;
+    }
+
+-- the head of a run is the game's head
+pub run_head_is : (game : GameFile) (settings : RunSettings)
+    → head_with (weighed_game game) settings ≡ game_head game (settings_seen settings)
+run_head_is game settings = λ i. record {
+  nodes = node_count game.tree;
+  leaves = leaves_are game i;
+  sets_one = length (form_of_file game).sets_one;
+  sets_two = length (form_of_file game).sets_two;
+  sequences_one = sequence_count (form_of_file game).sets_one;
+  sequences_two = sequence_count (form_of_file game).sets_two;
+  unit = game_unit (tables_of game) game.tree;
+  mass = form_has_the_mass.of_game (tables_of game) game.tree i;
+  rounds = settings.rounds;
+  every = settings.every;
+  scale = settings.scale;
+}
+
+-- what a run leaves is written as the text of the solution
+pub played_is : (game : GameFile) (settings : RunSettings) (form : SequenceForm) (left : Outcome)
+    → form ≡ form_of_file game → left ≡ outcome (form_of_file game) (head_with (weighed_game game) settings)
+    → cert_text (certificate_of form left) ≡ solve_text game (settings_seen settings)
+played_is game settings form left form_is left_is =
+    (λ i. cert_text (certificate_of (form_is i) (left_is i)))
+    ∙ ap (λ (head : Head). cert_text (certificate_of (form_of_file game) (outcome (form_of_file game) head)))
+    (run_head_is game settings)
+
+-- without rounds the trace is empty, and there are no ends
+without_rounds : (form : SequenceForm) (head : Head) → head.rounds ≡ 0
+    → record { head = head; trace = []; ends = None } ≡ outcome form head
+without_rounds form head none =
+    sym (ap (λ rounds. outcome_with head (board_after (offers form head.scale head.every rounds))) none)
+
+-- and the head alone is written
+pub unplayed_is : (game : GameFile) (settings : Settings) (form : SequenceForm) (head : Head)
+    → settings.rounds ≡ 0 → form ≡ form_of_file game → head ≡ game_head game settings
+    → cert_text (certificate_of form (record { head = head; trace = []; ends = None })) ≡ solve_text game settings
+unplayed_is game settings form head none form_is head_is =
+    (λ i. cert_text (certificate_of (form_is i) (record { head = head_is i; trace = []; ends = None })))
+    ∙ ap (λ (left : Outcome). cert_text (certificate_of (form_of_file game) left))
+    (without_rounds (form_of_file game) (game_head game settings) none)
+
+-- an outcome that is there is one
+pub same_outcome : (left other : Outcome) → Some left ≡ Some other → left ≡ other
+same_outcome left other same = cc

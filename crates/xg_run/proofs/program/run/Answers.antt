@@ -1,0 +1,48 @@
+use Rattle.std.proofs.Common.{ℕ, List, Option, sym, ◌∙◌}
+use Rattle.def_outside.specs.Calls.{FilesCall, SinkCall, files_call, sink_call}
+use Rattle.def_program.specs.Program.{Answer}
+use Rattle.def_program.specs.Bounds.{BoundsHold}
+use Rattle.def_command.specs.Grammar.{command_of_words}
+use Rattle.def_program.specs.Lines.{IsCheck}
+use Rattle.def_program.specs.Meaning.{Means}
+use Rattle.def_program.proofs.Checked.{each_checked}
+use Rattle.def_program.proofs.Played.{each_played}
+use Rattle.xg_run.specs.Endings.{line_at_end}
+use Rattle.xg_run.proofs.ExitStatusLaws.{KeepsStatus, status_shown, status_range}
+use Rattle.xg_run.proofs.program.run.Goals as goal
+
+pub returns : goal.returns
+returns g c =
+    let files : FilesCall =
+    files_call g.F.Files.told g.F.Files.taken g.F.Files.faults c.args.files.now c.conclude-ending.new.files in
+    let out : SinkCall = sink_call g.O.Sink.written g.O.Sink.faults c.args.out.now c.conclude-ending.new.out in
+    let words : List (List ℕ) = c.args.words.now in
+    let told : List ℕ → Option (List ℕ) = g.F.Files.told c.args.files.now in
+    let meant : Answer → Type 0 = Means words told in
+    let ending = c.conclude-ending.result in
+    let usage = c.conclude-ending.ensures.usage in
+    let status = c.finish.ensures.status in
+    let shows : KeepsStatus (IsCheck (command_of_words words)) meant files out c.finish.result (line_at_end ending) =
+    status_shown (IsCheck (command_of_words words)) meant files out ending c.conclude-ending.ensures.concludes c.finish.result status in
+    record {
+      range = status_range ending c.finish.result status;
+      words = (λ is. usage.0 (sym status ∙ is), λ none. status ∙ usage.1 none);
+      refused = shows.refused;
+      complete = shows.complete;
+      read_fault = shows.read_fault;
+      files_failed = shows.files_failed;
+      write_fault = shows.write_fault;
+      out_failed = shows.out_failed;
+      whole = shows.whole;
+      front = shows.front;
+      nothing = shows.nothing;
+      played = λ is. each_played words told out BoundsHold (λ game scale b it. it) (shows.whole is);
+      checked = λ is. each_checked words told out BoundsHold (λ game scale b it. it) (shows.whole is);
+      line = λ other. record {
+        line = line_at_end ending;
+        fits = shows.fits other;
+        answered = shows.answered;
+        said = c.finish.ensures.said (λ is. other (status ∙ is));
+      };
+      silent = λ is. c.finish.ensures.silent (sym status ∙ is);
+    }

@@ -1,0 +1,89 @@
+-- What holds of a command that ends so, whatever the command is. `checks` says whether it checks a certificate, `meant`
+-- which answers are meant by what the files tell.
+use Rattle.std.specs.Prelude.{◌≡◌, List, ℕ, Option, Some, None, IsSomeAnd, string_bytes}
+use Rattle.def_outside.specs.Calls.{FilesCall, SinkCall, MayHaveFailed, HasNoFault, Wrote, WroteFront, IsUntouched}
+use Rattle.def_file.specs.declared.FileFault.{FileFault}
+use Rattle.def_file.specs.Content.{GameFile}
+use Rattle.def_game_numbers.specs.Numbers.{game_file_fault}
+use Rattle.def_text.specs.Lines.{fault_line}
+use Rattle.def_program.specs.Program.{Answer, success, refusal, usage}
+use Rattle.def_program.specs.Meaning.{FileMeans, MeansOnly}
+use Rattle.def_program.specs.Lines.{IsLine}
+use Rattle.xg_run.specs.declared.ending.Ending.{Ending}
+use Rattle.xg_run.specs.declared.ending.Ending.TheVariants.{Done, Refused, Usage, ReadFault, WriteFault, NoMemory}
+
+-- the text that is meant was written
+pub record IsDone (meant : Answer → Type 0) (files : FilesCall) (out : SinkCall) : Type 0 where
+  pub text : List ℕ
+  pub means : MeansOnly meant (success text)
+  pub read : HasNoFault files.faults
+  pub written : HasNoFault out.faults
+  pub wrote : Wrote out text
+
+-- the line that is meant says why nothing was written
+pub record IsRefused (checks : Type 0) (meant : Answer → Type 0) (files : FilesCall) (out : SinkCall) (line : List ℕ)
+    : Type 0 where
+  pub means : MeansOnly meant (refusal line)
+  pub fits : IsLine checks files.taken 1 line
+  pub read : HasNoFault files.faults
+  pub untouched : IsUntouched out
+
+-- the usage is meant
+pub record IsUsage (meant : Answer → Type 0) (files : FilesCall) (out : SinkCall) : Type 0 where
+  pub means : MeansOnly meant usage
+  pub read : HasNoFault files.faults
+  pub untouched : IsUntouched out
+
+-- the files failed
+pub record IsUnread (files : FilesCall) (out : SinkCall) : Type 0 where
+  pub cause : MayHaveFailed files.faults
+  pub untouched : IsUntouched out
+
+-- the sink failed on the text that is meant
+pub record IsCut (meant : Answer → Type 0) (files : FilesCall) (out : SinkCall) : Type 0 where
+  pub text : List ℕ
+  pub means : MeansOnly meant (success text)
+  pub read : HasNoFault files.faults
+  pub cause : MayHaveFailed out.faults
+  pub front : WroteFront out text
+
+abbrev pub Concludes : Type 0 → (Answer → Type 0) → FilesCall → SinkCall → Ending → Type 0
+Concludes checks meant files out Done = IsDone meant files out
+Concludes checks meant files out (Refused line) = IsRefused checks meant files out (string_bytes line)
+Concludes checks meant files out Usage = IsUsage meant files out
+Concludes checks meant files out ReadFault = IsUnread files out
+Concludes checks meant files out WriteFault = IsCut meant files out
+Concludes checks meant files out NoMemory = IsUntouched out
+
+-- what a command that writes this text means of a file's content, where that is told
+abbrev pub FileTold : (GameFile → List ℕ) → Option (List ℕ) → Answer → Type 0
+FileTold text content answer = IsSomeAnd content (λ bytes. FileMeans text bytes answer)
+
+-- the end of a run on an accepted game: the text was written or cut off, or memory ran out before
+abbrev pub Tells : List ℕ → SinkCall → Ending → Type 0
+Tells text out Done = HasNoFault out.faults × Wrote out text
+Tells text out WriteFault = MayHaveFailed out.faults × WroteFront out text
+Tells text out NoMemory = IsUntouched out
+Tells text out (Refused line) = ⊥
+Tells text out Usage = ⊥
+Tells text out ReadFault = ⊥
+
+-- the end of a run on a game that isn't read from a file: the text of a game without a fault was written or cut off, or
+-- the line says the fault
+pub record TellsMade (text : GameFile → List ℕ) (game : GameFile) (out : SinkCall) (ending : Ending) : Type 0 where
+  pub faultless : game_file_fault game ≡ None
+  pub tells : Tells (text game) out ending
+
+pub record RefusesMade (game : GameFile) (out : SinkCall) (line : List ℕ) : Type 0 where
+  pub fault : FileFault
+  pub faulty : game_file_fault game ≡ Some fault
+  pub says : line ≡ fault_line fault
+  pub untouched : IsUntouched out
+
+abbrev pub EndsMade : (GameFile → List ℕ) → GameFile → SinkCall → Ending → Type 0
+EndsMade text game out Done = TellsMade text game out Done
+EndsMade text game out WriteFault = TellsMade text game out WriteFault
+EndsMade text game out (Refused line) = RefusesMade game out (string_bytes line)
+EndsMade text game out NoMemory = IsUntouched out
+EndsMade text game out Usage = ⊥
+EndsMade text game out ReadFault = ⊥

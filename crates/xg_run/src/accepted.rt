@@ -1,0 +1,98 @@
+//! A game that is accepted.
+ghost use Rattle.std.specs.Prelude.{◌≡◌, IfOk, None};
+ghost use Rattle.def_text.specs.Text.{game_head};
+ghost use Rattle.xg_cert.specs.Outcome.{head_of};
+ghost use Rattle.xg_run.specs.Accepted.{Opens};
+ghost use Rattle.xg_run.specs.Settings.{settings_seen};
+ghost use Rattle.def_file_accepted.specs.Weighed.{weighed_game};
+
+use std::alloc::{AllocError, Global};
+use std::marker::Model;
+use xg_cert::Head;
+use xg_engine::{Engine, Settings};
+use xg_game::{Game, Refused};
+use xg_numbers::Numbers;
+use xg_plan::Player;
+
+/// A game that is accepted: as its file has it, and in numbers.
+#[derive(Drop)]
+pub struct Accepted {
+    game: Game,
+    numbers: Numbers,
+}
+
+impl Model for Accepted {
+    ghost use Rattle.std.specs.Coded.{codes};
+    ghost use Rattle.def_tree.specs.Code.{forest_code};
+    ghost use Rattle.def_file.specs.Content.{GameFile};
+    ghost use Rattle.xg_run.specs.Accepted.{KeepsNumbersOfGame};
+
+    ghost Value = { GameFile };
+
+    ghost coded = { Prim.hlevel (codes, forest_code) };
+
+    ghost view = { λ a. a.game };
+
+    ghost invariant = { λ a. KeepsNumbersOfGame a.game a.numbers };
+}
+
+impl Accepted {
+    /// The game, or the first fault of its numbers and its sets.
+    pub fn open(alloc: Global, game: Game) -> Result<Accepted, Refused>
+        ensures { Opens game result }
+    {
+        match Numbers::open(alloc, &game) {
+            Ok(numbers) => Ok(Accepted { game, numbers }),
+            Err(fault) => {
+                drop(game);
+                Err(fault)
+            }
+        }
+    }
+
+    /// An engine for the game.
+    pub fn into_engine(self, alloc: Global) -> Result<Engine, AllocError>
+        ensures opened { IfOk result (λ engine. engine.game ≡ weighed_game self) }
+        ensures no_outcome { IfOk result (λ engine. engine.outcome ≡ None) }
+    {
+        let Accepted { game, numbers } = self;
+        let engine = Engine::from_numbers(alloc, &game, numbers);
+        drop(game);
+        engine
+    }
+
+    /// The game, as its file has it.
+    pub fn game(&self) -> &Game
+        ensures { result.now ≡ self.now }
+    {
+        &self.game
+    }
+
+    /// The game in numbers.
+    pub fn numbers(&self) -> &Numbers
+        ensures { result.now ≡ weighed_game self.now }
+    {
+        &self.numbers
+    }
+
+    /// The game's numbers, with what is asked.
+    pub fn head(&self, settings: Settings) -> Head
+        ensures { head_of result ≡ game_head self.now (settings_seen settings) }
+    {
+        let form = self.numbers.form();
+        Head {
+            nodes: self.numbers.nodes(),
+            leaves: form.leaf_count(),
+            sets: (form.set_count(Player::One), form.set_count(Player::Two)),
+            sequences: (
+                form.sequence_count(Player::One),
+                form.sequence_count(Player::Two),
+            ),
+            unit: self.numbers.unit(),
+            mass: self.numbers.mass(),
+            rounds: settings.rounds,
+            every: settings.every,
+            scale: settings.scale,
+        }
+    }
+}

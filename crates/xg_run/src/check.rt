@@ -1,0 +1,159 @@
+//! Checking a certificate.
+ghost use Rattle.std.specs.Prelude.{◌≡◌, ◌≢◌, ◌≤◌, ◌++◌, IfOk, IsTrue, OnErr, length, string_bytes};
+ghost use Rattle.def_fraction.specs.Text.{fraction_text};
+ghost use Rattle.def_outside.specs.Calls.{files_call, sink_call};
+ghost use Rattle.def_outside.specs.Cause.{HasCause};
+ghost use Rattle.def_file.specs.Reading.{most_bytes};
+ghost use Rattle.def_check.specs.Check.{most_cert_bytes};
+ghost use Rattle.def_text.specs.CheckLines.{verdict_text};
+ghost use Rattle.def_outside.specs.Sinks.{Writes};
+ghost use Rattle.xg_check.specs.Answers.{verdict_of};
+ghost use Rattle.xg_run.specs.ChecksEnd.{CheckTold, EndsCheck, EndsUnread};
+ghost use Rattle.xg_run.specs.Concludes.{Concludes};
+ghost use Rattle.xg_run.specs.Endings.{status_of};
+ghost use Rattle.xg_run.specs.MayOpen.{IsNotTooLong};
+ghost use Rattle.xg_run.specs.Refusal.{IsLineOf};
+
+use crate::both::{BothFault, read_both};
+use crate::check_lines::check_fault_line;
+use crate::ending::Ending;
+use crate::playing::ending_of;
+use crate::text::fault_line;
+use std::alloc::{AllocError, Global};
+use xg_check::Verdict;
+use xg_frac::{Ratio, put_ratio};
+use xg_io::{Files, Sink, WriteFault, write_all};
+use xg_read::FileFault;
+
+/// Checks a certificate against the game of a file.
+pub fn check<F: Files, O: Sink>(
+    alloc: Global,
+    file: &str,
+    certificate: &str,
+    files: &mut F,
+    out: &mut O,
+) -> Ending
+    requires file { IsTrue (F.may_open files.old file.now) }
+    requires certificate { IsNotTooLong (F.told files.old file.now) → IsTrue (F.may_open files.old certificate.now) }
+    ensures concludes { Concludes (Unit {0}) (CheckTold (F.told files.old file.now) (F.told files.old certificate.now))
+        (files_call F.told F.taken F.faults files.old files.new) (sink_call O.written O.faults out.old out.new) result }
+    ensures command { status_of result ≢ 2 }
+{
+    match read_both(alloc, files, file, certificate) {
+        Ok(both) => check_bytes(alloc, &both.file, &both.certificate, out),
+        Err(fault) => unread(alloc, fault),
+    }
+}
+
+/// Checks the bytes of a certificate against those of a file.
+fn check_bytes<O: Sink>(alloc: Global, file: &[u8], certificate: &[u8], out: &mut O) -> Ending
+    requires file { length file.now ≤ most_bytes }
+    requires certificate { length certificate.now ≤ most_cert_bytes }
+    ensures { EndsCheck file.now certificate.now (sink_call O.written O.faults out.old out.new) result }
+{
+    match xg_check::check(alloc, file, certificate) {
+        Ok(verdict) => ending_of(write_verdict(verdict, out)),
+        Err(fault) => refused(check_fault_line(alloc, fault)),
+    }
+}
+
+/// The end of a run with this line, if there was memory for it.
+fn refused(line: Result<String, AllocError>) -> Ending
+    ensures said { IfOk line (λ it. IsLineOf (string_bytes it) result) }
+    ensures no_memory { OnErr line (result ≡ Ending.NoMemory) }
+{
+    match line {
+        Ok(line) => Ending::Refused { line },
+        Err(_) => Ending::NoMemory,
+    }
+}
+
+/// Writes what is shown. After an error a front of it was written.
+fn write_verdict<O: Sink>(verdict: Verdict, out: &mut O) -> Result<(), WriteFault>
+    ensures text { Writes (O.written out.old) (O.written out.new) (verdict_text (verdict_of verdict)) result }
+    ensures cause { HasCause (O.faults out.old) (O.faults out.new) result }
+{
+    match verdict {
+        Verdict::HeadOnly => write_two(b"accepted no bounds", b"\n", out),
+        Verdict::Bounds { low, high } => write_words(b"accepted ", low, b" ", high, b"\n", out),
+    }
+}
+
+/// Writes a word and what ends the line.
+#[tactic(auto, using(xg_io::proofs::Pieces::prefix_first, xg_io::proofs::Pieces::then_rest))]
+fn write_two<O: Sink>(word: &[u8], end: &[u8], out: &mut O) -> Result<(), WriteFault>
+    ensures text { Writes (O.written out.old) (O.written out.new) (word.now ++ end.now) result }
+    ensures cause { HasCause (O.faults out.old) (O.faults out.new) result }
+{
+    write_all(out, word)?;
+    write_all(out, end)
+}
+
+/// Writes a word and both bounds.
+#[tactic(auto, using(xg_io::proofs::Pieces::prefix_first, xg_io::proofs::Pieces::then_rest))]
+fn write_words<O: Sink>(
+    word: &[u8],
+    low: Ratio,
+    between: &[u8],
+    high: Ratio,
+    end: &[u8],
+    out: &mut O,
+) -> Result<(), WriteFault>
+    ensures text { Writes (O.written out.old) (O.written out.new)
+        (word.now ++ (fraction_text low ++ (between.now ++ (fraction_text high ++ end.now)))) result }
+    ensures cause { HasCause (O.faults out.old) (O.faults out.new) result }
+{
+    write_all(out, word)?;
+    write_both_bounds(low, between, high, end, out)
+}
+
+#[tactic(auto, using(xg_io::proofs::Pieces::prefix_first, xg_io::proofs::Pieces::then_rest))]
+fn write_both_bounds<O: Sink>(
+    low: Ratio,
+    between: &[u8],
+    high: Ratio,
+    end: &[u8],
+    out: &mut O,
+) -> Result<(), WriteFault>
+    ensures text { Writes (O.written out.old) (O.written out.new)
+        (fraction_text low ++ (between.now ++ (fraction_text high ++ end.now))) result }
+    ensures cause { HasCause (O.faults out.old) (O.faults out.new) result }
+{
+    put_ratio(low, out)?;
+    write_last_bound(between, high, end, out)
+}
+
+#[tactic(auto, using(xg_io::proofs::Pieces::prefix_first, xg_io::proofs::Pieces::then_rest))]
+fn write_last_bound<O: Sink>(
+    between: &[u8],
+    high: Ratio,
+    end: &[u8],
+    out: &mut O,
+) -> Result<(), WriteFault>
+    ensures text { Writes (O.written out.old) (O.written out.new) (between.now ++ (fraction_text high ++ end.now)) result }
+    ensures cause { HasCause (O.faults out.old) (O.faults out.new) result }
+{
+    write_all(out, between)?;
+    write_bound(high, end, out)
+}
+
+#[tactic(auto, using(xg_io::proofs::Pieces::prefix_first, xg_io::proofs::Pieces::then_rest))]
+fn write_bound<O: Sink>(high: Ratio, end: &[u8], out: &mut O) -> Result<(), WriteFault>
+    ensures text { Writes (O.written out.old) (O.written out.new) (fraction_text high ++ end.now) result }
+    ensures cause { HasCause (O.faults out.old) (O.faults out.new) result }
+{
+    put_ratio(high, out)?;
+    write_all(out, end)
+}
+
+/// The end where the bytes of both aren't there.
+fn unread(alloc: Global, fault: BothFault) -> Ending
+    ensures { EndsUnread fault result }
+{
+    match fault {
+        BothFault::FileTooLong => refused(fault_line(alloc, FileFault::TooLong)),
+        BothFault::CertificateTooLong => refused(String::from_str(alloc, "refused 21 CertLong\n")),
+        BothFault::ReadFault => Ending::ReadFault,
+        BothFault::NoMemory => Ending::NoMemory,
+    }
+}

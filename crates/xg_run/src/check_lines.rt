@@ -1,0 +1,77 @@
+//! The lines that say why a certificate isn't accepted.
+ghost use Rattle.std.specs.Prelude.{◌≡◌, IfOk, string_bytes};
+ghost use Rattle.def_text.specs.CheckLines.{cert_fault_line, end_name, player_number};
+ghost use Rattle.xg_run.specs.RefusalLine.{IsCheckLine};
+
+use crate::text::fault_line;
+use std::alloc::{AllocError, Global};
+use xg_check::{CertFault, CheckFault, Which};
+use xg_plan::Player;
+
+/// The line of a check's fault; want of memory has none.
+pub fn check_fault_line(alloc: Global, fault: CheckFault) -> Result<String, AllocError>
+    ensures { IfOk result (λ line. IsCheckLine fault (string_bytes line)) }
+{
+    match fault {
+        CheckFault::File(fault) => fault_line(alloc, fault),
+        CheckFault::Cert(fault) => cert_fault_line(alloc, fault),
+        CheckFault::HeadDiffers { line } => {
+            format!(in alloc; "refused 27 HeadDiffers line {line}\n")
+        }
+        CheckFault::NotAPlan { player, set } => {
+            let player = player_number(player);
+            format!(in alloc; "refused 28 NotAPlan player {player} set {set}\n")
+        }
+        CheckFault::ValueTooGood {
+            player,
+            set,
+            action,
+        } => {
+            let player = player_number(player);
+            format!(in alloc; "refused 29 ValueTooGood player {player} set {set} action {action}\n")
+        }
+        CheckFault::ReplyNotTight { player, set } => {
+            let player = player_number(player);
+            format!(in alloc; "refused 30 ReplyNotTight player {player} set {set}\n")
+        }
+        CheckFault::TotalDiffers { end } => {
+            let end = end_name(end);
+            format!(in alloc; "refused 31 TotalDiffers {end}\n")
+        }
+        CheckFault::TraceWidens { line } => {
+            format!(in alloc; "refused 32 TraceWidens line {line}\n")
+        }
+        CheckFault::NoMemory => Err(AllocError),
+    }
+}
+
+/// The line of the first fault of a certificate's text.
+fn cert_fault_line(alloc: Global, fault: CertFault) -> Result<String, AllocError>
+    ensures { IfOk result (λ line. string_bytes line ≡ cert_fault_line fault) }
+{
+    match fault {
+        CertFault::CertSyntax { at } => format!(in alloc; "refused 22 CertSyntax at {at}\n"),
+        CertFault::CertNumber { at } => format!(in alloc; "refused 23 CertNumber at {at}\n"),
+        CertFault::CertVersion => String::from_str(alloc, "refused 24 CertVersion\n"),
+        CertFault::CertShort => String::from_str(alloc, "refused 25 CertShort\n"),
+        CertFault::CertTrailing { at } => format!(in alloc; "refused 26 CertTrailing at {at}\n"),
+    }
+}
+
+fn player_number(player: Player) -> u32
+    ensures { result ≡ player_number player }
+{
+    match player {
+        Player::One => 1,
+        Player::Two => 2,
+    }
+}
+
+fn end_name(end: Which) -> &'static str
+    ensures { result.now ≡ end_name end }
+{
+    match end {
+        Which::Lower => "lower",
+        Which::Upper => "upper",
+    }
+}

@@ -1,0 +1,19 @@
+//! All that the program does, from its words to its exit status.
+#![tactic(auto)]
+
+mod accepted;
+mod both;
+mod certificate;
+mod check;
+mod check_lines;
+mod ending;
+mod given;
+mod load;
+mod made;
+mod playing;
+mod program;
+mod text;
+
+pub use given::{given_words, status_without_words};
+pub use program::run;
+pub use xg_command::Words;

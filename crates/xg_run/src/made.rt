@@ -1,0 +1,66 @@
+//! Games that aren't read from a file.
+ghost use Rattle.std.specs.Prelude.{◌≤◌};
+ghost use Rattle.def_outside.specs.Calls.{sink_call};
+ghost use Rattle.def_sums.specs.Limits.{least_cards, most_cards};
+ghost use Rattle.def_canon.specs.Canon.{canon};
+ghost use Rattle.def_poker.specs.Poker.{poker};
+ghost use Rattle.def_program.specs.Program.{solved};
+ghost use Rattle.xg_engine.specs.State.{AreWithinLimits};
+ghost use Rattle.xg_run.specs.Concludes.{EndsMade, Tells};
+ghost use Rattle.xg_run.specs.Settings.{settings_seen};
+
+use crate::accepted::Accepted;
+use crate::certificate::GameText;
+use crate::ending::Ending;
+use crate::playing::{ending_of, play};
+use crate::program::refused;
+use std::alloc::Global;
+use std::marker::Sync;
+use std::sync::Wait;
+use std::thread::Threads;
+use xg_board::LockedRows;
+use xg_engine::Settings;
+use xg_game::Refused;
+use xg_gen::one_card_poker;
+use xg_io::{Gate, Sink};
+use xg_page::write_paged;
+
+/// Writes one-card poker as a file.
+pub fn generate<O: Sink>(alloc: Global, cards: u32, out: &mut O) -> Ending
+    requires low { least_cards ≤ cards }
+    requires high { cards ≤ most_cards }
+    ensures { Tells (canon (poker cards)) (sink_call O.written O.faults out.old out.new) result }
+{
+    match one_card_poker(alloc, cards) {
+        Ok(game) => {
+            let written = write_paged(out, &GameText { game: &game });
+            drop(game);
+            ending_of(written)
+        }
+        Err(_) => Ending::NoMemory,
+    }
+}
+
+/// Solves one-card poker.
+pub fn drill<Rt: Threads + Wait + Sync, O: Sink, G: Gate>(
+    rt: &Rt,
+    alloc: Global,
+    cards: u32,
+    settings: Settings,
+    rows: &LockedRows<'_, G>,
+    out: &mut O,
+) -> Ending
+    requires low { least_cards ≤ cards }
+    requires high { cards ≤ most_cards }
+    requires limits { AreWithinLimits settings }
+    ensures { EndsMade (solved (settings_seen settings)) (poker cards) (sink_call O.written O.faults out.old out.new) result }
+{
+    let Ok(game) = one_card_poker(alloc, cards) else {
+        return Ending::NoMemory;
+    };
+    match Accepted::open(alloc, game) {
+        Ok(accepted) => play(rt, alloc, accepted, settings, rows, out),
+        Err(Refused::File(fault)) => refused(alloc, fault),
+        Err(Refused::NoMemory) => Ending::NoMemory,
+    }
+}

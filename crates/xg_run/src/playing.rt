@@ -1,0 +1,140 @@
+//! Solving an accepted game.
+ghost use Rattle.std.specs.Prelude.{◌≡◌, IfOk, IfSome, OnOk, Some};
+ghost use Rattle.std.specs.Thread.{IsSync};
+ghost use Rattle.def_outside.specs.Calls.{sink_call};
+ghost use Rattle.def_file.specs.Content.{GameFile};
+ghost use Rattle.def_file_accepted.specs.Weighed.{weighed_game};
+ghost use Rattle.def_run.specs.Run.{outcome};
+ghost use Rattle.def_text.specs.Text.{solve_text};
+ghost use Rattle.xg_cert.specs.Writable.{IsOutcomeOf};
+ghost use Rattle.xg_engine.specs.State.{AreWithinLimits, head_with};
+ghost use Rattle.xg_jobs.specs.Rows.{AreNumbersOf, ArePlainSums};
+ghost use Rattle.xg_jobs.specs.Table.{IsTableOf};
+ghost use Rattle.xg_run.specs.Concludes.{Tells};
+ghost use Rattle.xg_run.specs.Settings.{settings_seen};
+ghost use Rattle.xg_run.specs.Written.{IsEndingOf};
+
+use crate::accepted::Accepted;
+use crate::certificate::Certificate;
+use crate::ending::Ending;
+use std::alloc::{AllocError, Global};
+use std::marker::Sync;
+use std::sync::Wait;
+use std::thread::Threads;
+use xg_board::{LockedRows, MadeBy};
+use xg_cert::Outcome;
+use xg_engine::{Engine, Settings};
+use xg_io::{Gate, Sink, WriteFault};
+use xg_jobs::{JobTable, PlainRows, RowInput, Rows};
+use xg_page::write_paged;
+
+/// Plays the rounds that are asked, and writes the text of what they leave.
+pub fn play<Rt: Threads + Wait + Sync, O: Sink, G: Gate>(
+    rt: &Rt,
+    alloc: Global,
+    accepted: Accepted,
+    settings: Settings,
+    rows: &LockedRows<'_, G>,
+    out: &mut O,
+) -> Ending
+    requires { AreWithinLimits settings }
+    ensures { Tells (solve_text accepted (settings_seen settings)) (sink_call O.written O.faults out.old out.new) result }
+{
+    if settings.rounds == 0 {
+        let ending = write_unplayed(alloc, &accepted, settings, out);
+        drop(accepted);
+        return ending;
+    }
+    let Ok(mut engine) = accepted.into_engine(alloc) else {
+        return Ending::NoMemory;
+    };
+    let ending = play_by(rt, alloc, &mut engine, settings, rows, out);
+    drop(engine);
+    ending
+}
+
+/// Plays the rounds on the engine of a game, and writes the text of what they leave.
+fn play_by<Rt: Threads + Wait + Sync, O: Sink, G: Gate>(
+    rt: &Rt,
+    alloc: Global,
+    engine: &mut Engine,
+    settings: Settings,
+    rows: &LockedRows<'_, G>,
+    out: &mut O,
+) -> Ending
+    requires { AreWithinLimits settings }
+    ensures { (game : GameFile) → engine.old.game ≡ weighed_game game
+        → Tells (solve_text game (settings_seen settings)) (sink_call O.written O.faults out.old out.new) result }
+{
+    let Ok(()) = play_rounds(rt, alloc, engine, settings, rows) else {
+        return Ending::NoMemory;
+    };
+    match engine.outcome() {
+        Some(outcome) => {
+            let certificate = Certificate {
+                form: engine.form(),
+                outcome,
+            };
+            ending_of(write_paged(out, &certificate))
+        }
+        None => Ending::NoMemory,
+    }
+}
+
+/// Plays the rounds: alone with one worker, else with workers who add into locked rows.
+fn play_rounds<Rt: Threads + Wait + Sync, G: Gate>(
+    rt: &Rt,
+    alloc: Global,
+    engine: &mut Engine,
+    settings: Settings,
+    rows: &LockedRows<'_, G>,
+) -> Result<(), AllocError>
+    requires { AreWithinLimits settings }
+    ensures outcome { OnOk result (engine.new.outcome
+        ≡ Some (outcome engine.old.game.form (head_with engine.old.game settings))) }
+    ensures game { engine.new.game ≡ engine.old.game }
+    ensures writable { OnOk result (IfSome engine.new.outcome (IsOutcomeOf engine.old.game.form)) }
+{
+    if rows.workers == 1 {
+        return engine.run(rt, alloc, settings, &PlainRows);
+    }
+    let maker = MadeBy {
+        make: |input: &RowInput<'_>, jobs: &JobTable| -> Result<Rows, AllocError>
+            requires sync { IsSync Rt.row × IsSync G.row }
+            requires numbers { AreNumbersOf input.now.form.now input.now.one.now input.now.two.now }
+            requires table { IsTableOf input.now.form.now jobs.now }
+            ensures { IfOk result (λ made. ArePlainSums input.now.form.now input.now.one.now input.now.two.now made) }
+        { rows.rows(rt, alloc, input, jobs) },
+    };
+    engine.run(rt, alloc, settings, &maker)
+}
+
+/// Writes the text where no rounds are asked.
+fn write_unplayed<O: Sink>(
+    alloc: Global,
+    accepted: &Accepted,
+    settings: Settings,
+    out: &mut O,
+) -> Ending
+    requires { settings.rounds ≡ 0 }
+    ensures { Tells (solve_text accepted.now (settings_seen settings)) (sink_call O.written O.faults out.old out.new) result }
+{
+    let numbers = accepted.numbers();
+    numbers.unit();
+    let outcome = Outcome::new(accepted.head(settings), Vec::new(alloc), None);
+    let certificate = Certificate {
+        form: numbers.form(),
+        outcome: &outcome,
+    };
+    ending_of(write_paged(out, &certificate))
+}
+
+/// The end of a run whose text was written, or cut off.
+pub fn ending_of(written: Result<(), WriteFault>) -> Ending
+    ensures { IsEndingOf written result }
+{
+    match written {
+        Ok(()) => Ending::Done,
+        Err(_) => Ending::WriteFault,
+    }
+}

@@ -1,0 +1,262 @@
+//! The top call.
+ghost use Rattle.std.specs.Prelude.{◌≡◌, ◌≢◌, ◌⊎◌, ◌↔◌, ◌≤◌, IfSome, IsNone, IsTrue};
+ghost use Rattle.def_sums.specs.Limits.{most_workers};
+ghost use Rattle.def_outside.specs.Calls.{HasFailed, MayHaveFailed, Wrote, WroteFront, WroteNothing};
+ghost use Rattle.def_outside.specs.Calls.{files_call, sink_call};
+ghost use Rattle.def_command.specs.Grammar.{command_of_words};
+ghost use Rattle.def_command.specs.Table.{Workers, default_number};
+ghost use Rattle.def_program.specs.Program.{solved};
+ghost use Rattle.def_text.specs.Text.{info_text};
+ghost use Rattle.xg_command.specs.Values.{settings_value};
+ghost use Rattle.xg_engine.specs.State.{AreWithinLimits};
+ghost use Rattle.xg_run.specs.Settings.{settings_seen};
+ghost use Rattle.def_program.specs.Bounds.{BoundsHold, ForEachPlayed};
+ghost use Rattle.def_program.specs.Checked.{ForEachChecked};
+ghost use Rattle.def_program.specs.Lines.{IsCheck, SaysLine};
+ghost use Rattle.def_program.specs.Meaning.{EachMeant, EndsWith, Means};
+ghost use Rattle.xg_run.specs.Concludes.{Concludes, FileTold, Tells};
+ghost use Rattle.xg_run.specs.Endings.{status_of};
+ghost use Rattle.xg_run.specs.MayOpen.{MayOpen};
+ghost use Rattle.xg_run.specs.Refusal.{IsRefusal, IsUnloaded};
+
+use crate::accepted::Accepted;
+use crate::check::check;
+use crate::ending::Ending;
+use crate::load::{LoadFault, load};
+use crate::made::{drill, generate};
+use crate::playing::{ending_of, play};
+use crate::text::{fault_line, info_front, write_info};
+use std::alloc::Global;
+use std::marker::Sync;
+use std::sync::Wait;
+use std::thread::Threads;
+use xg_board::LockedRows;
+use xg_command::{Command, Settings as WordSettings, Words};
+use xg_engine::Settings;
+use xg_io::{Files, Gate, Sink};
+use xg_limits::MOST_SCALE;
+use xg_read::FileFault;
+
+/// How many stripes the rows are cut into that several workers add into.
+const STRIPES: u32 = 16;
+
+/// How many workers pay where no number of them is given: one thread adds up its rows faster than several workers add
+/// into shared ones, for every number of leaves that a file can have.
+const PAYING_WORKERS: u32 = 1;
+
+/// No rounds, at the greatest scale.
+const NO_ROUNDS: Settings = Settings {
+    rounds: 0,
+    every: 1,
+    scale: MOST_SCALE,
+};
+
+/// Solves the game of a file.
+fn solve<Rt: Threads + Wait + Sync, F: Files, O: Sink, G: Gate>(
+    rt: &Rt,
+    alloc: Global,
+    file: &str,
+    settings: Settings,
+    rows: &LockedRows<'_, G>,
+    files: &mut F,
+    out: &mut O,
+) -> Ending
+    requires may_open { IsTrue (F.may_open files.old file.now) }
+    requires limits { AreWithinLimits settings }
+    ensures concludes { Concludes ⊥ (FileTold (solved (settings_seen settings)) (F.told files.old file.now))
+        (files_call F.told F.taken F.faults files.old files.new) (sink_call O.written O.faults out.old out.new) result }
+    ensures command { status_of result ≢ 2 }
+{
+    match load(alloc, files, file) {
+        Ok(accepted) => play(rt, alloc, accepted, settings, rows, out),
+        Err(fault) => unloaded(alloc, fault),
+    }
+}
+
+/// Tells of the game of a file.
+fn info<F: Files, O: Sink>(alloc: Global, file: &str, files: &mut F, out: &mut O) -> Ending
+    requires { IsTrue (F.may_open files.old file.now) }
+    ensures concludes { Concludes ⊥ (FileTold info_text (F.told files.old file.now))
+        (files_call F.told F.taken F.faults files.old files.new) (sink_call O.written O.faults out.old out.new) result }
+    ensures command { status_of result ≢ 2 }
+{
+    match load(alloc, files, file) {
+        Ok(accepted) => {
+            let ending = tell(alloc, &accepted, out);
+            drop(accepted);
+            ending
+        }
+        Err(fault) => unloaded(alloc, fault),
+    }
+}
+
+/// Tells of an accepted game.
+fn tell<O: Sink>(alloc: Global, accepted: &Accepted, out: &mut O) -> Ending
+    ensures { Tells (info_text accepted.now) (sink_call O.written O.faults out.old out.new) result }
+{
+    let Ok(front) = info_front(alloc, accepted.game()) else {
+        return Ending::NoMemory;
+    };
+    ending_of(write_info(&front, &accepted.head(NO_ROUNDS), out))
+}
+
+/// The end of a run whose game isn't loaded.
+fn unloaded(alloc: Global, fault: LoadFault) -> Ending
+    ensures { IsUnloaded fault result }
+{
+    match fault {
+        LoadFault::Refused(fault) => refused(alloc, fault),
+        LoadFault::ReadFault => Ending::ReadFault,
+        LoadFault::NoMemory => Ending::NoMemory,
+    }
+}
+
+/// The end of a run whose file has this first fault.
+pub(crate) fn refused(alloc: Global, fault: FileFault) -> Ending
+    ensures { IsRefusal fault result }
+{
+    match fault_line(alloc, fault) {
+        Ok(line) => Ending::Refused { line },
+        Err(_) => Ending::NoMemory,
+    }
+}
+
+/// The settings of a command, as the engine takes them.
+fn asked(settings: WordSettings) -> Settings
+    ensures { settings_seen result ≡ settings_value settings }
+{
+    Settings {
+        rounds: settings.rounds,
+        every: settings.every,
+        scale: settings.scale,
+    }
+}
+
+/// The rows that the workers add into: as many as the words ask for, and else as many as pay.
+fn locked_rows<G: Gate>(workers: Option<u32>, gate: &G) -> LockedRows<'_, G>
+    requires some { IfSome workers (λ number. 1 ≤ number) }
+    requires few { IfSome workers (λ number. number ≤ most_workers) }
+    ensures given { IfSome workers (λ number. result.workers ≡ number) }
+    ensures absent { IsNone workers → result.workers ≤ default_number Workers 0 }
+{
+    LockedRows {
+        workers: workers.unwrap_or(PAYING_WORKERS),
+        stripes: STRIPES,
+        gate,
+    }
+}
+
+/// Does what the words say, and says nothing of it.
+fn conclude<Rt: Threads + Wait + Sync, F: Files, O: Sink, G: Gate>(
+    rt: &Rt,
+    alloc: Global,
+    words: &Words,
+    files: &mut F,
+    out: &mut O,
+    gate: &G,
+) -> Ending
+    requires { MayOpen (F.told files.old) (F.may_open files.old) (command_of_words words.now) }
+    ensures concludes { Concludes (IsCheck (command_of_words words.now)) (Means words.now (F.told files.old))
+        (files_call F.told F.taken F.faults files.old files.new) (sink_call O.written O.faults out.old out.new) result }
+    ensures usage { (status_of result ≡ 2) ↔ IsNone (command_of_words words.now) }
+{
+    match words.command() {
+        Some(
+            Command::Solve {
+                file,
+                settings,
+                workers,
+            },
+        ) => {
+            let rows = locked_rows(workers, gate);
+            solve(rt, alloc, file, asked(settings), &rows, files, out)
+        }
+        Some(Command::Check { file, certificate }) => {
+            check(alloc, file, certificate, files, out)
+        }
+        Some(Command::Info { file }) => info(alloc, file, files, out),
+        Some(Command::Gen { cards }) => generate(alloc, cards, out),
+        Some(
+            Command::Drill {
+                cards,
+                settings,
+                workers,
+            },
+        ) => {
+            let rows = locked_rows(workers, gate);
+            drill(rt, alloc, cards, asked(settings), &rows, out)
+        }
+        None => Ending::Usage,
+    }
+}
+
+/// Does all that the program does, and answers its exit status.
+///
+/// | Status | Meaning |
+/// |---|---|
+/// | 0 | the whole text was written to `out` |
+/// | 1 | the game file has a fault, which the line on `err` names with its place |
+/// | 2 | the words name no command |
+/// | 3 | a file can't be opened or read |
+/// | 4 | `out` failed; a front of the text was written |
+/// | 5 | memory ran out |
+///
+/// Nothing is written to `out` before the work is over. A fault of `err` changes no status: for 0, 2 and 4 the clauses
+/// show it, and for each status the contract of `Ending::finish`, which alone writes to `err`.
+pub fn run<Rt: Threads + Wait + Sync, F: Files, O: Sink, E: Sink, G: Gate>(
+    rt: &Rt,
+    alloc: Global,
+    words: &Words,
+    files: &mut F,
+    out: &mut O,
+    err: &mut E,
+    gate: &G,
+) -> u8
+    // The files that the words name may be opened, a certificate only where the game file isn't told to be too long.
+    // Nothing is known of any other name.
+    requires { MayOpen (F.told files.old) (F.may_open files.old) (command_of_words words.now) }
+    ensures range { result ≤ 5 }
+
+    // Exactly words that name no command are not taken, whatever fails.
+    ensures words { (result ≡ 2) ↔ IsNone (command_of_words words.now) }
+
+    // A file is refused only where this is meant, and what is meant is answered where nothing failed, memory apart.
+    ensures refused { result ≡ 1 → EachMeant (Means words.now (F.told files.old)) (λ answer. answer.status ≡ 1) }
+    ensures complete { (MayHaveFailed (files_call F.told F.taken F.faults files.old files.new).faults → ⊥)
+        → EachMeant (Means words.now (F.told files.old)) (λ answer.
+        (answer.status ≡ 0 → MayHaveFailed (sink_call O.written O.faults out.old out.new).faults → ⊥)
+        → EndsWith answer.status result) }
+
+    // A read fault has its cause in the files. Where they failed it is answered, memory apart.
+    ensures read_fault { result ≡ 3 → MayHaveFailed (files_call F.told F.taken F.faults files.old files.new).faults }
+    ensures files_failed { HasFailed (files_call F.told F.taken F.faults files.old files.new).faults
+        → EndsWith 3 result }
+
+    // A write fault has its cause in the sink. Where that failed it is answered.
+    ensures write_fault { result ≡ 4 → MayHaveFailed (sink_call O.written O.faults out.old out.new).faults }
+    ensures out_failed { HasFailed (sink_call O.written O.faults out.old out.new).faults → result ≡ 4 }
+
+    // What was written: the whole text that is meant, a front of it, or nothing.
+    ensures whole { result ≡ 0 → EachMeant (Means words.now (F.told files.old)) (λ answer.
+        (answer.status ≡ 0) × Wrote (sink_call O.written O.faults out.old out.new) answer.text) }
+    ensures front { result ≡ 4 → EachMeant (Means words.now (F.told files.old)) (λ answer.
+        (answer.status ≡ 0) × WroteFront (sink_call O.written O.faults out.old out.new) answer.text) }
+    ensures nothing { result ≢ 0 → result ≢ 4 → WroteNothing (sink_call O.written O.faults out.old out.new) }
+
+    // Of each game that was played for at least one round: what holds of the bounds that were written of both plans.
+    ensures played { result ≡ 0 → ForEachPlayed words.now (F.told files.old)
+        (sink_call O.written O.faults out.old out.new) BoundsHold }
+
+    // Of each certificate that was accepted, whoever wrote it: the same of the bounds that its verdict has, of the
+    // file's game.
+    ensures checked { result ≡ 0 → ForEachChecked words.now (F.told files.old)
+        (sink_call O.written O.faults out.old out.new) BoundsHold }
+
+    // What was said: the line of the status, a certificate's fault by `check` alone, and at 0 none.
+    ensures line { result ≢ 0 → SaysLine words.now (F.told files.old) result (F.taken files.new)
+        (sink_call E.written E.faults err.old err.new) }
+    ensures silent { result ≡ 0 → err.new ≡ err.old }
+{
+    let ending = conclude(rt, alloc, words, files, out, gate);
+    ending.finish(err)
+}
