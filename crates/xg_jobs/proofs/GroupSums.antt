@@ -9,7 +9,7 @@ use Rattle.def_sums.proofs.SumLaws.{sum_over-append, unsigned_abs-sum_over, nat_
 use Rattle.xg_jobs.specs.Groups.{GroupLeaf, group_at, group_sum, group_mass}
 
 -- the sum over the entries up to one of them
-one_more : (f : GroupLeaf → ℤ) (group : List GroupLeaf) (i : ℕ) (e : GroupLeaf) → i < length group
+pub one_more : (f : GroupLeaf → ℤ) (group : List GroupLeaf) (i : ℕ) (e : GroupLeaf) → i < length group
     → get_or group i e ≡ e
     → sum_over f (take (i + 1) group) ≡ sum_over f (take i group) +ℤ f e
 one_more f group i e below read =
@@ -43,7 +43,7 @@ pub leaf_at : {X : Type 0} (leaf : X → GroupLeaf) (xs : List X) (i : ℕ) (x :
     → get_or (map leaf xs) i (leaf x) ≡ leaf x
 leaf_at leaf xs i x below read = get_or-map leaf xs i x (leaf x) below ∙ ap leaf (sym read)
 
-sized : (f : GroupLeaf → ℤ) (most : ℕ) (group : List GroupLeaf)
+pub sized : (f : GroupLeaf → ℤ) (most : ℕ) (group : List GroupLeaf)
     → ((e : GroupLeaf) → unsigned_abs (f e) ≤ unsigned_abs e.weight * most)
     → unsigned_abs (sum_over f group) ≤ group_mass group * most
 sized f most group each =

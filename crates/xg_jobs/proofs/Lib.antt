@@ -2,12 +2,14 @@ mod RowLemmas
 mod RangeLemmas
 mod GroupSums
 mod PairWeights
+mod Parts
+mod Columns
 mod Counting
 mod Placing
 mod OneEntry
 mod Greatest
-mod PlainSums
 mod Building
+mod FormRows
 mod Visiting
 mod Gathering
 mod TopNodesOfTrees

@@ -6,12 +6,12 @@ use Rattle.std.proofs.lemmas.Bool.{cases_lt}
 use Rattle.std.proofs.lemmas.Int.{ints}
 use Rattle.std.proofs.Math.Seq.{take-append_seam}
 use Rattle.std.specs.List.{range_with_len}
-use Rattle.def_sums.proofs.Ranges.{map-range_same}
+use Rattle.def_sums.proofs.Ranges.{All-range, at_most_sum, map-range_same}
 use Rattle.def_sums.proofs.RingLaws.{unsigned_abs-+ℤ, +ℤ-zero, +ℤ_assoc}
-use Rattle.def_sums.proofs.SumLaws.{sum_over-append, nat_sum_over-append}
+use Rattle.def_sums.proofs.SumLaws.{sum_over-append, nat_sum_over-append, nat_sum_over-mono}
 use Rattle.def_tree.specs.Rules.{most_nodes}
 use Rattle.xg_jobs.specs.Entries.{KeepsGroups}
-use Rattle.xg_jobs.specs.Groups.{GroupLeaf, group_at, group_mass, weight_with, weights_of}
+use Rattle.xg_jobs.specs.Groups.{GroupLeaf, group_at, group_mass, groups_mass, weight_with, weights_of}
 use Rattle.xg_jobs.specs.Merging.{MayReplace, TakesLeaf, TakesGroup, MergedUpto, AreMerged, CanMerge}
 
 -- an entry with more weight
@@ -161,6 +161,12 @@ upto_more s starts entries new old_starts old_entries here order inside_old upto
       few = omega (arith, takes.shorter, upto.few, size);
     }
 
+-- a group's mass is at most that of all
+one_group : (starts : List ℕ) (entries : List GroupLeaf) (s : ℕ) → s < length starts - 1
+    → group_mass (group_at starts entries s) ≤ groups_mass starts entries (length starts - 1)
+one_group starts entries s low =
+    at_most_sum (λ s. group_mass (group_at starts entries s)) 0 (length starts - 1) s (omega arith) (omega arith)
+
 -- the groups of a table that is kept can be merged, where it has 1,048,576 leaves at most
 pub can_merge : (starts : List ℕ) (entries : List GroupLeaf) (others mass : ℕ) → KeepsGroups starts entries others mass
     → length entries ≤ most_nodes → CanMerge starts entries others
@@ -169,7 +175,7 @@ can_merge starts entries others mass kept few = record {
   ordered = kept.ordered;
   inside = kept.inside;
   within = kept.within;
-  light = λ s low. omega (arith, kept.total s low, kept.light);
+  light = λ s low. omega (arith, one_group starts entries s (omega arith), kept.total, kept.light);
   limit = few;
 }
 
@@ -182,7 +188,17 @@ merged_kept starts entries old_starts old_entries others mass are kept = record 
   ordered = λ s low. are.ordered s (omega (arith, are.count));
   inside = λ s low. are.inside s (omega (arith, are.count));
   within = λ s low. (are.each s (omega (arith, are.count))).within others (kept.within s (omega (arith, are.count)));
-  total = λ s low. omega (arith, (are.each s (omega (arith, are.count))).mass, kept.total s (omega (arith, are.count)));
+  total =
+      let n : ℕ = length starts - 1 in
+      let count : n ≡ length old_starts - 1 = omega (arith, are.count) in
+      omega (
+        arith,
+        nat_sum_over-mono (λ s. group_mass (group_at starts entries s)) (λ s. group_mass (group_at old_starts old_entries s)) (range_with_len 0 n)
+            (All-range (λ s. group_mass (group_at starts entries s) ≤ group_mass (group_at old_starts old_entries s)) 0 n
+            (λ s from low. (are.each s (omega (arith, count))).mass)),
+        ap (groups_mass old_starts old_entries) count,
+        kept.total,
+      );
   light = kept.light;
 }
 
@@ -198,5 +214,5 @@ merged_weights starts entries old_starts old_entries others are =
     ∙ ap (λ k. map (λ s. weights_of others (group_at old_starts old_entries s)) (range_with_len 0 (k - 1))) are.count
 
 -- a vector whose items were written over by as many
-pub written_over : (n : ℕ) (new old : List ℕ) → length new ≡ n → take n (new ++ drop (length new) old) ≡ new
+pub written_over : {A : Type 0} (n : ℕ) (new old : List A) → length new ≡ n → take n (new ++ drop (length new) old) ≡ new
 written_over n new old e = ap (λ k. take k (new ++ drop (length new) old)) (sym e) ∙ take-append_seam new (drop (length new) old)

@@ -9,7 +9,7 @@ use Rattle.def_sums.proofs.SumLaws.{sum_over-exchange, sum_over-ext, sum_over-fa
 use Rattle.xg_jobs.specs.Groups.{GroupLeaf, group_sum, weight_with, weights_of}
 
 -- a weight times a number, leaf by leaf
-spread : (c : ℤ) (group : List GroupLeaf) (b : ℕ)
+pub spread : (c : ℤ) (group : List GroupLeaf) (b : ℕ)
     → weight_with b group *ℤ c ≡ sum_over (λ e. cond (eqb e.other b) (e.weight *ℤ c) (pos 0)) group
 spread c group b =
     *ℤ_comm (weight_with b group) c

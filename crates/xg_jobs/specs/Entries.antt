@@ -1,12 +1,12 @@
 -- The leaves that a table's entries are, and what the table keeps of them.
-use Rattle.std.specs.Prelude.{ℕ, ◌+◌, ◌<◌, ◌≤◌, List, length, map, All, slice_index}
+use Rattle.std.specs.Prelude.{ℕ, ◌+◌, ◌-◌, ◌<◌, ◌≤◌, List, length, map, All, slice_index}
 use Rattle.def_sums.specs.Limits.{most_mass}
 use Rattle.xg_jobs.specs.declared.entry.SmallEntry.{SmallEntry}
 use Rattle.xg_jobs.specs.declared.entry.TinyEntry.{TinyEntry}
 use Rattle.xg_jobs.specs.declared.entry.WideEntry.{WideEntry}
 use Rattle.xg_jobs.specs.declared.groups.Entries.{Entries}
 use Rattle.xg_jobs.specs.declared.groups.Entries.TheVariants.{Small, Tiny, Wide}
-use Rattle.xg_jobs.specs.Groups.{GroupLeaf, group_at, group_mass}
+use Rattle.xg_jobs.specs.Groups.{GroupLeaf, group_at, groups_mass}
 
 abbrev pub tiny_leaf : TinyEntry → GroupLeaf
 tiny_leaf e = record { other = e.other; weight = e.weight }
@@ -23,11 +23,11 @@ leaves_of_group (Small entries) = map small_leaf entries.items
 leaves_of_group (Wide entries) = map wide_leaf entries.items
 
 -- each group begins where the one before it ends, none goes on behind the last entry; its leaves have sequences of the
--- other player, who has so many, and no group's weights are more than the mass
+-- other player, who has so many, and the sizes of all weights together are no more than the mass
 pub record KeepsGroups (starts : List ℕ) (entries : List GroupLeaf) (others mass : ℕ) : Type 0 where
   pub some : 2 ≤ length starts
   pub ordered : (s : ℕ) → s + 1 < length starts → slice_index starts s ≤ slice_index starts (s + 1)
   pub inside : (s : ℕ) → s < length starts → slice_index starts s ≤ length entries
   pub within : (s : ℕ) → s + 1 < length starts → All (λ e. e.other < others) (group_at starts entries s)
-  pub total : (s : ℕ) → s + 1 < length starts → group_mass (group_at starts entries s) ≤ mass
+  pub total : groups_mass starts entries (length starts - 1) ≤ mass
   pub light : mass ≤ most_mass

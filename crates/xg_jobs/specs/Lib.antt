@@ -3,7 +3,7 @@ pub mod Table
 pub mod Ranges
 pub mod Groups
 pub mod Grouping
-pub mod Sums
+pub mod Writing
 pub mod Tops
 pub mod Visit
 pub mod Walked

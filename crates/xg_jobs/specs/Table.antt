@@ -1,7 +1,7 @@
 -- What a table of jobs tells of a game: the jobs' ranges of leaves, the weights of each pair of sequences, and the rows
 -- of each job.
 use Rattle.std.specs.Prelude.{◌≡◌, ℕ, List, length, map, ℤ}
-use Rattle.def_tree.specs.declared.Player.TheVariants.{One, Two}
+use Rattle.def_tree.specs.declared.Player.TheVariants.{One}
 use Rattle.def_tree.specs.Tree.{Forest, leaf_count, prefix}
 use Rattle.def_tree.specs.Rules.{IsGameTree}
 use Rattle.def_game_jobs.specs.Ranges.{LeafRange, job_ranges}
@@ -13,15 +13,13 @@ use Rattle.xg_jobs.specs.Groups.{greatest_of}
 
 pub record TableOfJobs : Type 0 where
   pub ranges : List LeafRange
-  pub weights_one : List (List ℤ)
-  pub weights_two : List (List ℤ)
+  pub weights : List (List ℤ)
   pub touched : List JobRows
 
 abbrev pub job_table : SequenceForm → Forest → TableOfJobs
 job_table form tree = record {
   ranges = job_ranges tree;
-  weights_one = pair_weights form One;
-  weights_two = pair_weights form Two;
+  weights = pair_weights form One;
   touched = map (job_rows form) (job_ranges tree);
 }
 

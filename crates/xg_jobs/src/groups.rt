@@ -1,32 +1,34 @@
-ghost use Rattle.std.specs.Prelude.{◌≡◌, ℕ, ◌*◌, ◌^◌, ◌<◌, ◌≤◌, All, IfOk, IsTrue, length};
+ghost use Rattle.std.specs.Prelude.{◌≡◌, ℕ, ◌*◌, ◌^◌, ◌<◌, ◌≤◌, max, All, IfOk, IsTrue, OnOk, length};
 ghost use Rattle.def_sums.specs.Limits.{most_mass, most_root};
 ghost use Rattle.def_tree.specs.Rules.{most_nodes};
-ghost use Rattle.def_tree.specs.Opponent.{opponent};
-ghost use Rattle.def_plan.specs.Form.{player_sets, sequence_count};
+ghost use Rattle.def_tree.specs.declared.Player.TheVariants.{One};
+ghost use Rattle.def_plan.specs.Form.{sequence_count};
 ghost use Rattle.def_plan.specs.Payoff.{mass_of};
-ghost use Rattle.def_rows.specs.Rows.{player_rows};
 ghost use Rattle.xg_seq.specs.Leaves.{HasSequences};
-ghost use Rattle.xg_jobs.specs.Grouping.{AreStarts, ArePlaced, pair_weights};
+ghost use Rattle.xg_jobs.specs.Grouping.{pair_weights};
 ghost use Rattle.xg_jobs.specs.Groups.{greatest_of};
+ghost use Rattle.xg_jobs.specs.Rows.{AreNumbersOf, ArePlainSums};
 
 use crate::entry::{SmallEntry, TinyEntry, WideEntry};
 use crate::grouping::{entries_of, starts_of, total_mass};
+use crate::input::RowInput;
 use crate::merging::merged;
 use crate::packing::{are_small, are_tiny, small_entries, tiny_entries};
-use crate::sums::{write_small_sums, write_tiny_sums, write_wide_sums};
+use crate::rows::Rows;
+use crate::writing::write_rows;
 use def_tree::Player;
 use std::alloc::{AllocError, Global};
 use std::marker::Model;
 use xg_limits::MOST_ROOT;
 use xg_seq::SeqForm;
 
-/// The leaves of each of a player's sequences.
+/// The leaves of each of player one's sequences.
 #[derive(Drop)]
 pub(crate) struct LeafGroups {
     // where each sequence's group begins, and behind them where the last one ends
     starts: Vec<u32>,
     entries: Entries,
-    // how many sequences the other player has
+    // how many sequences player two has
     others: u32,
     // no less than the sizes of all weights together
     mass: u64,
@@ -59,32 +61,26 @@ impl Entries {
 }
 
 impl Model for LeafGroups {
-    ghost use Rattle.std.specs.Prelude.{ℤ, ◌-◌, List, length, map};
-    ghost use Rattle.std.specs.List.{range_with_len};
-    ghost use Rattle.xg_jobs.specs.Groups.{group_at, weights_of};
+    ghost use Rattle.std.specs.Prelude.{ℤ, List};
     ghost use Rattle.xg_jobs.specs.Entries.{KeepsGroups, leaves_of_group};
+    ghost use Rattle.xg_jobs.specs.Grouping.{weights_in};
 
     ghost Value = { List (List ℤ) };
 
-    ghost view = { λ g. map (λ s. weights_of g.others (group_at g.starts.items (leaves_of_group g.entries) s))
-        (range_with_len 0 (length g.starts.items - 1)) };
+    ghost view = { λ g. weights_in g.starts.items (leaves_of_group g.entries) g.others };
 
     ghost invariant = { λ g. KeepsGroups g.starts.items (leaves_of_group g.entries) g.others g.mass };
 }
 
 impl LeafGroups {
-    /// The groups of the form's leaves by a player's sequences.
-    pub(crate) fn build(
-        alloc: Global,
-        form: &SeqForm,
-        player: Player,
-    ) -> Result<LeafGroups, AllocError>
-        ensures { IfOk result (λ groups. groups ≡ pair_weights form.now player) }
+    /// The groups of the form's leaves.
+    pub(crate) fn build(alloc: Global, form: &SeqForm) -> Result<LeafGroups, AllocError>
+        ensures { IfOk result (λ groups. groups ≡ pair_weights form.now One) }
     {
-        let starts = starts_of(alloc, form, player)?;
+        let starts = starts_of(alloc, form, Player::One)?;
         let mass = total_mass(form);
-        let others = other_count(form, player);
-        let entries = entries_of(alloc, form, player, &starts)?;
+        let others = other_count(form);
+        let entries = entries_of(alloc, form, Player::One, &starts)?;
         let groups = merged(alloc, &starts, &entries, others)?;
         let packed = Entries::packed(alloc, groups.entries)?;
         Ok(LeafGroups {
@@ -95,35 +91,34 @@ impl LeafGroups {
         })
     }
 
-    /// Writes for each of the player's sequences the sum over its leaves against the other player's numbers.
+    /// Writes for each sequence of each player the sum over its leaves against the other player's numbers.
     pub(crate) fn write_to(
         &self,
-        form: &SeqForm,
-        player: Player,
-        numbers: &[u64],
-        rows: &mut [i128],
-    )
-        requires groups { self.now ≡ pair_weights form.now player }
-        requires numbers { length numbers.now ≡ sequence_count (player_sets form.now (opponent player)) }
-        requires small { All (λ n. n ≤ most_root) numbers.now }
-        requires rows { length rows.old ≡ sequence_count (player_sets form.now player) }
-        ensures { rows.new ≡ player_rows form.now player numbers.now }
+        alloc: Global,
+        input: &RowInput<'_>,
+        rows: &mut Rows,
+    ) -> Result<(), AllocError>
+        requires groups { self.now ≡ pair_weights input.now.form.now One }
+        requires numbers { AreNumbersOf input.now.form.now input.now.one.now input.now.two.now }
+        requires rows_one { length rows.old.one ≡ sequence_count input.now.form.now.sets_one }
+        requires rows_two { length rows.old.two ≡ sequence_count input.now.form.now.sets_two }
+        ensures { OnOk result (ArePlainSums input.now.form.now input.now.one.now input.now.two.now rows.new) }
     {
         // the sequences of a form's leaves are within their limits
-        let _others = other_count(form, player);
-        let narrow = sums_fit_word(self.mass, numbers);
+        let _others = other_count(input.form);
+        let narrow = sums_fit_word(self.mass, input.one, input.two);
         let starts = &self.starts;
         match &self.entries {
-            Entries::Tiny(entries) => write_tiny_sums(narrow, starts, entries, numbers, rows),
-            Entries::Small(entries) => write_small_sums(narrow, starts, entries, numbers, rows),
-            Entries::Wide(entries) => write_wide_sums(narrow, starts, entries, numbers, rows),
+            Entries::Tiny(entries) => write_rows(alloc, narrow, starts, entries, input, rows),
+            Entries::Small(entries) => write_rows(alloc, narrow, starts, entries, input, rows),
+            Entries::Wide(entries) => write_rows(alloc, narrow, starts, entries, input, rows),
         }
     }
 }
 
-// How many sequences the other player has.
-fn other_count(form: &SeqForm, player: Player) -> u32
-    ensures count { result ≡ sequence_count (player_sets form.now (opponent player)) }
+// How many sequences player two has.
+fn other_count(form: &SeqForm) -> u32
+    ensures count { result ≡ sequence_count form.now.sets_two }
 
     // What is true of every form.
     ensures sequences { All (HasSequences form.now) form.now.leaves }
@@ -131,18 +126,16 @@ fn other_count(form: &SeqForm, player: Player) -> u32
     ensures limit { length form.now.leaves ≤ most_nodes }
 {
     let _leaves = form.leaf_count();
-    match player {
-        Player::One => form.sequence_count(Player::Two),
-        Player::Two => form.sequence_count(Player::One),
-    }
+    form.sequence_count(Player::Two)
 }
 
-// Whether each sum of a group is within 64 bits, with its sign. Light weights tell it whatever the numbers are.
-fn sums_fit_word(mass: u64, numbers: &[u64]) -> bool
-    requires { All (λ n. n ≤ most_root) numbers.now }
-    ensures { IsTrue result → mass * greatest_of numbers.now < 2 ^ 63 }
+// Whether each sum is within 64 bits, with its sign. Light weights tell it whatever the numbers are.
+fn sums_fit_word(mass: u64, one: &[u64], two: &[u64]) -> bool
+    requires small_one { All (λ n. n ≤ most_root) one.now }
+    requires small_two { All (λ n. n ≤ most_root) two.now }
+    ensures { IsTrue result → mass * max (greatest_of one.now) (greatest_of two.now) < 2 ^ 63 }
 {
-    fits_word(mass, MOST_ROOT) || fits_word(mass, greatest(numbers))
+    fits_word(mass, MOST_ROOT) || fits_word(mass, greatest(one).max(greatest(two)))
 }
 
 fn greatest(numbers: &[u64]) -> u64

@@ -1,6 +1,7 @@
 #![tactic(auto)]
 //! The jobs of a game's tree, and the rows of its sequence form: for each sequence the sum over its leaves.
 
+mod both;
 mod cutting;
 mod entry;
 mod grouping;
@@ -10,17 +11,15 @@ mod maker;
 mod merging;
 mod packing;
 mod plain;
+mod row;
 mod rows;
-mod sums;
 mod table;
 mod tops;
 mod touching;
+mod writing;
 
 pub use input::RowInput;
 pub use maker::RowMaker;
 pub use plain::PlainRows;
 pub use rows::Rows;
 pub use table::JobTable;
-
-#[cfg(test)]
-mod tests;

@@ -23,7 +23,7 @@ impl RowMaker for PlainRows {
         jobs: &JobTable,
     ) -> Result<Rows, AllocError> {
         let mut rows = Rows::new(alloc, input.form)?;
-        jobs.write_to(input, &mut rows);
+        jobs.write_to(alloc, input, &mut rows)?;
         Ok(rows)
     }
 }

@@ -1,4 +1,4 @@
-ghost use Rattle.std.specs.Prelude.{◌≡◌, ◌-◌, ◌<◌, ◌≤◌, length, IfOk, Some, slice_get, slice_index_or};
+ghost use Rattle.std.specs.Prelude.{◌≡◌, ◌-◌, ◌<◌, ◌≤◌, length, IfOk, OnOk, Some, slice_get, slice_index_or};
 ghost use Rattle.def_game_jobs.specs.Jobs.{most_jobs};
 ghost use Rattle.def_history.specs.Leaves.{amounts};
 ghost use Rattle.def_history.specs.Packets.{IsPacketOf};
@@ -14,7 +14,6 @@ use crate::groups::LeafGroups;
 use crate::input::RowInput;
 use crate::rows::Rows;
 use crate::touching::{most_rows, touched_of};
-use def_tree::Player;
 use std::alloc::{AllocError, Global};
 use std::marker::Model;
 use xg_rowcore::Packet;
@@ -28,8 +27,7 @@ use xg_tree::Tree;
 #[derive(Drop)]
 pub struct JobTable {
     ranges: Vec<LeafRange>,
-    groups_one: LeafGroups,
-    groups_two: LeafGroups,
+    groups: LeafGroups,
     touched: Vec<TouchedRows>,
 }
 
@@ -51,8 +49,7 @@ impl Model for JobTable {
 
     ghost view = { λ t. record {
       ranges = map range_of t.ranges.items;
-      weights_one = t.groups_one;
-      weights_two = t.groups_two;
+      weights = t.groups;
       touched = t.touched.items;
     } };
 
@@ -60,7 +57,7 @@ impl Model for JobTable {
 }
 
 impl JobTable {
-    /// The jobs of the tree, and its leaves by each player's sequence.
+    /// The jobs of the tree, and its leaves by player one's sequence.
     pub fn build(alloc: Global, form: &SeqForm, tree: &Tree) -> Result<JobTable, AllocError>
         requires { IsFormOf form.now tree.now }
         ensures table { IfOk result (λ jobs. jobs ≡ job_table form.now tree.now) }
@@ -69,13 +66,11 @@ impl JobTable {
         let ranges = ranges_of(alloc, tree)?;
         // a table is of a tree that keeps the rules
         let _count = tree.len();
-        let groups_one = LeafGroups::build(alloc, form, Player::One)?;
-        let groups_two = LeafGroups::build(alloc, form, Player::Two)?;
+        let groups = LeafGroups::build(alloc, form)?;
         let touched = touched_of(alloc, form, &ranges)?;
         Ok(JobTable {
             ranges,
-            groups_one,
-            groups_two,
+            groups,
             touched,
         })
     }
@@ -126,17 +121,18 @@ impl JobTable {
     }
 
     /// Writes the sums over all leaves.
-    pub(crate) fn write_to(&self, input: &RowInput<'_>, rows: &mut Rows)
+    pub(crate) fn write_to(
+        &self,
+        alloc: Global,
+        input: &RowInput<'_>,
+        rows: &mut Rows,
+    ) -> Result<(), AllocError>
         requires numbers { AreNumbersOf input.now.form.now input.now.one.now input.now.two.now }
         requires table { IsTableOf input.now.form.now self.now }
         requires rows_one { length rows.old.one ≡ sequence_count input.now.form.now.sets_one }
         requires rows_two { length rows.old.two ≡ sequence_count input.now.form.now.sets_two }
-        ensures { ArePlainSums input.now.form.now input.now.one.now input.now.two.now rows.new }
+        ensures { OnOk result (ArePlainSums input.now.form.now input.now.one.now input.now.two.now rows.new) }
     {
-        let RowInput { form, one, two } = *input;
-        self.groups_one
-            .write_to(form, Player::One, two, &mut rows.one);
-        self.groups_two
-            .write_to(form, Player::Two, one, &mut rows.two);
+        self.groups.write_to(alloc, input, rows)
     }
 }

@@ -1,6 +1,6 @@
 use Rattle.std.proofs.Common.{◌≡◌, ap, ◌∙◌, map}
 use Rattle.def_game_jobs.specs.Ranges.{job_ranges}
-use Rattle.def_tree.specs.declared.Player.TheVariants.{One, Two}
+use Rattle.def_tree.specs.declared.Player.TheVariants.{One}
 use Rattle.xg_touched.specs.Touched.{job_rows}
 use Rattle.xg_jobs.specs.Grouping.{pair_weights}
 use Rattle.xg_jobs.specs.Ranges.{range_of}
@@ -16,21 +16,19 @@ pub returns-clause-table : goal.returns-clause-table
 returns-clause-table c =
     let form = c.args.form.now in
     let ranges : map range_of c.in_ok-ranges.ranges.items ≡ job_ranges c.args.tree.now = c.in_ok-ranges.ensures.ranges in
-    let one : c.in_ok-groups_one.groups_one ≡ pair_weights form One = c.in_ok-groups_one.ensures in
-    let two : c.in_ok-groups_two.groups_two ≡ pair_weights form Two = c.in_ok-groups_two.ensures in
+    let weights : c.in_ok-groups.groups ≡ pair_weights form One = c.in_ok-groups.ensures in
     let touched : c.in_ok-touched.touched.items ≡ map (job_rows form) (job_ranges c.args.tree.now) = c.in_ok-touched.ensures ∙ ap (λ rs. map (job_rows form) (map range_of rs)) c.deref.ensures.value ∙ ap (map (job_rows form)) ranges in
-    λ i. record { ranges = ranges i; weights_one = one i; weights_two = two i; touched = touched i }
+    λ i. record { ranges = ranges i; weights = weights i; touched = touched i }
 
 pub returns-clause-whole : goal.returns-clause-whole
 returns-clause-whole c =
     let form = c.args.form.now in
     let ranges : map range_of c.in_ok-ranges.ranges.items ≡ job_ranges c.args.tree.now = c.in_ok-ranges.ensures.ranges in
-    let one : c.in_ok-groups_one.groups_one ≡ pair_weights form One = c.in_ok-groups_one.ensures in
-    let two : c.in_ok-groups_two.groups_two ≡ pair_weights form Two = c.in_ok-groups_two.ensures in
+    let weights : c.in_ok-groups.groups ≡ pair_weights form One = c.in_ok-groups.ensures in
     let touched : c.in_ok-touched.touched.items ≡ map (job_rows form) (job_ranges c.args.tree.now) = c.in_ok-touched.ensures ∙ ap (λ rs. map (job_rows form) (map range_of rs)) c.deref.ensures.value ∙ ap (map (job_rows form)) ranges in
     record {
       tree = c.args.tree.now;
       rules = c.len-count.ensures.rules;
       form_is = c.requires;
-      table_is = λ i. record { ranges = ranges i; weights_one = one i; weights_two = two i; touched = touched i };
+      table_is = λ i. record { ranges = ranges i; weights = weights i; touched = touched i };
     }

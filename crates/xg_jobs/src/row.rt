@@ -1,0 +1,128 @@
+ghost use Rattle.std.specs.Prelude.{◌≡◌, ℕ, ◌*◌, ◌^◌, ◌<◌, ℤ, pos, ◌+ℤ◌, ◌*ℤ◌, unsigned_abs, IfOk, length, map};
+ghost use Rattle.def_sums.specs.Limits.{past_number};
+ghost use Rattle.def_rows.specs.Rows.{amount_of};
+
+use std::alloc::{AllocError, Global};
+
+/// The amount at a row, in as many bits as the sums of a form need.
+pub(crate) trait Row: Copy {
+    // the amount, and one past the greatest size that there is room for
+    ghost amount: { Self → ℤ };
+
+    ghost limit: { ℕ };
+
+    fn zero() -> Self
+        ensures { amount result ≡ pos 0 };
+
+    fn zeros(alloc: Global, count: usize) -> Result<Vec<Self>, AllocError>
+        ensures count { IfOk result (λ rows. length rows.items ≡ count) }
+        ensures each { IfOk result (λ rows. (b : ℕ) → amount_of (map amount rows.items) b ≡ pos 0) };
+
+    fn plus_product(&self, w: i64, n: u64) -> Self
+        requires small { n < past_number }
+        requires product { unsigned_abs w * n < limit }
+        requires room { unsigned_abs (amount self.now +ℤ (w *ℤ pos n)) < limit }
+        ensures { amount result ≡ amount self.now +ℤ (w *ℤ pos n) };
+
+    fn wide(&self) -> i128
+        ensures { result ≡ amount self.now };
+}
+
+impl Row for i64 {
+    ghost amount = { λ row. row };
+
+    ghost limit = { 2 ^ 63 };
+
+    fn zero() -> i64 {
+        0
+    }
+
+    fn zeros(alloc: Global, count: usize) -> Result<Vec<i64>, AllocError> {
+        vec![in alloc; 0i64; count]
+    }
+
+    fn plus_product(&self, w: i64, n: u64) -> i64 {
+        plus(*self, times(w, n))
+    }
+
+    fn wide(&self) -> i128 {
+        *self as i128
+    }
+}
+
+impl Row for i128 {
+    ghost amount = { λ row. row };
+
+    ghost limit = { 2 ^ 127 };
+
+    fn zero() -> i128 {
+        0
+    }
+
+    fn zeros(alloc: Global, count: usize) -> Result<Vec<i128>, AllocError> {
+        vec![in alloc; 0i128; count]
+    }
+
+    fn plus_product(&self, w: i64, n: u64) -> i128 {
+        plus_wide(*self, times_wide(w, n))
+    }
+
+    fn wide(&self) -> i128 {
+        *self
+    }
+}
+
+fn times(w: i64, n: u64) -> i64
+    requires small { n < past_number }
+    requires within { unsigned_abs w * n < 2 ^ 63 }
+    ensures { result ≡ w *ℤ pos n }
+{
+    w * n as i64
+}
+
+fn plus(a: i64, b: i64) -> i64
+    requires { unsigned_abs (a +ℤ b) < 2 ^ 63 }
+    ensures { result ≡ a +ℤ b }
+{
+    a + b
+}
+
+fn times_wide(w: i64, n: u64) -> i128
+    requires { n < past_number }
+    ensures { result ≡ w *ℤ pos n }
+{
+    // a product of two signed words is one instruction
+    w as i128 * (n as i64) as i128
+}
+
+fn plus_wide(a: i128, b: i128) -> i128
+    requires { unsigned_abs (a +ℤ b) < 2 ^ 127 }
+    ensures { result ≡ a +ℤ b }
+{
+    a + b
+}
+
+/// Adds a product to a row.
+pub(crate) fn add_product<R: Row>(rows: &mut [R], row: usize, w: i64, n: u64)
+    requires inside { row < length rows.old }
+    requires small { n < past_number }
+    requires product { unsigned_abs w * n < R.limit }
+    requires room { unsigned_abs (amount_of (map R.amount rows.old) row +ℤ (w *ℤ pos n)) < R.limit }
+    ensures count { length rows.new ≡ length rows.old }
+    ensures here { amount_of (map R.amount rows.new) row
+        ≡ amount_of (map R.amount rows.old) row +ℤ (w *ℤ pos n) }
+    ensures others { (b : ℕ) → (b ≡ row → ⊥)
+        → amount_of (map R.amount rows.new) b ≡ amount_of (map R.amount rows.old) b }
+{
+    rows[row] = rows[row].plus_product(w, n);
+}
+
+/// Puts an amount at a row.
+pub(crate) fn put(rows: &mut [i128], row: usize, amount: i128)
+    requires inside { row < length rows.old }
+    ensures count { length rows.new ≡ length rows.old }
+    ensures here { amount_of rows.new row ≡ amount }
+    ensures others { (b : ℕ) → (b ≡ row → ⊥) → amount_of rows.new b ≡ amount_of rows.old b }
+{
+    rows[row] = amount;
+}
