@@ -1,0 +1,3 @@
+mod Exploitability
+mod Sharp
+mod Successes
