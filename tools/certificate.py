@@ -1,7 +1,8 @@
-"""Reads the text that `solve` prints: its head, the trace of the bracket, both plans, both replies and the bracket.
+"""Reads and writes the text that `solve` prints: its head, the trace of the bracket, both plans, both replies and the
+bracket.
 
 The form of each line is tested, and that there are as many lines as the head says. Whether the text is true isn't
-looked at.
+looked at. What the first line says decides which lines follow: FORMS has who reads and who writes them.
 """
 import re
 from fractions import Fraction
@@ -24,10 +25,11 @@ class End:
 
 
 class Text:
-    """A text. `ends` has the plan of player one and of player two, each with the other's reply; without rounds it is
-    None, as are `low` and `high`."""
+    """A text. `form` is its first line. `ends` has the plan of player one and of player two, each with the other's
+    reply; without rounds it is None, as are `low` and `high`."""
 
-    def __init__(self):
+    def __init__(self, form):
+        self.form = form
         self.nodes = self.leaves = self.sets = self.sequences = self.unit = self.mass = None
         self.rounds = self.every = self.scale = None
         self.trace, self.ends, self.low, self.high = [], None, None, None
@@ -58,8 +60,17 @@ class Lines:
 
 
 def read_text(data):
-    lines, text = Lines(data), Text()
-    lines.take("XGCERT 1", "the first line of a text, XGCERT 1")
+    lines, told = Lines(data), " or ".join(FORMS)
+    (form,) = lines.take(f"({'|'.join(FORMS)})", f"the first line of a text, {told}")
+    return FORMS[form][0](lines, Text(form))
+
+
+def text_of(text):
+    """The bytes of a text."""
+    return "".join(line + "\n" for line in FORMS[text.form][1](text)).encode()
+
+
+def read_version_1(lines, text):
     text.nodes, text.leaves = lines.counts("nodes N leaves N", "the line of nodes and leaves")
     text.sets = lines.counts("sets N N", "the line of sets")
     text.sequences = lines.counts("sequences N N", "the line of sequences")
@@ -100,3 +111,38 @@ def read_end(lines, text, player):
         value, choice = lines.take(rf"value {k} ({WHOLE}) ({COUNT})", f"the value of set {k}")
         replies.append((int(value), int(choice)))
     return End(root, weights, int(total), replies)
+
+
+def lines_of_version_1(text):
+    yield from (
+        text.form,
+        f"nodes {text.nodes} leaves {text.leaves}",
+        "sets {} {}".format(*text.sets),
+        "sequences {} {}".format(*text.sequences),
+        f"unit {text.unit}",
+        f"mass {text.mass}",
+        f"rounds {text.rounds} every {text.every} scale {text.scale}",
+    )
+    if text.rounds:
+        yield from lines_of_outcome(text)
+    yield "end"
+
+
+def lines_of_outcome(text):
+    for row in text.trace:
+        yield "trace {} {} {} {} {}".format(*row)
+    yield from lines_of_end(text.ends[0], 1)
+    yield from lines_of_end(text.ends[1], 2)
+    yield f"bracket {text.low} {text.high}"
+
+
+def lines_of_end(end, player):
+    yield f"plan {player} {end.root}"
+    yield from (f"weights {k} {' '.join(map(str, weights))}" for k, weights in enumerate(end.weights, 1))
+    yield f"reply {3 - player} {end.total}"
+    yield from (f"value {k} {value} {choice}" for k, (value, choice) in enumerate(end.replies, 1))
+
+
+FORMS = {"XGCERT 1": (read_version_1, lines_of_version_1)}
+# The form of what `solve` prints.
+FORM_OF_SOLVE = "XGCERT 1"

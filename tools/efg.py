@@ -24,7 +24,7 @@ RATIO = re.compile(rb"([+-]?)([0-9]+)/([0-9]+)")
 DECIMAL = re.compile(rb"([+-]?)(?=\.?[0-9])([0-9]*)\.?([0-9]*)(?:[eE]([+-]?[0-9]{1,2}))?")
 # An entry without descriptions, up to the letter of the next one: most entries of a large file.
 SHORT_ENTRY = re.compile(
-    rb'[\x09-\x0d ]*([cpt])[\x09-\x0d ]*"[^"\\]*"[\x09-\x0d ]*((?:[0-9]{1,18}[\x09-\x0d ]+)+)(?=[cpt])'
+    rb'[\x09-\x0d ]*([cpt])[\x09-\x0d ]*"([^"\\]*)"[\x09-\x0d ]*((?:[0-9]{1,18}[\x09-\x0d ]+)+)(?=[cpt])'
 )
 NUMBERS_OF_ENTRY = {b"c": 2, b"p": 3, b"t": 1}
 
@@ -100,12 +100,12 @@ class Outcome:
 
 
 class Node:
-    """A node: its set, None at a leaf; its outcome, None for outcome 0; and the nodes below it, from 0 on."""
+    """A node: its name; its set, None at a leaf; its outcome, None for outcome 0; and the nodes below it, from 0 on."""
 
-    __slots__ = ("set", "outcome", "children")
+    __slots__ = ("name", "set", "outcome", "children")
 
-    def __init__(self, set_, outcome):
-        self.set, self.outcome, self.children = set_, outcome, []
+    def __init__(self, name, set_, outcome):
+        self.name, self.set, self.outcome, self.children = name, set_, outcome, []
 
 
 class Game:
@@ -227,18 +227,19 @@ def read_short_entry(reader):
     found = SHORT_ENTRY.match(reader.data, reader.at)
     if not found:
         return None
-    kind, numbers = found[1], [int(it) for it in found[2].split()]
+    kind, numbers = found[1], [int(it) for it in found[3].split()]
     if len(numbers) != NUMBERS_OF_ENTRY[kind] or kind != b"t" and numbers[-2] == 0:
         return None
     reader.at = found.end()
     told_set = None if kind == b"t" else (numbers[-2], None, None)
-    return numbers[0] if kind == b"p" else 0, told_set, (numbers[-1], None, None)
+    return found[2], numbers[0] if kind == b"p" else 0, told_set, (numbers[-1], None, None)
 
 
 def read_told(reader):
-    """The next entry: its player, 0 for none, and what it tells of its set, None at a leaf, and of its outcome."""
+    """The next entry: its name, its player, 0 for none, and what it tells of its set, None at a leaf, and of its
+    outcome."""
     kind = reader.word(b"c", b"p", b"t")
-    reader.text()
+    node_name = reader.text()
     player = reader.whole() if kind == b"p" else 0
     told_set = None
     if kind != b"t":
@@ -249,13 +250,13 @@ def read_told(reader):
             player = None
     number = reader.whole()
     name = reader.optional(b'"', reader.text)
-    return player, told_set, (number, name, reader.optional(b"{", reader.payoffs))
+    return node_name, player, told_set, (number, name, reader.optional(b"{", reader.payoffs))
 
 
 def read_entry(reader, game):
     """The next entry as a node, which is judged and put into the game's tables."""
     place = len(game.nodes) + 1
-    player, told_set, told_outcome = read_short_entry(reader) or read_told(reader)
+    name, player, told_set, told_outcome = read_short_entry(reader) or read_told(reader)
     if player not in (0, 1, 2):
         raise Fault(f"refused 7 PlayerNumber node {place}")
     set_ = kept_set(game, player, told_set, place) if told_set else None
@@ -264,7 +265,7 @@ def read_entry(reader, game):
         raise Fault("refused 13 TooManyNodes")
     if set_ and not 1 <= len(set_.actions) <= MOST_ACTIONS:
         raise Fault(f"refused 14 ActionCount node {place}")
-    return Node(set_, outcome)
+    return Node(name, set_, outcome)
 
 
 def kept_set(game, player, told, place):

@@ -1,0 +1,316 @@
+"""Checks of `certify`, without the program: profiles of all forms, what they come to, and what is refused."""
+import pathlib
+import re
+import tempfile
+from fractions import Fraction
+
+from checks import ROOT
+from small_games import profile_of, small_games
+from tool_calls import tool
+
+import certificate  # noqa: E402
+import efg  # noqa: E402
+
+GAMES, TEXTS = ROOT / "games", ROOT / ".ci" / "tool_texts"
+KUHN = GAMES / "kuhn_poker.efg"
+NOTHING = b"certify: nothing was rounded\n"
+FINEST = 2**36
+
+# A game whose names have commas and quotes, one name twice, names that are numbers, and a set that may be missed.
+NAMES = b"""\
+EFG 2 R "Names" { "A, the first" "The \\"second\\"" }
+p "" 1 7 "go, or \\"stay\\"" { "go, now" "stay" } 0
+p "" 2 3 "twice" { "1" "2" "3" } 0
+t "" 1 { 1, -1 }
+t "" 2 { -1, 1 }
+p "" 1 9 "late" { "x" "x" } 0
+t "" 3 { 4, -4 }
+t "" 4 { -4, 4 }
+p "" 2 4 "twice" { "3" "1" "2" } 0
+t "" 2
+t "" 1
+p "" 2 5 "4" { "only" } 0
+t "" 0
+"""
+# The same strategy of it in several forms.
+NAMES_TABLE = [
+    '"A, the first","go, or ""stay""","go, now",1/4',
+    '"A, the first","go, or ""stay""",stay,.75',
+    "1,late,1,1",
+    "2,3,3,5e-1",
+    '"The ""second""",3,1,1/2',
+    "2,4,1,1",
+    "2,5,only,1.0",
+]
+NAMES_FORMS = [
+    ("a table", "\n".join(NAMES_TABLE)),
+    ("a header", "player,set,action,probability\n" + "\n".join(NAMES_TABLE) + "\n"),
+    ("a header of another order", "Probability, action ,SET,player\n1/4,1,7,1\n3/4,2,7,1\n1,1,9,1\n"
+     ".5,1,3,2\n.5,3,3,2\n0,2,3,2\n1,1,4,2\n1,1,5,2\n"),
+    ("CRLF", "\r\n".join(NAMES_TABLE) + "\r\n"),
+    ("UTF-8 with a mark", "\ufeff" + "\n".join(NAMES_TABLE)),
+    ("a mark and a header", "\ufeffplayer,set,action,probability\r\n" + "\r\n".join(NAMES_TABLE)),
+    ("empty lines", "\n\n" + "\n\n".join(NAMES_TABLE) + "\n,,,\n\n"),
+    ("places and spaces", "1, 7 , 1 ,1/4\n1,7,2, 3/4\n1,9,1,1\n2,3,3,1/2\n2,3,1,1/2\n2,4,2,0\n2,4,1,1\n2,5,1,1"),
+    ("a line of Gambit", "NE,1/4,3/4,1,0,1/2,0,1/2,0,1,0,1"),
+    ("its end in CRLF, with a mark", "\ufeff\r\nNE,0.25,0.75,1,0,0.5,0,0.5,0,1,0,1\r\n"),
+]
+
+KUHN_LINE = "NE," + ",".join(["1/2"] * 24)
+NAMES_OF = "player 1's set 7 \"go, or \\\"stay\\\"\""
+# A profile of the game above, and the line with which it is refused.
+REFUSED = [
+    ("", "the profile is empty"),
+    (" \r\n\r\n", "the profile is empty"),
+    ("\ufeff", "the profile is empty"),
+    ("NE", "line 1: it has 0 numbers, and the game has 4 actions of player 1 and 7 of player 2"),
+    ("NE,1,0", "line 1: it has 2 numbers, and the game has 4 actions of player 1 and 7 of player 2"),
+    (KUHN_LINE, "line 1: it has 24 numbers, and the game has 4 actions of player 1 and 7 of player 2"),
+    ("NE,1,0,1,0,1,0,0,1,0,0,1\n\nNE,1,0", "line 3: a profile is one line, and another one follows it"),
+    ("NE,1,0,,0,1,0,0,1,0,0,1", 'line 1, number 3, player 1\'s set 9 "late", action "x": "" isn\'t a probability'),
+    ("NE,1,0,1,0,1,nan,0,1,0,0,1", 'number 6, player 2\'s set 3 "twice", action "2": "nan" isn\'t a probability'),
+    ("NE,2,-1,1,0,1,0,0,1,0,0,1", f'line 1, number 1, {NAMES_OF}, action "go, now": the probability 2 is above 1'),
+    ("NE,1/2,1/3,1,0,1,0,0,1,0,0,1", "the probabilities of the set add up to 0.833333333333333, and not to 1"),
+    ("player,set,action,probability\n", "the profile has a header, and no line behind it"),
+    ("1,7,1", "line 1: it has 3 fields in place of 4: player, set, action, probability"),
+    ("1,7,1,1/2\n1;7;2;1/2", "line 2: it has 1 field in place of 4: player, set, action, probability"),
+    ("1,7,1,1/2,", "line 1: it has 5 fields in place of 4: player, set, action, probability"),
+    ("1,go, or stay,1,1/2", "line 1: it has 5 fields in place of 4: player, set, action, probability"),
+    ('1,"7"7,1,1/2', "line 1: ',' expected after '\"'"),
+    ('1,7,1,1/2\n1,"7,2,1/2\n', "line 2: unexpected end of data"),
+    ("3,7,1,1", 'line 1: "3" is no player: 1, 2 or one of their names is needed'),
+    ("players,set,action,probability\n1,7,1,1", 'line 1: "players" is no player: 1, 2 or one of their names is needed'),
+    ("player,set,action,prob\n1,7,1,1", 'line 1: "player" is no player: 1, 2 or one of their names is needed'),
+    ("1,7,1,-1/4", "line 1: the probability -1/4 is below 0"),
+    ("1,7,1,1.01", "line 1: the probability 1.01 is above 1"),
+    ("1,7,1,1/0", 'line 1: "1/0" isn\'t a probability'),
+    ("1,7,1,1e9999", 'line 1: "1e9999" isn\'t a probability'),
+    ("1,7,1,\u0661", 'line 1: "\u0661" isn\'t a probability'),
+    ("1,7,1,50%", 'line 1: "50%" isn\'t a probability'),
+    ("1,8,1,1", 'line 1: player 1 has no set "8"'),
+    ("1,\u0007,1,1", 'line 1: player 1 has no set "\\x07"'),
+    ("1,late,1,1\n1,7,3,1", f'line 2: {NAMES_OF} has no action "3"'),
+    ("1,7,go,1", f'line 1: {NAMES_OF} has no action "go"'),
+    ("1,7,stay,1/2\n1,7,1,1/2", f"line 1: {NAMES_OF}: other lines give places in place of names, or no action of it"),
+    ("1,late,x,1", 'line 1: player 1\'s set 9 "late" has the action "x" twice; give the places of actions'),
+    ("2,twice,1,1", 'line 1: player 2 has 2 sets of the name "twice"; name the set by its number, one of 3, 4'),
+    ("1,7,1,1/2\n1,7,2,1/2\n1,go, or", "line 3: it has 3 fields in place of 4: player, set, action, probability"),
+    ("1,7,1,1/2\n1,7,1,1/2", f'line 2: {NAMES_OF}, action "go, now" stands in line 1 already'),
+    ("1,7,1,1/2", f"line 1, {NAMES_OF}: the probabilities of the set add up to 0.5, and not to 1"),
+    ("1,7,1,0.9\n1,7,2,0.2", f"line 1, {NAMES_OF}: the probabilities of the set add up to 1.1, and not to 1"),
+    ("1,9,1,1", f"the profile has no line for {NAMES_OF}, which its own plan reaches"),
+    ("1,7,1,1", 'the profile has no line for player 1\'s set 9 "late", which its own plan reaches'),
+    ("1,7,1,1\n1,9,1,1\n2,5,1,1\n2,3,1,1", 'no line for player 2\'s set 4 "twice", which its own plan reaches\n'),
+    ("1,7,1,1\n1,9,1,1", "which its own plan reaches; --player 1 takes a profile of player 1 alone"),
+]
+
+# What the actions of a set have, and whether it is scaled, taken as it is (None), or refused.
+SUMS = [
+    ("0.333333 0.333333 0.333333", "1/3 1/3 1/3", True),
+    ("0.33 0.33 0.33", "1/3 1/3 1/3", True),
+    ("0.3333333433 0.3333333433 0.3333333433", "1/3 1/3 1/3", True),
+    ("0.166667 0.333333 0.5", None, None),
+    ("0.1 0.2 0.7", None, None),
+    ("0.30000000000000004 0.3 0.4", None, True),
+    ("0.3 0.3 0.3", None, False),
+    ("0.33 0.33 0.30", None, False),
+    ("0.5 0.25 0.24", None, True),
+    ("1/3 1/3 1/4", None, False),
+    ("0.9 0.01 0.02", None, False),
+    (" ".join(["0.08"] * 12), None, True),
+    (" ".join(["0.09"] * 10), None, False),
+]
+# A game and the line of a fault of its numbers.
+PROLOGUE = b'EFG 2 R "" { "A" "B" }\n'
+BIG = b"4611686018427387904"
+FAULTS = [
+    (b'c "" 1 { "a" 3/2 "b" -1/2 } 0 t "" 0 t "" 0', b"refused 15 ChanceNegative node 1"),
+    (b'c "" 1 { "a" 1/2 "b" 1/3 } 0 t "" 0 t "" 0', b"refused 16 ChanceSum node 1"),
+    (b'p "" 1 1 { "x" } 0 c "" 1 { "a" .333333 "b" .333333 "c" .333333 } 0' + b' t "" 0' * 3,
+     b"refused 16 ChanceSum node 2"),
+    (b't "" 1 { 1, 1 }', b"refused 17 NotZeroSum node 1"),
+    (b'p "" 1 1 { "x" } 1 { 1 -1 } t "" 2 { 1 -2 }', b"refused 17 NotZeroSum node 2"),
+    (b'p "" 1 1 { "a" "b" } 0 p "" 1 1 0' + b' t "" 0' * 3, b"refused 18 NotRecall node 2 earlier 1"),
+    (b'p "" 1 1 { "x" } 1 { %s -%s } t "" 2 { %s -%s }' % (BIG, BIG, BIG, BIG), b"refused 19 Scale node 2"),
+    (b'p "" 1 1 { "x" "y" } 0 t "" 1 { %s -%s } t "" 2 { 1 -1 }' % (BIG, BIG), b"refused 19 Scale node 3"),
+    (b'c "" 1 { "a" 1/4611686018427387847 "b" 4611686018427387846/4611686018427387847 } 0 t "" 1 { 1/3 -1/3 } t "" 0',
+     b"refused 19 Scale node 2"),
+    (b'c "" 1 { "a" 1/4611686018427387847 "b" 1/4611686018427387837 "c" 1/2 } 0 t "" 0 t "" 0 t "" 0',
+     b"refused 19 Scale node 1"),
+    (b"", b"refused 3 UnexpectedEnd"),
+]
+
+
+def round_trips(checks):
+    """A profile that was printed of a text comes back with the text's replies, totals and bracket."""
+    for name in ("kuhn_poker", "toll"):
+        game, told = GAMES / f"{name}.efg", TEXTS / f"{name}.xgcert"
+        _, profile, _ = tool("plan_table", "--profile", game, told)
+        status, out, said = tool("certify", game, stdin=profile)
+        checks.expect(f"{name} certified", (status, said), 0, NOTHING)
+        old, new = certificate.read_text(told.read_bytes()), certificate.read_text(out)
+        checks.that(f"{name}, what was read is written", certificate.text_of(old) == told.read_bytes(), "it differs")
+        checks.that(f"{name}, the head", out.splitlines()[:6] == told.read_bytes().splitlines()[:6], f"{out[:200]}")
+        checks.that(f"{name}, the bracket", (new.low, new.high) == (old.low, old.high), f"{new.low} {new.high}")
+        checks.that(f"{name}, the replies", same_ends(old, new), "they differ")
+
+
+def same_ends(old, new):
+    """Whether the plans and replies of two texts are the same, but for their roots."""
+    for one, two in zip(old.ends, new.ends):
+        if end_times(one, two.root) != end_times(two, one.root):
+            return False
+    return True
+
+
+def end_times(end, factor):
+    weights = [[it * factor for it in row] for row in end.weights]
+    return weights, [(value * factor, choice) for value, choice in end.replies], end.total * factor
+
+
+def against_pure(checks, folder):
+    """What is printed of random strategies is what all pure strategies of the other player say, but for rounding."""
+    file = folder / "small.efg"
+    rounded = 0
+    for game in small_games(60):
+        file.write_bytes(game.data())
+        strategies = {player: game.strategy(player) for player in (1, 2)}
+        status, out, said = tool("certify", file, stdin=profile_of(strategies))
+        text = certificate.read_text(out)
+        low, high = game.bracket(strategies)
+        most = {end: Fraction(told) for end, told in re.findall(r"(LOW|HIGH) by at most (\S+)", said.decode())}
+        rounded += bool(most)
+        for end, told, wanted in (("LOW", text.low, low), ("HIGH", text.high, high)):
+            where = f"{end} of\n{game.data().decode()}"
+            checks.that(where, status == 0 and abs(told - wanted) <= most.get(end, 0), f"{told}, {wanted}")
+        for player in (1, 2):
+            alone = tool("certify", f"--player={player}", file, stdin=profile_of(strategies, [player]))[1]
+            one, both = (certificate.read_text(it).ends[player - 1] for it in (alone, out))
+            where = f"player {player} of\n{game.data().decode()}"
+            is_same = one.root == both.root and end_times(one, 1) == end_times(both, 1)
+            checks.that(f"{where} alone", is_same, alone.decode())
+            checks.that(f"the answer to {where}", is_answer(game, certificate.read_text(alone), player), alone.decode())
+    checks.that("some were rounded", rounded >= 10, f"{rounded}")
+
+
+def is_answer(game, text, player):
+    """Whether the other player's plan attains the total of its reply to this player's plan."""
+    strategies = {k: strategy_of(game, k, text.ends[k - 1]) for k in (1, 2)}
+    end = text.ends[player - 1]
+    return game.payoff(strategies) == Fraction(end.total, text.unit * end.root)
+
+
+def strategy_of(game, player, end):
+    """A text's plan as probabilities."""
+    sets = game.sets[player]
+    return {it: [Fraction(w, sum(row) or 1) for w in row] for it, row in zip(sets, end.weights)}
+
+
+def forms(checks, folder):
+    """All forms of one strategy give one text."""
+    file = folder / "names.efg"
+    file.write_bytes(NAMES)
+    first = tool("certify", file, stdin=NAMES_FORMS[0][1].encode())
+    checks.expect(NAMES_FORMS[0][0], (first[0], first[2]), 0, NOTHING)
+    for what, profile in NAMES_FORMS:
+        checks.expect(what, tool("certify", file, stdin=profile.encode()), *first)
+    profile = folder / "names.csv"
+    profile.write_text("\n".join(NAMES_TABLE))
+    checks.expect("from a file", tool("certify", file, profile), *first)
+    for name, low in (("kuhn_equilibrium", Fraction(-1, 18)), ("kuhn_a_little_wrong", Fraction(-7, 72))):
+        status, out, _ = tool("certify", KUHN, GAMES / f"{name}.csv")
+        text = certificate.read_text(out)
+        near = abs(text.low - low) < Fraction(1, 10**6) and abs(text.high + Fraction(1, 18)) < Fraction(1, 10**6)
+        checks.that(name, status == 0 and near, f"{text.low} {text.high}")
+    equal = tool("certify", KUHN, GAMES / "kuhn_equilibrium.csv")
+    checks.that("an equilibrium is certified exactly", b"\nbracket -1/18 -1/18\nend\n" in equal[1], equal[1].decode())
+    profiles = (b"NE,1/2,0,1/2,0,1,0,1", NAMES_FORMS[8][1].encode())
+    alone = [tool("certify", "--player=2", file, stdin=it) for it in profiles]
+    checks.that("one player's numbers, or both", alone[0][0] == 0 and alone[0] == alone[1], f"{alone}")
+    unreached = "1,7,2,1\n2,5,1,1\n2,3,1,1\n2,4,1,1\n"
+    missing = tool("certify", file, stdin=unreached.encode())
+    checks.expect("a set that isn't reached is missing", (missing[0], missing[2]), 0, NOTHING)
+    checks.that("its weights are 0", b"\nweights 2 0 0\n" in missing[1], missing[1].decode())
+    zeros = tool("certify", file, stdin=b"NE,0,1,0,0,1,0,0,0,1,0,1")
+    checks.expect("a set that isn't reached has zeros", (zeros[0], zeros[2]), 0, NOTHING)
+
+
+def refusals(checks, folder):
+    file = folder / "names.efg"
+    file.write_bytes(NAMES)
+    for profile, why in REFUSED:
+        status, out, said = tool("certify", file, stdin=profile.encode())
+        line = said.decode()
+        is_line = line.startswith("certify: ") and line.count("\n") == 1 and why in line
+        checks.that(f"{profile!r} is refused", (status, out) == (1, b"") and is_line, f"{status} {line}, want {why}")
+    for data, line in FAULTS:
+        file.write_bytes(PROLOGUE + data)
+        checks.expect(line.decode(), tool("certify", file, stdin=b"NE"), 1, b"", b"certify: " + line + b"\n")
+    file.write_bytes(b"\xef\xbb\xbf" + NAMES)
+    refused = tool("certify", file, stdin=b"NE")
+    checks.expect("a game file with a mark", refused, 1, b"", b"certify: refused 2 Syntax at 0\n")
+    status, out, said = tool("certify", folder / "none.efg", stdin=b"NE")
+    checks.that("no such game", (status, out) == (1, b"") and b"No such file" in said, str(said))
+    checks.that("no such player", tool("certify", "--player=3", KUHN, stdin=b"NE")[0] == 2, "")
+
+
+def one_set(count):
+    """A game with one set of so many actions."""
+    actions = " ".join(f'"{k}"' for k in range(count))
+    return PROLOGUE + f'p "" 1 5 "one" {{ {actions} }} 0\n'.encode() + b't "" 0\n' * count
+
+
+def sums(checks, folder):
+    """Probabilities that add up to 1 only nearly are scaled, and it is said."""
+    file = folder / "one_set.efg"
+    for told, meant, is_scaled in SUMS:
+        file.write_bytes(one_set(len(told.split())))
+        given = tool("certify", file, stdin=("NE," + told.replace(" ", ",")).encode())
+        status, out, said = given
+        checks.that(f"{told}, its status", status == (1 if is_scaled is False else 0), str(given))
+        checks.that(f"{told} is scaled", (b"and are scaled" in said) == bool(is_scaled), said.decode())
+        values = list(map(Fraction, (meant or told).split()))
+        if status == 0:
+            end = certificate.read_text(out).ends[0]
+            near = [abs(it - end.root * value / sum(values)) < 2 for it, value in zip(end.weights[0], values)]
+            checks.that(f"{told}, its weights", all(near) and sum(end.weights[0]) == end.root, f"{end.weights}")
+    file.write_bytes(one_set(3))
+    where = b'certify: line 1, number 1, player 1\'s set 5 "one", action "0": '
+    line = where + b"0.333333 and 0.333333 and 0.333333 add up to 0.999999, and are scaled\n"
+    given = tool("certify", file, stdin=b"NE,0.333333,0.333333,0.333333")
+    checks.expect("a third three times", (given[0], given[2]), 0, line + NOTHING)
+
+
+def rounding(checks, folder):
+    """Where no root has a plan exactly, the finest is taken, and rounding changes less than 2^-30 of the payoffs."""
+    file = folder / "one_set.efg"
+    file.write_bytes(one_set(3))
+    out = tool("certify", file, stdin=b"NE,1/65539,2/65539,65536/65539")[1]
+    ends = [0, FINEST // 65539, FINEST * 3 // 65539, FINEST]
+    dealt = " ".join(str(end - start) for start, end in zip(ends, ends[1:]))
+    checks.that("shares", f"\nweights 1 {dealt}\n".encode() in out, f"{out}, want {dealt}")
+    for told, root in (("1/3,1/3,1/3", 65535), ("1/7,2/7,4/7", 65534), ("1/65537,0,65536/65537", 65536)):
+        out = tool("certify", file, stdin=f"NE,{told}".encode())[1]
+        checks.that(f"the root of {told}", f"\nplan 1 {root * 2**20}\n".encode() in out, out.decode())
+    for game in sorted(GAMES.glob("*.efg")):
+        sets = efg.read_game(game.read_bytes()).sets
+        parts = [(3 * k + 1) / 7919 for k in range(20)]
+        profile = ["NE"]
+        for set_ in (*sets[1].values(), *sets[2].values()):
+            told = [f"{it:.15f}" for it in parts[: len(set_.actions) - 1]]
+            parts = parts[1:] + parts[:1]
+            profile += [*told, str(1 - sum(map(Fraction, told)))]
+        status, out, said = tool("certify", game, stdin=",".join(profile).encode())
+        roots = [int(it) for it in re.findall(rb"^plan \d (\d+)$", out, re.M)]
+        power = re.search(rb"less than 2\^(-\d+) of the largest payoff", said)
+        is_small = said == NOTHING or (power and int(power[1]) <= -30)
+        checks.that(f"rounding of {game.name}", status == 0 and is_small, said.decode())
+        checks.that(f"the roots of {game.name}", roots == [FINEST, FINEST], f"{roots}")
+
+
+def certify_checks(checks):
+    with tempfile.TemporaryDirectory() as name:
+        folder = pathlib.Path(name)
+        round_trips(checks)
+        for part in (against_pure, forms, refusals, sums, rounding):
+            part(checks, folder)

@@ -1,0 +1,40 @@
+"""Calls of the tools of tools/, within this process, so that many of them take little time."""
+import importlib.machinery
+import importlib.util
+import io
+import signal
+import sys
+
+from checks import ROOT
+
+sys.path.insert(0, str(ROOT / "tools"))
+LOADED = {}
+
+
+def module(name):
+    """The module of a tool whose file has no ending."""
+    if name not in LOADED:
+        loader = importlib.machinery.SourceFileLoader(f"tool_{name}", str(ROOT / "tools" / name))
+        LOADED[name] = importlib.util.module_from_spec(importlib.util.spec_from_loader(loader.name, loader))
+        loader.exec_module(LOADED[name])
+    return LOADED[name]
+
+
+def stream(data=b""):
+    return io.TextIOWrapper(io.BytesIO(data), "utf-8", write_through=True)
+
+
+def tool(name, *words, stdin=b""):
+    """The status, the standard output and the standard error of a tool that is called with these words."""
+    kept = sys.argv, sys.stdin, sys.stdout, sys.stderr, signal.getsignal(signal.SIGPIPE)
+    out, said = stream(), stream()
+    sys.argv = [str(ROOT / "tools" / name), *map(str, words)]
+    sys.stdin, sys.stdout, sys.stderr = stream(stdin), out, said
+    try:
+        status = module(name).main()
+    except SystemExit as end:
+        status = end.code or 0
+    finally:
+        sys.argv, sys.stdin, sys.stdout, sys.stderr = kept[:4]
+        signal.signal(signal.SIGPIPE, kept[4])
+    return status, out.buffer.getvalue(), said.buffer.getvalue()

@@ -1,0 +1,157 @@
+"""Draws the bracket of a text over its rounds as SVG: what `bracket_plot` prints, and what a report shows."""
+import math
+from fractions import Fraction
+from xml.sax.saxutils import escape
+
+LOW_COLOUR, HIGH_COLOUR, VALUE_COLOUR = "#1f5fa8", "#b3471d", "#555555"
+
+
+class Canvas:
+    """The size of a picture, the room around its curves, and the size of its letters."""
+
+    def __init__(self, width, height, left, right, top, bottom, letters):
+        self.width, self.height, self.letters = width, height, letters
+        self.left, self.right, self.top, self.bottom = left, width - right, top, height - bottom
+
+
+WIDE = Canvas(720, 440, left=84, right=96, top=44, bottom=56, letters=12)
+# For a page that a phone shows too.
+NARROW = Canvas(500, 330, left=80, right=124, top=14, bottom=54, letters=14)
+
+
+class Axis:
+    """From numbers to places on the picture, with round numbers as marks."""
+
+    def __init__(self, marks, least, most, start, end, is_log=False):
+        self.marks, self.start, self.end, self.is_log = marks, start, end, is_log
+        self.least, self.most = self.scaled(least), self.scaled(most)
+
+    def scaled(self, number):
+        return math.log10(number) if self.is_log else float(number)
+
+    def place(self, number):
+        width = self.most - self.least
+        part = (self.scaled(number) - self.least) / width if width else 0.5
+        return self.start + part * (self.end - self.start)
+
+
+def round_numbers(least, most, least_step=0.0):
+    """Multiples of 1, 2 or 5 times a power of ten, at most about six of them."""
+    width = float(most - least)
+    power = 10.0 ** math.floor(math.log10(width / 6))
+    step = max(least_step, next(k * power for k in (1, 2, 5, 10) if k * power * 6 >= width * 0.999))
+    first, last = math.ceil(float(least) / step - 1e-9), math.floor(float(most) / step + 1e-9)
+    return [k * step for k in range(first, last + 1)]
+
+
+def powers(least, most):
+    """The powers of ten from one number of rounds to the other, and also twice and five times them."""
+    return [k * 10**n for n in range(6) for k in (1, 2, 5) if least <= k * 10**n <= most]
+
+
+def number(value):
+    return f"{value:.6g}"
+
+
+def steps(points, x_axis, y_axis, last):
+    """A step curve from its points to the last round, without points that fall on the same place of the picture."""
+    places = []
+    for x, y in points:
+        at = (round(x_axis.place(x), 1), round(y_axis.place(y), 1))
+        if places and at[1] != places[-1][1]:
+            places.append((at[0], places[-1][1]))
+        if not places or at[1] != places[-1][1]:
+            places.append(at)
+    places.append((round(x_axis.place(last), 1), places[-1][1]))
+    return " ".join(f"{x:g},{y:g}" for x, y in places)
+
+
+def line(x1, y1, x2, y2, style):
+    return f'<line x1="{x1:g}" y1="{y1:g}" x2="{x2:g}" y2="{y2:g}" {style}/>'
+
+
+def label(x, y, text, style=""):
+    return f'<text x="{x:g}" y="{y:g}" {style}>{escape(text)}</text>'
+
+
+def frame(canvas, x_axis, y_axis, units):
+    """The axes with their marks and what they measure."""
+    left, floor = canvas.left, canvas.bottom
+    thin, grid = 'stroke="#333333"', 'stroke="#dddddd"'
+    right, middle = 'text-anchor="end"', 'text-anchor="middle"'
+    parts = []
+    for mark in y_axis.marks:
+        y = round(y_axis.place(mark), 1)
+        parts += [line(left, y, canvas.right, y, grid), label(left - 8, y + 4, number(mark), right)]
+    for mark in x_axis.marks:
+        x = round(x_axis.place(mark), 1)
+        parts += [line(x, canvas.top, x, floor, grid), label(x, floor + 18, number(mark), middle)]
+    parts.append(line(left, canvas.top, left, floor, thin))
+    parts.append(line(left, floor, canvas.right, floor, thin))
+    parts.append(label((left + canvas.right) / 2, canvas.height - 14, "rounds played", middle))
+    up = (canvas.top + floor) / 2
+    parts.append(label(20, up, units, f'{middle} transform="rotate(-90 20 {up:g})"'))
+    return parts
+
+
+def picture(text, title, player, value=None, is_log=False, canvas=WIDE):
+    """The picture of a text that has a trace, with the name of player one; a title and a known value or None."""
+    rows = [(row[0], *text.bracket_after(row)) for row in text.trace]
+    heights = [it for row in rows for it in row[1:]] + ([value] if value is not None else [])
+    room = (max(heights) - min(heights)) / 20 or Fraction(1, 2)
+    first, last = rows[0][0], rows[-1][0]
+    least, most = min(heights) - room, max(heights) + room
+    y_axis = Axis(round_numbers(least, most), least, most, canvas.bottom, canvas.top)
+    begin, marks = (first, powers(first, last)) if is_log else (0, round_numbers(0, last, 1.0))
+    x_axis = Axis(marks, begin, last, canvas.left, canvas.right, is_log)
+    width, height = canvas.width, canvas.height
+    parts = [
+        f'<svg xmlns="http://www.w3.org/2000/svg" width="{width}" height="{height}" viewBox="0 0 {width} {height}"',
+        f' font-family="sans-serif" font-size="{canvas.letters}">',
+        f'<rect width="{width}" height="{height}" fill="white"/>',
+        *([label(canvas.left, 24, title, 'font-size="14"')] if title is not None else []),
+        *frame(canvas, x_axis, y_axis, f"{player}'s payoff, in the game file's units"),
+    ]
+    beside = canvas.right + 6
+    if value is not None:
+        y = round(y_axis.place(value), 1)
+        parts.append(line(canvas.left, y, canvas.right, y, f'stroke="{VALUE_COLOUR}" stroke-dasharray="5 4"'))
+        parts.append(label(canvas.left + 6, y - 5, f"value {value}", f'fill="{VALUE_COLOUR}"'))
+    for name, place, colour, down in (("HIGH", 2, HIGH_COLOUR, -4), ("LOW", 1, LOW_COLOUR, 12)):
+        points = steps([(row[0], row[place]) for row in rows], x_axis, y_axis, last)
+        parts.append(f'<polyline id="{name}" points="{points}" fill="none" stroke="{colour}" stroke-width="1.8"/>')
+        if first == last:
+            x, y = x_axis.place(last), y_axis.place(rows[-1][place])
+            parts.append(f'<circle cx="{x:g}" cy="{y:.1f}" r="3.5" fill="{colour}"/>')
+        y = y_axis.place(rows[-1][place]) + down
+        parts.append(label(beside, round(y, 1), f"{name} {float(rows[-1][place]):.4g}", f'fill="{colour}"'))
+    return "\n".join(parts + ["</svg>", ""])
+
+
+def span(low, high, pay, player):
+    """The bracket as a bar over payoffs, with a mark at what player one gets where both plans meet."""
+    width, height, floor = NARROW.width, 92, 52
+    room = (high - low) / 6 or abs(low) / 10 or Fraction(1, 2)
+    axis = Axis(round_numbers(low - room, high + room), low - room, high + room, 12, width - 12)
+    left, right, met = (round(axis.place(it), 1) for it in (low, high, pay))
+    middle = 'text-anchor="middle"'
+    parts = [
+        f'<svg xmlns="http://www.w3.org/2000/svg" width="{width}" height="{height}" viewBox="0 0 {width} {height}"',
+        ' font-family="sans-serif" font-size="14">',
+        f'<rect width="{width}" height="{height}" fill="white"/>',
+        line(12, floor, width - 12, floor, 'stroke="#333333"'),
+    ]
+    for mark in axis.marks:
+        x = round(axis.place(mark), 1)
+        parts.append(line(x, floor, x, floor + 5, 'stroke="#333333"'))
+        if 24 <= x <= width - 24:
+            parts.append(label(x, floor + 19, number(mark), middle))
+    ends = [(f"LOW {float(low):.4g}", left), (f"HIGH {float(high):.4g}", right)]
+    if low == high:
+        ends = [(f"LOW and HIGH {float(low):.4g}", left)]
+    parts += [label(x, 18, told, middle) for told, x in ends]
+    parts.append(line(left, 32, right, 32, 'stroke="#333333" stroke-width="3"'))
+    parts += [line(x, 25, x, floor, 'stroke="#333333" stroke-width="3"') for x in (left, right)]
+    parts.append(f'<circle cx="{met:g}" cy="32" r="5" fill="white" stroke="#333333" stroke-width="2"/>')
+    parts.append(label(width / 2, height - 4, f"{player}'s payoff", middle))
+    return "\n".join(parts + ["</svg>", ""])

@@ -1,0 +1,202 @@
+"""A report as one page of HTML, which is well-formed XML too, without scripts and without anything from elsewhere."""
+from html import escape
+
+import report_tree
+from bracket_picture import NARROW, picture, span
+from losses import BEST
+from report_words import action_name, best_of, losing, notes, number, percent, player_name, set_name, summary, title
+
+STYLE = """
+body { font: 1rem/1.45 system-ui, sans-serif; color: #111; background: #fff; margin: 0 auto; padding: 0.8rem;
+  max-width: 60rem; overflow-wrap: anywhere; }
+h1 { font-size: 1.5rem; line-height: 1.2; margin: 0.4rem 0; }
+h2 { font-size: 1.2rem; margin: 2rem 0 0.4rem; border-bottom: 2px solid #111; }
+table { border-collapse: collapse; table-layout: fixed; width: 100%; margin: 0.6rem 0; }
+caption { text-align: left; padding-bottom: 0.3rem; }
+th, td { text-align: left; vertical-align: top; padding: 0.2rem 0.8rem 0.2rem 0; border-bottom: 1px solid #bbb; }
+thead th { border-bottom: 2px solid #111; vertical-align: bottom; }
+th.set { padding-top: 0.9rem; border-bottom: 1px solid #111; }
+th.set span { display: block; font-weight: normal; }
+tbody th { font-weight: normal; }
+th.set, tr.best th, tr.best td { font-weight: bold; }
+.n { text-align: right; font-variant-numeric: tabular-nums; }
+.bar { display: block; border-top: 0.55rem solid #111; margin-top: 0.15rem; min-width: 1px; }
+.room { display: block; border: 1px solid #777; border-width: 0 1px; }
+code { font-family: ui-monospace, monospace; font-size: 0.9em; }
+figure { margin: 1rem 0; }
+figure svg { max-width: 100%; height: auto; }
+ul { list-style: none; margin: 0; padding-left: 0.8rem; border-left: 1px solid #bbb; }
+ul ul ul ul ul ul ul ul ul ul { padding-left: 0; border-left: 0; }
+li { margin: 0.15rem 0; }
+li.leaf { padding-left: 1.1rem; }
+summary { cursor: pointer; }
+summary span, li.leaf span { display: inline-block; margin-right: 0.6rem; }
+a { color: inherit; }
+@media (max-width: 30rem) { body { padding: 0.5rem; font-size: 0.9rem; } th, td { padding-right: 0.4rem; } }
+@media print { a { text-decoration: none; } tr, figure { break-inside: avoid; } }
+"""
+
+
+def tag(name, content, **attributes):
+    """An element. Its content stands as it is and its attributes are escaped; `class_` is class, `aria_hidden`
+    aria-hidden."""
+    told = "".join(f' {key.rstrip("_").replace("_", "-")}="{escape(str(it))}"' for key, it in attributes.items())
+    return f"<{name}{told}>{content}</{name}>"
+
+
+def head_row(*heads):
+    """The heads of columns, each with its width in a hundred; those of numbers stand at the right."""
+
+    def cell(head, width, kind=None):
+        return tag("th", escape(head), scope="col", style=f"width:{width}%", **({"class_": kind} if kind else {}))
+
+    return tag("thead", tag("tr", "".join(cell(*it) for it in heads)))
+
+
+def place_of(set_):
+    return f"p{set_.player}s{set_.number}"
+
+
+def page_of(audit, files):
+    game = audit.game
+    name = escape(title(game))
+    payoffs, gains, columns = (tag("p", escape(it)) for it in notes(audit))
+    parts = [
+        tag("h1", name),
+        tag("p", escape(f"{player_name(game, 1)} against {player_name(game, 2)}")),
+        tag("h2", "The bracket"),
+        span_figure(audit),
+        summary_table(audit),
+        payoffs,
+        *trace_figure(audit),
+        tag("h2", "Where the plans lose most"),
+        losing_table(audit),
+        gains,
+        columns,
+        *(part for player in (1, 2) for part in player_section(audit, player)),
+        *tree_section(audit),
+        tag("h2", "What this page was made of"),
+        files_table(files),
+    ]
+    head = '<meta charset="utf-8"/><meta name="viewport" content="width=device-width, initial-scale=1"/>'
+    head += tag("title", name) + tag("style", STYLE)
+    body = "\n".join(parts)
+    whole = f"<head>{head}</head>\n<body>\n{body}\n</body>\n"
+    return "<!DOCTYPE html>\n" + tag("html", "\n" + whole, xmlns="http://www.w3.org/1999/xhtml", lang="en") + "\n"
+
+
+def summary_table(audit):
+    rows = [
+        tag("tr", tag("th", escape(said), scope="row") + tag("td", number(value), class_="n") + exact(value))
+        for said, value in summary(audit)
+    ]
+    head = head_row(("what", 48), ("payoff", 23, "n"), ("exactly", 29))
+    return tag("table", head + tag("tbody", "\n".join(rows)), id="bracket")
+
+
+def exact(value):
+    return tag("td", tag("code", str(value)))
+
+
+def span_figure(audit):
+    name = player_name(audit.game, 1)
+    drawn = span(audit.text.low, audit.text.high, audit.pay, name)
+    return figure(drawn, f"From LOW to HIGH. The ring is what {name} gets where both plans meet.", "span")
+
+
+def trace_figure(audit):
+    """How the bracket closed, where there is more than one evaluation."""
+    if len(audit.text.trace) < 2:
+        return []
+    drawn = picture(audit.text, None, player_name(audit.game, 1), canvas=NARROW)
+    return [figure(drawn, f"How the bracket closed over {audit.text.rounds:,} rounds.", "trace")]
+
+
+def figure(drawn, said, name):
+    return tag("figure", drawn + tag("figcaption", escape(said)), id=name)
+
+
+def losing_table(audit):
+    found = losing(audit)
+    if not found:
+        return tag("p", "No set loses anything: each plan is a best response to the other.")
+    rows = []
+    for line in found:
+        link = tag("a", escape(set_name(line.set)), href=f"#{place_of(line.set)}")
+        name = escape(player_name(audit.game, line.set.player))
+        cells = tag("th", f"{name}: {link}", scope="row") + tag("td", escape(best_of(line)))
+        rows.append(tag("tr", cells + right(percent(line.reached)) + right(number(line.lost))))
+    head = head_row(("set", 38), ("best response", 22), ("reached", 20, "n"), ("lost", 20, "n"))
+    return tag("table", head + tag("tbody", "\n".join(rows)), id="losing")
+
+
+def right(content):
+    return tag("td", content.replace(" ", "&#160;"), class_="n")
+
+
+def player_section(audit, player):
+    name = escape(player_name(audit.game, player))
+    lines = audit.lines[player]
+    if not lines:
+        return [tag("h2", f"{name}'s plan"), tag("p", f"{name} has no choice in this game.")]
+    head = head_row(("action", 30), ("plan", 30), ("worth", 24, "n"), ("best", 16))
+    bodies = "\n".join(set_body(line) for line in lines)
+    caption = tag("caption", f"Its sets lose {number(audit.gains[player])} together.")
+    return [tag("h2", f"{name}'s plan"), tag("table", caption + head + bodies)]
+
+
+def set_body(line):
+    """The rows of a set: its name with how often it is reached and what is lost there, and then its actions."""
+    said = f"reached {percent(line.reached)}, loses {number(line.lost)}"
+    if line.actions[0].probability is None:
+        said = "never reached by its own plan"
+    head = tag("th", escape(set_name(line.set)) + tag("span", said), colspan=4, scope="rowgroup", class_="set")
+    rows = [tag("tr", head, id=place_of(line.set))]
+    rows += [action_row(it, k) for k, it in enumerate(line.actions, 1)]
+    return tag("tbody", "\n".join(rows))
+
+
+def action_row(line, place):
+    cells = tag("th", escape(action_name(line.name, place)), scope="row")
+    cells += tag("td", number(line.probability) + bar(line.probability))
+    cells += right(number(line.worth)) + tag("td", line.mark)
+    return tag("tr", cells, **({"class_": "best"} if line.mark == BEST else {}))
+
+
+def bar(probability):
+    if not probability:
+        return ""
+    width = max(1, round(float(probability) * 1000))
+    return tag("span", tag("span", "", class_="bar", style=f"width:{width / 10:g}%"), class_="room", aria_hidden="true")
+
+
+def tree_section(audit):
+    told = report_tree.tree_of(audit)
+    if isinstance(told, str):
+        return [tag("h2", "The tree"), tag("p", escape(told))]
+    said = "Each line is an action with its probability in the plan, what follows it, what it pays on average where"
+    said += " both plans are played on, and how often it is reached."
+    return [tag("h2", "The tree"), tag("p", said), tag("ul", branch(told, is_open=True), id="tree")]
+
+
+def branch(root, is_open=False):
+    """A node of the tree with all below it."""
+    cells = [tag("b", escape(root.action))] if root.action else []
+    cells += [tag("span", escape(it)) for it in root.told]
+    line = " ".join(cells)
+    if not root.children:
+        return tag("li", line, class_="leaf")
+    below = "\n".join(map(branch, root.children))
+    folded = tag("summary", line) + tag("ul", below)
+    return tag("li", tag("details", folded, **({"open": "open"} if is_open else {})))
+
+
+def files_table(files):
+    rows = [
+        tag("tr", tag("th", what, scope="row") + tag("td", escape(name)) + tag("td", tag("code", told)))
+        for what, (name, told) in zip(("game file", "text"), files)
+    ]
+    head = head_row(("what", 18), ("name", 30), ("sha256", 52))
+    proof = "The page proves nothing. What is said of LOW and HIGH is proved where"
+    proof += f" {tag('code', 'xg_solve check GAME CERT')} accepts these two files with the same bracket."
+    return tag("p", proof) + tag("table", head + tag("tbody", "\n".join(rows)))
