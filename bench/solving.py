@@ -2,7 +2,7 @@
 """Measures how rounds are played: rounds a second, memory, and how a round's time grows with the leaves.
 
 Usage: python3 bench/solving.py [PROGRAM] [--runs N] [--seconds S] [--work] [--chain NODES] [--only WORD]
-       [--beside OTHER]
+       [--workers N] [--beside OTHER]
 
 PROGRAM is the built one where nothing else is given. Each game is solved twice, with one round and with many, and the
 difference of the times is that of the rounds between: reading the game and writing the text drop out of it. There are
@@ -10,6 +10,9 @@ so many rounds that this is S seconds (0.3 where nothing else is said) and half 
 there can be. Times are the best of N runs (5). With --work they are the processor's times and not those that pass,
 which is right for one thread on a busy machine. Memory is the greatest that was resident; less than the 8 MB of the
 process that starts the program can't be seen.
+
+Each game is solved without a number of workers, as it is for those who ask for nothing, and in turn with `--workers 1`,
+which may not be faster. With --workers N it is solved with this number alone, by OTHER too.
 
 A line says what was measured, the measure and its bound, where it has one; the last line counts what passed and failed,
 and the status is 1 where something failed.
@@ -28,7 +31,8 @@ import tempfile
 from reading import PROGRAM, run
 
 MOST_ROUNDS = 65_536
-GROWTH, TEXT_RATIO = 2.3, 2.0
+# What is never slower is given a tenth, as two measurements of one program differ.
+GROWTH, TEXT_RATIO, SLOWER = 2.3, 2.0, 1.1
 
 
 class Writer:
@@ -131,12 +135,14 @@ class Failed(Exception):
 class Solver:
     """A program, with what was measured of it on one game."""
 
-    def __init__(self, program, path, is_work):
+    def __init__(self, program, workers, path, is_work):
         self.program, self.path, self.is_work, self.many = program, path, is_work, 2
+        self.words = ["--workers", str(workers)] if workers else []
         self.memory, self.times = 0, {}
 
     def solve(self, rounds):
-        seconds, memory, status, work = run([self.program, "solve", self.path, "--rounds", str(rounds)])
+        words = ["solve", self.path, "--rounds", str(rounds), *self.words]
+        seconds, memory, status, work = run([self.program, *words])
         if status != 0:
             raise Failed(f"{self.program} ended with status {status} for --rounds {rounds}")
         self.memory = max(self.memory, memory)
@@ -165,8 +171,8 @@ class Solver:
 
 
 def measured(programs, path, given):
-    """A solver for each program, after its runs in turn."""
-    solvers = [Solver(program, path, given.work) for program in programs]
+    """A solver for each program with its number of workers, after its runs in turn."""
+    solvers = [Solver(program, workers, path, given.work) for program, workers in programs]
     for solver in solvers:
         solver.choose_rounds(given.seconds)
     for _ in range(given.runs):
@@ -177,7 +183,7 @@ def measured(programs, path, given):
 
 def text_times(programs, path, given):
     """For each program the best time of one round with its text, less that of reading alone."""
-    solvers = [Solver(program, path, given.work) for program in programs]
+    solvers = [Solver(program, workers, path, given.work) for program, workers in programs]
     for _ in range(given.runs):
         for solver in solvers:
             solver.solve(0)
@@ -202,7 +208,7 @@ class Report:
 
 def same_text(programs, path):
     words = ["solve", path, "--rounds", "4", "--every", "3"]
-    texts = [subprocess.run([it, *words], capture_output=True) for it in programs]
+    texts = [subprocess.run([it, *words], capture_output=True) for it, _ in programs]
     return all(it.returncode == 0 and it.stdout == texts[0].stdout for it in texts)
 
 
@@ -213,14 +219,18 @@ def measure_kind(report, sizes, has_growth, programs, folder, given):
         path = str(folder / "game.efg")
         pathlib.Path(path).write_text("\n".join(writer.lines) + "\n")
         try:
-            solvers = measured(programs, path, given)
+            alone = [] if given.workers else [(programs[0][0], 1)]
+            solvers = measured([*programs, *alone], path, given)
             ours = solvers[0]
             rate = ours.rounds_a_second()
             report.say(
                 f"{name}, {len(writer.lines) - 1} nodes, {writer.leaves} leaves: {rate:.1f} rounds a second, "
                 f"{1e9 / rate / writer.leaves:.2f} ns a leaf, {ours.memory / 2**20:.1f} MB"
             )
-            if len(solvers) > 1:
+            if alone:
+                slower = solvers[-1].rounds_a_second() / rate
+                report.judge(f"{name}: a round without a number of workers, over one worker's", slower, SLOWER, "times")
+            if len(programs) > 1:
                 other = solvers[1].rounds_a_second()
                 report.say(f"{name}, beside: {other:.1f} rounds a second; ours over it {rate / other:.2f}")
                 report.that(f"{name}: the texts are the same", same_text(programs, path))
@@ -246,9 +256,10 @@ def main():
     parser.add_argument("--work", action="store_true")
     parser.add_argument("--chain", metavar="NODES", type=int, default=1_000)
     parser.add_argument("--only", metavar="WORD", default="", help="only the kinds whose name has this")
+    parser.add_argument("--workers", metavar="N", type=int)
     parser.add_argument("--beside", metavar="OTHER")
     given = parser.parse_args()
-    programs = [os.path.abspath(it) for it in (given.program, given.beside) if it]
+    programs = [(os.path.abspath(it), given.workers) for it in (given.program, given.beside) if it]
     report = Report()
     with tempfile.TemporaryDirectory() as folder:
         for name, has_growth, sizes in games(given.chain):
