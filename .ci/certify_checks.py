@@ -137,6 +137,12 @@ FAULTS = [
      b"refused 19 Scale node 2"),
     (b'c "" 1 { "a" 1/4611686018427387847 "b" 1/4611686018427387837 "c" 1/2 } 0 t "" 0 t "" 0 t "" 0',
      b"refused 19 Scale node 1"),
+    (b'p "" 1 1 { "x" "y" } 0 t "" 1 { 1/4611686018427387847 -1/4611686018427387847 } t "" 2 { 1/3 -1/3 }',
+     b"refused 19 Scale node 3"),
+    (b'c "" 1 { "a" 1/2 "b" 1/2 } 1 { %s -%s } t "" 2 { %s -%s } t "" 0' % (BIG, BIG, BIG, BIG),
+     b"refused 19 Scale node 2"),
+    (b'p "" 1 1 { "x" } 1 { %s 0 } t "" 2 { %s 0 }' % (BIG, BIG), b"refused 19 Scale node 2"),
+    (b'p "" 1 1 { "x" } 1 { 0 %s } t "" 2 { 0 %s }' % (BIG, BIG), b"refused 19 Scale node 2"),
     (b"", b"refused 3 UnexpectedEnd"),
 ]
 
@@ -275,7 +281,7 @@ def sums(checks, folder):
             near = [abs(it - end.root * value / sum(values)) < 2 for it, value in zip(end.weights[0], values)]
             checks.that(f"{told}, its weights", all(near) and sum(end.weights[0]) == end.root, f"{end.weights}")
     file.write_bytes(one_set(3))
-    where = b'certify: line 1, number 1, player 1\'s set 5 "one", action "0": '
+    where = b'certify: line 1, number 1, player 1\'s set 5 "one": '
     line = where + b"0.333333 and 0.333333 and 0.333333 add up to 0.999999, and are scaled\n"
     given = tool("certify", file, stdin=b"NE,0.333333,0.333333,0.333333")
     checks.expect("a third three times", (given[0], given[2]), 0, line + NOTHING)

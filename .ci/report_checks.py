@@ -7,6 +7,7 @@ from fractions import Fraction
 from html.parser import HTMLParser
 
 from checks import ROOT
+from made_checks import equal_profile
 from small_games import profile_of, small_games
 from tool_calls import tool
 
@@ -160,13 +161,6 @@ def pages(checks, folder):
         numbers_of_bracket(checks, game.name, page, plain.decode(), certificate.read_text(text))
 
 
-def equal_profile(data):
-    """The line of Gambit that takes each action of a game as likely."""
-    sets = efg.read_game(data).sets
-    chances = [f"1/{len(it.actions)}" for k in (1, 2) for it in sets[k].values() for _ in it.actions]
-    return ",".join(["NE", *chances]).encode()
-
-
 def one_tree(checks, page, game):
     """The tree has each node once: those with others below as details, whose summary comes first."""
     folded = list(page.iter(f"{HTML}details"))
@@ -205,9 +199,14 @@ def what_is_said(checks, folder):
             r"5 holds the Queen after a bet +call +0\.333333 +0\.666667 +best"]
     for row in rows:
         checks.that(row, re.search(f"^{row}$", plain, re.M), plain)
+    lost = [float(it) for it in re.findall(r"%  +(\S+)$", plain.split("lose most")[1].split("\n\n")[0], re.M)]
+    checks.that("what loses most stands first", len(lost) == 4 and lost == sorted(lost, reverse=True), f"{lost}")
     equal = tool("certify", KUHN, GAMES / "kuhn_equilibrium.csv")[1]
     plain = tool("report", "--text", KUHN, stdin=equal)[1].decode()
     checks.that("an equilibrium loses nothing", "No set loses anything" in plain, plain)
+    page = xml.fromstring(tool("report", GAMES / "toll.efg", TEXTS / "toll.xgcert")[1])
+    missed = [it.text for it in page.iter(f"{HTML}span") if (it.text or "").startswith("never")]
+    checks.that("a set that isn't reached", missed == ["never reached by its own plan"], f"{missed}")
     page = xml.fromstring(tool("report", KUHN, KUHN_TEXT)[1])
     figures = [(it.get("id"), len(list(it.iter(f"{SVG}polyline")))) for it in page.iter(f"{HTML}figure")]
     checks.that("how the bracket closed", figures == [("span", 0), ("trace", 2)], f"{figures}")

@@ -105,8 +105,10 @@ class SmallGame:
 
     def own_reach(self, strategies, player, number):
         """How often a player's own choices lead to a set."""
-        last = self.last[player][number]
-        return self.own_reach(strategies, player, last[0]) * strategies[player][last[0]][last[1]] if last else Fraction(1)
+        if self.last[player][number] is None:
+            return Fraction(1)
+        before, choice = self.last[player][number]
+        return self.own_reach(strategies, player, before) * strategies[player][before][choice]
 
     def worths(self, strategies, player, number):
         """How often a set is visited where its player goes there, and what each action is worth at each visit where

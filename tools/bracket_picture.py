@@ -7,16 +7,16 @@ LOW_COLOUR, HIGH_COLOUR, VALUE_COLOUR = "#1f5fa8", "#b3471d", "#555555"
 
 
 class Canvas:
-    """The size of a picture, the room around its curves, and the size of its letters."""
+    """The size of a picture, the room around its curves, the size of its letters, and what is said of units."""
 
-    def __init__(self, width, height, left, right, top, bottom, letters):
-        self.width, self.height, self.letters = width, height, letters
+    def __init__(self, width, height, left, right, top, bottom, letters, units):
+        self.width, self.height, self.letters, self.units = width, height, letters, units
         self.left, self.right, self.top, self.bottom = left, width - right, top, height - bottom
 
 
-WIDE = Canvas(720, 440, left=84, right=96, top=44, bottom=56, letters=12)
-# For a page that a phone shows too.
-NARROW = Canvas(500, 330, left=80, right=124, top=14, bottom=54, letters=14)
+WIDE = Canvas(720, 440, left=84, right=96, top=44, bottom=56, letters=12, units=", in the game file's units")
+# For a page that a phone shows too, and that tells of the units elsewhere.
+NARROW = Canvas(500, 330, left=80, right=124, top=14, bottom=54, letters=14, units="")
 
 
 class Axis:
@@ -110,7 +110,7 @@ def picture(text, title, player, value=None, is_log=False, canvas=WIDE):
         f' font-family="sans-serif" font-size="{canvas.letters}">',
         f'<rect width="{width}" height="{height}" fill="white"/>',
         *([label(canvas.left, 24, title, 'font-size="14"')] if title is not None else []),
-        *frame(canvas, x_axis, y_axis, f"{player}'s payoff, in the game file's units"),
+        *frame(canvas, x_axis, y_axis, f"{player}'s payoff{canvas.units}"),
     ]
     beside = canvas.right + 6
     if value is not None:

@@ -21,17 +21,17 @@ class Fault(Exception):
 
 
 class Told:
-    """A probability as it stands: its value, its spelling, and where that is."""
+    """A probability as it stands: its value, its spelling, and its line with its place there, None in a table."""
 
-    __slots__ = ("value", "spelled", "where")
+    __slots__ = ("value", "spelled", "line", "place")
 
-    def __init__(self, spelled, where):
-        self.spelled, self.where = spelled, where
+    def __init__(self, spelled, line, place=None):
+        self.spelled, self.line, self.place = spelled, line, place
         if not PROBABILITY.fullmatch(spelled) or re.search("/0+$", spelled):
-            raise Fault(f"{where}: {quoted(spelled)} isn't a probability")
+            raise Fault(f"{quoted(spelled)} isn't a probability")
         self.value = Fraction(spelled)
         if not 0 <= self.value <= 1:
-            raise Fault(f"{where}: the probability {spelled} is {'below 0' if self.value < 0 else 'above 1'}")
+            raise Fault(f"the probability {spelled} is {'below 0' if self.value < 0 else 'above 1'}")
 
 
 class Row:
@@ -83,8 +83,11 @@ def read_line(text, game, players):
     places = [(set_, action) for it in given for set_ in game.sets[it].values() for action in range(len(set_.actions))]
     told = {it: {} for it in (1, 2)}
     for place, (field, (set_, action)) in enumerate(zip(fields, places), 1):
-        where = f"line {number}, number {place}, {named(set_)}, action {quoted(set_.actions[action])}"
-        told[set_.player].setdefault(set_, []).append(Told(field.strip(), where))
+        try:
+            told[set_.player].setdefault(set_, []).append(Told(field.strip(), number, place))
+        except Fault as fault:
+            where = f"line {number}, number {place}, {named(set_)}, action {quoted(set_.actions[action])}"
+            raise Fault(f"{where}: {fault}") from None
     return {it: told[it] for it in players}
 
 
@@ -118,7 +121,10 @@ def row_of(line, fields, order, game):
         raise Fault(f"line {line}: it has {what} in place of 4: player, set, action, probability")
     field = dict(zip(order, fields))
     player = player_of(line, field["player"].strip(), game)
-    told = Told(field["probability"].strip(), f"line {line}")
+    try:
+        told = Told(field["probability"].strip(), line)
+    except Fault as fault:
+        raise Fault(f"line {line}: {fault}") from None
     return Row(line, player, bytes_of(field["set"]), bytes_of(field["action"]), told)
 
 
@@ -174,7 +180,7 @@ def actions_of(set_, rows):
         place = set_.actions.index(name) if are_names else place_of(set_, row, name)
         if told[place] is not None:
             action = quoted(set_.actions[place])
-            raise Fault(f"line {row.line}: {named(set_)}, action {action} stands in {told[place].where} already")
+            raise Fault(f"line {row.line}: {named(set_)}, action {action} stands in line {told[place].line} already")
         told[place] = row.told
     return told
 
@@ -217,8 +223,8 @@ def scaled(set_, told, values):
         return []
     used = [it for it in told if it and it.value]
     spelled = " and ".join(it.spelled for it in used[:4]) + (" and so on" if len(used) > 4 else "")
-    at = next(it for it in told if it).where
-    where = at if ", number " in at else f"{at}, {named(set_)}"
+    first = next(it for it in told if it)
+    where = f"line {first.line}{f', number {first.place}' if first.place else ''}, {named(set_)}"
     if abs(sum(values) - 1) > tolerance(used):
         raise Fault(f"{where}: the probabilities of the set add up to {decimal(sum(values))}, and not to 1")
     return [f"{where}: {spelled} add up to {decimal(sum(values))}, and are scaled"]

@@ -35,7 +35,7 @@ def title(game):
 
 def set_name(set_):
     name = efg.shown(set_.name)
-    return f"{set_.number} {name}" if name else f"{set_.number}"
+    return f"{set_.number} {name}" if name else f"set {set_.number}"
 
 
 def action_name(name, place):
