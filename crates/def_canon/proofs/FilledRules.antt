@@ -16,11 +16,11 @@ use Rattle.def_file.specs.declared.FileFault.TheVariants.{PlayerNumber}
 use Rattle.def_file.specs.Content.{Prologue, SetMention, Record}
 use Rattle.def_file.specs.Faults.{has_set, mover}
 use Rattle.def_file.specs.Game.{HasFewActions}
-use Rattle.def_file_entries.specs.Entries.{contents_of, of_kind, outcome_entry, set_entry, set_numbers, set_table}
-use Rattle.def_file_entries.specs.EntryRules.{HasNoPlayer}
-use Rattle.def_file_entries.specs.Laws.{HaveNoFault}
-use Rattle.def_file_entries.proofs.Firsts.{among, among-firsts}
-use Rattle.def_file_entries.proofs.WholeGames.{entries_make_whole_game}
+use Rattle.def_file.specs.Entries.{contents_of, of_kind, outcome_entry, set_entry, set_numbers, set_table}
+use Rattle.def_file.specs.EntryRules.{HasNoPlayer}
+use Rattle.def_file.specs.EntryLaws.{HaveNoFault}
+use Rattle.def_file.proofs.Firsts.{among, among-firsts}
+use Rattle.def_file.proofs.WholeGames.{entries_make_whole_game}
 use Rattle.def_canon.specs.Described.{Describes, DescribesOutcome, DescribesSet, Each}
 use Rattle.def_canon.proofs.Filled.{each_mapped, filled, filled_mover, filled_set, outcome_kept, own_player, paid_is, whole_outcome, whole_set}
 use Rattle.def_canon.proofs.Lookups.{among_here}

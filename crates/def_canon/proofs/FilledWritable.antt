@@ -15,8 +15,8 @@ use Rattle.def_file.specs.Faults.{has_set, mover}
 use Rattle.def_file.specs.Adding.{nth_payoff}
 use Rattle.def_file.specs.Game.{IsSmallFraction}
 use Rattle.def_file.proofs.Fractions.{zero_small, nth_small}
-use Rattle.def_file_entries.specs.Entries.{contents_of, first_given, given_first, mentions, of_kind, outcome_mentions, with_outcome}
-use Rattle.def_file_entries.specs.Laws.{HaveNoFault}
+use Rattle.def_file.specs.Entries.{contents_of, first_given, given_first, mentions, of_kind, outcome_mentions, with_outcome}
+use Rattle.def_file.specs.EntryLaws.{HaveNoFault}
 use Rattle.def_canon.specs.Described.{Each}
 use Rattle.def_canon.specs.Writable.{AreWritableActions, GivesWritable, GivesWritableOutcome, GivesWritableSet, HasOwnMover, IsPlainName, IsWritable, IsWritableOutcome, IsWritableSet}
 use Rattle.def_canon.proofs.Filled.{each_mapped, filled, filled_set, own_player, paid_outcome, whole_set}

@@ -12,3 +12,8 @@ pub mod FineTokens
 pub mod Sizes
 pub mod Spelled
 pub mod Tables
+pub mod Cards
+pub mod Described
+pub mod PokerFileIsShort
+pub mod PokerSizes
+pub mod Written

@@ -10,8 +10,8 @@ use Rattle.def_tree.proofs.Sets.{is_same_kind_refl}
 use Rattle.def_file.specs.Content.{SetMention, OutcomeMention, Record}
 use Rattle.def_file.specs.Faults.{mover, no_set, null_outcome}
 use Rattle.def_file.specs.Adding.{new_set, new_outcome, nth_payoff}
-use Rattle.def_file_entries.specs.Entries.{first_given, firsts, given_first, mentions, number_in, of_kind, outcome_entry, outcome_mentions, outcome_numbers, outcome_table, with_outcome, set_entry, set_numbers, set_table}
-use Rattle.def_file_entries.proofs.Firsts.{among, among-firsts, place}
+use Rattle.def_file.specs.Entries.{first_given, firsts, given_first, mentions, number_in, of_kind, outcome_entry, outcome_mentions, outcome_numbers, outcome_table, with_outcome, set_entry, set_numbers, set_table}
+use Rattle.def_file.proofs.Firsts.{among, among-firsts, place}
 use Rattle.def_canon.specs.Described.{Describes, Each}
 use Rattle.def_canon.proofs.Tables.{AreAllNamed, filter_each, filter_some, first_name, first_same, front_some, given_same, mention_some, mentions_same}
 

@@ -11,7 +11,7 @@ use Rattle.def_file.specs.declared.FileFault.{FileFault}
 use Rattle.def_file.specs.declared.FileFault.TheVariants.{PlayerNumber, SetUndefined, SetMismatch, OutcomeUndefined, OutcomeMismatch, PayoffCount, TooManyNodes, ActionCount}
 use Rattle.def_file.specs.Content.{Action, SetMention, OutcomeMention, Record}
 use Rattle.def_file.specs.Faults.{mover, mover_as, has_set}
-use Rattle.def_file_entries.specs.EntryRules.{Moves, MentionOneSet, MentionOneOutcome, IsFirstWith, AreSameNumbers, AreSameActions, HasOtherName, HasOtherList, Breaks}
+use Rattle.def_file.specs.EntryRules.{Moves, MentionOneSet, MentionOneOutcome, IsFirstWith, AreSameNumbers, AreSameActions, HasOtherName, HasOtherList, Breaks}
 use Rattle.def_canon.specs.Described.{Each, Describes, DescribedHaveNoFault}
 
 -- what holds of each entry holds of each one before some entry, and of this entry

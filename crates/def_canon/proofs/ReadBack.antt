@@ -15,7 +15,7 @@ use Rattle.def_file.specs.declared.EntryKind.TheVariants as kinds
 use Rattle.def_file.specs.Content.{SetMention, OutcomeMention, Prologue, Record, SetEntry, SetTables, GameFile, sets_of_kind}
 use Rattle.def_file.specs.Faults.{has_set, mover, mover_as, outcome_at, set_at}
 use Rattle.def_file.specs.Adding.{new_set, new_outcome}
-use Rattle.def_file_entries.specs.Entries.{contents_of, game_of_entries, node_of, number_in, outcome_numbers, outcome_table, set_numbers, set_table}
+use Rattle.def_file.specs.Entries.{contents_of, game_of_entries, node_of, number_in, outcome_numbers, outcome_table, set_numbers, set_table}
 use Rattle.def_file_form.specs.Form.{IsPrologue, Spelled}
 use Rattle.def_file_form.specs.Laws.{StandsFor}
 use Rattle.def_file_form.proofs.FileReadingIsExact.{game_taken}

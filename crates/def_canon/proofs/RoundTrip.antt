@@ -4,10 +4,10 @@ use Rattle.std.proofs.lemmas.List.{append-nil, append_assoc, length-map}
 use Rattle.def_tree.specs.Rules.{most_nodes}
 use Rattle.def_tree.specs.Tree.{IsWhole}
 use Rattle.def_file.specs.Content.{Contents, GameFile, Record, game_with}
-use Rattle.def_file_entries.specs.Entries.{contents_of}
-use Rattle.def_file_entries.specs.Laws.{HaveNoFault}
-use Rattle.def_file_entries.proofs.NoFault.{entries_limit, no_fault_more, nothing_at_fault}
-use Rattle.def_file_entries.proofs.OneMore.{one_more}
+use Rattle.def_file.specs.Entries.{contents_of}
+use Rattle.def_file.specs.EntryLaws.{HaveNoFault}
+use Rattle.def_file.proofs.NoFault.{entries_limit, no_fault_more, nothing_at_fault}
+use Rattle.def_file.proofs.OneMore.{one_more}
 use Rattle.def_file_form.specs.Laws.{StandsFor}
 use Rattle.def_canon.specs.Laws.{CanonOfFaultless, CanonOfFile, CanonOfMade, IsOfEntries, IsOfFaultless, AreTakenInTurn}
 use Rattle.def_canon.proofs.Filled.{filled, filled_contents, whole_outcome, whole_set}

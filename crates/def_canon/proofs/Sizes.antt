@@ -8,7 +8,7 @@ use Rattle.def_file.specs.declared.EntryKind.{EntryKind}
 use Rattle.def_file.specs.declared.EntryKind.TheVariants as entry
 use Rattle.def_file.specs.Content.{SetMention, OutcomeMention, Record}
 use Rattle.def_file.specs.Faults.{mover, mover_as, has_set}
-use Rattle.def_file_entries.specs.Entries.{contents_of, mentions, node_of, set_entry}
+use Rattle.def_file.specs.Entries.{contents_of, mentions, node_of, set_entry}
 use Rattle.def_canon.specs.Described.{Each, Describes}
 use Rattle.def_canon.proofs.NoFault.{each_before}
 use Rattle.def_canon.proofs.Tables.{mentions_same, mention_some, given_same}

@@ -10,8 +10,8 @@ use Rattle.def_file.specs.declared.EntryKind.{EntryKind}
 use Rattle.def_file.specs.declared.EntryKind.TheVariants as entry
 use Rattle.def_file.specs.Content.{SetMention, OutcomeMention, Record}
 use Rattle.def_file.specs.Faults.{mover, mover_as, has_set}
-use Rattle.def_file_entries.specs.Entries.{first_given, given_first, of_kind, mentions}
-use Rattle.def_file_entries.proofs.Firsts.{nat_eq-same}
+use Rattle.def_file.specs.Entries.{first_given, given_first, of_kind, mentions}
+use Rattle.def_file.proofs.Firsts.{nat_eq-same}
 use Rattle.def_canon.specs.Described.{Each, Describes}
 
 -- where each entry has a property from which another follows, each has the other one

@@ -9,7 +9,7 @@ use Rattle.def_tree.specs.Rules.{most_actions, most_nodes}
 use Rattle.def_file.specs.declared.EntryKind.TheVariants.{Personal}
 use Rattle.def_file.specs.Content.{Action, SetMention, OutcomeMention, Record}
 use Rattle.def_file.specs.Faults.{mover, has_set}
-use Rattle.def_file_entries.specs.Laws.{HaveNoFault}
+use Rattle.def_file.specs.EntryLaws.{HaveNoFault}
 
 abbrev pub Each : (Record → Type 0) → List Record → Type 0
 Each P [] = Unit {0}

@@ -7,8 +7,8 @@ use Rattle.def_file.specs.Content.{SetMention, OutcomeMention, Prologue, Record,
 use Rattle.def_file.specs.Faults.{record_fault}
 use Rattle.def_file.specs.Adding.{with_record}
 use Rattle.def_file.specs.Reading.{game_at}
-use Rattle.def_file_entries.specs.Entries.{contents_of, game_of_entries}
-use Rattle.def_file_entries.specs.Laws.{HaveNoFault}
+use Rattle.def_file.specs.Entries.{contents_of, game_of_entries}
+use Rattle.def_file.specs.EntryLaws.{HaveNoFault}
 use Rattle.def_file_form.specs.Laws.{StandsFor}
 use Rattle.def_canon.specs.Canon.{canon}
 use Rattle.def_canon.specs.Described.{Each, Describes}

@@ -1,5 +1,8 @@
-//! The canonical form of a game as a text: definitions, and their laws.
+//! The canonical form of a game, and one-card poker, the game that is made and written in it. There is no code here;
+//! each function's contract is a law or a worked row.
 #![tactic(auto)]
+
+pub mod poker;
 
 ghost use Rattle.def_canon.specs.Described.{DescribedHaveNoFault};
 ghost use Rattle.def_canon.specs.Laws.{CanonIsReadBack, CanonOfFaultless, CanonOfFile, CanonOfMade, CanonStandsForGame};

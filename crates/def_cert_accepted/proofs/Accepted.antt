@@ -12,13 +12,14 @@ use Rattle.def_plan.proofs.Places.{total_actions}
 use Rattle.def_reply.specs.Reply.{best_reply_to}
 use Rattle.def_reply.proofs.Optimal.{best-tight}
 use Rattle.def_round.specs.Rounds.{rounds}
-use Rattle.def_bracket.specs.Bracket.{Evaluation, BracketEnds, ends_of, TraceLine, trace}
-use Rattle.def_bracket.proofs.TraceLines.{trace_lines, never_widens}
-use Rattle.def_bracket.specs.Outcome.{Head}
+use Rattle.def_reply.specs.Bracket.{Evaluation, BracketEnds, ends_of, TraceLine, trace}
+use Rattle.def_reply.proofs.TraceLines.{trace_lines, never_widens}
+use Rattle.def_reply.specs.Outcome.{Head}
 use Rattle.def_run.specs.Run.{outcome, total_against, evaluation, evaluations}
 use Rattle.def_run.proofs.RunLaws.{evaluations_are_bounds, ends_are_of_their_rounds, rounds_of}
 use Rattle.def_cert_verdict.specs.Certificate.{PrintedPlan, PrintedBounds, joined, printed_numbers, last_line}
-use Rattle.def_cert_verdict.specs.Verdict.{WeighedGame, head_only, bracket, verdict}
+use Rattle.def_plan.specs.Weighed.{WeighedGame}
+use Rattle.def_cert_verdict.specs.Verdict.{head_only, bracket, verdict}
 use Rattle.def_cert_verdict.specs.Laws.{HoldsAsPlan, HoldsAsReply, HoldsUp}
 use Rattle.def_cert_verdict.proofs.VerdictIsExact.{exact}
 use Rattle.def_cert_verdict.proofs.LastLine.{last_is}

@@ -12,7 +12,7 @@ use Rattle.def_tree.specs.declared.Player.TheVariants.{One, Two}
 use Rattle.def_sums.specs.Limits.{most_mass, most_rounds, most_scale, most_root}
 use Rattle.def_sums.specs.Sum.{nat_sum_over}
 use Rattle.def_fraction.specs.Divisors.{gcd}
-use Rattle.def_fraction.specs.Fraction.{fraction_of}
+use Rattle.def_fraction.specs.Fraction.{fraction_of, most}
 use Rattle.def_fraction.proofs.FractionLemmas.{fraction_of-reduced, unsigned_abs-without_factor}
 use Rattle.def_plan.specs.Form.{InformationSet, PlacedSet, placed_from, placed, IsInOrder, AreInOrder, SequenceForm, player_sets}
 use Rattle.def_plan.specs.Plan.{IsPlan}
@@ -22,18 +22,17 @@ use Rattle.def_reply.specs.Reply.{best_reply_to, SetReply, values_of, best_reply
 use Rattle.def_reply.proofs.Optimal.{best-tight}
 use Rattle.def_reply.proofs.ReplySizes.{values-below, total-below}
 use Rattle.def_round.specs.Rounds.{rounds}
-use Rattle.def_bracket.specs.Bracket.{Evaluation, BracketEnds, ends_of, TraceLine, trace, evaluated_rounds}
-use Rattle.def_bracket.specs.Laws.{RoundsAreEvaluated}
-use Rattle.def_bracket.specs.Outcome.{Head}
-use Rattle.def_bracket.proofs.EvaluatedRounds.{rounds as rounds_are}
-use Rattle.def_bracket.proofs.BestEnds.{best_ends}
-use Rattle.def_bracket.proofs.TraceLines.{trace_lines}
+use Rattle.def_reply.specs.Bracket.{Evaluation, BracketEnds, ends_of, TraceLine, trace, evaluated_rounds}
+use Rattle.def_reply.specs.BracketLaws.{RoundsAreEvaluated}
+use Rattle.def_reply.specs.Outcome.{Head}
+use Rattle.def_reply.proofs.EvaluatedRounds.{rounds as rounds_are}
+use Rattle.def_reply.proofs.BestEnds.{best_ends}
+use Rattle.def_reply.proofs.TraceLines.{trace_lines}
 use Rattle.def_run.specs.Run.{outcome, total_against, evaluation, evaluations}
 use Rattle.def_run.proofs.RunLaws.{evaluations_are_bounds, ends_are_of_their_rounds, rounds_of, runs_have_ends, some_ends, divisors_of}
-use Rattle.def_cert_verdict.specs.Verdict.{WeighedGame}
+use Rattle.def_plan.specs.Weighed.{WeighedGame}
 use Rattle.def_tree.specs.Rules.{most_actions}
-use Rattle.def_fraction.specs.Fraction.{most}
-use Rattle.def_cert_ranges.specs.Ranges.{IsFromTo, IsPrintable, HeadFits, LineFits, PlanWeightsFit, PlanFits, ReplyFits, BoundFits, BoundsFit, CertificateFits}
+use Rattle.def_cert_verdict.specs.Ranges.{IsFromTo, IsPrintable, HeadFits, LineFits, PlanWeightsFit, PlanFits, ReplyFits, BoundFits, BoundsFit, CertificateFits}
 use Rattle.def_cert_accepted.specs.Laws.{TheCertificateOfARunFits}
 use Rattle.def_cert_accepted.specs.OfOutcome.{by_sets, printed_plan, certificate_of}
 use Rattle.def_cert_accepted.proofs.OfRun.{own_head, same_head, bounds_of_run, certificate_with, certificate_without}

@@ -3,12 +3,12 @@ use Rattle.std.proofs.Common.{◌≡◌, ℕ, List, length, Option, Some, None, 
 use Rattle.def_plan.specs.Form.{SequenceForm, sequence_count}
 use Rattle.def_plan.specs.Payoff.{mass_of}
 use Rattle.def_round.specs.Rounds.{rounds}
-use Rattle.def_bracket.specs.Bracket.{BracketEnds, ends_of, TraceLine, trace}
-use Rattle.def_bracket.specs.Outcome.{Head, OutcomeEnds, Outcome}
+use Rattle.def_reply.specs.Bracket.{BracketEnds, ends_of, TraceLine, trace}
+use Rattle.def_reply.specs.Outcome.{Head, OutcomeEnds, Outcome}
 use Rattle.def_run.specs.Run.{evaluations, outcome}
 use Rattle.def_run.proofs.EndLaws.{ends_at, outcomes_show_their_run, shown_are}
 use Rattle.def_cert_verdict.specs.Certificate.{PrintedBounds, Certificate}
-use Rattle.def_cert_verdict.specs.Verdict.{WeighedGame}
+use Rattle.def_plan.specs.Weighed.{WeighedGame}
 use Rattle.def_cert_verdict.specs.Laws.{IsHeadOf, with_bounds, without_bounds}
 use Rattle.def_cert_accepted.specs.OfOutcome.{printed_bounds, certificate_of}
 

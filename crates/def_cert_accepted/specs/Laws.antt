@@ -2,13 +2,14 @@
 use Rattle.std.specs.Prelude.{◌≡◌, ◌*◌, ◌≤◌, All, Some, Ok}
 use Rattle.def_fraction.specs.Fraction.{fraction_of}
 use Rattle.def_plan.specs.Form.{AreInOrder}
-use Rattle.def_bracket.specs.Bracket.{BracketEnds, ends_of}
-use Rattle.def_bracket.specs.Outcome.{Head}
+use Rattle.def_reply.specs.Bracket.{BracketEnds, ends_of}
+use Rattle.def_reply.specs.Outcome.{Head}
 use Rattle.def_run.specs.Run.{evaluations, outcome}
-use Rattle.def_cert_verdict.specs.Verdict.{WeighedGame, head_only, bracket, verdict}
+use Rattle.def_plan.specs.Weighed.{WeighedGame}
+use Rattle.def_cert_verdict.specs.Verdict.{head_only, bracket, verdict}
 use Rattle.def_cert_verdict.specs.Laws.{IsHeadOf}
 use Rattle.def_tree.specs.Rules.{most_actions}
-use Rattle.def_cert_ranges.specs.Ranges.{HeadFits, CertificateFits}
+use Rattle.def_cert_verdict.specs.Ranges.{HeadFits, CertificateFits}
 use Rattle.def_cert_accepted.specs.OfOutcome.{certificate_of}
 
 -- with the game's head it is accepted: without a round its head alone, else with the bracket whose ends are those of

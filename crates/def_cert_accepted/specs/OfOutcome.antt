@@ -4,8 +4,8 @@ use Rattle.std.specs.Prelude.{ℕ, ◌*◌, List, [], ◌∷◌, take, drop, sli
 use Rattle.std.specs.Option.{option_map}
 use Rattle.def_fraction.specs.Fraction.{Fraction, fraction_of}
 use Rattle.def_plan.specs.Form.{InformationSet, SequenceForm}
-use Rattle.def_bracket.specs.Bracket.{TraceLine}
-use Rattle.def_bracket.specs.Outcome.{End, OutcomeEnds, Outcome}
+use Rattle.def_reply.specs.Bracket.{TraceLine}
+use Rattle.def_reply.specs.Outcome.{End, OutcomeEnds, Outcome}
 use Rattle.def_cert_verdict.specs.Certificate.{PrintedPlan, PrintedBounds, Certificate}
 
 -- the numbers of the sequences that end at sets, set by set

@@ -5,10 +5,10 @@ use Rattle.std.proofs.lemmas.List.Elements.{All-cons, All-nil, All-head, All-tai
 use Rattle.std.specs.Prelude.{codes}
 use Rattle.def_fraction.specs.Fraction.{Fraction}
 use Rattle.def_reply.specs.Reply.{SetReply, Reply}
-use Rattle.def_bracket.specs.Bracket.{TraceLine}
-use Rattle.def_bracket.specs.Outcome.{Head}
+use Rattle.def_reply.specs.Bracket.{TraceLine}
+use Rattle.def_reply.specs.Outcome.{Head}
 use Rattle.def_cert_verdict.specs.Certificate.{PrintedPlan, PrintedBounds, Certificate}
-use Rattle.def_cert_ranges.specs.Ranges.{IsFromTo, IsPrintable, HeadFits, LineFits, TraceFits, PlanWeightsFit, PlanFits, ReplyFits, BoundFits, BoundsFit, FitsBelowHead, CertificateFits}
+use Rattle.def_cert_verdict.specs.Ranges.{IsFromTo, IsPrintable, HeadFits, LineFits, TraceFits, PlanWeightsFit, PlanFits, ReplyFits, BoundFits, BoundsFit, FitsBelowHead, CertificateFits}
 use Rattle.def_cert_text.specs.Formats.{Format, is_lowest_within, each_fits, asked_fits, row_fits}
 use Rattle.def_cert_text.specs.CertText.{head_lines, line_of_round, round_of_evaluation, evaluation_count, trace_lines, weights_line, plan_lines, value_line, reply_lines, bounds_lines, whole_certificate}
 use Rattle.def_cert_text.proofs.FieldLaws.{lowest_parts, lowest_from}

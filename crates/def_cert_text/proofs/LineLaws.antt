@@ -6,10 +6,10 @@ use Rattle.std.proofs.lemmas.Bool.{ltb-true}
 use Rattle.std.proofs.lemmas.Nat.{mul-le}
 use Rattle.def_fraction.specs.Fraction.{Fraction}
 use Rattle.def_reply.specs.Reply.{SetReply, Reply}
-use Rattle.def_bracket.specs.Bracket.{TraceLine}
-use Rattle.def_bracket.specs.Outcome.{Head}
+use Rattle.def_reply.specs.Bracket.{TraceLine}
+use Rattle.def_reply.specs.Outcome.{Head}
 use Rattle.def_cert_verdict.specs.Certificate.{PrintedPlan, PrintedBounds, Certificate}
-use Rattle.def_cert_ranges.specs.Ranges.{HeadFits}
+use Rattle.def_cert_verdict.specs.Ranges.{HeadFits}
 use Rattle.def_cert_text.specs.Fields.{space, feed, fixed_word, number, version, is_field_byte}
 use Rattle.def_cert_text.specs.Formats.{Format, whole_field, fixed_field, and_then, where_asked}
 use Rattle.def_cert_text.specs.CertText.{after_word, after_set_number, after_player, NumbersOfGame, size_line, sets_line, sequences_line, unit_line, mass_line, game_lines, asked_line, head_lines, line_of_round, round_of_evaluation, evaluation_count, trace_lines, weights_line, plan_lines, value_line, reply_lines, bracket_line, PartsOfBounds, bounds_lines, whole_certificate}

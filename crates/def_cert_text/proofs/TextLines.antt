@@ -1,7 +1,7 @@
 -- The text is its lines one after another.
 use Rattle.std.proofs.Common.{◌≡◌, ℕ, List, [], ◌∷◌, ◌++◌, refl, ap, ◌∙◌, append_assoc}
 use Rattle.std.specs.Prelude.{codes}
-use Rattle.def_bracket.specs.Outcome.{Head}
+use Rattle.def_reply.specs.Outcome.{Head}
 use Rattle.def_cert_text.specs.Fields.{feed, fixed_word, Item, field, separator, items_text}
 use Rattle.def_cert_text.specs.CertText.{numbers_of_game, game_lines, asked_line, trace_lines, plan_lines, reply_lines, bracket_line, bounds_lines, head_text, first_text, asked_text, bounds_text, last_text}
 use Rattle.def_cert_text.specs.Laws.{TextIsItsLines}

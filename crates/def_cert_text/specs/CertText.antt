@@ -1,16 +1,14 @@
 -- The text of a certificate, version 1: its lines as formats, and what reading gives.
 use Rattle.std.specs.Prelude.{ℕ, ◌+◌, ◌-◌, ◌*◌, ◌/◌, nat_lt, min, List, [], ◌∷◌, ◌++◌, codes, length, Option, Result, Ok, Err, ℤ}
 use Rattle.std.specs.Fmt.{decimal}
-use Rattle.def_fraction.specs.Fraction.{Fraction}
-use Rattle.def_tree.specs.Rules.{most_actions}
+use Rattle.def_fraction.specs.Fraction.{Fraction, most}
+use Rattle.def_tree.specs.Rules.{most_actions, most_nodes}
 use Rattle.def_sums.specs.Limits.{most_mass, most_rounds, most_scale, most_root}
 use Rattle.def_reply.specs.Reply.{SetReply, Reply}
-use Rattle.def_bracket.specs.Bracket.{TraceLine}
-use Rattle.def_bracket.specs.Outcome.{Head}
+use Rattle.def_reply.specs.Bracket.{TraceLine}
+use Rattle.def_reply.specs.Outcome.{Head}
 use Rattle.def_cert_verdict.specs.Certificate.{PrintedPlan, PrintedBounds, Certificate}
-use Rattle.def_cert_ranges.specs.Ranges.{most_printed}
-use Rattle.def_fraction.specs.Fraction.{most}
-use Rattle.def_tree.specs.Rules.{most_nodes}
+use Rattle.def_cert_verdict.specs.Ranges.{most_printed}
 use Rattle.def_cert_text.specs.declared.fault.CertFault.{CertFault}
 use Rattle.def_cert_text.specs.declared.fault.CertFault.TheVariants.{CertTrailing}
 use Rattle.def_cert_text.specs.Fields.{◌>>=◌, space, feed, fixed_word, number, version}

@@ -7,7 +7,7 @@ use Rattle.std.specs.Prelude.{◌≡◌, ◌≢◌, ℕ, ◌-◌, Bool, true, fa
 use Rattle.def_cert_text.specs.declared.fault.CertFault.{CertFault}
 use Rattle.def_cert_text.specs.declared.fault.CertFault.TheVariants.{CertSyntax, CertShort, CertTrailing}
 use Rattle.def_cert_verdict.specs.Certificate.{Certificate}
-use Rattle.def_cert_ranges.specs.Ranges.{CertificateFits}
+use Rattle.def_cert_verdict.specs.Ranges.{CertificateFits}
 use Rattle.def_cert_text.specs.Fields.{FieldKind, Item, field, separator, items_text, next_field, behind_field, is_empty, field_fault}
 use Rattle.def_cert_text.specs.Formats.{Format}
 use Rattle.def_cert_text.specs.CertText.{whole_certificate, cert_text}

@@ -2,9 +2,9 @@
 use Rattle.std.specs.Prelude.{◌≡◌, ℕ, ◌<◌, ◌↔◌, List, ◌++◌, codes, length, take, Some, None, Ok, Err}
 use Rattle.def_cert_text.specs.declared.fault.CertFault.{CertFault}
 use Rattle.def_cert_text.specs.declared.fault.CertFault.TheVariants.{CertShort}
-use Rattle.def_bracket.specs.Outcome.{Head}
+use Rattle.def_reply.specs.Outcome.{Head}
 use Rattle.def_cert_verdict.specs.Certificate.{PrintedBounds, Certificate}
-use Rattle.def_cert_ranges.specs.Ranges.{CertificateFits}
+use Rattle.def_cert_verdict.specs.Ranges.{CertificateFits}
 use Rattle.def_cert_text.specs.Formats.{text_of}
 use Rattle.def_cert_text.specs.CertText.{trace_lines, plan_lines, reply_lines, bracket_line, cert_text, head_text, first_text, asked_text, bounds_text, last_text, cert_in}
 use Rattle.def_cert_text.specs.FirstFault.{FirstCertFault}

@@ -4,3 +4,4 @@ pub mod Formats
 pub mod CertText
 pub mod FirstFault
 pub mod Laws
+pub mod Texts

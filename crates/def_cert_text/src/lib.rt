@@ -1,11 +1,12 @@
-//! The text of a certificate, version 1: one definition for who writes it and who reads it. There is no code here: the
-//! functions' contracts are laws of the definitions, which stand in `specs/`.
+//! The text of a certificate, version 1: one definition for who writes it and who reads it, with texts that are known
+//! from outside. There is no code here but the enum of faults; each function's contract is a law or a worked row.
 #![tactic(auto)]
+
+mod fault;
+pub mod rows;
 
 ghost use Rattle.def_cert_text.specs.Laws.{CutTextsAreShort, FirstFaultDecides, CertificateReadingIsExact, TextIsItsLines};
 ghost use Rattle.def_cert_text.specs.Laws.{TextsTellCertificates};
-
-mod fault;
 
 pub use fault::CertFault;
 

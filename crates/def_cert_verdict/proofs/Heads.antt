@@ -5,10 +5,11 @@ use Rattle.std.proofs.lemmas.Bool.{cases_lt}
 use Rattle.std.proofs.lemmas.Bool.Decides.{Decides-eqb, Decides-and}
 use Rattle.def_plan.specs.Form.{sequence_count}
 use Rattle.def_plan.specs.Payoff.{mass_of}
-use Rattle.def_bracket.specs.Outcome.{Head}
+use Rattle.def_reply.specs.Outcome.{Head}
 use Rattle.def_cert_verdict.specs.declared.fault.TestFault.{TestFault}
 use Rattle.def_cert_verdict.specs.declared.fault.TestFault.TheVariants.{HeadDiffers, NotAPlan, ValueTooGood, ReplyNotTight, TotalDiffers, TraceWidens}
-use Rattle.def_cert_verdict.specs.Verdict.{WeighedGame, first_failing, unless, head_tests}
+use Rattle.def_plan.specs.Weighed.{WeighedGame}
+use Rattle.def_cert_verdict.specs.Verdict.{first_failing, unless, head_tests}
 use Rattle.def_cert_verdict.specs.Laws.{IsHeadOf}
 use Rattle.def_cert_verdict.specs.FaultCauses.{IsFirstNot, NamesLine, HeadFault}
 use Rattle.def_cert_verdict.proofs.TestsDecide.{TestsDecide, TestsDecide-search, TestsDecide-like, Searches, Searches-end, Searches-step, first_unless}

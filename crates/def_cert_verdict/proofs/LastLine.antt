@@ -2,8 +2,8 @@
 use Rattle.std.proofs.Common.{◌≡◌, ℕ, ◌+◌, ◌-◌, ◌≤◌, List, [], ◌∷◌, length, get_or, take, pos, Some, ap, ◌∙◌, arith}
 use Rattle.std.proofs.lemmas.Option.{none-some}
 use Rattle.std.proofs.lemmas.List.{take_all}
-use Rattle.def_bracket.specs.Bracket.{BracketEnds, Evaluation, ends_of, trace, trace_line}
-use Rattle.def_bracket.proofs.TraceLines.{trace_lines}
+use Rattle.def_reply.specs.Bracket.{BracketEnds, Evaluation, ends_of, trace, trace_line}
+use Rattle.def_reply.proofs.TraceLines.{trace_lines}
 use Rattle.def_cert_verdict.specs.Certificate.{last_line, no_line}
 
 some_evaluation : (es : List Evaluation) (ends : BracketEnds) → ends_of es ≡ Some ends → 1 ≤ length es

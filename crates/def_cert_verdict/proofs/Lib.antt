@@ -7,3 +7,4 @@ pub mod VerdictIsExact
 pub mod Shown
 pub mod LastLine
 pub mod FirstFailure
+pub mod Sizes

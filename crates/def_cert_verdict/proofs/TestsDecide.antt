@@ -4,7 +4,7 @@ use Rattle.std.specs.Bool.{Decides}
 use Rattle.std.proofs.lemmas.Int.{ints}
 use Rattle.std.proofs.lemmas.Bool.{false≢true, not-true}
 use Rattle.std.proofs.lemmas.Option.{none-some, same_Some}
-use Rattle.def_bracket.proofs.Compares.{lt_no}
+use Rattle.def_reply.proofs.Compares.{lt_no}
 use Rattle.def_cert_verdict.specs.declared.fault.TestFault.{TestFault}
 use Rattle.def_cert_verdict.specs.Verdict.{first_failing, unless}
 use Rattle.def_cert_verdict.specs.FaultCauses.{IsFirstNot}

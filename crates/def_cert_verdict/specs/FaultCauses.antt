@@ -8,12 +8,13 @@ use Rattle.def_plan.specs.Form.{InformationSet, PlacedSet, placed, sequence_coun
 use Rattle.def_plan.specs.Plan.{AddsUp, chosen}
 use Rattle.def_plan.specs.Payoff.{leaf_sum, worth, mass_of, IsNoBetter}
 use Rattle.def_reply.specs.Reply.{Reply, SetReply, values_of, AreTight}
-use Rattle.def_bracket.specs.Bracket.{TraceLine, LiesWithin}
-use Rattle.def_bracket.specs.Outcome.{Head}
+use Rattle.def_reply.specs.Bracket.{TraceLine, LiesWithin}
+use Rattle.def_reply.specs.Outcome.{Head}
 use Rattle.def_cert_verdict.specs.declared.fault.TestFault.{TestFault}
 use Rattle.def_cert_verdict.specs.declared.fault.TestFault.TheVariants.{HeadDiffers, NotAPlan, ValueTooGood, ReplyNotTight, TotalDiffers, TraceWidens}
 use Rattle.def_cert_verdict.specs.Certificate.{PrintedPlan, PrintedBounds, Certificate, printed_numbers, last_line}
-use Rattle.def_cert_verdict.specs.Verdict.{WeighedGame, end_shown_by, first_trace_line, verdict}
+use Rattle.def_plan.specs.Weighed.{WeighedGame}
+use Rattle.def_cert_verdict.specs.Verdict.{end_shown_by, first_trace_line, verdict}
 use Rattle.def_cert_verdict.specs.Laws.{IsHeadOf, HoldsAsPlan, HoldsAsTotal, HoldsAsReply}
 
 -- the first place where something doesn't hold

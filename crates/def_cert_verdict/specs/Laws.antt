@@ -10,11 +10,12 @@ use Rattle.def_plan.specs.Plan.{IsPlan, pure_plan}
 use Rattle.def_plan.specs.Payoff.{leaf_sum, pay, mass_of}
 use Rattle.def_reply.specs.Reply.{Reply, choices_of, total, AreTight}
 use Rattle.def_reply.specs.Bounds.{IsFloor, IsCeiling, AttainsFloor, AttainsCeiling}
-use Rattle.def_bracket.specs.Bracket.{TraceLine, LiesWithin}
-use Rattle.def_bracket.specs.Outcome.{Head}
+use Rattle.def_reply.specs.Bracket.{TraceLine, LiesWithin}
+use Rattle.def_reply.specs.Outcome.{Head}
 use Rattle.def_cert_verdict.specs.declared.fault.TestFault.{TestFault}
 use Rattle.def_cert_verdict.specs.Certificate.{PrintedPlan, PrintedBounds, Certificate, printed_numbers, last_line}
-use Rattle.def_cert_verdict.specs.Verdict.{WeighedGame, head_only, bracket, first_failing, verdict}
+use Rattle.def_plan.specs.Weighed.{WeighedGame}
+use Rattle.def_cert_verdict.specs.Verdict.{head_only, bracket, first_failing, verdict}
 
 -- the verdict is the fault of the first test that fails: those before it pass
 pub record IsFirstFailure (outcomes : List (Option TestFault)) (fault : TestFault) : Type 0 where

@@ -2,3 +2,10 @@ pub mod Certificate
 pub mod Verdict
 pub mod Laws
 pub mod FaultCauses
+pub mod Ranges
+pub mod RangeLaws
+pub mod Changes
+pub mod Hidden
+pub mod Pennies
+pub mod Kuhn
+pub mod OneMover

@@ -6,23 +6,18 @@ use Rattle.std.specs.List.{range_with_len}
 use Rattle.def_tree.specs.declared.Player.{Player}
 use Rattle.def_tree.specs.declared.Player.TheVariants.{One, Two}
 use Rattle.def_fraction.specs.Fraction.{Fraction, fraction_of}
-use Rattle.def_plan.specs.Form.{InformationSet, PlacedSet, placed, sequence_count, SequenceForm}
+use Rattle.def_plan.specs.Form.{InformationSet, PlacedSet, placed, sequence_count}
+use Rattle.def_plan.specs.Weighed.{WeighedGame}
 use Rattle.def_plan.specs.Plan.{chosen, first_not_adding}
 use Rattle.def_plan.specs.Payoff.{leaf_sum, worth, mass_of}
 use Rattle.def_reply.specs.Reply.{Reply, SetReply, values_of, total}
-use Rattle.def_bracket.specs.Bracket.{TraceLine}
-use Rattle.def_bracket.specs.Outcome.{Head}
+use Rattle.def_reply.specs.Bracket.{TraceLine}
+use Rattle.def_reply.specs.Outcome.{Head}
 use Rattle.def_cert_verdict.specs.declared.fault.Which.{Which}
 use Rattle.def_cert_verdict.specs.declared.fault.Which.TheVariants.{Lower, Upper}
 use Rattle.def_cert_verdict.specs.declared.fault.TestFault.{TestFault}
 use Rattle.def_cert_verdict.specs.declared.fault.TestFault.TheVariants.{HeadDiffers, NotAPlan, ValueTooGood, ReplyNotTight, TotalDiffers, TraceWidens}
 use Rattle.def_cert_verdict.specs.Certificate.{PrintedPlan, PrintedBounds, Certificate, printed_numbers, last_line}
-
--- what the tests know of a game: how many nodes its tree has, and its sequence form with the unit of its weights
-pub record WeighedGame : Type 0 where
-  pub nodes : ℕ
-  pub unit : ℕ
-  pub form : SequenceForm
 
 -- what an accepted certificate shows: the bracket, or where no round was asked that its head is the game's
 pub data Verdict : Type 0 where

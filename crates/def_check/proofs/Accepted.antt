@@ -1,11 +1,12 @@
 -- What an accepted certificate shows.
 use Rattle.std.proofs.Common.{◌≡◌, ◌↔◌, ◌≤◌, Option, Some, None, Ok, refl, subst}
 use Rattle.def_plan.specs.Form.{AreInOrder}
-use Rattle.def_bracket.specs.Outcome.{Head}
-use Rattle.def_cert_ranges.specs.Ranges.{CertificateFits}
-use Rattle.def_cert_ranges.proofs.Sizes.{heads}
+use Rattle.def_reply.specs.Outcome.{Head}
+use Rattle.def_cert_verdict.specs.Ranges.{CertificateFits}
+use Rattle.def_cert_verdict.proofs.Sizes.{heads}
 use Rattle.def_cert_verdict.specs.Certificate.{Certificate, PrintedBounds}
-use Rattle.def_cert_verdict.specs.Verdict.{Verdict, WeighedGame, bracket, head_only, verdict}
+use Rattle.def_plan.specs.Weighed.{WeighedGame}
+use Rattle.def_cert_verdict.specs.Verdict.{Verdict, bracket, head_only, verdict}
 use Rattle.def_cert_verdict.proofs.VerdictIsExact.{exact}
 use Rattle.def_cert_verdict.proofs.Shown.{accepted}
 use Rattle.def_cert_text.specs.CertText.{cert_text}

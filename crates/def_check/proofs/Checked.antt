@@ -7,20 +7,21 @@ use Rattle.def_file.specs.declared.FileFault.TheVariants.{TooLong}
 use Rattle.def_file.specs.Content.{GameFile}
 use Rattle.def_file.specs.Reading.{game_at, most_bytes}
 use Rattle.def_file.proofs.AnyLength.{game_any_length}
-use Rattle.def_game_faults.specs.Faults.{GameFault, ChanceNegative, ChanceSum, NotZeroSum, NotRecall, Scale, game_fault}
+use Rattle.def_game_scale.specs.Faults.{GameFault, ChanceNegative, ChanceSum, NotZeroSum, NotRecall, Scale, game_fault}
 use Rattle.def_game_numbers.specs.Numbers.{as_file_fault, file_fault, game_file_fault, tables_of}
 use Rattle.def_cert_verdict.specs.declared.fault.TestFault.{TestFault}
 use Rattle.def_cert_verdict.specs.Certificate.{Certificate}
-use Rattle.def_cert_verdict.specs.Verdict.{Verdict, WeighedGame, verdict}
+use Rattle.def_plan.specs.Weighed.{WeighedGame}
+use Rattle.def_cert_verdict.specs.Verdict.{Verdict, verdict}
 use Rattle.def_cert_text.specs.declared.fault.CertFault.{CertFault}
 use Rattle.def_cert_text.specs.CertText.{cert_in}
 use Rattle.def_cert_text.proofs.TextLaws.{first_fault, reading}
-use Rattle.def_file_accepted.specs.Accepting as whole
-use Rattle.def_file_accepted.specs.Accepting.{read_as_accepted, read_as_game}
-use Rattle.def_file_accepted.specs.Accepted.{IsAccepted}
-use Rattle.def_file_accepted.specs.Weighed.{weighed_game}
-use Rattle.def_file_accepted.proofs.Accepted.{accepted_whole_file, first_refused}
-use Rattle.def_file_accepted.proofs.InNumbers.{sets_in_order, some_unit}
+use Rattle.def_check.specs.Accepting as whole
+use Rattle.def_check.specs.Accepting.{read_as_accepted, read_as_game}
+use Rattle.def_check.specs.Accepted.{IsAccepted}
+use Rattle.def_game_numbers.specs.Weighed.{weighed_game}
+use Rattle.def_check.proofs.FileAccepted.{accepted_whole_file, first_refused}
+use Rattle.def_check.proofs.InNumbers.{sets_in_order, some_unit}
 use Rattle.def_check.specs.Check.{Refusal, accepted_in_numbers, by_tests, checked, verdict_on, judged_if_accepted, of_file, numbers_unless_faulty}
 use Rattle.def_check.specs.Shown.{Shows, ShowsOfFile}
 use Rattle.def_check.specs.Checking.{AreRead, Checks, failed, passed, refused, unreadable}

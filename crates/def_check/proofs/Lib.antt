@@ -1,2 +1,5 @@
+pub mod Refused
+pub mod FileAccepted
+pub mod InNumbers
 pub mod Accepted
 pub mod Checked

@@ -10,14 +10,16 @@ use Rattle.def_file.specs.Reading.{game_at}
 use Rattle.def_game_numbers.specs.Numbers.{game_file_fault}
 use Rattle.def_cert_verdict.specs.declared.fault.TestFault.{TestFault}
 use Rattle.def_cert_verdict.specs.Certificate.{Certificate}
-use Rattle.def_cert_verdict.specs.Verdict.{Verdict, WeighedGame, verdict}
+use Rattle.def_plan.specs.Weighed.{WeighedGame}
+use Rattle.def_cert_verdict.specs.Verdict.{Verdict, verdict}
 use Rattle.def_cert_text.specs.declared.fault.CertFault.{CertFault}
 use Rattle.def_cert_text.specs.CertText.{cert_in}
-use Rattle.def_file_accepted.specs.Weighed.{weighed_game}
+use Rattle.def_game_numbers.specs.Weighed.{weighed_game}
+use Rattle.def_check.specs.declared.TheConstants.{MOST_CERT_BYTES}
 
 -- the greatest number of bytes of a certificate
 abbrev pub most_cert_bytes : ℕ
-most_cert_bytes = 268435456
+most_cert_bytes = MOST_CERT_BYTES
 
 pub data Refusal : Type 0 where
   of_file : FileFault → Refusal

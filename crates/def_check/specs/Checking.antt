@@ -6,13 +6,13 @@ use Rattle.def_file.specs.Content.{GameFile}
 use Rattle.def_cert_verdict.specs.declared.fault.TestFault.{TestFault}
 use Rattle.def_cert_verdict.specs.Certificate.{Certificate}
 use Rattle.def_cert_verdict.specs.Verdict.{Verdict, verdict}
-use Rattle.def_cert_ranges.specs.Ranges.{CertificateFits}
+use Rattle.def_cert_verdict.specs.Ranges.{CertificateFits}
 use Rattle.def_cert_text.specs.declared.fault.CertFault.{CertFault}
 use Rattle.def_cert_text.specs.CertText.{cert_text}
 use Rattle.def_cert_text.specs.FirstFault.{FirstCertFault}
-use Rattle.def_file_accepted.specs.Accepted.{IsAccepted}
-use Rattle.def_file_accepted.specs.FirstFault.{IsFirstFault}
-use Rattle.def_file_accepted.specs.Weighed.{weighed_game}
+use Rattle.def_check.specs.Accepted.{IsAccepted}
+use Rattle.def_check.specs.FirstFault.{IsFirstFault}
+use Rattle.def_game_numbers.specs.Weighed.{weighed_game}
 use Rattle.def_check.specs.Check.{Refusal, of_certificate, of_file, of_tests}
 
 -- the bytes are the text of the certificate, which is within its ranges

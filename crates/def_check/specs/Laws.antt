@@ -3,9 +3,10 @@ use Rattle.std.specs.Prelude.{◌≡◌, ◌≢◌, ◌↔◌, ℕ, ◌≤◌, L
 use Rattle.def_file.specs.declared.FileFault.TheVariants.{TooLong}
 use Rattle.def_file.specs.Reading.{most_bytes}
 use Rattle.def_plan.specs.Form.{AreInOrder}
-use Rattle.def_cert_ranges.specs.Ranges.{CertificateFits}
+use Rattle.def_cert_verdict.specs.Ranges.{CertificateFits}
 use Rattle.def_cert_verdict.specs.Certificate.{Certificate}
-use Rattle.def_cert_verdict.specs.Verdict.{Verdict, WeighedGame, head_only, verdict}
+use Rattle.def_plan.specs.Weighed.{WeighedGame}
+use Rattle.def_cert_verdict.specs.Verdict.{Verdict, head_only, verdict}
 use Rattle.def_cert_text.specs.CertText.{cert_text}
 use Rattle.def_check.specs.Check.{Refusal, checked, of_file}
 use Rattle.def_check.specs.Checking.{Checks}

@@ -4,13 +4,14 @@ use Rattle.def_fraction.specs.Fraction.{Fraction}
 use Rattle.def_file.specs.Content.{GameFile}
 use Rattle.def_file_form.specs.Laws.{StandsFor}
 use Rattle.def_game_numbers.specs.Numbers.{game_file_fault}
-use Rattle.def_bracket.specs.Outcome.{Head}
-use Rattle.def_cert_ranges.specs.Ranges.{CertificateFits}
+use Rattle.def_reply.specs.Outcome.{Head}
+use Rattle.def_cert_verdict.specs.Ranges.{CertificateFits}
 use Rattle.def_cert_verdict.specs.Certificate.{PrintedBounds}
-use Rattle.def_cert_verdict.specs.Verdict.{Verdict, WeighedGame, bracket, head_only}
+use Rattle.def_plan.specs.Weighed.{WeighedGame}
+use Rattle.def_cert_verdict.specs.Verdict.{Verdict, bracket, head_only}
 use Rattle.def_cert_verdict.specs.Laws.{IsHeadOf, ShowsItsBounds, with_bounds, without_bounds}
 use Rattle.def_cert_text.specs.CertText.{cert_text}
-use Rattle.def_file_accepted.specs.Weighed.{weighed_game}
+use Rattle.def_game_numbers.specs.Weighed.{weighed_game}
 
 -- the bytes are the text of a certificate of the game without a round
 pub record ShowsHead (game : WeighedGame) (cert_bytes : List ℕ) : Type 0 where

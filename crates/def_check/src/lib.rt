@@ -1,9 +1,14 @@
-//! Checking a certificate against the file of a game: which fault decides, and what an accepted certificate shows.
-//! There is no code here: the functions' contracts are laws of the definitions, which stand in `specs/`.
+//! Accepted files with their games in numbers, and what the check of a certificate against a file answers. There is no
+//! code here; each function's contract is a law.
 #![tactic(auto)]
+
+pub mod accepting;
 
 ghost use Rattle.def_check.specs.Laws.{AcceptedChecksAreShown, ChecksAreComputed, HeadAloneExactlyWithoutRounds};
 ghost use Rattle.def_check.specs.Laws.{NoBytesAreTooLong, WhatIsAcceptedIsShown};
+
+/// The greatest number of bytes of a certificate.
+pub const MOST_CERT_BYTES: usize = 268_435_456;
 
 /// What the verdict on a certificate says is shown by its text, whoever wrote it.
 pub fn what_is_accepted_is_shown()

@@ -4,3 +4,7 @@ pub mod Adding
 pub mod Game
 pub mod Reading
 pub mod Laws
+pub mod Entries
+pub mod EntryRules
+pub mod EntryLaws
+pub mod EntryRows

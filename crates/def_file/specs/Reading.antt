@@ -23,6 +23,7 @@ use Rattle.def_fraction.specs.Fraction.{Fraction, zero_fraction}
 use Rattle.def_fraction.specs.Reading.{read_as_literal, read_as_whole}
 use Rattle.def_tree.specs.Rules.{most_nodes}
 use Rattle.def_tree.specs.Tree.{wanted}
+use Rattle.def_file.specs.declared.TheConstants.{MOST_BYTES}
 use Rattle.def_file.specs.declared.EntryKind.{EntryKind}
 use Rattle.def_file.specs.declared.EntryKind.TheVariants.{Chance, Personal, Leaf}
 use Rattle.def_file.specs.declared.FileFault.{FileFault}
@@ -33,7 +34,7 @@ use Rattle.def_file.specs.Adding.{with_record}
 
 -- the greatest number of bytes of a game file
 abbrev pub most_bytes : ℕ
-most_bytes = 67108864
+most_bytes = MOST_BYTES
 
 infixl 10 ◌>>=◌
 abbrev pub ◌>>=◌ : {A B : Type 0} → Result A FileFault → (A → Result B FileFault) → Result B FileFault

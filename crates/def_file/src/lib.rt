@@ -1,10 +1,16 @@
-//! What a game file stands for, and how it is read, up to its first fault.
+//! What a game file stands for, how it is read, up to its first fault, and the game of all its entries. There is no
+//! code here but the enum of faults and the limit of bytes; each function's contract is a law or a worked row.
 #![tactic(auto)]
+
+pub mod entries;
 
 ghost use Rattle.def_file.specs.Laws.{ReadingTakesAnyLength};
 
 use def_fraction::NumberFault;
 use thiserror::Error;
+
+/// The greatest number of bytes of a game file.
+pub const MOST_BYTES: usize = 67_108_864;
 
 /// The first fault of a game file. Offsets count bytes from 0, and nodes count entries from 1.
 #[derive(Clone, Copy, Debug, PartialEq, Eq, Error)]

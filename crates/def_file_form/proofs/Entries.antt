@@ -10,10 +10,10 @@ use Rattle.def_file.specs.Content.{Record, Contents}
 use Rattle.def_file.specs.Faults.{record_fault}
 use Rattle.def_file.specs.Adding.{with_record, node_with}
 use Rattle.def_file.specs.Reading.{◌>>=◌, entry_at, unless_fault, judged, entries_from}
-use Rattle.def_file_entries.specs.Entries.{contents_of}
-use Rattle.def_file_entries.specs.Laws.{HaveNoFault}
-use Rattle.def_file_entries.proofs.NoFault.{no_fault_more, no_fault_here}
-use Rattle.def_file_entries.proofs.OneMore.{one_more}
+use Rattle.def_file.specs.Entries.{contents_of}
+use Rattle.def_file.specs.EntryLaws.{HaveNoFault}
+use Rattle.def_file.proofs.NoFault.{no_fault_more, no_fault_here}
+use Rattle.def_file.proofs.OneMore.{one_more}
 use Rattle.def_file_form.specs.Form.{Spelled, IsEntry, AreEntries}
 use Rattle.def_file_form.proofs.TokenByToken.{then_ok, Read, read_none, read_then}
 use Rattle.def_file_form.proofs.SoundEntries.{entry_read}

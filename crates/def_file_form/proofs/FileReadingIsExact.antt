@@ -10,14 +10,14 @@ use Rattle.def_file.specs.declared.FileFault.TheVariants.{TrailingText}
 use Rattle.def_file.specs.Content.{Contents, GameFile, no_contents, game_with}
 use Rattle.def_tree.specs.Rules.{most_nodes}
 use Rattle.def_file.specs.Reading.{is_kind, prologue_at, entries_from, trailing, nothing_at, game_at}
-use Rattle.def_file_entries.specs.Entries.{contents_of}
+use Rattle.def_file.specs.Entries.{contents_of}
 use Rattle.def_file_form.specs.Form.{spelled, IsPrologue}
 use Rattle.def_file_form.specs.Laws.{StandsFor}
 use Rattle.def_file_form.proofs.TokenByToken.{then_ok, is_kind-true, read_then}
 use Rattle.def_file_form.proofs.SoundEntries.{prologue_read}
 use Rattle.def_file_form.proofs.CompleteEntries.{clear_entries, prologue_taken}
 use Rattle.def_file_form.proofs.Pieces.{pieces_found, ahead_pieces}
-use Rattle.def_file_entries.proofs.NoFault.{entries_limit, nothing_at_fault}
+use Rattle.def_file.proofs.NoFault.{entries_limit, nothing_at_fault}
 use Rattle.def_file_form.proofs.Entries.{AreEntriesThen, entries_then, entries_read, entries_taken}
 
 -- nothing stands at the end

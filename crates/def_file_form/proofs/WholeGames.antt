@@ -11,9 +11,9 @@ use Rattle.def_file.specs.declared.EntryKind.TheVariants.{Chance, Personal, Leaf
 use Rattle.def_file.specs.Content.{Action, SetMention, Record}
 use Rattle.def_file.specs.Game.{IsSmallFraction, IsWholeGame, HasFractions}
 use Rattle.def_file.proofs.Fractions.{IfGiven, GivesFractions, zero_small, no_fractions, fractions_with}
-use Rattle.def_file_entries.specs.Entries.{contents_of}
-use Rattle.def_file_entries.proofs.OneMore.{one_more}
-use Rattle.def_file_entries.proofs.WholeGames.{entries_make_whole_game}
+use Rattle.def_file.specs.Entries.{contents_of}
+use Rattle.def_file.proofs.OneMore.{one_more}
+use Rattle.def_file.proofs.WholeGames.{entries_make_whole_game}
 use Rattle.def_file_form.specs.Form.{Spelled, IsFraction, IsChance, AreActionsUpTo, IsActionList, AreMorePayoffs, ArePayoffs, IsPayoffList, IsEntryAs, AreEntries}
 use Rattle.def_file_form.specs.Laws.{StandsForWholeGame}
 

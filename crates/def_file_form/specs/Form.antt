@@ -19,7 +19,7 @@ use Rattle.def_file.specs.declared.EntryKind.{EntryKind}
 use Rattle.def_file.specs.declared.EntryKind.TheVariants.{Chance, Personal, Leaf}
 use Rattle.def_file.specs.Content.{Prologue, Action, SetMention, OutcomeMention, Record, no_set_mention}
 use Rattle.def_file.specs.Reading.{bytes_at}
-use Rattle.def_file_entries.specs.Entries.{contents_of}
+use Rattle.def_file.specs.Entries.{contents_of}
 
 -- a token's kind and its bytes
 pub record Spelled : Type 0 where

@@ -3,8 +3,8 @@ use Rattle.std.specs.Prelude.{◌≡◌, ℕ, List, Ok}
 use Rattle.def_file.specs.Content.{Prologue, Record, GameFile}
 use Rattle.def_file.specs.Game.{IsWholeGame, HasFractions}
 use Rattle.def_file.specs.Reading.{game_at}
-use Rattle.def_file_entries.specs.Entries.{game_of_entries}
-use Rattle.def_file_entries.specs.Laws.{HaveNoFault}
+use Rattle.def_file.specs.Entries.{game_of_entries}
+use Rattle.def_file.specs.EntryLaws.{HaveNoFault}
 use Rattle.def_file_form.specs.Form.{IsFile}
 
 -- the bytes have a reading whose entries have no fault, and stand for the game of it

@@ -1,2 +1,5 @@
 pub mod Form
 pub mod Laws
+pub mod FaultLaws
+pub mod First
+pub mod Offends

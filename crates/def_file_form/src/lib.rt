@@ -1,5 +1,8 @@
-//! The form of a game file as a relation in the format's own words, and its laws.
+//! The form of a game file as a relation in the format's own words, and its first fault by what could stand in its
+//! place. There is no code here; each function's contract is a law.
 #![tactic(auto)]
+
+pub mod fault;
 
 ghost use Rattle.def_file_form.specs.Laws.{AcceptedIsFile, FileIsAccepted, OneReading, StandsForWholeGame};
 

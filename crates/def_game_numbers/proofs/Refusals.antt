@@ -5,7 +5,7 @@ use Rattle.def_tree.specs.Tree.{Forest}
 use Rattle.def_file.specs.declared.FileFault.{FileFault}
 use Rattle.def_file.specs.Content.{GameFile}
 use Rattle.def_game_paths.specs.Recall.{RecallBreak, recall_break}
-use Rattle.def_game_faults.specs.Faults.{GameFault, or_else, number_fault, of_recall}
+use Rattle.def_game_scale.specs.Faults.{GameFault, or_else, number_fault, of_recall}
 use Rattle.def_plan.specs.Payoff.{mass_of}
 use Rattle.def_sequence_form.specs.Form.{form_of}
 use Rattle.def_sequence_form.specs.Sets.{TreeSets, sets_or_break, tree_sets, unless_broken}

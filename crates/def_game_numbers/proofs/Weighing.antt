@@ -15,9 +15,9 @@ use Rattle.def_game_scale.specs.Laws.{IsWeightOf}
 use Rattle.def_game_scale.proofs.Units.{den-divides, unit-divides, unit-positive}
 use Rattle.def_game_scale.proofs.Expected.{all-lowest}
 use Rattle.def_game_scale.proofs.Weights.{whole-weights}
-use Rattle.def_game_faults.specs.Faults.{GameFault, number_fault}
-use Rattle.def_game_faults.proofs.First.{number_first}
-use Rattle.def_game_faults.proofs.Sound.{sound_numbers}
+use Rattle.def_game_scale.specs.Faults.{GameFault, number_fault}
+use Rattle.def_game_scale.proofs.First.{number_first}
+use Rattle.def_game_scale.proofs.Sound.{sound_numbers}
 use Rattle.def_game_numbers.specs.Numbers.{GameWeights, refused_or, tables_of, weigh, weights_of_game}
 use Rattle.def_game_numbers.specs.Laws.{AreWeights, FitTheLimit, IsWeighed}
 use Rattle.def_game_numbers.proofs.Refusals.{accepted, refused}

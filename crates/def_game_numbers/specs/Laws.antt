@@ -13,8 +13,8 @@ use Rattle.def_game_paths.specs.Recall.{RecallBreak}
 use Rattle.def_game_scale.specs.Tables.{Tables, AreFractions}
 use Rattle.def_game_scale.specs.Scale.{all_expected}
 use Rattle.def_game_scale.specs.Laws.{IsWeightOf}
-use Rattle.def_game_faults.specs.Faults.{GameFault}
-use Rattle.def_game_faults.specs.First.{FirstNumberFault, PassNumbers}
+use Rattle.def_game_scale.specs.Faults.{GameFault}
+use Rattle.def_game_scale.specs.First.{FirstNumberFault, PassNumbers}
 use Rattle.def_plan.specs.Payoff.{mass_of}
 use Rattle.def_sequence_form.specs.Form.{form_of, form_of_game}
 use Rattle.def_sequence_form.specs.Sets.{TreeSets, sets_or_break}

@@ -11,7 +11,7 @@ use Rattle.def_file.specs.Content.{GameFile, OutcomeEntry}
 use Rattle.def_file.specs.Game.{chances_of}
 use Rattle.def_game_scale.specs.Tables.{Payoffs, Tables}
 use Rattle.def_game_scale.specs.Scale.{game_mass, game_unit, weights}
-use Rattle.def_game_faults.specs.Faults.{GameFault, ChanceNegative, ChanceSum, NotZeroSum, NotRecall, Scale, game_fault, number_fault}
+use Rattle.def_game_scale.specs.Faults.{GameFault, ChanceNegative, ChanceSum, NotZeroSum, NotRecall, Scale, game_fault, number_fault}
 
 abbrev pub payoffs_given : OutcomeEntry → Payoffs
 payoffs_given outcome = record { one = outcome.one; two = outcome.two }

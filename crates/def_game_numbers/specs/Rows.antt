@@ -5,8 +5,8 @@ use Rattle.def_fraction.specs.Fraction.{Fraction}
 use Rattle.def_file.specs.declared.FileFault.TheVariants as faults
 use Rattle.def_file.specs.Content.{GameFile, OutcomeEntry, SetEntry}
 use Rattle.def_game_scale.specs.Tables.{Payoffs}
-use Rattle.def_game_faults.specs.Examples as examples
-use Rattle.def_game_faults.specs.Examples.{Example}
+use Rattle.def_game_scale.specs.Examples as examples
+use Rattle.def_game_scale.specs.Examples.{Example}
 use Rattle.def_plan.specs.Form.{Leaf, sequence_count, weighted}
 use Rattle.def_sequence_form.specs.Form.{form_of_game}
 use Rattle.def_sequence_form.specs.Sets.{sets_or_break}

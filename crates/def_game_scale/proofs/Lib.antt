@@ -2,3 +2,8 @@ pub mod Units
 pub mod Expected
 pub mod Weights
 pub mod Running
+pub mod Walks
+pub mod Chance
+pub mod Nodes
+pub mod First
+pub mod Sound

@@ -2,3 +2,8 @@ pub mod Tables
 pub mod Scale
 pub mod Laws
 pub mod Rows
+pub mod Faults
+pub mod First
+pub mod FaultLaws
+pub mod Examples
+pub mod FaultRows

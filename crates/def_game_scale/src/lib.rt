@@ -1,5 +1,8 @@
+//! Payoffs and chances of a tree as whole numbers: its unit, its weights and its mass, and which game has a fault in
+//! its numbers, the first one. There is no code here; each function's contract is a law or a worked row.
 #![tactic(auto)]
-//! Reach, payoffs, and the whole numbers that stand for them.
+
+pub mod faults;
 
 ghost use Rattle.def_game_scale.specs.Laws.{ExpectedAreFractions, NumbersRun, UnitIsLeast, WeightsAreWhole};
 ghost use Rattle.def_game_scale.specs.Rows.{ScaleRows};

@@ -4,7 +4,7 @@ use Rattle.std.specs.List.{range_with_len}
 use Rattle.std.specs.Prelude.{ℤ, ◌+ℤ◌, flat_map}
 use Rattle.def_sums.specs.Sum.{sum_over}
 use Rattle.def_sums.proofs.SumLaws.{sum_over-append}
-use Rattle.def_game_jobs.specs.Ranges.{leaves_of}
+use Rattle.def_history.specs.Ranges.{leaves_of}
 use Rattle.def_history.specs.Leaves.{job_amount, amounts}
 use Rattle.def_history.specs.Laws.{JobsAddUpToLeaves, RowsEndAsLeafSums}
 use Rattle.def_history.proofs.Ends.{ends_with_plain_sums}

@@ -1,8 +1,15 @@
+pub mod Cuts
+pub mod Passes
+pub mod Ranges
 pub mod Counts
 pub mod StepsKeepBalance
 pub mod Holders
 pub mod Ends
+pub mod Drawing
 pub mod Leaves
 pub mod TwoJobsToTheEnd
 pub mod Locks
 pub mod Packets
+pub mod JobRows
+pub mod Amounts
+pub mod JobPackets

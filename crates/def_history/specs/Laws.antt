@@ -1,9 +1,14 @@
 -- The laws of the core and of its histories.
 use Rattle.std.specs.Prelude.{◌≡◌, ℕ, ℤ, ◌+◌, ◌<◌, ◌*◌, ◌↔◌, ◌⊎◌, List, [], length, All, Contains}
 use Rattle.def_history.specs.History.{times, IsLegal, IsComplete, replay, sum_over_jobs, stripe_of, place_of}
-use Rattle.def_history.specs.Core.{State, Holder, Holds, IsGivenUp, IsReached, history_of, stripe_count, times_held}
-use Rattle.def_game_jobs.specs.Ranges.{LeafRange, Partitions}
+use Rattle.def_history.specs.Core.{State, Draws, Holder, Holds, IsGivenUp, IsReached, history_of, rights_held, stripe_count, times_held}
+use Rattle.def_history.specs.Ranges.{LeafRange, Partitions}
 use Rattle.def_history.specs.Leaves.{amounts, sum_over_leaves}
+
+-- any pass without rights can draw any job of the bag, and only such a pass draws
+abbrev pub AnyPassWithoutRightsDraws : Type 0
+AnyPassWithoutRightsDraws = (state : State) (pass job : ℕ) → pass < length state.passes
+    → ((after : State) × Draws state pass job after) ↔ ((rights_held state pass ≡ []) × Contains state.bag job)
 
 -- whatever steps were taken, every history is legal
 abbrev pub HistoriesAreLegal : Type 0

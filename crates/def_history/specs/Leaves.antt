@@ -2,7 +2,7 @@
 use Rattle.std.specs.Prelude.{ℕ, ℤ, List, slice_index_or}
 use Rattle.std.specs.List.{range_with_len}
 use Rattle.def_sums.specs.Sum.{sum_over}
-use Rattle.def_game_jobs.specs.Ranges.{LeafRange, leaves_of}
+use Rattle.def_history.specs.Ranges.{LeafRange, leaves_of}
 
 -- a job's amount at a row is the plain sum over its leaves
 abbrev pub job_amount : (ℕ → ℕ → ℤ) → LeafRange → ℕ → ℤ

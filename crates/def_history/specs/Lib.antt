@@ -1,3 +1,6 @@
+pub mod Jobs
+pub mod CutRows
+pub mod Ranges
 pub mod History
 pub mod Core
 pub mod Locks
@@ -5,3 +8,6 @@ pub mod Packets
 pub mod Leaves
 pub mod Laws
 pub mod Worked
+pub mod JobRows
+pub mod RowLaws
+pub mod JobPackets

@@ -1,7 +1,7 @@
 -- A worked run of the core: two jobs, one pass, two stripes.
 use Rattle.std.specs.Prelude.{List, [], ◌∷◌}
 use Rattle.def_history.specs.Core.{State, Step, draw, add, StepsLead, IsOpening}
-use Rattle.def_game_jobs.specs.Ranges.{Partitions}
+use Rattle.def_history.specs.Ranges.{Partitions}
 
 -- nothing is drawn yet
 abbrev pub two_jobs : State

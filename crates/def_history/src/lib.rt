@@ -1,11 +1,20 @@
-//! The history of additions: jobs, legal and complete histories and their replay, and the core of draws and additions
-//! that leads to them, for any number of passes and stripes. There is no code here; each function's contract is a law.
+//! The jobs into which the sum over a game's leaves is cut, and the history of additions of several workers: draws,
+//! rights, packets, stripes, and the rows that are left at the end. There is no code here; each function's contract is
+//! a law or a worked row.
 #![tactic(auto)]
+
+pub mod jobs;
+pub mod rows;
 
 ghost use Rattle.def_history.specs.Locks.{CountsTellRights, LegalReplaysAreSmall, LocalStepsAreSteps};
 ghost use Rattle.def_history.specs.Packets.{PacketsBringAmounts, StripesHoldTheirRows};
 ghost use Rattle.def_history.specs.Worked.{TwoJobsRunToTheEnd, TwoJobsHaveThreeLeaves};
-ghost use Rattle.def_history.specs.Laws.{EachRightCountsOnce, HistoriesEndComplete, RowsEndAsLeafSums, RowsEndAsPlainSums, ARightIsGivenUpByAdding, PassesHoldRightsOfJobsAndStripes, EachRightHasOneHolder, JobsAddUpToLeaves, BagIsLegal, HistoriesAreLegal, EachRowHasOnePlace, CompleteHistoriesReplayToPlainSums};
+ghost use Rattle.def_history.specs.Laws.{AnyPassWithoutRightsDraws, EachRightCountsOnce, HistoriesEndComplete, RowsEndAsLeafSums, RowsEndAsPlainSums, ARightIsGivenUpByAdding, PassesHoldRightsOfJobsAndStripes, EachRightHasOneHolder, JobsAddUpToLeaves, BagIsLegal, HistoriesAreLegal, EachRowHasOnePlace, CompleteHistoriesReplayToPlainSums};
+
+/// Any pass without rights can draw any job of the bag, and only such a pass draws.
+pub fn any_pass_without_rights_draws()
+    ensures { AnyPassWithoutRightsDraws }
+{}
 
 /// Whatever steps were taken, every history is legal: each job stands in it at most once, and nothing else does.
 pub fn histories_are_legal()

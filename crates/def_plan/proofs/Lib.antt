@@ -11,3 +11,4 @@ pub mod BadSets
 pub mod SizeLaws
 pub mod OrderTest
 pub mod Hanging
+pub mod Rows

@@ -1,5 +1,12 @@
 pub mod Form
+pub mod Weighed
 pub mod Plan
 pub mod Payoff
 pub mod Laws
 pub mod Pennies
+pub mod Hidden
+pub mod Kuhn
+pub mod KuhnLeaves
+pub mod SmallForms
+pub mod FormRows
+pub mod RowLaws

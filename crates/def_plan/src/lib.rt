@@ -1,6 +1,10 @@
-//! The sequence form of a game of two players and its plans (von Stengel 1996), in whole numbers. There is no code
-//! here; each function's contract is a law of the definitions, or rows that they give.
+//! Plans of one player in the sequence form (von Stengel 1996), what two of them pay, the rows of a form, which are its
+//! leaf sums by sequence, and small games as forms. There is no code here; each function's contract is a law or a
+//! worked row.
 #![tactic(auto)]
+
+pub mod examples;
+pub mod form_rows;
 
 ghost use Rattle.std.specs.Prelude.{◌≡◌, [], ◌∷◌, Some, None, pos, negsuc};
 ghost use Rattle.def_plan.specs.Plan.{bad_set, pure_plan, added};

@@ -8,7 +8,7 @@ use Rattle.def_plan.specs.Payoff.{pay}
 use Rattle.def_reply.specs.Reply.{choices_of}
 use Rattle.def_reply.specs.Bounds.{IsFloor, IsCeiling}
 use Rattle.def_cert_verdict.specs.Certificate.{PrintedBounds, printed_numbers}
-use Rattle.def_cert_verdict.specs.Verdict.{WeighedGame}
+use Rattle.def_plan.specs.Weighed.{WeighedGame}
 use Rattle.def_cert_verdict.specs.Laws.{ShowsItsBounds}
 use Rattle.def_program.specs.Bounds.{BoundsHold, ConcedesHigh, GapIsExploitability, GetsLow, NoPlanDoesBetter}
 use Rattle.def_program.specs.Bounds.{RepliesAttain, TraceNarrows}

@@ -8,24 +8,25 @@ use Rattle.def_file.specs.declared.FileFault.TheVariants.{TooLong}
 use Rattle.def_file.specs.Content.{GameFile}
 use Rattle.def_file.specs.Reading.{most_bytes}
 use Rattle.def_sums.proofs.RingLaws.{≤ℤ_refl}
-use Rattle.def_bracket.specs.Bracket.{LiesWithin, TraceLine}
-use Rattle.def_bracket.specs.Outcome.{Head}
-use Rattle.def_bracket.proofs.Compares.{at_most-trans}
-use Rattle.def_cert_ranges.specs.Ranges.{CertificateFits, TraceFits}
+use Rattle.def_reply.specs.Bracket.{LiesWithin, TraceLine}
+use Rattle.def_reply.specs.Outcome.{Head}
+use Rattle.def_reply.proofs.Compares.{at_most-trans}
+use Rattle.def_cert_verdict.specs.Ranges.{CertificateFits, TraceFits}
 use Rattle.def_cert_verdict.specs.declared.fault.TestFault.{TestFault}
 use Rattle.def_cert_verdict.specs.Certificate.{Certificate, PrintedBounds}
-use Rattle.def_cert_verdict.specs.Verdict.{Verdict, WeighedGame, decided_by, first_failing, shown_by, tests, verdict}
+use Rattle.def_plan.specs.Weighed.{WeighedGame}
+use Rattle.def_cert_verdict.specs.Verdict.{Verdict, decided_by, first_failing, shown_by, tests, verdict}
 use Rattle.def_cert_verdict.specs.Laws.{IsHeadOf, NeverWidens}
 use Rattle.def_cert_verdict.proofs.VerdictIsExact.{exact}
 use Rattle.def_cert_verdict.proofs.Shown.{accepted as shown}
 use Rattle.def_check.specs.Check.{Refusal, checked, most_cert_bytes}
 use Rattle.def_check.specs.Checking.{AreRead, Checks, failed, passed, refused, unreadable}
 use Rattle.def_check.proofs.Checked.{checks_are}
-use Rattle.def_file_accepted.specs.Weighed.{weighed_game}
-use Rattle.def_file_accepted.proofs.InNumbers.{sets_in_order, some_unit}
+use Rattle.def_game_numbers.specs.Weighed.{weighed_game}
+use Rattle.def_check.proofs.InNumbers.{sets_in_order, some_unit}
 use Rattle.def_command.specs.Grammar.{Check, Command, Drill, Gen, Info, Solve, command_of_words}
-use Rattle.def_text.specs.Lines.{fault_line}
-use Rattle.def_text.specs.CheckLines.{cert_long_line, verdict_text}
+use Rattle.def_program.specs.TextLines.{fault_line}
+use Rattle.def_program.specs.CheckLines.{cert_long_line, verdict_text}
 use Rattle.def_program.specs.Program.{Answer, check_answer, refusal}
 use Rattle.def_program.specs.Meaning.{CheckMeans, IsMeant, Means, file_too_long, file_within, too_long, within}
 use Rattle.def_program.specs.Bounds.{BoundsHold}

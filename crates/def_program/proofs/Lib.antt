@@ -1,3 +1,4 @@
+pub mod ReadBack
 pub mod PokerFileIsRead
 pub mod Meant
 pub mod Bounds

@@ -11,13 +11,13 @@ use Rattle.def_file.specs.Content.{GameFile}
 use Rattle.def_file.specs.Reading.{most_bytes}
 use Rattle.def_command.specs.Grammar.{Check, Command, Drill, Gen, Info, Solve, command_of_words, files_of}
 use Rattle.def_command.proofs.InRange.{cards_in_range}
-use Rattle.def_text.specs.Text.{info_text}
-use Rattle.def_text.specs.Lines.{fault_line}
-use Rattle.def_text.specs.CheckLines.{cert_long_line}
-use Rattle.def_file_accepted.specs.Accepting.{read_as_accepted}
-use Rattle.def_file_accepted.proofs.Accepted.{accepted_whole_file, first_refused}
+use Rattle.def_program.specs.Text.{info_text}
+use Rattle.def_program.specs.TextLines.{fault_line}
+use Rattle.def_program.specs.CheckLines.{cert_long_line}
+use Rattle.def_check.specs.Accepting.{read_as_accepted}
+use Rattle.def_check.proofs.FileAccepted.{accepted_whole_file, first_refused}
 use Rattle.def_canon.specs.Canon.{canon}
-use Rattle.def_poker.specs.Poker.{poker}
+use Rattle.def_canon.specs.Poker.{poker}
 use Rattle.def_check.specs.Check.{checked, most_cert_bytes}
 use Rattle.def_check.proofs.Checked.{checks_are}
 use Rattle.def_program.specs.Program.{Answer, answer_of, certificate_answer, check_answer, check_told, command_answer, file_answer, game_answer, made_answer, program, refusal, solved, success, usage}

@@ -13,13 +13,14 @@ use Rattle.def_game_paths.specs.Paths.{leaf_visits}
 use Rattle.def_game_scale.specs.Scale.{all_expected, expected, weights}
 use Rattle.def_game_numbers.specs.Numbers.{game_file_fault, tables_of}
 use Rattle.def_sequence_form.proofs.Leaves.{form_has_the_mass, leaves_counted, length-leaves_with}
-use Rattle.def_bracket.specs.Bracket.{BracketEnds, ends_of}
-use Rattle.def_bracket.specs.Outcome.{Head}
+use Rattle.def_reply.specs.Bracket.{BracketEnds, ends_of}
+use Rattle.def_reply.specs.Outcome.{Head}
 use Rattle.def_run.specs.Run.{evaluations, outcome}
 use Rattle.def_run.proofs.EndLaws.{trace_of_run_never_widens}
 use Rattle.def_run.proofs.RunLaws.{runs_have_ends}
 use Rattle.def_cert_verdict.specs.Certificate.{Certificate, PrintedBounds}
-use Rattle.def_cert_verdict.specs.Verdict.{WeighedGame, bracket, verdict}
+use Rattle.def_plan.specs.Weighed.{WeighedGame}
+use Rattle.def_cert_verdict.specs.Verdict.{bracket, verdict}
 use Rattle.def_cert_verdict.specs.Laws.{HoldsUp, IsHeadOf, ShowsItsBounds, with_bounds}
 use Rattle.def_cert_verdict.proofs.VerdictIsExact.{exact}
 use Rattle.def_cert_verdict.proofs.Shown.{accepted as shown}
@@ -30,16 +31,16 @@ use Rattle.def_cert_text.specs.CertText.{cert_text}
 use Rattle.def_command.specs.Grammar.{Check, Command, Drill, Gen, Info, Settings, Solve, command_of_words}
 use Rattle.def_command.proofs.InRange.{cards_in_range, settings_in_range}
 use Rattle.def_canon.specs.Canon.{canon}
-use Rattle.def_poker.specs.Poker.{poker}
+use Rattle.def_canon.specs.Poker.{poker}
 use Rattle.def_file_form.specs.Laws.{StandsFor}
-use Rattle.def_text.specs.Text.{form_of_file, game_head, solve_text}
-use Rattle.def_text.specs.Lines.{fault_line}
+use Rattle.def_program.specs.Text.{form_of_file, game_head, solve_text}
+use Rattle.def_program.specs.TextLines.{fault_line}
 use Rattle.def_program.specs.Program.{Answer, file_answer, game_answer, refusal, solved, success}
-use Rattle.def_file_accepted.specs.Accepted.{IsAccepted}
-use Rattle.def_file_accepted.specs.Accepting.{read_as_accepted, unless_faulty}
+use Rattle.def_check.specs.Accepted.{IsAccepted}
+use Rattle.def_check.specs.Accepting.{read_as_accepted, unless_faulty}
 use Rattle.def_program.specs.Meaning.{FileMeans, IsMeant, Means, written}
-use Rattle.def_file_accepted.specs.Weighed.{weighed_game}
-use Rattle.def_file_accepted.proofs.InNumbers.{some_unit, sets_in_order}
+use Rattle.def_game_numbers.specs.Weighed.{weighed_game}
+use Rattle.def_check.proofs.InNumbers.{some_unit, sets_in_order}
 use Rattle.def_program.specs.Bounds.{BoundsHold, ForEachPlayed, HasItsBounds, IsPlayed, TraceNarrows, WroteBounds}
 use Rattle.def_program.specs.Laws.{PlayedGamesHaveTheirBounds}
 use Rattle.def_program.proofs.Bounds.{bounds_hold}

@@ -7,12 +7,12 @@ use Rattle.def_file.specs.Content.{GameFile}
 use Rattle.def_file.specs.Reading.{most_bytes}
 use Rattle.def_game_numbers.specs.Numbers.{game_file_fault}
 use Rattle.def_canon.specs.Canon.{canon}
-use Rattle.def_poker.specs.Poker.{poker}
-use Rattle.def_poker.proofs.PokerFileIsShort.{poker_is_short}
-use Rattle.def_poker.proofs.Written.{poker_is_read_back}
-use Rattle.def_file_accepted.specs.Accepted.{IsAccepted}
-use Rattle.def_file_accepted.specs.Accepting.{accepted, read_as_game, unless_faulty}
-use Rattle.def_file_accepted.proofs.Accepted.{accepted_whole_file}
+use Rattle.def_canon.specs.Poker.{poker}
+use Rattle.def_canon.proofs.PokerFileIsShort.{poker_is_short}
+use Rattle.def_canon.proofs.Written.{poker_is_read_back}
+use Rattle.def_check.specs.Accepted.{IsAccepted}
+use Rattle.def_check.specs.Accepting.{accepted, read_as_game, unless_faulty}
+use Rattle.def_check.proofs.FileAccepted.{accepted_whole_file}
 use Rattle.def_program.specs.Program.{file_answer, game_answer, made_answer}
 
 module _ (cards : ℕ) (some : least_cards ≤ cards) (few : cards ≤ most_cards) where

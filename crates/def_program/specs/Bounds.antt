@@ -15,17 +15,17 @@ use Rattle.def_fraction.specs.Laws.{HasValue}
 use Rattle.def_plan.specs.Plan.{IsPlan, pure_plan}
 use Rattle.def_reply.specs.Reply.{choices_of}
 use Rattle.def_reply.specs.Bounds.{IsFloor, IsCeiling, AttainsFloor, AttainsCeiling, IsExploitability}
-use Rattle.def_bracket.specs.Bracket.{TraceLine, LiesWithin}
+use Rattle.def_reply.specs.Bracket.{TraceLine, LiesWithin}
 use Rattle.def_cert_verdict.specs.Certificate.{PrintedBounds, printed_numbers, last_line}
-use Rattle.def_cert_verdict.specs.Verdict.{WeighedGame}
+use Rattle.def_plan.specs.Weighed.{WeighedGame}
 use Rattle.def_cert_verdict.specs.Laws.{GetsAtLeast, ConcedesAtMost, IsTotalOver, with_bounds}
 use Rattle.def_cert_accepted.specs.OfOutcome.{certificate_of}
 use Rattle.def_cert_text.specs.CertText.{cert_text}
 use Rattle.def_command.specs.Grammar.{Check, Command, Drill, Gen, Info, Settings, Solve, command_of_words}
-use Rattle.def_text.specs.Text.{form_of_file, game_head, game_outcome, solve_text}
-use Rattle.def_poker.specs.Poker.{poker}
-use Rattle.def_file_accepted.specs.Accepted.{IsAccepted}
-use Rattle.def_file_accepted.specs.Weighed.{weighed_game}
+use Rattle.def_program.specs.Text.{form_of_file, game_head, game_outcome, solve_text}
+use Rattle.def_canon.specs.Poker.{poker}
+use Rattle.def_check.specs.Accepted.{IsAccepted}
+use Rattle.def_game_numbers.specs.Weighed.{weighed_game}
 
 -- the bounds in the certificate of what the rounds leave
 abbrev pub game_bounds : GameFile → Settings → Option PrintedBounds

@@ -6,12 +6,13 @@ use Rattle.std.specs.Prelude.{◌≡◌, ℕ, List, Option, Some, None, IfSome}
 use Rattle.def_outside.specs.Calls.{SinkCall, Wrote}
 use Rattle.def_file.specs.Content.{GameFile}
 use Rattle.def_cert_verdict.specs.Certificate.{Certificate, PrintedBounds}
-use Rattle.def_cert_verdict.specs.Verdict.{Verdict, WeighedGame, shown_by}
+use Rattle.def_plan.specs.Weighed.{WeighedGame}
+use Rattle.def_cert_verdict.specs.Verdict.{Verdict, shown_by}
 use Rattle.def_cert_verdict.specs.Laws.{IsHeadOf}
 use Rattle.def_check.specs.Checking.{AreRead}
-use Rattle.def_file_accepted.specs.Weighed.{weighed_game}
+use Rattle.def_game_numbers.specs.Weighed.{weighed_game}
 use Rattle.def_command.specs.Grammar.{Check, Command, Drill, Gen, Info, Solve, command_of_words}
-use Rattle.def_text.specs.CheckLines.{verdict_text}
+use Rattle.def_program.specs.CheckLines.{verdict_text}
 
 -- ---- what holds of an accepted certificate
 

@@ -5,7 +5,7 @@ use Rattle.def_file.specs.Content.{GameFile}
 use Rattle.def_cert_verdict.specs.Verdict.{Verdict}
 use Rattle.def_check.specs.Checking.{Checks}
 use Rattle.def_command.specs.Grammar.{Settings}
-use Rattle.def_file_accepted.specs.Accepted.{IsAccepted}
+use Rattle.def_check.specs.Accepted.{IsAccepted}
 use Rattle.def_program.specs.Program.{Answer, program}
 use Rattle.def_program.specs.Meaning.{Means, MeansOnly, FilesAreTold}
 use Rattle.def_program.specs.Bounds.{BoundsHold, HasItsBounds}

@@ -1,3 +1,8 @@
+pub mod Text
+pub mod TextLines
+pub mod CheckLines
+pub mod TextRows
+pub mod TextLaws
 pub mod Program
 pub mod Meaning
 pub mod Lines

@@ -6,8 +6,8 @@ use Rattle.def_file.specs.declared.FileFault.TheVariants.{TooLong}
 use Rattle.def_cert_verdict.specs.declared.fault.TestFault.{TestFault}
 use Rattle.def_cert_text.specs.declared.fault.CertFault.{CertFault}
 use Rattle.def_check.specs.Check.{most_cert_bytes}
-use Rattle.def_text.specs.Lines.{fault_line, usage_line, read_line, write_line, memory_line}
-use Rattle.def_text.specs.CheckLines.{cert_fault_line, cert_long_line, test_fault_line}
+use Rattle.def_program.specs.TextLines.{fault_line, usage_line, read_line, write_line, memory_line}
+use Rattle.def_program.specs.CheckLines.{cert_fault_line, cert_long_line, test_fault_line}
 use Rattle.def_file.specs.Reading.{most_bytes}
 use Rattle.def_command.specs.Grammar.{Check, Command, Drill, Gen, Info, Solve, command_of_words}
 use Rattle.def_program.specs.Meaning.{EachMeant, Means}
@@ -38,7 +38,8 @@ pub data IsLine (checks : Type 0) (taken status : ℕ) (line : List ℕ) : Type 
   of_writing : status ≡ 4 → line ≡ write_line → IsLine checks taken status line
   of_memory : status ≡ 5 → line ≡ memory_line → IsLine checks taken status line
 
--- A line that goes with the status and the words was said. At status 1 it is the line of the answer that is meant.
+-- A line that goes with the status and the words was said, or was cut off by a fault. At status 1 it is the line of the
+-- answer that is meant.
 pub record SaysLine (words : List (List ℕ)) (told : List ℕ → Option (List ℕ)) (status taken : ℕ) (err : SinkCall)
     : Type 0 where
   pub line : List ℕ

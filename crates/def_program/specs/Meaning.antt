@@ -9,16 +9,16 @@ use Rattle.def_file.specs.declared.FileFault.TheVariants.{TooLong}
 use Rattle.def_file.specs.Reading.{most_bytes}
 use Rattle.def_cert_verdict.specs.Verdict.{Verdict}
 use Rattle.def_canon.specs.Canon.{canon}
-use Rattle.def_poker.specs.Poker.{poker}
+use Rattle.def_canon.specs.Poker.{poker}
 use Rattle.def_check.specs.Check.{Refusal, most_cert_bytes}
 use Rattle.def_check.specs.Checking.{Checks}
-use Rattle.def_file_accepted.specs.Accepted.{IsAccepted}
+use Rattle.def_check.specs.Accepted.{IsAccepted}
 use Rattle.def_command.specs.Grammar.{Check, Command, Drill, Gen, Info, Solve, command_of_words, named_files}
-use Rattle.def_text.specs.Text.{info_text}
-use Rattle.def_text.specs.Lines.{fault_line}
-use Rattle.def_text.specs.CheckLines.{cert_long_line}
+use Rattle.def_program.specs.Text.{info_text}
+use Rattle.def_program.specs.TextLines.{fault_line}
+use Rattle.def_program.specs.CheckLines.{cert_long_line}
 use Rattle.def_program.specs.Program.{Answer, check_answer, refusal, solved, success, usage}
-use Rattle.def_file_accepted.specs.FirstFault.{IsFirstFault}
+use Rattle.def_check.specs.FirstFault.{IsFirstFault}
 
 -- a command that writes this text of the game of a file of these bytes: the text, or the line of the file's first fault
 pub data FileMeans (text : GameFile → List ℕ) (bytes : List ℕ) (answer : Answer) : Type 0 where

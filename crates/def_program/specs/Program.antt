@@ -10,13 +10,13 @@ use Rattle.def_file.specs.Reading.{most_bytes}
 use Rattle.def_cert_verdict.specs.Verdict.{Verdict}
 use Rattle.def_game_numbers.specs.Numbers.{game_file_fault}
 use Rattle.def_canon.specs.Canon.{canon}
-use Rattle.def_poker.specs.Poker.{poker}
-use Rattle.def_file_accepted.specs.Accepting.{read_as_accepted, unless_faulty}
+use Rattle.def_canon.specs.Poker.{poker}
+use Rattle.def_check.specs.Accepting.{read_as_accepted, unless_faulty}
 use Rattle.def_check.specs.Check.{Refusal, checked, most_cert_bytes}
 use Rattle.def_command.specs.Grammar.{Check, Command, Drill, Gen, Info, Settings, Solve, command_of_words}
-use Rattle.def_text.specs.Text.{info_text, solve_text}
-use Rattle.def_text.specs.Lines.{fault_line, usage_line}
-use Rattle.def_text.specs.CheckLines.{cert_long_line, refusal_line, verdict_text}
+use Rattle.def_program.specs.Text.{info_text, solve_text}
+use Rattle.def_program.specs.TextLines.{fault_line, usage_line}
+use Rattle.def_program.specs.CheckLines.{cert_long_line, refusal_line, verdict_text}
 
 pub record Answer : Type 0 where
   pub status : ℕ

@@ -1,5 +1,8 @@
-//! What the program does, in definitions alone, for a run in which nothing that it is handed fails and memory is found.
+//! What the program means: the texts that it writes, what a call's words and files decide, and what holds of each call.
+//! There is no code here; each function's contract is a law or a worked row.
 #![tactic(auto)]
+
+pub mod texts;
 
 ghost use Rattle.def_program.specs.Laws.{AcceptedCertificatesHold, MeaningIsComputed, PlayedGamesHaveTheirBounds};
 ghost use Rattle.def_program.specs.Laws.{ToldWordsMeanOne};

@@ -4,3 +4,8 @@ pub mod Optimal
 pub mod BoundLaws
 pub mod ReplySizes
 pub mod OwnSums
+pub mod Compares
+pub mod BestEnds
+pub mod TraceLines
+pub mod EvaluatedRounds
+pub mod KeptEnds

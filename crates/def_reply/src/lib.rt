@@ -1,6 +1,10 @@
-//! Best replies (von Stengel 1996), and the floors and ceilings that they show. There is no code here; each function's
-//! contract is a law of the definitions, or rows that they give.
+//! Best replies, what bounds a plan, and the bracket: the best ends of several offers, and their trace. There is no
+//! code here; each function's contract is a law or a worked row.
 #![tactic(auto)]
+
+pub mod bracket;
+pub mod examples;
+pub mod offers;
 
 ghost use Rattle.std.specs.Prelude.{◌≡◌, [], ◌∷◌, pos, negsuc};
 ghost use Rattle.def_tree.specs.declared.Player.TheVariants.{One, Two};

@@ -1,3 +1,4 @@
+pub mod SharesLaws
 pub mod Blocks
 pub mod Plays
 pub mod Values

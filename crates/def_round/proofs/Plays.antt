@@ -12,8 +12,8 @@ use Rattle.def_plan.specs.Form.{InformationSet, PlacedSet, placed_from, placed, 
 use Rattle.def_plan.specs.Plan.{dealt_onto, DealsWhole}
 use Rattle.def_plan.proofs.Rules.{dealt-only}
 use Rattle.def_plan.proofs.Dealing.{IsDealt, dealt_onto-is_dealt, dealt-is_plan}
-use Rattle.def_shares.specs.Shares.{weight_sum}
-use Rattle.def_shares.proofs.SharesLaws.{length-shares, shares_whole, no_weight_no_share}
+use Rattle.def_round.specs.Shares.{weight_sum}
+use Rattle.def_round.proofs.SharesLaws.{length-shares, shares_whole, no_weight_no_share}
 use Rattle.def_round.specs.Play.{units, positive_part, regret_of, set_play, play_of, play_rule}
 use Rattle.def_round.specs.Laws.{PlaysPositiveRegrets, PlaysHaveEachSet, PlaysGiveAllUnits, PlaysDealPlans, PlaysDealByShares, PlansOfPlaysAreUnique, PositivePartsAreExact}
 use Rattle.def_round.proofs.Blocks.{map-block, blocks, length-blocks}

@@ -4,9 +4,9 @@ use Rattle.std.specs.List.{range_with_len}
 use Rattle.std.proofs.lemmas.List.FromFn.{length-map-range_with_len, get_or-map-range_with_len, take-map-range_with_len}
 use Rattle.def_sums.specs.Sum.{nat_sum_over}
 use Rattle.def_plan.specs.Form.{PlacedSet, placed}
-use Rattle.def_shares.specs.Shares.{weight_sum, weights_or_ones, shares}
-use Rattle.def_shares.specs.Laws.{IsWithinOne}
-use Rattle.def_shares.proofs.SharesLaws.{in_proportion, before_add_up, own_weights}
+use Rattle.def_round.specs.Shares.{weight_sum, weights_or_ones, shares}
+use Rattle.def_round.specs.ShareLaws.{IsWithinOne}
+use Rattle.def_round.proofs.SharesLaws.{in_proportion, before_add_up, own_weights}
 use Rattle.def_round.specs.Play.{units, positive_part, regret_of, play_of}
 use Rattle.def_round.specs.Laws.{PlaysAreInProportion}
 use Rattle.def_round.proofs.Plays.{sum_of_map, plays_each_set}

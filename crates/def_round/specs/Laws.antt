@@ -7,8 +7,8 @@ use Rattle.def_plan.specs.Form.{InformationSet, PlacedSet, placed, sequences_of,
 use Rattle.def_plan.specs.Plan.{IsPlan, cleared}
 use Rattle.def_plan.specs.Payoff.{AgreeOn, worth, gain, pay}
 use Rattle.def_tree.specs.declared.Player.TheVariants.{One, Two}
-use Rattle.def_shares.specs.Shares.{shares}
-use Rattle.def_shares.specs.Laws.{IsWithinOne}
+use Rattle.def_round.specs.Shares.{shares}
+use Rattle.def_round.specs.ShareLaws.{IsWithinOne}
 use Rattle.def_round.specs.Play.{units, positive_part, regret_of, regret_sum, IsSequenceOf, set_play, play_of, GivesAllUnits, plan_of_play}
 use Rattle.def_round.specs.Round.{own_sum, set_value, AreValues, values_from, round_values, IsRound, regrets_after}
 use Rattle.def_round.specs.Rounds.{Standing, rounds}

@@ -1,7 +1,9 @@
+pub mod Shares
+pub mod ShareLaws
 pub mod Play
 pub mod Round
 pub mod Rounds
 pub mod Laws
-pub mod Games
 pub mod Sizes
 pub mod SizeLaws
+pub mod HiddenRounds

@@ -5,7 +5,7 @@ use Rattle.std.specs.Prelude.{◌≡◌, ℕ, ◌+◌, ◌≤◌, ◌<◌, ℤ, 
 use Rattle.def_sums.specs.Sum.{nat_sum_over}
 use Rattle.def_plan.specs.Form.{InformationSet, PlacedSet, placed, sequences_of}
 use Rattle.def_plan.specs.Plan.{dealt}
-use Rattle.def_shares.specs.Shares.{shares}
+use Rattle.def_round.specs.Shares.{shares}
 
 -- a set is played in units of 1 / 65,536
 abbrev pub units : ℕ

@@ -1,6 +1,9 @@
-//! Plays, rounds and the fold over rounds. There is no code here; each function's contract is a law or a worked row.
+//! Shares of whole units, plays by regret matching in whole units, and the rounds that they are dealt in. There is no
+//! code here; each function's contract is a law or a worked row.
 #![tactic(auto)]
 
+pub mod examples;
+pub mod shares;
 pub mod sizes;
 
 ghost use Rattle.std.specs.Prelude.{◌≡◌, ◌==◌, [], ◌∷◌, pos, negsuc, if◌then◌else◌};
@@ -9,7 +12,7 @@ ghost use Rattle.def_round.specs.Laws.{OwnSumsGainWhatIsPaid, PlansOfPlaysAreUni
 ghost use Rattle.def_round.specs.Play.{play_of, plan_of_play};
 ghost use Rattle.def_round.specs.Round.{set_value};
 ghost use Rattle.def_round.specs.Rounds.{rounds};
-ghost use Rattle.def_round.specs.Games.{three_actions, one_mover};
+ghost use Rattle.def_plan.specs.SmallForms.{three_actions, one_mover};
 
 /// A play has a number for each sequence, and at each set the shares of the positive parts of the regrets.
 pub fn plays_have_each_set()

@@ -7,14 +7,14 @@ use Rattle.def_plan.specs.Plan.{IsPlan, pure_plan}
 use Rattle.def_reply.specs.Reply.{best_reply_to, choices_of}
 use Rattle.def_reply.specs.Bounds.{IsBestAgainst, IsLeft}
 use Rattle.def_reply.proofs.BoundLaws.{floors_below}
-use Rattle.def_bracket.specs.Bracket.{Evaluation, BracketEnds, ends_of, trace, evaluated_rounds}
-use Rattle.def_bracket.specs.Laws.{RoundsRise}
-use Rattle.def_bracket.specs.Offers.{Offer, evaluation_of_offer, KeptEnd, lower_of, upper_of, board_after}
-use Rattle.def_bracket.specs.Outcome.{OutcomeEnds}
-use Rattle.def_bracket.specs.OfferLaws.{ComesFrom}
-use Rattle.def_bracket.proofs.EvaluatedRounds.{rounds as rounds_evaluated}
-use Rattle.def_bracket.proofs.TraceLines.{trace_lines, never_widens, trace_looks_back}
-use Rattle.def_bracket.proofs.KeptEnds.{offers_are_traced, offers_keep_the_ends}
+use Rattle.def_reply.specs.Bracket.{Evaluation, BracketEnds, ends_of, trace, evaluated_rounds}
+use Rattle.def_reply.specs.BracketLaws.{RoundsRise}
+use Rattle.def_reply.specs.Offers.{Offer, evaluation_of_offer, KeptEnd, lower_of, upper_of, board_after}
+use Rattle.def_reply.specs.Outcome.{OutcomeEnds}
+use Rattle.def_reply.specs.OfferLaws.{ComesFrom}
+use Rattle.def_reply.proofs.EvaluatedRounds.{rounds as rounds_evaluated}
+use Rattle.def_reply.proofs.TraceLines.{trace_lines, never_widens, trace_looks_back}
+use Rattle.def_reply.proofs.KeptEnds.{offers_are_traced, offers_keep_the_ends}
 use Rattle.def_run.specs.Run.{reply_to, evaluation, evaluations, offer_after, offers, run_end, both_ends}
 use Rattle.def_run.specs.Laws.{TraceOfRunNeverWidens, TraceOfRunLooksBack, plan_at_lower, plan_at_upper, GapOfRunIsExploitability, EndsBoundAllPlans, OffersOfRunAreFair, OutcomesShowTheirRun, HasPlansOf}
 use Rattle.def_run.proofs.RunLaws.{rounds_of, evaluations_are_bounds, ends_are_of_their_rounds}

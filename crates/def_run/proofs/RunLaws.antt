@@ -8,10 +8,10 @@ use Rattle.def_plan.specs.Form.{SequenceForm}
 use Rattle.def_reply.proofs.BoundLaws.{best_bounds, floors_below}
 use Rattle.def_round.specs.Rounds.{rounds}
 use Rattle.def_round.proofs.Sums.{rounds_sum_to_plans}
-use Rattle.def_bracket.specs.Bracket.{Evaluation, BracketEnds, ends_of, evaluated_rounds}
-use Rattle.def_bracket.specs.Laws.{HaveDivisors, DivideByRounds}
-use Rattle.def_bracket.proofs.BestEnds.{best_ends}
-use Rattle.def_bracket.proofs.EvaluatedRounds.{rounds as rounds_evaluated}
+use Rattle.def_reply.specs.Bracket.{Evaluation, BracketEnds, ends_of, evaluated_rounds}
+use Rattle.def_reply.specs.BracketLaws.{HaveDivisors, DivideByRounds}
+use Rattle.def_reply.proofs.BestEnds.{best_ends}
+use Rattle.def_reply.proofs.EvaluatedRounds.{rounds as rounds_evaluated}
 use Rattle.def_run.specs.Run.{evaluation, evaluations}
 use Rattle.def_run.specs.Laws.{EvaluationsAreBounds, IsOfItsRound, EndsAreOfTheirRounds, RunsHaveEnds, EndsAreInOrder}
 

@@ -7,10 +7,10 @@ use Rattle.def_plan.specs.Plan.{IsPlan, pure_plan}
 use Rattle.def_reply.specs.Reply.{choices_of, best_reply_to}
 use Rattle.def_reply.specs.Bounds.{IsFloor, IsCeiling, AttainsFloor, AttainsCeiling, IsExploitability}
 use Rattle.def_round.specs.Rounds.{rounds}
-use Rattle.def_bracket.specs.Bracket.{Evaluation, BracketEnds, ends_of, TraceLine, trace, LiesWithin}
-use Rattle.def_bracket.specs.Laws.{LooksBack}
-use Rattle.def_bracket.specs.Offers.{IsFair}
-use Rattle.def_bracket.specs.Outcome.{Head, OutcomeEnds}
+use Rattle.def_reply.specs.Bracket.{Evaluation, BracketEnds, ends_of, TraceLine, trace, LiesWithin}
+use Rattle.def_reply.specs.BracketLaws.{LooksBack}
+use Rattle.def_reply.specs.Offers.{IsFair}
+use Rattle.def_reply.specs.Outcome.{Head, OutcomeEnds}
 use Rattle.def_run.specs.Run.{reply_to, evaluation, evaluations, offer_after, outcome}
 
 -- after at least one round, both sums are plans, and the evaluation has the attained floor of the one and the attained

@@ -7,9 +7,9 @@ use Rattle.def_plan.specs.Form.{SequenceForm, player_sets}
 use Rattle.def_plan.specs.Payoff.{leaf_sum}
 use Rattle.def_reply.specs.Reply.{SetReply, best_reply, total, best_reply_to}
 use Rattle.def_round.specs.Rounds.{Standing, rounds}
-use Rattle.def_bracket.specs.Bracket.{Evaluation, evaluated_rounds}
-use Rattle.def_bracket.specs.Offers.{Offer, KeptEnd, Board, board_after}
-use Rattle.def_bracket.specs.Outcome.{Head, End, OutcomeEnds, Outcome}
+use Rattle.def_reply.specs.Bracket.{Evaluation, evaluated_rounds}
+use Rattle.def_reply.specs.Offers.{Offer, KeptEnd, Board, board_after}
+use Rattle.def_reply.specs.Outcome.{Head, End, OutcomeEnds, Outcome}
 
 -- a player's best reply to a plan of the other player, and its total
 abbrev pub reply_to : SequenceForm → Player → List ℕ → List SetReply

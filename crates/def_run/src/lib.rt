@@ -1,12 +1,14 @@
-//! A run: its rounds, their evaluations and the bracket. There is no code here; each function's contract is a law or
-//! worked rows.
+//! A run: its rounds, their evaluations and the bracket, with rows of example games. There is no code here; each
+//! function's contract is a law or worked rows.
 #![tactic(auto)]
+
+pub mod examples;
 
 ghost use Rattle.std.specs.Prelude.{◌≡◌, [], ◌∷◌, Some, pos, negsuc};
 ghost use Rattle.def_plan.specs.Pennies.{pennies};
-ghost use Rattle.def_round.specs.Games.{one_mover};
-ghost use Rattle.def_bracket.specs.Bracket.{trace};
-ghost use Rattle.def_bracket.specs.Offers.{board_after};
+ghost use Rattle.def_plan.specs.SmallForms.{one_mover};
+ghost use Rattle.def_reply.specs.Bracket.{trace};
+ghost use Rattle.def_reply.specs.Offers.{board_after};
 ghost use Rattle.def_run.specs.Run.{evaluations, offers};
 ghost use Rattle.def_run.specs.Laws.{EndsAreInOrder, EndsAreOfTheirRounds, EndsBoundAllPlans, EvaluationsAreBounds, GapOfRunIsExploitability, OffersOfRunAreFair, OutcomesShowTheirRun, RunsHaveEnds, TraceOfRunLooksBack, TraceOfRunNeverWidens};
 

@@ -1,5 +1,8 @@
-//! The information sets of a game's tree, its sequence form, and its list of leaves.
+//! The information sets of a game's tree, its sequence form, its list of leaves, and example games as trees. There is
+//! no code here; each function's contract is a law or a worked row.
 #![tactic(auto)]
+
+pub mod examples;
 
 ghost use Rattle.def_sequence_form.specs.Laws.{FormHasTheLeafList, FormHasTheMass, FormIsInOrder, FormNumbersAsTheTree};
 ghost use Rattle.def_sequence_form.specs.Laws.{SetsAreExact, SetsHaveTheirNodes, TreeSetsTellNodes};

@@ -1,21 +1,22 @@
 -- The limits of a game and of a run, on which the fixed widths of numbers rest.
 use Rattle.std.specs.Prelude.{ℕ, ◌*◌, ◌^◌}
+use Rattle.def_sums.specs.declared.TheConstants.{LEAST_CARDS, MOST_CARDS, MOST_MASS, MOST_ROOT, MOST_ROUNDS, MOST_SCALE, MOST_STRIPES, MOST_WORKERS}
 
 -- the sizes of all weights of a game together
 abbrev pub most_mass : ℕ
-most_mass = 2 ^ 62
+most_mass = MOST_MASS
 
 -- the rounds of a run
 abbrev pub most_rounds : ℕ
-most_rounds = 65536
+most_rounds = MOST_ROUNDS
 
 -- the scale, which is the root of each round's plans
 abbrev pub most_scale : ℕ
-most_scale = 1048576
+most_scale = MOST_SCALE
 
 -- the root of a sum of plans
 abbrev pub most_root : ℕ
-most_root = most_rounds * most_scale
+most_root = MOST_ROOT
 
 -- the sizes of a round's leaf sums together, and what a regret grows by in a round: the mass times the scale
 abbrev pub most_round_row : ℕ
@@ -27,19 +28,19 @@ most_row = most_mass * most_root
 
 -- the workers of a run
 abbrev pub most_workers : ℕ
-most_workers = 64
+most_workers = MOST_WORKERS
 
 -- the stripes of the rows that workers add into
 abbrev pub most_stripes : ℕ
-most_stripes = 64
+most_stripes = MOST_STRIPES
 
 -- the cards of one-card poker, from the least
 abbrev pub least_cards : ℕ
-least_cards = 2
+least_cards = LEAST_CARDS
 
 -- to the most
 abbrev pub most_cards : ℕ
-most_cards = 64
+most_cards = MOST_CARDS
 
 -- The room for numbers in words of the code, which all that is within the limits has.
 

@@ -1,8 +1,33 @@
 //! Sums over lists, the signed numbers as a ring, and division that rounds down: what the definitions of the solver
-//! stand on. There is no code here; each function's contract is a law.
+//! stand on; and the limits of a run, each once: `specs/Limits` cites them. There is no code here; each function's
+//! contract is a law.
 #![tactic(auto)]
 
 ghost use Rattle.def_sums.specs.Laws.{RingLaws, OrderLaws, SizeLaws, SumLaws, FloorLaws};
+
+/// The greatest mass of a game: the sizes of all its weights together.
+pub const MOST_MASS: u64 = 1 << 62;
+
+/// The most rounds of a run, and rounds between evaluations.
+pub const MOST_ROUNDS: u32 = 65_536;
+
+/// The greatest scale, which is the root of each round's plans.
+pub const MOST_SCALE: u32 = 1_048_576;
+
+/// The greatest root of a sum of plans.
+pub const MOST_ROOT: u64 = MOST_ROUNDS as u64 * MOST_SCALE as u64;
+
+/// The most workers of a run.
+pub const MOST_WORKERS: u32 = 64;
+
+/// The most stripes of the rows that workers add into.
+pub const MOST_STRIPES: u32 = 64;
+
+/// The fewest cards of one-card poker.
+pub const LEAST_CARDS: u32 = 2;
+
+/// The most cards of one-card poker.
+pub const MOST_CARDS: u32 = 64;
 
 /// Signed numbers are a commutative ring: sums and products group and commute, 0 and 1 change nothing, each number has
 /// its negative, and a product spreads over a sum.

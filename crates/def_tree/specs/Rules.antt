@@ -5,16 +5,17 @@
 --     IsGameTree t          a tree that keeps the rules, within the limit of nodes
 --     most_actions, most_nodes     the limits: a set's actions, a tree's nodes. Both are this project's own
 use Rattle.std.specs.Prelude.{◌≡◌, ◌↔◌, ℕ, ◌+◌, ◌<◌, ◌≤◌, Bool, true, false, if◌then◌else◌, max, List, [], ◌∷◌, length, take, slice_index_or, All, AllPairs, Contains}
+use Rattle.def_tree.specs.declared.TheConstants.{MOST_ACTIONS, MOST_NODES}
 use Rattle.def_tree.specs.declared.Kind.{Kind}
 use Rattle.def_tree.specs.declared.Kind.TheVariants.{Chance, One, Two, Leaf}
 use Rattle.def_tree.specs.declared.Node.{Node}
 use Rattle.def_tree.specs.Tree.{Forest, forest_of, prefix, node_count, IsTree}
 
 abbrev pub most_actions : ℕ
-most_actions = 1024
+most_actions = MOST_ACTIONS
 
 abbrev pub most_nodes : ℕ
-most_nodes = 1048576
+most_nodes = MOST_NODES
 
 abbrev pub is_same_kind : Kind → Kind → Bool
 is_same_kind Chance Chance = true
@@ -94,7 +95,7 @@ matching_pennies = forest_of (inner_node One 1 2 ∷ inner_node Two 1 2 ∷ leaf
 -- a first node has 1 to 1,024 children; after it come a node of its set with as many, one of the next set, and one of
 -- another kind's first set; a leaf has no set and no children
 pub record RuleRows : Type 0 where
-  pub first : (n : ℕ) → Fits [] (inner_node Chance 1 n) ↔ ((1 ≤ n) × (n ≤ most_actions))
+  pub first : (n : ℕ) → Fits [] (inner_node Chance 1 n) ↔ ((1 ≤ n) × (n ≤ 1024))
   pub first_set : ¬ (Fits [] (inner_node Chance 2 2))
   pub set_zero : ¬ (Fits [] (inner_node Chance 0 2))
   pub same_set : (n : ℕ) → Fits (inner_node One 1 2 ∷ []) (inner_node One 1 n) ↔ (n ≡ 2)
@@ -103,4 +104,4 @@ pub record RuleRows : Type 0 where
   pub other_kind : Fits (inner_node One 1 2 ∷ []) (inner_node Two 1 3)
   pub other_kinds_next : ¬ (Fits (inner_node One 1 2 ∷ []) (inner_node Two 2 2))
   pub leaf : (set children : ℕ) → Fits [] (inner_node Leaf set children) ↔ ((set ≡ 0) × (children ≡ 0))
-  pub nodes : (tree : Forest) → IsTree tree → KeepRules (prefix tree) → IsGameTree tree ↔ (node_count tree ≤ most_nodes)
+  pub nodes : (tree : Forest) → IsTree tree → KeepRules (prefix tree) → IsGameTree tree ↔ (node_count tree ≤ 1048576)

@@ -6,6 +6,12 @@ ghost use Rattle.def_tree.specs.Outcomes.{EachOutcomeAppears};
 ghost use Rattle.def_tree.specs.Rules.{EachSetAppears, RuleRows, SetsAgreeOnSize};
 ghost use Rattle.def_tree.specs.Tree.{ForestOfPrefix, PrefixOfForest, WholeIffTree};
 
+/// The greatest number of actions of a set, and so of children of a node.
+pub const MOST_ACTIONS: u32 = 1_024;
+
+/// The greatest number of nodes of a tree.
+pub const MOST_NODES: usize = 1_048_576;
+
 /// One of the two players. Player one is paid, and player two pays.
 #[derive(Clone, Copy, Debug, PartialEq, Eq)]
 pub enum Player {

@@ -8,9 +8,9 @@ use Rattle.def_history.specs.History.{times, job_numbers}
 use Rattle.def_history.specs.Core.{Right, rights_of, times_right, TakesJob, GivesRight}
 use Rattle.def_history.proofs.Counts.{one_if, times_right-cons, times_right-rights_of, times_from_Contains}
 use Rattle.def_history.proofs.Locks.{counts_tell_rights}
-use Rattle.xg_rights.specs.declared.view.View.{View}
-use Rattle.xg_rights.specs.Rights.{job_count_of, rights_for, rights_at, seen, stripes_of, once, whole_view, IsCutInTwo, IsLoaded}
-use Rattle.xg_rights.proofs.Sums.{times_append, times_for, times_at}
+use Rattle.xg_locked.specs.declared.view.View.{View}
+use Rattle.xg_locked.specs.Rights.{job_count_of, rights_for, rights_at, seen, stripes_of, once, whole_view, IsCutInTwo, IsLoaded}
+use Rattle.xg_locked.proofs.Sums.{times_append, times_for, times_at}
 use Rattle.xg_rowcore.proofs.Histories.{times-push}
 use Rattle.xg_locked.specs.Locked.{without}
 

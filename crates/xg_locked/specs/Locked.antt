@@ -3,8 +3,8 @@ use Rattle.std.specs.Prelude.{◌≡◌, ℕ, ◌<◌, ◌==◌, ◌&&◌, if◌
 use Rattle.atomic_table.specs.Table.{Me}
 use Rattle.atomic_table.specs.Seated.{TableId}
 use Rattle.def_history.specs.Core.{Right}
-use Rattle.xg_rights.specs.declared.view.View.{View}
-use Rattle.xg_rights.specs.Rights.{job_count_of, rights_at, rights_for, seen, stripes_of}
+use Rattle.xg_locked.specs.declared.view.View.{View}
+use Rattle.xg_locked.specs.Rights.{job_count_of, rights_at, rights_for, seen, stripes_of}
 use Rattle.xg_rowcore.specs.Stripes.{StripeHistory}
 
 -- the number of jobs and stripes that a seat has met

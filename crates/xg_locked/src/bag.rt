@@ -1,14 +1,17 @@
+//! The bag of the jobs that nobody has drawn.
 ghost use Rattle.std.specs.Prelude.{◌≡◌, ◌<◌, ◌+◌, ◌-◌, ◌++◌, [], ◌∷◌, IfOk, IfSome, IfNone};
 ghost use Rattle.std.specs.List.{range_with_len};
 ghost use Rattle.def_sums.specs.Limits.{most_workers};
 ghost use Rattle.def_history.specs.History.{job_numbers};
 ghost use Rattle.def_history.specs.Core.{TakesJob, rights_of};
-ghost use Rattle.xg_rights.specs.Rights.{job_count_of, rights_for, seen, stripes_of, whole_view};
+ghost use Rattle.xg_locked.specs.Rights.{job_count_of, rights_for, seen, stripes_of, whole_view};
 ghost use Rattle.xg_locked.specs.Locked.{IsBag, number_met};
 
+use crate::rule::Cut;
+use crate::steps::{RightsSeat, SharedRights, cut, meet};
+use crate::view::View;
 use std::alloc::{AllocError, Global};
 use std::marker::{Brand, PhantomData};
-use xg_rights::{Cut, RightsSeat, SharedRights, View, cut, meet};
 use xg_rowcore::RowName;
 
 /// The jobs that nobody has drawn, and a seat with their rights.

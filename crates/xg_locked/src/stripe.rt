@@ -1,13 +1,16 @@
+//! A stripe with its seat of rights.
 ghost use Rattle.std.specs.Prelude.{◌≡◌, ◌<◌, ◌≤◌, ◌+◌, ◌-◌, ◌++◌, [], ◌∷◌, length, drop, IfOk};
 ghost use Rattle.def_history.specs.Core.{GivesRight, times_right};
 ghost use Rattle.def_history.specs.Packets.{IsPacketOf};
-ghost use Rattle.xg_rights.specs.Rights.{rights_at, seen, stripes_of};
+ghost use Rattle.xg_locked.specs.Rights.{rights_at, seen, stripes_of};
 ghost use Rattle.xg_rowcore.specs.Stripes.{with_job};
 ghost use Rattle.xg_locked.specs.Locked.{IsSeated, number_met, without};
 
+use crate::rule::Cut;
+use crate::steps::{RightsSeat, SharedRights, cut, meet};
+use crate::view::View;
 use std::alloc::{AllocError, Global};
 use std::marker::Brand;
-use xg_rights::{Cut, RightsSeat, SharedRights, View, cut, meet};
 use xg_rowcore::{Packet, RowName, Stripe};
 
 /// A stripe, and a seat with the rights that were given up for it: exactly those of the jobs that were added.

@@ -1,6 +1,6 @@
 use Rattle.std.proofs.Common.{◌≡◌, ◌++◌, [], ◌∷◌, ap, rules}
 use Rattle.def_history.specs.Core.{rights_of}
-use Rattle.xg_rights.specs.Rights.{stripes_of}
+use Rattle.xg_locked.specs.Rights.{stripes_of}
 use Rattle.xg_locked.specs.Locked.{number_met}
 use Rattle.xg_locked.proofs.RightsMoveUnderLocks.{takes_job}
 use Rattle.xg_locked.proofs.bag.Bag.draw.Goals as goal

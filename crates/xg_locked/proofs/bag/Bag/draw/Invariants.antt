@@ -1,6 +1,6 @@
 use Rattle.std.proofs.Common.{[]}
 use Rattle.def_history.specs.Core.{rights_of}
-use Rattle.xg_rights.specs.Rights.{rights_for, seen, stripes_of}
+use Rattle.xg_locked.specs.Rights.{rights_for, seen, stripes_of}
 use Rattle.xg_locked.specs.Locked.{number_met}
 use Rattle.xg_locked.proofs.bag.Bag.draw.Given as goal
 

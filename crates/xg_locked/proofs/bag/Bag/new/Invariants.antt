@@ -1,6 +1,6 @@
 use Rattle.std.proofs.Common.{[], ◌+◌}
 use Rattle.def_history.specs.History.{job_numbers}
-use Rattle.xg_rights.specs.Rights.{job_count_of, rights_for, seen, stripes_of}
+use Rattle.xg_locked.specs.Rights.{job_count_of, rights_for, seen, stripes_of}
 use Rattle.xg_locked.proofs.bag.Bag.new.Given as goal
 
 abbrev pub ghosts-give_all : goal.ghosts-give_all

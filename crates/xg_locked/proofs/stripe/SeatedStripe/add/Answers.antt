@@ -1,6 +1,6 @@
 use Rattle.std.proofs.Common.{◌≡◌, [], ap, ◌∙◌, subst}
-use Rattle.xg_rights.specs.declared.view.View.{View}
-use Rattle.xg_rights.specs.Rights.{seen, IsLoaded}
+use Rattle.xg_locked.specs.declared.view.View.{View}
+use Rattle.xg_locked.specs.Rights.{seen, IsLoaded}
 use Rattle.xg_rowcore.specs.Stripes.{StripeHistory}
 use Rattle.xg_locked.specs.Locked.{without}
 use Rattle.xg_locked.proofs.RightsMoveUnderLocks.{gives_right, opened, job_is_new}

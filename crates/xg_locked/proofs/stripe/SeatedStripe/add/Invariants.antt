@@ -1,5 +1,5 @@
 use Rattle.std.proofs.Common.{[], ◌∷◌, ◌++◌, drop, length}
-use Rattle.xg_rights.specs.Rights.{rights_at, seen}
+use Rattle.xg_locked.specs.Rights.{rights_at, seen}
 use Rattle.xg_locked.specs.Locked.{number_met, without}
 use Rattle.xg_locked.proofs.stripe.SeatedStripe.add.Given as goal
 

@@ -1,3 +1,0 @@
-mod Exploitability
-mod Sharp
-mod Successes

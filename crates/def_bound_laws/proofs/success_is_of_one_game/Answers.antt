@@ -1,5 +1,0 @@
-use Rattle.def_bound_laws.proofs.Successes.{of_one_game}
-use Rattle.def_bound_laws.proofs.success_is_of_one_game.Goals as goal
-
-pub returns : goal.returns
-returns c = of_one_game

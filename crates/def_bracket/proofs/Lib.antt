@@ -1,5 +1,0 @@
-pub mod Compares
-pub mod BestEnds
-pub mod TraceLines
-pub mod EvaluatedRounds
-pub mod KeptEnds

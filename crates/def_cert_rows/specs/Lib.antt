@@ -1,5 +1,0 @@
-pub mod Changes
-pub mod Hidden
-pub mod Pennies
-pub mod Kuhn
-pub mod OneMover

@@ -1,0 +1,25 @@
+//! Which files are accepted, with which game, and what the others are refused with. There is no code here: the
+//! functions' contracts are laws of the definitions, which stand in `specs/`.
+
+ghost use Rattle.def_check.specs.FileLaws.{AcceptedGamesAreSound, AcceptedWithoutFault, ReadingIsExact};
+ghost use Rattle.def_check.specs.FileLaws.{RefusedWithTheFirst};
+
+/// A file can't be read exactly where its length or its text has a fault, and else stands for its game.
+pub fn reading_is_exact()
+    ensures { ReadingIsExact }
+{}
+
+/// A file is refused exactly with its first fault, where its length counts first, then its text, then its game.
+pub fn refused_with_the_first()
+    ensures { RefusedWithTheFirst }
+{}
+
+/// A file is accepted with a game exactly where it isn't too long, stands for that game, and this has no fault.
+pub fn accepted_without_fault()
+    ensures { AcceptedWithoutFault }
+{}
+
+/// An accepted file's game is sound: probabilities, zero sum, unit and mass within the limit, perfect recall.
+pub fn accepted_games_are_sound()
+    ensures { AcceptedGamesAreSound }
+{}

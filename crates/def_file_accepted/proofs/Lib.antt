@@ -1,3 +1,0 @@
-pub mod Refused
-pub mod Accepted
-pub mod InNumbers

@@ -1,4 +1,0 @@
-pub mod Entries
-pub mod EntryRules
-pub mod Laws
-pub mod Rows

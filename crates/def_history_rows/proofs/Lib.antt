@@ -1,3 +1,0 @@
-pub mod JobRows
-pub mod Amounts
-pub mod JobPackets

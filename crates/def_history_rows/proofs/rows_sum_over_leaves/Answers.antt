@@ -1,5 +1,0 @@
-use Rattle.def_history_rows.proofs.JobRows.{rows_sum_over_leaves}
-use Rattle.def_history_rows.proofs.rows_sum_over_leaves.Goals as goal
-
-pub returns : goal.returns
-returns c = rows_sum_over_leaves

@@ -1,3 +1,0 @@
-pub mod JobRows
-pub mod Laws
-pub mod JobPackets

@@ -1,0 +1,9 @@
+-- A game in numbers.
+use Rattle.std.specs.Prelude.{ℕ}
+use Rattle.def_plan.specs.Form.{SequenceForm}
+
+-- how many nodes its tree has, and its sequence form with the unit of its weights
+pub record WeighedGame : Type 0 where
+  pub nodes : ℕ
+  pub unit : ℕ
+  pub form : SequenceForm

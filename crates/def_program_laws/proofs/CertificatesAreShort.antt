@@ -1,0 +1,168 @@
+-- No accepted certificate is too long.
+use Rattle.std.proofs.Common.{◌≡◌, ℕ, ◌+◌, ◌-◌, ◌*◌, ◌^◌, ◌<◌, ◌≤◌, List, [], ◌∷◌, ◌++◌, length, get_or, All, refl, ap, arith}
+use Rattle.std.specs.Prelude.{codes}
+use Rattle.std.proofs.Math.Nat.{div-le_self}
+use Rattle.std.proofs.lemmas.List.{length-append}
+use Rattle.def_sums.specs.Sum.{nat_sum_over}
+use Rattle.def_sums.proofs.SumLaws.{nat_sum_over-bounded}
+use Rattle.def_plan.specs.Form.{InformationSet, sequence_count}
+use Rattle.def_plan.specs.Plan.{IsPlan}
+use Rattle.def_reply.specs.Reply.{Reply, SetReply}
+use Rattle.def_reply.specs.Bracket.{TraceLine}
+use Rattle.def_reply.specs.Outcome.{Head}
+use Rattle.def_cert_verdict.specs.Certificate.{PrintedPlan, PrintedBounds, joined, printed_numbers}
+use Rattle.def_plan.specs.Weighed.{WeighedGame}
+use Rattle.def_cert_verdict.specs.Verdict.{Verdict, bracket, head_only}
+use Rattle.def_cert_verdict.specs.Laws.{with_bounds, without_bounds}
+use Rattle.def_cert_verdict.specs.Ranges.{HeadFits, TraceFits, PlanFits, ReplyFits, BoundsFit}
+use Rattle.def_cert_text.specs.CertText.{head_lines, line_of_round, round_of_evaluation, trace_lines, weights_line, plan_lines, value_line, reply_lines, bracket_line, bounds_lines, whole_certificate, cert_text}
+use Rattle.def_cert_text.proofs.TextLines.{end_items}
+use Rattle.def_check.specs.Check.{most_cert_bytes}
+use Rattle.def_check.specs.Shown.{Shows}
+use Rattle.def_check.proofs.Checked.{checks_show}
+use Rattle.def_game_numbers.specs.Weighed.{weighed_game}
+use Rattle.def_program_laws.specs.SolveLaws.{AcceptedTextsAreShort}
+use Rattle.def_program_laws.proofs.CertificateLineWidths.{few_digits, few_signed, widths, widths-append, text_width, each_width, head_width, HasSmallNumbers, trace_line_width, weights_width, value_width, bracket_width}
+
+-- ---- the trace
+small_lines : (head : Head) (lines : List TraceLine) → HeadFits head → TraceFits head lines
+    → All HasSmallNumbers lines
+small_lines head lines fits trace k line low =
+    let at = trace.each k line low in
+    record {
+      round = omega (arith, at.round, fits.rounds);
+      low_round = omega (arith, at.low_round.1, at.round, fits.rounds);
+      low = at.low;
+      high_round = omega (arith, at.high_round.1, at.round, fits.rounds);
+      high = at.high;
+    }
+
+abbrev line_size : TraceLine → ℕ
+line_size line = 90
+
+trace_width : (head : Head) (lines : List TraceLine) → HeadFits head → TraceFits head lines
+    → widths ((trace_lines head).items lines) ≤ 131071 * 90
+trace_width head lines fits trace =
+    let few : length lines ≤ 131071 =
+    omega (arith, trace.count, div-le_self (head.rounds + head.every - 1) head.every, fits.rounds, fits.every.1) in
+    omega (
+      arith,
+      few,
+      each_width TraceLine (λ k. line_of_round (round_of_evaluation head k)) line_size (length lines) 1 lines
+          (omega arith) (λ k line low j up. trace_line_width (round_of_evaluation head j) (get_or lines k line)
+          (small_lines head lines fits trace k line low)),
+      nat_sum_over-bounded line_size 90 lines (λ k line low. omega arith),
+    )
+
+-- ---- plans and replies
+abbrev weights_size : List ℕ → ℕ
+weights_size ws = 16 + 12 * length ws
+
+weights_sizes : (wss : List (List ℕ)) → nat_sum_over weights_size wss ≡ 16 * length wss + 12 * length (joined wss)
+weights_sizes [] = refl
+weights_sizes (ws ∷ wss) = omega (arith, weights_sizes wss, length-append ws (joined wss))
+
+-- a plan has a number for each sequence
+few_weights : (sets : List InformationSet) (plan : PrintedPlan) → IsPlan sets plan.root (printed_numbers plan)
+    → sequence_count sets ≤ 2 ^ 20 → length (joined plan.weights) ≤ 2 ^ 20
+few_weights sets plan is few = omega (arith, is.all_sequences, few)
+
+plan_width : (player : List ℕ) (sets : ℕ) (plan : PrintedPlan) → length player ≡ 1 → sets ≤ 2 ^ 20 → PlanFits sets plan
+    → length (joined plan.weights) ≤ 2 ^ 20 → widths ((plan_lines player sets).items plan) ≤ 19 + 28 * 2 ^ 20
+plan_width player sets plan one small fits few =
+    omega (
+      arith,
+      one,
+      small,
+      few,
+      few_digits 11 plan.root (omega arith) (omega (arith, fits.root.1)) (omega (arith, fits.root.1)),
+      fits.count,
+      each_width (List ℕ) weights_line weights_size sets 1 plan.weights (omega (arith, fits.count))
+          (λ k ws low j up. weights_width j (get_or plan.weights k ws) (omega (arith, up, small)) (fits.each k ws low)),
+      weights_sizes plan.weights,
+    )
+
+abbrev value_size : SetReply → ℕ
+value_size reply = 52
+
+reply_width : (player : List ℕ) (sets : ℕ) (reply : Reply) → length player ≡ 1 → sets ≤ 2 ^ 20 → ReplyFits sets reply
+    → widths ((reply_lines player sets).items reply) ≤ 41 + 52 * 2 ^ 20
+reply_width player sets reply one small fits =
+    omega (
+      arith,
+      one,
+      small,
+      few_signed reply.total fits.total,
+      fits.count,
+      each_width SetReply value_line value_size sets 1 reply.sets (omega (arith, fits.count))
+          (λ k r low j up. value_width j (get_or reply.sets k r) (omega (arith, up, small)) (fits.values k r low)
+          (fits.choices k r low).1),
+      nat_sum_over-bounded value_size 52 reply.sets (λ k r low. omega arith),
+    )
+
+-- ---- all of it
+bounds_width : (head : Head) (b : PrintedBounds) → HeadFits head → BoundsFit head b
+    → length (joined b.plan_one.weights) ≤ 2 ^ 20 → length (joined b.plan_two.weights) ≤ 2 ^ 20
+    → widths ((bounds_lines head).items b) ≤ 180000000
+bounds_width head b fits below few_one few_two =
+    let trace = (trace_lines head).items b.trace in
+    let plan_one = (plan_lines (codes "1") head.sets_one).items b.plan_one in
+    let reply_two = (reply_lines (codes "2") head.sets_two).items b.reply_two in
+    let plan_two = (plan_lines (codes "2") head.sets_two).items b.plan_two in
+    let reply_one = (reply_lines (codes "1") head.sets_one).items b.reply_one in
+    let last = bracket_line.items (b.low, b.high) in
+    omega (
+      arith,
+      widths-append trace (plan_one ++ (reply_two ++ (plan_two ++ (reply_one ++ last)))),
+      widths-append plan_one (reply_two ++ (plan_two ++ (reply_one ++ last))),
+      widths-append reply_two (plan_two ++ (reply_one ++ last)),
+      widths-append plan_two (reply_one ++ last),
+      widths-append reply_one last,
+      trace_width head b.trace fits below.trace,
+      plan_width (codes "1") head.sets_one b.plan_one refl fits.sets_one below.plan_one few_one,
+      reply_width (codes "2") head.sets_two b.reply_two refl fits.sets_two below.reply_two,
+      plan_width (codes "2") head.sets_two b.plan_two refl fits.sets_two below.plan_two few_two,
+      reply_width (codes "1") head.sets_one b.reply_one refl fits.sets_one below.reply_one,
+      bracket_width b.low b.high below.low below.high,
+    )
+
+head_alone_short : (head : Head) → HeadFits head → length (cert_text (without_bounds head)) < most_cert_bytes
+head_alone_short head fits =
+    omega (
+      arith,
+      text_width (whole_certificate.items (without_bounds head)),
+      head_width head fits,
+      widths-append (head_lines.items head) end_items,
+    )
+
+with_bounds_short : (head : Head) (b : PrintedBounds) → HeadFits head → BoundsFit head b
+    → length (joined b.plan_one.weights) ≤ 2 ^ 20 → length (joined b.plan_two.weights) ≤ 2 ^ 20
+    → length (cert_text (with_bounds head b)) < most_cert_bytes
+with_bounds_short head b fits below few_one few_two =
+    omega (
+      arith,
+      text_width (whole_certificate.items (with_bounds head b)),
+      head_width head fits,
+      widths-append (head_lines.items head) ((bounds_lines head).items b ++ end_items),
+      widths-append ((bounds_lines head).items b) end_items,
+      bounds_width head b fits below few_one few_two,
+    )
+
+shown_short : (game : WeighedGame) (bytes : List ℕ) (shown : Verdict) → Shows game bytes shown
+    → length bytes < most_cert_bytes
+shown_short game bytes head_only shows =
+    omega (arith, ap length shows.text, head_alone_short shows.head shows.fits.head)
+shown_short game bytes (bracket low high) shows =
+    let fits = shows.fits in
+    let b = shows.bounds in
+    let few_one = few_weights game.form.sets_one b.plan_one shows.shows.plan_one
+    (omega (arith, shows.head_is.sequences_one, fits.head.sequences_one.1)) in
+    let few_two = few_weights game.form.sets_two b.plan_two shows.shows.plan_two
+    (omega (arith, shows.head_is.sequences_two, fits.head.sequences_two.1)) in
+    omega (arith, ap length shows.text, with_bounds_short shows.head b fits.head fits.below few_one few_two)
+
+-- no accepted certificate is too long
+pub accepted_short : AcceptedTextsAreShort
+accepted_short file bytes shown short is =
+    let found = checks_show file bytes shown short is in
+    shown_short (weighed_game found.game) bytes shown found.shows

@@ -1,0 +1,107 @@
+-- The numbers of an accepted file's game are within the ranges of a certificate's head.
+use Rattle.std.proofs.Common.{◌≡◌, ℕ, ◌≤◌, Bool, true, false, cond, List, Option, ◌++◌, get_or, take, All, refl, sym, ap, subst, arith}
+use Rattle.std.proofs.lemmas.List.{length-append, get_or_append_left}
+use Rattle.std.proofs.lemmas.List.Elements.{All-head, All-tail}
+use Rattle.std.proofs.lemmas.List.Sums.{count_by-le-length, sum_by-append, sum_by-cons}
+use Rattle.def_tree.specs.declared.Kind.{Kind}
+use Rattle.def_tree.specs.declared.Kind.TheVariants.{Chance, One, Two, Leaf}
+use Rattle.def_tree.specs.declared.Node.{Node}
+use Rattle.def_tree.specs.Tree.{Forest, bare, grown, prefix, node_count, leaf_count, is_leaf_kind, tree_count, is_leaf_node, HasItsChildren}
+use Rattle.def_tree.specs.Rules.{FitsAs, IsGameTree, KeepRules}
+use Rattle.def_file.specs.Content.{GameFile}
+use Rattle.def_file_form.proofs.WholeGames.{stands_for_whole_game}
+use Rattle.def_check.specs.Accepted.{IsAccepted}
+use Rattle.def_check.proofs.FileAccepted.{accepted_games_sound}
+use Rattle.def_check.proofs.InNumbers.{some_unit}
+use Rattle.def_sequence_form.proofs.Sets.{form_numbers_as_the_tree}
+use Rattle.def_cert_verdict.specs.Ranges.{HeadFits}
+use Rattle.def_command.specs.Grammar.{Settings}
+use Rattle.def_command.specs.GrammarLaws.{InRange}
+use Rattle.def_program.specs.Text.{game_head}
+
+-- ---- leaves
+
+-- a node that isn't a leaf has children
+abbrev HasChildren : Node → Type 0
+HasChildren node = is_leaf_kind node.kind ≡ false → 1 ≤ node.children
+
+joined_set : (kind : Kind) (before : List Node) (node : Node) → FitsAs kind before node → is_leaf_kind kind ≡ false
+    → 1 ≤ node.children
+joined_set Chance before node fits inner = fits.some
+joined_set One before node fits inner = fits.some
+joined_set Two before node fits inner = fits.some
+joined_set Leaf before node fits inner = absurd cc
+
+have_children : (nodes : List Node) → KeepRules nodes → All HasChildren nodes
+have_children nodes rules k d low inner =
+    joined_set (get_or nodes k d).kind (take k nodes) (get_or nodes k d) (rules k d low) inner
+
+bare_is_leaf : (kind : Kind) (children : ℕ) → children ≡ 0 → (is_leaf_kind kind ≡ false → 1 ≤ children)
+    → is_leaf_kind kind ≡ true
+bare_is_leaf Leaf children none some = refl
+bare_is_leaf Chance children none some = absurd (omega (arith, none, some refl))
+bare_is_leaf One children none some = absurd (omega (arith, none, some refl))
+bare_is_leaf Two children none some = absurd (omega (arith, none, some refl))
+
+-- each element of the front is one of the whole
+All-front : (P : Node → Type 0) (xs ys : List Node) → All P (xs ++ ys) → All P xs
+All-front P xs ys all k d low =
+    subst P (get_or_append_left xs ys d k low) (all k d (omega (arith, length-append xs ys, low)))
+
+abbrev one_if_leaf : Node → ℕ
+one_if_leaf node = cond (is_leaf_node node) 1 0
+
+-- there is a leaf in each tree
+has_leaf : (trees : Forest) → HasItsChildren trees → 1 ≤ tree_count trees → All HasChildren (prefix trees)
+    → 1 ≤ leaf_count (prefix trees)
+has_leaf bare children some all = absurd (omega (arith, some))
+has_leaf (grown node bare beside) children some all =
+    let is : is_leaf_kind node.kind ≡ true = bare_is_leaf node.kind node.children (sym children.0)
+    (All-head HasChildren node (prefix beside) all) in
+    omega (arith, sum_by-cons one_if_leaf node (prefix beside), ap {B = ℕ} (λ (b : Bool). cond b 1 0) is)
+has_leaf (grown node (grown first under next) beside) children some all =
+    let below = grown first under next in
+    let inner = has_leaf (grown first under next) children.1 (omega arith)
+    (All-front HasChildren (prefix below) (prefix beside)
+    (All-tail HasChildren node (prefix below ++ prefix beside) all)) in
+    omega (
+      arith,
+      inner,
+      sum_by-cons one_if_leaf node (prefix below ++ prefix beside),
+      sum_by-append one_if_leaf (prefix below) (prefix beside),
+    )
+
+-- ---- all numbers
+some_nodes : (trees : Forest) → tree_count trees ≡ 1 → 1 ≤ node_count trees
+some_nodes bare one = absurd (omega (arith, one))
+some_nodes (grown node below beside) one = omega arith
+
+module _ (bytes : List ℕ) (game : GameFile) (is : IsAccepted bytes game) where
+  -- the tree of an accepted file's game is one tree that keeps the rules, within the limit of nodes
+  pub game_tree : IsGameTree game.tree
+  game_tree =
+      let whole = (stands_for_whole_game bytes game is.readable.stands).0 in
+      record { tree = whole.tree; rules = whole.together.rules; limit = whole.together.limit }
+
+  -- the head of an accepted file's game fits, with settings in their ranges
+  pub head_fits : (settings : Settings) (workers : Option ℕ) → InRange settings workers → HeadFits (game_head game settings)
+  head_fits settings workers range =
+      let tree = game_tree in
+      let sound = (accepted_games_sound bytes game is).numbers in
+      let one = form_numbers_as_the_tree game.tree tree One refl in
+      let two = form_numbers_as_the_tree game.tree tree Two refl in
+      let leaves = has_leaf game.tree tree.tree.children (omega (arith, tree.tree.one))
+      (have_children (prefix game.tree) tree.rules) in
+      record {
+        nodes = (some_nodes game.tree tree.tree.one, tree.limit);
+        leaves = (leaves, omega (arith, tree.limit, count_by-le-length is_leaf_node (prefix game.tree)));
+        sets_one = omega (arith, one.few_sets, tree.limit);
+        sets_two = omega (arith, two.few_sets, tree.limit);
+        sequences_one = (omega arith, omega (arith, one.few_sequences, tree.limit));
+        sequences_two = (omega arith, omega (arith, two.few_sequences, tree.limit));
+        unit = (some_unit bytes game is.readable.stands, sound.unit_within);
+        mass = sound.mass_within;
+        rounds = range.few_rounds;
+        every = (range.some_every, range.small_every);
+        scale = (range.some_scale, range.small_scale);
+      }

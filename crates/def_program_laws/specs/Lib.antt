@@ -1,0 +1,10 @@
+pub mod SolveLaws
+pub mod Bounds
+pub mod BoundRows
+pub mod Answers
+pub mod Files
+pub mod Calls
+pub mod Games
+pub mod Lines
+pub mod Limits
+pub mod Ranges

@@ -1,0 +1,67 @@
+-- What `solve` and `drill` write is accepted by `check`. Each law is the contract of a function of this
+-- crate.
+use Rattle.std.specs.Prelude.{◌≡◌, ℕ, ◌<◌, ◌≤◌, List, length, Option, Some, Ok}
+use Rattle.def_file.specs.Content.{GameFile}
+use Rattle.def_file.specs.Reading.{most_bytes}
+use Rattle.def_cert_verdict.specs.Certificate.{PrintedBounds}
+use Rattle.def_cert_verdict.specs.Verdict.{Verdict, bracket, head_only}
+use Rattle.def_cert_verdict.specs.Laws.{with_bounds}
+use Rattle.def_cert_text.specs.CertText.{cert_text}
+use Rattle.def_check.specs.Accepted.{IsAccepted}
+use Rattle.def_check.specs.Check.{checked, most_cert_bytes}
+use Rattle.def_command.specs.Grammar.{Check, Drill, Gen, Settings, Solve, command_of_words}
+use Rattle.def_command.specs.GrammarLaws.{InRange}
+use Rattle.def_program.specs.Text.{game_head, solve_text}
+use Rattle.def_program.specs.CheckLines.{verdict_text}
+use Rattle.def_program.specs.Bounds.{game_bounds}
+use Rattle.def_program.specs.Program.{program, success}
+
+-- the text has the game's bounds, and is accepted with the low and the high one
+pub record IsAcceptedWithBounds (file : List ℕ) (game : GameFile) (settings : Settings) : Type 0 where
+  pub bounds : PrintedBounds
+  pub are : game_bounds game settings ≡ Some bounds
+  pub text : solve_text game settings ≡ cert_text (with_bounds (game_head game settings) bounds)
+  pub shown : checked file (solve_text game settings) ≡ Ok (bracket bounds.low bounds.high)
+
+-- what `solve` writes of an accepted file, with settings in their ranges, is accepted by a check of that file:
+-- without a round by its head alone, and else with its bounds
+pub record SolvedTextsAreAccepted : Type 0 where
+  pub no_round : (file : List ℕ) (game : GameFile) (settings : Settings) (workers : Option ℕ) → IsAccepted file game
+      → InRange settings workers → settings.rounds ≡ 0 → checked file (solve_text game settings) ≡ Ok head_only
+  pub some_round : (file : List ℕ) (game : GameFile) (settings : Settings) (workers : Option ℕ) → IsAccepted file game
+      → InRange settings workers → 1 ≤ settings.rounds → IsAcceptedWithBounds file game settings
+
+-- what is accepted against a file is within the limit of a certificate's bytes
+abbrev pub AcceptedTextsAreShort : Type 0
+AcceptedTextsAreShort = (file bytes : List ℕ) (shown : Verdict) → length file ≤ most_bytes
+    → checked file bytes ≡ Ok shown → length bytes < most_cert_bytes
+
+-- what `solve` writes of an accepted file is within the limit of a certificate's bytes
+abbrev pub SolvedTextsAreShort : Type 0
+SolvedTextsAreShort = (file : List ℕ) (game : GameFile) (settings : Settings) (workers : Option ℕ) → IsAccepted file game
+    → InRange settings workers → length (solve_text game settings) < most_cert_bytes
+
+-- what is said of a certificate that is accepted
+pub record IsTaken (words : List (List ℕ)) (told : List ℕ → Option (List ℕ)) : Type 0 where
+  pub shown : Verdict
+  pub said : program words told ≡ Some (success (verdict_text shown))
+
+-- what `solve` wrote of a file's game is accepted by `check`, given a file that tells the same game and a file that
+-- tells this text
+abbrev pub WhatSolveWritesCheckAccepts : Type 0
+WhatSolveWritesCheckAccepts = (words others : List (List ℕ)) (told after : List ℕ → Option (List ℕ))
+    (path game_path text_path bytes text : List ℕ) (settings : Settings) (workers : Option ℕ)
+    → command_of_words words ≡ Some (Solve path settings workers) → told path ≡ Some bytes
+    → program words told ≡ Some (success text)
+    → command_of_words others ≡ Some (Check game_path text_path) → after game_path ≡ Some bytes
+    → after text_path ≡ Some text → IsTaken others after
+
+-- what `drill` wrote is accepted by `check`, given a file that tells what `gen` wrote for as many cards and a file
+-- that tells this text
+abbrev pub WhatDrillWritesCheckAccepts : Type 0
+WhatDrillWritesCheckAccepts = (words makers others : List (List ℕ)) (told before after : List ℕ → Option (List ℕ))
+    (game_path text_path bytes text : List ℕ) (cards : ℕ) (settings : Settings) (workers : Option ℕ)
+    → command_of_words words ≡ Some (Drill cards settings workers) → program words told ≡ Some (success text)
+    → command_of_words makers ≡ Some (Gen cards) → program makers before ≡ Some (success bytes)
+    → command_of_words others ≡ Some (Check game_path text_path) → after game_path ≡ Some bytes
+    → after text_path ≡ Some text → IsTaken others after

@@ -1,6 +1,0 @@
-pub mod Files
-pub mod Calls
-pub mod Games
-pub mod Lines
-pub mod Limits
-pub mod Ranges

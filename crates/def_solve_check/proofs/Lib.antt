@@ -1,4 +1,0 @@
-mod Heads
-mod CertificateLineWidths
-mod CertificatesAreShort
-mod Solved

@@ -1,5 +1,0 @@
-use Rattle.xg_rights.proofs.Moves.{looks}
-use Rattle.xg_rights.proofs.steps.load.Goals as goal
-
-pub load-requires : goal.load-requires
-load-requires c = (c.requires.table.0, c.requires.table.1, looks _ _ _ _ c.requires.live)

@@ -1,5 +1,0 @@
-use Rattle.xg_rights.proofs.Moves.{opens}
-use Rattle.xg_rights.proofs.steps.open.Goals as goal
-
-pub of_words-requires : goal.of_words-requires
-of_words-requires c = opens c.args.number
