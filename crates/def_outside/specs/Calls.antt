@@ -1,10 +1,9 @@
 -- What the files and a sink did in a call.
---     files_call, sink_call    the record of a call, from the members of the object and its states before and now
 --     past_count               one past the greatest count of taken bytes at which a file is read on
-use Rattle.std.specs.Prelude.{◌≡◌, ℕ, ◌^◌, ◌<◌, List, Option}
+use Rattle.std.specs.Prelude.{◌≡◌, ℕ, ◌+◌, ◌^◌, ◌<◌, ◌≤◌, List, Option}
 use Rattle.std.specs.Io.KnownBytes.{append_known}
-use Rattle.def_outside.specs.Cause.{Rose}
-use Rattle.def_outside.specs.Sinks.{AppendsPrefix}
+use Rattle.def_outside.specs.Cause.{Rose, RoseByOne}
+use Rattle.def_outside.specs.Sinks.{AppendsPrefix, IsCutOff}
 
 -- an object's count of faults before the call and after it
 pub record Faults : Type 0 where
@@ -14,6 +13,10 @@ pub record Faults : Type 0 where
 -- the count rose, or it stands at its last value, where no fault can be told
 abbrev pub MayHaveFailed : Faults → Type 0
 MayHaveFailed faults = Rose faults.before faults.now
+
+-- exactly one call failed; at the last value of the count this can't be told
+abbrev pub HasFailedOnce : Faults → Type 0
+HasFailedOnce faults = RoseByOne faults.before faults.now
 
 -- the count is as before
 abbrev pub HasNoFault : Faults → Type 0
@@ -32,21 +35,22 @@ pub record FilesCall : Type 0 where
   pub told : List ℕ → Option (List ℕ)
   -- how many bytes were taken of the file that was opened last
   pub taken : ℕ
+  -- how many times a file was opened before the call, and after it
+  pub opens_before : ℕ
+  pub opens_now : ℕ
   pub faults : Faults
 
 pub record SinkCall : Type 0 where
   -- all that was written before the call, and after it, where this is told
   pub before : Option (List ℕ)
   pub now : Option (List ℕ)
+  -- how long the piece was of the last write that failed
+  pub failed_length : ℕ
   pub faults : Faults
 
-abbrev pub files_call : {S : Type 0} → (S → List ℕ → Option (List ℕ)) → (S → ℕ) → (S → ℕ) → S → S → FilesCall
-files_call told taken faults old new =
-    record { told = told old; taken = taken new; faults = record { before = faults old; now = faults new } }
-
-abbrev pub sink_call : {S : Type 0} → (S → Option (List ℕ)) → (S → ℕ) → S → S → SinkCall
-sink_call written faults old new =
-    record { before = written old; now = written new; faults = record { before = faults old; now = faults new } }
+-- files were opened at most so many times in the call
+abbrev pub OpensAtMost : FilesCall → ℕ → Type 0
+OpensAtMost files count = files.opens_now ≤ files.opens_before + count
 
 -- the call wrote these bytes, a front of them, nothing
 abbrev pub Wrote : SinkCall → List ℕ → Type 0
@@ -62,13 +66,17 @@ WroteNothing sink = sink.now ≡ sink.before
 abbrev pub IsUntouched : SinkCall → Type 0
 IsUntouched sink = WroteNothing sink × HasNoFault sink.faults
 
--- the call wrote the line; where the sink may have failed, a front of it at least
-pub record Says (sink : SinkCall) (line : List ℕ) : Type 0 where
-  pub whole : (MayHaveFailed sink.faults → ⊥) → Wrote sink line
-  pub front : WroteFront sink line
+-- The call wrote the line, or failed to: then exactly one write failed, the piece of which was the rest of the line.
+pub data Says (sink : SinkCall) (line : List ℕ) : Type 0 where
+  in_whole : HasNoFault sink.faults → Wrote sink line → Says sink line
+  cut_off : HasFailedOnce sink.faults → IsCutOff sink.before sink.now sink.failed_length line → Says sink line
 
--- A count that grew may tell of a fault, what is written whole is a front, and so is nothing.
+-- A count that grew may tell of a fault, and so does one that grew by one. What is written whole is a front, and so is
+-- nothing. A line that is said is a front at least, and whole where the sink can't have failed.
 pub record CallsAreRead : Type 0 where
   pub failed : (faults : Faults) → HasFailed faults → MayHaveFailed faults
+  pub failed_once : (faults : Faults) → HasFailedOnce faults → MayHaveFailed faults
   pub whole : (sink : SinkCall) (bytes : List ℕ) → Wrote sink bytes → WroteFront sink bytes
   pub nothing : (sink : SinkCall) (bytes : List ℕ) → WroteNothing sink → WroteFront sink bytes
+  pub said_front : (sink : SinkCall) (line : List ℕ) → Says sink line → WroteFront sink line
+  pub said_whole : (sink : SinkCall) (line : List ℕ) → Says sink line → (MayHaveFailed sink.faults → ⊥) → Wrote sink line

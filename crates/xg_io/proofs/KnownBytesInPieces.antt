@@ -3,7 +3,7 @@ use Rattle.std.proofs.Common.{◌≡◌, ℕ, ◌-◌, ◌<◌, List, [], ◌++�
 use Rattle.std.proofs.lemmas.List.{append-nil, take-append-drop, length-append, length-drop}
 use Rattle.std.proofs.Math.Seq.{take-append_seam, take-length}
 use Rattle.std.specs.Io.KnownBytes.{append_known, Consumes}
-use Rattle.def_outside.specs.Sinks.{AppendsPrefix}
+use Rattle.def_outside.specs.Sinks.{AppendsPrefix, IsCutOff}
 use Rattle.def_outside.proofs.Fronts.{append_known-nil}
 
 -- one piece and then another
@@ -45,6 +45,16 @@ pub a_front : (before now next : Option (List ℕ)) (bytes rest : List ℕ) → 
 a_front before now next bytes rest p e = record {
   count = length p.front;
   appended = e ∙ p.appended ∙ ap (append_known before) (sym (ap (take (length p.front)) p.split ∙ take-append_seam p.front rest));
+}
+
+-- a front was appended, and the rest of the bytes is the piece of the write that failed
+pub cut_off : (before now next : Option (List ℕ)) (failed_length : ℕ) (bytes rest : List ℕ) → Progress before now bytes rest
+    → next ≡ now → failed_length ≡ length rest → IsCutOff before next failed_length bytes
+unfolding a_front
+cut_off before now next failed_length bytes rest p e same = record {
+  count = length p.front;
+  appended = (a_front before now next bytes rest p e).appended;
+  rest = omega (arith, same, ap length p.split, length-append p.front rest);
 }
 
 -- nothing is read

@@ -3,3 +3,5 @@ pub mod Schedule
 pub mod Stored
 pub mod MemFiles
 pub mod MemSink
+pub mod Waiting
+pub mod Calls

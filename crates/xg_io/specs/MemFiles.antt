@@ -18,6 +18,10 @@ current_of m = m.current
 abbrev pub taken_of : MemFiles → ℕ
 taken_of m = m.taken
 
+-- how many times one was opened
+abbrev pub opens_of : MemFiles → ℕ
+opens_of m = m.opens
+
 -- what is left of it
 abbrev pub left_of : MemFiles → Option (List ℕ)
 left_of m = option_and_then (λ place. option_map (drop m.taken) (stored_bytes_at m.files.items place)) m.current

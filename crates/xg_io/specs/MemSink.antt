@@ -19,3 +19,7 @@ schedule_of_sink m = m.schedule
 -- how many of its writes failed
 abbrev pub faults_of_sink : MemSink → ℕ
 faults_of_sink m = faults_so_far (schedule_of_sink m)
+
+-- how long the piece was of the last write that failed
+abbrev pub failed_length_of : MemSink → ℕ
+failed_length_of m = m.failed_length

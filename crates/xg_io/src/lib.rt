@@ -1,13 +1,17 @@
-//! The outside of the solver: files that are read whole, sinks that are written, and the gate that workers pass. Each
-//! trait says for contracts what its calls do; the program's promises speak of the outside by these words alone.
+//! The outside of the solver: files that are read whole, sinks that are written, texts that reach a sink by pages, and
+//! the gate that workers pass. Each trait says for contracts what its calls do; the program's promises speak of the
+//! outside by these words alone.
 #![tactic(auto)]
 
 mod memory_files;
 mod memory_sink;
+mod named_page;
 mod outside;
+mod page;
 mod reading;
 mod real;
 mod schedule;
+mod text;
 mod writing;
 
 pub use memory_files::MemFiles;
@@ -16,4 +20,5 @@ pub use outside::{Failed, Files, Gate, OpenFault, OpenGate, Sink};
 pub use reading::{ReadAllFault, read_all};
 pub use real::{RealFiles, RealSink};
 pub use schedule::Schedule;
+pub use text::{Text, write_paged};
 pub use writing::{WriteFault, write_all};

@@ -4,8 +4,8 @@ ghost use Rattle.std.specs.Cmp.Lexicographic.{pointwise};
 ghost use Rattle.std.specs.Option.{ForSome};
 ghost use Rattle.std.specs.Io.KnownBytes.{Consumes};
 ghost use Rattle.def_outside.specs.Calls.{past_count};
-ghost use Rattle.def_outside.specs.Cause.{HasCause};
-ghost use Rattle.xg_io.specs.Cause.{next_count, CountsOne, OpenCountsOne, OpenHasCause};
+ghost use Rattle.def_outside.specs.Cause.{HasCause, next_count};
+ghost use Rattle.xg_io.specs.Cause.{OpenHasCause};
 ghost use Rattle.xg_io.specs.Stored.{stored_bytes_of, stored_bytes_at};
 ghost use Rattle.xg_io.specs.Schedule.{failing_calls, calls_made, FailsNext};
 
@@ -26,18 +26,20 @@ pub struct MemFiles {
     files: Vec<Stored>,
     current: Option<usize>,
     taken: usize,
+    opens: u64,
     schedule: Schedule,
     ghost in_range: { ForSome current (λ place. place < vec_len files) },
 }
 
 impl MemFiles {
-    ghost use Rattle.xg_io.specs.MemFiles.{told_of, current_of, left_of, taken_of, schedule_of, faults_of};
+    ghost use Rattle.xg_io.specs.MemFiles.{told_of, current_of, left_of, taken_of, opens_of, schedule_of, faults_of};
 
     /// Holds no files. The calls whose numbers are listed in `failing` fail.
     pub fn new(alloc: Global, failing: &[u64]) -> Result<MemFiles, AllocError>
         ensures empty { IfOk result (λ m. (name : List ℕ) → told_of m name ≡ None) }
         ensures closed { IfOk result (λ m. current_of m ≡ None) }
         ensures nothing_taken { IfOk result (λ m. taken_of m ≡ 0) }
+        ensures no_opens { IfOk result (λ m. opens_of m ≡ 0) }
         ensures failing { IfOk result (λ m. failing_calls (schedule_of m) ≡ failing.now) }
         ensures no_calls { IfOk result (λ m. calls_made (schedule_of m) ≡ 0) }
         ensures no_faults { IfOk result (λ m. faults_of m ≡ 0) }
@@ -46,6 +48,7 @@ impl MemFiles {
             files: Vec::new(alloc),
             current: None,
             taken: 0,
+            opens: 0,
             schedule: Schedule::new(alloc, failing)?,
         })
     }
@@ -57,6 +60,7 @@ impl MemFiles {
             ((other : List ℕ) → other ≢ name.now → told_of self.new other ≡ told_of self.old other) }
         ensures closed { OnOk result (current_of self.new ≡ None) }
         ensures same_taken { taken_of self.new ≡ taken_of self.old }
+        ensures same_opens { opens_of self.new ≡ opens_of self.old }
         ensures same_schedule { schedule_of self.new ≡ schedule_of self.old }
         ensures same_open { OnErr result (current_of self.new ≡ current_of self.old) }
         ensures same_told { OnErr result ((other : List ℕ) → told_of self.new other ≡ told_of self.old other) }
@@ -73,7 +77,7 @@ impl MemFiles {
 }
 
 impl Files for MemFiles {
-    ghost use Rattle.xg_io.specs.MemFiles.{told_of, current_of, left_of, taken_of, schedule_of, faults_of};
+    ghost use Rattle.xg_io.specs.MemFiles.{told_of, current_of, left_of, taken_of, opens_of, schedule_of, faults_of};
 
     ghost told = { told_of };
 
@@ -85,6 +89,8 @@ impl Files for MemFiles {
 
     ghost taken = { taken_of };
 
+    ghost opens = { opens_of };
+
     ghost faults = { faults_of };
 
     fn open(&mut self, _alloc: Global, name: &str) -> Result<(), OpenFault>
@@ -92,8 +98,8 @@ impl Files for MemFiles {
         ensures opened { is_some (current_of self.new) ≡ is_ok result }
         ensures nothing_taken { taken_of self.new ≡ 0 }
         ensures whole_left { OnOk result (left_of self.new ≡ told_of self.old name.now) }
+        ensures one_open { opens_of self.new ≡ next_count (opens_of self.old) }
         ensures cause { OpenHasCause (faults_of self.old) (faults_of self.new) result }
-        ensures one_fault { OpenCountsOne (faults_of self.old) (faults_of self.new) result }
         ensures fails { IsErrOf result OpenFault.Failed
             ↔ (FailsNext (schedule_of self.old) ⊎ (told_of self.old name.now ≡ None)) }
         ensures has_memory { IsErrOf result OpenFault.NoMemory → ⊥ }
@@ -102,6 +108,7 @@ impl Files for MemFiles {
     {
         self.current = None;
         self.taken = 0;
+        self.opens = self.opens.saturating_add(1);
         let Ok(()) = self.schedule.call() else {
             return Err(OpenFault::Failed);
         };
@@ -127,8 +134,8 @@ impl Files for MemFiles {
         ensures taken { IfOk result (λ n. taken_of self.new ≡ taken_of self.old + n) }
         ensures same_left { OnErr result (left_of self.new ≡ left_of self.old) }
         ensures same_taken { OnErr result (taken_of self.new ≡ taken_of self.old) }
+        ensures same_opens { opens_of self.new ≡ opens_of self.old }
         ensures cause { HasCause (faults_of self.old) (faults_of self.new) result }
-        ensures one_fault { CountsOne (faults_of self.old) (faults_of self.new) result }
         ensures fails { IsErr result ↔ FailsNext (schedule_of self.old) }
         ensures counted { calls_made (schedule_of self.new) ≡ next_count (calls_made (schedule_of self.old)) }
         ensures same_failing { failing_calls (schedule_of self.new) ≡ failing_calls (schedule_of self.old) }

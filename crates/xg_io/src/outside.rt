@@ -2,7 +2,7 @@
 ghost use Rattle.std.specs.Prelude.{◌≡◌, ℕ, ◌+◌, ◌<◌, ◌≤◌, ◌↔◌, Bool, Option, Some, List, [], length, take, is_ok, IsTrue, IfOk, IfSome, OnOk, OnErr, MatchResult};
 ghost use Rattle.std.specs.Io.KnownBytes.{append_known, Consumes};
 ghost use Rattle.def_outside.specs.Calls.{past_count};
-ghost use Rattle.def_outside.specs.Cause.{HasCause};
+ghost use Rattle.def_outside.specs.Cause.{HasCause, next_count};
 ghost use Rattle.xg_io.specs.Cause.{OpenHasCause};
 
 use std::alloc::Global;
@@ -43,6 +43,9 @@ pub trait Files {
     /// How many bytes were read since the last `open`.
     ghost taken: { Self → ℕ };
 
+    /// How many calls of `open` there were, up to the last value of a `u64`.
+    ghost opens: { Self → ℕ };
+
     /// How many calls failed, up to the last value of a `u64`.
     ghost faults: { Self → ℕ };
 
@@ -54,6 +57,7 @@ pub trait Files {
         ensures opened { is_open self.new ≡ is_ok result }
         ensures nothing_taken { taken self.new ≡ 0 }
         ensures whole_left { OnOk result (IfSome (told self.old name.now) (λ bytes. left self.new ≡ Some bytes)) }
+        ensures one_open { opens self.new ≡ next_count (opens self.old) }
         ensures cause { OpenHasCause (faults self.old) (faults self.new) result };
 
     /// Reads the next bytes of the open file into the front of `into`, and says how many. None are left at 0.
@@ -70,6 +74,7 @@ pub trait Files {
         ensures counted { IfOk result (λ n. taken self.new ≡ taken self.old + n) }
         ensures same_left { OnErr result (left self.new ≡ left self.old) }
         ensures same_taken { OnErr result (taken self.new ≡ taken self.old) }
+        ensures same_opens { opens self.new ≡ opens self.old }
         ensures cause { HasCause (faults self.old) (faults self.new) result };
 }
 
@@ -81,6 +86,9 @@ pub trait Sink {
     /// How many calls failed, up to the last value of a `u64`.
     ghost faults: { Self → ℕ };
 
+    /// How long the piece was of the last call that failed.
+    ghost failed_length: { Self → ℕ };
+
     /// Takes bytes from the front of the piece, at least one, and says how many. A sink that takes nothing has failed.
     fn write(&mut self, piece: &[u8]) -> Result<usize, Failed>
         requires { 0 < length piece.now }
@@ -88,6 +96,8 @@ pub trait Sink {
         ensures count { IfOk result (λ n. n ≤ length piece.now) }
         ensures appended { IfOk result (λ n. written self.new ≡ append_known (written self.old) (take n piece.now)) }
         ensures same_written { OnErr result (written self.new ≡ written self.old) }
+        ensures failed_piece { OnErr result (failed_length self.new ≡ length piece.now) }
+        ensures same_failed { OnOk result (failed_length self.new ≡ failed_length self.old) }
         ensures cause { HasCause (faults self.old) (faults self.new) result };
 }
 

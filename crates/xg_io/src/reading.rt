@@ -1,6 +1,7 @@
 //! Reading a file whole.
 ghost use Rattle.std.specs.Prelude.{◌≡◌, ◌+◌, ◌<◌, ◌≤◌, ◌↔◌, length, IsTrue, IfOk, IfSome, OnErr, IsErrOf, vec_len};
 ghost use Rattle.def_outside.specs.Calls.{past_count};
+ghost use Rattle.def_outside.specs.Cause.{next_count};
 ghost use Rattle.xg_io.specs.Cause.{ReadAllHasCause};
 
 use crate::{Files, OpenFault};
@@ -41,6 +42,7 @@ pub fn read_all<F: Files>(
         → IfSome (F.told files.old name.now) (λ bytes. limit < length bytes) }
     ensures same_told { F.told files.new ≡ F.told files.old }
     ensures same_names { F.may_open files.new ≡ F.may_open files.old }
+    ensures one_open { F.opens files.new ≡ next_count (F.opens files.old) }
     ensures cause { ReadAllHasCause (F.faults files.old) (F.faults files.new) result }
 {
     match files.open(alloc, name) {
@@ -80,6 +82,7 @@ fn read_rest<F: Files>(
         → IfSome (F.left files.old) (λ bytes. limit < length bytes) }
     ensures same_told { F.told files.new ≡ F.told files.old }
     ensures same_names { F.may_open files.new ≡ F.may_open files.old }
+    ensures same_opens { F.opens files.new ≡ F.opens files.old }
     ensures cause { ReadAllHasCause (F.faults files.old) (F.faults files.new) result }
 {
     let mut bytes = Vec::new(alloc);

@@ -1,9 +1,9 @@
 //! The real outside: std's files and streams. They tell nothing of what files hold and terminals take.
-ghost use Rattle.std.specs.Prelude.{◌≡◌, ℕ, ◌+◌, ◌<◌, ◌≤◌, List, length, Option, None, true, false, is_some, is_ok, IsTrue, IfOk, IfSome, OnErr};
+ghost use Rattle.std.specs.Prelude.{◌≡◌, ℕ, ◌+◌, ◌<◌, ◌≤◌, List, length, Option, None, true, false, is_some, is_ok, IsTrue, IfOk, IfSome, OnErr, OnOk};
 ghost use Rattle.std.specs.Io.KnownBytes.{ReadConsumes, WriteAppends};
 ghost use Rattle.def_outside.specs.Calls.{past_count};
-ghost use Rattle.def_outside.specs.Cause.{HasCause};
-ghost use Rattle.xg_io.specs.Cause.{CountsOne, OpenCountsOne, OpenHasCause};
+ghost use Rattle.def_outside.specs.Cause.{HasCause, next_count};
+ghost use Rattle.xg_io.specs.Cause.{OpenHasCause};
 
 use crate::{Failed, Files, OpenFault, Sink};
 use std::alloc::Global;
@@ -16,6 +16,7 @@ pub struct RealFiles<R: rt::Files + Drop> {
     system: R,
     file: Option<R::File>,
     taken: u64,
+    opens: u64,
     faults: u64,
 }
 
@@ -24,12 +25,14 @@ impl<R: rt::Files + Drop> RealFiles<R> {
     pub fn new(system: R) -> RealFiles<R>
         ensures closed { ⟦<RealFiles<R> as Files>⟧.is_open result ≡ false }
         ensures nothing_taken { ⟦<RealFiles<R> as Files>⟧.taken result ≡ 0 }
+        ensures no_opens { ⟦<RealFiles<R> as Files>⟧.opens result ≡ 0 }
         ensures no_faults { ⟦<RealFiles<R> as Files>⟧.faults result ≡ 0 }
     {
         RealFiles {
             system,
             file: None,
             taken: 0,
+            opens: 0,
             faults: 0,
         }
     }
@@ -46,16 +49,19 @@ impl<R: rt::Files + Drop> Files for RealFiles<R> {
 
     ghost taken = { λ r. r.taken };
 
+    ghost opens = { λ r. r.opens };
+
     ghost faults = { λ r. r.faults };
 
     fn open(&mut self, _alloc: Global, name: &str) -> Result<(), OpenFault>
         ensures opened { is_some self.new.file ≡ is_ok result }
         ensures nothing_taken { self.new.taken ≡ 0 }
+        ensures one_open { self.new.opens ≡ next_count self.old.opens }
         ensures cause { OpenHasCause self.old.faults self.new.faults result }
-        ensures one_fault { OpenCountsOne self.old.faults self.new.faults result }
     {
         self.file = None;
         self.taken = 0;
+        self.opens = self.opens.saturating_add(1);
         match fs::open(&self.system, name) {
             Ok(file) => {
                 self.file = Some(file);
@@ -81,8 +87,8 @@ impl<R: rt::Files + Drop> Files for RealFiles<R> {
             ReadConsumes (R.File.remaining before) (R.File.remaining now) result into.new)) }
         ensures counted { IfOk result (λ n. self.new.taken ≡ self.old.taken + n) }
         ensures same_taken { OnErr result (self.new.taken ≡ self.old.taken) }
+        ensures same_opens { self.new.opens ≡ self.old.opens }
         ensures cause { HasCause self.old.faults self.new.faults result }
-        ensures one_fault { CountsOne self.old.faults self.new.faults result }
     {
         let Some(file) = &mut self.file else {
             unreachable!()
@@ -105,6 +111,7 @@ impl<R: rt::Files + Drop> Files for RealFiles<R> {
 pub struct RealSink<W: Write + Drop> {
     stream: W,
     faults: u64,
+    failed_length: usize,
 }
 
 impl<W: Write + Drop> RealSink<W> {
@@ -112,7 +119,11 @@ impl<W: Write + Drop> RealSink<W> {
     pub fn new(stream: W) -> RealSink<W>
         ensures no_faults { ⟦<RealSink<W> as Sink>⟧.faults result ≡ 0 }
     {
-        RealSink { stream, faults: 0 }
+        RealSink {
+            stream,
+            faults: 0,
+            failed_length: 0,
+        }
     }
 }
 
@@ -121,18 +132,22 @@ impl<W: Write + Drop> Sink for RealSink<W> {
 
     ghost faults = { λ s. s.faults };
 
+    ghost failed_length = { λ s. s.failed_length };
+
     fn write(&mut self, piece: &[u8]) -> Result<usize, Failed>
         requires { 0 < length piece.now }
         ensures some_taken { IfOk result (λ n. 0 < n) }
         ensures count { IfOk result (λ n. n ≤ length piece.now) }
         ensures passed { WriteAppends (W.contents self.old.stream) (W.contents self.new.stream) result piece.now }
+        ensures failed_piece { OnErr result (self.new.failed_length ≡ length piece.now) }
+        ensures same_failed { OnOk result (self.new.failed_length ≡ self.old.failed_length) }
         ensures cause { HasCause self.old.faults self.new.faults result }
-        ensures one_fault { CountsOne self.old.faults self.new.faults result }
     {
         match self.stream.write(piece) {
             Ok(n) if n > 0 => Ok(n),
             _ => {
                 self.faults = self.faults.saturating_add(1);
+                self.failed_length = piece.len();
                 Err(Failed)
             }
         }

@@ -1,7 +1,6 @@
 //! Which calls of an object in memory fail.
 ghost use Rattle.std.specs.Prelude.{◌≡◌, ◌↔◌, IfOk, IsErr};
-ghost use Rattle.def_outside.specs.Cause.{HasCause, Rose};
-ghost use Rattle.xg_io.specs.Cause.{next_count, CountsOne};
+ghost use Rattle.def_outside.specs.Cause.{HasCause, RoseByOne, next_count};
 
 use crate::Failed;
 use std::alloc::{AllocError, Global};
@@ -36,7 +35,6 @@ impl Schedule {
         ensures counted { calls_made self.new ≡ next_count (calls_made self.old) }
         ensures same_failing { failing_calls self.new ≡ failing_calls self.old }
         ensures cause { HasCause (faults_so_far self.old) (faults_so_far self.new) result }
-        ensures one_fault { CountsOne (faults_so_far self.old) (faults_so_far self.new) result }
     {
         self.calls = self.calls.saturating_add(1);
         if self.failing.contains(&self.calls) {
@@ -49,8 +47,7 @@ impl Schedule {
     pub fn blame(&mut self) -> Failed
         ensures same_calls { calls_made self.new ≡ calls_made self.old }
         ensures same_failing { failing_calls self.new ≡ failing_calls self.old }
-        ensures cause { Rose (faults_so_far self.old) (faults_so_far self.new) }
-        ensures one_fault { faults_so_far self.new ≡ next_count (faults_so_far self.old) }
+        ensures cause { RoseByOne (faults_so_far self.old) (faults_so_far self.new) }
     {
         self.faults = self.faults.saturating_add(1);
         Failed

@@ -9,8 +9,8 @@ use Rattle.def_file.specs.Reading.{most_bytes}
 use Rattle.def_cert_verdict.specs.declared.fault.TestFault.TheVariants as test
 use Rattle.def_check.specs.Check.{Refusal, checked, most_cert_bytes, of_certificate, of_file, of_tests}
 use Rattle.def_check.proofs.Checked.{checked_any_length}
-use Rattle.def_text.specs.Lines.{fault_line}
-use Rattle.def_text.specs.CheckLines.{cert_long_line, refusal_line, verdict_text}
+use Rattle.def_program.specs.TextLines.{fault_line}
+use Rattle.def_program.specs.CheckLines.{cert_long_line, refusal_line, verdict_text}
 use Rattle.def_program.specs.Program.{Answer, certificate_answer, check_answer, check_told, refusal}
 use Rattle.def_program.specs.Meaning.{MeansOnly}
 use Rattle.def_program.specs.Lines as lines

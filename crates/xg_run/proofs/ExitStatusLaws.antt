@@ -1,8 +1,9 @@
 -- What the status of an ending shows, by the endings.
 use Rattle.std.proofs.Common.{◌≡◌, ◌≢◌, ℕ, ◌<◌, ◌≤◌, List, [], refl, sym, subst, inl, inr, arith}
 use Rattle.std.specs.Prelude.{string_bytes}
-use Rattle.def_outside.specs.Calls.{FilesCall, SinkCall, HasFailed, MayHaveFailed, Wrote, WroteFront, WroteNothing, IsUntouched}
-use Rattle.def_text.specs.Lines.{usage_line, read_line, write_line, memory_line}
+use Rattle.def_outside.specs.Calls.{FilesCall, SinkCall, HasFailed, HasFailedOnce, MayHaveFailed, Wrote, WroteFront, WroteNothing, IsUntouched}
+use Rattle.def_outside.proofs.Fronts.{once_may}
+use Rattle.def_program.specs.TextLines.{usage_line, read_line, write_line, memory_line}
 use Rattle.def_program.specs.Program.{Answer, success, refusal, usage}
 use Rattle.def_program.specs.Meaning.{EachMeant, EndsWith, MeansOnly}
 use Rattle.def_program.specs.Lines.{IsLine, of_words, of_reading, of_writing, of_memory}
@@ -17,9 +18,9 @@ pub record KeepsStatus (checks : Type 0) (meant : Answer → Type 0) (files : Fi
   pub refused : status ≡ 1 → EachMeant meant (λ answer. answer.status ≡ 1)
   pub complete : (MayHaveFailed files.faults → ⊥) → EachMeant meant (λ answer.
       (answer.status ≡ 0 → MayHaveFailed out.faults → ⊥) → EndsWith answer.status status)
-  pub read_fault : status ≡ 3 → MayHaveFailed files.faults
+  pub read_fault : status ≡ 3 → HasFailedOnce files.faults
   pub files_failed : HasFailed files.faults → EndsWith 3 status
-  pub write_fault : status ≡ 4 → MayHaveFailed out.faults
+  pub write_fault : status ≡ 4 → HasFailedOnce out.faults
   pub out_failed : HasFailed out.faults → status ≡ 4
   pub whole : status ≡ 0 → EachMeant meant (λ answer. (answer.status ≡ 0) × Wrote out answer.text)
   pub front : status ≡ 4 → EachMeant meant (λ answer. (answer.status ≡ 0) × WroteFront out answer.text)
@@ -88,7 +89,7 @@ module _ (checks : Type 0) (meant : Answer → Type 0) (files : FilesCall) (out 
   unread : IsUnread files out → KeepsStatus checks meant files out 3 read_line
   unread is = record {
     refused = λ e. absurd cc;
-    complete = λ sound. absurd (sound is.cause);
+    complete = λ sound. absurd (sound (once_may files.faults is.cause));
     read_fault = λ _. is.cause;
     files_failed = λ _. inl refl;
     write_fault = λ e. absurd cc;
@@ -103,7 +104,7 @@ module _ (checks : Type 0) (meant : Answer → Type 0) (files : FilesCall) (out 
   cut : IsCut meant files out → KeepsStatus checks meant files out 4 write_line
   cut is = record {
     refused = λ e. absurd cc;
-    complete = λ _. by_answer (success is.text) is.means (Answered out 4) (λ sound. absurd (sound refl is.cause));
+    complete = λ _. by_answer (success is.text) is.means (Answered out 4) (λ sound. absurd (sound refl (once_may out.faults is.cause)));
     read_fault = λ e. absurd cc;
     files_failed = kept files.faults.before files.faults.now (EndsWith 3 4) is.read;
     write_fault = λ _. is.cause;

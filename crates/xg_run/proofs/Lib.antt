@@ -6,3 +6,4 @@ pub mod Texts
 pub mod SettingsWithinLimits
 pub mod Checking
 pub mod MadeEnds
+pub mod Loaded

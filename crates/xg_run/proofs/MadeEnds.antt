@@ -5,10 +5,10 @@ use Rattle.def_outside.specs.Calls.{FilesCall, SinkCall, HasNoFault, IsUntouched
 use Rattle.def_file.specs.declared.FileFault.{FileFault}
 use Rattle.def_file.specs.declared.FileFault.TheVariants.{TooLong}
 use Rattle.def_file.specs.Content.{GameFile}
-use Rattle.def_game_faults.specs.Faults.{GameFault, game_fault}
+use Rattle.def_game_scale.specs.Faults.{GameFault, game_fault}
 use Rattle.def_game_numbers.specs.Numbers.{as_file_fault, game_file_fault, tables_of}
 use Rattle.def_check.proofs.Checked.{fault_any_length}
-use Rattle.def_file_accepted.specs.Accepting.{unless_faulty}
+use Rattle.def_check.specs.Accepting.{unless_faulty}
 use Rattle.def_program.specs.Program.{Answer, game_answer, made_answer, refusal, success}
 use Rattle.def_program.specs.Meaning.{MeansOnly}
 use Rattle.def_program.specs.Lines.{of_file}

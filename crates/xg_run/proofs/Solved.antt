@@ -3,12 +3,12 @@ use Rattle.std.proofs.Common.{◌≡◌, ℕ, ◌<◌, List, Option, Some, None,
 use Rattle.std.specs.Prelude.{IfSome, IsSomeAnd, OnErr, OnOk}
 use Rattle.std.specs.Io.KnownBytes.{append_known}
 use Rattle.def_outside.specs.Sinks.{AppendsPrefix, Writes}
-use Rattle.def_outside.specs.Calls.{FilesCall, SinkCall, HasNoFault, IsUntouched, MayHaveFailed, Wrote, WroteFront}
+use Rattle.def_outside.specs.Calls.{FilesCall, SinkCall, HasNoFault, IsUntouched, HasFailedOnce, Wrote, WroteFront}
 use Rattle.def_file.specs.declared.FileFault.{FileFault}
 use Rattle.def_file.specs.declared.FileFault.TheVariants.{TooLong}
 use Rattle.def_file.specs.Content.{GameFile}
 use Rattle.def_file.specs.Reading.{most_bytes}
-use Rattle.def_file_accepted.specs.Accepting.{read_as_accepted}
+use Rattle.def_check.specs.Accepting.{read_as_accepted}
 use Rattle.def_program.specs.Program.{game_answer, refusal, success}
 use Rattle.def_program.specs.Meaning.{FileMeans, MeansOnly}
 use Rattle.def_program.specs.Lines.{of_file}
@@ -43,7 +43,7 @@ module _ (text : GameFile → List ℕ) (content : Option (List ℕ)) where
     pub done : HasNoFault out.faults → Wrote out bytes → IsDone (FileTold text content) files out
     done written wrote = record { text = bytes; means = means_text; read = read; written = written; wrote = wrote }
 
-    pub cut_off : MayHaveFailed out.faults → WroteFront out bytes → IsCut (FileTold text content) files out
+    pub cut_off : HasFailedOnce out.faults → WroteFront out bytes → IsCut (FileTold text content) files out
     cut_off cause front = record { text = bytes; means = means_text; read = read; cause = cause; front = front }
 
     -- the same by the end of a run on the game

@@ -1,5 +1,5 @@
 -- The texts that are written of an accepted game.
-use Rattle.std.proofs.Common.{◌≡◌, ℕ, ◌+◌, ◌<◌, ◌≤◌, Bool, true, false, cond, List, [], ◌∷◌, ◌++◌, length, get_or, take, None, Some, refl, sym, ap, ◌∙◌, append_assoc, subst}
+use Rattle.std.proofs.Common.{◌≡◌, ℕ, ◌+◌, ◌<◌, ◌≤◌, Bool, true, false, cond, List, [], ◌∷◌, ◌++◌, length, get_or, take, None, Some, refl, sym, ap, ◌∙◌, append_assoc}
 use Rattle.std.specs.Prelude.{nat_eq}
 use Rattle.std.proofs.lemmas.List.{take_all, take_more}
 use Rattle.def_tree.specs.Tree.{node_count}
@@ -9,20 +9,18 @@ use Rattle.def_game_scale.specs.Scale.{game_unit}
 use Rattle.def_game_numbers.specs.Numbers.{tables_of}
 use Rattle.def_plan.specs.Form.{SequenceForm, sequence_count}
 use Rattle.def_sequence_form.proofs.Leaves.{form_has_the_mass}
-use Rattle.def_bracket.specs.Offers.{board_after}
-use Rattle.def_bracket.specs.Outcome.{Head, Outcome}
+use Rattle.def_reply.specs.Offers.{board_after}
+use Rattle.def_reply.specs.Outcome.{Head, Outcome}
 use Rattle.def_run.specs.Run.{offers, outcome, outcome_with}
-use Rattle.def_cert_verdict.specs.Verdict.{WeighedGame}
-use Rattle.def_cert_verdict.specs.Laws.{IsHeadOf}
 use Rattle.def_cert_accepted.specs.OfOutcome.{certificate_of}
 use Rattle.def_cert_text.specs.CertText.{cert_text}
 use Rattle.def_command.specs.Grammar.{Settings}
-use Rattle.def_text.specs.Text.{form_of_file, game_head, between_marks, solve_text}
+use Rattle.def_program.specs.Text.{form_of_file, game_head, between_marks, solve_text}
 use Rattle.def_program.proofs.Played.{leaves_are}
 use Rattle.xg_engine.specs.State.{head_with}
 use Rattle.xg_engine.specs.declared.settings.Settings.{Settings as RunSettings}
 use Rattle.xg_run.specs.Settings.{settings_seen}
-use Rattle.def_file_accepted.specs.Weighed.{weighed_game}
+use Rattle.def_game_numbers.specs.Weighed.{weighed_game}
 
 -- what is escaped piece by piece is escaped whole
 pub escaped_append : (xs ys : List ℕ) → escaped (xs ++ ys) ≡ escaped xs ++ escaped ys
@@ -52,27 +50,6 @@ pub quoted_whole : (text : List ℕ) (i : ℕ) (front items new : List ℕ) → 
 quoted_whole text i front items new all is more =
     more ∙ ap (λ (xs : List ℕ). xs ++ 34 ∷ []) is ∙ append_assoc front (34 ∷ escaped (take i text)) (34 ∷ [])
     ∙ ap (λ (xs : List ℕ). front ++ 34 ∷ (escaped xs ++ 34 ∷ [])) (take_all i text all)
-
--- the head of a game's numbers is the game's head
-pub head_is : (game : GameFile) (numbers : WeighedGame) → numbers ≡ weighed_game game → (settings : Settings)
-    (head : Head) → IsHeadOf numbers head
-    → head.rounds ≡ settings.rounds → head.every ≡ settings.every → head.scale ≡ settings.scale
-    → head ≡ game_head game settings
-head_is game numbers kept settings head of_numbers rounds every scale =
-    let is : IsHeadOf (weighed_game game) head = subst (λ (w : WeighedGame). IsHeadOf w head) kept of_numbers in
-    λ i. record {
-      nodes = is.nodes i;
-      leaves = (is.leaves ∙ leaves_are game) i;
-      sets_one = is.sets_one i;
-      sets_two = is.sets_two i;
-      sequences_one = is.sequences_one i;
-      sequences_two = is.sequences_two i;
-      unit = is.unit i;
-      mass = (is.mass_is ∙ form_has_the_mass.of_game (tables_of game) game.tree) i;
-      rounds = rounds i;
-      every = every i;
-      scale = scale i;
-    }
 
 -- the head of a run is the game's head
 pub run_head_is : (game : GameFile) (settings : RunSettings)

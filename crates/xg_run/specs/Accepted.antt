@@ -4,8 +4,8 @@ use Rattle.def_file.specs.Content.{GameFile}
 use Rattle.def_game_numbers.specs.Numbers.{game_file_fault}
 use Rattle.xg_game.specs.declared.fault.Refused.{Refused}
 use Rattle.xg_game.specs.declared.fault.Refused.TheVariants.{File, NoMemory}
-use Rattle.def_cert_verdict.specs.Verdict.{WeighedGame}
-use Rattle.def_file_accepted.specs.Weighed.{weighed_game}
+use Rattle.def_plan.specs.Weighed.{WeighedGame}
+use Rattle.def_game_numbers.specs.Weighed.{weighed_game}
 
 -- the numbers are the game's
 abbrev pub KeepsNumbersOfGame : GameFile → WeighedGame → Type 0

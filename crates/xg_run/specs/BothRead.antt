@@ -1,6 +1,6 @@
 -- What reading a file and a certificate answers, where the bytes of both are told.
 use Rattle.std.specs.Prelude.{◌≡◌, ℕ, ◌<◌, ◌≤◌, List, length, Option, IfSome, Result, Ok, Err}
-use Rattle.def_outside.specs.Cause.{Rose}
+use Rattle.def_outside.specs.Cause.{RoseByOne}
 use Rattle.def_file.specs.Reading.{most_bytes}
 use Rattle.def_check.specs.Check.{most_cert_bytes}
 use Rattle.xg_run.specs.declared.both.Both.{Both}
@@ -21,10 +21,10 @@ pub record HaveLengthsWithin (both : Both) : Type 0 where
   pub file : length both.file.items ≤ most_bytes
   pub certificate : length both.certificate.items ≤ most_cert_bytes
 
--- the count of faults rose only where one of them can't be read
+-- exactly one fault is counted where one of them can't be read, and else none
 abbrev pub BothHaveCause : ℕ → ℕ → Result Both BothFault → Type 0
 BothHaveCause before now (Ok both) = now ≡ before
-BothHaveCause before now (Err ReadFault) = Rose before now
+BothHaveCause before now (Err ReadFault) = RoseByOne before now
 BothHaveCause before now (Err FileTooLong) = now ≡ before
 BothHaveCause before now (Err CertificateTooLong) = now ≡ before
 BothHaveCause before now (Err NoMemory) = now ≡ before

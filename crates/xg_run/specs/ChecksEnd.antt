@@ -1,10 +1,10 @@
 -- How a check ends.
 use Rattle.std.specs.Prelude.{◌≡◌, ◌≢◌, ℕ, List, Option, IsSomeAnd, Ok, Err, string_bytes}
-use Rattle.def_outside.specs.Calls.{SinkCall, MayHaveFailed, HasNoFault, Wrote, WroteFront, IsUntouched}
+use Rattle.def_outside.specs.Calls.{SinkCall, HasFailedOnce, HasNoFault, Wrote, WroteFront, IsUntouched}
 use Rattle.def_cert_verdict.specs.Verdict.{Verdict}
 use Rattle.def_check.specs.Check.{Refusal, checked}
-use Rattle.def_text.specs.CheckLines.{cert_long_line, refusal_line, verdict_text}
-use Rattle.def_text.specs.Lines.{fault_line}
+use Rattle.def_program.specs.CheckLines.{cert_long_line, refusal_line, verdict_text}
+use Rattle.def_program.specs.TextLines.{fault_line}
 use Rattle.def_file.specs.declared.FileFault.TheVariants.{TooLong}
 use Rattle.def_program.specs.Program.{Answer}
 use Rattle.def_program.specs.Meaning.{CheckMeans}
@@ -28,7 +28,7 @@ pub record WroteVerdict (file certificate : List ℕ) (out : SinkCall) : Type 0 
 pub record CutVerdict (file certificate : List ℕ) (out : SinkCall) : Type 0 where
   pub shown : Verdict
   pub is_shown : checked file certificate ≡ Ok shown
-  pub cause : MayHaveFailed out.faults
+  pub cause : HasFailedOnce out.faults
   pub front : WroteFront out (verdict_text shown)
 
 -- the line says why the certificate isn't accepted

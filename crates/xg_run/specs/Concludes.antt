@@ -1,11 +1,11 @@
 -- What holds of a command that ends so, whatever the command is. `checks` says whether it checks a certificate, `meant`
 -- which answers are meant by what the files tell.
 use Rattle.std.specs.Prelude.{◌≡◌, List, ℕ, Option, Some, None, IsSomeAnd, string_bytes}
-use Rattle.def_outside.specs.Calls.{FilesCall, SinkCall, MayHaveFailed, HasNoFault, Wrote, WroteFront, IsUntouched}
+use Rattle.def_outside.specs.Calls.{FilesCall, SinkCall, HasFailedOnce, HasNoFault, Wrote, WroteFront, IsUntouched}
 use Rattle.def_file.specs.declared.FileFault.{FileFault}
 use Rattle.def_file.specs.Content.{GameFile}
 use Rattle.def_game_numbers.specs.Numbers.{game_file_fault}
-use Rattle.def_text.specs.Lines.{fault_line}
+use Rattle.def_program.specs.TextLines.{fault_line}
 use Rattle.def_program.specs.Program.{Answer, success, refusal, usage}
 use Rattle.def_program.specs.Meaning.{FileMeans, MeansOnly}
 use Rattle.def_program.specs.Lines.{IsLine}
@@ -36,7 +36,7 @@ pub record IsUsage (meant : Answer → Type 0) (files : FilesCall) (out : SinkCa
 
 -- the files failed
 pub record IsUnread (files : FilesCall) (out : SinkCall) : Type 0 where
-  pub cause : MayHaveFailed files.faults
+  pub cause : HasFailedOnce files.faults
   pub untouched : IsUntouched out
 
 -- the sink failed on the text that is meant
@@ -44,7 +44,7 @@ pub record IsCut (meant : Answer → Type 0) (files : FilesCall) (out : SinkCall
   pub text : List ℕ
   pub means : MeansOnly meant (success text)
   pub read : HasNoFault files.faults
-  pub cause : MayHaveFailed out.faults
+  pub cause : HasFailedOnce out.faults
   pub front : WroteFront out text
 
 abbrev pub Concludes : Type 0 → (Answer → Type 0) → FilesCall → SinkCall → Ending → Type 0
@@ -62,7 +62,7 @@ FileTold text content answer = IsSomeAnd content (λ bytes. FileMeans text bytes
 -- the end of a run on an accepted game: the text was written or cut off, or memory ran out before
 abbrev pub Tells : List ℕ → SinkCall → Ending → Type 0
 Tells text out Done = HasNoFault out.faults × Wrote out text
-Tells text out WriteFault = MayHaveFailed out.faults × WroteFront out text
+Tells text out WriteFault = HasFailedOnce out.faults × WroteFront out text
 Tells text out NoMemory = IsUntouched out
 Tells text out (Refused line) = ⊥
 Tells text out Usage = ⊥

@@ -1,6 +1,6 @@
 -- The exit status of an ending, and the line that it says.
 use Rattle.std.specs.Prelude.{ℕ, List, [], string_bytes}
-use Rattle.def_text.specs.Lines.{usage_line, read_line, write_line, memory_line}
+use Rattle.def_program.specs.TextLines.{usage_line, read_line, write_line, memory_line}
 use Rattle.xg_run.specs.declared.ending.Ending.{Ending}
 use Rattle.xg_run.specs.declared.ending.Ending.TheVariants.{Done, Refused, Usage, ReadFault, WriteFault, NoMemory}
 

@@ -1,10 +1,10 @@
 -- What loading a game answers, where the bytes of the file are told.
 use Rattle.std.specs.Prelude.{◌≡◌, ℕ, List, Option, IfSome, Result, Ok, Err}
-use Rattle.def_outside.specs.Cause.{Rose}
+use Rattle.def_outside.specs.Cause.{RoseByOne}
 use Rattle.def_file.specs.declared.FileFault.{FileFault}
 use Rattle.def_file.specs.Content.{GameFile}
 use Rattle.def_game_numbers.specs.Numbers.{game_file_fault}
-use Rattle.def_file_accepted.specs.Accepting.{read_as_accepted, read_as_game, unless_faulty}
+use Rattle.def_check.specs.Accepting.{read_as_accepted, read_as_game, unless_faulty}
 use Rattle.xg_run.specs.declared.load.LoadFault.{LoadFault}
 use Rattle.xg_run.specs.declared.load.LoadFault.TheVariants.{ReadFault, Refused, NoMemory}
 
@@ -30,10 +30,10 @@ AcceptsOrRefuses game (Err (Refused fault)) = unless_faulty (game_file_fault gam
 AcceptsOrRefuses game (Err ReadFault) = ⊥
 AcceptsOrRefuses game (Err NoMemory) = Unit {0}
 
--- the count of faults rose only where the file can't be read
+-- exactly one fault is counted where the file can't be read, and else none
 abbrev pub LoadHasCause : {T : Type 0} → ℕ → ℕ → Result T LoadFault → Type 0
 LoadHasCause before now (Ok _) = now ≡ before
-LoadHasCause before now (Err ReadFault) = Rose before now
+LoadHasCause before now (Err ReadFault) = RoseByOne before now
 LoadHasCause before now (Err (Refused fault)) = now ≡ before
 LoadHasCause before now (Err NoMemory) = now ≡ before
 

@@ -1,7 +1,7 @@
 -- The end of a run on a file with a fault.
 use Rattle.std.specs.Prelude.{◌≡◌, ℕ, List, string_bytes}
 use Rattle.def_file.specs.declared.FileFault.{FileFault}
-use Rattle.def_text.specs.Lines.{fault_line}
+use Rattle.def_program.specs.TextLines.{fault_line}
 use Rattle.xg_run.specs.declared.load.LoadFault.{LoadFault}
 use Rattle.xg_run.specs.declared.load.LoadFault.TheVariants as faults
 use Rattle.xg_run.specs.declared.ending.Ending.{Ending}

@@ -1,8 +1,8 @@
 -- The line of a check's fault.
 use Rattle.std.specs.Prelude.{◌≡◌, ℕ, List}
 use Rattle.def_cert_verdict.specs.declared.fault.TestFault.TheVariants as test
-use Rattle.def_text.specs.Lines.{fault_line}
-use Rattle.def_text.specs.CheckLines.{cert_fault_line, test_fault_line}
+use Rattle.def_program.specs.TextLines.{fault_line}
+use Rattle.def_program.specs.CheckLines.{cert_fault_line, test_fault_line}
 use Rattle.xg_check.specs.declared.verdict.CheckFault.{CheckFault}
 use Rattle.xg_check.specs.declared.verdict.CheckFault.TheVariants.{File, Cert, HeadDiffers, NotAPlan, ValueTooGood, ReplyNotTight, TotalDiffers, TraceWidens, NoMemory}
 

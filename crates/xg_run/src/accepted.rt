@@ -1,18 +1,17 @@
 //! A game that is accepted.
 ghost use Rattle.std.specs.Prelude.{◌≡◌, IfOk, None};
-ghost use Rattle.def_text.specs.Text.{game_head};
+ghost use Rattle.def_program.specs.Text.{game_head};
 ghost use Rattle.xg_cert.specs.Outcome.{head_of};
 ghost use Rattle.xg_run.specs.Accepted.{Opens};
 ghost use Rattle.xg_run.specs.Settings.{settings_seen};
-ghost use Rattle.def_file_accepted.specs.Weighed.{weighed_game};
+ghost use Rattle.def_game_numbers.specs.Weighed.{weighed_game};
 
 use std::alloc::{AllocError, Global};
 use std::marker::Model;
 use xg_cert::Head;
-use xg_engine::{Engine, Settings};
+use xg_engine::{Engine, Settings, head_with};
 use xg_game::{Game, Refused};
 use xg_numbers::Numbers;
-use xg_plan::Player;
 
 /// A game that is accepted: as its file has it, and in numbers.
 #[derive(Drop)]
@@ -79,20 +78,6 @@ impl Accepted {
     pub fn head(&self, settings: Settings) -> Head
         ensures { head_of result ≡ game_head self.now (settings_seen settings) }
     {
-        let form = self.numbers.form();
-        Head {
-            nodes: self.numbers.nodes(),
-            leaves: form.leaf_count(),
-            sets: (form.set_count(Player::One), form.set_count(Player::Two)),
-            sequences: (
-                form.sequence_count(Player::One),
-                form.sequence_count(Player::Two),
-            ),
-            unit: self.numbers.unit(),
-            mass: self.numbers.mass(),
-            rounds: settings.rounds,
-            every: settings.every,
-            scale: settings.scale,
-        }
+        head_with(&self.numbers, settings)
     }
 }

@@ -1,5 +1,6 @@
 //! Reading a game file and a certificate.
-ghost use Rattle.std.specs.Prelude.{◌<◌, IfOk, IsErrOf, IsTrue};
+ghost use Rattle.std.specs.Prelude.{◌≡◌, ◌+◌, ◌<◌, ◌≤◌, IfOk, IsErrOf, IsTrue};
+ghost use Rattle.def_outside.specs.Cause.{next_count};
 ghost use Rattle.def_file.specs.Reading.{most_bytes};
 ghost use Rattle.def_check.specs.Check.{most_cert_bytes};
 ghost use Rattle.xg_run.specs.BothRead.{HaveLengthsWithin, BothHaveCause, ReadsBoth};
@@ -42,6 +43,8 @@ pub fn read_both<F: Files>(
     ensures file_too_long { IsErrOf result BothFault.FileTooLong → most_bytes < F.taken files.new }
     ensures certificate_too_long { IsErrOf result BothFault.CertificateTooLong
         → most_cert_bytes < F.taken files.new }
+    ensures opens { F.opens files.new ≤ F.opens files.old + 2 }
+    ensures file_alone { IsErrOf result BothFault.FileTooLong → F.opens files.new ≡ next_count (F.opens files.old) }
     ensures cause { BothHaveCause (F.faults files.old) (F.faults files.new) result }
 {
     let file = match read_all(alloc, files, file, MOST_BYTES) {

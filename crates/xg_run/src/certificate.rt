@@ -2,8 +2,7 @@
 use xg_cert::{Outcome, write_cert};
 use xg_game::Game;
 use xg_gen::write_game;
-use xg_io::{Sink, WriteFault};
-use xg_page::Text;
+use xg_io::{Sink, Text, WriteFault};
 use xg_seq::SeqForm;
 
 /// The certificate of an outcome.

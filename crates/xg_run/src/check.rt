@@ -1,11 +1,12 @@
 //! Checking a certificate.
 ghost use Rattle.std.specs.Prelude.{◌≡◌, ◌≢◌, ◌≤◌, ◌++◌, IfOk, IsTrue, OnErr, length, string_bytes};
 ghost use Rattle.def_fraction.specs.Text.{fraction_text};
-ghost use Rattle.def_outside.specs.Calls.{files_call, sink_call};
+ghost use Rattle.def_outside.specs.Calls.{OpensAtMost};
+ghost use Rattle.xg_io.specs.Calls.{files_call, sink_call};
 ghost use Rattle.def_outside.specs.Cause.{HasCause};
 ghost use Rattle.def_file.specs.Reading.{most_bytes};
 ghost use Rattle.def_check.specs.Check.{most_cert_bytes};
-ghost use Rattle.def_text.specs.CheckLines.{verdict_text};
+ghost use Rattle.def_program.specs.CheckLines.{verdict_text};
 ghost use Rattle.def_outside.specs.Sinks.{Writes};
 ghost use Rattle.xg_check.specs.Answers.{verdict_of};
 ghost use Rattle.xg_run.specs.ChecksEnd.{CheckTold, EndsCheck, EndsUnread};
@@ -36,7 +37,8 @@ pub fn check<F: Files, O: Sink>(
     requires file { IsTrue (F.may_open files.old file.now) }
     requires certificate { IsNotTooLong (F.told files.old file.now) → IsTrue (F.may_open files.old certificate.now) }
     ensures concludes { Concludes (Unit {0}) (CheckTold (F.told files.old file.now) (F.told files.old certificate.now))
-        (files_call F.told F.taken F.faults files.old files.new) (sink_call O.written O.faults out.old out.new) result }
+        (files_call F.Files files.old files.new) (sink_call O.Sink out.old out.new) result }
+    ensures opens { OpensAtMost (files_call F.Files files.old files.new) 2 }
     ensures command { status_of result ≢ 2 }
 {
     match read_both(alloc, files, file, certificate) {
@@ -49,7 +51,7 @@ pub fn check<F: Files, O: Sink>(
 fn check_bytes<O: Sink>(alloc: Global, file: &[u8], certificate: &[u8], out: &mut O) -> Ending
     requires file { length file.now ≤ most_bytes }
     requires certificate { length certificate.now ≤ most_cert_bytes }
-    ensures { EndsCheck file.now certificate.now (sink_call O.written O.faults out.old out.new) result }
+    ensures { EndsCheck file.now certificate.now (sink_call O.Sink out.old out.new) result }
 {
     match xg_check::check(alloc, file, certificate) {
         Ok(verdict) => ending_of(write_verdict(verdict, out)),

@@ -1,6 +1,6 @@
 //! The lines that say why a certificate isn't accepted.
 ghost use Rattle.std.specs.Prelude.{◌≡◌, IfOk, string_bytes};
-ghost use Rattle.def_text.specs.CheckLines.{cert_fault_line, end_name, player_number};
+ghost use Rattle.def_program.specs.CheckLines.{cert_fault_line, end_name, player_number};
 ghost use Rattle.xg_run.specs.RefusalLine.{IsCheckLine};
 
 use crate::text::fault_line;

@@ -1,6 +1,7 @@
 //! How a run ends.
 ghost use Rattle.std.specs.Prelude.{◌≡◌, ◌≢◌};
-ghost use Rattle.def_outside.specs.Calls.{Says, sink_call};
+ghost use Rattle.def_outside.specs.Calls.{Says};
+ghost use Rattle.xg_io.specs.Calls.{sink_call};
 ghost use Rattle.xg_run.specs.Endings.{status_of, line_at_end};
 
 use xg_io::{Sink, write_all};
@@ -28,7 +29,7 @@ impl Ending {
     pub fn finish<E: Sink>(&self, err: &mut E) -> u8
         ensures status { result ≡ status_of self.now }
         ensures silent { status_of self.now ≡ 0 → err.new ≡ err.old }
-        ensures said { status_of self.now ≢ 0 → Says (sink_call E.written E.faults err.old err.new) (line_at_end self.now) }
+        ensures said { status_of self.now ≢ 0 → Says (sink_call E.Sink err.old err.new) (line_at_end self.now) }
     {
         let status = self.status();
         if status != 0 {
@@ -38,7 +39,7 @@ impl Ending {
     }
 
     fn say<E: Sink>(&self, err: &mut E)
-        ensures { Says (sink_call E.written E.faults err.old err.new) (line_at_end self.now) }
+        ensures { Says (sink_call E.Sink err.old err.new) (line_at_end self.now) }
     {
         let _ = write_all(err, self.line());
     }

@@ -1,5 +1,6 @@
 //! Loading a game from its file.
 ghost use Rattle.std.specs.Prelude.{◌≡◌, ◌≢◌, ◌<◌, ◌≤◌, length, IsTrue, IsErrOf};
+ghost use Rattle.def_outside.specs.Cause.{next_count};
 ghost use Rattle.def_file.specs.Reading.{game_at, most_bytes};
 ghost use Rattle.xg_run.specs.Loads.{AcceptsOrRefuses, LoadHasCause, Loads, LoadsGame, ReadsGame};
 
@@ -20,12 +21,14 @@ pub enum LoadFault {
 }
 
 /// The accepted game of the file of a name.
+#[tactic(auto, using(crate::proofs::Loaded::accepted_is_loaded, crate::proofs::Loaded::unread_is_unloaded))]
 pub fn load<F: Files>(alloc: Global, files: &mut F, name: &str) -> Result<Accepted, LoadFault>
     requires { IsTrue (F.may_open files.old name.now) }
     ensures exact { Loads (F.told files.old name.now) result }
     ensures too_long { IsErrOf result (LoadFault.Refused FileFault.TooLong) → most_bytes < F.taken files.new }
     ensures same_told { F.told files.new ≡ F.told files.old }
     ensures same_names { F.may_open files.new ≡ F.may_open files.old }
+    ensures one_open { F.opens files.new ≡ next_count (F.opens files.old) }
     ensures cause { LoadHasCause (F.faults files.old) (F.faults files.new) result }
 {
     let game = load_game(alloc, files, name)?;
@@ -45,13 +48,14 @@ fn accept(alloc: Global, game: Game) -> Result<Accepted, LoadFault>
 }
 
 /// The game of the file of a name.
-#[tactic(auto, unfolding(def_file_accepted::specs::Accepting::read_as_game))]
+#[tactic(auto, unfolding(def_check::specs::Accepting::read_as_game))]
 fn load_game<F: Files>(alloc: Global, files: &mut F, name: &str) -> Result<Game, LoadFault>
     requires { IsTrue (F.may_open files.old name.now) }
     ensures exact { LoadsGame (F.told files.old name.now) result }
     ensures too_long { IsErrOf result (LoadFault.Refused FileFault.TooLong) → most_bytes < F.taken files.new }
     ensures same_told { F.told files.new ≡ F.told files.old }
     ensures same_names { F.may_open files.new ≡ F.may_open files.old }
+    ensures one_open { F.opens files.new ≡ next_count (F.opens files.old) }
     ensures cause { LoadHasCause (F.faults files.old) (F.faults files.new) result }
 {
     match read_all(alloc, files, name, MOST_BYTES) {

@@ -1,9 +1,9 @@
 //! Games that aren't read from a file.
 ghost use Rattle.std.specs.Prelude.{◌≤◌};
-ghost use Rattle.def_outside.specs.Calls.{sink_call};
+ghost use Rattle.xg_io.specs.Calls.{sink_call};
 ghost use Rattle.def_sums.specs.Limits.{least_cards, most_cards};
 ghost use Rattle.def_canon.specs.Canon.{canon};
-ghost use Rattle.def_poker.specs.Poker.{poker};
+ghost use Rattle.def_canon.specs.Poker.{poker};
 ghost use Rattle.def_program.specs.Program.{solved};
 ghost use Rattle.xg_engine.specs.State.{AreWithinLimits};
 ghost use Rattle.xg_run.specs.Concludes.{EndsMade, Tells};
@@ -22,14 +22,13 @@ use xg_board::LockedRows;
 use xg_engine::Settings;
 use xg_game::Refused;
 use xg_gen::one_card_poker;
-use xg_io::{Gate, Sink};
-use xg_page::write_paged;
+use xg_io::{Gate, Sink, write_paged};
 
 /// Writes one-card poker as a file.
 pub fn generate<O: Sink>(alloc: Global, cards: u32, out: &mut O) -> Ending
     requires low { least_cards ≤ cards }
     requires high { cards ≤ most_cards }
-    ensures { Tells (canon (poker cards)) (sink_call O.written O.faults out.old out.new) result }
+    ensures { Tells (canon (poker cards)) (sink_call O.Sink out.old out.new) result }
 {
     match one_card_poker(alloc, cards) {
         Ok(game) => {
@@ -53,7 +52,7 @@ pub fn drill<Rt: Threads + Wait + Sync, O: Sink, G: Gate>(
     requires low { least_cards ≤ cards }
     requires high { cards ≤ most_cards }
     requires limits { AreWithinLimits settings }
-    ensures { EndsMade (solved (settings_seen settings)) (poker cards) (sink_call O.written O.faults out.old out.new) result }
+    ensures { EndsMade (solved (settings_seen settings)) (poker cards) (sink_call O.Sink out.old out.new) result }
 {
     let Ok(game) = one_card_poker(alloc, cards) else {
         return Ending::NoMemory;

@@ -1,11 +1,11 @@
 //! Solving an accepted game.
 ghost use Rattle.std.specs.Prelude.{◌≡◌, IfOk, IfSome, OnOk, Some};
 ghost use Rattle.std.specs.Thread.{IsSync};
-ghost use Rattle.def_outside.specs.Calls.{sink_call};
+ghost use Rattle.xg_io.specs.Calls.{sink_call};
 ghost use Rattle.def_file.specs.Content.{GameFile};
-ghost use Rattle.def_file_accepted.specs.Weighed.{weighed_game};
+ghost use Rattle.def_game_numbers.specs.Weighed.{weighed_game};
 ghost use Rattle.def_run.specs.Run.{outcome};
-ghost use Rattle.def_text.specs.Text.{solve_text};
+ghost use Rattle.def_program.specs.Text.{solve_text};
 ghost use Rattle.xg_cert.specs.Writable.{IsOutcomeOf};
 ghost use Rattle.xg_engine.specs.State.{AreWithinLimits, head_with};
 ghost use Rattle.xg_jobs.specs.Rows.{AreNumbersOf, ArePlainSums};
@@ -24,9 +24,8 @@ use std::thread::Threads;
 use xg_board::{LockedRows, MadeBy};
 use xg_cert::Outcome;
 use xg_engine::{Engine, Settings};
-use xg_io::{Gate, Sink, WriteFault};
+use xg_io::{Gate, Sink, WriteFault, write_paged};
 use xg_jobs::{JobTable, PlainRows, RowInput, Rows};
-use xg_page::write_paged;
 
 /// Plays the rounds that are asked, and writes the text of what they leave.
 pub fn play<Rt: Threads + Wait + Sync, O: Sink, G: Gate>(
@@ -38,7 +37,7 @@ pub fn play<Rt: Threads + Wait + Sync, O: Sink, G: Gate>(
     out: &mut O,
 ) -> Ending
     requires { AreWithinLimits settings }
-    ensures { Tells (solve_text accepted (settings_seen settings)) (sink_call O.written O.faults out.old out.new) result }
+    ensures { Tells (solve_text accepted (settings_seen settings)) (sink_call O.Sink out.old out.new) result }
 {
     if settings.rounds == 0 {
         let ending = write_unplayed(alloc, &accepted, settings, out);
@@ -64,7 +63,7 @@ fn play_by<Rt: Threads + Wait + Sync, O: Sink, G: Gate>(
 ) -> Ending
     requires { AreWithinLimits settings }
     ensures { (game : GameFile) → engine.old.game ≡ weighed_game game
-        → Tells (solve_text game (settings_seen settings)) (sink_call O.written O.faults out.old out.new) result }
+        → Tells (solve_text game (settings_seen settings)) (sink_call O.Sink out.old out.new) result }
 {
     let Ok(()) = play_rounds(rt, alloc, engine, settings, rows) else {
         return Ending::NoMemory;
@@ -117,7 +116,7 @@ fn write_unplayed<O: Sink>(
     out: &mut O,
 ) -> Ending
     requires { settings.rounds ≡ 0 }
-    ensures { Tells (solve_text accepted.now (settings_seen settings)) (sink_call O.written O.faults out.old out.new) result }
+    ensures { Tells (solve_text accepted.now (settings_seen settings)) (sink_call O.Sink out.old out.new) result }
 {
     let numbers = accepted.numbers();
     numbers.unit();

@@ -1,12 +1,12 @@
 //! The top call.
-ghost use Rattle.std.specs.Prelude.{◌≡◌, ◌≢◌, ◌⊎◌, ◌↔◌, ◌≤◌, IfSome, IsNone, IsTrue};
+ghost use Rattle.std.specs.Prelude.{◌≡◌, ◌≢◌, ◌⊎◌, ◌↔◌, ◌≤◌, IfSome, IsNone, IsTrue, length};
 ghost use Rattle.def_sums.specs.Limits.{most_workers};
-ghost use Rattle.def_outside.specs.Calls.{HasFailed, MayHaveFailed, Wrote, WroteFront, WroteNothing};
-ghost use Rattle.def_outside.specs.Calls.{files_call, sink_call};
-ghost use Rattle.def_command.specs.Grammar.{command_of_words};
+ghost use Rattle.def_outside.specs.Calls.{HasFailed, HasFailedOnce, MayHaveFailed, OpensAtMost, Wrote, WroteFront, WroteNothing};
+ghost use Rattle.xg_io.specs.Calls.{files_call, sink_call};
+ghost use Rattle.def_command.specs.Grammar.{command_of_words, named_files};
 ghost use Rattle.def_command.specs.Table.{Workers, default_number};
 ghost use Rattle.def_program.specs.Program.{solved};
-ghost use Rattle.def_text.specs.Text.{info_text};
+ghost use Rattle.def_program.specs.Text.{info_text};
 ghost use Rattle.xg_command.specs.Values.{settings_value};
 ghost use Rattle.xg_engine.specs.State.{AreWithinLimits};
 ghost use Rattle.xg_run.specs.Settings.{settings_seen};
@@ -26,6 +26,7 @@ use crate::load::{LoadFault, load};
 use crate::made::{drill, generate};
 use crate::playing::{ending_of, play};
 use crate::text::{fault_line, info_front, write_info};
+use def_sums::MOST_SCALE;
 use std::alloc::Global;
 use std::marker::Sync;
 use std::sync::Wait;
@@ -34,7 +35,6 @@ use xg_board::LockedRows;
 use xg_command::{Command, Settings as WordSettings, Words};
 use xg_engine::Settings;
 use xg_io::{Files, Gate, Sink};
-use xg_limits::MOST_SCALE;
 use xg_read::FileFault;
 
 /// How many stripes the rows are cut into that several workers add into.
@@ -64,7 +64,8 @@ fn solve<Rt: Threads + Wait + Sync, F: Files, O: Sink, G: Gate>(
     requires may_open { IsTrue (F.may_open files.old file.now) }
     requires limits { AreWithinLimits settings }
     ensures concludes { Concludes ⊥ (FileTold (solved (settings_seen settings)) (F.told files.old file.now))
-        (files_call F.told F.taken F.faults files.old files.new) (sink_call O.written O.faults out.old out.new) result }
+        (files_call F.Files files.old files.new) (sink_call O.Sink out.old out.new) result }
+    ensures opens { OpensAtMost (files_call F.Files files.old files.new) 1 }
     ensures command { status_of result ≢ 2 }
 {
     match load(alloc, files, file) {
@@ -77,7 +78,8 @@ fn solve<Rt: Threads + Wait + Sync, F: Files, O: Sink, G: Gate>(
 fn info<F: Files, O: Sink>(alloc: Global, file: &str, files: &mut F, out: &mut O) -> Ending
     requires { IsTrue (F.may_open files.old file.now) }
     ensures concludes { Concludes ⊥ (FileTold info_text (F.told files.old file.now))
-        (files_call F.told F.taken F.faults files.old files.new) (sink_call O.written O.faults out.old out.new) result }
+        (files_call F.Files files.old files.new) (sink_call O.Sink out.old out.new) result }
+    ensures opens { OpensAtMost (files_call F.Files files.old files.new) 1 }
     ensures command { status_of result ≢ 2 }
 {
     match load(alloc, files, file) {
@@ -92,7 +94,7 @@ fn info<F: Files, O: Sink>(alloc: Global, file: &str, files: &mut F, out: &mut O
 
 /// Tells of an accepted game.
 fn tell<O: Sink>(alloc: Global, accepted: &Accepted, out: &mut O) -> Ending
-    ensures { Tells (info_text accepted.now) (sink_call O.written O.faults out.old out.new) result }
+    ensures { Tells (info_text accepted.now) (sink_call O.Sink out.old out.new) result }
 {
     let Ok(front) = info_front(alloc, accepted.game()) else {
         return Ending::NoMemory;
@@ -157,7 +159,8 @@ fn conclude<Rt: Threads + Wait + Sync, F: Files, O: Sink, G: Gate>(
 ) -> Ending
     requires { MayOpen (F.told files.old) (F.may_open files.old) (command_of_words words.now) }
     ensures concludes { Concludes (IsCheck (command_of_words words.now)) (Means words.now (F.told files.old))
-        (files_call F.told F.taken F.faults files.old files.new) (sink_call O.written O.faults out.old out.new) result }
+        (files_call F.Files files.old files.new) (sink_call O.Sink out.old out.new) result }
+    ensures opens { OpensAtMost (files_call F.Files files.old files.new) (length (named_files words.now)) }
     ensures usage { (status_of result ≡ 2) ↔ IsNone (command_of_words words.now) }
 {
     match words.command() {
@@ -201,8 +204,8 @@ fn conclude<Rt: Threads + Wait + Sync, F: Files, O: Sink, G: Gate>(
 /// | 4 | `out` failed; a front of the text was written |
 /// | 5 | memory ran out |
 ///
-/// Nothing is written to `out` before the work is over. A fault of `err` changes no status: for 0, 2 and 4 the clauses
-/// show it, and for each status the contract of `Ending::finish`, which alone writes to `err`.
+/// Nothing is written to `out` before the work is over. A fault of `err` changes no status: the line that `err` failed to
+/// take is that of the status, too.
 pub fn run<Rt: Threads + Wait + Sync, F: Files, O: Sink, E: Sink, G: Gate>(
     rt: &Rt,
     alloc: Global,
@@ -222,39 +225,42 @@ pub fn run<Rt: Threads + Wait + Sync, F: Files, O: Sink, E: Sink, G: Gate>(
 
     // A file is refused only where this is meant, and what is meant is answered where nothing failed, memory apart.
     ensures refused { result ≡ 1 → EachMeant (Means words.now (F.told files.old)) (λ answer. answer.status ≡ 1) }
-    ensures complete { (MayHaveFailed (files_call F.told F.taken F.faults files.old files.new).faults → ⊥)
+    ensures complete { (MayHaveFailed (files_call F.Files files.old files.new).faults → ⊥)
         → EachMeant (Means words.now (F.told files.old)) (λ answer.
-        (answer.status ≡ 0 → MayHaveFailed (sink_call O.written O.faults out.old out.new).faults → ⊥)
+        (answer.status ≡ 0 → MayHaveFailed (sink_call O.Sink out.old out.new).faults → ⊥)
         → EndsWith answer.status result) }
 
-    // A read fault has its cause in the files. Where they failed it is answered, memory apart.
-    ensures read_fault { result ≡ 3 → MayHaveFailed (files_call F.told F.taken F.faults files.old files.new).faults }
-    ensures files_failed { HasFailed (files_call F.told F.taken F.faults files.old files.new).faults
+    // A read fault is one fault of the files. Where they failed it is answered, memory apart. Each file that the words
+    // name is opened once at the most.
+    ensures read_fault { result ≡ 3 → HasFailedOnce (files_call F.Files files.old files.new).faults }
+    ensures files_failed { HasFailed (files_call F.Files files.old files.new).faults
         → EndsWith 3 result }
+    ensures opens { OpensAtMost (files_call F.Files files.old files.new) (length (named_files words.now)) }
 
-    // A write fault has its cause in the sink. Where that failed it is answered.
-    ensures write_fault { result ≡ 4 → MayHaveFailed (sink_call O.written O.faults out.old out.new).faults }
-    ensures out_failed { HasFailed (sink_call O.written O.faults out.old out.new).faults → result ≡ 4 }
+    // A write fault is one fault of the sink. Where that failed it is answered.
+    ensures write_fault { result ≡ 4 → HasFailedOnce (sink_call O.Sink out.old out.new).faults }
+    ensures out_failed { HasFailed (sink_call O.Sink out.old out.new).faults → result ≡ 4 }
 
     // What was written: the whole text that is meant, a front of it, or nothing.
     ensures whole { result ≡ 0 → EachMeant (Means words.now (F.told files.old)) (λ answer.
-        (answer.status ≡ 0) × Wrote (sink_call O.written O.faults out.old out.new) answer.text) }
+        (answer.status ≡ 0) × Wrote (sink_call O.Sink out.old out.new) answer.text) }
     ensures front { result ≡ 4 → EachMeant (Means words.now (F.told files.old)) (λ answer.
-        (answer.status ≡ 0) × WroteFront (sink_call O.written O.faults out.old out.new) answer.text) }
-    ensures nothing { result ≢ 0 → result ≢ 4 → WroteNothing (sink_call O.written O.faults out.old out.new) }
+        (answer.status ≡ 0) × WroteFront (sink_call O.Sink out.old out.new) answer.text) }
+    ensures nothing { result ≢ 0 → result ≢ 4 → WroteNothing (sink_call O.Sink out.old out.new) }
 
     // Of each game that was played for at least one round: what holds of the bounds that were written of both plans.
     ensures played { result ≡ 0 → ForEachPlayed words.now (F.told files.old)
-        (sink_call O.written O.faults out.old out.new) BoundsHold }
+        (sink_call O.Sink out.old out.new) BoundsHold }
 
     // Of each certificate that was accepted, whoever wrote it: the same of the bounds that its verdict has, of the
     // file's game.
     ensures checked { result ≡ 0 → ForEachChecked words.now (F.told files.old)
-        (sink_call O.written O.faults out.old out.new) BoundsHold }
+        (sink_call O.Sink out.old out.new) BoundsHold }
 
-    // What was said: the line of the status, a certificate's fault by `check` alone, and at 0 none.
+    // What was said: the line of the status, a certificate's fault by `check` alone, and at 0 none. Where `err` failed,
+    // it failed once, on a piece that was the rest of that line.
     ensures line { result ≢ 0 → SaysLine words.now (F.told files.old) result (F.taken files.new)
-        (sink_call E.written E.faults err.old err.new) }
+        (sink_call E.Sink err.old err.new) }
     ensures silent { result ≡ 0 → err.new ≡ err.old }
 {
     let ending = conclude(rt, alloc, words, files, out, gate);

@@ -3,8 +3,8 @@ ghost use Rattle.std.specs.Prelude.{◌≡◌, [], ◌∷◌, ◌++◌, IfOk, On
 ghost use Rattle.def_outside.specs.Cause.{HasCause};
 ghost use Rattle.def_file_tokens.specs.Texts.{escaped};
 ghost use Rattle.def_cert_text.specs.CertText.{head_text};
-ghost use Rattle.def_text.specs.Text.{info_front, between_marks};
-ghost use Rattle.def_text.specs.Lines.{fault_line, node_line, number_fault_name};
+ghost use Rattle.def_program.specs.Text.{info_front, between_marks};
+ghost use Rattle.def_program.specs.TextLines.{fault_line, node_line, number_fault_name};
 ghost use Rattle.xg_cert.specs.Outcome.{head_of};
 ghost use Rattle.def_outside.specs.Sinks.{Writes};
 

@@ -10,6 +10,7 @@ invariant-loop-n g l = let files = g.F.Files in record {
   read : Consumes (files.left l.fn.files) (files.left l.files) l.bytes.items;
   same_told : files.told l.files ≡ files.told l.fn.files;
   same_names : files.may_open l.files ≡ files.may_open l.fn.files;
+  same_opens : files.opens l.files ≡ files.opens l.fn.files;
   blameless : files.faults l.files ≡ files.faults l.fn.files;
 }
 

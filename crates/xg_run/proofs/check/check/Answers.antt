@@ -1,21 +1,21 @@
 use Rattle.std.proofs.Common.{Err, refl, ap}
-use Rattle.def_outside.specs.Calls.{files_call, sink_call}
+use Rattle.xg_io.specs.Calls.{files_call, sink_call}
 use Rattle.xg_run.proofs.Checking.{both_checked, not_both}
 use Rattle.xg_run.proofs.check.check.Goals as goal
 
 pub returns-in-Ok-clause-concludes : goal.returns-in-Ok-clause-concludes
 returns-in-Ok-clause-concludes g c =
     both_checked (g.F.Files.told c.args.files.now c.args.file.now) (g.F.Files.told c.args.files.now c.args.certificate.now)
-    (files_call g.F.Files.told g.F.Files.taken g.F.Files.faults c.args.files.now c.read_both.new.files)
-    (sink_call g.O.Sink.written g.O.Sink.faults c.args.out.now c.check_bytes.new.out)
+    (files_call g.F.Files c.args.files.now c.read_both.new.files)
+    (sink_call g.O.Sink c.args.out.now c.check_bytes.new.out)
     c.in-Ok.both c.deref.result.now c.deref-in-Ok.result.now c.deref.ensures.value c.deref-in-Ok.ensures.value
     c.in-Ok.ensures.exact c.in-Ok.ensures.within c.in-Ok.ensures.cause c.check_bytes.result c.check_bytes.ensures
 
 pub returns-in-Err-clause-concludes : goal.returns-in-Err-clause-concludes
 returns-in-Err-clause-concludes g c =
     not_both (g.F.Files.told c.args.files.now c.args.file.now) (g.F.Files.told c.args.files.now c.args.certificate.now)
-    (files_call g.F.Files.told g.F.Files.taken g.F.Files.faults c.args.files.now c.read_both.new.files)
-    (sink_call g.O.Sink.written g.O.Sink.faults c.args.out.now c.args.out.now) (refl, refl)
+    (files_call g.F.Files c.args.files.now c.read_both.new.files)
+    (sink_call g.O.Sink c.args.out.now c.args.out.now) (refl, refl)
     c.in-Err.fault c.unread.result c.unread.ensures c.in-Err.ensures.exact
     (λ e. c.in-Err.ensures.file_too_long (ap Err e)) (λ e. c.in-Err.ensures.certificate_too_long (ap Err e))
     c.in-Err.ensures.cause

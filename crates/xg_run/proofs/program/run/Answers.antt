@@ -1,5 +1,6 @@
 use Rattle.std.proofs.Common.{ℕ, List, Option, sym, ◌∙◌}
-use Rattle.def_outside.specs.Calls.{FilesCall, SinkCall, files_call, sink_call}
+use Rattle.def_outside.specs.Calls.{FilesCall, SinkCall}
+use Rattle.xg_io.specs.Calls.{files_call, sink_call}
 use Rattle.def_program.specs.Program.{Answer}
 use Rattle.def_program.specs.Bounds.{BoundsHold}
 use Rattle.def_command.specs.Grammar.{command_of_words}
@@ -14,8 +15,8 @@ use Rattle.xg_run.proofs.program.run.Goals as goal
 pub returns : goal.returns
 returns g c =
     let files : FilesCall =
-    files_call g.F.Files.told g.F.Files.taken g.F.Files.faults c.args.files.now c.conclude-ending.new.files in
-    let out : SinkCall = sink_call g.O.Sink.written g.O.Sink.faults c.args.out.now c.conclude-ending.new.out in
+    files_call g.F.Files c.args.files.now c.conclude-ending.new.files in
+    let out : SinkCall = sink_call g.O.Sink c.args.out.now c.conclude-ending.new.out in
     let words : List (List ℕ) = c.args.words.now in
     let told : List ℕ → Option (List ℕ) = g.F.Files.told c.args.files.now in
     let meant : Answer → Type 0 = Means words told in
@@ -31,6 +32,7 @@ returns g c =
       complete = shows.complete;
       read_fault = shows.read_fault;
       files_failed = shows.files_failed;
+      opens = c.conclude-ending.ensures.opens;
       write_fault = shows.write_fault;
       out_failed = shows.out_failed;
       whole = shows.whole;

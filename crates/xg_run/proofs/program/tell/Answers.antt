@@ -1,7 +1,7 @@
 use Rattle.std.proofs.Common.{◌≡◌, ◌++◌, ap, ◌∙◌}
-use Rattle.def_outside.specs.Calls.{sink_call}
+use Rattle.xg_io.specs.Calls.{sink_call}
 use Rattle.def_cert_text.specs.CertText.{head_text}
-use Rattle.def_text.specs.Text.{info_front, info_text}
+use Rattle.def_program.specs.Text.{info_front, info_text}
 use Rattle.xg_cert.specs.Outcome.{head_of}
 use Rattle.xg_run.proofs.Solved.{tells}
 use Rattle.xg_run.proofs.program.tell.Goals as goal
@@ -10,6 +10,6 @@ pub returns : goal.returns
 returns g c =
     let is : c.deref.result.now ++ head_text (head_of c.head.result) ≡ info_text c.args.accepted.now =
     (λ i. (c.deref.ensures.value ∙ c.in-Ok.ensures ∙ ap info_front c.game.ensures) i ++ head_text (c.head.ensures i)) in
-    tells (sink_call g.O.Sink.written g.O.Sink.faults c.args.out.now c.write_info.new.out) (info_text c.args.accepted.now)
+    tells (sink_call g.O.Sink c.args.out.now c.write_info.new.out) (info_text c.args.accepted.now)
     (c.deref.result.now ++ head_text (head_of c.head.result)) is c.write_info.result c.ending_of.result c.ending_of.ensures
     c.write_info.ensures.text c.write_info.ensures.cause
