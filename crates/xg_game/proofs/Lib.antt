@@ -4,3 +4,4 @@ pub mod ActionLemmas
 pub mod TableLemmas
 pub mod TextLemmas
 pub mod PairLemmas
+pub mod FractionLemmas

@@ -1,7 +1,7 @@
 -- Marks of numbers, and one number more.
 use Rattle.std.proofs.Common.{◌≡◌, ℕ, ◌+◌, ◌<◌, ◌≤◌, Bool, true, false, not, cond, ltb, eqb, nat_eq, List, [], ◌∷◌, ◌++◌, length, position, Some, None, refl, sym, ap, ◌∙◌, subst, eq-eqb, ne_eqb, arith, add-zero, length-append}
 use Rattle.std.specs.List.{position_or_len}
-use Rattle.std.specs.BTreeMap.{BTreeMap}
+use Rattle.indexmap.specs.IndexMap.{IndexMap}
 use Rattle.std.proofs.lemmas.Bool.{eqb-true, eqb-false, ltb-false, lt-ltb, le-ltb}
 use Rattle.std.proofs.lemmas.List.Folds.{position_or_len_push}
 use Rattle.xg_game.specs.Marks.{marked, mark_of, MarksEach}
@@ -58,7 +58,7 @@ module _ (p : ℕ → Bool) (xs : List ℕ) (x : ℕ) where
           ∙ sym (ap (λ c. cond c (Some (position_or_len p xs)) None) (lt-ltb (position_or_len p xs) (length xs) (omega arith)))
 
 -- one number more, with its mark
-pub MarksEach-push : (numbers near new : List ℕ) (far after : BTreeMap ℕ ℕ) (number : ℕ) → MarksEach numbers near far
+pub MarksEach-push : {S : Type 0} (numbers near new : List ℕ) (far after : IndexMap ℕ ℕ S) (number : ℕ) → MarksEach numbers near far
     → position (nat_eq number) numbers ≡ None
     → ((n : ℕ) → mark_of new after n ≡ cond (nat_eq n number) (length numbers + 1) (mark_of near far n))
     → MarksEach (numbers ++ number ∷ []) new after

@@ -6,5 +6,6 @@ pub mod Marks
 pub mod Outcomes
 pub mod Places
 pub mod Prologues
+pub mod Refusals
 pub mod Sets
 pub mod Texts

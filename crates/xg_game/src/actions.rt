@@ -1,11 +1,12 @@
 //! The actions of sets, as a game keeps them.
-ghost use Rattle.std.specs.Prelude.{◌≡◌, ◌↔◌, ◌<◌, ◌≤◌, [], ◌∷◌, ◌++◌, length, slice_get, slice_index_or, IfOk, IsTrue, OnOk, Some};
+ghost use Rattle.std.specs.Prelude.{◌≡◌, ◌↔◌, ◌<◌, ◌≤◌, [], ◌∷◌, ◌++◌, length, slice_get, slice_index_or, All, IfOk, IsTrue, OnOk, Some};
 ghost use Rattle.def_fraction.specs.Fraction.{zero_fraction};
 ghost use Rattle.def_file.specs.Content.{action_with};
+ghost use Rattle.def_file.specs.Game.{IsSmallFraction};
 ghost use Rattle.xg_game.specs.Actions.{GivesSame, SpanIsWithin, action_kept, actions_in};
 ghost use Rattle.xg_record.specs.Entry.{actions_seen};
 
-use crate::outcomes::zero;
+use crate::outcomes::{known, zero};
 use crate::texts::Texts;
 use std::alloc::{AllocError, Global};
 use std::cmp::Ordering;
@@ -40,15 +41,15 @@ pub(crate) struct KeptActions {
 }
 
 impl Model for KeptActions {
-    ghost use Rattle.std.specs.Prelude.{◌≤◌, List, length};
+    ghost use Rattle.std.specs.Prelude.{List};
     ghost use Rattle.def_file.specs.Content as content;
-    ghost use Rattle.xg_game.specs.Actions.{actions_of};
+    ghost use Rattle.xg_game.specs.Actions.{KeepsChances, actions_of};
 
     ghost Value = { List content.Action };
 
     ghost view = { λ k. actions_of k.names k.chances.items };
 
-    ghost invariant = { λ k. length k.chances.items ≤ length k.names };
+    ghost invariant = { λ k. KeepsChances k.names k.chances.items };
 }
 
 impl KeptActions {
@@ -92,6 +93,13 @@ impl KeptActions {
         }
     }
 
+    /// Each probability is in lowest terms and within the limit: what the type keeps.
+    pub(crate) fn chances_are_small(&self)
+        ensures { All (λ action. IsSmallFraction action.chance) self.now }
+    {
+        let _count = self.chances.len();
+    }
+
     /// Puts the actions of a set last. Where memory runs out, some of them may be there.
     pub(crate) fn add(
         &mut self,
@@ -121,7 +129,7 @@ impl KeptActions {
             return Ok(());
         }
         pad(&mut self.chances, before)?;
-        self.chances.push(chance)?;
+        self.chances.push(known(chance))?;
         Ok(())
     }
 }
@@ -199,6 +207,7 @@ fn pad(chances: &mut Vec<Frac>, len: usize) -> Result<(), AllocError>
     ensures ok { OnOk result (length chances.new.items ≡ len) }
     ensures same { GivesSame chances.old.items chances.new.items }
     ensures within { length chances.new.items ≤ len }
+    ensures small { All IsSmallFraction chances.old.items → All IsSmallFraction chances.new.items }
 {
     for _ in chances.len()..len {
         chances.push(zero())?;

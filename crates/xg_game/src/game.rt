@@ -5,7 +5,7 @@ ghost use Rattle.def_file.specs.Faults.{outcome_at, set_at};
 ghost use Rattle.def_tree.specs.Rules.{most_actions};
 ghost use Rattle.def_tree.specs.Tree.{node_count, wanted};
 ghost use Rattle.xg_game.specs.Access.{name_of, outcome_numbered, payoff_to};
-ghost use Rattle.def_file.specs.Game.{AreTogether, IsWholeGame};
+ghost use Rattle.def_file.specs.Game.{AreTogether, HasFractions, IsWholeGame};
 ghost use Rattle.xg_game.specs.Prologues.{prologue_of};
 
 use crate::outcomes::{OutcomeTable, zero};
@@ -78,6 +78,14 @@ impl Game {
         ensures whole { IsWholeGame self.now }
     {
         &self.tree
+    }
+
+    /// Each probability and each payoff is in lowest terms and within the limit: what the tables keep.
+    pub fn numbers_are_in_lowest_terms(&self)
+        ensures { HasFractions self.now.sets self.now.outcomes }
+    {
+        self.sets.chances_are_small();
+        self.outcomes.payoffs_are_small();
     }
 
     /// The title.

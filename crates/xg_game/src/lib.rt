@@ -9,6 +9,7 @@ mod maker;
 mod numbers;
 mod outcomes;
 mod prologue;
+mod seed;
 mod sets;
 mod table;
 mod tables;

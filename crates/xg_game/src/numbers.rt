@@ -2,8 +2,9 @@
 ghost use Rattle.std.specs.Prelude.{◌≡◌, ℕ, ◌+◌, ◌<◌, ◌≤◌, ◌^◌, if◌then◌else◌, slice_index, [], ◌∷◌, ◌++◌, None, Some, length, nat_eq, position, slice_get, IfSome, OnOk, OnErr};
 ghost use Rattle.xg_game.specs.Marks.{SetsMark, mark_of, marked};
 
+use crate::seed::Seed;
+use indexmap::IndexMap;
 use std::alloc::{AllocError, Global};
-use std::collections::BTreeMap;
 use std::marker::Model;
 
 /// How many places an array of marks may have for each number, and how many beside them.
@@ -14,12 +15,13 @@ const SPARE_PLACES: u64 = 64;
 /// Numbers, each of which stands once.
 ///
 /// The mark of a number is 0, or one more than the place where it stands. Numbers that are small beside how many there
-/// are have their marks in an array, and the others in a tree. So no choice of numbers makes them slow to find.
+/// are have their marks in an array, and the others in a hash table, which takes its seed from the file that the first of
+/// them stands in. So small numbers need no seed, and no numbers that are picked beforehand are slow to find.
 #[derive(Drop)]
 pub(crate) struct Numbers {
     numbers: Vec<u64>,
     near: Vec<u32>,
-    far: BTreeMap<u64, u32>,
+    far: IndexMap<u64, u32, Seed>,
     // None is greater, so that numbers that rise are new at once.
     greatest: u64,
 }
@@ -43,7 +45,7 @@ impl Numbers {
         Numbers {
             numbers: Vec::new(alloc),
             near: Vec::new(alloc),
-            far: BTreeMap::new(alloc),
+            far: IndexMap::with_hasher(alloc, Seed::of(b"")),
             greatest: 0,
         }
     }
@@ -89,8 +91,8 @@ impl Numbers {
         }
     }
 
-    /// Puts a number last.
-    pub(crate) fn push(&mut self, number: u64) -> Result<(), AllocError>
+    /// Puts a number last, which stands in this file.
+    pub(crate) fn push(&mut self, alloc: Global, file: &[u8], number: u64) -> Result<(), AllocError>
         requires new { position (nat_eq number) self.old ≡ None }
         requires room { length self.old + 1 < 2 ^ 32 }
         ensures ok { OnOk result (self.new ≡ self.old ++ number ∷ []) }
@@ -98,7 +100,7 @@ impl Numbers {
     {
         self.numbers.reserve(1)?;
         let mark = self.numbers.len() as u32 + 1;
-        set_mark(&mut self.near, &mut self.far, number, mark)?;
+        set_mark(alloc, file, &mut self.near, &mut self.far, number, mark)?;
         self.numbers.push_reserved(number);
         let greatest = self.greatest.max(number);
         self.greatest = greatest;
@@ -119,8 +121,10 @@ fn near_mark(near: &[u32], number: u64) -> u32
 
 /// Gives a number that has none a mark.
 fn set_mark(
+    alloc: Global,
+    file: &[u8],
     near: &mut Vec<u32>,
-    far: &mut BTreeMap<u64, u32>,
+    far: &mut IndexMap<u64, u32, Seed>,
     number: u64,
     mark: u32,
 ) -> Result<(), AllocError>
@@ -133,8 +137,18 @@ fn set_mark(
     if number < PLACES_EACH * mark as u64 + SPARE_PLACES {
         return set_near(near, number as usize, mark);
     }
+    set_seed(alloc, file, far);
     far.insert(number, mark)?;
     Ok(())
+}
+
+/// Gives a table its seed, if it has no numbers yet.
+fn set_seed(alloc: Global, file: &[u8], far: &mut IndexMap<u64, u32, Seed>)
+    ensures { far.new.entries ≡ far.old.entries }
+{
+    if far.is_empty() {
+        *far = IndexMap::with_hasher(alloc, Seed::of(file));
+    }
 }
 
 /// Sets a mark of the array, which grows with 0 where it is too short.

@@ -4,6 +4,8 @@ ghost use Rattle.def_file.specs.Adding as adding;
 ghost use Rattle.def_fraction.specs.Fraction.{zero_fraction};
 ghost use Rattle.def_file.specs.Content.{OutcomeEntry, outcome_mention};
 ghost use Rattle.def_file.specs.Faults as faults;
+ghost use Rattle.def_file.specs.Game.{IsSmallFraction};
+ghost use Rattle.xg_game.specs.Outcomes.{HaveSmallPayoffs};
 ghost use Rattle.xg_game.specs.Places.{place_of_outcome};
 ghost use Rattle.xg_record.specs.Entry.{entry_seen};
 
@@ -37,9 +39,11 @@ impl Model for OutcomeTable {
 
     ghost Value = { List OutcomeEntry };
 
-    ghost use Rattle.xg_game.specs.Outcomes.{outcome_of};
+    ghost use Rattle.xg_game.specs.Outcomes.{HaveSmallPayoffs, outcome_of};
 
     ghost view = { λ t. map outcome_of t.outcomes };
+
+    ghost invariant = { λ t. HaveSmallPayoffs (map outcome_of t.outcomes) };
 }
 
 impl OutcomeTable {
@@ -57,6 +61,13 @@ impl OutcomeTable {
         ensures { result ≡ length self.now }
     {
         self.outcomes.len()
+    }
+
+    /// Each payoff is in lowest terms and within the limit: what the type keeps.
+    pub(crate) fn payoffs_are_small(&self)
+        ensures { HaveSmallPayoffs self.now }
+    {
+        let _count = self.outcomes.len();
     }
 
     /// Where the outcome of this number is.
@@ -135,6 +146,7 @@ impl OutcomeTable {
     pub(crate) fn note(
         &mut self,
         alloc: Global,
+        file: &[u8],
         place: Option<usize>,
         number: u64,
         name: &Option<TextView<'_>>,
@@ -150,7 +162,7 @@ impl OutcomeTable {
         }
         match place {
             Some(i) => self.name(alloc, i, name),
-            None => self.add(alloc, number, name, payoffs),
+            None => self.add(alloc, file, number, name, payoffs),
         }
     }
 
@@ -175,6 +187,7 @@ impl OutcomeTable {
     fn add(
         &mut self,
         alloc: Global,
+        file: &[u8],
         number: u64,
         name: &Option<TextView<'_>>,
         payoffs: Option<&Payoffs>,
@@ -187,18 +200,20 @@ impl OutcomeTable {
         let name = to_keep(alloc, name)?;
         let one = payoff_at(payoffs, 0);
         let two = payoff_at(payoffs, 1);
-        self.outcomes.push(number, name, PayoffPair { one, two })
+        self.outcomes
+            .push(alloc, file, number, name, PayoffPair { one, two })
     }
 }
 
 /// The payoff at `i`, which counts from 0, or 0 where there is none.
 fn payoff_at(payoffs: Option<&Payoffs>, i: usize) -> Frac
-    ensures { let given = option_map (λ p. p.now) payoffs.entry in
+    ensures exact { let given = option_map (λ p. p.now) payoffs.entry in
         result ≡ adding.nth_payoff (unwrap_or given []) i }
+    ensures small { IsSmallFraction result }
 {
     match payoffs {
-        Some(payoffs) if i < payoffs.len() => payoffs.get(i),
-        _ => zero(),
+        Some(payoffs) if i < payoffs.len() => known(payoffs.get(i)),
+        _ => known(zero()),
     }
 }
 
@@ -230,4 +245,13 @@ pub(crate) fn zero() -> Frac
     ensures { result ≡ zero_fraction }
 {
     whole(0).unwrap()
+}
+
+/// The fraction, of which this is known.
+pub(crate) fn known(number: Frac) -> Frac
+    ensures same { result ≡ number }
+    ensures small { IsSmallFraction number }
+{
+    let _num = number.num();
+    number
 }

@@ -1,8 +1,9 @@
 //! The sets of a game.
-ghost use Rattle.std.specs.Prelude.{◌≡◌, ◌≢◌, ◌+◌, ◌<◌, ◌^◌, false, [], ◌∷◌, ◌++◌, length, option_map, slice_set, Some, None, OnErr, OnOk, IfSome};
+ghost use Rattle.std.specs.Prelude.{◌≡◌, ◌≢◌, ◌+◌, ◌<◌, ◌^◌, false, [], ◌∷◌, ◌++◌, length, option_map, slice_set, All, Some, None, OnErr, OnOk, IfSome};
 ghost use Rattle.def_file.specs.Adding as adding;
 ghost use Rattle.def_file.specs.Content.{SetEntry, sets_of_kind, with_sets, set_mention};
 ghost use Rattle.def_file.specs.Faults as faults;
+ghost use Rattle.def_file.specs.Game.{IsSmallFraction, chances_of};
 ghost use Rattle.xg_record.specs.Entry.{actions_seen, entry_seen};
 
 use crate::actions::{ActionList, KeptActions, Span};
@@ -57,6 +58,13 @@ impl SetTable {
         ensures { result ≡ length self.now }
     {
         self.sets.len()
+    }
+
+    /// Each probability is in lowest terms and within the limit: what the actions keep.
+    fn chances_are_small(&self)
+        ensures { All (λ entry. All IsSmallFraction (chances_of entry)) self.now }
+    {
+        self.actions.chances_are_small();
     }
 
     /// Where the set of this number is.
@@ -148,6 +156,7 @@ impl SetTable {
     pub(crate) fn note(
         &mut self,
         alloc: Global,
+        file: &[u8],
         place: Option<usize>,
         number: u64,
         name: &Option<TextView<'_>>,
@@ -162,7 +171,7 @@ impl SetTable {
     {
         match place {
             Some(i) => self.name(alloc, i, name),
-            None => self.add(alloc, number, name, actions.as_ref().unwrap()),
+            None => self.add(alloc, file, number, name, actions.as_ref().unwrap()),
         }
     }
 
@@ -187,6 +196,7 @@ impl SetTable {
     fn add(
         &mut self,
         alloc: Global,
+        file: &[u8],
         number: u64,
         name: &Option<TextView<'_>>,
         actions: &EntryActions<'_>,
@@ -199,7 +209,7 @@ impl SetTable {
     {
         let name = to_keep(alloc, name)?;
         let span = self.actions.add(alloc, actions)?;
-        self.sets.push(number, name, span)
+        self.sets.push(alloc, file, number, name, span)
     }
 }
 
@@ -241,6 +251,13 @@ impl SetTables {
         }
     }
 
+    /// Each probability is in lowest terms and within the limit.
+    pub(crate) fn chances_are_small(&self)
+        ensures { All (λ entry. All IsSmallFraction (chances_of entry)) self.now.chance }
+    {
+        self.chance.chances_are_small();
+    }
+
     /// The sets of a kind.
     pub(crate) fn of(&self, kind: Kind) -> &SetTable
         requires { kind ≢ Kind.Leaf }
@@ -270,6 +287,7 @@ impl SetTables {
     pub(crate) fn note(
         &mut self,
         alloc: Global,
+        file: &[u8],
         kind: Kind,
         place: Option<usize>,
         number: u64,
@@ -285,9 +303,9 @@ impl SetTables {
             OnOk result (self.new ≡ with_sets kind table self.old) }
     {
         match kind {
-            Kind::Chance => self.chance.note(alloc, place, number, name, actions),
-            Kind::One => self.one.note(alloc, place, number, name, actions),
-            Kind::Two => self.two.note(alloc, place, number, name, actions),
+            Kind::Chance => self.chance.note(alloc, file, place, number, name, actions),
+            Kind::One => self.one.note(alloc, file, place, number, name, actions),
+            Kind::Two => self.two.note(alloc, file, place, number, name, actions),
             Kind::Leaf => Ok(()),
         }
     }

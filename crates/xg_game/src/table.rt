@@ -93,9 +93,11 @@ impl<D: Drop> NumberTable<D> {
         keep_name(alloc, &mut self.known[i].name, name)
     }
 
-    /// Puts a number last, with what is known of it.
+    /// Puts a number of a file last, with what is known of it.
     pub(crate) fn push(
         &mut self,
+        alloc: Global,
+        file: &[u8],
         number: u64,
         name: Option<Text>,
         value: D,
@@ -107,7 +109,7 @@ impl<D: Drop> NumberTable<D> {
         ensures err { OnErr result (self.new ≡ self.old) }
     {
         self.known.reserve(1)?;
-        self.numbers.push(number)?;
+        self.numbers.push(alloc, file, number)?;
         self.known.push_reserved(Described { name, value });
         Ok(())
     }

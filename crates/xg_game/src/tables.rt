@@ -164,6 +164,7 @@ impl Tables {
         let node = self.node_with(entry, places);
         self.sets.note(
             self.alloc,
+            entry.file,
             node.kind,
             places.set,
             entry.set,
@@ -172,6 +173,7 @@ impl Tables {
         )?;
         self.outcomes.note(
             self.alloc,
+            entry.file,
             places.outcome,
             entry.outcome,
             &entry.outcome_name,

@@ -6,16 +6,16 @@ use Rattle.std.specs.Fmt.{decimal}
 use Rattle.def_tree.specs.declared.Kind.{Kind}
 use Rattle.def_tree.specs.Tree.{wanted}
 use Rattle.def_file.specs.Content.{Contents, OutcomeMention, Record, SetMention, game_with, no_contents}
-use Rattle.def_file_entries.specs.Entries.{contents_of}
-use Rattle.def_file_entries.specs.Laws.{HaveNoFault}
-use Rattle.def_file_entries.proofs.NoFault.{no_fault_here}
-use Rattle.def_file_entries.proofs.OneMore.{one_more}
+use Rattle.def_file.specs.Entries.{contents_of}
+use Rattle.def_file.specs.EntryLaws.{HaveNoFault}
+use Rattle.def_file.proofs.NoFault.{no_fault_here}
+use Rattle.def_file.proofs.OneMore.{one_more}
 use Rattle.def_canon.specs.Described.{Describes, Each}
 use Rattle.def_canon.proofs.NoFault.{each_before}
 use Rattle.def_canon.proofs.Sizes.{EntriesBegin, begin_here, wanted_behind, wanted_described}
-use Rattle.def_poker.specs.Poker.{entries, poker, prologue}
-use Rattle.def_poker.proofs.Described.{entries_describe, outcome_of_poker, set_with}
-use Rattle.def_poker.proofs.Sizes.{entries_begin, poker_is_game}
+use Rattle.def_canon.specs.Poker.{entries, poker, prologue}
+use Rattle.def_canon.proofs.Described.{entries_describe, outcome_of_poker, set_with}
+use Rattle.def_canon.proofs.PokerSizes.{entries_begin, poker_is_game}
 use Rattle.xg_game.specs.Made.{Made}
 use Rattle.xg_game.specs.Prologues.{prologue_with}
 use Rattle.xg_gen.specs.Taken.{GainsEntries, AreWanted, Takes, with_entries}

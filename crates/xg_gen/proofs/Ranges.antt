@@ -6,7 +6,7 @@ use Rattle.std.proofs.lemmas.List.{append-nil}
 use Rattle.std.proofs.lemmas.Bool.{ne_eqb}
 use Rattle.std.specs.Prelude.{false, nat_eq, not, true}
 use Rattle.def_file.specs.Content.{Action, chance_record}
-use Rattle.def_poker.specs.Poker.{cards, deal_two, hand, hands, others, rounds_with_cards, cards_without}
+use Rattle.def_canon.specs.Poker.{cards, deal_two, hand, hands, others, rounds_with_cards, cards_without}
 
 range_from : (a k m : ℕ) → k ≡ suc m → range_with_len a k ≡ a ∷ range_with_len (a + 1) m
 range_from a k m e = ap (range_with_len a) e

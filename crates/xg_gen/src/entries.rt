@@ -3,7 +3,7 @@ ghost use Rattle.std.specs.Prelude.{◌≡◌, ◌≤◌, ◌<◌, [], ◌∷◌
 ghost use Rattle.def_fraction.specs.Fraction.{most};
 ghost use Rattle.def_file.specs.Content.{chance_record, player_record, leaf_record, no_outcome_mention};
 ghost use Rattle.def_file.specs.Faults.{has_set};
-ghost use Rattle.def_poker.specs.Poker as def;
+ghost use Rattle.def_canon.specs.Poker as def;
 ghost use Rattle.xg_record.specs.Record.{record_of};
 ghost use Rattle.xg_gen.specs.Described.{mention_of_outcome, mention_of_set};
 ghost use Rattle.xg_gen.specs.Taken.{GainsEntries, Takes};
@@ -110,7 +110,7 @@ fn put_after_bet(
 }
 
 /// A player who faces a bet folds or calls.
-#[tactic(auto, using(crate::proofs::EntriesTakenInPieces::takes_one, crate::proofs::EntriesTakenInPieces::takes_more, crate::proofs::EntriesTakenInPieces::adds_more), unfolding(def_poker::specs::Poker::facing_bet))]
+#[tactic(auto, using(crate::proofs::EntriesTakenInPieces::takes_one, crate::proofs::EntriesTakenInPieces::takes_more, crate::proofs::EntriesTakenInPieces::adds_more), unfolding(def_canon::specs::Poker::facing_bet))]
 fn put_facing_bet(
     maker: &mut GameMaker,
     alloc: Global,

@@ -3,7 +3,7 @@ ghost use Rattle.std.specs.Prelude.{◌≡◌, ◌+◌, ◌-◌, ◌≤◌, [], 
 ghost use Rattle.def_fraction.specs.Fraction.{fits, whole_number};
 ghost use Rattle.def_sums.specs.Limits.{least_cards, most_cards};
 ghost use Rattle.def_file.specs.Content.{named_action};
-ghost use Rattle.def_poker.specs.Poker as def;
+ghost use Rattle.def_canon.specs.Poker as def;
 ghost use Rattle.xg_record.specs.Action.{action_of};
 ghost use Rattle.xg_gen.specs.Described.{mention_of_outcome, mention_of_set};
 ghost use Rattle.xg_gen.specs.Plain.{is_plain};
@@ -40,7 +40,7 @@ fn number(n: i64) -> Frac
 }
 
 /// Chance deals player one a card.
-#[tactic(auto, unfolding(def_poker::specs::Poker::deal_one))]
+#[tactic(auto, unfolding(def_canon::specs::Poker::deal_one))]
 pub(crate) fn deal_one(alloc: Global, n: u32) -> Result<DescribedSet, AllocError>
     requires low { 1 ≤ n }
     requires high { n ≤ most_cards }
@@ -55,7 +55,7 @@ pub(crate) fn deal_one(alloc: Global, n: u32) -> Result<DescribedSet, AllocError
 }
 
 /// Chance deals player two a card where player one has card `i`.
-#[tactic(auto, unfolding(def_poker::specs::Poker::deal_two))]
+#[tactic(auto, unfolding(def_canon::specs::Poker::deal_two))]
 pub(crate) fn deal_two(alloc: Global, n: u32, i: u32) -> Result<DescribedSet, AllocError>
     requires low { least_cards ≤ n }
     requires high { n ≤ most_cards }
@@ -125,7 +125,7 @@ fn dealt(alloc: Global, n: u32, card: u32) -> Result<Action, AllocError>
 }
 
 /// Player one opens with card `i`.
-#[tactic(auto, unfolding(def_poker::specs::Poker::opening_set))]
+#[tactic(auto, unfolding(def_canon::specs::Poker::opening_set))]
 pub(crate) fn opening(alloc: Global, i: u32) -> Result<DescribedSet, AllocError>
     ensures set { IfOk result (λ set. mention_of_set set ≡ def.opening_set i) }
     ensures number { IfOk result (λ set. set.number ≡ i) }
@@ -138,7 +138,7 @@ pub(crate) fn opening(alloc: Global, i: u32) -> Result<DescribedSet, AllocError>
 }
 
 /// Player two with card `j` after a check.
-#[tactic(auto, unfolding(def_poker::specs::Poker::after_check))]
+#[tactic(auto, unfolding(def_canon::specs::Poker::after_check))]
 pub(crate) fn after_check(alloc: Global, j: u32) -> Result<DescribedSet, AllocError>
     ensures set { IfOk result (λ set. mention_of_set set ≡ def.after_check j) }
     ensures number { IfOk result (λ set. set.number ≡ j) }
@@ -151,7 +151,7 @@ pub(crate) fn after_check(alloc: Global, j: u32) -> Result<DescribedSet, AllocEr
 }
 
 /// Player one with card `i` after a check and a bet.
-#[tactic(auto, unfolding(def_poker::specs::Poker::answer))]
+#[tactic(auto, unfolding(def_canon::specs::Poker::answer))]
 pub(crate) fn answer(alloc: Global, n: u32, i: u32) -> Result<DescribedSet, AllocError>
     ensures set { IfOk result (λ set. mention_of_set set ≡ def.answer n i) }
     ensures number { IfOk result (λ set. set.number ≡ n + i) }
@@ -164,7 +164,7 @@ pub(crate) fn answer(alloc: Global, n: u32, i: u32) -> Result<DescribedSet, Allo
 }
 
 /// Player two with card `j` after a bet.
-#[tactic(auto, unfolding(def_poker::specs::Poker::after_bet))]
+#[tactic(auto, unfolding(def_canon::specs::Poker::after_bet))]
 pub(crate) fn after_bet(alloc: Global, n: u32, j: u32) -> Result<DescribedSet, AllocError>
     ensures set { IfOk result (λ set. mention_of_set set ≡ def.after_bet n j) }
     ensures number { IfOk result (λ set. set.number ≡ n + j) }
@@ -199,7 +199,7 @@ fn player_move(alloc: Global, name: &[u8]) -> Result<Action, AllocError>
 }
 
 /// A player wins 1.
-#[tactic(auto, unfolding(def_poker::specs::Poker::wins_one))]
+#[tactic(auto, unfolding(def_canon::specs::Poker::wins_one))]
 pub(crate) fn wins_one(alloc: Global, winner: Player) -> Result<DescribedOutcome, AllocError>
     ensures outcome { IfOk result (λ outcome. mention_of_outcome outcome ≡ def.wins_one winner) }
     ensures number { IfOk result (λ outcome. outcome.number ≤ 4) }
@@ -211,7 +211,7 @@ pub(crate) fn wins_one(alloc: Global, winner: Player) -> Result<DescribedOutcome
 }
 
 /// A player wins 2.
-#[tactic(auto, unfolding(def_poker::specs::Poker::wins_two))]
+#[tactic(auto, unfolding(def_canon::specs::Poker::wins_two))]
 pub(crate) fn wins_two(alloc: Global, winner: Player) -> Result<DescribedOutcome, AllocError>
     ensures outcome { IfOk result (λ outcome. mention_of_outcome outcome ≡ def.wins_two winner) }
     ensures number { IfOk result (λ outcome. outcome.number ≤ 4) }

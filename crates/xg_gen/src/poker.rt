@@ -2,7 +2,7 @@
 ghost use Rattle.std.specs.Prelude.{◌≡◌, ◌≤◌, [], ◌∷◌, IfOk, OnOk};
 ghost use Rattle.def_sums.specs.Limits.{least_cards, most_cards};
 ghost use Rattle.def_file.specs.Content.{chance_record};
-ghost use Rattle.def_poker.specs.Poker as def;
+ghost use Rattle.def_canon.specs.Poker as def;
 ghost use Rattle.xg_gen.specs.Taken.{GainsEntries, Takes};
 
 use crate::entries::{put_deal, put_hand};
@@ -27,7 +27,7 @@ pub fn one_card_poker(alloc: Global, n: u32) -> Result<Game, AllocError>
 }
 
 /// All entries.
-#[tactic(auto, using(crate::proofs::EntriesTakenInPieces::takes_one, crate::proofs::EntriesTakenInPieces::takes_more, crate::proofs::EntriesTakenInPieces::adds_more), unfolding(def_poker::specs::Poker::entries))]
+#[tactic(auto, using(crate::proofs::EntriesTakenInPieces::takes_one, crate::proofs::EntriesTakenInPieces::takes_more, crate::proofs::EntriesTakenInPieces::adds_more), unfolding(def_canon::specs::Poker::entries))]
 fn put_entries(maker: &mut GameMaker, alloc: Global, n: u32) -> Result<(), AllocError>
     requires low { least_cards ≤ n }
     requires high { n ≤ most_cards }

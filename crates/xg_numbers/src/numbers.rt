@@ -1,3 +1,4 @@
+//! The numbers of a game.
 ghost use Rattle.std.specs.Prelude.{◌≡◌, ◌≢◌, ◌≤◌, length, Err, IfOk, None, Ok, Some};
 ghost use Rattle.def_file.specs.declared.FileFault.{FileFault};
 ghost use Rattle.def_fraction.specs.Fraction.{most};
@@ -7,7 +8,7 @@ ghost use Rattle.def_sequence_form.specs.Form.{form_of};
 ghost use Rattle.def_sequence_form.specs.Sets.{sets_or_break};
 ghost use Rattle.def_tree.specs.Tree.{leaf_count, prefix};
 ghost use Rattle.xg_numbers.specs.Opened.{IsBreakOf};
-ghost use Rattle.def_file_accepted.specs.Weighed.{weighed_game};
+ghost use Rattle.def_game_numbers.specs.Weighed.{weighed_game};
 
 use std::alloc::Global;
 use std::marker::Model;
@@ -27,7 +28,7 @@ pub struct Numbers {
 }
 
 impl Model for Numbers {
-    ghost use Rattle.def_cert_verdict.specs.Verdict.{WeighedGame};
+    ghost use Rattle.def_plan.specs.Weighed.{WeighedGame};
     ghost use Rattle.xg_numbers.specs.Opened.{KeepsNumbers};
 
     ghost Value = { WeighedGame };

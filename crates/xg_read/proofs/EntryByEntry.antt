@@ -9,7 +9,7 @@ use Rattle.def_file.specs.Faults.{record_fault}
 use Rattle.def_file.specs.Adding.{with_record}
 use Rattle.def_file.specs.Reading.{◌>>=◌, entry_at, judged, entries_from}
 use Rattle.def_file_form.proofs.Entries.{ok_judged}
-use Rattle.def_file_fault.proofs.FirstFaultIsReported.{judged_fault}
+use Rattle.def_file_form.proofs.FirstFaultIsReported.{judged_fault}
 use Rattle.xg_game.specs.Made.{Made}
 use Rattle.xg_game.specs.declared.fault.Refused.{Refused}
 use Rattle.xg_game.specs.declared.fault.Refused.TheVariants.{File, NoMemory}

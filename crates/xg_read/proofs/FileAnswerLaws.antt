@@ -7,11 +7,11 @@ use Rattle.def_file.specs.Content.{GameFile}
 use Rattle.def_file.specs.Reading.{game_at}
 use Rattle.def_file.proofs.AnyLength.{game_any_length}
 use Rattle.def_file_form.specs.Laws.{StandsFor, AcceptedIsFile, FileIsAccepted}
-use Rattle.def_file_fault.specs.First.{FirstFault}
-use Rattle.def_file_fault.specs.Laws.{FileFaultIsFirst, FirstIsFileFault}
+use Rattle.def_file_form.specs.First.{FirstFault}
+use Rattle.def_file_form.specs.FaultLaws.{FileFaultIsFirst, FirstIsFileFault}
 use Rattle.xg_game.specs.declared.fault.Refused.{Refused}
 use Rattle.xg_game.specs.declared.fault.Refused.TheVariants.{File, NoMemory}
-use Rattle.xg_read.specs.Gives.{Answers}
+use Rattle.xg_game.specs.Refusals.{Answers}
 
 -- a game that is answered is the one that the bytes stand for
 pub answer_found : AcceptedIsFile → (bytes : List ℕ) (answer : Result GameFile Refused) → Answers answer (game_at bytes)

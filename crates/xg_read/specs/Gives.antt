@@ -31,9 +31,3 @@ abbrev pub GivesNext : {X : Type 0} → Result X Refused → Contents → ℕ �
 GivesNext (Ok _) contents at read = read ≡ Ok (contents, at)
 GivesNext (Err (File fault)) contents at read = read ≡ Err fault
 GivesNext (Err NoMemory) contents at read = Unit {0}
-
--- the whole: a value, or the fault, where memory may run out
-abbrev pub Answers : {X : Type 0} → Result X Refused → Result X FileFault → Type 0
-Answers (Ok x) read = read ≡ Ok x
-Answers (Err (File fault)) read = read ≡ Err fault
-Answers (Err NoMemory) read = Unit {0}

@@ -109,7 +109,7 @@ impl<'a> Reader<'a> {
         let name = self.next_view()?;
         let set = self.set_mention(EntryKind::Chance, &mut lists.actions)?;
         let outcome = self.outcome_mention(&mut lists.payoffs)?;
-        Ok(with_set(EntryKind::Chance, name, 0, set, outcome))
+        Ok(with_set(self.bytes(), EntryKind::Chance, name, 0, set, outcome))
     }
 
     /// A personal entry behind its word.
@@ -125,7 +125,14 @@ impl<'a> Reader<'a> {
         let player = self.whole_number()?;
         let set = self.set_mention(EntryKind::Personal, &mut lists.actions)?;
         let outcome = self.outcome_mention(&mut lists.payoffs)?;
-        Ok(with_set(EntryKind::Personal, name, player, set, outcome))
+        Ok(with_set(
+            self.bytes(),
+            EntryKind::Personal,
+            name,
+            player,
+            set,
+            outcome,
+        ))
     }
 
     /// A terminal entry behind its word.
@@ -140,6 +147,7 @@ impl<'a> Reader<'a> {
         let name = self.next_view()?;
         let outcome = self.outcome_mention(&mut lists.payoffs)?;
         Ok(Entry {
+            file: self.bytes(),
             kind: EntryKind::Leaf,
             name,
             player: 0,
@@ -174,6 +182,7 @@ impl<'a> Reader<'a> {
 
 /// The entry of a node with a set.
 fn with_set<'a>(
+    file: &'a [u8],
     kind: EntryKind,
     name: TextView<'a>,
     player: u64,
@@ -183,6 +192,7 @@ fn with_set<'a>(
     ensures { entry_seen result ≡ record { kind = kind; name = name.entry; player = player; set = set_mention_of set.entry; outcome = outcome_mention_of outcome.entry } }
 {
     Entry {
+        file,
         kind,
         name,
         player,

@@ -5,8 +5,9 @@ ghost use Rattle.def_file.specs.declared.FileFault.{FileFault};
 ghost use Rattle.def_file.specs.Content.{GameFile};
 ghost use Rattle.def_file.specs.Reading.{entries_from, game_at, most_bytes};
 ghost use Rattle.def_file_form.specs.Laws.{StandsFor};
-ghost use Rattle.def_file_fault.specs.First.{FirstFault};
-ghost use Rattle.xg_read.specs.Gives.{Answers, GivesFor, GivesNext, next_at};
+ghost use Rattle.def_file_form.specs.First.{FirstFault};
+ghost use Rattle.xg_game.specs.Refusals.{Answers};
+ghost use Rattle.xg_read.specs.Gives.{GivesFor, GivesNext, next_at};
 
 use crate::entries::Lists;
 use crate::reader::Reader;
@@ -14,9 +15,6 @@ use def_file::FileFault;
 use std::alloc::Global;
 use xg_game::{Game, GameMaker, Refused};
 use xg_tree::MOST_NODES;
-
-/// The greatest number of bytes of a game file.
-pub const MOST_BYTES: usize = 67_108_864;
 
 /// One more than the greatest number of nodes: the entry behind the last one that may be is read and judged, too.
 const MOST_ENTRIES: usize = MOST_NODES + 1;

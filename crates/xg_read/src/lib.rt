@@ -10,8 +10,8 @@ mod reader;
 mod values;
 mod wanted;
 
-pub use def_file::FileFault;
+pub use def_file::{FileFault, MOST_BYTES};
 pub use def_fraction::NumberFault;
-pub use game::{MOST_BYTES, read_game};
+pub use game::read_game;
 pub use xg_game::{Game, GameMaker, Refused};
 pub use xg_record::{Action, Actions, EntryKind, Payoffs, Record};

@@ -39,6 +39,13 @@ impl<'a> Reader<'a> {
         }
     }
 
+    /// The bytes of the file.
+    pub fn bytes(&self) -> &'a [u8]
+        ensures { result.now ≡ self.now.whole }
+    {
+        self.bytes
+    }
+
     /// How many bytes the file has.
     pub fn len(&self) -> usize
         ensures { result ≡ length self.now.whole }

@@ -46,6 +46,8 @@ impl<'a> EntryActions<'a> {
 /// What an entry of a game file says, as `Record` has it, by views of its texts and its lists.
 #[derive(Drop)]
 pub struct Entry<'a> {
+    /// The bytes of the file that the entry stands in, and none where it stands in no file.
+    pub file: &'a [u8],
     pub kind: EntryKind,
     pub name: TextView<'a>,
     pub player: u64,
@@ -63,6 +65,7 @@ impl Record {
         ensures { entry_seen result ≡ record_of self.now }
     {
         Entry {
+            file: b"",
             kind: self.kind,
             name: self.name.view(),
             player: self.player,

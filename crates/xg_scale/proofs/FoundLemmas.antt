@@ -6,7 +6,7 @@ use Rattle.def_tree.specs.Tree.{Forest, node_count}
 use Rattle.def_file.specs.declared.FileFault.{FileFault}
 use Rattle.def_game_paths.specs.Paths.{Visit, visits}
 use Rattle.def_game_paths.proofs.Coming.{IsNext, length-visits}
-use Rattle.def_game_faults.specs.Faults.{GameFault, NodeTest, found_by, number_after, or_else}
+use Rattle.def_game_scale.specs.Faults.{GameFault, NodeTest, found_by, number_after, or_else}
 use Rattle.def_game_numbers.specs.Numbers.{as_file_fault}
 use Rattle.xg_game.specs.declared.fault.Refused.{Refused}
 use Rattle.xg_game.specs.declared.fault.Refused.TheVariants.{File, NoMemory}

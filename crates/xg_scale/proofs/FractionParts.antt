@@ -12,8 +12,8 @@ use Rattle.def_fraction.specs.Fraction.{Fraction, IsInLowestTerms, fits, fractio
 use Rattle.def_fraction.proofs.DivisorLemmas.{IsGcd-gcd, IsLcm-lcm}
 use Rattle.def_fraction.proofs.FractionLemmas.{fraction_of-lowest, neg-times, unsigned_abs-without_factor}
 use Rattle.def_game_scale.proofs.Expected.{lowest-sum}
-use Rattle.def_game_faults.specs.Faults.{is_zero}
-use Rattle.def_game_faults.proofs.Nodes.{no_size}
+use Rattle.def_game_scale.specs.Faults.{is_zero}
+use Rattle.def_game_scale.proofs.Nodes.{no_size}
 
 -- with nothing more a fraction stays
 pub sum_nothing : (f : Fraction) → IsInLowestTerms f → sum_of f zero_fraction ≡ f

@@ -16,7 +16,7 @@ use Rattle.def_game_scale.specs.Scale.{all_expected, expected, expected_at, unit
 use Rattle.def_game_scale.proofs.Running.{running}
 use Rattle.def_game_scale.proofs.Units.{unit-positive}
 use Rattle.def_game_scale.proofs.Expected.{expected-lowest}
-use Rattle.def_game_faults.specs.Faults.{GameFault, NotZeroSum, Scale, found_by, is_zero, leaf_fault, node_fault, number_after, passing}
+use Rattle.def_game_scale.specs.Faults.{GameFault, NotZeroSum, Scale, found_by, is_zero, leaf_fault, node_fault, number_after, passing}
 use Rattle.xg_game.specs.declared.fault.Refused.{Refused}
 use Rattle.xg_scale.specs.Leaf.{judged_leaf, judged_node, unit_with, with_expected}
 use Rattle.xg_scale.specs.FaultOfFile.{RefusesBy}

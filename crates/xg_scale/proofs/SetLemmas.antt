@@ -17,8 +17,8 @@ use Rattle.def_game_paths.specs.Paths.{Visit, visits}
 use Rattle.def_game_paths.specs.Coming.{visit_after}
 use Rattle.def_game_paths.proofs.Coming.{IsNext, next_node, next_visit}
 use Rattle.def_game_scale.specs.Tables.{Tables, probabilities}
-use Rattle.def_game_faults.specs.Faults.{ChanceNegative, ChanceSum, Scale, adding_fault, found_by, is_negative, is_one, number_after, passing}
-use Rattle.def_game_faults.proofs.Walks.{passed, passing_none}
+use Rattle.def_game_scale.specs.Faults.{ChanceNegative, ChanceSum, Scale, adding_fault, found_by, is_negative, is_one, number_after, passing}
+use Rattle.def_game_scale.proofs.Walks.{passed, passing_none}
 use Rattle.xg_scale.specs.declared.chance.SetTest.{SetTest}
 use Rattle.xg_scale.specs.declared.chance.SetTest.TheVariants.{Signs, Sums}
 use Rattle.xg_scale.specs.Chance.{PassedSets, set_fault, node_test_of}

@@ -17,7 +17,7 @@ use Rattle.def_game_scale.specs.Scale.{all_expected, expected, expected_at, game
 use Rattle.def_game_scale.proofs.Expected.{all-lowest}
 use Rattle.def_game_scale.proofs.Running.{running}
 use Rattle.def_game_scale.proofs.Units.{unit-positive}
-use Rattle.def_game_faults.specs.Faults.{Scale, found_by, mass_fault, number_after, passing}
+use Rattle.def_game_scale.specs.Faults.{Scale, found_by, mass_fault, number_after, passing}
 use Rattle.def_game_numbers.specs.Numbers.{weights_of_game}
 use Rattle.xg_game.specs.declared.fault.Refused.{Refused}
 use Rattle.xg_scale.specs.declared.leaf.Expected.{Expected}

@@ -9,16 +9,16 @@ use Rattle.def_file.specs.Content.{GameFile}
 use Rattle.def_game_paths.specs.Paths.{leaf_visits}
 use Rattle.def_game_scale.specs.Tables.{AreFractions}
 use Rattle.def_game_scale.specs.Laws.{IsWeightOf}
-use Rattle.def_game_faults.specs.First.{PassNumbers}
-use Rattle.def_game_faults.specs.Laws.{HasSoundNumbers}
-use Rattle.def_game_faults.proofs.Sound.{passing_numbers}
+use Rattle.def_game_scale.specs.First.{PassNumbers}
+use Rattle.def_game_scale.specs.FaultLaws.{HasSoundNumbers}
+use Rattle.def_game_scale.proofs.Sound.{passing_numbers}
 use Rattle.def_game_numbers.specs.Laws.{AreWeights}
 use Rattle.def_game_numbers.specs.Numbers.{GameWeights, tables_of, weigh}
 use Rattle.def_game_numbers.proofs.Weighing.{weighing}
 use Rattle.def_sequence_form.proofs.Leaves.{leaves_counted}
 use Rattle.xg_game.specs.declared.fault.Refused.{Refused}
 use Rattle.xg_game.specs.declared.fault.Refused.TheVariants.{File}
-use Rattle.xg_read.specs.Gives.{Answers}
+use Rattle.xg_game.specs.Refusals.{Answers}
 use Rattle.xg_scale.specs.Words.{HasNoNumberFault, IsCommonMultiple, IsFirstNumberFault, IsLeastCommonMultiple}
 
 -- the answer that is exact is each that is known

@@ -1,7 +1,7 @@
 -- Faults of a game as those of a file.
 use Rattle.std.specs.Prelude.{◌≡◌, Option, Some}
 use Rattle.def_file.specs.declared.FileFault.{FileFault}
-use Rattle.def_game_faults.specs.Faults.{GameFault}
+use Rattle.def_game_scale.specs.Faults.{GameFault}
 use Rattle.def_game_numbers.specs.Numbers.{as_file_fault}
 use Rattle.xg_game.specs.declared.fault.Refused.{Refused}
 use Rattle.xg_game.specs.declared.fault.Refused.TheVariants.{File, NoMemory}

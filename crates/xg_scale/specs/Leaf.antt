@@ -4,7 +4,7 @@ use Rattle.def_tree.specs.declared.Node.{Node}
 use Rattle.def_tree.specs.Tree.{is_leaf_kind}
 use Rattle.def_fraction.specs.Divisors.{lcm}
 use Rattle.def_fraction.specs.Fraction.{Fraction, fits, most, product_of, sum_of}
-use Rattle.def_game_faults.specs.Faults.{GameFault, NotZeroSum, Scale, is_zero, passing}
+use Rattle.def_game_scale.specs.Faults.{GameFault, NotZeroSum, Scale, is_zero, passing}
 use Rattle.xg_scale.specs.declared.ancestors.PathNumbers.{PathNumbers}
 
 abbrev pub expected_by : PathNumbers → Fraction

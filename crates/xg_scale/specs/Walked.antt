@@ -12,7 +12,7 @@ use Rattle.def_game_paths.specs.Coming.{ComingTrees, StandOver}
 use Rattle.def_game_paths.specs.Paths.{Visit, visits}
 use Rattle.def_game_scale.specs.Tables.{Payoffs, Tables, path_payoff, payoff_one, payoff_two, payoffs_of, probability, reach}
 use Rattle.def_game_scale.specs.Scale.{all_expected, expected_at, game_unit, unit_so_far}
-use Rattle.def_game_faults.specs.Faults.{found_by, node_fault}
+use Rattle.def_game_scale.specs.Faults.{found_by, node_fault}
 use Rattle.def_game_numbers.specs.Numbers.{tables_of}
 use Rattle.xg_scale.specs.declared.leaf.Expected.{Expected}
 use Rattle.xg_scale.specs.declared.nodes.Walk.{Walk}

@@ -6,7 +6,7 @@ use Rattle.def_sums.specs.Limits.{most_mass}
 use Rattle.def_game_paths.specs.Paths.{visits}
 use Rattle.def_game_scale.specs.Tables.{Tables}
 use Rattle.def_game_scale.specs.Scale.{expected_at, mass_so_far, weight_of}
-use Rattle.def_game_faults.specs.Faults.{found_by, mass_fault}
+use Rattle.def_game_scale.specs.Faults.{found_by, mass_fault}
 use Rattle.def_game_numbers.specs.Numbers.{GameWeights}
 use Rattle.xg_scale.specs.declared.weights.Weighed.{Weighed}
 use Rattle.xg_scale.specs.declared.weights.WeighedLeaf.{WeighedLeaf}

@@ -4,8 +4,8 @@ use Prim.Native.Nat.{◌∣◌}
 use Rattle.def_file.specs.declared.FileFault.{FileFault}
 use Rattle.def_file.specs.Content.{GameFile}
 use Rattle.def_game_scale.specs.Scale.{all_expected}
-use Rattle.def_game_faults.specs.Faults.{GameFault}
-use Rattle.def_game_faults.specs.First.{FirstNumberFault, PassNumbers}
+use Rattle.def_game_scale.specs.Faults.{GameFault}
+use Rattle.def_game_scale.specs.First.{FirstNumberFault, PassNumbers}
 use Rattle.def_game_numbers.specs.Numbers.{file_fault, tables_of}
 
 -- the game's numbers have no fault

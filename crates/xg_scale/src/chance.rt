@@ -1,6 +1,6 @@
 //! The two walks over the chance sets: the signs of their probabilities, and their sums.
 ghost use Rattle.std.specs.Prelude.{◌≡◌, ◌&&◌, ◌≤◌, [], length, nat_lt, None, IfErr, OnOk};
-ghost use Rattle.def_game_faults.specs.Faults.{found_by};
+ghost use Rattle.def_game_scale.specs.Faults.{found_by};
 ghost use Rattle.def_game_paths.specs.Paths.{visits};
 ghost use Rattle.def_game_scale.specs.Tables.{probabilities};
 ghost use Rattle.def_game_numbers.specs.Numbers.{tables_of};

@@ -2,7 +2,7 @@
 ghost use Rattle.std.specs.Prelude.{◌≡◌, ◌≤◌, ◌↔◌, ◌++◌, None, neg_ℤ, IfErr, IfOk, IsTrue, OkIff, OnOk};
 ghost use Rattle.def_fraction.specs.Divisors.{lcm};
 ghost use Rattle.def_fraction.specs.Fraction.{most, product_of, sum_of};
-ghost use Rattle.def_game_faults.specs.Faults as faults;
+ghost use Rattle.def_game_scale.specs.Faults as faults;
 ghost use Rattle.def_tree.specs.Tree.{is_leaf_kind};
 ghost use Rattle.xg_scale.specs.FaultOfFile.{IsFaultOf, RefusesBy};
 ghost use Rattle.xg_scale.specs.Leaf.{judged_leaf, judged_node, unit_with, with_expected};

@@ -3,7 +3,6 @@
 
 mod ancestors;
 mod chance;
-mod fractions;
 mod leaf;
 mod nodes;
 mod parts;

@@ -4,7 +4,7 @@ ghost use Rattle.def_file.specs.Content.{GameFile};
 ghost use Rattle.def_file.specs.Game.{IsWholeGame};
 ghost use Rattle.def_file.specs.Faults.{set_at};
 ghost use Rattle.def_fraction.specs.Fraction.{fits, sum_of};
-ghost use Rattle.def_game_faults.specs.Faults.{found_by, node_fault};
+ghost use Rattle.def_game_scale.specs.Faults.{found_by, node_fault};
 ghost use Rattle.def_game_numbers.specs.Numbers.{tables_of};
 ghost use Rattle.def_game_paths.specs.Paths.{visits};
 ghost use Rattle.def_game_scale.specs.Tables.{AreFractions, payoffs_of};

@@ -1,7 +1,7 @@
 //! The parts of fractions.
 ghost use Rattle.std.specs.Prelude.{◌≡◌, ◌≤◌, pos, unsigned_abs, IsTrue};
 ghost use Rattle.def_fraction.specs.Fraction.{IsInLowestTerms, fits, most, whole_number};
-ghost use Rattle.def_game_faults.specs.Faults as faults;
+ghost use Rattle.def_game_scale.specs.Faults as faults;
 
 use xg_frac::{Frac, whole};
 

@@ -2,18 +2,17 @@
 ghost use Rattle.std.specs.Prelude.{◌≡◌, Err, IfOk, Ok, OnOk, length};
 ghost use Rattle.std.specs.List.{AllZip};
 ghost use Rattle.def_file.specs.declared.FileFault.{FileFault};
-ghost use Rattle.def_game_faults.specs.Laws.{HasSoundNumbers};
+ghost use Rattle.def_game_scale.specs.FaultLaws.{HasSoundNumbers};
 ghost use Rattle.def_game_numbers.specs.Laws.{AreWeights};
 ghost use Rattle.def_game_numbers.specs.Numbers.{GameWeights, tables_of, weigh};
 ghost use Rattle.def_game_paths.specs.Paths.{leaf_visits};
 ghost use Rattle.def_game_scale.specs.Laws.{IsWeightOf};
 ghost use Rattle.def_game_scale.specs.Tables.{AreFractions};
 ghost use Rattle.def_tree.specs.Tree.{leaf_count, prefix};
-ghost use Rattle.xg_read.specs.Gives.{Answers};
+ghost use Rattle.xg_game.specs.Refusals.{Answers};
 ghost use Rattle.xg_scale.specs.Words.{HasNoNumberFault, IsCommonMultiple, IsFirstNumberFault, IsLeastCommonMultiple};
 
 use crate::chance::{SetTest, check_sets};
-use crate::fractions::are_in_lowest_terms;
 use crate::nodes::expect;
 use crate::weights::{Weights, weigh_leaves};
 use std::alloc::Global;
@@ -52,7 +51,7 @@ fn weigh_exactly(alloc: Global, game: &Game) -> Result<Weights, Refused>
     ensures exact { Answers result (weigh game.now) }
     ensures lowest { AreFractions (tables_of game.now) }
 {
-    are_in_lowest_terms(game);
+    game.numbers_are_in_lowest_terms();
     check_sets(game, SetTest::Signs)?;
     check_sets(game, SetTest::Sums)?;
     let expected = expect(alloc, game)?;

@@ -1,7 +1,7 @@
 //! The weights of a game's leaves.
 ghost use Rattle.std.specs.Prelude.{◌≡◌, ◌≤◌, ◌<◌, ◌+◌, ◌^◌, [], None, map, sum, unsigned_abs, IfErr, IfOk, OnErr, OnOk};
 ghost use Rattle.def_fraction.specs.Fraction.{most, signed};
-ghost use Rattle.def_game_faults.specs.Faults.{found_by, mass_fault};
+ghost use Rattle.def_game_scale.specs.Faults.{found_by, mass_fault};
 ghost use Rattle.def_game_numbers.specs.Numbers.{tables_of, weights_of_game};
 ghost use Rattle.def_game_paths.specs.Paths.{visits};
 ghost use Rattle.def_game_scale.specs.Scale.{game_unit, weight_of};
@@ -14,11 +14,11 @@ ghost use Rattle.xg_scale.specs.Weighed.{HasWeighed, IsLeafWeighed};
 
 use crate::leaf::{Expected, is_leaf};
 use crate::parts::{denominator, is_negative, size};
+use def_sums::MOST_MASS;
 use std::alloc::Global;
 use std::marker::Model;
 use xg_frac::{Frac, OverLimit};
 use xg_game::{FileFault, Game, Refused};
-use xg_limits::MOST_MASS;
 
 /// The unit of a game, the weights of its leaves in prefix order, and their mass, which is the sum of their sizes.
 ///

@@ -1,4 +1,4 @@
-use Rattle.def_poker.specs.Poker.{hand}
+use Rattle.def_canon.specs.Poker.{hand}
 use Rattle.xg_gen.proofs.EntriesTakenInPieces.{adds_more, adds_then, takes_first, takes_more, takes_one, takes_then}
 use Rattle.xg_gen.proofs.entries.put_hand.Goals as goal
 

@@ -1,5 +1,5 @@
 use Rattle.std.proofs.Common.{[], ◌∷◌, ◌++◌, ◌∙◌, ap, map, arith}
-use Rattle.def_poker.specs.Poker.{cards, dealt_card}
+use Rattle.def_canon.specs.Poker.{cards, dealt_card}
 use Rattle.xg_gen.proofs.Ranges.{card_pushed}
 use Rattle.xg_gen.proofs.mentions.cards.Goals as goal
 

@@ -1,6 +1,6 @@
 use Rattle.std.proofs.Common.{◌≡◌, ◌+◌, ◌-◌, ◌++◌, map}
 use Rattle.std.specs.List.{range_with_len}
-use Rattle.def_poker.specs.Poker.{cards, dealt_card}
+use Rattle.def_canon.specs.Poker.{cards, dealt_card}
 use Rattle.xg_gen.proofs.mentions.cards.Given as goal
 
 abbrev pub invariant-cards : goal.invariant-cards

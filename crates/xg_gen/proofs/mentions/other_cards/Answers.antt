@@ -1,5 +1,5 @@
 use Rattle.std.proofs.Common.{◌-◌, map, arith}
-use Rattle.def_poker.specs.Poker.{dealt_card, others}
+use Rattle.def_canon.specs.Poker.{dealt_card, others}
 use Rattle.xg_gen.proofs.Ranges.{other_pushed}
 use Rattle.xg_gen.proofs.mentions.other_cards.Goals as goal
 

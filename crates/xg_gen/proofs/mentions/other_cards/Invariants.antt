@@ -1,6 +1,6 @@
 use Rattle.std.proofs.Common.{◌≡◌, ◌+◌, ◌-◌, ◌++◌, map}
 use Rattle.std.specs.List.{range_with_len}
-use Rattle.def_poker.specs.Poker.{dealt_card, others, cards_without}
+use Rattle.def_canon.specs.Poker.{dealt_card, others, cards_without}
 use Rattle.xg_gen.proofs.mentions.other_cards.Given as goal
 
 abbrev pub invariant-cards : goal.invariant-cards

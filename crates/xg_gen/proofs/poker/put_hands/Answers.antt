@@ -1,5 +1,5 @@
 use Rattle.std.proofs.Common.{ap, arith}
-use Rattle.def_poker.specs.Poker.{hands, cards_without}
+use Rattle.def_canon.specs.Poker.{hands, cards_without}
 use Rattle.xg_gen.proofs.Ranges.{all_cards, hands_next, hands_none}
 use Rattle.xg_gen.proofs.EntriesTakenInPieces.{all_taken, begin, goes_on, next_takes}
 use Rattle.xg_gen.proofs.poker.put_hands.Goals as goal

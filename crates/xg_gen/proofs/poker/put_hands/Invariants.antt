@@ -1,6 +1,6 @@
 use Rattle.std.proofs.Common.{◌+◌, ◌-◌}
 use Rattle.std.specs.List.{range_with_len}
-use Rattle.def_poker.specs.Poker.{hands, others, cards_without}
+use Rattle.def_canon.specs.Poker.{hands, others, cards_without}
 use Rattle.xg_gen.proofs.EntriesTakenInPieces.{TookEntries}
 use Rattle.xg_gen.proofs.poker.put_hands.Given as goal
 

@@ -1,5 +1,5 @@
 use Rattle.std.proofs.Common.{ap, arith}
-use Rattle.def_poker.specs.Poker.{rounds_with_cards}
+use Rattle.def_canon.specs.Poker.{rounds_with_cards}
 use Rattle.xg_gen.proofs.Ranges.{all_cards, rounds_next, rounds_none}
 use Rattle.xg_gen.proofs.EntriesTakenInPieces.{all_taken, begin, goes_on, next_takes}
 use Rattle.xg_gen.proofs.poker.put_rounds.Goals as goal

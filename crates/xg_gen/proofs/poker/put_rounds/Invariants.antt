@@ -1,6 +1,6 @@
 use Rattle.std.proofs.Common.{◌+◌, ◌-◌}
 use Rattle.std.specs.List.{range_with_len}
-use Rattle.def_poker.specs.Poker.{cards, rounds_with_cards}
+use Rattle.def_canon.specs.Poker.{cards, rounds_with_cards}
 use Rattle.xg_gen.proofs.EntriesTakenInPieces.{TookEntries}
 use Rattle.xg_gen.proofs.poker.put_rounds.Given as goal
 

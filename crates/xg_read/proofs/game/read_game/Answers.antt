@@ -1,6 +1,6 @@
 use Rattle.def_file_form.proofs.FileReadingIsExact.{game_read, game_taken}
-use Rattle.def_file_fault.proofs.ReportedFaultIsFirst.{fault_first}
-use Rattle.def_file_fault.proofs.FirstFaultIsReported.{first_faulted}
+use Rattle.def_file_form.proofs.ReportedFaultIsFirst.{fault_first}
+use Rattle.def_file_form.proofs.FirstFaultIsReported.{first_faulted}
 use Rattle.xg_read.proofs.FileAnswerLaws.{answer_found, answer_only, answer_first, answer_faults, answer_any_length}
 use Rattle.xg_read.proofs.game.read_game.Goals as goal
 

@@ -1,6 +1,6 @@
 use Rattle.std.proofs.Common.{◌≡◌, ◌+◌, ◌-◌, ◌<◌, ◌∙◌, List, Some, None, true, false, not, ap, arith, length, slice_get, sym}
 use Rattle.def_fraction.specs.Fraction.{Fraction}
-use Rattle.def_game_faults.specs.Faults.{ChanceNegative, passing}
+use Rattle.def_game_scale.specs.Faults.{ChanceNegative, passing}
 use Rattle.def_game_numbers.specs.Numbers.{as_file_fault, tables_of}
 use Rattle.def_game_scale.specs.Tables.{probabilities}
 use Rattle.xg_scale.proofs.GameLemmas.{probabilities_count, probability_read}

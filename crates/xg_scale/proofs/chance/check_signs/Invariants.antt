@@ -1,6 +1,6 @@
 use Rattle.std.proofs.Common.{◌≡◌, drop}
 use Rattle.std.specs.List.{list_any}
-use Rattle.def_game_faults.specs.Faults.{is_negative}
+use Rattle.def_game_scale.specs.Faults.{is_negative}
 use Rattle.def_game_numbers.specs.Numbers.{tables_of}
 use Rattle.def_game_scale.specs.Tables.{probabilities}
 use Rattle.xg_scale.proofs.chance.check_signs.Given as goal

@@ -1,8 +1,8 @@
 use Rattle.std.proofs.Common.{◌≡◌, ℕ, ◌+◌, ◌-◌, ◌<◌, ◌∙◌, List, Some, ap, arith, drop, length, refl, slice_get, sym}
 use Rattle.std.proofs.lemmas.Bool.{false_from_ne_true}
 use Rattle.def_fraction.specs.Fraction.{Fraction, fits, sum_of}
-use Rattle.def_game_faults.specs.Faults.{Scale, adding_fault}
-use Rattle.def_game_faults.proofs.Walks.{not_passed, passed}
+use Rattle.def_game_scale.specs.Faults.{Scale, adding_fault}
+use Rattle.def_game_scale.proofs.Walks.{not_passed, passed}
 use Rattle.def_game_numbers.specs.Numbers.{as_file_fault, tables_of}
 use Rattle.def_game_scale.specs.Tables.{probabilities}
 use Rattle.xg_scale.proofs.GameLemmas.{probabilities_count, probability_read}

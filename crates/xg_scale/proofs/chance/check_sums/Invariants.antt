@@ -1,5 +1,5 @@
 use Rattle.std.proofs.Common.{◌≡◌, drop}
-use Rattle.def_game_faults.specs.Faults.{adding_fault}
+use Rattle.def_game_scale.specs.Faults.{adding_fault}
 use Rattle.def_game_numbers.specs.Numbers.{tables_of}
 use Rattle.def_fraction.specs.Fraction.{zero_fraction}
 use Rattle.def_game_scale.specs.Tables.{probabilities}

@@ -1,6 +1,6 @@
 use Rattle.std.proofs.Common.{◌≡◌, ◌∙◌, ap, arith}
 use Rattle.def_tree.specs.Tree.{node_count}
-use Rattle.def_game_faults.specs.Faults.{node_fault}
+use Rattle.def_game_scale.specs.Faults.{node_fault}
 use Rattle.def_game_numbers.specs.Numbers.{tables_of}
 use Rattle.def_game_scale.specs.Scale.{unit_of}
 use Rattle.xg_scale.proofs.FoundLemmas.{found_none}

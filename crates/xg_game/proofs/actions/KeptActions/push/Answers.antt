@@ -21,7 +21,7 @@ returns-then-is_zero-clause-ok c =
     let chances : List Fraction = c.self.inside.chances.items in
     let none : zero_fraction ≡ c.args.chance = sym (c.is_zero.ensures.0 c.if-is_zero.true) in
     ap (λ (ns : List (List ℕ)). actions_of ns chances) c.in_ok-push_view.ensures.ok
-    ∙ named_last names chances c.args.name.now c.self.invariant
+    ∙ named_last names chances c.args.name.now c.self.invariant.count
     ∙ ap (λ (xs : List content.Action). xs ++ action_with c.args.name.now zero_fraction ∷ []) c.self.view_is
     ∙ ap (λ (chance : Fraction). c.args.self.now ++ action_with c.args.name.now chance ∷ []) none
 
@@ -43,9 +43,10 @@ returns-clause-ok c =
     let before : c.len-before.result ≡ length names = c.len-before.ensures in
     ap (λ (ns : List (List ℕ)). actions_of ns c.push.new.self.items) c.in_ok-push_view.ensures.ok
     ∙ ap (actions_of (names ++ c.args.name.now ∷ [])) c.in_ok-push.ensures.items
-    ∙ chance_last names c.pad.new.chances.items c.args.name.now c.args.chance (c.in_ok-pad.ensures.ok ∙ before)
-    ∙ ap (λ (xs : List content.Action). xs ++ action_with c.args.name.now c.args.chance ∷ [])
+    ∙ chance_last names c.pad.new.chances.items c.args.name.now c.known.result (c.in_ok-pad.ensures.ok ∙ before)
+    ∙ ap (λ (xs : List content.Action). xs ++ action_with c.args.name.now c.known.result ∷ [])
     (c.in_ok-pad.ensures.same names (omega (arith, c.in_ok-pad.ensures.ok, before)) ∙ c.self.view_is)
+    ∙ ap (λ (chance : Fraction). c.args.self.now ++ action_with c.args.name.now chance ∷ []) c.known.ensures.same
 
 pub returns-clause-kept : goal.returns-clause-kept
 returns-clause-kept c =
