@@ -8,8 +8,8 @@ use Rattle.def_history.specs.Core.{Right, times_right}
 use Rattle.def_history.specs.History.{IsLegal, IsComplete, stripe_of, sum_over_jobs, times}
 use Rattle.def_history.proofs.Counts.{Contains_from_times}
 use Rattle.def_history.proofs.Ends.{replays_to_plain_sum}
-use Rattle.xg_rights.specs.declared.view.View.{View}
-use Rattle.xg_rights.specs.Rights.{job_count_of, once, rights_for, stripes_of, IsLoaded}
+use Rattle.xg_locked.specs.declared.view.View.{View}
+use Rattle.xg_locked.specs.Rights.{job_count_of, once, rights_for, stripes_of, IsLoaded}
 use Rattle.xg_locked.proofs.RightsMoveUnderLocks.{once_at_most}
 use Rattle.xg_board.specs.Closing.{Gathered}
 

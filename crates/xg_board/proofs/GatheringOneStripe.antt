@@ -11,8 +11,8 @@ use Rattle.def_history.specs.Core.{Right, times_right}
 use Rattle.def_history.specs.History.{replay, IsLegal, job_numbers, stripe_of, times}
 use Rattle.def_history.proofs.Locks.{legal_replays_are_small}
 use Rattle.xg_rowcore.specs.Stripes.{StripeHistory}
-use Rattle.xg_rights.specs.Rights.{once, rights_at}
-use Rattle.xg_rights.proofs.Sums.{times_append, times_at}
+use Rattle.xg_locked.specs.Rights.{once, rights_at}
+use Rattle.xg_locked.proofs.Sums.{times_append, times_at}
 use Rattle.xg_locked.proofs.RightsMoveUnderLocks.{once_at_most}
 use Rattle.xg_board.specs.Holdings.{Holding, tickets_of}
 use Rattle.xg_board.specs.Closing.{share_of, AddsTotals, Gathered}

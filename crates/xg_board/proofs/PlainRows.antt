@@ -3,17 +3,17 @@ use Rattle.std.proofs.Common.{◌≡◌, ℕ, ◌+◌, ◌<◌, List, length, ge
 use Rattle.std.proofs.lemmas.List.{ext_get_or, get_or_append_left, get_or-append-add, length-append}
 use Rattle.def_tree.specs.declared.Player.TheVariants.{One, Two}
 use Rattle.def_tree.specs.Tree.{leaf_count, prefix}
-use Rattle.def_game_jobs.specs.Ranges.{LeafRange, Partitions}
-use Rattle.def_game_jobs.proofs.Ranges.{partition}
+use Rattle.def_history.specs.Ranges.{LeafRange, Partitions}
+use Rattle.def_history.proofs.Ranges.{partition}
 use Rattle.def_plan.specs.Form.{SequenceForm, sequence_count}
 use Rattle.def_history.specs.History.{sum_over_jobs}
 use Rattle.def_history.specs.Leaves.{sum_over_leaves}
 use Rattle.def_history.proofs.Leaves.{jobs_add_up}
-use Rattle.def_history_rows.specs.JobRows.{leaf_amount}
-use Rattle.def_history_rows.proofs.JobRows.{rows_sum_over_leaves}
-use Rattle.def_rows.specs.Rows.{player_rows, row_count}
-use Rattle.def_rows.specs.Laws.{ArePlayerLeafSums}
-use Rattle.def_rows.proofs.Rows.{player_rows_are_leaf_sums}
+use Rattle.def_history.specs.JobRows.{leaf_amount}
+use Rattle.def_history.proofs.JobRows.{rows_sum_over_leaves}
+use Rattle.def_plan.specs.FormRows.{player_rows, row_count}
+use Rattle.def_plan.specs.RowLaws.{ArePlayerLeafSums}
+use Rattle.def_plan.proofs.Rows.{player_rows_are_leaf_sums}
 use Rattle.xg_jobs.specs.Rows.{Amounts, all_rows, ArePlainSums}
 use Rattle.xg_jobs.specs.Table.{IsTableOf, TableOfJobs}
 use Rattle.xg_board.specs.Running.{job_amounts}

@@ -12,9 +12,9 @@ use Rattle.def_sums.proofs.SumLaws.{nat_sum_over-bounded}
 use Rattle.def_plan.specs.Form.{SequenceForm}
 use Rattle.def_plan.specs.Payoff.{mass_of}
 use Rattle.def_plan.proofs.SizeLaws.{slice_index-at_most}
-use Rattle.def_rows.specs.Rows.{row_count}
+use Rattle.def_plan.specs.FormRows.{row_count}
 use Rattle.def_history.specs.History.{job_numbers}
-use Rattle.def_history_rows.proofs.Amounts.{amounts_small}
+use Rattle.def_history.proofs.Amounts.{amounts_small}
 use Rattle.xg_jobs.specs.Rows.{AreNumbersOf}
 use Rattle.xg_jobs.specs.Table.{IsTableOf, TableOfJobs}
 use Rattle.xg_board.specs.Running.{are_small, job_amounts, tested}

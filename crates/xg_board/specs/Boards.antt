@@ -4,8 +4,8 @@ use Rattle.atomic_table.specs.Table.{Me}
 use Rattle.atomic_table.specs.Seated.{TableId}
 use Rattle.def_sums.specs.Limits.{most_stripes}
 use Rattle.xg_jobs.specs.Rows.{Amounts, all_rows}
-use Rattle.xg_rights.specs.declared.view.View.{View}
-use Rattle.xg_rights.specs.Rights.{number_from, whole_view}
+use Rattle.xg_locked.specs.declared.view.View.{View}
+use Rattle.xg_locked.specs.Rights.{number_from, whole_view}
 
 -- the table's first seat has everything, for these jobs and stripes
 pub record IsBase (table seat : TableId) (me : Me (Unit {0}) View) (jobs stripes : ℕ) : Type 0 where

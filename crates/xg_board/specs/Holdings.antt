@@ -4,8 +4,8 @@ use Rattle.atomic_table.specs.Table.{Me}
 use Rattle.atomic_table.specs.Seated.{TableId}
 use Rattle.def_sums.specs.Limits.{most_workers}
 use Rattle.def_history.specs.Core.{Right}
-use Rattle.xg_rights.specs.declared.view.View.{View}
-use Rattle.xg_rights.specs.Rights.{seen, spent}
+use Rattle.xg_locked.specs.declared.view.View.{View}
+use Rattle.xg_locked.specs.Rights.{seen, spent}
 
 -- a pass: its worker, its rights, how many tickets it has, and the number of jobs and stripes that its seat has met
 pub record Holding : Type 0 where

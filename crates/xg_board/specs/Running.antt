@@ -4,10 +4,10 @@ use Rattle.std.specs.List.{list_all, range_with_len}
 use Rattle.def_sums.specs.Limits.{most_row}
 use Rattle.def_sums.specs.Sum.{nat_sum_over}
 use Rattle.def_plan.specs.Form.{SequenceForm}
-use Rattle.def_game_jobs.specs.Ranges.{LeafRange}
+use Rattle.def_history.specs.Ranges.{LeafRange}
 use Rattle.def_history.specs.History.{job_numbers}
 use Rattle.def_history.specs.Leaves.{amounts}
-use Rattle.def_history_rows.specs.JobRows.{leaf_amount}
+use Rattle.def_history.specs.JobRows.{leaf_amount}
 use Rattle.xg_rowcore.specs.Packets.{Listed}
 use Rattle.xg_board.specs.Holdings.{Holding}
 

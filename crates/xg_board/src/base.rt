@@ -1,10 +1,11 @@
+//! The table of the workers' rights, on which a board is opened.
 ghost use Rattle.std.specs.Prelude.{◌≡◌, ◌≤◌, length, IfOk};
 ghost use Rattle.def_sums.specs.Limits.{most_stripes};
 ghost use Rattle.xg_board.specs.Boards.{IsBase};
 
 use std::alloc::{AllocError, Global};
 use xg_jobs::JobTable;
-use xg_rights::{CODE_BASE, RightsSeat, RightsTable, open};
+use xg_locked::{CODE_BASE, RightsSeat, RightsTable, open};
 
 /// The table of the workers' rights with its first seat, for these jobs and stripes. A board is opened on it.
 #[derive(Drop)]

@@ -1,10 +1,11 @@
+//! The board of a round: jobs in a bag under a lock, and stripes under a lock each.
 ghost use Rattle.std.specs.Prelude.{◌≡◌, ◌<◌, ◌≤◌, ◌+◌, [], IsPermutation, MatchOption, vec_len, length, ℕ, All, pos, slice_index_or};
 ghost use Rattle.def_sums.specs.Limits.{most_workers, most_stripes};
 ghost use Rattle.def_history.specs.Core.{rights_of, times_right};
 ghost use Rattle.def_history.specs.History.{sum_over_jobs};
 ghost use Rattle.def_history.specs.Packets.{IsPacketOf};
 ghost use Rattle.xg_jobs.specs.Rows.{all_rows};
-ghost use Rattle.xg_rights.specs.Rights.{number_from, seen};
+ghost use Rattle.xg_locked.specs.Rights.{number_from, seen};
 ghost use Rattle.xg_locked.specs.Locked.{number_met, without};
 ghost use Rattle.xg_board.specs.Boards.{IsBoard};
 ghost use Rattle.xg_board.specs.Holdings.{Holding, tickets_of};
@@ -18,8 +19,7 @@ use std::sync::{Mutex, Wait};
 use std::thread::Threads;
 use xg_io::Gate;
 use xg_jobs::Rows;
-use xg_locked::{Bag, SeatedStripe};
-use xg_rights::{RightsBadge, RightsSeat, RightsTable, View, load, meet};
+use xg_locked::{Bag, RightsBadge, RightsSeat, RightsTable, SeatedStripe, View, load, meet};
 use xg_rowcore::{Packet, RowName};
 
 /// The rows of one round behind locks, for workers that draw jobs and add what these bring.

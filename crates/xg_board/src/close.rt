@@ -1,9 +1,10 @@
+//! What the close of a board takes in: the seats of all passes, and those of the stripes with their totals.
 ghost use Rattle.std.specs.Prelude.{◌≡◌, ℕ, ◌<◌, ◌≤◌, ◌+◌, ◌^◌, ◌*◌, List, [], ◌∷◌, ◌++◌, length, All, pos, ◌+ℤ◌, unsigned_abs, slice_index_or, slice_set, vec_len};
 ghost use Rattle.def_sums.specs.Limits.{most_row};
 ghost use Rattle.def_history.specs.Core.{Right};
 ghost use Rattle.def_history.specs.Packets.{place_count as places_in};
 ghost use Rattle.xg_jobs.specs.Rows.{all_rows};
-ghost use Rattle.xg_rights.specs.Rights.{job_count_of, seen, stripes_of};
+ghost use Rattle.xg_locked.specs.Rights.{job_count_of, seen, stripes_of};
 ghost use Rattle.xg_locked.specs.Locked.{number_met};
 ghost use Rattle.xg_board.specs.Closing.{AddsTotals, Gathered};
 ghost use Rattle.xg_board.specs.Holdings.{Holding, tickets_of};
@@ -11,8 +12,7 @@ ghost use Rattle.xg_board.specs.Holdings.{Holding, tickets_of};
 use crate::pass::Pass;
 use std::sync::Mutex;
 use xg_jobs::Rows;
-use xg_locked::SeatedStripe;
-use xg_rights::{RightsSeat, SharedRights, meet};
+use xg_locked::{RightsSeat, SeatedStripe, SharedRights, meet};
 use xg_rowcore::{RowName, Stripe};
 
 // Takes in the seats of the passes.

@@ -1,3 +1,4 @@
+//! Makers of rows by workers.
 ghost use Rattle.std.specs.Prelude.{◌≤◌, IfOk};
 ghost use Rattle.def_sums.specs.Limits.{most_workers, most_stripes};
 ghost use Rattle.xg_jobs.specs.Rows.{AreNumbersOf, ArePlainSums};

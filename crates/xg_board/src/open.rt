@@ -1,9 +1,10 @@
+//! The opening of a board.
 ghost use Rattle.std.specs.Prelude.{◌≡◌, ◌<◌, ◌+◌, [], length, replicate, pos, vec_len, IfOk};
 ghost use Rattle.def_sums.specs.Limits.{most_workers};
 ghost use Rattle.def_plan.specs.Form.{sequence_count};
-ghost use Rattle.def_rows.specs.Rows.{row_count};
+ghost use Rattle.def_plan.specs.FormRows.{row_count};
 ghost use Rattle.xg_jobs.specs.Table.{IsTableOf};
-ghost use Rattle.xg_rights.specs.Rights.{number_from, seen, stripes_of};
+ghost use Rattle.xg_locked.specs.Rights.{number_from, seen, stripes_of};
 ghost use Rattle.xg_locked.specs.Locked.{number_met};
 
 use crate::base::Base;
@@ -13,8 +14,7 @@ use def_tree::Player;
 use std::alloc::{AllocError, Global};
 use std::sync::Mutex;
 use xg_jobs::{JobTable, Rows};
-use xg_locked::{Bag, SeatedStripe};
-use xg_rights::{RightsSeat, SharedRights};
+use xg_locked::{Bag, RightsSeat, SeatedStripe, SharedRights};
 use xg_rowcore::RowName;
 use xg_seq::SeqForm;
 

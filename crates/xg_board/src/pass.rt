@@ -1,9 +1,10 @@
+//! The pass of a worker.
 ghost use Rattle.std.specs.Prelude.{◌≡◌, []};
-ghost use Rattle.xg_rights.specs.Rights.{seen};
+ghost use Rattle.xg_locked.specs.Rights.{seen};
 ghost use Rattle.xg_locked.specs.Locked.{number_met};
 
 use std::marker::{Model, PhantomData};
-use xg_rights::{RightsBadge, RightsSeat, View};
+use xg_locked::{RightsBadge, RightsSeat, View};
 use xg_rowcore::RowName;
 
 /// What one worker holds while it draws and adds: its number, its rights, and its ticket.

@@ -1,10 +1,11 @@
+//! The purse that passes are taken from.
 ghost use Rattle.std.specs.Prelude.{◌≡◌, ◌<◌, ◌≤◌, ◌+◌, ◌-◌, []};
 ghost use Rattle.def_sums.specs.Limits.{most_workers};
-ghost use Rattle.xg_rights.specs.Rights.{seen};
+ghost use Rattle.xg_locked.specs.Rights.{seen};
 ghost use Rattle.xg_locked.specs.Locked.{number_met};
 
 use std::marker::{Brand, Model, PhantomData};
-use xg_rights::{Cut, RightsSeat, SharedRights, View, cut};
+use xg_locked::{Cut, RightsSeat, SharedRights, View, cut};
 use xg_rowcore::RowName;
 
 /// What the caller of a board's opening holds: the tickets and the parts for at most 64 passes.

@@ -1,9 +1,10 @@
+//! The run of all workers over the jobs of a round.
 ghost use Rattle.std.specs.Prelude.{◌≡◌, ◌<◌, ◌≤◌, ◌+◌, [], IfOk, IsTrue, All, false, length, vec_capacity, vec_len};
 ghost use Rattle.def_sums.specs.Limits.{most_workers, most_stripes};
-ghost use Rattle.def_rows.specs.Rows.{row_count};
+ghost use Rattle.def_plan.specs.FormRows.{row_count};
 ghost use Rattle.xg_jobs.specs.Rows.{AreNumbersOf, ArePlainSums};
 ghost use Rattle.xg_jobs.specs.Table.{IsTableOf, most_touched};
-ghost use Rattle.xg_rights.specs.Rights.{number_from};
+ghost use Rattle.xg_locked.specs.Rights.{number_from};
 ghost use Rattle.xg_board.specs.Holdings.{Holding, tickets_of};
 ghost use Rattle.xg_board.specs.Running.{IsSpent, IsReady, job_amounts};
 

@@ -4,12 +4,12 @@ use Rattle.std.proofs.lemmas.List.{get_or_at, length-map}
 use Rattle.std.proofs.lemmas.List.Elements.{All-push}
 use Rattle.def_sums.specs.Limits.{most_rounds}
 use Rattle.def_sums.proofs.RingLaws.{≤ℤ_refl}
-use Rattle.def_bracket.specs.Bracket.{LiesWithin, TraceLine as Line}
-use Rattle.def_bracket.specs.Offers.{KeptEnd, keep_lower, keep_upper}
-use Rattle.def_bracket.proofs.Compares.{at_most-trans, int_lt_tells, less_at_most}
+use Rattle.def_reply.specs.Bracket.{LiesWithin, TraceLine as Line}
+use Rattle.def_reply.specs.Offers.{KeptEnd, keep_lower, keep_upper}
+use Rattle.def_reply.proofs.Compares.{at_most-trans, int_lt_tells, less_at_most}
 use Rattle.xg_bracket.specs.Board.{KeepsBoard}
 use Rattle.xg_bracket.specs.Ends.{end_after, kept_of, line_seen, line_with}
-use Rattle.xg_bracket.specs.declared.end.End.{End}
+use Rattle.xg_bracket.specs.declared.end.BestEnd.{BestEnd}
 use Rattle.xg_bracket.specs.declared.trace.TraceLine.{TraceLine}
 
 picked : {A : Type 0} (P : A → Type 0) (b : Bool) (x y : A) → P x → P y → P (cond b x y)
@@ -62,7 +62,7 @@ upper_falls (suc n) kept next some =
     (int_lt_tells a b)
 
 -- ends that are no worse lie within the same lines
-narrower : (line : Line) (lower upper lower' upper' : End) (round : ℕ) → 1 ≤ lower.round → 1 ≤ upper.round
+narrower : (line : Line) (lower upper lower' upper' : BestEnd) (round : ℕ) → 1 ≤ lower.round → 1 ≤ upper.round
     → Rises (kept_of lower) (kept_of lower') → Falls (kept_of upper) (kept_of upper')
     → LiesWithin (line_with 0 lower upper) line → LiesWithin (line_with round lower' upper') line
 narrower line lower upper lower' upper' round low_some high_some rises falls w =
@@ -92,7 +92,7 @@ pub record IsBounded (end : KeptEnd) : Type 0 where
   pub small : unsigned_abs end.reply.total ≤ 2 ^ 98
 
 -- one offer more
-module _ (lines : List TraceLine) (room capacity : ℕ) (lower upper lower' upper' : End)
+module _ (lines : List TraceLine) (room capacity : ℕ) (lower upper lower' upper' : BestEnd)
     (next_lower next_upper : KeptEnd) (b : KeepsBoard lines room capacity lower upper)
     (offers : ℕ) (count : offers ≡ length lines)
     (low : kept_of lower' ≡ keep_lower (end_after offers (kept_of lower)) next_lower)

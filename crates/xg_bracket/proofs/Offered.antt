@@ -9,11 +9,11 @@ use Rattle.def_plan.specs.Payoff.{leaf_sum}
 use Rattle.def_plan.proofs.BadSets.{length-placed}
 use Rattle.def_reply.specs.Reply.{Reply, best_reply_to, replies_at}
 use Rattle.def_reply.proofs.ReplySizes.{bounds_small}
-use Rattle.def_bracket.specs.Offers.{Offer, lower_of, upper_of}
+use Rattle.def_reply.specs.Offers.{Offer, lower_of, upper_of}
 use Rattle.xg_bracket.specs.Board.{FormSizes, MayBeOffered, SizedBoard}
 use Rattle.xg_bracket.specs.Ends.{CanKeep, IsEnd}
 use Rattle.xg_bracket.proofs.Narrowing.{IsBounded}
-use Rattle.xg_bracket.specs.declared.end.End.{End}
+use Rattle.xg_bracket.specs.declared.end.BestEnd.{BestEnd}
 
 length-replies : (player : Player) (sums : ℕ → ℤ) (hs : List PlacedSet)
     → length (replies_at player sums hs) ≡ length hs
@@ -55,7 +55,7 @@ module _ (board : SizedBoard) (offer : Offer) (same : offer.divisor ≡ offer.ro
   bounded_upper = record { some = omega (arith, m.fair.some_divisor); rounds = m.fair.few_rounds; small = high_small }
 
   -- an end of the sizes of the board has room for player one's plan and the reply to it
-  pub can_keep_lower : (lower : End) → IsEnd lower → length lower.plan ≡ board.sizes.sequences_one
+  pub can_keep_lower : (lower : BestEnd) → IsEnd lower → length lower.plan ≡ board.sizes.sequences_one
       → length lower.reply.reply.sets ≡ board.sizes.sets_two
       → CanKeep lower offer.round offer.plan_one offer.against_one
   can_keep_lower lower is_end sequences sets = record {
@@ -76,7 +76,7 @@ module _ (board : SizedBoard) (offer : Offer) (same : offer.divisor ≡ offer.ro
   }
 
   -- and for player two's
-  pub can_keep_upper : (upper : End) → IsEnd upper → length upper.plan ≡ board.sizes.sequences_two
+  pub can_keep_upper : (upper : BestEnd) → IsEnd upper → length upper.plan ≡ board.sizes.sequences_two
       → length upper.reply.reply.sets ≡ board.sizes.sets_one
       → CanKeep upper offer.round offer.plan_two offer.against_two
   can_keep_upper upper is_end sequences sets = record {

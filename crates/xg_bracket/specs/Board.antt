@@ -4,9 +4,9 @@ use Rattle.def_sums.specs.Limits.{most_mass}
 use Rattle.def_plan.specs.Form.{AreInOrder, SequenceForm, sequence_count}
 use Rattle.def_plan.specs.Payoff.{mass_of}
 use Rattle.def_reply.specs.Reply.{Reply}
-use Rattle.def_bracket.specs.Bracket.{LiesWithin, TraceLine as Line}
-use Rattle.def_bracket.specs.Offers.{Board, IsFair, Offer}
-use Rattle.xg_bracket.specs.declared.end.End.{End}
+use Rattle.def_reply.specs.Bracket.{LiesWithin, TraceLine as Line}
+use Rattle.def_reply.specs.Offers.{Board, IsFair, Offer}
+use Rattle.xg_bracket.specs.declared.end.BestEnd.{BestEnd}
 use Rattle.xg_bracket.specs.declared.trace.TraceLine.{TraceLine}
 use Rattle.xg_bracket.specs.Ends.{IsEnd, end_after, kept_of, line_seen, line_with}
 
@@ -58,7 +58,7 @@ pub record MayBeOffered (board : SizedBoard) (offer : Offer) : Type 0 where
   pub fair : IsFair form (last_round board.board.trace) offer
 
 -- the board that these lines and ends are
-abbrev pub sized_board : List TraceLine → ℕ → End → End → SizedBoard
+abbrev pub sized_board : List TraceLine → ℕ → BestEnd → BestEnd → SizedBoard
 sized_board lines capacity lower upper = record {
   board = record {
     trace = map line_seen lines;
@@ -75,7 +75,7 @@ sized_board lines capacity lower upper = record {
 }
 
 -- there is room for all lines, and what is kept lies within each of them
-pub record KeepsBoard (lines : List TraceLine) (room capacity : ℕ) (lower upper : End) : Type 0 where
+pub record KeepsBoard (lines : List TraceLine) (room capacity : ℕ) (lower upper : BestEnd) : Type 0 where
   pub within : length lines ≤ capacity
   pub reserved : capacity ≤ room
   pub lower_end : IsEnd lower

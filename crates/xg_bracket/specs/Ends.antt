@@ -5,16 +5,16 @@ use Rattle.def_tree.specs.declared.Player.{Player}
 use Rattle.def_plan.specs.Form.{AreInOrder, InformationSet, SequenceForm, player_sets, sequence_count}
 use Rattle.def_plan.specs.Plan.{IsPlan}
 use Rattle.def_reply.specs.Reply.{Reply}
-use Rattle.def_bracket.specs.Bracket.{TraceLine as Line}
-use Rattle.def_bracket.specs.Offers.{KeptEnd}
-use Rattle.xg_bracket.specs.declared.end.End.{End}
+use Rattle.def_reply.specs.Bracket.{TraceLine as Line}
+use Rattle.def_reply.specs.Offers.{KeptEnd}
+use Rattle.xg_bracket.specs.declared.end.BestEnd.{BestEnd}
 use Rattle.xg_bracket.specs.declared.trace.TraceLine.{TraceLine}
 
 -- an end whose bounds are divided by its round
 abbrev pub kept_end : ℕ → List ℕ → Reply → KeptEnd
 kept_end round plan reply = record { round = round; divisor = round; plan = plan; reply = reply }
 
-abbrev pub kept_of : End → KeptEnd
+abbrev pub kept_of : BestEnd → KeptEnd
 kept_of end = kept_end end.round end.plan end.reply.reply
 
 -- what is kept after so many offers: before the first there is no end
@@ -32,7 +32,7 @@ line_seen line = record {
 }
 
 -- the line of a round with these ends
-abbrev pub line_with : ℕ → End → End → Line
+abbrev pub line_with : ℕ → BestEnd → BestEnd → Line
 line_with round lower upper = record {
   round = round;
   low_round = lower.round;
@@ -50,13 +50,13 @@ pub record IsSomePlan (plan : List ℕ) : Type 0 where
   pub limit : root ≤ most_root
 
 -- the end has a bound within the limits, and room for a plan and a reply of its sizes
-pub record IsEnd (end : End) : Type 0 where
+pub record IsEnd (end : BestEnd) : Type 0 where
   pub sets : length end.reply.reply.sets ≡ end.sets
   pub rounds : end.round ≤ most_rounds
   pub small : unsigned_abs end.reply.reply.total ≤ most_row
 
 -- a plan and a reply that the end has room for, within the limits
-pub record CanKeep (end : End) (round : ℕ) (plan : List ℕ) (reply : Reply) : Type 0 where
+pub record CanKeep (end : BestEnd) (round : ℕ) (plan : List ℕ) (reply : Reply) : Type 0 where
   pub is_end : IsEnd end
   pub is_plan : IsSomePlan plan
   pub sequences : length plan ≡ length end.plan
@@ -65,7 +65,7 @@ pub record CanKeep (end : End) (round : ℕ) (plan : List ℕ) (reply : Reply) :
   pub small : unsigned_abs reply.total ≤ most_row
 
 -- the room for a player's plan and the other player's reply
-pub record IsFreshEnd (form : SequenceForm) (player other : Player) (end : End) : Type 0 where
+pub record IsFreshEnd (form : SequenceForm) (player other : Player) (end : BestEnd) : Type 0 where
   pub is_end : IsEnd end
   pub plan : length end.plan ≡ sequence_count (player_sets form player)
   pub reply : length end.reply.reply.sets ≡ length (player_sets form other)

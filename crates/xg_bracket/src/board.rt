@@ -1,12 +1,13 @@
+//! The board of a bracket.
 ghost use Rattle.std.specs.Prelude.{◌≡◌, ◌<◌, ◌≤◌, ◌++◌, ◌↔◌, [], ◌∷◌, All, IfOk, IsNone, None};
 ghost use Rattle.std.specs.Prelude.{length, map, vec_capacity, vec_len};
 ghost use Rattle.std.specs.Option.{option_map};
-ghost use Rattle.def_bracket.specs.Bracket.{LiesWithin, TraceLine as Line};
-ghost use Rattle.def_bracket.specs.Offers.{new_board, offered};
+ghost use Rattle.def_reply.specs.Bracket.{LiesWithin, TraceLine as Line};
+ghost use Rattle.def_reply.specs.Offers.{new_board, offered};
 ghost use Rattle.xg_bracket.specs.Board.{MayBeOffered, offer_of, sizes_of};
 ghost use Rattle.xg_bracket.specs.Ends.{IsFreshEnd, line_seen, line_with};
 
-use crate::end::{End, offer_lower, offer_upper};
+use crate::end::{BestEnd, offer_lower, offer_upper};
 use crate::trace::TraceLine;
 use std::alloc::{AllocError, Global};
 use std::marker::Model;
@@ -22,8 +23,8 @@ use xg_seq::SeqForm;
 pub struct Board {
     trace: Vec<TraceLine>,
     capacity: u32,
-    lower: End,
-    upper: End,
+    lower: BestEnd,
+    upper: BestEnd,
 }
 
 impl Model for Board {
@@ -116,10 +117,15 @@ impl Board {
 }
 
 // Room for a player's plan and the other player's reply to it.
-fn new_end(alloc: Global, form: &SeqForm, player: Player, other: Player) -> Result<End, AllocError>
+fn new_end(
+    alloc: Global,
+    form: &SeqForm,
+    player: Player,
+    other: Player,
+) -> Result<BestEnd, AllocError>
     ensures { IfOk result (λ end. IsFreshEnd form.now player other end) }
 {
-    Ok(End {
+    Ok(BestEnd {
         round: 0,
         plan: Plan::new(alloc, form, player)?,
         reply: Reply::new(alloc, form, other)?,
@@ -127,7 +133,7 @@ fn new_end(alloc: Global, form: &SeqForm, player: Player, other: Player) -> Resu
     })
 }
 
-fn push_line(trace: &mut Vec<TraceLine>, round: u32, lower: &End, upper: &End)
+fn push_line(trace: &mut Vec<TraceLine>, round: u32, lower: &BestEnd, upper: &BestEnd)
     requires { vec_len trace.old < vec_capacity trace.old }
     ensures lines { map line_seen trace.new.items
         ≡ map line_seen trace.old.items ++ line_with round lower.now upper.now ∷ [] }

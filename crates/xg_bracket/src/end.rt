@@ -1,13 +1,14 @@
+//! An end of the bracket so far, and how it gives way to a better one.
 ghost use Rattle.std.specs.Prelude.{◌≡◌, ◌*ℤ◌, ◌<◌, ◌≤◌, ◌^◌, int_lt, length, pos, unsigned_abs};
 ghost use Rattle.def_sums.specs.Limits.{most_rounds, most_row};
-ghost use Rattle.def_bracket.specs.Offers.{keep_lower, keep_upper};
+ghost use Rattle.def_reply.specs.Offers.{keep_lower, keep_upper};
 ghost use Rattle.xg_bracket.specs.Ends.{CanKeep, IsSomePlan, end_after, kept_end, kept_of};
 
 use xg_plan::{Plan, Reply, add_to};
 
 // A player's plan after a round, and the reply to it, which is one for so many sets.
 #[derive(Drop)]
-pub(crate) struct End {
+pub(crate) struct BestEnd {
     pub(crate) round: u32,
     pub(crate) plan: Plan,
     pub(crate) reply: Reply,
@@ -15,7 +16,7 @@ pub(crate) struct End {
 }
 
 // Keeps the plan with the greater floor by its round, of equals the one that is kept.
-pub(crate) fn offer_lower(end: &mut End, offers: usize, round: u32, plan: &Plan, reply: &Reply)
+pub(crate) fn offer_lower(end: &mut BestEnd, offers: usize, round: u32, plan: &Plan, reply: &Reply)
     requires next { CanKeep end.old round plan.now reply.now.reply }
     ensures end { kept_of end.new
         ≡ keep_lower (end_after offers (kept_of end.old)) (kept_end round plan.now reply.now.reply) }
@@ -29,7 +30,7 @@ pub(crate) fn offer_lower(end: &mut End, offers: usize, round: u32, plan: &Plan,
 }
 
 // Keeps the plan with the lower ceiling by its round, of equals the one that is kept.
-pub(crate) fn offer_upper(end: &mut End, offers: usize, round: u32, plan: &Plan, reply: &Reply)
+pub(crate) fn offer_upper(end: &mut BestEnd, offers: usize, round: u32, plan: &Plan, reply: &Reply)
     requires next { CanKeep end.old round plan.now reply.now.reply }
     ensures end { kept_of end.new
         ≡ keep_upper (end_after offers (kept_of end.old)) (kept_end round plan.now reply.now.reply) }
@@ -61,7 +62,7 @@ fn times(reply: &Reply, factor: u32) -> i128
     reply.total() * i128::from(factor)
 }
 
-fn keep(end: &mut End, round: u32, plan: &Plan, reply: &Reply)
+fn keep(end: &mut BestEnd, round: u32, plan: &Plan, reply: &Reply)
     requires plan { IsSomePlan plan.now }
     requires sequences { length plan.now ≡ length end.old.plan }
     requires kept_sets { length end.old.reply.reply.sets ≡ end.old.sets }

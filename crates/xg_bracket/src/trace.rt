@@ -1,3 +1,5 @@
+//! A line of the trace.
+
 /// The bracket after a round: the greatest floor so far and the least ceiling, each with the round that it comes from.
 ///
 /// The bounds are totals of replies, in weights times the root of the plan that they bound.

@@ -1,6 +1,6 @@
 -- What is answered is what the laws of the text say.
 use Rattle.std.proofs.Common.{◌≡◌, ℕ, List, Result, Ok, Err, IfOk, ◌∙◌, sym, subst}
-use Rattle.def_cert_ranges.specs.Ranges.{CertificateFits}
+use Rattle.def_cert_verdict.specs.Ranges.{CertificateFits}
 use Rattle.def_cert_verdict.specs.Certificate.{Certificate}
 use Rattle.def_cert_text.specs.declared.fault.CertFault.{CertFault}
 use Rattle.def_cert_text.specs.CertText.{cert_in, cert_text}

@@ -8,7 +8,7 @@ use Rattle.xg_io.proofs.KnownBytesInPieces.{Progress, whole}
 use Rattle.xg_io.proofs.Pieces.{prefix_first, then_rest, goes_on, fails}
 use Rattle.def_cert_text.specs.Fields.{space, feed, FieldKind, Item, field, separator, items_text}
 use Rattle.def_cert_text.proofs.FormatLaws.{items_text-append}
-use Rattle.def_bracket.specs.Outcome.{Head}
+use Rattle.def_reply.specs.Outcome.{Head}
 use Rattle.def_cert_text.specs.Formats.{Format, text_of, each_items, row_items}
 use Rattle.def_cert_text.specs.CertText.{size_line, sets_line, sequences_line, unit_line, mass_line, head_text}
 use Rattle.xg_cert.specs.Writes.{field_text, counts_text, units_text}

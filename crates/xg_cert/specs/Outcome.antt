@@ -1,8 +1,8 @@
 -- The parts of an outcome, as the definitions have them.
 use Rattle.std.specs.Prelude.{List, map, Option, Some, None}
 use Rattle.std.specs.Borrow.{Bor}
-use Rattle.def_bracket.specs.Bracket.{TraceLine}
-use Rattle.def_bracket.specs.Outcome as kept
+use Rattle.def_reply.specs.Bracket.{TraceLine}
+use Rattle.def_reply.specs.Outcome as kept
 use Rattle.xg_cert.specs.declared.head.Head.{Head}
 use Rattle.xg_cert.specs.declared.outcome.TraceRow.{TraceRow}
 use Rattle.xg_cert.specs.declared.outcome.End.{End}

@@ -3,7 +3,7 @@ use Rattle.std.specs.Prelude.{◌≡◌, ℕ, ◌-◌, ◌≤◌, List, [], ◌�
 use Rattle.def_tree.specs.declared.Player.{Player}
 use Rattle.def_tree.specs.declared.Player.TheVariants.{One, Two}
 use Rattle.def_reply.specs.Reply.{Reply}
-use Rattle.def_bracket.specs.Outcome as kept
+use Rattle.def_reply.specs.Outcome as kept
 use Rattle.def_cert_verdict.specs.Certificate.{PrintedPlan, PrintedBounds, Certificate}
 
 -- numbers in groups, one after another: each begins at its start and ends before the next one

@@ -2,9 +2,9 @@
 use Rattle.std.specs.Prelude.{◌≡◌, ℕ, ◌≤◌, List, [], ◌++◌, codes, length, slice_index, unsigned_abs, Option, Some, None}
 use Rattle.def_plan.specs.Form.{InformationSet, SequenceForm, sequence_count}
 use Rattle.def_sums.specs.Limits.{most_root, most_row}
-use Rattle.def_bracket.specs.Bracket.{TraceLine}
-use Rattle.def_bracket.specs.Outcome.{Head, End, OutcomeEnds, Outcome}
-use Rattle.def_cert_ranges.specs.Ranges.{IsFromTo}
+use Rattle.def_reply.specs.Bracket.{TraceLine}
+use Rattle.def_reply.specs.Outcome.{Head, End, OutcomeEnds, Outcome}
+use Rattle.def_cert_verdict.specs.Ranges.{IsFromTo}
 use Rattle.def_fraction.specs.Fraction.{most}
 use Rattle.def_cert_accepted.specs.OfOutcome.{printed_plan, printed_bound}
 use Rattle.def_cert_text.specs.Fields.{items_text}

@@ -1,7 +1,7 @@
 -- What a writer does.
 use Rattle.std.specs.Prelude.{ℕ, List, [], ◌∷◌, ◌++◌}
 use Rattle.std.specs.Fmt.{decimal}
-use Rattle.def_bracket.specs.Outcome.{Head}
+use Rattle.def_reply.specs.Outcome.{Head}
 use Rattle.def_cert_text.specs.Fields.{space, fixed_word, number, field, separator, items_text}
 use Rattle.def_cert_text.specs.Formats.{text_of}
 use Rattle.def_cert_text.specs.CertText.{size_line, sets_line, sequences_line, unit_line, mass_line}

@@ -1,6 +1,6 @@
 //! A certificate that was read.
 ghost use Rattle.std.specs.Prelude.{◌≡◌, ◌-◌, ◌≤◌, [], None, Some, length, slice_get, slice_index_or};
-ghost use Rattle.def_cert_ranges.specs.Ranges.{BoundsFit, CertificateFits};
+ghost use Rattle.def_cert_verdict.specs.Ranges.{BoundsFit, CertificateFits};
 ghost use Rattle.def_cert_verdict.specs.Certificate.{printed_numbers};
 ghost use Rattle.def_reply.specs.Reply.{choices_of, values_of};
 ghost use Rattle.xg_cert.specs.Outcome.{head_of, trace_of};
@@ -37,7 +37,7 @@ pub struct Cert {
 }
 
 impl Model for Cert {
-    ghost use Rattle.def_cert_ranges.specs.Ranges.{CertificateFits};
+    ghost use Rattle.def_cert_verdict.specs.Ranges.{CertificateFits};
     ghost use Rattle.def_cert_verdict.specs.Certificate.{Certificate};
     ghost use Rattle.xg_cert.specs.ReadCert.{certificate_read};
 

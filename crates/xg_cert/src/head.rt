@@ -1,3 +1,5 @@
+//! The head of a run.
+
 /// A game's numbers, and what was asked of a run.
 ///
 /// A pair is one number for each player, player one's first. The sequences count the empty one.

@@ -1,3 +1,4 @@
+//! The outcome of a run: its trace, and both ends of its bracket.
 ghost use Rattle.std.specs.Prelude.{◌≡◌};
 ghost use Rattle.xg_cert.specs.Outcome.{ends_seen, head_of, outcome_seen, shown_ends, trace_of};
 
@@ -36,7 +37,7 @@ pub struct Outcome {
 }
 
 impl Model for Outcome {
-    ghost use Rattle.def_bracket.specs.Outcome as kept;
+    ghost use Rattle.def_reply.specs.Outcome as kept;
     ghost use Rattle.xg_cert.specs.Outcome.{outcome_seen};
 
     ghost Value = { kept.Outcome };

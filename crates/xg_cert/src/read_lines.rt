@@ -13,10 +13,10 @@ ghost use Rattle.xg_cert.specs.ReadCert.{set_reply_of, asked_of};
 use crate::head::Head;
 use crate::outcome::TraceRow;
 use def_cert_text::CertFault;
+use def_sums::{MOST_MASS, MOST_ROUNDS, MOST_SCALE};
 use itoa::Buffer;
 use xg_cert_fields::FieldReader;
 use xg_frac::{MOST_PART, Ratio};
-use xg_limits::{MOST_MASS, MOST_ROUNDS, MOST_SCALE};
 use xg_tree::{MOST_ACTIONS, MOST_NODES};
 
 /// What was asked of a run.

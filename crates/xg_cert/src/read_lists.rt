@@ -14,9 +14,9 @@ use crate::printed::{PlanLines, ReplyLines};
 use crate::read_lines::{set_number, trace_line, value_line};
 use crate::refused::CertRefused;
 use def_cert_text::CertFault;
+use def_sums::MOST_ROOT;
 use std::alloc::Global;
 use xg_cert_fields::FieldReader;
-use xg_limits::MOST_ROOT;
 use xg_tree::MOST_ACTIONS;
 
 /// How many numbers may follow the first one of a set.

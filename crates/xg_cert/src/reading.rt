@@ -1,7 +1,7 @@
 //! Reading a text.
 ghost use Rattle.std.specs.Prelude.{◌≡◌, ◌≤◌, Ok, Err, IfOk, nat_lt};
 ghost use Rattle.def_tree.specs.Rules.{most_nodes};
-ghost use Rattle.def_cert_ranges.specs.Ranges.{CertificateFits};
+ghost use Rattle.def_cert_verdict.specs.Ranges.{CertificateFits};
 ghost use Rattle.def_cert_verdict.specs.Certificate.{Certificate};
 ghost use Rattle.def_cert_text.specs.declared.fault.CertFault as fault;
 ghost use Rattle.def_cert_text.specs.Formats.{where_asked};
@@ -18,9 +18,9 @@ use crate::printed::{PlanLines, ReplyLines};
 use crate::read_lines::{bracket_line, head_lines};
 use crate::read_lists::{trace_lines, value_lines, weights_lines};
 use crate::refused::CertRefused;
+use def_sums::MOST_ROOT;
 use std::alloc::Global;
 use xg_cert_fields::FieldReader;
-use xg_limits::MOST_ROOT;
 
 /// Reads a certificate from the bytes of its text, version 1.
 ///

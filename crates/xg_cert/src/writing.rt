@@ -6,7 +6,7 @@ ghost use Rattle.def_outside.specs.Cause.{HasCause};
 ghost use Rattle.def_outside.specs.Sinks.{AppendsPrefix, Writes};
 ghost use Rattle.def_plan.specs.Form.{player_sets, sequence_count};
 ghost use Rattle.def_cert_accepted.specs.OfOutcome.{certificate_of, printed_bound, printed_plan};
-ghost use Rattle.def_cert_ranges.specs.Ranges.{IsFromTo};
+ghost use Rattle.def_cert_verdict.specs.Ranges.{IsFromTo};
 ghost use Rattle.def_fraction.specs.Fraction.{most};
 ghost use Rattle.def_sums.specs.Limits.{most_root, most_row};
 ghost use Rattle.xg_cert.specs.Outcome.{end_seen, head_of, trace_of};

@@ -7,13 +7,11 @@ ghost use Rattle.def_fraction.specs.Divisors.{gcd};
 ghost use Rattle.def_fraction.specs.Fraction.{whole_number};
 ghost use Rattle.def_cert_text.specs.Numbers.{fraction_in, integer_in, is_no_slash, leads_no_zero, over_in, whole_in};
 ghost use Rattle.xg_frac.specs.Scan.{past_all};
-ghost use Rattle.def_cert_ranges.specs.Ranges.{most_printed};
+ghost use Rattle.def_cert_verdict.specs.Ranges.{most_printed};
 
+use def_cert_verdict::ranges::MOST_PRINTED;
 use def_fraction::NumberFault;
 use xg_frac::{PAST, Ratio, ratio, read_whole};
-
-/// The greatest size of an end, a total, a value and a part of the bracket.
-const MOST_PRINTED: u128 = 1 << 100;
 
 fn leads_no_zero(field: &[u8]) -> bool
     ensures { result ≡ leads_no_zero field.now }

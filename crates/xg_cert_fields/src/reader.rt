@@ -4,7 +4,7 @@ ghost use Rattle.std.specs.List.{prefix_len};
 ghost use Rattle.def_cert_text.specs.Fields.{fixed_word, number, version, is_field_byte, separated_by};
 ghost use Rattle.def_cert_text.specs.Formats.{fixed_field, whole_field, integer_field, fraction_field, read_number};
 ghost use Rattle.def_cert_text.specs.CertText.{if_at_end};
-ghost use Rattle.def_cert_ranges.specs.Ranges.{most_printed};
+ghost use Rattle.def_cert_verdict.specs.Ranges.{most_printed};
 ghost use Rattle.xg_cert_fields.specs.Reading.{GivesValue};
 
 use crate::numbers::{fraction_in, integer_in, whole_in};

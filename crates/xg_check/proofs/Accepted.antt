@@ -5,13 +5,14 @@ use Rattle.def_file.specs.Content.{GameFile}
 use Rattle.def_file_form.specs.Laws.{StandsFor}
 use Rattle.def_game_numbers.specs.Numbers.{game_file_fault}
 use Rattle.def_plan.specs.Form.{AreInOrder}
-use Rattle.def_cert_ranges.specs.Ranges.{CertificateFits}
+use Rattle.def_cert_verdict.specs.Ranges.{CertificateFits}
 use Rattle.def_cert_verdict.specs.declared.fault.TestFault.{TestFault}
 use Rattle.def_cert_verdict.specs.Certificate.{Certificate}
 use Rattle.def_cert_verdict.specs.Verdict as def
+use Rattle.def_plan.specs.Weighed.{WeighedGame}
 use Rattle.def_cert_text.specs.CertText.{cert_text}
 use Rattle.def_check.specs.Check.{by_tests}
-use Rattle.def_file_accepted.specs.Weighed.{weighed_game}
+use Rattle.def_game_numbers.specs.Weighed.{weighed_game}
 use Rattle.def_check.specs.Shown.{Shows, ShowsOfFile}
 use Rattle.def_check.proofs.Accepted.{alone_without_rounds, what_is_shown}
 use Rattle.xg_check.specs.declared.verdict.Verdict.{Verdict}
@@ -25,7 +26,7 @@ passed (Ok s) v e = cc
 passed (Err f) v e = absurd cc
 
 -- what holds before the verdict
-pub record HoldsBeforeVerdict (game : def.WeighedGame) (cert_bytes : List ℕ) (c : Certificate) : Type 0 where
+pub record HoldsBeforeVerdict (game : WeighedGame) (cert_bytes : List ℕ) (c : Certificate) : Type 0 where
   pub order_one : AreInOrder game.form.sets_one
   pub order_two : AreInOrder game.form.sets_two
   pub some_unit : 1 ≤ game.unit
@@ -33,7 +34,7 @@ pub record HoldsBeforeVerdict (game : def.WeighedGame) (cert_bytes : List ℕ) (
   pub text : cert_bytes ≡ cert_text c
 
 -- a verdict that the tests give of a certificate within its ranges is what its bytes show of the game
-pub judged_shows : (r : Result Verdict CheckFault) (game : def.WeighedGame) (bytes : List ℕ) (c : Certificate)
+pub judged_shows : (r : Result Verdict CheckFault) (game : WeighedGame) (bytes : List ℕ) (c : Certificate)
     → HoldsBeforeVerdict game bytes c → AnswersVerdict r (by_tests (def.verdict game c))
     → IfOk r (λ v. Shows game bytes (verdict_of v))
 judged_shows (Ok v) game bytes c ready e =
@@ -46,7 +47,7 @@ alone HeadOnly = (λ e. refl, λ e. refl)
 alone (Bounds low high) = (λ e. absurd cc, λ e. absurd cc)
 
 -- a verdict that the tests give is the head alone exactly where the certificate's head has no round
-pub judged_alone : (r : Result Verdict CheckFault) (game : def.WeighedGame) (bytes : List ℕ) (c : Certificate)
+pub judged_alone : (r : Result Verdict CheckFault) (game : WeighedGame) (bytes : List ℕ) (c : Certificate)
     → HoldsBeforeVerdict game bytes c → AnswersVerdict r (by_tests (def.verdict game c))
     → IfOk r (IsHeadOnlyWithoutRounds bytes)
 judged_alone (Ok v) game bytes c ready e = λ d fits same.
@@ -56,20 +57,20 @@ judged_alone (Ok v) game bytes c ready e = λ d fits same.
     (λ only. both.0 (here.0 only), λ none. here.1 (both.1 none))
 judged_alone (Err f) game bytes c ready e = tt
 
-pub opened_as : (r : Result def.WeighedGame Refused) (bytes : List ℕ) (game : GameFile) → StandsFor bytes game
+pub opened_as : (r : Result WeighedGame Refused) (bytes : List ℕ) (game : GameFile) → StandsFor bytes game
     → IfOk r (λ numbers. numbers ≡ weighed_game game) → IfOk r (λ _. game_file_fault game ≡ None)
     → IfOk r (IsOpened bytes)
 opened_as (Ok numbers) bytes game stands is none = record { game = game; stands = stands; faultless = none; numbers_are = is }
 opened_as (Err f) bytes game stands is none = tt
 
 -- what a certificate shows of the numbers of an opened file, it shows of the file's game
-pub shown_of_file : (r : Result Verdict CheckFault) (game_bytes cert_bytes : List ℕ) (numbers : def.WeighedGame)
+pub shown_of_file : (r : Result Verdict CheckFault) (game_bytes cert_bytes : List ℕ) (numbers : WeighedGame)
     → IsOpened game_bytes numbers → IfOk r (λ v. Shows numbers cert_bytes (verdict_of v))
     → IfOk r (λ v. ShowsOfFile game_bytes cert_bytes (verdict_of v))
 shown_of_file (Ok v) game_bytes cert_bytes numbers opened shows = record {
   game = opened.game;
   stands = opened.stands;
   faultless = opened.faultless;
-  shows = subst (λ (g : def.WeighedGame). Shows g cert_bytes (verdict_of v)) opened.numbers_are shows;
+  shows = subst (λ (g : WeighedGame). Shows g cert_bytes (verdict_of v)) opened.numbers_are shows;
 }
 shown_of_file (Err f) game_bytes cert_bytes numbers opened shows = tt

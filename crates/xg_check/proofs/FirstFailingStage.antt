@@ -5,7 +5,8 @@ use Rattle.std.proofs.Common.{append_assoc}
 use Rattle.def_tree.specs.declared.Player.TheVariants.{One, Two}
 use Rattle.def_cert_verdict.specs.declared.fault.TestFault.{TestFault}
 use Rattle.def_cert_verdict.specs.Certificate.{PrintedBounds}
-use Rattle.def_cert_verdict.specs.Verdict.{WeighedGame, bounds_tests, first_failing, first_trace_line, trace_tests}
+use Rattle.def_plan.specs.Weighed.{WeighedGame}
+use Rattle.def_cert_verdict.specs.Verdict.{bounds_tests, first_failing, first_trace_line, trace_tests}
 use Rattle.xg_check.specs.Parts.{tests_of_plan, tests_of_plans, tests_of_replies, tests_of_reply}
 use Rattle.xg_check.proofs.TestLemmas.{front_passes}
 

@@ -7,7 +7,7 @@ use Rattle.def_sums.specs.Sum.{nat_sum_over}
 use Rattle.def_sums.specs.Limits.{most_root}
 use Rattle.def_plan.specs.Form.{InformationSet, sequence_count}
 use Rattle.def_plan.proofs.SizeLaws.{slice_index-at_most}
-use Rattle.def_cert_ranges.specs.Ranges.{PlanFits, PlanWeightsFit}
+use Rattle.def_cert_verdict.specs.Ranges.{PlanFits, PlanWeightsFit}
 use Rattle.def_cert_verdict.specs.Certificate.{PrintedPlan, joined, printed_numbers}
 use Rattle.def_cert_verdict.specs.Verdict.{first_of_other_size}
 use Rattle.xg_plan.proofs.PlaceLemmas.{no_information_set}

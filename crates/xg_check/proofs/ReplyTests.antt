@@ -7,8 +7,8 @@ use Rattle.def_tree.specs.declared.Player.TheVariants.{One, Two}
 use Rattle.def_plan.specs.Form.{SequenceForm, player_sets}
 use Rattle.def_plan.specs.Payoff.{leaf_sum}
 use Rattle.def_reply.specs.Reply.{Reply, SetReply, choices_of, values_of}
-use Rattle.def_bracket.specs.Outcome.{Head}
-use Rattle.def_cert_ranges.specs.Ranges.{BoundsFit, CertificateFits, FitsBelowHead, IsPrintable, PlanFits, ReplyFits}
+use Rattle.def_reply.specs.Outcome.{Head}
+use Rattle.def_cert_verdict.specs.Ranges.{BoundsFit, CertificateFits, FitsBelowHead, IsPrintable, PlanFits, ReplyFits}
 use Rattle.def_cert_verdict.specs.Certificate.{Certificate, PrintedBounds}
 use Rattle.def_cert_verdict.specs.Verdict.{first_failing, whole_reply_tests}
 use Rattle.xg_cert.specs.Printed.{bounds_in, plan_in, reply_in, set_count_in}

@@ -1,8 +1,8 @@
 -- The tests of the trace, one line after the other.
 use Rattle.std.proofs.Common.{◌≡◌, ℕ, ◌+◌, ◌-◌, ◌<◌, ◌≤◌, true, false, cond, List, [], ◌∷◌, length, get_or, drop, Option, Some, None, pos, subst, refl, sym, ap, ◌∙◌, arith}
 use Rattle.std.proofs.lemmas.List.{drop_more, get_or-map, length-drop, length-map}
-use Rattle.def_bracket.specs.Bracket.{TraceLine}
-use Rattle.def_cert_ranges.specs.Laws.{ProductsOfLines}
+use Rattle.def_reply.specs.Bracket.{TraceLine}
+use Rattle.def_cert_verdict.specs.RangeLaws.{ProductsOfLines}
 use Rattle.def_cert_verdict.specs.declared.fault.TestFault.{TestFault}
 use Rattle.def_cert_verdict.specs.declared.fault.TestFault.TheVariants.{TraceWidens}
 use Rattle.def_cert_verdict.specs.Verdict.{first_failing, is_wider, trace_tests}

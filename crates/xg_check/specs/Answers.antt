@@ -1,21 +1,21 @@
 -- What checking answers, memory apart.
 use Rattle.std.specs.Prelude.{◌≡◌, ◌↔◌, ℕ, ⊤, List, None, Result, Ok, Err}
 use Rattle.def_check.specs.Check.{Refusal, of_file, of_certificate, of_tests}
-use Rattle.def_file_accepted.specs.Weighed.{weighed_game}
+use Rattle.def_game_numbers.specs.Weighed.{weighed_game}
 use Rattle.def_file.specs.Content.{GameFile}
 use Rattle.def_file_form.specs.Laws.{StandsFor}
 use Rattle.def_game_numbers.specs.Numbers.{game_file_fault}
-use Rattle.def_cert_ranges.specs.Ranges.{CertificateFits}
+use Rattle.def_cert_verdict.specs.Ranges.{CertificateFits}
 use Rattle.def_cert_text.specs.CertText.{cert_text}
 use Rattle.def_cert_verdict.specs.Certificate.{Certificate}
 use Rattle.def_cert_verdict.specs.Verdict as shown
+use Rattle.def_plan.specs.Weighed.{WeighedGame}
 use Rattle.def_cert_verdict.specs.declared.fault.TestFault.{TestFault}
 use Rattle.def_cert_verdict.specs.declared.fault.TestFault.TheVariants as test
 use Rattle.xg_check.specs.declared.verdict.Verdict.{Verdict}
 use Rattle.xg_check.specs.declared.verdict.Verdict.TheVariants.{Bounds, HeadOnly}
 use Rattle.xg_check.specs.declared.verdict.CheckFault.{CheckFault}
-use Rattle.xg_check.specs.declared.verdict.CheckFault.TheVariants.{File, Cert, HeadDiffers, NoMemory, NotAPlan, TotalDiffers}
-use Rattle.xg_check.specs.declared.verdict.CheckFault.TheVariants.{ReplyNotTight, TraceWidens, ValueTooGood}
+use Rattle.xg_check.specs.declared.verdict.CheckFault.TheVariants.{File, Cert, HeadDiffers, NoMemory, NotAPlan, TotalDiffers, ReplyNotTight, TraceWidens, ValueTooGood}
 
 abbrev pub verdict_of : Verdict → shown.Verdict
 verdict_of (Bounds low high) = shown.bracket low high
@@ -44,7 +44,7 @@ IsHeadOnlyWithoutRounds cert_bytes verdict =
     (c : Certificate) → CertificateFits c → cert_bytes ≡ cert_text c → (verdict ≡ HeadOnly) ↔ (c.head.rounds ≡ 0)
 
 -- the file stands for a game without a fault, which is this in numbers
-pub record IsOpened (game_bytes : List ℕ) (numbers : shown.WeighedGame) : Type 0 where
+pub record IsOpened (game_bytes : List ℕ) (numbers : WeighedGame) : Type 0 where
   pub game : GameFile
   pub stands : StandsFor game_bytes game
   pub faultless : game_file_fault game ≡ None

@@ -6,10 +6,11 @@ use Rattle.def_tree.specs.declared.Player.TheVariants.{One, Two}
 use Rattle.def_tree.specs.Opponent.{opponent}
 use Rattle.def_plan.specs.Form.{player_sets, sequence_count}
 use Rattle.def_plan.specs.Payoff.{leaf_sum}
-use Rattle.def_bracket.specs.Bracket.{TraceLine}
+use Rattle.def_reply.specs.Bracket.{TraceLine}
 use Rattle.def_cert_verdict.specs.declared.fault.TestFault.{TestFault}
 use Rattle.def_cert_verdict.specs.Certificate.{Certificate, PrintedBounds, last_line, printed_numbers}
-use Rattle.def_cert_verdict.specs.Verdict.{WeighedGame, plan_tests, whole_reply_tests}
+use Rattle.def_plan.specs.Weighed.{WeighedGame}
+use Rattle.def_cert_verdict.specs.Verdict.{plan_tests, whole_reply_tests}
 use Rattle.xg_cert.specs.Printed.{plan_in, reply_in, set_count_in}
 
 -- the end of a line that a player's reply shows, with the round that it comes from, and the bound that it shows

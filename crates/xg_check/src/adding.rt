@@ -5,7 +5,7 @@ ghost use Rattle.def_sums.specs.Limits.{most_root};
 ghost use Rattle.def_tree.specs.Opponent.{opponent};
 ghost use Rattle.def_plan.specs.Form.{AreInOrder, leaf_sequence, placed, player_sets, sequence_count};
 ghost use Rattle.def_plan.specs.Payoff.{leaf_sum, values_after};
-ghost use Rattle.def_cert_ranges.specs.Ranges.{most_printed};
+ghost use Rattle.def_cert_verdict.specs.Ranges.{most_printed};
 ghost use Rattle.xg_seq.specs.Leaves.{leaf_of};
 ghost use Rattle.xg_seq.specs.Table.{most_sequences};
 ghost use Rattle.xg_check.specs.Views.{AddsAt, AreAllWithin, paid_at_leaf, row};

@@ -3,11 +3,11 @@ ghost use Rattle.std.specs.Prelude.{◌≡◌, ◌≤◌, IfOk, None, Ok, length
 ghost use Rattle.def_file.specs.Reading.{game_at, most_bytes};
 ghost use Rattle.def_cert_text.specs.CertText.{cert_in};
 ghost use Rattle.def_check.specs.Check.{accepted_in_numbers, checked, verdict_on, most_cert_bytes};
-ghost use Rattle.def_file_accepted.specs.Weighed.{weighed_game};
+ghost use Rattle.def_game_numbers.specs.Weighed.{weighed_game};
 ghost use Rattle.def_check.specs.Shown.{Shows, ShowsOfFile};
 ghost use Rattle.def_game_numbers.specs.Numbers.{game_file_fault};
 ghost use Rattle.xg_check.specs.Answers.{AnswersVerdict, IsHeadOnlyWithoutRounds, IsOpened, verdict_of};
-ghost use Rattle.xg_read.specs.Gives as gives;
+ghost use Rattle.xg_game.specs.Refusals as refusals;
 
 use crate::judging::judge;
 use crate::verdict::{CheckFault, Verdict};
@@ -15,9 +15,6 @@ use std::alloc::Global;
 use xg_cert::{CertRefused, read_cert};
 use xg_numbers::Numbers;
 use xg_read::{Game, Refused, read_game};
-
-/// The greatest number of bytes of a certificate.
-pub const MOST_CERT_BYTES: usize = 268_435_456;
 
 /// Checks a certificate of at most 268,435,456 bytes against a game file of at most 67,108,864 bytes.
 ///
@@ -44,7 +41,7 @@ pub fn check(alloc: Global, game_bytes: &[u8], cert_bytes: &[u8]) -> Result<Verd
 /// The game of a file in numbers, or the file's first fault.
 fn open(alloc: Global, game_bytes: &[u8]) -> Result<Numbers, Refused>
     requires { length game_bytes.now ≤ most_bytes }
-    ensures exact { gives.Answers result (accepted_in_numbers (game_at game_bytes.now)) }
+    ensures exact { refusals.Answers result (accepted_in_numbers (game_at game_bytes.now)) }
     ensures opened { IfOk result (IsOpened game_bytes.now) }
 {
     let game = read_game(alloc, game_bytes)?;
@@ -52,7 +49,7 @@ fn open(alloc: Global, game_bytes: &[u8]) -> Result<Numbers, Refused>
 }
 
 fn open_game(alloc: Global, game: Game) -> Result<Numbers, Refused>
-    ensures exact { gives.Answers result (accepted_in_numbers (Ok game)) }
+    ensures exact { refusals.Answers result (accepted_in_numbers (Ok game)) }
     ensures opened { IfOk result (λ numbers. numbers ≡ weighed_game game) }
     ensures faultless { IfOk result (λ _. game_file_fault game ≡ None) }
 {

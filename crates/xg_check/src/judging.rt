@@ -2,7 +2,7 @@
 ghost use Rattle.std.specs.Prelude.{◌≡◌, ◌*◌, ◌≤◌, IfOk, None, length};
 ghost use Rattle.def_tree.specs.declared.Player.TheVariants.{One, Two};
 ghost use Rattle.def_plan.specs.Form.{AreInOrder};
-ghost use Rattle.def_cert_ranges.specs.Ranges.{CertificateFits};
+ghost use Rattle.def_cert_verdict.specs.Ranges.{CertificateFits};
 ghost use Rattle.def_cert_verdict.specs.Certificate.{last_line};
 ghost use Rattle.def_cert_verdict.specs.Verdict.{bounds_tests, first_failing, first_trace_line, shown_by, tests};
 ghost use Rattle.def_cert_verdict.specs.Verdict.{trace_tests, verdict};

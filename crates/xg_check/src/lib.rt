@@ -17,9 +17,10 @@ mod testing;
 mod totals;
 mod verdict;
 
-pub use checking::{MOST_CERT_BYTES, check};
+pub use checking::check;
 pub use def_cert_text::CertFault;
 pub use def_cert_verdict::Which;
+pub use def_check::MOST_CERT_BYTES;
 pub use def_file::FileFault;
 pub use def_tree::Player;
 pub use verdict::{CheckFault, Verdict};

@@ -1,9 +1,9 @@
 //! The tests of the trace.
 ghost use Rattle.std.specs.Prelude.{◌≡◌, ℕ, ◌^◌, ◌<◌, ◌≤◌, ◌*ℤ◌};
 ghost use Rattle.std.specs.Prelude.{length, pos, slice_index_or, unsigned_abs};
-ghost use Rattle.def_bracket.specs.Bracket.{TraceLine};
-ghost use Rattle.def_cert_ranges.specs.Laws.{ProductsOfLines};
-ghost use Rattle.def_cert_ranges.specs.Ranges.{most_line_product};
+ghost use Rattle.def_reply.specs.Bracket.{TraceLine};
+ghost use Rattle.def_cert_verdict.specs.RangeLaws.{ProductsOfLines};
+ghost use Rattle.def_cert_verdict.specs.Ranges.{most_line_product};
 ghost use Rattle.def_cert_verdict.specs.Certificate.{last_line};
 ghost use Rattle.def_cert_verdict.specs.Verdict.{first_failing, first_trace_line, is_wider, trace_tests};
 ghost use Rattle.xg_cert.specs.Outcome.{line_of, trace_of};

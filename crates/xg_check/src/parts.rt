@@ -1,3 +1,4 @@
+//! Parts of a certificate as its tests take them.
 ghost use Rattle.std.specs.Prelude.{◌≡◌, ◌+◌, ◌-◌, ◌<◌, ◌≤◌, length, pos, slice_index, slice_index_or};
 ghost use Rattle.def_plan.specs.Form.{AreInOrder, PlacedSet, placed, player_sets, sequence_count};
 ghost use Rattle.xg_check.specs.Views.{placed_of, reply_of};

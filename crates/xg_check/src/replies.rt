@@ -4,7 +4,7 @@ ghost use Rattle.def_sums.specs.Limits.{most_root};
 ghost use Rattle.def_tree.specs.Opponent.{opponent};
 ghost use Rattle.def_plan.specs.Form.{AreInOrder, player_sets, sequence_count};
 ghost use Rattle.def_plan.specs.Payoff.{leaf_sum};
-ghost use Rattle.def_cert_ranges.specs.Ranges.{most_printed};
+ghost use Rattle.def_cert_verdict.specs.Ranges.{most_printed};
 ghost use Rattle.def_cert_verdict.specs.Verdict.{first_failing, whole_reply_tests};
 ghost use Rattle.xg_frac.specs.Wide.{most_wide};
 ghost use Rattle.xg_check.specs.Views.{AreAllWithin, printed_reply};

@@ -6,8 +6,8 @@ use Rattle.std.proofs.lemmas.List.FromFn.{length-map-range_with_len, get_or-map-
 use Rattle.std.proofs.Math.Nat.{mul-div_left}
 use Rattle.def_sums.specs.Sum.{nat_sum_over}
 use Rattle.def_plan.specs.Form.{PlacedSet, sequences_of}
-use Rattle.def_shares.specs.Shares.{weight_sum, prefix_sum, prefix_share, shares}
-use Rattle.def_shares.proofs.SharesLaws.{are_differences, length-shares, prefix-all, prefix-more, shares_whole}
+use Rattle.def_round.specs.Shares.{weight_sum, prefix_sum, prefix_share, shares}
+use Rattle.def_round.proofs.SharesLaws.{are_differences, length-shares, prefix-all, prefix-more, shares_whole}
 use Rattle.def_round.specs.Play.{positive_part, regret_of, regret_sum}
 use Rattle.def_round.proofs.Plays.{sum_of_map}
 use Rattle.xg_plan.proofs.ShareLemmas.{prefix-within, DealStep, step_of}

@@ -8,3 +8,4 @@ pub mod WorthsSetBySet
 pub mod RowSums
 pub mod Closed
 pub mod OneAction
+pub mod SmallRegrets

@@ -9,7 +9,7 @@ use Rattle.def_sums.proofs.RingLaws.{*ℤ_comm, +ℤ-*ℤ, +ℤ-zero, ≤ℤ_sam
 use Rattle.def_plan.specs.Form.{PlacedSet, sequences_of}
 use Rattle.def_round.specs.Play.{units}
 use Rattle.xg_closer.specs.Closing.{value_by, weighed_worth}
-use Rattle.def_rows.specs.Rows.{amount_of}
+use Rattle.def_plan.specs.FormRows.{amount_of}
 
 whole_part : (worth : ℤ) → floor_div (pos 65536 *ℤ worth) 65536 ≡ worth
 whole_part worth =

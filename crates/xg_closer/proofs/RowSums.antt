@@ -10,7 +10,7 @@ use Rattle.def_tree.specs.declared.Player.TheVariants.{One, Two}
 use Rattle.def_plan.specs.Form.{InformationSet, sequence_count}
 use Rattle.def_round.specs.Sizes.{size_of_sums}
 use Rattle.xg_closer.specs.Rows.{own_amount}
-use Rattle.def_rows.specs.Rows.{amount_of}
+use Rattle.def_plan.specs.FormRows.{amount_of}
 
 -- no row is larger than all together
 pub row_within : (rows : List ℤ) (s : ℕ) → unsigned_abs (amount_of rows s) ≤ nat_sum_over unsigned_abs rows

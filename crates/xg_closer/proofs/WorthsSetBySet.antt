@@ -20,7 +20,7 @@ use Rattle.def_round.specs.Sizes.{size_of_sums}
 use Rattle.def_round.proofs.Values.{set_value_same}
 use Rattle.xg_closer.proofs.Sets.{IsAt}
 use Rattle.xg_closer.proofs.SetValues.{full_worth, later_worth, SetFacts, set_facts}
-use Rattle.def_rows.specs.Rows.{amount_of}
+use Rattle.def_plan.specs.FormRows.{amount_of}
 
 -- each number that is no larger than the sums together fits the width
 abbrev pub HasRoomFor : Width → (ℕ → ℤ) → List InformationSet → Type 0
@@ -40,6 +40,8 @@ pub record SetStep (w : Width) (sums : ℕ → ℤ) (play : List ℕ) (sets : Li
   pub fits : FitsSigned w (set_value play (amount_of worths) h)
   pub growth : (s : ℕ) → h.first ≤ s → s < h.first + h.actions
       → unsigned_abs (amount_of worths s -ℤ set_value play (amount_of worths) h) < 2 ^ 126
+  pub grows : (s : ℕ) → h.first ≤ s → s < h.first + h.actions
+      → unsigned_abs (amount_of worths s -ℤ set_value play (amount_of worths) h) ≤ size_of_sums sums sets
   pub regret : (s : ℕ) → h.first ≤ s → s < h.first + h.actions
       → regret_of (regrets_after sums play sets old) s
       ≡ regret_of old s +ℤ (amount_of worths s -ℤ set_value play (amount_of worths) h)
@@ -84,6 +86,7 @@ set_step w sums play sets old worths m h order all_units small room at kept =
       products = omega (arith, same_products, f.products, mul-le-mul_left 65536 small);
       fits = subst (FitsSigned w) (sym value_is) (room value f.value_small);
       growth = λ s from to. omega (arith, ap (λ x. unsigned_abs (x -ℤ set_value play (amount_of worths) h)) (worth_is s from to), ap (λ v. unsigned_abs (full_worth sums play sets s -ℤ v)) value_is, f.growth s from to);
+      grows = λ s from to. omega (arith, ap (λ x. unsigned_abs (x -ℤ set_value play (amount_of worths) h)) (worth_is s from to), ap (λ v. unsigned_abs (full_worth sums play sets s -ℤ v)) value_is, f.growth s from to);
       regret = λ s from to. f.regret s from to ∙ ap (λ x. regret_of old s +ℤ (x -ℤ value)) (sym (worth_is s from to)) ∙ ap (λ v. regret_of old s +ℤ (amount_of worths s -ℤ v)) (sym value_is);
       before =
           ap (λ x. int_wrap w (x +ℤ set_value play (amount_of worths) h)) (kept.each h.before (omega (arith, at.inside, at.earlier)))

@@ -3,7 +3,7 @@ use Rattle.std.specs.Prelude.{ℕ, ℤ, pos, ◌*ℤ◌, unsigned_abs, List, sli
 use Rattle.def_sums.specs.Sum.{nat_sum_over, sum_over}
 use Rattle.def_plan.specs.Form.{PlacedSet, sequences_of}
 use Rattle.def_round.specs.Round.{set_value}
-use Rattle.def_rows.specs.Rows.{amount_of}
+use Rattle.def_plan.specs.FormRows.{amount_of}
 
 -- a sequence's units times its worth
 abbrev pub weighed_worth : List ℕ → List ℤ → ℕ → ℤ

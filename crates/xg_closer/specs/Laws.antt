@@ -2,7 +2,7 @@
 use Rattle.std.specs.Prelude.{◌≡◌, ℕ, ℤ, List}
 use Rattle.def_tree.specs.declared.Player.{Player}
 use Rattle.def_plan.specs.Form.{SequenceForm, player_sets}
-use Rattle.def_rows.specs.Rows.{player_rows}
+use Rattle.def_plan.specs.FormRows.{player_rows}
 use Rattle.def_round.specs.Round.{own_sum, regrets_after}
 use Rattle.xg_closer.specs.Rows.{own_amount}
 

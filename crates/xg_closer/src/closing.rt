@@ -1,3 +1,4 @@
+//! The close of a round: the regrets that it adds.
 ghost use Rattle.std.specs.Prelude.{◌≡◌, ℕ, ◌+◌, ◌*◌, ◌^◌, ◌<◌, ◌≤◌, ℤ, pos, ◌+ℤ◌, ◌-ℤ◌, ◌*ℤ◌, unsigned_abs, neg_ℤ};
 ghost use Rattle.std.specs.Prelude.{length, map, slice_index, FitsSigned, IfSome, IsTrue};
 ghost use Rattle.std.specs.Int.{int_wrap};
@@ -11,9 +12,10 @@ ghost use Rattle.def_sums.specs.Sum.{nat_sum_over};
 ghost use Rattle.xg_closer.specs.Closing.{value_by, weighed_sizes, weighed_sum};
 ghost use Rattle.xg_closer.specs.Laws.{LeafSumsCloseTheRound};
 ghost use Rattle.xg_closer.specs.Places.{placed_as};
-ghost use Rattle.xg_closer.specs.Rows.{most_small_rows, own_amount};
+ghost use Rattle.xg_closer.specs.Regrets.{AreWithin, IsMostAfter, kept_regrets};
+ghost use Rattle.xg_closer.specs.Rows.{AreTaken, most_small, own_amount};
 ghost use Rattle.xg_seq.specs.Table.{most_sequences};
-ghost use Rattle.def_rows.specs.Rows.{amount_of};
+ghost use Rattle.def_plan.specs.FormRows.{amount_of};
 
 use crate::places::{Placement, placement_of, sets_are_kept};
 use crate::regrets::Regrets;
@@ -48,15 +50,18 @@ pub fn close_round(
     ensures count { length regrets.new.of_sequences ≡ length regrets.old.of_sequences }
 {
     sets_are_kept(form, player);
-    close_rows(
+    let most = close_rows(
         form,
         player,
         play,
         rows,
+        regrets.most_small,
         &mut regrets.small_worths,
         &mut regrets.worths,
+        &mut regrets.small_regrets,
         &mut regrets.regrets,
     );
+    regrets.most_small = most;
     regrets.rounds += 1;
 }
 
@@ -65,12 +70,98 @@ pub fn leaf_sums_close_the_round()
     ensures { LeafSumsCloseTheRound }
 {}
 
-// Adds a round's regrets, with worths of 64 bits where the rows have room in them.
+// Adds a round's regrets, with worths and regrets of 64 bits where there is room for them in a word. The answer is the
+// greatest size that a small regret can have now, if the regrets are small ones.
 fn close_rows(
     form: &SeqForm,
     player: Player,
     play: &Play,
     rows: &[i128],
+    most: Option<u64>,
+    small_worths: &mut [i64],
+    worths: &mut [i128],
+    small_regrets: &mut [i64],
+    regrets: &mut [i128],
+) -> Option<u64>
+    requires small_rows { nat_sum_over unsigned_abs rows.now ≤ most_round_row }
+    requires as_rows { length rows.now ≡ sequence_count (player_sets form.now player) }
+    requires as_small_worths { length small_worths.old ≡ sequence_count (player_sets form.now player) }
+    requires as_worths { length worths.old ≡ sequence_count (player_sets form.now player) }
+    requires as_small_regrets { length small_regrets.old ≡ sequence_count (player_sets form.now player) }
+    requires as_regrets { length regrets.old ≡ sequence_count (player_sets form.now player) }
+    requires as_play { length play.now ≡ sequence_count (player_sets form.now player) }
+    requires all_units { GivesAllUnits play.now (player_sets form.now player) }
+    requires room { (s : ℕ)
+        → unsigned_abs (regret_of (kept_regrets most small_regrets.old regrets.old) s) < past_product }
+    requires none_of_empty { regret_of (kept_regrets most small_regrets.old regrets.old) 0 ≡ pos 0 }
+    requires small { AreWithin most small_regrets.old }
+    ensures small_worths_count { length small_worths.new ≡ length small_worths.old }
+    ensures worths_count { length worths.new ≡ length worths.old }
+    ensures small_count { length small_regrets.new ≡ length small_regrets.old }
+    ensures count { length regrets.new ≡ length regrets.old }
+    ensures small { AreWithin result small_regrets.new }
+    ensures regrets { kept_regrets result small_regrets.new regrets.new
+        ≡ regrets_after (own_amount player rows.now) play.now (player_sets form.now player)
+        (kept_regrets most small_regrets.old regrets.old) }
+{
+    sets_are_kept(form, player);
+    let sizes = take_small_rows(player, rows, small_worths);
+    let more = most_after(most, sizes);
+    match more {
+        Some(_) => close_sets(form, player, play, small_worths, small_regrets),
+        None => {
+            widen(most, small_regrets, regrets);
+            close_wide(
+                form,
+                player,
+                play,
+                rows,
+                sizes,
+                small_worths,
+                worths,
+                regrets,
+            );
+        }
+    }
+    more
+}
+
+// The greatest size of a small regret after a round whose rows have these sizes together, where both have room in a
+// word and stay so.
+fn most_after(most: Option<u64>, sizes: Option<u64>) -> Option<u64>
+    ensures { IfSome result (IsMostAfter most sizes) }
+{
+    let more = most?.checked_add(sizes?)?;
+    if more <= MOST_SMALL { Some(more) } else { None }
+}
+
+// Copies small regrets to those of all bits, where they are kept as small ones.
+fn widen(most: Option<u64>, small_regrets: &[i64], regrets: &mut [i128])
+    requires { length small_regrets.now ≡ length regrets.old }
+    ensures { regrets.new ≡ kept_regrets most small_regrets.now regrets.old }
+{
+    match most {
+        Some(_) => copy_wide(small_regrets, regrets),
+        None => {}
+    }
+}
+
+fn copy_wide(small_regrets: &[i64], regrets: &mut [i128])
+    requires { length small_regrets.now ≡ length regrets.old }
+    ensures { regrets.new ≡ small_regrets.now }
+{
+    for s in 0..regrets.len() {
+        regrets[s] = small_regrets[s] as i128;
+    }
+}
+
+// Adds a round's regrets of all bits, with worths of 64 bits where the rows were taken into these.
+fn close_wide(
+    form: &SeqForm,
+    player: Player,
+    play: &Play,
+    rows: &[i128],
+    sizes: Option<u64>,
     small_worths: &mut [i64],
     worths: &mut [i128],
     regrets: &mut [i128],
@@ -82,40 +173,43 @@ fn close_rows(
     requires as_regrets { length regrets.old ≡ sequence_count (player_sets form.now player) }
     requires as_play { length play.now ≡ sequence_count (player_sets form.now player) }
     requires all_units { GivesAllUnits play.now (player_sets form.now player) }
+    requires taken { IfSome sizes (AreTaken player rows.now small_worths.old) }
     requires room { (s : ℕ) → unsigned_abs (regret_of regrets.old s) < past_product }
     requires none_of_empty { regret_of regrets.old 0 ≡ pos 0 }
-    ensures small_count { length small_worths.new ≡ length small_worths.old }
-    ensures count { length worths.new ≡ length worths.old }
+    ensures small_worths_count { length small_worths.new ≡ length small_worths.old }
+    ensures worths_count { length worths.new ≡ length worths.old }
+    ensures count { length regrets.new ≡ length regrets.old }
     ensures regrets { regrets.new
         ≡ regrets_after (own_amount player rows.now) play.now (player_sets form.now player) regrets.old }
 {
-    if take_small_rows(player, rows, small_worths) {
-        close_sets(form, player, play, small_worths, regrets);
-    } else {
-        take_rows(player, rows, worths);
-        close_sets(form, player, play, worths, regrets);
+    match sizes {
+        Some(_) => close_sets(form, player, play, small_worths, regrets),
+        None => {
+            take_rows(player, rows, worths);
+            close_sets(form, player, play, worths, regrets);
+        }
     }
 }
 
-// The sizes of all rows together, where words of 64 bits take them.
-const MOST_SMALL_ROWS: u64 = 1 << 62;
+// The greatest sizes that are kept in 64 bits: of all rows together, and of a regret.
+const MOST_SMALL: u64 = 1 << 62;
 
-// Takes the rows as they are to the player, if all of them together have room in 64 bits.
-fn take_small_rows(player: Player, rows: &[i128], worths: &mut [i64]) -> bool
+// Takes the rows as they are to the player, if all of them together have room in 64 bits. Their sizes together are the
+// answer.
+fn take_small_rows(player: Player, rows: &[i128], worths: &mut [i64]) -> Option<u64>
     requires as_many { length rows.now ≡ length worths.old }
     ensures count { length worths.new ≡ length worths.old }
-    ensures each { IsTrue result → (s : ℕ) → amount_of worths.new s ≡ own_amount player rows.now s }
-    ensures small { IsTrue result → nat_sum_over unsigned_abs rows.now ≤ most_small_rows }
+    ensures taken { IfSome result (AreTaken player rows.now worths.new) }
 {
-    let mut room = MOST_SMALL_ROWS;
+    let mut room = MOST_SMALL;
     for i in 0..rows.len() {
         let Some(row) = small_row(rows[i], room) else {
-            return false;
+            return None;
         };
         room -= row.unsigned_abs();
         worths[i] = own_row(player, row);
     }
-    true
+    Some(MOST_SMALL - room)
 }
 
 // The row, if its size is no greater than the room.
@@ -131,7 +225,7 @@ fn small_row(row: i128, room: u64) -> Option<i64>
 }
 
 fn own_row(player: Player, row: i64) -> i64
-    requires { unsigned_abs row ≤ most_small_rows }
+    requires { unsigned_abs row ≤ most_small }
     ensures { result ≡ utility player row }
 {
     match player {
@@ -165,12 +259,12 @@ fn negate_into(rows: &[i128], worths: &mut [i128])
 }
 
 // Adds a round's regrets, where the worths begin with what the leaves give each sequence.
-fn close_sets<W: Worth>(
+fn close_sets<W: Worth, R: Worth>(
     form: &SeqForm,
     player: Player,
     play: &Play,
     worths: &mut [W],
-    regrets: &mut [i128],
+    regrets: &mut [R],
 )
     requires as_worths { length worths.old ≡ sequence_count (player_sets form.now player) }
     requires as_regrets { length regrets.old ≡ sequence_count (player_sets form.now player) }
@@ -179,11 +273,17 @@ fn close_sets<W: Worth>(
     requires small { size_of_sums (amount_of (map W.amount worths.old)) (player_sets form.now player) ≤ most_round_row }
     requires fits { (v : ℤ) → unsigned_abs v
         ≤ size_of_sums (amount_of (map W.amount worths.old)) (player_sets form.now player) → FitsSigned W.width v }
-    requires room { (s : ℕ) → unsigned_abs (regret_of regrets.old s) < past_product }
-    requires none_of_empty { regret_of regrets.old 0 ≡ pos 0 }
-    ensures count { length worths.new ≡ length worths.old }
-    ensures regrets { regrets.new
-        ≡ regrets_after (amount_of (map W.amount worths.old)) play.now (player_sets form.now player) regrets.old }
+    requires growth { (v : ℤ) → unsigned_abs v
+        ≤ size_of_sums (amount_of (map W.amount worths.old)) (player_sets form.now player) → FitsSigned R.width v }
+    requires room { (s : ℕ) (v : ℤ) → unsigned_abs v
+        ≤ size_of_sums (amount_of (map W.amount worths.old)) (player_sets form.now player)
+        → FitsSigned R.width (regret_of (map R.amount regrets.old) s +ℤ v) }
+    requires none_of_empty { regret_of (map R.amount regrets.old) 0 ≡ pos 0 }
+    ensures worths_count { length worths.new ≡ length worths.old }
+    ensures count { length regrets.new ≡ length regrets.old }
+    ensures regrets { map R.amount regrets.new
+        ≡ regrets_after (amount_of (map W.amount worths.old)) play.now (player_sets form.now player)
+        (map R.amount regrets.old) }
 {
     sets_are_kept(form, player);
     for set in (0..form.set_count(player)).rev() {
@@ -193,7 +293,7 @@ fn close_sets<W: Worth>(
 }
 
 // Adds the regrets of one set, whose sequences' worths are complete, and its value to the sequence before it.
-fn close_set<W: Worth>(place: Placement, play: &Play, worths: &mut [W], regrets: &mut [i128])
+fn close_set<W: Worth, R: Worth>(place: Placement, play: &Play, worths: &mut [W], regrets: &mut [R])
     requires from_one { 1 ≤ place.first }
     requires inside { place.first + place.actions ≤ length worths.old }
     requires earlier { place.before < place.first }
@@ -206,8 +306,12 @@ fn close_set<W: Worth>(place: Placement, play: &Play, worths: &mut [W], regrets:
     requires growth { (s : ℕ) → place.first ≤ s → s < place.first + place.actions
         → unsigned_abs (amount_of (map W.amount worths.old) s
         -ℤ value_by play.now (map W.amount worths.old) (placed_as place)) < past_product }
+    requires growth_fits { (s : ℕ) → place.first ≤ s → s < place.first + place.actions
+        → FitsSigned R.width (amount_of (map W.amount worths.old) s
+        -ℤ value_by play.now (map W.amount worths.old) (placed_as place)) }
     requires room { (s : ℕ) → place.first ≤ s → s < place.first + place.actions
-        → unsigned_abs (regret_of regrets.old s) < past_product }
+        → FitsSigned R.width (regret_of (map R.amount regrets.old) s +ℤ (amount_of (map W.amount worths.old) s
+        -ℤ value_by play.now (map W.amount worths.old) (placed_as place))) }
     ensures worths_count { length worths.new ≡ length worths.old }
     ensures worth_before { amount_of (map W.amount worths.new) place.before
         ≡ int_wrap W.width (amount_of (map W.amount worths.old) place.before
@@ -215,12 +319,12 @@ fn close_set<W: Worth>(place: Placement, play: &Play, worths: &mut [W], regrets:
     ensures other_worths { (s : ℕ) → (s ≡ place.before → ⊥)
         → amount_of (map W.amount worths.new) s ≡ amount_of (map W.amount worths.old) s }
     ensures regrets_count { length regrets.new ≡ length regrets.old }
-    ensures of_set { (s : ℕ) → place.first ≤ s → s < place.first + place.actions → regret_of regrets.new s
-        ≡ regret_of regrets.old s +ℤ (amount_of (map W.amount worths.old) s
+    ensures of_set { (s : ℕ) → place.first ≤ s → s < place.first + place.actions → regret_of (map R.amount regrets.new) s
+        ≡ regret_of (map R.amount regrets.old) s +ℤ (amount_of (map W.amount worths.old) s
         -ℤ value_by play.now (map W.amount worths.old) (placed_as place)) }
-    ensures before_set { (s : ℕ) → s < place.first → regret_of regrets.new s ≡ regret_of regrets.old s }
+    ensures before_set { (s : ℕ) → s < place.first → regret_of (map R.amount regrets.new) s ≡ regret_of (map R.amount regrets.old) s }
     ensures after_set { (s : ℕ) → place.first + place.actions ≤ s
-        → regret_of regrets.new s ≡ regret_of regrets.old s }
+        → regret_of (map R.amount regrets.new) s ≡ regret_of (map R.amount regrets.old) s }
 {
     if place.actions == 1 {
         // All units are the one action's, so the set has its worth.
@@ -268,19 +372,21 @@ fn sum_of_two<W: Worth>(place: Placement, play: &Play, worths: &[W]) -> i128
 }
 
 // Adds to each regret of a set what its sequence is worth more than the set.
-fn add_regrets<W: Worth>(place: Placement, worths: &[W], value: i128, regrets: &mut [i128])
+fn add_regrets<W: Worth, R: Worth>(place: Placement, worths: &[W], value: i128, regrets: &mut [R])
     requires inside { place.first + place.actions ≤ length worths.now }
     requires as_many { length regrets.old ≡ length worths.now }
     requires growth { (s : ℕ) → place.first ≤ s → s < place.first + place.actions
         → unsigned_abs (amount_of (map W.amount worths.now) s -ℤ value) < past_product }
-    requires room { (s : ℕ) → place.first ≤ s → s < place.first + place.actions
-        → unsigned_abs (regret_of regrets.old s) < past_product }
+    requires growth_fits { (s : ℕ) → place.first ≤ s → s < place.first + place.actions
+        → FitsSigned R.width (amount_of (map W.amount worths.now) s -ℤ value) }
+    requires room { (s : ℕ) → place.first ≤ s → s < place.first + place.actions → FitsSigned R.width
+        (regret_of (map R.amount regrets.old) s +ℤ (amount_of (map W.amount worths.now) s -ℤ value)) }
     ensures count { length regrets.new ≡ length regrets.old }
     ensures of_set { (s : ℕ) → place.first ≤ s → s < place.first + place.actions
-        → regret_of regrets.new s ≡ regret_of regrets.old s +ℤ (amount_of (map W.amount worths.now) s -ℤ value) }
-    ensures before_set { (s : ℕ) → s < place.first → regret_of regrets.new s ≡ regret_of regrets.old s }
+        → regret_of (map R.amount regrets.new) s ≡ regret_of (map R.amount regrets.old) s +ℤ (amount_of (map W.amount worths.now) s -ℤ value) }
+    ensures before_set { (s : ℕ) → s < place.first → regret_of (map R.amount regrets.new) s ≡ regret_of (map R.amount regrets.old) s }
     ensures after_set { (s : ℕ) → place.first + place.actions ≤ s
-        → regret_of regrets.new s ≡ regret_of regrets.old s }
+        → regret_of (map R.amount regrets.new) s ≡ regret_of (map R.amount regrets.old) s }
 {
     if place.actions == 2 {
         add_regret(worths, value, place.first as usize, regrets);
@@ -292,17 +398,19 @@ fn add_regrets<W: Worth>(place: Placement, worths: &[W], value: i128, regrets: &
     }
 }
 
-fn add_regret<W: Worth>(worths: &[W], value: i128, s: usize, regrets: &mut [i128])
+fn add_regret<W: Worth, R: Worth>(worths: &[W], value: i128, s: usize, regrets: &mut [R])
     requires inside { s < length worths.now }
     requires as_many { length regrets.old ≡ length worths.now }
     requires growth { unsigned_abs (amount_of (map W.amount worths.now) s -ℤ value) < past_product }
-    requires room { unsigned_abs (regret_of regrets.old s) < past_product }
+    requires growth_fits { FitsSigned R.width (amount_of (map W.amount worths.now) s -ℤ value) }
+    requires room { FitsSigned R.width
+        (regret_of (map R.amount regrets.old) s +ℤ (amount_of (map W.amount worths.now) s -ℤ value)) }
     ensures count { length regrets.new ≡ length regrets.old }
-    ensures here { regret_of regrets.new s
-        ≡ regret_of regrets.old s +ℤ (amount_of (map W.amount worths.now) s -ℤ value) }
-    ensures others { (t : ℕ) → (t ≡ s → ⊥) → regret_of regrets.new t ≡ regret_of regrets.old t }
+    ensures here { regret_of (map R.amount regrets.new) s
+        ≡ regret_of (map R.amount regrets.old) s +ℤ (amount_of (map W.amount worths.now) s -ℤ value) }
+    ensures others { (t : ℕ) → (t ≡ s → ⊥) → regret_of (map R.amount regrets.new) t ≡ regret_of (map R.amount regrets.old) t }
 {
-    regrets[s] = plus(regrets[s], minus(worth_at(worths, s), value));
+    add_worth(regrets, s, minus(worth_at(worths, s), value));
 }
 
 fn negative(a: i128) -> i128

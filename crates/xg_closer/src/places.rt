@@ -1,3 +1,4 @@
+//! The place of a set among its player's sequences.
 ghost use Rattle.std.specs.Prelude.{◌≡◌, ◌-◌, ◌≤◌, length, slice_get, Some};
 ghost use Rattle.def_plan.specs.Form.{AreInOrder, placed, player_sets, sequence_count};
 ghost use Rattle.xg_closer.specs.Places.{placed_as};

@@ -1,4 +1,5 @@
-ghost use Rattle.std.specs.Prelude.{◌≡◌, ℕ, ◌+◌, ◌*◌, ◌/◌, ◌<◌, ◌≤◌, unsigned_abs, length};
+//! The play of the regrets, by regret matching.
+ghost use Rattle.std.specs.Prelude.{◌≡◌, ℕ, ◌+◌, ◌*◌, ◌/◌, ◌<◌, ◌≤◌, unsigned_abs, length, map};
 ghost use Rattle.def_sums.specs.Limits.{most_row, past_product};
 ghost use Rattle.def_plan.specs.Form.{player_sets, sequence_count};
 ghost use Rattle.def_round.specs.Play.{GivesAllUnits, play_of, positive_part, regret_of, regret_sum, set_play, units};
@@ -9,6 +10,7 @@ ghost use Rattle.xg_seq.specs.Table.{most_sequences};
 
 use crate::places::{Placement, placement_of, sets_are_kept};
 use crate::regrets::Regrets;
+use crate::worths::{Worth, worth_at};
 use def_tree::Player;
 use xg_plan::Play;
 use xg_seq::SeqForm;
@@ -29,14 +31,17 @@ pub fn play_into(form: &SeqForm, player: Player, regrets: &Regrets, play: &mut P
     ensures all_units { GivesAllUnits play.new (player_sets form.now player) }
     ensures count { length play.new ≡ length play.old }
 {
-    play_sets(form, player, &regrets.regrets, play);
+    match regrets.most_small {
+        Some(_) => play_sets(form, player, &regrets.small_regrets, play),
+        None => play_sets(form, player, &regrets.regrets, play),
+    }
 }
 
-fn play_sets(form: &SeqForm, player: Player, regrets: &[i128], play: &mut Play)
+fn play_sets<R: Worth>(form: &SeqForm, player: Player, regrets: &[R], play: &mut Play)
     requires as_regrets { length regrets.now ≡ sequence_count (player_sets form.now player) }
     requires as_play { length play.old ≡ sequence_count (player_sets form.now player) }
-    requires small { (s : ℕ) → unsigned_abs (regret_of regrets.now s) ≤ most_row }
-    ensures by_regrets { play.new ≡ play_of (player_sets form.now player) regrets.now }
+    requires small { (s : ℕ) → unsigned_abs (regret_of (map R.amount regrets.now) s) ≤ most_row }
+    ensures by_regrets { play.new ≡ play_of (player_sets form.now player) (map R.amount regrets.now) }
     ensures all_units { GivesAllUnits play.new (player_sets form.now player) }
     ensures count { length play.new ≡ length play.old }
 {
@@ -48,15 +53,15 @@ fn play_sets(form: &SeqForm, player: Player, regrets: &[i128], play: &mut Play)
     }
 }
 
-fn play_set(place: Placement, regrets: &[i128], play: &mut Play)
+fn play_set<R: Worth>(place: Placement, regrets: &[R], play: &mut Play)
     requires from_one { 1 ≤ place.first }
     requires some { 1 ≤ place.actions }
     requires few { place.actions ≤ most_actions }
     requires inside { place.first + place.actions ≤ length regrets.now }
     requires as_many { length play.old ≡ length regrets.now }
     requires limit { length regrets.now ≤ most_sequences }
-    requires small { units * regret_sum regrets.now (placed_as place) < past_product }
-    ensures { PlaysSet (placed_as place) (set_play regrets.now (placed_as place)) play.old play.new }
+    requires small { units * regret_sum (map R.amount regrets.now) (placed_as place) < past_product }
+    ensures { PlaysSet (placed_as place) (set_play (map R.amount regrets.now) (placed_as place)) play.old play.new }
 {
     if place.actions == 2 {
         play_two(place, regrets, play);
@@ -74,11 +79,11 @@ fn play_set(place: Placement, regrets: &[i128], play: &mut Play)
     }
 }
 
-fn sum_of_parts(place: Placement, regrets: &[i128]) -> u128
+fn sum_of_parts<R: Worth>(place: Placement, regrets: &[R]) -> u128
     requires inside { place.first + place.actions ≤ length regrets.now }
     requires limit { length regrets.now ≤ most_sequences }
-    requires small { units * regret_sum regrets.now (placed_as place) < past_product }
-    ensures { result ≡ regret_sum regrets.now (placed_as place) }
+    requires small { units * regret_sum (map R.amount regrets.now) (placed_as place) < past_product }
+    ensures { result ≡ regret_sum (map R.amount regrets.now) (placed_as place) }
 {
     let mut sum = 0u128;
     for i in 0..place.actions {
@@ -87,24 +92,24 @@ fn sum_of_parts(place: Placement, regrets: &[i128]) -> u128
     sum
 }
 
-fn part_of(regrets: &[i128], sequence: u32) -> u128
+fn part_of<R: Worth>(regrets: &[R], sequence: u32) -> u128
     requires { sequence < length regrets.now }
-    ensures { result ≡ positive_part (regret_of regrets.now sequence) }
+    ensures { result ≡ positive_part (regret_of (map R.amount regrets.now) sequence) }
 {
-    let regret = regrets[sequence as usize];
+    let regret = worth_at(regrets, sequence as usize);
     if regret > 0 { regret as u128 } else { 0 }
 }
 
 // Plays a set where some regret is positive.
-fn play_by_parts(place: Placement, regrets: &[i128], sum: u128, play: &mut Play)
+fn play_by_parts<R: Worth>(place: Placement, regrets: &[R], sum: u128, play: &mut Play)
     requires from_one { 1 ≤ place.first }
     requires inside { place.first + place.actions ≤ length regrets.now }
     requires as_many { length play.old ≡ length regrets.now }
     requires limit { length regrets.now ≤ most_sequences }
     requires small { units * sum < past_product }
-    requires whole { sum ≡ regret_sum regrets.now (placed_as place) }
+    requires whole { sum ≡ regret_sum (map R.amount regrets.now) (placed_as place) }
     requires some { 1 ≤ sum }
-    ensures { PlaysSet (placed_as place) (set_play regrets.now (placed_as place)) play.old play.new }
+    ensures { PlaysSet (placed_as place) (set_play (map R.amount regrets.now) (placed_as place)) play.old play.new }
 {
     let mut sum_so_far = 0u128;
     let mut given = 0u32;
@@ -161,15 +166,15 @@ fn units_of_large(part: u128, sum: u128) -> u32
 
 // Plays a set where no regret is positive.
 #[inline(never)]
-fn play_evenly(place: Placement, regrets: &[i128], play: &mut Play)
+fn play_evenly<R: Worth>(place: Placement, regrets: &[R], play: &mut Play)
     requires from_one { 1 ≤ place.first }
     requires some { 1 ≤ place.actions }
     requires few { place.actions ≤ most_actions }
     requires inside { place.first + place.actions ≤ length regrets.now }
     requires as_many { length play.old ≡ length regrets.now }
     requires limit { length regrets.now ≤ most_sequences }
-    requires none { regret_sum regrets.now (placed_as place) ≡ 0 }
-    ensures { PlaysSet (placed_as place) (set_play regrets.now (placed_as place)) play.old play.new }
+    requires none { regret_sum (map R.amount regrets.now) (placed_as place) ≡ 0 }
+    ensures { PlaysSet (placed_as place) (set_play (map R.amount regrets.now) (placed_as place)) play.old play.new }
 {
     let mut given = 0u32;
     for i in 0..place.actions {
@@ -179,14 +184,14 @@ fn play_evenly(place: Placement, regrets: &[i128], play: &mut Play)
     }
 }
 
-fn play_two(place: Placement, regrets: &[i128], play: &mut Play)
+fn play_two<R: Worth>(place: Placement, regrets: &[R], play: &mut Play)
     requires from_one { 1 ≤ place.first }
     requires two { place.actions ≡ 2 }
     requires inside { place.first + 2 ≤ length regrets.now }
     requires as_many { length play.old ≡ length regrets.now }
     requires limit { length regrets.now ≤ most_sequences }
-    requires small { units * regret_sum regrets.now (placed_as place) < past_product }
-    ensures { PlaysSet (placed_as place) (set_play regrets.now (placed_as place)) play.old play.new }
+    requires small { units * regret_sum (map R.amount regrets.now) (placed_as place) < past_product }
+    ensures { PlaysSet (placed_as place) (set_play (map R.amount regrets.now) (placed_as place)) play.old play.new }
 {
     let a = part_of(regrets, place.first);
     let b = part_of(regrets, place.first + 1);

@@ -1,3 +1,4 @@
+//! A player's regrets.
 ghost use Rattle.std.specs.Prelude.{◌≡◌, ◌<◌, ◌≤◌, length, pos, replicate, IfOk};
 ghost use Rattle.def_plan.specs.Form.{player_sets};
 ghost use Rattle.def_round.specs.Play.{regret_of};
@@ -16,6 +17,9 @@ use xg_seq::SeqForm;
 /// 0. The room that a round needs is taken once, by `new`.
 #[derive(Drop)]
 pub struct Regrets {
+    // no less than the size of each small regret, as long as the regrets are kept as small ones
+    pub(crate) most_small: Option<u64>,
+    pub(crate) small_regrets: Vec<i64>,
     pub(crate) regrets: Vec<i128>,
     pub(crate) worths: Vec<i128>,
     // in which a round whose rows are small enough needs half the memory
@@ -24,13 +28,17 @@ pub struct Regrets {
 }
 
 impl Model for Regrets {
-    ghost use Rattle.xg_closer.specs.Regrets.{KeepsRegrets, RegretsSoFar};
+    ghost use Rattle.xg_closer.specs.Regrets.{KeepsRegrets, RegretsSoFar, kept_regrets};
 
     ghost Value = { RegretsSoFar };
 
-    ghost view = { λ r. record { of_sequences = r.regrets.items; closed = r.rounds } };
+    ghost view = { λ r. record {
+      of_sequences = kept_regrets r.most_small r.small_regrets.items r.regrets.items;
+      closed = r.rounds;
+    } };
 
-    ghost invariant = { λ r. KeepsRegrets r.regrets.items r.worths.items r.small_worths.items r.rounds };
+    ghost invariant = { λ r.
+        KeepsRegrets r.most_small r.small_regrets.items r.regrets.items r.worths.items r.small_worths.items r.rounds };
 }
 
 impl Regrets {
@@ -39,10 +47,13 @@ impl Regrets {
         ensures { IfOk result (λ regrets. regrets ≡ none_so_far (player_sets form.now player)) }
     {
         let count = form.sequence_count(player) as usize;
+        let small_regrets = vec![in alloc; 0i64; count]?;
         let regrets = vec![in alloc; 0i128; count]?;
         let worths = vec![in alloc; 0i128; count]?;
         let small_worths = vec![in alloc; 0i64; count]?;
         Ok(Regrets {
+            most_small: Some(0),
+            small_regrets,
             regrets,
             worths,
             small_worths,
@@ -56,7 +67,10 @@ impl Regrets {
         requires there { sequence < length self.now.of_sequences }
         ensures { result ≡ regret_of self.now.of_sequences sequence }
     {
-        self.regrets[sequence as usize]
+        match self.most_small {
+            Some(_) => self.small_regrets[sequence as usize] as i128,
+            None => self.regrets[sequence as usize],
+        }
     }
 
     /// The number of rounds that were closed.
@@ -74,7 +88,8 @@ impl Regrets {
         ensures regrets { self.new.of_sequences ≡ replicate (length self.old.of_sequences) (pos 0) }
         ensures rounds { self.new.closed ≡ 0 }
     {
-        self.regrets.fill(0);
+        self.small_regrets.fill(0);
+        self.most_small = Some(0);
         self.rounds = 0;
     }
 }

@@ -1,6 +1,7 @@
+//! The worths of sequences, in 64 or 128 bits.
 ghost use Rattle.std.specs.Prelude.{◌≡◌, ℕ, ◌<◌, ℤ, ◌+ℤ◌, FitsSigned, length, map};
 ghost use Rattle.std.specs.Int.{Width, int_wrap};
-ghost use Rattle.def_rows.specs.Rows.{amount_of};
+ghost use Rattle.def_plan.specs.FormRows.{amount_of};
 
 /// What a sequence is worth, in as many bits as the worths of a round need.
 pub(crate) trait Worth: Copy {

@@ -4,7 +4,7 @@ ghost use Rattle.def_command.specs.Table.{plain_count, takes, least_number, most
 ghost use Rattle.def_command.specs.Grammar.{command_named, option_named};
 ghost use Rattle.xg_command.specs.Names.{name_value, option_value};
 
-use xg_limits::{MOST_ROUNDS, MOST_SCALE, MOST_WORKERS};
+use def_sums::{MOST_ROUNDS, MOST_SCALE, MOST_WORKERS};
 
 /// A command by its word.
 #[derive(Clone, Copy, Debug, PartialEq, Eq)]

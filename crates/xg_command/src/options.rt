@@ -8,8 +8,8 @@ ghost use Rattle.xg_command.specs.Values.{numbers_value, no_numbers, settings_va
 
 use crate::command::Settings;
 use crate::names::OptionName;
+use def_sums::{LEAST_CARDS, MOST_CARDS, MOST_SCALE};
 use xg_frac::read_whole;
-use xg_limits::{LEAST_CARDS, MOST_CARDS, MOST_SCALE};
 
 /// The rounds that are played where no number is given.
 const DEFAULT_ROUNDS: u32 = 1000;

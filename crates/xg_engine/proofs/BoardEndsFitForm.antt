@@ -5,7 +5,7 @@ use Rattle.std.specs.Prelude.{pos, ◌*ℤ◌, int_lt}
 use Rattle.def_sums.specs.Limits.{most_rounds}
 use Rattle.def_tree.specs.declared.Player.TheVariants.{One, Two}
 use Rattle.def_plan.specs.Form.{InformationSet, SequenceForm}
-use Rattle.def_bracket.specs.Offers.{Board, KeptEnd, Offer, board_after, keep_lower, keep_upper, lower_of, offered, upper_of}
+use Rattle.def_reply.specs.Offers.{Board, KeptEnd, Offer, board_after, keep_lower, keep_upper, lower_of, offered, upper_of}
 use Rattle.def_round.specs.Rounds.{rounds}
 use Rattle.def_run.specs.Run.{offer_after}
 use Rattle.xg_bracket.proofs.Offered.{length-best}

@@ -1,17 +1,16 @@
 -- The offers of the evaluated rounds, round by round.
-use Rattle.std.proofs.Common.{◌≡◌, ℕ, ◌+◌, ◌-◌, ◌%◌, ◌<◌, ◌≤◌, Bool, true, false, cond, ◌||◌, eqb, eq-eqb, ne_eqb, ◌⊎◌, ⊎_elim, List, [], ◌∷◌, ◌++◌, length, map, filter, refl, ap, ◌∙◌, sym, arith}
+use Rattle.std.proofs.Common.{◌≡◌, ℕ, ◌+◌, ◌-◌, ◌%◌, ◌<◌, ◌≤◌, Bool, true, false, cond, ◌||◌, eqb, eq-eqb, ne_eqb, ◌⊎◌, ⊎_elim, List, [], ◌∷◌, ◌++◌, length, map, filter, refl, ap, ◌∙◌, sym, arith, length-append}
 use Rattle.std.specs.List.{range_with_len}
 use Rattle.std.proofs.Math.Bool.{or-true}
 use Rattle.std.proofs.lemmas.List.{length-map, map-append}
 use Rattle.std.proofs.lemmas.List.Elements.{filter-append}
 use Rattle.std.proofs.lemmas.List.Sums.{fold-append}
-use Rattle.std.proofs.Common.{length-append}
 use Rattle.def_sums.proofs.Ranges.{range-append}
 use Rattle.def_plan.specs.Form.{SequenceForm}
-use Rattle.def_bracket.specs.Bracket.{TraceLine, evaluated_rounds, trace}
-use Rattle.def_bracket.specs.Offers.{Board, KeptEnd, Offer, keep_lower, keep_upper, lower_of, upper_of, board_after, evaluation_of_offer, new_board, offered}
-use Rattle.def_bracket.proofs.KeptEnds.{offers_are_traced}
-use Rattle.def_bracket.proofs.TraceLines.{trace_lines}
+use Rattle.def_reply.specs.Bracket.{TraceLine, evaluated_rounds, trace}
+use Rattle.def_reply.specs.Offers.{Board, KeptEnd, Offer, keep_lower, keep_upper, lower_of, upper_of, board_after, evaluation_of_offer, new_board, offered}
+use Rattle.def_reply.proofs.KeptEnds.{offers_are_traced}
+use Rattle.def_reply.proofs.TraceLines.{trace_lines}
 use Rattle.def_round.specs.Rounds.{rounds}
 use Rattle.def_run.specs.Run.{offer_after}
 use Rattle.xg_bracket.specs.Board.{last_round}

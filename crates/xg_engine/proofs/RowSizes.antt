@@ -8,7 +8,7 @@ use Rattle.def_plan.specs.Form.{AreInOrder, InformationSet, SequenceForm, player
 use Rattle.def_plan.specs.Payoff.{leaf_sum, mass_of}
 use Rattle.def_plan.specs.Plan.{IsPlan}
 use Rattle.def_plan.proofs.SizeLaws.{leaf_sums-below, of_a_round, of_an_evaluation}
-use Rattle.def_rows.specs.Rows.{player_rows}
+use Rattle.def_plan.specs.FormRows.{player_rows}
 
 sizes_of_map : (f : ℕ → ℤ) (xs : List ℕ)
     → nat_sum_over unsigned_abs (map f xs) ≡ nat_sum_over (λ s. unsigned_abs (f s)) xs

@@ -7,9 +7,9 @@ use Rattle.def_plan.specs.Form.{SequenceForm}
 use Rattle.def_plan.specs.Plan.{IsPlan}
 use Rattle.def_reply.proofs.ReplySizes.{bounds_small}
 use Rattle.def_round.specs.Rounds.{rounds}
-use Rattle.def_bracket.specs.Bracket.{BracketEnds, TraceLine}
-use Rattle.def_bracket.specs.Outcome.{Head, OutcomeEnds}
-use Rattle.def_cert_ranges.specs.Ranges.{IsFromTo}
+use Rattle.def_reply.specs.Bracket.{BracketEnds, TraceLine}
+use Rattle.def_reply.specs.Outcome.{Head, OutcomeEnds}
+use Rattle.def_cert_verdict.specs.Ranges.{IsFromTo}
 use Rattle.def_run.specs.Run.{outcome}
 use Rattle.def_run.proofs.EndLaws.{ends_at, outcomes_show_their_run}
 use Rattle.def_run.proofs.RunLaws.{ends_are_of_their_rounds}

@@ -1,7 +1,7 @@
 -- The state of an engine, from its parts.
 use Rattle.std.specs.Prelude.{Option}
 use Rattle.std.specs.Option.{option_map}
-use Rattle.def_cert_verdict.specs.Verdict.{WeighedGame}
+use Rattle.def_plan.specs.Weighed.{WeighedGame}
 use Rattle.xg_engine.specs.State.{EngineState}
 use Rattle.xg_engine.specs.declared.running.FinishedRun.{FinishedRun}
 

@@ -6,7 +6,7 @@ use Rattle.def_tree.specs.declared.Player.TheVariants.{One, Two}
 use Rattle.def_plan.specs.Form.{SequenceForm, sequence_count}
 use Rattle.def_plan.specs.Plan.{IsPlan}
 use Rattle.def_reply.specs.Reply.{best_reply_to}
-use Rattle.def_bracket.specs.Offers.{Offer}
+use Rattle.def_reply.specs.Offers.{Offer}
 use Rattle.def_run.specs.Run.{offer_after}
 use Rattle.xg_bracket.specs.Board.{offer_of, sizes_of}
 use Rattle.xg_engine.specs.declared.evaluating.Evaluator.{Evaluator}

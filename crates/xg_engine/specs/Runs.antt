@@ -1,8 +1,8 @@
 -- A run between rounds, and what its outcome is written into.
 use Rattle.std.specs.Prelude.{◌≡◌, ℕ, ◌≤◌, List, [], length, Some, vec_capacity}
 use Rattle.def_plan.specs.Form.{InformationSet, SequenceForm, sequence_count}
-use Rattle.def_bracket.specs.Bracket.{evaluated_rounds}
-use Rattle.def_bracket.specs.Offers.{Board, KeptEnd, board_after}
+use Rattle.def_reply.specs.Bracket.{evaluated_rounds}
+use Rattle.def_reply.specs.Offers.{Board, KeptEnd, board_after}
 use Rattle.xg_bracket.specs.Board.{last_round}
 use Rattle.xg_engine.specs.Evaluations.{CanEvaluate, offers_upto}
 use Rattle.xg_engine.specs.Players.{IsSmallPlan, StandAfter}

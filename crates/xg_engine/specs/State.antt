@@ -3,9 +3,9 @@ use Rattle.std.specs.Prelude.{◌≡◌, ℕ, ◌≤◌, List, length, Option}
 use Rattle.def_sums.specs.Limits.{most_rounds, most_scale}
 use Rattle.def_plan.specs.Form.{sequence_count}
 use Rattle.def_plan.specs.Payoff.{mass_of}
-use Rattle.def_bracket.specs.Outcome.{Head, Outcome}
+use Rattle.def_reply.specs.Outcome.{Head, Outcome}
 use Rattle.def_round.specs.Rounds.{Standing}
-use Rattle.def_cert_verdict.specs.Verdict.{WeighedGame}
+use Rattle.def_plan.specs.Weighed.{WeighedGame}
 use Rattle.xg_engine.specs.declared.settings.Settings.{Settings}
 
 -- the sums of each player's plans over the rounds of a run

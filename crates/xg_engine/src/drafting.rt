@@ -1,3 +1,4 @@
+//! The room for an outcome, which is taken before the first round.
 ghost use Rattle.std.specs.Prelude.{◌≡◌, ◌<◌, ◌≤◌, ◌+◌, ◌++◌, [], ◌∷◌, IfOk, length, map, vec_capacity, vec_len};
 ghost use Rattle.def_run.specs.Run.{both_ends, outcome_with};
 ghost use Rattle.def_plan.specs.Form.{InformationSet, sequence_count};

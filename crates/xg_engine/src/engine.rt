@@ -1,3 +1,4 @@
+//! The engine: a game in numbers, with what its last run left.
 ghost use Rattle.std.specs.Prelude.{◌≡◌, ◌≤◌, Err, IfOk, IfSome, None, OnErr, OnOk, Some};
 ghost use Rattle.std.specs.Option.{option_map};
 ghost use Rattle.std.specs.Thread.{IsSync};
@@ -10,7 +11,7 @@ ghost use Rattle.def_round.specs.Rounds.{rounds};
 ghost use Rattle.def_run.specs.Run.{outcome};
 ghost use Rattle.xg_engine.specs.Ends.{AreBoundsOfLine, AreUnbeaten, HasEnds, HasGapOfLine, NoLineIsWider};
 ghost use Rattle.xg_engine.specs.State.{AreWithinLimits, Asks, head_with, sums_of};
-ghost use Rattle.def_file_accepted.specs.Weighed.{weighed_game};
+ghost use Rattle.def_game_numbers.specs.Weighed.{weighed_game};
 
 use crate::asking::head_with;
 use crate::running::{FinishedRun, play};

@@ -1,6 +1,7 @@
+//! The evaluation of the sums of plans after a round.
 ghost use Rattle.std.specs.Prelude.{◌≡◌, ◌<◌, IfOk, OnOk, length};
 ghost use Rattle.std.specs.Thread.{IsSync};
-ghost use Rattle.def_bracket.specs.Offers.{new_board, offered};
+ghost use Rattle.def_reply.specs.Offers.{new_board, offered};
 ghost use Rattle.xg_bracket.specs.Board.{last_round};
 ghost use Rattle.xg_jobs.specs.Table.{IsTableOf};
 ghost use Rattle.xg_engine.specs.Evaluations.{AreSumsAfter, CanEvaluate, best_offer};

@@ -1,10 +1,11 @@
+//! Both players from round to round.
 ghost use Rattle.std.specs.Prelude.{◌≡◌, ◌+◌, ◌*◌, ◌^◌, ◌<◌, ◌≤◌, ℕ, List, IfOk, OnOk, length, pos, replicate, unsigned_abs};
 ghost use Rattle.std.specs.Thread.{IsSync};
 ghost use Rattle.def_sums.specs.Limits.{most_rounds, most_scale, most_round_row};
 ghost use Rattle.def_sums.specs.Sum.{nat_sum_over};
 ghost use Rattle.def_plan.specs.Form.{player_sets, sequence_count};
 ghost use Rattle.def_plan.specs.Plan.{IsPlan, added, cleared};
-ghost use Rattle.def_rows.specs.Rows.{player_rows};
+ghost use Rattle.def_plan.specs.FormRows.{player_rows};
 ghost use Rattle.def_round.specs.Play.{GivesAllUnits, plan_of_play, play_of};
 ghost use Rattle.def_round.specs.Round.{own_sum, regrets_after};
 ghost use Rattle.xg_jobs.specs.Table.{IsTableOf};

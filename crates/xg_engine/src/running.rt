@@ -1,6 +1,7 @@
+//! A run over all rounds.
 ghost use Rattle.std.specs.Prelude.{◌≡◌, ◌+◌, ◌<◌, ◌≤◌, IfOk, OnOk, length};
 ghost use Rattle.std.specs.Thread.{IsSync};
-ghost use Rattle.def_bracket.specs.Bracket.{evaluated_rounds};
+ghost use Rattle.def_reply.specs.Bracket.{evaluated_rounds};
 ghost use Rattle.def_run.specs.Run.{outcome};
 ghost use Rattle.def_round.specs.Rounds.{rounds};
 ghost use Rattle.xg_cert.specs.Outcome.{head_of};

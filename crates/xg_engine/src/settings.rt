@@ -1,3 +1,5 @@
+//! What is asked of a run.
+
 /// What is asked of a run: how many rounds are played, after how many of them the average plans are evaluated, and the
 /// scale, which is the root of each round's plans.
 ///

@@ -1,3 +1,4 @@
+//! Where a run's rows come from.
 ghost use Rattle.std.specs.Prelude.{IfOk};
 ghost use Rattle.std.specs.Thread.{IsSync};
 ghost use Rattle.xg_jobs.specs.Rows.{ArePlainSums};

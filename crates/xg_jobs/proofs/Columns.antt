@@ -7,7 +7,7 @@ use Rattle.def_sums.proofs.SumLaws.{sum_over-exchange, sum_over-ext, sum_over-fi
 use Rattle.def_tree.specs.declared.Player.TheVariants.{One, Two}
 use Rattle.def_plan.specs.Form.{Leaf, leaf_sequence}
 use Rattle.def_plan.specs.Payoff.{leaf_sum}
-use Rattle.def_rows.proofs.Rows.{leaf_sums_add_amounts}
+use Rattle.def_plan.proofs.Rows.{leaf_sums_add_amounts}
 use Rattle.xg_jobs.specs.Groups.{GroupLeaf, group_at, group_part, parts_sum, weights_of}
 use Rattle.xg_jobs.specs.Grouping.{entries_with, entry_of, leaves_of_sequence}
 use Rattle.xg_jobs.proofs.PairWeights.{spread, weight_read}

@@ -8,8 +8,8 @@ use Rattle.def_sums.proofs.RingLaws.{zero-+ℤ}
 use Rattle.def_sums.proofs.SumLaws.{sum_over-map}
 use Rattle.def_tree.specs.declared.Player.TheVariants.{One, Two}
 use Rattle.def_plan.specs.Form.{SequenceForm, sequence_count}
-use Rattle.def_rows.specs.Rows.{amount_of, player_rows}
-use Rattle.def_rows.proofs.Rows.{player_rows_are_leaf_sums}
+use Rattle.def_plan.specs.FormRows.{amount_of, player_rows}
+use Rattle.def_plan.proofs.Rows.{player_rows_are_leaf_sums}
 use Rattle.xg_seq.specs.Leaves.{HasSequences}
 use Rattle.xg_jobs.specs.Entries.{KeepsGroups}
 use Rattle.xg_jobs.specs.Groups.{GroupLeaf, group_at, group_sum, groups_mass, greatest_of, parts_sum, weights_of}

@@ -1,8 +1,8 @@
 -- The jobs after some passes.
 use Rattle.std.proofs.Common.{◌≡◌, ℕ, zero, suc, ◌+◌, ◌-◌, ◌≤◌, List, [], ◌∷◌, sym, ap, ◌∙◌, arith}
 use Rattle.std.proofs.lemmas.List.{append-nil}
-use Rattle.def_game_jobs.specs.Jobs.{jobs_within, pass}
-use Rattle.def_game_jobs.proofs.Passes.{passes-suc}
+use Rattle.def_history.specs.Jobs.{jobs_within, pass}
+use Rattle.def_history.proofs.Passes.{passes-suc}
 use Rattle.def_tree.specs.Tree.{Forest, tree_count}
 use Rattle.xg_jobs.specs.declared.tops.TopNode.{TopNode}
 use Rattle.xg_jobs.specs.Cutting.{AreJobs}

@@ -2,7 +2,7 @@
 use Rattle.std.proofs.Common.{◌≡◌, ℕ, zero, suc, ◌+◌, ◌-◌, ◌<◌, ◌≤◌, Bool, true, false, cond, ◌&&◌, nat_le, List, [], ◌∷◌, ◌++◌, length, get_or, drop, refl, sym, ap, subst, ◌∙◌, arith}
 use Rattle.std.proofs.lemmas.List.{append_assoc, append-nil}
 use Rattle.std.proofs.lemmas.Bool.Decides.{nat_tests}
-use Rattle.def_game_jobs.specs.Jobs.{count_after, cut_each, each_tree, is_chance_job, is_cut, most_jobs, pass, subtrees}
+use Rattle.def_history.specs.Jobs.{count_after, cut_each, each_tree, is_chance_job, is_cut, most_jobs, pass, subtrees}
 use Rattle.def_tree.specs.Tree.{Forest, bare, grown, prefix, leaf_count, tree_count}
 use Rattle.xg_jobs.specs.declared.tops.TopNode.{TopNode}
 use Rattle.xg_jobs.specs.Cutting.{AreJobs, IsJob, Stand}

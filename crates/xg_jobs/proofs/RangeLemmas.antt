@@ -6,7 +6,7 @@ use Rattle.std.proofs.lemmas.Option.{slice_get-map, slice_get_read}
 use Rattle.std.proofs.lemmas.List.{length-map}
 use Rattle.std.proofs.lemmas.List.Elements.{All-get_or}
 use Rattle.std.proofs.Math.Nat.{add-sub_cancel}
-use Rattle.def_game_jobs.specs.Ranges.{LeafRange as RangeOfLeaves}
+use Rattle.def_history.specs.Ranges.{LeafRange as RangeOfLeaves}
 use Rattle.def_tree.specs.Rules.{most_nodes}
 use Rattle.xg_jobs.specs.declared.table.LeafRange.{LeafRange}
 use Rattle.xg_jobs.specs.Ranges.{range_of}

@@ -4,9 +4,9 @@ use Rattle.std.proofs.lemmas.List.{append_assoc, append-nil, map-append}
 use Rattle.std.proofs.lemmas.List.FromFn.{length-range_with_len}
 use Rattle.std.proofs.lemmas.List.Concat.{flat_map-cons}
 use Rattle.std.proofs.lemmas.List.Elements.{All-append, All-cons}
-use Rattle.def_game_jobs.specs.Jobs.{jobs_of}
-use Rattle.def_game_jobs.specs.Ranges.{LeafRange as RangeOfLeaves, job_ranges, leaves_of, ranges_from}
-use Rattle.def_game_jobs.proofs.Ranges.{partition}
+use Rattle.def_history.specs.Jobs.{jobs_of}
+use Rattle.def_history.specs.Ranges.{LeafRange as RangeOfLeaves, job_ranges, leaves_of, ranges_from}
+use Rattle.def_history.proofs.Ranges.{partition}
 use Rattle.def_sums.specs.Sum.{nat_sum_over}
 use Rattle.def_tree.specs.Rules.{most_nodes}
 use Rattle.def_tree.specs.Tree.{Forest, prefix, leaf_count, tree_count}

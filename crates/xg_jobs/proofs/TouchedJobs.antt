@@ -5,12 +5,12 @@ use Rattle.std.proofs.lemmas.List.{take_more, map_push, get_or-map, length-map, 
 use Rattle.std.proofs.lemmas.List.FromFn.{length-range_with_len}
 use Rattle.def_tree.specs.Tree.{Forest, prefix, leaf_count, tree_count}
 use Rattle.def_game_paths.specs.Paths.{leaf_visits}
-use Rattle.def_game_jobs.specs.Jobs.{leaf_counts}
-use Rattle.def_game_jobs.specs.Ranges.{LeafRange as RangeOfLeaves, leaves_of, ranges_from, job_ranges}
-use Rattle.def_game_jobs.proofs.Ranges.{partition}
+use Rattle.def_history.specs.Jobs.{leaf_counts}
+use Rattle.def_history.specs.Ranges.{LeafRange as RangeOfLeaves, leaves_of, ranges_from, job_ranges}
+use Rattle.def_history.proofs.Ranges.{partition}
 use Rattle.def_plan.specs.Form.{SequenceForm}
 use Rattle.def_sequence_form.proofs.Leaves.{leaves_counted, length-leaves_with}
-use Rattle.def_history_rows.specs.JobRows.{job_leaves}
+use Rattle.def_history.specs.JobRows.{job_leaves}
 use Rattle.xg_touched.specs.Touched.{JobRows, job_rows, leaf_rows}
 use Rattle.xg_jobs.specs.declared.table.LeafRange.{LeafRange}
 use Rattle.xg_jobs.specs.Groups.{greatest_of}

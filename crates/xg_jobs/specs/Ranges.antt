@@ -1,8 +1,8 @@
 -- The jobs' ranges of leaves as a table has them.
 use Rattle.std.specs.Prelude.{◌≤◌, List, length, All}
 use Rattle.def_tree.specs.Rules.{most_nodes}
-use Rattle.def_game_jobs.specs.Jobs.{most_jobs}
-use Rattle.def_game_jobs.specs.Ranges.{LeafRange as RangeOfLeaves}
+use Rattle.def_history.specs.Jobs.{most_jobs}
+use Rattle.def_history.specs.Ranges.{LeafRange as RangeOfLeaves}
 use Rattle.xg_jobs.specs.declared.table.LeafRange.{LeafRange}
 
 abbrev pub range_of : LeafRange → RangeOfLeaves

@@ -3,7 +3,7 @@ use Rattle.std.specs.Prelude.{◌≡◌, ℕ, ◌≤◌, List, ◌++◌, ℤ, le
 use Rattle.def_tree.specs.declared.Player.TheVariants.{One, Two}
 use Rattle.def_sums.specs.Limits.{most_root}
 use Rattle.def_plan.specs.Form.{SequenceForm, sequence_count}
-use Rattle.def_rows.specs.Rows.{player_rows}
+use Rattle.def_plan.specs.FormRows.{player_rows}
 
 -- each player's amounts, by sequence
 pub record Amounts : Type 0 where

@@ -4,7 +4,7 @@ use Rattle.std.specs.Prelude.{◌≡◌, ℕ, List, length, map, ℤ}
 use Rattle.def_tree.specs.declared.Player.TheVariants.{One}
 use Rattle.def_tree.specs.Tree.{Forest, leaf_count, prefix}
 use Rattle.def_tree.specs.Rules.{IsGameTree}
-use Rattle.def_game_jobs.specs.Ranges.{LeafRange, job_ranges}
+use Rattle.def_history.specs.Ranges.{LeafRange, job_ranges}
 use Rattle.def_plan.specs.Form.{SequenceForm}
 use Rattle.def_sequence_form.specs.Form.{form_of}
 use Rattle.xg_touched.specs.Touched.{JobRows, job_rows}

@@ -1,7 +1,8 @@
+//! Both players' sums over the leaves, in one pass over the groups of player one.
 ghost use Rattle.std.specs.Prelude.{◌≡◌, ℕ, ◌+◌, ◌*◌, ◌<◌, ◌≤◌, ℤ, pos, ◌+ℤ◌, unsigned_abs, All};
 ghost use Rattle.std.specs.Prelude.{length, map, slice_index};
 ghost use Rattle.def_sums.specs.Limits.{past_number};
-ghost use Rattle.def_rows.specs.Rows.{amount_of};
+ghost use Rattle.def_plan.specs.FormRows.{amount_of};
 ghost use Rattle.xg_jobs.specs.Groups.{group_at, group_mass, group_part, group_sum, groups_mass, parts_sum};
 
 use crate::entry::Entry;

@@ -1,6 +1,7 @@
+//! How the tree is cut into jobs.
 ghost use Rattle.std.specs.Prelude.{◌≡◌, ◌+◌, ◌++◌, ◌≤◌, ◌&&◌, List, length, map, false, nat_le, IfOk, OnOk};
-ghost use Rattle.def_game_jobs.specs.Jobs.{each_tree, jobs_of, most_jobs, pass};
-ghost use Rattle.def_game_jobs.specs.Ranges.{job_ranges};
+ghost use Rattle.def_history.specs.Jobs.{each_tree, jobs_of, most_jobs, pass};
+ghost use Rattle.def_history.specs.Ranges.{job_ranges};
 ghost use Rattle.def_tree.specs.Rules.{most_nodes};
 ghost use Rattle.def_tree.specs.Tree.{Forest, tree_count};
 ghost use Rattle.xg_jobs.specs.Cutting.{AreJobs, Stand};
@@ -9,12 +10,9 @@ ghost use Rattle.xg_jobs.specs.Tops.{tops_from};
 
 use crate::table::LeafRange;
 use crate::tops::{TopNode, tops_of};
+use def_history::jobs::{MOST_JOBS, MOST_PASSES};
 use std::alloc::{AllocError, Global};
 use xg_tree::Tree;
-
-const MOST_JOBS: usize = 4096;
-
-const MOST_PASSES: usize = 64;
 
 /// The leaves of each job.
 pub(crate) fn ranges_of(alloc: Global, tree: &Tree) -> Result<Vec<LeafRange>, AllocError>

@@ -1,3 +1,4 @@
+//! A leaf in a group, in 4, 8 or more bytes.
 ghost use Rattle.std.specs.Prelude.{◌≡◌};
 ghost use Rattle.xg_jobs.specs.Groups.{GroupLeaf};
 

@@ -1,3 +1,4 @@
+//! The groups of player one's sequences, with the smallest entries that have room.
 ghost use Rattle.std.specs.Prelude.{◌≡◌, ℕ, ◌*◌, ◌^◌, ◌<◌, ◌≤◌, max, All, IfOk, IsTrue, OnOk, length};
 ghost use Rattle.def_sums.specs.Limits.{most_mass, most_root};
 ghost use Rattle.def_tree.specs.Rules.{most_nodes};
@@ -16,10 +17,10 @@ use crate::merging::merged;
 use crate::packing::{are_small, are_tiny, small_entries, tiny_entries};
 use crate::rows::Rows;
 use crate::writing::write_rows;
+use def_sums::MOST_ROOT;
 use def_tree::Player;
 use std::alloc::{AllocError, Global};
 use std::marker::Model;
-use xg_limits::MOST_ROOT;
 use xg_seq::SeqForm;
 
 /// The leaves of each of player one's sequences.

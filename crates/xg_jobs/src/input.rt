@@ -1,3 +1,4 @@
+//! What rows are made from.
 use xg_seq::SeqForm;
 
 /// What rows are made from: a form, and a number for each sequence of each player.

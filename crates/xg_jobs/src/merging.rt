@@ -1,3 +1,4 @@
+//! Leaves of a group that differ in nothing but their weights, as one entry.
 ghost use Rattle.std.specs.Prelude.{◌+◌, ◌^◌, ◌<◌, ◌≤◌, All, IfOk, OnOk, drop, length, map, unsigned_abs};
 ghost use Rattle.xg_jobs.specs.Entries.{wide_leaf};
 ghost use Rattle.xg_jobs.specs.Groups.{group_mass};

@@ -1,3 +1,4 @@
+//! Entries in fewer bytes.
 ghost use Rattle.std.specs.Prelude.{◌≡◌, All, FitsSigned, IfOk, IsTrue, map};
 ghost use Rattle.std.specs.Int.{w32};
 ghost use Rattle.xg_jobs.specs.Entries.{small_leaf, tiny_leaf, wide_leaf};

@@ -1,3 +1,4 @@
+//! Rows by one loop, without workers.
 ghost use Rattle.std.specs.Prelude.{IfOk};
 
 use crate::input::RowInput;

@@ -1,6 +1,7 @@
+//! The amount at a row, in 64 or 128 bits.
 ghost use Rattle.std.specs.Prelude.{◌≡◌, ℕ, ◌*◌, ◌^◌, ◌<◌, ℤ, pos, ◌+ℤ◌, ◌*ℤ◌, unsigned_abs, IfOk, length, map};
 ghost use Rattle.def_sums.specs.Limits.{past_number};
-ghost use Rattle.def_rows.specs.Rows.{amount_of};
+ghost use Rattle.def_plan.specs.FormRows.{amount_of};
 
 use std::alloc::{AllocError, Global};
 

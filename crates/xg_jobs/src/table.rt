@@ -1,11 +1,12 @@
+//! The table of a game's jobs.
 ghost use Rattle.std.specs.Prelude.{◌≡◌, ◌-◌, ◌<◌, ◌≤◌, length, IfOk, OnOk, Some, slice_get, slice_index_or};
-ghost use Rattle.def_game_jobs.specs.Jobs.{most_jobs};
+ghost use Rattle.def_history.specs.Jobs.{most_jobs};
 ghost use Rattle.def_history.specs.Leaves.{amounts};
 ghost use Rattle.def_history.specs.Packets.{IsPacketOf};
-ghost use Rattle.def_history_rows.specs.JobPackets.{packet_of};
-ghost use Rattle.def_history_rows.specs.JobRows.{leaf_amount};
+ghost use Rattle.def_history.specs.JobPackets.{packet_of};
+ghost use Rattle.def_history.specs.JobRows.{leaf_amount};
 ghost use Rattle.def_plan.specs.Form.{sequence_count};
-ghost use Rattle.def_rows.specs.Rows.{row_count};
+ghost use Rattle.def_plan.specs.FormRows.{row_count};
 ghost use Rattle.xg_jobs.specs.Rows.{AreNumbersOf, ArePlainSums};
 ghost use Rattle.xg_jobs.specs.Table.{IsFormOf, IsTableOf, job_table, most_touched};
 

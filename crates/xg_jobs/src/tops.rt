@@ -1,3 +1,4 @@
+//! The nodes at the top of the tree, which only chance moves stand above.
 ghost use Rattle.std.specs.Prelude.{◌≡◌, ◌+◌, ◌<◌, ◌≤◌, [], ◌∷◌, IfOk, IsFalse, IsTrue, OnOk};
 ghost use Rattle.def_tree.specs.declared.Kind.TheVariants.{Chance};
 ghost use Rattle.def_tree.specs.Rules.{IsGameTree, is_same_kind, most_nodes};

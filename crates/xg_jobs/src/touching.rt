@@ -1,3 +1,4 @@
+//! The rows of each job.
 ghost use Rattle.std.specs.Prelude.{◌≡◌, ◌+◌, ◌≤◌, length, map, All, IfOk};
 ghost use Rattle.xg_jobs.specs.Ranges.{range_of};
 ghost use Rattle.xg_jobs.specs.Table.{most_touched};

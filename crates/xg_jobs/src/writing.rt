@@ -1,6 +1,7 @@
+//! All rows from the groups, in as many bits as their sums need.
 ghost use Rattle.std.specs.Prelude.{◌≡◌, ℕ, ◌^◌, ◌≤◌, IsTrue, OnOk, length, map};
 ghost use Rattle.def_plan.specs.Form.{sequence_count};
-ghost use Rattle.def_rows.specs.Rows.{amount_of};
+ghost use Rattle.def_plan.specs.FormRows.{amount_of};
 ghost use Rattle.xg_jobs.specs.Rows.{AreNumbersOf, ArePlainSums};
 ghost use Rattle.xg_jobs.specs.Writing.{CanWrite};
 

@@ -6,7 +6,7 @@ use Rattle.def_sums.specs.Sum.{nat_sum_over}
 use Rattle.def_plan.specs.Form.{InformationSet, PlacedSet, placed, sequence_count, sequences_of}
 use Rattle.def_plan.specs.Plan.{AddsUp, HasRoot, IsBadSet, IsPlan}
 use Rattle.def_plan.proofs.BadSets.{length-placed}
-use Rattle.def_shares.specs.Shares.{weight_sum}
+use Rattle.def_round.specs.Shares.{weight_sum}
 use Rattle.def_round.proofs.Plays.{sum_of_map}
 use Rattle.xg_plan.proofs.PlaceLemmas.{IsPlacedAs, no_place, part_is}
 

@@ -9,8 +9,8 @@ use Rattle.def_sums.proofs.Ranges.{at_most_sum, map-range_same}
 use Rattle.def_plan.specs.Form.{AreInOrder, InformationSet, PlacedSet, placed, sequence_count, sequences_of}
 use Rattle.def_plan.specs.Plan.{AddsUp}
 use Rattle.def_plan.proofs.BadSets.{length-placed}
-use Rattle.def_shares.specs.Shares.{shares, weight_sum}
-use Rattle.def_shares.proofs.SharesLaws.{length-shares, shares_whole}
+use Rattle.def_round.specs.Shares.{shares, weight_sum}
+use Rattle.def_round.proofs.SharesLaws.{length-shares, shares_whole}
 use Rattle.def_round.specs.Laws.{IsPlanOfPlay}
 use Rattle.def_round.specs.Play.{GivesAllUnits, plan_of_play, play_rule}
 use Rattle.def_round.proofs.Blocks.{map-block}

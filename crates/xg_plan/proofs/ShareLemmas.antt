@@ -6,8 +6,8 @@ use Rattle.std.proofs.lemmas.Bool.{cases_eq, cases_lt}
 use Rattle.std.proofs.lemmas.Grind.{same_number_lists}
 use Rattle.std.proofs.lemmas.List.{get_or-replicate, get_or-set_other, get_or-set_same, length-map, length-replicate}
 use Rattle.std.proofs.lemmas.Nat.{div-add-mod', le-div}
-use Rattle.def_shares.specs.Shares.{prefix_share, prefix_sum, shares, weight_sum}
-use Rattle.def_shares.proofs.SharesLaws.{are_differences, length-shares, nothing_over, prefix-all, prefix-more}
+use Rattle.def_round.specs.Shares.{prefix_share, prefix_sum, shares, weight_sum}
+use Rattle.def_round.proofs.SharesLaws.{are_differences, length-shares, nothing_over, prefix-all, prefix-more}
 
 -- the first i weights are together within the sum of all
 pub prefix-within : (ws : List ℕ) (i : ℕ) → prefix_sum ws i ≤ weight_sum ws

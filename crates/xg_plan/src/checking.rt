@@ -1,8 +1,9 @@
+//! The test of numbers: whether they are a plan.
 ghost use Rattle.std.specs.Prelude.{◌≡◌, ℕ, ◌+◌, ◌-◌, ◌^◌, ◌<◌, ◌≤◌, ◌↔◌};
 ghost use Rattle.std.specs.Prelude.{IfSome, IsNone, IsTrue, length, slice_index_or};
 ghost use Rattle.def_plan.specs.Form.{AreInOrder, PlacedSet, placed, player_sets, sequence_count};
 ghost use Rattle.def_plan.specs.Plan.{AddsUp, IsBadSet, IsPlan, bad_set};
-ghost use Rattle.def_shares.specs.Shares.{weight_sum};
+ghost use Rattle.def_round.specs.Shares.{weight_sum};
 
 use def_tree::Player;
 use xg_seq::SeqForm;

@@ -1,8 +1,9 @@
+//! The plan of a play.
 ghost use Rattle.std.specs.Prelude.{◌≡◌, ℕ, ◌*◌, ◌-◌, ◌/◌, ◌<◌, ◌≤◌, length, map, slice_index, slice_index_or};
 ghost use Rattle.def_sums.specs.Limits.{most_scale, past_dealt};
 ghost use Rattle.def_plan.specs.Form.{AreInOrder, PlacedSet, placed, player_sets, sequence_count, sequences_of};
 ghost use Rattle.def_plan.specs.Plan.{IsPlan};
-ghost use Rattle.def_shares.specs.Shares.{shares, weight_sum};
+ghost use Rattle.def_round.specs.Shares.{shares, weight_sum};
 ghost use Rattle.def_round.specs.Play as play;
 ghost use Rattle.def_round.specs.Play.{GivesAllUnits, plan_of_play, play_rule};
 

@@ -1,3 +1,4 @@
+//! The plan of a player, in whole numbers.
 ghost use Rattle.std.specs.Prelude.{◌≡◌, length, replicate, slice_index, IfOk};
 ghost use Rattle.def_plan.specs.Form.{player_sets};
 ghost use Rattle.def_plan.specs.Plan.{cleared};

@@ -1,3 +1,4 @@
+//! The play of a player, in the units of each set.
 ghost use Rattle.std.specs.Prelude.{◌≡◌, ◌<◌, ◌≤◌, length, replicate, slice_index, slice_set, IfOk};
 ghost use Rattle.def_plan.specs.Form.{player_sets, sequence_count};
 

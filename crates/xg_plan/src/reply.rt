@@ -1,3 +1,4 @@
+//! The reply of a player to a plan of the other one.
 ghost use Rattle.std.specs.Prelude.{◌≡◌, ◌-◌, ◌<◌, ◌≤◌, length, pos, IfOk, Some, slice_get, slice_index_or, slice_set};
 ghost use Rattle.def_plan.specs.Form.{player_sets};
 ghost use Rattle.def_reply.specs.Reply.{choices_of, values_of};

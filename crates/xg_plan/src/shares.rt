@@ -1,6 +1,7 @@
+//! Shares of a number in proportion to weights.
 ghost use Rattle.std.specs.Prelude.{◌≡◌, ℕ, ◌*◌, ◌+◌, ◌/◌, ◌^◌, ◌<◌, ◌≤◌, ◌≤ℤ◌, pos};
 ghost use Rattle.std.specs.Prelude.{length, map, slice_index, unsigned_abs, All};
-ghost use Rattle.def_shares.specs.Shares.{weight_sum, shares};
+ghost use Rattle.def_round.specs.Shares.{weight_sum, shares};
 
 /// Deals `n` units over weights, of which the first ones together get their part of `n`, rounded down.
 ///

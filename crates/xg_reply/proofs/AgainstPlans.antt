@@ -5,8 +5,8 @@ use Rattle.def_tree.specs.declared.Player.TheVariants.{One, Two}
 use Rattle.def_plan.specs.Form.{AreInOrder, InformationSet, SequenceForm, player_sets}
 use Rattle.def_plan.specs.Payoff.{AgreeOn, leaf_sum}
 use Rattle.def_plan.specs.Plan.{pure_plan}
-use Rattle.def_rows.specs.Rows.{player_rows, amount_of}
-use Rattle.def_rows.proofs.Rows.{player_rows_are_leaf_sums}
+use Rattle.def_plan.specs.FormRows.{player_rows, amount_of}
+use Rattle.def_plan.proofs.Rows.{player_rows_are_leaf_sums}
 use Rattle.def_reply.specs.Bounds.{AttainsCeiling, AttainsFloor, IsCeiling, IsFloor}
 use Rattle.def_reply.specs.Reply.{Reply, SetReply, best_reply, best_reply_to, choices_of, total}
 use Rattle.def_reply.proofs.BoundLaws.{best_bounds}

@@ -1,7 +1,5 @@
 -- A pass over the sets from the last one on: the replies from a set on, and the worths that these alone make.
-use Rattle.std.proofs.Common.{◌≡◌, ℕ, zero, suc, ◌+◌, ◌-◌, ◌^◌, ◌<◌, ◌≤◌, cond, eqb, List, [], ◌∷◌, length, get_or}
-use Rattle.std.proofs.Common.{drop, map, zip, filter, ℤ, pos, ◌+ℤ◌, unsigned_abs, refl, ap, sym, subst, ◌∙◌, arith}
-use Rattle.std.proofs.Common.{drop-cons, ⊎_elim, ne_eqb}
+use Rattle.std.proofs.Common.{◌≡◌, ℕ, zero, suc, ◌+◌, ◌-◌, ◌^◌, ◌<◌, ◌≤◌, cond, eqb, List, [], ◌∷◌, length, get_or, drop, map, zip, filter, ℤ, pos, ◌+ℤ◌, unsigned_abs, refl, ap, sym, subst, ◌∙◌, arith, drop-cons, ⊎_elim, ne_eqb}
 use Rattle.std.specs.List.{range_with_len}
 use Rattle.std.proofs.Math.ListN.{set}
 use Rattle.std.proofs.lemmas.Bool.{cases_eq, eq-eqb}
@@ -21,7 +19,7 @@ use Rattle.def_reply.specs.Reply.{Reply, SetReply, best_of, best_reply, first_wi
 use Rattle.def_reply.proofs.ReplySizes.{worths-below}
 use Rattle.xg_reply.specs.Replies.{placed_set, reply_by, reply_to_sums}
 use Rattle.xg_reply.proofs.PlacedSets.{in_order, sequences_there}
-use Rattle.def_rows.specs.Rows.{amount_of}
+use Rattle.def_plan.specs.FormRows.{amount_of}
 
 abbrev sizes : (ℕ → ℤ) → List ℕ → ℕ
 sizes f ss = nat_sum_over (λ s. unsigned_abs (f s)) ss

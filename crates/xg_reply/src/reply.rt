@@ -1,3 +1,4 @@
+//! The best reply to a plan.
 ghost use Rattle.std.specs.Prelude.{◌≡◌, ℕ, ◌^◌, ◌<◌, ◌≤◌, List, length, map, pos, ◌*ℤ◌, unsigned_abs};
 ghost use Rattle.def_sums.specs.Limits.{most_row};
 ghost use Rattle.def_tree.specs.declared.Player.TheVariants.{One, Two};
@@ -5,7 +6,7 @@ ghost use Rattle.def_sums.specs.Sum.{nat_sum_over};
 ghost use Rattle.def_plan.specs.Form.{AreInOrder, placed, player_sets, sequence_count, sequences};
 ghost use Rattle.def_plan.specs.Payoff.{IsNoBetter, gain, worth};
 ghost use Rattle.def_plan.specs.Plan.{IsPlan, pure_plan};
-ghost use Rattle.def_rows.specs.Rows.{player_rows, amount_of};
+ghost use Rattle.def_plan.specs.FormRows.{player_rows, amount_of};
 ghost use Rattle.def_reply.specs.Bounds.{AttainsCeiling, AttainsFloor, IsCeiling, IsFloor};
 ghost use Rattle.def_reply.specs.Reply.{best_reply_to, choices_of, values_of};
 ghost use Rattle.xg_reply.specs.Replies.{reply_to_sums};

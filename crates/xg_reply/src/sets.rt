@@ -1,3 +1,4 @@
+//! The choice at each set.
 ghost use Rattle.std.specs.Prelude.{◌≡◌, ◌≢◌, ℕ, ◌+◌, ◌-◌, ◌^◌, ◌<◌, ◌≤◌, ◌+ℤ◌, ◌↔◌};
 ghost use Rattle.std.specs.Prelude.{All, IsTrue, length, slice_set, unsigned_abs};
 ghost use Rattle.std.specs.List.{range_with_len};
@@ -5,7 +6,7 @@ ghost use Rattle.def_plan.specs.Form.{AreInOrder, IsInOrder, player_sets, sequen
 ghost use Rattle.def_plan.specs.Payoff.{IsNoBetter};
 ghost use Rattle.xg_reply.specs.Replies.{placed_set, reply_by};
 ghost use Rattle.xg_seq.specs.Table.{most_sequences};
-ghost use Rattle.def_rows.specs.Rows.{amount_of};
+ghost use Rattle.def_plan.specs.FormRows.{amount_of};
 
 use def_tree::Player;
 use xg_plan::Reply;

@@ -1,8 +1,9 @@
+//! Chains through the rows of each stripe.
 ghost use Rattle.std.specs.Prelude.{◌≡◌, ◌<◌, ◌≤◌, ℕ, [], length, slice_index, IfOk};
 ghost use Rattle.xg_rowcore.specs.Chains.{AreChains, IsNextOf, KeepsChains};
 
+use def_sums::MOST_STRIPES;
 use std::alloc::{AllocError, Global};
-use xg_limits::MOST_STRIPES;
 
 /// For each stripe a chain through the places of its rows, for rows that stand elsewhere.
 #[derive(Drop)]

@@ -1,3 +1,4 @@
+//! The entries of a packet.
 ghost use Rattle.std.specs.Prelude.{◌≡◌, ◌<◌, ◌≤◌, ◌+◌, ◌^◌, ◌++◌, [], ◌∷◌, length, IfOk, vec_capacity};
 ghost use Rattle.std.specs.Prelude.{pos, ◌+ℤ◌, unsigned_abs, slice_index_or, slice_set};
 ghost use Rattle.def_sums.specs.Limits.{most_stripes};

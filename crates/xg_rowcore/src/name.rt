@@ -1,3 +1,4 @@
+//! What the locks of one round have in common.
 use std::marker::Brand;
 
 /// What the locks of one round have in common, for contracts alone: how many jobs there are, how many rows, each job's

@@ -1,3 +1,4 @@
+//! The packet of a job.
 ghost use Rattle.std.specs.Prelude.{◌≡◌, ◌<◌, ◌≤◌, ◌+◌, ◌^◌, ◌++◌, ◌+ℤ◌, [], ◌∷◌, length, unsigned_abs, IfOk};
 ghost use Rattle.def_sums.specs.Limits.{most_stripes};
 ghost use Rattle.def_history.specs.History.{stripe_of};

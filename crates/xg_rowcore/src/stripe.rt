@@ -1,3 +1,4 @@
+//! A stripe of the rows, with the history of its jobs.
 ghost use Rattle.std.specs.Prelude.{◌≡◌, ◌<◌, ◌≤◌, ◌*◌, ◌+◌, ◌^◌, ◌↔◌, [], ◌∷◌, length, IfOk, IsTrue, Contains};
 ghost use Rattle.std.specs.Prelude.{ℕ, pos, ◌+ℤ◌, unsigned_abs, slice_index_or, slice_set};
 ghost use Rattle.def_sums.specs.Limits.{most_row};

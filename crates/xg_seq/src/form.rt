@@ -1,3 +1,4 @@
+//! The sequence form of a game.
 ghost use Rattle.std.specs.Prelude.{◌≡◌, ◌-◌, ◌<◌, ◌≤◌, length, map, sum, unsigned_abs, All, IfOk, Some, slice_get};
 ghost use Rattle.def_plan.specs.Form.{AreInOrder, player_sets, sequence_count};
 ghost use Rattle.def_plan.specs.Payoff.{mass_of};

@@ -1,3 +1,5 @@
+//! A leaf of the form.
+
 /// A leaf: both players' last own sequences on its path, and its weight.
 ///
 /// The weight is reach times player one's payoff, in whole numbers.

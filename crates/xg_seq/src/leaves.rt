@@ -1,3 +1,4 @@
+//! The leaves of a tree with their weights.
 ghost use Rattle.std.specs.Prelude.{◌≡◌, ◌-◌, ◌<◌, ◌≤◌, IfOk, length, pos, Some, slice_get, slice_index_or};
 ghost use Rattle.def_sequence_form.specs.Sets.{tree_sets};
 ghost use Rattle.def_tree.specs.Rules.{IsGameTree};

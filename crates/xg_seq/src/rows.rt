@@ -1,3 +1,4 @@
+//! The table of a player's sets, from the sets of the tree.
 ghost use Rattle.std.specs.Prelude.{◌≡◌, ◌^◌, ◌<◌, ◌≤◌, length, IfOk, map};
 ghost use Rattle.def_plan.specs.Form.{AreInOrder, placed, sequence_count};
 ghost use Rattle.xg_sets.specs.OfPlayer.{of_player};

@@ -1,3 +1,4 @@
+//! A player's sets in a flat table.
 ghost use Rattle.std.specs.Prelude.{◌≡◌, ◌-◌, ◌<◌, ◌≤◌, length, map, Some, slice_get};
 ghost use Rattle.def_plan.specs.Form.{AreInOrder, placed, sequence_count};
 ghost use Rattle.xg_seq.specs.Table.{EndsAt, HaveFewActions, KeepsSets, most_sequences, placed_of_row, set_of_row};

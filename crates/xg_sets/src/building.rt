@@ -1,3 +1,4 @@
+//! The walk that finds the sets, or the first break of perfect recall.
 ghost use Rattle.std.specs.Prelude.{◌≡◌, ◌+◌, ◌-◌, ◌^◌, ◌<◌, ◌≤◌, Ok, OnOk, IfOk, IfErr};
 ghost use Rattle.def_game_paths.specs.Coming.{visit_after};
 ghost use Rattle.def_game_paths.specs.Recall.{HasPerfectRecall};

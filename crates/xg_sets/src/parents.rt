@@ -1,3 +1,4 @@
+//! The nodes on the way that have children to come.
 ghost use Rattle.std.specs.Prelude.{◌≡◌, ◌+◌, ◌^◌, ◌<◌, ◌≤◌, [], ◌∷◌, IfOk, IfSome, IsNone, OnOk};
 ghost use Rattle.xg_sets.specs.Parents.{HasChild, TakesChild, after, with_parent};
 

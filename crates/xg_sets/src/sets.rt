@@ -1,3 +1,4 @@
+//! Both players' sets.
 ghost use Rattle.std.specs.Prelude.{◌≡◌, ◌-◌, ◌≤◌, length, Some, slice_get};
 ghost use Rattle.xg_sets.specs.OfPlayer.{action_counts, sequences_before_sets, of_player, as_player_sets};
 ghost use Rattle.xg_sets.specs.Table.{HasFewRows};

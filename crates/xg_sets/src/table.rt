@@ -1,3 +1,4 @@
+//! A player's sets so far.
 ghost use Rattle.std.specs.Prelude.{◌≡◌, ◌+◌, ◌-◌, ◌^◌, ◌<◌, ◌≤◌, [], ◌∷◌, ◌++◌, length, OnOk, Some, slice_get};
 ghost use Rattle.xg_sets.specs.Table.{BeginsSet, Notes};
 

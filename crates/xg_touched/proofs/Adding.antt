@@ -11,8 +11,8 @@ use Rattle.def_sums.proofs.RingLaws.{+ℤ_assoc, +ℤ-zero, zero-+ℤ}
 use Rattle.def_tree.specs.declared.Player.TheVariants.{One, Two}
 use Rattle.def_plan.specs.Form.{SequenceForm, Leaf, sequence_count}
 use Rattle.def_history.specs.Packets.{Entry}
-use Rattle.def_rows.specs.Rows.{amount_at, amount_in_row}
-use Rattle.def_history_rows.specs.JobRows.{form_leaf, job_leaves}
+use Rattle.def_plan.specs.FormRows.{amount_at, amount_in_row}
+use Rattle.def_history.specs.JobRows.{form_leaf, job_leaves}
 use Rattle.xg_seq.specs.Leaves.{HasSequences}
 use Rattle.xg_rowcore.specs.Packets.{entry_in, with_added}
 use Rattle.xg_touched.specs.declared.touched.LeafRows.{LeafRows}

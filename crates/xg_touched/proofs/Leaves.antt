@@ -6,8 +6,8 @@ use Rattle.std.proofs.lemmas.Option.{get_or_from_slice_get}
 use Rattle.std.proofs.lemmas.List.{take_more, get_or-take, get_or-drop, length-take, length-drop, get_or_default, append_assoc}
 use Rattle.std.proofs.lemmas.Grind.{flat_map-append}
 use Rattle.def_plan.specs.Form.{SequenceForm, Leaf}
-use Rattle.def_game_jobs.specs.Ranges.{LeafRange}
-use Rattle.def_history_rows.specs.JobRows.{form_leaf, job_leaves}
+use Rattle.def_history.specs.Ranges.{LeafRange}
+use Rattle.def_history.specs.JobRows.{form_leaf, job_leaves}
 use Rattle.std.proofs.lemmas.List.Elements.{All-take, All-drop}
 use Rattle.xg_seq.specs.Leaves.{HasSequences}
 use Rattle.xg_touched.specs.Touched.{both_rows}

@@ -6,8 +6,8 @@ use Rattle.def_sums.proofs.SumLaws.{unsigned_abs-sum_over, nat_sum_over-mono, na
 use Rattle.def_plan.specs.Form.{SequenceForm, Leaf}
 use Rattle.def_plan.specs.Payoff.{mass_of}
 use Rattle.def_plan.proofs.SizeLaws.{slice_index-at_most}
-use Rattle.def_rows.specs.Rows.{amount_in_row}
-use Rattle.def_history_rows.proofs.Amounts.{row_size}
+use Rattle.def_plan.specs.FormRows.{amount_in_row}
+use Rattle.def_history.proofs.Amounts.{row_size}
 use Rattle.xg_touched.specs.Filling.{amount_upto}
 
 mass_take : (k : ℕ) (leaves : List Leaf) → mass_of (take k leaves) ≤ mass_of leaves

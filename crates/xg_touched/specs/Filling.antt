@@ -3,7 +3,7 @@ use Rattle.std.specs.Prelude.{ℕ, ℤ, List, map, take, drop}
 use Rattle.def_sums.specs.Sum.{sum_over}
 use Rattle.def_plan.specs.Form.{SequenceForm}
 use Rattle.def_history.specs.Packets.{Entry}
-use Rattle.def_rows.specs.Rows.{amount_in_row}
+use Rattle.def_plan.specs.FormRows.{amount_in_row}
 
 -- these rows with their amounts
 abbrev pub entries_at_rows : (ℕ → ℤ) → List ℕ → List Entry

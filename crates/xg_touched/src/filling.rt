@@ -1,3 +1,4 @@
+//! The rows and amounts of a packet.
 ghost use Rattle.std.specs.Prelude.{◌≡◌, ◌+◌, ◌^◌, ◌<◌, ◌≤◌, [], length, pos, slice_index, unsigned_abs, ◌+ℤ◌, ◌*ℤ◌};
 ghost use Rattle.std.specs.List.Sorted.{IsStrictlyIncreasing};
 ghost use Rattle.def_sums.specs.Limits.{past_number};

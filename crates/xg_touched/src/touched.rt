@@ -1,7 +1,8 @@
+//! The rows of a job, and its packet.
 ghost use Rattle.std.specs.Prelude.{◌≡◌, ◌+◌, ◌≤◌, length, All, IfOk, pos};
 ghost use Rattle.def_sums.specs.Limits.{most_root};
 ghost use Rattle.def_plan.specs.Form.{sequence_count};
-ghost use Rattle.def_history_rows.specs.JobPackets.{packet_of};
+ghost use Rattle.def_history.specs.JobPackets.{packet_of};
 ghost use Rattle.xg_touched.specs.Filling.{amount_upto, entries_at_rows};
 ghost use Rattle.xg_touched.specs.Touched.{job_rows};
 

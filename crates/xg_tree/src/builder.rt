@@ -1,16 +1,14 @@
+//! The building of a tree, node by node.
 ghost use Rattle.std.specs.Prelude.{◌≡◌, ◌≢◌, ◌↔◌, ◌+◌, ◌<◌, ◌≤◌, [], ◌∷◌, ◌++◌, length, IsTrue, OnOk, OnErr, IsErrOf};
 ghost use Rattle.def_tree.specs.Rules.{Fits, IsGameTree, KeepRules, most_nodes};
 ghost use Rattle.def_tree.specs.Tree.{Begins, forest_of, leaf_count, prefix, wanted};
 
 use crate::sizes::Sizes;
 use crate::tree::Tree;
-use def_tree::{Kind, Node};
+use def_tree::{Kind, MOST_NODES, Node};
 use std::alloc::Global;
 use std::marker::Model;
 use thiserror::Error;
-
-/// The greatest number of nodes of a tree.
-pub const MOST_NODES: usize = 1_048_576;
 
 /// Why a node was not taken.
 #[derive(Debug, Drop, PartialEq, Eq, Error)]

@@ -6,8 +6,7 @@ mod sizes;
 mod tree;
 mod visitor;
 
-pub use builder::{Builder, MOST_NODES, PushFault};
-pub use def_tree::{Kind, Node, Player};
-pub use sizes::MOST_ACTIONS;
+pub use builder::{Builder, PushFault};
+pub use def_tree::{Kind, MOST_ACTIONS, MOST_NODES, Node, Player};
 pub use tree::Tree;
 pub use visitor::Visitor;

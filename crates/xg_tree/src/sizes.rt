@@ -1,12 +1,10 @@
+//! How many children the nodes of each set have.
 ghost use Rattle.std.specs.Prelude.{◌≡◌, ◌↔◌, [], IsOk, IsTrue, OnOk, OnErr};
 ghost use Rattle.xg_tree.specs.Sizes.{FitsSizes, JoinsSizes, noted, with_size};
 
-use def_tree::{Kind, Node};
+use def_tree::{Kind, MOST_ACTIONS, Node};
 use std::alloc::{AllocError, Global};
 use std::marker::Model;
-
-/// The greatest number of actions of a set, and so of children of a node.
-pub const MOST_ACTIONS: u32 = 1_024;
 
 // How many children the nodes of each set have, by the sets' kinds and numbers.
 #[derive(Drop)]

@@ -1,3 +1,4 @@
+//! The tree of a game.
 ghost use Rattle.std.specs.Prelude.{◌≡◌, ◌-◌, ◌≤◌, slice_get};
 ghost use Rattle.def_tree.specs.Events.{Accepts, Leads, events};
 ghost use Rattle.def_tree.specs.Rules.{IsGameTree};

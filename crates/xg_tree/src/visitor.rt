@@ -1,3 +1,4 @@
+//! The visitor of a walk.
 ghost use Rattle.std.specs.Prelude.{ℕ};
 ghost use Rattle.def_tree.specs.declared.Node.{Node};
 

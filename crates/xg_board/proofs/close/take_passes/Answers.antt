@@ -1,7 +1,7 @@
 use Rattle.std.proofs.Common.{◌≡◌, ◌+◌, ◌++◌, [], ◌∷◌, length, arith, ap, ◌∙◌}
 use Rattle.std.proofs.lemmas.List.{length-append}
-use Rattle.xg_rights.specs.declared.view.View.{View}
-use Rattle.xg_rights.specs.Rights.{seen}
+use Rattle.xg_locked.specs.declared.view.View.{View}
+use Rattle.xg_locked.specs.Rights.{seen}
 use Rattle.xg_board.specs.Holdings.{tickets_of}
 use Rattle.xg_board.proofs.GatheringOneStripe.{tickets_push}
 use Rattle.xg_board.proofs.close.take_passes.Goals as goal

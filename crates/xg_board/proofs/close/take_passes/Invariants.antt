@@ -1,5 +1,5 @@
 use Rattle.std.proofs.Common.{◌≡◌, ◌+◌, [], length}
-use Rattle.xg_rights.specs.Rights.{seen}
+use Rattle.xg_locked.specs.Rights.{seen}
 use Rattle.xg_board.specs.Holdings.{tickets_of}
 use Rattle.xg_board.proofs.close.take_passes.Given as goal
 

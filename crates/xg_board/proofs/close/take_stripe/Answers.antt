@@ -1,7 +1,7 @@
 use Rattle.std.proofs.Common.{◌≡◌, ◌≤◌, ◌^◌, ◌++◌, List, ℕ, sym, ap, ◌∙◌, subst}
 use Rattle.def_history.specs.Core.{Right, times_right}
-use Rattle.xg_rights.specs.declared.view.View.{View}
-use Rattle.xg_rights.specs.Rights.{once, rights_at, stripes_of}
+use Rattle.xg_locked.specs.declared.view.View.{View}
+use Rattle.xg_locked.specs.Rights.{once, rights_at, stripes_of}
 use Rattle.xg_board.proofs.GatheringOneStripe.{sums_small, gather_more}
 use Rattle.xg_board.proofs.close.take_stripe.Goals as goal
 

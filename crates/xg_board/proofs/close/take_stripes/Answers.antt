@@ -1,5 +1,5 @@
 use Rattle.std.proofs.Common.{◌≡◌, ◌+◌, arith, refl, ap}
-use Rattle.xg_rights.specs.declared.view.View.{View}
+use Rattle.xg_locked.specs.declared.view.View.{View}
 use Rattle.xg_board.proofs.GatheredIsPlainSum.{nothing_gathered}
 use Rattle.xg_board.proofs.close.take_stripes.Goals as goal
 

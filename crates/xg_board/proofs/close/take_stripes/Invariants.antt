@@ -1,6 +1,6 @@
 use Rattle.std.proofs.Common.{◌≡◌, ◌+◌, [], length}
 use Rattle.xg_jobs.specs.Rows.{all_rows}
-use Rattle.xg_rights.specs.Rights.{seen, stripes_of}
+use Rattle.xg_locked.specs.Rights.{seen, stripes_of}
 use Rattle.xg_board.specs.Closing.{Gathered}
 use Rattle.xg_board.proofs.close.take_stripes.Given as goal
 

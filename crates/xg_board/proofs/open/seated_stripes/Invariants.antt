@@ -1,5 +1,5 @@
 use Rattle.std.proofs.Common.{◌≡◌, ◌+◌, ◌-◌, [], vec_len}
-use Rattle.xg_rights.specs.Rights.{seen}
+use Rattle.xg_locked.specs.Rights.{seen}
 use Rattle.xg_board.proofs.open.seated_stripes.Given as goal
 
 abbrev pub invariant-loop-index : goal.invariant-loop-index

@@ -1,6 +1,6 @@
 use Rattle.std.proofs.Common.{◌+◌, [], ◌∷◌, length, length-append, ap, ◌∙◌, arith}
 use Rattle.std.proofs.lemmas.List.Elements.{All-push}
-use Rattle.xg_rights.specs.Rights.{number_from}
+use Rattle.xg_locked.specs.Rights.{number_from}
 use Rattle.xg_board.specs.Holdings.{Holding}
 use Rattle.xg_board.specs.Running.{IsReady}
 use Rattle.xg_board.proofs.run.make_crew.Goals as goal

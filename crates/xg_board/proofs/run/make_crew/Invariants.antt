@@ -1,5 +1,5 @@
 use Rattle.std.proofs.Common.{◌≡◌, length, All}
-use Rattle.xg_rights.specs.Rights.{number_from}
+use Rattle.xg_locked.specs.Rights.{number_from}
 use Rattle.xg_board.specs.Running.{IsReady}
 use Rattle.xg_board.proofs.run.make_crew.Given as goal
 

@@ -1,5 +1,5 @@
 use Rattle.xg_jobs.specs.Table.{most_touched}
-use Rattle.xg_rights.specs.Rights.{number_from}
+use Rattle.xg_locked.specs.Rights.{number_from}
 use Rattle.xg_board.specs.Running.{IsReady}
 use Rattle.xg_board.proofs.run.work.Given as goal
 

@@ -2,7 +2,7 @@ use Rattle.std.proofs.Common.{◌<◌, ◌∙◌, length, sym, subst, ap, arith,
 use Rattle.std.proofs.lemmas.List.{length-map}
 use Rattle.std.specs.Io.KnownBytes.{append_known}
 use Rattle.def_outside.specs.Sinks.{AppendsPrefix}
-use Rattle.def_bracket.specs.Bracket.{TraceLine}
+use Rattle.def_reply.specs.Bracket.{TraceLine}
 use Rattle.def_cert_text.specs.Formats.{text_of}
 use Rattle.def_cert_text.specs.CertText.{line_of_round}
 use Rattle.xg_cert.specs.Outcome.{line_of, trace_of}

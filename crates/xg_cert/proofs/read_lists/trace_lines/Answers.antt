@@ -3,7 +3,7 @@ use Rattle.std.proofs.lemmas.List.{map_push}
 use Rattle.std.proofs.lemmas.Result.{err_from_is_err_and}
 use Rattle.def_cert_text.specs.Formats.{Format}
 use Rattle.def_cert_text.specs.CertText.{evaluation_count, line_of_round, round_of_evaluation}
-use Rattle.def_bracket.specs.Bracket.{TraceLine}
+use Rattle.def_reply.specs.Bracket.{TraceLine}
 use Rattle.xg_cert.specs.declared.refused.CertRefused.TheVariants.{Cert}
 use Rattle.xg_cert.specs.Answers.{Fails}
 use Rattle.xg_cert.specs.Outcome.{head_of, line_of, trace_of}

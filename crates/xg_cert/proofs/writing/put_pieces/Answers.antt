@@ -1,7 +1,7 @@
 use Rattle.std.proofs.Common.{◌++◌, ◌∙◌, subst, ap, rules}
 use Rattle.std.specs.Io.KnownBytes.{append_known}
 use Rattle.def_outside.specs.Sinks.{AppendsPrefix}
-use Rattle.def_bracket.specs.Outcome.{Head}
+use Rattle.def_reply.specs.Outcome.{Head}
 use Rattle.def_cert_text.specs.CertText.{last_text}
 use Rattle.xg_cert.specs.Writable.{above_text, below_text}
 use Rattle.xg_io.proofs.Pieces.{prefix_first, prefix_then}

@@ -1,8 +1,8 @@
 use Rattle.std.proofs.Common.{List, arith, subst, sym}
 use Rattle.std.proofs.lemmas.List.{length-map}
-use Rattle.def_bracket.specs.Bracket.{TraceLine}
-use Rattle.def_cert_ranges.specs.Ranges.{TraceFits}
-use Rattle.def_cert_ranges.proofs.Sizes.{trace_products}
+use Rattle.def_reply.specs.Bracket.{TraceLine}
+use Rattle.def_cert_verdict.specs.Ranges.{TraceFits}
+use Rattle.def_cert_verdict.proofs.Sizes.{trace_products}
 use Rattle.xg_cert.specs.Outcome.{line_of, trace_of}
 use Rattle.xg_check.proofs.ReplyTests.{bounds_fit}
 use Rattle.xg_check.proofs.judging.fault_of_trace.Goals as goal

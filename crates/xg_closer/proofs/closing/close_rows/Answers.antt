@@ -1,53 +1,133 @@
-use Rattle.std.proofs.Common.{◌≤◌, List, ℤ, arith, sym, subst, ap, ◌∙◌}
-use Rattle.std.specs.Int.{w64, w128}
-use Rattle.std.proofs.lemmas.Int.{fits_signed_from_abs}
+use Rattle.std.proofs.Common.{◌≡◌, ℕ, ◌^◌, ◌<◌, ◌≤◌, FitsSigned, List, ℤ, ◌+ℤ◌, unsigned_abs, map, arith, sym, subst, ap, ◌∙◌}
+use Rattle.std.specs.Int.{w64}
 use Rattle.def_plan.specs.Form.{InformationSet, player_sets}
+use Rattle.def_round.specs.Play.{regret_of}
 use Rattle.def_round.specs.Round.{regrets_after}
 use Rattle.def_round.specs.Sizes.{size_of_sums}
-use Rattle.xg_closer.proofs.Closed.{own_regrets, same_amounts, worths_small, worths_together}
+use Rattle.def_plan.specs.FormRows.{amount_of}
+use Rattle.xg_closer.specs.Regrets.{IsMostAfter, kept_regrets}
+use Rattle.xg_closer.specs.Rows.{AreTaken, own_amount}
+use Rattle.xg_closer.proofs.Closed.{own_regrets, same_amounts, worths_small}
+use Rattle.xg_closer.proofs.SmallRegrets.{if_some, number_fits, regret_fits, regrets_within, some_if}
 use Rattle.xg_closer.proofs.closing.close_rows.Goals as goal
-use Rattle.def_rows.specs.Rows.{amount_of}
 
 pub close_sets-requires-clause-small : goal.close_sets-requires-clause-small
 close_sets-requires-clause-small c =
     let sets : List InformationSet = player_sets c.args.form.now c.args.player in
-    let first : List ℤ = c.take_small_rows.new.worths in
-    subst (λ ws. size_of_sums (amount_of ws) sets ≤ 4835703278458516698824704) (sym (same_amounts first))
-    (worths_small c.args.player c.args.rows.now sets c.requires.as_rows c.requires.small_rows first (c.take_small_rows.ensures.each c.if-take_small_rows.true))
+    let rows : List ℤ = c.args.rows.now in
+    let small : List ℤ = c.args.small_regrets.now in
+    let wide : List ℤ = c.args.regrets.now in
+    let first : List ℤ = c.take_small_rows-sizes.new.worths in
+    let more : ℕ = c.in-Some.field-0 in
+    let after : IsMostAfter c.args.most c.take_small_rows-sizes.result more = if_some (IsMostAfter c.args.most c.take_small_rows-sizes.result) c.most_after-more.result more c.in-Some.is c.most_after-more.ensures in
+    let taken : AreTaken c.args.player rows first after.grown = if_some (AreTaken c.args.player rows first) c.take_small_rows-sizes.result after.grown after.grown_is c.take_small_rows-sizes.ensures.taken in
+    let within = if_some (λ (most : ℕ). (most ≤ 2 ^ 62) × ((s : ℕ) → unsigned_abs (regret_of small s) ≤ most)) c.args.most after.before after.before_is c.requires.small in
+    let kept_is : kept_regrets c.args.most small wide ≡ small = ap (λ most. kept_regrets most small wide) after.before_is in
+    subst (λ ws. size_of_sums (amount_of ws) sets ≤ 4835703278458516698824704) (sym (same_amounts first)) (worths_small c.args.player rows sets c.requires.as_rows c.requires.small_rows first taken.each)
 
 pub close_sets-requires-clause-fits : goal.close_sets-requires-clause-fits
-close_sets-requires-clause-fits c v low =
+close_sets-requires-clause-fits c =
     let sets : List InformationSet = player_sets c.args.form.now c.args.player in
-    let first : List ℤ = c.take_small_rows.new.worths in
-    let together = worths_together c.args.player c.args.rows.now sets c.requires.as_rows first (c.take_small_rows.ensures.each c.if-take_small_rows.true) in
-    let same = ap (λ ws. size_of_sums (amount_of ws) sets) (same_amounts first) in
-    fits_signed_from_abs w64 v (omega (arith, low, same, together, c.take_small_rows.ensures.small c.if-take_small_rows.true))
+    let rows : List ℤ = c.args.rows.now in
+    let small : List ℤ = c.args.small_regrets.now in
+    let wide : List ℤ = c.args.regrets.now in
+    let first : List ℤ = c.take_small_rows-sizes.new.worths in
+    let more : ℕ = c.in-Some.field-0 in
+    let after : IsMostAfter c.args.most c.take_small_rows-sizes.result more = if_some (IsMostAfter c.args.most c.take_small_rows-sizes.result) c.most_after-more.result more c.in-Some.is c.most_after-more.ensures in
+    let taken : AreTaken c.args.player rows first after.grown = if_some (AreTaken c.args.player rows first) c.take_small_rows-sizes.result after.grown after.grown_is c.take_small_rows-sizes.ensures.taken in
+    let within = if_some (λ (most : ℕ). (most ≤ 2 ^ 62) × ((s : ℕ) → unsigned_abs (regret_of small s) ≤ most)) c.args.most after.before after.before_is c.requires.small in
+    let kept_is : kept_regrets c.args.most small wide ≡ small = ap (λ most. kept_regrets most small wide) after.before_is in
+    λ v low. number_fits c.args.player rows first sets after.grown c.requires.as_rows taken v low
 
-pub close_sets-requires-else-take_small_rows-clause-small : goal.close_sets-requires-else-take_small_rows-clause-small
-close_sets-requires-else-take_small_rows-clause-small c =
+pub close_sets-requires-clause-growth : goal.close_sets-requires-clause-growth
+close_sets-requires-clause-growth c =
     let sets : List InformationSet = player_sets c.args.form.now c.args.player in
-    let first : List ℤ = c.take_rows.new.worths in
-    subst (λ ws. size_of_sums (amount_of ws) sets ≤ 4835703278458516698824704) (sym (same_amounts first))
-    (worths_small c.args.player c.args.rows.now sets c.requires.as_rows c.requires.small_rows first c.take_rows.ensures.each)
+    let rows : List ℤ = c.args.rows.now in
+    let small : List ℤ = c.args.small_regrets.now in
+    let wide : List ℤ = c.args.regrets.now in
+    let first : List ℤ = c.take_small_rows-sizes.new.worths in
+    let more : ℕ = c.in-Some.field-0 in
+    let after : IsMostAfter c.args.most c.take_small_rows-sizes.result more = if_some (IsMostAfter c.args.most c.take_small_rows-sizes.result) c.most_after-more.result more c.in-Some.is c.most_after-more.ensures in
+    let taken : AreTaken c.args.player rows first after.grown = if_some (AreTaken c.args.player rows first) c.take_small_rows-sizes.result after.grown after.grown_is c.take_small_rows-sizes.ensures.taken in
+    let within = if_some (λ (most : ℕ). (most ≤ 2 ^ 62) × ((s : ℕ) → unsigned_abs (regret_of small s) ≤ most)) c.args.most after.before after.before_is c.requires.small in
+    let kept_is : kept_regrets c.args.most small wide ≡ small = ap (λ most. kept_regrets most small wide) after.before_is in
+    λ v low. number_fits c.args.player rows first sets after.grown c.requires.as_rows taken v low
 
-pub close_sets-requires-else-take_small_rows-clause-fits : goal.close_sets-requires-else-take_small_rows-clause-fits
-close_sets-requires-else-take_small_rows-clause-fits c v low =
+pub close_sets-requires-clause-room : goal.close_sets-requires-clause-room
+close_sets-requires-clause-room c =
     let sets : List InformationSet = player_sets c.args.form.now c.args.player in
-    let first : List ℤ = c.take_rows.new.worths in
-    let together = worths_together c.args.player c.args.rows.now sets c.requires.as_rows first c.take_rows.ensures.each in
-    let same = ap (λ ws. size_of_sums (amount_of ws) sets) (same_amounts first) in
-    fits_signed_from_abs w128 v (omega (arith, low, same, together, c.requires.small_rows))
+    let rows : List ℤ = c.args.rows.now in
+    let small : List ℤ = c.args.small_regrets.now in
+    let wide : List ℤ = c.args.regrets.now in
+    let first : List ℤ = c.take_small_rows-sizes.new.worths in
+    let more : ℕ = c.in-Some.field-0 in
+    let after : IsMostAfter c.args.most c.take_small_rows-sizes.result more = if_some (IsMostAfter c.args.most c.take_small_rows-sizes.result) c.most_after-more.result more c.in-Some.is c.most_after-more.ensures in
+    let taken : AreTaken c.args.player rows first after.grown = if_some (AreTaken c.args.player rows first) c.take_small_rows-sizes.result after.grown after.grown_is c.take_small_rows-sizes.ensures.taken in
+    let within = if_some (λ (most : ℕ). (most ≤ 2 ^ 62) × ((s : ℕ) → unsigned_abs (regret_of small s) ≤ most)) c.args.most after.before after.before_is c.requires.small in
+    let kept_is : kept_regrets c.args.most small wide ≡ small = ap (λ most. kept_regrets most small wide) after.before_is in
+    λ s v low.
+    subst (λ rs. FitsSigned w64 (regret_of rs s +ℤ v)) (sym (same_amounts small)) (regret_fits c.args.player rows first sets after.grown c.requires.as_rows taken (regret_of small s) v after.before more (within.1 s) after.sum after.small low)
 
-pub returns-then-take_small_rows-clause-regrets : goal.returns-then-take_small_rows-clause-regrets
-returns-then-take_small_rows-clause-regrets c =
+pub close_sets-requires-clause-none_of_empty : goal.close_sets-requires-clause-none_of_empty
+close_sets-requires-clause-none_of_empty c =
     let sets : List InformationSet = player_sets c.args.form.now c.args.player in
-    let first : List ℤ = c.take_small_rows.new.worths in
-    own_regrets c.args.player c.args.rows.now sets c.requires.as_rows c.requires.small_rows first c.args.play.now c.args.regrets.now c.close_sets.new.regrets (c.take_small_rows.ensures.each c.if-take_small_rows.true)
-    (c.close_sets.ensures.regrets ∙ ap (λ ws. regrets_after (amount_of ws) c.args.play.now sets c.args.regrets.now) (same_amounts first))
+    let rows : List ℤ = c.args.rows.now in
+    let small : List ℤ = c.args.small_regrets.now in
+    let wide : List ℤ = c.args.regrets.now in
+    let first : List ℤ = c.take_small_rows-sizes.new.worths in
+    let more : ℕ = c.in-Some.field-0 in
+    let after : IsMostAfter c.args.most c.take_small_rows-sizes.result more = if_some (IsMostAfter c.args.most c.take_small_rows-sizes.result) c.most_after-more.result more c.in-Some.is c.most_after-more.ensures in
+    let taken : AreTaken c.args.player rows first after.grown = if_some (AreTaken c.args.player rows first) c.take_small_rows-sizes.result after.grown after.grown_is c.take_small_rows-sizes.ensures.taken in
+    let within = if_some (λ (most : ℕ). (most ≤ 2 ^ 62) × ((s : ℕ) → unsigned_abs (regret_of small s) ≤ most)) c.args.most after.before after.before_is c.requires.small in
+    let kept_is : kept_regrets c.args.most small wide ≡ small = ap (λ most. kept_regrets most small wide) after.before_is in
+    ap (λ rs. regret_of rs 0) (same_amounts small ∙ sym kept_is) ∙ c.requires.none_of_empty
 
-pub returns-else-take_small_rows-clause-regrets : goal.returns-else-take_small_rows-clause-regrets
-returns-else-take_small_rows-clause-regrets c =
+pub returns-in-Some-clause-small : goal.returns-in-Some-clause-small
+returns-in-Some-clause-small c =
     let sets : List InformationSet = player_sets c.args.form.now c.args.player in
-    let first : List ℤ = c.take_rows.new.worths in
-    own_regrets c.args.player c.args.rows.now sets c.requires.as_rows c.requires.small_rows first c.args.play.now c.args.regrets.now c.close_sets-else-take_small_rows.new.regrets c.take_rows.ensures.each
-    (c.close_sets-else-take_small_rows.ensures.regrets ∙ ap (λ ws. regrets_after (amount_of ws) c.args.play.now sets c.args.regrets.now) (same_amounts first))
+    let rows : List ℤ = c.args.rows.now in
+    let small : List ℤ = c.args.small_regrets.now in
+    let wide : List ℤ = c.args.regrets.now in
+    let first : List ℤ = c.take_small_rows-sizes.new.worths in
+    let more : ℕ = c.in-Some.field-0 in
+    let after : IsMostAfter c.args.most c.take_small_rows-sizes.result more = if_some (IsMostAfter c.args.most c.take_small_rows-sizes.result) c.most_after-more.result more c.in-Some.is c.most_after-more.ensures in
+    let taken : AreTaken c.args.player rows first after.grown = if_some (AreTaken c.args.player rows first) c.take_small_rows-sizes.result after.grown after.grown_is c.take_small_rows-sizes.ensures.taken in
+    let within = if_some (λ (most : ℕ). (most ≤ 2 ^ 62) × ((s : ℕ) → unsigned_abs (regret_of small s) ≤ most)) c.args.most after.before after.before_is c.requires.small in
+    let kept_is : kept_regrets c.args.most small wide ≡ small = ap (λ most. kept_regrets most small wide) after.before_is in
+    let new : List ℤ = c.close_sets.new.regrets in
+    let is : new ≡ regrets_after (amount_of (map (λ (worth : ℤ). worth) first)) c.args.play.now sets small =
+    sym (same_amounts new) ∙ c.close_sets.ensures.regrets ∙ ap (regrets_after (amount_of (map (λ (worth : ℤ). worth) first)) c.args.play.now sets) (same_amounts small) in
+    some_if (λ (most : ℕ). (most ≤ 2 ^ 62) × ((s : ℕ) → unsigned_abs (regret_of new s) ≤ most)) c.most_after-more.result more c.in-Some.is
+    (after.small, λ s. omega (arith, after.sum, regrets_within c.args.player rows first sets after.grown c.requires.as_rows taken c.args.play.now small new after.before c.sets_are_kept.ensures.order c.requires.all_units within.1 is s))
+
+pub returns-in-Some-clause-regrets : goal.returns-in-Some-clause-regrets
+returns-in-Some-clause-regrets c =
+    let sets : List InformationSet = player_sets c.args.form.now c.args.player in
+    let rows : List ℤ = c.args.rows.now in
+    let small : List ℤ = c.args.small_regrets.now in
+    let wide : List ℤ = c.args.regrets.now in
+    let first : List ℤ = c.take_small_rows-sizes.new.worths in
+    let more : ℕ = c.in-Some.field-0 in
+    let after : IsMostAfter c.args.most c.take_small_rows-sizes.result more = if_some (IsMostAfter c.args.most c.take_small_rows-sizes.result) c.most_after-more.result more c.in-Some.is c.most_after-more.ensures in
+    let taken : AreTaken c.args.player rows first after.grown = if_some (AreTaken c.args.player rows first) c.take_small_rows-sizes.result after.grown after.grown_is c.take_small_rows-sizes.ensures.taken in
+    let within = if_some (λ (most : ℕ). (most ≤ 2 ^ 62) × ((s : ℕ) → unsigned_abs (regret_of small s) ≤ most)) c.args.most after.before after.before_is c.requires.small in
+    let kept_is : kept_regrets c.args.most small wide ≡ small = ap (λ most. kept_regrets most small wide) after.before_is in
+    let new : List ℤ = c.close_sets.new.regrets in
+    ap (λ most. kept_regrets most new wide) c.in-Some.is
+    ∙ own_regrets c.args.player rows sets c.requires.as_rows c.requires.small_rows first c.args.play.now small new taken.each
+    (sym (same_amounts new) ∙ c.close_sets.ensures.regrets ∙ (λ i. regrets_after (amount_of (same_amounts first i)) c.args.play.now sets (same_amounts small i)))
+    ∙ ap (regrets_after (own_amount c.args.player rows) c.args.play.now sets) (sym kept_is)
+
+pub close_wide-requires-clause-room : goal.close_wide-requires-clause-room
+close_wide-requires-clause-room c =
+    λ s. subst (λ rs. unsigned_abs (regret_of rs s) < 2 ^ 126) (sym c.widen.ensures) (c.requires.room s)
+
+pub close_wide-requires-clause-none_of_empty : goal.close_wide-requires-clause-none_of_empty
+close_wide-requires-clause-none_of_empty c =
+    ap (λ rs. regret_of rs 0) c.widen.ensures ∙ c.requires.none_of_empty
+
+pub returns-in-None-clause-regrets : goal.returns-in-None-clause-regrets
+returns-in-None-clause-regrets c =
+    let sets : List InformationSet = player_sets c.args.form.now c.args.player in
+    ap (λ most. kept_regrets most c.args.small_regrets.now c.close_wide.new.regrets) c.in-None.is ∙ c.close_wide.ensures.regrets
+    ∙ ap (regrets_after (own_amount c.args.player c.args.rows.now) c.args.play.now sets) c.widen.ensures

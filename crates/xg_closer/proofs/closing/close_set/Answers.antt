@@ -1,5 +1,5 @@
 use Rattle.std.proofs.Common.{◌≡◌, ◌+ℤ◌, FitsSigned, map, subst, to_z, of_z, arith, ap, rules, sym, ◌∙◌}
-use Rattle.def_rows.specs.Rows.{amount_of}
+use Rattle.def_plan.specs.FormRows.{amount_of}
 use mir.Syntax.{w128}
 use Rattle.std.specs.Int.{int_wrap}
 use Rattle.std.proofs.lemmas.Int.{to_z-of_z}
@@ -22,7 +22,7 @@ pub returns-then-place-eq1-clause-of_set : goal.returns-then-place-eq1-clause-of
 returns-then-place-eq1-clause-of_set g c = λ s from to.
     let h : PlacedSet = placed_as c.args.place in
     let first : s ≡ h.first = omega arith in
-    nothing_grows (regret_of c.args.regrets.now s) (amount_of (map g.W.Worth.amount c.args.worths.now) s) (value_by c.args.play.now (map g.W.Worth.amount c.args.worths.now) h)
+    nothing_grows (regret_of (map g.R.Worth.amount c.args.regrets.now) s) (amount_of (map g.W.Worth.amount c.args.worths.now) s) (value_by c.args.play.now (map g.W.Worth.amount c.args.worths.now) h)
     (only_value c.args.play.now (map g.W.Worth.amount c.args.worths.now) h (omega arith) c.requires.all_units ∙ ap (amount_of (map g.W.Worth.amount c.args.worths.now)) (sym first))
 
 pub add_worth-requires-clause-fits : goal.add_worth-requires-clause-fits

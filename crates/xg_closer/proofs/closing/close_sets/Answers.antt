@@ -1,4 +1,4 @@
-use Rattle.std.proofs.Common.{◌≡◌, ℕ, ◌+◌, ◌-◌, ◌<◌, ◌≤◌, List, length, slice_get, ℤ, pos, ◌+ℤ◌, ◌-ℤ◌, unsigned_abs, arith, refl, sym, subst, ap, map, ◌∙◌, ⊎_elim}
+use Rattle.std.proofs.Common.{◌≡◌, ℕ, ◌+◌, ◌-◌, ◌<◌, ◌≤◌, FitsSigned, List, length, slice_get, ℤ, pos, ◌+ℤ◌, ◌-ℤ◌, arith, refl, sym, subst, ap, map, ◌∙◌, ⊎_elim}
 use Rattle.std.proofs.lemmas.Bool.{cases_eq, cases_lt}
 use Rattle.std.proofs.lemmas.List.{ext_get_or, get_or_past, length-map, take_all}
 use Rattle.def_plan.specs.Form.{InformationSet, PlacedSet, placed, player_sets, sequence_count}
@@ -9,7 +9,7 @@ use Rattle.xg_closer.proofs.WorthsSetBySet.{KeepsWorths, SetStep, first_worths, 
 use Rattle.xg_closer.proofs.Sets.{IsAt, is_at, start_of, units_at}
 use Rattle.xg_closer.proofs.SetValues.{regrets_count}
 use Rattle.xg_closer.proofs.closing.close_sets.Goals as goal
-use Rattle.def_rows.specs.Rows.{amount_of}
+use Rattle.def_plan.specs.FormRows.{amount_of}
 
 pub loop-set-init : goal.loop-set-init
 loop-set-init g c =
@@ -20,8 +20,8 @@ loop-set-init g c =
       first_worths g.W.Worth.width c.args.play.now sets c.set_count-set.result (map g.W.Worth.amount c.args.worths.now) count (length-map c.args.worths.now g.W.Worth.amount ∙ c.requires.as_worths) c.requires.fits,
       refl,
       λ s low. refl,
-      λ s from. get_or_past c.args.regrets.now s (pos 0) (omega (arith, last, c.requires.as_regrets))
-          ∙ sym (get_or_past (regrets_after sums c.args.play.now sets c.args.regrets.now) s (pos 0) (omega (arith, last, regrets_count sums c.args.play.now sets c.args.regrets.now c.sets_are_kept.ensures.order))),
+      λ s from. get_or_past (map g.R.Worth.amount c.args.regrets.now) s (pos 0) (omega (arith, last, length-map c.args.regrets.now g.R.Worth.amount, c.requires.as_regrets))
+          ∙ sym (get_or_past (regrets_after sums c.args.play.now sets (map g.R.Worth.amount c.args.regrets.now)) s (pos 0) (omega (arith, last, regrets_count sums c.args.play.now sets (map g.R.Worth.amount c.args.regrets.now) c.sets_are_kept.ensures.order))),
     )
 
 pub close_set-requires-clause-from_one : goal.close_set-requires-clause-from_one
@@ -123,8 +123,8 @@ close_set-requires-clause-products g c =
     let below : m < length sets = omega (arith, c.set_count-set.ensures) in
     let at : IsAt sets m h = is_at sets m h c.sets_are_kept.ensures.order below (ap (slice_get (placed sets)) (sym same) ∙ c.placement_of-place.ensures) in
     let kept : KeepsWorths g.W.Worth.width sums c.args.play.now sets (m + 1) (map g.W.Worth.amount c.loop-set.worths) = subst (λ k. KeepsWorths g.W.Worth.width sums c.args.play.now sets k (map g.W.Worth.amount c.loop-set.worths)) set_is c.loop-set.invariant.0 in
-    let step : SetStep g.W.Worth.width sums c.args.play.now sets c.args.regrets.now m h (map g.W.Worth.amount c.loop-set.worths) =
-    set_step g.W.Worth.width sums c.args.play.now sets c.args.regrets.now (map g.W.Worth.amount c.loop-set.worths) m h c.sets_are_kept.ensures.order c.requires.all_units c.requires.small c.requires.fits at kept in
+    let step : SetStep g.W.Worth.width sums c.args.play.now sets (map g.R.Worth.amount c.args.regrets.now) m h (map g.W.Worth.amount c.loop-set.worths) =
+    set_step g.W.Worth.width sums c.args.play.now sets (map g.R.Worth.amount c.args.regrets.now) (map g.W.Worth.amount c.loop-set.worths) m h c.sets_are_kept.ensures.order c.requires.all_units c.requires.small c.requires.fits at kept in
     step.products
 
 pub close_set-requires-clause-fits : goal.close_set-requires-clause-fits
@@ -138,8 +138,8 @@ close_set-requires-clause-fits g c =
     let below : m < length sets = omega (arith, c.set_count-set.ensures) in
     let at : IsAt sets m h = is_at sets m h c.sets_are_kept.ensures.order below (ap (slice_get (placed sets)) (sym same) ∙ c.placement_of-place.ensures) in
     let kept : KeepsWorths g.W.Worth.width sums c.args.play.now sets (m + 1) (map g.W.Worth.amount c.loop-set.worths) = subst (λ k. KeepsWorths g.W.Worth.width sums c.args.play.now sets k (map g.W.Worth.amount c.loop-set.worths)) set_is c.loop-set.invariant.0 in
-    let step : SetStep g.W.Worth.width sums c.args.play.now sets c.args.regrets.now m h (map g.W.Worth.amount c.loop-set.worths) =
-    set_step g.W.Worth.width sums c.args.play.now sets c.args.regrets.now (map g.W.Worth.amount c.loop-set.worths) m h c.sets_are_kept.ensures.order c.requires.all_units c.requires.small c.requires.fits at kept in
+    let step : SetStep g.W.Worth.width sums c.args.play.now sets (map g.R.Worth.amount c.args.regrets.now) m h (map g.W.Worth.amount c.loop-set.worths) =
+    set_step g.W.Worth.width sums c.args.play.now sets (map g.R.Worth.amount c.args.regrets.now) (map g.W.Worth.amount c.loop-set.worths) m h c.sets_are_kept.ensures.order c.requires.all_units c.requires.small c.requires.fits at kept in
     step.fits
 
 pub close_set-requires-clause-growth : goal.close_set-requires-clause-growth
@@ -153,9 +153,24 @@ close_set-requires-clause-growth g c =
     let below : m < length sets = omega (arith, c.set_count-set.ensures) in
     let at : IsAt sets m h = is_at sets m h c.sets_are_kept.ensures.order below (ap (slice_get (placed sets)) (sym same) ∙ c.placement_of-place.ensures) in
     let kept : KeepsWorths g.W.Worth.width sums c.args.play.now sets (m + 1) (map g.W.Worth.amount c.loop-set.worths) = subst (λ k. KeepsWorths g.W.Worth.width sums c.args.play.now sets k (map g.W.Worth.amount c.loop-set.worths)) set_is c.loop-set.invariant.0 in
-    let step : SetStep g.W.Worth.width sums c.args.play.now sets c.args.regrets.now m h (map g.W.Worth.amount c.loop-set.worths) =
-    set_step g.W.Worth.width sums c.args.play.now sets c.args.regrets.now (map g.W.Worth.amount c.loop-set.worths) m h c.sets_are_kept.ensures.order c.requires.all_units c.requires.small c.requires.fits at kept in
+    let step : SetStep g.W.Worth.width sums c.args.play.now sets (map g.R.Worth.amount c.args.regrets.now) m h (map g.W.Worth.amount c.loop-set.worths) =
+    set_step g.W.Worth.width sums c.args.play.now sets (map g.R.Worth.amount c.args.regrets.now) (map g.W.Worth.amount c.loop-set.worths) m h c.sets_are_kept.ensures.order c.requires.all_units c.requires.small c.requires.fits at kept in
     step.growth
+
+pub close_set-requires-clause-growth_fits : goal.close_set-requires-clause-growth_fits
+close_set-requires-clause-growth_fits g c =
+    let sets : List InformationSet = player_sets c.args.form.now c.args.player in
+    let sums : ℕ → ℤ = amount_of (map g.W.Worth.amount c.args.worths.now) in
+    let m : ℕ = c.loop-set.set - 1 in
+    let same : m + 1 - 1 ≡ m = omega arith in
+    let set_is : c.loop-set.set ≡ m + 1 = omega arith in
+    let h : PlacedSet = placed_as c.placement_of-place.result in
+    let below : m < length sets = omega (arith, c.set_count-set.ensures) in
+    let at : IsAt sets m h = is_at sets m h c.sets_are_kept.ensures.order below (ap (slice_get (placed sets)) (sym same) ∙ c.placement_of-place.ensures) in
+    let kept : KeepsWorths g.W.Worth.width sums c.args.play.now sets (m + 1) (map g.W.Worth.amount c.loop-set.worths) = subst (λ k. KeepsWorths g.W.Worth.width sums c.args.play.now sets k (map g.W.Worth.amount c.loop-set.worths)) set_is c.loop-set.invariant.0 in
+    let step : SetStep g.W.Worth.width sums c.args.play.now sets (map g.R.Worth.amount c.args.regrets.now) m h (map g.W.Worth.amount c.loop-set.worths) =
+    set_step g.W.Worth.width sums c.args.play.now sets (map g.R.Worth.amount c.args.regrets.now) (map g.W.Worth.amount c.loop-set.worths) m h c.sets_are_kept.ensures.order c.requires.all_units c.requires.small c.requires.fits at kept in
+    λ s from to. c.requires.growth (amount_of (map g.W.Worth.amount c.loop-set.worths) s -ℤ set_value c.args.play.now (amount_of (map g.W.Worth.amount c.loop-set.worths)) h) (step.grows s from to)
 
 pub close_set-requires-clause-room : goal.close_set-requires-clause-room
 close_set-requires-clause-room g c =
@@ -168,8 +183,12 @@ close_set-requires-clause-room g c =
     let below : m < length sets = omega (arith, c.set_count-set.ensures) in
     let at : IsAt sets m h = is_at sets m h c.sets_are_kept.ensures.order below (ap (slice_get (placed sets)) (sym same) ∙ c.placement_of-place.ensures) in
     let kept : KeepsWorths g.W.Worth.width sums c.args.play.now sets (m + 1) (map g.W.Worth.amount c.loop-set.worths) = subst (λ k. KeepsWorths g.W.Worth.width sums c.args.play.now sets k (map g.W.Worth.amount c.loop-set.worths)) set_is c.loop-set.invariant.0 in
+    let step : SetStep g.W.Worth.width sums c.args.play.now sets (map g.R.Worth.amount c.args.regrets.now) m h (map g.W.Worth.amount c.loop-set.worths) =
+    set_step g.W.Worth.width sums c.args.play.now sets (map g.R.Worth.amount c.args.regrets.now) (map g.W.Worth.amount c.loop-set.worths) m h c.sets_are_kept.ensures.order c.requires.all_units c.requires.small c.requires.fits at kept in
     let starts : start_of sets c.loop-set.set ≡ h.first + h.actions = ap (start_of sets) set_is ∙ at.next in
-    λ s from to. omega (arith, ap unsigned_abs (c.loop-set.invariant.2 s (omega (arith, starts))), c.requires.room s)
+    λ s from to.
+    let more = amount_of (map g.W.Worth.amount c.loop-set.worths) s -ℤ set_value c.args.play.now (amount_of (map g.W.Worth.amount c.loop-set.worths)) h in
+    subst (λ r. FitsSigned g.R.Worth.width (r +ℤ more)) (sym (c.loop-set.invariant.2 s (omega (arith, starts)))) (c.requires.room s more (step.grows s from to))
 
 pub loop-set-preserved : goal.loop-set-preserved
 loop-set-preserved g c =
@@ -182,8 +201,8 @@ loop-set-preserved g c =
     let below : m < length sets = omega (arith, c.set_count-set.ensures) in
     let at : IsAt sets m h = is_at sets m h c.sets_are_kept.ensures.order below (ap (slice_get (placed sets)) (sym same) ∙ c.placement_of-place.ensures) in
     let kept : KeepsWorths g.W.Worth.width sums c.args.play.now sets (m + 1) (map g.W.Worth.amount c.loop-set.worths) = subst (λ k. KeepsWorths g.W.Worth.width sums c.args.play.now sets k (map g.W.Worth.amount c.loop-set.worths)) set_is c.loop-set.invariant.0 in
-    let step : SetStep g.W.Worth.width sums c.args.play.now sets c.args.regrets.now m h (map g.W.Worth.amount c.loop-set.worths) =
-    set_step g.W.Worth.width sums c.args.play.now sets c.args.regrets.now (map g.W.Worth.amount c.loop-set.worths) m h c.sets_are_kept.ensures.order c.requires.all_units c.requires.small c.requires.fits at kept in
+    let step : SetStep g.W.Worth.width sums c.args.play.now sets (map g.R.Worth.amount c.args.regrets.now) m h (map g.W.Worth.amount c.loop-set.worths) =
+    set_step g.W.Worth.width sums c.args.play.now sets (map g.R.Worth.amount c.args.regrets.now) (map g.W.Worth.amount c.loop-set.worths) m h c.sets_are_kept.ensures.order c.requires.all_units c.requires.small c.requires.fits at kept in
     let starts : start_of sets c.loop-set.set ≡ h.first + h.actions = ap (start_of sets) set_is ∙ at.next in (
       record {
         count = length-map c.close_set.new.worths g.W.Worth.amount ∙ c.close_set.ensures.worths_count ∙ sym (length-map c.loop-set.worths g.W.Worth.amount) ∙ kept.count;
@@ -205,21 +224,21 @@ loop-set-preserved g c =
           (cases_lt s (h.first + h.actions)),
     )
 
-pub returns-clause-count : goal.returns-clause-count
-returns-clause-count g c = sym (length-map c.loop-set.worths g.W.Worth.amount) ∙ c.loop-set.invariant.0.count ∙ sym c.requires.as_worths
+pub returns-clause-worths_count : goal.returns-clause-worths_count
+returns-clause-worths_count g c = sym (length-map c.loop-set.worths g.W.Worth.amount) ∙ c.loop-set.invariant.0.count ∙ sym c.requires.as_worths
 
 pub returns-clause-regrets : goal.returns-clause-regrets
 returns-clause-regrets g c =
     let sets : List InformationSet = player_sets c.args.form.now c.args.player in
     let sums : ℕ → ℤ = amount_of (map g.W.Worth.amount c.args.worths.now) in
-    let after : List ℤ = regrets_after sums c.args.play.now sets c.args.regrets.now in
+    let after : List ℤ = regrets_after sums c.args.play.now sets (map g.R.Worth.amount c.args.regrets.now) in
     let done : c.loop-set.set ≡ 0 = omega arith in
     let starts : start_of sets c.loop-set.set ≡ 1 = ap (start_of sets) done in
-    ext_get_or (pos 0) c.loop-set.regrets after (omega (arith, c.loop-set.invariant.1, regrets_count sums c.args.play.now sets c.args.regrets.now c.sets_are_kept.ensures.order, c.requires.as_regrets))
+    ext_get_or (pos 0) (map g.R.Worth.amount c.loop-set.regrets) after (omega (arith, length-map c.loop-set.regrets g.R.Worth.amount, c.loop-set.invariant.1, regrets_count sums c.args.play.now sets (map g.R.Worth.amount c.args.regrets.now) c.sets_are_kept.ensures.order, c.requires.as_regrets))
     (λ s low.
     ⊎_elim
     (λ first.
     let none : s ≡ 0 = omega arith in
-    c.loop-set.invariant.2 s (omega (arith, starts)) ∙ ap (regret_of c.args.regrets.now) none ∙ c.requires.none_of_empty ∙ ap (regret_of after) (sym none))
+    c.loop-set.invariant.2 s (omega (arith, starts)) ∙ ap (regret_of (map g.R.Worth.amount c.args.regrets.now)) none ∙ c.requires.none_of_empty ∙ ap (regret_of after) (sym none))
     (λ later. c.loop-set.invariant.3 s (omega (arith, starts)))
     (cases_lt s 1))

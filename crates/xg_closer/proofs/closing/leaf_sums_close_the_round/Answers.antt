@@ -1,7 +1,7 @@
 use Rattle.std.proofs.Common.{ap}
 use Rattle.def_plan.specs.Form.{player_sets}
-use Rattle.def_rows.specs.Rows.{player_rows}
-use Rattle.def_rows.proofs.Rows.{player_rows_are_leaf_sums}
+use Rattle.def_plan.specs.FormRows.{player_rows}
+use Rattle.def_plan.proofs.Rows.{player_rows_are_leaf_sums}
 use Rattle.def_round.specs.Round.{own_sum, utility}
 use Rattle.def_round.proofs.OwnSums.{rounds_need_own_sums}
 use Rattle.xg_closer.specs.Rows.{own_amount}

@@ -8,7 +8,7 @@ use Rattle.def_sums.proofs.SumLaws.{nat_sum_over-append}
 use Rattle.def_round.specs.Round.{utility}
 use Rattle.xg_closer.proofs.RowSums.{own_amount_beyond}
 use Rattle.xg_closer.proofs.closing.take_small_rows.Goals as goal
-use Rattle.def_rows.specs.Rows.{amount_of}
+use Rattle.def_plan.specs.FormRows.{amount_of}
 
 pub own_row-requires : goal.own_row-requires
 own_row-requires c =
@@ -44,14 +44,16 @@ loop-i-preserved c =
           (cases_eq s i),
     )
 
-pub returns-clause-each : goal.returns-clause-each
-returns-clause-each c _ s =
-    ⊎_elim
-    (λ low. c.loop-i.invariant.2 s (omega (arith, low)))
-    (λ high. get_or_past c.loop-i.worths s (pos 0) (omega (arith, c.loop-i.invariant.0, c.requires.as_many)) ∙ sym (own_amount_beyond c.args.player c.args.rows.now s (omega arith)))
-    (cases_lt s (length c.args.rows.now))
-
-pub returns-clause-small : goal.returns-clause-small
-returns-clause-small c = λ _.
+pub returns-clause-taken : goal.returns-clause-taken
+returns-clause-taken c =
     let past : length c.args.rows.now ≤ c.loop-i.i = omega arith in
-    omega (arith, c.loop-i.invariant.1, ap (nat_sum_over unsigned_abs) (take_all c.loop-i.i c.args.rows.now past))
+    let all = ap (nat_sum_over unsigned_abs) (take_all c.loop-i.i c.args.rows.now past) in
+    record {
+      each = λ s.
+          ⊎_elim
+          (λ low. c.loop-i.invariant.2 s (omega (arith, low)))
+          (λ high. get_or_past c.loop-i.worths s (pos 0) (omega (arith, c.loop-i.invariant.0, c.requires.as_many)) ∙ sym (own_amount_beyond c.args.player c.args.rows.now s (omega arith)))
+          (cases_lt s (length c.args.rows.now));
+      together = omega (arith, c.loop-i.invariant.1, all);
+      small = omega (arith, c.loop-i.invariant.1, all);
+    }

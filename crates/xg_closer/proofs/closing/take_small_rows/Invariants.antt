@@ -2,7 +2,7 @@ use Rattle.std.proofs.Common.{◌≡◌, ℕ, ◌+◌, ◌^◌, ◌<◌, length,
 use Rattle.def_sums.specs.Sum.{nat_sum_over}
 use Rattle.xg_closer.specs.Rows.{own_amount}
 use Rattle.xg_closer.proofs.closing.take_small_rows.Given as goal
-use Rattle.def_rows.specs.Rows.{amount_of}
+use Rattle.def_plan.specs.FormRows.{amount_of}
 
 abbrev pub invariant-loop-i : goal.invariant-loop-i
 invariant-loop-i l =

@@ -1,4 +1,4 @@
-use Rattle.std.proofs.Common.{◌≡◌, ℕ, ◌+◌, ◌-◌, ◌*◌, ◌/◌, ◌<◌, ◌≤◌, List, arith, refl, sym, subst, ap, ◌∙◌}
+use Rattle.std.proofs.Common.{◌≡◌, ℕ, ◌+◌, ◌-◌, ◌*◌, ◌/◌, ◌<◌, ◌≤◌, List, arith, refl, sym, subst, ap, ◌∙◌, map}
 use Rattle.def_plan.specs.Form.{PlacedSet}
 use Rattle.def_round.specs.Play.{set_play, units}
 use Rattle.xg_closer.specs.Places.{placed_as}
@@ -8,66 +8,66 @@ use Rattle.xg_closer.proofs.Writing.{plays_more, plays_none}
 use Rattle.xg_closer.proofs.playing.play_by_parts.Goals as goal
 
 pub loop-i-init : goal.loop-i-init
-loop-i-init c =
+loop-i-init g c =
     let h : PlacedSet = placed_as c.args.place in
     let some : 1 ≤ c.args.sum = c.requires.some in (
       refl,
-      sym (none_before units (positive_parts c.args.regrets.now h) (omega (arith, c.requires.whole, parts_together c.args.regrets.now h))),
-      plays_none h.first (set_play c.args.regrets.now h) c.args.play.now,
+      sym (none_before units (positive_parts (map g.R.Worth.amount c.args.regrets.now) h) (omega (arith, c.requires.whole, parts_together (map g.R.Worth.amount c.args.regrets.now) h))),
+      plays_none h.first (set_play (map g.R.Worth.amount c.args.regrets.now) h) c.args.play.now,
     )
 
 pub overflow_add-sum_so_far : goal.overflow_add-sum_so_far
-overflow_add-sum_so_far c =
+overflow_add-sum_so_far g c =
     let h : PlacedSet = placed_as c.args.place in
-    let ws : List ℕ = positive_parts c.args.regrets.now h in
+    let ws : List ℕ = positive_parts (map g.R.Worth.amount c.args.regrets.now) h in
     let below : c.loop-i.i < h.actions = omega arith in
     let one : OneMore units ws c.loop-i.i (c.loop-i.sum_so_far + c.part_of-part.result) c.args.sum =
-    one_more units ws c.loop-i.i c.loop-i.sum_so_far c.part_of-part.result c.args.sum (omega (arith, length-positive_parts c.args.regrets.now h)) c.requires.some
-    (c.requires.whole ∙ parts_together c.args.regrets.now h) c.loop-i.invariant.0 (c.part_of-part.ensures ∙ part_at c.args.regrets.now h c.loop-i.i below) in
+    one_more units ws c.loop-i.i c.loop-i.sum_so_far c.part_of-part.result c.args.sum (omega (arith, length-positive_parts (map g.R.Worth.amount c.args.regrets.now) h)) c.requires.some
+    (c.requires.whole ∙ parts_together (map g.R.Worth.amount c.args.regrets.now) h) c.loop-i.invariant.0 (c.part_of-part.ensures ∙ part_at (map g.R.Worth.amount c.args.regrets.now) h c.loop-i.i below) in
     omega (arith, one.step.within, c.requires.small)
 
 pub next_given-next-requires-clause-within : goal.next_given-next-requires-clause-within
-next_given-next-requires-clause-within c =
+next_given-next-requires-clause-within g c =
     let h : PlacedSet = placed_as c.args.place in
-    let ws : List ℕ = positive_parts c.args.regrets.now h in
+    let ws : List ℕ = positive_parts (map g.R.Worth.amount c.args.regrets.now) h in
     let below : c.loop-i.i < h.actions = omega arith in
     let one : OneMore units ws c.loop-i.i (c.loop-i.sum_so_far + c.part_of-part.result) c.args.sum =
-    one_more units ws c.loop-i.i c.loop-i.sum_so_far c.part_of-part.result c.args.sum (omega (arith, length-positive_parts c.args.regrets.now h)) c.requires.some
-    (c.requires.whole ∙ parts_together c.args.regrets.now h) c.loop-i.invariant.0 (c.part_of-part.ensures ∙ part_at c.args.regrets.now h c.loop-i.i below) in
+    one_more units ws c.loop-i.i c.loop-i.sum_so_far c.part_of-part.result c.args.sum (omega (arith, length-positive_parts (map g.R.Worth.amount c.args.regrets.now) h)) c.requires.some
+    (c.requires.whole ∙ parts_together (map g.R.Worth.amount c.args.regrets.now) h) c.loop-i.invariant.0 (c.part_of-part.ensures ∙ part_at (map g.R.Worth.amount c.args.regrets.now) h c.loop-i.i below) in
     one.step.within
 
 pub next_given-next-requires-clause-none : goal.next_given-next-requires-clause-none
-next_given-next-requires-clause-none c =
+next_given-next-requires-clause-none g c =
     let h : PlacedSet = placed_as c.args.place in
-    let ws : List ℕ = positive_parts c.args.regrets.now h in
+    let ws : List ℕ = positive_parts (map g.R.Worth.amount c.args.regrets.now) h in
     let below : c.loop-i.i < h.actions = omega arith in
     let one : OneMore units ws c.loop-i.i (c.loop-i.sum_so_far + c.part_of-part.result) c.args.sum =
-    one_more units ws c.loop-i.i c.loop-i.sum_so_far c.part_of-part.result c.args.sum (omega (arith, length-positive_parts c.args.regrets.now h)) c.requires.some
-    (c.requires.whole ∙ parts_together c.args.regrets.now h) c.loop-i.invariant.0 (c.part_of-part.ensures ∙ part_at c.args.regrets.now h c.loop-i.i below) in
+    one_more units ws c.loop-i.i c.loop-i.sum_so_far c.part_of-part.result c.args.sum (omega (arith, length-positive_parts (map g.R.Worth.amount c.args.regrets.now) h)) c.requires.some
+    (c.requires.whole ∙ parts_together (map g.R.Worth.amount c.args.regrets.now) h) c.loop-i.invariant.0 (c.part_of-part.ensures ∙ part_at (map g.R.Worth.amount c.args.regrets.now) h c.loop-i.i below) in
     λ none.
     let same : c.loop-i.sum_so_far ≡ c.loop-i.sum_so_far + c.part_of-part.result = omega (arith, none) in
-    c.loop-i.invariant.1 ∙ share_before units ws c.loop-i.i c.loop-i.sum_so_far c.args.sum (c.requires.whole ∙ parts_together c.args.regrets.now h) c.loop-i.invariant.0
+    c.loop-i.invariant.1 ∙ share_before units ws c.loop-i.i c.loop-i.sum_so_far c.args.sum (c.requires.whole ∙ parts_together (map g.R.Worth.amount c.args.regrets.now) h) c.loop-i.invariant.0
     ∙ ap (λ n. units * n / c.args.sum) same
 
 pub overflow_sub-next : goal.overflow_sub-next
-overflow_sub-next c =
+overflow_sub-next g c =
     let h : PlacedSet = placed_as c.args.place in
-    let ws : List ℕ = positive_parts c.args.regrets.now h in
+    let ws : List ℕ = positive_parts (map g.R.Worth.amount c.args.regrets.now) h in
     let below : c.loop-i.i < h.actions = omega arith in
     let one : OneMore units ws c.loop-i.i (c.loop-i.sum_so_far + c.part_of-part.result) c.args.sum =
-    one_more units ws c.loop-i.i c.loop-i.sum_so_far c.part_of-part.result c.args.sum (omega (arith, length-positive_parts c.args.regrets.now h)) c.requires.some
-    (c.requires.whole ∙ parts_together c.args.regrets.now h) c.loop-i.invariant.0 (c.part_of-part.ensures ∙ part_at c.args.regrets.now h c.loop-i.i below) in
+    one_more units ws c.loop-i.i c.loop-i.sum_so_far c.part_of-part.result c.args.sum (omega (arith, length-positive_parts (map g.R.Worth.amount c.args.regrets.now) h)) c.requires.some
+    (c.requires.whole ∙ parts_together (map g.R.Worth.amount c.args.regrets.now) h) c.loop-i.invariant.0 (c.part_of-part.ensures ∙ part_at (map g.R.Worth.amount c.args.regrets.now) h c.loop-i.i below) in
     omega (arith, one.step.grows, c.loop-i.invariant.1, c.next_given-next.ensures)
 
 pub loop-i-preserved : goal.loop-i-preserved
-loop-i-preserved c =
+loop-i-preserved g c =
     let h : PlacedSet = placed_as c.args.place in
-    let ws : List ℕ = positive_parts c.args.regrets.now h in
+    let ws : List ℕ = positive_parts (map g.R.Worth.amount c.args.regrets.now) h in
     let below : c.loop-i.i < h.actions = omega arith in
     let one : OneMore units ws c.loop-i.i (c.loop-i.sum_so_far + c.part_of-part.result) c.args.sum =
-    one_more units ws c.loop-i.i c.loop-i.sum_so_far c.part_of-part.result c.args.sum (omega (arith, length-positive_parts c.args.regrets.now h)) c.requires.some
-    (c.requires.whole ∙ parts_together c.args.regrets.now h) c.loop-i.invariant.0 (c.part_of-part.ensures ∙ part_at c.args.regrets.now h c.loop-i.i below) in
-    let shares : List ℕ = set_play c.args.regrets.now h in
+    one_more units ws c.loop-i.i c.loop-i.sum_so_far c.part_of-part.result c.args.sum (omega (arith, length-positive_parts (map g.R.Worth.amount c.args.regrets.now) h)) c.requires.some
+    (c.requires.whole ∙ parts_together (map g.R.Worth.amount c.args.regrets.now) h) c.loop-i.invariant.0 (c.part_of-part.ensures ∙ part_at (map g.R.Worth.amount c.args.regrets.now) h c.loop-i.i below) in
+    let shares : List ℕ = set_play (map g.R.Worth.amount c.args.regrets.now) h in
     let next : c.next_given-next.result ≡ units * (c.loop-i.sum_so_far + c.part_of-part.result) / c.args.sum = c.next_given-next.ensures in (
       one.step.next,
       next ∙ one.step.share_next,

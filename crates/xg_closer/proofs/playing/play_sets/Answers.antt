@@ -1,4 +1,4 @@
-use Rattle.std.proofs.Common.{◌≡◌, ℕ, ◌+◌, ◌-◌, ◌<◌, List, length, slice_get, slice_index, arith, refl, sym, subst, ap, ◌∙◌, ⊎_elim}
+use Rattle.std.proofs.Common.{◌≡◌, ℕ, ◌+◌, ◌-◌, ◌<◌, List, length, slice_get, slice_index, arith, refl, sym, subst, ap, ◌∙◌, ⊎_elim, map}
 use Rattle.std.proofs.lemmas.Bool.{cases_lt}
 use Rattle.std.proofs.lemmas.Grind.{same_number_lists}
 use Rattle.std.proofs.lemmas.List.{take_all}
@@ -11,15 +11,15 @@ use Rattle.xg_closer.proofs.PlayedSets.{few_at, played_at, small_at}
 use Rattle.xg_closer.proofs.playing.play_sets.Goals as goal
 
 pub loop-set-init : goal.loop-set-init
-loop-set-init c = (
+loop-set-init g c = (
   refl,
   λ s low.
       let first : s ≡ 0 = omega arith in
-      ap (λ s. slice_index c.args.play.now s) first ∙ c.gives_none_to_empty.ensures.none ∙ ap (λ s. slice_index (play_of (player_sets c.args.form.now c.args.player) c.args.regrets.now) s) (sym first),
+      ap (λ s. slice_index c.args.play.now s) first ∙ c.gives_none_to_empty.ensures.none ∙ ap (λ s. slice_index (play_of (player_sets c.args.form.now c.args.player) (map g.R.Worth.amount c.args.regrets.now)) s) (sym first),
 )
 
 pub play_set-requires-clause-from_one : goal.play_set-requires-clause-from_one
-play_set-requires-clause-from_one c =
+play_set-requires-clause-from_one g c =
     let sets : List InformationSet = player_sets c.args.form.now c.args.player in
     let m : ℕ = c.loop-set.set in
     let same : m + 1 - 1 ≡ m = omega arith in
@@ -29,7 +29,7 @@ play_set-requires-clause-from_one c =
     omega (arith, at.first)
 
 pub play_set-requires-clause-some : goal.play_set-requires-clause-some
-play_set-requires-clause-some c =
+play_set-requires-clause-some g c =
     let sets : List InformationSet = player_sets c.args.form.now c.args.player in
     let m : ℕ = c.loop-set.set in
     let same : m + 1 - 1 ≡ m = omega arith in
@@ -39,7 +39,7 @@ play_set-requires-clause-some c =
     at.some
 
 pub play_set-requires-clause-few : goal.play_set-requires-clause-few
-play_set-requires-clause-few c =
+play_set-requires-clause-few g c =
     let sets : List InformationSet = player_sets c.args.form.now c.args.player in
     let m : ℕ = c.loop-set.set in
     let same : m + 1 - 1 ≡ m = omega arith in
@@ -49,7 +49,7 @@ play_set-requires-clause-few c =
     few_at sets m h c.sets_are_kept.ensures.few_actions below at
 
 pub play_set-requires-clause-inside : goal.play_set-requires-clause-inside
-play_set-requires-clause-inside c =
+play_set-requires-clause-inside g c =
     let sets : List InformationSet = player_sets c.args.form.now c.args.player in
     let m : ℕ = c.loop-set.set in
     let same : m + 1 - 1 ≡ m = omega arith in
@@ -59,7 +59,7 @@ play_set-requires-clause-inside c =
     omega (arith, at.inside, c.requires.as_regrets)
 
 pub play_set-requires-clause-limit : goal.play_set-requires-clause-limit
-play_set-requires-clause-limit c =
+play_set-requires-clause-limit g c =
     let sets : List InformationSet = player_sets c.args.form.now c.args.player in
     let m : ℕ = c.loop-set.set in
     let same : m + 1 - 1 ≡ m = omega arith in
@@ -69,17 +69,17 @@ play_set-requires-clause-limit c =
     omega (arith, c.sets_are_kept.ensures.limit, c.requires.as_regrets)
 
 pub play_set-requires-clause-small : goal.play_set-requires-clause-small
-play_set-requires-clause-small c =
+play_set-requires-clause-small g c =
     let sets : List InformationSet = player_sets c.args.form.now c.args.player in
     let m : ℕ = c.loop-set.set in
     let same : m + 1 - 1 ≡ m = omega arith in
     let h : PlacedSet = placed_as c.placement_of-place.result in
     let below : m < length sets = omega (arith, c.set_count-set-end.ensures) in
     let at : IsAt sets m h = is_at sets m h c.sets_are_kept.ensures.order below (ap (slice_get (placed sets)) (sym same) ∙ c.placement_of-place.ensures) in
-    small_at sets c.args.regrets.now m h at c.requires.small (few_at sets m h c.sets_are_kept.ensures.few_actions below at)
+    small_at sets (map g.R.Worth.amount c.args.regrets.now) m h at c.requires.small (few_at sets m h c.sets_are_kept.ensures.few_actions below at)
 
 pub loop-set-preserved : goal.loop-set-preserved
-loop-set-preserved c =
+loop-set-preserved g c =
     let sets : List InformationSet = player_sets c.args.form.now c.args.player in
     let m : ℕ = c.loop-set.set in
     let same : m + 1 - 1 ≡ m = omega arith in
@@ -94,29 +94,29 @@ loop-set-preserved c =
           let i : ℕ = s - h.first in
           let is : h.first + i ≡ s = omega arith in
           let inside : i < h.actions = omega (arith, at.next) in
-          ap (λ s. slice_index c.play_set.new.play s) (sym is) ∙ c.play_set.ensures.given i inside ∙ sym (played_at sets c.args.regrets.now m h at i inside)
-          ∙ ap (λ s. slice_index (play_of sets c.args.regrets.now) s) is)
+          ap (λ s. slice_index c.play_set.new.play s) (sym is) ∙ c.play_set.ensures.given i inside ∙ sym (played_at sets (map g.R.Worth.amount c.args.regrets.now) m h at i inside)
+          ∙ ap (λ s. slice_index (play_of sets (map g.R.Worth.amount c.args.regrets.now)) s) is)
           (cases_lt s h.first),
     )
 
 pub returns-clause-by_regrets : goal.returns-clause-by_regrets
-returns-clause-by_regrets c =
+returns-clause-by_regrets g c =
     let sets : List InformationSet = player_sets c.args.form.now c.args.player in
     let done : c.loop-set.set ≡ length sets = omega (arith, c.set_count-set-end.ensures) in
     let all : start_of sets c.loop-set.set ≡ sequence_count sets = ap (start_of sets) done ∙ ap sequence_count (take_all (length sets) sets (omega arith)) in
-    let count = (plays_each_set sets c.args.regrets.now).all_sequences in
-    same_number_lists c.loop-set.play (play_of sets c.args.regrets.now) (c.loop-set.invariant.0 ∙ c.requires.as_play ∙ sym count)
+    let count = (plays_each_set sets (map g.R.Worth.amount c.args.regrets.now)).all_sequences in
+    same_number_lists c.loop-set.play (play_of sets (map g.R.Worth.amount c.args.regrets.now)) (c.loop-set.invariant.0 ∙ c.requires.as_play ∙ sym count)
     (λ s low. c.loop-set.invariant.1 s (omega (arith, all, count, c.loop-set.invariant.0, c.requires.as_play)))
 
 pub returns-clause-all_units : goal.returns-clause-all_units
-returns-clause-all_units c =
+returns-clause-all_units g c =
     let sets : List InformationSet = player_sets c.args.form.now c.args.player in
     let done : c.loop-set.set ≡ length sets = omega (arith, c.set_count-set-end.ensures) in
     let all : start_of sets c.loop-set.set ≡ sequence_count sets = ap (start_of sets) done ∙ ap sequence_count (take_all (length sets) sets (omega arith)) in
-    let count = (plays_each_set sets c.args.regrets.now).all_sequences in
-    let is : c.loop-set.play ≡ play_of sets c.args.regrets.now = same_number_lists c.loop-set.play (play_of sets c.args.regrets.now) (c.loop-set.invariant.0 ∙ c.requires.as_play ∙ sym count)
+    let count = (plays_each_set sets (map g.R.Worth.amount c.args.regrets.now)).all_sequences in
+    let is : c.loop-set.play ≡ play_of sets (map g.R.Worth.amount c.args.regrets.now) = same_number_lists c.loop-set.play (play_of sets (map g.R.Worth.amount c.args.regrets.now)) (c.loop-set.invariant.0 ∙ c.requires.as_play ∙ sym count)
     (λ s low. c.loop-set.invariant.1 s (omega (arith, all, count, c.loop-set.invariant.0, c.requires.as_play))) in
-    subst (λ play. GivesAllUnits play sets) (sym is) (plays_all_units sets c.args.regrets.now c.sets_are_kept.ensures.order)
+    subst (λ play. GivesAllUnits play sets) (sym is) (plays_all_units sets (map g.R.Worth.amount c.args.regrets.now) c.sets_are_kept.ensures.order)
 
 pub returns-clause-count : goal.returns-clause-count
-returns-clause-count c = c.loop-set.invariant.0
+returns-clause-count g c = c.loop-set.invariant.0

@@ -3,7 +3,7 @@ use Rattle.std.specs.Int.{int_wrap, w128}
 use Rattle.std.proofs.lemmas.Int.{to_z-of_z}
 use Rattle.std.proofs.lemmas.List.{get_or-map, get_or-set_other, get_or-set_same, length-map, map-set}
 use Rattle.xg_closer.proofs.worths.add_worth.Goals as goal
-use Rattle.def_rows.specs.Rows.{amount_of}
+use Rattle.def_plan.specs.FormRows.{amount_of}
 
 pub returns-clause-here : goal.returns-clause-here
 returns-clause-here g c =

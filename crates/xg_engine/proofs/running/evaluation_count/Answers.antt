@@ -1,6 +1,6 @@
 use Rattle.std.proofs.Common.{◌+◌, ◌*◌, ◌-◌, ◌/◌, length, min, ap, sym, ◌∙◌}
 use Rattle.std.proofs.lemmas.List.FromFn.{length-map-range_with_len}
-use Rattle.def_bracket.proofs.EvaluatedRounds.{rounds}
+use Rattle.def_reply.proofs.EvaluatedRounds.{rounds}
 use Rattle.xg_engine.proofs.running.evaluation_count.Goals as goal
 
 pub returns : goal.returns

@@ -1,5 +1,5 @@
 use Rattle.std.proofs.Common.{map, arith}
-use Rattle.def_rows.specs.Rows.{amount_of}
+use Rattle.def_plan.specs.FormRows.{amount_of}
 use Rattle.xg_jobs.proofs.Parts.{row_untouched}
 use Rattle.xg_jobs.proofs.both.add_group.Goals as goal
 

@@ -1,5 +1,5 @@
 use Rattle.std.proofs.Common.{◌≡◌, ℕ, ◌<◌, ◌+ℤ◌, map}
-use Rattle.def_rows.specs.Rows.{amount_of}
+use Rattle.def_plan.specs.FormRows.{amount_of}
 use Rattle.xg_jobs.specs.Groups.{group_at, group_sum, parts_sum}
 use Rattle.xg_jobs.proofs.both.both_rows.Given as goal
 

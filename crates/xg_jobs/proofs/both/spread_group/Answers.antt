@@ -2,7 +2,7 @@ use Rattle.std.proofs.Common.{◌≡◌, ℕ, ◌<◌, ◌≤◌, ◌+◌, ◌*�
 use Rattle.std.specs.Int.{w64}
 use Rattle.std.proofs.lemmas.Int.{to_z-of_z}
 use Rattle.std.proofs.lemmas.List.{length-map}
-use Rattle.def_rows.specs.Rows.{amount_of}
+use Rattle.def_plan.specs.FormRows.{amount_of}
 use Rattle.std.proofs.lemmas.Bool.{cases_eq}
 use Rattle.def_sums.proofs.RingLaws.{+ℤ_assoc}
 use Rattle.xg_jobs.specs.Groups.{GroupLeaf, group_sum, group_part, group_mass}

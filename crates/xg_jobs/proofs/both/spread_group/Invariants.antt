@@ -1,5 +1,5 @@
 use Rattle.std.proofs.Common.{◌≡◌, ℕ, ◌+ℤ◌, take, map}
-use Rattle.def_rows.specs.Rows.{amount_of}
+use Rattle.def_plan.specs.FormRows.{amount_of}
 use Rattle.xg_jobs.specs.Groups.{group_part, group_sum}
 use Rattle.xg_jobs.proofs.both.spread_group.Given as goal
 

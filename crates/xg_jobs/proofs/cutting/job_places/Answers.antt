@@ -1,6 +1,6 @@
 use Rattle.std.proofs.Common.{◌≡◌, ℕ, [], ◌∷◌, List, length, sym, ap, subst, ◌∙◌, arith, rules}
 use Rattle.std.proofs.lemmas.Bool.{not-true}
-use Rattle.def_game_jobs.specs.Jobs.{jobs_within, most_jobs, most_passes}
+use Rattle.def_history.specs.Jobs.{jobs_within, most_jobs, most_passes}
 use Rattle.def_tree.specs.Tree.{Forest}
 use Rattle.xg_jobs.specs.Cutting.{AreJobs}
 use Rattle.xg_jobs.proofs.JobsAfterPasses.{whole_job, within_end, within_more}

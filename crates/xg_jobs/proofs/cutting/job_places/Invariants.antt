@@ -1,5 +1,5 @@
 use Rattle.std.proofs.Common.{◌≡◌, ◌≤◌, length}
-use Rattle.def_game_jobs.specs.Jobs.{jobs_within, most_jobs}
+use Rattle.def_history.specs.Jobs.{jobs_within, most_jobs}
 use Rattle.def_tree.specs.Tree.{Forest, tree_count}
 use Rattle.xg_jobs.specs.Cutting.{AreJobs}
 use Rattle.xg_jobs.specs.Tops.{tops_from}

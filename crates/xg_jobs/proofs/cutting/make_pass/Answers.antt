@@ -1,7 +1,7 @@
 use Rattle.std.proofs.Common.{◌≡◌, ℕ, ◌+◌, ◌-◌, ◌++◌, [], ◌∷◌, ◌&&◌, nat_le, length, length-append, get_or, false, true, sym, ap, subst, ◌∙◌, arith}
 use Rattle.std.proofs.lemmas.Bool.{and_parts}
 use Rattle.std.proofs.lemmas.List.{get_or_default, drop_more}
-use Rattle.def_game_jobs.specs.Jobs.{most_jobs}
+use Rattle.def_history.specs.Jobs.{most_jobs}
 use Rattle.xg_jobs.specs.declared.tops.TopNode.{TopNode}
 use Rattle.xg_jobs.proofs.OnePassOverJobs.{PassSome, pass_cut, pass_kept, fits_in, job_at, job_inside, jobs_counted, none_passed, tells_job}
 use Rattle.xg_jobs.proofs.cutting.make_pass.Goals as goal

@@ -1,6 +1,6 @@
 use Rattle.std.proofs.Common.{◌≡◌, ◌+◌, ◌-◌, ◌≤◌, List, length}
 use Rattle.def_tree.specs.Tree.{Forest}
-use Rattle.def_game_jobs.specs.Jobs.{most_jobs}
+use Rattle.def_history.specs.Jobs.{most_jobs}
 use Rattle.xg_jobs.specs.Cutting.{AreJobs}
 use Rattle.xg_jobs.proofs.OnePassOverJobs.{PassSome}
 use Rattle.xg_jobs.proofs.cutting.make_pass.Given as goal

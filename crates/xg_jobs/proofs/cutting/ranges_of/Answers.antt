@@ -1,7 +1,7 @@
 use Rattle.std.proofs.Common.{◌≤◌, ◌+◌, ℕ, length, get_or, refl, ap, sym, subst, ◌∙◌, arith}
 use Rattle.std.proofs.lemmas.List.{drop_all, drop_more}
-use Rattle.def_game_jobs.specs.Jobs.{jobs_of}
-use Rattle.def_game_jobs.proofs.Cuts.{length-jobs_of}
+use Rattle.def_history.specs.Jobs.{jobs_of}
+use Rattle.def_history.proofs.Cuts.{length-jobs_of}
 use Rattle.def_tree.specs.Tree.{prefix, leaf_count}
 use Rattle.def_tree.specs.Rules.{most_nodes}
 use Rattle.xg_jobs.specs.declared.table.LeafRange.{LeafRange}

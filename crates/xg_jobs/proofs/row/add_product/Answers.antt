@@ -2,7 +2,7 @@ use Rattle.std.proofs.Common.{◌<◌, length, get_or, pos, ◌+ℤ◌, ◌*ℤ�
 use Rattle.std.specs.Int.{w64}
 use Rattle.std.proofs.lemmas.Int.{to_z-of_z}
 use Rattle.std.proofs.lemmas.List.{get_or-map, get_or-set_other, get_or-set_same, length-map, map-set}
-use Rattle.def_rows.specs.Rows.{amount_of}
+use Rattle.def_plan.specs.FormRows.{amount_of}
 use Rattle.xg_jobs.proofs.row.add_product.Goals as goal
 
 pub returns-clause-here : goal.returns-clause-here

@@ -2,7 +2,7 @@ use Rattle.std.proofs.Common.{◌≡◌, ℕ, ◌+◌, ◌<◌, ◌≤◌, max, 
 use Rattle.std.proofs.lemmas.List.{length-map}
 use Rattle.def_sums.specs.Limits.{most_root}
 use Rattle.def_plan.specs.Form.{SequenceForm, sequence_count}
-use Rattle.def_rows.specs.Rows.{amount_of}
+use Rattle.def_plan.specs.FormRows.{amount_of}
 use Rattle.xg_jobs.specs.Groups.{GroupLeaf, greatest_of, group_at, parts_sum}
 use Rattle.xg_jobs.specs.Rows.{Amounts}
 use Rattle.xg_jobs.specs.Writing.{CanWrite}

@@ -1,5 +1,5 @@
 use Rattle.std.proofs.Common.{◌<◌, ◌^◌, arith, get_or}
-use Rattle.def_shares.proofs.SharesLaws.{prefix-more}
+use Rattle.def_round.proofs.SharesLaws.{prefix-more}
 use Rattle.xg_plan.proofs.checking.total.Goals as goal
 
 pub loop-weight-preserved : goal.loop-weight-preserved

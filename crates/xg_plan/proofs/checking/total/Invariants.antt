@@ -1,5 +1,5 @@
 use Rattle.std.proofs.Common.{◌≡◌, ◌*◌, ◌≤◌, ◌^◌}
-use Rattle.def_shares.specs.Shares.{prefix_sum}
+use Rattle.def_round.specs.Shares.{prefix_sum}
 use Rattle.xg_plan.proofs.checking.total.Given as goal
 
 abbrev pub invariant-loop-weight : goal.invariant-loop-weight

@@ -1,5 +1,5 @@
 use Rattle.std.proofs.Common.{◌≡◌, ◌+◌, ◌∙◌, arith, get_or, refl, sym}
-use Rattle.def_shares.specs.Shares.{prefix_share}
+use Rattle.def_round.specs.Shares.{prefix_share}
 use Rattle.xg_plan.proofs.ShareLemmas.{DealStep, dealt_is_shares, dealt_more, step_of}
 use Rattle.xg_plan.proofs.dealing.deal_to_many.Goals as goal
 

@@ -1,7 +1,7 @@
 use Rattle.std.proofs.Common.{◌≡◌, ◌≢◌, ◌+◌, ◌-◌, ◌*◌, ◌/◌, ◌<◌, ◌≤◌, ◌∙◌, List, ap, arith, get_or, length, sym, ℕ}
 use Rattle.std.proofs.Math.ListN.{set}
 use Rattle.std.proofs.lemmas.List.{get_or-set_other, get_or-set_same, length-set}
-use Rattle.def_shares.proofs.SharesLaws.{prefix-more}
+use Rattle.def_round.proofs.SharesLaws.{prefix-more}
 use Rattle.xg_plan.proofs.ShareLemmas.{prefix-within, quotient_within, two_shares}
 use Rattle.xg_plan.proofs.dealing.deal_to_two.Goals as goal
 

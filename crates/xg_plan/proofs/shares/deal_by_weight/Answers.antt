@@ -1,5 +1,5 @@
 use Rattle.std.proofs.Common.{◌≡◌, ◌+◌, ◌∙◌, List, arith, map, unsigned_abs, ℕ}
-use Rattle.def_shares.specs.Shares.{prefix_share}
+use Rattle.def_round.specs.Shares.{prefix_share}
 use Rattle.xg_plan.proofs.ShareLemmas.{DealStep, dealt_is_shares, dealt_more, length-sizes, step_of}
 use Rattle.xg_plan.proofs.shares.deal_by_weight.Goals as goal
 

@@ -1,5 +1,5 @@
 use Rattle.std.proofs.Common.{◌≡◌, ◌+◌, ◌<◌, get_or, map, unsigned_abs, ℕ}
-use Rattle.def_shares.specs.Shares.{prefix_share, prefix_sum}
+use Rattle.def_round.specs.Shares.{prefix_share, prefix_sum}
 use Rattle.xg_plan.proofs.shares.deal_by_weight.Given as goal
 
 abbrev pub invariant-loop-i : goal.invariant-loop-i

@@ -1,6 +1,6 @@
 use Rattle.std.proofs.Common.{◌≡◌, ◌+◌, List, ap, arith, length, map, unsigned_abs, ℕ}
-use Rattle.def_shares.specs.Shares.{prefix_sum}
-use Rattle.def_shares.proofs.SharesLaws.{prefix-all, prefix-more}
+use Rattle.def_round.specs.Shares.{prefix_sum}
+use Rattle.def_round.proofs.SharesLaws.{prefix-all, prefix-more}
 use Rattle.xg_plan.proofs.ShareLemmas.{length-sizes, prefix-within}
 use Rattle.xg_plan.proofs.shares.total.Goals as goal
 

@@ -1,5 +1,5 @@
 use Rattle.std.proofs.Common.{◌≡◌, map, unsigned_abs}
-use Rattle.def_shares.specs.Shares.{prefix_sum}
+use Rattle.def_round.specs.Shares.{prefix_sum}
 use Rattle.xg_plan.proofs.shares.total.Given as goal
 
 abbrev pub invariant-loop-i : goal.invariant-loop-i

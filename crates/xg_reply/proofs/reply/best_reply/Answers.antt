@@ -8,7 +8,7 @@ use Rattle.xg_reply.specs.Replies.{reply_to_sums}
 use Rattle.xg_reply.proofs.Passes.{passed-more, passed-none, passed-reply, passed-worths, sizes_of_rows, sum_small}
 use Rattle.xg_reply.proofs.AgainstPlans.{against_plan, attains_ceiling, attains_floor, is_ceiling, is_floor}
 use Rattle.xg_reply.proofs.reply.best_reply.Goals as goal
-use Rattle.def_rows.specs.Rows.{amount_of}
+use Rattle.def_plan.specs.FormRows.{amount_of}
 
 pub loop-k-init : goal.loop-k-init
 loop-k-init c =

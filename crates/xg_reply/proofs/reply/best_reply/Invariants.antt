@@ -1,7 +1,7 @@
 use Rattle.def_plan.specs.Form.{player_sets}
 use Rattle.xg_reply.proofs.Passes.{HasPassed}
 use Rattle.xg_reply.proofs.reply.best_reply.Given as goal
-use Rattle.def_rows.specs.Rows.{amount_of}
+use Rattle.def_plan.specs.FormRows.{amount_of}
 
 abbrev pub invariant-loop-k : goal.invariant-loop-k
 invariant-loop-k l =

@@ -1,6 +1,6 @@
 use Rattle.std.proofs.Common.{◌≡◌, ℕ, ◌<◌, length}
 use Rattle.xg_reply.proofs.reply.put_rows.Given as goal
-use Rattle.def_rows.specs.Rows.{amount_of}
+use Rattle.def_plan.specs.FormRows.{amount_of}
 
 abbrev pub invariant-loop-s : goal.invariant-loop-s
 invariant-loop-s l = record {

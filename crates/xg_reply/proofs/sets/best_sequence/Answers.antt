@@ -2,7 +2,7 @@ use Rattle.std.proofs.Common.{arith}
 use Rattle.def_sums.proofs.Ranges.{All-range}
 use Rattle.def_plan.specs.Payoff.{IsNoBetter}
 use Rattle.xg_reply.proofs.sets.best_sequence.Goals as goal
-use Rattle.def_rows.specs.Rows.{amount_of}
+use Rattle.def_plan.specs.FormRows.{amount_of}
 
 pub returns-clause-best : goal.returns-clause-best
 returns-clause-best c =

@@ -5,7 +5,7 @@ use Rattle.def_reply.specs.Reply.{SetReply}
 use Rattle.xg_reply.specs.Replies.{placed_set}
 use Rattle.xg_reply.proofs.FirstBest.{reply_of_set}
 use Rattle.xg_reply.proofs.sets.put_reply.Goals as goal
-use Rattle.def_rows.specs.Rows.{amount_of}
+use Rattle.def_plan.specs.FormRows.{amount_of}
 
 pub add_worth-requires-clause-small : goal.add_worth-requires-clause-small
 add_worth-requires-clause-small c =

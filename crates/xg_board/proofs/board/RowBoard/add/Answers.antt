@@ -1,7 +1,7 @@
 use Rattle.std.proofs.Common.{◌≡◌, ◌<◌, ◌%◌, ◌+◌, [], sym, ap, ◌∙◌, subst, rules}
 use Rattle.std.proofs.lemmas.Nat.{mod_below}
-use Rattle.xg_rights.specs.declared.view.View.{View}
-use Rattle.xg_rights.specs.Rights.{seen}
+use Rattle.xg_locked.specs.declared.view.View.{View}
+use Rattle.xg_locked.specs.Rights.{seen}
 use Rattle.xg_locked.specs.Locked.{without}
 use Rattle.xg_board.specs.Visits.{HoldsLeft}
 use Rattle.xg_board.specs.Holdings.{view_of}

@@ -1,5 +1,5 @@
 use Rattle.std.proofs.Common.{◌≡◌, []}
-use Rattle.xg_rights.specs.Rights.{seen}
+use Rattle.xg_locked.specs.Rights.{seen}
 use Rattle.xg_board.specs.Visits.{HoldsLeft}
 use Rattle.xg_board.proofs.board.RowBoard.add.Given as goal
 

@@ -2,8 +2,8 @@ use Rattle.std.proofs.Common.{◌≡◌, ◌<◌, ◌+◌, ◌-◌, ◌++◌, []
 use Rattle.std.specs.Prelude.{vec_len}
 use Rattle.def_history.specs.Core.{Right}
 use Rattle.xg_jobs.specs.Rows.{all_rows}
-use Rattle.xg_rights.specs.declared.view.View.{View}
-use Rattle.xg_rights.specs.Rights.{number_from, rights_for, stripes_of, IsLoaded}
+use Rattle.xg_locked.specs.declared.view.View.{View}
+use Rattle.xg_locked.specs.Rights.{number_from, rights_for, stripes_of, IsLoaded}
 use Rattle.xg_board.specs.Closing.{Gathered}
 use Rattle.xg_board.specs.Holdings.{tickets_of}
 use Rattle.xg_board.proofs.GatheredIsPlainSum.{ended}

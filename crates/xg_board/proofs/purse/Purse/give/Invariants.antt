@@ -1,5 +1,5 @@
 use Rattle.std.proofs.Common.{[], ◌-◌}
-use Rattle.xg_rights.specs.Rights.{seen}
+use Rattle.xg_locked.specs.Rights.{seen}
 use Rattle.xg_board.proofs.purse.Purse.give.Given as goal
 
 abbrev pub ghosts-give_pass : goal.ghosts-give_pass

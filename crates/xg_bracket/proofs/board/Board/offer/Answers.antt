@@ -1,7 +1,7 @@
 use Rattle.std.proofs.Common.{◌≡◌, ◌<◌, ◌++◌, [], ◌∷◌, All, List, length, map, vec_capacity, arith, ap, sym, subst, ◌∙◌, refl}
 use Rattle.std.proofs.lemmas.List.{length-map}
-use Rattle.def_bracket.specs.Bracket.{LiesWithin, TraceLine as Line}
-use Rattle.def_bracket.specs.Offers.{Offer, lower_of, upper_of}
+use Rattle.def_reply.specs.Bracket.{LiesWithin, TraceLine as Line}
+use Rattle.def_reply.specs.Offers.{Offer, lower_of, upper_of}
 use Rattle.xg_bracket.specs.Board.{SizedBoard, offer_of}
 use Rattle.xg_bracket.specs.Ends.{line_seen, line_with}
 use Rattle.xg_bracket.proofs.Offered.{bounded_lower, bounded_upper, can_keep_lower, can_keep_upper}

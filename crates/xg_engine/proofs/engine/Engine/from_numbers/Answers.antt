@@ -1,5 +1,5 @@
 use Rattle.std.proofs.Common.{◌≡◌, ◌∙◌, ap, subst, sym}
-use Rattle.def_cert_verdict.specs.Verdict.{WeighedGame}
+use Rattle.def_plan.specs.Weighed.{WeighedGame}
 use Rattle.def_file.specs.Content.{GameFile}
 use Rattle.def_game_numbers.specs.Numbers.{tables_of}
 use Rattle.def_plan.specs.Form.{SequenceForm}

@@ -1,5 +1,5 @@
 use Rattle.std.proofs.Common.{rules, ◌≡◌, ◌≤◌, subst, sym}
-use Rattle.def_bracket.specs.Outcome.{Head, Outcome}
+use Rattle.def_reply.specs.Outcome.{Head, Outcome}
 use Rattle.def_fraction.specs.Fraction.{most}
 use Rattle.def_plan.specs.Form.{SequenceForm}
 use Rattle.def_run.specs.Run.{outcome}

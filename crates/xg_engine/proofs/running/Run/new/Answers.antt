@@ -1,5 +1,5 @@
 use Rattle.std.proofs.Common.{ap, subst, arith}
-use Rattle.def_bracket.specs.Offers.{Board}
+use Rattle.def_reply.specs.Offers.{Board}
 use Rattle.xg_bracket.specs.Board.{last_round}
 use Rattle.xg_engine.specs.Evaluations.{CanEvaluate}
 use Rattle.xg_engine.proofs.running.Run.new.Goals as goal

@@ -1,9 +1,8 @@
 use Rattle.std.proofs.Common.{◌+◌, length, ap, subst, arith, ◌∙◌, sym}
-use Rattle.def_bracket.specs.Offers.{Board}
+use Rattle.def_reply.specs.Offers.{Board, board_after}
 use Rattle.xg_engine.specs.Evaluations.{CanEvaluate}
 use Rattle.xg_engine.proofs.Growing.{sums_of_players}
 use Rattle.xg_engine.proofs.Offering.{due_now, evaluated_once_more, last_is_now, not_due, offers_same, room_for_more}
-use Rattle.def_bracket.specs.Offers.{board_after}
 use Rattle.xg_engine.proofs.running.Run.step.Goals as goal
 
 pub evaluate-requires-clause-plans : goal.evaluate-requires-clause-plans

@@ -1,5 +1,5 @@
 use Rattle.std.proofs.Common.{◌≡◌, ap, ◌∙◌, map}
-use Rattle.def_game_jobs.specs.Ranges.{job_ranges}
+use Rattle.def_history.specs.Ranges.{job_ranges}
 use Rattle.def_tree.specs.declared.Player.TheVariants.{One}
 use Rattle.xg_touched.specs.Touched.{job_rows}
 use Rattle.xg_jobs.specs.Grouping.{pair_weights}

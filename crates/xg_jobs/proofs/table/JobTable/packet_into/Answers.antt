@@ -1,11 +1,11 @@
 use Rattle.std.proofs.Common.{◌+◌, ◌≤◌, List, length, get_or, sym, ap, subst, ◌∙◌, arith}
-use Rattle.def_game_jobs.specs.Ranges.{LeafRange}
+use Rattle.def_history.specs.Ranges.{LeafRange}
 use Rattle.def_history.specs.Leaves.{amounts}
 use Rattle.def_history.specs.Packets.{IsPacketOf}
-use Rattle.def_history_rows.specs.JobPackets.{packet_of}
-use Rattle.def_history_rows.specs.JobRows.{leaf_amount}
-use Rattle.def_history_rows.proofs.JobPackets.{touched_rows_make_packets}
-use Rattle.def_rows.specs.Rows.{row_count}
+use Rattle.def_history.specs.JobPackets.{packet_of}
+use Rattle.def_history.specs.JobRows.{leaf_amount}
+use Rattle.def_history.proofs.JobPackets.{touched_rows_make_packets}
+use Rattle.def_plan.specs.FormRows.{row_count}
 use Rattle.xg_rowcore.specs.Packets.{Listed}
 use Rattle.xg_jobs.specs.Table.{TableOfJobs}
 use Rattle.xg_jobs.proofs.TouchedJobs.{job_is_touched}

@@ -4,7 +4,7 @@ use Rattle.std.specs.List.Sorted.{IsStrictlyIncreasing}
 use Rattle.std.proofs.lemmas.List.{length-map}
 use Rattle.std.proofs.lemmas.List.Elements.{All-get_or}
 use Rattle.def_plan.specs.Form.{Leaf, sequence_count}
-use Rattle.def_history_rows.specs.JobRows.{form_leaf}
+use Rattle.def_history.specs.JobRows.{form_leaf}
 use Rattle.xg_rowcore.specs.Packets.{Listed}
 use Rattle.xg_seq.specs.Leaves.{leaf_of, HasSequences}
 use Rattle.xg_touched.specs.declared.touched.LeafPlaces.{LeafPlaces}

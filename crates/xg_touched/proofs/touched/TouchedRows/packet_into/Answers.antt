@@ -1,6 +1,6 @@
 use Rattle.std.proofs.Common.{length, sym, ap, ◌∙◌}
-use Rattle.def_game_jobs.specs.Ranges.{LeafRange}
-use Rattle.def_history_rows.proofs.JobRows.{by_number}
+use Rattle.def_history.specs.Ranges.{LeafRange}
+use Rattle.def_history.proofs.JobRows.{by_number}
 use Rattle.xg_rowcore.specs.Packets.{Listed}
 use Rattle.xg_touched.specs.Touched.{JobRows}
 use Rattle.xg_touched.specs.Filling.{entries_at_rows}
