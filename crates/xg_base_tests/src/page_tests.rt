@@ -3,8 +3,7 @@ ghost use Rattle.std.specs.Prelude.{◌<◌};
 
 use std::alloc::Global;
 use std::test::Fail;
-use xg_io::{Failed, MemSink, Sink, WriteFault};
-use xg_page::{Text, write_paged};
+use xg_io::{Failed, MemSink, Sink, Text, WriteFault, write_paged};
 
 /// How much a sink took, and in how many pieces.
 #[derive(Drop)]
@@ -19,6 +18,8 @@ impl Sink for Tally {
     ghost written = { λ _. None };
 
     ghost faults = { λ _. 0 };
+
+    ghost failed_length = { λ _. 0 };
 
     fn write(&mut self, piece: &[u8]) -> Result<usize, Failed> {
         self.bytes = self.bytes.saturating_add(piece.len());

@@ -1,5 +1,5 @@
 //! The adapters over sources and sinks of the tests' own, which fail and stop short where a test wants it.
-ghost use Rattle.std.specs.Prelude.{◌≡◌, None, true, IsErr};
+ghost use Rattle.std.specs.Prelude.{◌≡◌, ◌≢◌, None, true, IsErr};
 
 use std::alloc::{Allocator, Global};
 use std::fs::{Metadata, OpenFile, OpenOptions};
@@ -143,12 +143,14 @@ impl OpenFile for Source {
     }
 }
 
-/// The adapter over a system with one file. It counts the faults too, and its type says that this is the adapter's own
-/// count, which no call tells.
+/// The adapter over a system with one file. It counts the opens and the faults too, and its type says that these are the
+/// adapter's own counts, which no call tells.
 #[derive(Drop)]
 struct CountedFiles {
     files: RealFiles<OneFile>,
+    opens: u64,
     faults: u64,
+    ghost same_opens: { ⟦<RealFiles<OneFile> as Files>⟧.opens files ≡ opens },
     ghost same_faults: { ⟦<RealFiles<OneFile> as Files>⟧.faults files ≡ faults },
 }
 
@@ -163,10 +165,13 @@ impl Files for CountedFiles {
 
     ghost taken = { λ c. ⟦<RealFiles<OneFile> as Files>⟧.taken c.files };
 
+    ghost opens = { λ c. ⟦<RealFiles<OneFile> as Files>⟧.opens c.files };
+
     ghost faults = { λ c. ⟦<RealFiles<OneFile> as Files>⟧.faults c.files };
 
     fn open(&mut self, alloc: Global, name: &str) -> Result<(), OpenFault> {
         let opened = self.files.open(alloc, name);
+        self.opens = self.opens.saturating_add(1);
         if let Err(OpenFault::Failed) = opened {
             self.faults = self.faults.saturating_add(1);
         }
@@ -193,6 +198,7 @@ fn refusing(name: usize, refusal: Option<ErrorKind>, failing: u64) -> CountedFil
             refusal,
             failing,
         }),
+        opens: 0,
         faults: 0,
     }
 }
@@ -228,7 +234,7 @@ fn counts(
     faults: u64,
 ) -> bool {
     let mut files = refusing(0, refusal, failing);
-    is_refused(alloc, &mut files, "game", 100, fault) && files.faults == faults
+    is_refused(alloc, &mut files, "game", 100, fault) && files.faults == faults && files.opens == 1
 }
 
 // The seven bytes come in three reads, and the fourth meets the end.
@@ -329,12 +335,15 @@ fn write_text(drain: &mut Drain) -> Result<(), WriteFault> {
     write_all(&mut RealSink::new(drain), b"text")
 }
 
-/// The adapter over a stream. It counts the faults too, as `CountedFiles` does.
+/// The adapter over a stream. It counts the faults too, as `CountedFiles` does, and keeps how long the piece was of the
+/// last one.
 #[derive(Drop)]
 struct CountedSink {
     sink: RealSink<Drain>,
     faults: u64,
+    failed_length: usize,
     ghost same_faults: { ⟦<RealSink<Drain> as Sink>⟧.faults sink ≡ faults },
+    ghost same_failed: { faults ≢ 0 → ⟦<RealSink<Drain> as Sink>⟧.failed_length sink ≡ failed_length },
 }
 
 impl Sink for CountedSink {
@@ -342,45 +351,49 @@ impl Sink for CountedSink {
 
     ghost faults = { λ c. ⟦<RealSink<Drain> as Sink>⟧.faults c.sink };
 
+    ghost failed_length = { λ c. ⟦<RealSink<Drain> as Sink>⟧.failed_length c.sink };
+
     fn write(&mut self, piece: &[u8]) -> Result<usize, Failed> {
         let written = self.sink.write(piece);
         if written.is_err() {
             self.faults = self.faults.saturating_add(1);
+            self.failed_length = piece.len();
         }
         written
     }
 }
 
-/// Writes the text by that adapter, and says how many faults were counted.
-fn write_counted(drain: Drain) -> (Result<(), WriteFault>, u64) {
+/// Writes the text by that adapter, and says how many faults were counted, and how long the piece was of the last one.
+fn write_counted(drain: Drain) -> (Result<(), WriteFault>, u64, usize) {
     let mut sink = CountedSink {
         sink: RealSink::new(drain),
         faults: 0,
+        failed_length: 0,
     };
     let result = write_all(&mut sink, b"text");
-    (result, sink.faults)
+    (result, sink.faults, sink.failed_length)
 }
 
 /// A stream by how many bytes it takes at once and at which call it fails, and what becomes of a text in it: the
-/// result, what is taken, and the count of faults.
-type Stream = (usize, u64, Result<(), WriteFault>, &'static str, u64);
+/// result, what is taken, the count of faults, and how much of the text was still to come at the last one.
+type Stream = (usize, u64, Result<(), WriteFault>, &'static str, u64, usize);
 
 static STREAMS: [Stream; 7] = [
-    (100, 0, Ok(()), "text", 0),
-    (1, 0, Ok(()), "text", 0),
-    (3, 0, Ok(()), "text", 0),
-    (1, 3, Err(WriteFault), "te", 1),
-    (3, 2, Err(WriteFault), "tex", 1),
-    (100, 1, Err(WriteFault), "", 1),
-    (0, 0, Err(WriteFault), "", 1),
+    (100, 0, Ok(()), "text", 0, 0),
+    (1, 0, Ok(()), "text", 0, 0),
+    (3, 0, Ok(()), "text", 0, 0),
+    (1, 3, Err(WriteFault), "te", 1, 2),
+    (3, 2, Err(WriteFault), "tex", 1, 1),
+    (100, 1, Err(WriteFault), "", 1, 4),
+    (0, 0, Err(WriteFault), "", 1, 4),
 ];
 
 fn takes_as_told(alloc: Global, stream: &Stream) -> bool {
-    let (most, failing, result, taken, faults) = *stream;
+    let (most, failing, result, taken, faults, to_come) = *stream;
     let mut seen = Drain::new(alloc, most, failing);
     write_text(&mut seen) == result
         && seen.taken.as_slice() == taken.as_bytes()
-        && write_counted(Drain::new(alloc, most, failing)) == (result, faults)
+        && write_counted(Drain::new(alloc, most, failing)) == (result, faults, to_come)
 }
 
 #[test]

@@ -7,71 +7,7 @@ use xg_check::{
 };
 use xg_frac::ratio;
 use xg_read::MOST_BYTES;
-
-const PENNIES: &str = r#"EFG 2 R "Pennies" { "A" "B" }
-p "" 1 1 "a" { "H" "T" } 0
-p "" 2 1 "b" { "h" "t" } 0
-t "" 1 "win" { 1, -1 }
-t "" 2 "lose" { -1, 1 }
-p "" 2 1 0
-t "" 2
-t "" 1
-"#;
-
-const PENNIES_TEXT: &str = r#"XGCERT 1
-nodes 7 leaves 4
-sets 1 1
-sequences 3 3
-unit 1
-mass 4
-rounds 1 every 1 scale 1048576
-trace 1 1 0 1 0
-plan 1 1048576
-weights 1 524288 524288
-reply 2 0
-value 1 0 1
-plan 2 1048576
-weights 1 524288 524288
-reply 1 0
-value 1 0 1
-bracket 0 0
-end
-"#;
-
-const PENNIES_HEAD: &str = r#"XGCERT 1
-nodes 7 leaves 4
-sets 1 1
-sequences 3 3
-unit 1
-mass 4
-rounds 0 every 1 scale 1048576
-end
-"#;
-
-const MOVER: &str = r#"EFG 2 R "One mover" { "A" "B" }
-p "" 1 1 "a" { "L" "R" } 0
-t "" 1 { 1, -1 }
-t "" 2 { 0, 0 }
-"#;
-
-const MOVER_TEXT: &str = r#"XGCERT 1
-nodes 3 leaves 2
-sets 1 0
-sequences 3 1
-unit 1
-mass 1
-rounds 2 every 1 scale 1048576
-trace 1 1 524288 1 1048576
-trace 2 2 1572864 1 1048576
-plan 1 2097152
-weights 1 1572864 524288
-reply 2 1572864
-plan 2 1048576
-reply 1 1048576
-value 1 1048576 1
-bracket 3/4 1
-end
-"#;
+use xg_test_data::{certificates, files};
 
 /// A part that stands first, and what takes its place.
 pub(crate) type Change = (&'static str, &'static str);
@@ -128,18 +64,25 @@ pub(crate) fn bounds(low: Ratio, high: Ratio) -> Result<Verdict, CheckFault> {
 fn accepts(rt: HostRuntime) -> Result<(), Fail> {
     let even = bounds(ratio(0, 1), ratio(0, 1));
     assert!(rt;
-        checked(&rt, rt.alloc(), PENNIES, PENNIES_TEXT) == even
-            && checked(&rt, rt.alloc(), PENNIES, PENNIES_HEAD) == Ok(Verdict::HeadOnly)
-            && checked(&rt, rt.alloc(), MOVER, MOVER_TEXT) == bounds(ratio(3, 4), ratio(1, 1))
+        checked(&rt, rt.alloc(), files::PENNIES, certificates::PENNIES) == even
+            && checked(&rt, rt.alloc(), files::PENNIES, certificates::PENNIES_HEAD)
+                == Ok(Verdict::HeadOnly)
+            && checked(&rt, rt.alloc(), files::ONE_MOVER, certificates::ONE_MOVER)
+                == bounds(ratio(3, 4), ratio(1, 1))
     );
     Ok(())
 }
 
 #[test]
 fn accepts_each_best_reply(rt: HostRuntime) -> Result<(), Fail> {
-    let other = changed(rt.alloc(), PENNIES_TEXT, "value 1 0 1", "value 1 0 2")?;
+    let other = changed(
+        rt.alloc(),
+        certificates::PENNIES,
+        "value 1 0 1",
+        "value 1 0 2",
+    )?;
     let even = bounds(ratio(0, 1), ratio(0, 1));
-    assert!(rt; checked(&rt, rt.alloc(), PENNIES, other.as_str()) == even);
+    assert!(rt; checked(&rt, rt.alloc(), files::PENNIES, other.as_str()) == even);
     Ok(())
 }
 
@@ -207,11 +150,23 @@ const MOVER_ROWS: &[Row] = &[(
 #[test]
 fn refuses(rt: HostRuntime) -> Result<(), Fail> {
     assert_eq!(rt;
-        first_other(&rt, rt.alloc(), PENNIES, PENNIES_TEXT, PENNIES_ROWS)?,
+        first_other(
+            &rt,
+            rt.alloc(),
+            files::PENNIES,
+            certificates::PENNIES,
+            PENNIES_ROWS
+        )?,
         None
     );
     assert_eq!(rt;
-        first_other(&rt, rt.alloc(), MOVER, MOVER_TEXT, MOVER_ROWS)?,
+        first_other(
+            &rt,
+            rt.alloc(),
+            files::ONE_MOVER,
+            certificates::ONE_MOVER,
+            MOVER_ROWS
+        )?,
         None
     );
     Ok(())
@@ -219,12 +174,12 @@ fn refuses(rt: HostRuntime) -> Result<(), Fail> {
 
 #[test]
 fn refuses_for_the_file(rt: HostRuntime) -> Result<(), Fail> {
-    let heavier = changed(rt.alloc(), PENNIES, "{ 1, -1 }", "{ 2, -2 }")?;
+    let heavier = changed(rt.alloc(), files::PENNIES, "{ 1, -1 }", "{ 2, -2 }")?;
     let head = CheckFault::HeadDiffers { line: 6 };
     // The file's fault comes before that of the text.
     let file = CheckFault::File(FileFault::Syntax { at: 0 });
     assert!(rt;
-        checked(&rt, rt.alloc(), heavier.as_str(), PENNIES_TEXT) == Err(head)
+        checked(&rt, rt.alloc(), heavier.as_str(), certificates::PENNIES) == Err(head)
             && checked(&rt, rt.alloc(), "NFG", "XGCERT 3\n") == Err(file)
     );
     Ok(())

@@ -7,83 +7,10 @@ use std::alloc::{AllocError, Global};
 use std::process::Abort;
 use std::test::Fail;
 use xg_cert::{Cert, CertFault, CertRefused, TraceRow, read_cert};
+use xg_test_data::certificates::{ONE_MOVER, PENNIES, PENNIES_BY_ONE_UNIT, PENNIES_HEAD};
 
-/// Matching pennies after one round.
-const PENNIES: &str = r#"XGCERT 1
-nodes 7 leaves 4
-sets 1 1
-sequences 3 3
-unit 1
-mass 4
-rounds 1 every 1 scale 1048576
-trace 1 1 0 1 0
-plan 1 1048576
-weights 1 524288 524288
-reply 2 0
-value 1 0 1
-plan 2 1048576
-weights 1 524288 524288
-reply 1 0
-value 1 0 1
-bracket 0 0
-end
-"#;
-
-/// How it ends, behind the word of its last line but one.
+/// How the text of matching pennies ends, behind the word of its last line but one.
 const ENDS: &str = "0 0\nend\n";
-
-/// A game with one mover after two rounds.
-const MOVER: &str = r#"XGCERT 1
-nodes 3 leaves 2
-sets 1 0
-sequences 3 1
-unit 1
-mass 1
-rounds 2 every 1 scale 1048576
-trace 1 1 524288 1 1048576
-trace 2 2 1572864 1 1048576
-plan 1 2097152
-weights 1 1572864 524288
-reply 2 1572864
-plan 2 1048576
-reply 1 1048576
-value 1 1048576 1
-bracket 3/4 1
-end
-"#;
-
-/// Matching pennies dealt in one unit, after two rounds.
-const ONE_UNIT: &str = r#"XGCERT 1
-nodes 7 leaves 4
-sets 1 1
-sequences 3 3
-unit 1
-mass 4
-rounds 2 every 1 scale 1
-trace 1 1 -1 1 1
-trace 2 1 -1 2 0
-plan 1 1
-weights 1 0 1
-reply 2 -1
-value 1 -1 1
-plan 2 2
-weights 1 1 1
-reply 1 0
-value 1 0 1
-bracket -1 0
-end
-"#;
-
-/// The same of a game of which no round was asked.
-const HEAD: &str = r#"XGCERT 1
-nodes 7 leaves 4
-sets 1 1
-sequences 3 3
-unit 1
-mass 4
-rounds 0 every 1 scale 1048576
-end
-"#;
 
 /// What is known of a player: the count of sets, the plan's numbers, the reply's total, and its value and choice at the
 /// first set.
@@ -137,7 +64,7 @@ const ROWS: &[Row] = &[
         high: (0, 1),
     },
     Row {
-        text: MOVER,
+        text: ONE_MOVER,
         rounds: 2,
         last_low: 1_572_864,
         last_high_round: 1,
@@ -161,7 +88,7 @@ const ROWS: &[Row] = &[
         high: (1, 1),
     },
     Row {
-        text: ONE_UNIT,
+        text: PENNIES_BY_ONE_UNIT,
         rounds: 2,
         last_low: -1,
         last_high_round: 2,
@@ -295,7 +222,7 @@ fn faults(rt: HostRuntime) -> Result<(), Fail> {
 
 #[test]
 fn a_head_alone(rt: HostRuntime) {
-    match read_cert(rt.alloc(), HEAD.as_bytes()) {
+    match read_cert(rt.alloc(), PENNIES_HEAD.as_bytes()) {
         Ok(cert) => assert!(rt; cert.head().rounds == 0 && cert.trace().is_empty()),
         Err(refused) => assert!(rt; false, "{refused:?}"),
     }

@@ -16,63 +16,8 @@ use xg_plan::Plan;
 use xg_scale::weigh;
 use xg_seq::SeqForm;
 use xg_sets::{Sets, build_sets};
+use xg_test_data::files::{BLUFF, TOLL, WEATHER};
 use xg_tree::Tree;
-
-/// Chance moves after both players, with decimals.
-const WEATHER: &str =
-    r#"EFG 2 R "Weather: two stalls choose umbrellas or ice before the sky is seen" { "North" "South" }
-p "" 1 1 "North stocks" { "umbrellas" "ice" } 0
-p "" 2 1 "South stocks" { "umbrellas" "ice" } 0
-c "" 1 "sky" { "rain" 0.35 "cloud" .4 "sun" 25e-2 } 0
-t "" 0
-t "" 0
-t "" 0
-c "" 1 "sky" { "rain" 0.35 "cloud" .4 "sun" 25e-2 } 0
-t "" 1 { 1.5 -1.5 }
-t "" 2 { +0.25 -0.25 }
-t "" 3 { -2. 2. }
-p "" 2 1 "South stocks" { "umbrellas" "ice" } 0
-c "" 1 "sky" { "rain" 0.35 "cloud" .4 "sun" 25e-2 } 0
-t "" 4 { -1.5 1.5 }
-t "" 5 { -.25 .25 }
-t "" 6 { 2 -2 }
-c "" 1 "sky" { "rain" 0.35 "cloud" .4 "sun" 25e-2 } 0
-t "" 0
-t "" 0
-t "" 0
-"#;
-
-/// A card that player one alone sees.
-const BLUFF: &str =
-    r#"EFG 2 R "Bluff: one card is a winner with 1/3, its holder folds or raises by 3/2, the other passes or meets" { "Holder" "Caller" }
-""
-
-c "" 1 "" { "winner" 1/3 "loser" 2/3 } 0
-p "" 1 1 "winner" { "raise" "fold" } 0
-p "" 2 1 "raised" { "meet" "pass" } 0
-t "" 1 "shown to win" { 5/2, -5/2 }
-t "" 2 "passed" { 1, -1 }
-t "" 3 "folded" { -1, 1 }
-p "" 1 2 "loser" { "raise" "fold" } 0
-p "" 2 1 "raised" { "meet" "pass" } 0
-t "" 4 "shown to lose" { -5/2, 5/2 }
-t "" 2 "passed" { 1, -1 }
-t "" 3 "folded" { -1, 1 }
-"#;
-
-/// Outcomes at inner nodes, and a player's set behind another.
-const TOLL: &str =
-    r#"EFG 2 R "Toll: each step of the road costs its walker, who turns back or goes on to a prize" { "Walker" "Keeper" }
-p "the gate" 1 1 "the gate" { "pay" "leave" } 0
-p "the bridge" 2 1 "the bridge" { "open" "close" } 1 "toll of the gate" { -1, 1 }
-c "the weather" 1 "the weather" { "fair" 2/3 "storm" 1/3 } 2 "toll of the bridge" { -1/2, 1/2 }
-p "the hill" 1 2 "the hill" { "climb" "turn back" } 0
-t "the prize" 3 "the prize" { 4, -4 }
-t "half way" 0
-t "washed away" 4 "lost the cart" { -2, 2 }
-t "before the bridge" 5 "the keeper pays a fine" { 1/4, -1/4 }
-t "home" 0
-"#;
 
 /// What a game's numbers are.
 #[derive(Clone, Copy, Drop)]

@@ -13,37 +13,7 @@ use xg_cert::TraceRow;
 use xg_engine::{Engine, Settings};
 use xg_game::Game;
 use xg_gen::one_card_poker;
-
-/// Matching pennies, where the second player doesn't see the first one's coin.
-const PENNIES: &str = r#"EFG 2 R "" { "A" "B" }
-p "" 1 1 "a" { "H" "T" } 0
-p "" 2 1 "b" { "h" "t" } 0 t "" 1 { 1, -1 } t "" 2 { -1, 1 }
-p "" 2 1 0 t "" 2 t "" 1
-"#;
-
-const ONE_MOVER: &str =
-    r#"EFG 2 R "" { "A" "B" } p "" 1 1 "a" { "L" "R" } 0 t "" 1 { 1, -1 } t "" 2 { 0, 0 }"#;
-
-/// Both players choose twice, and see not all that was chosen.
-const TWICE_HIDDEN: &str = r#"EFG 2 R "" { "A" "B" }
-c "" 1 "coin" { "light" 1/3 "heavy" 2/3 } 0
-p "" 1 1 "first" { "a" "b" "c" } 0
-p "" 2 1 "answer" { "x" "y" "z" } 0
-p "" 1 2 "again" { "d" "e" } 0
-p "" 2 2 "again" { "u" "v" } 0 t "" 1 { -2, 2 } t "" 2 { -3, 3 }
-p "" 2 2 "again" { "u" "v" } 0 t "" 3 { 0, 0 } t "" 4 { -3, 3 }
-t "" 5 { 3, -3 } t "" 6 { 3, -3 }
-p "" 2 1 "answer" { "x" "y" "z" } 0 t "" 7 { 3, -3 } t "" 8 { 2, -2 } t "" 9 { -1, 1 }
-p "" 2 1 "answer" { "x" "y" "z" } 0 t "" 10 { -3, 3 } t "" 11 { 3, -3 } t "" 12 { -4, 4 }
-p "" 1 1 "first" { "a" "b" "c" } 0
-p "" 2 1 "answer" { "x" "y" "z" } 0 t "" 13 { 2, -2 } t "" 14 { 2, -2 } t "" 15 { -4, 4 }
-p "" 2 1 "answer" { "x" "y" "z" } 0 t "" 16 { 3, -3 }
-p "" 1 3 "again" { "d" "e" } 0
-p "" 2 3 "again" { "u" "v" } 0 t "" 17 { 0, 0 } t "" 18 { -1, 1 }
-p "" 2 3 "again" { "u" "v" } 0 t "" 19 { -3, 3 } t "" 20 { 1, -1 }
-t "" 21 { -4, 4 }
-p "" 2 1 "answer" { "x" "y" "z" } 0 t "" 22 { -4, 4 } t "" 23 { -4, 4 } t "" 24 { 4, -4 }
-"#;
+use xg_test_data::files::{ONE_MOVER, PENNIES, TWICE_HIDDEN};
 
 /// A line of a trace in the order of the certificate: the round, the lower end's round and total, the upper end's.
 type Line = (u32, u32, i128, u32, i128);

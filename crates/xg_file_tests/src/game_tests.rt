@@ -344,6 +344,7 @@ fn seen<'a>(rt: &impl Abort, file: &'a [u8]) -> TextView<'a> {
 /// Chance's set 4, by views.
 fn seen_coin<'a>(rt: &impl Abort, set_name: &'a [u8], actions: &'a ActionViews<'a>) -> Entry<'a> {
     Entry {
+        file: b"",
         kind: EntryKind::Chance,
         name: seen(rt, b"\"\""),
         player: 0,

@@ -7,30 +7,7 @@ use xg_game::{Game, GameMaker};
 use xg_gen::{one_card_poker, write_game};
 use xg_io::{MemSink, WriteFault};
 use xg_record::{EntryKind, Payoffs, Record};
-
-const TWO_CARDS: &[u8] = b"EFG 2 R \"One-card poker 2\" { \"One\" \"Two\" }\n\
-\"\"\n\
-c \"\" 1 \"deal one\" { \"1\" 1/2 \"2\" 1/2 } 0\n\
-c \"\" 2 \"deal two 1\" { \"2\" 1 } 0\n\
-p \"\" 1 1 \"1\" { \"check\" \"bet\" } 0\n\
-p \"\" 2 2 \"2 c\" { \"check\" \"bet\" } 0\n\
-t \"\" 2 \"Two wins 1\" { -1, 1 }\n\
-p \"\" 1 3 \"1 cb\" { \"fold\" \"call\" } 0\n\
-t \"\" 2 \"Two wins 1\" { -1, 1 }\n\
-t \"\" 4 \"Two wins 2\" { -2, 2 }\n\
-p \"\" 2 4 \"2 b\" { \"fold\" \"call\" } 0\n\
-t \"\" 1 \"One wins 1\" { 1, -1 }\n\
-t \"\" 4 \"Two wins 2\" { -2, 2 }\n\
-c \"\" 3 \"deal two 2\" { \"1\" 1 } 0\n\
-p \"\" 1 2 \"2\" { \"check\" \"bet\" } 0\n\
-p \"\" 2 1 \"1 c\" { \"check\" \"bet\" } 0\n\
-t \"\" 1 \"One wins 1\" { 1, -1 }\n\
-p \"\" 1 4 \"2 cb\" { \"fold\" \"call\" } 0\n\
-t \"\" 2 \"Two wins 1\" { -1, 1 }\n\
-t \"\" 3 \"One wins 2\" { 2, -2 }\n\
-p \"\" 2 3 \"1 b\" { \"fold\" \"call\" } 0\n\
-t \"\" 1 \"One wins 1\" { 1, -1 }\n\
-t \"\" 3 \"One wins 2\" { 2, -2 }\n";
+use xg_test_data::files::POKER_OF_TWO;
 
 fn poker(rt: &impl Abort, alloc: Global, cards: u32) -> Result<Game, Fail> {
     assert!(rt; 2 <= cards && cards <= 64);
@@ -53,7 +30,7 @@ fn written(rt: &impl Abort, alloc: Global, game: Game) -> Result<MemSink, Fail> 
 #[test]
 fn two_cards(rt: HostRuntime) -> Result<(), Fail> {
     let sink = written(&rt, rt.alloc(), poker(&rt, rt.alloc(), 2)?)?;
-    assert_eq!(rt; sink.bytes(), TWO_CARDS);
+    assert_eq!(rt; sink.bytes(), POKER_OF_TWO.as_bytes());
     Ok(())
 }
 

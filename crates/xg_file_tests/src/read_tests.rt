@@ -8,10 +8,7 @@ use xg_game::{Game, Kind, Player, Refused};
 use xg_lex::{LexFault, Token, Tokens};
 use xg_read::{FileFault, NumberFault};
 use xg_record::{Action, Actions, Payoffs};
-
-/// Matching pennies, where the second player doesn't see the first one's coin.
-const PENNIES: &[u8] =
-    b"EFG 2 R \"Pennies\" { \"A\" \"B\" }\np \"\" 1 1 \"a\" { \"H\" \"T\" } 0\np \"\" 2 1 \"b\" { \"h\" \"t\" } 0\nt \"\" 1 \"win\" { 1, -1 }\nt \"\" 2 \"lose\" { -1, 1 }\np \"\" 2 1 0\nt \"\" 2\nt \"\" 1\n";
+use xg_test_data::files::{PENNIES, file_of};
 
 /// The numbers of nodes and of leaves of a game.
 fn sizes(game: Game) -> (u32, u32) {
@@ -38,18 +35,11 @@ fn is_read(rt: &impl Abort, alloc: Global, bytes: &[u8], nodes: u32, leaves: u32
     read_sizes(rt, alloc, bytes) == Ok((nodes, leaves))
 }
 
-/// A file of what stands behind the prologue `EFG 2 R "" { "A" "B" }` and a space, which are 23 bytes.
-fn with_prologue(alloc: Global, rest: &str) -> Result<String, AllocError> {
-    let mut file = String::from_str(alloc, "EFG 2 R \"\" { \"A\" \"B\" } ")?;
-    file.push_str(rest)?;
-    Ok(file)
-}
-
-/// What stands behind that prologue, with the fault that it has.
+/// What stands behind a prologue of 23 bytes, with the fault that it has.
 type Row = (&'static str, FileFault);
 
 fn is_row_refused(rt: &impl Abort, alloc: Global, row: &Row) -> Result<bool, AllocError> {
-    let file = with_prologue(alloc, row.0)?;
+    let file = file_of(alloc, row.0)?;
     Ok(is_refused(rt, alloc, file.as_bytes(), row.1))
 }
 
@@ -327,9 +317,11 @@ fn fault_of_cut(len: usize) -> FileFault {
 
 #[test]
 fn a_cut_at_each_place(rt: HostRuntime) {
-    assert!(rt; is_read(&rt, rt.alloc(), PENNIES, 7, 4));
+    let file = PENNIES.as_bytes();
+    assert!(rt; is_read(&rt, rt.alloc(), file, 7, 4));
     for len in 0..155 {
-        assert!(rt; is_refused(&rt, rt.alloc(), &PENNIES[..len], fault_of_cut(len)));
+        assert!(rt; len < file.len());
+        assert!(rt; is_refused(&rt, rt.alloc(), &file[..len], fault_of_cut(len)));
     }
 }
 
@@ -364,7 +356,7 @@ static ACCEPTED: [Sized; 11] = [
 
 fn is_row_read(rt: &impl Abort, alloc: Global, row: &Sized) -> Result<bool, AllocError> {
     let (rest, nodes, leaves) = *row;
-    let file = with_prologue(alloc, rest)?;
+    let file = file_of(alloc, rest)?;
     Ok(is_read(rt, alloc, file.as_bytes(), nodes, leaves))
 }
 
@@ -402,7 +394,7 @@ fn a_game_as_its_file_says(rt: HostRuntime) -> Result<(), Fail> {
 
 /// A node of player one with so many actions, each of which leads to a leaf.
 fn wide(alloc: Global, actions: u32) -> Result<String, AllocError> {
-    let mut file = with_prologue(alloc, "p \"\" 1 1 \"\" {")?;
+    let mut file = file_of(alloc, "p \"\" 1 1 \"\" {")?;
     for _ in 0..actions {
         file.push_str(" \"\"")?;
     }
@@ -436,7 +428,7 @@ fn too_many_actions(rt: HostRuntime) -> Result<(), Fail> {
 
 /// So many nodes of player one in one set, one below the other, with no leaf.
 fn chain(alloc: Global, nodes: u32) -> Result<String, AllocError> {
-    let mut file = with_prologue(alloc, "p \"\" 1 1 { \"\" } 0\n")?;
+    let mut file = file_of(alloc, "p \"\" 1 1 { \"\" } 0\n")?;
     for _ in 1..nodes {
         file.push_str("p \"\" 1 1 0\n")?;
     }

@@ -4,7 +4,7 @@ use Rattle.std.proofs.lemmas.List.Elements.{All-cons, All-nil}
 use Rattle.def_plan.specs.Form.{IsInOrder, PlacedSet}
 use Rattle.def_plan.specs.Pennies.{one_set, pennies}
 use Rattle.def_plan.specs.Plan.{AddsUp, IsPlan}
-use Rattle.def_bracket.specs.Offers.{IsFair, Offer}
+use Rattle.def_reply.specs.Offers.{IsFair, Offer}
 use Rattle.xg_bracket.specs.Board.{MayBeOffered, SizedBoard, last_round, offer_of, sizes_of}
 
 abbrev h : PlacedSet

@@ -6,13 +6,14 @@ ghost use Rattle.def_plan.specs.Pennies.{one_set, pennies};
 ghost use Rattle.def_round.specs.Play.{plan_of_play};
 ghost use Rattle.xg_bracket.specs.Board.{last_round, sizes_of};
 
-use crate::made::{PENNIES, PENNIES_WEIGHTS, build_form};
+use crate::made::build_form;
 use std::alloc::{AllocError, Global};
 use std::process::Abort;
 use std::test::Fail;
 use xg_bracket::{Board, TraceLine};
 use xg_plan::{Plan, Play, Player, Reply, from_play};
 use xg_seq::SeqForm;
+use xg_test_data::nodes::{PENNIES, PENNIES_WEIGHTS};
 
 fn pennies(rt: &impl Abort, alloc: Global) -> Result<SeqForm, Fail>
     ensures { IfOk result (λ form. form ≡ pennies) }

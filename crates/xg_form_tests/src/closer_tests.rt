@@ -4,16 +4,18 @@ ghost use Rattle.def_plan.specs.Form.{player_sets, sequence_count};
 ghost use Rattle.def_sums.specs.Limits.{most_mass, most_round_row};
 ghost use Rattle.def_sums.specs.Sum.{nat_sum_over};
 
-use crate::made::{
-    LEAF, ONE_CHOICE, ONE_CHOICE_WEIGHTS, ONE_OF_THREE, ONE_OF_THREE_WEIGHTS, PENNIES,
-    PENNIES_WEIGHTS, build_form, node,
-};
+use crate::made::build_form;
 use std::alloc::{AllocError, Global};
 use std::process::Abort;
 use std::test::Fail;
 use xg_closer::{Player, Regrets, close_round, play_into};
 use xg_plan::Play;
 use xg_seq::SeqForm;
+use xg_test_data::node;
+use xg_test_data::nodes::{
+    LEAF, ONE_CHOICE, ONE_CHOICE_WEIGHTS, ONE_OF_THREE, ONE_OF_THREE_WEIGHTS, PENNIES,
+    PENNIES_WEIGHTS,
+};
 use xg_tree::{Kind, Node};
 
 /// What a player plays in a round, and the regrets after it is closed by these rows, of the sequences from 1 on.
@@ -217,11 +219,18 @@ fn begin_anew(rt: &impl Abort, form: &SeqForm, player: Player, regrets: &mut Reg
     assert_eq!(rt; first_other_regret(form, player, regrets, &[0, 0]), None);
 }
 
-fn learn_anew(rt: &impl Abort, alloc: Global, form: &SeqForm) -> Result<(), AllocError> {
+fn learn_anew(
+    rt: &impl Abort,
+    alloc: Global,
+    form: &SeqForm,
+    rounds: &[Round],
+) -> Result<(), AllocError>
+    requires { All (λ round. nat_sum_over unsigned_abs round.rows.now ≤ most_round_row) rounds.now }
+{
     let player = Player::One;
     let mut regrets = Regrets::new(alloc, form, player)?;
     let mut play = Play::new(alloc, form, player)?;
-    play_rounds(rt, form, player, &mut regrets, &mut play, &ONE_MOVER);
+    play_rounds(rt, form, player, &mut regrets, &mut play, rounds);
     begin_anew(rt, form, player, &mut regrets);
     play_rounds(rt, form, player, &mut regrets, &mut play, &ONE_MOVER_ANEW);
     Ok(())
@@ -230,7 +239,66 @@ fn learn_anew(rt: &impl Abort, alloc: Global, form: &SeqForm) -> Result<(), Allo
 #[test]
 fn one_mover_learns_at_once(rt: HostRuntime) -> Result<(), Fail> {
     let form = build_form(&rt, rt.alloc(), &ONE_CHOICE, &ONE_CHOICE_WEIGHTS)?;
-    let learnt = learn_anew(&rt, rt.alloc(), &form);
+    let learnt = learn_anew(&rt, rt.alloc(), &form, &ONE_MOVER);
+    drop(form);
+    Ok(learnt?)
+}
+
+// The greatest size of all rows together, and of a regret, that is kept in 64 bits.
+const MOST_SMALL: i128 = 1 << 62;
+
+const HALF_OF_MOST: i128 = 1 << 61;
+
+// The first round just fits. The second one's row has no room beside it, and the third one's has none at all.
+static JUST_SMALL: [Round; 4] = [
+    Round {
+        rows: &[0, MOST_SMALL, 0],
+        play: &[HALF, HALF],
+        regrets: &[HALF_OF_MOST, -HALF_OF_MOST],
+    },
+    Round {
+        rows: &[0, 1, 0],
+        play: &[ALL, 0],
+        regrets: &[HALF_OF_MOST, -HALF_OF_MOST - 1],
+    },
+    Round {
+        rows: &[0, 0, MOST_SMALL + 1],
+        play: &[ALL, 0],
+        regrets: &[HALF_OF_MOST, HALF_OF_MOST],
+    },
+    Round {
+        rows: &[0, 0, 2],
+        play: &[HALF, HALF],
+        regrets: &[HALF_OF_MOST - 1, HALF_OF_MOST + 1],
+    },
+];
+
+// The first round's rows have no room, and later ones' have.
+static NOT_SMALL: [Round; 2] = [
+    Round {
+        rows: &[0, MOST_SMALL, 1],
+        play: &[HALF, HALF],
+        regrets: &[HALF_OF_MOST, 1 - HALF_OF_MOST],
+    },
+    Round {
+        rows: &[0, 0, 2],
+        play: &[ALL, 0],
+        regrets: &[HALF_OF_MOST, 3 - HALF_OF_MOST],
+    },
+];
+
+#[test]
+fn regrets_outgrow_a_word(rt: HostRuntime) -> Result<(), Fail> {
+    let alloc = rt.alloc();
+    let (nodes, weights) = (&ONE_CHOICE, &ONE_CHOICE_WEIGHTS);
+    learn_in(&rt, alloc, nodes, weights, Player::One, &JUST_SMALL)?;
+    learn_in(&rt, alloc, nodes, weights, Player::One, &NOT_SMALL)
+}
+
+#[test]
+fn large_regrets_are_forgotten(rt: HostRuntime) -> Result<(), Fail> {
+    let form = build_form(&rt, rt.alloc(), &ONE_CHOICE, &ONE_CHOICE_WEIGHTS)?;
+    let learnt = learn_anew(&rt, rt.alloc(), &form, &JUST_SMALL);
     drop(form);
     Ok(learnt?)
 }

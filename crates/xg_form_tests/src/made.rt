@@ -1,4 +1,4 @@
-//! Small trees, and the forms of trees.
+//! Trees by their nodes, and their forms.
 ghost use Rattle.std.specs.Prelude.{◌≡◌, ◌≤◌, ◌++◌, IfOk, IsOk, OnOk, map, sum, unsigned_abs};
 ghost use Rattle.def_sums.specs.Limits.{most_mass};
 ghost use Rattle.def_tree.specs.Tree.{forest_of};
@@ -9,62 +9,7 @@ use std::process::Abort;
 use std::test::Fail;
 use xg_seq::SeqForm;
 use xg_sets::build_sets;
-use xg_tree::{Builder, Kind, Node, PushFault, Tree};
-
-/// A node with its kind, the number of its set and the number of its children.
-macro_rules! node {
-    ($kind:ident, $set:expr, $children:expr) => {
-        Node {
-            kind: Kind::$kind,
-            set: $set,
-            outcome: 0,
-            children: $children,
-        }
-    };
-}
-
-pub(crate) use node;
-
-pub(crate) const LEAF: Node = node!(Leaf, 0, 0);
-
-/// Both players choose one of two sides, and player two doesn't see player one's.
-pub(crate) static PENNIES: [Node; 7] = [
-    node!(One, 1, 2),
-    node!(Two, 1, 2),
-    LEAF,
-    LEAF,
-    node!(Two, 1, 2),
-    LEAF,
-    LEAF,
-];
-
-pub(crate) static PENNIES_WEIGHTS: [i64; 4] = [1, -1, -1, 1];
-
-/// At odds of one to three the game ends, or player one moves, then player two by three actions, or player one again.
-pub(crate) static UNEQUAL_CHANCE: [Node; 10] = [
-    node!(Chance, 1, 2),
-    LEAF,
-    node!(One, 1, 2),
-    node!(Two, 1, 3),
-    LEAF,
-    LEAF,
-    LEAF,
-    node!(One, 2, 2),
-    LEAF,
-    LEAF,
-];
-
-pub(crate) static UNEQUAL_CHANCE_WEIGHTS: [i64; 6] = [-2, 3, 6, -9, 12, 0];
-
-/// Player one chooses once, of two actions.
-pub(crate) static ONE_CHOICE: [Node; 3] = [node!(One, 1, 2), LEAF, LEAF];
-
-pub(crate) static ONE_CHOICE_WEIGHTS: [i64; 2] = [1, 0];
-
-/// Player one chooses once, of three actions.
-pub(crate) static ONE_OF_THREE: [Node; 4] = [node!(One, 1, 3), LEAF, LEAF, LEAF];
-
-pub(crate) static ONE_OF_THREE_WEIGHTS: [i64; 3] = [0, 0, 0];
+use xg_tree::{Builder, Node, PushFault, Tree};
 
 /// Puts nodes that keep the rules of sets and children.
 pub(crate) fn put(rt: &impl Abort, builder: &mut Builder, nodes: &[Node]) -> Result<(), PushFault>

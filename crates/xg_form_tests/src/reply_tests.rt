@@ -4,16 +4,17 @@ ghost use Rattle.def_plan.specs.Form.{player_sets, sequence_count};
 ghost use Rattle.def_sums.specs.Limits.{most_mass, most_row};
 ghost use Rattle.def_sums.specs.Sum.{nat_sum_over};
 
-use crate::made::{
-    ONE_CHOICE, ONE_CHOICE_WEIGHTS, PENNIES, PENNIES_WEIGHTS, UNEQUAL_CHANCE,
-    UNEQUAL_CHANCE_WEIGHTS, build_form,
-};
+use crate::made::build_form;
 use std::alloc::{AllocError, Global};
 use std::process::Abort;
 use std::test::Fail;
 use xg_plan::Reply;
 use xg_reply::{Player, best_reply};
 use xg_seq::SeqForm;
+use xg_test_data::nodes::{
+    ONE_CHOICE, ONE_CHOICE_WEIGHTS, PENNIES, PENNIES_WEIGHTS, UNEQUAL_CHANCE,
+    UNEQUAL_CHANCE_WEIGHTS,
+};
 use xg_tree::Node;
 
 /// A player's best reply to these rows: its total, its choice and value at each set, and the worth of each sequence.

@@ -5,6 +5,7 @@ use std::process::Abort;
 use std::test::Fail;
 use xg_read::{MOST_BYTES, read_game};
 use xg_scale::{FileFault, Refused, Weights, weigh};
+use xg_test_data::files::file_of;
 
 fn crosses_threads<T: Send + Sync>() {}
 
@@ -237,7 +238,7 @@ fn weigh_file(rt: &impl Abort, alloc: Global, file: &str) -> Result<Weights, Ref
 
 /// What the file of these entries weighs.
 fn weigh_entries(rt: &impl Abort, alloc: Global, entries: &str) -> Result<Weights, Refused> {
-    let file = format!(in alloc; "EFG 2 R \"\" {{ \"A\" \"B\" }} {entries}")?;
+    let file = file_of(alloc, entries)?;
     weigh_file(rt, alloc, file.as_str())
 }
 

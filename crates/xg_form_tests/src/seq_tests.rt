@@ -1,7 +1,8 @@
 //! Sets, sequences and leaves of the forms of small trees.
-use crate::made::{PENNIES, PENNIES_WEIGHTS, UNEQUAL_CHANCE, UNEQUAL_CHANCE_WEIGHTS, build_form};
+use crate::made::build_form;
 use std::test::Fail;
 use xg_seq::{Leaf, Player, SeqForm};
+use xg_test_data::nodes::{PENNIES, PENNIES_WEIGHTS, UNEQUAL_CHANCE, UNEQUAL_CHANCE_WEIGHTS};
 
 fn crosses_threads<T: Send + Sync>() {}
 

@@ -2,11 +2,13 @@
 ghost use Rattle.std.specs.Prelude.{◌≡◌, Ok};
 ghost use Rattle.def_sequence_form.specs.Sets.{sets_or_break};
 
-use crate::made::{LEAF, PENNIES, finished, node, put, tree_of};
+use crate::made::{finished, put, tree_of};
 use std::alloc::Global;
 use std::process::Abort;
 use std::test::Fail;
 use xg_sets::{Player, RecallFault, Sets, build_sets};
+use xg_test_data::node;
+use xg_test_data::nodes::{LEAF, PENNIES};
 use xg_tree::{Builder, Kind, Node, PushFault, Tree};
 
 fn crosses_threads<T: Send + Sync>() {}

@@ -1,13 +1,13 @@
 //! Workers that add into the rows of small games.
 ghost use Rattle.std.specs.Prelude.{◌≡◌, ◌≤◌, All, IfOk, length};
 ghost use Rattle.std.specs.Thread.{IsSync};
-ghost use Rattle.def_rows.specs.Rows.{row_count};
+ghost use Rattle.def_plan.specs.FormRows.{row_count};
 ghost use Rattle.def_sums.specs.Limits.{most_root};
 ghost use Rattle.xg_jobs.specs.Rows.{AreNumbersOf, ArePlainSums};
 ghost use Rattle.xg_jobs.specs.Table.{IsTableOf, most_touched};
 ghost use Rattle.xg_board.specs.Running.{job_amounts};
 
-use crate::made::{Built, LEAF, PENNIES, PENNIES_WEIGHTS, are_rows, build, input_of, node};
+use crate::made::{Built, are_rows, build, input_of};
 use std::alloc::{AllocError, Global};
 use std::marker::Brand;
 use std::process::Abort;
@@ -19,16 +19,19 @@ use xg_board::{Base, LockedRows, MadeBy, RowBoard, run_rows};
 use xg_io::{Gate, OpenGate};
 use xg_jobs::{JobTable, PlainRows, RowInput, RowMaker, Rows};
 use xg_rowcore::{Packet, RowName};
+use xg_test_data::node;
+use xg_test_data::nodes::{LEAF, PENNIES, PENNIES_WEIGHTS};
 use xg_tree::{Kind, Node};
 
-// Draws, adds and closes with one pass.
-fn add_by_one_pass<Rt: Abort + Threads + Wait + Sync, N: RowName>(
+// Draws, adds and closes with one pass, of worker 5.
+fn add_by_one_pass<Rt: Abort + Threads + Wait + Sync, N: RowName, G: Gate>(
     rt: &Rt,
     alloc: Global,
     base: Base,
     packet: &mut Packet,
     input: &RowInput<'_>,
     jobs: &JobTable,
+    gate: &G,
 ) -> Result<Rows, Fail>
     requires room { most_touched jobs.now.touched ≤ packet.old.entries.room }
     requires numbers { AreNumbersOf input.now.form.now input.now.one.now input.now.two.now }
@@ -46,7 +49,7 @@ fn add_by_one_pass<Rt: Abort + Threads + Wait + Sync, N: RowName>(
     };
     assert!(rt; job == 0);
     jobs.packet_into(job, input, packet);
-    board.add(rt, &mut pass, packet, &OpenGate);
+    board.add(rt, &mut pass, packet, gate);
     let None = board.draw(rt, &mut pass) else {
         panic!(rt; "no job is left");
     };
@@ -54,11 +57,12 @@ fn add_by_one_pass<Rt: Abort + Threads + Wait + Sync, N: RowName>(
     Ok(board.close(rt, purse, passes))
 }
 
-fn made_by_one_pass<Rt: Abort + Threads + Wait + Sync>(
+fn made_by_one_pass<Rt: Abort + Threads + Wait + Sync, G: Gate>(
     rt: &Rt,
     alloc: Global,
     input: &RowInput<'_>,
     jobs: &JobTable,
+    gate: &G,
 ) -> Result<Rows, Fail>
     requires numbers { AreNumbersOf input.now.form.now input.now.one.now input.now.two.now }
     requires table { IsTableOf input.now.form.now jobs.now }
@@ -66,7 +70,7 @@ fn made_by_one_pass<Rt: Abort + Threads + Wait + Sync>(
     let mut packet = Packet::new(alloc, jobs.room())?;
     let base = Base::new(alloc, jobs, 3)?;
     let _leaves = input.form.leaf_count();
-    add_by_one_pass::<Rt, Brand>(rt, alloc, base, &mut packet, input, jobs)
+    add_by_one_pass::<Rt, Brand, G>(rt, alloc, base, &mut packet, input, jobs, gate)
 }
 
 fn assert_one_pass<Rt: Abort + Threads + Wait + Sync>(
@@ -78,7 +82,7 @@ fn assert_one_pass<Rt: Abort + Threads + Wait + Sync>(
     requires table { IsTableOf built.now.form built.now.jobs }
 {
     let input = input_of(rt, &built.form, &[1, 0, 1], &[1, 0, 1]);
-    let rows = made_by_one_pass(rt, alloc, &input, &built.jobs)?;
+    let rows = made_by_one_pass(rt, alloc, &input, &built.jobs, &OpenGate)?;
     assert!(rt; are_rows(&rows, &[0, -1, 1], &[0, -1, 1]));
     Ok(())
 }
@@ -106,6 +110,58 @@ impl Gate for Counts {
     fn within<Rt: Threads + Wait + Sync>(&self, _rt: &Rt, _worker: u32, _stripe: u32) {
         self.withins.fetch_add(1, Ordering::SeqCst);
     }
+}
+
+/// Counts the visits of stripes, and keeps the first and the last one.
+#[derive(Drop)]
+struct Visits {
+    count: AtomicU64,
+    first: AtomicU64,
+    last: AtomicU64,
+}
+
+impl Gate for Visits {
+    fn pass<Rt: Threads + Wait + Sync>(&self, _rt: &Rt, _worker: u32, _job: u32) {}
+
+    fn within<Rt: Threads + Wait + Sync>(&self, _rt: &Rt, _worker: u32, stripe: u32) {
+        if self.count.fetch_add(1, Ordering::SeqCst) == 0 {
+            self.first.store(u64::from(stripe), Ordering::SeqCst);
+        }
+        self.last.store(u64::from(stripe), Ordering::SeqCst);
+    }
+}
+
+fn assert_first_visit<Rt: Abort + Threads + Wait + Sync>(
+    rt: &Rt,
+    alloc: Global,
+    built: &Built,
+) -> Result<(), Fail>
+    requires sync { IsSync Rt.row }
+    requires table { IsTableOf built.now.form built.now.jobs }
+{
+    let input = input_of(rt, &built.form, &[1, 0, 1], &[1, 0, 1]);
+    let gate = Visits {
+        count: AtomicU64::new(0),
+        first: AtomicU64::new(64),
+        last: AtomicU64::new(64),
+    };
+    let rows = made_by_one_pass(rt, alloc, &input, &built.jobs, &gate)?;
+    assert!(rt;
+        are_rows(&rows, &[0, -1, 1], &[0, -1, 1])
+            && gate.count.load(Ordering::SeqCst) == 3
+            && gate.first.load(Ordering::SeqCst) == 2
+            && gate.last.load(Ordering::SeqCst) == 1
+    );
+    Ok(())
+}
+
+// Worker 5 visits three stripes from stripe 2 on.
+#[test]
+fn a_worker_begins_at_the_stripe_of_its_number(rt: HostRuntime) -> Result<(), Fail> {
+    let built = build(&rt, rt.alloc(), &PENNIES, &PENNIES_WEIGHTS)?;
+    let asserted = assert_first_visit(&rt, rt.alloc(), &built);
+    drop(built);
+    asserted
 }
 
 fn made<Rt: Threads + Wait + Sync, M: RowMaker>(

@@ -5,7 +5,7 @@ ghost use Rattle.def_sums.specs.Limits.{most_mass, most_root};
 ghost use Rattle.xg_jobs.specs.Rows.{AreNumbersOf};
 ghost use Rattle.xg_jobs.specs.Table.{IsTableOf};
 
-use crate::made::{Built, LEAF, PENNIES, PENNIES_WEIGHTS, are_rows, build, input_of, node};
+use crate::made::{Built, are_rows, build, input_of};
 use std::alloc::{AllocError, Global};
 use std::process::Abort;
 use std::sync::Wait;
@@ -14,6 +14,8 @@ use std::thread::Threads;
 use xg_jobs::{JobTable, PlainRows, RowInput, RowMaker, Rows};
 use xg_rowcore::Packet;
 use xg_seq::SeqForm;
+use xg_test_data::node;
+use xg_test_data::nodes::{LEAF, PENNIES, PENNIES_WEIGHTS};
 use xg_tree::{Kind, Node};
 
 fn crosses_threads<T: Send + Sync>() {}

@@ -1,4 +1,4 @@
-//! Small trees, and their forms and jobs.
+//! Trees by their nodes, and their forms and jobs.
 ghost use Rattle.std.specs.Prelude.{◌≡◌, ◌≤◌, All, IfOk, map, sum, unsigned_abs};
 ghost use Rattle.def_sums.specs.Limits.{most_mass, most_root};
 ghost use Rattle.xg_jobs.specs.Rows.{AreNumbersOf};
@@ -11,36 +11,7 @@ use std::test::Fail;
 use xg_jobs::{JobTable, RowInput, Rows};
 use xg_seq::SeqForm;
 use xg_sets::build_sets;
-use xg_tree::{Builder, Kind, Node, PushFault, Tree};
-
-/// A node with its kind, the number of its set and the number of its children.
-macro_rules! node {
-    ($kind:ident, $set:expr, $children:expr) => {
-        Node {
-            kind: Kind::$kind,
-            set: $set,
-            outcome: 0,
-            children: $children,
-        }
-    };
-}
-
-pub(crate) use node;
-
-pub(crate) const LEAF: Node = node!(Leaf, 0, 0);
-
-/// Both players choose one of two sides, and player two doesn't see player one's.
-pub(crate) static PENNIES: [Node; 7] = [
-    node!(One, 1, 2),
-    node!(Two, 1, 2),
-    LEAF,
-    LEAF,
-    node!(Two, 1, 2),
-    LEAF,
-    LEAF,
-];
-
-pub(crate) static PENNIES_WEIGHTS: [i64; 4] = [1, -1, -1, 1];
+use xg_tree::{Builder, Node, PushFault, Tree};
 
 fn put(rt: &impl Abort, builder: &mut Builder, nodes: &[Node]) -> Result<(), PushFault> {
     for node in nodes {

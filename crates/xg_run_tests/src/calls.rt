@@ -3,10 +3,6 @@ use std::alloc::{AllocError, Global};
 use xg_io::MemFiles;
 use xg_run::Words;
 
-pub const ONE_LEAF: &str = r#"EFG 2 R "" { "A" "B" }
-t "" 1 { 0, 0 }
-"#;
-
 /// The files, with one of this name. The call with the number `failing` fails.
 pub fn files_with(
     alloc: Global,
@@ -19,11 +15,18 @@ pub fn files_with(
     Ok(files)
 }
 
-/// The words of a line.
-pub fn words_of(alloc: Global, line: &str) -> Result<Words, AllocError> {
-    let mut words = Words::new(alloc);
+fn push_line(words: &mut Words, line: &str) -> Result<(), AllocError> {
     for word in line.split_whitespace() {
         words.push(word)?;
+    }
+    Ok(())
+}
+
+/// The words of these lines.
+pub fn words_of(alloc: Global, lines: &[&str]) -> Result<Words, AllocError> {
+    let mut words = Words::new(alloc);
+    for &line in lines {
+        push_line(&mut words, line)?;
     }
     Ok(words)
 }

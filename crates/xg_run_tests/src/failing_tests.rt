@@ -1,5 +1,5 @@
 //! Files and streams that fail at one call, or have too little room.
-use crate::calls::{ONE_LEAF, files_with, words_of};
+use crate::calls::{files_with, words_of};
 use std::alloc::{AllocError, Global};
 use std::marker::Sync;
 use std::sync::Wait;
@@ -7,16 +7,8 @@ use std::test::Fail;
 use std::thread::Threads;
 use xg_io::{MemSink, OpenGate};
 use xg_run::run;
-
-const PENNIES: &str = r#"EFG 2 R "Pennies" { "A" "B" }
-p "" 1 1 "a" { "H" "T" } 0
-p "" 2 1 "b" { "h" "t" } 0
-t "" 1 "win" { 1, -1 }
-t "" 2 "lose" { -1, 1 }
-p "" 2 1 0
-t "" 2
-t "" 1
-"#;
+use xg_test_data::certificates::ONE_LEAF_HEAD;
+use xg_test_data::files::{ONE_LEAF, PENNIES};
 
 /// The first 100 bytes of the text of `PENNIES` after one round.
 const PENNIES_FRONT: &str = r#"XGCERT 1
@@ -27,16 +19,6 @@ unit 1
 mass 4
 rounds 1 every 1 scale 1048576
 trace "#;
-
-const ONE_LEAF_TEXT: &str = r#"XGCERT 1
-nodes 1 leaves 1
-sets 0 0
-sequences 1 1
-unit 1
-mass 0
-rounds 0 every 1 scale 1048576
-end
-"#;
 
 const SOLVE: &str = "solve game --rounds 0";
 
@@ -226,7 +208,7 @@ static TEXTS_BESIDE_A_FAILING_STREAM: [Case; 2] = [
         out: AMPLE,
         err: FAILS_AT_ONCE,
         status: 0,
-        written: ONE_LEAF_TEXT,
+        written: ONE_LEAF_HEAD,
         said: "",
         ..WRITE_FAULT
     },
@@ -234,7 +216,7 @@ static TEXTS_BESIDE_A_FAILING_STREAM: [Case; 2] = [
         out: AMPLE,
         err: FIVE_BYTES,
         status: 0,
-        written: ONE_LEAF_TEXT,
+        written: ONE_LEAF_HEAD,
         said: "",
         ..WRITE_FAULT
     },
@@ -250,7 +232,7 @@ fn holds<Rt: Threads + Wait + Sync + AllocGlobal>(
     case: &Case,
 ) -> Result<bool, AllocError> {
     let alloc = rt.alloc();
-    let words = words_of(alloc, case.words)?;
+    let words = words_of(alloc, &[case.words])?;
     let mut files = files_with(alloc, "game", case.game, case.read)?;
     let mut out = sink(alloc, case.out)?;
     let mut err = sink(alloc, case.err)?;

@@ -1,5 +1,5 @@
 //! The words of a call as the program takes them, from a system of the tests' own.
-use crate::calls::{ONE_LEAF, files_with};
+use crate::calls::files_with;
 use std::alloc::AllocError;
 use std::io::ErrorKind;
 use std::marker::Sync;
@@ -10,6 +10,7 @@ use std::thread::Threads;
 use std::{env, io};
 use xg_io::{MemSink, OpenGate};
 use xg_run::{Words, given_words, run, status_without_words};
+use xg_test_data::files::ONE_LEAF;
 
 /// What the program is given, its own name first, the name of the one file, and the status.
 static CALLS: [(&[&[u8]], &str, u8); 15] = [

@@ -1,98 +1,15 @@
 //! Workers: that they run side by side, and that the bytes are the same for all numbers of them.
-use crate::calls::files_with;
+use crate::calls::{files_with, words_of};
 use crate::gates::{Delays, HeldPass, HeldStripe, Meeting};
-use std::alloc::{AllocError, Global};
 use std::marker::Sync;
 use std::process::Abort;
 use std::sync::Wait;
 use std::test::Fail;
 use std::thread::Threads;
 use xg_io::{Gate, MemSink, OpenGate};
-use xg_run::{Words, run};
-
-const ONE_MOVER: &str = r#"EFG 2 R "One mover" { "A" "B" }
-p "" 1 1 "a" { "L" "R" } 0
-t "" 1 { 1, -1 }
-t "" 2 { 0, 0 }
-"#;
-
-const ONE_MOVER_TWO_ROUNDS: &str = r#"XGCERT 1
-nodes 3 leaves 2
-sets 1 0
-sequences 3 1
-unit 1
-mass 1
-rounds 2 every 1 scale 1048576
-trace 1 1 524288 1 1048576
-trace 2 2 1572864 1 1048576
-plan 1 2097152
-weights 1 1572864 524288
-reply 2 1572864
-plan 2 1048576
-reply 1 1048576
-value 1 1048576 1
-bracket 3/4 1
-end
-"#;
-
-/// Two jobs of four leaves each.
-const TWO_JOBS: &str = r#"EFG 2 R "Repeat" { "A" "B" }
-c "" 9 { "a" 1/2 "b" 1/2 } 0
-p "" 1 1 "a" { "x" "y" } 0
-c "" 7 "coin" { "h" 1/2 "t" 1/2 } 0
-t "" 1 { 1, -1 }
-t "" 0
-c "" 7 "coin" { "h" 0.5 "t" 5e-1 } 0
-t "" 0
-t "" 2 { -1, 1 }
-p "" 1 11 "a" { "x" "y" } 0
-c "" 17 "coin" { "h" 1/2 "t" 1/2 } 0
-t "" 1 { 1, -1 }
-t "" 0
-c "" 17 "coin" { "h" 0.5 "t" 5e-1 } 0
-t "" 0
-t "" 2 { -1, 1 }
-"#;
-
-const KUHN_ONE_ROUND: &str = r#"XGCERT 1
-nodes 58 leaves 30
-sets 6 6
-sequences 13 13
-unit 6
-mass 42
-rounds 1 every 1 scale 1048576
-trace 1 1 -2621440 1 3145728
-plan 1 1048576
-weights 1 524288 524288
-weights 2 262144 262144
-weights 3 524288 524288
-weights 4 262144 262144
-weights 5 524288 524288
-weights 6 262144 262144
-reply 2 -2621440
-value 1 -524288 2
-value 2 0 2
-value 3 -1572864 2
-value 4 -2097152 2
-value 5 524288 2
-value 6 1048576 1
-plan 2 1048576
-weights 1 524288 524288
-weights 2 524288 524288
-weights 3 524288 524288
-weights 4 524288 524288
-weights 5 524288 524288
-weights 6 524288 524288
-reply 1 3145728
-value 1 -1048576 2
-value 2 -1048576 1
-value 3 1048576 2
-value 4 0 2
-value 5 3145728 1
-value 6 2097152 2
-bracket -5/12 1/2
-end
-"#;
+use xg_run::run;
+use xg_test_data::certificates;
+use xg_test_data::files::{ONE_MOVER, TWO_JOBS};
 
 const SOLVE: &str = "solve game --rounds 1";
 
@@ -104,17 +21,6 @@ const ALONE: &str = "--workers 1";
 
 const BY_TWO: &str = "--workers 2";
 
-/// The words of both lines.
-fn words_of(alloc: Global, first: &str, second: &str) -> Result<Words, AllocError> {
-    let mut words = Words::new(alloc);
-    for part in [first, second] {
-        for word in part.split_whitespace() {
-            words.push(word)?;
-        }
-    }
-    Ok(words)
-}
-
 /// What is written for these words, with so many workers, at this gate.
 fn written<Rt: Abort + Threads + Wait + Sync + AllocGlobal, G: Gate>(
     rt: &Rt,
@@ -124,7 +30,7 @@ fn written<Rt: Abort + Threads + Wait + Sync + AllocGlobal, G: Gate>(
     gate: &G,
 ) -> Result<MemSink, Fail> {
     let alloc = rt.alloc();
-    let words = words_of(alloc, words, workers)?;
+    let words = words_of(alloc, &[words, workers])?;
     let mut files = files_with(alloc, "game", game, 1_000)?;
     let mut out = MemSink::new(alloc, 100_000, &[])?;
     let mut err = MemSink::new(alloc, 1_000, &[])?;
@@ -153,9 +59,9 @@ fn texts_of_any_number_of_workers(rt: HostRuntime) -> Result<(), Fail> {
     let is_solved = is_written_by_all(
         &rt,
         "solve game --rounds 2 --every 1",
-        ONE_MOVER_TWO_ROUNDS,
+        certificates::ONE_MOVER,
     )?;
-    let is_drilled = is_written_by_all(&rt, DRILL, KUHN_ONE_ROUND)?;
+    let is_drilled = is_written_by_all(&rt, DRILL, certificates::POKER_OF_THREE)?;
     assert!(rt; is_solved && is_drilled);
     Ok(())
 }
@@ -266,7 +172,7 @@ fn is_same_for_all_numbers<Rt: Abort + Threads + Wait + Sync + AllocGlobal>(
     Ok(true)
 }
 
-// `bench/delays.py` runs this one over and over.
+// `.ci/delays` runs this one over and over.
 #[test]
 fn texts_of_delayed_workers(rt: HostRuntime) -> Result<(), Fail> {
     for words in [SOLVE, DRILL, "drill 4 --rounds 1"] {

@@ -1,7 +1,7 @@
 use Rattle.std.proofs.Common.{ap}
 use Rattle.def_tree.specs.declared.Player.TheVariants.{One, Two}
 use Rattle.def_plan.specs.Form.{SequenceForm, player_sets}
-use Rattle.def_bracket.specs.Offers.{Offer}
+use Rattle.def_reply.specs.Offers.{Offer}
 use Rattle.xg_bracket.specs.Board.{last_round, offer_of}
 use Rattle.xg_form_tests.proofs.PenniesOffers.{first_fair, first_offer, may_offer}
 use Rattle.xg_form_tests.proofs.bracket_tests.offer_first.Goals as goal

@@ -1,5 +1,5 @@
 use Rattle.std.proofs.Common.{length}
-use Rattle.def_rows.specs.Rows.{row_count}
+use Rattle.def_plan.specs.FormRows.{row_count}
 use Rattle.xg_board.specs.Running.{job_amounts, tested}
 use Rattle.xg_board.proofs.SmallAmountsStay.{tested_small}
 use Rattle.xg_rows_tests.proofs.board_tests.made_by_one_pass.Given as goal
