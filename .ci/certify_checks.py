@@ -251,10 +251,10 @@ def refusals(checks, folder):
         checks.that(f"{profile!r} is refused", (status, out) == (1, b"") and is_line, f"{status} {line}, want {why}")
     for data, line in FAULTS:
         file.write_bytes(PROLOGUE + data)
-        checks.expect(line.decode(), tool("certify", file, stdin=b"NE"), 1, b"", b"certify: " + line + b"\n")
+        checks.expect(line.decode(), tool("certify", file, stdin=b"NE"), 1, b"", b"certify: %s: %s\n" % (bytes(file), line))
     file.write_bytes(b"\xef\xbb\xbf" + NAMES)
     refused = tool("certify", file, stdin=b"NE")
-    checks.expect("a game file with a mark", refused, 1, b"", b"certify: refused 2 Syntax at 0\n")
+    checks.expect("a game file with a mark", refused, 1, b"", b"certify: %s: refused 2 Syntax at 0\n" % bytes(file))
     status, out, said = tool("certify", folder / "none.efg", stdin=b"NE")
     checks.that("no such game", (status, out) == (1, b"") and b"No such file" in said, str(said))
     checks.that("no such player", tool("certify", "--player=3", KUHN, stdin=b"NE")[0] == 2, "")

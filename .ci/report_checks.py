@@ -214,10 +214,10 @@ def what_is_said(checks, folder):
     figures = [it.get("id") for it in page.iter(f"{HTML}figure")]
     checks.that("one evaluation has no trace", figures == ["span"], f"{figures}")
     labels = {it.text for it in page.iter(f"{SVG}text")}
-    checks.that("a bracket of one number", "LOW and HIGH -0.05556" in labels, f"{labels}")
+    checks.that("a bracket of one number", "LOW and HIGH about -0.05556" in labels, f"{labels}")
     page = xml.fromstring(tool("report", KUHN, stdin=wrong)[1])
     labels = {it.text for it in page.iter(f"{SVG}text")}
-    checks.that("both ends of a bracket", {"LOW -0.09722", "HIGH -0.05556"} <= labels, f"{labels}")
+    checks.that("both ends of a bracket", {"LOW -0.09723", "HIGH -0.05555"} <= labels, f"{labels}")
     ring = next(float(it.get("cx")) for it in page.iter(f"{SVG}circle"))
     ends = [float(it.get("x")) for it in page.iter(f"{SVG}text") if it.text.startswith(("LOW", "HIGH"))]
     checks.that("where both plans meet", abs(ring - ends[1]) < 1 and ends[1] - ends[0] > 200, f"{ring} {ends}")
@@ -314,7 +314,7 @@ def refusals(checks, folder):
     forgets = folder / "forgets.efg"
     forgets.write_bytes(b'EFG 2 R "" { "A" "B" }\np "" 1 1 { "a" "b" } 0 p "" 1 1 0' + b' t "" 0' * 3)
     said = tool("report", forgets, stdin=told)[2]
-    checks.that("a player that forgets", said == b"report: refused 18 NotRecall node 2 earlier 1\n", str(said))
+    checks.that("a player that forgets", said == b"report: %s: refused 18 NotRecall node 2 earlier 1\n" % bytes(forgets), str(said))
 
 
 def large(checks, folder):

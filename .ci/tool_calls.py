@@ -7,7 +7,7 @@ import sys
 
 from checks import ROOT
 
-sys.path.insert(0, str(ROOT / "tools"))
+sys.path.insert(0, str(ROOT / "tools" / "lib"))
 LOADED = {}
 
 

@@ -11,6 +11,7 @@ the time that passes and of the processor's time; it has no bound.
 import argparse
 import os
 import pathlib
+import random
 import resource
 import subprocess
 import sys
@@ -118,13 +119,20 @@ def colliding(count):
     return found
 
 
+def far(nodes):
+    """So many nodes below one another, each but the last in a set of its own with a number of some sixty bits, in no order."""
+    numbers = random.Random(7).sample(range(2**40, 2**62), nodes - 1)
+    return file_of([f'p "" 1 {k} {{ "" }} 0' for k in numbers] + ['t "" 0'])
+
+
 def hurtful():
     """Files that are made to hurt, by what they are, with the status of an answer."""
     return {
         "a million entries under one set": (chain(MOST_NODES, 'p "" 1 1 { "" } 0', 'p "" 1 1 0'), 1),
         "a million repeated descriptions": (chain(MOST_NODES, 'p "" 1 1 "set" { "on" } 0', 'p "" 1 1 "set" { "on" } 0'), 1),
         "a million sets whose numbers have the same low bits": (file_of([f'p "" 1 {k << 41} {{ "" }} 0' for k in range(1, MOST_NODES)] + ['t "" 0']), 0),
-        "sets whose numbers collide in a table without a seed": (file_of([f'p "" 1 {k} {{ "" }} 0' for k in colliding(2**14)] + ['t "" 0']), 0),
+        "a million sets whose numbers are far apart, in no order": (far(MOST_NODES), 0),
+        "sets whose numbers collide in a table without a seed": (file_of([f'p "" 1 {k} {{ "" }} 0' for k in colliding(2**16)] + ['t "" 0']), 0),
         "a name of 60 MB": (file_of(['t "' + "x" * 60_000_000 + '" 0']), 0),
         "a name of 30 million quotation marks": (file_of(['t "' + '\\"' * 30_000_000 + '" 0']), 0),
         "an outcome of a million digits": (file_of(['t "" ' + "0" * 1_000_000]), 0),

@@ -3,6 +3,8 @@ import math
 from fractions import Fraction
 from xml.sax.saxutils import escape
 
+from rounding import DOWN, UP, to_digits
+
 LOW_COLOUR, HIGH_COLOUR, VALUE_COLOUR = "#1f5fa8", "#b3471d", "#555555"
 
 
@@ -51,6 +53,11 @@ def powers(least, most):
 
 def number(value):
     return f"{value:.6g}"
+
+
+def bound(name, value):
+    """An end of the bracket with four digits, rounded outward."""
+    return f"{float(to_digits(value, 4, DOWN if name == 'LOW' else UP)):.4g}"
 
 
 def steps(points, x_axis, y_axis, last):
@@ -124,7 +131,7 @@ def picture(text, title, player, value=None, is_log=False, canvas=WIDE):
             x, y = x_axis.place(last), y_axis.place(rows[-1][place])
             parts.append(f'<circle cx="{x:g}" cy="{y:.1f}" r="3.5" fill="{colour}"/>')
         y = y_axis.place(rows[-1][place]) + down
-        parts.append(label(beside, round(y, 1), f"{name} {float(rows[-1][place]):.4g}", f'fill="{colour}"'))
+        parts.append(label(beside, round(y, 1), f"{name} {bound(name, rows[-1][place])}", f'fill="{colour}"'))
     return "\n".join(parts + ["</svg>", ""])
 
 
@@ -146,9 +153,10 @@ def span(low, high, pay, player):
         parts.append(line(x, floor, x, floor + 5, 'stroke="#333333"'))
         if 24 <= x <= width - 24:
             parts.append(label(x, floor + 19, number(mark), middle))
-    ends = [(f"LOW {float(low):.4g}", left), (f"HIGH {float(high):.4g}", right)]
+    ends = [(f"LOW {bound('LOW', low)}", left), (f"HIGH {bound('HIGH', high)}", right)]
     if low == high:
-        ends = [(f"LOW and HIGH {float(low):.4g}", left)]
+        is_exact = bound("LOW", low) == bound("HIGH", high)
+        ends = [(f"LOW and HIGH {'' if is_exact else 'about '}{float(low):.4g}", left)]
     parts += [label(x, 18, told, middle) for told, x in ends]
     parts.append(line(left, 32, right, 32, 'stroke="#333333" stroke-width="3"'))
     parts += [line(x, 25, x, floor, 'stroke="#333333" stroke-width="3"') for x in (left, right)]

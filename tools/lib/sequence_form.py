@@ -1,4 +1,4 @@
-"""A game in numbers, by docs/formats.md: the unit, the weights of the leaves, both players' sequences, and the best
+"""A game in numbers, by docs/game_file.md: the unit, the weights of the leaves, both players' sequences, and the best
 replies to a plan. All of it is in Python's whole numbers, by passes over the nodes, the leaves and the sets.
 
 The faults of a game's numbers, from ChanceNegative to Scale, are found here with the lines of that page, so that what

@@ -3,21 +3,23 @@ from fractions import Fraction
 
 import efg
 from losses import BEST
+from rounding import DOWN, NEAREST, UP, to_digits, to_places
 
 DIGITS = 6
 # The sets that lose most stand first, so many of them.
 MOST_LOSING = 10
 
 
-def number(value, digits=DIGITS):
+def number(value, digits=DIGITS, rounding=NEAREST):
     """A number to so many digits after the point, or where that shows too little of it, with a power of ten."""
     if value is None:
         return "-"
     if value and abs(value) < Fraction(100, 10**digits):
-        return f"{float(value):.2e}"
-    whole, rest = divmod(int(abs(value) * 10**digits + Fraction(1, 2)), 10**digits)
+        return f"{float(to_digits(value, 3, rounding)):.2e}"
+    units = to_places(Fraction(value), digits, rounding)
+    whole, rest = divmod(abs(units), 10**digits)
     behind = f"{rest:0{digits}}".rstrip("0")
-    return ("-" if value < 0 else "") + str(whole) + ("." + behind if behind else "")
+    return ("-" if units < 0 else "") + str(whole) + ("." + behind if behind else "")
 
 
 def percent(value):
@@ -47,16 +49,16 @@ def best_of(line):
 
 
 def summary(audit):
-    """The numbers of both plans, each with what it says."""
+    """The numbers of both plans, each with what it says, and how it is rounded."""
     one, two = (player_name(audit.game, player) for player in (1, 2))
     text = audit.text
     return [
-        (f"LOW: {one}'s plan gets at least this against every plan of {two}", text.low),
-        (f"HIGH: {two}'s plan concedes at most this to every plan of {one}", text.high),
-        (f"{one} gets this where both plans meet", audit.pay),
-        (f"{one} would gain this by a best response to {two}'s plan", audit.gains[1]),
-        (f"{two} would gain this by a best response to {one}'s plan", audit.gains[2]),
-        ("HIGH less LOW, the total exploitability: both gains together", text.high - text.low),
+        (f"LOW: {one}'s plan gets at least this against every plan of {two}", text.low, DOWN),
+        (f"HIGH: {two}'s plan concedes at most this to every plan of {one}", text.high, UP),
+        (f"{one} gets this where both plans meet", audit.pay, NEAREST),
+        (f"{one} would gain this by a best response to {two}'s plan", audit.gains[1], UP),
+        (f"{two} would gain this by a best response to {one}'s plan", audit.gains[2], UP),
+        ("HIGH less LOW, the total exploitability: both gains together", text.high - text.low, UP),
     ]
 
 

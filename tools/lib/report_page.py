@@ -86,10 +86,10 @@ def page_of(audit, files):
 
 
 def summary_table(audit):
-    rows = [
-        tag("tr", tag("th", escape(said), scope="row") + tag("td", number(value), class_="n") + exact(value))
-        for said, value in summary(audit)
-    ]
+    rows = []
+    for said, value, rounding in summary(audit):
+        shown = tag("td", number(value, rounding=rounding), class_="n")
+        rows.append(tag("tr", tag("th", escape(said), scope="row") + shown + exact(value)))
     head = head_row(("what", 48), ("payoff", 23, "n"), ("exactly", 29))
     return tag("table", head + tag("tbody", "\n".join(rows)), id="bracket")
 

@@ -22,12 +22,16 @@ def text_of(audit, files):
     lines += [title(game), f"{player_name(game, 1)} against {player_name(game, 2)}", ""]
     lines += [f"{what}: {name}, sha256 {sum_}" for what, (name, sum_) in zip(("game", "text"), files)]
     lines += ["", *(line for it in notes(audit) for line in textwrap.wrap(it, COLUMNS)), ""]
-    rows = [("payoff", "exactly", "what it is"), *((number(it), str(it), said) for said, it in summary(audit))]
+    rows = [("payoff", "exactly", "what it is"), *summary_rows(audit)]
     lines += table(rows, (True, True, False))
     lines += ["", *losing_lines(audit)]
     for player in (1, 2):
         lines += ["", *player_lines(audit, player)]
     return "\n".join(lines) + "\n"
+
+
+def summary_rows(audit):
+    return [(number(value, rounding=rounding), str(value), said) for said, value, rounding in summary(audit)]
 
 
 def losing_lines(audit):

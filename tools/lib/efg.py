@@ -1,12 +1,12 @@
-"""Reads a game file by docs/formats.md: its tree, its sets and outcomes, and where its probabilities stand.
+"""Reads a game file by docs/game_file.md: its tree, its sets and outcomes, and where its probabilities stand.
 
 The faults are those of that page up to ActionCount, with the same lines. What comes of the numbers (sums of
 probabilities, payoffs that don't add up to 0) isn't looked at; whether each player remembers what it did is noted.
 """
-import pathlib
 import re
-import sys
 from fractions import Fraction
+
+import files
 
 MOST_BYTES = 67_108_864
 MOST_NODES = 1_048_576
@@ -29,12 +29,8 @@ SHORT_ENTRY = re.compile(
 NUMBERS_OF_ENTRY = {b"c": 2, b"p": 3, b"t": 1}
 
 
-class Fault(Exception):
-    """The file's first fault; its text is the line of docs/formats.md."""
-
-
-def bytes_of_file(name):
-    return sys.stdin.buffer.read() if name == "-" else pathlib.Path(name).read_bytes()
+class Fault(files.Fault):
+    """The file's first fault; its text is the line of docs/game_file.md."""
 
 
 def count_of(digits):

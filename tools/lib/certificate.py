@@ -7,12 +7,14 @@ looked at. What the first line says decides which lines follow: FORMS has who re
 import re
 from fractions import Fraction
 
+import files
+
 WHOLE = r"(?:0|-?[1-9][0-9]{0,39})"
 COUNT = r"(?:0|[1-9][0-9]{0,39})"
 FRACTION = rf"{WHOLE}(?:/[1-9][0-9]{{0,39}})?"
 
 
-class Fault(Exception):
+class Fault(files.Fault):
     """Why a text can't be read."""
 
 

@@ -2,6 +2,8 @@
 from fractions import Fraction
 from math import gcd, lcm
 
+import efg
+import files
 import sequence_form
 
 # The finest root that a text may have: so many rounds of so fine a scale.
@@ -10,7 +12,7 @@ MOST_ROUNDS, SCALE = 65_536, 1_048_576
 FINE = 2**64
 
 
-class Differs(Exception):
+class Differs(files.Fault):
     """Why a text can't be one of this game."""
 
 
@@ -26,7 +28,7 @@ class Line:
 
 def compare_head(game, text):
     if game.break_of_recall:
-        raise Differs("refused 18 NotRecall node {} earlier {}".format(*game.break_of_recall))
+        raise efg.Fault("refused 18 NotRecall node {} earlier {}".format(*game.break_of_recall))
     for what, ours, told in (
         ("nodes", len(game.nodes), text.nodes),
         ("leaves", game.leaves(), text.leaves),
@@ -82,7 +84,7 @@ def rounds_for(form, player, chances):
 
 
 def shares(units, weights):
-    """Whole units dealt in proportion to weights, as in the rounds of docs/formats.md."""
+    """Whole units dealt in proportion to weights, as in the rounds of docs/certificate.md."""
     whole, running, ends = sum(weights), 0, [0]
     for weight in weights:
         running += weight

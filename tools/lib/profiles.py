@@ -6,6 +6,7 @@ from fractions import Fraction
 from math import lcm
 
 import efg
+import files
 
 COLUMNS = ["player", "set", "action", "probability"]
 PROBABILITY = re.compile(
@@ -16,7 +17,7 @@ PROBABILITY = re.compile(
 NEAR, LEAST_DIGITS, FARTHEST = Fraction(1, 10**6), 2, Fraction(1, 20)
 
 
-class Fault(Exception):
+class Fault(files.Fault):
     """Why a profile can't be taken, and where."""
 
 
