@@ -1,0 +1,271 @@
+#!/usr/bin/env python3
+"""Runs the program on games, texts and words that are made from a seed, for a time that is given, and tests what must hold
+of every answer whatever the input was. No other solver is asked.
+
+Usage: python3 bench/soak.py [PROGRAM] [--seconds N] [--seed N]
+
+PROGRAM is the built one where nothing else is given, N is 60 seconds, and the seed is 1. Half of the inputs are valid ones;
+the others have a byte, a word or a line that is changed, cut away or there twice. Each case is made from the seed and its
+number alone.
+
+What is tested: the status, standard output and standard error agree with one another; a text of `solve` or `drill` is read
+by tools/certificate.py, comes back byte for byte, and `check` accepts it with its bracket; a changed text is refused, or its
+bracket meets the bracket of the text that it was made from; more workers print the same; `info` prints the numbers of the
+text; what `gen` writes is solved as `drill` does; no call takes more memory or time than its bytes allow.
+
+A finding is shown with its case, and its files are kept. The last line counts what passed and failed, and the status is 1
+where something failed.
+"""
+import argparse
+import collections
+import itertools
+import os
+import pathlib
+import random
+import re
+import shutil
+import subprocess
+import sys
+import tempfile
+import time
+
+sys.dont_write_bytecode = True
+
+from reading import PROGRAM, ROOT  # noqa: E402
+
+sys.path += [str(ROOT / ".ci"), str(ROOT / "tools" / "lib")]
+from checks import NO_MEMORY, READ_FAULT, USAGE, WRITE_FAULT  # noqa: E402
+from small_games import SmallGame  # noqa: E402
+import certificate  # noqa: E402
+
+REFUSED = re.compile(rb"refused ([1-9]|1[0-9]|2[1-9]|3[0-3]) [A-Z][A-Za-z]+( [a-z0-9A-Z ]+)?\n")
+ACCEPTED = re.compile(rb"accepted (no bounds|-?\d+(?:/\d+)? -?\d+(?:/\d+)?)\n")
+LINES = {2: USAGE, 3: READ_FAULT, 4: WRITE_FAULT, 5: NO_MEMORY}
+# What a call may take: so many bytes and seconds, and so many for each byte that it reads and writes, in each round.
+MEMORY, MEMORY_OF_A_BYTE = 64 << 20, 2_000
+SECONDS, SECONDS_OF_A_BYTE = 5.0, 2e-5
+
+Answer = collections.namedtuple("Answer", "status out err memory seconds")
+
+
+class Soak:
+    def __init__(self, program, folder):
+        self.program, self.folder = program, folder
+        self.case, self.passed, self.findings = None, 0, []
+        self.statuses = collections.Counter()
+
+    def that(self, what, holds, told):
+        self.passed += bool(holds)
+        if not holds:
+            self.findings.append(f"case {self.case}: {what}: {str(told)[:300]}")
+            print(self.findings[-1], flush=True)
+
+    def call(self, *words, read=()):
+        """The answer to a call, of which all is tested that holds of every one. `read` has the bytes of its files."""
+        out, err = self.folder / "out", self.folder / "err"
+        begun = time.monotonic()
+        with open(out, "wb") as written, open(err, "wb") as said:
+            process = subprocess.Popen([self.program, *words], stdin=subprocess.DEVNULL, stdout=written, stderr=said)
+            _, ended, usage = os.wait4(process.pid, 0)
+        process.returncode = os.waitstatus_to_exitcode(ended)
+        answer = Answer(
+            process.returncode, out.read_bytes(), err.read_bytes(), usage.ru_maxrss << 10, time.monotonic() - begun
+        )
+        self.statuses[answer.status] += 1
+        self.agrees(words, answer)
+        self.within(words, answer, sum(map(len, read)) + len(answer.out))
+        return answer
+
+    def agrees(self, words, answer):
+        if answer.status == 0:
+            holds = answer.out.endswith(b"\n") and answer.err == b""
+        elif answer.status == 1:
+            holds = answer.out == b"" and REFUSED.fullmatch(answer.err)
+        else:
+            holds = answer.out == b"" and answer.err == LINES.get(answer.status)
+        self.that(f"status, output and error of {words}", holds, answer)
+
+    def within(self, words, answer, count):
+        self.that(f"memory of {words}", answer.memory <= MEMORY + MEMORY_OF_A_BYTE * count, answer.memory)
+        self.that(f"time of {words}", answer.seconds <= SECONDS + SECONDS_OF_A_BYTE * count, answer.seconds)
+
+    def file(self, name, data):
+        path = self.folder / name
+        path.write_bytes(data)
+        return str(path)
+
+
+def changed(chance, data):
+    """The bytes with one change: a byte, a word or a line that is another one, is cut away, is there twice, or all from
+    there on cut."""
+    parts = {
+        "byte": lambda: [data[i : i + 1] for i in range(len(data))],
+        "word": lambda: re.findall(rb"\s+|[^\s]+", data),
+        "line": lambda: data.splitlines(keepends=True),
+    }[chance.choice(("byte", "word", "word", "line"))]()
+    if not parts:
+        return b"x"
+    at, other = chance.randrange(len(parts)), chance.choice(parts)
+    number = re.fullmatch(rb"-?\d+", parts[at])
+    if number and chance.random() < 0.6:
+        other = str(int(number[0]) + chance.choice((-2, -1, 1, 2, 2**62, -(2**62)))).encode()
+    kept = {
+        "other": [other],
+        "byte": [bytes([chance.randrange(256)])],
+        "away": [],
+        "twice": [parts[at], parts[at]],
+    }
+    how = chance.choice((*kept, "other", "cut"))
+    return b"".join(parts[:at] if how == "cut" else [*parts[:at], *kept[how], *parts[at + 1 :]])
+
+
+def options(chance):
+    rounds = chance.choice((0, 1, 1, 2, 3, 7, 20))
+    words = ["--rounds", str(rounds)]
+    if chance.random() < 0.6:
+        words += ["--every", str(chance.choice((1, 2, 3, 65_536)))]
+    if chance.random() < 0.5:
+        words += ["--scale", str(chance.choice((1, 2, 3, 1_000, 65_537, 1_048_575, 1_048_576)))]
+    return words
+
+
+def bracket_of(soak, data):
+    """The bracket of a text, None where it has none; it is read, and comes back as it was."""
+    try:
+        text = certificate.read_text(data)
+    except certificate.Fault as fault:
+        soak.that("the text is read", False, fault)
+        return None
+    soak.that("the text comes back", certificate.text_of(text) == data, data)
+    return None if text.low is None else (text.low, text.high)
+
+
+def told_bracket(out):
+    said = ACCEPTED.fullmatch(out)[1]
+    return None if said == b"no bounds" else tuple(map(certificate.Fraction, said.decode().split()))
+
+
+def is_accepted(soak, file, data, text, bracket):
+    """`check` accepts the text with its bracket."""
+    answer = soak.call("check", file, soak.file("text", text), read=(data, text))
+    soak.that("the text is accepted", answer.status == 0 and ACCEPTED.fullmatch(answer.out), answer)
+    if answer.status == 0:
+        soak.that("with its bracket", told_bracket(answer.out) == bracket, answer.out)
+
+
+def changed_texts(soak, chance, file, data, text, bracket):
+    """Changed texts are refused, or they have bounds that hold too."""
+    for _ in range(6):
+        other = changed(chance, text)
+        answer = soak.call("check", file, soak.file("changed", other), read=(data, other))
+        if answer.status == 0:
+            told = told_bracket(answer.out)
+            holds = (told is None) == (b"bracket" not in other) and (
+                told is None or bracket is None or (told[0] <= bracket[1] and bracket[0] <= told[1])
+            )
+            soak.that("an accepted change has bounds that meet the text's", holds, (other, answer.out))
+        else:
+            soak.that("a changed text is refused", answer.status == 1, answer)
+
+
+def numbers_of(text):
+    """The lines of a text that `info` prints too."""
+    return b"".join(text.splitlines(keepends=True)[1:6])
+
+
+def solved(soak, chance, file, data):
+    """All that must hold of a game that is solved, or refused."""
+    words = options(chance)
+    answer = soak.call("solve", file, *words, read=(data,))
+    told = soak.call("info", file, read=(data,))
+    soak.that("info takes what solve takes", told.status == answer.status and told.err == answer.err, (told, answer))
+    others = soak.call("solve", file, *words, "--workers", str(chance.choice((1, 2, 3, 7, 64))), read=(data,))
+    soak.that("more workers print the same", others[:3] == answer[:3], (words, others.out))
+    if answer.status == 0:
+        soak.that("info prints the numbers", told.out.endswith(numbers_of(answer.out)), told.out)
+        bracket = bracket_of(soak, answer.out)
+        is_accepted(soak, file, data, answer.out, bracket)
+        changed_texts(soak, chance, file, data, answer.out, bracket)
+
+
+def game_case(soak, chance):
+    """A small game, valid or changed."""
+    data = SmallGame(chance.randrange(1 << 40)).data()
+    for _ in range(chance.choice((0, 0, 1, 1, 2))):
+        data = changed(chance, data)
+    solved(soak, chance, soak.file("game.efg", data), data)
+
+
+def stored_case(soak, chance):
+    """A game of games/, valid or changed."""
+    data = chance.choice(sorted((ROOT / "games").glob("*.efg"))).read_bytes()
+    if chance.random() < 0.7:
+        data = changed(chance, data)
+    solved(soak, chance, soak.file("game.efg", data), data)
+
+
+def poker_case(soak, chance):
+    """`drill` prints what `solve` prints of the game that `gen` writes."""
+    cards, words = str(chance.choice((2, 3, 3, 4, 5, 9))), options(chance)
+    written = soak.call("gen", cards)
+    answer = soak.call("drill", cards, *words)
+    file = soak.file("game.efg", written.out)
+    again = soak.call("solve", file, *words, read=(written.out,))
+    soak.that("gen and drill have a game", written.status == answer.status == 0, (written, answer))
+    soak.that("drill is solve of what gen writes", again[:3] == answer[:3], (cards, words))
+    is_accepted(soak, file, written.out, answer.out, bracket_of(soak, answer.out))
+
+
+def words_case(soak, chance):
+    """Words of a command, with one of them another, away or twice."""
+    game = str(ROOT / "games" / "kuhn_poker.efg")
+    words = chance.choice(
+        (["solve", game, *options(chance)], ["check", game, game], ["info", game], ["gen", "2"], ["drill", "2", *options(chance)])
+    )
+    at = chance.randrange(len(words))
+    strange = chance.choice(("", "-", "--", "--rounds", "--rounds=1", "--every=", "--workers=00", "0", "65", "-1", "é", "plus"))
+    words[at : at + 1] = chance.choice(([], [strange], [words[at], strange], [words[at], words[at]]))
+    answer = soak.call(*words, read=(pathlib.Path(game).read_bytes() * 2,))
+    soak.that("words have a status", answer.status in (0, 1, 2, 3), answer)
+
+
+CASES = (game_case, game_case, game_case, stored_case, poker_case, words_case)
+
+
+def keep(folder, number):
+    """Keeps the files of a finding."""
+    kept = pathlib.Path(tempfile.gettempdir()) / f"soak_case_{number}"
+    shutil.copytree(folder, kept, dirs_exist_ok=True)
+    print(f"its files are in {kept}", flush=True)
+
+
+def run(soak, seed, seconds):
+    """The number of cases that were run in this time."""
+    ends = time.monotonic() + seconds
+    for number in itertools.count(1):
+        if time.monotonic() >= ends:
+            return number - 1
+        soak.case, before = number, len(soak.findings)
+        chance = random.Random(f"{seed} {number}")
+        chance.choice(CASES)(soak, chance)
+        if len(soak.findings) > before:
+            keep(soak.folder, number)
+
+
+def main():
+    parser = argparse.ArgumentParser(description=__doc__, formatter_class=argparse.RawDescriptionHelpFormatter)
+    parser.add_argument("program", metavar="PROGRAM", nargs="?", default=str(PROGRAM))
+    parser.add_argument("--seconds", metavar="N", type=int, default=60)
+    parser.add_argument("--seed", metavar="N", type=int, default=1)
+    given = parser.parse_args()
+    with tempfile.TemporaryDirectory() as folder:
+        soak = Soak(given.program, pathlib.Path(folder))
+        cases = run(soak, given.seed, given.seconds)
+    statuses = ", ".join(f"{count} of status {status}" for status, count in sorted(soak.statuses.items()))
+    print(f"{cases} cases, calls: {statuses}")
+    print(f"soak: {soak.passed} passed, {len(soak.findings)} failed")
+    return 1 if soak.findings else 0
+
+
+if __name__ == "__main__":
+    sys.exit(main())
