@@ -5,3 +5,4 @@ pub mod Walks
 pub mod Nesting
 pub mod Outcomes
 pub mod Rows
+pub mod Linking

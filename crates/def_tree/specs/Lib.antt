@@ -3,4 +3,5 @@ pub mod Tree
 pub mod Rules
 pub mod Events
 pub mod Code
+pub mod Links
 pub mod Outcomes

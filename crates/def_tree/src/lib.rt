@@ -2,6 +2,7 @@
 #![tactic(auto)]
 
 ghost use Rattle.def_tree.specs.Events.{EntersInPrefixOrder, LeavesAfterLastChild, LeavesEachOnce};
+ghost use Rattle.def_tree.specs.Links.{LinkRows, LinksTellChildren};
 ghost use Rattle.def_tree.specs.Outcomes.{EachOutcomeAppears};
 ghost use Rattle.def_tree.specs.Rules.{EachSetAppears, RuleRows, SetsAgreeOnSize};
 ghost use Rattle.def_tree.specs.Tree.{ForestOfPrefix, PrefixOfForest, WholeIffTree};
@@ -84,6 +85,17 @@ pub fn leaves_each_once()
 /// node.
 pub fn leaves_after_last_child()
     ensures { LeavesAfterLastChild }
+{}
+
+/// A node's parent, first child and next sibling are what the lists of children say; the root has no parent and no
+/// sibling.
+pub fn links_tell_children()
+    ensures { LinksTellChildren }
+{}
+
+/// The links of one leaf, of a chain, of matching pennies, and of two trees with leaves at several depths.
+pub fn link_rows()
+    ensures { LinkRows }
 {}
 
 /// A first node has 1 to 1,024 children; the next is in its set with as many, in the next set, or in another kind's

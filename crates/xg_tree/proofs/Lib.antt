@@ -2,3 +2,5 @@ pub mod KeptLemmas
 pub mod SizesLemmas
 pub mod BuiltLemmas
 pub mod VisitsLemmas
+pub mod LinkedLemmas
+pub mod JoinedLemmas

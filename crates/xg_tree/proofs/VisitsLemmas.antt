@@ -1,16 +1,19 @@
--- A walk node by node, over the nodes in prefix order.
-use Rattle.std.proofs.Common.{◌≡◌, ℕ, zero, suc, ◌+◌, ◌<◌, ◌≤◌, List, [], ◌∷◌, ◌++◌, length, get_or, drop, refl, ap, sym, subst, ◌∙◌, arith, append_assoc, append-nil, inl, inr, add-one, drop-cons, length-append}
-use Rattle.std.proofs.lemmas.List.{drop-drop}
-use Rattle.std.proofs.lemmas.Bool.{cases_lt}
+-- The walk by the links of nodes is the walk through their tree.
+use Rattle.std.proofs.Common.{◌≡◌, ◌≢◌, ℕ, zero, suc, cond, true, false, ◌+◌, ◌<◌, ◌≤◌, List, [], ◌∷◌, ◌++◌, length, get_or, drop, refl, ap, sym, subst, ◌∙◌, arith, append_assoc, append-nil, add-one, drop-cons, length-append}
+use Rattle.std.specs.Prelude.{nat_eq}
+use Rattle.std.proofs.lemmas.Bool.{eq-eqb, ne_eqb}
 use Rattle.std.proofs.Math.ListN.{drop_of_length-le}
-use Rattle.std.proofs.Math.Seq.{drop-append_seam}
 use Rattle.def_tree.specs.declared.Node.{Node}
-use Rattle.def_tree.specs.Tree.{Forest, bare, grown, forest_of, prefix, take_trees, drop_trees, tree_count, HasItsChildren, node_count}
+use Rattle.def_tree.specs.Tree.{Forest, bare, grown, forest_of, prefix, node_count, tree_count}
 use Rattle.def_tree.specs.Events.{Event, Enter, Leave, events_from, events, Accepts, Leads}
-use Rattle.def_tree.proofs.Forests.{prefix-forest_of, forest_of-prefix_whole}
-use Rattle.def_tree.proofs.Lists.{trees_of}
+use Rattle.def_tree.proofs.Forests.{prefix-forest_of}
+use Rattle.def_tree.proofs.Lists.{tree_of_whole}
+use Rattle.xg_tree.specs.declared.links.Links.{Links}
+use Rattle.xg_tree.specs.Linked.{AreInOrder, first_root, link_numbers, links_at, stored, stored_from}
 use Rattle.xg_tree.specs.Kept.{IsKeptTree}
-use Rattle.xg_tree.specs.Visits.{row_at, row_events, row_end, HasTreesAt}
+use Rattle.xg_tree.specs.Visits.{left_after, leaving, leaving_from, visit_events, visits_from}
+use Rattle.xg_tree.proofs.LinkedLemmas.{AreInOrder-on, links_at-seam, length-stored_from, none_in_order}
+use Rattle.xg_tree.proofs.JoinedLemmas.{linked-whole}
 
 module _ {V : Type 0} (may_enter : V → ℕ → Node → Type 0) (enters : V → ℕ → Node → V → Type 0)
     (may_leave : V → ℕ → Type 0) (leaves : V → ℕ → V → Type 0) where
@@ -54,204 +57,206 @@ module _ {V : Type 0} (may_enter : V → ℕ → Node → Type 0) (enters : V �
       → Leads may_enter enters may_leave leaves whole start now
   going_ends whole start now going = going.leads now refl
 
-tree_count-take_trees-le : (n : ℕ) (xs : Forest) → tree_count (take_trees n xs) ≤ tree_count xs
-tree_count-take_trees-le zero xs = omega arith
-tree_count-take_trees-le (suc n) bare = omega arith
-tree_count-take_trees-le (suc n) (grown node below beside) = omega (arith, tree_count-take_trees-le n beside)
+leaving-none : (n : ℕ) (links : List Links) → leaving_from n links 0 ≡ []
+leaving-none zero links = refl
+leaving-none (suc n) links = refl
 
--- where a cut row has its children on both sides, the whole has
-HasItsChildren-cut : (n : ℕ) (xs : Forest) → HasItsChildren (take_trees n xs) → HasItsChildren (drop_trees n xs)
-    → HasItsChildren xs
-HasItsChildren-cut zero xs h k = k
-HasItsChildren-cut (suc n) bare h k = tt
-HasItsChildren-cut (suc n) (grown node below beside) h k = (h.0, h.1, HasItsChildren-cut n beside h.2 k)
+left_after-last : (links : List Links) (k : ℕ) → (links_at links k).next_sibling ≡ 0 → left_after links k ≡ (links_at links k).parent
+left_after-last links k last = ap (λ b. cond b (links_at links k).parent 0) (eq-eqb (links_at links k).next_sibling 0 last)
 
--- where a tree stands, a node does
-pub there_by : (nodes : List Node) (at count : ℕ) → HasTreesAt nodes at count → 0 < count → at < length nodes
-there_by nodes at count has some = elim (cases_lt at (length nodes)) [
-  | inl there ↦ there
-  | inr past ↦
-      let none : tree_count (forest_of (drop at nodes)) ≡ 0 = ap (λ xs. tree_count (forest_of xs)) (drop_of_length-le nodes past) in
-      let few : count ≤ tree_count (forest_of (drop at nodes)) = has.some in
-      absurd (omega arith)
-]
+left_after-other : (links : List Links) (k : ℕ) → (links_at links k).next_sibling ≢ 0 → left_after links k ≡ 0
+left_after-other links k more = ap (λ b. cond b (links_at links k).parent 0) (ne_eqb (links_at links k).next_sibling 0 more)
 
--- the trees from a node on: the node over its children's, and the rest
-pub forest_opened : (nodes : List Node) (at : ℕ) (d : Node) → at < length nodes →
-    forest_of (drop at nodes) ≡ grown (get_or nodes at d) (take_trees (get_or nodes at d).children (forest_of (drop (at + 1) nodes))) (drop_trees (get_or nodes at d).children (forest_of (drop (at + 1) nodes)))
-forest_opened nodes at d there =
-    ap forest_of (drop-cons nodes at d there ∙ ap (λ n. get_or nodes at d ∷ drop n nodes) (sym (add-one at)))
+-- a node that is left with another comes before it
+pub left_before : (links : List Links) (k : ℕ) → AreInOrder links → 1 ≤ k → left_after links k < k
+left_before links k ordered some =
+    let before : (links_at links k).parent < k = ordered k some in
+    elim (nat_eq (links_at links k).next_sibling 0) as (λ b. cond b (links_at links k).parent 0 < k) [ true ↦ before | false ↦ omega arith ]
 
-pub events_opened : (nodes : List Node) (at : ℕ) (d : Node) → at < length nodes →
-    row_events nodes at 1 ≡ Enter (at + 1) (get_or nodes at d) ∷ (row_events nodes (at + 1) (get_or nodes at d).children ++ (Leave (at + 1) ∷ []))
-events_opened nodes at d there = ap (λ f. events_from (at + 1) (take_trees 1 f)) (forest_opened nodes at d there)
+leaving-fuel : (m n : ℕ) (links : List Links) (k : ℕ) → AreInOrder links → k ≤ m → k ≤ n
+    → leaving_from m links k ≡ leaving_from n links k
+leaving-fuel zero n links zero ordered h g = sym (leaving-none n links)
+leaving-fuel zero n links (suc i) ordered h g = absurd (omega arith)
+leaving-fuel (suc m) n links zero ordered h g = sym (leaving-none n links)
+leaving-fuel (suc m) zero links (suc i) ordered h g = absurd (omega arith)
+leaving-fuel (suc m) (suc n) links (suc i) ordered h g =
+    let before : left_after links (suc i) < suc i = left_before links (suc i) ordered (omega arith) in
+    ap (λ rest. Leave (suc i) ∷ rest) (leaving-fuel m n links (left_after links (suc i)) ordered (omega arith) (omega arith))
 
-pub children_opened : (nodes : List Node) (at : ℕ) (d : Node) → at < length nodes → HasTreesAt nodes at 1
-    → HasTreesAt nodes (at + 1) (get_or nodes at d).children
-children_opened nodes at d there has =
-    let node : Node = get_or nodes at d in
-    let rest : Forest = forest_of (drop (at + 1) nodes) in
-    let all = subst HasItsChildren (forest_opened nodes at d there) has.children in
-    let count : tree_count (take_trees node.children rest) ≡ node.children = all.0 in
-    record {
-      limit = has.limit;
-      some = omega (arith, tree_count-take_trees-le node.children rest);
-      children = HasItsChildren-cut node.children rest all.1 all.2;
-    }
+leaving-cons : (n : ℕ) (links : List Links) (k : ℕ) → AreInOrder links → 1 ≤ k → k ≤ n
+    → leaving_from n links k ≡ Leave k ∷ leaving_from n links (left_after links k)
+leaving-cons zero links k ordered some high = absurd (omega arith)
+leaving-cons (suc n) links zero ordered some high = absurd (omega arith)
+leaving-cons (suc n) links (suc i) ordered some high =
+    let before : left_after links (suc i) < suc i = left_before links (suc i) ordered (omega arith) in
+    ap (λ rest. Leave (suc i) ∷ rest) (leaving-fuel n (suc n) links (left_after links (suc i)) ordered (omega arith) (omega arith))
 
-pub end_opened : (nodes : List Node) (at : ℕ) (d : Node) → at < length nodes
-    → row_end nodes at 1 ≡ row_end nodes (at + 1) (get_or nodes at d).children
-end_opened nodes at d there =
-    let rest : Forest = take_trees (get_or nodes at d).children (forest_of (drop (at + 1) nodes)) in
-    let opened : node_count (row_at nodes at 1) ≡ suc (length (prefix rest ++ [])) = ap (λ f. node_count (take_trees 1 f)) (forest_opened nodes at d there) in
-    omega (arith, opened, ap length (append-nil (prefix rest)))
+-- a node is left, and then those that are left with it
+pub leaving_opened : (links : List Links) (k : ℕ) → AreInOrder links → 1 ≤ k → k ≤ length links
+    → leaving links k ≡ Leave k ∷ leaving links (left_after links k)
+leaving_opened links k ordered some high = leaving-cons (length links) links k ordered some high
 
--- behind the first tree stand the trees beside it
-behind_first : (nodes : List Node) (at : ℕ) (node : Node) (below beside : Forest)
-    → forest_of (drop at nodes) ≡ grown node below beside → HasItsChildren beside →
-    forest_of (drop (at + node_count (grown node below bare)) nodes) ≡ beside
-behind_first nodes at node below beside e has =
-    let seen : drop at nodes ≡ (node ∷ prefix below) ++ prefix beside = sym (prefix-forest_of (drop at nodes)) ∙ ap prefix e in
-    let long : node_count (grown node below bare) ≡ length (node ∷ prefix below) = ap (λ xs. length (node ∷ xs)) (append-nil (prefix below)) in
-    ap forest_of (sym (drop-drop (node_count (grown node below bare)) at nodes) ∙ (λ i. drop (long i) (seen i)) ∙ drop-append_seam (node ∷ prefix below) (prefix beside))
-    ∙ forest_of-prefix_whole beside has
+visits_from-append : (links : List Links) (k : ℕ) (xs ys : List Node)
+    → visits_from links k (xs ++ ys) ≡ visits_from links k xs ++ visits_from links (k + length xs) ys
+visits_from-append links k [] ys = ap (λ n. visits_from links n ys) (omega arith)
+visits_from-append links k (x ∷ xs) ys =
+    let far : k + 1 + length xs ≡ k + length (x ∷ xs) = omega arith in
+    ap (λ rest. visit_events links k x ++ rest) (visits_from-append links (k + 1) xs ys ∙ ap (λ n. visits_from links (k + 1) xs ++ visits_from links n ys) far)
+    ∙ sym (append_assoc (visit_events links k x) (visits_from links (k + 1) xs) (visits_from links (k + length (x ∷ xs)) ys))
 
-pub record IsSplit (nodes : List Node) (at count next : ℕ) : Type 0 where
-  pub steps : row_events nodes at (suc count) ≡ row_events nodes at 1 ++ row_events nodes next count
-  pub trees : HasTreesAt nodes next count
-  pub end : row_end nodes at (suc count) ≡ row_end nodes next count
+-- the nodes of the trees from k on have the links of these trees, below a parent
+abbrev HasLinks : List Links → ℕ → ℕ → Forest → Type 0
+HasLinks links parent k bare = Unit {0}
+HasLinks links parent k (grown node below beside) =
+    (links_at links k ≡ link_numbers parent (first_root (k + 1) below) (first_root (k + 1 + node_count below) beside))
+    × HasLinks links k (k + 1) below × HasLinks links parent (k + 1 + node_count below) beside
 
-split_at : (nodes : List Node) (at count : ℕ) (row : Forest) → forest_of (drop at nodes) ≡ row
-    → HasTreesAt nodes at (suc count) → IsSplit nodes at count (row_end nodes at 1)
-split_at nodes at count bare e has = let some : suc count ≤ tree_count (forest_of (drop at nodes)) = has.some in absurd (omega (arith, ap tree_count e))
-split_at nodes at count (grown node below beside) e has =
-    let all = subst HasItsChildren e has.children in
-    let first : row_end nodes at 1 ≡ at + node_count (grown node below bare) = ap (λ f. at + node_count (take_trees 1 f)) e in
-    let rest : forest_of (drop (row_end nodes at 1) nodes) ≡ beside = ap (λ n. forest_of (drop n nodes)) first ∙ behind_first nodes at node below beside e all.2 in
-    let some : suc count ≤ tree_count (forest_of (drop at nodes)) = has.some in
-    record {
-      steps =
-          let after : at + 1 + 1 + node_count below ≡ row_end nodes at 1 + 1 = omega (arith, first, ap length (append-nil (prefix below))) in
-          ap (λ f. events_from (at + 1) (take_trees (suc count) f)) e
-          ∙ ap (λ n. Enter (at + 1) node ∷ (events_from (at + 1 + 1) below ++ (Leave (at + 1) ∷ events_from n (take_trees count beside)))) after
-          ∙ ap (λ xs. Enter (at + 1) node ∷ xs) (sym (append_assoc (events_from (at + 1 + 1) below) (Leave (at + 1) ∷ []) (events_from (row_end nodes at 1 + 1) (take_trees count beside))))
-          ∙ (λ i. events_from (at + 1) (take_trees 1 (sym e i)) ++ events_from (row_end nodes at 1 + 1) (take_trees count (sym rest i)));
-      trees = record {
-        limit = has.limit;
-        some = omega (arith, ap tree_count e, ap tree_count rest);
-        children = subst HasItsChildren (sym rest) all.2;
-      };
-      end =
-          let all_nodes : node_count (row_at nodes at (suc count)) ≡ suc (length (prefix below ++ prefix (take_trees count beside))) = ap (λ f. node_count (take_trees (suc count) f)) e in
-          let others : node_count (row_at nodes (row_end nodes at 1) count) ≡ length (prefix (take_trees count beside)) = ap (λ f. node_count (take_trees count f)) rest in
-          omega (arith, all_nodes, others, first, ap length (append-nil (prefix below)), length-append (prefix below) (prefix (take_trees count beside)));
-    }
+has_links : (front back : List Links) (parent k : ℕ) (trees : Forest) → k ≡ length front + 1
+    → HasLinks (front ++ (stored_from parent k trees ++ back)) parent k trees
+has_links front back parent k bare at = tt
+has_links front back parent k (grown node below beside) at =
+    let after : ℕ = k + 1 + node_count below in
+    let x : Links = link_numbers parent (first_root (k + 1) below) (first_root after beside) in
+    let inner : List Links = stored_from k (k + 1) below in
+    let outer : List Links = stored_from parent after beside in
+    let whole : List Links = front ++ (x ∷ ((inner ++ outer) ++ back)) in
+    let far : length (front ++ x ∷ inner) ≡ length front + suc (length inner) = length-append front (x ∷ inner) in
+    let long : length inner ≡ node_count below = length-stored_from k (k + 1) below in
+    let opened : length (front ++ x ∷ []) ≡ length front + 1 = length-append front (x ∷ []) in
+    let under : (front ++ x ∷ []) ++ (inner ++ (outer ++ back)) ≡ whole =
+    append_assoc front (x ∷ []) (inner ++ (outer ++ back)) ∙ ap (λ rest. front ++ (x ∷ rest)) (sym (append_assoc inner outer back))
+    in let behind : (front ++ x ∷ inner) ++ (outer ++ back) ≡ whole =
+    append_assoc front (x ∷ inner) (outer ++ back) ∙ ap (λ rest. front ++ (x ∷ rest)) (sym (append_assoc inner outer back))
+    in (
+      links_at-seam front x ((inner ++ outer) ++ back) k at,
+      subst (λ l. HasLinks l k (k + 1) below) under (has_links (front ++ x ∷ []) (outer ++ back) k (k + 1) below (omega arith)),
+      subst (λ l. HasLinks l parent after beside) behind (has_links (front ++ x ∷ inner) back parent after beside (omega arith)),
+    )
 
--- a row of trees is its first one, and then the others
-pub row_split : (nodes : List Node) (at count : ℕ) → HasTreesAt nodes at (suc count)
-    → IsSplit nodes at count (row_end nodes at 1)
-row_split nodes at count has = split_at nodes at count (forest_of (drop at nodes)) refl has
+nodes_in : (node : Node) (below beside : Forest) → node_count (grown node below beside) ≡ 1 + node_count below + node_count beside
+nodes_in node below beside = omega (arith, length-append (prefix below) (prefix beside))
 
--- in nodes that are kept a whole tree stands from the first place on
-pub trees_of_kept : (nodes : List Node) (ended : ℕ) → IsKeptTree nodes ended → HasTreesAt nodes 0 1
-trees_of_kept nodes ended kept =
-    let trees : (tree_count (forest_of nodes) ≡ 1) × HasItsChildren (forest_of nodes) = trees_of 1 nodes kept.whole.begins kept.whole.ends in
-    record { limit = kept.limit; some = omega (arith, trees.0); children = trees.1 }
+module _ (links : List Links) (ordered : AreInOrder links) where
+  -- with the last node below a node it is left, and then come the trees beside it
+  then_beside : (parent k after : ℕ) (beside : Forest) → (links_at links k).parent ≡ parent
+      → (links_at links k).next_sibling ≡ first_root after beside → 1 ≤ k → k < after → after + node_count beside ≤ length links + 1
+      → (1 ≤ tree_count beside → visits_from links after (prefix beside) ≡ events_from after beside ++ leaving links parent)
+      → leaving links k ++ visits_from links after (prefix beside) ≡ Leave k ∷ (events_from after beside ++ leaving links parent)
+  then_beside parent k after bare above next some later high walks =
+      append-nil (leaving links k) ∙ leaving_opened links k ordered some (omega arith) ∙ ap (λ n. Leave k ∷ leaving links n) (left_after-last links k next ∙ above)
+  then_beside parent k after (grown other under rest) above next some later high walks =
+      let many : node_count (grown other under rest) ≡ 1 + node_count under + node_count rest = nodes_in other under rest in
+      let alone : leaving links k ≡ Leave k ∷ [] =
+      leaving_opened links k ordered some (omega arith) ∙ ap (λ n. Leave k ∷ leaving links n) (left_after-other links k (λ e. absurd (omega arith))) ∙ ap (λ l. Leave k ∷ l) (leaving-none (length links) links)
+      in (λ i. alone i ++ walks (omega arith) i)
+
+  -- after a node is entered come the trees below it
+  then_below : (parent k : ℕ) (node : Node) (below : Forest) (rest : List Event)
+      → (links_at links k).first_child ≡ first_root (k + 1) below
+      → (1 ≤ tree_count below → visits_from links (k + 1) (prefix below) ≡ events_from (k + 1) below ++ leaving links k)
+      → visit_events links k node ++ (visits_from links (k + 1) (prefix below) ++ rest) ≡ Enter k node ∷ (events_from (k + 1) below ++ (leaving links k ++ rest))
+  then_below parent k node bare rest first walks =
+      ap (λ b. (Enter k node ∷ cond b (leaving links k) []) ++ rest) (eq-eqb (links_at links k).first_child 0 first)
+  then_below parent k node (grown other under others) rest first walks =
+      let some : (links_at links k).first_child ≢ 0 = λ e. absurd (omega arith) in
+      ap (λ b. (Enter k node ∷ cond b (leaving links k) []) ++ (visits_from links (k + 1) (prefix (grown other under others)) ++ rest)) (ne_eqb (links_at links k).first_child 0 some)
+      ∙ ap (λ l. Enter k node ∷ (l ++ rest)) (walks (omega arith))
+      ∙ ap (λ l. Enter k node ∷ l) (append_assoc (events_from (k + 1) (grown other under others)) (leaving links k) rest)
+
+  -- visits to the nodes of some trees walk through them, and leave the nodes above that are left with the last one
+  walks : (trees : Forest) (parent k : ℕ) → HasLinks links parent k trees → 1 ≤ k
+      → k + node_count trees ≤ length links + 1 → 1 ≤ tree_count trees
+      → visits_from links k (prefix trees) ≡ events_from k trees ++ leaving links parent
+  walks bare parent k has some high one = absurd (omega arith)
+  walks (grown node below beside) parent k has some high one =
+      let after : ℕ = k + 1 + node_count below in
+      let many : node_count (grown node below beside) ≡ 1 + node_count below + node_count beside = nodes_in node below beside in
+      ap (λ l. visit_events links k node ++ l) (visits_from-append links (k + 1) (prefix below) (prefix beside))
+      ∙ then_below parent k node below (visits_from links after (prefix beside)) (ap (λ l. l.first_child) has.0) (λ some_below. walks below k (k + 1) has.1 (omega arith) (omega arith) some_below)
+      ∙ ap (λ l. Enter k node ∷ (events_from (k + 1) below ++ l))
+      (then_beside parent k after beside (ap (λ l. l.parent) has.0) (ap (λ l. l.next_sibling) has.0) some (omega arith) (omega arith)
+      (λ some_beside. walks beside parent after has.2 (omega arith) (omega arith) some_beside))
+      ∙ ap (λ l. Enter k node ∷ l) (sym (append_assoc (events_from (k + 1) below) (Leave k ∷ events_from after beside) (leaving links parent)))
+
+-- the links that are kept have each node after its parent
+pub kept_in_order : (nodes : List Node) (links : List Links) (ended : ℕ) → IsKeptTree nodes links ended → AreInOrder links
+kept_in_order nodes links ended kept = subst AreInOrder (linked-whole nodes kept.whole ∙ sym kept.stored) (AreInOrder-on [] nodes none_in_order)
+
+-- visits to all nodes are the walk through the tree
+pub visits_seen : (nodes : List Node) (links : List Links) (ended : ℕ) (tree : Forest) → forest_of nodes ≡ tree
+    → IsKeptTree nodes links ended → visits_from links 1 nodes ≡ events tree
+visits_seen nodes links ended tree e kept =
+    let trees : Forest = forest_of nodes in
+    let one : tree_count trees ≡ 1 = (tree_of_whole nodes kept.whole).one in
+    let has : HasLinks links 0 1 trees = subst (λ l. HasLinks l 0 1 trees) (append-nil (stored trees) ∙ sym kept.stored) (has_links [] [] 0 1 trees refl) in
+    let long : length links ≡ node_count trees = ap length kept.stored ∙ length-stored_from 0 1 trees in
+    ap (visits_from links 1) (sym (prefix-forest_of nodes)) ∙ walks links (kept_in_order nodes links ended kept) trees 0 1 has (omega arith) (omega arith) (omega arith)
+    ∙ ap (λ l. events trees ++ l) (leaving-none (length links) links) ∙ append-nil (events trees) ∙ ap events e
+
+-- the visits from a node on begin with that to it
+pub visits_opened : (links : List Links) (nodes : List Node) (at : ℕ) (d : Node) → at < length nodes →
+    visits_from links (at + 1) (drop at nodes) ≡ visit_events links (at + 1) (get_or nodes at d) ++ visits_from links (at + 1 + 1) (drop (at + 1) nodes)
+visits_opened links nodes at d there = ap (visits_from links (at + 1)) (drop-cons nodes at d there ∙ ap (λ n. get_or nodes at d ∷ drop n nodes) (sym (add-one at)))
 
 module _ {V : Type 0} (may_enter : V → ℕ → Node → Type 0) (enters : V → ℕ → Node → V → Type 0)
     (may_leave : V → ℕ → Type 0) (leaves : V → ℕ → V → Type 0) where
-  -- the walk through the tree at `at` began at `start`;
-  -- so many of its root's children are left, from `next` on, and the visitor is `now`
-  pub record IsAmongChildren (nodes : List Node) (at : ℕ) (start : V) (left next : ℕ) (now : V) : Type 0 where
-    pub trees : HasTreesAt nodes next left
-    pub end : row_end nodes next left ≡ row_end nodes at 1
-    pub going : IsGoing may_enter enters may_leave leaves (row_events nodes at 1) start (row_events nodes next left ++ (Leave (at + 1) ∷ [])) now
-    pub beyond : at < next
+  -- a node is left, and those that are left with it are still to be left
+  pub left_on : (whole : List Event) (start : V) (links : List Links) (k after : ℕ) (now next : V) → AreInOrder links → 1 ≤ k
+      → k ≤ length links → after ≡ left_after links k
+      → IsGoing may_enter enters may_leave leaves whole start (leaving links k) now → leaves now k next
+      → IsGoing may_enter enters may_leave leaves whole start (leaving links after) next
+  left_on whole start links k after now next ordered some high is going step =
+      subst (λ n. IsGoing may_enter enters may_leave leaves whole start (leaving links n) next) (sym is)
+      (going_leaves may_enter enters may_leave leaves whole start k (leaving links (left_after links k)) now next
+      (subst (λ l. IsGoing may_enter enters may_leave leaves whole start l now) (leaving_opened links k ordered some high) going) step)
 
-  pub may_enter_root : (nodes : List Node) (at : ℕ) (d : Node) (start : V) → at < length nodes
-      → Accepts may_enter enters may_leave leaves (row_events nodes at 1) start
-      → may_enter start (at + 1) (get_or nodes at d)
-  may_enter_root nodes at d start there accepts = let opened = subst (λ es. Accepts may_enter enters may_leave leaves es start) (events_opened nodes at d there) accepts in opened.0
+  -- a walk through a tree has visits to all its nodes to come
+  pub walk_begins : (nodes : List Node) (links : List Links) (ended : ℕ) (tree : Forest) (start : V) → forest_of nodes ≡ tree
+      → IsKeptTree nodes links ended → Accepts may_enter enters may_leave leaves (events tree) start
+      → IsGoing may_enter enters may_leave leaves (events tree) start (visits_from links 1 nodes) start
+  walk_begins nodes links ended tree start e kept accepts =
+      subst (λ rest. IsGoing may_enter enters may_leave leaves (events tree) start rest start) (sym (visits_seen nodes links ended tree e kept)) (going_begins may_enter enters may_leave leaves (events tree) start accepts)
 
-  -- once the root is entered, all its children are left
-  pub at_first_child : (nodes : List Node) (at left : ℕ) (d : Node) (start now : V)
-      → left ≡ (get_or nodes at d).children → at < length nodes → HasTreesAt nodes at 1
-      → Accepts may_enter enters may_leave leaves (row_events nodes at 1) start →
-      enters start (at + 1) (get_or nodes at d) now → IsAmongChildren nodes at start left (at + 1) now
-  at_first_child nodes at left d start now all there has accepts step = subst (λ n. IsAmongChildren nodes at start n (at + 1) now) (sym all) (
-      let begun = subst (λ es. IsGoing may_enter enters may_leave leaves (row_events nodes at 1) start es start) (events_opened nodes at d there) (going_begins may_enter enters may_leave leaves (row_events nodes at 1) start accepts) in
-      record {
-        trees = children_opened nodes at d there has;
-        end = sym (end_opened nodes at d there);
-        going = going_enters may_enter enters may_leave leaves (row_events nodes at 1) start (at + 1) (get_or nodes at d) (row_events nodes (at + 1) (get_or nodes at d).children ++ (Leave (at + 1) ∷ [])) start now begun step;
-        beyond = omega arith;
-      })
+  -- of a walk, the visits from a node on are to come
+  abbrev IsAtNode : List Event → V → List Node → List Links → ℕ → V → Type 0
+  IsAtNode whole start nodes links at now = IsGoing may_enter enters may_leave leaves whole start (visits_from links (at + 1) (drop at nodes)) now
 
-  going_split : (nodes : List Node) (at : ℕ) (start : V) (left next : ℕ) (now : V)
-      → IsAmongChildren nodes at start (suc left) next now →
-      IsGoing may_enter enters may_leave leaves (row_events nodes at 1) start (row_events nodes next 1 ++ (row_events nodes (row_end nodes next 1) left ++ (Leave (at + 1) ∷ []))) now
-  going_split nodes at start left next now among =
-      subst (λ es. IsGoing may_enter enters may_leave leaves (row_events nodes at 1) start es now)
-      (ap (λ es. es ++ (Leave (at + 1) ∷ [])) (row_split nodes next left among.trees).steps ∙ append_assoc (row_events nodes next 1) (row_events nodes (row_end nodes next 1) left) (Leave (at + 1) ∷ []))
-      among.going
+  opened : (whole : List Event) (start : V) (nodes : List Node) (links : List Links) (at : ℕ) (d : Node) (now : V) → at < length nodes
+      → IsAtNode whole start nodes links at now →
+      IsGoing may_enter enters may_leave leaves whole start (visit_events links (at + 1) (get_or nodes at d) ++ visits_from links (at + 1 + 1) (drop (at + 1) nodes)) now
+  opened whole start nodes links at d now there going =
+      subst (λ rest. IsGoing may_enter enters may_leave leaves whole start rest now) (visits_opened links nodes at d there) going
 
-  child_accepts : (nodes : List Node) (at : ℕ) (start : V) (left next : ℕ) (now : V)
-      → IsAmongChildren nodes at start (suc left) next now
-      → Accepts may_enter enters may_leave leaves (row_events nodes next 1) now
-  child_accepts nodes at start left next now among =
-      going_accepts may_enter enters may_leave leaves (row_events nodes at 1) start (row_events nodes next 1) (row_events nodes (row_end nodes next 1) left ++ (Leave (at + 1) ∷ [])) now (going_split nodes at start left next now among)
+  -- the next of them is accepted
+  pub visit_accepted : (whole : List Event) (start : V) (nodes seen : List Node) (links read : List Links) (at : ℕ) (d : Node) (now : V)
+      → seen ≡ nodes → read ≡ links → at < length seen → IsAtNode whole start nodes links at now →
+      Accepts may_enter enters may_leave leaves (visit_events read (at + 1) (get_or seen at d)) now
+  visit_accepted whole start nodes seen links read at d now same alike there going =
+      subst (λ xs. Accepts may_enter enters may_leave leaves (visit_events read (at + 1) (get_or xs at d)) now) (sym same)
+      (subst (λ ls. Accepts may_enter enters may_leave leaves (visit_events ls (at + 1) (get_or nodes at d)) now) (sym alike)
+      (going_accepts may_enter enters may_leave leaves whole start (visit_events links (at + 1) (get_or nodes at d)) (visits_from links (at + 1 + 1) (drop (at + 1) nodes)) now
+      (opened whole start nodes links at d now (omega (arith, ap length same)) going)))
 
-  -- the walk through one child's tree leads on to the next
-  past_child : (nodes : List Node) (at : ℕ) (start : V) (left next : ℕ) (now then : V)
-      → IsAmongChildren nodes at start (suc left) next now →
-      Leads may_enter enters may_leave leaves (row_events nodes next 1) now then → IsAmongChildren nodes at start left (row_end nodes next 1) then
-  past_child nodes at start left next now then among leads =
-      let split = row_split nodes next left among.trees in
-      let beyond : at < next = among.beyond in
-      record {
-        trees = split.trees;
-        end = sym split.end ∙ among.end;
-        going = going_on may_enter enters may_leave leaves (row_events nodes at 1) start (row_events nodes next 1) (row_events nodes (row_end nodes next 1) left ++ (Leave (at + 1) ∷ [])) now then (going_split nodes at start left next now among) leads;
-        beyond = omega arith;
-      }
+  -- and leads to the node behind it
+  pub visit_over : (whole : List Event) (start : V) (nodes seen : List Node) (links read : List Links) (at : ℕ) (d : Node) (now next : V)
+      → seen ≡ nodes → read ≡ links → at < length seen → IsAtNode whole start nodes links at now
+      → Leads may_enter enters may_leave leaves (visit_events read (at + 1) (get_or seen at d)) now next
+      → IsAtNode whole start nodes links (at + 1) next
+  visit_over whole start nodes seen links read at d now next same alike there going leads =
+      going_on may_enter enters may_leave leaves whole start (visit_events links (at + 1) (get_or nodes at d)) (visits_from links (at + 1 + 1) (drop (at + 1) nodes)) now next
+      (opened whole start nodes links at d now (omega (arith, ap length same)) going)
+      (subst (λ ls. Leads may_enter enters may_leave leaves (visit_events ls (at + 1) (get_or nodes at d)) now next) alike
+      (subst (λ xs. Leads may_enter enters may_leave leaves (visit_events read (at + 1) (get_or xs at d)) now next) same leads))
 
-  -- where a child is left, its tree may be walked through
-  pub next_child : (nodes : List Node) (at : ℕ) (start : V) (more next : ℕ) (now : V) → 0 < more
-      → IsAmongChildren nodes at start more next now
-      → HasTreesAt nodes next 1 × Accepts may_enter enters may_leave leaves (row_events nodes next 1) now
-  next_child nodes at start zero next now some among = absurd (omega arith)
-  next_child nodes at start (suc left) next now some among =
-      let few : suc left ≤ tree_count (forest_of (drop next nodes)) = among.trees.some in
-      (record { limit = among.trees.limit; some = omega arith; children = among.trees.children }, child_accepts nodes at start left next now among)
+  -- behind the last node the walk is over
+  pub walk_over : (whole : List Event) (start : V) (nodes : List Node) (links : List Links) (at : ℕ) (now : V)
+      → length nodes ≤ at → IsAtNode whole start nodes links at now → Leads may_enter enters may_leave leaves whole start now
+  walk_over whole start nodes links at now past going =
+      going_ends may_enter enters may_leave leaves whole start now
+      (subst (λ xs. IsGoing may_enter enters may_leave leaves whole start (visits_from links (at + 1) xs) now) (drop_of_length-le nodes past) going)
 
-  -- after the walk through one child's tree there is one child fewer left, from the end of that tree on
-  pub at_next_child : (nodes : List Node) (at : ℕ) (start : V) (more left next after : ℕ) (now then : V)
-      → more ≡ suc left → after ≡ row_end nodes next 1 → IsAmongChildren nodes at start more next now →
-      Leads may_enter enters may_leave leaves (row_events nodes next 1) now then → IsAmongChildren nodes at start left after then
-  at_next_child nodes at start more left next after now then less end among leads =
-      subst (λ n. IsAmongChildren nodes at start left n then) (sym end) (past_child nodes at start left next now then (subst (λ n. IsAmongChildren nodes at start n next now) less among) leads)
-
-  pub may_leave_root : (nodes : List Node) (at : ℕ) (start : V) (next : ℕ) (now : V)
-      → IsAmongChildren nodes at start 0 next now → may_leave now (at + 1)
-  may_leave_root nodes at start next now among = among.going.accepts.0
-
-  -- with no child left, the root is left too
-  pub root_left : (nodes : List Node) (at : ℕ) (start : V) (next : ℕ) (now end : V)
-      → IsAmongChildren nodes at start 0 next now → leaves now (at + 1) end
-      → Leads may_enter enters may_leave leaves (row_events nodes at 1) start end
-  root_left nodes at start next now end among step = among.going.leads end (end, step, refl)
-
-  pub end_reached : (nodes : List Node) (at : ℕ) (start : V) (next : ℕ) (now : V)
-      → IsAmongChildren nodes at start 0 next now → next ≡ row_end nodes at 1
-  end_reached nodes at start next now among = let end : next + 0 ≡ row_end nodes at 1 = among.end in omega arith
-
-take_trees-all : (xs : Forest) → take_trees (tree_count xs) xs ≡ xs
-take_trees-all bare = refl
-take_trees-all (grown node below beside) = ap (grown node below) (take_trees-all beside)
-
--- the walk from the first place on is the walk through the tree
-pub events_seen : (nodes : List Node) (ended : ℕ) (tree : Forest) → forest_of nodes ≡ tree → IsKeptTree nodes ended
-    → row_events nodes 0 1 ≡ events tree
-events_seen nodes ended tree e kept =
-    let trees : (tree_count (forest_of nodes) ≡ 1) × HasItsChildren (forest_of nodes) = trees_of 1 nodes kept.whole.begins kept.whole.ends in
-    ap (events_from 1) (ap (λ n. take_trees n (forest_of nodes)) (sym trees.0) ∙ take_trees-all (forest_of nodes) ∙ e)
+-- links that are read are as many as the nodes
+pub links_as_nodes : (nodes : List Node) (links : List Links) (ended : ℕ) → IsKeptTree nodes links ended
+    → length links ≡ length nodes
+links_as_nodes nodes links ended kept =
+    ap length kept.stored ∙ length-stored_from 0 1 (forest_of nodes) ∙ ap length (prefix-forest_of nodes)

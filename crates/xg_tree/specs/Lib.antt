@@ -2,3 +2,4 @@ pub mod Kept
 pub mod Sizes
 pub mod Built
 pub mod Visits
+pub mod Linked

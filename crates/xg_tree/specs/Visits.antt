@@ -1,23 +1,29 @@
--- The part of a walk that goes through some of the trees whose nodes stand from a place on.
-use Rattle.std.specs.Prelude.{ℕ, ◌+◌, ◌≤◌, List, length, drop}
+-- The walk by the links of nodes. A node is entered; where it has no child it is left, and with it each node above whose
+-- last child is left.
+use Rattle.std.specs.Prelude.{ℕ, ◌+◌, zero, suc, if◌then◌else◌, nat_eq, List, [], ◌∷◌, ◌++◌, length}
 use Rattle.def_tree.specs.declared.Node.{Node}
-use Rattle.def_tree.specs.Tree.{Forest, forest_of, take_trees, tree_count, HasItsChildren, node_count}
-use Rattle.def_tree.specs.Rules.{most_nodes}
-use Rattle.def_tree.specs.Events.{Event, events_from}
+use Rattle.def_tree.specs.Events.{Event, Enter, Leave}
+use Rattle.xg_tree.specs.declared.links.Links.{Links}
+use Rattle.xg_tree.specs.Linked.{links_at}
 
--- so many of the trees whose nodes stand from a place on
-abbrev pub row_at : List Node → ℕ → ℕ → Forest
-row_at nodes at count = take_trees count (forest_of (drop at nodes))
+-- the node that is left after node k and before any other is entered: its parent after a last child, or none
+abbrev pub left_after : List Links → ℕ → ℕ
+left_after links k = if nat_eq (links_at links k).next_sibling 0 then (links_at links k).parent else 0
 
-abbrev pub row_events : List Node → ℕ → ℕ → List Event
-row_events nodes at count = events_from (at + 1) (row_at nodes at count)
+-- node k is left, and those that are left with it; there are at most so many
+abbrev pub leaving_from : ℕ → List Links → ℕ → List Event
+leaving_from zero links k = []
+leaving_from (suc most) links zero = []
+leaving_from (suc most) links (suc i) = Leave (suc i) ∷ leaving_from most links (left_after links (suc i))
 
--- the place behind the last of their nodes
-abbrev pub row_end : List Node → ℕ → ℕ → ℕ
-row_end nodes at count = at + node_count (row_at nodes at count)
+abbrev pub leaving : List Links → ℕ → List Event
+leaving links k = leaving_from (length links) links k
 
--- at least so many trees stand from the place on, and their nodes have as many children as they say
-pub record HasTreesAt (nodes : List Node) (at count : ℕ) : Type 0 where
-  pub limit : length nodes ≤ most_nodes
-  pub some : count ≤ tree_count (forest_of (drop at nodes))
-  pub children : HasItsChildren (forest_of (drop at nodes))
+-- node k is entered, and left where it has no child
+abbrev pub visit_events : List Links → ℕ → Node → List Event
+visit_events links k node = Enter k node ∷ (if nat_eq (links_at links k).first_child 0 then leaving links k else [])
+
+-- the nodes from node k on are visited
+abbrev pub visits_from : List Links → ℕ → List Node → List Event
+visits_from links k [] = []
+visits_from links k (node ∷ rest) = visit_events links k node ++ visits_from links (k + 1) rest

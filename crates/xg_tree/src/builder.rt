@@ -3,6 +3,7 @@ ghost use Rattle.std.specs.Prelude.{◌≡◌, ◌≢◌, ◌↔◌, ◌+◌, �
 ghost use Rattle.def_tree.specs.Rules.{Fits, IsGameTree, KeepRules, most_nodes};
 ghost use Rattle.def_tree.specs.Tree.{Begins, forest_of, leaf_count, prefix, wanted};
 
+use crate::links::{Links, put_next};
 use crate::sizes::Sizes;
 use crate::tree::Tree;
 use def_tree::{Kind, MOST_NODES, Node};
@@ -23,6 +24,7 @@ pub enum PushFault {
 #[derive(Drop)]
 pub struct Builder {
     nodes: Vec<Node>,
+    links: Vec<Links>,
     wanted: u32,
     leaves: u32,
     sizes: Sizes,
@@ -38,7 +40,7 @@ impl Model for Builder {
 
     ghost view = { λ b. b.nodes.items };
 
-    ghost invariant = { λ b. IsBuilt b.nodes.items b.wanted b.leaves b.sizes };
+    ghost invariant = { λ b. IsBuilt b.nodes.items b.links.items b.wanted b.leaves b.sizes };
 }
 
 impl Builder {
@@ -48,6 +50,7 @@ impl Builder {
     {
         Builder {
             nodes: Vec::new(alloc),
+            links: Vec::new(alloc),
             wanted: 1,
             leaves: 0,
             sizes: Sizes::new(alloc),
@@ -85,8 +88,10 @@ impl Builder {
             return Err(PushFault::TooManyNodes);
         }
         self.nodes.reserve(1).map_err(|_| PushFault::NoMemory)?;
+        self.links.reserve(1).map_err(|_| PushFault::NoMemory)?;
         self.sizes.note(node).map_err(|_| PushFault::NoMemory)?;
         self.nodes.push(node).unwrap();
+        put_next(&mut self.links, node.children);
         self.leaves += leaves_in(node);
         self.wanted = self.wanted - 1 + node.children;
         Ok(())
@@ -99,7 +104,7 @@ impl Builder {
         ensures nodes { prefix result ≡ self }
         ensures rules { IsGameTree result }
     {
-        Tree::of(self.nodes, self.leaves)
+        Tree::of(self.nodes, self.links, self.leaves)
     }
 }
 

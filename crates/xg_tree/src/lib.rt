@@ -2,6 +2,7 @@
 //! The tree of a game: nodes in prefix order, built one after the other, and walked depth first.
 
 mod builder;
+mod links;
 mod sizes;
 mod tree;
 mod visitor;

@@ -1,11 +1,14 @@
 //! The tree of a game.
-ghost use Rattle.std.specs.Prelude.{◌≡◌, ◌-◌, ◌≤◌, slice_get};
+ghost use Rattle.std.specs.Prelude.{◌≡◌, ◌-◌, ◌≤◌, length, slice_get};
 ghost use Rattle.def_tree.specs.Events.{Accepts, Leads, events};
+ghost use Rattle.def_tree.specs.Links.{first_child_of, next_sibling_of, parent_of};
 ghost use Rattle.def_tree.specs.Rules.{IsGameTree};
 ghost use Rattle.def_tree.specs.Tree.{forest_of, leaf_count, node_count, prefix};
 ghost use Rattle.xg_tree.specs.Kept.{IsKeptTree};
-ghost use Rattle.xg_tree.specs.Visits.{HasTreesAt, row_end, row_events};
+ghost use Rattle.xg_tree.specs.Linked.{AreInOrder};
+ghost use Rattle.xg_tree.specs.Visits.{leaving, visit_events};
 
+use crate::links::{Links, left_after, links_at, numbered};
 use crate::visitor::Visitor;
 use def_tree::Node;
 use std::marker::Model;
@@ -16,6 +19,7 @@ use std::marker::Model;
 #[derive(Drop)]
 pub struct Tree {
     nodes: Vec<Node>,
+    links: Vec<Links>,
     leaves: u32,
 }
 
@@ -31,16 +35,20 @@ impl Model for Tree {
 
     ghost view = { λ t. forest_of t.nodes.items };
 
-    ghost invariant = { λ t. IsKeptTree t.nodes.items t.leaves };
+    ghost invariant = { λ t. IsKeptTree t.nodes.items t.links.items t.leaves };
 }
 
 impl Tree {
-    // The tree of these nodes, among which are so many leaves.
-    pub(crate) fn of(nodes: Vec<Node>, leaves: u32) -> Tree
-        requires { IsKeptTree nodes.items leaves }
+    // The tree of these nodes with these links, among which are so many leaves.
+    pub(crate) fn of(nodes: Vec<Node>, links: Vec<Links>, leaves: u32) -> Tree
+        requires { IsKeptTree nodes.items links.items leaves }
         ensures { result ≡ forest_of nodes.items }
     {
-        Tree { nodes, leaves }
+        Tree {
+            nodes,
+            links,
+            leaves,
+        }
     }
 
     /// The number of nodes.
@@ -69,29 +77,68 @@ impl Tree {
         self.nodes[k as usize - 1]
     }
 
+    /// The parent of node `k`. The root has none.
+    pub fn parent(&self, k: u32) -> Option<u32>
+        requires from_one { 1 ≤ k }
+        requires there { k ≤ node_count self.now }
+        ensures { result ≡ parent_of self.now k }
+    {
+        numbered(links_at(&self.links, k).parent)
+    }
+
+    /// The first child of node `k`. A leaf has none.
+    pub fn first_child(&self, k: u32) -> Option<u32>
+        requires from_one { 1 ≤ k }
+        requires there { k ≤ node_count self.now }
+        ensures { result ≡ first_child_of self.now k }
+    {
+        numbered(links_at(&self.links, k).first_child)
+    }
+
+    /// The sibling that comes next after node `k`. The last child of a node has none, and neither has the root.
+    pub fn next_sibling(&self, k: u32) -> Option<u32>
+        requires from_one { 1 ≤ k }
+        requires there { k ≤ node_count self.now }
+        ensures { result ≡ next_sibling_of self.now k }
+    {
+        numbered(links_at(&self.links, k).next_sibling)
+    }
+
     /// Goes through the tree depth first.
     pub fn walk<V: Visitor>(&self, visitor: &mut V)
         requires { Accepts V.may_enter V.enters V.may_leave V.leaves (events self.now) visitor.old }
         ensures { Leads V.may_enter V.enters V.may_leave V.leaves (events self.now) visitor.old visitor.new }
     {
-        let _end = visit(&self.nodes, 0, visitor);
+        for (at, node) in self.nodes.iter().enumerate() {
+            visit(&self.links, at as u32 + 1, *node, visitor);
+        }
     }
 }
 
-// Walks through the tree whose root stands at `at`, and answers the place behind its last node.
-fn visit<V: Visitor>(nodes: &[Node], at: usize, visitor: &mut V) -> usize
-    requires there { HasTreesAt nodes.now at 1 }
-    requires accepts { Accepts V.may_enter V.enters V.may_leave V.leaves (row_events nodes.now at 1) visitor.old }
-    ensures end { result ≡ row_end nodes.now at 1 }
-    ensures leads { Leads V.may_enter V.enters V.may_leave V.leaves (row_events nodes.now at 1) visitor.old visitor.new }
+// Enters node `k`. Where it has no child it is left, and with it each node above whose last child is left.
+fn visit<V: Visitor>(links: &[Links], k: u32, node: Node, visitor: &mut V)
+    requires from_one { 1 ≤ k }
+    requires there { k ≤ length links.now }
+    requires ordered { AreInOrder links.now }
+    requires accepts { Accepts V.may_enter V.enters V.may_leave V.leaves (visit_events links.now k node) visitor.old }
+    ensures { Leads V.may_enter V.enters V.may_leave V.leaves (visit_events links.now k node) visitor.old visitor.new }
 {
-    let node = nodes[at];
-    let k = at as u32 + 1;
     visitor.enter(k, node);
-    let mut next = at + 1;
-    for _ in 0..node.children {
-        next = visit(nodes, next, visitor);
+    if links_at(links, k).first_child == 0 {
+        leave_from(links, k, visitor);
     }
-    visitor.leave(k);
-    next
+}
+
+// Leaves node `k`, and after a last child its parent.
+fn leave_from<V: Visitor>(links: &[Links], k: u32, visitor: &mut V)
+    requires there { k ≤ length links.now }
+    requires ordered { AreInOrder links.now }
+    requires accepts { Accepts V.may_enter V.enters V.may_leave V.leaves (leaving links.now k) visitor.old }
+    ensures { Leads V.may_enter V.enters V.may_leave V.leaves (leaving links.now k) visitor.old visitor.new }
+{
+    let mut left = k;
+    while left > 0 {
+        visitor.leave(left);
+        left = left_after(links, left);
+    }
 }

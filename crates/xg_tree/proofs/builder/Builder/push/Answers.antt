@@ -2,8 +2,9 @@ use Rattle.std.proofs.Common.{◌≡◌, ◌≢◌, ◌+◌, ◌-◌, ◌^◌, �
 use Rattle.std.specs.Vec.{vec_len}
 use Rattle.def_tree.specs.Rules.{Fits}
 use Rattle.def_tree.specs.Tree.{leaf_count, wanted}
+use Rattle.xg_tree.specs.Linked.{AreInOrder, linked_next}
 use Rattle.xg_tree.specs.Sizes.{with_size}
-use Rattle.xg_tree.proofs.BuiltLemmas.{IsBuilt-push, IsBuilt-same, wanted_fits}
+use Rattle.xg_tree.proofs.BuiltLemmas.{IsBuilt-push, IsBuilt-same, links_as_nodes, links_in_order, wanted_fits}
 use Rattle.xg_tree.proofs.builder.Builder.push.Goals as goal
 
 pub overflow_add-self-2 : goal.overflow_add-self-2
@@ -26,5 +27,16 @@ invariant_of-self-2 c =
     let nodes : c.push.new.self.items ≡ c.self.inside.nodes.items ++ c.args.node ∷ [] = search rules in
     let sizes : c.note.new.self ≡ with_size c.self.inside.sizes c.args.node = search rules in
     let leaves : c.self.inside.leaves + c.leaves_in.result ≡ c.self.inside.leaves + leaf_count (c.args.node ∷ []) = ap (λ n. c.self.inside.leaves + n) c.leaves_in.ensures in
-    IsBuilt-same _ _ _ _ _ _ _ nodes leaves sizes
-    (IsBuilt-push c.self.inside.nodes.items c.self.inside.wanted c.self.inside.leaves c.self.inside.sizes c.args.node c.self.invariant some fits short)
+    let links : c.put_next.new.links.items ≡ linked_next c.self.inside.links.items c.args.node.children = c.put_next.ensures ∙ ap (λ l. linked_next l c.args.node.children) c.reserve-2.ensures.items in
+    IsBuilt-same _ _ _ _ _ _ _ _ _ nodes links leaves sizes
+    (IsBuilt-push c.self.inside.nodes.items c.self.inside.links.items c.self.inside.wanted c.self.inside.leaves c.self.inside.sizes c.args.node c.self.invariant some fits short)
+
+pub put_next-requires-clause-limit : goal.put_next-requires-clause-limit
+put_next-requires-clause-limit c =
+    let long : vec_len c.self.inside.nodes ≡ length c.self.inside.nodes.items = c.self.inside.nodes.ok.0 in
+    let same : length c.self.inside.links.items ≡ length c.self.inside.nodes.items = links_as_nodes c.self.inside.nodes.items c.self.inside.links.items c.self.inside.wanted c.self.inside.leaves c.self.inside.sizes c.self.invariant in
+    omega (arith, c.len.ensures, c.if-len-ge-MOST_NODES.false, ap length c.reserve-2.ensures.items)
+
+pub put_next-requires-clause-ordered : goal.put_next-requires-clause-ordered
+put_next-requires-clause-ordered c =
+    subst AreInOrder (sym c.reserve-2.ensures.items) (links_in_order c.self.inside.nodes.items c.self.inside.links.items c.self.inside.wanted c.self.inside.leaves c.self.inside.sizes c.self.invariant)

@@ -1,20 +1,39 @@
-use Rattle.std.proofs.Common.{◌≡◌, ap, sym, subst, ◌∙◌}
-use Rattle.def_tree.specs.Events.{Accepts, Leads, events}
-use Rattle.xg_tree.specs.Visits.{HasTreesAt, row_events}
-use Rattle.xg_tree.proofs.VisitsLemmas.{events_seen, trees_of_kept}
+use Rattle.std.proofs.Common.{length, ap, sym, subst, arith}
+use Rattle.def_tree.specs.declared.Kind.TheVariants.{Chance}
+use Rattle.def_tree.specs.declared.Node.{Node}
+use Rattle.def_tree.specs.Events.{events}
+use Rattle.xg_tree.specs.Linked.{AreInOrder}
+use Rattle.xg_tree.proofs.VisitsLemmas.{kept_in_order, links_as_nodes, visit_accepted, visit_over, walk_begins, walk_over}
 use Rattle.xg_tree.proofs.tree.Tree.walk.Goals as goal
 
-pub visit-end-requires-clause-there : goal.visit-end-requires-clause-there
-visit-end-requires-clause-there g c = subst (λ nodes. HasTreesAt nodes 0 1) (sym c.deref.ensures.value) (trees_of_kept c.self.inside.nodes.items c.self.inside.leaves c.self.invariant)
+abbrev none : Node
+none = record { kind = Chance; set = 0; outcome = 0; children = 0 }
 
-pub visit-end-requires-clause-accepts : goal.visit-end-requires-clause-accepts
-visit-end-requires-clause-accepts g c =
-    let same : row_events c.deref.result.now 0 1 ≡ events c.args.self.now =
-    ap (λ nodes. row_events nodes 0 1) c.deref.ensures.value ∙ events_seen c.self.inside.nodes.items c.self.inside.leaves c.args.self.now c.self.view_is c.self.invariant
-    in subst (λ steps. Accepts g.V.Visitor.may_enter g.V.Visitor.enters g.V.Visitor.may_leave g.V.Visitor.leaves steps c.args.visitor.now) (sym same) c.requires
+pub visit-requires-clause-there : goal.visit-requires-clause-there
+visit-requires-clause-there g c =
+    omega (arith, ap length c.deref.ensures.value, ap length c.deref-node-items.ensures.value, links_as_nodes c.self.inside.nodes.items c.self.inside.links.items c.self.inside.leaves c.self.invariant)
+
+pub visit-requires-clause-ordered : goal.visit-requires-clause-ordered
+visit-requires-clause-ordered g c = subst AreInOrder (sym c.deref.ensures.value) (kept_in_order c.self.inside.nodes.items c.self.inside.links.items c.self.inside.leaves c.self.invariant)
+
+pub visit-requires-clause-accepts : goal.visit-requires-clause-accepts
+visit-requires-clause-accepts g c =
+    visit_accepted g.V.Visitor.may_enter g.V.Visitor.enters g.V.Visitor.may_leave g.V.Visitor.leaves (events c.args.self.now) c.args.visitor.now
+    c.self.inside.nodes.items c.deref-node-items.result.now c.self.inside.links.items c.deref.result.now c.loop-at.at none c.loop-at.visitor
+    c.deref-node-items.ensures.value c.deref.ensures.value c.loop-at-test.true c.loop-at.invariant
+
+pub loop-at-init : goal.loop-at-init
+loop-at-init g c =
+    walk_begins g.V.Visitor.may_enter g.V.Visitor.enters g.V.Visitor.may_leave g.V.Visitor.leaves
+    c.self.inside.nodes.items c.self.inside.links.items c.self.inside.leaves c.args.self.now c.args.visitor.now c.self.view_is c.self.invariant c.requires
+
+pub loop-at-preserved : goal.loop-at-preserved
+loop-at-preserved g c =
+    visit_over g.V.Visitor.may_enter g.V.Visitor.enters g.V.Visitor.may_leave g.V.Visitor.leaves (events c.args.self.now) c.args.visitor.now
+    c.self.inside.nodes.items c.deref-node-items.result.now c.self.inside.links.items c.deref.result.now c.loop-at.at none c.loop-at.visitor c.visit.new.visitor
+    c.deref-node-items.ensures.value c.deref.ensures.value c.loop-at-test.true c.loop-at.invariant c.visit.ensures
 
 pub returns : goal.returns
 returns g c =
-    let same : row_events c.deref.result.now 0 1 ≡ events c.args.self.now =
-    ap (λ nodes. row_events nodes 0 1) c.deref.ensures.value ∙ events_seen c.self.inside.nodes.items c.self.inside.leaves c.args.self.now c.self.view_is c.self.invariant
-    in subst (λ steps. Leads g.V.Visitor.may_enter g.V.Visitor.enters g.V.Visitor.may_leave g.V.Visitor.leaves steps c.args.visitor.now c.visit-end.new.visitor) same c.visit-end.ensures.leads
+    walk_over g.V.Visitor.may_enter g.V.Visitor.enters g.V.Visitor.may_leave g.V.Visitor.leaves (events c.args.self.now) c.args.visitor.now
+    c.self.inside.nodes.items c.self.inside.links.items c.loop-at.at c.loop-at.visitor (omega (arith, ap length c.deref-node-items.ensures.value)) c.loop-at.invariant
