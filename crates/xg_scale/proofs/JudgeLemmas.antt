@@ -1,5 +1,5 @@
 -- What is judged by a path's numbers is what the walk over the nodes looks for.
-use Rattle.std.proofs.Common.{◌≡◌, ℕ, ◌+◌, ◌-◌, ◌<◌, ◌≤◌, Bool, true, false, cond, ◌&&◌, List, [], ◌∷◌, ◌++◌, get_or, take, drop, map, filter, refl, ap, sym, ◌∙◌, arith, Some, None, slice_get}
+use Rattle.std.proofs.Common.{◌≡◌, ℕ, ◌+◌, ◌-◌, ◌<◌, ◌≤◌, Bool, true, false, cond, ◌&&◌, List, [], ◌∷◌, ◌++◌, get_or, take, map, filter, refl, ap, sym, ◌∙◌, arith, Some, None, slice_get}
 use Rattle.std.specs.Prelude.{Option, nat_le}
 use Rattle.std.proofs.lemmas.List.{map-append, take_all}
 use Rattle.std.proofs.lemmas.List.Elements.{All-map, filter-append}
@@ -16,12 +16,10 @@ use Rattle.def_game_scale.specs.Scale.{all_expected, expected, expected_at, unit
 use Rattle.def_game_scale.proofs.Running.{running}
 use Rattle.def_game_scale.proofs.Units.{unit-positive}
 use Rattle.def_game_scale.proofs.Expected.{expected-lowest}
-use Rattle.def_game_scale.specs.Faults.{GameFault, NotZeroSum, Scale, found_by, is_zero, leaf_fault, node_fault, number_after, passing}
-use Rattle.xg_game.specs.declared.fault.Refused.{Refused}
+use Rattle.def_game_scale.specs.Faults.{GameFault, NotZeroSum, Scale, is_zero, leaf_fault, node_fault, number_after, passing}
 use Rattle.xg_scale.specs.Leaf.{judged_leaf, judged_node, unit_with, with_expected}
-use Rattle.xg_scale.specs.FaultOfFile.{RefusesBy}
 use Rattle.xg_scale.specs.Walked.{all_fit, numbers_of}
-use Rattle.xg_scale.proofs.FoundLemmas.{found_later, number_next, refuses_here}
+use Rattle.xg_scale.proofs.FoundLemmas.{number_next}
 
 -- the leaves among some nodes and one more node
 pub expected_more : (tables : Tables) (before : List Visit) (v : Visit)
@@ -82,7 +80,7 @@ module _ (tables : Tables) (lowest : AreFractions tables) (tree : Forest) (game 
       (passing (nat_le (unit i) most) (Scale (number i)) None))
 
   -- what a walk looks for, by the numbers of the path
-  node_judged : node_fault tables before v ≡ cond (all_fit (numbers_of tables v))
+  pub node_judged : node_fault tables before v ≡ cond (all_fit (numbers_of tables v))
       (judged_node (n + 1) x (unit_so_far tables before) (numbers_of tables v)) (Some (Scale (n + 1)))
   node_judged =
       all_passing (fits (reach tables v.path)) (fits (payoff_one tables v)) (fits (payoff_two tables v)) (Scale (number_after before)) (cond (is_leaf_kind v.node.kind) (leaf_fault tables before v) None)
@@ -113,27 +111,3 @@ module _ (tables : Tables) (lowest : AreFractions tables) (tree : Forest) (game 
   pub expected_with : expected_at tables (take (n + 1) (visits tree))
       ≡ expected_at tables before ++ with_expected x (numbers_of tables v)
   expected_with = ap (expected_at tables) next.taken ∙ expected_more tables before v ∙ ap (λ b. expected_at tables before ++ cond b (expected tables v ∷ []) []) is_leaf
-
-  -- a node whose numbers fit and that is judged to have no fault is passed over
-  pub node_passed : all_fit (numbers_of tables v) ≡ true
-      → judged_node (n + 1) x (unit_so_far tables before) (numbers_of tables v) ≡ None →
-      found_by (node_fault tables) before (drop n (visits tree)) ≡ found_by (node_fault tables) (take (n + 1) (visits tree)) (drop (n + 1) (visits tree))
-  node_passed fit none =
-      found_later tree (node_fault tables) n v next
-      (node_judged ∙ ap (λ b. cond b (judged_node (n + 1) x (unit_so_far tables before) (numbers_of tables v)) (Some (Scale (n + 1)))) fit ∙ none)
-
-  -- a fault that is judged is found
-  pub node_broken : all_fit (numbers_of tables v) ≡ true → (refusal : Refused)
-      → RefusesBy (judged_node (n + 1) x (unit_so_far tables before) (numbers_of tables v)) refusal →
-      RefusesBy (found_by (node_fault tables) before (drop n (visits tree))) refusal
-  node_broken fit refusal refuses =
-      refuses_here tree (node_fault tables) n v next (judged_node (n + 1) x (unit_so_far tables before) (numbers_of tables v)) refusal
-      (node_judged ∙ ap (λ b. cond b (judged_node (n + 1) x (unit_so_far tables before) (numbers_of tables v)) (Some (Scale (n + 1)))) fit) refuses
-
-  -- a path that doesn't fit is found
-  pub path_broken : all_fit (numbers_of tables v) ≡ false → (refusal : Refused)
-      → RefusesBy (Some (Scale (n + 1))) refusal
-      → RefusesBy (found_by (node_fault tables) before (drop n (visits tree))) refusal
-  path_broken fit refusal refuses =
-      refuses_here tree (node_fault tables) n v next (Some (Scale (n + 1))) refusal
-      (node_judged ∙ ap (λ b. cond b (judged_node (n + 1) x (unit_so_far tables before) (numbers_of tables v)) (Some (Scale (n + 1)))) fit) refuses

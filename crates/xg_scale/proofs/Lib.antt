@@ -2,7 +2,8 @@ pub mod FoundLemmas
 pub mod FractionParts
 pub mod GameLemmas
 pub mod SetLemmas
-pub mod AncestorLemmas
+pub mod VisitorLemmas
 pub mod JudgeLemmas
+pub mod PathLemmas
 pub mod WeighLemmas
 pub mod WordLemmas

@@ -5,7 +5,7 @@ use Rattle.def_tree.specs.Tree.{is_leaf_kind}
 use Rattle.def_fraction.specs.Divisors.{lcm}
 use Rattle.def_fraction.specs.Fraction.{Fraction, fits, most, product_of, sum_of}
 use Rattle.def_game_scale.specs.Faults.{GameFault, NotZeroSum, Scale, is_zero, passing}
-use Rattle.xg_scale.specs.declared.ancestors.PathNumbers.{PathNumbers}
+use Rattle.xg_scale.specs.declared.path.PathNumbers.{PathNumbers}
 
 abbrev pub expected_by : PathNumbers → Fraction
 expected_by numbers = product_of numbers.reach numbers.one

@@ -1,7 +1,7 @@
 pub mod FaultOfFile
 pub mod Chance
 pub mod Leaf
-pub mod Ancestors
+pub mod OnPath
 pub mod Walked
 pub mod Weighed
 pub mod Words

@@ -1,23 +1,26 @@
--- What is kept once the first k nodes were judged by the numbers of their paths.
-use Rattle.std.specs.Prelude.{◌≡◌, ℕ, ◌+◌, ◌-◌, ◌≤◌, Bool, ◌&&◌, [], length, take, drop, Option, Some, None}
+-- A walk that judges each node by the numbers of its path, and what it finds.
+use Rattle.std.specs.Prelude.{◌≡◌, ℕ, ◌-◌, ◌≤◌, Bool, ◌&&◌, if◌then◌else◌, [], ◌∷◌, ◌++◌, length, Option, Some, None}
 use Rattle.def_tree.specs.declared.Node.{Node}
 use Rattle.def_tree.specs.declared.Player.{Player}
 use Rattle.def_tree.specs.declared.Player.TheVariants.{One, Two}
-use Rattle.def_tree.specs.Rules.{most_actions}
-use Rattle.def_tree.specs.Tree.{Forest, HasItsChildren, tree_count}
+use Rattle.def_tree.specs.Tree.{Forest}
 use Rattle.def_fraction.specs.Fraction.{Fraction, fits, most, product_of, sum_of}
 use Rattle.def_file.specs.Content.{GameFile}
 use Rattle.def_file.specs.Faults.{set_at}
-use Rattle.def_game_paths.specs.Coming.{ComingTrees, StandOver}
 use Rattle.def_game_paths.specs.Paths.{Visit, visits}
-use Rattle.def_game_scale.specs.Tables.{Payoffs, Tables, path_payoff, payoff_one, payoff_two, payoffs_of, probability, reach}
-use Rattle.def_game_scale.specs.Scale.{all_expected, expected_at, game_unit, unit_so_far}
-use Rattle.def_game_scale.specs.Faults.{found_by, node_fault}
+use Rattle.def_game_scale.specs.Tables.{Payoffs, Tables, payoff_one, payoff_two, payoffs_of, probability, reach}
+use Rattle.def_game_scale.specs.Scale.{all_expected, game_unit}
+use Rattle.def_game_scale.specs.Faults.{GameFault, Scale, found_by, node_fault}
 use Rattle.def_game_numbers.specs.Numbers.{tables_of}
+use Rattle.xg_game.specs.declared.fault.Refused.{Refused}
+use Rattle.xg_scale.specs.FaultOfFile.{RefusesBy}
+use Rattle.xg_scale.specs.Leaf.{judged_node, unit_with, with_expected}
+use Rattle.xg_scale.specs.OnPath.{GoesBackTo, HasNodeAround, entered_node, outside}
 use Rattle.xg_scale.specs.declared.leaf.Expected.{Expected}
-use Rattle.xg_scale.specs.declared.nodes.Walk.{Walk}
-use Rattle.xg_scale.specs.declared.ancestors.OpenNode.{OpenNode}
-use Rattle.xg_scale.specs.declared.ancestors.PathNumbers.{PathNumbers}
+use Rattle.xg_scale.specs.declared.nodes.PathVisitor.{PathVisitor}
+use Rattle.xg_scale.specs.declared.nodes.PathWalk.{PathWalk}
+use Rattle.xg_scale.specs.declared.path.NodeOnPath.{NodeOnPath}
+use Rattle.xg_scale.specs.declared.path.PathNumbers.{PathNumbers}
 
 abbrev pub paid_to : Player → Payoffs → Fraction
 paid_to One payoffs = payoffs.one
@@ -35,8 +38,8 @@ abbrev pub reach_below : Tables → Option ℕ → ℕ → Fraction → Fraction
 reach_below tables None action so_far = so_far
 reach_below tables (Some set) action so_far = product_of so_far (probability tables set action)
 
--- the numbers at the next child of an open node
-abbrev pub numbers_below : Tables → OpenNode → Node → PathNumbers
+-- the numbers at the next child of a node on the path
+abbrev pub numbers_below : Tables → NodeOnPath → Node → PathNumbers
 numbers_below tables parent node = record {
   reach = reach_below tables parent.chance_set parent.action parent.numbers.reach;
   one = sum_of parent.numbers.one (payoffs_of tables node.outcome).one;
@@ -44,35 +47,71 @@ numbers_below tables parent node = record {
 }
 
 -- where chance moves, its set has the next action
-abbrev pub MayCome : GameFile → OpenNode → Type 0
+abbrev pub MayCome : GameFile → NodeOnPath → Type 0
 MayCome game parent = (set : ℕ) → parent.chance_set ≡ Some set →
     (1 ≤ set) × (set ≤ length game.sets.chance) × (1 ≤ parent.action) × (parent.action ≤ length (set_at game.sets.chance (set - 1)).actions)
 
--- these trees are to come under the open node, which has the numbers of the path to each of them
-pub record IsOpenOver (game : GameFile) (trees : ComingTrees) (parent : OpenNode) : Type 0 where
-  pub some : 1 ≤ parent.to_come
-  pub count : tree_count trees.trees ≡ parent.to_come
-  pub children : HasItsChildren trees.trees
-  pub action : 1 ≤ parent.action
-  pub room : parent.action + parent.to_come ≤ most_actions + 1
-  pub set : (set : ℕ) → parent.chance_set ≡ Some set →
-      (1 ≤ set) × (set ≤ length game.sets.chance) × (parent.action + parent.to_come ≡ length (set_at game.sets.chance (set - 1)).actions + 1)
-  pub reach_is : (j : ℕ)
-      → reach (tables_of game) (trees.above (trees.action + j))
-      ≡ reach_below (tables_of game) parent.chance_set (parent.action + j) parent.numbers.reach
-  pub one : (j : ℕ)
-      → path_payoff (λ payoffs. payoffs.one) (tables_of game) (trees.above (trees.action + j)) ≡ parent.numbers.one
-  pub two : (j : ℕ)
-      → path_payoff (λ payoffs. payoffs.two) (tables_of game) (trees.above (trees.action + j)) ≡ parent.numbers.two
-
--- the first k nodes were entered, and have no fault
-pub record HasWalkedWithoutFault (game : GameFile) (k : ℕ) (walk : Walk) : Type 0 where
-  pub rest : found_by (node_fault (tables_of game)) [] (visits game.tree) ≡ found_by (node_fault (tables_of game))
-      (take k (visits game.tree)) (drop k (visits game.tree))
-  pub unit : walk.expected.unit ≡ unit_so_far (tables_of game) (take k (visits game.tree))
+-- the node may be the next child of the innermost
+pub record MayComeNext (walk : PathWalk) (node : Node) : Type 0 where
+  pub action : MayCome walk.game.now walk.innermost
+  pub outcome : node.outcome ≤ length walk.game.now.outcomes
+  pub from_one : 1 ≤ walk.expected.unit
   pub limit : walk.expected.unit ≤ most
-  pub fractions : walk.expected.fractions.items ≡ expected_at (tables_of game) (take k (visits game.tree))
-  pub nodes : StandOver (IsOpenOver game) walk.ancestors (drop k (visits game.tree))
+
+-- the numbers of its path
+abbrev pub next_numbers : PathWalk → Node → PathNumbers
+next_numbers walk node = numbers_below (tables_of walk.game.now) walk.innermost node
+
+-- what is wrong at it, under its number
+abbrev pub next_fault : PathWalk → ℕ → Node → Option GameFault
+next_fault walk k node =
+    if all_fit (next_numbers walk node) then judged_node k node walk.expected.unit (next_numbers walk node) else Some (Scale k)
+
+-- it has no fault, and is the innermost
+pub record HasEntered (old : PathWalk) (k : ℕ) (node : Node) (new : PathWalk) : Type 0 where
+  pub passes : next_fault old k node ≡ None
+  pub unit : new.expected.unit ≡ unit_with node old.expected.unit (next_numbers old node)
+  pub limit : new.expected.unit ≤ most
+  pub fractions : new.expected.fractions.items ≡ old.expected.fractions.items ++ with_expected node (next_numbers old node)
+  pub innermost : new.innermost ≡ entered_node node (next_numbers old node)
+  pub outer : new.outer ≡ old.innermost ∷ old.outer
+
+-- the innermost is left
+pub record HasLeft (old new : PathWalk) : Type 0 where
+  pub expected : new.expected ≡ old.expected
+  pub back : GoesBackTo old.outer new.innermost new.outer
+
+-- a step of a visitor, which does nothing more once it was refused to go on
+abbrev pub Steps : Option Refused → Option Refused → (Refused → Type 0) → Type 0 → Type 0
+Steps (Some refused) after Refuses GoesOn = after ≡ Some refused
+Steps None (Some refused) Refuses GoesOn = Refuses refused
+Steps None None Refuses GoesOn = GoesOn
+
+abbrev pub UnlessRefused : Option Refused → Type 0 → Type 0
+UnlessRefused (Some _) GoesOn = Unit {0}
+UnlessRefused None GoesOn = GoesOn
+
+abbrev pub MayEnter : PathVisitor → ℕ → Node → Type 0
+MayEnter visitor k node = UnlessRefused visitor.refused (MayComeNext visitor.walk node)
+
+abbrev pub Enters : PathVisitor → ℕ → Node → PathVisitor → Type 0
+Enters old k node new =
+    (new.walk.game.now ≡ old.walk.game.now) × Steps old.refused new.refused (RefusesBy (next_fault old.walk k node)) (HasEntered old.walk k node new.walk)
+
+abbrev pub MayLeave : PathVisitor → ℕ → Type 0
+MayLeave visitor k = UnlessRefused visitor.refused (HasNodeAround visitor.walk.outer)
+
+abbrev pub Leaves : PathVisitor → ℕ → PathVisitor → Type 0
+Leaves old k new = (new.walk.game.now ≡ old.walk.game.now) × Steps old.refused new.refused (λ _. ⊥) (HasLeft old.walk new.walk)
+
+-- no node was entered yet
+pub record IsBefore (game : GameFile) (visitor : PathVisitor) : Type 0 where
+  pub going : visitor.refused ≡ None
+  pub game_is : visitor.walk.game.now ≡ game
+  pub innermost : visitor.walk.innermost ≡ outside
+  pub outer : visitor.walk.outer ≡ []
+  pub unit : visitor.walk.expected.unit ≡ 1
+  pub fractions : visitor.walk.expected.fractions.items ≡ []
 
 -- no node has a fault, and this is what all leaves are expected to pay, with their unit
 pub record IsExpectedOf (tables : Tables) (tree : Forest) (found : Expected) : Type 0 where

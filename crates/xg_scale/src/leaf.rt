@@ -7,8 +7,8 @@ ghost use Rattle.def_tree.specs.Tree.{is_leaf_kind};
 ghost use Rattle.xg_scale.specs.FaultOfFile.{IsFaultOf, RefusesBy};
 ghost use Rattle.xg_scale.specs.Leaf.{judged_leaf, judged_node, unit_with, with_expected};
 
-use crate::ancestors::PathNumbers;
 use crate::parts::{denominator, is_zero, known};
+use crate::path::PathNumbers;
 use std::alloc::Global;
 use xg_frac::{Frac, OverLimit, add, lcm, mul};
 use xg_game::{FileFault, Kind, Refused};

@@ -1,11 +1,11 @@
 #![tactic(auto)]
 //! A game in whole numbers: the unit by which its payoffs are multiplied, the weights of its leaves and their mass.
 
-mod ancestors;
 mod chance;
 mod leaf;
 mod nodes;
 mod parts;
+mod path;
 mod weighing;
 mod weights;
 

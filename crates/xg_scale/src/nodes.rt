@@ -1,24 +1,21 @@
 //! The walk over all nodes: the reach and the payoffs of each path, and the unit.
-ghost use Rattle.std.specs.Prelude.{◌≡◌, ◌+◌, ◌<◌, ◌≤◌, ◌-◌, [], length, IfErr, IfOk, IsTrue, OkIff, OnOk, Some};
-ghost use Rattle.def_file.specs.Content.{GameFile};
-ghost use Rattle.def_file.specs.Game.{IsWholeGame};
-ghost use Rattle.def_file.specs.Faults.{set_at};
+ghost use Rattle.std.specs.Prelude.{◌≡◌, ◌+◌, ◌<◌, ◌≤◌, ◌^◌, [], length, IfErr, IfOk, IsTrue, OkIff, OnOk};
 ghost use Rattle.def_fraction.specs.Fraction.{fits, sum_of};
 ghost use Rattle.def_game_scale.specs.Faults.{found_by, node_fault};
 ghost use Rattle.def_game_numbers.specs.Numbers.{tables_of};
 ghost use Rattle.def_game_paths.specs.Paths.{visits};
 ghost use Rattle.def_game_scale.specs.Tables.{AreFractions, payoffs_of};
-ghost use Rattle.def_tree.specs.Tree.{node_count};
 ghost use Rattle.xg_scale.specs.FaultOfFile.{RefusesBy};
-ghost use Rattle.xg_scale.specs.Walked.{HasWalkedWithoutFault, IsExpectedOf, MayCome, all_fit, numbers_below, paid_to, reach_below};
+ghost use Rattle.xg_scale.specs.OnPath.{HasNodeAround, at_action, chance_set_of, entered_node, outside};
+ghost use Rattle.xg_scale.specs.Walked.{HasEntered, HasLeft, IsBefore, IsExpectedOf, MayCome, MayComeNext, all_fit, next_fault, numbers_below, paid_to, reach_below};
 
-use crate::ancestors::{OpenNode, OpenNodes, PathNumbers};
 use crate::leaf::Expected;
 use crate::parts::{is_zero, known, zero};
+use crate::path::{NodeOnPath, OuterNodes, PathNumbers};
 use std::alloc::{AllocError, Global};
 use xg_frac::{Frac, OverLimit, add, mul, one_over};
-use xg_game::{FileFault, Game, Player, Refused};
-use xg_tree::Node;
+use xg_game::{FileFault, Game, Kind, Player, Refused};
+use xg_tree::{Node, Visitor};
 
 /// What each leaf is expected to pay, and the unit.
 pub(crate) fn expect(alloc: Global, game: &Game) -> Result<Expected, Refused>
@@ -27,65 +24,152 @@ pub(crate) fn expect(alloc: Global, game: &Game) -> Result<Expected, Refused>
     ensures err { IfErr result
         (RefusesBy (found_by (node_fault (tables_of game.now)) [] (visits game.now.tree))) }
 {
-    let mut walk = Walk::new(alloc, game.tree().leaves())?;
-    for k in 0..game.tree().len() {
-        walk.enter(game, k)?;
+    let mut visitor = PathVisitor::new(alloc, game)?;
+    game.tree().walk(&mut visitor);
+    match visitor.refused {
+        Some(refused) => Err(refused),
+        None => Ok(visitor.walk.expected),
     }
-    Ok(walk.expected)
 }
 
-/// The nodes so far: what their leaves are expected to pay, and which of them have children to come.
+/// Judges each node as it is entered, up to the first refusal.
 #[derive(Drop)]
-struct Walk {
-    ancestors: OpenNodes,
+struct PathVisitor<'a> {
+    walk: PathWalk<'a>,
+    refused: Option<Refused>,
+}
+
+impl<'a> PathVisitor<'a> {
+    /// No node yet, and room for what each leaf is expected to pay.
+    fn new(alloc: Global, game: &'a Game) -> Result<PathVisitor<'a>, AllocError>
+        ensures { IfOk result (IsBefore game.now) }
+    {
+        let fractions = Vec::with_capacity(alloc, game.tree().leaves() as usize)?;
+        let walk = PathWalk {
+            game,
+            innermost: outside(),
+            outer: OuterNodes::new(alloc),
+            expected: Expected { unit: 1, fractions },
+        };
+        Ok(PathVisitor {
+            walk,
+            refused: None,
+        })
+    }
+}
+
+impl<'a> Visitor for PathVisitor<'a> {
+    ghost use Rattle.xg_scale.specs.Walked.{Enters, Leaves, MayEnter, MayLeave};
+
+    ghost may_enter = { MayEnter };
+
+    ghost enters = { Enters };
+
+    ghost may_leave = { MayLeave };
+
+    ghost leaves = { Leaves };
+
+    fn enter(&mut self, k: u32, node: Node) {
+        if self.refused.is_none() {
+            self.refused = self.walk.enter(k, node).err();
+        }
+    }
+
+    fn leave(&mut self, _k: u32) {
+        if self.refused.is_none() {
+            self.walk.leave();
+        }
+    }
+}
+
+/// The nodes that were entered and aren't left yet, and what the leaves so far are expected to pay.
+#[derive(Drop)]
+struct PathWalk<'a> {
+    game: &'a Game,
+    innermost: NodeOnPath,
+    outer: OuterNodes,
     expected: Expected,
 }
 
-impl Walk {
-    /// No node yet, one tree to come, and room for so many leaves.
-    fn new(alloc: Global, leaves: u32) -> Result<Walk, AllocError>
-        ensures { IfOk result (λ walk. (game : GameFile) → IsWholeGame game → HasWalkedWithoutFault game 0 walk) }
+impl<'a> PathWalk<'a> {
+    /// Judges node `k`, which comes next, and goes on below it.
+    fn enter(&mut self, k: u32, node: Node) -> Result<(), Refused>
+        requires { MayComeNext self.old node }
+        ensures game { self.new.game.now ≡ self.old.game.now }
+        ensures ok { OnOk result (HasEntered self.old k node self.new) }
+        ensures err { IfErr result (RefusesBy (next_fault self.old k node)) }
     {
-        let fractions = Vec::with_capacity(alloc, leaves as usize)?;
-        let mut ancestors = OpenNodes::new(alloc);
-        ancestors.push(OpenNode {
-            chance_set: None,
-            action: 1,
-            to_come: 1,
-            numbers: PathNumbers {
-                reach: one_over(1),
-                one: zero(),
-                two: zero(),
-            },
-        })?;
-        Ok(Walk {
-            ancestors,
-            expected: Expected { unit: 1, fractions },
-        })
+        let Ok(numbers) = numbers_at(self.game, &self.innermost, node) else {
+            return Err(Refused::File(FileFault::Scale { node: k }));
+        };
+        self.expected.judge(k, node, &numbers)?;
+        self.outer.push(self.innermost)?;
+        self.innermost = before_children(node, numbers);
+        Ok(())
     }
 
-    /// Enters the node that comes after the first `k`.
-    fn enter(&mut self, game: &Game, k: u32) -> Result<(), Refused>
-        requires lowest { AreFractions (tables_of game.now) }
-        requires there { k < node_count game.now.tree }
-        requires walked { HasWalkedWithoutFault game.now k self.old }
-        ensures ok { OnOk result (HasWalkedWithoutFault game.now (k + 1) self.new) }
-        ensures err { IfErr result
-            (RefusesBy (found_by (node_fault (tables_of game.now)) [] (visits game.now.tree))) }
+    /// Goes back to the node around the innermost, at its next action.
+    fn leave(&mut self)
+        requires { HasNodeAround self.old.outer }
+        ensures game { self.new.game.now ≡ self.old.game.now }
+        ensures left { HasLeft self.old self.new }
     {
-        let node = game.tree().node(k + 1);
-        let above = self.ancestors.take_child()?;
-        let Ok(numbers) = numbers_at(game, &above, node) else {
-            return Err(Refused::File(FileFault::Scale { node: k + 1 }));
+        let Some(around) = self.outer.pop() else {
+            unreachable!()
         };
-        self.expected.judge(k + 1, node, &numbers)?;
-        self.ancestors.enter(node, numbers)?;
-        Ok(())
+        self.innermost = after_child(&around);
+    }
+}
+
+/// What is around the whole tree.
+fn outside() -> NodeOnPath
+    ensures { result ≡ outside }
+{
+    NodeOnPath {
+        chance_set: None,
+        action: 1,
+        numbers: PathNumbers {
+            reach: one_over(1),
+            one: zero(),
+            two: zero(),
+        },
+    }
+}
+
+/// The node before its first child.
+fn before_children(node: Node, numbers: PathNumbers) -> NodeOnPath
+    ensures { result ≡ entered_node node numbers }
+{
+    NodeOnPath {
+        chance_set: chance_set(node),
+        action: 1,
+        numbers,
+    }
+}
+
+/// The node at its next action.
+fn after_child(node: &NodeOnPath) -> NodeOnPath
+    requires { node.now.action + 1 < 2 ^ 32 }
+    ensures { result ≡ at_action node.now (node.now.action + 1) }
+{
+    NodeOnPath {
+        chance_set: node.chance_set,
+        action: node.action + 1,
+        numbers: node.numbers,
+    }
+}
+
+fn chance_set(node: Node) -> Option<u32>
+    ensures { result ≡ chance_set_of node }
+{
+    match node.kind {
+        Kind::Chance => Some(node.set),
+        _ => None,
     }
 }
 
 /// The numbers at the next child of a node.
-fn numbers_at(game: &Game, above: &OpenNode, node: Node) -> Result<PathNumbers, OverLimit>
+fn numbers_at(game: &Game, above: &NodeOnPath, node: Node) -> Result<PathNumbers, OverLimit>
     requires action { MayCome game.now above.now }
     requires outcome { node.outcome ≤ length game.now.outcomes }
     ensures { let exact = numbers_below (tables_of game.now) above.now node in
@@ -98,7 +182,7 @@ fn numbers_at(game: &Game, above: &OpenNode, node: Node) -> Result<PathNumbers, 
 }
 
 /// The reach of the next child.
-fn reach_at(game: &Game, above: &OpenNode) -> Result<Frac, OverLimit>
+fn reach_at(game: &Game, above: &NodeOnPath) -> Result<Frac, OverLimit>
     requires { MayCome game.now above.now }
     ensures { let so_far = above.now.numbers.reach in
         let exact = reach_below (tables_of game.now) above.now.chance_set above.now.action so_far in

@@ -1,20 +1,24 @@
-use Rattle.std.proofs.Common.{◌≡◌, ◌∙◌, ap, arith}
-use Rattle.def_tree.specs.Tree.{node_count}
-use Rattle.def_game_scale.specs.Faults.{node_fault}
-use Rattle.def_game_numbers.specs.Numbers.{tables_of}
-use Rattle.def_game_scale.specs.Scale.{unit_of}
-use Rattle.xg_scale.proofs.FoundLemmas.{found_none}
-use Rattle.xg_scale.proofs.JudgeLemmas.{expected_all}
+use Rattle.std.proofs.Common.{subst, sym}
+use Rattle.def_tree.specs.Events.{Accepts, Leads, events}
+use Rattle.xg_scale.specs.Walked.{Enters, Leaves, MayEnter, MayLeave}
+use Rattle.xg_scale.proofs.PathLemmas.{ends_expected, ends_refused, whole_walk}
 use Rattle.xg_scale.proofs.nodes.expect.Goals as goal
 
-pub returns-clause-ok : goal.returns-clause-ok
-returns-clause-ok c =
-    let game = c.args.game.now in
-    let walked = c.loop-k.invariant in
-    let last : c.loop-k.k ≡ node_count game.tree = omega (arith, c.loop-k-test.false, c.loop-k.auto.k-end, c.len-k-end.ensures.count, ap node_count c.tree-2.ensures.tree) in
-    record {
-      passes = walked.rest ∙ found_none game.tree (node_fault (tables_of game)) c.loop-k.k last;
-      unit = walked.unit ∙ ap unit_of (expected_all (tables_of game) game.tree c.loop-k.k last);
-      limit = walked.limit;
-      fractions = walked.fractions ∙ expected_all (tables_of game) game.tree c.loop-k.k last;
-    }
+pub walk-requires : goal.walk-requires
+walk-requires c =
+    let walk = whole_walk c.args.game.now c.requires c.tree.ensures.whole c.in_ok-visitor.visitor c.in_ok-visitor.ensures in
+    subst (λ tree. Accepts MayEnter Enters MayLeave Leaves (events tree) c.in_ok-visitor.visitor) (sym c.tree.ensures.tree) walk.accepts
+
+pub returns-in-Some-clause-err : goal.returns-in-Some-clause-err
+returns-in-Some-clause-err c =
+    let visitor = c.walk.new.visitor in
+    let walk = whole_walk c.args.game.now c.requires c.tree.ensures.whole c.in_ok-visitor.visitor c.in_ok-visitor.ensures in
+    let ends = walk.ends visitor (subst (λ tree. Leads MayEnter Enters MayLeave Leaves (events tree) c.in_ok-visitor.visitor visitor) c.tree.ensures.tree c.walk.ensures) in
+    ends_refused c.args.game.now c.requires c.tree.ensures.whole visitor c.in-Some.refused ends c.in-Some.is
+
+pub returns-in-None-clause-ok : goal.returns-in-None-clause-ok
+returns-in-None-clause-ok c =
+    let visitor = c.walk.new.visitor in
+    let walk = whole_walk c.args.game.now c.requires c.tree.ensures.whole c.in_ok-visitor.visitor c.in_ok-visitor.ensures in
+    let ends = walk.ends visitor (subst (λ tree. Leads MayEnter Enters MayLeave Leaves (events tree) c.in_ok-visitor.visitor visitor) c.tree.ensures.tree c.walk.ensures) in
+    ends_expected c.args.game.now c.requires c.tree.ensures.whole visitor ends c.in-None.is

@@ -1,0 +1,383 @@
+-- A walk through the trees at a node's actions, below the nodes around it, finds the first fault among their nodes, or
+-- what their leaves are expected to pay.
+use Rattle.std.proofs.Common.{◌≡◌, ℕ, suc, ◌+◌, ◌-◌, ◌<◌, ◌≤◌, Bool, true, false, cond, List, [], ◌∷◌, ◌++◌, length, length-append, take, drop, map, refl, ap, sym, subst, ◌∙◌, arith, append-nil, append_assoc, inl, inr, Some, None, slice_get}
+use Rattle.std.specs.Prelude.{Option, option_map}
+use Rattle.std.proofs.lemmas.Bool.{cases_lt}
+use Rattle.std.proofs.lemmas.List.{drop-drop, length-map}
+use Rattle.std.proofs.lemmas.Option.{slice_get-get_or, slice_get-map}
+use Rattle.std.proofs.Math.ListN.{drop_of_length-le}
+use Rattle.std.proofs.Math.Seq.{drop-append_seam}
+use Rattle.def_tree.specs.declared.Kind.TheVariants.{Chance}
+use Rattle.def_tree.specs.declared.Node.{Node}
+use Rattle.def_tree.specs.Events.{Event, Enter, Leave, events_from}
+use Rattle.def_tree.specs.Tree.{Forest, bare, grown, HasItsChildren, node_count, prefix, tree_count}
+use Rattle.def_tree.specs.Rules.{Fits, IsGameTree, is_same_kind}
+use Rattle.def_tree.proofs.Sets.{children-le, is_same_kind-true}
+use Rattle.def_fraction.specs.Fraction.{most, product_of, sum_of}
+use Rattle.def_file.specs.Content.{GameFile}
+use Rattle.def_file.specs.Faults.{set_at}
+use Rattle.def_file.specs.Game.{IsWholeGame}
+use Rattle.def_game_paths.specs.Coming.{no_visit, visit_after}
+use Rattle.def_game_paths.specs.Paths.{Move, Visit, visits, visits_from}
+use Rattle.def_game_paths.proofs.Coming.{IsNext, length-visits, next_visit}
+use Rattle.def_game_paths.proofs.Visits.{map-visits_from}
+use Rattle.def_game_scale.specs.Faults.{GameFault, Scale, found_by, node_fault}
+use Rattle.def_game_scale.specs.Scale.{expected_at, unit_of, unit_so_far}
+use Rattle.def_game_scale.specs.Tables.{AreFractions, Tables, path_payoff, payoffs_of, probability, reach}
+use Rattle.def_game_numbers.specs.Numbers.{tables_of}
+use Rattle.xg_game.specs.declared.fault.Refused.{Refused}
+use Rattle.xg_scale.specs.declared.leaf.Expected.{Expected}
+use Rattle.xg_scale.specs.declared.nodes.PathVisitor.{PathVisitor}
+use Rattle.xg_scale.specs.declared.nodes.PathWalk.{PathWalk}
+use Rattle.xg_scale.specs.declared.path.NodeOnPath.{NodeOnPath}
+use Rattle.xg_scale.specs.FaultOfFile.{RefusesBy}
+use Rattle.xg_scale.specs.Leaf.{judged_node, unit_with, with_expected}
+use Rattle.xg_scale.specs.OnPath.{GoesBackTo, HasNodeAround, at_action, chance_set_of, entered_node, outside}
+use Rattle.xg_scale.specs.Walked.{Enters, HasEntered, HasLeft, IsBefore, IsExpectedOf, Leaves, MayCome, MayComeNext, MayEnter, MayLeave, Steps, UnlessRefused, all_fit, next_fault, next_numbers, numbers_below, numbers_of, reach_below}
+use Rattle.xg_scale.proofs.FoundLemmas.{found_later, found_none, refuses_here}
+use Rattle.xg_scale.proofs.GameLemmas.{goes_with, in_chance_set, tree_rules}
+use Rattle.xg_scale.proofs.JudgeLemmas.{expected_all, expected_with, node_judged, unit_from_one, unit_more}
+use Rattle.xg_scale.proofs.VisitorLemmas.{RunsTo, runs_enter, runs_leave, runs_none}
+
+length-visits_from : (above : ℕ → List Move) (action : ℕ) (trees : Forest)
+    → length (visits_from above action trees) ≡ node_count trees
+length-visits_from above action trees =
+    sym (length-map (visits_from above action trees) (λ (v : Visit). v.node)) ∙ ap length (map-visits_from above action trees)
+
+module _ (game : GameFile) (lowest : AreFractions (tables_of game)) (whole : IsWholeGame game) where
+  abbrev tables : Tables
+  tables = tables_of game
+
+  abbrev all : List Visit
+  all = visits game.tree
+
+  abbrev found : Option GameFault
+  found = found_by (node_fault tables) [] all
+
+  rules : IsGameTree game.tree
+  rules = tree_rules game whole
+
+  -- behind the first n nodes come trees at the actions of a node, from one on, and then later nodes;
+  -- the node has the numbers of the path to each of its children
+  record AreNext (n : ℕ) (above : ℕ → List Move) (action : ℕ) (trees : Forest) (later : List Visit)
+      (parent : NodeOnPath) : Type 0 where
+    visits_are : drop n all ≡ visits_from above action trees ++ later
+    children : HasItsChildren trees
+    from_one : 1 ≤ action
+    room : action + tree_count trees ≤ 1025
+    set : (set : ℕ) → parent.chance_set ≡ Some set →
+        (1 ≤ set) × (set ≤ length game.sets.chance) × (action + tree_count trees ≡ length (set_at game.sets.chance (set - 1)).actions + 1)
+    reach_is : (a : ℕ) → reach tables (above a) ≡ reach_below tables parent.chance_set a parent.numbers.reach
+    one : (a : ℕ) → path_payoff (λ payoffs. payoffs.one) tables (above a) ≡ parent.numbers.one
+    two : (a : ℕ) → path_payoff (λ payoffs. payoffs.two) tables (above a) ≡ parent.numbers.two
+
+  -- the first n nodes have no fault
+  record HasPassed (n : ℕ) (expected : Expected) : Type 0 where
+    rest : found ≡ found_by (node_fault tables) (take n all) (drop n all)
+    unit : expected.unit ≡ unit_so_far tables (take n all)
+    limit : expected.unit ≤ most
+    fractions : expected.fractions.items ≡ expected_at tables (take n all)
+
+  record GoesOn (n : ℕ) (innermost : NodeOnPath) (outer : List NodeOnPath) (walk : PathWalk) : Type 0 where
+    passed : HasPassed n walk.expected
+    innermost_is : walk.innermost ≡ innermost
+    outer_is : walk.outer ≡ outer
+
+  abbrev OrRefused : Option Refused → Type 0 → Type 0
+  OrRefused (Some refused) On = RefusesBy found refused
+  OrRefused None On = On
+
+  -- the visitor passed the first n nodes and stands below these, or was refused to go on
+  record Stands (n : ℕ) (innermost : NodeOnPath) (outer : List NodeOnPath) (visitor : PathVisitor) : Type 0 where
+    game_is : visitor.walk.game.now ≡ game
+    stands : OrRefused visitor.refused (GoesOn n innermost outer visitor.walk)
+
+  may_step : (refused : Option Refused) {A B : Type 0} → OrRefused refused A → (A → B) → UnlessRefused refused B
+  may_step (Some r) stands may = tt
+  may_step None stands may = may stands
+
+  stepped : (old new : Option Refused) {R : Refused → Type 0} {A G B : Type 0} → OrRefused old A → Steps old new R G
+      → ((r : Refused) → A → R r → RefusesBy found r) → (A → G → B) → OrRefused new B
+  stepped (Some r) new {R} {A} {G} {B} stands same refuses on = subst (λ o. OrRefused o B) (sym same) stands
+  stepped None (Some r) stands step refuses on = refuses r stands step
+  stepped None None stands step refuses on = on stands step
+
+  -- the reach below a node
+  reach_from : (node : Node) (path : List Move) (a : ℕ) →
+      reach tables (record { node = node; action = a } ∷ path) ≡ reach_below tables (chance_set_of node) a (reach tables path)
+  reach_from node path a =
+      elim (is_same_kind Chance node.kind) as (λ b. cond b (product_of (reach tables path) (probability tables node.set a)) (reach tables path) ≡ reach_below tables (cond b (Some node.set) None) a (reach tables path)) [
+        | true ↦ refl
+        | false ↦ refl
+      ]
+
+  module _ (n : ℕ) (above : ℕ → List Move) (action : ℕ) (x : Node) (below beside : Forest) (later : List Visit)
+      (parent : NodeOnPath) (next : AreNext n above action (grown x below beside) later parent) where
+    abbrev here : Visit
+    here = record { path = above action; node = x }
+
+    abbrev down : ℕ → List Move
+    down = λ a. record { node = x; action = a } ∷ above action
+
+    abbrev behind : List Visit
+    behind = visits_from above (action + 1) beside ++ later
+
+    cons : drop n all ≡ here ∷ (visits_from down 1 below ++ behind)
+    cons =
+        next.visits_are ∙ ap (λ vs. here ∷ vs) (append_assoc (visits_from down 1 below) (visits_from above (action + 1) beside) later)
+
+    there : n < node_count game.tree
+    there = elim (cases_lt n (length all)) [
+      | inl inside ↦ omega (arith, length-visits game.tree)
+      | inr past ↦
+          let none : [] ≡ here ∷ (visits_from down 1 below ++ behind) = sym (drop_of_length-le all past) ∙ cons in
+          cc none
+    ]
+
+    abbrev v : Visit
+    v = visit_after game.tree n
+
+    is_next : IsNext game.tree n v
+    is_next = next_visit game.tree n rules there
+
+    first : v ≡ here
+    first = let e : v ∷ drop (n + 1) all ≡ here ∷ (visits_from down 1 below ++ behind) = sym is_next.cons ∙ cons in cc
+
+    after : drop (n + 1) all ≡ visits_from down 1 below ++ behind
+    after = let e : v ∷ drop (n + 1) all ≡ here ∷ (visits_from down 1 below ++ behind) = sym is_next.cons ∙ cons in cc
+
+    read : slice_get (prefix game.tree) (n + 1 - 1) ≡ Some x
+    read =
+        let index : n + 1 - 1 ≡ n = omega arith in
+        (λ i. slice_get (sym (map-visits_from (λ _. []) 1 game.tree) i) (index i))
+        ∙ slice_get-map (λ (w : Visit). w.node) all n
+        ∙ ap (option_map (λ (w : Visit). w.node)) (slice_get-get_or all n no_visit is_next.there)
+        ∙ ap (λ (w : Visit). Some w.node) first
+
+    few_children : x.children ≤ 1024
+    few_children = children-le (map (λ (w : Visit). w.node) (take n all)) x (subst (Fits (map (λ (w : Visit). w.node) (take n all))) (ap (λ (w : Visit). w.node) first) is_next.fits)
+
+    chance_kind : (set : ℕ) (b : Bool) → is_same_kind Chance x.kind ≡ b → cond b (Some x.set) None ≡ Some set
+        → (x.kind ≡ Chance) × (x.set ≡ set)
+    chance_kind set true chance e = (is_same_kind-true Chance x.kind chance, cc)
+    chance_kind set false other e = cc
+
+    below_set : (set : ℕ) → chance_set_of x ≡ Some set → (1 ≤ set) × (set ≤ length game.sets.chance)
+        × (1 + tree_count below ≡ length (set_at game.sets.chance (set - 1)).actions + 1)
+    below_set set e =
+        let is = chance_kind set (is_same_kind Chance x.kind) refl e in
+        let known = in_chance_set game whole n x read is.0 in
+        let InTable : ℕ → Type 0 = λ s. (1 ≤ s) × (s ≤ length game.sets.chance) × (1 + tree_count below ≡ length (set_at game.sets.chance (s - 1)).actions + 1) in
+        subst InTable is.1 (known.from_one, known.there, omega (arith, known.actions, next.children.0))
+
+    abbrev child : NodeOnPath
+    child = entered_node x (numbers_of tables here)
+
+    -- the trees below the first node, and those beside it
+    below_next : AreNext (n + 1) down 1 below behind child
+    below_next = record {
+      visits_are = after;
+      children = next.children.1;
+      from_one = omega arith;
+      room = omega (arith, few_children, next.children.0);
+      set = below_set;
+      reach_is = λ a. reach_from x (above action) a;
+      one = λ a. refl;
+      two = λ a. refl;
+    }
+
+    beside_next : AreNext (n + 1 + node_count below) above (action + 1) beside later parent
+    beside_next =
+        let trees : action + suc (tree_count beside) ≤ 1025 = next.room in
+        let on : action + 1 + tree_count beside ≡ action + suc (tree_count beside) = omega arith in
+        record {
+          visits_are =
+              sym (drop-drop (node_count below) (n + 1) all)
+              ∙ (λ i. drop (sym (length-visits_from down 1 below) i) (after i))
+              ∙ drop-append_seam (visits_from down 1 below) behind;
+          children = next.children.2;
+          from_one = omega arith;
+          room = omega (arith, on, trees);
+          set = λ set e. let known = next.set set e in (known.0, known.1, on ∙ known.2);
+          reach_is = next.reach_is;
+          one = next.one;
+          two = next.two;
+        }
+
+    may_come : MayCome game (at_action parent action)
+    may_come set e =
+        let known = next.set set e in
+        let last : action + suc (tree_count beside) ≡ length (set_at game.sets.chance (set - 1)).actions + 1 = known.2 in
+        (known.0, known.1, next.from_one, omega (arith, last))
+
+    numbers_here : numbers_below tables (at_action parent action) x ≡ numbers_of tables here
+    numbers_here = λ i. record {
+      reach = sym (next.reach_is action) i;
+      one = sum_of (sym (next.one action) i) (payoffs_of tables x.outcome).one;
+      two = sum_of (sym (next.two action) i) (payoffs_of tables x.outcome).two;
+    }
+
+    module _ (outer : List NodeOnPath) (walk : PathWalk) (same : walk.game.now ≡ game)
+        (on : GoesOn n (at_action parent action) outer walk) where
+      numbers_are : next_numbers walk x ≡ numbers_of tables here
+      numbers_are = (λ i. numbers_below (tables_of (same i)) (on.innermost_is i) x) ∙ numbers_here
+
+      numbers_at_visit : next_numbers walk x ≡ numbers_of tables v
+      numbers_at_visit = numbers_are ∙ ap (numbers_of tables) (sym first)
+
+      fault_is : node_fault tables (take n all) v ≡ next_fault walk (n + 1) x
+      fault_is =
+          node_judged tables lowest game.tree rules n there x read
+          ∙ sym ((λ i. cond (all_fit (numbers_at_visit i)) (judged_node (n + 1) x (on.passed.unit i) (numbers_at_visit i)) (Some (Scale (n + 1)))))
+
+      may_come_next : MayComeNext walk x
+      may_come_next = record {
+        action = subst (λ g. MayCome g walk.innermost) (sym same) (subst (MayCome game) (sym on.innermost_is) may_come);
+        outcome = subst (λ (g : GameFile). x.outcome ≤ length g.outcomes) (sym same) (goes_with game whole n x read).outcome;
+        from_one = omega (arith, on.passed.unit, unit_from_one tables lowest (take n all));
+        limit = on.passed.limit;
+      }
+
+      refused_here : (r : Refused) → RefusesBy (next_fault walk (n + 1) x) r → RefusesBy found r
+      refused_here r refuses =
+          subst (λ o. RefusesBy o r) (sym on.passed.rest) (refuses_here game.tree (node_fault tables) n v is_next (next_fault walk (n + 1) x) r fault_is refuses)
+
+      goes_below : (new : PathWalk) → HasEntered walk (n + 1) x new
+          → GoesOn (n + 1) child (at_action parent action ∷ outer) new
+      goes_below new entered = record {
+        passed = record {
+          rest = on.passed.rest ∙ found_later game.tree (node_fault tables) n v is_next (fault_is ∙ entered.passes);
+          unit = entered.unit ∙ (λ i. unit_with x (on.passed.unit i) (numbers_at_visit i)) ∙ sym (unit_more tables lowest game.tree rules n there x read);
+          limit = entered.limit;
+          fractions = entered.fractions ∙ (λ i. on.passed.fractions i ++ with_expected x (numbers_at_visit i)) ∙ sym (expected_with tables lowest game.tree rules n there x read);
+        };
+        innermost_is = entered.innermost ∙ ap (entered_node x) numbers_are;
+        outer_is = entered.outer ∙ (λ i. on.innermost_is i ∷ on.outer_is i);
+      }
+
+    may_enter_first : (outer : List NodeOnPath) (visitor : PathVisitor)
+        → Stands n (at_action parent action) outer visitor → MayEnter visitor (n + 1) x
+    may_enter_first outer visitor s = may_step visitor.refused s.stands (may_come_next outer visitor.walk s.game_is)
+
+    first_entered : (outer : List NodeOnPath) (old new : PathVisitor) → Stands n (at_action parent action) outer old
+        → Enters old (n + 1) x new → Stands (n + 1) child (at_action parent action ∷ outer) new
+    first_entered outer old new s enters = record {
+      game_is = enters.0 ∙ s.game_is;
+      stands = stepped old.refused new.refused s.stands enters.1 (λ r on. refused_here outer old.walk s.game_is on r) (λ on. goes_below outer old.walk s.game_is on new.walk);
+    }
+
+    -- back from below the first node
+    goes_back : (m : ℕ) (inner : NodeOnPath) (outer : List NodeOnPath) (old new : PathWalk)
+        → GoesOn m inner (at_action parent action ∷ outer) old → HasLeft old new
+        → GoesOn m (at_action parent (action + 1)) outer new
+    goes_back m inner outer old new on left =
+        let back = subst (λ around. GoesBackTo around new.innermost new.outer) on.outer_is left.back in
+        record { passed = subst (HasPassed m) (sym left.expected) on.passed; innermost_is = back.0; outer_is = back.1 }
+
+    may_leave_first : (m : ℕ) (inner : NodeOnPath) (outer : List NodeOnPath) (visitor : PathVisitor)
+        → Stands m inner (at_action parent action ∷ outer) visitor → MayLeave visitor (n + 1)
+    may_leave_first m inner outer visitor s =
+        let room : action + suc (tree_count beside) ≤ 1025 = next.room in
+        may_step visitor.refused s.stands (λ on. subst HasNodeAround (sym on.outer_is) (omega (arith, room)))
+
+    first_left : (m : ℕ) (inner : NodeOnPath) (outer : List NodeOnPath) (old new : PathVisitor)
+        → Stands m inner (at_action parent action ∷ outer) old → Leaves old (n + 1) new
+        → Stands m (at_action parent (action + 1)) outer new
+    first_left m inner outer old new s leaves = record {
+      game_is = leaves.0 ∙ s.game_is;
+      stands = stepped old.refused new.refused s.stands leaves.1 (λ r on none. absurd none) (λ on. goes_back m inner outer old.walk new.walk on);
+    }
+
+  -- how a visitor ends
+  abbrev Ends : PathVisitor → Type 0
+  Ends visitor = OrRefused visitor.refused (IsExpectedOf tables game.tree visitor.walk.expected)
+
+  abbrev Runs : List Event → PathVisitor → Type 0
+  Runs = RunsTo MayEnter Enters MayLeave Leaves Ends
+
+  -- the walk through trees that come next leads behind them, with the node around at the action after their last
+  walks : (trees : Forest) (n : ℕ) (above : ℕ → List Move) (action : ℕ) (later : List Visit) (parent : NodeOnPath)
+      (outer : List NodeOnPath) → AreNext n above action trees later parent → (rest : List Event)
+      → ((w : PathVisitor) → Stands (n + node_count trees) (at_action parent (action + tree_count trees)) outer w → Runs rest w)
+      → (v : PathVisitor) → Stands n (at_action parent action) outer v → Runs (events_from (n + 1) trees ++ rest) v
+  walks bare n above action later parent outer next rest then v s =
+      let nodes : n ≡ n + 0 = omega arith in
+      let actions : action ≡ action + 0 = omega arith in
+      then v (subst (λ m. Stands m (at_action parent (action + 0)) outer v) nodes (subst (λ a. Stands n (at_action parent a) outer v) actions s))
+  walks (grown x below beside) n above action later parent outer next rest then v s =
+      let m : ℕ = n + 1 + node_count below in
+      let number : m + 1 ≡ n + 1 + 1 + node_count below = omega arith in
+      let nodes : m + node_count beside ≡ n + node_count (grown x below beside) = omega (arith, length-append (prefix below) (prefix beside)) in
+      let actions : action + 1 + tree_count beside ≡ action + suc (tree_count beside) = omega arith in
+      let last : (w : PathVisitor) → Stands (m + node_count beside) (at_action parent (action + 1 + tree_count beside)) outer w → Runs rest w =
+      λ w stands. then w (subst (λ k. Stands k (at_action parent (action + suc (tree_count beside))) outer w) nodes (subst (λ a. Stands (m + node_count beside) (at_action parent a) outer w) actions stands)) in
+      let beyond : List Event = events_from (n + 1 + 1 + node_count below) beside ++ rest in
+      let child : NodeOnPath = entered_node x (numbers_of tables (record { path = above action; node = x })) in
+      let left : (w : PathVisitor) → Stands m (at_action parent (action + 1)) outer w → Runs beyond w =
+      λ w stands. subst (λ k. Runs (events_from k beside ++ rest) w) number
+      (walks beside m above (action + 1) later parent outer (beside_next n above action x below beside later parent next) rest last w stands) in
+      let back : (w : PathVisitor) → Stands m (at_action child (1 + tree_count below)) (at_action parent action ∷ outer) w → Runs (Leave (n + 1) ∷ beyond) w =
+      λ w stands. runs_leave MayEnter Enters MayLeave Leaves Ends (n + 1) beyond w
+      (may_leave_first n above action x below beside later parent next m (at_action child (1 + tree_count below)) outer w stands)
+      (λ u leaves. left u (first_left n above action x below beside later parent next m (at_action child (1 + tree_count below)) outer w u stands leaves)) in
+      let into : (w : PathVisitor) → Enters v (n + 1) x w → Runs (events_from (n + 1 + 1) below ++ (Leave (n + 1) ∷ beyond)) w =
+      λ w enters. walks below (n + 1) (λ a. record { node = x; action = a } ∷ above action) 1 (visits_from above (action + 1) beside ++ later) child (at_action parent action ∷ outer)
+      (below_next n above action x below beside later parent next) (Leave (n + 1) ∷ beyond) back w (first_entered n above action x below beside later parent next outer v w s enters) in
+      subst (λ steps. Runs steps v)
+      (ap (λ steps. Enter (n + 1) x ∷ steps) (sym (append_assoc (events_from (n + 1 + 1) below) (Leave (n + 1) ∷ events_from (n + 1 + 1 + node_count below) beside) rest)))
+      (runs_enter MayEnter Enters MayLeave Leaves Ends (n + 1) x (events_from (n + 1 + 1) below ++ (Leave (n + 1) ∷ beyond)) v
+      (may_enter_first n above action x below beside later parent next outer v s) into)
+
+  whole_next : AreNext 0 (λ _. []) 1 game.tree [] outside
+  whole_next = record {
+    visits_are = sym (append-nil all);
+    children = whole.tree.children;
+    from_one = omega arith;
+    room = omega (arith, whole.tree.one);
+    set = λ set is. cc is;
+    reach_is = λ a. refl;
+    one = λ a. refl;
+    two = λ a. refl;
+  }
+
+  stands_first : (visitor : PathVisitor) → IsBefore game visitor → Stands 0 outside [] visitor
+  stands_first visitor before = record {
+    game_is = before.game_is;
+    stands = subst (λ o. OrRefused o (GoesOn 0 outside [] visitor.walk)) (sym before.going) (record {
+      passed = record { rest = refl; unit = before.unit; limit = omega (arith, before.unit); fractions = before.fractions };
+      innermost_is = before.innermost;
+      outer_is = before.outer;
+    });
+  }
+
+  all_passed : (n : ℕ) (expected : Expected) → n ≡ node_count game.tree → HasPassed n expected
+      → IsExpectedOf tables game.tree expected
+  all_passed n expected last passed = record {
+    passes = passed.rest ∙ found_none game.tree (node_fault tables) n last;
+    unit = passed.unit ∙ ap unit_of (expected_all tables game.tree n last);
+    limit = passed.limit;
+    fractions = passed.fractions ∙ expected_all tables game.tree n last;
+  }
+
+  ended : (n : ℕ) (innermost : NodeOnPath) (outer : List NodeOnPath) (walk : PathWalk) (refused : Option Refused)
+      → n ≡ node_count game.tree → OrRefused refused (GoesOn n innermost outer walk)
+      → OrRefused refused (IsExpectedOf tables game.tree walk.expected)
+  ended n innermost outer walk (Some r) last stands = stands
+  ended n innermost outer walk None last stands = all_passed n walk.expected last stands.passed
+
+  -- the walk through the whole tree
+  pub whole_walk : (visitor : PathVisitor) → IsBefore game visitor → Runs (events_from 1 game.tree) visitor
+  whole_walk visitor before =
+      subst (λ steps. Runs steps visitor) (append-nil (events_from 1 game.tree))
+      (walks game.tree 0 (λ _. []) 1 [] outside [] whole_next []
+      (λ w s. runs_none MayEnter Enters MayLeave Leaves Ends w (ended (0 + node_count game.tree) (at_action outside (1 + tree_count game.tree)) [] w.walk w.refused (omega arith) s.stands))
+      visitor (stands_first visitor before))
+
+  -- a refusal is by the first fault
+  pub ends_refused : (visitor : PathVisitor) (r : Refused) → Ends visitor → visitor.refused ≡ Some r → RefusesBy found r
+  ends_refused visitor r ends is = subst (λ o. OrRefused o (IsExpectedOf tables game.tree visitor.walk.expected)) is ends
+
+  -- without one there is none
+  pub ends_expected : (visitor : PathVisitor) → Ends visitor → visitor.refused ≡ None
+      → IsExpectedOf tables game.tree visitor.walk.expected
+  ends_expected visitor ends is = subst (λ o. OrRefused o (IsExpectedOf tables game.tree visitor.walk.expected)) is ends
