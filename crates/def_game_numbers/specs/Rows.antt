@@ -39,8 +39,9 @@ pub record FileRows : Type 0 where
   pub recall_weighed : weigh (file_of examples.first_in_set) ≡ Ok (record { unit = 1; mass = 0; leaves = pos 0 ∷ pos 0 ∷ pos 0 ∷ [] })
   pub recall_broken : sets_or_break examples.first_in_set.tree ≡ Err (record { node = 7; earlier = 4 })
   pub sets : sets_or_break examples.other_before_choice.tree ≡ Ok (record {
-    one = record { sets = record { before = 0; actions = 2 } ∷ []; at_nodes = 0 ∷ 0 ∷ 1 ∷ 2 ∷ 0 ∷ 1 ∷ 2 ∷ [] };
-    two = record { sets = record { before = 0; actions = 2 } ∷ []; at_nodes = 0 ∷ 1 ∷ 1 ∷ 1 ∷ 2 ∷ 2 ∷ 2 ∷ [] };
+    one = record { sets = record { before = 0; actions = 2 } ∷ []; first_nodes = 2 ∷ []; at_nodes = 0 ∷ 0 ∷ 1 ∷ 2 ∷ 0 ∷ 1 ∷ 2 ∷ [] };
+    two = record { sets = record { before = 0; actions = 2 } ∷ []; first_nodes = 1 ∷ []; at_nodes = 0 ∷ 1 ∷ 1 ∷ 1 ∷ 2 ∷ 2 ∷ 2 ∷ [] };
+    next_nodes = None ∷ Some 5 ∷ None ∷ None ∷ None ∷ None ∷ None ∷ [];
   })
 
 -- so many nodes and leaves, sets and sequences of each player, and these leaves

@@ -1,3 +1,4 @@
 pub mod Sets
 pub mod Nodes
 pub mod Leaves
+pub mod ListedNodes

@@ -1,5 +1,6 @@
 pub mod Form
 pub mod Sets
+pub mod SetNodes
 pub mod Laws
 pub mod Rows
 pub mod Payments

@@ -1,5 +1,5 @@
 -- The sets, the form and the list of leaves of small games.
-use Rattle.std.specs.Prelude.{◌≡◌, pos, negsuc, [], ◌∷◌, Ok, Err}
+use Rattle.std.specs.Prelude.{◌≡◌, pos, negsuc, [], ◌∷◌, None, Ok, Err}
 use Rattle.def_tree.specs.declared.Kind.TheVariants.{Chance, One, Two}
 use Rattle.def_tree.specs.Tree.{Forest, forest_of}
 use Rattle.def_tree.specs.Rules.{inner_node, leaf_node, matching_pennies}
@@ -27,8 +27,9 @@ pub record FormRows : Type 0 where
         ∷ [];
   }
   pub uneven_sets : sets_or_break uneven_game ≡ Ok (record {
-    one = record { sets = record { before = 0; actions = 2 } ∷ record { before = 2; actions = 2 } ∷ []; at_nodes = 0 ∷ 1 ∷ 1 ∷ 1 ∷ 1 ∷ 2 ∷ 3 ∷ 4 ∷ [] };
-    two = record { sets = record { before = 0; actions = 3 } ∷ []; at_nodes = 0 ∷ 0 ∷ 1 ∷ 2 ∷ 3 ∷ 0 ∷ 0 ∷ 0 ∷ [] };
+    one = record { sets = record { before = 0; actions = 2 } ∷ record { before = 2; actions = 2 } ∷ []; first_nodes = 1 ∷ 6 ∷ []; at_nodes = 0 ∷ 1 ∷ 1 ∷ 1 ∷ 1 ∷ 2 ∷ 3 ∷ 4 ∷ [] };
+    two = record { sets = record { before = 0; actions = 3 } ∷ []; first_nodes = 2 ∷ []; at_nodes = 0 ∷ 0 ∷ 1 ∷ 2 ∷ 3 ∷ 0 ∷ 0 ∷ 0 ∷ [] };
+    next_nodes = None ∷ None ∷ None ∷ None ∷ None ∷ None ∷ None ∷ None ∷ [];
   })
   pub absent_sets : sets_or_break absent_driver ≡ Err (record { node = 3; earlier = 1 })
   pub partner_sets : sets_or_break absent_partner ≡ Err (record { node = 6; earlier = 2 })

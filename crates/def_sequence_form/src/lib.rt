@@ -7,6 +7,7 @@ pub mod examples;
 ghost use Rattle.def_sequence_form.specs.Laws.{FormHasTheLeafList, FormHasTheMass, FormIsInOrder, FormNumbersAsTheTree};
 ghost use Rattle.def_sequence_form.specs.Laws.{SetsAreExact, SetsHaveTheirNodes, TreeSetsTellNodes};
 ghost use Rattle.def_sequence_form.specs.Rows.{FormRows, LeafListRows};
+ghost use Rattle.def_sequence_form.specs.SetNodes.{SetNodeRows, SetsListTheirNodes};
 
 /// In a game tree each set has actions, and the sequence before it comes before its own.
 pub fn form_is_in_order()
@@ -42,6 +43,17 @@ pub fn form_has_the_mass()
 /// What is answered of the sets at each node is the number of the sequence that ends with its player's last own choice.
 pub fn tree_sets_tell_nodes()
     ensures { TreeSetsTellNodes }
+{}
+
+/// A set's first node and the next nodes after it are exactly the set's nodes, each once and in rising order; where no
+/// player moves there is no next one.
+pub fn sets_list_their_nodes()
+    ensures { SetsListTheirNodes }
+{}
+
+/// Rows: the nodes of the sets of matching pennies, and of a game whose sets have nodes far apart.
+pub fn set_node_rows()
+    ensures { SetNodeRows }
 {}
 
 /// Rows: the forms of matching pennies and of an uneven game, that game's sets, and the breaks of two games.

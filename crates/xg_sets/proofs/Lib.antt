@@ -1,3 +1,5 @@
+pub mod NextNodeLemmas
 pub mod NotingLemmas
-pub mod ParentLemmas
+pub mod PathLemmas
 pub mod ShownLemmas
+pub mod VisitorLemmas

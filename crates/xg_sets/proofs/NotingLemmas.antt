@@ -1,5 +1,5 @@
 -- A node is noted in its set's row, or begins the next set; and recall breaks there exactly where the row says so.
-use Rattle.std.proofs.Common.{◌≡◌, ◌≢◌, ℕ, suc, ◌+◌, ◌-◌, ◌^◌, ◌<◌, ◌≤◌, Bool, true, false, cond, not, ◌&&◌, List, [], ◌∷◌, ◌++◌, length, get_or, take, drop, map, refl, ap, sym, subst, ◌∙◌, arith, inl, inr, Some, None, Ok, Err, append-nil, length-append, slice_get}
+use Rattle.std.proofs.Common.{◌≡◌, ◌≢◌, ℕ, ◌+◌, ◌-◌, ◌^◌, ◌<◌, ◌≤◌, Bool, true, false, cond, not, ◌&&◌, List, [], ◌∷◌, ◌++◌, length, get_or, take, drop, map, set, refl, ap, sym, subst, ◌∙◌, arith, inl, inr, Some, None, Ok, Err, append-nil, length-append, slice_get}
 use Rattle.std.specs.Prelude.{Option, Result, nat_eq, sum}
 use Rattle.std.proofs.lemmas.Bool.{cases_lt, eq-eqb, ne_eqb}
 use Rattle.std.proofs.lemmas.List.{length-map, length-take, map-append, take-append-drop}
@@ -19,40 +19,29 @@ use Rattle.def_game_paths.specs.Paths.{Visit, visits}
 use Rattle.def_game_paths.specs.Recall.{Numbered, RecallBreak, break_against, break_or, first_break, first_of_set, is_personal, is_same_set}
 use Rattle.def_game_paths.specs.Sequences.{differ_in_number, first_sequence, number_break, sequence_at, set_firsts, set_sizes, sizes_so_far}
 use Rattle.def_game_paths.proofs.Ancestors.{Contains-map}
-use Rattle.def_game_paths.proofs.Breaks.{is_same_set_by}
+use Rattle.def_game_paths.proofs.Breaks.{is_same_set_by, same_set}
 use Rattle.def_game_paths.proofs.Counts.{sequences_are_few}
 use Rattle.def_game_paths.proofs.Firsts.{and_false, other_kind, other_number}
 use Rattle.def_game_paths.proofs.Numbers.{known_so_far, set_firsts-append, sizes_front}
 use Rattle.def_game_paths.proofs.Order.{KnowsSizes, joins_of, visited_node}
 use Rattle.def_game_paths.proofs.Coming.{IsNext, next_node, next_visit}
+use Rattle.def_sequence_form.specs.Sets.{first_number, next_numbers, number_or_zero}
+use Rattle.def_sequence_form.specs.SetNodes.{is_in_set}
 use Rattle.def_sequence_form.proofs.Sets.{set_of_visit}
 use Rattle.xg_sets.specs.declared.building.RecallFault.{RecallFault}
 use Rattle.xg_sets.specs.declared.building.RecallFault.TheVariants.{NotRecall, NoMemory}
-use Rattle.xg_sets.specs.declared.parents.Sequences.{Sequences}
+use Rattle.xg_sets.specs.declared.movers.Sequences.{Sequences}
 use Rattle.xg_sets.specs.declared.table.SetRow.{SetRow}
-use Rattle.xg_sets.specs.Entered.{AreAt, AreAtFirstChild, AreTablesOf, FindsBreak, IsAtFirstChild, IsFirstNode, IsRowOf, IsTableUpTo}
-use Rattle.xg_sets.specs.Table.{BeginsSet, JoinsRow, Notes, NotesIn, SetRows, with_set}
+use Rattle.xg_sets.specs.Entered.{AreAt, AreAtFirstChild, AreTablesOf, FindsBreak, IsAtFirstChild, IsFirstNode, IsLastNode, IsRowOf, IsTableUpTo}
+use Rattle.xg_sets.specs.Table.{BeginsSet, JoinsRow, LastIsThere, Notes, NotesIn, SetRows, with_last, with_set}
 use Rattle.xg_sets.specs.OfPlayer.{set_in_row}
-
--- behind nodes of other sets, a search for the first node of a set finds the next one
-first_after : (k : ℕ) (x : Node) (before : List Visit) (v : Visit) (rest : List Visit)
-    → ((i : ℕ) (d : Visit) → i < length before → is_same_set (get_or before i d).node x ≡ false)
-    → is_same_set v.node x ≡ true →
-    first_of_set k x (before ++ v ∷ rest) ≡ Some (record { number = k + length before; visit = v })
-first_after k x [] v rest none same =
-    let here : k ≡ k + 0 = omega arith in
-    ap (λ b. cond b (Some (record { number = k; visit = v })) (first_of_set (k + 1) x rest)) same ∙ ap (λ m. Some (record { number = m; visit = v })) here
-first_after k x (w ∷ ws) v rest none same =
-    let far : k + 1 + length ws ≡ k + suc (length ws) = omega arith in
-    ap (λ b. cond b (Some (record { number = k; visit = w })) (first_of_set (k + 1) x (ws ++ v ∷ rest))) (none 0 w (omega arith))
-    ∙ first_after (k + 1) x ws v rest (λ i d h. none (suc i) d (omega arith)) same
-    ∙ ap (λ m. Some (record { number = m; visit = v })) far
+use Rattle.xg_sets.proofs.NextNodeLemmas.{apart, each_row, first_after, joined_numbers, last_kept, last_new, length-next_numbers, map_kept, not_true, other_way, quiet_numbers}
 
 abbrev pub put : SetRows → ℕ → SetRows
 put table sequence = record table { at_nodes = table.at_nodes ++ sequence ∷ [] }
 
 abbrev no_row : SetRow
-no_row = record { first = 0; before = 0; actions = 0; node = 0 }
+no_row = record { first = 0; before = 0; actions = 0; node = 0; last = 0 }
 
 not_read : (rows : List SetRow) (i : ℕ) → slice_get rows i ≡ None → length rows ≤ i
 not_read rows i e = elim (cases_lt i (length rows)) [
@@ -108,41 +97,55 @@ module _ (tree : Forest) (kind : Kind) (game : IsGameTree tree) (inner : is_leaf
   -- a node that begins no set of the kind
   quiet_stands : (table : SetRows) (s : ℕ) → IsTableUpTo tree kind n table → begins ≡ false
       → s ≡ sequence_at kind tree v
+      → ((i : ℕ) (d : SetRow) → i < length table.rows → IsLastNode kind (i + 1) (done ++ v ∷ []) (get_or table.rows i d).last)
       → IsTableUpTo tree kind (n + 1) (put table s)
-  quiet_stands table s stands other is =
+  quiet_stands table s stands other is lasts =
       let same : firsts ≡ set_firsts kind 0 (take (n + 1) all) = sym (firsts_quiet other) in
       record {
         sets = stands.sets ∙ ap (map (set_of_visit kind tree)) same;
         each = stands.each;
+        nodes = stands.nodes ∙ ap (map (first_number tree)) same;
+        lasts = λ i d there. subst (λ vs. IsLastNode kind (i + 1) vs (get_or table.rows i d).last) (sym next.taken) (lasts i d there);
         next = stands.next ∙ ap (λ vs. 1 + sum (map (λ (w : Visit). w.node.children) vs)) same;
         at_nodes = put_more table s stands.at_nodes is;
       }
+
+  -- no node so far is in the next set
+  others : (x : Node) → x.kind ≡ kind → x.set ≡ length sizes + 1
+      → (i : ℕ) (d : Visit) → i < length done → is_same_set (get_or done i d).node x ≡ false
+  others x kinds sets i d h =
+      let knows : KnowsSizes kind (map visited_node done) sizes = known_so_far tree kind game inner n in
+      let w : Visit = get_or done i d in
+      elim (is_same_kind kind w.node.kind) as (λ b. is_same_kind kind w.node.kind ≡ b → is_same_set w.node x ≡ false) [
+        | true ↦ λ same_kind.
+            let held = knows.each w.node (Contains-map done w (Contains-get_or done i d h)) (is_same_kind-true kind w.node.kind same_kind) in
+            let known : w.node.set ≤ length sizes = held.1 in
+            other_number w.node x (λ e. absurd (omega arith))
+        | false ↦ λ differs. other_kind kind w.node x kinds differs
+      ] refl
+
+  -- whether the node is in a set
+  in_it : (set : ℕ) → v.node.kind ≡ kind → v.node.set ≡ set → is_in_set kind set v ≡ true
+  in_it set is e = is_same_set_by v.node (record v.node { kind = kind; set = set }) is e
+
+  not_in_it : (set : ℕ) → v.node.set ≢ set → is_in_set kind set v ≡ false
+  not_in_it set ne = and_false (is_same_kind v.node.kind kind) (nat_eq v.node.set set) (ne_eqb v.node.set set ne)
+
+  count_done : length done ≡ n
+  count_done = let there : n < length all = next.there in omega (arith, length-take n all)
 
   -- the node begins the next set
   found_new : (x : Node) → x.kind ≡ kind → x.set ≡ length sizes + 1 → is_same_set v.node x ≡ true
       → first_of_set 1 x all ≡ Some (record { number = n + 1; visit = v })
   found_new x kinds sets same =
-      let knows : KnowsSizes kind (map visited_node done) sizes = known_so_far tree kind game inner n in
       let there : n < length all = next.there in
       let parts : all ≡ done ++ v ∷ drop (n + 1) all = sym (take-append-drop n all) ∙ ap (λ vs. done ++ vs) next.cons in
       let number : 1 + length done ≡ n + 1 = omega (arith, length-take n all) in
-      ap (first_of_set 1 x) parts ∙ first_after 1 x done v (drop (n + 1) all) (λ i d h. other knows x kinds sets i d h) same ∙ ap (λ m. Some (record { number = m; visit = v })) number
-    where
-      other : KnowsSizes kind (map visited_node done) sizes → (x : Node) → x.kind ≡ kind → x.set ≡ length sizes + 1
-          → (i : ℕ) (d : Visit) → i < length done → is_same_set (get_or done i d).node x ≡ false
-      other knows x kinds sets i d h =
-          let w : Visit = get_or done i d in
-          elim (is_same_kind kind w.node.kind) as (λ b. is_same_kind kind w.node.kind ≡ b → is_same_set w.node x ≡ false) [
-            | true ↦ λ same_kind.
-                let held = knows.each w.node (Contains-map done w (Contains-get_or done i d h)) (is_same_kind-true kind w.node.kind same_kind) in
-                let known : w.node.set ≤ length sizes = held.1 in
-                other_number w.node x (λ e. absurd (omega arith))
-            | false ↦ λ differs. other_kind kind w.node x kinds differs
-          ] refl
+      ap (first_of_set 1 x) parts ∙ first_after 1 x done v (drop (n + 1) all) (others x kinds sets) same ∙ ap (λ m. Some (record { number = m; visit = v })) number
 
   row_stands : (table : SetRows) (s : ℕ) → IsTableUpTo tree kind n table → v.node.kind ≡ kind
       → v.node.set ≡ length firsts + 1 → s ≡ sequence_at kind tree v →
-      IsRowOf tree kind (length table.rows + 1) (record { first = table.next; before = s; actions = v.node.children; node = n + 1 })
+      IsRowOf tree kind (length table.rows + 1) (record { first = table.next; before = s; actions = v.node.children; node = n + 1; last = n + 1 })
   row_stands table s stands is set sequence =
       let rows : length table.rows ≡ length firsts = rows_count table stands in
       let many : length sizes ≡ length firsts = length-map firsts (λ (w : Visit). w.node.children) in
@@ -167,10 +170,29 @@ module _ (tree : Forest) (kind : Kind) (game : IsGameTree tree) (inner : is_leaf
   new_stands table s stands is set sequence =
       let first : begins ≡ true = ap (λ b. b && nat_eq v.node.set (length firsts + 1)) (is_same_kind_self kind v.node.kind is) ∙ eq-eqb v.node.set (length firsts + 1) set in
       let more : set_firsts kind 0 (take (n + 1) all) ≡ firsts ++ v ∷ [] = firsts_new first in
-      let row : SetRow = record { first = table.next; before = s; actions = v.node.children; node = n + 1 } in
+      let row : SetRow = record { first = table.next; before = s; actions = v.node.children; node = n + 1; last = n + 1 } in
       let next_sizes : sizes_so_far kind (take (n + 1) all) ≡ sizes ++ v.node.children ∷ [] = ap (map (λ (w : Visit). w.node.children)) more ∙ map-append (λ (w : Visit). w.node.children) firsts (v ∷ []) in
       let next_is : table.next ≡ 1 + sum sizes = stands.next in
+      let rows : length table.rows ≡ length firsts = rows_count table stands in
+      let many : length sizes ≡ length firsts = length-map firsts (λ (w : Visit). w.node.children) in
+      let number : n + 1 ≡ first_number tree v = ap number_or_zero (sym (found_new v.node is (omega arith) (is_same_set_by v.node v.node refl refl))) in
       record {
+        nodes = map-append (λ (r : SetRow). r.node) table.rows (row ∷ []) ∙ (λ i. stands.nodes i ++ number i ∷ []) ∙ sym (map-append (first_number tree) firsts (v ∷ [])) ∙ ap (map (first_number tree)) (sym more);
+        lasts = λ i d there. elim (cases_lt i (length table.rows)) [
+          | inl below ↦
+              let ne : v.node.set ≢ i + 1 = λ e. absurd (omega arith) in
+              subst (λ vs. IsLastNode kind (i + 1) vs (get_or (table.rows ++ row ∷ []) i d).last) (sym next.taken)
+              (subst (λ (r : SetRow). IsLastNode kind (i + 1) (done ++ v ∷ []) r.last) (sym (get_or-append table.rows (row ∷ []) d i below))
+              (last_kept kind (i + 1) done v (get_or table.rows i d).last (stands.lasts i d below) (not_in_it (i + 1) ne)))
+          | inr past ↦
+              let at : length table.rows ≡ i = omega (arith, length-append table.rows (row ∷ [])) in
+              let index : v.node.set ≡ i + 1 = omega arith in
+              let long : length done + 1 ≡ n + 1 = omega (arith, count_done) in
+              subst (λ vs. IsLastNode kind (i + 1) vs (get_or (table.rows ++ row ∷ []) i d).last) (sym next.taken)
+              (subst (λ j. IsLastNode kind (i + 1) (done ++ v ∷ []) (get_or (table.rows ++ row ∷ []) j d).last) at
+              (subst (λ (r : SetRow). IsLastNode kind (i + 1) (done ++ v ∷ []) r.last) (sym (get_or-append_seam table.rows row [] d))
+              (last_new kind (i + 1) done v (n + 1) long (in_it (i + 1) is index))))
+        ];
         sets = map-append set_in_row table.rows (row ∷ []) ∙ (λ i. stands.sets i ++ record { before = sequence i; actions = v.node.children } ∷ []) ∙ sym (map-append (set_of_visit kind tree) firsts (v ∷ [])) ∙ ap (map (set_of_visit kind tree)) (sym more);
         each = λ i d there. elim (cases_lt i (length table.rows)) [
           | inl below ↦ subst (IsRowOf tree kind (i + 1)) (sym (get_or-append table.rows (row ∷ []) d i below)) (stands.each i d below)
@@ -204,15 +226,16 @@ module _ (tree : Forest) (kind : Kind) (game : IsGameTree tree) (inner : is_leaf
       ∙ ap (λ b. cond (not b) broken None) (ne_eqb (sequence_at first.visit.node.kind tree first.visit) (sequence_at v.node.kind tree v) ne)
 
   -- what stands after a node of the kind was noted, where the sequence before it is s
-  record IsNoted (new : SetRows) (s first : ℕ) : Type 0 where
+  record IsNoted (new : SetRows) (s first : ℕ) (new_next : List (Option ℕ)) : Type 0 where
     stands : IsTableUpTo tree kind (n + 1) (put new s)
     first_is : first ≡ first_sequence (set_sizes kind tree) v.node.set
     none : against ≡ None
+    next_are : new_next ++ None ∷ [] ≡ next_numbers 1 (take (n + 1) all)
 
-  abbrev AnswersNoting : SetRows → ℕ → Result ℕ RecallFault → Type 0
-  AnswersNoting new s (Ok first) = IsNoted new s first
-  AnswersNoting new s (Err NoMemory) = Unit {0}
-  AnswersNoting new s (Err (NotRecall node earlier)) = against ≡ Some (record { node = node; earlier = earlier })
+  abbrev AnswersNoting : SetRows → ℕ → Result ℕ RecallFault → List (Option ℕ) → Type 0
+  AnswersNoting new s (Ok first) new_next = IsNoted new s first new_next
+  AnswersNoting new s (Err NoMemory) new_next = Unit {0}
+  AnswersNoting new s (Err (NotRecall node earlier)) new_next = against ≡ Some (record { node = node; earlier = earlier })
 
   -- the node's set is one that came before, or the next one
   set_of_node : v.node.kind ≡ kind → (1 ≤ v.node.set) × (v.node.set ≤ length firsts + 1)
@@ -224,10 +247,12 @@ module _ (tree : Forest) (kind : Kind) (game : IsGameTree tree) (inner : is_leaf
       let many : length sizes ≡ length firsts = length-map firsts (λ (w : Visit). w.node.children) in
       (joins.counts, omega arith)
 
-  begun : v.node.kind ≡ kind → (table : SetRows) (s : ℕ) (new : SetRows) → IsTableUpTo tree kind n table
-      → s ≡ sequence_at kind tree v → length table.rows ≤ v.node.set - 1 →
-      (result : Result ℕ RecallFault) → BeginsSet table (n + 1) v.node s new result → AnswersNoting new s result
-  begun is table s new stands sequence past (Ok first) (first_is, new_is) =
+  begun : v.node.kind ≡ kind → (table : SetRows) (s : ℕ) (new : SetRows) (numbers new_next : List (Option ℕ))
+      → IsTableUpTo tree kind n table
+      → s ≡ sequence_at kind tree v → length table.rows ≤ v.node.set - 1 → numbers ≡ next_numbers 1 done
+      → (result : Result ℕ RecallFault) → BeginsSet table (n + 1) v.node s new result → new_next ≡ numbers
+      → AnswersNoting new s result new_next
+  begun is table s new numbers new_next stands sequence past known_next (Ok first) (first_is, new_is) same =
       let rows : length table.rows ≡ length firsts = rows_count table stands in
       let many : length sizes ≡ length firsts = length-map firsts (λ (w : Visit). w.node.children) in
       let counts : 1 ≤ v.node.set = (set_of_node is).0 in
@@ -239,13 +264,17 @@ module _ (tree : Forest) (kind : Kind) (game : IsGameTree tree) (inner : is_leaf
         stands = subst (λ t. IsTableUpTo tree kind (n + 1) (put t s)) (sym new_is) (new_stands table s stands is set sequence);
         first_is = first_is ∙ row.first ∙ ap (first_sequence (set_sizes kind tree)) index;
         none = ap (break_against (differ_in_number tree) (n + 1) v) (found_new v.node is (omega arith) (is_same_set_by v.node v.node refl refl)) ∙ same_numbers (record { number = n + 1; visit = v }) refl;
+        next_are = ap (λ xs. xs ++ None ∷ []) (same ∙ known_next)
+            ∙ sym (quiet_numbers 1 done v (λ i d inside _. other_way (get_or done i d).node v.node (others v.node is (omega arith) i d inside)))
+            ∙ ap (next_numbers 1) (sym next.taken);
       }
-  begun is table s new stands sequence past (Err NoMemory) h = tt
-  begun is table s new stands sequence past (Err (NotRecall node earlier)) h = absurd h
+  begun is table s new numbers new_next stands sequence past known_next (Err NoMemory) h same = tt
+  begun is table s new numbers new_next stands sequence past known_next (Err (NotRecall node earlier)) h same = absurd h
 
   record IsRow (row : SetRow) : Type 0 where
     first : row.first ≡ first_sequence (set_sizes kind tree) v.node.set
     node : (w : Visit) × IsFirstNode tree kind row v.node w
+    last : IsLastNode kind v.node.set done row.last
 
   its_row : v.node.kind ≡ kind → (table : SetRows) (row : SetRow) → IsTableUpTo tree kind n table
       → slice_get table.rows (v.node.set - 1) ≡ Some row → IsRow row
@@ -254,12 +283,67 @@ module _ (tree : Forest) (kind : Kind) (game : IsGameTree tree) (inner : is_leaf
       let set : v.node.set ≡ v.node.set - 1 + 1 = omega arith in
       let stood : IsRowOf tree kind (v.node.set - 1 + 1) row =
       subst (IsRowOf tree kind (v.node.set - 1 + 1)) (get_or_from_slice_get table.rows (v.node.set - 1) row row read) (stands.each (v.node.set - 1) row (is_read table.rows (v.node.set - 1) row read)) in
-      record { first = stood.first ∙ ap (first_sequence (set_sizes kind tree)) (sym set); node = stood.node v.node is set }
+      record {
+        first = stood.first ∙ ap (first_sequence (set_sizes kind tree)) (sym set);
+        node = stood.node v.node is set;
+        last = subst (λ m. IsLastNode kind m done row.last) (sym set)
+            (subst (λ (r : SetRow). IsLastNode kind (v.node.set - 1 + 1) done r.last) (get_or_from_slice_get table.rows (v.node.set - 1) row row read)
+            (stands.lasts (v.node.set - 1) row (is_read table.rows (v.node.set - 1) row read)));
+      }
+
+  -- the table in which the node is its set's last one
+  joined_stands : (table : SetRows) (s : ℕ) (row : SetRow) → IsTableUpTo tree kind n table → v.node.kind ≡ kind
+      → slice_get table.rows (v.node.set - 1) ≡ Some row → begins ≡ false → s ≡ sequence_at kind tree v
+      → IsTableUpTo tree kind (n + 1) (put (with_last table (v.node.set - 1) row (n + 1)) s)
+  joined_stands table s row stands is read other sequence =
+      let place : ℕ = v.node.set - 1 in
+      let new_row : SetRow = record row { last = n + 1 } in
+      let there : place < length table.rows = is_read table.rows place row read in
+      let read_is : get_or table.rows place row ≡ row = get_or_from_slice_get table.rows place row row read in
+      let same : firsts ≡ set_firsts kind 0 (take (n + 1) all) = sym (firsts_quiet other) in
+      let counts : 1 ≤ v.node.set = (set_of_node is).0 in
+      let index : v.node.set ≡ place + 1 = omega arith in
+      let long : length done + 1 ≡ n + 1 = omega (arith, count_done) in
+      let stood : IsRowOf tree kind (place + 1) row = subst (IsRowOf tree kind (place + 1)) read_is (stands.each place row there) in
+      record {
+        sets = map_kept set_in_row table.rows place new_row row (ap set_in_row (sym read_is)) ∙ stands.sets ∙ ap (map (set_of_visit kind tree)) same;
+        each = each_row (λ j r. IsRowOf tree kind (j + 1) r) table.rows place new_row (with_other_last row stood) (λ j d inside _. stands.each j d inside);
+        nodes = map_kept (λ (r : SetRow). r.node) table.rows place new_row row (ap (λ (r : SetRow). r.node) (sym read_is)) ∙ stands.nodes ∙ ap (map (first_number tree)) same;
+        lasts = subst (λ vs. (i : ℕ) (d : SetRow) → i < length (set table.rows place new_row) → IsLastNode kind (i + 1) vs (get_or (set table.rows place new_row) i d).last) (sym next.taken)
+            (each_row (λ j r. IsLastNode kind (j + 1) (done ++ v ∷ []) r.last) table.rows place new_row (last_new kind (place + 1) done v (n + 1) long (in_it (place + 1) is index))
+            (λ j d inside differs. last_kept kind (j + 1) done v (get_or table.rows j d).last (stands.lasts j d inside) (not_in_it (j + 1) (λ e. differs (omega arith)))));
+        next = stands.next ∙ ap (λ vs. 1 + sum (map (λ (w : Visit). w.node.children) vs)) same;
+        at_nodes = put_more table s stands.at_nodes sequence;
+      }
+    where
+      with_other_last : (row : SetRow) → IsRowOf tree kind (v.node.set - 1 + 1) row
+          → IsRowOf tree kind (v.node.set - 1 + 1) (record row { last = n + 1 })
+      with_other_last row stood = record {
+        first = stood.first;
+        node = λ x kinds sets. let held = stood.node x kinds sets in (held.0, record { found = held.1.found; kinds = held.1.kinds; before = held.1.before });
+      }
+
+  -- the set's last node so far has the node as its next one
+  joined_next : (row : SetRow) (numbers : List (Option ℕ)) → is_personal kind ≡ true → v.node.kind ≡ kind
+      → IsLastNode kind v.node.set done row.last → numbers ≡ next_numbers 1 done
+      → set numbers (row.last - 1) (Some (n + 1)) ++ None ∷ [] ≡ next_numbers 1 (take (n + 1) all)
+  joined_next row numbers personal is last known =
+      let from_one : 1 ≤ row.last = last.from_one in
+      let there : row.last ≤ length done = last.there in
+      let count : n + 1 ≡ 1 + length done = omega (arith, count_done) in
+      let as_its_kind : (b : Bool) (w : Visit) → is_in_set kind v.node.set w ≡ b → is_same_set w.node v.node ≡ b = λ b w h. subst (λ k. is_in_set k v.node.set w ≡ b) (sym is) h in
+      (λ i. set (known i) (row.last - 1) (Some (count i)) ++ None ∷ [])
+      ∙ sym (joined_numbers 1 done v (row.last - 1) v (ap is_personal is ∙ personal) (omega arith) (as_its_kind true (get_or done (row.last - 1) v) (last.is_in v))
+      (λ j e after inside. as_its_kind false (get_or done j e) (last.later j e (omega arith) inside)))
+      ∙ ap (next_numbers 1) (sym next.taken)
 
   joined : is_personal kind ≡ true → v.node.kind ≡ kind → (table : SetRows) (s : ℕ) (new : SetRows) (row : SetRow)
-      → IsTableUpTo tree kind n table → s ≡ sequence_at kind tree v → slice_get table.rows (v.node.set - 1) ≡ Some row →
-      (result : Result ℕ RecallFault) → JoinsRow row table (n + 1) s new result → AnswersNoting new s result
-  joined personal is table s new row stands sequence read (Ok first) (same, first_is, new_is) =
+      (numbers new_next : List (Option ℕ))
+      → IsTableUpTo tree kind n table → s ≡ sequence_at kind tree v → slice_get table.rows (v.node.set - 1) ≡ Some row
+      → numbers ≡ next_numbers 1 done
+      → (result : Result ℕ RecallFault) → JoinsRow (v.node.set - 1) row table (n + 1) s new result numbers new_next
+      → AnswersNoting new s result new_next
+  joined personal is table s new row numbers new_next stands sequence read known_next (Ok first) (same, first_is, new_is, next_is) =
       let rows : length table.rows ≡ length firsts = rows_count table stands in
       let counts : 1 ≤ v.node.set = (set_of_node is).0 in
       let there : v.node.set - 1 < length table.rows = is_read table.rows (v.node.set - 1) row read in
@@ -267,15 +351,16 @@ module _ (tree : Forest) (kind : Kind) (game : IsGameTree tree) (inner : is_leaf
       let other : begins ≡ false = and_false (is_same_kind kind v.node.kind) (nat_eq v.node.set (length firsts + 1)) (ne_eqb v.node.set (length firsts + 1) ne) in
       let held = its_row is table row stands read in
       let w : Visit = held.node.0 in
-      let numbers : sequence_at w.node.kind tree w ≡ sequence_at v.node.kind tree v =
+      let numbers_agree : sequence_at w.node.kind tree w ≡ sequence_at v.node.kind tree v =
       ap (λ k. sequence_at k tree w) held.node.1.kinds ∙ held.node.1.before ∙ same ∙ sequence ∙ ap (λ k. sequence_at k tree v) (sym is) in
       record {
-        stands = subst (λ t. IsTableUpTo tree kind (n + 1) (put t s)) (sym new_is) (quiet_stands table s stands other sequence);
+        stands = subst (λ t. IsTableUpTo tree kind (n + 1) (put t s)) (sym new_is) (joined_stands table s row stands is read other sequence);
         first_is = first_is ∙ held.first;
-        none = ap (break_against (differ_in_number tree) (n + 1) v) held.node.1.found ∙ same_numbers (record { number = row.node; visit = w }) numbers;
+        none = ap (break_against (differ_in_number tree) (n + 1) v) held.node.1.found ∙ same_numbers (record { number = row.node; visit = w }) numbers_agree;
+        next_are = ap (λ xs. xs ++ None ∷ []) next_is ∙ joined_next row numbers personal is held.last known_next;
       }
-  joined personal is table s new row stands sequence read (Err NoMemory) h = absurd h
-  joined personal is table s new row stands sequence read (Err (NotRecall node earlier)) (differs, node_is, earlier_is) =
+  joined personal is table s new row numbers new_next stands sequence read known_next (Err NoMemory) h = absurd h
+  joined personal is table s new row numbers new_next stands sequence read known_next (Err (NotRecall node earlier)) (differs, node_is, earlier_is) =
       let held = its_row is table row stands read in
       let w : Visit = held.node.0 in
       let of_first : sequence_at w.node.kind tree w ≡ row.before = ap (λ k. sequence_at k tree w) held.node.1.kinds ∙ held.node.1.before in
@@ -285,13 +370,27 @@ module _ (tree : Forest) (kind : Kind) (game : IsGameTree tree) (inner : is_leaf
       ∙ (λ i. Some (record { node = sym node_is i; earlier = sym earlier_is i }))
 
   after_note : is_personal kind ≡ true → v.node.kind ≡ kind
-      → (table : SetRows) (s : ℕ) (new : SetRows) (result : Result ℕ RecallFault) → IsTableUpTo tree kind n table
-      → s ≡ sequence_at kind tree v → Notes table (n + 1) v.node s new result → AnswersNoting new s result
-  after_note personal is table s new result stands sequence notes =
-      elim (slice_get table.rows (v.node.set - 1)) as (λ o. slice_get table.rows (v.node.set - 1) ≡ o → NotesIn o table (n + 1) v.node s new result → AnswersNoting new s result) [
-        | None ↦ λ past h. begun is table s new stands sequence (not_read table.rows (v.node.set - 1) past) result h
-        | Some row ↦ λ read h. joined personal is table s new row stands sequence read result h
+      → (table : SetRows) (s : ℕ) (new : SetRows) (result : Result ℕ RecallFault) (numbers new_next : List (Option ℕ))
+      → IsTableUpTo tree kind n table → numbers ≡ next_numbers 1 done
+      → s ≡ sequence_at kind tree v → Notes table (n + 1) v.node s new result numbers new_next
+      → AnswersNoting new s result new_next
+  after_note personal is table s new result numbers new_next stands known_next sequence notes =
+      elim (slice_get table.rows (v.node.set - 1)) as (λ o. slice_get table.rows (v.node.set - 1) ≡ o → NotesIn o table (n + 1) v.node s new result numbers new_next → AnswersNoting new s result new_next) [
+        | None ↦ λ past h. begun is table s new numbers new_next stands sequence (not_read table.rows (v.node.set - 1) past) known_next result h.0 h.1
+        | Some row ↦ λ read h. joined personal is table s new row numbers new_next stands sequence read known_next result h
       ] refl notes
+
+  -- the last node so far of the node's set is one of those before it
+  last_there : v.node.kind ≡ kind → (table : SetRows) (numbers : List (Option ℕ)) → IsTableUpTo tree kind n table
+      → numbers ≡ next_numbers 1 done → LastIsThere (slice_get table.rows (v.node.set - 1)) numbers
+  last_there is table numbers stands known =
+      elim (slice_get table.rows (v.node.set - 1)) as (λ o. slice_get table.rows (v.node.set - 1) ≡ o → LastIsThere o numbers) [
+        | None ↦ λ past. tt
+        | Some row ↦ λ read.
+            let last = (its_row is table row stands read).last in
+            let there : row.last ≤ length done = last.there in
+            (last.from_one, omega (arith, ap length known, length-next_numbers 1 done))
+      ] refl
 
   -- the next set's sequences have small numbers
   room_for : (table : SetRows) → IsTableUpTo tree kind n table → table.next + v.node.children < 2 ^ 32
@@ -330,6 +429,20 @@ module _ (tree : Forest) (game : IsGameTree tree) (n : ℕ) (v : Visit) (next : 
       → IsTableUpTo tree kind n table → s ≡ sequence_at kind tree v → IsTableUpTo tree kind (n + 1) (put table s)
   quiet kind inner other table s stands sequence =
       quiet_stands tree kind game inner n v next table s stands (ap (λ b. b && nat_eq v.node.set (length (set_firsts kind 0 (take n (visits tree))) + 1)) other) sequence
+      (λ i d inside. last_kept kind (i + 1) (take n (visits tree)) v (get_or table.rows i d).last (stands.lasts i d inside)
+      (other_kind kind v.node (record v.node { kind = kind; set = i + 1 }) refl other))
+
+  -- no player's node is in a set with a node where no player moves
+  quiet_next : is_personal v.node.kind ≡ false → (numbers : List (Option ℕ))
+      → numbers ≡ next_numbers 1 (take n (visits tree))
+      → numbers ++ None ∷ [] ≡ next_numbers 1 (take (n + 1) (visits tree))
+  quiet_next other numbers known =
+      ap (λ xs. xs ++ None ∷ []) known
+      ∙ sym (quiet_numbers 1 (take n (visits tree)) v (λ i d inside personal. not_same (get_or (take n (visits tree)) i d).node personal))
+      ∙ ap (next_numbers 1) (sym next.taken)
+    where
+      not_same : (x : Node) → is_personal x.kind ≡ true → is_same_set v.node x ≡ false
+      not_same x personal = not_true (is_same_set v.node x) (λ same. apart (sym personal ∙ sym (ap is_personal (same_set v.node x same).0) ∙ other))
 
   other_below : (kind : Kind) (s : ℕ) → is_same_kind kind v.node.kind ≡ false → s ≡ sequence_at kind tree v
       → IsAtFirstChild tree kind v s
@@ -346,65 +459,77 @@ module _ (tree : Forest) (game : IsGameTree tree) (n : ℕ) (v : Visit) (next : 
       apart e = cc e
 
   quiet_node : is_personal v.node.kind ≡ false → is_same_kind One v.node.kind ≡ false
-      → is_same_kind Two v.node.kind ≡ false → (one two : SetRows) (at : Sequences) → AreTablesOf tree n one two
+      → is_same_kind Two v.node.kind ≡ false → (one two : SetRows) (at : Sequences) (numbers : List (Option ℕ))
+      → AreTablesOf tree n one two numbers
       → AreAt tree v.path at →
-      AreTablesOf tree (n + 1) (put one at.one) (put two at.two) × AreAtFirstChild tree v at
-  quiet_node personal not_one not_two one two at stand are = (
+      AreTablesOf tree (n + 1) (put one at.one) (put two at.two) (numbers ++ None ∷ []) × AreAtFirstChild tree v at
+  quiet_node personal not_one not_two one two at numbers stand are = (
     record {
       table_one = quiet One refl not_one one at.one stand.table_one are.one;
       table_two = quiet Two refl not_two two at.two stand.table_two are.two;
+      next_are = quiet_next personal numbers stand.next_are;
       no_break = none_here stand.no_break (not_personal personal (first_of_set 1 v.node (visits tree)));
     },
     record { one = other_below One at.one not_one are.one; two = other_below Two at.two not_two are.two },
   )
 
-  noted_one : v.node.kind ≡ One → (one two new : SetRows) (at : Sequences) (first : ℕ) → AreTablesOf tree n one two
-      → AreAt tree v.path at → Notes one (n + 1) v.node at.one new (Ok first) →
-      AreTablesOf tree (n + 1) (put new at.one) (put two at.two) × AreAtFirstChild tree v (record { one = first; two = at.two })
-  noted_one is one two new at first stand are notes =
-      let noted = after_note tree One game refl n v next refl is one at.one new (Ok first) stand.table_one are.one notes in
+  noted_one : v.node.kind ≡ One → (one two new : SetRows) (at : Sequences) (first : ℕ) (numbers new_next : List (Option ℕ))
+      → AreTablesOf tree n one two numbers
+      → AreAt tree v.path at → Notes one (n + 1) v.node at.one new (Ok first) numbers new_next →
+      AreTablesOf tree (n + 1) (put new at.one) (put two at.two) (new_next ++ None ∷ []) × AreAtFirstChild tree v (record { one = first; two = at.two })
+  noted_one is one two new at first numbers new_next stand are notes =
+      let noted = after_note tree One game refl n v next refl is one at.one new (Ok first) numbers new_next stand.table_one stand.next_are are.one notes in
       let same : is_same_kind One v.node.kind ≡ true = ap (is_same_kind One) is in
       let other : is_same_kind Two v.node.kind ≡ false = ap (is_same_kind Two) is in (
         record {
           table_one = noted.stands;
           table_two = quiet Two refl other two at.two stand.table_two are.two;
+          next_are = noted.next_are;
           no_break = none_here stand.no_break noted.none;
         },
         record { one = own_below One first same noted.first_is; two = other_below Two at.two other are.two },
       )
 
-  noted_two : v.node.kind ≡ Two → (one two new : SetRows) (at : Sequences) (first : ℕ) → AreTablesOf tree n one two
-      → AreAt tree v.path at → Notes two (n + 1) v.node at.two new (Ok first) →
-      AreTablesOf tree (n + 1) (put one at.one) (put new at.two) × AreAtFirstChild tree v (record { one = at.one; two = first })
-  noted_two is one two new at first stand are notes =
-      let noted = after_note tree Two game refl n v next refl is two at.two new (Ok first) stand.table_two are.two notes in
+  noted_two : v.node.kind ≡ Two → (one two new : SetRows) (at : Sequences) (first : ℕ) (numbers new_next : List (Option ℕ))
+      → AreTablesOf tree n one two numbers
+      → AreAt tree v.path at → Notes two (n + 1) v.node at.two new (Ok first) numbers new_next →
+      AreTablesOf tree (n + 1) (put one at.one) (put new at.two) (new_next ++ None ∷ []) × AreAtFirstChild tree v (record { one = at.one; two = first })
+  noted_two is one two new at first numbers new_next stand are notes =
+      let noted = after_note tree Two game refl n v next refl is two at.two new (Ok first) numbers new_next stand.table_two stand.next_are are.two notes in
       let same : is_same_kind Two v.node.kind ≡ true = ap (is_same_kind Two) is in
       let other : is_same_kind One v.node.kind ≡ false = ap (is_same_kind One) is in (
         record {
           table_one = quiet One refl other one at.one stand.table_one are.one;
           table_two = noted.stands;
+          next_are = noted.next_are;
           no_break = none_here stand.no_break noted.none;
         },
         record { one = other_below One at.one other are.one; two = own_below Two first same noted.first_is },
       )
 
   broken_at : (kind : Kind) → is_leaf_kind kind ≡ false → is_personal kind ≡ true → v.node.kind ≡ kind
-      → (table new : SetRows) (s : ℕ) → IsTableUpTo tree kind n table → number_break tree ≡ rest_break tree n
+      → (table new : SetRows) (s : ℕ) (numbers new_next : List (Option ℕ)) → IsTableUpTo tree kind n table
+      → numbers ≡ next_numbers 1 (take n (visits tree)) → number_break tree ≡ rest_break tree n
       → s ≡ sequence_at kind tree v →
-      (fault : RecallFault) → Notes table (n + 1) v.node s new (Err fault) → FindsBreak tree fault
-  broken_at kind inner personal is table new s stands so_far sequence NoMemory notes = tt
-  broken_at kind inner personal is table new s stands so_far sequence (NotRecall node earlier) notes =
-      some_here so_far (record { node = node; earlier = earlier }) (after_note tree kind game inner n v next personal is table s new (Err (NotRecall node earlier)) stands sequence notes)
+      (fault : RecallFault) → Notes table (n + 1) v.node s new (Err fault) numbers new_next → FindsBreak tree fault
+  broken_at kind inner personal is table new s numbers new_next stands known so_far sequence NoMemory notes = tt
+  broken_at kind inner personal is table new s numbers new_next stands known so_far sequence (NotRecall node earlier) notes =
+      some_here so_far (record { node = node; earlier = earlier })
+      (after_note tree kind game inner n v next personal is table s new (Err (NotRecall node earlier)) numbers new_next stands known sequence notes)
 
   broken_one : v.node.kind ≡ One → (one two new : SetRows) (at : Sequences) (fault : RecallFault)
-      → AreTablesOf tree n one two → AreAt tree v.path at → Notes one (n + 1) v.node at.one new (Err fault)
+      (numbers new_next : List (Option ℕ)) → AreTablesOf tree n one two numbers → AreAt tree v.path at
+      → Notes one (n + 1) v.node at.one new (Err fault) numbers new_next
       → FindsBreak tree fault
-  broken_one is one two new at fault stand are notes = broken_at One refl refl is one new at.one stand.table_one stand.no_break are.one fault notes
+  broken_one is one two new at fault numbers new_next stand are notes =
+      broken_at One refl refl is one new at.one numbers new_next stand.table_one stand.next_are stand.no_break are.one fault notes
 
   broken_two : v.node.kind ≡ Two → (one two new : SetRows) (at : Sequences) (fault : RecallFault)
-      → AreTablesOf tree n one two → AreAt tree v.path at → Notes two (n + 1) v.node at.two new (Err fault)
+      (numbers new_next : List (Option ℕ)) → AreTablesOf tree n one two numbers → AreAt tree v.path at
+      → Notes two (n + 1) v.node at.two new (Err fault) numbers new_next
       → FindsBreak tree fault
-  broken_two is one two new at fault stand are notes = broken_at Two refl refl is two new at.two stand.table_two stand.no_break are.two fault notes
+  broken_two is one two new at fault numbers new_next stand are notes =
+      broken_at Two refl refl is two new at.two numbers new_next stand.table_two stand.next_are stand.no_break are.two fault notes
 
 -- the same of the node that the tree gives, as node number n + 1
 module _ (tree : Forest) (game : IsGameTree tree) (n : ℕ) (there : n < node_count tree) (x : Node)
@@ -422,32 +547,42 @@ module _ (tree : Forest) (game : IsGameTree tree) (n : ℕ) (there : n < node_co
   pub counts_at : (kind : Kind) → is_leaf_kind kind ≡ false → x.kind ≡ kind → 1 ≤ x.set
   counts_at kind inner is = subst (λ y. 1 ≤ y.set) is_node (set_of_node tree kind game inner n v next (ap (λ y. y.kind) is_node ∙ is)).0
 
+  -- the last node so far of the node's set is one of those before it
+  pub last_at : (kind : Kind) → is_leaf_kind kind ≡ false → x.kind ≡ kind → (table : SetRows) (numbers : List (Option ℕ))
+      → IsTableUpTo tree kind n table → numbers ≡ next_numbers 1 (take n (visits tree))
+      → LastIsThere (slice_get table.rows (x.set - 1)) numbers
+  last_at kind inner is table numbers stands known =
+      subst (λ y. LastIsThere (slice_get table.rows (y.set - 1)) numbers) is_node (last_there tree kind game inner n v next (ap (λ y. y.kind) is_node ∙ is) table numbers stands known)
+
   -- the first sequence of a table's next set, with as many more as the node has children, is below 2 ^ 32
   pub room_at : (kind : Kind) → is_leaf_kind kind ≡ false → (table : SetRows) → IsTableUpTo tree kind n table
       → table.next + x.children < 2 ^ 32
   room_at kind inner table stands = subst (λ y. table.next + y.children < 2 ^ 32) is_node (room_for tree kind game inner n v next table stands)
 
   -- with player one's node noted, the tables are those of one node more, and its first child has the answered sequence
-  pub noted_one_at : x.kind ≡ One → (one two new : SetRows) (at : Sequences) (first : ℕ) → AreTablesOf tree n one two
-      → AreAt tree v.path at → Notes one (n + 1) x at.one new (Ok first) →
-      AreTablesOf tree (n + 1) (put new at.one) (put two at.two) × AreAtFirstChild tree v (record { one = first; two = at.two })
-  noted_one_at is one two new at first stand are notes =
-      noted_one tree game n v next (ap (λ y. y.kind) is_node ∙ is) one two new at first stand are (subst (λ y. Notes one (n + 1) y at.one new (Ok first)) (sym is_node) notes)
+  pub noted_one_at : x.kind ≡ One → (one two new : SetRows) (at : Sequences) (first : ℕ) (numbers new_next : List (Option ℕ))
+      → AreTablesOf tree n one two numbers
+      → AreAt tree v.path at → Notes one (n + 1) x at.one new (Ok first) numbers new_next →
+      AreTablesOf tree (n + 1) (put new at.one) (put two at.two) (new_next ++ None ∷ []) × AreAtFirstChild tree v (record { one = first; two = at.two })
+  noted_one_at is one two new at first numbers new_next stand are notes =
+      noted_one tree game n v next (ap (λ y. y.kind) is_node ∙ is) one two new at first numbers new_next stand are (subst (λ y. Notes one (n + 1) y at.one new (Ok first) numbers new_next) (sym is_node) notes)
 
   -- with player two's node noted, the tables are those of one node more, and its first child has the answered sequence
-  pub noted_two_at : x.kind ≡ Two → (one two new : SetRows) (at : Sequences) (first : ℕ) → AreTablesOf tree n one two
-      → AreAt tree v.path at → Notes two (n + 1) x at.two new (Ok first) →
-      AreTablesOf tree (n + 1) (put one at.one) (put new at.two) × AreAtFirstChild tree v (record { one = at.one; two = first })
-  noted_two_at is one two new at first stand are notes =
-      noted_two tree game n v next (ap (λ y. y.kind) is_node ∙ is) one two new at first stand are (subst (λ y. Notes two (n + 1) y at.two new (Ok first)) (sym is_node) notes)
+  pub noted_two_at : x.kind ≡ Two → (one two new : SetRows) (at : Sequences) (first : ℕ) (numbers new_next : List (Option ℕ))
+      → AreTablesOf tree n one two numbers
+      → AreAt tree v.path at → Notes two (n + 1) x at.two new (Ok first) numbers new_next →
+      AreTablesOf tree (n + 1) (put one at.one) (put new at.two) (new_next ++ None ∷ []) × AreAtFirstChild tree v (record { one = at.one; two = first })
+  noted_two_at is one two new at first numbers new_next stand are notes =
+      noted_two tree game n v next (ap (λ y. y.kind) is_node ∙ is) one two new at first numbers new_next stand are (subst (λ y. Notes two (n + 1) y at.two new (Ok first) numbers new_next) (sym is_node) notes)
 
   -- where no player moves, the tables with the sequences there are those of one node more, and its first child has them
-  pub quiet_at : is_personal x.kind ≡ false → (one two : SetRows) (at : Sequences) → AreTablesOf tree n one two
+  pub quiet_at : is_personal x.kind ≡ false → (one two : SetRows) (at : Sequences) (numbers : List (Option ℕ))
+      → AreTablesOf tree n one two numbers
       → AreAt tree v.path at →
-      AreTablesOf tree (n + 1) (put one at.one) (put two at.two) × AreAtFirstChild tree v at
-  quiet_at other one two at stand are =
+      AreTablesOf tree (n + 1) (put one at.one) (put two at.two) (numbers ++ None ∷ []) × AreAtFirstChild tree v at
+  quiet_at other one two at numbers stand are =
       let personal : is_personal v.node.kind ≡ false = ap (λ y. is_personal y.kind) is_node ∙ other in
-      quiet_node tree game n v next personal (not_mover v.node.kind personal).0 (not_mover v.node.kind personal).1 one two at stand are
+      quiet_node tree game n v next personal (not_mover v.node.kind personal).0 (not_mover v.node.kind personal).1 one two at numbers stand are
     where
       not_mover : (kind : Kind) → is_personal kind ≡ false
           → (is_same_kind One kind ≡ false) × (is_same_kind Two kind ≡ false)
@@ -458,14 +593,16 @@ module _ (tree : Forest) (game : IsGameTree tree) (n : ℕ) (there : n < node_co
 
   -- where a node of player one can't be noted, a break of recall that is answered is the first, by numbers
   pub broken_one_at : x.kind ≡ One → (one two new : SetRows) (at : Sequences) (fault : RecallFault)
-      → AreTablesOf tree n one two → AreAt tree v.path at → Notes one (n + 1) x at.one new (Err fault)
+      (numbers new_next : List (Option ℕ)) → AreTablesOf tree n one two numbers → AreAt tree v.path at
+      → Notes one (n + 1) x at.one new (Err fault) numbers new_next
       → FindsBreak tree fault
-  broken_one_at is one two new at fault stand are notes =
-      broken_one tree game n v next (ap (λ y. y.kind) is_node ∙ is) one two new at fault stand are (subst (λ y. Notes one (n + 1) y at.one new (Err fault)) (sym is_node) notes)
+  broken_one_at is one two new at fault numbers new_next stand are notes =
+      broken_one tree game n v next (ap (λ y. y.kind) is_node ∙ is) one two new at fault numbers new_next stand are (subst (λ y. Notes one (n + 1) y at.one new (Err fault) numbers new_next) (sym is_node) notes)
 
   -- where a node of player two can't be noted, a break of recall that is answered is the first, by numbers
   pub broken_two_at : x.kind ≡ Two → (one two new : SetRows) (at : Sequences) (fault : RecallFault)
-      → AreTablesOf tree n one two → AreAt tree v.path at → Notes two (n + 1) x at.two new (Err fault)
+      (numbers new_next : List (Option ℕ)) → AreTablesOf tree n one two numbers → AreAt tree v.path at
+      → Notes two (n + 1) x at.two new (Err fault) numbers new_next
       → FindsBreak tree fault
-  broken_two_at is one two new at fault stand are notes =
-      broken_two tree game n v next (ap (λ y. y.kind) is_node ∙ is) one two new at fault stand are (subst (λ y. Notes two (n + 1) y at.two new (Err fault)) (sym is_node) notes)
+  broken_two_at is one two new at fault numbers new_next stand are notes =
+      broken_two tree game n v next (ap (λ y. y.kind) is_node ∙ is) one two new at fault numbers new_next stand are (subst (λ y. Notes two (n + 1) y at.two new (Err fault) numbers new_next) (sym is_node) notes)

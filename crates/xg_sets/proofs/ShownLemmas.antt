@@ -1,10 +1,11 @@
 -- What the tables show before the first node, and after the last.
-use Rattle.std.proofs.Common.{◌≡◌, ℕ, ◌+◌, ◌≤◌, false, List, [], ◌∷◌, length, take, map, refl, ap, sym, ◌∙◌, arith, append-nil, Some, None, Ok, slice_get}
+use Rattle.std.proofs.Common.{◌≡◌, ℕ, ◌+◌, ◌≤◌, false, List, [], length, take, map, refl, ap, sym, ◌∙◌, arith, Some, None, Ok, slice_get}
+use Rattle.std.specs.Prelude.{Option}
 use Rattle.std.specs.Option.{option_map}
 use Rattle.std.proofs.lemmas.List.{drop_all, length-map, take_all}
 use Rattle.std.proofs.lemmas.Option.{slice_get-map}
 use Rattle.def_tree.specs.declared.Kind.{Kind}
-use Rattle.def_tree.specs.declared.Kind.TheVariants.{Chance, One, Two}
+use Rattle.def_tree.specs.declared.Kind.TheVariants.{One, Two}
 use Rattle.def_tree.specs.declared.Player.{Player}
 use Rattle.def_tree.specs.declared.Player.TheVariants.{One as First, Two as Second}
 use Rattle.def_tree.specs.Tree.{Forest, is_leaf_kind, node_count}
@@ -18,15 +19,14 @@ use Rattle.def_game_paths.proofs.Numbers.{numbers_find_the_break}
 use Rattle.def_game_paths.proofs.Coming.{length-visits}
 use Rattle.def_plan.specs.Form.{InformationSet}
 use Rattle.def_sequence_form.specs.Form.{information_sets}
-use Rattle.def_sequence_form.specs.Sets.{TreeSets, sets_with_nodes, sets_or_break, tree_sets, unless_broken}
+use Rattle.def_sequence_form.specs.Sets.{TreeSets, first_nodes, first_number, next_nodes, next_numbers, sets_with_nodes, sets_or_break, tree_sets, unless_broken}
 use Rattle.def_sequence_form.proofs.Nodes.{sets_are_exact}
 use Rattle.def_sequence_form.proofs.Sets.{set_of_visit}
 use Rattle.xg_sets.specs.declared.building.RecallFault.{RecallFault}
 use Rattle.xg_sets.specs.declared.building.RecallFault.TheVariants.{NotRecall, NoMemory}
-use Rattle.xg_sets.specs.declared.parents.Parent.{Parent}
 use Rattle.xg_sets.specs.declared.table.SetRow.{SetRow}
 use Rattle.xg_sets.specs.Fault.{IsFirstBreakOf, TellsBreakOf}
-use Rattle.xg_sets.specs.Entered.{FindsBreak, HasEntered, IsTableUpTo, AreTablesOf}
+use Rattle.xg_sets.specs.Entered.{FindsBreak, IsTableUpTo, AreTablesOf}
 use Rattle.xg_sets.specs.Table.{HasFewRows, SetRows}
 use Rattle.xg_sets.specs.OfPlayer.{of_player, set_in_row, as_player_sets}
 
@@ -41,24 +41,11 @@ abbrev pub no_sets : SetRows
 no_sets = record { rows = []; at_nodes = []; next = 1 }
 
 table_starts : (tree : Forest) (kind : Kind) → IsTableUpTo tree kind 0 no_sets
-table_starts tree kind = record { sets = refl; each = λ i d there. absurd (omega arith); next = refl; at_nodes = refl }
+table_starts tree kind = record { sets = refl; each = λ i d there. absurd (omega arith); nodes = refl; lasts = λ i d there. absurd (omega arith); next = refl; at_nodes = refl }
 
-abbrev pub parent_of_root : Parent
-parent_of_root = record { kind = Chance; to_come = 1; next = record { one = 0; two = 0 } }
-
--- before the first node the whole tree is to come
-pub stands_first : (tree : Forest) → IsGameTree tree
-    → HasEntered tree 0 (record { tables = record { one = no_sets; two = no_sets }; parents = parent_of_root ∷ [] })
-stands_first tree game = record {
-  tables = record { table_one = table_starts tree One; table_two = table_starts tree Two; no_break = refl };
-  nodes = (
-    record { above = λ _. []; action = 1; trees = tree },
-    [],
-    record { some = omega arith; count = game.tree.one; children = game.tree.children; one = λ j. refl; two = λ j. refl },
-    sym (append-nil (visits tree)),
-    refl,
-  );
-}
+-- before the first node no set has come
+pub tables_start : (tree : Forest) → AreTablesOf tree 0 no_sets no_sets []
+tables_start tree = record { table_one = table_starts tree One; table_two = table_starts tree Two; next_are = refl; no_break = refl }
 
 -- what numbers find is the break that is answered
 pub tells_break : (tree : Forest) → IsGameTree tree → (fault : RecallFault) → FindsBreak tree fault
@@ -81,7 +68,8 @@ module _ (tree : Forest) (game : IsGameTree tree) (n : ℕ) (last : n ≡ node_c
   table_shows kind table stands =
       let sets : map set_in_row table.rows ≡ information_sets kind tree = stands.sets ∙ ap (λ vs. map (set_of_visit kind tree) (set_firsts kind 0 vs)) all_taken in
       let at_nodes : table.at_nodes ≡ map (sequence_at kind tree) (visits tree) = stands.at_nodes ∙ ap (map (sequence_at kind tree)) all_taken in
-      λ i. record { sets = sets i; at_nodes = at_nodes i }
+      let nodes : map (λ (row : SetRow). row.node) table.rows ≡ first_nodes kind tree = stands.nodes ∙ ap (λ vs. map (first_number tree) (set_firsts kind 0 vs)) all_taken in
+      λ i. record { sets = sets i; first_nodes = nodes i; at_nodes = at_nodes i }
 
   -- a table of all nodes has 1048576 rows at most
   pub has_few : (kind : Kind) → is_leaf_kind kind ≡ false → (table : SetRows) → IsTableUpTo tree kind n table
@@ -93,20 +81,29 @@ module _ (tree : Forest) (game : IsGameTree tree) (n : ℕ) (last : n ≡ node_c
       let sets : map set_in_row table.rows ≡ map (set_of_visit kind tree) firsts = stands.sets ∙ ap (λ vs. map (set_of_visit kind tree) (set_firsts kind 0 vs)) all_taken in
       omega (arith, few.few_sets, length-map firsts (λ (w : Visit). w.node.children), length-map firsts (set_of_visit kind tree), length-map table.rows set_in_row, ap length sets)
 
-  no_break : (one two : SetRows) → AreTablesOf tree n one two → recall_break tree ≡ None
-  no_break one two stand =
+  no_break : (one two : SetRows) (numbers : List (Option ℕ)) → AreTablesOf tree n one two numbers
+      → recall_break tree ≡ None
+  no_break one two numbers stand =
       sym (numbers_find_the_break tree game) ∙ stand.no_break ∙ ap (first_break (differ_in_number tree) (visits tree) (n + 1)) (drop_all n (visits tree) (omega (arith, length-visits tree)))
 
   -- where both tables are those of all nodes, their sets are those of the tree, and no break is
-  pub tables_show : (one two : SetRows) → AreTablesOf tree n one two
-      → sets_or_break tree ≡ Ok (record { one = as_player_sets one; two = as_player_sets two })
-  tables_show one two stand =
-      ap (λ o. unless_broken o (tree_sets tree)) (no_break one two stand)
-      ∙ (λ i. Ok (record { one = sym (table_shows One one stand.table_one) i; two = sym (table_shows Two two stand.table_two) i }))
+  pub tables_show : (one two : SetRows) (numbers : List (Option ℕ)) → AreTablesOf tree n one two numbers
+      → sets_or_break tree ≡ Ok (record { one = as_player_sets one; two = as_player_sets two; next_nodes = numbers })
+  tables_show one two numbers stand =
+      let next : numbers ≡ next_nodes tree = stand.next_are ∙ ap (next_numbers 1) all_taken in
+      ap (λ o. unless_broken o (tree_sets tree)) (no_break one two numbers stand)
+      ∙ (λ i. Ok (record { one = sym (table_shows One one stand.table_one) i; two = sym (table_shows Two two stand.table_two) i; next_nodes = sym next i }))
 
   -- a tree whose tables are those of all nodes has perfect recall
-  pub has_recall : (one two : SetRows) → AreTablesOf tree n one two → HasPerfectRecall tree
-  has_recall one two stand = recall_of_none tree (no_break one two stand)
+  pub has_recall : (one two : SetRows) (numbers : List (Option ℕ)) → AreTablesOf tree n one two numbers
+      → HasPerfectRecall tree
+  has_recall one two numbers stand = recall_of_none tree (no_break one two numbers stand)
+
+-- what a row tells of its set's first node stands at the set's place
+pub first_shows : (rows : List SetRow) (numbers : List ℕ) (i : ℕ) (row : SetRow)
+    → map (λ (r : SetRow). r.node) rows ≡ numbers → slice_get rows i ≡ Some row → slice_get numbers i ≡ Some row.node
+first_shows rows numbers i row same read =
+    ap (λ xs. slice_get xs i) (sym same) ∙ slice_get-map (λ (r : SetRow). r.node) rows i ∙ ap (option_map (λ (r : SetRow). r.node)) read
 
 -- a sequence is answered for each node of the tree
 pub counted_for_nodes : (tree : Forest) (sets : TreeSets) (player : Player) → sets_or_break tree ≡ Ok sets

@@ -1,19 +1,18 @@
 -- What is kept once the first k nodes of a tree were entered.
-use Rattle.std.specs.Prelude.{◌≡◌, ℕ, ◌+◌, ◌<◌, ◌≤◌, true, false, if◌then◌else◌, List, length, map, take, drop, sum, slice_index_or, Some}
+use Rattle.std.specs.Prelude.{◌≡◌, ℕ, ◌+◌, ◌-◌, ◌<◌, ◌≤◌, true, false, List, length, map, take, drop, sum, slice_index_or, Option, Some}
 use Rattle.def_tree.specs.declared.Kind.{Kind}
 use Rattle.def_tree.specs.declared.Kind.TheVariants.{One, Two}
 use Rattle.def_tree.specs.declared.Node.{Node}
-use Rattle.def_tree.specs.Tree.{Forest, HasItsChildren, tree_count}
+use Rattle.def_tree.specs.Tree.{Forest}
 use Rattle.def_tree.specs.Rules.{is_same_kind}
-use Rattle.def_game_paths.specs.Coming.{ComingTrees, StandOver}
 use Rattle.def_game_paths.specs.Paths.{Move, Visit, own_choices, visits}
 use Rattle.def_game_paths.specs.Recall.{first_break, first_of_set}
 use Rattle.def_game_paths.specs.Sequences.{differ_in_number, first_sequence, number_break, sequence_at, sequence_number, set_firsts, set_sizes, sizes_so_far}
-use Rattle.xg_sets.specs.declared.building.Building.{Building}
+use Rattle.def_sequence_form.specs.Sets.{first_number, next_numbers}
+use Rattle.def_sequence_form.specs.SetNodes.{is_in_set}
 use Rattle.xg_sets.specs.declared.building.RecallFault.{RecallFault}
 use Rattle.xg_sets.specs.declared.building.RecallFault.TheVariants.{NotRecall, NoMemory}
-use Rattle.xg_sets.specs.declared.parents.Parent.{Parent}
-use Rattle.xg_sets.specs.declared.parents.Sequences.{Sequences}
+use Rattle.xg_sets.specs.declared.movers.Sequences.{Sequences}
 use Rattle.xg_sets.specs.declared.table.SetRow.{SetRow}
 use Rattle.xg_sets.specs.Table.{SetRows}
 use Rattle.xg_sets.specs.OfPlayer.{set_in_row}
@@ -29,17 +28,27 @@ pub record IsRowOf (tree : Forest) (kind : Kind) (set : ℕ) (row : SetRow) : Ty
   pub first : row.first ≡ first_sequence (set_sizes kind tree) set
   pub node : (x : Node) → x.kind ≡ kind → x.set ≡ set → (v : Visit) × IsFirstNode tree kind row x v
 
--- a player's sets so far, each with its first node, and the sequences at the first k nodes
+-- of these nodes it is the last one in the kind's set of this number
+pub record IsLastNode (kind : Kind) (set : ℕ) (nodes : List Visit) (last : ℕ) : Type 0 where
+  pub from_one : 1 ≤ last
+  pub there : last ≤ length nodes
+  pub is_in : (d : Visit) → is_in_set kind set (slice_index_or nodes (last - 1) d) ≡ true
+  pub later : (j : ℕ) (d : Visit) → last ≤ j → j < length nodes → is_in_set kind set (slice_index_or nodes j d) ≡ false
+
+-- a player's sets so far, each with its first and its last node, and the sequences at the first k nodes
 pub record IsTableUpTo (tree : Forest) (kind : Kind) (k : ℕ) (table : SetRows) : Type 0 where
   pub sets : map set_in_row table.rows ≡ map (λ v. record { before = sequence_at kind tree v; actions = v.node.children }) (set_firsts kind 0 (take k (visits tree)))
   pub each : (i : ℕ) (d : SetRow) → i < length table.rows → IsRowOf tree kind (i + 1) (slice_index_or table.rows i d)
+  pub nodes : map (λ row. row.node) table.rows ≡ map (first_number tree) (set_firsts kind 0 (take k (visits tree)))
+  pub lasts : (i : ℕ) (d : SetRow) → i < length table.rows → IsLastNode kind (i + 1) (take k (visits tree)) (slice_index_or table.rows i d).last
   pub next : table.next ≡ 1 + sum (sizes_so_far kind (take k (visits tree)))
   pub at_nodes : table.at_nodes ≡ map (sequence_at kind tree) (take k (visits tree))
 
--- both players' tables, where recall breaks at none of the first k nodes
-pub record AreTablesOf (tree : Forest) (k : ℕ) (one two : SetRows) : Type 0 where
+-- both players' tables and the next nodes, where recall breaks at none of the first k nodes
+pub record AreTablesOf (tree : Forest) (k : ℕ) (one two : SetRows) (next_nodes : List (Option ℕ)) : Type 0 where
   pub table_one : IsTableUpTo tree One k one
   pub table_two : IsTableUpTo tree Two k two
+  pub next_are : next_nodes ≡ next_numbers 1 (take k (visits tree))
   pub no_break : number_break tree ≡ first_break (differ_in_number tree) (visits tree) (k + 1) (drop k (visits tree))
 
 -- the number of the kind's sequence on a path
@@ -50,23 +59,6 @@ path_number kind tree path = sequence_number (set_sizes kind tree) (own_choices 
 pub record AreAt (tree : Forest) (path : List Move) (at : Sequences) : Type 0 where
   pub one : at.one ≡ path_number One tree path
   pub two : at.two ≡ path_number Two tree path
-
--- these trees are to come under the parent: as many as it says, and it tells the sequences at each of them
-pub record IsParentOf (tree : Forest) (trees : ComingTrees) (parent : Parent) : Type 0 where
-  pub some : 1 ≤ parent.to_come
-  pub count : tree_count trees.trees ≡ parent.to_come
-  pub children : HasItsChildren trees.trees
-  pub one : (j : ℕ)
-      → path_number One tree (trees.above (trees.action + j))
-      ≡ parent.next.one + (if is_same_kind One parent.kind then j else 0)
-  pub two : (j : ℕ)
-      → path_number Two tree (trees.above (trees.action + j))
-      ≡ parent.next.two + (if is_same_kind Two parent.kind then j else 0)
-
--- the first k nodes were entered
-pub record HasEntered (tree : Forest) (k : ℕ) (building : Building) : Type 0 where
-  pub tables : AreTablesOf tree k building.tables.one building.tables.two
-  pub nodes : StandOver (IsParentOf tree) building.parents (drop k (visits tree))
 
 -- the kind's sequence at the first child of the node that is visited
 pub record IsAtFirstChild (tree : Forest) (kind : Kind) (v : Visit) (sequence : ℕ) : Type 0 where

@@ -11,7 +11,11 @@ abbrev pub set_in_row : SetRow → InformationSet
 set_in_row row = record { before = row.before; actions = row.actions }
 
 abbrev pub as_player_sets : SetRows → PlayerSets
-as_player_sets table = record { sets = map set_in_row table.rows; at_nodes = table.at_nodes }
+as_player_sets table = record {
+  sets = map set_in_row table.rows;
+  first_nodes = map (λ row. row.node) table.rows;
+  at_nodes = table.at_nodes;
+}
 
 abbrev pub of_player : Player → TreeSets → PlayerSets
 of_player One sets = sets.one

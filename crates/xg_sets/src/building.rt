@@ -1,5 +1,5 @@
-//! The walk that finds the sets, or the first break of perfect recall.
-ghost use Rattle.std.specs.Prelude.{◌≡◌, ◌+◌, ◌-◌, ◌^◌, ◌<◌, ◌≤◌, Ok, OnOk, IfOk, IfErr};
+//! The visitor that finds the sets, or the first break of perfect recall.
+ghost use Rattle.std.specs.Prelude.{◌≡◌, ◌+◌, ◌<◌, Ok, OnOk, IfOk, IfErr};
 ghost use Rattle.def_game_paths.specs.Coming.{visit_after};
 ghost use Rattle.def_game_paths.specs.Recall.{HasPerfectRecall};
 ghost use Rattle.def_sequence_form.specs.Sets.{sets_or_break};
@@ -7,13 +7,16 @@ ghost use Rattle.def_tree.specs.Rules.{IsGameTree};
 ghost use Rattle.def_tree.specs.Tree.{Forest, node_count};
 ghost use Rattle.xg_sets.specs.Fault.{IsFirstBreakOf, TellsBreakOf};
 ghost use Rattle.xg_sets.specs.Entered.{AreAt, AreAtFirstChild, AreTablesOf, FindsBreak};
+ghost use Rattle.xg_sets.specs.Movers.{HasMoverAround};
+ghost use Rattle.xg_sets.specs.Walked.{HasEntered, HasLeft, IsBefore, MayComeNext};
 
-use crate::parents::{Parent, Parents, Sequences};
+use crate::movers::{Mover, OuterMovers, Sequences, after_child, outside};
+use crate::next_nodes::NextNodes;
 use crate::sets::Sets;
 use crate::table::SetTable;
 use std::alloc::{AllocError, Global};
 use thiserror::Error;
-use xg_tree::{Kind, Tree};
+use xg_tree::{Kind, Node, Tree, Visitor};
 
 /// Why a tree has no sets.
 #[derive(Debug, Drop, PartialEq, Eq, Error)]
@@ -43,62 +46,120 @@ pub fn build_sets(alloc: Global, tree: &Tree) -> Result<Sets, RecallFault>
     ensures recall { OnOk result (HasPerfectRecall tree.now) }
     ensures first_break { IfErr result (IsFirstBreakOf tree.now) }
 {
-    let mut building = Building::new(alloc)?;
-    for k in 0..tree.len() {
-        building.enter(tree, k)?;
+    let mut visitor = SetVisitor::new(alloc, tree)?;
+    tree.walk(&mut visitor);
+    match visitor.fault {
+        Some(fault) => Err(fault),
+        None => {
+            let Tables {
+                one,
+                two,
+                next_nodes,
+            } = visitor.building.tables;
+            Ok(Sets::of(one, two, next_nodes))
+        }
     }
-    Ok(Sets::of(building.tables.one, building.tables.two))
 }
 
-// The sets of the nodes so far, and the nodes with children to come.
+// Notes each node as it is entered, up to the first fault.
 #[derive(Drop)]
-struct Building {
-    tables: Tables,
-    parents: Parents,
+struct SetVisitor<'a> {
+    building: Building<'a>,
+    fault: Option<RecallFault>,
 }
 
-impl Building {
-    ghost use Rattle.xg_sets.specs.Entered.{HasEntered};
-
-    // No node yet, and one tree to come.
-    fn new(alloc: Global) -> Result<Building, AllocError>
-        ensures { IfOk result (λ b. (tree : Forest) → IsGameTree tree → HasEntered tree 0 b) }
+impl<'a> SetVisitor<'a> {
+    // No node yet.
+    fn new(alloc: Global, tree: &'a Tree) -> Result<SetVisitor<'a>, AllocError>
+        ensures { IfOk result (IsBefore tree.now) }
     {
-        let mut parents = Parents::new(alloc);
-        parents.push(Parent {
-            kind: Kind::Chance,
-            to_come: 1,
-            next: Sequences { one: 0, two: 0 },
-        })?;
-        Ok(Building {
-            tables: Tables {
-                one: SetTable::new(alloc),
-                two: SetTable::new(alloc),
-            },
-            parents,
+        let tables = Tables {
+            one: SetTable::new(alloc),
+            two: SetTable::new(alloc),
+            next_nodes: NextNodes::with_capacity(alloc, tree.len())?,
+        };
+        let building = Building {
+            tree,
+            tables,
+            innermost: outside(),
+            outer: OuterMovers::new(alloc),
+        };
+        Ok(SetVisitor {
+            building,
+            fault: None,
         })
     }
+}
 
-    // Enters the node that comes after the first `k`.
-    fn enter(&mut self, tree: &Tree, k: u32) -> Result<(), RecallFault>
-        requires rules { IsGameTree tree.now }
-        requires there { k < node_count tree.now }
-        requires entered { HasEntered tree.now k self.old }
-        ensures ok { OnOk result (HasEntered tree.now (k + 1) self.new) }
-        ensures err { IfErr result (FindsBreak tree.now) }
-    {
-        let at = self.parents.take_child()?;
-        let below = self.tables.note(tree, k, at)?;
-        self.parents.enter(tree.node(k + 1), below)?;
-        Ok(())
+impl<'a> Visitor for SetVisitor<'a> {
+    ghost use Rattle.xg_sets.specs.Walked.{Enters, Leaves, MayEnter, MayLeave};
+
+    ghost may_enter = { MayEnter };
+
+    ghost enters = { Enters };
+
+    ghost may_leave = { MayLeave };
+
+    ghost leaves = { Leaves };
+
+    fn enter(&mut self, k: u32, node: Node) {
+        if self.fault.is_none() {
+            self.fault = self.building.enter(k, node).err();
+        }
+    }
+
+    fn leave(&mut self, _k: u32) {
+        if self.fault.is_none() {
+            self.building.leave();
+        }
     }
 }
 
-// Both players' sets so far.
+// The sets of the nodes so far, and the nodes that were entered and aren't left yet.
+#[derive(Drop)]
+struct Building<'a> {
+    tree: &'a Tree,
+    tables: Tables,
+    innermost: Mover,
+    outer: OuterMovers,
+}
+
+impl<'a> Building<'a> {
+    // Notes node `k`, which comes next, and goes on below it.
+    fn enter(&mut self, k: u32, node: Node) -> Result<(), RecallFault>
+        requires { MayComeNext self.old.tree.now k self.old }
+        ensures tree { self.new.tree.now ≡ self.old.tree.now }
+        ensures ok { OnOk result (HasEntered self.old.tree.now k node self.old self.new) }
+        ensures err { IfErr result (FindsBreak self.old.tree.now) }
+    {
+        let below = self.tables.note(self.tree, k - 1, self.innermost.next)?;
+        self.outer.push(self.innermost)?;
+        self.innermost = Mover {
+            kind: node.kind,
+            next: below,
+        };
+        Ok(())
+    }
+
+    // Goes back to the node around the innermost, at its next child.
+    fn leave(&mut self)
+        requires { HasMoverAround self.old.outer }
+        ensures tree { self.new.tree.now ≡ self.old.tree.now }
+        ensures left { HasLeft self.old self.new }
+    {
+        let Some(around) = self.outer.pop() else {
+            unreachable!()
+        };
+        self.innermost = after_child(around);
+    }
+}
+
+// Both players' sets so far, and the next node of each node in its set.
 #[derive(Drop)]
 struct Tables {
     one: SetTable,
     two: SetTable,
+    next_nodes: NextNodes,
 }
 
 impl Tables {
@@ -106,26 +167,27 @@ impl Tables {
     fn note(&mut self, tree: &Tree, k: u32, at: Sequences) -> Result<Sequences, RecallFault>
         requires rules { IsGameTree tree.now }
         requires there { k < node_count tree.now }
-        requires tables { AreTablesOf tree.now k self.old.one self.old.two }
+        requires tables { AreTablesOf tree.now k self.old.one self.old.two self.old.next_nodes }
         requires at { AreAt tree.now (visit_after tree.now k).path at }
-        ensures tables { OnOk result (AreTablesOf tree.now (k + 1) self.new.one self.new.two) }
+        ensures tables { OnOk result (AreTablesOf tree.now (k + 1) self.new.one self.new.two self.new.next_nodes) }
         ensures below { IfOk result (AreAtFirstChild tree.now (visit_after tree.now k)) }
         ensures err { IfErr result (FindsBreak tree.now) }
     {
         let node = tree.node(k + 1);
         let below = match node.kind {
             Kind::One => Sequences {
-                one: self.one.note(k + 1, node, at.one)?,
+                one: self.one.note(k + 1, node, at.one, &mut self.next_nodes)?,
                 two: at.two,
             },
             Kind::Two => Sequences {
                 one: at.one,
-                two: self.two.note(k + 1, node, at.two)?,
+                two: self.two.note(k + 1, node, at.two, &mut self.next_nodes)?,
             },
             Kind::Chance | Kind::Leaf => at,
         };
         self.one.put(at.one)?;
         self.two.put(at.two)?;
+        self.next_nodes.put()?;
         Ok(below)
     }
 }

@@ -3,7 +3,8 @@
 //! remember their own choices.
 
 mod building;
-mod parents;
+mod movers;
+mod next_nodes;
 mod sets;
 mod table;
 

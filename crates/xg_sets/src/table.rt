@@ -1,19 +1,22 @@
 //! A player's sets so far.
 ghost use Rattle.std.specs.Prelude.{◌≡◌, ◌+◌, ◌-◌, ◌^◌, ◌<◌, ◌≤◌, [], ◌∷◌, ◌++◌, length, OnOk, Some, slice_get};
-ghost use Rattle.xg_sets.specs.Table.{BeginsSet, Notes};
+ghost use Rattle.xg_sets.specs.Table.{BeginsSet, LastIsThere, Notes};
 
 use crate::building::RecallFault;
+use crate::next_nodes::NextNodes;
 use def_tree::Node;
 use std::alloc::{AllocError, Global};
 use std::marker::Model;
 
-/// A set: the first sequence that ends at it, the one before it, how many actions it has, and its first node.
+/// A set: the first sequence that ends at it, the one before it, how many actions it has, its first node, and its last
+/// one so far.
 #[derive(Clone, Copy)]
 pub(crate) struct SetRow {
     pub(crate) first: u32,
     pub(crate) before: u32,
     pub(crate) actions: u32,
     pub(crate) node: u32,
+    pub(crate) last: u32,
 }
 
 /// A player's sets so far, and the player's sequence at each node so far.
@@ -53,12 +56,22 @@ impl SetTable {
     }
 
     /// Notes node `k`, where the player moves after the sequence `before`, and answers the first sequence of its set.
-    pub(crate) fn note(&mut self, k: u32, node: Node, before: u32) -> Result<u32, RecallFault>
+    /// The set's node before it gets it as its next one.
+    pub(crate) fn note(
+        &mut self,
+        k: u32,
+        node: Node,
+        before: u32,
+        next_nodes: &mut NextNodes,
+    ) -> Result<u32, RecallFault>
+        requires from_one { 1 ≤ k }
         requires counts { 1 ≤ node.set }
         requires room { self.old.next + node.children < 2 ^ 32 }
-        ensures { Notes self.old k node before self.new result }
+        requires last { LastIsThere (slice_get self.old.rows (node.set - 1)) next_nodes.old }
+        ensures { Notes self.old k node before self.new result next_nodes.old next_nodes.new }
     {
-        let Some(row) = self.rows.get(node.set as usize - 1) else {
+        let place = node.set as usize - 1;
+        let Some(row) = self.rows.get(place) else {
             return self.begin(k, node, before);
         };
         if row.before != before {
@@ -67,7 +80,10 @@ impl SetTable {
                 earlier: row.node,
             });
         }
-        Ok(row.first)
+        let SetRow { first, last, .. } = *row;
+        next_nodes.link(last, k);
+        self.rows[place].last = k;
+        Ok(first)
     }
 
     fn begin(&mut self, k: u32, node: Node, before: u32) -> Result<u32, RecallFault>
@@ -81,6 +97,7 @@ impl SetTable {
                 before,
                 actions: node.children,
                 node: k,
+                last: k,
             })
             .map_err(|_| RecallFault::NoMemory)?;
         self.next += node.children;

@@ -1,0 +1,351 @@
+-- A walk through the trees at a node's actions, below the movers around it, finds the first break of recall, or notes all
+-- nodes.
+use Rattle.std.proofs.Common.{◌≡◌, ℕ, suc, ◌+◌, ◌-◌, ◌<◌, ◌≤◌, true, false, cond, List, [], ◌∷◌, ◌++◌, length, length-append, drop, refl, ap, sym, subst, ◌∙◌, arith, append-nil, append_assoc, inl, inr, Some, None}
+use Rattle.std.specs.Prelude.{Option, sum}
+use Rattle.std.proofs.lemmas.Bool.{cases_lt}
+use Rattle.std.proofs.lemmas.List.{drop-drop, length-map}
+use Rattle.std.proofs.Math.ListN.{drop_of_length-le}
+use Rattle.std.proofs.Math.Seq.{drop-append_seam}
+use Rattle.def_tree.specs.declared.Kind.{Kind}
+use Rattle.def_tree.specs.declared.Kind.TheVariants.{Chance, One, Two, Leaf}
+use Rattle.def_tree.specs.declared.Node.{Node}
+use Rattle.def_tree.specs.Events.{Event, Enter, Leave, Leads, events_from}
+use Rattle.def_tree.specs.Tree.{Forest, bare, grown, is_leaf_kind, node_count, prefix, tree_count}
+use Rattle.def_tree.specs.Rules.{IsGameTree, is_same_kind}
+use Rattle.def_game_paths.specs.Coming.{no_visit, visit_after}
+use Rattle.def_game_paths.specs.Paths.{Move, Visit, own_choices, visits, visits_from}
+use Rattle.def_game_paths.specs.Sequences.{first_sequence, sequence_at, sequence_number, set_sizes}
+use Rattle.def_game_paths.proofs.Coming.{IsNext, length-visits, next_visit}
+use Rattle.def_game_paths.proofs.Counts.{each_sequence_is_in_range, sequences_are_few}
+use Rattle.def_game_paths.proofs.Visits.{map-visits_from}
+use Rattle.xg_sets.specs.declared.building.Building.{Building}
+use Rattle.xg_sets.specs.declared.building.RecallFault.{RecallFault}
+use Rattle.xg_sets.specs.declared.building.SetVisitor.{SetVisitor}
+use Rattle.xg_sets.specs.declared.building.Tables.{Tables}
+use Rattle.xg_sets.specs.declared.movers.Mover.{Mover}
+use Rattle.xg_sets.specs.declared.movers.Sequences.{Sequences}
+use Rattle.xg_sets.specs.Entered.{AreAt, AreAtFirstChild, AreTablesOf, FindsBreak, IsAtFirstChild, path_number}
+use Rattle.xg_sets.specs.Movers.{GoesBackTo, HasMoverAround, outside, sequences_after}
+use Rattle.xg_sets.specs.Walked.{Enters, HasEntered, HasLeft, IsBefore, Leaves, MayComeNext, MayEnter, MayLeave, Steps, UnlessFault}
+use Rattle.xg_sets.proofs.ShownLemmas.{no_sets, tables_start}
+use Rattle.xg_sets.proofs.VisitorLemmas.{RunsTo, runs_enter, runs_leave, runs_none}
+
+length-visits_from : (above : ℕ → List Move) (action : ℕ) (trees : Forest)
+    → length (visits_from above action trees) ≡ node_count trees
+length-visits_from above action trees =
+    sym (length-map (visits_from above action trees) (λ (v : Visit). v.node)) ∙ ap length (map-visits_from above action trees)
+
+one_after : (kind : Kind) (next : Sequences)
+    → (sequences_after kind next).one ≡ next.one + cond (is_same_kind One kind) 1 0
+one_after Chance next = omega arith
+one_after One next = refl
+one_after Two next = omega arith
+one_after Leaf next = omega arith
+
+two_after : (kind : Kind) (next : Sequences)
+    → (sequences_after kind next).two ≡ next.two + cond (is_same_kind Two kind) 1 0
+two_after Chance next = omega arith
+two_after One next = omega arith
+two_after Two next = refl
+two_after Leaf next = omega arith
+
+module _ (tree : Forest) (game : IsGameTree tree) where
+  abbrev all : List Visit
+  all = visits tree
+
+  -- both players' sequences on a path
+  abbrev sequences_on : List Move → Sequences
+  sequences_on path = record { one = path_number One tree path; two = path_number Two tree path }
+
+  -- who moves at a node, with its next child at this action
+  abbrev mover_at : Kind → (ℕ → List Move) → ℕ → Mover
+  mover_at kind above action = record { kind = kind; next = sequences_on (above action) }
+
+  -- behind the first n nodes come trees at the actions of a node, from one on, and then later nodes;
+  -- the sequences at its children follow one another
+  record AreNext (n : ℕ) (above : ℕ → List Move) (action : ℕ) (trees : Forest) (later : List Visit) (kind : Kind) : Type 0 where
+    visits_are : drop n all ≡ visits_from above action trees ++ later
+    from_one : 1 ≤ action
+    goes_on : (a : ℕ) → 1 ≤ a → sequences_after kind (sequences_on (above a)) ≡ sequences_on (above (a + 1))
+
+  record GoesOn (n : ℕ) (innermost : Mover) (outer : List Mover) (building : Building) : Type 0 where
+    tables : AreTablesOf tree n building.tables.one building.tables.two building.tables.next_nodes
+    innermost_is : building.innermost ≡ innermost
+    outer_is : building.outer ≡ outer
+
+  abbrev OrFault : Option RecallFault → Type 0 → Type 0
+  OrFault (Some fault) On = FindsBreak tree fault
+  OrFault None On = On
+
+  -- the visitor noted the first n nodes and stands below these, or has a fault
+  record Stands (n : ℕ) (innermost : Mover) (outer : List Mover) (visitor : SetVisitor) : Type 0 where
+    tree_is : visitor.building.tree.now ≡ tree
+    stands : OrFault visitor.fault (GoesOn n innermost outer visitor.building)
+
+  may_step : (fault : Option RecallFault) {A B : Type 0} → OrFault fault A → (A → B) → UnlessFault fault B
+  may_step (Some fault) stands may = tt
+  may_step None stands may = may stands
+
+  stepped : (old new : Option RecallFault) {R : RecallFault → Type 0} {A G B : Type 0} → OrFault old A → Steps old new R G
+      → ((fault : RecallFault) → R fault → FindsBreak tree fault) → (A → G → B) → OrFault new B
+  stepped (Some fault) new {R} {A} {G} {B} stands same finds on = subst (λ o. OrFault o B) (sym same) stands
+  stepped None (Some fault) stands step finds on = finds fault step
+  stepped None None stands step finds on = on stands step
+
+  -- the number of the kind's sequence at a first child
+  first_number : (kind : Kind) (node : Node) (path : List Move) (s : ℕ)
+      → IsAtFirstChild tree kind (record { path = path; node = node }) s
+      → s ≡ path_number kind tree (record { node = node; action = 1 } ∷ path)
+  first_number kind node path s starts =
+      elim (is_same_kind kind node.kind) as (λ b. is_same_kind kind node.kind ≡ b →
+      s ≡ sequence_number (set_sizes kind tree) (cond b (record { set = node.set; action = 1 } ∷ own_choices kind path) (own_choices kind path))) [
+        | true ↦ λ same. let first : s ≡ first_sequence (set_sizes kind tree) node.set = starts.own same in omega arith
+        | false ↦ λ differs. starts.other differs
+      ] refl
+
+  -- and at the child after another
+  next_number : (kind : Kind) (node : Node) (path : List Move) (a : ℕ) → 1 ≤ a
+      →
+      path_number kind tree (record { node = node; action = a } ∷ path) + cond (is_same_kind kind node.kind) 1 0 ≡ path_number kind tree (record { node = node; action = a + 1 } ∷ path)
+  next_number kind node path a some =
+      elim (is_same_kind kind node.kind) as (λ b.
+      sequence_number (set_sizes kind tree) (cond b (record { set = node.set; action = a } ∷ own_choices kind path) (own_choices kind path)) + cond b 1 0
+      ≡ sequence_number (set_sizes kind tree) (cond b (record { set = node.set; action = a + 1 } ∷ own_choices kind path) (own_choices kind path))) [
+        | true ↦ omega arith
+        | false ↦ omega arith
+      ]
+
+  sequences_follow : (node : Node) (path : List Move) (a : ℕ) → 1 ≤ a
+      →
+      sequences_after node.kind (sequences_on (record { node = node; action = a } ∷ path)) ≡ sequences_on (record { node = node; action = a + 1 } ∷ path)
+  sequences_follow node path a some =
+      let at : Sequences = sequences_on (record { node = node; action = a } ∷ path) in
+      let one : (sequences_after node.kind at).one ≡ path_number One tree (record { node = node; action = a + 1 } ∷ path) = one_after node.kind at ∙ next_number One node path a some in
+      let two : (sequences_after node.kind at).two ≡ path_number Two tree (record { node = node; action = a + 1 } ∷ path) = two_after node.kind at ∙ next_number Two node path a some in
+      λ i. record { one = one i; two = two i }
+
+  module _ (n : ℕ) (above : ℕ → List Move) (action : ℕ) (x : Node) (below beside : Forest) (later : List Visit)
+      (kind : Kind) (next : AreNext n above action (grown x below beside) later kind) where
+    abbrev here : Visit
+    here = record { path = above action; node = x }
+
+    abbrev down : ℕ → List Move
+    down = λ a. record { node = x; action = a } ∷ above action
+
+    abbrev behind : List Visit
+    behind = visits_from above (action + 1) beside ++ later
+
+    cons : drop n all ≡ here ∷ (visits_from down 1 below ++ behind)
+    cons =
+        next.visits_are ∙ ap (λ vs. here ∷ vs) (append_assoc (visits_from down 1 below) (visits_from above (action + 1) beside) later)
+
+    there : n < node_count tree
+    there = elim (cases_lt n (length all)) [
+      | inl inside ↦ omega (arith, length-visits tree)
+      | inr past ↦
+          let none : [] ≡ here ∷ (visits_from down 1 below ++ behind) = sym (drop_of_length-le all past) ∙ cons in
+          cc none
+    ]
+
+    abbrev v : Visit
+    v = visit_after tree n
+
+    is_next : IsNext tree n v
+    is_next = next_visit tree n game there
+
+    first : v ≡ here
+    first = let e : v ∷ drop (n + 1) all ≡ here ∷ (visits_from down 1 below ++ behind) = sym is_next.cons ∙ cons in cc
+
+    after : drop (n + 1) all ≡ visits_from down 1 below ++ behind
+    after = let e : v ∷ drop (n + 1) all ≡ here ∷ (visits_from down 1 below ++ behind) = sym is_next.cons ∙ cons in cc
+
+    visit_is : visit_after tree (n + 1 - 1) ≡ here
+    visit_is = let index : n + 1 - 1 ≡ n = omega arith in ap (visit_after tree) index ∙ first
+
+    small : (kind : Kind) → is_leaf_kind kind ≡ false → path_number kind tree (above action) < 1048576
+    small kind inner =
+        let range = each_sequence_is_in_range tree game kind inner n no_visit is_next.there in
+        let few = sequences_are_few tree game kind inner in
+        let below : sequence_at kind tree v < 1 + sum (set_sizes kind tree) = range.below in
+        let few_sequences : 1 + sum (set_sizes kind tree) ≤ node_count tree = few.few_sequences in
+        let limit : node_count tree ≤ 1048576 = game.limit in
+        subst (λ w. sequence_at kind tree w < 1048576) first (omega arith)
+
+    -- the trees below the first node, and those beside it
+    below_next : AreNext (n + 1) down 1 below behind x.kind
+    below_next = record { visits_are = after; from_one = omega arith; goes_on = sequences_follow x (above action) }
+
+    beside_next : AreNext (n + 1 + node_count below) above (action + 1) beside later kind
+    beside_next = record {
+      visits_are =
+          sym (drop-drop (node_count below) (n + 1) all)
+          ∙ (λ i. drop (sym (length-visits_from down 1 below) i) (after i))
+          ∙ drop-append_seam (visits_from down 1 below) behind;
+      from_one = omega arith;
+      goes_on = next.goes_on;
+    }
+
+    module _ (outer : List Mover) (building : Building) (same : building.tree.now ≡ tree)
+        (on : GoesOn n (mover_at kind above action) outer building) where
+      tables_before : AreTablesOf tree (n + 1 - 1) building.tables.one building.tables.two building.tables.next_nodes
+      tables_before =
+          let index : n ≡ n + 1 - 1 = omega arith in
+          subst (λ m. AreTablesOf tree m building.tables.one building.tables.two building.tables.next_nodes) index on.tables
+
+      are_at : AreAt tree (visit_after tree (n + 1 - 1)).path building.innermost.next
+      are_at = record {
+        one = ap (λ (m : Mover). m.next.one) on.innermost_is ∙ sym (ap (λ (w : Visit). path_number One tree w.path) visit_is);
+        two = ap (λ (m : Mover). m.next.two) on.innermost_is ∙ sym (ap (λ (w : Visit). path_number Two tree w.path) visit_is);
+      }
+
+      may_come_next : MayComeNext building.tree.now (n + 1) building
+      may_come_next =
+          let known : MayComeNext tree (n + 1) building = record { rules = game; from_one = omega arith; there = omega (arith, there); tables = tables_before; at = are_at } in
+          subst (λ t. MayComeNext t (n + 1) building) (sym same) known
+
+      goes_below : (new : Building) → HasEntered building.tree.now (n + 1) x building new
+          → GoesOn (n + 1) (mover_at x.kind down 1) (mover_at kind above action ∷ outer) new
+      goes_below new is =
+          let entered : HasEntered tree (n + 1) x building new = subst (λ t. HasEntered t (n + 1) x building new) same is in
+          let below_here : AreAtFirstChild tree here new.innermost.next = subst (λ w. AreAtFirstChild tree w new.innermost.next) visit_is entered.below in
+          let one = first_number One x (above action) new.innermost.next.one below_here.one in
+          let two = first_number Two x (above action) new.innermost.next.two below_here.two in
+          record {
+            tables = entered.tables;
+            innermost_is = λ i. record { kind = entered.kind i; next = record { one = one i; two = two i } };
+            outer_is = entered.outer ∙ (λ i. on.innermost_is i ∷ on.outer_is i);
+          }
+
+    may_enter_first : (outer : List Mover) (visitor : SetVisitor)
+        → Stands n (mover_at kind above action) outer visitor → MayEnter visitor (n + 1) x
+    may_enter_first outer visitor s = may_step visitor.fault s.stands (may_come_next outer visitor.building s.tree_is)
+
+    first_entered : (outer : List Mover) (old new : SetVisitor) → Stands n (mover_at kind above action) outer old
+        → Enters old (n + 1) x new → Stands (n + 1) (mover_at x.kind down 1) (mover_at kind above action ∷ outer) new
+    first_entered outer old new s enters = record {
+      tree_is = enters.0 ∙ s.tree_is;
+      stands = stepped old.fault new.fault s.stands enters.1 (λ fault finds. subst (λ t. FindsBreak t fault) s.tree_is finds) (λ on. goes_below outer old.building s.tree_is on new.building);
+    }
+
+    -- back from below the first node
+    goes_back : (m : ℕ) (inner : Mover) (outer : List Mover) (old new : Building)
+        → GoesOn m inner (mover_at kind above action ∷ outer) old → HasLeft old new
+        → GoesOn m (mover_at kind above (action + 1)) outer new
+    goes_back m inner outer old new on left =
+        let back = subst (λ around. GoesBackTo around new.innermost new.outer) on.outer_is left.back in
+        let follow = next.goes_on action next.from_one in
+        record {
+          tables = subst (λ (t : Tables). AreTablesOf tree m t.one t.two t.next_nodes) (sym left.tables) on.tables;
+          innermost_is = back.0 ∙ (λ i. record { kind = kind; next = follow i });
+          outer_is = back.1;
+        }
+
+    room_around : (outer : List Mover) → HasMoverAround (mover_at kind above action ∷ outer)
+    room_around outer =
+        let one : path_number One tree (above action) < 1048576 = small One refl in
+        let two : path_number Two tree (above action) < 1048576 = small Two refl in
+        (omega (arith, one), omega (arith, two))
+
+    may_leave_first : (m : ℕ) (inner : Mover) (outer : List Mover) (visitor : SetVisitor)
+        → Stands m inner (mover_at kind above action ∷ outer) visitor → MayLeave visitor (n + 1)
+    may_leave_first m inner outer visitor s =
+        may_step visitor.fault s.stands (λ on. subst HasMoverAround (sym on.outer_is) (room_around outer))
+
+    first_left : (m : ℕ) (inner : Mover) (outer : List Mover) (old new : SetVisitor)
+        → Stands m inner (mover_at kind above action ∷ outer) old → Leaves old (n + 1) new
+        → Stands m (mover_at kind above (action + 1)) outer new
+    first_left m inner outer old new s leaves = record {
+      tree_is = leaves.0 ∙ s.tree_is;
+      stands = stepped old.fault new.fault s.stands leaves.1 (λ fault none. absurd none) (λ on. goes_back m inner outer old.building new.building on);
+    }
+
+  -- how a visitor ends
+  abbrev Ends : SetVisitor → Type 0
+  Ends visitor =
+      OrFault visitor.fault (AreTablesOf tree (node_count tree) visitor.building.tables.one visitor.building.tables.two visitor.building.tables.next_nodes)
+
+  abbrev Runs : List Event → SetVisitor → Type 0
+  Runs = RunsTo MayEnter Enters MayLeave Leaves Ends
+
+  -- the walk through trees that come next leads behind them, with the node around at the action after their last
+  walks : (trees : Forest) (n : ℕ) (above : ℕ → List Move) (action : ℕ) (later : List Visit) (kind : Kind)
+      (outer : List Mover) → AreNext n above action trees later kind → (rest : List Event)
+      → ((w : SetVisitor) → Stands (n + node_count trees) (mover_at kind above (action + tree_count trees)) outer w → Runs rest w)
+      → (v : SetVisitor) → Stands n (mover_at kind above action) outer v → Runs (events_from (n + 1) trees ++ rest) v
+  walks bare n above action later kind outer next rest then v s =
+      let nodes : n ≡ n + 0 = omega arith in
+      let actions : action ≡ action + 0 = omega arith in
+      then v (subst (λ m. Stands m (mover_at kind above (action + 0)) outer v) nodes (subst (λ a. Stands n (mover_at kind above a) outer v) actions s))
+  walks (grown x below beside) n above action later kind outer next rest then v s =
+      let m : ℕ = n + 1 + node_count below in
+      let number : m + 1 ≡ n + 1 + 1 + node_count below = omega arith in
+      let nodes : m + node_count beside ≡ n + node_count (grown x below beside) = omega (arith, length-append (prefix below) (prefix beside)) in
+      let actions : action + 1 + tree_count beside ≡ action + suc (tree_count beside) = omega arith in
+      let last : (w : SetVisitor) → Stands (m + node_count beside) (mover_at kind above (action + 1 + tree_count beside)) outer w → Runs rest w =
+      λ w stands. then w (subst (λ k. Stands k (mover_at kind above (action + suc (tree_count beside))) outer w) nodes (subst (λ a. Stands (m + node_count beside) (mover_at kind above a) outer w) actions stands)) in
+      let beyond : List Event = events_from (n + 1 + 1 + node_count below) beside ++ rest in
+      let inside : ℕ → List Move = λ a. record { node = x; action = a } ∷ above action in
+      let behind_below : Mover = mover_at x.kind inside (1 + tree_count below) in
+      let left : (w : SetVisitor) → Stands m (mover_at kind above (action + 1)) outer w → Runs beyond w =
+      λ w stands. subst (λ k. Runs (events_from k beside ++ rest) w) number
+      (walks beside m above (action + 1) later kind outer (beside_next n above action x below beside later kind next) rest last w stands) in
+      let back : (w : SetVisitor) → Stands m behind_below (mover_at kind above action ∷ outer) w → Runs (Leave (n + 1) ∷ beyond) w =
+      λ w stands. runs_leave MayEnter Enters MayLeave Leaves Ends (n + 1) beyond w
+      (may_leave_first n above action x below beside later kind next m behind_below outer w stands)
+      (λ u leaves. left u (first_left n above action x below beside later kind next m behind_below outer w u stands leaves)) in
+      let into : (w : SetVisitor) → Enters v (n + 1) x w → Runs (events_from (n + 1 + 1) below ++ (Leave (n + 1) ∷ beyond)) w =
+      λ w enters. walks below (n + 1) inside 1 (visits_from above (action + 1) beside ++ later) x.kind (mover_at kind above action ∷ outer)
+      (below_next n above action x below beside later kind next) (Leave (n + 1) ∷ beyond) back w (first_entered n above action x below beside later kind next outer v w s enters) in
+      subst (λ steps. Runs steps v)
+      (ap (λ steps. Enter (n + 1) x ∷ steps) (sym (append_assoc (events_from (n + 1 + 1) below) (Leave (n + 1) ∷ events_from (n + 1 + 1 + node_count below) beside) rest)))
+      (runs_enter MayEnter Enters MayLeave Leaves Ends (n + 1) x (events_from (n + 1 + 1) below ++ (Leave (n + 1) ∷ beyond)) v
+      (may_enter_first n above action x below beside later kind next outer v s) into)
+
+  whole_next : AreNext 0 (λ _. []) 1 tree [] Chance
+  whole_next = record { visits_are = sym (append-nil all); from_one = omega arith; goes_on = λ a some. refl }
+
+  stands_first : (visitor : SetVisitor) → IsBefore tree visitor → Stands 0 outside [] visitor
+  stands_first visitor before = record {
+    tree_is = before.tree_is;
+    stands = subst (λ o. OrFault o (GoesOn 0 outside [] visitor.building)) (sym before.going) (record {
+      tables = subst (λ one. AreTablesOf tree 0 one visitor.building.tables.two visitor.building.tables.next_nodes) (sym before.table_one)
+          (subst (λ two. AreTablesOf tree 0 no_sets two visitor.building.tables.next_nodes) (sym before.table_two)
+          (subst (λ numbers. AreTablesOf tree 0 no_sets no_sets numbers) (sym before.next_are) (tables_start tree)));
+      innermost_is = before.innermost;
+      outer_is = before.outer;
+    });
+  }
+
+  ended : (n : ℕ) (innermost : Mover) (outer : List Mover) (visitor : SetVisitor) → n ≡ node_count tree
+      → Stands n innermost outer visitor → Ends visitor
+  ended n innermost outer visitor last s = by_fault visitor.fault s.stands
+    where
+      by_fault : (fault : Option RecallFault) → OrFault fault (GoesOn n innermost outer visitor.building)
+          → OrFault fault (AreTablesOf tree (node_count tree) visitor.building.tables.one visitor.building.tables.two visitor.building.tables.next_nodes)
+      by_fault (Some fault) stands = stands
+      by_fault None stands = subst (λ m. AreTablesOf tree m visitor.building.tables.one visitor.building.tables.two visitor.building.tables.next_nodes) last stands.tables
+
+  -- the walk through the whole tree
+  pub whole_walk : (visitor : SetVisitor) → IsBefore tree visitor → Runs (events_from 1 tree) visitor
+  whole_walk visitor before =
+      subst (λ steps. Runs steps visitor) (append-nil (events_from 1 tree))
+      (walks tree 0 (λ _. []) 1 [] Chance [] whole_next []
+      (λ w s. runs_none MayEnter Enters MayLeave Leaves Ends w (ended (0 + node_count tree) (mover_at Chance (λ _. []) (1 + tree_count tree)) [] w (omega arith) s))
+      visitor (stands_first visitor before))
+
+  -- a visitor that was led through the whole tree
+  module _ (first last : SetVisitor) (before : IsBefore tree first)
+      (leads : Leads MayEnter Enters MayLeave Leaves (events_from 1 tree) first last) where
+    ends : Ends last
+    ends = (whole_walk first before).ends last leads
+
+    -- its fault tells the first break
+    pub ends_broken : (fault : RecallFault) → last.fault ≡ Some fault → FindsBreak tree fault
+    ends_broken fault is =
+        subst (λ o. OrFault o (AreTablesOf tree (node_count tree) last.building.tables.one last.building.tables.two last.building.tables.next_nodes)) is ends
+
+    -- without one its tables are those of all nodes
+    pub ends_noted : last.fault ≡ None
+        → AreTablesOf tree (node_count tree) last.building.tables.one last.building.tables.two last.building.tables.next_nodes
+    ends_noted is =
+        subst (λ o. OrFault o (AreTablesOf tree (node_count tree) last.building.tables.one last.building.tables.two last.building.tables.next_nodes)) is ends
