@@ -12,3 +12,4 @@ pub mod SizeLaws
 pub mod OrderTest
 pub mod Hanging
 pub mod Rows
+pub mod ThreadLaws

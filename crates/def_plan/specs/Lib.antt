@@ -10,3 +10,4 @@ pub mod KuhnLeaves
 pub mod SmallForms
 pub mod FormRows
 pub mod RowLaws
+pub mod Threads

@@ -1,10 +1,11 @@
 //! Plans of one player in the sequence form (von Stengel 1996), what two of them pay, the rows of a form, which are its
-//! leaf sums by sequence, and small games as forms. There is no code here; each function's contract is a law or a
-//! worked row.
+//! leaf sums by sequence, the leaves of each sequence, and small games as forms. There is no code here; each function's
+//! contract is a law or a worked row.
 #![tactic(auto)]
 
 pub mod examples;
 pub mod form_rows;
+pub mod threads;
 
 ghost use Rattle.std.specs.Prelude.{◌≡◌, [], ◌∷◌, Some, None, pos, negsuc};
 ghost use Rattle.def_plan.specs.Plan.{bad_set, pure_plan, added};

@@ -1,8 +1,8 @@
 -- A set's place among the sets of its player.
-use Rattle.std.proofs.Common.{◌≡◌, ℕ, zero, suc, ◌+◌, ◌<◌, ◌≤◌, List, [], ◌∷◌, length, get_or, slice_get, slice_index, Some, take, map, ap, sym, subst, ◌∙◌, arith}
-use Rattle.std.proofs.lemmas.List.{get_or-map, take_more}
+use Rattle.std.proofs.Common.{◌≡◌, ℕ, zero, suc, ◌+◌, ◌<◌, ◌≤◌, List, [], ◌∷◌, length, get_or, slice_get, slice_index, Some, take, ap, sym, subst, ◌∙◌, arith}
+use Rattle.std.proofs.lemmas.List.{take_more}
 use Rattle.std.proofs.lemmas.List.Elements.{All-get_or}
-use Rattle.std.proofs.lemmas.Option.{get_or_from_slice_get, slice_get-get_or}
+use Rattle.std.proofs.lemmas.Option.{get_or_from_slice_get}
 use Rattle.def_sums.specs.Sum.{nat_sum_over}
 use Rattle.def_sums.proofs.SumLaws.{nat_sum_over-append}
 use Rattle.def_plan.specs.Form.{InformationSet, PlacedSet, placed, sequences_of, sequence_count, IsInOrder, AreInOrder}
@@ -66,20 +66,3 @@ is_at sets m h order below read =
 pub units_at : (play : List ℕ) (sets : List InformationSet) (m : ℕ) (h : PlacedSet) → IsAt sets m h
     → GivesAllUnits play sets → nat_sum_over (λ s. slice_index play s) (sequences_of h) ≡ units
 units_at play sets m h at all_units = subst (λ (p : PlacedSet). nat_sum_over (λ s. slice_index play s) (sequences_of p) ≡ units) at.is (all_units m no_place at.there)
-
--- what is known of a set one by one makes its place
-pub placed_from_parts : (sets : List InformationSet) (m first before actions : ℕ) → m < length sets
-    → slice_get (map (λ (h : PlacedSet). h.first) (placed sets)) m ≡ Some first
-    → slice_get (map (λ (h : InformationSet). h.before) sets) m ≡ Some before
-    → slice_get (map (λ (h : InformationSet). h.actions) sets) m ≡ Some actions
-    → slice_get (placed sets) m ≡ Some (record { first = first; before = before; actions = actions })
-placed_from_parts sets m first before actions below first_read before_read actions_read =
-    let there : m < length (placed sets) = omega (arith, length-placed 1 sets) in
-    let numbers = numbered.each_set sets m no_place no_information_set below in
-    let first_is : (get_or (placed sets) m no_place).first ≡ first =
-    sym (get_or-map (λ (h : PlacedSet). h.first) (placed sets) m no_place 0 there) ∙ get_or_from_slice_get (map (λ (h : PlacedSet). h.first) (placed sets)) m first 0 first_read in
-    let before_is : (get_or (placed sets) m no_place).before ≡ before =
-    ap (λ (p : PlacedSet). p.before) numbers ∙ sym (get_or-map (λ (h : InformationSet). h.before) sets m no_information_set 0 below) ∙ get_or_from_slice_get (map (λ (h : InformationSet). h.before) sets) m before 0 before_read in
-    let actions_is : (get_or (placed sets) m no_place).actions ≡ actions =
-    ap (λ (p : PlacedSet). p.actions) numbers ∙ sym (get_or-map (λ (h : InformationSet). h.actions) sets m no_information_set 0 below) ∙ get_or_from_slice_get (map (λ (h : InformationSet). h.actions) sets) m actions 0 actions_read in
-    slice_get-get_or (placed sets) m no_place there ∙ (λ i. Some (record { first = first_is i; before = before_is i; actions = actions_is i }))

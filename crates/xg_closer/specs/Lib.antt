@@ -1,6 +1,5 @@
 pub mod Closing
 pub mod Laws
-pub mod Places
 pub mod Playing
 pub mod Regrets
 pub mod Rows

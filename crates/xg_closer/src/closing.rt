@@ -11,18 +11,16 @@ ghost use Rattle.def_sums.specs.Limits.{most_rounds, most_round_row, past_produc
 ghost use Rattle.def_sums.specs.Sum.{nat_sum_over};
 ghost use Rattle.xg_closer.specs.Closing.{value_by, weighed_sizes, weighed_sum};
 ghost use Rattle.xg_closer.specs.Laws.{LeafSumsCloseTheRound};
-ghost use Rattle.xg_closer.specs.Places.{placed_as};
 ghost use Rattle.xg_closer.specs.Regrets.{AreWithin, IsMostAfter, kept_regrets};
 ghost use Rattle.xg_closer.specs.Rows.{AreTaken, most_small, own_amount};
-ghost use Rattle.xg_seq.specs.Table.{most_sequences};
+ghost use Rattle.xg_seq.specs.Table.{most_sequences, placed_of_row};
 ghost use Rattle.def_plan.specs.FormRows.{amount_of};
 
-use crate::places::{Placement, placement_of, sets_are_kept};
 use crate::regrets::Regrets;
 use crate::worths::{Worth, add_worth, worth_at};
 use def_tree::Player;
 use xg_plan::Play;
-use xg_seq::SeqForm;
+use xg_seq::{SeqForm, SetPlace};
 
 /// Adds a round's regrets: for each sequence what it is worth more than its set is by the play, where the value of a
 /// set is rounded down (Zinkevich, Johanson, Bowling and Piccione 2007, in whole numbers).
@@ -49,7 +47,7 @@ pub fn close_round(
     ensures rounds { regrets.new.closed ≡ regrets.old.closed + 1 }
     ensures count { length regrets.new.of_sequences ≡ length regrets.old.of_sequences }
 {
-    sets_are_kept(form, player);
+    form.facts();
     let most = close_rows(
         form,
         player,
@@ -104,7 +102,7 @@ fn close_rows(
         ≡ regrets_after (own_amount player rows.now) play.now (player_sets form.now player)
         (kept_regrets most small_regrets.old regrets.old) }
 {
-    sets_are_kept(form, player);
+    form.facts();
     let sizes = take_small_rows(player, rows, small_worths);
     let more = most_after(most, sizes);
     match more {
@@ -285,43 +283,43 @@ fn close_sets<W: Worth, R: Worth>(
         ≡ regrets_after (amount_of (map W.amount worths.old)) play.now (player_sets form.now player)
         (map R.amount regrets.old) }
 {
-    sets_are_kept(form, player);
+    form.facts();
     for set in (0..form.set_count(player)).rev() {
-        let place = placement_of(form, player, set + 1);
+        let place = form.place_of(player, set + 1);
         close_set(place, play, worths, regrets);
     }
 }
 
 // Adds the regrets of one set, whose sequences' worths are complete, and its value to the sequence before it.
-fn close_set<W: Worth, R: Worth>(place: Placement, play: &Play, worths: &mut [W], regrets: &mut [R])
+fn close_set<W: Worth, R: Worth>(place: SetPlace, play: &Play, worths: &mut [W], regrets: &mut [R])
     requires from_one { 1 ≤ place.first }
     requires inside { place.first + place.actions ≤ length worths.old }
     requires earlier { place.before < place.first }
     requires as_play { length play.now ≡ length worths.old }
     requires limit { length worths.old ≤ most_sequences }
     requires as_regrets { length regrets.old ≡ length worths.old }
-    requires all_units { nat_sum_over (λ s. slice_index play.now s) (sequences_of (placed_as place)) ≡ units }
-    requires products { weighed_sizes play.now (map W.amount worths.old) (placed_as place) < past_product }
-    requires fits { FitsSigned W.width (value_by play.now (map W.amount worths.old) (placed_as place)) }
+    requires all_units { nat_sum_over (λ s. slice_index play.now s) (sequences_of (placed_of_row place)) ≡ units }
+    requires products { weighed_sizes play.now (map W.amount worths.old) (placed_of_row place) < past_product }
+    requires fits { FitsSigned W.width (value_by play.now (map W.amount worths.old) (placed_of_row place)) }
     requires growth { (s : ℕ) → place.first ≤ s → s < place.first + place.actions
         → unsigned_abs (amount_of (map W.amount worths.old) s
-        -ℤ value_by play.now (map W.amount worths.old) (placed_as place)) < past_product }
+        -ℤ value_by play.now (map W.amount worths.old) (placed_of_row place)) < past_product }
     requires growth_fits { (s : ℕ) → place.first ≤ s → s < place.first + place.actions
         → FitsSigned R.width (amount_of (map W.amount worths.old) s
-        -ℤ value_by play.now (map W.amount worths.old) (placed_as place)) }
+        -ℤ value_by play.now (map W.amount worths.old) (placed_of_row place)) }
     requires room { (s : ℕ) → place.first ≤ s → s < place.first + place.actions
         → FitsSigned R.width (regret_of (map R.amount regrets.old) s +ℤ (amount_of (map W.amount worths.old) s
-        -ℤ value_by play.now (map W.amount worths.old) (placed_as place))) }
+        -ℤ value_by play.now (map W.amount worths.old) (placed_of_row place))) }
     ensures worths_count { length worths.new ≡ length worths.old }
     ensures worth_before { amount_of (map W.amount worths.new) place.before
         ≡ int_wrap W.width (amount_of (map W.amount worths.old) place.before
-        +ℤ value_by play.now (map W.amount worths.old) (placed_as place)) }
+        +ℤ value_by play.now (map W.amount worths.old) (placed_of_row place)) }
     ensures other_worths { (s : ℕ) → (s ≡ place.before → ⊥)
         → amount_of (map W.amount worths.new) s ≡ amount_of (map W.amount worths.old) s }
     ensures regrets_count { length regrets.new ≡ length regrets.old }
     ensures of_set { (s : ℕ) → place.first ≤ s → s < place.first + place.actions → regret_of (map R.amount regrets.new) s
         ≡ regret_of (map R.amount regrets.old) s +ℤ (amount_of (map W.amount worths.old) s
-        -ℤ value_by play.now (map W.amount worths.old) (placed_as place)) }
+        -ℤ value_by play.now (map W.amount worths.old) (placed_of_row place)) }
     ensures before_set { (s : ℕ) → s < place.first → regret_of (map R.amount regrets.new) s ≡ regret_of (map R.amount regrets.old) s }
     ensures after_set { (s : ℕ) → place.first + place.actions ≤ s
         → regret_of (map R.amount regrets.new) s ≡ regret_of (map R.amount regrets.old) s }
@@ -337,13 +335,13 @@ fn close_set<W: Worth, R: Worth>(place: Placement, play: &Play, worths: &mut [W]
     add_worth(worths, place.before as usize, value);
 }
 
-fn value_of_set<W: Worth>(place: Placement, play: &Play, worths: &[W]) -> i128
+fn value_of_set<W: Worth>(place: SetPlace, play: &Play, worths: &[W]) -> i128
     requires from_one { 1 ≤ place.first }
     requires inside { place.first + place.actions ≤ length worths.now }
     requires as_play { length play.now ≡ length worths.now }
     requires limit { length worths.now ≤ most_sequences }
-    requires products { weighed_sizes play.now (map W.amount worths.now) (placed_as place) < past_product }
-    ensures { result ≡ value_by play.now (map W.amount worths.now) (placed_as place) }
+    requires products { weighed_sizes play.now (map W.amount worths.now) (placed_of_row place) < past_product }
+    ensures { result ≡ value_by play.now (map W.amount worths.now) (placed_of_row place) }
 {
     if place.actions == 2 {
         return floor_by_units(sum_of_two(place, play, worths));
@@ -356,14 +354,14 @@ fn value_of_set<W: Worth>(place: Placement, play: &Play, worths: &[W]) -> i128
     floor_by_units(sum)
 }
 
-fn sum_of_two<W: Worth>(place: Placement, play: &Play, worths: &[W]) -> i128
+fn sum_of_two<W: Worth>(place: SetPlace, play: &Play, worths: &[W]) -> i128
     requires from_one { 1 ≤ place.first }
     requires two { place.actions ≡ 2 }
     requires inside { place.first + 2 ≤ length worths.now }
     requires as_play { length play.now ≡ length worths.now }
     requires limit { length worths.now ≤ most_sequences }
-    requires products { weighed_sizes play.now (map W.amount worths.now) (placed_as place) < past_product }
-    ensures { result ≡ weighed_sum play.now (map W.amount worths.now) (placed_as place) }
+    requires products { weighed_sizes play.now (map W.amount worths.now) (placed_of_row place) < past_product }
+    ensures { result ≡ weighed_sum play.now (map W.amount worths.now) (placed_of_row place) }
 {
     let first = place.first;
     let a = product(play.of(first), worth_at(worths, first as usize));
@@ -372,7 +370,7 @@ fn sum_of_two<W: Worth>(place: Placement, play: &Play, worths: &[W]) -> i128
 }
 
 // Adds to each regret of a set what its sequence is worth more than the set.
-fn add_regrets<W: Worth, R: Worth>(place: Placement, worths: &[W], value: i128, regrets: &mut [R])
+fn add_regrets<W: Worth, R: Worth>(place: SetPlace, worths: &[W], value: i128, regrets: &mut [R])
     requires inside { place.first + place.actions ≤ length worths.now }
     requires as_many { length regrets.old ≡ length worths.now }
     requires growth { (s : ℕ) → place.first ≤ s → s < place.first + place.actions

@@ -4,16 +4,14 @@ ghost use Rattle.def_sums.specs.Limits.{most_row, past_product};
 ghost use Rattle.def_plan.specs.Form.{player_sets, sequence_count};
 ghost use Rattle.def_round.specs.Play.{GivesAllUnits, play_of, positive_part, regret_of, regret_sum, set_play, units};
 ghost use Rattle.def_tree.specs.Rules.{most_actions};
-ghost use Rattle.xg_closer.specs.Places.{placed_as};
 ghost use Rattle.xg_closer.specs.Playing.{PlaysSet};
-ghost use Rattle.xg_seq.specs.Table.{most_sequences};
+ghost use Rattle.xg_seq.specs.Table.{most_sequences, placed_of_row};
 
-use crate::places::{Placement, placement_of, sets_are_kept};
 use crate::regrets::Regrets;
 use crate::worths::{Worth, worth_at};
 use def_tree::Player;
 use xg_plan::Play;
-use xg_seq::SeqForm;
+use xg_seq::{SeqForm, SetPlace};
 
 const UNITS: u32 = 65_536;
 
@@ -45,23 +43,23 @@ fn play_sets<R: Worth>(form: &SeqForm, player: Player, regrets: &[R], play: &mut
     ensures all_units { GivesAllUnits play.new (player_sets form.now player) }
     ensures count { length play.new ≡ length play.old }
 {
-    sets_are_kept(form, player);
+    form.facts();
     play.gives_none_to_empty();
     for set in 0..form.set_count(player) {
-        let place = placement_of(form, player, set + 1);
+        let place = form.place_of(player, set + 1);
         play_set(place, regrets, play);
     }
 }
 
-fn play_set<R: Worth>(place: Placement, regrets: &[R], play: &mut Play)
+fn play_set<R: Worth>(place: SetPlace, regrets: &[R], play: &mut Play)
     requires from_one { 1 ≤ place.first }
     requires some { 1 ≤ place.actions }
     requires few { place.actions ≤ most_actions }
     requires inside { place.first + place.actions ≤ length regrets.now }
     requires as_many { length play.old ≡ length regrets.now }
     requires limit { length regrets.now ≤ most_sequences }
-    requires small { units * regret_sum (map R.amount regrets.now) (placed_as place) < past_product }
-    ensures { PlaysSet (placed_as place) (set_play (map R.amount regrets.now) (placed_as place)) play.old play.new }
+    requires small { units * regret_sum (map R.amount regrets.now) (placed_of_row place) < past_product }
+    ensures { PlaysSet (placed_of_row place) (set_play (map R.amount regrets.now) (placed_of_row place)) play.old play.new }
 {
     if place.actions == 2 {
         play_two(place, regrets, play);
@@ -79,11 +77,11 @@ fn play_set<R: Worth>(place: Placement, regrets: &[R], play: &mut Play)
     }
 }
 
-fn sum_of_parts<R: Worth>(place: Placement, regrets: &[R]) -> u128
+fn sum_of_parts<R: Worth>(place: SetPlace, regrets: &[R]) -> u128
     requires inside { place.first + place.actions ≤ length regrets.now }
     requires limit { length regrets.now ≤ most_sequences }
-    requires small { units * regret_sum (map R.amount regrets.now) (placed_as place) < past_product }
-    ensures { result ≡ regret_sum (map R.amount regrets.now) (placed_as place) }
+    requires small { units * regret_sum (map R.amount regrets.now) (placed_of_row place) < past_product }
+    ensures { result ≡ regret_sum (map R.amount regrets.now) (placed_of_row place) }
 {
     let mut sum = 0u128;
     for i in 0..place.actions {
@@ -101,15 +99,15 @@ fn part_of<R: Worth>(regrets: &[R], sequence: u32) -> u128
 }
 
 // Plays a set where some regret is positive.
-fn play_by_parts<R: Worth>(place: Placement, regrets: &[R], sum: u128, play: &mut Play)
+fn play_by_parts<R: Worth>(place: SetPlace, regrets: &[R], sum: u128, play: &mut Play)
     requires from_one { 1 ≤ place.first }
     requires inside { place.first + place.actions ≤ length regrets.now }
     requires as_many { length play.old ≡ length regrets.now }
     requires limit { length regrets.now ≤ most_sequences }
     requires small { units * sum < past_product }
-    requires whole { sum ≡ regret_sum (map R.amount regrets.now) (placed_as place) }
+    requires whole { sum ≡ regret_sum (map R.amount regrets.now) (placed_of_row place) }
     requires some { 1 ≤ sum }
-    ensures { PlaysSet (placed_as place) (set_play (map R.amount regrets.now) (placed_as place)) play.old play.new }
+    ensures { PlaysSet (placed_of_row place) (set_play (map R.amount regrets.now) (placed_of_row place)) play.old play.new }
 {
     let mut sum_so_far = 0u128;
     let mut given = 0u32;
@@ -166,15 +164,15 @@ fn units_of_large(part: u128, sum: u128) -> u32
 
 // Plays a set where no regret is positive.
 #[inline(never)]
-fn play_evenly<R: Worth>(place: Placement, regrets: &[R], play: &mut Play)
+fn play_evenly<R: Worth>(place: SetPlace, regrets: &[R], play: &mut Play)
     requires from_one { 1 ≤ place.first }
     requires some { 1 ≤ place.actions }
     requires few { place.actions ≤ most_actions }
     requires inside { place.first + place.actions ≤ length regrets.now }
     requires as_many { length play.old ≡ length regrets.now }
     requires limit { length regrets.now ≤ most_sequences }
-    requires none { regret_sum (map R.amount regrets.now) (placed_as place) ≡ 0 }
-    ensures { PlaysSet (placed_as place) (set_play (map R.amount regrets.now) (placed_as place)) play.old play.new }
+    requires none { regret_sum (map R.amount regrets.now) (placed_of_row place) ≡ 0 }
+    ensures { PlaysSet (placed_of_row place) (set_play (map R.amount regrets.now) (placed_of_row place)) play.old play.new }
 {
     let mut given = 0u32;
     for i in 0..place.actions {
@@ -184,14 +182,14 @@ fn play_evenly<R: Worth>(place: Placement, regrets: &[R], play: &mut Play)
     }
 }
 
-fn play_two<R: Worth>(place: Placement, regrets: &[R], play: &mut Play)
+fn play_two<R: Worth>(place: SetPlace, regrets: &[R], play: &mut Play)
     requires from_one { 1 ≤ place.first }
     requires two { place.actions ≡ 2 }
     requires inside { place.first + 2 ≤ length regrets.now }
     requires as_many { length play.old ≡ length regrets.now }
     requires limit { length regrets.now ≤ most_sequences }
-    requires small { units * regret_sum (map R.amount regrets.now) (placed_as place) < past_product }
-    ensures { PlaysSet (placed_as place) (set_play (map R.amount regrets.now) (placed_as place)) play.old play.new }
+    requires small { units * regret_sum (map R.amount regrets.now) (placed_of_row place) < past_product }
+    ensures { PlaysSet (placed_of_row place) (set_play (map R.amount regrets.now) (placed_of_row place)) play.old play.new }
 {
     let a = part_of(regrets, place.first);
     let b = part_of(regrets, place.first + 1);

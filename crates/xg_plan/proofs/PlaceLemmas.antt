@@ -2,7 +2,7 @@
 use Rattle.std.proofs.Common.{◌≡◌, ℕ, zero, suc, ◌+◌, ◌-◌, ◌<◌, ◌≤◌, List, [], ◌∷◌, length, get_or, take, drop, map, ap, sym, ◌∙◌, arith, Some, slice_get, slice_index}
 use Rattle.std.specs.List.{range_with_len}
 use Rattle.std.proofs.Math.Seq.{take-append_seam}
-use Rattle.std.proofs.lemmas.List.{get_or-map, take_more}
+use Rattle.std.proofs.lemmas.List.{take_more}
 use Rattle.std.proofs.lemmas.List.FromFn.{length-map-range_with_len}
 use Rattle.std.proofs.lemmas.Option.{get_or_from_slice_get}
 use Rattle.def_sums.proofs.SumLaws.{nat_sum_over-append}
@@ -28,11 +28,6 @@ few_before [] (suc i) (suc j) h = omega arith
 few_before [] (suc i) zero h = omega arith
 few_before (g ∷ gs) (suc i) zero h = absurd (omega arith)
 few_before (g ∷ gs) (suc i) (suc j) h = omega (arith, few_before gs i j (omega arith))
-
-pub few_of_all : (hs : List InformationSet) (i : ℕ) → total_actions (take i hs) ≤ total_actions hs
-few_of_all hs zero = omega arith
-few_of_all [] (suc i) = omega arith
-few_of_all (g ∷ gs) (suc i) = omega (arith, few_of_all gs i)
 
 -- set k in its place
 pub record SetAt (sets : List InformationSet) (k : ℕ) (h : PlacedSet) : Type 0 where
@@ -63,28 +58,16 @@ pub record IsPlacedAs (sets : List InformationSet) (k first actions before : ℕ
   pub some : 1 ≤ actions
   pub earlier : before < first
 
--- where sets are in order, the first sequence, actions and sequence before that are read at set k are the set's
-pub is_placed_as : (sets : List InformationSet) (k first actions before : ℕ) → AreInOrder sets → k < length sets
-    → slice_get (map (λ (h : PlacedSet). h.first) (placed sets)) k ≡ Some first
-    → slice_get (map (λ (h : InformationSet). h.actions) sets) k ≡ Some actions
-    → slice_get (map (λ (h : InformationSet). h.before) sets) k ≡ Some before → IsPlacedAs sets k first actions before
-is_placed_as sets k first actions before order below read_first read_actions read_before =
-    let there : k < length (placed sets) = omega (arith, length-placed 1 sets) in
-    let at = set_at sets k no_place order below in
-    let placed_is = at-placed 1 sets k no_place no_information_set below in
-    let first_is : (get_or (placed sets) k no_place).first ≡ first =
-    sym (get_or-map (λ (h : PlacedSet). h.first) (placed sets) k no_place 0 there) ∙ get_or_from_slice_get (map (λ (h : PlacedSet). h.first) (placed sets)) k first 0 read_first in
-    let actions_is : (get_or sets k no_information_set).actions ≡ actions =
-    sym (get_or-map (λ (h : InformationSet). h.actions) sets k no_information_set 0 below) ∙ get_or_from_slice_get (map (λ (h : InformationSet). h.actions) sets) k actions 0 read_actions in
-    let before_is : (get_or sets k no_information_set).before ≡ before =
-    sym (get_or-map (λ (h : InformationSet). h.before) sets k no_information_set 0 below) ∙ get_or_from_slice_get (map (λ (h : InformationSet). h.before) sets) k before 0 read_before in
-    let start : first_of sets k ≡ first = sym at.first ∙ first_is in
-    record {
-      is = λ d. at-placed 1 sets k d no_information_set below ∙ (λ i. record { first = start i; before = before_is i; actions = actions_is i });
-      inside = omega (arith, at.next, first_is, ap (λ (h : PlacedSet). h.actions) placed_is, actions_is, few_of_all sets (k + 1));
-      some = omega (arith, at.some, ap (λ (h : PlacedSet). h.actions) placed_is, actions_is);
-      earlier = omega (arith, at.earlier, first_is, ap (λ (h : PlacedSet). h.before) placed_is, before_is);
-    }
+-- the place that a form tells of set k
+pub is_placed_as : (sets : List InformationSet) (k first actions before : ℕ)
+    → slice_get (placed sets) k ≡ Some (record { first = first; before = before; actions = actions })
+    → first + actions ≤ sequence_count sets → 1 ≤ actions → before < first → IsPlacedAs sets k first actions before
+is_placed_as sets k first actions before place inside some earlier = record {
+  is = λ d. get_or_from_slice_get (placed sets) k (record { first = first; before = before; actions = actions }) d place;
+  inside = inside;
+  some = some;
+  earlier = earlier;
+}
 
 -- a part of a list, read number by number
 pub part_is : (xs : List ℕ) (first n : ℕ) → first + n ≤ length xs

@@ -1,7 +1,7 @@
 //! The test of numbers: whether they are a plan.
 ghost use Rattle.std.specs.Prelude.{◌≡◌, ℕ, ◌+◌, ◌-◌, ◌^◌, ◌<◌, ◌≤◌, ◌↔◌};
 ghost use Rattle.std.specs.Prelude.{IfSome, IsNone, IsTrue, length, slice_index_or};
-ghost use Rattle.def_plan.specs.Form.{AreInOrder, PlacedSet, placed, player_sets, sequence_count};
+ghost use Rattle.def_plan.specs.Form.{PlacedSet, placed, player_sets, sequence_count};
 ghost use Rattle.def_plan.specs.Plan.{AddsUp, IsBadSet, IsPlan, bad_set};
 ghost use Rattle.def_round.specs.Shares.{weight_sum};
 
@@ -35,16 +35,16 @@ pub fn bad_set(form: &SeqForm, player: Player, root: u64, weights: &[u64]) -> Op
 
 // Whether the numbers of a set's sequences add up to that of the sequence before it.
 fn adds_up(form: &SeqForm, player: Player, set: u32, weights: &[u64]) -> bool
-    requires order { AreInOrder (player_sets form.now player) }
     requires from_one { 1 ≤ set }
     requires there { set ≤ length (player_sets form.now player) }
     requires as_many { length weights.now ≡ sequence_count (player_sets form.now player) }
     ensures { (d : PlacedSet) → IsTrue result
         ↔ AddsUp weights.now (slice_index_or (placed (player_sets form.now player)) (set - 1) d) }
 {
-    let first = form.first_sequence(player, set) as usize;
-    let end = first + form.actions_of(player, set) as usize;
-    let before = weights[form.parent_of(player, set) as usize];
+    let h = form.place_of(player, set);
+    let first = h.first as usize;
+    let end = first + h.actions as usize;
+    let before = weights[h.before as usize];
     total(&weights[first..end]) == before as u128
 }
 

@@ -1,7 +1,7 @@
 //! The plan of a play.
 ghost use Rattle.std.specs.Prelude.{◌≡◌, ℕ, ◌*◌, ◌-◌, ◌/◌, ◌<◌, ◌≤◌, length, map, slice_index, slice_index_or};
 ghost use Rattle.def_sums.specs.Limits.{most_scale, past_dealt};
-ghost use Rattle.def_plan.specs.Form.{AreInOrder, PlacedSet, placed, player_sets, sequence_count, sequences_of};
+ghost use Rattle.def_plan.specs.Form.{PlacedSet, placed, player_sets, sequence_count, sequences_of};
 ghost use Rattle.def_plan.specs.Plan.{IsPlan};
 ghost use Rattle.def_round.specs.Shares.{shares, weight_sum};
 ghost use Rattle.def_round.specs.Play as play;
@@ -37,7 +37,7 @@ fn deal_sets(form: &SeqForm, player: Player, units: &[u32], weights: &mut [u64])
     ensures plan { weights.new ≡ plan_of_play (player_sets form.now player) units.now (slice_index weights.old 0) }
     ensures is_plan { IsPlan (player_sets form.now player) (slice_index weights.old 0) weights.new }
 {
-    let _in_order = form.sequence_count(player);
+    form.facts();
     for k in 0..form.set_count(player) {
         deal_set(form, player, k + 1, units, weights);
     }
@@ -45,7 +45,6 @@ fn deal_sets(form: &SeqForm, player: Player, units: &[u32], weights: &mut [u64])
 
 // Deals the number of the sequence before a set.
 fn deal_set(form: &SeqForm, player: Player, set: u32, units: &[u32], weights: &mut [u64])
-    requires order { AreInOrder (player_sets form.now player) }
     requires from_one { 1 ≤ set }
     requires there { set ≤ length (player_sets form.now player) }
     requires as_many { length weights.old ≡ sequence_count (player_sets form.now player) }
@@ -62,9 +61,10 @@ fn deal_set(form: &SeqForm, player: Player, set: u32, units: &[u32], weights: &m
         map (λ s. slice_index weights.new s) (sequences_of h)
         ≡ play_rule units.now h (slice_index weights.old h.before) }
 {
-    let first = form.first_sequence(player, set) as usize;
-    let end = first + form.actions_of(player, set) as usize;
-    let n = weights[form.parent_of(player, set) as usize];
+    let h = form.place_of(player, set);
+    let first = h.first as usize;
+    let end = first + h.actions as usize;
+    let n = weights[h.before as usize];
     deal_by_play(n, &units[first..end], &mut weights[first..end]);
 }
 

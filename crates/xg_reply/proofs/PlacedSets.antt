@@ -1,7 +1,7 @@
 -- What a form tells of a set, for the set in its place.
-use Rattle.std.proofs.Common.{◌≡◌, ℕ, ◌+◌, ◌-◌, ◌<◌, ◌≤◌, List, [], ◌∷◌, length, get_or, take, drop, map}
+use Rattle.std.proofs.Common.{◌≡◌, ℕ, ◌+◌, ◌-◌, ◌<◌, ◌≤◌, List, [], ◌∷◌, length, get_or, take, drop}
 use Rattle.std.proofs.Common.{Some, slice_get, ap, sym, ◌∙◌, arith, take-append-drop}
-use Rattle.std.proofs.lemmas.List.{get_or-map, take_more}
+use Rattle.std.proofs.lemmas.List.{take_more}
 use Rattle.std.proofs.lemmas.List.Elements.{All-get_or}
 use Rattle.std.proofs.lemmas.Option.{get_or_from_slice_get}
 use Rattle.def_sums.proofs.SumLaws.{nat_sum_over-append}
@@ -9,11 +9,6 @@ use Rattle.def_plan.specs.Form.{AreInOrder, InformationSet, IsInOrder, PlacedSet
 use Rattle.def_plan.proofs.BadSets.{length-placed}
 use Rattle.def_plan.proofs.Places.{total_actions, numbered}
 use Rattle.xg_reply.specs.Replies.{placed_set}
-
--- what is read of a list of facts is the fact of the element
-there_is : {A : Type 0} (f : A → ℕ) (xs : List A) (i n : ℕ) (d : A) → i < length xs → slice_get (map f xs) i ≡ Some n
-    → n ≡ f (get_or xs i d)
-there_is f xs i n d low read = sym (get_or_from_slice_get (map f xs) i n 0 read) ∙ get_or-map f xs i d 0 low
 
 module _ (sets : List InformationSet) (set : ℕ) (from_one : 1 ≤ set) (there : set ≤ length sets) where
   abbrev none : PlacedSet
@@ -35,23 +30,9 @@ module _ (sets : List InformationSet) (set : ℕ) (from_one : 1 ≤ set) (there 
   is_numbered : h ≡ record { first = 1 + total_actions (take (set - 1) sets); before = g.before; actions = g.actions }
   is_numbered = numbered.each_set sets (set - 1) none (record { before = 0; actions = 0 }) low
 
-  -- what the form tells of the first sequence, the actions and the sequence before
-  pub first_there : (n : ℕ) → slice_get (map (λ (p : PlacedSet). p.first) (placed sets)) (set - 1) ≡ Some n
-      → n ≡ h.first
-  first_there n read = there_is (λ (p : PlacedSet). p.first) (placed sets) (set - 1) n none placed_low read
-
-  -- the number of actions that is read for the set is that of the set in its place
-  pub actions_there : (n : ℕ) → slice_get (map (λ (s : InformationSet). s.actions) sets) (set - 1) ≡ Some n
-      → n ≡ h.actions
-  actions_there n read =
-      there_is (λ (s : InformationSet). s.actions) sets (set - 1) n (record { before = 0; actions = 0 }) low read
-      ∙ sym (ap (λ (p : PlacedSet). p.actions) is_numbered)
-
-  -- the sequence before that is read for the set is that of the set in its place
-  pub before_there : (n : ℕ) → slice_get (map (λ (s : InformationSet). s.before) sets) (set - 1) ≡ Some n → n ≡ h.before
-  before_there n read =
-      there_is (λ (s : InformationSet). s.before) sets (set - 1) n (record { before = 0; actions = 0 }) low read
-      ∙ sym (ap (λ (p : PlacedSet). p.before) is_numbered)
+  -- the place that a form tells is the set's
+  pub place_is : (p : PlacedSet) → slice_get (placed sets) (set - 1) ≡ Some p → p ≡ h
+  place_is p is = sym (get_or_from_slice_get (placed sets) (set - 1) p none is)
 
   -- a set's sequences are among all sequences
   pub sequences_there : h.first + h.actions ≤ sequence_count sets

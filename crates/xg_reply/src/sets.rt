@@ -2,7 +2,7 @@
 ghost use Rattle.std.specs.Prelude.{◌≡◌, ◌≢◌, ℕ, ◌+◌, ◌-◌, ◌^◌, ◌<◌, ◌≤◌, ◌+ℤ◌, ◌↔◌};
 ghost use Rattle.std.specs.Prelude.{All, IsTrue, length, slice_set, unsigned_abs};
 ghost use Rattle.std.specs.List.{range_with_len};
-ghost use Rattle.def_plan.specs.Form.{AreInOrder, IsInOrder, player_sets, sequence_count};
+ghost use Rattle.def_plan.specs.Form.{AreInOrder, player_sets, sequence_count};
 ghost use Rattle.def_plan.specs.Payoff.{IsNoBetter};
 ghost use Rattle.xg_reply.specs.Replies.{placed_set, reply_by};
 ghost use Rattle.xg_seq.specs.Table.{most_sequences};
@@ -11,32 +11,6 @@ ghost use Rattle.def_plan.specs.FormRows.{amount_of};
 use def_tree::Player;
 use xg_plan::Reply;
 use xg_seq::SeqForm;
-
-// A set in its place: the first sequence that ends at it, the sequence before it, and how many actions it has.
-#[derive(Clone, Copy)]
-struct SetPlace {
-    first: u32,
-    before: u32,
-    actions: u32,
-}
-
-fn place_of(form: &SeqForm, player: Player, set: u32) -> SetPlace
-    requires from_one { 1 ≤ set }
-    requires there { set ≤ length (player_sets form.now player) }
-    requires order { AreInOrder (player_sets form.now player) }
-    ensures first { result.first ≡ (placed_set (player_sets form.now player) set).first }
-    ensures before { result.before ≡ (placed_set (player_sets form.now player) set).before }
-    ensures actions { result.actions ≡ (placed_set (player_sets form.now player) set).actions }
-    ensures in_order { IsInOrder (placed_set (player_sets form.now player) set) }
-    ensures within { let h = placed_set (player_sets form.now player) set in
-        h.first + h.actions ≤ sequence_count (player_sets form.now player) }
-{
-    SetPlace {
-        first: form.first_sequence(player, set),
-        before: form.parent_of(player, set),
-        actions: form.actions_of(player, set),
-    }
-}
 
 // Puts the reply at a set, and adds its value to the worth of the sequence before it.
 pub(crate) fn put_reply(form: &SeqForm, player: Player, set: u32, into: &mut Reply)
@@ -55,7 +29,7 @@ pub(crate) fn put_reply(form: &SeqForm, player: Player, set: u32, into: &mut Rep
         into.new.worths ≡ slice_set into.old.worths h.before
         (amount_of into.old.worths h.before +ℤ (reply_by player (amount_of into.old.worths) h).value) }
 {
-    let h = place_of(form, player, set);
+    let h = form.place_of(player, set);
     let best = best_sequence(player, h.first, h.actions, into);
     put_choice(set, best - h.first + 1, best, into);
     add_worth(best, h.before, into);

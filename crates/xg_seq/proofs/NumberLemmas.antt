@@ -4,16 +4,16 @@ use Rattle.std.proofs.lemmas.Bool.{cases_lt}
 use Rattle.std.proofs.lemmas.List.{get_or-append_right, get_or-replicate, get_or_append_left, length-replicate, replicate-append-replicate, take_more}
 use Rattle.def_plan.specs.Form.{InformationSet, PlacedSet, placed_from, sequence_count}
 use Rattle.def_plan.proofs.Places.{total_actions}
-use Rattle.xg_seq.specs.declared.table.SetRow.{SetRow}
+use Rattle.xg_seq.specs.declared.table.SetPlace.{SetPlace}
 use Rattle.xg_seq.specs.Table.{EndsAt, KeepsSets, set_numbers_from, set_of_row}
 
-length-set_numbers_from : (k : ℕ) (rows : List SetRow)
+length-set_numbers_from : (k : ℕ) (rows : List SetPlace)
     → length (set_numbers_from k rows) ≡ total_actions (map set_of_row rows)
 length-set_numbers_from k [] = refl
 length-set_numbers_from k (row ∷ rows) = omega (arith, length-append (replicate row.actions k) (set_numbers_from (k + 1) rows), length-replicate row.actions k, length-set_numbers_from (k + 1) rows)
 
 -- a number is kept for each sequence but the empty one
-pub numbers_for_all : (rows : List SetRow) (numbers : List ℕ) → KeepsSets rows numbers
+pub numbers_for_all : (rows : List SetPlace) (numbers : List ℕ) → KeepsSets rows numbers
     → length numbers + 1 ≡ sequence_count (map set_of_row rows)
 numbers_for_all rows numbers keeps = omega (arith, ap length keeps.numbers, length-set_numbers_from 1 rows)
 
@@ -27,7 +27,7 @@ record EndsAmong (k first : ℕ) (sets : List InformationSet) (s number : ℕ) :
   end : (d : PlacedSet)
       → first + s < (get_or (placed_from first sets) place d).first + (get_or (placed_from first sets) place d).actions
 
-ends_among : (k first : ℕ) (rows : List SetRow) (s : ℕ) → s < length (set_numbers_from k rows)
+ends_among : (k first : ℕ) (rows : List SetPlace) (s : ℕ) → s < length (set_numbers_from k rows)
     → EndsAmong k first (map set_of_row rows) s (get_or (set_numbers_from k rows) s 0)
 ends_among k first [] s there = absurd (omega arith)
 ends_among k first (row ∷ rows) s there =
@@ -51,7 +51,7 @@ ends_among k first (row ∷ rows) s there =
     ]
 
 -- a sequence ends at the set of its number
-pub ends_at : (rows : List SetRow) (numbers : List ℕ) → KeepsSets rows numbers → (sequence number : ℕ) → 1 ≤ sequence
+pub ends_at : (rows : List SetPlace) (numbers : List ℕ) → KeepsSets rows numbers → (sequence number : ℕ) → 1 ≤ sequence
     → sequence < sequence_count (map set_of_row rows) → number ≡ get_or numbers (sequence - 1) 0
     → EndsAt (map set_of_row rows) sequence number
 ends_at rows numbers keeps sequence number some there read =
@@ -65,7 +65,7 @@ ends_at rows numbers keeps sequence number some there read =
       end = λ d. subst (λ n. sequence < (get_or (placed_from 1 (map set_of_row rows)) n d).first + (get_or (placed_from 1 (map set_of_row rows)) n d).actions) (sym place) (omega (arith, found.end d));
     }
 
-numbers-append : (k : ℕ) (rows : List SetRow) (row : SetRow)
+numbers-append : (k : ℕ) (rows : List SetPlace) (row : SetPlace)
     → set_numbers_from k (rows ++ row ∷ []) ≡ set_numbers_from k rows ++ replicate row.actions (k + length rows)
 numbers-append k [] row =
     let here : k ≡ k + 0 = omega arith in append-nil (replicate row.actions k) ∙ ap (replicate row.actions) here
@@ -75,7 +75,7 @@ numbers-append k (r ∷ rows) row =
     ∙ sym (append_assoc (replicate r.actions k) (set_numbers_from (k + 1) rows) (replicate row.actions (k + suc (length rows))))
 
 -- the numbers of the first i rows' sequences, and of one more row's
-pub numbers_more : (rows : List SetRow) (i : ℕ) (d : SetRow) → i < length rows
+pub numbers_more : (rows : List SetPlace) (i : ℕ) (d : SetPlace) → i < length rows
     → set_numbers_from 1 (take (i + 1) rows)
     ≡ set_numbers_from 1 (take i rows) ++ replicate (get_or rows i d).actions (i + 1)
 numbers_more rows i d there =

@@ -1,13 +1,13 @@
 -- Rows that are placed in turn: what they tell of each set, and how one more is placed.
-use Rattle.std.proofs.Common.{◌≡◌, ℕ, ◌+◌, ◌-◌, ◌<◌, ◌≤◌, List, [], ◌∷◌, ◌++◌, All, length, get_or, take, drop, map, refl, ap, sym, subst, ◌∙◌, arith, Some, slice_get, take-append-drop}
+use Rattle.std.proofs.Common.{◌≡◌, ℕ, zero, suc, ◌+◌, ◌-◌, ◌<◌, ◌≤◌, List, [], ◌∷◌, ◌++◌, All, length, get_or, take, drop, map, refl, ap, sym, subst, ◌∙◌, arith, Some, slice_get, take-append-drop}
 use Rattle.std.specs.Option.{option_map}
 use Rattle.std.proofs.lemmas.List.{get_or-map, length-map, map-append, take_more}
 use Rattle.std.proofs.lemmas.List.Elements.{All-head, All-tail}
-use Rattle.std.proofs.lemmas.Option.{get_or_from_slice_get, slice_get-map}
+use Rattle.std.proofs.lemmas.Option.{get_or_from_slice_get, slice_get-map, slice_get_read, slice_get_within}
 use Rattle.def_sums.proofs.SumLaws.{nat_sum_over-append}
 use Rattle.def_plan.specs.Form.{AreInOrder, InformationSet, IsInOrder, PlacedSet, placed, placed_from, sequence_count}
 use Rattle.def_plan.proofs.Places.{total_actions}
-use Rattle.xg_seq.specs.declared.table.SetRow.{SetRow}
+use Rattle.xg_seq.specs.declared.table.SetPlace.{SetPlace}
 use Rattle.xg_seq.specs.Table.{HaveFewActions, KeepsSets, most_sequences, set_numbers_from, placed_of_row, set_of_row}
 
 abbrev without_place : PlacedSet → InformationSet
@@ -17,17 +17,17 @@ placed-without : (first : ℕ) (sets : List InformationSet) → map without_plac
 placed-without first [] = refl
 placed-without first (h ∷ hs) = ap (λ gs. h ∷ gs) (placed-without (first + h.actions) hs)
 
-rows-without : (rows : List SetRow) → map without_place (map placed_of_row rows) ≡ map set_of_row rows
+rows-without : (rows : List SetPlace) → map without_place (map placed_of_row rows) ≡ map set_of_row rows
 rows-without [] = refl
 rows-without (row ∷ rows) = ap (λ gs. set_of_row row ∷ gs) (rows-without rows)
 
 -- rows that are placed as some sets are have these sets
-pub sets_of_rows : (rows : List SetRow) (sets : List InformationSet) → map placed_of_row rows ≡ placed sets
+pub sets_of_rows : (rows : List SetPlace) (sets : List InformationSet) → map placed_of_row rows ≡ placed sets
     → map set_of_row rows ≡ sets
 sets_of_rows rows sets same = sym (rows-without rows) ∙ ap (map without_place) same ∙ placed-without 1 sets
 
 -- such rows, with the numbers of their sequences' sets, are kept
-pub keeps_sets : (rows : List SetRow) (numbers : List ℕ) (sets : List InformationSet)
+pub keeps_sets : (rows : List SetPlace) (numbers : List ℕ) (sets : List InformationSet)
     → map placed_of_row rows ≡ placed sets → numbers ≡ set_numbers_from 1 rows → AreInOrder sets
     → sequence_count sets ≤ most_sequences → HaveFewActions sets → KeepsSets rows numbers
 keeps_sets rows numbers sets same are order limit few =
@@ -49,6 +49,38 @@ placed-append first (g ∷ gs) h =
     let there : first + g.actions + total_actions gs ≡ first + (g.actions + total_actions gs) = omega arith in
     ap (λ hs. record { first = first; before = g.before; actions = g.actions } ∷ hs) (placed-append (first + g.actions) gs h ∙ ap (λ n. placed_from (first + g.actions) gs ++ record { first = n; before = h.before; actions = h.actions } ∷ []) there)
 
+inside_from : (first : ℕ) (sets : List InformationSet) (k : ℕ) (h : PlacedSet)
+    → slice_get (placed_from first sets) k ≡ Some h → h.first + h.actions ≤ first + total_actions sets
+inside_from first [] k h read = absurd (cc)
+inside_from first (g ∷ gs) zero h read =
+    let here : PlacedSet = record { first = first; before = g.before; actions = g.actions } in
+    let is : here ≡ h = cc in
+    omega (arith, ap (λ (x : PlacedSet). x.first) is, ap (λ (x : PlacedSet). x.actions) is)
+inside_from first (g ∷ gs) (suc k) h read = omega (arith, inside_from (first + g.actions) gs k h read)
+
+-- a set's sequences are sequences of its player
+pub placed_inside : (sets : List InformationSet) (k : ℕ) (h : PlacedSet) → slice_get (placed sets) k ≡ Some h
+    → h.first + h.actions ≤ sequence_count sets
+placed_inside sets k h read = inside_from 1 sets k h read
+
+-- and the set is in order where all are
+pub placed_in_order : (sets : List InformationSet) (k : ℕ) (h : PlacedSet) → AreInOrder sets
+    → slice_get (placed sets) k ≡ Some h → IsInOrder h
+placed_in_order sets k h order read =
+    subst IsInOrder (get_or_from_slice_get (placed sets) k h h read) (order k h (slice_get_within (placed sets) k h read))
+
+-- what a row tells of its set's sequences
+pub row_in_place : (rows : List SetPlace) (numbers : List ℕ) (k : ℕ) (row : SetPlace) → KeepsSets rows numbers
+    → k < length rows → row ≡ get_or rows k row
+    → (1 ≤ row.actions) × (row.before < row.first) × (row.first + row.actions ≤ sequence_count (map set_of_row rows))
+row_in_place rows numbers k row keeps low is =
+    let sets : List InformationSet = map set_of_row rows in
+    let read : slice_get (placed sets) k ≡ Some (placed_of_row row) =
+    ap (λ hs. slice_get hs k) (sym keeps.places) ∙ slice_get-map placed_of_row rows k
+    ∙ ap (option_map placed_of_row) (slice_get_read rows (length rows) k row refl low is) in
+    let order = placed_in_order sets k (placed_of_row row) keeps.order read in
+    (order.0, order.1, placed_inside sets k (placed_of_row row) read)
+
 -- sets in order are no more than their sequences
 pub sets_are_few : (first : ℕ) (sets : List InformationSet) → All IsInOrder (placed_from first sets)
     → length sets ≤ total_actions sets
@@ -59,12 +91,12 @@ sets_are_few first (h ∷ hs) order =
     omega (arith, (All-head IsInOrder here rest order).0, sets_are_few (first + h.actions) hs (All-tail IsInOrder here rest order))
 
 -- nor are their rows
-pub rows_are_few : (rows : List SetRow) (sets : List InformationSet) → map placed_of_row rows ≡ placed sets
+pub rows_are_few : (rows : List SetPlace) (sets : List InformationSet) → map placed_of_row rows ≡ placed sets
     → AreInOrder sets → length rows < sequence_count sets
 rows_are_few rows sets same order = omega (arith, length-map rows set_of_row, ap length (sets_of_rows rows sets same), sets_are_few 1 sets order)
 
 -- the rows of the first k sets, and the first sequence of the next one
-pub record StandFor (sets : List InformationSet) (k : ℕ) (rows : List SetRow) (first : ℕ) : Type 0 where
+pub record StandFor (sets : List InformationSet) (k : ℕ) (rows : List SetPlace) (first : ℕ) : Type 0 where
   pub places : map placed_of_row rows ≡ placed (take k sets)
   pub next : first ≡ sequence_count (take k sets)
 
@@ -88,7 +120,7 @@ module _ (sets : List InformationSet) (k a b : ℕ) (there : k < length sets)
       ∙ (let one : h.actions + 0 ≡ a = omega (arith, read (λ g. g.actions) a actions) in ap (λ n. total_actions (take k sets) + n) one)
 
   -- one more set
-  pub stand_for_more : (rows : List SetRow) (first : ℕ) → StandFor sets k rows first
+  pub stand_for_more : (rows : List SetPlace) (first : ℕ) → StandFor sets k rows first
       → StandFor sets (k + 1) (rows ++ record { first = first; before = b; actions = a } ∷ []) (first + a)
   stand_for_more rows first stand = record {
     places = map-append placed_of_row rows (record { first = first; before = b; actions = a } ∷ [])

@@ -1,2 +1,4 @@
 pub mod Table
 pub mod Leaves
+pub mod Threads
+pub mod Kept

@@ -2,7 +2,7 @@
 use Rattle.std.specs.Prelude.{◌≡◌, ℕ, ◌+◌, ◌-◌, ◌<◌, ◌≤◌, List, [], ◌∷◌, ◌++◌, length, map, replicate, slice_index_or, All}
 use Rattle.def_tree.specs.Rules.{most_actions, most_nodes}
 use Rattle.def_plan.specs.Form.{AreInOrder, InformationSet, PlacedSet, placed, sequence_count}
-use Rattle.xg_seq.specs.declared.table.SetRow.{SetRow}
+use Rattle.xg_seq.specs.declared.table.SetPlace.{SetPlace}
 
 -- a player has no more sequences than the tree has nodes
 abbrev pub most_sequences : ℕ
@@ -12,14 +12,14 @@ most_sequences = most_nodes
 abbrev pub HaveFewActions : List InformationSet → Type 0
 HaveFewActions sets = All (λ h. h.actions ≤ most_actions) sets
 
-abbrev pub set_of_row : SetRow → InformationSet
+abbrev pub set_of_row : SetPlace → InformationSet
 set_of_row row = record { before = row.before; actions = row.actions }
 
-abbrev pub placed_of_row : SetRow → PlacedSet
+abbrev pub placed_of_row : SetPlace → PlacedSet
 placed_of_row row = record { first = row.first; before = row.before; actions = row.actions }
 
 -- for each sequence that ends at these sets, in turn, the number of its set, where the first set has the number k
-abbrev pub set_numbers_from : ℕ → List SetRow → List ℕ
+abbrev pub set_numbers_from : ℕ → List SetPlace → List ℕ
 set_numbers_from k [] = []
 set_numbers_from k (row ∷ rows) = replicate row.actions k ++ set_numbers_from (k + 1) rows
 
@@ -32,7 +32,7 @@ pub record EndsAt (sets : List InformationSet) (sequence set : ℕ) : Type 0 whe
       → sequence < (slice_index_or (placed sets) (set - 1) d).first + (slice_index_or (placed sets) (set - 1) d).actions
 
 -- the rows are sets in order, each in its place, and these are the numbers of their sequences' sets
-pub record KeepsSets (rows : List SetRow) (set_numbers : List ℕ) : Type 0 where
+pub record KeepsSets (rows : List SetPlace) (set_numbers : List ℕ) : Type 0 where
   pub places : map placed_of_row rows ≡ placed (map set_of_row rows)
   pub numbers : set_numbers ≡ set_numbers_from 1 rows
   pub order : AreInOrder (map set_of_row rows)

@@ -1,26 +1,30 @@
 //! The sequence form of a game.
-ghost use Rattle.std.specs.Prelude.{◌≡◌, ◌-◌, ◌<◌, ◌≤◌, length, map, sum, unsigned_abs, All, IfOk, Some, slice_get};
-ghost use Rattle.def_plan.specs.Form.{AreInOrder, player_sets, sequence_count};
+ghost use Rattle.std.specs.Prelude.{◌≡◌, ◌+◌, ◌-◌, ◌<◌, ◌≤◌, length, map, sum, unsigned_abs, All, IfOk, Some, slice_get};
+ghost use Rattle.def_plan.specs.Form.{AreInOrder, placed, player_sets, sequence_count};
 ghost use Rattle.def_plan.specs.Payoff.{mass_of};
+ghost use Rattle.def_plan.specs.Threads.{first_leaf, next_leaf};
 ghost use Rattle.def_sequence_form.specs.Form.{form_of};
 ghost use Rattle.def_sequence_form.specs.Sets.{tree_sets};
 ghost use Rattle.def_sums.specs.Limits.{most_mass};
 ghost use Rattle.def_tree.specs.Rules.{most_nodes};
 ghost use Rattle.def_tree.specs.Tree.{leaf_count, prefix};
-ghost use Rattle.xg_seq.specs.Leaves.{HasSequences, form_action_counts, form_sequences_before, firsts_of, leaf_of};
-ghost use Rattle.xg_seq.specs.Table.{EndsAt, HaveFewActions, most_sequences};
+ghost use Rattle.def_tree.specs.declared.Player.{Player};
+ghost use Rattle.xg_seq.specs.Leaves.{HasSequences, KeepsLeaves, form_action_counts, form_sequences_before, form_with, firsts_of, leaf_of};
+ghost use Rattle.xg_seq.specs.Table.{EndsAt, HaveFewActions, most_sequences, placed_of_row};
+ghost use Rattle.xg_seq.specs.Threads.{KeepsThreads};
 
 use crate::leaf::Leaf;
 use crate::leaves::leaves_of;
 use crate::rows::table_of;
-use crate::table::SetTable;
+use crate::table::{SetPlace, SetTable};
+use crate::threads::{Threads, leaf_of_number, threads_of};
 use def_tree::Player;
 use std::alloc::{AllocError, Global};
 use std::marker::Model;
 use xg_sets::Sets;
 use xg_tree::Tree;
 
-/// The sequence form of a game: both players' sets and sequences, and the leaves.
+/// The sequence form of a game: both players' sets and sequences, and the leaves, also by each sequence.
 ///
 /// Sets are numbered from 1 within their player, and leaves from 1 in prefix order. Sequence 0 is the empty one.
 #[derive(Drop)]
@@ -28,17 +32,20 @@ pub struct SeqForm {
     one: SetTable,
     two: SetTable,
     leaves: Vec<Leaf>,
+    threads_one: Threads,
+    threads_two: Threads,
 }
 
 impl Model for SeqForm {
     ghost use Rattle.def_plan.specs.Form.{SequenceForm};
-    ghost use Rattle.xg_seq.specs.Leaves.{KeepsLeaves, form_with};
+    ghost use Rattle.xg_seq.specs.Leaves.{form_with};
+    ghost use Rattle.xg_seq.specs.Kept.{KeepsForm};
 
     ghost Value = { SequenceForm };
 
     ghost view = { λ f. form_with f.one f.two f.leaves.items };
 
-    ghost invariant = { λ f. KeepsLeaves (form_with f.one f.two f.leaves.items) };
+    ghost invariant = { λ f. KeepsForm (form_with f.one f.two f.leaves.items) f.threads_one f.threads_two };
 }
 
 impl SeqForm {
@@ -57,7 +64,28 @@ impl SeqForm {
         let leaves = leaves_of(alloc, tree, sets, weights)?;
         let one = table_of(alloc, sets, Player::One)?;
         let two = table_of(alloc, sets, Player::Two)?;
-        Ok(SeqForm { one, two, leaves })
+        SeqForm::with_threads(alloc, one, two, leaves)
+    }
+
+    // The form of these sets and leaves.
+    fn with_threads(
+        alloc: Global,
+        one: SetTable,
+        two: SetTable,
+        leaves: Vec<Leaf>,
+    ) -> Result<SeqForm, AllocError>
+        requires { KeepsLeaves (form_with one two leaves.items) }
+        ensures { IfOk result (λ form. form ≡ form_with one two leaves.items) }
+    {
+        let threads_one = threads_of(alloc, &leaves, Player::One, one.sequence_count())?;
+        let threads_two = threads_of(alloc, &leaves, Player::Two, two.sequence_count())?;
+        Ok(SeqForm {
+            one,
+            two,
+            leaves,
+            threads_one,
+            threads_two,
+        })
     }
 
     /// The number of the player's sets.
@@ -136,12 +164,67 @@ impl SeqForm {
         self.leaves[z as usize - 1]
     }
 
+    /// The first leaf that has the player's sequence.
+    pub fn first_leaf(&self, player: Player, sequence: u32) -> Option<u32>
+        requires there { sequence < sequence_count (player_sets self.now player) }
+        ensures { result ≡ first_leaf player sequence self.now.leaves }
+    {
+        leaf_of_number(self.threads(player).first[sequence as usize])
+    }
+
+    /// The next leaf after leaf `z` that has the same sequence of the player.
+    pub fn next_leaf(&self, player: Player, z: u32) -> Option<u32>
+        requires from_one { 1 ≤ z }
+        requires there { z ≤ length self.now.leaves }
+        ensures { result ≡ next_leaf player z self.now.leaves }
+    {
+        leaf_of_number(self.threads(player).next[z as usize - 1])
+    }
+
+    /// A set's place among its player's sequences.
+    pub fn place_of(&self, player: Player, set: u32) -> SetPlace
+        requires from_one { 1 ≤ set }
+        requires there { set ≤ length (player_sets self.now player) }
+        ensures place { slice_get (placed (player_sets self.now player)) (set - 1) ≡ Some (placed_of_row result) }
+        ensures some { 1 ≤ result.actions }
+        ensures earlier { result.before < result.first }
+        ensures inside { result.first + result.actions ≤ sequence_count (player_sets self.now player) }
+    {
+        self.table(player).row(set)
+    }
+
+    /// Does nothing: its clauses are what is true of every form.
+    pub fn facts(&self)
+        ensures order { (player : Player) → AreInOrder (player_sets self.now player) }
+        ensures limit { (player : Player) → sequence_count (player_sets self.now player) ≤ most_sequences }
+        ensures few_actions { (player : Player) → HaveFewActions (player_sets self.now player) }
+        ensures limit_one { sequence_count self.now.sets_one ≤ most_sequences }
+        ensures limit_two { sequence_count self.now.sets_two ≤ most_sequences }
+        ensures sequences { All (HasSequences self.now) self.now.leaves }
+        ensures mass { mass_of self.now.leaves ≤ most_mass }
+        ensures leaves { length self.now.leaves ≤ most_nodes }
+    {
+        let _one = self.sequence_count(Player::One);
+        let _two = self.sequence_count(Player::Two);
+        let _leaves = self.leaf_count();
+    }
+
     fn table(&self, player: Player) -> &SetTable
         ensures { result.now ≡ player_sets self.now player }
     {
         match player {
             Player::One => &self.one,
             Player::Two => &self.two,
+        }
+    }
+
+    fn threads(&self, player: Player) -> &Threads
+        ensures { KeepsThreads player (sequence_count (player_sets self.now player)) self.now.leaves
+            result.now.first.items result.now.next.items }
+    {
+        match player {
+            Player::One => &self.threads_one,
+            Player::Two => &self.threads_two,
         }
     }
 }

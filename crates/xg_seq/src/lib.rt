@@ -6,7 +6,9 @@ mod leaf;
 mod leaves;
 mod rows;
 mod table;
+mod threads;
 
 pub use def_tree::Player;
 pub use form::SeqForm;
 pub use leaf::Leaf;
+pub use table::SetPlace;

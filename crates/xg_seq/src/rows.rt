@@ -4,7 +4,7 @@ ghost use Rattle.def_plan.specs.Form.{AreInOrder, placed, sequence_count};
 ghost use Rattle.xg_sets.specs.OfPlayer.{of_player};
 ghost use Rattle.xg_seq.specs.Table.{HaveFewActions, most_sequences, set_numbers_from, placed_of_row};
 
-use crate::table::{SetRow, SetTable};
+use crate::table::{SetPlace, SetTable};
 use def_tree::Player;
 use std::alloc::{AllocError, Global};
 use xg_sets::Sets;
@@ -22,7 +22,7 @@ pub(crate) fn table_of(alloc: Global, sets: &Sets, player: Player) -> Result<Set
 }
 
 // The player's sets, each placed after the one before it.
-fn rows_of(alloc: Global, sets: &Sets, player: Player) -> Result<Vec<SetRow>, AllocError>
+fn rows_of(alloc: Global, sets: &Sets, player: Player) -> Result<Vec<SetPlace>, AllocError>
     requires { sequence_count (of_player player sets.now).sets ≤ most_sequences }
     ensures { IfOk result (λ rows. map placed_of_row rows.items ≡ placed (of_player player sets.now).sets) }
 {
@@ -30,7 +30,7 @@ fn rows_of(alloc: Global, sets: &Sets, player: Player) -> Result<Vec<SetRow>, Al
     let mut first = 1;
     for set in 0..sets.count(player) {
         let actions = sets.actions(player, set + 1);
-        rows.push(SetRow {
+        rows.push(SetPlace {
             first,
             before: sets.before(player, set + 1),
             actions,
@@ -41,7 +41,7 @@ fn rows_of(alloc: Global, sets: &Sets, player: Player) -> Result<Vec<SetRow>, Al
 }
 
 // For each sequence from 1 on the number of its set.
-fn set_numbers_of(alloc: Global, rows: &[SetRow]) -> Result<Vec<u32>, AllocError>
+fn set_numbers_of(alloc: Global, rows: &[SetPlace]) -> Result<Vec<u32>, AllocError>
     requires { length rows.now < 2 ^ 32 }
     ensures { IfOk result (λ numbers. numbers.items ≡ set_numbers_from 1 rows.now) }
 {

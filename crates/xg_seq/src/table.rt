@@ -1,22 +1,22 @@
 //! A player's sets in a flat table.
-ghost use Rattle.std.specs.Prelude.{◌≡◌, ◌-◌, ◌<◌, ◌≤◌, length, map, Some, slice_get};
+ghost use Rattle.std.specs.Prelude.{◌≡◌, ◌+◌, ◌-◌, ◌<◌, ◌≤◌, length, map, Some, slice_get};
 ghost use Rattle.def_plan.specs.Form.{AreInOrder, placed, sequence_count};
 ghost use Rattle.xg_seq.specs.Table.{EndsAt, HaveFewActions, KeepsSets, most_sequences, placed_of_row, set_of_row};
 
 use std::marker::Model;
 
-/// A set: the first sequence that ends at it, the sequence before it, and how many actions it has.
-#[derive(Clone, Copy)]
-pub(crate) struct SetRow {
-    pub(crate) first: u32,
-    pub(crate) before: u32,
-    pub(crate) actions: u32,
+/// A set in its place: the first sequence that ends at it, its player's sequence before it, and how many actions it has.
+#[derive(Clone, Copy, Debug, PartialEq, Eq)]
+pub struct SetPlace {
+    pub first: u32,
+    pub before: u32,
+    pub actions: u32,
 }
 
 /// A player's sets, and the set at which each of the player's sequences ends.
 #[derive(Drop)]
 pub(crate) struct SetTable {
-    rows: Vec<SetRow>,
+    rows: Vec<SetPlace>,
     // those of the sequences from 1 on
     set_numbers: Vec<u32>,
 }
@@ -36,7 +36,7 @@ impl Model for SetTable {
 
 impl SetTable {
     // The sets of these rows.
-    pub(crate) fn of(rows: Vec<SetRow>, set_numbers: Vec<u32>) -> SetTable
+    pub(crate) fn of(rows: Vec<SetPlace>, set_numbers: Vec<u32>) -> SetTable
         requires { KeepsSets rows.items set_numbers.items }
         ensures { result ≡ map set_of_row rows.items }
     {
@@ -60,10 +60,13 @@ impl SetTable {
         self.set_numbers.len() as u32 + 1
     }
 
-    pub(crate) fn row(&self, set: u32) -> SetRow
+    pub(crate) fn row(&self, set: u32) -> SetPlace
         requires from_one { 1 ≤ set }
         requires there { set ≤ length self.now }
-        ensures { slice_get (placed self.now) (set - 1) ≡ Some (placed_of_row result) }
+        ensures place { slice_get (placed self.now) (set - 1) ≡ Some (placed_of_row result) }
+        ensures some { 1 ≤ result.actions }
+        ensures earlier { result.before < result.first }
+        ensures inside { result.first + result.actions ≤ sequence_count self.now }
     {
         self.rows[set as usize - 1]
     }

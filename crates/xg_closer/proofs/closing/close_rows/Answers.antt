@@ -98,7 +98,7 @@ returns-in-Some-clause-small c =
     let is : new ≡ regrets_after (amount_of (map (λ (worth : ℤ). worth) first)) c.args.play.now sets small =
     sym (same_amounts new) ∙ c.close_sets.ensures.regrets ∙ ap (regrets_after (amount_of (map (λ (worth : ℤ). worth) first)) c.args.play.now sets) (same_amounts small) in
     some_if (λ (most : ℕ). (most ≤ 2 ^ 62) × ((s : ℕ) → unsigned_abs (regret_of new s) ≤ most)) c.most_after-more.result more c.in-Some.is
-    (after.small, λ s. omega (arith, after.sum, regrets_within c.args.player rows first sets after.grown c.requires.as_rows taken c.args.play.now small new after.before c.sets_are_kept.ensures.order c.requires.all_units within.1 is s))
+    (after.small, λ s. omega (arith, after.sum, regrets_within c.args.player rows first sets after.grown c.requires.as_rows taken c.args.play.now small new after.before (c.facts.ensures.order c.args.player) c.requires.all_units within.1 is s))
 
 pub returns-in-Some-clause-regrets : goal.returns-in-Some-clause-regrets
 returns-in-Some-clause-regrets c =

@@ -6,13 +6,13 @@ use Rattle.std.proofs.lemmas.Int.{to_z-of_z}
 use Rattle.def_plan.specs.Form.{PlacedSet}
 use Rattle.def_round.specs.Play.{regret_of}
 use Rattle.xg_closer.specs.Closing.{value_by}
-use Rattle.xg_closer.specs.Places.{placed_as}
+use Rattle.xg_seq.specs.Table.{placed_of_row}
 use Rattle.xg_closer.proofs.OneAction.{nothing_grows, only_value}
 use Rattle.xg_closer.proofs.closing.close_set.Goals as goal
 
 pub returns-then-place-eq1-clause-worth_before : goal.returns-then-place-eq1-clause-worth_before
 returns-then-place-eq1-clause-worth_before g c =
-    let h : PlacedSet = placed_as c.args.place in
+    let h : PlacedSet = placed_of_row c.args.place in
     let fits : FitsSigned w128 c.worth_at-worth.result = search rules in
     let worth_is : to_z w128 (of_z w128 c.worth_at-worth.result) ≡ value_by c.args.play.now (map g.W.Worth.amount c.args.worths.now) h =
     to_z-of_z w128 c.worth_at-worth.result fits ∙ c.worth_at-worth.ensures ∙ sym (only_value c.args.play.now (map g.W.Worth.amount c.args.worths.now) h (omega arith) c.requires.all_units) in
@@ -20,14 +20,14 @@ returns-then-place-eq1-clause-worth_before g c =
 
 pub returns-then-place-eq1-clause-of_set : goal.returns-then-place-eq1-clause-of_set
 returns-then-place-eq1-clause-of_set g c = λ s from to.
-    let h : PlacedSet = placed_as c.args.place in
+    let h : PlacedSet = placed_of_row c.args.place in
     let first : s ≡ h.first = omega arith in
     nothing_grows (regret_of (map g.R.Worth.amount c.args.regrets.now) s) (amount_of (map g.W.Worth.amount c.args.worths.now) s) (value_by c.args.play.now (map g.W.Worth.amount c.args.worths.now) h)
     (only_value c.args.play.now (map g.W.Worth.amount c.args.worths.now) h (omega arith) c.requires.all_units ∙ ap (amount_of (map g.W.Worth.amount c.args.worths.now)) (sym first))
 
 pub add_worth-requires-clause-fits : goal.add_worth-requires-clause-fits
 add_worth-requires-clause-fits g c =
-    let h : PlacedSet = placed_as c.args.place in
+    let h : PlacedSet = placed_of_row c.args.place in
     let fits : FitsSigned w128 c.worth_at-worth.result = search rules in
     let worth_is : to_z w128 (of_z w128 c.worth_at-worth.result) ≡ value_by c.args.play.now (map g.W.Worth.amount c.args.worths.now) h =
     to_z-of_z w128 c.worth_at-worth.result fits ∙ c.worth_at-worth.ensures ∙ sym (only_value c.args.play.now (map g.W.Worth.amount c.args.worths.now) h (omega arith) c.requires.all_units) in

@@ -4,7 +4,7 @@ use Rattle.std.proofs.lemmas.List.{ext_get_or, get_or_past, length-map, take_all
 use Rattle.def_plan.specs.Form.{InformationSet, PlacedSet, placed, player_sets, sequence_count}
 use Rattle.def_round.specs.Play.{regret_of}
 use Rattle.def_round.specs.Round.{regrets_after, set_value}
-use Rattle.xg_closer.specs.Places.{placed_as}
+use Rattle.xg_seq.specs.Table.{placed_of_row}
 use Rattle.xg_closer.proofs.WorthsSetBySet.{KeepsWorths, SetStep, first_worths, set_step}
 use Rattle.xg_closer.proofs.Sets.{IsAt, is_at, start_of, units_at}
 use Rattle.xg_closer.proofs.SetValues.{regrets_count}
@@ -21,7 +21,7 @@ loop-set-init g c =
       refl,
       λ s low. refl,
       λ s from. get_or_past (map g.R.Worth.amount c.args.regrets.now) s (pos 0) (omega (arith, last, length-map c.args.regrets.now g.R.Worth.amount, c.requires.as_regrets))
-          ∙ sym (get_or_past (regrets_after sums c.args.play.now sets (map g.R.Worth.amount c.args.regrets.now)) s (pos 0) (omega (arith, last, regrets_count sums c.args.play.now sets (map g.R.Worth.amount c.args.regrets.now) c.sets_are_kept.ensures.order))),
+          ∙ sym (get_or_past (regrets_after sums c.args.play.now sets (map g.R.Worth.amount c.args.regrets.now)) s (pos 0) (omega (arith, last, regrets_count sums c.args.play.now sets (map g.R.Worth.amount c.args.regrets.now) (c.facts.ensures.order c.args.player)))),
     )
 
 pub close_set-requires-clause-from_one : goal.close_set-requires-clause-from_one
@@ -31,9 +31,9 @@ close_set-requires-clause-from_one g c =
     let m : ℕ = c.loop-set.set - 1 in
     let same : m + 1 - 1 ≡ m = omega arith in
     let set_is : c.loop-set.set ≡ m + 1 = omega arith in
-    let h : PlacedSet = placed_as c.placement_of-place.result in
+    let h : PlacedSet = placed_of_row c.place_of-place.result in
     let below : m < length sets = omega (arith, c.set_count-set.ensures) in
-    let at : IsAt sets m h = is_at sets m h c.sets_are_kept.ensures.order below (ap (slice_get (placed sets)) (sym same) ∙ c.placement_of-place.ensures) in
+    let at : IsAt sets m h = is_at sets m h (c.facts.ensures.order c.args.player) below (ap (slice_get (placed sets)) (sym same) ∙ c.place_of-place.ensures.place) in
     let kept : KeepsWorths g.W.Worth.width sums c.args.play.now sets (m + 1) (map g.W.Worth.amount c.loop-set.worths) = subst (λ k. KeepsWorths g.W.Worth.width sums c.args.play.now sets k (map g.W.Worth.amount c.loop-set.worths)) set_is c.loop-set.invariant.0 in
     omega (arith, at.first)
 
@@ -44,9 +44,9 @@ close_set-requires-clause-inside g c =
     let m : ℕ = c.loop-set.set - 1 in
     let same : m + 1 - 1 ≡ m = omega arith in
     let set_is : c.loop-set.set ≡ m + 1 = omega arith in
-    let h : PlacedSet = placed_as c.placement_of-place.result in
+    let h : PlacedSet = placed_of_row c.place_of-place.result in
     let below : m < length sets = omega (arith, c.set_count-set.ensures) in
-    let at : IsAt sets m h = is_at sets m h c.sets_are_kept.ensures.order below (ap (slice_get (placed sets)) (sym same) ∙ c.placement_of-place.ensures) in
+    let at : IsAt sets m h = is_at sets m h (c.facts.ensures.order c.args.player) below (ap (slice_get (placed sets)) (sym same) ∙ c.place_of-place.ensures.place) in
     let kept : KeepsWorths g.W.Worth.width sums c.args.play.now sets (m + 1) (map g.W.Worth.amount c.loop-set.worths) = subst (λ k. KeepsWorths g.W.Worth.width sums c.args.play.now sets k (map g.W.Worth.amount c.loop-set.worths)) set_is c.loop-set.invariant.0 in
     omega (arith, at.inside, kept.count, length-map c.loop-set.worths g.W.Worth.amount)
 
@@ -57,9 +57,9 @@ close_set-requires-clause-earlier g c =
     let m : ℕ = c.loop-set.set - 1 in
     let same : m + 1 - 1 ≡ m = omega arith in
     let set_is : c.loop-set.set ≡ m + 1 = omega arith in
-    let h : PlacedSet = placed_as c.placement_of-place.result in
+    let h : PlacedSet = placed_of_row c.place_of-place.result in
     let below : m < length sets = omega (arith, c.set_count-set.ensures) in
-    let at : IsAt sets m h = is_at sets m h c.sets_are_kept.ensures.order below (ap (slice_get (placed sets)) (sym same) ∙ c.placement_of-place.ensures) in
+    let at : IsAt sets m h = is_at sets m h (c.facts.ensures.order c.args.player) below (ap (slice_get (placed sets)) (sym same) ∙ c.place_of-place.ensures.place) in
     let kept : KeepsWorths g.W.Worth.width sums c.args.play.now sets (m + 1) (map g.W.Worth.amount c.loop-set.worths) = subst (λ k. KeepsWorths g.W.Worth.width sums c.args.play.now sets k (map g.W.Worth.amount c.loop-set.worths)) set_is c.loop-set.invariant.0 in
     at.earlier
 
@@ -70,9 +70,9 @@ close_set-requires-clause-as_play g c =
     let m : ℕ = c.loop-set.set - 1 in
     let same : m + 1 - 1 ≡ m = omega arith in
     let set_is : c.loop-set.set ≡ m + 1 = omega arith in
-    let h : PlacedSet = placed_as c.placement_of-place.result in
+    let h : PlacedSet = placed_of_row c.place_of-place.result in
     let below : m < length sets = omega (arith, c.set_count-set.ensures) in
-    let at : IsAt sets m h = is_at sets m h c.sets_are_kept.ensures.order below (ap (slice_get (placed sets)) (sym same) ∙ c.placement_of-place.ensures) in
+    let at : IsAt sets m h = is_at sets m h (c.facts.ensures.order c.args.player) below (ap (slice_get (placed sets)) (sym same) ∙ c.place_of-place.ensures.place) in
     let kept : KeepsWorths g.W.Worth.width sums c.args.play.now sets (m + 1) (map g.W.Worth.amount c.loop-set.worths) = subst (λ k. KeepsWorths g.W.Worth.width sums c.args.play.now sets k (map g.W.Worth.amount c.loop-set.worths)) set_is c.loop-set.invariant.0 in
     omega (arith, kept.count, length-map c.loop-set.worths g.W.Worth.amount, c.requires.as_play)
 
@@ -83,11 +83,11 @@ close_set-requires-clause-limit g c =
     let m : ℕ = c.loop-set.set - 1 in
     let same : m + 1 - 1 ≡ m = omega arith in
     let set_is : c.loop-set.set ≡ m + 1 = omega arith in
-    let h : PlacedSet = placed_as c.placement_of-place.result in
+    let h : PlacedSet = placed_of_row c.place_of-place.result in
     let below : m < length sets = omega (arith, c.set_count-set.ensures) in
-    let at : IsAt sets m h = is_at sets m h c.sets_are_kept.ensures.order below (ap (slice_get (placed sets)) (sym same) ∙ c.placement_of-place.ensures) in
+    let at : IsAt sets m h = is_at sets m h (c.facts.ensures.order c.args.player) below (ap (slice_get (placed sets)) (sym same) ∙ c.place_of-place.ensures.place) in
     let kept : KeepsWorths g.W.Worth.width sums c.args.play.now sets (m + 1) (map g.W.Worth.amount c.loop-set.worths) = subst (λ k. KeepsWorths g.W.Worth.width sums c.args.play.now sets k (map g.W.Worth.amount c.loop-set.worths)) set_is c.loop-set.invariant.0 in
-    omega (arith, kept.count, length-map c.loop-set.worths g.W.Worth.amount, c.sets_are_kept.ensures.limit)
+    omega (arith, kept.count, length-map c.loop-set.worths g.W.Worth.amount, c.facts.ensures.limit c.args.player)
 
 pub close_set-requires-clause-as_regrets : goal.close_set-requires-clause-as_regrets
 close_set-requires-clause-as_regrets g c =
@@ -96,9 +96,9 @@ close_set-requires-clause-as_regrets g c =
     let m : ℕ = c.loop-set.set - 1 in
     let same : m + 1 - 1 ≡ m = omega arith in
     let set_is : c.loop-set.set ≡ m + 1 = omega arith in
-    let h : PlacedSet = placed_as c.placement_of-place.result in
+    let h : PlacedSet = placed_of_row c.place_of-place.result in
     let below : m < length sets = omega (arith, c.set_count-set.ensures) in
-    let at : IsAt sets m h = is_at sets m h c.sets_are_kept.ensures.order below (ap (slice_get (placed sets)) (sym same) ∙ c.placement_of-place.ensures) in
+    let at : IsAt sets m h = is_at sets m h (c.facts.ensures.order c.args.player) below (ap (slice_get (placed sets)) (sym same) ∙ c.place_of-place.ensures.place) in
     let kept : KeepsWorths g.W.Worth.width sums c.args.play.now sets (m + 1) (map g.W.Worth.amount c.loop-set.worths) = subst (λ k. KeepsWorths g.W.Worth.width sums c.args.play.now sets k (map g.W.Worth.amount c.loop-set.worths)) set_is c.loop-set.invariant.0 in
     omega (arith, kept.count, length-map c.loop-set.worths g.W.Worth.amount, c.loop-set.invariant.1, c.requires.as_regrets)
 
@@ -107,9 +107,9 @@ close_set-requires-clause-all_units g c =
     let sets : List InformationSet = player_sets c.args.form.now c.args.player in
     let m : ℕ = c.loop-set.set - 1 in
     let same : m + 1 - 1 ≡ m = omega arith in
-    let h : PlacedSet = placed_as c.placement_of-place.result in
+    let h : PlacedSet = placed_of_row c.place_of-place.result in
     let below : m < length sets = omega (arith, c.set_count-set.ensures) in
-    let at : IsAt sets m h = is_at sets m h c.sets_are_kept.ensures.order below (ap (slice_get (placed sets)) (sym same) ∙ c.placement_of-place.ensures) in
+    let at : IsAt sets m h = is_at sets m h (c.facts.ensures.order c.args.player) below (ap (slice_get (placed sets)) (sym same) ∙ c.place_of-place.ensures.place) in
     units_at c.args.play.now sets m h at c.requires.all_units
 
 pub close_set-requires-clause-products : goal.close_set-requires-clause-products
@@ -119,12 +119,12 @@ close_set-requires-clause-products g c =
     let m : ℕ = c.loop-set.set - 1 in
     let same : m + 1 - 1 ≡ m = omega arith in
     let set_is : c.loop-set.set ≡ m + 1 = omega arith in
-    let h : PlacedSet = placed_as c.placement_of-place.result in
+    let h : PlacedSet = placed_of_row c.place_of-place.result in
     let below : m < length sets = omega (arith, c.set_count-set.ensures) in
-    let at : IsAt sets m h = is_at sets m h c.sets_are_kept.ensures.order below (ap (slice_get (placed sets)) (sym same) ∙ c.placement_of-place.ensures) in
+    let at : IsAt sets m h = is_at sets m h (c.facts.ensures.order c.args.player) below (ap (slice_get (placed sets)) (sym same) ∙ c.place_of-place.ensures.place) in
     let kept : KeepsWorths g.W.Worth.width sums c.args.play.now sets (m + 1) (map g.W.Worth.amount c.loop-set.worths) = subst (λ k. KeepsWorths g.W.Worth.width sums c.args.play.now sets k (map g.W.Worth.amount c.loop-set.worths)) set_is c.loop-set.invariant.0 in
     let step : SetStep g.W.Worth.width sums c.args.play.now sets (map g.R.Worth.amount c.args.regrets.now) m h (map g.W.Worth.amount c.loop-set.worths) =
-    set_step g.W.Worth.width sums c.args.play.now sets (map g.R.Worth.amount c.args.regrets.now) (map g.W.Worth.amount c.loop-set.worths) m h c.sets_are_kept.ensures.order c.requires.all_units c.requires.small c.requires.fits at kept in
+    set_step g.W.Worth.width sums c.args.play.now sets (map g.R.Worth.amount c.args.regrets.now) (map g.W.Worth.amount c.loop-set.worths) m h (c.facts.ensures.order c.args.player) c.requires.all_units c.requires.small c.requires.fits at kept in
     step.products
 
 pub close_set-requires-clause-fits : goal.close_set-requires-clause-fits
@@ -134,12 +134,12 @@ close_set-requires-clause-fits g c =
     let m : ℕ = c.loop-set.set - 1 in
     let same : m + 1 - 1 ≡ m = omega arith in
     let set_is : c.loop-set.set ≡ m + 1 = omega arith in
-    let h : PlacedSet = placed_as c.placement_of-place.result in
+    let h : PlacedSet = placed_of_row c.place_of-place.result in
     let below : m < length sets = omega (arith, c.set_count-set.ensures) in
-    let at : IsAt sets m h = is_at sets m h c.sets_are_kept.ensures.order below (ap (slice_get (placed sets)) (sym same) ∙ c.placement_of-place.ensures) in
+    let at : IsAt sets m h = is_at sets m h (c.facts.ensures.order c.args.player) below (ap (slice_get (placed sets)) (sym same) ∙ c.place_of-place.ensures.place) in
     let kept : KeepsWorths g.W.Worth.width sums c.args.play.now sets (m + 1) (map g.W.Worth.amount c.loop-set.worths) = subst (λ k. KeepsWorths g.W.Worth.width sums c.args.play.now sets k (map g.W.Worth.amount c.loop-set.worths)) set_is c.loop-set.invariant.0 in
     let step : SetStep g.W.Worth.width sums c.args.play.now sets (map g.R.Worth.amount c.args.regrets.now) m h (map g.W.Worth.amount c.loop-set.worths) =
-    set_step g.W.Worth.width sums c.args.play.now sets (map g.R.Worth.amount c.args.regrets.now) (map g.W.Worth.amount c.loop-set.worths) m h c.sets_are_kept.ensures.order c.requires.all_units c.requires.small c.requires.fits at kept in
+    set_step g.W.Worth.width sums c.args.play.now sets (map g.R.Worth.amount c.args.regrets.now) (map g.W.Worth.amount c.loop-set.worths) m h (c.facts.ensures.order c.args.player) c.requires.all_units c.requires.small c.requires.fits at kept in
     step.fits
 
 pub close_set-requires-clause-growth : goal.close_set-requires-clause-growth
@@ -149,12 +149,12 @@ close_set-requires-clause-growth g c =
     let m : ℕ = c.loop-set.set - 1 in
     let same : m + 1 - 1 ≡ m = omega arith in
     let set_is : c.loop-set.set ≡ m + 1 = omega arith in
-    let h : PlacedSet = placed_as c.placement_of-place.result in
+    let h : PlacedSet = placed_of_row c.place_of-place.result in
     let below : m < length sets = omega (arith, c.set_count-set.ensures) in
-    let at : IsAt sets m h = is_at sets m h c.sets_are_kept.ensures.order below (ap (slice_get (placed sets)) (sym same) ∙ c.placement_of-place.ensures) in
+    let at : IsAt sets m h = is_at sets m h (c.facts.ensures.order c.args.player) below (ap (slice_get (placed sets)) (sym same) ∙ c.place_of-place.ensures.place) in
     let kept : KeepsWorths g.W.Worth.width sums c.args.play.now sets (m + 1) (map g.W.Worth.amount c.loop-set.worths) = subst (λ k. KeepsWorths g.W.Worth.width sums c.args.play.now sets k (map g.W.Worth.amount c.loop-set.worths)) set_is c.loop-set.invariant.0 in
     let step : SetStep g.W.Worth.width sums c.args.play.now sets (map g.R.Worth.amount c.args.regrets.now) m h (map g.W.Worth.amount c.loop-set.worths) =
-    set_step g.W.Worth.width sums c.args.play.now sets (map g.R.Worth.amount c.args.regrets.now) (map g.W.Worth.amount c.loop-set.worths) m h c.sets_are_kept.ensures.order c.requires.all_units c.requires.small c.requires.fits at kept in
+    set_step g.W.Worth.width sums c.args.play.now sets (map g.R.Worth.amount c.args.regrets.now) (map g.W.Worth.amount c.loop-set.worths) m h (c.facts.ensures.order c.args.player) c.requires.all_units c.requires.small c.requires.fits at kept in
     step.growth
 
 pub close_set-requires-clause-growth_fits : goal.close_set-requires-clause-growth_fits
@@ -164,12 +164,12 @@ close_set-requires-clause-growth_fits g c =
     let m : ℕ = c.loop-set.set - 1 in
     let same : m + 1 - 1 ≡ m = omega arith in
     let set_is : c.loop-set.set ≡ m + 1 = omega arith in
-    let h : PlacedSet = placed_as c.placement_of-place.result in
+    let h : PlacedSet = placed_of_row c.place_of-place.result in
     let below : m < length sets = omega (arith, c.set_count-set.ensures) in
-    let at : IsAt sets m h = is_at sets m h c.sets_are_kept.ensures.order below (ap (slice_get (placed sets)) (sym same) ∙ c.placement_of-place.ensures) in
+    let at : IsAt sets m h = is_at sets m h (c.facts.ensures.order c.args.player) below (ap (slice_get (placed sets)) (sym same) ∙ c.place_of-place.ensures.place) in
     let kept : KeepsWorths g.W.Worth.width sums c.args.play.now sets (m + 1) (map g.W.Worth.amount c.loop-set.worths) = subst (λ k. KeepsWorths g.W.Worth.width sums c.args.play.now sets k (map g.W.Worth.amount c.loop-set.worths)) set_is c.loop-set.invariant.0 in
     let step : SetStep g.W.Worth.width sums c.args.play.now sets (map g.R.Worth.amount c.args.regrets.now) m h (map g.W.Worth.amount c.loop-set.worths) =
-    set_step g.W.Worth.width sums c.args.play.now sets (map g.R.Worth.amount c.args.regrets.now) (map g.W.Worth.amount c.loop-set.worths) m h c.sets_are_kept.ensures.order c.requires.all_units c.requires.small c.requires.fits at kept in
+    set_step g.W.Worth.width sums c.args.play.now sets (map g.R.Worth.amount c.args.regrets.now) (map g.W.Worth.amount c.loop-set.worths) m h (c.facts.ensures.order c.args.player) c.requires.all_units c.requires.small c.requires.fits at kept in
     λ s from to. c.requires.growth (amount_of (map g.W.Worth.amount c.loop-set.worths) s -ℤ set_value c.args.play.now (amount_of (map g.W.Worth.amount c.loop-set.worths)) h) (step.grows s from to)
 
 pub close_set-requires-clause-room : goal.close_set-requires-clause-room
@@ -179,12 +179,12 @@ close_set-requires-clause-room g c =
     let m : ℕ = c.loop-set.set - 1 in
     let same : m + 1 - 1 ≡ m = omega arith in
     let set_is : c.loop-set.set ≡ m + 1 = omega arith in
-    let h : PlacedSet = placed_as c.placement_of-place.result in
+    let h : PlacedSet = placed_of_row c.place_of-place.result in
     let below : m < length sets = omega (arith, c.set_count-set.ensures) in
-    let at : IsAt sets m h = is_at sets m h c.sets_are_kept.ensures.order below (ap (slice_get (placed sets)) (sym same) ∙ c.placement_of-place.ensures) in
+    let at : IsAt sets m h = is_at sets m h (c.facts.ensures.order c.args.player) below (ap (slice_get (placed sets)) (sym same) ∙ c.place_of-place.ensures.place) in
     let kept : KeepsWorths g.W.Worth.width sums c.args.play.now sets (m + 1) (map g.W.Worth.amount c.loop-set.worths) = subst (λ k. KeepsWorths g.W.Worth.width sums c.args.play.now sets k (map g.W.Worth.amount c.loop-set.worths)) set_is c.loop-set.invariant.0 in
     let step : SetStep g.W.Worth.width sums c.args.play.now sets (map g.R.Worth.amount c.args.regrets.now) m h (map g.W.Worth.amount c.loop-set.worths) =
-    set_step g.W.Worth.width sums c.args.play.now sets (map g.R.Worth.amount c.args.regrets.now) (map g.W.Worth.amount c.loop-set.worths) m h c.sets_are_kept.ensures.order c.requires.all_units c.requires.small c.requires.fits at kept in
+    set_step g.W.Worth.width sums c.args.play.now sets (map g.R.Worth.amount c.args.regrets.now) (map g.W.Worth.amount c.loop-set.worths) m h (c.facts.ensures.order c.args.player) c.requires.all_units c.requires.small c.requires.fits at kept in
     let starts : start_of sets c.loop-set.set ≡ h.first + h.actions = ap (start_of sets) set_is ∙ at.next in
     λ s from to.
     let more = amount_of (map g.W.Worth.amount c.loop-set.worths) s -ℤ set_value c.args.play.now (amount_of (map g.W.Worth.amount c.loop-set.worths)) h in
@@ -197,12 +197,12 @@ loop-set-preserved g c =
     let m : ℕ = c.loop-set.set - 1 in
     let same : m + 1 - 1 ≡ m = omega arith in
     let set_is : c.loop-set.set ≡ m + 1 = omega arith in
-    let h : PlacedSet = placed_as c.placement_of-place.result in
+    let h : PlacedSet = placed_of_row c.place_of-place.result in
     let below : m < length sets = omega (arith, c.set_count-set.ensures) in
-    let at : IsAt sets m h = is_at sets m h c.sets_are_kept.ensures.order below (ap (slice_get (placed sets)) (sym same) ∙ c.placement_of-place.ensures) in
+    let at : IsAt sets m h = is_at sets m h (c.facts.ensures.order c.args.player) below (ap (slice_get (placed sets)) (sym same) ∙ c.place_of-place.ensures.place) in
     let kept : KeepsWorths g.W.Worth.width sums c.args.play.now sets (m + 1) (map g.W.Worth.amount c.loop-set.worths) = subst (λ k. KeepsWorths g.W.Worth.width sums c.args.play.now sets k (map g.W.Worth.amount c.loop-set.worths)) set_is c.loop-set.invariant.0 in
     let step : SetStep g.W.Worth.width sums c.args.play.now sets (map g.R.Worth.amount c.args.regrets.now) m h (map g.W.Worth.amount c.loop-set.worths) =
-    set_step g.W.Worth.width sums c.args.play.now sets (map g.R.Worth.amount c.args.regrets.now) (map g.W.Worth.amount c.loop-set.worths) m h c.sets_are_kept.ensures.order c.requires.all_units c.requires.small c.requires.fits at kept in
+    set_step g.W.Worth.width sums c.args.play.now sets (map g.R.Worth.amount c.args.regrets.now) (map g.W.Worth.amount c.loop-set.worths) m h (c.facts.ensures.order c.args.player) c.requires.all_units c.requires.small c.requires.fits at kept in
     let starts : start_of sets c.loop-set.set ≡ h.first + h.actions = ap (start_of sets) set_is ∙ at.next in (
       record {
         count = length-map c.close_set.new.worths g.W.Worth.amount ∙ c.close_set.ensures.worths_count ∙ sym (length-map c.loop-set.worths g.W.Worth.amount) ∙ kept.count;
@@ -234,7 +234,7 @@ returns-clause-regrets g c =
     let after : List ℤ = regrets_after sums c.args.play.now sets (map g.R.Worth.amount c.args.regrets.now) in
     let done : c.loop-set.set ≡ 0 = omega arith in
     let starts : start_of sets c.loop-set.set ≡ 1 = ap (start_of sets) done in
-    ext_get_or (pos 0) (map g.R.Worth.amount c.loop-set.regrets) after (omega (arith, length-map c.loop-set.regrets g.R.Worth.amount, c.loop-set.invariant.1, regrets_count sums c.args.play.now sets (map g.R.Worth.amount c.args.regrets.now) c.sets_are_kept.ensures.order, c.requires.as_regrets))
+    ext_get_or (pos 0) (map g.R.Worth.amount c.loop-set.regrets) after (omega (arith, length-map c.loop-set.regrets g.R.Worth.amount, c.loop-set.invariant.1, regrets_count sums c.args.play.now sets (map g.R.Worth.amount c.args.regrets.now) (c.facts.ensures.order c.args.player), c.requires.as_regrets))
     (λ s low.
     ⊎_elim
     (λ first.

@@ -1,7 +1,7 @@
 use Rattle.std.proofs.Common.{◌≡◌, ℕ, ◌+◌, ◌-◌, ◌*◌, ◌/◌, ◌<◌, ◌≤◌, List, arith, refl, sym, subst, ap, ◌∙◌, map}
 use Rattle.def_plan.specs.Form.{PlacedSet}
 use Rattle.def_round.specs.Play.{set_play, units}
-use Rattle.xg_closer.specs.Places.{placed_as}
+use Rattle.xg_seq.specs.Table.{placed_of_row}
 use Rattle.xg_closer.specs.Playing.{PlaysFirst, positive_parts}
 use Rattle.xg_closer.proofs.Deals.{OneMore, length-positive_parts, none_before, one_more, part_at, parts_together, share_before}
 use Rattle.xg_closer.proofs.Writing.{plays_more, plays_none}
@@ -9,7 +9,7 @@ use Rattle.xg_closer.proofs.playing.play_by_parts.Goals as goal
 
 pub loop-i-init : goal.loop-i-init
 loop-i-init g c =
-    let h : PlacedSet = placed_as c.args.place in
+    let h : PlacedSet = placed_of_row c.args.place in
     let some : 1 ≤ c.args.sum = c.requires.some in (
       refl,
       sym (none_before units (positive_parts (map g.R.Worth.amount c.args.regrets.now) h) (omega (arith, c.requires.whole, parts_together (map g.R.Worth.amount c.args.regrets.now) h))),
@@ -18,7 +18,7 @@ loop-i-init g c =
 
 pub overflow_add-sum_so_far : goal.overflow_add-sum_so_far
 overflow_add-sum_so_far g c =
-    let h : PlacedSet = placed_as c.args.place in
+    let h : PlacedSet = placed_of_row c.args.place in
     let ws : List ℕ = positive_parts (map g.R.Worth.amount c.args.regrets.now) h in
     let below : c.loop-i.i < h.actions = omega arith in
     let one : OneMore units ws c.loop-i.i (c.loop-i.sum_so_far + c.part_of-part.result) c.args.sum =
@@ -28,7 +28,7 @@ overflow_add-sum_so_far g c =
 
 pub next_given-next-requires-clause-within : goal.next_given-next-requires-clause-within
 next_given-next-requires-clause-within g c =
-    let h : PlacedSet = placed_as c.args.place in
+    let h : PlacedSet = placed_of_row c.args.place in
     let ws : List ℕ = positive_parts (map g.R.Worth.amount c.args.regrets.now) h in
     let below : c.loop-i.i < h.actions = omega arith in
     let one : OneMore units ws c.loop-i.i (c.loop-i.sum_so_far + c.part_of-part.result) c.args.sum =
@@ -38,7 +38,7 @@ next_given-next-requires-clause-within g c =
 
 pub next_given-next-requires-clause-none : goal.next_given-next-requires-clause-none
 next_given-next-requires-clause-none g c =
-    let h : PlacedSet = placed_as c.args.place in
+    let h : PlacedSet = placed_of_row c.args.place in
     let ws : List ℕ = positive_parts (map g.R.Worth.amount c.args.regrets.now) h in
     let below : c.loop-i.i < h.actions = omega arith in
     let one : OneMore units ws c.loop-i.i (c.loop-i.sum_so_far + c.part_of-part.result) c.args.sum =
@@ -51,7 +51,7 @@ next_given-next-requires-clause-none g c =
 
 pub overflow_sub-next : goal.overflow_sub-next
 overflow_sub-next g c =
-    let h : PlacedSet = placed_as c.args.place in
+    let h : PlacedSet = placed_of_row c.args.place in
     let ws : List ℕ = positive_parts (map g.R.Worth.amount c.args.regrets.now) h in
     let below : c.loop-i.i < h.actions = omega arith in
     let one : OneMore units ws c.loop-i.i (c.loop-i.sum_so_far + c.part_of-part.result) c.args.sum =
@@ -61,7 +61,7 @@ overflow_sub-next g c =
 
 pub loop-i-preserved : goal.loop-i-preserved
 loop-i-preserved g c =
-    let h : PlacedSet = placed_as c.args.place in
+    let h : PlacedSet = placed_of_row c.args.place in
     let ws : List ℕ = positive_parts (map g.R.Worth.amount c.args.regrets.now) h in
     let below : c.loop-i.i < h.actions = omega arith in
     let one : OneMore units ws c.loop-i.i (c.loop-i.sum_so_far + c.part_of-part.result) c.args.sum =

@@ -2,7 +2,7 @@ use Rattle.std.proofs.Common.{◌≡◌, ℕ, ◌+◌, List, get_or, arith, sym,
 use Rattle.std.proofs.Math.ListN.{set}
 use Rattle.def_plan.specs.Form.{PlacedSet}
 use Rattle.def_round.specs.Play.{set_play, units}
-use Rattle.xg_closer.specs.Places.{placed_as}
+use Rattle.xg_seq.specs.Table.{placed_of_row}
 use Rattle.xg_closer.specs.Playing.{PlaysFirst, positive_parts}
 use Rattle.xg_closer.proofs.Deals.{length-positive_parts, only_share}
 use Rattle.xg_closer.proofs.Writing.{plays_more, plays_none}
@@ -10,7 +10,7 @@ use Rattle.xg_closer.proofs.playing.play_set.Goals as goal
 
 pub returns-then-place-eq1 : goal.returns-then-place-eq1
 returns-then-place-eq1 g c =
-    let h : PlacedSet = placed_as c.args.place in
+    let h : PlacedSet = placed_of_row c.args.place in
     let play : List ℕ = c.args.play.now in
     let shares : List ℕ = set_play (map g.R.Worth.amount c.args.regrets.now) h in
     let one : h.actions ≡ 1 = omega arith in

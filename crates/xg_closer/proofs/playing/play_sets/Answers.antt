@@ -5,7 +5,7 @@ use Rattle.std.proofs.lemmas.List.{take_all}
 use Rattle.def_plan.specs.Form.{InformationSet, PlacedSet, placed, player_sets, sequence_count}
 use Rattle.def_round.specs.Play.{GivesAllUnits, play_of}
 use Rattle.def_round.proofs.Plays.{plays_all_units, plays_each_set}
-use Rattle.xg_closer.specs.Places.{placed_as}
+use Rattle.xg_seq.specs.Table.{placed_of_row}
 use Rattle.xg_closer.proofs.Sets.{IsAt, is_at, start_of}
 use Rattle.xg_closer.proofs.PlayedSets.{few_at, played_at, small_at}
 use Rattle.xg_closer.proofs.playing.play_sets.Goals as goal
@@ -23,9 +23,9 @@ play_set-requires-clause-from_one g c =
     let sets : List InformationSet = player_sets c.args.form.now c.args.player in
     let m : ℕ = c.loop-set.set in
     let same : m + 1 - 1 ≡ m = omega arith in
-    let h : PlacedSet = placed_as c.placement_of-place.result in
+    let h : PlacedSet = placed_of_row c.place_of-place.result in
     let below : m < length sets = omega (arith, c.set_count-set-end.ensures) in
-    let at : IsAt sets m h = is_at sets m h c.sets_are_kept.ensures.order below (ap (slice_get (placed sets)) (sym same) ∙ c.placement_of-place.ensures) in
+    let at : IsAt sets m h = is_at sets m h (c.facts.ensures.order c.args.player) below (ap (slice_get (placed sets)) (sym same) ∙ c.place_of-place.ensures.place) in
     omega (arith, at.first)
 
 pub play_set-requires-clause-some : goal.play_set-requires-clause-some
@@ -33,9 +33,9 @@ play_set-requires-clause-some g c =
     let sets : List InformationSet = player_sets c.args.form.now c.args.player in
     let m : ℕ = c.loop-set.set in
     let same : m + 1 - 1 ≡ m = omega arith in
-    let h : PlacedSet = placed_as c.placement_of-place.result in
+    let h : PlacedSet = placed_of_row c.place_of-place.result in
     let below : m < length sets = omega (arith, c.set_count-set-end.ensures) in
-    let at : IsAt sets m h = is_at sets m h c.sets_are_kept.ensures.order below (ap (slice_get (placed sets)) (sym same) ∙ c.placement_of-place.ensures) in
+    let at : IsAt sets m h = is_at sets m h (c.facts.ensures.order c.args.player) below (ap (slice_get (placed sets)) (sym same) ∙ c.place_of-place.ensures.place) in
     at.some
 
 pub play_set-requires-clause-few : goal.play_set-requires-clause-few
@@ -43,19 +43,19 @@ play_set-requires-clause-few g c =
     let sets : List InformationSet = player_sets c.args.form.now c.args.player in
     let m : ℕ = c.loop-set.set in
     let same : m + 1 - 1 ≡ m = omega arith in
-    let h : PlacedSet = placed_as c.placement_of-place.result in
+    let h : PlacedSet = placed_of_row c.place_of-place.result in
     let below : m < length sets = omega (arith, c.set_count-set-end.ensures) in
-    let at : IsAt sets m h = is_at sets m h c.sets_are_kept.ensures.order below (ap (slice_get (placed sets)) (sym same) ∙ c.placement_of-place.ensures) in
-    few_at sets m h c.sets_are_kept.ensures.few_actions below at
+    let at : IsAt sets m h = is_at sets m h (c.facts.ensures.order c.args.player) below (ap (slice_get (placed sets)) (sym same) ∙ c.place_of-place.ensures.place) in
+    few_at sets m h (c.facts.ensures.few_actions c.args.player) below at
 
 pub play_set-requires-clause-inside : goal.play_set-requires-clause-inside
 play_set-requires-clause-inside g c =
     let sets : List InformationSet = player_sets c.args.form.now c.args.player in
     let m : ℕ = c.loop-set.set in
     let same : m + 1 - 1 ≡ m = omega arith in
-    let h : PlacedSet = placed_as c.placement_of-place.result in
+    let h : PlacedSet = placed_of_row c.place_of-place.result in
     let below : m < length sets = omega (arith, c.set_count-set-end.ensures) in
-    let at : IsAt sets m h = is_at sets m h c.sets_are_kept.ensures.order below (ap (slice_get (placed sets)) (sym same) ∙ c.placement_of-place.ensures) in
+    let at : IsAt sets m h = is_at sets m h (c.facts.ensures.order c.args.player) below (ap (slice_get (placed sets)) (sym same) ∙ c.place_of-place.ensures.place) in
     omega (arith, at.inside, c.requires.as_regrets)
 
 pub play_set-requires-clause-limit : goal.play_set-requires-clause-limit
@@ -63,29 +63,29 @@ play_set-requires-clause-limit g c =
     let sets : List InformationSet = player_sets c.args.form.now c.args.player in
     let m : ℕ = c.loop-set.set in
     let same : m + 1 - 1 ≡ m = omega arith in
-    let h : PlacedSet = placed_as c.placement_of-place.result in
+    let h : PlacedSet = placed_of_row c.place_of-place.result in
     let below : m < length sets = omega (arith, c.set_count-set-end.ensures) in
-    let at : IsAt sets m h = is_at sets m h c.sets_are_kept.ensures.order below (ap (slice_get (placed sets)) (sym same) ∙ c.placement_of-place.ensures) in
-    omega (arith, c.sets_are_kept.ensures.limit, c.requires.as_regrets)
+    let at : IsAt sets m h = is_at sets m h (c.facts.ensures.order c.args.player) below (ap (slice_get (placed sets)) (sym same) ∙ c.place_of-place.ensures.place) in
+    omega (arith, c.facts.ensures.limit c.args.player, c.requires.as_regrets)
 
 pub play_set-requires-clause-small : goal.play_set-requires-clause-small
 play_set-requires-clause-small g c =
     let sets : List InformationSet = player_sets c.args.form.now c.args.player in
     let m : ℕ = c.loop-set.set in
     let same : m + 1 - 1 ≡ m = omega arith in
-    let h : PlacedSet = placed_as c.placement_of-place.result in
+    let h : PlacedSet = placed_of_row c.place_of-place.result in
     let below : m < length sets = omega (arith, c.set_count-set-end.ensures) in
-    let at : IsAt sets m h = is_at sets m h c.sets_are_kept.ensures.order below (ap (slice_get (placed sets)) (sym same) ∙ c.placement_of-place.ensures) in
-    small_at sets (map g.R.Worth.amount c.args.regrets.now) m h at c.requires.small (few_at sets m h c.sets_are_kept.ensures.few_actions below at)
+    let at : IsAt sets m h = is_at sets m h (c.facts.ensures.order c.args.player) below (ap (slice_get (placed sets)) (sym same) ∙ c.place_of-place.ensures.place) in
+    small_at sets (map g.R.Worth.amount c.args.regrets.now) m h at c.requires.small (few_at sets m h (c.facts.ensures.few_actions c.args.player) below at)
 
 pub loop-set-preserved : goal.loop-set-preserved
 loop-set-preserved g c =
     let sets : List InformationSet = player_sets c.args.form.now c.args.player in
     let m : ℕ = c.loop-set.set in
     let same : m + 1 - 1 ≡ m = omega arith in
-    let h : PlacedSet = placed_as c.placement_of-place.result in
+    let h : PlacedSet = placed_of_row c.place_of-place.result in
     let below : m < length sets = omega (arith, c.set_count-set-end.ensures) in
-    let at : IsAt sets m h = is_at sets m h c.sets_are_kept.ensures.order below (ap (slice_get (placed sets)) (sym same) ∙ c.placement_of-place.ensures) in (
+    let at : IsAt sets m h = is_at sets m h (c.facts.ensures.order c.args.player) below (ap (slice_get (placed sets)) (sym same) ∙ c.place_of-place.ensures.place) in (
       c.play_set.ensures.count ∙ c.loop-set.invariant.0,
       λ s low.
           ⊎_elim
@@ -116,7 +116,7 @@ returns-clause-all_units g c =
     let count = (plays_each_set sets (map g.R.Worth.amount c.args.regrets.now)).all_sequences in
     let is : c.loop-set.play ≡ play_of sets (map g.R.Worth.amount c.args.regrets.now) = same_number_lists c.loop-set.play (play_of sets (map g.R.Worth.amount c.args.regrets.now)) (c.loop-set.invariant.0 ∙ c.requires.as_play ∙ sym count)
     (λ s low. c.loop-set.invariant.1 s (omega (arith, all, count, c.loop-set.invariant.0, c.requires.as_play))) in
-    subst (λ play. GivesAllUnits play sets) (sym is) (plays_all_units sets (map g.R.Worth.amount c.args.regrets.now) c.sets_are_kept.ensures.order)
+    subst (λ play. GivesAllUnits play sets) (sym is) (plays_all_units sets (map g.R.Worth.amount c.args.regrets.now) (c.facts.ensures.order c.args.player))
 
 pub returns-clause-count : goal.returns-clause-count
 returns-clause-count g c = c.loop-set.invariant.0

@@ -3,7 +3,7 @@ use Rattle.std.proofs.Math.ListN.{set}
 use Rattle.def_plan.specs.Form.{PlacedSet}
 use Rattle.def_round.specs.Play.{positive_part, regret_of, set_play, units}
 use Rattle.def_round.specs.Shares.{weight_sum}
-use Rattle.xg_closer.specs.Places.{placed_as}
+use Rattle.xg_seq.specs.Table.{placed_of_row}
 use Rattle.xg_closer.specs.Playing.{PlaysFirst, positive_parts}
 use Rattle.xg_closer.proofs.Deals.{length-positive_parts, part_at, parts_of_two, parts_together, two_shares}
 use Rattle.xg_closer.proofs.Writing.{plays_more, plays_none}
@@ -11,12 +11,12 @@ use Rattle.xg_closer.proofs.playing.play_two.Goals as goal
 
 pub first_of_two-first-requires : goal.first_of_two-first-requires
 first_of_two-first-requires g c =
-    let h : PlacedSet = placed_as c.args.place in
+    let h : PlacedSet = placed_of_row c.args.place in
     omega (arith, parts_of_two (map g.R.Worth.amount c.args.regrets.now) h c.requires.two, c.part_of-a.ensures, c.part_of-b.ensures, c.requires.small)
 
 pub returns : goal.returns
 returns g c =
-    let h : PlacedSet = placed_as c.args.place in
+    let h : PlacedSet = placed_of_row c.args.place in
     let ws : List ℕ = positive_parts (map g.R.Worth.amount c.args.regrets.now) h in
     let shares : List ℕ = set_play (map g.R.Worth.amount c.args.regrets.now) h in
     let play : List ℕ = c.args.play.now in

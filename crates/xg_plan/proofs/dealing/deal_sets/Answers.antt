@@ -11,7 +11,7 @@ deal_set-requires-clause-small c =
     let index : c.loop-k.k + 1 - 1 ≡ c.loop-k.k = omega arith in
     λ d. omega (
       arith,
-      small_before (player_sets c.args.form.now c.args.player) c.args.units.now _ c.loop-k.k c.loop-k.weights c.sequence_count-in_order.ensures.order (omega (arith, c.loop-k-test.true, c.set_count-k-end.ensures)) c.loop-k.invariant d,
+      small_before (player_sets c.args.form.now c.args.player) c.args.units.now _ c.loop-k.k c.loop-k.weights (c.facts.ensures.order c.args.player) (omega (arith, c.loop-k-test.true, c.set_count-k-end.ensures)) c.loop-k.invariant d,
       c.requires.limit,
       ap (λ k. slice_index c.loop-k.weights (get_or (placed (player_sets c.args.form.now c.args.player)) k d).before) index,
     )
@@ -20,17 +20,17 @@ pub loop-k-preserved : goal.loop-k-preserved
 loop-k-preserved c =
     let deals : Deals (player_sets c.args.form.now c.args.player) c.args.units.now (c.loop-k.k + 1 - 1) c.loop-k.weights c.deal_set.new.weights =
     record { count = c.deal_set.ensures.count; earlier = c.deal_set.ensures.earlier; dealt = c.deal_set.ensures.dealt } in
-    dealt_more_sets (player_sets c.args.form.now c.args.player) c.args.units.now _ c.loop-k.k c.loop-k.weights c.deal_set.new.weights c.sequence_count-in_order.ensures.order (omega (arith, c.loop-k-test.true, c.set_count-k-end.ensures)) c.loop-k.invariant
+    dealt_more_sets (player_sets c.args.form.now c.args.player) c.args.units.now _ c.loop-k.k c.loop-k.weights c.deal_set.new.weights (c.facts.ensures.order c.args.player) (omega (arith, c.loop-k-test.true, c.set_count-k-end.ensures)) c.loop-k.invariant
     (subst (λ k. Deals (player_sets c.args.form.now c.args.player) c.args.units.now k c.loop-k.weights c.deal_set.new.weights) (omega arith) deals)
 
 pub returns-clause-plan : goal.returns-clause-plan
 returns-clause-plan c =
     let all : IsDealtUpTo (player_sets c.args.form.now c.args.player) c.args.units.now (slice_index c.args.weights.now 0) (length (player_sets c.args.form.now c.args.player)) c.loop-k.weights =
     subst (λ k. IsDealtUpTo (player_sets c.args.form.now c.args.player) c.args.units.now (slice_index c.args.weights.now 0) k c.loop-k.weights) (omega (arith, c.loop-k-test.false, c.loop-k.auto.k-end, c.set_count-k-end.ensures)) c.loop-k.invariant in
-    dealt_is_plan_of_play (player_sets c.args.form.now c.args.player) c.args.units.now _ c.loop-k.weights c.sequence_count-in_order.ensures.order c.requires.from_one all
+    dealt_is_plan_of_play (player_sets c.args.form.now c.args.player) c.args.units.now _ c.loop-k.weights (c.facts.ensures.order c.args.player) c.requires.from_one all
 
 pub returns-clause-is_plan : goal.returns-clause-is_plan
 returns-clause-is_plan c =
     let all : IsDealtUpTo (player_sets c.args.form.now c.args.player) c.args.units.now (slice_index c.args.weights.now 0) (length (player_sets c.args.form.now c.args.player)) c.loop-k.weights =
     subst (λ k. IsDealtUpTo (player_sets c.args.form.now c.args.player) c.args.units.now (slice_index c.args.weights.now 0) k c.loop-k.weights) (omega (arith, c.loop-k-test.false, c.loop-k.auto.k-end, c.set_count-k-end.ensures)) c.loop-k.invariant in
-    (dealt_to_all (player_sets c.args.form.now c.args.player) c.args.units.now _ c.loop-k.weights c.sequence_count-in_order.ensures.order c.requires.from_one all).is_plan
+    (dealt_to_all (player_sets c.args.form.now c.args.player) c.args.units.now _ c.loop-k.weights (c.facts.ensures.order c.args.player) c.requires.from_one all).is_plan
