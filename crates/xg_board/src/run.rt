@@ -228,6 +228,6 @@ pub fn run_rows<Rt: Threads + Wait + Sync, G: Gate>(
 {
     let base = Base::new(alloc, jobs, stripes)?;
     // a form's mass is small, and so are the jobs' amounts
-    let _leaves = input.form.leaf_count();
+    input.form.facts();
     run_named::<Rt, Brand, G>(rt, alloc, base, input, jobs, workers, gate)
 }

@@ -1,131 +1,120 @@
--- The nodes to come lead a walk to the state after the whole tree.
-use Rattle.std.proofs.Common.{◌≡◌, ℕ, ◌+◌, ◌-◌, ◌≤◌, List, [], ◌∷◌, ◌++◌, drop, refl, sym, ap, subst, ◌∙◌, arith, Some, slice_get}
-use Rattle.std.proofs.lemmas.List.{append_assoc, drop_more}
-use Rattle.std.proofs.lemmas.Option.{get_or_from_slice_get, slice_get_within}
+-- A walk through a tree may be made by the visitor that gathers the nodes at the top, and gathers those of the tree.
+use Rattle.std.proofs.Common.{◌≡◌, ℕ, ◌+◌, ◌≤◌, List, [], ◌∷◌, ◌++◌, sym, ap, subst, ◌∙◌, arith}
+use Rattle.std.specs.Prelude.{IsOk}
+use Rattle.std.proofs.lemmas.List.{append_assoc, append-nil}
 use Rattle.def_tree.specs.declared.Node.{Node}
-use Rattle.def_tree.specs.Tree.{Forest, bare, grown, prefix, tree_count}
-use Rattle.xg_jobs.specs.declared.tops.Walk.{Walk}
-use Rattle.xg_jobs.specs.Visit.{TopState, HasRoom, IsOpen, state_entered, state_left, state_of}
-use Rattle.xg_jobs.specs.Walked.{AreFirst, HasNextChild, HasWalked, LeadsToState, at_start, walked, without_next}
-use Rattle.xg_jobs.proofs.Visiting.{around, beside_it, no_trees, room_now, room_below, room_beside, can_leave}
+use Rattle.def_tree.specs.Events.{Accepts, Event, Leave, Leads, events, events_from}
+use Rattle.def_tree.specs.Rules.{IsGameTree, most_nodes}
+use Rattle.def_tree.specs.Tree.{Forest, HasItsChildren, bare, grown, node_count, tree_count}
+use Rattle.xg_jobs.specs.declared.tops.Gathering.{Gathering}
+use Rattle.xg_jobs.specs.Tops.{tops_from}
+use Rattle.xg_jobs.specs.Visit.{Gathers, HasRoom, IsOpen, MayGather, TopState, at_start, state_entered, state_left, state_of}
+use Rattle.xg_jobs.specs.Walked.{Room, walked}
+use Rattle.xg_jobs.proofs.Visiting.{around, beside_it, can_leave, no_trees, room_below, room_beside, room_now}
 
--- the first of the nodes to come can be entered, and the others lead on
-pub record Entered (counts : List ℕ) (node : Node) (rest : List Node) (s end : TopState) : Type 0 where
-  pub room : HasRoom s
-  pub leads : LeadsToState (node.children ∷ without_next counts) rest (state_entered node s) end
+abbrev MayEnter : Gathering → ℕ → Node → Type 0
+MayEnter g _ _ = MayGather HasRoom g
 
-module _ (node : Node) (below beside : Forest) (s : TopState) where
-  abbrev first_tree : TopState
-  first_tree = walked (grown node below bare) s
+abbrev Enters : Gathering → ℕ → Node → Gathering → Type 0
+Enters old _ node new = Gathers (state_entered node) old new
 
-  behind : walked beside first_tree ≡ walked (grown node below beside) s
-  behind = beside_it node below beside s.nodes s.open_at s.covered s.leaves
+abbrev MayLeave : Gathering → ℕ → Type 0
+MayLeave g _ = MayGather IsOpen g
 
-  -- the trees below the first node come next, and then those beside it
-  entered_first : (counts : List ℕ) (later rest : List Node) (end : TopState)
-      → AreFirst (grown node below beside) (node ∷ rest) later s
-      → (AreFirst beside (prefix beside ++ later) later first_tree
-      → LeadsToState (without_next counts) (prefix beside ++ later) first_tree end)
-      → Entered counts node rest s end
-  entered_first counts later rest end first leads =
-      let are : rest ≡ (prefix below ++ prefix beside) ++ later = cc first.nodes_are in
-      let size : node.children ≡ tree_count below = sym first.children.0 in
-      record {
-        room = room_now node below beside s first.room;
-        leads = (
-          below,
-          prefix beside ++ later,
-          record {
-            children = first.children.1;
-            nodes_are = are ∙ append_assoc (prefix below) (prefix beside) later;
-            room = room_below node below beside s first.room;
-          },
-          first.children.0,
-          can_leave node below beside s first.room,
-          subst (λ u. LeadsToState (without_next counts) (prefix beside ++ later) u end) (sym (around node below s.nodes s.open_at s.covered s.leaves size))
-              (leads (record { children = first.children.2; nodes_are = refl; room = room_beside node below beside s first.room })),
-        );
-      }
+abbrev Leaves : Gathering → ℕ → Gathering → Type 0
+Leaves old _ new = Gathers state_left old new
 
-enter_root : (trees : Forest) (node : Node) (rest : List Node) (s end : TopState) → AreFirst trees (node ∷ rest) [] s
-    → walked trees s ≡ end → Entered [] node rest s end
-enter_root bare node rest s end first ends = absurd (cc first.nodes_are)
-enter_root (grown x below beside) node rest s end first ends =
-    let same : node ≡ x = cc first.nodes_are in
-    subst (λ n. AreFirst (grown x below beside) (n ∷ rest) [] s → Entered [] n rest s end) (sym same)
-    (λ first. entered_first x below beside s [] [] rest end first (λ next. (beside, next, behind x below beside s ∙ ends))) first
+abbrev Accepted : List Event → Gathering → Type 0
+Accepted steps g = Accepts MayEnter Enters MayLeave Leaves steps g
 
-enter_under : (trees : Forest) (count : ℕ) (counts : List ℕ) (node : Node) (rest later : List Node) (s end : TopState)
-    → 1 ≤ count → AreFirst trees (node ∷ rest) later s → tree_count trees ≡ count → IsOpen (walked trees s)
-    → LeadsToState counts later (state_left (walked trees s)) end → Entered (count ∷ counts) node rest s end
-enter_under bare count counts node rest later s end some first size opens leads = absurd (omega (arith, size))
-enter_under (grown x below beside) count counts node rest later s end some first size opens leads =
-    let same : node ≡ x = cc first.nodes_are in
-    let whole = sym (behind x below beside s) in
-    subst (λ n. AreFirst (grown x below beside) (n ∷ rest) later s → Entered (count ∷ counts) n rest s end) (sym same)
-    (λ first. entered_first x below beside s (count ∷ counts) later rest end first
-    (λ next. (beside, later, next, omega (arith, size), subst IsOpen whole opens, subst (λ u. LeadsToState counts later (state_left u) end) whole leads))) first
+abbrev Led : List Event → Gathering → Gathering → Type 0
+Led steps g h = Leads MayEnter Enters MayLeave Leaves steps g h
 
-enter_next : (counts : List ℕ) (node : Node) (rest : List Node) (s end : TopState) → HasNextChild counts
-    → LeadsToState counts (node ∷ rest) s end → Entered counts node rest s end
-enter_next [] node rest s end next (trees, first, ends) = enter_root trees node rest s end first ends
-enter_next (count ∷ counts) node rest s end next (trees, later, first, size, opens, leads) =
-    enter_under trees count counts node rest later s end next first size opens leads
+-- the steps of a first tree and those beside it, before others
+abbrev after_first : ℕ → Node → Forest → Forest → List Event → List Event
+after_first k node below beside rest = events_from (k + 1) below ++ (Leave k ∷ (events_from (k + 1 + node_count below) beside ++ rest))
 
--- the node behind the first k is the next one
-comes_next : (nodes : List Node) (k : ℕ) (node : Node) → slice_get nodes (k + 1 - 1) ≡ Some node
-    → drop k nodes ≡ node ∷ drop (k + 1) nodes
-comes_next nodes k node read =
-    let back : k ≡ k + 1 - 1 = omega arith in
-    let here : slice_get nodes k ≡ Some node = ap (slice_get nodes) back ∙ read in
-    drop_more nodes k node (slice_get_within nodes k node here) ∙ ap (λ x. x ∷ drop (k + 1) nodes) (get_or_from_slice_get nodes k node node here)
+steps_apart : (k : ℕ) (node : Node) (below beside : Forest) (rest : List Event)
+    → (events_from (k + 1) below ++ (Leave k ∷ events_from (k + 1 + node_count below) beside)) ++ rest
+    ≡ after_first k node below beside rest
+steps_apart k node below beside rest = append_assoc (events_from (k + 1) below) (Leave k ∷ events_from (k + 1 + node_count below) beside) rest
 
--- where the first k nodes were entered, there is room to enter the next one, and the nodes behind it then lead on to
--- the state after the whole tree
-pub enter_node : (tree : Forest) (k : ℕ) (node : Node) (walk : Walk) → slice_get (prefix tree) (k + 1 - 1) ≡ Some node
-    → HasWalked tree k walk
-    → Entered walk.to_come node (drop (k + 1) (prefix tree)) (state_of walk.tops) (walked tree at_start)
-enter_node tree k node walk read so_far =
-    enter_next walk.to_come node (drop (k + 1) (prefix tree)) (state_of walk.tops) (walked tree at_start) so_far.next
-    (subst (λ nodes. LeadsToState walk.to_come nodes (state_of walk.tops) (walked tree at_start)) (comes_next (prefix tree) k node read) so_far.leads)
+none_gathered : (v : Gathering) → Gathers (walked bare) v v
+none_gathered v ok = let s : TopState = state_of v.tops in (ok, sym (no_trees s.nodes s.open_at s.covered s.leaves))
 
--- the innermost node can be left, and the nodes to come lead on
-pub record Left (counts : List ℕ) (rest : List Node) (s end : TopState) : Type 0 where
-  pub opens : IsOpen s
-  pub leads : LeadsToState counts rest (state_left s) end
+module _ (node : Node) (below : Forest) (size : node.children ≡ tree_count below) (v entered full left : Gathering)
+    (enters : Gathers (state_entered node) v entered) (under : Gathers (walked below) entered full) where
+  -- before the node is left
+  full_is : IsOk full.so_far → IsOk v.so_far × (state_of full.tops ≡ walked below (state_entered node (state_of v.tops)))
+  full_is ok = let h = under ok in let e = enters h.0 in (e.0, h.1 ∙ ap (walked below) e.1)
 
-leave_under : (trees : Forest) (counts : List ℕ) (rest later : List Node) (s end : TopState)
-    → AreFirst trees rest later s
-    → tree_count trees ≡ 0 → IsOpen (walked trees s) → LeadsToState counts later (state_left (walked trees s)) end
-    → Left counts rest s end
-leave_under (grown x below beside) counts rest later s end first none opens leads = absurd (omega (arith, none))
-leave_under bare counts rest later s end first none opens leads =
-    let same = no_trees s.nodes s.open_at s.covered s.leaves in
-    record {
-      opens = subst IsOpen same opens;
-      leads = subst (λ nodes. LeadsToState counts nodes (state_left s) end) (sym first.nodes_are) (subst (λ u. LeadsToState counts later (state_left u) end) same leads);
-    }
+  -- and after it
+  first_gathered : Gathers state_left full left → Gathers (walked (grown node below bare)) v left
+  first_gathered leaves ok =
+      let s : TopState = state_of v.tops in
+      let l = leaves ok in
+      let f = full_is l.0 in
+      (f.0, l.1 ∙ ap state_left f.1 ∙ around node below s.nodes s.open_at s.covered s.leaves size)
 
--- a node none of whose children is to come is left
-pub leave_next : (old counts : List ℕ) (rest : List Node) (s end : TopState) → old ≡ 0 ∷ counts
-    → LeadsToState old rest s end
-    → Left counts rest s end
-leave_next old counts rest s end full leads = innermost (subst (λ ns. LeadsToState ns rest s end) full leads)
-  where
-    innermost : LeadsToState (0 ∷ counts) rest s end → Left counts rest s end
-    innermost (trees, later, first, none, opens, on) = leave_under trees counts rest later s end first none opens on
+all_gathered : (node : Node) (below beside : Forest) (v left end : Gathering)
+    → Gathers (walked (grown node below bare)) v left → Gathers (walked beside) left end
+    → Gathers (walked (grown node below beside)) v end
+all_gathered node below beside v left end first others ok =
+    let s : TopState = state_of v.tops in
+    let o = others ok in
+    let f = first o.0 in
+    (f.0, o.1 ∙ ap (walked beside) f.1 ∙ beside_it node below beside s.nodes s.open_at s.covered s.leaves)
 
--- where no node is to come, the walk has ended
-end_root : (trees : Forest) (s end : TopState) → AreFirst trees [] [] s → walked trees s ≡ end → s ≡ end
-end_root (grown x below beside) s end first ends = absurd (cc first.nodes_are)
-end_root bare s end first ends = sym (no_trees s.nodes s.open_at s.covered s.leaves) ∙ ends
+accepts : (t : Forest) (k : ℕ) (rest : List Event) (v : Gathering) → HasItsChildren t
+    → MayGather (λ s. Room s (node_count t)) v
+    → ((w : Gathering) → Gathers (walked t) v w → Accepted rest w)
+    → Accepted (events_from k t ++ rest) v
+accepts bare k rest v children room on = on v (none_gathered v)
+accepts (grown node below beside) k rest v children room on = (
+  λ ok. room_now node below beside (state_of v.tops) (room ok),
+  λ entered enters. subst (λ steps. Accepted steps entered) (sym (steps_apart k node below beside rest))
+      (accepts below (k + 1) (Leave k ∷ (events_from (k + 1 + node_count below) beside ++ rest)) entered children.1
+      (λ ok. let e = enters ok in
+      subst (λ s. Room s (node_count below)) (sym e.1) (room_below node below beside (state_of v.tops) (room e.0)))
+      (λ full under. (
+        λ ok. let f = full_is node below (sym children.0) v entered full full enters under ok in
+            subst IsOpen (sym f.1) (can_leave node below beside (state_of v.tops) (room f.0)),
+        λ left leaves.
+            let first = first_gathered node below (sym children.0) v entered full left enters under leaves in
+            accepts beside (k + 1 + node_count below) rest left children.2
+            (λ ok. let f = first ok in
+            subst (λ s. Room s (node_count beside)) (sym f.1) (room_beside node below beside (state_of v.tops) (room f.0)))
+            (λ end others. on end (all_gathered node below beside v left end first others)),
+      ))),
+)
 
-none_under : (trees : Forest) (count : ℕ) (later : List Node) (s : TopState) → 1 ≤ count → AreFirst trees [] later s
-    → tree_count trees ≡ count → ⊥
-none_under bare count later s some first size = omega (arith, size)
-none_under (grown x below beside) count later s some first size = cc first.nodes_are
+leads : (t : Forest) (k : ℕ) (rest : List Event) (v w : Gathering) → HasItsChildren t
+    → Led (events_from k t ++ rest) v w
+    → (u : Gathering) × (Gathers (walked t) v u × Led rest u w)
+leads bare k rest v w children led = (v, (none_gathered v, led))
+leads (grown node below beside) k rest v w children (entered, enters, led) =
+    let under = leads below (k + 1) (Leave k ∷ (events_from (k + 1 + node_count below) beside ++ rest)) entered w children.1
+    (subst (λ steps. Led steps entered w) (steps_apart k node below beside rest) led) in
+    let leaving = under.1.1 in
+    let others = leads beside (k + 1 + node_count below) rest leaving.0 w children.2 leaving.2 in
+    let first = first_gathered node below (sym children.0) v entered under.0 leaving.0 enters under.1.0 leaving.1 in
+    (others.0, (all_gathered node below beside v leaving.0 others.0 first others.1.0, others.1.1))
 
--- where no node is to come, and the innermost one, if there is one, has a child to come, the end is reached
-pub all_walked : (counts : List ℕ) (s end : TopState) → HasNextChild counts → LeadsToState counts [] s end → s ≡ end
-all_walked [] s end next (trees, first, ends) = end_root trees s end first ends
-all_walked (count ∷ counts) s end next (trees, later, first, size, opens, leads) = absurd (none_under trees count later s next first size)
+-- from the start there is room for each step of a walk through a game's tree
+pub accepts_walk : (tree : Forest) (v : Gathering) → IsGameTree tree → state_of v.tops ≡ at_start
+    → Accepted (events tree) v
+accepts_walk tree v game start =
+    let limit : node_count tree ≤ most_nodes = game.limit in
+    subst (λ steps. Accepted steps v) (append-nil (events tree))
+    (accepts tree 1 [] v game.tree.children
+    (λ _. subst (λ s. Room s (node_count tree)) (sym start) (record { nodes = omega arith; covered = omega arith; leaves = omega arith }))
+    (λ w _. tt))
+
+-- and then the nodes at the top of the tree are gathered
+pub gathers_tops : (tree : Forest) (v w : Gathering) → IsGameTree tree → state_of v.tops ≡ at_start
+    → Led (events tree) v w → IsOk w.so_far → w.tops.nodes.items ≡ tops_from 0 tree
+gathers_tops tree v w game start led ok =
+    let all = leads tree 1 [] v w game.tree.children (subst (λ steps. Led steps v w) (sym (append-nil (events tree))) led) in
+    let same : w ≡ all.0 = all.1.1 in
+    let gathered = all.1.0 (subst (λ g. IsOk g.so_far) same ok) in
+    ap (λ (g : Gathering). g.tops.nodes.items) same ∙ ap (λ (s : TopState). s.nodes) (gathered.1 ∙ ap (walked tree) start)

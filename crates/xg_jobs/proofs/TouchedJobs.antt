@@ -1,7 +1,7 @@
 -- The rows of each job.
 use Rattle.std.proofs.Common.{◌≡◌, ℕ, zero, suc, ◌+◌, ◌<◌, ◌≤◌, max, List, [], ◌∷◌, ◌++◌, length, get_or, take, map, All, sym, ap, subst, ◌∙◌, arith, length-append}
 use Rattle.std.specs.Prelude.{flat_map}
-use Rattle.std.proofs.lemmas.List.{take_more, map_push, get_or-map, length-map, length-take, length-drop}
+use Rattle.std.proofs.lemmas.List.{take_more, map_push, get_or-map, length-map}
 use Rattle.std.proofs.lemmas.List.FromFn.{length-range_with_len}
 use Rattle.def_tree.specs.Tree.{Forest, prefix, leaf_count, tree_count}
 use Rattle.def_game_paths.specs.Paths.{leaf_visits}
@@ -10,8 +10,7 @@ use Rattle.def_history.specs.Ranges.{LeafRange as RangeOfLeaves, leaves_of, rang
 use Rattle.def_history.proofs.Ranges.{partition}
 use Rattle.def_plan.specs.Form.{SequenceForm}
 use Rattle.def_sequence_form.proofs.Leaves.{leaves_counted, length-leaves_with}
-use Rattle.def_history.specs.JobRows.{job_leaves}
-use Rattle.xg_touched.specs.Touched.{JobRows, job_rows, leaf_rows}
+use Rattle.xg_touched.specs.Touched.{JobRows, job_rows}
 use Rattle.xg_jobs.specs.declared.table.LeafRange.{LeafRange}
 use Rattle.xg_jobs.specs.Groups.{greatest_of}
 use Rattle.xg_jobs.specs.Ranges.{range_of}
@@ -82,40 +81,29 @@ at_most_touched touched k d low =
     omega (arith, at_most_greatest (map size touched) k, get_or-map size touched k d 0 low)
 
 -- what a table tells of a job
-pub record JobIsTouched (form : SequenceForm) (table : TableOfJobs) (job : ℕ) (touched : JobRows)
-    (range : LeafRange) : Type 0 where
-  pub range_is : get_or table.ranges job (record { first = 0; count = 0 }) ≡ range_of range
-  pub inside : range.first + range.count ≤ length form.leaves
-  pub count : length touched.leaves ≡ range.count
-  pub rows : touched ≡ job_rows form (record { first = range.first; count = length touched.leaves })
+pub record JobIsTouched (form : SequenceForm) (table : TableOfJobs) (job : ℕ) (touched : JobRows) : Type 0 where
+  pub range_is : get_or table.ranges job (record { first = 0; count = 0 }) ≡ touched.range
+  pub inside : touched.range.first + touched.range.count ≤ length form.leaves
+  pub rows : touched ≡ job_rows form touched.range
   pub few : length touched.rows ≤ most_touched table.touched
 
 -- a table built from a form tells so of each of its jobs
-pub job_is_touched : (form : SequenceForm) (table : TableOfJobs) (job : ℕ) (ranges : List LeafRange) (touched : JobRows)
-    (range : LeafRange)
-    → IsTableOf form table → job < length table.ranges → map range_of ranges ≡ table.ranges
-    → range ≡ get_or ranges job range → touched ≡ get_or table.touched job touched
-    → JobIsTouched form table job touched range
-job_is_touched form table job ranges touched range is low known read found =
+pub job_is_touched : (form : SequenceForm) (table : TableOfJobs) (job : ℕ) (touched : JobRows)
+    → IsTableOf form table → job < length table.ranges → touched ≡ get_or table.touched job touched
+    → JobIsTouched form table job touched
+job_is_touched form table job touched is low found =
     let none : RangeOfLeaves = record { first = 0; count = 0 } in
     let tree : Forest = is.tree in
+    let range : RangeOfLeaves = get_or (job_ranges tree) job none in
     let ranges_are : table.ranges ≡ job_ranges tree = ap (λ (t : TableOfJobs). t.ranges) is.table_is in
     let touched_are : table.touched ≡ map (job_rows form) (job_ranges tree) = ap (λ (t : TableOfJobs). t.touched) is.table_is in
     let there : job < length (job_ranges tree) = subst (λ rs. job < length rs) ranges_are low in
-    let here : job < length ranges = omega (arith, ap (length {A = RangeOfLeaves}) known, length-map ranges range_of, low) in
-    let range_is : get_or table.ranges job none ≡ range_of range =
-    ap (λ rs. get_or rs job none) (sym known) ∙ get_or-map range_of ranges job range none here ∙ ap range_of (sym read) in
-    let at : get_or (job_ranges tree) job none ≡ range_of range = ap (λ rs. get_or rs job none) (sym ranges_are) ∙ range_is in
-    let whole : touched ≡ job_rows form (range_of range) =
-    found ∙ ap (λ ts. get_or ts job touched) touched_are ∙ get_or-map (job_rows form) (job_ranges tree) job none touched there ∙ ap (job_rows form) at in
-    let inside : range.first + range.count ≤ length form.leaves =
-    subst (λ (r : RangeOfLeaves). r.first + r.count ≤ length form.leaves) at (ranges_inside form tree is.form_is is.rules.tree.one job none there) in
-    let count : length touched.leaves ≡ range.count =
-    ap (λ (t : JobRows). length t.leaves) whole ∙ length-map (job_leaves form (range_of range)) (leaf_rows form) ∙ simp (length-take, length-drop) (omega arith) in
+    let whole : touched ≡ job_rows form range =
+    found ∙ ap (λ ts. get_or ts job touched) touched_are ∙ get_or-map (job_rows form) (job_ranges tree) job none touched there in
+    let same : range ≡ touched.range = sym (ap (λ (t : JobRows). t.range) whole) in
     record {
-      range_is = range_is;
-      inside = inside;
-      count = count;
-      rows = whole ∙ ap (λ n. job_rows form (record { first = range.first; count = n })) (sym count);
+      range_is = ap (λ rs. get_or rs job none) ranges_are ∙ same;
+      inside = subst (λ (r : RangeOfLeaves). r.first + r.count ≤ length form.leaves) same (ranges_inside form tree is.form_is is.rules.tree.one job none there);
+      rows = whole ∙ ap (job_rows form) same;
       few = omega (arith, ap (λ (t : JobRows). length t.rows) found, at_most_touched table.touched job touched (omega (arith, ap (length {A = JobRows}) touched_are, length-map (job_ranges tree) (job_rows form), there)));
     }

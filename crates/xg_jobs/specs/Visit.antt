@@ -1,11 +1,12 @@
 -- The nodes at the top as a walk through the tree gathers them.
-use Rattle.std.specs.Prelude.{ℕ, zero, suc, ◌+◌, ◌-◌, ◌<◌, ◌≤◌, false, List, [], ◌∷◌, ◌++◌, length, if◌then◌else◌, slice_index_or, slice_set}
+use Rattle.std.specs.Prelude.{◌≡◌, ℕ, zero, suc, ◌+◌, ◌-◌, ◌<◌, ◌≤◌, false, List, [], ◌∷◌, ◌++◌, length, if◌then◌else◌, slice_index_or, slice_set, IsOk}
 use Rattle.def_tree.specs.declared.Kind.TheVariants.{Chance}
 use Rattle.def_tree.specs.declared.Node.{Node}
 use Rattle.def_tree.specs.Rules.{is_same_kind, most_nodes}
 use Rattle.def_tree.specs.Tree.{leaf_count}
 use Rattle.xg_jobs.specs.declared.tops.TopNode.{TopNode}
 use Rattle.xg_jobs.specs.declared.tops.Tops.{Tops}
+use Rattle.xg_jobs.specs.declared.tops.Gathering.{Gathering}
 
 pub record TopState : Type 0 where
   pub nodes : List TopNode
@@ -69,3 +70,14 @@ pub record IsOpen (s : TopState) : Type 0 where
   pub count : length s.nodes ≤ most_nodes
   pub there : s.covered ≤ 1 → s.open_at < length s.nodes
   pub before : s.covered ≤ 1 → (open_top s).leaves ≤ s.leaves
+
+abbrev pub at_start : TopState
+at_start = record { nodes = []; open_at = 0; covered = 0; leaves = 0 }
+
+-- the state allows a visitor's call, unless memory was refused
+abbrev pub MayGather : (TopState → Type 0) → Gathering → Type 0
+MayGather Allows g = IsOk g.so_far → Allows (state_of g.tops)
+
+-- the call makes this of the state, unless memory is refused by then
+abbrev pub Gathers : (TopState → TopState) → Gathering → Gathering → Type 0
+Gathers f old new = IsOk new.so_far → IsOk old.so_far × (state_of new.tops ≡ f (state_of old.tops))

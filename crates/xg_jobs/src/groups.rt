@@ -1,11 +1,8 @@
 //! The groups of player one's sequences, with the smallest entries that have room.
 ghost use Rattle.std.specs.Prelude.{◌≡◌, ℕ, ◌*◌, ◌^◌, ◌<◌, ◌≤◌, max, All, IfOk, IsTrue, OnOk, length};
-ghost use Rattle.def_sums.specs.Limits.{most_mass, most_root};
-ghost use Rattle.def_tree.specs.Rules.{most_nodes};
+ghost use Rattle.def_sums.specs.Limits.{most_root};
 ghost use Rattle.def_tree.specs.declared.Player.TheVariants.{One};
 ghost use Rattle.def_plan.specs.Form.{sequence_count};
-ghost use Rattle.def_plan.specs.Payoff.{mass_of};
-ghost use Rattle.xg_seq.specs.Leaves.{HasSequences};
 ghost use Rattle.xg_jobs.specs.Grouping.{pair_weights};
 ghost use Rattle.xg_jobs.specs.Groups.{greatest_of};
 ghost use Rattle.xg_jobs.specs.Rows.{AreNumbersOf, ArePlainSums};
@@ -80,7 +77,8 @@ impl LeafGroups {
     {
         let starts = starts_of(alloc, form, Player::One)?;
         let mass = total_mass(form);
-        let others = other_count(form);
+        form.facts();
+        let others = form.sequence_count(Player::Two);
         let entries = entries_of(alloc, form, Player::One, &starts)?;
         let groups = merged(alloc, &starts, &entries, others)?;
         let packed = Entries::packed(alloc, groups.entries)?;
@@ -105,8 +103,7 @@ impl LeafGroups {
         requires rows_two { length rows.old.two ≡ sequence_count input.now.form.now.sets_two }
         ensures { OnOk result (ArePlainSums input.now.form.now input.now.one.now input.now.two.now rows.new) }
     {
-        // the sequences of a form's leaves are within their limits
-        let _others = other_count(input.form);
+        input.form.facts();
         let narrow = sums_fit_word(self.mass, input.one, input.two);
         let starts = &self.starts;
         match &self.entries {
@@ -115,19 +112,6 @@ impl LeafGroups {
             Entries::Wide(entries) => write_rows(alloc, narrow, starts, entries, input, rows),
         }
     }
-}
-
-// How many sequences player two has.
-fn other_count(form: &SeqForm) -> u32
-    ensures count { result ≡ sequence_count form.now.sets_two }
-
-    // What is true of every form.
-    ensures sequences { All (HasSequences form.now) form.now.leaves }
-    ensures mass { mass_of form.now.leaves ≤ most_mass }
-    ensures limit { length form.now.leaves ≤ most_nodes }
-{
-    let _leaves = form.leaf_count();
-    form.sequence_count(Player::Two)
 }
 
 // Whether each sum is within 64 bits, with its sign. Light weights tell it whatever the numbers are.

@@ -116,9 +116,8 @@ impl JobTable {
             IsPacketOf (amounts amount self.now.ranges) (row_count input.now.form.now) job into.new.entries.list }
         ensures room { into.new.entries.room ≡ into.old.entries.room }
     {
-        let range = self.ranges[job as usize];
         let touched = &self.touched[job as usize];
-        touched.packet_into(job, range.first, input.form, input.one, input.two, into);
+        touched.packet_into(job, input.form, input.one, input.two, into);
     }
 
     /// Writes the sums over all leaves.

@@ -1,15 +1,13 @@
 //! The nodes at the top of the tree, which only chance moves stand above.
-ghost use Rattle.std.specs.Prelude.{◌≡◌, ◌+◌, ◌<◌, ◌≤◌, [], ◌∷◌, IfOk, IsFalse, IsTrue, OnOk};
+ghost use Rattle.std.specs.Prelude.{◌≡◌, [], ◌∷◌, IfOk, OnOk};
 ghost use Rattle.def_tree.specs.declared.Kind.TheVariants.{Chance};
-ghost use Rattle.def_tree.specs.Rules.{IsGameTree, is_same_kind, most_nodes};
-ghost use Rattle.def_tree.specs.Tree.{Forest, leaf_count, node_count};
+ghost use Rattle.def_tree.specs.Rules.{is_same_kind};
+ghost use Rattle.def_tree.specs.Tree.{leaf_count};
 ghost use Rattle.xg_jobs.specs.Tops.{tops_from};
-ghost use Rattle.xg_jobs.specs.Walked.{HasNextChild, HasWalked, without_next};
 
 use def_tree::{Kind, Node};
 use std::alloc::{AllocError, Global};
-use std::marker::Model;
-use xg_tree::Tree;
+use xg_tree::{Tree, Visitor};
 
 /// A node at the top of the tree: each node above it is a chance node.
 #[derive(Clone, Copy)]
@@ -27,98 +25,60 @@ pub(crate) struct TopNode {
 pub(crate) fn tops_of(alloc: Global, tree: &Tree) -> Result<Vec<TopNode>, AllocError>
     ensures { IfOk result (λ tops. tops.items ≡ tops_from 0 tree.now) }
 {
-    let mut walk = Walk::new(alloc);
-    for k in 0..tree.len() {
-        walk.enter(tree, k)?;
-    }
-    Ok(walk.tops.nodes)
+    // a tree's rules limit its nodes, and so all counts here
+    let _nodes = tree.len();
+    let mut gathering = Gathering::new(alloc);
+    tree.walk(&mut gathering);
+    gathering.so_far?;
+    Ok(gathering.tops.nodes)
 }
 
-// A walk through a tree, depth first: the nodes at the top so far, and the nodes that aren't left.
+// Gathers the nodes at the top on a walk, until memory is refused.
 #[derive(Drop)]
-struct Walk {
+struct Gathering {
     tops: Tops,
-    to_come: ToCome,
+    so_far: Result<(), AllocError>,
 }
 
-impl Walk {
-    // A walk that has entered no node.
-    fn new(alloc: Global) -> Walk
-        ensures { (tree : Forest) → IsGameTree tree → HasWalked tree 0 result }
+impl Gathering {
+    ghost use Rattle.xg_jobs.specs.Visit.{at_start, state_of};
+
+    fn new(alloc: Global) -> Gathering
+        ensures { state_of result.tops ≡ at_start }
     {
-        Walk {
+        Gathering {
             tops: Tops {
                 nodes: Vec::new(alloc),
                 open: 0,
                 covered: 0,
                 leaves: 0,
             },
-            to_come: ToCome::new(alloc),
+            so_far: Ok(()),
+        }
+    }
+}
+
+impl Visitor for Gathering {
+    ghost use Rattle.xg_jobs.specs.Visit.{HasRoom, IsOpen, MayGather, Gathers, state_entered, state_left, state_of};
+
+    ghost may_enter = { λ g _ _. MayGather HasRoom g };
+
+    ghost enters = { λ old _ node new. Gathers (state_entered node) old new };
+
+    ghost may_leave = { λ g _. MayGather IsOpen g };
+
+    ghost leaves = { λ old _ new. Gathers state_left old new };
+
+    fn enter(&mut self, _k: u32, node: Node) {
+        if self.so_far.is_ok() {
+            self.so_far = self.tops.enter(node);
         }
     }
 
-    // Enters the node that comes after the first `k`, and leaves each node whose last child is left.
-    fn enter(&mut self, tree: &Tree, k: u32) -> Result<(), AllocError>
-        requires limit { node_count tree.now ≤ most_nodes }
-        requires there { k < node_count tree.now }
-        requires walked { HasWalked tree.now k self.old }
-        ensures { OnOk result (HasWalked tree.now (k + 1) self.new) }
-    {
-        let node = tree.node(k + 1);
-        self.to_come.enter(node)?;
-        self.tops.enter(node)?;
-        while self.to_come.leave() {
+    fn leave(&mut self, _k: u32) {
+        if self.so_far.is_ok() {
             self.tops.leave();
         }
-        Ok(())
-    }
-}
-
-// Of each node that isn't left, the innermost first, how many children are to come.
-#[derive(Drop)]
-struct ToCome {
-    counts: Vec<u32>,
-}
-
-impl Model for ToCome {
-    ghost use Rattle.std.specs.Prelude.{List, reverse, ℕ};
-
-    ghost Value = { List ℕ };
-
-    ghost view = { λ t. reverse t.counts.items };
-}
-
-impl ToCome {
-    fn new(alloc: Global) -> ToCome
-        ensures { result ≡ [] }
-    {
-        ToCome {
-            counts: Vec::new(alloc),
-        }
-    }
-
-    // A node is entered: it is the next child of the innermost one, and the innermost one from here on.
-    fn enter(&mut self, node: Node) -> Result<(), AllocError>
-        requires { HasNextChild self.old }
-        ensures { OnOk result (self.new ≡ node.children ∷ without_next self.old) }
-    {
-        if let Some(above) = self.counts.pop() {
-            self.counts.push(above - 1)?;
-        }
-        self.counts.push(node.children)?;
-        Ok(())
-    }
-
-    // Leaves the innermost node, if none of its children is to come.
-    fn leave(&mut self) -> bool
-        ensures left { IsTrue result → self.old ≡ 0 ∷ self.new }
-        ensures same { IsFalse result → (self.new ≡ self.old) × HasNextChild self.new }
-    {
-        let full = matches!(self.counts.last(), Some(0));
-        if full {
-            let _left = self.counts.pop();
-        }
-        full
     }
 }
 

@@ -1,5 +1,6 @@
 mod Rising
 mod Leaves
 mod Touching
-mod Adding
+mod Following
 mod Sizes
+mod FirstLeaves

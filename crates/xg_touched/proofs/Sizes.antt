@@ -1,14 +1,19 @@
--- The sizes of what leaves bring to a row.
-use Rattle.std.proofs.Common.{ℕ, zero, suc, ◌-◌, ◌*◌, ◌^◌, ◌<◌, ◌≤◌, List, [], ◌∷◌, get_or, take, drop, All, arith}
-use Rattle.std.specs.Prelude.{unsigned_abs}
+-- The sizes of what leaves bring to a sequence.
+use Rattle.std.proofs.Common.{◌≡◌, ℕ, zero, suc, ◌-◌, ◌*◌, ◌^◌, ◌<◌, ◌≤◌, Bool, true, false, cond, eqb, List, [], ◌∷◌, get_or, take, drop, All, ap, arith}
+use Rattle.std.specs.Prelude.{ℤ, pos, ◌+ℤ◌, ◌*ℤ◌, slice_index, unsigned_abs}
+use Rattle.std.proofs.Math.Nat.{mul-le-mul_left}
+use Rattle.std.proofs.lemmas.Int.{ints, unsigned_abs-mul}
 use Rattle.def_sums.specs.Limits.{most_mass, most_root}
 use Rattle.def_sums.proofs.SumLaws.{unsigned_abs-sum_over, nat_sum_over-mono, nat_sum_over-factor}
-use Rattle.def_plan.specs.Form.{SequenceForm, Leaf}
-use Rattle.def_plan.specs.Payoff.{mass_of}
+use Rattle.def_tree.specs.declared.Player.{Player}
+use Rattle.def_tree.specs.Opponent.{opponent}
+use Rattle.def_plan.specs.Form.{Leaf, leaf_sequence}
+use Rattle.def_plan.specs.FormRows.{amount_at}
+use Rattle.def_plan.specs.Payoff.{leaf_sum, mass_of}
+use Rattle.def_plan.specs.Threads.{sequence_of_leaf}
+use Rattle.def_plan.proofs.Rows.{leaf_sums_add_amounts}
 use Rattle.def_plan.proofs.SizeLaws.{slice_index-at_most}
-use Rattle.def_plan.specs.FormRows.{amount_in_row}
-use Rattle.def_history.proofs.Amounts.{row_size}
-use Rattle.xg_touched.specs.Filling.{amount_upto}
+use Rattle.xg_touched.specs.Threads.{leaf_numbered, leaf_product, leaves_after, thread_sum}
 
 mass_take : (k : ℕ) (leaves : List Leaf) → mass_of (take k leaves) ≤ mass_of leaves
 mass_take zero leaves = omega arith
@@ -20,13 +25,67 @@ mass_drop zero leaves = omega arith
 mass_drop (suc k) [] = omega arith
 mass_drop (suc k) (x ∷ xs) = omega (arith, mass_drop k xs)
 
--- what some leaves of a form bring to a row has room
-pub upto_fits : (form : SequenceForm) (one two : List ℕ) (first k row : ℕ)
-    → All (λ n. n ≤ most_root) one → All (λ n. n ≤ most_root) two → mass_of form.leaves ≤ most_mass
-    → unsigned_abs (amount_upto form one two first k row) < 2 ^ 127
-upto_fits form one two first k row small_one small_two light =
-    let leaves : List Leaf = take k (drop first form.leaves) in
-    let sizes = unsigned_abs-sum_over (λ z. amount_in_row form one two z row) leaves in
-    let each = nat_sum_over-mono (λ z. unsigned_abs (amount_in_row form one two z row)) (λ z. unsigned_abs z.weight * most_root) leaves
-    (λ i d inside. row_size form one two most_root (get_or leaves i d) row (slice_index-at_most most_root one small_one) (slice_index-at_most most_root two small_two)) in
-    omega (arith, sizes, each, nat_sum_over-factor most_root (λ z. unsigned_abs z.weight) leaves, mass_take k (drop first form.leaves), mass_drop first form.leaves, light)
+mass_at : (leaves : List Leaf) (i : ℕ)
+    → unsigned_abs (get_or leaves i (record { sequence_one = 0; sequence_two = 0; weight = pos 0 })).weight ≤ mass_of leaves
+mass_at [] i = omega arith
+mass_at (x ∷ xs) zero = omega arith
+mass_at (x ∷ xs) (suc i) = omega (arith, mass_at xs i)
+
+product_size : (w : ℤ) (against : List ℕ) (s : ℕ) → All (λ n. n ≤ most_root) against
+    → unsigned_abs (w *ℤ pos (slice_index against s)) ≤ unsigned_abs w * most_root
+product_size w against s small =
+    omega (arith, unsigned_abs-mul w (pos (slice_index against s)), mul-le-mul_left (unsigned_abs w) (slice_index-at_most most_root against small s))
+
+amount_size : (player : Player) (against : List ℕ) (z : Leaf) (s : ℕ) → All (λ n. n ≤ most_root) against
+    → unsigned_abs (amount_at player against z s) ≤ unsigned_abs z.weight * most_root
+amount_size player against z s small = by_test (eqb (leaf_sequence player z) s)
+  where
+    by_test : (b : Bool)
+        → unsigned_abs (cond b (z.weight *ℤ pos (slice_index against (leaf_sequence (opponent player) z))) (pos 0))
+        ≤ unsigned_abs z.weight * most_root
+    by_test true = product_size z.weight against (leaf_sequence (opponent player) z) small
+    by_test false = omega arith
+
+leaf_sum_size : (player : Player) (xs : List Leaf) (against : List ℕ) (s : ℕ) → All (λ n. n ≤ most_root) against
+    → unsigned_abs (leaf_sum player xs against s) ≤ mass_of xs * most_root
+leaf_sum_size player xs against s small =
+    let each = nat_sum_over-mono (λ z. unsigned_abs (amount_at player against z s)) (λ z. unsigned_abs z.weight * most_root) xs
+    (λ i d inside. amount_size player against (get_or xs i d) s small) in
+    omega (
+      arith,
+      ap unsigned_abs (leaf_sums_add_amounts player xs against s),
+      unsigned_abs-sum_over (λ z. amount_at player against z s) xs,
+      each,
+      nat_sum_over-factor most_root (λ z. unsigned_abs z.weight) xs,
+    )
+
+-- what some later leaves of a thread bring has room
+after_size : (player : Player) (leaves : List Leaf) (against : List ℕ) (s z last : ℕ)
+    → All (λ n. n ≤ most_root) against → mass_of leaves ≤ most_mass
+    → unsigned_abs (leaf_sum player (leaves_after leaves z last) against s) ≤ most_mass * most_root
+after_size player leaves against s z last small light =
+    omega (arith, leaf_sum_size player (leaves_after leaves z last) against s small, mass_take (last - z) (drop z leaves), mass_drop z leaves)
+
+-- and so has a sum that they complete
+pub part_fits : (player : Player) (leaves : List Leaf) (against : List ℕ) (leaf z last s : ℕ) (part : ℤ)
+    → All (λ n. n ≤ most_root) against → mass_of leaves ≤ most_mass
+    → part +ℤ leaf_sum player (leaves_after leaves z last) against s ≡ thread_sum player leaves against leaf last
+    → unsigned_abs part < 2 ^ 127
+part_fits player leaves against leaf z last s part small light whole =
+    let head : ℤ = leaf_product player against (leaf_numbered leaves leaf) in
+    let own : ℤ = leaf_sum player (leaves_after leaves leaf last) against (sequence_of_leaf player leaf leaves) in
+    let rest : ℤ = leaf_sum player (leaves_after leaves z last) against s in
+    let first : unsigned_abs head ≤ most_mass * most_root =
+    omega (arith, product_size (leaf_numbered leaves leaf).weight against (leaf_sequence (opponent player) (leaf_numbered leaves leaf)) small, mass_at leaves (leaf - 1)) in
+    let mine : unsigned_abs own ≤ most_mass * most_root = after_size player leaves against (sequence_of_leaf player leaf leaves) leaf last small light in
+    let theirs : unsigned_abs rest ≤ most_mass * most_root = after_size player leaves against s z last small light in
+    sizes head own rest part first mine theirs whole
+  where
+    sizes : (head own rest part : ℤ) → unsigned_abs head ≤ most_mass * most_root → unsigned_abs own ≤ most_mass * most_root
+        → unsigned_abs rest ≤ most_mass * most_root → part +ℤ rest ≡ head +ℤ own → unsigned_abs part < 2 ^ 127
+    sizes head own rest part first mine theirs whole = omega (arith, ints)
+
+-- one leaf more is summed
+pub one_more : (part read product rest before whole : ℤ) → read ≡ product → before ≡ product +ℤ rest
+    → part +ℤ before ≡ whole → (part +ℤ read) +ℤ rest ≡ whole
+one_more part read product rest before whole is split sum = omega (arith, ints)

@@ -1,3 +1,3 @@
 pub mod Touched
-pub mod Places
+pub mod Threads
 pub mod Filling

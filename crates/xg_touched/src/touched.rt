@@ -1,50 +1,38 @@
 //! The rows of a job, and its packet.
-ghost use Rattle.std.specs.Prelude.{◌≡◌, ◌+◌, ◌≤◌, length, All, IfOk, pos};
+ghost use Rattle.std.specs.Prelude.{◌≡◌, ◌+◌, ◌<◌, ◌≤◌, [], length, take, All, IfOk, slice_index};
 ghost use Rattle.def_sums.specs.Limits.{most_root};
 ghost use Rattle.def_plan.specs.Form.{sequence_count};
 ghost use Rattle.def_history.specs.JobPackets.{packet_of};
 ghost use Rattle.xg_touched.specs.Filling.{amount_upto, entries_at_rows};
 ghost use Rattle.xg_touched.specs.Touched.{job_rows};
 
-use crate::building::{places_of, rows_of};
-use crate::filling::{add_leaf, put_rows};
+use crate::building::{first_leaves_of, rows_of};
+use crate::summing::thread_sum;
+use def_tree::Player;
 use std::alloc::{AllocError, Global};
 use std::marker::Model;
 use xg_rowcore::Packet;
 use xg_seq::SeqForm;
 
-/// The rows that a job's leaves have, in rising order, and where each leaf's two rows stand among them.
+/// The rows that a job's leaves have, in rising order, and for each row the first leaf of the job that has it.
 #[derive(Drop)]
 pub struct TouchedRows {
+    leaves_before: u32,
+    count: u32,
     rows: Vec<u32>,
-    places: Vec<LeafPlaces>,
-}
-
-/// The places of a leaf's two rows.
-#[derive(Clone, Copy)]
-pub(crate) struct LeafPlaces {
-    pub(crate) one: u32,
-    pub(crate) two: u32,
-}
-
-/// A leaf's two rows: that of player one's sequence, and that of player two's.
-#[derive(Clone, Copy)]
-pub(crate) struct LeafRows {
-    pub(crate) one: u32,
-    pub(crate) two: u32,
+    first_leaves: Vec<u32>,
 }
 
 impl Model for TouchedRows {
-    ghost use Rattle.std.specs.Prelude.{map};
     ghost use Rattle.xg_touched.specs.Touched.{JobRows};
 
     ghost Value = { JobRows };
 
-    ghost use Rattle.xg_touched.specs.Places.{KeepsPlaces, rows_at};
-
-    ghost view = { λ t. record { rows = t.rows.items; leaves = map (rows_at t.rows.items) t.places.items } };
-
-    ghost invariant = { λ t. KeepsPlaces t.rows.items t.places.items };
+    ghost view = { λ t. record {
+      range = record { first = t.leaves_before; count = t.count };
+      rows = t.rows.items;
+      first_leaves = t.first_leaves.items;
+    } };
 }
 
 impl TouchedRows {
@@ -59,8 +47,13 @@ impl TouchedRows {
         ensures { IfOk result (λ touched. touched ≡ job_rows form.now (record { first = first; count = count })) }
     {
         let rows = rows_of(alloc, form, first, count)?;
-        let places = places_of(alloc, form, first, count, &rows)?;
-        Ok(TouchedRows { rows, places })
+        let first_leaves = first_leaves_of(alloc, form, first, count, &rows)?;
+        Ok(TouchedRows {
+            leaves_before: first,
+            count,
+            rows,
+            first_leaves,
+        })
     }
 
     /// How many rows there are.
@@ -70,18 +63,10 @@ impl TouchedRows {
         self.rows.len()
     }
 
-    /// Makes the packet of the job, whose leaves stand behind so many others, from a number for each sequence.
-    pub fn packet_into(
-        &self,
-        job: u32,
-        first: u32,
-        form: &SeqForm,
-        one: &[u64],
-        two: &[u64],
-        into: &mut Packet,
-    )
-        requires leaves { first + length self.now.leaves ≤ length form.now.leaves }
-        requires rows { self.now ≡ job_rows form.now (record { first = first; count = length self.now.leaves }) }
+    /// Makes the packet of the job from a number for each sequence.
+    pub fn packet_into(&self, job: u32, form: &SeqForm, one: &[u64], two: &[u64], into: &mut Packet)
+        requires leaves { self.now.range.first + self.now.range.count ≤ length form.now.leaves }
+        requires rows { self.now ≡ job_rows form.now self.now.range }
         requires count_one { length one.now ≡ sequence_count form.now.sets_one }
         requires count_two { length two.now ≡ sequence_count form.now.sets_two }
         requires small_one { All (λ n. n ≤ most_root) one.now }
@@ -89,36 +74,115 @@ impl TouchedRows {
         requires room { length self.now.rows ≤ into.old.entries.room }
         ensures job { into.new.job ≡ job }
         ensures entries { into.new.entries ≡ record {
-          list = packet_of form.now one.now two.now (record { first = first; count = length self.now.leaves });
+          list = packet_of form.now one.now two.now self.now.range;
           room = into.old.entries.room;
         } }
     {
         into.start(job);
-        put_rows(&self.rows, into);
-        self.add_leaves(first, form, one, two, into);
+        let ones = self.put_rows_of_one(form, one, two, into);
+        self.put_rows_of_two(ones, form, one, two, into);
     }
 
-    // Adds all leaves to rows that have nothing yet.
-    fn add_leaves(&self, first: u32, form: &SeqForm, one: &[u64], two: &[u64], into: &mut Packet)
-        requires leaves { first + length self.now.leaves ≤ length form.now.leaves }
-        requires rows { self.now ≡ job_rows form.now (record { first = first; count = length self.now.leaves }) }
+    // Puts player one's rows, which come first. Answers how many they are.
+    fn put_rows_of_one(&self, form: &SeqForm, one: &[u64], two: &[u64], into: &mut Packet) -> usize
+        requires leaves { self.now.range.first + self.now.range.count ≤ length form.now.leaves }
+        requires rows { self.now ≡ job_rows form.now self.now.range }
         requires count_one { length one.now ≡ sequence_count form.now.sets_one }
         requires count_two { length two.now ≡ sequence_count form.now.sets_two }
         requires small_one { All (λ n. n ≤ most_root) one.now }
         requires small_two { All (λ n. n ≤ most_root) two.now }
-        requires nothing { into.old.entries.list ≡ entries_at_rows (λ _. pos 0) self.now.rows }
+        requires empty { into.old.entries.list ≡ [] }
+        requires room { length self.now.rows ≤ into.old.entries.room }
+        ensures ones { result ≤ length self.now.rows }
+        ensures others { result < length self.now.rows
+            → sequence_count form.now.sets_one ≤ slice_index self.now.rows result }
         ensures job { into.new.job ≡ into.old.job }
-        ensures entries { into.new.entries ≡ record {
-          list = entries_at_rows (amount_upto form.now one.now two.now first (length self.now.leaves)) self.now.rows;
-          room = into.old.entries.room;
-        } }
+        ensures entries { let amount = amount_upto form.now one.now two.now self.now.range.first self.now.range.count in
+            into.new.entries ≡ record {
+              list = entries_at_rows amount (take result self.now.rows);
+              room = into.old.entries.room;
+            } }
     {
-        // the mass and the sequences of a form's leaves are within their limits
-        let _leaves = form.leaf_count();
-        let mut z = first;
-        for places in &self.places {
-            z += 1;
-            add_leaf(form.leaf(z), *places, one, two, into);
+        let count = form.sequence_count(Player::One);
+        for i in 0..self.rows.len() {
+            if self.rows[i] >= count {
+                return i;
+            }
+            into.push(self.rows[i], self.amount_of_one(i, form, one, two));
         }
+        self.rows.len()
+    }
+
+    // Puts the rows from a place on, which are player two's.
+    fn put_rows_of_two(
+        &self,
+        ones: usize,
+        form: &SeqForm,
+        one: &[u64],
+        two: &[u64],
+        into: &mut Packet,
+    )
+        requires leaves { self.now.range.first + self.now.range.count ≤ length form.now.leaves }
+        requires rows { self.now ≡ job_rows form.now self.now.range }
+        requires count_one { length one.now ≡ sequence_count form.now.sets_one }
+        requires count_two { length two.now ≡ sequence_count form.now.sets_two }
+        requires small_one { All (λ n. n ≤ most_root) one.now }
+        requires small_two { All (λ n. n ≤ most_root) two.now }
+        requires ones { ones ≤ length self.now.rows }
+        requires others { ones < length self.now.rows
+            → sequence_count form.now.sets_one ≤ slice_index self.now.rows ones }
+        requires known { let amount = amount_upto form.now one.now two.now self.now.range.first self.now.range.count in
+            into.old.entries.list ≡ entries_at_rows amount (take ones self.now.rows) }
+        requires room { length self.now.rows ≤ into.old.entries.room }
+        ensures job { into.new.job ≡ into.old.job }
+        ensures entries { let amount = amount_upto form.now one.now two.now self.now.range.first self.now.range.count in
+            into.new.entries ≡ record {
+              list = entries_at_rows amount self.now.rows;
+              room = into.old.entries.room;
+            } }
+    {
+        for i in ones..self.rows.len() {
+            into.push(self.rows[i], self.amount_of_two(i, form, one, two));
+        }
+    }
+
+    // What the job's leaves bring to a row of player one.
+    fn amount_of_one(&self, i: usize, form: &SeqForm, one: &[u64], two: &[u64]) -> i128
+        requires there { i < length self.now.rows }
+        requires row { slice_index self.now.rows i < sequence_count form.now.sets_one }
+        requires leaves { self.now.range.first + self.now.range.count ≤ length form.now.leaves }
+        requires rows { self.now ≡ job_rows form.now self.now.range }
+        requires count_one { length one.now ≡ sequence_count form.now.sets_one }
+        requires count_two { length two.now ≡ sequence_count form.now.sets_two }
+        requires small_one { All (λ n. n ≤ most_root) one.now }
+        requires small_two { All (λ n. n ≤ most_root) two.now }
+        ensures { result ≡ amount_upto form.now one.now two.now self.now.range.first self.now.range.count
+            (slice_index self.now.rows i) }
+    {
+        // the limit of a form's leaves
+        form.facts();
+        let leaf = self.first_leaves[i];
+        let last = self.leaves_before + self.count;
+        thread_sum(form, Player::One, leaf, last, two)
+    }
+
+    // What they bring to a row of player two.
+    fn amount_of_two(&self, i: usize, form: &SeqForm, one: &[u64], two: &[u64]) -> i128
+        requires there { i < length self.now.rows }
+        requires row { sequence_count form.now.sets_one ≤ slice_index self.now.rows i }
+        requires leaves { self.now.range.first + self.now.range.count ≤ length form.now.leaves }
+        requires rows { self.now ≡ job_rows form.now self.now.range }
+        requires count_one { length one.now ≡ sequence_count form.now.sets_one }
+        requires count_two { length two.now ≡ sequence_count form.now.sets_two }
+        requires small_one { All (λ n. n ≤ most_root) one.now }
+        requires small_two { All (λ n. n ≤ most_root) two.now }
+        ensures { result ≡ amount_upto form.now one.now two.now self.now.range.first self.now.range.count
+            (slice_index self.now.rows i) }
+    {
+        // the limit of a form's leaves
+        form.facts();
+        let leaf = self.first_leaves[i];
+        let last = self.leaves_before + self.count;
+        thread_sum(form, Player::Two, leaf, last, one)
     }
 }

@@ -14,12 +14,12 @@ merged-requires c =
     let form = c.args.form.now in
     let st = c.in_ok-starts.starts.items in
     let raw : List GroupLeaf = map wide_leaf c.in_ok-entries.entries.items in
-    let others : ℕ = c.other_count-others.result in
+    let others : ℕ = c.sequence_count-others.result in
     let mass : ℕ = c.total_mass-mass.result in
-    let facts = c.other_count-others.ensures in
+    let facts = c.facts.ensures in
     let placed : ArePlaced form One st raw = subst (λ a. ArePlaced form One a raw) c.deref.ensures.value c.in_ok-entries.ensures in
-    let kept : KeepsGroups st raw others mass = groups_kept form One st raw others mass c.in_ok-starts.ensures placed facts.sequences facts.count c.total_mass-mass.ensures.mass facts.mass in
-    let few : length raw ≤ most_nodes = omega (arith, placed.count, facts.limit) in
+    let kept : KeepsGroups st raw others mass = groups_kept form One st raw others mass c.in_ok-starts.ensures placed facts.sequences c.sequence_count-others.ensures.count c.total_mass-mass.ensures.mass facts.mass in
+    let few : length raw ≤ most_nodes = omega (arith, placed.count, facts.leaves) in
     subst (λ a. CanMerge a (map wide_leaf c.deref-3.result.now) others) (sym c.deref-2.ensures.value)
     (subst (λ b. CanMerge st (map wide_leaf b) others) (sym c.deref-3.ensures.value) (can_merge st raw others mass kept few))
 
@@ -28,11 +28,11 @@ invariant_of-result c =
     let form = c.args.form.now in
     let st = c.in_ok-starts.starts.items in
     let raw : List GroupLeaf = map wide_leaf c.in_ok-entries.entries.items in
-    let others : ℕ = c.other_count-others.result in
+    let others : ℕ = c.sequence_count-others.result in
     let mass : ℕ = c.total_mass-mass.result in
-    let facts = c.other_count-others.ensures in
+    let facts = c.facts.ensures in
     let placed : ArePlaced form One st raw = subst (λ a. ArePlaced form One a raw) c.deref.ensures.value c.in_ok-entries.ensures in
-    let kept : KeepsGroups st raw others mass = groups_kept form One st raw others mass c.in_ok-starts.ensures placed facts.sequences facts.count c.total_mass-mass.ensures.mass facts.mass in
+    let kept : KeepsGroups st raw others mass = groups_kept form One st raw others mass c.in_ok-starts.ensures placed facts.sequences c.sequence_count-others.ensures.count c.total_mass-mass.ensures.mass facts.mass in
     let starts = c.in_ok-groups.groups.starts.items in
     let entries : List GroupLeaf = map wide_leaf c.in_ok-groups.groups.entries.items in
     let are : AreMerged starts entries st raw =
@@ -45,15 +45,15 @@ returns c =
     let form = c.args.form.now in
     let st = c.in_ok-starts.starts.items in
     let raw : List GroupLeaf = map wide_leaf c.in_ok-entries.entries.items in
-    let others : ℕ = c.other_count-others.result in
+    let others : ℕ = c.sequence_count-others.result in
     let mass : ℕ = c.total_mass-mass.result in
-    let facts = c.other_count-others.ensures in
+    let facts = c.facts.ensures in
     let placed : ArePlaced form One st raw = subst (λ a. ArePlaced form One a raw) c.deref.ensures.value c.in_ok-entries.ensures in
-    let kept : KeepsGroups st raw others mass = groups_kept form One st raw others mass c.in_ok-starts.ensures placed facts.sequences facts.count c.total_mass-mass.ensures.mass facts.mass in
+    let kept : KeepsGroups st raw others mass = groups_kept form One st raw others mass c.in_ok-starts.ensures placed facts.sequences c.sequence_count-others.ensures.count c.total_mass-mass.ensures.mass facts.mass in
     let starts = c.in_ok-groups.groups.starts.items in
     let entries : List GroupLeaf = map wide_leaf c.in_ok-groups.groups.entries.items in
     let are : AreMerged starts entries st raw =
     subst (λ a. AreMerged starts entries a raw) c.deref-2.ensures.value
     (subst (λ b. AreMerged starts entries c.deref-2.result.now (map wide_leaf b)) c.deref-3.ensures.value c.in_ok-groups.ensures) in
     ap (λ es. weights_in starts es others) c.in_ok-packed.ensures ∙ merged_weights starts entries st raw others are
-    ∙ groups_built form One st raw others c.in_ok-starts.ensures placed facts.count
+    ∙ groups_built form One st raw others c.in_ok-starts.ensures placed c.sequence_count-others.ensures.count

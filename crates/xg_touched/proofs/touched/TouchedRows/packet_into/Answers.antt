@@ -1,16 +1,14 @@
-use Rattle.std.proofs.Common.{length, sym, ap, ◌∙◌}
-use Rattle.def_history.specs.Ranges.{LeafRange}
+use Rattle.std.proofs.Common.{ap, sym, ◌∙◌}
 use Rattle.def_history.proofs.JobRows.{by_number}
 use Rattle.xg_rowcore.specs.Packets.{Listed}
-use Rattle.xg_touched.specs.Touched.{JobRows}
 use Rattle.xg_touched.specs.Filling.{entries_at_rows}
+use Rattle.xg_touched.specs.Touched.{JobRows}
 use Rattle.xg_touched.proofs.touched.TouchedRows.packet_into.Goals as goal
 
 pub returns-clause-entries : goal.returns-clause-entries
 returns-clause-entries c =
     let form = c.args.form.now in
-    let range : LeafRange = record { first = c.args.first; count = length c.args.self.now.leaves } in
     let rows = ap (λ (x : JobRows). x.rows) c.requires.rows in
-    let room = ap (λ (x : Listed). x.room) c.put_rows.ensures.entries ∙ ap (λ (x : Listed). x.room) c.start.ensures.entries in
-    c.add_leaves.ensures.entries
-    ∙ (λ i. record { list = entries_at_rows (λ row. sym (by_number form c.args.one.now c.args.two.now range row c.requires.leaves) i) (rows i); room = room i })
+    let room = ap (λ (x : Listed). x.room) c.put_rows_of_one-ones.ensures.entries ∙ ap (λ (x : Listed). x.room) c.start.ensures.entries in
+    c.put_rows_of_two.ensures.entries
+    ∙ (λ i. record { list = entries_at_rows (λ row. sym (by_number form c.args.one.now c.args.two.now c.args.self.now.range row c.requires.leaves) i) (rows i); room = room i })
