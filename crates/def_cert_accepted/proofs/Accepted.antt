@@ -12,7 +12,8 @@ use Rattle.def_plan.proofs.Places.{total_actions}
 use Rattle.def_reply.specs.Reply.{best_reply_to}
 use Rattle.def_reply.proofs.Optimal.{best-tight}
 use Rattle.def_round.specs.Rounds.{rounds}
-use Rattle.def_reply.specs.Bracket.{Evaluation, BracketEnds, ends_of, TraceLine, trace}
+use Rattle.def_reply.specs.Bracket.{Evaluation, BracketEnds, ends_of, trace}
+use Rattle.def_reply.specs.declared.TraceLine.{TraceLine}
 use Rattle.def_reply.proofs.TraceLines.{trace_lines, never_widens}
 use Rattle.def_reply.specs.Outcome.{Head}
 use Rattle.def_run.specs.Run.{outcome, total_against, evaluation, evaluations}

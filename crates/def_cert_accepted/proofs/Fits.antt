@@ -22,7 +22,8 @@ use Rattle.def_reply.specs.Reply.{best_reply_to, SetReply, values_of, best_reply
 use Rattle.def_reply.proofs.Optimal.{best-tight}
 use Rattle.def_reply.proofs.ReplySizes.{values-below, total-below}
 use Rattle.def_round.specs.Rounds.{rounds}
-use Rattle.def_reply.specs.Bracket.{Evaluation, BracketEnds, ends_of, TraceLine, trace, evaluated_rounds}
+use Rattle.def_reply.specs.Bracket.{Evaluation, BracketEnds, ends_of, trace, evaluated_rounds}
+use Rattle.def_reply.specs.declared.TraceLine.{TraceLine}
 use Rattle.def_reply.specs.BracketLaws.{RoundsAreEvaluated}
 use Rattle.def_reply.specs.Outcome.{Head}
 use Rattle.def_reply.proofs.EvaluatedRounds.{rounds as rounds_are}

@@ -3,7 +3,8 @@ use Rattle.std.proofs.Common.{◌≡◌, ℕ, List, length, Option, Some, None, 
 use Rattle.def_plan.specs.Form.{SequenceForm, sequence_count}
 use Rattle.def_plan.specs.Payoff.{mass_of}
 use Rattle.def_round.specs.Rounds.{rounds}
-use Rattle.def_reply.specs.Bracket.{BracketEnds, ends_of, TraceLine, trace}
+use Rattle.def_reply.specs.Bracket.{BracketEnds, ends_of, trace}
+use Rattle.def_reply.specs.declared.TraceLine.{TraceLine}
 use Rattle.def_reply.specs.Outcome.{Head, OutcomeEnds, Outcome}
 use Rattle.def_run.specs.Run.{evaluations, outcome}
 use Rattle.def_run.proofs.EndLaws.{ends_at, outcomes_show_their_run, shown_are}

@@ -5,7 +5,7 @@ use Rattle.std.proofs.lemmas.List.Elements.{All-cons, All-nil, All-head, All-tai
 use Rattle.std.specs.Prelude.{codes}
 use Rattle.def_fraction.specs.Fraction.{Fraction}
 use Rattle.def_reply.specs.Reply.{SetReply, Reply}
-use Rattle.def_reply.specs.Bracket.{TraceLine}
+use Rattle.def_reply.specs.declared.TraceLine.{TraceLine}
 use Rattle.def_reply.specs.Outcome.{Head}
 use Rattle.def_cert_verdict.specs.Certificate.{PrintedPlan, PrintedBounds, Certificate}
 use Rattle.def_cert_verdict.specs.Ranges.{IsFromTo, IsPrintable, HeadFits, LineFits, TraceFits, PlanWeightsFit, PlanFits, ReplyFits, BoundFits, BoundsFit, FitsBelowHead, CertificateFits}

@@ -12,7 +12,7 @@ use Rattle.def_plan.specs.Form.{PlacedSet, placed, Leaf, leaf_sequence}
 use Rattle.def_plan.specs.Payoff.{leaf_sum, values_after, mass_of}
 use Rattle.def_plan.proofs.SizeLaws.{slice_index-at_most}
 use Rattle.def_reply.specs.Reply.{Reply, SetReply, values_of}
-use Rattle.def_reply.specs.Bracket.{TraceLine}
+use Rattle.def_reply.specs.declared.TraceLine.{TraceLine}
 use Rattle.def_reply.specs.Outcome.{Head}
 use Rattle.def_cert_verdict.specs.Certificate.{PrintedBounds, joined, printed_numbers}
 use Rattle.def_plan.specs.Weighed.{WeighedGame}

@@ -2,7 +2,7 @@
 use Rattle.std.specs.Prelude.{ℕ, ◌-◌, List, [], ◌∷◌, ℤ, slice_set}
 use Rattle.def_fraction.specs.Fraction.{over}
 use Rattle.def_reply.specs.Reply.{Reply, SetReply}
-use Rattle.def_reply.specs.Bracket.{TraceLine}
+use Rattle.def_reply.specs.declared.TraceLine.{TraceLine}
 use Rattle.def_cert_verdict.specs.Certificate.{PrintedPlan, PrintedBounds}
 
 abbrev pub said : ℤ → ℕ → SetReply

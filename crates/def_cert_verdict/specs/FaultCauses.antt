@@ -8,7 +8,8 @@ use Rattle.def_plan.specs.Form.{InformationSet, PlacedSet, placed, sequence_coun
 use Rattle.def_plan.specs.Plan.{AddsUp, chosen}
 use Rattle.def_plan.specs.Payoff.{leaf_sum, worth, mass_of, IsNoBetter}
 use Rattle.def_reply.specs.Reply.{Reply, SetReply, values_of, AreTight}
-use Rattle.def_reply.specs.Bracket.{TraceLine, LiesWithin}
+use Rattle.def_reply.specs.Bracket.{LiesWithin}
+use Rattle.def_reply.specs.declared.TraceLine.{TraceLine}
 use Rattle.def_reply.specs.Outcome.{Head}
 use Rattle.def_cert_verdict.specs.declared.fault.TestFault.{TestFault}
 use Rattle.def_cert_verdict.specs.declared.fault.TestFault.TheVariants.{HeadDiffers, NotAPlan, ValueTooGood, ReplyNotTight, TotalDiffers, TraceWidens}

@@ -10,7 +10,8 @@ use Rattle.def_plan.specs.Plan.{IsPlan, pure_plan}
 use Rattle.def_plan.specs.Payoff.{leaf_sum, pay, mass_of}
 use Rattle.def_reply.specs.Reply.{Reply, choices_of, total, AreTight}
 use Rattle.def_reply.specs.Bounds.{IsFloor, IsCeiling, AttainsFloor, AttainsCeiling}
-use Rattle.def_reply.specs.Bracket.{TraceLine, LiesWithin}
+use Rattle.def_reply.specs.Bracket.{LiesWithin}
+use Rattle.def_reply.specs.declared.TraceLine.{TraceLine}
 use Rattle.def_reply.specs.Outcome.{Head}
 use Rattle.def_cert_verdict.specs.declared.fault.TestFault.{TestFault}
 use Rattle.def_cert_verdict.specs.Certificate.{PrintedPlan, PrintedBounds, Certificate, printed_numbers, last_line}

@@ -8,7 +8,7 @@ use Rattle.def_sums.specs.Sum.{nat_sum_over}
 use Rattle.def_plan.specs.Form.{InformationSet, placed, Leaf, leaf_sequence}
 use Rattle.def_plan.specs.Payoff.{leaf_sum, worth, mass_of}
 use Rattle.def_reply.specs.Reply.{Reply, values_of}
-use Rattle.def_reply.specs.Bracket.{TraceLine}
+use Rattle.def_reply.specs.declared.TraceLine.{TraceLine}
 use Rattle.def_reply.specs.Outcome.{Head}
 use Rattle.def_cert_verdict.specs.Certificate.{PrintedPlan, Certificate, printed_numbers}
 use Rattle.def_plan.specs.Weighed.{WeighedGame}

@@ -5,7 +5,7 @@ use Rattle.def_fraction.specs.Fraction.{Fraction, IsInLowestTerms, most}
 use Rattle.def_tree.specs.Rules.{most_actions, most_nodes}
 use Rattle.def_sums.specs.Limits.{most_mass, most_rounds, most_scale, most_root}
 use Rattle.def_reply.specs.Reply.{Reply}
-use Rattle.def_reply.specs.Bracket.{TraceLine}
+use Rattle.def_reply.specs.declared.TraceLine.{TraceLine}
 use Rattle.def_reply.specs.Outcome.{Head}
 use Rattle.def_cert_verdict.specs.declared.ranges.TheConstants.{MOST_PRINTED}
 use Rattle.def_cert_verdict.specs.Certificate.{PrintedPlan, PrintedBounds, Certificate}

@@ -11,7 +11,7 @@ use Rattle.def_plan.specs.Weighed.{WeighedGame}
 use Rattle.def_plan.specs.Plan.{chosen, first_not_adding}
 use Rattle.def_plan.specs.Payoff.{leaf_sum, worth, mass_of}
 use Rattle.def_reply.specs.Reply.{Reply, SetReply, values_of, total}
-use Rattle.def_reply.specs.Bracket.{TraceLine}
+use Rattle.def_reply.specs.declared.TraceLine.{TraceLine}
 use Rattle.def_reply.specs.Outcome.{Head}
 use Rattle.def_cert_verdict.specs.declared.fault.Which.{Which}
 use Rattle.def_cert_verdict.specs.declared.fault.Which.TheVariants.{Lower, Upper}

@@ -8,7 +8,8 @@ use Rattle.def_file.specs.declared.FileFault.TheVariants.{TooLong}
 use Rattle.def_file.specs.Content.{GameFile}
 use Rattle.def_file.specs.Reading.{most_bytes}
 use Rattle.def_sums.proofs.RingLaws.{≤ℤ_refl}
-use Rattle.def_reply.specs.Bracket.{LiesWithin, TraceLine}
+use Rattle.def_reply.specs.Bracket.{LiesWithin}
+use Rattle.def_reply.specs.declared.TraceLine.{TraceLine}
 use Rattle.def_reply.specs.Outcome.{Head}
 use Rattle.def_reply.proofs.Compares.{at_most-trans}
 use Rattle.def_cert_verdict.specs.Ranges.{CertificateFits, TraceFits}

@@ -15,7 +15,8 @@ use Rattle.def_fraction.specs.Laws.{HasValue}
 use Rattle.def_plan.specs.Plan.{IsPlan, pure_plan}
 use Rattle.def_reply.specs.Reply.{choices_of}
 use Rattle.def_reply.specs.Bounds.{IsFloor, IsCeiling, AttainsFloor, AttainsCeiling, IsExploitability}
-use Rattle.def_reply.specs.Bracket.{TraceLine, LiesWithin}
+use Rattle.def_reply.specs.Bracket.{LiesWithin}
+use Rattle.def_reply.specs.declared.TraceLine.{TraceLine}
 use Rattle.def_cert_verdict.specs.Certificate.{PrintedBounds, printed_numbers, last_line}
 use Rattle.def_plan.specs.Weighed.{WeighedGame}
 use Rattle.def_cert_verdict.specs.Laws.{GetsAtLeast, ConcedesAtMost, IsTotalOver, with_bounds}

@@ -9,7 +9,7 @@ use Rattle.def_fraction.specs.Literal.{slash}
 use Rattle.def_fraction.specs.Text.{fraction_text}
 use Rattle.def_sums.specs.Sum.{nat_sum_over}
 use Rattle.def_reply.specs.Reply.{SetReply}
-use Rattle.def_reply.specs.Bracket.{TraceLine}
+use Rattle.def_reply.specs.declared.TraceLine.{TraceLine}
 use Rattle.def_reply.specs.Outcome.{Head}
 use Rattle.def_cert_verdict.specs.Ranges.{IsPrintable, HeadFits, PlanWeightsFit, BoundFits}
 use Rattle.def_cert_text.specs.Fields.{Item, field, separator, items_text}

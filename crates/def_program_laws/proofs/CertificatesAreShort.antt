@@ -8,7 +8,7 @@ use Rattle.def_sums.proofs.SumLaws.{nat_sum_over-bounded}
 use Rattle.def_plan.specs.Form.{InformationSet, sequence_count}
 use Rattle.def_plan.specs.Plan.{IsPlan}
 use Rattle.def_reply.specs.Reply.{Reply, SetReply}
-use Rattle.def_reply.specs.Bracket.{TraceLine}
+use Rattle.def_reply.specs.declared.TraceLine.{TraceLine}
 use Rattle.def_reply.specs.Outcome.{Head}
 use Rattle.def_cert_verdict.specs.Certificate.{PrintedPlan, PrintedBounds, joined, printed_numbers}
 use Rattle.def_plan.specs.Weighed.{WeighedGame}

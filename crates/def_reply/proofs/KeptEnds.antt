@@ -7,7 +7,8 @@ use Rattle.def_plan.specs.Plan.{pure_plan}
 use Rattle.def_reply.specs.Reply.{Reply, choices_of}
 use Rattle.def_reply.specs.Bounds.{IsFloor, IsCeiling, AttainsFloor, AttainsCeiling}
 use Rattle.def_reply.proofs.BoundLaws.{best_bounds}
-use Rattle.def_reply.specs.Bracket.{Evaluation, BracketEnds, next_ends, first_ends, TraceLine, trace_line, trace_after, trace}
+use Rattle.def_reply.specs.Bracket.{Evaluation, BracketEnds, next_ends, first_ends, trace_line, trace_after, trace}
+use Rattle.def_reply.specs.declared.TraceLine.{TraceLine}
 use Rattle.def_reply.specs.Offers.{Offer, evaluation_of_offer, KeptEnd, lower_of, upper_of, Board, board_with, new_board, offered, board_after}
 use Rattle.def_reply.specs.OfferLaws.{OffersAreTraced, ComesFrom, OffersKeepTheEnds, FirstOfferMakesEnds, FairOffersHaveBounds, KeptEndsAreBounds}
 use Rattle.def_reply.proofs.BestEnds.{ends-are}

@@ -5,7 +5,8 @@ use Rattle.std.proofs.lemmas.List.{get_or-take, length-take-le, take-take}
 use Rattle.std.specs.Prelude.{◌≤ℤ◌, int_lt}
 use Rattle.std.specs.List.Sorted.{IsStrictlyIncreasing}
 use Rattle.std.proofs.lemmas.List.Elements.{All-take, All-nil, All-cons, All-head, All-tail}
-use Rattle.def_reply.specs.Bracket.{Evaluation, BracketEnds, HasFloorAtMost, HasCeilingAtMost, next_ends, first_ends, ends_of, TraceLine, trace_line, trace_after, trace, LiesWithin}
+use Rattle.def_reply.specs.Bracket.{Evaluation, BracketEnds, HasFloorAtMost, HasCeilingAtMost, next_ends, first_ends, ends_of, trace_line, trace_after, trace, LiesWithin}
+use Rattle.def_reply.specs.declared.TraceLine.{TraceLine}
 use Rattle.def_reply.specs.BracketLaws.{HaveDivisors, DivideByRounds, AreNoWorse, EndsNeverWorsen, TraceHasALineForEach, TraceNeverWidens, LooksBack, TraceLooksBack}
 use Rattle.def_reply.proofs.BestEnds.{ends-are, best_ends}
 

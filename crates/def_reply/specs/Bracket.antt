@@ -5,6 +5,7 @@
 -- since a round may count in the sum more than once.
 use Rattle.std.specs.Prelude.{◌≡◌, ℕ, ◌%◌, ◌<◌, ◌==◌, ◌||◌, List, [], ◌∷◌, length, take, filter, fold, slice_index_or, All, ℤ, pos, ◌*ℤ◌, ◌≤ℤ◌, ◌<ℤ◌, int_lt, Option, Some, None, if◌then◌else◌}
 use Rattle.std.specs.List.{range_with_len}
+use Rattle.def_reply.specs.declared.TraceLine.{TraceLine}
 
 -- the rounds that are evaluated: each multiple of `every` up to the last round, and the last
 abbrev pub evaluated_rounds : ℕ → ℕ → List ℕ
@@ -56,13 +57,6 @@ ends_of [] = None
 ends_of (e ∷ es) = Some (fold next_ends (first_ends e) es)
 
 -- what is traced after an evaluation: its round, and both ends with the rounds that they come from
-pub record TraceLine : Type 0 where
-  pub round : ℕ
-  pub low_round : ℕ
-  pub low : ℤ
-  pub high_round : ℕ
-  pub high : ℤ
-
 abbrev pub trace_line : ℕ → BracketEnds → TraceLine
 trace_line round ends = record {
   round = round;

@@ -3,7 +3,8 @@ use Rattle.std.specs.Prelude.{◌≡◌, ℕ, ◌+◌, ◌-◌, ◌*◌, ◌/◌
 use Rattle.std.specs.List.{range_with_len}
 use Rattle.std.specs.List.Sorted.{IsStrictlyIncreasing}
 use Rattle.def_sums.specs.Limits.{most_rounds, most_row}
-use Rattle.def_reply.specs.Bracket.{evaluated_rounds, Evaluation, HasFloorAtMost, HasCeilingAtMost, BracketEnds, next_ends, first_ends, ends_of, TraceLine, trace_line, trace, IsLowerEnd, IsUpperEnd, LiesWithin}
+use Rattle.def_reply.specs.Bracket.{evaluated_rounds, Evaluation, HasFloorAtMost, HasCeilingAtMost, BracketEnds, next_ends, first_ends, ends_of, trace_line, trace, IsLowerEnd, IsUpperEnd, LiesWithin}
+use Rattle.def_reply.specs.declared.TraceLine.{TraceLine}
 
 -- no divisor is 0
 abbrev pub HaveDivisors : List Evaluation → Type 0

@@ -1,5 +1,5 @@
 -- What holds of best replies and bounds. Each is the contract of a function of this crate.
-use Rattle.std.specs.Prelude.{◌≡◌, ℕ, ◌+◌, ◌^◌, ◌≤◌, ◌<◌, ◌==◌, List, drop, filter, zip, ℤ, pos, ◌*ℤ◌, ◌≤ℤ◌, unsigned_abs, All}
+use Rattle.std.specs.Prelude.{◌≡◌, ℕ, ◌+◌, ◌≤◌, ◌<◌, ◌==◌, List, drop, filter, zip, ℤ, pos, ◌*ℤ◌, ◌≤ℤ◌, unsigned_abs, All}
 use Rattle.def_tree.specs.declared.Player.{Player}
 use Rattle.def_tree.specs.declared.Player.TheVariants.{One, Two}
 use Rattle.def_sums.specs.Sum.{nat_sum_over}

@@ -5,7 +5,8 @@ use Rattle.def_tree.specs.declared.Player.TheVariants.{One, Two}
 use Rattle.def_plan.specs.Form.{SequenceForm}
 use Rattle.def_plan.specs.Plan.{IsPlan}
 use Rattle.def_reply.specs.Reply.{Reply, best_reply_to}
-use Rattle.def_reply.specs.Bracket.{Evaluation, TraceLine}
+use Rattle.def_reply.specs.Bracket.{Evaluation}
+use Rattle.def_reply.specs.declared.TraceLine.{TraceLine}
 
 -- the sums of both players' plans after a round, by what their bounds are divided, and the reply to each plan
 pub record Offer : Type 0 where

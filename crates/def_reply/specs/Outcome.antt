@@ -1,7 +1,7 @@
 -- What a run leaves: its head, its trace, and an end for each player where at least one round was asked.
 use Rattle.std.specs.Prelude.{ℕ, List, Option}
 use Rattle.def_reply.specs.Reply.{Reply}
-use Rattle.def_reply.specs.Bracket.{TraceLine}
+use Rattle.def_reply.specs.declared.TraceLine.{TraceLine}
 
 -- the game's numbers, and what was asked of the run
 pub record Head : Type 0 where

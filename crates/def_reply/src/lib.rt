@@ -1,5 +1,5 @@
 //! Best replies, what bounds a plan, and the bracket: the best ends of several offers, and their trace. There is no
-//! code here; each function's contract is a law or a worked row.
+//! code here but the struct of a line; each function's contract is a law or a worked row.
 #![tactic(auto)]
 
 pub mod bracket;
@@ -12,6 +12,19 @@ ghost use Rattle.def_plan.specs.Payoff.{leaf_sum};
 ghost use Rattle.def_plan.specs.Pennies.{pennies};
 ghost use Rattle.def_reply.specs.Reply.{best_reply, values_of, choices_of, total};
 ghost use Rattle.def_reply.specs.Laws.{RepliesNeedOwnSums, RepliesSolveTheirEquations, TightRepliesAreOptimal, BestRepliesAreOptimal, TightRepliesGiveBounds, BestRepliesGiveBounds, AttainedBoundsAreBest, FloorsAreBelowCeilings, RepliesAreSmall, BoundsAreSmall};
+
+/// A line of the trace: a round that was evaluated, and both ends of the bracket after it, each with the round that it
+/// comes from.
+///
+/// The ends are totals of best replies: in player one's payoff, times the unit and the root of the plan.
+#[derive(Clone, Copy, Debug, PartialEq, Eq)]
+pub struct TraceLine {
+    pub round: u32,
+    pub low_round: u32,
+    pub low: i128,
+    pub high_round: u32,
+    pub high: i128,
+}
 
 /// The best reply alone solves its equations, and its part from a set on is the reply at those sets.
 pub fn replies_solve_their_equations()

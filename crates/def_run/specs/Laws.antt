@@ -7,7 +7,8 @@ use Rattle.def_plan.specs.Plan.{IsPlan, pure_plan}
 use Rattle.def_reply.specs.Reply.{choices_of, best_reply_to}
 use Rattle.def_reply.specs.Bounds.{IsFloor, IsCeiling, AttainsFloor, AttainsCeiling, IsExploitability}
 use Rattle.def_round.specs.Rounds.{rounds}
-use Rattle.def_reply.specs.Bracket.{Evaluation, BracketEnds, ends_of, TraceLine, trace, LiesWithin}
+use Rattle.def_reply.specs.Bracket.{Evaluation, BracketEnds, ends_of, trace, LiesWithin}
+use Rattle.def_reply.specs.declared.TraceLine.{TraceLine}
 use Rattle.def_reply.specs.BracketLaws.{LooksBack}
 use Rattle.def_reply.specs.Offers.{IsFair}
 use Rattle.def_reply.specs.Outcome.{Head, OutcomeEnds}

@@ -1,16 +1,16 @@
 -- The ends never worsen, so a line lies within each earlier one.
-use Rattle.std.proofs.Common.{◌≡◌, ℕ, zero, suc, ◌+◌, ◌^◌, ◌<◌, ◌≤◌, Bool, true, false, cond, List, [], ◌∷◌, ◌++◌, All, length, get_or, map, ℤ, pos, ◌*ℤ◌, ◌≤ℤ◌, unsigned_abs, int_lt, refl, ap, sym, subst, ◌∙◌, arith, length-append, ⊎_elim}
-use Rattle.std.proofs.lemmas.List.{get_or_at, length-map}
+use Rattle.std.proofs.Common.{◌≡◌, ℕ, zero, suc, ◌+◌, ◌^◌, ◌<◌, ◌≤◌, Bool, true, false, cond, List, [], ◌∷◌, ◌++◌, All, length, get_or, ℤ, pos, ◌*ℤ◌, ◌≤ℤ◌, unsigned_abs, int_lt, refl, ap, sym, subst, ◌∙◌, arith, length-append, ⊎_elim}
+use Rattle.std.proofs.lemmas.List.{get_or_at}
 use Rattle.std.proofs.lemmas.List.Elements.{All-push}
 use Rattle.def_sums.specs.Limits.{most_rounds}
 use Rattle.def_sums.proofs.RingLaws.{≤ℤ_refl}
-use Rattle.def_reply.specs.Bracket.{LiesWithin, TraceLine as Line}
+use Rattle.def_reply.specs.Bracket.{LiesWithin}
+use Rattle.def_reply.specs.declared.TraceLine.{TraceLine}
 use Rattle.def_reply.specs.Offers.{KeptEnd, keep_lower, keep_upper}
 use Rattle.def_reply.proofs.Compares.{at_most-trans, int_lt_tells, less_at_most}
 use Rattle.xg_bracket.specs.Board.{KeepsBoard}
-use Rattle.xg_bracket.specs.Ends.{end_after, kept_of, line_seen, line_with}
+use Rattle.xg_bracket.specs.Ends.{end_after, kept_of, line_with}
 use Rattle.xg_bracket.specs.declared.end.BestEnd.{BestEnd}
-use Rattle.xg_bracket.specs.declared.trace.TraceLine.{TraceLine}
 
 picked : {A : Type 0} (P : A → Type 0) (b : Bool) (x y : A) → P x → P y → P (cond b x y)
 picked P true x y of_x of_y = of_x
@@ -62,7 +62,7 @@ upper_falls (suc n) kept next some =
     (int_lt_tells a b)
 
 -- ends that are no worse lie within the same lines
-narrower : (line : Line) (lower upper lower' upper' : BestEnd) (round : ℕ) → 1 ≤ lower.round → 1 ≤ upper.round
+narrower : (line : TraceLine) (lower upper lower' upper' : BestEnd) (round : ℕ) → 1 ≤ lower.round → 1 ≤ upper.round
     → Rises (kept_of lower) (kept_of lower') → Falls (kept_of upper) (kept_of upper')
     → LiesWithin (line_with 0 lower upper) line → LiesWithin (line_with round lower' upper') line
 narrower line lower upper lower' upper' round low_some high_some rises falls w =
@@ -78,7 +78,7 @@ narrower line lower upper lower' upper' round low_some high_some rises falls w =
     }
 
 -- the line that is appended
-pub last_is : (lines all : List Line) (line last : Line) → all ≡ lines ++ line ∷ [] → all ≡ lines ++ last ∷ []
+pub last_is : (lines all : List TraceLine) (line last : TraceLine) → all ≡ lines ++ line ∷ [] → all ≡ lines ++ last ∷ []
     → last ≡ line
 last_is lines all line last first second =
     let n : ℕ = length lines in
@@ -98,19 +98,19 @@ module _ (lines : List TraceLine) (room capacity : ℕ) (lower upper lower' uppe
     (low : kept_of lower' ≡ keep_lower (end_after offers (kept_of lower)) next_lower)
     (high : kept_of upper' ≡ keep_upper (end_after offers (kept_of upper)) next_upper) where
   -- the new ends lie within each line
-  pub narrowed : (round : ℕ) → All (λ line. LiesWithin (line_with round lower' upper') line) (map line_seen lines)
+  pub narrowed : (round : ℕ) → All (λ line. LiesWithin (line_with round lower' upper') line) lines
   narrowed round k d there =
-      let some : 1 ≤ length lines = omega (arith, length-map lines line_seen) in
+      let some : 1 ≤ length lines = omega arith in
       let rises : Rises (kept_of lower) (kept_of lower') =
       subst (Rises (kept_of lower)) (sym low) (lower_rises offers (kept_of lower) next_lower (omega arith)) in
       let falls : Falls (kept_of upper) (kept_of upper') =
       subst (Falls (kept_of upper)) (sym high) (upper_falls offers (kept_of upper) next_upper (omega arith)) in
-      narrower (get_or (map line_seen lines) k d) lower upper lower' upper' round (b.lower_round some)
+      narrower (get_or lines k d) lower upper lower' upper' round (b.lower_round some)
       (b.upper_round some) rises falls (b.narrows k d there)
 
   -- and the board is kept
   module _ (round room' : ℕ) (lines' : List TraceLine) (fewer : length lines < capacity) (as_much : room ≤ room')
-      (appended : map line_seen lines' ≡ map line_seen lines ++ line_with round lower' upper' ∷ [])
+      (appended : lines' ≡ lines ++ line_with round lower' upper' ∷ [])
       (of_lower : IsBounded next_lower) (of_upper : IsBounded next_upper) where
     old_lower : 1 ≤ offers → IsBounded (kept_of lower)
     old_lower some = record {
@@ -134,14 +134,8 @@ module _ (lines : List TraceLine) (room capacity : ℕ) (lower upper lower' uppe
 
     one_more : length lines' ≡ length lines + 1
     one_more =
-        let line : Line = line_with round lower' upper' in
-        omega (
-          arith,
-          length-map lines' line_seen,
-          ap length appended,
-          length-append (map line_seen lines) (line ∷ []),
-          length-map lines line_seen,
-        )
+        let line : TraceLine = line_with round lower' upper' in
+        omega (arith, ap length appended, length-append lines (line ∷ []))
 
     itself : LiesWithin (line_with 0 lower' upper') (line_with round lower' upper')
     itself = record {
@@ -153,7 +147,7 @@ module _ (lines : List TraceLine) (room capacity : ℕ) (lower upper lower' uppe
     pub keeps_more : length lower'.reply.reply.sets ≡ lower'.sets → length upper'.reply.reply.sets ≡ upper'.sets
         → KeepsBoard lines' room' capacity lower' upper'
     keeps_more lower_sets upper_sets =
-        let W : Line → Type 0 = λ line. LiesWithin (line_with 0 lower' upper') line in
+        let W : TraceLine → Type 0 = λ line. LiesWithin (line_with 0 lower' upper') line in
         record {
           within = omega (arith, one_more);
           reserved = omega (arith, b.reserved);
@@ -163,5 +157,5 @@ module _ (lines : List TraceLine) (room capacity : ℕ) (lower upper lower' uppe
           upper_round = λ some. new_upper.some;
           narrows =
               subst (All W) (sym appended)
-              (All-push W (map line_seen lines) (line_with round lower' upper') (narrowed 0) itself);
+              (All-push W lines (line_with round lower' upper') (narrowed 0) itself);
         }

@@ -1,14 +1,14 @@
 -- A board of offers, with the sizes of the form that it is made for and with its room.
-use Rattle.std.specs.Prelude.{◌≡◌, ℕ, ◌≤◌, List, [], ◌∷◌, length, map, All}
+use Rattle.std.specs.Prelude.{◌≡◌, ℕ, ◌≤◌, List, [], ◌∷◌, length, All}
 use Rattle.def_sums.specs.Limits.{most_mass}
 use Rattle.def_plan.specs.Form.{AreInOrder, SequenceForm, sequence_count}
 use Rattle.def_plan.specs.Payoff.{mass_of}
 use Rattle.def_reply.specs.Reply.{Reply}
-use Rattle.def_reply.specs.Bracket.{LiesWithin, TraceLine as Line}
+use Rattle.def_reply.specs.Bracket.{LiesWithin}
+use Rattle.def_reply.specs.declared.TraceLine.{TraceLine}
 use Rattle.def_reply.specs.Offers.{Board, IsFair, Offer}
 use Rattle.xg_bracket.specs.declared.end.BestEnd.{BestEnd}
-use Rattle.xg_bracket.specs.declared.trace.TraceLine.{TraceLine}
-use Rattle.xg_bracket.specs.Ends.{IsEnd, end_after, kept_of, line_seen, line_with}
+use Rattle.xg_bracket.specs.Ends.{IsEnd, end_after, kept_of, line_with}
 
 -- how many sequences and sets each player has
 pub record FormSizes : Type 0 where
@@ -32,7 +32,7 @@ pub record SizedBoard : Type 0 where
   pub sizes : FormSizes
 
 -- the round of the last line, 0 before the first
-abbrev pub last_round : List Line → ℕ
+abbrev pub last_round : List TraceLine → ℕ
 last_round [] = 0
 last_round (line ∷ []) = line.round
 last_round (line ∷ next ∷ lines) = last_round (next ∷ lines)
@@ -61,7 +61,7 @@ pub record MayBeOffered (board : SizedBoard) (offer : Offer) : Type 0 where
 abbrev pub sized_board : List TraceLine → ℕ → BestEnd → BestEnd → SizedBoard
 sized_board lines capacity lower upper = record {
   board = record {
-    trace = map line_seen lines;
+    trace = lines;
     lower = end_after (length lines) (kept_of lower);
     upper = end_after (length lines) (kept_of upper);
   };
@@ -82,4 +82,4 @@ pub record KeepsBoard (lines : List TraceLine) (room capacity : ℕ) (lower uppe
   pub upper_end : IsEnd upper
   pub lower_round : 1 ≤ length lines → 1 ≤ lower.round
   pub upper_round : 1 ≤ length lines → 1 ≤ upper.round
-  pub narrows : All (λ line. LiesWithin (line_with 0 lower upper) line) (map line_seen lines)
+  pub narrows : All (λ line. LiesWithin (line_with 0 lower upper) line) lines

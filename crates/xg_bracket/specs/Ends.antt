@@ -5,10 +5,9 @@ use Rattle.def_tree.specs.declared.Player.{Player}
 use Rattle.def_plan.specs.Form.{AreInOrder, InformationSet, SequenceForm, player_sets, sequence_count}
 use Rattle.def_plan.specs.Plan.{IsPlan}
 use Rattle.def_reply.specs.Reply.{Reply}
-use Rattle.def_reply.specs.Bracket.{TraceLine as Line}
+use Rattle.def_reply.specs.declared.TraceLine.{TraceLine}
 use Rattle.def_reply.specs.Offers.{KeptEnd}
 use Rattle.xg_bracket.specs.declared.end.BestEnd.{BestEnd}
-use Rattle.xg_bracket.specs.declared.trace.TraceLine.{TraceLine}
 
 -- an end whose bounds are divided by its round
 abbrev pub kept_end : ℕ → List ℕ → Reply → KeptEnd
@@ -22,17 +21,8 @@ abbrev pub end_after : ℕ → KeptEnd → Option KeptEnd
 end_after zero end = None
 end_after (suc _) end = Some end
 
-abbrev pub line_seen : TraceLine → Line
-line_seen line = record {
-  round = line.round;
-  low_round = line.low_round;
-  low = line.low;
-  high_round = line.high_round;
-  high = line.high;
-}
-
 -- the line of a round with these ends
-abbrev pub line_with : ℕ → BestEnd → BestEnd → Line
+abbrev pub line_with : ℕ → BestEnd → BestEnd → TraceLine
 line_with round lower upper = record {
   round = round;
   low_round = lower.round;

@@ -1,14 +1,16 @@
 //! The board of a bracket.
 ghost use Rattle.std.specs.Prelude.{◌≡◌, ◌<◌, ◌≤◌, ◌++◌, ◌↔◌, [], ◌∷◌, All, IfOk, IsNone, None};
-ghost use Rattle.std.specs.Prelude.{length, map, vec_capacity, vec_len};
+ghost use Rattle.std.specs.Prelude.{length, vec_capacity, vec_len};
 ghost use Rattle.std.specs.Option.{option_map};
-ghost use Rattle.def_reply.specs.Bracket.{LiesWithin, TraceLine as Line};
+ghost use Rattle.def_reply.specs.Bracket.{LiesWithin};
+ghost use Rattle.def_reply.specs.declared.TraceLine.{TraceLine};
 ghost use Rattle.def_reply.specs.Offers.{new_board, offered};
 ghost use Rattle.xg_bracket.specs.Board.{MayBeOffered, offer_of, sizes_of};
-ghost use Rattle.xg_bracket.specs.Ends.{IsFreshEnd, line_seen, line_with};
+ghost use Rattle.xg_bracket.specs.Ends.{IsFreshEnd, line_with};
 
 use crate::end::{BestEnd, offer_lower, offer_upper};
-use crate::trace::TraceLine;
+use crate::parts::Parts;
+use def_reply::TraceLine;
 use std::alloc::{AllocError, Global};
 use std::marker::Model;
 use xg_plan::{Plan, Player, Reply};
@@ -71,7 +73,7 @@ impl Board {
         ensures sizes { self.new.sizes ≡ self.old.sizes }
 
         // The bracket never widens.
-        ensures within { (line : Line) → self.new.board.trace ≡ self.old.board.trace ++ line ∷ []
+        ensures within { (line : TraceLine) → self.new.board.trace ≡ self.old.board.trace ++ line ∷ []
             → All (λ earlier. LiesWithin line earlier) self.old.board.trace }
     {
         let offers = self.trace.len();
@@ -82,7 +84,7 @@ impl Board {
 
     /// A line for each offer.
     pub fn trace(&self) -> &[TraceLine]
-        ensures { map line_seen result.now ≡ self.now.board.trace }
+        ensures { result.now ≡ self.now.board.trace }
     {
         &self.trace
     }
@@ -114,6 +116,35 @@ impl Board {
         }
         Some((&self.upper.plan, &self.upper.reply))
     }
+
+    /// The lines and the ends themselves. Takes no memory.
+    pub fn into_parts(self) -> Parts
+        ensures trace { result.trace.items ≡ self.board.trace }
+        ensures none { IsNone result.ends ↔ (self.board.trace ≡ []) }
+        ensures lower_plan { option_map (λ ends. ends.0.plan) result.ends
+            ≡ option_map (λ kept. kept.plan) self.board.lower }
+        ensures lower_reply { option_map (λ ends. ends.0.reply.reply) result.ends
+            ≡ option_map (λ kept. kept.reply) self.board.lower }
+        ensures upper_plan { option_map (λ ends. ends.1.plan) result.ends
+            ≡ option_map (λ kept. kept.plan) self.board.upper }
+        ensures upper_reply { option_map (λ ends. ends.1.reply.reply) result.ends
+            ≡ option_map (λ kept. kept.reply) self.board.upper }
+    {
+        let Board {
+            trace,
+            lower,
+            upper,
+            ..
+        } = self;
+        if trace.is_empty() {
+            return Parts { trace, ends: None };
+        }
+        let ends = (lower.into_parts(), upper.into_parts());
+        Parts {
+            trace,
+            ends: Some(ends),
+        }
+    }
 }
 
 // Room for a player's plan and the other player's reply to it.
@@ -135,8 +166,7 @@ fn new_end(
 
 fn push_line(trace: &mut Vec<TraceLine>, round: u32, lower: &BestEnd, upper: &BestEnd)
     requires { vec_len trace.old < vec_capacity trace.old }
-    ensures lines { map line_seen trace.new.items
-        ≡ map line_seen trace.old.items ++ line_with round lower.now upper.now ∷ [] }
+    ensures lines { trace.new.items ≡ trace.old.items ++ line_with round lower.now upper.now ∷ [] }
     ensures capacity { vec_capacity trace.old ≤ vec_capacity trace.new }
 {
     let line = TraceLine {

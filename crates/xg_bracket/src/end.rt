@@ -4,6 +4,7 @@ ghost use Rattle.def_sums.specs.Limits.{most_rounds, most_row};
 ghost use Rattle.def_reply.specs.Offers.{keep_lower, keep_upper};
 ghost use Rattle.xg_bracket.specs.Ends.{CanKeep, IsSomePlan, end_after, kept_end, kept_of};
 
+use crate::parts::PlanAndReply;
 use xg_plan::{Plan, Reply, add_to};
 
 // A player's plan after a round, and the reply to it, which is one for so many sets.
@@ -13,6 +14,18 @@ pub(crate) struct BestEnd {
     pub(crate) plan: Plan,
     pub(crate) reply: Reply,
     pub(crate) sets: u32,
+}
+
+impl BestEnd {
+    pub(crate) fn into_parts(self) -> PlanAndReply
+        ensures plan { result.plan ≡ self.plan }
+        ensures reply { result.reply.reply ≡ self.reply.reply }
+    {
+        PlanAndReply {
+            plan: self.plan,
+            reply: self.reply,
+        }
+    }
 }
 
 // Keeps the plan with the greater floor by its round, of equals the one that is kept.
@@ -75,8 +88,8 @@ fn keep(end: &mut BestEnd, round: u32, plan: &Plan, reply: &Reply)
     copy_reply(reply, end.sets, &mut end.reply);
 }
 
-/// Makes `into` a plan with the same numbers. Takes no memory.
-pub fn copy_plan(plan: &Plan, into: &mut Plan)
+// Makes `into` a plan with the same numbers. Takes no memory.
+fn copy_plan(plan: &Plan, into: &mut Plan)
     requires plan { IsSomePlan plan.now }
     requires sequences { length plan.now ≡ length into.old }
     ensures { into.new ≡ plan.now }
@@ -85,8 +98,8 @@ pub fn copy_plan(plan: &Plan, into: &mut Plan)
     add_to(into, plan);
 }
 
-/// Makes `into` the same reply at this number of sets. Takes no memory, and copies no worths.
-pub fn copy_reply(reply: &Reply, sets: u32, into: &mut Reply)
+// Makes `into` the same reply at this number of sets. Takes no memory, and copies no worths.
+fn copy_reply(reply: &Reply, sets: u32, into: &mut Reply)
     requires from { length reply.now.reply.sets ≡ sets }
     requires into { length into.old.reply.sets ≡ sets }
     ensures { into.new.reply ≡ reply.now.reply }

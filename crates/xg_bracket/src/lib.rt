@@ -3,8 +3,8 @@
 
 mod board;
 mod end;
-mod trace;
+mod parts;
 
 pub use board::Board;
-pub use end::{copy_plan, copy_reply};
-pub use trace::TraceLine;
+pub use def_reply::TraceLine;
+pub use parts::{Parts, PlanAndReply};

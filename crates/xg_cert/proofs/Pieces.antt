@@ -2,7 +2,7 @@
 use Rattle.std.proofs.Common.{◌≡◌, ℕ, ◌+◌, List, [], ◌∷◌, ◌++◌, Option, Some, None, length, refl, sym, ap, ◌∙◌, append_assoc}
 use Rattle.std.specs.Prelude.{codes}
 use Rattle.def_plan.specs.Form.{SequenceForm}
-use Rattle.def_reply.specs.Bracket.{TraceLine}
+use Rattle.def_reply.specs.declared.TraceLine.{TraceLine}
 use Rattle.def_reply.specs.Outcome.{Head, OutcomeEnds}
 use Rattle.def_cert_accepted.specs.OfOutcome.{printed_plan, printed_bounds, certificate_of}
 use Rattle.def_cert_text.specs.Fields.{items_text}

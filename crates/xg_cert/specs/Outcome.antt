@@ -1,10 +1,9 @@
 -- The parts of an outcome, as the definitions have them.
-use Rattle.std.specs.Prelude.{List, map, Option, Some, None}
+use Rattle.std.specs.Prelude.{List, Option, Some, None}
 use Rattle.std.specs.Borrow.{Bor}
-use Rattle.def_reply.specs.Bracket.{TraceLine}
+use Rattle.def_reply.specs.declared.TraceLine.{TraceLine}
 use Rattle.def_reply.specs.Outcome as kept
 use Rattle.xg_cert.specs.declared.head.Head.{Head}
-use Rattle.xg_cert.specs.declared.outcome.TraceRow.{TraceRow}
 use Rattle.xg_cert.specs.declared.outcome.End.{End}
 
 abbrev pub head_of : Head → kept.Head
@@ -22,18 +21,6 @@ head_of head = record {
   scale = head.scale;
 }
 
-abbrev pub line_of : TraceRow → TraceLine
-line_of row = record {
-  round = row.round;
-  low_round = row.low_round;
-  low = row.low;
-  high_round = row.high_round;
-  high = row.high;
-}
-
-abbrev pub trace_of : List TraceRow → List TraceLine
-trace_of rows = map line_of rows
-
 abbrev pub end_seen : End → kept.End
 end_seen end = record { plan = end.plan; reply = end.reply.reply }
 
@@ -46,5 +33,5 @@ abbrev pub shown_ends : Option (Bor End × Bor End) → Option kept.OutcomeEnds
 shown_ends None = None
 shown_ends (Some ends) = Some (record { lower = end_seen ends.0.now; upper = end_seen ends.1.now })
 
-abbrev pub outcome_seen : Head → List TraceRow → Option (End × End) → kept.Outcome
-outcome_seen head trace ends = record { head = head_of head; trace = trace_of trace; ends = ends_seen ends }
+abbrev pub outcome_seen : Head → List TraceLine → Option (End × End) → kept.Outcome
+outcome_seen head trace ends = record { head = head_of head; trace = trace; ends = ends_seen ends }

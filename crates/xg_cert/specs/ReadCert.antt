@@ -8,11 +8,11 @@ use Rattle.xg_cert.specs.declared.cert.BoundsLines.{BoundsLines}
 use Rattle.xg_cert.specs.declared.read_lines.Asked.{Asked}
 use Rattle.xg_cert.specs.declared.read_lines.ValueLine.{ValueLine}
 use Rattle.def_reply.specs.Reply.{SetReply}
-use Rattle.xg_cert.specs.Outcome.{head_of, trace_of}
+use Rattle.xg_cert.specs.Outcome.{head_of}
 
 abbrev pub bounds_of : BoundsLines → PrintedBounds
 bounds_of b = record {
-  trace = trace_of b.trace.items;
+  trace = b.trace.items;
   plan_one = b.plan_one;
   reply_two = b.reply_two;
   plan_two = b.plan_two;

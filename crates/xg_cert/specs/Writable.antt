@@ -2,7 +2,7 @@
 use Rattle.std.specs.Prelude.{◌≡◌, ℕ, ◌≤◌, List, [], ◌++◌, codes, length, slice_index, unsigned_abs, Option, Some, None}
 use Rattle.def_plan.specs.Form.{InformationSet, SequenceForm, sequence_count}
 use Rattle.def_sums.specs.Limits.{most_root, most_row}
-use Rattle.def_reply.specs.Bracket.{TraceLine}
+use Rattle.def_reply.specs.declared.TraceLine.{TraceLine}
 use Rattle.def_reply.specs.Outcome.{Head, End, OutcomeEnds, Outcome}
 use Rattle.def_cert_verdict.specs.Ranges.{IsFromTo}
 use Rattle.def_fraction.specs.Fraction.{most}

@@ -3,13 +3,13 @@ ghost use Rattle.std.specs.Prelude.{◌≡◌, ◌-◌, ◌≤◌, [], None, Som
 ghost use Rattle.def_cert_verdict.specs.Ranges.{BoundsFit, CertificateFits};
 ghost use Rattle.def_cert_verdict.specs.Certificate.{printed_numbers};
 ghost use Rattle.def_reply.specs.Reply.{choices_of, values_of};
-ghost use Rattle.xg_cert.specs.Outcome.{head_of, trace_of};
+ghost use Rattle.xg_cert.specs.Outcome.{head_of};
 ghost use Rattle.xg_cert.specs.Printed.{bounds_in, plan_in, reply_in, set_count_in};
 ghost use Rattle.xg_cert.specs.ReadCert.{bounds_of};
 
 use crate::head::Head;
-use crate::outcome::TraceRow;
 use crate::printed::{PlanLines, ReplyLines};
+use def_reply::TraceLine;
 use def_tree::Player;
 use std::marker::Model;
 use xg_frac::Ratio;
@@ -17,7 +17,7 @@ use xg_frac::Ratio;
 /// All below the head.
 #[derive(Drop)]
 pub(crate) struct BoundsLines {
-    pub(crate) trace: Vec<TraceRow>,
+    pub(crate) trace: Vec<TraceLine>,
     pub(crate) plan_one: PlanLines,
     pub(crate) reply_two: ReplyLines,
     pub(crate) plan_two: PlanLines,
@@ -60,8 +60,8 @@ impl Cert {
     }
 
     /// A line for each evaluation.
-    pub fn trace(&self) -> &[TraceRow]
-        ensures { trace_of result.now ≡ (bounds_in self.now).trace }
+    pub fn trace(&self) -> &[TraceLine]
+        ensures { result.now ≡ (bounds_in self.now).trace }
     {
         match &self.bounds {
             Some(bounds) => &bounds.trace,

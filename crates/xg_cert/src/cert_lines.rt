@@ -5,14 +5,14 @@ ghost use Rattle.def_outside.specs.Cause.{HasCause};
 ghost use Rattle.def_cert_text.specs.Fields.{space, feed, fixed_word, number, field, separator, items_text};
 ghost use Rattle.def_cert_text.specs.Formats.{text_of};
 ghost use Rattle.def_cert_text.specs.CertText.{asked_text, bracket_line, last_text, line_of_round, value_line};
-ghost use Rattle.xg_cert.specs.Outcome.{head_of, line_of};
+ghost use Rattle.xg_cert.specs.Outcome.{head_of};
 ghost use Rattle.xg_cert.specs.Writable.{opening_line};
 ghost use Rattle.def_outside.specs.Sinks.{Writes};
 
 use crate::fields::{put_field, put_fraction, put_signed, put_whole};
 use crate::head::Head;
 use crate::lines::put_named;
-use crate::outcome::TraceRow;
+use def_reply::TraceLine;
 use xg_frac::Ratio;
 use xg_io::{Sink, WriteFault, write_all};
 
@@ -54,8 +54,8 @@ fn put_steps<O: Sink>(every: u32, scale: u32, out: &mut O) -> Result<(), WriteFa
 }
 
 #[tactic(auto, using(crate::proofs::Written::first_two, crate::proofs::Written::then_two))]
-pub(crate) fn put_trace_line<O: Sink>(row: &TraceRow, out: &mut O) -> Result<(), WriteFault>
-    ensures text { Writes (O.written out.old) (O.written out.new) (text_of (line_of_round 1) (line_of row.now)) result }
+pub(crate) fn put_trace_line<O: Sink>(row: &TraceLine, out: &mut O) -> Result<(), WriteFault>
+    ensures text { Writes (O.written out.old) (O.written out.new) (text_of (line_of_round 1) row.now) result }
     ensures cause { HasCause (O.faults out.old) (O.faults out.new) result }
 {
     put_named(b"trace", row.round as u64, b' ', out)?;
@@ -64,7 +64,7 @@ pub(crate) fn put_trace_line<O: Sink>(row: &TraceRow, out: &mut O) -> Result<(),
 
 /// Both ends.
 #[tactic(auto, using(crate::proofs::Written::first_two, crate::proofs::Written::then_two))]
-fn put_traced_ends<O: Sink>(row: &TraceRow, out: &mut O) -> Result<(), WriteFault>
+fn put_traced_ends<O: Sink>(row: &TraceLine, out: &mut O) -> Result<(), WriteFault>
     ensures text { Writes (O.written out.old) (O.written out.new)
         (items_text (field number (decimal row.now.low_round) ∷ separator space ∷ field number (signed_decimal row.now.low) ∷ separator space
         ∷ field number (decimal row.now.high_round) ∷ separator space ∷ field number (signed_decimal row.now.high) ∷ separator feed ∷ [])) result }

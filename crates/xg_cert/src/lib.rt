@@ -17,9 +17,10 @@ mod writing;
 
 pub use cert::Cert;
 pub use def_cert_text::CertFault;
+pub use def_reply::TraceLine as TraceRow;
 pub use head::Head;
 pub use lines::write_head;
-pub use outcome::{End, Outcome, TraceRow};
+pub use outcome::{End, Outcome};
 pub use reading::read_cert;
 pub use refused::CertRefused;
 pub use writing::write_cert;

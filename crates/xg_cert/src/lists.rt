@@ -7,19 +7,18 @@ ghost use Rattle.def_sums.specs.Sum.{nat_sum_over};
 ghost use Rattle.def_cert_accepted.specs.OfOutcome.{by_sets};
 ghost use Rattle.def_cert_text.specs.Formats.{each_items, row_items, text_of};
 ghost use Rattle.def_cert_text.specs.CertText.{line_of_round, value_line, weights_line};
-ghost use Rattle.xg_cert.specs.Outcome.{trace_of};
 ghost use Rattle.def_outside.specs.Sinks.{Writes};
 
 use crate::cert_lines::{put_trace_line, put_value_line};
 use crate::fields::put_whole;
 use crate::lines::put_named;
-use crate::outcome::TraceRow;
+use def_reply::TraceLine;
 use xg_io::{Sink, WriteFault};
 use xg_plan::{Player, Reply};
 use xg_seq::SeqForm;
 
-pub(crate) fn put_trace<O: Sink>(rows: &[TraceRow], out: &mut O) -> Result<(), WriteFault>
-    ensures text { Writes (O.written out.old) (O.written out.new) (items_text (each_items line_of_round 1 (trace_of rows.now))) result }
+pub(crate) fn put_trace<O: Sink>(rows: &[TraceLine], out: &mut O) -> Result<(), WriteFault>
+    ensures text { Writes (O.written out.old) (O.written out.new) (items_text (each_items line_of_round 1 rows.now)) result }
     ensures cause { HasCause (O.faults out.old) (O.faults out.new) result }
 {
     'rows: for i in 0..rows.len() {

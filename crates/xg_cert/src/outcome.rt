@@ -1,23 +1,11 @@
 //! The outcome of a run: its trace, and both ends of its bracket.
 ghost use Rattle.std.specs.Prelude.{◌≡◌};
-ghost use Rattle.xg_cert.specs.Outcome.{ends_seen, head_of, outcome_seen, shown_ends, trace_of};
+ghost use Rattle.xg_cert.specs.Outcome.{ends_seen, head_of, outcome_seen, shown_ends};
 
 use crate::head::Head;
+use def_reply::TraceLine;
 use std::marker::Model;
 use xg_plan::{Plan, Reply};
-
-/// A line of the trace: the round that was evaluated, and both ends of the bracket after it, each with the round that
-/// it comes from.
-///
-/// The ends are totals of best replies: in player one's payoff, times the unit and the root of the plan.
-#[derive(Clone, Copy, Debug, PartialEq, Eq)]
-pub struct TraceRow {
-    pub round: u32,
-    pub low_round: u32,
-    pub low: i128,
-    pub high_round: u32,
-    pub high: i128,
-}
 
 /// A player's plan at an end of the bracket, and the other player's best reply to it.
 #[derive(Drop)]
@@ -32,7 +20,7 @@ pub struct End {
 #[derive(Drop)]
 pub struct Outcome {
     head: Head,
-    trace: Vec<TraceRow>,
+    trace: Vec<TraceLine>,
     ends: Option<(End, End)>,
 }
 
@@ -47,7 +35,7 @@ impl Model for Outcome {
 
 impl Outcome {
     /// The outcome of these parts.
-    pub fn new(head: Head, trace: Vec<TraceRow>, ends: Option<(End, End)>) -> Outcome
+    pub fn new(head: Head, trace: Vec<TraceLine>, ends: Option<(End, End)>) -> Outcome
         ensures { result ≡ outcome_seen head trace.items ends }
     {
         Outcome { head, trace, ends }
@@ -61,8 +49,8 @@ impl Outcome {
     }
 
     /// A line for each evaluation.
-    pub fn trace(&self) -> &[TraceRow]
-        ensures { trace_of result.now ≡ self.now.trace }
+    pub fn trace(&self) -> &[TraceLine]
+        ensures { result.now ≡ self.now.trace }
     {
         &self.trace
     }

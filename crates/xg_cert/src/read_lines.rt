@@ -7,12 +7,12 @@ ghost use Rattle.def_cert_text.specs.Fields.{space, feed, number};
 ghost use Rattle.def_cert_text.specs.Formats.{and_then, fixed_field, whole_field};
 ghost use Rattle.def_cert_text.specs.CertText.{after_word, size_line, game_lines, asked_line, head_lines, numbers_of_game, line_of_round, value_line, bracket_line};
 ghost use Rattle.xg_cert_fields.specs.Reading.{GivesValue};
-ghost use Rattle.xg_cert.specs.Outcome.{head_of, line_of};
+ghost use Rattle.xg_cert.specs.Outcome.{head_of};
 ghost use Rattle.xg_cert.specs.ReadCert.{set_reply_of, asked_of};
 
 use crate::head::Head;
-use crate::outcome::TraceRow;
 use def_cert_text::CertFault;
+use def_reply::TraceLine;
 use def_sums::{MOST_MASS, MOST_ROUNDS, MOST_SCALE};
 use itoa::Buffer;
 use xg_cert_fields::FieldReader;
@@ -121,8 +121,8 @@ pub(crate) fn head_lines(reader: &mut FieldReader<'_>) -> Result<Head, CertFault
 }
 
 /// The line of the evaluation after a round.
-pub(crate) fn trace_line(reader: &mut FieldReader<'_>, round: u32) -> Result<TraceRow, CertFault>
-    ensures exact { GivesValue line_of result reader.new.left ((line_of_round round).read reader.old.total reader.old.left) }
+pub(crate) fn trace_line(reader: &mut FieldReader<'_>, round: u32) -> Result<TraceLine, CertFault>
+    ensures exact { GivesValue (λ line. line) result reader.new.left ((line_of_round round).read reader.old.total reader.old.left) }
     ensures total { reader.new.total ≡ reader.old.total }
 {
     let latest = round as u64;
@@ -132,7 +132,7 @@ pub(crate) fn trace_line(reader: &mut FieldReader<'_>, round: u32) -> Result<Tra
     let low = reader.integer(b' ')?;
     let high_round = reader.whole(1, latest, b' ')? as u32;
     let high = reader.integer(b'\n')?;
-    Ok(TraceRow {
+    Ok(TraceLine {
         round,
         low_round,
         low,

@@ -5,15 +5,15 @@ ghost use Rattle.def_tree.specs.Rules.{most_actions, most_nodes};
 ghost use Rattle.def_cert_text.specs.Formats.{read_each, read_row};
 ghost use Rattle.def_cert_text.specs.CertText.{evaluation_count, line_of_round, round_of_evaluation, trace_lines, value_line, weights_line};
 ghost use Rattle.xg_cert_fields.specs.Reading.{GivesValue};
-ghost use Rattle.xg_cert.specs.Outcome.{head_of, line_of, trace_of};
+ghost use Rattle.xg_cert.specs.Outcome.{head_of};
 ghost use Rattle.xg_cert.specs.Answers.{Extends, GivesValueFor};
 
 use crate::head::Head;
-use crate::outcome::TraceRow;
 use crate::printed::{PlanLines, ReplyLines};
 use crate::read_lines::{set_number, trace_line, value_line};
 use crate::refused::CertRefused;
 use def_cert_text::CertFault;
+use def_reply::TraceLine;
 use def_sums::MOST_ROOT;
 use std::alloc::Global;
 use xg_cert_fields::FieldReader;
@@ -45,11 +45,11 @@ fn line_of_evaluation(
     reader: &mut FieldReader<'_>,
     head: &Head,
     k: u32,
-) -> Result<TraceRow, CertFault>
+) -> Result<TraceLine, CertFault>
     requires k { k ≤ most_rounds + most_rounds }
     requires rounds { head.now.rounds ≤ most_rounds }
     requires every { head.now.every ≤ most_rounds }
-    ensures exact { GivesValue line_of result reader.new.left
+    ensures exact { GivesValue (λ line. line) result reader.new.left
         ((line_of_round (round_of_evaluation (head_of head.now) k)).read reader.old.total reader.old.left) }
     ensures total { reader.new.total ≡ reader.old.total }
 {
@@ -62,10 +62,10 @@ pub(crate) fn trace_lines(
     reader: &mut FieldReader<'_>,
     alloc: Global,
     head: &Head,
-) -> Result<Vec<TraceRow>, CertRefused>
+) -> Result<Vec<TraceLine>, CertRefused>
     requires rounds { head.now.rounds ≤ most_rounds }
     requires every { (1 ≤ head.now.every) × (head.now.every ≤ most_rounds) }
-    ensures exact { GivesValueFor (λ rows. trace_of rows.items) result reader.new.left
+    ensures exact { GivesValueFor (λ rows. rows.items) result reader.new.left
         ((trace_lines (head_of head.now)).read reader.old.total reader.old.left) }
     ensures total { reader.new.total ≡ reader.old.total }
 {

@@ -9,7 +9,7 @@ ghost use Rattle.def_cert_accepted.specs.OfOutcome.{certificate_of, printed_boun
 ghost use Rattle.def_cert_verdict.specs.Ranges.{IsFromTo};
 ghost use Rattle.def_fraction.specs.Fraction.{most};
 ghost use Rattle.def_sums.specs.Limits.{most_root, most_row};
-ghost use Rattle.xg_cert.specs.Outcome.{end_seen, head_of, trace_of};
+ghost use Rattle.xg_cert.specs.Outcome.{end_seen, head_of};
 ghost use Rattle.xg_cert.specs.Writable.{IsEndOf, IsOutcomeOf, above_text, below_text, end_text, ends_text};
 ghost use Rattle.def_cert_text.specs.Fields.{space, feed, fixed_word, number, field, separator, items_text};
 ghost use Rattle.def_cert_text.specs.Formats.{text_of};
@@ -20,7 +20,8 @@ use crate::fields::{put_field, put_signed};
 use crate::head::Head;
 use crate::lines::{put_head, put_named};
 use crate::lists::{put_trace, put_values, put_weights};
-use crate::outcome::{End, Outcome, TraceRow};
+use crate::outcome::{End, Outcome};
+use def_reply::TraceLine;
 use xg_frac::{Ratio, ratio};
 use xg_io::{Sink, WriteFault};
 use xg_plan::{Plan, Player, Reply};
@@ -109,7 +110,7 @@ fn bound(unit: u64, end: &End) -> Ratio
 fn put_ends<O: Sink>(
     form: &SeqForm,
     unit: u64,
-    trace: &[TraceRow],
+    trace: &[TraceLine],
     lower: &End,
     upper: &End,
     out: &mut O,
@@ -118,7 +119,7 @@ fn put_ends<O: Sink>(
     requires lower { IsEndOf form.now.sets_one form.now.sets_two (end_seen lower.now) }
     requires upper { IsEndOf form.now.sets_two form.now.sets_one (end_seen upper.now) }
     ensures text { Writes (O.written out.old) (O.written out.new)
-        (ends_text form.now unit (trace_of trace.now) (end_seen lower.now) (end_seen upper.now)) result }
+        (ends_text form.now unit trace.now (end_seen lower.now) (end_seen upper.now)) result }
     ensures cause { HasCause (O.faults out.old) (O.faults out.new) result }
 {
     let low = bound(unit, lower);

@@ -2,8 +2,7 @@ pub mod RowSizes
 pub mod Growing
 pub mod PlayersFollowRounds
 pub mod Offering
-pub mod BoardEndsFitForm
-pub mod Copying
+pub mod PartsOfBoard
 pub mod OutcomeLaws
 pub mod GameFormIsOfTree
 pub mod Writable

@@ -7,7 +7,8 @@ use Rattle.std.proofs.lemmas.List.Elements.{filter-append}
 use Rattle.std.proofs.lemmas.List.Sums.{fold-append}
 use Rattle.def_sums.proofs.Ranges.{range-append}
 use Rattle.def_plan.specs.Form.{SequenceForm}
-use Rattle.def_reply.specs.Bracket.{TraceLine, evaluated_rounds, trace}
+use Rattle.def_reply.specs.Bracket.{evaluated_rounds, trace}
+use Rattle.def_reply.specs.declared.TraceLine.{TraceLine}
 use Rattle.def_reply.specs.Offers.{Board, KeptEnd, Offer, keep_lower, keep_upper, lower_of, upper_of, board_after, evaluation_of_offer, new_board, offered}
 use Rattle.def_reply.proofs.KeptEnds.{offers_are_traced}
 use Rattle.def_reply.proofs.TraceLines.{trace_lines}

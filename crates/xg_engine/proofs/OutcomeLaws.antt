@@ -3,7 +3,8 @@ use Rattle.std.proofs.Common.{◌≡◌, ℕ, ◌-◌, ◌*◌, ◌≤◌, List,
 use Rattle.std.specs.Prelude.{◌*ℤ◌, ◌-ℤ◌, ◌≤ℤ◌}
 use Rattle.def_plan.specs.Form.{SequenceForm}
 use Rattle.def_reply.specs.Bounds.{IsExploitability}
-use Rattle.def_reply.specs.Bracket.{BracketEnds, Evaluation, TraceLine, ends_of, trace, trace_line}
+use Rattle.def_reply.specs.Bracket.{BracketEnds, Evaluation, ends_of, trace, trace_line}
+use Rattle.def_reply.specs.declared.TraceLine.{TraceLine}
 use Rattle.def_reply.specs.Outcome.{Head, OutcomeEnds}
 use Rattle.def_cert_verdict.specs.Certificate.{last_line}
 use Rattle.def_cert_verdict.proofs.LastLine.{last_is}

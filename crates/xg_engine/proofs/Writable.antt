@@ -7,7 +7,8 @@ use Rattle.def_plan.specs.Form.{SequenceForm}
 use Rattle.def_plan.specs.Plan.{IsPlan}
 use Rattle.def_reply.proofs.ReplySizes.{bounds_small}
 use Rattle.def_round.specs.Rounds.{rounds}
-use Rattle.def_reply.specs.Bracket.{BracketEnds, TraceLine}
+use Rattle.def_reply.specs.Bracket.{BracketEnds}
+use Rattle.def_reply.specs.declared.TraceLine.{TraceLine}
 use Rattle.def_reply.specs.Outcome.{Head, OutcomeEnds}
 use Rattle.def_cert_verdict.specs.Ranges.{IsFromTo}
 use Rattle.def_run.specs.Run.{outcome}

@@ -4,7 +4,8 @@ use Rattle.def_plan.specs.Form.{SequenceForm}
 use Rattle.def_plan.specs.Plan.{IsPlan, pure_plan}
 use Rattle.def_reply.specs.Reply.{choices_of}
 use Rattle.def_reply.specs.Bounds.{AttainsCeiling, AttainsFloor, IsCeiling, IsExploitability, IsFloor}
-use Rattle.def_reply.specs.Bracket.{LiesWithin, TraceLine}
+use Rattle.def_reply.specs.Bracket.{LiesWithin}
+use Rattle.def_reply.specs.declared.TraceLine.{TraceLine}
 use Rattle.def_reply.specs.Outcome.{Outcome, OutcomeEnds}
 use Rattle.def_cert_verdict.specs.Certificate.{last_line}
 

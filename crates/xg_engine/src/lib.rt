@@ -2,9 +2,9 @@
 //! The engine: a game in numbers, the rounds that are played on it, and the bracket that they leave.
 
 mod asking;
-mod drafting;
 mod engine;
 mod evaluating;
+mod finishing;
 mod players;
 mod running;
 mod settings;

@@ -2,16 +2,16 @@
 ghost use Rattle.std.specs.Prelude.{◌≡◌, ◌+◌, ◌<◌, ◌≤◌, IfOk, OnOk, length};
 ghost use Rattle.std.specs.Thread.{IsSync};
 ghost use Rattle.def_reply.specs.Bracket.{evaluated_rounds};
-ghost use Rattle.def_run.specs.Run.{outcome};
+ghost use Rattle.def_run.specs.Run.{outcome, outcome_with};
 ghost use Rattle.def_round.specs.Rounds.{rounds};
 ghost use Rattle.xg_cert.specs.Outcome.{head_of};
 ghost use Rattle.xg_jobs.specs.Table.{IsTableOf};
 ghost use Rattle.xg_engine.specs.Players.{IsSoundForm};
-ghost use Rattle.xg_engine.specs.Runs.{IsAfter, IsBlank};
+ghost use Rattle.xg_engine.specs.Runs.{IsAfter};
 ghost use Rattle.xg_engine.specs.State.{AreWithinLimits, Asks};
 
-use crate::drafting::Draft;
 use crate::evaluating::Evaluator;
+use crate::finishing::outcome_with;
 use crate::players::Players;
 use crate::settings::Settings;
 use crate::source::RowSource;
@@ -20,7 +20,7 @@ use std::sync::Wait;
 use std::thread::Threads;
 use xg_cert::{Head, Outcome};
 use xg_jobs::RowMaker;
-use xg_plan::{Plan, Player};
+use xg_plan::Plan;
 use xg_seq::SeqForm;
 
 /// What a run leaves.
@@ -95,21 +95,18 @@ pub(crate) fn play<Rt: Threads + Wait + Sync, M: RowMaker>(
         run.sum_two ≡ (rounds source.now.form.now settings.scale settings.rounds).sum_two) }
 {
     form_is_sound(source.form);
-    let draft = Draft::new(source.alloc, source.form, evaluation_count(settings))?;
     let mut run = Run::new(source.alloc, source.form, settings)?;
     for so_far in 0..settings.rounds {
         run.step(source, settings, so_far)?;
     }
-    Ok(finish(source.form, settings, head, draft, run))
+    Ok(finish(head, run))
 }
 
 // Nothing but what is true of every form.
 fn form_is_sound(form: &SeqForm)
     ensures { IsSoundForm form.now }
 {
-    let _one = form.sequence_count(Player::One);
-    let _two = form.sequence_count(Player::Two);
-    let _leaves = form.leaf_count();
+    form.facts();
 }
 
 // How many rounds are evaluated.
@@ -120,21 +117,16 @@ fn evaluation_count(settings: Settings) -> u32
     (settings.rounds + settings.every - 1) / settings.every
 }
 
-fn finish(form: &SeqForm, settings: Settings, head: Head, draft: Draft, run: Run) -> FinishedRun
-    requires limits { AreWithinLimits settings }
-    requires head { Asks settings (head_of head) }
-    requires form { IsSoundForm form.now }
-    requires draft { IsBlank form.now (length (evaluated_rounds settings.every settings.rounds)) draft }
-    requires run { IsAfter form.now settings settings.rounds run }
-    ensures outcome { result.outcome ≡ outcome form.now (head_of head) }
-    ensures sum_one { result.sum_one ≡ (rounds form.now settings.scale settings.rounds).sum_one }
-    ensures sum_two { result.sum_two ≡ (rounds form.now settings.scale settings.rounds).sum_two }
+// What is left of a run after its last round. Takes no memory.
+fn finish(head: Head, run: Run) -> FinishedRun
+    ensures outcome { result.outcome ≡ outcome_with (head_of head) run.evaluator.board.board }
+    ensures sum_one { result.sum_one ≡ run.players.one.sum }
+    ensures sum_two { result.sum_two ≡ run.players.two.sum }
 {
     let Run { players, evaluator } = run;
-    let outcome = draft.fill(form, head, &evaluator.board);
     let Players { one, two } = players;
     FinishedRun {
-        outcome,
+        outcome: outcome_with(head, evaluator.board),
         sum_one: one.sum,
         sum_two: two.sum,
     }

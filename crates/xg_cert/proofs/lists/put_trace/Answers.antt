@@ -1,29 +1,25 @@
 use Rattle.std.proofs.Common.{◌<◌, ◌∙◌, length, sym, subst, ap, arith, rules}
-use Rattle.std.proofs.lemmas.List.{length-map}
 use Rattle.std.specs.Io.KnownBytes.{append_known}
 use Rattle.def_outside.specs.Sinks.{AppendsPrefix}
-use Rattle.def_reply.specs.Bracket.{TraceLine}
+use Rattle.def_reply.specs.declared.TraceLine.{TraceLine}
 use Rattle.def_cert_text.specs.Formats.{text_of}
 use Rattle.def_cert_text.specs.CertText.{line_of_round}
-use Rattle.xg_cert.specs.Outcome.{line_of, trace_of}
-use Rattle.xg_cert.proofs.Written.{each_step, each_fail, each_end, get_or-map}
+use Rattle.xg_cert.proofs.Written.{each_step, each_fail, each_end}
 use Rattle.xg_cert.proofs.lists.put_trace.Goals as goal
 
 pub returns-in_err-put_trace_line-clause-text : goal.returns-in_err-put_trace_line-clause-text
 returns-in_err-put_trace_line-clause-text g c =
-    let low : c.rows.i < length (trace_of c.args.rows.now) = omega (arith, length-map c.args.rows.now line_of, c.rows-test.true) in
-    let fact = each_fail line_of_round _ (g.O.Sink.written c.rows.out) _ (trace_of c.args.rows.now) c.rows.i _ low c.rows.invariant.so_far
-    (subst (λ (l : TraceLine). AppendsPrefix (g.O.Sink.written c.rows.out) (g.O.Sink.written c.put_trace_line.new.out) (text_of (line_of_round 1) l)) (sym (get_or-map line_of c.args.rows.now c.rows.i _)) c.in_err-put_trace_line.ensures.text) in
+    let low : c.rows.i < length c.args.rows.now = c.rows-test.true in
+    let fact = each_fail line_of_round _ (g.O.Sink.written c.rows.out) _ c.args.rows.now c.rows.i _ low c.rows.invariant.so_far c.in_err-put_trace_line.ensures.text in
     search (rules, fact)
 
 pub rows-preserved : goal.rows-preserved
 rows-preserved g c =
-    let low : c.rows.i < length (trace_of c.args.rows.now) = omega (arith, length-map c.args.rows.now line_of, c.rows-test.true) in
+    let low : c.rows.i < length c.args.rows.now = c.rows-test.true in
     record {
-      so_far = each_step line_of_round _ (g.O.Sink.written c.rows.out) _ (trace_of c.args.rows.now) c.rows.i _ low c.rows.invariant.so_far
-          (c.in_ok-put_trace_line.ensures.text ∙ ap (λ (l : TraceLine). append_known (g.O.Sink.written c.rows.out) (text_of (line_of_round 1) l)) (sym (get_or-map line_of c.args.rows.now c.rows.i _)));
+      so_far = each_step line_of_round _ (g.O.Sink.written c.rows.out) _ c.args.rows.now c.rows.i _ low c.rows.invariant.so_far c.in_ok-put_trace_line.ensures.text;
       blameless = c.in_ok-put_trace_line.ensures.cause ∙ c.rows.invariant.blameless;
     }
 
 pub returns-clause-text : goal.returns-clause-text
-returns-clause-text g c = each_end line_of_round _ _ (trace_of c.args.rows.now) c.rows.i (omega (arith, length-map c.args.rows.now line_of, c.rows-test.false)) c.rows.invariant.so_far
+returns-clause-text g c = each_end line_of_round _ _ c.args.rows.now c.rows.i (omega (arith, c.rows-test.false)) c.rows.invariant.so_far

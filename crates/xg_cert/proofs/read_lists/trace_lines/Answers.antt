@@ -3,10 +3,10 @@ use Rattle.std.proofs.lemmas.List.{map_push}
 use Rattle.std.proofs.lemmas.Result.{err_from_is_err_and}
 use Rattle.def_cert_text.specs.Formats.{Format}
 use Rattle.def_cert_text.specs.CertText.{evaluation_count, line_of_round, round_of_evaluation}
-use Rattle.def_reply.specs.Bracket.{TraceLine}
+use Rattle.def_reply.specs.declared.TraceLine.{TraceLine}
 use Rattle.xg_cert.specs.declared.refused.CertRefused.TheVariants.{Cert}
 use Rattle.xg_cert.specs.Answers.{Fails}
-use Rattle.xg_cert.specs.Outcome.{head_of, line_of, trace_of}
+use Rattle.xg_cert.specs.Outcome.{head_of}
 use Rattle.xg_cert.proofs.ManyRead.{each_done, each_fails, each_goes_on}
 use Rattle.xg_cert.proofs.read_lists.trace_lines.Goals as goal
 
@@ -16,7 +16,7 @@ returns-in_err-row-clause-exact c =
     let head = head_of c.args.head.now in
     let lines : ℕ → Format TraceLine = λ k. line_of_round (round_of_evaluation head k) in
     let bytes = c.rows.reader.left in
-    rw (p.1, p.2) (each_fails lines (Cert c.in_err-row.field-0.0) (trace_of c.rows.rows.items) (evaluation_count head) c.rows.i _ bytes _ (rw (sym c.evaluation_count-count.ensures) c.rows-test.true)
+    rw (p.1, p.2) (each_fails lines (Cert c.in_err-row.field-0.0) c.rows.rows.items (evaluation_count head) c.rows.i _ bytes _ (rw (sym c.evaluation_count-count.ensures) c.rows-test.true)
     (subst (λ (t : ℕ). Fails (Cert c.in_err-row.field-0.0) ((lines (c.rows.i + 1)).read t bytes)) c.rows.invariant.total c.in_err-row.ensures.exact) c.rows.invariant.rest)
 
 pub rows-preserved : goal.rows-preserved
@@ -24,10 +24,9 @@ rows-preserved c =
     let head = head_of c.args.head.now in
     let lines : ℕ → Format TraceLine = λ k. line_of_round (round_of_evaluation head k) in
     let bytes = c.rows.reader.left in
-    let pushed : trace_of c.push.new.self.items ≡ trace_of c.rows.rows.items ++ line_of c.in_ok-row.row ∷ [] = rw c.in_ok-push.ensures.items (map_push _ c.rows.rows.items c.in_ok-row.row) in
     record {
       total = c.in_ok-row.ensures.total ∙ c.rows.invariant.total;
-      rest = rw pushed (each_goes_on lines (trace_of c.rows.rows.items) (evaluation_count head) c.rows.i _ bytes (line_of c.in_ok-row.row) _ _ (rw (sym c.evaluation_count-count.ensures) c.rows-test.true)
+      rest = rw c.in_ok-push.ensures.items (each_goes_on lines c.rows.rows.items (evaluation_count head) c.rows.i _ bytes c.in_ok-row.row _ _ (rw (sym c.evaluation_count-count.ensures) c.rows-test.true)
           (ap (λ (t : ℕ). (lines (c.rows.i + 1)).read t bytes) (sym c.rows.invariant.total) ∙ c.in_ok-row.ensures.exact) c.rows.invariant.rest);
     }
 
@@ -35,4 +34,4 @@ pub returns-clause-exact : goal.returns-clause-exact
 returns-clause-exact c =
     let head = head_of c.args.head.now in
     let lines : ℕ → Format TraceLine = λ k. line_of_round (round_of_evaluation head k) in
-    each_done lines (trace_of c.rows.rows.items) (evaluation_count head) c.rows.i _ c.rows.reader.left _ (rw (sym c.evaluation_count-count.ensures) c.rows-test.false) c.rows.invariant.rest
+    each_done lines c.rows.rows.items (evaluation_count head) c.rows.i _ c.rows.reader.left _ (rw (sym c.evaluation_count-count.ensures) c.rows-test.false) c.rows.invariant.rest

@@ -1,9 +1,9 @@
-use Rattle.std.proofs.Common.{◌≡◌, ◌<◌, ◌++◌, [], ◌∷◌, All, List, length, map, vec_capacity, arith, ap, sym, subst, ◌∙◌, refl}
-use Rattle.std.proofs.lemmas.List.{length-map}
-use Rattle.def_reply.specs.Bracket.{LiesWithin, TraceLine as Line}
+use Rattle.std.proofs.Common.{◌≡◌, ◌<◌, ◌++◌, [], ◌∷◌, All, List, length, vec_capacity, arith, ap, sym, subst, ◌∙◌, refl}
+use Rattle.def_reply.specs.Bracket.{LiesWithin}
+use Rattle.def_reply.specs.declared.TraceLine.{TraceLine}
 use Rattle.def_reply.specs.Offers.{Offer, lower_of, upper_of}
 use Rattle.xg_bracket.specs.Board.{SizedBoard, offer_of}
-use Rattle.xg_bracket.specs.Ends.{line_seen, line_with}
+use Rattle.xg_bracket.specs.Ends.{line_with}
 use Rattle.xg_bracket.proofs.Offered.{bounded_lower, bounded_upper, can_keep_lower, can_keep_upper}
 use Rattle.xg_bracket.proofs.Narrowing.{keeps_more, last_is, narrowed}
 use Rattle.xg_bracket.proofs.board.Board.offer.Goals as goal
@@ -42,7 +42,6 @@ invariant_of-self c =
       c.requires.room,
       ap (λ (b : SizedBoard). length b.board.trace) c.self.view_is,
       ap (λ (b : SizedBoard). b.capacity) c.self.view_is,
-      length-map old.trace.items line_seen,
     ) in
     keeps_more old.trace.items (vec_capacity old.trace) old.capacity old.lower old.upper c.offer_lower.new.end
     c.offer_upper.new.end (lower_of offer) (upper_of offer) c.self.invariant c.len-offers.result
@@ -58,13 +57,13 @@ returns-clause-within c line is =
     let to_one = c.args.against_one.now.reply in
     let offer : Offer = offer_of c.args.round c.args.one.now c.args.two.now to_one c.args.against_two.now.reply in
     let old = c.self.inside in
-    let all : List Line = map line_seen c.push_line.new.trace.items in
-    let lines : List Line = c.args.self.now.board.trace in
-    let same : map line_seen old.trace.items ≡ lines = ap (λ (b : SizedBoard). b.board.trace) c.self.view_is in
-    let last : Line = line_with c.args.round c.offer_lower.new.end c.offer_upper.new.end in
+    let all : List TraceLine = c.push_line.new.trace.items in
+    let lines : List TraceLine = c.args.self.now.board.trace in
+    let same : old.trace.items ≡ lines = ap (λ (b : SizedBoard). b.board.trace) c.self.view_is in
+    let last : TraceLine = line_with c.args.round c.offer_lower.new.end c.offer_upper.new.end in
     let last_is_line : last ≡ line =
     last_is lines all line last is (c.push_line.ensures.lines ∙ ap (λ xs. xs ++ last ∷ []) same) in
-    let W : Line → Type 0 = λ l. All (λ earlier. LiesWithin l earlier) lines in
+    let W : TraceLine → Type 0 = λ l. All (λ earlier. LiesWithin l earlier) lines in
     let of_last =
     narrowed old.trace.items (vec_capacity old.trace) old.capacity old.lower old.upper c.offer_lower.new.end
     c.offer_upper.new.end (lower_of offer) (upper_of offer) c.self.invariant c.len-offers.result
