@@ -109,6 +109,7 @@ impl GameMaker {
     }
 
     /// Takes the next entry, as `push`, by views of what it says.
+    #[inline(always)]
     pub fn push_entry(&mut self, entry: &Entry<'_>) -> Result<(), Refused>
         requires incomplete { wanted 1 self.old.contents.nodes ≢ 0 }
         requires unspent { self.old.spent ≡ false }

@@ -65,7 +65,7 @@ impl<'a> Model for TextView<'a> {
 
 impl<'a> TextView<'a> {
     /// The text that the inside of a text token stands for.
-    #[inline]
+    #[inline(always)]
     pub fn of(raw: &'a [u8]) -> TextView<'a>
         requires { IsInside raw.now }
         ensures { result ≡ unescaped raw.now }
@@ -123,7 +123,7 @@ impl<'a> TextView<'a> {
 }
 
 /// Whether there is a quotation mark. Most nodes have no name, and no byte.
-#[inline]
+#[inline(always)]
 fn has_mark(raw: &[u8]) -> bool
     ensures plain { result ≡ false → IsInside raw.now → unescaped raw.now ≡ raw.now }
     ensures marked { result ≡ true → Contains (unescaped raw.now) 34 }

@@ -44,6 +44,7 @@ impl<'a> Tokens<'a> {
     }
 
     /// The next token, behind the white space. After the end it answers the end again.
+    #[inline(always)]
     pub fn next(&mut self) -> Result<Lexeme, LexFault>
         ensures exact { result ≡ next_from self.old.whole self.old.at }
         ensures whole { self.new.whole ≡ self.old.whole }
@@ -63,6 +64,7 @@ impl<'a> Tokens<'a> {
     }
 
     /// The next byte that isn't white space, and `None` where only white space is left.
+    #[inline(always)]
     pub fn next_byte(&self) -> Option<u8>
         ensures exact { result ≡ byte_from self.now.whole self.now.at }
         ensures first { (b : ℕ) → (result ≡ Some b) ↔ ((place : ℕ) × IsFirstByteFrom self.now.whole self.now.at place × (slice_index self.now.whole place ≡ b)) }
@@ -72,6 +74,7 @@ impl<'a> Tokens<'a> {
     }
 }
 
+#[inline(always)]
 fn is_space(byte: u8) -> bool
     ensures { result ≡ is_space byte }
 {
@@ -79,6 +82,7 @@ fn is_space(byte: u8) -> bool
     byte <= b' ' && matches!(byte, 9..=13 | b' ')
 }
 
+#[inline(always)]
 fn in_run(byte: u8) -> bool
     ensures { result ≡ in_run byte }
 {
@@ -86,12 +90,14 @@ fn in_run(byte: u8) -> bool
     matches!(byte, b'-'..=b'z') || !matches!(byte, 9..=13 | b' ' | b'"' | b'{' | b'}' | b',')
 }
 
+#[inline(always)]
 fn begins_word(byte: u8) -> bool
     ensures { result ≡ begins_word byte }
 {
     byte.is_ascii_alphabetic()
 }
 
+#[inline(always)]
 fn begins_number(byte: u8) -> bool
     ensures { result ≡ begins_number byte }
 {
@@ -99,6 +105,7 @@ fn begins_number(byte: u8) -> bool
 }
 
 /// The offset of the first byte from `at` on that isn't white space, or the end.
+#[inline(always)]
 fn after_space(bytes: &[u8], at: usize) -> usize
     requires { at ≤ length bytes.now }
     ensures value { result ≡ after_space bytes.now at }
@@ -108,6 +115,7 @@ fn after_space(bytes: &[u8], at: usize) -> usize
 }
 
 /// How many bytes of white space stand at the front.
+#[inline(always)]
 fn space_len(bytes: &[u8]) -> usize
     ensures value { result ≡ prefix_len is_space bytes.now }
     ensures within { result ≤ length bytes.now }
@@ -116,6 +124,7 @@ fn space_len(bytes: &[u8]) -> usize
 }
 
 /// How many bytes of a run stand at the front.
+#[inline(always)]
 fn run_len(bytes: &[u8]) -> usize
     ensures value { result ≡ prefix_len in_run bytes.now }
     ensures within { result ≤ length bytes.now }
@@ -124,6 +133,7 @@ fn run_len(bytes: &[u8]) -> usize
 }
 
 /// The token that begins at `start`, or the end.
+#[inline(always)]
 fn token_at(bytes: &[u8], start: usize) -> Result<Lexeme, LexFault>
     requires { start ≤ length bytes.now }
     ensures value { result ≡ token_at start (drop start bytes.now) }
@@ -160,6 +170,7 @@ fn token_at(bytes: &[u8], start: usize) -> Result<Lexeme, LexFault>
 }
 
 /// The run that begins at `start`, as a token of this kind.
+#[inline(always)]
 fn run_at(bytes: &[u8], start: usize, kind: Token) -> Lexeme
     requires { start ≤ length bytes.now }
     ensures value { result ≡ span kind start (start + prefix_len in_run (drop start bytes.now)) }
@@ -174,6 +185,7 @@ fn run_at(bytes: &[u8], start: usize, kind: Token) -> Lexeme
 }
 
 /// The text whose opening mark is at `start`.
+#[inline(always)]
 fn text_at(bytes: &[u8], start: usize) -> Result<Lexeme, LexFault>
     requires there { start < length bytes.now }
     requires mark { slice_index bytes.now start ≡ 34 }
@@ -198,6 +210,7 @@ fn text_at(bytes: &[u8], start: usize) -> Result<Lexeme, LexFault>
 }
 
 /// Whether the mark at `start` is followed by another one at once. Most nodes have no name.
+#[inline(always)]
 fn is_empty_text(bytes: &[u8], start: usize) -> bool
     requires { start < length bytes.now }
     ensures { IsTrue result ↔ (start + 1 < length bytes.now) × (slice_index bytes.now (start + 1) ≡ 34) }

@@ -53,6 +53,7 @@ impl<'a> Lists<'a> {
 impl<'a> Reader<'a> {
     /// A set's number, and its name and actions where they come.
     #[tactic(auto, unfolding(def_file::specs::Reading::set_mention_at))]
+    #[inline(always)]
     fn set_mention<'l>(
         &mut self,
         kind: EntryKind,
@@ -77,6 +78,7 @@ impl<'a> Reader<'a> {
 
     /// An outcome's number, and its name and payoffs where they come.
     #[tactic(auto, unfolding(def_file::specs::Reading::outcome_mention_at))]
+    #[inline(always)]
     fn outcome_mention<'l>(
         &mut self,
         payoffs: &'l mut Payoffs,
@@ -99,6 +101,7 @@ impl<'a> Reader<'a> {
 
     /// A chance entry behind its word.
     #[tactic(auto, unfolding(def_file::specs::Reading::chance_entry_at))]
+    #[inline(always)]
     fn chance_entry<'l>(&mut self, lists: &'l mut Lists<'a>) -> Result<Entry<'l>, Refused>
     where
         'a: 'l,
@@ -114,6 +117,7 @@ impl<'a> Reader<'a> {
 
     /// A personal entry behind its word.
     #[tactic(auto, unfolding(def_file::specs::Reading::personal_entry_at))]
+    #[inline(always)]
     fn personal_entry<'l>(&mut self, lists: &'l mut Lists<'a>) -> Result<Entry<'l>, Refused>
     where
         'a: 'l,
@@ -137,6 +141,7 @@ impl<'a> Reader<'a> {
 
     /// A terminal entry behind its word.
     #[tactic(auto, unfolding(def_file::specs::Reading::terminal_entry_at))]
+    #[inline(always)]
     fn terminal_entry<'l>(&mut self, lists: &'l mut Lists<'a>) -> Result<Entry<'l>, Refused>
     where
         'a: 'l,
@@ -162,6 +167,7 @@ impl<'a> Reader<'a> {
 
     /// The next entry. Its lists are read into `lists`.
     #[tactic(auto, unfolding(def_file::specs::Reading::entry_at))]
+    #[inline(always)]
     pub fn entry<'l>(&mut self, lists: &'l mut Lists<'a>) -> Result<Entry<'l>, Refused>
     where
         'a: 'l,
@@ -181,6 +187,7 @@ impl<'a> Reader<'a> {
 }
 
 /// The entry of a node with a set.
+#[inline(always)]
 fn with_set<'a>(
     file: &'a [u8],
     kind: EntryKind,

@@ -87,6 +87,7 @@ fn read_entries<'a>(
 }
 
 /// Reads the next entry and puts it last.
+#[inline(always)]
 fn take_entry<'a>(
     reader: &mut Reader<'a>,
     lists: &mut Lists<'a>,

@@ -38,6 +38,7 @@ impl<'a> Reader<'a> {
 
     /// The actions up to the closing brace.
     #[tactic(auto, using(crate::proofs::Items::actions_closed, crate::proofs::Items::actions_more, crate::proofs::Items::actions_full), unfolding(def_file::specs::Reading::close_at))]
+    #[inline(never)]
     fn actions_in_braces(
         &mut self,
         kind: EntryKind,
@@ -62,6 +63,7 @@ impl<'a> Reader<'a> {
 
     /// A list of actions, if one comes.
     #[tactic(auto, unfolding(def_file::specs::Reading::actions_at))]
+    #[inline(always)]
     pub fn actions<'l>(
         &mut self,
         kind: EntryKind,
@@ -97,6 +99,7 @@ impl<'a> Reader<'a> {
 
     /// The payoffs up to the closing brace.
     #[tactic(auto, using(crate::proofs::Items::payoffs_closed, crate::proofs::Items::payoffs_more, crate::proofs::Items::payoffs_full), unfolding(def_file::specs::Reading::close_at))]
+    #[inline(never)]
     fn payoffs_in_braces(&mut self, payoffs: &mut Payoffs) -> Result<(), Refused>
         ensures exact { GivesFor (λ _. payoffs.new) result self.new.at
             (payoffs_from (length self.old.whole) [] self.old.whole self.old.at) }
@@ -117,6 +120,7 @@ impl<'a> Reader<'a> {
 
     /// A list of payoffs, if one comes.
     #[tactic(auto, unfolding(def_file::specs::Reading::payoffs_at))]
+    #[inline(always)]
     pub fn payoffs<'l>(&mut self, payoffs: &'l mut Payoffs) -> Result<Option<&'l Payoffs>, Refused>
         ensures exact { GivesFor (option_map (λ p. p.now)) result self.new.at (payoffs_at self.old.whole self.old.at) }
         ensures whole { self.new.whole ≡ self.old.whole }

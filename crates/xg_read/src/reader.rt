@@ -40,6 +40,7 @@ impl<'a> Reader<'a> {
     }
 
     /// The bytes of the file.
+    #[inline(always)]
     pub fn bytes(&self) -> &'a [u8]
         ensures { result.now ≡ self.now.whole }
     {
@@ -55,6 +56,7 @@ impl<'a> Reader<'a> {
 
     /// Whether this byte comes next, white space aside.
     #[tactic(auto, unfolding(def_file::specs::Reading::next_is))]
+    #[inline(always)]
     pub fn comes(&self, byte: u8) -> bool
         ensures { result ≡ next_is byte self.now.whole self.now.at }
     {
@@ -66,6 +68,7 @@ impl<'a> Reader<'a> {
 
     /// The next token, if it is one that is wanted.
     #[tactic(auto, using(crate::proofs::Texts::text_room), unfolding(def_file::specs::Reading::token_where))]
+    #[inline(always)]
     pub fn token(&mut self, wanted: Wanted) -> Result<Lexeme, FileFault>
         ensures exact { result ≡ token_where (test_of wanted self.old.whole) self.old.whole self.old.at }
         ensures met { IfOk result (λ token. test_of wanted self.old.whole token ≡ true) }
@@ -107,6 +110,7 @@ impl<'a> Reader<'a> {
     }
 
     /// The bytes of a token.
+    #[inline(always)]
     pub fn token_bytes(&self, token: Lexeme) -> &[u8]
         requires order { token.start ≤ token.end }
         requires within { token.end ≤ length self.now.whole }
@@ -116,6 +120,7 @@ impl<'a> Reader<'a> {
     }
 
     /// Whether the token is of this kind and has these bytes.
+    #[inline(always)]
     pub fn is_exact(&self, kind: Token, exact: &[u8], token: Lexeme) -> bool
         requires order { token.start ≤ token.end }
         requires within { token.end ≤ length self.now.whole }
@@ -125,6 +130,7 @@ impl<'a> Reader<'a> {
     }
 
     /// The text that a text token stands for.
+    #[inline(always)]
     pub fn text(&self, token: Lexeme) -> TextView<'a>
         requires marks { token.start + 2 ≤ token.end }
         requires within { token.end ≤ length self.now.whole }
@@ -137,6 +143,7 @@ impl<'a> Reader<'a> {
 }
 
 /// The fault of a token that can't be taken.
+#[inline(always)]
 fn unfit(token: Lexeme) -> FileFault
     ensures { result ≡ unfit token }
 {

@@ -25,6 +25,7 @@ pub enum Wanted {
 
 impl Wanted {
     /// Whether the token of these bytes is such a one.
+    #[inline(always)]
     pub fn is_met(self, bytes: &[u8], token: Lexeme) -> bool
         requires order { token.start ≤ token.end }
         requires within { token.end ≤ length bytes.now }
@@ -52,6 +53,7 @@ impl Wanted {
 }
 
 /// Whether two kinds of tokens are one.
+#[inline(always)]
 pub fn is_kind(wanted: Token, kind: Token) -> bool
     ensures { result ≡ is_kind wanted kind }
 {
@@ -68,6 +70,7 @@ pub fn is_kind(wanted: Token, kind: Token) -> bool
 }
 
 /// Whether the token is of this kind and has these bytes.
+#[inline(always)]
 pub fn is_exact(kind: Token, exact: &[u8], bytes: &[u8], token: Lexeme) -> bool
     requires order { token.start ≤ token.end }
     requires within { token.end ≤ length bytes.now }
