@@ -1,17 +1,14 @@
--- The rows after one leaf and after one value more.
-use Rattle.std.proofs.Common.{◌≡◌, ℕ, ◌+◌, ◌-◌, ◌<◌, ◌≤◌, Bool, true, false, cond, eqb, List, ◌∷◌, length, get_or, drop, filter, zip, Some, slice_get, ℤ, pos, ◌+ℤ◌, unsigned_abs, All, sym, ap, ◌∙◌, subst, arith}
+-- The rows after one value more, and after all of them.
+use Rattle.std.proofs.Common.{◌≡◌, ℕ, ◌+◌, ◌-◌, ◌<◌, ◌≤◌, Bool, true, false, cond, eqb, List, ◌∷◌, length, get_or, drop, filter, zip, Some, slice_get, ℤ, pos, ◌+ℤ◌, unsigned_abs, sym, ap, ◌∙◌, arith}
 use Rattle.std.proofs.lemmas.Int.{ints}
 use Rattle.std.proofs.lemmas.List.{drop_more, drop_all}
-use Rattle.std.proofs.lemmas.List.Elements.{All-get_or}
 use Rattle.std.proofs.lemmas.Option.{get_or_from_slice_get}
 use Rattle.def_tree.specs.declared.Player.{Player}
 use Rattle.def_sums.specs.Sum.{sum_over}
 use Rattle.def_sums.proofs.RingLaws.{+ℤ_assoc, +ℤ-zero, zero-+ℤ, unsigned_abs-+ℤ}
 use Rattle.def_sums.proofs.SumLaws.{sum_over-filter}
-use Rattle.def_plan.specs.Form.{Leaf, PlacedSet, SequenceForm, leaf_sequence, player_sets, sequence_count}
+use Rattle.def_plan.specs.Form.{Leaf, PlacedSet, leaf_sequence}
 use Rattle.def_plan.specs.Payoff.{leaf_sum, values_after}
-use Rattle.xg_seq.specs.Leaves.{HasSequences}
-use Rattle.xg_seq.proofs.FormLemmas.{sequence_there}
 use Rattle.xg_check.specs.Views.{AddsAt, AreAllWithin, paid_at_leaf, row}
 
 -- a sum over those of a list that pass a test, by the list's first
@@ -20,7 +17,8 @@ sum_more : {A : Type 0} (f : A → ℤ) (own : A → Bool) (x : A) (xs : List A)
 sum_more f own x xs =
     sum_over-filter f own (x ∷ xs) ∙ ap (λ rest. cond (own x) (f x) (pos 0) +ℤ rest) (sym (sum_over-filter f own xs))
 
-leaf_more : (player : Player) (z : Leaf) (zs : List Leaf) (against : List ℕ) (s : ℕ)
+-- a leaf sum by the first of the leaves
+pub leaf_more : (player : Player) (z : Leaf) (zs : List Leaf) (against : List ℕ) (s : ℕ)
     → leaf_sum player (z ∷ zs) against s
     ≡ cond (eqb (leaf_sequence player z) s) (paid_at_leaf player against z) (pos 0) +ℤ leaf_sum player zs against s
 leaf_more player z zs against s = sum_more (paid_at_leaf player against) (λ y. eqb (leaf_sequence player y) s) z zs
@@ -29,7 +27,8 @@ leaf_more player z zs against s = sum_more (paid_at_leaf player against) (λ y. 
 abbrev pub AddsUpTo : (ℕ → ℤ) → (ℕ → ℤ) → (ℕ → ℤ) → Type 0
 AddsUpTo rows left whole = (s : ℕ) → rows s +ℤ left s ≡ whole s
 
-added : (before now left next term whole : ℤ) → before +ℤ left ≡ whole → now ≡ before +ℤ term → left ≡ term +ℤ next
+-- one term of what is left is added
+pub added : (before now left next term whole : ℤ) → before +ℤ left ≡ whole → now ≡ before +ℤ term → left ≡ term +ℤ next
     → now +ℤ next ≡ whole
 added before now left next term whole h n l =
     ap (λ x. x +ℤ next) n ∙ +ℤ_assoc before term next ∙ ap (λ x. before +ℤ x) (sym l) ∙ h
@@ -37,33 +36,6 @@ added before now left next term whole h n l =
 -- the element that a place has
 pub there_is : {X : Type 0} (xs : List X) (i : ℕ) (x d : X) → slice_get xs (i + 1 - 1) ≡ Some x → get_or xs i d ≡ x
 there_is xs i x d e = let same : i + 1 - 1 ≡ i = omega arith in get_or_from_slice_get xs i x d (ap (slice_get xs) (sym same) ∙ e)
-
--- where a leaf's part is added at its sequence, the rows and what the leaves behind it add still make the whole
-pub leaf_step : (player : Player) (against : List ℕ) (before now : List ℤ) (leaves : List Leaf) (i : ℕ) (z : Leaf)
-    (whole : ℕ → ℤ)
-    → i < length leaves → slice_get leaves (i + 1 - 1) ≡ Some z
-    → AddsUpTo (row before) (leaf_sum player (drop i leaves) against) whole
-    → AddsAt before now (leaf_sequence player z) (paid_at_leaf player against z)
-    → AddsUpTo (row now) (leaf_sum player (drop (i + 1) leaves) against) whole
-leaf_step player against before now leaves i z whole low is h a s =
-    let more : leaf_sum player (drop i leaves) against s
-    ≡ cond (eqb (leaf_sequence player z) s) (paid_at_leaf player against z) (pos 0) +ℤ leaf_sum player (drop (i + 1) leaves) against s =
-    ap (λ zs. leaf_sum player zs against s) (drop_more leaves i z low ∙ ap (λ y. y ∷ drop (i + 1) leaves) (there_is leaves i z z is))
-    ∙ leaf_more player z (drop (i + 1) leaves) against s in
-    added (row before s) (row now s) _ _ _ (whole s) (h s) (a s) more
-
-pub no_leaf_left : (player : Player) (against : List ℕ) (rows : List ℤ) (leaves : List Leaf) (i : ℕ) (whole : ℕ → ℤ)
-    → length leaves ≤ i → AddsUpTo (row rows) (leaf_sum player (drop i leaves) against) whole → (s : ℕ)
-    → row rows s ≡ whole s
-no_leaf_left player against rows leaves i whole le h s =
-    sym (+ℤ-zero (row rows s)) ∙ ap (λ zs. row rows s +ℤ leaf_sum player zs against s) (sym (drop_all i leaves le)) ∙ h s
-
--- each player's sequence at a leaf
-pub leaf_there : (form : SequenceForm) (player : Player) (i : ℕ) (z : Leaf) → All (HasSequences form) form.leaves
-    → i < length form.leaves → slice_get form.leaves (i + 1 - 1) ≡ Some z
-    → leaf_sequence player z < sequence_count (player_sets form player)
-leaf_there form player i z all low is =
-    sequence_there form player z (subst (HasSequences form) (there_is form.leaves i z z is) (All-get_or (HasSequences form) form.leaves i z low all))
 
 term_size : (t : Bool) (x : ℤ) (most : ℕ) → unsigned_abs x ≤ most → unsigned_abs (cond t x (pos 0)) ≤ most
 term_size true x most h = h
@@ -77,11 +49,6 @@ within_step before now k x most more h a small s =
     omega (arith, ap unsigned_abs (a s), unsigned_abs-+ℤ (row before s) (cond (eqb k s) x (pos 0)), h s, term_size (eqb k s) x more small)
 
 -- ---- values
--- the set that a place has
-pub set_there : (hs : List PlacedSet) (k : ℕ) (h : PlacedSet) → ((d : PlacedSet) → get_or hs (k + 1 - 1) d ≡ h)
-    → get_or hs k h ≡ h
-set_there hs k h is = let same : k + 1 - 1 ≡ k = omega arith in ap (λ i. get_or hs i h) (sym same) ∙ is h
-
 values_more : (p : PlacedSet) (ps : List PlacedSet) (v : ℤ) (vs : List ℤ) (s : ℕ)
     → values_after (p ∷ ps) (v ∷ vs) s ≡ cond (eqb p.before s) v (pos 0) +ℤ values_after ps vs s
 values_more p ps v vs s =

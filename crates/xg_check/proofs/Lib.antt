@@ -1,4 +1,5 @@
 pub mod AddLemmas
+pub mod ThreadSums
 pub mod TestLemmas
 pub mod PlanTests
 pub mod ReplyTests

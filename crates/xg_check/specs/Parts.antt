@@ -6,7 +6,7 @@ use Rattle.def_tree.specs.declared.Player.TheVariants.{One, Two}
 use Rattle.def_tree.specs.Opponent.{opponent}
 use Rattle.def_plan.specs.Form.{player_sets, sequence_count}
 use Rattle.def_plan.specs.Payoff.{leaf_sum}
-use Rattle.def_reply.specs.Bracket.{TraceLine}
+use Rattle.def_reply.specs.declared.TraceLine.{TraceLine}
 use Rattle.def_cert_verdict.specs.declared.fault.TestFault.{TestFault}
 use Rattle.def_cert_verdict.specs.Certificate.{Certificate, PrintedBounds, last_line, printed_numbers}
 use Rattle.def_plan.specs.Weighed.{WeighedGame}

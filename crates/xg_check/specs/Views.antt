@@ -3,15 +3,11 @@ use Rattle.std.specs.Prelude.{◌≡◌, ℕ, ◌≤◌, ◌==◌, List, ℤ, po
 use Rattle.std.specs.Prelude.{slice_index_or, if◌then◌else◌}
 use Rattle.def_tree.specs.declared.Player.{Player}
 use Rattle.def_tree.specs.Opponent.{opponent}
-use Rattle.def_plan.specs.Form.{Leaf, PlacedSet, leaf_sequence}
+use Rattle.def_plan.specs.Form.{Leaf, leaf_sequence}
 use Rattle.def_reply.specs.Reply as reply
 use Rattle.def_reply.specs.Reply.{Reply}
 use Rattle.xg_plan.specs.Reply.{set_replies}
-use Rattle.xg_check.specs.declared.parts.SetPlace.{SetPlace}
 use Rattle.xg_check.specs.declared.parts.SetReply.{SetReply}
-
-abbrev pub placed_of : SetPlace → PlacedSet
-placed_of h = record { first = h.first; before = h.before; actions = h.actions }
 
 abbrev pub reply_of : SetReply → reply.SetReply
 reply_of r = record { value = r.value; choice = r.choice }

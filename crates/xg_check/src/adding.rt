@@ -10,7 +10,6 @@ ghost use Rattle.xg_seq.specs.Leaves.{leaf_of};
 ghost use Rattle.xg_seq.specs.Table.{most_sequences};
 ghost use Rattle.xg_check.specs.Views.{AddsAt, AreAllWithin, paid_at_leaf, row};
 
-use crate::parts::place_of;
 use def_tree::Player;
 use xg_seq::{Leaf, SeqForm};
 
@@ -39,15 +38,6 @@ fn add_at(rows: &mut [i128], k: usize, x: i128)
     rows[k] = plus(rows[k], x);
 }
 
-fn own(player: Player, z: Leaf) -> usize
-    ensures { result ≡ leaf_sequence player (leaf_of z) }
-{
-    match player {
-        Player::One => z.seq1 as usize,
-        Player::Two => z.seq2 as usize,
-    }
-}
-
 fn other(player: Player, z: Leaf) -> usize
     ensures { result ≡ leaf_sequence (opponent player) (leaf_of z) }
 {
@@ -57,21 +47,51 @@ fn other(player: Player, z: Leaf) -> usize
     }
 }
 
-// Adds a leaf to the row of its sequence.
-fn add_leaf(player: Player, z: Leaf, against: &[u64], rows: &mut [i128])
-    requires own_there { leaf_sequence player (leaf_of z) < length rows.old }
-    requires other_there { leaf_sequence (opponent player) (leaf_of z) < length against.now }
+// What a leaf pays against the other player's numbers.
+fn paid_at_leaf(player: Player, z: Leaf, against: &[u64]) -> i128
+    requires there { leaf_sequence (opponent player) (leaf_of z) < length against.now }
     requires numbers { (s : ℕ) → slice_index against.now s ≤ most_root }
-    requires room { AreAllWithin (2 ^ 125) rows.old }
-    ensures added { AddsAt rows.old rows.new (leaf_sequence player (leaf_of z)) (paid_at_leaf player against.now (leaf_of z)) }
-    ensures small { unsigned_abs (paid_at_leaf player against.now (leaf_of z)) ≤ 2 ^ 99 }
-    ensures same_length { length rows.new ≡ length rows.old }
+    ensures value { result ≡ paid_at_leaf player against.now (leaf_of z) }
+    ensures small { unsigned_abs result ≤ 2 ^ 99 }
 {
-    let n = against[other(player, z)];
-    add_at(rows, own(player, z), times(z.w, n));
+    times(z.w, against[other(player, z)])
 }
 
-/// Adds each leaf's weight, times the other player's number, to the row of the player's sequence.
+// The sum over the leaves of a sequence, from its first leaf to the next one each time.
+fn leaf_sum(form: &SeqForm, player: Player, sequence: u32, against: &[u64]) -> i128
+    requires there { sequence < sequence_count (player_sets form.now player) }
+    requires against { length against.now ≡ sequence_count (player_sets form.now (opponent player)) }
+    requires numbers { (s : ℕ) → slice_index against.now s ≤ most_root }
+    ensures sum { result ≡ leaf_sum player form.now.leaves against.now sequence }
+    ensures small { unsigned_abs result ≤ 2 ^ 119 }
+{
+    form.facts();
+    let mut sum = 0;
+    let mut next = form.first_leaf(player, sequence);
+    while let Some(z) = next {
+        sum = plus(sum, paid_at_leaf(player, form.leaf(z), against));
+        next = form.next_leaf(player, z);
+    }
+    sum
+}
+
+// Adds the leaf sum of a sequence to its row.
+fn add_leaf_sum(form: &SeqForm, player: Player, sequence: u32, against: &[u64], rows: &mut [i128])
+    requires there { sequence < sequence_count (player_sets form.now player) }
+    requires rows { length rows.old ≡ sequence_count (player_sets form.now player) }
+    requires against { length against.now ≡ sequence_count (player_sets form.now (opponent player)) }
+    requires numbers { (s : ℕ) → slice_index against.now s ≤ most_root }
+    requires room { AreAllWithin (2 ^ 125) rows.old }
+    ensures added { AddsAt rows.old rows.new sequence (leaf_sum player form.now.leaves against.now sequence) }
+    ensures small { unsigned_abs (leaf_sum player form.now.leaves against.now sequence) ≤ 2 ^ 119 }
+    ensures same_length { length rows.new ≡ length rows.old }
+{
+    let sum = leaf_sum(form, player, sequence, against);
+    add_at(rows, sequence as usize, sum);
+}
+
+/// Adds to the row of each of the player's sequences the sum over its leaves, of each the weight times the other
+/// player's number.
 pub(crate) fn add_leaves(form: &SeqForm, player: Player, against: &[u64], rows: &mut [i128])
     requires rows { length rows.old ≡ sequence_count (player_sets form.now player) }
     requires against { length against.now ≡ sequence_count (player_sets form.now (opponent player)) }
@@ -81,8 +101,9 @@ pub(crate) fn add_leaves(form: &SeqForm, player: Player, against: &[u64], rows: 
     ensures same_length { length rows.new ≡ length rows.old }
     ensures small { AreAllWithin (2 ^ 119) rows.new }
 {
-    for z in 0..form.leaf_count() {
-        add_leaf(player, form.leaf(z + 1), against, rows);
+    form.facts();
+    for s in 0..form.sequence_count(player) {
+        add_leaf_sum(form, player, s, against, rows);
     }
 }
 
@@ -110,7 +131,7 @@ pub(crate) fn add_values(form: &SeqForm, player: Player, values: &[i128], rows: 
     ensures same_length { length rows.new ≡ length rows.old }
 {
     for k in 0..form.set_count(player) {
-        let h = place_of(form, player, k + 1);
+        let h = form.place_of(player, k + 1);
         add_value(h.before, values, k as usize, rows);
     }
 }

@@ -5,18 +5,18 @@ ghost use Rattle.def_sums.specs.Limits.{most_root};
 ghost use Rattle.def_tree.specs.Opponent.{opponent};
 ghost use Rattle.def_cert_verdict.specs.Certificate.{last_line};
 ghost use Rattle.def_cert_verdict.specs.Verdict.{first_failing};
-ghost use Rattle.xg_cert.specs.Outcome.{line_of};
 ghost use Rattle.xg_cert.specs.Printed.{bounds_in, plan_in, reply_in};
 ghost use Rattle.xg_check.specs.Parts.{HasEachSequence, HasSetsOf, bound_in, tests_of_reply, total_in};
 ghost use Rattle.xg_frac.specs.Wide.{most_wide};
 
-use crate::lines::last_row;
+use crate::lines::last_line;
 use crate::parts::PrintedEnd;
 use crate::replies::reply_fault;
 use def_cert_verdict::TestFault;
+use def_reply::TraceLine;
 use def_tree::Player;
 use std::alloc::{AllocError, Global};
-use xg_cert::{Cert, TraceRow};
+use xg_cert::Cert;
 use xg_frac::Ratio;
 use xg_numbers::Numbers;
 
@@ -29,12 +29,12 @@ fn opponent(player: Player) -> Player
     }
 }
 
-fn total_in(player: Player, row: &TraceRow) -> i128
-    ensures { result ≡ total_in player (line_of row.now) }
+fn total_in(player: Player, line: &TraceLine) -> i128
+    ensures { result ≡ total_in player line.now }
 {
     match player {
-        Player::One => row.high,
-        Player::Two => row.low,
+        Player::One => line.high,
+        Player::Two => line.low,
     }
 }
 
@@ -86,7 +86,7 @@ fn end_of(numbers: &Numbers, player: Player, cert: &Cert) -> PrintedEnd
     let _within = cert.head();
     PrintedEnd {
         total: cert.total(player),
-        traced: total_in(player, &last_row(cert.trace())),
+        traced: total_in(player, &last_line(cert.trace())),
         bound: bound_in(player, cert),
         scale: scale_of(numbers.unit(), cert.root(opponent(player))),
     }

@@ -7,7 +7,6 @@ ghost use Rattle.def_cert_verdict.specs.Certificate.{last_line};
 ghost use Rattle.def_cert_verdict.specs.Verdict.{bounds_tests, first_failing, first_trace_line, shown_by, tests};
 ghost use Rattle.def_cert_verdict.specs.Verdict.{trace_tests, verdict};
 ghost use Rattle.def_check.specs.Check.{by_tests};
-ghost use Rattle.xg_cert.specs.Outcome.{line_of};
 ghost use Rattle.xg_cert.specs.Printed.{bounds_in, plan_in, set_count_in};
 ghost use Rattle.xg_check.specs.Answers.{AnswersVerdict, verdict_of};
 ghost use Rattle.xg_check.specs.Parts.{HasEachSequence, HasSetsOf, plan_round_in, tests_of_plan, tests_of_plans};
@@ -15,21 +14,22 @@ ghost use Rattle.xg_check.specs.Parts.{tests_of_replies};
 
 use crate::ends::fault_of_reply;
 use crate::heads::head_fault;
-use crate::lines::{last_row, trace_fault};
+use crate::lines::{last_line, trace_fault};
 use crate::plans::plan_fault;
 use crate::verdict::{CheckFault, Verdict, as_check_fault};
 use def_cert_verdict::TestFault;
+use def_reply::TraceLine;
 use def_tree::Player;
 use std::alloc::{AllocError, Global};
-use xg_cert::{Cert, TraceRow};
+use xg_cert::Cert;
 use xg_numbers::Numbers;
 
-fn plan_round_in(player: Player, row: &TraceRow) -> u32
-    ensures { result ≡ plan_round_in player (line_of row.now) }
+fn plan_round_in(player: Player, line: &TraceLine) -> u32
+    ensures { result ≡ plan_round_in player line.now }
 {
     match player {
-        Player::One => row.low_round,
-        Player::Two => row.high_round,
+        Player::One => line.low_round,
+        Player::Two => line.high_round,
     }
 }
 
@@ -37,7 +37,7 @@ fn plan_round_in(player: Player, row: &TraceRow) -> u32
 fn wanted_root(player: Player, cert: &Cert) -> u64
     ensures { result ≡ plan_round_in player (last_line (bounds_in cert.now).trace) * cert.now.head.scale }
 {
-    let round = plan_round_in(player, &last_row(cert.trace()));
+    let round = plan_round_in(player, &last_line(cert.trace()));
     round as u64 * cert.head().scale as u64
 }
 
@@ -150,8 +150,7 @@ pub(crate) fn judge(alloc: Global, numbers: &Numbers, cert: &Cert) -> Result<Ver
     ensures some_unit { 1 ≤ numbers.now.unit }
 {
     let _unit = numbers.unit();
-    let _one = numbers.form().sequence_count(Player::One);
-    let _two = numbers.form().sequence_count(Player::Two);
+    numbers.form().facts();
     match first_fault(alloc, numbers, cert) {
         Ok(Some(fault)) => Err(as_check_fault(fault)),
         Ok(None) => Ok(shown_by(cert)),

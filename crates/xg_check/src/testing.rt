@@ -1,15 +1,16 @@
 //! The tests of a player's sets.
 ghost use Rattle.std.specs.Prelude.{◌≡◌, ◌+◌, ◌-◌, ◌<◌, ◌≤◌, length, nat_le, ◌&&◌};
 ghost use Rattle.std.specs.Ordering.{int_eq};
-ghost use Rattle.def_plan.specs.Form.{AreInOrder, placed, player_sets, sequence_count};
+ghost use Rattle.def_plan.specs.Form.{placed, player_sets, sequence_count};
 ghost use Rattle.def_cert_verdict.specs.Verdict.{first_failing, is_better, reply_tests, set_tests};
-ghost use Rattle.xg_check.specs.Views.{placed_of, reply_of, row};
+ghost use Rattle.xg_check.specs.Views.{reply_of, row};
 ghost use Rattle.xg_plan.specs.Reply.{set_replies};
+ghost use Rattle.xg_seq.specs.Table.{placed_of_row};
 
-use crate::parts::{SetPlace, SetReply, place_of, reply_at};
+use crate::parts::{SetReply, reply_at};
 use def_cert_verdict::TestFault;
 use def_tree::Player;
-use xg_seq::SeqForm;
+use xg_seq::{SeqForm, SetPlace};
 
 fn is_better(player: Player, rows: &[i128], s: usize, reply: SetReply) -> bool
     requires { s < length rows.now }
@@ -48,7 +49,7 @@ fn set_fault(
     reply: SetReply,
 ) -> Option<TestFault>
     requires { h.first + h.actions ≤ length rows.now }
-    ensures { result ≡ first_failing (set_tests player (row rows.now) set (placed_of h) (reply_of reply)) }
+    ensures { result ≡ first_failing (set_tests player (row rows.now) set (placed_of_row h) (reply_of reply)) }
 {
     for a in 0..h.actions {
         if is_better(player, rows, h.first as usize + a as usize, reply) {
@@ -75,14 +76,13 @@ pub(crate) fn first_set_fault(
 ) -> Option<TestFault>
     requires values { length values.now ≡ length (player_sets form.now player) }
     requires choices { length choices.now ≡ length (player_sets form.now player) }
-    requires order { AreInOrder (player_sets form.now player) }
     requires rows { length rows.now ≡ sequence_count (player_sets form.now player) }
     ensures { result ≡ first_failing
         (reply_tests player (row rows.now) 1 (placed (player_sets form.now player))
         (set_replies values.now choices.now)) }
 {
     for k in 0..form.set_count(player) {
-        let h = place_of(form, player, k + 1);
+        let h = form.place_of(player, k + 1);
         let reply = reply_at(values, choices, k as usize);
         let fault = set_fault(player, rows, k + 1, h, reply);
         if fault.is_some() {

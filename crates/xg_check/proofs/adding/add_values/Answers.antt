@@ -3,8 +3,9 @@ use Rattle.std.proofs.lemmas.List.Elements.{All-get_or}
 use Rattle.def_plan.specs.Form.{PlacedSet, placed, player_sets}
 use Rattle.def_plan.proofs.BadSets.{length-placed}
 use Rattle.xg_seq.proofs.RowLemmas.{sets_are_few}
-use Rattle.xg_check.specs.Views.{AreAllWithin, placed_of, row}
-use Rattle.xg_check.proofs.AddLemmas.{no_value_left, set_there, value_step, within_step}
+use Rattle.xg_check.specs.Views.{AreAllWithin, row}
+use Rattle.xg_seq.specs.Table.{placed_of_row}
+use Rattle.xg_check.proofs.AddLemmas.{no_value_left, there_is, value_step, within_step}
 use Rattle.xg_check.proofs.adding.add_values.Goals as goal
 
 pub add_value-requires-clause-room : goal.add_value-requires-clause-room
@@ -15,13 +16,13 @@ pub loop-k-preserved : goal.loop-k-preserved
 loop-k-preserved c =
     let k = c.loop-k.k in
     let hs : List PlacedSet = placed (player_sets c.args.form.now c.args.player) in
-    let h : PlacedSet = placed_of c.place_of-h.result in
+    let h : PlacedSet = placed_of_row c.place_of-h.result in
     let low : k < length c.args.values.now = omega (arith, c.loop-k-test.true, c.set_count-k-end.ensures, c.requires.as_many) in
     let there : k < length hs = omega (arith, c.loop-k-test.true, c.set_count-k-end.ensures, length-placed 1 (player_sets c.args.form.now c.args.player)) in
     let next : 2 ^ 119 + k * 2 ^ 100 + 2 ^ 100 ≡ 2 ^ 119 + (k + 1) * 2 ^ 100 = omega arith in
     let size : unsigned_abs (row c.args.values.now k) ≤ 2 ^ 100 = All-get_or (λ (v : ℤ). unsigned_abs v ≤ 2 ^ 100) c.args.values.now k (pos 0) low c.requires.values in
     record {
-      left = value_step c.loop-k.rows c.add_value.new.rows hs c.args.values.now k h _ there low (set_there hs k h c.place_of-h.ensures.is) c.loop-k.invariant.left c.add_value.ensures.added;
+      left = value_step c.loop-k.rows c.add_value.new.rows hs c.args.values.now k h _ there low (there_is hs k h h c.place_of-h.ensures.place) c.loop-k.invariant.left c.add_value.ensures.added;
       small = subst (λ (most : ℕ). AreAllWithin most c.add_value.new.rows) next (within_step c.loop-k.rows c.add_value.new.rows _ _ (2 ^ 119 + k * 2 ^ 100) (2 ^ 100) c.loop-k.invariant.small c.add_value.ensures.added size);
       same = c.add_value.ensures.same_length ∙ c.loop-k.invariant.same;
     }

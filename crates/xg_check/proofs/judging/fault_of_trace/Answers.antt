@@ -1,16 +1,12 @@
-use Rattle.std.proofs.Common.{List, arith, subst, sym}
-use Rattle.std.proofs.lemmas.List.{length-map}
-use Rattle.def_reply.specs.Bracket.{TraceLine}
+use Rattle.std.proofs.Common.{subst, sym}
 use Rattle.def_cert_verdict.specs.Ranges.{TraceFits}
 use Rattle.def_cert_verdict.proofs.Sizes.{trace_products}
-use Rattle.xg_cert.specs.Outcome.{line_of, trace_of}
 use Rattle.xg_check.proofs.ReplyTests.{bounds_fit}
 use Rattle.xg_check.proofs.judging.fault_of_trace.Goals as goal
 
 pub trace_fault-requires-clause-products : goal.trace_fault-requires-clause-products
 trace_fault-requires-clause-products c = λ j k line low low'.
-    let rows = c.trace.result.now in
-    let lines : List TraceLine = trace_of rows in
+    let lines = c.trace.result.now in
     let cert = c.args.cert.now in
     let fits = bounds_fit cert c.head-within.ensures.within (c.head-within.ensures.bounds c.requires) in
-    trace_products cert.head lines j k line c.head-within.ensures.within.head (subst (TraceFits cert.head) (sym c.trace.ensures) fits.trace) (omega (arith, length-map rows line_of, low)) (omega (arith, length-map rows line_of, low'))
+    trace_products cert.head lines j k line c.head-within.ensures.within.head (subst (TraceFits cert.head) (sym c.trace.ensures) fits.trace) low low'

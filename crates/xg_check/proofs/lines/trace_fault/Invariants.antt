@@ -4,4 +4,4 @@ use Rattle.xg_check.proofs.TraceTests.{tests_after}
 use Rattle.xg_check.proofs.lines.trace_fault.Given as goal
 
 abbrev pub invariant-loop-k : goal.invariant-loop-k
-invariant-loop-k l = first_failing (tests_after 1 l.rows) ≡ first_failing (tests_after l.k l.rows)
+invariant-loop-k l = first_failing (tests_after 1 l.lines) ≡ first_failing (tests_after l.k l.lines)

@@ -4,8 +4,9 @@ use Rattle.def_plan.proofs.BadSets.{length-placed}
 use Rattle.def_reply.specs.Reply.{SetReply}
 use Rattle.def_cert_verdict.specs.Verdict.{first_failing}
 use Rattle.xg_plan.specs.Reply.{set_replies}
-use Rattle.xg_check.specs.Views.{placed_of, reply_of}
-use Rattle.xg_check.proofs.AddLemmas.{set_there}
+use Rattle.xg_check.specs.Views.{reply_of}
+use Rattle.xg_seq.specs.Table.{placed_of_row}
+use Rattle.xg_check.proofs.AddLemmas.{there_is}
 use Rattle.xg_check.proofs.TestLemmas.{no_set, reply_there, set_passes, set_stops}
 use Rattle.xg_plan.proofs.ReplyLemmas.{length-set_replies}
 use Rattle.xg_check.proofs.testing.first_set_fault.Goals as goal
@@ -16,12 +17,12 @@ returns-then-is_some c =
     let hs : List PlacedSet = placed (player_sets c.args.form.now c.args.player) in
     let vs = c.args.values.now in
     let cs = c.args.choices.now in
-    let h : PlacedSet = placed_of c.place_of-h.result in
+    let h : PlacedSet = placed_of_row c.place_of-h.result in
     let r : SetReply = reply_of c.reply_at-reply.result in
     let long = length-placed 1 (player_sets c.args.form.now c.args.player) in
     let equal : length vs ≡ length cs = omega (arith, c.requires.values, c.requires.choices) in
     let below : k < length vs = omega (arith, c.loop-k-test.true, c.set_count-k-end.ensures, c.requires.values) in
-    set_stops c.args.player c.args.rows.now hs (set_replies vs cs) k h r c.set_fault-fault.result (omega (arith, below, long, c.requires.values)) (omega (arith, below, length-set_replies vs cs (sym equal))) (set_there hs k h c.place_of-h.ensures.is) (reply_there vs cs k r equal below ∙ sym c.reply_at-reply.ensures) c.set_fault-fault.ensures (sym c.is_some.ensures ∙ c.if-is_some.true)
+    set_stops c.args.player c.args.rows.now hs (set_replies vs cs) k h r c.set_fault-fault.result (omega (arith, below, long, c.requires.values)) (omega (arith, below, length-set_replies vs cs (sym equal))) (there_is hs k h h c.place_of-h.ensures.place) (reply_there vs cs k r equal below ∙ sym c.reply_at-reply.ensures) c.set_fault-fault.ensures (sym c.is_some.ensures ∙ c.if-is_some.true)
     ∙ sym c.loop-k.invariant
 
 pub loop-k-preserved : goal.loop-k-preserved
@@ -30,13 +31,13 @@ loop-k-preserved c =
     let hs : List PlacedSet = placed (player_sets c.args.form.now c.args.player) in
     let vs = c.args.values.now in
     let cs = c.args.choices.now in
-    let h : PlacedSet = placed_of c.place_of-h.result in
+    let h : PlacedSet = placed_of_row c.place_of-h.result in
     let r : SetReply = reply_of c.reply_at-reply.result in
     let long = length-placed 1 (player_sets c.args.form.now c.args.player) in
     let equal : length vs ≡ length cs = omega (arith, c.requires.values, c.requires.choices) in
     let below : k < length vs = omega (arith, c.loop-k-test.true, c.set_count-k-end.ensures, c.requires.values) in
     c.loop-k.invariant
-    ∙ set_passes c.args.player c.args.rows.now hs (set_replies vs cs) k h r c.set_fault-fault.result (omega (arith, below, long, c.requires.values)) (omega (arith, below, length-set_replies vs cs (sym equal))) (set_there hs k h c.place_of-h.ensures.is) (reply_there vs cs k r equal below ∙ sym c.reply_at-reply.ensures) c.set_fault-fault.ensures (sym c.is_some.ensures ∙ c.if-is_some.false)
+    ∙ set_passes c.args.player c.args.rows.now hs (set_replies vs cs) k h r c.set_fault-fault.result (omega (arith, below, long, c.requires.values)) (omega (arith, below, length-set_replies vs cs (sym equal))) (there_is hs k h h c.place_of-h.ensures.place) (reply_there vs cs k r equal below ∙ sym c.reply_at-reply.ensures) c.set_fault-fault.ensures (sym c.is_some.ensures ∙ c.if-is_some.false)
 
 pub returns : goal.returns
 returns c =
