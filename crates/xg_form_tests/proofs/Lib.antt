@@ -1,1 +1,2 @@
 pub mod PenniesOffers
+pub mod ZeroWeights

@@ -7,6 +7,8 @@ mod bracket_tests;
 #[cfg(test)]
 mod closer_tests;
 #[cfg(test)]
+mod links_tests;
+#[cfg(test)]
 mod made;
 #[cfg(test)]
 mod plan_tests;

@@ -25,12 +25,44 @@ fn is_set(sets: &Sets, player: Player, set: u32, before: u32, actions: u32) -> b
         && sets.actions(player, set) == actions
 }
 
+/// Whether the player has this set, and it begins with this node.
+fn begins_with(sets: &Sets, player: Player, set: u32, node: u32) -> bool {
+    1 <= set && set <= sets.count(player) && sets.first_node(player, set) == node
+}
+
+/// The next node after each node of matching pennies.
+static PENNIES_NEXT: [Option<u32>; 7] = [None, Some(5), None, None, None, None, None];
+
+/// The next node of the set of node `k`.
+pub(crate) fn next_after(rt: &impl Abort, tree: &Tree, sets: &Sets, k: u32) -> Option<u32>
+    requires { sets_or_break tree.now ≡ Ok sets.now }
+{
+    assert!(rt; 1 <= k);
+    assert!(rt; k <= tree.len());
+    sets.next_node(k)
+}
+
+/// The first node after which another one comes than here.
+fn first_other_next(rt: &impl Abort, tree: &Tree, sets: &Sets, next: &[Option<u32>]) -> Option<u32>
+    requires { sets_or_break tree.now ≡ Ok sets.now }
+{
+    for (next, k) in next.iter().zip(1..u32::MAX) {
+        if next_after(rt, tree, sets, k) != *next {
+            return Some(k);
+        }
+    }
+    None
+}
+
 fn assert_pennies(rt: &impl Abort, alloc: Global, tree: &Tree) -> Result<(), RecallFault> {
     let sets = build_sets(alloc, tree)?;
     assert!(rt;
         count(&sets) == (1, 1)
             && is_set(&sets, Player::One, 1, 0, 2)
             && is_set(&sets, Player::Two, 1, 0, 2)
+            && begins_with(&sets, Player::One, 1, 1)
+            && begins_with(&sets, Player::Two, 1, 2)
+            && first_other_next(rt, tree, &sets, &PENNIES_NEXT).is_none()
     );
     drop(sets);
     Ok(())
