@@ -2,7 +2,7 @@
 use Rattle.std.specs.Prelude.{Option, None, option_map}
 use Rattle.def_command.specs.Table as table
 use Rattle.def_command.specs.Grammar as grammar
-use Rattle.xg_command.specs.declared.command.Settings.{Settings}
+use Rattle.xg_command.specs.declared.command.WordSettings.{WordSettings}
 use Rattle.xg_command.specs.declared.command.Command.{Command}
 use Rattle.xg_command.specs.declared.command.Command.TheVariants.{Solve, Check, Info, Gen, Drill}
 use Rattle.xg_command.specs.declared.options.Options.{Options}
@@ -10,7 +10,7 @@ use Rattle.xg_command.specs.declared.reading.Reading.{Reading}
 use Rattle.xg_command.specs.Names.{option_value}
 use Rattle.xg_command.specs.Plain.{plain_value}
 
-abbrev pub settings_value : Settings → grammar.Settings
+abbrev pub settings_value : WordSettings → grammar.Settings
 settings_value s = record { rounds = s.rounds; every = s.every; scale = s.scale }
 
 abbrev pub command_value : Command → grammar.Command

@@ -2,7 +2,7 @@
 
 /// How a game is solved.
 #[derive(Clone, Copy, Debug, PartialEq, Eq)]
-pub struct Settings {
+pub struct WordSettings {
     /// The rounds that are played, at most 65,536.
     pub rounds: u32,
     /// After how many rounds the plans are evaluated, from 1 to 65,536.
@@ -17,7 +17,7 @@ pub enum Command<'a> {
     /// The game of a file is solved, by 1 to 64 workers where a number of them is given.
     Solve {
         file: &'a str,
-        settings: Settings,
+        settings: WordSettings,
         workers: Option<u32>,
     },
     /// A certificate is checked against the game of a file.
@@ -36,7 +36,7 @@ pub enum Command<'a> {
     /// One-card poker with 2 to 64 cards is solved, by 1 to 64 workers where a number of them is given.
     Drill {
         cards: u32,
-        settings: Settings,
+        settings: WordSettings,
         workers: Option<u32>,
     },
 }

@@ -8,5 +8,5 @@ mod plain;
 mod reading;
 mod words;
 
-pub use command::{Command, Settings};
+pub use command::{Command, WordSettings};
 pub use words::Words;

@@ -6,7 +6,7 @@ ghost use Rattle.def_command.specs.Grammar.{number_from_to, number_so_far, with_
 ghost use Rattle.xg_command.specs.Names.{option_value};
 ghost use Rattle.xg_command.specs.Values.{numbers_value, no_numbers, settings_value};
 
-use crate::command::Settings;
+use crate::command::WordSettings;
 use crate::names::OptionName;
 use def_sums::{LEAST_CARDS, MOST_CARDS, MOST_SCALE};
 use xg_frac::read_whole;
@@ -72,11 +72,11 @@ impl Options {
 
     /// The settings, with the usual number for each option that isn't given. With none for `--every` the plans are
     /// evaluated once, after the last round.
-    pub(crate) fn settings(self) -> Settings
+    pub(crate) fn settings(self) -> WordSettings
         ensures { settings_value result ≡ settings_in (numbers_value self) }
     {
         let rounds = self.rounds.unwrap_or(DEFAULT_ROUNDS);
-        Settings {
+        WordSettings {
             rounds,
             every: self.every.unwrap_or(if rounds == 0 { 1 } else { rounds }),
             scale: self.scale.unwrap_or(MOST_SCALE),

@@ -5,7 +5,7 @@ use clap::{Arg, ArgAction, ArgMatches, value_parser};
 use std::alloc::{AllocError, Global};
 use std::process::Abort;
 use std::test::Fail;
-use xg_command::{Command, Settings};
+use xg_command::{Command, WordSettings};
 
 fn numbered<'a>(alloc: Global, name: &'a str, least: i64, most: i64) -> Arg<'a> {
     Arg::new(alloc, name)
@@ -77,9 +77,9 @@ fn number<'a>(given: &ArgMatches<'a>, name: &str, otherwise: u32) -> u32 {
     given.get_one::<u32>(name).unwrap_or(otherwise)
 }
 
-fn settings_of<'a>(given: &ArgMatches<'a>) -> Settings {
+fn settings_of<'a>(given: &ArgMatches<'a>) -> WordSettings {
     let rounds = number(given, "rounds", 1000);
-    Settings {
+    WordSettings {
         rounds,
         every: number(given, "every", rounds.max(1)),
         scale: number(given, "scale", 1_048_576),

@@ -2,7 +2,7 @@
 use std::alloc::{AllocError, Global};
 use std::process::Abort;
 use std::test::Fail;
-use xg_command::{Command, Settings, Words};
+use xg_command::{Command, WordSettings, Words};
 
 fn push_all(words: &mut Words, row: &[&str]) -> Result<(), AllocError> {
     for word in row {
@@ -25,8 +25,8 @@ pub(crate) fn assert_no_row(rt: &impl Abort, row: Option<Row>) {
     assert_eq!(rt; row, None);
 }
 
-const fn settings(rounds: u32, every: u32, scale: u32) -> Settings {
-    Settings {
+const fn settings(rounds: u32, every: u32, scale: u32) -> WordSettings {
+    WordSettings {
         rounds,
         every,
         scale,

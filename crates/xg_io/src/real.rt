@@ -32,8 +32,8 @@ impl<R: rt::Files + Drop> RealFiles<R> {
             system,
             file: None,
             taken: 0,
-            opens: 0,
             faults: 0,
+            opens: 0,
         }
     }
 }
@@ -118,6 +118,7 @@ impl<W: Write + Drop> RealSink<W> {
     /// Nothing is written yet.
     pub fn new(stream: W) -> RealSink<W>
         ensures no_faults { ⟦<RealSink<W> as Sink>⟧.faults result ≡ 0 }
+        ensures no_piece { ⟦<RealSink<W> as Sink>⟧.failed_length result ≡ 0 }
     {
         RealSink {
             stream,

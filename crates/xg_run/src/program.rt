@@ -32,7 +32,7 @@ use std::marker::Sync;
 use std::sync::Wait;
 use std::thread::Threads;
 use xg_board::LockedRows;
-use xg_command::{Command, Settings as WordSettings, Words};
+use xg_command::{Command, WordSettings, Words};
 use xg_engine::Settings;
 use xg_io::{Files, Gate, Sink};
 use xg_read::FileFault;
