@@ -1,6 +1,6 @@
 -- What the files and a sink did in a call.
 --     past_count               one past the greatest count of taken bytes at which a file is read on
-use Rattle.std.specs.Prelude.{◌≡◌, ℕ, ◌+◌, ◌^◌, ◌<◌, ◌≤◌, List, Option}
+use Rattle.std.specs.Prelude.{◌≡◌, ℕ, ◌+◌, ◌^◌, ◌<◌, ◌≤◌, ◌⊎◌, List, length, Option, IsSome}
 use Rattle.std.specs.Io.KnownBytes.{append_known}
 use Rattle.def_outside.specs.Cause.{Rose, RoseByOne}
 use Rattle.def_outside.specs.Sinks.{AppendsPrefix, IsCutOff}
@@ -52,7 +52,7 @@ pub record SinkCall : Type 0 where
 abbrev pub OpensAtMost : FilesCall → ℕ → Type 0
 OpensAtMost files count = files.opens_now ≤ files.opens_before + count
 
--- the call wrote these bytes, a front of them, nothing
+-- the call wrote these bytes; a front of them, which isn't all where the sink tells what it has; nothing
 abbrev pub Wrote : SinkCall → List ℕ → Type 0
 Wrote sink bytes = sink.now ≡ append_known sink.before bytes
 
@@ -71,12 +71,13 @@ pub data Says (sink : SinkCall) (line : List ℕ) : Type 0 where
   in_whole : HasNoFault sink.faults → Wrote sink line → Says sink line
   cut_off : HasFailedOnce sink.faults → IsCutOff sink.before sink.now sink.failed_length line → Says sink line
 
--- A count that grew may tell of a fault, and so does one that grew by one. What is written whole is a front, and so is
--- nothing. A line that is said is a front at least, and whole where the sink can't have failed.
+-- A count that grew may tell of a fault, and so does one that grew by one. A front is never the whole where the sink
+-- tells what it has, and nothing is a front of some bytes. A line that is said is written whole or as a front, and whole
+-- where the sink can't have failed.
 pub record CallsAreRead : Type 0 where
   pub failed : (faults : Faults) → HasFailed faults → MayHaveFailed faults
   pub failed_once : (faults : Faults) → HasFailedOnce faults → MayHaveFailed faults
-  pub whole : (sink : SinkCall) (bytes : List ℕ) → Wrote sink bytes → WroteFront sink bytes
-  pub nothing : (sink : SinkCall) (bytes : List ℕ) → WroteNothing sink → WroteFront sink bytes
-  pub said_front : (sink : SinkCall) (line : List ℕ) → Says sink line → WroteFront sink line
+  pub not_whole : (sink : SinkCall) (bytes : List ℕ) → IsSome sink.now → WroteFront sink bytes → Wrote sink bytes → ⊥
+  pub nothing : (sink : SinkCall) (bytes : List ℕ) → 0 < length bytes → WroteNothing sink → WroteFront sink bytes
+  pub said : (sink : SinkCall) (line : List ℕ) → Says sink line → Wrote sink line ⊎ WroteFront sink line
   pub said_whole : (sink : SinkCall) (line : List ℕ) → Says sink line → (MayHaveFailed sink.faults → ⊥) → Wrote sink line

@@ -10,7 +10,7 @@ pub fn counts_only_rise()
     ensures { CountsOnlyRise }
 {}
 
-/// A count that grew may tell of a fault; what is written whole is a front of itself, and so is nothing.
+/// A count that grew may tell of a fault; a front isn't the whole, and nothing is a front of some bytes.
 pub fn calls_are_read()
     ensures { CallsAreRead }
 {}

@@ -11,9 +11,9 @@ use xg_frac::{
 use xg_io::{MemSink, WriteFault};
 
 /// A literal with the parts of its value in lowest terms.
-type Literal = (&'static str, i128, i128);
+type ReadLiteral = (&'static str, i128, i128);
 
-static LITERALS: [Literal; 25] = [
+static LITERALS: [ReadLiteral; 25] = [
     (".50", 1, 2),
     ("-0", 0, 1),
     ("0e99", 0, 1),
@@ -54,7 +54,7 @@ fn is_read_as(bytes: &[u8], num: i128, den: i128) -> bool {
 }
 
 /// The place of the first literal that has another value.
-fn first_misread(literals: &[Literal]) -> Option<usize> {
+fn first_misread(literals: &[ReadLiteral]) -> Option<usize> {
     for (place, (text, num, den)) in literals.iter().enumerate() {
         if !is_read_as(text.as_bytes(), *num, *den) {
             return Some(place);
@@ -64,9 +64,9 @@ fn first_misread(literals: &[Literal]) -> Option<usize> {
 }
 
 /// What is no literal, with its fault.
-type Refused = (&'static str, NumberFault);
+type RefusedLiteral = (&'static str, NumberFault);
 
-static REFUSED: [Refused; 19] = [
+static REFUSED: [RefusedLiteral; 19] = [
     ("1e", NumberFault::Form),
     (".", NumberFault::Form),
     ("+", NumberFault::Form),
@@ -105,7 +105,7 @@ fn is_refused(bytes: &[u8], fault: NumberFault) -> bool {
 }
 
 /// The place of the first text that is read, or has another fault.
-fn first_taken(refused: &[Refused]) -> Option<usize> {
+fn first_taken(refused: &[RefusedLiteral]) -> Option<usize> {
     for (place, (text, fault)) in refused.iter().enumerate() {
         if !is_refused(text.as_bytes(), *fault) {
             return Some(place);
@@ -255,11 +255,11 @@ fn printed_into_a_full_sink(rt: HostRuntime) -> Result<(), Fail> {
 }
 
 /// The parts of a ratio, those of its value in lowest terms, and its text.
-type Parts = (i128, i128, i128, i128, &'static str);
+type RatioParts = (i128, i128, i128, i128, &'static str);
 
 const MOST: i128 = 1_267_650_600_228_229_401_496_703_205_376;
 
-static RATIOS: [Parts; 11] = [
+static RATIOS: [RatioParts; 11] = [
     (0, 7, 0, 1, "0"),
     (0, MOST, 0, 1, "0"),
     (1_572_864, 2_097_152, 3, 4, "3/4"),
@@ -298,14 +298,14 @@ fn is_printed_as(alloc: Global, r: Ratio, text: &str) -> Result<bool, Fail> {
     Ok(put_ratio(r, &mut sink).is_ok() && sink.bytes() == text.as_bytes())
 }
 
-fn is_ratio(alloc: Global, row: &Parts) -> Result<bool, Fail> {
+fn is_ratio(alloc: Global, row: &RatioParts) -> Result<bool, Fail> {
     let (num, den, lowest_num, lowest_den, text) = *row;
     let r = ratio_within(num, den).ok_or("past the limit")?;
     Ok(r.num() == lowest_num && r.den() == lowest_den && is_printed_as(alloc, r, text)?)
 }
 
 /// The place of the first ratio with another value or another text.
-fn first_other_ratio(alloc: Global, ratios: &[Parts]) -> Result<Option<usize>, Fail> {
+fn first_other_ratio(alloc: Global, ratios: &[RatioParts]) -> Result<Option<usize>, Fail> {
     for (place, row) in ratios.iter().enumerate() {
         if !is_ratio(alloc, row)? {
             return Ok(Some(place));

@@ -9,7 +9,7 @@ use std::test::Fail;
 use std::{env, fs};
 use xg_io::{
     Failed, Files, MemFiles, MemSink, OpenFault, OpenGate, ReadAllFault, RealFiles, RealSink,
-    WriteFault, read_all, write_all,
+    SureFiles, SureSink, WriteFault, read_all, write_all,
 };
 
 /// Two files, of which the calls listed fail.
@@ -84,6 +84,37 @@ fn each_call_can_fail(rt: HostRuntime) -> Result<(), Fail> {
     let mut files = two_files(alloc, &[4])?;
     assert!(rt; holds(alloc, &mut files, "a", 6, b"abcdef"));
     Ok(())
+}
+
+#[test]
+fn sure_files_are_read_whole(rt: HostRuntime) -> Result<(), Fail> {
+    let alloc = rt.alloc();
+    let mut files = SureFiles::new(alloc)?;
+    files.add("a", b"abcdef")?;
+    assert!(rt;
+        holds(alloc, &mut files, "a", 6, b"abcdef")
+            && refuses(alloc, &mut files, "a", 5, ReadAllFault::TooLong)
+            && holds(alloc, &mut files, "b", 0, b"")
+    );
+    files.add("a", b"new")?;
+    files.add("b", b"a file")?;
+    assert!(rt;
+        holds(alloc, &mut files, "a", 6, b"new") && holds(alloc, &mut files, "b", 6, b"a file")
+    );
+    Ok(())
+}
+
+#[test]
+fn a_sure_sink_takes_everything(rt: HostRuntime) {
+    let mut sink = SureSink::new();
+    let is_new = sink.count() == 0;
+    assert!(rt;
+        is_new
+            && write_all(&mut sink, b"abc") == Ok(())
+            && write_all(&mut sink, b"") == Ok(())
+            && write_all(&mut sink, b"de") == Ok(())
+            && sink.count() == 5
+    );
 }
 
 #[test]

@@ -3,14 +3,14 @@ use std::test::Fail;
 use xg_lex::{LexFault, Lexeme, TextView, Token, Tokens, unescape};
 
 /// A token with the place where it starts and the one where it ends.
-type Row = (Token, usize, usize);
+type LexemeAt = (Token, usize, usize);
 
 fn is_next(tokens: &mut Tokens, kind: Token, start: usize, end: usize) -> bool {
     tokens.next() == Ok(Lexeme { kind, start, end })
 }
 
 /// The place of the first token that isn't the expected one.
-fn first_other(tokens: &mut Tokens, expected: &[Row]) -> Option<usize> {
+fn first_other(tokens: &mut Tokens, expected: &[LexemeAt]) -> Option<usize> {
     for (place, (kind, start, end)) in expected.iter().enumerate() {
         if !is_next(tokens, *kind, *start, *end) {
             return Some(place);
@@ -19,7 +19,7 @@ fn first_other(tokens: &mut Tokens, expected: &[Row]) -> Option<usize> {
     None
 }
 
-static EACH_KIND: [Row; 12] = [
+static EACH_KIND: [LexemeAt; 12] = [
     (Token::Word, 0, 3),
     (Token::Number, 4, 5),
     (Token::Word, 6, 7),

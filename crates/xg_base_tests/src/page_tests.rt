@@ -3,7 +3,7 @@ ghost use Rattle.std.specs.Prelude.{◌<◌};
 
 use std::alloc::Global;
 use std::test::Fail;
-use xg_io::{Failed, MemSink, Sink, Text, WriteFault, write_paged};
+use xg_io::{Failed, MemSink, Sink, Writable, WriteFault, write_paged};
 
 /// How much a sink took, and in how many pieces.
 #[derive(Drop)]
@@ -36,7 +36,7 @@ struct Letters<'a> {
     ghost some: { 0 < most },
 }
 
-impl Text for Letters<'_> {
+impl Writable for Letters<'_> {
     ghost bytes = { λ t. t.letters.now };
 
     fn write<O: Sink>(&self, out: &mut O) -> Result<(), WriteFault> {

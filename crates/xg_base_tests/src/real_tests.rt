@@ -376,9 +376,9 @@ fn write_counted(drain: Drain) -> (Result<(), WriteFault>, u64, usize) {
 
 /// A stream by how many bytes it takes at once and at which call it fails, and what becomes of a text in it: the
 /// result, what is taken, the count of faults, and how much of the text was still to come at the last one.
-type Stream = (usize, u64, Result<(), WriteFault>, &'static str, u64, usize);
+type StreamCalls = (usize, u64, Result<(), WriteFault>, &'static str, u64, usize);
 
-static STREAMS: [Stream; 7] = [
+static STREAMS: [StreamCalls; 7] = [
     (100, 0, Ok(()), "text", 0, 0),
     (1, 0, Ok(()), "text", 0, 0),
     (3, 0, Ok(()), "text", 0, 0),
@@ -388,7 +388,7 @@ static STREAMS: [Stream; 7] = [
     (0, 0, Err(WriteFault), "", 1, 4),
 ];
 
-fn takes_as_told(alloc: Global, stream: &Stream) -> bool {
+fn takes_as_told(alloc: Global, stream: &StreamCalls) -> bool {
     let (most, failing, result, taken, faults, to_come) = *stream;
     let mut seen = Drain::new(alloc, most, failing);
     write_text(&mut seen) == result

@@ -39,22 +39,24 @@ pub whole : (before now : Option (List ℕ)) (bytes rest : List ℕ) → Progres
     → now ≡ append_known before bytes
 whole before now bytes rest p e = p.appended ∙ ap (append_known before) (sym (p.split ∙ ap (λ (xs : List ℕ). p.front ++ xs) e ∙ append-nil p.front))
 
--- a front was appended
+-- a front was appended, and some of the bytes are left
 pub a_front : (before now next : Option (List ℕ)) (bytes rest : List ℕ) → Progress before now bytes rest → next ≡ now
-    → AppendsPrefix before next bytes
-a_front before now next bytes rest p e = record {
+    → 0 < length rest → AppendsPrefix before next bytes
+a_front before now next bytes rest p e some = record {
   count = length p.front;
   appended = e ∙ p.appended ∙ ap (append_known before) (sym (ap (take (length p.front)) p.split ∙ take-append_seam p.front rest));
+  some_left = λ _. omega (arith, some, ap length p.split, length-append p.front rest);
 }
 
 -- a front was appended, and the rest of the bytes is the piece of the write that failed
 pub cut_off : (before now next : Option (List ℕ)) (failed_length : ℕ) (bytes rest : List ℕ) → Progress before now bytes rest
-    → next ≡ now → failed_length ≡ length rest → IsCutOff before next failed_length bytes
+    → next ≡ now → failed_length ≡ length rest → 0 < length rest → IsCutOff before next failed_length bytes
 unfolding a_front
-cut_off before now next failed_length bytes rest p e same = record {
+cut_off before now next failed_length bytes rest p e same some = record {
   count = length p.front;
-  appended = (a_front before now next bytes rest p e).appended;
+  appended = (a_front before now next bytes rest p e some).appended;
   rest = omega (arith, same, ap length p.split, length-append p.front rest);
+  some_left = omega (arith, same, some);
 }
 
 -- nothing is read

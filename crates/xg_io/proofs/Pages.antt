@@ -1,7 +1,7 @@
 -- The bytes of a page as they are kept and written, and fronts of what was written.
-use Rattle.std.proofs.Common.{◌≡◌, ℕ, ◌+◌, ◌-◌, ◌≤◌, List, ◌++◌, length, take, drop, sym, ◌∙◌, ap, append_assoc, arith}
-use Rattle.std.specs.Prelude.{Option, Some, None, unwrap_or}
-use Rattle.std.proofs.lemmas.List.{take-append-drop, drop-take, drop-drop, length-drop, length-take, drop-append-le}
+use Rattle.std.proofs.Common.{◌≡◌, ℕ, ◌+◌, ◌-◌, ◌≤◌, List, ◌++◌, length, take, drop, refl, sym, ◌∙◌, ap, append_assoc, arith}
+use Rattle.std.specs.Prelude.{◌<◌, Option, Some, None, IsSome, unwrap_or}
+use Rattle.std.proofs.lemmas.List.{take-append-drop, drop-take, drop-drop, length-append, length-drop, length-take, drop-append-le}
 use Rattle.std.proofs.lemmas.Slice.{take-put_mid}
 use Rattle.std.proofs.Math.Seq.{take-append_seam, drop-append_seam, take-length, take-add}
 use borrow.Rule.Slice.PartMut.{put_mid}
@@ -55,10 +55,15 @@ still_waiting first now bytes start end taken within is =
 same_bytes : (xs ys : List ℕ) → ◌≡◌ {A = Option (List ℕ)} (Some xs) (Some ys) → xs ≡ ys
 same_bytes xs ys is = ap (λ o. unwrap_or o xs) is
 
+none_told : (sink : Option (List ℕ)) → IsGrown None sink → IsSome sink → ⊥
+none_told None grown told = absurd (cc)
+none_told (Some xs) grown told = absurd (cc)
+
 -- where the page's sink has what was there before and more, a front of a text in the page is a front of it in the sink
 pub front_of_sink : (before sink : Option (List ℕ)) (waiting text : List ℕ) → IsGrown before sink
     → AppendsPrefix before (append_known sink waiting) text → AppendsPrefix before sink text
-front_of_sink None sink waiting text grown front = record { count = 0; appended = grown }
+front_of_sink None sink waiting text grown front =
+    record { count = 0; appended = grown; some_left = λ told. absurd (none_told sink grown told) }
 front_of_sink (Some bytes) None waiting text grown front = absurd (cc)
 front_of_sink (Some bytes) (Some taken) waiting text grown front =
     let more : List ℕ = drop (length bytes) taken in
@@ -66,12 +71,32 @@ front_of_sink (Some bytes) (Some taken) waiting text grown front =
     let all : bytes ++ (more ++ waiting) ≡ bytes ++ take front.count text = sym (append_assoc bytes more waiting) ∙ ap (λ (xs : List ℕ). xs ++ waiting) (sym is) ∙ same_bytes (taken ++ waiting) (bytes ++ take front.count text) front.appended in
     let rest : more ++ waiting ≡ take front.count text = sym (drop-append_seam bytes (more ++ waiting)) ∙ ap (drop (length bytes)) all ∙ drop-append_seam bytes (take front.count text) in
     let begins : more ++ (waiting ++ drop front.count text) ≡ text = sym (append_assoc more waiting (drop front.count text)) ∙ ap (λ (xs : List ℕ). xs ++ drop front.count text) rest ∙ take-append-drop front.count text in
-    record { count = length more; appended = grown ∙ ap (λ (xs : List ℕ). Some (bytes ++ xs)) (sym (take-append_seam more (waiting ++ drop front.count text)) ∙ ap (take (length more)) begins) }
+    record {
+      count = length more;
+      appended = grown ∙ ap (λ (xs : List ℕ). Some (bytes ++ xs)) (sym (take-append_seam more (waiting ++ drop front.count text)) ∙ ap (take (length more)) begins);
+      some_left = λ _. omega (arith, front.some_left refl, ap length rest, length-append more waiting, length-take front.count text);
+    }
 
--- a whole text is a front of itself
-pub whole_front : (before now : Option (List ℕ)) (text : List ℕ) → now ≡ append_known before text
-    → AppendsPrefix before now text
-whole_front before now text is = record { count = length text; appended = is ∙ ap (append_known before) (sym (take-length text)) }
+-- where a whole text is in the page and its sink, and some of it still waits, a front of it is in the sink
+pub front_before_waiting : (before sink : Option (List ℕ)) (waiting text : List ℕ) → IsGrown before sink
+    → 0 < length waiting → append_known sink waiting ≡ append_known before text → AppendsPrefix before sink text
+front_before_waiting None sink waiting text grown some whole =
+    record { count = 0; appended = grown; some_left = λ told. absurd (none_told sink grown told) }
+front_before_waiting (Some bytes) None waiting text grown some whole = absurd (cc)
+front_before_waiting (Some bytes) (Some taken) waiting text grown some whole =
+    let more : List ℕ = drop (length bytes) taken in
+    let is : taken ≡ bytes ++ more = same_bytes taken (bytes ++ more) grown in
+    let all : bytes ++ (more ++ waiting) ≡ bytes ++ text = sym (append_assoc bytes more waiting) ∙ ap (λ (xs : List ℕ). xs ++ waiting) (sym is) ∙ same_bytes (taken ++ waiting) (bytes ++ text) whole in
+    let rest : more ++ waiting ≡ text = sym (drop-append_seam bytes (more ++ waiting)) ∙ ap (drop (length bytes)) all ∙ drop-append_seam bytes text in
+    record {
+      count = length more;
+      appended = grown ∙ ap (λ (xs : List ℕ). Some (bytes ++ xs)) (sym (take-append_seam more waiting) ∙ ap (take (length more)) rest);
+      some_left = λ _. omega (arith, some, ap length rest, length-append more waiting);
+    }
+
+-- what waits from one place to another is as long as they are apart
+pub waiting_length : (bytes : List ℕ) (start end : ℕ) → end ≤ length bytes → length (waiting_in bytes start end) ≡ end - start
+waiting_length bytes start end within = omega (arith, length-take (end - start) (drop start bytes), length-drop start bytes)
 
 -- a page that nothing waits in shows what its sink has
 pub nothing_waits : (known before : Option (List ℕ)) (bytes : List ℕ) (start end : ℕ) → known ≡ before → start ≡ end

@@ -2,7 +2,7 @@
 use Rattle.std.proofs.Common.{◌≡◌, ℕ, ◌+◌, min, List, ◌++◌, length, take, Option, Result, Ok, Err, sym, ap, ◌∙◌, subst, append_assoc, arith}
 use Rattle.std.specs.Io.KnownBytes.{append_known}
 use Rattle.std.proofs.Math.Seq.{take-append-add}
-use Rattle.std.proofs.lemmas.List.{take-append-le, take_min}
+use Rattle.std.proofs.lemmas.List.{length-append, take-append-le, take_min}
 use Rattle.def_outside.specs.Sinks.{AppendsPrefix, Writes}
 use Rattle.xg_io.proofs.KnownBytesInPieces.{append_known-append, Progress}
 
@@ -13,7 +13,11 @@ prefix_first before now xs ys p =
     let few = min p.count (length xs) in
     let short : take few (xs ++ ys) ≡ take p.count xs =
     take-append-le few xs ys (omega arith) ∙ take_min p.count xs in
-    record { count = few; appended = p.appended ∙ ap (append_known before) (sym short) }
+    record {
+      count = few;
+      appended = p.appended ∙ ap (append_known before) (sym short);
+      some_left = λ told. omega (arith, p.some_left told, length-append xs ys);
+    }
 
 -- the first piece, and a front of the rest
 pub prefix_then : (before middle now : Option (List ℕ)) (xs ys : List ℕ)
@@ -22,6 +26,7 @@ prefix_then before middle now xs ys e p = record {
   count = length xs + p.count;
   appended = p.appended ∙ ap (λ (known : Option (List ℕ)). append_known known (take p.count ys)) e
       ∙ append_known-append before xs (take p.count ys) ∙ ap (append_known before) (sym (take-append-add xs ys p.count));
+  some_left = λ told. omega (arith, p.some_left told, length-append xs ys);
 }
 
 whole_then : (before middle now : Option (List ℕ)) (xs ys : List ℕ)

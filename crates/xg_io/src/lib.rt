@@ -11,6 +11,9 @@ mod page;
 mod reading;
 mod real;
 mod schedule;
+mod stored;
+mod sure_files;
+mod sure_sink;
 mod text;
 mod writing;
 
@@ -20,5 +23,7 @@ pub use outside::{Failed, Files, Gate, OpenFault, OpenGate, Sink};
 pub use reading::{ReadAllFault, read_all};
 pub use real::{RealFiles, RealSink};
 pub use schedule::Schedule;
-pub use text::{Text, write_paged};
+pub use sure_files::SureFiles;
+pub use sure_sink::SureSink;
+pub use text::{Writable, write_paged};
 pub use writing::{WriteFault, write_all};

@@ -10,14 +10,9 @@ ghost use Rattle.xg_io.specs.Stored.{stored_bytes_of, stored_bytes_at};
 ghost use Rattle.xg_io.specs.Schedule.{failing_calls, calls_made, FailsNext};
 
 use crate::schedule::Schedule;
+use crate::stored::{Stored, bytes_of_file, copy_front, find_file, from_place, store};
 use crate::{Failed, Files, OpenFault};
 use std::alloc::{AllocError, Global};
-
-#[derive(Debug, Drop)]
-struct Stored {
-    name: Vec<u8>,
-    bytes: Vec<u8>,
-}
 
 /// Files in memory, for tests. Their calls of `open` and `read` are numbered together from 1, and fail where they are
 /// told to; a name that they don't hold fails too. They tell what is left.
@@ -65,12 +60,7 @@ impl MemFiles {
         ensures same_open { OnErr result (current_of self.new ≡ current_of self.old) }
         ensures same_told { OnErr result ((other : List ℕ) → told_of self.new other ≡ told_of self.old other) }
     {
-        let alloc = *self.files.allocator();
-        let stored = Stored {
-            name: Vec::from_slice(alloc, name.as_bytes())?,
-            bytes: Vec::from_slice(alloc, bytes)?,
-        };
-        self.files.insert(0, stored)?;
+        store(&mut self.files, name, bytes)?;
         self.current = None;
         Ok(())
     }
@@ -149,45 +139,4 @@ impl Files for MemFiles {
         self.taken += n;
         Ok(n)
     }
-}
-
-/// The place of the first file of a name.
-fn find_file(files: &[Stored], name: &[u8]) -> Option<usize>
-    ensures found { IfSome result (λ place. stored_bytes_of files.now name.now ≡ stored_bytes_at files.now place) }
-    ensures within { IfSome result (λ place. place < length files.now) }
-    ensures absent { IfNone result (stored_bytes_of files.now name.now ≡ None) }
-{
-    position_of(files, name)
-}
-
-fn position_of(files: &[Stored], name: &[u8]) -> Option<usize>
-    ensures { result ≡ position (λ file. pointwise nat_eq file.name.items name.now) files.now }
-{
-    files.iter().position(|file| file.name.as_slice() == name)
-}
-
-fn bytes_of_file(files: &[Stored], place: usize) -> &[u8]
-    requires { place < length files.now }
-    ensures { stored_bytes_at files.now place ≡ Some result.now }
-{
-    files[place].bytes.as_slice()
-}
-
-fn from_place(bytes: &[u8], taken: usize) -> &[u8]
-    ensures { result.now ≡ drop taken bytes.now }
-{
-    if taken >= bytes.len() {
-        return &[];
-    }
-    &bytes[taken..]
-}
-
-/// Copies what fits of the bytes, and says how many that are.
-fn copy_front(rest: &[u8], into: &mut [u8]) -> usize
-    ensures count { result ≡ min (length into.old) (length rest.now) }
-    ensures copied { take result into.new ≡ take result rest.now }
-{
-    let n = into.len().min(rest.len());
-    into[..n].copy_from_slice(&rest[..n]);
-    n
 }

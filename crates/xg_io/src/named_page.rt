@@ -6,7 +6,7 @@ ghost use Rattle.def_outside.specs.Sinks.{AppendsPrefix};
 ghost use Rattle.xg_io.specs.Waiting.{IsGrown, with_waiting};
 
 use crate::page::Page;
-use crate::text::Text;
+use crate::text::Writable;
 use crate::{Failed, Sink, WriteFault};
 use std::marker::{Brand, PhantomData};
 
@@ -52,7 +52,10 @@ impl<'a, O: Sink, L: Lender> Sink for NamedPage<'a, O, L> {
 
 /// Writes the text by way of the page, and keeps there what became of it. After an error a front of the text was
 /// written.
-pub(crate) fn write_by<'a, O: Sink, L: Lender, T: Text>(page: Page<'a, O>, text: &T) -> Page<'a, O>
+pub(crate) fn write_by<'a, O: Sink, L: Lender, T: Writable>(
+    page: Page<'a, O>,
+    text: &T,
+) -> Page<'a, O>
     requires reference { page.sink.ghost_name ≡ L.reference }
     requires before { O.written page.sink.now ≡ L.before }
     requires empty { page.start ≡ page.end }
@@ -72,7 +75,7 @@ pub(crate) fn write_by<'a, O: Sink, L: Lender, T: Text>(page: Page<'a, O>, text:
 }
 
 // Writes the text into the page.
-fn fill<'a, O: Sink, L: Lender, T: Text>(
+fn fill<'a, O: Sink, L: Lender, T: Writable>(
     page: Page<'a, O>,
     text: &T,
 ) -> (Page<'a, O>, Result<(), WriteFault>)

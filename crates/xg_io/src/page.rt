@@ -73,6 +73,7 @@ impl<'a, O: Sink> Page<'a, O> {
     pub(crate) fn turn(&mut self) -> Result<(), WriteFault>
         ensures same_reference { self.new.sink.ghost_name ≡ self.old.sink.ghost_name }
         ensures emptied { OnOk result ((self.new.start ≡ 0) × (self.new.end ≡ 0)) }
+        ensures some_wait { OnErr result (0 < length (waiting_in self.new.bytes self.new.start self.new.end)) }
         ensures same_written { with_waiting (O.written self.new.sink.now) self.new.bytes self.new.start self.new.end
             ≡ with_waiting (O.written self.old.sink.now) self.old.bytes self.old.start self.old.end }
         ensures grown { (before : Option (List ℕ)) → IsGrown before (O.written self.old.sink.now)
@@ -136,6 +137,7 @@ fn write_part<O: Sink>(
     requires within { end ≤ length bytes.now }
     ensures count { start + result.0 ≤ end }
     ensures all { OnOk result.1 (start + result.0 ≡ end) }
+    ensures some_left { OnErr result.1 (start + result.0 < end) }
     ensures appended { O.written sink.new
         ≡ append_known (O.written sink.old) (take result.0 (waiting_in bytes.now start end)) }
     ensures cause { HasCause (O.faults sink.old) (O.faults sink.new) result.1 }

@@ -10,7 +10,7 @@ use crate::{Sink, WriteFault};
 use std::marker::Brand;
 
 /// What can be written into any sink, piece by piece.
-pub trait Text {
+pub trait Writable {
     /// All its bytes.
     ghost bytes: { Self → List ℕ };
 
@@ -27,7 +27,7 @@ pub trait Text {
 
 /// Writes a text by way of a page: the sink is given full pages, and the rest at the end. After an error a front of the
 /// text was written. Takes no memory.
-pub fn write_paged<O: Sink, T: Text>(out: &mut O, text: &T) -> Result<(), WriteFault>
+pub fn write_paged<O: Sink, T: Writable>(out: &mut O, text: &T) -> Result<(), WriteFault>
     requires { T.can_write text.now }
     ensures appended { OnOk result (O.written out.new ≡ append_known (O.written out.old) (T.bytes text.now)) }
     ensures prefix { OnErr result (AppendsPrefix (O.written out.old) (O.written out.new) (T.bytes text.now)) }

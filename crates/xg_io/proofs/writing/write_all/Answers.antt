@@ -1,4 +1,4 @@
-use Rattle.std.proofs.Common.{◌∙◌}
+use Rattle.std.proofs.Common.{◌∙◌, rules}
 use Rattle.xg_io.proofs.KnownBytesInPieces.{go_on, a_front, cut_off}
 use Rattle.xg_io.proofs.writing.write_all.Goals as goal
 
@@ -9,8 +9,8 @@ loop-rest-preserved g c = record {
 }
 
 pub returns-in-Err-clause-prefix : goal.returns-in-Err-clause-prefix
-returns-in-Err-clause-prefix g c = a_front _ _ _ _ _ c.loop-rest.invariant.so_far c.in-Err.ensures.same_written
+returns-in-Err-clause-prefix g c = a_front _ _ _ _ _ c.loop-rest.invariant.so_far c.in-Err.ensures.same_written (search rules)
 
 pub returns-in-Err-clause-rest : goal.returns-in-Err-clause-rest
 returns-in-Err-clause-rest g c =
-    cut_off _ _ _ _ _ _ c.loop-rest.invariant.so_far c.in-Err.ensures.same_written c.in-Err.ensures.failed_piece
+    cut_off _ _ _ _ _ _ c.loop-rest.invariant.so_far c.in-Err.ensures.same_written c.in-Err.ensures.failed_piece (search rules)

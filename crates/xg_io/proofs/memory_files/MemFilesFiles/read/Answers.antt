@@ -1,5 +1,5 @@
 use Rattle.std.proofs.Common.{List, ap, sym, ◌∙◌}
-use Rattle.xg_io.specs.declared.memory_files.Stored.{Stored}
+use Rattle.xg_io.specs.declared.stored.Stored.{Stored}
 use Rattle.xg_io.specs.Stored.{stored_bytes_at}
 use Rattle.xg_io.proofs.FilesInMemory.{reads_on, reads_none}
 use Rattle.xg_io.proofs.memory_files.MemFilesFiles.read.Goals as goal

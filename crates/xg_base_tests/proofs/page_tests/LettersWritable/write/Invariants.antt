@@ -1,6 +1,6 @@
 use Rattle.std.proofs.Common.{◌≡◌, length}
 use Rattle.xg_io.proofs.KnownBytesInPieces.{Progress}
-use Rattle.xg_base_tests.proofs.page_tests.LettersText.write.Given as goal
+use Rattle.xg_base_tests.proofs.page_tests.LettersWritable.write.Given as goal
 
 abbrev pub invariant-loop-rest : goal.invariant-loop-rest
 invariant-loop-rest g l = record {

@@ -1,8 +1,8 @@
-use Rattle.std.proofs.Common.{◌≡◌, ℕ, ◌≤◌, List, ◌∙◌, ap, take, length, arith}
+use Rattle.std.proofs.Common.{◌≡◌, ℕ, ◌≤◌, List, ◌∙◌, ap, take, length, rules, arith}
 use Rattle.std.proofs.lemmas.List.{take-take, length-take}
 use Rattle.std.specs.Io.KnownBytes.{append_known}
 use Rattle.xg_io.proofs.KnownBytesInPieces.{go_on, a_front}
-use Rattle.xg_base_tests.proofs.page_tests.LettersText.write.Goals as goal
+use Rattle.xg_base_tests.proofs.page_tests.LettersWritable.write.Goals as goal
 
 -- what was taken of a front of the bytes is a front of them
 front_of_front : (rest : List ℕ) (n most : ℕ) → n ≤ length (take most rest) → take n (take most rest) ≡ take n rest
@@ -16,4 +16,4 @@ loop-rest-preserved g c = record {
 }
 
 pub returns-in-Err-clause-prefix : goal.returns-in-Err-clause-prefix
-returns-in-Err-clause-prefix g c = a_front _ _ _ _ _ c.loop-rest.invariant.so_far c.in-Err.ensures.same_written
+returns-in-Err-clause-prefix g c = a_front _ _ _ _ _ c.loop-rest.invariant.so_far c.in-Err.ensures.same_written (search rules)
