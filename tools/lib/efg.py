@@ -1,7 +1,7 @@
 """Reads a game file by docs/game_file.md: its tree, its sets and outcomes, and where its probabilities stand.
 
 The faults are those of that page up to ActionCount, with the same lines. What comes of the numbers (sums of
-probabilities, payoffs that don't add up to 0) isn't looked at; whether each player remembers what it did is noted.
+probabilities and of payoffs) isn't looked at; whether each player remembers what it did is noted.
 """
 import re
 from fractions import Fraction

@@ -14,10 +14,10 @@ class Form:
     """The sequence form of a game. `weights` has a number for each leaf, and `at[k]` player k's sequence there;
     `largest` is the largest size of a leaf's payoff. Of player k's sets, in their order, `sets[k]` has what the file
     says, `first[k]` the number of the first sequence and `before[k]` that of the sequence before the set. `counts[k]`
-    says how many sequences player k has."""
+    says how many sequences player k has. `total` is what each leaf pays both players together, as a pair."""
 
     def __init__(self, game):
-        self.game, self.unit, self.mass, self.weights, self.at = game, 1, 0, [], (None, [], [])
+        self.game, self.total, self.unit, self.mass, self.weights, self.at = game, None, 1, 0, [], (None, [], [])
         self.largest = Fraction(0)
         self.sets = tuple(list(sets.values()) for sets in game.sets)
         self.first, self.before, self.counts = ([], [], []), ([], [], []), [0, 1, 1]
@@ -110,15 +110,20 @@ def test_chances(game):
             raise efg.Fault(f"refused 16 ChanceSum node {set_.first}")
 
 
-def leaf_share(place, number, unit):
-    """A leaf's reach times payoff, and the unit with it; `number` is that of its node."""
-    if total(*place.pays) != (0, 1):
-        raise efg.Fault(f"refused 17 NotZeroSum node {number}")
-    share = product(place.reach, place.pays[0])
-    unit = lcm(unit, share[1])
-    if passes_limit(share) or unit > efg.LIMIT:
+def leaf_share(place, number, form):
+    """A leaf's reach times payoff, by which the form's unit grows; `number` is that of its node."""
+    paid = total(*place.pays)
+    if passes_limit(paid):
         raise efg.Fault(f"refused 19 Scale node {number}")
-    return share, unit
+    if form.total is None:
+        form.total, form.unit = paid, paid[1]
+    if paid != form.total:
+        raise efg.Fault(f"refused 17 NotConstantSum node {number}")
+    share = product(place.reach, place.pays[0])
+    form.unit = lcm(form.unit, share[1])
+    if passes_limit(share) or form.unit > efg.LIMIT:
+        raise efg.Fault(f"refused 19 Scale node {number}")
+    return share
 
 
 def take_leaves(form):
@@ -128,9 +133,8 @@ def take_leaves(form):
         if passes_limit(place.reach) or passes_limit(place.pays[0]) or passes_limit(place.pays[1]):
             raise efg.Fault(f"refused 19 Scale node {number}")
         if place.node.set is None:
-            share, form.unit = leaf_share(place, number, form.unit)
+            shares.append(leaf_share(place, number, form))
             numbers.append(number)
-            shares.append(share)
             payoffs.add(place.pays[0])
             form.at[1].append(place.at[1])
             form.at[2].append(place.at[2])
@@ -143,6 +147,9 @@ def weigh(game):
     test_chances(game)
     form = Form(game)
     numbers, shares = take_leaves(form)
+    top, bottom = form.total
+    if abs(form.unit // bottom * top) > efg.LIMIT:
+        raise efg.Fault(f"refused 19 Scale node {numbers[0]}")
     for number, (top, bottom) in zip(numbers, shares):
         form.weights.append(form.unit // bottom * top)
         form.mass += abs(form.weights[-1])

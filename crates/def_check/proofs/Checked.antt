@@ -7,7 +7,7 @@ use Rattle.def_file.specs.declared.FileFault.TheVariants.{TooLong}
 use Rattle.def_file.specs.Content.{GameFile}
 use Rattle.def_file.specs.Reading.{game_at, most_bytes}
 use Rattle.def_file.proofs.AnyLength.{game_any_length}
-use Rattle.def_game_scale.specs.Faults.{GameFault, ChanceNegative, ChanceSum, NotZeroSum, NotRecall, Scale, game_fault}
+use Rattle.def_game_scale.specs.Faults.{GameFault, ChanceNegative, ChanceSum, NotConstantSum, NotRecall, Scale, game_fault}
 use Rattle.def_game_numbers.specs.Numbers.{as_file_fault, file_fault, game_file_fault, tables_of}
 use Rattle.def_cert_verdict.specs.declared.fault.TestFault.{TestFault}
 use Rattle.def_cert_verdict.specs.Certificate.{Certificate}
@@ -108,7 +108,7 @@ checks_are file bytes short answer = (checks_computed file bytes short answer, c
 pub fault_any_length : (found : GameFault) → file_fault found ≡ TooLong → ⊥
 fault_any_length (ChanceNegative node) is = cc
 fault_any_length (ChanceSum node) is = cc
-fault_any_length (NotZeroSum node) is = cc
+fault_any_length (NotConstantSum node) is = cc
 fault_any_length (NotRecall node earlier) is = cc
 fault_any_length (Scale node) is = cc
 

@@ -5,8 +5,8 @@ use Rattle.def_tree.specs.declared.Kind.{Kind}
 use Rattle.def_tree.specs.Tree.{is_leaf_kind}
 use Rattle.def_file.specs.Content.{GameFile}
 use Rattle.def_file_form.proofs.WholeGames.{stands_for_whole_game}
-use Rattle.def_game_scale.specs.Scale.{all_expected, game_unit}
-use Rattle.def_game_scale.proofs.Expected.{all-lowest}
+use Rattle.def_game_scale.specs.Scale.{all_fractions, game_unit}
+use Rattle.def_game_scale.proofs.Expected.{fractions-lowest}
 use Rattle.def_game_scale.proofs.Units.{unit-positive}
 use Rattle.def_game_numbers.specs.Numbers.{tables_of}
 use Rattle.def_game_numbers.proofs.Fractions.{tables_lowest}
@@ -27,4 +27,4 @@ module _ (bytes : List ℕ) (game : GameFile) (stands : StandsFor bytes game) wh
   pub some_unit : 1 ≤ game_unit (tables_of game) game.tree
   some_unit =
       let fractions = tables_lowest game (stands_for_whole_game bytes game stands).1 in
-      unit-positive (all_expected (tables_of game) game.tree) (all-lowest (tables_of game) game.tree fractions)
+      unit-positive (all_fractions (tables_of game) game.tree) (fractions-lowest (tables_of game) game.tree fractions)

@@ -19,7 +19,7 @@ pub fn accepted_without_fault()
     ensures { AcceptedWithoutFault }
 {}
 
-/// An accepted file's game is sound: probabilities, zero sum, unit and mass within the limit, perfect recall.
+/// An accepted file's game is sound: probabilities, constant sum, unit, sum and mass within the limit, perfect recall.
 pub fn accepted_games_are_sound()
     ensures { AcceptedGamesAreSound }
 {}

@@ -17,7 +17,7 @@ use Rattle.def_file.proofs.EntryAddsToTables.{set_tables_of}
 use Rattle.def_file.proofs.OneMore.{own_sets}
 use Rattle.def_file.proofs.FirstMet.{Decide, Rise, Among, first_is_least, least_is_first, none_met_none, none_holds_none_met}
 use Rattle.def_file.proofs.Differs.{guarded}
-use Rattle.def_file.proofs.EntryTests.{HasPlayer, player_tells, moves_set, SetPlace, set_place, undefined_tells, counted_tells, same_set_tells, has_outcome, OutcomePlace, outcome_place, outcome_undefined_tells, outcome_counted_tells, other_outcome_tells}
+use Rattle.def_file.proofs.EntryTests.{HasPlayer, player_tells, moves_set, SetIsPlaced, set_place, undefined_tells, counted_tells, same_set_tells, has_outcome, OutcomePlace, outcome_place, outcome_undefined_tells, outcome_counted_tells, other_outcome_tells}
 
 -- Entries without a fault have players.
 
@@ -47,7 +47,7 @@ module _ (rs : List Record) (r : Record) (fine : HaveNoFault rs) (player : HasPl
   own : has_set r.kind ≡ true → table_of rs r ≡ set_table (mover r) rs
   own s = own_sets r.kind r.player rs s
 
-  at_place : has_set r.kind ≡ true → SetPlace rs r
+  at_place : has_set r.kind ≡ true → SetIsPlaced rs r
   at_place s = set_place rs r s player players
 
   undefined_decides : ((has_set r.kind && is_set_undefined (table_of rs r) r.set) ≡ true)

@@ -112,15 +112,15 @@ set_mentions : (rs : List Record) (r : Record) → mentions (mover r) r.set.numb
 set_mentions rs r = filter-filter (λ x. is_same_kind (mover r) (mover x)) (λ x. nat_eq r.set.number x.set.number) rs
 
 -- the set is new, or its table has the name and the list of its mentions, the first of which is e
-pub data SetPlace (rs : List Record) (r : Record) : Type 0 where
-  new_set : set_place_of r.set.number (set_table (mover r) rs) ≡ None → IsNewSet rs r → SetPlace rs r
+pub data SetIsPlaced (rs : List Record) (r : Record) : Type 0 where
+  new_set : set_place_of r.set.number (set_table (mover r) rs) ≡ None → IsNewSet rs r → SetIsPlaced rs r
   known_set : (i : ℕ) → set_place_of r.set.number (set_table (mover r) rs) ≡ Some i
       → set_at (set_table (mover r) rs) i ≡ set_entry (mover r) rs r.set.number
       → (e : Record) (more : List Record) → mentions (mover r) r.set.number rs ≡ e ∷ more
-      → IsFirstWith (MentionOneSet r) rs e → SetPlace rs r
+      → IsFirstWith (MentionOneSet r) rs e → SetIsPlaced rs r
 
 -- a set is new, or known
-pub set_place : (rs : List Record) (r : Record) → has_set r.kind ≡ true → HasPlayer r → All HasPlayer rs → SetPlace rs r
+pub set_place : (rs : List Record) (r : Record) → has_set r.kind ≡ true → HasPlayer r → All HasPlayer rs → SetIsPlaced rs r
 set_place rs r s h all =
     let tells = sets_tell rs r s h all in
     elim (found-cases (λ (e : SetEntry). e.number) no_set (set_entry (mover r) rs) (λ m. refl) set_key r.set.number (of_kind (mover r) rs)) [
@@ -136,7 +136,7 @@ never : (t : Bool) (P : Type 0) → t ≡ false → ¬ P → (t ≡ true) ↔ P
 never t P e not = (λ h. absurd (false≢true (sym e ∙ h)), λ p. absurd (not p))
 
 -- the test of a first mention without a list tells
-pub undefined_tells : (rs : List Record) (r : Record) → SetPlace rs r
+pub undefined_tells : (rs : List Record) (r : Record) → SetIsPlaced rs r
     → (is_set_undefined (set_table (mover r) rs) r.set ≡ true) ↔ (IsNewSet rs r × (r.set.actions ≡ None))
 undefined_tells rs r (new_set none new) =
     let test : is_set_undefined (set_table (mover r) rs) r.set ≡ is_none r.set.actions = ap (λ o. is_none o && is_none r.set.actions) none in
@@ -145,7 +145,7 @@ undefined_tells rs r (known_set i some at e more hits first) =
     never (is_set_undefined (set_table (mover r) rs) r.set) _ (ap (λ o. is_none o && is_none r.set.actions) some) (λ p. known_not_new rs r e first p.0)
 
 -- the test of the number of actions tells
-pub counted_tells : (rs : List Record) (r : Record) → SetPlace rs r
+pub counted_tells : (rs : List Record) (r : Record) → SetIsPlaced rs r
     → (is_set_miscounted (set_table (mover r) rs) r.set ≡ true) ↔ (IsNewSet rs r × HasNoneOrTooMany r)
 counted_tells rs r (new_set none new) =
     let test : is_set_miscounted (set_table (mover r) rs) r.set ≡ has_wrong_count r.set.actions = ap (λ o. is_none o && has_wrong_count r.set.actions) none in
@@ -172,7 +172,7 @@ other_needs_first rs r new h =
 
 -- the test of a later mention of a set tells
 pub same_set_tells : (rs : List Record) (r : Record) → HaveNoFault rs → has_set r.kind ≡ true → HasPlayer r
-    → All HasPlayer rs → SetPlace rs r
+    → All HasPlayer rs → SetIsPlaced rs r
     → (set_differs (mover r) (set_table (mover r) rs) r.set ≡ true) ↔ HasOtherSet rs r
 same_set_tells rs r fine s h all (new_set none new) =
     never (set_differs (mover r) (set_table (mover r) rs) r.set) (HasOtherSet rs r)

@@ -17,7 +17,7 @@ use Rattle.def_tree.specs.Rules.{most_actions, most_nodes}
 use Rattle.def_file.specs.declared.EntryKind.{EntryKind}
 use Rattle.def_file.specs.declared.EntryKind.TheVariants.{Chance, Personal, Leaf}
 use Rattle.def_file.specs.declared.FileFault.{FileFault}
-use Rattle.def_file.specs.declared.FileFault.TheVariants.{TooLong, Syntax, UnexpectedEnd, TrailingText, Number, Players, PlayerNumber, SetUndefined, SetMismatch, OutcomeUndefined, OutcomeMismatch, PayoffCount, TooManyNodes, ActionCount, ChanceNegative, ChanceSum, NotZeroSum, NotRecall, Scale}
+use Rattle.def_file.specs.declared.FileFault.TheVariants.{TooLong, Syntax, UnexpectedEnd, TrailingText, Number, Players, PlayerNumber, SetUndefined, SetMismatch, OutcomeUndefined, OutcomeMismatch, PayoffCount, TooManyNodes, ActionCount, ChanceNegative, ChanceSum, NotConstantSum, NotRecall, Scale}
 use Rattle.def_file.specs.Content.{Action, SetMention, OutcomeMention, Record, SetEntry, OutcomeEntry, Contents, sets_of_kind}
 
 abbrev pub mover_as : EntryKind → ℕ → Kind
@@ -177,6 +177,6 @@ fault_number TooManyNodes = 13
 fault_number (ActionCount node) = 14
 fault_number (ChanceNegative node) = 15
 fault_number (ChanceSum node) = 16
-fault_number (NotZeroSum node) = 17
+fault_number (NotConstantSum node) = 17
 fault_number (NotRecall node earlier) = 18
 fault_number (Scale node) = 19

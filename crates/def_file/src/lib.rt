@@ -65,7 +65,7 @@ pub enum FileFault {
     ChanceSum { node: u32 },
     /// A leaf's payoffs don't add up to 0.
     #[error("payoffs at node {node} don't add up to 0")]
-    NotZeroSum { node: u32 },
+    NotConstantSum { node: u32 },
     /// The own choices before a node differ from those before an earlier node of its set.
     #[error("no perfect recall at nodes {earlier} and {node}")]
     NotRecall { node: u32, earlier: u32 },

@@ -10,7 +10,7 @@ use Rattle.def_fraction.specs.declared.fault.NumberFault.{NumberFault}
 use Rattle.def_file.specs.declared.FileFault.{FileFault}
 use Rattle.def_file.specs.declared.FileFault.TheVariants.{Syntax, UnexpectedEnd, Number}
 use Rattle.def_file_form.specs.Form.{Spelled, number, text, spelled_at}
-use Rattle.def_file_form.specs.Offends.{AreNext, Numbers, IsFront, TakesNumbers, TakesText, IsUnfit, IsNumberFault, Stops, Offends, EndsWhole}
+use Rattle.def_file_form.specs.Offends.{AreNext, NumberKind, IsFront, TakesNumbers, TakesText, IsUnfit, IsNumberFault, Stops, Offends, EndsWhole}
 
 -- two languages with the same words
 pub record Alike (L M : List Spelled → Type 0) : Type 0 where
@@ -86,13 +86,13 @@ module _ (Fits : Spelled → Type 0) (L M : List Spelled → Type 0) (whole : Li
   text_back : (p : ℕ) → next_from whole place ≡ Err (lexing.Unclosed p) → TakesText M us → TakesText L ts
   text_back p next takes = (takes.0, takes.1, alike.front_back (text takes.0) (may.unclosed p next takes.0) takes.2)
 
-  numbers_to : (numbers : Numbers) → TakesNumbers L ts numbers → TakesNumbers M us numbers
+  numbers_to : (numbers : NumberKind) → TakesNumbers L ts numbers → TakesNumbers M us numbers
   numbers_to numbers takes bytes = (
     (λ front. (takes bytes).0 (alike.front_back (number bytes) (may.number bytes) front)),
     (λ none. alike.front_to (number bytes) (may.number bytes) ((takes bytes).1 none)),
   )
 
-  numbers_back : (numbers : Numbers) → TakesNumbers M us numbers → TakesNumbers L ts numbers
+  numbers_back : (numbers : NumberKind) → TakesNumbers M us numbers → TakesNumbers L ts numbers
   numbers_back numbers takes bytes = (
     (λ front. (takes bytes).0 (alike.front_to (number bytes) (may.number bytes) front)),
     (λ none. alike.front_back (number bytes) (may.number bytes) ((takes bytes).1 none)),

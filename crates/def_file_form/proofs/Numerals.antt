@@ -17,13 +17,13 @@ use Rattle.def_file.specs.Reading.{◌>>=◌, is_kind, is_token, token_where, by
 use Rattle.def_file_form.specs.Form.{Spelled, number, IsWholeNumber, IsFraction, spelled_at}
 use Rattle.def_file_form.proofs.SoundParts.{set_ok}
 use Rattle.def_file_form.proofs.TokenByToken.{is_kind-true, token_ok}
-use Rattle.def_file_form.specs.Offends.{Numbers, wholes, wholes_from_one, literals, fault_of, literal_fault, TakesNumbers}
+use Rattle.def_file_form.specs.Offends.{NumberKind, wholes, wholes_from_one, literals, fault_of, literal_fault, TakesNumbers}
 use Rattle.def_file_form.proofs.Languages.{After, NextIs, Halt}
 use Rattle.def_file_form.proofs.NextByteTellsToken.{step_grows}
 use Rattle.def_file_form.proofs.SuccessiveReadings.{HasWord, Goes, goes_past, goes_stuck, BeginsPassing, token_fault}
 use Rattle.def_file_form.proofs.OneTokenParts.{Part, OneToken, one_alike, one_begins, number_test, each_takes_one}
 
-abbrev pub NumberFits : Numbers → Spelled → Type 0
+abbrev pub NumberFits : NumberKind → Spelled → Type 0
 NumberFits numbers s = (bytes : List ℕ) × (literal_fault numbers bytes ≡ None) × (s ≡ number bytes)
 
 -- a number's reading gives a value
@@ -90,7 +90,7 @@ one_set_number = record {
 
 -- Reading a number.
 
-module _ {A : Type 0} (R : A → List Spelled → List Spelled → Type 0) (numbers : Numbers)
+module _ {A : Type 0} (R : A → List Spelled → List Spelled → Type 0) (numbers : NumberKind)
     (one : OneToken R (NumberFits numbers)) where
   number_begins : BeginsPassing HasWord (Part R) (λ s. is_kind kinds.Number s.kind)
   number_begins = one_begins R (NumberFits numbers) one (λ s. is_kind kinds.Number s.kind) (number (codes "1")) (codes "1", each_takes_one numbers, refl) (λ u fits. ap (λ (s : Spelled). is_kind kinds.Number s.kind) fits.2)

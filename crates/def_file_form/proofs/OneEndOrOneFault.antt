@@ -13,7 +13,7 @@ use Rattle.def_file.specs.declared.FileFault.{FileFault}
 use Rattle.def_file.specs.declared.FileFault.TheVariants.{Syntax, UnexpectedEnd, Number}
 use Rattle.def_file.specs.Reading.{bytes_at, read_as_set}
 use Rattle.def_file_form.specs.Form.{Spelled, number, spelled_at}
-use Rattle.def_file_form.specs.Offends.{AreNext, Numbers, wholes, wholes_from_one, literals, literal_fault, IsFront, TakesNumbers, IsUnfit, IsNumberFault, Stops, Offends, EndsWhole}
+use Rattle.def_file_form.specs.Offends.{AreNext, NumberKind, wholes, wholes_from_one, literals, literal_fault, IsFront, TakesNumbers, IsUnfit, IsNumberFault, Stops, Offends, EndsWhole}
 use Rattle.def_file_form.proofs.Languages.{Halt, Stuck, halt_stops}
 use Rattle.def_file_form.proofs.OneTokenParts.{each_takes_one}
 
@@ -65,10 +65,10 @@ front_on L whole place ss ts on front =
 
 -- Which numbers a place takes is one class.
 
-abbrev Agree : Numbers → Numbers → Type 0
+abbrev Agree : NumberKind → NumberKind → Type 0
 Agree n m = (bytes : List ℕ) → literal_fault n bytes ≡ None → literal_fault m bytes ≡ None
 
-class_once : (n m : Numbers) → Agree n m → Agree m n → n ≡ m
+class_once : (n m : NumberKind) → Agree n m → Agree m n → n ≡ m
 unfolding read_as_whole read_as_set read_as_literal literal_of value_of body_of body_after decimal_of power_of fraction_of gcd
 class_once wholes wholes to back = refl
 class_once wholes wholes_from_one to back = let clash = to (codes "0") refl in absurd cc
@@ -80,7 +80,7 @@ class_once literals wholes to back = let clash = to (codes "-1") refl in absurd 
 class_once literals wholes_from_one to back = let clash = to (codes "-1") refl in absurd cc
 class_once literals literals to back = refl
 
-numbers_once : (L : List Spelled → Type 0) (ss : List Spelled) (n m : Numbers) → TakesNumbers L ss n
+numbers_once : (L : List Spelled → Type 0) (ss : List Spelled) (n m : NumberKind) → TakesNumbers L ss n
     → TakesNumbers L ss m → n ≡ m
 numbers_once L ss n m a b = class_once n m (λ bytes none. (b bytes).0 ((a bytes).1 none)) (λ bytes none. (a bytes).0 ((b bytes).1 none))
 

@@ -14,7 +14,7 @@ use Rattle.def_file.specs.declared.FileFault.TheVariants.{UnexpectedEnd}
 use Rattle.def_file.specs.Reading.{◌>>=◌, is_kind, is_token, token_where, next_is, mark, token_text, text_at, name_at, read_as_set}
 use Rattle.def_file_form.specs.Form.{Spelled, text, IsText, IsName, spelled_at}
 use Rattle.def_file_form.proofs.TokenByToken.{is_kind-true, ok_token, text_here}
-use Rattle.def_file_form.specs.Offends.{Numbers, wholes, wholes_from_one, literals, literal_fault}
+use Rattle.def_file_form.specs.Offends.{NumberKind, wholes, wholes_from_one, literals, literal_fault}
 use Rattle.def_file_form.proofs.Languages.{Alike, AlikeBut, FirstIsOther, After, NextIs, Halt}
 use Rattle.def_file_form.proofs.NextByteTellsToken.{step_grows, TextNext, closed, unclosed, text_next, not_next}
 use Rattle.def_file_form.proofs.SuccessiveReadings.{HasWord, Goes, goes_past, goes_stuck, FirstTaken, IsTest, BeginsPassing, goes_token}
@@ -27,7 +27,7 @@ Part {A} R T ss = (v : A) × (rest : List Spelled) × R v ss rest × T rest
 -- Tests.
 
 -- a number that each place of numbers takes
-pub each_takes_one : (numbers : Numbers) → literal_fault numbers (codes "1") ≡ None
+pub each_takes_one : (numbers : NumberKind) → literal_fault numbers (codes "1") ≡ None
 unfolding read_as_whole read_as_set read_as_literal literal_of value_of body_of body_after decimal_of power_of fraction_of gcd
 each_takes_one wholes = refl
 each_takes_one wholes_from_one = refl

@@ -11,7 +11,7 @@ use Rattle.def_file.specs.declared.FileFault.TheVariants.{Syntax, UnexpectedEnd}
 use Rattle.def_file.specs.Reading.{◌>>=◌, is_kind, token_if, unfit, token_where}
 use Rattle.def_file_form.specs.Form.{Spelled, number, spelled_at}
 use Rattle.def_file_form.proofs.TokenByToken.{is_kind-true, token_ok}
-use Rattle.def_file_form.specs.Offends.{Numbers, literal_fault, IsFront}
+use Rattle.def_file_form.specs.Offends.{NumberKind, literal_fault, IsFront}
 use Rattle.def_file_form.proofs.Languages.{Alike, AlikeBut, After, NextIs, NotNext, Walk, Halt, Stuck, stuck_walk}
 use Rattle.def_file_form.proofs.NextByteTellsToken.{step_grows}
 
@@ -146,7 +146,7 @@ FirstTaken test (s ∷ ss) = test s ≡ true
 pub record IsTest (test : Spelled → Bool) : Type 0 where
   pub not_end : (s : Spelled) → s.kind ≡ kinds.End → test s ≡ false
   pub numbers : (s : Spelled) → s.kind ≡ kinds.Number → test s ≡ false
-      → (bytes : List ℕ) × (test (number bytes) ≡ false) × ((numbers : Numbers) → literal_fault numbers bytes ≡ None)
+      → (bytes : List ℕ) × (test (number bytes) ≡ false) × ((numbers : NumberKind) → literal_fault numbers bytes ≡ None)
 
 -- only tokens that pass come first
 pub record BeginsPassing (F : (List Spelled → Type 0) → Type 0) (In : (List Spelled → Type 0) → List Spelled → Type 0) (test : Spelled → Bool) : Type 1 where

@@ -23,16 +23,16 @@ AreNext bytes at (s ∷ ss) end =
     (token : Lexeme) × (next_from bytes at ≡ Ok token) × (token.kind ≢ kinds.End) × (spelled_at bytes token ≡ s) × AreNext bytes token.end ss end
 
 -- Which numbers a place takes: whole numbers, those from 1 on, or all literals.
-pub data Numbers : Type 0 where
-  wholes : Numbers
-  wholes_from_one : Numbers
-  literals : Numbers
+pub data NumberKind : Type 0 where
+  wholes : NumberKind
+  wholes_from_one : NumberKind
+  literals : NumberKind
 
 abbrev pub fault_of : {A : Type 0} → Result A NumberFault → Option NumberFault
 fault_of (Ok n) = None
 fault_of (Err fault) = Some fault
 
-abbrev pub literal_fault : Numbers → List ℕ → Option NumberFault
+abbrev pub literal_fault : NumberKind → List ℕ → Option NumberFault
 literal_fault wholes bytes = fault_of (read_as_whole bytes)
 literal_fault wholes_from_one bytes = fault_of (read_as_set bytes)
 literal_fault literals bytes = fault_of (read_as_literal bytes)
@@ -41,7 +41,7 @@ abbrev pub IsFront : (List Spelled → Type 0) → List Spelled → Type 0
 IsFront Whole tokens = (more : List Spelled) × Whole (tokens ++ more)
 
 -- the next token may be a number, and exactly these numbers
-abbrev pub TakesNumbers : (List Spelled → Type 0) → List Spelled → Numbers → Type 0
+abbrev pub TakesNumbers : (List Spelled → Type 0) → List Spelled → NumberKind → Type 0
 TakesNumbers Whole tokens numbers = (bytes : List ℕ) → IsFront Whole (tokens ++ number bytes ∷ []) ↔ (literal_fault numbers bytes ≡ None)
 
 -- the next token may be a text
@@ -56,7 +56,7 @@ pub record IsUnfit (Whole : List Spelled → Type 0) (bytes : List ℕ) (tokens 
   pub not_end : token.kind ≢ kinds.End
   pub start : token.start ≡ at
   pub unfit : IsFront Whole (tokens ++ spelled_at bytes token ∷ []) → ⊥
-  pub no_number : token.kind ≡ kinds.Number → (numbers : Numbers) → TakesNumbers Whole tokens numbers → ⊥
+  pub no_number : token.kind ≡ kinds.Number → (numbers : NumberKind) → TakesNumbers Whole tokens numbers → ⊥
 
 -- a number is needed, and the next token is one with this fault
 pub record IsNumberFault (Whole : List Spelled → Type 0) (bytes : List ℕ) (tokens : List Spelled) (place at : ℕ)
@@ -65,7 +65,7 @@ pub record IsNumberFault (Whole : List Spelled → Type 0) (bytes : List ℕ) (t
   pub next : next_from bytes place ≡ Ok token
   pub is_number : token.kind ≡ kinds.Number
   pub start : token.start ≡ at
-  pub numbers : Numbers
+  pub numbers : NumberKind
   pub needed : TakesNumbers Whole tokens numbers
   pub has_fault : literal_fault numbers (bytes_at bytes token) ≡ Some fault
 

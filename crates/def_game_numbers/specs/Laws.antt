@@ -1,18 +1,18 @@
 -- What the calls answer, in the words of the game.
-use Rattle.std.specs.Prelude.{◌≡◌, ◌↔◌, ℕ, ◌≤◌, unsigned_abs, map, sum, All, Some, None, Ok, Err}
+use Rattle.std.specs.Prelude.{◌≡◌, ◌↔◌, ℕ, ◌≤◌, true, ℤ, unsigned_abs, map, sum, All, Some, None, Ok, Err}
 use Rattle.std.specs.List.{AllZip}
 use Prim.Native.Nat.{◌∣◌}
 use Rattle.def_tree.specs.Tree.{Forest}
-use Rattle.def_fraction.specs.Fraction.{most}
+use Rattle.def_fraction.specs.Fraction.{fits, most}
 use Rattle.def_file.specs.declared.FileFault.{FileFault}
 use Rattle.def_file.specs.declared.FileFault.TheVariants as faults
 use Rattle.def_file.specs.Content.{GameFile}
 use Rattle.def_file.specs.Game.{HasFractions}
 use Rattle.def_game_paths.specs.Paths.{leaf_visits}
 use Rattle.def_game_paths.specs.Recall.{RecallBreak}
-use Rattle.def_game_scale.specs.Tables.{Tables, AreFractions}
-use Rattle.def_game_scale.specs.Scale.{all_expected}
-use Rattle.def_game_scale.specs.Laws.{IsWeightOf}
+use Rattle.def_game_scale.specs.Tables.{Tables, AreFractions, game_sum}
+use Rattle.def_game_scale.specs.Scale.{all_fractions}
+use Rattle.def_game_scale.specs.Laws.{IsMultiple, IsWeightOf}
 use Rattle.def_game_scale.specs.Faults.{GameFault}
 use Rattle.def_game_scale.specs.First.{FirstNumberFault, PassNumbers}
 use Rattle.def_plan.specs.Payoff.{mass_of}
@@ -24,11 +24,12 @@ use Rattle.def_game_numbers.specs.Numbers.{GameWeights, file_fault, game_file_fa
 abbrev pub TablesAreFractions : Type 0
 TablesAreFractions = (game : GameFile) → HasFractions game.sets game.outcomes → AreFractions (tables_of game)
 
--- the unit is the least common multiple of the denominators of reach times payoff, each leaf's weight is unit times
--- reach times payoff, and the mass is the sum of the weights' sizes
+-- the sum is that of the first leaf's payoffs, the unit is the least common multiple of the denominators of the sum and of
+-- reach times payoff, each leaf's weight is unit times reach times payoff, and the mass is the sum of the weights' sizes
 pub record AreWeights (tables : Tables) (tree : Forest) (answer : GameWeights) : Type 0 where
-  pub multiple : All (λ f. f.den ∣ answer.unit) (all_expected tables tree)
-  pub least : (m : ℕ) → All (λ f. f.den ∣ m) (all_expected tables tree) → answer.unit ∣ m
+  pub sum_is : answer.sum ≡ game_sum tables tree
+  pub multiple : All (λ f. f.den ∣ answer.unit) (all_fractions tables tree)
+  pub least : (m : ℕ) → All (λ f. f.den ∣ m) (all_fractions tables tree) → answer.unit ∣ m
   pub leaves : AllZip (IsWeightOf tables answer.unit) (leaf_visits tree) answer.leaves
   pub mass : answer.mass ≡ sum (map unsigned_abs answer.leaves)
 
@@ -56,10 +57,12 @@ pub record IsRefusedWithTheFirst (game : GameFile) : Type 0 where
 abbrev pub NumbersRefusedWithTheFirst : Type 0
 NumbersRefusedWithTheFirst = (game : GameFile) → IsRefusedWithTheFirst game
 
--- the unit isn't 0, and the unit, the mass and each weight are within the limit
+-- the unit isn't 0, and the sum, the unit, the sum in the unit, the mass and each weight are within the limit
 pub record FitTheLimit (answer : GameWeights) : Type 0 where
+  pub sum_fits : fits answer.sum ≡ true
   pub positive : 1 ≤ answer.unit
   pub unit : answer.unit ≤ most
+  pub whole_sum : (w : ℤ) → IsMultiple answer.unit answer.sum w → unsigned_abs w ≤ most
   pub mass : answer.mass ≤ most
   pub leaves : All (λ w. unsigned_abs w ≤ most) answer.leaves
 

@@ -1,10 +1,10 @@
 -- What the calls answer for files of small games, and the forms of the games that have no fault.
 use Rattle.std.specs.Prelude.{◌≡◌, ℕ, pos, negsuc, List, [], ◌∷◌, length, map, Some, None, Ok, Err}
 use Rattle.def_tree.specs.Tree.{leaf_count, node_count, prefix}
-use Rattle.def_fraction.specs.Fraction.{Fraction}
+use Rattle.def_fraction.specs.Fraction.{Fraction, over, zero_fraction}
 use Rattle.def_file.specs.declared.FileFault.TheVariants as faults
 use Rattle.def_file.specs.Content.{GameFile, OutcomeEntry, SetEntry}
-use Rattle.def_game_scale.specs.Tables.{Payoffs}
+use Rattle.def_game_scale.specs.Tables.{PayoffPair}
 use Rattle.def_game_scale.specs.Examples as examples
 use Rattle.def_game_scale.specs.Examples.{Example}
 use Rattle.def_plan.specs.Form.{Leaf, sequence_count, weighted}
@@ -17,7 +17,7 @@ use Rattle.def_game_numbers.specs.Numbers.{game_file_fault, weigh}
 abbrev set_with : List Fraction → SetEntry
 set_with chances = record { number = 1; name = None; actions = map (λ chance. record { name = []; chance = chance }) chances }
 
-abbrev unnamed_outcome : Payoffs → OutcomeEntry
+abbrev unnamed_outcome : PayoffPair → OutcomeEntry
 unnamed_outcome payoffs = record { number = 1; name = None; one = payoffs.one; two = payoffs.two }
 
 abbrev pub file_of : Example → GameFile
@@ -32,11 +32,13 @@ file_of game = record {
 pub record FileRows : Type 0 where
   pub negative : weigh (file_of examples.negative_before_sum) ≡ Err (faults.ChanceNegative 2)
   pub sum : weigh (file_of examples.sum_before_leaf) ≡ Err (faults.ChanceSum 1)
-  pub zero_sum : weigh (file_of examples.fraction_not_zero_sum) ≡ Err (faults.NotZeroSum 2)
+  pub another_sum : weigh (file_of examples.fraction_of_another_sum) ≡ Err (faults.NotConstantSum 3)
+  pub whole_sum : weigh (file_of examples.whole_sum_past_limit) ≡ Err (faults.Scale 3)
   pub scale : weigh (file_of examples.rare_deals) ≡ Err (faults.Scale 3)
-  pub weights : weigh (file_of examples.biased_coin) ≡ Ok (record { unit = 3; mass = 7; leaves = pos 1 ∷ pos 6 ∷ [] })
+  pub weights : weigh (file_of examples.biased_coin) ≡ Ok (record { sum = zero_fraction; unit = 3; mass = 7; leaves = pos 1 ∷ pos 6 ∷ [] })
+  pub weights_of_sum : weigh (file_of examples.fifth_together) ≡ Ok (record { sum = over (pos 1) 5; unit = 30; mass = 25; leaves = pos 15 ∷ pos 10 ∷ [] })
   pub recall : game_file_fault (file_of examples.first_in_set) ≡ Some (faults.NotRecall 7 4)
-  pub recall_weighed : weigh (file_of examples.first_in_set) ≡ Ok (record { unit = 1; mass = 0; leaves = pos 0 ∷ pos 0 ∷ pos 0 ∷ [] })
+  pub recall_weighed : weigh (file_of examples.first_in_set) ≡ Ok (record { sum = zero_fraction; unit = 1; mass = 0; leaves = pos 0 ∷ pos 0 ∷ pos 0 ∷ [] })
   pub recall_broken : sets_or_break examples.first_in_set.tree ≡ Err (record { node = 7; earlier = 4 })
   pub sets : sets_or_break examples.other_before_choice.tree ≡ Ok (record {
     one = record { sets = record { before = 0; actions = 2 } ∷ []; first_nodes = 2 ∷ []; at_nodes = 0 ∷ 0 ∷ 1 ∷ 2 ∷ 0 ∷ 1 ∷ 2 ∷ [] };

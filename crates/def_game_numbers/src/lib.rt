@@ -10,8 +10,8 @@ pub fn tables_are_fractions()
     ensures { TablesAreFractions }
 {}
 
-/// With tables in lowest terms, weighing refuses exactly the first fault of the numbers, and else answers the unit,
-/// the weights and the mass.
+/// With tables in lowest terms, weighing refuses exactly the first fault of the numbers, and else answers the sum, the
+/// unit, the weights and the mass.
 pub fn weighs_exactly()
     ensures { WeighsExactly }
 {}
@@ -21,8 +21,8 @@ pub fn numbers_refused_with_the_first()
     ensures { NumbersRefusedWithTheFirst }
 {}
 
-/// With tables in lowest terms, the unit that weighing answers is at least 1, and unit, mass and each weight's size
-/// are at most 2^62.
+/// With tables in lowest terms, the unit that weighing answers is at least 1, and the sum's parts, the unit, the size of
+/// the sum in it, the mass and each weight's size are at most 2^62.
 pub fn weights_fit()
     ensures { WeightsFit }
 {}

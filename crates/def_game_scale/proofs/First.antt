@@ -1,6 +1,6 @@
 -- The fault that is found is the first one.
 use Rattle.std.proofs.Common.{◌≡◌, ℕ, ◌-◌, ◌<◌, ◌≤◌, true, false, List, [], length, get_or, refl, ap, sym, ◌∙◌, arith, Some, None, inl, inr}
-use Rattle.std.specs.Prelude.{Option, ◌↔◌}
+use Rattle.std.specs.Prelude.{Option, ◌↔◌, unsigned_abs}
 use Rattle.std.proofs.lemmas.Bool.{cases_lt}
 use Rattle.def_tree.specs.declared.Kind.TheVariants.{Leaf}
 use Rattle.def_tree.specs.Tree.{Forest}
@@ -8,13 +8,13 @@ use Rattle.def_game_paths.specs.Paths.{Visit, visits}
 use Rattle.def_game_paths.specs.Recall.{HasPerfectRecall, IsFirstBreak, RecallBreak, is_personal, is_same_set, recall_break}
 use Rattle.def_game_paths.proofs.Breaks.{break_first, none_of_recall, recall_of_none, same_set}
 use Rattle.def_game_scale.specs.Tables.{Tables, AreFractions}
-use Rattle.def_game_scale.specs.Scale.{game_unit}
-use Rattle.def_game_scale.specs.Faults.{GameFault, NotRecall, or_else, found_by, sign_fault, sum_fault, node_fault, mass_fault, number_fault, of_recall}
-use Rattle.def_game_scale.specs.First.{SignsPass, SignsFail, SumsPass, SumsFail, NodePasses, NodeFails, MassPasses, MassFails, in_signs, in_sums, in_nodes, in_masses, RecallFails, in_numbers, in_recall}
+use Rattle.def_game_scale.specs.Scale.{game_unit, whole_sum}
+use Rattle.def_game_scale.specs.Faults.{GameFault, NotRecall, or_else, found_by, sign_fault, sum_fault, node_fault, whole_sum_fault, mass_fault, number_fault, of_recall}
+use Rattle.def_game_scale.specs.First.{SignsPass, SignsFail, SumsPass, SumsFail, NodePasses, NodeFails, WholeSumPasses, WholeSumFails, MassPasses, MassFails, in_signs, in_sums, in_nodes, in_whole_sum, in_masses, RecallFails, in_numbers, in_recall}
 use Rattle.def_game_scale.specs.FaultLaws.{FindsFirstNumberFault, FindsFirstFault}
 use Rattle.def_game_scale.proofs.Walks.{or_none, or_some, none_iff, some_iff}
 use Rattle.def_game_scale.proofs.Chance.{sign_walk, sum_walk}
-use Rattle.def_game_scale.proofs.Nodes.{node_walk, mass_walk}
+use Rattle.def_game_scale.proofs.Nodes.{node_walk, mass_walk, whole_sum_walk}
 
 none_then : (a b : Option GameFault) → a ≡ None → or_else a b ≡ b
 none_then a b e = ap (λ o. or_else o b) e
@@ -27,45 +27,61 @@ pub number_first : (tables : Tables) (tree : Forest) → AreFractions tables →
 number_first tables tree h =
     let nodes : List Visit = visits tree in
     let unit : ℕ = game_unit tables tree in
+    let size : ℕ = unsigned_abs (whole_sum tables tree) in
     let a : Option GameFault = found_by (sign_fault tables) [] nodes in
     let b : Option GameFault = found_by (sum_fault tables) [] nodes in
     let c : Option GameFault = found_by (node_fault tables) [] nodes in
-    let d : Option GameFault = found_by (mass_fault tables unit) [] nodes in
+    let d : Option GameFault = found_by (whole_sum_fault size) [] nodes in
+    let e : Option GameFault = found_by (mass_fault tables unit) [] nodes in
     let signs = none_iff (sign_fault tables) (SignsPass tables) (SignsFail tables) (sign_walk tables) nodes in
     let sums = none_iff (sum_fault tables) (SumsPass tables) (SumsFail tables) (sum_walk tables h) nodes in
-    let numbers = none_iff (node_fault tables) (NodePasses tables) (NodeFails tables) (node_walk tables h) nodes in
+    let numbers = none_iff (node_fault tables) (NodePasses tables) (NodeFails tables) (node_walk tables) nodes in
+    let wholes = none_iff (whole_sum_fault size) (WholeSumPasses size) (WholeSumFails size) (whole_sum_walk size) nodes in
     let masses = none_iff (mass_fault tables unit) (MassPasses tables unit) (MassFails tables unit) (mass_walk tables unit) nodes in
     let sign = some_iff (sign_fault tables) (SignsPass tables) (SignsFail tables) (sign_walk tables) nodes in
     let sum = some_iff (sum_fault tables) (SumsPass tables) (SumsFail tables) (sum_walk tables h) nodes in
-    let number = some_iff (node_fault tables) (NodePasses tables) (NodeFails tables) (node_walk tables h) nodes in
+    let number = some_iff (node_fault tables) (NodePasses tables) (NodeFails tables) (node_walk tables) nodes in
+    let whole = some_iff (whole_sum_fault size) (WholeSumPasses size) (WholeSumFails size) (whole_sum_walk size) nodes in
     let mass = some_iff (mass_fault tables unit) (MassPasses tables unit) (MassFails tables unit) (mass_walk tables unit) nodes in
     record {
       some = λ fault. (
-        λ e. elim (or_some a (or_else b (or_else c d)) fault e) [
+        λ is. elim (or_some a (or_else b (or_else c (or_else d e))) fault is) [
           | inl here ↦ in_signs ((sign fault).0 here)
-          | inr first ↦ elim (or_some b (or_else c d) fault first.1) [
+          | inr first ↦ elim (or_some b (or_else c (or_else d e)) fault first.1) [
             | inl here ↦ in_sums (signs.0 first.0) ((sum fault).0 here)
-            | inr second ↦ elim (or_some c d fault second.1) [
+            | inr second ↦ elim (or_some c (or_else d e) fault second.1) [
               | inl here ↦ in_nodes (signs.0 first.0) (sums.0 second.0) ((number fault).0 here)
-              | inr third ↦ in_masses (signs.0 first.0) (sums.0 second.0) (numbers.0 third.0) ((mass fault).0 third.1)
+              | inr third ↦ elim (or_some d e fault third.1) [
+                | inl here ↦ in_whole_sum (signs.0 first.0) (sums.0 second.0) (numbers.0 third.0) ((whole fault).0 here)
+                | inr fourth ↦ in_masses (signs.0 first.0) (sums.0 second.0) (numbers.0 third.0) (wholes.0 fourth.0) ((mass fault).0 fourth.1)
+              ]
             ]
           ]
         ],
         λ first. elim first [
-          | in_signs fails ↦ some_then a (or_else b (or_else c d)) fault ((sign fault).1 fails)
-          | in_sums p fails ↦ none_then a (or_else b (or_else c d)) (signs.1 p) ∙ some_then b (or_else c d) fault ((sum fault).1 fails)
-          | in_nodes p q fails ↦ none_then a (or_else b (or_else c d)) (signs.1 p) ∙ none_then b (or_else c d) (sums.1 q) ∙ some_then c d fault ((number fault).1 fails)
-          | in_masses p q r fails ↦
-              none_then a (or_else b (or_else c d)) (signs.1 p) ∙ none_then b (or_else c d) (sums.1 q) ∙ none_then c d (numbers.1 r) ∙ (mass fault).1 fails
+          | in_signs fails ↦ some_then a (or_else b (or_else c (or_else d e))) fault ((sign fault).1 fails)
+          | in_sums p fails ↦ none_then a (or_else b (or_else c (or_else d e))) (signs.1 p) ∙ some_then b (or_else c (or_else d e)) fault ((sum fault).1 fails)
+          | in_nodes p q fails ↦
+              none_then a (or_else b (or_else c (or_else d e))) (signs.1 p) ∙ none_then b (or_else c (or_else d e)) (sums.1 q)
+              ∙ some_then c (or_else d e) fault ((number fault).1 fails)
+          | in_whole_sum p q r fails ↦
+              none_then a (or_else b (or_else c (or_else d e))) (signs.1 p) ∙ none_then b (or_else c (or_else d e)) (sums.1 q)
+              ∙ none_then c (or_else d e) (numbers.1 r) ∙ some_then d e fault ((whole fault).1 fails)
+          | in_masses p q r s fails ↦
+              none_then a (or_else b (or_else c (or_else d e))) (signs.1 p) ∙ none_then b (or_else c (or_else d e)) (sums.1 q)
+              ∙ none_then c (or_else d e) (numbers.1 r) ∙ none_then d e (wholes.1 s) ∙ (mass fault).1 fails
         ],
       );
       none = (
-        λ e.
-            let first = or_none a (or_else b (or_else c d)) e in
-            let second = or_none b (or_else c d) first.1 in
-            let third = or_none c d second.1 in
-            record { signs = signs.0 first.0; sums = sums.0 second.0; nodes = numbers.0 third.0; masses = masses.0 third.1 },
-        λ pass. none_then a (or_else b (or_else c d)) (signs.1 pass.signs) ∙ none_then b (or_else c d) (sums.1 pass.sums) ∙ none_then c d (numbers.1 pass.nodes) ∙ masses.1 pass.masses,
+        λ is.
+            let first = or_none a (or_else b (or_else c (or_else d e))) is in
+            let second = or_none b (or_else c (or_else d e)) first.1 in
+            let third = or_none c (or_else d e) second.1 in
+            let fourth = or_none d e third.1 in
+            record { signs = signs.0 first.0; sums = sums.0 second.0; nodes = numbers.0 third.0; whole = wholes.0 fourth.0; masses = masses.0 fourth.1 },
+        λ pass.
+            none_then a (or_else b (or_else c (or_else d e))) (signs.1 pass.signs) ∙ none_then b (or_else c (or_else d e)) (sums.1 pass.sums)
+            ∙ none_then c (or_else d e) (numbers.1 pass.nodes) ∙ none_then d e (wholes.1 pass.whole) ∙ masses.1 pass.masses,
       );
     }
 

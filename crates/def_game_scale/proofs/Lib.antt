@@ -7,3 +7,4 @@ pub mod Chance
 pub mod Nodes
 pub mod First
 pub mod Sound
+pub mod ZeroSum

@@ -1,79 +1,104 @@
--- The walks over the nodes' numbers: reach, payoffs and unit, and the mass.
-use Rattle.std.proofs.Common.{◌≡◌, ◌≢◌, ℕ, ◌≤◌, Bool, true, false, not, cond, ◌&&◌, List, [], ◌∷◌, ◌++◌, refl, ap, sym, ◌∙◌, arith, zero, suc, Some, None, inl, inr}
-use Rattle.std.specs.Prelude.{Option, ℤ, pos, negsuc, ◌*ℤ◌, unsigned_abs, nat_le, nat_lt}
-use Rattle.std.proofs.lemmas.Bool.{and_from, and_parts, eqb-true, le-leb, le-ltb, leb-false, leb-true, lt-leb, lt-ltb, ltb-false, ltb-true, not-false, not-true}
-use Rattle.std.proofs.Math.IntN.{zero-*ℤ}
-use Rattle.def_fraction.specs.Fraction.{Fraction, IsInLowestTerms, fits, most, sum_of, zero_fraction}
-use Rattle.def_fraction.proofs.FractionLemmas.{same_from_value}
-use Rattle.def_game_paths.specs.Paths.{Move, Visit, is_leaf}
-use Rattle.def_game_scale.specs.Tables.{Payoffs, Tables, AreFractions, path_payoff, payoffs_of, payoff_one, payoff_two, reach}
-use Rattle.def_game_scale.specs.Scale.{expected, mass_so_far, unit_so_far}
-use Rattle.def_game_scale.proofs.Expected.{at-or, lowest-sum}
-use Rattle.def_game_scale.specs.Faults.{GameFault, NotZeroSum, Scale, passing, number_after, is_zero, leaf_fault, node_fault, mass_fault}
-use Rattle.def_game_scale.specs.First.{PathFits, LeafPasses, NodePasses, NodeFails, reach_past, one_past, two_past, not_zero_sum, expected_past, unit_past, MassPasses, MassFails}
-use Rattle.def_game_scale.proofs.Walks.{passing_none, passing_some, passed, not_passed, IsWalk}
-use Rattle.def_game_scale.proofs.Chance.{nothing-lowest, test_passed}
+-- The walks over the nodes' numbers: reach, payoffs, their sum and the unit; that sum in the unit; and the mass.
+use Rattle.std.proofs.Common.{◌≡◌, ◌≢◌, ℕ, ◌<◌, ◌≤◌, Bool, true, false, not, cond, ◌&&◌, List, [], ◌∷◌, ◌++◌, refl, ap, sym, ◌∙◌, arith, Some, None, inl, inr}
+use Rattle.std.specs.Prelude.{Option, ℤ, pos, negsuc, unsigned_abs, eqb, nat_le, nat_lt}
+use Rattle.std.specs.Bool.{Decides}
+use Rattle.std.specs.Ordering.{int_eq}
+use Rattle.std.proofs.lemmas.Bool.{and_from, and_parts, false_from_ne_true, le-leb, le-ltb, leb-false, leb-true, lt-leb, lt-ltb, ltb-false, ltb-true, not-false, not-true}
+use Rattle.std.proofs.lemmas.Bool.Decides.{Decides-and, Decides-eqb, Decides-int_eq, Decides-like}
+use Rattle.def_fraction.specs.Fraction.{Fraction, fits, most}
+use Rattle.def_game_paths.specs.Paths.{Visit, is_leaf}
+use Rattle.def_game_scale.specs.Tables.{Tables, paid_together, payoff_one, payoff_two, reach}
+use Rattle.def_game_scale.specs.Scale.{expected, mass_so_far, sum_so_far, unit_so_far}
+use Rattle.def_game_scale.specs.Faults.{GameFault, NotConstantSum, Scale, passing, number_after, is_same, leaf_fault, node_fault, mass_fault, whole_sum_fault}
+use Rattle.def_game_scale.specs.First.{PathFits, LeafPasses, NodePasses, NodeFails, reach_past, one_past, two_past, sum_past, not_constant_sum, expected_past, unit_past, MassPasses, MassFails, WholeSumPasses, WholeSumFails}
+use Rattle.def_game_scale.proofs.Walks.{each-all, passing_none, passing_some, passed, not_passed, IsWalk}
+use Rattle.def_game_scale.proofs.Chance.{test_passed}
 
 -- a signed number whose size is 0 is 0
 pub no_size : (n : ℤ) → unsigned_abs n ≡ 0 → n ≡ pos 0
 no_size (pos n) e = ap pos e
 no_size (negsuc n) e = absurd (omega arith)
 
--- a fraction in lowest terms whose numerator is 0 is nothing
-is-nothing : (f : Fraction) → IsInLowestTerms f → is_zero f ≡ true → f ≡ zero_fraction
-is-nothing f low e =
-    let num : f.num ≡ pos 0 = no_size f.num (eqb-true (unsigned_abs f.num) 0 e) in
-    same_from_value f zero_fraction low nothing-lowest (ap (λ n. n *ℤ pos 1) num ∙ zero-*ℤ (pos 1) ∙ sym (zero-*ℤ (pos f.den)))
+-- the test whether two fractions are the same
+pub same_decided : (f g : Fraction) → Decides (is_same f g) (f ≡ g)
+same_decided f g =
+    Decides-like (is_same f g) (λ p. ap (λ (n : ℤ). record { num = n; den = f.den }) p.0 ∙ ap (λ (d : ℕ). record { num = g.num; den = d }) p.1)
+    (λ e. (ap (λ (h : Fraction). h.num) e, ap (λ (h : Fraction). h.den) e))
+    (Decides-and (int_eq f.num g.num) (eqb f.den g.den) (Decides-int_eq f.num g.num) (Decides-eqb f.den g.den))
 
-path-positive : (of : Payoffs → Fraction) (tables : Tables) (path : List Move)
-    → ((o : ℕ) → 1 ≤ (of (payoffs_of tables o)).den) → 1 ≤ (path_payoff of tables path).den
-path-positive of tables [] h = omega arith
-path-positive of tables (step ∷ rest) h = (lowest-sum (path_payoff of tables rest) (of (payoffs_of tables step.node.outcome)) (path-positive of tables rest h) (h step.node.outcome)).positive
+not_same : (f g : Fraction) → f ≢ g → is_same f g ≡ false
+not_same f g differs = false_from_ne_true (is_same f g) (λ same. differs ((same_decided f g).0 same))
 
-one-positive : (tables : Tables) → AreFractions tables → (o : ℕ) → 1 ≤ (payoffs_of tables o).one.den
-one-positive tables h zero = omega arith
-one-positive tables h (suc o) = at-or (λ (p : Payoffs). 1 ≤ p.one.den) tables.outcomes o (record { one = zero_fraction; two = zero_fraction }) (λ k d there. (h.outcomes k d there).0.positive) (omega arith)
+differ : (f g : Fraction) → is_same f g ≡ false → f ≢ g
+differ f g e same = let no : true ≡ false = sym ((same_decided f g).1 same) ∙ e in cc
 
-two-positive : (tables : Tables) → AreFractions tables → (o : ℕ) → 1 ≤ (payoffs_of tables o).two.den
-two-positive tables h zero = omega arith
-two-positive tables h (suc o) = at-or (λ (p : Payoffs). 1 ≤ p.two.den) tables.outcomes o (record { one = zero_fraction; two = zero_fraction }) (λ k d there. (h.outcomes k d there).1.positive) (omega arith)
+module _ (tables : Tables) (before : List Visit) (v : Visit) where
+  abbrev here : GameFault
+  here = Scale (number_after before)
 
-sum-lowest : (tables : Tables) (v : Visit) → AreFractions tables
-    → IsInLowestTerms (sum_of (payoff_one tables v) (payoff_two tables v))
-sum-lowest tables v h =
-    lowest-sum (payoff_one tables v) (payoff_two tables v)
-    (lowest-sum (path_payoff (λ p. p.one) tables v.path) (payoffs_of tables v.node.outcome).one (path-positive (λ p. p.one) tables v.path (one-positive tables h)) (one-positive tables h v.node.outcome)).positive
-    (lowest-sum (path_payoff (λ p. p.two) tables v.path) (payoffs_of tables v.node.outcome).two (path-positive (λ p. p.two) tables v.path (two-positive tables h)) (two-positive tables h v.node.outcome)).positive
+  abbrev paid : Fraction
+  paid = paid_together tables v
 
-not_zero : (f : Fraction) → IsInLowestTerms f → f ≢ zero_fraction → is_zero f ≡ false
-not_zero f low differs = elim (is_zero f) as (λ b. is_zero f ≡ b → b ≡ false) [
-  | true ↦ λ same. absurd (differs (is-nothing f low same))
-  | false ↦ λ other. refl
-] refl
+  abbrev first : Fraction
+  first = sum_so_far tables (before ++ (v ∷ []))
 
-not-nothing : (f : Fraction) → is_zero f ≡ false → f ≢ zero_fraction
-not-nothing f e same = let no : true ≡ false = sym (ap is_zero same) ∙ e in cc
+  abbrev unit : ℕ
+  unit = unit_so_far tables (before ++ (v ∷ []))
 
-leaf_none : (tables : Tables) → AreFractions tables → (before : List Visit) (v : Visit)
-    → leaf_fault tables before v ≡ None → LeafPasses tables before v
-leaf_none tables h before v e =
-    let k = Scale (number_after before) in
-    let unit : ℕ = unit_so_far tables (before ++ (v ∷ [])) in
-    let zero_sum = passing_none (is_zero (sum_of (payoff_one tables v) (payoff_two tables v))) (NotZeroSum (number_after before)) (passing (fits (expected tables v)) k (passing (nat_le unit most) k None)) e in
-    let expects = passing_none (fits (expected tables v)) k (passing (nat_le unit most) k None) zero_sum.1 in
-    record {
-      zero_sum = is-nothing (sum_of (payoff_one tables v) (payoff_two tables v)) (sum-lowest tables v h) zero_sum.0;
-      expected_fits = expects.0;
-      unit_fits = leb-true unit most (passing_none (nat_le unit most) k None expects.1).0;
-    }
+  -- the tests of a leaf from the last one on
+  abbrev unit_test : Option GameFault
+  unit_test = passing (nat_le unit most) here None
 
-leaf_none_by : (tables : Tables) (before : List Visit) (v : Visit) → LeafPasses tables before v
-    → leaf_fault tables before v ≡ None
-leaf_none_by tables before v pass =
-    let k = Scale (number_after before) in
-    let unit : ℕ = unit_so_far tables (before ++ (v ∷ [])) in
-    passed (is_zero (sum_of (payoff_one tables v) (payoff_two tables v))) (NotZeroSum (number_after before)) (passing (fits (expected tables v)) k (passing (nat_le unit most) k None)) (ap is_zero pass.zero_sum)
-    ∙ passed (fits (expected tables v)) k (passing (nat_le unit most) k None) pass.expected_fits ∙ passed (nat_le unit most) k None (le-leb unit most pass.unit_fits)
+  abbrev expected_test : Option GameFault
+  expected_test = passing (fits (expected tables v)) here unit_test
+
+  abbrev same_test : Option GameFault
+  same_test = passing (is_same paid first) (NotConstantSum (number_after before)) expected_test
+
+  leaf_none : leaf_fault tables before v ≡ None → LeafPasses tables before v
+  leaf_none e =
+      let sum = passing_none (fits paid) here same_test e in
+      let same = passing_none (is_same paid first) (NotConstantSum (number_after before)) expected_test sum.1 in
+      let expects = passing_none (fits (expected tables v)) here unit_test same.1 in
+      record {
+        sum_fits = sum.0;
+        pays_the_sum = (same_decided paid first).0 same.0;
+        expected_fits = expects.0;
+        unit_fits = leb-true unit most (passing_none (nat_le unit most) here None expects.1).0;
+      }
+
+  sum_passed : fits paid ≡ true → leaf_fault tables before v ≡ same_test
+  sum_passed sum = passed (fits paid) here same_test sum
+
+  same_passed : fits paid ≡ true → paid ≡ first → leaf_fault tables before v ≡ expected_test
+  same_passed sum same = sum_passed sum ∙ passed (is_same paid first) (NotConstantSum (number_after before)) expected_test ((same_decided paid first).1 same)
+
+  expected_passed : fits paid ≡ true → paid ≡ first → fits (expected tables v) ≡ true
+      → leaf_fault tables before v ≡ unit_test
+  expected_passed sum same expects = same_passed sum same ∙ passed (fits (expected tables v)) here unit_test expects
+
+  leaf_none_by : LeafPasses tables before v → leaf_fault tables before v ≡ None
+  leaf_none_by pass =
+      expected_passed pass.sum_fits pass.pays_the_sum pass.expected_fits ∙ passed (nat_le unit most) here None (le-leb unit most pass.unit_fits)
+
+  leaf_some : (fault : GameFault) → PathFits tables v → is_leaf v ≡ true → leaf_fault tables before v ≡ Some fault
+      → NodeFails tables before v fault
+  leaf_some fault path leaf e =
+      elim (passing_some (fits paid) here same_test fault e) [
+        | inl past ↦ sum_past path leaf past.0 past.1
+        | inr sum ↦ elim (passing_some (is_same paid first) (NotConstantSum (number_after before)) expected_test fault sum.1) [
+          | inl other ↦ not_constant_sum path leaf sum.0 (differ paid first other.0) other.1
+          | inr same ↦
+              let pays = (same_decided paid first).0 same.0 in
+              elim (passing_some (fits (expected tables v)) here unit_test fault same.1) [
+                | inl past ↦ expected_past path leaf sum.0 pays past.0 past.1
+                | inr expects ↦ elim (passing_some (nat_le unit most) here None fault expects.1) [
+                  | inl past ↦ unit_past path leaf sum.0 pays expects.0 (leb-false unit most past.0) past.1
+                  | inr none ↦ let no = none.1 in cc
+                ]
+              ]
+        ]
+      ]
 
 -- past the tests at every node comes the leaf's
 after_path : (tables : Tables) (before : List Visit) (v : Visit) → PathFits tables v
@@ -88,9 +113,9 @@ at_leaf : (tables : Tables) (before : List Visit) (v : Visit) → PathFits table
     → node_fault tables before v ≡ leaf_fault tables before v
 at_leaf tables before v path leaf = after_path tables before v path ∙ ap (λ b. cond b (leaf_fault tables before v) None) leaf
 
-node_none : (tables : Tables) → AreFractions tables → (before : List Visit) (v : Visit)
+node_none : (tables : Tables) (before : List Visit) (v : Visit)
     → node_fault tables before v ≡ None → NodePasses tables before v
-node_none tables h before v e =
+node_none tables before v e =
     let k = Scale (number_after before) in
     let rest : Option GameFault = cond (is_leaf v) (leaf_fault tables before v) None in
     let first = passing_none (fits (reach tables v.path)) k (passing (fits (payoff_one tables v)) k (passing (fits (payoff_two tables v)) k rest)) e in
@@ -98,7 +123,7 @@ node_none tables h before v e =
     let third = passing_none (fits (payoff_two tables v)) k rest second.1 in
     record {
       path = record { reach_fits = first.0; one_fits = second.0; two_fits = third.0 };
-      leaf = λ leaf. leaf_none tables h before v (ap (λ b. cond b (leaf_fault tables before v) None) (sym leaf) ∙ third.1);
+      leaf = λ leaf. leaf_none tables before v (ap (λ b. cond b (leaf_fault tables before v) None) (sym leaf) ∙ third.1);
     }
 
 node_none_by : (tables : Tables) (before : List Visit) (v : Visit) (b : Bool) → is_leaf v ≡ b
@@ -106,28 +131,9 @@ node_none_by : (tables : Tables) (before : List Visit) (v : Visit) (b : Bool) �
 node_none_by tables before v true leaf pass = at_leaf tables before v pass.path leaf ∙ leaf_none_by tables before v (pass.leaf leaf)
 node_none_by tables before v false inner pass = after_path tables before v pass.path ∙ ap (λ b. cond b (leaf_fault tables before v) None) inner
 
-leaf_some : (tables : Tables) → AreFractions tables → (before : List Visit) (v : Visit) (fault : GameFault)
-    → PathFits tables v → is_leaf v ≡ true → leaf_fault tables before v ≡ Some fault → NodeFails tables before v fault
-leaf_some tables h before v fault path leaf e =
-    let k = Scale (number_after before) in
-    let unit : ℕ = unit_so_far tables (before ++ (v ∷ [])) in
-    let total : Fraction = sum_of (payoff_one tables v) (payoff_two tables v) in
-    elim (passing_some (is_zero total) (NotZeroSum (number_after before)) (passing (fits (expected tables v)) k (passing (nat_le unit most) k None)) fault e) [
-      | inl here ↦ not_zero_sum path leaf (not-nothing total here.0) here.1
-      | inr later ↦
-          let zero_sum = is-nothing total (sum-lowest tables v h) later.0 in
-          elim (passing_some (fits (expected tables v)) k (passing (nat_le unit most) k None) fault later.1) [
-            | inl here ↦ expected_past path leaf zero_sum here.0 here.1
-            | inr last ↦ elim (passing_some (nat_le unit most) k None fault last.1) [
-              | inl here ↦ unit_past path leaf zero_sum last.0 (leb-false unit most here.0) here.1
-              | inr none ↦ let no = none.1 in cc
-            ]
-          ]
-    ]
-
-node_some : (tables : Tables) → AreFractions tables → (before : List Visit) (v : Visit) (fault : GameFault)
+node_some : (tables : Tables) (before : List Visit) (v : Visit) (fault : GameFault)
     → node_fault tables before v ≡ Some fault → NodeFails tables before v fault
-node_some tables h before v fault e =
+node_some tables before v fault e =
     let k = Scale (number_after before) in
     let rest : Option GameFault = cond (is_leaf v) (leaf_fault tables before v) None in
     elim (passing_some (fits (reach tables v.path)) k (passing (fits (payoff_one tables v)) k (passing (fits (payoff_two tables v)) k rest)) fault e) [
@@ -138,58 +144,82 @@ node_some tables h before v fault e =
           | inl here ↦ two_past first.0 second.0 here.0 here.1
           | inr third ↦
               let leaf = test_passed (is_leaf v) (leaf_fault tables before v) fault third.1 in
-              leaf_some tables h before v fault (record { reach_fits = first.0; one_fits = second.0; two_fits = third.0 }) leaf.0 leaf.1
+              leaf_some tables before v fault (record { reach_fits = first.0; one_fits = second.0; two_fits = third.0 }) leaf.0 leaf.1
         ]
       ]
     ]
 
-node_some_by : (tables : Tables) → AreFractions tables → (before : List Visit) (v : Visit) (fault : GameFault)
+node_some_by : (tables : Tables) (before : List Visit) (v : Visit) (fault : GameFault)
     → NodeFails tables before v fault → node_fault tables before v ≡ Some fault
-node_some_by tables h before v fault (reach_past fails is) =
+node_some_by tables before v fault (reach_past fails is) =
     let k = Scale (number_after before) in
     let rest : Option GameFault = cond (is_leaf v) (leaf_fault tables before v) None in
     not_passed (fits (reach tables v.path)) k (passing (fits (payoff_one tables v)) k (passing (fits (payoff_two tables v)) k rest)) fault fails is
-node_some_by tables h before v fault (one_past first fails is) =
+node_some_by tables before v fault (one_past first fails is) =
     let k = Scale (number_after before) in
     let rest : Option GameFault = cond (is_leaf v) (leaf_fault tables before v) None in
     passed (fits (reach tables v.path)) k (passing (fits (payoff_one tables v)) k (passing (fits (payoff_two tables v)) k rest)) first
     ∙ not_passed (fits (payoff_one tables v)) k (passing (fits (payoff_two tables v)) k rest) fault fails is
-node_some_by tables h before v fault (two_past first second fails is) =
+node_some_by tables before v fault (two_past first second fails is) =
     let k = Scale (number_after before) in
     let rest : Option GameFault = cond (is_leaf v) (leaf_fault tables before v) None in
     passed (fits (reach tables v.path)) k (passing (fits (payoff_one tables v)) k (passing (fits (payoff_two tables v)) k rest)) first
     ∙ passed (fits (payoff_one tables v)) k (passing (fits (payoff_two tables v)) k rest) second ∙ not_passed (fits (payoff_two tables v)) k rest fault fails is
-node_some_by tables h before v fault (not_zero_sum path leaf differs is) =
-    let k = Scale (number_after before) in
+node_some_by tables before v fault (sum_past path leaf fails is) =
+    at_leaf tables before v path leaf ∙ not_passed (fits (paid_together tables v)) (Scale (number_after before)) (same_test tables before v) fault fails is
+node_some_by tables before v fault (not_constant_sum path leaf sum differs is) =
+    let paid : Fraction = paid_together tables v in
+    let first : Fraction = sum_so_far tables (before ++ (v ∷ [])) in
+    at_leaf tables before v path leaf ∙ sum_passed tables before v sum
+    ∙ not_passed (is_same paid first) (NotConstantSum (number_after before)) (expected_test tables before v) fault (not_same paid first differs) is
+node_some_by tables before v fault (expected_past path leaf sum same fails is) =
+    at_leaf tables before v path leaf ∙ same_passed tables before v sum same
+    ∙ not_passed (fits (expected tables v)) (Scale (number_after before)) (unit_test tables before v) fault fails is
+node_some_by tables before v fault (unit_past path leaf sum same within over is) =
     let unit : ℕ = unit_so_far tables (before ++ (v ∷ [])) in
-    let total : Fraction = sum_of (payoff_one tables v) (payoff_two tables v) in
-    at_leaf tables before v path leaf
-    ∙ not_passed (is_zero total) (NotZeroSum (number_after before)) (passing (fits (expected tables v)) k (passing (nat_le unit most) k None)) fault (not_zero total (sum-lowest tables v h) differs) is
-node_some_by tables h before v fault (expected_past path leaf zero_sum fails is) =
-    let k = Scale (number_after before) in
-    let unit : ℕ = unit_so_far tables (before ++ (v ∷ [])) in
-    let total : Fraction = sum_of (payoff_one tables v) (payoff_two tables v) in
-    at_leaf tables before v path leaf
-    ∙ passed (is_zero total) (NotZeroSum (number_after before)) (passing (fits (expected tables v)) k (passing (nat_le unit most) k None)) (ap is_zero zero_sum)
-    ∙ not_passed (fits (expected tables v)) k (passing (nat_le unit most) k None) fault fails is
-node_some_by tables h before v fault (unit_past path leaf zero_sum within over is) =
-    let k = Scale (number_after before) in
-    let unit : ℕ = unit_so_far tables (before ++ (v ∷ [])) in
-    let total : Fraction = sum_of (payoff_one tables v) (payoff_two tables v) in
-    at_leaf tables before v path leaf
-    ∙ passed (is_zero total) (NotZeroSum (number_after before)) (passing (fits (expected tables v)) k (passing (nat_le unit most) k None)) (ap is_zero zero_sum)
-    ∙ passed (fits (expected tables v)) k (passing (nat_le unit most) k None) within
-    ∙ not_passed (nat_le unit most) k None fault (lt-leb unit most over) is
+    at_leaf tables before v path leaf ∙ expected_passed tables before v sum same within
+    ∙ not_passed (nat_le unit most) (Scale (number_after before)) None fault (lt-leb unit most over) is
 
--- the test of nodes tells exactly where reach, payoffs or unit pass the limit or payoffs aren't zero-sum
-pub node_walk : (tables : Tables) → AreFractions tables
-    → IsWalk (node_fault tables) (NodePasses tables) (NodeFails tables)
-node_walk tables h = record {
-  passes = node_none tables h;
+-- the test of nodes tells exactly where reach, payoffs, their sum or the unit pass the limit or the sum is another
+pub node_walk : (tables : Tables) → IsWalk (node_fault tables) (NodePasses tables) (NodeFails tables)
+node_walk tables = record {
+  passes = node_none tables;
   none = λ before v pass. node_none_by tables before v (is_leaf v) refl pass;
-  fails = λ before v fault earlier e. node_some tables h before v fault e;
-  some = node_some_by tables h;
+  fails = λ before v fault earlier e. node_some tables before v fault e;
+  some = node_some_by tables;
 }
+
+-- what is tested at a leaf alone
+leaf_passes : (b : Bool) (over : Bool) → not (b && over) ≡ true → b ≡ true → over ≡ false
+leaf_passes b over test leaf = ap (λ t. t && over) (sym leaf) ∙ not-true (b && over) test
+
+-- the test of the sum in the unit tells exactly the first leaf, where the size passes the limit
+pub whole_sum_walk : (size : ℕ) → IsWalk (whole_sum_fault size) (WholeSumPasses size) (WholeSumFails size)
+whole_sum_walk size = record {
+  passes = λ before v e leaf. ltb-false most size (leaf_passes (is_leaf v) (nat_lt most size) (passing_none (not (is_leaf v && nat_lt most size)) (Scale (number_after before)) None e).0 leaf);
+  none = λ before v pass. none_by before v (is_leaf v) refl pass;
+  fails = λ before v fault earlier e. elim (passing_some (not (is_leaf v && nat_lt most size)) (Scale (number_after before)) None fault e) [
+    | inl here ↦
+        let parts = and_parts (is_leaf v) (nat_lt most size) (not-false (is_leaf v && nat_lt most size) here.0) in
+        let past : most < size = ltb-true most size parts.1 in
+        record {
+          leaf = parts.0;
+          first = each-all (λ w. is_leaf w ≡ false) before
+              (λ b w a p. false_from_ne_true (is_leaf w) (λ leaf. let within : size ≤ most = earlier b w a p leaf in absurd (omega arith)));
+          past = past;
+          fault_is = here.1;
+        }
+    | inr none ↦ let no = none.1 in cc
+  ];
+  some = λ before v fault fails.
+      not_passed (not (is_leaf v && nat_lt most size)) (Scale (number_after before)) None fault (ap not (and_from (is_leaf v) (nat_lt most size) fails.leaf (lt-ltb most size fails.past))) fails.fault_is;
+}
+  where
+    none_by : (before : List Visit) (v : Visit) (b : Bool) → is_leaf v ≡ b → WholeSumPasses size before v
+        → whole_sum_fault size before v ≡ None
+    none_by before v true leaf pass =
+        passed (not (is_leaf v && nat_lt most size)) (Scale (number_after before)) None (ap not (ap (λ b. b && nat_lt most size) leaf ∙ le-ltb most size (pass leaf)))
+    none_by before v false inner pass = passed (not (is_leaf v && nat_lt most size)) (Scale (number_after before)) None (ap (λ b. not (b && nat_lt most size)) inner)
 
 -- the test of the mass tells exactly the leaf at which the mass so far passes the limit
 pub mass_walk : (tables : Tables) (unit : ℕ)

@@ -1,16 +1,17 @@
 -- What a game without a fault is.
-use Rattle.std.proofs.Common.{◌≡◌, ℕ, ◌≤◌, true, false, cond, List, [], ◌∷◌, ◌++◌, refl, ap, sym, subst, arith, None}
-use Rattle.std.specs.Prelude.{All, filter}
+use Rattle.std.proofs.Common.{◌≡◌, ℕ, ◌≤◌, true, false, cond, List, [], ◌∷◌, ◌++◌, refl, ap, sym, subst, ◌∙◌, arith, None}
+use Rattle.std.specs.Prelude.{All, filter, unsigned_abs}
 use Rattle.std.proofs.lemmas.List.{append-nil, append_assoc}
+use Rattle.std.proofs.lemmas.List.Quantifiers.{Any-push}
 use Rattle.std.proofs.lemmas.List.Elements.{All-cons, All-head, All-nil, All-tail}
 use Rattle.def_tree.specs.Tree.{Forest}
-use Rattle.def_fraction.specs.Fraction.{most}
+use Rattle.def_fraction.specs.Fraction.{Fraction, most}
 use Rattle.def_game_paths.specs.Paths.{Visit, visits, is_leaf}
-use Rattle.def_game_scale.specs.Tables.{Tables, AreFractions}
-use Rattle.def_game_scale.specs.Scale.{game_unit, mass_so_far, unit_so_far}
-use Rattle.def_game_scale.proofs.Running.{grows}
+use Rattle.def_game_scale.specs.Tables.{Tables, AreFractions, game_sum, paid_together}
+use Rattle.def_game_scale.specs.Scale.{game_unit, mass_so_far, sum_so_far, unit_so_far, weight_of}
+use Rattle.def_game_scale.proofs.Running.{grows, inner-sum, sum-behind}
 use Rattle.def_game_scale.specs.Faults.{game_fault, number_fault}
-use Rattle.def_game_scale.specs.First.{PassNumbers, PayoffsAreZeroSum, SignsPass, SumsPass}
+use Rattle.def_game_scale.specs.First.{PassNumbers, SignsPass, SumsPass}
 use Rattle.def_game_scale.specs.FaultLaws.{HasSoundNumbers, IsSound}
 use Rattle.def_game_scale.proofs.Walks.{each-all}
 use Rattle.def_game_scale.proofs.First.{game_first, number_first}
@@ -44,23 +45,34 @@ within_along f inner done (v ∷ rest) start each =
     (within_along f inner (done ++ (v ∷ [])) rest next
     (λ before w after p leaf. subst (λ d. f (d ++ (w ∷ [])) ≤ most) (sym (append_assoc done (v ∷ []) before)) (each (v ∷ before) w after (ap (λ xs. v ∷ xs) p) leaf)))
 
+-- the sum up to a leaf is that of all nodes
+sum-at_leaf : (tables : Tables) (nodes before : List Visit) (v : Visit) (after : List Visit)
+    → nodes ≡ before ++ (v ∷ after) → is_leaf v ≡ true
+    → sum_so_far tables (before ++ (v ∷ [])) ≡ sum_so_far tables nodes
+sum-at_leaf tables nodes before v after p leaf =
+    sym (ap (sum_so_far tables) (p ∙ sym (append_assoc before (v ∷ []) after)) ∙ sum-behind tables (before ++ (v ∷ [])) after (Any-push (λ w. is_leaf w ≡ true) before v leaf))
+
 -- numbers are sound where the tables' fractions are in lowest terms and each node passes each walk over the numbers
 pub passing_numbers : (tables : Tables) (tree : Forest) → AreFractions tables → PassNumbers tables tree
     → HasSoundNumbers tables tree
 passing_numbers tables tree h numbers =
     let nodes : List Visit = visits tree in
     let unit : ℕ = game_unit tables tree in
+    let sum : Fraction = game_sum tables tree in
+    let PaysIt : Visit → Type 0 = λ v. paid_together tables v ≡ sum in
     let signs = each-all (SignsPass tables []) nodes numbers.signs in
     let sums = each-all (SumsPass tables []) nodes numbers.sums in
     record {
       chance = λ k d there chance. record { positive = signs k d there chance; total = (sums k d there chance).1 };
-      zero_sum = leaves-all (PayoffsAreZeroSum tables) nodes (each-all (λ v. is_leaf v ≡ true → PayoffsAreZeroSum tables v) nodes (λ before v after p leaf. ((numbers.nodes before v after p).leaf leaf).zero_sum));
+      constant_sum = leaves-all PaysIt nodes (each-all (λ v. is_leaf v ≡ true → PaysIt v) nodes (λ before v after p leaf. ((numbers.nodes before v after p).leaf leaf).pays_the_sum ∙ sum-at_leaf tables nodes before v after p leaf));
       unit_within =
           within_along (unit_so_far tables) (λ before v other. (grows tables h unit before v).inner_unit other) [] nodes (omega arith) (λ before v after p leaf. ((numbers.nodes before v after p).leaf leaf).unit_fits);
+      whole_sum_within = within_along (λ vs. unsigned_abs (weight_of unit (sum_so_far tables vs))) (λ before v other. ap (λ f. unsigned_abs (weight_of unit f)) (inner-sum tables before v other)) [] nodes (omega arith)
+          (λ before v after p leaf. subst (λ f. unsigned_abs (weight_of unit f) ≤ most) (sym (sum-at_leaf tables nodes before v after p leaf)) (numbers.whole before v after p leaf));
       mass_within = within_along (mass_so_far tables unit) (λ before v other. (grows tables h unit before v).inner_mass other) [] nodes (omega arith) (λ before v after p leaf. numbers.masses before v after p leaf);
     }
 
--- numbers without a fault are probabilities and zero-sum payoffs, with unit and mass within the limit
+-- numbers without a fault are probabilities and payoffs of constant sum, with unit, sum and mass within the limit
 pub sound_numbers : (tables : Tables) (tree : Forest) → AreFractions tables → number_fault tables tree ≡ None
     → HasSoundNumbers tables tree
 sound_numbers tables tree h e = passing_numbers tables tree h ((number_first tables tree h).none.0 e)

@@ -1,10 +1,10 @@
 -- The least common multiple of the denominators is the least unit.
 use Rattle.std.proofs.Common.{◌≡◌, ℕ, zero, suc, ◌*◌, ◌/◌, ◌≤◌, List, [], ◌∷◌, get_or, ap, sym, subst, ◌∙◌, arith}
-use Rattle.std.specs.Prelude.{ℤ, pos, ◌*ℤ◌, unsigned_abs, All}
+use Rattle.std.specs.Prelude.{pos, ◌*ℤ◌, unsigned_abs, All}
 use Prim.Native.Nat.{◌∣◌}
 use Rattle.std.proofs.lemmas.Int.{unsigned_abs-mul}
 use Rattle.std.proofs.lemmas.List.Elements.{All-nil, All-cons, All-head, All-tail, All-weaker}
-use Rattle.std.proofs.lemmas.Nat.Gcd.{dvd_trans, le_of_dvd}
+use Rattle.std.proofs.lemmas.Nat.Gcd.{dvd_antisymm, dvd_trans, le_of_dvd}
 use Rattle.std.proofs.Math.Nat.{div-mul_cancel, dvd-mul_left, dvd-mul_right, one-dvd, eq-zero_of_zero-dvd, one-le-mul}
 use Rattle.def_fraction.specs.Divisors.{lcm}
 use Rattle.def_fraction.specs.Fraction.{Fraction, IsInLowestTerms}
@@ -20,6 +20,16 @@ divisor-positive (suc m) n h k = omega arith
 
 pub lcm-positive : (a b : ℕ) → 1 ≤ a → 1 ≤ b → 1 ≤ lcm a b
 lcm-positive a b ha hb = divisor-positive (lcm a b) (a * b) ((IsLcm-lcm a b ha hb).least (a * b) (dvd-mul_right a b) (dvd-mul_left b a)) (one-le-mul ha hb)
+
+-- what divides the first of two numbers adds nothing to the least common multiple of both
+pub lcm-absorbs : (a b c : ℕ) → 1 ≤ a → 1 ≤ b → 1 ≤ c → a ∣ b → lcm b (lcm a c) ≡ lcm b c
+lcm-absorbs a b c some_a some_b some_c divides =
+    let inner = IsLcm-lcm a c some_a some_c in
+    let outer = IsLcm-lcm b (lcm a c) some_b (lcm-positive a c some_a some_c) in
+    let both = IsLcm-lcm b c some_b some_c in
+    dvd_antisymm
+    (outer.least (lcm b c) both.first_divides (inner.least (lcm b c) (dvd_trans a divides both.first_divides) both.second_divides))
+    (both.least (lcm b (lcm a c)) outer.first_divides (dvd_trans c inner.second_divides outer.second_divides))
 
 -- the unit of fractions in lowest terms isn't 0
 pub unit-positive : (fs : List Fraction) → All IsInLowestTerms fs → 1 ≤ unit_of fs

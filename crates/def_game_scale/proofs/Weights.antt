@@ -12,11 +12,11 @@ use Rattle.def_fraction.specs.Fraction.{Fraction, IsInLowestTerms, product_of, w
 use Rattle.def_fraction.proofs.DivisorLemmas.{gcd-with_one}
 use Rattle.def_fraction.proofs.FractionLemmas.{fraction_of-value}
 use Rattle.def_game_paths.specs.Paths.{Visit, leaf_visits}
-use Rattle.def_game_scale.specs.Tables.{Tables, AreFractions}
-use Rattle.def_game_scale.specs.Scale.{expected, game_unit, weight_of, weights}
+use Rattle.def_game_scale.specs.Tables.{Tables, AreFractions, game_sum}
+use Rattle.def_game_scale.specs.Scale.{all_expected, all_fractions, expected, game_unit, weight_of, weights, whole_sum}
 use Rattle.def_game_scale.specs.Laws.{IsMultiple, IsWeightOf}
 use Rattle.def_game_scale.proofs.Units.{den-divides, whole-weight}
-use Rattle.def_game_scale.proofs.Expected.{all-lowest, expected-lowest}
+use Rattle.def_game_scale.proofs.Expected.{expected-lowest, fractions-lowest}
 
 pub whole-lowest : (n : ℤ) → IsInLowestTerms (whole_number n)
 whole-lowest n = record { positive = omega arith; coprime = gcd-with_one (unsigned_abs n) }
@@ -45,4 +45,15 @@ whole-along tables unit (v ∷ rest) h all = (
 -- there are as many weights as leaves, and each is exactly the unit times its leaf's reach times payoff
 pub whole-weights : (tables : Tables) (tree : Forest) → AreFractions tables
     → AllZip (IsWeightOf tables (game_unit tables tree)) (leaf_visits tree) (weights tables tree)
-whole-weights tables tree h = whole-along tables (game_unit tables tree) (leaf_visits tree) h (den-divides (map (expected tables) (leaf_visits tree)) (all-lowest tables tree h))
+whole-weights tables tree h =
+    let Divides : Fraction → Type 0 = λ f. f.den ∣ game_unit tables tree in
+    whole-along tables (game_unit tables tree) (leaf_visits tree) h
+    (All-tail Divides (game_sum tables tree) (all_expected tables tree) (den-divides (all_fractions tables tree) (fractions-lowest tables tree h)))
+
+-- the game's sum is whole in the unit
+pub whole-sum : (tables : Tables) (tree : Forest) → AreFractions tables
+    → IsMultiple (game_unit tables tree) (game_sum tables tree) (whole_sum tables tree)
+whole-sum tables tree h =
+    let Divides : Fraction → Type 0 = λ f. f.den ∣ game_unit tables tree in
+    whole-weight (game_unit tables tree) (game_sum tables tree)
+    (All-head Divides (game_sum tables tree) (all_expected tables tree) (den-divides (all_fractions tables tree) (fractions-lowest tables tree h)))

@@ -1,12 +1,12 @@
 -- What the first fault of a game is, and what a game without one is.
-use Rattle.std.specs.Prelude.{◌≡◌, ◌↔◌, ◌≤◌, pos, ◌≤ℤ◌, List, Some, None, All}
+use Rattle.std.specs.Prelude.{◌≡◌, ◌↔◌, ◌≤◌, pos, ◌≤ℤ◌, unsigned_abs, List, Some, None, All}
 use Rattle.def_tree.specs.declared.Kind.TheVariants.{Chance}
 use Rattle.def_tree.specs.Tree.{Forest}
 use Rattle.def_fraction.specs.Fraction.{Fraction, most}
 use Rattle.def_game_paths.specs.Paths.{visits}
 use Rattle.def_game_paths.specs.Recall.{HasPerfectRecall}
-use Rattle.def_game_scale.specs.Tables.{Tables, AreFractions, IsZeroSum, probabilities}
-use Rattle.def_game_scale.specs.Scale.{game_mass, game_unit}
+use Rattle.def_game_scale.specs.Tables.{Tables, AreFractions, IsConstantSum, probabilities}
+use Rattle.def_game_scale.specs.Scale.{game_mass, game_unit, whole_sum}
 use Rattle.def_game_scale.specs.Faults.{GameFault, game_fault, number_fault}
 use Rattle.def_game_scale.specs.First.{AddUpToOne, FirstGameFault, FirstNumberFault, PassNumbers}
 
@@ -31,13 +31,14 @@ pub record AreProbabilities (fractions : List Fraction) : Type 0 where
   pub positive : All (λ p. pos 0 ≤ℤ p.num) fractions
   pub total : AddUpToOne fractions
 
--- at each chance node chance plays by probabilities, at each leaf one player gets what the other pays, and the unit and
--- the mass are within the limit
+-- at each chance node chance plays by probabilities, all leaves pay both players together the same, and the unit, this
+-- sum in the unit and the mass are within the limit
 pub record HasSoundNumbers (tables : Tables) (tree : Forest) : Type 0 where
   pub chance : All (λ visit. visit.node.kind ≡ Chance → AreProbabilities (probabilities tables visit.node.set))
       (visits tree)
-  pub zero_sum : IsZeroSum tables tree
+  pub constant_sum : IsConstantSum tables tree
   pub unit_within : game_unit tables tree ≤ most
+  pub whole_sum_within : unsigned_abs (whole_sum tables tree) ≤ most
   pub mass_within : game_mass tables tree ≤ most
 
 abbrev pub NoNumberFaultIsSound : Type 0

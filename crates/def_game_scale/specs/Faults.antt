@@ -3,9 +3,11 @@
 --     NodeTest, found_by test before nodes     what a walk looks for at a node, and the first that it finds
 --     number_fault tables tree                the first fault of the numbers
 --     game_fault tables tree                  the first fault, recall included
--- The walks: the signs of probabilities; their sums; reach, payoffs and unit; the mass; recall.
+-- The walks: the signs of probabilities; their sums; reach, payoffs, what a leaf pays both players together, and the
+-- unit; that sum in the unit; the mass; recall.
 -- Nodes are numbered from 1.
 use Rattle.std.specs.Prelude.{ℕ, ◌+◌, Bool, true, false, not, ◌&&◌, nat_eq, nat_le, nat_lt, if◌then◌else◌, List, [], ◌∷◌, ◌++◌, length, Option, Some, None, ℤ, pos, negsuc, unsigned_abs}
+use Rattle.std.specs.Ordering.{int_eq}
 use Rattle.std.specs.List.{list_any}
 use Rattle.def_tree.specs.declared.Kind.TheVariants.{Chance}
 use Rattle.def_tree.specs.Tree.{Forest}
@@ -13,13 +15,13 @@ use Rattle.def_tree.specs.Rules.{is_same_kind}
 use Rattle.def_fraction.specs.Fraction.{Fraction, fits, most, sum_of, zero_fraction}
 use Rattle.def_game_paths.specs.Paths.{Visit, visits, is_leaf}
 use Rattle.def_game_paths.specs.Recall.{RecallBreak, recall_break}
-use Rattle.def_game_scale.specs.Tables.{Tables, payoff_one, payoff_two, probabilities, reach}
-use Rattle.def_game_scale.specs.Scale.{expected, game_unit, mass_so_far, unit_so_far}
+use Rattle.def_game_scale.specs.Tables.{Tables, paid_together, payoff_one, payoff_two, probabilities, reach}
+use Rattle.def_game_scale.specs.Scale.{expected, game_unit, mass_so_far, sum_so_far, unit_so_far, whole_sum}
 
 pub data GameFault : Type 0 where
   ChanceNegative : (node : ℕ) → GameFault
   ChanceSum : (node : ℕ) → GameFault
-  NotZeroSum : (node : ℕ) → GameFault
+  NotConstantSum : (node : ℕ) → GameFault
   NotRecall : (node earlier : ℕ) → GameFault
   Scale : (node : ℕ) → GameFault
 
@@ -55,12 +57,15 @@ is_below_zero (negsuc _) = true
 abbrev pub is_negative : Fraction → Bool
 is_negative f = is_below_zero f.num
 
--- of fractions in lowest terms: the value is 0, or 1
+-- of fractions in lowest terms: the value is 0, or 1, or that of another
 abbrev pub is_zero : Fraction → Bool
 is_zero f = nat_eq (unsigned_abs f.num) 0
 
 abbrev pub is_one : Fraction → Bool
 is_one f = not (is_negative f) && nat_eq (unsigned_abs f.num) f.den
+
+abbrev pub is_same : Fraction → Fraction → Bool
+is_same f g = int_eq f.num g.num && nat_eq f.den g.den
 
 -- A chance set's probabilities are those of each of its nodes, so a fault of theirs is found at the set's first node.
 
@@ -76,13 +81,14 @@ adding_fault number running (p ∷ rest) = passing (fits (sum_of running p)) (Sc
 abbrev pub sum_fault : Tables → NodeTest
 sum_fault tables before node = if is_chance node then adding_fault (number_after before) zero_fraction (probabilities tables node.node.set) else None
 
--- at a leaf: the payoffs don't add up to 0, or what it is expected to pay passes the limit,
--- or the unit of the leaves so far does
+-- at a leaf: the sum of its payoffs passes the limit, or isn't that of the first leaf, or what it is expected to pay
+-- passes the limit, or the unit of the leaves so far does
 abbrev pub leaf_fault : Tables → NodeTest
 leaf_fault tables before node =
-    passing (is_zero (sum_of (payoff_one tables node) (payoff_two tables node))) (NotZeroSum (number_after before))
+    passing (fits (paid_together tables node)) (Scale (number_after before))
+    (passing (is_same (paid_together tables node) (sum_so_far tables (before ++ (node ∷ [])))) (NotConstantSum (number_after before))
     (passing (fits (expected tables node)) (Scale (number_after before))
-    (passing (nat_le (unit_so_far tables (before ++ (node ∷ []))) most) (Scale (number_after before)) None))
+    (passing (nat_le (unit_so_far tables (before ++ (node ∷ []))) most) (Scale (number_after before)) None)))
 
 -- at each node: its reach or a payoff of its path passes the limit
 abbrev pub node_fault : Tables → NodeTest
@@ -91,6 +97,10 @@ node_fault tables before node =
     (passing (fits (payoff_one tables node)) (Scale (number_after before))
     (passing (fits (payoff_two tables node)) (Scale (number_after before))
     (if is_leaf node then leaf_fault tables before node else None)))
+
+-- at a leaf, and so at the first one: the game's sum in its unit, of this size, passes the limit
+abbrev pub whole_sum_fault : ℕ → NodeTest
+whole_sum_fault size before node = passing (not (is_leaf node && nat_lt most size)) (Scale (number_after before)) None
 
 -- at each leaf: the mass of the leaves so far passes the limit
 abbrev pub mass_fault : Tables → ℕ → NodeTest
@@ -102,7 +112,8 @@ number_fault tables tree =
     or_else (found_by (sign_fault tables) [] (visits tree))
     (or_else (found_by (sum_fault tables) [] (visits tree))
     (or_else (found_by (node_fault tables) [] (visits tree))
-    (found_by (mass_fault tables (game_unit tables tree)) [] (visits tree))))
+    (or_else (found_by (whole_sum_fault (unsigned_abs (whole_sum tables tree))) [] (visits tree))
+    (found_by (mass_fault tables (game_unit tables tree)) [] (visits tree)))))
 
 abbrev pub of_recall : Option RecallBreak → Option GameFault
 of_recall None = None

@@ -3,15 +3,15 @@
 --     PassNumbers tables tree                 each node passes each walk over the numbers
 --     FirstNumberFault, FirstGameFault        the fault is the first one of the numbers, or with recall
 -- `Passes` and `Fails` say of a node, behind those before it, that it passes a walk, and that it fails with a fault.
-use Rattle.std.specs.Prelude.{◌≡◌, ◌≢◌, ℕ, ◌-◌, ◌<◌, ◌≤◌, true, false, pos, ◌<ℤ◌, ◌≤ℤ◌, List, [], ◌∷◌, ◌++◌, length, take, slice_index_or, All, Any}
+use Rattle.std.specs.Prelude.{◌≡◌, ◌≢◌, ℕ, ◌-◌, ◌<◌, ◌≤◌, true, false, pos, ◌<ℤ◌, ◌≤ℤ◌, unsigned_abs, List, [], ◌∷◌, ◌++◌, length, take, slice_index_or, All, Any}
 use Rattle.def_tree.specs.declared.Kind.TheVariants.{Chance}
 use Rattle.def_tree.specs.Tree.{Forest}
 use Rattle.def_fraction.specs.Fraction.{Fraction, fits, most, sum_of, zero_fraction}
 use Rattle.def_game_paths.specs.Paths.{Visit, visits, is_leaf}
 use Rattle.def_game_paths.specs.Recall.{IsFirstBreak}
-use Rattle.def_game_scale.specs.Tables.{Tables, certain, payoff_one, payoff_two, probabilities, reach}
-use Rattle.def_game_scale.specs.Scale.{expected, game_unit, mass_so_far, unit_so_far}
-use Rattle.def_game_scale.specs.Faults.{GameFault, ChanceNegative, ChanceSum, NotZeroSum, NotRecall, Scale, number_after}
+use Rattle.def_game_scale.specs.Tables.{Tables, certain, paid_together, payoff_one, payoff_two, probabilities, reach}
+use Rattle.def_game_scale.specs.Scale.{expected, game_unit, mass_so_far, sum_so_far, unit_so_far, whole_sum}
+use Rattle.def_game_scale.specs.Faults.{GameFault, ChanceNegative, ChanceSum, NotConstantSum, NotRecall, Scale, number_after}
 
 -- each of the nodes passes, behind those before it
 abbrev pub EachPasses : (List Visit → Visit → Type 0) → List Visit → Type 0
@@ -68,19 +68,21 @@ pub data SumsFail (tables : Tables) (before : List Visit) (node : Visit) (fault 
       → sum_from zero_fraction (probabilities tables node.node.set) ≢ certain
       → fault ≡ ChanceSum (number_after before) → SumsFail tables before node fault
 
--- The third walk: reach and payoffs are within the limit at each node; at each leaf the payoffs add up to 0, and reach
--- times payoff and the unit so far are within the limit.
+-- The third walk: reach and payoffs are within the limit at each node; at each leaf the payoffs add up to a number
+-- within the limit, which is that of the first leaf, and reach times payoff and the unit so far are within the limit.
 
 pub record PathFits (tables : Tables) (node : Visit) : Type 0 where
   pub reach_fits : fits (reach tables node.path) ≡ true
   pub one_fits : fits (payoff_one tables node) ≡ true
   pub two_fits : fits (payoff_two tables node) ≡ true
 
-abbrev pub PayoffsAreZeroSum : Tables → Visit → Type 0
-PayoffsAreZeroSum tables leaf = sum_of (payoff_one tables leaf) (payoff_two tables leaf) ≡ zero_fraction
+-- the leaf pays both players together what the first leaf up to it does
+abbrev pub PaysTheSum : Tables → List Visit → Visit → Type 0
+PaysTheSum tables before leaf = paid_together tables leaf ≡ sum_so_far tables (before ++ (leaf ∷ []))
 
 pub record LeafPasses (tables : Tables) (before : List Visit) (leaf : Visit) : Type 0 where
-  pub zero_sum : PayoffsAreZeroSum tables leaf
+  pub sum_fits : fits (paid_together tables leaf) ≡ true
+  pub pays_the_sum : PaysTheSum tables before leaf
   pub expected_fits : fits (expected tables leaf) ≡ true
   pub unit_fits : unit_so_far tables (before ++ (leaf ∷ [])) ≤ most
 
@@ -97,17 +99,31 @@ pub data NodeFails (tables : Tables) (before : List Visit) (node : Visit) (fault
   two_past : fits (reach tables node.path) ≡ true → fits (payoff_one tables node) ≡ true
       → fits (payoff_two tables node) ≡ false
       → fault ≡ Scale (number_after before) → NodeFails tables before node fault
-  not_zero_sum : PathFits tables node → is_leaf node ≡ true
-      → sum_of (payoff_one tables node) (payoff_two tables node) ≢ zero_fraction
-      → fault ≡ NotZeroSum (number_after before) → NodeFails tables before node fault
-  expected_past : PathFits tables node → is_leaf node ≡ true → PayoffsAreZeroSum tables node
-      → fits (expected tables node) ≡ false
+  sum_past : PathFits tables node → is_leaf node ≡ true → fits (paid_together tables node) ≡ false
       → fault ≡ Scale (number_after before) → NodeFails tables before node fault
-  unit_past : PathFits tables node → is_leaf node ≡ true → PayoffsAreZeroSum tables node
-      → fits (expected tables node) ≡ true → most < unit_so_far tables (before ++ (node ∷ []))
+  not_constant_sum : PathFits tables node → is_leaf node ≡ true → fits (paid_together tables node) ≡ true
+      → paid_together tables node ≢ sum_so_far tables (before ++ (node ∷ []))
+      → fault ≡ NotConstantSum (number_after before) → NodeFails tables before node fault
+  expected_past : PathFits tables node → is_leaf node ≡ true → fits (paid_together tables node) ≡ true
+      → PaysTheSum tables before node → fits (expected tables node) ≡ false
+      → fault ≡ Scale (number_after before) → NodeFails tables before node fault
+  unit_past : PathFits tables node → is_leaf node ≡ true → fits (paid_together tables node) ≡ true
+      → PaysTheSum tables before node → fits (expected tables node) ≡ true
+      → most < unit_so_far tables (before ++ (node ∷ []))
       → fault ≡ Scale (number_after before) → NodeFails tables before node fault
 
--- The fourth walk: at each leaf the mass so far, in the game's unit, is within the limit.
+-- The fourth walk: the game's sum, in its unit, is within the limit, or fails at the first leaf; then at each leaf the
+-- mass so far, in the game's unit, is within the limit.
+
+-- `size` is that of the sum in the game's unit
+abbrev pub WholeSumPasses : ℕ → List Visit → Visit → Type 0
+WholeSumPasses size before node = is_leaf node ≡ true → size ≤ most
+
+pub record WholeSumFails (size : ℕ) (before : List Visit) (node : Visit) (fault : GameFault) : Type 0 where
+  pub leaf : is_leaf node ≡ true
+  pub first : All (λ earlier. is_leaf earlier ≡ false) before
+  pub past : most < size
+  pub fault_is : fault ≡ Scale (number_after before)
 
 abbrev pub MassPasses : Tables → ℕ → List Visit → Visit → Type 0
 MassPasses tables unit before node = is_leaf node ≡ true → mass_so_far tables unit (before ++ (node ∷ [])) ≤ most
@@ -123,6 +139,7 @@ pub record PassNumbers (tables : Tables) (tree : Forest) : Type 0 where
   pub signs : EachPasses (SignsPass tables) (visits tree)
   pub sums : EachPasses (SumsPass tables) (visits tree)
   pub nodes : EachPasses (NodePasses tables) (visits tree)
+  pub whole : EachPasses (WholeSumPasses (unsigned_abs (whole_sum tables tree))) (visits tree)
   pub masses : EachPasses (MassPasses tables (game_unit tables tree)) (visits tree)
 
 pub data FirstNumberFault (tables : Tables) (tree : Forest) (fault : GameFault) : Type 0 where
@@ -131,8 +148,13 @@ pub data FirstNumberFault (tables : Tables) (tree : Forest) (fault : GameFault) 
       → FailsFirst (SumsPass tables) (SumsFail tables) (visits tree) fault → FirstNumberFault tables tree fault
   in_nodes : EachPasses (SignsPass tables) (visits tree) → EachPasses (SumsPass tables) (visits tree)
       → FailsFirst (NodePasses tables) (NodeFails tables) (visits tree) fault → FirstNumberFault tables tree fault
+  in_whole_sum : EachPasses (SignsPass tables) (visits tree) → EachPasses (SumsPass tables) (visits tree)
+      → EachPasses (NodePasses tables) (visits tree)
+      → FailsFirst (WholeSumPasses (unsigned_abs (whole_sum tables tree))) (WholeSumFails (unsigned_abs (whole_sum tables tree))) (visits tree) fault
+      → FirstNumberFault tables tree fault
   in_masses : EachPasses (SignsPass tables) (visits tree) → EachPasses (SumsPass tables) (visits tree)
       → EachPasses (NodePasses tables) (visits tree)
+      → EachPasses (WholeSumPasses (unsigned_abs (whole_sum tables tree))) (visits tree)
       → FailsFirst (MassPasses tables (game_unit tables tree)) (MassFails tables (game_unit tables tree)) (visits tree) fault
       → FirstNumberFault tables tree fault
 

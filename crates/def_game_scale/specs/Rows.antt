@@ -1,11 +1,11 @@
--- Units, weights and masses of small games.
+-- Sums, units, weights and masses of small games.
 use Rattle.std.specs.Prelude.{◌≡◌, ℤ, pos, negsuc, [], ◌∷◌, map}
 use Rattle.def_tree.specs.declared.Kind.TheVariants.{Chance, One, Two, Leaf}
 use Rattle.def_tree.specs.Tree.{Forest, forest_of}
 use Rattle.def_tree.specs.Rules.{node_of_numbers}
-use Rattle.def_fraction.specs.Fraction.{Fraction, whole_number, over}
+use Rattle.def_fraction.specs.Fraction.{Fraction, whole_number, over, zero_fraction}
 use Rattle.def_game_paths.specs.Paths.{leaf_visits}
-use Rattle.def_game_scale.specs.Tables.{Tables, payoff_one, payoff_two, reach}
+use Rattle.def_game_scale.specs.Tables.{Tables, game_sum, payoff_one, payoff_two, reach}
 use Rattle.def_game_scale.specs.Scale.{game_mass, game_unit, weights}
 
 -- a choice between two tosses of one coin
@@ -41,9 +41,11 @@ uneven_tables = record {
 }
 
 pub record ScaleRows : Type 0 where
+  pub toss_sum : game_sum toss_tables tosses ≡ zero_fraction
   pub toss_unit : game_unit toss_tables tosses ≡ 2
   pub toss_weights : weights toss_tables tosses ≡ pos 1 ∷ pos 0 ∷ pos 0 ∷ negsuc 0 ∷ []
   pub toss_mass : game_mass toss_tables tosses ≡ 2
+  pub inner_sum : game_sum inner_tables inner ≡ zero_fraction
   pub inner_unit : game_unit inner_tables inner ≡ 2
   pub inner_weights : weights inner_tables inner ≡ pos 2 ∷ pos 1 ∷ []
   pub inner_mass : game_mass inner_tables inner ≡ 3
@@ -56,6 +58,7 @@ pub record ScaleRows : Type 0 where
   pub uneven_twos : map (payoff_two uneven_tables)
       (leaf_visits uneven)
       ≡ over (negsuc 1) 3 ∷ over (pos 16) 3 ∷ over (pos 13) 3 ∷ over (pos 16) 3 ∷ over (pos 16) 3 ∷ []
+  pub uneven_sum : game_sum uneven_tables uneven ≡ over (pos 11) 6
   pub uneven_unit : game_unit uneven_tables uneven ≡ 48
   pub uneven_weights : weights uneven_tables uneven ≡ pos 60 ∷ negsuc 7 ∷ pos 24 ∷ negsuc 0 ∷ negsuc 2 ∷ []
   pub uneven_mass : game_mass uneven_tables uneven ≡ 96

@@ -16,8 +16,8 @@ pub fn game_fault_is_first()
     ensures { GameFaultIsFirst }
 {}
 
-/// With tables in lowest terms and no fault of the numbers, chance plays by probabilities, each leaf's payoffs add up
-/// to 0, and unit and mass are within the limit.
+/// With tables in lowest terms and no fault of the numbers, chance plays by probabilities, all leaves' payoffs add up to
+/// the same number, and the unit, this sum in it and the mass are within the limit.
 pub fn no_number_fault_is_sound()
     ensures { NoNumberFaultIsSound }
 {}
@@ -39,7 +39,8 @@ pub fn order_rows()
     ensures { OrderRows }
 {}
 
-/// Seven games have no fault, and these units, weights and masses; a mass or a unit of exactly 2^62 is allowed.
+/// These games have no fault, and these sums, units, weights and masses; a mass, a unit or a sum in the unit of exactly
+/// 2^62 is allowed.
 pub fn faultless_rows()
     ensures { FaultlessRows }
 {}

@@ -1,19 +1,19 @@
 -- A sum with nothing, and one that is 0.
-use Rattle.std.proofs.Common.{◌≡◌, ℕ, suc, ◌*◌, ◌/◌, ◌%◌, ◌≤◌, true, false, refl, ap, sym, subst, ◌∙◌, arith, eq-eqb}
-use Rattle.std.specs.Prelude.{ℤ, pos, negsuc, neg_ℤ, ◌+ℤ◌, ◌*ℤ◌, unsigned_abs, nat_le, IsTrue}
-use Rattle.std.proofs.lemmas.Bool.{and_from, eqb-true, false_from_ne_true, le-leb}
+use Rattle.std.proofs.Common.{◌≡◌, ℕ, suc, ◌*◌, ◌/◌, ◌%◌, ◌≤◌, true, refl, ap, sym, subst, ◌∙◌, arith, eq-eqb}
+use Rattle.std.specs.Prelude.{ℤ, pos, negsuc, neg_ℤ, ◌+ℤ◌, ◌*ℤ◌, unsigned_abs}
+use Rattle.std.proofs.lemmas.Bool.{eqb-true}
 use Prim.Native.Nat.{◌∣◌}
 use Rattle.std.proofs.lemmas.Int.{ints}
 use Rattle.std.proofs.lemmas.Nat.Gcd.{dvd-zero, dvd_antisymm, dvd_of_mod-eq-zero, dvd_refl, le_of_dvd}
 use Rattle.std.proofs.Math.IntN.{pos-*ℤ-pos}
 use Rattle.std.proofs.Math.Nat.{zero-div, one-mul}
 use Rattle.def_fraction.specs.Divisors.{gcd, lcm}
-use Rattle.def_fraction.specs.Fraction.{Fraction, IsInLowestTerms, fits, fraction_of, most, sum_of, without_factor, zero_fraction}
+use Rattle.def_fraction.specs.Fraction.{Fraction, IsInLowestTerms, fraction_of, sum_of, without_factor, zero_fraction}
 use Rattle.def_fraction.proofs.DivisorLemmas.{IsGcd-gcd, IsLcm-lcm}
 use Rattle.def_fraction.proofs.FractionLemmas.{fraction_of-lowest, neg-times, unsigned_abs-without_factor}
-use Rattle.def_game_scale.proofs.Expected.{lowest-sum}
 use Rattle.def_game_scale.specs.Faults.{is_zero}
 use Rattle.def_game_scale.proofs.Nodes.{no_size}
+use Rattle.def_game_scale.proofs.Units.{lcm-positive}
 
 -- with nothing more a fraction stays
 pub sum_nothing : (f : Fraction) → IsInLowestTerms f → sum_of f zero_fraction ≡ f
@@ -95,14 +95,14 @@ unit_stays den unit some_den some_unit divided =
     let multiple = IsLcm-lcm den unit some_den some_unit in
     dvd_antisymm (multiple.least unit (dvd_of_mod-eq-zero den divided) (dvd_refl unit)) multiple.second_divides
 
--- 0 in lowest terms fits
-zero_fits : (f : Fraction) → IsInLowestTerms f → is_zero f ≡ true → fits f ≡ true
-zero_fits f low zero =
-    let none : unsigned_abs f.num ≡ 0 = eqb-true (unsigned_abs f.num) 0 zero in
-    let one : f.den ≤ 1 = zero_den f low zero in
-    and_from (nat_le (unsigned_abs f.num) most) (nat_le f.den most) (le-leb (unsigned_abs f.num) most (omega (arith, none))) (le-leb f.den most (omega (arith, one)))
+-- 0 in lowest terms is nothing
+pub is_nothing : (f : Fraction) → IsInLowestTerms f → is_zero f ≡ true → f ≡ zero_fraction
+is_nothing f low zero =
+    let at_most : f.den ≤ 1 = zero_den f low zero in
+    let positive = low.positive in
+    let one : f.den ≡ 1 = omega arith in
+    ap (λ (n : ℤ). record { num = n; den = f.den }) (no_size f.num (eqb-true (unsigned_abs f.num) 0 zero)) ∙ ap (λ (d : ℕ). record { num = pos 0; den = d }) one
 
--- a sum that doesn't fit isn't 0
-pub sum_past : (f g : Fraction) → IsInLowestTerms f → IsInLowestTerms g → (IsTrue (fits (sum_of f g)) → ⊥)
-    → is_zero (sum_of f g) ≡ false
-sum_past f g low_f low_g past = false_from_ne_true (is_zero (sum_of f g)) (λ zero. past (zero_fits (sum_of f g) (lowest-sum f g low_f.positive low_g.positive) zero))
+-- a least common multiple is as large as its second number
+pub lcm_above : (a b : ℕ) → 1 ≤ a → 1 ≤ b → b ≤ lcm a b
+lcm_above a b some_a some_b = le_of_dvd (lcm-positive a b some_a some_b) (IsLcm-lcm a b some_a some_b).second_divides

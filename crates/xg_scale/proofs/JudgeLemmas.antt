@@ -1,24 +1,24 @@
 -- What is judged by a path's numbers is what the walk over the nodes looks for.
-use Rattle.std.proofs.Common.{◌≡◌, ℕ, ◌+◌, ◌-◌, ◌<◌, ◌≤◌, Bool, true, false, cond, ◌&&◌, List, [], ◌∷◌, ◌++◌, get_or, take, map, filter, refl, ap, sym, ◌∙◌, arith, Some, None, slice_get}
-use Rattle.std.specs.Prelude.{Option, nat_le}
+use Rattle.std.proofs.Common.{◌≡◌, ℕ, ◌+◌, ◌-◌, ◌<◌, ◌≤◌, Bool, true, false, cond, ◌&&◌, List, [], ◌∷◌, ◌++◌, get_or, take, map, filter, refl, ap, sym, ◌∙◌, arith, append-nil, Some, None, slice_get}
+use Rattle.std.specs.Prelude.{Option, nat_le, unwrap_or}
 use Rattle.std.proofs.lemmas.List.{map-append, take_all}
-use Rattle.std.proofs.lemmas.List.Elements.{All-map, filter-append}
+use Rattle.std.proofs.lemmas.List.Elements.{All-cons, All-map, filter-append}
 use Rattle.def_tree.specs.declared.Node.{Node}
 use Rattle.def_tree.specs.Tree.{Forest, is_leaf_kind, node_count, prefix}
 use Rattle.def_tree.specs.Rules.{IsGameTree}
 use Rattle.def_fraction.specs.Divisors.{lcm}
-use Rattle.def_fraction.specs.Fraction.{IsInLowestTerms, fits, most, sum_of}
+use Rattle.def_fraction.specs.Fraction.{Fraction, IsInLowestTerms, fits, most, zero_fraction}
 use Rattle.def_game_paths.specs.Coming.{visit_after}
 use Rattle.def_game_paths.specs.Paths.{Visit, visits}
 use Rattle.def_game_paths.proofs.Coming.{IsNext, length-visits, next_node, next_visit}
-use Rattle.def_game_scale.specs.Tables.{Tables, AreFractions, payoff_one, payoff_two, reach}
-use Rattle.def_game_scale.specs.Scale.{all_expected, expected, expected_at, unit_so_far}
+use Rattle.def_game_scale.specs.Tables.{Tables, AreFractions, first_sum, game_sum, paid_together, payoff_one, payoff_two, reach}
+use Rattle.def_game_scale.specs.Scale.{all_expected, expected, expected_at, game_unit, sum_so_far, unit_so_far}
 use Rattle.def_game_scale.proofs.Running.{running}
 use Rattle.def_game_scale.proofs.Units.{unit-positive}
-use Rattle.def_game_scale.proofs.Expected.{expected-lowest}
-use Rattle.def_game_scale.specs.Faults.{GameFault, NotZeroSum, Scale, is_zero, leaf_fault, node_fault, number_after, passing}
-use Rattle.xg_scale.specs.Leaf.{judged_leaf, judged_node, unit_with, with_expected}
-use Rattle.xg_scale.specs.Walked.{all_fit, numbers_of}
+use Rattle.def_game_scale.proofs.Expected.{expected-lowest, first-lowest}
+use Rattle.def_game_scale.specs.Faults.{GameFault, NotConstantSum, Scale, is_same, leaf_fault, node_fault, number_after, passing}
+use Rattle.xg_scale.specs.Leaf.{judged_leaf, judged_node, known_with, sum_with, unit_with, with_expected}
+use Rattle.xg_scale.specs.Walked.{all_fit, known_sum, numbers_of, sum_of_first}
 use Rattle.xg_scale.proofs.FoundLemmas.{number_next}
 
 -- the leaves among some nodes and one more node
@@ -41,7 +41,45 @@ expected_all tables tree k last = ap (expected_at tables) (take_all k (visits tr
 
 -- the unit of some leaves isn't 0
 pub unit_from_one : (tables : Tables) → AreFractions tables → (before : List Visit) → 1 ≤ unit_so_far tables before
-unit_from_one tables h before = unit-positive (expected_at tables before) (All-map IsInLowestTerms (expected tables) (filter (λ (w : Visit). is_leaf_kind w.node.kind) before) (λ k d there. expected-lowest tables (get_or (filter (λ (w : Visit). is_leaf_kind w.node.kind) before) k d) h))
+unit_from_one tables h before =
+    let leaves : List Visit = filter (λ (w : Visit). is_leaf_kind w.node.kind) before in
+    unit-positive (sum_so_far tables before ∷ expected_at tables before)
+    (All-cons IsInLowestTerms (sum_so_far tables before) (expected_at tables before) (first-lowest tables leaves h)
+    (All-map IsInLowestTerms (expected tables) leaves (λ k d there. expected-lowest tables (get_or leaves k d) h)))
+
+-- the leaves among some nodes and one more node
+leaves_more : (before : List Visit) (v : Visit) (b : Bool) → is_leaf_kind v.node.kind ≡ b
+    → filter (λ (w : Visit). is_leaf_kind w.node.kind) (before ++ v ∷ [])
+    ≡ filter (λ (w : Visit). is_leaf_kind w.node.kind) before ++ cond b (v ∷ []) []
+leaves_more before v b is =
+    filter-append (λ (w : Visit). is_leaf_kind w.node.kind) before (v ∷ []) ∙ ap (λ c. filter (λ (w : Visit). is_leaf_kind w.node.kind) before ++ cond c (v ∷ []) []) is
+
+first_known : (tables : Tables) (leaves : List Visit) (v : Visit)
+    → first_sum tables (leaves ++ v ∷ []) ≡ unwrap_or (sum_of_first tables leaves) (paid_together tables v)
+first_known tables [] v = refl
+first_known tables (w ∷ rest) v = refl
+
+known_first : (tables : Tables) (leaves : List Visit) (v : Visit)
+    → sum_of_first tables (leaves ++ v ∷ []) ≡ Some (unwrap_or (sum_of_first tables leaves) (paid_together tables v))
+known_first tables [] v = refl
+known_first tables (w ∷ rest) v = refl
+
+known_or_nothing : (tables : Tables) (leaves : List Visit)
+    → unwrap_or (sum_of_first tables leaves) zero_fraction ≡ first_sum tables leaves
+known_or_nothing tables [] = refl
+known_or_nothing tables (w ∷ rest) = refl
+
+-- behind the last node the sum is the game's
+pub known_all : (tables : Tables) (tree : Forest) (k : ℕ) → k ≡ node_count tree
+    → unwrap_or (known_sum tables (take k (visits tree))) zero_fraction ≡ game_sum tables tree
+known_all tables tree k last =
+    ap (λ vs. unwrap_or (known_sum tables vs) zero_fraction) (take_all k (visits tree) (omega (arith, length-visits tree)))
+    ∙ known_or_nothing tables (filter (λ (w : Visit). is_leaf_kind w.node.kind) (visits tree))
+
+-- and the unit is too
+pub unit_all : (tables : Tables) (tree : Forest) (k : ℕ) → k ≡ node_count tree
+    → unit_so_far tables (take k (visits tree)) ≡ game_unit tables tree
+unit_all tables tree k last = ap (unit_so_far tables) (take_all k (visits tree) (omega (arith, length-visits tree)))
 
 -- tests that fit together
 all_passing : (a b c : Bool) (fault : GameFault) (later : Option GameFault)
@@ -71,41 +109,72 @@ module _ (tables : Tables) (lowest : AreFractions tables) (tree : Forest) (game 
   number : number_after before ≡ n + 1
   number = number_next tree n there
 
+  abbrev known : Option Fraction
+  known = known_sum tables before
+
+  abbrev unit : ℕ
+  unit = unit_so_far tables before
+
+  -- the sum up to a leaf
+  sum_at : is_leaf_kind v.node.kind ≡ true
+      → sum_so_far tables (before ++ v ∷ []) ≡ sum_with known (numbers_of tables v)
+  sum_at leaf = ap (first_sum tables) (leaves_more before v true leaf) ∙ first_known tables (filter (λ (w : Visit). is_leaf_kind w.node.kind) before) v
+
+  -- the unit up to a leaf
+  unit_at : is_leaf_kind v.node.kind ≡ true → unit_so_far tables (before ++ v ∷ [])
+      ≡ lcm (expected tables v).den (lcm (sum_with known (numbers_of tables v)).den unit)
+  unit_at leaf =
+      ((running tables lowest).grow 0 before v).leaf_unit leaf ∙ ap (λ (f : Fraction). lcm (expected tables v).den (lcm f.den unit)) (sum_at leaf)
+
   leaf_judged : is_leaf_kind v.node.kind ≡ true
-      → leaf_fault tables before v ≡ judged_leaf (n + 1) (unit_so_far tables before) (numbers_of tables v)
+      → leaf_fault tables before v ≡ judged_leaf (n + 1) known unit (numbers_of tables v)
   leaf_judged leaf =
-      let unit : unit_so_far tables (before ++ v ∷ []) ≡ lcm (expected tables v).den (unit_so_far tables before) = ((running tables lowest).grow 0 before v).leaf_unit leaf in
-      λ i. passing (is_zero (sum_of (payoff_one tables v) (payoff_two tables v))) (NotZeroSum (number i))
+      λ i. passing (fits (paid_together tables v)) (Scale (number i))
+      (passing (is_same (paid_together tables v) (sum_at leaf i)) (NotConstantSum (number i))
       (passing (fits (expected tables v)) (Scale (number i))
-      (passing (nat_le (unit i) most) (Scale (number i)) None))
+      (passing (nat_le (unit_at leaf i) most) (Scale (number i)) None)))
 
   -- what a walk looks for, by the numbers of the path
   pub node_judged : node_fault tables before v ≡ cond (all_fit (numbers_of tables v))
-      (judged_node (n + 1) x (unit_so_far tables before) (numbers_of tables v)) (Some (Scale (n + 1)))
+      (judged_node (n + 1) x known unit (numbers_of tables v)) (Some (Scale (n + 1)))
   node_judged =
       all_passing (fits (reach tables v.path)) (fits (payoff_one tables v)) (fits (payoff_two tables v)) (Scale (number_after before)) (cond (is_leaf_kind v.node.kind) (leaf_fault tables before v) None)
       ∙ (λ i. cond (all_fit (numbers_of tables v)) (judged i) (Some (Scale (number i))))
     where
       judged : cond (is_leaf_kind v.node.kind)
-          (leaf_fault tables before v) None ≡ judged_node (n + 1) x (unit_so_far tables before) (numbers_of tables v)
+          (leaf_fault tables before v) None ≡ judged_node (n + 1) x known unit (numbers_of tables v)
       judged = by (is_leaf_kind x.kind) refl
         where
           by : (b : Bool) → is_leaf_kind x.kind ≡ b
               → cond (is_leaf_kind v.node.kind) (leaf_fault tables before v) None
-              ≡ cond (is_leaf_kind x.kind) (judged_leaf (n + 1) (unit_so_far tables before) (numbers_of tables v)) None
-          by true leaf = ap (λ b. cond b (leaf_fault tables before v) None) (is_leaf ∙ leaf) ∙ leaf_judged (is_leaf ∙ leaf) ∙ sym (ap (λ b. cond b (judged_leaf (n + 1) (unit_so_far tables before) (numbers_of tables v)) None) leaf)
-          by false inner = ap (λ b. cond b (leaf_fault tables before v) None) (is_leaf ∙ inner) ∙ sym (ap (λ b. cond b (judged_leaf (n + 1) (unit_so_far tables before) (numbers_of tables v)) None) inner)
+              ≡ cond (is_leaf_kind x.kind) (judged_leaf (n + 1) known unit (numbers_of tables v)) None
+          by true leaf = ap (λ b. cond b (leaf_fault tables before v) None) (is_leaf ∙ leaf) ∙ leaf_judged (is_leaf ∙ leaf) ∙ sym (ap (λ b. cond b (judged_leaf (n + 1) known unit (numbers_of tables v)) None) leaf)
+          by false inner = ap (λ b. cond b (leaf_fault tables before v) None) (is_leaf ∙ inner) ∙ sym (ap (λ b. cond b (judged_leaf (n + 1) known unit (numbers_of tables v)) None) inner)
 
-  -- the unit with one more node
-  pub unit_more : unit_so_far tables (take (n + 1) (visits tree)) ≡ unit_with x (unit_so_far tables before)
-      (numbers_of tables v)
-  unit_more = ap (unit_so_far tables) next.taken ∙ by (is_leaf_kind x.kind) refl
+  -- the sum that is known with one more node
+  pub known_more : known_sum tables (take (n + 1) (visits tree)) ≡ known_with x known (numbers_of tables v)
+  known_more = ap (known_sum tables) next.taken ∙ by (is_leaf_kind x.kind) refl
     where
       by : (b : Bool) → is_leaf_kind x.kind ≡ b
-          → unit_so_far tables (before ++ v ∷ [])
-          ≡ cond (is_leaf_kind x.kind) (lcm (expected tables v).den (unit_so_far tables before)) (unit_so_far tables before)
-      by true leaf = ((running tables lowest).grow 0 before v).leaf_unit (is_leaf ∙ leaf) ∙ sym (ap (λ b. cond b (lcm (expected tables v).den (unit_so_far tables before)) (unit_so_far tables before)) leaf)
-      by false inner = ((running tables lowest).grow 0 before v).inner_unit (is_leaf ∙ inner) ∙ sym (ap (λ b. cond b (lcm (expected tables v).den (unit_so_far tables before)) (unit_so_far tables before)) inner)
+          → known_sum tables (before ++ v ∷ []) ≡ cond (is_leaf_kind x.kind) (Some (sum_with known (numbers_of tables v))) known
+      by true leaf =
+          ap (sum_of_first tables) (leaves_more before v true (is_leaf ∙ leaf)) ∙ known_first tables (filter (λ (w : Visit). is_leaf_kind w.node.kind) before) v
+          ∙ sym (ap (λ b. cond b (Some (sum_with known (numbers_of tables v))) known) leaf)
+      by false inner =
+          ap (sum_of_first tables) (leaves_more before v false (is_leaf ∙ inner) ∙ append-nil (filter (λ (w : Visit). is_leaf_kind w.node.kind) before))
+          ∙ sym (ap (λ b. cond b (Some (sum_with known (numbers_of tables v))) known) inner)
+
+  -- the unit with one more node
+  pub unit_more : unit_so_far tables (take (n + 1) (visits tree)) ≡ unit_with x known unit (numbers_of tables v)
+  unit_more = ap (unit_so_far tables) next.taken ∙ by (is_leaf_kind x.kind) refl
+    where
+      with_leaf : ℕ
+      with_leaf = lcm (expected tables v).den (lcm (sum_with known (numbers_of tables v)).den unit)
+
+      by : (b : Bool) → is_leaf_kind x.kind ≡ b
+          → unit_so_far tables (before ++ v ∷ []) ≡ cond (is_leaf_kind x.kind) with_leaf unit
+      by true leaf = unit_at (is_leaf ∙ leaf) ∙ sym (ap (λ b. cond b with_leaf unit) leaf)
+      by false inner = ((running tables lowest).grow 0 before v).inner_unit (is_leaf ∙ inner) ∙ sym (ap (λ b. cond b with_leaf unit) inner)
 
   -- what one more node is expected to pay
   pub expected_with : expected_at tables (take (n + 1) (visits tree))

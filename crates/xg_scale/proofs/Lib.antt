@@ -2,8 +2,8 @@ pub mod FoundLemmas
 pub mod FractionParts
 pub mod GameLemmas
 pub mod SetLemmas
-pub mod VisitorLemmas
 pub mod JudgeLemmas
 pub mod PathLemmas
+pub mod SumLemmas
 pub mod WeighLemmas
 pub mod WordLemmas

@@ -1,7 +1,7 @@
 -- A walk through the trees at a node's actions, below the nodes around it, finds the first fault among their nodes, or
 -- what their leaves are expected to pay.
 use Rattle.std.proofs.Common.{◌≡◌, ℕ, suc, ◌+◌, ◌-◌, ◌<◌, ◌≤◌, Bool, true, false, cond, List, [], ◌∷◌, ◌++◌, length, length-append, take, drop, map, refl, ap, sym, subst, ◌∙◌, arith, append-nil, append_assoc, inl, inr, Some, None, slice_get}
-use Rattle.std.specs.Prelude.{Option, option_map}
+use Rattle.std.specs.Prelude.{Option, option_map, unwrap_or}
 use Rattle.std.proofs.lemmas.Bool.{cases_lt}
 use Rattle.std.proofs.lemmas.List.{drop-drop, length-map}
 use Rattle.std.proofs.lemmas.Option.{slice_get-get_or, slice_get-map}
@@ -13,7 +13,7 @@ use Rattle.def_tree.specs.Events.{Event, Enter, Leave, events_from}
 use Rattle.def_tree.specs.Tree.{Forest, bare, grown, HasItsChildren, node_count, prefix, tree_count}
 use Rattle.def_tree.specs.Rules.{Fits, IsGameTree, is_same_kind}
 use Rattle.def_tree.proofs.Sets.{children-le, is_same_kind-true}
-use Rattle.def_fraction.specs.Fraction.{most, product_of, sum_of}
+use Rattle.def_fraction.specs.Fraction.{most, product_of, sum_of, zero_fraction}
 use Rattle.def_file.specs.Content.{GameFile}
 use Rattle.def_file.specs.Faults.{set_at}
 use Rattle.def_file.specs.Game.{IsWholeGame}
@@ -22,8 +22,9 @@ use Rattle.def_game_paths.specs.Paths.{Move, Visit, visits, visits_from}
 use Rattle.def_game_paths.proofs.Coming.{IsNext, length-visits, next_visit}
 use Rattle.def_game_paths.proofs.Visits.{map-visits_from}
 use Rattle.def_game_scale.specs.Faults.{GameFault, Scale, found_by, node_fault}
-use Rattle.def_game_scale.specs.Scale.{expected_at, unit_of, unit_so_far}
+use Rattle.def_game_scale.specs.Scale.{expected_at, unit_so_far}
 use Rattle.def_game_scale.specs.Tables.{AreFractions, Tables, path_payoff, payoffs_of, probability, reach}
+use Rattle.def_game_scale.proofs.Running.{running}
 use Rattle.def_game_numbers.specs.Numbers.{tables_of}
 use Rattle.xg_game.specs.declared.fault.Refused.{Refused}
 use Rattle.xg_scale.specs.declared.leaf.Expected.{Expected}
@@ -31,13 +32,13 @@ use Rattle.xg_scale.specs.declared.nodes.PathVisitor.{PathVisitor}
 use Rattle.xg_scale.specs.declared.nodes.PathWalk.{PathWalk}
 use Rattle.xg_scale.specs.declared.path.NodeOnPath.{NodeOnPath}
 use Rattle.xg_scale.specs.FaultOfFile.{RefusesBy}
-use Rattle.xg_scale.specs.Leaf.{judged_node, unit_with, with_expected}
+use Rattle.xg_scale.specs.Leaf.{judged_node, known_with, unit_with, with_expected}
 use Rattle.xg_scale.specs.OnPath.{GoesBackTo, HasNodeAround, at_action, chance_set_of, entered_node, outside}
-use Rattle.xg_scale.specs.Walked.{Enters, HasEntered, HasLeft, IsBefore, IsExpectedOf, Leaves, MayCome, MayComeNext, MayEnter, MayLeave, Steps, UnlessRefused, all_fit, next_fault, next_numbers, numbers_below, numbers_of, reach_below}
+use Rattle.xg_scale.specs.Walked.{Enters, HasEntered, HasLeft, IsBefore, IsExpectedOf, Leaves, MayCome, MayComeNext, MayEnter, MayLeave, Steps, UnlessRefused, all_fit, known_sum, next_fault, next_numbers, numbers_below, numbers_of, reach_below}
 use Rattle.xg_scale.proofs.FoundLemmas.{found_later, found_none, refuses_here}
 use Rattle.xg_scale.proofs.GameLemmas.{goes_with, in_chance_set, tree_rules}
-use Rattle.xg_scale.proofs.JudgeLemmas.{expected_all, expected_with, node_judged, unit_from_one, unit_more}
-use Rattle.xg_scale.proofs.VisitorLemmas.{RunsTo, runs_enter, runs_leave, runs_none}
+use Rattle.xg_scale.proofs.JudgeLemmas.{expected_all, expected_with, known_all, known_more, node_judged, unit_all, unit_from_one, unit_more}
+use Rattle.xg_tree.proofs.VisitorLemmas.{RunsTo, runs_enter, runs_leave, runs_none}
 
 length-visits_from : (above : ℕ → List Move) (action : ℕ) (trees : Forest)
     → length (visits_from above action trees) ≡ node_count trees
@@ -74,6 +75,7 @@ module _ (game : GameFile) (lowest : AreFractions (tables_of game)) (whole : IsW
   -- the first n nodes have no fault
   record HasPassed (n : ℕ) (expected : Expected) : Type 0 where
     rest : found ≡ found_by (node_fault tables) (take n all) (drop n all)
+    sum : expected.sum ≡ known_sum tables (take n all)
     unit : expected.unit ≡ unit_so_far tables (take n all)
     limit : expected.unit ≤ most
     fractions : expected.fractions.items ≡ expected_at tables (take n all)
@@ -228,7 +230,7 @@ module _ (game : GameFile) (lowest : AreFractions (tables_of game)) (whole : IsW
       fault_is : node_fault tables (take n all) v ≡ next_fault walk (n + 1) x
       fault_is =
           node_judged tables lowest game.tree rules n there x read
-          ∙ sym ((λ i. cond (all_fit (numbers_at_visit i)) (judged_node (n + 1) x (on.passed.unit i) (numbers_at_visit i)) (Some (Scale (n + 1)))))
+          ∙ sym ((λ i. cond (all_fit (numbers_at_visit i)) (judged_node (n + 1) x (on.passed.sum i) (on.passed.unit i) (numbers_at_visit i)) (Some (Scale (n + 1)))))
 
       may_come_next : MayComeNext walk x
       may_come_next = record {
@@ -247,7 +249,8 @@ module _ (game : GameFile) (lowest : AreFractions (tables_of game)) (whole : IsW
       goes_below new entered = record {
         passed = record {
           rest = on.passed.rest ∙ found_later game.tree (node_fault tables) n v is_next (fault_is ∙ entered.passes);
-          unit = entered.unit ∙ (λ i. unit_with x (on.passed.unit i) (numbers_at_visit i)) ∙ sym (unit_more tables lowest game.tree rules n there x read);
+          sum = entered.sum ∙ (λ i. known_with x (on.passed.sum i) (numbers_at_visit i)) ∙ sym (known_more tables lowest game.tree rules n there x read);
+          unit = entered.unit ∙ (λ i. unit_with x (on.passed.sum i) (on.passed.unit i) (numbers_at_visit i)) ∙ sym (unit_more tables lowest game.tree rules n there x read);
           limit = entered.limit;
           fractions = entered.fractions ∙ (λ i. on.passed.fractions i ++ with_expected x (numbers_at_visit i)) ∙ sym (expected_with tables lowest game.tree rules n there x read);
         };
@@ -344,7 +347,7 @@ module _ (game : GameFile) (lowest : AreFractions (tables_of game)) (whole : IsW
   stands_first visitor before = record {
     game_is = before.game_is;
     stands = subst (λ o. OrRefused o (GoesOn 0 outside [] visitor.walk)) (sym before.going) (record {
-      passed = record { rest = refl; unit = before.unit; limit = omega (arith, before.unit); fractions = before.fractions };
+      passed = record { rest = refl; sum = before.sum; unit = before.unit ∙ sym (running tables lowest).start_unit; limit = omega (arith, before.unit); fractions = before.fractions };
       innermost_is = before.innermost;
       outer_is = before.outer;
     });
@@ -354,7 +357,8 @@ module _ (game : GameFile) (lowest : AreFractions (tables_of game)) (whole : IsW
       → IsExpectedOf tables game.tree expected
   all_passed n expected last passed = record {
     passes = passed.rest ∙ found_none game.tree (node_fault tables) n last;
-    unit = passed.unit ∙ ap unit_of (expected_all tables game.tree n last);
+    sum = ap (λ o. unwrap_or o zero_fraction) passed.sum ∙ known_all tables game.tree n last;
+    unit = passed.unit ∙ unit_all tables game.tree n last;
     limit = passed.limit;
     fractions = passed.fractions ∙ expected_all tables game.tree n last;
   }

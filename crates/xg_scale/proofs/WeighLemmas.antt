@@ -1,6 +1,6 @@
 -- The weights of the leaves among the first nodes, and one node more.
 use Rattle.std.proofs.Common.{◌≡◌, ℕ, ◌+◌, ◌-◌, ◌<◌, ◌≤◌, Bool, true, false, cond, ◌&&◌, not, List, [], ◌∷◌, ◌++◌, length, get_or, take, drop, map, filter, refl, ap, sym, subst, ◌∙◌, arith, append-nil, length-append, take-append-drop, Some, None, slice_get}
-use Rattle.std.specs.Prelude.{sum, unsigned_abs, nat_lt}
+use Rattle.std.specs.Prelude.{sum, unsigned_abs, nat_lt, unwrap_or}
 use Rattle.std.proofs.lemmas.Bool.{lt-ltb, le-ltb}
 use Rattle.std.proofs.lemmas.List.{length-map, map-append}
 use Rattle.std.proofs.lemmas.List.Elements.{filter-append}
@@ -8,13 +8,13 @@ use Rattle.std.proofs.Math.Seq.{get_or-append_seam}
 use Rattle.def_tree.specs.declared.Node.{Node}
 use Rattle.def_tree.specs.Tree.{Forest, is_leaf_kind, node_count, prefix}
 use Rattle.def_tree.specs.Rules.{IsGameTree}
-use Rattle.def_fraction.specs.Fraction.{Fraction, most}
+use Rattle.def_fraction.specs.Fraction.{Fraction, most, zero_fraction}
 use Rattle.def_game_paths.specs.Coming.{visit_after}
 use Rattle.def_game_paths.specs.Paths.{Visit, visits}
 use Rattle.def_game_paths.proofs.Coming.{IsNext, next_node, next_visit}
 use Rattle.def_game_scale.specs.Tables.{Tables, AreFractions}
-use Rattle.def_game_scale.specs.Scale.{all_expected, expected, expected_at, game_unit, mass_so_far, weight_of}
-use Rattle.def_game_scale.proofs.Expected.{all-lowest}
+use Rattle.def_game_scale.specs.Scale.{all_expected, all_fractions, expected, expected_at, game_unit, mass_so_far, weight_of}
+use Rattle.def_game_scale.proofs.Expected.{fractions-lowest}
 use Rattle.def_game_scale.proofs.Running.{running}
 use Rattle.def_game_scale.proofs.Units.{unit-positive}
 use Rattle.def_game_scale.specs.Faults.{Scale, found_by, mass_fault, number_after, passing}
@@ -136,7 +136,7 @@ weighed_first tables tree unit w mass leaves = record { rest = refl; mass_is = m
 
 module _ (tables : Tables) (lowest : AreFractions tables) (tree : Forest) (found : Expected)
     (are : IsExpectedOf tables tree found) (k : ℕ) (last : k ≡ node_count tree) (w : Weighed)
-    (h : HasWeighed tables tree found.unit k w) where
+    (h : HasWeighed tables tree found.unit k w) (f : Fraction) (paid : f ≡ unwrap_or found.sum zero_fraction) where
   -- after the last node the masses have no fault
   pub masses_pass : found_by (mass_fault tables (game_unit tables tree)) [] (visits tree) ≡ None
   masses_pass = ap (λ unit. found_by (mass_fault tables unit) [] (visits tree)) (sym are.unit) ∙ h.rest ∙ found_none tree (mass_fault tables found.unit) k last
@@ -148,17 +148,18 @@ module _ (tables : Tables) (lowest : AreFractions tables) (tree : Forest) (found
   mass_all = h.mass_is ∙ ap (λ fs. sum (map unsigned_abs (map (weight_of found.unit) fs))) (expected_all tables tree k last)
 
   -- and these are the game's weights
-  pub all_weighed : weights_with found.unit w ≡ weights_of_game tables tree
+  pub all_weighed : weights_with f found.unit w ≡ weights_of_game tables tree
   all_weighed = λ i. record {
+    sum = (paid ∙ are.sum) i;
     unit = are.unit i;
     mass = (mass_all ∙ ap (λ unit. sum (map unsigned_abs (map (weight_of unit) (all_expected tables tree)))) are.unit) i;
     leaves = (leaves_all ∙ ap (λ unit. map (weight_of unit) (all_expected tables tree)) are.unit) i;
   }
 
   -- which are within the limits
-  pub keeps_weights : KeepsWeights (weights_with found.unit w)
+  pub keeps_weights : KeepsWeights (weights_with f found.unit w)
   keeps_weights = record {
-    positive = omega (arith, are.unit, unit-positive (all_expected tables tree) (all-lowest tables tree lowest));
+    positive = omega (arith, are.unit, unit-positive (all_fractions tables tree) (fractions-lowest tables tree lowest));
     limit = are.limit;
     mass_is = ap (λ ws. sum (map unsigned_abs ws)) leaves_all ∙ sym mass_all;
     mass_limit = h.limit;

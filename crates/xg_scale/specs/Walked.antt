@@ -1,20 +1,20 @@
 -- A walk that judges each node by the numbers of its path, and what it finds.
-use Rattle.std.specs.Prelude.{◌≡◌, ℕ, ◌-◌, ◌≤◌, Bool, ◌&&◌, if◌then◌else◌, [], ◌∷◌, ◌++◌, length, Option, Some, None}
+use Rattle.std.specs.Prelude.{◌≡◌, ℕ, ◌-◌, ◌≤◌, Bool, ◌&&◌, if◌then◌else◌, [], ◌∷◌, ◌++◌, filter, length, List, Option, Some, None, unwrap_or}
 use Rattle.def_tree.specs.declared.Node.{Node}
 use Rattle.def_tree.specs.declared.Player.{Player}
 use Rattle.def_tree.specs.declared.Player.TheVariants.{One, Two}
-use Rattle.def_tree.specs.Tree.{Forest}
-use Rattle.def_fraction.specs.Fraction.{Fraction, fits, most, product_of, sum_of}
+use Rattle.def_tree.specs.Tree.{Forest, is_leaf_kind}
+use Rattle.def_fraction.specs.Fraction.{Fraction, fits, most, product_of, sum_of, zero_fraction}
 use Rattle.def_file.specs.Content.{GameFile}
 use Rattle.def_file.specs.Faults.{set_at}
 use Rattle.def_game_paths.specs.Paths.{Visit, visits}
-use Rattle.def_game_scale.specs.Tables.{Payoffs, Tables, payoff_one, payoff_two, payoffs_of, probability, reach}
+use Rattle.def_game_scale.specs.Tables.{PayoffPair, Tables, game_sum, paid_together, payoff_one, payoff_two, payoffs_of, probability, reach}
 use Rattle.def_game_scale.specs.Scale.{all_expected, game_unit}
 use Rattle.def_game_scale.specs.Faults.{GameFault, Scale, found_by, node_fault}
 use Rattle.def_game_numbers.specs.Numbers.{tables_of}
 use Rattle.xg_game.specs.declared.fault.Refused.{Refused}
 use Rattle.xg_scale.specs.FaultOfFile.{RefusesBy}
-use Rattle.xg_scale.specs.Leaf.{judged_node, unit_with, with_expected}
+use Rattle.xg_scale.specs.Leaf.{judged_node, known_with, unit_with, with_expected}
 use Rattle.xg_scale.specs.OnPath.{GoesBackTo, HasNodeAround, entered_node, outside}
 use Rattle.xg_scale.specs.declared.leaf.Expected.{Expected}
 use Rattle.xg_scale.specs.declared.nodes.PathVisitor.{PathVisitor}
@@ -22,9 +22,18 @@ use Rattle.xg_scale.specs.declared.nodes.PathWalk.{PathWalk}
 use Rattle.xg_scale.specs.declared.path.NodeOnPath.{NodeOnPath}
 use Rattle.xg_scale.specs.declared.path.PathNumbers.{PathNumbers}
 
-abbrev pub paid_to : Player → Payoffs → Fraction
+abbrev pub paid_to : Player → PayoffPair → Fraction
 paid_to One payoffs = payoffs.one
 paid_to Two payoffs = payoffs.two
+
+-- what the first of some leaves pays both players together, if there is one
+abbrev pub sum_of_first : Tables → List Visit → Option Fraction
+sum_of_first tables [] = None
+sum_of_first tables (leaf ∷ _) = Some (paid_together tables leaf)
+
+-- the same of the first leaf among some nodes
+abbrev pub known_sum : Tables → List Visit → Option Fraction
+known_sum tables nodes = sum_of_first tables (filter (λ (v : Visit). is_leaf_kind v.node.kind) nodes)
 
 -- the numbers of a path to a node
 abbrev pub numbers_of : Tables → Visit → PathNumbers
@@ -65,12 +74,13 @@ next_numbers walk node = numbers_below (tables_of walk.game.now) walk.innermost 
 -- what is wrong at it, under its number
 abbrev pub next_fault : PathWalk → ℕ → Node → Option GameFault
 next_fault walk k node =
-    if all_fit (next_numbers walk node) then judged_node k node walk.expected.unit (next_numbers walk node) else Some (Scale k)
+    if all_fit (next_numbers walk node) then judged_node k node walk.expected.sum walk.expected.unit (next_numbers walk node) else Some (Scale k)
 
 -- it has no fault, and is the innermost
 pub record HasEntered (old : PathWalk) (k : ℕ) (node : Node) (new : PathWalk) : Type 0 where
   pub passes : next_fault old k node ≡ None
-  pub unit : new.expected.unit ≡ unit_with node old.expected.unit (next_numbers old node)
+  pub sum : new.expected.sum ≡ known_with node old.expected.sum (next_numbers old node)
+  pub unit : new.expected.unit ≡ unit_with node old.expected.sum old.expected.unit (next_numbers old node)
   pub limit : new.expected.unit ≤ most
   pub fractions : new.expected.fractions.items ≡ old.expected.fractions.items ++ with_expected node (next_numbers old node)
   pub innermost : new.innermost ≡ entered_node node (next_numbers old node)
@@ -110,12 +120,14 @@ pub record IsBefore (game : GameFile) (visitor : PathVisitor) : Type 0 where
   pub game_is : visitor.walk.game.now ≡ game
   pub innermost : visitor.walk.innermost ≡ outside
   pub outer : visitor.walk.outer ≡ []
+  pub sum : visitor.walk.expected.sum ≡ None
   pub unit : visitor.walk.expected.unit ≡ 1
   pub fractions : visitor.walk.expected.fractions.items ≡ []
 
--- no node has a fault, and this is what all leaves are expected to pay, with their unit
+-- no node has a fault, and this is what all leaves are expected to pay, with their sum and their unit
 pub record IsExpectedOf (tables : Tables) (tree : Forest) (found : Expected) : Type 0 where
   pub passes : found_by (node_fault tables) [] (visits tree) ≡ None
+  pub sum : unwrap_or found.sum zero_fraction ≡ game_sum tables tree
   pub unit : found.unit ≡ game_unit tables tree
   pub limit : found.unit ≤ most
   pub fractions : found.fractions.items ≡ all_expected tables tree

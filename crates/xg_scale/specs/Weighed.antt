@@ -1,18 +1,18 @@
 -- What is kept once the first k nodes were weighed.
 use Rattle.std.specs.Prelude.{◌≡◌, ℕ, ◌+◌, ◌≤◌, [], map, sum, take, drop, ℤ, unsigned_abs}
 use Rattle.def_tree.specs.Tree.{Forest}
-use Rattle.def_fraction.specs.Fraction.{most}
+use Rattle.def_fraction.specs.Fraction.{Fraction, most}
 use Rattle.def_sums.specs.Limits.{most_mass}
 use Rattle.def_game_paths.specs.Paths.{visits}
 use Rattle.def_game_scale.specs.Tables.{Tables}
 use Rattle.def_game_scale.specs.Scale.{expected_at, mass_so_far, weight_of}
-use Rattle.def_game_scale.specs.Faults.{found_by, mass_fault}
+use Rattle.def_game_scale.specs.Faults.{found_by, mass_fault, whole_sum_fault}
 use Rattle.def_game_numbers.specs.Numbers.{GameWeights}
 use Rattle.xg_scale.specs.declared.weights.Weighed.{Weighed}
 use Rattle.xg_scale.specs.declared.weights.WeighedLeaf.{WeighedLeaf}
 
-abbrev pub weights_with : ℕ → Weighed → GameWeights
-weights_with unit weighed = record { unit = unit; mass = weighed.mass; leaves = weighed.leaves.items }
+abbrev pub weights_with : Fraction → ℕ → Weighed → GameWeights
+weights_with sum unit weighed = record { sum = sum; unit = unit; mass = weighed.mass; leaves = weighed.leaves.items }
 
 -- the unit is from 1 to the limit, and the mass is the sum of the sizes, within its limit
 pub record KeepsWeights (weights : GameWeights) : Type 0 where
@@ -33,3 +33,7 @@ pub record HasWeighed (tables : Tables) (tree : Forest) (unit k : ℕ) (weighed 
   pub mass_is : weighed.mass ≡ mass_so_far tables unit (take k (visits tree))
   pub limit : weighed.mass ≤ most
   pub leaves_are : weighed.leaves.items ≡ map (weight_of unit) (expected_at tables (take k (visits tree)))
+
+-- a sum of this size, in the unit, has no fault at the first k nodes
+abbrev pub PassedWholeSum : Forest → ℕ → ℕ → Type 0
+PassedWholeSum tree size k = found_by (whole_sum_fault size) [] (visits tree) ≡ found_by (whole_sum_fault size) (take k (visits tree)) (drop k (visits tree))

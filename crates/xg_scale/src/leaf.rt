@@ -1,22 +1,24 @@
-//! What a leaf is expected to pay, and the unit.
+//! What a leaf pays both players together, what it is expected to pay, and the unit.
 ghost use Rattle.std.specs.Prelude.{◌≡◌, ◌≤◌, ◌↔◌, ◌++◌, None, neg_ℤ, IfErr, IfOk, IsTrue, OkIff, OnOk};
 ghost use Rattle.def_fraction.specs.Divisors.{lcm};
-ghost use Rattle.def_fraction.specs.Fraction.{most, product_of, sum_of};
+ghost use Rattle.def_fraction.specs.Fraction.{fits, most, product_of, sum_of};
 ghost use Rattle.def_game_scale.specs.Faults as faults;
 ghost use Rattle.def_tree.specs.Tree.{is_leaf_kind};
 ghost use Rattle.xg_scale.specs.FaultOfFile.{IsFaultOf, RefusesBy};
-ghost use Rattle.xg_scale.specs.Leaf.{judged_leaf, judged_node, unit_with, with_expected};
+ghost use Rattle.xg_scale.specs.Leaf.{judged_leaf, judged_node, known_with, leaf_unit, sum_with, unit_with, with_expected};
 
-use crate::parts::{denominator, is_zero, known};
+use crate::parts::{denominator, known, zero};
 use crate::path::PathNumbers;
 use std::alloc::Global;
 use xg_frac::{Frac, OverLimit, add, lcm, mul};
 use xg_game::{FileFault, Kind, Refused};
 use xg_tree::Node;
 
-/// Reach times player one's payoff at each leaf so far, and their unit.
+/// Of the leaves so far: what each pays both players together, which the first one tells; reach times player one's
+/// payoff at each; and the unit that makes all of this whole.
 #[derive(Drop)]
 pub(crate) struct Expected {
+    pub(crate) sum: Option<Frac>,
     pub(crate) unit: u64,
     pub(crate) fractions: Vec<Frac>,
 }
@@ -26,51 +28,82 @@ impl Expected {
     pub(crate) fn judge(&mut self, k: u32, node: Node, numbers: &PathNumbers) -> Result<(), Refused>
         requires from_one { 1 ≤ self.old.unit }
         requires limit { self.old.unit ≤ most }
-        ensures ok { OnOk result (judged_node k node self.old.unit numbers.now ≡ None) }
-        ensures unit { OnOk result (self.new.unit ≡ unit_with node self.old.unit numbers.now) }
+        ensures ok { OnOk result (judged_node k node self.old.sum self.old.unit numbers.now ≡ None) }
+        ensures sum { OnOk result (self.new.sum ≡ known_with node self.old.sum numbers.now) }
+        ensures unit { OnOk result (self.new.unit ≡ unit_with node self.old.sum self.old.unit numbers.now) }
         ensures limit { OnOk result (self.new.unit ≤ most) }
         ensures fractions { OnOk result
             (self.new.fractions.items ≡ self.old.fractions.items ++ with_expected node numbers.now) }
-        ensures err { IfErr result (RefusesBy (judged_node k node self.old.unit numbers.now)) }
+        ensures err { IfErr result (RefusesBy (judged_node k node self.old.sum self.old.unit numbers.now)) }
     {
         if !is_leaf(node) {
             return Ok(());
         }
-        let leaf = judge_leaf(k, self.unit, numbers)?;
+        let leaf = judge_leaf(k, self.sum, self.unit, numbers)?;
         let Ok(()) = self.fractions.push(leaf.expected) else {
             return Err(Refused::NoMemory);
         };
+        self.sum = Some(leaf.sum);
         self.unit = leaf.unit;
         Ok(())
     }
 }
 
-/// What a leaf is expected to pay, and the unit with it.
+/// What each leaf pays both players together, what one is expected to pay, and the unit with it.
 #[derive(Clone, Copy)]
 struct LeafNumbers {
+    sum: Frac,
     expected: Frac,
     unit: u64,
 }
 
-fn judge_leaf(k: u32, so_far: u64, numbers: &PathNumbers) -> Result<LeafNumbers, FileFault>
+/// Judges a leaf, where `known` is what the first one pays both players together, and is none at the first one.
+fn judge_leaf(
+    k: u32,
+    known: Option<Frac>,
+    so_far: u64,
+    numbers: &PathNumbers,
+) -> Result<LeafNumbers, FileFault>
     requires from_one { 1 ≤ so_far }
     requires limit { so_far ≤ most }
-    ensures ok { OnOk result (judged_leaf k so_far numbers.now ≡ None) }
+    ensures ok { OnOk result (judged_leaf k known so_far numbers.now ≡ None) }
+    ensures sum { IfOk result (λ leaf. leaf.sum ≡ sum_with known numbers.now) }
     ensures expected { IfOk result (λ leaf. leaf.expected ≡ product_of numbers.now.reach numbers.now.one) }
-    ensures unit { IfOk result (λ leaf. leaf.unit ≡ lcm (product_of numbers.now.reach numbers.now.one).den so_far) }
+    ensures unit { IfOk result (λ leaf. leaf.unit ≡ leaf_unit known so_far numbers.now) }
     ensures limit { IfOk result (λ leaf. leaf.unit ≤ most) }
-    ensures err { IfErr result (IsFaultOf (judged_leaf k so_far numbers.now)) }
+    ensures err { IfErr result (IsFaultOf (judged_leaf k known so_far numbers.now)) }
 {
-    if !cancel(numbers.one, numbers.two) {
-        return Err(FileFault::NotZeroSum { node: k });
+    let Ok(paid) = together(numbers.one, numbers.two) else {
+        return Err(FileFault::Scale { node: k });
+    };
+    let sum = known.unwrap_or(paid);
+    if !is_same(paid, sum) {
+        return Err(FileFault::NotConstantSum { node: k });
     }
     let Ok(expected) = mul(numbers.reach, numbers.one) else {
         return Err(FileFault::Scale { node: k });
     };
-    let Ok(unit) = unit_with(denominator(expected), so_far) else {
+    let Ok(unit) = unit_with_leaf(sum, expected, so_far) else {
         return Err(FileFault::Scale { node: k });
     };
-    Ok(LeafNumbers { expected, unit })
+    Ok(LeafNumbers {
+        sum,
+        expected,
+        unit,
+    })
+}
+
+/// The unit so far with the denominators of the sum and of what a leaf is expected to pay.
+fn unit_with_leaf(sum: Frac, expected: Frac, so_far: u64) -> Result<u64, OverLimit>
+    requires from_one { 1 ≤ so_far }
+    requires limit { so_far ≤ most }
+    ensures { let exact = lcm expected.den (lcm sum.den so_far) in OkIff result (exact ≤ most) exact }
+{
+    let own = denominator(expected);
+    let Ok(with_sum) = unit_with(denominator(sum), so_far) else {
+        return Err(OverLimit);
+    };
+    unit_with(own, with_sum)
 }
 
 /// The least common multiple of a denominator and the unit so far, which it mostly divides.
@@ -85,17 +118,15 @@ fn unit_with(denominator: u64, so_far: u64) -> Result<u64, OverLimit>
     lcm(denominator, so_far)
 }
 
-/// Whether the sum is 0.
-fn cancel(a: Frac, b: Frac) -> bool
-    ensures { result ≡ faults.is_zero (sum_of a b) }
+/// The sum, which is mostly 0.
+fn together(a: Frac, b: Frac) -> Result<Frac, OverLimit>
+    ensures { OkIff result (IsTrue (fits (sum_of a b))) (sum_of a b) }
 {
+    let (a, b) = (known(a), known(b));
     if are_opposite(a, b) {
-        return true;
+        return Ok(zero());
     }
-    match add(known(a), known(b)) {
-        Ok(sum) => is_zero(sum),
-        Err(_) => false,
-    }
+    add(a, b)
 }
 
 /// Whether one is the other with the other sign.
@@ -103,6 +134,12 @@ fn are_opposite(a: Frac, b: Frac) -> bool
     ensures { IsTrue result ↔ (a.num ≡ neg_ℤ b.num) × (a.den ≡ b.den) }
 {
     a.num() == -b.num() && a.den() == b.den()
+}
+
+fn is_same(a: Frac, b: Frac) -> bool
+    ensures { result ≡ faults.is_same a b }
+{
+    a.num() == b.num() && a.den() == b.den()
 }
 
 pub(crate) fn is_leaf(node: Node) -> bool

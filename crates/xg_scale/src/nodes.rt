@@ -1,4 +1,4 @@
-//! The walk over all nodes: the reach and the payoffs of each path, and the unit.
+//! The walk over all nodes: the reach and the payoffs of each path, what leaves pay both players together, and the unit.
 ghost use Rattle.std.specs.Prelude.{◌≡◌, ◌+◌, ◌<◌, ◌≤◌, ◌^◌, [], length, IfErr, IfOk, IsTrue, OkIff, OnOk};
 ghost use Rattle.def_fraction.specs.Fraction.{fits, sum_of};
 ghost use Rattle.def_game_scale.specs.Faults.{found_by, node_fault};
@@ -17,7 +17,7 @@ use xg_frac::{Frac, OverLimit, add, mul, one_over};
 use xg_game::{FileFault, Game, Kind, Player, Refused};
 use xg_tree::{Node, Visitor};
 
-/// What each leaf is expected to pay, and the unit.
+/// What each leaf is expected to pay, what it pays both players together, and the unit.
 pub(crate) fn expect(alloc: Global, game: &Game) -> Result<Expected, Refused>
     requires { AreFractions (tables_of game.now) }
     ensures ok { IfOk result (IsExpectedOf (tables_of game.now) game.now.tree) }
@@ -49,7 +49,11 @@ impl<'a> PathVisitor<'a> {
             game,
             innermost: outside(),
             outer: OuterNodes::new(alloc),
-            expected: Expected { unit: 1, fractions },
+            expected: Expected {
+                sum: None,
+                unit: 1,
+                fractions,
+            },
         };
         Ok(PathVisitor {
             walk,

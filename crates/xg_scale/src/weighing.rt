@@ -14,14 +14,15 @@ ghost use Rattle.xg_scale.specs.Words.{HasNoNumberFault, IsCommonMultiple, IsFir
 
 use crate::chance::{SetTest, check_sets};
 use crate::nodes::expect;
-use crate::weights::{Weights, weigh_leaves};
+use crate::weights::{Weights, check_whole_sum, weigh_leaves};
 use std::alloc::Global;
 use xg_game::{Game, Refused};
 
-/// The unit of a game, the weights of its leaves and their mass.
+/// What each leaf of a game pays both players together, the unit of the game, the weights of its leaves and their mass.
 ///
 /// Memory apart, the answer is the weights, or the first fault of the game's numbers: a probability below 0, a chance
-/// set whose probabilities don't add up to 1, a leaf whose payoffs don't add up to 0, or a number past 2^62.
+/// set whose probabilities don't add up to 1, a leaf whose payoffs don't add up to what those of the first one do, or a
+/// number past 2^62.
 pub fn weigh(alloc: Global, game: &Game) -> Result<Weights, Refused>
     ensures exact { Answers result (weigh game.now) }
 
@@ -35,7 +36,7 @@ pub fn weigh(alloc: Global, game: &Game) -> Result<Weights, Refused>
     ensures weighed { (weights : GameWeights) → HasNoNumberFault game.now →
         AreWeights (tables_of game.now) game.now.tree weights → Answers result (Ok weights) }
 
-    // The unit is the least common multiple of the denominators of reach times payoff.
+    // The unit is the least common multiple of the denominators of the sum and of reach times payoff.
     ensures unit { IfOk result (λ weights. IsCommonMultiple game.now weights.unit) }
     ensures least { IfOk result (λ weights. IsLeastCommonMultiple game.now weights.unit) }
 
@@ -55,5 +56,6 @@ fn weigh_exactly(alloc: Global, game: &Game) -> Result<Weights, Refused>
     check_sets(game, SetTest::Signs)?;
     check_sets(game, SetTest::Sums)?;
     let expected = expect(alloc, game)?;
+    check_whole_sum(game, &expected)?;
     weigh_leaves(alloc, game, &expected)
 }

@@ -1,30 +1,33 @@
 //! The weights of a game's leaves.
-ghost use Rattle.std.specs.Prelude.{◌≡◌, ◌≤◌, ◌<◌, ◌+◌, ◌^◌, [], None, map, sum, unsigned_abs, IfErr, IfOk, OnErr, OnOk};
-ghost use Rattle.def_fraction.specs.Fraction.{most, signed};
-ghost use Rattle.def_game_scale.specs.Faults.{found_by, mass_fault};
+ghost use Rattle.std.specs.Prelude.{◌≡◌, ◌≤◌, ◌<◌, ◌+◌, ◌^◌, [], None, map, nat_le, sum, unsigned_abs, unwrap_or, IfErr, IfOk, OnErr, OnOk};
+ghost use Rattle.def_fraction.specs.Fraction.{most, signed, zero_fraction};
+ghost use Rattle.def_game_scale.specs.Faults.{found_by, mass_fault, whole_sum_fault};
 ghost use Rattle.def_game_numbers.specs.Numbers.{tables_of, weights_of_game};
 ghost use Rattle.def_game_paths.specs.Paths.{visits};
-ghost use Rattle.def_game_scale.specs.Scale.{game_unit, weight_of};
+ghost use Rattle.def_game_scale.specs.Scale.{game_unit, weight_of, whole_sum};
 ghost use Rattle.def_game_scale.specs.Tables.{AreFractions};
 ghost use Rattle.def_sums.specs.Limits.{most_mass};
 ghost use Rattle.def_tree.specs.Tree.{node_count};
-ghost use Rattle.xg_scale.specs.FaultOfFile.{RefusesBy};
+ghost use Rattle.xg_scale.specs.FaultOfFile.{IsFaultOf, RefusesBy};
 ghost use Rattle.xg_scale.specs.Walked.{IsExpectedOf};
 ghost use Rattle.xg_scale.specs.Weighed.{HasWeighed, IsLeafWeighed};
 
 use crate::leaf::{Expected, is_leaf};
-use crate::parts::{denominator, is_negative, size};
+use crate::parts::{denominator, is_negative, size, zero};
 use def_sums::MOST_MASS;
 use std::alloc::Global;
 use std::marker::Model;
 use xg_frac::{Frac, OverLimit};
 use xg_game::{FileFault, Game, Refused};
 
-/// The unit of a game, the weights of its leaves in prefix order, and their mass, which is the sum of their sizes.
+/// What each leaf of a game pays both players together, the unit of the game, the weights of its leaves in prefix order,
+/// and their mass, which is the sum of their sizes.
 ///
-/// A weight is the unit times reach times player one's payoff. The unit is the least that makes all weights whole.
+/// A weight is the unit times reach times player one's payoff. The unit is the least that makes all weights whole, and the
+/// sum times the unit too.
 #[derive(Drop)]
 pub struct Weights {
+    sum: Frac,
     unit: u64,
     weighed: Weighed,
 }
@@ -35,12 +38,19 @@ impl Model for Weights {
 
     ghost Value = { GameWeights };
 
-    ghost view = { λ w. weights_with w.unit w.weighed };
+    ghost view = { λ w. weights_with w.sum w.unit w.weighed };
 
-    ghost invariant = { λ w. KeepsWeights (weights_with w.unit w.weighed) };
+    ghost invariant = { λ w. KeepsWeights (weights_with w.sum w.unit w.weighed) };
 }
 
 impl Weights {
+    /// What each leaf pays both players together: 0 in a zero-sum game.
+    pub fn sum(&self) -> Frac
+        ensures { result ≡ self.now.sum }
+    {
+        self.sum
+    }
+
     /// The number by which reach times payoff is multiplied.
     pub fn unit(&self) -> u64
         ensures unit { result ≡ self.now.unit }
@@ -108,6 +118,44 @@ impl Weighed {
     }
 }
 
+/// Asks at the first leaf whether the sum, in the unit, is within the limit.
+pub(crate) fn check_whole_sum(game: &Game, expected: &Expected) -> Result<(), FileFault>
+    requires expected { IsExpectedOf (tables_of game.now) game.now.tree expected.now }
+    ensures ok { let size = unsigned_abs (whole_sum (tables_of game.now) game.now.tree) in
+        OnOk result (found_by (whole_sum_fault size) [] (visits game.now.tree) ≡ None) }
+    ensures err { let size = unsigned_abs (whole_sum (tables_of game.now) game.now.tree) in
+        IfErr result (IsFaultOf (found_by (whole_sum_fault size) [] (visits game.now.tree))) }
+{
+    if is_whole_within(sum_of_leaves(expected), expected.unit) {
+        return Ok(());
+    }
+    let tree = game.tree();
+    for k in 0..tree.len() {
+        if is_leaf(tree.node(k + 1)) {
+            return Err(FileFault::Scale { node: k + 1 });
+        }
+    }
+    Ok(())
+}
+
+/// What each leaf pays both players together.
+fn sum_of_leaves(expected: &Expected) -> Frac
+    ensures { result ≡ unwrap_or expected.now.sum zero_fraction }
+{
+    match expected.sum {
+        Some(sum) => sum,
+        None => zero(),
+    }
+}
+
+/// Whether so many times the fraction, whose denominator divides this number, is within the limit.
+fn is_whole_within(fraction: Frac, times: u64) -> bool
+    requires { times ≤ most }
+    ensures { result ≡ nat_le (unsigned_abs (weight_of times fraction)) most }
+{
+    size(fraction) as u128 * (times / denominator(fraction)) as u128 <= MOST_MASS as u128
+}
+
 /// Weighs the leaves of a game by what they are expected to pay, in order.
 pub(crate) fn weigh_leaves(
     alloc: Global,
@@ -130,6 +178,7 @@ pub(crate) fn weigh_leaves(
         weighed.enter(game, k, expected)?;
     }
     Ok(Weights {
+        sum: sum_of_leaves(expected),
         unit: expected.unit,
         weighed,
     })

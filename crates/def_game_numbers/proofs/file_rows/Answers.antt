@@ -8,9 +8,11 @@ unfolding gcd fraction_of
 returns c = record {
   negative = refl;
   sum = refl;
-  zero_sum = refl;
+  another_sum = refl;
+  whole_sum = refl;
   scale = refl;
   weights = refl;
+  weights_of_sum = refl;
   recall = refl;
   recall_weighed = refl;
   recall_broken = refl;

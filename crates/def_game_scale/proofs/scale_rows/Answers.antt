@@ -6,15 +6,18 @@ use Rattle.def_game_scale.proofs.scale_rows.Goals as goal
 pub returns : goal.returns
 unfolding gcd fraction_of
 returns c = record {
+  toss_sum = refl;
   toss_unit = refl;
   toss_weights = refl;
   toss_mass = refl;
+  inner_sum = refl;
   inner_unit = refl;
   inner_weights = refl;
   inner_mass = refl;
   uneven_reaches = refl;
   uneven_ones = refl;
   uneven_twos = refl;
+  uneven_sum = refl;
   uneven_unit = refl;
   uneven_weights = refl;
   uneven_mass = refl;

@@ -13,6 +13,9 @@ expect-requires c = tables_lowest c.args.game.now c.numbers_are_in_lowest_terms.
 pub returns-in_err-expected-clause-lowest : goal.returns-in_err-expected-clause-lowest
 returns-in_err-expected-clause-lowest c = tables_lowest c.args.game.now c.numbers_are_in_lowest_terms.ensures
 
+pub returns-in_err-check_whole_sum-clause-lowest : goal.returns-in_err-check_whole_sum-clause-lowest
+returns-in_err-check_whole_sum-clause-lowest c = tables_lowest c.args.game.now c.numbers_are_in_lowest_terms.ensures
+
 pub weigh_leaves-requires-clause-lowest : goal.weigh_leaves-requires-clause-lowest
 weigh_leaves-requires-clause-lowest c = tables_lowest c.args.game.now c.numbers_are_in_lowest_terms.ensures
 

@@ -1,8 +1,8 @@
-use Rattle.std.proofs.Common.{◌≡◌, sym, ◌∙◌, ap}
+use Rattle.std.proofs.Common.{rules, ◌≡◌, sym, ◌∙◌, ap, Some, Err}
 use Rattle.def_plan.specs.Form.{SequenceForm}
 use Rattle.def_plan.specs.Payoff.{mass_of}
 use Rattle.def_tree.specs.Tree.{Forest, node_count}
-use Rattle.def_game_numbers.specs.Numbers.{GameWeights, tables_of, weights_of_game}
+use Rattle.def_game_numbers.specs.Numbers.{GameWeights, tables_of, weigh, weights_of_game}
 use Rattle.def_sequence_form.specs.Form.{form_of}
 use Rattle.def_sequence_form.specs.Sets.{sets_or_break}
 use Rattle.def_game_numbers.proofs.Refusals.{accepted, refused_first, stands_on_answers}
@@ -35,3 +35,19 @@ pub returns-clause-faultless : goal.returns-clause-faultless
 returns-clause-faultless c =
     (refused_first c.args.game).accepted c.in_ok-weights.weights c.in_ok-sets.sets c.in_ok-weights.ensures.exact
     (ap sets_or_break (sym c.into_tree-tree.ensures) ∙ c.in_ok-sets.ensures.sets)
+
+pub returns-in_err-weights-clause-refused : goal.returns-in_err-weights-clause-refused
+returns-in_err-weights-clause-refused c fault e =
+    let told : weigh c.args.game ≡ Err fault = search (rules, c.in_err-weights.ensures.exact, c.from_residual.ensures, e) in
+    (refused_first c.args.game).by_weighing fault told
+
+pub returns-in_err-sets-clause-refused : goal.returns-in_err-sets-clause-refused
+returns-in_err-sets-clause-refused c fault e =
+    let broken = c.in_err-sets.ensures.broken fault (search (rules, c.from_residual-in_err-sets.ensures, e)) in
+    (refused_first c.args.game).by_sets c.in_ok-weights.weights broken.0 c.in_ok-weights.ensures.exact
+    (ap sets_or_break (sym c.into_tree-tree.ensures) ∙ broken.1)
+    ∙ ap Some (sym broken.2)
+
+pub returns-in_err-form-clause-refused : goal.returns-in_err-form-clause-refused
+returns-in_err-form-clause-refused c fault e =
+    absurd (c.in_err-form.ensures.accepted fault (search (rules, c.from_residual-in_err-form.ensures, e)))

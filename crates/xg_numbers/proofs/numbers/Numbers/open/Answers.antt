@@ -1,10 +1,11 @@
 use Rattle.std.proofs.Common.{◌≡◌, sym, ◌∙◌, ap}
 use Rattle.def_plan.specs.Form.{SequenceForm}
 use Rattle.def_plan.specs.Payoff.{mass_of}
-use Rattle.def_tree.specs.Tree.{Forest}
+use Rattle.def_tree.specs.Tree.{Forest, node_count}
+use Rattle.def_game_numbers.specs.Numbers.{GameWeights, tables_of, weights_of_game}
 use Rattle.def_sequence_form.specs.Form.{form_of}
 use Rattle.def_sequence_form.specs.Sets.{sets_or_break}
-use Rattle.def_game_numbers.proofs.Refusals.{stands_on_answers}
+use Rattle.def_game_numbers.proofs.Refusals.{accepted, refused_first, stands_on_answers}
 use Rattle.xg_numbers.proofs.numbers.Numbers.open.Goals as goal
 
 pub invariant_of-result : goal.invariant_of-result
@@ -18,3 +19,19 @@ invariant_of-result c =
       some_unit = c.unit.ensures.positive;
       small_unit = c.unit.ensures.limit;
     }
+
+pub returns-clause-opened : goal.returns-clause-opened
+returns-clause-opened c =
+    let game = c.args.game.now in
+    let answer : GameWeights = c.in_ok-weights.weights in
+    let given : weights_of_game (tables_of game) game.tree ≡ answer = (accepted _ (weights_of_game (tables_of game) game.tree) answer c.in_ok-weights.ensures.exact).1 in
+    let stands = stands_on_answers game answer c.in_ok-sets.sets c.in_ok-weights.ensures.exact (ap sets_or_break (sym c.tree.ensures.tree) ∙ c.in_ok-sets.ensures.sets) in
+    let nodes : c.len.result ≡ node_count game.tree = c.len.ensures.count ∙ ap node_count c.tree-3.ensures.tree in
+    let unit = c.unit.ensures.unit ∙ sym (ap (λ (w : GameWeights). w.unit) given) in
+    let form = c.in_ok-form.ensures.form ∙ ap (λ (t : Forest). form_of t answer.leaves) c.tree-2.ensures.tree ∙ stands.form in
+    λ i. record { nodes = nodes i; unit = unit i; form = form i }
+
+pub returns-clause-faultless : goal.returns-clause-faultless
+returns-clause-faultless c =
+    (refused_first c.args.game.now).accepted c.in_ok-weights.weights c.in_ok-sets.sets c.in_ok-weights.ensures.exact
+    (ap sets_or_break (sym c.tree.ensures.tree) ∙ c.in_ok-sets.ensures.sets)
