@@ -16,7 +16,7 @@ ghost use Rattle.xg_seq.specs.Threads.{KeepsThreads};
 use crate::leaf::Leaf;
 use crate::leaves::leaves_of;
 use crate::rows::table_of;
-use crate::table::{SetPlace, SetTable};
+use crate::table::{SetPlace, SetPlaces};
 use crate::threads::{Threads, leaf_of_number, threads_of};
 use def_tree::Player;
 use std::alloc::{AllocError, Global};
@@ -29,8 +29,8 @@ use xg_tree::Tree;
 /// Sets are numbered from 1 within their player, and leaves from 1 in prefix order. Sequence 0 is the empty one.
 #[derive(Drop)]
 pub struct SeqForm {
-    one: SetTable,
-    two: SetTable,
+    one: SetPlaces,
+    two: SetPlaces,
     leaves: Vec<Leaf>,
     threads_one: Threads,
     threads_two: Threads,
@@ -70,8 +70,8 @@ impl SeqForm {
     // The form of these sets and leaves.
     fn with_threads(
         alloc: Global,
-        one: SetTable,
-        two: SetTable,
+        one: SetPlaces,
+        two: SetPlaces,
         leaves: Vec<Leaf>,
     ) -> Result<SeqForm, AllocError>
         requires { KeepsLeaves (form_with one two leaves.items) }
@@ -193,6 +193,13 @@ impl SeqForm {
         self.table(player).row(set)
     }
 
+    /// The places of the player's sets, in order.
+    pub fn places(&self, player: Player) -> &[SetPlace]
+        ensures { map placed_of_row result.now ≡ placed (player_sets self.now player) }
+    {
+        self.table(player).rows()
+    }
+
     /// Does nothing: its clauses are what is true of every form.
     pub fn facts(&self)
         ensures order { (player : Player) → AreInOrder (player_sets self.now player) }
@@ -209,7 +216,7 @@ impl SeqForm {
         let _leaves = self.leaf_count();
     }
 
-    fn table(&self, player: Player) -> &SetTable
+    fn table(&self, player: Player) -> &SetPlaces
         ensures { result.now ≡ player_sets self.now player }
     {
         match player {

@@ -25,7 +25,9 @@ pub(crate) fn leaves_of(
     // What is true of every tree.
     ensures rules { IsGameTree tree.now }
 {
-    let mut leaves = Vec::new(alloc);
+    // a tree keeps the rules
+    let _nodes = tree.len();
+    let mut leaves = Vec::with_capacity(alloc, tree.leaves() as usize)?;
     for k in 0..tree.len() {
         if is_leaf(tree.node(k + 1)) {
             leaves.push(leaf_at(sets, k + 1, weights, leaves.len()))?;

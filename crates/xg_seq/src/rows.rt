@@ -4,13 +4,13 @@ ghost use Rattle.def_plan.specs.Form.{AreInOrder, placed, sequence_count};
 ghost use Rattle.xg_sets.specs.OfPlayer.{of_player};
 ghost use Rattle.xg_seq.specs.Table.{HaveFewActions, most_sequences, set_numbers_from, placed_of_row};
 
-use crate::table::{SetPlace, SetTable};
+use crate::table::{SetPlace, SetPlaces};
 use def_tree::Player;
 use std::alloc::{AllocError, Global};
 use xg_sets::Sets;
 
 /// The table of a player's sets.
-pub(crate) fn table_of(alloc: Global, sets: &Sets, player: Player) -> Result<SetTable, AllocError>
+pub(crate) fn table_of(alloc: Global, sets: &Sets, player: Player) -> Result<SetPlaces, AllocError>
     requires order { AreInOrder (of_player player sets.now).sets }
     requires limit { sequence_count (of_player player sets.now).sets ≤ most_sequences }
     requires few_actions { HaveFewActions (of_player player sets.now).sets }
@@ -18,7 +18,7 @@ pub(crate) fn table_of(alloc: Global, sets: &Sets, player: Player) -> Result<Set
 {
     let rows = rows_of(alloc, sets, player)?;
     let set_numbers = set_numbers_of(alloc, &rows)?;
-    Ok(SetTable::of(rows, set_numbers))
+    Ok(SetPlaces::of(rows, set_numbers))
 }
 
 // The player's sets, each placed after the one before it.

@@ -15,13 +15,13 @@ pub struct SetPlace {
 
 /// A player's sets, and the set at which each of the player's sequences ends.
 #[derive(Drop)]
-pub(crate) struct SetTable {
+pub(crate) struct SetPlaces {
     rows: Vec<SetPlace>,
     // those of the sequences from 1 on
     set_numbers: Vec<u32>,
 }
 
-impl Model for SetTable {
+impl Model for SetPlaces {
     ghost use Rattle.std.specs.Prelude.{List, map};
     ghost use Rattle.def_plan.specs.Form.{InformationSet};
 
@@ -34,13 +34,13 @@ impl Model for SetTable {
     ghost invariant = { λ t. KeepsSets t.rows.items t.set_numbers.items };
 }
 
-impl SetTable {
+impl SetPlaces {
     // The sets of these rows.
-    pub(crate) fn of(rows: Vec<SetPlace>, set_numbers: Vec<u32>) -> SetTable
+    pub(crate) fn of(rows: Vec<SetPlace>, set_numbers: Vec<u32>) -> SetPlaces
         requires { KeepsSets rows.items set_numbers.items }
         ensures { result ≡ map set_of_row rows.items }
     {
-        SetTable { rows, set_numbers }
+        SetPlaces { rows, set_numbers }
     }
 
     pub(crate) fn set_count(&self) -> u32
@@ -69,6 +69,12 @@ impl SetTable {
         ensures inside { result.first + result.actions ≤ sequence_count self.now }
     {
         self.rows[set as usize - 1]
+    }
+
+    pub(crate) fn rows(&self) -> &[SetPlace]
+        ensures { map placed_of_row result.now ≡ placed self.now }
+    {
+        &self.rows
     }
 
     pub(crate) fn set_of(&self, sequence: u32) -> u32

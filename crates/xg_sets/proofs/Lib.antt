@@ -2,4 +2,3 @@ pub mod NextNodeLemmas
 pub mod NotingLemmas
 pub mod PathLemmas
 pub mod ShownLemmas
-pub mod VisitorLemmas

@@ -21,14 +21,14 @@ use Rattle.def_game_paths.proofs.Visits.{map-visits_from}
 use Rattle.xg_sets.specs.declared.building.Building.{Building}
 use Rattle.xg_sets.specs.declared.building.RecallFault.{RecallFault}
 use Rattle.xg_sets.specs.declared.building.SetVisitor.{SetVisitor}
-use Rattle.xg_sets.specs.declared.building.Tables.{Tables}
+use Rattle.xg_sets.specs.declared.building.FoundTables.{FoundTables}
 use Rattle.xg_sets.specs.declared.movers.Mover.{Mover}
 use Rattle.xg_sets.specs.declared.movers.Sequences.{Sequences}
 use Rattle.xg_sets.specs.Entered.{AreAt, AreAtFirstChild, AreTablesOf, FindsBreak, IsAtFirstChild, path_number}
-use Rattle.xg_sets.specs.Movers.{GoesBackTo, HasMoverAround, outside, sequences_after}
+use Rattle.xg_sets.specs.Movers.{GoesBackTo, HasMoverAround, outside, sequences_after, step_of}
 use Rattle.xg_sets.specs.Walked.{Enters, HasEntered, HasLeft, IsBefore, Leaves, MayComeNext, MayEnter, MayLeave, Steps, UnlessFault}
 use Rattle.xg_sets.proofs.ShownLemmas.{no_sets, tables_start}
-use Rattle.xg_sets.proofs.VisitorLemmas.{RunsTo, runs_enter, runs_leave, runs_none}
+use Rattle.xg_tree.proofs.VisitorLemmas.{RunsTo, runs_enter, runs_leave, runs_none}
 
 length-visits_from : (above : ℕ → List Move) (action : ℕ) (trees : Forest)
     → length (visits_from above action trees) ≡ node_count trees
@@ -49,6 +49,18 @@ two_after One next = omega arith
 two_after Two next = refl
 two_after Leaf next = omega arith
 
+step_one : (kind : Kind) → (step_of kind).one ≤ 1
+step_one Chance = omega arith
+step_one One = omega arith
+step_one Two = omega arith
+step_one Leaf = omega arith
+
+step_two : (kind : Kind) → (step_of kind).two ≤ 1
+step_two Chance = omega arith
+step_two One = omega arith
+step_two Two = omega arith
+step_two Leaf = omega arith
+
 module _ (tree : Forest) (game : IsGameTree tree) where
   abbrev all : List Visit
   all = visits tree
@@ -57,9 +69,9 @@ module _ (tree : Forest) (game : IsGameTree tree) where
   abbrev sequences_on : List Move → Sequences
   sequences_on path = record { one = path_number One tree path; two = path_number Two tree path }
 
-  -- who moves at a node, with its next child at this action
+  -- a node of this kind, with its next child at this action
   abbrev mover_at : Kind → (ℕ → List Move) → ℕ → Mover
-  mover_at kind above action = record { kind = kind; next = sequences_on (above action) }
+  mover_at kind above action = record { next = sequences_on (above action); step = step_of kind }
 
   -- behind the first n nodes come trees at the actions of a node, from one on, and then later nodes;
   -- the sequences at its children follow one another
@@ -212,7 +224,7 @@ module _ (tree : Forest) (game : IsGameTree tree) where
           let two = first_number Two x (above action) new.innermost.next.two below_here.two in
           record {
             tables = entered.tables;
-            innermost_is = λ i. record { kind = entered.kind i; next = record { one = one i; two = two i } };
+            innermost_is = λ i. record { next = record { one = one i; two = two i }; step = entered.step i };
             outer_is = entered.outer ∙ (λ i. on.innermost_is i ∷ on.outer_is i);
           }
 
@@ -235,8 +247,8 @@ module _ (tree : Forest) (game : IsGameTree tree) where
         let back = subst (λ around. GoesBackTo around new.innermost new.outer) on.outer_is left.back in
         let follow = next.goes_on action next.from_one in
         record {
-          tables = subst (λ (t : Tables). AreTablesOf tree m t.one t.two t.next_nodes) (sym left.tables) on.tables;
-          innermost_is = back.0 ∙ (λ i. record { kind = kind; next = follow i });
+          tables = subst (λ (t : FoundTables). AreTablesOf tree m t.one t.two t.next_nodes) (sym left.tables) on.tables;
+          innermost_is = back.0 ∙ (λ i. record { next = follow i; step = step_of kind });
           outer_is = back.1;
         }
 
@@ -244,7 +256,7 @@ module _ (tree : Forest) (game : IsGameTree tree) where
     room_around outer =
         let one : path_number One tree (above action) < 1048576 = small One refl in
         let two : path_number Two tree (above action) < 1048576 = small Two refl in
-        (omega (arith, one), omega (arith, two))
+        (omega (arith, one, step_one kind), omega (arith, two, step_two kind))
 
     may_leave_first : (m : ℕ) (inner : Mover) (outer : List Mover) (visitor : SetVisitor)
         → Stands m inner (mover_at kind above action ∷ outer) visitor → MayLeave visitor (n + 1)

@@ -8,7 +8,7 @@ use Rattle.xg_sets.specs.declared.building.Building.{Building}
 use Rattle.xg_sets.specs.declared.building.RecallFault.{RecallFault}
 use Rattle.xg_sets.specs.declared.building.SetVisitor.{SetVisitor}
 use Rattle.xg_sets.specs.Entered.{AreAt, AreAtFirstChild, AreTablesOf, FindsBreak}
-use Rattle.xg_sets.specs.Movers.{GoesBackTo, HasMoverAround, outside}
+use Rattle.xg_sets.specs.Movers.{GoesBackTo, HasMoverAround, outside, step_of}
 
 -- the tables are those of the nodes before node k, and the innermost has the sequences at it
 pub record MayComeNext (tree : Forest) (k : ℕ) (building : Building) : Type 0 where
@@ -21,7 +21,7 @@ pub record MayComeNext (tree : Forest) (k : ℕ) (building : Building) : Type 0 
 -- node k is noted, and is the innermost, at its first child
 pub record HasEntered (tree : Forest) (k : ℕ) (node : Node) (old new : Building) : Type 0 where
   pub tables : AreTablesOf tree k new.tables.one new.tables.two new.tables.next_nodes
-  pub kind : new.innermost.kind ≡ node.kind
+  pub step : new.innermost.step ≡ step_of node.kind
   pub below : AreAtFirstChild tree (visit_after tree (k - 1)) new.innermost.next
   pub outer : new.outer ≡ old.innermost ∷ old.outer
 

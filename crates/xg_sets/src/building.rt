@@ -10,10 +10,10 @@ ghost use Rattle.xg_sets.specs.Entered.{AreAt, AreAtFirstChild, AreTablesOf, Fin
 ghost use Rattle.xg_sets.specs.Movers.{HasMoverAround};
 ghost use Rattle.xg_sets.specs.Walked.{HasEntered, HasLeft, IsBefore, MayComeNext};
 
-use crate::movers::{Mover, OuterMovers, Sequences, after_child, outside};
+use crate::movers::{Mover, OuterMovers, Sequences, after_child, outside, step_of};
 use crate::next_nodes::NextNodes;
 use crate::sets::Sets;
-use crate::table::SetTable;
+use crate::table::FoundSets;
 use std::alloc::{AllocError, Global};
 use thiserror::Error;
 use xg_tree::{Kind, Node, Tree, Visitor};
@@ -51,7 +51,7 @@ pub fn build_sets(alloc: Global, tree: &Tree) -> Result<Sets, RecallFault>
     match visitor.fault {
         Some(fault) => Err(fault),
         None => {
-            let Tables {
+            let FoundTables {
                 one,
                 two,
                 next_nodes,
@@ -73,9 +73,9 @@ impl<'a> SetVisitor<'a> {
     fn new(alloc: Global, tree: &'a Tree) -> Result<SetVisitor<'a>, AllocError>
         ensures { IfOk result (IsBefore tree.now) }
     {
-        let tables = Tables {
-            one: SetTable::new(alloc),
-            two: SetTable::new(alloc),
+        let tables = FoundTables {
+            one: FoundSets::with_capacity(alloc, tree.len())?,
+            two: FoundSets::with_capacity(alloc, tree.len())?,
             next_nodes: NextNodes::with_capacity(alloc, tree.len())?,
         };
         let building = Building {
@@ -119,7 +119,7 @@ impl<'a> Visitor for SetVisitor<'a> {
 #[derive(Drop)]
 struct Building<'a> {
     tree: &'a Tree,
-    tables: Tables,
+    tables: FoundTables,
     innermost: Mover,
     outer: OuterMovers,
 }
@@ -135,8 +135,8 @@ impl<'a> Building<'a> {
         let below = self.tables.note(self.tree, k - 1, self.innermost.next)?;
         self.outer.push(self.innermost)?;
         self.innermost = Mover {
-            kind: node.kind,
             next: below,
+            step: step_of(node.kind),
         };
         Ok(())
     }
@@ -156,13 +156,13 @@ impl<'a> Building<'a> {
 
 // Both players' sets so far, and the next node of each node in its set.
 #[derive(Drop)]
-struct Tables {
-    one: SetTable,
-    two: SetTable,
+struct FoundTables {
+    one: FoundSets,
+    two: FoundSets,
     next_nodes: NextNodes,
 }
 
-impl Tables {
+impl FoundTables {
     // Notes the node after the first `k` with the sequences at it, and answers those at its first child.
     fn note(&mut self, tree: &Tree, k: u32, at: Sequences) -> Result<Sequences, RecallFault>
         requires rules { IsGameTree tree.now }

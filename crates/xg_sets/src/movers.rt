@@ -1,6 +1,6 @@
-//! The nodes on the path that a walk stands at, with who moves there.
+//! The nodes on the path that a walk stands at, with the sequences at their children.
 ghost use Rattle.std.specs.Prelude.{◌≡◌, ◌+◌, ◌^◌, ◌<◌, [], ◌∷◌, IfSome, IsNone, OnOk};
-ghost use Rattle.xg_sets.specs.Movers.{after, outside};
+ghost use Rattle.xg_sets.specs.Movers.{after, outside, step_of};
 
 use def_tree::Kind;
 use std::alloc::{AllocError, Global};
@@ -13,11 +13,12 @@ pub(crate) struct Sequences {
     pub(crate) two: u32,
 }
 
-/// Who moves at a node on the path, and the sequences at its next child.
+/// The sequences at the next child of a node on the path, and how far they go on from each child to the one after it: by
+/// one for who moves at the node.
 #[derive(Clone, Copy)]
 pub(crate) struct Mover {
-    pub(crate) kind: Kind,
     pub(crate) next: Sequences,
+    pub(crate) step: Sequences,
 }
 
 /// The movers around the innermost one, each at a node within the ones before it.
@@ -64,25 +65,34 @@ pub(crate) fn outside() -> Mover
     ensures { result ≡ outside }
 {
     Mover {
-        kind: Kind::Chance,
         next: Sequences { one: 0, two: 0 },
+        step: step_of(Kind::Chance),
+    }
+}
+
+/// How far the sequences go on from each child of a node of this kind to the one after it.
+pub(crate) fn step_of(kind: Kind) -> Sequences
+    ensures { result ≡ step_of kind }
+{
+    match kind {
+        Kind::One => Sequences { one: 1, two: 0 },
+        Kind::Two => Sequences { one: 0, two: 1 },
+        Kind::Chance | Kind::Leaf => Sequences { one: 0, two: 0 },
     }
 }
 
 /// The mover at its next child.
 pub(crate) fn after_child(mover: Mover) -> Mover
-    requires room_one { mover.next.one + 1 < 2 ^ 32 }
-    requires room_two { mover.next.two + 1 < 2 ^ 32 }
+    requires room_one { mover.next.one + mover.step.one < 2 ^ 32 }
+    requires room_two { mover.next.two + mover.step.two < 2 ^ 32 }
     ensures { result ≡ after mover }
 {
-    let Sequences { one, two } = mover.next;
-    let next = match mover.kind {
-        Kind::One => Sequences { one: one + 1, two },
-        Kind::Two => Sequences { one, two: two + 1 },
-        _ => mover.next,
-    };
+    let Mover { next, step } = mover;
     Mover {
-        kind: mover.kind,
-        next,
+        next: Sequences {
+            one: next.one + step.one,
+            two: next.two + step.two,
+        },
+        step,
     }
 }

@@ -4,7 +4,7 @@ ghost use Rattle.xg_sets.specs.OfPlayer.{action_counts, sequences_before_sets, o
 ghost use Rattle.xg_sets.specs.Table.{HasFewRows};
 
 use crate::next_nodes::NextNodes;
-use crate::table::SetTable;
+use crate::table::FoundSets;
 use def_tree::Player;
 use std::marker::Model;
 
@@ -14,8 +14,8 @@ use std::marker::Model;
 /// Sets are numbered from 1 within their player, and nodes from 1 in prefix order. Sequence 0 is the empty one.
 #[derive(Drop)]
 pub struct Sets {
-    one: SetTable,
-    two: SetTable,
+    one: FoundSets,
+    two: FoundSets,
     next_nodes: NextNodes,
 }
 
@@ -33,7 +33,7 @@ impl Model for Sets {
 
 impl Sets {
     // The sets of these tables, with the next node of each node.
-    pub(crate) fn of(one: SetTable, two: SetTable, next_nodes: NextNodes) -> Sets
+    pub(crate) fn of(one: FoundSets, two: FoundSets, next_nodes: NextNodes) -> Sets
         requires few_one { HasFewRows one }
         requires few_two { HasFewRows two }
         ensures { result ≡ record { one = as_player_sets one; two = as_player_sets two; next_nodes = next_nodes } }
@@ -97,7 +97,7 @@ impl Sets {
         self.table(player).sequence_at(k)
     }
 
-    fn table(&self, player: Player) -> &SetTable
+    fn table(&self, player: Player) -> &FoundSets
         ensures of_player { as_player_sets result.now ≡ of_player player self.now }
         ensures few { HasFewRows result.now }
     {

@@ -1,5 +1,5 @@
 //! A player's sets so far.
-ghost use Rattle.std.specs.Prelude.{◌≡◌, ◌+◌, ◌-◌, ◌^◌, ◌<◌, ◌≤◌, [], ◌∷◌, ◌++◌, length, OnOk, Some, slice_get};
+ghost use Rattle.std.specs.Prelude.{◌≡◌, ◌+◌, ◌-◌, ◌^◌, ◌<◌, ◌≤◌, [], ◌∷◌, ◌++◌, length, IfOk, OnOk, Some, slice_get};
 ghost use Rattle.xg_sets.specs.Table.{BeginsSet, LastIsThere, Notes};
 
 use crate::building::RecallFault;
@@ -21,14 +21,14 @@ pub(crate) struct SetRow {
 
 /// A player's sets so far, and the player's sequence at each node so far.
 #[derive(Drop)]
-pub(crate) struct SetTable {
+pub(crate) struct FoundSets {
     rows: Vec<SetRow>,
     at_nodes: Vec<u32>,
     // the first sequence of the next set
     next: u32,
 }
 
-impl Model for SetTable {
+impl Model for FoundSets {
     ghost use Rattle.xg_sets.specs.Table.{SetRows};
 
     ghost Value = { SetRows };
@@ -36,15 +36,16 @@ impl Model for SetTable {
     ghost view = { λ t. record { rows = t.rows.items; at_nodes = t.at_nodes.items; next = t.next } };
 }
 
-impl SetTable {
-    pub(crate) fn new(alloc: Global) -> SetTable
-        ensures { result ≡ record { rows = []; at_nodes = []; next = 1 } }
+impl FoundSets {
+    /// No set and no node yet, and room for so many nodes.
+    pub(crate) fn with_capacity(alloc: Global, nodes: u32) -> Result<FoundSets, AllocError>
+        ensures { IfOk result (λ table. table ≡ record { rows = []; at_nodes = []; next = 1 }) }
     {
-        SetTable {
+        Ok(FoundSets {
             rows: Vec::new(alloc),
-            at_nodes: Vec::new(alloc),
+            at_nodes: Vec::with_capacity(alloc, nodes as usize)?,
             next: 1,
-        }
+        })
     }
 
     /// Puts the player's sequence at the next node.

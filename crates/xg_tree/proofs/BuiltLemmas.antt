@@ -11,10 +11,10 @@ use Rattle.def_tree.proofs.Sets.{KeepRules-push, children-le}
 use Rattle.def_tree.proofs.Lists.{wanted-append, Begins-append}
 use Rattle.xg_tree.specs.Sizes.{SizeLists, with_size}
 use Rattle.xg_tree.specs.declared.links.Links.{Links}
-use Rattle.xg_tree.specs.Linked.{AreInOrder, linked_next}
+use Rattle.xg_tree.specs.Linked.{ComeAfterParents, linked_next}
 use Rattle.xg_tree.specs.Built.{IsBuilt}
 use Rattle.xg_tree.specs.Kept.{IsKeptTree}
-use Rattle.xg_tree.proofs.LinkedLemmas.{AreInOrder-on, length-linked_on, linked_on-append, none_in_order}
+use Rattle.xg_tree.proofs.LinkedLemmas.{ComeAfterParents-on, length-linked_on, linked_on-append, none_in_order}
 use Rattle.xg_tree.proofs.JoinedLemmas.{linked-whole}
 use Rattle.xg_tree.proofs.SizesLemmas.{HoldSizes-push, no_sizes}
 
@@ -87,5 +87,5 @@ links_as_nodes nodes links wanting ended sizes built = omega (arith, ap length b
 
 -- and each node comes after its parent
 pub links_in_order : (nodes : List Node) (links : List Links) (wanting ended : ℕ) (sizes : SizeLists)
-    → IsBuilt nodes links wanting ended sizes → AreInOrder links
-links_in_order nodes links wanting ended sizes built = subst AreInOrder (sym built.linked) (AreInOrder-on [] nodes none_in_order)
+    → IsBuilt nodes links wanting ended sizes → ComeAfterParents links
+links_in_order nodes links wanting ended sizes built = subst ComeAfterParents (sym built.linked) (ComeAfterParents-on [] nodes none_in_order)

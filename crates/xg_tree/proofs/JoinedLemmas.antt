@@ -5,8 +5,8 @@ use Rattle.def_tree.specs.Tree.{Forest, bare, grown, prefix, node_count, tree_co
 use Rattle.def_tree.proofs.Forests.{prefix-forest_of}
 use Rattle.def_tree.proofs.Lists.{tree_of_whole}
 use Rattle.xg_tree.specs.declared.links.Links.{Links}
-use Rattle.xg_tree.specs.Linked.{link_numbers, place_numbers, links_at, with_next, place_from, next_place, first_below, linked_at, linked_next, linked_on, linked, AreInOrder, first_root, stored_from, stored}
-use Rattle.xg_tree.proofs.LinkedLemmas.{place-stop, place-up, links_at-front, links_at-seam, with_next-front, with_next-seam, with_next-twice, next-with_next, length-with_next, linked_on-append, length-stored_from, AreInOrder-next, AreInOrder-on, none_in_order}
+use Rattle.xg_tree.specs.Linked.{link_numbers, place_numbers, links_at, with_next, place_from, next_place, first_below, linked_at, linked_next, linked_on, linked, ComeAfterParents, first_root, stored_from, stored}
+use Rattle.xg_tree.proofs.LinkedLemmas.{place-stop, place-up, links_at-front, links_at-seam, with_next-front, with_next-seam, with_next-twice, next-with_next, length-with_next, linked_on-append, length-stored_from, ComeAfterParents-next, ComeAfterParents-on, none_in_order}
 
 -- the trees stand below the parent, which has so many fewer children to come; the first comes after the previous
 -- sibling, and the search for the next place comes by the parent
@@ -16,7 +16,7 @@ record HasJoined (links : List Links) (parent previous : ℕ) (trees : Forest) (
   comes_by : next_place joined ≡ place_from (length joined) joined parent last
 
 record CanJoin (links : List Links) (parent previous : ℕ) (trees : Forest) : Type 0 where
-  ordered : AreInOrder links
+  ordered : ComeAfterParents links
   some : 1 ≤ parent
   there : parent ≤ length links
   place : next_place links ≡ place_numbers parent previous
@@ -35,7 +35,7 @@ record HasEntered (front : List Links) (parent : ℕ) (below : Forest) (entered 
   comes_by : next_place entered ≡ place_from (length entered) entered (length front + 1) last
 
 entered : (front : List Links) (parent : ℕ) (children : ℕ) (below : Forest) → tree_count below ≡ children
-    → HasItsChildren below → Joins below → AreInOrder (front ++ link_numbers parent (first_below (length front + 1) children) children ∷ [])
+    → HasItsChildren below → Joins below → ComeAfterParents (front ++ link_numbers parent (first_below (length front + 1) children) children ∷ [])
     → HasEntered front parent below (linked_on (front ++ link_numbers parent (first_below (length front + 1) children) children ∷ []) (prefix below))
 entered front parent zero bare count whole joins ordered =
     let links : List Links = front ++ link_numbers parent 0 0 ∷ [] in
@@ -67,7 +67,7 @@ record IsHalfway (links front : List Links) (parent previous : ℕ) (below besid
   front_is : front ≡ with_next (with_next links previous (length links + 1)) parent ((links_at links parent).next_sibling - 1)
   long : length front ≡ length links
   inside : HasEntered front parent below half
-  ordered : AreInOrder half
+  ordered : ComeAfterParents half
   some : 1 ≤ parent
   there : parent ≤ length links
   whole : HasItsChildren beside
@@ -163,14 +163,14 @@ joins (grown node below beside) links parent previous can =
     let form : linked_next links node.children ≡ first =
     ap (λ place. linked_at links place node.children) can.place
     ∙ ap (λ n. front ++ link_numbers parent (first_below (n + 1) node.children) node.children ∷ []) (sym long)
-    in let ordered : AreInOrder first = subst AreInOrder form (AreInOrder-next links node.children can.ordered) in
+    in let ordered : ComeAfterParents first = subst ComeAfterParents form (ComeAfterParents-next links node.children can.ordered) in
     let whole : linked_on (linked_next links node.children) (prefix below ++ prefix beside) ≡ linked_on (linked_on first (prefix below)) (prefix beside) =
     ap (λ l. linked_on l (prefix below ++ prefix beside)) form ∙ linked_on-append first (prefix below) (prefix beside)
     in let half : IsHalfway links front parent previous below beside (linked_on first (prefix below)) = record {
       front_is = refl;
       long = long;
       inside = entered front parent node.children below can.trees_whole.0 can.trees_whole.1 (joins below) ordered;
-      ordered = AreInOrder-on first (prefix below) ordered;
+      ordered = ComeAfterParents-on first (prefix below) ordered;
       some = can.some;
       there = can.there;
       whole = can.trees_whole.2;
@@ -184,7 +184,7 @@ linked-tree : (tree : Forest) → IsTree tree → linked (prefix tree) ≡ store
 linked-tree bare is = absurd (omega (arith, is.one))
 linked-tree (grown node below (grown other under rest)) is = absurd (omega (arith, is.one))
 linked-tree (grown node below bare) is =
-    let inside = entered [] 0 node.children below is.children.0 is.children.1 (joins below) (AreInOrder-next [] node.children none_in_order) in
+    let inside = entered [] 0 node.children below is.children.0 is.children.1 (joins below) (ComeAfterParents-next [] node.children none_in_order) in
     ap (linked_on (linked_next [] node.children)) (append-nil (prefix below)) ∙ inside.is ∙ ap (λ rest. link_numbers 0 (first_root 2 below) 0 ∷ rest) (sym (append-nil (stored_from 1 2 below)))
 
 -- so do the nodes of a whole tree

@@ -4,3 +4,4 @@ pub mod BuiltLemmas
 pub mod VisitsLemmas
 pub mod LinkedLemmas
 pub mod JoinedLemmas
+pub mod VisitorLemmas

@@ -8,8 +8,8 @@ use Rattle.std.proofs.Math.Seq.{get_or-append_seam, set-append_seam}
 use Rattle.def_tree.specs.declared.Node.{Node}
 use Rattle.def_tree.specs.Tree.{Forest, bare, grown, prefix, node_count}
 use Rattle.xg_tree.specs.declared.links.Links.{Links}
-use Rattle.xg_tree.specs.declared.links.Place.{Place}
-use Rattle.xg_tree.specs.Linked.{link_numbers, place_numbers, links_at, with_next, place_from, next_place, first_below, linked_at, linked_next, linked_on, AreInOrder, stored_from}
+use Rattle.xg_tree.specs.declared.links.NodePlace.{NodePlace}
+use Rattle.xg_tree.specs.Linked.{link_numbers, place_numbers, links_at, with_next, place_from, next_place, first_below, linked_at, linked_next, linked_on, ComeAfterParents, stored_from}
 
 place-none : (n : ℕ) (links : List Links) (previous : ℕ) → place_from n links 0 previous ≡ place_numbers 0 previous
 place-none zero links previous = refl
@@ -23,7 +23,7 @@ place-stop (suc n) links zero previous some = refl
 place-stop (suc n) links (suc i) previous some =
     ap (λ b. cond b (place_from n links (links_at links (suc i)).parent (suc i)) (place_numbers (suc i) previous)) (ne_eqb (links_at links (suc i)).next_sibling 0 some)
 
-place-fuel : (m n : ℕ) (links : List Links) (k previous : ℕ) → AreInOrder links → k ≤ m → k ≤ n
+place-fuel : (m n : ℕ) (links : List Links) (k previous : ℕ) → ComeAfterParents links → k ≤ m → k ≤ n
     → place_from m links k previous ≡ place_from n links k previous
 place-fuel zero n links zero previous ordered h g = sym (place-none n links previous)
 place-fuel zero n links (suc i) previous ordered h g = absurd (omega arith)
@@ -35,7 +35,7 @@ place-fuel (suc m) (suc n) links (suc i) previous ordered h g =
     (place-fuel m n links (links_at links (suc i)).parent (suc i) ordered (omega arith) (omega arith))
 
 -- from a node without children to come the search goes on at its parent
-pub place-up : (n : ℕ) (links : List Links) (k previous : ℕ) → AreInOrder links → 1 ≤ k → k ≤ n
+pub place-up : (n : ℕ) (links : List Links) (k previous : ℕ) → ComeAfterParents links → 1 ≤ k → k ≤ n
     → (links_at links k).next_sibling ≡ 0
     → place_from n links k previous ≡ place_from n links (links_at links k).parent k
 place-up zero links k previous ordered some high none = absurd (omega arith)
@@ -45,12 +45,12 @@ place-up (suc n) links (suc i) previous ordered some high none =
     ap (λ b. cond b (place_from n links (links_at links (suc i)).parent (suc i)) (place_numbers (suc i) previous)) (eq-eqb (links_at links (suc i)).next_sibling 0 none)
     ∙ place-fuel n (suc n) links (links_at links (suc i)).parent (suc i) ordered (omega arith) (omega arith)
 
-pub record IsPlaceWithin (place : Place) (k previous : ℕ) : Type 0 where
+pub record IsPlaceWithin (place : NodePlace) (k previous : ℕ) : Type 0 where
   pub parent_low : place.parent ≤ k
   pub previous_low : place.previous ≤ max k previous
 
 -- the place is among the nodes up to the one where the search begins
-pub place-within : (n : ℕ) (links : List Links) (k previous : ℕ) → AreInOrder links
+pub place-within : (n : ℕ) (links : List Links) (k previous : ℕ) → ComeAfterParents links
     → IsPlaceWithin (place_from n links k previous) k previous
 place-within zero links k previous ordered = record { parent_low = omega arith; previous_low = omega arith }
 place-within (suc n) links zero previous ordered = record { parent_low = omega arith; previous_low = omega arith }
@@ -131,8 +131,8 @@ parent-with_next links (suc i) next (suc j) =
 
 -- Nodes come after their parents.
 
-AreInOrder-push : (links : List Links) (x : Links) → AreInOrder links → x.parent ≤ length links → AreInOrder (links ++ x ∷ [])
-AreInOrder-push links x ordered low k some = elim (cases_lt (length links) k) [
+ComeAfterParents-push : (links : List Links) (x : Links) → ComeAfterParents links → x.parent ≤ length links → ComeAfterParents (links ++ x ∷ [])
+ComeAfterParents-push links x ordered low k some = elim (cases_lt (length links) k) [
   | inr within ↦ let is : (links_at (links ++ x ∷ []) k).parent ≡ (links_at links k).parent = ap (λ l. l.parent) (links_at-front links (x ∷ []) k within) in
       let before : (links_at links k).parent < k = ordered k some in omega arith
   | inl beyond ↦ elim (cases_lt (length links + 1) k) [
@@ -141,28 +141,28 @@ AreInOrder-push links x ordered low k some = elim (cases_lt (length links) k) [
   ]
 ]
 
-AreInOrder-with_next : (links : List Links) (k next : ℕ) → AreInOrder links → AreInOrder (with_next links k next)
-AreInOrder-with_next links k next ordered j some =
+ComeAfterParents-with_next : (links : List Links) (k next : ℕ) → ComeAfterParents links → ComeAfterParents (with_next links k next)
+ComeAfterParents-with_next links k next ordered j some =
     let same : (links_at (with_next links k next) j).parent ≡ (links_at links j).parent = parent-with_next links k next j in
     let before : (links_at links j).parent < j = ordered j some in omega arith
 
-pub AreInOrder-next : (links : List Links) (children : ℕ) → AreInOrder links → AreInOrder (linked_next links children)
-AreInOrder-next links children ordered =
-    let place : Place = next_place links in
+pub ComeAfterParents-next : (links : List Links) (children : ℕ) → ComeAfterParents links → ComeAfterParents (linked_next links children)
+ComeAfterParents-next links children ordered =
+    let place : NodePlace = next_place links in
     let within = place-within (length links) links (length links) 0 ordered in
     let low : place.parent ≤ length links = within.parent_low in
     let told : List Links = with_next links place.previous (length links + 1) in
     let front : List Links = with_next told place.parent ((links_at links place.parent).next_sibling - 1) in
     let long : length front ≡ length told = length-with_next told place.parent ((links_at links place.parent).next_sibling - 1) in
     let wide : length told ≡ length links = length-with_next links place.previous (length links + 1) in
-    AreInOrder-push front (link_numbers place.parent (first_below (length links + 1) children) children)
-    (AreInOrder-with_next told place.parent ((links_at links place.parent).next_sibling - 1) (AreInOrder-with_next links place.previous (length links + 1) ordered)) (omega arith)
+    ComeAfterParents-push front (link_numbers place.parent (first_below (length links + 1) children) children)
+    (ComeAfterParents-with_next told place.parent ((links_at links place.parent).next_sibling - 1) (ComeAfterParents-with_next links place.previous (length links + 1) ordered)) (omega arith)
 
-pub AreInOrder-on : (links : List Links) (nodes : List Node) → AreInOrder links → AreInOrder (linked_on links nodes)
-AreInOrder-on links [] ordered = ordered
-AreInOrder-on links (node ∷ rest) ordered = AreInOrder-on (linked_next links node.children) rest (AreInOrder-next links node.children ordered)
+pub ComeAfterParents-on : (links : List Links) (nodes : List Node) → ComeAfterParents links → ComeAfterParents (linked_on links nodes)
+ComeAfterParents-on links [] ordered = ordered
+ComeAfterParents-on links (node ∷ rest) ordered = ComeAfterParents-on (linked_next links node.children) rest (ComeAfterParents-next links node.children ordered)
 
-pub none_in_order : AreInOrder []
+pub none_in_order : ComeAfterParents []
 none_in_order zero some = absurd (omega arith)
 none_in_order (suc k) some = omega arith
 
@@ -172,7 +172,7 @@ linked_on-append links (x ∷ xs) ys = linked_on-append (linked_next links x.chi
 
 pub length-linked_next : (links : List Links) (children : ℕ) → length (linked_next links children) ≡ length links + 1
 length-linked_next links children =
-    let place : Place = next_place links in
+    let place : NodePlace = next_place links in
     let told : List Links = with_next links place.previous (length links + 1) in
     let front : List Links = with_next told place.parent ((links_at links place.parent).next_sibling - 1) in
     let long : length front ≡ length told = length-with_next told place.parent ((links_at links place.parent).next_sibling - 1) in
@@ -191,10 +191,10 @@ length-stored_from parent k (grown node below beside) =
     omega (arith, length-append (stored_from k (k + 1) below) (stored_from parent (k + 1 + node_count below) beside), length-append (prefix below) (prefix beside))
 
 -- the place of the next node is among the nodes before it
-pub place_low : (links : List Links) → AreInOrder links → (next_place links).parent ≤ length links
+pub place_low : (links : List Links) → ComeAfterParents links → (next_place links).parent ≤ length links
 place_low links ordered = (place-within (length links) links (length links) 0 ordered).parent_low
 
-pub previous_low : (links : List Links) → AreInOrder links → (next_place links).previous ≤ length links
+pub previous_low : (links : List Links) → ComeAfterParents links → (next_place links).previous ≤ length links
 previous_low links ordered =
     let low : (next_place links).previous ≤ max (length links) 0 = (place-within (length links) links (length links) 0 ordered).previous_low in omega arith
 
@@ -206,7 +206,7 @@ told_front links x previous next parent to_come p q =
     ap (λ l. with_next l parent to_come) (with_next-front links (x ∷ []) previous next p) ∙ with_next-front (with_next links previous next) (x ∷ []) parent to_come (omega arith)
 
 -- the links with those of one node more
-pub put_is : (links : List Links) (place : Place) (count first to_come children : ℕ) → place ≡ next_place links
+pub put_is : (links : List Links) (place : NodePlace) (count first to_come children : ℕ) → place ≡ next_place links
     → count ≡ length links → first ≡ first_below (count + 1) children
     → to_come ≡ (links_at links place.parent).next_sibling - 1 →
     with_next (with_next links place.previous (count + 1)) place.parent to_come ++ link_numbers place.parent first children ∷ [] ≡ linked_next links children

@@ -9,10 +9,10 @@ use Rattle.def_tree.specs.Events.{Event, Enter, Leave, events_from, events, Acce
 use Rattle.def_tree.proofs.Forests.{prefix-forest_of}
 use Rattle.def_tree.proofs.Lists.{tree_of_whole}
 use Rattle.xg_tree.specs.declared.links.Links.{Links}
-use Rattle.xg_tree.specs.Linked.{AreInOrder, first_root, link_numbers, links_at, stored, stored_from}
+use Rattle.xg_tree.specs.Linked.{ComeAfterParents, first_root, link_numbers, links_at, stored, stored_from}
 use Rattle.xg_tree.specs.Kept.{IsKeptTree}
 use Rattle.xg_tree.specs.Visits.{left_after, leaving, leaving_from, visit_events, visits_from}
-use Rattle.xg_tree.proofs.LinkedLemmas.{AreInOrder-on, links_at-seam, length-stored_from, none_in_order}
+use Rattle.xg_tree.proofs.LinkedLemmas.{ComeAfterParents-on, links_at-seam, length-stored_from, none_in_order}
 use Rattle.xg_tree.proofs.JoinedLemmas.{linked-whole}
 
 module _ {V : Type 0} (may_enter : V → ℕ → Node → Type 0) (enters : V → ℕ → Node → V → Type 0)
@@ -68,12 +68,12 @@ left_after-other : (links : List Links) (k : ℕ) → (links_at links k).next_si
 left_after-other links k more = ap (λ b. cond b (links_at links k).parent 0) (ne_eqb (links_at links k).next_sibling 0 more)
 
 -- a node that is left with another comes before it
-pub left_before : (links : List Links) (k : ℕ) → AreInOrder links → 1 ≤ k → left_after links k < k
+pub left_before : (links : List Links) (k : ℕ) → ComeAfterParents links → 1 ≤ k → left_after links k < k
 left_before links k ordered some =
     let before : (links_at links k).parent < k = ordered k some in
     elim (nat_eq (links_at links k).next_sibling 0) as (λ b. cond b (links_at links k).parent 0 < k) [ true ↦ before | false ↦ omega arith ]
 
-leaving-fuel : (m n : ℕ) (links : List Links) (k : ℕ) → AreInOrder links → k ≤ m → k ≤ n
+leaving-fuel : (m n : ℕ) (links : List Links) (k : ℕ) → ComeAfterParents links → k ≤ m → k ≤ n
     → leaving_from m links k ≡ leaving_from n links k
 leaving-fuel zero n links zero ordered h g = sym (leaving-none n links)
 leaving-fuel zero n links (suc i) ordered h g = absurd (omega arith)
@@ -83,7 +83,7 @@ leaving-fuel (suc m) (suc n) links (suc i) ordered h g =
     let before : left_after links (suc i) < suc i = left_before links (suc i) ordered (omega arith) in
     ap (λ rest. Leave (suc i) ∷ rest) (leaving-fuel m n links (left_after links (suc i)) ordered (omega arith) (omega arith))
 
-leaving-cons : (n : ℕ) (links : List Links) (k : ℕ) → AreInOrder links → 1 ≤ k → k ≤ n
+leaving-cons : (n : ℕ) (links : List Links) (k : ℕ) → ComeAfterParents links → 1 ≤ k → k ≤ n
     → leaving_from n links k ≡ Leave k ∷ leaving_from n links (left_after links k)
 leaving-cons zero links k ordered some high = absurd (omega arith)
 leaving-cons (suc n) links zero ordered some high = absurd (omega arith)
@@ -92,7 +92,7 @@ leaving-cons (suc n) links (suc i) ordered some high =
     ap (λ rest. Leave (suc i) ∷ rest) (leaving-fuel n (suc n) links (left_after links (suc i)) ordered (omega arith) (omega arith))
 
 -- a node is left, and then those that are left with it
-pub leaving_opened : (links : List Links) (k : ℕ) → AreInOrder links → 1 ≤ k → k ≤ length links
+pub leaving_opened : (links : List Links) (k : ℕ) → ComeAfterParents links → 1 ≤ k → k ≤ length links
     → leaving links k ≡ Leave k ∷ leaving links (left_after links k)
 leaving_opened links k ordered some high = leaving-cons (length links) links k ordered some high
 
@@ -136,7 +136,7 @@ has_links front back parent k (grown node below beside) at =
 nodes_in : (node : Node) (below beside : Forest) → node_count (grown node below beside) ≡ 1 + node_count below + node_count beside
 nodes_in node below beside = omega (arith, length-append (prefix below) (prefix beside))
 
-module _ (links : List Links) (ordered : AreInOrder links) where
+module _ (links : List Links) (ordered : ComeAfterParents links) where
   -- with the last node below a node it is left, and then come the trees beside it
   then_beside : (parent k after : ℕ) (beside : Forest) → (links_at links k).parent ≡ parent
       → (links_at links k).next_sibling ≡ first_root after beside → 1 ≤ k → k < after → after + node_count beside ≤ length links + 1
@@ -179,8 +179,8 @@ module _ (links : List Links) (ordered : AreInOrder links) where
       ∙ ap (λ l. Enter k node ∷ l) (sym (append_assoc (events_from (k + 1) below) (Leave k ∷ events_from after beside) (leaving links parent)))
 
 -- the links that are kept have each node after its parent
-pub kept_in_order : (nodes : List Node) (links : List Links) (ended : ℕ) → IsKeptTree nodes links ended → AreInOrder links
-kept_in_order nodes links ended kept = subst AreInOrder (linked-whole nodes kept.whole ∙ sym kept.stored) (AreInOrder-on [] nodes none_in_order)
+pub kept_in_order : (nodes : List Node) (links : List Links) (ended : ℕ) → IsKeptTree nodes links ended → ComeAfterParents links
+kept_in_order nodes links ended kept = subst ComeAfterParents (linked-whole nodes kept.whole ∙ sym kept.stored) (ComeAfterParents-on [] nodes none_in_order)
 
 -- visits to all nodes are the walk through the tree
 pub visits_seen : (nodes : List Node) (links : List Links) (ended : ℕ) (tree : Forest) → forest_of nodes ≡ tree
@@ -201,7 +201,7 @@ visits_opened links nodes at d there = ap (visits_from links (at + 1)) (drop-con
 module _ {V : Type 0} (may_enter : V → ℕ → Node → Type 0) (enters : V → ℕ → Node → V → Type 0)
     (may_leave : V → ℕ → Type 0) (leaves : V → ℕ → V → Type 0) where
   -- a node is left, and those that are left with it are still to be left
-  pub left_on : (whole : List Event) (start : V) (links : List Links) (k after : ℕ) (now next : V) → AreInOrder links → 1 ≤ k
+  pub left_on : (whole : List Event) (start : V) (links : List Links) (k after : ℕ) (now next : V) → ComeAfterParents links → 1 ≤ k
       → k ≤ length links → after ≡ left_after links k
       → IsGoing may_enter enters may_leave leaves whole start (leaving links k) now → leaves now k next
       → IsGoing may_enter enters may_leave leaves whole start (leaving links after) next

@@ -4,12 +4,12 @@ use Rattle.std.specs.Prelude.{ℕ, ◌+◌, ◌-◌, ◌<◌, ◌≤◌, zero, s
 use Rattle.def_tree.specs.declared.Node.{Node}
 use Rattle.def_tree.specs.Tree.{Forest, bare, grown, node_count}
 use Rattle.xg_tree.specs.declared.links.Links.{Links}
-use Rattle.xg_tree.specs.declared.links.Place.{Place}
+use Rattle.xg_tree.specs.declared.links.NodePlace.{NodePlace}
 
 abbrev pub link_numbers : ℕ → ℕ → ℕ → Links
 link_numbers parent first_child next_sibling = record { parent = parent; first_child = first_child; next_sibling = next_sibling }
 
-abbrev pub place_numbers : ℕ → ℕ → Place
+abbrev pub place_numbers : ℕ → ℕ → NodePlace
 place_numbers parent previous = record { parent = parent; previous = previous }
 
 -- the links of node k
@@ -24,21 +24,21 @@ with_next links (suc i) next = slice_set links i (record (links_at links (suc i)
 
 -- a node with children to come holds as its next sibling how many: from a node whose last child is the previous one
 -- upwards, the first that has some, and its last child
-abbrev pub place_from : ℕ → List Links → ℕ → ℕ → Place
+abbrev pub place_from : ℕ → List Links → ℕ → ℕ → NodePlace
 place_from zero links parent previous = place_numbers parent previous
 place_from (suc most) links zero previous = place_numbers 0 previous
 place_from (suc most) links (suc i) previous =
     if nat_eq (links_at links (suc i)).next_sibling 0 then place_from most links (links_at links (suc i)).parent (suc i) else place_numbers (suc i) previous
 
 -- where the next node stands
-abbrev pub next_place : List Links → Place
+abbrev pub next_place : List Links → NodePlace
 next_place links = place_from (length links) links (length links) 0
 
 abbrev pub first_below : ℕ → ℕ → ℕ
 first_below k zero = 0
 first_below k (suc _) = k + 1
 
-abbrev pub linked_at : List Links → Place → ℕ → List Links
+abbrev pub linked_at : List Links → NodePlace → ℕ → List Links
 linked_at links place children =
     with_next (with_next links place.previous (length links + 1)) place.parent ((links_at links place.parent).next_sibling - 1)
     ++ link_numbers place.parent (first_below (length links + 1) children) children ∷ []
@@ -55,8 +55,8 @@ abbrev pub linked : List Node → List Links
 linked nodes = linked_on [] nodes
 
 -- each node comes after its parent
-abbrev pub AreInOrder : List Links → Type 0
-AreInOrder links = (k : ℕ) → 1 ≤ k → (links_at links k).parent < k
+abbrev pub ComeAfterParents : List Links → Type 0
+ComeAfterParents links = (k : ℕ) → 1 ≤ k → (links_at links k).parent < k
 
 -- the first of the top nodes
 abbrev pub first_root : ℕ → Forest → ℕ

@@ -1,7 +1,7 @@
 //! The links between the nodes of a tree.
 ghost use Rattle.std.specs.Prelude.{◌≡◌, ◌+◌, ◌-◌, ◌<◌, ◌≤◌, [], ◌∷◌, ◌++◌, length, vec_len, vec_capacity};
 ghost use Rattle.def_tree.specs.Rules.{most_nodes};
-ghost use Rattle.xg_tree.specs.Linked.{AreInOrder, first_below, links_at, linked_next, next_place, numbered, with_next};
+ghost use Rattle.xg_tree.specs.Linked.{ComeAfterParents, first_below, links_at, linked_next, next_place, numbered, with_next};
 ghost use Rattle.xg_tree.specs.Visits.{left_after};
 
 /// The numbers of a node's parent, its first child and its next sibling. Nodes are numbered from 1, and 0 stands for none.
@@ -16,7 +16,7 @@ pub(crate) struct Links {
 
 // Where a node stands: its parent, and the sibling before it.
 #[derive(Clone, Copy)]
-pub(crate) struct Place {
+pub(crate) struct NodePlace {
     pub(crate) parent: u32,
     pub(crate) previous: u32,
 }
@@ -37,17 +37,17 @@ pub(crate) fn links_at(links: &[Links], k: u32) -> Links
 }
 
 /// Where the next node stands: below the innermost node with children to come.
-pub(crate) fn next_place(links: &[Links]) -> Place
+pub(crate) fn next_place(links: &[Links]) -> NodePlace
     requires limit { length links.now < most_nodes }
-    requires ordered { AreInOrder links.now }
+    requires ordered { ComeAfterParents links.now }
     ensures { result ≡ next_place links.now }
 {
-    let mut place = Place {
+    let mut place = NodePlace {
         parent: links.len() as u32,
         previous: 0,
     };
     while place.parent > 0 && links_at(links, place.parent).next_sibling == 0 {
-        place = Place {
+        place = NodePlace {
             parent: links_at(links, place.parent).parent,
             previous: place.parent,
         };
@@ -77,7 +77,7 @@ fn first_below(k: u32, children: u32) -> u32
 pub(crate) fn put_next(links: &mut Vec<Links>, children: u32)
     requires room { vec_len links.old < vec_capacity links.old }
     requires limit { length links.old.items < most_nodes }
-    requires ordered { AreInOrder links.old.items }
+    requires ordered { ComeAfterParents links.old.items }
     ensures { links.new.items ≡ linked_next links.old.items children }
 {
     let place = next_place(links);

@@ -5,7 +5,7 @@ ghost use Rattle.def_tree.specs.Links.{first_child_of, next_sibling_of, parent_o
 ghost use Rattle.def_tree.specs.Rules.{IsGameTree};
 ghost use Rattle.def_tree.specs.Tree.{forest_of, leaf_count, node_count, prefix};
 ghost use Rattle.xg_tree.specs.Kept.{IsKeptTree};
-ghost use Rattle.xg_tree.specs.Linked.{AreInOrder};
+ghost use Rattle.xg_tree.specs.Linked.{ComeAfterParents};
 ghost use Rattle.xg_tree.specs.Visits.{leaving, visit_events};
 
 use crate::links::{Links, left_after, links_at, numbered};
@@ -59,6 +59,13 @@ impl Tree {
         ensures rules { IsGameTree self.now }
     {
         self.nodes.len() as u32
+    }
+
+    /// Does nothing: its clause is what is true of every tree.
+    pub fn facts(&self)
+        ensures rules { IsGameTree self.now }
+    {
+        let _count = self.len();
     }
 
     /// The number of leaves.
@@ -119,7 +126,7 @@ impl Tree {
 fn visit<V: Visitor>(links: &[Links], k: u32, node: Node, visitor: &mut V)
     requires from_one { 1 ≤ k }
     requires there { k ≤ length links.now }
-    requires ordered { AreInOrder links.now }
+    requires ordered { ComeAfterParents links.now }
     requires accepts { Accepts V.may_enter V.enters V.may_leave V.leaves (visit_events links.now k node) visitor.old }
     ensures { Leads V.may_enter V.enters V.may_leave V.leaves (visit_events links.now k node) visitor.old visitor.new }
 {
@@ -132,7 +139,7 @@ fn visit<V: Visitor>(links: &[Links], k: u32, node: Node, visitor: &mut V)
 // Leaves node `k`, and after a last child its parent.
 fn leave_from<V: Visitor>(links: &[Links], k: u32, visitor: &mut V)
     requires there { k ≤ length links.now }
-    requires ordered { AreInOrder links.now }
+    requires ordered { ComeAfterParents links.now }
     requires accepts { Accepts V.may_enter V.enters V.may_leave V.leaves (leaving links.now k) visitor.old }
     ensures { Leads V.may_enter V.enters V.may_leave V.leaves (leaving links.now k) visitor.old visitor.new }
 {

@@ -2,7 +2,7 @@ use Rattle.std.proofs.Common.{◌≡◌, ◌≢◌, ◌+◌, ◌-◌, ◌^◌, �
 use Rattle.std.specs.Vec.{vec_len}
 use Rattle.def_tree.specs.Rules.{Fits}
 use Rattle.def_tree.specs.Tree.{leaf_count, wanted}
-use Rattle.xg_tree.specs.Linked.{AreInOrder, linked_next}
+use Rattle.xg_tree.specs.Linked.{ComeAfterParents, linked_next}
 use Rattle.xg_tree.specs.Sizes.{with_size}
 use Rattle.xg_tree.proofs.BuiltLemmas.{IsBuilt-push, IsBuilt-same, links_as_nodes, links_in_order, wanted_fits}
 use Rattle.xg_tree.proofs.builder.Builder.push.Goals as goal
@@ -39,4 +39,4 @@ put_next-requires-clause-limit c =
 
 pub put_next-requires-clause-ordered : goal.put_next-requires-clause-ordered
 put_next-requires-clause-ordered c =
-    subst AreInOrder (sym c.reserve-2.ensures.items) (links_in_order c.self.inside.nodes.items c.self.inside.links.items c.self.inside.wanted c.self.inside.leaves c.self.inside.sizes c.self.invariant)
+    subst ComeAfterParents (sym c.reserve-2.ensures.items) (links_in_order c.self.inside.nodes.items c.self.inside.links.items c.self.inside.wanted c.self.inside.leaves c.self.inside.sizes c.self.invariant)

@@ -2,7 +2,7 @@ use Rattle.std.proofs.Common.{length, ap, sym, subst, arith}
 use Rattle.def_tree.specs.declared.Kind.TheVariants.{Chance}
 use Rattle.def_tree.specs.declared.Node.{Node}
 use Rattle.def_tree.specs.Events.{events}
-use Rattle.xg_tree.specs.Linked.{AreInOrder}
+use Rattle.xg_tree.specs.Linked.{ComeAfterParents}
 use Rattle.xg_tree.proofs.VisitsLemmas.{kept_in_order, links_as_nodes, visit_accepted, visit_over, walk_begins, walk_over}
 use Rattle.xg_tree.proofs.tree.Tree.walk.Goals as goal
 
@@ -14,7 +14,7 @@ visit-requires-clause-there g c =
     omega (arith, ap length c.deref.ensures.value, ap length c.deref-node-items.ensures.value, links_as_nodes c.self.inside.nodes.items c.self.inside.links.items c.self.inside.leaves c.self.invariant)
 
 pub visit-requires-clause-ordered : goal.visit-requires-clause-ordered
-visit-requires-clause-ordered g c = subst AreInOrder (sym c.deref.ensures.value) (kept_in_order c.self.inside.nodes.items c.self.inside.links.items c.self.inside.leaves c.self.invariant)
+visit-requires-clause-ordered g c = subst ComeAfterParents (sym c.deref.ensures.value) (kept_in_order c.self.inside.nodes.items c.self.inside.links.items c.self.inside.leaves c.self.invariant)
 
 pub visit-requires-clause-accepts : goal.visit-requires-clause-accepts
 visit-requires-clause-accepts g c =

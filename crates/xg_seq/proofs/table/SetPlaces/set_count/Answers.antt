@@ -2,7 +2,7 @@ use Rattle.std.proofs.Common.{map, arith}
 use Rattle.std.proofs.lemmas.List.{length-map}
 use Rattle.xg_seq.specs.Table.{set_of_row}
 use Rattle.xg_seq.proofs.RowLemmas.{sets_are_few}
-use Rattle.xg_seq.proofs.table.SetTable.set_count.Goals as goal
+use Rattle.xg_seq.proofs.table.SetPlaces.set_count.Goals as goal
 
 pub overflow_cast-result : goal.overflow_cast-result
 overflow_cast-result c =

@@ -1,7 +1,7 @@
 use Rattle.std.proofs.Common.{arith, ap}
 use Rattle.def_plan.specs.Form.{sequence_count}
 use Rattle.xg_seq.proofs.NumberLemmas.{numbers_for_all}
-use Rattle.xg_seq.proofs.table.SetTable.sequence_count.Goals as goal
+use Rattle.xg_seq.proofs.table.SetPlaces.sequence_count.Goals as goal
 
 pub overflow_cast-result : goal.overflow_cast-result
 overflow_cast-result c = omega (arith, c.len.ensures, numbers_for_all c.self.inside.rows.items c.self.inside.set_numbers.items c.self.invariant, c.self.invariant.limit)

@@ -3,7 +3,7 @@ use Rattle.std.proofs.lemmas.List.{get_or_default}
 use Rattle.def_plan.specs.Form.{InformationSet, sequence_count}
 use Rattle.xg_seq.specs.Table.{EndsAt, set_of_row}
 use Rattle.xg_seq.proofs.NumberLemmas.{ends_at, numbers_for_all}
-use Rattle.xg_seq.proofs.table.SetTable.set_of.Goals as goal
+use Rattle.xg_seq.proofs.table.SetPlaces.set_of.Goals as goal
 
 pub index-requires : goal.index-requires
 index-requires c = omega (arith, c.requires.some, c.requires.there, numbers_for_all c.self.inside.rows.items c.self.inside.set_numbers.items c.self.invariant, ap sequence_count c.self.view_is)

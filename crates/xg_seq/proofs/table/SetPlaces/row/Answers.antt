@@ -3,7 +3,7 @@ use Rattle.std.proofs.lemmas.List.{length-map}
 use Rattle.def_plan.specs.Form.{InformationSet, sequence_count}
 use Rattle.xg_seq.specs.Table.{set_of_row}
 use Rattle.xg_seq.proofs.RowLemmas.{row_in_place}
-use Rattle.xg_seq.proofs.table.SetTable.row.Goals as goal
+use Rattle.xg_seq.proofs.table.SetPlaces.row.Goals as goal
 
 pub returns-clause-some : goal.returns-clause-some
 returns-clause-some c =

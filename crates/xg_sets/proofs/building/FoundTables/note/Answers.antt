@@ -3,12 +3,12 @@ use Rattle.std.proofs.lemmas.Result.{err_from_is_err_and}
 use Rattle.def_tree.specs.declared.Kind.TheVariants.{One, Two}
 use Rattle.def_game_paths.specs.Coming.{visit_after}
 use Rattle.def_game_paths.specs.Recall.{is_personal}
-use Rattle.xg_sets.specs.declared.building.Tables.{Tables}
+use Rattle.xg_sets.specs.declared.building.FoundTables.{FoundTables}
 use Rattle.xg_sets.specs.declared.movers.Sequences.{Sequences}
 use Rattle.xg_sets.specs.Entered.{AreAtFirstChild, AreTablesOf}
 use Rattle.xg_sets.proofs.NotingLemmas.{broken_one_at, broken_two_at, counts_at, last_at, noted_one_at, noted_two_at, put, quiet_at, room_at}
-use Rattle.xg_sets.proofs.building.Tables.note.Goals as goal
-use Rattle.xg_sets.proofs.building.Tables.note.Goals.{in-One+in_ok-note-in-One, in-Two+in_ok-note-in-Two, in-Chance}
+use Rattle.xg_sets.proofs.building.FoundTables.note.Goals as goal
+use Rattle.xg_sets.proofs.building.FoundTables.note.Goals.{in-One+in_ok-note-in-One, in-Two+in_ok-note-in-Two, in-Chance}
 
 pub note-requires-clause-counts : goal.note-requires-clause-counts
 note-requires-clause-counts c = counts_at c.args.tree.now c.requires.rules c.args.k c.requires.there c.node-node.result c.node-node.ensures One refl c.in-One.is
@@ -42,7 +42,7 @@ returns-in_err-note-in-Two-clause-err c =
 
 -- in each arm: both tables once the sequences are put, and the sequences at the first child
 module _ (c : goal.In_ok-put-3) where
-  abbrev Noted : Tables → Sequences → Type 0
+  abbrev Noted : FoundTables → Sequences → Type 0
   Noted tables below = AreTablesOf c.args.tree.now (c.args.k + 1) (put tables.one c.args.at.one) (put tables.two c.args.at.two) (tables.next_nodes ++ None ∷ []) × AreAtFirstChild c.args.tree.now (visit_after c.args.tree.now c.args.k) below
 
   noted : Noted c.match-node.self c.match-node.below
