@@ -3,6 +3,7 @@ use Rattle.std.specs.Prelude.{◌≡◌, ℕ, suc, ◌*◌, ◌/◌, ◌^◌, �
 use Rattle.std.specs.declared.cmp.Ordering.{Ordering}
 use Rattle.std.specs.Ordering.{int_cmp}
 use Rattle.def_fraction.specs.Divisors.{gcd}
+use Rattle.def_fraction.specs.declared.TheConstants.{MOST_PART, MOST_WIDE}
 
 -- num / den
 pub record Fraction : Type 0 where
@@ -61,7 +62,11 @@ order_of a b = int_cmp (a.num *ℤ pos b.den) (b.num *ℤ pos a.den)
 
 -- the greatest size of a part of a fraction in lowest terms
 abbrev pub most : ℕ
-most = 2 ^ 62
+most = MOST_PART
+
+-- the greatest size of a part of a fraction that is kept with large parts
+abbrev pub most_wide : ℕ
+most_wide = MOST_WIDE
 
 -- no part of the fraction passes the limit
 abbrev pub fits : Fraction → Bool

@@ -4,6 +4,7 @@
 use Rattle.std.specs.Prelude.{◌≡◌, ℕ, ◌+◌, ◌-◌, ◌*◌, ◌^◌, ◌<◌, ◌≤◌, Bool, true, false, List, [], ◌∷◌, ◌++◌, length, Option, Some, None, IsTrue, ◌⊎◌, ⊤, ℤ, if◌then◌else◌}
 use Rattle.def_fraction.specs.Digits.{is_numeral, number_of}
 use Rattle.def_fraction.specs.Fraction.{Fraction, fraction_of, fits, signed}
+use Rattle.def_fraction.specs.declared.TheConstants.{MOST_WRITTEN}
 
 -- The bytes beside digits.
 abbrev pub plus : ℕ
@@ -123,7 +124,7 @@ signed_numerator l = signed (is_minus l.sign) (numerator l.body)
 
 -- the greatest numerator and denominator before reduction
 abbrev pub most_written : ℕ
-most_written = 2 ^ 127 - 1
+most_written = MOST_WRITTEN
 
 abbrev pub exact_value : Literal → Fraction
 exact_value l = fraction_of (signed_numerator l) (denominator l.body)

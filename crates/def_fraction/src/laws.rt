@@ -1,5 +1,7 @@
 //! What the definitions compute, in the words of arithmetic and of number formats.
-ghost use Rattle.def_fraction.specs.Laws.{GcdIsGreatest, LcmIsLeast, FractionIsReduced, ValueTellsFraction, OrderIsTotal, LiteralIsSpelled, LiteralIsJudged, TextIsCanonical, FractionIsReadBack};
+ghost use Rattle.def_fraction.specs.Laws.{GcdIsGreatest, LcmIsLeast, FractionIsReduced, ValueTellsFraction};
+ghost use Rattle.def_fraction.specs.Laws.{OrderIsTotal, LiteralIsSpelled, LiteralIsJudged, TextIsCanonical};
+ghost use Rattle.def_fraction.specs.Laws.{FractionIsReadBack};
 
 /// `gcd a b` divides both numbers, and each common divisor divides it.
 pub fn gcd_is_greatest()

@@ -14,3 +14,12 @@ pub use laws::{
 pub use rows::{
     literals_at_the_limits, literals_that_are_none, literals_with_values, whole_numbers,
 };
+
+/// The greatest size of a part of a fraction in lowest terms.
+pub const MOST_PART: u128 = 1 << 62;
+
+/// The greatest numerator and denominator before reduction.
+pub const MOST_WRITTEN: u128 = (1 << 127) - 1;
+
+/// The greatest size of a part of a ratio: a fraction with large parts, in lowest terms.
+pub const MOST_WIDE: u128 = 1 << 100;

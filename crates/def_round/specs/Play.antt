@@ -6,10 +6,11 @@ use Rattle.def_sums.specs.Sum.{nat_sum_over}
 use Rattle.def_plan.specs.Form.{InformationSet, PlacedSet, placed, sequences_of}
 use Rattle.def_plan.specs.Plan.{dealt}
 use Rattle.def_round.specs.Shares.{shares}
+use Rattle.def_round.specs.declared.TheConstants.{UNITS}
 
 -- a set is played in units of 1 / 65,536
 abbrev pub units : ℕ
-units = 65536
+units = UNITS
 
 abbrev pub positive_part : ℤ → ℕ
 positive_part (pos n) = n

@@ -8,11 +8,18 @@ pub mod sizes;
 
 ghost use Rattle.std.specs.Prelude.{◌≡◌, ◌==◌, [], ◌∷◌, pos, negsuc, if◌then◌else◌};
 ghost use Rattle.def_plan.specs.Pennies.{pennies};
-ghost use Rattle.def_round.specs.Laws.{OwnSumsGainWhatIsPaid, PlansOfPlaysAreUnique, PlaysAreInProportion, PlaysDealByShares, PlaysDealPlans, PlaysGiveAllUnits, PlaysHaveEachSet, PlaysPositiveRegrets, PositivePartsAreExact, RoundsAreComputed, RoundsFollow, RoundsNeedOwnSums, RoundsSumToPlans, SetValuesAreAverages, ValuesAreUnique, ValuesOfTheRest, ValuesSolveTheEquations, WorthsNeedLaterSets};
+ghost use Rattle.def_round.specs.Laws.{OwnSumsGainWhatIsPaid, PlansOfPlaysAreUnique, PlaysAreInProportion};
+ghost use Rattle.def_round.specs.Laws.{PlaysDealByShares, PlaysDealPlans, PlaysGiveAllUnits, PlaysHaveEachSet};
+ghost use Rattle.def_round.specs.Laws.{PlaysPositiveRegrets, PositivePartsAreExact, RoundsAreComputed, RoundsFollow};
+ghost use Rattle.def_round.specs.Laws.{RoundsNeedOwnSums, RoundsSumToPlans, SetValuesAreAverages, ValuesAreUnique};
+ghost use Rattle.def_round.specs.Laws.{ValuesOfTheRest, ValuesSolveTheEquations, WorthsNeedLaterSets};
 ghost use Rattle.def_round.specs.Play.{play_of, plan_of_play};
 ghost use Rattle.def_round.specs.Round.{set_value};
 ghost use Rattle.def_round.specs.Rounds.{rounds};
 ghost use Rattle.def_plan.specs.SmallForms.{three_actions, one_mover};
+
+/// The units that each set is played in.
+pub const UNITS: u32 = 65_536;
 
 /// A play has a number for each sequence, and at each set the shares of the positive parts of the regrets.
 pub fn plays_have_each_set()

@@ -1,6 +1,9 @@
 //! How large the numbers of rounds can be, on which fixed widths rest.
 
-ghost use Rattle.def_round.specs.SizeLaws.{DealtProductsAreSmall, OwnSumsAreSmall, PlayProductsAreSmall, RegretsAreSmall, RegretsGrowByTheSums, RegretsGrowSlowly, RegretsStaySmall, RoundsAreSmall, SmallRegretsDealSmallProducts, ValuesAreWithinSums, WorthPartsAreWithinSums, WorthsAreWithinSums};
+ghost use Rattle.def_round.specs.SizeLaws.{DealtProductsAreSmall, OwnSumsAreSmall, PlayProductsAreSmall};
+ghost use Rattle.def_round.specs.SizeLaws.{RegretsAreSmall, RegretsGrowByTheSums, RegretsGrowSlowly};
+ghost use Rattle.def_round.specs.SizeLaws.{RegretsStaySmall, RoundsAreSmall, SmallRegretsDealSmallProducts};
+ghost use Rattle.def_round.specs.SizeLaws.{ValuesAreWithinSums, WorthPartsAreWithinSums, WorthsAreWithinSums};
 
 /// A player's leaf sums against a plan are together at most the mass times the plan's root.
 pub fn own_sums_are_small()

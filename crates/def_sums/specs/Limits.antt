@@ -1,6 +1,6 @@
 -- The limits of a game and of a run, on which the fixed widths of numbers rest.
 use Rattle.std.specs.Prelude.{ℕ, ◌*◌, ◌^◌}
-use Rattle.def_sums.specs.declared.TheConstants.{LEAST_CARDS, MOST_CARDS, MOST_MASS, MOST_ROOT, MOST_ROUNDS, MOST_SCALE, MOST_STRIPES, MOST_WORKERS}
+use Rattle.def_sums.specs.declared.TheConstants.{LEAST_CARDS, MOST_CARDS, MOST_MASS, MOST_ROOT, MOST_ROUNDS, MOST_SCALE, MOST_SMALL_ROWS, MOST_STRIPES, MOST_WORKERS, PAST_DEALT}
 
 -- the sizes of all weights of a game together
 abbrev pub most_mass : ℕ
@@ -50,7 +50,11 @@ past_number = 2 ^ 62
 
 -- one past the greatest number whose product with all units, 65,536, has room in 64 bits with a sign
 abbrev pub past_dealt : ℕ
-past_dealt = 2 ^ 47
+past_dealt = PAST_DEALT
+
+-- the greatest sizes that words of 64 bits keep: of all rows together, and of a regret
+abbrev pub most_small_rows : ℕ
+most_small_rows = MOST_SMALL_ROWS
 
 -- one past the greatest size of which two together have room in 128 bits with a sign: of a product, say, or a regret
 abbrev pub past_product : ℕ

@@ -23,6 +23,12 @@ pub const MOST_WORKERS: u32 = 64;
 /// The most stripes of the rows that workers add into.
 pub const MOST_STRIPES: u32 = 64;
 
+/// One past the greatest number whose product with all units of a play has room in 64 bits with a sign.
+pub const PAST_DEALT: u128 = 1 << 47;
+
+/// The greatest sizes that are kept in 64 bits: of all rows together, and of a regret.
+pub const MOST_SMALL_ROWS: u64 = 1 << 62;
+
 /// The fewest cards of one-card poker.
 pub const LEAST_CARDS: u32 = 2;
 

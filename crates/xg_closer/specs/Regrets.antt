@@ -1,9 +1,8 @@
 -- A player's regrets between rounds.
 use Rattle.std.specs.Prelude.{◌≡◌, ℕ, ◌+◌, ◌*◌, ◌≤◌, ℤ, pos, unsigned_abs, List, length, replicate, Option, Some, None, IfSome}
-use Rattle.def_sums.specs.Limits.{most_rounds, most_round_row}
+use Rattle.def_sums.specs.Limits.{most_rounds, most_round_row, most_small_rows}
 use Rattle.def_plan.specs.Form.{InformationSet, sequence_count}
 use Rattle.def_round.specs.Play.{regret_of}
-use Rattle.xg_closer.specs.Rows.{most_small}
 
 -- the regrets of all sequences, and how many rounds were closed
 pub record RegretsSoFar : Type 0 where
@@ -21,7 +20,7 @@ kept_regrets None small wide = wide
 
 -- where it is known how large small regrets can be, none is larger, and all have room in 64 bits
 abbrev pub AreWithin : Option ℕ → List ℤ → Type 0
-AreWithin most small = IfSome most (λ most. (most ≤ most_small) × ((s : ℕ) → unsigned_abs (regret_of small s) ≤ most))
+AreWithin most small = IfSome most (λ most. (most ≤ most_small_rows) × ((s : ℕ) → unsigned_abs (regret_of small s) ≤ most))
 
 -- how large small regrets can be after a round whose rows have these sizes together
 pub record IsMostAfter (most sizes : Option ℕ) (more : ℕ) : Type 0 where
@@ -30,7 +29,7 @@ pub record IsMostAfter (most sizes : Option ℕ) (more : ℕ) : Type 0 where
   pub before_is : most ≡ Some before
   pub grown_is : sizes ≡ Some grown
   pub sum : more ≡ before + grown
-  pub small : more ≤ most_small
+  pub small : more ≤ most_small_rows
 
 -- there is room for as many worths, the empty sequence has no regret,
 -- no regret is larger than 2 ^ 82 for each round, and small ones are within what is known of them

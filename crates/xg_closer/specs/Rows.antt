@@ -1,5 +1,6 @@
 -- What the rows of a player give each sequence.
-use Rattle.std.specs.Prelude.{◌≡◌, ℕ, ◌^◌, ◌≤◌, ℤ, unsigned_abs, List}
+use Rattle.std.specs.Prelude.{◌≡◌, ℕ, ◌≤◌, ℤ, unsigned_abs, List}
+use Rattle.def_sums.specs.Limits.{most_small_rows}
 use Rattle.def_sums.specs.Sum.{nat_sum_over}
 use Rattle.def_tree.specs.declared.Player.{Player}
 use Rattle.def_round.specs.Round.{utility}
@@ -9,12 +10,8 @@ use Rattle.def_plan.specs.FormRows.{amount_of}
 abbrev pub own_amount : Player → List ℤ → ℕ → ℤ
 own_amount player rows s = utility player (amount_of rows s)
 
--- the greatest sizes that words of 64 bits keep: of all rows together, and of a regret
-abbrev pub most_small : ℕ
-most_small = 2 ^ 62
-
 -- these worths are what the rows are to the player, and the rows have no more than these sizes together
 pub record AreTaken (player : Player) (rows worths : List ℤ) (sizes : ℕ) : Type 0 where
   pub each : (s : ℕ) → amount_of worths s ≡ own_amount player rows s
   pub together : nat_sum_over unsigned_abs rows ≤ sizes
-  pub small : sizes ≤ most_small
+  pub small : sizes ≤ most_small_rows

@@ -1,23 +1,24 @@
 //! The close of a round: the regrets that it adds.
 ghost use Rattle.std.specs.Prelude.{◌≡◌, ℕ, ◌+◌, ◌*◌, ◌^◌, ◌<◌, ◌≤◌, ℤ, pos, ◌+ℤ◌, ◌-ℤ◌, ◌*ℤ◌, unsigned_abs, neg_ℤ};
-ghost use Rattle.std.specs.Prelude.{length, map, slice_index, FitsSigned, IfSome, IsTrue};
+ghost use Rattle.std.specs.Prelude.{length, map, slice_get, slice_index, FitsSigned, IfSome, IsTrue, Some};
 ghost use Rattle.std.specs.Int.{int_wrap};
 ghost use Rattle.def_plan.specs.Form.{player_sets, sequence_count, sequences_of};
 ghost use Rattle.def_round.specs.Play.{GivesAllUnits, regret_of, units};
 ghost use Rattle.def_round.specs.Round.{IsRound, regrets_after, utility};
 ghost use Rattle.def_round.specs.Sizes.{size_of_sums};
 ghost use Rattle.def_sums.specs.Floor.{floor_div};
-ghost use Rattle.def_sums.specs.Limits.{most_rounds, most_round_row, past_product};
+ghost use Rattle.def_sums.specs.Limits.{most_rounds, most_round_row, most_small_rows, past_product};
 ghost use Rattle.def_sums.specs.Sum.{nat_sum_over};
 ghost use Rattle.xg_closer.specs.Closing.{value_by, weighed_sizes, weighed_sum};
 ghost use Rattle.xg_closer.specs.Laws.{LeafSumsCloseTheRound};
 ghost use Rattle.xg_closer.specs.Regrets.{AreWithin, IsMostAfter, kept_regrets};
-ghost use Rattle.xg_closer.specs.Rows.{AreTaken, most_small, own_amount};
+ghost use Rattle.xg_closer.specs.Rows.{AreTaken, own_amount};
 ghost use Rattle.xg_seq.specs.Table.{most_sequences, placed_of_row};
 ghost use Rattle.def_plan.specs.FormRows.{amount_of};
 
 use crate::regrets::Regrets;
 use crate::worths::{Worth, add_worth, worth_at};
+use def_sums::MOST_SMALL_ROWS;
 use def_tree::Player;
 use xg_plan::Play;
 use xg_seq::{SeqForm, SetPlace};
@@ -51,7 +52,7 @@ pub fn close_round(
     let most = close_rows(
         form,
         player,
-        play,
+        play.units(),
         rows,
         regrets.most_small,
         &mut regrets.small_worths,
@@ -73,7 +74,7 @@ pub fn leaf_sums_close_the_round()
 fn close_rows(
     form: &SeqForm,
     player: Player,
-    play: &Play,
+    play: &[u32],
     rows: &[i128],
     most: Option<u64>,
     small_worths: &mut [i64],
@@ -130,7 +131,11 @@ fn most_after(most: Option<u64>, sizes: Option<u64>) -> Option<u64>
     ensures { IfSome result (IsMostAfter most sizes) }
 {
     let more = most?.checked_add(sizes?)?;
-    if more <= MOST_SMALL { Some(more) } else { None }
+    if more <= MOST_SMALL_ROWS {
+        Some(more)
+    } else {
+        None
+    }
 }
 
 // Copies small regrets to those of all bits, where they are kept as small ones.
@@ -157,7 +162,7 @@ fn copy_wide(small_regrets: &[i64], regrets: &mut [i128])
 fn close_wide(
     form: &SeqForm,
     player: Player,
-    play: &Play,
+    play: &[u32],
     rows: &[i128],
     sizes: Option<u64>,
     small_worths: &mut [i64],
@@ -189,9 +194,6 @@ fn close_wide(
     }
 }
 
-// The greatest sizes that are kept in 64 bits: of all rows together, and of a regret.
-const MOST_SMALL: u64 = 1 << 62;
-
 // Takes the rows as they are to the player, if all of them together have room in 64 bits. Their sizes together are the
 // answer.
 fn take_small_rows(player: Player, rows: &[i128], worths: &mut [i64]) -> Option<u64>
@@ -199,7 +201,7 @@ fn take_small_rows(player: Player, rows: &[i128], worths: &mut [i64]) -> Option<
     ensures count { length worths.new ≡ length worths.old }
     ensures taken { IfSome result (AreTaken player rows.now worths.new) }
 {
-    let mut room = MOST_SMALL;
+    let mut room = MOST_SMALL_ROWS;
     for i in 0..rows.len() {
         let Some(row) = small_row(rows[i], room) else {
             return None;
@@ -207,7 +209,7 @@ fn take_small_rows(player: Player, rows: &[i128], worths: &mut [i64]) -> Option<
         room -= row.unsigned_abs();
         worths[i] = own_row(player, row);
     }
-    Some(MOST_SMALL - room)
+    Some(MOST_SMALL_ROWS - room)
 }
 
 // The row, if its size is no greater than the room.
@@ -223,7 +225,7 @@ fn small_row(row: i128, room: u64) -> Option<i64>
 }
 
 fn own_row(player: Player, row: i64) -> i64
-    requires { unsigned_abs row ≤ most_small }
+    requires { unsigned_abs row ≤ most_small_rows }
     ensures { result ≡ utility player row }
 {
     match player {
@@ -260,7 +262,7 @@ fn negate_into(rows: &[i128], worths: &mut [i128])
 fn close_sets<W: Worth, R: Worth>(
     form: &SeqForm,
     player: Player,
-    play: &Play,
+    play: &[u32],
     worths: &mut [W],
     regrets: &mut [R],
 )
@@ -284,14 +286,15 @@ fn close_sets<W: Worth, R: Worth>(
         (map R.amount regrets.old) }
 {
     form.facts();
-    for set in (0..form.set_count(player)).rev() {
-        let place = form.place_of(player, set + 1);
+    let places = form.places(player);
+    for set in (0..places.len()).rev() {
+        let place = place_at(places, set);
         close_set(place, play, worths, regrets);
     }
 }
 
 // Adds the regrets of one set, whose sequences' worths are complete, and its value to the sequence before it.
-fn close_set<W: Worth, R: Worth>(place: SetPlace, play: &Play, worths: &mut [W], regrets: &mut [R])
+fn close_set<W: Worth, R: Worth>(place: SetPlace, play: &[u32], worths: &mut [W], regrets: &mut [R])
     requires from_one { 1 ≤ place.first }
     requires inside { place.first + place.actions ≤ length worths.old }
     requires earlier { place.before < place.first }
@@ -335,7 +338,7 @@ fn close_set<W: Worth, R: Worth>(place: SetPlace, play: &Play, worths: &mut [W],
     add_worth(worths, place.before as usize, value);
 }
 
-fn value_of_set<W: Worth>(place: SetPlace, play: &Play, worths: &[W]) -> i128
+fn value_of_set<W: Worth>(place: SetPlace, play: &[u32], worths: &[W]) -> i128
     requires from_one { 1 ≤ place.first }
     requires inside { place.first + place.actions ≤ length worths.now }
     requires as_play { length play.now ≡ length worths.now }
@@ -349,12 +352,12 @@ fn value_of_set<W: Worth>(place: SetPlace, play: &Play, worths: &[W]) -> i128
     let mut sum = 0i128;
     for i in 0..place.actions {
         let s = place.first + i;
-        sum = plus(sum, product(play.of(s), worth_at(worths, s as usize)));
+        sum = plus(sum, product(play[s as usize], worth_at(worths, s as usize)));
     }
     floor_by_units(sum)
 }
 
-fn sum_of_two<W: Worth>(place: SetPlace, play: &Play, worths: &[W]) -> i128
+fn sum_of_two<W: Worth>(place: SetPlace, play: &[u32], worths: &[W]) -> i128
     requires from_one { 1 ≤ place.first }
     requires two { place.actions ≡ 2 }
     requires inside { place.first + 2 ≤ length worths.now }
@@ -364,8 +367,11 @@ fn sum_of_two<W: Worth>(place: SetPlace, play: &Play, worths: &[W]) -> i128
     ensures { result ≡ weighed_sum play.now (map W.amount worths.now) (placed_of_row place) }
 {
     let first = place.first;
-    let a = product(play.of(first), worth_at(worths, first as usize));
-    let b = product(play.of(first + 1), worth_at(worths, first as usize + 1));
+    let a = product(play[first as usize], worth_at(worths, first as usize));
+    let b = product(
+        play[first as usize + 1],
+        worth_at(worths, first as usize + 1),
+    );
     plus(a, b)
 }
 
@@ -409,6 +415,14 @@ fn add_regret<W: Worth, R: Worth>(worths: &[W], value: i128, s: usize, regrets: 
     ensures others { (t : ℕ) → (t ≡ s → ⊥) → regret_of (map R.amount regrets.new) t ≡ regret_of (map R.amount regrets.old) t }
 {
     add_worth(regrets, s, minus(worth_at(worths, s), value));
+}
+
+/// The place of a set, counted from 0.
+pub(crate) fn place_at(places: &[SetPlace], set: usize) -> SetPlace
+    requires { set < length places.now }
+    ensures { slice_get (map placed_of_row places.now) set ≡ Some (placed_of_row result) }
+{
+    places[set]
 }
 
 fn negative(a: i128) -> i128

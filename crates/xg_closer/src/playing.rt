@@ -7,16 +7,14 @@ ghost use Rattle.def_tree.specs.Rules.{most_actions};
 ghost use Rattle.xg_closer.specs.Playing.{PlaysSet};
 ghost use Rattle.xg_seq.specs.Table.{most_sequences, placed_of_row};
 
+use crate::closing::place_at;
 use crate::regrets::Regrets;
 use crate::worths::{Worth, worth_at};
+use def_round::UNITS;
+use def_sums::PAST_DEALT;
 use def_tree::Player;
 use xg_plan::Play;
 use xg_seq::{SeqForm, SetPlace};
-
-const UNITS: u32 = 65_536;
-
-// Below it a number's product with all units has room in 64 bits: `past_dealt` of the definitions.
-const PAST_DEALT: u128 = 1 << 47;
 
 /// Makes the play of the regrets as they stand, by regret matching (Zinkevich, Johanson, Bowling and Piccione 2007).
 ///
@@ -45,8 +43,9 @@ fn play_sets<R: Worth>(form: &SeqForm, player: Player, regrets: &[R], play: &mut
 {
     form.facts();
     play.gives_none_to_empty();
-    for set in 0..form.set_count(player) {
-        let place = form.place_of(player, set + 1);
+    let places = form.places(player);
+    for set in 0..places.len() {
+        let place = place_at(places, set);
         play_set(place, regrets, play);
     }
 }

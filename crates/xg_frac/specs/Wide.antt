@@ -1,11 +1,7 @@
 -- What is kept of the two parts of a fraction with large parts.
-use Rattle.std.specs.Prelude.{ℕ, ◌^◌, ◌≤◌, ◌≤ℤ◌, ℤ, pos, unsigned_abs}
-use Rattle.def_fraction.specs.Fraction.{IsInLowestTerms}
+use Rattle.std.specs.Prelude.{◌≤◌, ◌≤ℤ◌, ℤ, pos, unsigned_abs}
+use Rattle.def_fraction.specs.Fraction.{IsInLowestTerms, most_wide}
 use Rattle.xg_frac.specs.Parts.{fraction_from}
-
--- the greatest size of such a part
-abbrev pub most_wide : ℕ
-most_wide = 2 ^ 100
 
 pub record AreWideParts (num den : ℤ) : Type 0 where
   pub positive : pos 1 ≤ℤ den

@@ -1,11 +1,11 @@
 //! Sums, products, quotients and the order of fractions.
 ghost use Rattle.std.specs.Prelude.{◌≡◌, ◌^◌, ◌≤◌, ◌↔◌, pos, ◌*ℤ◌, ◌≤ℤ◌, unsigned_abs, IsTrue, OkIff};
 ghost use Rattle.def_fraction.specs.Divisors.{lcm};
-ghost use Rattle.def_fraction.specs.Fraction.{fraction_of, sum_of, product_of, order_of, fits, most};
-ghost use Rattle.xg_frac.specs.Wide.{most_wide};
+ghost use Rattle.def_fraction.specs.Fraction.{fraction_of, sum_of, product_of, order_of, fits, most, most_wide};
 
-use crate::fraction::{Frac, MOST_PART, OverLimit, greatest_common_divisor, in_lowest_terms};
+use crate::fraction::{Frac, OverLimit, greatest_common_divisor, in_lowest_terms};
 use crate::wide::{Ratio, of_sizes};
+use def_fraction::MOST_PART;
 use std::cmp::Ordering;
 
 /// The exact sum.

@@ -3,10 +3,8 @@ ghost use Rattle.std.specs.Prelude.{◌≡◌, ◌/◌, ◌^◌, ◌<◌, ◌≤
 ghost use Rattle.def_fraction.specs.Divisors.{gcd};
 ghost use Rattle.def_fraction.specs.Fraction.{Fraction, IsInLowestTerms, signed, fraction_of, whole_number, most, fits};
 
+use def_fraction::MOST_PART;
 use std::marker::Model;
-
-/// The greatest size of a part of a fraction in lowest terms.
-pub const MOST_PART: u128 = 0x4000_0000_0000_0000;
 
 /// A part of the exact result in lowest terms is past 2^62 in size.
 #[derive(Clone, Copy, Debug, PartialEq, Eq)]

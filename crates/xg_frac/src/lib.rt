@@ -10,8 +10,8 @@ mod printing;
 mod wide;
 
 pub use arithmetic::{add, compare, lcm, mul, ratio};
-pub use def_fraction::NumberFault;
-pub use fraction::{Frac, MOST_PART, OverLimit, one_over, whole};
+pub use def_fraction::{MOST_PART, NumberFault};
+pub use fraction::{Frac, OverLimit, one_over, whole};
 pub use literal::{PAST, read_literal, read_whole};
 pub use printing::{put_frac, put_int, put_ratio};
 pub use wide::Ratio;

@@ -1,5 +1,6 @@
 //! Reading number literals and whole numbers.
-ghost use Rattle.std.specs.Prelude.{◌≡◌, ℕ, ◌+◌, ◌-◌, ◌*◌, ◌^◌, ◌<◌, ◌≤◌, ◌≢◌, ◌↔◌, ◌&&◌, nat_lt, if◌then◌else◌, Some, None, IfSome, min, length, Err, IsTrue, IsFalse, IfOk};
+ghost use Rattle.std.specs.Prelude.{◌≡◌, ℕ, ◌+◌, ◌-◌, ◌*◌, ◌^◌, ◌<◌, ◌≤◌, ◌≢◌, ◌↔◌, ◌&&◌, nat_lt, if◌then◌else◌};
+ghost use Rattle.std.specs.Prelude.{Some, None, IfSome, min, length, Err, IsTrue, IsFalse, IfOk};
 ghost use Rattle.std.specs.Option.{option_map};
 ghost use Rattle.def_fraction.specs.Digits.{is_numeral, number_of, leading_digits, after_digits};
 ghost use Rattle.def_fraction.specs.Fraction.{most};
@@ -7,8 +8,8 @@ ghost use Rattle.def_fraction.specs.Literal.{is_minus, IsNoLiteral, HasZeroDenom
 ghost use Rattle.def_fraction.specs.Reading.{sign_of, after_sign, body_of, power_of, read_as_literal, read_as_whole};
 ghost use Rattle.xg_frac.specs.Scan.{ScansPart, capped, quotient_of, decimal_quotient, exponent_of, past_all};
 
-use crate::fraction::{Frac, MOST_PART, reduced};
-use def_fraction::NumberFault;
+use crate::fraction::{Frac, reduced};
+use def_fraction::{MOST_PART, MOST_WRITTEN, NumberFault};
 
 /// Reads a literal: a fraction, or a decimal with or without a point and a power of ten, with or without a sign. Leading
 /// zeros may be as many as there are. Of several faults the first in the order of `NumberFault` is the answer.
@@ -62,7 +63,7 @@ pub fn read_whole(bytes: &[u8]) -> Result<u64, NumberFault>
 
 /// One past the greatest numerator and denominator before reduction. While a number is read it stands for all greater
 /// ones, so that nothing overflows.
-pub const PAST: u128 = 0x8000_0000_0000_0000_0000_0000_0000_0000;
+pub const PAST: u128 = MOST_WRITTEN + 1;
 
 /// A number below this one still fits 64 bits with a digit more.
 const SHORT: u64 = 1_000_000_000_000_000_000;

@@ -1,7 +1,6 @@
 //! Fractions whose parts may be larger than those of a `Frac`: bounds of payoffs, over unit and root.
 ghost use Rattle.std.specs.Prelude.{◌≡◌, ◌^◌, ◌<◌, ◌≤◌, ◌≤ℤ◌, pos, unsigned_abs};
-ghost use Rattle.def_fraction.specs.Fraction.{IsInLowestTerms, signed, fraction_of};
-ghost use Rattle.xg_frac.specs.Wide.{most_wide};
+ghost use Rattle.def_fraction.specs.Fraction.{IsInLowestTerms, signed, fraction_of, most_wide};
 
 use crate::fraction::greatest_common_divisor;
 use std::marker::Model;

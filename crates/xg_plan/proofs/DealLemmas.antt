@@ -12,7 +12,7 @@ use Rattle.def_plan.proofs.BadSets.{length-placed}
 use Rattle.def_round.specs.Shares.{shares, weight_sum}
 use Rattle.def_round.proofs.SharesLaws.{length-shares, shares_whole}
 use Rattle.def_round.specs.Laws.{IsPlanOfPlay}
-use Rattle.def_round.specs.Play.{GivesAllUnits, plan_of_play, play_rule}
+use Rattle.def_round.specs.Play.{plan_of_play, play_rule}
 use Rattle.def_round.proofs.Blocks.{map-block}
 use Rattle.def_round.proofs.Plays.{plans_of_plays_are_unique, sum_of_map}
 use Rattle.xg_plan.proofs.PlaceLemmas.{IsPlacedAs, SetAt, few_before, first_of, no_place, part_is, set_at}
@@ -50,13 +50,15 @@ pub small_before : (sets : List InformationSet) (play : List ℕ) (root k : ℕ)
     → (d : PlacedSet) → slice_index plan (get_or (placed sets) k d).before ≤ root
 small_before sets play root k plan order below upto d = let at = set_at sets k d order below in upto.small (get_or (placed sets) k d).before (omega (arith, at.first, at.earlier))
 
+-- the numbers that a set gets now are dealt from the number before it by the play
+abbrev pub IsDealtFrom : List ℕ → List ℕ → List ℕ → PlacedSet → Type 0
+IsDealtFrom play plan next h = map (λ s. slice_index next s) (sequences_of h) ≡ play_rule play h (slice_index plan h.before)
+
 -- the numbers of set k are dealt, and those of the sequences before it stay
 pub record Deals (sets : List InformationSet) (play : List ℕ) (k : ℕ) (plan next : List ℕ) : Type 0 where
   pub count : length next ≡ length plan
   pub earlier : (d : PlacedSet) (s : ℕ) → s < (get_or (placed sets) k d).first → slice_index next s ≡ slice_index plan s
-  pub dealt : (d : PlacedSet)
-      → map (λ s. slice_index next s) (sequences_of (get_or (placed sets) k d))
-      ≡ play_rule play (get_or (placed sets) k d) (slice_index plan (get_or (placed sets) k d).before)
+  pub dealt : (d : PlacedSet) → IsDealtFrom play plan next (get_or (placed sets) k d)
 
 -- one set more
 pub dealt_more_sets : (sets : List InformationSet) (play : List ℕ) (root k : ℕ) (plan next : List ℕ) → AreInOrder sets
@@ -114,37 +116,41 @@ pub dealt_is_plan_of_play : (sets : List InformationSet) (play : List ℕ) (root
 dealt_is_plan_of_play sets play root plan order some upto = plans_of_plays_are_unique sets play root plan order (dealt_to_all sets play root plan order some upto)
 
 -- the play of a set gives out all units, as a part of the list
-pub part_whole : (sets : List InformationSet) (play : List ℕ) (k first actions before : ℕ)
-    → IsPlacedAs sets k first actions before → k < length sets → length play ≡ sequence_count sets
-    → GivesAllUnits play sets
+pub part_whole : (play : List ℕ) (first actions : ℕ) → first + actions ≤ length play
+    → nat_sum_over (λ s. slice_index play s) (range_with_len first actions) ≡ 65536
     → weight_sum (take (first + actions - first) (drop first play)) ≡ 65536
-part_whole sets play k first actions before known below long all =
-    ap weight_sum (part_is play first actions (omega (arith, known.inside, long))) ∙ sym (sum_of_map (λ s. slice_index play s) (range_with_len first actions))
-    ∙ ap (λ (h : PlacedSet). nat_sum_over (λ s. slice_index play s) (sequences_of h)) (sym (known.is no_place)) ∙ all k no_place (omega (arith, length-placed 1 sets))
+part_whole play first actions inside all =
+    ap weight_sum (part_is play first actions inside) ∙ sym (sum_of_map (λ s. slice_index play s) (range_with_len first actions)) ∙ all
 
 -- a block that is put at a set's place keeps what stands before it
-pub block_keeps : (sets : List InformationSet) (plan block rest : List ℕ) (k first actions before : ℕ)
-    → IsPlacedAs sets k first actions before → length plan ≡ sequence_count sets
-    → (d : PlacedSet) (s : ℕ) → s < (get_or (placed sets) k d).first
+pub block_keeps : (plan block rest : List ℕ) (first : ℕ) → first ≤ length plan
+    → (s : ℕ) → s < first
     → slice_index (take first plan ++ (block ++ rest)) s ≡ slice_index plan s
-block_keeps sets plan block rest k first actions before known long d s low =
-    let below : s < first = omega (arith, ap (λ (h : PlacedSet). h.first) (known.is d)) in
-    let front : length (take first plan) ≡ first = length-take-le first plan (omega (arith, known.inside, long)) in
-    get_or_append_left (take first plan) (block ++ rest) 0 s (omega (arith, front)) ∙ get_or-take first plan s 0 below
+block_keeps plan block rest first inside s low =
+    let front : length (take first plan) ≡ first = length-take-le first plan inside in
+    get_or_append_left (take first plan) (block ++ rest) 0 s (omega (arith, front)) ∙ get_or-take first plan s 0 low
 
 -- and is what the play deals, where it is the shares by the set's part of the play
-pub block_deals : (sets : List InformationSet) (play plan block rest : List ℕ) (k first actions before : ℕ)
-    → IsPlacedAs sets k first actions before → length plan ≡ sequence_count sets → length play ≡ sequence_count sets
-    → block ≡ shares (slice_index plan before) (take (first + actions - first) (drop first play))
-    → (d : PlacedSet)
-    → map (λ s. slice_index (take first plan ++ (block ++ rest)) s) (sequences_of (get_or (placed sets) k d))
-    ≡ play_rule play (get_or (placed sets) k d) (slice_index plan (get_or (placed sets) k d).before)
-block_deals sets play plan block rest k first actions before known long play_long dealt d =
-    let n : ℕ = slice_index plan before in
+pub block_deals : (play plan block rest : List ℕ) (n first actions : ℕ)
+    → first + actions ≤ length plan → length play ≡ length plan
+    → block ≡ shares n (take (first + actions - first) (drop first play))
+    → map (λ s. slice_index (take first plan ++ (block ++ rest)) s) (range_with_len first actions)
+    ≡ shares n (map (λ s. slice_index play s) (range_with_len first actions))
+block_deals play plan block rest n first actions inside as_many dealt =
     let weights : List ℕ = map (λ s. slice_index play s) (range_with_len first actions) in
-    let rule : block ≡ shares n weights = dealt ∙ ap (shares n) (part_is play first actions (omega (arith, known.inside, play_long))) in
+    let rule : block ≡ shares n weights = dealt ∙ ap (shares n) (part_is play first actions (omega (arith, inside, as_many))) in
     let many : length block ≡ actions = ap length rule ∙ length-shares n weights ∙ length-map-range_with_len (λ s. slice_index play s) first actions in
     let new : List ℕ = take first plan ++ (block ++ rest) in
-    let here : map (λ s. slice_index new s) (range_with_len first actions) ≡ shares n weights =
-    ap (λ m. map (λ s. slice_index new s) (range_with_len first m)) (sym many) ∙ map-block (take first plan) block rest first 0 (length-take-le first plan (omega (arith, known.inside, long))) ∙ rule in
-    subst (λ (h : PlacedSet). map (λ s. slice_index new s) (sequences_of h) ≡ play_rule play h (slice_index plan h.before)) (sym (known.is d)) here
+    ap (λ m. map (λ s. slice_index new s) (range_with_len first m)) (sym many) ∙ map-block (take first plan) block rest first 0 (length-take-le first plan (omega (arith, inside))) ∙ rule
+
+-- a set that is dealt at its place among the sets
+pub deals_at : (sets : List InformationSet) (play : List ℕ) (k first actions before : ℕ) (plan next : List ℕ)
+    → IsPlacedAs sets k first actions before → length next ≡ length plan
+    → ((s : ℕ) → s < first → slice_index next s ≡ slice_index plan s)
+    → IsDealtFrom play plan next (record { first = first; before = before; actions = actions })
+    → Deals sets play k plan next
+deals_at sets play k first actions before plan next known count earlier dealt = record {
+  count = count;
+  earlier = λ d s low. earlier s (omega (arith, low, ap (λ (h : PlacedSet). h.first) (known.is d)));
+  dealt = λ d. subst (IsDealtFrom play plan next) (sym (known.is d)) dealt;
+}

@@ -2,14 +2,17 @@
 use Rattle.std.proofs.Common.{◌≡◌, ℕ, zero, suc, ◌+◌, ◌-◌, ◌<◌, ◌≤◌, List, [], ◌∷◌, length, get_or, take, drop, map, ap, sym, ◌∙◌, arith, Some, slice_get, slice_index}
 use Rattle.std.specs.List.{range_with_len}
 use Rattle.std.proofs.Math.Seq.{take-append_seam}
-use Rattle.std.proofs.lemmas.List.{take_more}
+use Rattle.std.proofs.lemmas.List.{length-map, take_more}
 use Rattle.std.proofs.lemmas.List.FromFn.{length-map-range_with_len}
 use Rattle.std.proofs.lemmas.Option.{get_or_from_slice_get}
 use Rattle.def_sums.proofs.SumLaws.{nat_sum_over-append}
-use Rattle.def_plan.specs.Form.{AreInOrder, InformationSet, PlacedSet, placed, sequence_count}
+use Rattle.def_plan.specs.Form.{AreInOrder, InformationSet, IsInOrder, PlacedSet, placed, sequence_count}
 use Rattle.def_plan.proofs.BadSets.{length-placed}
 use Rattle.def_plan.proofs.Places.{total_actions, at-placed}
 use Rattle.def_round.proofs.Blocks.{drop-range}
+use Rattle.xg_seq.specs.declared.table.SetPlace.{SetPlace}
+use Rattle.xg_seq.specs.Table.{placed_of_row}
+use Rattle.xg_seq.proofs.RowLemmas.{placed_in_order, placed_inside}
 
 abbrev pub no_place : PlacedSet
 no_place = record { first = 0; before = 0; actions = 0 }
@@ -68,6 +71,25 @@ is_placed_as sets k first actions before place inside some earlier = record {
   some = some;
   earlier = earlier;
 }
+
+-- and where sets are in order, what stands among the placed ones
+pub placed_at : (sets : List InformationSet) (k : ℕ) (h : PlacedSet) → AreInOrder sets
+    → slice_get (placed sets) k ≡ Some h → IsPlacedAs sets k h.first h.actions h.before
+placed_at sets k h order place =
+    let in_order : IsInOrder h = placed_in_order sets k h order place in
+    is_placed_as sets k h.first h.actions h.before place (placed_inside sets k h place) in_order.0 in_order.1
+
+-- there are as many places as sets
+pub all_places : (sets : List InformationSet) (places : List SetPlace) → map placed_of_row places ≡ placed sets
+    → length places ≡ length sets
+all_places sets places are = sym (length-map places placed_of_row) ∙ ap length are ∙ length-placed 1 sets
+
+-- and what is read at set k is its place
+pub place_read : (sets : List InformationSet) (places : List SetPlace) (k : ℕ) (place : SetPlace) → AreInOrder sets
+    → map placed_of_row places ≡ placed sets → slice_get (map placed_of_row places) k ≡ Some (placed_of_row place)
+    → IsPlacedAs sets k place.first place.actions place.before
+place_read sets places k place order are read =
+    placed_at sets k (placed_of_row place) order (ap (λ hs. slice_get hs k) (sym are) ∙ read)
 
 -- a part of a list, read number by number
 pub part_is : (xs : List ℕ) (first n : ℕ) → first + n ≤ length xs

@@ -1,16 +1,18 @@
 //! The plan of a play.
-ghost use Rattle.std.specs.Prelude.{◌≡◌, ℕ, ◌*◌, ◌-◌, ◌/◌, ◌<◌, ◌≤◌, length, map, slice_index, slice_index_or};
+ghost use Rattle.std.specs.Prelude.{◌≡◌, ℕ, ◌*◌, ◌+◌, ◌/◌, ◌<◌, ◌≤◌, length, map, slice_get, slice_index, Some};
 ghost use Rattle.def_sums.specs.Limits.{most_scale, past_dealt};
-ghost use Rattle.def_plan.specs.Form.{PlacedSet, placed, player_sets, sequence_count, sequences_of};
+ghost use Rattle.def_sums.specs.Sum.{nat_sum_over};
+ghost use Rattle.def_plan.specs.Form.{player_sets, sequence_count, sequences_of};
 ghost use Rattle.def_plan.specs.Plan.{IsPlan};
 ghost use Rattle.def_round.specs.Shares.{shares, weight_sum};
 ghost use Rattle.def_round.specs.Play as play;
+ghost use Rattle.xg_seq.specs.Table.{most_sequences, placed_of_row};
 ghost use Rattle.def_round.specs.Play.{GivesAllUnits, plan_of_play, play_rule};
 
 use crate::plan::Plan;
 use crate::play::Play;
 use def_tree::Player;
-use xg_seq::SeqForm;
+use xg_seq::{SeqForm, SetPlace};
 
 /// Makes the plan that has this root and deals at each set, in order, the number of the sequence before it by the
 /// set's play.
@@ -38,33 +40,37 @@ fn deal_sets(form: &SeqForm, player: Player, units: &[u32], weights: &mut [u64])
     ensures is_plan { IsPlan (player_sets form.now player) (slice_index weights.old 0) weights.new }
 {
     form.facts();
-    for k in 0..form.set_count(player) {
-        deal_set(form, player, k + 1, units, weights);
+    let places = form.places(player);
+    for k in 0..places.len() {
+        let place = place_at(places, k);
+        deal_set(place, units, weights);
     }
 }
 
-// Deals the number of the sequence before a set.
-fn deal_set(form: &SeqForm, player: Player, set: u32, units: &[u32], weights: &mut [u64])
-    requires from_one { 1 ≤ set }
-    requires there { set ≤ length (player_sets form.now player) }
-    requires as_many { length weights.old ≡ sequence_count (player_sets form.now player) }
-    requires play_there { length units.now ≡ sequence_count (player_sets form.now player) }
-    requires all_units { GivesAllUnits units.now (player_sets form.now player) }
-    requires small { (d : PlacedSet) → slice_index weights.old
-        (slice_index_or (placed (player_sets form.now player)) (set - 1) d).before < past_dealt }
-    ensures count { length weights.new ≡ length weights.old }
-    ensures earlier { (d : PlacedSet) (s : ℕ)
-        → s < (slice_index_or (placed (player_sets form.now player)) (set - 1) d).first
-        → slice_index weights.new s ≡ slice_index weights.old s }
-    ensures dealt { (d : PlacedSet)
-        → let h = slice_index_or (placed (player_sets form.now player)) (set - 1) d in
-        map (λ s. slice_index weights.new s) (sequences_of h)
-        ≡ play_rule units.now h (slice_index weights.old h.before) }
+// The place of a set, counted from 0.
+fn place_at(places: &[SetPlace], k: usize) -> SetPlace
+    requires { k < length places.now }
+    ensures { slice_get (map placed_of_row places.now) k ≡ Some (placed_of_row result) }
 {
-    let h = form.place_of(player, set);
-    let first = h.first as usize;
-    let end = first + h.actions as usize;
-    let n = weights[h.before as usize];
+    places[k]
+}
+
+// Deals the number of the sequence before a set.
+fn deal_set(place: SetPlace, units: &[u32], weights: &mut [u64])
+    requires inside { place.first + place.actions ≤ length weights.old }
+    requires earlier { place.before < place.first }
+    requires as_many { length units.now ≡ length weights.old }
+    requires limit { length weights.old ≤ most_sequences }
+    requires all_units { nat_sum_over (λ s. slice_index units.now s) (sequences_of (placed_of_row place)) ≡ play.units }
+    requires small { slice_index weights.old place.before < past_dealt }
+    ensures count { length weights.new ≡ length weights.old }
+    ensures earlier { (s : ℕ) → s < place.first → slice_index weights.new s ≡ slice_index weights.old s }
+    ensures dealt { map (λ s. slice_index weights.new s) (sequences_of (placed_of_row place))
+        ≡ play_rule units.now (placed_of_row place) (slice_index weights.old place.before) }
+{
+    let first = place.first as usize;
+    let end = first + place.actions as usize;
+    let n = weights[place.before as usize];
     deal_by_play(n, &units[first..end], &mut weights[first..end]);
 }
 

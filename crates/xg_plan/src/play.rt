@@ -44,6 +44,13 @@ impl Play {
         self.units[sequence as usize]
     }
 
+    /// The units of all sequences.
+    pub fn units(&self) -> &[u32]
+        ensures { result.now ≡ self.now }
+    {
+        &self.units
+    }
+
     /// Gives a sequence these units.
     pub fn set(&mut self, sequence: u32, units: u32)
         requires from_one { 1 ≤ sequence }

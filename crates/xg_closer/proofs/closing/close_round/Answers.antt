@@ -23,7 +23,7 @@ invariant_of-regrets c =
     let small : List ℤ = c.close_rows-most.new.small_regrets in
     let wide : List ℤ = c.close_rows-most.new.regrets in
     let after_is : kept_regrets c.close_rows-most.result small wide ≡ regrets_after (own_amount player rows) c.args.play.now sets before =
-    c.close_rows-most.ensures.regrets ∙ ap (regrets_after (own_amount player rows) c.args.play.now sets) before_is in
+    c.close_rows-most.ensures.regrets ∙ ap (λ ps. regrets_after (own_amount player rows) ps sets (kept_regrets most c.deref_mut-3.result.now c.deref_mut-4.result.now)) c.units.ensures ∙ ap (regrets_after (own_amount player rows) c.args.play.now sets) before_is in
     let small_written = written small c.regrets.inside.small_regrets.items c.regrets.inside.small_regrets.len (omega (arith, c.close_rows-most.ensures.small_count, c.deref_mut-3.ensures.len)) in
     let wide_written = written wide c.regrets.inside.regrets.items c.regrets.inside.regrets.len (omega (arith, c.close_rows-most.ensures.count, c.deref_mut-4.ensures.len)) in
     let worths : List ℤ = c.close_rows-most.new.worths in
@@ -57,7 +57,7 @@ returns-clause-regrets c =
     let small : List ℤ = c.close_rows-most.new.small_regrets in
     let wide : List ℤ = c.close_rows-most.new.regrets in
     let after_is : kept_regrets c.close_rows-most.result small wide ≡ regrets_after (own_amount player rows) c.args.play.now sets before =
-    c.close_rows-most.ensures.regrets ∙ ap (regrets_after (own_amount player rows) c.args.play.now sets) before_is in
+    c.close_rows-most.ensures.regrets ∙ ap (λ ps. regrets_after (own_amount player rows) ps sets (kept_regrets most c.deref_mut-3.result.now c.deref_mut-4.result.now)) c.units.ensures ∙ ap (regrets_after (own_amount player rows) c.args.play.now sets) before_is in
     let small_written = written small c.regrets.inside.small_regrets.items c.regrets.inside.small_regrets.len (omega (arith, c.close_rows-most.ensures.small_count, c.deref_mut-3.ensures.len)) in
     let wide_written = written wide c.regrets.inside.regrets.items c.regrets.inside.regrets.len (omega (arith, c.close_rows-most.ensures.count, c.deref_mut-4.ensures.len)) in
     rw (small_written, wide_written) after_is
@@ -75,7 +75,7 @@ returns-clause-equations c =
     let small : List ℤ = c.close_rows-most.new.small_regrets in
     let wide : List ℤ = c.close_rows-most.new.regrets in
     let after_is : kept_regrets c.close_rows-most.result small wide ≡ regrets_after (own_amount player rows) c.args.play.now sets before =
-    c.close_rows-most.ensures.regrets ∙ ap (regrets_after (own_amount player rows) c.args.play.now sets) before_is in
+    c.close_rows-most.ensures.regrets ∙ ap (λ ps. regrets_after (own_amount player rows) ps sets (kept_regrets most c.deref_mut-3.result.now c.deref_mut-4.result.now)) c.units.ensures ∙ ap (regrets_after (own_amount player rows) c.args.play.now sets) before_is in
     let small_written = written small c.regrets.inside.small_regrets.items c.regrets.inside.small_regrets.len (omega (arith, c.close_rows-most.ensures.small_count, c.deref_mut-3.ensures.len)) in
     let wide_written = written wide c.regrets.inside.regrets.items c.regrets.inside.regrets.len (omega (arith, c.close_rows-most.ensures.count, c.deref_mut-4.ensures.len)) in
     (rounds_are_computed (own_amount player rows) c.args.play.now sets before _ order).1 (rw (small_written, wide_written) after_is)
@@ -93,7 +93,7 @@ returns-clause-count c =
     let small : List ℤ = c.close_rows-most.new.small_regrets in
     let wide : List ℤ = c.close_rows-most.new.regrets in
     let after_is : kept_regrets c.close_rows-most.result small wide ≡ regrets_after (own_amount player rows) c.args.play.now sets before =
-    c.close_rows-most.ensures.regrets ∙ ap (regrets_after (own_amount player rows) c.args.play.now sets) before_is in
+    c.close_rows-most.ensures.regrets ∙ ap (λ ps. regrets_after (own_amount player rows) ps sets (kept_regrets most c.deref_mut-3.result.now c.deref_mut-4.result.now)) c.units.ensures ∙ ap (regrets_after (own_amount player rows) c.args.play.now sets) before_is in
     let small_written = written small c.regrets.inside.small_regrets.items c.regrets.inside.small_regrets.len (omega (arith, c.close_rows-most.ensures.small_count, c.deref_mut-3.ensures.len)) in
     let wide_written = written wide c.regrets.inside.regrets.items c.regrets.inside.regrets.len (omega (arith, c.close_rows-most.ensures.count, c.deref_mut-4.ensures.len)) in
     rw (small_written, wide_written) (ap (length {A = ℤ}) after_is ∙ regrets_count (own_amount player rows) c.args.play.now sets before order ∙ sym c.requires.as_regrets)

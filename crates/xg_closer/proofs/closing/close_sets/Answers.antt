@@ -1,11 +1,12 @@
 use Rattle.std.proofs.Common.{◌≡◌, ℕ, ◌+◌, ◌-◌, ◌<◌, ◌≤◌, FitsSigned, List, length, slice_get, ℤ, pos, ◌+ℤ◌, ◌-ℤ◌, arith, refl, sym, subst, ap, map, ◌∙◌, ⊎_elim}
 use Rattle.std.proofs.lemmas.Bool.{cases_eq, cases_lt}
 use Rattle.std.proofs.lemmas.List.{ext_get_or, get_or_past, length-map, take_all}
-use Rattle.def_plan.specs.Form.{InformationSet, PlacedSet, placed, player_sets, sequence_count}
+use Rattle.def_plan.specs.Form.{InformationSet, PlacedSet, player_sets, sequence_count}
 use Rattle.def_round.specs.Play.{regret_of}
 use Rattle.def_round.specs.Round.{regrets_after, set_value}
 use Rattle.xg_seq.specs.Table.{placed_of_row}
 use Rattle.xg_closer.proofs.WorthsSetBySet.{KeepsWorths, SetStep, first_worths, set_step}
+use Rattle.xg_plan.proofs.PlaceLemmas.{all_places}
 use Rattle.xg_closer.proofs.Sets.{IsAt, is_at, start_of, units_at}
 use Rattle.xg_closer.proofs.SetValues.{regrets_count}
 use Rattle.xg_closer.proofs.closing.close_sets.Goals as goal
@@ -15,9 +16,9 @@ pub loop-set-init : goal.loop-set-init
 loop-set-init g c =
     let sets : List InformationSet = player_sets c.args.form.now c.args.player in
     let sums : ℕ → ℤ = amount_of (map g.W.Worth.amount c.args.worths.now) in
-    let count : length sets ≤ c.set_count-set.result = omega (arith, c.set_count-set.ensures) in
-    let last : start_of sets c.set_count-set.result ≡ sequence_count sets = ap sequence_count (take_all c.set_count-set.result sets count) in (
-      first_worths g.W.Worth.width c.args.play.now sets c.set_count-set.result (map g.W.Worth.amount c.args.worths.now) count (length-map c.args.worths.now g.W.Worth.amount ∙ c.requires.as_worths) c.requires.fits,
+    let count : length sets ≤ (length c.places-places.result.now) = omega (arith, all_places sets c.places-places.result.now c.places-places.ensures) in
+    let last : start_of sets (length c.places-places.result.now) ≡ sequence_count sets = ap sequence_count (take_all (length c.places-places.result.now) sets count) in (
+      first_worths g.W.Worth.width c.args.play.now sets (length c.places-places.result.now) (map g.W.Worth.amount c.args.worths.now) count (length-map c.args.worths.now g.W.Worth.amount ∙ c.requires.as_worths) c.requires.fits,
       refl,
       λ s low. refl,
       λ s from. get_or_past (map g.R.Worth.amount c.args.regrets.now) s (pos 0) (omega (arith, last, length-map c.args.regrets.now g.R.Worth.amount, c.requires.as_regrets))
@@ -29,11 +30,10 @@ close_set-requires-clause-from_one g c =
     let sets : List InformationSet = player_sets c.args.form.now c.args.player in
     let sums : ℕ → ℤ = amount_of (map g.W.Worth.amount c.args.worths.now) in
     let m : ℕ = c.loop-set.set - 1 in
-    let same : m + 1 - 1 ≡ m = omega arith in
     let set_is : c.loop-set.set ≡ m + 1 = omega arith in
-    let h : PlacedSet = placed_of_row c.place_of-place.result in
-    let below : m < length sets = omega (arith, c.set_count-set.ensures) in
-    let at : IsAt sets m h = is_at sets m h (c.facts.ensures.order c.args.player) below (ap (slice_get (placed sets)) (sym same) ∙ c.place_of-place.ensures.place) in
+    let h : PlacedSet = placed_of_row c.place_at-place.result in
+    let below : m < length sets = omega (arith, all_places sets c.places-places.result.now c.places-places.ensures) in
+    let at : IsAt sets m h = is_at sets m h (c.facts.ensures.order c.args.player) below (ap (λ hs. slice_get hs m) (sym c.places-places.ensures) ∙ c.place_at-place.ensures) in
     let kept : KeepsWorths g.W.Worth.width sums c.args.play.now sets (m + 1) (map g.W.Worth.amount c.loop-set.worths) = subst (λ k. KeepsWorths g.W.Worth.width sums c.args.play.now sets k (map g.W.Worth.amount c.loop-set.worths)) set_is c.loop-set.invariant.0 in
     omega (arith, at.first)
 
@@ -42,11 +42,10 @@ close_set-requires-clause-inside g c =
     let sets : List InformationSet = player_sets c.args.form.now c.args.player in
     let sums : ℕ → ℤ = amount_of (map g.W.Worth.amount c.args.worths.now) in
     let m : ℕ = c.loop-set.set - 1 in
-    let same : m + 1 - 1 ≡ m = omega arith in
     let set_is : c.loop-set.set ≡ m + 1 = omega arith in
-    let h : PlacedSet = placed_of_row c.place_of-place.result in
-    let below : m < length sets = omega (arith, c.set_count-set.ensures) in
-    let at : IsAt sets m h = is_at sets m h (c.facts.ensures.order c.args.player) below (ap (slice_get (placed sets)) (sym same) ∙ c.place_of-place.ensures.place) in
+    let h : PlacedSet = placed_of_row c.place_at-place.result in
+    let below : m < length sets = omega (arith, all_places sets c.places-places.result.now c.places-places.ensures) in
+    let at : IsAt sets m h = is_at sets m h (c.facts.ensures.order c.args.player) below (ap (λ hs. slice_get hs m) (sym c.places-places.ensures) ∙ c.place_at-place.ensures) in
     let kept : KeepsWorths g.W.Worth.width sums c.args.play.now sets (m + 1) (map g.W.Worth.amount c.loop-set.worths) = subst (λ k. KeepsWorths g.W.Worth.width sums c.args.play.now sets k (map g.W.Worth.amount c.loop-set.worths)) set_is c.loop-set.invariant.0 in
     omega (arith, at.inside, kept.count, length-map c.loop-set.worths g.W.Worth.amount)
 
@@ -55,11 +54,10 @@ close_set-requires-clause-earlier g c =
     let sets : List InformationSet = player_sets c.args.form.now c.args.player in
     let sums : ℕ → ℤ = amount_of (map g.W.Worth.amount c.args.worths.now) in
     let m : ℕ = c.loop-set.set - 1 in
-    let same : m + 1 - 1 ≡ m = omega arith in
     let set_is : c.loop-set.set ≡ m + 1 = omega arith in
-    let h : PlacedSet = placed_of_row c.place_of-place.result in
-    let below : m < length sets = omega (arith, c.set_count-set.ensures) in
-    let at : IsAt sets m h = is_at sets m h (c.facts.ensures.order c.args.player) below (ap (slice_get (placed sets)) (sym same) ∙ c.place_of-place.ensures.place) in
+    let h : PlacedSet = placed_of_row c.place_at-place.result in
+    let below : m < length sets = omega (arith, all_places sets c.places-places.result.now c.places-places.ensures) in
+    let at : IsAt sets m h = is_at sets m h (c.facts.ensures.order c.args.player) below (ap (λ hs. slice_get hs m) (sym c.places-places.ensures) ∙ c.place_at-place.ensures) in
     let kept : KeepsWorths g.W.Worth.width sums c.args.play.now sets (m + 1) (map g.W.Worth.amount c.loop-set.worths) = subst (λ k. KeepsWorths g.W.Worth.width sums c.args.play.now sets k (map g.W.Worth.amount c.loop-set.worths)) set_is c.loop-set.invariant.0 in
     at.earlier
 
@@ -68,11 +66,10 @@ close_set-requires-clause-as_play g c =
     let sets : List InformationSet = player_sets c.args.form.now c.args.player in
     let sums : ℕ → ℤ = amount_of (map g.W.Worth.amount c.args.worths.now) in
     let m : ℕ = c.loop-set.set - 1 in
-    let same : m + 1 - 1 ≡ m = omega arith in
     let set_is : c.loop-set.set ≡ m + 1 = omega arith in
-    let h : PlacedSet = placed_of_row c.place_of-place.result in
-    let below : m < length sets = omega (arith, c.set_count-set.ensures) in
-    let at : IsAt sets m h = is_at sets m h (c.facts.ensures.order c.args.player) below (ap (slice_get (placed sets)) (sym same) ∙ c.place_of-place.ensures.place) in
+    let h : PlacedSet = placed_of_row c.place_at-place.result in
+    let below : m < length sets = omega (arith, all_places sets c.places-places.result.now c.places-places.ensures) in
+    let at : IsAt sets m h = is_at sets m h (c.facts.ensures.order c.args.player) below (ap (λ hs. slice_get hs m) (sym c.places-places.ensures) ∙ c.place_at-place.ensures) in
     let kept : KeepsWorths g.W.Worth.width sums c.args.play.now sets (m + 1) (map g.W.Worth.amount c.loop-set.worths) = subst (λ k. KeepsWorths g.W.Worth.width sums c.args.play.now sets k (map g.W.Worth.amount c.loop-set.worths)) set_is c.loop-set.invariant.0 in
     omega (arith, kept.count, length-map c.loop-set.worths g.W.Worth.amount, c.requires.as_play)
 
@@ -81,11 +78,10 @@ close_set-requires-clause-limit g c =
     let sets : List InformationSet = player_sets c.args.form.now c.args.player in
     let sums : ℕ → ℤ = amount_of (map g.W.Worth.amount c.args.worths.now) in
     let m : ℕ = c.loop-set.set - 1 in
-    let same : m + 1 - 1 ≡ m = omega arith in
     let set_is : c.loop-set.set ≡ m + 1 = omega arith in
-    let h : PlacedSet = placed_of_row c.place_of-place.result in
-    let below : m < length sets = omega (arith, c.set_count-set.ensures) in
-    let at : IsAt sets m h = is_at sets m h (c.facts.ensures.order c.args.player) below (ap (slice_get (placed sets)) (sym same) ∙ c.place_of-place.ensures.place) in
+    let h : PlacedSet = placed_of_row c.place_at-place.result in
+    let below : m < length sets = omega (arith, all_places sets c.places-places.result.now c.places-places.ensures) in
+    let at : IsAt sets m h = is_at sets m h (c.facts.ensures.order c.args.player) below (ap (λ hs. slice_get hs m) (sym c.places-places.ensures) ∙ c.place_at-place.ensures) in
     let kept : KeepsWorths g.W.Worth.width sums c.args.play.now sets (m + 1) (map g.W.Worth.amount c.loop-set.worths) = subst (λ k. KeepsWorths g.W.Worth.width sums c.args.play.now sets k (map g.W.Worth.amount c.loop-set.worths)) set_is c.loop-set.invariant.0 in
     omega (arith, kept.count, length-map c.loop-set.worths g.W.Worth.amount, c.facts.ensures.limit c.args.player)
 
@@ -94,11 +90,10 @@ close_set-requires-clause-as_regrets g c =
     let sets : List InformationSet = player_sets c.args.form.now c.args.player in
     let sums : ℕ → ℤ = amount_of (map g.W.Worth.amount c.args.worths.now) in
     let m : ℕ = c.loop-set.set - 1 in
-    let same : m + 1 - 1 ≡ m = omega arith in
     let set_is : c.loop-set.set ≡ m + 1 = omega arith in
-    let h : PlacedSet = placed_of_row c.place_of-place.result in
-    let below : m < length sets = omega (arith, c.set_count-set.ensures) in
-    let at : IsAt sets m h = is_at sets m h (c.facts.ensures.order c.args.player) below (ap (slice_get (placed sets)) (sym same) ∙ c.place_of-place.ensures.place) in
+    let h : PlacedSet = placed_of_row c.place_at-place.result in
+    let below : m < length sets = omega (arith, all_places sets c.places-places.result.now c.places-places.ensures) in
+    let at : IsAt sets m h = is_at sets m h (c.facts.ensures.order c.args.player) below (ap (λ hs. slice_get hs m) (sym c.places-places.ensures) ∙ c.place_at-place.ensures) in
     let kept : KeepsWorths g.W.Worth.width sums c.args.play.now sets (m + 1) (map g.W.Worth.amount c.loop-set.worths) = subst (λ k. KeepsWorths g.W.Worth.width sums c.args.play.now sets k (map g.W.Worth.amount c.loop-set.worths)) set_is c.loop-set.invariant.0 in
     omega (arith, kept.count, length-map c.loop-set.worths g.W.Worth.amount, c.loop-set.invariant.1, c.requires.as_regrets)
 
@@ -106,10 +101,9 @@ pub close_set-requires-clause-all_units : goal.close_set-requires-clause-all_uni
 close_set-requires-clause-all_units g c =
     let sets : List InformationSet = player_sets c.args.form.now c.args.player in
     let m : ℕ = c.loop-set.set - 1 in
-    let same : m + 1 - 1 ≡ m = omega arith in
-    let h : PlacedSet = placed_of_row c.place_of-place.result in
-    let below : m < length sets = omega (arith, c.set_count-set.ensures) in
-    let at : IsAt sets m h = is_at sets m h (c.facts.ensures.order c.args.player) below (ap (slice_get (placed sets)) (sym same) ∙ c.place_of-place.ensures.place) in
+    let h : PlacedSet = placed_of_row c.place_at-place.result in
+    let below : m < length sets = omega (arith, all_places sets c.places-places.result.now c.places-places.ensures) in
+    let at : IsAt sets m h = is_at sets m h (c.facts.ensures.order c.args.player) below (ap (λ hs. slice_get hs m) (sym c.places-places.ensures) ∙ c.place_at-place.ensures) in
     units_at c.args.play.now sets m h at c.requires.all_units
 
 pub close_set-requires-clause-products : goal.close_set-requires-clause-products
@@ -117,11 +111,10 @@ close_set-requires-clause-products g c =
     let sets : List InformationSet = player_sets c.args.form.now c.args.player in
     let sums : ℕ → ℤ = amount_of (map g.W.Worth.amount c.args.worths.now) in
     let m : ℕ = c.loop-set.set - 1 in
-    let same : m + 1 - 1 ≡ m = omega arith in
     let set_is : c.loop-set.set ≡ m + 1 = omega arith in
-    let h : PlacedSet = placed_of_row c.place_of-place.result in
-    let below : m < length sets = omega (arith, c.set_count-set.ensures) in
-    let at : IsAt sets m h = is_at sets m h (c.facts.ensures.order c.args.player) below (ap (slice_get (placed sets)) (sym same) ∙ c.place_of-place.ensures.place) in
+    let h : PlacedSet = placed_of_row c.place_at-place.result in
+    let below : m < length sets = omega (arith, all_places sets c.places-places.result.now c.places-places.ensures) in
+    let at : IsAt sets m h = is_at sets m h (c.facts.ensures.order c.args.player) below (ap (λ hs. slice_get hs m) (sym c.places-places.ensures) ∙ c.place_at-place.ensures) in
     let kept : KeepsWorths g.W.Worth.width sums c.args.play.now sets (m + 1) (map g.W.Worth.amount c.loop-set.worths) = subst (λ k. KeepsWorths g.W.Worth.width sums c.args.play.now sets k (map g.W.Worth.amount c.loop-set.worths)) set_is c.loop-set.invariant.0 in
     let step : SetStep g.W.Worth.width sums c.args.play.now sets (map g.R.Worth.amount c.args.regrets.now) m h (map g.W.Worth.amount c.loop-set.worths) =
     set_step g.W.Worth.width sums c.args.play.now sets (map g.R.Worth.amount c.args.regrets.now) (map g.W.Worth.amount c.loop-set.worths) m h (c.facts.ensures.order c.args.player) c.requires.all_units c.requires.small c.requires.fits at kept in
@@ -132,11 +125,10 @@ close_set-requires-clause-fits g c =
     let sets : List InformationSet = player_sets c.args.form.now c.args.player in
     let sums : ℕ → ℤ = amount_of (map g.W.Worth.amount c.args.worths.now) in
     let m : ℕ = c.loop-set.set - 1 in
-    let same : m + 1 - 1 ≡ m = omega arith in
     let set_is : c.loop-set.set ≡ m + 1 = omega arith in
-    let h : PlacedSet = placed_of_row c.place_of-place.result in
-    let below : m < length sets = omega (arith, c.set_count-set.ensures) in
-    let at : IsAt sets m h = is_at sets m h (c.facts.ensures.order c.args.player) below (ap (slice_get (placed sets)) (sym same) ∙ c.place_of-place.ensures.place) in
+    let h : PlacedSet = placed_of_row c.place_at-place.result in
+    let below : m < length sets = omega (arith, all_places sets c.places-places.result.now c.places-places.ensures) in
+    let at : IsAt sets m h = is_at sets m h (c.facts.ensures.order c.args.player) below (ap (λ hs. slice_get hs m) (sym c.places-places.ensures) ∙ c.place_at-place.ensures) in
     let kept : KeepsWorths g.W.Worth.width sums c.args.play.now sets (m + 1) (map g.W.Worth.amount c.loop-set.worths) = subst (λ k. KeepsWorths g.W.Worth.width sums c.args.play.now sets k (map g.W.Worth.amount c.loop-set.worths)) set_is c.loop-set.invariant.0 in
     let step : SetStep g.W.Worth.width sums c.args.play.now sets (map g.R.Worth.amount c.args.regrets.now) m h (map g.W.Worth.amount c.loop-set.worths) =
     set_step g.W.Worth.width sums c.args.play.now sets (map g.R.Worth.amount c.args.regrets.now) (map g.W.Worth.amount c.loop-set.worths) m h (c.facts.ensures.order c.args.player) c.requires.all_units c.requires.small c.requires.fits at kept in
@@ -147,11 +139,10 @@ close_set-requires-clause-growth g c =
     let sets : List InformationSet = player_sets c.args.form.now c.args.player in
     let sums : ℕ → ℤ = amount_of (map g.W.Worth.amount c.args.worths.now) in
     let m : ℕ = c.loop-set.set - 1 in
-    let same : m + 1 - 1 ≡ m = omega arith in
     let set_is : c.loop-set.set ≡ m + 1 = omega arith in
-    let h : PlacedSet = placed_of_row c.place_of-place.result in
-    let below : m < length sets = omega (arith, c.set_count-set.ensures) in
-    let at : IsAt sets m h = is_at sets m h (c.facts.ensures.order c.args.player) below (ap (slice_get (placed sets)) (sym same) ∙ c.place_of-place.ensures.place) in
+    let h : PlacedSet = placed_of_row c.place_at-place.result in
+    let below : m < length sets = omega (arith, all_places sets c.places-places.result.now c.places-places.ensures) in
+    let at : IsAt sets m h = is_at sets m h (c.facts.ensures.order c.args.player) below (ap (λ hs. slice_get hs m) (sym c.places-places.ensures) ∙ c.place_at-place.ensures) in
     let kept : KeepsWorths g.W.Worth.width sums c.args.play.now sets (m + 1) (map g.W.Worth.amount c.loop-set.worths) = subst (λ k. KeepsWorths g.W.Worth.width sums c.args.play.now sets k (map g.W.Worth.amount c.loop-set.worths)) set_is c.loop-set.invariant.0 in
     let step : SetStep g.W.Worth.width sums c.args.play.now sets (map g.R.Worth.amount c.args.regrets.now) m h (map g.W.Worth.amount c.loop-set.worths) =
     set_step g.W.Worth.width sums c.args.play.now sets (map g.R.Worth.amount c.args.regrets.now) (map g.W.Worth.amount c.loop-set.worths) m h (c.facts.ensures.order c.args.player) c.requires.all_units c.requires.small c.requires.fits at kept in
@@ -162,11 +153,10 @@ close_set-requires-clause-growth_fits g c =
     let sets : List InformationSet = player_sets c.args.form.now c.args.player in
     let sums : ℕ → ℤ = amount_of (map g.W.Worth.amount c.args.worths.now) in
     let m : ℕ = c.loop-set.set - 1 in
-    let same : m + 1 - 1 ≡ m = omega arith in
     let set_is : c.loop-set.set ≡ m + 1 = omega arith in
-    let h : PlacedSet = placed_of_row c.place_of-place.result in
-    let below : m < length sets = omega (arith, c.set_count-set.ensures) in
-    let at : IsAt sets m h = is_at sets m h (c.facts.ensures.order c.args.player) below (ap (slice_get (placed sets)) (sym same) ∙ c.place_of-place.ensures.place) in
+    let h : PlacedSet = placed_of_row c.place_at-place.result in
+    let below : m < length sets = omega (arith, all_places sets c.places-places.result.now c.places-places.ensures) in
+    let at : IsAt sets m h = is_at sets m h (c.facts.ensures.order c.args.player) below (ap (λ hs. slice_get hs m) (sym c.places-places.ensures) ∙ c.place_at-place.ensures) in
     let kept : KeepsWorths g.W.Worth.width sums c.args.play.now sets (m + 1) (map g.W.Worth.amount c.loop-set.worths) = subst (λ k. KeepsWorths g.W.Worth.width sums c.args.play.now sets k (map g.W.Worth.amount c.loop-set.worths)) set_is c.loop-set.invariant.0 in
     let step : SetStep g.W.Worth.width sums c.args.play.now sets (map g.R.Worth.amount c.args.regrets.now) m h (map g.W.Worth.amount c.loop-set.worths) =
     set_step g.W.Worth.width sums c.args.play.now sets (map g.R.Worth.amount c.args.regrets.now) (map g.W.Worth.amount c.loop-set.worths) m h (c.facts.ensures.order c.args.player) c.requires.all_units c.requires.small c.requires.fits at kept in
@@ -177,11 +167,10 @@ close_set-requires-clause-room g c =
     let sets : List InformationSet = player_sets c.args.form.now c.args.player in
     let sums : ℕ → ℤ = amount_of (map g.W.Worth.amount c.args.worths.now) in
     let m : ℕ = c.loop-set.set - 1 in
-    let same : m + 1 - 1 ≡ m = omega arith in
     let set_is : c.loop-set.set ≡ m + 1 = omega arith in
-    let h : PlacedSet = placed_of_row c.place_of-place.result in
-    let below : m < length sets = omega (arith, c.set_count-set.ensures) in
-    let at : IsAt sets m h = is_at sets m h (c.facts.ensures.order c.args.player) below (ap (slice_get (placed sets)) (sym same) ∙ c.place_of-place.ensures.place) in
+    let h : PlacedSet = placed_of_row c.place_at-place.result in
+    let below : m < length sets = omega (arith, all_places sets c.places-places.result.now c.places-places.ensures) in
+    let at : IsAt sets m h = is_at sets m h (c.facts.ensures.order c.args.player) below (ap (λ hs. slice_get hs m) (sym c.places-places.ensures) ∙ c.place_at-place.ensures) in
     let kept : KeepsWorths g.W.Worth.width sums c.args.play.now sets (m + 1) (map g.W.Worth.amount c.loop-set.worths) = subst (λ k. KeepsWorths g.W.Worth.width sums c.args.play.now sets k (map g.W.Worth.amount c.loop-set.worths)) set_is c.loop-set.invariant.0 in
     let step : SetStep g.W.Worth.width sums c.args.play.now sets (map g.R.Worth.amount c.args.regrets.now) m h (map g.W.Worth.amount c.loop-set.worths) =
     set_step g.W.Worth.width sums c.args.play.now sets (map g.R.Worth.amount c.args.regrets.now) (map g.W.Worth.amount c.loop-set.worths) m h (c.facts.ensures.order c.args.player) c.requires.all_units c.requires.small c.requires.fits at kept in
@@ -195,11 +184,10 @@ loop-set-preserved g c =
     let sets : List InformationSet = player_sets c.args.form.now c.args.player in
     let sums : ℕ → ℤ = amount_of (map g.W.Worth.amount c.args.worths.now) in
     let m : ℕ = c.loop-set.set - 1 in
-    let same : m + 1 - 1 ≡ m = omega arith in
     let set_is : c.loop-set.set ≡ m + 1 = omega arith in
-    let h : PlacedSet = placed_of_row c.place_of-place.result in
-    let below : m < length sets = omega (arith, c.set_count-set.ensures) in
-    let at : IsAt sets m h = is_at sets m h (c.facts.ensures.order c.args.player) below (ap (slice_get (placed sets)) (sym same) ∙ c.place_of-place.ensures.place) in
+    let h : PlacedSet = placed_of_row c.place_at-place.result in
+    let below : m < length sets = omega (arith, all_places sets c.places-places.result.now c.places-places.ensures) in
+    let at : IsAt sets m h = is_at sets m h (c.facts.ensures.order c.args.player) below (ap (λ hs. slice_get hs m) (sym c.places-places.ensures) ∙ c.place_at-place.ensures) in
     let kept : KeepsWorths g.W.Worth.width sums c.args.play.now sets (m + 1) (map g.W.Worth.amount c.loop-set.worths) = subst (λ k. KeepsWorths g.W.Worth.width sums c.args.play.now sets k (map g.W.Worth.amount c.loop-set.worths)) set_is c.loop-set.invariant.0 in
     let step : SetStep g.W.Worth.width sums c.args.play.now sets (map g.R.Worth.amount c.args.regrets.now) m h (map g.W.Worth.amount c.loop-set.worths) =
     set_step g.W.Worth.width sums c.args.play.now sets (map g.R.Worth.amount c.args.regrets.now) (map g.W.Worth.amount c.loop-set.worths) m h (c.facts.ensures.order c.args.player) c.requires.all_units c.requires.small c.requires.fits at kept in

@@ -24,5 +24,5 @@ returns g c =
     let fits_sum : FitsSigned w128 c.plus.result = search rules in
     let sum_is : to_z w128 (of_z w128 c.plus.result) ≡ c.plus.result = to_z-of_z w128 c.plus.result fits_sum in
     let none = +ℤ-zero (pos (slice_index c.args.play.now (first + 1)) *ℤ y) in
-    let two : to_z w128 (of_z w128 c.plus.result) ≡ sum_over term (range_with_len first 2) = cc (c.plus.ensures, c.product-a.ensures, c.product-b.ensures, c.of.ensures, c.of-2.ensures) in
+    let two : to_z w128 (of_z w128 c.plus.result) ≡ sum_over term (range_with_len first 2) = cc (c.plus.ensures, c.product-a.ensures, c.product-b.ensures) in
     two ∙ ap (λ n. sum_over term (range_with_len first n)) (sym c.requires.two)

@@ -2,10 +2,11 @@ use Rattle.std.proofs.Common.{◌≡◌, ℕ, ◌+◌, ◌-◌, ◌<◌, List, l
 use Rattle.std.proofs.lemmas.Bool.{cases_lt}
 use Rattle.std.proofs.lemmas.Grind.{same_number_lists}
 use Rattle.std.proofs.lemmas.List.{take_all}
-use Rattle.def_plan.specs.Form.{InformationSet, PlacedSet, placed, player_sets, sequence_count}
+use Rattle.def_plan.specs.Form.{InformationSet, PlacedSet, player_sets, sequence_count}
 use Rattle.def_round.specs.Play.{GivesAllUnits, play_of}
 use Rattle.def_round.proofs.Plays.{plays_all_units, plays_each_set}
 use Rattle.xg_seq.specs.Table.{placed_of_row}
+use Rattle.xg_plan.proofs.PlaceLemmas.{all_places}
 use Rattle.xg_closer.proofs.Sets.{IsAt, is_at, start_of}
 use Rattle.xg_closer.proofs.PlayedSets.{few_at, played_at, small_at}
 use Rattle.xg_closer.proofs.playing.play_sets.Goals as goal
@@ -22,70 +23,63 @@ pub play_set-requires-clause-from_one : goal.play_set-requires-clause-from_one
 play_set-requires-clause-from_one g c =
     let sets : List InformationSet = player_sets c.args.form.now c.args.player in
     let m : ℕ = c.loop-set.set in
-    let same : m + 1 - 1 ≡ m = omega arith in
-    let h : PlacedSet = placed_of_row c.place_of-place.result in
-    let below : m < length sets = omega (arith, c.set_count-set-end.ensures) in
-    let at : IsAt sets m h = is_at sets m h (c.facts.ensures.order c.args.player) below (ap (slice_get (placed sets)) (sym same) ∙ c.place_of-place.ensures.place) in
+    let h : PlacedSet = placed_of_row c.place_at-place.result in
+    let below : m < length sets = omega (arith, all_places sets c.places-places.result.now c.places-places.ensures) in
+    let at : IsAt sets m h = is_at sets m h (c.facts.ensures.order c.args.player) below (ap (λ hs. slice_get hs m) (sym c.places-places.ensures) ∙ c.place_at-place.ensures) in
     omega (arith, at.first)
 
 pub play_set-requires-clause-some : goal.play_set-requires-clause-some
 play_set-requires-clause-some g c =
     let sets : List InformationSet = player_sets c.args.form.now c.args.player in
     let m : ℕ = c.loop-set.set in
-    let same : m + 1 - 1 ≡ m = omega arith in
-    let h : PlacedSet = placed_of_row c.place_of-place.result in
-    let below : m < length sets = omega (arith, c.set_count-set-end.ensures) in
-    let at : IsAt sets m h = is_at sets m h (c.facts.ensures.order c.args.player) below (ap (slice_get (placed sets)) (sym same) ∙ c.place_of-place.ensures.place) in
+    let h : PlacedSet = placed_of_row c.place_at-place.result in
+    let below : m < length sets = omega (arith, all_places sets c.places-places.result.now c.places-places.ensures) in
+    let at : IsAt sets m h = is_at sets m h (c.facts.ensures.order c.args.player) below (ap (λ hs. slice_get hs m) (sym c.places-places.ensures) ∙ c.place_at-place.ensures) in
     at.some
 
 pub play_set-requires-clause-few : goal.play_set-requires-clause-few
 play_set-requires-clause-few g c =
     let sets : List InformationSet = player_sets c.args.form.now c.args.player in
     let m : ℕ = c.loop-set.set in
-    let same : m + 1 - 1 ≡ m = omega arith in
-    let h : PlacedSet = placed_of_row c.place_of-place.result in
-    let below : m < length sets = omega (arith, c.set_count-set-end.ensures) in
-    let at : IsAt sets m h = is_at sets m h (c.facts.ensures.order c.args.player) below (ap (slice_get (placed sets)) (sym same) ∙ c.place_of-place.ensures.place) in
+    let h : PlacedSet = placed_of_row c.place_at-place.result in
+    let below : m < length sets = omega (arith, all_places sets c.places-places.result.now c.places-places.ensures) in
+    let at : IsAt sets m h = is_at sets m h (c.facts.ensures.order c.args.player) below (ap (λ hs. slice_get hs m) (sym c.places-places.ensures) ∙ c.place_at-place.ensures) in
     few_at sets m h (c.facts.ensures.few_actions c.args.player) below at
 
 pub play_set-requires-clause-inside : goal.play_set-requires-clause-inside
 play_set-requires-clause-inside g c =
     let sets : List InformationSet = player_sets c.args.form.now c.args.player in
     let m : ℕ = c.loop-set.set in
-    let same : m + 1 - 1 ≡ m = omega arith in
-    let h : PlacedSet = placed_of_row c.place_of-place.result in
-    let below : m < length sets = omega (arith, c.set_count-set-end.ensures) in
-    let at : IsAt sets m h = is_at sets m h (c.facts.ensures.order c.args.player) below (ap (slice_get (placed sets)) (sym same) ∙ c.place_of-place.ensures.place) in
+    let h : PlacedSet = placed_of_row c.place_at-place.result in
+    let below : m < length sets = omega (arith, all_places sets c.places-places.result.now c.places-places.ensures) in
+    let at : IsAt sets m h = is_at sets m h (c.facts.ensures.order c.args.player) below (ap (λ hs. slice_get hs m) (sym c.places-places.ensures) ∙ c.place_at-place.ensures) in
     omega (arith, at.inside, c.requires.as_regrets)
 
 pub play_set-requires-clause-limit : goal.play_set-requires-clause-limit
 play_set-requires-clause-limit g c =
     let sets : List InformationSet = player_sets c.args.form.now c.args.player in
     let m : ℕ = c.loop-set.set in
-    let same : m + 1 - 1 ≡ m = omega arith in
-    let h : PlacedSet = placed_of_row c.place_of-place.result in
-    let below : m < length sets = omega (arith, c.set_count-set-end.ensures) in
-    let at : IsAt sets m h = is_at sets m h (c.facts.ensures.order c.args.player) below (ap (slice_get (placed sets)) (sym same) ∙ c.place_of-place.ensures.place) in
+    let h : PlacedSet = placed_of_row c.place_at-place.result in
+    let below : m < length sets = omega (arith, all_places sets c.places-places.result.now c.places-places.ensures) in
+    let at : IsAt sets m h = is_at sets m h (c.facts.ensures.order c.args.player) below (ap (λ hs. slice_get hs m) (sym c.places-places.ensures) ∙ c.place_at-place.ensures) in
     omega (arith, c.facts.ensures.limit c.args.player, c.requires.as_regrets)
 
 pub play_set-requires-clause-small : goal.play_set-requires-clause-small
 play_set-requires-clause-small g c =
     let sets : List InformationSet = player_sets c.args.form.now c.args.player in
     let m : ℕ = c.loop-set.set in
-    let same : m + 1 - 1 ≡ m = omega arith in
-    let h : PlacedSet = placed_of_row c.place_of-place.result in
-    let below : m < length sets = omega (arith, c.set_count-set-end.ensures) in
-    let at : IsAt sets m h = is_at sets m h (c.facts.ensures.order c.args.player) below (ap (slice_get (placed sets)) (sym same) ∙ c.place_of-place.ensures.place) in
+    let h : PlacedSet = placed_of_row c.place_at-place.result in
+    let below : m < length sets = omega (arith, all_places sets c.places-places.result.now c.places-places.ensures) in
+    let at : IsAt sets m h = is_at sets m h (c.facts.ensures.order c.args.player) below (ap (λ hs. slice_get hs m) (sym c.places-places.ensures) ∙ c.place_at-place.ensures) in
     small_at sets (map g.R.Worth.amount c.args.regrets.now) m h at c.requires.small (few_at sets m h (c.facts.ensures.few_actions c.args.player) below at)
 
 pub loop-set-preserved : goal.loop-set-preserved
 loop-set-preserved g c =
     let sets : List InformationSet = player_sets c.args.form.now c.args.player in
     let m : ℕ = c.loop-set.set in
-    let same : m + 1 - 1 ≡ m = omega arith in
-    let h : PlacedSet = placed_of_row c.place_of-place.result in
-    let below : m < length sets = omega (arith, c.set_count-set-end.ensures) in
-    let at : IsAt sets m h = is_at sets m h (c.facts.ensures.order c.args.player) below (ap (slice_get (placed sets)) (sym same) ∙ c.place_of-place.ensures.place) in (
+    let h : PlacedSet = placed_of_row c.place_at-place.result in
+    let below : m < length sets = omega (arith, all_places sets c.places-places.result.now c.places-places.ensures) in
+    let at : IsAt sets m h = is_at sets m h (c.facts.ensures.order c.args.player) below (ap (λ hs. slice_get hs m) (sym c.places-places.ensures) ∙ c.place_at-place.ensures) in (
       c.play_set.ensures.count ∙ c.loop-set.invariant.0,
       λ s low.
           ⊎_elim
@@ -102,7 +96,7 @@ loop-set-preserved g c =
 pub returns-clause-by_regrets : goal.returns-clause-by_regrets
 returns-clause-by_regrets g c =
     let sets : List InformationSet = player_sets c.args.form.now c.args.player in
-    let done : c.loop-set.set ≡ length sets = omega (arith, c.set_count-set-end.ensures) in
+    let done : c.loop-set.set ≡ length sets = omega (arith, all_places sets c.places-places.result.now c.places-places.ensures) in
     let all : start_of sets c.loop-set.set ≡ sequence_count sets = ap (start_of sets) done ∙ ap sequence_count (take_all (length sets) sets (omega arith)) in
     let count = (plays_each_set sets (map g.R.Worth.amount c.args.regrets.now)).all_sequences in
     same_number_lists c.loop-set.play (play_of sets (map g.R.Worth.amount c.args.regrets.now)) (c.loop-set.invariant.0 ∙ c.requires.as_play ∙ sym count)
@@ -111,7 +105,7 @@ returns-clause-by_regrets g c =
 pub returns-clause-all_units : goal.returns-clause-all_units
 returns-clause-all_units g c =
     let sets : List InformationSet = player_sets c.args.form.now c.args.player in
-    let done : c.loop-set.set ≡ length sets = omega (arith, c.set_count-set-end.ensures) in
+    let done : c.loop-set.set ≡ length sets = omega (arith, all_places sets c.places-places.result.now c.places-places.ensures) in
     let all : start_of sets c.loop-set.set ≡ sequence_count sets = ap (start_of sets) done ∙ ap sequence_count (take_all (length sets) sets (omega arith)) in
     let count = (plays_each_set sets (map g.R.Worth.amount c.args.regrets.now)).all_sequences in
     let is : c.loop-set.play ≡ play_of sets (map g.R.Worth.amount c.args.regrets.now) = same_number_lists c.loop-set.play (play_of sets (map g.R.Worth.amount c.args.regrets.now)) (c.loop-set.invariant.0 ∙ c.requires.as_play ∙ sym count)
