@@ -10,10 +10,10 @@ use xg_read::MOST_BYTES;
 use xg_test_data::{certificates, files};
 
 /// A part that stands first, and what takes its place.
-pub(crate) type Change = (&'static str, &'static str);
+pub(crate) type TextChange = (&'static str, &'static str);
 
 /// Changes of a text, one after another, and why it is refused then.
-pub(crate) type Row = (&'static [Change], CheckFault);
+pub(crate) type ChangedCert = (&'static [TextChange], CheckFault);
 
 pub(crate) fn checked(
     rt: &impl Abort,
@@ -31,7 +31,7 @@ fn changed(alloc: Global, text: &str, part: &str, by: &str) -> Result<String, Fa
     Ok(format!(in alloc; "{before}{by}{after}")?)
 }
 
-fn changed_by_all(alloc: Global, text: &str, changes: &[Change]) -> Result<String, Fail> {
+fn changed_by_all(alloc: Global, text: &str, changes: &[TextChange]) -> Result<String, Fail> {
     let mut text = String::from_str(alloc, text)?;
     for (part, by) in changes {
         text = changed(alloc, text.as_str(), part, by)?;
@@ -45,7 +45,7 @@ pub(crate) fn first_other(
     alloc: Global,
     game: &str,
     text: &str,
-    rows: &[Row],
+    rows: &[ChangedCert],
 ) -> Result<Option<usize>, Fail> {
     for (&(changes, fault), place) in rows.iter().zip(0..usize::MAX) {
         let text = changed_by_all(alloc, text, changes)?;
@@ -86,7 +86,7 @@ fn accepts_each_best_reply(rt: HostRuntime) -> Result<(), Fail> {
     Ok(())
 }
 
-const PENNIES_ROWS: &[Row] = &[
+const PENNIES_ROWS: &[ChangedCert] = &[
     (
         &[("value 1 0 1", "value 1 1 1")],
         CheckFault::ValueTooGood {
@@ -142,7 +142,7 @@ const PENNIES_ROWS: &[Row] = &[
     ),
 ];
 
-const MOVER_ROWS: &[Row] = &[(
+const MOVER_ROWS: &[ChangedCert] = &[(
     &[("trace 1 1 524288 1", "trace 1 1 1048576 1")],
     CheckFault::TraceWidens { line: 9 },
 )];

@@ -1,11 +1,11 @@
 //! Certificates of two larger games, as they stand and with lines changed.
-use crate::checking::{Row, bounds, checked, first_other};
+use crate::checking::{ChangedCert, bounds, checked, first_other};
 use std::test::Fail;
 use xg_check::{CheckFault, Player, Which};
 use xg_frac::ratio;
 use xg_test_data::{certificates, files};
 
-const POKER_ROWS: &[Row] = &[
+const POKER_ROWS: &[ChangedCert] = &[
     (
         &[("value 1 -524288 2", "value 1 -524287 2")],
         CheckFault::ValueTooGood {
@@ -55,7 +55,7 @@ fn lines_of_poker(rt: HostRuntime) -> Result<(), Fail> {
 }
 
 /// The first test that fails decides, wherever the other changed line stands.
-const TWICE_HIDDEN_ROWS: &[Row] = &[
+const TWICE_HIDDEN_ROWS: &[ChangedCert] = &[
     (
         &[
             ("plan 1 30", "plan 1 31"),

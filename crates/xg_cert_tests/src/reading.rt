@@ -27,7 +27,7 @@ struct Known {
 /// What is known of a certificate: the rounds, each of them a line of its trace, of the last line the lower total and
 /// the upper round, and both ends.
 #[derive(Clone, Copy, Drop)]
-struct Row {
+struct ReadCert {
     text: &'static str,
     rounds: u32,
     last_low: i128,
@@ -38,8 +38,8 @@ struct Row {
     high: (i128, i128),
 }
 
-const ROWS: &[Row] = &[
-    Row {
+const ROWS: &[ReadCert] = &[
+    ReadCert {
         text: PENNIES,
         rounds: 1,
         last_low: 0,
@@ -63,7 +63,7 @@ const ROWS: &[Row] = &[
         low: (0, 1),
         high: (0, 1),
     },
-    Row {
+    ReadCert {
         text: ONE_MOVER,
         rounds: 2,
         last_low: 1_572_864,
@@ -87,7 +87,7 @@ const ROWS: &[Row] = &[
         low: (3, 4),
         high: (1, 1),
     },
-    Row {
+    ReadCert {
         text: PENNIES_BY_ONE_UNIT,
         rounds: 2,
         last_low: -1,
@@ -154,7 +154,7 @@ fn is_last(trace: &[TraceRow], low: i128, high_round: u32) -> bool {
     }
 }
 
-fn reads(rt: &impl Abort, cert: &Cert, row: &Row) {
+fn reads(rt: &impl Abort, cert: &Cert, row: &ReadCert) {
     let rounds = cert.head().rounds;
     assert!(rt; rounds == row.rounds && rounds >= 1);
     assert!(rt;

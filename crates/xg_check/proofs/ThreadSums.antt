@@ -12,6 +12,7 @@ use Rattle.def_plan.specs.Payoff.{leaf_sum}
 use Rattle.def_plan.specs.Threads.{first_leaf, first_leaf_from, next_leaf, sequence_of_leaf}
 use Rattle.xg_seq.specs.Leaves.{HasSequences}
 use Rattle.xg_seq.proofs.FormLemmas.{sequence_there}
+use Rattle.xg_check.specs.ThreadSums.{HasSumsFrom, IsNumberWithin, sum_on}
 use Rattle.xg_check.specs.Views.{AddsAt, AreAllWithin, paid_at_leaf, row}
 use Rattle.xg_check.proofs.AddLemmas.{added, leaf_more}
 
@@ -29,11 +30,11 @@ IsOnThread player s leaves None = ⊤
 IsOnThread player s leaves (Some z) = (1 ≤ z) × (z ≤ length leaves) × (sequence_of_leaf player z leaves ≡ s)
 
 -- behind the first i leaves, this is the next one that has the sequence
-record IsNextBehind (player : Player) (s i : ℕ) (leaves : List Leaf) (against : List ℕ) (next : Option ℕ) : Type 0 where
-  on : IsOnThread player s leaves next
-  low : i ≤ passed leaves next
-  high : passed leaves next ≤ length leaves
-  left : leaf_sum player (drop i leaves) against s ≡ leaf_sum player (drop (passed leaves next) leaves) against s
+pub record IsNextBehind (player : Player) (s i : ℕ) (leaves : List Leaf) (against : List ℕ) (next : Option ℕ) : Type 0 where
+  pub on : IsOnThread player s leaves next
+  pub low : i ≤ passed leaves next
+  pub high : passed leaves next ≤ length leaves
+  pub left : leaf_sum player (drop i leaves) against s ≡ leaf_sum player (drop (passed leaves next) leaves) against s
 
 module _ (player : Player) (s : ℕ) (leaves : List Leaf) (against : List ℕ) (i : ℕ) (below : i < length leaves) where
   abbrev x : Leaf
@@ -96,64 +97,85 @@ next_behind player s leaves against z high own =
     subst (λ t. IsNextBehind player s z leaves against (first_leaf_from player t (z + 1) (drop z leaves))) (sym own)
     (found player s leaves against (length leaves - z) z (omega (arith, high)))
 
--- the sum of the leaves of a thread before the next one
-pub record IsSumBefore (player : Player) (s : ℕ) (leaves : List Leaf) (against : List ℕ) (sum : ℤ) (next : Option ℕ) : Type 0 where
-  pub on : IsOnThread player s leaves next
-  pub within : passed leaves next ≤ length leaves
-  pub left : sum +ℤ leaf_sum player (drop (passed leaves next) leaves) against s ≡ leaf_sum player leaves against s
-  pub small : unsigned_abs sum ≤ passed leaves next * 2 ^ 99
+-- the next leaf after leaf z on its own thread
+pub next_behind_own : (player : Player) (leaves : List Leaf) (against : List ℕ) (z : ℕ) → z ≤ length leaves
+    → IsNextBehind player (sequence_of_leaf player z leaves) z leaves against (next_leaf player z leaves)
+next_behind_own player leaves against z high = next_behind player (sequence_of_leaf player z leaves) leaves against z high refl
 
--- before the first leaf of a thread the sum is 0
-pub sum_begins : (player : Player) (s : ℕ) (leaves : List Leaf) (against : List ℕ)
-    → IsSumBefore player s leaves against (pos 0) (first_leaf player s leaves)
-sum_begins player s leaves against =
-    let first : IsNextBehind player s 0 leaves against (first_leaf player s leaves) = found player s leaves against (length leaves) 0 (omega arith) in
-    record {
-      on = first.on;
-      within = first.high;
-      left = zero-+ℤ (leaf_sum player (drop (passed leaves (first_leaf player s leaves)) leaves) against s) ∙ sym first.left;
-      small = omega arith;
-    }
+-- the first leaf of a thread
+pub first_behind : (player : Player) (s : ℕ) (leaves : List Leaf) (against : List ℕ)
+    → IsNextBehind player s 0 leaves against (first_leaf player s leaves)
+first_behind player s leaves against = found player s leaves against (length leaves) 0 (omega arith)
 
--- a leaf of the thread is added
-pub sum_goes_on : (player : Player) (s : ℕ) (leaves : List Leaf) (against : List ℕ) (sum now : ℤ) (z : ℕ) (y : Leaf)
-    → IsSumBefore player s leaves against sum (Some z) → slice_get leaves (z - 1) ≡ Some y
-    → now ≡ sum +ℤ paid_at_leaf player against y → unsigned_abs (paid_at_leaf player against y) ≤ 2 ^ 99
-    → IsSumBefore player s leaves against now (next_leaf player z leaves)
-sum_goes_on player s leaves against sum now z y before is n size =
-    let below : z - 1 < length leaves = omega (arith, before.on.0, before.on.1) in
-    let z_is : z - 1 + 1 ≡ z = omega (arith, before.on.0) in
+-- what stands at the next leaf of a thread is the sum of the leaves of its sequence behind the first i
+module _ (player : Player) (s i : ℕ) (leaves : List Leaf) (against : List ℕ) (sums : List ℤ) where
+  pub sum_behind : (next : Option ℕ) → HasSumsFrom i player leaves against sums → IsNextBehind player s i leaves against next
+      → sum_on sums next ≡ leaf_sum player (drop i leaves) against s
+  sum_behind None has behind =
+      sym (behind.left ∙ ap (λ zs. leaf_sum player zs against s) (drop_all (length leaves) leaves (omega arith)))
+  sum_behind (Some z) has behind =
+      let z_is : z - 1 + 1 ≡ z = omega (arith, behind.on.0) in
+      has.whole (z - 1) behind.low (omega (arith, behind.on.0, behind.on.1))
+      ∙ ap (λ k. leaf_sum player (drop (z - 1) leaves) against (sequence_of_leaf player k leaves)) z_is
+      ∙ ap (leaf_sum player (drop (z - 1) leaves) against) behind.on.2
+      ∙ sym behind.left
+
+  pub small_behind : (next : Option ℕ) → HasSumsFrom i player leaves against sums → IsNextBehind player s i leaves against next
+      → unsigned_abs (sum_on sums next) ≤ (length leaves - i) * 2 ^ 99
+  small_behind None has behind = omega arith
+  small_behind (Some z) has behind =
+      omega (arith, has.small (z - 1) behind.low (omega (arith, behind.on.0, behind.on.1)), behind.low, behind.on.0, behind.on.1)
+
+  pub there_behind : (next : Option ℕ) → length sums ≡ length leaves → IsNextBehind player s i leaves against next
+      → IsNumberWithin (length sums) next
+  there_behind None same behind = tt
+  there_behind (Some z) same behind = (behind.on.0, omega (arith, behind.on.1, same))
+
+-- a leaf and the later ones of its thread are the leaves of its sequence from it on
+pub sum_here : (player : Player) (leaves : List Leaf) (against : List ℕ) (sums : List ℤ) (z : ℕ) (y : Leaf)
+    → 1 ≤ z → z ≤ length leaves → slice_get leaves (z - 1) ≡ Some y → HasSumsFrom z player leaves against sums
+    → paid_at_leaf player against y +ℤ sum_on sums (next_leaf player z leaves)
+    ≡ leaf_sum player (drop (z - 1) leaves) against (sequence_of_leaf player z leaves)
+sum_here player leaves against sums z y low high is has =
+    let below : z - 1 < length leaves = omega (arith, low, high) in
+    let z_is : z - 1 + 1 ≡ z = omega (arith, low) in
     let x : Leaf = get_or leaves (z - 1) no_leaf in
+    let s : ℕ = sequence_of_leaf player z leaves in
     let own : leaf_sequence player x ≡ s =
-    sym (sequence_here player s leaves against (z - 1) below) ∙ ap (λ k. sequence_of_leaf player k leaves) z_is ∙ before.on.2 in
+    sym (sequence_here player s leaves against (z - 1) below) ∙ ap (λ k. sequence_of_leaf player k leaves) z_is in
     let y_is : x ≡ y = get_or_from_slice_get leaves (z - 1) y no_leaf is in
-    let next = next_behind player s leaves against z before.on.1 before.on.2 in
-    let rest : ℤ = leaf_sum player (drop (passed leaves (next_leaf player z leaves)) leaves) against s in
-    let more : leaf_sum player (drop (z - 1) leaves) against s ≡ paid_at_leaf player against y +ℤ rest =
+    let rest : sum_on sums (next_leaf player z leaves) ≡ leaf_sum player (drop z leaves) against s =
+    sum_behind player s z leaves against sums (next_leaf player z leaves) has (next_behind_own player leaves against z high) in
+    let more : leaf_sum player (drop (z - 1) leaves) against s ≡ paid_at_leaf player against y +ℤ leaf_sum player (drop z leaves) against s =
     leaf_here player s leaves against (z - 1) below
     ∙ ap (λ t. t +ℤ leaf_sum player (drop (z - 1 + 1) leaves) against s)
     (cond-true (eqb (leaf_sequence player x) s) (paid_at_leaf player against x) (pos 0) (eq-eqb (leaf_sequence player x) s own) ∙ ap (paid_at_leaf player against) y_is)
-    ∙ ap (λ k. paid_at_leaf player against y +ℤ leaf_sum player (drop k leaves) against s) z_is
-    ∙ ap (λ t. paid_at_leaf player against y +ℤ t) next.left in
-    record {
-      on = next.on;
-      within = next.high;
-      left = added sum now _ rest (paid_at_leaf player against y) _ before.left n more;
-      small = omega (arith, ap unsigned_abs n, unsigned_abs-+ℤ sum (paid_at_leaf player against y), before.small, size, next.low, before.on.0);
-    }
+    ∙ ap (λ k. paid_at_leaf player against y +ℤ leaf_sum player (drop k leaves) against s) z_is in
+    ap (λ t. paid_at_leaf player against y +ℤ t) rest ∙ sym more
 
--- a leaf of a thread is passed
-pub leaf_passed : (player : Player) (s : ℕ) (leaves : List Leaf) (against : List ℕ) (sum : ℤ) (z : ℕ)
-    → IsSumBefore player s leaves against sum (Some z) → z ≤ passed leaves (next_leaf player z leaves)
-leaf_passed player s leaves against sum z before = (next_behind player s leaves against z before.on.1 before.on.2).low
-
--- behind the last leaf of a thread the sum is whole
-pub sum_ends : (player : Player) (s : ℕ) (leaves : List Leaf) (against : List ℕ) (sum : ℤ)
-    → IsSumBefore player s leaves against sum None → sum ≡ leaf_sum player leaves against s
-sum_ends player s leaves against sum before =
-    sym (+ℤ-zero sum)
-    ∙ ap (λ zs. sum +ℤ leaf_sum player zs against s) (sym (drop_all (length leaves) leaves (omega arith)))
-    ∙ before.left
+-- one leaf more has its sum
+pub sums_more : (player : Player) (leaves : List Leaf) (against : List ℕ) (before now : List ℤ) (z : ℕ) → 1 ≤ z
+    → HasSumsFrom z player leaves against before
+    → row now (z - 1) ≡ leaf_sum player (drop (z - 1) leaves) against (sequence_of_leaf player z leaves)
+    → unsigned_abs (row now (z - 1)) ≤ (length leaves - (z - 1)) * 2 ^ 99
+    → ((j : ℕ) → (j ≡ z - 1 → ⊥) → row now j ≡ row before j) → HasSumsFrom (z - 1) player leaves against now
+sums_more player leaves against before now z low has here small others = record {
+  whole = λ j from below.
+      ⊎_elim
+      (λ is.
+      let number : z ≡ j + 1 = omega (arith, is, low) in
+      ap (row now) is ∙ here ∙ ap (λ k. leaf_sum player (drop (z - 1) leaves) against (sequence_of_leaf player k leaves)) number
+      ∙ ap (λ k. leaf_sum player (drop k leaves) against (sequence_of_leaf player (j + 1) leaves)) (sym is))
+      (λ apart. others j apart ∙ has.whole j (later j apart from) below)
+      (cases_eq j (z - 1));
+  small = λ j from below.
+      ⊎_elim (λ is. subst (λ k. unsigned_abs (row now k) ≤ (length leaves - k) * 2 ^ 99) (sym is) small)
+      (λ apart. subst (λ (t : ℤ). unsigned_abs t ≤ (length leaves - j) * 2 ^ 99) (sym (others j apart)) (has.small j (later j apart from) below))
+      (cases_eq j (z - 1));
+}
+  where
+    later : (j : ℕ) → (j ≡ z - 1 → ⊥) → z - 1 ≤ j → z ≤ j
+    later j apart from = grind arith
 
 -- a leaf's sequence is one of the player's
 pub leaf_there : (form : SequenceForm) (player : Player) (z : ℕ) (y : Leaf) → All (HasSequences form) form.leaves

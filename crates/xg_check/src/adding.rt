@@ -1,13 +1,15 @@
 //! The worths of sequences: leaf sums, and the printed values of the sets directly after.
-ghost use Rattle.std.specs.Prelude.{◌≡◌, ℕ, ◌+◌, ◌^◌, ◌<◌, ◌≤◌, pos, ◌+ℤ◌, ◌*ℤ◌, All};
-ghost use Rattle.std.specs.Prelude.{length, slice_index, unsigned_abs};
+ghost use Rattle.std.specs.Prelude.{◌≡◌, ℕ, ◌+◌, ◌-◌, ◌*◌, ◌^◌, ◌<◌, ◌≤◌, pos, ◌+ℤ◌, ◌*ℤ◌, All};
+ghost use Rattle.std.specs.Prelude.{drop, length, slice_index, unsigned_abs};
 ghost use Rattle.def_sums.specs.Limits.{most_root};
 ghost use Rattle.def_tree.specs.Opponent.{opponent};
 ghost use Rattle.def_plan.specs.Form.{AreInOrder, leaf_sequence, placed, player_sets, sequence_count};
 ghost use Rattle.def_plan.specs.Payoff.{leaf_sum, values_after};
+ghost use Rattle.def_plan.specs.Threads.{sequence_of_leaf};
 ghost use Rattle.def_cert_verdict.specs.Ranges.{most_printed};
 ghost use Rattle.xg_seq.specs.Leaves.{leaf_of};
 ghost use Rattle.xg_seq.specs.Table.{most_sequences};
+ghost use Rattle.xg_check.specs.ThreadSums.{HasSumsFrom, IsNumberWithin, sum_on};
 ghost use Rattle.xg_check.specs.Views.{AddsAt, AreAllWithin, paid_at_leaf, row};
 
 use def_tree::Player;
@@ -57,53 +59,115 @@ fn paid_at_leaf(player: Player, z: Leaf, against: &[u64]) -> i128
     times(z.w, against[other(player, z)])
 }
 
-// The sum over the leaves of a sequence, from its first leaf to the next one each time.
-fn leaf_sum(form: &SeqForm, player: Player, sequence: u32, against: &[u64]) -> i128
-    requires there { sequence < sequence_count (player_sets form.now player) }
-    requires against { length against.now ≡ sequence_count (player_sets form.now (opponent player)) }
-    requires numbers { (s : ℕ) → slice_index against.now s ≤ most_root }
-    ensures sum { result ≡ leaf_sum player form.now.leaves against.now sequence }
-    ensures small { unsigned_abs result ≤ 2 ^ 119 }
+fn set_at(sums: &mut [i128], k: usize, x: i128)
+    requires there { k < length sums.old }
+    ensures here { row sums.new k ≡ x }
+    ensures others { (j : ℕ) → (j ≡ k → ⊥) → row sums.new j ≡ row sums.old j }
+    ensures same_length { length sums.new ≡ length sums.old }
 {
-    form.facts();
-    let mut sum = 0;
-    let mut next = form.first_leaf(player, sequence);
-    while let Some(z) = next {
-        sum = plus(sum, paid_at_leaf(player, form.leaf(z), against));
-        next = form.next_leaf(player, z);
-    }
-    sum
+    sums[k] = x;
 }
 
-// Adds the leaf sum of a sequence to its row.
-fn add_leaf_sum(form: &SeqForm, player: Player, sequence: u32, against: &[u64], rows: &mut [i128])
-    requires there { sequence < sequence_count (player_sets form.now player) }
-    requires rows { length rows.old ≡ sequence_count (player_sets form.now player) }
+fn sum_on(sums: &[i128], next: Option<u32>) -> i128
+    requires { IsNumberWithin (length sums.now) next }
+    ensures { result ≡ sum_on sums.now next }
+{
+    match next {
+        Some(z) => sums[z as usize - 1],
+        None => 0,
+    }
+}
+
+// The sum of leaf `z` and of the leaves after it on its thread.
+fn sum_from(form: &SeqForm, player: Player, z: u32, against: &[u64], sums: &[i128]) -> i128
+    requires from_one { 1 ≤ z }
+    requires there { z ≤ length form.now.leaves }
     requires against { length against.now ≡ sequence_count (player_sets form.now (opponent player)) }
     requires numbers { (s : ℕ) → slice_index against.now s ≤ most_root }
+    requires sums { length sums.now ≡ length form.now.leaves }
+    requires behind { HasSumsFrom z player form.now.leaves against.now sums.now }
+    ensures sum { result
+        ≡ leaf_sum player (drop (z - 1) form.now.leaves) against.now (sequence_of_leaf player z form.now.leaves) }
+    ensures small { unsigned_abs result ≤ (length form.now.leaves - (z - 1)) * 2 ^ 99 }
+{
+    form.leaf_count();
+    let paid = paid_at_leaf(player, form.leaf(z), against);
+    plus(paid, sum_on(sums, form.next_leaf(player, z)))
+}
+
+fn put_sum(form: &SeqForm, player: Player, z: u32, against: &[u64], sums: &mut [i128])
+    requires from_one { 1 ≤ z }
+    requires there { z ≤ length form.now.leaves }
+    requires against { length against.now ≡ sequence_count (player_sets form.now (opponent player)) }
+    requires numbers { (s : ℕ) → slice_index against.now s ≤ most_root }
+    requires sums { length sums.old ≡ length form.now.leaves }
+    requires behind { HasSumsFrom z player form.now.leaves against.now sums.old }
+    ensures sums { HasSumsFrom (z - 1) player form.now.leaves against.now sums.new }
+    ensures same_length { length sums.new ≡ length sums.old }
+{
+    let sum = sum_from(form, player, z, against, sums);
+    set_at(sums, z as usize - 1, sum);
+}
+
+// Goes from the last leaf to the first, so that at each leaf the sum from the next one of its thread on is known: the
+// leaves are met in their order, where a walk along each thread would wait for each leaf in turn.
+fn sum_threads(form: &SeqForm, player: Player, against: &[u64], sums: &mut [i128])
+    requires against { length against.now ≡ sequence_count (player_sets form.now (opponent player)) }
+    requires numbers { (s : ℕ) → slice_index against.now s ≤ most_root }
+    requires room { length sums.old ≡ length form.now.leaves }
+    ensures sums { HasSumsFrom 0 player form.now.leaves against.now sums.new }
+    ensures same_length { length sums.new ≡ length sums.old }
+{
+    for i in (0..form.leaf_count()).rev() {
+        put_sum(form, player, i + 1, against, sums);
+    }
+}
+
+// Adds to the row of a sequence the sum from its first leaf on.
+fn add_leaf_sum(
+    form: &SeqForm,
+    player: Player,
+    sequence: u32,
+    against: &[u64],
+    sums: &[i128],
+    rows: &mut [i128],
+)
+    requires there { sequence < sequence_count (player_sets form.now player) }
+    requires rows { length rows.old ≡ sequence_count (player_sets form.now player) }
     requires room { AreAllWithin (2 ^ 125) rows.old }
+    requires sums { HasSumsFrom 0 player form.now.leaves against.now sums.now }
+    requires sum_count { length sums.now ≡ length form.now.leaves }
     ensures added { AddsAt rows.old rows.new sequence (leaf_sum player form.now.leaves against.now sequence) }
     ensures small { unsigned_abs (leaf_sum player form.now.leaves against.now sequence) ≤ 2 ^ 119 }
     ensures same_length { length rows.new ≡ length rows.old }
 {
-    let sum = leaf_sum(form, player, sequence, against);
+    form.leaf_count();
+    let sum = sum_on(sums, form.first_leaf(player, sequence));
     add_at(rows, sequence as usize, sum);
 }
 
 /// Adds to the row of each of the player's sequences the sum over its leaves, of each the weight times the other
-/// player's number.
-pub(crate) fn add_leaves(form: &SeqForm, player: Player, against: &[u64], rows: &mut [i128])
+/// player's number. In `sums` there is room for a number of each leaf.
+pub(crate) fn add_leaves(
+    form: &SeqForm,
+    player: Player,
+    against: &[u64],
+    sums: &mut [i128],
+    rows: &mut [i128],
+)
     requires rows { length rows.old ≡ sequence_count (player_sets form.now player) }
     requires against { length against.now ≡ sequence_count (player_sets form.now (opponent player)) }
     requires numbers { (s : ℕ) → slice_index against.now s ≤ most_root }
+    requires sums { length sums.old ≡ length form.now.leaves }
     requires none { AreAllWithin 0 rows.old }
     ensures sums { (s : ℕ) → row rows.new s ≡ row rows.old s +ℤ leaf_sum player form.now.leaves against.now s }
     ensures same_length { length rows.new ≡ length rows.old }
     ensures small { AreAllWithin (2 ^ 119) rows.new }
 {
     form.facts();
+    sum_threads(form, player, against, sums);
     for s in 0..form.sequence_count(player) {
-        add_leaf_sum(form, player, s, against, rows);
+        add_leaf_sum(form, player, s, against, sums, rows);
     }
 }
 

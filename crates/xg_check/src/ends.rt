@@ -1,13 +1,12 @@
 //! The tests of a reply.
 ghost use Rattle.std.specs.Prelude.{◌≡◌, ◌*◌, ◌≤◌, ◌≤ℤ◌, IfOk, pos, unsigned_abs};
-ghost use Rattle.def_fraction.specs.Fraction.{most};
+ghost use Rattle.def_fraction.specs.Fraction.{most, most_wide};
 ghost use Rattle.def_sums.specs.Limits.{most_root};
 ghost use Rattle.def_tree.specs.Opponent.{opponent};
 ghost use Rattle.def_cert_verdict.specs.Certificate.{last_line};
 ghost use Rattle.def_cert_verdict.specs.Verdict.{first_failing};
 ghost use Rattle.xg_cert.specs.Printed.{bounds_in, plan_in, reply_in};
 ghost use Rattle.xg_check.specs.Parts.{HasEachSequence, HasSetsOf, bound_in, tests_of_reply, total_in};
-ghost use Rattle.xg_frac.specs.Wide.{most_wide};
 
 use crate::lines::last_line;
 use crate::parts::PrintedEnd;
@@ -83,7 +82,7 @@ fn end_of(numbers: &Numbers, player: Player, cert: &Cert) -> PrintedEnd
     ensures from_one { pos 1 ≤ℤ result.scale }
     ensures small { unsigned_abs result.scale ≤ most_wide }
 {
-    let _within = cert.head();
+    cert.facts();
     PrintedEnd {
         total: cert.total(player),
         traced: total_in(player, &last_line(cert.trace())),
@@ -103,7 +102,7 @@ pub(crate) fn fault_of_reply(
     requires plan { HasEachSequence (opponent player) numbers.now (bounds_in cert.now) }
     ensures { IfOk result (λ fault. fault ≡ first_failing (tests_of_reply player numbers.now (bounds_in cert.now))) }
 {
-    let _within = cert.head();
+    cert.facts();
     let against = cert.numbers(opponent(player));
     let end = end_of(numbers, player, cert);
     reply_fault(

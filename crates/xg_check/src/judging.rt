@@ -47,7 +47,7 @@ fn fault_of_plan(numbers: &Numbers, player: Player, cert: &Cert) -> Option<TestF
         ≡ first_failing (tests_of_plan player numbers.now cert.now.head.scale (bounds_in cert.now)) }
     ensures whole { result ≡ None → HasEachSequence player numbers.now (bounds_in cert.now) }
 {
-    let _within = cert.head();
+    cert.facts();
     plan_fault(numbers.form(), player, wanted_root(player, cert), cert)
 }
 
@@ -55,7 +55,7 @@ fn fault_of_trace(cert: &Cert) -> Option<TestFault>
     requires { 1 ≤ cert.now.head.rounds }
     ensures { result ≡ first_failing (trace_tests first_trace_line (bounds_in cert.now).trace) }
 {
-    let _within = cert.head();
+    cert.facts();
     trace_fault(cert.trace())
 }
 

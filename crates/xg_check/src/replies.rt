@@ -6,7 +6,7 @@ ghost use Rattle.def_plan.specs.Form.{AreInOrder, player_sets, sequence_count};
 ghost use Rattle.def_plan.specs.Payoff.{leaf_sum};
 ghost use Rattle.def_cert_verdict.specs.Ranges.{most_printed};
 ghost use Rattle.def_cert_verdict.specs.Verdict.{first_failing, whole_reply_tests};
-ghost use Rattle.xg_frac.specs.Wide.{most_wide};
+ghost use Rattle.def_fraction.specs.Fraction.{most_wide};
 ghost use Rattle.xg_check.specs.Views.{AreAllWithin, printed_reply};
 ghost use Rattle.xg_seq.specs.Table.{most_sequences};
 
@@ -45,10 +45,13 @@ pub fn reply_fault(
         (printed_reply end.total values.now choices.now) end.traced end.bound (unsigned_abs end.scale))) }
 {
     let mut rows = vec![in alloc; 0; form.sequence_count(player) as usize]?;
-    Ok(fault_by_rows(form, player, against, values, choices, end, &mut rows))
+    let mut sums = vec![in alloc; 0; form.leaf_count() as usize]?;
+    Ok(fault_by_rows(
+        form, player, against, values, choices, end, &mut sums, &mut rows,
+    ))
 }
 
-// The same, where the rows are all 0.
+// The same, where the rows are all 0, and there is room for a sum of each leaf.
 fn fault_by_rows(
     form: &SeqForm,
     player: Player,
@@ -56,6 +59,7 @@ fn fault_by_rows(
     values: &[i128],
     choices: &[u32],
     end: PrintedEnd,
+    sums: &mut [i128],
     rows: &mut [i128],
 ) -> Option<TestFault>
     requires against { length against.now ≡ sequence_count (player_sets form.now (opponent player)) }
@@ -66,6 +70,7 @@ fn fault_by_rows(
     requires total { unsigned_abs end.total ≤ most_wide }
     requires from_one { pos 1 ≤ℤ end.scale }
     requires scale { unsigned_abs end.scale ≤ most_wide }
+    requires sums { length sums.old ≡ length form.now.leaves }
     requires rows { length rows.old ≡ sequence_count (player_sets form.now player) }
     requires none { AreAllWithin 0 rows.old }
     requires order { AreInOrder (player_sets form.now player) }
@@ -74,7 +79,7 @@ fn fault_by_rows(
         (whole_reply_tests player (leaf_sum player form.now.leaves against.now) (player_sets form.now player)
         (printed_reply end.total values.now choices.now) end.traced end.bound (unsigned_abs end.scale)) }
 {
-    add_leaves(form, player, against, rows);
+    add_leaves(form, player, against, sums, rows);
     add_values(form, player, values, rows);
     let fault = first_set_fault(form, player, rows, values, choices);
     if fault.is_some() {

@@ -1,10 +1,9 @@
 //! The test of a total.
 ghost use Rattle.std.specs.Prelude.{◌≡◌, ◌<◌, ◌≤◌, ◌≤ℤ◌, ◌&&◌, length, pos, unsigned_abs};
 ghost use Rattle.std.specs.Ordering.{int_eq};
-ghost use Rattle.def_fraction.specs.Fraction.{fraction_of};
+ghost use Rattle.def_fraction.specs.Fraction.{fraction_of, most_wide};
 ghost use Rattle.def_cert_verdict.specs.declared.fault.TestFault.TheVariants.{TotalDiffers};
 ghost use Rattle.def_cert_verdict.specs.Verdict.{end_shown_by, is_same_fraction, unless};
-ghost use Rattle.xg_frac.specs.Wide.{most_wide};
 ghost use Rattle.xg_check.specs.Views.{row};
 
 use crate::parts::PrintedEnd;

@@ -13,7 +13,7 @@ pub reply_fault-requires-clause-numbers : goal.reply_fault-requires-clause-numbe
 reply_fault-requires-clause-numbers c =
     let cert = c.args.cert.now in
     let b = bounds_in cert in
-    let fits = bounds_fit cert c.head-within.ensures.within (c.head-within.ensures.bounds c.requires.sets.asked) in
+    let fits = bounds_fit cert c.facts.ensures.within (c.facts.ensures.bounds c.requires.sets.asked) in
     let small = numbers_small (set_count_in c.opponent.result cert.head) (plan_in c.opponent.result b) (plan_fits c.opponent.result cert.head b fits) in
     λ s. subst (λ (xs : List ℕ). slice_index xs s ≤ most_root) (sym c.numbers-against.ensures) (small s)
 
@@ -21,7 +21,7 @@ pub reply_fault-requires-clause-small : goal.reply_fault-requires-clause-small
 reply_fault-requires-clause-small c =
     let cert = c.args.cert.now in
     let b = bounds_in cert in
-    let fits = bounds_fit cert c.head-within.ensures.within (c.head-within.ensures.bounds c.requires.sets.asked) in
+    let fits = bounds_fit cert c.facts.ensures.within (c.facts.ensures.bounds c.requires.sets.asked) in
     subst (λ (vs : List ℤ). All (λ v. unsigned_abs v ≤ 2 ^ 100) vs) (sym c.values.ensures) (values_small (reply_in c.args.player b).sets (reply_fits c.args.player cert.head b fits).values)
 
 pub returns : goal.returns

@@ -8,5 +8,5 @@ pub trace_fault-requires-clause-products : goal.trace_fault-requires-clause-prod
 trace_fault-requires-clause-products c = λ j k line low low'.
     let lines = c.trace.result.now in
     let cert = c.args.cert.now in
-    let fits = bounds_fit cert c.head-within.ensures.within (c.head-within.ensures.bounds c.requires) in
-    trace_products cert.head lines j k line c.head-within.ensures.within.head (subst (TraceFits cert.head) (sym c.trace.ensures) fits.trace) low low'
+    let fits = bounds_fit cert c.facts.ensures.within (c.facts.ensures.bounds c.requires) in
+    trace_products cert.head lines j k line c.facts.ensures.within.head (subst (TraceFits cert.head) (sym c.trace.ensures) fits.trace) low low'
