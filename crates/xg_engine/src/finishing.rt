@@ -5,7 +5,7 @@ ghost use Rattle.def_run.specs.Run.{outcome_with};
 ghost use Rattle.xg_cert.specs.Outcome.{end_seen, ends_seen, head_of};
 ghost use Rattle.xg_engine.specs.Runs.{ends_of_parts};
 
-use xg_bracket::{Board, Parts, PlanAndReply};
+use xg_bracket::{Board, BoardParts, PlanAndReply};
 use xg_cert::{End, Head, Outcome};
 
 /// The outcome with the lines and the ends of the board themselves. Takes no memory.
@@ -13,7 +13,7 @@ use xg_cert::{End, Head, Outcome};
 pub(crate) fn outcome_with(head: Head, board: Board) -> Outcome
     ensures { result ≡ outcome_with (head_of head) board.board }
 {
-    let Parts { trace, ends } = board.into_parts();
+    let BoardParts { trace, ends } = board.into_parts();
     Outcome::new(head, trace, outcome_ends(ends))
 }
 

@@ -12,6 +12,7 @@ use std::test::Fail;
 use std::thread::Threads;
 use xg_engine::{Engine, Settings};
 use xg_game::{Game, Player};
+use xg_jobs::PlainRows;
 use xg_plan::Plan;
 use xg_scale::weigh;
 use xg_seq::SeqForm;
@@ -21,7 +22,7 @@ use xg_tree::Tree;
 
 /// What a game's numbers are.
 #[derive(Clone, Copy, Drop)]
-struct Row {
+struct WorkedGame {
     file: &'static str,
     unit: u64,
     mass: u64,
@@ -35,8 +36,8 @@ struct Row {
     plan_two: &'static [u64],
 }
 
-const ROWS: &[Row] = &[
-    Row {
+const ROWS: &[WorkedGame] = &[
+    WorkedGame {
         file: WEATHER,
         unit: 40,
         mass: 90,
@@ -59,7 +60,7 @@ const ROWS: &[Row] = &[
         plan_one: &[11, 5, 6],
         plan_two: &[11, 5, 6],
     },
-    Row {
+    WorkedGame {
         file: BLUFF,
         unit: 6,
         mass: 27,
@@ -76,7 +77,7 @@ const ROWS: &[Row] = &[
         plan_one: &[11, 5, 6, 5, 6],
         plan_two: &[11, 5, 6],
     },
-    Row {
+    WorkedGame {
         file: TOLL,
         unit: 12,
         mass: 55,
@@ -95,7 +96,12 @@ const ONE_ROUND: Settings = Settings {
     scale: 11,
 };
 
-fn assert_weights(rt: &impl Abort, alloc: Global, game: &Game, row: &Row) -> Result<(), Fail> {
+fn assert_weights(
+    rt: &impl Abort,
+    alloc: Global,
+    game: &Game,
+    row: &WorkedGame,
+) -> Result<(), Fail> {
     let weights = weigh(alloc, game)?;
     assert!(rt;
         weights.unit() == row.unit
@@ -142,7 +148,7 @@ fn are_of_last_leaf(sequences: (u32, u32), leaves: &[(u32, u32, i64)]) -> bool {
     }
 }
 
-fn assert_tree(rt: &impl Abort, alloc: Global, tree: &Tree, row: &Row) -> Result<(), Fail> {
+fn assert_tree(rt: &impl Abort, alloc: Global, tree: &Tree, row: &WorkedGame) -> Result<(), Fail> {
     let sets = build_sets(alloc, tree)?;
     assert_sets(rt, &sets, Player::One, row.sets_one);
     assert_sets(rt, &sets, Player::Two, row.sets_two);
@@ -193,7 +199,7 @@ fn assert_leaves(rt: &impl Abort, form: &SeqForm, rows: &[(u32, u32, i64)]) {
     }
 }
 
-fn assert_form(rt: &impl Abort, form: &SeqForm, row: &Row) {
+fn assert_form(rt: &impl Abort, form: &SeqForm, row: &WorkedGame) {
     assert_form_sets(rt, form, Player::One, row.sets_one);
     assert_form_sets(rt, form, Player::Two, row.sets_two);
     assert!(rt;
@@ -224,11 +230,11 @@ fn assert_plans<R: Abort + Threads + Wait + Sync>(
     rt: &R,
     alloc: Global,
     engine: &mut Engine,
-    row: &Row,
+    row: &WorkedGame,
 ) -> Result<(), Fail>
     requires { IsSync R.row }
 {
-    run(rt, alloc, engine, ONE_ROUND)?;
+    run(rt, alloc, engine, ONE_ROUND, &PlainRows)?;
     match engine.sums() {
         Some(sums) => {
             assert_plan(rt, sums.0, row.plan_one);
@@ -244,7 +250,7 @@ fn assert_engine<R: Abort + Threads + Wait + Sync>(
     rt: &R,
     alloc: Global,
     engine: &mut Engine,
-    row: &Row,
+    row: &WorkedGame,
 ) -> Result<(), Fail>
     requires { IsSync R.row }
 {
@@ -257,7 +263,7 @@ fn assert_numbers<R: Abort + Threads + Wait + Sync>(
     rt: &R,
     alloc: Global,
     game: &Game,
-    row: &Row,
+    row: &WorkedGame,
 ) -> Result<(), Fail>
     requires { IsSync R.row }
 {
@@ -272,7 +278,7 @@ fn assert_numbers<R: Abort + Threads + Wait + Sync>(
 fn assert_row<R: Abort + Threads + Wait + Sync>(
     rt: &R,
     alloc: Global,
-    row: &Row,
+    row: &WorkedGame,
 ) -> Result<(), Fail>
     requires { IsSync R.row }
 {

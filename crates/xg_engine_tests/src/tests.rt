@@ -13,6 +13,7 @@ use xg_cert::TraceRow;
 use xg_engine::{Engine, Settings};
 use xg_game::Game;
 use xg_gen::one_card_poker;
+use xg_jobs::PlainRows;
 use xg_test_data::files::{ONE_MOVER, PENNIES, TWICE_HIDDEN};
 
 /// A line of a trace in the order of the certificate: the round, the lower end's round and total, the upper end's.
@@ -20,7 +21,7 @@ type Line = (u32, u32, i128, u32, i128);
 
 /// What is asked of a run, with the sums of both players' plans and the trace that it leaves.
 #[derive(Clone, Copy, Drop)]
-struct Case {
+pub(crate) struct WorkedRounds {
     rounds: u32,
     every: u32,
     scale: u32,
@@ -29,8 +30,8 @@ struct Case {
     trace: &'static [Line],
 }
 
-const ROUNDS_OF_ONE_MOVER: &[Case] = &[
-    Case {
+const ROUNDS_OF_ONE_MOVER: &[WorkedRounds] = &[
+    WorkedRounds {
         rounds: 2,
         every: 1,
         scale: 1_048_576,
@@ -41,7 +42,7 @@ const ROUNDS_OF_ONE_MOVER: &[Case] = &[
             (2, 2, 1_572_864, 1, 1_048_576),
         ],
     },
-    Case {
+    WorkedRounds {
         rounds: 0,
         every: 1,
         scale: 1_048_576,
@@ -51,8 +52,8 @@ const ROUNDS_OF_ONE_MOVER: &[Case] = &[
     },
 ];
 
-const ROUNDS_OF_PENNIES: &[Case] = &[
-    Case {
+const ROUNDS_OF_PENNIES: &[WorkedRounds] = &[
+    WorkedRounds {
         rounds: 3,
         every: 2,
         scale: 1,
@@ -60,7 +61,7 @@ const ROUNDS_OF_PENNIES: &[Case] = &[
         two: &[3, 2, 1],
         trace: &[(2, 2, -2, 2, 0), (3, 2, -2, 2, 0)],
     },
-    Case {
+    WorkedRounds {
         rounds: 2,
         every: 1,
         scale: 1,
@@ -70,8 +71,8 @@ const ROUNDS_OF_PENNIES: &[Case] = &[
     },
 ];
 
-const ROUNDS_OF_TWICE_HIDDEN: &[Case] = &[
-    Case {
+pub(crate) const ROUNDS_OF_TWICE_HIDDEN: &[WorkedRounds] = &[
+    WorkedRounds {
         rounds: 1,
         every: 1,
         scale: 10,
@@ -79,7 +80,7 @@ const ROUNDS_OF_TWICE_HIDDEN: &[Case] = &[
         two: &[10, 3, 3, 4, 1, 2, 1, 2],
         trace: &[(1, 1, -26, 1, 7)],
     },
-    Case {
+    WorkedRounds {
         rounds: 2,
         every: 2,
         scale: 10,
@@ -87,7 +88,7 @@ const ROUNDS_OF_TWICE_HIDDEN: &[Case] = &[
         two: &[20, 3, 3, 14, 1, 2, 1, 2],
         trace: &[(2, 2, -88, 2, 8)],
     },
-    Case {
+    WorkedRounds {
         rounds: 3,
         every: 3,
         scale: 10,
@@ -95,7 +96,7 @@ const ROUNDS_OF_TWICE_HIDDEN: &[Case] = &[
         two: &[30, 3, 3, 24, 1, 2, 1, 2],
         trace: &[(3, 3, -66, 3, 48)],
     },
-    Case {
+    WorkedRounds {
         rounds: 4,
         every: 1,
         scale: 10,
@@ -108,7 +109,7 @@ const ROUNDS_OF_TWICE_HIDDEN: &[Case] = &[
             (4, 3, -66, 2, 8),
         ],
     },
-    Case {
+    WorkedRounds {
         rounds: 4,
         every: 2,
         scale: 10,
@@ -116,7 +117,7 @@ const ROUNDS_OF_TWICE_HIDDEN: &[Case] = &[
         two: &[40, 7, 3, 30, 1, 6, 1, 2],
         trace: &[(2, 2, -88, 2, 8), (4, 2, -88, 2, 8)],
     },
-    Case {
+    WorkedRounds {
         rounds: 4,
         every: 3,
         scale: 10,
@@ -124,7 +125,7 @@ const ROUNDS_OF_TWICE_HIDDEN: &[Case] = &[
         two: &[40, 7, 3, 30, 1, 6, 1, 2],
         trace: &[(3, 3, -66, 3, 48), (4, 3, -66, 4, 28)],
     },
-    Case {
+    WorkedRounds {
         rounds: 4,
         every: 9,
         scale: 10,
@@ -135,7 +136,7 @@ const ROUNDS_OF_TWICE_HIDDEN: &[Case] = &[
 ];
 
 /// The settings, where they are within their limits.
-fn settings_of(rt: &impl Abort, case: &Case) -> Settings
+pub(crate) fn settings_of(rt: &impl Abort, case: &WorkedRounds) -> Settings
     ensures { AreWithinLimits result }
 {
     assert!(rt; case.rounds <= 65_536);
@@ -149,13 +150,13 @@ fn settings_of(rt: &impl Abort, case: &Case) -> Settings
 }
 
 /// The engine of a game.
-fn engine_of(alloc: Global, game: Game) -> Result<Engine, Fail> {
+pub(crate) fn engine_of(alloc: Global, game: Game) -> Result<Engine, Fail> {
     let engine = open(alloc, &game);
     drop(game);
     engine
 }
 
-fn assert_sums(rt: &impl Abort, engine: &Engine, case: &Case) {
+fn assert_sums(rt: &impl Abort, engine: &Engine, case: &WorkedRounds) {
     match engine.sums() {
         Some(sums) => {
             assert!(rt; sums.0.weights() == case.one && sums.1.weights() == case.two);
@@ -189,15 +190,15 @@ fn row(line: Line) -> TraceRow {
 }
 
 /// Runs a case on an engine that may have run before.
-fn play<R: Abort + Threads + Wait + Sync>(
+pub(crate) fn play<R: Abort + Threads + Wait + Sync>(
     rt: &R,
     alloc: Global,
     engine: &mut Engine,
-    case: &Case,
+    case: &WorkedRounds,
 ) -> Result<(), Fail>
     requires { IsSync R.row }
 {
-    run(rt, alloc, engine, settings_of(rt, case))?;
+    run(rt, alloc, engine, settings_of(rt, case), &PlainRows)?;
     assert_sums(rt, engine, case);
     assert_trace(rt, engine, case.trace);
     Ok(())
@@ -207,7 +208,7 @@ fn play_each<R: Abort + Threads + Wait + Sync>(
     rt: &R,
     alloc: Global,
     engine: &mut Engine,
-    cases: &[Case],
+    cases: &[WorkedRounds],
 ) -> Result<(), Fail>
     requires { IsSync R.row }
 {
@@ -223,7 +224,7 @@ fn play_all<R: Abort + Threads + Wait + Sync>(
     rt: &R,
     alloc: Global,
     file: &str,
-    cases: &[Case],
+    cases: &[WorkedRounds],
 ) -> Result<(), Fail>
     requires { IsSync R.row }
 {

@@ -2,17 +2,17 @@
 use xg_cert::{Outcome, write_cert};
 use xg_game::Game;
 use xg_gen::write_game;
-use xg_io::{Sink, Text, WriteFault};
+use xg_io::{Sink, Writable, WriteFault};
 use xg_seq::SeqForm;
 
 /// The certificate of an outcome.
 #[derive(Clone, Copy)]
-pub struct Certificate<'a> {
+pub struct CertificateText<'a> {
     pub form: &'a SeqForm,
     pub outcome: &'a Outcome,
 }
 
-impl Text for Certificate<'_> {
+impl Writable for CertificateText<'_> {
     ghost use Rattle.def_cert_accepted.specs.OfOutcome.{certificate_of};
     ghost use Rattle.def_cert_text.specs.CertText.{cert_text};
     ghost use Rattle.xg_cert.specs.Writable.{IsOutcomeOf};
@@ -32,7 +32,7 @@ pub struct GameText<'a> {
     pub game: &'a Game,
 }
 
-impl Text for GameText<'_> {
+impl Writable for GameText<'_> {
     ghost use Rattle.def_canon.specs.Canon.{canon};
 
     ghost bytes = { λ t. canon t.game.now };

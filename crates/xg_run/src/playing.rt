@@ -15,7 +15,7 @@ ghost use Rattle.xg_run.specs.Settings.{settings_seen};
 ghost use Rattle.xg_run.specs.Written.{IsEndingOf};
 
 use crate::accepted::Accepted;
-use crate::certificate::Certificate;
+use crate::certificate::CertificateText;
 use crate::ending::Ending;
 use std::alloc::{AllocError, Global};
 use std::marker::Sync;
@@ -70,7 +70,7 @@ fn play_by<Rt: Threads + Wait + Sync, O: Sink, G: Gate>(
     };
     match engine.outcome() {
         Some(outcome) => {
-            let certificate = Certificate {
+            let certificate = CertificateText {
                 form: engine.form(),
                 outcome,
             };
@@ -121,7 +121,7 @@ fn write_unplayed<O: Sink>(
     let numbers = accepted.numbers();
     numbers.unit();
     let outcome = Outcome::new(accepted.head(settings), Vec::new(alloc), None);
-    let certificate = Certificate {
+    let certificate = CertificateText {
         form: numbers.form(),
         outcome: &outcome,
     };

@@ -94,7 +94,7 @@ pub fn fault_line(alloc: Global, fault: FileFault) -> Result<String, AllocError>
         FileFault::ActionCount { node } => node_line(alloc, "14 ActionCount", node),
         FileFault::ChanceNegative { node } => node_line(alloc, "15 ChanceNegative", node),
         FileFault::ChanceSum { node } => node_line(alloc, "16 ChanceSum", node),
-        FileFault::NotZeroSum { node } => node_line(alloc, "17 NotZeroSum", node),
+        FileFault::NotConstantSum { node } => node_line(alloc, "17 NotConstantSum", node),
         FileFault::NotRecall { node, earlier } => {
             format!(in alloc; "refused 18 NotRecall node {node} earlier {earlier}\n")
         }

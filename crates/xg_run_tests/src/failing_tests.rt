@@ -26,6 +26,17 @@ const SOLVE_ONE_ROUND: &str = "solve game --rounds 1";
 
 const NO_FILE: &str = "solve nofile --rounds 0";
 
+const NO_CERTIFICATE: &str = "check game nofile";
+
+/// The payoffs at node 5 don't add up to 0.
+const NOT_ZERO_SUM: &str = r#"EFG 2 R "Sum" { "A" "B" }
+c "" 1 "" { "g" 0.5 "b" 0.5 } 0
+p "" 1 1 "" { "H" "L" } 0
+t "" 1 { 4, -4 }
+t "" 2 { 0, 0 }
+t "" 3 { 10.000000 2.000000 }
+"#;
+
 /// A stream's bytes of room, and its write that fails.
 #[derive(Clone, Copy, Drop)]
 struct Stream {
@@ -77,7 +88,7 @@ const READ_FAULT: Case = Case {
     said: "read fault\n",
 };
 
-static FILES_THAT_FAIL: [Case; 4] = [
+static FILES_THAT_FAIL: [Case; 5] = [
     READ_FAULT,
     Case {
         read: 2,
@@ -89,6 +100,12 @@ static FILES_THAT_FAIL: [Case; 4] = [
     },
     Case {
         words: NO_FILE,
+        read: NEVER,
+        ..READ_FAULT
+    },
+    Case {
+        words: NO_CERTIFICATE,
+        game: NOT_ZERO_SUM,
         read: NEVER,
         ..READ_FAULT
     },
@@ -141,7 +158,15 @@ static STREAMS_THAT_FAIL: [Case; 5] = [
 ];
 
 /// Each status from 1 to 4 where `err` fails at its first write, and where it takes five bytes and fails at its second.
-static LINES_THAT_FAIL: [Case; 8] = [
+static LINES_THAT_FAIL: [Case; 9] = [
+    Case {
+        game: NOT_ZERO_SUM,
+        out: AMPLE,
+        err: FAILS_AT_ONCE,
+        status: 1,
+        said: "",
+        ..WRITE_FAULT
+    },
     Case {
         game: "",
         out: AMPLE,

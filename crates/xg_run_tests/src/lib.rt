@@ -4,9 +4,13 @@
 #[cfg(test)]
 mod calls;
 #[cfg(test)]
+mod counting_tests;
+#[cfg(test)]
 mod failing_tests;
 #[cfg(test)]
 mod gates;
+#[cfg(test)]
+mod sure_tests;
 #[cfg(test)]
 mod words_tests;
 #[cfg(test)]
