@@ -57,17 +57,17 @@ canon_of_file bytes game is =
     (canon_stands_for_game game of, canon_is_read_back game of)
 
 -- entries that were taken one after another have no fault, and are what is known
-record AreTaken (rs : List Record) (made : Contents) : Type 0 where
+record TakesAll (rs : List Record) (made : Contents) : Type 0 where
   known : made ≡ contents_of rs
   no_fault : HaveNoFault rs
 
 taken_from : (done rs : List Record) (made : Contents) → HaveNoFault done → AreTakenInTurn (contents_of done) rs made
-    → AreTaken (done ++ rs) made
+    → TakesAll (done ++ rs) made
 taken_from done [] made fine takes =
-    subst (λ (xs : List Record). AreTaken xs made) (sym (append-nil done)) (record { known = takes; no_fault = fine })
+    subst (λ (xs : List Record). TakesAll xs made) (sym (append-nil done)) (record { known = takes; no_fault = fine })
 taken_from done (r ∷ rs) made fine takes =
     let next = subst (λ (c : Contents). AreTakenInTurn c rs made) (sym (one_more done r)) takes.1 in
-    subst (λ (xs : List Record). AreTaken xs made) (append_assoc done (r ∷ []) rs)
+    subst (λ (xs : List Record). TakesAll xs made) (append_assoc done (r ∷ []) rs)
     (taken_from (done ++ r ∷ []) rs made (no_fault_more done r fine takes.0) next)
 
 -- where entries that give what can be written are taken in turn without a fault and make one whole tree,

@@ -37,12 +37,12 @@ first-append [] ys = refl
 first-append (None ∷ xs) ys = first-append xs ys
 first-append (Some f ∷ xs) ys = refl
 
-record Parts (o : Option TestFault) (Holds : Type 0) (Comes : TestFault → Type 0) : Type 0 where
+record TestParts (o : Option TestFault) (Holds : Type 0) (Comes : TestFault → Type 0) : Type 0 where
   none : (o ≡ None) ↔ Holds
   some : (f : TestFault) → (o ≡ Some f) ↔ Comes f
 
-together : (o r : Option TestFault) (P Q : Type 0) (F G : TestFault → Type 0) → Parts o P F → Parts r Q G
-    → Parts (or_else o r) (P × Q) (λ f. F f ⊎ (P × G f))
+together : (o r : Option TestFault) (P Q : Type 0) (F G : TestFault → Type 0) → TestParts o P F → TestParts r Q G
+    → TestParts (or_else o r) (P × Q) (λ f. F f ⊎ (P × G f))
 unfolding or_else
 together None r P Q F G a b = record {
   none = (λ e. (a.none.0 refl, b.none.0 e), λ h. b.none.1 h.1);

@@ -1,7 +1,9 @@
 //! The tokens of a game file in the profile of Gambit's `.efg` format: definitions, and their laws.
 #![tactic(auto)]
 
-ghost use Rattle.def_file_tokens.specs.Laws.{NextIsLexeme, NextIsSyntax, NextIsUnclosed, NextByteIsFirst, NoByteIsSpace, EndStays, PiecesAreRead, ReadIsPieces, OneDivision, OneSpelling};
+ghost use Rattle.def_file_tokens.specs.Laws.{NextIsLexeme, NextIsSyntax, NextIsUnclosed, NextByteIsFirst};
+ghost use Rattle.def_file_tokens.specs.Laws.{NoByteIsSpace, EndStays, PiecesAreRead, ReadIsPieces, OneDivision};
+ghost use Rattle.def_file_tokens.specs.Laws.{OneSpelling};
 
 /// What a token is.
 #[derive(Clone, Copy, Debug, PartialEq, Eq)]

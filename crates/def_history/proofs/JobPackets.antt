@@ -11,7 +11,7 @@ use Rattle.def_tree.specs.declared.Player.TheVariants.{One, Two}
 use Rattle.def_plan.specs.Form.{SequenceForm, Leaf, sequence_count}
 use Rattle.def_history.specs.Ranges.{LeafRange}
 use Rattle.def_history.specs.Leaves.{job_amount, amounts}
-use Rattle.def_history.specs.Packets.{Entry, AreRising}
+use Rattle.def_history.specs.Packets.{RowAmount, AreRising}
 use Rattle.def_plan.specs.FormRows.{row_count, amount_at, amount_in_row}
 use Rattle.def_history.specs.JobRows.{leaf_amount, job_leaves}
 use Rattle.def_history.specs.JobPackets.{has_row, is_touched, packet_of, TouchedRowsAreExact, TouchedRowsMakePackets}
@@ -19,11 +19,11 @@ use Rattle.def_history.proofs.JobRows.{by_number}
 use Rattle.def_sums.proofs.RisingLists.{Contains-head, Contains-tail}
 
 -- ---- entries at the numbers of a range that pass a test
-abbrev kept : (ℕ → ℤ) → (ℕ → Bool) → ℕ → ℕ → List Entry
+abbrev kept : (ℕ → ℤ) → (ℕ → Bool) → ℕ → ℕ → List RowAmount
 kept amount test from count = map (λ (row : ℕ). record { row = row; amount = amount row }) (filter test (range_with_len from count))
 
 -- what holds of the entry at each number of the range holds of each that is kept
-all_kept : (P : Entry → Type 0) (amount : ℕ → ℤ) (test : ℕ → Bool) (from count : ℕ)
+all_kept : (P : RowAmount → Type 0) (amount : ℕ → ℤ) (test : ℕ → Bool) (from count : ℕ)
     → ((row : ℕ) → from ≤ row → row < from + count → P (record { row = row; amount = amount row }))
     → All P (kept amount test from count)
 all_kept P amount test from zero holds = All-nil P
@@ -40,17 +40,17 @@ rising amount test from (suc count) = by_test (test from) refl (rising amount te
   where
     by_test : (b : Bool) → test from ≡ b → AreRising (kept amount test (from + 1) count)
         → AreRising (kept amount test from (suc count))
-    by_test true e later = rw e (all_kept (λ (x : Entry). from < x.row) amount test (from + 1) count (λ row low high. omega arith), later)
+    by_test true e later = rw e (all_kept (λ (x : RowAmount). from < x.row) amount test (from + 1) count (λ row low high. omega arith), later)
     by_test false e later = rw e later
 
 -- no entry has a number of the range that passes: there is none
 passes_is_kept : (amount : ℕ → ℤ) (test : ℕ → Bool) (from count row : ℕ) → from ≤ row → row < from + count
-    → test row ≡ true → All (λ (x : Entry). x.row ≢ row) (kept amount test from count) → ⊥
+    → test row ≡ true → All (λ (x : RowAmount). x.row ≢ row) (kept amount test from count) → ⊥
 passes_is_kept amount test from zero row low high passes none = absurd (omega arith)
 passes_is_kept amount test from (suc count) row low high passes none =
     by_place (λ next others. passes_is_kept amount test (from + 1) count row next (omega arith) passes others) (eqb from row) refl (test from) refl
   where
-    by_place : (from + 1 ≤ row → All (λ (x : Entry). x.row ≢ row) (kept amount test (from + 1) count) → ⊥)
+    by_place : (from + 1 ≤ row → All (λ (x : RowAmount). x.row ≢ row) (kept amount test (from + 1) count) → ⊥)
         → (here : Bool) → eqb from row ≡ here → (b : Bool) → test from ≡ b → ⊥
     by_place later true h true e =
         let is : from ≡ row = grind (arith, nat_tests) in
@@ -95,7 +95,7 @@ no_leaf_no_amount form numbers_one numbers_two row (z ∷ leaves) untouched =
 -- a row of the form that no entry has
 untouched_amount : (form : SequenceForm) (numbers_one numbers_two : List ℕ) (range : LeafRange)
     → range.first + range.count ≤ length form.leaves → (row : ℕ) → row < row_count form
-    → All (λ (x : Entry). x.row ≢ row) (packet_of form numbers_one numbers_two range)
+    → All (λ (x : RowAmount). x.row ≢ row) (packet_of form numbers_one numbers_two range)
     → job_amount (leaf_amount form numbers_one numbers_two) range row ≡ pos 0
 untouched_amount form numbers_one numbers_two range within row is_row none = by_test (is_touched form (job_leaves form range) row) refl
   where

@@ -5,10 +5,10 @@ use Rattle.std.proofs.Math.Nat.{le-div_iff_mul-le}
 use Rattle.std.proofs.lemmas.Bool.Decides.{nat_tests}
 use Rattle.std.proofs.lemmas.List.Elements.{All-nil, All-cons}
 use Rattle.def_sums.proofs.RingLaws.{zero-+ℤ, +ℤ-zero}
-use Rattle.def_history.specs.Packets.{Entry, AreRising, brought, PacketsBringAmounts, StripesHoldTheirRows}
+use Rattle.def_history.specs.Packets.{RowAmount, AreRising, brought, PacketsBringAmounts, StripesHoldTheirRows}
 
 -- rows above this one bring nothing to it
-later_bring_nothing : (row : ℕ) (entries : List Entry) → All (λ later. row < later.row) entries
+later_bring_nothing : (row : ℕ) (entries : List RowAmount) → All (λ later. row < later.row) entries
     → brought entries row ≡ pos 0
 later_bring_nothing row [] above = refl
 later_bring_nothing row (entry ∷ entries) above =
@@ -17,10 +17,10 @@ later_bring_nothing row (entry ∷ entries) above =
     rw other (zero-+ℤ (brought entries row) ∙ later_bring_nothing row entries (λ k d inside. above (suc k) d (omega arith)))
 
 -- either an entry brings the row its amount, or no entry has the row
-found : (amount : ℕ → ℕ → ℤ) (job row : ℕ) (entries : List Entry) → AreRising entries
+found : (amount : ℕ → ℕ → ℤ) (job row : ℕ) (entries : List RowAmount) → AreRising entries
     → All (λ entry. entry.amount ≡ amount job entry.row) entries
     → (brought entries row ≡ amount job row) ⊎ (All (λ entry. entry.row ≢ row) entries × (brought entries row ≡ pos 0))
-found amount job row [] rising have = inr (All-nil (λ (entry : Entry). entry.row ≢ row), refl)
+found amount job row [] rising have = inr (All-nil (λ (entry : RowAmount). entry.row ≢ row), refl)
 found amount job row (entry ∷ entries) (above, rising) have =
     by_head (found amount job row entries rising (λ k d inside. have (suc k) d (omega arith))) (eqb entry.row row) refl
   where
@@ -36,7 +36,7 @@ found amount job row (entry ∷ entries) (above, rising) have =
     by_head (inl brings) false e = inl (rw e (zero-+ℤ (brought entries row) ∙ brings))
     by_head (inr (none, nothing)) false e =
         let other : entry.row ≢ row = (λ same. absurd (no same)) in
-        inr (All-cons (λ (x : Entry). x.row ≢ row) entry entries other none, rw e (zero-+ℤ (brought entries row) ∙ nothing))
+        inr (All-cons (λ (x : RowAmount). x.row ≢ row) entry entries other none, rw e (zero-+ℤ (brought entries row) ∙ nothing))
       where
         no : entry.row ≡ row → ⊥
         no same = let t : eqb entry.row row ≡ true = grind (arith, nat_tests) in cc

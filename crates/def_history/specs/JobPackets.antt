@@ -5,7 +5,7 @@ use Rattle.def_tree.specs.declared.Player.TheVariants.{One, Two}
 use Rattle.def_plan.specs.Form.{SequenceForm, Leaf, sequence_count, leaf_sequence}
 use Rattle.def_history.specs.Ranges.{LeafRange}
 use Rattle.def_history.specs.Leaves.{job_amount, amounts}
-use Rattle.def_history.specs.Packets.{Entry, IsPacketOf}
+use Rattle.def_history.specs.Packets.{RowAmount, IsPacketOf}
 use Rattle.def_plan.specs.FormRows.{row_count}
 use Rattle.def_history.specs.JobRows.{leaf_amount, job_leaves}
 
@@ -23,7 +23,7 @@ is_touched form (z ∷ leaves) row = has_row form z row || is_touched form leave
 abbrev pub touched_rows : SequenceForm → List Leaf → List ℕ
 touched_rows form leaves = filter (is_touched form leaves) (range_with_len 0 (row_count form))
 
-abbrev pub packet_of : SequenceForm → List ℕ → List ℕ → LeafRange → List Entry
+abbrev pub packet_of : SequenceForm → List ℕ → List ℕ → LeafRange → List RowAmount
 packet_of form numbers_one numbers_two range =
     map (λ row. record { row = row; amount = job_amount (leaf_amount form numbers_one numbers_two) range row }) (touched_rows form (job_leaves form range))
 

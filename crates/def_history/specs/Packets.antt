@@ -3,29 +3,29 @@ use Rattle.std.specs.Prelude.{◌≡◌, ◌≢◌, ℕ, ℤ, pos, ◌+◌, ◌-
 use Rattle.def_sums.specs.Sum.{sum_over}
 
 -- one row's amount
-pub record Entry : Type 0 where
+pub record RowAmount : Type 0 where
   pub row : ℕ
   pub amount : ℤ
 
 -- each row is above all those before it
-abbrev pub AreRising : List Entry → Type 0
+abbrev pub AreRising : List RowAmount → Type 0
 AreRising [] = Unit {0}
 AreRising (entry ∷ entries) = All (λ later. entry.row < later.row) entries × AreRising entries
 
 -- the entries are a job's: they have its amounts at their rows, and at every other row its amount is 0
-pub record IsPacketOf (amount : ℕ → ℕ → ℤ) (rows job : ℕ) (entries : List Entry) : Type 0 where
+pub record IsPacketOf (amount : ℕ → ℕ → ℤ) (rows job : ℕ) (entries : List RowAmount) : Type 0 where
   pub rising : AreRising entries
   pub are_rows : All (λ entry. entry.row < rows) entries
   pub have_amounts : All (λ entry. entry.amount ≡ amount job entry.row) entries
   pub nothing_else : (row : ℕ) → row < rows → All (λ entry. entry.row ≢ row) entries → amount job row ≡ pos 0
 
 -- what the entries bring to a row
-abbrev pub brought : List Entry → ℕ → ℤ
+abbrev pub brought : List RowAmount → ℕ → ℤ
 brought entries row = sum_over (λ entry. if entry.row == row then entry.amount else pos 0) entries
 
 -- a job's packet brings its amount to each row
 abbrev pub PacketsBringAmounts : Type 0
-PacketsBringAmounts = (amount : ℕ → ℕ → ℤ) (rows job : ℕ) (entries : List Entry) → IsPacketOf amount rows job entries
+PacketsBringAmounts = (amount : ℕ → ℕ → ℤ) (rows job : ℕ) (entries : List RowAmount) → IsPacketOf amount rows job entries
     → (row : ℕ) → row < rows → brought entries row ≡ amount job row
 
 -- how many rows lie in a stripe, where there are so many in all

@@ -9,7 +9,11 @@ pub mod rows;
 ghost use Rattle.def_history.specs.Locks.{CountsTellRights, LegalReplaysAreSmall, LocalStepsAreSteps};
 ghost use Rattle.def_history.specs.Packets.{PacketsBringAmounts, StripesHoldTheirRows};
 ghost use Rattle.def_history.specs.Worked.{TwoJobsRunToTheEnd, TwoJobsHaveThreeLeaves};
-ghost use Rattle.def_history.specs.Laws.{AnyPassWithoutRightsDraws, EachRightCountsOnce, HistoriesEndComplete, RowsEndAsLeafSums, RowsEndAsPlainSums, ARightIsGivenUpByAdding, PassesHoldRightsOfJobsAndStripes, EachRightHasOneHolder, JobsAddUpToLeaves, BagIsLegal, HistoriesAreLegal, EachRowHasOnePlace, CompleteHistoriesReplayToPlainSums};
+ghost use Rattle.def_history.specs.Laws.{AnyPassWithoutRightsDraws, EachRightCountsOnce, HistoriesEndComplete};
+ghost use Rattle.def_history.specs.Laws.{RowsEndAsLeafSums, RowsEndAsPlainSums, ARightIsGivenUpByAdding};
+ghost use Rattle.def_history.specs.Laws.{PassesHoldRightsOfJobsAndStripes, EachRightHasOneHolder, JobsAddUpToLeaves};
+ghost use Rattle.def_history.specs.Laws.{BagIsLegal, HistoriesAreLegal, EachRowHasOnePlace};
+ghost use Rattle.def_history.specs.Laws.{CompleteHistoriesReplayToPlainSums};
 
 /// Any pass without rights can draw any job of the bag, and only such a pass draws.
 pub fn any_pass_without_rights_draws()

@@ -12,7 +12,9 @@ ghost use Rattle.def_plan.specs.Plan.{bad_set, pure_plan, added};
 ghost use Rattle.def_tree.specs.declared.Player.TheVariants.{One, Two};
 ghost use Rattle.def_plan.specs.Payoff.{pay, leaf_sum, mass_of};
 ghost use Rattle.def_plan.specs.Pennies.{pennies, one_set};
-ghost use Rattle.def_plan.specs.Laws.{SequencesAreNumbered, DealingMakesPlans, ChoicesMakeAPlan, ClearedPlansAddNothing, SumsArePlans, LeafSumsGiveThePayoff, WeakDuality, ComplementarySlackness, BadSetIsExact, PlansAreSmall};
+ghost use Rattle.def_plan.specs.Laws.{SequencesAreNumbered, DealingMakesPlans, ChoicesMakeAPlan};
+ghost use Rattle.def_plan.specs.Laws.{ClearedPlansAddNothing, SumsArePlans, LeafSumsGiveThePayoff, WeakDuality};
+ghost use Rattle.def_plan.specs.Laws.{ComplementarySlackness, BadSetIsExact, PlansAreSmall};
 
 /// The empty sequence and then those of each set in turn are all sequences, and a set's place tells its first one.
 pub fn sequences_are_numbered()

@@ -12,7 +12,7 @@ use Rattle.def_fraction.specs.declared.fault.NumberFault.{NumberFault}
 use Rattle.def_fraction.specs.declared.fault.NumberFault.TheVariants.{Form, ZeroDenominator, Range}
 use Rattle.def_fraction.proofs.LiteralLemmas.{BeginsElsewhere, leading_digits-append, after_digits-append}
 use Rattle.def_file.specs.declared.FileFault.{FileFault}
-use Rattle.def_file.specs.declared.FileFault.TheVariants.{TooLong, Syntax, UnexpectedEnd, TrailingText, Number, Players, PlayerNumber, SetUndefined, SetMismatch, OutcomeUndefined, OutcomeMismatch, PayoffCount, TooManyNodes, ActionCount, ChanceNegative, ChanceSum, NotZeroSum, NotRecall, Scale}
+use Rattle.def_file.specs.declared.FileFault.TheVariants.{TooLong, Syntax, UnexpectedEnd, TrailingText, Number, Players, PlayerNumber, SetUndefined, SetMismatch, OutcomeUndefined, OutcomeMismatch, PayoffCount, TooManyNodes, ActionCount, ChanceNegative, ChanceSum, NotConstantSum, NotRecall, Scale}
 use Rattle.def_program.specs.Text.{line_feed}
 use Rattle.def_program.specs.TextLines.{number_fault_name, fault_line}
 use Rattle.def_program.specs.TextLaws.{HasNarrowNumbers}
@@ -51,11 +51,11 @@ abbrev recall_of_line : List ℕ → FileFault
 recall_of_line bytes = NotRecall (number_in bytes) (number_in (drop 9 (after_digits bytes)))
 
 -- how a line begins, and the fault by what is behind
-record Row : Type 0 where
+record FaultLine : Type 0 where
   front : List ℕ
   fault : List ℕ → FileFault
 
-abbrev rows : List Row
+abbrev rows : List FaultLine
 rows =
     record { front = codes "refused 1 TooLong"; fault = λ bytes. TooLong }
     ∷ record { front = codes "refused 2 Syntax at "; fault = λ bytes. Syntax (number_in bytes) }
@@ -73,7 +73,7 @@ rows =
     ∷ record { front = codes "refused 14 ActionCount node "; fault = λ bytes. ActionCount (number_in bytes) }
     ∷ record { front = codes "refused 15 ChanceNegative node "; fault = λ bytes. ChanceNegative (number_in bytes) }
     ∷ record { front = codes "refused 16 ChanceSum node "; fault = λ bytes. ChanceSum (number_in bytes) }
-    ∷ record { front = codes "refused 17 NotZeroSum node "; fault = λ bytes. NotZeroSum (number_in bytes) }
+    ∷ record { front = codes "refused 17 NotConstantSum node "; fault = λ bytes. NotConstantSum (number_in bytes) }
     ∷ record { front = codes "refused 18 NotRecall node "; fault = recall_of_line }
     ∷ record { front = codes "refused 19 Scale node "; fault = λ bytes. Scale (number_in bytes) } ∷ []
 
@@ -83,7 +83,7 @@ behind [] line = Some line
 behind (byte ∷ front) [] = None
 behind (byte ∷ front) (b ∷ line) = cond (eqb byte b) (behind front line) None
 
-abbrev fault_by : List Row → List ℕ → FileFault
+abbrev fault_by : List FaultLine → List ℕ → FileFault
 fault_by [] line = TooLong
 fault_by (row ∷ more) line = option_map_or row.fault (behind row.front line) (fault_by more line)
 
@@ -137,7 +137,7 @@ read_back TooManyNodes h = refl
 read_back (ActionCount node) h = ap ActionCount (last node (h 0 0 (omega arith)))
 read_back (ChanceNegative node) h = ap ChanceNegative (last node (h 0 0 (omega arith)))
 read_back (ChanceSum node) h = ap ChanceSum (last node (h 0 0 (omega arith)))
-read_back (NotZeroSum node) h = ap NotZeroSum (last node (h 0 0 (omega arith)))
+read_back (NotConstantSum node) h = ap NotConstantSum (last node (h 0 0 (omega arith)))
 read_back (NotRecall node earlier) h = recalled node earlier (h 0 0 (omega arith)) (h 1 0 (omega arith))
 read_back (Scale node) h = ap Scale (last node (h 0 0 (omega arith)))
 

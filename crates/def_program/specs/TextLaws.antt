@@ -1,7 +1,7 @@
 -- The lines of faults tell the faults apart.
 use Rattle.std.specs.Prelude.{◌≡◌, ℕ, ◌^◌, ◌<◌, List, [], ◌∷◌, All}
 use Rattle.def_file.specs.declared.FileFault.{FileFault}
-use Rattle.def_file.specs.declared.FileFault.TheVariants.{TooLong, Syntax, UnexpectedEnd, TrailingText, Number, Players, PlayerNumber, SetUndefined, SetMismatch, OutcomeUndefined, OutcomeMismatch, PayoffCount, TooManyNodes, ActionCount, ChanceNegative, ChanceSum, NotZeroSum, NotRecall, Scale}
+use Rattle.def_file.specs.declared.FileFault.TheVariants.{TooLong, Syntax, UnexpectedEnd, TrailingText, Number, Players, PlayerNumber, SetUndefined, SetMismatch, OutcomeUndefined, OutcomeMismatch, PayoffCount, TooManyNodes, ActionCount, ChanceNegative, ChanceSum, NotConstantSum, NotRecall, Scale}
 use Rattle.def_program.specs.TextLines.{fault_line}
 
 -- the numbers in a fault
@@ -22,7 +22,7 @@ fault_numbers TooManyNodes = []
 fault_numbers (ActionCount node) = node ∷ []
 fault_numbers (ChanceNegative node) = node ∷ []
 fault_numbers (ChanceSum node) = node ∷ []
-fault_numbers (NotZeroSum node) = node ∷ []
+fault_numbers (NotConstantSum node) = node ∷ []
 fault_numbers (NotRecall node earlier) = node ∷ earlier ∷ []
 fault_numbers (Scale node) = node ∷ []
 

@@ -4,7 +4,7 @@ use Rattle.std.specs.Fmt.{decimal}
 use Rattle.def_fraction.specs.declared.fault.NumberFault.{NumberFault}
 use Rattle.def_fraction.specs.declared.fault.NumberFault.TheVariants.{Form, ZeroDenominator, Range}
 use Rattle.def_file.specs.declared.FileFault.{FileFault}
-use Rattle.def_file.specs.declared.FileFault.TheVariants.{TooLong, Syntax, UnexpectedEnd, TrailingText, Number, Players, PlayerNumber, SetUndefined, SetMismatch, OutcomeUndefined, OutcomeMismatch, PayoffCount, TooManyNodes, ActionCount, ChanceNegative, ChanceSum, NotZeroSum, NotRecall, Scale}
+use Rattle.def_file.specs.declared.FileFault.TheVariants.{TooLong, Syntax, UnexpectedEnd, TrailingText, Number, Players, PlayerNumber, SetUndefined, SetMismatch, OutcomeUndefined, OutcomeMismatch, PayoffCount, TooManyNodes, ActionCount, ChanceNegative, ChanceSum, NotConstantSum, NotRecall, Scale}
 use Rattle.def_program.specs.Text.{line_feed}
 
 abbrev pub number_fault_name : NumberFault → List ℕ
@@ -35,7 +35,7 @@ fault_line TooManyNodes = codes "refused 13 TooManyNodes" ++ line_feed
 fault_line (ActionCount node) = node_line (codes "14 ActionCount") node
 fault_line (ChanceNegative node) = node_line (codes "15 ChanceNegative") node
 fault_line (ChanceSum node) = node_line (codes "16 ChanceSum") node
-fault_line (NotZeroSum node) = node_line (codes "17 NotZeroSum") node
+fault_line (NotConstantSum node) = node_line (codes "17 NotConstantSum") node
 fault_line (NotRecall node earlier) =
     codes "refused 18 NotRecall node " ++ (decimal node ++ (codes " earlier " ++ (decimal earlier ++ line_feed)))
 fault_line (Scale node) = node_line (codes "19 Scale") node

@@ -30,7 +30,7 @@ abbrev pub leaf_numbers : List ℕ
 leaf_numbers = codes "nodes 1 leaves 1" ++ line_feed ++ codes "sets 0 0" ++ line_feed ++ codes "sequences 1 1"
     ++ line_feed ++ codes "unit 1" ++ line_feed ++ codes "mass 0" ++ line_feed
 
-pub record LeafRows : Type 0 where
+pub record OneLeafRows : Type 0 where
   pub solved : solve_text (game_with nobody one_leaf) no_rounds
       ≡ codes "XGCERT 1" ++ line_feed ++ leaf_numbers ++ codes "rounds 0 every 1 scale 1048576" ++ line_feed
       ++ codes "end" ++ line_feed

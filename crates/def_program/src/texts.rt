@@ -1,11 +1,11 @@
 //! The texts that the program writes, in definitions alone.
 
 ghost use Rattle.def_program.specs.TextLaws.{LinesTellFaults};
-ghost use Rattle.def_program.specs.TextRows.{CheckLineRows, FaultLineRows, LeafRows};
+ghost use Rattle.def_program.specs.TextRows.{CheckLineRows, FaultLineRows, OneLeafRows};
 
 /// Rows: the texts of a game of one leaf.
 pub fn leaf_rows()
-    ensures { LeafRows }
+    ensures { OneLeafRows }
 {}
 
 /// Rows: the lines of five faults, with their numbers, names and places.

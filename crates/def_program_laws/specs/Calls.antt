@@ -28,7 +28,7 @@ pub record SolveRows : Type 0 where
   pub every_second : answer_to (codes "solve")
       (codes "--every=2" ∷ codes "pennies" ∷ codes "--scale" ∷ codes "10" ∷ codes "--rounds=3" ∷ [])
       ≡ success_of pennies_of_scale_ten
-  pub unfair : answer_to (codes "solve") (codes "unfair" ∷ []) ≡ refusal_of (codes "refused 17 NotZeroSum node 5\n")
+  pub unfair : answer_to (codes "solve") (codes "unfair" ∷ []) ≡ refusal_of (codes "refused 17 NotConstantSum node 5\n")
 
 -- the file decides first, then what the certificate's bytes are, then what it says of the game
 pub record CheckRows : Type 0 where
@@ -41,7 +41,7 @@ pub record CheckRows : Type 0 where
   pub no_certificate : answer_to (codes "check") (codes "quoted" ∷ codes "pennies" ∷ [])
       ≡ refusal_of (codes "refused 22 CertSyntax at 0\n")
   pub file_first : answer_to (codes "check") (codes "unfair" ∷ codes "unfair" ∷ [])
-      ≡ refusal_of (codes "refused 17 NotZeroSum node 5\n")
+      ≡ refusal_of (codes "refused 17 NotConstantSum node 5\n")
 
 pub record InfoRows : Type 0 where
   pub quoted : answer_to (codes "info") (codes "quoted" ∷ []) ≡ success_of quoted_numbers

@@ -1,7 +1,7 @@
 -- Worked rows: the lines of the faults of a file that def_program has no row of, and the lines of the statuses.
 use Rattle.std.specs.Prelude.{◌≡◌, ◌↔◌, ℕ, ◌≤◌, List, ◌++◌, codes}
 use Rattle.def_fraction.specs.declared.fault.NumberFault.TheVariants.{Form, ZeroDenominator}
-use Rattle.def_file.specs.declared.FileFault.TheVariants.{TooLong, UnexpectedEnd, TrailingText, Number, PlayerNumber, SetUndefined, OutcomeUndefined, OutcomeMismatch, PayoffCount, TooManyNodes, ActionCount, ChanceNegative, ChanceSum, NotZeroSum, Scale}
+use Rattle.def_file.specs.declared.FileFault.TheVariants.{TooLong, UnexpectedEnd, TrailingText, Number, PlayerNumber, SetUndefined, OutcomeUndefined, OutcomeMismatch, PayoffCount, TooManyNodes, ActionCount, ChanceNegative, ChanceSum, NotConstantSum, Scale}
 use Rattle.def_command.specs.Grammar.{command_of_words}
 use Rattle.def_program.specs.TextLines.{fault_line}
 use Rattle.def_program.specs.Lines.{IsCheck, IsLine}
@@ -21,7 +21,7 @@ pub record OtherFaultLineRows : Type 0 where
   pub action_count : fault_line (ActionCount 1048576) ≡ codes "refused 14 ActionCount node 1048576\n"
   pub chance_negative : fault_line (ChanceNegative 6) ≡ codes "refused 15 ChanceNegative node 6\n"
   pub chance_sum : fault_line (ChanceSum 7) ≡ codes "refused 16 ChanceSum node 7\n"
-  pub not_zero_sum : fault_line (NotZeroSum 8) ≡ codes "refused 17 NotZeroSum node 8\n"
+  pub not_constant_sum : fault_line (NotConstantSum 8) ≡ codes "refused 17 NotConstantSum node 8\n"
   pub scale : fault_line (Scale 9) ≡ codes "refused 19 Scale node 9\n"
 
 -- whatever the words are, a line goes with this status exactly where it is of these bytes

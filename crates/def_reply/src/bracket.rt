@@ -3,7 +3,9 @@
 
 ghost use Rattle.std.specs.Prelude.{◌≡◌, [], ◌∷◌, pos, negsuc};
 ghost use Rattle.def_reply.specs.Bracket.{evaluated_rounds, trace};
-ghost use Rattle.def_reply.specs.BracketLaws.{EndsAreTheEarliestBest, EndsNeverWorsen, TraceHasALineForEach, TraceLooksBack, TraceNeverWidens, RoundsAreEvaluated, BracketProductsAreSmall};
+ghost use Rattle.def_reply.specs.BracketLaws.{EndsAreTheEarliestBest, EndsNeverWorsen, TraceHasALineForEach};
+ghost use Rattle.def_reply.specs.BracketLaws.{TraceLooksBack, TraceNeverWidens, RoundsAreEvaluated};
+ghost use Rattle.def_reply.specs.BracketLaws.{BracketProductsAreSmall};
 
 /// Where no divisor is 0, the lower end is the earliest evaluation with the greatest floor, the upper one the earliest
 /// with the least ceiling.

@@ -11,7 +11,10 @@ ghost use Rattle.def_tree.specs.declared.Player.TheVariants.{One, Two};
 ghost use Rattle.def_plan.specs.Payoff.{leaf_sum};
 ghost use Rattle.def_plan.specs.Pennies.{pennies};
 ghost use Rattle.def_reply.specs.Reply.{best_reply, values_of, choices_of, total};
-ghost use Rattle.def_reply.specs.Laws.{RepliesNeedOwnSums, RepliesSolveTheirEquations, TightRepliesAreOptimal, BestRepliesAreOptimal, TightRepliesGiveBounds, BestRepliesGiveBounds, AttainedBoundsAreBest, FloorsAreBelowCeilings, RepliesAreSmall, BoundsAreSmall};
+ghost use Rattle.def_reply.specs.Laws.{RepliesNeedOwnSums, RepliesSolveTheirEquations, TightRepliesAreOptimal};
+ghost use Rattle.def_reply.specs.Laws.{BestRepliesAreOptimal, TightRepliesGiveBounds, BestRepliesGiveBounds};
+ghost use Rattle.def_reply.specs.Laws.{AttainedBoundsAreBest, FloorsAreBelowCeilings, RepliesAreSmall};
+ghost use Rattle.def_reply.specs.Laws.{BoundsAreSmall};
 
 /// A line of the trace: a round that was evaluated, and both ends of the bracket after it, each with the round that it
 /// comes from.

@@ -10,7 +10,9 @@ ghost use Rattle.def_plan.specs.SmallForms.{one_mover};
 ghost use Rattle.def_reply.specs.Bracket.{trace};
 ghost use Rattle.def_reply.specs.Offers.{board_after};
 ghost use Rattle.def_run.specs.Run.{evaluations, offers};
-ghost use Rattle.def_run.specs.Laws.{EndsAreInOrder, EndsAreOfTheirRounds, EndsBoundAllPlans, EvaluationsAreBounds, GapOfRunIsExploitability, OffersOfRunAreFair, OutcomesShowTheirRun, RunsHaveEnds, TraceOfRunLooksBack, TraceOfRunNeverWidens};
+ghost use Rattle.def_run.specs.Laws.{EndsAreInOrder, EndsAreOfTheirRounds, EndsBoundAllPlans, EvaluationsAreBounds};
+ghost use Rattle.def_run.specs.Laws.{GapOfRunIsExploitability, OffersOfRunAreFair, OutcomesShowTheirRun};
+ghost use Rattle.def_run.specs.Laws.{RunsHaveEnds, TraceOfRunLooksBack, TraceOfRunNeverWidens};
 
 /// After each round both sums are plans, and the evaluation is the attained floor of the one and ceiling of the other.
 pub fn evaluations_are_bounds()

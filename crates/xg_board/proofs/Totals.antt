@@ -8,7 +8,7 @@ use Rattle.def_history.specs.Packets.{place_count}
 use Rattle.def_history.proofs.Ends.{each_row_once}
 use Rattle.def_history.proofs.Packets.{stripes_hold_their_rows}
 use Rattle.xg_rowcore.specs.Stripes.{StripeHistory}
-use Rattle.xg_board.specs.Closing.{share_of, share_below, AddsTotals, AddsBelow}
+use Rattle.xg_board.specs.Closing.{share_of, share_below, AddsTotals, AddsTotalsBelow}
 
 -- a row's share is nothing or its replay
 abbrev share : ℤ → Bool → ℤ
@@ -19,7 +19,7 @@ share_none whole true = refl
 share_none whole false = refl
 
 -- before the first place nothing is added
-pub none_added : (amount : ℕ → ℕ → ℤ) (h : StripeHistory) (rows : List ℤ) → AddsBelow amount h 0 rows rows
+pub none_added : (amount : ℕ → ℕ → ℤ) (h : StripeHistory) (rows : List ℤ) → AddsTotalsBelow amount h 0 rows rows
 none_added amount h rows = record {
   same = refl;
   each = λ row below. sym (+ℤ_idr (get_or rows row (pos 0))) ∙ ap (λ v. get_or rows row (pos 0) +ℤ v) (sym (none row));
@@ -65,7 +65,7 @@ share_after amount h places row here below =
 
 -- until its place comes, a row is as it was
 pub before_total : (amount : ℕ → ℕ → ℤ) (h : StripeHistory) (place at : ℕ) (old now : List ℤ) → h.index < h.stripes
-    → at ≡ place * h.stripes + h.index → at < length old → AddsBelow amount h place old now
+    → at ≡ place * h.stripes + h.index → at < length old → AddsTotalsBelow amount h place old now
     → get_or now at (pos 0) ≡ get_or old at (pos 0)
 before_total amount h place at old now inside at_is at_below added =
     let alone = (each_row_once h.stripes at (omega arith)).alone h.index place inside (sym at_is) in
@@ -75,8 +75,8 @@ before_total amount h place at old now inside at_is at_below added =
 pub total_added : (amount : ℕ → ℕ → ℤ) (h : StripeHistory) (place at : ℕ) (old now : List ℤ) (total : ℤ)
     → h.index < h.stripes
     → at ≡ place * h.stripes + h.index → at < length now → total ≡ replay amount h.order at
-    → AddsBelow amount h place old now
-    → AddsBelow amount h (place + 1) old (set now at (get_or now at (pos 0) +ℤ total))
+    → AddsTotalsBelow amount h place old now
+    → AddsTotalsBelow amount h (place + 1) old (set now at (get_or now at (pos 0) +ℤ total))
 total_added amount h place at old now total inside at_is at_below total_is added = record {
   same = length-set now at (get_or now at (pos 0) +ℤ total) ∙ added.same;
   each = λ row below. by_row row below (eqb row at) refl;
@@ -101,7 +101,7 @@ total_added amount h place at old now total inside at_is at_below total_is added
 -- after the last place all totals are
 pub all_added : (amount : ℕ → ℕ → ℤ) (h : StripeHistory) (places rows : ℕ) (old now : List ℤ) → h.index < h.stripes
     → length old ≡ rows
-    → places ≡ place_count h.stripes rows h.index → AddsBelow amount h places old now → AddsTotals amount h old now
+    → places ≡ place_count h.stripes rows h.index → AddsTotalsBelow amount h places old now → AddsTotals amount h old now
 all_added amount h places rows old now inside rows_is places_is added = record {
   same = added.same;
   each = λ row below. added.each row below ∙ ap (λ v. get_or old row (pos 0) +ℤ v) (whole row below);

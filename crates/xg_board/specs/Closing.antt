@@ -22,7 +22,7 @@ pub record AddsTotals (amount : ℕ → ℕ → ℤ) (h : StripeHistory) (old ne
       → slice_index_or new row (pos 0) ≡ slice_index_or old row (pos 0) +ℤ share_of amount h row
 
 -- the totals at its first places are
-pub record AddsBelow (amount : ℕ → ℕ → ℤ) (h : StripeHistory) (places : ℕ) (old new : List ℤ) : Type 0 where
+pub record AddsTotalsBelow (amount : ℕ → ℕ → ℤ) (h : StripeHistory) (places : ℕ) (old new : List ℤ) : Type 0 where
   pub same : length new ≡ length old
   pub each : (row : ℕ) → row < length old
       → slice_index_or new row (pos 0) ≡ slice_index_or old row (pos 0) +ℤ share_below amount h places row

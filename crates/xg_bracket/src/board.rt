@@ -9,7 +9,7 @@ ghost use Rattle.xg_bracket.specs.Board.{MayBeOffered, offer_of, sizes_of};
 ghost use Rattle.xg_bracket.specs.Ends.{IsFreshEnd, line_with};
 
 use crate::end::{BestEnd, offer_lower, offer_upper};
-use crate::parts::Parts;
+use crate::parts::BoardParts;
 use def_reply::TraceLine;
 use std::alloc::{AllocError, Global};
 use std::marker::Model;
@@ -118,7 +118,7 @@ impl Board {
     }
 
     /// The lines and the ends themselves. Takes no memory.
-    pub fn into_parts(self) -> Parts
+    pub fn into_parts(self) -> BoardParts
         ensures trace { result.trace.items ≡ self.board.trace }
         ensures none { IsNone result.ends ↔ (self.board.trace ≡ []) }
         ensures lower_plan { option_map (λ ends. ends.0.plan) result.ends
@@ -137,10 +137,10 @@ impl Board {
             ..
         } = self;
         if trace.is_empty() {
-            return Parts { trace, ends: None };
+            return BoardParts { trace, ends: None };
         }
         let ends = (lower.into_parts(), upper.into_parts());
-        Parts {
+        BoardParts {
             trace,
             ends: Some(ends),
         }

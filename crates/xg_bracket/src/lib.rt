@@ -7,4 +7,4 @@ mod parts;
 
 pub use board::Board;
 pub use def_reply::TraceLine;
-pub use parts::{Parts, PlanAndReply};
+pub use parts::{BoardParts, PlanAndReply};

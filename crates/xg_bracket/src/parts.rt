@@ -5,7 +5,7 @@ use xg_plan::{Plan, Reply};
 
 /// A line for each offer, and both ends where a plan was offered, the lower one first.
 #[derive(Drop)]
-pub struct Parts {
+pub struct BoardParts {
     pub trace: Vec<TraceLine>,
     pub ends: Option<(PlanAndReply, PlanAndReply)>,
 }

@@ -59,6 +59,15 @@ impl Cert {
         &self.head
     }
 
+    /// Does nothing: its clauses are what is true of every certificate that was read.
+    pub fn facts(&self)
+        ensures within { CertificateFits self.now }
+        ensures alone { self.now.head.rounds ≡ 0 → self.now.bounds ≡ None }
+        ensures bounds { 1 ≤ self.now.head.rounds → self.now.bounds ≡ Some (bounds_in self.now) }
+    {
+        let _head = self.head();
+    }
+
     /// A line for each evaluation.
     pub fn trace(&self) -> &[TraceLine]
         ensures { result.now ≡ (bounds_in self.now).trace }

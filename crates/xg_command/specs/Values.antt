@@ -6,7 +6,7 @@ use Rattle.xg_command.specs.declared.command.WordSettings.{WordSettings}
 use Rattle.xg_command.specs.declared.command.Command.{Command}
 use Rattle.xg_command.specs.declared.command.Command.TheVariants.{Solve, Check, Info, Gen, Drill}
 use Rattle.xg_command.specs.declared.options.Options.{Options}
-use Rattle.xg_command.specs.declared.reading.Reading.{Reading}
+use Rattle.xg_command.specs.declared.reading.WordsRead.{WordsRead}
 use Rattle.xg_command.specs.Names.{option_value}
 use Rattle.xg_command.specs.Plain.{plain_value}
 
@@ -26,9 +26,9 @@ no_numbers = record { rounds = None; every = None; scale = None; workers = None 
 abbrev pub numbers_value : Options → grammar.NumbersSoFar
 numbers_value o = record { rounds = o.rounds; every = o.every; scale = o.scale; workers = o.workers }
 
-abbrev pub taken_value : Reading → grammar.Taken
+abbrev pub taken_value : WordsRead → grammar.Taken
 taken_value r = record { plain = plain_value r.plain; numbers = numbers_value r.options }
 
 -- with the option whose number comes next
-abbrev pub reading_value : Reading → grammar.Taken × Option table.OptionName
+abbrev pub reading_value : WordsRead → grammar.Taken × Option table.OptionName
 reading_value r = (taken_value r, option_map option_value r.waiting)

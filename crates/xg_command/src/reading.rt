@@ -11,7 +11,7 @@ use crate::plain::PlainWords;
 
 /// What was read so far.
 #[derive(Clone, Copy)]
-pub(crate) struct Reading<'a> {
+pub(crate) struct WordsRead<'a> {
     plain: PlainWords<'a>,
     options: Options,
     /// The option whose number is the next word.
@@ -19,10 +19,10 @@ pub(crate) struct Reading<'a> {
 }
 
 /// Reads the words behind the command's, all of them.
-pub(crate) fn read_words<'a>(name: CommandName, words: &'a [String]) -> Option<Reading<'a>>
+pub(crate) fn read_words<'a>(name: CommandName, words: &'a [String]) -> Option<WordsRead<'a>>
     ensures { option_map taken_value result ≡ read_words (name_value name) takes_nothing None (map string_bytes words.now) }
 {
-    let mut reading = Reading::begin();
+    let mut reading = WordsRead::begin();
     for word in words {
         reading.take(name, word.as_str())?;
     }
@@ -32,11 +32,11 @@ pub(crate) fn read_words<'a>(name: CommandName, words: &'a [String]) -> Option<R
     Some(reading)
 }
 
-impl<'a> Reading<'a> {
-    fn begin() -> Reading<'a>
+impl<'a> WordsRead<'a> {
+    fn begin() -> WordsRead<'a>
         ensures { reading_value result ≡ (takes_nothing, None) }
     {
-        Reading {
+        WordsRead {
             plain: PlainWords::None,
             options: Options::none(),
             waiting: None,

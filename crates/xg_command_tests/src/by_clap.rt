@@ -1,5 +1,5 @@
 //! The same words, read by `clap` with a command of the same options.
-use crate::commands::{Row, assert_no_row, words_of};
+use crate::commands::{WordList, assert_no_row, words_of};
 use clap::error::ErrorKind;
 use clap::{Arg, ArgAction, ArgMatches, value_parser};
 use std::alloc::{AllocError, Global};
@@ -137,7 +137,7 @@ fn agree<'a>(rt: &impl Abort, alloc: Global, words: &'a [&'a str]) -> Result<boo
     Ok(by_clap.is_some())
 }
 
-const BEHIND: Row = &[
+const BEHIND: WordList = &[
     "F1",
     "",
     "0",
@@ -244,7 +244,7 @@ fn agrees_with_clap(rt: HostRuntime) -> Result<(), Fail> {
 }
 
 /// Words that both take, and such that neither takes.
-const MORE: &[(Row, bool)] = &[
+const MORE: &[(WordList, bool)] = &[
     (&["xg_solve", "solve", "--rounds=0", "F1"], true),
     (
         &["xg_solve", "solve", "F2", "--rounds", "2", "--every", "1"],
@@ -310,7 +310,7 @@ fn agrees_with_clap_on_more_words(rt: HostRuntime) -> Result<(), Fail> {
 
 /// Words that `clap` takes and the program refuses. Behind `--` each word is a plain one to clap, and a lone minus is
 /// one anywhere; and a number in Rust's spelling may have a plus.
-const TAKEN_BY_CLAP: &[Row] = &[
+const TAKEN_BY_CLAP: &[WordList] = &[
     &["xg_solve", "solve", "--", "F1"],
     &["xg_solve", "solve", "--", "-x"],
     &["xg_solve", "info", "F1", "--"],
@@ -326,7 +326,7 @@ fn is_taken_by_clap_alone<'a>(alloc: Global, words: &'a [&'a str]) -> Result<boo
 }
 
 /// The first of `TAKEN_BY_CLAP` that isn't taken by clap alone.
-fn first_not_by_clap_alone(alloc: Global) -> Result<Option<Row>, Fail> {
+fn first_not_by_clap_alone(alloc: Global) -> Result<Option<WordList>, Fail> {
     for words in TAKEN_BY_CLAP {
         if !is_taken_by_clap_alone(alloc, words)? {
             return Ok(Some(words));

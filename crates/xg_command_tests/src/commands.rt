@@ -18,10 +18,10 @@ pub(crate) fn words_of(alloc: Global, row: &[&str]) -> Result<Words, AllocError>
 }
 
 /// Words of a call.
-pub(crate) type Row = &'static [&'static str];
+pub(crate) type WordList = &'static [&'static str];
 
 /// Shows the row that is there.
-pub(crate) fn assert_no_row(rt: &impl Abort, row: Option<Row>) {
+pub(crate) fn assert_no_row(rt: &impl Abort, row: Option<WordList>) {
     assert_eq!(rt; row, None);
 }
 
@@ -56,7 +56,7 @@ fn names(alloc: Global, row: &[&str], command: Option<Command<'_>>) -> Result<bo
 }
 
 /// The words, the rounds, after how many of them the plans are evaluated, and the scale.
-const SOLVED: &[(Row, u32, u32, u32)] = &[
+const SOLVED: &[(WordList, u32, u32, u32)] = &[
     (&["solve", "F1"], 1000, 1000, 1_048_576),
     (&["solve", "--rounds=0", "F1"], 0, 1, 1_048_576),
     (&["solve", "--rounds", "0", "F1"], 0, 1, 1_048_576),
@@ -99,7 +99,7 @@ const SOLVED: &[(Row, u32, u32, u32)] = &[
 ];
 
 /// The first row of `SOLVED` whose words name another command.
-fn first_not_solved(alloc: Global) -> Result<Option<Row>, AllocError> {
+fn first_not_solved(alloc: Global) -> Result<Option<WordList>, AllocError> {
     for &(row, rounds, every, scale) in SOLVED {
         if !names(alloc, row, solve("F1", rounds, every, scale))? {
             return Ok(Some(row));
@@ -115,7 +115,7 @@ fn takes_the_words_of_solve(rt: HostRuntime) -> Result<(), Fail> {
 }
 
 /// The words, the cards, the rounds, and the workers where their number is given.
-const DRILLED: &[(Row, u32, u32, Option<u32>)] = &[
+const DRILLED: &[(WordList, u32, u32, Option<u32>)] = &[
     (&["drill", "3"], 3, 1000, None),
     (&["drill", "--rounds=1", "03"], 3, 1, None),
     (
@@ -128,7 +128,7 @@ const DRILLED: &[(Row, u32, u32, Option<u32>)] = &[
 ];
 
 /// The first row of `DRILLED` whose words name another command.
-fn first_not_drilled(alloc: Global) -> Result<Option<Row>, AllocError> {
+fn first_not_drilled(alloc: Global) -> Result<Option<WordList>, AllocError> {
     for &(row, cards, rounds, workers) in DRILLED {
         if !names(alloc, row, drill(cards, rounds, workers))? {
             return Ok(Some(row));
@@ -137,7 +137,7 @@ fn first_not_drilled(alloc: Global) -> Result<Option<Row>, AllocError> {
     Ok(None)
 }
 
-const OTHERS: &[(Row, Command<'static>)] = &[
+const OTHERS: &[(WordList, Command<'static>)] = &[
     (
         &["check", "F1", "C1"],
         Command::Check {
@@ -151,7 +151,7 @@ const OTHERS: &[(Row, Command<'static>)] = &[
 ];
 
 /// The first row of `OTHERS` whose words name another command.
-fn first_other(alloc: Global) -> Result<Option<Row>, AllocError> {
+fn first_other(alloc: Global) -> Result<Option<WordList>, AllocError> {
     for &(row, command) in OTHERS {
         if !names(alloc, row, Some(command))? {
             return Ok(Some(row));
@@ -167,7 +167,7 @@ fn takes_other_commands(rt: HostRuntime) -> Result<(), Fail> {
     Ok(())
 }
 
-const FILES: Row = &[
+const FILES: WordList = &[
     "F1",
     "",
     "solve",
@@ -205,7 +205,7 @@ fn takes_any_word_as_a_file(rt: HostRuntime) -> Result<(), Fail> {
     Ok(())
 }
 
-const REFUSED: &[Row] = &[
+const REFUSED: &[WordList] = &[
     &[""],
     &["solve"],
     &["info"],
@@ -282,7 +282,7 @@ const REFUSED: &[Row] = &[
 ];
 
 /// The first row of `REFUSED` whose words name a command.
-fn first_taken(alloc: Global) -> Result<Option<Row>, AllocError> {
+fn first_taken(alloc: Global) -> Result<Option<WordList>, AllocError> {
     for row in REFUSED {
         if !names(alloc, row, None)? {
             return Ok(Some(row));

@@ -6,7 +6,7 @@ use xg_frac::{Frac, one_over};
 use xg_game::{FileFault, Game, GameMaker, Kind, Player, Refused};
 use xg_lex::{Text, TextView, Token, Tokens};
 use xg_record::{
-    Action, ActionView, ActionViews, Actions, Entry, EntryActions, EntryKind, Payoffs, Record,
+    Action, ActionView, ActionViews, Actions, EntryActions, EntryKind, EntryView, Payoffs, Record,
 };
 use xg_tree::Node;
 
@@ -342,8 +342,12 @@ fn seen<'a>(rt: &impl Abort, file: &'a [u8]) -> TextView<'a> {
 }
 
 /// Chance's set 4, by views.
-fn seen_coin<'a>(rt: &impl Abort, set_name: &'a [u8], actions: &'a ActionViews<'a>) -> Entry<'a> {
-    Entry {
+fn seen_coin<'a>(
+    rt: &impl Abort,
+    set_name: &'a [u8],
+    actions: &'a ActionViews<'a>,
+) -> EntryView<'a> {
+    EntryView {
         file: b"",
         kind: EntryKind::Chance,
         name: seen(rt, b"\"\""),
@@ -369,7 +373,7 @@ fn kept_coin(rt: &impl Abort, alloc: Global, set_name: &[u8], action: &[u8]) -> 
 }
 
 /// Pushes an entry by views where one is wanted.
-fn push_seen(rt: &impl Abort, maker: &mut GameMaker, entry: &Entry<'_>) -> Result<(), Refused> {
+fn push_seen(rt: &impl Abort, maker: &mut GameMaker, entry: &EntryView<'_>) -> Result<(), Refused> {
     assert!(rt; !maker.is_complete());
     assert!(rt; !maker.is_spent());
     assert!(rt; entry.outcome <= 1 << 62);

@@ -36,15 +36,19 @@ fn is_read(rt: &impl Abort, alloc: Global, bytes: &[u8], nodes: u32, leaves: u32
 }
 
 /// What stands behind a prologue of 23 bytes, with the fault that it has.
-type Row = (&'static str, FileFault);
+type FaultyFile = (&'static str, FileFault);
 
-fn is_row_refused(rt: &impl Abort, alloc: Global, row: &Row) -> Result<bool, AllocError> {
+fn is_row_refused(rt: &impl Abort, alloc: Global, row: &FaultyFile) -> Result<bool, AllocError> {
     let file = file_of(alloc, row.0)?;
     Ok(is_refused(rt, alloc, file.as_bytes(), row.1))
 }
 
 /// The place of the first row that has another fault.
-fn first_other(rt: &impl Abort, alloc: Global, rows: &[Row]) -> Result<Option<usize>, AllocError> {
+fn first_other(
+    rt: &impl Abort,
+    alloc: Global,
+    rows: &[FaultyFile],
+) -> Result<Option<usize>, AllocError> {
     for (place, row) in rows.iter().enumerate() {
         if !is_row_refused(rt, alloc, row)? {
             return Ok(Some(place));
@@ -105,7 +109,7 @@ fn faults_of_the_prologue(rt: HostRuntime) {
     }
 }
 
-static TOKENS: [Row; 46] = [
+static TOKENS: [FaultyFile; 46] = [
     ("x", FileFault::Syntax { at: 23 }),
     ("tt", FileFault::Syntax { at: 23 }),
     ("{", FileFault::Syntax { at: 23 }),
@@ -223,7 +227,7 @@ fn faults_of_tokens(rt: HostRuntime) -> Result<(), Fail> {
     Ok(())
 }
 
-static DESCRIPTIONS: [Row; 20] = [
+static DESCRIPTIONS: [FaultyFile; 20] = [
     ("p \"\" 3 1 0", FileFault::PlayerNumber { node: 1 }),
     ("p \"\" 0 1 { } 0", FileFault::PlayerNumber { node: 1 }),
     ("p \"\" 1 1 0 #", FileFault::SetUndefined { node: 1 }),

@@ -62,11 +62,11 @@ impl Visitor for Recorder {
 }
 
 /// A node by its kind, its set and the number of its children.
-type Row = (Kind, u32, u32);
+type NodeParts = (Kind, u32, u32);
 
-const LEAF: Row = (Kind::Leaf, 0, 0);
+const LEAF: NodeParts = (Kind::Leaf, 0, 0);
 
-fn node(row: Row) -> Node {
+fn node(row: NodeParts) -> Node {
     let (kind, set, children) = row;
     Node {
         kind,
@@ -76,14 +76,14 @@ fn node(row: Row) -> Node {
     }
 }
 
-fn put(rt: &impl Abort, builder: &mut Builder, row: Row) -> Result<(), PushFault> {
+fn put(rt: &impl Abort, builder: &mut Builder, row: NodeParts) -> Result<(), PushFault> {
     let next = node(row);
     assert!(rt; !builder.is_complete());
     assert!(rt; builder.fits(next));
     builder.push(next)
 }
 
-fn put_all(rt: &impl Abort, builder: &mut Builder, rows: &[Row]) -> Result<(), PushFault> {
+fn put_all(rt: &impl Abort, builder: &mut Builder, rows: &[NodeParts]) -> Result<(), PushFault> {
     for row in rows {
         put(rt, builder, *row)?;
     }
@@ -103,7 +103,7 @@ fn recorded(tree: &Tree) -> Recorder {
 
 fn crosses_threads<T: Send + Sync>() {}
 
-static SMALL: [Row; 9] = [
+static SMALL: [NodeParts; 9] = [
     (Kind::Chance, 1, 3),
     (Kind::One, 1, 2),
     LEAF,
@@ -161,7 +161,7 @@ fn walks_through_a_wide_tree(rt: HostRuntime) -> Result<(), Fail> {
 }
 
 /// Nodes, and whether each fits below the two that were put.
-static JUDGED: [(Row, bool); 13] = [
+static JUDGED: [(NodeParts, bool); 13] = [
     ((Kind::One, 1, 2), true),
     ((Kind::One, 1, 3), false),
     ((Kind::One, 2, 1024), true),
@@ -178,7 +178,7 @@ static JUDGED: [(Row, bool); 13] = [
 ];
 
 /// The place of the first row that is judged otherwise.
-fn first_misjudged(builder: &Builder, rows: &[(Row, bool)]) -> Option<usize> {
+fn first_misjudged(builder: &Builder, rows: &[(NodeParts, bool)]) -> Option<usize> {
     for (place, (row, fits)) in rows.iter().enumerate() {
         if builder.fits(node(*row)) != *fits {
             return Some(place);

@@ -181,15 +181,15 @@ static FAULTS: [Faulty; 21] = [
     Faulty {
         entries: r#"c "" 1 "" { "g" 0.5 "b" 0.5 } 0 p "" 1 1 "" { "H" "L" } 0 t "" 1 { 4, -4 }
                t "" 2 { 0, 0 } t "" 3 { 10.000000 2.000000 }"#,
-        fault: FileFault::NotZeroSum { node: 5 },
+        fault: FileFault::NotConstantSum { node: 5 },
     },
     Faulty {
-        entries: r#"p "" 1 1 "" { "x" } 1 { 1, 1 } t "" 0"#,
-        fault: FileFault::NotZeroSum { node: 2 },
+        entries: r#"p "" 1 1 "" { "x" "y" } 1 { 1, 1 } t "" 0 t "" 2 { 1, 0 }"#,
+        fault: FileFault::NotConstantSum { node: 3 },
     },
     Faulty {
         entries: r#"t "" 1 { 4611686018427387904, 1 }"#,
-        fault: FileFault::NotZeroSum { node: 1 },
+        fault: FileFault::Scale { node: 1 },
     },
     Faulty {
         entries: r#"c "" 1 "" { "a" 1/4294967296 "b" 4294967295/4294967296 } 0 c "" 1 0 t "" 0 t "" 0 t "" 0"#,
@@ -208,8 +208,8 @@ static FAULTS: [Faulty; 21] = [
         fault: FileFault::Scale { node: 2 },
     },
     Faulty {
-        entries: r#"c "" 1 "" { "a" 1/3 "b" 2/3 } 0 t "" 1 { 1/4611686018427387904, 0 } t "" 0"#,
-        fault: FileFault::NotZeroSum { node: 2 },
+        entries: r#"c "" 1 "" { "a" 1/3 "b" 2/3 } 0 t "" 0 t "" 1 { 1/4611686018427387904, 0 }"#,
+        fault: FileFault::NotConstantSum { node: 3 },
     },
     Faulty {
         entries: r#"p "" 1 1 "" { "x" "y" } 0 t "" 1 { 1/4294967296, -1/4294967296 }
@@ -311,6 +311,14 @@ fn weighs_hundreds_of_tosses(rt: HostRuntime) -> Result<(), Fail> {
     push_tosses(&mut entries)?;
     let weights = weigh_entries(&rt, rt.alloc(), entries.as_str())?;
     assert!(rt; weights.unit() == 2 && weights.mass() == 300 && weights.leaves().len() == 600);
+    drop(weights);
+    Ok(())
+}
+
+#[test]
+fn tells_what_leaves_pay_together(rt: HostRuntime) -> Result<(), Fail> {
+    let weights = weigh_entries(&rt, rt.alloc(), r#"t "" 1 { 1/2, -1/3 }"#)?;
+    assert!(rt; weights.unit() == 6 && weights.sum().num() == 1 && weights.sum().den() == 6);
     drop(weights);
     Ok(())
 }

@@ -11,7 +11,7 @@ ghost use Rattle.xg_game.specs.Prologues.{prologue_of};
 use crate::outcomes::{OutcomeTable, zero};
 use crate::prologue::Prologue;
 use crate::sets::{SetDescription, SetTables};
-use crate::tables::Tables;
+use crate::tables::ContentTables;
 use crate::texts::Texts;
 use std::marker::Model;
 use xg_frac::Frac;
@@ -49,7 +49,7 @@ impl Model for Game {
 
 impl Game {
     /// The game of a prologue and whole tables.
-    pub(crate) fn of(prologue: Prologue, tables: Tables) -> Game
+    pub(crate) fn of(prologue: Prologue, tables: ContentTables) -> Game
         requires complete { wanted 1 tables.nodes ≡ 0 }
         requires consistent { AreTogether tables }
         ensures { result ≡ game_with (prologue_of prologue) tables }

@@ -14,11 +14,11 @@ ghost use Rattle.xg_record.specs.Record.{record_of};
 use crate::fault::Refused;
 use crate::game::Game;
 use crate::prologue::Prologue;
-use crate::tables::Tables;
+use crate::tables::ContentTables;
 use std::alloc::Global;
 use std::marker::Model;
 use xg_lex::Text;
-use xg_record::{Entry, Record};
+use xg_record::{EntryView, Record};
 
 /// A game in the making: its prologue and its entries so far.
 ///
@@ -26,7 +26,7 @@ use xg_record::{Entry, Record};
 #[derive(Drop)]
 pub struct GameMaker {
     prologue: Prologue,
-    tables: Tables,
+    tables: ContentTables,
     spent: bool,
 }
 
@@ -57,7 +57,7 @@ impl GameMaker {
                 two,
                 comment,
             },
-            tables: Tables::new(alloc),
+            tables: ContentTables::new(alloc),
             spent: false,
         }
     }
@@ -110,7 +110,7 @@ impl GameMaker {
 
     /// Takes the next entry, as `push`, by views of what it says.
     #[inline(always)]
-    pub fn push_entry(&mut self, entry: &Entry<'_>) -> Result<(), Refused>
+    pub fn push_entry(&mut self, entry: &EntryView<'_>) -> Result<(), Refused>
         requires incomplete { wanted 1 self.old.contents.nodes ≢ 0 }
         requires unspent { self.old.spent ≡ false }
         requires outcome { entry.now.outcome ≤ most }

@@ -18,7 +18,7 @@ const SPARE_PLACES: u64 = 64;
 /// are have their marks in an array, and the others in a hash table, which takes its seed from the file that the first of
 /// them stands in. So small numbers need no seed, and no numbers that are picked beforehand are slow to find.
 #[derive(Drop)]
-pub(crate) struct Numbers {
+pub(crate) struct PlacedNumbers {
     numbers: Vec<u64>,
     near: Vec<u32>,
     far: IndexMap<u64, u32, Seed>,
@@ -26,7 +26,7 @@ pub(crate) struct Numbers {
     greatest: u64,
 }
 
-impl Model for Numbers {
+impl Model for PlacedNumbers {
     ghost use Rattle.std.specs.Prelude.{ℕ, List};
     ghost use Rattle.xg_game.specs.Marks.{MarksUpTo};
 
@@ -37,12 +37,12 @@ impl Model for Numbers {
     ghost invariant = { λ n. MarksUpTo n.numbers.items n.near.items n.far n.greatest };
 }
 
-impl Numbers {
+impl PlacedNumbers {
     /// No numbers.
-    pub(crate) fn new(alloc: Global) -> Numbers
+    pub(crate) fn new(alloc: Global) -> PlacedNumbers
         ensures { result ≡ [] }
     {
-        Numbers {
+        PlacedNumbers {
             numbers: Vec::new(alloc),
             near: Vec::new(alloc),
             far: IndexMap::with_hasher(alloc, Seed::of(b"")),

@@ -15,7 +15,7 @@ use std::alloc::{AllocError, Global};
 use std::marker::Model;
 use xg_frac::{Frac, whole};
 use xg_lex::TextView;
-use xg_record::{Entry, Payoffs};
+use xg_record::{EntryView, Payoffs};
 
 /// The payoffs of both players.
 #[derive(Clone, Copy)]
@@ -97,7 +97,7 @@ impl OutcomeTable {
     }
 
     /// Whether the entry is the first to mention its outcome, and has no payoffs.
-    pub(crate) fn is_undefined(&self, entry: &Entry<'_>, place: Option<usize>) -> bool
+    pub(crate) fn is_undefined(&self, entry: &EntryView<'_>, place: Option<usize>) -> bool
         requires { place ≡ place_of_outcome entry.now.outcome self.now }
         ensures { result ≡ faults.is_outcome_undefined self.now (entry_seen entry.now).outcome }
     {
@@ -105,7 +105,7 @@ impl OutcomeTable {
     }
 
     /// Whether the entry has another name or other payoffs than are kept of its outcome.
-    pub(crate) fn differs(&self, entry: &Entry<'_>, place: Option<usize>) -> bool
+    pub(crate) fn differs(&self, entry: &EntryView<'_>, place: Option<usize>) -> bool
         requires { place ≡ place_of_outcome entry.now.outcome self.now }
         ensures { result ≡ faults.outcome_differs self.now (entry_seen entry.now).outcome }
     {
@@ -123,7 +123,7 @@ impl OutcomeTable {
     }
 
     /// Whether the entry is the first to mention its outcome, and has other than two payoffs.
-    pub(crate) fn is_miscounted(&self, entry: &Entry<'_>, place: Option<usize>) -> bool
+    pub(crate) fn is_miscounted(&self, entry: &EntryView<'_>, place: Option<usize>) -> bool
         requires { place ≡ place_of_outcome entry.now.outcome self.now }
         ensures { result ≡ faults.is_outcome_miscounted self.now (entry_seen entry.now).outcome }
     {
@@ -131,7 +131,7 @@ impl OutcomeTable {
     }
 
     /// The number of the entry's outcome among those of the table, which count from 1.
-    pub(crate) fn number_with(&self, entry: &Entry<'_>, place: Option<usize>) -> u32
+    pub(crate) fn number_with(&self, entry: &EntryView<'_>, place: Option<usize>) -> u32
         requires place { place ≡ place_of_outcome entry.now.outcome self.now }
         requires room { length self.now + 1 < 2 ^ 32 }
         ensures { result ≡ adding.outcome_number self.now (entry_seen entry.now).outcome }

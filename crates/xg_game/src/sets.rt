@@ -12,7 +12,7 @@ use crate::table::NumberTable;
 use std::alloc::{AllocError, Global};
 use std::marker::Model;
 use xg_lex::{Text, TextView};
-use xg_record::{Entry, EntryActions};
+use xg_record::{EntryActions, EntryView};
 use xg_tree::{Kind, MOST_ACTIONS};
 
 /// What is known of a set: the first name that is given, and the actions of the first mention.
@@ -24,12 +24,12 @@ pub(crate) struct SetDescription<'a> {
 
 /// The sets of chance or of a player by their numbers in the file, in the order of their first mentions.
 #[derive(Drop)]
-pub(crate) struct SetTable {
+pub(crate) struct SetsOfKind {
     sets: NumberTable<Span>,
     actions: KeptActions,
 }
 
-impl Model for SetTable {
+impl Model for SetsOfKind {
     ghost use Rattle.std.specs.Prelude.{List, length, map};
     ghost use Rattle.def_file.specs.Content.{SetEntry};
 
@@ -42,12 +42,12 @@ impl Model for SetTable {
     ghost invariant = { λ t. SpansAreWithin (length t.actions) t.sets };
 }
 
-impl SetTable {
+impl SetsOfKind {
     /// No sets.
-    pub(crate) fn new(alloc: Global) -> SetTable
+    pub(crate) fn new(alloc: Global) -> SetsOfKind
         ensures { result ≡ [] }
     {
-        SetTable {
+        SetsOfKind {
             sets: NumberTable::new(alloc),
             actions: KeptActions::new(alloc),
         }
@@ -97,7 +97,7 @@ impl SetTable {
     }
 
     /// Whether the entry is the first to mention its set, and has no actions.
-    pub(crate) fn is_undefined(&self, entry: &Entry<'_>, place: Option<usize>) -> bool
+    pub(crate) fn is_undefined(&self, entry: &EntryView<'_>, place: Option<usize>) -> bool
         requires { place ≡ faults.set_place_of entry.now.set self.now }
         ensures { result ≡ faults.is_set_undefined self.now (entry_seen entry.now).set }
     {
@@ -105,7 +105,7 @@ impl SetTable {
     }
 
     /// Whether the entry has another name or other actions than are kept of its set.
-    pub(crate) fn differs(&self, kind: Kind, entry: &Entry<'_>, place: Option<usize>) -> bool
+    pub(crate) fn differs(&self, kind: Kind, entry: &EntryView<'_>, place: Option<usize>) -> bool
         requires { place ≡ faults.set_place_of entry.now.set self.now }
         ensures { result ≡ faults.set_differs kind self.now (entry_seen entry.now).set }
     {
@@ -120,7 +120,7 @@ impl SetTable {
     }
 
     /// Whether the entry is the first to mention its set, and has no action or too many.
-    pub(crate) fn is_miscounted(&self, entry: &Entry<'_>, place: Option<usize>) -> bool
+    pub(crate) fn is_miscounted(&self, entry: &EntryView<'_>, place: Option<usize>) -> bool
         requires { place ≡ faults.set_place_of entry.now.set self.now }
         ensures { result ≡ faults.is_set_miscounted self.now (entry_seen entry.now).set }
     {
@@ -128,7 +128,7 @@ impl SetTable {
     }
 
     /// The number of the entry's set among those of the table, which count from 1.
-    pub(crate) fn number_with(&self, entry: &Entry<'_>, place: Option<usize>) -> u32
+    pub(crate) fn number_with(&self, entry: &EntryView<'_>, place: Option<usize>) -> u32
         requires place { place ≡ faults.set_place_of entry.now.set self.now }
         requires room { length self.now + 1 < 2 ^ 32 }
         ensures { result ≡ adding.set_number self.now (entry_seen entry.now).set }
@@ -137,7 +137,7 @@ impl SetTable {
     }
 
     /// How many actions the entry's set has.
-    pub(crate) fn action_count_with(&self, entry: &Entry<'_>, place: Option<usize>) -> u32
+    pub(crate) fn action_count_with(&self, entry: &EntryView<'_>, place: Option<usize>) -> u32
         requires place { place ≡ faults.set_place_of entry.now.set self.now }
         requires few { adding.action_count self.now (entry_seen entry.now).set < 2 ^ 32 }
         ensures { result ≡ adding.action_count self.now (entry_seen entry.now).set }
@@ -226,9 +226,9 @@ fn has_wrong_count(actions: &Option<EntryActions<'_>>) -> bool
 /// The sets of chance and of each player.
 #[derive(Drop)]
 pub(crate) struct SetTables {
-    chance: SetTable,
-    one: SetTable,
-    two: SetTable,
+    chance: SetsOfKind,
+    one: SetsOfKind,
+    two: SetsOfKind,
 }
 
 impl Model for SetTables {
@@ -245,9 +245,9 @@ impl SetTables {
         ensures { result ≡ record { chance = []; one = []; two = [] } }
     {
         SetTables {
-            chance: SetTable::new(alloc),
-            one: SetTable::new(alloc),
-            two: SetTable::new(alloc),
+            chance: SetsOfKind::new(alloc),
+            one: SetsOfKind::new(alloc),
+            two: SetsOfKind::new(alloc),
         }
     }
 
@@ -259,7 +259,7 @@ impl SetTables {
     }
 
     /// The sets of a kind.
-    pub(crate) fn of(&self, kind: Kind) -> &SetTable
+    pub(crate) fn of(&self, kind: Kind) -> &SetsOfKind
         requires { kind ≢ Kind.Leaf }
         ensures { result.now ≡ sets_of_kind kind self.now }
     {

@@ -5,7 +5,7 @@ ghost use Rattle.def_file.specs.Adding.{kept_name};
 ghost use Rattle.xg_game.specs.declared.table.Described.{Described};
 
 use crate::given::keep_name;
-use crate::numbers::Numbers;
+use crate::numbers::PlacedNumbers;
 use std::alloc::{AllocError, Global};
 use std::marker::Model;
 use xg_lex::{Text, TextView};
@@ -20,7 +20,7 @@ pub(crate) struct Described<D> {
 /// What is known of sets or outcomes by their numbers in the file, in the order of their first mentions.
 #[derive(Drop)]
 pub(crate) struct NumberTable<D> {
-    numbers: Numbers,
+    numbers: PlacedNumbers,
     known: Vec<Described<D>>,
 }
 
@@ -42,7 +42,7 @@ impl<D: Drop> NumberTable<D> {
         ensures { result ≡ [] }
     {
         NumberTable {
-            numbers: Numbers::new(alloc),
+            numbers: PlacedNumbers::new(alloc),
             known: Vec::new(alloc),
         }
     }

@@ -16,7 +16,7 @@ use def_file::{EntryKind, FileFault};
 use def_tree::Node;
 use std::alloc::{AllocError, Global};
 use std::marker::Model;
-use xg_record::Entry;
+use xg_record::EntryView;
 use xg_tree::{Builder, Kind, MOST_NODES};
 
 /// Where the set and the outcome of an entry are in the tables, if they are there.
@@ -28,7 +28,7 @@ pub(crate) struct Places {
 
 /// What the entries so far say.
 #[derive(Drop)]
-pub(crate) struct Tables {
+pub(crate) struct ContentTables {
     pub(crate) nodes: Builder,
     pub(crate) names: Texts,
     pub(crate) sets: SetTables,
@@ -37,7 +37,7 @@ pub(crate) struct Tables {
     alloc: Global,
 }
 
-impl Model for Tables {
+impl Model for ContentTables {
     ghost use Rattle.def_file.specs.Content.{Contents};
 
     ghost Value = { Contents };
@@ -50,12 +50,12 @@ impl Model for Tables {
     } };
 }
 
-impl Tables {
+impl ContentTables {
     /// No entries.
-    pub(crate) fn new(alloc: Global) -> Tables
+    pub(crate) fn new(alloc: Global) -> ContentTables
         ensures { result ≡ no_contents }
     {
-        Tables {
+        ContentTables {
             nodes: Builder::new(alloc),
             names: Texts::new(alloc),
             sets: SetTables::new(alloc),
@@ -77,7 +77,7 @@ impl Tables {
     }
 
     /// Where the set and the outcome of an entry are in the tables.
-    pub(crate) fn places(&self, entry: &Entry<'_>) -> Places
+    pub(crate) fn places(&self, entry: &EntryView<'_>) -> Places
         ensures { ArePlacesOf (entry_seen entry.now) self.now result }
     {
         let kind = mover(entry.kind, entry.player);
@@ -90,7 +90,7 @@ impl Tables {
     }
 
     /// The first fault of an entry after those so far.
-    pub(crate) fn fault(&self, entry: &Entry<'_>, places: Places) -> Option<FileFault>
+    pub(crate) fn fault(&self, entry: &EntryView<'_>, places: Places) -> Option<FileFault>
         requires consistent { AreTogether self.now }
         requires places { ArePlacesOf (entry_seen entry.now) self.now places }
         ensures { result ≡ faults.record_fault self.now (entry_seen entry.now) }
@@ -123,7 +123,7 @@ impl Tables {
         None
     }
 
-    fn is_set_undefined(&self, entry: &Entry<'_>, place: Option<usize>) -> bool
+    fn is_set_undefined(&self, entry: &EntryView<'_>, place: Option<usize>) -> bool
         requires { place ≡ place_of_set (entry_seen entry.now) self.now.sets }
         ensures { let r = entry_seen entry.now in
             let table = sets_of_kind (faults.mover r) self.now.sets in
@@ -133,7 +133,7 @@ impl Tables {
         has_set(entry.kind) && self.sets.of(kind).is_undefined(entry, place)
     }
 
-    fn set_differs(&self, entry: &Entry<'_>, place: Option<usize>) -> bool
+    fn set_differs(&self, entry: &EntryView<'_>, place: Option<usize>) -> bool
         requires { place ≡ place_of_set (entry_seen entry.now) self.now.sets }
         ensures { let r = entry_seen entry.now in
             let table = sets_of_kind (faults.mover r) self.now.sets in
@@ -143,7 +143,7 @@ impl Tables {
         has_set(entry.kind) && self.sets.of(kind).differs(kind, entry, place)
     }
 
-    fn is_set_miscounted(&self, entry: &Entry<'_>, place: Option<usize>) -> bool
+    fn is_set_miscounted(&self, entry: &EntryView<'_>, place: Option<usize>) -> bool
         requires { place ≡ place_of_set (entry_seen entry.now) self.now.sets }
         ensures { let r = entry_seen entry.now in
             let table = sets_of_kind (faults.mover r) self.now.sets in
@@ -154,7 +154,7 @@ impl Tables {
     }
 
     /// Takes an entry that has no fault. Where memory runs out, part of it may be in the tables.
-    pub(crate) fn keep(&mut self, entry: &Entry<'_>, places: Places) -> Result<(), AllocError>
+    pub(crate) fn keep(&mut self, entry: &EntryView<'_>, places: Places) -> Result<(), AllocError>
         requires places { ArePlacesOf (entry_seen entry.now) self.old places }
         requires consistent { AreTogether self.old }
         requires incomplete { wanted 1 self.old.nodes ≢ 0 }
@@ -184,7 +184,7 @@ impl Tables {
     }
 
     /// The node of an entry that has no fault.
-    fn node_with(&self, entry: &Entry<'_>, places: Places) -> Node
+    fn node_with(&self, entry: &EntryView<'_>, places: Places) -> Node
         requires places { ArePlacesOf (entry_seen entry.now) self.now places }
         requires consistent { AreTogether self.now }
         requires faultless { faults.record_fault self.now (entry_seen entry.now) ≡ None }

@@ -124,7 +124,8 @@ fn put_facing_bet(
     requires folded { folded.number ≤ most }
     requires called { called.number ≤ most }
     requires takes { Takes maker.old (def.facing_bet player (mention_of_set set) (mention_of_outcome folded) (mention_of_outcome called)) }
-    ensures { OnOk result (GainsEntries maker.old maker.new (def.facing_bet player (mention_of_set set) (mention_of_outcome folded) (mention_of_outcome called))) }
+    ensures { OnOk result (GainsEntries maker.old maker.new
+        (def.facing_bet player (mention_of_set set) (mention_of_outcome folded) (mention_of_outcome called))) }
 {
     put_move(maker, alloc, player, set)?;
     put_end(maker, alloc, folded)?;

@@ -3,7 +3,8 @@ ghost use Rattle.std.specs.Prelude.{◌≡◌, [], ◌∷◌, ◌++◌};
 ghost use Rattle.std.specs.Option.{option_map};
 ghost use Rattle.def_outside.specs.Cause.{HasCause};
 ghost use Rattle.def_file_tokens.specs.Texts.{escaped};
-ghost use Rattle.def_canon.specs.Canon.{close_piece, comma_piece, fraction, marker_pieces, name_pieces, on_new_line, open_piece, quoted, text_piece, text_of_pieces, whole_piece};
+ghost use Rattle.def_canon.specs.Canon.{close_piece, comma_piece, fraction, marker_pieces, name_pieces, on_new_line};
+ghost use Rattle.def_canon.specs.Canon.{open_piece, quoted, text_piece, text_of_pieces, whole_piece};
 ghost use Rattle.def_file_tokens.specs.declared.Token.TheVariants.{Text};
 ghost use Rattle.def_outside.specs.Sinks.{Writes};
 

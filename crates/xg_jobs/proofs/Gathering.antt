@@ -24,8 +24,8 @@ MayLeave g _ = MayGather IsOpen g
 abbrev Leaves : Gathering → ℕ → Gathering → Type 0
 Leaves old _ new = Gathers state_left old new
 
-abbrev Accepted : List Event → Gathering → Type 0
-Accepted steps g = Accepts MayEnter Enters MayLeave Leaves steps g
+abbrev GatheringAccepts : List Event → Gathering → Type 0
+GatheringAccepts steps g = Accepts MayEnter Enters MayLeave Leaves steps g
 
 abbrev Led : List Event → Gathering → Gathering → Type 0
 Led steps g h = Leads MayEnter Enters MayLeave Leaves steps g h
@@ -67,12 +67,12 @@ all_gathered node below beside v left end first others ok =
 
 accepts : (t : Forest) (k : ℕ) (rest : List Event) (v : Gathering) → HasItsChildren t
     → MayGather (λ s. Room s (node_count t)) v
-    → ((w : Gathering) → Gathers (walked t) v w → Accepted rest w)
-    → Accepted (events_from k t ++ rest) v
+    → ((w : Gathering) → Gathers (walked t) v w → GatheringAccepts rest w)
+    → GatheringAccepts (events_from k t ++ rest) v
 accepts bare k rest v children room on = on v (none_gathered v)
 accepts (grown node below beside) k rest v children room on = (
   λ ok. room_now node below beside (state_of v.tops) (room ok),
-  λ entered enters. subst (λ steps. Accepted steps entered) (sym (steps_apart k node below beside rest))
+  λ entered enters. subst (λ steps. GatheringAccepts steps entered) (sym (steps_apart k node below beside rest))
       (accepts below (k + 1) (Leave k ∷ (events_from (k + 1 + node_count below) beside ++ rest)) entered children.1
       (λ ok. let e = enters ok in
       subst (λ s. Room s (node_count below)) (sym e.1) (room_below node below beside (state_of v.tops) (room e.0)))
@@ -102,10 +102,10 @@ leads (grown node below beside) k rest v w children (entered, enters, led) =
 
 -- from the start there is room for each step of a walk through a game's tree
 pub accepts_walk : (tree : Forest) (v : Gathering) → IsGameTree tree → state_of v.tops ≡ at_start
-    → Accepted (events tree) v
+    → GatheringAccepts (events tree) v
 accepts_walk tree v game start =
     let limit : node_count tree ≤ most_nodes = game.limit in
-    subst (λ steps. Accepted steps v) (append-nil (events tree))
+    subst (λ steps. GatheringAccepts steps v) (append-nil (events tree))
     (accepts tree 1 [] v game.tree.children
     (λ _. subst (λ s. Room s (node_count tree)) (sym start) (record { nodes = omega arith; covered = omega arith; leaves = omega arith }))
     (λ w _. tt))

@@ -4,8 +4,8 @@ use Rattle.def_sums.specs.Limits.{most_mass}
 use Rattle.xg_jobs.specs.declared.entry.SmallEntry.{SmallEntry}
 use Rattle.xg_jobs.specs.declared.entry.TinyEntry.{TinyEntry}
 use Rattle.xg_jobs.specs.declared.entry.WideEntry.{WideEntry}
-use Rattle.xg_jobs.specs.declared.groups.Entries.{Entries}
-use Rattle.xg_jobs.specs.declared.groups.Entries.TheVariants.{Small, Tiny, Wide}
+use Rattle.xg_jobs.specs.declared.groups.GroupEntries.{GroupEntries}
+use Rattle.xg_jobs.specs.declared.groups.GroupEntries.TheVariants.{Small, Tiny, Wide}
 use Rattle.xg_jobs.specs.Groups.{GroupLeaf, group_at, groups_mass}
 
 abbrev pub tiny_leaf : TinyEntry → GroupLeaf
@@ -17,7 +17,7 @@ small_leaf e = record { other = e.other; weight = e.weight }
 abbrev pub wide_leaf : WideEntry → GroupLeaf
 wide_leaf e = record { other = e.other; weight = e.weight }
 
-abbrev pub leaves_of_group : Entries → List GroupLeaf
+abbrev pub leaves_of_group : GroupEntries → List GroupLeaf
 leaves_of_group (Tiny entries) = map tiny_leaf entries.items
 leaves_of_group (Small entries) = map small_leaf entries.items
 leaves_of_group (Wide entries) = map wide_leaf entries.items

@@ -5,12 +5,12 @@ ghost use Rattle.def_sums.specs.Limits.{past_number};
 ghost use Rattle.def_plan.specs.FormRows.{amount_of};
 ghost use Rattle.xg_jobs.specs.Groups.{group_at, group_mass, group_part, group_sum, groups_mass, parts_sum};
 
-use crate::entry::Entry;
+use crate::entry::GroupEntry;
 use crate::row::{Row, add_product, put};
 
 /// Writes the sum of each group against player two's numbers, and adds to each row of player two what the groups bring
 /// to it against player one's.
-pub(crate) fn both_rows<E: Entry, R: Row>(
+pub(crate) fn both_rows<E: GroupEntry, R: Row>(
     starts: &[u32],
     entries: &[E],
     one: &[u64],
@@ -44,7 +44,7 @@ pub(crate) fn both_rows<E: Entry, R: Row>(
 }
 
 // Adds a group's parts to the rows of player two; the sum for the group's own sequence is the answer.
-fn add_group<E: Entry, R: Row>(group: &[E], number: u64, two: &[u64], other: &mut [R]) -> R
+fn add_group<E: GroupEntry, R: Row>(group: &[E], number: u64, two: &[u64], other: &mut [R]) -> R
     ghost most: { ℕ }
     requires within { All (λ e. e.other < length two.now) (map E.leaf group.now) }
     requires twos { length other.old ≡ length two.now }
@@ -64,7 +64,7 @@ fn add_group<E: Entry, R: Row>(group: &[E], number: u64, two: &[u64], other: &mu
 }
 
 // The sum over a group's leaves.
-fn sum_group<E: Entry, R: Row>(group: &[E], two: &[u64]) -> R
+fn sum_group<E: GroupEntry, R: Row>(group: &[E], two: &[u64]) -> R
     ghost most: { ℕ }
     requires within { All (λ e. e.other < length two.now) (map E.leaf group.now) }
     requires small_two { (b : ℕ) → slice_index two.now b ≤ most }
@@ -82,7 +82,7 @@ fn sum_group<E: Entry, R: Row>(group: &[E], two: &[u64]) -> R
 }
 
 // The same, and each leaf is added to the row of its sequence of player two.
-fn spread_group<E: Entry, R: Row>(group: &[E], number: u64, two: &[u64], other: &mut [R]) -> R
+fn spread_group<E: GroupEntry, R: Row>(group: &[E], number: u64, two: &[u64], other: &mut [R]) -> R
     ghost most: { ℕ }
     requires within { All (λ e. e.other < length two.now) (map E.leaf group.now) }
     requires twos { length other.old ≡ length two.now }

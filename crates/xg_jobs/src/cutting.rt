@@ -20,7 +20,7 @@ pub(crate) fn ranges_of(alloc: Global, tree: &Tree) -> Result<Vec<LeafRange>, Al
     ensures kept { IfOk result (λ ranges. KeepsRanges ranges.items) }
 {
     // the limit of a tree's nodes
-    let _count = tree.len();
+    tree.facts();
     let tops = tops_of(alloc, tree)?;
     let jobs = job_places(alloc, &tops)?;
     let mut ranges = Vec::new(alloc);
@@ -53,13 +53,13 @@ fn job_places(alloc: Global, tops: &[TopNode]) -> Result<Vec<u32>, AllocError>
 
 // The jobs after a pass, and whether one of them gave way.
 #[derive(Drop)]
-struct Pass {
+struct CutJobs {
     jobs: Vec<u32>,
     cut: bool,
 }
 
 // One pass over the jobs.
-fn make_pass(alloc: Global, tops: &[TopNode], jobs: &[u32]) -> Result<Pass, AllocError>
+fn make_pass(alloc: Global, tops: &[TopNode], jobs: &[u32]) -> Result<CutJobs, AllocError>
     requires limit { length tops.now ≤ most_nodes }
     requires few { length jobs.now ≤ most_jobs }
     requires jobs { (jobs_now : List Forest) × AreJobs tops.now jobs.now jobs_now }
@@ -83,7 +83,7 @@ fn make_pass(alloc: Global, tops: &[TopNode], jobs: &[u32]) -> Result<Pass, Allo
             after.push(*job)?;
         }
     }
-    Ok(Pass { jobs: after, cut })
+    Ok(CutJobs { jobs: after, cut })
 }
 
 // Whether a job with this top node gives way, where there are then so many jobs.

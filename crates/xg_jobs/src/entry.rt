@@ -3,7 +3,7 @@ ghost use Rattle.std.specs.Prelude.{◌≡◌};
 ghost use Rattle.xg_jobs.specs.Groups.{GroupLeaf};
 
 /// A leaf in the group of its sequence of one player, with the sequence of the other one.
-pub(crate) trait Entry: Copy {
+pub(crate) trait GroupEntry: Copy {
     // the leaf, and which leaves there is room for
     ghost leaf: { Self → GroupLeaf };
 
@@ -27,7 +27,7 @@ pub(crate) struct TinyEntry {
     weight: i16,
 }
 
-impl Entry for TinyEntry {
+impl GroupEntry for TinyEntry {
     ghost use Rattle.xg_jobs.specs.Groups.{IsTiny};
 
     ghost leaf = { λ e. record { other = e.other; weight = e.weight } };
@@ -57,7 +57,7 @@ pub(crate) struct SmallEntry {
     weight: i32,
 }
 
-impl Entry for SmallEntry {
+impl GroupEntry for SmallEntry {
     ghost use Rattle.xg_jobs.specs.Groups.{IsSmall};
 
     ghost leaf = { λ e. record { other = e.other; weight = e.weight } };
@@ -87,7 +87,7 @@ pub(crate) struct WideEntry {
     pub(crate) weight: i64,
 }
 
-impl Entry for WideEntry {
+impl GroupEntry for WideEntry {
     ghost leaf = { λ e. record { other = e.other; weight = e.weight } };
 
     ghost has_room = { λ _. Unit {0} };

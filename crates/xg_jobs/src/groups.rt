@@ -25,7 +25,7 @@ use xg_seq::SeqForm;
 pub(crate) struct LeafGroups {
     // where each sequence's group begins, and behind them where the last one ends
     starts: Vec<u32>,
-    entries: Entries,
+    entries: GroupEntries,
     // how many sequences player two has
     others: u32,
     // no less than the sizes of all weights together
@@ -34,26 +34,26 @@ pub(crate) struct LeafGroups {
 
 /// Entries in which each weight has room.
 #[derive(Drop)]
-pub(crate) enum Entries {
+pub(crate) enum GroupEntries {
     Tiny(Vec<TinyEntry>),
     Small(Vec<SmallEntry>),
     Wide(Vec<WideEntry>),
 }
 
-impl Entries {
+impl GroupEntries {
     ghost use Rattle.std.specs.Prelude.{map};
     ghost use Rattle.xg_jobs.specs.Entries.{leaves_of_group, wide_leaf};
 
     // The smallest entries that have room for all leaves.
-    fn packed(alloc: Global, entries: Vec<WideEntry>) -> Result<Entries, AllocError>
+    fn packed(alloc: Global, entries: Vec<WideEntry>) -> Result<GroupEntries, AllocError>
         ensures { IfOk result (λ packed. leaves_of_group packed ≡ map wide_leaf entries.items) }
     {
         if are_tiny(&entries) {
-            Ok(Entries::Tiny(tiny_entries(alloc, &entries)?))
+            Ok(GroupEntries::Tiny(tiny_entries(alloc, &entries)?))
         } else if are_small(&entries) {
-            Ok(Entries::Small(small_entries(alloc, &entries)?))
+            Ok(GroupEntries::Small(small_entries(alloc, &entries)?))
         } else {
-            Ok(Entries::Wide(entries))
+            Ok(GroupEntries::Wide(entries))
         }
     }
 }
@@ -81,7 +81,7 @@ impl LeafGroups {
         let others = form.sequence_count(Player::Two);
         let entries = entries_of(alloc, form, Player::One, &starts)?;
         let groups = merged(alloc, &starts, &entries, others)?;
-        let packed = Entries::packed(alloc, groups.entries)?;
+        let packed = GroupEntries::packed(alloc, groups.entries)?;
         Ok(LeafGroups {
             starts: groups.starts,
             entries: packed,
@@ -107,9 +107,9 @@ impl LeafGroups {
         let narrow = sums_fit_word(self.mass, input.one, input.two);
         let starts = &self.starts;
         match &self.entries {
-            Entries::Tiny(entries) => write_rows(alloc, narrow, starts, entries, input, rows),
-            Entries::Small(entries) => write_rows(alloc, narrow, starts, entries, input, rows),
-            Entries::Wide(entries) => write_rows(alloc, narrow, starts, entries, input, rows),
+            GroupEntries::Tiny(entries) => write_rows(alloc, narrow, starts, entries, input, rows),
+            GroupEntries::Small(entries) => write_rows(alloc, narrow, starts, entries, input, rows),
+            GroupEntries::Wide(entries) => write_rows(alloc, narrow, starts, entries, input, rows),
         }
     }
 }

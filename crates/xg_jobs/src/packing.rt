@@ -4,7 +4,7 @@ ghost use Rattle.std.specs.Int.{w32};
 ghost use Rattle.xg_jobs.specs.Entries.{small_leaf, tiny_leaf, wide_leaf};
 ghost use Rattle.xg_jobs.specs.Groups.{IsSmall, IsTiny};
 
-use crate::entry::{Entry, SmallEntry, TinyEntry, WideEntry};
+use crate::entry::{GroupEntry, SmallEntry, TinyEntry, WideEntry};
 use std::alloc::{AllocError, Global};
 
 /// Whether each leaf has room in a tiny entry.

@@ -66,7 +66,7 @@ impl JobTable {
     {
         let ranges = ranges_of(alloc, tree)?;
         // a table is of a tree that keeps the rules
-        let _count = tree.len();
+        tree.facts();
         let groups = LeafGroups::build(alloc, form)?;
         let touched = touched_of(alloc, form, &ranges)?;
         Ok(JobTable {

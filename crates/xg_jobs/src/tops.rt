@@ -26,7 +26,7 @@ pub(crate) fn tops_of(alloc: Global, tree: &Tree) -> Result<Vec<TopNode>, AllocE
     ensures { IfOk result (λ tops. tops.items ≡ tops_from 0 tree.now) }
 {
     // a tree's rules limit its nodes, and so all counts here
-    let _nodes = tree.len();
+    tree.facts();
     let mut gathering = Gathering::new(alloc);
     tree.walk(&mut gathering);
     gathering.so_far?;

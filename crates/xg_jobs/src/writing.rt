@@ -6,7 +6,7 @@ ghost use Rattle.xg_jobs.specs.Rows.{AreNumbersOf, ArePlainSums};
 ghost use Rattle.xg_jobs.specs.Writing.{CanWrite};
 
 use crate::both::both_rows;
-use crate::entry::Entry;
+use crate::entry::GroupEntry;
 use crate::input::RowInput;
 use crate::row::{Row, put};
 use crate::rows::Rows;
@@ -14,7 +14,7 @@ use std::alloc::{AllocError, Global};
 
 /// Writes the rows of both players by one pass over player one's groups. Where each sum has room in 64 bits, `narrow`
 /// says so.
-pub(crate) fn write_rows<E: Entry>(
+pub(crate) fn write_rows<E: GroupEntry>(
     alloc: Global,
     narrow: bool,
     starts: &[u32],
@@ -38,7 +38,7 @@ pub(crate) fn write_rows<E: Entry>(
 }
 
 // The same with player two's rows in as many bits as a row type has, until all leaves are added to them.
-fn write_rows_by<E: Entry, R: Row>(
+fn write_rows_by<E: GroupEntry, R: Row>(
     alloc: Global,
     starts: &[u32],
     entries: &[E],

@@ -67,7 +67,8 @@ impl<'a> Tokens<'a> {
     #[inline(always)]
     pub fn next_byte(&self) -> Option<u8>
         ensures exact { result ≡ byte_from self.now.whole self.now.at }
-        ensures first { (b : ℕ) → (result ≡ Some b) ↔ ((place : ℕ) × IsFirstByteFrom self.now.whole self.now.at place × (slice_index self.now.whole place ≡ b)) }
+        ensures first { (b : ℕ) → (result ≡ Some b)
+            ↔ ((place : ℕ) × IsFirstByteFrom self.now.whole self.now.at place × (slice_index self.now.whole place ≡ b)) }
         ensures none { (result ≡ None) ↔ AllPass is_space (drop self.now.at self.now.whole) }
     {
         self.bytes.get(self.start).copied()

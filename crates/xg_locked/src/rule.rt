@@ -16,9 +16,9 @@ impl TableRule<(), View, u64> for RightsRule {
 }
 
 /// A load that tells a seat what the rule says of its own view.
-pub(crate) struct Loads;
+pub(crate) struct LoadsView;
 
-impl Play<(), View> for Loads {
+impl Play<(), View> for LoadsView {
     ghost use Rattle.std.specs.Prelude.{◌≡◌};
     ghost use Rattle.xg_locked.specs.Rights.{IsLoaded};
 
@@ -26,9 +26,9 @@ impl Play<(), View> for Loads {
 }
 
 /// Two views put together.
-pub(crate) struct Joins;
+pub(crate) struct JoinsViews;
 
-impl Join<View> for Joins {
+impl Join<View> for JoinsViews {
     ghost use Rattle.xg_locked.specs.Rights.{both, spent};
 
     ghost both = { both };

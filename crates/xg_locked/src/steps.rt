@@ -2,7 +2,7 @@
 ghost use Rattle.std.specs.Prelude.{◌≡◌, ◌<◌, ◌+◌, ◌++◌, [], IfOk};
 ghost use Rattle.xg_locked.specs.Rights.{whole_view, both, seen, IsCutInTwo, IsLoaded};
 
-use crate::rule::{Cut, Cuts, Joins, Loads, RightsRule};
+use crate::rule::{Cut, Cuts, JoinsViews, LoadsView, RightsRule};
 use crate::view::View;
 use atomic_table::{Badge, Seat, Shared, Table};
 use std::alloc::{AllocError, Global};
@@ -44,7 +44,7 @@ pub fn load(table: &SharedRights, seat: &mut RightsSeat) -> u64
     ensures same { (seat.new.table_id ≡ seat.old.table_id) × (seat.new.me ≡ seat.old.me) }
     ensures loaded { IsLoaded result seat.old.me.0 }
 {
-    table.load::<Loads>(seat, 0)
+    table.load::<LoadsView>(seat, 0)
 }
 
 /// Puts the views of two seats together.
@@ -55,7 +55,7 @@ fn join(table: &SharedRights, seat: &mut RightsSeat, other: RightsSeat)
     ensures same { (seat.new.table_id ≡ seat.old.table_id)
         × (seat.new.me ≡ (both seat.old.me.0 other.me.0, seat.old.me.1)) }
 {
-    table.join_seat::<Joins>(seat, other);
+    table.join_seat::<JoinsViews>(seat, other);
 }
 
 /// Puts the views of two seats together and loads word 0: their numbers are one, and no right stands in both.

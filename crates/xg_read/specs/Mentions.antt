@@ -6,12 +6,12 @@ use Rattle.def_file.specs.Content as content
 use Rattle.def_file.specs.Faults.{has_set}
 use Rattle.def_file.specs.Reading.{◌>>=◌, checked_names, name_at, nth_name}
 use Rattle.xg_record.specs.Entry.{actions_seen}
-use Rattle.xg_record.specs.declared.entry.Entry.{Entry}
+use Rattle.xg_record.specs.declared.entry.EntryView.{EntryView}
 use Rattle.xg_read.specs.declared.entries.SetMention.{SetMention}
 use Rattle.xg_read.specs.declared.entries.OutcomeMention.{OutcomeMention}
 use Rattle.xg_read.specs.declared.prologue.PlayerNames.{PlayerNames}
-use Rattle.xg_read.specs.declared.prologue.Prologue.{Prologue}
-use Rattle.xg_read.specs.declared.prologue.Players.{Players}
+use Rattle.xg_read.specs.declared.prologue.PrologueTexts.{PrologueTexts}
+use Rattle.xg_read.specs.declared.prologue.BothNames.{BothNames}
 use Rattle.xg_game.specs.declared.fault.Refused.{Refused}
 use Rattle.xg_game.specs.declared.fault.Refused.TheVariants.{File, NoMemory}
 
@@ -22,11 +22,11 @@ abbrev pub outcome_mention_of : OutcomeMention → content.OutcomeMention
 outcome_mention_of m = record { number = m.number; name = m.name; payoffs = option_map (λ p. p.now) m.payoffs }
 
 -- the numbers of an entry are those that an entry may have
-pub record HasNumbers (r : Entry) : Type 0 where
+pub record HasNumbers (r : EntryView) : Type 0 where
   pub outcome : r.outcome ≤ most
   pub set : has_set r.kind ≡ true → (1 ≤ r.set) × (r.set ≤ most)
 
-abbrev pub read_prologue : Prologue → content.Prologue
+abbrev pub read_prologue : PrologueTexts → content.Prologue
 read_prologue p = record { title = p.title; one = p.one; two = p.two; comment = p.comment }
 
 -- the first two of some names, and how many there are
@@ -46,6 +46,6 @@ abbrev pub comment_at : List ℕ → ℕ → Result (List ℕ × ℕ) FileFault
 comment_at whole at = name_at whole at >>= λ name. Ok (unwrap_or name.0 [], name.1)
 
 -- the names of both players, where there are two, and else the fault
-abbrev pub IsBoth : List (List ℕ) → Result Players FileFault → Type 0
+abbrev pub IsBoth : List (List ℕ) → Result BothNames FileFault → Type 0
 IsBoth names (Ok p) = ((at : ℕ) → checked_names names at ≡ Ok at) × (p.one ≡ nth_name names 0) × (p.two ≡ nth_name names 1)
 IsBoth names (Err fault) = (at : ℕ) → checked_names names at ≡ Err fault

@@ -12,7 +12,7 @@ use def_file::EntryKind;
 use std::alloc::Global;
 use xg_game::Refused;
 use xg_lex::{TextView, Token};
-use xg_record::{ActionViews, Entry, EntryActions, Payoffs};
+use xg_record::{ActionViews, EntryActions, EntryView, Payoffs};
 
 /// What an entry says of its set.
 #[derive(Drop)]
@@ -102,7 +102,7 @@ impl<'a> Reader<'a> {
     /// A chance entry behind its word.
     #[tactic(auto, unfolding(def_file::specs::Reading::chance_entry_at))]
     #[inline(always)]
-    fn chance_entry<'l>(&mut self, lists: &'l mut Lists<'a>) -> Result<Entry<'l>, Refused>
+    fn chance_entry<'l>(&mut self, lists: &'l mut Lists<'a>) -> Result<EntryView<'l>, Refused>
     where
         'a: 'l,
         ensures exact { GivesFor entry_seen result self.new.at (chance_entry_at self.old.whole self.old.at) }
@@ -118,7 +118,7 @@ impl<'a> Reader<'a> {
     /// A personal entry behind its word.
     #[tactic(auto, unfolding(def_file::specs::Reading::personal_entry_at))]
     #[inline(always)]
-    fn personal_entry<'l>(&mut self, lists: &'l mut Lists<'a>) -> Result<Entry<'l>, Refused>
+    fn personal_entry<'l>(&mut self, lists: &'l mut Lists<'a>) -> Result<EntryView<'l>, Refused>
     where
         'a: 'l,
         ensures exact { GivesFor entry_seen result self.new.at (personal_entry_at self.old.whole self.old.at) }
@@ -142,7 +142,7 @@ impl<'a> Reader<'a> {
     /// A terminal entry behind its word.
     #[tactic(auto, unfolding(def_file::specs::Reading::terminal_entry_at))]
     #[inline(always)]
-    fn terminal_entry<'l>(&mut self, lists: &'l mut Lists<'a>) -> Result<Entry<'l>, Refused>
+    fn terminal_entry<'l>(&mut self, lists: &'l mut Lists<'a>) -> Result<EntryView<'l>, Refused>
     where
         'a: 'l,
         ensures exact { GivesFor entry_seen result self.new.at (terminal_entry_at self.old.whole self.old.at) }
@@ -151,7 +151,7 @@ impl<'a> Reader<'a> {
     {
         let name = self.next_view()?;
         let outcome = self.outcome_mention(&mut lists.payoffs)?;
-        Ok(Entry {
+        Ok(EntryView {
             file: self.bytes(),
             kind: EntryKind::Leaf,
             name,
@@ -168,7 +168,7 @@ impl<'a> Reader<'a> {
     /// The next entry. Its lists are read into `lists`.
     #[tactic(auto, unfolding(def_file::specs::Reading::entry_at))]
     #[inline(always)]
-    pub fn entry<'l>(&mut self, lists: &'l mut Lists<'a>) -> Result<Entry<'l>, Refused>
+    pub fn entry<'l>(&mut self, lists: &'l mut Lists<'a>) -> Result<EntryView<'l>, Refused>
     where
         'a: 'l,
         ensures exact { GivesFor entry_seen result self.new.at (entry_at self.old.whole self.old.at) }
@@ -195,10 +195,16 @@ fn with_set<'a>(
     player: u64,
     set: SetMention<'a>,
     outcome: OutcomeMention<'a>,
-) -> Entry<'a>
-    ensures { entry_seen result ≡ record { kind = kind; name = name.entry; player = player; set = set_mention_of set.entry; outcome = outcome_mention_of outcome.entry } }
+) -> EntryView<'a>
+    ensures { entry_seen result ≡ record {
+      kind = kind;
+      name = name.entry;
+      player = player;
+      set = set_mention_of set.entry;
+      outcome = outcome_mention_of outcome.entry;
+    } }
 {
-    Entry {
+    EntryView {
         file,
         kind,
         name,

@@ -21,7 +21,7 @@ pub struct PlayerNames {
 
 /// The texts of a prologue.
 #[derive(Drop)]
-pub struct Prologue {
+pub struct PrologueTexts {
     pub title: Text,
     pub one: Text,
     pub two: Text,
@@ -86,7 +86,7 @@ fn with_name(names: PlayerNames, text: Text) -> PlayerNames
 impl<'a> Reader<'a> {
     /// The prologue.
     #[tactic(auto, unfolding(def_file::specs::Reading::prologue_at, def_file::specs::Reading::head_at, def_file::specs::Reading::behind_head))]
-    pub fn prologue(&mut self, alloc: Global) -> Result<Prologue, Refused>
+    pub fn prologue(&mut self, alloc: Global) -> Result<PrologueTexts, Refused>
         requires { length self.old.whole ≤ most_bytes }
         ensures exact { GivesFor read_prologue result self.new.at (prologue_at self.old.whole self.old.at) }
         ensures whole { self.new.whole ≡ self.old.whole }
@@ -99,7 +99,7 @@ impl<'a> Reader<'a> {
         let names = self.names(alloc)?;
         let players = both(names)?;
         let comment = self.comment(alloc)?;
-        Ok(Prologue {
+        Ok(PrologueTexts {
             title,
             one: players.one,
             two: players.two,
@@ -122,14 +122,14 @@ impl<'a> Reader<'a> {
 
 /// The names of both players.
 #[derive(Drop)]
-pub struct Players {
+pub struct BothNames {
     pub one: Text,
     pub two: Text,
 }
 
 /// The names of both players, where there are two names.
 #[tactic(auto, using(crate::proofs::Names::first_there, crate::proofs::Names::second_there, crate::proofs::Names::checked_two, crate::proofs::Names::checked_other))]
-fn both(names: PlayerNames) -> Result<Players, FileFault>
+fn both(names: PlayerNames) -> Result<BothNames, FileFault>
     ensures { (done : List (List ℕ)) → AreFirstNames done names.one names.two names.count → IsBoth done result }
 {
     let PlayerNames { one, two, count } = names;
@@ -142,5 +142,5 @@ fn both(names: PlayerNames) -> Result<Players, FileFault>
     let Some(two) = two else {
         return Err(FileFault::Players { count });
     };
-    Ok(Players { one, two })
+    Ok(BothNames { one, two })
 }

@@ -3,13 +3,13 @@ use Rattle.std.specs.Prelude.{List, option_map}
 use Rattle.def_file.specs.Content as content
 use Rattle.xg_record.specs.declared.entry.EntryActions.{EntryActions}
 use Rattle.xg_record.specs.declared.entry.EntryActions.TheVariants.{Owned, Viewed}
-use Rattle.xg_record.specs.declared.entry.Entry.{Entry}
+use Rattle.xg_record.specs.declared.entry.EntryView.{EntryView}
 
 abbrev pub actions_seen : EntryActions → List content.Action
 actions_seen (Owned actions) = actions.now
 actions_seen (Viewed actions) = actions.now
 
-abbrev pub entry_seen : Entry → content.Record
+abbrev pub entry_seen : EntryView → content.Record
 entry_seen e = record {
   kind = e.kind;
   name = e.name;

@@ -45,7 +45,7 @@ impl<'a> EntryActions<'a> {
 
 /// What an entry of a game file says, as `Record` has it, by views of its texts and its lists.
 #[derive(Drop)]
-pub struct Entry<'a> {
+pub struct EntryView<'a> {
     /// The bytes of the file that the entry stands in, and none where it stands in no file.
     pub file: &'a [u8],
     pub kind: EntryKind,
@@ -61,10 +61,10 @@ pub struct Entry<'a> {
 
 impl Record {
     /// The entry, by views of what this record has.
-    pub fn view(&self) -> Entry<'_>
+    pub fn view(&self) -> EntryView<'_>
         ensures { entry_seen result ≡ record_of self.now }
     {
-        Entry {
+        EntryView {
             file: b"",
             kind: self.kind,
             name: self.name.view(),

@@ -9,7 +9,7 @@ mod views;
 
 pub use action::{Action, Actions};
 pub use def_file::EntryKind;
-pub use entry::{Entry, EntryActions};
+pub use entry::{EntryActions, EntryView};
 pub use payoffs::Payoffs;
 pub use record::Record;
 pub use views::{ActionView, ActionViews};

@@ -7,27 +7,27 @@ use Rattle.std.proofs.lemmas.Nat.{div-add-mod', div-mul-add, mod-mul-add}
 use Rattle.def_sums.proofs.SumLaws.{sum_over-append}
 use Rattle.def_sums.proofs.RingLaws.{zero-+ℤ, +ℤ-zero, +ℤ_assoc}
 use Rattle.def_history.specs.History.{stripe_of, place_of, replay}
-use Rattle.def_history.specs.Packets.{Entry, AreRising, IsPacketOf, brought, place_count}
+use Rattle.def_history.specs.Packets.{RowAmount, AreRising, IsPacketOf, brought, place_count}
 use Rattle.def_history.proofs.Packets.{packets_bring_amounts, stripes_hold_their_rows}
 use Rattle.xg_rowcore.specs.Packets.{entry_in}
 use Rattle.xg_rowcore.specs.Stripes.{AreTotals, HasGrown}
 
-brings : ℕ → Entry → ℤ
+brings : ℕ → RowAmount → ℤ
 brings row entry = if eqb entry.row row then entry.amount else pos 0
 
 -- an entry more brings what it has
-brought-push : (entries : List Entry) (i row : ℕ) → i < length entries
+brought-push : (entries : List RowAmount) (i row : ℕ) → i < length entries
     → brought (take (i + 1) entries) row ≡ brought (take i entries) row +ℤ brought (entry_in entries i ∷ []) row
 brought-push entries i row below = ap (λ es. brought es row) (take_more entries i (record { row = 0; amount = pos 0 }) below)
-    ∙ sum_over-append (λ (entry : Entry). if eqb entry.row row then entry.amount else pos 0) (take i entries) (entry_in entries i ∷ [])
+    ∙ sum_over-append (λ (entry : RowAmount). if eqb entry.row row then entry.amount else pos 0) (take i entries) (entry_in entries i ∷ [])
 
 -- what stands before an entry brings nothing to its row
-pub before_bring_nothing : (entries : List Entry) (i : ℕ) → AreRising entries → i < length entries
+pub before_bring_nothing : (entries : List RowAmount) (i : ℕ) → AreRising entries → i < length entries
     → brought (take i entries) (entry_in entries i).row ≡ pos 0
 before_bring_nothing [] i rising below = absurd (omega arith)
 before_bring_nothing (entry ∷ entries) zero rising below = refl
 before_bring_nothing (entry ∷ entries) (suc i) (above, rising) below =
-    let at : Entry = entry_in entries i in
+    let at : RowAmount = entry_in entries i in
     let lower : entry.row < at.row = above i (record { row = 0; amount = pos 0 }) (omega arith) in
     let other : eqb entry.row at.row ≡ false = grind (arith, nat_tests) in
     rw other (zero-+ℤ (brought (take i entries) at.row) ∙ before_bring_nothing entries i rising (omega arith))
@@ -37,7 +37,7 @@ pub grown_by_none : (index stripes : ℕ) (totals : List ℤ) → HasGrown [] in
 grown_by_none index stripes totals = record { length_kept = refl; grown = λ place under. sym (+ℤ-zero (slice_index_or totals place (pos 0))) }
 
 -- one entry more
-pub grown_more : (entries : List Entry) (i index stripes : ℕ) (old middle new : List ℤ) → i < length entries
+pub grown_more : (entries : List RowAmount) (i index stripes : ℕ) (old middle new : List ℤ) → i < length entries
     → HasGrown (take i entries) index stripes old middle
     → HasGrown (entry_in entries i ∷ []) index stripes middle new
     → HasGrown (take (i + 1) entries) index stripes old new
@@ -52,12 +52,12 @@ grown_more entries i index stripes old middle new below first second = record {
 }
 
 -- with all entries added
-pub grown_all : (entries : List Entry) (i index stripes : ℕ) (old new : List ℤ) → length entries ≤ i
+pub grown_all : (entries : List RowAmount) (i index stripes : ℕ) (old new : List ℤ) → length entries ≤ i
     → HasGrown (take i entries) index stripes old new → HasGrown entries index stripes old new
 grown_all entries i index stripes old new all grown = rw (sym (take_all i entries all)) grown
 
 -- a total before the packet's entry of its row is added
-pub total_before : (entries : List Entry) (i index stripes : ℕ) (old middle : List ℤ) → AreRising entries
+pub total_before : (entries : List RowAmount) (i index stripes : ℕ) (old middle : List ℤ) → AreRising entries
     → i < length entries → stripe_of stripes (entry_in entries i).row ≡ index
     → place_of stripes (entry_in entries i).row < length old → HasGrown (take i entries) index stripes old middle
     → slice_index_or middle (place_of stripes (entry_in entries i).row) (pos 0)
@@ -130,7 +130,7 @@ replay-push amount order job row = sum_over-append (λ j. amount j row) order (j
 
 -- with a job's packet added, the totals are the replay of the history with that job
 pub totals_with_job : (rows : ℕ) (amount : ℕ → ℕ → ℤ) (index stripes : ℕ) (order : List ℕ) (old new : List ℤ) (job : ℕ)
-    (entries : List Entry) → index < stripes
+    (entries : List RowAmount) → index < stripes
     → AreTotals rows amount index stripes order old → IsPacketOf amount rows job entries
     → HasGrown entries index stripes old new
     → AreTotals rows amount index stripes (order ++ job ∷ []) new
@@ -145,7 +145,7 @@ totals_with_job rows amount index stripes order old new job entries is_stripe to
 }
 
 -- so it is still small
-pub small_before : (entries : List Entry) (i index stripes row bound : ℕ) (old middle : List ℤ) → AreRising entries
+pub small_before : (entries : List RowAmount) (i index stripes row bound : ℕ) (old middle : List ℤ) → AreRising entries
     → i < length entries → row ≡ (entry_in entries i).row → stripe_of stripes row ≡ index
     → place_of stripes row < length old → HasGrown (take i entries) index stripes old middle
     → ((place : ℕ) → place < length old → unsigned_abs (slice_index_or old place (pos 0)) ≤ bound)
@@ -155,17 +155,17 @@ small_before entries i index stripes row bound old middle rising below row_is =
     (sym row_is) (λ here under grown small. rw (total_before entries i index stripes old middle rising below here under grown) (small (place_of stripes (entry_in entries i).row) under))
 
 -- an entry of a packet: its row is one of the rows, and its amount the job's there
-pub entry_of_packet : (amount : ℕ → ℕ → ℤ) (rows job : ℕ) (entries : List Entry) (i : ℕ)
+pub entry_of_packet : (amount : ℕ → ℕ → ℤ) (rows job : ℕ) (entries : List RowAmount) (i : ℕ)
     → IsPacketOf amount rows job entries → i < length entries
     → ((entry_in entries i).row < rows) × ((entry_in entries i).amount ≡ amount job (entry_in entries i).row)
 entry_of_packet amount rows job entries i packet below = (packet.are_rows i (record { row = 0; amount = pos 0 }) below, packet.have_amounts i (record { row = 0; amount = pos 0 }) below)
 
 -- one entry more, as it was read
-pub grown_by_read : (entries : List Entry) (i index stripes row : ℕ) (amount : ℤ) (old middle new : List ℤ)
+pub grown_by_read : (entries : List RowAmount) (i index stripes row : ℕ) (amount : ℤ) (old middle new : List ℤ)
     → i < length entries → row ≡ (entry_in entries i).row → amount ≡ (entry_in entries i).amount
     → HasGrown (take i entries) index stripes old middle
     → HasGrown (record { row = row; amount = amount } ∷ []) index stripes middle new
     → HasGrown (take (i + 1) entries) index stripes old new
 grown_by_read entries i index stripes row amount old middle new below row_is amount_is first second =
     let is : record { row = row; amount = amount } ≡ entry_in entries i = (λ k. record { row = row_is k; amount = amount_is k }) in
-    grown_more entries i index stripes old middle new below first (subst (λ (e : Entry). HasGrown (e ∷ []) index stripes middle new) is second)
+    grown_more entries i index stripes old middle new below first (subst (λ (e : RowAmount). HasGrown (e ∷ []) index stripes middle new) is second)

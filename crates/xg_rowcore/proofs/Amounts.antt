@@ -2,7 +2,7 @@
 use Rattle.std.proofs.Common.{◌≡◌, ℕ, zero, suc, ◌<◌, List, [], ◌∷◌, length, set, refl, ap, arith}
 use Rattle.std.specs.Prelude.{ℤ, pos}
 use Rattle.std.proofs.lemmas.List.Elements.{All-set}
-use Rattle.def_history.specs.Packets.{Entry, AreRising}
+use Rattle.def_history.specs.Packets.{RowAmount, AreRising}
 use Rattle.xg_rowcore.specs.Packets.{entries_of_rows, entry_in}
 
 -- another amount at a place is another entry there, of the same row
@@ -16,10 +16,10 @@ entries_from-set (row ∷ rows) (was ∷ amounts) (suc i) amount same =
     ap (λ rest. record { row = row; amount = was } ∷ rest) (entries_from-set rows amounts i amount (omega arith))
 
 -- entries still rise where one amount changes
-pub rising_set : (entries : List Entry) (i : ℕ) (amount : ℤ) → i < length entries → AreRising entries
+pub rising_set : (entries : List RowAmount) (i : ℕ) (amount : ℤ) → i < length entries → AreRising entries
     → AreRising (set entries i (record { row = (entry_in entries i).row; amount = amount }))
 rising_set [] i amount below rising = rising
 rising_set (entry ∷ entries) zero amount below rising = rising
 rising_set (entry ∷ entries) (suc i) amount below (first, rising) =
     let inside : i < length entries = omega arith in
-    (All-set (λ (later : Entry). entry.row < later.row) entries i (record { row = (entry_in entries i).row; amount = amount }) (first i (record { row = 0; amount = pos 0 }) inside) first, rising_set entries i amount inside rising)
+    (All-set (λ (later : RowAmount). entry.row < later.row) entries i (record { row = (entry_in entries i).row; amount = amount }) (first i (record { row = 0; amount = pos 0 }) inside) first, rising_set entries i amount inside rising)

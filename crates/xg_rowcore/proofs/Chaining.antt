@@ -5,7 +5,7 @@ use Rattle.std.proofs.lemmas.List.{length-map}
 use Rattle.std.proofs.lemmas.Bool.{cases_eq}
 use Rattle.def_sums.specs.Limits.{most_stripes}
 use Rattle.def_history.specs.History.{stripe_of}
-use Rattle.def_history.specs.Packets.{Entry}
+use Rattle.def_history.specs.Packets.{RowAmount}
 use Rattle.xg_rowcore.specs.Packets.{entries_of_rows, entry_in}
 use Rattle.xg_rowcore.specs.Stripes.{HasGrown}
 use Rattle.xg_rowcore.specs.Chains.{AreChains, IsNextOf, KeepsChains, rows_of}
@@ -103,13 +103,13 @@ rows_of-entries_from (row ∷ rows) [] same = absurd (omega arith)
 rows_of-entries_from (row ∷ rows) (amount ∷ amounts) same = ap (λ rest. row ∷ rest) (rows_of-entries_from rows amounts (omega arith))
 
 -- each entry has its row
-pub row_of_entry : (entries : List Entry) (i : ℕ) → slice_index (rows_of entries) i ≡ (entry_in entries i).row
+pub row_of_entry : (entries : List RowAmount) (i : ℕ) → slice_index (rows_of entries) i ≡ (entry_in entries i).row
 row_of_entry [] i = refl
 row_of_entry (entry ∷ entries) zero = refl
 row_of_entry (entry ∷ entries) (suc i) = row_of_entry entries i
 
 -- entries of other stripes leave the totals
-past_others : (entries : List Entry) (index stripes from count : ℕ) (old new : List ℤ) → index < stripes
+past_others : (entries : List RowAmount) (index stripes from count : ℕ) (old new : List ℤ) → index < stripes
     → from + count ≤ length entries
     → ((i : ℕ) → from ≤ i → i < from + count → stripe_of stripes (slice_index (rows_of entries) i) ≢ index)
     → HasGrown (take from entries) index stripes old new → HasGrown (take (from + count) entries) index stripes old new
@@ -128,24 +128,24 @@ past_others entries index stripes from (suc count) old new is_stripe inside othe
     (grown_by_other index stripes row (entry_in entries place).amount new is_stripe apart))
 
 -- up to the next entry of the stripe
-pub grown_to_next : (entries : List Entry) (index stripes from place : ℕ) (old new : List ℤ) → index < stripes
+pub grown_to_next : (entries : List RowAmount) (index stripes from place : ℕ) (old new : List ℤ) → index < stripes
     → IsNextOf stripes index (rows_of entries) from place
     → HasGrown (take from entries) index stripes old new → HasGrown (take place entries) index stripes old new
 grown_to_next entries index stripes from place old new is_stripe found grown =
-    let count = length-map entries (λ (entry : Entry). entry.row) in
+    let count = length-map entries (λ (entry : RowAmount). entry.row) in
     let e : from + (place - from) ≡ place = omega (arith, found.after) in
     subst (λ k. HasGrown (take k entries) index stripes old new) e
     (past_others entries index stripes from (place - from) old new is_stripe (omega (arith, e, found.inside, count))
     (λ i low high. found.others i low (omega (arith, e))) grown)
 
 -- what is found is an entry of the stripe, or the end
-pub found_inside : (entries : List Entry) (stripes stripe from place : ℕ)
+pub found_inside : (entries : List RowAmount) (stripes stripe from place : ℕ)
     → IsNextOf stripes stripe (rows_of entries) from place → place ≤ length entries
-found_inside entries stripes stripe from place found = omega (arith, found.inside, length-map entries (λ (entry : Entry). entry.row))
+found_inside entries stripes stripe from place found = omega (arith, found.inside, length-map entries (λ (entry : RowAmount). entry.row))
 
 -- what is found before the end is an entry whose row lies in the stripe
-pub found_own : (entries : List Entry) (stripes stripe from place : ℕ)
+pub found_own : (entries : List RowAmount) (stripes stripe from place : ℕ)
     → IsNextOf stripes stripe (rows_of entries) from place → place < length entries
     → stripe_of stripes (entry_in entries place).row ≡ stripe
 found_own entries stripes stripe from place found below =
-    sym (ap (stripe_of stripes) (row_of_entry entries place)) ∙ found.own (omega (arith, below, length-map entries (λ (entry : Entry). entry.row)))
+    sym (ap (stripe_of stripes) (row_of_entry entries place)) ∙ found.own (omega (arith, below, length-map entries (λ (entry : RowAmount). entry.row)))

@@ -2,7 +2,7 @@
 use Rattle.std.proofs.Common.{◌≡◌, ℕ, zero, suc, ◌<◌, List, [], ◌∷◌, ◌++◌, length, refl, sym, ap, arith}
 use Rattle.std.specs.Prelude.{ℤ, pos, All, Option, Some, unwrap_or, slice_index, slice_index_or}
 use Rattle.std.proofs.lemmas.List.Elements.{All-nil, All-cons}
-use Rattle.def_history.specs.Packets.{Entry, AreRising}
+use Rattle.def_history.specs.Packets.{RowAmount, AreRising}
 use Rattle.xg_rowcore.specs.Packets.{entries_of_rows, entry_in, IsAboveLast}
 
 -- as many entries as rows
@@ -31,7 +31,7 @@ entries_from-push (r ∷ rows) [] row amount same = absurd (omega arith)
 entries_from-push (r ∷ rows) (b ∷ amounts) row amount same = ap (λ rest. record { row = r; amount = b } ∷ rest) (entries_from-push rows amounts row amount (omega arith))
 
 -- what is above the last of rising entries is above the first
-above_first : (entry : Entry) (entries : List Entry) (row : ℕ) → AreRising (entry ∷ entries)
+above_first : (entry : RowAmount) (entries : List RowAmount) (row : ℕ) → AreRising (entry ∷ entries)
     → IsAboveLast (entry ∷ entries) row → entry.row < row
 above_first entry [] row rising above = above entry refl
 above_first entry (next ∷ entries) row (first, rising) above =
@@ -39,16 +39,16 @@ above_first entry (next ∷ entries) row (first, rising) above =
     let step : entry.row < next.row = first 0 next (omega arith) in
     omega arith
 
-All_push : (P : Entry → Type 0) (xs : List Entry) (x : Entry) → All P xs → P x → All P (xs ++ x ∷ [])
+All_push : (P : RowAmount → Type 0) (xs : List RowAmount) (x : RowAmount) → All P xs → P x → All P (xs ++ x ∷ [])
 All_push P [] x all is = All-cons P x [] is (All-nil P)
 All_push P (y ∷ ys) x all is = All-cons P y (ys ++ x ∷ []) (all 0 y (omega arith)) (All_push P ys x (λ k d inside. all (suc k) d (omega arith)) is)
 
 -- rising entries and one above the last of them rise
-pub rising_push : (entries : List Entry) (entry : Entry) → AreRising entries → IsAboveLast entries entry.row
+pub rising_push : (entries : List RowAmount) (entry : RowAmount) → AreRising entries → IsAboveLast entries entry.row
     → AreRising (entries ++ entry ∷ [])
-rising_push [] entry rising above = (All-nil (λ (later : Entry). entry.row < later.row), tt)
+rising_push [] entry rising above = (All-nil (λ (later : RowAmount). entry.row < later.row), tt)
 rising_push (first ∷ []) entry (before, rising) above =
-    (All-cons (λ (later : Entry). first.row < later.row) entry [] (above first refl) (All-nil (λ (later : Entry). first.row < later.row)), (All-nil (λ (later : Entry). entry.row < later.row), tt))
+    (All-cons (λ (later : RowAmount). first.row < later.row) entry [] (above first refl) (All-nil (λ (later : RowAmount). first.row < later.row)), (All-nil (λ (later : RowAmount). entry.row < later.row), tt))
 rising_push (first ∷ next ∷ entries) entry (before, rising) above =
     (All_push (λ later. first.row < later.row) (next ∷ entries) entry before (above_first first (next ∷ entries) entry.row (before, rising) above), rising_push (next ∷ entries) entry rising above)
 
@@ -56,7 +56,7 @@ only_first : {A : Type 0} (x y : A) → ◌≡◌ {A = Option A} (Some x) (Some 
 only_first x y is = ap (λ o. unwrap_or o x) is
 
 -- what is above all entries is above the last
-pub above_all : (entries : List Entry) (row : ℕ) → All (λ entry. entry.row < row) entries → IsAboveLast entries row
+pub above_all : (entries : List RowAmount) (row : ℕ) → All (λ entry. entry.row < row) entries → IsAboveLast entries row
 above_all [] row all last none = absurd (cc)
 above_all (first ∷ []) row all last is = rw (sym (only_first first last is)) (all 0 first (omega arith))
 above_all (first ∷ next ∷ entries) row all last is = above_all (next ∷ entries) row (λ k d inside. all (suc k) d (omega arith)) last is

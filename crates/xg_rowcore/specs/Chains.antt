@@ -2,10 +2,10 @@
 use Rattle.std.specs.Prelude.{◌≡◌, ◌≢◌, ℕ, ◌+◌, ◌<◌, ◌≤◌, List, length, slice_index, map}
 use Rattle.def_sums.specs.Limits.{most_stripes}
 use Rattle.def_history.specs.History.{stripe_of}
-use Rattle.def_history.specs.Packets.{Entry}
+use Rattle.def_history.specs.Packets.{RowAmount}
 
 -- the rows of entries
-abbrev pub rows_of : List Entry → List ℕ
+abbrev pub rows_of : List RowAmount → List ℕ
 rows_of entries = map (λ entry. entry.row) entries
 
 -- the first place from one on whose row lies in the stripe, or the number of rows where there is none

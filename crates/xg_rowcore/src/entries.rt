@@ -14,14 +14,14 @@ use std::marker::Model;
 /// The entries of a packet, in rising order of their rows, the room for them, and chains through those of each stripe
 /// once they are grouped.
 #[derive(Drop)]
-pub(crate) struct Entries {
+pub(crate) struct RowEntries {
     rows: Vec<u32>,
     amounts: Vec<i128>,
     room: usize,
     chains: Chains,
 }
 
-impl Model for Entries {
+impl Model for RowEntries {
     ghost use Rattle.std.specs.Prelude.{◌≡◌, ◌≤◌, length, vec_capacity};
     ghost use Rattle.def_history.specs.Packets.{AreRising};
     ghost use Rattle.xg_rowcore.specs.Chains.{KeepsChains};
@@ -37,14 +37,14 @@ impl Model for Entries {
         × KeepsChains e.rows.items e.room e.chains.stripes e.chains.first.items e.chains.next.items };
 }
 
-impl Entries {
-    pub(crate) fn new(alloc: Global, room: usize) -> Result<Entries, AllocError>
+impl RowEntries {
+    pub(crate) fn new(alloc: Global, room: usize) -> Result<RowEntries, AllocError>
         ensures { IfOk result (λ entries. entries ≡ record { list = []; room = room }) }
     {
         let rows = Vec::with_capacity(alloc, room)?;
         let amounts = Vec::with_capacity(alloc, room)?;
         let chains = Chains::new(alloc, room)?;
-        Ok(Entries {
+        Ok(RowEntries {
             rows,
             amounts,
             room,

@@ -6,7 +6,7 @@ ghost use Rattle.def_history.specs.Packets.{AreRising};
 ghost use Rattle.xg_rowcore.specs.Chains.{IsNextOf, rows_of};
 ghost use Rattle.xg_rowcore.specs.Packets.{IsAboveLast, entry_in, with_added};
 
-use crate::entries::Entries;
+use crate::entries::RowEntries;
 use std::alloc::{AllocError, Global};
 
 /// What one job adds: rows in rising order, each with an amount.
@@ -16,7 +16,7 @@ use std::alloc::{AllocError, Global};
 pub struct Packet {
     /// The job that the rows are of.
     pub job: u32,
-    entries: Entries,
+    entries: RowEntries,
 }
 
 impl Packet {
@@ -26,7 +26,7 @@ impl Packet {
         ensures room { IfOk result (λ packet. packet.entries.room ≡ room) }
         ensures job { IfOk result (λ packet. packet.job ≡ 0) }
     {
-        let entries = Entries::new(alloc, room)?;
+        let entries = RowEntries::new(alloc, room)?;
         Ok(Packet { job: 0, entries })
     }
 

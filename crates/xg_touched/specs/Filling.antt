@@ -2,11 +2,11 @@
 use Rattle.std.specs.Prelude.{ℕ, ℤ, List, map, take, drop}
 use Rattle.def_sums.specs.Sum.{sum_over}
 use Rattle.def_plan.specs.Form.{SequenceForm}
-use Rattle.def_history.specs.Packets.{Entry}
+use Rattle.def_history.specs.Packets.{RowAmount}
 use Rattle.def_plan.specs.FormRows.{amount_in_row}
 
 -- these rows with their amounts
-abbrev pub entries_at_rows : (ℕ → ℤ) → List ℕ → List Entry
+abbrev pub entries_at_rows : (ℕ → ℤ) → List ℕ → List RowAmount
 entries_at_rows amount rows = map (λ row. record { row = row; amount = amount row }) rows
 
 -- what so many leaves behind the first ones bring to a row

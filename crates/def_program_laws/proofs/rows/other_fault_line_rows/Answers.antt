@@ -19,6 +19,6 @@ returns c = record {
   action_count = refl;
   chance_negative = refl;
   chance_sum = refl;
-  not_zero_sum = refl;
+  not_constant_sum = refl;
   scale = refl;
 }

@@ -9,4 +9,4 @@ sum_group-requires g c κs within =
 
 pub returns-then-number-eq0-clause-other : goal.returns-then-number-eq0-clause-other
 returns-then-number-eq0-clause-other g c = λ b.
-    row_untouched c.args.number (map g.E.Entry.leaf c.args.group.now) b (amount_of (map g.R.Row.amount c.args.other.now) b) c.if-number-eq0.true
+    row_untouched c.args.number (map g.E.GroupEntry.leaf c.args.group.now) b (amount_of (map g.R.Row.amount c.args.other.now) b) c.if-number-eq0.true

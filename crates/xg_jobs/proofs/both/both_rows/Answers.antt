@@ -11,11 +11,11 @@ use Rattle.xg_jobs.proofs.both.both_rows.Goals as goal
 pub add_group-sum-requires : goal.add_group-sum-requires
 add_group-sum-requires g c κs within =
     let starts = c.args.starts.now in
-    let gs : List GroupLeaf = map g.E.Entry.leaf c.args.entries.now in
+    let gs : List GroupLeaf = map g.E.GroupEntry.leaf c.args.entries.now in
     let n : ℕ = c.loop-s.s in
     let all : ℕ = length c.args.own.now in
     let low : n < all = omega arith in
-    let is = group_map g.E.Entry.leaf starts c.args.entries.now n in (
+    let is = group_map g.E.GroupEntry.leaf starts c.args.entries.now n in (
       within.0,
       (
         within.1,
@@ -41,11 +41,11 @@ add_group-sum-requires g c κs within =
 pub loop-s-preserved : goal.loop-s-preserved
 loop-s-preserved g c =
     let starts = c.args.starts.now in
-    let gs : List GroupLeaf = map g.E.Entry.leaf c.args.entries.now in
+    let gs : List GroupLeaf = map g.E.GroupEntry.leaf c.args.entries.now in
     let n : ℕ = c.loop-s.s in
     let fits : FitsSigned w128 c.wide.result = search rules in
     let w_is : to_z w128 (of_z w128 c.wide.result) ≡ c.wide.result = to_z-of_z w128 c.wide.result fits in
-    let is = group_map g.E.Entry.leaf starts c.args.entries.now n in (
+    let is = group_map g.E.GroupEntry.leaf starts c.args.entries.now n in (
       λ t low.
           ⊎_elim
           (λ same. rw same (c.put.ensures.here ∙ w_is ∙ c.wide.ensures ∙ c.add_group-sum.ensures.own ∙ ap (group_sum c.args.two.now) is))

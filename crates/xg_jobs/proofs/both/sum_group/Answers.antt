@@ -9,12 +9,12 @@ use Rattle.xg_jobs.proofs.both.sum_group.Goals as goal
 pub bounds-two-other : goal.bounds-two-other
 bounds-two-other g c =
     let y = c.args.two.now in
-    let gs : List GroupLeaf = map g.E.Entry.leaf c.args.group.now in
+    let gs : List GroupLeaf = map g.E.GroupEntry.leaf c.args.group.now in
     let i : ℕ = c.loop-e.e-index in
-    let e : GroupLeaf = g.E.Entry.leaf c.e-item.result in
-    let size : length gs ≡ length c.args.group.now = length-map c.args.group.now g.E.Entry.leaf in
+    let e : GroupLeaf = g.E.GroupEntry.leaf c.e-item.result in
+    let size : length gs ≡ length c.args.group.now = length-map c.args.group.now g.E.GroupEntry.leaf in
     let low : i < length c.args.group.now = omega arith in
-    let read : get_or gs i e ≡ e = leaf_at g.E.Entry.leaf c.args.group.now i c.e-item.result low c.e-item.is in
+    let read : get_or gs i e ≡ e = leaf_at g.E.GroupEntry.leaf c.args.group.now i c.e-item.result low c.e-item.is in
     let here : i < length gs = omega (arith, size) in
     let listed : (get_or gs i e).other < length y = c.requires.1.1.0 i e here in
     omega (arith, listed, ap (λ x. x.other) read, c.other.ensures)
@@ -22,12 +22,12 @@ bounds-two-other g c =
 pub plus_product-sum-requires-clause-product : goal.plus_product-sum-requires-clause-product
 plus_product-sum-requires-clause-product g c =
     let y = c.args.two.now in
-    let gs : List GroupLeaf = map g.E.Entry.leaf c.args.group.now in
+    let gs : List GroupLeaf = map g.E.GroupEntry.leaf c.args.group.now in
     let i : ℕ = c.loop-e.e-index in
-    let e : GroupLeaf = g.E.Entry.leaf c.e-item.result in
-    let size : length gs ≡ length c.args.group.now = length-map c.args.group.now g.E.Entry.leaf in
+    let e : GroupLeaf = g.E.GroupEntry.leaf c.e-item.result in
+    let size : length gs ≡ length c.args.group.now = length-map c.args.group.now g.E.GroupEntry.leaf in
     let low : i < length c.args.group.now = omega arith in
-    let read : get_or gs i e ≡ e = leaf_at g.E.Entry.leaf c.args.group.now i c.e-item.result low c.e-item.is in
+    let read : get_or gs i e ≡ e = leaf_at g.E.GroupEntry.leaf c.args.group.now i c.e-item.result low c.e-item.is in
     let here : i < length gs = omega (arith, size) in
     let fits : FitsSigned w64 c.weight-w.result = search rules in
     let w_is : to_z w64 (of_z w64 c.weight-w.result) ≡ c.weight-w.result = to_z-of_z w64 c.weight-w.result fits in
@@ -37,12 +37,12 @@ plus_product-sum-requires-clause-product g c =
 pub plus_product-sum-requires-clause-room : goal.plus_product-sum-requires-clause-room
 plus_product-sum-requires-clause-room g c =
     let y = c.args.two.now in
-    let gs : List GroupLeaf = map g.E.Entry.leaf c.args.group.now in
+    let gs : List GroupLeaf = map g.E.GroupEntry.leaf c.args.group.now in
     let i : ℕ = c.loop-e.e-index in
-    let e : GroupLeaf = g.E.Entry.leaf c.e-item.result in
-    let size : length gs ≡ length c.args.group.now = length-map c.args.group.now g.E.Entry.leaf in
+    let e : GroupLeaf = g.E.GroupEntry.leaf c.e-item.result in
+    let size : length gs ≡ length c.args.group.now = length-map c.args.group.now g.E.GroupEntry.leaf in
     let low : i < length c.args.group.now = omega arith in
-    let read : get_or gs i e ≡ e = leaf_at g.E.Entry.leaf c.args.group.now i c.e-item.result low c.e-item.is in
+    let read : get_or gs i e ≡ e = leaf_at g.E.GroupEntry.leaf c.args.group.now i c.e-item.result low c.e-item.is in
     let here : i < length gs = omega (arith, size) in
     let fits : FitsSigned w64 c.weight-w.result = search rules in
     let w_is : to_z w64 (of_z w64 c.weight-w.result) ≡ c.weight-w.result = to_z-of_z w64 c.weight-w.result fits in
@@ -53,12 +53,12 @@ plus_product-sum-requires-clause-room g c =
 pub loop-e-preserved : goal.loop-e-preserved
 loop-e-preserved g c =
     let y = c.args.two.now in
-    let gs : List GroupLeaf = map g.E.Entry.leaf c.args.group.now in
+    let gs : List GroupLeaf = map g.E.GroupEntry.leaf c.args.group.now in
     let i : ℕ = c.loop-e.e-index in
-    let e : GroupLeaf = g.E.Entry.leaf c.e-item.result in
-    let size : length gs ≡ length c.args.group.now = length-map c.args.group.now g.E.Entry.leaf in
+    let e : GroupLeaf = g.E.GroupEntry.leaf c.e-item.result in
+    let size : length gs ≡ length c.args.group.now = length-map c.args.group.now g.E.GroupEntry.leaf in
     let low : i < length c.args.group.now = omega arith in
-    let read : get_or gs i e ≡ e = leaf_at g.E.Entry.leaf c.args.group.now i c.e-item.result low c.e-item.is in
+    let read : get_or gs i e ≡ e = leaf_at g.E.GroupEntry.leaf c.args.group.now i c.e-item.result low c.e-item.is in
     let here : i < length gs = omega (arith, size) in
     let fits : FitsSigned w64 c.weight-w.result = search rules in
     let w_is : to_z w64 (of_z w64 c.weight-w.result) ≡ c.weight-w.result = to_z-of_z w64 c.weight-w.result fits in

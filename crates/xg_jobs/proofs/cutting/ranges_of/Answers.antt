@@ -13,12 +13,12 @@ use Rattle.xg_jobs.proofs.cutting.ranges_of.Goals as goal
 
 pub job_places-requires-clause-limit : goal.job_places-requires-clause-limit
 job_places-requires-clause-limit c =
-    omega (arith, ap length c.deref.ensures.value, ap length c.in_ok-tops.ensures, tops_few 0 c.args.tree.now, c.len-count.ensures.rules.limit)
+    omega (arith, ap length c.deref.ensures.value, ap length c.in_ok-tops.ensures, tops_few 0 c.args.tree.now, c.facts.ensures.rules.limit)
 
 pub loop-job-init : goal.loop-job-init
 loop-job-init c =
     let tree = c.args.tree.now in
-    let one = c.len-count.ensures.rules.tree.one in
+    let one = c.facts.ensures.rules.tree.one in
     let are : AreJobs c.deref.result.now c.in_ok-jobs.jobs.items (jobs_of tree) = c.in_ok-jobs.ensures tree (c.deref.ensures.value ∙ c.in_ok-tops.ensures) one in
     none_ranged c.in_ok-tops.tops.items c.deref-job-items.result.now tree (jobs_of tree)
     (subst (λ ps. AreJobs c.in_ok-tops.tops.items ps (jobs_of tree)) (sym c.deref-job-items.ensures.value) (subst (λ ts. AreJobs ts c.in_ok-jobs.jobs.items (jobs_of tree)) c.deref.ensures.value are))
@@ -35,7 +35,7 @@ overflow_add-first c =
     let places = c.deref-job-items.result.now in
     let k : ℕ = c.loop-job.job-index in
     let few = leaves_few (prefix c.args.tree.now) in
-    let limit : leaf_count (prefix c.args.tree.now) ≤ most_nodes = omega (arith, few, c.len-count.ensures.rules.limit) in
+    let limit : leaf_count (prefix c.args.tree.now) ≤ most_nodes = omega (arith, few, c.facts.ensures.rules.limit) in
     let next = range_more c.in_ok-tops.tops.items places c.args.tree.now c.loop-job.ranges.items c.loop-job.first k (get_or places k 0) c.index.result.now c.loop-job.invariant limit (drop_more places k 0 c.loop-job-test.true) c.index.ensures in
     omega (arith, next.room, limit)
 
@@ -44,7 +44,7 @@ loop-job-preserved c =
     let places = c.deref-job-items.result.now in
     let k : ℕ = c.loop-job.job-index in
     let few = leaves_few (prefix c.args.tree.now) in
-    let limit : leaf_count (prefix c.args.tree.now) ≤ most_nodes = omega (arith, few, c.len-count.ensures.rules.limit) in
+    let limit : leaf_count (prefix c.args.tree.now) ≤ most_nodes = omega (arith, few, c.facts.ensures.rules.limit) in
     let next = range_more c.in_ok-tops.tops.items places c.args.tree.now c.loop-job.ranges.items c.loop-job.first k (get_or places k 0) c.index.result.now c.loop-job.invariant limit (drop_more places k 0 c.loop-job-test.true) c.index.ensures in
     let r : LeafRange = record { first = c.loop-job.first; count = c.index.result.now.leaves } in
     subst (λ rs. RangedSome c.in_ok-tops.tops.items places c.args.tree.now rs (c.loop-job.first + c.index.result.now.leaves) (k + 1)) (sym c.in_ok-push.ensures.items) (next.next r refl)
@@ -57,7 +57,7 @@ returns-clause-ranges c =
 pub returns-clause-kept : goal.returns-clause-kept
 returns-clause-kept c =
     let tree = c.args.tree.now in
-    let are : AreJobs c.deref.result.now c.in_ok-jobs.jobs.items (jobs_of tree) = c.in_ok-jobs.ensures tree (c.deref.ensures.value ∙ c.in_ok-tops.ensures) c.len-count.ensures.rules.tree.one in
+    let are : AreJobs c.deref.result.now c.in_ok-jobs.jobs.items (jobs_of tree) = c.in_ok-jobs.ensures tree (c.deref.ensures.value ∙ c.in_ok-tops.ensures) c.facts.ensures.rules.tree.one in
     record {
       limit = omega (arith, c.loop-job.invariant.count, c.loop-job.auto.job-index-end, ap length c.deref-job-items.ensures.value, jobs_counted c.deref.result.now c.in_ok-jobs.jobs.items (jobs_of tree) are, length-jobs_of tree);
       inside = c.loop-job.invariant.inside;

@@ -15,7 +15,7 @@ pub both_rows-requires : goal.both_rows-requires
 both_rows-requires g c κs within =
     let form : SequenceForm = c.args.input.now.form.now in
     let starts = c.args.starts.now in
-    let gs : List GroupLeaf = map g.E.Entry.leaf c.args.entries.now in
+    let gs : List GroupLeaf = map g.E.GroupEntry.leaf c.args.entries.now in
     let x = c.args.input.now.one.now in
     let y = c.args.input.now.two.now in
     let n : ℕ = length c.deref_mut.result.now in
@@ -24,7 +24,7 @@ both_rows-requires g c κs within =
     ap length c.deref_mut.ensures.value ∙ ap (λ (a : Amounts). length a.one) c.rows.view_is ∙ c.requires.rows_one in
     let all : n + 1 ≡ length starts = omega (arith, n_is, all_groups g.R.Row.limit starts gs form x y can) in
     let low_most : max (greatest_of x) (greatest_of y) ≤ most_root = both_within x y most_root c.requires.numbers.small_one c.requires.numbers.small_two in
-    let size : length gs ≡ length c.args.entries.now = length-map c.args.entries.now g.E.Entry.leaf in (
+    let size : length gs ≡ length c.args.entries.now = length-map c.args.entries.now g.E.GroupEntry.leaf in (
       within.0,
       (
         within.1,
@@ -66,7 +66,7 @@ pub returns : goal.returns
 returns g c =
     let form : SequenceForm = c.args.input.now.form.now in
     let starts = c.args.starts.now in
-    let gs : List GroupLeaf = map g.E.Entry.leaf c.args.entries.now in
+    let gs : List GroupLeaf = map g.E.GroupEntry.leaf c.args.entries.now in
     let x = c.args.input.now.one.now in
     let y = c.args.input.now.two.now in
     let n : ℕ = length c.deref_mut.result.now in

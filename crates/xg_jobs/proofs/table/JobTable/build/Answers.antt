@@ -10,7 +10,7 @@ use Rattle.xg_jobs.proofs.table.JobTable.build.Goals as goal
 pub touched_of-requires : goal.touched_of-requires
 touched_of-requires c =
     let known : map range_of c.deref.result.now ≡ job_ranges c.args.tree.now = ap (map range_of) c.deref.ensures.value ∙ c.in_ok-ranges.ensures.ranges in
-    table_inside c.args.form.now c.args.tree.now c.deref.result.now c.requires c.len-count.ensures.rules.tree.one known
+    table_inside c.args.form.now c.args.tree.now c.deref.result.now c.requires c.facts.ensures.rules.tree.one known
 
 pub returns-clause-table : goal.returns-clause-table
 returns-clause-table c =
@@ -28,7 +28,7 @@ returns-clause-whole c =
     let touched : c.in_ok-touched.touched.items ≡ map (job_rows form) (job_ranges c.args.tree.now) = c.in_ok-touched.ensures ∙ ap (λ rs. map (job_rows form) (map range_of rs)) c.deref.ensures.value ∙ ap (map (job_rows form)) ranges in
     record {
       tree = c.args.tree.now;
-      rules = c.len-count.ensures.rules;
+      rules = c.facts.ensures.rules;
       form_is = c.requires;
       table_is = λ i. record { ranges = ranges i; weights = weights i; touched = touched i };
     }

@@ -6,7 +6,7 @@ use Rattle.std.proofs.lemmas.Int.{to_z-of_z}
 use Rattle.std.proofs.lemmas.List.{get_or_default, length-map, length-take, map_push, take_all, take_more}
 use Rattle.def_history.specs.Ranges.{LeafRange}
 use Rattle.def_history.specs.JobRows.{job_leaves}
-use Rattle.def_history.specs.Packets.{Entry}
+use Rattle.def_history.specs.Packets.{RowAmount}
 use Rattle.xg_rowcore.specs.Packets.{IsAboveLast, Listed}
 use Rattle.xg_touched.specs.Filling.{amount_upto, entries_at_rows}
 use Rattle.xg_touched.specs.Touched.{JobRows}
@@ -19,8 +19,8 @@ push-requires-clause-room c =
     let rows = c.args.self.now.rows in
     let i : ℕ = c.loop-i.i in
     let f = amount_upto c.args.form.now c.args.one.now c.args.two.now c.args.self.now.range.first c.args.self.now.range.count in
-    let g : ℕ → Entry = λ row. record { row = row; amount = f row } in
-    let count = ap (length {A = Entry}) c.loop-i.invariant.list in
+    let g : ℕ → RowAmount = λ row. record { row = row; amount = f row } in
+    let count = ap (length {A = RowAmount}) c.loop-i.invariant.list in
     let low : i < length rows = omega (arith, c.len-i-end.ensures, ap (λ (x : JobRows). length x.rows) c.self.view_is) in
     omega (arith, count, length-map (take i rows) g, length-take i rows, c.requires.room, c.loop-i.invariant.room)
 
@@ -50,7 +50,7 @@ loop-i-preserved c =
     let low : i < length rows = omega (arith, c.len-i-end.ensures) in
     let row_is : c.index.result.now ≡ get_or rows i 0 =
     c.index.ensures ∙ get_or_default c.self.inside.rows.items i c.index.result.now 0 (omega arith) ∙ ap (λ (x : JobRows). slice_index x.rows i) c.self.view_is in
-    let g : ℕ → Entry = λ row. record { row = row; amount = f row } in
+    let g : ℕ → RowAmount = λ row. record { row = row; amount = f row } in
     let fits : FitsSigned w128 c.amount_of_two.result = search rules in
     let amount_is : to_z w128 (of_z w128 c.amount_of_two.result) ≡ f (get_or rows i 0) = to_z-of_z w128 c.amount_of_two.result fits ∙ c.amount_of_two.ensures in
     record {
