@@ -1,0 +1,10 @@
+pub mod Lowest
+pub mod Times
+pub mod Splits
+pub mod Shares
+pub mod Reaches
+pub mod Probabilities
+pub mod Payments
+pub mod Turning
+pub mod Gains
+pub mod Faultless

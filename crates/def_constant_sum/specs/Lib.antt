@@ -1,0 +1,4 @@
+pub mod Expected
+pub mod Bounds
+pub mod Laws
+pub mod Rows
