@@ -1,9 +1,10 @@
 -- What a run leaves: its head, its trace, and an end for each player where at least one round was asked.
 use Rattle.std.specs.Prelude.{ℕ, List, Option}
+use Rattle.def_fraction.specs.Fraction.{Fraction}
 use Rattle.def_reply.specs.Reply.{Reply}
 use Rattle.def_reply.specs.declared.TraceLine.{TraceLine}
 
--- the game's numbers, and what was asked of the run
+-- the game's numbers, with what each leaf pays both players together, and what was asked of the run
 pub record Head : Type 0 where
   pub nodes : ℕ
   pub leaves : ℕ
@@ -12,6 +13,7 @@ pub record Head : Type 0 where
   pub sequences_one : ℕ
   pub sequences_two : ℕ
   pub unit : ℕ
+  pub sum : Fraction
   pub mass : ℕ
   pub rounds : ℕ
   pub every : ℕ

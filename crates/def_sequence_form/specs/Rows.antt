@@ -34,7 +34,7 @@ pub record FormRows : Type 0 where
   pub absent_sets : sets_or_break absent_driver ≡ Err (record { node = 3; earlier = 1 })
   pub partner_sets : sets_or_break absent_partner ≡ Err (record { node = 6; earlier = 2 })
 
--- at odds of one to two the game ends at once, or player one moves. It isn't zero-sum
+-- at odds of one to two the game ends at once, or player one moves. It isn't of constant sum
 abbrev pub early_end : Forest
 early_end = forest_of (inner_node Chance 1 2 ∷ leaf_node 1 ∷ inner_node One 1 2 ∷ leaf_node 2 ∷ leaf_node 0 ∷ [])
 

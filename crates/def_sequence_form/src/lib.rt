@@ -61,7 +61,7 @@ pub fn form_rows()
     ensures { FormRows }
 {}
 
-/// Rows: the list of leaves of a game with chance that isn't zero-sum.
+/// Rows: the list of leaves of a game with chance that isn't of constant sum.
 pub fn leaf_list_rows()
     ensures { LeafListRows }
 {}
