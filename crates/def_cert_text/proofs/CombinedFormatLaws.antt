@@ -9,7 +9,7 @@ use Rattle.def_cert_text.specs.Fields.{◌>>=◌, space, feed, FieldKind, number
 use Rattle.def_cert_text.specs.Formats.{Format, whole_field, fixed_field, after_fixed, and_then, seen_as, each_fits, each_items, read_each, each_from, where_asked, row_fits, row_items, read_number, read_last, read_row, row_of_numbers}
 use Rattle.def_cert_text.proofs.FieldLaws.{all_pass}
 use Rattle.def_cert_text.proofs.FormatLaws.{IsFormat, view_laws, nothing_laws, pair_laws}
-use Rattle.def_cert_text.proofs.FieldFormatLaws.{whole_laws, fixed_laws, number_with_end, number_laws, got}
+use Rattle.def_cert_text.proofs.FieldFormatLaws.{whole_laws, fixed_laws, is_from_to, number_with_end, number_laws, got}
 
 -- ---- under another form
 -- a format keeps the laws under another form, where from each form to the other and back nothing changes
@@ -158,12 +158,17 @@ items_by most more n false (Some []) fit = absurd (none more fit)
     none (suc more) fit = cc
 items_by most more n false (Some (m ∷ ns)) fit = refl
 
+from_zero : (most n : ℕ) → leb n most ≡ true → is_from_to 0 most n ≡ true
+from_zero most n h = and_from (leb 0 n) (leb n most) (le-leb 0 n (omega arith)) h
+
 row_back : (most more : ℕ) (ns : List ℕ) → row_fits most (suc more) ns ≡ true
-    → (p : (ℕ × Bool) × Option (List ℕ)) × ((leb p.0.0 most && (behind_number most more p.0).fits p.1) ≡ true)
+    → (p : (ℕ × Bool) × Option (List ℕ)) × ((is_from_to 0 most p.0.0 && (behind_number most more p.0).fits p.1) ≡ true)
     × (row_by p ≡ ns)
 row_back most more [] fit = absurd cc
-row_back most more (n ∷ []) fit = (((n, true), None), and_from (leb n most) true fit refl, refl)
-row_back most more (n ∷ m ∷ ns) fit = (((n, false), Some (m ∷ ns)), fit, refl)
+row_back most more (n ∷ []) fit = (((n, true), None), and_from (is_from_to 0 most n) true (from_zero most n fit) refl, refl)
+row_back most more (n ∷ m ∷ ns) fit =
+    let p = and_parts (leb n most) (row_fits most more (m ∷ ns)) fit in
+    (((n, false), Some (m ∷ ns)), and_from (is_from_to 0 most n) (row_fits most more (m ∷ ns)) (from_zero most n p.0) p.1, refl)
 
 abbrev next_row : ℕ → ℕ → ℕ → ((ℕ × Bool) × List ℕ) → Result (List ℕ × List ℕ) CertFault
 next_row most more total n = cond n.0.1 (got (n.0.0 ∷ []) n.1) (read_row most more total n.1 >>= λ ns. got (n.0.0 ∷ ns.0) ns.1)
@@ -206,12 +211,14 @@ row_laws most small zero =
     })
     (whole_laws 0 most feed (omega arith) small refl)
 row_laws most small (suc more) =
-    view_laws ((ℕ × Bool) × Option (List ℕ)) (List ℕ) (and_then (number_with_end most) (behind_number most more)) (row_of_numbers most (suc more)) row_by
+    view_laws ((ℕ × Bool) × Option (List ℕ)) (List ℕ) (and_then (number_with_end 0 most) (behind_number most more)) (row_of_numbers most (suc more)) row_by
     (record {
-      fits = λ p fit. (let q = and_parts (leb p.0.0 most) ((behind_number most more p.0).fits p.1) fit in fits_by most more p.0.0 p.0.1 p.1 q.0 q.1);
+      fits = λ p fit.
+          let q = and_parts (is_from_to 0 most p.0.0) ((behind_number most more p.0).fits p.1) fit in
+          fits_by most more p.0.0 p.0.1 p.1 (and_parts (leb 0 p.0.0) (leb p.0.0 most) q.0).1 q.1;
       back = row_back most more;
-      items = λ p fit. (let q = and_parts (leb p.0.0 most) ((behind_number most more p.0).fits p.1) fit in items_by most more p.0.0 p.0.1 p.1 q.1);
-      read = λ total bytes. row_read most more total (read_number most total bytes);
+      items = λ p fit. (let q = and_parts (is_from_to 0 most p.0.0) ((behind_number most more p.0).fits p.1) fit in items_by most more p.0.0 p.0.1 p.1 q.1);
+      read = λ total bytes. row_read most more total (read_number 0 most total bytes);
     })
-    (pair_laws (ℕ × Bool) (Option (List ℕ)) (number_with_end most) (behind_number most more) (number_laws most small)
+    (pair_laws (ℕ × Bool) (Option (List ℕ)) (number_with_end 0 most) (behind_number most more) (number_laws 0 most (omega arith) small)
     (λ p fit. asked_laws (List ℕ) (not p.1) (row_of_numbers most more) (λ _. row_laws most small more)))

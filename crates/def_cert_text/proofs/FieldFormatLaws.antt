@@ -12,8 +12,8 @@ use Rattle.def_fraction.proofs.DivisorLemmas.{gcd-with_one}
 use Rattle.def_cert_text.specs.declared.fault.CertFault.{CertFault}
 use Rattle.def_cert_text.specs.declared.fault.CertFault.TheVariants.{CertSyntax, CertNumber, CertShort}
 use Rattle.def_cert_text.specs.Fields.{◌>>=◌, space, feed, FieldKind, number, Item, field, separator, items_text, is_field_byte, next_field, behind_field, is_empty, field_fault, if_fit, read_field}
-use Rattle.def_cert_text.specs.Numbers.{whole_in, integer_in, fraction_in}
-use Rattle.def_cert_text.specs.Formats.{Format, text_of, one_field, whole_field, integer_field, is_lowest_within, fraction_field, same_bytes, fixed_field, with_end_if_fit, read_number}
+use Rattle.def_cert_text.specs.Numbers.{whole_in, integer_in, fraction_in, equals_zero, unless_zero, nonzero_in}
+use Rattle.def_cert_text.specs.Formats.{Format, text_of, one_field, whole_field, integer_field, is_lowest_within, fraction_field, nonzero_field, same_bytes, fixed_field, with_end_if_fit, read_number}
 use Rattle.def_cert_text.specs.FirstFault.{Place, of_field, of_separator, place_of_item, StopsReading, cut_short, unfit, HasFirstFault}
 use Rattle.def_cert_text.proofs.FieldLaws.{ok_is, all_pass, front_is, behind_is, behind_all, parted, stops, word_itself, whole_again, whole_only, decimal_inside, integer_again, integer_only, integer_inside, lowest_parts, lowest_from, fraction_inside, fraction_again, fraction_only}
 use Rattle.def_cert_text.proofs.FormatLaws.{IsFormat, view_laws}
@@ -340,6 +340,36 @@ fraction_laws most sep one small s = one_field_laws Fraction number (is_lowest_w
   some_fits = lowest_from most (record { num = ℤ.pos 0; den = 1 }) (record { positive = omega arith; coprime = gcd-with_one 0; num = omega arith; den = one });
 })
 
+-- a test that takes a fraction takes one that isn't 0, which the test before took
+nonzero_only : (o : Option Fraction) (f : Fraction) → unless_zero o ≡ Some f → (o ≡ Some f) × (not (equals_zero f) ≡ true)
+nonzero_only None f e = absurd cc
+nonzero_only (Some g) f e = by (equals_zero g) refl e
+  where
+    by : (t : Bool) → equals_zero g ≡ t → cond t None (Some g) ≡ Some f → (Some g ≡ Some f) × (not (equals_zero f) ≡ true)
+    by true h e = absurd cc
+    by false h e = let same : g ≡ f = cc in (e, ap (λ z. not (equals_zero z)) (sym same) ∙ ap not h)
+
+-- the same of a fraction that isn't 0
+pub nonzero_laws : (most sep : ℕ) → 1 ≤ most → most ≤ 2 ^ 126 → is_field_byte sep ≡ false
+    → IsFormat Fraction (nonzero_field most sep)
+unfolding nonzero_in
+nonzero_laws most sep one small s = one_field_laws Fraction number (λ f. is_lowest_within most f && not (equals_zero f)) fraction_text (nonzero_in most) sep s (record {
+  inside = λ f fits. fraction_inside most f small (lowest_parts most f (parts f fits).0);
+  again = λ f fits.
+      ap unless_zero (fraction_again most f small (lowest_parts most f (parts f fits).0))
+      ∙ ap (λ t. cond t None (Some f)) (not-true (equals_zero f) (parts f fits).1);
+  only = λ bytes f e.
+      let q = nonzero_only (fraction_in most bytes) f e in
+      let r = fraction_only most f bytes small one q.0 in
+      (and_from (is_lowest_within most f) (not (equals_zero f)) (lowest_from most f r.0) q.1, r.1);
+  some = record { num = ℤ.pos 1; den = 1 };
+  some_fits = and_from (is_lowest_within most (record { num = ℤ.pos 1; den = 1 })) true (lowest_from most (record { num = ℤ.pos 1; den = 1 }) (record { positive = omega arith; coprime = gcd-with_one 1; num = one; den = one })) refl;
+})
+  where
+    parts : (f : Fraction) → (is_lowest_within most f && not (equals_zero f)) ≡ true
+        → (is_lowest_within most f ≡ true) × (not (equals_zero f) ≡ true)
+    parts f fits = and_parts (is_lowest_within most f) (not (equals_zero f)) fits
+
 the_word : (wanted bytes : List ℕ) (x : Unit {0}) (t : Bool) → pointwise eqb bytes wanted ≡ t
     → cond (pointwise eqb bytes wanted) (Some tt) None ≡ Some x → bytes ≡ wanted
 the_word wanted bytes x true h e = same_text bytes wanted (sym h)
@@ -357,11 +387,14 @@ fixed_laws kind wanted sep h s = one_field_laws (Unit {0}) kind (λ _. true) (λ
 })
 
 -- ---- a whole number with the end of its line
-abbrev pub number_with_end : ℕ → Format (ℕ × Bool)
-number_with_end most = record {
-  fits = λ p. leb p.0 most;
+abbrev pub is_from_to : ℕ → ℕ → ℕ → Bool
+is_from_to low high n = leb low n && leb n high
+
+abbrev pub number_with_end : ℕ → ℕ → Format (ℕ × Bool)
+number_with_end low high = record {
+  fits = λ p. is_from_to low high p.0;
   items = λ p. field number (decimal p.0) ∷ separator (cond p.1 feed space) ∷ [];
-  read = read_number most;
+  read = read_number low high;
 }
 
 abbrev is_separator : ℕ → Bool
@@ -385,29 +418,27 @@ end_rest fault total o [] s = refl
 end_rest fault total None (b ∷ left) s = refl
 end_rest fault total (Some n) (b ∷ left) s = sym (ap (λ t. pair_sep (CertSyntax (total - length (b ∷ left))) n b left (not t) >>= λ p. got (p.0.0, eqb p.0.1 feed) p.1) (s b left refl))
 
-abbrev number_by : ℕ → ℕ → Bool
-number_by most n = leb 0 n && leb n most
-
--- the format of a number, with whether it ends its line, keeps the laws where its limit is 2 ^ 127 at most
-pub number_laws : (most : ℕ) → most ≤ 2 ^ 127 → IsFormat (ℕ × Bool) (number_with_end most)
+-- the field of a number of a range, and whether it ends its line, keeps the laws where the range isn't empty
+-- and its end is 2 ^ 127 at most
+pub number_laws : (low high : ℕ) → low ≤ high → high ≤ 2 ^ 127 → IsFormat (ℕ × Bool) (number_with_end low high)
 unfolding read_number
-number_laws most small =
-    view_laws (ℕ × ℕ) (ℕ × Bool) (any_field number (number_by most) decimal (whole_in 0 most) is_separator) (number_with_end most) (λ p. (p.0, eqb p.1 feed))
+number_laws low high some small =
+    view_laws (ℕ × ℕ) (ℕ × Bool) (any_field number (is_from_to low high) decimal (whole_in low high) is_separator) (number_with_end low high) (λ p. (p.0, eqb p.1 feed))
     (record {
-      fits = λ p fit. (and_parts (leb 0 p.0) (leb p.0 most) (and_parts (number_by most p.0) (is_separator p.1) fit).0).1;
+      fits = λ p fit. (and_parts (is_from_to low high p.0) (is_separator p.1) fit).0;
       back = λ y fit. back y.0 y.1 fit;
-      items = λ p fit. (λ i. field number (decimal p.0) ∷ separator (sep_by p.1 (eqb p.1 32) (eqb p.1 10) refl refl (and_parts (number_by most p.0) (is_separator p.1) fit).1 i) ∷ []);
-      read = λ total bytes. end_rest (CertNumber (total - length bytes)) total (whole_in 0 most (next_field bytes)) (behind_field bytes) (λ b more h. stops is_field_byte bytes b more h);
+      items = λ p fit. (λ i. field number (decimal p.0) ∷ separator (sep_by p.1 (eqb p.1 32) (eqb p.1 10) refl refl (and_parts (is_from_to low high p.0) (is_separator p.1) fit).1 i) ∷ []);
+      read = λ total bytes. end_rest (CertNumber (total - length bytes)) total (whole_in low high (next_field bytes)) (behind_field bytes) (λ b more h. stops is_field_byte bytes b more h);
     })
-    (any_laws ℕ number (number_by most) decimal (whole_in 0 most) is_separator (record {
-      inside = λ n fits. (let p = and_parts (leb 0 n) (leb n most) fits in decimal_inside n (omega (arith, leb-true n most p.1)));
-      again = λ n fits. (let p = and_parts (leb 0 n) (leb n most) fits in whole_again 0 most n small (omega arith) (leb-true n most p.1));
-      only = λ bytes n e. (let q = whole_only 0 most n bytes small e in (and_from (leb 0 n) (leb n most) (le-leb 0 n (omega arith)) (le-leb n most q.1), q.2));
-      some = 0;
-      some_fits = and_from (leb 0 0) (leb 0 most) refl (le-leb 0 most (omega arith));
+    (any_laws ℕ number (is_from_to low high) decimal (whole_in low high) is_separator (record {
+      inside = λ n fits. (let p = and_parts (leb low n) (leb n high) fits in decimal_inside n (omega (arith, leb-true n high p.1)));
+      again = λ n fits. (let p = and_parts (leb low n) (leb n high) fits in whole_again low high n small (leb-true low n p.0) (leb-true n high p.1));
+      only = λ bytes n e. (let q = whole_only low high n bytes small e in (and_from (leb low n) (leb n high) (le-leb low n q.0) (le-leb n high q.1), q.2));
+      some = low;
+      some_fits = and_from (leb low low) (leb low high) (le-leb low low (omega arith)) (le-leb low high some);
     }) both_separators)
   where
-    back : (n : ℕ) (last : Bool) → leb n most ≡ true
-        → (x : ℕ × ℕ) × ((number_by most x.0 && is_separator x.1) ≡ true) × ◌≡◌ {A = ℕ × Bool} (x.0, eqb x.1 feed) (n, last)
-    back n true fit = ((n, feed), and_from (number_by most n) true (and_from (leb 0 n) (leb n most) (le-leb 0 n (omega arith)) fit) refl, refl)
-    back n false fit = ((n, space), and_from (number_by most n) true (and_from (leb 0 n) (leb n most) (le-leb 0 n (omega arith)) fit) refl, refl)
+    back : (n : ℕ) (last : Bool) → is_from_to low high n ≡ true
+        → (x : ℕ × ℕ) × ((is_from_to low high x.0 && is_separator x.1) ≡ true) × ◌≡◌ {A = ℕ × Bool} (x.0, eqb x.1 feed) (n, last)
+    back n true fit = ((n, feed), and_from (is_from_to low high n) true fit refl, refl)
+    back n false fit = ((n, space), and_from (is_from_to low high n) true fit refl, refl)

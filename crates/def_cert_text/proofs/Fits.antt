@@ -8,7 +8,7 @@ use Rattle.def_reply.specs.Reply.{SetReply, Reply}
 use Rattle.def_reply.specs.declared.TraceLine.{TraceLine}
 use Rattle.def_reply.specs.Outcome.{Head}
 use Rattle.def_cert_verdict.specs.Certificate.{PrintedPlan, PrintedBounds, Certificate}
-use Rattle.def_cert_verdict.specs.Ranges.{IsFromTo, IsPrintable, HeadFits, LineFits, TraceFits, PlanWeightsFit, PlanFits, ReplyFits, BoundFits, BoundsFit, FitsBelowHead, CertificateFits}
+use Rattle.def_cert_verdict.specs.Ranges.{IsFromTo, IsPrintable, FractionFits, HeadFits, LineFits, TraceFits, PlanWeightsFit, PlanFits, ReplyFits, BoundsFit, FitsBelowHead, CertificateFits}
 use Rattle.def_cert_text.specs.Formats.{Format, is_lowest_within, each_fits, asked_fits, row_fits}
 use Rattle.def_cert_text.specs.CertText.{head_lines, line_of_round, round_of_evaluation, evaluation_count, trace_lines, weights_line, plan_lines, value_line, reply_lines, bounds_lines, whole_certificate}
 use Rattle.def_cert_text.proofs.FieldLaws.{lowest_parts, lowest_from}
@@ -26,11 +26,23 @@ to_within low high n p = and_from (leb low n) (leb n high) (le-leb low n p.0) (l
 up_to : (high n : ℕ) → n ≤ high → is_within 0 high n ≡ true
 up_to high n h = to_within 0 high n (omega arith, h)
 
+-- ---- fractions
+fraction_fits : (limit : ℕ) (f : Fraction) → is_lowest_within limit f ≡ true → FractionFits limit f
+fraction_fits limit f fit =
+    let p = lowest_parts limit f fit in
+    record { lowest = record { positive = p.positive; coprime = p.coprime }; num = p.num; den = p.den }
+
+fraction_taken : (limit : ℕ) (f : Fraction) → FractionFits limit f → is_lowest_within limit f ≡ true
+fraction_taken limit f b = lowest_from limit f (record { positive = b.lowest.positive; coprime = b.lowest.coprime; num = b.num; den = b.den })
+
 -- ---- the head
+abbrev unit_fits : Head → Bool
+unit_fits h = is_within 1 (2 ^ 62) h.unit && is_lowest_within (2 ^ 62) h.sum
+
 abbrev game_fits : Head → Bool
 game_fits h =
     (is_within 1 (2 ^ 20) h.nodes && is_within 1 (2 ^ 20) h.leaves) && ((is_within 0 (2 ^ 20) h.sets_one && is_within 0 (2 ^ 20) h.sets_two)
-    && ((is_within 1 (2 ^ 20) h.sequences_one && is_within 1 (2 ^ 20) h.sequences_two) && (is_within 1 (2 ^ 62) h.unit && is_within 0 (2 ^ 62) h.mass)))
+    && ((is_within 1 (2 ^ 20) h.sequences_one && is_within 1 (2 ^ 20) h.sequences_two) && (unit_fits h && is_within 0 (2 ^ 62) h.mass)))
 
 abbrev asked_line_fits : Head → Bool
 asked_line_fits h = is_within 0 65536 h.rounds && (is_within 1 65536 h.every && is_within 1 1048576 h.scale)
@@ -45,7 +57,8 @@ head_fits h fit =
     let each_sets = and_parts (is_within 0 (2 ^ 20) h.sets_one) (is_within 0 (2 ^ 20) h.sets_two) sets.0 in
     let sequences = and_parts (is_within 1 (2 ^ 20) h.sequences_one && is_within 1 (2 ^ 20) h.sequences_two) _ sets.1 in
     let each_sequences = and_parts (is_within 1 (2 ^ 20) h.sequences_one) (is_within 1 (2 ^ 20) h.sequences_two) sequences.0 in
-    let unit = and_parts (is_within 1 (2 ^ 62) h.unit) (is_within 0 (2 ^ 62) h.mass) sequences.1 in
+    let units = and_parts (unit_fits h) (is_within 0 (2 ^ 62) h.mass) sequences.1 in
+    let unit = and_parts (is_within 1 (2 ^ 62) h.unit) (is_lowest_within (2 ^ 62) h.sum) units.0 in
     let rounds = and_parts (is_within 0 65536 h.rounds) (is_within 1 65536 h.every && is_within 1 1048576 h.scale) whole.1 in
     let every = and_parts (is_within 1 65536 h.every) (is_within 1 1048576 h.scale) rounds.1 in
     record {
@@ -56,7 +69,8 @@ head_fits h fit =
       sequences_one = from_to 1 (2 ^ 20) h.sequences_one each_sequences.0;
       sequences_two = from_to 1 (2 ^ 20) h.sequences_two each_sequences.1;
       unit = from_to 1 (2 ^ 62) h.unit unit.0;
-      mass = (from_to 0 (2 ^ 62) h.mass unit.1).1;
+      sum = fraction_fits (2 ^ 62) h.sum unit.1;
+      mass = (from_to 0 (2 ^ 62) h.mass units.1).1;
       rounds = (from_to 0 65536 h.rounds rounds.0).1;
       every = from_to 1 65536 h.every every.0;
       scale = from_to 1 1048576 h.scale every.1;
@@ -71,7 +85,9 @@ head_taken h f =
     (and_from (is_within 0 (2 ^ 20) h.sets_one) (is_within 0 (2 ^ 20) h.sets_two) (up_to (2 ^ 20) h.sets_one f.sets_one) (up_to (2 ^ 20) h.sets_two f.sets_two))
     (and_from (is_within 1 (2 ^ 20) h.sequences_one && is_within 1 (2 ^ 20) h.sequences_two) _
     (and_from (is_within 1 (2 ^ 20) h.sequences_one) (is_within 1 (2 ^ 20) h.sequences_two) (to_within 1 (2 ^ 20) h.sequences_one f.sequences_one) (to_within 1 (2 ^ 20) h.sequences_two f.sequences_two))
-    (and_from (is_within 1 (2 ^ 62) h.unit) (is_within 0 (2 ^ 62) h.mass) (to_within 1 (2 ^ 62) h.unit f.unit) (up_to (2 ^ 62) h.mass f.mass)))))
+    (and_from (unit_fits h) (is_within 0 (2 ^ 62) h.mass)
+    (and_from (is_within 1 (2 ^ 62) h.unit) (is_lowest_within (2 ^ 62) h.sum) (to_within 1 (2 ^ 62) h.unit f.unit) (fraction_taken (2 ^ 62) h.sum f.sum))
+    (up_to (2 ^ 62) h.mass f.mass)))))
     (and_from (is_within 0 65536 h.rounds) (is_within 1 65536 h.every && is_within 1 1048576 h.scale) (up_to 65536 h.rounds f.rounds)
     (and_from (is_within 1 65536 h.every) (is_within 1 1048576 h.scale) (to_within 1 65536 h.every f.every) (to_within 1 1048576 h.scale f.scale)))
 
@@ -266,13 +282,6 @@ reply_taken player sets reply f =
     and_from (leb (unsigned_abs reply.total) (2 ^ 100)) (each_fits value_line 1 sets reply.sets) (le-leb (unsigned_abs reply.total) (2 ^ 100) f.total)
     (all_taken SetReply value_line SetFits value_taken sets 1 reply.sets f.count (all_of_both reply.sets f.values f.choices))
 
--- ---- the bracket
-bound_fits : (f : Fraction) → is_lowest_within (2 ^ 100) f ≡ true → BoundFits f
-bound_fits f fit = let p = lowest_parts (2 ^ 100) f fit in record { lowest = record { positive = p.positive; coprime = p.coprime }; num = p.num; den = p.den }
-
-bound_taken : (f : Fraction) → BoundFits f → is_lowest_within (2 ^ 100) f ≡ true
-bound_taken f b = lowest_from (2 ^ 100) f (record { positive = b.lowest.positive; coprime = b.lowest.coprime; num = b.num; den = b.den })
-
 -- ---- the whole
 abbrev behind_trace : Head → PrintedBounds → Bool
 behind_trace head b =
@@ -294,8 +303,8 @@ bounds_fit head b asked fit =
       reply_two = reply_fits (codes "2") head.sets_two b.reply_two q.0;
       plan_two = plan_fits (codes "2") head.sets_two b.plan_two r.0;
       reply_one = reply_fits (codes "1") head.sets_one b.reply_one s.0;
-      low = bound_fits b.low u.0;
-      high = bound_fits b.high u.1;
+      low = fraction_fits (2 ^ 100) b.low u.0;
+      high = fraction_fits (2 ^ 100) b.high u.1;
     }
 
 bounds_taken : (head : Head) (b : PrintedBounds) → BoundsFit head b → (bounds_lines head).fits b ≡ true
@@ -305,7 +314,7 @@ bounds_taken head b f =
     (and_from ((reply_lines (codes "2") head.sets_two).fits b.reply_two) _ (reply_taken (codes "2") head.sets_two b.reply_two f.reply_two)
     (and_from ((plan_lines (codes "2") head.sets_two).fits b.plan_two) _ (plan_taken (codes "2") head.sets_two b.plan_two f.plan_two)
     (and_from ((reply_lines (codes "1") head.sets_one).fits b.reply_one) (is_lowest_within (2 ^ 100) b.low && is_lowest_within (2 ^ 100) b.high) (reply_taken (codes "1") head.sets_one b.reply_one f.reply_one)
-    (and_from (is_lowest_within (2 ^ 100) b.low) (is_lowest_within (2 ^ 100) b.high) (bound_taken b.low f.low) (bound_taken b.high f.high))))))
+    (and_from (is_lowest_within (2 ^ 100) b.low) (is_lowest_within (2 ^ 100) b.high) (fraction_taken (2 ^ 100) b.low f.low) (fraction_taken (2 ^ 100) b.high f.high))))))
 
 below_fits : (head : Head) (t : Bool) (bounds : Option PrintedBounds) → ltb 0 head.rounds ≡ t
     → asked_fits t (bounds_lines head) bounds ≡ true → FitsBelowHead head bounds

@@ -3,6 +3,7 @@ pub mod FormatLaws
 pub mod FieldFormatLaws
 pub mod CombinedFormatLaws
 pub mod Fits
+pub mod UnitLaws
 pub mod LineLaws
 pub mod TextLaws
 pub mod CutTexts

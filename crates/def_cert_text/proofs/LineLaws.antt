@@ -17,6 +17,7 @@ use Rattle.def_cert_text.proofs.FieldLaws.{all_pass, decimal_inside}
 use Rattle.def_cert_text.proofs.FormatLaws.{IsFormat, pair_laws}
 use Rattle.def_cert_text.proofs.FieldFormatLaws.{whole_laws, integer_laws, fraction_laws, fixed_laws}
 use Rattle.def_cert_text.proofs.Fits.{head_fits}
+use Rattle.def_cert_text.proofs.UnitLaws.{unit_laws}
 use Rattle.def_cert_text.proofs.CombinedFormatLaws.{seen_laws, after_laws, each_laws, asked_laws, row_laws}
 
 word_laws : (A : Type 0) (wanted : List ℕ) (f : Format A) → all_pass is_field_byte wanted ≡ true → IsFormat A f
@@ -36,7 +37,7 @@ game_laws =
     two_laws _ _ size_line _ (word_laws _ (codes "nodes") _ refl (two_laws _ _ _ _ (entries_laws 1 space (omega arith) refl) (word_laws _ (codes "leaves") _ refl (entries_laws 1 feed (omega arith) refl))))
     (two_laws _ _ sets_line _ (word_laws _ (codes "sets") _ refl (two_laws _ _ _ _ (entries_laws 0 space (omega arith) refl) (entries_laws 0 feed (omega arith) refl)))
     (two_laws _ _ sequences_line _ (word_laws _ (codes "sequences") _ refl (two_laws _ _ _ _ (entries_laws 1 space (omega arith) refl) (entries_laws 1 feed (omega arith) refl)))
-    (two_laws _ _ unit_line mass_line (word_laws _ (codes "unit") _ refl (whole_laws 1 (2 ^ 62) feed (omega arith) (omega arith) refl))
+    (two_laws _ _ unit_line mass_line (word_laws _ (codes "unit") _ refl unit_laws)
     (word_laws _ (codes "mass") _ refl (whole_laws 0 (2 ^ 62) feed (omega arith) (omega arith) refl)))))
 
 asked_line_laws : IsFormat (ℕ × (ℕ × ℕ)) asked_line

@@ -1,7 +1,7 @@
 -- The text of a certificate, version 1: its lines as formats, and what reading gives.
-use Rattle.std.specs.Prelude.{ℕ, ◌+◌, ◌-◌, ◌*◌, ◌/◌, nat_lt, min, List, [], ◌∷◌, ◌++◌, codes, length, Option, Result, Ok, Err, ℤ}
+use Rattle.std.specs.Prelude.{ℕ, ◌+◌, ◌-◌, ◌*◌, ◌/◌, ◌&&◌, nat_le, nat_lt, min, if◌then◌else◌, List, [], ◌∷◌, ◌++◌, codes, length, Option, Result, Ok, Err, ℤ}
 use Rattle.std.specs.Fmt.{decimal}
-use Rattle.def_fraction.specs.Fraction.{Fraction, most}
+use Rattle.def_fraction.specs.Fraction.{Fraction, most, zero_fraction}
 use Rattle.def_tree.specs.Rules.{most_actions, most_nodes}
 use Rattle.def_sums.specs.Limits.{most_mass, most_rounds, most_scale, most_root}
 use Rattle.def_reply.specs.Reply.{SetReply, Reply}
@@ -11,15 +11,16 @@ use Rattle.def_cert_verdict.specs.Certificate.{PrintedPlan, PrintedBounds, Certi
 use Rattle.def_cert_verdict.specs.Ranges.{most_printed}
 use Rattle.def_cert_text.specs.declared.fault.CertFault.{CertFault}
 use Rattle.def_cert_text.specs.declared.fault.CertFault.TheVariants.{CertTrailing}
-use Rattle.def_cert_text.specs.Fields.{◌>>=◌, space, feed, fixed_word, number, version}
-use Rattle.def_cert_text.specs.Formats.{Format, text_of, whole_field, integer_field, fraction_field, fixed_field, after_fixed, and_then, seen_as, each_from, where_asked, row_of_numbers}
+use Rattle.def_cert_text.specs.Fields.{◌>>=◌, space, feed, fixed_word, number, version, Item, field, separator}
+use Rattle.def_cert_text.specs.Numbers.{equals_zero}
+use Rattle.def_cert_text.specs.Formats.{Format, text_of, whole_field, integer_field, is_lowest_within, fraction_field, nonzero_field, fixed_field, after_fixed, and_then, seen_as, each_from, where_asked, read_number, row_of_numbers}
 
 abbrev pub after_word : {A : Type 0} → List ℕ → Format A → Format A
 after_word wanted f = after_fixed fixed_word wanted space f
 
 -- ---- the lines 2 to 6: the game's numbers
 abbrev pub NumbersOfGame : Type 0
-NumbersOfGame = (ℕ × ℕ) × ((ℕ × ℕ) × ((ℕ × ℕ) × (ℕ × ℕ)))
+NumbersOfGame = (ℕ × ℕ) × ((ℕ × ℕ) × ((ℕ × ℕ) × ((ℕ × Fraction) × ℕ)))
 
 abbrev pub size_line : Format (ℕ × ℕ)
 size_line = after_word (codes "nodes") (and_then (whole_field 1 most_nodes space) (λ nodes. after_word (codes "leaves") (whole_field 1 most_nodes feed)))
@@ -30,8 +31,24 @@ sets_line = after_word (codes "sets") (and_then (whole_field 0 most_nodes space)
 abbrev pub sequences_line : Format (ℕ × ℕ)
 sequences_line = after_word (codes "sequences") (and_then (whole_field 1 most_nodes space) (λ one. whole_field 1 most_nodes feed))
 
-abbrev pub unit_line : Format ℕ
-unit_line = after_word (codes "unit") (whole_field 1 most feed)
+abbrev pub sum_field : Format Fraction
+sum_field = after_word (codes "sum") (nonzero_field most feed)
+
+-- what stands behind the unit
+abbrev pub sum_items : Fraction → List Item
+sum_items sum = if equals_zero sum then separator feed ∷ [] else separator space ∷ sum_field.items sum
+
+-- the unit, and what each leaf pays both players together where that isn't 0
+abbrev pub unit_and_sum : Format (ℕ × Fraction)
+unit_and_sum = record {
+  fits = λ p. (nat_le 1 p.0 && nat_le p.0 most) && is_lowest_within most p.1;
+  items = λ p. field number (decimal p.0) ∷ sum_items p.1;
+  read = λ total bytes. read_number 1 most total bytes >>= λ n.
+      (if n.0.1 then Ok ((n.0.0, zero_fraction), n.1) else (sum_field.read total n.1 >>= λ sum. Ok ((n.0.0, sum.0), sum.1)));
+}
+
+abbrev pub unit_line : Format (ℕ × Fraction)
+unit_line = after_word (codes "unit") unit_and_sum
 
 abbrev pub mass_line : Format ℕ
 mass_line = after_word (codes "mass") (whole_field 0 most_mass feed)
@@ -45,7 +62,7 @@ asked_line = after_word (codes "rounds") (and_then (whole_field 0 most_rounds sp
     after_word (codes "every") (and_then (whole_field 1 most_rounds space) (λ every. after_word (codes "scale") (whole_field 1 most_scale feed)))))
 
 abbrev pub numbers_of_game : Head → NumbersOfGame
-numbers_of_game head = ((head.nodes, head.leaves), ((head.sets_one, head.sets_two), ((head.sequences_one, head.sequences_two), (head.unit, head.mass))))
+numbers_of_game head = ((head.nodes, head.leaves), ((head.sets_one, head.sets_two), ((head.sequences_one, head.sequences_two), ((head.unit, head.sum), head.mass))))
 
 abbrev pub parts_of_head : Head → (NumbersOfGame × (ℕ × (ℕ × ℕ)))
 parts_of_head head = (numbers_of_game head, (head.rounds, (head.every, head.scale)))
@@ -58,7 +75,8 @@ head_of_parts p = record {
   sets_two = p.0.1.0.1;
   sequences_one = p.0.1.1.0.0;
   sequences_two = p.0.1.1.0.1;
-  unit = p.0.1.1.1.0;
+  unit = p.0.1.1.1.0.0;
+  sum = p.0.1.1.1.0.1;
   mass = p.0.1.1.1.1;
   rounds = p.1.0;
   every = p.1.1.0;

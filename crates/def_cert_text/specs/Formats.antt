@@ -1,6 +1,6 @@
 -- A format says which values fit, of which items they are made, and what reading gives:
 -- one definition for writing and reading.
-use Rattle.std.specs.Prelude.{ℕ, zero, suc, ◌+◌, ◌-◌, Bool, true, false, ◌==◌, ◌&&◌, nat_le, nat_eq, List, [], ◌∷◌, ◌++◌, length, Option, Some, None, Result, Ok, Err, ℤ, unsigned_abs, if◌then◌else◌}
+use Rattle.std.specs.Prelude.{ℕ, zero, suc, ◌+◌, ◌-◌, Bool, true, false, ◌==◌, ◌&&◌, not, nat_le, nat_eq, List, [], ◌∷◌, ◌++◌, length, Option, Some, None, Result, Ok, Err, ℤ, unsigned_abs, if◌then◌else◌}
 use Rattle.std.specs.Cmp.Lexicographic.{pointwise}
 use Rattle.std.specs.Fmt.{decimal, signed_decimal}
 use Rattle.def_fraction.specs.Divisors.{gcd}
@@ -9,7 +9,7 @@ use Rattle.def_fraction.specs.Text.{fraction_text}
 use Rattle.def_cert_text.specs.declared.fault.CertFault.{CertFault}
 use Rattle.def_cert_text.specs.declared.fault.CertFault.TheVariants.{CertNumber, CertShort}
 use Rattle.def_cert_text.specs.Fields.{◌>>=◌, space, feed, FieldKind, number, Item, field, separator, items_text, next_field, behind_field, is_empty, read_field}
-use Rattle.def_cert_text.specs.Numbers.{whole_in, integer_in, fraction_in}
+use Rattle.def_cert_text.specs.Numbers.{whole_in, integer_in, fraction_in, equals_zero, nonzero_in}
 
 -- reading gives a value and the bytes that are left, from the length of the whole and the bytes from a place on
 pub record Format (A : Type 0) : Type 0 where
@@ -39,6 +39,9 @@ is_lowest_within most f = (nat_le 1 f.den && gcd (unsigned_abs f.num) f.den == 1
 
 abbrev pub fraction_field : ℕ → ℕ → Format Fraction
 fraction_field most sep = one_field number (is_lowest_within most) fraction_text (fraction_in most) sep
+
+abbrev pub nonzero_field : ℕ → ℕ → Format Fraction
+nonzero_field most sep = one_field number (λ f. is_lowest_within most f && not (equals_zero f)) fraction_text (nonzero_in most) sep
 
 -- the same bytes, which say nothing more
 abbrev pub same_bytes : List ℕ → List ℕ → Option (Unit {0})
@@ -137,10 +140,10 @@ abbrev pub with_end_if_fit : CertFault → Option ℕ → List ℕ → Result ((
 with_end_if_fit unfit None left = Err unfit
 with_end_if_fit unfit (Some n) left = with_end n left
 
-unfoldable pub read_number : ℕ → ℕ → List ℕ → Result ((ℕ × Bool) × List ℕ) CertFault
-read_number most total bytes =
+unfoldable pub read_number : ℕ → ℕ → ℕ → List ℕ → Result ((ℕ × Bool) × List ℕ) CertFault
+read_number low high total bytes =
     if is_empty (behind_field bytes) then Err CertShort
-    else with_end_if_fit (CertNumber (total - length bytes)) (whole_in 0 most (next_field bytes)) (behind_field bytes)
+    else with_end_if_fit (CertNumber (total - length bytes)) (whole_in low high (next_field bytes)) (behind_field bytes)
 
 -- the number with which a line is full
 unfoldable pub read_last : ℕ → ℕ → List ℕ → Result (List ℕ × List ℕ) CertFault
@@ -149,7 +152,7 @@ read_last most total bytes = (whole_field 0 most feed).read total bytes >>= λ n
 unfoldable pub read_row : ℕ → ℕ → ℕ → List ℕ → Result (List ℕ × List ℕ) CertFault
 read_row most zero total bytes = read_last most total bytes
 read_row most (suc more) total bytes =
-    read_number most total bytes >>= λ n. (if n.0.1 then Ok (n.0.0 ∷ [], n.1) else (read_row most more total n.1 >>= λ ns. Ok (n.0.0 ∷ ns.0, ns.1)))
+    read_number 0 most total bytes >>= λ n. (if n.0.1 then Ok (n.0.0 ∷ [], n.1) else (read_row most more total n.1 >>= λ ns. Ok (n.0.0 ∷ ns.0, ns.1)))
 
 abbrev pub row_of_numbers : ℕ → ℕ → Format (List ℕ)
 row_of_numbers most more = record { fits = row_fits most more; items = row_items; read = read_row most more }

@@ -42,3 +42,15 @@ lowest_in most (Some num) (b ∷ ds) = over_in num (whole_in 2 most ds)
 -- a fraction in lowest terms whose parts are of this size at most: num alone, or num/den where den is 2 at least
 unfoldable pub fraction_in : ℕ → List ℕ → Option Fraction
 fraction_in most field = lowest_in most (integer_in most (take (prefix_len is_no_slash field) field)) (drop (prefix_len is_no_slash field) field)
+
+-- 0 has the denominator 1
+abbrev pub equals_zero : Fraction → Bool
+equals_zero f = unsigned_abs f.num == 0
+
+abbrev pub unless_zero : Option Fraction → Option Fraction
+unless_zero None = None
+unless_zero (Some f) = if equals_zero f then None else Some f
+
+-- such a fraction that isn't 0
+unfoldable pub nonzero_in : ℕ → List ℕ → Option Fraction
+nonzero_in most field = unless_zero (fraction_in most field)

@@ -1,13 +1,8 @@
 -- Texts that are known from outside, as lists of lines, and certificates whose text they are.
-use Rattle.std.specs.Prelude.{ℕ, ◌-◌, List, [], ◌∷◌, ◌++◌, codes, slice_set, Result}
-use Rattle.def_reply.specs.Outcome.{Head}
+use Rattle.std.specs.Prelude.{ℕ, ◌-◌, List, [], ◌∷◌, ◌++◌, codes, slice_set}
 use Rattle.def_cert_verdict.specs.Certificate.{Certificate}
 use Rattle.def_cert_verdict.specs.Laws.{with_bounds}
-use Rattle.def_cert_verdict.specs.Kuhn.{kuhn_head, kuhn_bounds}
-use Rattle.def_cert_verdict.specs.OneMover.{one_mover_head, one_mover_bounds}
-use Rattle.def_cert_verdict.specs.Pennies.{pennies_head, pennies_bounds, scale_one_head, scale_one_bounds}
-use Rattle.def_cert_text.specs.declared.fault.CertFault.{CertFault}
-use Rattle.def_cert_text.specs.CertText.{cert_in}
+use Rattle.def_cert_verdict.specs.Pennies.{pennies_head, pennies_bounds}
 
 abbrev pub text_of_lines : List (List ℕ) → List ℕ
 text_of_lines [] = []
@@ -38,7 +33,7 @@ pennies_lines =
 abbrev pub pennies_certificate : Certificate
 pennies_certificate = with_bounds pennies_head pennies_bounds
 
--- the reading of its text with one line changed; lines count from 1
+-- its text with one line changed; lines count from 1
 abbrev pub with_line : ℕ → List ℕ → List ℕ
 with_line k line = text_of_lines (slice_set pennies_lines (k - 1) line)
 

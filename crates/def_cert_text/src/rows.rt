@@ -1,10 +1,11 @@
 //! Texts of certificates that are known from outside, and where reading stops in changed ones. There is no code here;
 //! each function's contract is a table.
 
-ghost use Rattle.std.specs.Prelude.{◌≡◌, [], ◌∷◌, ◌++◌, codes, drop, length, take, Ok, Err};
+ghost use Rattle.std.specs.Prelude.{◌≡◌, [], ◌∷◌, ◌++◌, codes, drop, length, pos, slice_set, take, Ok, Err};
 ghost use Rattle.def_cert_verdict.specs.Kuhn.{kuhn_head, kuhn_bounds};
 ghost use Rattle.def_cert_verdict.specs.OneMover.{one_mover_head, one_mover_bounds};
-ghost use Rattle.def_cert_verdict.specs.Pennies.{pennies_head, scale_one_head, scale_one_bounds};
+ghost use Rattle.def_cert_verdict.specs.Pennies.{pennies_bounds, pennies_head, scale_one_head, scale_one_bounds};
+ghost use Rattle.def_fraction.specs.Fraction.{negative_of, over};
 ghost use Rattle.def_cert_text.specs.Formats.{row_of_numbers};
 ghost use Rattle.def_cert_text.specs.declared.fault.CertFault.TheVariants.{CertTrailing, CertVersion};
 ghost use Rattle.def_cert_text.specs.CertText.{cert_text, head_text, cert_in};
@@ -43,6 +44,31 @@ pub fn fields_that_differ()
     ensures root_zero { cert_in (with_line 9 (codes "plan 1 0")) ≡ Err (CertNumber 117) }
 {}
 
+/// Rows: the same text with the sum of a game behind its unit. A sum of 0 isn't written.
+#[tactic(auto, unfolding(def_fraction::specs::Divisors::gcd))]
+pub fn sums_behind_the_unit()
+    ensures whole { cert_in (with_line 5 (codes "unit 1 sum 1"))
+        ≡ Ok (with_bounds (record pennies_head { sum = over (pos 1) 1 }) pennies_bounds) }
+    ensures below_zero { cert_in (with_line 5 (codes "unit 1 sum -2/3"))
+        ≡ Ok (with_bounds (record pennies_head { sum = over (negative_of 2) 3 }) pennies_bounds) }
+    ensures largest { cert_in (with_line 5 (codes "unit 1 sum 4611686018427387904"))
+        ≡ Ok (with_bounds (record pennies_head { sum = over (pos 4611686018427387904) 1 }) pennies_bounds) }
+    ensures written { head_text (record pennies_head { sum = over (negative_of 2) 3 })
+        ≡ text_of_lines (slice_set (take 5 (drop 1 pennies_lines)) 3 (codes "unit 1 sum -2/3")) }
+    ensures zero { cert_in (with_line 5 (codes "unit 1 sum 0")) ≡ Err (CertNumber 60) }
+    ensures not_lowest { cert_in (with_line 5 (codes "unit 1 sum 2/4")) ≡ Err (CertNumber 60) }
+    ensures too_large { cert_in (with_line 5 (codes "unit 1 sum 4611686018427387905")) ≡ Err (CertNumber 60) }
+    ensures too_fine { cert_in (with_line 5 (codes "unit 1 sum 1/4611686018427387905")) ≡ Err (CertNumber 60) }
+    ensures plus { cert_in (with_line 5 (codes "unit 1 sum +1")) ≡ Err (CertNumber 60) }
+    ensures no_sum { cert_in (with_line 5 (codes "unit 1 sum ")) ≡ Err (CertNumber 60) }
+    ensures word_alone { cert_in (with_line 5 (codes "unit 1 sum")) ≡ Err (CertSyntax 59) }
+    ensures other_word { cert_in (with_line 5 (codes "unit 1 sums 1")) ≡ Err (CertSyntax 56) }
+    ensures no_word { cert_in (with_line 5 (codes "unit 1 ")) ≡ Err (CertSyntax 56) }
+    ensures a_space_more { cert_in (with_line 5 (codes "unit 1 sum 1 ")) ≡ Err (CertSyntax 61) }
+    ensures other_unit { cert_in (with_line 5 (codes "unit 0 sum 1")) ≡ Err (CertNumber 54) }
+    ensures short { cert_in (take 61 (with_line 5 (codes "unit 1 sum 1"))) ≡ Err CertShort }
+{}
+
 /// Rows: the same text, with a number past its range or not in its form.
 pub fn numbers_that_differ()
     ensures no_node { cert_in (with_line 2 (codes "nodes 0 leaves 4")) ≡ Err (CertNumber 15) }
@@ -70,7 +96,7 @@ pub fn separators_that_differ()
     ensures empty_word { cert_in (with_line 2 (codes "nodes 7  leaves 4")) ≡ Err (CertSyntax 17) }
     ensures empty_line { cert_in (with_line 4 []) ≡ Err (CertSyntax 35) }
     ensures empty_version { cert_in (with_line 1 (codes "XGCERT ")) ≡ Err CertVersion }
-    ensures space_at_the_end { cert_in (with_line 5 (codes "unit 1 ")) ≡ Err (CertSyntax 55) }
+    ensures space_at_the_end { cert_in (with_line 4 (codes "sequences 3 3 ")) ≡ Err (CertSyntax 48) }
     ensures line_too_short { cert_in (with_line 3 (codes "sets 1")) ≡ Err (CertSyntax 32) }
     ensures no_weight { cert_in (with_line 10 (codes "weights 1")) ≡ Err (CertSyntax 134) }
     ensures empty_weight { cert_in (with_line 10 (codes "weights 1 524288 ")) ≡ Err (CertNumber 142) }

@@ -9,9 +9,10 @@ use Rattle.def_reply.specs.Outcome.{Head}
 use Rattle.def_cert_verdict.specs.declared.fault.TestFault.{TestFault}
 use Rattle.def_cert_verdict.specs.declared.fault.TestFault.TheVariants.{HeadDiffers, NotAPlan, ValueTooGood, ReplyNotTight, TotalDiffers, TraceWidens}
 use Rattle.def_plan.specs.Weighed.{WeighedGame}
-use Rattle.def_cert_verdict.specs.Verdict.{first_failing, unless, head_tests}
+use Rattle.def_cert_verdict.specs.Verdict.{first_failing, unless, is_same_fraction, head_tests}
 use Rattle.def_cert_verdict.specs.Laws.{IsHeadOf}
 use Rattle.def_cert_verdict.specs.FaultCauses.{IsFirstNot, NamesLine, HeadFault}
+use Rattle.def_cert_verdict.proofs.Fractions.{same_fraction}
 use Rattle.def_cert_verdict.proofs.TestsDecide.{TestsDecide, TestsDecide-search, TestsDecide-like, Searches, Searches-end, Searches-step, first_unless}
 
 -- two equations on one line
@@ -45,9 +46,10 @@ sequences_line game head =
     let d = both head.sequences_one (sequence_count game.form.sets_one) head.sequences_two (sequence_count game.form.sets_two) in
     (λ e. record { nodes = λ l. absurd (omega arith); sets = λ l. absurd (omega arith); sequences = λ l. d.0 e; unit = λ l. absurd (omega arith); mass_is = λ l. absurd (omega arith) }, λ s. d.1 (s.sequences refl))
 
-unit_line : (game : WeighedGame) (head : Head) → Decides (eqb head.unit game.unit) (NamesLine game head 5)
+unit_line : (game : WeighedGame) (head : Head)
+    → Decides (eqb head.unit game.unit && is_same_fraction head.sum game.sum) (NamesLine game head 5)
 unit_line game head =
-    let d = Decides-eqb head.unit game.unit in
+    let d = Decides-and (eqb head.unit game.unit) (is_same_fraction head.sum game.sum) (Decides-eqb head.unit game.unit) (same_fraction head.sum game.sum) in
     (λ e. record { nodes = λ l. absurd (omega arith); sets = λ l. absurd (omega arith); sequences = λ l. absurd (omega arith); unit = λ l. d.0 e; mass_is = λ l. absurd (omega arith) }, λ s. d.1 (s.unit refl))
 
 mass_line : (game : WeighedGame) (head : Head)
@@ -80,7 +82,7 @@ all_lines game head h line = record {
   nodes = λ l. (h.nodes, h.leaves);
   sets = λ l. (h.sets_one, h.sets_two);
   sequences = λ l. (h.sequences_one, h.sequences_two);
-  unit = λ l. h.unit;
+  unit = λ l. (h.unit, h.sum_is);
   mass_is = λ l. h.mass_is;
 }
 
@@ -92,7 +94,8 @@ head_of game head says = record {
   sets_two = ((says 1).sets refl).1;
   sequences_one = ((says 2).sequences refl).0;
   sequences_two = ((says 2).sequences refl).1;
-  unit = (says 3).unit refl;
+  unit = ((says 3).unit refl).0;
+  sum_is = ((says 3).unit refl).1;
   mass_is = (says 4).mass_is refl;
 }
 

@@ -1,3 +1,4 @@
+pub mod Fractions
 pub mod TestsDecide
 pub mod Heads
 pub mod Plans

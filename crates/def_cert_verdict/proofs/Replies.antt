@@ -20,6 +20,7 @@ use Rattle.def_cert_verdict.specs.declared.fault.TestFault.TheVariants.{HeadDiff
 use Rattle.def_cert_verdict.specs.Verdict.{first_failing, unless, is_better, action_test, set_tests, reply_tests, is_same_fraction, end_shown_by, total_test, whole_reply_tests}
 use Rattle.def_cert_verdict.specs.Laws.{HoldsAsTotal, HoldsAsReply}
 use Rattle.def_cert_verdict.specs.FaultCauses.{IsFirstNot, NoActionBetterAt, ReachedAt, TightAt, IsTooGood, IsNotReached, SetFault, TotalFault, ReplyFault}
+use Rattle.def_cert_verdict.proofs.Fractions.{same_fraction}
 use Rattle.def_cert_verdict.proofs.TestsDecide.{TestsDecide, TestsDecide-one, TestsDecide-append, TestsDecide-like, TestsDecide-search, Searches, Searches-end, Searches-step, Searches-like, first_if, not_less-Decides}
 
 -- ---- the actions of a set
@@ -288,12 +289,6 @@ zip_tight player w (h ∷ hs) (r ∷ rs) z zero = (
 zip_tight player w (h ∷ hs) (r ∷ rs) z (suc j) = zip_tight player w hs rs z.1 j
 
 -- ---- the total
-same_fraction : (a b : Fraction) → Decides (is_same_fraction a b) (a ≡ b)
-same_fraction a b =
-    Decides-like (is_same_fraction a b) (λ p. ap (λ (n : ℤ). record { num = n; den = a.den }) p.0 ∙ ap (λ (d : ℕ). record { num = b.num; den = d }) p.1)
-    (λ e. (ap (λ (f : Fraction). f.num) e, ap (λ (f : Fraction). f.den) e))
-    (Decides-and (int_eq a.num b.num) (eqb a.den b.den) (Decides-int_eq a.num b.num) (Decides-eqb a.den b.den))
-
 total_decided : (sums : ℕ → ℤ) (sets : List InformationSet) (reply : Reply) (traced : ℤ) (bound : Fraction) (scale : ℕ)
     → Decides (int_eq reply.total (total sums sets reply.sets) && (int_eq reply.total traced && is_same_fraction bound (fraction_of reply.total scale)))
     (HoldsAsTotal sums sets reply traced bound scale)

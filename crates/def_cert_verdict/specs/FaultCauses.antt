@@ -30,7 +30,7 @@ pub record NamesLine (game : WeighedGame) (head : Head) (line : ℕ) : Type 0 wh
   pub sequences : line ≡ 4
       → (head.sequences_one ≡ sequence_count game.form.sets_one)
       × (head.sequences_two ≡ sequence_count game.form.sets_two)
-  pub unit : line ≡ 5 → head.unit ≡ game.unit
+  pub unit : line ≡ 5 → (head.unit ≡ game.unit) × (head.sum ≡ game.sum)
   pub mass_is : line ≡ 6 → head.mass ≡ mass_of game.form.leaves
 
 abbrev pub HeadFault : WeighedGame → Head → TestFault → Type 0

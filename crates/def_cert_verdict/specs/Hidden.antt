@@ -7,11 +7,11 @@ use Rattle.def_cert_verdict.specs.Certificate.{PrintedBounds}
 use Rattle.def_plan.specs.Weighed.{WeighedGame}
 use Rattle.def_cert_verdict.specs.Verdict.{Verdict, verdict}
 use Rattle.def_cert_verdict.specs.Laws.{with_bounds}
-use Rattle.def_fraction.specs.Fraction.{over, negative_of}
+use Rattle.def_fraction.specs.Fraction.{over, negative_of, zero_fraction}
 use Rattle.def_cert_verdict.specs.Changes.{Change, changed, said, traced}
 
 abbrev pub hidden_game : WeighedGame
-hidden_game = record { nodes = 39; unit = 3; form = hidden }
+hidden_game = record { nodes = 39; sum = zero_fraction; unit = 3; form = hidden }
 
 abbrev pub hidden_head : Head
 hidden_head = record {
@@ -22,6 +22,7 @@ hidden_head = record {
   sequences_one = 8;
   sequences_two = 8;
   unit = 3;
+  sum = zero_fraction;
   mass = 94;
   rounds = 4;
   every = 1;

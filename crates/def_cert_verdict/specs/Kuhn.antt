@@ -7,11 +7,11 @@ use Rattle.def_cert_verdict.specs.Certificate.{PrintedBounds}
 use Rattle.def_plan.specs.Weighed.{WeighedGame}
 use Rattle.def_cert_verdict.specs.Verdict.{Verdict, verdict}
 use Rattle.def_cert_verdict.specs.Laws.{with_bounds}
-use Rattle.def_fraction.specs.Fraction.{over, negative_of}
+use Rattle.def_fraction.specs.Fraction.{over, negative_of, zero_fraction}
 use Rattle.def_cert_verdict.specs.Changes.{Change, changed, said, traced}
 
 abbrev pub kuhn_game : WeighedGame
-kuhn_game = record { nodes = 58; unit = 6; form = kuhn }
+kuhn_game = record { nodes = 58; sum = zero_fraction; unit = 6; form = kuhn }
 
 abbrev pub kuhn_head : Head
 kuhn_head = record {
@@ -22,6 +22,7 @@ kuhn_head = record {
   sequences_one = 13;
   sequences_two = 13;
   unit = 6;
+  sum = zero_fraction;
   mass = 42;
   rounds = 1;
   every = 1;

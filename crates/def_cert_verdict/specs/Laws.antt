@@ -33,7 +33,7 @@ pub record TheFirstFailureDecides : Type 0 where
 
 -- ---- what holds of a certificate that is accepted
 
--- the lines 2 to 6 of the text are the game's
+-- the lines 2 to 6 of the text are the game's, line 5 with its sum
 pub record IsHeadOf (game : WeighedGame) (head : Head) : Type 0 where
   pub nodes : head.nodes ≡ game.nodes
   pub leaves : head.leaves ≡ length game.form.leaves
@@ -42,6 +42,7 @@ pub record IsHeadOf (game : WeighedGame) (head : Head) : Type 0 where
   pub sequences_one : head.sequences_one ≡ sequence_count game.form.sets_one
   pub sequences_two : head.sequences_two ≡ sequence_count game.form.sets_two
   pub unit : head.unit ≡ game.unit
+  pub sum_is : head.sum ≡ game.sum
   pub mass_is : head.mass ≡ mass_of game.form.leaves
 
 -- a printed plan is one of the root, with as many numbers for each set as it has actions

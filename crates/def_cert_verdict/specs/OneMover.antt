@@ -7,11 +7,11 @@ use Rattle.def_cert_verdict.specs.Certificate.{PrintedBounds}
 use Rattle.def_plan.specs.Weighed.{WeighedGame}
 use Rattle.def_cert_verdict.specs.Verdict.{Verdict, verdict}
 use Rattle.def_cert_verdict.specs.Laws.{with_bounds}
-use Rattle.def_fraction.specs.Fraction.{over}
+use Rattle.def_fraction.specs.Fraction.{over, zero_fraction}
 use Rattle.def_cert_verdict.specs.Changes.{Change, changed, said, traced}
 
 abbrev pub one_mover_game : WeighedGame
-one_mover_game = record { nodes = 3; unit = 1; form = one_mover }
+one_mover_game = record { nodes = 3; sum = zero_fraction; unit = 1; form = one_mover }
 
 abbrev pub one_mover_head : Head
 one_mover_head = record {
@@ -22,6 +22,7 @@ one_mover_head = record {
   sequences_one = 3;
   sequences_two = 1;
   unit = 1;
+  sum = zero_fraction;
   mass = 1;
   rounds = 2;
   every = 1;

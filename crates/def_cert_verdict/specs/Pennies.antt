@@ -7,11 +7,11 @@ use Rattle.def_cert_verdict.specs.Certificate.{PrintedBounds}
 use Rattle.def_plan.specs.Weighed.{WeighedGame}
 use Rattle.def_cert_verdict.specs.Verdict.{Verdict, verdict}
 use Rattle.def_cert_verdict.specs.Laws.{with_bounds}
-use Rattle.def_fraction.specs.Fraction.{over, negative_of}
+use Rattle.def_fraction.specs.Fraction.{over, negative_of, zero_fraction}
 use Rattle.def_cert_verdict.specs.Changes.{Change, changed, said, traced}
 
 abbrev pub pennies_game : WeighedGame
-pennies_game = record { nodes = 7; unit = 1; form = pennies }
+pennies_game = record { nodes = 7; sum = zero_fraction; unit = 1; form = pennies }
 
 abbrev pub pennies_head : Head
 pennies_head = record {
@@ -22,6 +22,7 @@ pennies_head = record {
   sequences_one = 3;
   sequences_two = 3;
   unit = 1;
+  sum = zero_fraction;
   mass = 4;
   rounds = 1;
   every = 1;

@@ -24,6 +24,12 @@ most_line_product = most_printed * most_rounds
 abbrev pub IsPrintable : ℤ → Type 0
 IsPrintable n = unsigned_abs n ≤ most_printed
 
+-- a fraction in lowest terms whose parts are of this size at most
+pub record FractionFits (limit : ℕ) (f : Fraction) : Type 0 where
+  pub lowest : IsInLowestTerms f
+  pub num : unsigned_abs f.num ≤ limit
+  pub den : f.den ≤ limit
+
 -- ---- parts
 pub record HeadFits (head : Head) : Type 0 where
   pub nodes : IsFromTo 1 most_nodes head.nodes
@@ -33,6 +39,7 @@ pub record HeadFits (head : Head) : Type 0 where
   pub sequences_one : IsFromTo 1 most_nodes head.sequences_one
   pub sequences_two : IsFromTo 1 most_nodes head.sequences_two
   pub unit : IsFromTo 1 most head.unit
+  pub sum : FractionFits most head.sum
   pub mass : head.mass ≤ most_mass
   pub rounds : head.rounds ≤ most_rounds
   pub every : IsFromTo 1 most_rounds head.every
@@ -68,11 +75,8 @@ pub record ReplyFits (sets : ℕ) (reply : Reply) : Type 0 where
   pub values : All (λ r. IsPrintable r.value) reply.sets
   pub choices : All (λ r. IsFromTo 1 most_actions r.choice) reply.sets
 
--- a fraction in lowest terms
-pub record BoundFits (bound : Fraction) : Type 0 where
-  pub lowest : IsInLowestTerms bound
-  pub num : IsPrintable bound.num
-  pub den : bound.den ≤ most_printed
+abbrev pub BoundFits : Fraction → Type 0
+BoundFits bound = FractionFits most_printed bound
 
 -- ---- the whole
 pub record BoundsFit (head : Head) (b : PrintedBounds) : Type 0 where

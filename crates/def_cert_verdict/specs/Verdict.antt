@@ -33,13 +33,16 @@ first_failing (Some fault ∷ tests) = Some fault
 abbrev pub unless : Bool → TestFault → Option TestFault
 unless passes fault = if passes then None else Some fault
 
--- ---- the head: the lines 2 to 6 of the text are the game's
+abbrev pub is_same_fraction : Fraction → Fraction → Bool
+is_same_fraction a b = int_eq a.num b.num && a.den == b.den
+
+-- ---- the head: the lines 2 to 6 of the text are the game's, line 5 with its sum
 abbrev pub head_tests : WeighedGame → Head → List (Option TestFault)
 head_tests game head =
     unless (head.nodes == game.nodes && head.leaves == length game.form.leaves) (HeadDiffers 2)
     ∷ unless (head.sets_one == length game.form.sets_one && head.sets_two == length game.form.sets_two) (HeadDiffers 3)
     ∷ unless (head.sequences_one == sequence_count game.form.sets_one && head.sequences_two == sequence_count game.form.sets_two) (HeadDiffers 4)
-    ∷ unless (head.unit == game.unit) (HeadDiffers 5)
+    ∷ unless (head.unit == game.unit && is_same_fraction head.sum game.sum) (HeadDiffers 5)
     ∷ unless (head.mass == mass_of game.form.leaves) (HeadDiffers 6)
     ∷ []
 
@@ -83,9 +86,6 @@ reply_tests player worth_of k (h ∷ hs) (r ∷ rs) = set_tests player worth_of 
 
 -- ---- a total: it is the worth of the empty sequence, that of the last trace line,
 -- and over unit times root the printed bound
-abbrev pub is_same_fraction : Fraction → Fraction → Bool
-is_same_fraction a b = int_eq a.num b.num && a.den == b.den
-
 -- player two's reply shows the lower end
 abbrev pub end_shown_by : Player → Which
 end_shown_by One = Upper

@@ -14,7 +14,7 @@ ghost use Rattle.def_cert_verdict.specs.Changes.{value_two, weights_one};
 ghost use Rattle.def_cert_verdict.specs.Kuhn.{kuhn_verdict};
 ghost use Rattle.def_cert_verdict.specs.OneMover.{one_mover_verdict};
 ghost use Rattle.def_cert_verdict.specs.Pennies.{scale_one_bounds, scale_one_head, head_verdict, pennies_game};
-ghost use Rattle.def_cert_verdict.specs.Pennies.{pennies_head, pennies_verdict};
+ghost use Rattle.def_cert_verdict.specs.Pennies.{pennies_bounds, pennies_head, pennies_verdict};
 
 /// Rows: matching pennies, one line below the head changed: values, choices, totals, weights and a root.
 #[tactic(auto, unfolding(def_fraction::specs::Divisors::gcd, def_fraction::specs::Fraction::fraction_of))]
@@ -41,6 +41,15 @@ pub fn pennies_heads()
     ensures sequences_one { head_verdict (record pennies_head { sequences_one = 2 }) ≡ Err (HeadDiffers 4) }
     ensures sequences_two { head_verdict (record pennies_head { sequences_two = 4 }) ≡ Err (HeadDiffers 4) }
     ensures unit { head_verdict (record pennies_head { unit = 2 }) ≡ Err (HeadDiffers 5) }
+    ensures sum { head_verdict (record pennies_head { sum = over (pos 1) 1 }) ≡ Err (HeadDiffers 5) }
+    ensures sum_above { verdict (record pennies_game { sum = over (pos 1) 3 })
+        (with_bounds (record pennies_head { sum = over (negative_of 1) 3 }) pennies_bounds) ≡ Err (HeadDiffers 5) }
+    ensures sum_below { verdict (record pennies_game { sum = over (pos 1) 3 })
+        (with_bounds (record pennies_head { sum = over (pos 1) 2 }) pennies_bounds) ≡ Err (HeadDiffers 5) }
+    ensures no_sum { verdict (record pennies_game { sum = over (pos 1) 3 }) (with_bounds pennies_head pennies_bounds)
+        ≡ Err (HeadDiffers 5) }
+    ensures sum_of_it { verdict (record pennies_game { sum = over (pos 1) 3 })
+        (without_bounds (record pennies_head { rounds = 0; sum = over (pos 1) 3 })) ≡ Ok head_only }
     ensures mass { head_verdict (record pennies_head { mass = 6 }) ≡ Err (HeadDiffers 6) }
     ensures scale { head_verdict (record pennies_head { scale = 1048575 }) ≡ Err (NotAPlan One 0) }
     ensures first_line { head_verdict (record pennies_head { leaves = 3; sets_one = 3; sequences_two = 1; unit = 2; mass = 5 })
@@ -49,7 +58,7 @@ pub fn pennies_heads()
         ≡ Err (HeadDiffers 3) }
     ensures third_line { head_verdict (record pennies_head { sequences_one = 1; unit = 2; mass = 5 })
         ≡ Err (HeadDiffers 4) }
-    ensures fourth_line { head_verdict (record pennies_head { unit = 2; mass = 5 }) ≡ Err (HeadDiffers 5) }
+    ensures fourth_line { head_verdict (record pennies_head { sum = over (pos 1) 2; mass = 5 }) ≡ Err (HeadDiffers 5) }
     ensures no_round { verdict pennies_game (without_bounds (record pennies_head { rounds = 0 })) ≡ Ok head_only }
     ensures no_round_of_it { verdict pennies_game (without_bounds (record pennies_head { rounds = 0; mass = 6 }))
         ≡ Err (HeadDiffers 6) }

@@ -66,6 +66,7 @@ head_of_game game settings = record {
   sequences_one = refl;
   sequences_two = refl;
   unit = refl;
+  sum_is = refl;
   mass_is = sym (form_has_the_mass.of_game (tables_of game) game.tree);
 }
 

@@ -9,6 +9,7 @@ use Rattle.def_tree.specs.Tree.{prefix, node_count, leaf_count}
 use Rattle.def_file_tokens.specs.Texts.{escaped}
 use Rattle.def_file.specs.Content.{GameFile}
 use Rattle.def_game_scale.specs.Scale.{game_mass, game_unit}
+use Rattle.def_game_scale.specs.Tables.{game_sum}
 use Rattle.def_game_numbers.specs.Numbers.{tables_of}
 use Rattle.def_plan.specs.Form.{SequenceForm, sequence_count}
 use Rattle.def_sequence_form.specs.Form.{form_of_game}
@@ -37,6 +38,7 @@ head_asked game form settings = record {
   sequences_one = sequence_count form.sets_one;
   sequences_two = sequence_count form.sets_two;
   unit = game_unit (tables_of game) game.tree;
+  sum = game_sum (tables_of game) game.tree;
   mass = game_mass (tables_of game) game.tree;
   rounds = settings.rounds;
   every = settings.every;

@@ -26,16 +26,16 @@ one_leaf = record {
   outcomes = record null_outcome { number = 1 } ∷ [];
 }
 
-abbrev pub leaf_numbers : List ℕ
-leaf_numbers = codes "nodes 1 leaves 1" ++ line_feed ++ codes "sets 0 0" ++ line_feed ++ codes "sequences 1 1"
+abbrev pub one_leaf_lines : List ℕ
+one_leaf_lines = codes "nodes 1 leaves 1" ++ line_feed ++ codes "sets 0 0" ++ line_feed ++ codes "sequences 1 1"
     ++ line_feed ++ codes "unit 1" ++ line_feed ++ codes "mass 0" ++ line_feed
 
 pub record OneLeafRows : Type 0 where
   pub solved : solve_text (game_with nobody one_leaf) no_rounds
-      ≡ codes "XGCERT 1" ++ line_feed ++ leaf_numbers ++ codes "rounds 0 every 1 scale 1048576" ++ line_feed
+      ≡ codes "XGCERT 1" ++ line_feed ++ one_leaf_lines ++ codes "rounds 0 every 1 scale 1048576" ++ line_feed
       ++ codes "end" ++ line_feed
   pub info : info_text (game_with nobody one_leaf)
-      ≡ codes "title \"a\\\"b\"" ++ line_feed ++ codes "players \"A\" \"B\"" ++ line_feed ++ leaf_numbers
+      ≡ codes "title \"a\\\"b\"" ++ line_feed ++ codes "players \"A\" \"B\"" ++ line_feed ++ one_leaf_lines
 
 pub record FaultLineRows : Type 0 where
   pub syntax : fault_line (Syntax 24) ≡ codes "refused 2 Syntax at 24" ++ line_feed

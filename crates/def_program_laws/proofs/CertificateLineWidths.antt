@@ -4,17 +4,18 @@ use Rattle.std.specs.Fmt.{decimal, signed_decimal}
 use Rattle.std.proofs.lemmas.Fmt.{length-decimal-le_wide}
 use Rattle.std.proofs.lemmas.List.{length-append}
 use Rattle.std.proofs.lemmas.List.Elements.{All-head, All-tail}
-use Rattle.def_fraction.specs.Fraction.{Fraction}
+use Rattle.def_fraction.specs.Fraction.{Fraction, most}
 use Rattle.def_fraction.specs.Literal.{slash}
 use Rattle.def_fraction.specs.Text.{fraction_text}
 use Rattle.def_sums.specs.Sum.{nat_sum_over}
 use Rattle.def_reply.specs.Reply.{SetReply}
 use Rattle.def_reply.specs.declared.TraceLine.{TraceLine}
 use Rattle.def_reply.specs.Outcome.{Head}
-use Rattle.def_cert_verdict.specs.Ranges.{IsPrintable, HeadFits, PlanWeightsFit, BoundFits}
-use Rattle.def_cert_text.specs.Fields.{Item, field, separator, items_text}
+use Rattle.def_cert_verdict.specs.Ranges.{IsPrintable, FractionFits, HeadFits, PlanWeightsFit, BoundFits}
+use Rattle.def_cert_text.specs.Fields.{space, feed, Item, field, separator, items_text}
+use Rattle.def_cert_text.specs.Numbers.{equals_zero}
 use Rattle.def_cert_text.specs.Formats.{Format, each_items, row_items}
-use Rattle.def_cert_text.specs.CertText.{head_lines, line_of_round, weights_line, value_line, bracket_line}
+use Rattle.def_cert_text.specs.CertText.{sum_field, sum_items, mass_line, asked_line, head_lines, line_of_round, weights_line, value_line, bracket_line}
 
 -- ---- numbers
 -- a number below 10 ^ k and 10 ^ 64 has at most k digits, where k is 1 at least
@@ -77,8 +78,19 @@ each_width A f size last k (x ∷ xs) low all =
     )
 
 -- ---- lines
--- the lines of a head that is within its ranges have together a width of 200 at most
-pub head_width : (head : Head) → HeadFits head → widths (head_lines.items head) ≤ 200
+-- what stands behind a unit has a width of 70 at most
+sum_width : (f : Fraction) → FractionFits most f → widths (sum_items f) ≤ 70
+sum_width f fits = by (equals_zero f)
+  where
+    width_of : length (fraction_text f) ≤ 64
+    width_of = few_of_fraction f (record { lowest = fits.lowest; num = omega (arith, fits.num); den = omega (arith, fits.den) })
+
+    by : (none : Bool) → widths (cond none (separator feed ∷ []) (separator space ∷ sum_field.items f)) ≤ 70
+    by true = omega arith
+    by false = omega (arith, width_of)
+
+-- the lines of a head that is within its ranges have together a width of 270 at most
+pub head_width : (head : Head) → HeadFits head → widths (head_lines.items head) ≤ 270
 head_width head fits =
     omega (
       arith,
@@ -91,6 +103,9 @@ head_width head fits =
       few_digits 7 head.sequences_two (omega arith) (omega (arith, fits.sequences_two.1))
           (omega (arith, fits.sequences_two.1)),
       few_digits 19 head.unit (omega arith) (omega (arith, fits.unit.1)) (omega (arith, fits.unit.1)),
+      sum_width head.sum fits.sum,
+      widths-append (sum_items head.sum) (mass_line.items head.mass),
+      widths-append (sum_items head.sum ++ mass_line.items head.mass) (asked_line.items (head.rounds, (head.every, head.scale))),
       few_digits 19 head.mass (omega arith) (omega (arith, fits.mass)) (omega (arith, fits.mass)),
       few_digits 5 head.rounds (omega arith) (omega (arith, fits.rounds)) (omega (arith, fits.rounds)),
       few_digits 5 head.every (omega arith) (omega (arith, fits.every.1)) (omega (arith, fits.every.1)),

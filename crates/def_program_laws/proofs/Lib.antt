@@ -4,5 +4,6 @@ mod CertificatesAreShort
 mod Solved
 mod Exploitability
 mod Sharp
+mod ForBoth
 mod Successes
 mod Statuses

@@ -1,7 +1,7 @@
 -- Worked rows: each number of a certificate's lines at the ends of its range, and one past them, where no row of a
 -- crate below says it. A number past its range is refused at its place in the line.
 use Rattle.std.specs.Prelude.{◌≡◌, ℕ, ◌^◌, true, false, List, [], codes, length, replicate, pos, Result, Ok, Err}
-use Rattle.def_fraction.specs.Fraction.{negative_of, over}
+use Rattle.def_fraction.specs.Fraction.{negative_of, over, whole_number, zero_fraction}
 use Rattle.def_cert_text.specs.declared.fault.CertFault.{CertFault}
 use Rattle.def_cert_text.specs.declared.fault.CertFault.TheVariants.{CertNumber}
 use Rattle.def_cert_text.specs.Formats.{Format}
@@ -29,10 +29,19 @@ pub record HeadRangeRows : Type 0 where
   pub no_sequence_of_two : read_alone sequences_line (codes "sequences 1 0\n") ≡ Err (CertNumber 12)
   pub many_sequences_of_one : read_alone sequences_line (codes "sequences 1048577 1\n") ≡ Err (CertNumber 10)
   pub many_sequences_of_two : read_alone sequences_line (codes "sequences 1 1048577\n") ≡ Err (CertNumber 12)
-  pub least_unit : read_alone unit_line (codes "unit 1\n") ≡ Ok (1, [])
-  pub most_unit : read_alone unit_line (codes "unit 4611686018427387904\n") ≡ Ok (4611686018427387904, [])
+  pub least_unit : read_alone unit_line (codes "unit 1\n") ≡ Ok ((1, zero_fraction), [])
+  pub most_unit : read_alone unit_line (codes "unit 4611686018427387904\n") ≡ Ok ((4611686018427387904, zero_fraction), [])
   pub no_unit : read_alone unit_line (codes "unit 0\n") ≡ Err (CertNumber 5)
   pub large_unit : read_alone unit_line (codes "unit 4611686018427387905\n") ≡ Err (CertNumber 5)
+  pub least_sum : read_alone unit_line (codes "unit 1 sum -4611686018427387904\n")
+      ≡ Ok ((1, whole_number (negative_of 4611686018427387904)), [])
+  pub most_sum : read_alone unit_line (codes "unit 1 sum 4611686018427387904\n")
+      ≡ Ok ((1, whole_number (pos 4611686018427387904)), [])
+  pub finest_sum : read_alone unit_line (codes "unit 1 sum 1/4611686018427387904\n")
+      ≡ Ok ((1, over (pos 1) 4611686018427387904), [])
+  pub no_sum : read_alone unit_line (codes "unit 1 sum 0\n") ≡ Err (CertNumber 11)
+  pub large_sum : read_alone unit_line (codes "unit 1 sum 4611686018427387905\n") ≡ Err (CertNumber 11)
+  pub fine_sum : read_alone unit_line (codes "unit 1 sum 1/4611686018427387905\n") ≡ Err (CertNumber 11)
   pub no_mass : read_alone mass_line (codes "mass 0\n") ≡ Ok (0, [])
   pub most_mass : read_alone mass_line (codes "mass 4611686018427387904\n") ≡ Ok (4611686018427387904, [])
   pub least_asked : read_alone asked_line (codes "rounds 0 every 1 scale 1\n") ≡ Ok ((0, (1, 1)), [])

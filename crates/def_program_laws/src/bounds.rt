@@ -1,9 +1,9 @@
-//! What the bounds and the answers of the program leave no room for. There is no code here: each function's contract is
-//! a law of the definitions, or rows that they give.
+//! What the bounds and the answers of the program leave no room for, and what bounds say of both players. There is no
+//! code here: each function's contract is a law of the definitions, or rows that they give.
 
 ghost use Rattle.def_program_laws.specs.Answers.{SuccessIsOfOneCheck, SuccessIsOfOneGame};
-ghost use Rattle.def_program_laws.specs.Bounds.{BoundsAreSharp, ExploitabilityIsOne};
-ghost use Rattle.def_program_laws.specs.BoundRows.{ExploitabilityRows};
+ghost use Rattle.def_program_laws.specs.Bounds.{BoundsAreSharp, BoundsHoldForBothPlayers, ExploitabilityIsOne};
+ghost use Rattle.def_program_laws.specs.BoundRows.{BothPlayersRows, ExploitabilityRows};
 
 /// Two plans have one total exploitability.
 pub fn exploitability_is_one()
@@ -19,6 +19,18 @@ pub fn exploitability_rows()
 /// plan concedes at most.
 pub fn bounds_are_sharp()
     ensures { BoundsAreSharp }
+{}
+
+/// LOW and HIGH bound what each player of an accepted file's game is expected to get, in the player's own payoffs, and
+/// are apart by what both players together could gain.
+pub fn bounds_hold_for_both_players()
+    ensures { BoundsHoldForBothPlayers }
+{}
+
+/// Rows: in matching pennies for one coin, of LOW 1/2 and HIGH 2/3 player two gets at most 1/2 and at least 1/3, and both
+/// players together could gain 1/6.
+pub fn both_players_rows()
+    ensures { BothPlayersRows }
 {}
 
 /// A successful `solve` or `drill` played one game, with one choice of settings, and wrote the text of just that.
