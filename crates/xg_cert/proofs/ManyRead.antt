@@ -54,7 +54,7 @@ each_done f front count i total bytes all none so_far =
 -- ---- the numbers of a set
 -- a number that isn't the last of its line joins the front, and behind it the rest of the row gives all that is read
 pub row_goes_on : (most : ℕ) (front : List ℕ) (more i total : ℕ) (bytes : List ℕ) (n : ℕ) (last : Bool) (left : List ℕ)
-    (all : Result (List ℕ × List ℕ) CertFault) → i < more → read_number most total bytes ≡ Ok ((n, last), left)
+    (all : Result (List ℕ × List ℕ) CertFault) → i < more → read_number 0 most total bytes ≡ Ok ((n, last), left)
     → last ≡ false
     → behind_front front (read_row most (more - i) total bytes) ≡ all
     → behind_front (front ++ n ∷ []) (read_row most (more - (i + 1)) total left) ≡ all
@@ -66,7 +66,7 @@ row_goes_on most front more i total bytes n last left all there one not_last so_
 
 -- a number that is the last of its line ends the row: all that is read is the front and this number
 pub row_ends : (most : ℕ) (front : List ℕ) (more i total : ℕ) (bytes : List ℕ) (n : ℕ) (last : Bool) (left : List ℕ)
-    (all : Result (List ℕ × List ℕ) CertFault) → i < more → read_number most total bytes ≡ Ok ((n, last), left)
+    (all : Result (List ℕ × List ℕ) CertFault) → i < more → read_number 0 most total bytes ≡ Ok ((n, last), left)
     → last ≡ true
     → behind_front front (read_row most (more - i) total bytes) ≡ all → all ≡ Ok (front ++ n ∷ [], left)
 unfolding read_row
@@ -77,7 +77,7 @@ row_ends most front more i total bytes n last left all there one is_last so_far 
 
 -- a fault at a number of a row, behind which more may come, is the fault of the whole row
 pub row_fails : (most : ℕ) (fault : CertFault) (front : List ℕ) (more i total : ℕ) (bytes : List ℕ)
-    (all : Result (List ℕ × List ℕ) CertFault) → i < more → read_number most total bytes ≡ Err fault
+    (all : Result (List ℕ × List ℕ) CertFault) → i < more → read_number 0 most total bytes ≡ Err fault
     → behind_front front (read_row most (more - i) total bytes) ≡ all → all ≡ Err fault
 unfolding read_row
 row_fails most fault front more i total bytes all there one so_far =

@@ -68,7 +68,7 @@ head-parts head =
     let size : List Item = size_line.items (head.nodes, head.leaves) in
     let sets : List Item = sets_line.items (head.sets_one, head.sets_two) in
     let sequences : List Item = sequences_line.items (head.sequences_one, head.sequences_two) in
-    let unit : List Item = unit_line.items head.unit in
+    let unit : List Item = unit_line.items (head.unit, head.sum) in
     let mass : List Item = mass_line.items head.mass in
     let counts : counts_text head ≡ items_text (size ++ (sets ++ sequences)) =
     ap (λ (bs : List ℕ). items_text size ++ bs) (sym (items_text-append sets sequences))

@@ -15,6 +15,7 @@ head_of head = record {
   sequences_one = head.sequences.0;
   sequences_two = head.sequences.1;
   unit = head.unit;
+  sum = head.sum;
   mass = head.mass;
   rounds = head.rounds;
   every = head.every;

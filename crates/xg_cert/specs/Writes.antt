@@ -21,4 +21,4 @@ counts_text head =
     ++ text_of sequences_line (head.sequences_one, head.sequences_two))
 
 abbrev pub units_text : Head → List ℕ
-units_text head = text_of unit_line head.unit ++ text_of mass_line head.mass
+units_text head = text_of unit_line (head.unit, head.sum) ++ text_of mass_line head.mass

@@ -5,13 +5,15 @@ ghost use Rattle.std.specs.Io.KnownBytes.{append_known};
 ghost use Rattle.def_outside.specs.Cause.{HasCause};
 ghost use Rattle.def_outside.specs.Sinks.{AppendsPrefix, Writes};
 ghost use Rattle.def_cert_text.specs.Fields.{space, feed, fixed_word, number, field, separator, items_text};
+ghost use Rattle.def_cert_text.specs.Numbers.{equals_zero};
 ghost use Rattle.def_cert_text.specs.Formats.{text_of};
-ghost use Rattle.def_cert_text.specs.CertText.{head_text, size_line};
+ghost use Rattle.def_cert_text.specs.CertText.{head_text, size_line, sum_field, unit_line};
 ghost use Rattle.xg_cert.specs.Outcome.{head_of};
 ghost use Rattle.xg_cert.specs.Writes.{counts_text, named_text, units_text};
 
-use crate::fields::{put_field, put_whole};
+use crate::fields::{put_field, put_small, put_whole};
 use crate::head::Head;
+use xg_frac::Frac;
 use xg_io::{Sink, WriteFault};
 
 /// Writes the lines 2 to 6 of the text, which are the game's. After an error a front of them was written. Takes no
@@ -55,8 +57,36 @@ fn put_units<O: Sink>(head: &Head, out: &mut O) -> Result<(), WriteFault>
     ensures text { Writes (O.written out.old) (O.written out.new) (units_text (head_of head.now)) result }
     ensures cause { HasCause (O.faults out.old) (O.faults out.new) result }
 {
-    put_named(b"unit", head.unit, b'\n', out)?;
+    put_unit_line(head.unit, head.sum, out)?;
     put_named(b"mass", head.mass, b'\n', out)
+}
+
+/// The unit, and the sum where it isn't 0.
+#[tactic(auto, using(crate::proofs::Written::first_two, crate::proofs::Written::then_two))]
+fn put_unit_line<O: Sink>(unit: u64, sum: Frac, out: &mut O) -> Result<(), WriteFault>
+    ensures text { Writes (O.written out.old) (O.written out.new) (text_of unit_line (unit, sum)) result }
+    ensures cause { HasCause (O.faults out.old) (O.faults out.new) result }
+{
+    if is_zero(sum) {
+        return put_named(b"unit", unit, b'\n', out);
+    }
+    put_named(b"unit", unit, b' ', out)?;
+    put_sum(sum, out)
+}
+
+fn is_zero(f: Frac) -> bool
+    ensures { result ≡ equals_zero f }
+{
+    f.num() == 0
+}
+
+#[tactic(auto, using(crate::proofs::Written::first_field, crate::proofs::Written::then_field, crate::proofs::Written::last_field))]
+fn put_sum<O: Sink>(sum: Frac, out: &mut O) -> Result<(), WriteFault>
+    ensures text { Writes (O.written out.old) (O.written out.new) (text_of sum_field sum) result }
+    ensures cause { HasCause (O.faults out.old) (O.faults out.new) result }
+{
+    put_field(b"sum", b' ', out)?;
+    put_small(sum, b'\n', out)
 }
 
 #[tactic(auto, using(crate::proofs::Written::first_two, crate::proofs::Written::then_two))]

@@ -1,11 +1,12 @@
 //! Reading the lines that have a field for each number.
 ghost use Rattle.std.specs.Prelude.{◌≡◌, ◌≤◌, ◌^◌, ℕ, IfOk};
 ghost use Rattle.std.specs.Fmt.{decimal};
+ghost use Rattle.def_fraction.specs.Fraction.{zero_fraction};
 ghost use Rattle.def_sums.specs.Limits.{most_rounds};
 ghost use Rattle.def_tree.specs.Rules.{most_nodes};
 ghost use Rattle.def_cert_text.specs.Fields.{space, feed, number};
 ghost use Rattle.def_cert_text.specs.Formats.{and_then, fixed_field, whole_field};
-ghost use Rattle.def_cert_text.specs.CertText.{after_word, size_line, game_lines, asked_line, head_lines, numbers_of_game, line_of_round, value_line, bracket_line};
+ghost use Rattle.def_cert_text.specs.CertText.{after_word, size_line, unit_line, mass_line, asked_line, head_lines, line_of_round, value_line, bracket_line};
 ghost use Rattle.xg_cert_fields.specs.Reading.{GivesValue};
 ghost use Rattle.xg_cert.specs.Outcome.{head_of};
 ghost use Rattle.xg_cert.specs.ReadCert.{set_reply_of, asked_of};
@@ -16,7 +17,7 @@ use def_reply::TraceLine;
 use def_sums::{MOST_MASS, MOST_ROUNDS, MOST_SCALE};
 use itoa::Buffer;
 use xg_cert_fields::FieldReader;
-use xg_frac::{MOST_PART, Ratio};
+use xg_frac::{Frac, MOST_PART, Ratio, whole};
 use xg_tree::{MOST_ACTIONS, MOST_NODES};
 
 /// What was asked of a run.
@@ -32,21 +33,6 @@ pub(crate) struct Asked {
 pub(crate) struct ValueLine {
     pub(crate) value: i128,
     pub(crate) choice: u32,
-}
-
-/// A word, and a number of this range.
-fn named_line(
-    reader: &mut FieldReader<'_>,
-    word: &[u8],
-    low: u64,
-    high: u64,
-) -> Result<u64, CertFault>
-    ensures exact { GivesValue (λ n. n) result reader.new.left
-        ((after_word word.now (whole_field low high feed)).read reader.old.total reader.old.left) }
-    ensures total { reader.new.total ≡ reader.old.total }
-{
-    reader.word(word, b' ')?;
-    reader.whole(low, high, b'\n')
 }
 
 fn size_line(reader: &mut FieldReader<'_>) -> Result<(u32, u32), CertFault>
@@ -72,6 +58,38 @@ fn pair_line(reader: &mut FieldReader<'_>, word: &[u8], low: u64) -> Result<(u32
     let one = reader.whole(low, MOST_NODES as u64, b' ')? as u32;
     let two = reader.whole(low, MOST_NODES as u64, b'\n')? as u32;
     Ok((one, two))
+}
+
+fn zero() -> Frac
+    ensures { result ≡ zero_fraction }
+{
+    match whole(0) {
+        Ok(zero) => zero,
+        Err(_) => unreachable!(),
+    }
+}
+
+/// The unit, and the sum, which stands there where it isn't 0.
+fn unit_line(reader: &mut FieldReader<'_>) -> Result<(u64, Frac), CertFault>
+    ensures exact { GivesValue (λ p. p) result reader.new.left (unit_line.read reader.old.total reader.old.left) }
+    ensures total { reader.new.total ≡ reader.old.total }
+{
+    reader.word(b"unit", b' ')?;
+    let unit = reader.number_with_end(1, MOST_PART as u64)?;
+    if unit.last {
+        return Ok((unit.number, zero()));
+    }
+    reader.word(b"sum", b' ')?;
+    let sum = reader.nonzero(b'\n')?;
+    Ok((unit.number, sum))
+}
+
+fn mass_line(reader: &mut FieldReader<'_>) -> Result<u64, CertFault>
+    ensures exact { GivesValue (λ n. n) result reader.new.left (mass_line.read reader.old.total reader.old.left) }
+    ensures total { reader.new.total ≡ reader.old.total }
+{
+    reader.word(b"mass", b' ')?;
+    reader.whole(0, MOST_MASS, b'\n')
 }
 
 fn asked_line(reader: &mut FieldReader<'_>) -> Result<Asked, CertFault>
@@ -104,8 +122,8 @@ pub(crate) fn head_lines(reader: &mut FieldReader<'_>) -> Result<Head, CertFault
     let (nodes, leaves) = size_line(reader)?;
     let sets = pair_line(reader, b"sets", 0)?;
     let sequences = pair_line(reader, b"sequences", 1)?;
-    let unit = named_line(reader, b"unit", 1, MOST_PART as u64)?;
-    let mass = named_line(reader, b"mass", 0, MOST_MASS)?;
+    let (unit, sum) = unit_line(reader)?;
+    let mass = mass_line(reader)?;
     let asked = asked_line(reader)?;
     Ok(Head {
         nodes,
@@ -113,6 +131,7 @@ pub(crate) fn head_lines(reader: &mut FieldReader<'_>) -> Result<Head, CertFault
         sets,
         sequences,
         unit,
+        sum,
         mass,
         rounds: asked.rounds,
         every: asked.every,

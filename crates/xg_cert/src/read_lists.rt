@@ -85,7 +85,7 @@ fn row(reader: &mut FieldReader<'_>, numbers: &mut Vec<u64>) -> Result<(), CertR
     ensures total { reader.new.total ≡ reader.old.total }
 {
     'items: for _ in 0..MORE {
-        let item = reader.row_number(MOST_ROOT)?;
+        let item = reader.number_with_end(0, MOST_ROOT)?;
         numbers.push(item.number)?;
         if item.last {
             return Ok(());

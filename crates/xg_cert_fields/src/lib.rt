@@ -6,4 +6,4 @@ mod numbers;
 mod reader;
 
 pub use def_cert_text::CertFault;
-pub use reader::{FieldReader, RowNumber};
+pub use reader::{EndedNumber, FieldReader};

@@ -1,17 +1,17 @@
 //! Numbers as fields.
-ghost use Rattle.std.specs.Prelude.{◌≡◌, ◌<◌, ◌≤◌, ◌≤ℤ◌, ◌==◌, if◌then◌else◌, length, min, pos, unsigned_abs, Some, None, IfSome, IsTrue};
+ghost use Rattle.std.specs.Prelude.{◌≡◌, ◌<◌, ◌≤◌, ◌≤ℤ◌, ◌==◌, ◌&&◌, not, if◌then◌else◌, length, min, pos, unsigned_abs, Some, None, IfSome, IsTrue};
 ghost use Rattle.std.specs.List.{prefix_len};
 ghost use Rattle.std.specs.Str.{all_ascii_digits};
 ghost use Rattle.def_fraction.specs.Digits.{is_numeral, number_of};
 ghost use Rattle.def_fraction.specs.Divisors.{gcd};
-ghost use Rattle.def_fraction.specs.Fraction.{whole_number};
-ghost use Rattle.def_cert_text.specs.Numbers.{fraction_in, integer_in, is_no_slash, leads_no_zero, over_in, whole_in};
+ghost use Rattle.def_fraction.specs.Fraction.{fits, most, whole_number};
+ghost use Rattle.def_cert_text.specs.Numbers.{equals_zero, fraction_in, integer_in, is_no_slash, leads_no_zero, nonzero_in, over_in, whole_in};
 ghost use Rattle.xg_frac.specs.Scan.{past_all};
 ghost use Rattle.def_cert_verdict.specs.Ranges.{most_printed};
 
 use def_cert_verdict::ranges::MOST_PRINTED;
 use def_fraction::NumberFault;
-use xg_frac::{PAST, Ratio, ratio, read_whole};
+use xg_frac::{Frac, MOST_PART, PAST, Ratio, ratio, read_literal, read_whole};
 
 fn leads_no_zero(field: &[u8]) -> bool
     ensures { result ≡ leads_no_zero field.now }
@@ -121,4 +121,22 @@ pub(crate) fn fraction_in(field: &[u8]) -> Option<Ratio>
             in_lowest_terms(num, den as i128)
         }
     }
+}
+
+fn is_small_nonzero(fraction: Ratio) -> bool
+    ensures { result ≡ (not (equals_zero fraction) && fits fraction) }
+{
+    let size = fraction.num().unsigned_abs();
+    size != 0 && size <= MOST_PART && fraction.den().unsigned_abs() <= MOST_PART
+}
+
+/// A fraction in lowest terms that isn't 0, with small parts.
+pub(crate) fn nonzero_in(field: &[u8]) -> Option<Frac>
+    ensures { result ≡ nonzero_in most field.now }
+{
+    let fraction = fraction_in(field)?;
+    if !is_small_nonzero(fraction) {
+        return None;
+    }
+    read_literal(field).ok()
 }

@@ -2,15 +2,16 @@
 ghost use Rattle.std.specs.Prelude.{◌≡◌, ◌^◌, ◌<◌, ◌≤◌, ◌-◌, length, IfOk, take, drop, Some, None, [], ◌∷◌};
 ghost use Rattle.std.specs.List.{prefix_len};
 ghost use Rattle.def_cert_text.specs.Fields.{fixed_word, number, version, is_field_byte, separated_by};
-ghost use Rattle.def_cert_text.specs.Formats.{fixed_field, whole_field, integer_field, fraction_field, read_number};
+ghost use Rattle.def_cert_text.specs.Formats.{fixed_field, whole_field, integer_field, fraction_field, nonzero_field, read_number};
 ghost use Rattle.def_cert_text.specs.CertText.{if_at_end};
+ghost use Rattle.def_fraction.specs.Fraction.{most};
 ghost use Rattle.def_cert_verdict.specs.Ranges.{most_printed};
 ghost use Rattle.xg_cert_fields.specs.Reading.{GivesValue};
 
-use crate::numbers::{fraction_in, integer_in, whole_in};
+use crate::numbers::{fraction_in, integer_in, nonzero_in, whole_in};
 use def_cert_text::CertFault;
 use std::marker::Model;
-use xg_frac::Ratio;
+use xg_frac::{Frac, Ratio};
 
 /// Reads a text from front to back.
 ///
@@ -32,9 +33,9 @@ impl<'a> Model for FieldReader<'a> {
     ghost invariant = { λ r. length r.left.now ≤ r.total };
 }
 
-/// A number of a line of many, and whether it is the last one.
+/// A number, and whether its line ends behind it.
 #[derive(Clone, Copy, Debug, PartialEq, Eq)]
-pub struct RowNumber {
+pub struct EndedNumber {
     pub number: u64,
     pub last: bool,
 }
@@ -183,11 +184,31 @@ impl<'a> FieldReader<'a> {
         Ok(fraction)
     }
 
-    /// A whole number of a line of many, up to `most`, with a space or a line feed behind it.
+    /// A fraction in lowest terms that isn't 0 and whose parts are at most 2^62 in size.
+    #[tactic(auto, unfolding(def_cert_text::specs::Fields::read_field))]
+    pub fn nonzero(&mut self, separator: u8) -> Result<Frac, CertFault>
+        ensures exact { GivesValue (λ f. f) result self.new.left
+            ((nonzero_field most separator).read self.old.total self.old.left) }
+        ensures total { self.new.total ≡ self.old.total }
+    {
+        let at = self.total - self.left.len();
+        let (field, left) = self.left.split_at(field_len(self.left));
+        if left.is_empty() {
+            return Err(CertFault::CertShort);
+        }
+        let Some(fraction) = nonzero_in(field) else {
+            return Err(CertFault::CertNumber { at });
+        };
+        self.left = left;
+        self.separator(separator)?;
+        Ok(fraction)
+    }
+
+    /// A whole number of a range, with a space or a line feed behind it.
     #[tactic(auto, unfolding(def_cert_text::specs::Formats::read_number))]
-    pub fn row_number(&mut self, most: u64) -> Result<RowNumber, CertFault>
+    pub fn number_with_end(&mut self, low: u64, high: u64) -> Result<EndedNumber, CertFault>
         ensures exact { GivesValue (λ n. (n.number, n.last)) result self.new.left
-            (read_number most self.old.total self.old.left) }
+            (read_number low high self.old.total self.old.left) }
         ensures total { self.new.total ≡ self.old.total }
     {
         let at = self.total - self.left.len();
@@ -195,11 +216,11 @@ impl<'a> FieldReader<'a> {
         let [end, left @ ..] = left else {
             return Err(CertFault::CertShort);
         };
-        let Some(n) = whole_in(0, most as u128, field) else {
+        let Some(n) = whole_in(low as u128, high as u128, field) else {
             return Err(CertFault::CertNumber { at });
         };
         self.left = left;
-        Ok(RowNumber {
+        Ok(EndedNumber {
             number: n as u64,
             last: *end == b'\n',
         })

@@ -1,7 +1,7 @@
 //! The tests of the head.
 ghost use Rattle.std.specs.Prelude.{◌≡◌, ◌==◌, ◌&&◌, length};
 ghost use Rattle.def_plan.specs.Form.{sequence_count};
-ghost use Rattle.def_cert_verdict.specs.Verdict.{first_failing, head_tests};
+ghost use Rattle.def_cert_verdict.specs.Verdict.{first_failing, head_tests, is_same_fraction};
 ghost use Rattle.xg_cert.specs.Outcome.{head_of};
 
 use def_cert_verdict::TestFault;
@@ -33,6 +33,13 @@ fn has_sequences(numbers: &Numbers, head: &Head) -> bool
         && head.sequences.1 == form.sequence_count(Player::Two)
 }
 
+fn has_unit(numbers: &Numbers, head: &Head) -> bool
+    ensures { result ≡ (head.now.unit == numbers.now.unit && is_same_fraction head.now.sum numbers.now.sum) }
+{
+    let (printed, sum) = (head.sum, numbers.sum());
+    head.unit == numbers.unit() && (printed.num() == sum.num() && printed.den() == sum.den())
+}
+
 /// The first line of the head that isn't the game's.
 pub(crate) fn head_fault(numbers: &Numbers, head: &Head) -> Option<TestFault>
     ensures { result ≡ first_failing (head_tests numbers.now (head_of head.now)) }
@@ -46,7 +53,7 @@ pub(crate) fn head_fault(numbers: &Numbers, head: &Head) -> Option<TestFault>
     if !has_sequences(numbers, head) {
         return Some(TestFault::HeadDiffers { line: 4 });
     }
-    if head.unit != numbers.unit() {
+    if !has_unit(numbers, head) {
         return Some(TestFault::HeadDiffers { line: 5 });
     }
     if head.mass != numbers.mass() {

@@ -149,8 +149,8 @@ pub(crate) fn judge(alloc: Global, numbers: &Numbers, cert: &Cert) -> Result<Ver
     ensures order_two { AreInOrder numbers.now.form.sets_two }
     ensures some_unit { 1 ≤ numbers.now.unit }
 {
-    let _unit = numbers.unit();
     numbers.form().facts();
+    numbers.facts();
     match first_fault(alloc, numbers, cert) {
         Ok(Some(fault)) => Err(as_check_fault(fault)),
         Ok(None) => Ok(shown_by(cert)),

@@ -32,6 +32,7 @@ head_with game settings = record {
   sequences_one = sequence_count game.form.sets_one;
   sequences_two = sequence_count game.form.sets_two;
   unit = game.unit;
+  sum = game.sum;
   mass = mass_of game.form.leaves;
   rounds = settings.rounds;
   every = settings.every;

@@ -27,6 +27,7 @@ pub fn head_with(numbers: &Numbers, settings: Settings) -> Head
             form.sequence_count(Player::Two),
         ),
         unit: numbers.unit(),
+        sum: numbers.sum(),
         mass: numbers.mass(),
         rounds: settings.rounds,
         every: settings.every,

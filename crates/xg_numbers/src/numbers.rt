@@ -12,17 +12,20 @@ ghost use Rattle.def_game_numbers.specs.Weighed.{weighed_game};
 
 use std::alloc::Global;
 use std::marker::Model;
+use xg_frac::Frac;
 use xg_game::{FileFault, Game, Refused};
 use xg_scale::{Weights, weigh};
 use xg_seq::SeqForm;
 use xg_sets::{RecallFault, Sets, build_sets};
 use xg_tree::Tree;
 
-/// A game in numbers: how many nodes it has, and its sequence form with the unit and the mass of its weights.
+/// A game in numbers: how many nodes it has, what each leaf pays both players together, and its sequence form with the
+/// unit and the mass of its weights.
 #[derive(Drop)]
 pub struct Numbers {
     form: SeqForm,
     nodes: u32,
+    sum: Frac,
     unit: u64,
     mass: u64,
 }
@@ -33,7 +36,7 @@ impl Model for Numbers {
 
     ghost Value = { WeighedGame };
 
-    ghost view = { λ n. record { nodes = n.nodes; unit = n.unit; form = n.form } };
+    ghost view = { λ n. record { nodes = n.nodes; sum = n.sum; unit = n.unit; form = n.form } };
 
     ghost invariant = { λ n. KeepsNumbers n.form n.unit n.mass };
 }
@@ -52,6 +55,7 @@ impl Numbers {
         Ok(Numbers {
             form,
             nodes: game.tree().len(),
+            sum: weights.sum(),
             unit: weights.unit(),
             mass: weights.mass(),
         })
@@ -65,7 +69,7 @@ impl Numbers {
         ensures refused { (fault : FileFault) → result ≡ Err (Refused.File fault) → game_file_fault game ≡ Some fault }
     {
         let weights = weigh(alloc, &game)?;
-        let (unit, mass) = (weights.unit(), weights.mass());
+        let (sum, unit, mass) = (weights.sum(), weights.unit(), weights.mass());
         let tree = game.into_tree();
         let sets = sets_of(alloc, &tree)?;
         let form = form_of(alloc, &tree, &weights, &sets)?;
@@ -73,6 +77,7 @@ impl Numbers {
         Ok(Numbers {
             form,
             nodes,
+            sum,
             unit,
             mass,
         })
@@ -85,6 +90,13 @@ impl Numbers {
         self.nodes
     }
 
+    /// What each leaf pays both players together.
+    pub fn sum(&self) -> Frac
+        ensures { result ≡ self.now.sum }
+    {
+        self.sum
+    }
+
     /// The number by which reach times payoff is multiplied.
     pub fn unit(&self) -> u64
         ensures unit { result ≡ self.now.unit }
@@ -94,6 +106,14 @@ impl Numbers {
         ensures limit { result ≤ most }
     {
         self.unit
+    }
+
+    /// Does nothing: its clauses are what is true of all numbers.
+    pub fn facts(&self)
+        ensures positive { 1 ≤ self.now.unit }
+        ensures limit { self.now.unit ≤ most }
+    {
+        let _unit = self.unit();
     }
 
     /// The sum of the sizes of the weights.

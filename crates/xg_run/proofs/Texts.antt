@@ -5,6 +5,7 @@ use Rattle.std.proofs.lemmas.List.{take_all, take_more}
 use Rattle.def_tree.specs.Tree.{node_count}
 use Rattle.def_file_tokens.specs.Texts.{escaped}
 use Rattle.def_file.specs.Content.{GameFile}
+use Rattle.def_game_scale.specs.Tables.{game_sum}
 use Rattle.def_game_scale.specs.Scale.{game_unit}
 use Rattle.def_game_numbers.specs.Numbers.{tables_of}
 use Rattle.def_plan.specs.Form.{SequenceForm, sequence_count}
@@ -62,6 +63,7 @@ run_head_is game settings = λ i. record {
   sequences_one = sequence_count (form_of_file game).sets_one;
   sequences_two = sequence_count (form_of_file game).sets_two;
   unit = game_unit (tables_of game) game.tree;
+  sum = game_sum (tables_of game) game.tree;
   mass = form_has_the_mass.of_game (tables_of game) game.tree i;
   rounds = settings.rounds;
   every = settings.every;

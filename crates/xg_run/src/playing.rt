@@ -119,7 +119,7 @@ fn write_unplayed<O: Sink>(
     ensures { Tells (solve_text accepted.now (settings_seen settings)) (sink_call O.Sink out.old out.new) result }
 {
     let numbers = accepted.numbers();
-    numbers.unit();
+    numbers.facts();
     let outcome = Outcome::new(accepted.head(settings), Vec::new(alloc), None);
     let certificate = CertificateText {
         form: numbers.form(),

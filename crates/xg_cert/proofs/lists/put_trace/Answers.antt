@@ -1,8 +1,4 @@
-use Rattle.std.proofs.Common.{◌<◌, ◌∙◌, length, sym, subst, ap, arith, rules}
-use Rattle.std.specs.Io.KnownBytes.{append_known}
-use Rattle.def_outside.specs.Sinks.{AppendsPrefix}
-use Rattle.def_reply.specs.declared.TraceLine.{TraceLine}
-use Rattle.def_cert_text.specs.Formats.{text_of}
+use Rattle.std.proofs.Common.{◌<◌, ◌∙◌, length, arith, rules}
 use Rattle.def_cert_text.specs.CertText.{line_of_round}
 use Rattle.xg_cert.proofs.Written.{each_step, each_fail, each_end}
 use Rattle.xg_cert.proofs.lists.put_trace.Goals as goal

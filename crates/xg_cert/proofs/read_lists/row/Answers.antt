@@ -12,13 +12,13 @@ returns-in_err-item-clause-exact c =
     let bytes = c.items.reader.left in
     rw (p.1, p.2) (front_fails c.args.numbers.now.items _ c.in_err-item.field-0.0
     (row_fails most_root c.in_err-item.field-0.0 c.items.numbers.items 1023 c.items.counter _ bytes _ c.items-test.true
-    (ap (λ (t : ℕ). read_number most_root t bytes) (sym c.items.invariant.total) ∙ c.in_err-item.ensures.exact) c.items.invariant.rest))
+    (ap (λ (t : ℕ). read_number 0 most_root t bytes) (sym c.items.invariant.total) ∙ c.in_err-item.ensures.exact) c.items.invariant.rest))
 
 pub returns-then-item-clause-exact : goal.returns-then-item-clause-exact
 returns-then-item-clause-exact c =
     let bytes = c.items.reader.left in
     rw c.in_ok-push.ensures.items (row_ends most_root c.items.numbers.items 1023 c.items.counter _ bytes c.in_ok-item.item.number c.in_ok-item.item.last _ _ c.items-test.true
-    (ap (λ (t : ℕ). read_number most_root t bytes) (sym c.items.invariant.total) ∙ c.in_ok-item.ensures.exact) c.if-item.true c.items.invariant.rest)
+    (ap (λ (t : ℕ). read_number 0 most_root t bytes) (sym c.items.invariant.total) ∙ c.in_ok-item.ensures.exact) c.if-item.true c.items.invariant.rest)
 
 pub items-preserved : goal.items-preserved
 items-preserved c =
@@ -26,7 +26,7 @@ items-preserved c =
     record {
       total = c.in_ok-item.ensures.total ∙ c.items.invariant.total;
       rest = rw c.in_ok-push.ensures.items (row_goes_on most_root c.items.numbers.items 1023 c.items.counter _ bytes c.in_ok-item.item.number c.in_ok-item.item.last _ _ c.items-test.true
-          (ap (λ (t : ℕ). read_number most_root t bytes) (sym c.items.invariant.total) ∙ c.in_ok-item.ensures.exact) c.if-item.false c.items.invariant.rest);
+          (ap (λ (t : ℕ). read_number 0 most_root t bytes) (sym c.items.invariant.total) ∙ c.in_ok-item.ensures.exact) c.if-item.false c.items.invariant.rest);
     }
 
 pub returns-in_err-number-clause-exact : goal.returns-in_err-number-clause-exact

@@ -28,8 +28,9 @@ returns-clause-opened c =
     let stands = stands_on_answers game answer c.in_ok-sets.sets c.in_ok-weights.ensures.exact (ap sets_or_break (sym c.tree.ensures.tree) ∙ c.in_ok-sets.ensures.sets) in
     let nodes : c.len.result ≡ node_count game.tree = c.len.ensures.count ∙ ap node_count c.tree-3.ensures.tree in
     let unit = c.unit.ensures.unit ∙ sym (ap (λ (w : GameWeights). w.unit) given) in
+    let sum = c.sum.ensures ∙ sym (ap (λ (w : GameWeights). w.sum) given) in
     let form = c.in_ok-form.ensures.form ∙ ap (λ (t : Forest). form_of t answer.leaves) c.tree-2.ensures.tree ∙ stands.form in
-    λ i. record { nodes = nodes i; unit = unit i; form = form i }
+    λ i. record { nodes = nodes i; sum = sum i; unit = unit i; form = form i }
 
 pub returns-clause-faultless : goal.returns-clause-faultless
 returns-clause-faultless c =
