@@ -28,8 +28,8 @@ const NO_FILE: &str = "solve nofile --rounds 0";
 
 const NO_CERTIFICATE: &str = "check game nofile";
 
-/// The payoffs at node 5 don't add up to 0.
-const NOT_ZERO_SUM: &str = r#"EFG 2 R "Sum" { "A" "B" }
+/// The payoffs at node 5 don't add up to what those at node 3 do.
+const NOT_CONSTANT_SUM: &str = r#"EFG 2 R "Sum" { "A" "B" }
 c "" 1 "" { "g" 0.5 "b" 0.5 } 0
 p "" 1 1 "" { "H" "L" } 0
 t "" 1 { 4, -4 }
@@ -105,7 +105,7 @@ static FILES_THAT_FAIL: [Case; 5] = [
     },
     Case {
         words: NO_CERTIFICATE,
-        game: NOT_ZERO_SUM,
+        game: NOT_CONSTANT_SUM,
         read: NEVER,
         ..READ_FAULT
     },
@@ -160,7 +160,7 @@ static STREAMS_THAT_FAIL: [Case; 5] = [
 /// Each status from 1 to 4 where `err` fails at its first write, and where it takes five bytes and fails at its second.
 static LINES_THAT_FAIL: [Case; 9] = [
     Case {
-        game: NOT_ZERO_SUM,
+        game: NOT_CONSTANT_SUM,
         out: AMPLE,
         err: FAILS_AT_ONCE,
         status: 1,
