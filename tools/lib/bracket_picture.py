@@ -101,8 +101,17 @@ def frame(canvas, x_axis, y_axis, units):
     return parts
 
 
-def picture(text, title, player, value=None, is_log=False, canvas=WIDE):
-    """The picture of a text that has a trace, with the name of player one; a title and a known value or None."""
+def for_player_two(text, player):
+    """What a text's bracket says of player two's own payoff, or None where that is player one's with the sign turned."""
+    if text.sum == 0:
+        return None
+    least = bound("LOW", text.sum - text.high)
+    return f"Both payoffs add up to {text.sum}: {player}'s plan gets at least {text.sum} less HIGH, {least}"
+
+
+def picture(text, title, player, value=None, is_log=False, canvas=WIDE, below=None):
+    """The picture of a text that has a trace, with the name of player one; a title, a line below it and a known value,
+    or None."""
     rows = [(row[0], *text.bracket_after(row)) for row in text.trace]
     heights = [it for row in rows for it in row[1:]] + ([value] if value is not None else [])
     room = (max(heights) - min(heights)) / 20 or Fraction(1, 2)
@@ -117,6 +126,7 @@ def picture(text, title, player, value=None, is_log=False, canvas=WIDE):
         f' font-family="sans-serif" font-size="{canvas.letters}">',
         f'<rect width="{width}" height="{height}" fill="white"/>',
         *([label(canvas.left, 24, title, 'font-size="14"')] if title is not None else []),
+        *([label(canvas.left, 38, below, 'font-size="11"')] if below is not None else []),
         *frame(canvas, x_axis, y_axis, f"{player}'s payoff{canvas.units}"),
     ]
     beside = canvas.right + 6

@@ -27,12 +27,12 @@ class End:
 
 
 class Text:
-    """A text. `form` is its first line. `ends` has the plan of player one and of player two, each with the other's
-    reply; without rounds it is None, as are `low` and `high`."""
+    """A text. `form` is its first line, and `sum` what each leaf pays both players together. `ends` has the plan of
+    player one and of player two, each with the other's reply; without rounds it is None, as are `low` and `high`."""
 
     def __init__(self, form):
         self.form = form
-        self.nodes = self.leaves = self.sets = self.sequences = self.unit = self.mass = None
+        self.nodes = self.leaves = self.sets = self.sequences = self.unit = self.sum = self.mass = None
         self.rounds = self.every = self.scale = None
         self.trace, self.ends, self.low, self.high = [], None, None, None
 
@@ -76,7 +76,7 @@ def read_version_1(lines, text):
     text.nodes, text.leaves = lines.counts("nodes N leaves N", "the line of nodes and leaves")
     text.sets = lines.counts("sets N N", "the line of sets")
     text.sequences = lines.counts("sequences N N", "the line of sequences")
-    (text.unit,) = lines.counts("unit N", "the line of the unit")
+    read_unit(lines, text)
     (text.mass,) = lines.counts("mass N", "the line of the mass")
     text.rounds, text.every, text.scale = lines.counts("rounds N every N scale N", "the line of the rounds")
     if 0 in (text.unit, text.every, text.scale):
@@ -87,6 +87,15 @@ def read_version_1(lines, text):
     if lines.rest:
         raise Fault(f"line {lines.number + 1} comes after the end")
     return text
+
+
+def read_unit(lines, text):
+    """The unit, and the sum behind it where that isn't 0."""
+    what = "the line of the unit"
+    unit, told = lines.take(rf"unit ({COUNT})(?: sum ({FRACTION}))?", what)
+    text.unit, text.sum = int(unit), Fraction(told or 0)
+    if told is not None and (text.sum == 0 or str(text.sum) != told):
+        raise Fault(f"line {lines.number} isn't {what}")
 
 
 def read_outcome(lines, text):
@@ -121,7 +130,7 @@ def lines_of_version_1(text):
         f"nodes {text.nodes} leaves {text.leaves}",
         "sets {} {}".format(*text.sets),
         "sequences {} {}".format(*text.sequences),
-        f"unit {text.unit}",
+        f"unit {text.unit} sum {text.sum}" if text.sum else f"unit {text.unit}",
         f"mass {text.mass}",
         f"rounds {text.rounds} every {text.every} scale {text.scale}",
     )

@@ -35,8 +35,8 @@ class Audit:
     def __init__(self, game, text):
         compare_head(game, text)
         self.game, self.text, self.form = game, text, sequence_form.weigh(game)
-        if (self.form.unit, self.form.mass) != (text.unit, text.mass):
-            raise Differs("the text is of another game: its unit or its mass isn't that of the game file")
+        if (self.form.unit, Fraction(*self.form.total), self.form.mass) != (text.unit, text.sum, text.mass):
+            raise Differs("the text is of another game: its unit, its sum or its mass isn't that of the game file")
         self.plans = (None, numbers_of(game, 1, text.ends[0]), numbers_of(game, 2, text.ends[1]))
         replies = {player: tested_reply(self, player) for player in (1, 2)}
         test_bracket(text)

@@ -52,7 +52,7 @@ def summary(audit):
     """The numbers of both plans, each with what it says, and how it is rounded."""
     one, two = (player_name(audit.game, player) for player in (1, 2))
     text = audit.text
-    return [
+    rows = [
         (f"LOW: {one}'s plan gets at least this against every plan of {two}", text.low, DOWN),
         (f"HIGH: {two}'s plan concedes at most this to every plan of {one}", text.high, UP),
         (f"{one} gets this where both plans meet", audit.pay, NEAREST),
@@ -60,6 +60,18 @@ def summary(audit):
         (f"{two} would gain this by a best response to {one}'s plan", audit.gains[2], UP),
         ("HIGH less LOW, the total exploitability: both gains together", text.high - text.low, UP),
     ]
+    return rows + player_two_rows(audit)
+
+
+def player_two_rows(audit):
+    """What both bounds say of player two's own payoff, where it isn't just player one's with the sign turned."""
+    one, two = (player_name(audit.game, player) for player in (1, 2))
+    text, whole = audit.text, audit.text.sum
+    if whole == 0:
+        return []
+    least = f"{whole} less HIGH, in {two}'s payoff: {two}'s plan gets at least this against every plan of {one}"
+    most = f"{whole} less LOW, in {two}'s payoff: no plan of {two} is sure of more than this"
+    return [(least, whole - text.high, DOWN), (most, whole - text.low, UP)]
 
 
 def losing(audit):
@@ -71,9 +83,11 @@ def losing(audit):
 def notes(audit):
     """How the numbers are to be read: payoffs, gains, and the columns of sets."""
     one, two = (player_name(audit.game, player) for player in (1, 2))
+    whole = audit.text.sum
+    together = f" At each end both payoffs add up to {whole}: {two} gets {whole} less what {one} gets." if whole else ""
     return [
         f"Payoffs are {one}'s, in the units of the game file: {one} wants them high, {two} low. The value of the game"
-        " lies between LOW and HIGH.",
+        f" lies between LOW and HIGH.{together}",
         f"Each player's best response answers the other one's plan. What {one}'s plan loses at {one}'s sets adds up to"
         f" what {one} would gain by it, and so for {two}. So {two}'s sets show how {one}'s plan is exploited, and"
         f" {one}'s sets how {two}'s plan is.",
