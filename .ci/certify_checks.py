@@ -152,7 +152,7 @@ FAULTS = [
 
 def round_trips(checks):
     """A profile that was printed of a text comes back with the text's replies, totals and bracket."""
-    for name in ("kuhn_poker", "toll"):
+    for name in ("kuhn_poker", "toll", "networks"):
         game, told = GAMES / f"{name}.efg", TEXTS / f"{name}.xgcert"
         _, profile, _ = tool("plan_table", "--profile", game, told)
         status, out, said = tool("certify", game, stdin=profile)
@@ -186,6 +186,7 @@ def against_pure(checks, folder):
         strategies = {player: game.strategy(player) for player in (1, 2)}
         status, out, said = tool("certify", file, stdin=profile_of(strategies))
         text = certificate.read_text(out)
+        checks.that(f"the sum of\n{game.data().decode()}", text.sum == game.sum, f"{text.sum}, {game.sum}")
         low, high = game.bracket(strategies)
         most = {end: Fraction(told) for end, told in re.findall(r"(LOW|HIGH) by at most (\S+)", said.decode())}
         rounded += bool(most)

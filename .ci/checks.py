@@ -20,14 +20,15 @@ NO_MEMORY = b"want of memory\n"
 ONE_LEAF = b'EFG 2 R "" { "A" "B" }\nt "" 1 { 0, 0 }\n'
 
 
-def text(nodes, leaves, sets=(0, 0), sequences=(1, 1), unit=1, mass=0):
-    """What is printed for a game with these numbers that is solved in no rounds."""
+def text(nodes, leaves, sets=(0, 0), sequences=(1, 1), unit=1, mass=0, total=0):
+    """What is printed for a game with these numbers that is solved in no rounds. Each leaf pays both players together the
+    total."""
     lines = [
         "XGCERT 1",
         f"nodes {nodes} leaves {leaves}",
         f"sets {sets[0]} {sets[1]}",
         f"sequences {sequences[0]} {sequences[1]}",
-        f"unit {unit}",
+        f"unit {unit} sum {total}" if total else f"unit {unit}",
         f"mass {mass}",
         "rounds 0 every 1 scale 1048576",
         "end",

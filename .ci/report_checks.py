@@ -15,10 +15,13 @@ import certificate  # noqa: E402
 import efg  # noqa: E402
 import losses  # noqa: E402
 import report_tree  # noqa: E402
+import report_words  # noqa: E402
 import sequence_form  # noqa: E402
 
 GAMES, TEXTS = ROOT / "games", ROOT / ".ci" / "tool_texts"
 KUHN, KUHN_TEXT = GAMES / "kuhn_poker.efg", TEXTS / "kuhn_poker.xgcert"
+NETWORKS = GAMES / "networks.efg"
+DIFFERS = b"its unit, its sum or its mass isn't that of the game file"
 HTML, SVG = "{http://www.w3.org/1999/xhtml}", "{http://www.w3.org/2000/svg}"
 VOID = {"meta"}
 TAGS = set(
@@ -146,6 +149,7 @@ def pages(checks, folder):
     for game, text in [
         (KUHN, KUHN_TEXT.read_bytes()),
         (GAMES / "toll.efg", (TEXTS / "toll.xgcert").read_bytes()),
+        (GAMES / "networks.efg", (TEXTS / "networks.xgcert").read_bytes()),
         (nasty, tool("certify", nasty, stdin=b"NE,1/2,1/4,1/4,1/3,2/3,1")[1]),
         (made, tool("certify", made, stdin=equal_profile(made.read_bytes()))[1]),
         (GAMES / "one_mover.efg", tool("certify", GAMES / "one_mover.efg", stdin=b"NE,1/2,1/2")[1]),
@@ -177,6 +181,8 @@ def numbers_of_bracket(checks, what, page, plain, text):
     exact = [texts_of(row[2]) for row in table.iter(f"{HTML}tr")][1:]
     checks.that(f"{what}: the bracket", exact[:2] == [str(text.low), str(text.high)], f"{exact}")
     checks.that(f"{what}: the gap", Fraction(exact[5]) == text.high - text.low, f"{exact}")
+    second = [text.sum - text.high, text.sum - text.low] if text.sum else []
+    checks.that(f"{what}: player two's own payoff", list(map(Fraction, exact[6:])) == second, f"{exact}, want {second}")
     gains = list(map(Fraction, exact[2:5]))
     checks.that(f"{what}: both gains", gains == [gains[0], text.high - gains[0], gains[0] - text.low], f"{exact}")
     checks.that(f"{what}: in plain text", all(it in plain for it in exact), plain)
@@ -201,8 +207,17 @@ def what_is_said(checks, folder):
         checks.that(row, re.search(f"^{row}$", plain, re.M), plain)
     lost = [float(it) for it in re.findall(r"%  +(\S+)$", plain.split("lose most")[1].split("\n\n")[0], re.M)]
     checks.that("what loses most stands first", len(lost) == 4 and lost == sorted(lost, reverse=True), f"{lost}")
+    plain = tool("report", "--text", NETWORKS, TEXTS / "networks.xgcert")[1].decode()
+    # LOW is about 44.2917, and HIGH 48.04996.
+    rows = [r"51\.950042 +\S+ +100 less HIGH, in Second's payoff: Second's plan gets at least this against every plan of First",
+            r"55\.708336 +\S+ +100 less LOW, in Second's payoff: no plan of Second is sure of more than this"]
+    said = "At each end both payoffs add up to 100: Second gets 100 less what First gets."
+    checks.that("what payoffs add up to", said in " ".join(plain.split()), plain)
+    for row in rows:
+        checks.that(row, re.search(f"^{row}$", plain, re.M), plain)
     equal = tool("certify", KUHN, GAMES / "kuhn_equilibrium.csv")[1]
     plain = tool("report", "--text", KUHN, stdin=equal)[1].decode()
+    checks.that("nothing of player two where the sum is 0", "add up to" not in plain and "sure of" not in plain, plain)
     checks.that("an equilibrium loses nothing", "No set loses anything" in plain, plain)
     page = xml.fromstring(tool("report", GAMES / "toll.efg", TEXTS / "toll.xgcert")[1])
     missed = [it.text for it in page.iter(f"{HTML}span") if (it.text or "").startswith("never")]
@@ -240,6 +255,9 @@ def by_hand(checks, folder):
             is_gain = sum(lost) == gain and min(lost, default=0) >= 0
             checks.that(f"{player} loses of\n{where}", is_gain, f"{lost}, want {gain}")
             each_set(checks, audit, game, player)
+        second = [value for _, value, _ in report_words.player_two_rows(audit)]
+        wanted = [game.sum - high, game.sum - low] if game.sum else []
+        checks.that(f"player two's own payoff of\n{where}", second == wanted, f"{second}, want {wanted}")
         root = report_tree.tree_of(audit)
         checks.that(f"what the tree of pays\n{where}", root.pay == pay, f"{root.pay}, want {pay}")
         reached = sum(float(it.told[-1].split()[1]) for it in leaves_of(root))
@@ -286,12 +304,15 @@ def worse_replies():
 
 
 def refusals(checks, folder):
-    told = KUHN_TEXT.read_bytes()
+    told, networks = KUHN_TEXT.read_bytes(), (TEXTS / "networks.xgcert").read_bytes()
     head = told[: told.index(b"trace")].replace(b"rounds 8 every 2", b"rounds 0 every 1")
     values = re.search(rb"reply 2 .*\nvalue 1 (-?\d+) (\d)", told)
     for what, game, text, why in [
         ("another game", GAMES / "toll.efg", told, b"the text is of another game: it says nodes 58, the game file 9"),
-        ("another unit", KUHN, told.replace(b"unit 6", b"unit 12"), b"its unit or its mass isn't that of the game"),
+        ("another unit", KUHN, told.replace(b"unit 6", b"unit 12"), DIFFERS),
+        ("a sum where it is 0", KUHN, told.replace(b"unit 6", b"unit 6 sum 1/6"), DIFFERS),
+        ("another sum", NETWORKS, networks.replace(b"sum 100", b"sum -100"), DIFFERS),
+        ("no sum", NETWORKS, networks.replace(b" sum 100", b""), DIFFERS),
         ("no rounds", KUHN, head + b"end\n", b"the text has no plans, as it has no rounds"),
         ("a value", KUHN, told.replace(b"value 1 " + values[1], b"value 1 7", 1), b"a best one at its set "),
         ("a choice", KUHN, re.sub(rb"(value 1 -?\d+) \d", rb"\1 3", told, count=1), b"a best one at its set "),

@@ -5,16 +5,19 @@ import random
 from fractions import Fraction
 
 LEAST_NODES, MOST_PURE = 12, 400
+# What the payoffs of a game add up to, by its seed.
+SUMS = (Fraction(0), Fraction(3), Fraction(0), Fraction(-5, 4))
 
 
 class SmallGame:
-    """A game as nested nodes, as a file, and each player's sets in the order of their first nodes.
+    """A game as nested nodes, as a file, and each player's sets in the order of their first nodes. `sum` is what each leaf
+    pays both players together.
 
-    A node is a leaf (a payoff), or a kind (0 chance, 1, 2), the number of its set, and its children. `sets[player]` has
+    A node is a leaf (player one's payoff), or a kind (0 chance, 1, 2), the number of its set, and its children. `sets[player]` has
     for each number how many actions the set has; `chances` has the probabilities of each chance set."""
 
     def __init__(self, seed):
-        self.random = random.Random(seed)
+        self.random, self.sum = random.Random(seed), SUMS[seed % len(SUMS)]
         self.sets, self.chances, self.last = {1: {}, 2: {}}, {}, {1: {}, 2: {}}
         self.lines, self.outcomes = ['EFG 2 R "Small" { "One, the first" "Two" }', '""'], 0
         self.root = self.node(4, {1: None, 2: None}, must_go_on=True)
@@ -34,7 +37,7 @@ class SmallGame:
     def leaf(self):
         payoff = Fraction(self.random.randint(-6, 6), self.random.choice((1, 1, 2, 3)))
         self.outcomes += 1
-        self.lines.append(f't "" {self.outcomes} "" {{ {payoff}, {-payoff} }}')
+        self.lines.append(f't "" {self.outcomes} "" {{ {payoff}, {self.sum - payoff} }}')
         return payoff
 
     def chance(self, depth, own):

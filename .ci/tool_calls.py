@@ -1,11 +1,11 @@
-"""Calls of the tools of tools/, within this process, so that many of them take little time."""
+"""Calls of the tools of tools/, within this process, so that many of them take little time; and of both checkers."""
 import importlib.machinery
 import importlib.util
 import io
 import signal
 import sys
 
-from checks import ROOT
+from checks import ROOT, call
 
 sys.path.insert(0, str(ROOT / "tools" / "lib"))
 LOADED = {}
@@ -38,3 +38,11 @@ def tool(name, *words, stdin=b""):
         sys.argv, sys.stdin, sys.stdout, sys.stderr = kept[:4]
         signal.signal(signal.SIGPIPE, kept[4])
     return status, out.buffer.getvalue(), said.buffer.getvalue()
+
+
+def expect_both(checks, what, game, certificate, answer):
+    """The program and the other checker have this answer to a certificate."""
+    line = f"{answer}\n".encode()
+    wanted = (0, line, b"") if answer.startswith("accepted") else (1, b"", line)
+    checks.expect(what, call(["check", str(game), str(certificate)]), *wanted)
+    checks.expect(f"{what}, by the other checker", tool("check_certificate", game, certificate), *wanted)

@@ -4,9 +4,12 @@
 Usage: python3 bench/reading.py [--runs N] [--beside PROGRAM]
 
 Each line says what was measured, the measure and its bound; the last line counts what passed and failed, and the
-status is 1 where something failed. Times are the best of N runs (5 where nothing else is said). With PROGRAM, which reads
-the same files for the same words, each kind of file is also measured with it, in turn, and the ratio is printed, of
-the time that passes and of the processor's time; it has no bound.
+status is 1 where something failed. Times are the best of N runs (5 where nothing else is said). How they grow with the
+file is told by the processor's time, the best of four times as many runs, in which the sizes take turns: what changes
+the machine's speed for a while, or takes a processor away, then meets no size alone. User and system time are taken
+together, since Linux counts their sum exactly and parts it by ticks of some milliseconds. With PROGRAM, which reads the
+same files for the same words, each kind of file is also measured with it, in turn, and the ratio is printed, of the time
+that passes and of the processor's time; it has no bound.
 """
 import argparse
 import os
@@ -23,7 +26,8 @@ PROGRAM = ROOT / "crates" / "xg_solve" / "out" / "xg_solve"
 MOST_NODES = 1_048_576
 SIZES = (131_072, 262_144, 524_288, MOST_NODES)
 MOST_BYTES = 67_108_864
-
+# So many times as many runs are made where sizes are compared.
+TURNS = 4
 
 PROLOGUE = 'EFG 2 R "wide" { "A" "B" }\n'
 
@@ -162,17 +166,21 @@ def run(words):
 
 
 def best(words, runs, want):
-    return best_in_turn([words], runs, want)[0]
+    """The best time and the most memory of a call."""
+    seconds, memory, _ = best_in_turn([words], runs, want)[0]
+    return seconds, memory
 
 
 def best_in_turn(calls, runs, want):
-    """The best time and the most memory of each call. The calls take turns, so that a change of the machine's speed meets
-    all of them."""
+    """The best time, the most memory and the best processor's time of each call. The calls take turns, so that a change of
+    the machine's speed meets all of them."""
     turns = [[run(words) for words in calls] for _ in range(runs)]
     for words, results in zip(calls, zip(*turns)):
         for result in results:
             assert result[2] == want, (words, result[2])
-    return [(min(r[0] for r in results), max(r[1] for r in results)) for results in zip(*turns)]
+    return [
+        (min(r[0] for r in results), max(r[1] for r in results), min(r[3] for r in results)) for results in zip(*turns)
+    ]
 
 
 def main():
@@ -218,13 +226,13 @@ def main():
 
         for kind, make in (("wide", wide), ("cards", rounds_of_cards), ("binary", binary)):
             paths = {nodes: write(f"{kind}_{nodes}.efg", make(nodes - 1 + nodes % 2)) for nodes in SIZES}
-            measures = best_in_turn([words_of(path) for path in paths.values()], runs, 0)
-            times = {}
-            for (nodes, path), (times[nodes], memory) in zip(paths.items(), measures):
+            measures = best_in_turn([words_of(path) for path in paths.values()], TURNS * runs, 0)
+            work = {}
+            for (nodes, path), (seconds, memory, work[nodes]) in zip(paths.items(), measures):
                 size = os.path.getsize(path)
-                print(f"     {kind}, {nodes} nodes, {size} bytes: {times[nodes]:.3f} s, {memory} bytes of memory")
+                print(f"     {kind}, {nodes} nodes, {size} bytes: {seconds:.3f} s, {memory} bytes of memory")
                 if nodes > SIZES[0]:
-                    report(f"{kind}, {nodes} nodes against half of them", times[nodes] / times[nodes // 2], 2.3, "times")
+                    report(f"{kind}, {nodes} nodes against half of them", work[nodes] / work[nodes // 2], 2.3, "times")
                 report(f"{kind}, memory at {nodes} nodes beside the file", (memory - size) / nodes, 400, "bytes a node")
             against_words(f"{kind}, {size} bytes", path, 0)
             against_other(kind, path)
