@@ -53,7 +53,7 @@ abbrev pub ConcedesInWeights : Tables → Forest → ℕ → List ℕ → Fracti
 ConcedesInWeights tables tree root plan_two high = (root_one : ℕ) (plan_one : List ℕ) → IsPlanFor One tables tree root_one plan_one
     → (pay (form_of_game tables tree).leaves plan_one plan_two *ℤ pos high.den) ≤ℤ (high.num *ℤ pos (game_unit tables tree * root * root_one))
 
--- the best that the player is expected to get against a plan of the other player: no plan gets more, and some plan that
+-- the best that the player is expected to get against a plan of the other player: some plan gets it, and none gets more
 pub record IsBestPayoff (player : Player) (tables : Tables) (tree : Forest) (against : List ℕ) (best : Fraction) : Type 0 where
   pub root : ℕ
   pub reply : List ℕ

@@ -34,7 +34,7 @@ quoted_file =
     ++ codes "t \"\" 1\n"
     ++ codes "t \"\" 0\n"
 
--- the payoffs of the last leaf don't add up to 0
+-- the payoffs of the last leaf don't add up to what those of the first do
 abbrev pub unfair_file : List ℕ
 unfair_file =
     codes "EFG 2 R \"Sum\" { \"A\" \"B\" }\n"
