@@ -6,13 +6,13 @@ use Rattle.std.specs.Cmp.Lexicographic.{pointwise, same_text}
 use Rattle.std.specs.Fmt.{decimal, signed_decimal}
 use Rattle.std.proofs.lemmas.List.{append-nil, length-append}
 use Rattle.std.proofs.lemmas.Bool.{and_parts, and_from, leb-true, le-leb, eqb-true, eq-eqb, not-true}
-use Rattle.def_fraction.specs.Fraction.{Fraction}
+use Rattle.def_fraction.specs.Fraction.{Fraction, is_zero}
 use Rattle.def_fraction.specs.Text.{fraction_text}
 use Rattle.def_fraction.proofs.DivisorLemmas.{gcd-with_one}
 use Rattle.def_cert_text.specs.declared.fault.CertFault.{CertFault}
 use Rattle.def_cert_text.specs.declared.fault.CertFault.TheVariants.{CertSyntax, CertNumber, CertShort}
 use Rattle.def_cert_text.specs.Fields.{◌>>=◌, space, feed, FieldKind, number, Item, field, separator, items_text, is_field_byte, next_field, behind_field, is_empty, field_fault, if_fit, read_field}
-use Rattle.def_cert_text.specs.Numbers.{whole_in, integer_in, fraction_in, equals_zero, unless_zero, nonzero_in}
+use Rattle.def_cert_text.specs.Numbers.{whole_in, integer_in, fraction_in, unless_zero, nonzero_in}
 use Rattle.def_cert_text.specs.Formats.{Format, text_of, one_field, whole_field, integer_field, is_lowest_within, fraction_field, nonzero_field, same_bytes, fixed_field, with_end_if_fit, read_number}
 use Rattle.def_cert_text.specs.FirstFault.{Place, of_field, of_separator, place_of_item, StopsReading, cut_short, unfit, HasFirstFault}
 use Rattle.def_cert_text.proofs.FieldLaws.{ok_is, all_pass, front_is, behind_is, behind_all, parted, stops, word_itself, whole_again, whole_only, decimal_inside, integer_again, integer_only, integer_inside, lowest_parts, lowest_from, fraction_inside, fraction_again, fraction_only}
@@ -341,34 +341,34 @@ fraction_laws most sep one small s = one_field_laws Fraction number (is_lowest_w
 })
 
 -- a test that takes a fraction takes one that isn't 0, which the test before took
-nonzero_only : (o : Option Fraction) (f : Fraction) → unless_zero o ≡ Some f → (o ≡ Some f) × (not (equals_zero f) ≡ true)
+nonzero_only : (o : Option Fraction) (f : Fraction) → unless_zero o ≡ Some f → (o ≡ Some f) × (not (is_zero f) ≡ true)
 nonzero_only None f e = absurd cc
-nonzero_only (Some g) f e = by (equals_zero g) refl e
+nonzero_only (Some g) f e = by (is_zero g) refl e
   where
-    by : (t : Bool) → equals_zero g ≡ t → cond t None (Some g) ≡ Some f → (Some g ≡ Some f) × (not (equals_zero f) ≡ true)
+    by : (t : Bool) → is_zero g ≡ t → cond t None (Some g) ≡ Some f → (Some g ≡ Some f) × (not (is_zero f) ≡ true)
     by true h e = absurd cc
-    by false h e = let same : g ≡ f = cc in (e, ap (λ z. not (equals_zero z)) (sym same) ∙ ap not h)
+    by false h e = let same : g ≡ f = cc in (e, ap (λ z. not (is_zero z)) (sym same) ∙ ap not h)
 
 -- the same of a fraction that isn't 0
 pub nonzero_laws : (most sep : ℕ) → 1 ≤ most → most ≤ 2 ^ 126 → is_field_byte sep ≡ false
     → IsFormat Fraction (nonzero_field most sep)
 unfolding nonzero_in
-nonzero_laws most sep one small s = one_field_laws Fraction number (λ f. is_lowest_within most f && not (equals_zero f)) fraction_text (nonzero_in most) sep s (record {
+nonzero_laws most sep one small s = one_field_laws Fraction number (λ f. is_lowest_within most f && not (is_zero f)) fraction_text (nonzero_in most) sep s (record {
   inside = λ f fits. fraction_inside most f small (lowest_parts most f (parts f fits).0);
   again = λ f fits.
       ap unless_zero (fraction_again most f small (lowest_parts most f (parts f fits).0))
-      ∙ ap (λ t. cond t None (Some f)) (not-true (equals_zero f) (parts f fits).1);
+      ∙ ap (λ t. cond t None (Some f)) (not-true (is_zero f) (parts f fits).1);
   only = λ bytes f e.
       let q = nonzero_only (fraction_in most bytes) f e in
       let r = fraction_only most f bytes small one q.0 in
-      (and_from (is_lowest_within most f) (not (equals_zero f)) (lowest_from most f r.0) q.1, r.1);
+      (and_from (is_lowest_within most f) (not (is_zero f)) (lowest_from most f r.0) q.1, r.1);
   some = record { num = ℤ.pos 1; den = 1 };
   some_fits = and_from (is_lowest_within most (record { num = ℤ.pos 1; den = 1 })) true (lowest_from most (record { num = ℤ.pos 1; den = 1 }) (record { positive = omega arith; coprime = gcd-with_one 1; num = one; den = one })) refl;
 })
   where
-    parts : (f : Fraction) → (is_lowest_within most f && not (equals_zero f)) ≡ true
-        → (is_lowest_within most f ≡ true) × (not (equals_zero f) ≡ true)
-    parts f fits = and_parts (is_lowest_within most f) (not (equals_zero f)) fits
+    parts : (f : Fraction) → (is_lowest_within most f && not (is_zero f)) ≡ true
+        → (is_lowest_within most f ≡ true) × (not (is_zero f) ≡ true)
+    parts f fits = and_parts (is_lowest_within most f) (not (is_zero f)) fits
 
 the_word : (wanted bytes : List ℕ) (x : Unit {0}) (t : Bool) → pointwise eqb bytes wanted ≡ t
     → cond (pointwise eqb bytes wanted) (Some tt) None ≡ Some x → bytes ≡ wanted

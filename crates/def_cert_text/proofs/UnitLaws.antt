@@ -5,12 +5,11 @@ use Rattle.std.specs.Fmt.{decimal}
 use Rattle.std.proofs.lemmas.Bool.{and_parts, and_from, eqb-true, not-true}
 use Rattle.std.proofs.Math.Nat.{zero-mod}
 use Rattle.def_fraction.specs.Divisors.{gcd}
-use Rattle.def_fraction.specs.Fraction.{Fraction, most, zero_fraction}
+use Rattle.def_fraction.specs.Fraction.{Fraction, most, zero_fraction, is_zero}
 use Rattle.def_fraction.proofs.DivisorLemmas.{gcd-turn, gcd-zero}
 use Rattle.def_cert_text.specs.declared.fault.CertFault.{CertFault}
 use Rattle.def_cert_text.specs.Fields.{◌>>=◌, space, feed, fixed_word, number, field, separator}
 use Rattle.def_cert_text.specs.Formats.{Format, is_lowest_within, and_then, where_asked, read_number}
-use Rattle.def_cert_text.specs.Numbers.{equals_zero}
 use Rattle.def_cert_text.specs.CertText.{sum_field, unit_and_sum}
 use Rattle.def_cert_text.proofs.FieldLaws.{lowest_parts}
 use Rattle.def_cert_text.proofs.FormatLaws.{IsFormat, view_laws, pair_laws}
@@ -27,10 +26,10 @@ behind_unit p = where_asked (not p.1) sum_field
 abbrev sum_said : UnitParts → ℕ × Fraction
 sum_said p = (p.0.0, unwrap_or p.1 zero_fraction)
 
-sum_within : (k : Fraction) → sum_field.fits k ≡ true → (is_lowest_within most k ≡ true) × (equals_zero k ≡ false)
+sum_within : (k : Fraction) → sum_field.fits k ≡ true → (is_lowest_within most k ≡ true) × (is_zero k ≡ false)
 sum_within k fit =
-    let p = and_parts (is_lowest_within most k) (not (equals_zero k)) fit in
-    (p.0, not-true (equals_zero k) p.1)
+    let p = and_parts (is_lowest_within most k) (not (is_zero k)) fit in
+    (p.0, not-true (is_zero k) p.1)
 
 fits_by : (n : ℕ) (last : Bool) (o : Option Fraction) → is_from_to 1 most n ≡ true
     → (behind_unit (n, last)).fits o ≡ true → unit_and_sum.fits (n, unwrap_or o zero_fraction) ≡ true
@@ -54,7 +53,7 @@ no_size (pos n) e = ap pos e
 no_size (negsuc n) e = absurd cc
 
 -- a fraction in lowest terms whose numerator is 0
-no_sum : (k : Fraction) → is_lowest_within most k ≡ true → equals_zero k ≡ true → zero_fraction ≡ k
+no_sum : (k : Fraction) → is_lowest_within most k ≡ true → is_zero k ≡ true → zero_fraction ≡ k
 no_sum k fit none =
     let low = lowest_parts most k fit in
     let size : unsigned_abs k.num ≡ 0 = eqb-true (unsigned_abs k.num) 0 none in
@@ -62,14 +61,14 @@ no_sum k fit none =
     let num : k.num ≡ pos 0 = no_size k.num size in
     λ i. record { num = sym num i; den = sym den i }
 
-unit_back : (n : ℕ) (k : Fraction) (none : Bool) → equals_zero k ≡ none → unit_and_sum.fits (n, k) ≡ true
+unit_back : (n : ℕ) (k : Fraction) (none : Bool) → is_zero k ≡ none → unit_and_sum.fits (n, k) ≡ true
     → (p : UnitParts) × ((is_from_to 1 most p.0.0 && (behind_unit p.0).fits p.1) ≡ true) × (sum_said p ≡ (n, k))
 unit_back n k true h fit =
     let q = and_parts (is_from_to 1 most n) (is_lowest_within most k) fit in
     (((n, true), None), and_from (is_from_to 1 most n) true q.0 refl, ap (λ z. (n, z)) (no_sum k q.1 h))
 unit_back n k false h fit =
     let q = and_parts (is_from_to 1 most n) (is_lowest_within most k) fit in
-    let sum : sum_field.fits k ≡ true = and_from (is_lowest_within most k) (not (equals_zero k)) q.1 (ap not h) in
+    let sum : sum_field.fits k ≡ true = and_from (is_lowest_within most k) (not (is_zero k)) q.1 (ap not h) in
     (((n, false), Some k), and_from (is_from_to 1 most n) (sum_field.fits k) q.0 sum, refl)
 
 abbrev next_sum : ℕ → ((ℕ × Bool) × List ℕ) → Result ((ℕ × Fraction) × List ℕ) CertFault
@@ -100,7 +99,7 @@ unit_laws =
     view_laws UnitParts (ℕ × Fraction) (and_then (number_with_end 1 most) behind_unit) unit_and_sum sum_said
     (record {
       fits = λ p fit. (let q = and_parts (is_from_to 1 most p.0.0) ((behind_unit p.0).fits p.1) fit in fits_by p.0.0 p.0.1 p.1 q.0 q.1);
-      back = λ y fit. unit_back y.0 y.1 (equals_zero y.1) refl fit;
+      back = λ y fit. unit_back y.0 y.1 (is_zero y.1) refl fit;
       items = λ p fit. (let q = and_parts (is_from_to 1 most p.0.0) ((behind_unit p.0).fits p.1) fit in items_by p.0.0 p.0.1 p.1 q.1);
       read = λ total bytes. sum_read total (read_number 1 most total bytes);
     })

@@ -4,12 +4,12 @@ use Rattle.std.specs.Prelude.{ℕ, zero, suc, ◌+◌, ◌-◌, Bool, true, fals
 use Rattle.std.specs.Cmp.Lexicographic.{pointwise}
 use Rattle.std.specs.Fmt.{decimal, signed_decimal}
 use Rattle.def_fraction.specs.Divisors.{gcd}
-use Rattle.def_fraction.specs.Fraction.{Fraction}
+use Rattle.def_fraction.specs.Fraction.{Fraction, is_zero}
 use Rattle.def_fraction.specs.Text.{fraction_text}
 use Rattle.def_cert_text.specs.declared.fault.CertFault.{CertFault}
 use Rattle.def_cert_text.specs.declared.fault.CertFault.TheVariants.{CertNumber, CertShort}
 use Rattle.def_cert_text.specs.Fields.{◌>>=◌, space, feed, FieldKind, number, Item, field, separator, items_text, next_field, behind_field, is_empty, read_field}
-use Rattle.def_cert_text.specs.Numbers.{whole_in, integer_in, fraction_in, equals_zero, nonzero_in}
+use Rattle.def_cert_text.specs.Numbers.{whole_in, integer_in, fraction_in, nonzero_in}
 
 -- reading gives a value and the bytes that are left, from the length of the whole and the bytes from a place on
 pub record Format (A : Type 0) : Type 0 where
@@ -41,7 +41,7 @@ abbrev pub fraction_field : ℕ → ℕ → Format Fraction
 fraction_field most sep = one_field number (is_lowest_within most) fraction_text (fraction_in most) sep
 
 abbrev pub nonzero_field : ℕ → ℕ → Format Fraction
-nonzero_field most sep = one_field number (λ f. is_lowest_within most f && not (equals_zero f)) fraction_text (nonzero_in most) sep
+nonzero_field most sep = one_field number (λ f. is_lowest_within most f && not (is_zero f)) fraction_text (nonzero_in most) sep
 
 -- the same bytes, which say nothing more
 abbrev pub same_bytes : List ℕ → List ℕ → Option (Unit {0})

@@ -4,7 +4,7 @@ use Rattle.std.specs.List.{prefix_len}
 use Rattle.std.specs.Option.{option_map}
 use Rattle.def_fraction.specs.Digits.{is_numeral, number_of}
 use Rattle.def_fraction.specs.Divisors.{gcd}
-use Rattle.def_fraction.specs.Fraction.{Fraction, negative_of, whole_number}
+use Rattle.def_fraction.specs.Fraction.{Fraction, negative_of, whole_number, is_zero}
 use Rattle.def_fraction.specs.Literal.{minus, slash}
 
 abbrev pub zero_digit : ℕ
@@ -43,13 +43,9 @@ lowest_in most (Some num) (b ∷ ds) = over_in num (whole_in 2 most ds)
 unfoldable pub fraction_in : ℕ → List ℕ → Option Fraction
 fraction_in most field = lowest_in most (integer_in most (take (prefix_len is_no_slash field) field)) (drop (prefix_len is_no_slash field) field)
 
--- 0 has the denominator 1
-abbrev pub equals_zero : Fraction → Bool
-equals_zero f = unsigned_abs f.num == 0
-
 abbrev pub unless_zero : Option Fraction → Option Fraction
 unless_zero None = None
-unless_zero (Some f) = if equals_zero f then None else Some f
+unless_zero (Some f) = if is_zero f then None else Some f
 
 -- such a fraction that isn't 0
 unfoldable pub nonzero_in : ℕ → List ℕ → Option Fraction

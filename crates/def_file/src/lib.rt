@@ -63,8 +63,8 @@ pub enum FileFault {
     /// A set's probabilities don't add up to 1.
     #[error("probabilities at node {node} don't add up to 1")]
     ChanceSum { node: u32 },
-    /// A leaf's payoffs don't add up to 0.
-    #[error("payoffs at node {node} don't add up to 0")]
+    /// A leaf's payoffs don't add up to what the first leaf's do.
+    #[error("payoffs at node {node} don't add up to what those of the first leaf do")]
     NotConstantSum { node: u32 },
     /// The own choices before a node differ from those before an earlier node of its set.
     #[error("no perfect recall at nodes {earlier} and {node}")]

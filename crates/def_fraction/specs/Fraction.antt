@@ -1,5 +1,5 @@
 -- Exact fractions in lowest terms.
-use Rattle.std.specs.Prelude.{◌≡◌, ℕ, suc, ◌*◌, ◌/◌, ◌^◌, ◌≤◌, Bool, true, false, ◌&&◌, nat_le, ℤ, pos, negsuc, neg_ℤ, ◌+ℤ◌, ◌*ℤ◌, unsigned_abs}
+use Rattle.std.specs.Prelude.{◌≡◌, ℕ, suc, ◌*◌, ◌/◌, ◌^◌, ◌≤◌, Bool, true, false, ◌&&◌, nat_eq, nat_le, ℤ, pos, negsuc, neg_ℤ, ◌+ℤ◌, ◌*ℤ◌, unsigned_abs}
 use Rattle.std.specs.declared.cmp.Ordering.{Ordering}
 use Rattle.std.specs.Ordering.{int_cmp}
 use Rattle.def_fraction.specs.Divisors.{gcd}
@@ -47,6 +47,10 @@ zero_fraction = whole_number (pos 0)
 -- 1 / n
 abbrev pub one_over : ℕ → Fraction
 one_over n = record { num = pos 1; den = n }
+
+-- of fractions in lowest terms: the value is 0
+abbrev pub is_zero : Fraction → Bool
+is_zero f = nat_eq (unsigned_abs f.num) 0
 
 abbrev pub sum_of : Fraction → Fraction → Fraction
 sum_of a b = fraction_of ((a.num *ℤ pos b.den) +ℤ (b.num *ℤ pos a.den)) (a.den * b.den)

@@ -57,10 +57,7 @@ is_below_zero (negsuc _) = true
 abbrev pub is_negative : Fraction → Bool
 is_negative f = is_below_zero f.num
 
--- of fractions in lowest terms: the value is 0, or 1, or that of another
-abbrev pub is_zero : Fraction → Bool
-is_zero f = nat_eq (unsigned_abs f.num) 0
-
+-- of fractions in lowest terms: the value is 1, or that of another
 abbrev pub is_one : Fraction → Bool
 is_one f = not (is_negative f) && nat_eq (unsigned_abs f.num) f.den
 

@@ -4,7 +4,7 @@ use Rattle.std.specs.Fmt.{decimal, signed_decimal}
 use Rattle.std.proofs.lemmas.Fmt.{length-decimal-le_wide}
 use Rattle.std.proofs.lemmas.List.{length-append}
 use Rattle.std.proofs.lemmas.List.Elements.{All-head, All-tail}
-use Rattle.def_fraction.specs.Fraction.{Fraction, most}
+use Rattle.def_fraction.specs.Fraction.{Fraction, most, is_zero}
 use Rattle.def_fraction.specs.Literal.{slash}
 use Rattle.def_fraction.specs.Text.{fraction_text}
 use Rattle.def_sums.specs.Sum.{nat_sum_over}
@@ -13,7 +13,6 @@ use Rattle.def_reply.specs.declared.TraceLine.{TraceLine}
 use Rattle.def_reply.specs.Outcome.{Head}
 use Rattle.def_cert_verdict.specs.Ranges.{IsPrintable, FractionFits, HeadFits, PlanWeightsFit, BoundFits}
 use Rattle.def_cert_text.specs.Fields.{space, feed, Item, field, separator, items_text}
-use Rattle.def_cert_text.specs.Numbers.{equals_zero}
 use Rattle.def_cert_text.specs.Formats.{Format, each_items, row_items}
 use Rattle.def_cert_text.specs.CertText.{sum_field, sum_items, mass_line, asked_line, head_lines, line_of_round, weights_line, value_line, bracket_line}
 
@@ -80,7 +79,7 @@ each_width A f size last k (x ∷ xs) low all =
 -- ---- lines
 -- what stands behind a unit has a width of 70 at most
 sum_width : (f : Fraction) → FractionFits most f → widths (sum_items f) ≤ 70
-sum_width f fits = by (equals_zero f)
+sum_width f fits = by (is_zero f)
   where
     width_of : length (fraction_text f) ≤ 64
     width_of = few_of_fraction f (record { lowest = fits.lowest; num = omega (arith, fits.num); den = omega (arith, fits.den) })

@@ -5,7 +5,6 @@ ghost use Rattle.std.specs.Io.KnownBytes.{append_known};
 ghost use Rattle.def_outside.specs.Cause.{HasCause};
 ghost use Rattle.def_outside.specs.Sinks.{AppendsPrefix, Writes};
 ghost use Rattle.def_cert_text.specs.Fields.{space, feed, fixed_word, number, field, separator, items_text};
-ghost use Rattle.def_cert_text.specs.Numbers.{equals_zero};
 ghost use Rattle.def_cert_text.specs.Formats.{text_of};
 ghost use Rattle.def_cert_text.specs.CertText.{head_text, size_line, sum_field, unit_line};
 ghost use Rattle.xg_cert.specs.Outcome.{head_of};
@@ -67,17 +66,11 @@ fn put_unit_line<O: Sink>(unit: u64, sum: Frac, out: &mut O) -> Result<(), Write
     ensures text { Writes (O.written out.old) (O.written out.new) (text_of unit_line (unit, sum)) result }
     ensures cause { HasCause (O.faults out.old) (O.faults out.new) result }
 {
-    if is_zero(sum) {
+    if sum.is_zero() {
         return put_named(b"unit", unit, b'\n', out);
     }
     put_named(b"unit", unit, b' ', out)?;
     put_sum(sum, out)
-}
-
-fn is_zero(f: Frac) -> bool
-    ensures { result ≡ equals_zero f }
-{
-    f.num() == 0
 }
 
 #[tactic(auto, using(crate::proofs::Written::first_field, crate::proofs::Written::then_field, crate::proofs::Written::last_field))]

@@ -1,7 +1,6 @@
 //! Reading the lines that have a field for each number.
 ghost use Rattle.std.specs.Prelude.{◌≡◌, ◌≤◌, ◌^◌, ℕ, IfOk};
 ghost use Rattle.std.specs.Fmt.{decimal};
-ghost use Rattle.def_fraction.specs.Fraction.{zero_fraction};
 ghost use Rattle.def_sums.specs.Limits.{most_rounds};
 ghost use Rattle.def_tree.specs.Rules.{most_nodes};
 ghost use Rattle.def_cert_text.specs.Fields.{space, feed, number};
@@ -17,7 +16,7 @@ use def_reply::TraceLine;
 use def_sums::{MOST_MASS, MOST_ROUNDS, MOST_SCALE};
 use itoa::Buffer;
 use xg_cert_fields::FieldReader;
-use xg_frac::{Frac, MOST_PART, Ratio, whole};
+use xg_frac::{Frac, MOST_PART, Ratio, zero};
 use xg_tree::{MOST_ACTIONS, MOST_NODES};
 
 /// What was asked of a run.
@@ -58,15 +57,6 @@ fn pair_line(reader: &mut FieldReader<'_>, word: &[u8], low: u64) -> Result<(u32
     let one = reader.whole(low, MOST_NODES as u64, b' ')? as u32;
     let two = reader.whole(low, MOST_NODES as u64, b'\n')? as u32;
     Ok((one, two))
-}
-
-fn zero() -> Frac
-    ensures { result ≡ zero_fraction }
-{
-    match whole(0) {
-        Ok(zero) => zero,
-        Err(_) => unreachable!(),
-    }
 }
 
 /// The unit, and the sum, which stands there where it isn't 0.

@@ -4,8 +4,8 @@ ghost use Rattle.std.specs.List.{prefix_len};
 ghost use Rattle.std.specs.Str.{all_ascii_digits};
 ghost use Rattle.def_fraction.specs.Digits.{is_numeral, number_of};
 ghost use Rattle.def_fraction.specs.Divisors.{gcd};
-ghost use Rattle.def_fraction.specs.Fraction.{fits, most, whole_number};
-ghost use Rattle.def_cert_text.specs.Numbers.{equals_zero, fraction_in, integer_in, is_no_slash, leads_no_zero, nonzero_in, over_in, whole_in};
+ghost use Rattle.def_fraction.specs.Fraction.{fits, most, whole_number, is_zero};
+ghost use Rattle.def_cert_text.specs.Numbers.{fraction_in, integer_in, is_no_slash, leads_no_zero, nonzero_in, over_in, whole_in};
 ghost use Rattle.xg_frac.specs.Scan.{past_all};
 ghost use Rattle.def_cert_verdict.specs.Ranges.{most_printed};
 
@@ -124,7 +124,7 @@ pub(crate) fn fraction_in(field: &[u8]) -> Option<Ratio>
 }
 
 fn is_small_nonzero(fraction: Ratio) -> bool
-    ensures { result ≡ (not (equals_zero fraction) && fits fraction) }
+    ensures { result ≡ (not (is_zero fraction) && fits fraction) }
 {
     let size = fraction.num().unsigned_abs();
     size != 0 && size <= MOST_PART && fraction.den().unsigned_abs() <= MOST_PART

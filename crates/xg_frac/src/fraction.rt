@@ -1,7 +1,7 @@
 //! Fractions in lowest terms.
 ghost use Rattle.std.specs.Prelude.{◌≡◌, ◌/◌, ◌^◌, ◌<◌, ◌≤◌, ◌≤ℤ◌, pos, unsigned_abs, IsTrue, OkIff, SomeIff};
 ghost use Rattle.def_fraction.specs.Divisors.{gcd};
-ghost use Rattle.def_fraction.specs.Fraction.{Fraction, IsInLowestTerms, signed, fraction_of, whole_number, most, fits};
+ghost use Rattle.def_fraction.specs.Fraction.{Fraction, IsInLowestTerms, signed, fraction_of, whole_number, zero_fraction, is_zero, most, fits};
 
 use def_fraction::MOST_PART;
 use std::marker::Model;
@@ -56,6 +56,28 @@ impl Frac {
     {
         self.den as i128
     }
+
+    /// Whether it is 0.
+    pub fn is_zero(&self) -> bool
+        ensures { result ≡ is_zero self.now }
+    {
+        self.num == 0
+    }
+
+    /// Does nothing: its clauses are what is true of every fraction.
+    pub fn facts(&self)
+        ensures lowest { IsInLowestTerms self.now }
+        ensures small { IsTrue (fits self.now) }
+    {
+        let _num = self.num();
+    }
+}
+
+/// The number 0.
+pub fn zero() -> Frac
+    ensures { result ≡ zero_fraction }
+{
+    whole(0).unwrap()
 }
 
 /// The whole number `n`.
