@@ -6,12 +6,12 @@ ghost use Rattle.def_file.specs.Game.{IsSmallFraction};
 ghost use Rattle.xg_game.specs.Actions.{GivesSame, SpanIsWithin, action_kept, actions_in};
 ghost use Rattle.xg_record.specs.Entry.{actions_seen};
 
-use crate::outcomes::{known, zero};
+use crate::outcomes::known;
 use crate::texts::Texts;
 use std::alloc::{AllocError, Global};
 use std::cmp::Ordering;
 use std::marker::Model;
-use xg_frac::{Frac, compare};
+use xg_frac::{Frac, compare, zero};
 use xg_lex::TextView;
 use xg_record::EntryActions;
 

@@ -8,13 +8,13 @@ ghost use Rattle.xg_game.specs.Access.{name_of, outcome_numbered, payoff_to};
 ghost use Rattle.def_file.specs.Game.{AreTogether, HasFractions, IsWholeGame};
 ghost use Rattle.xg_game.specs.Prologues.{prologue_of};
 
-use crate::outcomes::{OutcomeTable, zero};
+use crate::outcomes::OutcomeTable;
 use crate::prologue::Prologue;
 use crate::sets::{SetDescription, SetTables};
 use crate::tables::ContentTables;
 use crate::texts::Texts;
 use std::marker::Model;
-use xg_frac::Frac;
+use xg_frac::{Frac, zero};
 use xg_lex::Text;
 use xg_tree::{Kind, Player, Tree};
 

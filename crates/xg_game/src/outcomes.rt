@@ -1,7 +1,6 @@
 //! The outcomes of a game.
 ghost use Rattle.std.specs.Prelude.{◌≡◌, ◌+◌, ◌<◌, ◌^◌, [], ◌∷◌, ◌++◌, length, option_map, slice_set, unwrap_or, None, OnErr, OnOk, IfSome};
 ghost use Rattle.def_file.specs.Adding as adding;
-ghost use Rattle.def_fraction.specs.Fraction.{zero_fraction};
 ghost use Rattle.def_file.specs.Content.{OutcomeEntry, outcome_mention};
 ghost use Rattle.def_file.specs.Faults as faults;
 ghost use Rattle.def_file.specs.Game.{IsSmallFraction};
@@ -13,7 +12,7 @@ use crate::given::{name_differs, same_value, to_keep};
 use crate::table::{Described, NumberTable};
 use std::alloc::{AllocError, Global};
 use std::marker::Model;
-use xg_frac::{Frac, whole};
+use xg_frac::{Frac, zero};
 use xg_lex::TextView;
 use xg_record::{EntryView, Payoffs};
 
@@ -240,18 +239,11 @@ fn payoffs_differ(one: Frac, two: Frac, given: Option<&Payoffs>) -> bool
     }
 }
 
-/// The number 0.
-pub(crate) fn zero() -> Frac
-    ensures { result ≡ zero_fraction }
-{
-    whole(0).unwrap()
-}
-
 /// The fraction, of which this is known.
 pub(crate) fn known(number: Frac) -> Frac
     ensures same { result ≡ number }
     ensures small { IsSmallFraction number }
 {
-    let _num = number.num();
+    number.facts();
     number
 }

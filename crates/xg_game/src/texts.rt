@@ -62,7 +62,7 @@ impl Texts {
         if end > MOST_TEXT_BYTES {
             return Err(AllocError);
         }
-        self.bytes.extend_from_slice(text)?;
+        extend(&mut self.bytes, text)?;
         self.ends.push_reserved(end as u32);
         Ok(())
     }
@@ -86,6 +86,17 @@ impl Texts {
         let text = text.to_text(alloc)?;
         self.push(text.bytes())
     }
+}
+
+/// Puts the bytes of a text last. Most nodes have no name, and an empty one costs nothing.
+fn extend(bytes: &mut Vec<u8>, text: &[u8]) -> Result<(), AllocError>
+    ensures ok { OnOk result (bytes.new.items ≡ bytes.old.items ++ text.now) }
+    ensures err { OnErr result (bytes.new.items ≡ bytes.old.items) }
+{
+    if text.is_empty() {
+        return Ok(());
+    }
+    bytes.extend_from_slice(text)
 }
 
 /// Where the text at `i` begins: where the one before it ends.

@@ -1,6 +1,5 @@
 //! Lists of actions and of payoffs.
 ghost use Rattle.std.specs.Prelude.{◌≡◌, ◌-◌, [], length, option_map};
-ghost use Rattle.def_fraction.specs.Fraction.{zero_fraction};
 ghost use Rattle.def_file.specs.Reading.{action_at, actions_at, actions_from, chance_at, comma_at, payoff_at, payoffs_at, payoffs_from};
 ghost use Rattle.xg_record.specs.Entry.{actions_seen};
 ghost use Rattle.xg_record.specs.Seen.{action_seen};
@@ -9,7 +8,7 @@ ghost use Rattle.xg_read.specs.Gives.{Gives, GivesFor, GivesSeen};
 use crate::reader::Reader;
 use crate::wanted::Wanted;
 use def_file::{EntryKind, FileFault};
-use xg_frac::{Frac, whole};
+use xg_frac::{Frac, zero};
 use xg_game::Refused;
 use xg_record::{ActionView, ActionViews, EntryActions, Payoffs};
 
@@ -131,14 +130,5 @@ impl<'a> Reader<'a> {
         self.token(Wanted::Open)?;
         self.payoffs_in_braces(payoffs)?;
         Ok(Some(payoffs))
-    }
-}
-
-fn zero() -> Frac
-    ensures { result ≡ zero_fraction }
-{
-    match whole(0) {
-        Ok(zero) => zero,
-        Err(_) => unreachable!(),
     }
 }

@@ -1,5 +1,6 @@
 //! What is wanted at a place of a file.
-ghost use Rattle.std.specs.Prelude.{◌≡◌, ◌≤◌, length};
+ghost use Rattle.std.specs.Prelude.{◌≡◌, ◌≤◌, length, nat_eq};
+ghost use Rattle.std.specs.Cmp.Lexicographic.{pointwise};
 ghost use Rattle.def_file.specs.Reading.{is_kind, is_exact};
 ghost use Rattle.xg_read.specs.Wanted.{test_of};
 
@@ -76,5 +77,17 @@ pub fn is_exact(kind: Token, exact: &[u8], bytes: &[u8], token: Lexeme) -> bool
     requires within { token.end ≤ length bytes.now }
     ensures { result ≡ is_exact kind exact.now bytes.now token }
 {
-    is_kind(kind, token.kind) && &bytes[token.start..token.end] == exact
+    is_kind(kind, token.kind) && is_same(&bytes[token.start..token.end], exact)
+}
+
+/// Whether the bytes are the same. Most words are one letter, which takes one comparison.
+#[inline(always)]
+fn is_same(one: &[u8], other: &[u8]) -> bool
+    ensures { result ≡ pointwise nat_eq one.now other.now }
+{
+    match (one, other) {
+        ([letter], [wanted]) => *letter == *wanted,
+        (_, [_]) => false,
+        _ => one == other,
+    }
 }

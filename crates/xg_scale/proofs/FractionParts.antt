@@ -8,10 +8,9 @@ use Rattle.std.proofs.lemmas.Nat.Gcd.{dvd-zero, dvd_antisymm, dvd_of_mod-eq-zero
 use Rattle.std.proofs.Math.IntN.{pos-*ℤ-pos}
 use Rattle.std.proofs.Math.Nat.{zero-div, one-mul}
 use Rattle.def_fraction.specs.Divisors.{gcd, lcm}
-use Rattle.def_fraction.specs.Fraction.{Fraction, IsInLowestTerms, fraction_of, sum_of, without_factor, zero_fraction}
+use Rattle.def_fraction.specs.Fraction.{Fraction, IsInLowestTerms, fraction_of, sum_of, without_factor, zero_fraction, is_zero}
 use Rattle.def_fraction.proofs.DivisorLemmas.{IsGcd-gcd, IsLcm-lcm}
 use Rattle.def_fraction.proofs.FractionLemmas.{fraction_of-lowest, neg-times, unsigned_abs-without_factor}
-use Rattle.def_game_scale.specs.Faults.{is_zero}
 use Rattle.def_game_scale.proofs.Nodes.{no_size}
 use Rattle.def_game_scale.proofs.Units.{lcm-positive}
 

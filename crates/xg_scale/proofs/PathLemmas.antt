@@ -34,7 +34,7 @@ use Rattle.xg_scale.specs.declared.path.NodeOnPath.{NodeOnPath}
 use Rattle.xg_scale.specs.FaultOfFile.{RefusesBy}
 use Rattle.xg_scale.specs.Leaf.{judged_node, known_with, unit_with, with_expected}
 use Rattle.xg_scale.specs.OnPath.{GoesBackTo, HasNodeAround, at_action, chance_set_of, entered_node, outside}
-use Rattle.xg_scale.specs.Walked.{Enters, HasEntered, HasLeft, IsBefore, IsExpectedOf, Leaves, MayCome, MayComeNext, MayEnter, MayLeave, Steps, UnlessRefused, all_fit, known_sum, next_fault, next_numbers, numbers_below, numbers_of, reach_below}
+use Rattle.xg_scale.specs.Walked.{Enters, HasEntered, HasLeft, IsBefore, IsExpectedOf, Leaves, MayCome, MayComeNext, MayEnter, MayLeave, Steps, UnlessRefused, all_fit, known_sum, next_fault, numbers_at_next, numbers_below, numbers_of, reach_below}
 use Rattle.xg_scale.proofs.FoundLemmas.{found_later, found_none, refuses_here}
 use Rattle.xg_scale.proofs.GameLemmas.{goes_with, in_chance_set, tree_rules}
 use Rattle.xg_scale.proofs.JudgeLemmas.{expected_all, expected_with, known_all, known_more, node_judged, unit_all, unit_from_one, unit_more}
@@ -221,10 +221,10 @@ module _ (game : GameFile) (lowest : AreFractions (tables_of game)) (whole : IsW
 
     module _ (outer : List NodeOnPath) (walk : PathWalk) (same : walk.game.now ≡ game)
         (on : GoesOn n (at_action parent action) outer walk) where
-      numbers_are : next_numbers walk x ≡ numbers_of tables here
+      numbers_are : numbers_at_next walk x ≡ numbers_of tables here
       numbers_are = (λ i. numbers_below (tables_of (same i)) (on.innermost_is i) x) ∙ numbers_here
 
-      numbers_at_visit : next_numbers walk x ≡ numbers_of tables v
+      numbers_at_visit : numbers_at_next walk x ≡ numbers_of tables v
       numbers_at_visit = numbers_are ∙ ap (numbers_of tables) (sym first)
 
       fault_is : node_fault tables (take n all) v ≡ next_fault walk (n + 1) x

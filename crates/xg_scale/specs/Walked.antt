@@ -68,22 +68,22 @@ pub record MayComeNext (walk : PathWalk) (node : Node) : Type 0 where
   pub limit : walk.expected.unit ≤ most
 
 -- the numbers of its path
-abbrev pub next_numbers : PathWalk → Node → PathNumbers
-next_numbers walk node = numbers_below (tables_of walk.game.now) walk.innermost node
+abbrev pub numbers_at_next : PathWalk → Node → PathNumbers
+numbers_at_next walk node = numbers_below (tables_of walk.game.now) walk.innermost node
 
 -- what is wrong at it, under its number
 abbrev pub next_fault : PathWalk → ℕ → Node → Option GameFault
 next_fault walk k node =
-    if all_fit (next_numbers walk node) then judged_node k node walk.expected.sum walk.expected.unit (next_numbers walk node) else Some (Scale k)
+    if all_fit (numbers_at_next walk node) then judged_node k node walk.expected.sum walk.expected.unit (numbers_at_next walk node) else Some (Scale k)
 
 -- it has no fault, and is the innermost
 pub record HasEntered (old : PathWalk) (k : ℕ) (node : Node) (new : PathWalk) : Type 0 where
   pub passes : next_fault old k node ≡ None
-  pub sum : new.expected.sum ≡ known_with node old.expected.sum (next_numbers old node)
-  pub unit : new.expected.unit ≡ unit_with node old.expected.sum old.expected.unit (next_numbers old node)
+  pub sum : new.expected.sum ≡ known_with node old.expected.sum (numbers_at_next old node)
+  pub unit : new.expected.unit ≡ unit_with node old.expected.sum old.expected.unit (numbers_at_next old node)
   pub limit : new.expected.unit ≤ most
-  pub fractions : new.expected.fractions.items ≡ old.expected.fractions.items ++ with_expected node (next_numbers old node)
-  pub innermost : new.innermost ≡ entered_node node (next_numbers old node)
+  pub fractions : new.expected.fractions.items ≡ old.expected.fractions.items ++ with_expected node (numbers_at_next old node)
+  pub innermost : new.innermost ≡ entered_node node (numbers_at_next old node)
   pub outer : new.outer ≡ old.innermost ∷ old.outer
 
 -- the innermost is left

@@ -8,8 +8,8 @@ ghost use Rattle.def_tree.specs.Rules.{is_same_kind};
 ghost use Rattle.xg_scale.specs.Chance.{set_fault, node_test_of};
 ghost use Rattle.xg_scale.specs.FaultOfFile.{IsFaultOf};
 
-use crate::parts::{is_negative, is_one, zero};
-use xg_frac::add;
+use crate::parts::{is_negative, is_one};
+use xg_frac::{add, zero};
 use xg_game::{FileFault, Game, Kind};
 use xg_tree::Node;
 

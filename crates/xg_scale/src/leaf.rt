@@ -7,10 +7,10 @@ ghost use Rattle.def_tree.specs.Tree.{is_leaf_kind};
 ghost use Rattle.xg_scale.specs.FaultOfFile.{IsFaultOf, RefusesBy};
 ghost use Rattle.xg_scale.specs.Leaf.{judged_leaf, judged_node, known_with, leaf_unit, sum_with, unit_with, with_expected};
 
-use crate::parts::{denominator, known, zero};
+use crate::parts::{denominator, known};
 use crate::path::PathNumbers;
 use std::alloc::Global;
-use xg_frac::{Frac, OverLimit, add, lcm, mul};
+use xg_frac::{Frac, OverLimit, add, lcm, mul, zero};
 use xg_game::{FileFault, Kind, Refused};
 use xg_tree::Node;
 

@@ -10,10 +10,10 @@ ghost use Rattle.xg_scale.specs.OnPath.{HasNodeAround, at_action, chance_set_of,
 ghost use Rattle.xg_scale.specs.Walked.{HasEntered, HasLeft, IsBefore, IsExpectedOf, MayCome, MayComeNext, all_fit, next_fault, numbers_below, paid_to, reach_below};
 
 use crate::leaf::Expected;
-use crate::parts::{is_zero, known, zero};
+use crate::parts::known;
 use crate::path::{NodeOnPath, OuterNodes, PathNumbers};
 use std::alloc::{AllocError, Global};
-use xg_frac::{Frac, OverLimit, add, mul, one_over};
+use xg_frac::{Frac, OverLimit, add, mul, one_over, zero};
 use xg_game::{FileFault, Game, Kind, Player, Refused};
 use xg_tree::{Node, Visitor};
 
@@ -75,7 +75,9 @@ impl<'a> Visitor for PathVisitor<'a> {
 
     fn enter(&mut self, k: u32, node: Node) {
         if self.refused.is_none() {
-            self.refused = self.walk.enter(k, node).err();
+            if let Err(refused) = self.walk.enter(k, node) {
+                self.refused = Some(refused);
+            }
         }
     }
 
@@ -210,7 +212,7 @@ fn paid(game: &Game, so_far: Frac, outcome: u32, player: Player) -> Result<Frac,
     }
     let payoff = game.payoff(outcome, player);
     // Most games pay at leaves alone.
-    if is_zero(so_far) {
+    if so_far.is_zero() {
         return Ok(known(payoff));
     }
     add(so_far, payoff)

@@ -1,16 +1,9 @@
 //! The parts of fractions.
-ghost use Rattle.std.specs.Prelude.{◌≡◌, ◌≤◌, pos, unsigned_abs, IsTrue};
-ghost use Rattle.def_fraction.specs.Fraction.{IsInLowestTerms, fits, most, whole_number};
+ghost use Rattle.std.specs.Prelude.{◌≡◌, ◌≤◌, unsigned_abs, IsTrue};
+ghost use Rattle.def_fraction.specs.Fraction.{IsInLowestTerms, fits, most};
 ghost use Rattle.def_game_scale.specs.Faults as faults;
 
-use xg_frac::{Frac, whole};
-
-/// The number 0.
-pub(crate) fn zero() -> Frac
-    ensures { result ≡ whole_number (pos 0) }
-{
-    whole(0).unwrap()
-}
+use xg_frac::Frac;
 
 /// The fraction, of which this is known.
 pub(crate) fn known(f: Frac) -> Frac
@@ -18,7 +11,7 @@ pub(crate) fn known(f: Frac) -> Frac
     ensures lowest { IsInLowestTerms f }
     ensures small { IsTrue (fits f) }
 {
-    let _num = f.num();
+    f.facts();
     f
 }
 
@@ -33,13 +26,6 @@ pub(crate) fn is_one(f: Frac) -> bool
     ensures { result ≡ faults.is_one f }
 {
     f.num() == f.den()
-}
-
-/// Whether it is 0.
-pub(crate) fn is_zero(f: Frac) -> bool
-    ensures { result ≡ faults.is_zero f }
-{
-    f.num() == 0
 }
 
 /// The size of the numerator.

@@ -13,11 +13,11 @@ ghost use Rattle.xg_scale.specs.Walked.{IsExpectedOf};
 ghost use Rattle.xg_scale.specs.Weighed.{HasWeighed, IsLeafWeighed};
 
 use crate::leaf::{Expected, is_leaf};
-use crate::parts::{denominator, is_negative, size, zero};
+use crate::parts::{denominator, is_negative, size};
 use def_sums::MOST_MASS;
 use std::alloc::Global;
 use std::marker::Model;
-use xg_frac::{Frac, OverLimit};
+use xg_frac::{Frac, OverLimit, zero};
 use xg_game::{FileFault, Game, Refused};
 
 /// What each leaf of a game pays both players together, the unit of the game, the weights of its leaves in prefix order,

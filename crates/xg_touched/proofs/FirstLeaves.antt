@@ -17,7 +17,7 @@ use Rattle.def_history.specs.JobRows.{form_leaf, job_leaves}
 use Rattle.def_history.proofs.JobPackets.{touched_rows_are_exact}
 use Rattle.xg_touched.specs.Filling.{amount_upto}
 use Rattle.xg_touched.specs.Threads.{leaf_numbered, leaf_product, leaves_after, thread_sum}
-use Rattle.xg_touched.specs.Touched.{both_rows, first_leaves, first_with_row}
+use Rattle.xg_touched.specs.Touched.{both_rows, first_leaves_with, first_with_row}
 use Rattle.xg_touched.proofs.Following.{goes_on}
 use Rattle.xg_touched.proofs.Rising.{differ}
 use Rattle.xg_touched.proofs.Touching.{has_one, has_two, which_row}
@@ -58,7 +58,7 @@ first_there form row m (x ∷ xs) z (suc k, below, is) has = by_test (has_row fo
 
 -- the first leaf that is kept of a touched row is one
 pub first_read : (form : SequenceForm) (m : ℕ) (leaves : List Leaf) (rows firsts : List ℕ) (i row leaf : ℕ)
-    → rows ≡ touched_rows form leaves → firsts ≡ first_leaves form m leaves rows → i < length rows
+    → rows ≡ touched_rows form leaves → firsts ≡ first_leaves_with form m leaves rows → i < length rows
     → row ≡ get_or rows i row → leaf ≡ get_or firsts i leaf → first_with_row form row m leaves ≡ Some leaf
 first_read form m leaves rows firsts i row leaf rows_are firsts_are below row_is leaf_is =
     let f : ℕ → ℕ = λ r. unwrap_or (first_with_row form r m leaves) 0 in
@@ -201,7 +201,7 @@ module _ (form : SequenceForm) (first count k : ℕ) (rows found : List ℕ) (on
 -- with all leaves put, these are the first leaves of all rows
 pub all_put : (form : SequenceForm) (first count k : ℕ) (rows found : List ℕ) → k ≡ 0 → length found ≡ length rows
     → AreFirstBehind form first count k rows found
-    → found ≡ first_leaves form (first + 1) (job_leaves form (record { first = first; count = count })) rows
+    → found ≡ first_leaves_with form (first + 1) (job_leaves form (record { first = first; count = count })) rows
 all_put form first count k rows found none room behind =
     let leaves : List Leaf = job_leaves form (record { first = first; count = count }) in
     let f : ℕ → ℕ = λ r. unwrap_or (first_with_row form r (first + 1) leaves) 0 in

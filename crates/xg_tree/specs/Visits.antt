@@ -24,6 +24,6 @@ abbrev pub visit_events : List Links → ℕ → Node → List Event
 visit_events links k node = Enter k node ∷ (if nat_eq (links_at links k).first_child 0 then leaving links k else [])
 
 -- the nodes from node k on are visited
-abbrev pub visits_from : List Links → ℕ → List Node → List Event
-visits_from links k [] = []
-visits_from links k (node ∷ rest) = visit_events links k node ++ visits_from links (k + 1) rest
+abbrev pub walk_events_from : List Links → ℕ → List Node → List Event
+walk_events_from links k [] = []
+walk_events_from links k (node ∷ rest) = visit_events links k node ++ walk_events_from links (k + 1) rest

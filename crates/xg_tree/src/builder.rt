@@ -90,7 +90,7 @@ impl Builder {
         self.nodes.reserve(1).map_err(|_| PushFault::NoMemory)?;
         self.links.reserve(1).map_err(|_| PushFault::NoMemory)?;
         self.sizes.note(node).map_err(|_| PushFault::NoMemory)?;
-        self.nodes.push(node).unwrap();
+        self.nodes.push_reserved(node);
         put_next(&mut self.links, node.children);
         self.leaves += leaves_in(node);
         self.wanted = self.wanted - 1 + node.children;

@@ -83,13 +83,11 @@ pub(crate) fn put_next(links: &mut Vec<Links>, children: u32)
     let place = next_place(links);
     let to_come = links_at(links, place.parent).next_sibling;
     let number = links.len() as u32 + 1;
-    links
-        .push(Links {
-            parent: place.parent,
-            first_child: first_below(number, children),
-            next_sibling: children,
-        })
-        .unwrap();
+    links.push_reserved(Links {
+        parent: place.parent,
+        first_child: first_below(number, children),
+        next_sibling: children,
+    });
     set_next(links, place.previous, number);
     set_next(links, place.parent, to_come.saturating_sub(1));
 }

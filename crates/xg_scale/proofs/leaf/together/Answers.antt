@@ -1,7 +1,6 @@
 use Rattle.std.proofs.Common.{◌≡◌, ◌∙◌, ap, refl, subst, sym}
 use Rattle.std.specs.Prelude.{IsTrue}
-use Rattle.def_fraction.specs.Fraction.{Fraction, fits, sum_of, zero_fraction}
-use Rattle.def_game_scale.specs.Faults.{is_zero}
+use Rattle.def_fraction.specs.Fraction.{Fraction, fits, sum_of, zero_fraction, is_zero}
 use Rattle.def_game_scale.proofs.Expected.{lowest-sum}
 use Rattle.xg_scale.proofs.FractionParts.{is_nothing, opposite_sum}
 use Rattle.xg_scale.proofs.leaf.together.Goals as goal

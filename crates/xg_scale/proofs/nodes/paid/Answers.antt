@@ -1,7 +1,6 @@
 use Rattle.std.proofs.Common.{◌≡◌, true, ◌∙◌, ap, subst, sym}
 use Rattle.std.specs.Prelude.{IsTrue, OkIff}
-use Rattle.def_fraction.specs.Fraction.{Fraction, fits, sum_of}
-use Rattle.def_game_scale.specs.Faults.{is_zero}
+use Rattle.def_fraction.specs.Fraction.{Fraction, fits, sum_of, is_zero}
 use Rattle.def_game_numbers.specs.Numbers.{tables_of}
 use Rattle.def_game_scale.specs.Tables.{payoffs_of}
 use Rattle.xg_scale.specs.Walked.{paid_to}

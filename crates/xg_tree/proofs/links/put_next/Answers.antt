@@ -15,7 +15,7 @@ set_next-requires c =
     let links : List Links = c.args.links.now.items in
     let x : Links = link_numbers c.next_place-place.result.parent c.first_below.result c.args.children in
     let low : (next_place links).previous ≤ length links = previous_low links c.requires.ordered in
-    let pushed : c.push.new.self.items ≡ links ++ x ∷ [] = search rules in
+    let pushed : c.push_reserved.new.self.items ≡ links ++ x ∷ [] = search rules in
     omega (arith, ap (λ p. p.previous) (c.next_place-place.ensures ∙ ap next_place c.deref.ensures.value), ap length pushed, length-append links (x ∷ []))
 
 pub set_next-requires-2 : goal.set_next-requires-2
@@ -23,15 +23,15 @@ set_next-requires-2 c =
     let links : List Links = c.args.links.now.items in
     let x : Links = link_numbers c.next_place-place.result.parent c.first_below.result c.args.children in
     let low : (next_place links).parent ≤ length links = place_low links c.requires.ordered in
-    let pushed : c.push.new.self.items ≡ links ++ x ∷ [] = search rules in
-    omega (arith, ap (λ p. p.parent) (c.next_place-place.ensures ∙ ap next_place c.deref.ensures.value), ap length pushed, length-append links (x ∷ []), ap length c.set_next.ensures, length-with_next c.push.new.self.items c.next_place-place.result.previous (c.len.result + 1))
+    let pushed : c.push_reserved.new.self.items ≡ links ++ x ∷ [] = search rules in
+    omega (arith, ap (λ p. p.parent) (c.next_place-place.ensures ∙ ap next_place c.deref.ensures.value), ap length pushed, length-append links (x ∷ []), ap length c.set_next.ensures, length-with_next c.push_reserved.new.self.items c.next_place-place.result.previous (c.len.result + 1))
 
 pub returns : goal.returns
 returns c =
     let links : List Links = c.args.links.now.items in
     let place = c.next_place-place.result in
     let x : Links = link_numbers place.parent c.first_below.result c.args.children in
-    let pushed : c.push.new.self.items ≡ links ++ x ∷ [] = search rules in
+    let pushed : c.push_reserved.new.self.items ≡ links ++ x ∷ [] = search rules in
     let is : place ≡ next_place links = c.next_place-place.ensures ∙ ap next_place c.deref.ensures.value in
     let parent_low : (next_place links).parent ≤ length links = place_low links c.requires.ordered in
     let before_low : (next_place links).previous ≤ length links = previous_low links c.requires.ordered in

@@ -9,7 +9,7 @@ use Rattle.def_history.specs.Ranges.{LeafRange}
 use Rattle.def_history.specs.JobPackets.{touched_rows}
 use Rattle.def_history.specs.JobRows.{job_leaves}
 use Rattle.xg_touched.specs.Threads.{thread_sum}
-use Rattle.xg_touched.specs.Touched.{JobRows, first_leaves}
+use Rattle.xg_touched.specs.Touched.{JobRows, first_leaves_with}
 use Rattle.xg_touched.proofs.FirstLeaves.{first_read, thread_of_two}
 use Rattle.xg_touched.proofs.touched.TouchedRows.amount_of_two.Goals as goal
 
@@ -24,8 +24,8 @@ thread_sum-requires-clause-from_one c =
     let row : ℕ = slice_index rows i in
     let leaf : ℕ = c.index-leaf.result.now in
     let rows_are : rows ≡ touched_rows form leaves = ap (λ (x : JobRows). x.rows) c.requires.rows in
-    let firsts_are : firsts ≡ first_leaves form (range.first + 1) leaves rows =
-    ap (λ (x : JobRows). x.first_leaves) (c.self.view_is ∙ c.requires.rows) ∙ ap (first_leaves form (range.first + 1) leaves) (sym rows_are) in
+    let firsts_are : firsts ≡ first_leaves_with form (range.first + 1) leaves rows =
+    ap (λ (x : JobRows). x.first_leaves) (c.self.view_is ∙ c.requires.rows) ∙ ap (first_leaves_with form (range.first + 1) leaves) (sym rows_are) in
     let last : c.self.inside.leaves_before + c.self.inside.count ≡ range.first + range.count = ap (λ (x : JobRows). x.range.first + x.range.count) c.self.view_is in
     let found = first_read form (range.first + 1) leaves rows firsts i row leaf rows_are firsts_are c.requires.there (get_or_default rows i 0 row c.requires.there) c.index-leaf.ensures in
     let thread = thread_of_two form c.args.one.now c.args.two.now range row leaf c.requires.leaves c.requires.row found in
@@ -42,8 +42,8 @@ thread_sum-requires-clause-in_order c =
     let row : ℕ = slice_index rows i in
     let leaf : ℕ = c.index-leaf.result.now in
     let rows_are : rows ≡ touched_rows form leaves = ap (λ (x : JobRows). x.rows) c.requires.rows in
-    let firsts_are : firsts ≡ first_leaves form (range.first + 1) leaves rows =
-    ap (λ (x : JobRows). x.first_leaves) (c.self.view_is ∙ c.requires.rows) ∙ ap (first_leaves form (range.first + 1) leaves) (sym rows_are) in
+    let firsts_are : firsts ≡ first_leaves_with form (range.first + 1) leaves rows =
+    ap (λ (x : JobRows). x.first_leaves) (c.self.view_is ∙ c.requires.rows) ∙ ap (first_leaves_with form (range.first + 1) leaves) (sym rows_are) in
     let last : c.self.inside.leaves_before + c.self.inside.count ≡ range.first + range.count = ap (λ (x : JobRows). x.range.first + x.range.count) c.self.view_is in
     let found = first_read form (range.first + 1) leaves rows firsts i row leaf rows_are firsts_are c.requires.there (get_or_default rows i 0 row c.requires.there) c.index-leaf.ensures in
     let thread = thread_of_two form c.args.one.now c.args.two.now range row leaf c.requires.leaves c.requires.row found in
@@ -60,8 +60,8 @@ returns c =
     let row : ℕ = slice_index rows i in
     let leaf : ℕ = c.index-leaf.result.now in
     let rows_are : rows ≡ touched_rows form leaves = ap (λ (x : JobRows). x.rows) c.requires.rows in
-    let firsts_are : firsts ≡ first_leaves form (range.first + 1) leaves rows =
-    ap (λ (x : JobRows). x.first_leaves) (c.self.view_is ∙ c.requires.rows) ∙ ap (first_leaves form (range.first + 1) leaves) (sym rows_are) in
+    let firsts_are : firsts ≡ first_leaves_with form (range.first + 1) leaves rows =
+    ap (λ (x : JobRows). x.first_leaves) (c.self.view_is ∙ c.requires.rows) ∙ ap (first_leaves_with form (range.first + 1) leaves) (sym rows_are) in
     let last : c.self.inside.leaves_before + c.self.inside.count ≡ range.first + range.count = ap (λ (x : JobRows). x.range.first + x.range.count) c.self.view_is in
     let found = first_read form (range.first + 1) leaves rows firsts i row leaf rows_are firsts_are c.requires.there (get_or_default rows i 0 row c.requires.there) c.index-leaf.ensures in
     let thread = thread_of_two form c.args.one.now c.args.two.now range row leaf c.requires.leaves c.requires.row found in
