@@ -2,6 +2,7 @@
 ghost use Rattle.std.specs.Prelude.{◌≡◌, ◌<◌, ◌≤◌, ℕ, [], length, slice_index, IfOk};
 ghost use Rattle.xg_rowcore.specs.Chains.{AreChains, IsNextOf, KeepsChains};
 
+use crate::places::stripe_of;
 use def_sums::MOST_STRIPES;
 use std::alloc::{AllocError, Global};
 
@@ -53,7 +54,7 @@ fn link_places(rows: &[u32], stripes: u32, first: &mut [usize], next: &mut [usiz
     ensures { AreChains 0 stripes rows.now first.new next.new }
 {
     for i in (0..rows.len()).rev() {
-        let stripe = (rows[i] % stripes) as usize;
+        let stripe = stripe_of(rows[i], stripes) as usize;
         next[i] = first[stripe];
         first[stripe] = i;
     }
@@ -66,7 +67,7 @@ pub(crate) fn seek(rows: &[u32], stripes: u32, stripe: u32, from: usize) -> usiz
     ensures { IsNextOf stripes stripe rows.now from result }
 {
     for i in from..rows.len() {
-        if rows[i] % stripes == stripe {
+        if stripe_of(rows[i], stripes) == stripe {
             return i;
         }
     }

@@ -8,6 +8,7 @@ ghost use Rattle.xg_rowcore.specs.Chains.{IsNextOf, rows_of};
 ghost use Rattle.xg_rowcore.specs.Packets.{IsAboveLast, entry_in, with_added};
 
 use crate::chains::{Chains, seek};
+use crate::places::stripe_of;
 use std::alloc::{AllocError, Global};
 use std::marker::Model;
 
@@ -130,7 +131,7 @@ impl RowEntries {
         if self.chains.stripes == stripes {
             self.chains.next[i]
         } else {
-            seek(&self.rows, stripes, self.rows[i] % stripes, i + 1)
+            seek(&self.rows, stripes, stripe_of(self.rows[i], stripes), i + 1)
         }
     }
 

@@ -8,6 +8,7 @@ mod chains;
 mod entries;
 mod name;
 mod packet;
+mod places;
 mod stripe;
 
 pub use name::RowName;

@@ -8,6 +8,7 @@ ghost use Rattle.xg_rowcore.specs.Stripes.{AreTotals, HasGrown, with_job};
 
 use crate::name::RowName;
 use crate::packet::Packet;
+use crate::places::place_of;
 use std::alloc::{AllocError, Global};
 use std::marker::{Model, PhantomData};
 
@@ -162,7 +163,7 @@ fn add_entry(totals: &mut Vec<i128>, stripes: u32, row: u32, amount: i128)
     ensures { HasGrown (record { row = row; amount = amount } ∷ []) (stripe_of stripes row) stripes totals.old.items
         totals.new.items }
 {
-    add_at(totals, (row / stripes) as usize, amount);
+    add_at(totals, place_of(row, stripes) as usize, amount);
 }
 
 // Adds to one total.

@@ -67,4 +67,5 @@ returns-else-self-stripes c =
     let items = c.deref.ensures.value in
     subst (λ r. IsNextOf c.args.stripes (stripe_of c.args.stripes r) (rows_of c.args.self.now.list) (c.args.i + 1) c.seek.result) row
     (subst (λ rs. IsNextOf c.args.stripes (stripe_of c.args.stripes c.index-else-self-stripes.result.now) rs (c.args.i + 1) c.seek.result)
-    (items ∙ rows_are) c.seek.ensures)
+    (items ∙ rows_are)
+    (subst (λ k. IsNextOf c.args.stripes k c.deref.result.now (c.args.i + 1) c.seek.result) c.stripe_of.ensures c.seek.ensures))
