@@ -9,3 +9,4 @@ pub mod RowSums
 pub mod Closed
 pub mod OneAction
 pub mod SmallRegrets
+pub mod CutOneByOne

@@ -2,6 +2,7 @@
 //! A player's rounds of regret matching: the regrets so far, the play that they make, and what a round adds to them.
 
 mod closing;
+mod cutting;
 mod playing;
 mod regrets;
 mod worths;

@@ -3,8 +3,10 @@ ghost use Rattle.std.specs.Prelude.{◌≡◌, ◌<◌, ◌≤◌, length, pos, 
 ghost use Rattle.def_plan.specs.Form.{player_sets};
 ghost use Rattle.def_round.specs.Play.{regret_of};
 ghost use Rattle.def_sums.specs.Limits.{most_rounds};
+ghost use Rattle.def_plus.specs.Cut.{cut};
 ghost use Rattle.xg_closer.specs.Regrets.{none_so_far};
 
+use crate::cutting::cut_kept;
 use def_tree::Player;
 use std::alloc::{AllocError, Global};
 use std::marker::Model;
@@ -81,6 +83,15 @@ impl Regrets {
         ensures limit { result ≤ most_rounds }
     {
         self.rounds
+    }
+
+    /// Puts 0 for each regret below 0, as regret matching plus does after each round (Tammelin 2014). Takes no memory.
+    pub fn cut(&mut self)
+        ensures regrets { self.new.of_sequences ≡ cut self.old.of_sequences }
+        ensures count { length self.new.of_sequences ≡ length self.old.of_sequences }
+        ensures rounds { self.new.closed ≡ self.old.closed }
+    {
+        cut_kept(self.most_small, &mut self.small_regrets, &mut self.regrets);
     }
 
     /// Begins anew: no rounds, and no regrets.

@@ -1,6 +1,6 @@
 //! The worths of sequences, in 64 or 128 bits.
-ghost use Rattle.std.specs.Prelude.{◌≡◌, ℕ, ◌<◌, ℤ, ◌+ℤ◌, FitsSigned, length, map};
-ghost use Rattle.std.specs.Int.{Width, int_wrap};
+ghost use Rattle.std.specs.Prelude.{◌≡◌, ℕ, ◌<◌, ℤ, pos, ◌+ℤ◌, FitsSigned, length, map};
+ghost use Rattle.std.specs.Int.{Width, int_max, int_wrap};
 ghost use Rattle.def_plan.specs.FormRows.{amount_of};
 
 /// What a sequence is worth, in as many bits as the worths of a round need.
@@ -17,6 +17,10 @@ pub(crate) trait Worth: Copy {
     fn plus(&self, value: i128) -> Self
         requires { FitsSigned width value }
         ensures { amount result ≡ int_wrap width (amount self.now +ℤ value) };
+
+    // 0 in place of a worth below 0
+    fn or_zero(&self) -> Self
+        ensures { amount result ≡ int_max (pos 0) (amount self.now) };
 }
 
 impl Worth for i64 {
@@ -33,6 +37,10 @@ impl Worth for i64 {
     fn plus(&self, value: i128) -> i64 {
         self.wrapping_add(value as i64)
     }
+
+    fn or_zero(&self) -> i64 {
+        (*self).max(0)
+    }
 }
 
 impl Worth for i128 {
@@ -48,6 +56,10 @@ impl Worth for i128 {
 
     fn plus(&self, value: i128) -> i128 {
         self.wrapping_add(value)
+    }
+
+    fn or_zero(&self) -> i128 {
+        (*self).max(0)
     }
 }
 

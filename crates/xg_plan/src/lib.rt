@@ -10,7 +10,7 @@ mod play;
 mod reply;
 mod shares;
 
-pub use adding::add_to;
+pub use adding::{add_times, add_to};
 pub use checking::{bad_set, is_plan};
 pub use dealing::from_play;
 pub use def_tree::Player;

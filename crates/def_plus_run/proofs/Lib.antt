@@ -1,0 +1,4 @@
+pub mod WeighedEnds
+pub mod WeighedTraces
+pub mod WeighedOutcomes
+pub mod PlusRuns
