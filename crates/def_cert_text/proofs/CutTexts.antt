@@ -5,15 +5,16 @@ use Rattle.std.proofs.Math.Seq.{take-append-add}
 use Rattle.std.proofs.lemmas.Bool.{and_parts, and_from, cases_lt}
 use Rattle.def_cert_text.specs.declared.fault.CertFault.TheVariants.{CertShort}
 use Rattle.def_cert_verdict.specs.Certificate.{Certificate}
+use Rattle.def_cert_verdict.specs.Ranges.{CertificateFits}
 use Rattle.def_cert_text.specs.Fields.{Item, field, separator, item_bytes, items_text, is_field_byte, next_field, is_empty}
-use Rattle.def_cert_text.specs.CertText.{whole_certificate, cert_text}
+use Rattle.def_cert_text.specs.Formats.{Format, text_of}
+use Rattle.def_cert_text.specs.Versions.{VersionedCertificate, VersionedFits}
+use Rattle.def_cert_text.specs.CertText.{whole_certificate, versioned_certificate, read_to_end, cert_in, versioned_in}
 use Rattle.def_cert_text.specs.FirstFault.{of_separator, place_of_item, is_cut_short, HasFirstFault, cut_short, within}
-use Rattle.def_cert_text.specs.Laws.{CutTextsAreShort}
+use Rattle.def_cert_text.specs.Laws.{CutsAreShort, CutTextsAreShort, CutVersionedTextsAreShort}
 use Rattle.def_cert_text.proofs.FieldLaws.{all_pass, behind_all}
 use Rattle.def_cert_text.proofs.FormatLaws.{is_clean, all_clean}
-use Rattle.def_cert_text.proofs.Fits.{ranges_fit}
-use Rattle.def_cert_text.proofs.LineLaws.{certificate_laws}
-use Rattle.def_cert_text.proofs.TextLaws.{first_fault}
+use Rattle.def_cert_text.proofs.TextLaws.{IsWithRanges, faults_are_first, of_version_one, of_versions}
 
 -- where the bytes of items are cut: behind some items, within the next
 record ItemsAreCut (items : List Item) (n : ℕ) : Type 0 where
@@ -82,20 +83,29 @@ cut_at (item ∷ items) n clean low =
     })
     where_is
 
-cut_fault : (c : Certificate) (n : ℕ) → whole_certificate.fits c ≡ true → ItemsAreCut (whole_certificate.items c) n
-    → HasFirstFault whole_certificate (length (take n (cert_text c))) (take n (cert_text c)) CertShort
-cut_fault c n fits cut = record {
+cut_fault : (A : Type 0) (f : Format A) (x : A) (n : ℕ) → f.fits x ≡ true → ItemsAreCut (f.items x) n
+    → HasFirstFault f (length (take n (text_of f x))) (take n (text_of f x)) CertShort
+cut_fault A f x n fits cut = record {
   items = cut.front;
   place = place_of_item cut.item;
   left = cut.left;
   parts = cut.bytes_are;
   whole_before = cut.whole_before;
-  needed = (cut.item, refl, (c, cut.more, fits, cut.items_are));
+  needed = (cut.item, refl, (x, cut.more, fits, cut.items_are));
   stop = cut_short cut.short refl;
 }
 
--- the text of a certificate within its ranges, cut anywhere before its end, is read as short
+-- the text of a value within its ranges, cut anywhere before its end, is read as short
+cuts : (A : Type 0) (f : Format A) (Fits : A → Type 0) → IsWithRanges A f Fits
+    → CutsAreShort Fits (text_of f) (read_to_end f)
+cuts A f Fits is x n fit low =
+    let fits = is.taken x fit in
+    (faults_are_first A f Fits is (take n (text_of f x)) CertShort).1 (within (cut_fault A f x n fits (cut_at (f.items x) n (is.laws.clean x fits) low)))
+
 pub cut_texts : CutTextsAreShort
-cut_texts c n f low =
-    let fits = ranges_fit c f in
-    (first_fault (take n (cert_text c)) CertShort).1 (within (cut_fault c n fits (cut_at (whole_certificate.items c) n (certificate_laws.clean c fits) low)))
+unfolding cert_in
+cut_texts = cuts Certificate whole_certificate CertificateFits of_version_one
+
+pub cut_versioned : CutVersionedTextsAreShort
+unfolding versioned_in
+cut_versioned = cuts VersionedCertificate versioned_certificate VersionedFits of_versions

@@ -10,7 +10,8 @@ use Rattle.def_reply.specs.Outcome.{Head}
 use Rattle.def_cert_verdict.specs.Certificate.{PrintedPlan, PrintedBounds, Certificate}
 use Rattle.def_cert_verdict.specs.Ranges.{IsFromTo, IsPrintable, FractionFits, HeadFits, LineFits, TraceFits, PlanWeightsFit, PlanFits, ReplyFits, BoundsFit, FitsBelowHead, CertificateFits}
 use Rattle.def_cert_text.specs.Formats.{Format, is_lowest_within, each_fits, asked_fits, row_fits}
-use Rattle.def_cert_text.specs.CertText.{head_lines, line_of_round, round_of_evaluation, evaluation_count, trace_lines, weights_line, plan_lines, value_line, reply_lines, bounds_lines, whole_certificate}
+use Rattle.def_cert_text.specs.Versions.{TextVersion, version_one, version_two, PrintedBracket, VersionedCertificate, has_second, SecondFits, VersionedFits}
+use Rattle.def_cert_text.specs.CertText.{payoff_lines, head_lines_of, line_of_round, round_of_evaluation, evaluation_count, trace_lines, weights_line, plan_lines, value_line, reply_lines, bounds_lines, whole_certificate, second_line, versioned_certificate}
 use Rattle.def_cert_text.proofs.FieldLaws.{lowest_parts, lowest_from}
 
 -- ---- numbers
@@ -36,29 +37,56 @@ fraction_taken : (limit : ℕ) (f : Fraction) → FractionFits limit f → is_lo
 fraction_taken limit f b = lowest_from limit f (record { positive = b.lowest.positive; coprime = b.lowest.coprime; num = b.num; den = b.den })
 
 -- ---- the head
-abbrev unit_fits : Head → Bool
-unit_fits h = is_within 1 (2 ^ 62) h.unit && is_lowest_within (2 ^ 62) h.sum
+record PayoffsFit (unit : ℕ) (sum : Fraction) (mass : ℕ) : Type 0 where
+  unit_is : IsFromTo 1 (2 ^ 62) unit
+  sum_is : FractionFits (2 ^ 62) sum
+  mass_is : mass ≤ 2 ^ 62
 
-abbrev game_fits : Head → Bool
-game_fits h =
+abbrev payoffs_taken_by : TextVersion → ℕ → Fraction → ℕ → Bool
+payoffs_taken_by v unit sum mass = (payoff_lines v).fits ((unit, sum), mass)
+
+payoffs_fit : (v : TextVersion) (unit : ℕ) (sum : Fraction) (mass : ℕ) → payoffs_taken_by v unit sum mass ≡ true
+    → PayoffsFit unit sum mass
+payoffs_fit version_one unit sum mass fit =
+    let p = and_parts (is_within 1 (2 ^ 62) unit && is_lowest_within (2 ^ 62) sum) (is_within 0 (2 ^ 62) mass) fit in
+    let q = and_parts (is_within 1 (2 ^ 62) unit) (is_lowest_within (2 ^ 62) sum) p.0 in
+    record { unit_is = from_to 1 (2 ^ 62) unit q.0; sum_is = fraction_fits (2 ^ 62) sum q.1; mass_is = (from_to 0 (2 ^ 62) mass p.1).1 }
+payoffs_fit version_two unit sum mass fit =
+    let p = and_parts (is_within 1 (2 ^ 62) unit) (is_within 0 (2 ^ 62) mass && is_lowest_within (2 ^ 62) sum) fit in
+    let q = and_parts (is_within 0 (2 ^ 62) mass) (is_lowest_within (2 ^ 62) sum) p.1 in
+    record { unit_is = from_to 1 (2 ^ 62) unit p.0; sum_is = fraction_fits (2 ^ 62) sum q.1; mass_is = (from_to 0 (2 ^ 62) mass q.0).1 }
+
+payoffs_taken : (v : TextVersion) (unit : ℕ) (sum : Fraction) (mass : ℕ) → PayoffsFit unit sum mass
+    → payoffs_taken_by v unit sum mass ≡ true
+payoffs_taken version_one unit sum mass f =
+    and_from (is_within 1 (2 ^ 62) unit && is_lowest_within (2 ^ 62) sum) (is_within 0 (2 ^ 62) mass)
+    (and_from (is_within 1 (2 ^ 62) unit) (is_lowest_within (2 ^ 62) sum) (to_within 1 (2 ^ 62) unit f.unit_is) (fraction_taken (2 ^ 62) sum f.sum_is)) (up_to (2 ^ 62) mass f.mass_is)
+payoffs_taken version_two unit sum mass f =
+    and_from (is_within 1 (2 ^ 62) unit) (is_within 0 (2 ^ 62) mass && is_lowest_within (2 ^ 62) sum) (to_within 1 (2 ^ 62) unit f.unit_is)
+    (and_from (is_within 0 (2 ^ 62) mass) (is_lowest_within (2 ^ 62) sum) (up_to (2 ^ 62) mass f.mass_is) (fraction_taken (2 ^ 62) sum f.sum_is))
+
+abbrev payoffs_of : TextVersion → Head → Bool
+payoffs_of v h = payoffs_taken_by v h.unit h.sum h.mass
+
+abbrev game_fits : TextVersion → Head → Bool
+game_fits v h =
     (is_within 1 (2 ^ 20) h.nodes && is_within 1 (2 ^ 20) h.leaves) && ((is_within 0 (2 ^ 20) h.sets_one && is_within 0 (2 ^ 20) h.sets_two)
-    && ((is_within 1 (2 ^ 20) h.sequences_one && is_within 1 (2 ^ 20) h.sequences_two) && (unit_fits h && is_within 0 (2 ^ 62) h.mass)))
+    && ((is_within 1 (2 ^ 20) h.sequences_one && is_within 1 (2 ^ 20) h.sequences_two) && payoffs_of v h))
 
 abbrev asked_line_fits : Head → Bool
 asked_line_fits h = is_within 0 65536 h.rounds && (is_within 1 65536 h.every && is_within 1 1048576 h.scale)
 
 -- a head that the format of its lines takes is within its ranges
-pub head_fits : (h : Head) → head_lines.fits h ≡ true → HeadFits h
-head_fits h fit =
-    let whole = and_parts (game_fits h) (asked_line_fits h) fit in
+pub head_fits : (v : TextVersion) (h : Head) → (head_lines_of v).fits h ≡ true → HeadFits h
+head_fits v h fit =
+    let whole = and_parts (game_fits v h) (asked_line_fits h) fit in
     let size = and_parts (is_within 1 (2 ^ 20) h.nodes && is_within 1 (2 ^ 20) h.leaves) _ whole.0 in
     let nodes = and_parts (is_within 1 (2 ^ 20) h.nodes) (is_within 1 (2 ^ 20) h.leaves) size.0 in
     let sets = and_parts (is_within 0 (2 ^ 20) h.sets_one && is_within 0 (2 ^ 20) h.sets_two) _ size.1 in
     let each_sets = and_parts (is_within 0 (2 ^ 20) h.sets_one) (is_within 0 (2 ^ 20) h.sets_two) sets.0 in
     let sequences = and_parts (is_within 1 (2 ^ 20) h.sequences_one && is_within 1 (2 ^ 20) h.sequences_two) _ sets.1 in
     let each_sequences = and_parts (is_within 1 (2 ^ 20) h.sequences_one) (is_within 1 (2 ^ 20) h.sequences_two) sequences.0 in
-    let units = and_parts (unit_fits h) (is_within 0 (2 ^ 62) h.mass) sequences.1 in
-    let unit = and_parts (is_within 1 (2 ^ 62) h.unit) (is_lowest_within (2 ^ 62) h.sum) units.0 in
+    let payoffs = payoffs_fit v h.unit h.sum h.mass sequences.1 in
     let rounds = and_parts (is_within 0 65536 h.rounds) (is_within 1 65536 h.every && is_within 1 1048576 h.scale) whole.1 in
     let every = and_parts (is_within 1 65536 h.every) (is_within 1 1048576 h.scale) rounds.1 in
     record {
@@ -68,26 +96,24 @@ head_fits h fit =
       sets_two = (from_to 0 (2 ^ 20) h.sets_two each_sets.1).1;
       sequences_one = from_to 1 (2 ^ 20) h.sequences_one each_sequences.0;
       sequences_two = from_to 1 (2 ^ 20) h.sequences_two each_sequences.1;
-      unit = from_to 1 (2 ^ 62) h.unit unit.0;
-      sum = fraction_fits (2 ^ 62) h.sum unit.1;
-      mass = (from_to 0 (2 ^ 62) h.mass units.1).1;
+      unit = payoffs.unit_is;
+      sum = payoffs.sum_is;
+      mass = payoffs.mass_is;
       rounds = (from_to 0 65536 h.rounds rounds.0).1;
       every = from_to 1 65536 h.every every.0;
       scale = from_to 1 1048576 h.scale every.1;
     }
 
-pub head_taken : (h : Head) → HeadFits h → head_lines.fits h ≡ true
-head_taken h f =
-    and_from (game_fits h) (asked_line_fits h)
+pub head_taken : (v : TextVersion) (h : Head) → HeadFits h → (head_lines_of v).fits h ≡ true
+head_taken v h f =
+    and_from (game_fits v h) (asked_line_fits h)
     (and_from (is_within 1 (2 ^ 20) h.nodes && is_within 1 (2 ^ 20) h.leaves) _
     (and_from (is_within 1 (2 ^ 20) h.nodes) (is_within 1 (2 ^ 20) h.leaves) (to_within 1 (2 ^ 20) h.nodes f.nodes) (to_within 1 (2 ^ 20) h.leaves f.leaves))
     (and_from (is_within 0 (2 ^ 20) h.sets_one && is_within 0 (2 ^ 20) h.sets_two) _
     (and_from (is_within 0 (2 ^ 20) h.sets_one) (is_within 0 (2 ^ 20) h.sets_two) (up_to (2 ^ 20) h.sets_one f.sets_one) (up_to (2 ^ 20) h.sets_two f.sets_two))
-    (and_from (is_within 1 (2 ^ 20) h.sequences_one && is_within 1 (2 ^ 20) h.sequences_two) _
+    (and_from (is_within 1 (2 ^ 20) h.sequences_one && is_within 1 (2 ^ 20) h.sequences_two) (payoffs_of v h)
     (and_from (is_within 1 (2 ^ 20) h.sequences_one) (is_within 1 (2 ^ 20) h.sequences_two) (to_within 1 (2 ^ 20) h.sequences_one f.sequences_one) (to_within 1 (2 ^ 20) h.sequences_two f.sequences_two))
-    (and_from (unit_fits h) (is_within 0 (2 ^ 62) h.mass)
-    (and_from (is_within 1 (2 ^ 62) h.unit) (is_lowest_within (2 ^ 62) h.sum) (to_within 1 (2 ^ 62) h.unit f.unit) (fraction_taken (2 ^ 62) h.sum f.sum))
-    (up_to (2 ^ 62) h.mass f.mass)))))
+    (payoffs_taken v h.unit h.sum h.mass (record { unit_is = f.unit; sum_is = f.sum; mass_is = f.mass })))))
     (and_from (is_within 0 65536 h.rounds) (is_within 1 65536 h.every && is_within 1 1048576 h.scale) (up_to 65536 h.rounds f.rounds)
     (and_from (is_within 1 65536 h.every) (is_within 1 1048576 h.scale) (to_within 1 65536 h.every f.every) (to_within 1 1048576 h.scale f.scale)))
 
@@ -333,16 +359,74 @@ below_taken head (Some b) f = ap (λ t. asked_fits t (bounds_lines head) (Some b
 below_taken head None f = ap (λ n. asked_fits (ltb 0 n) (bounds_lines head) None) f
 
 abbrev below : Certificate → Bool
-below c = asked_fits (ltb 0 c.head.rounds) (bounds_lines c.head) c.bounds && true
+below c = asked_fits (ltb 0 c.head.rounds) (bounds_lines c.head) c.bounds
+
+-- in a text of any version, from the fits of the head and of the bounds
+from_parts : (v : TextVersion) (c : Certificate) → (head_lines_of v).fits c.head ≡ true → below c ≡ true → CertificateFits c
+from_parts v c head bounds = record { head = head_fits v c.head head; below = below_fits c.head (ltb 0 c.head.rounds) c.bounds refl bounds }
 
 -- a certificate that the formats take is within its ranges
 pub fits_ranges : (c : Certificate) → whole_certificate.fits c ≡ true → CertificateFits c
 fits_ranges c fit =
-    let p = and_parts (head_lines.fits c.head) (below c) fit in
-    let q = and_parts (asked_fits (ltb 0 c.head.rounds) (bounds_lines c.head) c.bounds) true p.1 in
-    record { head = head_fits c.head p.0; below = below_fits c.head (ltb 0 c.head.rounds) c.bounds refl q.0 }
+    let p = and_parts ((head_lines_of version_one).fits c.head) (below c && true) fit in
+    from_parts version_one c p.0 (and_parts (below c) true p.1).0
 
 -- a certificate that is within its ranges is one that the formats take
 pub ranges_fit : (c : Certificate) → CertificateFits c → whole_certificate.fits c ≡ true
 ranges_fit c f =
-    and_from (head_lines.fits c.head) (below c) (head_taken c.head f.head) (and_from (asked_fits (ltb 0 c.head.rounds) (bounds_lines c.head) c.bounds) true (below_taken c.head c.bounds f.below) refl)
+    and_from ((head_lines_of version_one).fits c.head) (below c && true) (head_taken version_one c.head f.head)
+    (and_from (below c) true (below_taken c.head c.bounds f.below) refl)
+
+-- ---- the second bracket
+abbrev second_taken_by : TextVersion → ℕ → Option PrintedBracket → Bool
+second_taken_by v rounds second = asked_fits (has_second v && ltb 0 rounds) second_line second
+
+bracket_fits : (second : PrintedBracket) → second_line.fits second ≡ true
+    → FractionFits (2 ^ 100) second.low × FractionFits (2 ^ 100) second.high
+bracket_fits second fit =
+    let p = and_parts (is_lowest_within (2 ^ 100) second.low) (is_lowest_within (2 ^ 100) second.high) fit in
+    (fraction_fits (2 ^ 100) second.low p.0, fraction_fits (2 ^ 100) second.high p.1)
+
+second_fits : (v : TextVersion) (head : Head) (bounds : Option PrintedBounds) (second : Option PrintedBracket)
+    → FitsBelowHead head bounds → second_taken_by v head.rounds second ≡ true → SecondFits v bounds second
+second_fits version_one head bounds None below fit = refl
+second_fits version_one head bounds (Some second) below fit = absurd cc
+second_fits version_two head None second below fit = none second (ap (λ n. second_taken_by version_two n second) (sym below) ∙ fit)
+  where
+    none : (second : Option PrintedBracket) → second_taken_by version_two 0 second ≡ true → second ≡ None
+    none None fit = refl
+    none (Some second) fit = absurd cc
+second_fits version_two head (Some b) second below fit =
+    there second (ap (λ t. asked_fits t second_line second) (sym (lt-ltb 0 head.rounds below.asked)) ∙ fit)
+  where
+    there : (second : Option PrintedBracket) → asked_fits true second_line second ≡ true → SecondFits version_two (Some b) second
+    there None fit = absurd cc
+    there (Some second) fit = bracket_fits second fit
+
+second_taken : (v : TextVersion) (head : Head) (bounds : Option PrintedBounds) (second : Option PrintedBracket)
+    → FitsBelowHead head bounds → SecondFits v bounds second → second_taken_by v head.rounds second ≡ true
+second_taken version_one head bounds None below f = refl
+second_taken version_one head bounds (Some second) below f = absurd cc
+second_taken version_two head None second below f =
+    ap (λ s. second_taken_by version_two head.rounds s) f ∙ ap (λ n. second_taken_by version_two n None) below
+second_taken version_two head (Some b) None below f = absurd f
+second_taken version_two head (Some b) (Some second) below f =
+    ap (λ t. asked_fits t second_line (Some second)) (lt-ltb 0 head.rounds below.asked)
+    ∙ and_from (is_lowest_within (2 ^ 100) second.low) (is_lowest_within (2 ^ 100) second.high) (fraction_taken (2 ^ 100) second.low f.0) (fraction_taken (2 ^ 100) second.high f.1)
+
+abbrev second_of : VersionedCertificate → Bool
+second_of c = second_taken_by c.version c.certificate.head.rounds c.second
+
+-- the same of certificates in a text of either version
+pub fits_versioned : (c : VersionedCertificate) → versioned_certificate.fits c ≡ true → VersionedFits c
+fits_versioned c fit =
+    let p = and_parts ((head_lines_of c.version).fits c.certificate.head) (below c.certificate && (second_of c && true)) fit in
+    let q = and_parts (below c.certificate) (second_of c && true) p.1 in
+    let fits = from_parts c.version c.certificate p.0 q.0 in
+    record { certificate = fits; second = second_fits c.version c.certificate.head c.certificate.bounds c.second fits.below (and_parts (second_of c) true q.1).0 }
+
+pub versioned_fit : (c : VersionedCertificate) → VersionedFits c → versioned_certificate.fits c ≡ true
+versioned_fit c f =
+    and_from ((head_lines_of c.version).fits c.certificate.head) (below c.certificate && (second_of c && true)) (head_taken c.version c.certificate.head f.certificate.head)
+    (and_from (below c.certificate) (second_of c && true) (below_taken c.certificate.head c.certificate.bounds f.certificate.below)
+    (and_from (second_of c) true (second_taken c.version c.certificate.head c.certificate.bounds c.second f.certificate.below f.second) refl))

@@ -8,3 +8,4 @@ pub mod LineLaws
 pub mod TextLaws
 pub mod CutTexts
 pub mod TextLines
+pub mod OtherVersions

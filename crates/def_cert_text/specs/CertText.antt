@@ -1,7 +1,8 @@
--- The text of a certificate, version 1: its lines as formats, and what reading gives.
-use Rattle.std.specs.Prelude.{ℕ, ◌+◌, ◌-◌, ◌*◌, ◌/◌, ◌&&◌, nat_le, nat_lt, min, if◌then◌else◌, List, [], ◌∷◌, ◌++◌, codes, length, Option, Result, Ok, Err, ℤ}
+-- The text of a certificate: its lines as formats, in version 1 and version 2, and what reading gives.
+use Rattle.std.specs.Prelude.{ℕ, true, ◌+◌, ◌-◌, ◌*◌, ◌/◌, ◌&&◌, nat_le, nat_lt, nat_eq, min, if◌then◌else◌, List, [], ◌∷◌, ◌++◌, codes, length, Option, Some, None, Result, Ok, Err, ℤ}
+use Rattle.std.specs.Cmp.Lexicographic.{pointwise}
 use Rattle.std.specs.Fmt.{decimal}
-use Rattle.def_fraction.specs.Fraction.{Fraction, most, zero_fraction}
+use Rattle.def_fraction.specs.Fraction.{Fraction, most, zero_fraction, is_zero}
 use Rattle.def_tree.specs.Rules.{most_actions, most_nodes}
 use Rattle.def_sums.specs.Limits.{most_mass, most_rounds, most_scale, most_root}
 use Rattle.def_reply.specs.Reply.{SetReply, Reply}
@@ -12,13 +13,13 @@ use Rattle.def_cert_verdict.specs.Ranges.{most_printed}
 use Rattle.def_cert_text.specs.declared.fault.CertFault.{CertFault}
 use Rattle.def_cert_text.specs.declared.fault.CertFault.TheVariants.{CertTrailing}
 use Rattle.def_cert_text.specs.Fields.{◌>>=◌, space, feed, fixed_word, number, version, Item, field, separator}
-use Rattle.def_cert_text.specs.Numbers.{equals_zero}
-use Rattle.def_cert_text.specs.Formats.{Format, text_of, whole_field, integer_field, is_lowest_within, fraction_field, nonzero_field, fixed_field, after_fixed, and_then, seen_as, each_from, where_asked, read_number, row_of_numbers}
+use Rattle.def_cert_text.specs.Versions.{TextVersion, version_one, version_two, PrintedBracket, VersionedCertificate, has_second}
+use Rattle.def_cert_text.specs.Formats.{Format, text_of, one_field, whole_field, integer_field, is_lowest_within, fraction_field, nonzero_field, fixed_field, after_fixed, and_then, seen_as, each_from, where_asked, read_number, row_of_numbers}
 
 abbrev pub after_word : {A : Type 0} → List ℕ → Format A → Format A
 after_word wanted f = after_fixed fixed_word wanted space f
 
--- ---- the lines 2 to 6: the game's numbers
+-- ---- the game's numbers: the lines 2 to 6 of version 1, 2 to 7 of version 2
 abbrev pub NumbersOfGame : Type 0
 NumbersOfGame = (ℕ × ℕ) × ((ℕ × ℕ) × ((ℕ × ℕ) × ((ℕ × Fraction) × ℕ)))
 
@@ -36,7 +37,7 @@ sum_field = after_word (codes "sum") (nonzero_field most feed)
 
 -- what stands behind the unit
 abbrev pub sum_items : Fraction → List Item
-sum_items sum = if equals_zero sum then separator feed ∷ [] else separator space ∷ sum_field.items sum
+sum_items sum = if is_zero sum then separator feed ∷ [] else separator space ∷ sum_field.items sum
 
 -- the unit, and what each leaf pays both players together where that isn't 0
 abbrev pub unit_and_sum : Format (ℕ × Fraction)
@@ -53,10 +54,34 @@ unit_line = after_word (codes "unit") unit_and_sum
 abbrev pub mass_line : Format ℕ
 mass_line = after_word (codes "mass") (whole_field 0 most_mass feed)
 
-abbrev pub game_lines : Format NumbersOfGame
-game_lines = and_then size_line (λ size. and_then sets_line (λ sets. and_then sequences_line (λ sequences. and_then unit_line (λ unit. mass_line))))
+-- in version 2 the unit, and the sum with 0 included, have lines of their own
+abbrev pub unit_alone_line : Format ℕ
+unit_alone_line = after_word (codes "unit") (whole_field 1 most feed)
 
--- ---- the line 7: what was asked
+abbrev pub sum_line : Format Fraction
+sum_line = after_word (codes "sum") (fraction_field most feed)
+
+-- the unit with the sum, and the mass
+abbrev pub PayoffNumbers : Type 0
+PayoffNumbers = (ℕ × Fraction) × ℕ
+
+abbrev pub parts_of_payoffs : PayoffNumbers → (ℕ × (ℕ × Fraction))
+parts_of_payoffs p = (p.0.0, (p.1, p.0.1))
+
+abbrev pub payoffs_of_parts : (ℕ × (ℕ × Fraction)) → PayoffNumbers
+payoffs_of_parts p = ((p.0, p.1.1), p.1.0)
+
+abbrev pub payoff_lines : TextVersion → Format PayoffNumbers
+payoff_lines version_one = and_then unit_line (λ unit. mass_line)
+payoff_lines version_two = seen_as payoffs_of_parts parts_of_payoffs (and_then unit_alone_line (λ unit. and_then mass_line (λ mass. sum_line)))
+
+abbrev pub game_lines_of : TextVersion → Format NumbersOfGame
+game_lines_of v = and_then size_line (λ size. and_then sets_line (λ sets. and_then sequences_line (λ sequences. payoff_lines v)))
+
+abbrev pub game_lines : Format NumbersOfGame
+game_lines = game_lines_of version_one
+
+-- ---- the line behind them: what was asked
 abbrev pub asked_line : Format (ℕ × (ℕ × ℕ))
 asked_line = after_word (codes "rounds") (and_then (whole_field 0 most_rounds space) (λ rounds.
     after_word (codes "every") (and_then (whole_field 1 most_rounds space) (λ every. after_word (codes "scale") (whole_field 1 most_scale feed)))))
@@ -83,8 +108,11 @@ head_of_parts p = record {
   scale = p.1.1.1;
 }
 
+abbrev pub head_lines_of : TextVersion → Format Head
+head_lines_of v = seen_as head_of_parts parts_of_head (and_then (game_lines_of v) (λ game. asked_line))
+
 abbrev pub head_lines : Format Head
-head_lines = seen_as head_of_parts parts_of_head (and_then game_lines (λ game. asked_line))
+head_lines = head_lines_of version_one
 
 -- ---- the trace
 abbrev pub parts_of_trace_line : TraceLine → (ℕ × (ℕ × (ℤ × (ℕ × ℤ))))
@@ -159,7 +187,14 @@ bounds_lines head = seen_as bounds_of_parts parts_of_bounds
     (and_then (trace_lines head) (λ trace. and_then (plan_lines (codes "1") head.sets_one) (λ plan_one. and_then (reply_lines (codes "2") head.sets_two) (λ reply_two.
     and_then (plan_lines (codes "2") head.sets_two) (λ plan_two. and_then (reply_lines (codes "1") head.sets_one) (λ reply_one. bracket_line))))))
 
--- ---- the whole
+-- ---- all lines below the first, up to those behind the bounds
+abbrev pub end_line : Format (Unit {0})
+end_line = fixed_field fixed_word (codes "end") feed
+
+abbrev pub lines_of : {A : Type 0} → TextVersion → (Head → Format A) → Format (Head × (Option PrintedBounds × A))
+lines_of v end = and_then (head_lines_of v) (λ head. and_then (where_asked (nat_lt 0 head.rounds) (bounds_lines head)) (λ bounds. end head))
+
+-- ---- the whole of version 1
 abbrev pub parts_of_certificate : Certificate → (Head × (Option PrintedBounds × Unit {0}))
 parts_of_certificate c = (c.head, (c.bounds, tt))
 
@@ -168,17 +203,56 @@ certificate_of_parts p = record { head = p.0; bounds = p.1.0 }
 
 abbrev pub whole_certificate : Format Certificate
 whole_certificate = seen_as certificate_of_parts parts_of_certificate
-    (after_word (codes "XGCERT") (after_fixed version (codes "1") feed
-    (and_then head_lines (λ head. and_then (where_asked (nat_lt 0 head.rounds) (bounds_lines head)) (λ bounds. fixed_field fixed_word (codes "end") feed)))))
+    (after_word (codes "XGCERT") (after_fixed version (codes "1") feed (lines_of version_one (λ head. end_line))))
 
--- the text of a certificate, and the lines of it that are of the game alone
+-- ---- the whole of either version: the bracket of player two's payoff stands behind the bounds of version 2
+abbrev pub version_text : TextVersion → List ℕ
+version_text version_one = codes "1"
+version_text version_two = codes "2"
+
+unfoldable pub version_in : List ℕ → Option TextVersion
+version_in bytes = if pointwise nat_eq bytes (codes "1") then Some version_one else if pointwise nat_eq bytes (codes "2") then Some version_two else None
+
+abbrev pub version_field : Format TextVersion
+version_field = one_field version (λ v. true) version_text version_in feed
+
+abbrev pub second_line : Format PrintedBracket
+second_line = seen_as (λ (p : Fraction × Fraction). record { low = p.0; high = p.1 }) (λ (second : PrintedBracket). (second.low, second.high))
+    (after_word (codes "second") (and_then (fraction_field most_printed space) (λ low. fraction_field most_printed feed)))
+
+abbrev pub last_lines : TextVersion → Head → Format (Option PrintedBracket × Unit {0})
+last_lines v head = and_then (where_asked (has_second v && nat_lt 0 head.rounds) second_line) (λ second. end_line)
+
+abbrev pub PartsOfVersioned : Type 0
+PartsOfVersioned = TextVersion × (Head × (Option PrintedBounds × (Option PrintedBracket × Unit {0})))
+
+abbrev pub parts_of_versioned : VersionedCertificate → PartsOfVersioned
+parts_of_versioned c = (c.version, (c.certificate.head, (c.certificate.bounds, (c.second, tt))))
+
+abbrev pub versioned_of_parts : PartsOfVersioned → VersionedCertificate
+versioned_of_parts p = record { version = p.0; certificate = record { head = p.1.0; bounds = p.1.1.0 }; second = p.1.1.1.0 }
+
+abbrev pub versioned_certificate : Format VersionedCertificate
+versioned_certificate = seen_as versioned_of_parts parts_of_versioned
+    (after_word (codes "XGCERT") (and_then version_field (λ v. lines_of v (last_lines v))))
+
+-- ---- the texts, and the lines that are of the game alone
 abbrev pub cert_text : Certificate → List ℕ
 cert_text c = text_of whole_certificate c
 
+abbrev pub versioned_text : VersionedCertificate → List ℕ
+versioned_text c = text_of versioned_certificate c
+
+abbrev pub head_text_of : TextVersion → Head → List ℕ
+head_text_of v head = text_of (game_lines_of v) (numbers_of_game head)
+
 abbrev pub head_text : Head → List ℕ
-head_text head = text_of game_lines (numbers_of_game head)
+head_text head = head_text_of version_one head
 
 -- the other lines
+abbrev pub first_text_of : TextVersion → List ℕ
+first_text_of v = codes "XGCERT " ++ (version_text v ++ feed ∷ [])
+
 abbrev pub first_text : List ℕ
 first_text = codes "XGCERT 1" ++ feed ∷ []
 
@@ -188,6 +262,9 @@ asked_text head = text_of asked_line (head.rounds, (head.every, head.scale))
 abbrev pub bounds_text : Head → PrintedBounds → List ℕ
 bounds_text head b = text_of (bounds_lines head) b
 
+abbrev pub second_text : PrintedBracket → List ℕ
+second_text second = text_of second_line second
+
 abbrev pub last_text : List ℕ
 last_text = codes "end" ++ feed ∷ []
 
@@ -196,6 +273,13 @@ abbrev pub if_at_end : {A : Type 0} → ℕ → A → List ℕ → Result A Cert
 if_at_end total x [] = Ok x
 if_at_end total x (byte ∷ left) = Err (CertTrailing (total - length (byte ∷ left)))
 
--- what reading gives: the certificate that the bytes say, or the first fault
+-- what reading gives: the value that the bytes say, or the first fault
+abbrev pub read_to_end : {A : Type 0} → Format A → List ℕ → Result A CertFault
+read_to_end f bytes = f.read (length bytes) bytes >>= λ x. if_at_end (length bytes) x.0 x.1
+
+-- of version 1 alone, and of either version
 unfoldable pub cert_in : List ℕ → Result Certificate CertFault
-cert_in bytes = whole_certificate.read (length bytes) bytes >>= λ c. if_at_end (length bytes) c.0 c.1
+cert_in bytes = read_to_end whole_certificate bytes
+
+unfoldable pub versioned_in : List ℕ → Result VersionedCertificate CertFault
+versioned_in bytes = read_to_end versioned_certificate bytes

@@ -2,15 +2,15 @@
 --     CanGoOn f items                  the items can go on to a value's
 --     HasFirstFault f total bytes fault    behind items that can go on stands what is cut short,
 --                                          or goes on to no value's
---     FirstCertFault bytes fault       the fault is the first of bytes that are to be a certificate
+--     FirstFaultOf f Fits bytes fault      the fault is the first of bytes that are to be one value's text
 use Rattle.std.specs.Prelude.{◌≡◌, ◌≢◌, ℕ, ◌-◌, Bool, true, false, List, [], ◌∷◌, ◌++◌, length}
 use Rattle.def_cert_text.specs.declared.fault.CertFault.{CertFault}
 use Rattle.def_cert_text.specs.declared.fault.CertFault.TheVariants.{CertSyntax, CertShort, CertTrailing}
-use Rattle.def_cert_verdict.specs.Certificate.{Certificate}
 use Rattle.def_cert_verdict.specs.Ranges.{CertificateFits}
 use Rattle.def_cert_text.specs.Fields.{FieldKind, Item, field, separator, items_text, next_field, behind_field, is_empty, field_fault}
-use Rattle.def_cert_text.specs.Formats.{Format}
-use Rattle.def_cert_text.specs.CertText.{whole_certificate, cert_text}
+use Rattle.def_cert_text.specs.Versions.{VersionedFits}
+use Rattle.def_cert_text.specs.Formats.{Format, text_of}
+use Rattle.def_cert_text.specs.CertText.{whole_certificate, versioned_certificate}
 
 -- what an item is
 pub data Place : Type 0 where
@@ -64,15 +64,22 @@ pub record HasFirstFault {A : Type 0} (f : Format A) (total : ℕ) (bytes : List
   pub needed : Needs f items place
   pub stop : StopsReading f items place total left fault
 
--- more stands behind a whole certificate
-pub record IsTrailing (bytes : List ℕ) (fault : CertFault) : Type 0 where
-  pub certificate : Certificate
+-- more stands behind a whole value
+pub record IsTrailing {A : Type 0} (f : Format A) (Fits : A → Type 0) (bytes : List ℕ) (fault : CertFault) : Type 0 where
+  pub value : A
   pub left : List ℕ
-  pub fits : CertificateFits certificate
-  pub parts : bytes ≡ cert_text certificate ++ left
+  pub fits : Fits value
+  pub parts : bytes ≡ text_of f value ++ left
   pub more : left ≢ []
-  pub fault_is : fault ≡ CertTrailing (length (cert_text certificate))
+  pub fault_is : fault ≡ CertTrailing (length (text_of f value))
 
-pub data FirstCertFault (bytes : List ℕ) (fault : CertFault) : Type 0 where
-  within : HasFirstFault whole_certificate (length bytes) bytes fault → FirstCertFault bytes fault
-  behind : IsTrailing bytes fault → FirstCertFault bytes fault
+pub data FirstFaultOf {A : Type 0} (f : Format A) (Fits : A → Type 0) (bytes : List ℕ) (fault : CertFault) : Type 0 where
+  within : HasFirstFault f (length bytes) bytes fault → FirstFaultOf f Fits bytes fault
+  behind : IsTrailing f Fits bytes fault → FirstFaultOf f Fits bytes fault
+
+-- of bytes that are to be a certificate, of version 1 alone, and of either version
+abbrev pub FirstCertFault : List ℕ → CertFault → Type 0
+FirstCertFault bytes fault = FirstFaultOf whole_certificate CertificateFits bytes fault
+
+abbrev pub FirstVersionedFault : List ℕ → CertFault → Type 0
+FirstVersionedFault bytes fault = FirstFaultOf versioned_certificate VersionedFits bytes fault

@@ -1,7 +1,9 @@
 pub mod Fields
 pub mod Numbers
 pub mod Formats
+pub mod Versions
 pub mod CertText
 pub mod FirstFault
 pub mod Laws
 pub mod Texts
+pub mod VersionTexts

@@ -36,11 +36,13 @@ bounds_described game scale b =
     )
     (λ f. (λ c. c, λ c. c))
 
-abbrev BoundsHoldUp : WeighedGame → ℕ → Option PrintedBounds → Type 0
+-- bounds hold up where there are any
+abbrev pub BoundsHoldUp : WeighedGame → ℕ → Option PrintedBounds → Type 0
 BoundsHoldUp game scale None = Unit {0}
 BoundsHoldUp game scale (Some b) = HoldsUp game scale b
 
-below_described : (game : WeighedGame) (scale : ℕ) (bounds : Option PrintedBounds)
+-- the tests behind the head pass exactly where the bounds hold up, if there are any, and each fault has its cause
+pub below_described : (game : WeighedGame) (scale : ℕ) (bounds : Option PrintedBounds)
     → TestsDecide (tests_below_head game scale bounds) (BoundsHoldUp game scale bounds) (FaultBelowHead game scale bounds)
 below_described game scale None = record { none = (λ e. tt, λ h. refl); some = λ f. (λ e. none-some f e, λ c. absurd c) }
 below_described game scale (Some b) = bounds_described game scale b

@@ -1,0 +1,4 @@
+pub mod VersionedVerdict
+pub mod PlayerTwo
+pub mod Upgrades
+pub mod Runs
