@@ -7,7 +7,9 @@ ghost use Rattle.xg_jobs.specs.Rows.{AreNumbersOf, ArePlainSums};
 ghost use Rattle.xg_jobs.specs.Table.{IsTableOf, most_touched};
 ghost use Rattle.xg_board.specs.Running.{job_amounts};
 
-use crate::made::{Built, are_rows, build, input_of};
+use crate::games::{KUHN_ONE, KUHN_TWO, KUHN_WEIGHTS, THREE_JOBS, THREE_JOBS_WEIGHTS, put_kuhn};
+use crate::gates::Counts;
+use crate::made::{Built, are_rows, build, input_of, made};
 use std::alloc::{AllocError, Global};
 use std::marker::Brand;
 use std::process::Abort;
@@ -19,9 +21,7 @@ use xg_board::{Base, LockedRows, MadeBy, RowBoard, run_rows};
 use xg_io::{Gate, OpenGate};
 use xg_jobs::{JobTable, PlainRows, RowInput, RowMaker, Rows};
 use xg_rowcore::{Packet, RowName};
-use xg_test_data::node;
-use xg_test_data::nodes::{LEAF, PENNIES, PENNIES_WEIGHTS};
-use xg_tree::{Kind, Node};
+use xg_test_data::nodes::{PENNIES, PENNIES_WEIGHTS};
 
 // Draws, adds and closes with one pass, of worker 5.
 fn add_by_one_pass<Rt: Abort + Threads + Wait + Sync, N: RowName, G: Gate>(
@@ -95,23 +95,6 @@ fn one_pass_adds_matching_pennies(rt: HostRuntime) -> Result<(), Fail> {
     asserted
 }
 
-/// Counts the calls.
-#[derive(Drop)]
-struct Counts {
-    passes: AtomicU64,
-    withins: AtomicU64,
-}
-
-impl Gate for Counts {
-    fn pass<Rt: Threads + Wait + Sync>(&self, _rt: &Rt, _worker: u32, _job: u32) {
-        self.passes.fetch_add(1, Ordering::SeqCst);
-    }
-
-    fn within<Rt: Threads + Wait + Sync>(&self, _rt: &Rt, _worker: u32, _stripe: u32) {
-        self.withins.fetch_add(1, Ordering::SeqCst);
-    }
-}
-
 /// Counts the visits of stripes, and keeps the first and the last one.
 #[derive(Drop)]
 struct Visits {
@@ -164,21 +147,6 @@ fn a_worker_begins_at_the_stripe_of_its_number(rt: HostRuntime) -> Result<(), Fa
     asserted
 }
 
-fn made<Rt: Threads + Wait + Sync, M: RowMaker>(
-    rt: &Rt,
-    alloc: Global,
-    input: &RowInput<'_>,
-    jobs: &JobTable,
-    maker: &M,
-) -> Result<Rows, AllocError>
-    requires can { M.can_make maker.now }
-    requires numbers { AreNumbersOf input.now.form.now input.now.one.now input.now.two.now }
-    requires table { IsTableOf input.now.form.now jobs.now }
-    ensures { IfOk result (λ rows. ArePlainSums input.now.form.now input.now.one.now input.now.two.now rows) }
-{
-    maker.rows(rt, alloc, input, jobs)
-}
-
 // The rows of a maker over these workers.
 fn made_by_workers<Rt: Threads + Wait + Sync, G: Gate>(
     rt: &Rt,
@@ -202,22 +170,6 @@ fn made_by_workers<Rt: Threads + Wait + Sync, G: Gate>(
     made(rt, alloc, input, jobs, &maker)
 }
 
-/// Three jobs of two leaves each.
-static THREE_JOBS: [Node; 10] = [
-    node!(Chance, 1, 3),
-    node!(One, 1, 2),
-    LEAF,
-    LEAF,
-    node!(One, 2, 2),
-    LEAF,
-    LEAF,
-    node!(One, 3, 2),
-    LEAF,
-    LEAF,
-];
-
-static THREE_JOBS_WEIGHTS: [i64; 6] = [1, 2, 3, 4, 5, 6];
-
 fn assert_three_jobs<Rt: Abort + Threads + Wait + Sync>(
     rt: &Rt,
     alloc: Global,
@@ -227,21 +179,14 @@ fn assert_three_jobs<Rt: Abort + Threads + Wait + Sync>(
     requires table { IsTableOf built.now.form built.now.jobs }
 {
     let input = input_of(rt, &built.form, &[10, 10, 0, 5, 5, 0, 10], &[2]);
-    let gate = Counts {
-        passes: AtomicU64::new(0),
-        withins: AtomicU64::new(0),
-    };
+    let gate = Counts::new();
     let workers = LockedRows {
         workers: 2,
         stripes: 16,
         gate: &gate,
     };
     let rows = made_by_workers(rt, alloc, &input, &built.jobs, &workers)?;
-    assert!(rt;
-        are_rows(&rows, &[0, 2, 4, 6, 8, 10, 12], &[105])
-            && gate.passes.load(Ordering::SeqCst) == 3
-            && gate.withins.load(Ordering::SeqCst) == 48
-    );
+    assert!(rt; are_rows(&rows, &[0, 2, 4, 6, 8, 10, 12], &[105]) && gate.are(3, 48));
     Ok(())
 }
 
@@ -252,58 +197,6 @@ fn workers_call_the_gate_for_each_job_and_stripe(rt: HostRuntime) -> Result<(), 
     drop(built);
     Ok(asserted?)
 }
-
-/// Puts what comes after a deal, from player one's first set, her later one, and player two's sets after a check and
-/// after a bet: a check or a bet, and the answers to them.
-fn put_deal(nodes: &mut Vec<Node>, sets: [u32; 4]) -> Result<(), AllocError> {
-    let [first, later, checked, bet] = sets;
-    nodes.extend_from_slice(&[
-        node!(One, first, 2),
-        node!(Two, checked, 2),
-        LEAF,
-        node!(One, later, 2),
-        LEAF,
-        LEAF,
-        node!(Two, bet, 2),
-        LEAF,
-        LEAF,
-    ])
-}
-
-/// Puts a card of player one: the chance node of player two's, and both deals.
-fn put_card(nodes: &mut Vec<Node>, chance: u32, deals: [[u32; 4]; 2]) -> Result<(), AllocError> {
-    nodes.push(node!(Chance, chance, 2))?;
-    put_deal(nodes, deals[0])?;
-    put_deal(nodes, deals[1])
-}
-
-/// Puts one-card poker with three cards.
-fn put_kuhn(nodes: &mut Vec<Node>) -> Result<(), AllocError> {
-    nodes.push(node!(Chance, 1, 3))?;
-    put_card(nodes, 2, [[1, 2, 1, 2], [1, 2, 3, 4]])?;
-    put_card(nodes, 3, [[3, 4, 5, 6], [3, 4, 3, 4]])?;
-    put_card(nodes, 4, [[5, 6, 5, 6], [5, 6, 1, 2]])
-}
-
-// What each leaf pays player one, deal by deal: both check; a bet is folded to or called, after a check or at once.
-static KUHN_WEIGHTS: [i64; 30] = [
-    -1, -1, -2, 1, -2, -1, -1, -2, 1, -2, 1, -1, 2, 1, 2, -1, -1, -2, 1, -2, 1, -1, 2, 1, 2, 1, -1,
-    2, 1, 2,
-];
-
-const HALF: u64 = 524_288;
-
-const QUARTER: u64 = 262_144;
-
-// Both players' plans of the first round.
-static KUHN_ONE: [u64; 13] = [
-    1_048_576, HALF, HALF, QUARTER, QUARTER, HALF, HALF, QUARTER, QUARTER, HALF, HALF, QUARTER,
-    QUARTER,
-];
-
-static KUHN_TWO: [u64; 13] = [
-    1_048_576, HALF, HALF, HALF, HALF, HALF, HALF, HALF, HALF, HALF, HALF, HALF, HALF,
-];
 
 /// Whether the rows by so many stripes are these, with a call of the gate for each deal, and for each stripe of it.
 fn has_rows<Rt: Threads + Wait + Sync>(
@@ -319,16 +212,9 @@ fn has_rows<Rt: Threads + Wait + Sync>(
     requires table { IsTableOf input.now.form.now jobs.now }
     requires stripes { (1 ≤ stripes) × (stripes ≤ 64) }
 {
-    let gate = Counts {
-        passes: AtomicU64::new(0),
-        withins: AtomicU64::new(0),
-    };
+    let gate = Counts::new();
     let rows = run_rows(rt, alloc, input, jobs, 2, stripes, &gate)?;
-    Ok(
-        are_rows(&rows, plain.one(), plain.two())
-            && gate.passes.load(Ordering::SeqCst) == 6
-            && gate.withins.load(Ordering::SeqCst) == 6 * stripes as u64,
-    )
+    Ok(are_rows(&rows, plain.one(), plain.two()) && gate.are(6, 6 * stripes as u64))
 }
 
 static STRIPES: [u32; 4] = [1, 2, 16, 64];

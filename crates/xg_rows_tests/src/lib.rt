@@ -5,8 +5,14 @@
 #[cfg(test)]
 mod board_tests;
 #[cfg(test)]
+mod games;
+#[cfg(test)]
+mod gates;
+#[cfg(test)]
 mod jobs_tests;
 #[cfg(test)]
 mod made;
 #[cfg(test)]
 mod rowcore_tests;
+#[cfg(test)]
+mod words_tests;

@@ -1,14 +1,16 @@
 //! Trees by their nodes, and their forms and jobs.
 ghost use Rattle.std.specs.Prelude.{◌≡◌, ◌≤◌, All, IfOk, map, sum, unsigned_abs};
 ghost use Rattle.def_sums.specs.Limits.{most_mass, most_root};
-ghost use Rattle.xg_jobs.specs.Rows.{AreNumbersOf};
+ghost use Rattle.xg_jobs.specs.Rows.{AreNumbersOf, ArePlainSums};
 ghost use Rattle.xg_jobs.specs.Table.{IsFormOf, IsTableOf};
 
 use def_tree::Player;
-use std::alloc::Global;
+use std::alloc::{AllocError, Global};
 use std::process::Abort;
+use std::sync::Wait;
 use std::test::Fail;
-use xg_jobs::{JobTable, RowInput, Rows};
+use std::thread::Threads;
+use xg_jobs::{JobTable, RowInput, RowMaker, Rows};
 use xg_seq::SeqForm;
 use xg_sets::build_sets;
 use xg_tree::{Builder, Node, PushFault, Tree};
@@ -105,4 +107,20 @@ pub(crate) fn input_of<'a>(
 
 pub(crate) fn are_rows(rows: &Rows, one: &[i128], two: &[i128]) -> bool {
     rows.one() == one && rows.two() == two
+}
+
+/// The rows of a maker.
+pub(crate) fn made<Rt: Threads + Wait + Sync, M: RowMaker>(
+    rt: &Rt,
+    alloc: Global,
+    input: &RowInput<'_>,
+    jobs: &JobTable,
+    maker: &M,
+) -> Result<Rows, AllocError>
+    requires can { M.can_make maker.now }
+    requires numbers { AreNumbersOf input.now.form.now input.now.one.now input.now.two.now }
+    requires table { IsTableOf input.now.form.now jobs.now }
+    ensures { IfOk result (λ rows. ArePlainSums input.now.form.now input.now.one.now input.now.two.now rows) }
+{
+    maker.rows(rt, alloc, input, jobs)
 }

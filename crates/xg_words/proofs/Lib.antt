@@ -1,0 +1,6 @@
+mod Left
+mod Read
+mod Claimed
+mod Greatest
+mod Counting
+mod Small

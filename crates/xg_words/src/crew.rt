@@ -1,0 +1,184 @@
+//! The workers of a round in their threads.
+ghost use Rattle.std.specs.Prelude.{◌≡◌, ◌<◌, ◌≤◌, ◌+◌, ◌-◌, ℕ, [], IfOk, IsTrue, All, Contains, false, length, vec_len};
+ghost use Rattle.def_sums.specs.Limits.{most_workers};
+ghost use Rattle.def_plan.specs.FormRows.{row_count};
+ghost use Rattle.xg_jobs.specs.Rows.{AreNumbersOf};
+ghost use Rattle.xg_jobs.specs.Table.{IsTableOf, most_touched};
+ghost use Rattle.xg_board.specs.Running.{job_amounts};
+ghost use Rattle.xg_words.specs.Running.{IsReady, IsDone};
+
+use crate::board::WordBoard;
+use crate::owner::Owner;
+use crate::worker::Worker;
+use std::alloc::{AllocError, Global};
+use std::sync::Wait;
+use std::thread;
+use std::thread::Threads;
+use xg_io::Gate;
+use xg_jobs::{JobTable, RowInput};
+use xg_rowcore::{Packet, RowName};
+
+/// What a worker's thread holds: its number, its claims, and the packet of the job that it is at.
+#[derive(Drop)]
+pub(crate) struct Member<N: RowName> {
+    number: u32,
+    worker: Worker<N>,
+    packet: Packet,
+}
+
+// Claims a job and adds it. Answers whether there was one.
+fn add_next<Rt: Threads + Wait + Sync, N: RowName, G: Gate>(
+    rt: &Rt,
+    board: &WordBoard<N>,
+    input: &RowInput<'_>,
+    jobs: &JobTable,
+    member: &mut Member<N>,
+    gate: &G,
+) -> bool
+    requires numbers { AreNumbersOf input.now.form.now input.now.one.now input.now.two.now }
+    requires table { IsTableOf input.now.form.now jobs.now }
+    requires jobs { length jobs.now.ranges ≡ N.jobs }
+    requires rows { row_count input.now.form.now ≡ N.rows }
+    requires amount { job_amounts input.now.form.now input.now.one.now input.now.two.now jobs.now.ranges ≡ N.amount }
+    requires ready { IsReady board.now.table.shared.table_id N.jobs N.rows N.amount (most_touched jobs.now.touched)
+        member.old.worker member.old.packet.entries }
+    ensures more { IsTrue result
+        → IsReady board.now.table.shared.table_id N.jobs N.rows N.amount (most_touched jobs.now.touched)
+        member.new.worker member.new.packet.entries }
+    ensures done { result ≡ false → IsDone board.now.table.shared.table_id N.jobs N.rows N.amount member.new.worker }
+{
+    let Some(job) = board.claim(&mut member.worker) else {
+        return false;
+    };
+    gate.pass(rt, member.number, job);
+    jobs.packet_into(job, input, &mut member.packet);
+    board.add(&mut member.worker, &member.packet);
+    true
+}
+
+// Claims and adds until no job is left.
+fn work<Rt: Threads + Wait + Sync, N: RowName, G: Gate>(
+    rt: &Rt,
+    board: &WordBoard<N>,
+    input: &RowInput<'_>,
+    jobs: &JobTable,
+    member: &mut Member<N>,
+    gate: &G,
+)
+    requires numbers { AreNumbersOf input.now.form.now input.now.one.now input.now.two.now }
+    requires table { IsTableOf input.now.form.now jobs.now }
+    requires jobs { length jobs.now.ranges ≡ N.jobs }
+    requires rows { row_count input.now.form.now ≡ N.rows }
+    requires amount { job_amounts input.now.form.now input.now.one.now input.now.two.now jobs.now.ranges ≡ N.amount }
+    requires ready { IsReady board.now.table.shared.table_id N.jobs N.rows N.amount (most_touched jobs.now.touched)
+        member.old.worker member.old.packet.entries }
+    ensures { IsDone board.now.table.shared.table_id N.jobs N.rows N.amount member.new.worker }
+{
+    for _ in rt.forever() {
+        if !add_next(rt, board, input, jobs, member, gate) {
+            return;
+        }
+    }
+    unreachable!()
+}
+
+/// Lets all workers work, each in a thread.
+pub(crate) fn work_all<Rt: Threads + Wait + Sync, N: RowName + Send + Sync, G: Gate>(
+    rt: &Rt,
+    board: &WordBoard<N>,
+    input: &RowInput<'_>,
+    jobs: &JobTable,
+    crew: &mut Vec<Member<N>>,
+    gate: &G,
+)
+    requires numbers { AreNumbersOf input.now.form.now input.now.one.now input.now.two.now }
+    requires table { IsTableOf input.now.form.now jobs.now }
+    requires jobs { length jobs.now.ranges ≡ N.jobs }
+    requires rows { row_count input.now.form.now ≡ N.rows }
+    requires amount { job_amounts input.now.form.now input.now.one.now input.now.two.now jobs.now.ranges ≡ N.amount }
+    requires some { 0 < vec_len crew.old }
+    requires ready { All (λ m. IsReady board.now.table.shared.table_id N.jobs N.rows N.amount
+        (most_touched jobs.now.touched) m.worker m.packet.entries) crew.old.items }
+    ensures done { All (λ m. IsDone board.now.table.shared.table_id N.jobs N.rows N.amount m.worker) crew.new.items }
+    ensures same { vec_len crew.new ≡ vec_len crew.old }
+{
+    let count = crew.len();
+    thread::for_each_mut(
+        rt,
+        crew.as_mut_slice(),
+        count,
+        &|_, member: &mut Member<N>|
+            requires numbers { AreNumbersOf input.now.form.now input.now.one.now input.now.two.now }
+            requires table { IsTableOf input.now.form.now jobs.now }
+            requires jobs { length jobs.now.ranges ≡ N.jobs }
+            requires rows { row_count input.now.form.now ≡ N.rows }
+            requires amount { job_amounts input.now.form.now input.now.one.now input.now.two.now jobs.now.ranges
+                ≡ N.amount }
+            requires ready { IsReady board.now.table.shared.table_id N.jobs N.rows N.amount
+                (most_touched jobs.now.touched) member.old.worker member.old.packet.entries }
+            ensures { IsDone board.entry.now.table.shared.table_id N.jobs N.rows N.amount member.new.worker }
+        { work(rt, board, input, jobs, member, gate) },
+    );
+}
+
+/// Makes the workers, each with a packet.
+pub(crate) fn make_crew<N: RowName>(
+    alloc: Global,
+    board: &WordBoard<N>,
+    owner: &mut Owner<N>,
+    room: usize,
+    count: u32,
+) -> Result<Vec<Member<N>>, AllocError>
+    requires owner { owner.old ≡ record { table = board.now.table.shared.table_id; numbers = []; made = 0; unjoined = 0 } }
+    requires few { count ≤ most_workers }
+    ensures count { IfOk result (λ crew. length crew.items ≡ count) }
+    ensures ready { IfOk result
+        (λ crew. All (λ m. IsReady board.now.table.shared.table_id N.jobs N.rows N.amount room m.worker m.packet.entries)
+        crew.items) }
+    ensures owner { IfOk result
+        (λ crew. owner.new ≡ record { table = board.now.table.shared.table_id; numbers = []; made = count; unjoined = count }) }
+{
+    let mut crew = Vec::new(alloc);
+    for number in 0..count {
+        let packet = Packet::new(alloc, room)?;
+        crew.reserve(1)?;
+        let worker = board.worker(owner);
+        crew.push_reserved(Member {
+            number,
+            worker,
+            packet,
+        });
+    }
+    Ok(crew)
+}
+
+/// Joins all workers.
+pub(crate) fn join_all<N: RowName>(board: &WordBoard<N>, owner: &mut Owner<N>, crew: Vec<Member<N>>)
+    requires owner { owner.old.table ≡ board.now.table.shared.table_id }
+    requires unjoined { owner.old.unjoined ≡ length crew.items }
+    requires some { 0 < length crew.items }
+    requires done { All (λ m. IsDone board.now.table.shared.table_id N.jobs N.rows N.amount m.worker) crew.items }
+    ensures table { owner.new.table ≡ owner.old.table }
+    ensures all_joined { owner.new.unjoined ≡ 0 }
+    ensures past { (n : ℕ) × Contains owner.new.numbers n × (N.jobs ≤ n) }
+{
+    for member in crew {
+        join_one(board, owner, member);
+    }
+}
+
+// Joins one worker.
+fn join_one<N: RowName>(board: &WordBoard<N>, owner: &mut Owner<N>, member: Member<N>)
+    requires owner { owner.old.table ≡ board.now.table.shared.table_id }
+    requires done { IsDone board.now.table.shared.table_id N.jobs N.rows N.amount member.worker }
+    ensures table { owner.new.table ≡ owner.old.table }
+    ensures unjoined { owner.new.unjoined ≡ owner.old.unjoined - 1 }
+    ensures past { (n : ℕ) × Contains owner.new.numbers n × (N.jobs ≤ n) }
+{
+    let Member {
+        number: _,
+        worker,
+        packet: _,
+    } = member;
+    board.join(owner, worker);
+}
