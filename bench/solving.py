@@ -7,9 +7,10 @@ Usage: python3 bench/solving.py [PROGRAM] [--runs N] [--seconds S] [--work] [--c
 PROGRAM is the built one where nothing else is given. Each game is solved twice, with one round and with many, and the
 difference of the times is that of the rounds between: reading the game and writing the text drop out of it. There are
 so many rounds that this is S seconds (0.3 where nothing else is said) and half of the run with one round, or as many as
-there can be. Times are the best of N runs (5). With --work they are the processor's times and not those that pass,
-which is right for one thread on a busy machine. Memory is the greatest that was resident; less than the 8 MB of the
-process that starts the program can't be seen.
+there can be. Times are the best of N runs (9, and four times as many of small games), in which all sizes of a kind and
+all programs take turns. With --work they are the processor's times and not those that pass, which is right for one
+thread on a busy machine; what is compared with a bound is the better one of both. Memory is the greatest that was
+resident; less than the 8 MB of the process that starts the program can't be seen.
 
 Each game is solved without a number of workers, as it is for those who ask for nothing, and in turn with `--workers 1`,
 which may not be faster. With --workers N it is solved with this number alone, by OTHER too.
@@ -33,6 +34,8 @@ from reading import PROGRAM, run
 MOST_ROUNDS = 65_536
 # What is never slower is given a tenth, as two measurements of one program differ.
 GROWTH, TEXT_RATIO, SLOWER = 2.3, 2.0, 1.1
+# Runs of games with fewer leaves are short, so there are more of them.
+SMALL, SMALL_TURNS = 10_000, 4
 
 
 class Writer:
@@ -133,12 +136,13 @@ class Failed(Exception):
 
 
 class Solver:
-    """A program, with what was measured of it on one game."""
+    """A program, with what was measured of it on one game: of each number of rounds the best time that passed and the best
+    processor's time."""
 
-    def __init__(self, program, workers, path, is_work):
-        self.program, self.path, self.is_work, self.many = program, path, is_work, 2
+    def __init__(self, program, workers, path):
+        self.program, self.path, self.many = program, path, 2
         self.words = ["--workers", str(workers)] if workers else []
-        self.memory, self.times = 0, {}
+        self.memory, self.times, self.works = 0, {}, {}
 
     def solve(self, rounds):
         words = ["solve", self.path, "--rounds", str(rounds), *self.words]
@@ -146,8 +150,8 @@ class Solver:
         if status != 0:
             raise Failed(f"{self.program} ended with status {status} for --rounds {rounds}")
         self.memory = max(self.memory, memory)
-        took = work if self.is_work else seconds
-        self.times[rounds] = min(took, self.times.get(rounds, took))
+        self.times[rounds] = min(seconds, self.times.get(rounds, seconds))
+        self.works[rounds] = min(work, self.works.get(rounds, work))
         return self.times[rounds]
 
     def choose_rounds(self, seconds):
@@ -165,30 +169,68 @@ class Solver:
         self.solve(1)
         self.solve(self.many)
 
-    def rounds_a_second(self):
-        took = self.times[self.many] - self.times[1]
-        return (self.many - 1) / max(took, 1e-9)
+    def of_a_round(self, is_work):
+        """The time of a round."""
+        times = self.works if is_work else self.times
+        return max(times[self.many] - times[1], 1e-9) / (self.many - 1)
+
+    def over(self, other):
+        """The time of a round over another's, by the time that passes or the processor's, whichever is better: what is
+        slower is so by both, and what else the machine does changes them apart."""
+        return min(self.of_a_round(is_work) / other.of_a_round(is_work) for is_work in (False, True))
 
 
-def measured(programs, path, given):
-    """A solver for each program with its number of workers, after its runs in turn."""
-    solvers = [Solver(program, workers, path, given.work) for program, workers in programs]
-    for solver in solvers:
-        solver.choose_rounds(given.seconds)
-    for _ in range(given.runs):
-        for solver in solvers:
+class Game:
+    """A game in a file of its own, with the solvers that play it."""
+
+    def __init__(self, name, writer, path, programs):
+        self.name, self.leaves, self.lines, self.path = name, writer.leaves, len(writer.lines), str(path)
+        path.write_text("\n".join(writer.lines) + "\n")
+        self.solvers = [Solver(program, workers, self.path) for program, workers in programs]
+        self.why = None
+
+    def attempt(self, act):
+        """Does it, unless something failed before."""
+        try:
+            if self.why is None:
+                act()
+        except Failed as why:
+            self.why = why
+
+    def choose_rounds(self, seconds):
+        for solver in self.solvers:
+            solver.choose_rounds(seconds)
+        # As many for each, so that what is measured differs in the program alone.
+        many = max(solver.many for solver in self.solvers)
+        for solver in self.solvers:
+            solver.many = many
+
+    def turn(self, is_back):
+        for solver in reversed(self.solvers) if is_back else self.solvers:
             solver.turn()
-    return solvers
+
+
+def measured(sizes, programs, folder, given):
+    """The games of a kind after their runs. All sizes and all programs take turns, and in every other turn they go
+    backwards, so that a change of the machine's speed meets all of them."""
+    games = [Game(name, make(), folder / f"game_{i}.efg", programs) for i, (name, make) in enumerate(sizes)]
+    for game in games:
+        game.attempt(lambda: game.choose_rounds(given.seconds))
+    for turn in range(given.runs * (SMALL_TURNS if all(game.leaves < SMALL for game in games) else 1)):
+        for game in reversed(games) if turn % 2 else games:
+            game.attempt(lambda: game.turn(turn % 2 == 1))
+    return games
 
 
 def text_times(programs, path, given):
     """For each program the best time of one round with its text, less that of reading alone."""
-    solvers = [Solver(program, workers, path, given.work) for program, workers in programs]
+    solvers = [Solver(program, workers, path) for program, workers in programs]
     for _ in range(given.runs):
         for solver in solvers:
             solver.solve(0)
             solver.solve(1)
-    return [max(solver.times[1] - solver.times[0], 0.01) for solver in solvers]
+    times = [it.works if given.work else it.times for it in solvers]
+    return [max(it[1] - it[0], 0.01) for it in times]
 
 
 class Report:
@@ -213,45 +255,48 @@ def same_text(programs, path):
 
 
 def measure_kind(report, sizes, has_growth, programs, folder, given):
+    alone = [] if given.workers else [(programs[0][0], 1)]
+    games = measured(sizes, [*programs, *alone], folder, given)
     before = None
-    for place, (name, make) in enumerate(sizes):
-        writer = make()
-        path = str(folder / "game.efg")
-        pathlib.Path(path).write_text("\n".join(writer.lines) + "\n")
-        try:
-            alone = [] if given.workers else [(programs[0][0], 1)]
-            solvers = measured([*programs, *alone], path, given)
-            ours = solvers[0]
-            rate = ours.rounds_a_second()
-            report.say(
-                f"{name}, {len(writer.lines) - 1} nodes, {writer.leaves} leaves: {rate:.1f} rounds a second, "
-                f"{1e9 / rate / writer.leaves:.2f} ns a leaf, {ours.memory / 2**20:.1f} MB"
-            )
-            if alone:
-                slower = solvers[-1].rounds_a_second() / rate
-                report.judge(f"{name}: a round without a number of workers, over one worker's", slower, SLOWER, "times")
-            if len(programs) > 1:
-                other = solvers[1].rounds_a_second()
-                report.say(f"{name}, beside: {other:.1f} rounds a second; ours over it {rate / other:.2f}")
-                report.that(f"{name}: the texts are the same", same_text(programs, path))
-            if has_growth and before:
-                growth = 2 * (before[1] / rate) / (writer.leaves / before[0])
-                report.judge(f"{name}: a round's time for twice the leaves", growth, GROWTH, "times")
-            before = (writer.leaves, rate)
-            if place == len(sizes) - 1:
-                times = text_times(programs, path, given)
-                report.say(f"{name}: the first round, its replies and the text take {times[0]:.3f} s")
-                if len(times) > 1 and len(writer.lines) > 500_000:
-                    report.judge(f"{name}: that time beside", times[0] / times[1], TEXT_RATIO, "times")
-        except Failed as why:
-            before = None
-            report.that(f"{name}: {why}", False)
+    for game in games:
+        game.attempt(lambda: tell_game(report, game, programs, given))
+        if game.why is not None:
+            report.that(f"{game.name}: {game.why}", False)
+        elif has_growth and before:
+            growth = 2 * game.solvers[0].over(before.solvers[0]) / (game.leaves / before.leaves)
+            report.judge(f"{game.name}: a round's time for twice the leaves", growth, GROWTH, "times")
+        before = game if game.why is None else None
+    if games[-1].why is None:
+        games[-1].attempt(lambda: tell_text(report, games[-1], programs, given))
+
+
+def tell_game(report, game, programs, given):
+    ours, name = game.solvers[0], game.name
+    rate = 1 / ours.of_a_round(given.work)
+    report.say(
+        f"{name}, {game.lines - 1} nodes, {game.leaves} leaves: {rate:.1f} rounds a second, "
+        f"{1e9 / rate / game.leaves:.2f} ns a leaf, {ours.memory / 2**20:.1f} MB"
+    )
+    if not given.workers:
+        slower = ours.over(game.solvers[-1])
+        report.judge(f"{name}: a round without a number of workers, over one worker's", slower, SLOWER, "times")
+    if len(programs) > 1:
+        other = 1 / game.solvers[1].of_a_round(given.work)
+        report.say(f"{name}, beside: {other:.1f} rounds a second; ours over it {rate / other:.2f}")
+        report.that(f"{name}: the texts are the same", same_text(programs, game.path))
+
+
+def tell_text(report, game, programs, given):
+    times = text_times(programs, game.path, given)
+    report.say(f"{game.name}: the first round, its replies and the text take {times[0]:.3f} s")
+    if len(times) > 1 and game.lines > 500_000:
+        report.judge(f"{game.name}: that time beside", times[0] / times[1], TEXT_RATIO, "times")
 
 
 def main():
     parser = argparse.ArgumentParser(description=__doc__, formatter_class=argparse.RawDescriptionHelpFormatter)
     parser.add_argument("program", metavar="PROGRAM", nargs="?", default=str(PROGRAM))
-    parser.add_argument("--runs", metavar="N", type=int, default=5)
+    parser.add_argument("--runs", metavar="N", type=int, default=9)
     parser.add_argument("--seconds", metavar="S", type=float, default=0.3)
     parser.add_argument("--work", action="store_true")
     parser.add_argument("--chain", metavar="NODES", type=int, default=1_000)
