@@ -24,9 +24,9 @@ abbrev pub drawn : ℕ → Forest → Forest
 drawn children below = grown (inner_node Chance 1 children) below bare
 
 -- so many chance nodes with one child each, one below the other, over a tree
-abbrev pub chain : ℕ → Forest → Forest
-chain zero tree = tree
-chain (suc n) tree = drawn 1 (chain n tree)
+abbrev pub chance_chain : ℕ → Forest → Forest
+chance_chain zero tree = tree
+chance_chain (suc n) tree = drawn 1 (chance_chain n tree)
 
 pub record LeafCountRows : Type 0 where
   pub chance : leaf_counts (forest_of (inner_node Chance 1 2 ∷ inner_node One 1 2 ∷ leaf_node 0 ∷ leaf_node 0 ∷ leaf_node 0 ∷ []))
@@ -38,8 +38,8 @@ pub record LeafCountRows : Type 0 where
       leaf_counts (forest_of (inner_node Chance 1 3 ∷ inner_node Chance 2 2 ∷ leaf_node 0 ∷ leaf_node 0 ∷ leaf_node 0 ∷ inner_node Chance 3 2 ∷ inner_node Chance 4 2 ∷ leaf_node 0 ∷ leaf_node 0 ∷ leaf_node 0 ∷ []))
       ≡ 1 ∷ 1 ∷ 1 ∷ 1 ∷ 1 ∷ 1 ∷ []
   pub chance_under_a_player : leaf_counts (forest_of (inner_node Chance 1 2 ∷ inner_node One 1 2 ∷ inner_node Chance 2 2 ∷ leaf_node 0 ∷ leaf_node 0 ∷ leaf_node 0 ∷ leaf_node 0 ∷ [])) ≡ 3 ∷ 1 ∷ []
-  pub last_pass : leaf_counts (chain 63 (drawn 2 (leaves 2 bare))) ≡ 1 ∷ 1 ∷ []
-  pub past_the_last_pass : leaf_counts (chain 64 (drawn 2 (leaves 2 bare))) ≡ 2 ∷ []
+  pub last_pass : leaf_counts (chance_chain 63 (drawn 2 (leaves 2 bare))) ≡ 1 ∷ 1 ∷ []
+  pub past_the_last_pass : leaf_counts (chance_chain 64 (drawn 2 (leaves 2 bare))) ≡ 2 ∷ []
 
 -- how many leaves each job has after so many passes within a limit
 abbrev pub counts_within : ℕ → ℕ → Forest → List ℕ

@@ -18,7 +18,7 @@ use Rattle.def_game_paths.proofs.Coming.{length-visits}
 use Rattle.def_game_paths.proofs.Counts.{sequences_are_few}
 use Rattle.def_game_paths.proofs.Firsts.{firsts_are_first}
 use Rattle.def_sequence_form.specs.Sets.{first_nodes, first_number, next_numbers, number_found, number_or_zero, sets_with_nodes}
-use Rattle.def_sequence_form.specs.SetNodes.{PlayerSetsListNodes, SetsListTheirNodes, is_in_set, set_numbers}
+use Rattle.def_sequence_form.specs.SetNodes.{PlayerSetsListNodes, SetsListTheirNodes, is_in_set, nodes_of_set}
 use Rattle.def_sequence_form.proofs.Sets.{set_of_visit}
 
 -- the numbers of a set's nodes among these, of which the first has this number
@@ -130,8 +130,8 @@ module _ (tree : Forest) (game : IsGameTree tree) (kind : Kind) (personal : is_p
   firsts = set_firsts kind 0 (visits tree)
 
   first_is : (set : ℕ) → 1 ≤ set → set ≤ length firsts
-      → slice_get (first_nodes kind tree) (set - 1) ≡ slice_get (set_numbers kind set tree) 0
-      × (1 ≤ length (set_numbers kind set tree))
+      → slice_get (first_nodes kind tree) (set - 1) ≡ slice_get (nodes_of_set kind set tree) 0
+      × (1 ≤ length (nodes_of_set kind set tree))
   first_is set counts known =
       let few = sequences_are_few tree game kind inner in
       let d : Visit = record { path = []; node = record { kind = kind; set = 0; outcome = 0; children = 0 } } in
@@ -141,11 +141,11 @@ module _ (tree : Forest) (game : IsGameTree tree) (kind : Kind) (personal : is_p
       let number : set - 1 + 1 ≡ set = omega arith in
       let found : first_of_set 1 f.node (visits tree) ≡ Some (record { number = first.first.0; visit = f }) = first.first.1 in
       let sets : f.node.set ≡ set = first.sets ∙ number in
-      let listed : slice_get (set_numbers kind set tree) 0 ≡ Some first.first.0 =
+      let listed : slice_get (nodes_of_set kind set tree) 0 ≡ Some first.first.0 =
       (λ i. slice_get (numbers_from (sym first.kinds i) (sym sets i) 1 (visits tree)) 0) ∙ sym (found_first 1 f.node (visits tree)) ∙ ap number_found found in (
         slice_get-get_or (first_nodes kind tree) (set - 1) 0 (omega (arith, length-map firsts (first_number tree)))
             ∙ ap Some (get_or-map (first_number tree) firsts (set - 1) d 0 (omega arith) ∙ ap number_or_zero found) ∙ sym listed,
-        is_some (set_numbers kind set tree) first.first.0 listed,
+        is_some (nodes_of_set kind set tree) first.first.0 listed,
       )
     where
       is_some : (ns : List ℕ) (n : ℕ) → slice_get ns 0 ≡ Some n → 1 ≤ length ns

@@ -13,8 +13,8 @@ abbrev pub is_in_set : Kind → ℕ → Visit → Bool
 is_in_set kind set v = is_same_kind v.node.kind kind && nat_eq v.node.set set
 
 -- the numbers of the nodes in a kind's set, where nodes are numbered from 1 in prefix order
-abbrev pub set_numbers : Kind → ℕ → Forest → List ℕ
-set_numbers kind set tree = map (λ n. n.0) (filter (λ n. is_in_set kind set n.1) (enumerate_from 1 (visits tree)))
+abbrev pub nodes_of_set : Kind → ℕ → Forest → List ℕ
+nodes_of_set kind set tree = map (λ n. n.0) (filter (λ n. is_in_set kind set n.1) (enumerate_from 1 (visits tree)))
 
 -- the set's first node is the first of these numbers, and after each one comes the next
 pub record ListsNodes (numbers first_nodes : List ℕ) (next_nodes : List (Option ℕ)) (set : ℕ) : Type 0 where
@@ -27,7 +27,7 @@ pub record ListsNodes (numbers first_nodes : List ℕ) (next_nodes : List (Optio
 pub record PlayerSetsListNodes (tree : Forest) (kind : Kind) (known : PlayerSets) : Type 0 where
   pub count : length known.first_nodes ≡ length known.sets
   pub lists : (set : ℕ) → 1 ≤ set → set ≤ length known.sets
-      → ListsNodes (set_numbers kind set tree) known.first_nodes (tree_sets tree).next_nodes set
+      → ListsNodes (nodes_of_set kind set tree) known.first_nodes (tree_sets tree).next_nodes set
 
 -- at nodes where no player moves there is no next one
 pub record SetsListTheirNodes : Type 0 where
@@ -51,11 +51,11 @@ pub record SetNodeRows : Type 0 where
   pub pennies_one : (tree_sets matching_pennies).one.first_nodes ≡ 1 ∷ []
   pub pennies_two : (tree_sets matching_pennies).two.first_nodes ≡ 2 ∷ []
   pub pennies_next : (tree_sets matching_pennies).next_nodes ≡ None ∷ Some 5 ∷ None ∷ None ∷ None ∷ None ∷ None ∷ []
-  pub pennies_numbers : set_numbers Two 1 matching_pennies ≡ 2 ∷ 5 ∷ []
+  pub pennies_numbers : nodes_of_set Two 1 matching_pennies ≡ 2 ∷ 5 ∷ []
   pub scattered_one : (tree_sets scattered_sets).one.first_nodes ≡ 2 ∷ 9 ∷ []
   pub scattered_two : (tree_sets scattered_sets).two.first_nodes ≡ 3 ∷ 13 ∷ []
   pub scattered_next : (tree_sets scattered_sets).next_nodes
       ≡ None ∷ Some 16 ∷ Some 6 ∷ None ∷ None ∷ Some 10 ∷ None ∷ None
       ∷ None ∷ Some 20 ∷ None ∷ None ∷ Some 17 ∷ None ∷ None
       ∷ None ∷ None ∷ None ∷ None ∷ None ∷ None ∷ None ∷ []
-  pub scattered_numbers : set_numbers Two 1 scattered_sets ≡ 3 ∷ 6 ∷ 10 ∷ 20 ∷ []
+  pub scattered_numbers : nodes_of_set Two 1 scattered_sets ≡ 3 ∷ 6 ∷ 10 ∷ 20 ∷ []

@@ -14,7 +14,7 @@ link_rows = record {
   leaf = record { parent = refl; first_child = refl; next_sibling = refl };
   chain = record { parent = refl; first_child = refl; next_sibling = refl };
   pennies = record { parent = refl; first_child = refl; next_sibling = refl };
-  uneven = record { parent = refl; first_child = refl; next_sibling = refl };
+  several_depths = record { parent = refl; first_child = refl; next_sibling = refl };
   nested_chance = record { parent = refl; first_child = refl; next_sibling = refl };
 }
 

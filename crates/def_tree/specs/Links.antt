@@ -92,8 +92,8 @@ abbrev pub chain : Forest
 chain = forest_of (inner_node One 1 1 ∷ inner_node Two 1 1 ∷ inner_node Chance 1 1 ∷ leaf_node 1 ∷ [])
 
 -- leaves at every depth
-abbrev pub uneven : Forest
-uneven = forest_of (inner_node Chance 1 3 ∷ leaf_node 1 ∷ inner_node One 1 2 ∷ leaf_node 2 ∷ inner_node Two 1 2 ∷ leaf_node 3 ∷ leaf_node 4 ∷ inner_node Two 1 2 ∷ leaf_node 5 ∷ inner_node One 2 2 ∷ leaf_node 6 ∷ leaf_node 7 ∷ [])
+abbrev pub several_depths : Forest
+several_depths = forest_of (inner_node Chance 1 3 ∷ leaf_node 1 ∷ inner_node One 1 2 ∷ leaf_node 2 ∷ inner_node Two 1 2 ∷ leaf_node 3 ∷ leaf_node 4 ∷ inner_node Two 1 2 ∷ leaf_node 5 ∷ inner_node One 2 2 ∷ leaf_node 6 ∷ leaf_node 7 ∷ [])
 
 -- chance moves within chance moves
 abbrev pub nested_chance : Forest
@@ -110,7 +110,7 @@ pub record LinkRows : Type 0 where
   pub chain : HasLinks chain (None ∷ Some 1 ∷ Some 2 ∷ Some 3 ∷ []) (Some 2 ∷ Some 3 ∷ Some 4 ∷ None ∷ []) (None ∷ None ∷ None ∷ None ∷ [])
   pub pennies : HasLinks matching_pennies (None ∷ Some 1 ∷ Some 2 ∷ Some 2 ∷ Some 1 ∷ Some 5 ∷ Some 5 ∷ [])
       (Some 2 ∷ Some 3 ∷ None ∷ None ∷ Some 6 ∷ None ∷ None ∷ []) (None ∷ Some 5 ∷ Some 4 ∷ None ∷ None ∷ Some 7 ∷ None ∷ [])
-  pub uneven : HasLinks uneven (None ∷ Some 1 ∷ Some 1 ∷ Some 3 ∷ Some 3 ∷ Some 5 ∷ Some 5 ∷ Some 1 ∷ Some 8 ∷ Some 8 ∷ Some 10 ∷ Some 10 ∷ [])
+  pub several_depths : HasLinks several_depths (None ∷ Some 1 ∷ Some 1 ∷ Some 3 ∷ Some 3 ∷ Some 5 ∷ Some 5 ∷ Some 1 ∷ Some 8 ∷ Some 8 ∷ Some 10 ∷ Some 10 ∷ [])
       (Some 2 ∷ None ∷ Some 4 ∷ None ∷ Some 6 ∷ None ∷ None ∷ Some 9 ∷ None ∷ Some 11 ∷ None ∷ None ∷ [])
       (None ∷ Some 3 ∷ Some 8 ∷ Some 5 ∷ None ∷ Some 7 ∷ None ∷ None ∷ Some 10 ∷ None ∷ Some 12 ∷ None ∷ [])
   pub nested_chance : HasLinks nested_chance (None ∷ Some 1 ∷ Some 2 ∷ Some 2 ∷ Some 4 ∷ Some 4 ∷ Some 2 ∷ Some 1 ∷ Some 8 ∷ Some 8 ∷ Some 10 ∷ Some 10 ∷ Some 10 ∷ [])

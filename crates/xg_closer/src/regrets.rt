@@ -15,8 +15,8 @@ use xg_seq::SeqForm;
 /// A player's regrets: for each sequence what playing it would have won more than the play of its set, over all rounds.
 ///
 /// They are in units of the weights of the leaves times the root of the other player's plans, and are kept exactly, the
-/// negative ones too (Zinkevich, Johanson, Bowling and Piccione 2007). The empty sequence, at which no action ends, has
-/// 0. The room that a round needs is taken once, by `new`.
+/// negative ones too unless they are cut (Zinkevich, Johanson, Bowling and Piccione 2007). The empty sequence, at which
+/// no action ends, has 0. The room that a round needs is taken once, by `new`.
 #[derive(Drop)]
 pub struct Regrets {
     // no less than the size of each small regret, as long as the regrets are kept as small ones

@@ -33,7 +33,7 @@ use Rattle.xg_scale.specs.declared.nodes.PathWalk.{PathWalk}
 use Rattle.xg_scale.specs.declared.path.NodeOnPath.{NodeOnPath}
 use Rattle.xg_scale.specs.FaultOfFile.{RefusesBy}
 use Rattle.xg_scale.specs.Leaf.{judged_node, known_with, unit_with, with_expected}
-use Rattle.xg_scale.specs.OnPath.{GoesBackTo, HasNodeAround, at_action, chance_set_of, entered_node, outside}
+use Rattle.xg_scale.specs.OnPath.{GoesBackTo, HasNodeAround, at_action, chance_set_of, entered_node, empty_path}
 use Rattle.xg_scale.specs.Walked.{Enters, HasEntered, HasLeft, IsBefore, IsExpectedOf, Leaves, MayCome, MayComeNext, MayEnter, MayLeave, Steps, UnlessRefused, all_fit, known_sum, next_fault, numbers_at_next, numbers_below, numbers_of, reach_below}
 use Rattle.xg_scale.proofs.FoundLemmas.{found_later, found_none, refuses_here}
 use Rattle.xg_scale.proofs.GameLemmas.{goes_with, in_chance_set, tree_rules}
@@ -331,7 +331,7 @@ module _ (game : GameFile) (lowest : AreFractions (tables_of game)) (whole : IsW
       (runs_enter MayEnter Enters MayLeave Leaves Ends (n + 1) x (events_from (n + 1 + 1) below ++ (Leave (n + 1) ∷ beyond)) v
       (may_enter_first n above action x below beside later parent next outer v s) into)
 
-  whole_next : AreNext 0 (λ _. []) 1 game.tree [] outside
+  whole_next : AreNext 0 (λ _. []) 1 game.tree [] empty_path
   whole_next = record {
     visits_are = sym (append-nil all);
     children = whole.tree.children;
@@ -343,10 +343,10 @@ module _ (game : GameFile) (lowest : AreFractions (tables_of game)) (whole : IsW
     two = λ a. refl;
   }
 
-  stands_first : (visitor : PathVisitor) → IsBefore game visitor → Stands 0 outside [] visitor
+  stands_first : (visitor : PathVisitor) → IsBefore game visitor → Stands 0 empty_path [] visitor
   stands_first visitor before = record {
     game_is = before.game_is;
-    stands = subst (λ o. OrRefused o (GoesOn 0 outside [] visitor.walk)) (sym before.going) (record {
+    stands = subst (λ o. OrRefused o (GoesOn 0 empty_path [] visitor.walk)) (sym before.going) (record {
       passed = record { rest = refl; sum = before.sum; unit = before.unit ∙ sym (running tables lowest).start_unit; limit = omega (arith, before.unit); fractions = before.fractions };
       innermost_is = before.innermost;
       outer_is = before.outer;
@@ -373,8 +373,8 @@ module _ (game : GameFile) (lowest : AreFractions (tables_of game)) (whole : IsW
   pub whole_walk : (visitor : PathVisitor) → IsBefore game visitor → Runs (events_from 1 game.tree) visitor
   whole_walk visitor before =
       subst (λ steps. Runs steps visitor) (append-nil (events_from 1 game.tree))
-      (walks game.tree 0 (λ _. []) 1 [] outside [] whole_next []
-      (λ w s. runs_none MayEnter Enters MayLeave Leaves Ends w (ended (0 + node_count game.tree) (at_action outside (1 + tree_count game.tree)) [] w.walk w.refused (omega arith) s.stands))
+      (walks game.tree 0 (λ _. []) 1 [] empty_path [] whole_next []
+      (λ w s. runs_none MayEnter Enters MayLeave Leaves Ends w (ended (0 + node_count game.tree) (at_action empty_path (1 + tree_count game.tree)) [] w.walk w.refused (omega arith) s.stands))
       visitor (stands_first visitor before))
 
   -- a refusal is by the first fault

@@ -15,7 +15,7 @@ use Rattle.def_game_numbers.specs.Numbers.{tables_of}
 use Rattle.xg_game.specs.declared.fault.Refused.{Refused}
 use Rattle.xg_scale.specs.FaultOfFile.{RefusesBy}
 use Rattle.xg_scale.specs.Leaf.{judged_node, known_with, unit_with, with_expected}
-use Rattle.xg_scale.specs.OnPath.{GoesBackTo, HasNodeAround, entered_node, outside}
+use Rattle.xg_scale.specs.OnPath.{GoesBackTo, HasNodeAround, entered_node, empty_path}
 use Rattle.xg_scale.specs.declared.leaf.Expected.{Expected}
 use Rattle.xg_scale.specs.declared.nodes.PathVisitor.{PathVisitor}
 use Rattle.xg_scale.specs.declared.nodes.PathWalk.{PathWalk}
@@ -118,7 +118,7 @@ Leaves old k new = (new.walk.game.now ≡ old.walk.game.now) × Steps old.refuse
 pub record IsBefore (game : GameFile) (visitor : PathVisitor) : Type 0 where
   pub going : visitor.refused ≡ None
   pub game_is : visitor.walk.game.now ≡ game
-  pub innermost : visitor.walk.innermost ≡ outside
+  pub innermost : visitor.walk.innermost ≡ empty_path
   pub outer : visitor.walk.outer ≡ []
   pub sum : visitor.walk.expected.sum ≡ None
   pub unit : visitor.walk.expected.unit ≡ 1

@@ -6,7 +6,7 @@ ghost use Rattle.def_game_numbers.specs.Numbers.{tables_of};
 ghost use Rattle.def_game_paths.specs.Paths.{visits};
 ghost use Rattle.def_game_scale.specs.Tables.{AreFractions, payoffs_of};
 ghost use Rattle.xg_scale.specs.FaultOfFile.{RefusesBy};
-ghost use Rattle.xg_scale.specs.OnPath.{HasNodeAround, at_action, chance_set_of, entered_node, outside};
+ghost use Rattle.xg_scale.specs.OnPath.{HasNodeAround, at_action, chance_set_of, entered_node, empty_path};
 ghost use Rattle.xg_scale.specs.Walked.{HasEntered, HasLeft, IsBefore, IsExpectedOf, MayCome, MayComeNext, all_fit, next_fault, numbers_below, paid_to, reach_below};
 
 use crate::leaf::Expected;
@@ -47,7 +47,7 @@ impl<'a> PathVisitor<'a> {
         let fractions = Vec::with_capacity(alloc, game.tree().leaves() as usize)?;
         let walk = PathWalk {
             game,
-            innermost: outside(),
+            innermost: empty_path(),
             outer: OuterNodes::new(alloc),
             expected: Expected {
                 sum: None,
@@ -128,8 +128,8 @@ impl<'a> PathWalk<'a> {
 }
 
 /// What is around the whole tree.
-fn outside() -> NodeOnPath
-    ensures { result ≡ outside }
+fn empty_path() -> NodeOnPath
+    ensures { result ≡ empty_path }
 {
     NodeOnPath {
         chance_set: None,

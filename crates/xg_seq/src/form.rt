@@ -197,7 +197,7 @@ impl SeqForm {
     pub fn places(&self, player: Player) -> &[SetPlace]
         ensures { map placed_of_row result.now ≡ placed (player_sets self.now player) }
     {
-        self.table(player).rows()
+        self.table(player).places()
     }
 
     /// Does nothing: its clauses are what is true of every form.

@@ -71,7 +71,7 @@ impl SetPlaces {
         self.rows[set as usize - 1]
     }
 
-    pub(crate) fn rows(&self) -> &[SetPlace]
+    pub(crate) fn places(&self) -> &[SetPlace]
         ensures { map placed_of_row result.now ≡ placed self.now }
     {
         &self.rows

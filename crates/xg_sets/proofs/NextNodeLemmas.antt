@@ -11,7 +11,7 @@ use Rattle.def_game_paths.specs.Recall.{first_of_set, is_personal, is_same_set}
 use Rattle.def_game_paths.proofs.Breaks.{is_same_set_by, same_set}
 use Rattle.def_sequence_form.specs.Sets.{next_number, next_numbers, number_found}
 use Rattle.def_sequence_form.specs.SetNodes.{is_in_set}
-use Rattle.xg_sets.specs.declared.table.SetRow.{SetRow}
+use Rattle.xg_sets.specs.declared.table.FoundSet.{FoundSet}
 use Rattle.xg_sets.specs.Entered.{IsLastNode}
 
 -- behind nodes of other sets, a search for the first node of a set finds the next one
@@ -157,16 +157,16 @@ module _ (kind : Kind) (number : ℕ) (done : List Visit) (v : Visit) (last : �
       }
 
 -- what is the same of the new row stays the same for all
-pub map_kept : {X : Type 0} (f : SetRow → X) (rows : List SetRow) (i : ℕ) (row d : SetRow) → f row ≡ f (get_or rows i d)
+pub map_kept : {X : Type 0} (f : FoundSet → X) (rows : List FoundSet) (i : ℕ) (row d : FoundSet) → f row ≡ f (get_or rows i d)
     → map f (set rows i row) ≡ map f rows
 map_kept f [] i row d same = refl
 map_kept f (x ∷ rows) zero row d same = ap (λ a. a ∷ map f rows) same
 map_kept f (x ∷ rows) (suc i) row d same = ap (λ later. f x ∷ later) (map_kept f rows i row d same)
 
 -- each row has what the new one has, and what each other one has
-pub each_row : (P : ℕ → SetRow → Type 0) (rows : List SetRow) (i : ℕ) (row : SetRow) → P i row
-    → ((j : ℕ) (d : SetRow) → j < length rows → (j ≡ i → ⊥) → P j (get_or rows j d))
-    → (j : ℕ) (d : SetRow) → j < length (set rows i row) → P j (get_or (set rows i row) j d)
+pub each_row : (P : ℕ → FoundSet → Type 0) (rows : List FoundSet) (i : ℕ) (row : FoundSet) → P i row
+    → ((j : ℕ) (d : FoundSet) → j < length rows → (j ≡ i → ⊥) → P j (get_or rows j d))
+    → (j : ℕ) (d : FoundSet) → j < length (set rows i row) → P j (get_or (set rows i row) j d)
 each_row P [] i row new others j d there = absurd (omega arith)
 each_row P (x ∷ rows) zero row new others zero d there = new
 each_row P (x ∷ rows) zero row new others (suc j) d there = others (suc j) d (omega arith) (λ e. absurd (omega arith))

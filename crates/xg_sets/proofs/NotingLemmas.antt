@@ -31,25 +31,25 @@ use Rattle.def_sequence_form.proofs.Sets.{set_of_visit}
 use Rattle.xg_sets.specs.declared.building.RecallFault.{RecallFault}
 use Rattle.xg_sets.specs.declared.building.RecallFault.TheVariants.{NotRecall, NoMemory}
 use Rattle.xg_sets.specs.declared.movers.Sequences.{Sequences}
-use Rattle.xg_sets.specs.declared.table.SetRow.{SetRow}
+use Rattle.xg_sets.specs.declared.table.FoundSet.{FoundSet}
 use Rattle.xg_sets.specs.Entered.{AreAt, AreAtFirstChild, AreTablesOf, FindsBreak, IsAtFirstChild, IsFirstNode, IsLastNode, IsRowOf, IsTableUpTo}
-use Rattle.xg_sets.specs.Table.{BeginsSet, JoinsRow, LastIsThere, Notes, NotesIn, SetRows, with_last, with_set}
+use Rattle.xg_sets.specs.Table.{BeginsSet, JoinsRow, LastIsThere, Notes, NotesIn, SetsUpTo, with_last, with_set}
 use Rattle.xg_sets.specs.OfPlayer.{set_in_row}
 use Rattle.xg_sets.proofs.NextNodeLemmas.{apart, each_row, first_after, joined_numbers, last_kept, last_new, length-next_numbers, map_kept, not_true, other_way, quiet_numbers}
 
-abbrev pub put : SetRows → ℕ → SetRows
+abbrev pub put : SetsUpTo → ℕ → SetsUpTo
 put table sequence = record table { at_nodes = table.at_nodes ++ sequence ∷ [] }
 
-abbrev no_row : SetRow
+abbrev no_row : FoundSet
 no_row = record { first = 0; before = 0; actions = 0; node = 0; last = 0 }
 
-not_read : (rows : List SetRow) (i : ℕ) → slice_get rows i ≡ None → length rows ≤ i
+not_read : (rows : List FoundSet) (i : ℕ) → slice_get rows i ≡ None → length rows ≤ i
 not_read rows i e = elim (cases_lt i (length rows)) [
   | inl below ↦ let no : Some (get_or rows i no_row) ≡ None = sym (slice_get-get_or rows i no_row below) ∙ e in cc no
   | inr past ↦ omega arith
 ]
 
-is_read : (rows : List SetRow) (i : ℕ) (row : SetRow) → slice_get rows i ≡ Some row → i < length rows
+is_read : (rows : List FoundSet) (i : ℕ) (row : FoundSet) → slice_get rows i ≡ Some row → i < length rows
 is_read rows i row e = elim (cases_lt i (length rows)) [
   | inl below ↦ below
   | inr past ↦ let no : None ≡ Some row = sym (slice_get_past rows i (omega arith)) ∙ e in cc no
@@ -83,21 +83,21 @@ module _ (tree : Forest) (kind : Kind) (game : IsGameTree tree) (inner : is_leaf
   firsts_new : begins ≡ true → set_firsts kind 0 (take (n + 1) all) ≡ firsts ++ v ∷ []
   firsts_new first = firsts_more ∙ ap (λ b. firsts ++ cond b (v ∷ []) []) first
 
-  rows_count : (table : SetRows) → IsTableUpTo tree kind n table → length table.rows ≡ length firsts
+  rows_count : (table : SetsUpTo) → IsTableUpTo tree kind n table → length table.rows ≡ length firsts
   rows_count table stands = sym (length-map table.rows set_in_row) ∙ ap length stands.sets ∙ length-map firsts (set_of_visit kind tree)
 
   sequences_more : map (sequence_at kind tree)
       (take (n + 1) all) ≡ map (sequence_at kind tree) done ++ sequence_at kind tree v ∷ []
   sequences_more = ap (map (sequence_at kind tree)) next.taken ∙ map-append (sequence_at kind tree) done (v ∷ [])
 
-  put_more : (table : SetRows) (s : ℕ) → table.at_nodes ≡ map (sequence_at kind tree) done → s ≡ sequence_at kind tree v
+  put_more : (table : SetsUpTo) (s : ℕ) → table.at_nodes ≡ map (sequence_at kind tree) done → s ≡ sequence_at kind tree v
       → table.at_nodes ++ s ∷ [] ≡ map (sequence_at kind tree) (take (n + 1) all)
   put_more table s stands is = (λ i. stands i ++ is i ∷ []) ∙ sym sequences_more
 
   -- a node that begins no set of the kind
-  quiet_stands : (table : SetRows) (s : ℕ) → IsTableUpTo tree kind n table → begins ≡ false
+  quiet_stands : (table : SetsUpTo) (s : ℕ) → IsTableUpTo tree kind n table → begins ≡ false
       → s ≡ sequence_at kind tree v
-      → ((i : ℕ) (d : SetRow) → i < length table.rows → IsLastNode kind (i + 1) (done ++ v ∷ []) (get_or table.rows i d).last)
+      → ((i : ℕ) (d : FoundSet) → i < length table.rows → IsLastNode kind (i + 1) (done ++ v ∷ []) (get_or table.rows i d).last)
       → IsTableUpTo tree kind (n + 1) (put table s)
   quiet_stands table s stands other is lasts =
       let same : firsts ≡ set_firsts kind 0 (take (n + 1) all) = sym (firsts_quiet other) in
@@ -143,7 +143,7 @@ module _ (tree : Forest) (kind : Kind) (game : IsGameTree tree) (inner : is_leaf
       let number : 1 + length done ≡ n + 1 = omega (arith, length-take n all) in
       ap (first_of_set 1 x) parts ∙ first_after 1 x done v (drop (n + 1) all) (others x kinds sets) same ∙ ap (λ m. Some (record { number = m; visit = v })) number
 
-  row_stands : (table : SetRows) (s : ℕ) → IsTableUpTo tree kind n table → v.node.kind ≡ kind
+  row_stands : (table : SetsUpTo) (s : ℕ) → IsTableUpTo tree kind n table → v.node.kind ≡ kind
       → v.node.set ≡ length firsts + 1 → s ≡ sequence_at kind tree v →
       IsRowOf tree kind (length table.rows + 1) (record { first = table.next; before = s; actions = v.node.children; node = n + 1; last = n + 1 })
   row_stands table s stands is set sequence =
@@ -164,25 +164,25 @@ module _ (tree : Forest) (kind : Kind) (game : IsGameTree tree) (inner : is_leaf
         );
       }
 
-  new_stands : (table : SetRows) (s : ℕ) → IsTableUpTo tree kind n table → v.node.kind ≡ kind
+  new_stands : (table : SetsUpTo) (s : ℕ) → IsTableUpTo tree kind n table → v.node.kind ≡ kind
       → v.node.set ≡ length firsts + 1 → s ≡ sequence_at kind tree v
       → IsTableUpTo tree kind (n + 1) (put (with_set table (n + 1) v.node s) s)
   new_stands table s stands is set sequence =
       let first : begins ≡ true = ap (λ b. b && nat_eq v.node.set (length firsts + 1)) (is_same_kind_self kind v.node.kind is) ∙ eq-eqb v.node.set (length firsts + 1) set in
       let more : set_firsts kind 0 (take (n + 1) all) ≡ firsts ++ v ∷ [] = firsts_new first in
-      let row : SetRow = record { first = table.next; before = s; actions = v.node.children; node = n + 1; last = n + 1 } in
+      let row : FoundSet = record { first = table.next; before = s; actions = v.node.children; node = n + 1; last = n + 1 } in
       let next_sizes : sizes_so_far kind (take (n + 1) all) ≡ sizes ++ v.node.children ∷ [] = ap (map (λ (w : Visit). w.node.children)) more ∙ map-append (λ (w : Visit). w.node.children) firsts (v ∷ []) in
       let next_is : table.next ≡ 1 + sum sizes = stands.next in
       let rows : length table.rows ≡ length firsts = rows_count table stands in
       let many : length sizes ≡ length firsts = length-map firsts (λ (w : Visit). w.node.children) in
       let number : n + 1 ≡ first_number tree v = ap number_or_zero (sym (found_new v.node is (omega arith) (is_same_set_by v.node v.node refl refl))) in
       record {
-        nodes = map-append (λ (r : SetRow). r.node) table.rows (row ∷ []) ∙ (λ i. stands.nodes i ++ number i ∷ []) ∙ sym (map-append (first_number tree) firsts (v ∷ [])) ∙ ap (map (first_number tree)) (sym more);
+        nodes = map-append (λ (r : FoundSet). r.node) table.rows (row ∷ []) ∙ (λ i. stands.nodes i ++ number i ∷ []) ∙ sym (map-append (first_number tree) firsts (v ∷ [])) ∙ ap (map (first_number tree)) (sym more);
         lasts = λ i d there. elim (cases_lt i (length table.rows)) [
           | inl below ↦
               let ne : v.node.set ≢ i + 1 = λ e. absurd (omega arith) in
               subst (λ vs. IsLastNode kind (i + 1) vs (get_or (table.rows ++ row ∷ []) i d).last) (sym next.taken)
-              (subst (λ (r : SetRow). IsLastNode kind (i + 1) (done ++ v ∷ []) r.last) (sym (get_or-append table.rows (row ∷ []) d i below))
+              (subst (λ (r : FoundSet). IsLastNode kind (i + 1) (done ++ v ∷ []) r.last) (sym (get_or-append table.rows (row ∷ []) d i below))
               (last_kept kind (i + 1) done v (get_or table.rows i d).last (stands.lasts i d below) (not_in_it (i + 1) ne)))
           | inr past ↦
               let at : length table.rows ≡ i = omega (arith, length-append table.rows (row ∷ [])) in
@@ -190,7 +190,7 @@ module _ (tree : Forest) (kind : Kind) (game : IsGameTree tree) (inner : is_leaf
               let long : length done + 1 ≡ n + 1 = omega (arith, count_done) in
               subst (λ vs. IsLastNode kind (i + 1) vs (get_or (table.rows ++ row ∷ []) i d).last) (sym next.taken)
               (subst (λ j. IsLastNode kind (i + 1) (done ++ v ∷ []) (get_or (table.rows ++ row ∷ []) j d).last) at
-              (subst (λ (r : SetRow). IsLastNode kind (i + 1) (done ++ v ∷ []) r.last) (sym (get_or-append_seam table.rows row [] d))
+              (subst (λ (r : FoundSet). IsLastNode kind (i + 1) (done ++ v ∷ []) r.last) (sym (get_or-append_seam table.rows row [] d))
               (last_new kind (i + 1) done v (n + 1) long (in_it (i + 1) is index))))
         ];
         sets = map-append set_in_row table.rows (row ∷ []) ∙ (λ i. stands.sets i ++ record { before = sequence i; actions = v.node.children } ∷ []) ∙ sym (map-append (set_of_visit kind tree) firsts (v ∷ [])) ∙ ap (map (set_of_visit kind tree)) (sym more);
@@ -226,13 +226,13 @@ module _ (tree : Forest) (kind : Kind) (game : IsGameTree tree) (inner : is_leaf
       ∙ ap (λ b. cond (not b) broken None) (ne_eqb (sequence_at first.visit.node.kind tree first.visit) (sequence_at v.node.kind tree v) ne)
 
   -- what stands after a node of the kind was noted, where the sequence before it is s
-  record IsNoted (new : SetRows) (s first : ℕ) (new_next : List (Option ℕ)) : Type 0 where
+  record IsNoted (new : SetsUpTo) (s first : ℕ) (new_next : List (Option ℕ)) : Type 0 where
     stands : IsTableUpTo tree kind (n + 1) (put new s)
     first_is : first ≡ first_sequence (set_sizes kind tree) v.node.set
     none : against ≡ None
     next_are : new_next ++ None ∷ [] ≡ next_numbers 1 (take (n + 1) all)
 
-  abbrev AnswersNoting : SetRows → ℕ → Result ℕ RecallFault → List (Option ℕ) → Type 0
+  abbrev AnswersNoting : SetsUpTo → ℕ → Result ℕ RecallFault → List (Option ℕ) → Type 0
   AnswersNoting new s (Ok first) new_next = IsNoted new s first new_next
   AnswersNoting new s (Err NoMemory) new_next = Unit {0}
   AnswersNoting new s (Err (NotRecall node earlier)) new_next = against ≡ Some (record { node = node; earlier = earlier })
@@ -247,7 +247,7 @@ module _ (tree : Forest) (kind : Kind) (game : IsGameTree tree) (inner : is_leaf
       let many : length sizes ≡ length firsts = length-map firsts (λ (w : Visit). w.node.children) in
       (joins.counts, omega arith)
 
-  begun : v.node.kind ≡ kind → (table : SetRows) (s : ℕ) (new : SetRows) (numbers new_next : List (Option ℕ))
+  begun : v.node.kind ≡ kind → (table : SetsUpTo) (s : ℕ) (new : SetsUpTo) (numbers new_next : List (Option ℕ))
       → IsTableUpTo tree kind n table
       → s ≡ sequence_at kind tree v → length table.rows ≤ v.node.set - 1 → numbers ≡ next_numbers 1 done
       → (result : Result ℕ RecallFault) → BeginsSet table (n + 1) v.node s new result → new_next ≡ numbers
@@ -271,12 +271,12 @@ module _ (tree : Forest) (kind : Kind) (game : IsGameTree tree) (inner : is_leaf
   begun is table s new numbers new_next stands sequence past known_next (Err NoMemory) h same = tt
   begun is table s new numbers new_next stands sequence past known_next (Err (NotRecall node earlier)) h same = absurd h
 
-  record IsRow (row : SetRow) : Type 0 where
+  record IsRow (row : FoundSet) : Type 0 where
     first : row.first ≡ first_sequence (set_sizes kind tree) v.node.set
     node : (w : Visit) × IsFirstNode tree kind row v.node w
     last : IsLastNode kind v.node.set done row.last
 
-  its_row : v.node.kind ≡ kind → (table : SetRows) (row : SetRow) → IsTableUpTo tree kind n table
+  its_row : v.node.kind ≡ kind → (table : SetsUpTo) (row : FoundSet) → IsTableUpTo tree kind n table
       → slice_get table.rows (v.node.set - 1) ≡ Some row → IsRow row
   its_row is table row stands read =
       let counts : 1 ≤ v.node.set = (set_of_node is).0 in
@@ -287,17 +287,17 @@ module _ (tree : Forest) (kind : Kind) (game : IsGameTree tree) (inner : is_leaf
         first = stood.first ∙ ap (first_sequence (set_sizes kind tree)) (sym set);
         node = stood.node v.node is set;
         last = subst (λ m. IsLastNode kind m done row.last) (sym set)
-            (subst (λ (r : SetRow). IsLastNode kind (v.node.set - 1 + 1) done r.last) (get_or_from_slice_get table.rows (v.node.set - 1) row row read)
+            (subst (λ (r : FoundSet). IsLastNode kind (v.node.set - 1 + 1) done r.last) (get_or_from_slice_get table.rows (v.node.set - 1) row row read)
             (stands.lasts (v.node.set - 1) row (is_read table.rows (v.node.set - 1) row read)));
       }
 
   -- the table in which the node is its set's last one
-  joined_stands : (table : SetRows) (s : ℕ) (row : SetRow) → IsTableUpTo tree kind n table → v.node.kind ≡ kind
+  joined_stands : (table : SetsUpTo) (s : ℕ) (row : FoundSet) → IsTableUpTo tree kind n table → v.node.kind ≡ kind
       → slice_get table.rows (v.node.set - 1) ≡ Some row → begins ≡ false → s ≡ sequence_at kind tree v
       → IsTableUpTo tree kind (n + 1) (put (with_last table (v.node.set - 1) row (n + 1)) s)
   joined_stands table s row stands is read other sequence =
       let place : ℕ = v.node.set - 1 in
-      let new_row : SetRow = record row { last = n + 1 } in
+      let new_row : FoundSet = record row { last = n + 1 } in
       let there : place < length table.rows = is_read table.rows place row read in
       let read_is : get_or table.rows place row ≡ row = get_or_from_slice_get table.rows place row row read in
       let same : firsts ≡ set_firsts kind 0 (take (n + 1) all) = sym (firsts_quiet other) in
@@ -308,15 +308,15 @@ module _ (tree : Forest) (kind : Kind) (game : IsGameTree tree) (inner : is_leaf
       record {
         sets = map_kept set_in_row table.rows place new_row row (ap set_in_row (sym read_is)) ∙ stands.sets ∙ ap (map (set_of_visit kind tree)) same;
         each = each_row (λ j r. IsRowOf tree kind (j + 1) r) table.rows place new_row (with_other_last row stood) (λ j d inside _. stands.each j d inside);
-        nodes = map_kept (λ (r : SetRow). r.node) table.rows place new_row row (ap (λ (r : SetRow). r.node) (sym read_is)) ∙ stands.nodes ∙ ap (map (first_number tree)) same;
-        lasts = subst (λ vs. (i : ℕ) (d : SetRow) → i < length (set table.rows place new_row) → IsLastNode kind (i + 1) vs (get_or (set table.rows place new_row) i d).last) (sym next.taken)
+        nodes = map_kept (λ (r : FoundSet). r.node) table.rows place new_row row (ap (λ (r : FoundSet). r.node) (sym read_is)) ∙ stands.nodes ∙ ap (map (first_number tree)) same;
+        lasts = subst (λ vs. (i : ℕ) (d : FoundSet) → i < length (set table.rows place new_row) → IsLastNode kind (i + 1) vs (get_or (set table.rows place new_row) i d).last) (sym next.taken)
             (each_row (λ j r. IsLastNode kind (j + 1) (done ++ v ∷ []) r.last) table.rows place new_row (last_new kind (place + 1) done v (n + 1) long (in_it (place + 1) is index))
             (λ j d inside differs. last_kept kind (j + 1) done v (get_or table.rows j d).last (stands.lasts j d inside) (not_in_it (j + 1) (λ e. differs (omega arith)))));
         next = stands.next ∙ ap (λ vs. 1 + sum (map (λ (w : Visit). w.node.children) vs)) same;
         at_nodes = put_more table s stands.at_nodes sequence;
       }
     where
-      with_other_last : (row : SetRow) → IsRowOf tree kind (v.node.set - 1 + 1) row
+      with_other_last : (row : FoundSet) → IsRowOf tree kind (v.node.set - 1 + 1) row
           → IsRowOf tree kind (v.node.set - 1 + 1) (record row { last = n + 1 })
       with_other_last row stood = record {
         first = stood.first;
@@ -324,7 +324,7 @@ module _ (tree : Forest) (kind : Kind) (game : IsGameTree tree) (inner : is_leaf
       }
 
   -- the set's last node so far has the node as its next one
-  joined_next : (row : SetRow) (numbers : List (Option ℕ)) → is_personal kind ≡ true → v.node.kind ≡ kind
+  joined_next : (row : FoundSet) (numbers : List (Option ℕ)) → is_personal kind ≡ true → v.node.kind ≡ kind
       → IsLastNode kind v.node.set done row.last → numbers ≡ next_numbers 1 done
       → set numbers (row.last - 1) (Some (n + 1)) ++ None ∷ [] ≡ next_numbers 1 (take (n + 1) all)
   joined_next row numbers personal is last known =
@@ -337,7 +337,7 @@ module _ (tree : Forest) (kind : Kind) (game : IsGameTree tree) (inner : is_leaf
       (λ j e after inside. as_its_kind false (get_or done j e) (last.later j e (omega arith) inside)))
       ∙ ap (next_numbers 1) (sym next.taken)
 
-  joined : is_personal kind ≡ true → v.node.kind ≡ kind → (table : SetRows) (s : ℕ) (new : SetRows) (row : SetRow)
+  joined : is_personal kind ≡ true → v.node.kind ≡ kind → (table : SetsUpTo) (s : ℕ) (new : SetsUpTo) (row : FoundSet)
       (numbers new_next : List (Option ℕ))
       → IsTableUpTo tree kind n table → s ≡ sequence_at kind tree v → slice_get table.rows (v.node.set - 1) ≡ Some row
       → numbers ≡ next_numbers 1 done
@@ -370,7 +370,7 @@ module _ (tree : Forest) (kind : Kind) (game : IsGameTree tree) (inner : is_leaf
       ∙ (λ i. Some (record { node = sym node_is i; earlier = sym earlier_is i }))
 
   after_note : is_personal kind ≡ true → v.node.kind ≡ kind
-      → (table : SetRows) (s : ℕ) (new : SetRows) (result : Result ℕ RecallFault) (numbers new_next : List (Option ℕ))
+      → (table : SetsUpTo) (s : ℕ) (new : SetsUpTo) (result : Result ℕ RecallFault) (numbers new_next : List (Option ℕ))
       → IsTableUpTo tree kind n table → numbers ≡ next_numbers 1 done
       → s ≡ sequence_at kind tree v → Notes table (n + 1) v.node s new result numbers new_next
       → AnswersNoting new s result new_next
@@ -381,7 +381,7 @@ module _ (tree : Forest) (kind : Kind) (game : IsGameTree tree) (inner : is_leaf
       ] refl notes
 
   -- the last node so far of the node's set is one of those before it
-  last_there : v.node.kind ≡ kind → (table : SetRows) (numbers : List (Option ℕ)) → IsTableUpTo tree kind n table
+  last_there : v.node.kind ≡ kind → (table : SetsUpTo) (numbers : List (Option ℕ)) → IsTableUpTo tree kind n table
       → numbers ≡ next_numbers 1 done → LastIsThere (slice_get table.rows (v.node.set - 1)) numbers
   last_there is table numbers stands known =
       elim (slice_get table.rows (v.node.set - 1)) as (λ o. slice_get table.rows (v.node.set - 1) ≡ o → LastIsThere o numbers) [
@@ -393,7 +393,7 @@ module _ (tree : Forest) (kind : Kind) (game : IsGameTree tree) (inner : is_leaf
       ] refl
 
   -- the next set's sequences have small numbers
-  room_for : (table : SetRows) → IsTableUpTo tree kind n table → table.next + v.node.children < 2 ^ 32
+  room_for : (table : SetsUpTo) → IsTableUpTo tree kind n table → table.next + v.node.children < 2 ^ 32
   room_for table stands =
       let front = sizes_front kind n all in
       let few = sequences_are_few tree game kind inner in
@@ -425,7 +425,7 @@ module _ (tree : Forest) (game : IsGameTree tree) (n : ℕ) (v : Visit) (next : 
   not_personal other (Some first) = ap (λ p. cond (p && differ_in_number tree first.visit v) (Some (record { node = n + 1; earlier = first.number })) None) other
 
   -- a kind that doesn't move at the node
-  quiet : (kind : Kind) → is_leaf_kind kind ≡ false → is_same_kind kind v.node.kind ≡ false → (table : SetRows) (s : ℕ)
+  quiet : (kind : Kind) → is_leaf_kind kind ≡ false → is_same_kind kind v.node.kind ≡ false → (table : SetsUpTo) (s : ℕ)
       → IsTableUpTo tree kind n table → s ≡ sequence_at kind tree v → IsTableUpTo tree kind (n + 1) (put table s)
   quiet kind inner other table s stands sequence =
       quiet_stands tree kind game inner n v next table s stands (ap (λ b. b && nat_eq v.node.set (length (set_firsts kind 0 (take n (visits tree))) + 1)) other) sequence
@@ -459,7 +459,7 @@ module _ (tree : Forest) (game : IsGameTree tree) (n : ℕ) (v : Visit) (next : 
       apart e = cc e
 
   quiet_node : is_personal v.node.kind ≡ false → is_same_kind One v.node.kind ≡ false
-      → is_same_kind Two v.node.kind ≡ false → (one two : SetRows) (at : Sequences) (numbers : List (Option ℕ))
+      → is_same_kind Two v.node.kind ≡ false → (one two : SetsUpTo) (at : Sequences) (numbers : List (Option ℕ))
       → AreTablesOf tree n one two numbers
       → AreAt tree v.path at →
       AreTablesOf tree (n + 1) (put one at.one) (put two at.two) (numbers ++ None ∷ []) × AreAtFirstChild tree v at
@@ -473,7 +473,7 @@ module _ (tree : Forest) (game : IsGameTree tree) (n : ℕ) (v : Visit) (next : 
     record { one = other_below One at.one not_one are.one; two = other_below Two at.two not_two are.two },
   )
 
-  noted_one : v.node.kind ≡ One → (one two new : SetRows) (at : Sequences) (first : ℕ) (numbers new_next : List (Option ℕ))
+  noted_one : v.node.kind ≡ One → (one two new : SetsUpTo) (at : Sequences) (first : ℕ) (numbers new_next : List (Option ℕ))
       → AreTablesOf tree n one two numbers
       → AreAt tree v.path at → Notes one (n + 1) v.node at.one new (Ok first) numbers new_next →
       AreTablesOf tree (n + 1) (put new at.one) (put two at.two) (new_next ++ None ∷ []) × AreAtFirstChild tree v (record { one = first; two = at.two })
@@ -490,7 +490,7 @@ module _ (tree : Forest) (game : IsGameTree tree) (n : ℕ) (v : Visit) (next : 
         record { one = own_below One first same noted.first_is; two = other_below Two at.two other are.two },
       )
 
-  noted_two : v.node.kind ≡ Two → (one two new : SetRows) (at : Sequences) (first : ℕ) (numbers new_next : List (Option ℕ))
+  noted_two : v.node.kind ≡ Two → (one two new : SetsUpTo) (at : Sequences) (first : ℕ) (numbers new_next : List (Option ℕ))
       → AreTablesOf tree n one two numbers
       → AreAt tree v.path at → Notes two (n + 1) v.node at.two new (Ok first) numbers new_next →
       AreTablesOf tree (n + 1) (put one at.one) (put new at.two) (new_next ++ None ∷ []) × AreAtFirstChild tree v (record { one = at.one; two = first })
@@ -508,7 +508,7 @@ module _ (tree : Forest) (game : IsGameTree tree) (n : ℕ) (v : Visit) (next : 
       )
 
   broken_at : (kind : Kind) → is_leaf_kind kind ≡ false → is_personal kind ≡ true → v.node.kind ≡ kind
-      → (table new : SetRows) (s : ℕ) (numbers new_next : List (Option ℕ)) → IsTableUpTo tree kind n table
+      → (table new : SetsUpTo) (s : ℕ) (numbers new_next : List (Option ℕ)) → IsTableUpTo tree kind n table
       → numbers ≡ next_numbers 1 (take n (visits tree)) → number_break tree ≡ rest_break tree n
       → s ≡ sequence_at kind tree v →
       (fault : RecallFault) → Notes table (n + 1) v.node s new (Err fault) numbers new_next → FindsBreak tree fault
@@ -517,14 +517,14 @@ module _ (tree : Forest) (game : IsGameTree tree) (n : ℕ) (v : Visit) (next : 
       some_here so_far (record { node = node; earlier = earlier })
       (after_note tree kind game inner n v next personal is table s new (Err (NotRecall node earlier)) numbers new_next stands known sequence notes)
 
-  broken_one : v.node.kind ≡ One → (one two new : SetRows) (at : Sequences) (fault : RecallFault)
+  broken_one : v.node.kind ≡ One → (one two new : SetsUpTo) (at : Sequences) (fault : RecallFault)
       (numbers new_next : List (Option ℕ)) → AreTablesOf tree n one two numbers → AreAt tree v.path at
       → Notes one (n + 1) v.node at.one new (Err fault) numbers new_next
       → FindsBreak tree fault
   broken_one is one two new at fault numbers new_next stand are notes =
       broken_at One refl refl is one new at.one numbers new_next stand.table_one stand.next_are stand.no_break are.one fault notes
 
-  broken_two : v.node.kind ≡ Two → (one two new : SetRows) (at : Sequences) (fault : RecallFault)
+  broken_two : v.node.kind ≡ Two → (one two new : SetsUpTo) (at : Sequences) (fault : RecallFault)
       (numbers new_next : List (Option ℕ)) → AreTablesOf tree n one two numbers → AreAt tree v.path at
       → Notes two (n + 1) v.node at.two new (Err fault) numbers new_next
       → FindsBreak tree fault
@@ -548,19 +548,19 @@ module _ (tree : Forest) (game : IsGameTree tree) (n : ℕ) (there : n < node_co
   counts_at kind inner is = subst (λ y. 1 ≤ y.set) is_node (set_of_node tree kind game inner n v next (ap (λ y. y.kind) is_node ∙ is)).0
 
   -- the last node so far of the node's set is one of those before it
-  pub last_at : (kind : Kind) → is_leaf_kind kind ≡ false → x.kind ≡ kind → (table : SetRows) (numbers : List (Option ℕ))
+  pub last_at : (kind : Kind) → is_leaf_kind kind ≡ false → x.kind ≡ kind → (table : SetsUpTo) (numbers : List (Option ℕ))
       → IsTableUpTo tree kind n table → numbers ≡ next_numbers 1 (take n (visits tree))
       → LastIsThere (slice_get table.rows (x.set - 1)) numbers
   last_at kind inner is table numbers stands known =
       subst (λ y. LastIsThere (slice_get table.rows (y.set - 1)) numbers) is_node (last_there tree kind game inner n v next (ap (λ y. y.kind) is_node ∙ is) table numbers stands known)
 
   -- the first sequence of a table's next set, with as many more as the node has children, is below 2 ^ 32
-  pub room_at : (kind : Kind) → is_leaf_kind kind ≡ false → (table : SetRows) → IsTableUpTo tree kind n table
+  pub room_at : (kind : Kind) → is_leaf_kind kind ≡ false → (table : SetsUpTo) → IsTableUpTo tree kind n table
       → table.next + x.children < 2 ^ 32
   room_at kind inner table stands = subst (λ y. table.next + y.children < 2 ^ 32) is_node (room_for tree kind game inner n v next table stands)
 
   -- with player one's node noted, the tables are those of one node more, and its first child has the answered sequence
-  pub noted_one_at : x.kind ≡ One → (one two new : SetRows) (at : Sequences) (first : ℕ) (numbers new_next : List (Option ℕ))
+  pub noted_one_at : x.kind ≡ One → (one two new : SetsUpTo) (at : Sequences) (first : ℕ) (numbers new_next : List (Option ℕ))
       → AreTablesOf tree n one two numbers
       → AreAt tree v.path at → Notes one (n + 1) x at.one new (Ok first) numbers new_next →
       AreTablesOf tree (n + 1) (put new at.one) (put two at.two) (new_next ++ None ∷ []) × AreAtFirstChild tree v (record { one = first; two = at.two })
@@ -568,7 +568,7 @@ module _ (tree : Forest) (game : IsGameTree tree) (n : ℕ) (there : n < node_co
       noted_one tree game n v next (ap (λ y. y.kind) is_node ∙ is) one two new at first numbers new_next stand are (subst (λ y. Notes one (n + 1) y at.one new (Ok first) numbers new_next) (sym is_node) notes)
 
   -- with player two's node noted, the tables are those of one node more, and its first child has the answered sequence
-  pub noted_two_at : x.kind ≡ Two → (one two new : SetRows) (at : Sequences) (first : ℕ) (numbers new_next : List (Option ℕ))
+  pub noted_two_at : x.kind ≡ Two → (one two new : SetsUpTo) (at : Sequences) (first : ℕ) (numbers new_next : List (Option ℕ))
       → AreTablesOf tree n one two numbers
       → AreAt tree v.path at → Notes two (n + 1) x at.two new (Ok first) numbers new_next →
       AreTablesOf tree (n + 1) (put one at.one) (put new at.two) (new_next ++ None ∷ []) × AreAtFirstChild tree v (record { one = at.one; two = first })
@@ -576,7 +576,7 @@ module _ (tree : Forest) (game : IsGameTree tree) (n : ℕ) (there : n < node_co
       noted_two tree game n v next (ap (λ y. y.kind) is_node ∙ is) one two new at first numbers new_next stand are (subst (λ y. Notes two (n + 1) y at.two new (Ok first) numbers new_next) (sym is_node) notes)
 
   -- where no player moves, the tables with the sequences there are those of one node more, and its first child has them
-  pub quiet_at : is_personal x.kind ≡ false → (one two : SetRows) (at : Sequences) (numbers : List (Option ℕ))
+  pub quiet_at : is_personal x.kind ≡ false → (one two : SetsUpTo) (at : Sequences) (numbers : List (Option ℕ))
       → AreTablesOf tree n one two numbers
       → AreAt tree v.path at →
       AreTablesOf tree (n + 1) (put one at.one) (put two at.two) (numbers ++ None ∷ []) × AreAtFirstChild tree v at
@@ -592,7 +592,7 @@ module _ (tree : Forest) (game : IsGameTree tree) (n : ℕ) (there : n < node_co
       not_mover Leaf e = (refl, refl)
 
   -- where a node of player one can't be noted, a break of recall that is answered is the first, by numbers
-  pub broken_one_at : x.kind ≡ One → (one two new : SetRows) (at : Sequences) (fault : RecallFault)
+  pub broken_one_at : x.kind ≡ One → (one two new : SetsUpTo) (at : Sequences) (fault : RecallFault)
       (numbers new_next : List (Option ℕ)) → AreTablesOf tree n one two numbers → AreAt tree v.path at
       → Notes one (n + 1) x at.one new (Err fault) numbers new_next
       → FindsBreak tree fault
@@ -600,7 +600,7 @@ module _ (tree : Forest) (game : IsGameTree tree) (n : ℕ) (there : n < node_co
       broken_one tree game n v next (ap (λ y. y.kind) is_node ∙ is) one two new at fault numbers new_next stand are (subst (λ y. Notes one (n + 1) y at.one new (Err fault) numbers new_next) (sym is_node) notes)
 
   -- where a node of player two can't be noted, a break of recall that is answered is the first, by numbers
-  pub broken_two_at : x.kind ≡ Two → (one two new : SetRows) (at : Sequences) (fault : RecallFault)
+  pub broken_two_at : x.kind ≡ Two → (one two new : SetsUpTo) (at : Sequences) (fault : RecallFault)
       (numbers new_next : List (Option ℕ)) → AreTablesOf tree n one two numbers → AreAt tree v.path at
       → Notes two (n + 1) x at.two new (Err fault) numbers new_next
       → FindsBreak tree fault

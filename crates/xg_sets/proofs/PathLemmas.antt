@@ -25,7 +25,7 @@ use Rattle.xg_sets.specs.declared.building.FoundTables.{FoundTables}
 use Rattle.xg_sets.specs.declared.movers.Mover.{Mover}
 use Rattle.xg_sets.specs.declared.movers.Sequences.{Sequences}
 use Rattle.xg_sets.specs.Entered.{AreAt, AreAtFirstChild, AreTablesOf, FindsBreak, IsAtFirstChild, path_number}
-use Rattle.xg_sets.specs.Movers.{GoesBackTo, HasMoverAround, outside, sequences_after, step_of}
+use Rattle.xg_sets.specs.Movers.{GoesBackTo, HasMoverAround, no_mover, sequences_after, step_of}
 use Rattle.xg_sets.specs.Walked.{Enters, HasEntered, HasLeft, IsBefore, Leaves, MayComeNext, MayEnter, MayLeave, Steps, UnlessFault}
 use Rattle.xg_sets.proofs.ShownLemmas.{no_sets, tables_start}
 use Rattle.xg_tree.proofs.VisitorLemmas.{RunsTo, runs_enter, runs_leave, runs_none}
@@ -316,10 +316,10 @@ module _ (tree : Forest) (game : IsGameTree tree) where
   whole_next : AreNext 0 (λ _. []) 1 tree [] Chance
   whole_next = record { visits_are = sym (append-nil all); from_one = omega arith; goes_on = λ a some. refl }
 
-  stands_first : (visitor : SetVisitor) → IsBefore tree visitor → Stands 0 outside [] visitor
+  stands_first : (visitor : SetVisitor) → IsBefore tree visitor → Stands 0 no_mover [] visitor
   stands_first visitor before = record {
     tree_is = before.tree_is;
-    stands = subst (λ o. OrFault o (GoesOn 0 outside [] visitor.building)) (sym before.going) (record {
+    stands = subst (λ o. OrFault o (GoesOn 0 no_mover [] visitor.building)) (sym before.going) (record {
       tables = subst (λ one. AreTablesOf tree 0 one visitor.building.tables.two visitor.building.tables.next_nodes) (sym before.table_one)
           (subst (λ two. AreTablesOf tree 0 no_sets two visitor.building.tables.next_nodes) (sym before.table_two)
           (subst (λ numbers. AreTablesOf tree 0 no_sets no_sets numbers) (sym before.next_are) (tables_start tree)));

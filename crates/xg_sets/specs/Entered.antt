@@ -13,18 +13,18 @@ use Rattle.def_sequence_form.specs.SetNodes.{is_in_set}
 use Rattle.xg_sets.specs.declared.building.RecallFault.{RecallFault}
 use Rattle.xg_sets.specs.declared.building.RecallFault.TheVariants.{NotRecall, NoMemory}
 use Rattle.xg_sets.specs.declared.movers.Sequences.{Sequences}
-use Rattle.xg_sets.specs.declared.table.SetRow.{SetRow}
-use Rattle.xg_sets.specs.Table.{SetRows}
+use Rattle.xg_sets.specs.declared.table.FoundSet.{FoundSet}
+use Rattle.xg_sets.specs.Table.{SetsUpTo}
 use Rattle.xg_sets.specs.OfPlayer.{set_in_row}
 
 -- a search for the first node of the set finds the row's node, and the sequence there is the row's
-pub record IsFirstNode (tree : Forest) (kind : Kind) (row : SetRow) (x : Node) (v : Visit) : Type 0 where
+pub record IsFirstNode (tree : Forest) (kind : Kind) (row : FoundSet) (x : Node) (v : Visit) : Type 0 where
   pub found : first_of_set 1 x (visits tree) ≡ Some (record { number = row.node; visit = v })
   pub kinds : v.node.kind ≡ kind
   pub before : sequence_at kind tree v ≡ row.before
 
 -- the row of the kind's set of this number
-pub record IsRowOf (tree : Forest) (kind : Kind) (set : ℕ) (row : SetRow) : Type 0 where
+pub record IsRowOf (tree : Forest) (kind : Kind) (set : ℕ) (row : FoundSet) : Type 0 where
   pub first : row.first ≡ first_sequence (set_sizes kind tree) set
   pub node : (x : Node) → x.kind ≡ kind → x.set ≡ set → (v : Visit) × IsFirstNode tree kind row x v
 
@@ -36,16 +36,16 @@ pub record IsLastNode (kind : Kind) (set : ℕ) (nodes : List Visit) (last : ℕ
   pub later : (j : ℕ) (d : Visit) → last ≤ j → j < length nodes → is_in_set kind set (slice_index_or nodes j d) ≡ false
 
 -- a player's sets so far, each with its first and its last node, and the sequences at the first k nodes
-pub record IsTableUpTo (tree : Forest) (kind : Kind) (k : ℕ) (table : SetRows) : Type 0 where
+pub record IsTableUpTo (tree : Forest) (kind : Kind) (k : ℕ) (table : SetsUpTo) : Type 0 where
   pub sets : map set_in_row table.rows ≡ map (λ v. record { before = sequence_at kind tree v; actions = v.node.children }) (set_firsts kind 0 (take k (visits tree)))
-  pub each : (i : ℕ) (d : SetRow) → i < length table.rows → IsRowOf tree kind (i + 1) (slice_index_or table.rows i d)
+  pub each : (i : ℕ) (d : FoundSet) → i < length table.rows → IsRowOf tree kind (i + 1) (slice_index_or table.rows i d)
   pub nodes : map (λ row. row.node) table.rows ≡ map (first_number tree) (set_firsts kind 0 (take k (visits tree)))
-  pub lasts : (i : ℕ) (d : SetRow) → i < length table.rows → IsLastNode kind (i + 1) (take k (visits tree)) (slice_index_or table.rows i d).last
+  pub lasts : (i : ℕ) (d : FoundSet) → i < length table.rows → IsLastNode kind (i + 1) (take k (visits tree)) (slice_index_or table.rows i d).last
   pub next : table.next ≡ 1 + sum (sizes_so_far kind (take k (visits tree)))
   pub at_nodes : table.at_nodes ≡ map (sequence_at kind tree) (take k (visits tree))
 
 -- both players' tables and the next nodes, where recall breaks at none of the first k nodes
-pub record AreTablesOf (tree : Forest) (k : ℕ) (one two : SetRows) (next_nodes : List (Option ℕ)) : Type 0 where
+pub record AreTablesOf (tree : Forest) (k : ℕ) (one two : SetsUpTo) (next_nodes : List (Option ℕ)) : Type 0 where
   pub table_one : IsTableUpTo tree One k one
   pub table_two : IsTableUpTo tree Two k two
   pub next_are : next_nodes ≡ next_numbers 1 (take k (visits tree))

@@ -24,8 +24,8 @@ abbrev pub after : Mover → Mover
 after mover = record { next = gone_on mover.next mover.step; step = mover.step }
 
 -- what is around the whole tree
-abbrev pub outside : Mover
-outside = record { next = record { one = 0; two = 0 }; step = step_of Chance }
+abbrev pub no_mover : Mover
+no_mover = record { next = record { one = 0; two = 0 }; step = step_of Chance }
 
 -- a mover is around, and its sequences leave room for the next numbers
 abbrev pub HasMoverAround : List Mover → Type 0

@@ -4,13 +4,13 @@ use Rattle.def_tree.specs.declared.Player.{Player}
 use Rattle.def_tree.specs.declared.Player.TheVariants.{One, Two}
 use Rattle.def_plan.specs.Form.{InformationSet}
 use Rattle.def_sequence_form.specs.Sets.{PlayerSets, TreeSets}
-use Rattle.xg_sets.specs.declared.table.SetRow.{SetRow}
-use Rattle.xg_sets.specs.Table.{SetRows}
+use Rattle.xg_sets.specs.declared.table.FoundSet.{FoundSet}
+use Rattle.xg_sets.specs.Table.{SetsUpTo}
 
-abbrev pub set_in_row : SetRow → InformationSet
+abbrev pub set_in_row : FoundSet → InformationSet
 set_in_row row = record { before = row.before; actions = row.actions }
 
-abbrev pub as_player_sets : SetRows → PlayerSets
+abbrev pub as_player_sets : SetsUpTo → PlayerSets
 as_player_sets table = record {
   sets = map set_in_row table.rows;
   first_nodes = map (λ row. row.node) table.rows;

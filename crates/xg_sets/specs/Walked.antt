@@ -8,7 +8,7 @@ use Rattle.xg_sets.specs.declared.building.Building.{Building}
 use Rattle.xg_sets.specs.declared.building.RecallFault.{RecallFault}
 use Rattle.xg_sets.specs.declared.building.SetVisitor.{SetVisitor}
 use Rattle.xg_sets.specs.Entered.{AreAt, AreAtFirstChild, AreTablesOf, FindsBreak}
-use Rattle.xg_sets.specs.Movers.{GoesBackTo, HasMoverAround, outside, step_of}
+use Rattle.xg_sets.specs.Movers.{GoesBackTo, HasMoverAround, no_mover, step_of}
 
 -- the tables are those of the nodes before node k, and the innermost has the sequences at it
 pub record MayComeNext (tree : Forest) (k : ℕ) (building : Building) : Type 0 where
@@ -59,7 +59,7 @@ pub record IsBefore (tree : Forest) (visitor : SetVisitor) : Type 0 where
   pub going : visitor.fault ≡ None
   pub rules : IsGameTree tree
   pub tree_is : visitor.building.tree.now ≡ tree
-  pub innermost : visitor.building.innermost ≡ outside
+  pub innermost : visitor.building.innermost ≡ no_mover
   pub outer : visitor.building.outer ≡ []
   pub table_one : visitor.building.tables.one ≡ record { rows = []; at_nodes = []; next = 1 }
   pub table_two : visitor.building.tables.two ≡ record { rows = []; at_nodes = []; next = 1 }

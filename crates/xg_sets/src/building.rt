@@ -10,7 +10,7 @@ ghost use Rattle.xg_sets.specs.Entered.{AreAt, AreAtFirstChild, AreTablesOf, Fin
 ghost use Rattle.xg_sets.specs.Movers.{HasMoverAround};
 ghost use Rattle.xg_sets.specs.Walked.{HasEntered, HasLeft, IsBefore, MayComeNext};
 
-use crate::movers::{Mover, OuterMovers, Sequences, after_child, outside, step_of};
+use crate::movers::{Mover, OuterMovers, Sequences, after_child, no_mover, step_of};
 use crate::next_nodes::NextNodes;
 use crate::sets::Sets;
 use crate::table::FoundSets;
@@ -81,7 +81,7 @@ impl<'a> SetVisitor<'a> {
         let building = Building {
             tree,
             tables,
-            innermost: outside(),
+            innermost: no_mover(),
             outer: OuterMovers::new(alloc),
         };
         Ok(SetVisitor {

@@ -1,6 +1,6 @@
 //! The nodes on the path that a walk stands at, with the sequences at their children.
 ghost use Rattle.std.specs.Prelude.{◌≡◌, ◌+◌, ◌^◌, ◌<◌, [], ◌∷◌, IfSome, IsNone, OnOk};
-ghost use Rattle.xg_sets.specs.Movers.{after, outside, step_of};
+ghost use Rattle.xg_sets.specs.Movers.{after, no_mover, step_of};
 
 use def_tree::Kind;
 use std::alloc::{AllocError, Global};
@@ -61,8 +61,8 @@ impl OuterMovers {
 }
 
 /// What is around the whole tree.
-pub(crate) fn outside() -> Mover
-    ensures { result ≡ outside }
+pub(crate) fn no_mover() -> Mover
+    ensures { result ≡ no_mover }
 {
     Mover {
         next: Sequences { one: 0, two: 0 },

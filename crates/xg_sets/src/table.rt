@@ -11,7 +11,7 @@ use std::marker::Model;
 /// A set: the first sequence that ends at it, the one before it, how many actions it has, its first node, and its last
 /// one so far.
 #[derive(Clone, Copy)]
-pub(crate) struct SetRow {
+pub(crate) struct FoundSet {
     pub(crate) first: u32,
     pub(crate) before: u32,
     pub(crate) actions: u32,
@@ -22,16 +22,16 @@ pub(crate) struct SetRow {
 /// A player's sets so far, and the player's sequence at each node so far.
 #[derive(Drop)]
 pub(crate) struct FoundSets {
-    rows: Vec<SetRow>,
+    rows: Vec<FoundSet>,
     at_nodes: Vec<u32>,
     // the first sequence of the next set
     next: u32,
 }
 
 impl Model for FoundSets {
-    ghost use Rattle.xg_sets.specs.Table.{SetRows};
+    ghost use Rattle.xg_sets.specs.Table.{SetsUpTo};
 
-    ghost Value = { SetRows };
+    ghost Value = { SetsUpTo };
 
     ghost view = { λ t. record { rows = t.rows.items; at_nodes = t.at_nodes.items; next = t.next } };
 }
@@ -81,7 +81,7 @@ impl FoundSets {
                 earlier: row.node,
             });
         }
-        let SetRow { first, last, .. } = *row;
+        let FoundSet { first, last, .. } = *row;
         next_nodes.link(last, k);
         self.rows[place].last = k;
         Ok(first)
@@ -93,7 +93,7 @@ impl FoundSets {
     {
         let first = self.next;
         self.rows
-            .push(SetRow {
+            .push(FoundSet {
                 first,
                 before,
                 actions: node.children,
@@ -112,7 +112,7 @@ impl FoundSets {
         self.rows.len() as u32
     }
 
-    pub(crate) fn row(&self, set: u32) -> SetRow
+    pub(crate) fn row(&self, set: u32) -> FoundSet
         requires from_one { 1 ≤ set }
         requires there { set ≤ length self.now.rows }
         ensures { slice_get self.now.rows (set - 1) ≡ Some result }
