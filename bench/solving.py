@@ -7,10 +7,11 @@ Usage: python3 bench/solving.py [PROGRAM] [--runs N] [--seconds S] [--work] [--c
 PROGRAM is the built one where nothing else is given. Each game is solved twice, with one round and with many, and the
 difference of the times is that of the rounds between: reading the game and writing the text drop out of it. There are
 so many rounds that this is S seconds (0.3 where nothing else is said) and half of the run with one round, or as many as
-there can be. Times are the best of N runs (9, and four times as many of small games), in which all sizes of a kind and
-all programs take turns. With --work they are the processor's times and not those that pass, which is right for one
-thread on a busy machine; what is compared with a bound is the better one of both. Memory is the greatest that was
-resident; less than the 8 MB of the process that starts the program can't be seen.
+there can be. Rates are by the best time of N runs (9, and four times as many of small games), in which all sizes of a
+kind and all programs take turns; what is compared with a bound is the median of the ratios of these turns, as a machine
+may have two speeds. With --work times are the processor's and not those that pass, which is right for one thread on a
+busy machine; a bound is kept where either keeps it. Memory is the greatest that was resident; less than the 8 MB of the
+process that starts the program can't be seen.
 
 Each game is solved without a number of workers, as it is for those who ask for nothing, and in turn with `--workers 1`,
 which may not be faster. With --workers N it is solved with this number alone, by OTHER too.
@@ -25,6 +26,7 @@ largest games the first round with its text is to take at most twice the other's
 import argparse
 import os
 import pathlib
+import statistics
 import subprocess
 import sys
 import tempfile
@@ -137,12 +139,12 @@ class Failed(Exception):
 
 class Solver:
     """A program, with what was measured of it on one game: of each number of rounds the best time that passed and the best
-    processor's time."""
+    processor's time, and of each turn both times of a round."""
 
     def __init__(self, program, workers, path):
         self.program, self.path, self.many = program, path, 2
         self.words = ["--workers", str(workers)] if workers else []
-        self.memory, self.times, self.works = 0, {}, {}
+        self.memory, self.times, self.works, self.turns = 0, {}, {}, []
 
     def solve(self, rounds):
         words = ["solve", self.path, "--rounds", str(rounds), *self.words]
@@ -152,22 +154,24 @@ class Solver:
         self.memory = max(self.memory, memory)
         self.times[rounds] = min(seconds, self.times.get(rounds, seconds))
         self.works[rounds] = min(work, self.works.get(rounds, work))
-        return self.times[rounds]
+        return seconds, work
 
     def choose_rounds(self, seconds):
         """So many rounds that those beyond the first take the wanted time."""
         self.solve(1)
         while self.many < MOST_ROUNDS:
             # The first run of a program may be slow, so the one round is timed again each time.
-            took, wanted = self.solve(self.many) - self.solve(1), max(seconds, self.times[1] / 2)
+            self.solve(self.many)
+            self.solve(1)
+            took, wanted = self.times[self.many] - self.times[1], max(seconds, self.times[1] / 2)
             if took >= wanted:
                 return
             factor = min(8.0, max(2.0, 1.2 * wanted / took)) if took > wanted / 100 else 8.0
             self.many = min(MOST_ROUNDS, int(self.many * factor) + 1)
 
     def turn(self):
-        self.solve(1)
-        self.solve(self.many)
+        one, many = self.solve(1), self.solve(self.many)
+        self.turns.append([max(b - a, 1e-9) / (self.many - 1) for a, b in zip(one, many)])
 
     def of_a_round(self, is_work):
         """The time of a round."""
@@ -175,9 +179,12 @@ class Solver:
         return max(times[self.many] - times[1], 1e-9) / (self.many - 1)
 
     def over(self, other):
-        """The time of a round over another's, by the time that passes or the processor's, whichever is better: what is
-        slower is so by both, and what else the machine does changes them apart."""
-        return min(self.of_a_round(is_work) / other.of_a_round(is_work) for is_work in (False, True))
+        """The time of a round over another's in the middle one of their turns, by the time that passes or the processor's,
+        whichever is better: what is slower is so by both, and what else the machine does changes them apart."""
+        return min(
+            statistics.median(ours[clock] / theirs[clock] for ours, theirs in zip(self.turns, other.turns))
+            for clock in (0, 1)
+        )
 
 
 class Game:
