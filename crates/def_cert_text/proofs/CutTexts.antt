@@ -4,17 +4,15 @@ use Rattle.std.proofs.lemmas.List.{length-append, take-append-le}
 use Rattle.std.proofs.Math.Seq.{take-append-add}
 use Rattle.std.proofs.lemmas.Bool.{and_parts, and_from, cases_lt}
 use Rattle.def_cert_text.specs.declared.fault.CertFault.TheVariants.{CertShort}
-use Rattle.def_cert_verdict.specs.Certificate.{Certificate}
-use Rattle.def_cert_verdict.specs.Ranges.{CertificateFits}
 use Rattle.def_cert_text.specs.Fields.{Item, field, separator, item_bytes, items_text, is_field_byte, next_field, is_empty}
 use Rattle.def_cert_text.specs.Formats.{Format, text_of}
 use Rattle.def_cert_text.specs.Versions.{VersionedCertificate, VersionedFits}
-use Rattle.def_cert_text.specs.CertText.{whole_certificate, versioned_certificate, read_to_end, cert_in, versioned_in}
+use Rattle.def_cert_text.specs.CertText.{versioned_certificate, read_to_end, versioned_in}
 use Rattle.def_cert_text.specs.FirstFault.{of_separator, place_of_item, is_cut_short, HasFirstFault, cut_short, within}
-use Rattle.def_cert_text.specs.Laws.{CutsAreShort, CutTextsAreShort, CutVersionedTextsAreShort}
+use Rattle.def_cert_text.specs.Laws.{CutsAreShort, CutVersionedTextsAreShort}
 use Rattle.def_cert_text.proofs.FieldLaws.{all_pass, behind_all}
 use Rattle.def_cert_text.proofs.FormatLaws.{is_clean, all_clean}
-use Rattle.def_cert_text.proofs.TextLaws.{IsWithRanges, faults_are_first, of_version_one, of_versions}
+use Rattle.def_cert_text.proofs.TextLaws.{IsWithRanges, faults_are_first, of_versions}
 
 -- where the bytes of items are cut: behind some items, within the next
 record ItemsAreCut (items : List Item) (n : ℕ) : Type 0 where
@@ -101,10 +99,6 @@ cuts : (A : Type 0) (f : Format A) (Fits : A → Type 0) → IsWithRanges A f Fi
 cuts A f Fits is x n fit low =
     let fits = is.taken x fit in
     (faults_are_first A f Fits is (take n (text_of f x)) CertShort).1 (within (cut_fault A f x n fits (cut_at (f.items x) n (is.laws.clean x fits) low)))
-
-pub cut_texts : CutTextsAreShort
-unfolding cert_in
-cut_texts = cuts Certificate whole_certificate CertificateFits of_version_one
 
 pub cut_versioned : CutVersionedTextsAreShort
 unfolding versioned_in

@@ -10,8 +10,10 @@ use Rattle.def_reply.specs.Outcome.{Head}
 use Rattle.def_cert_verdict.specs.Certificate.{PrintedPlan, PrintedBounds, Certificate}
 use Rattle.def_cert_verdict.specs.Ranges.{IsFromTo, IsPrintable, FractionFits, HeadFits, LineFits, TraceFits, PlanWeightsFit, PlanFits, ReplyFits, BoundsFit, FitsBelowHead, CertificateFits}
 use Rattle.def_cert_text.specs.Formats.{Format, is_lowest_within, each_fits, asked_fits, row_fits}
-use Rattle.def_cert_text.specs.Versions.{TextVersion, version_one, version_two, PrintedBracket, VersionedCertificate, has_second, SecondFits, VersionedFits}
-use Rattle.def_cert_text.specs.CertText.{payoff_lines, head_lines_of, line_of_round, round_of_evaluation, evaluation_count, trace_lines, weights_line, plan_lines, value_line, reply_lines, bounds_lines, whole_certificate, second_line, versioned_certificate}
+use Rattle.def_cert_text.specs.Versions.{PrintedBracket, VersionedCertificate, has_second, SecondFits, VersionedFits}
+use Rattle.def_cert_text.specs.declared.version.TextVersion.{TextVersion}
+use Rattle.def_cert_text.specs.declared.version.TextVersion.TheVariants as versions
+use Rattle.def_cert_text.specs.CertText.{payoff_lines, head_lines_of, line_of_round, round_of_evaluation, evaluation_count, trace_lines, weights_line, plan_lines, value_line, reply_lines, bounds_lines, second_line, versioned_certificate}
 use Rattle.def_cert_text.proofs.FieldLaws.{lowest_parts, lowest_from}
 
 -- ---- numbers
@@ -47,21 +49,21 @@ payoffs_taken_by v unit sum mass = (payoff_lines v).fits ((unit, sum), mass)
 
 payoffs_fit : (v : TextVersion) (unit : ℕ) (sum : Fraction) (mass : ℕ) → payoffs_taken_by v unit sum mass ≡ true
     → PayoffsFit unit sum mass
-payoffs_fit version_one unit sum mass fit =
+payoffs_fit versions.One unit sum mass fit =
     let p = and_parts (is_within 1 (2 ^ 62) unit && is_lowest_within (2 ^ 62) sum) (is_within 0 (2 ^ 62) mass) fit in
     let q = and_parts (is_within 1 (2 ^ 62) unit) (is_lowest_within (2 ^ 62) sum) p.0 in
     record { unit_is = from_to 1 (2 ^ 62) unit q.0; sum_is = fraction_fits (2 ^ 62) sum q.1; mass_is = (from_to 0 (2 ^ 62) mass p.1).1 }
-payoffs_fit version_two unit sum mass fit =
+payoffs_fit versions.Two unit sum mass fit =
     let p = and_parts (is_within 1 (2 ^ 62) unit) (is_within 0 (2 ^ 62) mass && is_lowest_within (2 ^ 62) sum) fit in
     let q = and_parts (is_within 0 (2 ^ 62) mass) (is_lowest_within (2 ^ 62) sum) p.1 in
     record { unit_is = from_to 1 (2 ^ 62) unit p.0; sum_is = fraction_fits (2 ^ 62) sum q.1; mass_is = (from_to 0 (2 ^ 62) mass q.0).1 }
 
 payoffs_taken : (v : TextVersion) (unit : ℕ) (sum : Fraction) (mass : ℕ) → PayoffsFit unit sum mass
     → payoffs_taken_by v unit sum mass ≡ true
-payoffs_taken version_one unit sum mass f =
+payoffs_taken versions.One unit sum mass f =
     and_from (is_within 1 (2 ^ 62) unit && is_lowest_within (2 ^ 62) sum) (is_within 0 (2 ^ 62) mass)
     (and_from (is_within 1 (2 ^ 62) unit) (is_lowest_within (2 ^ 62) sum) (to_within 1 (2 ^ 62) unit f.unit_is) (fraction_taken (2 ^ 62) sum f.sum_is)) (up_to (2 ^ 62) mass f.mass_is)
-payoffs_taken version_two unit sum mass f =
+payoffs_taken versions.Two unit sum mass f =
     and_from (is_within 1 (2 ^ 62) unit) (is_within 0 (2 ^ 62) mass && is_lowest_within (2 ^ 62) sum) (to_within 1 (2 ^ 62) unit f.unit_is)
     (and_from (is_within 0 (2 ^ 62) mass) (is_lowest_within (2 ^ 62) sum) (up_to (2 ^ 62) mass f.mass_is) (fraction_taken (2 ^ 62) sum f.sum_is))
 
@@ -365,18 +367,6 @@ below c = asked_fits (ltb 0 c.head.rounds) (bounds_lines c.head) c.bounds
 from_parts : (v : TextVersion) (c : Certificate) → (head_lines_of v).fits c.head ≡ true → below c ≡ true → CertificateFits c
 from_parts v c head bounds = record { head = head_fits v c.head head; below = below_fits c.head (ltb 0 c.head.rounds) c.bounds refl bounds }
 
--- a certificate that the formats take is within its ranges
-pub fits_ranges : (c : Certificate) → whole_certificate.fits c ≡ true → CertificateFits c
-fits_ranges c fit =
-    let p = and_parts ((head_lines_of version_one).fits c.head) (below c && true) fit in
-    from_parts version_one c p.0 (and_parts (below c) true p.1).0
-
--- a certificate that is within its ranges is one that the formats take
-pub ranges_fit : (c : Certificate) → CertificateFits c → whole_certificate.fits c ≡ true
-ranges_fit c f =
-    and_from ((head_lines_of version_one).fits c.head) (below c && true) (head_taken version_one c.head f.head)
-    (and_from (below c) true (below_taken c.head c.bounds f.below) refl)
-
 -- ---- the second bracket
 abbrev second_taken_by : TextVersion → ℕ → Option PrintedBracket → Bool
 second_taken_by v rounds second = asked_fits (has_second v && ltb 0 rounds) second_line second
@@ -389,35 +379,35 @@ bracket_fits second fit =
 
 second_fits : (v : TextVersion) (head : Head) (bounds : Option PrintedBounds) (second : Option PrintedBracket)
     → FitsBelowHead head bounds → second_taken_by v head.rounds second ≡ true → SecondFits v bounds second
-second_fits version_one head bounds None below fit = refl
-second_fits version_one head bounds (Some second) below fit = absurd cc
-second_fits version_two head None second below fit = none second (ap (λ n. second_taken_by version_two n second) (sym below) ∙ fit)
+second_fits versions.One head bounds None below fit = refl
+second_fits versions.One head bounds (Some second) below fit = absurd cc
+second_fits versions.Two head None second below fit = none second (ap (λ n. second_taken_by versions.Two n second) (sym below) ∙ fit)
   where
-    none : (second : Option PrintedBracket) → second_taken_by version_two 0 second ≡ true → second ≡ None
+    none : (second : Option PrintedBracket) → second_taken_by versions.Two 0 second ≡ true → second ≡ None
     none None fit = refl
     none (Some second) fit = absurd cc
-second_fits version_two head (Some b) second below fit =
+second_fits versions.Two head (Some b) second below fit =
     there second (ap (λ t. asked_fits t second_line second) (sym (lt-ltb 0 head.rounds below.asked)) ∙ fit)
   where
-    there : (second : Option PrintedBracket) → asked_fits true second_line second ≡ true → SecondFits version_two (Some b) second
+    there : (second : Option PrintedBracket) → asked_fits true second_line second ≡ true → SecondFits versions.Two (Some b) second
     there None fit = absurd cc
     there (Some second) fit = bracket_fits second fit
 
 second_taken : (v : TextVersion) (head : Head) (bounds : Option PrintedBounds) (second : Option PrintedBracket)
     → FitsBelowHead head bounds → SecondFits v bounds second → second_taken_by v head.rounds second ≡ true
-second_taken version_one head bounds None below f = refl
-second_taken version_one head bounds (Some second) below f = absurd cc
-second_taken version_two head None second below f =
-    ap (λ s. second_taken_by version_two head.rounds s) f ∙ ap (λ n. second_taken_by version_two n None) below
-second_taken version_two head (Some b) None below f = absurd f
-second_taken version_two head (Some b) (Some second) below f =
+second_taken versions.One head bounds None below f = refl
+second_taken versions.One head bounds (Some second) below f = absurd cc
+second_taken versions.Two head None second below f =
+    ap (λ s. second_taken_by versions.Two head.rounds s) f ∙ ap (λ n. second_taken_by versions.Two n None) below
+second_taken versions.Two head (Some b) None below f = absurd f
+second_taken versions.Two head (Some b) (Some second) below f =
     ap (λ t. asked_fits t second_line (Some second)) (lt-ltb 0 head.rounds below.asked)
     ∙ and_from (is_lowest_within (2 ^ 100) second.low) (is_lowest_within (2 ^ 100) second.high) (fraction_taken (2 ^ 100) second.low f.0) (fraction_taken (2 ^ 100) second.high f.1)
 
 abbrev second_of : VersionedCertificate → Bool
 second_of c = second_taken_by c.version c.certificate.head.rounds c.second
 
--- the same of certificates in a text of either version
+-- a certificate that the formats take is within its ranges
 pub fits_versioned : (c : VersionedCertificate) → versioned_certificate.fits c ≡ true → VersionedFits c
 fits_versioned c fit =
     let p = and_parts ((head_lines_of c.version).fits c.certificate.head) (below c.certificate && (second_of c && true)) fit in
@@ -425,6 +415,7 @@ fits_versioned c fit =
     let fits = from_parts c.version c.certificate p.0 q.0 in
     record { certificate = fits; second = second_fits c.version c.certificate.head c.certificate.bounds c.second fits.below (and_parts (second_of c) true q.1).0 }
 
+-- a certificate that is within its ranges is one that the formats take
 pub versioned_fit : (c : VersionedCertificate) → VersionedFits c → versioned_certificate.fits c ≡ true
 versioned_fit c f =
     and_from ((head_lines_of c.version).fits c.certificate.head) (below c.certificate && (second_of c && true)) (head_taken c.version c.certificate.head f.certificate.head)

@@ -9,12 +9,14 @@ use Rattle.def_fraction.specs.Fraction.{Fraction}
 use Rattle.def_reply.specs.Reply.{SetReply, Reply}
 use Rattle.def_reply.specs.declared.TraceLine.{TraceLine}
 use Rattle.def_reply.specs.Outcome.{Head}
-use Rattle.def_cert_verdict.specs.Certificate.{PrintedPlan, PrintedBounds, Certificate}
+use Rattle.def_cert_verdict.specs.Certificate.{PrintedPlan, PrintedBounds}
 use Rattle.def_cert_verdict.specs.Ranges.{HeadFits}
 use Rattle.def_cert_text.specs.Fields.{space, feed, fixed_word, number, version, is_field_byte}
-use Rattle.def_cert_text.specs.Versions.{TextVersion, version_one, version_two, PrintedBracket, VersionedCertificate, has_second}
+use Rattle.def_cert_text.specs.Versions.{PrintedBracket, VersionedCertificate, has_second}
+use Rattle.def_cert_text.specs.declared.version.TextVersion.{TextVersion}
+use Rattle.def_cert_text.specs.declared.version.TextVersion.TheVariants as versions
 use Rattle.def_cert_text.specs.Formats.{Format, whole_field, fraction_field, and_then, where_asked}
-use Rattle.def_cert_text.specs.CertText.{after_word, after_set_number, after_player, NumbersOfGame, size_line, sets_line, sequences_line, unit_line, unit_alone_line, mass_line, sum_line, PayoffNumbers, payoff_lines, game_lines_of, asked_line, head_lines_of, line_of_round, round_of_evaluation, evaluation_count, trace_lines, weights_line, plan_lines, value_line, reply_lines, bracket_line, PartsOfBounds, bounds_lines, end_line, lines_of, whole_certificate, version_text, version_in, version_field, second_line, last_lines, PartsOfVersioned, versioned_certificate}
+use Rattle.def_cert_text.specs.CertText.{after_word, after_set_number, after_player, NumbersOfGame, size_line, sets_line, sequences_line, unit_line, unit_alone_line, mass_line, sum_line, PayoffNumbers, payoff_lines, game_lines_of, asked_line, head_lines_of, line_of_round, round_of_evaluation, evaluation_count, trace_lines, weights_line, plan_lines, value_line, reply_lines, bracket_line, PartsOfBounds, bounds_lines, end_line, lines_of, version_text, version_in, version_field, second_line, last_lines, PartsOfVersioned, versioned_certificate}
 use Rattle.def_cert_text.proofs.FieldLaws.{all_pass, decimal_inside}
 use Rattle.def_cert_text.proofs.FormatLaws.{IsFormat, pair_laws}
 use Rattle.def_cert_text.proofs.FieldFormatLaws.{one_field_laws, whole_laws, integer_laws, fraction_laws, fixed_laws}
@@ -38,8 +40,8 @@ mass_laws : IsFormat ℕ mass_line
 mass_laws = word_laws _ (codes "mass") _ refl (whole_laws 0 (2 ^ 62) feed (omega arith) (omega arith) refl)
 
 payoff_laws : (v : TextVersion) → IsFormat PayoffNumbers (payoff_lines v)
-payoff_laws version_one = two_laws _ _ unit_line mass_line (word_laws _ (codes "unit") _ refl unit_laws) mass_laws
-payoff_laws version_two =
+payoff_laws versions.One = two_laws _ _ unit_line mass_line (word_laws _ (codes "unit") _ refl unit_laws) mass_laws
+payoff_laws versions.Two =
     seen_laws (ℕ × (ℕ × Fraction)) PayoffNumbers _ _ _ (λ p. refl) (λ p. refl)
     (two_laws _ _ unit_alone_line _ (word_laws _ (codes "unit") _ refl (whole_laws 1 (2 ^ 62) feed (omega arith) (omega arith) refl))
     (two_laws _ _ mass_line sum_line mass_laws (word_laws _ (codes "sum") _ refl (fraction_laws (2 ^ 62) feed (omega arith) (omega arith) refl))))
@@ -147,20 +149,14 @@ lines_laws A v end laws =
 end_laws : IsFormat (Unit {0}) end_line
 end_laws = fixed_laws fixed_word (codes "end") feed refl refl
 
--- the format of a whole certificate of version 1 keeps the laws of a format
-pub certificate_laws : IsFormat Certificate whole_certificate
-certificate_laws =
-    seen_laws (Head × (Option PrintedBounds × Unit {0})) Certificate _ _ _ (λ p. refl) (λ c. refl)
-    (word_laws _ (codes "XGCERT") _ refl (after_laws _ version (codes "1") feed _ refl refl (lines_laws (Unit {0}) version_one (λ head. end_line) (λ head. end_laws))))
-
--- ---- either version
+-- ---- the version, and the lines of version 2 behind the bounds
 version_again : (v : TextVersion) → version_in (version_text v) ≡ Some v
 unfolding version_in
-version_again version_one = refl
-version_again version_two = refl
+version_again versions.One = refl
+version_again versions.Two = refl
 
 abbrev version_by : Bool → Bool → Option TextVersion
-version_by one two = cond one (Some version_one) (cond two (Some version_two) None)
+version_by one two = cond one (Some versions.One) (cond two (Some versions.Two) None)
 
 some_same : (u w : TextVersion) → ◌≡◌ {A = Option TextVersion} (Some u) (Some w) → u ≡ w
 some_same u w e = cc
@@ -171,20 +167,20 @@ version_only bytes v e = by (pointwise eqb bytes (codes "1")) (pointwise eqb byt
   where
     by : (one two : Bool) → pointwise eqb bytes (codes "1") ≡ one → pointwise eqb bytes (codes "2") ≡ two
         → version_by one two ≡ Some v → bytes ≡ version_text v
-    by true two h k e = same_text bytes (codes "1") (sym h) ∙ ap version_text (some_same version_one v e)
-    by false true h k e = same_text bytes (codes "2") (sym k) ∙ ap version_text (some_same version_two v e)
+    by true two h k e = same_text bytes (codes "1") (sym h) ∙ ap version_text (some_same versions.One v e)
+    by false true h k e = same_text bytes (codes "2") (sym k) ∙ ap version_text (some_same versions.Two v e)
     by false false h k e = absurd cc
 
 version_inside : (v : TextVersion) → all_pass is_field_byte (version_text v) ≡ true
-version_inside version_one = refl
-version_inside version_two = refl
+version_inside versions.One = refl
+version_inside versions.Two = refl
 
 version_laws : IsFormat TextVersion version_field
 version_laws = one_field_laws TextVersion version (λ v. true) version_text version_in feed refl (record {
   inside = λ v fits. version_inside v;
   again = λ v fits. version_again v;
   only = λ bytes v e. (refl, version_only bytes v e);
-  some = version_one;
+  some = versions.One;
   some_fits = refl;
 })
 
@@ -196,7 +192,7 @@ last_laws v head =
     let asked : Bool = has_second v && ltb 0 head.rounds in
     two_laws (Option PrintedBracket) (Unit {0}) (where_asked asked second_line) end_line (asked_laws PrintedBracket asked second_line (λ h. second_laws)) end_laws
 
--- the format of a whole certificate of either version keeps the laws of a format
+-- the format of a whole certificate keeps the laws of a format
 pub versioned_laws : IsFormat VersionedCertificate versioned_certificate
 versioned_laws =
     seen_laws PartsOfVersioned VersionedCertificate _ _ _ (λ p. refl) (λ c. refl)

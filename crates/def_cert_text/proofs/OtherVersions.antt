@@ -17,7 +17,9 @@ use Rattle.def_cert_text.specs.declared.fault.CertFault.TheVariants.{CertSyntax,
 use Rattle.def_cert_text.specs.Fields.{◌>>=◌, space, feed, FieldKind, fixed_word, number, items_text, next_field, behind_field, is_empty, field_fault, if_fit, read_field}
 use Rattle.def_cert_text.specs.Numbers.{whole_in, integer_in, fraction_in, nonzero_in}
 use Rattle.def_cert_text.specs.Formats.{Format, one_field, whole_field, integer_field, is_lowest_within, fraction_field, same_bytes, fixed_field, after_fixed, and_then, seen_as, read_each, each_from, where_asked, with_end_if_fit, read_number, read_last, read_row, row_of_numbers}
-use Rattle.def_cert_text.specs.Versions.{TextVersion, version_one, version_two, PrintedBracket, VersionedCertificate, has_second}
+use Rattle.def_cert_text.specs.Versions.{PrintedBracket, VersionedCertificate, has_second}
+use Rattle.def_cert_text.specs.declared.version.TextVersion.{TextVersion}
+use Rattle.def_cert_text.specs.declared.version.TextVersion.TheVariants as versions
 use Rattle.def_cert_text.specs.CertText.{after_set_number, after_player, size_line, sets_line, sequences_line, sum_field, unit_and_sum, unit_line, unit_alone_line, mass_line, sum_line, PayoffNumbers, parts_of_payoffs, payoffs_of_parts, payoff_lines, game_lines_of, asked_line, parts_of_head, head_of_parts, head_lines_of, parts_of_trace_line, trace_line_of_parts, line_of_round, round_of_evaluation, evaluation_count, trace_lines, weights_line, plan_lines, value_line, reply_lines, bracket_line, PartsOfBounds, parts_of_bounds, bounds_of_parts, bounds_lines, end_line, lines_of, version_in, version_field, second_line, last_lines, PartsOfVersioned, versioned_of_parts, versioned_certificate, if_at_end, versioned_in}
 use Rattle.def_cert_text.specs.Laws.{NamesNoVersion, OtherVersionsAreRefused}
 use Rattle.def_cert_text.proofs.FormatLaws.{bind_err}
@@ -155,8 +157,8 @@ mass_never : NeverVersion mass_line
 mass_never = word_never _ (codes "mass") _ (whole_never 0 most_mass feed)
 
 payoff_never : (v : TextVersion) → NeverVersion (payoff_lines v)
-payoff_never version_one = two_never _ _ unit_line mass_line (word_never _ (codes "unit") _ unit_never) mass_never
-payoff_never version_two =
+payoff_never versions.One = two_never _ _ unit_line mass_line (word_never _ (codes "unit") _ unit_never) mass_never
+payoff_never versions.Two =
     seen_never (ℕ × (ℕ × Fraction)) PayoffNumbers payoffs_of_parts parts_of_payoffs _ (two_never _ _ unit_alone_line _ (word_never _ (codes "unit") _ (whole_never 1 most feed))
     (two_never _ _ mass_line sum_line mass_never (word_never _ (codes "sum") _ (fraction_never most feed))))
 
@@ -252,7 +254,7 @@ unfolding version_in
 unnamed bytes not_one not_two = by (pointwise eqb bytes (codes "1")) (pointwise eqb bytes (codes "2")) refl refl
   where
     by : (one two : Bool) → pointwise eqb bytes (codes "1") ≡ one → pointwise eqb bytes (codes "2") ≡ two
-        → ◌≡◌ {A = Option TextVersion} (cond one (Some version_one) (cond two (Some version_two) None)) None
+        → ◌≡◌ {A = Option TextVersion} (cond one (Some versions.One) (cond two (Some versions.Two) None)) None
     by true two h k = absurd (not_one (same_text bytes (codes "1") (sym h)))
     by false true h k = absurd (not_two (same_text bytes (codes "2") (sym k)))
     by false false h k = refl

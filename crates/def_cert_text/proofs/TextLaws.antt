@@ -1,21 +1,19 @@
 -- Reading a value's text gives just what was written, and its fault is the first one: for a format with ranges, and so
--- for certificates of version 1 and of either version.
+-- for certificates.
 use Rattle.std.proofs.Common.{◌≡◌, ◌≢◌, ℕ, ◌-◌, true, List, [], ◌∷◌, ◌++◌, length, Result, Ok, Err, refl, sym, ap, ◌∙◌, subst, arith, ⊎_elim}
 use Rattle.std.proofs.lemmas.List.{append-nil, length-append}
-use Rattle.def_cert_verdict.specs.Certificate.{Certificate}
-use Rattle.def_cert_verdict.specs.Ranges.{CertificateFits}
 use Rattle.def_cert_text.specs.declared.fault.CertFault.{CertFault}
 use Rattle.def_cert_text.specs.declared.fault.CertFault.TheVariants.{CertTrailing}
 use Rattle.def_cert_text.specs.Fields.{◌>>=◌}
 use Rattle.def_cert_text.specs.Formats.{Format, text_of}
 use Rattle.def_cert_text.specs.Versions.{VersionedCertificate, VersionedFits}
-use Rattle.def_cert_text.specs.CertText.{whole_certificate, versioned_certificate, if_at_end, read_to_end, cert_in, versioned_in}
+use Rattle.def_cert_text.specs.CertText.{versioned_certificate, if_at_end, read_to_end, versioned_in}
 use Rattle.def_cert_text.specs.FirstFault.{IsTrailing, FirstFaultOf, within, behind}
-use Rattle.def_cert_text.specs.Laws.{ReadingIsExact, TextsTell, FaultsAreFirst, CertificateReadingIsExact, TextsTellCertificates, FirstFaultDecides, VersionedReadingIsExact, TextsTellVersions, FirstVersionedFaultDecides}
+use Rattle.def_cert_text.specs.Laws.{ReadingIsExact, TextsTell, FaultsAreFirst, VersionedReadingIsExact, TextsTellVersions, FirstVersionedFaultDecides}
 use Rattle.def_cert_text.proofs.FieldLaws.{bind_ok, ok_is}
 use Rattle.def_cert_text.proofs.FormatLaws.{IsFormat, bind_err}
-use Rattle.def_cert_text.proofs.Fits.{fits_ranges, ranges_fit, fits_versioned, versioned_fit}
-use Rattle.def_cert_text.proofs.LineLaws.{certificate_laws, versioned_laws}
+use Rattle.def_cert_text.proofs.Fits.{fits_versioned, versioned_fit}
+use Rattle.def_cert_text.proofs.LineLaws.{versioned_laws}
 
 -- a format that keeps the laws and takes just the values within the ranges
 pub record IsWithRanges (A : Type 0) (f : Format A) (Fits : A → Type 0) : Type 0 where
@@ -118,30 +116,16 @@ pub faults_are_first : (A : Type 0) (f : Format A) (Fits : A → Type 0) → IsW
     → FaultsAreFirst (read_to_end f) (FirstFaultOf f Fits)
 faults_are_first A f Fits is bytes fault = (stops A f Fits is bytes fault, stopped A f Fits is bytes fault)
 
--- ---- certificates of version 1, and of either version
-pub of_version_one : IsWithRanges Certificate whole_certificate CertificateFits
-of_version_one = record { laws = certificate_laws; within_ranges = fits_ranges; taken = ranges_fit }
-
+-- ---- certificates
 pub of_versions : IsWithRanges VersionedCertificate versioned_certificate VersionedFits
 of_versions = record { laws = versioned_laws; within_ranges = fits_versioned; taken = versioned_fit }
-
-pub reading : CertificateReadingIsExact
-unfolding cert_in
-reading = exact Certificate whole_certificate CertificateFits of_version_one
 
 pub versioned_reading : VersionedReadingIsExact
 unfolding versioned_in
 versioned_reading = exact VersionedCertificate versioned_certificate VersionedFits of_versions
 
-pub texts_tell : TextsTellCertificates
-texts_tell = tell Certificate whole_certificate CertificateFits of_version_one
-
 pub versioned_tell : TextsTellVersions
 versioned_tell = tell VersionedCertificate versioned_certificate VersionedFits of_versions
-
-pub first_fault : FirstFaultDecides
-unfolding cert_in
-first_fault = faults_are_first Certificate whole_certificate CertificateFits of_version_one
 
 pub first_versioned_fault : FirstVersionedFaultDecides
 unfolding versioned_in

@@ -3,11 +3,11 @@ use Rattle.std.proofs.Common.{◌≡◌, ℕ, List, [], ◌∷◌, ◌++◌, ref
 use Rattle.std.specs.Prelude.{codes}
 use Rattle.def_reply.specs.Outcome.{Head}
 use Rattle.def_cert_text.specs.Fields.{feed, fixed_word, Item, field, separator, items_text}
-use Rattle.def_cert_text.specs.Versions.{TextVersion, version_one, version_two, in_version_one}
+use Rattle.def_cert_text.specs.declared.version.TextVersion.{TextVersion}
+use Rattle.def_cert_text.specs.declared.version.TextVersion.TheVariants as versions
 use Rattle.def_cert_text.specs.CertText.{numbers_of_game, game_lines_of, asked_line, trace_lines, plan_lines, reply_lines, bracket_line, bounds_lines, second_line, head_text_of, first_text_of, asked_text, bounds_text, second_text, last_text, versioned_text}
-use Rattle.def_cert_text.specs.Laws.{TextIsItsLines, versioned_head, VersionedTextIsItsLines, OldTextsStay}
+use Rattle.def_cert_text.specs.Laws.{versioned_head, VersionedTextIsItsLines}
 use Rattle.def_cert_text.proofs.FormatLaws.{items_text-append}
-use Rattle.def_cert_text.proofs.TextLaws.{reading, versioned_reading}
 
 -- the items of the last line
 abbrev pub end_items : List Item
@@ -31,12 +31,18 @@ behind_head v head first ys zs e =
     ∙ ap (λ (bs : List ℕ). bs ++ zs) (items_text-append (game_items v head) (asked_items head))
     ∙ append_assoc (head_text_of v head) (asked_text head) zs)
 
--- a certificate's text is, in turn, its first line, the game's numbers, what was asked, any bounds and its last line
-pub text_lines : TextIsItsLines
+-- a certificate's text is, in turn, its first line, the game's numbers, what was asked, any bounds, with the second bracket
+-- behind them in version 2, and its last line
+pub versioned_lines : VersionedTextIsItsLines
 unfolding items_text
-text_lines = record {
-  head_alone = λ head. behind_head version_one head (first_text_of version_one) end_items last_text refl;
-  with_bounds = λ head b. behind_head version_one head (first_text_of version_one) ((bounds_lines head).items b ++ end_items) (bounds_text head b ++ last_text) (items_text-append ((bounds_lines head).items b) end_items);
+versioned_lines = record {
+  head_alone = λ v head. behind_first v head;
+  bounds_alone = λ head b.
+      behind_head versions.One head (first_text_of versions.One) ((bounds_lines head).items b ++ end_items) (bounds_text head b ++ last_text)
+      (items_text-append ((bounds_lines head).items b) end_items);
+  with_bounds = λ head b second.
+      behind_head versions.Two head (first_text_of versions.Two) ((bounds_lines head).items b ++ (second_line.items second ++ end_items)) (bounds_text head b ++ (second_text second ++ last_text))
+      (many_then ((bounds_lines head).items b) (second_line.items second ++ end_items) (second_text second ++ last_text) (items_text-append (second_line.items second) end_items));
   bounds = λ head b.
       many_then ((trace_lines head).items b.trace) _ _
       (many_then ((plan_lines (codes "1") head.sets_one).items b.plan_one) _ _
@@ -44,27 +50,7 @@ text_lines = record {
       (many_then ((plan_lines (codes "2") head.sets_two).items b.plan_two) _ _
       (many_then ((reply_lines (codes "1") head.sets_one).items b.reply_one) (bracket_line.items (b.low, b.high)) _ refl))));
 }
-
--- so is that of either version, with the second bracket behind the bounds of version 2
-pub versioned_lines : VersionedTextIsItsLines
-unfolding items_text
-versioned_lines = record {
-  head_alone = λ v head. behind_first v head;
-  with_bounds = λ head b second.
-      behind_head version_two head (first_text_of version_two) ((bounds_lines head).items b ++ (second_line.items second ++ end_items)) (bounds_text head b ++ (second_text second ++ last_text))
-      (many_then ((bounds_lines head).items b) (second_line.items second ++ end_items) (second_text second ++ last_text) (items_text-append (second_line.items second) end_items));
-}
   where
     behind_first : (v : TextVersion) (head : Head) → versioned_text (versioned_head v head) ≡ first_text_of v ++ (head_text_of v head ++ (asked_text head ++ last_text))
-    behind_first version_one head = behind_head version_one head (first_text_of version_one) end_items last_text refl
-    behind_first version_two head = behind_head version_two head (first_text_of version_two) end_items last_text refl
-
--- a text of version 1 is read as version 1, and read by version 1 alone it says the same
-pub old_texts : OldTextsStay
-old_texts = record {
-  text = λ c. refl;
-  read = λ bytes c. (
-    λ e. (let p = (versioned_reading bytes (in_version_one c)).0 e in (reading bytes c).1 (p.0.certificate, p.1)),
-    λ e. (let p = (reading bytes c).0 e in (versioned_reading bytes (in_version_one c)).1 (record { certificate = p.0; second = refl }, p.1)),
-  );
-}
+    behind_first versions.One head = behind_head versions.One head (first_text_of versions.One) end_items last_text refl
+    behind_first versions.Two head = behind_head versions.Two head (first_text_of versions.Two) end_items last_text refl

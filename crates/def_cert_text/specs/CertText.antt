@@ -1,4 +1,4 @@
--- The text of a certificate: its lines as formats, in version 1 and version 2, and what reading gives.
+-- The text of a certificate in both versions: its lines as formats, and what reading gives.
 use Rattle.std.specs.Prelude.{ℕ, true, ◌+◌, ◌-◌, ◌*◌, ◌/◌, ◌&&◌, nat_le, nat_lt, nat_eq, min, if◌then◌else◌, List, [], ◌∷◌, ◌++◌, codes, length, Option, Some, None, Result, Ok, Err, ℤ}
 use Rattle.std.specs.Cmp.Lexicographic.{pointwise}
 use Rattle.std.specs.Fmt.{decimal}
@@ -8,12 +8,14 @@ use Rattle.def_sums.specs.Limits.{most_mass, most_rounds, most_scale, most_root}
 use Rattle.def_reply.specs.Reply.{SetReply, Reply}
 use Rattle.def_reply.specs.declared.TraceLine.{TraceLine}
 use Rattle.def_reply.specs.Outcome.{Head}
-use Rattle.def_cert_verdict.specs.Certificate.{PrintedPlan, PrintedBounds, Certificate}
+use Rattle.def_cert_verdict.specs.Certificate.{PrintedPlan, PrintedBounds}
 use Rattle.def_cert_verdict.specs.Ranges.{most_printed}
 use Rattle.def_cert_text.specs.declared.fault.CertFault.{CertFault}
 use Rattle.def_cert_text.specs.declared.fault.CertFault.TheVariants.{CertTrailing}
 use Rattle.def_cert_text.specs.Fields.{◌>>=◌, space, feed, fixed_word, number, version, Item, field, separator}
-use Rattle.def_cert_text.specs.Versions.{TextVersion, version_one, version_two, PrintedBracket, VersionedCertificate, has_second}
+use Rattle.def_cert_text.specs.Versions.{PrintedBracket, VersionedCertificate, has_second}
+use Rattle.def_cert_text.specs.declared.version.TextVersion.{TextVersion}
+use Rattle.def_cert_text.specs.declared.version.TextVersion.TheVariants as versions
 use Rattle.def_cert_text.specs.Formats.{Format, text_of, one_field, whole_field, integer_field, is_lowest_within, fraction_field, nonzero_field, fixed_field, after_fixed, and_then, seen_as, each_from, where_asked, read_number, row_of_numbers}
 
 abbrev pub after_word : {A : Type 0} → List ℕ → Format A → Format A
@@ -72,14 +74,11 @@ abbrev pub payoffs_of_parts : (ℕ × (ℕ × Fraction)) → PayoffNumbers
 payoffs_of_parts p = ((p.0, p.1.1), p.1.0)
 
 abbrev pub payoff_lines : TextVersion → Format PayoffNumbers
-payoff_lines version_one = and_then unit_line (λ unit. mass_line)
-payoff_lines version_two = seen_as payoffs_of_parts parts_of_payoffs (and_then unit_alone_line (λ unit. and_then mass_line (λ mass. sum_line)))
+payoff_lines versions.One = and_then unit_line (λ unit. mass_line)
+payoff_lines versions.Two = seen_as payoffs_of_parts parts_of_payoffs (and_then unit_alone_line (λ unit. and_then mass_line (λ mass. sum_line)))
 
 abbrev pub game_lines_of : TextVersion → Format NumbersOfGame
 game_lines_of v = and_then size_line (λ size. and_then sets_line (λ sets. and_then sequences_line (λ sequences. payoff_lines v)))
-
-abbrev pub game_lines : Format NumbersOfGame
-game_lines = game_lines_of version_one
 
 -- ---- the line behind them: what was asked
 abbrev pub asked_line : Format (ℕ × (ℕ × ℕ))
@@ -110,9 +109,6 @@ head_of_parts p = record {
 
 abbrev pub head_lines_of : TextVersion → Format Head
 head_lines_of v = seen_as head_of_parts parts_of_head (and_then (game_lines_of v) (λ game. asked_line))
-
-abbrev pub head_lines : Format Head
-head_lines = head_lines_of version_one
 
 -- ---- the trace
 abbrev pub parts_of_trace_line : TraceLine → (ℕ × (ℕ × (ℤ × (ℕ × ℤ))))
@@ -194,24 +190,13 @@ end_line = fixed_field fixed_word (codes "end") feed
 abbrev pub lines_of : {A : Type 0} → TextVersion → (Head → Format A) → Format (Head × (Option PrintedBounds × A))
 lines_of v end = and_then (head_lines_of v) (λ head. and_then (where_asked (nat_lt 0 head.rounds) (bounds_lines head)) (λ bounds. end head))
 
--- ---- the whole of version 1
-abbrev pub parts_of_certificate : Certificate → (Head × (Option PrintedBounds × Unit {0}))
-parts_of_certificate c = (c.head, (c.bounds, tt))
-
-abbrev pub certificate_of_parts : (Head × (Option PrintedBounds × Unit {0})) → Certificate
-certificate_of_parts p = record { head = p.0; bounds = p.1.0 }
-
-abbrev pub whole_certificate : Format Certificate
-whole_certificate = seen_as certificate_of_parts parts_of_certificate
-    (after_word (codes "XGCERT") (after_fixed version (codes "1") feed (lines_of version_one (λ head. end_line))))
-
--- ---- the whole of either version: the bracket of player two's payoff stands behind the bounds of version 2
+-- ---- the version, which the first line names, and the bracket of player two's payoff behind the bounds of version 2
 abbrev pub version_text : TextVersion → List ℕ
-version_text version_one = codes "1"
-version_text version_two = codes "2"
+version_text versions.One = codes "1"
+version_text versions.Two = codes "2"
 
 unfoldable pub version_in : List ℕ → Option TextVersion
-version_in bytes = if pointwise nat_eq bytes (codes "1") then Some version_one else if pointwise nat_eq bytes (codes "2") then Some version_two else None
+version_in bytes = if pointwise nat_eq bytes (codes "1") then Some versions.One else if pointwise nat_eq bytes (codes "2") then Some versions.Two else None
 
 abbrev pub version_field : Format TextVersion
 version_field = one_field version (λ v. true) version_text version_in feed
@@ -223,6 +208,7 @@ second_line = seen_as (λ (p : Fraction × Fraction). record { low = p.0; high =
 abbrev pub last_lines : TextVersion → Head → Format (Option PrintedBracket × Unit {0})
 last_lines v head = and_then (where_asked (has_second v && nat_lt 0 head.rounds) second_line) (λ second. end_line)
 
+-- ---- the whole
 abbrev pub PartsOfVersioned : Type 0
 PartsOfVersioned = TextVersion × (Head × (Option PrintedBounds × (Option PrintedBracket × Unit {0})))
 
@@ -237,9 +223,6 @@ versioned_certificate = seen_as versioned_of_parts parts_of_versioned
     (after_word (codes "XGCERT") (and_then version_field (λ v. lines_of v (last_lines v))))
 
 -- ---- the texts, and the lines that are of the game alone
-abbrev pub cert_text : Certificate → List ℕ
-cert_text c = text_of whole_certificate c
-
 abbrev pub versioned_text : VersionedCertificate → List ℕ
 versioned_text c = text_of versioned_certificate c
 
@@ -247,14 +230,11 @@ abbrev pub head_text_of : TextVersion → Head → List ℕ
 head_text_of v head = text_of (game_lines_of v) (numbers_of_game head)
 
 abbrev pub head_text : Head → List ℕ
-head_text head = head_text_of version_one head
+head_text head = head_text_of versions.One head
 
 -- the other lines
 abbrev pub first_text_of : TextVersion → List ℕ
 first_text_of v = codes "XGCERT " ++ (version_text v ++ feed ∷ [])
-
-abbrev pub first_text : List ℕ
-first_text = codes "XGCERT 1" ++ feed ∷ []
 
 abbrev pub asked_text : Head → List ℕ
 asked_text head = text_of asked_line (head.rounds, (head.every, head.scale))
@@ -276,10 +256,6 @@ if_at_end total x (byte ∷ left) = Err (CertTrailing (total - length (byte ∷ 
 -- what reading gives: the value that the bytes say, or the first fault
 abbrev pub read_to_end : {A : Type 0} → Format A → List ℕ → Result A CertFault
 read_to_end f bytes = f.read (length bytes) bytes >>= λ x. if_at_end (length bytes) x.0 x.1
-
--- of version 1 alone, and of either version
-unfoldable pub cert_in : List ℕ → Result Certificate CertFault
-cert_in bytes = read_to_end whole_certificate bytes
 
 unfoldable pub versioned_in : List ℕ → Result VersionedCertificate CertFault
 versioned_in bytes = read_to_end versioned_certificate bytes

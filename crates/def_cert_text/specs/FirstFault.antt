@@ -6,11 +6,10 @@
 use Rattle.std.specs.Prelude.{◌≡◌, ◌≢◌, ℕ, ◌-◌, Bool, true, false, List, [], ◌∷◌, ◌++◌, length}
 use Rattle.def_cert_text.specs.declared.fault.CertFault.{CertFault}
 use Rattle.def_cert_text.specs.declared.fault.CertFault.TheVariants.{CertSyntax, CertShort, CertTrailing}
-use Rattle.def_cert_verdict.specs.Ranges.{CertificateFits}
 use Rattle.def_cert_text.specs.Fields.{FieldKind, Item, field, separator, items_text, next_field, behind_field, is_empty, field_fault}
 use Rattle.def_cert_text.specs.Versions.{VersionedFits}
 use Rattle.def_cert_text.specs.Formats.{Format, text_of}
-use Rattle.def_cert_text.specs.CertText.{whole_certificate, versioned_certificate}
+use Rattle.def_cert_text.specs.CertText.{versioned_certificate}
 
 -- what an item is
 pub data Place : Type 0 where
@@ -77,9 +76,6 @@ pub data FirstFaultOf {A : Type 0} (f : Format A) (Fits : A → Type 0) (bytes :
   within : HasFirstFault f (length bytes) bytes fault → FirstFaultOf f Fits bytes fault
   behind : IsTrailing f Fits bytes fault → FirstFaultOf f Fits bytes fault
 
--- of bytes that are to be a certificate, of version 1 alone, and of either version
-abbrev pub FirstCertFault : List ℕ → CertFault → Type 0
-FirstCertFault bytes fault = FirstFaultOf whole_certificate CertificateFits bytes fault
-
+-- of bytes that are to be a certificate
 abbrev pub FirstVersionedFault : List ℕ → CertFault → Type 0
 FirstVersionedFault bytes fault = FirstFaultOf versioned_certificate VersionedFits bytes fault

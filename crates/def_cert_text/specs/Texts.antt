@@ -1,4 +1,4 @@
--- Texts that are known from outside, as lists of lines, and certificates whose text they are.
+-- Texts of version 1 that are known from outside, as lists of lines, and certificates whose text they are.
 use Rattle.std.specs.Prelude.{ℕ, ◌-◌, List, [], ◌∷◌, ◌++◌, codes, slice_set}
 use Rattle.def_cert_verdict.specs.Certificate.{Certificate}
 use Rattle.def_cert_verdict.specs.Laws.{with_bounds}

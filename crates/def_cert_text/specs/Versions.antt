@@ -4,10 +4,8 @@ use Rattle.std.specs.Prelude.{◌≡◌, Bool, true, false, Option, Some, None}
 use Rattle.def_fraction.specs.Fraction.{Fraction}
 use Rattle.def_cert_verdict.specs.Certificate.{PrintedBounds, Certificate}
 use Rattle.def_cert_verdict.specs.Ranges.{BoundFits, CertificateFits}
-
-pub data TextVersion : Type 0 where
-  version_one : TextVersion
-  version_two : TextVersion
+use Rattle.def_cert_text.specs.declared.version.TextVersion.{TextVersion}
+use Rattle.def_cert_text.specs.declared.version.TextVersion.TheVariants as versions
 
 -- the two ends of a bracket in payoff units
 pub record PrintedBracket : Type 0 where
@@ -21,19 +19,19 @@ pub record VersionedCertificate : Type 0 where
   pub second : Option PrintedBracket
 
 abbrev pub has_second : TextVersion → Bool
-has_second version_one = false
-has_second version_two = true
+has_second versions.One = false
+has_second versions.Two = true
 
 -- a certificate in a text of version 1
 abbrev pub in_version_one : Certificate → VersionedCertificate
-in_version_one c = record { version = version_one; certificate = c; second = None }
+in_version_one c = record { version = versions.One; certificate = c; second = None }
 
 -- ---- the ranges: the second bracket is there where the version has one and the certificate has bounds
 abbrev pub SecondFits : TextVersion → Option PrintedBounds → Option PrintedBracket → Type 0
-SecondFits version_two (Some b) (Some second) = BoundFits second.low × BoundFits second.high
-SecondFits version_two (Some b) None = ⊥
-SecondFits version_two None second = second ≡ None
-SecondFits version_one bounds second = second ≡ None
+SecondFits versions.Two (Some b) (Some second) = BoundFits second.low × BoundFits second.high
+SecondFits versions.Two (Some b) None = ⊥
+SecondFits versions.Two None second = second ≡ None
+SecondFits versions.One bounds second = second ≡ None
 
 pub record VersionedFits (c : VersionedCertificate) : Type 0 where
   pub certificate : CertificateFits c.certificate

@@ -8,7 +8,8 @@ ghost use Rattle.def_cert_text.specs.declared.fault.CertFault.TheVariants.{CertT
 ghost use Rattle.def_cert_text.specs.CertText.{versioned_in, versioned_text};
 ghost use Rattle.def_cert_text.specs.Laws.{versioned_head};
 ghost use Rattle.def_cert_text.specs.Texts.{scale_one_lines, text_of_lines};
-ghost use Rattle.def_cert_text.specs.Versions.{in_version_one, version_one, version_two};
+ghost use Rattle.def_cert_text.specs.Versions.{in_version_one};
+ghost use Rattle.def_cert_text.specs.declared.version.TextVersion.TheVariants as versions;
 ghost use Rattle.def_cert_text.specs.VersionTexts.{finest, finest_certificate, finest_lines, finest_lines_one, no_round_head};
 ghost use Rattle.def_cert_text.specs.VersionTexts.{no_round_lines, no_round_lines_one, no_sum_head, no_sum_lines};
 ghost use Rattle.def_cert_text.specs.VersionTexts.{no_sum_lines_one, scale_one_certificate, scale_one_lines_two, scale_one_two};
@@ -21,11 +22,11 @@ pub fn texts_of_both()
     ensures shared_two { versioned_text shared ≡ text_of_lines shared_lines }
     ensures pennies_one { versioned_text (in_version_one scale_one_certificate) ≡ text_of_lines scale_one_lines }
     ensures pennies_two { versioned_text scale_one_two ≡ text_of_lines scale_one_lines_two }
-    ensures no_round_one { versioned_text (versioned_head version_one no_round_head)
+    ensures no_round_one { versioned_text (versioned_head versions.One no_round_head)
         ≡ text_of_lines no_round_lines_one }
-    ensures no_round_two { versioned_text (versioned_head version_two no_round_head) ≡ text_of_lines no_round_lines }
-    ensures no_sum_one { versioned_text (versioned_head version_one no_sum_head) ≡ text_of_lines no_sum_lines_one }
-    ensures no_sum_two { versioned_text (versioned_head version_two no_sum_head) ≡ text_of_lines no_sum_lines }
+    ensures no_round_two { versioned_text (versioned_head versions.Two no_round_head) ≡ text_of_lines no_round_lines }
+    ensures no_sum_one { versioned_text (versioned_head versions.One no_sum_head) ≡ text_of_lines no_sum_lines_one }
+    ensures no_sum_two { versioned_text (versioned_head versions.Two no_sum_head) ≡ text_of_lines no_sum_lines }
     ensures finest_one { versioned_text (in_version_one finest_certificate) ≡ text_of_lines finest_lines_one }
     ensures finest_two { versioned_text finest ≡ text_of_lines finest_lines }
     ensures shared_length { length (text_of_lines shared_lines) ≡ 302 }

@@ -7,7 +7,7 @@ use Rattle.def_plan.specs.Form.{sequence_count}
 use Rattle.def_plan.specs.Payoff.{mass_of}
 use Rattle.def_reply.specs.Outcome.{Head}
 use Rattle.def_cert_verdict.specs.declared.fault.TestFault.{TestFault}
-use Rattle.def_cert_verdict.specs.declared.fault.TestFault.TheVariants.{HeadDiffers, NotAPlan, ValueTooGood, ReplyNotTight, TotalDiffers, TraceWidens}
+use Rattle.def_cert_verdict.specs.declared.fault.TestFault.TheVariants.{HeadDiffers, NotAPlan, ValueTooGood, ReplyNotTight, TotalDiffers, TraceWidens, SecondDiffers}
 use Rattle.def_plan.specs.Weighed.{WeighedGame}
 use Rattle.def_cert_verdict.specs.Verdict.{first_failing, unless, is_same_fraction, head_tests}
 use Rattle.def_cert_verdict.specs.Laws.{IsHeadOf}
@@ -123,6 +123,7 @@ caused game head (ValueTooGood p set action) c = absurd c
 caused game head (ReplyNotTight p set) c = absurd c
 caused game head (TotalDiffers end) c = absurd c
 caused game head (TraceWidens line) c = absurd c
+caused game head SecondDiffers c = absurd c
 
 -- the head's tests pass exactly where it is the game's, else the fault has the first line that differs
 pub head_described : (game : WeighedGame) (head : Head)

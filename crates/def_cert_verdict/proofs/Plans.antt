@@ -12,7 +12,7 @@ use Rattle.def_sums.specs.Sum.{nat_sum_over}
 use Rattle.def_plan.specs.Form.{InformationSet, PlacedSet, placed, sequences_of}
 use Rattle.def_plan.specs.Plan.{AddsUp, first_not_adding}
 use Rattle.def_cert_verdict.specs.declared.fault.TestFault.{TestFault}
-use Rattle.def_cert_verdict.specs.declared.fault.TestFault.TheVariants.{HeadDiffers, NotAPlan, ValueTooGood, ReplyNotTight, TotalDiffers, TraceWidens}
+use Rattle.def_cert_verdict.specs.declared.fault.TestFault.TheVariants.{HeadDiffers, NotAPlan, ValueTooGood, ReplyNotTight, TotalDiffers, TraceWidens, SecondDiffers}
 use Rattle.def_cert_verdict.specs.Certificate.{PrintedPlan, joined, printed_numbers}
 use Rattle.def_cert_verdict.specs.Verdict.{unless, first_of_other_size, not_a_plan_at, plan_tests}
 use Rattle.def_cert_verdict.specs.Laws.{HoldsAsPlan}
@@ -153,6 +153,7 @@ in_turn player sets root plan (ValueTooGood p set action) c = absurd c
 in_turn player sets root plan (ReplyNotTight p set) c = absurd c
 in_turn player sets root plan (TotalDiffers end) c = absurd c
 in_turn player sets root plan (TraceWidens line) c = absurd c
+in_turn player sets root plan SecondDiffers c = absurd c
 
 -- a plan's tests pass exactly where it is one of the root, else the fault has what is wrong first
 pub plan_described : (player : Player) (sets : List InformationSet) (root : ℕ) (plan : PrintedPlan)

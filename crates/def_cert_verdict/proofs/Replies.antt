@@ -16,7 +16,7 @@ use Rattle.def_plan.specs.Plan.{chosen}
 use Rattle.def_plan.specs.Payoff.{worth, IsNoBetter}
 use Rattle.def_reply.specs.Reply.{Reply, SetReply, values_of, total, IsTight}
 use Rattle.def_cert_verdict.specs.declared.fault.TestFault.{TestFault}
-use Rattle.def_cert_verdict.specs.declared.fault.TestFault.TheVariants.{HeadDiffers, NotAPlan, ValueTooGood, ReplyNotTight, TotalDiffers, TraceWidens}
+use Rattle.def_cert_verdict.specs.declared.fault.TestFault.TheVariants.{HeadDiffers, NotAPlan, ValueTooGood, ReplyNotTight, TotalDiffers, TraceWidens, SecondDiffers}
 use Rattle.def_cert_verdict.specs.Verdict.{first_failing, unless, is_better, action_test, set_tests, reply_tests, is_same_fraction, end_shown_by, total_test, whole_reply_tests}
 use Rattle.def_cert_verdict.specs.Laws.{HoldsAsTotal, HoldsAsReply}
 use Rattle.def_cert_verdict.specs.FaultCauses.{IsFirstNot, NoActionBetterAt, ReachedAt, TightAt, IsTooGood, IsNotReached, SetFault, TotalFault, ReplyFault}
@@ -126,6 +126,7 @@ shifted player w k h hs r rs (HeadDiffers line) first c = absurd c
 shifted player w k h hs r rs (NotAPlan p set) first c = absurd c
 shifted player w k h hs r rs (TotalDiffers end) first c = absurd c
 shifted player w k h hs r rs (TraceWidens line) first c = absurd c
+shifted player w k h hs r rs SecondDiffers first c = absurd c
 
 -- a fault at the first set
 at_first : (player : Player) (w : ℕ → ℤ) (k : ℕ) (h : PlacedSet) (hs : List PlacedSet) (r : SetReply)
@@ -199,6 +200,7 @@ either player w k h hs r rs (HeadDiffers line) c = absurd c
 either player w k h hs r rs (NotAPlan p set) c = absurd c
 either player w k h hs r rs (TotalDiffers end) c = absurd c
 either player w k h hs r rs (TraceWidens line) c = absurd c
+either player w k h hs r rs SecondDiffers c = absurd c
 
 -- ---- more sets than replies, or fewer
 no_place : {A : Type 0} (none : List A) → length none ≡ 0 → (i : ℕ) (x : A) → slice_get none i ≡ Some x → ⊥
@@ -218,6 +220,7 @@ at_missing player w k hs rs bad none (HeadDiffers line) c = absurd c
 at_missing player w k hs rs bad none (NotAPlan p set) c = absurd c
 at_missing player w k hs rs bad none (TotalDiffers end) c = absurd c
 at_missing player w k hs rs bad none (TraceWidens line) c = absurd c
+at_missing player w k hs rs bad none SecondDiffers c = absurd c
 
 missing : (player : Player) (w : ℕ → ℤ) (k : ℕ) (hs : List PlacedSet) (rs : List SetReply)
     → NoActionBetterAt player w (slice_get hs 0) (slice_get rs 0)
@@ -247,6 +250,7 @@ nothing player w k = record {
     nowhere (NotAPlan p set) c = absurd c
     nowhere (TotalDiffers end) c = absurd c
     nowhere (TraceWidens line) c = absurd c
+    nowhere SecondDiffers c = absurd c
 
 sets_described : (player : Player) (w : ℕ → ℤ) (k : ℕ) (hs : List PlacedSet) (rs : List SetReply)
     → TestsDecide (reply_tests player w k hs rs) ((j : ℕ) → TightAt player w hs rs j) (SetFault player w k hs rs)
@@ -309,6 +313,7 @@ total_caused player sums sets reply traced bound scale (NotAPlan p set) c = absu
 total_caused player sums sets reply traced bound scale (ValueTooGood p set action) c = absurd c
 total_caused player sums sets reply traced bound scale (ReplyNotTight p set) c = absurd c
 total_caused player sums sets reply traced bound scale (TraceWidens line) c = absurd c
+total_caused player sums sets reply traced bound scale SecondDiffers c = absurd c
 
 total_described : (player : Player) (sums : ℕ → ℤ) (sets : List InformationSet) (reply : Reply) (traced : ℤ)
     (bound : Fraction) (scale : ℕ)

@@ -5,7 +5,7 @@ use Rattle.std.proofs.lemmas.Bool.{false≢true}
 use Rattle.def_reply.specs.Bracket.{LiesWithin}
 use Rattle.def_reply.specs.declared.TraceLine.{TraceLine}
 use Rattle.def_cert_verdict.specs.declared.fault.TestFault.{TestFault}
-use Rattle.def_cert_verdict.specs.declared.fault.TestFault.TheVariants.{HeadDiffers, NotAPlan, ValueTooGood, ReplyNotTight, TotalDiffers, TraceWidens}
+use Rattle.def_cert_verdict.specs.declared.fault.TestFault.TheVariants.{HeadDiffers, NotAPlan, ValueTooGood, ReplyNotTight, TotalDiffers, TraceWidens, SecondDiffers}
 use Rattle.def_cert_verdict.specs.Verdict.{first_failing, is_wider, trace_tests}
 use Rattle.def_cert_verdict.specs.Laws.{NeverWidens}
 use Rattle.def_cert_verdict.specs.FaultCauses.{IsFirstNot, IsNoWider, TraceFault}
@@ -54,6 +54,7 @@ caused k lines (NotAPlan p set) c = absurd c
 caused k lines (ValueTooGood p set action) c = absurd c
 caused k lines (ReplyNotTight p set) c = absurd c
 caused k lines (TotalDiffers end) c = absurd c
+caused k lines SecondDiffers c = absurd c
 
 -- a trace's tests pass exactly where none is wider than the line before, else the fault has the first that is
 pub trace_described : (k : ℕ) (lines : List TraceLine)

@@ -17,20 +17,20 @@ use Rattle.def_cert_verdict.proofs.Plans.{plan_described}
 use Rattle.def_cert_verdict.proofs.Replies.{reply_described}
 use Rattle.def_cert_verdict.proofs.Traces.{trace_described}
 
-bounds_described : (game : WeighedGame) (scale : ℕ) (b : PrintedBounds)
-    → TestsDecide (bounds_tests game scale b) (HoldsUp game scale b) (BoundsFault game scale b)
-bounds_described game scale b =
+bounds_described : (game : WeighedGame) (first scale : ℕ) (b : PrintedBounds)
+    → TestsDecide (bounds_tests game first scale b) (HoldsUp game scale b) (BoundsFault game first scale b)
+bounds_described game first scale b =
     let form = game.form in
     let last = last_line b.trace in
     let sums_two : ℕ → ℤ = leaf_sum Two form.leaves (printed_numbers b.plan_one) in
     let sums_one : ℕ → ℤ = leaf_sum One form.leaves (printed_numbers b.plan_two) in
-    TestsDecide-like (bounds_tests game scale b) _ (HoldsUp game scale b) _ (BoundsFault game scale b)
+    TestsDecide-like (bounds_tests game first scale b) _ (HoldsUp game scale b) _ (BoundsFault game first scale b)
     (TestsDecide-append (plan_tests One form.sets_one (last.low_round * scale) b.plan_one) _ _ _ _ _ (plan_described One form.sets_one (last.low_round * scale) b.plan_one)
     (TestsDecide-append (plan_tests Two form.sets_two (last.high_round * scale) b.plan_two) _ _ _ _ _ (plan_described Two form.sets_two (last.high_round * scale) b.plan_two)
     (TestsDecide-append (whole_reply_tests Two sums_two form.sets_two b.reply_two last.low b.low (game.unit * b.plan_one.root)) _ _ _ _ _
     (reply_described Two sums_two form.sets_two b.reply_two last.low b.low (game.unit * b.plan_one.root))
-    (TestsDecide-append (whole_reply_tests One sums_one form.sets_one b.reply_one last.high b.high (game.unit * b.plan_two.root)) (trace_tests first_trace_line b.trace) _ _ _ _
-    (reply_described One sums_one form.sets_one b.reply_one last.high b.high (game.unit * b.plan_two.root)) (trace_described first_trace_line b.trace))))) (
+    (TestsDecide-append (whole_reply_tests One sums_one form.sets_one b.reply_one last.high b.high (game.unit * b.plan_two.root)) (trace_tests first b.trace) _ _ _ _
+    (reply_described One sums_one form.sets_one b.reply_one last.high b.high (game.unit * b.plan_two.root)) (trace_described first b.trace))))) (
       λ h. record { plan_one = h.0; plan_two = h.1.0; reply_two = h.1.1.0; reply_one = h.1.1.1.0; trace = h.1.1.1.1 },
       λ h. (h.plan_one, (h.plan_two, (h.reply_two, (h.reply_one, h.trace)))),
     )
@@ -42,16 +42,17 @@ BoundsHoldUp game scale None = Unit {0}
 BoundsHoldUp game scale (Some b) = HoldsUp game scale b
 
 -- the tests behind the head pass exactly where the bounds hold up, if there are any, and each fault has its cause
-pub below_described : (game : WeighedGame) (scale : ℕ) (bounds : Option PrintedBounds)
-    → TestsDecide (tests_below_head game scale bounds) (BoundsHoldUp game scale bounds) (FaultBelowHead game scale bounds)
-below_described game scale None = record { none = (λ e. tt, λ h. refl); some = λ f. (λ e. none-some f e, λ c. absurd c) }
-below_described game scale (Some b) = bounds_described game scale b
+pub below_described : (game : WeighedGame) (first scale : ℕ) (bounds : Option PrintedBounds)
+    → TestsDecide (tests_below_head game first scale bounds) (BoundsHoldUp game scale bounds) (FaultBelowHead game first scale bounds)
+below_described game first scale None = record { none = (λ e. tt, λ h. refl); some = λ f. (λ e. none-some f e, λ c. absurd c) }
+below_described game first scale (Some b) = bounds_described game first scale b
 
 whole : (game : WeighedGame) (c : Certificate)
     → TestsDecide (tests game c) (IsHeadOf game c.head × BoundsHoldUp game c.head.scale c.bounds)
-    (λ f. HeadFault game c.head f ⊎ (IsHeadOf game c.head × FaultBelowHead game c.head.scale c.bounds f))
+    (λ f. HeadFault game c.head f ⊎ (IsHeadOf game c.head × FaultBelowHead game first_trace_line c.head.scale c.bounds f))
 whole game c =
-    TestsDecide-append (head_tests game c.head) (tests_below_head game c.head.scale c.bounds) _ _ _ _ (head_described game c.head) (below_described game c.head.scale c.bounds)
+    TestsDecide-append (head_tests game c.head) (tests_below_head game first_trace_line c.head.scale c.bounds) _ _ _ _ (head_described game c.head)
+    (below_described game first_trace_line c.head.scale c.bounds)
 
 -- ---- from tests to the verdict
 Is_ok : Result Verdict TestFault → Type 0

@@ -114,8 +114,8 @@ TraceFault first lines (TraceWidens line) = (k : ℕ) × (line ≡ first + k + 1
 TraceFault first lines fault = ⊥
 
 -- ---- all stages: player one's plan, player two's plan, player two's reply, player one's reply, the trace
-abbrev pub BoundsFault : WeighedGame → ℕ → PrintedBounds → TestFault → Type 0
-BoundsFault game scale b fault =
+abbrev pub BoundsFault : WeighedGame → ℕ → ℕ → PrintedBounds → TestFault → Type 0
+BoundsFault game first scale b fault =
     let form = game.form in
     let last = last_line b.trace in
     let sums_two = leaf_sum Two form.leaves (printed_numbers b.plan_one) in
@@ -128,13 +128,13 @@ BoundsFault game scale b fault =
     ⊎ (HoldsAsReply Two sums_two form.sets_two b.reply_two last.low b.low (game.unit * b.plan_one.root)
     × (ReplyFault One sums_one form.sets_one b.reply_one last.high b.high (game.unit * b.plan_two.root) fault
     ⊎ (HoldsAsReply One sums_one form.sets_one b.reply_one last.high b.high (game.unit * b.plan_two.root)
-    × TraceFault first_trace_line b.trace fault)))))))
+    × TraceFault first b.trace fault)))))))
 
-abbrev pub FaultBelowHead : WeighedGame → ℕ → Option PrintedBounds → TestFault → Type 0
-FaultBelowHead game scale None fault = ⊥
-FaultBelowHead game scale (Some b) fault = BoundsFault game scale b fault
+abbrev pub FaultBelowHead : WeighedGame → ℕ → ℕ → Option PrintedBounds → TestFault → Type 0
+FaultBelowHead game first scale None fault = ⊥
+FaultBelowHead game first scale (Some b) fault = BoundsFault game first scale b fault
 
 -- a certificate is refused with a fault exactly where it comes: in the head, or where that is the game's in the bounds
 abbrev pub EachFaultHasItsCause : Type 0
 EachFaultHasItsCause = (game : WeighedGame) (c : Certificate) (fault : TestFault)
-    → (verdict game c ≡ Err fault) ↔ (HeadFault game c.head fault ⊎ (IsHeadOf game c.head × FaultBelowHead game c.head.scale c.bounds fault))
+    → (verdict game c ≡ Err fault) ↔ (HeadFault game c.head fault ⊎ (IsHeadOf game c.head × FaultBelowHead game first_trace_line c.head.scale c.bounds fault))

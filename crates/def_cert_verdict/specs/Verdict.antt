@@ -118,24 +118,24 @@ trace_tests k (a ∷ b ∷ lines) = (if is_wider b a then Some (TraceWidens (k +
 abbrev pub first_trace_line : ℕ
 first_trace_line = 8
 
--- ---- all of them: both plans, player two's sets and total, player one's, and the trace
-abbrev pub bounds_tests : WeighedGame → ℕ → PrintedBounds → List (Option TestFault)
-bounds_tests game scale b =
+-- ---- all of them: both plans, player two's sets and total, player one's, and the trace, whose first line has this number
+abbrev pub bounds_tests : WeighedGame → ℕ → ℕ → PrintedBounds → List (Option TestFault)
+bounds_tests game first scale b =
     let form = game.form in
     let last = last_line b.trace in
     plan_tests One form.sets_one (last.low_round * scale) b.plan_one
     ++ (plan_tests Two form.sets_two (last.high_round * scale) b.plan_two
     ++ (whole_reply_tests Two (leaf_sum Two form.leaves (printed_numbers b.plan_one)) form.sets_two b.reply_two last.low b.low (game.unit * b.plan_one.root)
     ++ (whole_reply_tests One (leaf_sum One form.leaves (printed_numbers b.plan_two)) form.sets_one b.reply_one last.high b.high (game.unit * b.plan_two.root)
-    ++ trace_tests first_trace_line b.trace)))
+    ++ trace_tests first b.trace)))
 
 -- where no round was asked the tests end after the head
-abbrev pub tests_below_head : WeighedGame → ℕ → Option PrintedBounds → List (Option TestFault)
-tests_below_head game scale None = []
-tests_below_head game scale (Some b) = bounds_tests game scale b
+abbrev pub tests_below_head : WeighedGame → ℕ → ℕ → Option PrintedBounds → List (Option TestFault)
+tests_below_head game first scale None = []
+tests_below_head game first scale (Some b) = bounds_tests game first scale b
 
 abbrev pub tests : WeighedGame → Certificate → List (Option TestFault)
-tests game c = head_tests game c.head ++ tests_below_head game c.head.scale c.bounds
+tests game c = head_tests game c.head ++ tests_below_head game first_trace_line c.head.scale c.bounds
 
 -- what is shown where no test fails
 abbrev pub shown_by : Option PrintedBounds → Verdict

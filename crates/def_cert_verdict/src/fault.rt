@@ -42,4 +42,6 @@ pub enum TestFault {
     TraceWidens {
         line: u32,
     },
+    /// The bracket of player two's own payoff isn't what the sum leaves of both bounds.
+    SecondDiffers,
 }

@@ -36,11 +36,12 @@ use Rattle.def_cert_verdict.specs.Ranges.{BoundFits, FitsBelowHead, HeadFits}
 use Rattle.def_cert_verdict.specs.Verdict.{Verdict, bracket, head_only, verdict}
 use Rattle.def_cert_verdict.specs.Laws.{IsHeadOf, ShowsItsBounds}
 use Rattle.def_cert_verdict.proofs.VerdictIsExact.{exact}
-use Rattle.def_cert_text.specs.Versions.{SecondFits, version_two}
+use Rattle.def_cert_text.specs.Versions.{SecondFits}
+use Rattle.def_cert_text.specs.declared.version.TextVersion.TheVariants as versions
 use Rattle.def_cert_text.specs.CertText.{versioned_text}
 use Rattle.def_cert_text.proofs.TextLaws.{versioned_reading}
 use Rattle.def_cert_versions.specs.Verdict.{second_bracket, upgraded}
-use Rattle.def_cert_versions.specs.Upgrade.{AcceptedAreUpgradable, EndTurns, EndsTurn, FaultlessGamesHaveWholeSums, IsSmallTimes, UpgradedTextsAreAccepted, UpgradesFit}
+use Rattle.def_cert_versions.specs.Upgrade.{IsWholeIn, AcceptedAreUpgradable, EndTurns, EndsTurn, FaultlessGamesHaveWholeSums, IsSmallTimes, UpgradedTextsAreAccepted, UpgradesFit}
 use Rattle.def_cert_versions.proofs.VersionedVerdict.{accept_alike, upgrades}
 use Rattle.def_cert_versions.proofs.PlayerTwo.{accepted_with, in_order, some_unit}
 
@@ -58,13 +59,13 @@ parts_of limit f n d low some value small few =
     (omega (arith, unsigned_abs-without_factor n g, div-le_self (unsigned_abs n) g), omega (arith, div-le_self d g))
 
 -- the denominator divides each number that makes the fraction whole
-den-divides : (f : Fraction) (n : ℤ) (m : ℕ) → IsInLowestTerms f → HasValue f n m → f.den ∣ m
+pub den-divides : (f : Fraction) (n : ℤ) (m : ℕ) → IsInLowestTerms f → HasValue f n m → f.den ∣ m
 den-divides f n m low value =
     let sizes : unsigned_abs n * f.den ≡ unsigned_abs f.num * m = sym (unsigned_abs-mul n (pos f.den)) ∙ ap unsigned_abs (sym value) ∙ unsigned_abs-mul f.num (pos m) in
     divides_other (unsigned_abs f.num) f.den m low.coprime (subst (λ k. f.den ∣ k) sizes (dvd-mul_left f.den (unsigned_abs n)))
 
 -- a fraction that is small times the unit is as small times the unit and a root, over that root
-weight-small : (unit root : ℕ) (f : Fraction) → 1 ≤ f.den → f.den ∣ unit * root → IsSmallTimes unit f
+pub weight-small : (unit root : ℕ) (f : Fraction) → 1 ≤ f.den → f.den ∣ unit * root → IsSmallTimes unit f
     → unsigned_abs (weight_of (unit * root) f) ≤ most * root
 weight-small unit root f some divides small =
     let m : ℕ = unit * root in
@@ -184,18 +185,15 @@ upgradable game c shown one two unit sum fits e =
     let a = (accept_alike game c shown).0 e in
     let head : Head = c.certificate.head in
     let head_is = head_is_of game head c.certificate.bounds shown a.0 in
-    let Has : ℕ → Fraction → Type 0 = λ u k. (k.den ∣ u) × IsSmallTimes u k in
-    let with_sum : Has head.unit head.sum = subst (λ u. Has u head.sum) (sym head_is.unit) (subst (Has game.unit) (sym head_is.sum_is) (sum.whole, sum.small)) in
     record {
-      sum_whole = with_sum.0;
-      sum_small = with_sum.1;
+      sum_is = subst (λ u. IsWholeIn u head.sum) (sym head_is.unit) (subst (IsWholeIn game.unit) (sym head_is.sum_is) sum);
       ends = ends_turn game head c.certificate.bounds shown one two unit fits.certificate.head.mass a.0;
       second = a.1;
     }
 
 second_within : (head : Head) (bounds : Option PrintedBounds) → HeadFits head → FitsBelowHead head bounds
     → head.sum.den ∣ head.unit → IsSmallTimes head.unit head.sum → EndsTurn head.unit bounds
-    → SecondFits version_two bounds (option_map (second_bracket head.sum) bounds)
+    → SecondFits versions.Two bounds (option_map (second_bracket head.sum) bounds)
 second_within head None fits below whole small turn = refl
 second_within head (Some b) fits below whole small turn = (
   rest_fits head.unit b.plan_two.root head.sum b.high fits.unit.0 fits.unit.1 below.plan_two.root.0 below.plan_two.root.1 fits.sum.lowest below.high.lowest whole small turn.1,
@@ -206,7 +204,7 @@ second_within head (Some b) fits below whole small turn = (
 pub upgrades_fit : UpgradesFit
 upgrades_fit c fits is = record {
   certificate = fits.certificate;
-  second = second_within c.certificate.head c.certificate.bounds fits.certificate.head fits.certificate.below is.sum_whole is.sum_small is.ends;
+  second = second_within c.certificate.head c.certificate.bounds fits.certificate.head fits.certificate.below is.sum_is.whole is.sum_is.small is.ends;
 }
 
 -- a file's game without a fault has a whole sum

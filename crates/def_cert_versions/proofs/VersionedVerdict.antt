@@ -1,7 +1,6 @@
 -- The verdict on certificates of both versions.
-use Rattle.std.proofs.Common.{◌≡◌, ℕ, suc, ◌+◌, ◌-◌, ◌<◌, ◌≤◌, Bool, true, false, ◌&&◌, not, cond, eqb, List, [], ◌∷◌, length, map, Option, Some, None, Result, Ok, Err, refl, sym, ap, subst, ◌∙◌, arith, ⊎_elim}
+use Rattle.std.proofs.Common.{◌≡◌, ℕ, suc, ◌+◌, ◌-◌, ◌<◌, ◌≤◌, Bool, true, false, ◌&&◌, not, cond, eqb, List, ◌∷◌, length, Option, Some, None, Result, Ok, Err, refl, sym, ap, subst, ◌∙◌, arith, ◌⊎◌, inl, inr, ⊎_elim}
 use Rattle.std.specs.Bool.{Decides}
-use Rattle.std.specs.Option.{option_map}
 use Rattle.std.proofs.lemmas.Bool.{cases_lt, false≢true}
 use Rattle.std.proofs.lemmas.Bool.Decides.{Decides-eqb, Decides-and, Decides-like}
 use Rattle.std.proofs.lemmas.Option.{none-some, same_Some}
@@ -10,7 +9,7 @@ use Rattle.def_plan.specs.Payoff.{mass_of}
 use Rattle.def_plan.specs.Weighed.{WeighedGame}
 use Rattle.def_reply.specs.Outcome.{Head}
 use Rattle.def_cert_verdict.specs.declared.fault.TestFault.{TestFault}
-use Rattle.def_cert_verdict.specs.declared.fault.TestFault.TheVariants.{HeadDiffers, NotAPlan, ValueTooGood, ReplyNotTight, TotalDiffers, TraceWidens}
+use Rattle.def_cert_verdict.specs.declared.fault.TestFault.TheVariants.{HeadDiffers, NotAPlan, ValueTooGood, ReplyNotTight, TotalDiffers, TraceWidens, SecondDiffers}
 use Rattle.def_cert_verdict.specs.Certificate.{PrintedBounds, Certificate}
 use Rattle.def_cert_verdict.specs.Verdict.{Verdict, first_failing, unless, is_same_fraction, head_tests, tests_below_head, shown_by, decided_by, verdict}
 use Rattle.def_cert_verdict.specs.Laws.{IsHeadOf}
@@ -19,9 +18,11 @@ use Rattle.def_cert_verdict.proofs.Fractions.{same_fraction}
 use Rattle.def_cert_verdict.proofs.Heads.{head_described}
 use Rattle.def_cert_verdict.proofs.TestsDecide.{TestsDecide, TestsDecide-append, TestsDecide-search, TestsDecide-like, Searches, Searches-end, Searches-step, first_unless}
 use Rattle.def_cert_verdict.proofs.VerdictIsExact.{BoundsHoldUp, below_described}
-use Rattle.def_cert_text.specs.Versions.{TextVersion, version_one, version_two, PrintedBracket, VersionedCertificate, has_second, in_version_one}
-use Rattle.def_cert_versions.specs.Verdict.{VersionedFault, a_line_later, head_tests_of, is_same_bracket, judged_with, of_tests, second_differs, second_of, tests_below_head_of, tests_of, upgraded, verdict_by, versioned_verdict}
-use Rattle.def_cert_versions.specs.Laws.{EachVersionedFaultHasItsCause, HasItsSecond, HeadFaultOfTwo, NamesLineOfTwo, OldVerdictsStay, TestFaultOf, UpgradesAreAccepted, VersionsAcceptAlike}
+use Rattle.def_cert_text.specs.Versions.{PrintedBracket, VersionedCertificate, has_second, in_version_one}
+use Rattle.def_cert_text.specs.declared.version.TextVersion.{TextVersion}
+use Rattle.def_cert_text.specs.declared.version.TextVersion.TheVariants as versions
+use Rattle.def_cert_versions.specs.Verdict.{first_trace_line_of, head_tests_of, is_same_bracket, judged_with, second_of, tests_of, upgraded, verdict_by, versioned_verdict}
+use Rattle.def_cert_versions.specs.Laws.{EachVersionedFaultHasItsCause, HasItsSecond, HeadFaultOfTwo, IsSecondFault, NamesLineOfTwo, OldVerdictsStay, TestFaultOf, UpgradesAreAccepted, VersionsAcceptAlike}
 
 -- ---- the head of version 2
 other_line : (game : WeighedGame) (head : Head) (line : ℕ) → ((1 < line) → (line < 8) → ⊥) → NamesLineOfTwo game head line
@@ -89,7 +90,7 @@ line_step n b ts Says d s =
     subst (λ r. Searches TestFault HeadDiffers r n Says) (sym (first_unless b (HeadDiffers n) ts)) (Searches-step TestFault HeadDiffers b (first_failing ts) n Says d s)
 
 searched : (game : WeighedGame) (head : Head)
-    → Searches TestFault HeadDiffers (first_failing (head_tests_of version_two game head)) 2 (λ i. NamesLineOfTwo game head (2 + i))
+    → Searches TestFault HeadDiffers (first_failing (head_tests_of versions.Two game head)) 2 (λ i. NamesLineOfTwo game head (2 + i))
 searched game head =
     line_step 2 _ _ (λ i. NamesLineOfTwo game head (2 + i)) (nodes_line game head)
     (line_step 3 _ _ (λ i. NamesLineOfTwo game head (2 + suc i)) (sets_line game head)
@@ -147,50 +148,25 @@ caused game head (ValueTooGood p set action) c = absurd c
 caused game head (ReplyNotTight p set) c = absurd c
 caused game head (TotalDiffers end) c = absurd c
 caused game head (TraceWidens line) c = absurd c
+caused game head SecondDiffers c = absurd c
 
 head_described_two : (game : WeighedGame) (head : Head)
-    → TestsDecide (head_tests_of version_two game head) (IsHeadOf game head) (HeadFaultOfTwo game head)
+    → TestsDecide (head_tests_of versions.Two game head) (IsHeadOf game head) (HeadFaultOfTwo game head)
 head_described_two game head =
-    TestsDecide-like (head_tests_of version_two game head) _ (IsHeadOf game head) _ (HeadFaultOfTwo game head)
-    (TestsDecide-search HeadDiffers (head_tests_of version_two game head) 2 (λ i. NamesLineOfTwo game head (2 + i)) (searched game head))
+    TestsDecide-like (head_tests_of versions.Two game head) _ (IsHeadOf game head) _ (HeadFaultOfTwo game head)
+    (TestsDecide-search HeadDiffers (head_tests_of versions.Two game head) 2 (λ i. NamesLineOfTwo game head (2 + i)) (searched game head))
     (head_of game head, λ h i. all_lines game head h (2 + i))
     (λ f. (λ c. subst (HeadFaultOfTwo game head) (sym c.1) (from_two game head c.0 c.2), caused game head f))
-
--- ---- below the head
-first-mapped : (turn : TestFault → TestFault) (ts : List (Option TestFault))
-    → first_failing (map (option_map turn) ts) ≡ option_map turn (first_failing ts)
-first-mapped turn [] = refl
-first-mapped turn (None ∷ ts) = first-mapped turn ts
-first-mapped turn (Some f ∷ ts) = refl
-
-mapped : (turn : TestFault → TestFault) (ts : List (Option TestFault)) (Holds : Type 0) (Comes : TestFault → Type 0)
-    → TestsDecide ts Holds Comes
-    → TestsDecide (map (option_map turn) ts) Holds (λ f. (g : TestFault) × (f ≡ turn g) × Comes g)
-mapped turn ts Holds Comes d = record {
-  none = (λ e. d.none.0 (no_fault (first_failing ts) (sym (first-mapped turn ts) ∙ e)), λ h. first-mapped turn ts ∙ ap (option_map turn) (d.none.1 h));
-  some = λ f. (
-    λ e. found f (first_failing ts) refl (sym (first-mapped turn ts) ∙ e),
-    λ c. first-mapped turn ts ∙ ap (option_map turn) ((d.some c.0).1 c.2) ∙ ap Some (sym c.1),
-  );
-}
-  where
-    no_fault : (o : Option TestFault) → option_map turn o ≡ None → o ≡ None
-    no_fault None e = refl
-    no_fault (Some g) e = absurd (none-some (turn g) (sym e))
-
-    found : (f : TestFault) (o : Option TestFault) → first_failing ts ≡ o → option_map turn o ≡ Some f
-        → (g : TestFault) × (f ≡ turn g) × Comes g
-    found f None is e = absurd (none-some f e)
-    found f (Some g) is e = (g, sym (same_Some (turn g) f e), (d.some g).0 is)
 
 -- ---- all tests
 described : (v : TextVersion) (game : WeighedGame) (c : Certificate)
     → TestsDecide (tests_of v game c) (IsHeadOf game c.head × BoundsHoldUp game c.head.scale c.bounds) (TestFaultOf v game c)
-described version_one game c =
-    TestsDecide-append (head_tests game c.head) (tests_below_head game c.head.scale c.bounds) _ _ _ _ (head_described game c.head) (below_described game c.head.scale c.bounds)
-described version_two game c =
-    TestsDecide-append (head_tests_of version_two game c.head) (tests_below_head_of version_two game c.head.scale c.bounds) _ _ _ _ (head_described_two game c.head)
-    (mapped a_line_later (tests_below_head game c.head.scale c.bounds) _ _ (below_described game c.head.scale c.bounds))
+described versions.One game c =
+    TestsDecide-append (head_tests game c.head) (tests_below_head game (first_trace_line_of versions.One) c.head.scale c.bounds) _ _ _ _ (head_described game c.head)
+    (below_described game (first_trace_line_of versions.One) c.head.scale c.bounds)
+described versions.Two game c =
+    TestsDecide-append (head_tests_of versions.Two game c.head) (tests_below_head game (first_trace_line_of versions.Two) c.head.scale c.bounds) _ _ _ _ (head_described_two game c.head)
+    (below_described game (first_trace_line_of versions.Two) c.head.scale c.bounds)
 
 -- ---- from tests to the verdict
 accepted_by : (bounds : Option PrintedBounds) (o : Option TestFault) (shown : Verdict) → decided_by bounds o ≡ Ok shown
@@ -221,8 +197,8 @@ same_bracket (Some a) (Some b) =
     (Decides-and (is_same_fraction a.low b.low) (is_same_fraction a.high b.high) (same_fraction a.low b.low) (same_fraction a.high b.high))
 
 -- what judging the second bracket gives, where that is the one the sum leaves and where it isn't
-abbrev last_of : Bool → Verdict → Result Verdict VersionedFault
-last_of bad shown = cond bad (Err second_differs) (Ok shown)
+abbrev last_of : Bool → Verdict → Result Verdict TestFault
+last_of bad shown = cond bad (Err SecondDiffers) (Ok shown)
 
 abbrev is_bad : VersionedCertificate → Bool
 is_bad c = has_second c.version && not (is_same_bracket c.second (second_of c.certificate))
@@ -232,8 +208,8 @@ good : (c : VersionedCertificate) → HasItsSecond c → is_bad c ≡ false
 good c has = by c.version refl
   where
     by : (v : TextVersion) → c.version ≡ v → (has_second v && not (is_same_bracket c.second (second_of c.certificate))) ≡ false
-    by version_one is = refl
-    by version_two is = ap not ((same_bracket c.second (second_of c.certificate)).1 (has is))
+    by versions.One is = refl
+    by versions.Two is = ap not ((same_bracket c.second (second_of c.certificate)).1 (has is))
 
 not_bad : (c : VersionedCertificate) → is_bad c ≡ false → HasItsSecond c
 not_bad c ok is =
@@ -244,14 +220,14 @@ not_bad c ok is =
     by true e = refl
     by false e = absurd (false≢true (sym e))
 
-bad : (c : VersionedCertificate) → is_bad c ≡ true → (c.version ≡ version_two) × (¬ (c.second ≡ second_of c.certificate))
+bad : (c : VersionedCertificate) → is_bad c ≡ true → (c.version ≡ versions.Two) × (¬ (c.second ≡ second_of c.certificate))
 bad c e = by c.version refl
   where
-    by : (v : TextVersion) → c.version ≡ v → (c.version ≡ version_two) × (¬ (c.second ≡ second_of c.certificate))
-    by version_one is = absurd (false≢true (ap (λ v. has_second v && not (is_same_bracket c.second (second_of c.certificate))) (sym is) ∙ e))
-    by version_two is = (is, λ same. false≢true (sym (good c (λ two. same)) ∙ e))
+    by : (v : TextVersion) → c.version ≡ v → (c.version ≡ versions.Two) × (¬ (c.second ≡ second_of c.certificate))
+    by versions.One is = absurd (false≢true (ap (λ v. has_second v && not (is_same_bracket c.second (second_of c.certificate))) (sym is) ∙ e))
+    by versions.Two is = (is, λ same. false≢true (sym (good c (λ two. same)) ∙ e))
 
-is_bad_with : (c : VersionedCertificate) → c.version ≡ version_two → ¬ (c.second ≡ second_of c.certificate) → is_bad c ≡ true
+is_bad_with : (c : VersionedCertificate) → c.version ≡ versions.Two → ¬ (c.second ≡ second_of c.certificate) → is_bad c ≡ true
 is_bad_with c two other = by (is_bad c) refl
   where
     by : (t : Bool) → is_bad c ≡ t → t ≡ true
@@ -268,22 +244,16 @@ ok_of c (Ok found) shown e = (let p = by (is_bad c) refl e in (ap Ok p.0, p.1))
     by true is e = absurd cc
     by false is e = (let same : found ≡ shown = cc in same, is)
 
-test_of : (c : VersionedCertificate) (r : Result Verdict TestFault) (f : TestFault) → judged_with c r ≡ Err (of_tests f)
-    → r ≡ Err f
-test_of c (Err g) f e = let same : g ≡ f = cc in ap Err same
-test_of c (Ok found) f e = by (is_bad c) e
+-- a fault is that of a test, or the second bracket's where all tests pass
+fault_of : (c : VersionedCertificate) (r : Result Verdict TestFault) (f : TestFault) → judged_with c r ≡ Err f
+    → (r ≡ Err f) ⊎ ((f ≡ SecondDiffers) × ((shown : Verdict) × (r ≡ Ok shown)) × (is_bad c ≡ true))
+fault_of c (Err g) f e = inl e
+fault_of c (Ok found) f e = by (is_bad c) refl e
   where
-    by : (t : Bool) → last_of t found ≡ Err (of_tests f) → Ok found ≡ Err f
-    by true e = absurd cc
-    by false e = absurd cc
-
-second_is : (c : VersionedCertificate) (r : Result Verdict TestFault) → judged_with c r ≡ Err second_differs
-    → ((shown : Verdict) × (r ≡ Ok shown)) × (is_bad c ≡ true)
-second_is c (Err g) e = absurd cc
-second_is c (Ok found) e = ((found, refl), by (is_bad c) refl e)
-  where
-    by : (t : Bool) → is_bad c ≡ t → last_of t found ≡ Err second_differs → is_bad c ≡ true
-    by true is e = is
+    by : (t : Bool) → is_bad c ≡ t → last_of t found ≡ Err f
+        → ◌≡◌ {A = Result Verdict TestFault} (Ok found) (Err f)
+        ⊎ ((f ≡ SecondDiffers) × ((shown : Verdict) × ◌≡◌ {A = Result Verdict TestFault} (Ok found) (Ok shown)) × (is_bad c ≡ true))
+    by true is e = inr ((let same : SecondDiffers ≡ f = cc in sym same), (found, refl), is)
     by false is e = absurd cc
 
 accepted_from : (game : WeighedGame) (c : VersionedCertificate) (shown : Verdict) → verdict_by c.version game c.certificate ≡ Ok shown
@@ -293,52 +263,56 @@ accepted_from game c shown e has = ap (judged_with c) e ∙ ap (λ t. last_of t 
 -- both versions accept the same, and version 2 that alone whose second bracket is what the sum leaves
 pub accept_alike : VersionsAcceptAlike
 accept_alike game c shown = (
-  λ e. (let a = ok_of c (verdict_by c.version game c.certificate) shown e in (alike c.version version_one game c.certificate shown a.0, not_bad c a.1)),
-  λ h. accepted_from game c shown (alike version_one c.version game c.certificate shown h.0) h.1,
+  λ e. (let a = ok_of c (verdict_by c.version game c.certificate) shown e in (alike c.version versions.One game c.certificate shown a.0, not_bad c a.1)),
+  λ h. accepted_from game c shown (alike versions.One c.version game c.certificate shown h.0) h.1,
 )
 
 -- each fault comes exactly where its cause is there
 pub versioned_causes : EachVersionedFaultHasItsCause
-versioned_causes = record {
-  of_test = λ game c fault.
-      let d = described c.version game c.certificate in (
-        λ e. (d.some fault).0 (refused_by c.certificate.bounds (first_failing (tests_of c.version game c.certificate)) fault (test_of c (verdict_by c.version game c.certificate) fault e)),
-        λ why. ap (λ o. judged_with c (decided_by c.certificate.bounds o)) ((d.some fault).1 why),
-      );
-  second = λ game c. (
-    λ e.
-        let a = second_is c (verdict_by c.version game c.certificate) e in
-        let b = bad c a.1 in
-        (b.0, (a.0.0, alike c.version version_one game c.certificate a.0.0 a.0.1), b.1),
-    λ h. ap (judged_with c) (alike version_one c.version game c.certificate h.1.0 h.1.1) ∙ ap (λ t. last_of t h.1.0) (is_bad_with c h.0 h.2),
-  );
-}
+versioned_causes game c fault = (caused_by, ⊎_elim of_test of_second)
+  where
+    caused_by : versioned_verdict game c ≡ Err fault → TestFaultOf c.version game c.certificate fault ⊎ IsSecondFault game c fault
+    caused_by e =
+        ⊎_elim
+        (λ test. inl (((described c.version game c.certificate).some fault).0
+        (refused_by c.certificate.bounds (first_failing (tests_of c.version game c.certificate)) fault test)))
+        (λ s.
+        let b = bad c s.2 in
+        inr (record { is = s.0; of_two = b.0; shown = s.1.0; passes = alike c.version versions.One game c.certificate s.1.0 s.1.1; differs = b.1 }))
+        (fault_of c (verdict_by c.version game c.certificate) fault e)
+
+    of_test : TestFaultOf c.version game c.certificate fault → versioned_verdict game c ≡ Err fault
+    of_test why = ap (λ o. judged_with c (decided_by c.certificate.bounds o)) (((described c.version game c.certificate).some fault).1 why)
+
+    of_second : IsSecondFault game c fault → versioned_verdict game c ≡ Err fault
+    of_second s =
+        ap (judged_with c) (alike versions.One c.version game c.certificate s.shown s.passes)
+        ∙ ap (λ t. last_of t s.shown) (is_bad_with c s.of_two s.differs)
+        ∙ ap Err (sym s.is)
 
 -- the upgrade is accepted with the same verdict, and is the certificate itself where that is of version 2
 pub upgrades : UpgradesAreAccepted
 upgrades = record {
   of_two = λ c. refl;
   same = λ c. refl;
-  same_verdict = λ game c shown e. accepted_from game (upgraded c) shown (alike version_one version_two game c.certificate shown ((accept_alike game c shown).0 e).0) (λ two. refl);
+  same_verdict = λ game c shown e. accepted_from game (upgraded c) shown (alike versions.One versions.Two game c.certificate shown ((accept_alike game c shown).0 e).0) (λ two. refl);
   itself = λ game c shown e two.
       let second = ((accept_alike game c shown).0 e).1 two in
       λ i. record { version = sym two i; certificate = c.certificate; second = sym second i };
 }
 
--- a certificate of version 1 keeps its verdict
+-- in a text of version 1 a certificate has the verdict on what it says
 pub old_verdicts : OldVerdictsStay
 old_verdicts = record {
   accepted = λ game c shown. (
     λ e. ((accept_alike game (in_version_one c) shown).0 e).0,
     λ e. (accept_alike game (in_version_one c) shown).1 (e, λ two. absurd (one_two two)),
   );
-  refused = λ game c fault. (λ e. by game c fault (verdict game c) refl e, λ h. ap (judged_with (in_version_one c)) h.2 ∙ ap Err (sym h.1));
+  refused = λ game c fault. (
+    λ e. ⊎_elim (λ test. test) (λ s. absurd (one_two (bad (in_version_one c) s.2).0)) (fault_of (in_version_one c) (verdict game c) fault e),
+    λ e. ap (judged_with (in_version_one c)) e,
+  );
 }
   where
-    one_two : version_one ≡ version_two → ⊥
+    one_two : versions.One ≡ versions.Two → ⊥
     one_two e = cc
-
-    by : (game : WeighedGame) (c : Certificate) (fault : VersionedFault) (r : Result Verdict TestFault) → verdict game c ≡ r
-        → judged_with (in_version_one c) r ≡ Err fault → (found : TestFault) × (fault ≡ of_tests found) × (verdict game c ≡ Err found)
-    by game c fault (Ok shown) is e = absurd cc
-    by game c fault (Err found) is e = (found, let same : of_tests found ≡ fault = cc in sym same, is)

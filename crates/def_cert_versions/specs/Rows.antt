@@ -4,6 +4,7 @@ use Rattle.def_fraction.specs.Fraction.{Fraction, negative_of, over}
 use Rattle.def_plan.specs.Form.{weighted}
 use Rattle.def_plan.specs.Weighed.{WeighedGame}
 use Rattle.def_reply.specs.Outcome.{Head}
+use Rattle.def_cert_verdict.specs.declared.fault.TestFault.{TestFault}
 use Rattle.def_cert_verdict.specs.Changes.{Change, changed}
 use Rattle.def_cert_verdict.specs.Laws.{with_bounds}
 use Rattle.def_cert_verdict.specs.Pennies.{scale_one_bounds, scale_one_head}
@@ -11,7 +12,7 @@ use Rattle.def_cert_verdict.specs.Verdict.{Verdict}
 use Rattle.def_cert_text.specs.Laws.{with_second}
 use Rattle.def_cert_text.specs.Versions.{VersionedCertificate, in_version_one}
 use Rattle.def_cert_text.specs.VersionTexts.{bracket_of, shared_bounds, shared_head}
-use Rattle.def_cert_versions.specs.Verdict.{VersionedFault, versioned_verdict}
+use Rattle.def_cert_versions.specs.Verdict.{versioned_verdict}
 
 -- chance deals one of two cards, of which player two doesn't see any; all leaves pay both players together -5/6
 abbrev pub shared_game : WeighedGame
@@ -33,18 +34,18 @@ shared_in_one head changes = in_version_one (with_bounds head (changed shared_bo
 abbrev pub shared_in_two : Head → List Change → Fraction → Fraction → VersionedCertificate
 shared_in_two head changes low high = with_second head (changed shared_bounds changes) (bracket_of low high)
 
-abbrev pub verdict_in_one : Head → List Change → Result Verdict VersionedFault
+abbrev pub verdict_in_one : Head → List Change → Result Verdict TestFault
 verdict_in_one head changes = versioned_verdict shared_game (shared_in_one head changes)
 
 -- with the second bracket that the sum leaves of the unchanged bounds
-abbrev pub verdict_in_two : Head → List Change → Result Verdict VersionedFault
+abbrev pub verdict_in_two : Head → List Change → Result Verdict TestFault
 verdict_in_two head changes = versioned_verdict shared_game (shared_in_two head changes (over (negative_of 1) 1) (over (negative_of 5) 6))
 
 -- with another second bracket
-abbrev pub verdict_on_second : Fraction → Fraction → Result Verdict VersionedFault
+abbrev pub verdict_on_second : Fraction → Fraction → Result Verdict TestFault
 verdict_on_second low high = versioned_verdict shared_game (shared_in_two shared_head [] low high)
 
-abbrev pub verdict_beside_other_second : Head → List Change → Result Verdict VersionedFault
+abbrev pub verdict_beside_other_second : Head → List Change → Result Verdict TestFault
 verdict_beside_other_second head changes = versioned_verdict shared_game (shared_in_two head changes (over (negative_of 1) 1) (over (pos 37) 6))
 
 -- two rounds of matching pennies, some fields changed

@@ -11,7 +11,7 @@ use Rattle.def_cert_verdict.specs.Verdict.{Verdict, verdict}
 use Rattle.def_cert_verdict.specs.Laws.{IsHeadOf}
 use Rattle.def_cert_accepted.specs.OfOutcome.{certificate_of}
 use Rattle.def_cert_text.specs.Versions.{in_version_one}
-use Rattle.def_cert_text.specs.CertText.{cert_text, versioned_in, versioned_text}
+use Rattle.def_cert_text.specs.CertText.{versioned_in, versioned_text}
 use Rattle.def_cert_versions.specs.Verdict.{upgraded, versioned_verdict}
 use Rattle.def_cert_versions.specs.Upgrade.{HasWholeSum}
 
@@ -19,7 +19,7 @@ use Rattle.def_cert_versions.specs.Upgrade.{HasWholeSum}
 pub record IsAcceptedInBoth (game : WeighedGame) (c : Certificate) : Type 0 where
   pub shown : Verdict
   pub accepted : verdict game c ≡ Ok shown
-  pub old_text : versioned_in (cert_text c) ≡ Ok (in_version_one c)
+  pub old_text : versioned_in (versioned_text (in_version_one c)) ≡ Ok (in_version_one c)
   pub old_verdict : versioned_verdict game (in_version_one c) ≡ Ok shown
   pub new_text : versioned_in (versioned_text (upgraded (in_version_one c))) ≡ Ok (upgraded (in_version_one c))
   pub new_verdict : versioned_verdict game (upgraded (in_version_one c)) ≡ Ok shown

@@ -1,5 +1,5 @@
 -- Upgrading within the ranges: what it needs of a certificate, and that what is accepted has it.
---     HasWholeSum game     the unit times the sum is whole, and within the limit
+--     IsWholeIn unit f     the fraction times the unit is whole, and within the limit
 --     IsUpgradable c       what the second bracket of the upgrade needs to be within its ranges
 use Rattle.std.specs.Prelude.{◌≡◌, ℕ, ◌*◌, ◌≤◌, List, unsigned_abs, Option, Some, None, Ok}
 use Rattle.std.specs.Int.{◌∣◌}
@@ -10,7 +10,8 @@ use Rattle.def_plan.specs.Form.{AreInOrder}
 use Rattle.def_plan.specs.Weighed.{WeighedGame}
 use Rattle.def_cert_verdict.specs.Certificate.{PrintedBounds}
 use Rattle.def_cert_verdict.specs.Verdict.{Verdict}
-use Rattle.def_cert_text.specs.Versions.{VersionedCertificate, VersionedFits, version_two}
+use Rattle.def_cert_text.specs.Versions.{VersionedCertificate, VersionedFits}
+use Rattle.def_cert_text.specs.declared.version.TextVersion.TheVariants as versions
 use Rattle.def_cert_text.specs.CertText.{versioned_in, versioned_text}
 use Rattle.def_cert_versions.specs.Verdict.{upgraded, versioned_verdict}
 use Rattle.def_cert_versions.specs.Laws.{HasItsSecond}
@@ -21,9 +22,12 @@ abbrev pub IsSmallTimes : ℕ → Fraction → Type 0
 IsSmallTimes unit f = unsigned_abs f.num * unit ≤ most * f.den
 
 -- ---- the game
-pub record HasWholeSum (game : WeighedGame) : Type 0 where
-  pub whole : game.sum.den ∣ game.unit
-  pub small : IsSmallTimes game.unit game.sum
+pub record IsWholeIn (unit : ℕ) (f : Fraction) : Type 0 where
+  pub whole : f.den ∣ unit
+  pub small : IsSmallTimes unit f
+
+abbrev pub HasWholeSum : WeighedGame → Type 0
+HasWholeSum game = IsWholeIn game.unit game.sum
 
 abbrev pub FaultlessGamesHaveWholeSums : Type 0
 FaultlessGamesHaveWholeSums = (game : GameFile) → IsFaultless game → HasWholeSum (weighed_game game)
@@ -38,8 +42,7 @@ EndsTurn unit None = Unit {0}
 EndsTurn unit (Some b) = EndTurns unit b.plan_one.root b.low × EndTurns unit b.plan_two.root b.high
 
 pub record IsUpgradable (c : VersionedCertificate) : Type 0 where
-  pub sum_whole : c.certificate.head.sum.den ∣ c.certificate.head.unit
-  pub sum_small : IsSmallTimes c.certificate.head.unit c.certificate.head.sum
+  pub sum_is : IsWholeIn c.certificate.head.unit c.certificate.head.sum
   pub ends : EndsTurn c.certificate.head.unit c.certificate.bounds
   pub second : HasItsSecond c
 
@@ -58,7 +61,7 @@ UpgradesFit = (c : VersionedCertificate) → VersionedFits c → IsUpgradable c 
 pub record IsUpgradedText (game : GameFile) (bytes : List ℕ) (c : VersionedCertificate) (shown : Verdict) : Type 0 where
   pub read : versioned_in (versioned_text (upgraded c)) ≡ Ok (upgraded c)
   pub accepted : versioned_verdict (weighed_game game) (upgraded c) ≡ Ok shown
-  pub itself : c.version ≡ version_two → versioned_text (upgraded c) ≡ bytes
+  pub itself : c.version ≡ versions.Two → versioned_text (upgraded c) ≡ bytes
 
 -- of a text that is accepted for a file's game
 abbrev pub UpgradedTextsAreAccepted : Type 0

@@ -27,7 +27,7 @@ pub fn upgrades_are_accepted()
     ensures { UpgradesAreAccepted }
 {}
 
-/// A certificate of version 1 has the same verdict among those of both versions.
+/// In a text of version 1 a certificate has the verdict on what it says, which is told without its version.
 pub fn old_verdicts_stay()
     ensures { OldVerdictsStay }
 {}
