@@ -3,26 +3,26 @@ use Rattle.std.specs.Prelude.{◌≡◌, ◌≢◌, ◌↔◌, ℕ, ◌≤◌, L
 use Rattle.def_file.specs.declared.FileFault.TheVariants.{TooLong}
 use Rattle.def_file.specs.Reading.{most_bytes}
 use Rattle.def_plan.specs.Form.{AreInOrder}
-use Rattle.def_cert_verdict.specs.Ranges.{CertificateFits}
-use Rattle.def_cert_verdict.specs.Certificate.{Certificate}
 use Rattle.def_plan.specs.Weighed.{WeighedGame}
-use Rattle.def_cert_verdict.specs.Verdict.{Verdict, head_only, verdict}
-use Rattle.def_cert_text.specs.CertText.{cert_text}
+use Rattle.def_cert_verdict.specs.Verdict.{Verdict, head_only}
+use Rattle.def_cert_text.specs.Versions.{VersionedCertificate, VersionedFits}
+use Rattle.def_cert_text.specs.CertText.{versioned_text}
+use Rattle.def_cert_versions.specs.Verdict.{versioned_verdict}
 use Rattle.def_check.specs.Check.{Refusal, checked, of_file}
 use Rattle.def_check.specs.Checking.{Checks}
 use Rattle.def_check.specs.Shown.{Shows, ShowsOfFile}
 
 -- what the verdict says is shown
 abbrev pub WhatIsAcceptedIsShown : Type 0
-WhatIsAcceptedIsShown = (game : WeighedGame) (c : Certificate) (shown : Verdict) → AreInOrder game.form.sets_one
-    → AreInOrder game.form.sets_two → 1 ≤ game.unit → CertificateFits c → verdict game c ≡ Ok shown
-    → Shows game (cert_text c) shown
+WhatIsAcceptedIsShown = (game : WeighedGame) (c : VersionedCertificate) (shown : Verdict)
+    → AreInOrder game.form.sets_one → AreInOrder game.form.sets_two → 1 ≤ game.unit → VersionedFits c
+    → versioned_verdict game c ≡ Ok shown → Shows game (versioned_text c) shown
 
 -- it is the head alone exactly where the certificate that the text says has no round
 abbrev pub HeadAloneExactlyWithoutRounds : Type 0
-HeadAloneExactlyWithoutRounds = (game : WeighedGame) (c : Certificate) (shown : Verdict) → CertificateFits c
-    → verdict game c ≡ Ok shown → (d : Certificate) → CertificateFits d → cert_text c ≡ cert_text d
-    → (shown ≡ head_only) ↔ (d.head.rounds ≡ 0)
+HeadAloneExactlyWithoutRounds = (game : WeighedGame) (c : VersionedCertificate) (shown : Verdict) → VersionedFits c
+    → versioned_verdict game c ≡ Ok shown → (d : VersionedCertificate) → VersionedFits d
+    → versioned_text c ≡ versioned_text d → (shown ≡ head_only) ↔ (d.certificate.head.rounds ≡ 0)
 
 -- of a file that isn't too long, what is computed of the bytes is what the words say
 abbrev pub ChecksAreComputed : Type 0

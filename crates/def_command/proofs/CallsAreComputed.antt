@@ -6,7 +6,7 @@ use Rattle.def_sums.specs.Limits.{least_cards, most_cards}
 use Rattle.def_fraction.proofs.LiteralLemmas.{option_map_some}
 use Rattle.def_command.specs.Table as table
 use Rattle.def_command.specs.Table.{CommandName, OptionName, Rounds, Every, Scale, Workers, plain_count}
-use Rattle.def_command.specs.Grammar.{Settings, Command, Solve, Check, Info, Gen, Drill, Argument, Taken, takes_nothing, IsCall, IsCommand, number_so_far, number_given, number_from_to, plain_words, settings_from, settings_in, settings_of, workers_of, with_one, with_two, read_words, command_from, command_named, command_of_words}
+use Rattle.def_command.specs.Grammar.{Settings, Command, Solve, Check, Upgrade, Info, Gen, Drill, Argument, Taken, takes_nothing, IsCall, IsCommand, IsOfTwo, number_so_far, number_given, number_from_to, plain_words, settings_from, settings_in, settings_of, workers_of, with_one, with_two, read_words, command_from, command_named, command_of_words}
 use Rattle.def_command.proofs.CommandAndOptionNames.{and_then_some, command_found, command_by_word}
 use Rattle.def_command.proofs.Arguments.{Merges, merges, taken_all}
 use Rattle.def_command.proofs.WordByWord.{number_is_read, number_read, arguments_are_read, arguments_read}
@@ -17,12 +17,12 @@ one_word_made make [] command is = absurd (none-some command is)
 one_word_made make (word ∷ []) command is = (word, refl, is)
 one_word_made make (word ∷ second ∷ words) command is = absurd (none-some command is)
 
-two_words_made : (make : List ℕ → List ℕ → Option Command) (words : List (List ℕ)) (command : Command)
+two_words_made : (make : List ℕ → List ℕ → Command) (words : List (List ℕ)) (command : Command)
     → with_two make words ≡ Some command
-    → (word : List ℕ) × (second : List ℕ) × (words ≡ word ∷ second ∷ []) × (make word second ≡ Some command)
+    → (word : List ℕ) × (second : List ℕ) × (words ≡ word ∷ second ∷ []) × (command ≡ make word second)
 two_words_made make [] command is = absurd (none-some command is)
 two_words_made make (word ∷ []) command is = absurd (none-some command is)
-two_words_made make (word ∷ second ∷ []) command is = (word, second, refl, is)
+two_words_made make (word ∷ second ∷ []) command is = (word, second, refl, sym (same_Some _ _ is))
 two_words_made make (word ∷ second ∷ third ∷ words) command is = absurd (none-some command is)
 
 -- what was taken is what the arguments say
@@ -49,16 +49,21 @@ module _ (arguments : List Argument) (taken : Taken) (plain : taken.plain ≡ pl
   same_drill cards = ap (λ (s : Settings). Drill cards s taken.numbers.workers) same_settings
       ∙ ap (Drill cards (settings_of arguments)) same_workers
 
+  made_of_two : (make : List ℕ → List ℕ → Command) (command : Command) → with_two make taken.plain ≡ Some command
+      → (length (plain_words arguments) ≡ 2) × IsOfTwo make arguments command
+  made_of_two make command is =
+      let (file, certificate, words, made) = two_words_made make taken.plain command is in
+      let both : plain_words arguments ≡ file ∷ certificate ∷ [] = sym plain ∙ words in
+      (ap length both, (file, certificate, both, made))
+
   pub made_is_call : (name : CommandName) (command : Command) → command_from name taken ≡ Some command
       → (length (plain_words arguments) ≡ plain_count name) × IsCommand name arguments command
   made_is_call table.Solve command is =
       let (file, words, made) = one_word_made _ taken.plain command is in
       let alone : plain_words arguments ≡ file ∷ [] = sym plain ∙ words in
       (ap length alone, (file, alone, sym (same_Some _ _ made) ∙ same_solve file))
-  made_is_call table.Check command is =
-      let (file, certificate, words, made) = two_words_made _ taken.plain command is in
-      let both : plain_words arguments ≡ file ∷ certificate ∷ [] = sym plain ∙ words in
-      (ap length both, (file, certificate, both, sym (same_Some _ _ made)))
+  made_is_call table.Check command is = made_of_two Check command is
+  made_is_call table.Upgrade command is = made_of_two Upgrade command is
   made_is_call table.Info command is =
       let (file, words, made) = one_word_made _ taken.plain command is in
       let alone : plain_words arguments ≡ file ∷ [] = sym plain ∙ words in
@@ -84,14 +89,18 @@ module _ (arguments : List Argument) (taken : Taken) (plain : taken.plain ≡ pl
         ),
       )
 
+  two_made : (make : List ℕ → List ℕ → Command) (command : Command) → IsOfTwo make arguments command
+      → with_two make taken.plain ≡ Some command
+  two_made make command (file, certificate, both, is) = ap (with_two make) (plain ∙ both) ∙ ap Some (sym is)
+
   pub command_made : (name : CommandName) (command : Command) → IsCommand name arguments command
       → command_from name taken ≡ Some command
   command_made table.Solve command (file, alone, is) =
       ap (with_one (λ f. Some (Solve f (settings_in taken.numbers) taken.numbers.workers)))
       (plain ∙ alone)
       ∙ ap Some (same_solve file ∙ sym is)
-  command_made table.Check command (file, certificate, both, is) =
-      ap (with_two (λ f c. Some (Check f c))) (plain ∙ both) ∙ ap Some (sym is)
+  command_made table.Check command is = two_made Check command is
+  command_made table.Upgrade command is = two_made Upgrade command is
   command_made table.Info command (file, alone, is) =
       ap (with_one (λ f. Some (Info f))) (plain ∙ alone) ∙ ap Some (sym is)
   command_made table.Gen command (word, cards, alone, number, is) =

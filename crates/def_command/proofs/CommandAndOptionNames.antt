@@ -9,7 +9,7 @@ use Rattle.std.proofs.lemmas.Slice.Eq.{slice_eq-Decides}
 use Rattle.def_sums.proofs.RisingLists.{Contains-tail}
 use Rattle.def_fraction.proofs.LiteralLemmas.{option_map_some}
 use Rattle.def_command.specs.Words.{is_option, is_word}
-use Rattle.def_command.specs.Table.{CommandName, OptionName, Solve, Check, Info, Gen, Drill, Rounds, Every, Scale, Workers, command_word, option_name, built_commands, built_options}
+use Rattle.def_command.specs.Table.{CommandName, OptionName, Solve, Check, Upgrade, Info, Gen, Drill, Rounds, Every, Scale, Workers, command_word, option_name, built_commands, built_options}
 use Rattle.def_command.specs.Grammar.{command_named, option_named, around_equals}
 
 -- ---- lists
@@ -59,8 +59,9 @@ option_found word option is =
 pub command_by_word : (name : CommandName) → Contains built_commands name
     → command_named (command_word name) ≡ Some name
 command_by_word Solve built = refl
-command_by_word Info built = refl
 command_by_word Check built = refl
+command_by_word Upgrade built = refl
+command_by_word Info built = refl
 command_by_word Gen built = refl
 command_by_word Drill built = refl
 

@@ -94,6 +94,7 @@ module _ (arguments : List Argument) (words : List (List ℕ)) (spelled : AreSpe
       let same_workers : workers ≡ workers_of arguments = cc in
       like_arguments settings workers same_settings same_workers
   solve_in_range table.Check file settings workers (other, certificate, both, is) = absurd cc
+  solve_in_range table.Upgrade file settings workers (other, certificate, both, is) = absurd cc
   solve_in_range table.Info file settings workers (other, alone, is) = absurd cc
   solve_in_range table.Gen file settings workers (word, cards, alone, number, is) = absurd cc
   solve_in_range table.Drill file settings workers (word, cards, alone, number, is) = absurd cc
@@ -105,6 +106,7 @@ module _ (arguments : List Argument) (words : List (List ℕ)) (spelled : AreSpe
       let same_workers : workers ≡ workers_of arguments = cc in
       like_arguments settings workers same_settings same_workers
   drill_in_range table.Check cards settings workers (other, certificate, both, is) = absurd cc
+  drill_in_range table.Upgrade cards settings workers (other, certificate, both, is) = absurd cc
   drill_in_range table.Info cards settings workers (other, alone, is) = absurd cc
   drill_in_range table.Gen cards settings workers (word, others, alone, number, is) = absurd cc
   drill_in_range table.Solve cards settings workers (other, alone, is) = absurd cc
@@ -127,6 +129,7 @@ gen_cards arguments table.Gen cards (word, others, alone, number, is) =
     subst CardsInRange same (record { some = number.from; few = number.to })
 gen_cards arguments table.Solve cards (other, alone, is) = absurd cc
 gen_cards arguments table.Check cards (other, certificate, both, is) = absurd cc
+gen_cards arguments table.Upgrade cards (other, certificate, both, is) = absurd cc
 gen_cards arguments table.Info cards (other, alone, is) = absurd cc
 gen_cards arguments table.Drill cards (word, others, alone, number, is) = absurd cc
 
@@ -137,6 +140,7 @@ drill_cards arguments table.Drill cards settings workers (word, others, alone, n
     subst CardsInRange same (record { some = number.from; few = number.to })
 drill_cards arguments table.Solve cards settings workers (other, alone, is) = absurd cc
 drill_cards arguments table.Check cards settings workers (other, certificate, both, is) = absurd cc
+drill_cards arguments table.Upgrade cards settings workers (other, certificate, both, is) = absurd cc
 drill_cards arguments table.Info cards settings workers (other, alone, is) = absurd cc
 drill_cards arguments table.Gen cards settings workers (word, others, alone, number, is) = absurd cc
 

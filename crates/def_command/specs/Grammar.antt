@@ -21,6 +21,7 @@ pub record Settings : Type 0 where
 pub data Command : Type 0 where
   Solve : (file : List ℕ) (settings : Settings) (workers : Option ℕ) → Command
   Check : (file certificate : List ℕ) → Command
+  Upgrade : (file certificate : List ℕ) → Command
   Info : (file : List ℕ) → Command
   Gen : (cards : ℕ) → Command
   Drill : (cards : ℕ) (settings : Settings) (workers : Option ℕ) → Command
@@ -99,12 +100,17 @@ settings_of arguments =
 abbrev pub workers_of : List Argument → Option ℕ
 workers_of arguments = number_given Workers arguments
 
+-- a file and a certificate alone, and the command that is made of both
+abbrev pub IsOfTwo : (List ℕ → List ℕ → Command) → List Argument → Command → Type 0
+IsOfTwo make arguments command = (file : List ℕ) × (certificate : List ℕ)
+    × (plain_words arguments ≡ file ∷ certificate ∷ []) × (command ≡ make file certificate)
+
 -- what a command is with these arguments
 abbrev pub IsCommand : CommandName → List Argument → Command → Type 0
 IsCommand table.Solve arguments command = (file : List ℕ) × (plain_words arguments ≡ file ∷ [])
     × (command ≡ Solve file (settings_of arguments) (workers_of arguments))
-IsCommand table.Check arguments command = (file : List ℕ) × (certificate : List ℕ)
-    × (plain_words arguments ≡ file ∷ certificate ∷ []) × (command ≡ Check file certificate)
+IsCommand table.Check arguments command = IsOfTwo Check arguments command
+IsCommand table.Upgrade arguments command = IsOfTwo Upgrade arguments command
 IsCommand table.Info arguments command = (file : List ℕ) × (plain_words arguments ≡ file ∷ []) × (command ≡ Info file)
 IsCommand table.Gen arguments command = (word : List ℕ) × (cards : ℕ) × (plain_words arguments ≡ word ∷ [])
     × IsNumberFromTo least_cards most_cards word cards × (command ≡ Gen cards)
@@ -206,10 +212,10 @@ with_one make [] = None
 with_one make (word ∷ []) = make word
 with_one make (word ∷ second ∷ words) = None
 
-abbrev pub with_two : (List ℕ → List ℕ → Option Command) → List (List ℕ) → Option Command
+abbrev pub with_two : (List ℕ → List ℕ → Command) → List (List ℕ) → Option Command
 with_two make [] = None
 with_two make (word ∷ []) = None
-with_two make (word ∷ second ∷ []) = make word second
+with_two make (word ∷ second ∷ []) = Some (make word second)
 with_two make (word ∷ second ∷ third ∷ words) = None
 
 abbrev pub settings_in : NumbersSoFar → Settings
@@ -218,7 +224,8 @@ settings_in numbers = settings_from numbers.rounds numbers.every numbers.scale
 abbrev pub command_from : CommandName → Taken → Option Command
 command_from table.Solve taken =
     with_one (λ file. Some (Solve file (settings_in taken.numbers) taken.numbers.workers)) taken.plain
-command_from table.Check taken = with_two (λ file certificate. Some (Check file certificate)) taken.plain
+command_from table.Check taken = with_two Check taken.plain
+command_from table.Upgrade taken = with_two Upgrade taken.plain
 command_from table.Info taken = with_one (λ file. Some (Info file)) taken.plain
 command_from table.Gen taken =
     with_one (λ word. option_map Gen (number_from_to least_cards most_cards word)) taken.plain
@@ -236,6 +243,7 @@ command_of_words (word ∷ words) =
 abbrev pub file_words : Command → List (List ℕ)
 file_words (Solve file settings workers) = file ∷ []
 file_words (Check file certificate) = file ∷ certificate ∷ []
+file_words (Upgrade file certificate) = file ∷ certificate ∷ []
 file_words (Info file) = file ∷ []
 file_words (Gen cards) = []
 file_words (Drill cards settings workers) = []

@@ -1,6 +1,6 @@
 -- Worked rows: words that are taken, with their command, and words that aren't.
 use Rattle.std.specs.Prelude.{◌≡◌, ℕ, List, [], ◌∷◌, Option, Some, None, codes}
-use Rattle.def_command.specs.Grammar.{Command, Solve, Check, Info, Gen, Drill, command_of_words}
+use Rattle.def_command.specs.Grammar.{Command, Solve, Check, Upgrade, Info, Gen, Drill, command_of_words}
 
 abbrev file : List ℕ
 file = codes "F1"
@@ -25,6 +25,7 @@ pub record TakenRows : Type 0 where
   pub workers : solve_with (codes "--workers=64" ∷ codes "--rounds" ∷ codes "1" ∷ [])
       ≡ Some (Solve file (record { rounds = 1; every = 1; scale = 1048576 }) (Some 64))
   pub check : command_of_words (codes "check" ∷ file ∷ codes "C1" ∷ []) ≡ Some (Check file (codes "C1"))
+  pub upgrade : command_of_words (codes "upgrade" ∷ file ∷ codes "C1" ∷ []) ≡ Some (Upgrade file (codes "C1"))
   pub gen : command_of_words (codes "gen" ∷ codes "007" ∷ []) ≡ Some (Gen 7)
   pub drill : command_of_words (codes "drill" ∷ codes "--rounds=1" ∷ codes "3" ∷ codes "--workers" ∷ codes "2" ∷ [])
       ≡ Some (Drill 3 (record { rounds = 1; every = 1; scale = 1048576 }) (Some 2))
@@ -41,6 +42,9 @@ pub record RefusedRows : Type 0 where
   pub two_decks : command_of_words (codes "drill" ∷ codes "3" ∷ codes "4" ∷ []) ≡ None
   pub no_certificate : command_of_words (codes "check" ∷ file ∷ []) ≡ None
   pub check_with_option : command_of_words (codes "check" ∷ file ∷ file ∷ codes "--rounds=1" ∷ []) ≡ None
+  pub nothing_to_upgrade : command_of_words (codes "upgrade" ∷ file ∷ []) ≡ None
+  pub two_to_upgrade : command_of_words (codes "upgrade" ∷ file ∷ file ∷ file ∷ []) ≡ None
+  pub upgrade_with_option : command_of_words (codes "upgrade" ∷ file ∷ file ∷ codes "--rounds=1" ∷ []) ≡ None
   pub gen_with_option : command_of_words (codes "gen" ∷ codes "3" ∷ codes "--workers=1" ∷ []) ≡ None
   pub past_the_range : solve_with (codes "--rounds" ∷ codes "65537" ∷ []) ≡ None
   pub given_twice : solve_with (codes "--rounds" ∷ codes "1" ∷ codes "--rounds" ∷ codes "1" ∷ []) ≡ None

@@ -10,6 +10,7 @@ use Rattle.def_sums.specs.Limits.{most_rounds, most_scale, most_workers}
 pub data CommandName : Type 0 where
   Solve : CommandName
   Check : CommandName
+  Upgrade : CommandName
   Info : CommandName
   Gen : CommandName
   Drill : CommandName
@@ -21,7 +22,7 @@ pub data OptionName : Type 0 where
   Workers : OptionName
 
 abbrev pub built_commands : List CommandName
-built_commands = Solve ∷ Check ∷ Info ∷ Gen ∷ Drill ∷ []
+built_commands = Solve ∷ Check ∷ Upgrade ∷ Info ∷ Gen ∷ Drill ∷ []
 
 abbrev pub built_options : List OptionName
 built_options = Rounds ∷ Every ∷ Scale ∷ Workers ∷ []
@@ -30,6 +31,7 @@ built_options = Rounds ∷ Every ∷ Scale ∷ Workers ∷ []
 abbrev pub command_word : CommandName → List ℕ
 command_word Solve = codes "solve"
 command_word Check = codes "check"
+command_word Upgrade = codes "upgrade"
 command_word Info = codes "info"
 command_word Gen = codes "gen"
 command_word Drill = codes "drill"
@@ -37,6 +39,7 @@ command_word Drill = codes "drill"
 abbrev pub plain_count : CommandName → ℕ
 plain_count Solve = 1
 plain_count Check = 2
+plain_count Upgrade = 2
 plain_count Info = 1
 plain_count Gen = 1
 plain_count Drill = 1
@@ -44,6 +47,7 @@ plain_count Drill = 1
 abbrev pub takes : CommandName → OptionName → Bool
 takes Solve option = true
 takes Check option = false
+takes Upgrade option = false
 takes Info option = false
 takes Gen option = false
 takes Drill option = true

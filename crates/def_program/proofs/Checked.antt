@@ -1,6 +1,6 @@
 -- What an accepted certificate prints holds of the file's game.
 use Rattle.std.proofs.Common.{◌≡◌, ℕ, zero, suc, ◌+◌, ◌-◌, ◌≤◌, ◌<◌, Bool, true, false, nat_lt, length, List, Option, Some, None, Result, Ok, Err, refl, sym, ◌∙◌, ap, subst, arith}
-use Rattle.std.specs.Prelude.{IfSome, IsSomeAnd, slice_index_or}
+use Rattle.std.specs.Prelude.{IfSome, slice_index_or}
 use Rattle.std.proofs.lemmas.Bool.{ltb-true, ltb-false}
 use Rattle.def_outside.specs.Calls.{SinkCall, Wrote}
 use Rattle.def_tree.specs.declared.Kind.TheVariants.{One, Two}
@@ -20,19 +20,24 @@ use Rattle.def_cert_verdict.specs.Verdict.{Verdict, decided_by, first_failing, s
 use Rattle.def_cert_verdict.specs.Laws.{IsHeadOf, NeverWidens}
 use Rattle.def_cert_verdict.proofs.VerdictIsExact.{exact}
 use Rattle.def_cert_verdict.proofs.Shown.{accepted as shown}
+use Rattle.def_cert_text.specs.Versions.{VersionedCertificate}
+use Rattle.def_cert_text.specs.CertText.{versioned_text}
+use Rattle.def_cert_text.proofs.TextLaws.{versioned_reading}
+use Rattle.def_cert_versions.specs.Verdict.{upgraded}
+use Rattle.def_cert_versions.proofs.VersionedVerdict.{accept_alike}
 use Rattle.def_check.specs.Check.{Refusal, checked, most_cert_bytes}
-use Rattle.def_check.specs.Checking.{AreRead, Checks, failed, passed, refused, unreadable}
+use Rattle.def_check.specs.Checking.{AreRead, Checks, IsTextOf, failed, passed, refused, unreadable}
 use Rattle.def_check.proofs.Checked.{checks_are}
 use Rattle.def_game_numbers.specs.Weighed.{weighed_game}
 use Rattle.def_check.proofs.InNumbers.{sets_in_order, some_unit}
-use Rattle.def_command.specs.Grammar.{Check, Command, Drill, Gen, Info, Solve, command_of_words}
+use Rattle.def_command.specs.Grammar.{Check, Command, Drill, Gen, Info, Solve, Upgrade, command_of_words}
 use Rattle.def_program.specs.TextLines.{fault_line}
-use Rattle.def_program.specs.CheckLines.{cert_long_line, verdict_text}
+use Rattle.def_program.specs.CheckLines.{cert_long_line, check_text, upgrade_text, upgraded_text, verdict_text}
 use Rattle.def_program.specs.Program.{Answer, check_answer, refusal}
-use Rattle.def_program.specs.Meaning.{CheckMeans, IsMeant, Means, file_too_long, file_within, too_long, within}
+use Rattle.def_program.specs.Meaning.{BothMean, CheckMeans, IsMeant, Means, file_too_long, file_within, too_long, within}
 use Rattle.def_program.specs.Bounds.{BoundsHold}
-use Rattle.def_program.specs.Checked.{AreChecked, ForEachChecked, HoldsOfFile}
-use Rattle.def_program.specs.Laws.{AcceptedCertificatesHold}
+use Rattle.def_program.specs.Checked.{AreChecked, ForEachChecked, HoldsOfFile, checked_text}
+use Rattle.def_program.specs.Laws.{AcceptedCertificatesHold, UpgradesAreWritten}
 use Rattle.def_program.proofs.Bounds.{bounds_hold}
 
 -- ---- the trace
@@ -82,7 +87,7 @@ verdict_is game c found is = by_first (first_failing (tests game c)) is
     by_first None is = cc
     by_first (Some fault) is = absurd cc
 
-module _ (file bytes : List ℕ) (game : GameFile) (c : Certificate) (read : AreRead file bytes game c) where
+module _ (file bytes : List ℕ) (game : GameFile) (c : VersionedCertificate) (read : AreRead file bytes game c) where
   abbrev numbers : WeighedGame
   numbers = weighed_game game
 
@@ -113,10 +118,24 @@ certificates_hold file bytes shown (refused fault first same) = absurd cc
 certificates_hold file bytes shown (unreadable game is fault first same) = absurd cc
 certificates_hold file bytes shown (failed game c read fault fails same) = absurd cc
 certificates_hold file bytes shown (passed game c read found passes same) =
-    let is : shown_by c.bounds ≡ found = verdict_is (weighed_game game) c found passes in
+    let parts = (accept_alike (weighed_game game) c found).0 passes in
+    let is : shown_by c.certificate.bounds ≡ found = verdict_is (weighed_game game) c.certificate found parts.0 in
     let told : found ≡ shown = cc in
-    let both = of_certificate file bytes game c read c.head c.bounds read.text.fits (passes ∙ ap Ok (sym is)) in
-    record { game = game; certificate = c; read = read; head = both.0; verdict = is ∙ told; bounds = both.1 }
+    let both = of_certificate file bytes game c read c.certificate.head c.certificate.bounds read.text.fits.certificate
+    (parts.0 ∙ ap Ok (sym is)) in
+    record {
+      game = game;
+      certificate = c;
+      read = read;
+      head = both.0;
+      second = parts.1;
+      verdict = is ∙ told;
+      bounds = both.1;
+    }
+
+-- the text of the upgrade of what the bytes say
+pub upgraded_is : UpgradesAreWritten
+upgraded_is bytes c verdict is = ap upgrade_text ((versioned_reading bytes c).1 (is.fits, is.text))
 
 -- ---- where the answer that is meant was written
 one_zero : ◌≡◌ {A = ℕ} 1 0 → ⊥
@@ -128,60 +147,78 @@ module _ (words : List (List ℕ)) (told : List ℕ → Option (List ℕ)) (out 
   abbrev IsWritten : Answer → Type 0
   IsWritten answer = (answer.status ≡ 0) × Wrote out answer.text
 
-  abbrev IsShown : List ℕ → List ℕ → Type 0
-  IsShown file bytes = HoldsOfFile file bytes (λ verdict. Wrote out (verdict_text verdict)) Holds
-
   some_hold : (game : WeighedGame) (scale : ℕ) (o : Option PrintedBounds) → IfSome o (BoundsHold game scale)
       → IfSome o (Holds game scale)
   some_hold game scale None all = tt
   some_hold game scale (Some b) all = holds game scale b all
 
-  by_verdict : (file bytes : List ℕ) (found : Result Verdict Refusal) → Checks file bytes found
-      → IsWritten (check_answer found) → IsShown file bytes
-  by_verdict file bytes (Err why) checks wrote = absurd (one_zero wrote.0)
-  by_verdict file bytes (Ok shown) checks wrote =
-      let it = certificates_hold file bytes shown checks in
-      record {
-        game = it.game;
-        certificate = it.certificate;
-        read = it.read;
-        head = it.head;
-        verdict = subst (λ (v : Verdict). Wrote out (verdict_text v)) (sym it.verdict) wrote.1;
-        bounds = some_hold (weighed_game it.game) it.certificate.head.scale it.certificate.bounds it.bounds;
-      }
+  -- a text of bytes that are accepted, which is the same in the words of the certificate that they say
+  module _ (text : List ℕ → Verdict → List ℕ) (said : VersionedCertificate → Verdict → List ℕ)
+      (is_said : (bytes : List ℕ) (c : VersionedCertificate) (shown : Verdict) → IsTextOf bytes c
+      → text bytes shown ≡ said c shown) where
+    abbrev IsShown : List ℕ → List ℕ → Type 0
+    IsShown file bytes = HoldsOfFile file bytes (λ c verdict. Wrote out (said c verdict)) Holds
 
-  by_bytes : (file bytes : List ℕ) → ((answer : Answer) → CheckMeans file (Some bytes) answer → IsWritten answer)
-      → IsShown file bytes
-  by_bytes file bytes whole =
-      by_length (nat_lt most_bytes (length file)) (nat_lt most_cert_bytes (length bytes)) refl refl
-    where
-      by_length : (long longer : Bool) → nat_lt most_bytes (length file) ≡ long
-          → nat_lt most_cert_bytes (length bytes) ≡ longer → IsShown file bytes
-      by_length true longer is other = absurd (one_zero
-          (whole (refusal (fault_line TooLong)) (file_too_long (ltb-true most_bytes (length file) is) refl)).0)
-      by_length false true is other = absurd (one_zero
-          (whole (refusal cert_long_line) (file_within (ltb-false most_bytes (length file) is)
-          (too_long (ltb-true most_cert_bytes (length bytes) other) refl))).0)
-      by_length false false is other =
-          let short = ltb-false most_bytes (length file) is in
-          let found = checked file bytes in
-          let checks = (checks_are file bytes short found).1 refl in
-          by_verdict file bytes found checks (whole (check_answer found)
-          (file_within short (within (ltb-false most_cert_bytes (length bytes) other) found checks refl)))
+    by_verdict : (file bytes : List ℕ) (found : Result Verdict Refusal) → Checks file bytes found
+        → IsWritten (check_answer (text bytes) found) → IsShown file bytes
+    by_verdict file bytes (Err why) checks wrote = absurd (one_zero wrote.0)
+    by_verdict file bytes (Ok shown) checks wrote =
+        let it = certificates_hold file bytes shown checks in
+        record {
+          game = it.game;
+          certificate = it.certificate;
+          read = it.read;
+          head = it.head;
+          second = it.second;
+          verdict = subst (Wrote out) (ap (text bytes) (sym it.verdict)
+              ∙ is_said bytes it.certificate (shown_by it.certificate.certificate.bounds) it.read.text) wrote.1;
+          bounds = some_hold (weighed_game it.game) it.certificate.certificate.head.scale it.certificate.certificate.bounds
+              it.bounds;
+        }
+
+    by_bytes : (file bytes : List ℕ) → ((answer : Answer) → CheckMeans text file (Some bytes) answer → IsWritten answer)
+        → IsShown file bytes
+    by_bytes file bytes whole =
+        by_length (nat_lt most_bytes (length file)) (nat_lt most_cert_bytes (length bytes)) refl refl
+      where
+        by_length : (long longer : Bool) → nat_lt most_bytes (length file) ≡ long
+            → nat_lt most_cert_bytes (length bytes) ≡ longer → IsShown file bytes
+        by_length true longer is other = absurd (one_zero
+            (whole (refusal (fault_line TooLong)) (file_too_long (ltb-true most_bytes (length file) is) refl)).0)
+        by_length false true is other = absurd (one_zero
+            (whole (refusal cert_long_line) (file_within (ltb-false most_bytes (length file) is)
+            (too_long (ltb-true most_cert_bytes (length bytes) other) refl))).0)
+        by_length false false is other =
+            let short = ltb-false most_bytes (length file) is in
+            let found = checked file bytes in
+            let checks = (checks_are file bytes short found).1 refl in
+            by_verdict file bytes found checks (whole (check_answer (text bytes) found)
+            (file_within short (within (ltb-false most_cert_bytes (length bytes) other) found checks refl)))
+
+    -- of two files that are told
+    by_told : (file bytes : List ℕ) (first second : Option (List ℕ)) → (first ≡ Some file) × (second ≡ Some bytes)
+        → ((answer : Answer) → BothMean text first second answer → IsWritten answer) → IsShown file bytes
+    by_told file bytes first second are whole =
+        by_bytes file bytes (λ answer means. whole answer
+        (subst (λ (o : Option (List ℕ)). BothMean text o second answer) (sym are.0)
+        (subst (λ (o : Option (List ℕ)). CheckMeans text file o answer) (sym are.1) means)))
 
   by_command : (command : Option Command) → ((answer : Answer) → IsMeant command told answer → IsWritten answer)
-      → (file bytes : List ℕ) → AreChecked command told file bytes → IsShown file bytes
+      → (file bytes : List ℕ) → AreChecked command told file bytes
+      → HoldsOfFile file bytes (λ c verdict. Wrote out (checked_text command c verdict)) Holds
   by_command (Some (Check name certificate)) whole file bytes are =
-      by_bytes file bytes (λ answer means. whole answer
-      (subst (λ (o : Option (List ℕ)). IsSomeAnd o (λ b. CheckMeans b (told certificate) answer)) (sym are.0)
-      (subst (λ (o : Option (List ℕ)). CheckMeans file o answer) (sym are.1) means)))
+      by_told check_text (λ c shown. verdict_text shown) (λ bytes c shown is. refl) file bytes (told name)
+      (told certificate) are whole
+  by_command (Some (Upgrade name certificate)) whole file bytes are =
+      by_told upgraded_text (λ c shown. versioned_text (upgraded c)) upgraded_is file bytes (told name)
+      (told certificate) are whole
   by_command (Some (Solve name asked workers)) whole file bytes are = absurd are
   by_command (Some (Info name)) whole file bytes are = absurd are
   by_command (Some (Gen cards)) whole file bytes are = absurd are
   by_command (Some (Drill cards asked workers)) whole file bytes are = absurd are
   by_command None whole file bytes are = absurd are
 
-  -- the verdict was written, and its bounds hold
+  -- what the command writes of it was written, and its bounds hold
   pub each_checked : ((answer : Answer) → Means words told answer → IsWritten answer)
       → ForEachChecked words told out Holds
   each_checked whole = by_command (command_of_words words) whole

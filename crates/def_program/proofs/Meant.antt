@@ -1,7 +1,7 @@
 -- What the words mean is what the program computes of them.
 use Rattle.std.proofs.Common.{◌≡◌, ℕ, ◌≤◌, Bool, true, false, cond, nat_lt, length, List, [], Option, Some, None, Result, Ok, Err, refl, sym, ◌∙◌, ap, subst, arith}
 use Rattle.std.specs.Prelude.{All, IsSome, IsSomeAnd}
-use Rattle.std.specs.Option.{option_and_then, option_map}
+use Rattle.std.specs.Option.{option_map}
 use Rattle.std.proofs.lemmas.Bool.{ltb-true, ltb-false, lt-ltb, le-ltb}
 use Rattle.std.proofs.lemmas.Option.{same_Some}
 use Rattle.def_sums.specs.Limits.{least_cards, most_cards}
@@ -9,19 +9,20 @@ use Rattle.def_file.specs.declared.FileFault.{FileFault}
 use Rattle.def_file.specs.declared.FileFault.TheVariants.{TooLong}
 use Rattle.def_file.specs.Content.{GameFile}
 use Rattle.def_file.specs.Reading.{most_bytes}
-use Rattle.def_command.specs.Grammar.{Check, Command, Drill, Gen, Info, Solve, command_of_words, files_of}
+use Rattle.def_command.specs.Grammar.{Check, Command, Drill, Gen, Info, Solve, Upgrade, command_of_words, files_of}
 use Rattle.def_command.proofs.InRange.{cards_in_range}
 use Rattle.def_program.specs.Text.{info_text}
 use Rattle.def_program.specs.TextLines.{fault_line}
-use Rattle.def_program.specs.CheckLines.{cert_long_line}
+use Rattle.def_program.specs.CheckLines.{cert_long_line, check_text, upgraded_text}
 use Rattle.def_check.specs.Accepting.{read_as_accepted}
 use Rattle.def_check.proofs.FileAccepted.{accepted_whole_file, first_refused}
 use Rattle.def_canon.specs.Canon.{canon}
 use Rattle.def_canon.specs.Poker.{poker}
+use Rattle.def_cert_verdict.specs.Verdict.{Verdict}
 use Rattle.def_check.specs.Check.{checked, most_cert_bytes}
 use Rattle.def_check.proofs.Checked.{checks_are}
-use Rattle.def_program.specs.Program.{Answer, answer_of, certificate_answer, check_answer, check_told, command_answer, file_answer, game_answer, made_answer, program, refusal, solved, success, usage}
-use Rattle.def_program.specs.Meaning.{CertificateMeans, CheckMeans, CommandMeans, FileMeans, IsMeant, Means, file_too_long, file_within, refused, too_long, within, written}
+use Rattle.def_program.specs.Program.{Answer, answer_of, both_told, certificate_answer, check_answer, check_told, command_answer, file_answer, game_answer, made_answer, program, refusal, solved, success, usage}
+use Rattle.def_program.specs.Meaning.{BothMean, CertificateMeans, CheckMeans, CommandMeans, FileMeans, IsMeant, Means, file_too_long, file_within, refused, too_long, within, written}
 use Rattle.def_program.specs.Laws.{MeaningIsComputed, ToldWordsMeanOne}
 use Rattle.def_program.proofs.PokerFileIsRead.{made_is}
 
@@ -60,87 +61,85 @@ module _ (text : GameFile → List ℕ) where
 
 -- ---- a check
 
-module _ (file : List ℕ) (short : length file ≤ most_bytes) where
-  certificate_computed : (bytes : List ℕ) (answer : Answer) → CertificateMeans file bytes answer
-      → certificate_answer file bytes ≡ answer
+module _ (text : List ℕ → Verdict → List ℕ) (file : List ℕ) (short : length file ≤ most_bytes) where
+  certificate_computed : (bytes : List ℕ) (answer : Answer) → CertificateMeans text file bytes answer
+      → certificate_answer text file bytes ≡ answer
   certificate_computed bytes answer (too_long h same) = rw (lt-ltb most_cert_bytes (length bytes) h) (sym same)
   certificate_computed bytes answer (within h found checks same) =
       rw (le-ltb most_cert_bytes (length bytes) h)
-      (ap check_answer ((checks_are file bytes short found).0 checks) ∙ sym same)
+      (ap (check_answer (text bytes)) ((checks_are file bytes short found).0 checks) ∙ sym same)
 
-  certificate_meant : (bytes : List ℕ) (answer : Answer) → certificate_answer file bytes ≡ answer
-      → CertificateMeans file bytes answer
+  certificate_meant : (bytes : List ℕ) (answer : Answer) → certificate_answer text file bytes ≡ answer
+      → CertificateMeans text file bytes answer
   certificate_meant bytes answer computed = by_length (nat_lt most_cert_bytes (length bytes)) refl computed
     where
       by_length : (b : Bool) → nat_lt most_cert_bytes (length bytes) ≡ b
-          → cond b (refusal cert_long_line) (check_answer (checked file bytes)) ≡ answer
-          → CertificateMeans file bytes answer
+          → cond b (refusal cert_long_line) (check_answer (text bytes) (checked file bytes)) ≡ answer
+          → CertificateMeans text file bytes answer
       by_length true is computed = too_long (ltb-true most_cert_bytes (length bytes) is) (sym computed)
       by_length false is computed =
           within (ltb-false most_cert_bytes (length bytes) is) (checked file bytes)
           ((checks_are file bytes short (checked file bytes)).1 refl) (sym computed)
 
   content_checked : (certificate : Option (List ℕ)) (answer : Answer)
-      → IsSomeAnd certificate (λ bytes. CertificateMeans file bytes answer)
-      → option_map (certificate_answer file) certificate ≡ Some answer
+      → IsSomeAnd certificate (λ bytes. CertificateMeans text file bytes answer)
+      → option_map (certificate_answer text file) certificate ≡ Some answer
   content_checked None answer means = absurd means
   content_checked (Some bytes) answer means = ap Some (certificate_computed bytes answer means)
 
   content_means : (certificate : Option (List ℕ)) (answer : Answer)
-      → option_map (certificate_answer file) certificate ≡ Some answer
-      → IsSomeAnd certificate (λ bytes. CertificateMeans file bytes answer)
+      → option_map (certificate_answer text file) certificate ≡ Some answer
+      → IsSomeAnd certificate (λ bytes. CertificateMeans text file bytes answer)
   content_means None answer computed = absurd cc
   content_means (Some bytes) answer computed = certificate_meant bytes answer (cc)
 
-module _ (file : List ℕ) where
+module _ (text : List ℕ → Verdict → List ℕ) (file : List ℕ) where
   -- an answer that is meant of a check is computed
-  pub check_computed : (certificate : Option (List ℕ)) (answer : Answer) → CheckMeans file certificate answer
-      → check_told file certificate ≡ Some answer
+  pub check_computed : (certificate : Option (List ℕ)) (answer : Answer) → CheckMeans text file certificate answer
+      → check_told text file certificate ≡ Some answer
   check_computed certificate answer (file_too_long h same) =
       rw (lt-ltb most_bytes (length file) h) (ap Some (sym same))
   check_computed certificate answer (file_within h means) =
-      rw (le-ltb most_bytes (length file) h) (content_checked file h certificate answer means)
+      rw (le-ltb most_bytes (length file) h) (content_checked text file h certificate answer means)
 
   -- what is computed of a check is meant
-  check_meant : (certificate : Option (List ℕ)) (answer : Answer) → check_told file certificate ≡ Some answer
-      → CheckMeans file certificate answer
+  check_meant : (certificate : Option (List ℕ)) (answer : Answer) → check_told text file certificate ≡ Some answer
+      → CheckMeans text file certificate answer
   check_meant certificate answer computed = by_length (nat_lt most_bytes (length file)) refl computed
     where
       by_length : (b : Bool) → nat_lt most_bytes (length file) ≡ b
-          → cond b (Some (refusal (fault_line TooLong))) (option_map (certificate_answer file) certificate)
+          → cond b (Some (refusal (fault_line TooLong))) (option_map (certificate_answer text file) certificate)
           ≡ Some answer
-          → CheckMeans file certificate answer
+          → CheckMeans text file certificate answer
       by_length true is computed = file_too_long (ltb-true most_bytes (length file) is) cc
       by_length false is computed =
           let h = ltb-false most_bytes (length file) is in
-          file_within h (content_means file h certificate answer computed)
+          file_within h (content_means text file h certificate answer computed)
 
-  check_answered : (certificate : Option (List ℕ)) → IsSome certificate → Computed (check_told file certificate)
+  check_answered : (certificate : Option (List ℕ)) → IsSome certificate → Computed (check_told text file certificate)
   check_answered None is_told = absurd cc
   check_answered (Some bytes) is_told = by_length (nat_lt most_bytes (length file))
     where
       by_length : (b : Bool)
-          → Computed (cond b (Some (refusal (fault_line TooLong))) (option_map (certificate_answer file) (Some bytes)))
+          → Computed (cond b (Some (refusal (fault_line TooLong))) (option_map (certificate_answer text file) (Some bytes)))
       by_length true = record { answer = refusal (fault_line TooLong); is = refl }
-      by_length false = record { answer = certificate_answer file bytes; is = refl }
+      by_length false = record { answer = certificate_answer text file bytes; is = refl }
 
-module _ (certificate : Option (List ℕ)) where
+module _ (text : List ℕ → Verdict → List ℕ) (certificate : Option (List ℕ)) where
   both_computed : (file : Option (List ℕ)) (answer : Answer)
-      → IsSomeAnd file (λ bytes. CheckMeans bytes certificate answer)
-      → option_and_then (λ bytes. check_told bytes certificate) file ≡ Some answer
+      → BothMean text file certificate answer → both_told text file certificate ≡ Some answer
   both_computed None answer means = absurd means
-  both_computed (Some bytes) answer means = check_computed bytes certificate answer means
+  both_computed (Some bytes) answer means = check_computed text bytes certificate answer means
 
   both_meant : (file : Option (List ℕ)) (answer : Answer)
-      → option_and_then (λ bytes. check_told bytes certificate) file ≡ Some answer
-      → IsSomeAnd file (λ bytes. CheckMeans bytes certificate answer)
+      → both_told text file certificate ≡ Some answer → BothMean text file certificate answer
   both_meant None answer computed = absurd cc
-  both_meant (Some bytes) answer computed = check_meant bytes certificate answer computed
+  both_meant (Some bytes) answer computed = check_meant text bytes certificate answer computed
 
   both_answered : (file : Option (List ℕ)) → IsSome file → IsSome certificate
-      → Computed (option_and_then (λ bytes. check_told bytes certificate) file)
+      → Computed (both_told text file certificate)
   both_answered None is_told other = absurd cc
-  both_answered (Some bytes) is_told other = check_answered bytes certificate other
+  both_answered (Some bytes) is_told other = check_answered text bytes certificate other
 
 -- ---- a game that is made
 
@@ -165,7 +164,10 @@ module _ (words : List (List ℕ)) (told : List ℕ → Option (List ℕ)) (answ
   command_computed (Solve file settings workers) is means =
       content_computed (solved settings) (told file) answer means
   command_computed (Info file) is means = content_computed info_text (told file) answer means
-  command_computed (Check file certificate) is means = both_computed (told certificate) (told file) answer means
+  command_computed (Check file certificate) is means =
+      both_computed check_text (told certificate) (told file) answer means
+  command_computed (Upgrade file certificate) is means =
+      both_computed upgraded_text (told certificate) (told file) answer means
   command_computed (Gen cards) is means = ap Some (sym means)
   command_computed (Drill cards settings workers) is means =
       let range = cards_in_range.of_drill words cards settings workers is in
@@ -176,7 +178,10 @@ module _ (words : List (List ℕ)) (told : List ℕ → Option (List ℕ)) (answ
   command_meant (Solve file settings workers) is computed =
       content_meant (solved settings) (told file) answer computed
   command_meant (Info file) is computed = content_meant info_text (told file) answer computed
-  command_meant (Check file certificate) is computed = both_meant (told certificate) (told file) answer computed
+  command_meant (Check file certificate) is computed =
+      both_meant check_text (told certificate) (told file) answer computed
+  command_meant (Upgrade file certificate) is computed =
+      both_meant upgraded_text (told certificate) (told file) answer computed
   command_meant (Gen cards) is computed = cc
   command_meant (Drill cards settings workers) is computed =
       let range = cards_in_range.of_drill words cards settings workers is in
@@ -206,7 +211,9 @@ told_computed None told are_told = record { answer = usage; is = refl }
 told_computed (Some (Solve file settings workers)) told are_told =
     content_answered (solved settings) (told file) (are_told 0 [] (omega arith))
 told_computed (Some (Check file certificate)) told are_told =
-    both_answered (told certificate) (told file) (are_told 0 [] (omega arith)) (are_told 1 [] (omega arith))
+    both_answered check_text (told certificate) (told file) (are_told 0 [] (omega arith)) (are_told 1 [] (omega arith))
+told_computed (Some (Upgrade file certificate)) told are_told =
+    both_answered upgraded_text (told certificate) (told file) (are_told 0 [] (omega arith)) (are_told 1 [] (omega arith))
 told_computed (Some (Gen cards)) told are_told = record { answer = success (canon (poker cards)); is = refl }
 told_computed (Some (Drill cards settings workers)) told are_told =
     record { answer = made_answer (solved settings) (poker cards); is = refl }

@@ -27,8 +27,9 @@ use Rattle.def_cert_verdict.proofs.Shown.{accepted as shown}
 use Rattle.def_cert_accepted.specs.OfOutcome.{certificate_of}
 use Rattle.def_cert_accepted.proofs.Accepted.{accepted as run_accepted}
 use Rattle.def_cert_accepted.proofs.OfRun.{bounds_of_run, certificate_with, same_head}
-use Rattle.def_cert_text.specs.CertText.{cert_text}
-use Rattle.def_command.specs.Grammar.{Check, Command, Drill, Gen, Info, Settings, Solve, command_of_words}
+use Rattle.def_cert_text.specs.CertText.{versioned_text}
+use Rattle.def_cert_versions.specs.Verdict.{in_version_two}
+use Rattle.def_command.specs.Grammar.{Check, Command, Drill, Gen, Info, Settings, Solve, Upgrade, command_of_words}
 use Rattle.def_command.proofs.InRange.{cards_in_range, settings_in_range}
 use Rattle.def_canon.specs.Canon.{canon}
 use Rattle.def_canon.specs.Poker.{poker}
@@ -122,7 +123,7 @@ module _ (bytes : List ℕ) (game : GameFile) (stands : StandsFor bytes game) wh
     has_bounds = record {
       bounds = bounds;
       are = ap (λ (c : Certificate). c.bounds) certificate_is;
-      text = ap cert_text certificate_is;
+      text = ap (λ (c : Certificate). versioned_text (in_version_two c)) certificate_is;
       hold = bounds_hold numbers bounds shows settings.scale trace;
     }
 
@@ -149,7 +150,7 @@ module _ (words : List (List ℕ)) (told : List ℕ → Option (List ℕ)) (out 
       → Wrote out (solve_text game settings) → WroteBounds Holds out game settings
   wrote_bounds game settings it wrote =
       subst (λ (o : Option PrintedBounds). IsSomeAnd o
-      (λ b. Wrote out (cert_text (with_bounds (game_head game settings) b))
+      (λ b. Wrote out (versioned_text (in_version_two (with_bounds (game_head game settings) b)))
       × Holds (weighed_game game) settings.scale b))
       (sym it.are) (subst (Wrote out) it.text wrote, holds (weighed_game game) settings.scale it.bounds it.hold)
 
@@ -187,6 +188,7 @@ module _ (words : List (List ℕ)) (told : List ℕ → Option (List ℕ)) (out 
       (by_content (told file) game asked (subst (λ (s : Settings). 1 ≤ s.rounds) same some_round) in_range.some_scale
       whole plays.0)
   by_command (Some (Check file certificate)) is whole game settings plays some_round = absurd plays
+  by_command (Some (Upgrade file certificate)) is whole game settings plays some_round = absurd plays
   by_command (Some (Info file)) is whole game settings plays some_round = absurd plays
   by_command (Some (Gen cards)) is whole game settings plays some_round = absurd plays
   by_command (Some (Drill cards asked workers)) is whole game settings plays some_round =

@@ -21,8 +21,9 @@ use Rattle.def_cert_verdict.specs.Certificate.{PrintedBounds, printed_numbers, l
 use Rattle.def_plan.specs.Weighed.{WeighedGame}
 use Rattle.def_cert_verdict.specs.Laws.{GetsAtLeast, ConcedesAtMost, IsTotalOver, with_bounds}
 use Rattle.def_cert_accepted.specs.OfOutcome.{certificate_of}
-use Rattle.def_cert_text.specs.CertText.{cert_text}
-use Rattle.def_command.specs.Grammar.{Check, Command, Drill, Gen, Info, Settings, Solve, command_of_words}
+use Rattle.def_cert_text.specs.CertText.{versioned_text}
+use Rattle.def_cert_versions.specs.Verdict.{in_version_two}
+use Rattle.def_command.specs.Grammar.{Check, Command, Drill, Gen, Info, Settings, Solve, Upgrade, command_of_words}
 use Rattle.def_program.specs.Text.{form_of_file, game_head, game_outcome, solve_text}
 use Rattle.def_canon.specs.Poker.{poker}
 use Rattle.def_check.specs.Accepted.{IsAccepted}
@@ -97,7 +98,7 @@ pub record BoundsHold (game : WeighedGame) (scale : ℕ) (b : PrintedBounds) : T
 pub record HasItsBounds (game : GameFile) (settings : Settings) : Type 0 where
   pub bounds : PrintedBounds
   pub are : game_bounds game settings ≡ Some bounds
-  pub text : solve_text game settings ≡ cert_text (with_bounds (game_head game settings) bounds)
+  pub text : solve_text game settings ≡ versioned_text (in_version_two (with_bounds (game_head game settings) bounds))
   pub hold : BoundsHold (weighed_game game) settings.scale bounds
 
 -- ---- the games that words play
@@ -107,6 +108,7 @@ abbrev pub CommandPlays : Command → (List ℕ → Option (List ℕ)) → GameF
 CommandPlays (Solve file asked workers) told game settings =
     IsSomeAnd (told file) (λ bytes. IsAccepted bytes game) × (settings ≡ asked)
 CommandPlays (Check file certificate) told game settings = ⊥
+CommandPlays (Upgrade file certificate) told game settings = ⊥
 CommandPlays (Info file) told game settings = ⊥
 CommandPlays (Gen cards) told game settings = ⊥
 CommandPlays (Drill cards asked workers) told game settings = (game ≡ poker cards) × (settings ≡ asked)
@@ -118,7 +120,7 @@ IsPlayed (Some command) told game settings = CommandPlays command told game sett
 -- the text with the game's bounds was written, and this holds of them
 abbrev pub WroteBounds : (WeighedGame → ℕ → PrintedBounds → Type 0) → SinkCall → GameFile → Settings → Type 0
 WroteBounds Holds out game settings = IsSomeAnd (game_bounds game settings)
-    (λ b. Wrote out (cert_text (with_bounds (game_head game settings) b))
+    (λ b. Wrote out (versioned_text (in_version_two (with_bounds (game_head game settings) b)))
     × Holds (weighed_game game) settings.scale b)
 
 -- so it is for each game that the words play for at least one round

@@ -1,15 +1,18 @@
--- What a check says: the line of what is accepted, and the lines of a certificate's faults.
-use Rattle.std.specs.Prelude.{ℕ, List, ◌++◌, codes}
+-- What a check says: the line of what is accepted, or its upgrade, and the lines of a certificate's faults.
+use Rattle.std.specs.Prelude.{ℕ, List, [], ◌++◌, codes, Result, Ok, Err}
 use Rattle.std.specs.Fmt.{decimal}
 use Rattle.def_fraction.specs.Text.{fraction_text}
 use Rattle.def_tree.specs.declared.Player.{Player}
 use Rattle.def_tree.specs.declared.Player.TheVariants.{One, Two}
 use Rattle.def_cert_text.specs.declared.fault.CertFault.{CertFault}
 use Rattle.def_cert_text.specs.declared.fault.CertFault.TheVariants.{CertSyntax, CertNumber, CertVersion, CertShort, CertTrailing}
+use Rattle.def_cert_text.specs.Versions.{VersionedCertificate}
+use Rattle.def_cert_text.specs.CertText.{versioned_in, versioned_text}
+use Rattle.def_cert_versions.specs.Verdict.{upgraded}
 use Rattle.def_cert_verdict.specs.declared.fault.Which.{Which}
 use Rattle.def_cert_verdict.specs.declared.fault.Which.TheVariants.{Lower, Upper}
 use Rattle.def_cert_verdict.specs.declared.fault.TestFault.{TestFault}
-use Rattle.def_cert_verdict.specs.declared.fault.TestFault.TheVariants.{HeadDiffers, NotAPlan, ValueTooGood, ReplyNotTight, TotalDiffers, TraceWidens}
+use Rattle.def_cert_verdict.specs.declared.fault.TestFault.TheVariants.{HeadDiffers, NotAPlan, ValueTooGood, ReplyNotTight, TotalDiffers, TraceWidens, SecondDiffers}
 use Rattle.def_cert_verdict.specs.Verdict.{Verdict, bracket, head_only}
 use Rattle.def_check.specs.Check.{Refusal, of_certificate, of_file, of_tests}
 use Rattle.def_program.specs.TextLines.{fault_line}
@@ -20,6 +23,20 @@ abbrev pub verdict_text : Verdict → List ℕ
 verdict_text head_only = codes "accepted no bounds" ++ line_feed
 verdict_text (bracket low high) =
     codes "accepted " ++ (fraction_text low ++ (codes " " ++ (fraction_text high ++ line_feed)))
+
+-- what was read, in version 2
+abbrev pub upgrade_text : Result VersionedCertificate CertFault → List ℕ
+upgrade_text (Ok certificate) = versioned_text (upgraded certificate)
+upgrade_text (Err fault) = []
+
+-- ---- what is written of a certificate of these bytes that is accepted with this verdict
+-- `check` writes the verdict
+abbrev pub check_text : List ℕ → Verdict → List ℕ
+check_text bytes shown = verdict_text shown
+
+-- and `upgrade` the text of version 2 of what the bytes say
+abbrev pub upgraded_text : List ℕ → Verdict → List ℕ
+upgraded_text bytes shown = upgrade_text (versioned_in bytes)
 
 -- ---- what is refused
 
@@ -57,6 +74,7 @@ test_fault_line (ValueTooGood player set action) =
 test_fault_line (ReplyNotTight player set) = set_line (codes "30 ReplyNotTight") player set line_feed
 test_fault_line (TotalDiffers end) = codes "refused 31 TotalDiffers " ++ (end_name end ++ line_feed)
 test_fault_line (TraceWidens line) = codes "refused 32 TraceWidens line " ++ (decimal line ++ line_feed)
+test_fault_line SecondDiffers = codes "refused 33 SecondDiffers" ++ line_feed
 
 abbrev pub refusal_line : Refusal → List ℕ
 refusal_line (of_file fault) = fault_line fault

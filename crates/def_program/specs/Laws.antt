@@ -1,11 +1,15 @@
 -- What words mean in the format's terms is what the program computes, and where their files are told, they mean one
--- answer. The bounds that are printed of a game that was played hold, and so do those of an accepted certificate.
+-- answer. What `upgrade` writes is the text of an upgrade. The bounds that are printed of a game that was played hold, and so do those of an accepted certificate.
 use Rattle.std.specs.Prelude.{◌≡◌, ◌↔◌, ℕ, ◌≤◌, List, Option, Some, Ok}
 use Rattle.def_file.specs.Content.{GameFile}
 use Rattle.def_cert_verdict.specs.Verdict.{Verdict}
-use Rattle.def_check.specs.Checking.{Checks}
+use Rattle.def_cert_text.specs.Versions.{VersionedCertificate}
+use Rattle.def_cert_text.specs.CertText.{versioned_text}
+use Rattle.def_cert_versions.specs.Verdict.{upgraded}
+use Rattle.def_check.specs.Checking.{Checks, IsTextOf}
 use Rattle.def_command.specs.Grammar.{Settings}
 use Rattle.def_check.specs.Accepted.{IsAccepted}
+use Rattle.def_program.specs.CheckLines.{upgraded_text}
 use Rattle.def_program.specs.Program.{Answer, program}
 use Rattle.def_program.specs.Meaning.{Means, MeansOnly, FilesAreTold}
 use Rattle.def_program.specs.Bounds.{BoundsHold, HasItsBounds}
@@ -27,6 +31,11 @@ abbrev pub ToldWordsMeanOne : Type 0
 ToldWordsMeanOne = (words : List (List ℕ)) (told : List ℕ → Option (List ℕ)) → FilesAreTold words told
     → MeansOne words told
 
+-- what `upgrade` writes of the text of a certificate that it accepts is the text of its upgrade
+abbrev pub UpgradesAreWritten : Type 0
+UpgradesAreWritten = (bytes : List ℕ) (certificate : VersionedCertificate) (shown : Verdict)
+    → IsTextOf bytes certificate → upgraded_text bytes shown ≡ versioned_text (upgraded certificate)
+
 -- an accepted file's game, played at least one round at any scale from 1, has its bounds, and they hold of it
 abbrev pub PlayedGamesHaveTheirBounds : Type 0
 PlayedGamesHaveTheirBounds = (bytes : List ℕ) (game : GameFile) (settings : Settings) → IsAccepted bytes game
@@ -35,4 +44,4 @@ PlayedGamesHaveTheirBounds = (bytes : List ℕ) (game : GameFile) (settings : Se
 -- whoever wrote the certificate: what a check shows of it holds of the game of the file
 abbrev pub AcceptedCertificatesHold : Type 0
 AcceptedCertificatesHold = (file bytes : List ℕ) (shown : Verdict) → Checks file bytes (Ok shown)
-    → HoldsOfFile file bytes (λ verdict. verdict ≡ shown) BoundsHold
+    → HoldsOfFile file bytes (λ certificate verdict. verdict ≡ shown) BoundsHold

@@ -13,10 +13,10 @@ use Rattle.def_canon.specs.Canon.{canon}
 use Rattle.def_canon.specs.Poker.{poker}
 use Rattle.def_check.specs.Accepting.{read_as_accepted, unless_faulty}
 use Rattle.def_check.specs.Check.{Refusal, checked, most_cert_bytes}
-use Rattle.def_command.specs.Grammar.{Check, Command, Drill, Gen, Info, Settings, Solve, command_of_words}
+use Rattle.def_command.specs.Grammar.{Check, Command, Drill, Gen, Info, Settings, Solve, Upgrade, command_of_words}
 use Rattle.def_program.specs.Text.{info_text, solve_text}
 use Rattle.def_program.specs.TextLines.{fault_line, usage_line}
-use Rattle.def_program.specs.CheckLines.{cert_long_line, refusal_line, verdict_text}
+use Rattle.def_program.specs.CheckLines.{cert_long_line, check_text, refusal_line, upgraded_text}
 
 pub record Answer : Type 0 where
   pub status : ℕ
@@ -46,20 +46,24 @@ file_answer text bytes = game_answer text (read_as_accepted bytes)
 abbrev pub solved : Settings → GameFile → List ℕ
 solved settings game = solve_text game settings
 
--- what is said of a check
-abbrev pub check_answer : Result Verdict Refusal → Answer
-check_answer (Ok shown) = success (verdict_text shown)
-check_answer (Err why) = refusal (refusal_line why)
+-- what is said of a check, with this text of what is accepted
+abbrev pub check_answer : (Verdict → List ℕ) → Result Verdict Refusal → Answer
+check_answer text (Ok shown) = success (text shown)
+check_answer text (Err why) = refusal (refusal_line why)
 
 -- where the certificate is too long, that counts before all else that the file's bytes say
-abbrev pub certificate_answer : List ℕ → List ℕ → Answer
-certificate_answer file certificate = if nat_lt most_cert_bytes (length certificate)
-    then refusal cert_long_line else check_answer (checked file certificate)
+abbrev pub certificate_answer : (List ℕ → Verdict → List ℕ) → List ℕ → List ℕ → Answer
+certificate_answer text file certificate = if nat_lt most_cert_bytes (length certificate)
+    then refusal cert_long_line else check_answer (text certificate) (checked file certificate)
 
 -- of a file that is too long nothing else is asked, and its certificate isn't opened
-abbrev pub check_told : List ℕ → Option (List ℕ) → Option Answer
-check_told file certificate = if nat_lt most_bytes (length file) then Some (refusal (fault_line TooLong))
-    else option_map (certificate_answer file) certificate
+abbrev pub check_told : (List ℕ → Verdict → List ℕ) → List ℕ → Option (List ℕ) → Option Answer
+check_told text file certificate = if nat_lt most_bytes (length file) then Some (refusal (fault_line TooLong))
+    else option_map (certificate_answer text file) certificate
+
+-- a command that checks, with its text of what is accepted
+abbrev pub both_told : (List ℕ → Verdict → List ℕ) → Option (List ℕ) → Option (List ℕ) → Option Answer
+both_told text file certificate = option_and_then (λ bytes. check_told text bytes certificate) file
 
 -- what is written of a game that isn't read from a file, unless it has a fault
 abbrev pub made_answer : (GameFile → List ℕ) → GameFile → Answer
@@ -68,7 +72,8 @@ made_answer text game = game_answer text (unless_faulty (game_file_fault game) g
 abbrev pub command_answer : Command → (List ℕ → Option (List ℕ)) → Option Answer
 command_answer (Solve file settings workers) told = option_map (file_answer (solved settings)) (told file)
 command_answer (Info file) told = option_map (file_answer info_text) (told file)
-command_answer (Check file certificate) told = option_and_then (λ bytes. check_told bytes (told certificate)) (told file)
+command_answer (Check file certificate) told = both_told check_text (told file) (told certificate)
+command_answer (Upgrade file certificate) told = both_told upgraded_text (told file) (told certificate)
 command_answer (Gen cards) told = Some (success (canon (poker cards)))
 command_answer (Drill cards settings workers) told = Some (made_answer (solved settings) (poker cards))
 

@@ -1,7 +1,7 @@
 -- The texts that are written of a file's game: the certificate of its solution, and what `info` tells.
 --     game_head game settings      the game's numbers, with what is asked
 --     game_outcome game settings   what the rounds leave
---     solve_text game settings   the certificate of the outcome
+--     solve_text game settings   the certificate of the outcome, in version 2
 --     info_text game             its title and players, and its numbers
 use Rattle.std.specs.Prelude.{ℕ, List, [], ◌∷◌, ◌++◌, codes, length}
 use Rattle.def_sums.specs.Limits.{most_scale}
@@ -16,7 +16,8 @@ use Rattle.def_sequence_form.specs.Form.{form_of_game}
 use Rattle.def_reply.specs.Outcome.{Head, Outcome}
 use Rattle.def_run.specs.Run.{outcome}
 use Rattle.def_cert_accepted.specs.OfOutcome.{certificate_of}
-use Rattle.def_cert_text.specs.CertText.{cert_text, head_text}
+use Rattle.def_cert_text.specs.CertText.{head_text, versioned_text}
+use Rattle.def_cert_versions.specs.Verdict.{in_version_two}
 use Rattle.def_command.specs.Grammar.{Settings}
 
 abbrev pub line_feed : List ℕ
@@ -52,7 +53,8 @@ abbrev pub game_outcome : GameFile → Settings → Outcome
 game_outcome game settings = outcome (form_of_file game) (game_head game settings)
 
 abbrev pub solve_text : GameFile → Settings → List ℕ
-solve_text game settings = cert_text (certificate_of (form_of_file game) (game_outcome game settings))
+solve_text game settings =
+    versioned_text (in_version_two (certificate_of (form_of_file game) (game_outcome game settings)))
 
 -- a text between quotation marks
 abbrev pub between_marks : List ℕ → List ℕ

@@ -3,7 +3,7 @@ use Rattle.std.specs.Prelude.{◌≡◌, ℕ, List, [], ◌∷◌, ◌++◌, cod
 use Rattle.def_tree.specs.declared.Player.TheVariants as player
 use Rattle.def_cert_text.specs.declared.fault.CertFault.TheVariants.{CertSyntax, CertNumber, CertVersion, CertShort, CertTrailing}
 use Rattle.def_cert_verdict.specs.declared.fault.Which.TheVariants.{Lower, Upper}
-use Rattle.def_cert_verdict.specs.declared.fault.TestFault.TheVariants.{HeadDiffers, NotAPlan, ValueTooGood, ReplyNotTight, TotalDiffers, TraceWidens}
+use Rattle.def_cert_verdict.specs.declared.fault.TestFault.TheVariants.{HeadDiffers, NotAPlan, ValueTooGood, ReplyNotTight, TotalDiffers, TraceWidens, SecondDiffers}
 use Rattle.def_cert_verdict.specs.Verdict.{bracket, head_only}
 use Rattle.def_fraction.specs.declared.fault.NumberFault.TheVariants.{Range}
 use Rattle.def_tree.specs.declared.Kind.TheVariants.{Leaf}
@@ -30,10 +30,11 @@ abbrev pub one_leaf_lines : List ℕ
 one_leaf_lines = codes "nodes 1 leaves 1" ++ line_feed ++ codes "sets 0 0" ++ line_feed ++ codes "sequences 1 1"
     ++ line_feed ++ codes "unit 1" ++ line_feed ++ codes "mass 0" ++ line_feed
 
+-- version 2 has the sum behind them
 pub record OneLeafRows : Type 0 where
   pub solved : solve_text (game_with nobody one_leaf) no_rounds
-      ≡ codes "XGCERT 1" ++ line_feed ++ one_leaf_lines ++ codes "rounds 0 every 1 scale 1048576" ++ line_feed
-      ++ codes "end" ++ line_feed
+      ≡ codes "XGCERT 2" ++ line_feed ++ one_leaf_lines ++ codes "sum 0" ++ line_feed
+      ++ codes "rounds 0 every 1 scale 1048576" ++ line_feed ++ codes "end" ++ line_feed
   pub info : info_text (game_with nobody one_leaf)
       ≡ codes "title \"a\\\"b\"" ++ line_feed ++ codes "players \"A\" \"B\"" ++ line_feed ++ one_leaf_lines
 
@@ -66,3 +67,4 @@ pub record CheckLineRows : Type 0 where
   pub lower : test_fault_line (TotalDiffers Lower) ≡ codes "refused 31 TotalDiffers lower" ++ line_feed
   pub upper : test_fault_line (TotalDiffers Upper) ≡ codes "refused 31 TotalDiffers upper" ++ line_feed
   pub trace : test_fault_line (TraceWidens 9) ≡ codes "refused 32 TraceWidens line 9" ++ line_feed
+  pub second : test_fault_line SecondDiffers ≡ codes "refused 33 SecondDiffers" ++ line_feed

@@ -5,7 +5,7 @@
 pub mod texts;
 
 ghost use Rattle.def_program.specs.Laws.{AcceptedCertificatesHold, MeaningIsComputed, PlayedGamesHaveTheirBounds};
-ghost use Rattle.def_program.specs.Laws.{ToldWordsMeanOne};
+ghost use Rattle.def_program.specs.Laws.{ToldWordsMeanOne, UpgradesAreWritten};
 
 /// The words mean, in the format's own words, exactly the answer that the program computes of them.
 pub fn meaning_is_computed()
@@ -15,6 +15,11 @@ pub fn meaning_is_computed()
 /// Words whose files are told mean exactly one answer.
 pub fn told_words_mean_one()
     ensures { ToldWordsMeanOne }
+{}
+
+/// What `upgrade` writes of the text of a certificate is the text of its upgrade, in version 2.
+pub fn upgrades_are_written()
+    ensures { UpgradesAreWritten }
 {}
 
 /// After at least one round both printed plans of an accepted file's game keep their bounds, which the printed replies

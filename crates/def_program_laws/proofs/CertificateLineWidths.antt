@@ -14,7 +14,10 @@ use Rattle.def_reply.specs.Outcome.{Head}
 use Rattle.def_cert_verdict.specs.Ranges.{IsPrintable, FractionFits, HeadFits, PlanWeightsFit, BoundFits}
 use Rattle.def_cert_text.specs.Fields.{space, feed, Item, field, separator, items_text}
 use Rattle.def_cert_text.specs.Formats.{Format, each_items, row_items}
-use Rattle.def_cert_text.specs.CertText.{sum_field, sum_items, mass_line, asked_line, head_lines, line_of_round, weights_line, value_line, bracket_line}
+use Rattle.def_cert_text.specs.declared.version.TextVersion.{TextVersion}
+use Rattle.def_cert_text.specs.declared.version.TextVersion.TheVariants as versions
+use Rattle.def_cert_text.specs.Versions.{PrintedBracket}
+use Rattle.def_cert_text.specs.CertText.{version_field, sum_field, sum_items, mass_line, payoff_lines, asked_line, head_lines_of, line_of_round, weights_line, value_line, bracket_line, second_line}
 
 -- ---- numbers
 -- a number below 10 ^ k and 10 ^ 64 has at most k digits, where k is 1 at least
@@ -77,20 +80,43 @@ each_width A f size last k (x ∷ xs) low all =
     )
 
 -- ---- lines
+-- a sum has 64 bytes at most
+few_of_sum : (f : Fraction) → FractionFits most f → length (fraction_text f) ≤ 64
+few_of_sum f fits =
+    few_of_fraction f (record { lowest = fits.lowest; num = omega (arith, fits.num); den = omega (arith, fits.den) })
+
 -- what stands behind a unit has a width of 70 at most
 sum_width : (f : Fraction) → FractionFits most f → widths (sum_items f) ≤ 70
 sum_width f fits = by (is_zero f)
   where
-    width_of : length (fraction_text f) ≤ 64
-    width_of = few_of_fraction f (record { lowest = fits.lowest; num = omega (arith, fits.num); den = omega (arith, fits.den) })
-
     by : (none : Bool) → widths (cond none (separator feed ∷ []) (separator space ∷ sum_field.items f)) ≤ 70
     by true = omega arith
-    by false = omega (arith, width_of)
+    by false = omega (arith, few_of_sum f fits)
+
+-- the version has one digit
+pub version_width : (v : TextVersion) → widths (version_field.items v) ≡ 2
+version_width versions.One = refl
+version_width versions.Two = refl
+
+-- the lines of the unit, the sum and the mass have together a width of 119 at most in either version
+payoff_width : (v : TextVersion) (head : Head) → HeadFits head
+    → widths ((payoff_lines v).items ((head.unit, head.sum), head.mass)) ≤ 119
+payoff_width v head fits = by v
+  where
+    unit : length (decimal head.unit) ≤ 19
+    unit = few_digits 19 head.unit (omega arith) (omega (arith, fits.unit.1)) (omega (arith, fits.unit.1))
+
+    mass : length (decimal head.mass) ≤ 19
+    mass = few_digits 19 head.mass (omega arith) (omega (arith, fits.mass)) (omega (arith, fits.mass))
+
+    by : (v : TextVersion) → widths ((payoff_lines v).items ((head.unit, head.sum), head.mass)) ≤ 119
+    by versions.One =
+        omega (arith, unit, mass, sum_width head.sum fits.sum, widths-append (sum_items head.sum) (mass_line.items head.mass))
+    by versions.Two = omega (arith, unit, mass, few_of_sum head.sum fits.sum)
 
 -- the lines of a head that is within its ranges have together a width of 270 at most
-pub head_width : (head : Head) → HeadFits head → widths (head_lines.items head) ≤ 270
-head_width head fits =
+pub head_width : (v : TextVersion) (head : Head) → HeadFits head → widths ((head_lines_of v).items head) ≤ 270
+head_width v head fits =
     omega (
       arith,
       few_digits 7 head.nodes (omega arith) (omega (arith, fits.nodes.1)) (omega (arith, fits.nodes.1)),
@@ -101,11 +127,9 @@ head_width head fits =
           (omega (arith, fits.sequences_one.1)),
       few_digits 7 head.sequences_two (omega arith) (omega (arith, fits.sequences_two.1))
           (omega (arith, fits.sequences_two.1)),
-      few_digits 19 head.unit (omega arith) (omega (arith, fits.unit.1)) (omega (arith, fits.unit.1)),
-      sum_width head.sum fits.sum,
-      widths-append (sum_items head.sum) (mass_line.items head.mass),
-      widths-append (sum_items head.sum ++ mass_line.items head.mass) (asked_line.items (head.rounds, (head.every, head.scale))),
-      few_digits 19 head.mass (omega arith) (omega (arith, fits.mass)) (omega (arith, fits.mass)),
+      payoff_width v head fits,
+      widths-append ((payoff_lines v).items ((head.unit, head.sum), head.mass))
+          (asked_line.items (head.rounds, (head.every, head.scale))),
       few_digits 5 head.rounds (omega arith) (omega (arith, fits.rounds)) (omega (arith, fits.rounds)),
       few_digits 5 head.every (omega arith) (omega (arith, fits.every.1)) (omega (arith, fits.every.1)),
       few_digits 7 head.scale (omega arith) (omega (arith, fits.scale.1)) (omega (arith, fits.scale.1)),
@@ -166,3 +190,9 @@ value_width set reply small value choice =
 pub bracket_width : (low high : Fraction) → BoundFits low → BoundFits high
     → widths (bracket_line.items (low, high)) ≤ 138
 bracket_width low high fits_low fits_high = omega (arith, few_of_fraction low fits_low, few_of_fraction high fits_high)
+
+-- and so has the line of player two's
+pub second_width : (second : PrintedBracket) → BoundFits second.low → BoundFits second.high
+    → widths (second_line.items second) ≤ 138
+second_width second fits_low fits_high =
+    omega (arith, few_of_fraction second.low fits_low, few_of_fraction second.high fits_high)

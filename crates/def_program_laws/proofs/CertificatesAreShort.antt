@@ -1,5 +1,5 @@
 -- No accepted certificate is too long.
-use Rattle.std.proofs.Common.{◌≡◌, ℕ, ◌+◌, ◌-◌, ◌*◌, ◌^◌, ◌<◌, ◌≤◌, List, [], ◌∷◌, ◌++◌, length, get_or, All, refl, ap, arith}
+use Rattle.std.proofs.Common.{◌≡◌, ℕ, ◌+◌, ◌-◌, ◌*◌, ◌^◌, ◌<◌, ◌≤◌, List, [], ◌∷◌, ◌++◌, length, get_or, All, Option, Some, None, refl, sym, ap, subst, arith}
 use Rattle.std.specs.Prelude.{codes}
 use Rattle.std.proofs.Math.Nat.{div-le_self}
 use Rattle.std.proofs.lemmas.List.{length-append}
@@ -13,16 +13,19 @@ use Rattle.def_reply.specs.Outcome.{Head}
 use Rattle.def_cert_verdict.specs.Certificate.{PrintedPlan, PrintedBounds, joined, printed_numbers}
 use Rattle.def_plan.specs.Weighed.{WeighedGame}
 use Rattle.def_cert_verdict.specs.Verdict.{Verdict, bracket, head_only}
-use Rattle.def_cert_verdict.specs.Laws.{with_bounds, without_bounds}
-use Rattle.def_cert_verdict.specs.Ranges.{HeadFits, TraceFits, PlanFits, ReplyFits, BoundsFit}
-use Rattle.def_cert_text.specs.CertText.{head_lines, line_of_round, round_of_evaluation, trace_lines, weights_line, plan_lines, value_line, reply_lines, bracket_line, bounds_lines, whole_certificate, cert_text}
+use Rattle.def_cert_verdict.specs.Ranges.{HeadFits, TraceFits, PlanFits, ReplyFits, BoundsFit, FitsBelowHead}
+use Rattle.def_cert_text.specs.declared.version.TextVersion.{TextVersion}
+use Rattle.def_cert_text.specs.declared.version.TextVersion.TheVariants as versions
+use Rattle.def_cert_text.specs.Formats.{asked_items}
+use Rattle.def_cert_text.specs.Versions.{PrintedBracket, SecondFits, VersionedFits}
+use Rattle.def_cert_text.specs.CertText.{head_lines_of, last_lines, second_line, version_field, line_of_round, round_of_evaluation, trace_lines, weights_line, plan_lines, value_line, reply_lines, bracket_line, bounds_lines, versioned_certificate, versioned_text}
 use Rattle.def_cert_text.proofs.TextLines.{end_items}
 use Rattle.def_check.specs.Check.{most_cert_bytes}
 use Rattle.def_check.specs.Shown.{Shows}
 use Rattle.def_check.proofs.Checked.{checks_show}
 use Rattle.def_game_numbers.specs.Weighed.{weighed_game}
 use Rattle.def_program_laws.specs.SolveLaws.{AcceptedTextsAreShort}
-use Rattle.def_program_laws.proofs.CertificateLineWidths.{few_digits, few_signed, widths, widths-append, text_width, each_width, head_width, HasSmallNumbers, trace_line_width, weights_width, value_width, bracket_width}
+use Rattle.def_program_laws.proofs.CertificateLineWidths.{few_digits, few_signed, widths, widths-append, text_width, each_width, version_width, head_width, HasSmallNumbers, trace_line_width, weights_width, value_width, bracket_width, second_width}
 
 -- ---- the trace
 small_lines : (head : Head) (lines : List TraceLine) → HeadFits head → TraceFits head lines
@@ -126,40 +129,63 @@ bounds_width head b fits below few_one few_two =
       bracket_width b.low b.high below.low below.high,
     )
 
-head_alone_short : (head : Head) → HeadFits head → length (cert_text (without_bounds head)) < most_cert_bytes
-head_alone_short head fits =
-    omega (
-      arith,
-      text_width (whole_certificate.items (without_bounds head)),
-      head_width head fits,
-      widths-append (head_lines.items head) end_items,
-    )
+-- the lines behind the bounds
+last_width : (v : TextVersion) (head : Head) (bounds : Option PrintedBounds) (second : Option PrintedBracket)
+    → SecondFits v bounds second → widths ((last_lines v head).items (second, tt)) ≤ 142
+last_width v head bounds None fits = omega arith
+last_width versions.One head bounds (Some second) fits = absurd cc
+last_width versions.Two head None (Some second) fits = absurd cc
+last_width versions.Two head (Some b) (Some second) fits =
+    omega (arith, second_width second fits.0 fits.1, widths-append (second_line.items second) end_items)
 
-with_bounds_short : (head : Head) (b : PrintedBounds) → HeadFits head → BoundsFit head b
-    → length (joined b.plan_one.weights) ≤ 2 ^ 20 → length (joined b.plan_two.weights) ≤ 2 ^ 20
-    → length (cert_text (with_bounds head b)) < most_cert_bytes
-with_bounds_short head b fits below few_one few_two =
+-- the bounds have this width, where there are any
+abbrev HasFewWeights : Option PrintedBounds → Type 0
+HasFewWeights None = Unit {0}
+HasFewWeights (Some b) = (length (joined b.plan_one.weights) ≤ 2 ^ 20) × (length (joined b.plan_two.weights) ≤ 2 ^ 20)
+
+middle_width : (head : Head) (bounds : Option PrintedBounds) → HeadFits head → FitsBelowHead head bounds
+    → HasFewWeights bounds → widths (asked_items (bounds_lines head) bounds) ≤ 180000000
+middle_width head None fits below few = omega arith
+middle_width head (Some b) fits below few = bounds_width head b fits below few.0 few.1
+
+short : (v : TextVersion) (head : Head) (bounds : Option PrintedBounds) (second : Option PrintedBracket)
+    → VersionedFits (record { version = v; certificate = record { head = head; bounds = bounds }; second = second })
+    → HasFewWeights bounds
+    → length (versioned_text (record { version = v; certificate = record { head = head; bounds = bounds }; second = second }))
+    < most_cert_bytes
+short v head bounds second fits few =
+    let middle = asked_items (bounds_lines head) bounds in
+    let last = (last_lines v head).items (second, tt) in
     omega (
       arith,
-      text_width (whole_certificate.items (with_bounds head b)),
-      head_width head fits,
-      widths-append (head_lines.items head) ((bounds_lines head).items b ++ end_items),
-      widths-append ((bounds_lines head).items b) end_items,
-      bounds_width head b fits below few_one few_two,
+      text_width (versioned_certificate.items (record { version = v; certificate = record { head = head; bounds = bounds }; second = second })),
+      version_width v,
+      widths-append (version_field.items v) ((head_lines_of v).items head ++ (middle ++ last)),
+      head_width v head fits.certificate.head,
+      widths-append ((head_lines_of v).items head) (middle ++ last),
+      middle_width head bounds fits.certificate.head fits.certificate.below few,
+      widths-append middle last,
+      last_width v head bounds second fits.second,
     )
 
 shown_short : (game : WeighedGame) (bytes : List ℕ) (shown : Verdict) → Shows game bytes shown
     → length bytes < most_cert_bytes
 shown_short game bytes head_only shows =
-    omega (arith, ap length shows.text, head_alone_short shows.head shows.fits.head)
+    omega (arith, ap length shows.text, short shows.version shows.head None None shows.fits tt)
 shown_short game bytes (bracket low high) shows =
-    let fits = shows.fits in
+    let c = shows.certificate in
+    let fits = shows.fits.certificate.head in
     let b = shows.bounds in
     let few_one = few_weights game.form.sets_one b.plan_one shows.shows.plan_one
-    (omega (arith, shows.head_is.sequences_one, fits.head.sequences_one.1)) in
+    (omega (arith, shows.head_is.sequences_one, fits.sequences_one.1)) in
     let few_two = few_weights game.form.sets_two b.plan_two shows.shows.plan_two
-    (omega (arith, shows.head_is.sequences_two, fits.head.sequences_two.1)) in
-    omega (arith, ap length shows.text, with_bounds_short shows.head b fits.head fits.below few_one few_two)
+    (omega (arith, shows.head_is.sequences_two, fits.sequences_two.1)) in
+    omega (
+      arith,
+      ap length shows.text,
+      short c.version c.certificate.head c.certificate.bounds c.second shows.fits
+          (subst HasFewWeights (sym shows.bounds_are) (few_one, few_two)),
+    )
 
 -- no accepted certificate is too long
 pub accepted_short : AcceptedTextsAreShort

@@ -1,5 +1,5 @@
 -- What printed bounds of an accepted file's game say of both players.
-use Rattle.std.proofs.Common.{◌≡◌, ℕ, ◌*◌, ◌≤◌, List, None, ap, sym, subst, ◌∙◌, arith}
+use Rattle.std.proofs.Common.{◌≡◌, ℕ, ◌*◌, ◌≤◌, List, ap, sym, subst, ◌∙◌, arith}
 use Rattle.std.specs.Prelude.{ℤ, pos, ◌+ℤ◌, ◌-ℤ◌, ◌*ℤ◌, ◌≤ℤ◌, neg_ℤ}
 use Rattle.std.proofs.lemmas.Int.{ints}
 use Rattle.std.proofs.Math.Nat.{one-le-mul}
@@ -10,15 +10,12 @@ use Rattle.def_fraction.specs.Fraction.{Fraction, fraction_of}
 use Rattle.def_fraction.proofs.FractionLemmas.{fraction_of-value}
 use Rattle.def_fraction.proofs.OrderLemmas.{times_turned}
 use Rattle.def_file.specs.Content.{GameFile}
-use Rattle.def_file_form.proofs.WholeGames.{stands_for_whole_game}
 use Rattle.def_game_scale.specs.Tables.{Tables, game_sum}
 use Rattle.def_game_scale.specs.Scale.{game_unit}
-use Rattle.def_game_scale.proofs.First.{game_first}
 use Rattle.def_sequence_form.specs.Form.{form_of_game}
 use Rattle.def_reply.specs.Bounds.{IsBestAgainst, IsLeft}
-use Rattle.def_game_numbers.specs.Numbers.{as_file_fault, game_file_fault, tables_of}
+use Rattle.def_game_numbers.specs.Numbers.{tables_of}
 use Rattle.def_game_numbers.specs.Weighed.{weighed_game}
-use Rattle.def_game_numbers.proofs.Fractions.{tables_lowest}
 use Rattle.def_constant_sum.specs.Expected.{ArePlans, expected_payoff}
 use Rattle.def_constant_sum.specs.Bounds.{IsAtMost, IsBestPayoff, IsPlanFor, IsSureOf, KeepsTo, difference_of}
 use Rattle.def_constant_sum.specs.Laws.{IsConstantGame}
@@ -28,17 +25,19 @@ use Rattle.def_constant_sum.proofs.Payments.{expected_payoff-lowest, scale_some,
 use Rattle.def_constant_sum.proofs.Times.{difference-lowest, times-reduced}
 use Rattle.def_constant_sum.proofs.Turning.{bounds_in_weights, each_bounds_the_other}
 use Rattle.def_cert_verdict.specs.Certificate.{PrintedBounds, printed_numbers}
+use Rattle.def_cert_text.specs.Laws.{with_second}
+use Rattle.def_cert_versions.specs.Verdict.{versioned_verdict}
+use Rattle.def_cert_versions.proofs.PlayerTwo.{bounds_player_two}
 use Rattle.def_check.specs.Accepted.{IsAccepted}
+use Rattle.def_check.proofs.Checked.{test_first, tested_ok}
+use Rattle.def_check.proofs.InNumbers.{faultless_game}
 use Rattle.def_program.specs.Bounds.{BoundsHold}
-use Rattle.def_program_laws.specs.Bounds.{BoundsHoldForBothPlayers, HoldForBothPlayers}
+use Rattle.def_program_laws.specs.Bounds.{AcceptedSecondsBoundPlayerTwo, BoundsHoldForBothPlayers, HoldForBothPlayers}
 
 -- an accepted file's game is complete and of constant sum
 constant_game : (bytes : List ℕ) (game : GameFile) → IsAccepted bytes game → IsConstantGame (tables_of game) game.tree
 constant_game bytes game is =
-    let whole = stands_for_whole_game bytes game is.readable.stands in
-    let none : game_file_fault game ≡ None =
-    ap as_file_fault ((game_first (tables_of game) game.tree (tables_lowest game whole.1)).none.1 (is.numbers, is.recall)) in
-    faultless game whole.0 whole.1 none
+    let it = faultless_game bytes game is in faultless game it.whole it.fractions it.no_fault
 
 -- at most what is at most
 at_most-through : (f g h : Fraction) → 1 ≤ g.den → IsAtMost f g → IsAtMost g h → IsAtMost f h
@@ -173,3 +172,11 @@ module _ (game : GameFile) (constant : IsConstantGame (tables_of game) game.tree
 -- bounds that hold of an accepted file's game bound both players
 pub for_both : BoundsHoldForBothPlayers
 for_both bytes game scale b is holds = hold_for_both game (constant_game bytes game is) scale b holds
+
+-- the second bracket of an accepted text bounds player two
+pub seconds_bound : AcceptedSecondsBoundPlayerTwo
+seconds_bound file bytes game head b second shown is text accepted =
+    let c = with_second head b second in
+    let first = test_first file bytes is.readable.length_within game c (record { accepted = is; text = text }) in
+    bounds_player_two game head b second shown (faultless_game file game is)
+    (tested_ok (versioned_verdict (weighed_game game) c) shown (sym first ∙ accepted))

@@ -7,3 +7,4 @@ mod Sharp
 mod ForBoth
 mod Successes
 mod Statuses
+mod Upgraded

@@ -1,6 +1,6 @@
 -- What `solve` and `drill` write is accepted.
 use Rattle.std.proofs.Common.{◌≡◌, ℕ, zero, suc, ◌<◌, ◌≤◌, Bool, cond, List, length, Option, Some, Result, Ok, Err, refl, sym, ap, ◌∙◌, subst, arith}
-use Rattle.std.specs.Option.{option_and_then, option_map}
+use Rattle.std.specs.Option.{option_map}
 use Rattle.std.proofs.lemmas.Bool.{le-ltb}
 use Rattle.std.proofs.lemmas.Option.{same_Some}
 use Rattle.def_tree.specs.declared.Kind.TheVariants.{One, Two}
@@ -17,11 +17,17 @@ use Rattle.def_cert_accepted.specs.OfOutcome.{certificate_of}
 use Rattle.def_cert_accepted.proofs.Accepted.{accepted as run_accepted}
 use Rattle.def_cert_accepted.proofs.Fits.{fits_always}
 use Rattle.def_cert_verdict.specs.Ranges.{CertificateFits}
+use Rattle.def_cert_text.specs.Versions.{VersionedCertificate, VersionedFits, in_version_one}
+use Rattle.def_cert_text.specs.CertText.{versioned_text}
+use Rattle.def_cert_text.proofs.TextLaws.{versioned_reading}
+use Rattle.def_cert_versions.specs.Verdict.{upgraded, versioned_verdict}
+use Rattle.def_cert_versions.proofs.VersionedVerdict.{old_verdicts}
+use Rattle.def_cert_versions.proofs.Upgrades.{upgraded_texts}
 use Rattle.def_check.specs.Accepting.{read_as_accepted}
 use Rattle.def_check.proofs.FileAccepted.{accepted_whole_file}
 use Rattle.def_check.specs.Accepted.{IsAccepted}
 use Rattle.def_game_numbers.specs.Weighed.{weighed_game}
-use Rattle.def_check.proofs.InNumbers.{sets_in_order, some_unit}
+use Rattle.def_check.proofs.InNumbers.{faultless_game, sets_in_order, some_unit}
 use Rattle.def_sequence_form.proofs.Sets.{form_numbers_as_the_tree}
 use Rattle.def_check.specs.Check.{Refusal, checked, most_cert_bytes}
 use Rattle.def_check.specs.Checking.{passed}
@@ -32,17 +38,36 @@ use Rattle.def_command.proofs.InRange.{cards_in_range, settings_in_range}
 use Rattle.def_canon.specs.Canon.{canon}
 use Rattle.def_canon.specs.Poker.{poker}
 use Rattle.def_program.specs.TextLines.{fault_line}
-use Rattle.def_program.specs.CheckLines.{cert_long_line, verdict_text}
+use Rattle.def_program.specs.CheckLines.{cert_long_line, check_text}
 use Rattle.def_program.specs.Text.{form_of_file, game_head, game_outcome, solve_text}
-use Rattle.def_program.specs.Program.{Answer, answer_of, certificate_answer, check_answer, check_told, file_answer, game_answer, made_answer, program, refusal, solved, success}
+use Rattle.def_program.specs.Program.{Answer, answer_of, both_told, certificate_answer, check_answer, check_told, file_answer, game_answer, made_answer, program, refusal, solved, success}
 use Rattle.def_program.proofs.PokerFileIsRead.{made_is}
 use Rattle.def_program.proofs.Played.{head_of_game, played_games_have_bounds}
-use Rattle.def_program_laws.specs.SolveLaws.{IsAcceptedWithBounds, IsTaken, SolvedTextsAreAccepted, SolvedTextsAreShort, WhatDrillWritesCheckAccepts, WhatSolveWritesCheckAccepts}
+use Rattle.def_program.specs.Bounds.{HasItsBounds}
+use Rattle.def_program_laws.specs.SolveLaws.{AreAcceptedAlike, IsAcceptedWithBounds, IsTaken, OldTextsAreAccepted, SolvedTextsAreAccepted, SolvedTextsAreShort, WhatDrillWritesCheckAccepts, WhatSolveWritesCheckAccepts, solve_text_in_one}
 use Rattle.def_program_laws.proofs.Heads.{game_tree, head_fits}
 use Rattle.def_program_laws.proofs.CertificatesAreShort.{accepted_short}
 
 abbrev certificate_of_game : GameFile → Settings → Certificate
 certificate_of_game game settings = certificate_of (form_of_file game) (game_outcome game settings)
+
+module _ (file : List ℕ) (game : GameFile) (is : IsAccepted file game) (c : VersionedCertificate) (shown : Verdict)
+    (fits : VersionedFits c) (judged : versioned_verdict (weighed_game game) c ≡ Ok shown) where
+  -- the verdict on what is within its ranges is checked of its text
+  pub text_is_taken : checked file (versioned_text c) ≡ Ok shown
+  text_is_taken =
+      (checks_are file (versioned_text c) is.readable.length_within (Ok shown)).0
+      (passed game c (record { accepted = is; text = record { fits = fits; text = refl } }) shown judged refl)
+
+module _ (file : List ℕ) (game : GameFile) (is : IsAccepted file game) (c : VersionedCertificate) (shown : Verdict)
+    (fits : VersionedFits c) (judged : versioned_verdict (weighed_game game) c ≡ Ok shown) where
+  -- and of the text of its upgrade
+  pub upgrade_is_taken : checked file (versioned_text (upgraded c)) ≡ Ok shown
+  upgrade_is_taken =
+      let it = upgraded_texts game (versioned_text c) c shown (faultless_game file game is)
+      ((versioned_reading (versioned_text c) c).1 (fits, refl)) judged in
+      text_is_taken file game is (upgraded c) shown ((versioned_reading (versioned_text (upgraded c)) (upgraded c)).0 it.read).0
+      it.accepted
 
 module _ (file : List ℕ) (game : GameFile) (settings : Settings) (workers : Option ℕ) (is : IsAccepted file game)
     (range : InRange settings workers) where
@@ -55,18 +80,29 @@ module _ (file : List ℕ) (game : GameFile) (settings : Settings) (workers : Op
       (λ k set low. (two.actions k set low).1) (head_of_game game settings)
       (head_fits file game is settings workers range)
 
-  -- what its verdict is, is checked of the text
-  checked_is : (shown : Verdict) → verdict (weighed_game game) (certificate_of_game game settings) ≡ Ok shown
-      → checked file (solve_text game settings) ≡ Ok shown
-  checked_is shown judged =
-      (checks_are file (solve_text game settings) is.readable.length_within (Ok shown)).0
-      (passed game (certificate_of_game game settings)
-      (record { accepted = is; text = record { fits = certificate_fits; text = refl } }) shown judged refl)
+  old_fits : VersionedFits (in_version_one (certificate_of_game game settings))
+  old_fits = record { certificate = certificate_fits; second = refl }
+
+  module _ (shown : Verdict) (judged : verdict (weighed_game game) (certificate_of_game game settings) ≡ Ok shown) where
+    old_verdict : versioned_verdict (weighed_game game) (in_version_one (certificate_of_game game settings)) ≡ Ok shown
+    old_verdict = (old_verdicts.accepted (weighed_game game) (certificate_of_game game settings) shown).1 judged
+
+    -- what its verdict is, is checked of the text of version 1
+    checked_in_one : checked file (solve_text_in_one game settings) ≡ Ok shown
+    checked_in_one =
+        text_is_taken file game is (in_version_one (certificate_of_game game settings)) shown old_fits old_verdict
+
+    -- and of that of version 2
+    checked_is : checked file (solve_text game settings) ≡ Ok shown
+    checked_is =
+        upgrade_is_taken file game is (in_version_one (certificate_of_game game settings)) shown old_fits old_verdict
+
+  judged_alone : settings.rounds ≡ 0 → verdict (weighed_game game) (certificate_of_game game settings) ≡ Ok head_only
+  judged_alone none =
+      run_accepted.no_round (weighed_game game) (game_head game settings) (head_of_game game settings) none
 
   no_round : settings.rounds ≡ 0 → checked file (solve_text game settings) ≡ Ok head_only
-  no_round none =
-      checked_is head_only
-      (run_accepted.no_round (weighed_game game) (game_head game settings) (head_of_game game settings) none)
+  no_round none = checked_is head_only (judged_alone none)
 
   -- what is shown of bounds that are there is these bounds
   own_bounds : (b : PrintedBounds) (low high : Fraction) → (certificate_of_game game settings).bounds ≡ Some b
@@ -80,19 +116,25 @@ module _ (file : List ℕ) (game : GameFile) (settings : Settings) (workers : Op
       (ap (verdict (weighed_game game)) (sym same) ∙ judged) in
       judged ∙ ap (λ (f : Fraction). Ok (bracket f high)) parts.2 ∙ ap (λ (f : Fraction). Ok (bracket b.low f)) parts.3
 
-  some_round : 1 ≤ settings.rounds → IsAcceptedWithBounds file game settings
-  some_round some =
-      let has = played_games_have_bounds file game settings is some range.some_scale in
-      let ends = runs_have_ends (form_of_file game) settings.scale settings.every settings.rounds some in
-      record {
-        bounds = has.bounds;
-        are = has.are;
-        text = has.text;
-        shown = checked_is (bracket has.bounds.low has.bounds.high) (own_bounds has.bounds _ _ has.are
-            (run_accepted.some_round (weighed_game game) (game_head game settings) ends.0
-            (sets_in_order file game is.readable.stands One refl) (sets_in_order file game is.readable.stands Two refl)
-            (head_of_game game settings) (some_unit file game is.readable.stands) range.some_scale ends.1));
-      }
+  module _ (some : 1 ≤ settings.rounds) where
+    has : HasItsBounds game settings
+    has = played_games_have_bounds file game settings is some range.some_scale
+
+    judged_with_bounds : verdict (weighed_game game) (certificate_of_game game settings)
+        ≡ Ok (bracket has.bounds.low has.bounds.high)
+    judged_with_bounds =
+        let ends = runs_have_ends (form_of_file game) settings.scale settings.every settings.rounds some in
+        own_bounds has.bounds _ _ has.are (run_accepted.some_round (weighed_game game) (game_head game settings) ends.0
+        (sets_in_order file game is.readable.stands One refl) (sets_in_order file game is.readable.stands Two refl)
+        (head_of_game game settings) (some_unit file game is.readable.stands) range.some_scale ends.1)
+
+    some_round : IsAcceptedWithBounds file game settings
+    some_round = record {
+      bounds = has.bounds;
+      are = has.are;
+      text = has.text;
+      shown = checked_is (bracket has.bounds.low has.bounds.high) judged_with_bounds;
+    }
 
 -- the text of `solve` is accepted
 pub solved_accepted : SolvedTextsAreAccepted
@@ -111,7 +153,24 @@ shown_of file game settings workers is range (suc n) some =
     let with = some_round file game settings workers is range (omega (arith, some)) in
     record { shown = bracket with.bounds.low with.bounds.high; is = with.shown }
 
--- and isn't too long
+-- and so is the text of version 1, with the same verdict
+pub old_accepted : OldTextsAreAccepted
+old_accepted file game settings workers is range = by_rounds settings.rounds refl
+  where
+    alike : (shown : Verdict) → verdict (weighed_game game) (certificate_of_game game settings) ≡ Ok shown
+        → AreAcceptedAlike file (solve_text game settings) (solve_text_in_one game settings)
+    alike shown judged = record {
+      shown = shown;
+      first = checked_is file game settings workers is range shown judged;
+      second = checked_in_one file game settings workers is range shown judged;
+    }
+
+    by_rounds : (rounds : ℕ) → settings.rounds ≡ rounds
+        → AreAcceptedAlike file (solve_text game settings) (solve_text_in_one game settings)
+    by_rounds zero none = alike head_only (judged_alone file game settings workers is range none)
+    by_rounds (suc n) some = alike _ (judged_with_bounds file game settings workers is range (omega (arith, some)))
+
+-- the text of `solve` isn't too long
 pub solved_short : SolvedTextsAreShort
 solved_short file game settings workers is range =
     let found = shown_of file game settings workers is range settings.rounds refl in
@@ -130,15 +189,18 @@ was_solved bytes text settings (Err fault) read answer = absurd (omega (arith, a
 was_solved bytes text settings (Ok game) read answer =
     record { game = game; is = (accepted_whole_file bytes game).0 read; text_is = ap (λ (a : Answer). a.text) answer }
 
--- what is said of files that aren't too long
-said_of : (bytes text : List ℕ) (shown : Verdict) → length bytes ≤ most_bytes → length text < most_cert_bytes
-    → checked bytes text ≡ Ok shown → check_told bytes (Some text) ≡ Some (success (verdict_text shown))
-said_of bytes text shown short few is =
-    ap (λ (b : Bool). cond b (Some (refusal (fault_line TooLong))) (Some (certificate_answer bytes text)))
+-- what is said of files that are told and aren't too long
+pub said_of : (said : List ℕ → Verdict → List ℕ) (first second : Option (List ℕ)) (bytes text : List ℕ) (shown : Verdict)
+    → first ≡ Some bytes → second ≡ Some text → length bytes ≤ most_bytes → length text < most_cert_bytes
+    → checked bytes text ≡ Ok shown → both_told said first second ≡ Some (success (said text shown))
+said_of said first second bytes text shown there other short few is =
+    ap (λ (o : Option (List ℕ)). both_told said o second) there
+    ∙ ap (check_told said bytes) other
+    ∙ ap (λ (b : Bool). cond b (Some (refusal (fault_line TooLong))) (Some (certificate_answer said bytes text)))
     (le-ltb most_bytes (length bytes) short)
-    ∙ ap (λ (b : Bool). Some (cond b (refusal cert_long_line) (check_answer (checked bytes text))))
+    ∙ ap (λ (b : Bool). Some (cond b (refusal cert_long_line) (check_answer (said text) (checked bytes text))))
     (le-ltb most_cert_bytes (length text) (omega (arith, few)))
-    ∙ ap (λ (r : Result Verdict Refusal). Some (check_answer r)) is
+    ∙ ap (λ (r : Result Verdict Refusal). Some (check_answer (said text) r)) is
 
 -- words of `check` that name files which tell a game and what is written of it
 module _ (others : List (List ℕ)) (after : List ℕ → Option (List ℕ)) (game_path text_path bytes text : List ℕ)
@@ -153,9 +215,8 @@ module _ (others : List (List ℕ)) (after : List ℕ → Option (List ℕ)) (ga
       record {
         shown = seen.shown;
         said = ap (λ (c : Option Command). answer_of c after) check
-            ∙ ap (λ (o : Option (List ℕ)). option_and_then (λ file. check_told file (after text_path)) o) game_there
-            ∙ ap (check_told bytes) text_there
-            ∙ said_of bytes text seen.shown found.is.readable.length_within
+            ∙ said_of check_text (after game_path) (after text_path) bytes text seen.shown game_there text_there
+            found.is.readable.length_within
             (subst (λ (t : List ℕ). length t < most_cert_bytes) found.text_is few)
             (subst (λ (t : List ℕ). checked bytes t ≡ Ok seen.shown) found.text_is seen.is);
       }

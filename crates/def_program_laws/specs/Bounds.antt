@@ -3,7 +3,9 @@
 --     BoundsAreSharp              LOW is the greatest, and HIGH the least
 --     HoldForBothPlayers          what LOW and HIGH say of what each player is expected to get
 --     BoundsHoldForBothPlayers    they say so of an accepted file's game
-use Rattle.std.specs.Prelude.{◌≡◌, ℕ, ◌*◌, ◌≤◌, List, ℤ}
+--     AcceptedSecondsBoundPlayerTwo
+--                                 what the second bracket of an accepted text says of player two
+use Rattle.std.specs.Prelude.{◌≡◌, ℕ, ◌*◌, ◌≤◌, List, ℤ, Ok}
 use Rattle.def_tree.specs.declared.Player.TheVariants.{One, Two}
 use Rattle.def_tree.specs.Tree.{Forest}
 use Rattle.def_fraction.specs.Fraction.{Fraction, fraction_of}
@@ -19,7 +21,14 @@ use Rattle.def_constant_sum.specs.Bounds.{IsAtMost, IsBestPayoff, IsGainOfBoth, 
 use Rattle.def_cert_verdict.specs.Certificate.{PrintedBounds, printed_numbers}
 use Rattle.def_plan.specs.Weighed.{WeighedGame}
 use Rattle.def_cert_verdict.specs.Laws.{ConcedesAtMost, GetsAtLeast}
+use Rattle.def_cert_verdict.specs.Verdict.{Verdict}
+use Rattle.def_reply.specs.Outcome.{Head}
+use Rattle.def_cert_text.specs.Versions.{PrintedBracket}
+use Rattle.def_cert_text.specs.Laws.{with_second}
+use Rattle.def_cert_versions.specs.PlayerTwo.{BoundsPlayerTwo}
 use Rattle.def_check.specs.Accepted.{IsAccepted}
+use Rattle.def_check.specs.Check.{checked}
+use Rattle.def_check.specs.Checking.{IsTextOf}
 use Rattle.def_program.specs.Bounds.{BoundsHold}
 
 -- two plans have one total exploitability
@@ -65,3 +74,11 @@ pub record HoldForBothPlayers (tables : Tables) (tree : Forest) (b : PrintedBoun
 abbrev pub BoundsHoldForBothPlayers : Type 0
 BoundsHoldForBothPlayers = (bytes : List ℕ) (game : GameFile) (scale : ℕ) (b : PrintedBounds) → IsAccepted bytes game
     → BoundsHold (weighed_game game) scale b → HoldForBothPlayers (tables_of game) game.tree b
+
+-- whoever wrote it, the second bracket of a text of version 2 that is accepted against a file bounds player two of its
+-- game: what its plan is sure of, and what no plan is sure of more than
+abbrev pub AcceptedSecondsBoundPlayerTwo : Type 0
+AcceptedSecondsBoundPlayerTwo = (file bytes : List ℕ) (game : GameFile) (head : Head) (b : PrintedBounds)
+    (second : PrintedBracket) (shown : Verdict) → IsAccepted file game → IsTextOf bytes (with_second head b second)
+    → checked file bytes ≡ Ok shown
+    → BoundsPlayerTwo (tables_of game) game.tree (printed_numbers b.plan_one) (printed_numbers b.plan_two) second

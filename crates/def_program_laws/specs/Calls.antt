@@ -1,8 +1,9 @@
 -- Worked rows from the words of a call and the bytes of the files to the bytes of the answer.
-use Rattle.std.specs.Prelude.{◌≡◌, ℕ, List, [], ◌∷◌, ◌++◌, codes, Option, Some, None}
+use Rattle.std.specs.Prelude.{◌≡◌, ℕ, List, [], ◌∷◌, ◌++◌, codes, length, Option, Some, None}
 use Rattle.def_canon.specs.PokerRows.{two_cards}
 use Rattle.def_program.specs.Program.{Answer, program}
-use Rattle.def_program_laws.specs.Files.{pennies_of_scale_one, pennies_of_scale_ten, poker_of_one_round, poker_unplayed, files_told, quoted_numbers}
+use Rattle.def_program_laws.specs.Files.{files_told, pennies_of_one_round, pennies_of_scale_one, pennies_of_scale_ten}
+use Rattle.def_program_laws.specs.Files.{poker_of_one_round, poker_unplayed, quoted_numbers}
 
 -- the answer to words of which the first is a command's
 abbrev answer_to : List ℕ → List (List ℕ) → Option Answer
@@ -22,6 +23,9 @@ usage_of line = Some (record { status = 2; text = []; line = line })
 -- ---- rows
 
 pub record SolveRows : Type 0 where
+  pub one_round : answer_to (codes "solve") (codes "pennies" ∷ codes "--rounds=1" ∷ [])
+      ≡ success_of pennies_of_one_round
+  pub bytes : length pennies_of_one_round ≡ 265
   pub each_round : answer_to (codes "solve")
       (codes "pennies" ∷ codes "--rounds=2" ∷ codes "--every=1" ∷ codes "--scale=1" ∷ [])
       ≡ success_of pennies_of_scale_one
@@ -36,11 +40,31 @@ pub record CheckRows : Type 0 where
       ≡ success_of (codes "accepted -1 0\n")
   pub drilled : answer_to (codes "check") (codes "poker" ∷ codes "drilled" ∷ [])
       ≡ success_of (codes "accepted -1/2 1/2\n")
+  pub of_version_one : answer_to (codes "check") (codes "pennies" ∷ codes "old" ∷ [])
+      ≡ success_of (codes "accepted 0 0\n")
+  pub other_second : answer_to (codes "check") (codes "pennies" ∷ codes "second" ∷ [])
+      ≡ refusal_of (codes "refused 33 SecondDiffers\n")
   pub of_other_game : answer_to (codes "check") (codes "quoted" ∷ codes "certificate" ∷ [])
       ≡ refusal_of (codes "refused 27 HeadDiffers line 2\n")
   pub no_certificate : answer_to (codes "check") (codes "quoted" ∷ codes "pennies" ∷ [])
       ≡ refusal_of (codes "refused 22 CertSyntax at 0\n")
   pub file_first : answer_to (codes "check") (codes "unfair" ∷ codes "unfair" ∷ [])
+      ≡ refusal_of (codes "refused 17 NotConstantSum node 5\n")
+
+-- what is accepted is written in version 2, and what isn't is refused as `check` refuses it
+pub record UpgradeRows : Type 0 where
+  pub of_version_one : answer_to (codes "upgrade") (codes "pennies" ∷ codes "old" ∷ [])
+      ≡ success_of pennies_of_one_round
+  pub of_version_two : answer_to (codes "upgrade") (codes "pennies" ∷ codes "new" ∷ [])
+      ≡ success_of pennies_of_one_round
+  pub no_round : answer_to (codes "upgrade") (codes "poker" ∷ codes "unplayed" ∷ []) ≡ success_of poker_unplayed
+  pub other_total : answer_to (codes "upgrade") (codes "pennies" ∷ codes "total" ∷ [])
+      ≡ refusal_of (codes "refused 31 TotalDiffers lower\n")
+  pub other_second : answer_to (codes "upgrade") (codes "pennies" ∷ codes "second" ∷ [])
+      ≡ refusal_of (codes "refused 33 SecondDiffers\n")
+  pub no_certificate : answer_to (codes "upgrade") (codes "quoted" ∷ codes "pennies" ∷ [])
+      ≡ refusal_of (codes "refused 22 CertSyntax at 0\n")
+  pub file_first : answer_to (codes "upgrade") (codes "unfair" ∷ codes "unfair" ∷ [])
       ≡ refusal_of (codes "refused 17 NotConstantSum node 5\n")
 
 pub record InfoRows : Type 0 where
@@ -57,8 +81,10 @@ pub record MadeGameRows : Type 0 where
 pub record UnansweredRows : Type 0 where
   pub words : answer_to (codes "help") []
       ≡ usage_of (codes "usage: xg_solve solve FILE [--rounds N] [--every N] [--scale N] [--workers N]"
-      ++ codes " | check FILE CERT | info FILE | gen N | drill N\n")
+      ++ codes " | check FILE CERT | upgrade FILE CERT | info FILE | gen N | drill N\n")
   pub solve : answer_to (codes "solve") (codes "absent" ∷ []) ≡ None
   pub info : answer_to (codes "info") (codes "absent" ∷ []) ≡ None
   pub check : answer_to (codes "check") (codes "absent" ∷ codes "certificate" ∷ []) ≡ None
   pub certificate : answer_to (codes "check") (codes "pennies" ∷ codes "absent" ∷ []) ≡ None
+  pub upgrade : answer_to (codes "upgrade") (codes "absent" ∷ codes "certificate" ∷ []) ≡ None
+  pub upgraded : answer_to (codes "upgrade") (codes "pennies" ∷ codes "absent" ∷ []) ≡ None

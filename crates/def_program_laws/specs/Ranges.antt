@@ -6,7 +6,8 @@ use Rattle.def_cert_text.specs.declared.fault.CertFault.{CertFault}
 use Rattle.def_cert_text.specs.declared.fault.CertFault.TheVariants.{CertNumber}
 use Rattle.def_cert_text.specs.Formats.{Format}
 use Rattle.def_cert_text.specs.CertText.{asked_line, bracket_line, line_of_round, mass_line, plan_lines, reply_lines}
-use Rattle.def_cert_text.specs.CertText.{sequences_line, sets_line, size_line, unit_line, value_line, weights_line}
+use Rattle.def_cert_text.specs.CertText.{sequences_line, sets_line, size_line, unit_alone_line, unit_line, value_line}
+use Rattle.def_cert_text.specs.CertText.{weights_line}
 
 -- what reading gives of bytes that are read alone
 abbrev read_alone : {A : Type 0} → Format A → List ℕ → Result (A × List ℕ) CertFault
@@ -33,6 +34,10 @@ pub record HeadRangeRows : Type 0 where
   pub most_unit : read_alone unit_line (codes "unit 4611686018427387904\n") ≡ Ok ((4611686018427387904, zero_fraction), [])
   pub no_unit : read_alone unit_line (codes "unit 0\n") ≡ Err (CertNumber 5)
   pub large_unit : read_alone unit_line (codes "unit 4611686018427387905\n") ≡ Err (CertNumber 5)
+  pub least_unit_alone : read_alone unit_alone_line (codes "unit 1\n") ≡ Ok (1, [])
+  pub most_unit_alone : read_alone unit_alone_line (codes "unit 4611686018427387904\n") ≡ Ok (4611686018427387904, [])
+  pub no_unit_alone : read_alone unit_alone_line (codes "unit 0\n") ≡ Err (CertNumber 5)
+  pub large_unit_alone : read_alone unit_alone_line (codes "unit 4611686018427387905\n") ≡ Err (CertNumber 5)
   pub least_sum : read_alone unit_line (codes "unit 1 sum -4611686018427387904\n")
       ≡ Ok ((1, whole_number (negative_of 4611686018427387904)), [])
   pub most_sum : read_alone unit_line (codes "unit 1 sum 4611686018427387904\n")

@@ -2,7 +2,9 @@
 //! code here: each function's contract is a law of the definitions, or rows that they give.
 
 ghost use Rattle.def_program_laws.specs.Answers.{SuccessIsOfOneCheck, SuccessIsOfOneGame};
-ghost use Rattle.def_program_laws.specs.Bounds.{BoundsAreSharp, BoundsHoldForBothPlayers, ExploitabilityIsOne};
+ghost use Rattle.def_program_laws.specs.Answers.{UpgradesAreRefusedAsChecks};
+ghost use Rattle.def_program_laws.specs.Bounds.{AcceptedSecondsBoundPlayerTwo, BoundsAreSharp};
+ghost use Rattle.def_program_laws.specs.Bounds.{BoundsHoldForBothPlayers, ExploitabilityIsOne};
 ghost use Rattle.def_program_laws.specs.BoundRows.{BothPlayersRows, ExploitabilityRows};
 
 /// Two plans have one total exploitability.
@@ -27,6 +29,12 @@ pub fn bounds_hold_for_both_players()
     ensures { BoundsHoldForBothPlayers }
 {}
 
+/// Whoever wrote it, the second bracket of an accepted text of version 2 bounds what player two gets in the file's
+/// game, in player two's own payoff.
+pub fn accepted_seconds_bound_player_two()
+    ensures { AcceptedSecondsBoundPlayerTwo }
+{}
+
 /// Rows: in matching pennies for one coin, of LOW 1/2 and HIGH 2/3 player two gets at most 1/2 and at least 1/3, and both
 /// players together could gain 1/6.
 pub fn both_players_rows()
@@ -38,7 +46,13 @@ pub fn success_is_of_one_game()
     ensures { SuccessIsOfOneGame }
 {}
 
-/// A successful `check` checked one certificate against one file, and said what was found of these.
+/// A successful `check` or `upgrade` checked one certificate against one file, and wrote the verdict on it, or its
+/// upgrade.
 pub fn success_is_of_one_check()
     ensures { SuccessIsOfOneCheck }
+{}
+
+/// `upgrade` of two files is refused with a line exactly where `check` of them is refused with it.
+pub fn upgrades_are_refused_as_checks()
+    ensures { UpgradesAreRefusedAsChecks }
 {}

@@ -3,20 +3,27 @@
 //! definitions give, or a law of them.
 
 ghost use Rattle.def_program_laws.specs.Calls.{CheckRows, InfoRows, MadeGameRows, SolveRows, UnansweredRows};
+ghost use Rattle.def_program_laws.specs.Calls.{UpgradeRows};
 ghost use Rattle.def_program_laws.specs.Games.{CanonicalRows, PokerFaultRows, PokerGameRows};
 ghost use Rattle.def_program_laws.specs.Limits.{LimitRows};
 ghost use Rattle.def_program_laws.specs.Lines.{OtherFaultLineRows, StatusesHaveTheirLines};
 ghost use Rattle.def_program_laws.specs.Ranges.{BoundRangeRows, HeadRangeRows};
 
-/// Rows: `solve` of matching pennies, with two choices of rounds, evaluations and scale, and of a file with a fault.
+/// Rows: `solve` of matching pennies, with three choices of rounds, evaluations and scale, and of a file with a fault.
 pub fn solve_rows()
     ensures { SolveRows }
 {}
 
-/// Rows: `check` of two certificates that are accepted, of one of another game, of bytes that are none, and of a file
-/// with a fault.
+/// Rows: `check` of certificates of both versions that are accepted, of one whose second bracket isn't what the sum
+/// leaves, of one of another game, of bytes that are none, and of a file with a fault.
 pub fn check_rows()
     ensures { CheckRows }
+{}
+
+/// Rows: `upgrade` of certificates of both versions, also without a round, of two that aren't accepted, of bytes that
+/// are none, and of a file with a fault.
+pub fn upgrade_rows()
+    ensures { UpgradeRows }
 {}
 
 /// Rows: `info` of a game whose names have quotation marks.

@@ -21,4 +21,5 @@ returns c = record {
   lower = refl;
   upper = refl;
   trace = refl;
+  second = refl;
 }

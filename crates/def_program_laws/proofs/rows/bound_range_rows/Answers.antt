@@ -2,14 +2,13 @@ use Rattle.std.proofs.Common.{refl}
 use Rattle.std.specs.Fmt.{digits}
 use Rattle.def_fraction.specs.Divisors.{gcd}
 use Rattle.def_fraction.specs.Fraction.{fraction_of}
-use Rattle.def_cert_text.specs.CertText.{cert_in}
 use Rattle.def_cert_text.specs.Fields.{items_text, read_field}
 use Rattle.def_cert_text.specs.Formats.{each_fits, each_items, read_each, read_last, read_number, read_row}
 use Rattle.def_cert_text.specs.Numbers.{fraction_in, integer_in, whole_in}
 use Rattle.def_program_laws.proofs.rows.bound_range_rows.Goals as goal
 
 pub returns : goal.returns
-unfolding digits gcd fraction_of cert_in items_text read_field each_fits each_items read_each read_last read_number read_row fraction_in integer_in whole_in
+unfolding digits gcd fraction_of items_text read_field each_fits each_items read_each read_last read_number read_row fraction_in integer_in whole_in
 returns c = record {
   least_ends = refl;
   most_ends = refl;
