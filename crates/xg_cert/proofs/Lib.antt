@@ -4,3 +4,5 @@ pub mod Pieces
 pub mod Cuts
 pub mod CertificateAnswerLaws
 pub mod ManyRead
+pub mod FormEnds
+pub mod Seconds

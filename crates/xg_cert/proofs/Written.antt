@@ -10,7 +10,9 @@ use Rattle.def_cert_text.specs.Fields.{space, feed, FieldKind, Item, field, sepa
 use Rattle.def_cert_text.proofs.FormatLaws.{items_text-append}
 use Rattle.def_reply.specs.Outcome.{Head}
 use Rattle.def_cert_text.specs.Formats.{Format, text_of, each_items, row_items}
-use Rattle.def_cert_text.specs.CertText.{size_line, sets_line, sequences_line, unit_line, mass_line, head_text}
+use Rattle.def_cert_text.specs.CertText.{size_line, sets_line, sequences_line, unit_line, mass_line, unit_alone_line, sum_line, payoff_lines, head_text_of}
+use Rattle.def_cert_text.specs.declared.version.TextVersion.{TextVersion}
+use Rattle.def_cert_text.specs.declared.version.TextVersion.TheVariants as versions
 use Rattle.xg_cert.specs.Writes.{field_text, counts_text, units_text}
 
 -- ---- items
@@ -62,19 +64,28 @@ then_two before middle now k l w v s t items r e h =
     subst (λ (text : List ℕ). Writes before now text r) (sym (items_text-append front items))
     (then_rest before middle now (items_text front) (items_text items) r e h)
 
--- the lines 2 to 6 are the counts and the units
-pub head-parts : (head : Head) → counts_text head ++ units_text head ≡ head_text head
-head-parts head =
+-- the lines of the game's numbers are the counts and the units
+units-items : (v : TextVersion) (head : Head)
+    → units_text v head ≡ items_text ((payoff_lines v).items ((head.unit, head.sum), head.mass))
+units-items versions.One head = sym (items_text-append (unit_line.items (head.unit, head.sum)) (mass_line.items head.mass))
+units-items versions.Two head =
+    let mass : List Item = mass_line.items head.mass in
+    let sum : List Item = sum_line.items head.sum in
+    ap (λ (bs : List ℕ). items_text (unit_alone_line.items head.unit) ++ bs) (sym (items_text-append mass sum))
+    ∙ sym (items_text-append (unit_alone_line.items head.unit) (mass ++ sum))
+
+pub head-parts : (v : TextVersion) (head : Head) → counts_text head ++ units_text v head ≡ head_text_of v head
+head-parts v head =
     let size : List Item = size_line.items (head.nodes, head.leaves) in
     let sets : List Item = sets_line.items (head.sets_one, head.sets_two) in
     let sequences : List Item = sequences_line.items (head.sequences_one, head.sequences_two) in
-    let unit : List Item = unit_line.items (head.unit, head.sum) in
-    let mass : List Item = mass_line.items head.mass in
-    let counts : counts_text head ≡ items_text (size ++ (sets ++ sequences)) =
-    ap (λ (bs : List ℕ). items_text size ++ bs) (sym (items_text-append sets sequences))
-    ∙ sym (items_text-append size (sets ++ sequences)) in
-    (λ i. counts i ++ sym (items_text-append unit mass) i)
-    ∙ sym (items_text-append (size ++ (sets ++ sequences)) (unit ++ mass))
+    let units : List Item = (payoff_lines v).items ((head.unit, head.sum), head.mass) in
+    ap (λ (bs : List ℕ). counts_text head ++ bs) (units-items v head)
+    ∙ append_assoc (items_text size) (items_text sets ++ items_text sequences) (items_text units)
+    ∙ ap (λ (bs : List ℕ). items_text size ++ bs) (append_assoc (items_text sets) (items_text sequences) (items_text units)
+    ∙ ap (λ (bs : List ℕ). items_text sets ++ bs) (sym (items_text-append sequences units))
+    ∙ sym (items_text-append sets (sequences ++ units)))
+    ∙ sym (items_text-append size (sets ++ (sequences ++ units)))
 
 -- ---- loops
 

@@ -2,9 +2,14 @@
 use Rattle.std.specs.Prelude.{ℕ, ◌≤◌, Option, Some, None}
 use Rattle.def_sums.specs.Limits.{most_rounds}
 use Rattle.def_tree.specs.Rules.{most_nodes}
-use Rattle.def_cert_verdict.specs.Certificate.{PrintedBounds, Certificate}
+use Rattle.def_fraction.specs.Fraction.{Fraction}
+use Rattle.def_cert_verdict.specs.Certificate.{PrintedBounds}
+use Rattle.def_cert_text.specs.Versions.{PrintedBracket, VersionedCertificate}
+use Rattle.def_cert_text.specs.declared.version.TextVersion.{TextVersion}
+use Rattle.def_cert_text.specs.declared.version.TextVersion.TheVariants as versions
 use Rattle.xg_cert.specs.declared.head.Head.{Head}
 use Rattle.xg_cert.specs.declared.cert.BoundsLines.{BoundsLines}
+use Rattle.xg_cert.specs.declared.cert.CertLines.{CertLines}
 use Rattle.xg_cert.specs.declared.read_lines.Asked.{Asked}
 use Rattle.xg_cert.specs.declared.read_lines.ValueLine.{ValueLine}
 use Rattle.def_reply.specs.Reply.{SetReply}
@@ -25,8 +30,23 @@ abbrev pub bounds_where_given : Option BoundsLines → Option PrintedBounds
 bounds_where_given None = None
 bounds_where_given (Some b) = Some (bounds_of b)
 
-abbrev pub certificate_read : Head → Option BoundsLines → Certificate
-certificate_read head bounds = record { head = head_of head; bounds = bounds_where_given bounds }
+abbrev pub bracket_of : (Fraction × Fraction) → PrintedBracket
+bracket_of ends = record { low = ends.0; high = ends.1 }
+
+abbrev pub second_where_given : Option (Fraction × Fraction) → Option PrintedBracket
+second_where_given None = None
+second_where_given (Some ends) = Some (bracket_of ends)
+
+abbrev pub certificate_read : CertLines → VersionedCertificate
+certificate_read c = record {
+  version = c.version;
+  certificate = record { head = head_of c.head; bounds = bounds_where_given c.bounds };
+  second = second_where_given c.second;
+}
+
+abbrev pub version_number : TextVersion → ℕ
+version_number versions.One = 1
+version_number versions.Two = 2
 
 -- the parts of lines
 abbrev pub asked_of : Asked → (ℕ × (ℕ × ℕ))

@@ -1,10 +1,11 @@
 //! Further lines of the text that have a field for each number.
 ghost use Rattle.std.specs.Prelude.{◌≡◌, [], ◌∷◌, codes};
 ghost use Rattle.std.specs.Fmt.{decimal, signed_decimal};
+ghost use Rattle.def_fraction.specs.Text.{fraction_text};
 ghost use Rattle.def_outside.specs.Cause.{HasCause};
 ghost use Rattle.def_cert_text.specs.Fields.{space, feed, fixed_word, number, field, separator, items_text};
 ghost use Rattle.def_cert_text.specs.Formats.{text_of};
-ghost use Rattle.def_cert_text.specs.CertText.{asked_text, bracket_line, last_text, line_of_round, value_line};
+ghost use Rattle.def_cert_text.specs.CertText.{asked_text, last_text, line_of_round, value_line};
 ghost use Rattle.xg_cert.specs.Outcome.{head_of};
 ghost use Rattle.xg_cert.specs.Writable.{opening_line};
 ghost use Rattle.def_outside.specs.Sinks.{Writes};
@@ -21,7 +22,7 @@ pub(crate) fn put_first_line<O: Sink>(out: &mut O) -> Result<(), WriteFault>
     ensures text { Writes (O.written out.old) (O.written out.new) opening_line result }
     ensures cause { HasCause (O.faults out.old) (O.faults out.new) result }
 {
-    write_all(out, b"XGCERT 1\n")
+    write_all(out, b"XGCERT 2\n")
 }
 
 pub(crate) fn put_last_line<O: Sink>(out: &mut O) -> Result<(), WriteFault>
@@ -100,12 +101,20 @@ pub(crate) fn put_value_line<O: Sink>(
     put_whole(choice as u64, b'\n', out)
 }
 
+/// A word, and both ends of a bracket.
 #[tactic(auto, using(crate::proofs::Written::first_field, crate::proofs::Written::then_field, crate::proofs::Written::last_field))]
-pub(crate) fn put_bracket<O: Sink>(low: Ratio, high: Ratio, out: &mut O) -> Result<(), WriteFault>
-    ensures text { Writes (O.written out.old) (O.written out.new) (text_of bracket_line (low, high)) result }
+pub(crate) fn put_ends_line<O: Sink>(
+    word: &[u8],
+    low: Ratio,
+    high: Ratio,
+    out: &mut O,
+) -> Result<(), WriteFault>
+    ensures text { Writes (O.written out.old) (O.written out.new)
+        (items_text (field fixed_word word.now ∷ separator space ∷ field number (fraction_text low)
+        ∷ separator space ∷ field number (fraction_text high) ∷ separator feed ∷ [])) result }
     ensures cause { HasCause (O.faults out.old) (O.faults out.new) result }
 {
-    put_field(b"bracket", b' ', out)?;
+    put_field(word, b' ', out)?;
     put_fraction(low, b' ', out)?;
     put_fraction(high, b'\n', out)
 }

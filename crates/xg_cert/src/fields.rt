@@ -7,7 +7,7 @@ ghost use Rattle.def_outside.specs.Sinks.{Writes};
 ghost use Rattle.xg_cert.specs.Writes.{field_text};
 
 use itoa::Buffer;
-use xg_frac::{Frac, Ratio, put_frac, put_ratio};
+use xg_frac::{Ratio, put_ratio};
 use xg_io::{Sink, WriteFault, write_all};
 
 /// Any bytes.
@@ -45,15 +45,5 @@ pub(crate) fn put_fraction<O: Sink>(r: Ratio, separator: u8, out: &mut O) -> Res
     ensures cause { HasCause (O.faults out.old) (O.faults out.new) result }
 {
     put_ratio(r, out)?;
-    write_all(out, &[separator])
-}
-
-/// A fraction with small parts.
-#[tactic(auto, using(xg_io::proofs::Pieces::prefix_first, xg_io::proofs::Pieces::then_rest), unfolding(crate::specs::Writes::field_text))]
-pub(crate) fn put_small<O: Sink>(f: Frac, separator: u8, out: &mut O) -> Result<(), WriteFault>
-    ensures text { Writes (O.written out.old) (O.written out.new) (field_text (fraction_text f) separator) result }
-    ensures cause { HasCause (O.faults out.old) (O.faults out.new) result }
-{
-    put_frac(f, out)?;
     write_all(out, &[separator])
 }

@@ -1,6 +1,7 @@
 #![tactic(auto)]
 //! The certificate of a run: what a run leaves, its text, and what a text says.
 
+mod bounds;
 mod cert;
 mod cert_lines;
 mod fields;
@@ -16,11 +17,11 @@ mod refused;
 mod writing;
 
 pub use cert::Cert;
-pub use def_cert_text::CertFault;
+pub use def_cert_text::{CertFault, TextVersion};
 pub use def_reply::TraceLine as TraceRow;
 pub use head::Head;
 pub use lines::write_head;
 pub use outcome::{End, Outcome};
 pub use reading::read_cert;
 pub use refused::CertRefused;
-pub use writing::write_cert;
+pub use writing::{write_cert, write_upgraded};

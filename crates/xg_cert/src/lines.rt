@@ -6,39 +6,50 @@ ghost use Rattle.def_outside.specs.Cause.{HasCause};
 ghost use Rattle.def_outside.specs.Sinks.{AppendsPrefix, Writes};
 ghost use Rattle.def_cert_text.specs.Fields.{space, feed, fixed_word, number, field, separator, items_text};
 ghost use Rattle.def_cert_text.specs.Formats.{text_of};
-ghost use Rattle.def_cert_text.specs.CertText.{head_text, size_line, sum_field, unit_line};
+ghost use Rattle.def_cert_text.specs.CertText.{head_text, head_text_of, size_line, sum_line, unit_line};
+ghost use Rattle.def_cert_text.specs.declared.version.TextVersion.TheVariants as versions;
 ghost use Rattle.xg_cert.specs.Outcome.{head_of};
 ghost use Rattle.xg_cert.specs.Writes.{counts_text, named_text, units_text};
 
-use crate::fields::{put_field, put_small, put_whole};
+use crate::fields::{put_field, put_fraction, put_whole};
 use crate::head::Head;
-use xg_frac::Frac;
+use def_cert_text::TextVersion;
+use xg_frac::{Frac, Ratio, ratio};
 use xg_io::{Sink, WriteFault};
 
-/// Writes the lines 2 to 6 of the text, which are the game's. After an error a front of them was written. Takes no
-/// memory.
+/// Writes the lines 2 to 6 of a text of version 1, which are the game's. After an error a front of them was written.
+/// Takes no memory.
 pub fn write_head<O: Sink>(head: &Head, out: &mut O) -> Result<(), WriteFault>
     ensures appended { OnOk result (O.written out.new ≡ append_known (O.written out.old) (head_text (head_of head.now))) }
     ensures prefix { OnErr result (AppendsPrefix (O.written out.old) (O.written out.new) (head_text (head_of head.now))) }
     ensures cause { HasCause (O.faults out.old) (O.faults out.new) result }
 {
-    put_head(head, out)
+    put_head(TextVersion::One, head, out)
 }
 
-pub(crate) fn put_head<O: Sink>(head: &Head, out: &mut O) -> Result<(), WriteFault>
-    ensures text { Writes (O.written out.old) (O.written out.new) (head_text (head_of head.now)) result }
+/// The lines of the game's numbers.
+pub(crate) fn put_head<O: Sink>(
+    version: TextVersion,
+    head: &Head,
+    out: &mut O,
+) -> Result<(), WriteFault>
+    ensures text { Writes (O.written out.old) (O.written out.new) (head_text_of version (head_of head.now)) result }
     ensures cause { HasCause (O.faults out.old) (O.faults out.new) result }
 {
-    put_parts(head, out)
+    put_parts(version, head, out)
 }
 
 #[tactic(auto, using(xg_io::proofs::Pieces::prefix_first, xg_io::proofs::Pieces::then_rest))]
-fn put_parts<O: Sink>(head: &Head, out: &mut O) -> Result<(), WriteFault>
-    ensures text { Writes (O.written out.old) (O.written out.new) (counts_text (head_of head.now) ++ units_text (head_of head.now)) result }
+fn put_parts<O: Sink>(version: TextVersion, head: &Head, out: &mut O) -> Result<(), WriteFault>
+    ensures text { Writes (O.written out.old) (O.written out.new)
+        (counts_text (head_of head.now) ++ units_text version (head_of head.now)) result }
     ensures cause { HasCause (O.faults out.old) (O.faults out.new) result }
 {
     put_counts(head, out)?;
-    put_units(head, out)
+    match version {
+        TextVersion::One => put_units(head, out),
+        TextVersion::Two => put_units_and_sum(head, out),
+    }
 }
 
 #[tactic(auto, using(xg_io::proofs::Pieces::prefix_first, xg_io::proofs::Pieces::then_rest))]
@@ -53,11 +64,22 @@ fn put_counts<O: Sink>(head: &Head, out: &mut O) -> Result<(), WriteFault>
 
 #[tactic(auto, using(xg_io::proofs::Pieces::prefix_first, xg_io::proofs::Pieces::then_rest))]
 fn put_units<O: Sink>(head: &Head, out: &mut O) -> Result<(), WriteFault>
-    ensures text { Writes (O.written out.old) (O.written out.new) (units_text (head_of head.now)) result }
+    ensures text { Writes (O.written out.old) (O.written out.new) (units_text versions.One (head_of head.now)) result }
     ensures cause { HasCause (O.faults out.old) (O.faults out.new) result }
 {
     put_unit_line(head.unit, head.sum, out)?;
     put_named(b"mass", head.mass, b'\n', out)
+}
+
+/// The unit, the mass and the sum, which has a line of its own.
+#[tactic(auto, using(xg_io::proofs::Pieces::prefix_first, xg_io::proofs::Pieces::then_rest))]
+fn put_units_and_sum<O: Sink>(head: &Head, out: &mut O) -> Result<(), WriteFault>
+    ensures text { Writes (O.written out.old) (O.written out.new) (units_text versions.Two (head_of head.now)) result }
+    ensures cause { HasCause (O.faults out.old) (O.faults out.new) result }
+{
+    put_named(b"unit", head.unit, b'\n', out)?;
+    put_named(b"mass", head.mass, b'\n', out)?;
+    put_sum(head.sum, out)
 }
 
 /// The unit, and the sum where it isn't 0.
@@ -75,11 +97,17 @@ fn put_unit_line<O: Sink>(unit: u64, sum: Frac, out: &mut O) -> Result<(), Write
 
 #[tactic(auto, using(crate::proofs::Written::first_field, crate::proofs::Written::then_field, crate::proofs::Written::last_field))]
 fn put_sum<O: Sink>(sum: Frac, out: &mut O) -> Result<(), WriteFault>
-    ensures text { Writes (O.written out.old) (O.written out.new) (text_of sum_field sum) result }
+    ensures text { Writes (O.written out.old) (O.written out.new) (text_of sum_line sum) result }
     ensures cause { HasCause (O.faults out.old) (O.faults out.new) result }
 {
     put_field(b"sum", b' ', out)?;
-    put_small(sum, b'\n', out)
+    put_fraction(wide(sum), b'\n', out)
+}
+
+fn wide(f: Frac) -> Ratio
+    ensures { result ≡ f }
+{
+    ratio(f.num(), f.den())
 }
 
 #[tactic(auto, using(crate::proofs::Written::first_two, crate::proofs::Written::then_two))]

@@ -4,14 +4,17 @@ ghost use Rattle.std.specs.Fmt.{decimal};
 ghost use Rattle.def_sums.specs.Limits.{most_rounds};
 ghost use Rattle.def_tree.specs.Rules.{most_nodes};
 ghost use Rattle.def_cert_text.specs.Fields.{space, feed, number};
-ghost use Rattle.def_cert_text.specs.Formats.{and_then, fixed_field, whole_field};
-ghost use Rattle.def_cert_text.specs.CertText.{after_word, size_line, unit_line, mass_line, asked_line, head_lines, line_of_round, value_line, bracket_line};
+ghost use Rattle.def_cert_text.specs.Formats.{and_then, fixed_field, fraction_field, whole_field};
+ghost use Rattle.def_cert_text.specs.CertText.{after_word, size_line, unit_line, mass_line, payoff_lines, asked_line};
+ghost use Rattle.def_cert_text.specs.CertText.{head_lines_of, line_of_round, value_line, bracket_line, second_line};
+ghost use Rattle.def_cert_text.specs.declared.version.TextVersion.TheVariants as versions;
+ghost use Rattle.def_cert_verdict.specs.Ranges.{most_printed};
 ghost use Rattle.xg_cert_fields.specs.Reading.{GivesValue};
 ghost use Rattle.xg_cert.specs.Outcome.{head_of};
-ghost use Rattle.xg_cert.specs.ReadCert.{set_reply_of, asked_of};
+ghost use Rattle.xg_cert.specs.ReadCert.{bracket_of, set_reply_of, asked_of};
 
 use crate::head::Head;
-use def_cert_text::CertFault;
+use def_cert_text::{CertFault, TextVersion};
 use def_reply::TraceLine;
 use def_sums::{MOST_MASS, MOST_ROUNDS, MOST_SCALE};
 use itoa::Buffer;
@@ -82,6 +85,46 @@ fn mass_line(reader: &mut FieldReader<'_>) -> Result<u64, CertFault>
     reader.whole(0, MOST_MASS, b'\n')
 }
 
+/// The unit with the sum, and the mass.
+fn payoff_lines(
+    reader: &mut FieldReader<'_>,
+    version: TextVersion,
+) -> Result<((u64, Frac), u64), CertFault>
+    ensures exact { GivesValue (λ p. p) result reader.new.left
+        ((payoff_lines version).read reader.old.total reader.old.left) }
+    ensures total { reader.new.total ≡ reader.old.total }
+{
+    match version {
+        TextVersion::One => payoffs_of_one(reader),
+        TextVersion::Two => payoffs_of_two(reader),
+    }
+}
+
+/// The same of version 1, where the sum stands behind the unit.
+fn payoffs_of_one(reader: &mut FieldReader<'_>) -> Result<((u64, Frac), u64), CertFault>
+    ensures exact { GivesValue (λ p. p) result reader.new.left
+        ((payoff_lines versions.One).read reader.old.total reader.old.left) }
+    ensures total { reader.new.total ≡ reader.old.total }
+{
+    let unit = unit_line(reader)?;
+    let mass = mass_line(reader)?;
+    Ok((unit, mass))
+}
+
+/// The same of version 2, where the sum has a line of its own.
+fn payoffs_of_two(reader: &mut FieldReader<'_>) -> Result<((u64, Frac), u64), CertFault>
+    ensures exact { GivesValue (λ p. p) result reader.new.left
+        ((payoff_lines versions.Two).read reader.old.total reader.old.left) }
+    ensures total { reader.new.total ≡ reader.old.total }
+{
+    reader.word(b"unit", b' ')?;
+    let unit = reader.whole(1, MOST_PART as u64, b'\n')?;
+    let mass = mass_line(reader)?;
+    reader.word(b"sum", b' ')?;
+    let sum = reader.small(b'\n')?;
+    Ok(((unit, sum), mass))
+}
+
 fn asked_line(reader: &mut FieldReader<'_>) -> Result<Asked, CertFault>
     ensures exact { GivesValue asked_of result reader.new.left (asked_line.read reader.old.total reader.old.left) }
     ensures total { reader.new.total ≡ reader.old.total }
@@ -101,9 +144,13 @@ fn asked_line(reader: &mut FieldReader<'_>) -> Result<Asked, CertFault>
     })
 }
 
-/// The lines 2 to 7.
-pub(crate) fn head_lines(reader: &mut FieldReader<'_>) -> Result<Head, CertFault>
-    ensures exact { GivesValue head_of result reader.new.left (head_lines.read reader.old.total reader.old.left) }
+/// The game's numbers, and what was asked.
+pub(crate) fn head_lines(
+    reader: &mut FieldReader<'_>,
+    version: TextVersion,
+) -> Result<Head, CertFault>
+    ensures exact { GivesValue head_of result reader.new.left
+        ((head_lines_of version).read reader.old.total reader.old.left) }
     ensures total { reader.new.total ≡ reader.old.total }
     ensures sets { IfOk result (λ head. (head.sets.0 ≤ most_nodes) × (head.sets.1 ≤ most_nodes)) }
     ensures rounds { IfOk result (λ head. head.rounds ≤ most_rounds) }
@@ -112,8 +159,7 @@ pub(crate) fn head_lines(reader: &mut FieldReader<'_>) -> Result<Head, CertFault
     let (nodes, leaves) = size_line(reader)?;
     let sets = pair_line(reader, b"sets", 0)?;
     let sequences = pair_line(reader, b"sequences", 1)?;
-    let (unit, sum) = unit_line(reader)?;
-    let mass = mass_line(reader)?;
+    let ((unit, sum), mass) = payoff_lines(reader, version)?;
     let asked = asked_line(reader)?;
     Ok(Head {
         nodes,
@@ -176,7 +222,26 @@ pub(crate) fn bracket_line(reader: &mut FieldReader<'_>) -> Result<(Ratio, Ratio
     ensures exact { GivesValue (λ p. p) result reader.new.left (bracket_line.read reader.old.total reader.old.left) }
     ensures total { reader.new.total ≡ reader.old.total }
 {
-    reader.word(b"bracket", b' ')?;
+    ends_line(reader, b"bracket")
+}
+
+pub(crate) fn second_line(reader: &mut FieldReader<'_>) -> Result<(Ratio, Ratio), CertFault>
+    ensures exact { GivesValue bracket_of result reader.new.left (second_line.read reader.old.total reader.old.left) }
+    ensures total { reader.new.total ≡ reader.old.total }
+{
+    let ends = ends_line(reader, b"second")?;
+    Ok(ends)
+}
+
+/// A word, and both ends of a bracket.
+fn ends_line(reader: &mut FieldReader<'_>, word: &[u8]) -> Result<(Ratio, Ratio), CertFault>
+    ensures exact { GivesValue (λ p. p) result reader.new.left
+        ((after_word word.now
+        (and_then (fraction_field most_printed space) (λ _. fraction_field most_printed feed))).read
+        reader.old.total reader.old.left) }
+    ensures total { reader.new.total ≡ reader.old.total }
+{
+    reader.word(word, b' ')?;
     let low = reader.fraction(b' ')?;
     let high = reader.fraction(b'\n')?;
     Ok((low, high))

@@ -1,81 +1,89 @@
 //! Reading a text.
-ghost use Rattle.std.specs.Prelude.{◌≡◌, ◌≤◌, Ok, Err, IfOk, nat_lt};
+ghost use Rattle.std.specs.Prelude.{◌≡◌, ◌≤◌, ◌&&◌, Ok, Err, IfOk, nat_lt};
 ghost use Rattle.def_tree.specs.Rules.{most_nodes};
-ghost use Rattle.def_cert_verdict.specs.Ranges.{CertificateFits};
-ghost use Rattle.def_cert_verdict.specs.Certificate.{Certificate};
+ghost use Rattle.def_cert_text.specs.Versions.{VersionedCertificate, VersionedFits, has_second};
 ghost use Rattle.def_cert_text.specs.declared.fault.CertFault as fault;
 ghost use Rattle.def_cert_text.specs.Formats.{where_asked};
-ghost use Rattle.def_cert_text.specs.CertText.{bounds_lines, cert_in, cert_text, plan_lines, reply_lines, whole_certificate};
-ghost use Rattle.def_cert_text.specs.FirstFault.{FirstCertFault};
+ghost use Rattle.def_cert_text.specs.CertText.{bounds_lines, plan_lines, reply_lines, second_line};
+ghost use Rattle.def_cert_text.specs.CertText.{versioned_certificate, versioned_in, versioned_text};
+ghost use Rattle.def_cert_text.specs.FirstFault.{FirstVersionedFault};
 ghost use Rattle.xg_cert.specs.declared.refused.CertRefused.TheVariants as refused;
 ghost use Rattle.xg_cert.specs.Answers.{AnswersCertificate, AnswersAs, GivesValueFor};
 ghost use Rattle.xg_cert.specs.Outcome.{head_of};
 ghost use Rattle.xg_cert.specs.ReadCert.{IsReadHead, bounds_of, bounds_where_given, certificate_read};
+ghost use Rattle.xg_cert.specs.ReadCert.{second_where_given};
+ghost use Rattle.xg_cert_fields.specs.Reading.{GivesValue};
 
-use crate::cert::{BoundsLines, Cert};
+use crate::cert::{BoundsLines, Cert, CertLines};
 use crate::head::Head;
 use crate::printed::{PlanLines, ReplyLines};
-use crate::read_lines::{bracket_line, head_lines};
+use crate::read_lines::{bracket_line, head_lines, second_line};
 use crate::read_lists::{trace_lines, value_lines, weights_lines};
 use crate::refused::CertRefused;
+use def_cert_text::{CertFault, TextVersion};
 use def_sums::MOST_ROOT;
 use std::alloc::Global;
 use xg_cert_fields::FieldReader;
+use xg_frac::Ratio;
 
-/// Reads a certificate from the bytes of its text, version 1.
+/// Reads a certificate from the bytes of its text, of either version.
 ///
 /// Memory apart, the answer is the certificate that the bytes say, or their first fault.
 pub fn read_cert(alloc: Global, bytes: &[u8]) -> Result<Cert, CertRefused>
-    ensures exact { AnswersCertificate result (cert_in bytes.now) }
+    ensures exact { AnswersCertificate result (versioned_in bytes.now) }
 
     // What is read is within its ranges and the bytes are its text, and each such text is read.
-    ensures fits { IfOk result CertificateFits }
-    ensures text { IfOk result (λ cert. bytes.now ≡ cert_text cert) }
-    ensures only { (cert : Certificate) → CertificateFits cert → bytes.now ≡ cert_text cert → AnswersCertificate result (Ok cert) }
+    ensures fits { IfOk result VersionedFits }
+    ensures text { IfOk result (λ cert. bytes.now ≡ versioned_text cert) }
+    ensures only { (cert : VersionedCertificate) → VersionedFits cert → bytes.now ≡ versioned_text cert
+        → AnswersCertificate result (Ok cert) }
 
     // A fault is the first of the bytes, and the first is the fault.
-    ensures first { (f : fault.CertFault) → result ≡ Err (refused.Cert f) → FirstCertFault bytes.now f }
-    ensures faults { (f : fault.CertFault) → FirstCertFault bytes.now f → AnswersCertificate result (Err f) }
+    ensures first { (f : fault.CertFault) → result ≡ Err (refused.Cert f) → FirstVersionedFault bytes.now f }
+    ensures faults { (f : fault.CertFault) → FirstVersionedFault bytes.now f → AnswersCertificate result (Err f) }
 {
     read_text(alloc, bytes)
 }
 
 /// The same, by what reading gives.
 fn read_text(alloc: Global, bytes: &[u8]) -> Result<Cert, CertRefused>
-    ensures { AnswersCertificate result (cert_in bytes.now) }
+    ensures { AnswersCertificate result (versioned_in bytes.now) }
 {
-    let (head, bounds) = read_parts(alloc, bytes)?;
-    Ok(Cert { head, bounds })
+    let lines = read_lines(alloc, bytes)?;
+    Ok(Cert { lines })
 }
 
-#[tactic(auto, unfolding(def_cert_text::specs::CertText::cert_in))]
-fn read_parts(alloc: Global, bytes: &[u8]) -> Result<(Head, Option<BoundsLines>), CertRefused>
-    ensures { AnswersAs (λ p. certificate_read p.0 p.1) result (cert_in bytes.now) }
+#[tactic(auto, unfolding(def_cert_text::specs::CertText::versioned_in))]
+fn read_lines(alloc: Global, bytes: &[u8]) -> Result<CertLines, CertRefused>
+    ensures { AnswersAs certificate_read result (versioned_in bytes.now) }
 {
     let mut reader = FieldReader::new(bytes);
-    let parts = whole_certificate(&mut reader, alloc)?;
+    let lines = whole_certificate(&mut reader, alloc)?;
     reader.end()?;
-    Ok(parts)
+    Ok(lines)
 }
 
 /// All lines up to the last.
-fn whole_certificate(
-    reader: &mut FieldReader<'_>,
-    alloc: Global,
-) -> Result<(Head, Option<BoundsLines>), CertRefused>
-    ensures exact { GivesValueFor (λ p. certificate_read p.0 p.1) result reader.new.left
-        (whole_certificate.read reader.old.total reader.old.left) }
+fn whole_certificate(reader: &mut FieldReader<'_>, alloc: Global) -> Result<CertLines, CertRefused>
+    ensures exact { GivesValueFor certificate_read result reader.new.left
+        (versioned_certificate.read reader.old.total reader.old.left) }
     ensures total { reader.new.total ≡ reader.old.total }
 {
     reader.word(b"XGCERT", b' ')?;
-    reader.version(b"1", b'\n')?;
-    let head = head_lines(reader)?;
+    let version = reader.version()?;
+    let head = head_lines(reader, version)?;
     let bounds = bounds_where_asked(reader, alloc, &head)?;
+    let second = second_where_asked(reader, version, &head)?;
     reader.word(b"end", b'\n')?;
-    Ok((head, bounds))
+    Ok(CertLines {
+        version,
+        head,
+        bounds,
+        second,
+    })
 }
 
-/// All below the head, which is there where a round was asked.
+/// All from the trace to the bracket, which is there where a round was asked.
 fn bounds_where_asked(
     reader: &mut FieldReader<'_>,
     alloc: Global,
@@ -92,6 +100,24 @@ fn bounds_where_asked(
     }
     let bounds = bounds_lines(reader, alloc, head)?;
     Ok(Some(bounds))
+}
+
+/// The bracket of player two's own payoff, which is there in version 2 where a round was asked.
+fn second_where_asked(
+    reader: &mut FieldReader<'_>,
+    version: TextVersion,
+    head: &Head,
+) -> Result<Option<(Ratio, Ratio)>, CertFault>
+    ensures exact { GivesValue second_where_given result reader.new.left
+        ((where_asked (has_second version && nat_lt 0 head.now.rounds) second_line).read
+        reader.old.total reader.old.left) }
+    ensures total { reader.new.total ≡ reader.old.total }
+{
+    if version == TextVersion::One || head.rounds == 0 {
+        return Ok(None);
+    }
+    let second = second_line(reader)?;
+    Ok(Some(second))
 }
 
 fn bounds_lines(

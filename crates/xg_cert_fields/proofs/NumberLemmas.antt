@@ -1,19 +1,18 @@
 -- Numbers as fields.
 use Rattle.std.proofs.Common.{◌≡◌, ℕ, suc, ◌+◌, ◌/◌, ◌^◌, ◌<◌, ◌≤◌, ◌≤ℤ◌, Bool, true, false, cond, leb, ◌&&◌, List, ◌∷◌, length, get_or, drop, drop-cons, Option, Some, None, Ok, ℤ, pos, negsuc, unsigned_abs, IsTrue, refl, sym, ap, ◌∙◌, subst, arith, ⊎_elim}
-use Rattle.std.specs.Prelude.{not}
 use Rattle.std.specs.Char.{is_ascii_digit}
 use Rattle.std.specs.Str.{all_ascii_digits}
 use Rattle.std.proofs.Math.Nat.{div-lt_self}
-use Rattle.std.proofs.lemmas.Bool.{and_parts, and_from, eq-eqb, ne_eqb, leb-true, le-leb, not-true, cases_lt}
+use Rattle.std.proofs.lemmas.Bool.{and_parts, and_from, eq-eqb, ne_eqb, leb-true, le-leb, cases_lt}
 use Rattle.std.proofs.lemmas.Int.{ints}
 use Rattle.def_fraction.specs.Divisors.{gcd}
-use Rattle.def_fraction.specs.Fraction.{Fraction, fraction_of, fits, most, is_zero}
+use Rattle.def_fraction.specs.Fraction.{Fraction, fraction_of, fits, most}
 use Rattle.def_fraction.specs.Reading.{read_as_literal}
 use Rattle.def_fraction.proofs.DivisorLemmas.{gcd-positive}
 use Rattle.def_fraction.proofs.FractionLemmas.{fraction_of-lowest}
 use Rattle.def_fraction.proofs.TextLemmas.{read_as_literal-fraction_text}
 use Rattle.def_cert_verdict.specs.Ranges.{most_printed}
-use Rattle.def_cert_text.specs.Numbers.{fraction_in, nonzero_in, over_in, unless_zero}
+use Rattle.def_cert_text.specs.Numbers.{fraction_in, over_in}
 use Rattle.def_cert_text.proofs.FieldLaws.{fraction_again, fraction_only}
 
 -- ---- digits one after another
@@ -66,7 +65,7 @@ lost_in_lowest_terms num (pos d) f is some lost =
     λ one. lost (ap (λ (g : Fraction). pos g.den) (is ∙ fraction_of-lowest (record { num = num; den = d }) (record { positive = positive; coprime = one }))) in
     rw (ne_eqb (gcd (unsigned_abs num) d) 1 kept) refl
 
--- ---- a fraction that isn't 0, with small parts
+-- ---- a fraction with small parts
 -- what is read within a limit is read as the same within a greater one
 read_wider : (narrow wide : ℕ) (bytes : List ℕ) (f : Fraction) → 1 ≤ narrow → narrow ≤ wide → wide ≤ 2 ^ 126
     → fraction_in narrow bytes ≡ Some f
@@ -80,45 +79,36 @@ read_wider narrow wide bytes f one wider small e =
     )
 
 -- where no such fraction is read within the great limit, none is read within the small one
-none_read : (bytes : List ℕ)
-    → ((f : Fraction) → fraction_in most_printed bytes ≡ Some f → (not (is_zero f) && fits f) ≡ true → ⊥)
-    → nonzero_in most bytes ≡ None
-unfolding nonzero_in
+none_read : (bytes : List ℕ) → ((f : Fraction) → fraction_in most_printed bytes ≡ Some f → fits f ≡ true → ⊥)
+    → fraction_in most bytes ≡ None
 none_read bytes none = by (fraction_in most bytes) refl
   where
-    by : (o : Option Fraction) → fraction_in most bytes ≡ o → unless_zero o ≡ None
+    by : (o : Option Fraction) → fraction_in most bytes ≡ o → o ≡ None
     by None e = refl
-    by (Some f) e = by_zero (is_zero f) refl
-      where
-        by_zero : (t : Bool) → is_zero f ≡ t → cond t None (Some f) ≡ None
-        by_zero true h = refl
-        by_zero false h =
-            let p = read_wider most most_printed bytes f (omega arith) (omega arith) (omega arith) e in
-            absurd (none f p.0 (and_from (not (is_zero f)) (fits f) (ap not h) (and_from (leb (unsigned_abs f.num) most) (leb f.den most) (le-leb (unsigned_abs f.num) most p.1) (le-leb f.den most p.2))))
+    by (Some f) e =
+        let p = read_wider most most_printed bytes f (omega arith) (omega arith) (omega arith) e in
+        absurd (none f p.0 (and_from (leb (unsigned_abs f.num) most) (leb f.den most) (le-leb (unsigned_abs f.num) most p.1) (le-leb f.den most p.2)))
 
 -- where no fraction is read within the great limit, none is read within the small one
-pub none_at_all : (bytes : List ℕ) → fraction_in most_printed bytes ≡ None → nonzero_in most bytes ≡ None
+pub none_at_all : (bytes : List ℕ) → fraction_in most_printed bytes ≡ None → fraction_in most bytes ≡ None
 none_at_all bytes none = none_read bytes (λ f e fit. (let bad = sym none ∙ e in cc))
 
--- where a fraction is read that is 0 or has a part past the small limit, none is read within it
-pub none_fits : (bytes : List ℕ) (f : Fraction) → fraction_in most_printed bytes ≡ Some f
-    → (not (is_zero f) && fits f) ≡ false → nonzero_in most bytes ≡ None
+-- where a fraction is read that has a part past the small limit, none is read within it
+pub none_fits : (bytes : List ℕ) (f : Fraction) → fraction_in most_printed bytes ≡ Some f → fits f ≡ false
+    → fraction_in most bytes ≡ None
 none_fits bytes f read unfit = none_read bytes (λ g e fit.
     (let same : g ≡ f = (let both = sym e ∙ read in cc) in
-    let bad = sym unfit ∙ ap (λ h. not (is_zero h) && fits h) (sym same) ∙ fit in cc))
+    let bad = sym unfit ∙ ap fits (sym same) ∙ fit in cc))
 
--- where a fraction is read that isn't 0 and has small parts, it is read within the small limit, and as a literal
-pub nonzero_read : (bytes : List ℕ) (f : Fraction) → fraction_in most_printed bytes ≡ Some f
-    → (not (is_zero f) && fits f) ≡ true
-    → (nonzero_in most bytes ≡ Some f) × (read_as_literal bytes ≡ Ok f)
-unfolding nonzero_in
-nonzero_read bytes f read fit =
+-- where a fraction is read that has small parts, it is read within the small limit, and as a literal
+pub small_read : (bytes : List ℕ) (f : Fraction) → fraction_in most_printed bytes ≡ Some f → fits f ≡ true
+    → (fraction_in most bytes ≡ Some f) × (read_as_literal bytes ≡ Ok f)
+small_read bytes f read fit =
     let p = fraction_only most_printed f bytes (omega arith) (omega arith) read in
     let is = p.0 in
-    let some = and_parts (not (is_zero f)) (fits f) fit in
-    let parts = and_parts (leb (unsigned_abs f.num) most) (leb f.den most) some.1 in
-    let within : fraction_in most bytes ≡ Some f =
-    ap (fraction_in most) p.1 ∙ fraction_again most f (omega arith) (record { positive = is.positive; coprime = is.coprime; num = leb-true (unsigned_abs f.num) most parts.0; den = leb-true f.den most parts.1 }) in (
-      ap unless_zero within ∙ ap (λ t. cond t None (Some f)) (not-true (is_zero f) some.0),
-      ap read_as_literal p.1 ∙ read_as_literal-fraction_text f (record { positive = is.positive; coprime = is.coprime }) some.1,
+    let parts = and_parts (leb (unsigned_abs f.num) most) (leb f.den most) fit in (
+      ap (fraction_in most) p.1
+          ∙ fraction_again most f (omega arith)
+          (record { positive = is.positive; coprime = is.coprime; num = leb-true (unsigned_abs f.num) most parts.0; den = leb-true f.den most parts.1 }),
+      ap read_as_literal p.1 ∙ read_as_literal-fraction_text f (record { positive = is.positive; coprime = is.coprime }) fit,
     )

@@ -5,5 +5,5 @@
 mod numbers;
 mod reader;
 
-pub use def_cert_text::CertFault;
+pub use def_cert_text::{CertFault, TextVersion};
 pub use reader::{EndedNumber, FieldReader};

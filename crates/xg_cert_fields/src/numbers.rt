@@ -1,14 +1,17 @@
 //! Numbers as fields.
-ghost use Rattle.std.specs.Prelude.{◌≡◌, ◌<◌, ◌≤◌, ◌≤ℤ◌, ◌==◌, ◌&&◌, not, if◌then◌else◌, length, min, pos, unsigned_abs, Some, None, IfSome, IsTrue};
+ghost use Rattle.std.specs.Prelude.{◌≡◌, ◌<◌, ◌≤◌, ◌≤ℤ◌, if◌then◌else◌, length, min};
+ghost use Rattle.std.specs.Prelude.{pos, unsigned_abs, Some, None, IfSome, IsTrue};
 ghost use Rattle.std.specs.List.{prefix_len};
 ghost use Rattle.std.specs.Str.{all_ascii_digits};
 ghost use Rattle.def_fraction.specs.Digits.{is_numeral, number_of};
 ghost use Rattle.def_fraction.specs.Divisors.{gcd};
-ghost use Rattle.def_fraction.specs.Fraction.{fits, most, whole_number, is_zero};
+ghost use Rattle.def_fraction.specs.Fraction.{fits, most, whole_number};
+ghost use Rattle.def_cert_text.specs.CertText.{version_in};
 ghost use Rattle.def_cert_text.specs.Numbers.{fraction_in, integer_in, is_no_slash, leads_no_zero, nonzero_in, over_in, whole_in};
 ghost use Rattle.xg_frac.specs.Scan.{past_all};
 ghost use Rattle.def_cert_verdict.specs.Ranges.{most_printed};
 
+use def_cert_text::TextVersion;
 use def_cert_verdict::ranges::MOST_PRINTED;
 use def_fraction::NumberFault;
 use xg_frac::{Frac, MOST_PART, PAST, Ratio, ratio, read_literal, read_whole};
@@ -123,20 +126,43 @@ pub(crate) fn fraction_in(field: &[u8]) -> Option<Ratio>
     }
 }
 
-fn is_small_nonzero(fraction: Ratio) -> bool
-    ensures { result ≡ (not (is_zero fraction) && fits fraction) }
+fn is_small(fraction: Ratio) -> bool
+    ensures { result ≡ fits fraction }
 {
-    let size = fraction.num().unsigned_abs();
-    size != 0 && size <= MOST_PART && fraction.den().unsigned_abs() <= MOST_PART
+    fraction.num().unsigned_abs() <= MOST_PART && fraction.den().unsigned_abs() <= MOST_PART
 }
 
-/// A fraction in lowest terms that isn't 0, with small parts.
-pub(crate) fn nonzero_in(field: &[u8]) -> Option<Frac>
-    ensures { result ≡ nonzero_in most field.now }
+/// A fraction in lowest terms with small parts.
+pub(crate) fn small_in(field: &[u8]) -> Option<Frac>
+    ensures { result ≡ fraction_in most field.now }
 {
     let fraction = fraction_in(field)?;
-    if !is_small_nonzero(fraction) {
+    if !is_small(fraction) {
         return None;
     }
     read_literal(field).ok()
+}
+
+/// Such a fraction that isn't 0.
+#[tactic(auto, unfolding(def_cert_text::specs::Numbers::nonzero_in))]
+pub(crate) fn nonzero_in(field: &[u8]) -> Option<Frac>
+    ensures { result ≡ nonzero_in most field.now }
+{
+    let fraction = small_in(field)?;
+    if fraction.is_zero() {
+        return None;
+    }
+    Some(fraction)
+}
+
+/// A version, by its digit.
+#[tactic(auto, unfolding(def_cert_text::specs::CertText::version_in))]
+pub(crate) fn version_in(field: &[u8]) -> Option<TextVersion>
+    ensures { result ≡ version_in field.now }
+{
+    match field {
+        [b'1'] => Some(TextVersion::One),
+        [b'2'] => Some(TextVersion::Two),
+        _ => None,
+    }
 }

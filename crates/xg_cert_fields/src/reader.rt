@@ -1,15 +1,15 @@
 //! A reader of fields.
 ghost use Rattle.std.specs.Prelude.{◌≡◌, ◌^◌, ◌<◌, ◌≤◌, ◌-◌, length, IfOk, take, drop, Some, None, [], ◌∷◌};
 ghost use Rattle.std.specs.List.{prefix_len};
-ghost use Rattle.def_cert_text.specs.Fields.{fixed_word, number, version, is_field_byte, separated_by};
+ghost use Rattle.def_cert_text.specs.Fields.{fixed_word, number, is_field_byte, read_field, separated_by};
 ghost use Rattle.def_cert_text.specs.Formats.{fixed_field, whole_field, integer_field, fraction_field, nonzero_field, read_number};
-ghost use Rattle.def_cert_text.specs.CertText.{if_at_end};
+ghost use Rattle.def_cert_text.specs.CertText.{if_at_end, version_field};
 ghost use Rattle.def_fraction.specs.Fraction.{most};
 ghost use Rattle.def_cert_verdict.specs.Ranges.{most_printed};
-ghost use Rattle.xg_cert_fields.specs.Reading.{GivesValue};
+ghost use Rattle.xg_cert_fields.specs.Reading.{GivesValue, small_in};
 
-use crate::numbers::{fraction_in, integer_in, nonzero_in, whole_in};
-use def_cert_text::CertFault;
+use crate::numbers::{fraction_in, integer_in, nonzero_in, small_in, version_in, whole_in};
+use def_cert_text::{CertFault, TextVersion};
 use std::marker::Model;
 use xg_frac::{Frac, Ratio};
 
@@ -86,22 +86,23 @@ impl<'a> FieldReader<'a> {
         self.separator(separator)
     }
 
-    /// The text's version.
+    /// The text's version, and its line feed.
     #[tactic(auto, unfolding(def_cert_text::specs::Fields::read_field))]
-    pub fn version(&mut self, wanted: &[u8], separator: u8) -> Result<(), CertFault>
-        ensures exact { GivesValue (λ _. tt) result self.new.left
-            ((fixed_field version wanted.now separator).read self.old.total self.old.left) }
+    pub fn version(&mut self) -> Result<TextVersion, CertFault>
+        ensures exact { GivesValue (λ v. v) result self.new.left
+            (version_field.read self.old.total self.old.left) }
         ensures total { self.new.total ≡ self.old.total }
     {
         let (field, left) = self.left.split_at(field_len(self.left));
         if left.is_empty() {
             return Err(CertFault::CertShort);
         }
-        if field != wanted {
+        let Some(version) = version_in(field) else {
             return Err(CertFault::CertVersion);
-        }
+        };
         self.left = left;
-        self.separator(separator)
+        self.separator(b'\n')?;
+        Ok(version)
     }
 
     /// A number that is known, by its digits.
@@ -184,11 +185,29 @@ impl<'a> FieldReader<'a> {
         Ok(fraction)
     }
 
-    /// A fraction in lowest terms that isn't 0 and whose parts are at most 2^62 in size.
-    #[tactic(auto, unfolding(def_cert_text::specs::Fields::read_field))]
+    /// A fraction in lowest terms whose parts are at most 2^62 in size.
+    pub fn small(&mut self, separator: u8) -> Result<Frac, CertFault>
+        ensures exact { GivesValue (λ f. f) result self.new.left
+            ((fraction_field most separator).read self.old.total self.old.left) }
+        ensures total { self.new.total ≡ self.old.total }
+    {
+        self.small_where(true, separator)
+    }
+
+    /// The same of a fraction that isn't 0.
     pub fn nonzero(&mut self, separator: u8) -> Result<Frac, CertFault>
         ensures exact { GivesValue (λ f. f) result self.new.left
             ((nonzero_field most separator).read self.old.total self.old.left) }
+        ensures total { self.new.total ≡ self.old.total }
+    {
+        self.small_where(false, separator)
+    }
+
+    /// The same of a fraction that may be 0 or not.
+    #[tactic(auto, unfolding(def_cert_text::specs::Fields::read_field))]
+    fn small_where(&mut self, zero: bool, separator: u8) -> Result<Frac, CertFault>
+        ensures exact { GivesValue (λ f. f) result self.new.left
+            (read_field number (small_in zero) separator self.old.total self.old.left) }
         ensures total { self.new.total ≡ self.old.total }
     {
         let at = self.total - self.left.len();
@@ -196,7 +215,12 @@ impl<'a> FieldReader<'a> {
         if left.is_empty() {
             return Err(CertFault::CertShort);
         }
-        let Some(fraction) = nonzero_in(field) else {
+        let read = if zero {
+            small_in(field)
+        } else {
+            nonzero_in(field)
+        };
+        let Some(fraction) = read else {
             return Err(CertFault::CertNumber { at });
         };
         self.left = left;

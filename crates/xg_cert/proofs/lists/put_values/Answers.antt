@@ -6,6 +6,7 @@ use Rattle.def_outside.specs.Sinks.{AppendsPrefix}
 use Rattle.def_reply.specs.Reply.{SetReply, values_of, choices_of}
 use Rattle.def_cert_text.specs.Formats.{text_of}
 use Rattle.def_cert_text.specs.CertText.{value_line}
+use Rattle.xg_cert.specs.Printed.{reply_in}
 use Rattle.xg_cert.proofs.Written.{each_step, each_fail, each_end}
 use Rattle.xg_cert.proofs.SetLines.{reply_at}
 use Rattle.xg_cert.proofs.lists.put_values.Goals as goal
@@ -15,8 +16,8 @@ said value choice = record { value = value; choice = choice }
 
 pub returns-in_err-put_value_line-clause-text : goal.returns-in_err-put_value_line-clause-text
 returns-in_err-put_value_line-clause-text g c =
-    let rs = c.args.reply.now.reply.sets in
-    let low : c.sets.i < length rs = omega (arith, c.sets-test.true, c.requires) in
+    let rs = (reply_in c.args.player (g.B.Bounds.printed c.args.bounds.now)).sets in
+    let low : c.sets.i < length rs = omega (arith, c.sets-test.true, c.set_count-i-end.ensures.reply) in
     let value : slice_get (values_of rs) c.sets.i ≡ Some c.value.result = ap (slice_get (values_of rs)) (omega arith) ∙ c.value.ensures in
     let choice : slice_get (choices_of rs) c.sets.i ≡ Some c.choice.result = ap (slice_get (choices_of rs)) (omega arith) ∙ c.choice.ensures in
     let whole = to_z-of_z w128 c.value.result (record { sfits = c.value.type_inv }) in
@@ -28,8 +29,8 @@ returns-in_err-put_value_line-clause-text g c =
 
 pub sets-preserved : goal.sets-preserved
 sets-preserved g c =
-    let rs = c.args.reply.now.reply.sets in
-    let low : c.sets.i < length rs = omega (arith, c.sets-test.true, c.requires) in
+    let rs = (reply_in c.args.player (g.B.Bounds.printed c.args.bounds.now)).sets in
+    let low : c.sets.i < length rs = omega (arith, c.sets-test.true, c.set_count-i-end.ensures.reply) in
     let value : slice_get (values_of rs) c.sets.i ≡ Some c.value.result = ap (slice_get (values_of rs)) (omega arith) ∙ c.value.ensures in
     let choice : slice_get (choices_of rs) c.sets.i ≡ Some c.choice.result = ap (slice_get (choices_of rs)) (omega arith) ∙ c.choice.ensures in
     let whole = to_z-of_z w128 c.value.result (record { sfits = c.value.type_inv }) in
@@ -42,4 +43,6 @@ sets-preserved g c =
     }
 
 pub returns-clause-text : goal.returns-clause-text
-returns-clause-text g c = each_end value_line _ _ c.args.reply.now.reply.sets c.sets.i (omega (arith, c.sets-test.false, c.requires)) c.sets.invariant.so_far
+returns-clause-text g c =
+    each_end value_line _ _ (reply_in c.args.player (g.B.Bounds.printed c.args.bounds.now)).sets c.sets.i
+    (omega (arith, c.sets-test.false, c.set_count-i-end.ensures.reply)) c.sets.invariant.so_far

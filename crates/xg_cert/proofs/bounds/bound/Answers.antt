@@ -2,7 +2,7 @@ use Rattle.std.proofs.Common.{◌≡◌, ◌*◌, ◌^◌, ◌≤◌, pos, to_z,
 use Rattle.std.specs.Int.{w128}
 use Rattle.std.proofs.lemmas.Int.{ints, to_z_pos}
 use Rattle.std.proofs.lemmas.Nat.{mul-le}
-use Rattle.xg_cert.proofs.writing.bound.Goals as goal
+use Rattle.xg_cert.proofs.bounds.bound.Goals as goal
 
 pub ratio-requires-clause-from_one : goal.ratio-requires-clause-from_one
 ratio-requires-clause-from_one c =
