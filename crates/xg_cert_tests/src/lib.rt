@@ -7,6 +7,8 @@ mod checking;
 #[cfg(test)]
 mod checking_larger;
 #[cfg(test)]
+mod checking_versions;
+#[cfg(test)]
 mod reading;
 #[cfg(test)]
 mod writing;

@@ -7,7 +7,11 @@ use std::alloc::{AllocError, Global};
 use std::process::Abort;
 use std::test::Fail;
 use xg_cert::{Cert, CertFault, CertRefused, TraceRow, read_cert};
-use xg_test_data::certificates::{ONE_MOVER, PENNIES, PENNIES_BY_ONE_UNIT, PENNIES_HEAD};
+use xg_frac::{Ratio, ratio};
+use xg_test_data::certificates::{
+    ONE_MOVER, ONE_MOVER_IN_TWO, PENNIES, PENNIES_BY_ONE_UNIT, PENNIES_HEAD, PENNIES_HEAD_IN_TWO,
+    SHARED, SHARED_IN_TWO,
+};
 
 /// How the text of matching pennies ends, behind the word of its last line but one.
 const ENDS: &str = "0 0\nend\n";
@@ -114,7 +118,7 @@ const ROWS: &[ReadCert] = &[
 ];
 
 fn set_count(cert: &Cert, player: Player) -> u32
-    ensures { result ≡ set_count_in player cert.now.head }
+    ensures { result ≡ set_count_in player cert.now.certificate.head }
 {
     match player {
         Player::One => cert.head().sets.0,
@@ -123,7 +127,7 @@ fn set_count(cert: &Cert, player: Player) -> u32
 }
 
 fn shows(rt: &impl Abort, cert: &Cert, known: &Known)
-    requires { 1 ≤ cert.now.head.rounds }
+    requires { 1 ≤ cert.now.certificate.head.rounds }
 {
     let player = known.player;
     let sets = set_count(cert, player);
@@ -222,8 +226,41 @@ fn faults(rt: HostRuntime) -> Result<(), Fail> {
 
 #[test]
 fn a_head_alone(rt: HostRuntime) {
-    match read_cert(rt.alloc(), PENNIES_HEAD.as_bytes()) {
-        Ok(cert) => assert!(rt; cert.head().rounds == 0 && cert.trace().is_empty()),
-        Err(refused) => assert!(rt; false, "{refused:?}"),
+    for text in [PENNIES_HEAD, PENNIES_HEAD_IN_TWO] {
+        match read_cert(rt.alloc(), text.as_bytes()) {
+            Ok(cert) => assert!(rt; cert.head().rounds == 0 && cert.trace().is_empty()),
+            Err(refused) => assert!(rt; false, "{refused:?}"),
+        }
     }
+}
+
+/// Whether the text is read in this version, with this sum and this second bracket.
+fn has_version(
+    alloc: Global,
+    text: &str,
+    version: u32,
+    sum: (i128, i128),
+    second: Option<(Ratio, Ratio)>,
+) -> bool {
+    match read_cert(alloc, text.as_bytes()) {
+        Ok(cert) => {
+            cert.version() == version
+                && (cert.sum().num(), cert.sum().den()) == sum
+                && cert.head().rounds >= 1
+                && cert.second() == second
+        }
+        Err(_) => false,
+    }
+}
+
+#[test]
+fn versions(rt: HostRuntime) {
+    let left = Some((ratio(-1, 1), ratio(-3, 4)));
+    let shared = Some((ratio(-1, 1), ratio(-5, 6)));
+    assert!(rt;
+        has_version(rt.alloc(), ONE_MOVER, 1, (0, 1), None)
+            && has_version(rt.alloc(), ONE_MOVER_IN_TWO, 2, (0, 1), left)
+            && has_version(rt.alloc(), SHARED, 1, (-5, 6), None)
+            && has_version(rt.alloc(), SHARED_IN_TWO, 2, (-5, 6), shared)
+    );
 }

@@ -6,7 +6,7 @@ use Rattle.def_tree.specs.declared.Player.TheVariants.{One, Two}
 use Rattle.def_cert_verdict.specs.declared.fault.TestFault.{TestFault}
 use Rattle.def_cert_verdict.specs.Certificate.{PrintedBounds}
 use Rattle.def_plan.specs.Weighed.{WeighedGame}
-use Rattle.def_cert_verdict.specs.Verdict.{bounds_tests, first_failing, first_trace_line, trace_tests}
+use Rattle.def_cert_verdict.specs.Verdict.{bounds_tests, first_failing, trace_tests}
 use Rattle.xg_check.specs.Parts.{tests_of_plan, tests_of_plans, tests_of_replies, tests_of_reply}
 use Rattle.xg_check.proofs.TestLemmas.{front_passes}
 
@@ -21,11 +21,11 @@ pub rest_decides : (found : Option TestFault) (xs ys : List (Option TestFault)) 
 rest_decides found xs ys e none = sym (front_passes found xs ys e none)
 
 -- all below the head: both plans, both replies, the trace
-pub bounds_parts : (game : WeighedGame) (scale : ℕ) (b : PrintedBounds)
-    → tests_of_plans game scale b ++ (tests_of_replies game b ++ trace_tests first_trace_line b.trace)
-    ≡ bounds_tests game scale b
-bounds_parts game scale b =
-    let lines = trace_tests first_trace_line b.trace in
+pub bounds_parts : (game : WeighedGame) (first scale : ℕ) (b : PrintedBounds)
+    → tests_of_plans game scale b ++ (tests_of_replies game b ++ trace_tests first b.trace)
+    ≡ bounds_tests game first scale b
+bounds_parts game first scale b =
+    let lines = trace_tests first b.trace in
     append_assoc (tests_of_plan One game scale b) (tests_of_plan Two game scale b) (tests_of_replies game b ++ lines)
     ∙ ap (λ ts. tests_of_plan One game scale b ++ (tests_of_plan Two game scale b ++ ts)) (append_assoc (tests_of_reply Two game b) (tests_of_reply One game b) lines)
 

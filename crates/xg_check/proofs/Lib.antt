@@ -5,4 +5,7 @@ pub mod PlanTests
 pub mod ReplyTests
 pub mod TraceTests
 pub mod FirstFailingStage
-pub mod Accepted
+pub mod HeadTests
+pub mod Differences
+pub mod SecondTests
+pub mod Acceptance

@@ -1,16 +1,23 @@
--- The tests of one player's reply, and what has to hold of a game and a certificate before they are made.
-use Rattle.std.specs.Prelude.{◌≡◌, ℕ, ◌*◌, ◌≤◌, List, ◌++◌, length, ℤ, Option}
-use Rattle.def_fraction.specs.Fraction.{Fraction}
+-- The tests of one line and of one player's reply, and what has to hold of a game and a certificate before tests are
+-- made.
+use Rattle.std.specs.Prelude.{◌≡◌, ℕ, ◌*◌, ◌≤◌, ◌==◌, Bool, ◌&&◌, List, ◌++◌, length, ℤ, unsigned_abs, Option}
+use Rattle.std.specs.Int.{◌∣◌}
+use Rattle.def_fraction.specs.Fraction.{Fraction, most}
+use Rattle.def_sums.specs.Limits.{most_root}
 use Rattle.def_tree.specs.declared.Player.{Player}
 use Rattle.def_tree.specs.declared.Player.TheVariants.{One, Two}
 use Rattle.def_tree.specs.Opponent.{opponent}
+use Rattle.def_game_scale.specs.Scale.{weight_of}
 use Rattle.def_plan.specs.Form.{player_sets, sequence_count}
 use Rattle.def_plan.specs.Payoff.{leaf_sum}
+use Rattle.def_reply.specs.Outcome.{Head}
 use Rattle.def_reply.specs.declared.TraceLine.{TraceLine}
 use Rattle.def_cert_verdict.specs.declared.fault.TestFault.{TestFault}
 use Rattle.def_cert_verdict.specs.Certificate.{Certificate, PrintedBounds, last_line, printed_numbers}
 use Rattle.def_plan.specs.Weighed.{WeighedGame}
-use Rattle.def_cert_verdict.specs.Verdict.{plan_tests, whole_reply_tests}
+use Rattle.def_cert_verdict.specs.Verdict.{is_same_fraction, plan_tests, whole_reply_tests}
+use Rattle.def_cert_text.specs.declared.version.TextVersion.{TextVersion}
+use Rattle.def_cert_text.specs.declared.version.TextVersion.TheVariants as versions
 use Rattle.xg_cert.specs.Printed.{plan_in, reply_in, set_count_in}
 
 -- the end of a line that a player's reply shows, with the round that it comes from, and the bound that it shows
@@ -45,10 +52,24 @@ tests_of_plans game scale b = tests_of_plan One game scale b ++ tests_of_plan Tw
 abbrev pub tests_of_replies : WeighedGame → PrintedBounds → List (Option TestFault)
 tests_of_replies game b = tests_of_reply Two game b ++ tests_of_reply One game b
 
--- a round was asked, and the head has the game's numbers of sets
+-- the line of the unit is the game's, which has the sum too in version 1
+abbrev pub is_unit_line : TextVersion → WeighedGame → Head → Bool
+is_unit_line versions.One game head = head.unit == game.unit && is_same_fraction head.sum game.sum
+is_unit_line versions.Two game head = head.unit == game.unit
+
+-- times the scale the fraction is whole, and of this size at most
+pub record IsWholeOver (scale : ℕ) (f : Fraction) : Type 0 where
+  pub whole : f.den ∣ scale
+  pub small : unsigned_abs (weight_of scale f) ≤ most * most_root
+
+-- the head has the game's numbers of sets
+abbrev pub HasSetCountsOf : WeighedGame → Head → Type 0
+HasSetCountsOf game head = (player : Player) → set_count_in player head ≡ length (player_sets game.form player)
+
+-- and a round was asked
 pub record HasSetsOf (game : WeighedGame) (c : Certificate) : Type 0 where
   pub asked : 1 ≤ c.head.rounds
-  pub sets : (player : Player) → set_count_in player c.head ≡ length (player_sets game.form player)
+  pub sets : HasSetCountsOf game c.head
 
 -- a player's printed plan has a number for each sequence
 abbrev pub HasEachSequence : Player → WeighedGame → PrintedBounds → Type 0

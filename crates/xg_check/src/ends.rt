@@ -19,7 +19,7 @@ use xg_cert::Cert;
 use xg_frac::Ratio;
 use xg_numbers::Numbers;
 
-fn opponent(player: Player) -> Player
+pub(crate) fn opponent(player: Player) -> Player
     ensures { result ≡ opponent player }
 {
     match player {
@@ -37,9 +37,9 @@ fn total_in(player: Player, line: &TraceLine) -> i128
     }
 }
 
-fn bound_in(player: Player, cert: &Cert) -> Ratio
-    requires { 1 ≤ cert.now.head.rounds }
-    ensures { result ≡ bound_in player (bounds_in cert.now) }
+pub(crate) fn bound_in(player: Player, cert: &Cert) -> Ratio
+    requires { 1 ≤ cert.now.certificate.head.rounds }
+    ensures { result ≡ bound_in player (bounds_in cert.now.certificate) }
 {
     match player {
         Player::One => cert.high(),
@@ -47,7 +47,7 @@ fn bound_in(player: Player, cert: &Cert) -> Ratio
     }
 }
 
-fn product(unit: u64, root: u64) -> u128
+pub(crate) fn product(unit: u64, root: u64) -> u128
     requires unit_from_one { 1 ≤ unit }
     requires unit { unit ≤ most }
     requires root_from_one { 1 ≤ root }
@@ -73,12 +73,12 @@ fn scale_of(unit: u64, root: u64) -> i128
 
 /// What is printed of the end that a player's reply shows.
 fn end_of(numbers: &Numbers, player: Player, cert: &Cert) -> PrintedEnd
-    requires { 1 ≤ cert.now.head.rounds }
-    ensures total { result.total ≡ (reply_in player (bounds_in cert.now)).total }
-    ensures traced { result.traced ≡ total_in player (last_line (bounds_in cert.now).trace) }
-    ensures bound { result.bound ≡ bound_in player (bounds_in cert.now) }
+    requires { 1 ≤ cert.now.certificate.head.rounds }
+    ensures total { result.total ≡ (reply_in player (bounds_in cert.now.certificate)).total }
+    ensures traced { result.traced ≡ total_in player (last_line (bounds_in cert.now.certificate).trace) }
+    ensures bound { result.bound ≡ bound_in player (bounds_in cert.now.certificate) }
     ensures scale { unsigned_abs result.scale
-        ≡ numbers.now.unit * (plan_in (opponent player) (bounds_in cert.now)).root }
+        ≡ numbers.now.unit * (plan_in (opponent player) (bounds_in cert.now.certificate)).root }
     ensures from_one { pos 1 ≤ℤ result.scale }
     ensures small { unsigned_abs result.scale ≤ most_wide }
 {
@@ -98,9 +98,10 @@ pub(crate) fn fault_of_reply(
     player: Player,
     cert: &Cert,
 ) -> Result<Option<TestFault>, AllocError>
-    requires sets { HasSetsOf numbers.now cert.now }
-    requires plan { HasEachSequence (opponent player) numbers.now (bounds_in cert.now) }
-    ensures { IfOk result (λ fault. fault ≡ first_failing (tests_of_reply player numbers.now (bounds_in cert.now))) }
+    requires sets { HasSetsOf numbers.now cert.now.certificate }
+    requires plan { HasEachSequence (opponent player) numbers.now (bounds_in cert.now.certificate) }
+    ensures { IfOk result (λ fault. fault
+        ≡ first_failing (tests_of_reply player numbers.now (bounds_in cert.now.certificate))) }
 {
     cert.facts();
     let against = cert.numbers(opponent(player));

@@ -1,9 +1,12 @@
 //! The tests of the head.
 ghost use Rattle.std.specs.Prelude.{◌≡◌, ◌==◌, ◌&&◌, length};
 ghost use Rattle.def_plan.specs.Form.{sequence_count};
-ghost use Rattle.def_cert_verdict.specs.Verdict.{first_failing, head_tests, is_same_fraction};
+ghost use Rattle.def_cert_verdict.specs.Verdict.{first_failing, is_same_fraction};
+ghost use Rattle.def_cert_versions.specs.Verdict.{head_tests_of};
 ghost use Rattle.xg_cert.specs.Outcome.{head_of};
+ghost use Rattle.xg_check.specs.Parts.{is_unit_line};
 
+use def_cert_text::TextVersion;
 use def_cert_verdict::TestFault;
 use def_tree::Player;
 use xg_cert::Head;
@@ -33,16 +36,25 @@ fn has_sequences(numbers: &Numbers, head: &Head) -> bool
         && head.sequences.1 == form.sequence_count(Player::Two)
 }
 
-fn has_unit(numbers: &Numbers, head: &Head) -> bool
-    ensures { result ≡ (head.now.unit == numbers.now.unit && is_same_fraction head.now.sum numbers.now.sum) }
+fn has_sum(numbers: &Numbers, head: &Head) -> bool
+    ensures { result ≡ is_same_fraction head.now.sum numbers.now.sum }
 {
-    let (printed, sum) = (head.sum, numbers.sum());
-    head.unit == numbers.unit() && (printed.num() == sum.num() && printed.den() == sum.den())
+    head.sum == numbers.sum()
 }
 
-/// The first line of the head that isn't the game's.
-pub(crate) fn head_fault(numbers: &Numbers, head: &Head) -> Option<TestFault>
-    ensures { result ≡ first_failing (head_tests numbers.now (head_of head.now)) }
+fn has_unit(version: TextVersion, numbers: &Numbers, head: &Head) -> bool
+    ensures { result ≡ is_unit_line version numbers.now (head_of head.now) }
+{
+    match version {
+        TextVersion::One => head.unit == numbers.unit() && has_sum(numbers, head),
+        TextVersion::Two => head.unit == numbers.unit(),
+    }
+}
+
+/// The first line of the head that isn't the game's. Version 1 has the sum in the line of the unit, so that its seventh
+/// line isn't told.
+pub(crate) fn head_fault(version: TextVersion, numbers: &Numbers, head: &Head) -> Option<TestFault>
+    ensures { result ≡ first_failing (head_tests_of version numbers.now (head_of head.now)) }
 {
     if !has_nodes(numbers, head) {
         return Some(TestFault::HeadDiffers { line: 2 });
@@ -53,11 +65,14 @@ pub(crate) fn head_fault(numbers: &Numbers, head: &Head) -> Option<TestFault>
     if !has_sequences(numbers, head) {
         return Some(TestFault::HeadDiffers { line: 4 });
     }
-    if !has_unit(numbers, head) {
+    if !has_unit(version, numbers, head) {
         return Some(TestFault::HeadDiffers { line: 5 });
     }
     if head.mass != numbers.mass() {
         return Some(TestFault::HeadDiffers { line: 6 });
+    }
+    if !has_sum(numbers, head) {
+        return Some(TestFault::HeadDiffers { line: 7 });
     }
     None
 }

@@ -1,22 +1,25 @@
 //! All tests of a certificate.
-ghost use Rattle.std.specs.Prelude.{◌≡◌, ◌*◌, ◌≤◌, IfOk, None, length};
+ghost use Rattle.std.specs.Prelude.{◌≡◌, ◌*◌, ◌≤◌, IfOk, None, Ok, length};
 ghost use Rattle.def_tree.specs.declared.Player.TheVariants.{One, Two};
 ghost use Rattle.def_plan.specs.Form.{AreInOrder};
-ghost use Rattle.def_cert_verdict.specs.Ranges.{CertificateFits};
 ghost use Rattle.def_cert_verdict.specs.Certificate.{last_line};
-ghost use Rattle.def_cert_verdict.specs.Verdict.{bounds_tests, first_failing, first_trace_line, shown_by, tests};
-ghost use Rattle.def_cert_verdict.specs.Verdict.{trace_tests, verdict};
+ghost use Rattle.def_cert_verdict.specs.Verdict.{bounds_tests, first_failing, shown_by, tests_below_head, trace_tests};
+ghost use Rattle.def_cert_text.specs.Versions.{in_version_one};
+ghost use Rattle.def_cert_versions.specs.Upgrade.{HasWholeSum, IsUpgradable};
+ghost use Rattle.def_cert_versions.specs.Verdict.{first_trace_line_of, judged_with, tests_of, versioned_verdict};
 ghost use Rattle.def_check.specs.Check.{by_tests};
 ghost use Rattle.xg_cert.specs.Printed.{bounds_in, plan_in, set_count_in};
 ghost use Rattle.xg_check.specs.Answers.{AnswersVerdict, verdict_of};
-ghost use Rattle.xg_check.specs.Parts.{HasEachSequence, HasSetsOf, plan_round_in, tests_of_plan, tests_of_plans};
-ghost use Rattle.xg_check.specs.Parts.{tests_of_replies};
+ghost use Rattle.xg_check.specs.Parts.{HasEachSequence, HasSetCountsOf, HasSetsOf, plan_round_in};
+ghost use Rattle.xg_check.specs.Parts.{tests_of_plan, tests_of_plans, tests_of_replies};
 
 use crate::ends::fault_of_reply;
 use crate::heads::head_fault;
 use crate::lines::{last_line, trace_fault};
 use crate::plans::plan_fault;
+use crate::second::has_other_second;
 use crate::verdict::{CheckFault, Verdict, as_check_fault};
+use def_cert_text::TextVersion;
 use def_cert_verdict::TestFault;
 use def_reply::TraceLine;
 use def_tree::Player;
@@ -35,36 +38,50 @@ fn plan_round_in(player: Player, line: &TraceLine) -> u32
 
 /// The root that a player's plan must have: the round that it comes from, times the scale.
 fn wanted_root(player: Player, cert: &Cert) -> u64
-    ensures { result ≡ plan_round_in player (last_line (bounds_in cert.now).trace) * cert.now.head.scale }
+    ensures { result ≡ plan_round_in player (last_line (bounds_in cert.now.certificate).trace)
+        * cert.now.certificate.head.scale }
 {
     let round = plan_round_in(player, &last_line(cert.trace()));
     round as u64 * cert.head().scale as u64
 }
 
 fn fault_of_plan(numbers: &Numbers, player: Player, cert: &Cert) -> Option<TestFault>
-    requires { HasSetsOf numbers.now cert.now }
+    requires { HasSetsOf numbers.now cert.now.certificate }
     ensures exact { result
-        ≡ first_failing (tests_of_plan player numbers.now cert.now.head.scale (bounds_in cert.now)) }
-    ensures whole { result ≡ None → HasEachSequence player numbers.now (bounds_in cert.now) }
+        ≡ first_failing (tests_of_plan player numbers.now cert.now.certificate.head.scale
+        (bounds_in cert.now.certificate)) }
+    ensures whole { result ≡ None → HasEachSequence player numbers.now (bounds_in cert.now.certificate) }
 {
     cert.facts();
     plan_fault(numbers.form(), player, wanted_root(player, cert), cert)
 }
 
+/// The number of the trace's first line in the text.
+fn first_trace_line(version: TextVersion) -> u32
+    ensures { result ≡ first_trace_line_of version }
+{
+    match version {
+        TextVersion::One => 8,
+        TextVersion::Two => 9,
+    }
+}
+
 fn fault_of_trace(cert: &Cert) -> Option<TestFault>
-    requires { 1 ≤ cert.now.head.rounds }
-    ensures { result ≡ first_failing (trace_tests first_trace_line (bounds_in cert.now).trace) }
+    requires { 1 ≤ cert.now.certificate.head.rounds }
+    ensures { result ≡ first_failing
+        (trace_tests (first_trace_line_of cert.now.version) (bounds_in cert.now.certificate).trace) }
 {
     cert.facts();
-    trace_fault(cert.trace())
+    trace_fault(first_trace_line(cert.text_version()), cert.trace())
 }
 
 /// The first test of both plans that fails, player one's first.
 fn fault_of_plans(numbers: &Numbers, cert: &Cert) -> Option<TestFault>
-    requires { HasSetsOf numbers.now cert.now }
-    ensures exact { result ≡ first_failing (tests_of_plans numbers.now cert.now.head.scale (bounds_in cert.now)) }
-    ensures one { result ≡ None → HasEachSequence One numbers.now (bounds_in cert.now) }
-    ensures two { result ≡ None → HasEachSequence Two numbers.now (bounds_in cert.now) }
+    requires { HasSetsOf numbers.now cert.now.certificate }
+    ensures exact { result
+        ≡ first_failing (tests_of_plans numbers.now cert.now.certificate.head.scale (bounds_in cert.now.certificate)) }
+    ensures one { result ≡ None → HasEachSequence One numbers.now (bounds_in cert.now.certificate) }
+    ensures two { result ≡ None → HasEachSequence Two numbers.now (bounds_in cert.now.certificate) }
 {
     let fault = fault_of_plan(numbers, Player::One, cert);
     if fault.is_some() {
@@ -79,10 +96,11 @@ fn fault_of_replies(
     numbers: &Numbers,
     cert: &Cert,
 ) -> Result<Option<TestFault>, AllocError>
-    requires sets { HasSetsOf numbers.now cert.now }
-    requires one { HasEachSequence One numbers.now (bounds_in cert.now) }
-    requires two { HasEachSequence Two numbers.now (bounds_in cert.now) }
-    ensures { IfOk result (λ fault. fault ≡ first_failing (tests_of_replies numbers.now (bounds_in cert.now))) }
+    requires sets { HasSetsOf numbers.now cert.now.certificate }
+    requires one { HasEachSequence One numbers.now (bounds_in cert.now.certificate) }
+    requires two { HasEachSequence Two numbers.now (bounds_in cert.now.certificate) }
+    ensures { IfOk result (λ fault. fault
+        ≡ first_failing (tests_of_replies numbers.now (bounds_in cert.now.certificate))) }
 {
     let fault = fault_of_reply(alloc, numbers, Player::Two, cert)?;
     if fault.is_some() {
@@ -91,15 +109,16 @@ fn fault_of_replies(
     fault_of_reply(alloc, numbers, Player::One, cert)
 }
 
-/// The first test below the head that fails.
+/// The first test of the bounds that fails.
 fn fault_of_bounds(
     alloc: Global,
     numbers: &Numbers,
     cert: &Cert,
 ) -> Result<Option<TestFault>, AllocError>
-    requires { HasSetsOf numbers.now cert.now }
+    requires { HasSetsOf numbers.now cert.now.certificate }
     ensures { IfOk result (λ fault. fault
-        ≡ first_failing (bounds_tests numbers.now cert.now.head.scale (bounds_in cert.now))) }
+        ≡ first_failing (bounds_tests numbers.now (first_trace_line_of cert.now.version)
+        cert.now.certificate.head.scale (bounds_in cert.now.certificate))) }
 {
     let fault = fault_of_plans(numbers, cert);
     if fault.is_some() {
@@ -112,24 +131,42 @@ fn fault_of_bounds(
     Ok(fault_of_trace(cert))
 }
 
-/// The first test that fails.
+/// The first test below the head that fails. There is none where no round was asked.
+fn fault_below_head(
+    alloc: Global,
+    numbers: &Numbers,
+    cert: &Cert,
+) -> Result<Option<TestFault>, AllocError>
+    requires { HasSetCountsOf numbers.now cert.now.certificate.head }
+    ensures { IfOk result (λ fault. fault
+        ≡ first_failing (tests_below_head numbers.now (first_trace_line_of cert.now.version)
+        cert.now.certificate.head.scale cert.now.certificate.bounds)) }
+{
+    if cert.head().rounds == 0 {
+        return Ok(None);
+    }
+    fault_of_bounds(alloc, numbers, cert)
+}
+
+/// The first test that fails, the second bracket aside.
 fn first_fault(
     alloc: Global,
     numbers: &Numbers,
     cert: &Cert,
 ) -> Result<Option<TestFault>, AllocError>
-    ensures { IfOk result (λ fault. fault ≡ first_failing (tests numbers.now cert.now)) }
+    ensures { IfOk result (λ fault. fault
+        ≡ first_failing (tests_of cert.now.version numbers.now cert.now.certificate)) }
 {
-    let fault = head_fault(numbers, cert.head());
-    if fault.is_some() || cert.head().rounds == 0 {
+    let fault = head_fault(cert.text_version(), numbers, cert.head());
+    if fault.is_some() {
         return Ok(fault);
     }
-    fault_of_bounds(alloc, numbers, cert)
+    fault_below_head(alloc, numbers, cert)
 }
 
 /// What the certificate shows.
 fn shown_by(cert: &Cert) -> Verdict
-    ensures { verdict_of result ≡ shown_by cert.now.bounds }
+    ensures { verdict_of result ≡ shown_by cert.now.certificate.bounds }
 {
     if cert.head().rounds == 0 {
         return Verdict::HeadOnly;
@@ -140,9 +177,21 @@ fn shown_by(cert: &Cert) -> Verdict
     }
 }
 
-/// The verdict on a certificate, or the first test that fails.
+/// What a certificate shows whose tests all pass, unless its second bracket is another one than the sum leaves.
+fn judge_second(cert: &Cert) -> Result<Verdict, CheckFault>
+    requires { IsUpgradable (in_version_one cert.now.certificate) }
+    ensures { AnswersVerdict result (by_tests (judged_with cert.now (Ok (shown_by cert.now.certificate.bounds)))) }
+{
+    if has_other_second(cert) {
+        return Err(CheckFault::SecondDiffers);
+    }
+    Ok(shown_by(cert))
+}
+
+/// The verdict on a certificate, or the first test that fails, which may be that of the second bracket.
 pub(crate) fn judge(alloc: Global, numbers: &Numbers, cert: &Cert) -> Result<Verdict, CheckFault>
-    ensures exact { AnswersVerdict result (by_tests (verdict numbers.now cert.now)) }
+    requires { HasWholeSum numbers.now }
+    ensures exact { AnswersVerdict result (by_tests (versioned_verdict numbers.now cert.now)) }
 
     // What is true of all numbers of a game.
     ensures order_one { AreInOrder numbers.now.form.sets_one }
@@ -151,9 +200,10 @@ pub(crate) fn judge(alloc: Global, numbers: &Numbers, cert: &Cert) -> Result<Ver
 {
     numbers.form().facts();
     numbers.facts();
+    cert.facts();
     match first_fault(alloc, numbers, cert) {
         Ok(Some(fault)) => Err(as_check_fault(fault)),
-        Ok(None) => Ok(shown_by(cert)),
+        Ok(None) => judge_second(cert),
         Err(_) => Err(CheckFault::NoMemory),
     }
 }

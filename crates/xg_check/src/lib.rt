@@ -13,15 +13,16 @@ mod parts;
 mod plan_sums;
 mod plans;
 mod replies;
+mod second;
 mod testing;
 mod totals;
 mod verdict;
 
-pub use checking::check;
+pub use checking::{accept, check};
 pub use def_cert_text::CertFault;
 pub use def_cert_verdict::Which;
 pub use def_check::MOST_CERT_BYTES;
 pub use def_file::FileFault;
 pub use def_tree::Player;
-pub use verdict::{CheckFault, Verdict};
+pub use verdict::{Accepted, CheckFault, Verdict};
 pub use xg_frac::Ratio;

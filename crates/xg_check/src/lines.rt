@@ -5,7 +5,7 @@ ghost use Rattle.def_reply.specs.declared.TraceLine.{TraceLine};
 ghost use Rattle.def_cert_verdict.specs.RangeLaws.{ProductsOfLines};
 ghost use Rattle.def_cert_verdict.specs.Ranges.{most_line_product};
 ghost use Rattle.def_cert_verdict.specs.Certificate.{last_line};
-ghost use Rattle.def_cert_verdict.specs.Verdict.{first_failing, first_trace_line, is_wider, trace_tests};
+ghost use Rattle.def_cert_verdict.specs.Verdict.{first_failing, is_wider, trace_tests};
 
 use def_cert_verdict::TestFault;
 use def_reply::TraceLine;
@@ -42,16 +42,20 @@ fn is_wider(later: &TraceLine, earlier: &TraceLine) -> bool
         || times(earlier.high, later.high_round) < times(later.high, earlier.high_round)
 }
 
-/// The first line of the trace that is wider than the one before it.
-pub(crate) fn trace_fault(lines: &[TraceLine]) -> Option<TestFault>
+/// The first line of the trace that is wider than the one before it, by its number in the text, where the first of all
+/// has this one.
+pub(crate) fn trace_fault(first: u32, lines: &[TraceLine]) -> Option<TestFault>
+    requires first { first ≤ 9 }
     requires few { length lines.now ≤ 2 ^ 20 }
     requires products { (j k : ℕ) (line : TraceLine) → j < length lines.now → k < length lines.now
         → ProductsOfLines (slice_index_or lines.now j line) (slice_index_or lines.now k line) }
-    ensures { result ≡ first_failing (trace_tests first_trace_line lines.now) }
+    ensures { result ≡ first_failing (trace_tests first lines.now) }
 {
     for k in 1..lines.len() {
         if is_wider(&lines[k], &lines[k - 1]) {
-            return Some(TestFault::TraceWidens { line: k as u32 + 8 });
+            return Some(TestFault::TraceWidens {
+                line: first + k as u32,
+            });
         }
     }
     None

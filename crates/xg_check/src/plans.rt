@@ -28,11 +28,13 @@ fn not_a_plan_at(player: Player, set: Option<u32>) -> Option<TestFault>
 
 // The first set whose numbers aren't as many as its actions.
 fn first_of_other_size(form: &SeqForm, player: Player, cert: &Cert) -> Option<u32>
-    requires asked { 1 ≤ cert.now.head.rounds }
-    requires sets { set_count_in player cert.now.head ≡ length (player_sets form.now player) }
-    requires weights { length (plan_in player (bounds_in cert.now)).weights ≡ length (player_sets form.now player) }
+    requires asked { 1 ≤ cert.now.certificate.head.rounds }
+    requires sets { set_count_in player cert.now.certificate.head ≡ length (player_sets form.now player) }
+    requires weights { length (plan_in player (bounds_in cert.now.certificate)).weights
+        ≡ length (player_sets form.now player) }
     ensures { result
-        ≡ first_of_other_size 1 (player_sets form.now player) (plan_in player (bounds_in cert.now)).weights }
+        ≡ first_of_other_size 1 (player_sets form.now player)
+        (plan_in player (bounds_in cert.now.certificate)).weights }
 {
     for k in 0..form.set_count(player) {
         if cert.weights(player, k + 1).len() != form.actions_of(player, k + 1) as usize {
@@ -50,13 +52,15 @@ pub(crate) fn plan_fault(
     wanted: u64,
     cert: &Cert,
 ) -> Option<TestFault>
-    requires asked { 1 ≤ cert.now.head.rounds }
-    requires sets { set_count_in player cert.now.head ≡ length (player_sets form.now player) }
-    requires weights { length (plan_in player (bounds_in cert.now)).weights ≡ length (player_sets form.now player) }
+    requires asked { 1 ≤ cert.now.certificate.head.rounds }
+    requires sets { set_count_in player cert.now.certificate.head ≡ length (player_sets form.now player) }
+    requires weights { length (plan_in player (bounds_in cert.now.certificate)).weights
+        ≡ length (player_sets form.now player) }
     ensures exact { result
-        ≡ first_failing (plan_tests player (player_sets form.now player) wanted (plan_in player (bounds_in cert.now))) }
+        ≡ first_failing (plan_tests player (player_sets form.now player) wanted
+        (plan_in player (bounds_in cert.now.certificate))) }
     ensures whole { result ≡ None
-        → length (printed_numbers (plan_in player (bounds_in cert.now)))
+        → length (printed_numbers (plan_in player (bounds_in cert.now.certificate)))
         ≡ sequence_count (player_sets form.now player) }
 {
     if !is_root(cert.root(player), wanted) {

@@ -5,6 +5,7 @@ use def_cert_text::CertFault;
 use def_cert_verdict::{TestFault, Which};
 use def_file::FileFault;
 use def_tree::Player;
+use xg_cert::Cert;
 use xg_frac::Ratio;
 
 /// What an accepted certificate shows.
@@ -14,6 +15,13 @@ pub enum Verdict {
     Bounds { low: Ratio, high: Ratio },
     /// Its head is the game's. No round was asked, so it shows no bounds.
     HeadOnly,
+}
+
+/// An accepted certificate, of either version, with what it shows.
+#[derive(Drop)]
+pub struct Accepted {
+    pub verdict: Verdict,
+    pub cert: Cert,
 }
 
 /// Why a certificate isn't accepted: the first fault of the game's file, else of the certificate's text, else the first
@@ -50,6 +58,8 @@ pub enum CheckFault {
     TraceWidens {
         line: u32,
     },
+    /// The bracket of player two's own payoff isn't what the sum leaves of both bounds.
+    SecondDiffers,
     /// Memory ran out.
     NoMemory,
 }
@@ -73,5 +83,6 @@ pub(crate) fn as_check_fault(test: TestFault) -> CheckFault
         TestFault::ReplyNotTight { player, set } => CheckFault::ReplyNotTight { player, set },
         TestFault::TotalDiffers { end } => CheckFault::TotalDiffers { end },
         TestFault::TraceWidens { line } => CheckFault::TraceWidens { line },
+        TestFault::SecondDiffers => CheckFault::SecondDiffers,
     }
 }

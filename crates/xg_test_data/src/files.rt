@@ -152,6 +152,23 @@ t "before the bridge" 5 "the keeper pays a fine" { 1/4, -1/4 }
 t "home" 0
 "#;
 
+/// Player two doesn't see what chance deals, and all leaves pay both players together -5/6.
+pub const SHARED: &str = r#"EFG 2 R "" { "A" "B" }
+c "" 1 { "0" 1/3 "1" 2/3 } 0
+p "" 1 1 { "0" "1" } 0
+p "" 2 1 { "0" "1" } 0
+t "" 1 { 2, -17/6 }
+t "" 2 { -1, 1/6 }
+p "" 2 1 { "0" "1" } 0
+t "" 3 { -1/2, -1/3 }
+t "" 4 { 1, -11/6 }
+p "" 1 2 { "0" "1" } 0
+p "" 2 1 { "0" "1" } 0
+t "" 5 { -3, 13/6 }
+t "" 6 { 2, -17/6 }
+t "" 7 { 0, -5/6 }
+"#;
+
 /// Poker with one card each of two, in the canonical form.
 pub const POKER_OF_TWO: &str = r#"EFG 2 R "One-card poker 2" { "One" "Two" }
 ""

@@ -11,22 +11,22 @@ use Rattle.xg_check.proofs.ends.fault_of_reply.Goals as goal
 
 pub reply_fault-requires-clause-numbers : goal.reply_fault-requires-clause-numbers
 reply_fault-requires-clause-numbers c =
-    let cert = c.args.cert.now in
+    let cert = c.args.cert.now.certificate in
     let b = bounds_in cert in
-    let fits = bounds_fit cert c.facts.ensures.within (c.facts.ensures.bounds c.requires.sets.asked) in
+    let fits = bounds_fit cert c.facts.ensures.within.certificate (c.facts.ensures.bounds c.requires.sets.asked) in
     let small = numbers_small (set_count_in c.opponent.result cert.head) (plan_in c.opponent.result b) (plan_fits c.opponent.result cert.head b fits) in
     λ s. subst (λ (xs : List ℕ). slice_index xs s ≤ most_root) (sym c.numbers-against.ensures) (small s)
 
 pub reply_fault-requires-clause-small : goal.reply_fault-requires-clause-small
 reply_fault-requires-clause-small c =
-    let cert = c.args.cert.now in
+    let cert = c.args.cert.now.certificate in
     let b = bounds_in cert in
-    let fits = bounds_fit cert c.facts.ensures.within (c.facts.ensures.bounds c.requires.sets.asked) in
+    let fits = bounds_fit cert c.facts.ensures.within.certificate (c.facts.ensures.bounds c.requires.sets.asked) in
     subst (λ (vs : List ℤ). All (λ v. unsigned_abs v ≤ 2 ^ 100) vs) (sym c.values.ensures) (values_small (reply_in c.args.player b).sets (reply_fits c.args.player cert.head b fits).values)
 
 pub returns : goal.returns
 returns c =
-    let b = bounds_in c.args.cert.now in
+    let b = bounds_in c.args.cert.now.certificate in
     let against = c.numbers-against.ensures ∙ ap (λ (p : Player). printed_numbers (plan_in p b)) c.opponent.ensures in
     if_ok_same c.reply_fault.result _ _
     (same_tests c.args.player c.form.result.now c.args.numbers.now.form c.numbers-against.result.now (printed_numbers (plan_in (opponent c.args.player) b)) (reply_in c.args.player b) c.end_of-end.result.total c.end_of-end.result.traced _ c.end_of-end.result.bound _ (unsigned_abs c.end_of-end.result.scale) _ c.values.result.now c.choices.result.now

@@ -7,6 +7,6 @@ use Rattle.xg_check.proofs.judging.fault_of_trace.Goals as goal
 pub trace_fault-requires-clause-products : goal.trace_fault-requires-clause-products
 trace_fault-requires-clause-products c = λ j k line low low'.
     let lines = c.trace.result.now in
-    let cert = c.args.cert.now in
-    let fits = bounds_fit cert c.facts.ensures.within (c.facts.ensures.bounds c.requires) in
-    trace_products cert.head lines j k line c.facts.ensures.within.head (subst (TraceFits cert.head) (sym c.trace.ensures) fits.trace) low low'
+    let cert = c.args.cert.now.certificate in
+    let fits = bounds_fit cert c.facts.ensures.within.certificate (c.facts.ensures.bounds c.requires) in
+    trace_products cert.head lines j k line c.facts.ensures.within.certificate.head (subst (TraceFits cert.head) (sym c.trace.ensures) fits.trace) low low'

@@ -6,5 +6,5 @@ use Rattle.xg_check.proofs.plans.first_of_other_size.Given as goal
 
 abbrev pub invariant-loop-k : goal.invariant-loop-k
 invariant-loop-k l =
-    first_of_other_size 1 (player_sets l.form l.player) (plan_in l.player (bounds_in l.cert)).weights
-    ≡ first_of_other_size (l.k + 1) (drop l.k (player_sets l.form l.player)) (drop l.k (plan_in l.player (bounds_in l.cert)).weights)
+    first_of_other_size 1 (player_sets l.form l.player) (plan_in l.player (bounds_in l.cert.certificate)).weights
+    ≡ first_of_other_size (l.k + 1) (drop l.k (player_sets l.form l.player)) (drop l.k (plan_in l.player (bounds_in l.cert.certificate)).weights)

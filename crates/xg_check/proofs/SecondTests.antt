@@ -1,0 +1,135 @@
+-- The bracket of player two's own payoff, which is judged where all tests pass.
+use Rattle.std.proofs.Common.{◌≡◌, ℕ, ◌*◌, ◌≤◌, Bool, true, false, ◌&&◌, not, cond, Option, Some, None, Result, Ok, Err, ◌↔◌, refl, sym, ap, subst, ◌∙◌, arith}
+use Rattle.std.proofs.Math.Nat.{dvd-mul_right_of_dvd, mul-le-mul_left}
+use Rattle.std.specs.Option.{option_map}
+use Rattle.std.proofs.lemmas.Option.{none-some}
+use Rattle.def_fraction.specs.Fraction.{Fraction, IsInLowestTerms, most}
+use Rattle.def_sums.specs.Limits.{most_root}
+use Rattle.def_tree.specs.declared.Player.{Player}
+use Rattle.def_tree.specs.declared.Player.TheVariants.{One, Two}
+use Rattle.def_tree.specs.Opponent.{opponent}
+use Rattle.def_plan.specs.Form.{AreInOrder}
+use Rattle.def_plan.specs.Weighed.{WeighedGame}
+use Rattle.def_reply.specs.Outcome.{Head}
+use Rattle.def_constant_sum.specs.Bounds.{difference_of}
+use Rattle.def_cert_verdict.specs.declared.fault.TestFault.{TestFault}
+use Rattle.def_cert_verdict.specs.declared.fault.TestFault.TheVariants.{SecondDiffers}
+use Rattle.def_cert_verdict.specs.Certificate.{Certificate, PrintedBounds}
+use Rattle.def_cert_verdict.specs.Ranges.{BoundsFit}
+use Rattle.def_cert_verdict.specs.Verdict.{Verdict, decided_by, first_failing, is_same_fraction, shown_by, verdict}
+use Rattle.def_cert_verdict.proofs.Fractions.{same_fraction}
+use Rattle.def_cert_text.specs.declared.version.TextVersion.{TextVersion}
+use Rattle.def_cert_text.specs.declared.version.TextVersion.TheVariants as versions
+use Rattle.def_cert_text.specs.Versions.{PrintedBracket, SecondFits, VersionedCertificate, VersionedFits, has_second, in_version_one}
+use Rattle.def_cert_versions.specs.Upgrade.{EndTurns, EndsTurn, HasWholeSum, IsUpgradable, IsWholeIn}
+use Rattle.def_cert_versions.specs.Verdict.{is_same_bracket, judged_with, second_bracket, second_of, tests_of, verdict_by}
+use Rattle.def_cert_versions.proofs.Upgrades.{upgradable, weight-small}
+use Rattle.def_cert_versions.proofs.VersionedVerdict.{accept_alike, old_verdicts}
+use Rattle.xg_cert.specs.Printed.{bounds_in, plan_in}
+use Rattle.xg_cert.specs.ReadCert.{bracket_of, second_where_given}
+use Rattle.xg_check.specs.Parts.{IsWholeOver, bound_in}
+
+-- ---- where all tests pass
+same_itself : (o : Option PrintedBracket) → is_same_bracket o o ≡ true
+same_itself None = refl
+same_itself (Some a) =
+    let low : is_same_fraction a.low a.low ≡ true = (same_fraction a.low a.low).1 refl in
+    let high : is_same_fraction a.high a.high ≡ true = (same_fraction a.high a.high).1 refl in
+    λ i. low i && high i
+
+not_bad : (v : TextVersion) (same : Bool) → same ≡ true → (has_second v && not same) ≡ false
+not_bad versions.One same e = refl
+not_bad versions.Two same e = ap not e
+
+-- the tests of each version accept what those without a version do
+passes : (v : TextVersion) (game : WeighedGame) (c : Certificate) (shown : Verdict) → verdict_by v game c ≡ Ok shown
+    → verdict game c ≡ Ok shown
+passes v game c shown e =
+    let told : VersionedCertificate = record { version = v; certificate = c; second = second_of c } in
+    let last : Bool → Result Verdict TestFault = λ bad. cond bad (Err SecondDiffers) (Ok shown) in
+    let good = not_bad v (is_same_bracket (second_of c) (second_of c)) (same_itself (second_of c)) in
+    ((accept_alike game told shown).0 (ap (judged_with told) e ∙ ap last good)).0
+
+-- what a certificate says whose tests all pass is upgradable, whatever its second bracket is
+pub passed-upgradable : (game : WeighedGame) (c : VersionedCertificate) → AreInOrder game.form.sets_one
+    → AreInOrder game.form.sets_two → 1 ≤ game.unit → HasWholeSum game → VersionedFits c
+    → first_failing (tests_of c.version game c.certificate) ≡ None → IsUpgradable (in_version_one c.certificate)
+passed-upgradable game c one two unit sum fits none =
+    let shown : Verdict = shown_by c.certificate.bounds in
+    let accepted : verdict game c.certificate ≡ Ok shown = passes c.version game c.certificate shown (ap (decided_by c.certificate.bounds) none) in
+    upgradable game (in_version_one c.certificate) shown one two unit sum (record { certificate = fits.certificate; second = refl })
+    ((old_verdicts.accepted game c.certificate shown).1 accepted)
+
+-- ---- over the unit and a root
+pub whole_sum : (unit root : ℕ) (sum : Fraction) → 1 ≤ sum.den → root ≤ most_root → IsWholeIn unit sum
+    → IsWholeOver (unit * root) sum
+whole_sum unit root sum some few is =
+    let divides = dvd-mul_right_of_dvd sum.den is.whole root in
+    record { whole = divides; small = omega (arith, weight-small unit root sum some divides is.small, mul-le-mul_left most few) }
+
+whole_end : (unit root : ℕ) (end : Fraction) → 1 ≤ end.den → root ≤ most_root → EndTurns unit root end
+    → IsWholeOver (unit * root) end
+whole_end unit root end some few turns =
+    record { whole = turns.whole; small = omega (arith, weight-small unit root end some turns.whole turns.small, mul-le-mul_left most few) }
+
+turns_of : (player : Player) (unit : ℕ) (b : PrintedBounds) → EndsTurn unit (Some b)
+    → EndTurns unit (plan_in (opponent player) b).root (bound_in player b)
+turns_of One unit b turns = turns.1
+turns_of Two unit b turns = turns.0
+
+-- the bound that a player's reply shows
+pub whole_bound : (player : Player) (c : Certificate) → 1 ≤ (bound_in player (bounds_in c)).den
+    → (plan_in (opponent player) (bounds_in c)).root ≤ most_root → c.bounds ≡ Some (bounds_in c) → EndsTurn c.head.unit c.bounds
+    → IsWholeOver (c.head.unit * (plan_in (opponent player) (bounds_in c)).root) (bound_in player (bounds_in c))
+whole_bound player c some few there ends =
+    whole_end c.head.unit (plan_in (opponent player) (bounds_in c)).root (bound_in player (bounds_in c)) some few
+    (turns_of player c.head.unit (bounds_in c) (subst (EndsTurn c.head.unit) there ends))
+
+-- the unit times the root of the plan that the player's reply is against, as the code has them
+pub scale_is : (of_code head : Head) (other other' : Player) (root : ℕ) (b : PrintedBounds) (scale : ℕ)
+    → scale ≡ of_code.unit * root → of_code ≡ head → root ≡ (plan_in other' b).root → other' ≡ other
+    → scale ≡ head.unit * (plan_in other b).root
+scale_is of_code head other other' root b scale whole same root_is other_is =
+    whole ∙ (λ i. (same i).unit * root) ∙ ap (λ n. head.unit * n) (root_is ∙ ap (λ p. (plan_in p b).root) other_is)
+
+pub bound_lowest : (player : Player) (head : Head) (b : PrintedBounds) → BoundsFit head b
+    → IsInLowestTerms (bound_in player b)
+bound_lowest One head b fits = fits.high.lowest
+bound_lowest Two head b fits = fits.low.lowest
+
+-- ---- the test
+no_second : (v : TextVersion) (second : Option PrintedBracket) → SecondFits v None second → second ≡ None
+no_second versions.One second fits = fits
+no_second versions.Two second fits = fits
+
+-- without bounds there is no second bracket, and none is wanted
+pub other-without_bounds : (c : VersionedCertificate) → VersionedFits c → c.certificate.bounds ≡ None
+    → false ≡ (has_second c.version && not (is_same_bracket c.second (second_of c.certificate)))
+other-without_bounds c fits none =
+    let absent : c.second ≡ None = no_second c.version c.second (subst (λ bounds. SecondFits c.version bounds c.second) none fits.second) in
+    let wanted : second_of c.certificate ≡ None = ap (option_map (second_bracket c.certificate.head.sum)) none in
+    sym (not_bad c.version (is_same_bracket c.second (second_of c.certificate)) (λ i. is_same_bracket (absent i) (wanted i)))
+
+-- version 1 tells none
+pub other-in_one : (v : TextVersion) (t : Bool) → v ≡ versions.One → false ≡ (has_second v && t)
+other-in_one v t e = ap (λ w. has_second w && t) (sym e)
+
+-- and version 2 another one where the printed ends aren't both what the sum leaves
+pub other-in_two : (c : VersionedCertificate) (r : Option (Fraction × Fraction)) (printed : Fraction × Fraction) (low high : Fraction)
+    (same : Bool) → r ≡ Some printed → second_where_given r ≡ c.second → ((r ≡ None) ↔ (c.version ≡ versions.One))
+    → c.certificate.bounds ≡ Some (bounds_in c.certificate)
+    → low ≡ difference_of c.certificate.head.sum (bounds_in c.certificate).high
+    → high ≡ difference_of c.certificate.head.sum (bounds_in c.certificate).low
+    → same ≡ (is_same_fraction printed.0 low && is_same_fraction printed.1 high)
+    → not same ≡ (has_second c.version && not (is_same_bracket c.second (second_of c.certificate)))
+other-in_two c r printed low high same is value version there low_is high_is same_is =
+    let sum : Fraction = c.certificate.head.sum in
+    let told : c.second ≡ Some (bracket_of printed) = sym value ∙ ap second_where_given is in
+    let wanted : second_of c.certificate ≡ Some (record { low = low; high = high }) =
+    ap (option_map (second_bracket sum)) there ∙ (λ i. Some (record { low = sym low_is i; high = sym high_is i })) in
+    let two : has_second c.version ≡ true = by c.version refl in
+    ap not same_is ∙ (λ i. sym two i && not (is_same_bracket (sym told i) (sym wanted i)))
+  where
+    by : (v : TextVersion) → c.version ≡ v → has_second v ≡ true
+    by versions.One one = absurd (none-some printed (sym (version.1 one) ∙ is))
+    by versions.Two two = refl
