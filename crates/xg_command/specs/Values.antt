@@ -4,7 +4,7 @@ use Rattle.def_command.specs.Table as table
 use Rattle.def_command.specs.Grammar as grammar
 use Rattle.xg_command.specs.declared.command.WordSettings.{WordSettings}
 use Rattle.xg_command.specs.declared.command.Command.{Command}
-use Rattle.xg_command.specs.declared.command.Command.TheVariants.{Solve, Check, Info, Gen, Drill}
+use Rattle.xg_command.specs.declared.command.Command.TheVariants.{Solve, Check, Upgrade, Info, Gen, Drill}
 use Rattle.xg_command.specs.declared.options.Options.{Options}
 use Rattle.xg_command.specs.declared.reading.WordsRead.{WordsRead}
 use Rattle.xg_command.specs.Names.{option_value}
@@ -16,6 +16,7 @@ settings_value s = record { rounds = s.rounds; every = s.every; scale = s.scale 
 abbrev pub command_value : Command → grammar.Command
 command_value (Solve file settings workers) = grammar.Solve file.now (settings_value settings) workers
 command_value (Check file certificate) = grammar.Check file.now certificate.now
+command_value (Upgrade file certificate) = grammar.Upgrade file.now certificate.now
 command_value (Info file) = grammar.Info file.now
 command_value (Gen cards) = grammar.Gen cards
 command_value (Drill cards settings workers) = grammar.Drill cards (settings_value settings) workers

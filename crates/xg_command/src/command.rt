@@ -25,6 +25,11 @@ pub enum Command<'a> {
         file: &'a str,
         certificate: &'a str,
     },
+    /// A certificate that is accepted for the game of a file is written in the second version.
+    Upgrade {
+        file: &'a str,
+        certificate: &'a str,
+    },
     /// What a file's game is like is printed.
     Info {
         file: &'a str,

@@ -11,6 +11,7 @@ use def_sums::{MOST_ROUNDS, MOST_SCALE, MOST_WORKERS};
 pub(crate) enum CommandName {
     Solve,
     Check,
+    Upgrade,
     Info,
     Gen,
     Drill,
@@ -32,6 +33,7 @@ impl CommandName {
         match word {
             "solve" => Some(CommandName::Solve),
             "check" => Some(CommandName::Check),
+            "upgrade" => Some(CommandName::Upgrade),
             "info" => Some(CommandName::Info),
             "gen" => Some(CommandName::Gen),
             "drill" => Some(CommandName::Drill),
@@ -43,7 +45,7 @@ impl CommandName {
     pub(crate) fn has_two_words(self) -> bool
         ensures { plain_count (name_value self) ≡ (if result then 2 else 1) }
     {
-        matches!(self, CommandName::Check)
+        matches!(self, CommandName::Check | CommandName::Upgrade)
     }
 
     /// Whether the command has this option: it has all or none.

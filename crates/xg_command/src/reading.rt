@@ -119,6 +119,10 @@ impl<'a> WordsRead<'a> {
                 let (file, certificate) = self.plain.two()?;
                 Some(Command::Check { file, certificate })
             }
+            CommandName::Upgrade => {
+                let (file, certificate) = self.plain.two()?;
+                Some(Command::Upgrade { file, certificate })
+            }
             CommandName::Info => {
                 let file = self.plain.one()?;
                 Some(Command::Info { file })

@@ -55,8 +55,9 @@ fn with_subcommand<'a>(
     }
 }
 
-fn check<'a>(alloc: Global) -> Result<clap::Command<'a>, AllocError> {
-    command_with(alloc, "check", plain(alloc, "FILE"))?.arg(plain(alloc, "CERT"))
+/// A command of a file and a certificate.
+fn of_two<'a>(alloc: Global, name: &'a str) -> Result<clap::Command<'a>, AllocError> {
+    command_with(alloc, name, plain(alloc, "FILE"))?.arg(plain(alloc, "CERT"))
 }
 
 fn program<'a>(alloc: Global) -> Result<clap::Command<'a>, AllocError> {
@@ -66,7 +67,8 @@ fn program<'a>(alloc: Global) -> Result<clap::Command<'a>, AllocError> {
         .subcommand_required(true);
     let solve = command_with_options(alloc, "solve", plain(alloc, "FILE"));
     let program = with_subcommand(program, solve)?;
-    let program = with_subcommand(program, check(alloc))?;
+    let program = with_subcommand(program, of_two(alloc, "check"))?;
+    let program = with_subcommand(program, of_two(alloc, "upgrade"))?;
     let info = command_with(alloc, "info", plain(alloc, "FILE"));
     let program = with_subcommand(program, info)?;
     let program = with_subcommand(program, command_with(alloc, "gen", cards(alloc)))?;
@@ -95,6 +97,10 @@ fn command_of<'a>(matches: &ArgMatches<'a>) -> Option<Command<'a>> {
             workers: given.get_one::<u32>("workers"),
         }),
         "check" => Some(Command::Check {
+            file: given.get_str("FILE")?,
+            certificate: given.get_str("CERT")?,
+        }),
+        "upgrade" => Some(Command::Upgrade {
             file: given.get_str("FILE")?,
             certificate: given.get_str("CERT")?,
         }),
@@ -206,6 +212,7 @@ const FRONTS: &[Front] = &[
     ("info", 5, 0),
     ("gen", 1, 0),
     ("check", 0, 25),
+    ("upgrade", 0, 25),
     ("drill", 1, 8),
     ("--rounds=1", 0, 0),
     ("", 0, 0),

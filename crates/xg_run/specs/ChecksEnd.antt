@@ -1,35 +1,38 @@
--- How a check ends.
-use Rattle.std.specs.Prelude.{◌≡◌, ◌≢◌, ℕ, List, Option, IsSomeAnd, Ok, Err, string_bytes}
+-- What is written of a certificate that is accepted, and how a check ends.
+use Rattle.std.specs.Prelude.{◌≡◌, ℕ, List, Result, Ok, Err, string_bytes}
 use Rattle.def_outside.specs.Calls.{SinkCall, HasFailedOnce, HasNoFault, Wrote, WroteFront, IsUntouched}
 use Rattle.def_cert_verdict.specs.Verdict.{Verdict}
 use Rattle.def_check.specs.Check.{Refusal, checked}
-use Rattle.def_program.specs.CheckLines.{cert_long_line, refusal_line, verdict_text}
+use Rattle.def_cert_text.specs.declared.fault.CertFault.{CertFault}
+use Rattle.def_cert_text.specs.Versions.{VersionedCertificate}
+use Rattle.def_program.specs.CheckLines.{cert_long_line, refusal_line, upgrade_text, verdict_text}
 use Rattle.def_program.specs.TextLines.{fault_line}
 use Rattle.def_file.specs.declared.FileFault.TheVariants.{TooLong}
-use Rattle.def_program.specs.Program.{Answer}
-use Rattle.def_program.specs.Meaning.{CheckMeans}
+use Rattle.xg_run.specs.declared.check.Report.{Report}
+use Rattle.xg_run.specs.declared.check.Report.TheVariants as reports
 use Rattle.xg_run.specs.declared.both.BothFault.{BothFault}
 use Rattle.xg_run.specs.declared.both.BothFault.TheVariants as faults
 use Rattle.xg_run.specs.declared.ending.Ending.{Ending}
 use Rattle.xg_run.specs.declared.ending.Ending.TheVariants.{Done, Refused, Usage, ReadFault, WriteFault, NoMemory}
 
--- what a check means of the contents of both files, where they are told
-abbrev pub CheckTold : Option (List ℕ) → Option (List ℕ) → Answer → Type 0
-CheckTold file certificate answer = IsSomeAnd file (λ bytes. CheckMeans bytes certificate answer)
+-- the text of what was read, where it is accepted with this verdict
+abbrev pub report_text : Report → Result VersionedCertificate CertFault → Verdict → List ℕ
+report_text reports.Verdict read shown = verdict_text shown
+report_text reports.Upgrade read shown = upgrade_text read
 
--- what is shown was written
-pub record WroteVerdict (file certificate : List ℕ) (out : SinkCall) : Type 0 where
+-- the text of what is shown was written
+pub record WroteReport (text : Verdict → List ℕ) (file certificate : List ℕ) (out : SinkCall) : Type 0 where
   pub shown : Verdict
   pub is_shown : checked file certificate ≡ Ok shown
   pub no_fault : HasNoFault out.faults
-  pub wrote : Wrote out (verdict_text shown)
+  pub wrote : Wrote out (text shown)
 
 -- and was cut off
-pub record CutVerdict (file certificate : List ℕ) (out : SinkCall) : Type 0 where
+pub record CutReport (text : Verdict → List ℕ) (file certificate : List ℕ) (out : SinkCall) : Type 0 where
   pub shown : Verdict
   pub is_shown : checked file certificate ≡ Ok shown
   pub cause : HasFailedOnce out.faults
-  pub front : WroteFront out (verdict_text shown)
+  pub front : WroteFront out (text shown)
 
 -- the line says why the certificate isn't accepted
 pub record SaysRefusal (file certificate : List ℕ) (out : SinkCall) (line : List ℕ) : Type 0 where
@@ -38,14 +41,14 @@ pub record SaysRefusal (file certificate : List ℕ) (out : SinkCall) (line : Li
   pub line_is : line ≡ refusal_line why
   pub untouched : IsUntouched out
 
--- the end of a check of these bytes
-abbrev pub EndsCheck : List ℕ → List ℕ → SinkCall → Ending → Type 0
-EndsCheck file certificate out Done = WroteVerdict file certificate out
-EndsCheck file certificate out WriteFault = CutVerdict file certificate out
-EndsCheck file certificate out (Refused line) = SaysRefusal file certificate out (string_bytes line)
-EndsCheck file certificate out NoMemory = IsUntouched out
-EndsCheck file certificate out Usage = ⊥
-EndsCheck file certificate out ReadFault = ⊥
+-- the end of a check of these bytes, with this text of what is shown
+abbrev pub EndsCheck : (Verdict → List ℕ) → List ℕ → List ℕ → SinkCall → Ending → Type 0
+EndsCheck text file certificate out Done = WroteReport text file certificate out
+EndsCheck text file certificate out WriteFault = CutReport text file certificate out
+EndsCheck text file certificate out (Refused line) = SaysRefusal file certificate out (string_bytes line)
+EndsCheck text file certificate out NoMemory = IsUntouched out
+EndsCheck text file certificate out Usage = ⊥
+EndsCheck text file certificate out ReadFault = ⊥
 
 -- the end where one of both can't be read
 abbrev pub EndsUnread : BothFault → Ending → Type 0

@@ -4,7 +4,7 @@ use Rattle.def_cert_verdict.specs.declared.fault.TestFault.TheVariants as test
 use Rattle.def_program.specs.TextLines.{fault_line}
 use Rattle.def_program.specs.CheckLines.{cert_fault_line, test_fault_line}
 use Rattle.xg_check.specs.declared.verdict.CheckFault.{CheckFault}
-use Rattle.xg_check.specs.declared.verdict.CheckFault.TheVariants.{File, Cert, HeadDiffers, NotAPlan, ValueTooGood, ReplyNotTight, TotalDiffers, TraceWidens, NoMemory}
+use Rattle.xg_check.specs.declared.verdict.CheckFault.TheVariants.{File, Cert, HeadDiffers, NotAPlan, ValueTooGood, ReplyNotTight, TotalDiffers, TraceWidens, SecondDiffers, NoMemory}
 
 abbrev pub IsCheckLine : CheckFault → List ℕ → Type 0
 IsCheckLine (File fault) line = line ≡ fault_line fault
@@ -15,4 +15,5 @@ IsCheckLine (ValueTooGood player set action) line = line ≡ test_fault_line (te
 IsCheckLine (ReplyNotTight player set) line = line ≡ test_fault_line (test.ReplyNotTight player set)
 IsCheckLine (TotalDiffers end) line = line ≡ test_fault_line (test.TotalDiffers end)
 IsCheckLine (TraceWidens k) line = line ≡ test_fault_line (test.TraceWidens k)
+IsCheckLine SecondDiffers line = line ≡ test_fault_line test.SecondDiffers
 IsCheckLine NoMemory line = ⊥

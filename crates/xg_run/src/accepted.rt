@@ -1,5 +1,6 @@
 //! A game that is accepted.
 ghost use Rattle.std.specs.Prelude.{◌≡◌, IfOk, None};
+ghost use Rattle.def_cert_versions.specs.Upgrade.{HasWholeSum, IsWholeIn};
 ghost use Rattle.def_program.specs.Text.{game_head};
 ghost use Rattle.xg_cert.specs.Outcome.{head_of};
 ghost use Rattle.xg_run.specs.Accepted.{Opens};
@@ -40,6 +41,9 @@ impl Accepted {
     pub fn open(alloc: Global, game: Game) -> Result<Accepted, Refused>
         ensures { Opens game result }
     {
+        // What is true of each game, by which the sum of an accepted one is whole.
+        game.numbers_are_in_lowest_terms();
+        let _tree = game.tree();
         match Numbers::open(alloc, &game) {
             Ok(numbers) => Ok(Accepted { game, numbers }),
             Err(fault) => {
@@ -52,6 +56,7 @@ impl Accepted {
     /// An engine for the game.
     pub fn into_engine(self, alloc: Global) -> Result<Engine, AllocError>
         ensures opened { IfOk result (λ engine. engine.game ≡ weighed_game self) }
+        ensures whole_sum { IfOk result (λ engine. HasWholeSum engine.game) }
         ensures no_outcome { IfOk result (λ engine. engine.outcome ≡ None) }
     {
         let Accepted { game, numbers } = self;
@@ -76,7 +81,8 @@ impl Accepted {
 
     /// The game's numbers, with what is asked.
     pub fn head(&self, settings: Settings) -> Head
-        ensures { head_of result ≡ game_head self.now (settings_seen settings) }
+        ensures exact { head_of result ≡ game_head self.now (settings_seen settings) }
+        ensures whole_sum { IsWholeIn result.unit result.sum }
     {
         head_with(&self.numbers, settings)
     }

@@ -1,32 +1,45 @@
-//! Checking a certificate.
-ghost use Rattle.std.specs.Prelude.{◌≡◌, ◌≢◌, ◌≤◌, ◌++◌, IfOk, IsTrue, OnErr, length, string_bytes};
+//! Checking a certificate, and upgrading one that is accepted.
+ghost use Rattle.std.specs.Prelude.{◌≡◌, ◌≢◌, ◌≤◌, ◌++◌, IfOk, IsTrue, Ok, OnErr, length, string_bytes};
 ghost use Rattle.def_fraction.specs.Text.{fraction_text};
 ghost use Rattle.def_outside.specs.Calls.{OpensAtMost};
 ghost use Rattle.xg_io.specs.Calls.{files_call, sink_call};
 ghost use Rattle.def_outside.specs.Cause.{HasCause};
 ghost use Rattle.def_file.specs.Reading.{most_bytes};
+ghost use Rattle.def_cert_text.specs.CertText.{versioned_in};
+ghost use Rattle.def_cert_versions.specs.Upgrade.{IsUpgradable};
 ghost use Rattle.def_check.specs.Check.{most_cert_bytes};
-ghost use Rattle.def_program.specs.CheckLines.{verdict_text};
+ghost use Rattle.def_program.specs.CheckLines.{check_text, upgraded_text, verdict_text};
+ghost use Rattle.def_program.specs.Meaning.{BothMean};
 ghost use Rattle.def_outside.specs.Sinks.{Writes};
 ghost use Rattle.xg_check.specs.Answers.{verdict_of};
-ghost use Rattle.xg_run.specs.ChecksEnd.{CheckTold, EndsCheck, EndsUnread};
+ghost use Rattle.xg_run.specs.ChecksEnd.{EndsCheck, EndsUnread, report_text};
 ghost use Rattle.xg_run.specs.Concludes.{Concludes};
 ghost use Rattle.xg_run.specs.Endings.{status_of};
 ghost use Rattle.xg_run.specs.MayOpen.{IsNotTooLong};
 ghost use Rattle.xg_run.specs.Refusal.{IsLineOf};
 
 use crate::both::{BothFault, read_both};
+use crate::certificate::UpgradedText;
 use crate::check_lines::check_fault_line;
 use crate::ending::Ending;
 use crate::playing::ending_of;
 use crate::text::fault_line;
 use std::alloc::{AllocError, Global};
-use xg_check::Verdict;
+use xg_check::{Accepted, Verdict, accept};
 use xg_frac::{Ratio, put_ratio};
-use xg_io::{Files, Sink, WriteFault, write_all};
+use xg_io::{Files, Sink, WriteFault, write_all, write_paged};
 use xg_read::FileFault;
 
-/// Checks a certificate against the game of a file.
+/// What is written of a certificate that is accepted.
+#[derive(Clone, Copy)]
+enum Report {
+    /// The line of its verdict.
+    Verdict,
+    /// Its text in the second version.
+    Upgrade,
+}
+
+/// Checks a certificate against the game of a file, and writes its verdict.
 pub fn check<F: Files, O: Sink>(
     alloc: Global,
     file: &str,
@@ -36,26 +49,96 @@ pub fn check<F: Files, O: Sink>(
 ) -> Ending
     requires file { IsTrue (F.may_open files.old file.now) }
     requires certificate { IsNotTooLong (F.told files.old file.now) → IsTrue (F.may_open files.old certificate.now) }
-    ensures concludes { Concludes (Unit {0}) (CheckTold (F.told files.old file.now) (F.told files.old certificate.now))
+    ensures concludes { Concludes (Unit {0})
+        (BothMean check_text (F.told files.old file.now) (F.told files.old certificate.now))
+        (files_call F.Files files.old files.new) (sink_call O.Sink out.old out.new) result }
+    ensures opens { OpensAtMost (files_call F.Files files.old files.new) 2 }
+    ensures command { status_of result ≢ 2 }
+{
+    check_both(alloc, Report::Verdict, file, certificate, files, out)
+}
+
+/// Checks a certificate against the game of a file, and writes it in the second version.
+pub fn upgrade<F: Files, O: Sink>(
+    alloc: Global,
+    file: &str,
+    certificate: &str,
+    files: &mut F,
+    out: &mut O,
+) -> Ending
+    requires file { IsTrue (F.may_open files.old file.now) }
+    requires certificate { IsNotTooLong (F.told files.old file.now) → IsTrue (F.may_open files.old certificate.now) }
+    ensures concludes { Concludes (Unit {0})
+        (BothMean upgraded_text (F.told files.old file.now) (F.told files.old certificate.now))
+        (files_call F.Files files.old files.new) (sink_call O.Sink out.old out.new) result }
+    ensures opens { OpensAtMost (files_call F.Files files.old files.new) 2 }
+    ensures command { status_of result ≢ 2 }
+{
+    check_both(alloc, Report::Upgrade, file, certificate, files, out)
+}
+
+/// Checks a certificate against the game of a file, and writes this of one that is accepted.
+fn check_both<F: Files, O: Sink>(
+    alloc: Global,
+    report: Report,
+    file: &str,
+    certificate: &str,
+    files: &mut F,
+    out: &mut O,
+) -> Ending
+    requires file { IsTrue (F.may_open files.old file.now) }
+    requires certificate { IsNotTooLong (F.told files.old file.now) → IsTrue (F.may_open files.old certificate.now) }
+    ensures concludes { Concludes (Unit {0})
+        (BothMean (λ bytes. report_text report (versioned_in bytes)) (F.told files.old file.now)
+        (F.told files.old certificate.now))
         (files_call F.Files files.old files.new) (sink_call O.Sink out.old out.new) result }
     ensures opens { OpensAtMost (files_call F.Files files.old files.new) 2 }
     ensures command { status_of result ≢ 2 }
 {
     match read_both(alloc, files, file, certificate) {
-        Ok(both) => check_bytes(alloc, &both.file, &both.certificate, out),
+        Ok(both) => check_bytes(alloc, report, &both.file, &both.certificate, out),
         Err(fault) => unread(alloc, fault),
     }
 }
 
 /// Checks the bytes of a certificate against those of a file.
-fn check_bytes<O: Sink>(alloc: Global, file: &[u8], certificate: &[u8], out: &mut O) -> Ending
+fn check_bytes<O: Sink>(
+    alloc: Global,
+    report: Report,
+    file: &[u8],
+    certificate: &[u8],
+    out: &mut O,
+) -> Ending
     requires file { length file.now ≤ most_bytes }
     requires certificate { length certificate.now ≤ most_cert_bytes }
-    ensures { EndsCheck file.now certificate.now (sink_call O.Sink out.old out.new) result }
+    ensures { EndsCheck (report_text report (versioned_in certificate.now)) file.now certificate.now
+        (sink_call O.Sink out.old out.new) result }
 {
-    match xg_check::check(alloc, file, certificate) {
-        Ok(verdict) => ending_of(write_verdict(verdict, out)),
+    match accept(alloc, file, certificate) {
+        Ok(accepted) => {
+            let written = write_report(report, &accepted, out);
+            drop(accepted);
+            ending_of(written)
+        }
         Err(fault) => refused(check_fault_line(alloc, fault)),
+    }
+}
+
+/// Writes this of what is accepted. After an error a front of it was written.
+fn write_report<O: Sink>(report: Report, accepted: &Accepted, out: &mut O) -> Result<(), WriteFault>
+    requires { IsUpgradable accepted.now.cert }
+    ensures text { Writes (O.written out.old) (O.written out.new)
+        (report_text report (Ok accepted.now.cert) (verdict_of accepted.now.verdict)) result }
+    ensures cause { HasCause (O.faults out.old) (O.faults out.new) result }
+{
+    match report {
+        Report::Verdict => write_verdict(accepted.verdict, out),
+        Report::Upgrade => write_paged(
+            out,
+            &UpgradedText {
+                cert: &accepted.cert,
+            },
+        ),
     }
 }
 
@@ -70,7 +153,7 @@ fn refused(line: Result<String, AllocError>) -> Ending
     }
 }
 
-/// Writes what is shown. After an error a front of it was written.
+/// Writes the line of a verdict. After an error a front of it was written.
 fn write_verdict<O: Sink>(verdict: Verdict, out: &mut O) -> Result<(), WriteFault>
     ensures text { Writes (O.written out.old) (O.written out.new) (verdict_text (verdict_of verdict)) result }
     ensures cause { HasCause (O.faults out.old) (O.faults out.new) result }

@@ -41,6 +41,7 @@ pub fn check_fault_line(alloc: Global, fault: CheckFault) -> Result<String, Allo
         CheckFault::TraceWidens { line } => {
             format!(in alloc; "refused 32 TraceWidens line {line}\n")
         }
+        CheckFault::SecondDiffers => String::from_str(alloc, "refused 33 SecondDiffers\n"),
         CheckFault::NoMemory => Err(AllocError),
     }
 }

@@ -5,14 +5,14 @@ ghost use Rattle.xg_io.specs.Calls.{sink_call};
 ghost use Rattle.def_file.specs.Content.{GameFile};
 ghost use Rattle.def_game_numbers.specs.Weighed.{weighed_game};
 ghost use Rattle.def_run.specs.Run.{outcome};
+ghost use Rattle.def_cert_versions.specs.Upgrade.{HasWholeSum};
 ghost use Rattle.def_program.specs.Text.{solve_text};
-ghost use Rattle.xg_cert.specs.Writable.{IsOutcomeOf};
 ghost use Rattle.xg_engine.specs.State.{AreWithinLimits, head_with};
 ghost use Rattle.xg_jobs.specs.Rows.{AreNumbersOf, ArePlainSums};
 ghost use Rattle.xg_jobs.specs.Table.{IsTableOf};
 ghost use Rattle.xg_run.specs.Concludes.{Tells};
 ghost use Rattle.xg_run.specs.Settings.{settings_seen};
-ghost use Rattle.xg_run.specs.Written.{IsEndingOf};
+ghost use Rattle.xg_run.specs.Written.{CanBeWritten, IsEndingOf};
 
 use crate::accepted::Accepted;
 use crate::certificate::CertificateText;
@@ -61,7 +61,8 @@ fn play_by<Rt: Threads + Wait + Sync, O: Sink, G: Gate>(
     rows: &LockedRows<'_, G>,
     out: &mut O,
 ) -> Ending
-    requires { AreWithinLimits settings }
+    requires limits { AreWithinLimits settings }
+    requires whole_sum { HasWholeSum engine.old.game }
     ensures { (game : GameFile) → engine.old.game ≡ weighed_game game
         → Tells (solve_text game (settings_seen settings)) (sink_call O.Sink out.old out.new) result }
 {
@@ -88,11 +89,12 @@ fn play_rounds<Rt: Threads + Wait + Sync, G: Gate>(
     settings: Settings,
     rows: &LockedRows<'_, G>,
 ) -> Result<(), AllocError>
-    requires { AreWithinLimits settings }
+    requires limits { AreWithinLimits settings }
+    requires whole_sum { HasWholeSum engine.old.game }
     ensures outcome { OnOk result (engine.new.outcome
         ≡ Some (outcome engine.old.game.form (head_with engine.old.game settings))) }
     ensures game { engine.new.game ≡ engine.old.game }
-    ensures writable { OnOk result (IfSome engine.new.outcome (IsOutcomeOf engine.old.game.form)) }
+    ensures writable { OnOk result (IfSome engine.new.outcome (CanBeWritten engine.old.game.form)) }
 {
     if rows.workers == 1 {
         return engine.run(rt, alloc, settings, &PlainRows);

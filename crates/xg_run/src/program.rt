@@ -20,7 +20,7 @@ ghost use Rattle.xg_run.specs.MayOpen.{MayOpen};
 ghost use Rattle.xg_run.specs.Refusal.{IsRefusal, IsUnloaded};
 
 use crate::accepted::Accepted;
-use crate::check::check;
+use crate::check::{check, upgrade};
 use crate::ending::Ending;
 use crate::load::{LoadFault, load};
 use crate::made::{drill, generate};
@@ -177,6 +177,9 @@ fn conclude<Rt: Threads + Wait + Sync, F: Files, O: Sink, G: Gate>(
         Some(Command::Check { file, certificate }) => {
             check(alloc, file, certificate, files, out)
         }
+        Some(Command::Upgrade { file, certificate }) => {
+            upgrade(alloc, file, certificate, files, out)
+        }
         Some(Command::Info { file }) => info(alloc, file, files, out),
         Some(Command::Gen { cards }) => generate(alloc, cards, out),
         Some(
@@ -198,7 +201,7 @@ fn conclude<Rt: Threads + Wait + Sync, F: Files, O: Sink, G: Gate>(
 /// | Status | Meaning |
 /// |---|---|
 /// | 0 | the whole text was written to `out` |
-/// | 1 | the game file has a fault, which the line on `err` names with its place |
+/// | 1 | the game file or the certificate has a fault, which the line on `err` names with its place |
 /// | 2 | the words name no command |
 /// | 3 | a file can't be opened or read |
 /// | 4 | `out` failed; a front of the text was written |
@@ -253,12 +256,12 @@ pub fn run<Rt: Threads + Wait + Sync, F: Files, O: Sink, E: Sink, G: Gate>(
         (sink_call O.Sink out.old out.new) BoundsHold }
 
     // Of each certificate that was accepted, whoever wrote it: the same of the bounds that its verdict has, of the
-    // file's game.
+    // file's game; what was written is the line of its verdict, or its text in the second version.
     ensures checked { result ≡ 0 → ForEachChecked words.now (F.told files.old)
         (sink_call O.Sink out.old out.new) BoundsHold }
 
-    // What was said: the line of the status, a certificate's fault by `check` alone, and at 0 none. Where `err` failed,
-    // it failed once, on a piece that was the rest of that line.
+    // What was said: the line of the status, a certificate's fault by `check` and `upgrade` alone, and at 0 none. Where
+    // `err` failed, it failed once, on a piece that was the rest of that line.
     ensures line { result ≢ 0 → SaysLine words.now (F.told files.old) result (F.taken files.new)
         (sink_call E.Sink err.old err.new) }
     ensures silent { result ≡ 0 → err.new ≡ err.old }

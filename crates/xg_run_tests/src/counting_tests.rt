@@ -10,8 +10,8 @@ use xg_io::{MemFiles, MemSink, OpenGate};
 use xg_run::run;
 use xg_test_data::{certificates, files};
 
-/// A call on the files `game`, which is matching pennies, and `certificate`, which is its text after one round: the
-/// whole text, how many calls the files get, and how many writes the text takes.
+/// A call on the files `game`, which is matching pennies, and `old` and `new`, which are its certificate after one
+/// round in version 1 and in version 2: the whole text, how many calls the files get, and how many writes it takes.
 #[derive(Clone, Copy, Drop)]
 struct Call {
     words: &'static str,
@@ -30,18 +30,36 @@ mass 4
 "#;
 
 // A file is opened, its bytes come, and then its end.
-static CALLS: [Call; 6] = [
+static CALLS: [Call; 9] = [
     Call {
         words: "solve game --rounds 1",
-        text: certificates::PENNIES,
+        text: certificates::PENNIES_IN_TWO,
         reads: 3,
         writes: 1,
     },
     Call {
-        words: "check game certificate",
+        words: "check game old",
         text: "accepted 0 0\n",
         reads: 6,
         writes: 5,
+    },
+    Call {
+        words: "check game new",
+        text: "accepted 0 0\n",
+        reads: 6,
+        writes: 5,
+    },
+    Call {
+        words: "upgrade game old",
+        text: certificates::PENNIES_IN_TWO,
+        reads: 6,
+        writes: 1,
+    },
+    Call {
+        words: "upgrade game new",
+        text: certificates::PENNIES_IN_TWO,
+        reads: 6,
+        writes: 1,
     },
     Call {
         words: "info game",
@@ -57,13 +75,13 @@ static CALLS: [Call; 6] = [
     },
     Call {
         words: "drill 3 --rounds 1",
-        text: certificates::POKER_OF_THREE,
+        text: certificates::POKER_OF_THREE_IN_TWO,
         reads: 0,
         writes: 1,
     },
     Call {
         words: "drill 3 --rounds 1 --workers 2",
-        text: certificates::POKER_OF_THREE,
+        text: certificates::POKER_OF_THREE_IN_TWO,
         reads: 0,
         writes: 1,
     },
@@ -117,7 +135,8 @@ fn answer<Rt: Threads + Wait + Sync + AllocGlobal>(
     let words = words_of(alloc, &[call.words])?;
     let mut files = MemFiles::new(alloc, &[faults.read])?;
     files.add("game", files::PENNIES.as_bytes())?;
-    files.add("certificate", certificates::PENNIES.as_bytes())?;
+    files.add("old", certificates::PENNIES.as_bytes())?;
+    files.add("new", certificates::PENNIES_IN_TWO.as_bytes())?;
     let mut out = MemSink::new(alloc, faults.room, &[faults.write])?;
     let mut err = MemSink::new(alloc, AMPLE_ROOM, &[])?;
     let status = run(rt, alloc, &words, &mut files, &mut out, &mut err, &OpenGate);

@@ -7,18 +7,19 @@ use std::test::Fail;
 use std::thread::Threads;
 use xg_io::{MemSink, OpenGate};
 use xg_run::run;
-use xg_test_data::certificates::ONE_LEAF_HEAD;
+use xg_test_data::certificates::ONE_LEAF_HEAD_IN_TWO;
 use xg_test_data::files::{ONE_LEAF, PENNIES};
 
 /// The first 100 bytes of the text of `PENNIES` after one round.
-const PENNIES_FRONT: &str = r#"XGCERT 1
+const PENNIES_FRONT: &str = r#"XGCERT 2
 nodes 7 leaves 4
 sets 1 1
 sequences 3 3
 unit 1
 mass 4
+sum 0
 rounds 1 every 1 scale 1048576
-trace "#;
+"#;
 
 const SOLVE: &str = "solve game --rounds 0";
 
@@ -130,7 +131,7 @@ static STREAMS_THAT_FAIL: [Case; 5] = [
             room: 30,
             failing: NEVER,
         },
-        written: "XGCERT 1\nnodes 1 leaves 1\nsets",
+        written: "XGCERT 2\nnodes 1 leaves 1\nsets",
         ..WRITE_FAULT
     },
     Case {
@@ -233,7 +234,7 @@ static TEXTS_BESIDE_A_FAILING_STREAM: [Case; 2] = [
         out: AMPLE,
         err: FAILS_AT_ONCE,
         status: 0,
-        written: ONE_LEAF_HEAD,
+        written: ONE_LEAF_HEAD_IN_TWO,
         said: "",
         ..WRITE_FAULT
     },
@@ -241,7 +242,7 @@ static TEXTS_BESIDE_A_FAILING_STREAM: [Case; 2] = [
         out: AMPLE,
         err: FIVE_BYTES,
         status: 0,
-        written: ONE_LEAF_HEAD,
+        written: ONE_LEAF_HEAD_IN_TWO,
         said: "",
         ..WRITE_FAULT
     },

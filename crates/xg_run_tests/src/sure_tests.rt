@@ -37,7 +37,7 @@ fn sure_status<Rt: Threads + Wait + Sync + AllocGlobal>(
 /// Words, where the file `game` is the forgetful one, with the status, how many bytes are written, and what is said.
 type Row = (&'static str, u8, u64, &'static str);
 
-static ROWS: [Row; 4] = [
+static ROWS: [Row; 5] = [
     (
         "solve game",
         1,
@@ -46,6 +46,7 @@ static ROWS: [Row; 4] = [
     ),
     ("solve nofile", 1, 0, "refused 3 UnexpectedEnd\n"),
     ("check nofile nofile", 1, 0, "refused 3 UnexpectedEnd\n"),
+    ("upgrade nofile nofile", 1, 0, "refused 3 UnexpectedEnd\n"),
     ("gen 2", 0, 728, ""),
 ];
 

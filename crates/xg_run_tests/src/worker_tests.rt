@@ -59,9 +59,9 @@ fn texts_of_any_number_of_workers(rt: HostRuntime) -> Result<(), Fail> {
     let is_solved = is_written_by_all(
         &rt,
         "solve game --rounds 2 --every 1",
-        certificates::ONE_MOVER,
+        certificates::ONE_MOVER_IN_TWO,
     )?;
-    let is_drilled = is_written_by_all(&rt, DRILL, certificates::POKER_OF_THREE)?;
+    let is_drilled = is_written_by_all(&rt, DRILL, certificates::POKER_OF_THREE_IN_TWO)?;
     assert!(rt; is_solved && is_drilled);
     Ok(())
 }

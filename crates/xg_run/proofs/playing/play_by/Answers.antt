@@ -1,15 +1,13 @@
 use Rattle.std.proofs.Common.{◌≡◌, ap, ◌∙◌}
 use Rattle.xg_io.specs.Calls.{sink_call}
 use Rattle.def_plan.specs.Weighed.{WeighedGame}
-use Rattle.def_cert_accepted.specs.OfOutcome.{certificate_of}
-use Rattle.def_cert_text.specs.CertText.{cert_text}
 use Rattle.def_run.specs.Run.{outcome}
 use Rattle.def_program.specs.Text.{form_of_file, solve_text}
 use Rattle.def_game_numbers.specs.Weighed.{weighed_game}
 use Rattle.xg_engine.specs.State.{head_with}
 use Rattle.xg_run.specs.Settings.{settings_seen}
 use Rattle.xg_run.proofs.Solved.{tells, writes_of}
-use Rattle.xg_run.proofs.Texts.{played_is, same_outcome}
+use Rattle.xg_run.proofs.Texts.{outcome_text, played_is, same_outcome}
 use Rattle.xg_run.proofs.playing.play_by.Goals as goal
 
 pub returns-in-Some : goal.returns-in-Some
@@ -24,10 +22,10 @@ returns-in-Some g c = λ game opened.
     (c.in-Some.ensures ∙ c.in-Ok.ensures.outcome)
     ∙ ap (λ (numbers : WeighedGame). outcome numbers.form (head_with numbers settings)) opened in
     tells (sink_call g.O.Sink c.args.out.now c.write_paged.new.out)
-    (solve_text game (settings_seen settings)) (cert_text (certificate_of c.form.result.now c.in-Some.outcome.now))
+    (solve_text game (settings_seen settings)) (outcome_text c.form.result.now c.in-Some.outcome.now)
     (played_is game settings c.form.result.now c.in-Some.outcome.now form_is left_is)
     c.write_paged.result c.ending_of.result c.ending_of.ensures
     (writes_of (g.O.Sink.written c.args.out.now) (g.O.Sink.written c.write_paged.new.out)
-    (cert_text (certificate_of c.form.result.now c.in-Some.outcome.now)) c.write_paged.result
+    (outcome_text c.form.result.now c.in-Some.outcome.now) c.write_paged.result
     c.write_paged.ensures.appended c.write_paged.ensures.prefix)
     c.write_paged.ensures.cause

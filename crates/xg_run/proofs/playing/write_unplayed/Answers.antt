@@ -1,16 +1,32 @@
-use Rattle.std.proofs.Common.{◌≡◌, ◌∙◌, List, [], None, ap}
+use Rattle.std.proofs.Common.{◌≡◌, ◌∙◌, List, [], None, ap, subst, sym}
 use Rattle.xg_io.specs.Calls.{sink_call}
+use Rattle.def_fraction.specs.Fraction.{most}
 use Rattle.def_plan.specs.Weighed.{WeighedGame}
 use Rattle.def_reply.specs.declared.TraceLine.{TraceLine}
-use Rattle.def_reply.specs.Outcome.{Outcome}
-use Rattle.def_cert_accepted.specs.OfOutcome.{certificate_of}
-use Rattle.def_cert_text.specs.CertText.{cert_text}
+use Rattle.def_reply.specs.Outcome.{Head, Outcome}
+use Rattle.def_cert_verdict.specs.Ranges.{IsFromTo}
 use Rattle.def_program.specs.Text.{form_of_file, solve_text}
 use Rattle.xg_cert.specs.Outcome.{head_of}
 use Rattle.xg_run.specs.Settings.{settings_seen}
+use Rattle.xg_run.specs.Written.{CanBeWritten}
 use Rattle.xg_run.proofs.Solved.{tells, writes_of}
-use Rattle.xg_run.proofs.Texts.{unplayed_is}
+use Rattle.xg_run.proofs.Texts.{outcome_text, unplayed_is}
 use Rattle.xg_run.proofs.playing.write_unplayed.Goals as goal
+
+pub write_paged-requires : goal.write_paged-requires
+write_paged-requires g c =
+    let head : Head = head_of c.head.result in
+    let left : Outcome = record { head = head; trace = []; ends = None } in
+    let left_is : c.new-outcome.result ≡ left =
+    c.new-outcome.ensures
+    ∙ ap (λ (trace : List TraceLine). record { head = head; trace = trace; ends = None }) c.new.ensures.items in
+    let unit_is : c.numbers-numbers.result.now.unit ≡ head.unit =
+    ap (λ (numbers : WeighedGame). numbers.unit) c.numbers-numbers.ensures ∙ sym (ap (λ (h : Head). h.unit) c.head.ensures.exact) in
+    let can : CanBeWritten c.form.result.now left = record {
+      is = record { unit = subst (IsFromTo 1 most) unit_is (c.facts.ensures.positive, c.facts.ensures.limit); ends = tt };
+      sum = c.head.ensures.whole_sum;
+    } in
+    subst (CanBeWritten c.form.result.now) (sym left_is) can
 
 pub returns : goal.returns
 returns g c =
@@ -23,11 +39,10 @@ returns g c =
     c.new-outcome.ensures
     ∙ ap (λ (trace : List TraceLine). record { head = head_of c.head.result; trace = trace; ends = None }) c.new.ensures.items in
     tells (sink_call g.O.Sink c.args.out.now c.write_paged.new.out)
-    (solve_text game settings) (cert_text (certificate_of c.form.result.now left))
-    (ap (λ (outcome : Outcome). cert_text (certificate_of c.form.result.now outcome)) left_is
-    ∙ unplayed_is game settings c.form.result.now (head_of c.head.result) c.requires form_is c.head.ensures)
+    (solve_text game settings) (outcome_text c.form.result.now left)
+    (unplayed_is game settings c.form.result.now (head_of c.head.result) left c.requires form_is c.head.ensures.exact left_is)
     c.write_paged.result c.ending_of.result c.ending_of.ensures
     (writes_of (g.O.Sink.written c.args.out.now) (g.O.Sink.written c.write_paged.new.out)
-    (cert_text (certificate_of c.form.result.now left)) c.write_paged.result
+    (outcome_text c.form.result.now left) c.write_paged.result
     c.write_paged.ensures.appended c.write_paged.ensures.prefix)
     c.write_paged.ensures.cause

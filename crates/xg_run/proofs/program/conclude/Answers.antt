@@ -59,6 +59,16 @@ returns-in-Some-Check-clause-concludes g c =
     (sym (sym arm.ensures ∙ ap (λ (command : Command). Some (command_value command)) arm.field-0-is)) c.check.result
     c.check.ensures.concludes
 
+pub returns-in-Some-Upgrade-clause-concludes : goal.returns-in-Some-Upgrade-clause-concludes
+returns-in-Some-Upgrade-clause-concludes g c =
+    let arm = c.in-Some-Upgrade in
+    by_command c.args.words.now (g.F.Files.told c.args.files.now)
+    (files_call g.F.Files c.args.files.now c.upgrade.new.files)
+    (sink_call g.O.Sink c.args.out.now c.upgrade.new.out)
+    (Some (grammar.Upgrade arm.file.now arm.certificate.now))
+    (sym (sym arm.ensures ∙ ap (λ (command : Command). Some (command_value command)) arm.field-0-is)) c.upgrade.result
+    c.upgrade.ensures.concludes
+
 pub returns-in-Some-Drill-clause-concludes : goal.returns-in-Some-Drill-clause-concludes
 returns-in-Some-Drill-clause-concludes g c =
     let arm = c.in-Some-Drill in
@@ -113,6 +123,14 @@ returns-in-Some-Check-clause-opens g c =
     (grammar.Check arm.file.now arm.certificate.now)
     (sym (sym arm.ensures ∙ ap (λ (command : Command). Some (command_value command)) arm.field-0-is))
     c.check.ensures.opens
+
+pub returns-in-Some-Upgrade-clause-opens : goal.returns-in-Some-Upgrade-clause-opens
+returns-in-Some-Upgrade-clause-opens g c =
+    let arm = c.in-Some-Upgrade in
+    opens_named c.args.words.now (files_call g.F.Files c.args.files.now c.upgrade.new.files)
+    (grammar.Upgrade arm.file.now arm.certificate.now)
+    (sym (sym arm.ensures ∙ ap (λ (command : Command). Some (command_value command)) arm.field-0-is))
+    c.upgrade.ensures.opens
 
 pub returns-in-Some-Solve-clause-opens : goal.returns-in-Some-Solve-clause-opens
 returns-in-Some-Solve-clause-opens g c =

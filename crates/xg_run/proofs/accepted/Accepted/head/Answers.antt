@@ -1,16 +1,22 @@
-use Rattle.std.proofs.Common.{◌∙◌, ap}
+use Rattle.std.proofs.Common.{◌∙◌, ap, subst, sym}
 use Rattle.def_file.specs.Content.{GameFile}
 use Rattle.def_plan.specs.Weighed.{WeighedGame}
+use Rattle.def_reply.specs.Outcome.{Head}
+use Rattle.def_cert_versions.specs.Upgrade.{IsWholeIn}
 use Rattle.def_program.specs.Text.{game_head}
 use Rattle.xg_engine.specs.State.{head_with}
 use Rattle.xg_run.specs.Settings.{settings_seen}
 use Rattle.xg_run.proofs.Texts.{run_head_is}
 use Rattle.xg_run.proofs.accepted.Accepted.head.Goals as goal
 
-pub returns : goal.returns
-returns c =
+pub returns-clause-exact : goal.returns-clause-exact
+returns-clause-exact c =
     let settings = c.args.settings in
     c.head_with.ensures.exact
-    ∙ ap (λ (numbers : WeighedGame). head_with numbers settings) c.self.invariant
+    ∙ ap (λ (numbers : WeighedGame). head_with numbers settings) c.self.invariant.are
     ∙ run_head_is c.self.inside.game settings
     ∙ ap (λ (game : GameFile). game_head game (settings_seen settings)) c.self.view_is
+
+pub returns-clause-whole_sum : goal.returns-clause-whole_sum
+returns-clause-whole_sum c =
+    subst (λ (head : Head). IsWholeIn head.unit head.sum) (sym c.head_with.ensures.exact) c.self.invariant.whole_sum
