@@ -159,7 +159,7 @@ def round_trips(checks):
         checks.expect(f"{name} certified", (status, said), 0, NOTHING)
         old, new = certificate.read_text(told.read_bytes()), certificate.read_text(out)
         checks.that(f"{name}, what was read is written", certificate.text_of(old) == told.read_bytes(), "it differs")
-        checks.that(f"{name}, the head", out.splitlines()[:6] == told.read_bytes().splitlines()[:6], f"{out[:200]}")
+        checks.that(f"{name}, the head", out.splitlines()[:7] == told.read_bytes().splitlines()[:7], f"{out[:200]}")
         checks.that(f"{name}, the bracket", (new.low, new.high) == (old.low, old.high), f"{new.low} {new.high}")
         checks.that(f"{name}, the replies", same_ends(old, new), "they differ")
 
@@ -233,7 +233,7 @@ def forms(checks, folder):
         near = abs(text.low - low) < Fraction(1, 10**6) and abs(text.high + Fraction(1, 18)) < Fraction(1, 10**6)
         checks.that(name, status == 0 and near, f"{text.low} {text.high}")
     equal = tool("certify", KUHN, GAMES / "kuhn_equilibrium.csv")
-    checks.that("an equilibrium is certified exactly", b"\nbracket -1/18 -1/18\nend\n" in equal[1], equal[1].decode())
+    checks.that("an equilibrium is certified exactly", b"\nbracket -1/18 -1/18\nsecond 1/18 1/18\nend\n" in equal[1], equal[1].decode())
     profiles = (b"NE,1/2,0,1/2,0,1,0,1", NAMES_FORMS[8][1].encode())
     alone = [tool("certify", "--player=2", file, stdin=it) for it in profiles]
     checks.that("one player's numbers, or both", alone[0][0] == 0 and alone[0] == alone[1], f"{alone}")

@@ -11,7 +11,7 @@ PROGRAM = ROOT / "crates" / "xg_solve" / "out" / "xg_solve"
 
 USAGE = (
     b"usage: xg_solve solve FILE [--rounds N] [--every N] [--scale N] [--workers N]"
-    b" | check FILE CERT | info FILE | gen N | drill N\n"
+    b" | check FILE CERT | upgrade FILE CERT | info FILE | gen N | drill N\n"
 )
 READ_FAULT = b"read fault\n"
 WRITE_FAULT = b"write fault\n"
@@ -24,12 +24,13 @@ def text(nodes, leaves, sets=(0, 0), sequences=(1, 1), unit=1, mass=0, total=0):
     """What is printed for a game with these numbers that is solved in no rounds. Each leaf pays both players together the
     total."""
     lines = [
-        "XGCERT 1",
+        "XGCERT 2",
         f"nodes {nodes} leaves {leaves}",
         f"sets {sets[0]} {sets[1]}",
         f"sequences {sequences[0]} {sequences[1]}",
-        f"unit {unit} sum {total}" if total else f"unit {unit}",
+        f"unit {unit}",
         f"mass {mass}",
+        f"sum {total}",
         "rounds 0 every 1 scale 1048576",
         "end",
     ]
@@ -40,10 +41,11 @@ def leaf_text(rounds, every, scale=1_048_576):
     """What is printed for the game of `ONE_LEAF` after so many rounds: the first evaluation is never improved."""
     first = min(every, rounds)
     lines = [
-        *text(1, 1).decode().splitlines()[:6],
+        *text(1, 1).decode().splitlines()[:7],
         f"rounds {rounds} every {every} scale {scale}",
         *(f"trace {min(k, rounds)} {first} 0 {first} 0" for k in range(every, rounds + every, every)),
-        *(f"plan 1 {first * scale}", "reply 2 0", f"plan 2 {first * scale}", "reply 1 0", "bracket 0 0", "end"),
+        *(f"plan 1 {first * scale}", "reply 2 0", f"plan 2 {first * scale}", "reply 1 0"),
+        *("bracket 0 0", "second 0 0", "end"),
     ]
     return "".join(line + "\n" for line in lines).encode()
 

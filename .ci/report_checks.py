@@ -9,7 +9,7 @@ from html.parser import HTMLParser
 from checks import ROOT
 from made_checks import equal_profile
 from small_games import profile_of, small_games
-from tool_calls import tool
+from tool_calls import in_version, tool
 
 import certificate  # noqa: E402
 import efg  # noqa: E402
@@ -310,17 +310,18 @@ def refusals(checks, folder):
     for what, game, text, why in [
         ("another game", GAMES / "toll.efg", told, b"the text is of another game: it says nodes 58, the game file 9"),
         ("another unit", KUHN, told.replace(b"unit 6", b"unit 12"), DIFFERS),
-        ("a sum where it is 0", KUHN, told.replace(b"unit 6", b"unit 6 sum 1/6"), DIFFERS),
+        ("a sum where it is 0", KUHN, told.replace(b"sum 0", b"sum 1/6"), DIFFERS),
         ("another sum", NETWORKS, networks.replace(b"sum 100", b"sum -100"), DIFFERS),
-        ("no sum", NETWORKS, networks.replace(b" sum 100", b""), DIFFERS),
+        ("no sum in version 1", NETWORKS, in_version(1, networks).replace(b" sum 100", b""), DIFFERS),
         ("no rounds", KUHN, head + b"end\n", b"the text has no plans, as it has no rounds"),
         ("a value", KUHN, told.replace(b"value 1 " + values[1], b"value 1 7", 1), b"a best one at its set "),
         ("a choice", KUHN, re.sub(rb"(value 1 -?\d+) \d", rb"\1 3", told, count=1), b"a best one at its set "),
         ("a bracket", KUHN, re.sub(rb"bracket \S+", b"bracket -1", told), b"the text isn't true: its bracket is "),
+        ("a second line", KUHN, re.sub(rb"second \S+", b"second -1", told), b"true: player two's bracket is "),
         ("a trace", KUHN, re.sub(rb"(trace 8 \d+ -?\d+)", rb"\g<1>0", told), b"the last line of its trace"),
         ("a plan", KUHN, told.replace(b"weights 2 6160384", b"weights 2 6160385"), b"and 6422528 stands before it"),
         ("a cut text", KUHN, told[:-1], b"the text doesn't end with a line feed"),
-        ("no text", KUHN, b"", b"line 1 isn't the first line of a text, XGCERT 1"),
+        ("no text", KUHN, b"", b"line 1 isn't the first line of a text, XGCERT 1 or XGCERT 2"),
     ]:
         for words in ([], ["--text"]):
             status, out, said = tool("report", *words, game, stdin=text)

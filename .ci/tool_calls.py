@@ -2,12 +2,15 @@
 import importlib.machinery
 import importlib.util
 import io
+import pathlib
 import signal
 import sys
 
 from checks import ROOT, call
 
 sys.path.insert(0, str(ROOT / "tools" / "lib"))
+import certificate  # noqa: E402
+
 LOADED = {}
 
 
@@ -40,9 +43,21 @@ def tool(name, *words, stdin=b""):
     return status, out.buffer.getvalue(), said.buffer.getvalue()
 
 
-def expect_both(checks, what, game, certificate, answer):
-    """The program and the other checker have this answer to a certificate."""
+def in_version(number, data):
+    """A text as this version has it."""
+    text = certificate.read_text(data)
+    text.form = f"XGCERT {number}"
+    text.second = text.bracket_of_two() if text.rounds else None
+    return certificate.text_of(text)
+
+
+def expect_both(checks, what, game, file, answer):
+    """The program and the other checker have this answer to a certificate; and `upgrade` is refused alike, or writes
+    version 2 of it."""
     line = f"{answer}\n".encode()
     wanted = (0, line, b"") if answer.startswith("accepted") else (1, b"", line)
-    checks.expect(what, call(["check", str(game), str(certificate)]), *wanted)
-    checks.expect(f"{what}, by the other checker", tool("check_certificate", game, certificate), *wanted)
+    checks.expect(what, call(["check", str(game), str(file)]), *wanted)
+    checks.expect(f"{what}, by the other checker", tool("check_certificate", game, file), *wanted)
+    if answer.startswith("accepted"):
+        wanted = (0, in_version(2, pathlib.Path(file).read_bytes()), b"")
+    checks.expect(f"{what}, upgraded", call(["upgrade", str(game), str(file)]), *wanted)

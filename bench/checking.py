@@ -1,5 +1,5 @@
 #!/usr/bin/env python3
-"""Measures on the built program how certificates are checked: time and memory as games and certificates grow.
+"""Measures on the built program how certificates are checked and upgraded: time and memory as they and their games grow.
 
 Usage: python3 bench/checking.py [PROGRAM] [--runs N] [--work] [--only WORD] [--beside OTHER]
 
@@ -8,7 +8,8 @@ then checks what it wrote. Certificates that are made to hurt follow, each whole
 what was measured, the measure and its bound; the last line counts what passed and failed, and the status is 1 where
 something failed. Times are the best of N runs (5 where nothing else is said); with --work they are the processor's
 times and not those that pass, which is right on a busy machine. Memory is the greatest that was resident; less than
-the 8 MB of the process that starts the program can't be seen.
+the 8 MB of the process that starts the program can't be seen. Of each kind the largest certificate is also put into
+version 1 and upgraded, in turn with checking it.
 
 With OTHER, which takes the same words, each kind's largest certificate is also checked with it, in turn, and the ratio
 of the times is printed, ours over the other's: it has no bound. Both are to print the same line.
@@ -16,6 +17,7 @@ of the times is printed, ours over the other's: it has no bound. Both are to pri
 import argparse
 import os
 import pathlib
+import re
 import resource
 import subprocess
 import sys
@@ -25,7 +27,7 @@ from reading import MOST_NODES, PROGRAM, file_of, run, wide
 from solving import Report, poker, streets
 
 MOST_CERT_BYTES = 268_435_456
-GROWTH, MEMORY, WORDS = 2.3, 6.0, 10.0
+GROWTH, MEMORY, WORDS, UPGRADE = 2.3, 6.0, 10.0, 2.0
 # Below this a time is that of the program's start.
 SEEN = 0.02
 
@@ -43,7 +45,7 @@ t "" 1
 def head(rounds, sets_one=1):
     """The head of that game's certificate, with these numbers in place of its own."""
     return (
-        f"XGCERT 1\nnodes 7 leaves 4\nsets {sets_one} 1\nsequences 3 3\nunit 1\nmass 4\n"
+        f"XGCERT 2\nnodes 7 leaves 4\nsets {sets_one} 1\nsequences 3 3\nunit 1\nmass 4\nsum 0\n"
         f"rounds {rounds} every 1 scale 1048576\n"
     ).encode()
 
@@ -64,7 +66,7 @@ def weighed(length, numbers):
 
 def hurtful():
     """Certificates that are made to hurt: what they are, how one is made at a part of its length, and the answer."""
-    number = b"XGCERT 1\nnodes "
+    number = b"XGCERT 2\nnodes "
     one_line = head(1) + b"trace 1 1 0 1 0\nplan 1 1048576\nweights 1"
     late = len(one_line) + 2 * 1_024
     past = len(traced(65_536, 65_536))
@@ -149,6 +151,11 @@ def measured(calls, given):
     return times, memory
 
 
+def first_version(text):
+    """A text of a game whose payoffs add up to 0 in version 1, without reading its lines one by one."""
+    return re.sub(rb"^(sum|second) .*\n", b"", text.replace(b"XGCERT 2", b"XGCERT 1", 1), flags=re.MULTILINE)
+
+
 class Bench:
     def __init__(self, folder, given):
         self.folder, self.given, self.report = pathlib.Path(folder), given, Report()
@@ -183,6 +190,23 @@ class Bench:
             self.report.judge(f"{name}: memory beside both files", memory / self.size(), MEMORY, "times")
         self.report.judge(f"{name}: {took:.3f} s against wc -w, {words:.3f} s", took / words, WORDS, "times")
         self.beside(name)
+        self.upgrade(name)
+
+    def upgrade(self, name):
+        """Upgrades the certificate from version 1, in turn with checking it there."""
+        file = pathlib.Path(self.certificate)
+        text = file.read_bytes()
+        file.write_bytes(first_version(text))
+        words = ["upgrade", self.game, self.certificate]
+        calls = [[self.program, *words], [self.program, "check", *words[1:]]]
+        (ours, check), (memory, _) = measured(calls, self.given)
+        written = subprocess.run([self.program, *words], capture_output=True).stdout
+        self.report.that(f"{name}: the upgrade is the text of solve", written == text)
+        self.report.say(f"{name}, upgraded: {ours:.3f} s, {memory} bytes of memory")
+        if check > SEEN:
+            self.report.judge(f"{name}: {ours:.3f} s against check, {check:.3f} s", ours / check, UPGRADE, "times")
+        if memory > 16 * 2**20:
+            self.report.judge(f"{name}: memory of upgrade beside both files", memory / self.size(), MEMORY, "times")
 
     def beside(self, name):
         if not self.given.beside:

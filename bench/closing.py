@@ -42,7 +42,7 @@ def row(name, command, rounds, every, runs):
     words = [*command, "--rounds", str(rounds), "--every", str(every), "--workers", "1"]
     lines = lines_of(words)
     nodes = next(line.split()[1] for line in lines if line.startswith("nodes "))
-    low, high = (Fraction(it) for it in lines[-2].split()[1:])
+    low, high = next(map(Fraction, line.split()[1:]) for line in lines if line.startswith("bracket "))
     seconds = min(run(words)[0] for _ in range(runs))
     ends = f"{decimal(low, 6, False)} | {decimal(high, 6, True)} | {decimal(high - low, 6, True)}"
     return f"| {name} | {int(nodes):,} | {rounds:,} | {ends} | {seconds:.3f} |"

@@ -9,9 +9,10 @@ the others have a byte, a word or a line that is changed, cut away or there twic
 number alone.
 
 What is tested: the status, standard output and standard error agree with one another; a text of `solve` or `drill` is read
-by tools/certificate.py, comes back byte for byte, and `check` accepts it with its bracket; a changed text is refused, or its
-bracket meets the bracket of the text that it was made from; more workers print the same; `info` prints the numbers of the
-text; what `gen` writes is solved as `drill` does; no call takes more memory or time than its bytes allow.
+by tools/certificate.py, comes back byte for byte, and `check` accepts it in both versions with its bracket; a changed text
+is refused, or its bracket meets the bracket of the text that it was made from; `upgrade` is refused as `check` is, or writes
+version 2; more workers print the same; `info` prints the numbers of the text; what `gen` writes is solved as `drill` does;
+no call takes more memory or time than its bytes allow.
 
 A finding is shown with its case, and its files are kept. The last line counts what passed and failed, and the status is 1
 where something failed.
@@ -36,6 +37,7 @@ from reading import PROGRAM, ROOT  # noqa: E402
 sys.path += [str(ROOT / ".ci"), str(ROOT / "tools" / "lib")]
 from checks import NO_MEMORY, READ_FAULT, USAGE, WRITE_FAULT  # noqa: E402
 from small_games import SmallGame  # noqa: E402
+from tool_calls import in_version  # noqa: E402
 import certificate  # noqa: E402
 
 REFUSED = re.compile(rb"refused ([1-9]|1[0-9]|2[1-9]|3[0-3]) [A-Z][A-Za-z]+( [a-z0-9A-Z ]+)?\n")
@@ -146,18 +148,31 @@ def told_bracket(out):
 
 
 def is_accepted(soak, file, data, text, bracket):
-    """`check` accepts the text with its bracket."""
-    answer = soak.call("check", file, soak.file("text", text), read=(data, text))
-    soak.that("the text is accepted", answer.status == 0 and ACCEPTED.fullmatch(answer.out), answer)
-    if answer.status == 0:
-        soak.that("with its bracket", told_bracket(answer.out) == bracket, answer.out)
+    """`check` accepts the text in both versions with its bracket."""
+    for written in (text, in_version(1, text)):
+        answer = checked(soak, file, data, written, text)
+        soak.that("the text is accepted", answer.status == 0 and ACCEPTED.fullmatch(answer.out), answer)
+        if answer.status == 0:
+            soak.that("with its bracket", told_bracket(answer.out) == bracket, answer.out)
+
+
+def checked(soak, file, data, text, upgraded=None):
+    """What `check` says of a text. `upgrade` is refused alike, or writes version 2 of it, which is accepted alike."""
+    told, again = (soak.call(it, file, soak.file("text", text), read=(data, text)) for it in ("check", "upgrade"))
+    if told.status:
+        soak.that("upgrade is refused as check is", (again.status, again.err) == (told.status, told.err), (told, again))
+    else:
+        soak.that("the upgrade", again.out == (upgraded or in_version(2, text)), (text, again))
+        other = soak.call("check", file, soak.file("upgraded", again.out), read=(data, again.out))
+        soak.that("the upgrade is accepted alike", other[:3] == told[:3], (told, other))
+    return told
 
 
 def changed_texts(soak, chance, file, data, text, bracket):
     """Changed texts are refused, or they have bounds that hold too."""
     for _ in range(6):
-        other = changed(chance, text)
-        answer = soak.call("check", file, soak.file("changed", other), read=(data, other))
+        other = changed(chance, in_version(chance.choice((1, 2)), text))
+        answer = checked(soak, file, data, other)
         if answer.status == 0:
             told = told_bracket(answer.out)
             holds = (told is None) == (b"bracket" not in other) and (
@@ -169,8 +184,8 @@ def changed_texts(soak, chance, file, data, text, bracket):
 
 
 def numbers_of(text):
-    """The lines of a text that `info` prints too."""
-    return b"".join(text.splitlines(keepends=True)[1:6])
+    """What `info` prints of a text's numbers: the lines that version 1 has of them."""
+    return b"".join(in_version(1, text).splitlines(keepends=True)[1:6])
 
 
 def solved(soak, chance, file, data):
@@ -220,7 +235,14 @@ def words_case(soak, chance):
     """Words of a command, with one of them another, away or twice."""
     game = str(ROOT / "games" / "kuhn_poker.efg")
     words = chance.choice(
-        (["solve", game, *options(chance)], ["check", game, game], ["info", game], ["gen", "2"], ["drill", "2", *options(chance)])
+        (
+            ["solve", game, *options(chance)],
+            ["check", game, game],
+            ["upgrade", game, game],
+            ["info", game],
+            ["gen", "2"],
+            ["drill", "2", *options(chance)],
+        )
     )
     at = chance.randrange(len(words))
     strange = chance.choice(("", "-", "--", "--rounds", "--rounds=1", "--every=", "--workers=00", "0", "65", "-1", "é", "plus"))

@@ -105,7 +105,7 @@ def for_player_two(text, player):
     """What a text's bracket says of player two's own payoff, or None where that is player one's with the sign turned."""
     if text.sum == 0:
         return None
-    least = bound("LOW", text.sum - text.high)
+    least = bound("LOW", text.bracket_of_two()[0])
     return f"Both payoffs add up to {text.sum}: {player}'s plan gets at least {text.sum} less HIGH, {least}"
 
 

@@ -1,5 +1,5 @@
-"""Reads and writes the text that `solve` prints: its head, the trace of the bracket, both plans, both replies and the
-bracket.
+"""Reads and writes the text that `solve` prints: its head, the trace of the bracket, both plans, both replies, the
+bracket and player two's bracket.
 
 The form of each line is tested, and that there are as many lines as the head says. Whether the text is true isn't
 looked at. What the first line says decides which lines follow: FORMS has who reads and who writes them.
@@ -28,18 +28,23 @@ class End:
 
 class Text:
     """A text. `form` is its first line, and `sum` what each leaf pays both players together. `ends` has the plan of
-    player one and of player two, each with the other's reply; without rounds it is None, as are `low` and `high`."""
+    player one and of player two, each with the other's reply; without rounds it is None, as are `low` and `high`.
+    `second` is the bracket in player two's payoff, None where the text has no line of it."""
 
     def __init__(self, form):
         self.form = form
         self.nodes = self.leaves = self.sets = self.sequences = self.unit = self.sum = self.mass = None
         self.rounds = self.every = self.scale = None
-        self.trace, self.ends, self.low, self.high = [], None, None, None
+        self.trace, self.ends, self.low, self.high, self.second = [], None, None, None, None
 
     def bracket_after(self, row):
         """The bracket of a trace line in units of payoff."""
         _, low_round, low, high_round, high = row
         return tuple(Fraction(end, self.unit * self.scale * k) for end, k in ((low, low_round), (high, high_round)))
+
+    def bracket_of_two(self):
+        """The bracket in player two's payoff."""
+        return self.sum - self.high, self.sum - self.low
 
 
 class Lines:
@@ -73,29 +78,53 @@ def text_of(text):
 
 
 def read_version_1(lines, text):
+    read_counts(lines, text)
+    what = "the line of the unit"
+    unit, told = lines.take(rf"unit ({COUNT})(?: sum ({FRACTION}))?", what)
+    text.unit, text.sum = int(unit), Fraction(0) if told is None else lowest(lines, told, what)
+    if told is not None and text.sum == 0:
+        raise Fault(f"line {lines.number} isn't {what}")
+    (text.mass,) = lines.counts("mass N", "the line of the mass")
+    return read_rounds(lines, text)
+
+
+def read_version_2(lines, text):
+    read_counts(lines, text)
+    (text.unit,) = lines.counts("unit N", "the line of the unit")
+    (text.mass,) = lines.counts("mass N", "the line of the mass")
+    what = "the line of the sum"
+    (told,) = lines.take(f"sum ({FRACTION})", what)
+    text.sum = lowest(lines, told, what)
+    return read_rounds(lines, text, has_second=True)
+
+
+def read_counts(lines, text):
     text.nodes, text.leaves = lines.counts("nodes N leaves N", "the line of nodes and leaves")
     text.sets = lines.counts("sets N N", "the line of sets")
     text.sequences = lines.counts("sequences N N", "the line of sequences")
-    read_unit(lines, text)
-    (text.mass,) = lines.counts("mass N", "the line of the mass")
+
+
+def lowest(lines, told, what):
+    """The fraction of a line, which must be written in lowest terms."""
+    value = Fraction(told)
+    if str(value) != told:
+        raise Fault(f"line {lines.number} isn't {what}")
+    return value
+
+
+def read_rounds(lines, text, has_second=False):
+    """The line of the rounds, and what follows it."""
     text.rounds, text.every, text.scale = lines.counts("rounds N every N scale N", "the line of the rounds")
     if 0 in (text.unit, text.every, text.scale):
         raise Fault("the unit, the rounds between evaluations or the scale is 0")
     if text.rounds:
         read_outcome(lines, text)
+    if text.rounds and has_second:
+        text.second = fractions(lines, "second", "player two's bracket")
     lines.take("end", "the last line, end")
     if lines.rest:
         raise Fault(f"line {lines.number + 1} comes after the end")
     return text
-
-
-def read_unit(lines, text):
-    """The unit, and the sum behind it where that isn't 0."""
-    what = "the line of the unit"
-    unit, told = lines.take(rf"unit ({COUNT})(?: sum ({FRACTION}))?", what)
-    text.unit, text.sum = int(unit), Fraction(told or 0)
-    if told is not None and (text.sum == 0 or str(text.sum) != told):
-        raise Fault(f"line {lines.number} isn't {what}")
 
 
 def read_outcome(lines, text):
@@ -106,7 +135,12 @@ def read_outcome(lines, text):
             raise Fault(f"line {lines.number} isn't the trace of round {min(k * text.every, text.rounds)}")
         text.trace.append(row)
     text.ends = (read_end(lines, text, 1), read_end(lines, text, 2))
-    text.low, text.high = map(Fraction, lines.take(rf"bracket ({FRACTION}) ({FRACTION})", "the bracket"))
+    text.low, text.high = fractions(lines, "bracket", "the bracket")
+
+
+def fractions(lines, word, what):
+    """The two fractions of a line."""
+    return tuple(map(Fraction, lines.take(rf"{word} ({FRACTION}) ({FRACTION})", what)))
 
 
 def read_end(lines, text, player):
@@ -125,17 +159,28 @@ def read_end(lines, text, player):
 
 
 def lines_of_version_1(text):
+    unit = f"unit {text.unit} sum {text.sum}" if text.sum else f"unit {text.unit}"
+    yield from lines_of(text, unit, f"mass {text.mass}")
+
+
+def lines_of_version_2(text):
+    payoffs = f"unit {text.unit}", f"mass {text.mass}", f"sum {text.sum}"
+    yield from lines_of(text, *payoffs, second=["second {} {}".format(*text.second)] if text.rounds else [])
+
+
+def lines_of(text, *payoffs, second=()):
+    """The lines of a text, with these on its payoffs, and of player two's bracket."""
     yield from (
         text.form,
         f"nodes {text.nodes} leaves {text.leaves}",
         "sets {} {}".format(*text.sets),
         "sequences {} {}".format(*text.sequences),
-        f"unit {text.unit} sum {text.sum}" if text.sum else f"unit {text.unit}",
-        f"mass {text.mass}",
+        *payoffs,
         f"rounds {text.rounds} every {text.every} scale {text.scale}",
     )
     if text.rounds:
         yield from lines_of_outcome(text)
+    yield from second
     yield "end"
 
 
@@ -154,6 +199,9 @@ def lines_of_end(end, player):
     yield from (f"value {k} {value} {choice}" for k, (value, choice) in enumerate(end.replies, 1))
 
 
-FORMS = {"XGCERT 1": (read_version_1, lines_of_version_1)}
+FORMS = {
+    "XGCERT 1": (read_version_1, lines_of_version_1),
+    "XGCERT 2": (read_version_2, lines_of_version_2),
+}
 # The form of what `solve` prints.
-FORM_OF_SOLVE = "XGCERT 1"
+FORM_OF_SOLVE = "XGCERT 2"

@@ -1,7 +1,7 @@
 """What both plans of a text do at each set, what a best response does there, and what the plan loses to it.
 
 All numbers are exact and in the file's units of payoff to player one. The text is tested against the game first: its
-head, its plans, the values and choices of both replies, the totals and the bracket.
+head, its plans, the values and choices of both replies, the totals and the bracket, in both players' payoffs.
 """
 from fractions import Fraction
 
@@ -75,6 +75,8 @@ def test_bracket(text):
         raise Differs("the text isn't true: its bracket is {} {}".format(*ends))
     if list(text.bracket_after(text.trace[-1])) != ends:
         raise Differs("the text isn't true: the last line of its trace has another bracket")
+    if text.second not in (None, text.bracket_of_two()):
+        raise Differs("the text isn't true: player two's bracket is {} {}".format(*text.bracket_of_two()))
 
 
 def visits(audit):

@@ -71,7 +71,8 @@ def player_two_rows(audit):
         return []
     least = f"{whole} less HIGH, in {two}'s payoff: {two}'s plan gets at least this against every plan of {one}"
     most = f"{whole} less LOW, in {two}'s payoff: no plan of {two} is sure of more than this"
-    return [(least, whole - text.high, DOWN), (most, whole - text.low, UP)]
+    least_two, most_two = text.bracket_of_two()
+    return [(least, least_two, DOWN), (most, most_two, UP)]
 
 
 def losing(audit):
