@@ -6,3 +6,4 @@ pub mod TwoDeals
 pub mod Limits
 pub mod Laws
 pub mod RoundLaws
+pub mod Variants

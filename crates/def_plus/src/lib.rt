@@ -14,6 +14,16 @@ pub const MOST_PLUS_ROUNDS: u32 = 2_048;
 /// The greatest scale of CFR+, which is the root of each round's plans.
 pub const MOST_PLUS_SCALE: u32 = 16_384;
 
+/// Which rounds are played.
+#[derive(Clone, Copy, Debug, PartialEq, Eq)]
+pub enum Variant {
+    /// Rounds of counterfactual regret minimisation, each of which weighs 1 (Zinkevich, Johanson, Bowling and Piccione
+    /// 2007).
+    Plain,
+    /// Rounds of CFR+, of which the n-th weighs n (Tammelin 2014).
+    Plus,
+}
+
 /// A cut regret is the greater of 0 and the regret; a cut makes none larger and doesn't change what is played next.
 pub fn cut_regrets_are_exact()
     ensures { CutRegretsAreExact }

@@ -1,4 +1,2 @@
-pub mod WeighedEnds
-pub mod WeighedTraces
-pub mod WeighedOutcomes
 pub mod PlusRuns
+pub mod VariantRuns

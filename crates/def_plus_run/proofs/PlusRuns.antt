@@ -1,5 +1,5 @@
--- Runs of CFR+, and plain ones, are runs that sum plans.
-use Rattle.std.proofs.Common.{ℕ, ◌*◌, ◌^◌, ◌≤◌, ◌<◌, List, arith, refl}
+-- Runs of CFR+ are runs that sum plans.
+use Rattle.std.proofs.Common.{ℕ, ◌*◌, ◌^◌, ◌≤◌, ◌<◌, List, arith}
 use Rattle.std.specs.Prelude.{ℤ, pos, ◌*ℤ◌, unsigned_abs}
 use Rattle.std.proofs.Math.Nat.{mul-le-mul}
 use Rattle.std.proofs.lemmas.Int.{unsigned_abs-mul}
@@ -10,34 +10,18 @@ use Rattle.def_plan.specs.Plan.{IsPlan}
 use Rattle.def_plan.specs.Payoff.{leaf_sum, mass_of}
 use Rattle.def_plan.proofs.SizeLaws.{leaf_sums-below}
 use Rattle.def_reply.proofs.ReplySizes.{total-below}
-use Rattle.def_round.proofs.Sums.{rounds_sum_to_plans}
 use Rattle.def_run.specs.Run.{total_against}
 use Rattle.def_plus.specs.Weights.{total_weight}
 use Rattle.def_plus.specs.PlusRounds.{plus_rounds}
 use Rattle.def_plus.proofs.WeightLaws.{weights_rise}
 use Rattle.def_plus.proofs.PlusSums.{plus_rounds_sum_to_plans}
-use Rattle.def_plus_run.specs.WeighedLaws.{PlainRunsAreWeighed}
 use Rattle.def_plus_run.specs.PlusRun.{plus_run}
 use Rattle.def_plus_run.specs.PlusLaws.{PlusRunsSumPlans, PlusBoundsAreSmall, PlusOffersAreFair, PlusRunsHaveBrackets}
-use Rattle.def_plus_run.proofs.WeighedEnds.{weighed_ends_are_the_earliest_best, weighed_ends_are_bounds, weighed_ends_are_in_order}
-use Rattle.def_plus_run.proofs.WeighedTraces.{weighed_trace_never_widens}
-use Rattle.def_plus_run.proofs.WeighedOutcomes.{weighed_offers_are_fair}
+use Rattle.def_run.proofs.WeighedEnds.{weighed_ends_are_the_earliest_best, weighed_ends_are_bounds, weighed_ends_are_in_order}
+use Rattle.def_run.proofs.WeighedTraces.{weighed_trace_never_widens}
+use Rattle.def_run.proofs.WeighedOutcomes.{weighed_offers_are_fair}
 
--- a run of plain rounds is one in which each round weighs 1
-pub plain_runs_are_weighed : PlainRunsAreWeighed
-plain_runs_are_weighed = record {
-  sums_plans = λ form root order_one order_two some. record {
-    some_weight = λ round some. some;
-    of_one = λ round some_round. (rounds_sum_to_plans form root round order_one order_two some some_round).of_one;
-    of_two = λ round some_round. (rounds_sum_to_plans form root round order_one order_two some some_round).of_two;
-  };
-  evaluations = λ form root every last. refl;
-  offers = λ form root every last. refl;
-  outcome = λ form head. refl;
-  lines = λ form root later earlier within. record { not_lower = within.not_lower; not_higher = within.not_higher };
-}
-
--- and one of CFR+ one in which round k weighs k
+-- a run of CFR+ is one in which round k weighs k
 pub plus_runs_sum_plans : PlusRunsSumPlans
 plus_runs_sum_plans form root order_one order_two some = record {
   some_weight = λ round some_round. weights_rise 1 round some_round;
@@ -81,15 +65,17 @@ plus_bounds_are_small form root round other order_one order_two some some_round 
 -- and its offers are fair
 pub plus_offers_are_fair : PlusOffersAreFair
 plus_offers_are_fair form root round order_one order_two some some_round limits last later =
-    weighed_offers_are_fair form root (plus_run form root) round (plus_runs_sum_plans form root order_one order_two some) some (omega (arith, limits.small_root)) some_round (omega (arith, limits.few_rounds)) last later
+    let weight : total_weight round ≤ 2098176 = weights_rise round 2048 limits.few_rounds in
+    weighed_offers_are_fair form root (plus_run form root) round (plus_runs_sum_plans form root order_one order_two some) some some_round
+    (omega (arith, limits.few_rounds)) (omega (arith, weight)) (omega (arith, mul-le-mul weight limits.small_root)) last later
 
 -- its ends are the earliest best, attained and in order, and its trace never widens
 pub plus_runs_have_brackets : PlusRunsHaveBrackets
 plus_runs_have_brackets form root every last ends order_one order_two some are =
     let sums = plus_runs_sum_plans form root order_one order_two some in
     record {
-      best = weighed_ends_are_the_earliest_best form root (plus_run form root) every last ends sums are;
+      best = weighed_ends_are_the_earliest_best form (plus_run form root) every last ends sums.some_weight are;
       bounds = weighed_ends_are_bounds form root (plus_run form root) every last ends order_one order_two sums are;
       in_order = weighed_ends_are_in_order form root (plus_run form root) every last ends order_one order_two some sums are;
-      narrows = λ j k line le low. weighed_trace_never_widens form root (plus_run form root) every last j k line sums le low;
+      narrows = λ j k line le low. weighed_trace_never_widens form (plus_run form root) every last j k line sums.some_weight le low;
     }

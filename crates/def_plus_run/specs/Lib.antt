@@ -1,5 +1,5 @@
-pub mod WeighedRun
-pub mod WeighedLaws
 pub mod PlusRun
 pub mod ThreeAlike
 pub mod PlusLaws
+pub mod VariantRun
+pub mod VariantLaws

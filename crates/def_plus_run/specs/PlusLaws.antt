@@ -2,13 +2,13 @@
 use Rattle.std.specs.Prelude.{◌≡◌, ℕ, ◌*◌, ◌^◌, ◌≤◌, ◌<◌, pos, ◌*ℤ◌, ◌≤ℤ◌, unsigned_abs, length, slice_index_or, Some}
 use Rattle.def_plan.specs.Form.{SequenceForm, AreInOrder}
 use Rattle.def_plan.specs.Payoff.{mass_of}
-use Rattle.def_reply.specs.Bracket.{BracketEnds, ends_of, trace}
+use Rattle.def_reply.specs.Bracket.{BracketEnds, ends_of, trace, LiesWithinBy}
 use Rattle.def_reply.specs.declared.TraceLine.{TraceLine}
 use Rattle.def_reply.specs.Offers.{IsFair}
 use Rattle.def_plus.specs.Limits.{IsWithinPlusLimits, most_plus_rounds}
 use Rattle.def_plus.specs.Weights.{total_weight}
-use Rattle.def_plus_run.specs.WeighedRun.{SumsPlans, LiesWithinBy}
-use Rattle.def_plus_run.specs.WeighedLaws.{AreBestEndsIn, AreBoundsIn}
+use Rattle.def_run.specs.Run.{SumsPlans}
+use Rattle.def_run.specs.WeighedLaws.{AreBestEndsIn, AreBoundsIn}
 use Rattle.def_plus_run.specs.PlusRun.{plus_run, plus_evaluation, plus_evaluations, plus_offer}
 
 -- its sums are plans, of the root times 1 + 2 + .. + n, so all that holds of runs that sum plans holds of it

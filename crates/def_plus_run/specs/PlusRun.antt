@@ -6,7 +6,7 @@ use Rattle.def_reply.specs.Offers.{Offer}
 use Rattle.def_reply.specs.Outcome.{Head, Outcome}
 use Rattle.def_plus.specs.Weights.{total_weight}
 use Rattle.def_plus.specs.PlusRounds.{plus_rounds}
-use Rattle.def_plus_run.specs.WeighedRun.{WeighedRun, evaluation_in, evaluations_in, offer_in, outcome_in}
+use Rattle.def_run.specs.Run.{WeighedRun, evaluation_in, evaluations_in, offer_in, outcome_in}
 
 abbrev pub plus_run : SequenceForm → ℕ → WeighedRun
 plus_run form root = record {

@@ -10,7 +10,7 @@ ghost use Rattle.def_reply.specs.Offers.{board_after};
 ghost use Rattle.def_reply.specs.Outcome.{Head};
 ghost use Rattle.def_plus.specs.TwoDeals.{two_deals};
 ghost use Rattle.def_plus.specs.Weights.{total_weight};
-ghost use Rattle.def_plus_run.specs.WeighedRun.{offers_in};
+ghost use Rattle.def_run.specs.Run.{offers_in};
 ghost use Rattle.def_plus_run.specs.PlusRun.{plus_evaluation, plus_evaluations, plus_outcome, plus_run};
 ghost use Rattle.def_plus_run.specs.ThreeAlike.{three_alike};
 

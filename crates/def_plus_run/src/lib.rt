@@ -3,9 +3,9 @@
 #![tactic(auto)]
 
 pub mod examples;
-pub mod weighed;
 
 ghost use Rattle.def_plus_run.specs.PlusLaws.{PlusBoundsAreSmall, PlusOffersAreFair, PlusRunsHaveBrackets, PlusRunsSumPlans};
+ghost use Rattle.def_plus_run.specs.VariantLaws.{VariantOffersAreFair, VariantRunsSumPlans, VariantsAreBothRuns};
 
 /// A run of CFR+ sums plans, of the root times 1 + 2 + .. + n after n rounds.
 pub fn plus_runs_sum_plans()
@@ -27,4 +27,19 @@ pub fn plus_offers_are_fair()
 /// of its trace is wider than an earlier one.
 pub fn plus_runs_have_brackets()
     ensures { PlusRunsHaveBrackets }
+{}
+
+/// The runs of both variants are that of plain rounds and that of CFR+.
+pub fn variants_are_both_runs()
+    ensures { VariantsAreBothRuns }
+{}
+
+/// The run of each variant sums plans.
+pub fn variant_runs_sum_plans()
+    ensures { VariantRunsSumPlans }
+{}
+
+/// Within the limits of its variant each offer of a run is fair.
+pub fn variant_offers_are_fair()
+    ensures { VariantOffersAreFair }
 {}

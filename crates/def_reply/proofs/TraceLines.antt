@@ -5,9 +5,9 @@ use Rattle.std.proofs.lemmas.List.{get_or-take, length-take-le, take-take}
 use Rattle.std.specs.Prelude.{◌≤ℤ◌, int_lt}
 use Rattle.std.specs.List.Sorted.{IsStrictlyIncreasing}
 use Rattle.std.proofs.lemmas.List.Elements.{All-take, All-nil, All-cons, All-head, All-tail}
-use Rattle.def_reply.specs.Bracket.{Evaluation, BracketEnds, HasFloorAtMost, HasCeilingAtMost, next_ends, first_ends, ends_of, trace_line, trace_after, trace, LiesWithin}
+use Rattle.def_reply.specs.Bracket.{Evaluation, BracketEnds, HasFloorAtMost, HasCeilingAtMost, next_ends, first_ends, ends_of, trace_line, trace_after, trace, LiesWithinBy}
 use Rattle.def_reply.specs.declared.TraceLine.{TraceLine}
-use Rattle.def_reply.specs.BracketLaws.{HaveDivisors, DivideByRounds, AreNoWorse, EndsNeverWorsen, TraceHasALineForEach, TraceNeverWidens, LooksBack, TraceLooksBack}
+use Rattle.def_reply.specs.BracketLaws.{HaveDivisors, DivideBy, AreNoWorse, EndsNeverWorsen, TraceHasALineForEach, TraceNeverWidens, LooksBack, TraceLooksBack}
 use Rattle.def_reply.proofs.BestEnds.{ends-are, best_ends}
 
 count_after : (ends : BracketEnds) (es : List Evaluation) → length (trace_after ends es) ≡ length es
@@ -84,41 +84,42 @@ ends_never_worsen es j k a b divisors le fits at_j at_k =
       upper = subst (λ x. HasCeilingAtMost b.upper x) (found upper.place a.upper upper.within (upper.stands a.upper)) (upper'.least upper.place a.upper (omega (arith, upper.within)));
     }
 
--- an end is one of the evaluations, so it is divided by its round as they are
-record AreByRounds (ends : BracketEnds) : Type 0 where
-  lower : ends.lower.divisor ≡ ends.lower.round
-  upper : ends.upper.divisor ≡ ends.upper.round
+-- an end is one of the evaluations, so it is divided by what its rounds weigh as they are
+record AreByWeights (weight : ℕ → ℕ) (ends : BracketEnds) : Type 0 where
+  lower : ends.lower.divisor ≡ weight ends.lower.round
+  upper : ends.upper.divisor ≡ weight ends.upper.round
 
-by_rounds : (es : List Evaluation) (k : ℕ) (ends : BracketEnds) → DivideByRounds es → ends_of (take k es) ≡ Some ends
-    → AreByRounds ends
-by_rounds es k ends rounds at_k =
-    let some : HaveDivisors (take k es) = All-take (λ e. 1 ≤ e.divisor) k es (λ i d low. let r = rounds i d low in omega (arith, r.0, r.1)) in
-    let all = All-take (λ e. (1 ≤ e.round) × (e.divisor ≡ e.round)) k es rounds in
+by_weights : (weight : ℕ → ℕ) (es : List Evaluation) (k : ℕ) (ends : BracketEnds) → DivideBy weight es
+    → ends_of (take k es) ≡ Some ends → AreByWeights weight ends
+by_weights weight es k ends by at_k =
+    let some : HaveDivisors (take k es) = All-take (λ e. 1 ≤ e.divisor) k es (λ i d low. (by i d low).0) in
+    let all = All-take (λ e. (1 ≤ e.divisor) × (e.divisor ≡ weight e.round)) k es by in
     let lower = best_ends.lower (take k es) ends some at_k in
     let upper = best_ends.upper (take k es) ends some at_k in
     record {
-      lower = subst (λ e. e.divisor ≡ e.round) (lower.stands ends.lower) (all lower.place ends.lower lower.within).1;
-      upper = subst (λ e. e.divisor ≡ e.round) (upper.stands ends.upper) (all upper.place ends.upper upper.within).1;
+      lower = subst (λ e. e.divisor ≡ weight e.round) (lower.stands ends.lower) (all lower.place ends.lower lower.within).1;
+      upper = subst (λ e. e.divisor ≡ weight e.round) (upper.stands ends.upper) (all upper.place ends.upper upper.within).1;
     }
 
-lies_within : (line line' : TraceLine) (r r' : ℕ) (a b : BracketEnds) → line ≡ trace_line r b → line' ≡ trace_line r' a
-    → AreByRounds a → AreByRounds b → AreNoWorse a b → LiesWithin line line'
-lies_within line line' r r' a b e e' by_a by_b h =
-    subst (λ x. LiesWithin x line') (sym e) (subst (λ x. LiesWithin (trace_line r b) x) (sym e') (record {
-      not_lower = subst (λ d. (a.lower.low *ℤ pos d) ≤ℤ (b.lower.low *ℤ pos a.lower.round)) by_b.lower (subst (λ d. (a.lower.low *ℤ pos b.lower.divisor) ≤ℤ (b.lower.low *ℤ pos d)) by_a.lower h.lower);
-      not_higher = subst (λ d. (b.upper.high *ℤ pos d) ≤ℤ (a.upper.high *ℤ pos b.upper.round)) by_a.upper (subst (λ d. (b.upper.high *ℤ pos a.upper.divisor) ≤ℤ (a.upper.high *ℤ pos d)) by_b.upper h.upper);
+lies_within : (weight : ℕ → ℕ) (line line' : TraceLine) (r r' : ℕ) (a b : BracketEnds) → line ≡ trace_line r b
+    → line' ≡ trace_line r' a → AreByWeights weight a → AreByWeights weight b → AreNoWorse a b
+    → LiesWithinBy weight line line'
+lies_within weight line line' r r' a b e e' by_a by_b h =
+    subst (λ x. LiesWithinBy weight x line') (sym e) (subst (λ x. LiesWithinBy weight (trace_line r b) x) (sym e') (record {
+      not_lower = subst (λ d. (a.lower.low *ℤ pos d) ≤ℤ (b.lower.low *ℤ pos (weight a.lower.round))) by_b.lower (subst (λ d. (a.lower.low *ℤ pos b.lower.divisor) ≤ℤ (b.lower.low *ℤ pos d)) by_a.lower h.lower);
+      not_higher = subst (λ d. (b.upper.high *ℤ pos d) ≤ℤ (a.upper.high *ℤ pos (weight b.upper.round))) by_a.upper (subst (λ d. (b.upper.high *ℤ pos a.upper.divisor) ≤ℤ (a.upper.high *ℤ pos d)) by_b.upper h.upper);
     }))
 
--- where bounds are divided by their rounds, each line's bracket lies within those of the lines before
+-- where bounds are divided by what their rounds weigh, each line's bracket lies within those of the lines before
 pub never_widens : TraceNeverWidens
-never_widens [] j k line rounds le low = absurd (omega arith)
-never_widens (e ∷ es) j k line rounds le low =
+never_widens weight [] j k line by le low = absurd (omega arith)
+never_widens weight (e ∷ es) j k line by le low =
     let a : BracketEnds = fold next_ends (first_ends e) (take j es) in
     let b : BracketEnds = fold next_ends (first_ends e) (take k es) in
-    let some : HaveDivisors (e ∷ es) = λ i d inside. let r = rounds i d inside in omega (arith, r.0, r.1) in
-    lies_within (get_or (trace (e ∷ es)) k line) (get_or (trace (e ∷ es)) j line) (get_or (e ∷ es) k e).round (get_or (e ∷ es) j e).round a b
+    let some : HaveDivisors (e ∷ es) = λ i d inside. (by i d inside).0 in
+    lies_within weight (get_or (trace (e ∷ es)) k line) (get_or (trace (e ∷ es)) j line) (get_or (e ∷ es) k e).round (get_or (e ∷ es) j e).round a b
     (each_line e es k line e low) (each_line e es j line e (omega arith))
-    (by_rounds (e ∷ es) (suc j) a rounds refl) (by_rounds (e ∷ es) (suc k) b rounds refl)
+    (by_weights weight (e ∷ es) (suc j) a by refl) (by_weights weight (e ∷ es) (suc k) b by refl)
     (ends_never_worsen (e ∷ es) (suc j) (suc k) a b some (omega arith) (omega arith) refl refl)
 
 -- ---- ends come from earlier rounds

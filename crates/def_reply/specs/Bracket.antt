@@ -90,7 +90,12 @@ pub record IsUpperEnd (evaluations : List Evaluation) (e : Evaluation) : Type 0 
   pub least : All (λ a. HasCeilingAtMost e a) evaluations
   pub earliest : All (λ a. HasLowerCeiling e a) (take place evaluations)
 
--- the bracket of a line lies within that of an earlier one
-pub record LiesWithin (later earlier : TraceLine) : Type 0 where
-  pub not_lower : (earlier.low *ℤ pos later.low_round) ≤ℤ (later.low *ℤ pos earlier.low_round)
-  pub not_higher : (later.high *ℤ pos earlier.high_round) ≤ℤ (earlier.high *ℤ pos later.high_round)
+-- the bracket of a line lies within that of an earlier one, where a bound is divided by what the rounds up to its own
+-- weigh
+pub record LiesWithinBy (weight : ℕ → ℕ) (later earlier : TraceLine) : Type 0 where
+  pub not_lower : (earlier.low *ℤ pos (weight later.low_round)) ≤ℤ (later.low *ℤ pos (weight earlier.low_round))
+  pub not_higher : (later.high *ℤ pos (weight earlier.high_round)) ≤ℤ (earlier.high *ℤ pos (weight later.high_round))
+
+-- the same where each round weighs 1
+abbrev pub LiesWithin : TraceLine → TraceLine → Type 0
+LiesWithin later earlier = LiesWithinBy (λ round. round) later earlier

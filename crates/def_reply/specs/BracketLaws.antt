@@ -3,16 +3,16 @@ use Rattle.std.specs.Prelude.{◌≡◌, ℕ, ◌+◌, ◌-◌, ◌*◌, ◌/◌
 use Rattle.std.specs.List.{range_with_len}
 use Rattle.std.specs.List.Sorted.{IsStrictlyIncreasing}
 use Rattle.def_sums.specs.Limits.{most_rounds, most_row}
-use Rattle.def_reply.specs.Bracket.{evaluated_rounds, Evaluation, HasFloorAtMost, HasCeilingAtMost, BracketEnds, next_ends, first_ends, ends_of, trace_line, trace, IsLowerEnd, IsUpperEnd, LiesWithin}
+use Rattle.def_reply.specs.Bracket.{evaluated_rounds, Evaluation, HasFloorAtMost, HasCeilingAtMost, BracketEnds, next_ends, first_ends, ends_of, trace_line, trace, IsLowerEnd, IsUpperEnd, LiesWithinBy}
 use Rattle.def_reply.specs.declared.TraceLine.{TraceLine}
 
 -- no divisor is 0
 abbrev pub HaveDivisors : List Evaluation → Type 0
 HaveDivisors evaluations = All (λ e. 1 ≤ e.divisor) evaluations
 
--- each evaluation is after at least one round, which is its divisor
-abbrev pub DivideByRounds : List Evaluation → Type 0
-DivideByRounds evaluations = All (λ e. (1 ≤ e.round) × (e.divisor ≡ e.round)) evaluations
+-- each evaluation is divided by what the rounds up to its own weigh, which isn't 0
+abbrev pub DivideBy : (ℕ → ℕ) → List Evaluation → Type 0
+DivideBy weight evaluations = All (λ e. (1 ≤ e.divisor) × (e.divisor ≡ weight e.round)) evaluations
 
 -- rounds rise from one evaluation to the next
 abbrev pub RoundsRise : List Evaluation → Type 0
@@ -52,12 +52,12 @@ EndsNeverWorsen =
     → k ≤ length evaluations
     → ends_of (take j evaluations) ≡ Some earlier → ends_of (take k evaluations) ≡ Some later → AreNoWorse earlier later
 
--- so where bounds are divided by their rounds no line is wider than an earlier one
+-- so where bounds are divided by what their rounds weigh no line is wider than an earlier one
 abbrev pub TraceNeverWidens : Type 0
 TraceNeverWidens =
-    (evaluations : List Evaluation) (j k : ℕ) (line : TraceLine) → DivideByRounds evaluations → j ≤ k
+    (weight : ℕ → ℕ) (evaluations : List Evaluation) (j k : ℕ) (line : TraceLine) → DivideBy weight evaluations → j ≤ k
     → k < length evaluations
-    → LiesWithin (slice_index_or (trace evaluations) k line) (slice_index_or (trace evaluations) j line)
+    → LiesWithinBy weight (slice_index_or (trace evaluations) k line) (slice_index_or (trace evaluations) j line)
 
 -- the ends of a line come from rounds up to its own
 pub record LooksBack (line : TraceLine) : Type 0 where

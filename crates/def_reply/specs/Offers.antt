@@ -1,11 +1,12 @@
 -- What a bracket is offered after a round, and what it keeps: any plans with their replies, whoever made them.
 use Rattle.std.specs.Prelude.{◌≡◌, ℕ, ◌*◌, ◌≤◌, ◌<◌, List, [], ◌∷◌, ◌++◌, fold, pos, ◌*ℤ◌, int_lt, Option, Some, None, if◌then◌else◌}
-use Rattle.def_sums.specs.Limits.{most_rounds, most_scale}
+use Rattle.def_sums.specs.Limits.{most_root, most_rounds}
 use Rattle.def_tree.specs.declared.Player.TheVariants.{One, Two}
 use Rattle.def_plan.specs.Form.{SequenceForm}
 use Rattle.def_plan.specs.Plan.{IsPlan}
 use Rattle.def_reply.specs.Reply.{Reply, best_reply_to}
 use Rattle.def_reply.specs.Bracket.{Evaluation}
+use Rattle.def_reply.specs.declared.TheConstants.{MOST_DIVISOR}
 use Rattle.def_reply.specs.declared.TraceLine.{TraceLine}
 
 -- the sums of both players' plans after a round, by what their bounds are divided, and the reply to each plan
@@ -66,6 +67,10 @@ offered board offer = board_with board.trace offer.round (keep_lower board.lower
 abbrev pub board_after : List Offer → Board
 board_after offers = fold offered new_board offers
 
+-- the greatest number by which bounds are divided
+abbrev pub most_divisor : ℕ
+most_divisor = MOST_DIVISOR
+
 -- what may be offered after a last round: both plans have one root, which is the divisor times a scale, and the replies
 -- to them are the best ones
 pub record IsFair (form : SequenceForm) (last : ℕ) (offer : Offer) : Type 0 where
@@ -73,7 +78,9 @@ pub record IsFair (form : SequenceForm) (last : ℕ) (offer : Offer) : Type 0 wh
   pub later : last < offer.round
   pub few_rounds : offer.round ≤ most_rounds
   pub some_divisor : 1 ≤ offer.divisor
-  pub some_scale : (1 ≤ scale) × (scale ≤ most_scale)
+  pub small_divisor : offer.divisor ≤ most_divisor
+  pub some_scale : 1 ≤ scale
+  pub small_root : offer.divisor * scale ≤ most_root
   pub plan_one : IsPlan form.sets_one (offer.divisor * scale) offer.plan_one
   pub plan_two : IsPlan form.sets_two (offer.divisor * scale) offer.plan_two
   pub against_one : offer.against_one ≡ best_reply_to form Two offer.plan_one

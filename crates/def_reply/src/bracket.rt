@@ -23,7 +23,7 @@ pub fn ends_never_worsen()
     ensures { EndsNeverWorsen }
 {}
 
-/// Where bounds are divided by their rounds, no line of the trace is wider than an earlier one.
+/// Where bounds are divided by what their rounds weigh, no line of the trace is wider than an earlier one.
 pub fn trace_never_widens()
     ensures { TraceNeverWidens }
 {}

@@ -16,6 +16,11 @@ ghost use Rattle.def_reply.specs.Laws.{BestRepliesAreOptimal, TightRepliesGiveBo
 ghost use Rattle.def_reply.specs.Laws.{AttainedBoundsAreBest, FloorsAreBelowCeilings, RepliesAreSmall};
 ghost use Rattle.def_reply.specs.Laws.{BoundsAreSmall};
 
+/// The greatest number by which the bounds of an evaluation are divided: what the rounds up to its own weigh together.
+///
+/// The product of such a number and a total of a reply has room in 128 bits.
+pub const MOST_DIVISOR: u32 = 4_194_304;
+
 /// A line of the trace: a round that was evaluated, and both ends of the bracket after it, each with the round that it
 /// comes from.
 ///

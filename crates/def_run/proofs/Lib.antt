@@ -1,2 +1,4 @@
+pub mod WeighedEnds
+pub mod WeighedTraces
+pub mod WeighedOutcomes
 pub mod RunLaws
-pub mod EndLaws

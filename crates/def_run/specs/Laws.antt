@@ -1,50 +1,29 @@
--- What the evaluations of a run are worth.
-use Rattle.std.specs.Prelude.{◌≡◌, ℕ, ◌*◌, ◌≤◌, ◌<◌, ◌⊎◌, ◌%◌, ℤ, pos, ◌-ℤ◌, ◌*ℤ◌, ◌≤ℤ◌, List, length, slice_index_or, All, Some, None}
+-- What the evaluations of a run of plain rounds are worth: what holds of every run that sums plans.
+use Rattle.std.specs.Prelude.{◌≡◌, ℕ, ◌*◌, ◌≤◌, ◌<◌, ℤ, pos, ◌-ℤ◌, ◌*ℤ◌, ◌≤ℤ◌, List, length, slice_index_or, All, Some, None}
 use Rattle.def_sums.specs.Limits.{most_scale, most_rounds}
-use Rattle.def_tree.specs.declared.Player.TheVariants.{One, Two}
 use Rattle.def_plan.specs.Form.{SequenceForm, AreInOrder}
-use Rattle.def_plan.specs.Plan.{IsPlan, pure_plan}
-use Rattle.def_reply.specs.Reply.{choices_of, best_reply_to}
-use Rattle.def_reply.specs.Bounds.{IsFloor, IsCeiling, AttainsFloor, AttainsCeiling, IsExploitability}
-use Rattle.def_round.specs.Rounds.{rounds}
-use Rattle.def_reply.specs.Bracket.{Evaluation, BracketEnds, ends_of, trace, LiesWithin}
+use Rattle.def_plan.specs.Plan.{IsPlan}
+use Rattle.def_reply.specs.Bounds.{IsFloor, IsCeiling, IsExploitability}
+use Rattle.def_reply.specs.Bracket.{BracketEnds, ends_of, trace, LiesWithin}
 use Rattle.def_reply.specs.declared.TraceLine.{TraceLine}
 use Rattle.def_reply.specs.BracketLaws.{LooksBack}
 use Rattle.def_reply.specs.Offers.{IsFair}
 use Rattle.def_reply.specs.Outcome.{Head, OutcomeEnds}
-use Rattle.def_run.specs.Run.{reply_to, evaluation, evaluations, offer_after, outcome}
+use Rattle.def_run.specs.Run.{plain_run, evaluations, offer_after, outcome, lower_plan_in, upper_plan_in}
+use Rattle.def_run.specs.WeighedLaws.{IsWorthItsBoundsIn, AreBestEndsIn, HasPlansIn}
 
 -- after at least one round, both sums are plans, and the evaluation has the attained floor of the one and the attained
 -- ceiling of the other
-pub record IsWorthItsBounds (form : SequenceForm) (root round : ℕ) : Type 0 where
-  pub plan_one : IsPlan form.sets_one (round * root) (rounds form root round).sum_one
-  pub plan_two : IsPlan form.sets_two (round * root) (rounds form root round).sum_two
-  pub floor : IsFloor form (rounds form root round).sum_one (evaluation form root round).low
-  pub floor_attained : AttainsFloor form (rounds form root round).sum_one (evaluation form root round).low
-      (pure_plan form.sets_two (choices_of (reply_to form Two (rounds form root round).sum_one)))
-  pub ceiling : IsCeiling form (rounds form root round).sum_two (evaluation form root round).high
-  pub ceiling_attained : AttainsCeiling form (rounds form root round).sum_two (evaluation form root round).high
-      (pure_plan form.sets_one (choices_of (reply_to form One (rounds form root round).sum_two)))
-
 abbrev pub EvaluationsAreBounds : Type 0
 EvaluationsAreBounds = (form : SequenceForm) (root round : ℕ) → AreInOrder form.sets_one → AreInOrder form.sets_two
     → 1 ≤ root → 1 ≤ round
-    → IsWorthItsBounds form root round
+    → IsWorthItsBoundsIn form root (plain_run form root) round
 
--- an end is the evaluation after its own round, which is an evaluated one
-pub record IsOfItsRound (form : SequenceForm) (root every last : ℕ) (end : Evaluation) : Type 0 where
-  pub is : end ≡ evaluation form root end.round
-  pub some : 1 ≤ end.round
-  pub in_time : end.round ≤ last
-  pub evaluated : (end.round % every ≡ 0) ⊎ (end.round ≡ last)
-
-pub record AreOfTheirRounds (form : SequenceForm) (root every last : ℕ) (ends : BracketEnds) : Type 0 where
-  pub of_lower : IsOfItsRound form root every last ends.lower
-  pub of_upper : IsOfItsRound form root every last ends.upper
-
+-- an end is the earliest best evaluation, and the one after its own round, which is an evaluated one
 abbrev pub EndsAreOfTheirRounds : Type 0
 EndsAreOfTheirRounds = (form : SequenceForm) (root every last : ℕ) (ends : BracketEnds)
-    → ends_of (evaluations form root every last) ≡ Some ends → AreOfTheirRounds form root every last ends
+    → ends_of (evaluations form root every last) ≡ Some ends
+    → AreBestEndsIn form (plain_run form root) every last ends
 
 -- a run of at least one round has ends
 abbrev pub RunsHaveEnds : Type 0
@@ -70,10 +49,10 @@ TraceOfRunLooksBack = (form : SequenceForm) (root every last : ℕ)
 
 -- the plans at the two ends of a run
 abbrev pub plan_at_lower : SequenceForm → ℕ → BracketEnds → List ℕ
-plan_at_lower form root ends = (rounds form root ends.lower.round).sum_one
+plan_at_lower form root ends = lower_plan_in (plain_run form root) ends
 
 abbrev pub plan_at_upper : SequenceForm → ℕ → BracketEnds → List ℕ
-plan_at_upper form root ends = (rounds form root ends.upper.round).sum_two
+plan_at_upper form root ends = upper_plan_in (plain_run form root) ends
 
 -- the gap between the ends, each over its plan's root, is the total exploitability of the two plans
 abbrev pub GapOfRunIsExploitability : Type 0
@@ -107,12 +86,6 @@ OffersOfRunAreFair = (form : SequenceForm) (root round : ℕ) → AreInOrder for
 
 -- the outcome of a run: the trace of its evaluations; and where a round was asked, the sums of plans at both ends of
 -- the bracket with the best replies to them
-pub record HasPlansOf (form : SequenceForm) (root : ℕ) (ends : BracketEnds) (shown : OutcomeEnds) : Type 0 where
-  pub lower_plan : shown.lower.plan ≡ plan_at_lower form root ends
-  pub lower_reply : shown.lower.reply ≡ best_reply_to form Two (plan_at_lower form root ends)
-  pub upper_plan : shown.upper.plan ≡ plan_at_upper form root ends
-  pub upper_reply : shown.upper.reply ≡ best_reply_to form One (plan_at_upper form root ends)
-
 pub record OutcomesShowTheirRun : Type 0 where
   pub head : (form : SequenceForm) (head : Head) → (outcome form head).head ≡ head
   pub trace : (form : SequenceForm) (head : Head)
@@ -120,4 +93,4 @@ pub record OutcomesShowTheirRun : Type 0 where
   pub no_ends : (form : SequenceForm) (head : Head) → head.rounds ≡ 0 → (outcome form head).ends ≡ None
   pub ends : (form : SequenceForm) (head : Head) (ends : BracketEnds)
       → ends_of (evaluations form head.scale head.every head.rounds) ≡ Some ends
-      → (shown : OutcomeEnds) × ((outcome form head).ends ≡ Some shown) × HasPlansOf form head.scale ends shown
+      → (shown : OutcomeEnds) × ((outcome form head).ends ≡ Some shown) × HasPlansIn form (plain_run form head.scale) ends shown

@@ -1,2 +1,3 @@
 pub mod Run
+pub mod WeighedLaws
 pub mod Laws

@@ -1,8 +1,9 @@
-//! A run: its rounds, their evaluations and the bracket, with rows of example games. There is no code here; each
-//! function's contract is a law or worked rows.
+//! A run: the evaluations and the bracket of rounds that sum plans, whatever they weigh, and those of plain rounds, with
+//! rows of example games. There is no code here; each function's contract is a law or worked rows.
 #![tactic(auto)]
 
 pub mod examples;
+pub mod weighed;
 
 ghost use Rattle.std.specs.Prelude.{◌≡◌, [], ◌∷◌, Some, pos, negsuc};
 ghost use Rattle.def_plan.specs.Pennies.{pennies};

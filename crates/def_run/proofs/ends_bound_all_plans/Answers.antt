@@ -1,4 +1,4 @@
-use Rattle.def_run.proofs.EndLaws.{ends_bound_all_plans}
+use Rattle.def_run.proofs.RunLaws.{ends_bound_all_plans}
 use Rattle.def_run.proofs.ends_bound_all_plans.Goals as goal
 
 pub returns : goal.returns

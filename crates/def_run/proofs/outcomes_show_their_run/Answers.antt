@@ -1,4 +1,4 @@
-use Rattle.def_run.proofs.EndLaws.{outcomes_show_their_run}
+use Rattle.def_run.proofs.RunLaws.{outcomes_show_their_run}
 use Rattle.def_run.proofs.outcomes_show_their_run.Goals as goal
 
 pub returns : goal.returns

@@ -1,4 +1,4 @@
-use Rattle.def_run.proofs.EndLaws.{trace_of_run_looks_back}
+use Rattle.def_run.proofs.RunLaws.{trace_of_run_looks_back}
 use Rattle.def_run.proofs.trace_of_run_looks_back.Goals as goal
 
 pub returns : goal.returns
