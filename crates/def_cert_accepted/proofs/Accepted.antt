@@ -16,17 +16,19 @@ use Rattle.def_reply.specs.Bracket.{Evaluation, BracketEnds, ends_of, trace}
 use Rattle.def_reply.specs.declared.TraceLine.{TraceLine}
 use Rattle.def_reply.proofs.TraceLines.{trace_lines, never_widens}
 use Rattle.def_reply.specs.Outcome.{Head}
-use Rattle.def_run.specs.Run.{outcome, total_against, evaluation, evaluations}
-use Rattle.def_run.proofs.RunLaws.{evaluations_are_bounds, ends_are_of_their_rounds, rounds_of}
+use Rattle.def_run.specs.Run.{WeighedRun, SumsPlans, outcome, total_against, plain_run, evaluation, evaluations, evaluations_in, lower_plan_in, upper_plan_in}
+use Rattle.def_run.proofs.RunLaws.{evaluations_are_bounds, ends_are_of_their_rounds}
+use Rattle.def_run.proofs.WeighedEnds.{plain_runs_sum_plans, weighed_ends_are_the_earliest_best}
+use Rattle.def_run.proofs.WeighedTraces.{weighed_trace_never_widens}
 use Rattle.def_cert_verdict.specs.Certificate.{PrintedPlan, PrintedBounds, joined, printed_numbers, last_line}
 use Rattle.def_plan.specs.Weighed.{WeighedGame}
 use Rattle.def_cert_verdict.specs.Verdict.{head_only, bracket, verdict}
-use Rattle.def_cert_verdict.specs.Laws.{HoldsAsPlan, HoldsAsReply, HoldsUp}
+use Rattle.def_cert_verdict.specs.Laws.{HoldsAsPlan, HoldsAsReply, HoldsUp, HoldsUpBy}
 use Rattle.def_cert_verdict.proofs.VerdictIsExact.{exact}
 use Rattle.def_cert_verdict.proofs.LastLine.{last_is}
 use Rattle.def_cert_accepted.specs.OfOutcome.{by_sets, printed_plan, certificate_of}
 use Rattle.def_cert_accepted.specs.Laws.{TheCertificateOfARunIsAccepted}
-use Rattle.def_cert_accepted.proofs.OfRun.{own_head, own_head-is, same_head, bounds_of_run, certificate_with, certificate_without}
+use Rattle.def_cert_accepted.proofs.OfRun.{own_head, own_head-is, same_head, bounds_in, bounds_of_run, certificate_with, certificate_without}
 
 -- ---- plans
 sizes_by_sets : (hs : List InformationSet) (xs : List ℕ) → total_actions hs ≤ length xs
@@ -75,31 +77,42 @@ reply_holds game player plan printed traced order back root is =
     })
 
 -- ---- all of it
+-- the bounds that are printed of a run that sums plans hold up
+pub holds_in : (game : WeighedGame) (run : WeighedRun) (last every scale : ℕ) (ends : BracketEnds)
+    → AreInOrder game.form.sets_one → AreInOrder game.form.sets_two → SumsPlans game.form scale run
+    → ends_of (evaluations_in game.form run every last) ≡ Some ends
+    → HoldsUpBy run.weight game scale (bounds_in game run last every ends)
+holds_in game run last every scale ends order_one order_two sums are =
+    let form = game.form in
+    let es : List Evaluation = evaluations_in form run every last in
+    let line : TraceLine = last_line (trace es) in
+    let end = last_is es ends are in
+    let best = weighed_ends_are_the_earliest_best form run every last ends sums.some_weight are in
+    let one : List ℕ = lower_plan_in run ends in
+    let two : List ℕ = upper_plan_in run ends in
+    let is_one = sums.of_one ends.lower.round best.of_lower.some in
+    let is_two = sums.of_two ends.upper.round best.of_upper.some in
+    let low_round : line.low_round ≡ ends.lower.round = ap (λ (l : TraceLine). l.low_round) end.1 in
+    let high_round : line.high_round ≡ ends.upper.round = ap (λ (l : TraceLine). l.high_round) end.1 in
+    let total_low : total_against form Two one ≡ line.low = sym (ap (λ (l : TraceLine). l.low) end.1 ∙ ap (λ (e : Evaluation). e.low) best.of_lower.is) in
+    let total_high : total_against form One two ≡ line.high = sym (ap (λ (l : TraceLine). l.high) end.1 ∙ ap (λ (e : Evaluation). e.high) best.of_upper.is) in
+    record {
+      plan_one = subst (λ n. HoldsAsPlan form.sets_one (run.weight n * scale) (printed_plan form.sets_one one)) (sym low_round)
+          (plan_holds form.sets_one (run.weight ends.lower.round * scale) one is_one);
+      plan_two = subst (λ n. HoldsAsPlan form.sets_two (run.weight n * scale) (printed_plan form.sets_two two)) (sym high_round)
+          (plan_holds form.sets_two (run.weight ends.upper.round * scale) two is_two);
+      reply_two = reply_holds game Two one (printed_plan form.sets_one one) line.low order_two (numbers_back form.sets_one one is_one.all_sequences) refl total_low;
+      reply_one = reply_holds game One two (printed_plan form.sets_two two) line.high order_one (numbers_back form.sets_two two is_two.all_sequences) refl total_high;
+      trace = λ k d within. weighed_trace_never_widens form run every last k (k + 1) d sums.some_weight (omega arith) within;
+    }
+
 holds : (game : WeighedGame) (last every scale : ℕ) (ends : BracketEnds) → AreInOrder game.form.sets_one
     → AreInOrder game.form.sets_two → 1 ≤ scale
     → ends_of (evaluations game.form scale every last) ≡ Some ends
     → HoldsUp game scale (bounds_of_run game last every scale ends)
 holds game last every scale ends order_one order_two some_scale are =
-    let form = game.form in
-    let es : List Evaluation = evaluations form scale every last in
-    let line : TraceLine = last_line (trace es) in
-    let end = last_is es ends are in
-    let of_rounds = ends_are_of_their_rounds form scale every last ends are in
-    let one : List ℕ = (rounds form scale ends.lower.round).sum_one in
-    let two : List ℕ = (rounds form scale ends.upper.round).sum_two in
-    let low = evaluations_are_bounds form scale ends.lower.round order_one order_two some_scale of_rounds.of_lower.some in
-    let high = evaluations_are_bounds form scale ends.upper.round order_one order_two some_scale of_rounds.of_upper.some in
-    let low_round : line.low_round ≡ ends.lower.round = ap (λ (l : TraceLine). l.low_round) end.1 in
-    let high_round : line.high_round ≡ ends.upper.round = ap (λ (l : TraceLine). l.high_round) end.1 in
-    let total_low : total_against form Two one ≡ line.low = sym (ap (λ (l : TraceLine). l.low) end.1 ∙ ap (λ (e : Evaluation). e.low) of_rounds.of_lower.is) in
-    let total_high : total_against form One two ≡ line.high = sym (ap (λ (l : TraceLine). l.high) end.1 ∙ ap (λ (e : Evaluation). e.high) of_rounds.of_upper.is) in
-    record {
-      plan_one = subst (λ n. HoldsAsPlan form.sets_one (n * scale) (printed_plan form.sets_one one)) (sym low_round) (plan_holds form.sets_one (ends.lower.round * scale) one low.plan_one);
-      plan_two = subst (λ n. HoldsAsPlan form.sets_two (n * scale) (printed_plan form.sets_two two)) (sym high_round) (plan_holds form.sets_two (ends.upper.round * scale) two high.plan_two);
-      reply_two = reply_holds game Two one (printed_plan form.sets_one one) line.low order_two (numbers_back form.sets_one one low.plan_one.all_sequences) refl total_low;
-      reply_one = reply_holds game One two (printed_plan form.sets_two two) line.high order_one (numbers_back form.sets_two two high.plan_two.all_sequences) refl total_high;
-      trace = λ k d within. never_widens es k (k + 1) d (rounds_of form scale every last) (omega arith) (omega (arith, trace_lines.count es));
-    }
+    holds_in game (plain_run game.form scale) last every scale ends order_one order_two
+    (plain_runs_sum_plans game.form scale order_one order_two some_scale) are
 
 -- the printed bounds are the ends in payoff units
 in_units : (game : WeighedGame) (last every scale : ℕ) (ends : BracketEnds) → AreInOrder game.form.sets_one

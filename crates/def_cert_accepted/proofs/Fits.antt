@@ -29,8 +29,9 @@ use Rattle.def_reply.specs.Outcome.{Head}
 use Rattle.def_reply.proofs.EvaluatedRounds.{rounds as rounds_are}
 use Rattle.def_reply.proofs.BestEnds.{best_ends}
 use Rattle.def_reply.proofs.TraceLines.{trace_lines}
-use Rattle.def_run.specs.Run.{outcome, total_against, evaluation, evaluations}
-use Rattle.def_run.proofs.RunLaws.{evaluations_are_bounds, ends_are_of_their_rounds, rounds_of, runs_have_ends, some_ends, divisors_of}
+use Rattle.def_run.specs.Run.{outcome, total_against, plain_run, evaluation, evaluations}
+use Rattle.def_run.proofs.RunLaws.{evaluations_are_bounds, ends_are_of_their_rounds, runs_have_ends}
+use Rattle.def_run.proofs.WeighedEnds.{each_is_of_a_round, divisors_in, some_ends}
 use Rattle.def_plan.specs.Weighed.{WeighedGame}
 use Rattle.def_tree.specs.Rules.{most_actions}
 use Rattle.def_cert_verdict.specs.Ranges.{IsFromTo, IsPrintable, HeadFits, LineFits, PlanWeightsFit, PlanFits, ReplyFits, BoundFits, BoundsFit, CertificateFits}
@@ -202,7 +203,7 @@ up_to game last every scale k place e order_one order_two fits le low stands =
     let n = length-evaluations form scale every last fits.every.0 in
     let is : get_or (evaluations form scale every last) place e ≡ evaluation form scale r = evaluation_at form scale every last place e fits.every.0 (omega arith) in
     let same : e ≡ evaluation form scale r = sym stands ∙ is in
-    let first : 1 ≤ r = subst (λ (d : Evaluation). 1 ≤ d.round) is (rounds_of form scale every last place e (omega arith)).0 in
+    let first : 1 ≤ r = subst (λ (d : Evaluation). 1 ≤ d.round) is (each_is_of_a_round form (plain_run form scale) every last place e (omega arith)).some in
     let in_time : r ≤ last = omega arith in
     let not_later : r ≤ min ((k + 1) * every) last = omega (arith, mul-le (place + 1) every (k + 1) every (omega arith) (omega arith)) in
     let here = evaluation_fits game last every scale r order_one order_two fits first in_time in
@@ -224,7 +225,7 @@ line_fits game last every scale order_one order_two fits k line within =
     let long : length part ≡ k + 1 = omega (arith, length-take (k + 1) es) in
     let some = some_ends part (omega arith) in
     let ends : BracketEnds = some.0 in
-    let after = All-take (λ (e : Evaluation). 1 ≤ e.divisor) (k + 1) es (divisors_of form scale every last) in
+    let after = All-take (λ (e : Evaluation). 1 ≤ e.divisor) (k + 1) es (divisors_in form (plain_run form scale) every last (λ round some. some)) in
     let lower = best_ends.lower part ends after some.1 in
     let upper = best_ends.upper part ends after some.1 in
     let at_lower = sym (get_or-take (k + 1) es lower.place ends.lower (omega (arith, lower.within))) ∙ lower.stands ends.lower in

@@ -6,8 +6,9 @@ use Rattle.def_round.specs.Rounds.{rounds}
 use Rattle.def_reply.specs.Bracket.{BracketEnds, ends_of, trace}
 use Rattle.def_reply.specs.declared.TraceLine.{TraceLine}
 use Rattle.def_reply.specs.Outcome.{Head, OutcomeEnds, Outcome}
-use Rattle.def_run.specs.Run.{evaluations, outcome}
-use Rattle.def_run.proofs.EndLaws.{ends_at, outcomes_show_their_run, shown_are}
+use Rattle.def_run.specs.Run.{WeighedRun, plain_run, evaluations, evaluations_in, outcome, outcome_in}
+use Rattle.def_run.proofs.RunLaws.{outcomes_show_their_run}
+use Rattle.def_run.proofs.WeighedOutcomes.{ends_at, shown_are, weighed_outcomes_show_their_run}
 use Rattle.def_cert_verdict.specs.Certificate.{PrintedBounds, Certificate}
 use Rattle.def_plan.specs.Weighed.{WeighedGame}
 use Rattle.def_cert_verdict.specs.Laws.{IsHeadOf, with_bounds, without_bounds}
@@ -48,8 +49,13 @@ same_head game head h =
     ∙ ap (λ f. record (own_head game head.rounds head.every head.scale) { sum = f; mass = head.mass }) h.sum_is
     ∙ ap (λ n. record (own_head game head.rounds head.every head.scale) { mass = n }) h.mass_is
 
+-- the bounds that are printed of the ends of a run
+abbrev pub bounds_in : WeighedGame → WeighedRun → ℕ → ℕ → BracketEnds → PrintedBounds
+bounds_in game run last every ends =
+    printed_bounds game.form game.unit (trace (evaluations_in game.form run every last)) (ends_at game.form run ends)
+
 abbrev pub bounds_of_run : WeighedGame → ℕ → ℕ → ℕ → BracketEnds → PrintedBounds
-bounds_of_run game last every scale ends = printed_bounds game.form game.unit (trace (evaluations game.form scale every last)) (ends_at game.form scale ends)
+bounds_of_run game last every scale ends = bounds_in game (plain_run game.form scale) last every ends
 
 made : SequenceForm → Head → List TraceLine → Option OutcomeEnds → Certificate
 made form head lines ends = certificate_of form (record { head = head; trace = lines; ends = ends })
@@ -61,17 +67,24 @@ unfolding made
 made_of form o head lines ends h l e = ap (λ (g : Head). made form g o.trace o.ends) h ∙ ap (λ (t : List TraceLine). made form head t o.ends) l ∙ ap (made form head lines) e
 
 -- where the run has ends, its certificate is the head with the bounds of these ends
+pub certificate_in : (game : WeighedGame) (run : WeighedRun) (last every scale : ℕ) (ends : BracketEnds)
+    → ends_of (evaluations_in game.form run every last) ≡ Some ends
+    → certificate_of game.form (outcome_in game.form run (own_head game last every scale))
+    ≡ with_bounds (own_head game last every scale) (bounds_in game run last every ends)
+unfolding made
+certificate_in game run last every scale ends are =
+    let form = game.form in
+    let head = own_head game last every scale in
+    let shown = weighed_outcomes_show_their_run.ends form run head ends are in
+    made_of form (outcome_in form run head) head (trace (evaluations_in form run every last)) (Some (ends_at form run ends))
+    (weighed_outcomes_show_their_run.head form run head) (weighed_outcomes_show_their_run.trace form run head)
+    (shown.1 ∙ ap Some (shown_are form run ends shown.0 shown.2))
+
 pub certificate_with : (game : WeighedGame) (last every scale : ℕ) (ends : BracketEnds)
     → ends_of (evaluations game.form scale every last) ≡ Some ends
     → certificate_of game.form (outcome game.form (own_head game last every scale))
     ≡ with_bounds (own_head game last every scale) (bounds_of_run game last every scale ends)
-unfolding made
-certificate_with game last every scale ends are =
-    let form = game.form in
-    let head = own_head game last every scale in
-    let shown = outcomes_show_their_run.ends form head ends are in
-    made_of form (outcome form head) head (trace (evaluations form scale every last)) (Some (ends_at form scale ends))
-    (outcomes_show_their_run.head form head) (outcomes_show_their_run.trace form head) (shown.1 ∙ ap Some (shown_are form scale ends shown.0 shown.2))
+certificate_with game last every scale ends are = certificate_in game (plain_run game.form scale) last every scale ends are
 
 -- of a run without a round the certificate is the head alone
 pub certificate_without : (game : WeighedGame) (last every scale : ℕ) → last ≡ 0

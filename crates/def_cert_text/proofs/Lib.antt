@@ -9,3 +9,4 @@ pub mod TextLaws
 pub mod CutTexts
 pub mod TextLines
 pub mod OtherVersions
+pub mod PlusTexts

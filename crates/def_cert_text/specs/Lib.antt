@@ -7,3 +7,4 @@ pub mod FirstFault
 pub mod Laws
 pub mod Texts
 pub mod VersionTexts
+pub mod PlusText

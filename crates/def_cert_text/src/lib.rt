@@ -3,6 +3,7 @@
 #![tactic(auto)]
 
 mod fault;
+pub mod plus_rows;
 pub mod rows;
 mod version;
 pub mod version_rows;
@@ -10,6 +11,8 @@ pub mod version_rows;
 ghost use Rattle.def_cert_text.specs.Laws.{CutVersionedTextsAreShort, FirstVersionedFaultDecides};
 ghost use Rattle.def_cert_text.specs.Laws.{OtherVersionsAreRefused, TextsTellVersions, VersionedReadingIsExact};
 ghost use Rattle.def_cert_text.specs.Laws.{VersionedTextIsItsLines};
+ghost use Rattle.def_cert_text.specs.PlusText.{PlusTextsAreNoCertificates, PlusTextsTellTheirNumbers};
+ghost use Rattle.def_cert_text.specs.PlusText.{TextsHaveTheirFirstLine};
 
 pub use fault::CertFault;
 pub use version::TextVersion;
@@ -42,4 +45,19 @@ pub fn versioned_text_is_its_lines()
 /// A text is of another version exactly where the second field of its first line is neither `1` nor `2`.
 pub fn other_versions_are_refused()
     ensures { OtherVersionsAreRefused }
+{}
+
+/// The text of a certificate, also past its ranges, is its first line with the lines below.
+pub fn texts_have_their_first_line()
+    ensures { TextsHaveTheirFirstLine }
+{}
+
+/// The text of a run of CFR+ is no certificate: its first word is the wrong one.
+pub fn plus_texts_are_no_certificates()
+    ensures { PlusTextsAreNoCertificates }
+{}
+
+/// Two certificates of version 2 within their ranges whose texts under the first line of CFR+ are the same are the same.
+pub fn plus_texts_tell_their_numbers()
+    ensures { PlusTextsTellTheirNumbers }
 {}

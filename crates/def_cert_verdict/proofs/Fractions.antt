@@ -1,5 +1,5 @@
 -- Comparing fractions.
-use Rattle.std.proofs.Common.{◌≡◌, ◌&&◌, eqb, ℕ, ℤ, ap, ◌∙◌}
+use Rattle.std.proofs.Common.{◌≡◌, eqb, ℕ, ℤ, ap, ◌∙◌}
 use Rattle.std.specs.Bool.{Decides}
 use Rattle.std.specs.Ordering.{int_eq}
 use Rattle.std.proofs.lemmas.Bool.Decides.{Decides-eqb, Decides-int_eq, Decides-and, Decides-like}

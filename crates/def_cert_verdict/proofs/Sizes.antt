@@ -1,5 +1,5 @@
 -- Sizes of what a checker sums.
-use Rattle.std.proofs.Common.{◌≡◌, ℕ, ◌+◌, ◌-◌, ◌*◌, ◌^◌, ◌≤◌, ◌↔◌, List, [], ◌∷◌, filter, zip, length, get_or, slice_index, Option, Some, None, Ok, Bool, true, false, cond, All, ℤ, pos, ◌*ℤ◌, ◌+ℤ◌, unsigned_abs, eqb, refl, ap, ◌∙◌, arith}
+use Rattle.std.proofs.Common.{◌≡◌, ℕ, ◌*◌, ◌^◌, ◌≤◌, ◌↔◌, List, [], ◌∷◌, filter, zip, length, get_or, slice_index, Option, Some, None, Ok, Bool, true, false, cond, All, ℤ, pos, ◌*ℤ◌, unsigned_abs, eqb, refl, ap, ◌∙◌, arith}
 use Rattle.std.proofs.lemmas.Int.{unsigned_abs-mul}
 use Rattle.std.proofs.lemmas.Nat.{mul-le}
 use Rattle.std.proofs.lemmas.List.Elements.{All-append, All-cons, All-nil, All-head, All-tail}

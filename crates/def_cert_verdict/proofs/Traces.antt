@@ -1,5 +1,5 @@
 -- The tests of the trace.
-use Rattle.std.proofs.Common.{◌≡◌, ℕ, suc, ◌+◌, ◌↔◌, ◌||◌, Bool, true, false, not, List, [], ◌∷◌, get_or, ℤ, pos, ◌*ℤ◌, int_lt, Option, refl, sym, ap, subst, arith}
+use Rattle.std.proofs.Common.{◌≡◌, ℕ, suc, ◌+◌, ◌↔◌, ◌||◌, Bool, true, false, not, List, [], ◌∷◌, get_or, pos, ◌*ℤ◌, int_lt, Option, refl, sym, ap, subst, arith}
 use Rattle.std.specs.Bool.{Decides}
 use Rattle.std.proofs.lemmas.Bool.{false≢true}
 use Rattle.def_reply.specs.Bracket.{LiesWithin}

@@ -8,7 +8,7 @@ use Rattle.def_plan.specs.Payoff.{leaf_sum}
 use Rattle.def_cert_verdict.specs.declared.fault.TestFault.{TestFault}
 use Rattle.def_cert_verdict.specs.Certificate.{PrintedBounds, Certificate, printed_numbers, last_line}
 use Rattle.def_plan.specs.Weighed.{WeighedGame}
-use Rattle.def_cert_verdict.specs.Verdict.{Verdict, head_only, bracket, first_failing, head_tests, plan_tests, whole_reply_tests, trace_tests, first_trace_line, bounds_tests, tests_below_head, tests, shown_by, decided_by, verdict}
+use Rattle.def_cert_verdict.specs.Verdict.{Verdict, head_only, bracket, first_failing, head_tests, plan_tests, whole_reply_tests, trace_tests, first_trace_line, bounds_tests, tests_below_head, tests, shown_by, decided_by}
 use Rattle.def_cert_verdict.specs.Laws.{IsHeadOf, HoldsUp, AcceptanceIsExact, with_bounds, without_bounds}
 use Rattle.def_cert_verdict.specs.FaultCauses.{HeadFault, BoundsFault, FaultBelowHead, EachFaultHasItsCause}
 use Rattle.def_cert_verdict.proofs.TestsDecide.{TestsDecide, TestsDecide-append, TestsDecide-like}

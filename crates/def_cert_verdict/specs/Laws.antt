@@ -10,7 +10,7 @@ use Rattle.def_plan.specs.Plan.{IsPlan, pure_plan}
 use Rattle.def_plan.specs.Payoff.{leaf_sum, pay, mass_of}
 use Rattle.def_reply.specs.Reply.{Reply, choices_of, total, AreTight}
 use Rattle.def_reply.specs.Bounds.{IsFloor, IsCeiling, AttainsFloor, AttainsCeiling}
-use Rattle.def_reply.specs.Bracket.{LiesWithin}
+use Rattle.def_reply.specs.Bracket.{LiesWithinBy}
 use Rattle.def_reply.specs.declared.TraceLine.{TraceLine}
 use Rattle.def_reply.specs.Outcome.{Head}
 use Rattle.def_cert_verdict.specs.declared.fault.TestFault.{TestFault}
@@ -65,17 +65,25 @@ pub record HoldsAsReply (player : Player) (sums : ℕ → ℤ) (sets : List Info
   pub tight : AreTight player sums sets reply.sets
   pub total_is : HoldsAsTotal sums sets reply traced bound scale
 
--- no trace line is wider than the one before it
-abbrev pub NeverWidens : List TraceLine → Type 0
-NeverWidens lines = (k : ℕ) (line : TraceLine) → k + 1 < length lines → LiesWithin (slice_index_or lines (k + 1) line) (slice_index_or lines k line)
+-- no trace line is wider than the one before it, where a bound is divided by what the rounds up to its own weigh
+abbrev pub NeverWidensBy : (ℕ → ℕ) → List TraceLine → Type 0
+NeverWidensBy weight lines = (k : ℕ) (line : TraceLine) → k + 1 < length lines
+    → LiesWithinBy weight (slice_index_or lines (k + 1) line) (slice_index_or lines k line)
 
--- the conditions of acceptance without their order
-pub record HoldsUp (game : WeighedGame) (scale : ℕ) (b : PrintedBounds) : Type 0 where
-  pub plan_one : HoldsAsPlan game.form.sets_one ((last_line b.trace).low_round * scale) b.plan_one
-  pub plan_two : HoldsAsPlan game.form.sets_two ((last_line b.trace).high_round * scale) b.plan_two
+abbrev pub NeverWidens : List TraceLine → Type 0
+NeverWidens lines = NeverWidensBy (λ round. round) lines
+
+-- the conditions of acceptance without their order, where the rounds up to each one weigh this
+pub record HoldsUpBy (weight : ℕ → ℕ) (game : WeighedGame) (scale : ℕ) (b : PrintedBounds) : Type 0 where
+  pub plan_one : HoldsAsPlan game.form.sets_one (weight (last_line b.trace).low_round * scale) b.plan_one
+  pub plan_two : HoldsAsPlan game.form.sets_two (weight (last_line b.trace).high_round * scale) b.plan_two
   pub reply_two : HoldsAsReply Two (leaf_sum Two game.form.leaves (printed_numbers b.plan_one)) game.form.sets_two b.reply_two (last_line b.trace).low b.low (game.unit * b.plan_one.root)
   pub reply_one : HoldsAsReply One (leaf_sum One game.form.leaves (printed_numbers b.plan_two)) game.form.sets_one b.reply_one (last_line b.trace).high b.high (game.unit * b.plan_two.root)
-  pub trace : NeverWidens b.trace
+  pub trace : NeverWidensBy weight b.trace
+
+-- of a certificate, whose rounds weigh 1 each
+abbrev pub HoldsUp : WeighedGame → ℕ → PrintedBounds → Type 0
+HoldsUp game scale b = HoldsUpBy (λ round. round) game scale b
 
 abbrev pub without_bounds : Head → Certificate
 without_bounds head = record { head = head; bounds = None }
@@ -116,7 +124,7 @@ ConcedesAtMost game root plan_two high = (root_one : ℕ) (plan_one : List ℕ) 
 
 -- both plans are plans, their totals are floor and ceiling, attained by the printed choices; LOW and HIGH are these
 -- totals in payoff units, which the plans get and concede; no trace line is wider than the one before it
-pub record ShowsItsBounds (game : WeighedGame) (b : PrintedBounds) : Type 0 where
+pub record ShowsItsBoundsBy (weight : ℕ → ℕ) (game : WeighedGame) (b : PrintedBounds) : Type 0 where
   pub plan_one : IsPlan game.form.sets_one b.plan_one.root (printed_numbers b.plan_one)
   pub plan_two : IsPlan game.form.sets_two b.plan_two.root (printed_numbers b.plan_two)
   pub floor : IsFloor game.form (printed_numbers b.plan_one) b.reply_two.total
@@ -129,7 +137,16 @@ pub record ShowsItsBounds (game : WeighedGame) (b : PrintedBounds) : Type 0 wher
   pub concedes : ConcedesAtMost game b.plan_two.root (printed_numbers b.plan_two) b.high
   pub traced_low : b.reply_two.total ≡ (last_line b.trace).low
   pub traced_high : b.reply_one.total ≡ (last_line b.trace).high
-  pub trace : NeverWidens b.trace
+  pub trace : NeverWidensBy weight b.trace
+
+abbrev pub ShowsItsBounds : WeighedGame → PrintedBounds → Type 0
+ShowsItsBounds game b = ShowsItsBoundsBy (λ round. round) game b
+
+-- so it is of bounds that hold up, whatever the rounds weigh
+abbrev pub BoundsThatHoldUpAreShown : Type 0
+BoundsThatHoldUpAreShown = (weight : ℕ → ℕ) (game : WeighedGame) (scale : ℕ) (b : PrintedBounds)
+    → AreInOrder game.form.sets_one → AreInOrder game.form.sets_two → 1 ≤ game.unit → HoldsUpBy weight game scale b
+    → ShowsItsBoundsBy weight game b
 
 -- the verdict's bracket is the certificate's, and it is shown
 abbrev pub AcceptedCertificatesShowTheirBounds : Type 0

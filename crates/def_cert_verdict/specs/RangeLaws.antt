@@ -1,6 +1,6 @@
 -- What holds of certificates within their ranges, whoever wrote them.
 -- Each law is the contract of a function of this crate.
-use Rattle.std.specs.Prelude.{◌≡◌, ℕ, ◌*◌, ◌^◌, ◌≤◌, ◌<◌, ◌↔◌, List, length, slice_index, slice_index_or, All, ℤ, pos, ◌*ℤ◌, unsigned_abs, Ok}
+use Rattle.std.specs.Prelude.{◌≡◌, ℕ, ◌*◌, ◌^◌, ◌≤◌, ◌<◌, ◌↔◌, List, length, slice_index, slice_index_or, All, pos, ◌*ℤ◌, unsigned_abs, Ok}
 use Rattle.def_tree.specs.declared.Player.{Player}
 use Rattle.def_tree.specs.Opponent.{opponent}
 use Rattle.def_sums.specs.Limits.{most_mass, most_root, most_row}

@@ -1,7 +1,7 @@
 //! What the tests decide.
 
 ghost use Rattle.def_cert_verdict.specs.FaultCauses.{EachFaultHasItsCause};
-ghost use Rattle.def_cert_verdict.specs.Laws.{AcceptanceIsExact, AcceptedCertificatesShowTheirBounds};
+ghost use Rattle.def_cert_verdict.specs.Laws.{AcceptanceIsExact, AcceptedCertificatesShowTheirBounds, BoundsThatHoldUpAreShown};
 ghost use Rattle.def_cert_verdict.specs.Laws.{TheFirstFailureDecides};
 
 /// A list of tests has no fault exactly where all pass; else its fault is that of the first test that fails.
@@ -24,4 +24,9 @@ pub fn each_fault_has_its_cause()
 /// in payoff units.
 pub fn accepted_certificates_show_their_bounds()
     ensures { AcceptedCertificatesShowTheirBounds }
+{}
+
+/// Printed bounds that hold up, whatever the rounds weigh, are attained bounds of the printed plans.
+pub fn bounds_that_hold_up_are_shown()
+    ensures { BoundsThatHoldUpAreShown }
 {}

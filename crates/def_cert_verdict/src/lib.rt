@@ -13,8 +13,8 @@ mod small;
 pub use fault::{TestFault, Which};
 pub use hidden::{hidden_plans, hidden_replies, hidden_totals, hidden_traces};
 pub use laws::{
-    acceptance_is_exact, accepted_certificates_show_their_bounds, each_fault_has_its_cause,
-    the_first_failure_decides,
+    acceptance_is_exact, accepted_certificates_show_their_bounds, bounds_that_hold_up_are_shown,
+    each_fault_has_its_cause, the_first_failure_decides,
 };
 pub use order::{order_of_the_plans, order_of_the_replies, order_of_the_rest};
 pub use small::{kuhn_verdicts, pennies_heads, pennies_lines, verdicts_on_two_rounds};
