@@ -1,10 +1,10 @@
 -- Taking arguments one after another.
-use Rattle.std.proofs.Common.{◌≡◌, ◌⊎◌, ⊎_elim, ℕ, ◌+◌, ◌≤◌, Bool, true, false, cond, List, [], ◌∷◌, ◌++◌, length, Option, Some, None, refl, sym, ap, ◌∙◌, subst, inl, inr, append_assoc, arith}
+use Rattle.std.proofs.Common.{◌≡◌, ◌⊎◌, ⊎_elim, ℕ, ◌+◌, ◌<◌, ◌≤◌, Bool, true, false, cond, List, [], ◌∷◌, ◌++◌, length, Option, Some, None, refl, sym, ap, ◌∙◌, subst, inl, inr, append_assoc, arith}
 use Rattle.std.specs.Option.{option_and_then, option_or, is_none}
-use Rattle.std.proofs.lemmas.Bool.{and_from, and_parts, lt-ltb}
+use Rattle.std.proofs.lemmas.Bool.{and_from, and_parts, lt-ltb, ltb-true}
 use Rattle.std.proofs.lemmas.List.{append-nil, length-append}
 use Rattle.std.proofs.lemmas.Option.{none-some, same_Some, cond_some}
-use Rattle.def_command.specs.Table.{CommandName, OptionName, Rounds, Every, Scale, Workers, plain_count, takes}
+use Rattle.def_command.specs.Table.{CommandName, OptionName, Rounds, Every, Scale, Workers, Atomic, most_plain, takes}
 use Rattle.def_command.specs.Grammar.{Argument, Plain, Number, Taken, NumbersSoFar, number_so_far, with_number, take_plain, take_number, plain_words, number_given, is_same_option, AreOptionsOf}
 use Rattle.def_command.proofs.CommandAndOptionNames.{and_then_some}
 
@@ -36,6 +36,7 @@ same_option Rounds Rounds is = refl
 same_option Every Every is = refl
 same_option Scale Scale is = refl
 same_option Workers Workers is = refl
+same_option Atomic Atomic is = refl
 same_option a b is = cc
 
 same_itself : (option : OptionName) → is_same_option option option ≡ true
@@ -43,6 +44,7 @@ same_itself Rounds = refl
 same_itself Every = refl
 same_itself Scale = refl
 same_itself Workers = refl
+same_itself Atomic = refl
 
 number_in-with : (numbers : NumbersSoFar) (option other : OptionName) (number : ℕ)
     → number_so_far (with_number numbers other number) option ≡ cond (is_same_option option other) (Some number)
@@ -51,6 +53,7 @@ number_in-with numbers Rounds Rounds number = refl
 number_in-with numbers Every Every number = refl
 number_in-with numbers Scale Scale number = refl
 number_in-with numbers Workers Workers number = refl
+number_in-with numbers Atomic Atomic number = refl
 number_in-with numbers option other number = refl
 
 option_or-none : {A : Type 0} (o : Option A) → o ≡ option_or o None
@@ -142,6 +145,28 @@ merges name (Number option number ∷ arguments) taken final is =
           refl (m.apart o);
     }
 
+-- no more plain words are taken than the command has
+pub few_taken : (name : CommandName) (arguments : List Argument) (taken final : Taken)
+    → take_all name taken arguments ≡ Some final → length taken.plain ≤ most_plain name
+    → length final.plain ≤ most_plain name
+few_taken name [] taken final is few =
+    subst (λ (t : Taken). length t.plain ≤ most_plain name) (same_Some taken final is) few
+few_taken name (Plain word ∷ arguments) taken final is few =
+    let (next, first, later) = and_then_some (λ next. take_all name next arguments) (take_plain name taken word) final
+    is in
+    let tests = cond_some _ _ _ first in
+    let room : length taken.plain < most_plain name = ltb-true (length taken.plain) (most_plain name) tests.0 in
+    let longer : length (taken.plain ++ word ∷ []) ≡ length taken.plain + 1 = length-append taken.plain (word ∷ []) in
+    let plain : taken.plain ++ word ∷ [] ≡ next.plain = ap (λ (t : Taken). t.plain) tests.1 in
+    let more : length next.plain ≡ length taken.plain + 1 = ap length (sym plain) ∙ longer in
+    few_taken name arguments next final later (omega (arith, room, more))
+few_taken name (Number option number ∷ arguments) taken final is few =
+    let (next, first, later) = and_then_some (λ next. take_all name next arguments)
+    (take_number name taken option number) final is in
+    let plain : taken.plain ≡ next.plain = ap (λ (t : Taken). t.plain) (cond_some _ _ _ first).1 in
+    few_taken name arguments next final later
+    (subst (λ (words : List (List ℕ)). length words ≤ most_plain name) plain few)
+
 -- ---- arguments that fit are taken
 module _ (numbers : NumbersSoFar) (option other : OptionName) (number : ℕ) (given : Option ℕ)
     (once : option ≡ other → given ≡ None) where
@@ -165,14 +190,14 @@ free_before numbers option number given before =
 -- they are taken where each is given once and there is room for the plain words
 pub taken_all : (name : CommandName) (arguments : List Argument) (taken : Taken) → AreOptionsOf name arguments
     → ((option : OptionName) → (number_so_far taken.numbers option ≡ None) ⊎ (number_given option arguments ≡ None))
-    → length taken.plain + length (plain_words arguments) ≤ plain_count name
+    → length taken.plain + length (plain_words arguments) ≤ most_plain name
     → (final : Taken) × (take_all name taken arguments ≡ Some final)
 taken_all name [] taken options apart room = (taken, refl)
 taken_all name (Plain word ∷ arguments) taken options apart room =
     let next : Taken = record taken { plain = taken.plain ++ word ∷ [] } in
     let longer : length next.plain ≡ length taken.plain + 1 = length-append taken.plain (word ∷ []) in
     let first : take_plain name taken word ≡ Some next = ap (λ b. cond b (Some next) None)
-    (lt-ltb (length taken.plain) (plain_count name) (omega arith)) in
+    (lt-ltb (length taken.plain) (most_plain name) (omega arith)) in
     let later = taken_all name arguments next options apart (omega arith) in
     (later.0, ap (option_and_then (λ next. take_all name next arguments)) first ∙ later.1)
 taken_all name (Number option number ∷ arguments) taken (takes_it, once, options) apart room =

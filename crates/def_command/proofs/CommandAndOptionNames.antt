@@ -9,7 +9,7 @@ use Rattle.std.proofs.lemmas.Slice.Eq.{slice_eq-Decides}
 use Rattle.def_sums.proofs.RisingLists.{Contains-tail}
 use Rattle.def_fraction.proofs.LiteralLemmas.{option_map_some}
 use Rattle.def_command.specs.Words.{is_option, is_word}
-use Rattle.def_command.specs.Table.{CommandName, OptionName, Solve, Check, Upgrade, Info, Gen, Drill, Rounds, Every, Scale, Workers, command_word, option_name, built_commands, built_options}
+use Rattle.def_command.specs.Table.{CommandName, OptionName, Solve, Check, Upgrade, Info, Gen, Drill, Plus, Batch, Rounds, Every, Scale, Workers, Atomic, command_word, option_name, built_commands, built_options}
 use Rattle.def_command.specs.Grammar.{command_named, option_named, around_equals}
 
 -- ---- lists
@@ -64,6 +64,8 @@ command_by_word Upgrade built = refl
 command_by_word Info built = refl
 command_by_word Gen built = refl
 command_by_word Drill built = refl
+command_by_word Plus built = refl
+command_by_word Batch built = refl
 
 -- a built option is found by its name
 pub option_by_name : (option : OptionName) → Contains built_options option
@@ -72,6 +74,7 @@ option_by_name Rounds built = refl
 option_by_name Every built = refl
 option_by_name Scale built = refl
 option_by_name Workers built = refl
+option_by_name Atomic built = refl
 
 -- ---- the parts of an option's word
 -- what begins with an option's name begins with a minus
@@ -80,6 +83,7 @@ name_is_option Rounds rest = refl
 name_is_option Every rest = refl
 name_is_option Scale rest = refl
 name_is_option Workers rest = refl
+name_is_option Atomic rest = refl
 
 -- and so does the name alone
 pub name_alone_is_option : (option : OptionName) → is_option (option_name option) ≡ true
@@ -87,6 +91,7 @@ name_alone_is_option Rounds = refl
 name_alone_is_option Every = refl
 name_alone_is_option Scale = refl
 name_alone_is_option Workers = refl
+name_alone_is_option Atomic = refl
 
 -- an option's name has no `=`
 pub name_alone : (option : OptionName) → around_equals (option_name option) ≡ None
@@ -94,6 +99,7 @@ name_alone Rounds = refl
 name_alone Every = refl
 name_alone Scale = refl
 name_alone Workers = refl
+name_alone Atomic = refl
 
 -- the first `=` of an option's word stands behind its name
 pub name_and_digits : (option : OptionName) (digits : List ℕ)
@@ -102,6 +108,7 @@ name_and_digits Rounds digits = refl
 name_and_digits Every digits = refl
 name_and_digits Scale digits = refl
 name_and_digits Workers digits = refl
+name_and_digits Atomic digits = refl
 
 -- where a chain gives something, its first part does
 pub and_then_some : {A B : Type 0} (f : A → Option B) (o : Option A) (y : B) → option_and_then f o ≡ Some y

@@ -43,29 +43,29 @@ number_read least most digits number n =
 
 -- ---- what is read tells arguments
 abbrev TellsArguments : CommandName → Taken → Option OptionName → List (List ℕ) → Taken → Type 0
-TellsArguments name taken None words final = (arguments : List Argument) × AreSpelled arguments words
+TellsArguments name taken None words final = (arguments : List Argument) × AreSpelled name arguments words
     × (take_all name taken arguments ≡ Some final)
 TellsArguments name taken (Some option) words final = (digits : List ℕ) × (rest : List (List ℕ)) × (number : ℕ)
     × (arguments : List Argument) × (words ≡ digits ∷ rest)
-    × IsNumberFromTo (least_number option) (most_number option) digits number × AreSpelled arguments rest
+    × IsNumberFromTo (least_number name option) (most_number name option) digits number × AreSpelled name arguments rest
     × (take_all name taken (Number option number ∷ arguments) ≡ Some final)
 
 record NumberIsTaken (name : CommandName) (taken : Taken) (option : OptionName) (digits : List ℕ)
     (next : Taken) : Type 0
   where
     pub number : ℕ
-    pub in_range : IsNumberFromTo (least_number option) (most_number option) digits number
+    pub in_range : IsNumberFromTo (least_number name option) (most_number name option) digits number
     pub first : take_number name taken option number ≡ Some next
 
 digits_taken : (name : CommandName) (taken : Taken) (option : OptionName) (digits : List ℕ) (next : Taken)
     → take_digits name taken option digits ≡ Some next → NumberIsTaken name taken option digits next
 digits_taken name taken option digits next is =
     let (number, read, first) = and_then_some (take_number name taken option)
-    (number_from_to (least_number option) (most_number option) digits) next is in
+    (number_from_to (least_number name option) (most_number name option) digits) next is in
     record {
       number =
           number;
-      in_range = number_is_read (least_number option) (most_number option) digits number read;
+      in_range = number_is_read (least_number name option) (most_number name option) digits number read;
       first = first;
     }
 
@@ -185,15 +185,15 @@ tells name (word ∷ words) taken final (Some option) is =
 -- words that are read spell arguments that are taken
 pub arguments_are_read : (name : CommandName) (words : List (List ℕ)) (taken final : Taken)
     → read_words name taken None words ≡ Some final
-    → (arguments : List Argument) × AreSpelled arguments words × (take_all name taken arguments ≡ Some final)
+    → (arguments : List Argument) × AreSpelled name arguments words × (take_all name taken arguments ≡ Some final)
 arguments_are_read name words taken final is = tells name words taken final None is
 
 -- ---- words that spell arguments are read
 digits_read : (name : CommandName) (taken next : Taken) (option : OptionName) (digits : List ℕ) (number : ℕ)
-    → IsNumberFromTo (least_number option) (most_number option) digits number
+    → IsNumberFromTo (least_number name option) (most_number name option) digits number
     → take_number name taken option number ≡ Some next → take_digits name taken option digits ≡ Some next
 digits_read name taken next option digits number in_range first =
-    ap (option_and_then (take_number name taken option)) (number_read (least_number option) (most_number option) digits
+    ap (option_and_then (take_number name taken option)) (number_read (least_number name option) (most_number name option) digits
     number in_range)
     ∙ first
 
@@ -231,7 +231,7 @@ joined_read name taken next option digits built given =
 
 -- all words are read that spell arguments which are taken
 pub arguments_read : (name : CommandName) (arguments : List Argument) (words : List (List ℕ)) (taken final : Taken)
-    → AreSpelled arguments words → take_all name taken arguments ≡ Some final
+    → AreSpelled name arguments words → take_all name taken arguments ≡ Some final
     → read_words name taken None words ≡ Some final
 arguments_read name [] words taken final spelled is =
     subst (λ (ws : List (List ℕ)). read_words name taken None ws ≡ Some final) (sym spelled) is

@@ -1,5 +1,6 @@
 -- The command that the words of a call name, and how its words are spelled. The program's own name is none of them.
---     Settings, Command          what is to be done, and with which settings
+--     Settings, RowSettings, Command
+--                                what is to be done, and with which settings
 --     command_of_words words     the command, or none where the words aren't taken: word by word
 --     file_words c, named_files words
 --                                the names of the files that the command opens, and the same of the words
@@ -9,7 +10,7 @@ use Rattle.def_sums.specs.Limits.{least_cards, most_cards}
 use Rattle.def_fraction.specs.Digits.{is_numeral, number_of}
 use Rattle.def_command.specs.Words.{is_option, is_word}
 use Rattle.def_command.specs.Table as table
-use Rattle.def_command.specs.Table.{CommandName, OptionName, Rounds, Every, Scale, Workers, built_commands, built_options, command_word, plain_count, takes, option_name, least_number, most_number, default_number}
+use Rattle.def_command.specs.Table.{CommandName, OptionName, Rounds, Every, Scale, Workers, Atomic, built_commands, built_options, command_word, least_plain, most_plain, takes, option_name, least_number, most_number, default_number}
 
 -- how many rounds are played, after how many of them the plans are evaluated, and the scale of a plan
 pub record Settings : Type 0 where
@@ -17,29 +18,42 @@ pub record Settings : Type 0 where
   pub every : ℕ
   pub scale : ℕ
 
+-- how many workers add into the rows, where a number is given, and whether they add without locks
+pub record RowSettings : Type 0 where
+  pub workers : Option ℕ
+  pub atomic : Bool
+
 -- the number of workers is that of the words, where they give one
 pub data Command : Type 0 where
-  Solve : (file : List ℕ) (settings : Settings) (workers : Option ℕ) → Command
+  Solve : (file : List ℕ) (settings : Settings) (rows : RowSettings) → Command
   Check : (file certificate : List ℕ) → Command
   Upgrade : (file certificate : List ℕ) → Command
   Info : (file : List ℕ) → Command
   Gen : (cards : ℕ) → Command
-  Drill : (cards : ℕ) (settings : Settings) (workers : Option ℕ) → Command
+  Drill : (cards : ℕ) (settings : Settings) (rows : RowSettings) → Command
+  Plus : (file : List ℕ) (settings : Settings) (rows : RowSettings) → Command
+  Batch : (files : List (List ℕ)) (settings : Settings) (workers : Option ℕ) → Command
 
--- ---- the numbers of options, each given or absent
-abbrev pub settings_from : Option ℕ → Option ℕ → Option ℕ → Settings
-settings_from rounds every scale =
-    let played = unwrap_or rounds (default_number Rounds 0) in record {
+-- ---- the numbers of a command's options, each given or absent
+abbrev pub settings_from : CommandName → Option ℕ → Option ℕ → Option ℕ → Settings
+settings_from name rounds every scale =
+    let played = unwrap_or rounds (default_number name Rounds 0) in record {
       rounds = played;
-      every = unwrap_or every (default_number Every played);
-      scale = unwrap_or scale (default_number Scale played);
+      every = unwrap_or every (default_number name Every played);
+      scale = unwrap_or scale (default_number name Scale played);
     }
+
+-- the rows have locks where nothing is said
+abbrev pub rows_from : CommandName → Option ℕ → Option ℕ → RowSettings
+rows_from name workers atomic =
+    record { workers = workers; atomic = unwrap_or atomic (default_number name Atomic 0) == 1 }
 
 abbrev pub is_same_option : OptionName → OptionName → Bool
 is_same_option Rounds Rounds = true
 is_same_option Every Every = true
 is_same_option Scale Scale = true
 is_same_option Workers Workers = true
+is_same_option Atomic Atomic = true
 is_same_option option other = false
 
 -- ---- in the words of the format
@@ -56,23 +70,24 @@ pub data Argument : Type 0 where
   Plain : (word : List ℕ) → Argument
   Number : (option : OptionName) (number : ℕ) → Argument
 
--- an option and its number, as two words or as one
-pub record IsSpelledOption (option : OptionName) (number : ℕ) (words : List (List ℕ)) : Type 0 where
-  pub built : Contains built_options option
-  pub digits : List ℕ
-  pub in_range : IsNumberFromTo (least_number option) (most_number option) digits number
-  pub spelled : (words ≡ option_name option ∷ digits ∷ []) ⊎ (words ≡ (option_name option ++ 61 ∷ digits) ∷ [])
+-- an option of a command and its number, as two words or as one
+pub record IsSpelledOption (name : CommandName) (option : OptionName) (number : ℕ) (words : List (List ℕ)) : Type 0
+  where
+    pub built : Contains built_options option
+    pub digits : List ℕ
+    pub in_range : IsNumberFromTo (least_number name option) (most_number name option) digits number
+    pub spelled : (words ≡ option_name option ∷ digits ∷ []) ⊎ (words ≡ (option_name option ++ 61 ∷ digits) ∷ [])
 
--- these words are the argument; a plain word doesn't begin with a minus
-abbrev pub IsSpelled : Argument → List (List ℕ) → Type 0
-IsSpelled (Plain word) words = (is_option word ≡ false) × (words ≡ word ∷ [])
-IsSpelled (Number option number) words = IsSpelledOption option number words
+-- these words are the argument of a command; a plain word doesn't begin with a minus
+abbrev pub IsSpelled : CommandName → Argument → List (List ℕ) → Type 0
+IsSpelled name (Plain word) words = (is_option word ≡ false) × (words ≡ word ∷ [])
+IsSpelled name (Number option number) words = IsSpelledOption name option number words
 
--- the words are these arguments, one after another
-abbrev pub AreSpelled : List Argument → List (List ℕ) → Type 0
-AreSpelled [] words = words ≡ []
-AreSpelled (argument ∷ arguments) words = (front : List (List ℕ)) × (rest : List (List ℕ)) × IsSpelled argument front
-    × AreSpelled arguments rest × (words ≡ front ++ rest)
+-- the words are these arguments of a command, one after another
+abbrev pub AreSpelled : CommandName → List Argument → List (List ℕ) → Type 0
+AreSpelled name [] words = words ≡ []
+AreSpelled name (argument ∷ arguments) words = (front : List (List ℕ)) × (rest : List (List ℕ))
+    × IsSpelled name argument front × AreSpelled name arguments rest × (words ≡ front ++ rest)
 
 abbrev pub plain_words : List Argument → List (List ℕ)
 plain_words [] = []
@@ -93,12 +108,15 @@ AreOptionsOf name (Plain word ∷ arguments) = AreOptionsOf name arguments
 AreOptionsOf name (Number option number ∷ arguments) = (takes name option ≡ true)
     × (number_given option arguments ≡ None) × AreOptionsOf name arguments
 
-abbrev pub settings_of : List Argument → Settings
-settings_of arguments =
-    settings_from (number_given Rounds arguments) (number_given Every arguments) (number_given Scale arguments)
+abbrev pub settings_of : CommandName → List Argument → Settings
+settings_of name arguments =
+    settings_from name (number_given Rounds arguments) (number_given Every arguments) (number_given Scale arguments)
 
 abbrev pub workers_of : List Argument → Option ℕ
 workers_of arguments = number_given Workers arguments
+
+abbrev pub rows_of : CommandName → List Argument → RowSettings
+rows_of name arguments = rows_from name (workers_of arguments) (number_given Atomic arguments)
 
 -- a file and a certificate alone, and the command that is made of both
 abbrev pub IsOfTwo : (List ℕ → List ℕ → Command) → List Argument → Command → Type 0
@@ -108,7 +126,7 @@ IsOfTwo make arguments command = (file : List ℕ) × (certificate : List ℕ)
 -- what a command is with these arguments
 abbrev pub IsCommand : CommandName → List Argument → Command → Type 0
 IsCommand table.Solve arguments command = (file : List ℕ) × (plain_words arguments ≡ file ∷ [])
-    × (command ≡ Solve file (settings_of arguments) (workers_of arguments))
+    × (command ≡ Solve file (settings_of table.Solve arguments) (rows_of table.Solve arguments))
 IsCommand table.Check arguments command = IsOfTwo Check arguments command
 IsCommand table.Upgrade arguments command = IsOfTwo Upgrade arguments command
 IsCommand table.Info arguments command = (file : List ℕ) × (plain_words arguments ≡ file ∷ []) × (command ≡ Info file)
@@ -116,7 +134,11 @@ IsCommand table.Gen arguments command = (word : List ℕ) × (cards : ℕ) × (p
     × IsNumberFromTo least_cards most_cards word cards × (command ≡ Gen cards)
 IsCommand table.Drill arguments command = (word : List ℕ) × (cards : ℕ) × (plain_words arguments ≡ word ∷ [])
     × IsNumberFromTo least_cards most_cards word cards
-    × (command ≡ Drill cards (settings_of arguments) (workers_of arguments))
+    × (command ≡ Drill cards (settings_of table.Drill arguments) (rows_of table.Drill arguments))
+IsCommand table.Plus arguments command = (file : List ℕ) × (plain_words arguments ≡ file ∷ [])
+    × (command ≡ Plus file (settings_of table.Plus arguments) (rows_of table.Plus arguments))
+IsCommand table.Batch arguments command =
+    command ≡ Batch (plain_words arguments) (settings_of table.Batch arguments) (workers_of arguments)
 
 -- the first word is a command's, and the others are its arguments in any order
 pub record IsCall (words : List (List ℕ)) (command : Command) : Type 0 where
@@ -125,8 +147,9 @@ pub record IsCall (words : List (List ℕ)) (command : Command) : Type 0 where
   pub arguments : List Argument
   pub built : Contains built_commands name
   pub words_are : words ≡ command_word name ∷ rest
-  pub spelled : AreSpelled arguments rest
-  pub plain : length (plain_words arguments) ≡ plain_count name
+  pub spelled : AreSpelled name arguments rest
+  pub enough_plain : least_plain name ≤ length (plain_words arguments)
+  pub few_plain : length (plain_words arguments) ≤ most_plain name
   pub options : AreOptionsOf name arguments
   pub command_is : IsCommand name arguments command
 
@@ -138,18 +161,21 @@ pub record NumbersSoFar : Type 0 where
   pub every : Option ℕ
   pub scale : Option ℕ
   pub workers : Option ℕ
+  pub atomic : Option ℕ
 
 abbrev pub number_so_far : NumbersSoFar → OptionName → Option ℕ
 number_so_far numbers Rounds = numbers.rounds
 number_so_far numbers Every = numbers.every
 number_so_far numbers Scale = numbers.scale
 number_so_far numbers Workers = numbers.workers
+number_so_far numbers Atomic = numbers.atomic
 
 abbrev pub with_number : NumbersSoFar → OptionName → ℕ → NumbersSoFar
 with_number numbers Rounds number = record numbers { rounds = Some number }
 with_number numbers Every number = record numbers { every = Some number }
 with_number numbers Scale number = record numbers { scale = Some number }
 with_number numbers Workers number = record numbers { workers = Some number }
+with_number numbers Atomic number = record numbers { atomic = Some number }
 
 -- the plain words and the options that were read so far
 pub record Taken : Type 0 where
@@ -157,7 +183,10 @@ pub record Taken : Type 0 where
   pub numbers : NumbersSoFar
 
 abbrev pub takes_nothing : Taken
-takes_nothing = record { plain = []; numbers = record { rounds = None; every = None; scale = None; workers = None } }
+takes_nothing = record {
+  plain = [];
+  numbers = record { rounds = None; every = None; scale = None; workers = None; atomic = None };
+}
 
 abbrev pub command_named : List ℕ → Option CommandName
 command_named word = find (λ name. is_word word (command_word name)) built_commands
@@ -177,7 +206,7 @@ number_from_to least most digits =
     then Some (number_of digits) else None
 
 abbrev pub take_plain : CommandName → Taken → List ℕ → Option Taken
-take_plain name taken word = if nat_lt (length taken.plain) (plain_count name)
+take_plain name taken word = if nat_lt (length taken.plain) (most_plain name)
     then Some (record taken { plain = taken.plain ++ word ∷ [] }) else None
 
 abbrev pub take_number : CommandName → Taken → OptionName → ℕ → Option Taken
@@ -186,7 +215,8 @@ take_number name taken option number = if takes name option && is_none (number_s
 
 abbrev pub take_digits : CommandName → Taken → OptionName → List ℕ → Option Taken
 take_digits name taken option digits =
-    option_and_then (take_number name taken option) (number_from_to (least_number option) (most_number option) digits)
+    option_and_then (take_number name taken option)
+    (number_from_to (least_number name option) (most_number name option) digits)
 
 -- a word that begins with a minus: an option's name, whose number is the next word, or the name and the number
 abbrev pub read_option : CommandName → Taken → List ℕ → Option (List ℕ × List ℕ) → Option (Taken × Option OptionName)
@@ -218,20 +248,34 @@ with_two make (word ∷ []) = None
 with_two make (word ∷ second ∷ []) = Some (make word second)
 with_two make (word ∷ second ∷ third ∷ words) = None
 
-abbrev pub settings_in : NumbersSoFar → Settings
-settings_in numbers = settings_from numbers.rounds numbers.every numbers.scale
+abbrev pub with_some : (List (List ℕ) → Command) → List (List ℕ) → Option Command
+with_some make [] = None
+with_some make (word ∷ words) = Some (make (word ∷ words))
+
+abbrev pub settings_in : CommandName → NumbersSoFar → Settings
+settings_in name numbers = settings_from name numbers.rounds numbers.every numbers.scale
+
+abbrev pub rows_in : CommandName → NumbersSoFar → RowSettings
+rows_in name numbers = rows_from name numbers.workers numbers.atomic
 
 abbrev pub command_from : CommandName → Taken → Option Command
 command_from table.Solve taken =
-    with_one (λ file. Some (Solve file (settings_in taken.numbers) taken.numbers.workers)) taken.plain
+    with_one (λ file. Some (Solve file (settings_in table.Solve taken.numbers) (rows_in table.Solve taken.numbers)))
+    taken.plain
 command_from table.Check taken = with_two Check taken.plain
 command_from table.Upgrade taken = with_two Upgrade taken.plain
 command_from table.Info taken = with_one (λ file. Some (Info file)) taken.plain
 command_from table.Gen taken =
     with_one (λ word. option_map Gen (number_from_to least_cards most_cards word)) taken.plain
 command_from table.Drill taken =
-    with_one (λ word. option_map (λ cards. Drill cards (settings_in taken.numbers) taken.numbers.workers)
+    with_one (λ word. option_map
+    (λ cards. Drill cards (settings_in table.Drill taken.numbers) (rows_in table.Drill taken.numbers))
     (number_from_to least_cards most_cards word)) taken.plain
+command_from table.Plus taken =
+    with_one (λ file. Some (Plus file (settings_in table.Plus taken.numbers) (rows_in table.Plus taken.numbers)))
+    taken.plain
+command_from table.Batch taken =
+    with_some (λ files. Batch files (settings_in table.Batch taken.numbers) taken.numbers.workers) taken.plain
 
 abbrev pub command_of_words : List (List ℕ) → Option Command
 command_of_words [] = None
@@ -241,12 +285,14 @@ command_of_words (word ∷ words) =
 
 -- ---- the files that a command opens
 abbrev pub file_words : Command → List (List ℕ)
-file_words (Solve file settings workers) = file ∷ []
+file_words (Solve file settings rows) = file ∷ []
 file_words (Check file certificate) = file ∷ certificate ∷ []
 file_words (Upgrade file certificate) = file ∷ certificate ∷ []
 file_words (Info file) = file ∷ []
 file_words (Gen cards) = []
-file_words (Drill cards settings workers) = []
+file_words (Drill cards settings rows) = []
+file_words (Plus file settings rows) = file ∷ []
+file_words (Batch files settings workers) = files
 
 abbrev pub files_of : Option Command → List (List ℕ)
 files_of None = []

@@ -1,8 +1,11 @@
 //! The words that the program is called with, in definitions alone.
 #![tactic(auto)]
 
-ghost use Rattle.def_command.specs.GrammarLaws.{CallsAreComputed, CardsAreInRange, SettingsAreInRange, WordsCallOne};
+ghost use Rattle.def_command.specs.GrammarLaws.{CallsAreComputed, CardsAreInRange, FilesAreInRange, SettingsAreInRange, WordsCallOne};
 ghost use Rattle.def_command.specs.GrammarRows.{RefusedRows, TakenRows};
+
+/// The most files of a batch.
+pub const MOST_FILES: usize = 16;
 
 /// The command that is computed from words is exactly the one that they are a call of.
 pub fn calls_are_computed()
@@ -23,6 +26,11 @@ pub fn settings_are_in_range()
 /// The number of cards of a command that is computed is in its range.
 pub fn cards_are_in_range()
     ensures { CardsAreInRange }
+{}
+
+/// A batch that is computed has a file, and no more than its most.
+pub fn files_are_in_range()
+    ensures { FilesAreInRange }
 {}
 
 /// Rows: words that are taken, with their command.

@@ -1,12 +1,10 @@
 -- The plain words of a call, as a list.
-use Rattle.std.specs.Prelude.{ℕ, List, [], ◌∷◌, Option, Some, None}
-use Rattle.xg_command.specs.declared.plain.PlainWords.{PlainWords}
-use Rattle.xg_command.specs.declared.plain.PlainWords.TheVariants as words
+use Rattle.std.specs.Prelude.{ℕ, List, [], ◌∷◌, map, Option, Some, None}
+use Rattle.std.specs.Borrow.{Bor}
+use Rattle.arrayvec.specs.ArrayVec.{ArrayVec}
 
-abbrev pub plain_value : PlainWords → List (List ℕ)
-plain_value words.None = []
-plain_value (words.One word) = word.now ∷ []
-plain_value (words.Two first second) = first.now ∷ second.now ∷ []
+abbrev pub plain_value : ArrayVec (Bor (List ℕ)) → List (List ℕ)
+plain_value p = map (λ word. word.now) p.items
 
 -- the word of a list that has one
 abbrev pub one_word : List (List ℕ) → Option (List ℕ)

@@ -1,5 +1,7 @@
 //! What is to be done.
 
+use crate::plain::PlainWords;
+
 /// How a game is solved.
 #[derive(Clone, Copy, Debug, PartialEq, Eq)]
 pub struct WordSettings {
@@ -11,14 +13,23 @@ pub struct WordSettings {
     pub scale: u32,
 }
 
-/// The command that the words name. The names of files are as they were written.
+/// The rows that the workers of a run add into.
 #[derive(Clone, Copy, Debug, PartialEq, Eq)]
+pub struct RowWords {
+    /// The number of workers, from 1 to 64, where one is given.
+    pub workers: Option<u32>,
+    /// Whether the workers add without locks.
+    pub atomic: bool,
+}
+
+/// The command that the words name. The names of files are as they were written.
+#[derive(Debug, PartialEq, Eq, Drop)]
 pub enum Command<'a> {
-    /// The game of a file is solved, by 1 to 64 workers where a number of them is given.
+    /// The game of a file is solved.
     Solve {
         file: &'a str,
         settings: WordSettings,
-        workers: Option<u32>,
+        rows: RowWords,
     },
     /// A certificate is checked against the game of a file.
     Check {
@@ -38,9 +49,21 @@ pub enum Command<'a> {
     Gen {
         cards: u32,
     },
-    /// One-card poker with 2 to 64 cards is solved, by 1 to 64 workers where a number of them is given.
+    /// One-card poker with 2 to 64 cards is solved.
     Drill {
         cards: u32,
+        settings: WordSettings,
+        rows: RowWords,
+    },
+    /// The game of a file is solved by rounds of CFR+. They are at most 2,048, and the scale is at most 16,384.
+    Plus {
+        file: &'a str,
+        settings: WordSettings,
+        rows: RowWords,
+    },
+    /// The games of 1 to 16 files are solved, by 1 to 64 workers where a number of them is given.
+    Batch {
+        files: PlainWords<'a>,
         settings: WordSettings,
         workers: Option<u32>,
     },

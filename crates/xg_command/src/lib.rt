@@ -8,5 +8,6 @@ mod plain;
 mod reading;
 mod words;
 
-pub use command::{Command, WordSettings};
+pub use command::{Command, RowWords, WordSettings};
+pub use plain::PlainWords;
 pub use words::Words;

@@ -1,9 +1,12 @@
 //! The commands and the options by their names.
-ghost use Rattle.std.specs.Prelude.{◌≡◌, option_map, if◌then◌else◌};
-ghost use Rattle.def_command.specs.Table.{plain_count, takes, least_number, most_number};
+ghost use Rattle.std.specs.Prelude.{◌≡◌, ℕ, option_map};
+ghost use Rattle.def_command.specs.Table as table;
+ghost use Rattle.def_command.specs.Table.{most_plain, takes, least_number, most_number, default_number};
 ghost use Rattle.def_command.specs.Grammar.{command_named, option_named};
 ghost use Rattle.xg_command.specs.Names.{name_value, option_value};
 
+use def_command::MOST_FILES;
+use def_plus::{MOST_PLUS_ROUNDS, MOST_PLUS_SCALE};
 use def_sums::{MOST_ROUNDS, MOST_SCALE, MOST_WORKERS};
 
 /// A command by its word.
@@ -15,6 +18,8 @@ pub(crate) enum CommandName {
     Info,
     Gen,
     Drill,
+    Plus,
+    Batch,
 }
 
 /// An option by its name.
@@ -24,6 +29,7 @@ pub(crate) enum OptionName {
     Every,
     Scale,
     Workers,
+    Atomic,
 }
 
 impl CommandName {
@@ -37,22 +43,42 @@ impl CommandName {
             "info" => Some(CommandName::Info),
             "gen" => Some(CommandName::Gen),
             "drill" => Some(CommandName::Drill),
+            "plus" => Some(CommandName::Plus),
+            "batch" => Some(CommandName::Batch),
             _ => None,
         }
     }
 
-    /// Whether the command has two plain words, and not one.
-    pub(crate) fn has_two_words(self) -> bool
-        ensures { plain_count (name_value self) ≡ (if result then 2 else 1) }
+    /// The most plain words that the command has.
+    pub(crate) fn most_plain(self) -> usize
+        ensures { result ≡ most_plain (name_value self) }
     {
-        matches!(self, CommandName::Check | CommandName::Upgrade)
+        match self {
+            CommandName::Batch => MOST_FILES,
+            CommandName::Check | CommandName::Upgrade => 2,
+            _ => 1,
+        }
     }
 
-    /// Whether the command has this option: it has all or none.
-    pub(crate) fn takes(self, _option: OptionName) -> bool
-        ensures { result ≡ takes (name_value self) (option_value _option) }
+    /// Whether the command has this option.
+    pub(crate) fn takes(self, option: OptionName) -> bool
+        ensures { result ≡ takes (name_value self) (option_value option) }
     {
-        matches!(self, CommandName::Solve | CommandName::Drill)
+        match self {
+            CommandName::Solve | CommandName::Drill | CommandName::Plus => true,
+            CommandName::Batch => !matches!(option, OptionName::Atomic),
+            _ => false,
+        }
+    }
+
+    /// The scale where none is given: the greatest.
+    pub(crate) fn default_scale(self) -> u32
+        ensures { (rounds : ℕ) → result ≡ default_number (name_value self) table.Scale rounds }
+    {
+        match self {
+            CommandName::Plus => MOST_PLUS_SCALE,
+            _ => MOST_SCALE,
+        }
     }
 }
 
@@ -65,28 +91,32 @@ impl OptionName {
             "--every" => Some(OptionName::Every),
             "--scale" => Some(OptionName::Scale),
             "--workers" => Some(OptionName::Workers),
+            "--atomic" => Some(OptionName::Atomic),
             _ => None,
         }
     }
 
-    /// The least number that the option takes.
-    pub(crate) fn least(self) -> u32
-        ensures { result ≡ least_number (option_value self) }
+    /// The least number that the option takes with a command: the same with each.
+    pub(crate) fn least(self, _command: CommandName) -> u32
+        ensures { result ≡ least_number (name_value _command) (option_value self) }
     {
         match self {
-            OptionName::Rounds => 0,
+            OptionName::Rounds | OptionName::Atomic => 0,
             OptionName::Every | OptionName::Scale | OptionName::Workers => 1,
         }
     }
 
-    /// The greatest number that the option takes.
-    pub(crate) fn most(self) -> u32
-        ensures { result ≡ most_number (option_value self) }
+    /// The greatest number that the option takes with a command.
+    pub(crate) fn most(self, command: CommandName) -> u32
+        ensures { result ≡ most_number (name_value command) (option_value self) }
     {
-        match self {
-            OptionName::Rounds | OptionName::Every => MOST_ROUNDS,
-            OptionName::Scale => MOST_SCALE,
-            OptionName::Workers => MOST_WORKERS,
+        match (self, command) {
+            (OptionName::Rounds, CommandName::Plus) => MOST_PLUS_ROUNDS,
+            (OptionName::Scale, CommandName::Plus) => MOST_PLUS_SCALE,
+            (OptionName::Rounds | OptionName::Every, _) => MOST_ROUNDS,
+            (OptionName::Scale, _) => MOST_SCALE,
+            (OptionName::Workers, _) => MOST_WORKERS,
+            (OptionName::Atomic, _) => 1,
         }
     }
 }

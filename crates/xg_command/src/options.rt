@@ -2,13 +2,13 @@
 ghost use Rattle.std.specs.Prelude.{◌≡◌, option_map};
 ghost use Rattle.def_sums.specs.Limits.{least_cards, most_cards};
 ghost use Rattle.def_command.specs.Table.{least_number, most_number};
-ghost use Rattle.def_command.specs.Grammar.{number_from_to, number_so_far, with_number, settings_in};
-ghost use Rattle.xg_command.specs.Names.{option_value};
-ghost use Rattle.xg_command.specs.Values.{numbers_value, no_numbers, settings_value};
+ghost use Rattle.def_command.specs.Grammar.{number_from_to, number_so_far, with_number, settings_in, rows_in};
+ghost use Rattle.xg_command.specs.Names.{name_value, option_value};
+ghost use Rattle.xg_command.specs.Values.{numbers_value, no_numbers, rows_value, settings_value};
 
-use crate::command::WordSettings;
-use crate::names::OptionName;
-use def_sums::{LEAST_CARDS, MOST_CARDS, MOST_SCALE};
+use crate::command::{RowWords, WordSettings};
+use crate::names::{CommandName, OptionName};
+use def_sums::{LEAST_CARDS, MOST_CARDS};
 use xg_frac::read_whole;
 
 /// The rounds that are played where no number is given.
@@ -21,6 +21,7 @@ pub(crate) struct Options {
     every: Option<u32>,
     scale: Option<u32>,
     workers: Option<u32>,
+    atomic: Option<u32>,
 }
 
 impl Options {
@@ -32,6 +33,7 @@ impl Options {
             every: None,
             scale: None,
             workers: None,
+            atomic: None,
         }
     }
 
@@ -43,6 +45,7 @@ impl Options {
             OptionName::Every => self.every,
             OptionName::Scale => self.scale,
             OptionName::Workers => self.workers,
+            OptionName::Atomic => self.atomic,
         }
     }
 
@@ -67,19 +70,23 @@ impl Options {
                 workers: number,
                 ..self
             },
+            OptionName::Atomic => Options {
+                atomic: number,
+                ..self
+            },
         }
     }
 
-    /// The settings, with the usual number for each option that isn't given. With none for `--every` the plans are
-    /// evaluated once, after the last round.
-    pub(crate) fn settings(self) -> WordSettings
-        ensures { settings_value result ≡ settings_in (numbers_value self) }
+    /// The settings, with the command's usual number for each option that isn't given. With none for `--every` the
+    /// plans are evaluated once, after the last round.
+    pub(crate) fn settings(self, command: CommandName) -> WordSettings
+        ensures { settings_value result ≡ settings_in (name_value command) (numbers_value self) }
     {
         let rounds = self.rounds.unwrap_or(DEFAULT_ROUNDS);
         WordSettings {
             rounds,
             every: self.every.unwrap_or(if rounds == 0 { 1 } else { rounds }),
-            scale: self.scale.unwrap_or(MOST_SCALE),
+            scale: self.scale.unwrap_or(command.default_scale()),
         }
     }
 
@@ -89,14 +96,25 @@ impl Options {
     {
         self.workers
     }
+
+    /// The rows as they are asked for. With none for `--atomic` they have locks, whatever the command.
+    pub(crate) fn rows(self, _command: CommandName) -> RowWords
+        ensures { rows_value result ≡ rows_in (name_value _command) (numbers_value self) }
+    {
+        RowWords {
+            workers: self.workers,
+            atomic: self.atomic.unwrap_or(0) == 1,
+        }
+    }
 }
 
-/// The number that these digits give the option, if they are digits and it is in range.
-pub(crate) fn read_number(option: OptionName, digits: &str) -> Option<u32>
-    ensures { let name = option_value option in
-        result ≡ number_from_to (least_number name) (most_number name) digits.now }
+/// The number that these digits give an option of a command, if they are digits and it is in range.
+pub(crate) fn read_number(command: CommandName, option: OptionName, digits: &str) -> Option<u32>
+    ensures { let name = name_value command in
+        let of = option_value option in
+        result ≡ number_from_to (least_number name of) (most_number name of) digits.now }
 {
-    number_from_to(option.least(), option.most(), digits)
+    number_from_to(option.least(command), option.most(command), digits)
 }
 
 /// The number of cards that these digits give, if they are digits and it is in range.

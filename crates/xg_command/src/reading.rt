@@ -7,10 +7,10 @@ ghost use Rattle.xg_command.specs.Values.{taken_value, reading_value, command_va
 use crate::command::Command;
 use crate::names::{CommandName, OptionName};
 use crate::options::{Options, read_cards, read_number};
-use crate::plain::PlainWords;
+use crate::plain::{PlainWords, one, two};
 
 /// What was read so far.
-#[derive(Clone, Copy)]
+#[derive(Drop)]
 pub(crate) struct WordsRead<'a> {
     plain: PlainWords<'a>,
     options: Options,
@@ -37,7 +37,7 @@ impl<'a> WordsRead<'a> {
         ensures { reading_value result ≡ (takes_nothing, None) }
     {
         WordsRead {
-            plain: PlainWords::None,
+            plain: PlainWords::new(),
             options: Options::none(),
             waiting: None,
         }
@@ -81,7 +81,7 @@ impl<'a> WordsRead<'a> {
         ensures { option_map (λ _. reading_value self.new) result ≡ option_map (λ next. (next, None))
             (take_digits (name_value name) (taken_value self.old) (option_value option) digits.now) }
     {
-        let number = read_number(option, digits)?;
+        let number = read_number(name, option, digits)?;
         if !name.takes(option) || self.options.get(option).is_some() {
             return None;
         }
@@ -95,7 +95,10 @@ impl<'a> WordsRead<'a> {
         ensures { option_map (λ _. reading_value self.new) result
             ≡ option_map (λ next. (next, None)) (take_plain (name_value name) (taken_value self.old) word.entry.now) }
     {
-        self.plain = self.plain.with(word, name.has_two_words())?;
+        if self.plain.len() >= name.most_plain() {
+            return None;
+        }
+        self.plain.push(word);
         self.waiting = None;
         Some(())
     }
@@ -104,37 +107,56 @@ impl<'a> WordsRead<'a> {
     pub(crate) fn command(self, name: CommandName) -> Option<Command<'a>>
         ensures { option_map command_value result ≡ command_from (name_value name) (taken_value self.entry) }
     {
-        let settings = self.options.settings();
+        let settings = self.options.settings(name);
+        let rows = self.options.rows(name);
         let workers = self.options.workers();
         match name {
             CommandName::Solve => {
-                let file = self.plain.one()?;
+                let file = one(&self.plain)?;
                 Some(Command::Solve {
                     file,
                     settings,
-                    workers,
+                    rows,
                 })
             }
             CommandName::Check => {
-                let (file, certificate) = self.plain.two()?;
+                let (file, certificate) = two(&self.plain)?;
                 Some(Command::Check { file, certificate })
             }
             CommandName::Upgrade => {
-                let (file, certificate) = self.plain.two()?;
+                let (file, certificate) = two(&self.plain)?;
                 Some(Command::Upgrade { file, certificate })
             }
             CommandName::Info => {
-                let file = self.plain.one()?;
+                let file = one(&self.plain)?;
                 Some(Command::Info { file })
             }
             CommandName::Gen => {
-                let cards = read_cards(self.plain.one()?)?;
+                let cards = read_cards(one(&self.plain)?)?;
                 Some(Command::Gen { cards })
             }
             CommandName::Drill => {
-                let cards = read_cards(self.plain.one()?)?;
+                let cards = read_cards(one(&self.plain)?)?;
                 Some(Command::Drill {
                     cards,
+                    settings,
+                    rows,
+                })
+            }
+            CommandName::Plus => {
+                let file = one(&self.plain)?;
+                Some(Command::Plus {
+                    file,
+                    settings,
+                    rows,
+                })
+            }
+            CommandName::Batch => {
+                if self.plain.is_empty() {
+                    return None;
+                }
+                Some(Command::Batch {
+                    files: self.plain,
                     settings,
                     workers,
                 })

@@ -1,11 +1,11 @@
 //! The same words, read by `clap` with a command of the same options.
-use crate::commands::{WordList, assert_no_row, words_of};
+use crate::commands::{WordList, assert_no_row, batch, words_of};
 use clap::error::ErrorKind;
 use clap::{Arg, ArgAction, ArgMatches, value_parser};
 use std::alloc::{AllocError, Global};
 use std::process::Abort;
 use std::test::Fail;
-use xg_command::{Command, WordSettings};
+use xg_command::{Command, RowWords, WordSettings};
 
 fn numbered<'a>(alloc: Global, name: &'a str, least: i64, most: i64) -> Arg<'a> {
     Arg::new(alloc, name)
@@ -28,16 +28,41 @@ fn command_with<'a>(
         .arg(word)
 }
 
+/// The options of a command, with the most rounds and the greatest scale.
+fn command_within<'a>(
+    alloc: Global,
+    name: &'a str,
+    word: Arg<'a>,
+    most: (i64, i64),
+) -> Result<clap::Command<'a>, AllocError> {
+    command_with(alloc, name, word)?
+        .arg(numbered(alloc, "rounds", 0, most.0))?
+        .arg(numbered(alloc, "every", 1, 65_536))?
+        .arg(numbered(alloc, "scale", 1, most.1))?
+        .arg(numbered(alloc, "workers", 1, 64))
+}
+
+fn atomic<'a>(alloc: Global) -> Arg<'a> {
+    numbered(alloc, "atomic", 0, 1)
+}
+
 fn command_with_options<'a>(
     alloc: Global,
     name: &'a str,
     word: Arg<'a>,
 ) -> Result<clap::Command<'a>, AllocError> {
-    command_with(alloc, name, word)?
-        .arg(numbered(alloc, "rounds", 0, 65_536))?
-        .arg(numbered(alloc, "every", 1, 65_536))?
-        .arg(numbered(alloc, "scale", 1, 1_048_576))?
-        .arg(numbered(alloc, "workers", 1, 64))
+    command_within(alloc, name, word, (65_536, 1_048_576))?.arg(atomic(alloc))
+}
+
+fn plus<'a>(alloc: Global) -> Result<clap::Command<'a>, AllocError> {
+    command_within(alloc, "plus", plain(alloc, "FILE"), (2_048, 16_384))?.arg(atomic(alloc))
+}
+
+/// A batch takes 1 to 16 files in a row. That they are no more in all is left to the room for them.
+fn files<'a>(alloc: Global) -> Arg<'a> {
+    plain(alloc, "FILE")
+        .num_args(1..=16)
+        .action(ArgAction::Append)
 }
 
 fn cards<'a>(alloc: Global) -> Arg<'a> {
@@ -72,19 +97,29 @@ fn program<'a>(alloc: Global) -> Result<clap::Command<'a>, AllocError> {
     let info = command_with(alloc, "info", plain(alloc, "FILE"));
     let program = with_subcommand(program, info)?;
     let program = with_subcommand(program, command_with(alloc, "gen", cards(alloc)))?;
-    with_subcommand(program, command_with_options(alloc, "drill", cards(alloc)))
+    let program = with_subcommand(program, command_with_options(alloc, "drill", cards(alloc)))?;
+    let program = with_subcommand(program, plus(alloc))?;
+    let batch = command_within(alloc, "batch", files(alloc), (65_536, 1_048_576));
+    with_subcommand(program, batch)
 }
 
 fn number<'a>(given: &ArgMatches<'a>, name: &str, otherwise: u32) -> u32 {
     given.get_one::<u32>(name).unwrap_or(otherwise)
 }
 
-fn settings_of<'a>(given: &ArgMatches<'a>) -> WordSettings {
+fn settings_of<'a>(given: &ArgMatches<'a>, scale: u32) -> WordSettings {
     let rounds = number(given, "rounds", 1000);
     WordSettings {
         rounds,
         every: number(given, "every", rounds.max(1)),
-        scale: number(given, "scale", 1_048_576),
+        scale: number(given, "scale", scale),
+    }
+}
+
+fn rows_of<'a>(given: &ArgMatches<'a>) -> RowWords {
+    RowWords {
+        workers: given.get_one::<u32>("workers"),
+        atomic: number(given, "atomic", 0) == 1,
     }
 }
 
@@ -93,9 +128,19 @@ fn command_of<'a>(matches: &ArgMatches<'a>) -> Option<Command<'a>> {
     match name {
         "solve" => Some(Command::Solve {
             file: given.get_str("FILE")?,
-            settings: settings_of(given),
-            workers: given.get_one::<u32>("workers"),
+            settings: settings_of(given, 1_048_576),
+            rows: rows_of(given),
         }),
+        "plus" => Some(Command::Plus {
+            file: given.get_str("FILE")?,
+            settings: settings_of(given, 16_384),
+            rows: rows_of(given),
+        }),
+        "batch" => batch(
+            given.get_strs("FILE")?,
+            settings_of(given, 1_048_576),
+            given.get_one::<u32>("workers"),
+        ),
         "check" => Some(Command::Check {
             file: given.get_str("FILE")?,
             certificate: given.get_str("CERT")?,
@@ -112,8 +157,8 @@ fn command_of<'a>(matches: &ArgMatches<'a>) -> Option<Command<'a>> {
         }),
         _ => Some(Command::Drill {
             cards: given.get_one::<u32>("N")?,
-            settings: settings_of(given),
-            workers: given.get_one::<u32>("workers"),
+            settings: settings_of(given, 1_048_576),
+            rows: rows_of(given),
         }),
     }
 }
@@ -214,6 +259,8 @@ const FRONTS: &[Front] = &[
     ("check", 0, 25),
     ("upgrade", 0, 25),
     ("drill", 1, 8),
+    ("plus", 5, 40),
+    ("batch", 5, 65),
     ("--rounds=1", 0, 0),
     ("", 0, 0),
 ];
@@ -246,6 +293,11 @@ fn first_other(rt: &impl Abort, alloc: Global) -> Result<Option<&'static str>, F
 fn agrees_with_clap(rt: HostRuntime) -> Result<(), Fail> {
     let mut solve = list_of(rt.alloc(), "solve")?;
     assert!(rt; count_taken_by_three(&rt, rt.alloc(), &mut solve)? == 210);
+    Ok(())
+}
+
+#[test]
+fn agrees_with_clap_on_each_command(rt: HostRuntime) -> Result<(), Fail> {
     assert_eq!(rt; first_other(&rt, rt.alloc())?, None);
     Ok(())
 }
@@ -302,6 +354,61 @@ const MORE: &[(WordList, bool)] = &[
             "F1",
             "--rounds",
             "18446744073709551616",
+        ],
+        false,
+    ),
+    (&["xg_solve", "plus", "F1", "--rounds=2048"], true),
+    (&["xg_solve", "plus", "F1", "--rounds", "2049"], false),
+    (&["xg_solve", "plus", "--scale=16384", "F1"], true),
+    (&["xg_solve", "plus", "F1", "--scale=16385"], false),
+    (&["xg_solve", "solve", "F1", "--rounds=2049"], true),
+    (&["xg_solve", "solve", "F1", "--atomic=1"], true),
+    (
+        &["xg_solve", "solve", "--atomic", "0", "F1", "--workers=3"],
+        true,
+    ),
+    (&["xg_solve", "solve", "F1", "--atomic=2"], false),
+    (
+        &["xg_solve", "solve", "F1", "--atomic=1", "--atomic=1"],
+        false,
+    ),
+    (&["xg_solve", "plus", "--atomic=1", "F1"], true),
+    (&["xg_solve", "drill", "3", "--atomic", "1"], true),
+    (&["xg_solve", "batch", "F1", "--atomic=1"], false),
+    (&["xg_solve", "info", "F1", "--atomic=1"], false),
+    (
+        &["xg_solve", "batch", "F1", "--every", "2", "F1", "F2"],
+        true,
+    ),
+    (
+        &[
+            "xg_solve", "batch", "1", "2", "3", "4", "5", "6", "7", "8", "9", "10", "11", "12",
+            "13", "14", "15", "16",
+        ],
+        true,
+    ),
+    (
+        &[
+            "xg_solve",
+            "batch",
+            "1",
+            "2",
+            "3",
+            "4",
+            "5",
+            "6",
+            "7",
+            "8",
+            "--rounds=1",
+            "9",
+            "10",
+            "11",
+            "12",
+            "13",
+            "14",
+            "15",
+            "16",
+            "17",
         ],
         false,
     ),

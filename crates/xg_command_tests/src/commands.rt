@@ -2,7 +2,7 @@
 use std::alloc::{AllocError, Global};
 use std::process::Abort;
 use std::test::Fail;
-use xg_command::{Command, WordSettings, Words};
+use xg_command::{Command, PlainWords, RowWords, WordSettings, Words};
 
 fn push_all(words: &mut Words, row: &[&str]) -> Result<(), AllocError> {
     for word in row {
@@ -33,18 +33,48 @@ const fn settings(rounds: u32, every: u32, scale: u32) -> WordSettings {
     }
 }
 
+/// Rows with locks.
+const fn locked(workers: Option<u32>) -> RowWords {
+    RowWords {
+        workers,
+        atomic: false,
+    }
+}
+
 const fn solve(file: &str, rounds: u32, every: u32, scale: u32) -> Option<Command<'_>> {
     Some(Command::Solve {
         file,
         settings: settings(rounds, every, scale),
-        workers: None,
+        rows: locked(None),
     })
 }
 
-const fn drill(cards: u32, rounds: u32, workers: Option<u32>) -> Option<Command<'static>> {
+const fn plus(file: &str, rounds: u32, every: u32, scale: u32) -> Option<Command<'_>> {
+    Some(Command::Plus {
+        file,
+        settings: settings(rounds, every, scale),
+        rows: locked(None),
+    })
+}
+
+const fn drill(cards: u32, rounds: u32, rows: RowWords) -> Option<Command<'static>> {
     Some(Command::Drill {
         cards,
         settings: settings(rounds, rounds, 1_048_576),
+        rows,
+    })
+}
+
+/// The files of a batch, where there is room for them.
+pub(crate) fn batch<'a>(
+    files: &[&'a str],
+    settings: WordSettings,
+    workers: Option<u32>,
+) -> Option<Command<'a>> {
+    let files = PlainWords::try_from(files).ok()?;
+    Some(Command::Batch {
+        files,
+        settings,
         workers,
     })
 }
@@ -114,6 +144,30 @@ fn takes_the_words_of_solve(rt: HostRuntime) -> Result<(), Fail> {
     Ok(())
 }
 
+const PLAYED_PLUS: &[(WordList, u32, u32, u32)] = &[
+    (&["plus", "F1"], 1000, 1000, 16_384),
+    (&["plus", "--rounds=0", "F1"], 0, 1, 16_384),
+    (&["plus", "F1", "--rounds", "2048"], 2_048, 2_048, 16_384),
+    (&["plus", "F1", "--every=65536"], 1000, 65_536, 16_384),
+    (&["plus", "F1", "--scale=16384"], 1000, 1000, 16_384),
+    (
+        &["plus", "--every=3", "--rounds", "4", "--scale", "5", "F1"],
+        4,
+        3,
+        5,
+    ),
+];
+
+/// The first row of `PLAYED_PLUS` whose words name another command.
+fn first_not_plus(alloc: Global) -> Result<Option<WordList>, AllocError> {
+    for &(row, rounds, every, scale) in PLAYED_PLUS {
+        if !names(alloc, row, plus("F1", rounds, every, scale))? {
+            return Ok(Some(row));
+        }
+    }
+    Ok(None)
+}
+
 /// The words, the cards, the rounds, and the workers where their number is given.
 const DRILLED: &[(WordList, u32, u32, Option<u32>)] = &[
     (&["drill", "3"], 3, 1000, None),
@@ -130,36 +184,110 @@ const DRILLED: &[(WordList, u32, u32, Option<u32>)] = &[
 /// The first row of `DRILLED` whose words name another command.
 fn first_not_drilled(alloc: Global) -> Result<Option<WordList>, AllocError> {
     for &(row, cards, rounds, workers) in DRILLED {
-        if !names(alloc, row, drill(cards, rounds, workers))? {
+        if !names(alloc, row, drill(cards, rounds, locked(workers)))? {
             return Ok(Some(row));
         }
     }
     Ok(None)
 }
 
-const OTHERS: &[(WordList, Command<'static>)] = &[
+/// Words of `drill 3` with one round, the number of workers, and whether they add without locks.
+const ATOMIC: &[(WordList, Option<u32>, bool)] = &[
+    (&["drill", "3", "--rounds=1", "--atomic=1"], None, true),
+    (&["drill", "--atomic", "1", "3", "--rounds=1"], None, true),
     (
-        &["check", "F1", "C1"],
-        Command::Check {
-            file: "F1",
-            certificate: "C1",
-        },
+        &["drill", "3", "--atomic=01", "--rounds=1", "--workers=5"],
+        Some(5),
+        true,
     ),
+    (&["drill", "--rounds=1", "3", "--atomic=0"], None, false),
     (
-        &["upgrade", "F1", "C1"],
-        Command::Upgrade {
-            file: "F1",
-            certificate: "C1",
-        },
+        &["drill", "--rounds=1", "3", "--workers=5", "--atomic", "0"],
+        Some(5),
+        false,
     ),
-    (&["gen", "2"], Command::Gen { cards: 2 }),
-    (&["gen", "007"], Command::Gen { cards: 7 }),
-    (&["gen", "64"], Command::Gen { cards: 64 }),
 ];
 
-/// The first row of `OTHERS` whose words name another command.
+/// The first row of `ATOMIC` whose words name another command.
+fn first_not_atomic(alloc: Global) -> Result<Option<WordList>, AllocError> {
+    for &(row, workers, atomic) in ATOMIC {
+        if !names(alloc, row, drill(3, 1, RowWords { workers, atomic }))? {
+            return Ok(Some(row));
+        }
+    }
+    Ok(None)
+}
+
+/// The words, the files, the rounds, and the workers where their number is given.
+const BATCHED: &[(WordList, WordList, u32, Option<u32>)] = &[
+    (&["batch", "F1"], &["F1"], 1000, None),
+    (&["batch", "F2", "F1"], &["F2", "F1"], 1000, None),
+    (&["batch", "F1", "F1"], &["F1", "F1"], 1000, None),
+    (
+        &[
+            "batch",
+            "--workers=2",
+            "F1",
+            "--rounds",
+            "65536",
+            "F2",
+            "--scale=1048576",
+            "F3",
+        ],
+        &["F1", "F2", "F3"],
+        65_536,
+        Some(2),
+    ),
+    (
+        &[
+            "batch", "1", "2", "3", "4", "5", "6", "7", "8", "9", "10", "11", "12", "13", "14",
+            "15", "16",
+        ],
+        &[
+            "1", "2", "3", "4", "5", "6", "7", "8", "9", "10", "11", "12", "13", "14", "15", "16",
+        ],
+        1000,
+        None,
+    ),
+];
+
+/// The first row of `BATCHED` whose words name another command.
+fn first_not_batch(alloc: Global) -> Result<Option<WordList>, AllocError> {
+    for &(row, files, rounds, workers) in BATCHED {
+        let settings = settings(rounds, rounds, 1_048_576);
+        if !names(alloc, row, batch(files, settings, workers))? {
+            return Ok(Some(row));
+        }
+    }
+    Ok(None)
+}
+
+/// Words of the commands without settings.
+fn others() -> [(WordList, Command<'static>); 5] {
+    [
+        (
+            &["check", "F1", "C1"],
+            Command::Check {
+                file: "F1",
+                certificate: "C1",
+            },
+        ),
+        (
+            &["upgrade", "F1", "C1"],
+            Command::Upgrade {
+                file: "F1",
+                certificate: "C1",
+            },
+        ),
+        (&["gen", "2"], Command::Gen { cards: 2 }),
+        (&["gen", "007"], Command::Gen { cards: 7 }),
+        (&["gen", "64"], Command::Gen { cards: 64 }),
+    ]
+}
+
+/// The first row of `others` whose words name another command.
 fn first_other(alloc: Global) -> Result<Option<WordList>, AllocError> {
-    for &(row, command) in OTHERS {
+    for (row, command) in others() {
         if !names(alloc, row, Some(command))? {
             return Ok(Some(row));
         }
@@ -171,6 +299,9 @@ fn first_other(alloc: Global) -> Result<Option<WordList>, AllocError> {
 fn takes_other_commands(rt: HostRuntime) -> Result<(), Fail> {
     assert_no_row(&rt, first_other(rt.alloc())?);
     assert_no_row(&rt, first_not_drilled(rt.alloc())?);
+    assert_no_row(&rt, first_not_plus(rt.alloc())?);
+    assert_no_row(&rt, first_not_atomic(rt.alloc())?);
+    assert_no_row(&rt, first_not_batch(rt.alloc())?);
     Ok(())
 }
 
@@ -238,6 +369,40 @@ const REFUSED: &[WordList] = &[
     &["check", "F1", "C1", "C2"],
     &["check", "F1", "C1", "--rounds=1"],
     &["check", "F1", "--"],
+    &["plus"],
+    &["plus", "F1", "F2"],
+    &["plus", "F1", "--rounds", "2049"],
+    &["plus", "F1", "--rounds=65536"],
+    &["plus", "F1", "--scale", "0"],
+    &["plus", "F1", "--scale", "16385"],
+    &["plus", "F1", "--scale=1048576"],
+    &["plus", "F1", "--every=0"],
+    &["plus", "F1", "--every", "65537"],
+    &["plus", "F1", "--workers=65"],
+    &["Plus", "F1"],
+    &["solve", "F1", "--atomic"],
+    &["solve", "F1", "--atomic="],
+    &["solve", "F1", "--atomic=2"],
+    &["solve", "F1", "--atomic=1", "--atomic=1"],
+    &["solve", "F1", "--atomic=1", "--atomic", "0"],
+    &["plus", "F1", "--atomic", "2"],
+    &["drill", "3", "--atomic=-1"],
+    &["check", "F1", "C1", "--atomic=1"],
+    &["upgrade", "F1", "C1", "--atomic=0"],
+    &["info", "F1", "--atomic=1"],
+    &["gen", "3", "--atomic=1"],
+    &["batch", "F1", "--atomic=1"],
+    &["batch", "--atomic", "0", "F1"],
+    &["batch"],
+    &["batch", "--rounds=1"],
+    &["batch", "F1", "-"],
+    &["batch", "F1", "--rounds=65537"],
+    &["batch", "F1", "--rounds=1", "F2", "--rounds=1"],
+    &["batch", "F1", "--workers=0"],
+    &[
+        "batch", "1", "2", "3", "4", "5", "6", "7", "8", "9", "10", "11", "12", "13", "14", "15",
+        "16", "17",
+    ],
     &["upgrade"],
     &["upgrade", "F1"],
     &["upgrade", "F1", "C1", "C2"],
