@@ -9,7 +9,8 @@ use Rattle.def_reply.specs.Reply.{choices_of}
 use Rattle.def_reply.specs.Bounds.{IsFloor, IsCeiling}
 use Rattle.def_cert_verdict.specs.Certificate.{PrintedBounds, printed_numbers}
 use Rattle.def_plan.specs.Weighed.{WeighedGame}
-use Rattle.def_cert_verdict.specs.Laws.{ShowsItsBounds}
+use Rattle.def_cert_verdict.specs.Laws.{ShowsItsBoundsBy}
+use Rattle.def_plus.specs.declared.Variant.{Variant}
 use Rattle.def_program.specs.Bounds.{BoundsHold, ConcedesHigh, GapIsExploitability, GetsLow, NoPlanDoesBetter}
 use Rattle.def_program.specs.Bounds.{RepliesAttain, TraceNarrows}
 
@@ -57,7 +58,7 @@ gap_in_units high low best left high_den low_den unit root_one root_two is_high 
     ∙ (λ i. of_high i -ℤ of_low i)
     ∙ sym (factored (pos root_one *ℤ best) (pos root_two *ℤ left) (pos (high_den * low_den)))
 
-module _ (game : WeighedGame) (b : PrintedBounds) (h : ShowsItsBounds game b) where
+module _ (weight : ℕ → ℕ) (game : WeighedGame) (b : PrintedBounds) (h : ShowsItsBoundsBy weight game b) where
   abbrev one : List ℕ
   one = printed_numbers b.plan_one
 
@@ -144,8 +145,8 @@ module _ (game : WeighedGame) (b : PrintedBounds) (h : ShowsItsBounds game b) wh
   no_better = record { floors = floors_below; ceilings = ceilings_above }
 
   -- all of it holds, where no trace line is wider than an earlier one
-  pub bounds_hold : (scale : ℕ) → TraceNarrows game scale b → BoundsHold game scale b
-  bounds_hold scale narrows = record {
+  pub bounds_hold : (variant : Variant) (scale : ℕ) → TraceNarrows game variant scale b → BoundsHold game variant scale b
+  bounds_hold variant scale narrows = record {
     lower = lower;
     upper = upper;
     attained = attained;

@@ -30,7 +30,9 @@ use Rattle.def_check.specs.Checking.{AreRead, Checks, IsTextOf, failed, passed, 
 use Rattle.def_check.proofs.Checked.{checks_are}
 use Rattle.def_game_numbers.specs.Weighed.{weighed_game}
 use Rattle.def_check.proofs.InNumbers.{sets_in_order, some_unit}
-use Rattle.def_command.specs.Grammar.{Check, Command, Drill, Gen, Info, Solve, Upgrade, command_of_words}
+use Rattle.def_plus.specs.declared.Variant.{Variant}
+use Rattle.def_plus.specs.declared.Variant.TheVariants.{Plain}
+use Rattle.def_command.specs.Grammar.{Batch, Check, Command, Drill, Gen, Info, Plus, Solve, Upgrade, command_of_words}
 use Rattle.def_program.specs.TextLines.{fault_line}
 use Rattle.def_program.specs.CheckLines.{cert_long_line, check_text, upgrade_text, upgraded_text, verdict_text}
 use Rattle.def_program.specs.Program.{Answer, check_answer, refusal}
@@ -94,7 +96,7 @@ module _ (file bytes : List ℕ) (game : GameFile) (c : VersionedCertificate) (r
   of_certificate : (head : Head) (bounds : Option PrintedBounds)
       → CertificateFits (record { head = head; bounds = bounds })
       → verdict numbers (record { head = head; bounds = bounds }) ≡ Ok (shown_by bounds)
-      → IsHeadOf numbers head × IfSome bounds (BoundsHold numbers head.scale)
+      → IsHeadOf numbers head × IfSome bounds (BoundsHold numbers Plain head.scale)
   of_certificate head None fits is = ((exact.head_alone numbers head).0 is, tt)
   of_certificate head (Some b) fits is =
       let stands = read.accepted.readable.stands in
@@ -103,7 +105,7 @@ module _ (file bytes : List ℕ) (game : GameFile) (c : VersionedCertificate) (r
       let conditions = (exact.with_bracket numbers head b b.low b.high).0 is in
       let all = (shown numbers head b b.low b.high one two (some_unit file game stands) is).2 in (
         conditions.0,
-        bounds_hold numbers b all head.scale (record {
+        bounds_hold (λ round. round) numbers b all Plain head.scale (record {
           within_earlier = within_earlier head b.trace fits.below.trace all.trace;
           last_low = sym all.traced_low;
           last_high = sym all.traced_high;
@@ -142,15 +144,16 @@ one_zero : ◌≡◌ {A = ℕ} 1 0 → ⊥
 one_zero is = cc
 
 module _ (words : List (List ℕ)) (told : List ℕ → Option (List ℕ)) (out : SinkCall)
-    (Holds : WeighedGame → ℕ → PrintedBounds → Type 0)
-    (holds : (game : WeighedGame) (scale : ℕ) (b : PrintedBounds) → BoundsHold game scale b → Holds game scale b) where
+    (Holds : WeighedGame → Variant → ℕ → PrintedBounds → Type 0)
+    (holds : (game : WeighedGame) (variant : Variant) (scale : ℕ) (b : PrintedBounds) → BoundsHold game variant scale b
+    → Holds game variant scale b) where
   abbrev IsWritten : Answer → Type 0
   IsWritten answer = (answer.status ≡ 0) × Wrote out answer.text
 
-  some_hold : (game : WeighedGame) (scale : ℕ) (o : Option PrintedBounds) → IfSome o (BoundsHold game scale)
-      → IfSome o (Holds game scale)
+  some_hold : (game : WeighedGame) (scale : ℕ) (o : Option PrintedBounds) → IfSome o (BoundsHold game Plain scale)
+      → IfSome o (Holds game Plain scale)
   some_hold game scale None all = tt
-  some_hold game scale (Some b) all = holds game scale b all
+  some_hold game scale (Some b) all = holds game Plain scale b all
 
   -- a text of bytes that are accepted, which is the same in the words of the certificate that they say
   module _ (text : List ℕ → Verdict → List ℕ) (said : VersionedCertificate → Verdict → List ℕ)
@@ -212,10 +215,12 @@ module _ (words : List (List ℕ)) (told : List ℕ → Option (List ℕ)) (out 
   by_command (Some (Upgrade name certificate)) whole file bytes are =
       by_told upgraded_text (λ c shown. versioned_text (upgraded c)) upgraded_is file bytes (told name)
       (told certificate) are whole
-  by_command (Some (Solve name asked workers)) whole file bytes are = absurd are
+  by_command (Some (Solve name asked rows)) whole file bytes are = absurd are
   by_command (Some (Info name)) whole file bytes are = absurd are
   by_command (Some (Gen cards)) whole file bytes are = absurd are
-  by_command (Some (Drill cards asked workers)) whole file bytes are = absurd are
+  by_command (Some (Drill cards asked rows)) whole file bytes are = absurd are
+  by_command (Some (Plus name asked rows)) whole file bytes are = absurd are
+  by_command (Some (Batch names asked workers)) whole file bytes are = absurd are
   by_command None whole file bytes are = absurd are
 
   -- what the command writes of it was written, and its bounds hold

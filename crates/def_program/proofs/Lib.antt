@@ -1,5 +1,6 @@
 pub mod ReadBack
 pub mod PokerFileIsRead
+pub mod Batches
 pub mod Meant
 pub mod Bounds
 pub mod Played

@@ -9,9 +9,11 @@ use Rattle.def_file.specs.declared.FileFault.{FileFault}
 use Rattle.def_file.specs.declared.FileFault.TheVariants.{TooLong}
 use Rattle.def_file.specs.Content.{GameFile}
 use Rattle.def_file.specs.Reading.{most_bytes}
-use Rattle.def_command.specs.Grammar.{Check, Command, Drill, Gen, Info, Solve, Upgrade, command_of_words, files_of}
+use Rattle.def_command.specs.Grammar.{Batch, Check, Command, Drill, Gen, Info, Plus, Solve, Upgrade, command_of_words, files_of}
+use Rattle.def_plus.specs.declared.Variant.TheVariants as variants
 use Rattle.def_command.proofs.InRange.{cards_in_range}
 use Rattle.def_program.specs.Text.{info_text}
+use Rattle.def_program.specs.BatchText.{batch_text}
 use Rattle.def_program.specs.TextLines.{fault_line}
 use Rattle.def_program.specs.CheckLines.{cert_long_line, check_text, upgraded_text}
 use Rattle.def_check.specs.Accepting.{read_as_accepted}
@@ -21,9 +23,10 @@ use Rattle.def_canon.specs.Poker.{poker}
 use Rattle.def_cert_verdict.specs.Verdict.{Verdict}
 use Rattle.def_check.specs.Check.{checked, most_cert_bytes}
 use Rattle.def_check.proofs.Checked.{checks_are}
-use Rattle.def_program.specs.Program.{Answer, answer_of, both_told, certificate_answer, check_answer, check_told, command_answer, file_answer, game_answer, made_answer, program, refusal, solved, success, usage}
+use Rattle.def_program.specs.Program.{Answer, answer_of, both_told, certificate_answer, check_answer, check_told, command_answer, file_answer, game_answer, made_answer, program, refusal, played, solved, success, usage}
 use Rattle.def_program.specs.Meaning.{BothMean, CertificateMeans, CheckMeans, CommandMeans, FileMeans, IsMeant, Means, file_too_long, file_within, refused, too_long, within, written}
 use Rattle.def_program.specs.Laws.{MeaningIsComputed, ToldWordsMeanOne}
+use Rattle.def_program.proofs.Batches.{are_told as all_are_told, batch_computed, batch_meant}
 use Rattle.def_program.proofs.PokerFileIsRead.{made_is}
 
 -- there is an answer
@@ -161,7 +164,7 @@ module _ (text : GameFile → List ℕ) (cards : ℕ) (some : least_cards ≤ ca
 module _ (words : List (List ℕ)) (told : List ℕ → Option (List ℕ)) (answer : Answer) where
   command_computed : (command : Command) → command_of_words words ≡ Some command → CommandMeans command told answer
       → command_answer command told ≡ Some answer
-  command_computed (Solve file settings workers) is means =
+  command_computed (Solve file settings rows) is means =
       content_computed (solved settings) (told file) answer means
   command_computed (Info file) is means = content_computed info_text (told file) answer means
   command_computed (Check file certificate) is means =
@@ -169,13 +172,16 @@ module _ (words : List (List ℕ)) (told : List ℕ → Option (List ℕ)) (answ
   command_computed (Upgrade file certificate) is means =
       both_computed upgraded_text (told certificate) (told file) answer means
   command_computed (Gen cards) is means = ap Some (sym means)
-  command_computed (Drill cards settings workers) is means =
-      let range = cards_in_range.of_drill words cards settings workers is in
+  command_computed (Drill cards settings rows) is means =
+      let range = cards_in_range.of_drill words cards settings rows is in
       ap Some (sym (made_computed (solved settings) cards range.some range.few answer means))
+  command_computed (Plus file settings rows) is means =
+      content_computed (played variants.Plus settings) (told file) answer means
+  command_computed (Batch files settings workers) is means = batch_computed settings told files answer means
 
   command_meant : (command : Command) → command_of_words words ≡ Some command
       → command_answer command told ≡ Some answer → CommandMeans command told answer
-  command_meant (Solve file settings workers) is computed =
+  command_meant (Solve file settings rows) is computed =
       content_meant (solved settings) (told file) answer computed
   command_meant (Info file) is computed = content_meant info_text (told file) answer computed
   command_meant (Check file certificate) is computed =
@@ -183,10 +189,13 @@ module _ (words : List (List ℕ)) (told : List ℕ → Option (List ℕ)) (answ
   command_meant (Upgrade file certificate) is computed =
       both_meant upgraded_text (told certificate) (told file) answer computed
   command_meant (Gen cards) is computed = cc
-  command_meant (Drill cards settings workers) is computed =
-      let range = cards_in_range.of_drill words cards settings workers is in
+  command_meant (Drill cards settings rows) is computed =
+      let range = cards_in_range.of_drill words cards settings rows is in
       made_meant (solved settings) cards range.some range.few answer
       (same_Some (made_answer (solved settings) (poker cards)) answer computed)
+  command_meant (Plus file settings rows) is computed =
+      content_meant (played variants.Plus settings) (told file) answer computed
+  command_meant (Batch files settings workers) is computed = batch_meant settings told files answer computed
 
   by_command : (command : Option Command) → command_of_words words ≡ command
       → (IsMeant command told answer → answer_of command told ≡ Some answer)
@@ -208,15 +217,23 @@ content_answered text (Some bytes) is_told = record { answer = file_answer text 
 told_computed : (command : Option Command) (told : List ℕ → Option (List ℕ))
     → All (λ file. IsSome (told file)) (files_of command) → Computed (answer_of command told)
 told_computed None told are_told = record { answer = usage; is = refl }
-told_computed (Some (Solve file settings workers)) told are_told =
+told_computed (Some (Solve file settings rows)) told are_told =
     content_answered (solved settings) (told file) (are_told 0 [] (omega arith))
 told_computed (Some (Check file certificate)) told are_told =
     both_answered check_text (told certificate) (told file) (are_told 0 [] (omega arith)) (are_told 1 [] (omega arith))
 told_computed (Some (Upgrade file certificate)) told are_told =
     both_answered upgraded_text (told certificate) (told file) (are_told 0 [] (omega arith)) (are_told 1 [] (omega arith))
 told_computed (Some (Gen cards)) told are_told = record { answer = success (canon (poker cards)); is = refl }
-told_computed (Some (Drill cards settings workers)) told are_told =
+told_computed (Some (Drill cards settings rows)) told are_told =
     record { answer = made_answer (solved settings) (poker cards); is = refl }
+told_computed (Some (Plus file settings rows)) told are_told =
+    content_answered (played variants.Plus settings) (told file) (are_told 0 [] (omega arith))
+told_computed (Some (Batch files settings workers)) told are_told =
+    let all = all_are_told told files are_told in
+    record {
+      answer = success (batch_text settings all.files);
+      is = ap (option_map (λ contents. success (batch_text settings contents))) all.all;
+    }
 told_computed (Some (Info file)) told are_told = content_answered info_text (told file) (are_told 0 [] (omega arith))
 
 -- words whose files are told mean one answer, and no other one

@@ -1,49 +1,54 @@
 -- The bounds that are printed of a game that was played.
-use Rattle.std.proofs.Common.{◌≡◌, ℕ, ◌≤◌, List, length, Option, Some, None, Ok, refl, sym, ap, ◌∙◌, subst, arith}
-use Rattle.std.specs.Prelude.{◌*◌, IsSomeAnd}
-use Rattle.std.proofs.lemmas.List.{length-map}
+use Rattle.std.proofs.Common.{◌≡◌, ℕ, ◌+◌, ◌≤◌, List, [], ◌∷◌, ◌++◌, map, length, Option, Some, None, Result, Ok, refl, sym, ap, ◌∙◌, subst, arith}
+use Rattle.std.specs.Prelude.{IsSomeAnd}
+use Rattle.std.specs.Option.{option_map}
+use Rattle.std.proofs.lemmas.List.{append-nil, length-map}
 use Rattle.def_sums.specs.Limits.{least_cards, most_cards}
 use Rattle.def_outside.specs.Calls.{SinkCall, Wrote}
 use Rattle.def_tree.specs.declared.Kind.TheVariants.{One, Two}
 use Rattle.def_tree.specs.Tree.{leaf_count, prefix}
 use Rattle.def_file.specs.Content.{GameFile}
 use Rattle.def_file.specs.declared.FileFault.{FileFault}
-use Rattle.def_fraction.specs.Fraction.{Fraction, fraction_of}
 use Rattle.def_game_paths.specs.Paths.{leaf_visits}
 use Rattle.def_game_scale.specs.Scale.{all_expected, expected, weights}
 use Rattle.def_game_numbers.specs.Numbers.{game_file_fault, tables_of}
 use Rattle.def_sequence_form.proofs.Leaves.{form_has_the_mass, leaves_counted, length-leaves_with}
 use Rattle.def_reply.specs.Bracket.{BracketEnds, ends_of}
 use Rattle.def_reply.specs.Outcome.{Head}
-use Rattle.def_run.specs.Run.{evaluations, outcome}
-use Rattle.def_run.proofs.EndLaws.{trace_of_run_never_widens}
-use Rattle.def_run.proofs.RunLaws.{runs_have_ends}
+use Rattle.def_run.specs.Run.{WeighedRun, SumsPlans, evaluations_in}
+use Rattle.def_run.proofs.WeighedEnds.{weighed_runs_have_ends}
+use Rattle.def_run.proofs.WeighedTraces.{weighed_trace_never_widens}
+use Rattle.def_plus.specs.declared.Variant.{Variant}
+use Rattle.def_plus.specs.declared.Variant.TheVariants as variants
+use Rattle.def_plus_run.specs.VariantRun.{run_of, outcome_of}
+use Rattle.def_plus_run.proofs.VariantRuns.{variant_runs_sum_plans}
 use Rattle.def_cert_verdict.specs.Certificate.{Certificate, PrintedBounds}
 use Rattle.def_plan.specs.Weighed.{WeighedGame}
-use Rattle.def_cert_verdict.specs.Verdict.{bracket, verdict}
-use Rattle.def_cert_verdict.specs.Laws.{HoldsUp, IsHeadOf, ShowsItsBounds, with_bounds}
-use Rattle.def_cert_verdict.proofs.VerdictIsExact.{exact}
-use Rattle.def_cert_verdict.proofs.Shown.{accepted as shown}
+use Rattle.def_cert_verdict.specs.Laws.{HoldsUpBy, IsHeadOf, ShowsItsBoundsBy, with_bounds}
+use Rattle.def_cert_verdict.proofs.Shown.{shown_where_they_hold}
 use Rattle.def_cert_accepted.specs.OfOutcome.{certificate_of}
-use Rattle.def_cert_accepted.proofs.Accepted.{accepted as run_accepted}
-use Rattle.def_cert_accepted.proofs.OfRun.{bounds_of_run, certificate_with, same_head}
-use Rattle.def_cert_text.specs.CertText.{versioned_text}
+use Rattle.def_cert_accepted.proofs.Accepted.{holds_in}
+use Rattle.def_cert_accepted.proofs.OfRun.{bounds_in, certificate_in, same_head}
 use Rattle.def_cert_versions.specs.Verdict.{in_version_two}
-use Rattle.def_command.specs.Grammar.{Check, Command, Drill, Gen, Info, Settings, Solve, Upgrade, command_of_words}
+use Rattle.def_command.specs.Grammar.{Batch, Check, Command, Drill, Gen, Info, Plus, Settings, Solve, Upgrade, command_of_words}
 use Rattle.def_command.proofs.InRange.{cards_in_range, settings_in_range}
 use Rattle.def_canon.specs.Canon.{canon}
 use Rattle.def_canon.specs.Poker.{poker}
 use Rattle.def_file_form.specs.Laws.{StandsFor}
-use Rattle.def_program.specs.Text.{form_of_file, game_head, solve_text}
+use Rattle.def_program.specs.Text.{form_of_file, game_certificate, game_head, played_text, text_of_variant}
+use Rattle.def_batch.specs.Batch.{BatchEntry, Kept, Long, batch_entries, batch_room, item_of}
+use Rattle.def_batch.proofs.Judged.{judged_alone}
+use Rattle.def_program.specs.BatchText.{batch_text, file_line, parts_text}
 use Rattle.def_program.specs.TextLines.{fault_line}
-use Rattle.def_program.specs.Program.{Answer, file_answer, game_answer, refusal, solved, success}
+use Rattle.def_program.specs.Program.{Answer, file_answer, game_answer, played, refusal, solved, success}
 use Rattle.def_check.specs.Accepted.{IsAccepted}
 use Rattle.def_check.specs.Accepting.{read_as_accepted, unless_faulty}
 use Rattle.def_program.specs.Meaning.{FileMeans, IsMeant, Means, written}
 use Rattle.def_game_numbers.specs.Weighed.{weighed_game}
 use Rattle.def_check.proofs.InNumbers.{some_unit, sets_in_order}
-use Rattle.def_program.specs.Bounds.{BoundsHold, ForEachPlayed, HasItsBounds, IsPlayed, TraceNarrows, WroteBounds}
+use Rattle.def_program.specs.Bounds.{BoundsHold, CommandPlays, ForEachPlayed, HasItsBounds, IsPlayed, PlayedPart, TraceNarrows, WroteBounds, written_alone}
 use Rattle.def_program.specs.Laws.{PlayedGamesHaveTheirBounds}
+use Rattle.def_program.proofs.Batches.{all_told_is, batch_meant, text_between}
 use Rattle.def_program.proofs.Bounds.{bounds_hold}
 use Rattle.def_program.proofs.PokerFileIsRead.{made_accepted, made_is}
 use Rattle.def_program.proofs.Meant.{file_meant}
@@ -75,93 +80,127 @@ module _ (bytes : List ℕ) (game : GameFile) (stands : StandsFor bytes game) wh
   abbrev numbers : WeighedGame
   numbers = weighed_game game
 
-  module _ (settings : Settings) (some_scale : 1 ≤ settings.scale) (ends : BracketEnds)
-      (are : ends_of (evaluations (form_of_file game) settings.scale settings.every settings.rounds) ≡ Some ends) where
-    abbrev bounds : PrintedBounds
-    bounds = bounds_of_run numbers settings.rounds settings.every settings.scale ends
+  module _ (variant : Variant) (settings : Settings) where
+    abbrev run : WeighedRun
+    run = run_of variant numbers.form settings.scale
 
-    certificate_is : certificate_of numbers.form (outcome numbers.form (game_head game settings))
-        ≡ with_bounds (game_head game settings) bounds
-    certificate_is =
-        let same = same_head numbers (game_head game settings) (head_of_game game settings) in
-        ap (λ (h : Head). certificate_of numbers.form (outcome numbers.form h)) same
-        ∙ certificate_with numbers settings.rounds settings.every settings.scale ends are
-        ∙ ap (λ (h : Head). with_bounds h bounds) (sym same)
+    module _ (some_scale : 1 ≤ settings.scale) (ends : BracketEnds)
+        (are : ends_of (evaluations_in numbers.form run settings.every settings.rounds) ≡ Some ends) where
+      abbrev bounds : PrintedBounds
+      bounds = bounds_in numbers run settings.rounds settings.every ends
 
-    abbrev low : Fraction
-    low = fraction_of ends.lower.low (numbers.unit * (ends.lower.round * settings.scale))
+      certificate_is : game_certificate variant game settings ≡ with_bounds (game_head game settings) bounds
+      certificate_is =
+          let same = same_head numbers (game_head game settings) (head_of_game game settings) in
+          ap (λ (h : Head). certificate_of numbers.form (outcome_of variant numbers.form h)) same
+          ∙ certificate_in numbers run settings.rounds settings.every settings.scale ends are
+          ∙ ap (λ (h : Head). with_bounds h bounds) (sym same)
 
-    abbrev high : Fraction
-    high = fraction_of ends.upper.high (numbers.unit * (ends.upper.round * settings.scale))
+      sums : SumsPlans numbers.form settings.scale run
+      sums =
+          variant_runs_sum_plans variant numbers.form settings.scale (sets_in_order bytes game stands One refl)
+          (sets_in_order bytes game stands Two refl) some_scale
 
-    accepted : verdict numbers (with_bounds (game_head game settings) bounds) ≡ Ok (bracket low high)
-    accepted =
-        ap (verdict numbers) (sym certificate_is)
-        ∙ run_accepted.some_round numbers (game_head game settings) ends (sets_in_order bytes game stands One refl)
-        (sets_in_order bytes game stands Two refl) (head_of_game game settings) (some_unit bytes game stands)
-        some_scale are
+      holds_up : HoldsUpBy run.weight numbers settings.scale bounds
+      holds_up =
+          holds_in numbers run settings.rounds settings.every settings.scale ends
+          (sets_in_order bytes game stands One refl) (sets_in_order bytes game stands Two refl) sums are
 
-    shows : ShowsItsBounds numbers bounds
-    shows =
-        (shown numbers (game_head game settings) bounds low high (sets_in_order bytes game stands One refl)
-        (sets_in_order bytes game stands Two refl) (some_unit bytes game stands) accepted).2
+      shows : ShowsItsBoundsBy run.weight numbers bounds
+      shows =
+          shown_where_they_hold run.weight numbers settings.scale bounds (sets_in_order bytes game stands One refl)
+          (sets_in_order bytes game stands Two refl) (some_unit bytes game stands) holds_up
 
-    holds_up : HoldsUp numbers settings.scale bounds
-    holds_up = ((exact.with_bracket numbers (game_head game settings) bounds low high).0 accepted).1
+      trace : TraceNarrows numbers variant settings.scale bounds
+      trace = record {
+        within_earlier = λ j k line.
+            weighed_trace_never_widens numbers.form run settings.every settings.rounds j k line sums.some_weight;
+        last_low = sym shows.traced_low;
+        last_high = sym shows.traced_high;
+        low_round = holds_up.plan_one.root_is;
+        high_round = holds_up.plan_two.root_is;
+      }
 
-    trace : TraceNarrows numbers settings.scale bounds
-    trace = record {
-      within_earlier = λ j k line.
-          trace_of_run_never_widens numbers.form settings.scale settings.every settings.rounds j k line;
-      last_low = sym shows.traced_low;
-      last_high = sym shows.traced_high;
-      low_round = holds_up.plan_one.root_is;
-      high_round = holds_up.plan_two.root_is;
-    }
+      has_bounds : HasItsBounds variant game settings
+      has_bounds = record {
+        bounds = bounds;
+        are = ap (λ (c : Certificate). c.bounds) certificate_is;
+        text = ap (λ (c : Certificate). text_of_variant variant (in_version_two c)) certificate_is;
+        hold = bounds_hold run.weight numbers bounds shows variant settings.scale trace;
+      }
 
-    has_bounds : HasItsBounds game settings
-    has_bounds = record {
-      bounds = bounds;
-      are = ap (λ (c : Certificate). c.bounds) certificate_is;
-      text = ap (λ (c : Certificate). versioned_text (in_version_two c)) certificate_is;
-      hold = bounds_hold numbers bounds shows settings.scale trace;
-    }
-
-  -- what is printed of a game that a file stands for holds
-  pub read_game_has_bounds : (settings : Settings) → 1 ≤ settings.rounds → 1 ≤ settings.scale
-      → HasItsBounds game settings
-  read_game_has_bounds settings some_round some_scale =
-      let ends = runs_have_ends (form_of_file game) settings.scale settings.every settings.rounds some_round in
-      has_bounds settings some_scale ends.0 ends.1
+    -- what is printed of a game that a file stands for holds
+    pub read_game_has_bounds : 1 ≤ settings.rounds → 1 ≤ settings.scale → HasItsBounds variant game settings
+    read_game_has_bounds some_round some_scale =
+        let ends = weighed_runs_have_ends numbers.form run settings.every settings.rounds some_round in
+        has_bounds some_scale ends.0 ends.1
 
 -- what is printed of a game that was played holds
 pub played_games_have_bounds : PlayedGamesHaveTheirBounds
-played_games_have_bounds bytes game settings is some_round some_scale =
-    read_game_has_bounds bytes game is.readable.stands settings some_round some_scale
+played_games_have_bounds variant bytes game settings is some_round some_scale =
+    read_game_has_bounds bytes game is.readable.stands variant settings some_round some_scale
+
+-- ---- the files of a batch
+
+-- the bytes of a file whose game stands among the items
+record HasBytes (game : GameFile) : Type 0 where
+  bytes : List ℕ
+  accepted : IsAccepted bytes game
+
+of_entry : (entry : BatchEntry) (game : GameFile) → item_of entry ≡ Ok game → HasBytes game
+of_entry (Kept bytes) game is = record { bytes = bytes; accepted = ((judged_alone bytes).accepted game).0 is }
+of_entry Long game is = absurd cc
+
+item_at : (entries : List BatchEntry) (before : List (Result GameFile FileFault)) (game : GameFile)
+    (behind : List (Result GameFile FileFault)) → map item_of entries ≡ before ++ Ok game ∷ behind → HasBytes game
+item_at [] [] game behind is = absurd cc
+item_at [] (item ∷ before) game behind is = absurd cc
+item_at (entry ∷ entries) [] game behind is = let here : item_of entry ≡ Ok game = cc in of_entry entry game here
+item_at (entry ∷ entries) (item ∷ before) game behind is =
+    let rest : map item_of entries ≡ before ++ Ok game ∷ behind = cc in item_at entries before game behind rest
 
 -- ---- where the text that is meant was written
 module _ (words : List (List ℕ)) (told : List ℕ → Option (List ℕ)) (out : SinkCall)
-    (Holds : WeighedGame → ℕ → PrintedBounds → Type 0)
-    (holds : (game : WeighedGame) (scale : ℕ) (b : PrintedBounds) → BoundsHold game scale b → Holds game scale b) where
+    (Holds : WeighedGame → Variant → ℕ → PrintedBounds → Type 0)
+    (holds : (game : WeighedGame) (variant : Variant) (scale : ℕ) (b : PrintedBounds) → BoundsHold game variant scale b
+    → Holds game variant scale b) where
   abbrev IsWritten : Answer → Type 0
   IsWritten answer = (answer.status ≡ 0) × Wrote out answer.text
 
-  wrote_bounds : (game : GameFile) (settings : Settings) → HasItsBounds game settings
-      → Wrote out (solve_text game settings) → WroteBounds Holds out game settings
-  wrote_bounds game settings it wrote =
-      subst (λ (o : Option PrintedBounds). IsSomeAnd o
-      (λ b. Wrote out (versioned_text (in_version_two (with_bounds (game_head game settings) b)))
-      × Holds (weighed_game game) settings.scale b))
-      (sym it.are) (subst (Wrote out) it.text wrote, holds (weighed_game game) settings.scale it.bounds it.hold)
+  module _ (variant : Variant) (game : GameFile) (asked : Settings) where
+    -- where the text was written in its place, the bounds were written with it
+    wrote_bounds : HasItsBounds variant game asked → (front back : List ℕ)
+        → Wrote out (front ++ (played_text variant game asked ++ back))
+        → WroteBounds Holds out (record { variant = variant; game = game; settings = asked; front = front; back = back })
+    wrote_bounds it front back wrote =
+        subst (λ (o : Option PrintedBounds). IsSomeAnd o
+        (λ b. Wrote out (front ++ (text_of_variant variant (in_version_two (with_bounds (game_head game asked) b)) ++ back))
+        × Holds (weighed_game game) variant asked.scale b))
+        (sym it.are) (
+          subst (λ text. Wrote out (front ++ (text ++ back))) it.text wrote,
+          holds (weighed_game game) variant asked.scale it.bounds it.hold,
+        )
 
-  by_content : (content : Option (List ℕ)) (game : GameFile) (settings : Settings) → 1 ≤ settings.rounds
-      → 1 ≤ settings.scale → ((answer : Answer) → IsSomeAnd content (λ bytes. FileMeans (solved settings) bytes answer)
+    by_content : (content : Option (List ℕ)) → 1 ≤ asked.rounds → 1 ≤ asked.scale
+        → ((answer : Answer) → IsSomeAnd content (λ bytes. FileMeans (played variant asked) bytes answer)
+        → IsWritten answer)
+        → IsSomeAnd content (λ bytes. IsAccepted bytes game)
+        → WroteBounds Holds out (written_alone variant game asked)
+    by_content None some_round some_scale whole plays = absurd plays
+    by_content (Some bytes) some_round some_scale whole is =
+        wrote_bounds (played_games_have_bounds variant bytes game asked is some_round some_scale) [] []
+        (subst (Wrote out) (sym (append-nil (played_text variant game asked)))
+        (whole (success (played_text variant game asked)) (written game is refl)).1)
+
+  -- the same of a part that is this game's text alone
+  by_alone : (variant : Variant) (asked : Settings) (content : Option (List ℕ)) (part : PlayedPart) (game : GameFile)
+      → part ≡ written_alone variant game asked → 1 ≤ part.settings.rounds → 1 ≤ asked.scale
+      → ((answer : Answer) → IsSomeAnd content (λ bytes. FileMeans (played variant asked) bytes answer)
       → IsWritten answer)
-      → IsSomeAnd content (λ bytes. IsAccepted bytes game) → WroteBounds Holds out game settings
-  by_content None game settings some_round some_scale whole plays = absurd plays
-  by_content (Some bytes) game settings some_round some_scale whole is =
-      wrote_bounds game settings (played_games_have_bounds bytes game settings is some_round some_scale)
-      (whole (success (solve_text game settings)) (written game is refl)).1
+      → IsSomeAnd content (λ bytes. IsAccepted bytes game) → WroteBounds Holds out part
+  by_alone variant asked content part game is some_round some_scale whole plays =
+      subst (WroteBounds Holds out) (sym is) (by_content variant game asked content
+      (subst (λ (p : PlayedPart). 1 ≤ p.settings.rounds) is some_round) some_scale whole plays)
 
   -- a game that was made and solved has no fault, since its line would be meant
   faultless : (cards : ℕ) → least_cards ≤ cards → cards ≤ most_cards → (asked : Settings)
@@ -177,32 +216,50 @@ module _ (words : List (List ℕ)) (told : List ℕ → Option (List ℕ)) (out 
       (file_meant (solved asked) (canon (poker cards)) (read_as_accepted (canon (poker cards))) refl) in
       absurd (omega (arith, written.0, ap (λ (a : Answer). a.status) refused))
 
+  -- a file of a batch whose items stand so
+  by_part : (names : List (List ℕ)) (asked : Settings) (workers : Option ℕ) → 1 ≤ asked.scale
+      → ((answer : Answer) → IsMeant (Some (Batch names asked workers)) told answer → IsWritten answer)
+      → (part : PlayedPart) → CommandPlays (Batch names asked workers) told part → 1 ≤ part.settings.rounds
+      → WroteBounds Holds out part
+  by_part names asked workers some_scale whole part plays some_round =
+      let of = plays.2 in
+      let answer : Answer = success (batch_text asked plays.0) in
+      let means : IsMeant (Some (Batch names asked workers)) told answer =
+      batch_meant asked told names answer
+      (ap (option_map (λ files. success (batch_text asked files))) (all_told_is told names plays.0 plays.1)) in
+      let item = item_at (batch_entries batch_room plays.0) of.before part.game of.behind of.items in
+      subst (WroteBounds Holds out) (sym of.is)
+      (wrote_bounds variants.Plain part.game asked
+      (read_game_has_bounds item.bytes part.game item.accepted.readable.stands variants.Plain asked
+      (subst (λ (p : PlayedPart). 1 ≤ p.settings.rounds) of.is some_round) some_scale)
+      (parts_text asked 1 of.before ++ file_line (length of.before + 1)) (parts_text asked (length of.before + 2) of.behind)
+      (subst (Wrote out) (ap (parts_text asked 1) of.items ∙ text_between asked of.before part.game of.behind)
+      (whole answer means).1))
+
   by_command : (command : Option Command) → command_of_words words ≡ command
       → ((answer : Answer) → IsMeant command told answer → IsWritten answer)
-      → (game : GameFile) (settings : Settings) → IsPlayed command told game settings → 1 ≤ settings.rounds
-      → WroteBounds Holds out game settings
-  by_command (Some (Solve file asked workers)) is whole game settings plays some_round =
-      let same : settings ≡ asked = plays.1 in
-      let in_range = settings_in_range.of_solve words file asked workers is in
-      subst (λ (s : Settings). WroteBounds Holds out game s) (sym same)
-      (by_content (told file) game asked (subst (λ (s : Settings). 1 ≤ s.rounds) same some_round) in_range.some_scale
-      whole plays.0)
-  by_command (Some (Check file certificate)) is whole game settings plays some_round = absurd plays
-  by_command (Some (Upgrade file certificate)) is whole game settings plays some_round = absurd plays
-  by_command (Some (Info file)) is whole game settings plays some_round = absurd plays
-  by_command (Some (Gen cards)) is whole game settings plays some_round = absurd plays
-  by_command (Some (Drill cards asked workers)) is whole game settings plays some_round =
-      let same : settings ≡ asked = plays.1 in
-      let range = cards_in_range.of_drill words cards asked workers is in
-      let in_range = settings_in_range.of_drill words cards asked workers is in
+      → (part : PlayedPart) → IsPlayed command told part → 1 ≤ part.settings.rounds → WroteBounds Holds out part
+  by_command (Some (Solve file asked rows)) is whole part plays some_round =
+      by_alone variants.Plain asked (told file) part part.game plays.1 some_round
+      (settings_in_range.of_solve words file asked rows is).some_scale whole plays.0
+  by_command (Some (Plus file asked rows)) is whole part plays some_round =
+      by_alone variants.Plus asked (told file) part part.game plays.1 some_round
+      (settings_in_range.of_plus words file asked rows is).some_scale whole plays.0
+  by_command (Some (Batch names asked workers)) is whole part plays some_round =
+      by_part names asked workers (settings_in_range.of_batch words names asked workers is).some_scale whole part plays
+      some_round
+  by_command (Some (Check file certificate)) is whole part plays some_round = absurd plays
+  by_command (Some (Upgrade file certificate)) is whole part plays some_round = absurd plays
+  by_command (Some (Info file)) is whole part plays some_round = absurd plays
+  by_command (Some (Gen cards)) is whole part plays some_round = absurd plays
+  by_command (Some (Drill cards asked rows)) is whole part plays some_round =
+      let range = cards_in_range.of_drill words cards asked rows is in
+      let in_range = settings_in_range.of_drill words cards asked rows is in
       let none : game_file_fault (poker cards) ≡ None =
       faultless cards range.some range.few asked whole (game_file_fault (poker cards)) refl in
-      let accepted : IsAccepted (canon (poker cards)) game =
-      subst (IsAccepted (canon (poker cards))) (sym plays.0) (made_accepted cards range.some range.few none) in
-      subst (λ (s : Settings). WroteBounds Holds out game s) (sym same)
-      (by_content (Some (canon (poker cards))) game asked (subst (λ (s : Settings). 1 ≤ s.rounds) same some_round)
-      in_range.some_scale whole accepted)
-  by_command None is whole game settings plays some_round = absurd plays
+      by_alone variants.Plain asked (Some (canon (poker cards))) part (poker cards) plays some_round in_range.some_scale
+      whole (made_accepted cards range.some range.few none)
+  by_command None is whole part plays some_round = absurd plays
 
   -- the bounds were written with it, and hold
   pub each_played : ((answer : Answer) → Means words told answer → IsWritten answer)

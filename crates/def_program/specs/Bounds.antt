@@ -1,37 +1,42 @@
 -- What is written of a game that was played for at least one round: the bounds of both printed plans, in payoff units.
---     game_bounds game settings  the bounds that are printed of it, where a round is played
+--     game_bounds variant game settings
+--                                the bounds that are printed of it, where a round is played
 --     GetsLow, ConcedesHigh      each printed plan keeps its bound against every plan of the other player
 --     RepliesAttain              the printed replies attain both bounds
 --     TraceNarrows               no trace line is wider than an earlier one, and the last one has both plans and bounds
 --     GapIsExploitability        the bounds are apart by the total exploitability of both plans
 --     NoPlanDoesBetter           no plan is sure of more than the other player's bound
 --     BoundsHold                 all of this
+--     PlayedPart, IsPlayed       a game that words play, with what is written before and behind its text
 --     ForEachPlayed              what holds of the bounds that were written of the games that words play
-use Rattle.std.specs.Prelude.{◌≡◌, ℕ, ◌*◌, ◌<◌, ◌≤◌, List, length, slice_index_or, ℤ, pos, ◌-ℤ◌, ◌*ℤ◌, ◌≤ℤ◌, Option, Some, None, IsSomeAnd}
+use Rattle.std.specs.Prelude.{◌≡◌, ℕ, ◌+◌, ◌*◌, ◌<◌, ◌≤◌, List, [], ◌∷◌, ◌++◌, map, length, slice_index_or, ℤ, pos, ◌-ℤ◌, ◌*ℤ◌, ◌≤ℤ◌, Option, Some, None, IsSomeAnd, Result, Ok}
 use Rattle.def_outside.specs.Calls.{SinkCall, Wrote}
+use Rattle.def_file.specs.declared.FileFault.{FileFault}
 use Rattle.def_file.specs.Content.{GameFile}
 use Rattle.def_fraction.specs.Fraction.{Fraction}
 use Rattle.def_fraction.specs.Laws.{HasValue}
 use Rattle.def_plan.specs.Plan.{IsPlan, pure_plan}
 use Rattle.def_reply.specs.Reply.{choices_of}
 use Rattle.def_reply.specs.Bounds.{IsFloor, IsCeiling, AttainsFloor, AttainsCeiling, IsExploitability}
-use Rattle.def_reply.specs.Bracket.{LiesWithin}
+use Rattle.def_reply.specs.Bracket.{LiesWithinBy}
 use Rattle.def_reply.specs.declared.TraceLine.{TraceLine}
 use Rattle.def_cert_verdict.specs.Certificate.{PrintedBounds, printed_numbers, last_line}
 use Rattle.def_plan.specs.Weighed.{WeighedGame}
 use Rattle.def_cert_verdict.specs.Laws.{GetsAtLeast, ConcedesAtMost, IsTotalOver, with_bounds}
-use Rattle.def_cert_accepted.specs.OfOutcome.{certificate_of}
-use Rattle.def_cert_text.specs.CertText.{versioned_text}
 use Rattle.def_cert_versions.specs.Verdict.{in_version_two}
-use Rattle.def_command.specs.Grammar.{Check, Command, Drill, Gen, Info, Settings, Solve, Upgrade, command_of_words}
-use Rattle.def_program.specs.Text.{form_of_file, game_head, game_outcome, solve_text}
+use Rattle.def_plus.specs.declared.Variant.{Variant}
+use Rattle.def_plus.specs.declared.Variant.TheVariants as variants
+use Rattle.def_plus.specs.Variants.{weight_of}
+use Rattle.def_command.specs.Grammar.{Batch, Check, Command, Drill, Gen, Info, Plus, Settings, Solve, Upgrade, command_of_words}
+use Rattle.def_program.specs.BatchText.{batch_items, file_line, parts_text}
+use Rattle.def_program.specs.Text.{game_head, game_certificate, played_text, text_of_variant}
 use Rattle.def_canon.specs.Poker.{poker}
 use Rattle.def_check.specs.Accepted.{IsAccepted}
 use Rattle.def_game_numbers.specs.Weighed.{weighed_game}
 
--- the bounds in the certificate of what the rounds leave
-abbrev pub game_bounds : GameFile → Settings → Option PrintedBounds
-game_bounds game settings = (certificate_of (form_of_file game) (game_outcome game settings)).bounds
+-- the bounds in the numbers of what the rounds leave
+abbrev pub game_bounds : Variant → GameFile → Settings → Option PrintedBounds
+game_bounds variant game settings = (game_certificate variant game settings).bounds
 
 -- ---- what holds of printed bounds
 
@@ -57,15 +62,16 @@ pub record RepliesAttain (game : WeighedGame) (b : PrintedBounds) : Type 0 where
       (pure_plan game.form.sets_one (choices_of b.reply_one.sets))
   pub high : IsTotalOver b.high b.reply_one.total (game.unit * b.plan_two.root)
 
--- no line is wider than an earlier one, and the last one has the totals of both replies, and for each plan the round
--- after which it stood: its root is so many rounds times the scale
-pub record TraceNarrows (game : WeighedGame) (scale : ℕ) (b : PrintedBounds) : Type 0 where
+-- no line is wider than an earlier one, each bound over what the rounds up to its own weigh; and the last one has the
+-- totals of both replies, and for each plan the round after which it stood: its root is what the rounds up to this one
+-- weigh times the scale
+pub record TraceNarrows (game : WeighedGame) (variant : Variant) (scale : ℕ) (b : PrintedBounds) : Type 0 where
   pub within_earlier : (j k : ℕ) (line : TraceLine) → j ≤ k → k < length b.trace
-      → LiesWithin (slice_index_or b.trace k line) (slice_index_or b.trace j line)
+      → LiesWithinBy (λ n. weight_of variant n) (slice_index_or b.trace k line) (slice_index_or b.trace j line)
   pub last_low : (last_line b.trace).low ≡ b.reply_two.total
   pub last_high : (last_line b.trace).high ≡ b.reply_one.total
-  pub low_round : b.plan_one.root ≡ (last_line b.trace).low_round * scale
-  pub high_round : b.plan_two.root ≡ (last_line b.trace).high_round * scale
+  pub low_round : b.plan_one.root ≡ weight_of variant (last_line b.trace).low_round * scale
+  pub high_round : b.plan_two.root ≡ weight_of variant (last_line b.trace).high_round * scale
 
 -- f less g, not in lowest terms
 abbrev pub difference : Fraction → Fraction → Fraction
@@ -85,46 +91,83 @@ pub record NoPlanDoesBetter (game : WeighedGame) (b : PrintedBounds) : Type 0 wh
   pub ceilings : (root : ℕ) (plan : List ℕ) (ceiling : ℤ) → IsPlan game.form.sets_two root plan
       → IsCeiling game.form plan ceiling → (b.low.num *ℤ pos (game.unit * root)) ≤ℤ (ceiling *ℤ pos b.low.den)
 
--- all of it holds of printed bounds, where each round deals out the scale
-pub record BoundsHold (game : WeighedGame) (scale : ℕ) (b : PrintedBounds) : Type 0 where
+-- all of it holds of printed bounds, where each round of the variant deals out the scale
+pub record BoundsHold (game : WeighedGame) (variant : Variant) (scale : ℕ) (b : PrintedBounds) : Type 0 where
   pub lower : GetsLow game b
   pub upper : ConcedesHigh game b
   pub attained : RepliesAttain game b
-  pub trace : TraceNarrows game scale b
+  pub trace : TraceNarrows game variant scale b
   pub gap : GapIsExploitability game b
   pub value : NoPlanDoesBetter game b
 
 -- so it does of the bounds that are printed of a game
-pub record HasItsBounds (game : GameFile) (settings : Settings) : Type 0 where
+pub record HasItsBounds (variant : Variant) (game : GameFile) (settings : Settings) : Type 0 where
   pub bounds : PrintedBounds
-  pub are : game_bounds game settings ≡ Some bounds
-  pub text : solve_text game settings ≡ versioned_text (in_version_two (with_bounds (game_head game settings) bounds))
-  pub hold : BoundsHold (weighed_game game) settings.scale bounds
+  pub are : game_bounds variant game settings ≡ Some bounds
+  pub text : played_text variant game settings
+      ≡ text_of_variant variant (in_version_two (with_bounds (game_head game settings) bounds))
+  pub hold : BoundsHold (weighed_game game) variant settings.scale bounds
 
 -- ---- the games that words play
 
--- the command plays this game with these settings: `solve` that of an accepted file, `drill` one-card poker
-abbrev pub CommandPlays : Command → (List ℕ → Option (List ℕ)) → GameFile → Settings → Type 0
-CommandPlays (Solve file asked workers) told game settings =
-    IsSomeAnd (told file) (λ bytes. IsAccepted bytes game) × (settings ≡ asked)
-CommandPlays (Check file certificate) told game settings = ⊥
-CommandPlays (Upgrade file certificate) told game settings = ⊥
-CommandPlays (Info file) told game settings = ⊥
-CommandPlays (Gen cards) told game settings = ⊥
-CommandPlays (Drill cards asked workers) told game settings = (game ≡ poker cards) × (settings ≡ asked)
+-- rounds of this variant on this game with these settings, whose text has this before it and that behind it
+pub record PlayedPart : Type 0 where
+  pub variant : Variant
+  pub game : GameFile
+  pub settings : Settings
+  pub front : List ℕ
+  pub back : List ℕ
 
-abbrev pub IsPlayed : Option Command → (List ℕ → Option (List ℕ)) → GameFile → Settings → Type 0
-IsPlayed None told game settings = ⊥
-IsPlayed (Some command) told game settings = CommandPlays command told game settings
+-- a game's text that is written alone
+abbrev pub written_alone : Variant → GameFile → Settings → PlayedPart
+written_alone variant game settings =
+    record { variant = variant; game = game; settings = settings; front = []; back = [] }
 
--- the text with the game's bounds was written, and this holds of them
-abbrev pub WroteBounds : (WeighedGame → ℕ → PrintedBounds → Type 0) → SinkCall → GameFile → Settings → Type 0
-WroteBounds Holds out game settings = IsSomeAnd (game_bounds game settings)
-    (λ b. Wrote out (versioned_text (in_version_two (with_bounds (game_head game settings) b)))
-    × Holds (weighed_game game) settings.scale b)
+-- the game of a batch that comes behind these items and before those: the lines with the files' numbers are counted on
+abbrev pub written_between : Settings → List (Result GameFile FileFault) → GameFile → List (Result GameFile FileFault)
+    → PlayedPart
+written_between settings before game behind = record {
+  variant = variants.Plain;
+  game = game;
+  settings = settings;
+  front = parts_text settings 1 before ++ file_line (length before + 1);
+  back = parts_text settings (length before + 2) behind;
+}
+
+-- an accepted file among these
+pub record IsPartOf (settings : Settings) (files : List (List ℕ)) (part : PlayedPart) : Type 0 where
+  pub before : List (Result GameFile FileFault)
+  pub behind : List (Result GameFile FileFault)
+  pub items : batch_items files ≡ before ++ Ok part.game ∷ behind
+  pub is : part ≡ written_between settings before part.game behind
+
+-- the command plays this: `solve` and `plus` the game of an accepted file, `drill` one-card poker, and `batch` each of its
+-- files that is accepted
+abbrev pub CommandPlays : Command → (List ℕ → Option (List ℕ)) → PlayedPart → Type 0
+CommandPlays (Solve file asked rows) told part =
+    IsSomeAnd (told file) (λ bytes. IsAccepted bytes part.game) × (part ≡ written_alone variants.Plain part.game asked)
+CommandPlays (Check file certificate) told part = ⊥
+CommandPlays (Upgrade file certificate) told part = ⊥
+CommandPlays (Info file) told part = ⊥
+CommandPlays (Gen cards) told part = ⊥
+CommandPlays (Drill cards asked rows) told part = part ≡ written_alone variants.Plain (poker cards) asked
+CommandPlays (Plus file asked rows) told part =
+    IsSomeAnd (told file) (λ bytes. IsAccepted bytes part.game) × (part ≡ written_alone variants.Plus part.game asked)
+CommandPlays (Batch files asked workers) told part =
+    (contents : List (List ℕ)) × (map told files ≡ map Some contents) × IsPartOf asked contents part
+
+abbrev pub IsPlayed : Option Command → (List ℕ → Option (List ℕ)) → PlayedPart → Type 0
+IsPlayed None told part = ⊥
+IsPlayed (Some command) told part = CommandPlays command told part
+
+-- the text with the game's bounds was written in its place, and this holds of them
+abbrev pub WroteBounds : (WeighedGame → Variant → ℕ → PrintedBounds → Type 0) → SinkCall → PlayedPart → Type 0
+WroteBounds Holds out part = IsSomeAnd (game_bounds part.variant part.game part.settings)
+    (λ b. Wrote out (part.front ++ (text_of_variant part.variant (in_version_two (with_bounds (game_head part.game part.settings) b)) ++ part.back))
+    × Holds (weighed_game part.game) part.variant part.settings.scale b)
 
 -- so it is for each game that the words play for at least one round
 abbrev pub ForEachPlayed : List (List ℕ) → (List ℕ → Option (List ℕ)) → SinkCall
-    → (WeighedGame → ℕ → PrintedBounds → Type 0) → Type 0
-ForEachPlayed words told out Holds = (game : GameFile) (settings : Settings)
-    → IsPlayed (command_of_words words) told game settings → 1 ≤ settings.rounds → WroteBounds Holds out game settings
+    → (WeighedGame → Variant → ℕ → PrintedBounds → Type 0) → Type 0
+ForEachPlayed words told out Holds = (part : PlayedPart) → IsPlayed (command_of_words words) told part
+    → 1 ≤ part.settings.rounds → WroteBounds Holds out part

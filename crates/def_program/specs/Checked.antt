@@ -16,7 +16,9 @@ use Rattle.def_cert_versions.specs.Verdict.{upgraded}
 use Rattle.def_cert_versions.specs.Laws.{HasItsSecond}
 use Rattle.def_check.specs.Checking.{AreRead}
 use Rattle.def_game_numbers.specs.Weighed.{weighed_game}
-use Rattle.def_command.specs.Grammar.{Check, Command, Drill, Gen, Info, Solve, Upgrade, command_of_words}
+use Rattle.def_plus.specs.declared.Variant.{Variant}
+use Rattle.def_plus.specs.declared.Variant.TheVariants.{Plain}
+use Rattle.def_command.specs.Grammar.{Batch, Check, Command, Drill, Gen, Info, Plus, Solve, Upgrade, command_of_words}
 use Rattle.def_program.specs.CheckLines.{verdict_text}
 
 -- ---- what holds of an accepted certificate
@@ -25,25 +27,27 @@ use Rattle.def_program.specs.CheckLines.{verdict_text}
 -- its second bracket is what the sum leaves of its bounds. Its verdict has its bounds, or says that there are none, and
 -- this is so of the certificate and that verdict; of the bounds this holds in the file's game.
 pub record HoldsOfFile (file bytes : List ℕ) (IsVerdict : VersionedCertificate → Verdict → Type 0)
-    (Holds : WeighedGame → ℕ → PrintedBounds → Type 0) : Type 0 where
+    (Holds : WeighedGame → Variant → ℕ → PrintedBounds → Type 0) : Type 0 where
   pub game : GameFile
   pub certificate : VersionedCertificate
   pub read : AreRead file bytes game certificate
   pub head : IsHeadOf (weighed_game game) certificate.certificate.head
   pub second : HasItsSecond certificate
   pub verdict : IsVerdict certificate (shown_by certificate.certificate.bounds)
-  pub bounds : IfSome certificate.certificate.bounds (Holds (weighed_game game) certificate.certificate.head.scale)
+  pub bounds : IfSome certificate.certificate.bounds (Holds (weighed_game game) Plain certificate.certificate.head.scale)
 
 -- ---- the certificates that words check
 
 -- the command checks a certificate of these bytes against the file of these
 abbrev pub CommandChecks : Command → (List ℕ → Option (List ℕ)) → List ℕ → List ℕ → Type 0
-CommandChecks (Solve name asked workers) told file bytes = ⊥
+CommandChecks (Solve name asked rows) told file bytes = ⊥
 CommandChecks (Check name certificate) told file bytes = (told name ≡ Some file) × (told certificate ≡ Some bytes)
 CommandChecks (Upgrade name certificate) told file bytes = (told name ≡ Some file) × (told certificate ≡ Some bytes)
 CommandChecks (Info name) told file bytes = ⊥
 CommandChecks (Gen cards) told file bytes = ⊥
-CommandChecks (Drill cards asked workers) told file bytes = ⊥
+CommandChecks (Drill cards asked rows) told file bytes = ⊥
+CommandChecks (Plus name asked rows) told file bytes = ⊥
+CommandChecks (Batch names asked workers) told file bytes = ⊥
 
 abbrev pub AreChecked : Option Command → (List ℕ → Option (List ℕ)) → List ℕ → List ℕ → Type 0
 AreChecked None told file bytes = ⊥
@@ -58,6 +62,6 @@ checked_text command c shown = verdict_text shown
 -- where the words check a certificate against a file, and both are told: what the command writes of it was written, and
 -- of the bounds, where it has any, this holds
 abbrev pub ForEachChecked : List (List ℕ) → (List ℕ → Option (List ℕ)) → SinkCall
-    → (WeighedGame → ℕ → PrintedBounds → Type 0) → Type 0
+    → (WeighedGame → Variant → ℕ → PrintedBounds → Type 0) → Type 0
 ForEachChecked words told out Holds = (file bytes : List ℕ) → AreChecked (command_of_words words) told file bytes
     → HoldsOfFile file bytes (λ c verdict. Wrote out (checked_text (command_of_words words) c verdict)) Holds

@@ -7,6 +7,7 @@ use Rattle.def_cert_text.specs.Versions.{VersionedCertificate}
 use Rattle.def_cert_text.specs.CertText.{versioned_text}
 use Rattle.def_cert_versions.specs.Verdict.{upgraded}
 use Rattle.def_check.specs.Checking.{Checks, IsTextOf}
+use Rattle.def_plus.specs.declared.Variant.{Variant}
 use Rattle.def_command.specs.Grammar.{Settings}
 use Rattle.def_check.specs.Accepted.{IsAccepted}
 use Rattle.def_program.specs.CheckLines.{upgraded_text}
@@ -38,8 +39,8 @@ UpgradesAreWritten = (bytes : List ℕ) (certificate : VersionedCertificate) (sh
 
 -- an accepted file's game, played at least one round at any scale from 1, has its bounds, and they hold of it
 abbrev pub PlayedGamesHaveTheirBounds : Type 0
-PlayedGamesHaveTheirBounds = (bytes : List ℕ) (game : GameFile) (settings : Settings) → IsAccepted bytes game
-    → 1 ≤ settings.rounds → 1 ≤ settings.scale → HasItsBounds game settings
+PlayedGamesHaveTheirBounds = (variant : Variant) (bytes : List ℕ) (game : GameFile) (settings : Settings)
+    → IsAccepted bytes game → 1 ≤ settings.rounds → 1 ≤ settings.scale → HasItsBounds variant game settings
 
 -- whoever wrote the certificate: what a check shows of it holds of the game of the file
 abbrev pub AcceptedCertificatesHold : Type 0

@@ -1,5 +1,6 @@
 pub mod Text
 pub mod TextLines
+pub mod BatchText
 pub mod CheckLines
 pub mod TextRows
 pub mod TextLaws

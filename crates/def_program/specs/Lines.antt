@@ -9,18 +9,20 @@ use Rattle.def_check.specs.Check.{most_cert_bytes}
 use Rattle.def_program.specs.TextLines.{fault_line, usage_line, read_line, write_line, memory_line}
 use Rattle.def_program.specs.CheckLines.{cert_fault_line, cert_long_line, test_fault_line}
 use Rattle.def_file.specs.Reading.{most_bytes}
-use Rattle.def_command.specs.Grammar.{Check, Command, Drill, Gen, Info, Solve, Upgrade, command_of_words}
+use Rattle.def_command.specs.Grammar.{Batch, Check, Command, Drill, Gen, Info, Plus, Solve, Upgrade, command_of_words}
 use Rattle.def_program.specs.Meaning.{EachMeant, Means}
 
 -- the command checks a certificate, and writes its verdict or its upgrade
 abbrev pub IsCheck : Option Command → Type 0
 IsCheck None = ⊥
-IsCheck (Some (Solve file settings workers)) = ⊥
+IsCheck (Some (Solve file settings rows)) = ⊥
 IsCheck (Some (Check file certificate)) = Unit {0}
 IsCheck (Some (Upgrade file certificate)) = Unit {0}
 IsCheck (Some (Info file)) = ⊥
 IsCheck (Some (Gen cards)) = ⊥
-IsCheck (Some (Drill cards settings workers)) = ⊥
+IsCheck (Some (Drill cards settings rows)) = ⊥
+IsCheck (Some (Plus file settings rows)) = ⊥
+IsCheck (Some (Batch files settings workers)) = ⊥
 
 -- The line goes with the status, where so many bytes were taken of the file that was opened last. Only where a
 -- certificate is checked, which `checks` says, a fault of it is said. That a file or a certificate is too long comes

@@ -2,7 +2,8 @@
 -- isn't told, that answer isn't meant.
 --     CommandMeans command told a    the command means this answer, by cases of the command
 --     Means words told a             the words mean it
-use Rattle.std.specs.Prelude.{◌≡◌, ◌⊎◌, ℕ, ◌<◌, ◌≤◌, List, length, All, Option, Some, None, IsSome, IsSomeAnd, Result}
+use Rattle.std.specs.Prelude.{◌≡◌, ◌⊎◌, ℕ, ◌<◌, ◌≤◌, List, length, map, All, Option, Some, None, IsSome, IsSomeAnd, Result, Ok, Err}
+use Rattle.std.specs.List.{AllZip}
 use Rattle.def_file.specs.declared.FileFault.{FileFault}
 use Rattle.def_file.specs.Content.{GameFile}
 use Rattle.def_file.specs.declared.FileFault.TheVariants.{TooLong}
@@ -13,11 +14,15 @@ use Rattle.def_canon.specs.Poker.{poker}
 use Rattle.def_check.specs.Check.{Refusal, most_cert_bytes}
 use Rattle.def_check.specs.Checking.{Checks}
 use Rattle.def_check.specs.Accepted.{IsAccepted}
-use Rattle.def_command.specs.Grammar.{Check, Command, Drill, Gen, Info, Solve, Upgrade, command_of_words, named_files}
+use Rattle.def_batch.specs.Batch.{BatchEntry, Kept, Long, batch_room}
+use Rattle.def_batch.specs.Laws.{HaveEntries}
+use Rattle.def_command.specs.Grammar.{Batch, Check, Command, Drill, Gen, Info, Plus, Settings, Solve, Upgrade, command_of_words, named_files}
 use Rattle.def_program.specs.Text.{info_text}
+use Rattle.def_program.specs.BatchText.{parts_text}
 use Rattle.def_program.specs.TextLines.{fault_line}
 use Rattle.def_program.specs.CheckLines.{cert_long_line, check_text, upgraded_text}
-use Rattle.def_program.specs.Program.{Answer, check_answer, refusal, solved, success, usage}
+use Rattle.def_plus.specs.declared.Variant.TheVariants as variants
+use Rattle.def_program.specs.Program.{Answer, check_answer, played, refusal, solved, success, usage}
 use Rattle.def_check.specs.FirstFault.{IsFirstFault}
 
 -- a command that writes this text of the game of a file of these bytes: the text, or the line of the file's first fault
@@ -47,15 +52,37 @@ pub data CheckMeans (text : List ℕ → Verdict → List ℕ) (file : List ℕ)
 abbrev pub BothMean : (List ℕ → Verdict → List ℕ) → Option (List ℕ) → Option (List ℕ) → Answer → Type 0
 BothMean text file certificate answer = IsSomeAnd file (λ bytes. CheckMeans text bytes certificate answer)
 
+-- an item is what an entry stands for: the game of an accepted file, or the first fault of one that isn't
+abbrev pub IsItemOfEntry : BatchEntry → Result GameFile FileFault → Type 0
+IsItemOfEntry (Kept bytes) (Ok game) = IsAccepted bytes game
+IsItemOfEntry (Kept bytes) (Err fault) = IsFirstFault bytes fault
+IsItemOfEntry Long item = item ≡ Err TooLong
+
+-- files of these bytes: each is kept, or too long for the room that the earlier ones leave, and the text has a part for
+-- each in their order, whatever the others are
+pub record BatchMeans (settings : Settings) (files : List (List ℕ)) (answer : Answer) : Type 0 where
+  pub entries : List BatchEntry
+  pub items : List (Result GameFile FileFault)
+  pub have : HaveEntries batch_room files entries
+  pub stand : AllZip IsItemOfEntry entries items
+  pub text : answer ≡ success (parts_text settings 1 items)
+
+-- a batch means something only where all its files are told
+abbrev pub AllMean : Settings → List (Option (List ℕ)) → Answer → Type 0
+AllMean settings contents answer = (files : List (List ℕ)) × (contents ≡ map Some files) × BatchMeans settings files answer
+
 -- `gen` means the canonical form of one-card poker, and `drill` what `solve` means of a file of these bytes
 abbrev pub CommandMeans : Command → (List ℕ → Option (List ℕ)) → Answer → Type 0
-CommandMeans (Solve file settings workers) told answer =
+CommandMeans (Solve file settings rows) told answer =
     IsSomeAnd (told file) (λ bytes. FileMeans (solved settings) bytes answer)
 CommandMeans (Info file) told answer = IsSomeAnd (told file) (λ bytes. FileMeans info_text bytes answer)
 CommandMeans (Check file certificate) told answer = BothMean check_text (told file) (told certificate) answer
 CommandMeans (Upgrade file certificate) told answer = BothMean upgraded_text (told file) (told certificate) answer
 CommandMeans (Gen cards) told answer = answer ≡ success (canon (poker cards))
-CommandMeans (Drill cards settings workers) told answer = FileMeans (solved settings) (canon (poker cards)) answer
+CommandMeans (Drill cards settings rows) told answer = FileMeans (solved settings) (canon (poker cards)) answer
+CommandMeans (Plus file settings rows) told answer =
+    IsSomeAnd (told file) (λ bytes. FileMeans (played variants.Plus settings) bytes answer)
+CommandMeans (Batch files settings workers) told answer = AllMean settings (map told files) answer
 
 -- words that aren't taken mean the usage
 abbrev pub IsMeant : Option Command → (List ℕ → Option (List ℕ)) → Answer → Type 0

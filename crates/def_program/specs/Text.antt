@@ -1,7 +1,9 @@
 -- The texts that are written of a file's game: the certificate of its solution, and what `info` tells.
 --     game_head game settings      the game's numbers, with what is asked
---     game_outcome game settings   what the rounds leave
---     solve_text game settings   the certificate of the outcome, in version 2
+--     game_outcome variant game settings   what the rounds leave
+--     game_certificate variant game settings   its numbers, as a certificate has them
+--     played_text variant game settings   their text: a certificate of version 2, or the text of a run of CFR+
+--     solve_text game settings   the text of plain rounds
 --     info_text game             its title and players, and its numbers
 use Rattle.std.specs.Prelude.{ℕ, List, [], ◌∷◌, ◌++◌, codes, length}
 use Rattle.def_sums.specs.Limits.{most_scale}
@@ -14,9 +16,14 @@ use Rattle.def_game_numbers.specs.Numbers.{tables_of}
 use Rattle.def_plan.specs.Form.{SequenceForm, sequence_count}
 use Rattle.def_sequence_form.specs.Form.{form_of_game}
 use Rattle.def_reply.specs.Outcome.{Head, Outcome}
-use Rattle.def_run.specs.Run.{outcome}
+use Rattle.def_plus.specs.declared.Variant.{Variant}
+use Rattle.def_plus.specs.declared.Variant.TheVariants.{Plain, Plus}
+use Rattle.def_plus_run.specs.VariantRun.{outcome_of}
+use Rattle.def_cert_verdict.specs.Certificate.{Certificate}
 use Rattle.def_cert_accepted.specs.OfOutcome.{certificate_of}
+use Rattle.def_cert_text.specs.Versions.{VersionedCertificate}
 use Rattle.def_cert_text.specs.CertText.{head_text, versioned_text}
+use Rattle.def_cert_text.specs.PlusText.{plus_text}
 use Rattle.def_cert_versions.specs.Verdict.{in_version_two}
 use Rattle.def_command.specs.Grammar.{Settings}
 
@@ -49,12 +56,22 @@ head_asked game form settings = record {
 abbrev pub game_head : GameFile → Settings → Head
 game_head game settings = head_asked game (form_of_file game) settings
 
-abbrev pub game_outcome : GameFile → Settings → Outcome
-game_outcome game settings = outcome (form_of_file game) (game_head game settings)
+abbrev pub game_outcome : Variant → GameFile → Settings → Outcome
+game_outcome variant game settings = outcome_of variant (form_of_file game) (game_head game settings)
+
+abbrev pub game_certificate : Variant → GameFile → Settings → Certificate
+game_certificate variant game settings = certificate_of (form_of_file game) (game_outcome variant game settings)
+
+-- the bounds of plain rounds are written as a certificate; those of CFR+ in the same lines below a line of their own
+abbrev pub text_of_variant : Variant → VersionedCertificate → List ℕ
+text_of_variant Plain c = versioned_text c
+text_of_variant Plus c = plus_text c
+
+abbrev pub played_text : Variant → GameFile → Settings → List ℕ
+played_text variant game settings = text_of_variant variant (in_version_two (game_certificate variant game settings))
 
 abbrev pub solve_text : GameFile → Settings → List ℕ
-solve_text game settings =
-    versioned_text (in_version_two (certificate_of (form_of_file game) (game_outcome game settings)))
+solve_text game settings = played_text Plain game settings
 
 -- a text between quotation marks
 abbrev pub between_marks : List ℕ → List ℕ

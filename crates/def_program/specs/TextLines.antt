@@ -41,8 +41,8 @@ fault_line (NotRecall node earlier) =
 fault_line (Scale node) = node_line (codes "19 Scale") node
 
 abbrev pub usage_line : List ℕ
-usage_line = codes "usage: xg_solve solve FILE [--rounds N] [--every N] [--scale N] [--workers N]"
-    ++ (codes " | check FILE CERT | upgrade FILE CERT | info FILE | gen N | drill N" ++ line_feed)
+usage_line = codes "usage: xg_solve solve FILE [--rounds N] [--every N] [--scale N] [--workers N] [--atomic N]"
+    ++ (codes " | check FILE CERT | upgrade FILE CERT | info FILE | gen N | drill N | plus FILE | batch FILE..." ++ line_feed)
 
 abbrev pub read_line : List ℕ
 read_line = codes "read fault" ++ line_feed

@@ -31,6 +31,7 @@ use Rattle.def_cert_versions.proofs.PlayerTwo.{bounds_player_two}
 use Rattle.def_check.specs.Accepted.{IsAccepted}
 use Rattle.def_check.proofs.Checked.{test_first, tested_ok}
 use Rattle.def_check.proofs.InNumbers.{faultless_game}
+use Rattle.def_plus.specs.declared.Variant.{Variant}
 use Rattle.def_program.specs.Bounds.{BoundsHold}
 use Rattle.def_program_laws.specs.Bounds.{AcceptedSecondsBoundPlayerTwo, BoundsHoldForBothPlayers, HoldForBothPlayers}
 
@@ -68,8 +69,8 @@ less_in_units f g gap units some_f some_g some value =
     less : (a b c : ℤ) → c ≡ neg_ℤ b → a -ℤ b ≡ a +ℤ c
     less a b c e = omega (arith, ints, e)
 
-module _ (game : GameFile) (constant : IsConstantGame (tables_of game) game.tree) (scale : ℕ) (b : PrintedBounds)
-    (holds : BoundsHold (weighed_game game) scale b) where
+module _ (game : GameFile) (constant : IsConstantGame (tables_of game) game.tree) (variant : Variant) (scale : ℕ)
+    (b : PrintedBounds) (holds : BoundsHold (weighed_game game) variant scale b) where
   abbrev tables : Tables
   tables = tables_of game
 
@@ -171,7 +172,7 @@ module _ (game : GameFile) (constant : IsConstantGame (tables_of game) game.tree
 
 -- bounds that hold of an accepted file's game bound both players
 pub for_both : BoundsHoldForBothPlayers
-for_both bytes game scale b is holds = hold_for_both game (constant_game bytes game is) scale b holds
+for_both bytes game variant scale b is holds = hold_for_both game (constant_game bytes game is) variant scale b holds
 
 -- the second bracket of an accepted text bounds player two
 pub seconds_bound : AcceptedSecondsBoundPlayerTwo

@@ -9,6 +9,7 @@ use Rattle.def_constant_sum.specs.Bounds.{IsAtMost}
 use Rattle.def_cert_verdict.specs.Certificate.{PrintedBounds, printed_numbers}
 use Rattle.def_plan.specs.Weighed.{WeighedGame}
 use Rattle.def_cert_verdict.specs.Laws.{ConcedesAtMost, GetsAtLeast}
+use Rattle.def_plus.specs.declared.Variant.{Variant}
 use Rattle.def_program.specs.Bounds.{BoundsHold}
 use Rattle.def_program_laws.specs.Bounds.{BoundsAreSharp}
 
@@ -38,8 +39,8 @@ module _ (f g : Fraction) (total : ℤ) (scale : ℕ) (some : 1 ≤ scale) (valu
 
 -- ---- bounds
 
-module _ (game : WeighedGame) (scale : ℕ) (b : PrintedBounds) (bound : Fraction) (some_unit : 1 ≤ game.unit)
-    (holds : BoundsHold game scale b) where
+module _ (game : WeighedGame) (variant : Variant) (scale : ℕ) (b : PrintedBounds) (bound : Fraction)
+    (some_unit : 1 ≤ game.unit) (holds : BoundsHold game variant scale b) where
   some_product : (root : ℕ) → 1 ≤ root → 1 ≤ game.unit * root
   some_product root some = omega (arith, mul-le 1 1 game.unit root some_unit some)
 

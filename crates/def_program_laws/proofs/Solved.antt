@@ -13,14 +13,15 @@ use Rattle.def_run.proofs.RunLaws.{runs_have_ends}
 use Rattle.def_cert_verdict.specs.Certificate.{PrintedBounds, Certificate}
 use Rattle.def_cert_verdict.specs.Verdict.{Verdict, bracket, head_only, verdict}
 use Rattle.def_cert_verdict.proofs.VerdictIsExact.{exact}
-use Rattle.def_cert_accepted.specs.OfOutcome.{certificate_of}
 use Rattle.def_cert_accepted.proofs.Accepted.{accepted as run_accepted}
 use Rattle.def_cert_accepted.proofs.Fits.{fits_always}
 use Rattle.def_cert_verdict.specs.Ranges.{CertificateFits}
 use Rattle.def_cert_text.specs.Versions.{VersionedCertificate, VersionedFits, in_version_one}
 use Rattle.def_cert_text.specs.CertText.{versioned_text}
-use Rattle.def_cert_text.proofs.TextLaws.{versioned_reading}
-use Rattle.def_cert_versions.specs.Verdict.{upgraded, versioned_verdict}
+use Rattle.def_cert_text.specs.declared.fault.CertFault.TheVariants.{CertSyntax}
+use Rattle.def_cert_text.proofs.PlusTexts.{no_certificates}
+use Rattle.def_cert_text.proofs.TextLaws.{first_versioned_fault, versioned_reading}
+use Rattle.def_cert_versions.specs.Verdict.{in_version_two, upgraded, versioned_verdict}
 use Rattle.def_cert_versions.proofs.VersionedVerdict.{old_verdicts}
 use Rattle.def_cert_versions.proofs.Upgrades.{upgraded_texts}
 use Rattle.def_check.specs.Accepting.{read_as_accepted}
@@ -29,8 +30,8 @@ use Rattle.def_check.specs.Accepted.{IsAccepted}
 use Rattle.def_game_numbers.specs.Weighed.{weighed_game}
 use Rattle.def_check.proofs.InNumbers.{faultless_game, sets_in_order, some_unit}
 use Rattle.def_sequence_form.proofs.Sets.{form_numbers_as_the_tree}
-use Rattle.def_check.specs.Check.{Refusal, checked, most_cert_bytes}
-use Rattle.def_check.specs.Checking.{passed}
+use Rattle.def_check.specs.Check.{Refusal, checked, most_cert_bytes, of_certificate}
+use Rattle.def_check.specs.Checking.{passed, unreadable}
 use Rattle.def_check.proofs.Checked.{checks_are}
 use Rattle.def_command.specs.Grammar.{Check, Command, Settings, command_of_words}
 use Rattle.def_command.specs.GrammarLaws.{InRange}
@@ -39,17 +40,18 @@ use Rattle.def_canon.specs.Canon.{canon}
 use Rattle.def_canon.specs.Poker.{poker}
 use Rattle.def_program.specs.TextLines.{fault_line}
 use Rattle.def_program.specs.CheckLines.{cert_long_line, check_text}
-use Rattle.def_program.specs.Text.{form_of_file, game_head, game_outcome, solve_text}
+use Rattle.def_plus.specs.declared.Variant.TheVariants.{Plain, Plus}
+use Rattle.def_program.specs.Text.{form_of_file, game_certificate, game_head, played_text, solve_text}
 use Rattle.def_program.specs.Program.{Answer, answer_of, both_told, certificate_answer, check_answer, check_told, file_answer, game_answer, made_answer, program, refusal, solved, success}
 use Rattle.def_program.proofs.PokerFileIsRead.{made_is}
 use Rattle.def_program.proofs.Played.{head_of_game, played_games_have_bounds}
 use Rattle.def_program.specs.Bounds.{HasItsBounds}
-use Rattle.def_program_laws.specs.SolveLaws.{AreAcceptedAlike, IsAcceptedWithBounds, IsTaken, OldTextsAreAccepted, SolvedTextsAreAccepted, SolvedTextsAreShort, WhatDrillWritesCheckAccepts, WhatSolveWritesCheckAccepts, solve_text_in_one}
+use Rattle.def_program_laws.specs.SolveLaws.{AreAcceptedAlike, IsAcceptedWithBounds, IsTaken, OldTextsAreAccepted, PlusTextsAreRefused, SolvedTextsAreAccepted, SolvedTextsAreShort, WhatDrillWritesCheckAccepts, WhatSolveWritesCheckAccepts, solve_text_in_one}
 use Rattle.def_program_laws.proofs.Heads.{game_tree, head_fits}
 use Rattle.def_program_laws.proofs.CertificatesAreShort.{accepted_short}
 
 abbrev certificate_of_game : GameFile → Settings → Certificate
-certificate_of_game game settings = certificate_of (form_of_file game) (game_outcome game settings)
+certificate_of_game game settings = game_certificate Plain game settings
 
 module _ (file : List ℕ) (game : GameFile) (is : IsAccepted file game) (c : VersionedCertificate) (shown : Verdict)
     (fits : VersionedFits c) (judged : versioned_verdict (weighed_game game) c ≡ Ok shown) where
@@ -117,8 +119,8 @@ module _ (file : List ℕ) (game : GameFile) (settings : Settings) (workers : Op
       judged ∙ ap (λ (f : Fraction). Ok (bracket f high)) parts.2 ∙ ap (λ (f : Fraction). Ok (bracket b.low f)) parts.3
 
   module _ (some : 1 ≤ settings.rounds) where
-    has : HasItsBounds game settings
-    has = played_games_have_bounds file game settings is some range.some_scale
+    has : HasItsBounds Plain game settings
+    has = played_games_have_bounds Plain file game settings is some range.some_scale
 
     judged_with_bounds : verdict (weighed_game game) (certificate_of_game game settings)
         ≡ Ok (bracket has.bounds.low has.bounds.high)
@@ -223,25 +225,33 @@ module _ (others : List (List ℕ)) (after : List ℕ → Option (List ℕ)) (ga
 
 -- what `solve` wrote, `check` accepts
 pub check_accepts : WhatSolveWritesCheckAccepts
-check_accepts words others told after path game_path text_path bytes text settings workers solve holds wrote check game_there text_there =
+check_accepts words others told after path game_path text_path bytes text settings rows solve holds wrote check game_there text_there =
     let answered : Some (file_answer (solved settings) bytes) ≡ program words told =
     ap (option_map (file_answer (solved settings))) (sym holds)
     ∙ ap (λ (c : Option Command). answer_of c told) (sym solve) in
-    taken others after game_path text_path bytes text settings workers
-    (settings_in_range.of_solve words path settings workers solve) check game_there text_there
+    taken others after game_path text_path bytes text settings rows.workers
+    (settings_in_range.of_solve words path settings rows solve) check game_there text_there
     (same_Some (file_answer (solved settings) bytes) (success text) (answered ∙ wrote))
 
 -- what `drill` wrote, `check` accepts against what `gen` wrote
 pub drill_accepts : WhatDrillWritesCheckAccepts
-drill_accepts words makers others told before after game_path text_path bytes text cards settings workers drill wrote gen made check game_there text_there =
-    let cards_are = cards_in_range.of_drill words cards settings workers drill in
+drill_accepts words makers others told before after game_path text_path bytes text cards settings rows drill wrote gen made check game_there text_there =
+    let cards_are = cards_in_range.of_drill words cards settings rows drill in
     let file_is : canon (poker cards) ≡ bytes =
     ap (λ (a : Answer). a.text) (same_Some (success (canon (poker cards))) (success bytes)
     (ap (λ (c : Option Command). answer_of c before) (sym gen) ∙ made)) in
     let answered : Some (made_answer (solved settings) (poker cards)) ≡ program words told =
     ap (λ (c : Option Command). answer_of c told) (sym drill) in
-    taken others after game_path text_path bytes text settings workers
-    (settings_in_range.of_drill words cards settings workers drill) check game_there text_there
+    taken others after game_path text_path bytes text settings rows.workers
+    (settings_in_range.of_drill words cards settings rows drill) check game_there text_there
     (ap (file_answer (solved settings)) (sym file_is)
     ∙ made_is cards cards_are.some cards_are.few (solved settings)
     ∙ same_Some (made_answer (solved settings) (poker cards)) (success text) (answered ∙ wrote))
+
+-- a text of CFR+ is refused at its first byte
+pub plus_refused : PlusTextsAreRefused
+plus_refused file game of settings is =
+    let text : List ℕ = played_text Plus of settings in
+    let read = no_certificates (in_version_two (game_certificate Plus of settings)) in
+    (checks_are file text is.readable.length_within (Err (of_certificate (CertSyntax 0)))).0
+    (unreadable game is (CertSyntax 0) ((first_versioned_fault text (CertSyntax 0)).0 read) refl)

@@ -29,6 +29,7 @@ use Rattle.def_cert_versions.specs.PlayerTwo.{BoundsPlayerTwo}
 use Rattle.def_check.specs.Accepted.{IsAccepted}
 use Rattle.def_check.specs.Check.{checked}
 use Rattle.def_check.specs.Checking.{IsTextOf}
+use Rattle.def_plus.specs.declared.Variant.{Variant}
 use Rattle.def_program.specs.Bounds.{BoundsHold}
 
 -- two plans have one total exploitability
@@ -40,11 +41,11 @@ ExploitabilityIsOne = (form : SequenceForm) (root_one root_two : ℕ) (plan_one 
 -- whatever player one's printed plan gets at least is at most LOW, and whatever player two's concedes at most is at
 -- least HIGH
 pub record BoundsAreSharp : Type 0 where
-  pub low : (game : WeighedGame) (scale : ℕ) (b : PrintedBounds) (bound : Fraction) → 1 ≤ game.unit
-      → BoundsHold game scale b → GetsAtLeast game b.plan_one.root (printed_numbers b.plan_one) bound
+  pub low : (game : WeighedGame) (variant : Variant) (scale : ℕ) (b : PrintedBounds) (bound : Fraction) → 1 ≤ game.unit
+      → BoundsHold game variant scale b → GetsAtLeast game b.plan_one.root (printed_numbers b.plan_one) bound
       → IsAtMost bound b.low
-  pub high : (game : WeighedGame) (scale : ℕ) (b : PrintedBounds) (bound : Fraction) → 1 ≤ game.unit
-      → BoundsHold game scale b → ConcedesAtMost game b.plan_two.root (printed_numbers b.plan_two) bound
+  pub high : (game : WeighedGame) (variant : Variant) (scale : ℕ) (b : PrintedBounds) (bound : Fraction) → 1 ≤ game.unit
+      → BoundsHold game variant scale b → ConcedesAtMost game b.plan_two.root (printed_numbers b.plan_two) bound
       → IsAtMost b.high bound
 
 -- What printed bounds say of both players, each in their own expected payoffs. LOW and HIGH are player one's; player two's
@@ -72,8 +73,8 @@ pub record HoldForBothPlayers (tables : Tables) (tree : Forest) (b : PrintedBoun
 
 -- bounds that hold of an accepted file's game, whoever printed them, bound both players
 abbrev pub BoundsHoldForBothPlayers : Type 0
-BoundsHoldForBothPlayers = (bytes : List ℕ) (game : GameFile) (scale : ℕ) (b : PrintedBounds) → IsAccepted bytes game
-    → BoundsHold (weighed_game game) scale b → HoldForBothPlayers (tables_of game) game.tree b
+BoundsHoldForBothPlayers = (bytes : List ℕ) (game : GameFile) (variant : Variant) (scale : ℕ) (b : PrintedBounds)
+    → IsAccepted bytes game → BoundsHold (weighed_game game) variant scale b → HoldForBothPlayers (tables_of game) game.tree b
 
 -- whoever wrote it, the second bracket of a text of version 2 that is accepted against a file bounds player two of its
 -- game: what its plan is sure of, and what no plan is sure of more than

@@ -2,7 +2,8 @@
 use Rattle.std.specs.Prelude.{◌≡◌, ℕ, List, [], ◌∷◌, ◌++◌, codes, length, Option, Some, None}
 use Rattle.def_canon.specs.PokerRows.{two_cards}
 use Rattle.def_program.specs.Program.{Answer, program}
-use Rattle.def_program_laws.specs.Files.{files_told, pennies_of_one_round, pennies_of_scale_one, pennies_of_scale_ten}
+use Rattle.def_program.specs.TextLines.{usage_line}
+use Rattle.def_program_laws.specs.Files.{files_told, pennies_of_one_round, pennies_of_plus, pennies_of_scale_one, pennies_of_scale_ten}
 use Rattle.def_program_laws.specs.Files.{poker_of_one_round, poker_unplayed, quoted_numbers}
 
 -- the answer to words of which the first is a command's
@@ -33,6 +34,25 @@ pub record SolveRows : Type 0 where
       (codes "--every=2" ∷ codes "pennies" ∷ codes "--scale" ∷ codes "10" ∷ codes "--rounds=3" ∷ [])
       ≡ success_of pennies_of_scale_ten
   pub unfair : answer_to (codes "solve") (codes "unfair" ∷ []) ≡ refusal_of (codes "refused 17 NotConstantSum node 5\n")
+
+-- rounds of CFR+: the second counts twice, so both players' sums are plans of 1 + 2 units
+pub record PlusRows : Type 0 where
+  pub two_rounds : answer_to (codes "plus")
+      (codes "pennies" ∷ codes "--rounds=2" ∷ codes "--every=1" ∷ codes "--scale=1" ∷ [])
+      ≡ success_of pennies_of_plus
+  pub many_rounds : answer_to (codes "plus") (codes "pennies" ∷ codes "--rounds=2049" ∷ []) ≡ usage_of usage_line
+  pub unfair : answer_to (codes "plus") (codes "unfair" ∷ []) ≡ refusal_of (codes "refused 17 NotConstantSum node 5\n")
+  pub no_certificate : answer_to (codes "check") (codes "pennies" ∷ codes "plus" ∷ [])
+      ≡ refusal_of (codes "refused 22 CertSyntax at 0\n")
+
+-- each file's part is its text or the line of its fault, in the order of the words
+pub record BatchRows : Type 0 where
+  pub refused_between : answer_to (codes "batch")
+      (codes "pennies" ∷ codes "unfair" ∷ codes "--rounds=1" ∷ codes "pennies" ∷ [])
+      ≡ success_of (codes "file 1\n" ++ (pennies_of_one_round
+      ++ (codes "file 2\nrefused 17 NotConstantSum node 5\nfile 3\n" ++ pennies_of_one_round)))
+  pub no_file : answer_to (codes "batch") [] ≡ usage_of usage_line
+  pub absent : answer_to (codes "batch") (codes "pennies" ∷ codes "absent" ∷ []) ≡ None
 
 -- the file decides first, then what the certificate's bytes are, then what it says of the game
 pub record CheckRows : Type 0 where
@@ -80,8 +100,8 @@ pub record MadeGameRows : Type 0 where
 -- words that aren't taken, and files that aren't told
 pub record UnansweredRows : Type 0 where
   pub words : answer_to (codes "help") []
-      ≡ usage_of (codes "usage: xg_solve solve FILE [--rounds N] [--every N] [--scale N] [--workers N]"
-      ++ codes " | check FILE CERT | upgrade FILE CERT | info FILE | gen N | drill N\n")
+      ≡ usage_of (codes "usage: xg_solve solve FILE [--rounds N] [--every N] [--scale N] [--workers N] [--atomic N]"
+      ++ codes " | check FILE CERT | upgrade FILE CERT | info FILE | gen N | drill N | plus FILE | batch FILE...\n")
   pub solve : answer_to (codes "solve") (codes "absent" ∷ []) ≡ None
   pub info : answer_to (codes "info") (codes "absent" ∷ []) ≡ None
   pub check : answer_to (codes "check") (codes "absent" ∷ codes "certificate" ∷ []) ≡ None

@@ -1,4 +1,4 @@
--- Four files and seven certificates, and what the program writes of them.
+-- Four files, seven certificates and a text of CFR+, and what the program writes of them.
 --     files_told name     the bytes of the file of this name
 use Rattle.std.specs.Prelude.{ℕ, if◌then◌else◌, List, [], ◌++◌, codes, Option, Some, None}
 use Rattle.def_canon.specs.PokerRows.{two_cards}
@@ -161,6 +161,27 @@ pennies_of_scale_ten = in_two pennies_numbers (
     ++ codes "value 1 0 1\n"
     ++ codes "bracket 0 0\n") (codes "second 0 0\n")
 
+-- two rounds of CFR+ with scale 1, each evaluated: the second counts twice
+abbrev pub pennies_of_plus : List ℕ
+pennies_of_plus =
+    codes "XGPLUS 1\n"
+    ++ pennies_numbers
+    ++ codes "sum 0\n"
+    ++ codes "rounds 2 every 1 scale 1\n"
+    ++ codes "trace 1 1 -1 1 1\n"
+    ++ codes "trace 2 1 -1 2 1\n"
+    ++ codes "plan 1 1\n"
+    ++ codes "weights 1 0 1\n"
+    ++ codes "reply 2 -1\n"
+    ++ codes "value 1 -1 1\n"
+    ++ codes "plan 2 3\n"
+    ++ codes "weights 1 2 1\n"
+    ++ codes "reply 1 1\n"
+    ++ codes "value 1 1 1\n"
+    ++ codes "bracket -1 1/3\n"
+    ++ codes "second -1/3 1\n"
+    ++ codes "end\n"
+
 abbrev pub poker_numbers : List ℕ
 poker_numbers =
     codes "nodes 21 leaves 10\n"
@@ -217,4 +238,5 @@ files_told name =
     else (if is_word name (codes "old") then Some old_pennies
     else (if is_word name (codes "unplayed") then Some old_poker_unplayed
     else (if is_word name (codes "total") then Some pennies_of_other_total
-    else (if is_word name (codes "second") then Some pennies_of_other_second else None))))))))))
+    else (if is_word name (codes "second") then Some pennies_of_other_second
+    else (if is_word name (codes "plus") then Some pennies_of_plus else None)))))))))))

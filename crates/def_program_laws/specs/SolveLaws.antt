@@ -1,20 +1,21 @@
 -- What `solve`, `drill` and `upgrade` write is accepted by `check`. Each law is the contract of a function of this
 -- crate.
-use Rattle.std.specs.Prelude.{◌≡◌, ℕ, ◌<◌, ◌≤◌, List, length, Option, Some, Ok}
+use Rattle.std.specs.Prelude.{◌≡◌, ℕ, ◌<◌, ◌≤◌, List, length, Option, Some, Ok, Err}
 use Rattle.def_file.specs.Content.{GameFile}
 use Rattle.def_file.specs.Reading.{most_bytes}
 use Rattle.def_cert_verdict.specs.Certificate.{PrintedBounds}
 use Rattle.def_cert_verdict.specs.Verdict.{Verdict, bracket, head_only}
 use Rattle.def_cert_verdict.specs.Laws.{with_bounds}
-use Rattle.def_cert_accepted.specs.OfOutcome.{certificate_of}
 use Rattle.def_cert_text.specs.Versions.{in_version_one}
 use Rattle.def_cert_text.specs.CertText.{versioned_text}
 use Rattle.def_cert_versions.specs.Verdict.{in_version_two}
 use Rattle.def_check.specs.Accepted.{IsAccepted}
-use Rattle.def_check.specs.Check.{checked, most_cert_bytes}
-use Rattle.def_command.specs.Grammar.{Check, Drill, Gen, Settings, Solve, Upgrade, command_of_words}
+use Rattle.def_cert_text.specs.declared.fault.CertFault.TheVariants.{CertSyntax}
+use Rattle.def_check.specs.Check.{checked, most_cert_bytes, of_certificate}
+use Rattle.def_command.specs.Grammar.{Check, Drill, Gen, RowSettings, Settings, Solve, Upgrade, command_of_words}
 use Rattle.def_command.specs.GrammarLaws.{InRange}
-use Rattle.def_program.specs.Text.{form_of_file, game_head, game_outcome, solve_text}
+use Rattle.def_plus.specs.declared.Variant.TheVariants.{Plain, Plus}
+use Rattle.def_program.specs.Text.{game_head, game_certificate, played_text, solve_text}
 use Rattle.def_program.specs.CheckLines.{upgraded_text, verdict_text}
 use Rattle.def_program.specs.Bounds.{game_bounds}
 use Rattle.def_program.specs.Program.{program, success}
@@ -22,7 +23,7 @@ use Rattle.def_program.specs.Program.{program, success}
 -- the text has the game's bounds, and is accepted with the low and the high one
 pub record IsAcceptedWithBounds (file : List ℕ) (game : GameFile) (settings : Settings) : Type 0 where
   pub bounds : PrintedBounds
-  pub are : game_bounds game settings ≡ Some bounds
+  pub are : game_bounds Plain game settings ≡ Some bounds
   pub text : solve_text game settings ≡ versioned_text (in_version_two (with_bounds (game_head game settings) bounds))
   pub shown : checked file (solve_text game settings) ≡ Ok (bracket bounds.low bounds.high)
 
@@ -37,7 +38,7 @@ pub record SolvedTextsAreAccepted : Type 0 where
 -- the same certificate in a text of version 1
 abbrev pub solve_text_in_one : GameFile → Settings → List ℕ
 solve_text_in_one game settings =
-    versioned_text (in_version_one (certificate_of (form_of_file game) (game_outcome game settings)))
+    versioned_text (in_version_one (game_certificate Plain game settings))
 
 -- two texts are accepted against a file, with one verdict
 pub record AreAcceptedAlike (file bytes other : List ℕ) : Type 0 where
@@ -61,6 +62,11 @@ abbrev pub SolvedTextsAreShort : Type 0
 SolvedTextsAreShort = (file : List ℕ) (game : GameFile) (settings : Settings) (workers : Option ℕ) → IsAccepted file game
     → InRange settings workers → length (solve_text game settings) < most_cert_bytes
 
+-- what `plus` writes of a game is no certificate: a check against any accepted file finds its first byte wrong
+abbrev pub PlusTextsAreRefused : Type 0
+PlusTextsAreRefused = (file : List ℕ) (game played : GameFile) (settings : Settings) → IsAccepted file game
+    → checked file (played_text Plus played settings) ≡ Err (of_certificate (CertSyntax 0))
+
 -- the text is accepted against the file with this verdict, is its own upgrade, and is within the limit of a
 -- certificate's bytes
 pub record IsAcceptedAgain (file text : List ℕ) (shown : Verdict) : Type 0 where
@@ -82,8 +88,8 @@ pub record IsTaken (words : List (List ℕ)) (told : List ℕ → Option (List �
 -- tells this text
 abbrev pub WhatSolveWritesCheckAccepts : Type 0
 WhatSolveWritesCheckAccepts = (words others : List (List ℕ)) (told after : List ℕ → Option (List ℕ))
-    (path game_path text_path bytes text : List ℕ) (settings : Settings) (workers : Option ℕ)
-    → command_of_words words ≡ Some (Solve path settings workers) → told path ≡ Some bytes
+    (path game_path text_path bytes text : List ℕ) (settings : Settings) (rows : RowSettings)
+    → command_of_words words ≡ Some (Solve path settings rows) → told path ≡ Some bytes
     → program words told ≡ Some (success text)
     → command_of_words others ≡ Some (Check game_path text_path) → after game_path ≡ Some bytes
     → after text_path ≡ Some text → IsTaken others after
@@ -92,8 +98,8 @@ WhatSolveWritesCheckAccepts = (words others : List (List ℕ)) (told after : Lis
 -- that tells this text
 abbrev pub WhatDrillWritesCheckAccepts : Type 0
 WhatDrillWritesCheckAccepts = (words makers others : List (List ℕ)) (told before after : List ℕ → Option (List ℕ))
-    (game_path text_path bytes text : List ℕ) (cards : ℕ) (settings : Settings) (workers : Option ℕ)
-    → command_of_words words ≡ Some (Drill cards settings workers) → program words told ≡ Some (success text)
+    (game_path text_path bytes text : List ℕ) (cards : ℕ) (settings : Settings) (rows : RowSettings)
+    → command_of_words words ≡ Some (Drill cards settings rows) → program words told ≡ Some (success text)
     → command_of_words makers ≡ Some (Gen cards) → program makers before ≡ Some (success bytes)
     → command_of_words others ≡ Some (Check game_path text_path) → after game_path ≡ Some bytes
     → after text_path ≡ Some text → IsTaken others after

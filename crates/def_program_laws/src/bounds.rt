@@ -2,7 +2,7 @@
 //! code here: each function's contract is a law of the definitions, or rows that they give.
 
 ghost use Rattle.def_program_laws.specs.Answers.{SuccessIsOfOneCheck, SuccessIsOfOneGame};
-ghost use Rattle.def_program_laws.specs.Answers.{UpgradesAreRefusedAsChecks};
+ghost use Rattle.def_program_laws.specs.Answers.{BatchesAreNeverRefused, PartsAreSolvedAlone, UpgradesAreRefusedAsChecks};
 ghost use Rattle.def_program_laws.specs.Bounds.{AcceptedSecondsBoundPlayerTwo, BoundsAreSharp};
 ghost use Rattle.def_program_laws.specs.Bounds.{BoundsHoldForBothPlayers, ExploitabilityIsOne};
 ghost use Rattle.def_program_laws.specs.BoundRows.{BothPlayersRows, ExploitabilityRows};
@@ -41,9 +41,20 @@ pub fn both_players_rows()
     ensures { BothPlayersRows }
 {}
 
-/// A successful `solve` or `drill` played one game, with one choice of settings, and wrote the text of just that.
+/// A successful `solve`, `drill` or `plus` played one game, by one variant of rounds and with one choice of settings, and
+/// wrote the text of just that.
 pub fn success_is_of_one_game()
     ensures { SuccessIsOfOneGame }
+{}
+
+/// A batch is never refused.
+pub fn batches_are_never_refused()
+    ensures { BatchesAreNeverRefused }
+{}
+
+/// The part of a file of a batch that isn't too long is what is said of it alone.
+pub fn parts_are_solved_alone()
+    ensures { PartsAreSolvedAlone }
 {}
 
 /// A successful `check` or `upgrade` checked one certificate against one file, and wrote the verdict on it, or its

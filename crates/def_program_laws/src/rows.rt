@@ -3,7 +3,7 @@
 //! definitions give, or a law of them.
 
 ghost use Rattle.def_program_laws.specs.Calls.{CheckRows, InfoRows, MadeGameRows, SolveRows, UnansweredRows};
-ghost use Rattle.def_program_laws.specs.Calls.{UpgradeRows};
+ghost use Rattle.def_program_laws.specs.Calls.{BatchRows, PlusRows, UpgradeRows};
 ghost use Rattle.def_program_laws.specs.Games.{CanonicalRows, PokerFaultRows, PokerGameRows};
 ghost use Rattle.def_program_laws.specs.Limits.{LimitRows};
 ghost use Rattle.def_program_laws.specs.Lines.{OtherFaultLineRows, StatusesHaveTheirLines};
@@ -12,6 +12,16 @@ ghost use Rattle.def_program_laws.specs.Ranges.{BoundRangeRows, HeadRangeRows};
 /// Rows: `solve` of matching pennies, with three choices of rounds, evaluations and scale, and of a file with a fault.
 pub fn solve_rows()
     ensures { SolveRows }
+{}
+
+/// Rows: `plus` of matching pennies and of a file with a fault, more rounds than are taken, and `check` of its text.
+pub fn plus_rows()
+    ensures { PlusRows }
+{}
+
+/// Rows: `batch` of three files, of which one has a fault, of no file, and of one that isn't told.
+pub fn batch_rows()
+    ensures { BatchRows }
 {}
 
 /// Rows: `check` of certificates of both versions that are accepted, of one whose second bracket isn't what the sum

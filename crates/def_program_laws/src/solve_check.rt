@@ -1,7 +1,7 @@
 //! What `solve` writes of an accepted file's game is accepted by `check`, and so is what `drill` and `upgrade` write.
 //! There is no code here: the functions' contracts are laws of the definitions, which stand in `specs/`.
 
-ghost use Rattle.def_program_laws.specs.SolveLaws.{AcceptedTextsAreShort, OldTextsAreAccepted};
+ghost use Rattle.def_program_laws.specs.SolveLaws.{AcceptedTextsAreShort, OldTextsAreAccepted, PlusTextsAreRefused};
 ghost use Rattle.def_program_laws.specs.SolveLaws.{SolvedTextsAreAccepted, SolvedTextsAreShort};
 ghost use Rattle.def_program_laws.specs.SolveLaws.{UpgradedTextsAreAcceptedAgain, WhatDrillWritesCheckAccepts};
 ghost use Rattle.def_program_laws.specs.SolveLaws.{WhatSolveWritesCheckAccepts, WhatUpgradeWritesCheckAccepts};
@@ -25,6 +25,11 @@ pub fn accepted_texts_are_short()
 /// No text of `solve` of an accepted file is too long for a certificate.
 pub fn solved_texts_are_short()
     ensures { SolvedTextsAreShort }
+{}
+
+/// No text of `plus` is accepted: a check against any accepted file finds its first byte wrong.
+pub fn plus_texts_are_refused()
+    ensures { PlusTextsAreRefused }
 {}
 
 /// The upgrade of an accepted text, whoever wrote that, is accepted with the same verdict, is its own upgrade, and

@@ -1,0 +1,3 @@
+pub mod Batch
+pub mod Laws
+pub mod Rows
