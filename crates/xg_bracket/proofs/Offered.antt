@@ -1,7 +1,5 @@
 -- What a fair offer brings: plans and replies that the ends have room for, and bounds within the limits.
-use Rattle.std.proofs.Common.{◌≡◌, ℕ, suc, ◌*◌, ◌^◌, ◌≤◌, List, [], ◌∷◌, length, ℤ, unsigned_abs, refl, ap, sym, subst, ◌∙◌, arith}
-use Rattle.std.proofs.Math.Nat.{mul-le-mul}
-use Rattle.def_sums.specs.Limits.{most_root, most_rounds}
+use Rattle.std.proofs.Common.{◌≡◌, ℕ, suc, ◌*◌, ◌^◌, ◌≤◌, List, [], ◌∷◌, length, ℤ, unsigned_abs, refl, ap, sym, subst, ◌∙◌}
 use Rattle.def_tree.specs.declared.Player.{Player}
 use Rattle.def_tree.specs.declared.Player.TheVariants.{One, Two}
 use Rattle.def_plan.specs.Form.{PlacedSet, SequenceForm, placed, player_sets}
@@ -9,9 +7,11 @@ use Rattle.def_plan.specs.Payoff.{leaf_sum}
 use Rattle.def_plan.proofs.BadSets.{length-placed}
 use Rattle.def_reply.specs.Reply.{Reply, best_reply_to, replies_at}
 use Rattle.def_reply.proofs.ReplySizes.{bounds_small}
-use Rattle.def_reply.specs.Offers.{Offer, lower_of, upper_of}
+use Rattle.def_reply.specs.Offers.{Offer, most_divisor}
+use Rattle.def_plus.specs.declared.Variant.{Variant}
+use Rattle.def_plus.specs.Variants.{weight_of}
 use Rattle.xg_bracket.specs.Board.{FormSizes, MayBeOffered, SizedBoard}
-use Rattle.xg_bracket.specs.Ends.{CanKeep, IsEnd}
+use Rattle.xg_bracket.specs.Ends.{CanKeep, IsEnd, kept_end}
 use Rattle.xg_bracket.proofs.Narrowing.{IsBounded}
 use Rattle.xg_bracket.specs.declared.end.BestEnd.{BestEnd}
 
@@ -27,37 +27,48 @@ length-best form player plan =
     let hs : List PlacedSet = placed (player_sets form player) in
     length-replies player (leaf_sum player form.leaves plan) hs ∙ length-placed 1 (player_sets form player)
 
-module _ (board : SizedBoard) (offer : Offer) (same : offer.divisor ≡ offer.round) (m : MayBeOffered board offer) where
+module _ (variant : Variant) (board : SizedBoard) (offer : Offer) (divisor : ℕ) (is : divisor ≡ offer.divisor)
+    (weighed : divisor ≡ weight_of variant offer.round) (m : MayBeOffered board offer) where
   abbrev root : ℕ
   root = offer.divisor * m.fair.scale
-
-  root_within : root ≤ most_root
-  root_within =
-      let rounds : offer.divisor ≤ most_rounds = omega (arith, m.fair.few_rounds) in
-      mul-le-mul rounds m.fair.some_scale.1
 
   low_small : unsigned_abs offer.against_one.total ≤ 2 ^ 98
   low_small =
       subst (λ (r : Reply). unsigned_abs r.total ≤ 2 ^ 98) (sym m.fair.against_one)
-      (bounds_small.floor m.form root offer.plan_one m.order_one m.order_two m.fair.plan_one m.mass root_within)
+      (bounds_small.floor m.form root offer.plan_one m.order_one m.order_two m.fair.plan_one m.mass m.fair.small_root)
 
   high_small : unsigned_abs offer.against_two.total ≤ 2 ^ 98
   high_small =
       subst (λ (r : Reply). unsigned_abs r.total ≤ 2 ^ 98) (sym m.fair.against_two)
-      (bounds_small.ceiling m.form root offer.plan_two m.order_one m.order_two m.fair.plan_two m.mass root_within)
+      (bounds_small.ceiling m.form root offer.plan_two m.order_one m.order_two m.fair.plan_two m.mass m.fair.small_root)
 
-  -- both ends have bounds within the limits
-  pub bounded_lower : IsBounded (lower_of offer)
-  bounded_lower = record { some = omega (arith, m.fair.some_divisor); rounds = m.fair.few_rounds; small = low_small }
+  divisor_some : 1 ≤ divisor
+  divisor_some = subst (λ d. 1 ≤ d) (sym is) m.fair.some_divisor
 
-  -- the upper end that the offer makes has a round from 1 on and a bound, within the limits
-  pub bounded_upper : IsBounded (upper_of offer)
-  bounded_upper = record { some = omega (arith, m.fair.some_divisor); rounds = m.fair.few_rounds; small = high_small }
+  divisor_small : divisor ≤ most_divisor
+  divisor_small = subst (λ d. d ≤ most_divisor) (sym is) m.fair.small_divisor
+
+  -- both ends have divisors and bounds within the limits
+  pub bounded_lower : IsBounded variant (kept_end offer.round divisor offer.plan_one offer.against_one)
+  bounded_lower = record {
+    some = divisor_some;
+    weighed = weighed;
+    divisor = divisor_small;
+    small = low_small;
+  }
+
+  pub bounded_upper : IsBounded variant (kept_end offer.round divisor offer.plan_two offer.against_two)
+  bounded_upper = record {
+    some = divisor_some;
+    weighed = weighed;
+    divisor = divisor_small;
+    small = high_small;
+  }
 
   -- an end of the sizes of the board has room for player one's plan and the reply to it
   pub can_keep_lower : (lower : BestEnd) → IsEnd lower → length lower.plan ≡ board.sizes.sequences_one
       → length lower.reply.reply.sets ≡ board.sizes.sets_two
-      → CanKeep lower offer.round offer.plan_one offer.against_one
+      → CanKeep lower divisor offer.plan_one offer.against_one
   can_keep_lower lower is_end sequences sets = record {
     is_end = is_end;
     is_plan = record {
@@ -65,20 +76,20 @@ module _ (board : SizedBoard) (offer : Offer) (same : offer.divisor ≡ offer.ro
       root = root;
       order = m.order_one;
       is_plan = m.fair.plan_one;
-      limit = root_within;
+      limit = m.fair.small_root;
     };
     sequences = m.fair.plan_one.all_sequences ∙ ap (λ (s : FormSizes). s.sequences_one) m.sizes ∙ sym sequences;
     sets =
         ap (λ (r : Reply). length r.sets) m.fair.against_one ∙ length-best m.form Two offer.plan_one
         ∙ ap (λ (s : FormSizes). s.sets_two) m.sizes ∙ sym sets ∙ is_end.sets;
-    rounds = m.fair.few_rounds;
+    small_divisor = divisor_small;
     small = low_small;
   }
 
   -- and for player two's
   pub can_keep_upper : (upper : BestEnd) → IsEnd upper → length upper.plan ≡ board.sizes.sequences_two
       → length upper.reply.reply.sets ≡ board.sizes.sets_one
-      → CanKeep upper offer.round offer.plan_two offer.against_two
+      → CanKeep upper divisor offer.plan_two offer.against_two
   can_keep_upper upper is_end sequences sets = record {
     is_end = is_end;
     is_plan = record {
@@ -86,12 +97,12 @@ module _ (board : SizedBoard) (offer : Offer) (same : offer.divisor ≡ offer.ro
       root = root;
       order = m.order_two;
       is_plan = m.fair.plan_two;
-      limit = root_within;
+      limit = m.fair.small_root;
     };
     sequences = m.fair.plan_two.all_sequences ∙ ap (λ (s : FormSizes). s.sequences_two) m.sizes ∙ sym sequences;
     sets =
         ap (λ (r : Reply). length r.sets) m.fair.against_two ∙ length-best m.form One offer.plan_two
         ∙ ap (λ (s : FormSizes). s.sets_one) m.sizes ∙ sym sets ∙ is_end.sets;
-    rounds = m.fair.few_rounds;
+    small_divisor = divisor_small;
     small = high_small;
   }

@@ -1,14 +1,16 @@
--- A board of offers, with the sizes of the form that it is made for and with its room.
+-- A board of offers, with the sizes of the form and the variant of rounds that it is made for, and with its room.
 use Rattle.std.specs.Prelude.{◌≡◌, ℕ, ◌≤◌, List, [], ◌∷◌, length, All}
 use Rattle.def_sums.specs.Limits.{most_mass}
 use Rattle.def_plan.specs.Form.{AreInOrder, SequenceForm, sequence_count}
 use Rattle.def_plan.specs.Payoff.{mass_of}
 use Rattle.def_reply.specs.Reply.{Reply}
-use Rattle.def_reply.specs.Bracket.{LiesWithin}
+use Rattle.def_reply.specs.Bracket.{LiesWithinBy}
 use Rattle.def_reply.specs.declared.TraceLine.{TraceLine}
 use Rattle.def_reply.specs.Offers.{Board, IsFair, Offer}
+use Rattle.def_plus.specs.declared.Variant.{Variant}
+use Rattle.def_plus.specs.Variants.{weight_of}
 use Rattle.xg_bracket.specs.declared.end.BestEnd.{BestEnd}
-use Rattle.xg_bracket.specs.Ends.{IsEnd, end_after, kept_of, line_with}
+use Rattle.xg_bracket.specs.Ends.{IsEnd, IsWeighed, end_after, kept_of, line_with}
 
 -- how many sequences and sets each player has
 pub record FormSizes : Type 0 where
@@ -25,11 +27,12 @@ sizes_of form = record {
   sets_two = length form.sets_two;
 }
 
--- a board for plans of these sizes, and for so many offers
+-- a board for plans of these sizes and rounds of this variant, and for so many offers
 pub record SizedBoard : Type 0 where
   pub board : Board
   pub capacity : ℕ
   pub sizes : FormSizes
+  pub variant : Variant
 
 -- the round of the last line, 0 before the first
 abbrev pub last_round : List TraceLine → ℕ
@@ -37,11 +40,11 @@ last_round [] = 0
 last_round (line ∷ []) = line.round
 last_round (line ∷ next ∷ lines) = last_round (next ∷ lines)
 
--- both players' plans after a round, by which their bounds are divided, with the reply to each
-abbrev pub offer_of : ℕ → List ℕ → List ℕ → Reply → Reply → Offer
-offer_of round one two against_one against_two = record {
+-- both players' plans after a round, whose bounds are divided by what the rounds weigh, with the reply to each
+abbrev pub offer_of : Variant → ℕ → List ℕ → List ℕ → Reply → Reply → Offer
+offer_of variant round one two against_one against_two = record {
   round = round;
-  divisor = round;
+  divisor = weight_of variant round;
   plan_one = one;
   plan_two = two;
   against_one = against_one;
@@ -58,8 +61,8 @@ pub record MayBeOffered (board : SizedBoard) (offer : Offer) : Type 0 where
   pub fair : IsFair form (last_round board.board.trace) offer
 
 -- the board that these lines and ends are
-abbrev pub sized_board : List TraceLine → ℕ → BestEnd → BestEnd → SizedBoard
-sized_board lines capacity lower upper = record {
+abbrev pub sized_board : Variant → List TraceLine → ℕ → BestEnd → BestEnd → SizedBoard
+sized_board variant lines capacity lower upper = record {
   board = record {
     trace = lines;
     lower = end_after (length lines) (kept_of lower);
@@ -72,14 +75,15 @@ sized_board lines capacity lower upper = record {
     sets_one = length upper.reply.reply.sets;
     sets_two = length lower.reply.reply.sets;
   };
+  variant = variant;
 }
 
 -- there is room for all lines, and what is kept lies within each of them
-pub record KeepsBoard (lines : List TraceLine) (room capacity : ℕ) (lower upper : BestEnd) : Type 0 where
+pub record KeepsBoard (variant : Variant) (lines : List TraceLine) (room capacity : ℕ) (lower upper : BestEnd) : Type 0 where
   pub within : length lines ≤ capacity
   pub reserved : capacity ≤ room
   pub lower_end : IsEnd lower
   pub upper_end : IsEnd upper
-  pub lower_round : 1 ≤ length lines → 1 ≤ lower.round
-  pub upper_round : 1 ≤ length lines → 1 ≤ upper.round
-  pub narrows : All (λ line. LiesWithin (line_with 0 lower upper) line) lines
+  pub lower_weighed : 1 ≤ length lines → IsWeighed variant lower
+  pub upper_weighed : 1 ≤ length lines → IsWeighed variant upper
+  pub narrows : All (λ line. LiesWithinBy (weight_of variant) (line_with 0 lower upper) line) lines

@@ -1,20 +1,21 @@
 -- The ends that a board keeps, and its lines.
 use Rattle.std.specs.Prelude.{◌≡◌, ℕ, zero, suc, ◌≤◌, List, length, Option, Some, None, unsigned_abs}
-use Rattle.def_sums.specs.Limits.{most_root, most_rounds, most_row}
+use Rattle.def_sums.specs.Limits.{most_root, most_row}
 use Rattle.def_tree.specs.declared.Player.{Player}
 use Rattle.def_plan.specs.Form.{AreInOrder, InformationSet, SequenceForm, player_sets, sequence_count}
 use Rattle.def_plan.specs.Plan.{IsPlan}
 use Rattle.def_reply.specs.Reply.{Reply}
 use Rattle.def_reply.specs.declared.TraceLine.{TraceLine}
-use Rattle.def_reply.specs.Offers.{KeptEnd}
+use Rattle.def_reply.specs.Offers.{KeptEnd, most_divisor}
+use Rattle.def_plus.specs.declared.Variant.{Variant}
+use Rattle.def_plus.specs.Variants.{weight_of}
 use Rattle.xg_bracket.specs.declared.end.BestEnd.{BestEnd}
 
--- an end whose bounds are divided by its round
-abbrev pub kept_end : ℕ → List ℕ → Reply → KeptEnd
-kept_end round plan reply = record { round = round; divisor = round; plan = plan; reply = reply }
+abbrev pub kept_end : ℕ → ℕ → List ℕ → Reply → KeptEnd
+kept_end round divisor plan reply = record { round = round; divisor = divisor; plan = plan; reply = reply }
 
 abbrev pub kept_of : BestEnd → KeptEnd
-kept_of end = kept_end end.round end.plan end.reply.reply
+kept_of end = kept_end end.round end.divisor end.plan end.reply.reply
 
 -- what is kept after so many offers: before the first there is no end
 abbrev pub end_after : ℕ → KeptEnd → Option KeptEnd
@@ -42,16 +43,21 @@ pub record IsSomePlan (plan : List ℕ) : Type 0 where
 -- the end has a bound within the limits, and room for a plan and a reply of its sizes
 pub record IsEnd (end : BestEnd) : Type 0 where
   pub sets : length end.reply.reply.sets ≡ end.sets
-  pub rounds : end.round ≤ most_rounds
+  pub divisor : end.divisor ≤ most_divisor
   pub small : unsigned_abs end.reply.reply.total ≤ most_row
 
+-- an end is divided by what the rounds up to its own weigh
+pub record IsWeighed (variant : Variant) (end : BestEnd) : Type 0 where
+  pub some : 1 ≤ end.divisor
+  pub divisor : end.divisor ≡ weight_of variant end.round
+
 -- a plan and a reply that the end has room for, within the limits
-pub record CanKeep (end : BestEnd) (round : ℕ) (plan : List ℕ) (reply : Reply) : Type 0 where
+pub record CanKeep (end : BestEnd) (divisor : ℕ) (plan : List ℕ) (reply : Reply) : Type 0 where
   pub is_end : IsEnd end
   pub is_plan : IsSomePlan plan
   pub sequences : length plan ≡ length end.plan
   pub sets : length reply.sets ≡ end.sets
-  pub rounds : round ≤ most_rounds
+  pub small_divisor : divisor ≤ most_divisor
   pub small : unsigned_abs reply.total ≤ most_row
 
 -- the room for a player's plan and the other player's reply

@@ -2,7 +2,9 @@
 ghost use Rattle.std.specs.Prelude.{◌≡◌, ◌<◌, ◌≤◌, ◌++◌, ◌↔◌, [], ◌∷◌, All, IfOk, IsNone, None};
 ghost use Rattle.std.specs.Prelude.{length, vec_capacity, vec_len};
 ghost use Rattle.std.specs.Option.{option_map};
-ghost use Rattle.def_reply.specs.Bracket.{LiesWithin};
+ghost use Rattle.def_plus.specs.declared.Variant.TheVariants.{Plain};
+ghost use Rattle.def_plus.specs.Variants.{weight_of};
+ghost use Rattle.def_reply.specs.Bracket.{LiesWithinBy};
 ghost use Rattle.def_reply.specs.declared.TraceLine.{TraceLine};
 ghost use Rattle.def_reply.specs.Offers.{new_board, offered};
 ghost use Rattle.xg_bracket.specs.Board.{MayBeOffered, offer_of, sizes_of};
@@ -10,6 +12,8 @@ ghost use Rattle.xg_bracket.specs.Ends.{IsFreshEnd, line_with};
 
 use crate::end::{BestEnd, offer_lower, offer_upper};
 use crate::parts::BoardParts;
+use crate::weighing::weight;
+use def_plus::Variant;
 use def_reply::TraceLine;
 use std::alloc::{AllocError, Global};
 use std::marker::Model;
@@ -17,12 +21,13 @@ use xg_plan::{Plan, Player, Reply};
 use xg_seq::SeqForm;
 
 /// The bracket of the plans that were offered: player one's with the greatest floor and player two's with the least
-/// ceiling, each by its round, and a line for each offer.
+/// ceiling, each by what the rounds up to its own weigh, and a line for each offer.
 ///
-/// A floor or a ceiling is a total of a reply; divided by its plan's round it is one of the average plan (Zinkevich and
-/// others 2007), since the plans of all rounds add up to the plan.
+/// A floor or a ceiling is a total of a reply; divided by what its plan's rounds weigh it is one of the average plan
+/// (Zinkevich and others 2007), since the plans of all rounds, each as many times as it weighs, add up to the plan.
 #[derive(Drop)]
 pub struct Board {
+    variant: Variant,
     trace: Vec<TraceLine>,
     capacity: u32,
     lower: BestEnd,
@@ -34,20 +39,34 @@ impl Model for Board {
 
     ghost Value = { SizedBoard };
 
-    ghost view = { λ b. sized_board b.trace.items b.capacity b.lower b.upper };
+    ghost view = { λ b. sized_board b.variant b.trace.items b.capacity b.lower b.upper };
 
     ghost use Rattle.std.specs.Prelude.{vec_capacity};
 
-    ghost invariant = { λ b. KeepsBoard b.trace.items (vec_capacity b.trace) b.capacity b.lower b.upper };
+    ghost invariant = { λ b. KeepsBoard b.variant b.trace.items (vec_capacity b.trace) b.capacity b.lower b.upper };
 }
 
 impl Board {
-    /// A board with room for so many offers of plans in the form.
+    /// A board with room for so many offers of plans in the form, after plain rounds.
     pub fn new(alloc: Global, form: &SeqForm, capacity: u32) -> Result<Board, AllocError>
-        ensures { IfOk result (λ board.
-            board ≡ record { board = new_board; capacity = capacity; sizes = sizes_of form.now }) }
+        ensures { IfOk result (λ board. board
+            ≡ record { board = new_board; capacity = capacity; sizes = sizes_of form.now; variant = Plain }) }
+    {
+        Board::of_variant(alloc, form, capacity, Variant::Plain)
+    }
+
+    /// The same after rounds of this variant.
+    pub fn of_variant(
+        alloc: Global,
+        form: &SeqForm,
+        capacity: u32,
+        variant: Variant,
+    ) -> Result<Board, AllocError>
+        ensures { IfOk result (λ board. board
+            ≡ record { board = new_board; capacity = capacity; sizes = sizes_of form.now; variant = variant }) }
     {
         Ok(Board {
+            variant,
             trace: Vec::with_capacity(alloc, capacity as usize)?,
             capacity,
             lower: new_end(alloc, form, Player::One, Player::Two)?,
@@ -66,19 +85,22 @@ impl Board {
     )
         requires room { length self.old.board.trace < self.old.capacity }
         requires fair { MayBeOffered self.old
-            (offer_of round one.now two.now against_one.now.reply against_two.now.reply) }
+            (offer_of self.old.variant round one.now two.now against_one.now.reply against_two.now.reply) }
         ensures board { self.new.board
-            ≡ offered self.old.board (offer_of round one.now two.now against_one.now.reply against_two.now.reply) }
+            ≡ offered self.old.board
+            (offer_of self.old.variant round one.now two.now against_one.now.reply against_two.now.reply) }
         ensures capacity { self.new.capacity ≡ self.old.capacity }
         ensures sizes { self.new.sizes ≡ self.old.sizes }
+        ensures variant { self.new.variant ≡ self.old.variant }
 
         // The bracket never widens.
         ensures within { (line : TraceLine) → self.new.board.trace ≡ self.old.board.trace ++ line ∷ []
-            → All (λ earlier. LiesWithin line earlier) self.old.board.trace }
+            → All (λ earlier. LiesWithinBy (weight_of self.old.variant) line earlier) self.old.board.trace }
     {
         let offers = self.trace.len();
-        offer_lower(&mut self.lower, offers, round, one, against_one);
-        offer_upper(&mut self.upper, offers, round, two, against_two);
+        let divisor = weight(self.variant, round);
+        offer_lower(&mut self.lower, offers, round, divisor, one, against_one);
+        offer_upper(&mut self.upper, offers, round, divisor, two, against_two);
         push_line(&mut self.trace, round, &self.lower, &self.upper);
     }
 
@@ -158,6 +180,7 @@ fn new_end(
 {
     Ok(BestEnd {
         round: 0,
+        divisor: 0,
         plan: Plan::new(alloc, form, player)?,
         reply: Reply::new(alloc, form, other)?,
         sets: form.set_count(other),

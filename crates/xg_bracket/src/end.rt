@@ -1,16 +1,17 @@
 //! An end of the bracket so far, and how it gives way to a better one.
 ghost use Rattle.std.specs.Prelude.{◌≡◌, ◌*ℤ◌, ◌<◌, ◌≤◌, ◌^◌, int_lt, length, pos, unsigned_abs};
-ghost use Rattle.def_sums.specs.Limits.{most_rounds, most_row};
-ghost use Rattle.def_reply.specs.Offers.{keep_lower, keep_upper};
+ghost use Rattle.def_sums.specs.Limits.{most_row};
+ghost use Rattle.def_reply.specs.Offers.{keep_lower, keep_upper, most_divisor};
 ghost use Rattle.xg_bracket.specs.Ends.{CanKeep, IsSomePlan, end_after, kept_end, kept_of};
 
 use crate::parts::PlanAndReply;
 use xg_plan::{Plan, Reply, add_to};
 
-// A player's plan after a round, and the reply to it, which is one for so many sets.
+// A player's plan after a round, by what its bound is divided, and the reply to it, which is one for so many sets.
 #[derive(Drop)]
 pub(crate) struct BestEnd {
     pub(crate) round: u32,
+    pub(crate) divisor: u32,
     pub(crate) plan: Plan,
     pub(crate) reply: Reply,
     pub(crate) sets: u32,
@@ -28,31 +29,45 @@ impl BestEnd {
     }
 }
 
-// Keeps the plan with the greater floor by its round, of equals the one that is kept.
-pub(crate) fn offer_lower(end: &mut BestEnd, offers: usize, round: u32, plan: &Plan, reply: &Reply)
-    requires next { CanKeep end.old round plan.now reply.now.reply }
+// Keeps the plan with the greater floor by its divisor, of equals the one that is kept.
+pub(crate) fn offer_lower(
+    end: &mut BestEnd,
+    offers: usize,
+    round: u32,
+    divisor: u32,
+    plan: &Plan,
+    reply: &Reply,
+)
+    requires next { CanKeep end.old divisor plan.now reply.now.reply }
     ensures end { kept_of end.new
-        ≡ keep_lower (end_after offers (kept_of end.old)) (kept_end round plan.now reply.now.reply) }
+        ≡ keep_lower (end_after offers (kept_of end.old)) (kept_end round divisor plan.now reply.now.reply) }
     ensures plans { length end.new.plan ≡ length end.old.plan }
     ensures sets { end.new.sets ≡ end.old.sets }
     ensures replies { length end.new.reply.reply.sets ≡ length end.old.reply.reply.sets }
 {
-    if offers == 0 || is_less(&end.reply, round, reply, end.round) {
-        keep(end, round, plan, reply);
+    if offers == 0 || is_less(&end.reply, divisor, reply, end.divisor) {
+        keep(end, round, divisor, plan, reply);
     }
 }
 
-// Keeps the plan with the lower ceiling by its round, of equals the one that is kept.
-pub(crate) fn offer_upper(end: &mut BestEnd, offers: usize, round: u32, plan: &Plan, reply: &Reply)
-    requires next { CanKeep end.old round plan.now reply.now.reply }
+// Keeps the plan with the lower ceiling by its divisor, of equals the one that is kept.
+pub(crate) fn offer_upper(
+    end: &mut BestEnd,
+    offers: usize,
+    round: u32,
+    divisor: u32,
+    plan: &Plan,
+    reply: &Reply,
+)
+    requires next { CanKeep end.old divisor plan.now reply.now.reply }
     ensures end { kept_of end.new
-        ≡ keep_upper (end_after offers (kept_of end.old)) (kept_end round plan.now reply.now.reply) }
+        ≡ keep_upper (end_after offers (kept_of end.old)) (kept_end round divisor plan.now reply.now.reply) }
     ensures plans { length end.new.plan ≡ length end.old.plan }
     ensures sets { end.new.sets ≡ end.old.sets }
     ensures replies { length end.new.reply.reply.sets ≡ length end.old.reply.reply.sets }
 {
-    if offers == 0 || is_less(reply, end.round, &end.reply, round) {
-        keep(end, round, plan, reply);
+    if offers == 0 || is_less(reply, end.divisor, &end.reply, divisor) {
+        keep(end, round, divisor, plan, reply);
     }
 }
 
@@ -60,8 +75,8 @@ pub(crate) fn offer_upper(end: &mut BestEnd, offers: usize, round: u32, plan: &P
 fn is_less(first: &Reply, factor: u32, second: &Reply, other_factor: u32) -> bool
     requires first { unsigned_abs first.now.reply.total ≤ most_row }
     requires second { unsigned_abs second.now.reply.total ≤ most_row }
-    requires factor { factor ≤ most_rounds }
-    requires other_factor { other_factor ≤ most_rounds }
+    requires factor { factor ≤ most_divisor }
+    requires other_factor { other_factor ≤ most_divisor }
     ensures { result ≡ int_lt (first.now.reply.total *ℤ pos factor) (second.now.reply.total *ℤ pos other_factor) }
 {
     times(first, factor) < times(second, other_factor)
@@ -69,21 +84,22 @@ fn is_less(first: &Reply, factor: u32, second: &Reply, other_factor: u32) -> boo
 
 fn times(reply: &Reply, factor: u32) -> i128
     requires total { unsigned_abs reply.now.reply.total ≤ most_row }
-    requires factor { factor ≤ most_rounds }
+    requires factor { factor ≤ most_divisor }
     ensures { result ≡ reply.now.reply.total *ℤ pos factor }
 {
     reply.total() * i128::from(factor)
 }
 
-fn keep(end: &mut BestEnd, round: u32, plan: &Plan, reply: &Reply)
+fn keep(end: &mut BestEnd, round: u32, divisor: u32, plan: &Plan, reply: &Reply)
     requires plan { IsSomePlan plan.now }
     requires sequences { length plan.now ≡ length end.old.plan }
     requires kept_sets { length end.old.reply.reply.sets ≡ end.old.sets }
     requires sets { length reply.now.reply.sets ≡ end.old.sets }
-    ensures end { kept_of end.new ≡ kept_end round plan.now reply.now.reply }
+    ensures end { kept_of end.new ≡ kept_end round divisor plan.now reply.now.reply }
     ensures sets { end.new.sets ≡ end.old.sets }
 {
     end.round = round;
+    end.divisor = divisor;
     copy_plan(plan, &mut end.plan);
     copy_reply(reply, end.sets, &mut end.reply);
 }

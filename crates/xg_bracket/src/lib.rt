@@ -4,7 +4,9 @@
 mod board;
 mod end;
 mod parts;
+mod weighing;
 
 pub use board::Board;
+pub use def_plus::Variant;
 pub use def_reply::TraceLine;
 pub use parts::{BoardParts, PlanAndReply};

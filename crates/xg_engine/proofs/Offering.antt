@@ -7,13 +7,15 @@ use Rattle.std.proofs.lemmas.List.Elements.{filter-append}
 use Rattle.std.proofs.lemmas.List.Sums.{fold-append}
 use Rattle.def_sums.proofs.Ranges.{range-append}
 use Rattle.def_plan.specs.Form.{SequenceForm}
-use Rattle.def_reply.specs.Bracket.{evaluated_rounds, trace}
+use Rattle.def_reply.specs.Bracket.{evaluated_rounds}
 use Rattle.def_reply.specs.declared.TraceLine.{TraceLine}
 use Rattle.def_reply.specs.Offers.{Board, KeptEnd, Offer, keep_lower, keep_upper, lower_of, upper_of, board_after, evaluation_of_offer, new_board, offered}
 use Rattle.def_reply.proofs.KeptEnds.{offers_are_traced}
 use Rattle.def_reply.proofs.TraceLines.{trace_lines}
-use Rattle.def_round.specs.Rounds.{rounds}
-use Rattle.def_run.specs.Run.{offer_after}
+use Rattle.def_run.specs.Run.{offer_in}
+use Rattle.def_plus.specs.declared.Variant.{Variant}
+use Rattle.def_plus.specs.Variants.{rounds_of}
+use Rattle.def_plus_run.specs.VariantRun.{run_of}
 use Rattle.xg_bracket.specs.Board.{last_round}
 use Rattle.xg_engine.specs.Evaluations.{best_offer, offers_upto}
 use Rattle.xg_engine.specs.declared.settings.Settings.{Settings}
@@ -32,7 +34,10 @@ module _ (p : ℕ → Bool) where
       ∙ filter-append p (range_with_len 1 m) (range_with_len (1 + m) (n - m)) in
       omega (arith, ap length all, length-append (filter p (range_with_len 1 m)) (filter p (range_with_len (1 + m) (n - m))))
 
-module _ (form : SequenceForm) (settings : Settings) where
+module _ (variant : Variant) (form : SequenceForm) (settings : Settings) where
+  abbrev offer_at : ℕ → Offer
+  offer_at round = offer_in form (run_of variant form settings.scale) round
+
   abbrev pub is_due : ℕ → Bool
   is_due j = eqb (j % settings.every) 0 || eqb j settings.rounds
 
@@ -41,10 +46,10 @@ module _ (form : SequenceForm) (settings : Settings) where
 
   -- after an evaluated round there is one offer more
   pub offers_more : (n : ℕ) → is_due (n + 1) ≡ true
-      → offers_upto form settings (n + 1) ≡ offers_upto form settings n ++ offer_after form settings.scale (n + 1) ∷ []
+      → offers_upto variant form settings (n + 1) ≡ offers_upto variant form settings n ++ offer_at (n + 1) ∷ []
   offers_more n now =
-      ap (map (offer_after form settings.scale)) (kept_more is_due n ∙ ap (λ b. due n ++ cond b ((n + 1) ∷ []) []) now)
-      ∙ map-append (offer_after form settings.scale) (due n) ((n + 1) ∷ [])
+      ap (map offer_at) (kept_more is_due n ∙ ap (λ b. due n ++ cond b ((n + 1) ∷ []) []) now)
+      ∙ map-append offer_at (due n) ((n + 1) ∷ [])
 
   -- a round that `every` divides, or else that is the last one, is evaluated
   pub due_now : (n : ℕ)
@@ -65,27 +70,27 @@ module _ (form : SequenceForm) (settings : Settings) where
   nothing_more (x ∷ xs) = ap (λ ys. x ∷ ys) (nothing_more xs)
 
   -- and after any other round as many
-  pub offers_same : (n : ℕ) → is_due (n + 1) ≡ false → offers_upto form settings (n + 1) ≡ offers_upto form settings n
+  pub offers_same : (n : ℕ) → is_due (n + 1) ≡ false → offers_upto variant form settings (n + 1) ≡ offers_upto variant form settings n
   offers_same n now =
-      ap (map (offer_after form settings.scale)) (kept_more is_due n ∙ ap (λ b. due n ++ cond b ((n + 1) ∷ []) []) now ∙ nothing_more (due n))
+      ap (map offer_at) (kept_more is_due n ∙ ap (λ b. due n ++ cond b ((n + 1) ∷ []) []) now ∙ nothing_more (due n))
 
   -- the board of one offer more
   pub board_more : (n : ℕ) → is_due (n + 1) ≡ true
-      → board_after (offers_upto form settings (n + 1))
-      ≡ offered (board_after (offers_upto form settings n)) (offer_after form settings.scale (n + 1))
+      → board_after (offers_upto variant form settings (n + 1))
+      ≡ offered (board_after (offers_upto variant form settings n)) (offer_at (n + 1))
   board_more n now =
       ap board_after (offers_more n now)
-      ∙ fold-append offered new_board (offers_upto form settings n) (offer_after form settings.scale (n + 1) ∷ [])
+      ∙ fold-append offered new_board (offers_upto variant form settings n) (offer_at (n + 1) ∷ [])
 
-  length-offers : (n : ℕ) → length (board_after (offers_upto form settings n)).trace ≡ length (due n)
+  length-offers : (n : ℕ) → length (board_after (offers_upto variant form settings n)).trace ≡ length (due n)
   length-offers n =
-      let os : List Offer = offers_upto form settings n in
+      let os : List Offer = offers_upto variant form settings n in
       ap length (offers_are_traced os) ∙ trace_lines.count (map evaluation_of_offer os)
-      ∙ length-map os evaluation_of_offer ∙ length-map (due n) (offer_after form settings.scale)
+      ∙ length-map os evaluation_of_offer ∙ length-map (due n) offer_at
 
   -- before an evaluated round there are fewer lines than evaluated rounds in all
   pub room_for_more : (n : ℕ) → n < settings.rounds → is_due (n + 1) ≡ true
-      → length (board_after (offers_upto form settings n)).trace < length (evaluated_rounds settings.every settings.rounds)
+      → length (board_after (offers_upto variant form settings n)).trace < length (evaluated_rounds settings.every settings.rounds)
   room_for_more n low now =
       let grown = ap length (kept_more is_due n ∙ ap (λ b. due n ++ cond b ((n + 1) ∷ []) []) now) in
       omega (
@@ -103,27 +108,27 @@ last_of_more (x ∷ []) line = refl
 last_of_more (x ∷ y ∷ lines) line = last_of_more (y ∷ lines) line
 
 -- one evaluation more
-module _ (form : SequenceForm) (settings : Settings) (n : ℕ) (one two : List ℕ) (before after : Board)
-    (are_one : one ≡ (rounds form settings.scale (n + 1)).sum_one)
-    (are_two : two ≡ (rounds form settings.scale (n + 1)).sum_two)
-    (is_before : before ≡ board_after (offers_upto form settings n))
-    (is_after : after ≡ offered before (best_offer form (n + 1) one two)) where
+module _ (variant : Variant) (form : SequenceForm) (settings : Settings) (n : ℕ) (one two : List ℕ) (before after : Board)
+    (are_one : one ≡ (rounds_of variant form settings.scale (n + 1)).sum_one)
+    (are_two : two ≡ (rounds_of variant form settings.scale (n + 1)).sum_two)
+    (is_before : before ≡ board_after (offers_upto variant form settings n))
+    (is_after : after ≡ offered before (best_offer variant form (n + 1) one two)) where
   -- after an evaluated round the board with its best offer is that of all offers up to it
-  pub evaluated_once_more : is_due form settings (n + 1) ≡ true
-      → after ≡ board_after (offers_upto form settings (n + 1))
+  pub evaluated_once_more : is_due variant form settings (n + 1) ≡ true
+      → after ≡ board_after (offers_upto variant form settings (n + 1))
   evaluated_once_more now =
-      is_after ∙ (λ i. offered (is_before i) (best_offer form (n + 1) (are_one i) (are_two i)))
-      ∙ sym (board_more form settings n now)
+      is_after ∙ (λ i. offered (is_before i) (best_offer variant form (n + 1) (are_one i) (are_two i)))
+      ∙ sym (board_more variant form settings n now)
 
   -- the last line of the board with the new offer is of no later round than this one
   pub last_is_now : last_round after.trace ≤ n + 1
   last_is_now =
-      let board : Board = offered before (best_offer form (n + 1) one two) in
+      let board : Board = offered before (best_offer variant form (n + 1) one two) in
       omega (arith, ap (λ (b : Board). last_round b.trace) is_after, last_of_more before.trace (last_line_of before))
     where
       last_line_of : Board → TraceLine
       last_line_of b =
-          let offer : Offer = best_offer form (n + 1) one two in
+          let offer : Offer = best_offer variant form (n + 1) one two in
           let lower : KeptEnd = keep_lower b.lower (lower_of offer) in
           let upper : KeptEnd = keep_upper b.upper (upper_of offer) in
           record { round = n + 1; low_round = lower.round; low = lower.reply.total; high_round = upper.round; high = upper.reply.total }

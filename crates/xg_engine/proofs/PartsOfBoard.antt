@@ -1,8 +1,7 @@
 -- The ends among the parts of a board are those of the outcome with it.
-use Rattle.std.proofs.Common.{◌≡◌, List, Option, Some, None, refl, sym}
+use Rattle.std.proofs.Common.{◌≡◌, Option, Some, None, refl, sym}
 use Rattle.std.proofs.lemmas.Option.{none-some}
 use Rattle.std.specs.Option.{option_map}
-use Rattle.def_reply.specs.Reply.{Reply}
 use Rattle.def_reply.specs.Offers.{KeptEnd}
 use Rattle.def_run.specs.Run.{both_ends}
 use Rattle.xg_bracket.specs.declared.parts.PlanAndReply.{PlanAndReply}

@@ -2,9 +2,13 @@
 use Rattle.std.specs.Prelude.{◌≡◌, ℕ, ◌+◌, ◌≤◌, ℤ, List, length}
 use Rattle.def_sums.specs.Limits.{most_mass, most_root}
 use Rattle.def_plan.specs.Form.{AreInOrder, InformationSet, SequenceForm, sequence_count}
-use Rattle.def_plan.specs.Plan.{IsPlan, IsPlanOrCleared}
+use Rattle.def_plan.specs.Plan.{IsPlan, IsPlanOrCleared, added}
 use Rattle.def_plan.specs.Payoff.{mass_of}
-use Rattle.def_round.specs.Rounds.{rounds}
+use Rattle.def_plus.specs.declared.Variant.{Variant}
+use Rattle.def_plus.specs.declared.Variant.TheVariants.{Plain, Plus}
+use Rattle.def_plus.specs.Cut.{cut}
+use Rattle.def_plus.specs.Multiple.{added_times}
+use Rattle.def_plus.specs.Variants.{rounds_of}
 use Rattle.xg_engine.specs.declared.players.Learner.{Learner}
 use Rattle.xg_engine.specs.declared.players.Players.{Players}
 
@@ -36,10 +40,25 @@ pub record StandsWith (sets : List InformationSet) (closed : ℕ) (regrets : Lis
   pub closed_are : learner.regrets.closed ≡ closed
   pub sums_are : learner.sum ≡ sums
 
--- both players stand as after so many rounds with plans of this root
-pub record StandAfter (form : SequenceForm) (root n : ℕ) (players : Players) : Type 0 where
-  pub one : StandsWith form.sets_one n (rounds form root n).regrets_one (rounds form root n).sum_one players.one
-  pub two : StandsWith form.sets_two n (rounds form root n).regrets_two (rounds form root n).sum_two players.two
+-- both players stand as after so many rounds of the variant with plans of this root
+pub record StandAfter (variant : Variant) (form : SequenceForm) (root n : ℕ) (players : Players) : Type 0 where
+  pub one : StandsWith form.sets_one n (rounds_of variant form root n).regrets_one (rounds_of variant form root n).sum_one players.one
+  pub two : StandsWith form.sets_two n (rounds_of variant form root n).regrets_two (rounds_of variant form root n).sum_two players.two
+
+-- how many times the plan of a round counts in the sum
+abbrev pub times_of : Variant → ℕ → ℕ
+times_of Plain round = 1
+times_of Plus round = round
+
+-- a sum with the plan of a round
+abbrev pub sum_with : Variant → ℕ → List ℕ → List ℕ → List ℕ
+sum_with Plain round sum plan = added sum plan
+sum_with Plus round sum plan = added_times sum plan round
+
+-- what is kept of regrets after a round
+abbrev pub regrets_kept : Variant → List ℤ → List ℤ
+regrets_kept Plain regrets = regrets
+regrets_kept Plus regrets = cut regrets
 
 -- a plan with numbers within the limit of a sum of plans
 pub record IsSmallPlan (sets : List InformationSet) (plan : List ℕ) : Type 0 where

@@ -4,6 +4,7 @@ use Rattle.def_plan.specs.Form.{SequenceForm}
 use Rattle.def_reply.specs.Bracket.{evaluated_rounds}
 use Rattle.def_reply.specs.Offers.{board_after}
 use Rattle.def_reply.specs.Outcome.{OutcomeEnds}
+use Rattle.def_plus.specs.declared.Variant.{Variant}
 use Rattle.xg_bracket.specs.Board.{last_round}
 use Rattle.xg_bracket.specs.declared.parts.PlanAndReply.{PlanAndReply}
 use Rattle.xg_engine.specs.Evaluations.{CanEvaluate, offers_upto}
@@ -12,10 +13,10 @@ use Rattle.xg_engine.specs.declared.running.Run.{Run}
 use Rattle.xg_engine.specs.declared.settings.Settings.{Settings}
 
 -- after so many rounds the players stand as the rounds say, and the board has the offers of the evaluated ones
-pub record IsAfter (form : SequenceForm) (settings : Settings) (n : ℕ) (run : Run) : Type 0 where
-  pub players : StandAfter form settings.scale n run.players
-  pub room : CanEvaluate form (length (evaluated_rounds settings.every settings.rounds)) run.evaluator
-  pub board : run.evaluator.board.board ≡ board_after (offers_upto form settings n)
+pub record IsAfter (variant : Variant) (form : SequenceForm) (settings : Settings) (n : ℕ) (run : Run) : Type 0 where
+  pub players : StandAfter variant form settings.scale n run.players
+  pub room : CanEvaluate variant form (length (evaluated_rounds settings.every settings.rounds)) run.evaluator
+  pub board : run.evaluator.board.board ≡ board_after (offers_upto variant form settings n)
   pub last : last_round run.evaluator.board.board.trace ≤ n
 
 -- both ends of the parts of a board

@@ -5,6 +5,8 @@ use Rattle.def_plan.specs.Form.{sequence_count}
 use Rattle.def_plan.specs.Payoff.{mass_of}
 use Rattle.def_reply.specs.Outcome.{Head, Outcome}
 use Rattle.def_round.specs.Rounds.{Standing}
+use Rattle.def_plus.specs.declared.Variant.{Variant}
+use Rattle.def_plus.specs.Variants.{most_rounds_of, most_scale_of}
 use Rattle.def_plan.specs.Weighed.{WeighedGame}
 use Rattle.xg_engine.specs.declared.settings.Settings.{Settings}
 
@@ -45,10 +47,18 @@ pub record Asks (settings : Settings) (head : Head) : Type 0 where
   pub every : head.every ≡ settings.every
   pub scale : head.scale ≡ settings.scale
 
--- what may be asked of a run
+-- what may be asked of a run of plain rounds
 pub record AreWithinLimits (settings : Settings) : Type 0 where
   pub few_rounds : settings.rounds ≤ most_rounds
   pub some_every : 1 ≤ settings.every
   pub small_every : settings.every ≤ most_rounds
   pub some_scale : 1 ≤ settings.scale
   pub small_scale : settings.scale ≤ most_scale
+
+-- what may be asked of a run of rounds of the variant
+pub record AreWithinLimitsOf (variant : Variant) (settings : Settings) : Type 0 where
+  pub few_rounds : settings.rounds ≤ most_rounds_of variant
+  pub some_every : 1 ≤ settings.every
+  pub small_every : settings.every ≤ most_rounds
+  pub some_scale : 1 ≤ settings.scale
+  pub small_scale : settings.scale ≤ most_scale_of variant

@@ -9,14 +9,18 @@ ghost use Rattle.xg_cert.specs.Outcome.{head_of};
 ghost use Rattle.xg_cert.specs.Writable.{IsOutcomeOf};
 ghost use Rattle.def_round.specs.Rounds.{rounds};
 ghost use Rattle.def_run.specs.Run.{outcome};
+ghost use Rattle.def_plus.specs.declared.Variant.TheVariants.{Plain};
+ghost use Rattle.def_plus.specs.Variants.{rounds_of};
+ghost use Rattle.def_plus_run.specs.VariantRun.{outcome_of};
 ghost use Rattle.xg_engine.specs.Ends.{AreBoundsOfLine, AreUnbeaten, HasEnds, HasGapOfLine, NoLineIsWider};
-ghost use Rattle.xg_engine.specs.State.{AreWithinLimits, Asks, head_with, sums_of};
+ghost use Rattle.xg_engine.specs.State.{AreWithinLimits, AreWithinLimitsOf, Asks, head_with, sums_of};
 ghost use Rattle.def_game_numbers.specs.Weighed.{weighed_game};
 
 use crate::asking::head_with;
 use crate::running::{FinishedRun, play};
 use crate::settings::Settings;
 use crate::source::RowSource;
+use def_plus::Variant;
 use std::alloc::{AllocError, Global};
 use std::marker::Model;
 use std::sync::Wait;
@@ -102,12 +106,48 @@ impl Engine {
 
         // What the ends of the bracket bound, how far they are apart, and that no plans do better.
         ensures bounds { OnOk result (1 ≤ settings.rounds
-            → IfSome self.new.outcome (HasEnds (AreBoundsOfLine self.old.game.form settings.scale))) }
+            → IfSome self.new.outcome (HasEnds (AreBoundsOfLine self.old.game.form Plain settings.scale))) }
         ensures gap { OnOk result (1 ≤ settings.rounds
-            → IfSome self.new.outcome (HasEnds (HasGapOfLine self.old.game.form settings.scale))) }
+            → IfSome self.new.outcome (HasEnds (HasGapOfLine self.old.game.form Plain settings.scale))) }
         ensures unbeaten { OnOk result (1 ≤ settings.rounds
-            → IfSome self.new.outcome (HasEnds (AreUnbeaten self.old.game.form settings.scale))) }
-        ensures trace { OnOk result (IfSome self.new.outcome (λ outcome. NoLineIsWider outcome.trace)) }
+            → IfSome self.new.outcome (HasEnds (AreUnbeaten self.old.game.form Plain settings.scale))) }
+        ensures trace { OnOk result (IfSome self.new.outcome (λ outcome. NoLineIsWider Plain outcome.trace)) }
+
+        // It can be written as a certificate.
+        ensures writable { OnOk result (IfSome self.new.outcome (IsOutcomeOf self.old.game.form)) }
+    {
+        self.run_variant(rt, alloc, Variant::Plain, settings, maker)
+    }
+
+    /// The same with rounds of this variant, of which those of CFR+ forget negative regrets and count in the average
+    /// as many times as their number (Tammelin 2014).
+    pub fn run_variant<Rt: Threads + Wait + Sync, M: RowMaker>(
+        &mut self,
+        rt: &Rt,
+        alloc: Global,
+        variant: Variant,
+        settings: Settings,
+        maker: &M,
+    ) -> Result<(), AllocError>
+        requires sync { IsSync Rt.row }
+        requires can { M.can_make maker.now }
+        requires limits { AreWithinLimitsOf variant settings }
+        ensures outcome { OnOk result (self.new.outcome
+            ≡ Some (outcome_of variant self.old.game.form (head_with self.old.game settings))) }
+        ensures sums { OnOk result (self.new.sums
+            ≡ Some (sums_of (rounds_of variant self.old.game.form settings.scale settings.rounds))) }
+        ensures no_memory { OnErr result (self.new.outcome ≡ None) }
+        ensures no_memory_sums { OnErr result (self.new.sums ≡ None) }
+        ensures game { self.new.game ≡ self.old.game }
+
+        // What the ends of the bracket bound, how far they are apart, and that no plans do better.
+        ensures bounds { OnOk result (1 ≤ settings.rounds
+            → IfSome self.new.outcome (HasEnds (AreBoundsOfLine self.old.game.form variant settings.scale))) }
+        ensures gap { OnOk result (1 ≤ settings.rounds
+            → IfSome self.new.outcome (HasEnds (HasGapOfLine self.old.game.form variant settings.scale))) }
+        ensures unbeaten { OnOk result (1 ≤ settings.rounds
+            → IfSome self.new.outcome (HasEnds (AreUnbeaten self.old.game.form variant settings.scale))) }
+        ensures trace { OnOk result (IfSome self.new.outcome (λ outcome. NoLineIsWider variant outcome.trace)) }
 
         // It can be written as a certificate.
         ensures writable { OnOk result (IfSome self.new.outcome (IsOutcomeOf self.old.game.form)) }
@@ -121,7 +161,7 @@ impl Engine {
             jobs: &self.jobs,
             maker,
         };
-        let finished = play(&source, settings, head)?;
+        let finished = play(&source, variant, settings, head)?;
         self.last_run = Some(finished);
         Ok(())
     }

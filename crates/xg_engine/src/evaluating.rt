@@ -8,6 +8,7 @@ ghost use Rattle.xg_engine.specs.Evaluations.{AreSumsAfter, CanEvaluate, best_of
 ghost use Rattle.xg_engine.specs.Players.{IsSoundForm};
 
 use crate::source::RowSource;
+use def_plus::Variant;
 use std::alloc::{AllocError, Global};
 use std::sync::Wait;
 use std::thread::Threads;
@@ -31,12 +32,13 @@ impl Evaluator {
         alloc: Global,
         form: &SeqForm,
         evaluations: u32,
+        variant: Variant,
     ) -> Result<Evaluator, AllocError>
-        ensures room { IfOk result (λ evaluator. CanEvaluate form.now evaluations evaluator) }
+        ensures room { IfOk result (λ evaluator. CanEvaluate variant form.now evaluations evaluator) }
         ensures board { IfOk result (λ evaluator. evaluator.board.board ≡ new_board) }
     {
         Ok(Evaluator {
-            board: Board::new(alloc, form, evaluations)?,
+            board: Board::of_variant(alloc, form, evaluations, variant)?,
             reply_one: Reply::new(alloc, form, Player::One)?,
             reply_two: Reply::new(alloc, form, Player::Two)?,
         })
@@ -54,13 +56,14 @@ impl Evaluator {
         requires can { M.can_make source.now.maker.now }
         requires table { IsTableOf source.now.form.now source.now.jobs.now }
         requires form { IsSoundForm source.now.form.now }
-        requires plans { AreSumsAfter source.now.form.now round one.now two.now }
+        requires plans { AreSumsAfter self.old.board.variant source.now.form.now round one.now two.now }
         requires later { last_round self.old.board.board.trace < round }
-        requires replies { CanEvaluate source.now.form.now self.old.board.capacity self.old }
+        requires replies { CanEvaluate self.old.board.variant source.now.form.now self.old.board.capacity self.old }
         requires room { length self.old.board.board.trace < self.old.board.capacity }
-        ensures room { OnOk result (CanEvaluate source.now.form.now self.old.board.capacity self.new) }
+        ensures room { OnOk result
+            (CanEvaluate self.old.board.variant source.now.form.now self.old.board.capacity self.new) }
         ensures board { OnOk result (self.new.board.board ≡ offered self.old.board.board
-            (best_offer source.now.form.now round one.now two.now)) }
+            (best_offer self.old.board.variant source.now.form.now round one.now two.now)) }
     {
         let rows = source.rows(one, two)?;
         best_reply(source.form, Player::Two, rows.two(), &mut self.reply_two);

@@ -11,5 +11,6 @@ mod settings;
 mod source;
 
 pub use asking::head_with;
+pub use def_plus::Variant;
 pub use engine::Engine;
 pub use settings::Settings;

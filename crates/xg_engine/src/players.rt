@@ -1,23 +1,29 @@
 //! Both players from round to round.
-ghost use Rattle.std.specs.Prelude.{◌≡◌, ◌+◌, ◌*◌, ◌^◌, ◌<◌, ◌≤◌, ℕ, List, IfOk, OnOk, length, pos, replicate, unsigned_abs};
+ghost use Rattle.std.specs.Prelude.{◌≡◌, ◌+◌, ◌*◌, ◌^◌, ◌<◌, ◌≤◌, ℕ, List, IfOk, OnOk};
+ghost use Rattle.std.specs.Prelude.{length, pos, replicate, slice_index, unsigned_abs};
 ghost use Rattle.std.specs.Thread.{IsSync};
-ghost use Rattle.def_sums.specs.Limits.{most_rounds, most_scale, most_round_row};
+ghost use Rattle.def_sums.specs.Limits.{most_root, most_rounds, most_scale, most_round_row};
 ghost use Rattle.def_sums.specs.Sum.{nat_sum_over};
 ghost use Rattle.def_plan.specs.Form.{player_sets, sequence_count};
-ghost use Rattle.def_plan.specs.Plan.{IsPlan, added, cleared};
+ghost use Rattle.def_plan.specs.Plan.{IsPlan, cleared};
 ghost use Rattle.def_plan.specs.FormRows.{player_rows};
 ghost use Rattle.def_round.specs.Play.{GivesAllUnits, plan_of_play, play_of};
 ghost use Rattle.def_round.specs.Round.{own_sum, regrets_after};
+ghost use Rattle.def_plus.specs.declared.Variant.{Variant};
+ghost use Rattle.def_plus.specs.Variants.{most_rounds_of, most_scale_of};
 ghost use Rattle.xg_jobs.specs.Table.{IsTableOf};
+ghost use Rattle.xg_plan.specs.Plan.{AreOfOneForm};
 ghost use Rattle.xg_engine.specs.Players.{CanGrow, HasRoomForSequences, IsSoundForm, StandAfter, StandsWith};
+ghost use Rattle.xg_engine.specs.Players.{regrets_kept, sum_with, times_of};
 
 use crate::source::RowSource;
+use def_plus::Variant;
 use std::alloc::{AllocError, Global};
 use std::sync::Wait;
 use std::thread::Threads;
 use xg_closer::{Regrets, close_round, play_into};
 use xg_jobs::RowMaker;
-use xg_plan::{Plan, Play, Player, add_to, from_play};
+use xg_plan::{Plan, Play, Player, add_times, add_to, from_play};
 use xg_seq::SeqForm;
 
 /// A player's regrets and sum of plans, with the play and the plan of the last round.
@@ -52,26 +58,33 @@ impl Learner {
     }
 
     /// Plays by the regrets as they stand, and adds the plan of this play to the sum.
-    fn plan_round(&mut self, form: &SeqForm, player: Player, scale: u32)
+    fn plan_round(
+        &mut self,
+        form: &SeqForm,
+        player: Player,
+        variant: Variant,
+        scale: u32,
+        round: u64,
+    )
         requires room { HasRoomForSequences (player_sets form.now player) self.old }
         requires some_scale { 1 ≤ scale }
         requires small_scale { scale ≤ most_scale }
-        requires sums { CanGrow (player_sets form.now player) scale self.old.sum }
+        requires sums { CanGrow (player_sets form.now player) (times_of variant round * scale) self.old.sum }
         ensures room { HasRoomForSequences (player_sets form.now player) self.new }
         ensures play { self.new.play ≡ play_of (player_sets form.now player) self.old.regrets.of_sequences }
         ensures all_units { GivesAllUnits self.new.play (player_sets form.now player) }
         ensures plan { self.new.plan ≡ plan_of_play (player_sets form.now player) self.new.play scale }
         ensures is_plan { IsPlan (player_sets form.now player) scale self.new.plan }
-        ensures sums { self.new.sum ≡ added self.old.sum self.new.plan }
+        ensures sums { self.new.sum ≡ sum_with variant round self.old.sum self.new.plan }
         ensures regrets { self.new.regrets ≡ self.old.regrets }
     {
         play_into(form, player, &self.regrets, &mut self.play);
         from_play(form, player, &self.play, scale as u64, &mut self.plan);
-        add_to(&mut self.sum, &self.plan);
+        add_plan(&mut self.sum, &self.plan, variant, round);
     }
 
-    /// Adds the regrets of a round, by the rows against the other player's plan.
-    fn learn(&mut self, form: &SeqForm, player: Player, rows: &[i128])
+    /// Adds the regrets of a round, by the rows against the other player's plan, and in rounds of CFR+ cuts them.
+    fn learn(&mut self, form: &SeqForm, player: Player, variant: Variant, rows: &[i128])
         requires room { HasRoomForSequences (player_sets form.now player) self.old }
         requires few_rounds { self.old.regrets.closed < most_rounds }
         requires all_units { GivesAllUnits self.old.play (player_sets form.now player) }
@@ -79,19 +92,23 @@ impl Learner {
         requires small { nat_sum_over unsigned_abs rows.now ≤ most_round_row }
         ensures room { HasRoomForSequences (player_sets form.now player) self.new }
         ensures regrets { (against : List ℕ) → rows.now ≡ player_rows form.now player against
-            → self.new.regrets.of_sequences
-            ≡ regrets_after (own_sum player form.now.leaves against) self.old.play (player_sets form.now player) self.old.regrets.of_sequences }
+            → let sums = own_sum player form.now.leaves against in
+            let sets = player_sets form.now player in
+            self.new.regrets.of_sequences
+            ≡ regrets_kept variant (regrets_after sums self.old.play sets self.old.regrets.of_sequences) }
         ensures closed { self.new.regrets.closed ≡ self.old.regrets.closed + 1 }
         ensures sums { self.new.sum ≡ self.old.sum }
     {
         close_round(form, player, &mut self.regrets, &self.play, rows);
+        cut_regrets(&mut self.regrets, variant);
     }
 }
 
 impl Players {
     /// Both players before the first round.
     pub(crate) fn new(alloc: Global, form: &SeqForm) -> Result<Players, AllocError>
-        ensures { (scale : ℕ) → IfOk result (λ players. StandAfter form.now scale 0 players) }
+        ensures { (variant : Variant) (scale : ℕ)
+            → IfOk result (λ players. StandAfter variant form.now scale 0 players) }
     {
         Ok(Players {
             one: Learner::new(alloc, form, Player::One)?,
@@ -103,24 +120,55 @@ impl Players {
     pub(crate) fn play_round<Rt: Threads + Wait + Sync, M: RowMaker>(
         &mut self,
         source: &RowSource<'_, Rt, M>,
+        variant: Variant,
         scale: u32,
-        round: u32,
+        so_far: u32,
     ) -> Result<(), AllocError>
         requires sync { IsSync Rt.row }
         requires can { M.can_make source.now.maker.now }
         requires table { IsTableOf source.now.form.now source.now.jobs.now }
         requires form { IsSoundForm source.now.form.now }
         requires some_scale { 1 ≤ scale }
-        requires small_scale { scale ≤ most_scale }
-        requires few_rounds { round < most_rounds }
-        requires stand { StandAfter source.now.form.now scale round self.old }
-        ensures { OnOk result (StandAfter source.now.form.now scale (round + 1) self.new) }
+        requires small_scale { scale ≤ most_scale_of variant }
+        requires few_rounds { so_far < most_rounds_of variant }
+        requires stand { StandAfter variant source.now.form.now scale so_far self.old }
+        ensures { OnOk result (StandAfter variant source.now.form.now scale (so_far + 1) self.new) }
     {
-        self.one.plan_round(source.form, Player::One, scale);
-        self.two.plan_round(source.form, Player::Two, scale);
+        let round = u64::from(so_far) + 1;
+        self.one
+            .plan_round(source.form, Player::One, variant, scale, round);
+        self.two
+            .plan_round(source.form, Player::Two, variant, scale, round);
         let rows = source.rows(&self.one.plan, &self.two.plan)?;
-        self.one.learn(source.form, Player::One, rows.one());
-        self.two.learn(source.form, Player::Two, rows.two());
+        self.one
+            .learn(source.form, Player::One, variant, rows.one());
+        self.two
+            .learn(source.form, Player::Two, variant, rows.two());
         Ok(())
+    }
+}
+
+// Adds the plan of a round to the sum, in rounds of CFR+ as many times as the number of the round.
+fn add_plan(sum: &mut Plan, plan: &Plan, variant: Variant, round: u64)
+    requires as_many { length sum.old ≡ length plan.now }
+    requires limit { slice_index sum.old 0 + times_of variant round * slice_index plan.now 0 ≤ most_root }
+    requires one_form { AreOfOneForm sum.old plan.now }
+    ensures { sum.new ≡ sum_with variant round sum.old plan.now }
+{
+    match variant {
+        Variant::Plain => add_to(sum, plan),
+        Variant::Plus => add_times(sum, plan, round),
+    }
+}
+
+// Cuts the regrets of rounds of CFR+.
+fn cut_regrets(regrets: &mut Regrets, variant: Variant)
+    ensures regrets { regrets.new.of_sequences ≡ regrets_kept variant regrets.old.of_sequences }
+    ensures count { length regrets.new.of_sequences ≡ length regrets.old.of_sequences }
+    ensures closed { regrets.new.closed ≡ regrets.old.closed }
+{
+    match variant {
+        Variant::Plain => {}
+        Variant::Plus => regrets.cut(),
     }
 }

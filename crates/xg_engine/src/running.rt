@@ -2,19 +2,21 @@
 ghost use Rattle.std.specs.Prelude.{◌≡◌, ◌+◌, ◌<◌, ◌≤◌, IfOk, OnOk, length};
 ghost use Rattle.std.specs.Thread.{IsSync};
 ghost use Rattle.def_reply.specs.Bracket.{evaluated_rounds};
-ghost use Rattle.def_run.specs.Run.{outcome, outcome_with};
-ghost use Rattle.def_round.specs.Rounds.{rounds};
+ghost use Rattle.def_run.specs.Run.{outcome_with};
+ghost use Rattle.def_plus.specs.Variants.{rounds_of};
+ghost use Rattle.def_plus_run.specs.VariantRun.{outcome_of};
 ghost use Rattle.xg_cert.specs.Outcome.{head_of};
 ghost use Rattle.xg_jobs.specs.Table.{IsTableOf};
 ghost use Rattle.xg_engine.specs.Players.{IsSoundForm};
 ghost use Rattle.xg_engine.specs.Runs.{IsAfter};
-ghost use Rattle.xg_engine.specs.State.{AreWithinLimits, Asks};
+ghost use Rattle.xg_engine.specs.State.{AreWithinLimits, AreWithinLimitsOf, Asks};
 
 use crate::evaluating::Evaluator;
 use crate::finishing::outcome_with;
 use crate::players::Players;
 use crate::settings::Settings;
 use crate::source::RowSource;
+use def_plus::Variant;
 use std::alloc::{AllocError, Global};
 use std::sync::Wait;
 use std::thread::Threads;
@@ -39,13 +41,18 @@ pub(crate) struct Run {
 }
 
 impl Run {
-    fn new(alloc: Global, form: &SeqForm, settings: Settings) -> Result<Run, AllocError>
-        requires limits { AreWithinLimits settings }
-        ensures { IfOk result (λ run. IsAfter form.now settings 0 run) }
+    fn new(
+        alloc: Global,
+        form: &SeqForm,
+        variant: Variant,
+        settings: Settings,
+    ) -> Result<Run, AllocError>
+        requires limits { AreWithinLimitsOf variant settings }
+        ensures { IfOk result (λ run. IsAfter variant form.now settings 0 run) }
     {
         Ok(Run {
             players: Players::new(alloc, form)?,
-            evaluator: Evaluator::new(alloc, form, evaluation_count(settings))?,
+            evaluator: Evaluator::new(alloc, form, evaluation_count(settings), variant)?,
         })
     }
 
@@ -53,6 +60,7 @@ impl Run {
     fn step<Rt: Threads + Wait + Sync, M: RowMaker>(
         &mut self,
         source: &RowSource<'_, Rt, M>,
+        variant: Variant,
         settings: Settings,
         so_far: u32,
     ) -> Result<(), AllocError>
@@ -60,12 +68,13 @@ impl Run {
         requires can { M.can_make source.now.maker.now }
         requires table { IsTableOf source.now.form.now source.now.jobs.now }
         requires form { IsSoundForm source.now.form.now }
-        requires limits { AreWithinLimits settings }
+        requires limits { AreWithinLimitsOf variant settings }
         requires next { so_far < settings.rounds }
-        requires run { IsAfter source.now.form.now settings so_far self.old }
-        ensures { OnOk result (IsAfter source.now.form.now settings (so_far + 1) self.new) }
+        requires run { IsAfter variant source.now.form.now settings so_far self.old }
+        ensures { OnOk result (IsAfter variant source.now.form.now settings (so_far + 1) self.new) }
     {
-        self.players.play_round(source, settings.scale, so_far)?;
+        self.players
+            .play_round(source, variant, settings.scale, so_far)?;
         let round = so_far + 1;
         if round % settings.every == 0 || round == settings.rounds {
             let players = &self.players;
@@ -79,25 +88,26 @@ impl Run {
 /// Plays all rounds. Whatever outlives a round is made before the first one.
 pub(crate) fn play<Rt: Threads + Wait + Sync, M: RowMaker>(
     source: &RowSource<'_, Rt, M>,
+    variant: Variant,
     settings: Settings,
     head: Head,
 ) -> Result<FinishedRun, AllocError>
     requires sync { IsSync Rt.row }
     requires can { M.can_make source.now.maker.now }
     requires table { IsTableOf source.now.form.now source.now.jobs.now }
-    requires limits { AreWithinLimits settings }
+    requires limits { AreWithinLimitsOf variant settings }
     requires head { Asks settings (head_of head) }
-    ensures outcome { IfOk result (λ run. run.outcome ≡ outcome source.now.form.now (head_of head)) }
+    ensures outcome { IfOk result (λ run. run.outcome ≡ outcome_of variant source.now.form.now (head_of head)) }
     ensures sound { OnOk result (IsSoundForm source.now.form.now) }
     ensures sum_one { IfOk result (λ run.
-        run.sum_one ≡ (rounds source.now.form.now settings.scale settings.rounds).sum_one) }
+        run.sum_one ≡ (rounds_of variant source.now.form.now settings.scale settings.rounds).sum_one) }
     ensures sum_two { IfOk result (λ run.
-        run.sum_two ≡ (rounds source.now.form.now settings.scale settings.rounds).sum_two) }
+        run.sum_two ≡ (rounds_of variant source.now.form.now settings.scale settings.rounds).sum_two) }
 {
     form_is_sound(source.form);
-    let mut run = Run::new(source.alloc, source.form, settings)?;
+    let mut run = Run::new(source.alloc, source.form, variant, settings)?;
     for so_far in 0..settings.rounds {
-        run.step(source, settings, so_far)?;
+        run.step(source, variant, settings, so_far)?;
     }
     Ok(finish(head, run))
 }

@@ -17,7 +17,7 @@ use xg_jobs::PlainRows;
 use xg_test_data::files::{ONE_MOVER, PENNIES, TWICE_HIDDEN};
 
 /// A line of a trace in the order of the certificate: the round, the lower end's round and total, the upper end's.
-type Line = (u32, u32, i128, u32, i128);
+pub(crate) type Line = (u32, u32, i128, u32, i128);
 
 /// What is asked of a run, with the sums of both players' plans and the trace that it leaves.
 #[derive(Clone, Copy, Drop)]
@@ -52,7 +52,7 @@ const ROUNDS_OF_ONE_MOVER: &[WorkedRounds] = &[
     },
 ];
 
-const ROUNDS_OF_PENNIES: &[WorkedRounds] = &[
+pub(crate) const ROUNDS_OF_PENNIES: &[WorkedRounds] = &[
     WorkedRounds {
         rounds: 3,
         every: 2,
@@ -172,7 +172,7 @@ fn assert_trace(rt: &impl Abort, engine: &Engine, lines: &[Line]) {
     }
 }
 
-fn assert_lines(rt: &impl Abort, trace: &[TraceRow], lines: &[Line]) {
+pub(crate) fn assert_lines(rt: &impl Abort, trace: &[TraceRow], lines: &[Line]) {
     assert!(rt; trace.len() == lines.len());
     for (shown, line) in trace.iter().zip(lines) {
         assert!(rt; *shown == row(*line));

@@ -1,2 +1,3 @@
 pub mod PenniesOffers
+pub mod SmallSums
 pub mod ZeroWeights

@@ -19,14 +19,19 @@ use xg_test_data::nodes::{
 use xg_tree::{Kind, Node};
 
 /// What a player plays in a round, and the regrets after it is closed by these rows, of the sequences from 1 on.
-struct Round {
-    rows: &'static [i128],
-    play: &'static [u32],
-    regrets: &'static [i128],
+pub(crate) struct Round {
+    pub(crate) rows: &'static [i128],
+    pub(crate) play: &'static [u32],
+    pub(crate) regrets: &'static [i128],
 }
 
 /// The first sequence that is played otherwise.
-fn first_other_unit(form: &SeqForm, player: Player, play: &Play, units: &[u32]) -> Option<u32>
+pub(crate) fn first_other_unit(
+    form: &SeqForm,
+    player: Player,
+    play: &Play,
+    units: &[u32],
+) -> Option<u32>
     requires { length play.now ≡ sequence_count (player_sets form.now player) }
 {
     let count = form.sequence_count(player);
@@ -42,7 +47,7 @@ fn first_other_unit(form: &SeqForm, player: Player, play: &Play, units: &[u32]) 
 }
 
 /// The first sequence that has another regret.
-fn first_other_regret(
+pub(crate) fn first_other_regret(
     form: &SeqForm,
     player: Player,
     regrets: &Regrets,
@@ -63,7 +68,7 @@ fn first_other_regret(
 }
 
 /// Plays a round and closes it.
-fn play_round(
+pub(crate) fn play_round(
     rt: &impl Abort,
     form: &SeqForm,
     player: Player,
@@ -144,7 +149,7 @@ fn learn_in(
 
 const HALF: u32 = 32_768;
 
-const ALL: u32 = 65_536;
+pub(crate) const ALL: u32 = 65_536;
 
 // With plans of root 1; each player learns from the other's play of the same round.
 static PENNIES_OF_ONE: [Round; 3] = [
@@ -358,10 +363,10 @@ fn three_actions_share_all_units(rt: HostRuntime) -> Result<(), Fail> {
     learn_in(&rt, rt.alloc(), nodes, weights, Player::One, &THREE_ACTIONS)
 }
 
-const LARGE: i128 = 1 << 80;
+pub(crate) const LARGE: i128 = 1 << 80;
 
 // The floor of 21845 / 65536 of it.
-const PART: i128 = 21_845 << 64;
+pub(crate) const PART: i128 = 21_845 << 64;
 
 // The sums of such regrets need a division of 128 bits.
 static LARGE_REGRETS: [Round; 4] = [

@@ -3,9 +3,13 @@
 //! test, since a crate with tests is proved twice.
 
 #[cfg(test)]
+mod adding_tests;
+#[cfg(test)]
 mod bracket_tests;
 #[cfg(test)]
 mod closer_tests;
+#[cfg(test)]
+mod cut_tests;
 #[cfg(test)]
 mod links_tests;
 #[cfg(test)]

@@ -1,6 +1,6 @@
-use Rattle.std.proofs.Common.{◌*◌, ◌∙◌, sym, arith}
+use Rattle.std.proofs.Common.{◌*◌, ◌∙◌, sym}
 use Rattle.def_tree.specs.declared.Player.TheVariants.{One, Two}
-use Rattle.xg_engine.proofs.Growing.{sum_within}
+use Rattle.def_plus.specs.Variants.{weight_of}
 use Rattle.xg_engine.proofs.RowSizes.{count_of_rows, small_in_evaluation}
 use Rattle.xg_engine.proofs.evaluating.Evaluator.evaluate.Goals as goal
 
@@ -13,8 +13,7 @@ best_reply-requires-clause-small g c =
     let form = c.args.source.now.form.now in
     let plans = c.requires.plans in
     small_in_evaluation form Two c.args.one.now c.two.result.now (c.two.ensures ∙ c.in_ok-rows.ensures.two)
-    form.sets_one (c.args.round * plans.scale) c.requires.form.order_one plans.plan_one c.requires.form.small_mass
-    (sum_within c.args.round plans.scale plans.few_rounds plans.small_scale)
+    form.sets_one (weight_of c.args.self.now.board.variant c.args.round * plans.scale) c.requires.form.order_one plans.plan_one c.requires.form.small_mass plans.small_root
 
 pub best_reply-requires-2-clause-rows : goal.best_reply-requires-2-clause-rows
 best_reply-requires-2-clause-rows g c =
@@ -25,8 +24,7 @@ best_reply-requires-2-clause-small g c =
     let form = c.args.source.now.form.now in
     let plans = c.requires.plans in
     small_in_evaluation form One c.args.two.now c.one.result.now (c.one.ensures ∙ c.in_ok-rows.ensures.one)
-    form.sets_two (c.args.round * plans.scale) c.requires.form.order_two plans.plan_two c.requires.form.small_mass
-    (sum_within c.args.round plans.scale plans.few_rounds plans.small_scale)
+    form.sets_two (weight_of c.args.self.now.board.variant c.args.round * plans.scale) c.requires.form.order_two plans.plan_two c.requires.form.small_mass plans.small_root
 
 pub offer-requires-clause-fair : goal.offer-requires-clause-fair
 offer-requires-clause-fair g c =
@@ -41,8 +39,10 @@ offer-requires-clause-fair g c =
         scale = plans.scale;
         later = c.requires.later;
         few_rounds = plans.few_rounds;
-        some_divisor = omega (arith, c.requires.later);
-        some_scale = (plans.some_scale, plans.small_scale);
+        some_divisor = plans.some_weight;
+        small_divisor = plans.small_weight;
+        some_scale = plans.some_scale;
+        small_root = plans.small_root;
         plan_one = plans.plan_one;
         plan_two = plans.plan_two;
         against_one = c.best_reply.ensures.against c.args.one.now (c.two.ensures ∙ c.in_ok-rows.ensures.two);

@@ -1,18 +1,20 @@
 use Rattle.std.proofs.Common.{length, ap, sym, ◌∙◌}
 use Rattle.def_plan.specs.Form.{player_sets}
-use Rattle.def_plan.proofs.Adding.{length-added}
-use Rattle.xg_engine.proofs.Growing.{one_form, within_roots}
+use Rattle.xg_engine.specs.Players.{times_of}
+use Rattle.xg_engine.proofs.Growing.{length-sum_with, one_form, within_roots}
 use Rattle.xg_engine.proofs.players.Learner.plan_round.Goals as goal
 
-pub add_to-requires-clause-limit : goal.add_to-requires-clause-limit
-add_to-requires-clause-limit c =
+pub add_plan-requires-clause-limit : goal.add_plan-requires-clause-limit
+add_plan-requires-clause-limit c =
     let sets = player_sets c.args.form.now c.args.player in
-    within_roots sets c.args.scale c.args.self.now.sum c.from_play.new.into c.requires.sums c.from_play.ensures.is_plan
+    within_roots sets (times_of c.args.variant c.args.round) c.args.scale c.args.self.now.sum c.from_play.new.into c.requires.sums
+    c.from_play.ensures.is_plan
 
-pub add_to-requires-clause-one_form : goal.add_to-requires-clause-one_form
-add_to-requires-clause-one_form c =
+pub add_plan-requires-clause-one_form : goal.add_plan-requires-clause-one_form
+add_plan-requires-clause-one_form c =
     let sets = player_sets c.args.form.now c.args.player in
-    one_form sets c.args.scale c.args.self.now.sum c.from_play.new.into c.requires.sums c.from_play.ensures.is_plan
+    one_form sets (times_of c.args.variant c.args.round) c.args.scale c.args.self.now.sum c.from_play.new.into c.requires.sums
+    c.from_play.ensures.is_plan
 
 pub returns-clause-room : goal.returns-clause-room
 returns-clause-room c =
@@ -22,5 +24,8 @@ returns-clause-room c =
       regrets = room.regrets;
       play = c.play_into.ensures.count ∙ room.play;
       plan = plan;
-      sums = ap length c.add_to.ensures.sum ∙ length-added c.args.self.now.sum c.from_play.new.into (room.sums ∙ sym plan) ∙ room.sums;
+      sums =
+          ap length c.add_plan.ensures
+          ∙ length-sum_with c.args.variant c.args.round c.args.self.now.sum c.from_play.new.into (room.sums ∙ sym plan)
+          ∙ room.sums;
     }

@@ -2,14 +2,18 @@ use Rattle.std.proofs.Common.{ap, subst, arith}
 use Rattle.def_reply.specs.Offers.{Board}
 use Rattle.xg_bracket.specs.Board.{last_round}
 use Rattle.xg_engine.specs.Evaluations.{CanEvaluate}
+use Rattle.xg_engine.proofs.Growing.{limits_within}
 use Rattle.xg_engine.proofs.running.Run.new.Goals as goal
+
+pub evaluation_count-requires : goal.evaluation_count-requires
+evaluation_count-requires c = record { limits = limits_within c.args.variant c.args.settings c.requires.limits }
 
 pub returns : goal.returns
 returns c =
     let evaluator = c.in_ok-new-2.field-0 in
     record {
-      players = c.in_ok-new.ensures c.args.settings.scale;
-      room = subst (λ n. CanEvaluate c.args.form.now n evaluator) c.evaluation_count.ensures c.in_ok-new-2.ensures.room;
+      players = c.in_ok-new.ensures c.args.variant c.args.settings.scale;
+      room = subst (λ n. CanEvaluate c.args.variant c.args.form.now n evaluator) c.evaluation_count.ensures c.in_ok-new-2.ensures.room;
       board = c.in_ok-new-2.ensures.board;
       last = omega (arith, ap (λ (b : Board). last_round b.trace) c.in_ok-new-2.ensures.board);
     }
