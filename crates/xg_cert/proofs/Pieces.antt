@@ -1,16 +1,20 @@
--- The text of a certificate in version 2 is what is written piece by piece.
-use Rattle.std.proofs.Common.{◌≡◌, ℕ, ◌+◌, List, [], ◌∷◌, ◌++◌, Option, Some, None, refl, sym, ap, ◌∙◌, append_assoc}
+-- The text of a certificate in version 2, and that of a run of CFR+, is what is written piece by piece.
+use Rattle.std.proofs.Common.{◌≡◌, ℕ, ◌+◌, List, [], ◌∷◌, ◌++◌, drop, Option, Some, None, refl, sym, ap, ◌∙◌, append_assoc}
 use Rattle.std.specs.Prelude.{codes}
-use Rattle.def_fraction.specs.Fraction.{Fraction}
 use Rattle.def_reply.specs.Outcome.{Head}
 use Rattle.def_cert_verdict.specs.Certificate.{PrintedBounds}
 use Rattle.def_cert_text.specs.Fields.{items_text}
 use Rattle.def_cert_text.specs.Formats.{Format, text_of, each_items}
 use Rattle.def_cert_text.specs.declared.version.TextVersion.TheVariants as versions
 use Rattle.def_cert_text.specs.CertText.{line_of_round, round_of_evaluation, trace_lines, bracket_line, bounds_text, versioned_text, head_text_of, first_text_of, asked_text, second_text, last_text}
+use Rattle.def_cert_text.specs.PlusText.{below_first_text, plus_line}
+use Rattle.def_cert_text.specs.Versions.{VersionedCertificate}
+use Rattle.def_cert_text.proofs.PlusTexts.{first_lines}
 use Rattle.def_cert_text.proofs.TextLines.{versioned_lines}
 use Rattle.def_cert_versions.specs.Verdict.{in_version_two, second_bracket}
-use Rattle.xg_cert.specs.Writable.{opening_line, plan_text, reply_text, end_text, ends_text, below_text, above_text}
+use Rattle.xg_cert.specs.declared.cert_lines.FirstLine.{FirstLine}
+use Rattle.xg_cert.specs.declared.cert_lines.FirstLine.TheVariants as openings
+use Rattle.xg_cert.specs.Writable.{opening_line, plan_text, reply_text, end_text, ends_text, below_text, above_text, text_under}
 
 each_same : {A : Type 0} (f g : ℕ → Format A) → ((k : ℕ) (x : A) → (f k).items x ≡ (g k).items x)
     → (k : ℕ) (xs : List A)
@@ -37,13 +41,13 @@ apart : (xs ys zs rest : List ℕ) → xs ++ (ys ++ (zs ++ rest)) ≡ (xs ++ (ys
 apart xs ys zs rest = ap (λ (bs : List ℕ). xs ++ bs) (sym (append_assoc ys zs rest)) ∙ sym (append_assoc xs (ys ++ zs) rest)
 
 -- above the bounds, the bounds with the second bracket, and the last line
-pub pieces : (head : Head) (bounds : Option PrintedBounds)
-    → above_text head ++ (below_text head.sum bounds ++ last_text)
+certificate_pieces : (head : Head) (bounds : Option PrintedBounds)
+    → above_text openings.Certificate head ++ (below_text head.sum bounds ++ last_text)
     ≡ versioned_text (in_version_two (record { head = head; bounds = bounds }))
 unfolding opening_line
-pieces head None =
+certificate_pieces head None =
     sym (versioned_lines.head_alone versions.Two head ∙ apart (first_text_of versions.Two) (head_text_of versions.Two head) (asked_text head) last_text)
-pieces head (Some b) =
+certificate_pieces head (Some b) =
     let first = first_text_of versions.Two in
     let numbers = head_text_of versions.Two head in
     let second = second_text (second_bracket head.sum b) in
@@ -51,3 +55,14 @@ pieces head (Some b) =
     ∙ ap (λ (bs : List ℕ). first ++ (numbers ++ (asked_text head ++ (bs ++ (second ++ last_text))))) (bounds_are head b)
     ∙ ap (λ (bs : List ℕ). first ++ (numbers ++ (asked_text head ++ bs))) (sym (append_assoc (ends_text b) second last_text))
     ∙ apart first numbers (asked_text head) (below_text head.sum (Some b) ++ last_text))
+
+pub pieces : (first : FirstLine) (head : Head) (bounds : Option PrintedBounds)
+    → above_text first head ++ (below_text head.sum bounds ++ last_text)
+    ≡ text_under first (in_version_two (record { head = head; bounds = bounds }))
+unfolding opening_line
+pieces openings.Certificate head bounds = certificate_pieces head bounds
+pieces openings.Plus head bounds =
+    let c : VersionedCertificate = in_version_two (record { head = head; bounds = bounds }) in
+    let below : (head_text_of versions.Two head ++ asked_text head) ++ (below_text head.sum bounds ++ last_text) ≡ below_first_text c =
+    ap (λ (text : List ℕ). drop 9 text) (certificate_pieces head bounds ∙ first_lines c) in
+    ap (λ (text : List ℕ). plus_line ++ text) below

@@ -1,15 +1,15 @@
 -- What the sum leaves of both ends of a bracket, in whole numbers.
-use Rattle.std.proofs.Common.{◌≡◌, ℕ, ◌*◌, ◌≤◌, Option, Some, None, ℤ, pos, ◌*ℤ◌, unsigned_abs, refl, sym, ap, ◌∙◌, arith, slice_index}
+use Rattle.std.proofs.Common.{◌≡◌, ℕ, ◌*◌, ◌≤◌, Option, Some, None, ℤ, pos, unsigned_abs, refl, sym, ap, ◌∙◌, arith, slice_index}
 use Rattle.std.specs.Prelude.{◌-ℤ◌, unwrap_or}
 use Rattle.std.specs.Int.{◌∣◌}
-use Rattle.std.proofs.Math.Nat.{dvd-mul_right_of_dvd, mul-le-mul_left, one-le-mul}
+use Rattle.std.proofs.Math.Nat.{dvd-mul_right_of_dvd, mul-le-mul_left, one-le-mul, pos_of_dvd_of_pos}
 use Rattle.def_fraction.specs.Fraction.{Fraction, fraction_of, most}
 use Rattle.def_fraction.proofs.FractionLemmas.{fraction_of-reduced}
 use Rattle.def_game_scale.specs.Scale.{weight_of}
 use Rattle.def_game_scale.proofs.Units.{whole-weight}
 use Rattle.def_sums.specs.Limits.{most_root, most_row}
 use Rattle.def_constant_sum.specs.Bounds.{difference_of}
-use Rattle.def_constant_sum.proofs.Times.{IsTimes, difference-lowest, same-without, times-difference, times-reduced, times-same}
+use Rattle.def_constant_sum.proofs.Times.{difference-lowest, same-without, times-difference, times-reduced, times-same}
 use Rattle.def_reply.specs.Outcome.{End, Head}
 use Rattle.def_cert_verdict.specs.Certificate.{PrintedBounds}
 use Rattle.def_cert_verdict.specs.Ranges.{BoundsFit, FitsBelowHead, HeadFits, IsFromTo}
@@ -23,7 +23,7 @@ use Rattle.xg_cert.specs.Printed.{bounds_in, no_bounds}
 use Rattle.xg_cert.specs.Writable.{AreFormBounds, IsWholeEnd, LeavesSecond, form_bounds}
 
 -- the difference of two fractions by what they are times a number that makes both whole
-pub difference-by_weights : (m : ℕ) (f g : Fraction) → 1 ≤ m → 1 ≤ f.den → 1 ≤ g.den → f.den ∣ m → g.den ∣ m
+difference-by_weights : (m : ℕ) (f g : Fraction) → 1 ≤ m → 1 ≤ f.den → 1 ≤ g.den → f.den ∣ m → g.den ∣ m
     → fraction_of (weight_of m f -ℤ weight_of m g) m ≡ difference_of f g
 difference-by_weights m f g some some_f some_g whole_f whole_g =
     let rest : ℤ = weight_of m f -ℤ weight_of m g in
@@ -31,12 +31,23 @@ difference-by_weights m f g some some_f some_g whole_f whole_g =
     (times-reduced rest m (pos m) rest some refl)
     (times-difference (pos m) f g (weight_of m f) (weight_of m g) some_f some_g (whole-weight m f whole_f) (whole-weight m g whole_g))
 
+some_sum : (unit : ℕ) (sum : Fraction) → 1 ≤ unit → IsWholeIn unit sum → 1 ≤ sum.den
+some_sum unit sum some is = pos_of_dvd_of_pos is.whole some
+
+sum_divides : (unit root : ℕ) (sum : Fraction) → IsWholeIn unit sum → sum.den ∣ unit * root
+sum_divides unit root sum is = dvd-mul_right_of_dvd sum.den is.whole root
+
 -- the sum times the unit and a root
-pub sum-small : (unit root : ℕ) (sum : Fraction) → root ≤ most_root → 1 ≤ sum.den → IsWholeIn unit sum
-    → (sum.den ∣ unit * root) × (unsigned_abs (weight_of (unit * root) sum) ≤ most_row)
-sum-small unit root sum few some is =
-    let divides : sum.den ∣ unit * root = dvd-mul_right_of_dvd sum.den is.whole root in
-    (divides, omega (arith, weight-small unit root sum some divides is.small, mul-le-mul_left most few))
+pub sum-small : (unit root : ℕ) (sum : Fraction) → 1 ≤ unit → root ≤ most_root → IsWholeIn unit sum
+    → unsigned_abs (weight_of (unit * root) sum) ≤ most_row
+sum-small unit root sum some few is =
+    omega (arith, weight-small unit root sum (some_sum unit sum some is) (sum_divides unit root sum is) is.small, mul-le-mul_left most few)
+
+-- what the sum leaves of an end, over the unit and the root
+pub left-over : (unit root : ℕ) (sum end : Fraction) → 1 ≤ unit → IsWholeIn unit sum → IsWholeEnd unit root end
+    → fraction_of (weight_of (unit * root) sum -ℤ weight_of (unit * root) end) (unit * root) ≡ difference_of sum end
+left-over unit root sum end some is whole =
+    difference-by_weights (unit * root) sum end (one-le-mul some whole.of_root.0) (some_sum unit sum some is) whole.some (sum_divides unit root sum is) whole.whole
 
 -- ---- the ends of an outcome
 whole_bound : (unit : ℕ) (end : End) → IsFromTo 1 most unit → IsFromTo 1 most_root (slice_index end.plan 0)

@@ -1,5 +1,5 @@
 -- The numbers, values and choices of sets, one after another.
-use Rattle.std.proofs.Common.{◌≡◌, ℕ, zero, suc, ◌+◌, List, [], ◌∷◌, length, take, drop, get_or, slice_get, slice_index_or, Some, refl, ap, ◌∙◌, sym, ℤ}
+use Rattle.std.proofs.Common.{◌≡◌, ℕ, zero, suc, ◌+◌, List, [], ◌∷◌, length, take, drop, get_or, slice_get, slice_index_or, Some, refl, ap, ◌∙◌, ℤ}
 use Rattle.std.proofs.lemmas.List.{drop-drop}
 use Rattle.def_plan.specs.Form.{InformationSet, PlacedSet, placed_from}
 use Rattle.def_reply.specs.Reply.{SetReply, values_of, choices_of}

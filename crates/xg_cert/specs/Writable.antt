@@ -16,10 +16,14 @@ use Rattle.def_cert_text.specs.Fields.{items_text}
 use Rattle.def_cert_text.specs.Formats.{text_of, each_items}
 use Rattle.def_cert_text.specs.declared.version.TextVersion.TheVariants as versions
 use Rattle.def_cert_text.specs.CertText.{line_of_round, plan_lines, reply_lines, bracket_line}
-use Rattle.def_cert_text.specs.CertText.{first_text_of, head_text_of, asked_text, second_text}
+use Rattle.def_cert_text.specs.CertText.{first_text_of, head_text_of, asked_text, second_text, versioned_text}
+use Rattle.def_cert_text.specs.PlusText.{plus_line, plus_text}
+use Rattle.def_cert_text.specs.Versions.{VersionedCertificate}
 use Rattle.def_cert_versions.specs.Upgrade.{IsWholeIn}
 use Rattle.def_cert_versions.specs.Verdict.{second_bracket}
 use Rattle.xg_cert.specs.declared.bounds.FormBounds.{FormBounds}
+use Rattle.xg_cert.specs.declared.cert_lines.FirstLine.{FirstLine}
+use Rattle.xg_cert.specs.declared.cert_lines.FirstLine.TheVariants as openings
 use Rattle.xg_cert.specs.Outcome.{end_seen}
 
 -- ---- outcomes
@@ -93,8 +97,14 @@ abbrev pub below_text : Fraction → Option PrintedBounds → List ℕ
 below_text sum None = []
 below_text sum (Some b) = ends_text b ++ second_text (second_bracket sum b)
 
-unfoldable pub opening_line : List ℕ
-opening_line = first_text_of versions.Two
+unfoldable pub opening_line : FirstLine → List ℕ
+opening_line openings.Certificate = first_text_of versions.Two
+opening_line openings.Plus = plus_line
 
-abbrev pub above_text : Head → List ℕ
-above_text head = opening_line ++ (head_text_of versions.Two head ++ asked_text head)
+abbrev pub above_text : FirstLine → Head → List ℕ
+above_text first head = opening_line first ++ (head_text_of versions.Two head ++ asked_text head)
+
+-- the whole, as the first line says
+abbrev pub text_under : FirstLine → VersionedCertificate → List ℕ
+text_under openings.Certificate c = versioned_text c
+text_under openings.Plus c = plus_text c

@@ -17,12 +17,24 @@ use def_reply::TraceLine;
 use xg_frac::Ratio;
 use xg_io::{Sink, WriteFault, write_all};
 
+/// What the first line says of the lines below.
+#[derive(Clone, Copy)]
+pub(crate) enum FirstLine {
+    /// They are a certificate of version 2.
+    Certificate,
+    /// They are the text of a run of CFR+.
+    Plus,
+}
+
 #[tactic(auto, unfolding(crate::specs::Writable::opening_line))]
-pub(crate) fn put_first_line<O: Sink>(out: &mut O) -> Result<(), WriteFault>
-    ensures text { Writes (O.written out.old) (O.written out.new) opening_line result }
+pub(crate) fn put_first_line<O: Sink>(first: FirstLine, out: &mut O) -> Result<(), WriteFault>
+    ensures text { Writes (O.written out.old) (O.written out.new) (opening_line first) result }
     ensures cause { HasCause (O.faults out.old) (O.faults out.new) result }
 {
-    write_all(out, b"XGCERT 2\n")
+    match first {
+        FirstLine::Certificate => write_all(out, b"XGCERT 2\n"),
+        FirstLine::Plus => write_all(out, b"XGPLUS 1\n"),
+    }
 }
 
 pub(crate) fn put_last_line<O: Sink>(out: &mut O) -> Result<(), WriteFault>

@@ -14,6 +14,7 @@ mod read_lines;
 mod read_lists;
 mod reading;
 mod refused;
+mod second;
 mod writing;
 
 pub use cert::Cert;
@@ -24,4 +25,5 @@ pub use lines::write_head;
 pub use outcome::{End, Outcome};
 pub use reading::read_cert;
 pub use refused::CertRefused;
-pub use writing::{write_cert, write_upgraded};
+pub use second::second_end;
+pub use writing::{write_cert, write_plus, write_upgraded};

@@ -104,7 +104,8 @@ fn put_sum<O: Sink>(sum: Frac, out: &mut O) -> Result<(), WriteFault>
     put_fraction(wide(sum), b'\n', out)
 }
 
-fn wide(f: Frac) -> Ratio
+/// The same fraction, as one whose parts may be larger.
+pub(crate) fn wide(f: Frac) -> Ratio
     ensures { result ≡ f }
 {
     ratio(f.num(), f.den())

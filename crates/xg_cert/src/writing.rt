@@ -1,35 +1,32 @@
 //! The whole text.
 ghost use Rattle.std.specs.Prelude.{◌≡◌, ◌++◌, OnOk, OnErr, IfSome, [], ◌∷◌};
-ghost use Rattle.std.specs.Prelude.{◌/◌, ◌^◌, ◌≤◌, ◌≤ℤ◌, ◌*ℤ◌, ◌-ℤ◌, pos, unsigned_abs};
 ghost use Rattle.std.specs.Fmt.{signed_decimal};
 ghost use Rattle.std.specs.Io.KnownBytes.{append_known};
 ghost use Rattle.std.specs.Option.{option_map};
 ghost use Rattle.def_outside.specs.Cause.{HasCause};
 ghost use Rattle.def_outside.specs.Sinks.{AppendsPrefix, Writes};
 ghost use Rattle.def_cert_accepted.specs.OfOutcome.{certificate_of};
-ghost use Rattle.def_cert_verdict.specs.Ranges.{IsFromTo};
-ghost use Rattle.def_constant_sum.specs.Bounds.{difference_of};
-ghost use Rattle.def_fraction.specs.Fraction.{most};
 ghost use Rattle.def_cert_text.specs.Fields.{space, feed, fixed_word, number, field, separator, items_text};
 ghost use Rattle.def_cert_text.specs.CertText.{last_text, second_text, versioned_text};
+ghost use Rattle.def_cert_text.specs.PlusText.{plus_text};
 ghost use Rattle.def_cert_versions.specs.Upgrade.{IsUpgradable, IsWholeIn};
 ghost use Rattle.def_cert_versions.specs.Verdict.{in_version_two, second_bracket, upgraded};
 ghost use Rattle.xg_cert.specs.Outcome.{head_of};
 ghost use Rattle.xg_cert.specs.Printed.{plan_in, reply_in};
-ghost use Rattle.xg_cert.specs.Writable.{IsOutcomeOf, IsWholeEnd, LeavesSecond, above_text, below_text};
-ghost use Rattle.xg_cert.specs.Writable.{end_text, ends_text, plan_text, reply_text};
+ghost use Rattle.xg_cert.specs.Writable.{IsOutcomeOf, LeavesSecond, above_text, below_text};
+ghost use Rattle.xg_cert.specs.Writable.{end_text, ends_text, plan_text, reply_text, text_under};
 
 use crate::bounds::{Bounds, FormBounds};
 use crate::cert::Cert;
-use crate::cert_lines::{put_asked, put_ends_line, put_first_line, put_last_line};
+use crate::cert_lines::{FirstLine, put_asked, put_ends_line, put_first_line, put_last_line};
 use crate::fields::{put_field, put_signed};
 use crate::head::Head;
 use crate::lines::{put_head, put_named};
 use crate::lists::{put_trace, put_values, put_weights};
 use crate::outcome::Outcome;
+use crate::second::second_end;
 use def_cert_text::TextVersion;
 use def_tree::Player;
-use xg_frac::{Ratio, ratio};
 use xg_io::{Sink, WriteFault};
 use xg_seq::SeqForm;
 
@@ -113,36 +110,6 @@ fn put_ends<B: Bounds, O: Sink>(bounds: &B, out: &mut O) -> Result<(), WriteFaul
     put_ends_line(b"bracket", bounds.low(), bounds.high(), out)
 }
 
-/// The fraction times a number that makes it whole.
-fn times(num: i128, den: i128, whole: u128) -> i128
-    requires den { pos 1 ≤ℤ den }
-    requires whole { whole ≤ 2 ^ 98 }
-    requires small { unsigned_abs (num *ℤ pos (whole / unsigned_abs den)) ≤ 2 ^ 98 }
-    ensures { result ≡ num *ℤ pos (whole / unsigned_abs den) }
-{
-    num * (whole / den.unsigned_abs()) as i128
-}
-
-fn less(a: i128, b: i128) -> i128
-    requires { unsigned_abs (a -ℤ b) ≤ 2 ^ 99 }
-    ensures { result ≡ a -ℤ b }
-{
-    a - b
-}
-
-/// What the sum leaves of an end of the bracket, over the unit and the root of the end's plan.
-fn left_by(head: &Head, root: u64, end: Ratio) -> Ratio
-    requires unit { IsFromTo 1 most head.now.unit }
-    requires sum { IsWholeIn head.now.unit head.now.sum }
-    requires end { IsWholeEnd head.now.unit root end }
-    ensures { result ≡ difference_of head.now.sum end }
-{
-    let whole = head.unit as u128 * root as u128;
-    let sum = times(head.sum.num(), head.sum.den(), whole);
-    let taken = times(end.num(), end.den(), whole);
-    ratio(less(sum, taken), whole as i128)
-}
-
 /// The bracket of player two's own payoff: what the sum leaves of both ends, in the other order.
 fn put_second<B: Bounds, O: Sink>(head: &Head, bounds: &B, out: &mut O) -> Result<(), WriteFault>
     requires can { B.can_write bounds.now }
@@ -151,8 +118,8 @@ fn put_second<B: Bounds, O: Sink>(head: &Head, bounds: &B, out: &mut O) -> Resul
         (second_text (second_bracket head.now.sum (B.printed bounds.now))) result }
     ensures cause { HasCause (O.faults out.old) (O.faults out.new) result }
 {
-    let low = left_by(head, bounds.root(Player::Two), bounds.high());
-    let high = left_by(head, bounds.root(Player::One), bounds.low());
+    let low = second_end(head.sum, head.unit, bounds.root(Player::Two), bounds.high());
+    let high = second_end(head.sum, head.unit, bounds.root(Player::One), bounds.low());
     put_ends_line(b"second", low, high, out)
 }
 
@@ -176,58 +143,65 @@ fn put_below<B: Bounds, O: Sink>(
 }
 
 #[tactic(auto, using(xg_io::proofs::Pieces::prefix_first, xg_io::proofs::Pieces::then_rest))]
-fn put_above<O: Sink>(head: &Head, out: &mut O) -> Result<(), WriteFault>
-    ensures text { Writes (O.written out.old) (O.written out.new) (above_text (head_of head.now)) result }
+fn put_above<O: Sink>(first: FirstLine, head: &Head, out: &mut O) -> Result<(), WriteFault>
+    ensures text { Writes (O.written out.old) (O.written out.new) (above_text first (head_of head.now)) result }
     ensures cause { HasCause (O.faults out.old) (O.faults out.new) result }
 {
-    put_first_line(out)?;
+    put_first_line(first, out)?;
     put_head(TextVersion::Two, head, out)?;
     put_asked(head, out)
 }
 
 #[tactic(auto, using(xg_io::proofs::Pieces::prefix_first, xg_io::proofs::Pieces::then_rest))]
 fn put_pieces<B: Bounds, O: Sink>(
+    first: FirstLine,
     head: &Head,
     bounds: Option<&B>,
     out: &mut O,
 ) -> Result<(), WriteFault>
     requires { IfSome bounds (λ b. B.can_write b.now × LeavesSecond (head_of head.now) (B.printed b.now)) }
     ensures text { Writes (O.written out.old) (O.written out.new)
-        (above_text (head_of head.now)
+        (above_text first (head_of head.now)
         ++ (below_text head.now.sum (option_map (λ b. B.printed b.now) bounds.entry) ++ last_text)) result }
     ensures cause { HasCause (O.faults out.old) (O.faults out.new) result }
 {
-    put_above(head, out)?;
+    put_above(first, head, out)?;
     put_below(head, bounds, out)?;
     put_last_line(out)
 }
 
 fn put_text<B: Bounds, O: Sink>(
+    first: FirstLine,
     head: &Head,
     bounds: Option<&B>,
     out: &mut O,
 ) -> Result<(), WriteFault>
     requires { IfSome bounds (λ b. B.can_write b.now × LeavesSecond (head_of head.now) (B.printed b.now)) }
     ensures text { Writes (O.written out.old) (O.written out.new)
-        (versioned_text (in_version_two (record {
+        (text_under first (in_version_two (record {
           head = head_of head.now;
           bounds = option_map (λ b. B.printed b.now) bounds.entry;
         }))) result }
     ensures cause { HasCause (O.faults out.old) (O.faults out.new) result }
 {
-    put_pieces(head, bounds, out)
+    put_pieces(first, head, bounds, out)
 }
 
-fn put_outcome<O: Sink>(form: &SeqForm, outcome: &Outcome, out: &mut O) -> Result<(), WriteFault>
+fn put_outcome<O: Sink>(
+    first: FirstLine,
+    form: &SeqForm,
+    outcome: &Outcome,
+    out: &mut O,
+) -> Result<(), WriteFault>
     requires outcome { IsOutcomeOf form.now outcome.now }
     requires sum { IsWholeIn outcome.now.head.unit outcome.now.head.sum }
     ensures text { Writes (O.written out.old) (O.written out.new)
-        (versioned_text (in_version_two (certificate_of form.now outcome.now))) result }
+        (text_under first (in_version_two (certificate_of form.now outcome.now))) result }
     ensures cause { HasCause (O.faults out.old) (O.faults out.new) result }
 {
     let head = outcome.head();
     let Some((lower, upper)) = outcome.ends() else {
-        return put_text::<Cert, O>(head, None, out);
+        return put_text::<Cert, O>(first, head, None, out);
     };
     let bounds = FormBounds {
         form,
@@ -236,7 +210,7 @@ fn put_outcome<O: Sink>(form: &SeqForm, outcome: &Outcome, out: &mut O) -> Resul
         lower,
         upper,
     };
-    put_text(head, Some(&bounds), out)
+    put_text(first, head, Some(&bounds), out)
 }
 
 /// Writes the whole text, version 2. After an error a front of it was written. Takes no memory.
@@ -249,7 +223,20 @@ pub fn write_cert<O: Sink>(form: &SeqForm, outcome: &Outcome, out: &mut O) -> Re
         (versioned_text (in_version_two (certificate_of form.now outcome.now)))) }
     ensures cause { HasCause (O.faults out.old) (O.faults out.new) result }
 {
-    put_outcome(form, outcome, out)
+    put_outcome(FirstLine::Certificate, form, outcome, out)
+}
+
+/// Writes the whole text of a run of CFR+. After an error a front of it was written. Takes no memory.
+pub fn write_plus<O: Sink>(form: &SeqForm, outcome: &Outcome, out: &mut O) -> Result<(), WriteFault>
+    requires outcome { IsOutcomeOf form.now outcome.now }
+    requires sum { IsWholeIn outcome.now.head.unit outcome.now.head.sum }
+    ensures appended { OnOk result (O.written out.new ≡ append_known (O.written out.old)
+        (plus_text (in_version_two (certificate_of form.now outcome.now)))) }
+    ensures prefix { OnErr result (AppendsPrefix (O.written out.old) (O.written out.new)
+        (plus_text (in_version_two (certificate_of form.now outcome.now)))) }
+    ensures cause { HasCause (O.faults out.old) (O.faults out.new) result }
+{
+    put_outcome(FirstLine::Plus, form, outcome, out)
 }
 
 fn put_upgraded<O: Sink>(cert: &Cert, out: &mut O) -> Result<(), WriteFault>
@@ -259,9 +246,9 @@ fn put_upgraded<O: Sink>(cert: &Cert, out: &mut O) -> Result<(), WriteFault>
 {
     let head = cert.head();
     if head.rounds == 0 {
-        return put_text::<Cert, O>(head, None, out);
+        return put_text::<Cert, O>(FirstLine::Certificate, head, None, out);
     }
-    put_text(head, Some(cert), out)
+    put_text(FirstLine::Certificate, head, Some(cert), out)
 }
 
 /// Writes what a certificate says in version 2, with the second bracket. After an error a front of the text was

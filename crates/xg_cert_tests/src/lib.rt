@@ -9,6 +9,8 @@ mod checking_larger;
 #[cfg(test)]
 mod checking_versions;
 #[cfg(test)]
+mod plus_writing;
+#[cfg(test)]
 mod reading;
 #[cfg(test)]
 mod writing;

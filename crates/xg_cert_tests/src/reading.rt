@@ -195,7 +195,7 @@ const FAULTS: &[(&str, CertFault)] = &[
 ];
 
 /// Whether these bytes are refused for this fault.
-fn is_refused(alloc: Global, bytes: &[u8], fault: CertFault) -> bool {
+pub(crate) fn is_refused(alloc: Global, bytes: &[u8], fault: CertFault) -> bool {
     match read_cert(alloc, bytes) {
         Ok(_) => false,
         Err(refused) => refused == CertRefused::Cert(fault),

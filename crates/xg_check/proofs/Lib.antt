@@ -6,6 +6,5 @@ pub mod ReplyTests
 pub mod TraceTests
 pub mod FirstFailingStage
 pub mod HeadTests
-pub mod Differences
 pub mod SecondTests
 pub mod Acceptance

@@ -1,10 +1,8 @@
 -- The bracket of player two's own payoff, which is judged where all tests pass.
-use Rattle.std.proofs.Common.{◌≡◌, ℕ, ◌*◌, ◌≤◌, Bool, true, false, ◌&&◌, not, cond, Option, Some, None, Result, Ok, Err, ◌↔◌, refl, sym, ap, subst, ◌∙◌, arith}
-use Rattle.std.proofs.Math.Nat.{dvd-mul_right_of_dvd, mul-le-mul_left}
+use Rattle.std.proofs.Common.{◌≡◌, ◌≤◌, Bool, true, false, ◌&&◌, not, cond, Option, Some, None, Result, Ok, Err, ◌↔◌, refl, sym, ap, subst, ◌∙◌}
 use Rattle.std.specs.Option.{option_map}
 use Rattle.std.proofs.lemmas.Option.{none-some}
-use Rattle.def_fraction.specs.Fraction.{Fraction, IsInLowestTerms, most}
-use Rattle.def_sums.specs.Limits.{most_root}
+use Rattle.def_fraction.specs.Fraction.{Fraction}
 use Rattle.def_tree.specs.declared.Player.{Player}
 use Rattle.def_tree.specs.declared.Player.TheVariants.{One, Two}
 use Rattle.def_tree.specs.Opponent.{opponent}
@@ -15,19 +13,19 @@ use Rattle.def_constant_sum.specs.Bounds.{difference_of}
 use Rattle.def_cert_verdict.specs.declared.fault.TestFault.{TestFault}
 use Rattle.def_cert_verdict.specs.declared.fault.TestFault.TheVariants.{SecondDiffers}
 use Rattle.def_cert_verdict.specs.Certificate.{Certificate, PrintedBounds}
-use Rattle.def_cert_verdict.specs.Ranges.{BoundsFit}
 use Rattle.def_cert_verdict.specs.Verdict.{Verdict, decided_by, first_failing, is_same_fraction, shown_by, verdict}
 use Rattle.def_cert_verdict.proofs.Fractions.{same_fraction}
 use Rattle.def_cert_text.specs.declared.version.TextVersion.{TextVersion}
 use Rattle.def_cert_text.specs.declared.version.TextVersion.TheVariants as versions
 use Rattle.def_cert_text.specs.Versions.{PrintedBracket, SecondFits, VersionedCertificate, VersionedFits, has_second, in_version_one}
-use Rattle.def_cert_versions.specs.Upgrade.{EndTurns, EndsTurn, HasWholeSum, IsUpgradable, IsWholeIn}
+use Rattle.def_cert_versions.specs.Upgrade.{HasWholeSum, IsUpgradable}
 use Rattle.def_cert_versions.specs.Verdict.{is_same_bracket, judged_with, second_bracket, second_of, tests_of, verdict_by}
-use Rattle.def_cert_versions.proofs.Upgrades.{upgradable, weight-small}
+use Rattle.def_cert_versions.proofs.Upgrades.{upgradable}
 use Rattle.def_cert_versions.proofs.VersionedVerdict.{accept_alike, old_verdicts}
 use Rattle.xg_cert.specs.Printed.{bounds_in, plan_in}
 use Rattle.xg_cert.specs.ReadCert.{bracket_of, second_where_given}
-use Rattle.xg_check.specs.Parts.{IsWholeOver, bound_in}
+use Rattle.xg_cert.specs.Writable.{IsWholeEnd, LeavesSecond}
+use Rattle.xg_check.specs.Parts.{bound_in}
 
 -- ---- where all tests pass
 same_itself : (o : Option PrintedBracket) → is_same_bracket o o ≡ true
@@ -60,42 +58,11 @@ passed-upgradable game c one two unit sum fits none =
     upgradable game (in_version_one c.certificate) shown one two unit sum (record { certificate = fits.certificate; second = refl })
     ((old_verdicts.accepted game c.certificate shown).1 accepted)
 
--- ---- over the unit and a root
-pub whole_sum : (unit root : ℕ) (sum : Fraction) → 1 ≤ sum.den → root ≤ most_root → IsWholeIn unit sum
-    → IsWholeOver (unit * root) sum
-whole_sum unit root sum some few is =
-    let divides = dvd-mul_right_of_dvd sum.den is.whole root in
-    record { whole = divides; small = omega (arith, weight-small unit root sum some divides is.small, mul-le-mul_left most few) }
-
-whole_end : (unit root : ℕ) (end : Fraction) → 1 ≤ end.den → root ≤ most_root → EndTurns unit root end
-    → IsWholeOver (unit * root) end
-whole_end unit root end some few turns =
-    record { whole = turns.whole; small = omega (arith, weight-small unit root end some turns.whole turns.small, mul-le-mul_left most few) }
-
-turns_of : (player : Player) (unit : ℕ) (b : PrintedBounds) → EndsTurn unit (Some b)
-    → EndTurns unit (plan_in (opponent player) b).root (bound_in player b)
-turns_of One unit b turns = turns.1
-turns_of Two unit b turns = turns.0
-
--- the bound that a player's reply shows
-pub whole_bound : (player : Player) (c : Certificate) → 1 ≤ (bound_in player (bounds_in c)).den
-    → (plan_in (opponent player) (bounds_in c)).root ≤ most_root → c.bounds ≡ Some (bounds_in c) → EndsTurn c.head.unit c.bounds
-    → IsWholeOver (c.head.unit * (plan_in (opponent player) (bounds_in c)).root) (bound_in player (bounds_in c))
-whole_bound player c some few there ends =
-    whole_end c.head.unit (plan_in (opponent player) (bounds_in c)).root (bound_in player (bounds_in c)) some few
-    (turns_of player c.head.unit (bounds_in c) (subst (EndsTurn c.head.unit) there ends))
-
--- the unit times the root of the plan that the player's reply is against, as the code has them
-pub scale_is : (of_code head : Head) (other other' : Player) (root : ℕ) (b : PrintedBounds) (scale : ℕ)
-    → scale ≡ of_code.unit * root → of_code ≡ head → root ≡ (plan_in other' b).root → other' ≡ other
-    → scale ≡ head.unit * (plan_in other b).root
-scale_is of_code head other other' root b scale whole same root_is other_is =
-    whole ∙ (λ i. (same i).unit * root) ∙ ap (λ n. head.unit * n) (root_is ∙ ap (λ p. (plan_in p b).root) other_is)
-
-pub bound_lowest : (player : Player) (head : Head) (b : PrintedBounds) → BoundsFit head b
-    → IsInLowestTerms (bound_in player b)
-bound_lowest One head b fits = fits.high.lowest
-bound_lowest Two head b fits = fits.low.lowest
+-- the bound that a player's reply shows, with the root of the plan that the reply is against
+pub whole_bound : (player : Player) (head : Head) (b : PrintedBounds) → LeavesSecond head b
+    → IsWholeEnd head.unit (plan_in (opponent player) b).root (bound_in player b)
+whole_bound One head b leaves = leaves.high
+whole_bound Two head b leaves = leaves.low
 
 -- ---- the test
 no_second : (v : TextVersion) (second : Option PrintedBracket) → SecondFits v None second → second ≡ None

@@ -14,7 +14,7 @@ use Rattle.xg_seq.specs.Leaves.{HasSequences}
 use Rattle.xg_seq.proofs.FormLemmas.{sequence_there}
 use Rattle.xg_check.specs.ThreadSums.{HasSumsFrom, IsNumberWithin, sum_on}
 use Rattle.xg_check.specs.Views.{AddsAt, AreAllWithin, paid_at_leaf, row}
-use Rattle.xg_check.proofs.AddLemmas.{added, leaf_more}
+use Rattle.xg_check.proofs.AddLemmas.{leaf_more}
 
 abbrev no_leaf : Leaf
 no_leaf = record { sequence_one = 0; sequence_two = 0; weight = pos 0 }

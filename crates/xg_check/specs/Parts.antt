@@ -1,13 +1,10 @@
 -- The tests of one line and of one player's reply, and what has to hold of a game and a certificate before tests are
 -- made.
-use Rattle.std.specs.Prelude.{◌≡◌, ℕ, ◌*◌, ◌≤◌, ◌==◌, Bool, ◌&&◌, List, ◌++◌, length, ℤ, unsigned_abs, Option}
-use Rattle.std.specs.Int.{◌∣◌}
-use Rattle.def_fraction.specs.Fraction.{Fraction, most}
-use Rattle.def_sums.specs.Limits.{most_root}
+use Rattle.std.specs.Prelude.{◌≡◌, ℕ, ◌*◌, ◌≤◌, ◌==◌, Bool, ◌&&◌, List, ◌++◌, length, ℤ, Option}
+use Rattle.def_fraction.specs.Fraction.{Fraction}
 use Rattle.def_tree.specs.declared.Player.{Player}
 use Rattle.def_tree.specs.declared.Player.TheVariants.{One, Two}
 use Rattle.def_tree.specs.Opponent.{opponent}
-use Rattle.def_game_scale.specs.Scale.{weight_of}
 use Rattle.def_plan.specs.Form.{player_sets, sequence_count}
 use Rattle.def_plan.specs.Payoff.{leaf_sum}
 use Rattle.def_reply.specs.Outcome.{Head}
@@ -56,11 +53,6 @@ tests_of_replies game b = tests_of_reply Two game b ++ tests_of_reply One game b
 abbrev pub is_unit_line : TextVersion → WeighedGame → Head → Bool
 is_unit_line versions.One game head = head.unit == game.unit && is_same_fraction head.sum game.sum
 is_unit_line versions.Two game head = head.unit == game.unit
-
--- times the scale the fraction is whole, and of this size at most
-pub record IsWholeOver (scale : ℕ) (f : Fraction) : Type 0 where
-  pub whole : f.den ∣ scale
-  pub small : unsigned_abs (weight_of scale f) ≤ most * most_root
 
 -- the head has the game's numbers of sets
 abbrev pub HasSetCountsOf : WeighedGame → Head → Type 0

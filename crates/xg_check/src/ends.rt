@@ -47,7 +47,7 @@ pub(crate) fn bound_in(player: Player, cert: &Cert) -> Ratio
     }
 }
 
-pub(crate) fn product(unit: u64, root: u64) -> u128
+fn product(unit: u64, root: u64) -> u128
     requires unit_from_one { 1 ≤ unit }
     requires unit { unit ≤ most }
     requires root_from_one { 1 ≤ root }

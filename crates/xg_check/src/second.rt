@@ -1,57 +1,17 @@
 //! The test of the bracket of player two's own payoff.
-ghost use Rattle.std.specs.Prelude.{◌≡◌, ◌*◌, ◌/◌, ◌≤◌, ◌&&◌, ◌*ℤ◌, ◌-ℤ◌, not, pos, unsigned_abs};
-ghost use Rattle.def_fraction.specs.Fraction.{fraction_of, most, most_wide};
-ghost use Rattle.def_sums.specs.Limits.{most_root};
+ghost use Rattle.std.specs.Prelude.{◌≡◌, ◌≤◌, ◌&&◌, not};
 ghost use Rattle.def_constant_sum.specs.Bounds.{difference_of};
 ghost use Rattle.def_cert_verdict.specs.Verdict.{is_same_fraction};
 ghost use Rattle.def_cert_text.specs.Versions.{has_second, in_version_one};
 ghost use Rattle.def_cert_versions.specs.Upgrade.{IsUpgradable};
 ghost use Rattle.def_cert_versions.specs.Verdict.{is_same_bracket, second_of};
 ghost use Rattle.xg_cert.specs.Printed.{bounds_in};
-ghost use Rattle.xg_check.specs.Parts.{IsWholeOver, bound_in};
+ghost use Rattle.xg_check.specs.Parts.{bound_in};
 
-use crate::ends::{bound_in, opponent, product};
+use crate::ends::{bound_in, opponent};
 use def_tree::Player;
-use xg_cert::Cert;
-use xg_frac::{Frac, Ratio, ratio};
-
-fn times(num: i128, den: u128, scale: u128) -> i128
-    requires some { 1 ≤ den }
-    requires scale { scale ≤ most_wide }
-    requires small { unsigned_abs (num *ℤ pos (scale / den)) ≤ most * most_root }
-    ensures { result ≡ num *ℤ pos (scale / den) }
-{
-    num * (scale / den) as i128
-}
-
-fn minus(a: i128, b: i128) -> i128
-    requires { unsigned_abs (a -ℤ b) ≤ most_wide }
-    ensures { result ≡ a -ℤ b }
-{
-    a - b
-}
-
-fn over(num: i128, scale: u128) -> Ratio
-    requires num { unsigned_abs num ≤ most_wide }
-    requires from_one { 1 ≤ scale }
-    requires limit { scale ≤ most_wide }
-    ensures { result ≡ fraction_of num scale }
-{
-    ratio(num, scale as i128)
-}
-
-// The sum less a bound: over the scale both are whole.
-fn difference(sum: Frac, bound: Ratio, scale: u128) -> Ratio
-    requires from_one { 1 ≤ scale }
-    requires limit { scale ≤ most_wide }
-    requires sum { IsWholeOver scale sum }
-    requires bound { IsWholeOver scale bound }
-    ensures { result ≡ difference_of sum bound }
-{
-    let whole_sum = times(sum.num(), sum.den().unsigned_abs(), scale);
-    let whole_bound = times(bound.num(), bound.den().unsigned_abs(), scale);
-    over(minus(whole_sum, whole_bound), scale)
-}
+use xg_cert::{Cert, second_end};
+use xg_frac::Ratio;
 
 /// What the sum leaves of the bound that a player's reply shows.
 fn left_of(player: Player, cert: &Cert) -> Ratio
@@ -62,8 +22,8 @@ fn left_of(player: Player, cert: &Cert) -> Ratio
 {
     cert.facts();
     let head = cert.head();
-    let scale = product(head.unit, cert.root(opponent(player)));
-    difference(head.sum, bound_in(player, cert), scale)
+    let root = cert.root(opponent(player));
+    second_end(head.sum, head.unit, root, bound_in(player, cert))
 }
 
 fn is_bracket(printed: (Ratio, Ratio), low: Ratio, high: Ratio) -> bool

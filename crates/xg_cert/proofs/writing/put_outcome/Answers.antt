@@ -1,17 +1,16 @@
-use Rattle.std.proofs.Common.{◌≡◌, ℕ, Option, Some, refl, subst, sym}
+use Rattle.std.proofs.Common.{◌≡◌, Some, refl, subst, sym}
 use Rattle.std.specs.Option.{option_map}
 use Rattle.def_fraction.specs.Fraction.{most}
 use Rattle.def_outside.specs.Sinks.{Writes}
-use Rattle.def_reply.specs.Outcome.{Head, OutcomeEnds}
+use Rattle.def_reply.specs.Outcome.{Head}
 use Rattle.def_cert_accepted.specs.OfOutcome.{printed_bounds, certificate_of}
 use Rattle.def_cert_verdict.specs.Certificate.{Certificate}
 use Rattle.def_cert_verdict.specs.Ranges.{IsFromTo}
-use Rattle.def_cert_text.specs.CertText.{versioned_text}
 use Rattle.def_cert_versions.specs.Upgrade.{IsWholeIn}
 use Rattle.def_cert_versions.specs.Verdict.{in_version_two}
 use Rattle.xg_cert.specs.declared.bounds.FormBounds.{FormBounds}
-use Rattle.xg_cert.specs.Outcome.{head_of, end_seen}
-use Rattle.xg_cert.specs.Writable.{AreEndsOf, AreFormBounds, form_bounds}
+use Rattle.xg_cert.specs.Outcome.{head_of}
+use Rattle.xg_cert.specs.Writable.{AreEndsOf, AreFormBounds, form_bounds, text_under}
 use Rattle.xg_cert.proofs.Seconds.{outcome_leaves}
 use Rattle.xg_cert.proofs.writing.put_outcome.Goals as goal
 
@@ -37,5 +36,5 @@ returns-clause-text g c =
     let written : Certificate = record { head = head_of c.head-head.result.now; bounds = Some (form_bounds bounds) } in
     let said : written ≡ certificate_of form c.args.outcome.now =
     λ i. record { head = head i; bounds = option_map (printed_bounds form (head i).unit (trace i)) (ends i) } in
-    subst (λ (x : Certificate). Writes (g.O.Sink.written c.args.out.now) (g.O.Sink.written c.put_text-2.new.out) (versioned_text (in_version_two x)) c.put_text-2.result)
+    subst (λ (x : Certificate). Writes (g.O.Sink.written c.args.out.now) (g.O.Sink.written c.put_text-2.new.out) (text_under c.args.first (in_version_two x)) c.put_text-2.result)
     said c.put_text-2.ensures.text

@@ -8,4 +8,4 @@ use Rattle.xg_cert.proofs.writing.put_text.Goals as goal
 pub returns-clause-text : goal.returns-clause-text
 returns-clause-text g c =
     subst (λ (text : List ℕ). Writes (g.O.Sink.written c.args.out.now) (g.O.Sink.written c.put_pieces.new.out) text c.put_pieces.result)
-    (pieces (head_of c.args.head.now) (option_map (λ b. g.B.Bounds.printed b.now) c.args.bounds)) c.put_pieces.ensures.text
+    (pieces c.args.first (head_of c.args.head.now) (option_map (λ b. g.B.Bounds.printed b.now) c.args.bounds)) c.put_pieces.ensures.text

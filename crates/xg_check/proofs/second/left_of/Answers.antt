@@ -1,38 +1,34 @@
-use Rattle.std.proofs.Common.{◌≡◌, ◌*◌, sym, subst}
-use Rattle.def_fraction.specs.Fraction.{Fraction}
+use Rattle.std.proofs.Common.{◌≡◌, ℕ, refl, sym, ap, subst, ◌∙◌}
+use Rattle.def_fraction.specs.Fraction.{Fraction, most}
+use Rattle.def_tree.specs.declared.Player.{Player}
 use Rattle.def_tree.specs.Opponent.{opponent}
 use Rattle.def_reply.specs.Outcome.{Head}
-use Rattle.xg_cert.specs.Outcome.{head_of}
+use Rattle.def_cert_verdict.specs.Ranges.{IsFromTo}
+use Rattle.def_cert_text.specs.Versions.{VersionedFits, in_version_one}
+use Rattle.def_cert_versions.specs.Upgrade.{IsWholeIn}
 use Rattle.xg_cert.specs.Printed.{bounds_in, plan_in}
-use Rattle.xg_check.specs.Parts.{IsWholeOver, bound_in}
-use Rattle.xg_check.proofs.ReplyTests.{bounds_fit, plan_fits}
-use Rattle.xg_check.proofs.SecondTests.{bound_lowest, scale_is, whole_bound, whole_sum}
+use Rattle.xg_cert.specs.Writable.{IsWholeEnd}
+use Rattle.xg_cert.proofs.Seconds.{upgrade_leaves}
+use Rattle.xg_check.specs.Parts.{bound_in}
+use Rattle.xg_check.proofs.SecondTests.{whole_bound}
 use Rattle.xg_check.proofs.second.left_of.Goals as goal
 
-pub difference-requires-clause-sum : goal.difference-requires-clause-sum
-difference-requires-clause-sum c =
-    let cert = c.args.cert.now.certificate in
-    let b = bounds_in cert in
-    let other = opponent c.args.player in
-    let fits = bounds_fit cert c.facts.ensures.within.certificate (c.facts.ensures.bounds c.requires.asked) in
-    let scale : c.product-scale.result ≡ cert.head.unit * (plan_in other b).root =
-    scale_is (head_of c.head-head.result.now) cert.head other c.opponent.result c.root.result b c.product-scale.result c.product-scale.ensures.value
-    c.head-head.ensures.value c.root.ensures c.opponent.ensures in
-    subst (λ s. IsWholeOver s c.head-head.result.now.sum) (sym scale)
-    (subst (λ (h : Head). IsWholeOver (cert.head.unit * (plan_in other b).root) h.sum) (sym c.head-head.ensures.value)
-    (whole_sum cert.head.unit (plan_in other b).root cert.head.sum c.facts.ensures.within.certificate.head.sum.lowest.positive
-    (plan_fits other cert.head b fits).root.1 c.requires.upgradable.sum_is))
+pub second_end-requires-clause-unit : goal.second_end-requires-clause-unit
+second_end-requires-clause-unit c =
+    subst (λ (head : Head). IsFromTo 1 most head.unit) (sym c.head-head.ensures.value) c.facts.ensures.within.certificate.head.unit
 
-pub difference-requires-clause-bound : goal.difference-requires-clause-bound
-difference-requires-clause-bound c =
+pub second_end-requires-clause-sum : goal.second_end-requires-clause-sum
+second_end-requires-clause-sum c =
+    subst (λ (head : Head). IsWholeIn head.unit head.sum) (sym c.head-head.ensures.value) c.requires.upgradable.sum_is
+
+pub second_end-requires-clause-end : goal.second_end-requires-clause-end
+second_end-requires-clause-end c =
     let cert = c.args.cert.now.certificate in
     let b = bounds_in cert in
     let other = opponent c.args.player in
-    let fits = bounds_fit cert c.facts.ensures.within.certificate (c.facts.ensures.bounds c.requires.asked) in
-    let scale : c.product-scale.result ≡ cert.head.unit * (plan_in other b).root =
-    scale_is (head_of c.head-head.result.now) cert.head other c.opponent.result c.root.result b c.product-scale.result c.product-scale.ensures.value
-    c.head-head.ensures.value c.root.ensures c.opponent.ensures in
-    subst (λ s. IsWholeOver s c.bound_in.result) (sym scale)
-    (subst (λ (f : Fraction). IsWholeOver (cert.head.unit * (plan_in other b).root) f) (sym c.bound_in.ensures)
-    (whole_bound c.args.player cert (bound_lowest c.args.player cert.head b fits).positive (plan_fits other cert.head b fits).root.1
-    (c.facts.ensures.bounds c.requires.asked) c.requires.upgradable.ends))
+    let fits : VersionedFits (in_version_one cert) = record { certificate = c.facts.ensures.within.certificate; second = refl } in
+    let leaves = upgrade_leaves (in_version_one cert) fits c.requires.upgradable c.requires.asked in
+    let root_is : c.root-root.result ≡ (plan_in other b).root = c.root-root.ensures ∙ ap (λ (player : Player). (plan_in player b).root) c.opponent.ensures in
+    subst (λ (head : Head). IsWholeEnd head.unit c.root-root.result c.bound_in.result) (sym c.head-head.ensures.value)
+    (subst (λ (root : ℕ). IsWholeEnd cert.head.unit root c.bound_in.result) (sym root_is)
+    (subst (λ (end : Fraction). IsWholeEnd cert.head.unit (plan_in other b).root end) (sym c.bound_in.ensures) (whole_bound c.args.player cert.head b leaves)))
