@@ -1,0 +1,3 @@
+mod GatheredItems
+mod ItemsInOrder
+mod SolvedItems
