@@ -7,3 +7,5 @@ pub mod SettingsWithinLimits
 pub mod Checking
 pub mod MadeEnds
 pub mod Loaded
+pub mod BatchEntries
+pub mod BatchTexts

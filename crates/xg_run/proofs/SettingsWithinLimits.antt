@@ -1,16 +1,19 @@
 -- What the words ask is within the limits of a run.
-use Rattle.std.proofs.Common.{◌≡◌, ℕ, ◌≤◌, List, Option, Some, IfSome, sym, subst}
+use Rattle.std.proofs.Common.{◌≡◌, ℕ, ◌≤◌, List, Option, Some, None, IfSome, sym, subst, arith}
+use Rattle.std.specs.Prelude.{unwrap_or}
 use Rattle.def_sums.specs.Limits.{most_rounds, most_scale, most_workers}
-use Rattle.def_command.specs.Grammar.{Settings, Drill, Solve, command_of_words}
+use Rattle.def_plus.specs.declared.Variant.TheVariants as variants
+use Rattle.def_plus.specs.Limits.{most_plus_rounds, most_plus_scale}
+use Rattle.def_command.specs.Grammar.{Batch, Drill, Plus, RowSettings, Settings, Solve, command_of_words}
 use Rattle.def_command.specs.GrammarLaws.{InRange}
 use Rattle.def_command.proofs.InRange.{settings_in_range}
 use Rattle.xg_engine.specs.declared.settings.Settings.{Settings as RunSettings}
-use Rattle.xg_engine.specs.State.{AreWithinLimits}
+use Rattle.xg_engine.specs.State.{AreWithinLimits, AreWithinLimitsOf}
 use Rattle.xg_run.specs.Settings.{settings_seen}
 
 -- settings in their ranges, as the engine has them
 within : (settings : Settings) (workers : Option ℕ) (asked : RunSettings) → InRange settings workers
-    → settings_seen asked ≡ settings → AreWithinLimits asked
+    → settings_seen asked ≡ settings → AreWithinLimitsOf variants.Plain asked
 within settings workers asked range same = record {
   few_rounds = subst (λ (s : Settings). s.rounds ≤ most_rounds) (sym same) range.few_rounds;
   some_every = subst (λ (s : Settings). 1 ≤ s.every) (sym same) range.some_every;
@@ -20,27 +23,78 @@ within settings workers asked range same = record {
 }
 
 -- the settings of the command that the words name
-pub asked_within : (words : List (List ℕ)) (file : List ℕ) (settings : Settings) (workers : Option ℕ) (asked : RunSettings)
-    → command_of_words words ≡ Some (Solve file settings workers) → settings_seen asked ≡ settings
-    → AreWithinLimits asked
-asked_within words file settings workers asked is same =
-    within settings workers asked (settings_in_range.of_solve words file settings workers is) same
+pub asked_within : (words : List (List ℕ)) (file : List ℕ) (settings : Settings) (rows : RowSettings) (asked : RunSettings)
+    → command_of_words words ≡ Some (Solve file settings rows) → settings_seen asked ≡ settings
+    → AreWithinLimitsOf variants.Plain asked
+asked_within words file settings rows asked is same =
+    within settings rows.workers asked (settings_in_range.of_solve words file settings rows is) same
 
 -- the settings of a drill that the words name are within the limits of a run
-pub drill_within : (words : List (List ℕ)) (cards : ℕ) (settings : Settings) (workers : Option ℕ) (asked : RunSettings)
-    → command_of_words words ≡ Some (Drill cards settings workers) → settings_seen asked ≡ settings
+pub drill_within : (words : List (List ℕ)) (cards : ℕ) (settings : Settings) (rows : RowSettings) (asked : RunSettings)
+    → command_of_words words ≡ Some (Drill cards settings rows) → settings_seen asked ≡ settings
+    → AreWithinLimitsOf variants.Plain asked
+drill_within words cards settings rows asked is same =
+    within settings rows.workers asked (settings_in_range.of_drill words cards settings rows is) same
+
+-- and those of a batch
+pub batch_within : (words files : List (List ℕ)) (settings : Settings) (workers : Option ℕ) (asked : RunSettings)
+    → command_of_words words ≡ Some (Batch files settings workers) → settings_seen asked ≡ settings
     → AreWithinLimits asked
-drill_within words cards settings workers asked is same =
-    within settings workers asked (settings_in_range.of_drill words cards settings workers is) same
+batch_within words files settings workers asked is same =
+    let it = within settings workers asked (settings_in_range.of_batch words files settings workers is) same in
+    record {
+      few_rounds = it.few_rounds;
+      some_every = it.some_every;
+      small_every = it.small_every;
+      some_scale = it.some_scale;
+      small_scale = it.small_scale;
+    }
 
--- and its workers
-pub workers_within : (words : List (List ℕ)) (file : List ℕ) (settings : Settings) (workers : Option ℕ)
-    → command_of_words words ≡ Some (Solve file settings workers) → IfSome workers (λ number. 1 ≤ number) × IfSome workers (λ number. number ≤ most_workers)
-workers_within words file settings workers is =
-    let range = settings_in_range.of_solve words file settings workers is in (range.some_workers, range.few_workers)
+-- those of `plus` are within the limits of CFR+
+pub plus_within : (words : List (List ℕ)) (file : List ℕ) (settings : Settings) (rows : RowSettings) (asked : RunSettings)
+    → command_of_words words ≡ Some (Plus file settings rows) → settings_seen asked ≡ settings
+    → AreWithinLimitsOf variants.Plus asked
+plus_within words file settings rows asked is same =
+    let range = settings_in_range.of_plus words file settings rows is in
+    record {
+      few_rounds = subst (λ (s : Settings). s.rounds ≤ most_plus_rounds) (sym same) range.few_rounds;
+      some_every = subst (λ (s : Settings). 1 ≤ s.every) (sym same) range.some_every;
+      small_every = subst (λ (s : Settings). s.every ≤ most_rounds) (sym same) range.small_every;
+      some_scale = subst (λ (s : Settings). 1 ≤ s.scale) (sym same) range.some_scale;
+      small_scale = subst (λ (s : Settings). s.scale ≤ most_plus_scale) (sym same) range.small_scale;
+    }
 
--- a drill that the words name has at least one worker, and no more than the limit
-pub drill_workers_within : (words : List (List ℕ)) (cards : ℕ) (settings : Settings) (workers : Option ℕ)
-    → command_of_words words ≡ Some (Drill cards settings workers) → IfSome workers (λ number. 1 ≤ number) × IfSome workers (λ number. number ≤ most_workers)
-drill_workers_within words cards settings workers is =
-    let range = settings_in_range.of_drill words cards settings workers is in (range.some_workers, range.few_workers)
+-- a number of workers that is given is at least 1, and no more than the limit
+abbrev pub AreWorkersWithin : Option ℕ → Type 0
+AreWorkersWithin workers = IfSome workers (λ number. 1 ≤ number) × IfSome workers (λ number. number ≤ most_workers)
+
+pub workers_within : (words : List (List ℕ)) (file : List ℕ) (settings : Settings) (rows : RowSettings)
+    → command_of_words words ≡ Some (Solve file settings rows) → AreWorkersWithin rows.workers
+workers_within words file settings rows is =
+    let range = settings_in_range.of_solve words file settings rows is in (range.some_workers, range.few_workers)
+
+-- so it is of a drill
+pub drill_workers_within : (words : List (List ℕ)) (cards : ℕ) (settings : Settings) (rows : RowSettings)
+    → command_of_words words ≡ Some (Drill cards settings rows) → AreWorkersWithin rows.workers
+drill_workers_within words cards settings rows is =
+    let range = settings_in_range.of_drill words cards settings rows is in (range.some_workers, range.few_workers)
+
+-- and of rounds of CFR+
+pub plus_workers_within : (words : List (List ℕ)) (file : List ℕ) (settings : Settings) (rows : RowSettings)
+    → command_of_words words ≡ Some (Plus file settings rows) → AreWorkersWithin rows.workers
+plus_workers_within words file settings rows is =
+    let range = settings_in_range.of_plus words file settings rows is in (range.some_workers, range.few_workers)
+
+-- and of a batch, where a number stands for one that is absent
+pub batch_workers_within : (words files : List (List ℕ)) (settings : Settings) (workers : Option ℕ)
+    → command_of_words words ≡ Some (Batch files settings workers)
+    → (1 ≤ unwrap_or workers 4) × (unwrap_or workers 4 ≤ most_workers)
+batch_workers_within words files settings workers is =
+    let range = settings_in_range.of_batch words files settings workers is in
+    by_number workers range.some_workers range.few_workers
+  where
+    by_number : (workers : Option ℕ) → IfSome workers (λ number. 1 ≤ number)
+        → IfSome workers (λ number. number ≤ most_workers)
+        → (1 ≤ unwrap_or workers 4) × (unwrap_or workers 4 ≤ most_workers)
+    by_number None some few = (omega arith, omega arith)
+    by_number (Some number) some few = (some, few)

@@ -14,14 +14,15 @@ use Rattle.def_plan.specs.Weighed.{WeighedGame}
 use Rattle.def_sequence_form.proofs.Leaves.{form_has_the_mass}
 use Rattle.def_reply.specs.Offers.{board_after}
 use Rattle.def_reply.specs.Outcome.{Head, Outcome}
-use Rattle.def_run.specs.Run.{offers, outcome, outcome_with}
+use Rattle.def_run.specs.Run.{offers_in, outcome_with}
+use Rattle.def_plus.specs.declared.Variant.{Variant}
+use Rattle.def_plus_run.specs.VariantRun.{run_of, outcome_of}
 use Rattle.def_cert_accepted.specs.OfOutcome.{certificate_of}
-use Rattle.def_cert_text.specs.CertText.{versioned_text}
 use Rattle.def_cert_versions.specs.Upgrade.{HasWholeSum, IsWholeIn}
 use Rattle.def_cert_versions.specs.Verdict.{in_version_two}
 use Rattle.def_cert_versions.proofs.Upgrades.{whole_sums}
 use Rattle.def_command.specs.Grammar.{Settings}
-use Rattle.def_program.specs.Text.{form_of_file, game_head, between_marks, solve_text}
+use Rattle.def_program.specs.Text.{form_of_file, game_head, between_marks, played_text, text_of_variant}
 use Rattle.def_program.proofs.Played.{leaves_are}
 use Rattle.xg_engine.specs.State.{EngineState, head_with}
 use Rattle.xg_engine.specs.declared.settings.Settings.{Settings as RunSettings}
@@ -78,48 +79,51 @@ run_head_is game settings = λ i. record {
   scale = settings.scale;
 }
 
--- the text of an outcome
-abbrev pub outcome_text : SequenceForm → Outcome → List ℕ
-outcome_text form left = versioned_text (in_version_two (certificate_of form left))
+-- the text of an outcome of a variant of rounds
+abbrev pub outcome_text : Variant → SequenceForm → Outcome → List ℕ
+outcome_text variant form left = text_of_variant variant (in_version_two (certificate_of form left))
 
--- what a run leaves is written as the text of the solution
-pub played_is : (game : GameFile) (settings : RunSettings) (form : SequenceForm) (left : Outcome)
-    → form ≡ form_of_file game → left ≡ outcome (form_of_file game) (head_with (weighed_game game) settings)
-    → outcome_text form left ≡ solve_text game (settings_seen settings)
-played_is game settings form left form_is left_is =
-    (λ i. outcome_text (form_is i) (left_is i))
-    ∙ ap (λ (head : Head). outcome_text (form_of_file game) (outcome (form_of_file game) head))
+-- what a run leaves is written as the text of the game
+pub played_is : (variant : Variant) (game : GameFile) (settings : RunSettings) (form : SequenceForm) (left : Outcome)
+    → form ≡ form_of_file game → left ≡ outcome_of variant (form_of_file game) (head_with (weighed_game game) settings)
+    → outcome_text variant form left ≡ played_text variant game (settings_seen settings)
+played_is variant game settings form left form_is left_is =
+    (λ i. outcome_text variant (form_is i) (left_is i))
+    ∙ ap (λ (head : Head). outcome_text variant (form_of_file game) (outcome_of variant (form_of_file game) head))
     (run_head_is game settings)
 
 -- without rounds the trace is empty, and there are no ends
-without_rounds : (form : SequenceForm) (head : Head) → head.rounds ≡ 0
-    → record { head = head; trace = []; ends = None } ≡ outcome form head
-without_rounds form head none =
-    sym (ap (λ rounds. outcome_with head (board_after (offers form head.scale head.every rounds))) none)
+without_rounds : (variant : Variant) (form : SequenceForm) (head : Head) → head.rounds ≡ 0
+    → record { head = head; trace = []; ends = None } ≡ outcome_of variant form head
+without_rounds variant form head none =
+    sym (ap (λ rounds. outcome_with head (board_after (offers_in form (run_of variant form head.scale) head.every rounds))) none)
 
 -- and the head alone is written
-pub unplayed_is : (game : GameFile) (settings : Settings) (form : SequenceForm) (head : Head) (left : Outcome)
-    → settings.rounds ≡ 0 → form ≡ form_of_file game → head ≡ game_head game settings
-    → left ≡ record { head = head; trace = []; ends = None } → outcome_text form left ≡ solve_text game settings
-unplayed_is game settings form head left none form_is head_is left_is =
-    ap (outcome_text form) left_is
-    ∙ (λ i. outcome_text (form_is i) (record { head = head_is i; trace = []; ends = None }))
-    ∙ ap (outcome_text (form_of_file game)) (without_rounds (form_of_file game) (game_head game settings) none)
+pub unplayed_is : (variant : Variant) (game : GameFile) (settings : Settings) (form : SequenceForm) (head : Head)
+    (left : Outcome) → settings.rounds ≡ 0 → form ≡ form_of_file game → head ≡ game_head game settings
+    → left ≡ record { head = head; trace = []; ends = None }
+    → outcome_text variant form left ≡ played_text variant game settings
+unplayed_is variant game settings form head left none form_is head_is left_is =
+    ap (outcome_text variant form) left_is
+    ∙ (λ i. outcome_text variant (form_is i) (record { head = head_is i; trace = []; ends = None }))
+    ∙ ap (outcome_text variant (form_of_file game))
+    (without_rounds variant (form_of_file game) (game_head game settings) none)
 
 -- an outcome that is there is one
 pub same_outcome : (left other : Outcome) → Some left ≡ Some other → left ≡ other
 same_outcome left other same = cc
 
 -- what a run leaves of a game whose sum is whole can be written
-pub run_can_be_written : {E : Type 0} (r : Result (Unit {0}) E) (game : WeighedGame) (settings : RunSettings)
-    (left : Option Outcome) → HasWholeSum game → OnOk r (left ≡ Some (outcome game.form (head_with game settings)))
+pub run_can_be_written : {E : Type 0} (r : Result (Unit {0}) E) (variant : Variant) (game : WeighedGame)
+    (settings : RunSettings) (left : Option Outcome) → HasWholeSum game
+    → OnOk r (left ≡ Some (outcome_of variant game.form (head_with game settings)))
     → OnOk r (IfSome left (IsOutcomeOf game.form)) → OnOk r (IfSome left (CanBeWritten game.form))
-run_can_be_written (Err e) game settings left sum is can = tt
-run_can_be_written (Ok done) game settings None sum is can = tt
-run_can_be_written (Ok done) game settings (Some left) sum is can = record {
+run_can_be_written (Err e) variant game settings left sum is can = tt
+run_can_be_written (Ok done) variant game settings None sum is can = tt
+run_can_be_written (Ok done) variant game settings (Some left) sum is can = record {
   is = can;
   sum = subst (λ (it : Outcome). IsWholeIn it.head.unit it.head.sum)
-      (sym (same_outcome left (outcome game.form (head_with game settings)) is)) sum;
+      (sym (same_outcome left (outcome_of variant game.form (head_with game settings)) is)) sum;
 }
 
 -- an accepted game keeps its numbers

@@ -1,5 +1,8 @@
 -- What the words mean is what their command means, and the files that they name are those of their command.
-use Rattle.std.proofs.Common.{◌≡◌, ℕ, List, length, Option, Some, subst}
+use Rattle.std.proofs.Common.{◌≡◌, ℕ, zero, suc, ◌<◌, List, [], ◌∷◌, length, get_or, map, Option, Some, refl, ap, subst, arith}
+use Rattle.std.specs.Prelude.{All}
+use Rattle.std.specs.Borrow.{Bor}
+use Rattle.std.proofs.lemmas.List.{length-map}
 use Rattle.def_outside.specs.Calls.{FilesCall, OpensAtMost, SinkCall}
 use Rattle.def_command.specs.Grammar.{Command, command_of_words, file_words, files_of, named_files}
 use Rattle.def_program.specs.Lines.{IsCheck}
@@ -20,3 +23,25 @@ pub opens_named : (words : List (List ℕ)) (files : FilesCall) (command : Comma
     → OpensAtMost files (length (file_words command)) → OpensAtMost files (length (named_files words))
 opens_named words files command same few =
     subst (λ (c : Option Command). OpensAtMost files (length (files_of c))) same few
+
+-- ---- the names of a batch, which the words hold
+
+name_at : (names : List (Bor (List ℕ))) (k : ℕ) (d : Bor (List ℕ)) → k < length names
+    → get_or (map (λ (name : Bor (List ℕ)). name.now) names) k d.now ≡ (get_or names k d).now
+name_at [] k d low = absurd (omega arith)
+name_at (name ∷ names) zero d low = refl
+name_at (name ∷ names) (suc k) d low = name_at names k d (omega arith)
+
+-- what holds of each name's bytes
+pub of_each_name : (P : List ℕ → Type 0) (names : List (Bor (List ℕ)))
+    → All P (map (λ (name : Bor (List ℕ)). name.now) names) → All (λ (name : Bor (List ℕ)). P name.now) names
+of_each_name P names all k d low =
+    let within : k < length (map (λ (name : Bor (List ℕ)). name.now) names) =
+    omega (arith, length-map names (λ (name : Bor (List ℕ)). name.now), low) in
+    subst P (name_at names k d low) (all k d.now within)
+
+-- what is told of them
+pub told_of_names : (told : List ℕ → Option (List ℕ)) (names : List (Bor (List ℕ)))
+    → map (λ (name : Bor (List ℕ)). told name.now) names ≡ map told (map (λ (name : Bor (List ℕ)). name.now) names)
+told_of_names told [] = refl
+told_of_names told (name ∷ names) = ap (λ rest. told name.now ∷ rest) (told_of_names told names)

@@ -8,4 +8,6 @@ pub mod Endings
 pub mod Concludes
 pub mod Refusal
 pub mod Written
+pub mod Engines
 pub mod MayOpen
+pub mod Batches

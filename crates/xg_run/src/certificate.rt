@@ -1,29 +1,35 @@
 //! The texts of games, of what was played and of what was read, as texts that are written by pages.
 use xg_cert::{Cert, Outcome, write_cert, write_upgraded};
+use xg_engine::Variant;
 use xg_game::Game;
 use xg_gen::write_game;
 use xg_io::{Sink, Writable, WriteFault};
+use xg_plus::write_plus;
 use xg_seq::SeqForm;
 
-/// The certificate of an outcome.
+/// What rounds of a variant left: the certificate of the outcome, or the text of CFR+.
 #[derive(Clone, Copy)]
-pub struct CertificateText<'a> {
+pub struct PlayedText<'a> {
+    pub variant: Variant,
     pub form: &'a SeqForm,
     pub outcome: &'a Outcome,
 }
 
-impl Writable for CertificateText<'_> {
+impl Writable for PlayedText<'_> {
     ghost use Rattle.def_cert_accepted.specs.OfOutcome.{certificate_of};
-    ghost use Rattle.def_cert_text.specs.CertText.{versioned_text};
     ghost use Rattle.def_cert_versions.specs.Verdict.{in_version_two};
+    ghost use Rattle.def_program.specs.Text.{text_of_variant};
     ghost use Rattle.xg_run.specs.Written.{CanBeWritten};
 
-    ghost bytes = { λ c. versioned_text (in_version_two (certificate_of c.form.now c.outcome.now)) };
+    ghost bytes = { λ t. text_of_variant t.variant (in_version_two (certificate_of t.form.now t.outcome.now)) };
 
-    ghost can_write = { λ c. CanBeWritten c.form.now c.outcome.now };
+    ghost can_write = { λ t. CanBeWritten t.form.now t.outcome.now };
 
     fn write<O: Sink>(&self, out: &mut O) -> Result<(), WriteFault> {
-        write_cert(self.form, self.outcome, out)
+        match self.variant {
+            Variant::Plain => write_cert(self.form, self.outcome, out),
+            Variant::Plus => write_plus(self.form, self.outcome, out),
+        }
     }
 }
 

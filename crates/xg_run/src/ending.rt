@@ -65,8 +65,8 @@ impl Ending {
             Ending::Done => b"",
             Ending::Refused { line } => line.as_bytes(),
             Ending::Usage =>
-                b"usage: xg_solve solve FILE [--rounds N] [--every N] [--scale N] [--workers N] \
-                | check FILE CERT | upgrade FILE CERT | info FILE | gen N | drill N\n",
+                b"usage: xg_solve solve FILE [--rounds N] [--every N] [--scale N] [--workers N] [--atomic N] \
+                | check FILE CERT | upgrade FILE CERT | info FILE | gen N | drill N | plus FILE | batch FILE...\n",
             Ending::ReadFault => b"read fault\n",
             Ending::WriteFault => b"write fault\n",
             Ending::NoMemory => b"want of memory\n",

@@ -2,16 +2,20 @@
 #![tactic(auto)]
 
 mod accepted;
+mod batch;
+mod batch_text;
 mod both;
 mod certificate;
 mod check;
 mod check_lines;
 mod ending;
+mod engine;
 mod given;
 mod load;
 mod made;
 mod playing;
 mod program;
+mod rows;
 mod text;
 
 pub use given::{given_words, status_without_words};

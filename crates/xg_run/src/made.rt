@@ -5,7 +5,8 @@ ghost use Rattle.def_sums.specs.Limits.{least_cards, most_cards};
 ghost use Rattle.def_canon.specs.Canon.{canon};
 ghost use Rattle.def_canon.specs.Poker.{poker};
 ghost use Rattle.def_program.specs.Program.{solved};
-ghost use Rattle.xg_engine.specs.State.{AreWithinLimits};
+ghost use Rattle.def_plus.specs.declared.Variant.TheVariants.{Plain};
+ghost use Rattle.xg_engine.specs.State.{AreWithinLimitsOf};
 ghost use Rattle.xg_run.specs.Concludes.{EndsMade, Tells};
 ghost use Rattle.xg_run.specs.Settings.{settings_seen};
 
@@ -14,12 +15,12 @@ use crate::certificate::GameText;
 use crate::ending::Ending;
 use crate::playing::{ending_of, play};
 use crate::program::refused;
+use crate::rows::SharedRows;
 use std::alloc::Global;
 use std::marker::Sync;
 use std::sync::Wait;
 use std::thread::Threads;
-use xg_board::LockedRows;
-use xg_engine::Settings;
+use xg_engine::{Settings, Variant};
 use xg_game::Refused;
 use xg_gen::one_card_poker;
 use xg_io::{Gate, Sink, write_paged};
@@ -46,19 +47,19 @@ pub fn drill<Rt: Threads + Wait + Sync, O: Sink, G: Gate>(
     alloc: Global,
     cards: u32,
     settings: Settings,
-    rows: &LockedRows<'_, G>,
+    rows: &SharedRows<'_, G>,
     out: &mut O,
 ) -> Ending
     requires low { least_cards ≤ cards }
     requires high { cards ≤ most_cards }
-    requires limits { AreWithinLimits settings }
+    requires limits { AreWithinLimitsOf Plain settings }
     ensures { EndsMade (solved (settings_seen settings)) (poker cards) (sink_call O.Sink out.old out.new) result }
 {
     let Ok(game) = one_card_poker(alloc, cards) else {
         return Ending::NoMemory;
     };
     match Accepted::open(alloc, game) {
-        Ok(accepted) => play(rt, alloc, accepted, settings, rows, out),
+        Ok(accepted) => play(rt, alloc, accepted, Variant::Plain, settings, rows, out),
         Err(Refused::File(fault)) => refused(alloc, fault),
         Err(Refused::NoMemory) => Ending::NoMemory,
     }

@@ -4,26 +4,29 @@ ghost use Rattle.std.specs.Thread.{IsSync};
 ghost use Rattle.xg_io.specs.Calls.{sink_call};
 ghost use Rattle.def_file.specs.Content.{GameFile};
 ghost use Rattle.def_game_numbers.specs.Weighed.{weighed_game};
-ghost use Rattle.def_run.specs.Run.{outcome};
+ghost use Rattle.def_plus_run.specs.VariantRun.{outcome_of};
 ghost use Rattle.def_cert_versions.specs.Upgrade.{HasWholeSum};
-ghost use Rattle.def_program.specs.Text.{solve_text};
-ghost use Rattle.xg_engine.specs.State.{AreWithinLimits, head_with};
+ghost use Rattle.def_program.specs.Text.{played_text};
+ghost use Rattle.xg_engine.specs.State.{AreWithinLimitsOf, head_with};
 ghost use Rattle.xg_jobs.specs.Rows.{AreNumbersOf, ArePlainSums};
 ghost use Rattle.xg_jobs.specs.Table.{IsTableOf};
 ghost use Rattle.xg_run.specs.Concludes.{Tells};
+ghost use Rattle.xg_run.specs.Engines.{state_of, variant_of};
 ghost use Rattle.xg_run.specs.Settings.{settings_seen};
 ghost use Rattle.xg_run.specs.Written.{CanBeWritten, IsEndingOf};
 
 use crate::accepted::Accepted;
-use crate::certificate::CertificateText;
+use crate::certificate::PlayedText;
 use crate::ending::Ending;
+use crate::engine::VariantEngine;
+use crate::rows::SharedRows;
 use std::alloc::{AllocError, Global};
 use std::marker::Sync;
 use std::sync::Wait;
 use std::thread::Threads;
-use xg_board::{LockedRows, MadeBy};
+use xg_board::MadeBy;
 use xg_cert::Outcome;
-use xg_engine::{Engine, Settings};
+use xg_engine::{Settings, Variant};
 use xg_io::{Gate, Sink, WriteFault, write_paged};
 use xg_jobs::{JobTable, PlainRows, RowInput, Rows};
 
@@ -32,22 +35,24 @@ pub fn play<Rt: Threads + Wait + Sync, O: Sink, G: Gate>(
     rt: &Rt,
     alloc: Global,
     accepted: Accepted,
+    variant: Variant,
     settings: Settings,
-    rows: &LockedRows<'_, G>,
+    rows: &SharedRows<'_, G>,
     out: &mut O,
 ) -> Ending
-    requires { AreWithinLimits settings }
-    ensures { Tells (solve_text accepted (settings_seen settings)) (sink_call O.Sink out.old out.new) result }
+    requires { AreWithinLimitsOf variant settings }
+    ensures { Tells (played_text variant accepted (settings_seen settings)) (sink_call O.Sink out.old out.new) result }
 {
     if settings.rounds == 0 {
-        let ending = write_unplayed(alloc, &accepted, settings, out);
+        let ending = write_unplayed(alloc, &accepted, variant, settings, out);
         drop(accepted);
         return ending;
     }
-    let Ok(mut engine) = accepted.into_engine(alloc) else {
+    let Ok(engine) = accepted.into_engine(alloc) else {
         return Ending::NoMemory;
     };
-    let ending = play_by(rt, alloc, &mut engine, settings, rows, out);
+    let mut engine = VariantEngine::of(variant, engine);
+    let ending = play_by(rt, alloc, &mut engine, variant, settings, rows, out);
     drop(engine);
     ending
 }
@@ -56,45 +61,50 @@ pub fn play<Rt: Threads + Wait + Sync, O: Sink, G: Gate>(
 fn play_by<Rt: Threads + Wait + Sync, O: Sink, G: Gate>(
     rt: &Rt,
     alloc: Global,
-    engine: &mut Engine,
+    engine: &mut VariantEngine,
+    variant: Variant,
     settings: Settings,
-    rows: &LockedRows<'_, G>,
+    rows: &SharedRows<'_, G>,
     out: &mut O,
 ) -> Ending
-    requires limits { AreWithinLimits settings }
-    requires whole_sum { HasWholeSum engine.old.game }
-    ensures { (game : GameFile) → engine.old.game ≡ weighed_game game
-        → Tells (solve_text game (settings_seen settings)) (sink_call O.Sink out.old out.new) result }
+    requires variant { variant_of engine.old ≡ variant }
+    requires limits { AreWithinLimitsOf variant settings }
+    requires whole_sum { HasWholeSum (state_of engine.old).game }
+    ensures { (game : GameFile) → (state_of engine.old).game ≡ weighed_game game
+        → Tells (played_text variant game (settings_seen settings)) (sink_call O.Sink out.old out.new) result }
 {
     let Ok(()) = play_rounds(rt, alloc, engine, settings, rows) else {
         return Ending::NoMemory;
     };
     match engine.outcome() {
         Some(outcome) => {
-            let certificate = CertificateText {
+            let text = PlayedText {
+                variant,
                 form: engine.form(),
                 outcome,
             };
-            ending_of(write_paged(out, &certificate))
+            ending_of(write_paged(out, &text))
         }
         None => Ending::NoMemory,
     }
 }
 
-/// Plays the rounds: alone with one worker, else with workers who add into locked rows.
+/// Plays the rounds: alone with one worker, else with workers who add into shared rows.
 fn play_rounds<Rt: Threads + Wait + Sync, G: Gate>(
     rt: &Rt,
     alloc: Global,
-    engine: &mut Engine,
+    engine: &mut VariantEngine,
     settings: Settings,
-    rows: &LockedRows<'_, G>,
+    rows: &SharedRows<'_, G>,
 ) -> Result<(), AllocError>
-    requires limits { AreWithinLimits settings }
-    requires whole_sum { HasWholeSum engine.old.game }
-    ensures outcome { OnOk result (engine.new.outcome
-        ≡ Some (outcome engine.old.game.form (head_with engine.old.game settings))) }
-    ensures game { engine.new.game ≡ engine.old.game }
-    ensures writable { OnOk result (IfSome engine.new.outcome (CanBeWritten engine.old.game.form)) }
+    requires limits { AreWithinLimitsOf (variant_of engine.old) settings }
+    requires whole_sum { HasWholeSum (state_of engine.old).game }
+    ensures outcome { let game = (state_of engine.old).game in
+        OnOk result ((state_of engine.new).outcome
+        ≡ Some (outcome_of (variant_of engine.old) game.form (head_with game settings))) }
+    ensures game { (state_of engine.new).game ≡ (state_of engine.old).game }
+    ensures writable { OnOk result (IfSome (state_of engine.new).outcome
+        (CanBeWritten (state_of engine.old).game.form)) }
 {
     if rows.workers == 1 {
         return engine.run(rt, alloc, settings, &PlainRows);
@@ -114,20 +124,22 @@ fn play_rounds<Rt: Threads + Wait + Sync, G: Gate>(
 fn write_unplayed<O: Sink>(
     alloc: Global,
     accepted: &Accepted,
+    variant: Variant,
     settings: Settings,
     out: &mut O,
 ) -> Ending
     requires { settings.rounds ≡ 0 }
-    ensures { Tells (solve_text accepted.now (settings_seen settings)) (sink_call O.Sink out.old out.new) result }
+    ensures { Tells (played_text variant accepted.now (settings_seen settings)) (sink_call O.Sink out.old out.new) result }
 {
     let numbers = accepted.numbers();
     numbers.facts();
     let outcome = Outcome::new(accepted.head(settings), Vec::new(alloc), None);
-    let certificate = CertificateText {
+    let text = PlayedText {
+        variant,
         form: numbers.form(),
         outcome: &outcome,
     };
-    ending_of(write_paged(out, &certificate))
+    ending_of(write_paged(out, &text))
 }
 
 /// The end of a run whose text was written, or cut off.

@@ -1,14 +1,12 @@
 //! The top call.
-ghost use Rattle.std.specs.Prelude.{◌≡◌, ◌≢◌, ◌⊎◌, ◌↔◌, ◌≤◌, IfSome, IsNone, IsTrue, length};
-ghost use Rattle.def_sums.specs.Limits.{most_workers};
+ghost use Rattle.std.specs.Prelude.{◌≡◌, ◌≢◌, ◌⊎◌, ◌↔◌, ◌≤◌, IsNone, IsTrue, length};
 ghost use Rattle.def_outside.specs.Calls.{HasFailed, HasFailedOnce, MayHaveFailed, OpensAtMost, Wrote, WroteFront, WroteNothing};
 ghost use Rattle.xg_io.specs.Calls.{files_call, sink_call};
 ghost use Rattle.def_command.specs.Grammar.{command_of_words, named_files};
-ghost use Rattle.def_command.specs.Table.{Workers, default_number};
-ghost use Rattle.def_program.specs.Program.{solved};
+ghost use Rattle.def_program.specs.Program.{played};
 ghost use Rattle.def_program.specs.Text.{info_text};
 ghost use Rattle.xg_command.specs.Values.{settings_value};
-ghost use Rattle.xg_engine.specs.State.{AreWithinLimits};
+ghost use Rattle.xg_engine.specs.State.{AreWithinLimitsOf};
 ghost use Rattle.xg_run.specs.Settings.{settings_seen};
 ghost use Rattle.def_program.specs.Bounds.{BoundsHold, ForEachPlayed};
 ghost use Rattle.def_program.specs.Checked.{ForEachChecked};
@@ -20,29 +18,26 @@ ghost use Rattle.xg_run.specs.MayOpen.{MayOpen};
 ghost use Rattle.xg_run.specs.Refusal.{IsRefusal, IsUnloaded};
 
 use crate::accepted::Accepted;
+use crate::batch::batch;
 use crate::check::{check, upgrade};
 use crate::ending::Ending;
 use crate::load::{LoadFault, load};
 use crate::made::{drill, generate};
 use crate::playing::{ending_of, play};
+use crate::rows::SharedRows;
 use crate::text::{fault_line, info_front, write_info};
 use def_sums::MOST_SCALE;
 use std::alloc::Global;
 use std::marker::Sync;
 use std::sync::Wait;
 use std::thread::Threads;
-use xg_board::LockedRows;
 use xg_command::{Command, WordSettings, Words};
-use xg_engine::Settings;
+use xg_engine::{Settings, Variant};
 use xg_io::{Files, Gate, Sink};
 use xg_read::FileFault;
 
-/// How many stripes the rows are cut into that several workers add into.
-const STRIPES: u32 = 16;
-
-/// How many workers pay where no number of them is given: one thread adds up its rows faster than several workers add
-/// into shared ones, for every number of leaves that a file can have.
-const PAYING_WORKERS: u32 = 1;
+/// How many files of a batch are solved at once where no number of workers is given.
+const BATCH_WORKERS: u32 = 4;
 
 /// No rounds, at the greatest scale.
 const NO_ROUNDS: Settings = Settings {
@@ -51,25 +46,26 @@ const NO_ROUNDS: Settings = Settings {
     scale: MOST_SCALE,
 };
 
-/// Solves the game of a file.
+/// Solves the game of a file by rounds of this variant.
 fn solve<Rt: Threads + Wait + Sync, F: Files, O: Sink, G: Gate>(
     rt: &Rt,
     alloc: Global,
     file: &str,
+    variant: Variant,
     settings: Settings,
-    rows: &LockedRows<'_, G>,
+    rows: &SharedRows<'_, G>,
     files: &mut F,
     out: &mut O,
 ) -> Ending
     requires may_open { IsTrue (F.may_open files.old file.now) }
-    requires limits { AreWithinLimits settings }
-    ensures concludes { Concludes ⊥ (FileTold (solved (settings_seen settings)) (F.told files.old file.now))
+    requires limits { AreWithinLimitsOf variant settings }
+    ensures concludes { Concludes ⊥ (FileTold (played variant (settings_seen settings)) (F.told files.old file.now))
         (files_call F.Files files.old files.new) (sink_call O.Sink out.old out.new) result }
     ensures opens { OpensAtMost (files_call F.Files files.old files.new) 1 }
     ensures command { status_of result ≢ 2 }
 {
     match load(alloc, files, file) {
-        Ok(accepted) => play(rt, alloc, accepted, settings, rows, out),
+        Ok(accepted) => play(rt, alloc, accepted, variant, settings, rows, out),
         Err(fault) => unloaded(alloc, fault),
     }
 }
@@ -134,20 +130,6 @@ fn asked(settings: WordSettings) -> Settings
     }
 }
 
-/// The rows that the workers add into: as many as the words ask for, and else as many as pay.
-fn locked_rows<G: Gate>(workers: Option<u32>, gate: &G) -> LockedRows<'_, G>
-    requires some { IfSome workers (λ number. 1 ≤ number) }
-    requires few { IfSome workers (λ number. number ≤ most_workers) }
-    ensures given { IfSome workers (λ number. result.workers ≡ number) }
-    ensures absent { IsNone workers → result.workers ≤ default_number Workers 0 }
-{
-    LockedRows {
-        workers: workers.unwrap_or(PAYING_WORKERS),
-        stripes: STRIPES,
-        gate,
-    }
-}
-
 /// Does what the words say, and says nothing of it.
 fn conclude<Rt: Threads + Wait + Sync, F: Files, O: Sink, G: Gate>(
     rt: &Rt,
@@ -168,11 +150,23 @@ fn conclude<Rt: Threads + Wait + Sync, F: Files, O: Sink, G: Gate>(
             Command::Solve {
                 file,
                 settings,
-                workers,
+                rows,
             },
         ) => {
-            let rows = locked_rows(workers, gate);
-            solve(rt, alloc, file, asked(settings), &rows, files, out)
+            let rows = SharedRows::of(rows, gate);
+            let settings = asked(settings);
+            solve(rt, alloc, file, Variant::Plain, settings, &rows, files, out)
+        }
+        Some(
+            Command::Plus {
+                file,
+                settings,
+                rows,
+            },
+        ) => {
+            let rows = SharedRows::of(rows, gate);
+            let settings = asked(settings);
+            solve(rt, alloc, file, Variant::Plus, settings, &rows, files, out)
         }
         Some(Command::Check { file, certificate }) => {
             check(alloc, file, certificate, files, out)
@@ -180,16 +174,35 @@ fn conclude<Rt: Threads + Wait + Sync, F: Files, O: Sink, G: Gate>(
         Some(Command::Upgrade { file, certificate }) => {
             upgrade(alloc, file, certificate, files, out)
         }
+        Some(
+            Command::Batch {
+                files: names,
+                settings,
+                workers,
+            },
+        ) => {
+            let workers = workers.unwrap_or(BATCH_WORKERS);
+            batch(
+                rt,
+                alloc,
+                &names,
+                asked(settings),
+                workers,
+                files,
+                out,
+                gate,
+            )
+        }
         Some(Command::Info { file }) => info(alloc, file, files, out),
         Some(Command::Gen { cards }) => generate(alloc, cards, out),
         Some(
             Command::Drill {
                 cards,
                 settings,
-                workers,
+                rows,
             },
         ) => {
-            let rows = locked_rows(workers, gate);
+            let rows = SharedRows::of(rows, gate);
             drill(rt, alloc, cards, asked(settings), &rows, out)
         }
         None => Ending::Usage,

@@ -29,11 +29,46 @@ unit 1
 mass 4
 "#;
 
+const PENNIES_BY_PLUS: &str = r#"XGPLUS 1
+nodes 7 leaves 4
+sets 1 1
+sequences 3 3
+unit 1
+mass 4
+sum 0
+rounds 2 every 1 scale 1
+trace 1 1 -1 1 1
+trace 2 1 -1 2 1
+plan 1 1
+weights 1 0 1
+reply 2 -1
+value 1 -1 1
+plan 2 3
+weights 1 2 1
+reply 1 1
+value 1 1 1
+bracket -1 1/3
+second -1/3 1
+end
+"#;
+
 // A file is opened, its bytes come, and then its end.
-static CALLS: [Call; 9] = [
+static CALLS: [Call; 11] = [
     Call {
         words: "solve game --rounds 1",
         text: certificates::PENNIES_IN_TWO,
+        reads: 3,
+        writes: 1,
+    },
+    Call {
+        words: "plus game --rounds 2 --every 1 --scale 1",
+        text: PENNIES_BY_PLUS,
+        reads: 3,
+        writes: 1,
+    },
+    Call {
+        words: "plus game --rounds 2 --every 1 --scale 1 --workers 3",
+        text: PENNIES_BY_PLUS,
         reads: 3,
         writes: 1,
     },

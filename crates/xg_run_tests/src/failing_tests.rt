@@ -21,9 +21,22 @@ sum 0
 rounds 1 every 1 scale 1048576
 "#;
 
+/// The text of CFR+ for `PENNIES` after one round, up to its trace.
+const PLUS_FRONT: &str = r#"XGPLUS 1
+nodes 7 leaves 4
+sets 1 1
+sequences 3 3
+unit 1
+mass 4
+sum 0
+rounds 1 every 1 scale 16384
+"#;
+
 const SOLVE: &str = "solve game --rounds 0";
 
 const SOLVE_ONE_ROUND: &str = "solve game --rounds 1";
+
+const PLUS_ONE_ROUND: &str = "plus game --rounds 1";
 
 const NO_FILE: &str = "solve nofile --rounds 0";
 
@@ -124,7 +137,7 @@ const WRITE_FAULT: Case = Case {
     said: "write fault\n",
 };
 
-static STREAMS_THAT_FAIL: [Case; 5] = [
+static STREAMS_THAT_FAIL: [Case; 7] = [
     WRITE_FAULT,
     Case {
         out: Stream {
@@ -154,6 +167,21 @@ static STREAMS_THAT_FAIL: [Case; 5] = [
             failing: NEVER,
         },
         written: PENNIES_FRONT,
+        ..WRITE_FAULT
+    },
+    Case {
+        words: PLUS_ONE_ROUND,
+        game: PENNIES,
+        ..WRITE_FAULT
+    },
+    Case {
+        words: PLUS_ONE_ROUND,
+        game: PENNIES,
+        out: Stream {
+            room: PLUS_FRONT.len(),
+            failing: NEVER,
+        },
+        written: PLUS_FRONT,
         ..WRITE_FAULT
     },
 ];

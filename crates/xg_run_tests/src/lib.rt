@@ -8,8 +8,6 @@ mod counting_tests;
 #[cfg(test)]
 mod failing_tests;
 #[cfg(test)]
-mod gates;
-#[cfg(test)]
 mod sure_tests;
 #[cfg(test)]
 mod words_tests;

@@ -37,13 +37,14 @@ fn sure_status<Rt: Threads + Wait + Sync + AllocGlobal>(
 /// Words, where the file `game` is the forgetful one, with the status, how many bytes are written, and what is said.
 type Row = (&'static str, u8, u64, &'static str);
 
-static ROWS: [Row; 5] = [
+static ROWS: [Row; 6] = [
     (
         "solve game",
         1,
         0,
         "refused 18 NotRecall node 3 earlier 1\n",
     ),
+    ("plus game", 1, 0, "refused 18 NotRecall node 3 earlier 1\n"),
     ("solve nofile", 1, 0, "refused 3 UnexpectedEnd\n"),
     ("check nofile nofile", 1, 0, "refused 3 UnexpectedEnd\n"),
     ("upgrade nofile nofile", 1, 0, "refused 3 UnexpectedEnd\n"),

@@ -5,7 +5,7 @@ use Rattle.def_plan.specs.Weighed.{WeighedGame}
 use Rattle.def_reply.specs.declared.TraceLine.{TraceLine}
 use Rattle.def_reply.specs.Outcome.{Head, Outcome}
 use Rattle.def_cert_verdict.specs.Ranges.{IsFromTo}
-use Rattle.def_program.specs.Text.{form_of_file, solve_text}
+use Rattle.def_program.specs.Text.{form_of_file, played_text}
 use Rattle.xg_cert.specs.Outcome.{head_of}
 use Rattle.xg_run.specs.Settings.{settings_seen}
 use Rattle.xg_run.specs.Written.{CanBeWritten}
@@ -32,6 +32,7 @@ pub returns : goal.returns
 returns g c =
     let game = c.args.accepted.now in
     let settings = settings_seen c.args.settings in
+    let variant = c.args.variant in
     let form_is : c.form.result.now ≡ form_of_file game =
     c.form.ensures ∙ ap (λ (numbers : WeighedGame). numbers.form) c.numbers-numbers.ensures in
     let left : Outcome = c.new-outcome.result in
@@ -39,10 +40,10 @@ returns g c =
     c.new-outcome.ensures
     ∙ ap (λ (trace : List TraceLine). record { head = head_of c.head.result; trace = trace; ends = None }) c.new.ensures.items in
     tells (sink_call g.O.Sink c.args.out.now c.write_paged.new.out)
-    (solve_text game settings) (outcome_text c.form.result.now left)
-    (unplayed_is game settings c.form.result.now (head_of c.head.result) left c.requires form_is c.head.ensures.exact left_is)
+    (played_text variant game settings) (outcome_text variant c.form.result.now left)
+    (unplayed_is variant game settings c.form.result.now (head_of c.head.result) left c.requires form_is c.head.ensures.exact left_is)
     c.write_paged.result c.ending_of.result c.ending_of.ensures
     (writes_of (g.O.Sink.written c.args.out.now) (g.O.Sink.written c.write_paged.new.out)
-    (outcome_text c.form.result.now left) c.write_paged.result
+    (outcome_text variant c.form.result.now left) c.write_paged.result
     c.write_paged.ensures.appended c.write_paged.ensures.prefix)
     c.write_paged.ensures.cause

@@ -1,51 +1,69 @@
-use Rattle.std.proofs.Common.{ℕ, List, Option, Some, refl, sym, ap, subst, ◌∙◌}
+use Rattle.std.proofs.Common.{◌≡◌, ℕ, ◌≤◌, Bool, List, map, Option, Some, refl, sym, ap, subst, ◌∙◌}
+use Rattle.std.specs.Prelude.{All, IsTrue}
+use Rattle.std.specs.Borrow.{Bor}
+use Rattle.def_sums.specs.Limits.{most_workers}
 use Rattle.def_outside.specs.Calls.{FilesCall, SinkCall}
 use Rattle.xg_io.specs.Calls.{files_call, sink_call}
+use Rattle.def_plus.specs.declared.Variant.TheVariants as variants
 use Rattle.def_command.specs.Grammar as grammar
 use Rattle.def_command.specs.Grammar.{command_of_words}
 use Rattle.def_command.proofs.InRange.{cards_in_range}
 use Rattle.def_file.specs.Content.{GameFile}
 use Rattle.def_canon.specs.Canon.{canon}
-use Rattle.def_program.specs.Program.{solved}
-use Rattle.def_program.specs.Meaning.{FileMeans}
+use Rattle.def_program.specs.Program.{played, solved}
+use Rattle.def_program.specs.Meaning.{AllMean, FileMeans}
 use Rattle.def_program.proofs.Meant.{made_computed}
 use Rattle.xg_command.specs.declared.command.Command.{Command}
-use Rattle.xg_command.specs.Values.{command_value, settings_value}
+use Rattle.xg_command.specs.Values.{command_value, rows_value, settings_value}
 use Rattle.def_canon.specs.Poker.{poker}
+use Rattle.xg_command.specs.Plain.{plain_value}
 use Rattle.xg_run.specs.Concludes.{Concludes, EndsMade, FileTold}
+use Rattle.xg_run.specs.MayOpen.{MayOpen}
 use Rattle.xg_run.proofs.MadeEnds.{made_ended}
-use Rattle.xg_run.proofs.SettingsWithinLimits.{asked_within, drill_within, drill_workers_within, workers_within}
-use Rattle.xg_run.proofs.WordsMeanTheirCommand.{by_command, opens_named}
+use Rattle.xg_run.proofs.SettingsWithinLimits.{asked_within, batch_within, batch_workers_within, drill_within, drill_workers_within, plus_within, plus_workers_within, workers_within}
+use Rattle.xg_run.proofs.WordsMeanTheirCommand.{by_command, of_each_name, opens_named, told_of_names}
 use Rattle.xg_run.proofs.program.conclude.Goals as goal
 
-pub locked_rows-rows-requires-clause-some : goal.locked_rows-rows-requires-clause-some
-locked_rows-rows-requires-clause-some g c κs at =
+pub of-rows-requires-clause-some : goal.of-rows-requires-clause-some
+of-rows-requires-clause-some g c κs at =
     let arm = c.in-Some-Solve in
-    (workers_within c.args.words.now arm.file.now (settings_value arm.settings) arm.workers
+    (workers_within c.args.words.now arm.file.now (settings_value arm.settings) (rows_value arm.rows)
     (sym arm.ensures ∙ ap (λ (command : Command). Some (command_value command)) arm.field-0-is)).0
 
-pub locked_rows-rows-requires-clause-few : goal.locked_rows-rows-requires-clause-few
-locked_rows-rows-requires-clause-few g c κs at =
+pub of-rows-requires-clause-few : goal.of-rows-requires-clause-few
+of-rows-requires-clause-few g c κs at =
     let arm = c.in-Some-Solve in
-    (workers_within c.args.words.now arm.file.now (settings_value arm.settings) arm.workers
+    (workers_within c.args.words.now arm.file.now (settings_value arm.settings) (rows_value arm.rows)
     (sym arm.ensures ∙ ap (λ (command : Command). Some (command_value command)) arm.field-0-is)).1
 
-pub locked_rows-rows-requires-in-Some-Drill-clause-some : goal.locked_rows-rows-requires-in-Some-Drill-clause-some
-locked_rows-rows-requires-in-Some-Drill-clause-some g c κs at =
-    let arm = c.in-Some-Drill in
-    (drill_workers_within c.args.words.now arm.cards (settings_value arm.settings) arm.workers
+pub of-rows-requires-in-Some-Plus-clause-some : goal.of-rows-requires-in-Some-Plus-clause-some
+of-rows-requires-in-Some-Plus-clause-some g c κs at =
+    let arm = c.in-Some-Plus in
+    (plus_workers_within c.args.words.now arm.file.now (settings_value arm.settings) (rows_value arm.rows)
     (sym arm.ensures ∙ ap (λ (command : Command). Some (command_value command)) arm.field-0-is)).0
 
-pub locked_rows-rows-requires-in-Some-Drill-clause-few : goal.locked_rows-rows-requires-in-Some-Drill-clause-few
-locked_rows-rows-requires-in-Some-Drill-clause-few g c κs at =
+pub of-rows-requires-in-Some-Plus-clause-few : goal.of-rows-requires-in-Some-Plus-clause-few
+of-rows-requires-in-Some-Plus-clause-few g c κs at =
+    let arm = c.in-Some-Plus in
+    (plus_workers_within c.args.words.now arm.file.now (settings_value arm.settings) (rows_value arm.rows)
+    (sym arm.ensures ∙ ap (λ (command : Command). Some (command_value command)) arm.field-0-is)).1
+
+pub of-rows-requires-in-Some-Drill-clause-some : goal.of-rows-requires-in-Some-Drill-clause-some
+of-rows-requires-in-Some-Drill-clause-some g c κs at =
     let arm = c.in-Some-Drill in
-    (drill_workers_within c.args.words.now arm.cards (settings_value arm.settings) arm.workers
+    (drill_workers_within c.args.words.now arm.cards (settings_value arm.settings) (rows_value arm.rows)
+    (sym arm.ensures ∙ ap (λ (command : Command). Some (command_value command)) arm.field-0-is)).0
+
+pub of-rows-requires-in-Some-Drill-clause-few : goal.of-rows-requires-in-Some-Drill-clause-few
+of-rows-requires-in-Some-Drill-clause-few g c κs at =
+    let arm = c.in-Some-Drill in
+    (drill_workers_within c.args.words.now arm.cards (settings_value arm.settings) (rows_value arm.rows)
     (sym arm.ensures ∙ ap (λ (command : Command). Some (command_value command)) arm.field-0-is)).1
 
 pub drill-requires-clause-limits : goal.drill-requires-clause-limits
 drill-requires-clause-limits g c κs at =
     let arm = c.in-Some-Drill in
-    drill_within c.args.words.now arm.cards (settings_value arm.settings) arm.workers c.asked-in-Some-Drill.result
+    drill_within c.args.words.now arm.cards (settings_value arm.settings) (rows_value arm.rows) c.asked-in-Some-Drill.result
     (sym arm.ensures ∙ ap (λ (command : Command). Some (command_value command)) arm.field-0-is)
     c.asked-in-Some-Drill.ensures
 
@@ -75,12 +93,12 @@ returns-in-Some-Drill-clause-concludes g c =
     let files : FilesCall =
     files_call g.F.Files c.args.files.now c.args.files.now in
     let range =
-    cards_in_range.of_drill c.args.words.now arm.cards (settings_value arm.settings) arm.workers
+    cards_in_range.of_drill c.args.words.now arm.cards (settings_value arm.settings) (rows_value arm.rows)
     (sym arm.ensures ∙ ap (λ (command : Command). Some (command_value command)) arm.field-0-is) in
     let text : GameFile → List ℕ = solved (settings_value arm.settings) in
     let out : SinkCall = sink_call g.O.Sink c.args.out.now c.drill.new.out in
     by_command c.args.words.now (g.F.Files.told c.args.files.now) files out
-    (Some (grammar.Drill arm.cards (settings_value arm.settings) arm.workers))
+    (Some (grammar.Drill arm.cards (settings_value arm.settings) (rows_value arm.rows)))
     (sym (sym arm.ensures ∙ ap (λ (command : Command). Some (command_value command)) arm.field-0-is)) c.drill.result
     (made_ended (FileMeans text (canon (poker arm.cards))) text (poker arm.cards)
     (made_computed text arm.cards range.some range.few) files out refl c.drill.result
@@ -90,8 +108,14 @@ returns-in-Some-Drill-clause-concludes g c =
 pub solve-requires-clause-limits : goal.solve-requires-clause-limits
 solve-requires-clause-limits g c κs at =
     let arm = c.in-Some-Solve in
-    asked_within c.args.words.now arm.file.now (settings_value arm.settings) arm.workers c.asked.result
-    (sym arm.ensures ∙ ap (λ (command : Command). Some (command_value command)) arm.field-0-is) c.asked.ensures
+    asked_within c.args.words.now arm.file.now (settings_value arm.settings) (rows_value arm.rows) c.asked-settings.result
+    (sym arm.ensures ∙ ap (λ (command : Command). Some (command_value command)) arm.field-0-is) c.asked-settings.ensures
+
+pub solve-requires-in-Some-Plus-clause-limits : goal.solve-requires-in-Some-Plus-clause-limits
+solve-requires-in-Some-Plus-clause-limits g c κs at =
+    let arm = c.in-Some-Plus in
+    plus_within c.args.words.now arm.file.now (settings_value arm.settings) (rows_value arm.rows) c.asked-settings-in-Some-Plus.result
+    (sym arm.ensures ∙ ap (λ (command : Command). Some (command_value command)) arm.field-0-is) c.asked-settings-in-Some-Plus.ensures
 
 pub returns-in-Some-Solve-clause-concludes : goal.returns-in-Some-Solve-clause-concludes
 returns-in-Some-Solve-clause-concludes g c =
@@ -101,10 +125,62 @@ returns-in-Some-Solve-clause-concludes g c =
     files_call g.F.Files c.args.files.now c.solve.new.files in
     let out : SinkCall = sink_call g.O.Sink c.args.out.now c.solve.new.out in
     by_command c.args.words.now told files out
-    (Some (grammar.Solve arm.file.now (settings_value arm.settings) arm.workers))
+    (Some (grammar.Solve arm.file.now (settings_value arm.settings) (rows_value arm.rows)))
     (sym (sym arm.ensures ∙ ap (λ (command : Command). Some (command_value command)) arm.field-0-is)) c.solve.result
-    (subst (λ (s : grammar.Settings). Concludes ⊥ (FileTold (solved s) (told arm.file.now)) files out c.solve.result)
-    c.asked.ensures c.solve.ensures.concludes)
+    (subst (λ (s : grammar.Settings). Concludes ⊥ (FileTold (played variants.Plain s) (told arm.file.now)) files out c.solve.result)
+    c.asked-settings.ensures c.solve.ensures.concludes)
+
+pub returns-in-Some-Plus-clause-concludes : goal.returns-in-Some-Plus-clause-concludes
+returns-in-Some-Plus-clause-concludes g c =
+    let arm = c.in-Some-Plus in
+    let told : List ℕ → Option (List ℕ) = g.F.Files.told c.args.files.now in
+    let files : FilesCall =
+    files_call g.F.Files c.args.files.now c.solve-in-Some-Plus.new.files in
+    let out : SinkCall = sink_call g.O.Sink c.args.out.now c.solve-in-Some-Plus.new.out in
+    by_command c.args.words.now told files out
+    (Some (grammar.Plus arm.file.now (settings_value arm.settings) (rows_value arm.rows)))
+    (sym (sym arm.ensures ∙ ap (λ (command : Command). Some (command_value command)) arm.field-0-is)) c.solve-in-Some-Plus.result
+    (subst (λ (s : grammar.Settings). Concludes ⊥ (FileTold (played variants.Plus s) (told arm.file.now)) files out c.solve-in-Some-Plus.result)
+    c.asked-settings-in-Some-Plus.ensures c.solve-in-Some-Plus.ensures.concludes)
+
+pub batch-requires-clause-may_open : goal.batch-requires-clause-may_open
+batch-requires-clause-may_open g c κs at =
+    let arm = c.in-Some-Batch in
+    let may_open : List ℕ → Bool = g.F.Files.may_open c.args.files.now in
+    let each : All (λ file. IsTrue (may_open file)) (plain_value arm.names) =
+    subst (MayOpen (g.F.Files.told c.args.files.now) may_open)
+    (sym arm.ensures ∙ ap (λ (command : Command). Some (command_value command)) arm.field-0-is) c.requires in
+    subst (All (λ (name : Bor (List ℕ)). IsTrue (may_open name.now))) (sym c.deref.ensures.0)
+    (of_each_name (λ file. IsTrue (may_open file)) arm.names.items each)
+
+pub batch-requires-clause-limits : goal.batch-requires-clause-limits
+batch-requires-clause-limits g c κs at =
+    let arm = c.in-Some-Batch in
+    batch_within c.args.words.now (plain_value arm.names) (settings_value arm.settings) arm.workers c.asked.result
+    (sym arm.ensures ∙ ap (λ (command : Command). Some (command_value command)) arm.field-0-is) c.asked.ensures
+
+pub batch-requires-clause-workers : goal.batch-requires-clause-workers
+batch-requires-clause-workers g c κs at =
+    let arm = c.in-Some-Batch in
+    subst (λ n. (1 ≤ n) × (n ≤ most_workers)) (sym c.unwrap_or-workers.ensures)
+    (batch_workers_within c.args.words.now (plain_value arm.names) (settings_value arm.settings) arm.workers
+    (sym arm.ensures ∙ ap (λ (command : Command). Some (command_value command)) arm.field-0-is))
+
+pub returns-in-Some-Batch-clause-concludes : goal.returns-in-Some-Batch-clause-concludes
+returns-in-Some-Batch-clause-concludes g c =
+    let arm = c.in-Some-Batch in
+    let told : List ℕ → Option (List ℕ) = g.F.Files.told c.args.files.now in
+    let files : FilesCall = files_call g.F.Files c.args.files.now c.batch.new.files in
+    let out : SinkCall = sink_call g.O.Sink c.args.out.now c.batch.new.out in
+    let names : List (Bor (List ℕ)) = c.deref.result.now in
+    let contents : List (Option (List ℕ)) = map (λ (name : Bor (List ℕ)). told name.now) names in
+    let are : map (λ (name : Bor (List ℕ)). told name.now) names ≡ map told (plain_value arm.names) =
+    ap (map (λ (name : Bor (List ℕ)). told name.now)) c.deref.ensures.0 ∙ told_of_names told arm.names.items in
+    by_command c.args.words.now told files out
+    (Some (grammar.Batch (plain_value arm.names) (settings_value arm.settings) arm.workers))
+    (sym (sym arm.ensures ∙ ap (λ (command : Command). Some (command_value command)) arm.field-0-is)) c.batch.result
+    (subst (λ (told_all : List (Option (List ℕ))). Concludes ⊥ (AllMean (settings_value arm.settings) told_all) files out c.batch.result) are
+    (subst (λ (s : grammar.Settings). Concludes ⊥ (AllMean s contents) files out c.batch.result) c.asked.ensures c.batch.ensures.concludes))
 
 pub returns-in-Some-Info-clause-concludes : goal.returns-in-Some-Info-clause-concludes
 returns-in-Some-Info-clause-concludes g c =
@@ -136,7 +212,7 @@ pub returns-in-Some-Solve-clause-opens : goal.returns-in-Some-Solve-clause-opens
 returns-in-Some-Solve-clause-opens g c =
     let arm = c.in-Some-Solve in
     opens_named c.args.words.now (files_call g.F.Files c.args.files.now c.solve.new.files)
-    (grammar.Solve arm.file.now (settings_value arm.settings) arm.workers)
+    (grammar.Solve arm.file.now (settings_value arm.settings) (rows_value arm.rows))
     (sym (sym arm.ensures ∙ ap (λ (command : Command). Some (command_value command)) arm.field-0-is))
     c.solve.ensures.opens
 

@@ -1,0 +1,171 @@
+//! Solving the games of several files side by side.
+ghost use Rattle.std.specs.Prelude.{◌≡◌, ◌≢◌, ◌+◌, ◌≤◌, All, IfOk, IfSome, IsTrue, length, map};
+ghost use Rattle.def_sums.specs.Limits.{most_workers};
+ghost use Rattle.def_outside.specs.Calls.{OpensAtMost};
+ghost use Rattle.xg_io.specs.Calls.{files_call, sink_call};
+ghost use Rattle.def_file.specs.Reading.{most_bytes};
+ghost use Rattle.def_batch.specs.Batch.{batch_entry, batch_room, entry_bytes, item_of};
+ghost use Rattle.def_command.specs.Table.{most_files};
+ghost use Rattle.def_program.specs.BatchText.{parts_text};
+ghost use Rattle.def_program.specs.Meaning.{AllMean};
+ghost use Rattle.xg_engine.specs.State.{AreWithinLimits};
+ghost use Rattle.xg_batch.specs.Items.{HasAtMost, entry_seen};
+ghost use Rattle.xg_run.specs.Batches.{BatchHasCause, CanBeShown, HaveContents, items_shown};
+ghost use Rattle.xg_run.specs.Concludes.{Concludes, Tells};
+ghost use Rattle.xg_run.specs.Endings.{status_of};
+ghost use Rattle.xg_run.specs.Settings.{settings_seen};
+
+use crate::batch_text::{BatchText, parts_of};
+use crate::ending::Ending;
+use crate::playing::ending_of;
+use def_batch::BATCH_ROOM;
+use std::alloc::Global;
+use std::marker::Sync;
+use std::sync::Wait;
+use std::thread::Threads;
+use xg_batch::{Entry, FileBytes, Item, solve_all};
+use xg_engine::Settings;
+use xg_io::{Files, Gate, ReadAllFault, Sink, read_all, write_paged};
+
+/// Why the files of a batch aren't all read.
+#[derive(Clone, Copy, Debug, PartialEq, Eq)]
+pub(crate) enum BatchFault {
+    /// A file can't be opened or read.
+    ReadFault,
+    /// Memory ran out.
+    NoMemory,
+}
+
+/// Solves the games of several files side by side, and writes their texts in the order of the names.
+///
+/// All files are read, one after the other, before the first one is solved. A file that is refused ends nothing: its
+/// line stands in its place of the text.
+pub fn batch<Rt: Threads + Wait + Sync, F: Files, O: Sink, G: Gate>(
+    rt: &Rt,
+    alloc: Global,
+    names: &[&str],
+    settings: Settings,
+    workers: u32,
+    files: &mut F,
+    out: &mut O,
+    gate: &G,
+) -> Ending
+    requires names { (1 ≤ length names.now) × (length names.now ≤ most_files) }
+    requires may_open { All (λ name. IsTrue (F.may_open files.old name.now)) names.now }
+    requires limits { AreWithinLimits settings }
+    requires workers { (1 ≤ workers) × (workers ≤ most_workers) }
+    ensures concludes { Concludes ⊥
+        (AllMean (settings_seen settings) (map (λ name. F.told files.old name.now) names.now))
+        (files_call F.Files files.old files.new) (sink_call O.Sink out.old out.new) result }
+    ensures opens { OpensAtMost (files_call F.Files files.old files.new) (length names.now) }
+    ensures command { status_of result ≢ 2 }
+{
+    match read_entries(alloc, files, names) {
+        Ok(entries) => {
+            let ending = solve_entries(rt, alloc, &entries, settings, workers, out, gate);
+            drop(entries);
+            ending
+        }
+        Err(BatchFault::ReadFault) => Ending::ReadFault,
+        Err(BatchFault::NoMemory) => Ending::NoMemory,
+    }
+}
+
+/// The entries of the files of these names, which are read one after the other, up to the first that can't be read.
+fn read_entries<F: Files>(
+    alloc: Global,
+    files: &mut F,
+    names: &[&str],
+) -> Result<Vec<Entry>, BatchFault>
+    requires { All (λ name. IsTrue (F.may_open files.old name.now)) names.now }
+    ensures count { IfOk result (λ entries. length entries.items ≡ length names.now) }
+    ensures exact { IfOk result (λ entries. HaveContents batch_room
+        (map (λ name. F.told files.old name.now) names.now) (map entry_seen entries.items)) }
+    ensures within { IfOk result (λ entries. All (HasAtMost most_bytes) entries.items) }
+    ensures opens { F.opens files.new ≤ F.opens files.old + length names.now }
+    ensures cause { BatchHasCause (F.faults files.old) (F.faults files.new) result }
+{
+    let Ok(mut entries) = Vec::with_capacity(alloc, names.len()) else {
+        return Err(BatchFault::NoMemory);
+    };
+    let mut room = BATCH_ROOM;
+    'names: for i in 0..names.len() {
+        let entry = read_entry(alloc, files, names[i], room)?;
+        room -= kept_bytes(&entry);
+        entries.push_reserved(entry);
+    }
+    Ok(entries)
+}
+
+/// The entry of the file of a name, where the files before it leave this room.
+fn read_entry<F: Files>(
+    alloc: Global,
+    files: &mut F,
+    name: &str,
+    room: usize,
+) -> Result<Entry, BatchFault>
+    requires name { IsTrue (F.may_open files.old name.now) }
+    requires room { room ≤ batch_room }
+    ensures exact { IfOk result (λ entry. IfSome (F.told files.old name.now)
+        (λ bytes. batch_entry room bytes ≡ entry_seen entry)) }
+    ensures within { IfOk result (λ entry. entry_bytes (entry_seen entry) ≤ room) }
+    ensures same_told { F.told files.new ≡ F.told files.old }
+    ensures same_names { F.may_open files.new ≡ F.may_open files.old }
+    ensures opens { F.opens files.new ≤ F.opens files.old + 1 }
+    ensures cause { BatchHasCause (F.faults files.old) (F.faults files.new) result }
+{
+    match read_all(alloc, files, name, room) {
+        Ok(bytes) => Ok(Entry::Bytes(FileBytes::of(bytes))),
+        Err(ReadAllFault::TooLong) => Ok(Entry::TooLong),
+        Err(ReadAllFault::ReadFault) => Err(BatchFault::ReadFault),
+        Err(ReadAllFault::NoMemory) => Err(BatchFault::NoMemory),
+    }
+}
+
+/// How many bytes are kept of a file.
+fn kept_bytes(entry: &Entry) -> usize
+    ensures { result ≡ entry_bytes (entry_seen entry.now) }
+{
+    match entry {
+        Entry::Bytes(file) => file.bytes().len(),
+        Entry::TooLong => 0,
+    }
+}
+
+/// Solves the games of files that were read, and writes what becomes of each.
+fn solve_entries<Rt: Threads + Wait + Sync, O: Sink, G: Gate>(
+    rt: &Rt,
+    alloc: Global,
+    entries: &[Entry],
+    settings: Settings,
+    workers: u32,
+    out: &mut O,
+    gate: &G,
+) -> Ending
+    requires files { (1 ≤ length entries.now) × (length entries.now ≤ most_files) }
+    requires lengths { All (HasAtMost most_bytes) entries.now }
+    requires limits { AreWithinLimits settings }
+    requires workers { (1 ≤ workers) × (workers ≤ most_workers) }
+    ensures { Tells (parts_text (settings_seen settings) 1 (map item_of (map entry_seen entries.now)))
+        (sink_call O.Sink out.old out.new) result }
+{
+    let Ok(items) = solve_all(rt, alloc, entries, settings, workers, gate) else {
+        return Ending::NoMemory;
+    };
+    let ending = write_items(alloc, &items, out);
+    drop(items);
+    ending
+}
+
+/// Writes what became of the files.
+fn write_items<O: Sink>(alloc: Global, items: &[Item], out: &mut O) -> Ending
+    requires { All CanBeShown items.now }
+    ensures { Tells (items_shown 1 items.now) (sink_call O.Sink out.old out.new) result }
+{
+    let Ok(parts) = parts_of(alloc, items) else {
+        return Ending::NoMemory;
+    };
+    let written = write_paged(out, &BatchText { parts: &parts });
+    drop(parts);
+    ending_of(written)
+}
