@@ -10,8 +10,8 @@ LAUNCHER = ROOT / "bin" / "xg_solve"
 PROGRAM = ROOT / "crates" / "xg_solve" / "out" / "xg_solve"
 
 USAGE = (
-    b"usage: xg_solve solve FILE [--rounds N] [--every N] [--scale N] [--workers N]"
-    b" | check FILE CERT | upgrade FILE CERT | info FILE | gen N | drill N\n"
+    b"usage: xg_solve solve FILE [--rounds N] [--every N] [--scale N] [--workers N] [--atomic N]"
+    b" | check FILE CERT | upgrade FILE CERT | info FILE | gen N | drill N | plus FILE | batch FILE...\n"
 )
 READ_FAULT = b"read fault\n"
 WRITE_FAULT = b"write fault\n"
@@ -37,14 +37,17 @@ def text(nodes, leaves, sets=(0, 0), sequences=(1, 1), unit=1, mass=0, total=0):
     return "".join(line + "\n" for line in lines).encode()
 
 
-def leaf_text(rounds, every, scale=1_048_576):
-    """What is printed for the game of `ONE_LEAF` after so many rounds: the first evaluation is never improved."""
+def leaf_text(rounds, every, scale=1_048_576, is_plus=False):
+    """What `solve` prints for the game of `ONE_LEAF` after so many rounds, or `plus`, whose round k weighs k: the first
+    evaluation is never improved."""
     first = min(every, rounds)
+    root = scale * (first * (first + 1) // 2 if is_plus else first)
     lines = [
-        *text(1, 1).decode().splitlines()[:7],
+        "XGPLUS 1" if is_plus else "XGCERT 2",
+        *text(1, 1).decode().splitlines()[1:7],
         f"rounds {rounds} every {every} scale {scale}",
         *(f"trace {min(k, rounds)} {first} 0 {first} 0" for k in range(every, rounds + every, every)),
-        *(f"plan 1 {first * scale}", "reply 2 0", f"plan 2 {first * scale}", "reply 1 0"),
+        *(f"plan 1 {root}", "reply 2 0", f"plan 2 {root}", "reply 1 0"),
         *("bracket 0 0", "second 0 0", "end"),
     ]
     return "".join(line + "\n" for line in lines).encode()

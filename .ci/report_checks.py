@@ -141,7 +141,7 @@ def same_in_plain(checks, what, page, plain):
 
 
 def pages(checks, folder):
-    """The pages of four games and more."""
+    """The pages of four games and more, two of them of rounds of CFR+, too."""
     nasty, made, empty = folder / "nasty.efg", folder / "made.efg", folder / "empty.efg"
     nasty.write_bytes(NASTY)
     made.write_bytes(tool("make_game", "goofspiel", "3")[1])
@@ -150,6 +150,8 @@ def pages(checks, folder):
         (KUHN, KUHN_TEXT.read_bytes()),
         (GAMES / "toll.efg", (TEXTS / "toll.xgcert").read_bytes()),
         (GAMES / "networks.efg", (TEXTS / "networks.xgcert").read_bytes()),
+        (KUHN, (TEXTS / "kuhn_poker.xgplus").read_bytes()),
+        (GAMES / "networks.efg", (TEXTS / "networks.xgplus").read_bytes()),
         (nasty, tool("certify", nasty, stdin=b"NE,1/2,1/4,1/4,1/3,2/3,1")[1]),
         (made, tool("certify", made, stdin=equal_profile(made.read_bytes()))[1]),
         (GAMES / "one_mover.efg", tool("certify", GAMES / "one_mover.efg", stdin=b"NE,1/2,1/2")[1]),
@@ -225,6 +227,9 @@ def what_is_said(checks, folder):
     page = xml.fromstring(tool("report", KUHN, KUHN_TEXT)[1])
     figures = [(it.get("id"), len(list(it.iter(f"{SVG}polyline")))) for it in page.iter(f"{HTML}figure")]
     checks.that("how the bracket closed", figures == [("span", 0), ("trace", 2)], f"{figures}")
+    for text, proof in ((KUHN_TEXT, "check GAME CERT accepts"), (TEXTS / "kuhn_poker.xgplus", "text is no certificate")):
+        said = texts_of(xml.fromstring(tool("report", KUHN, text)[1]))
+        checks.that(f"{text.name}: {proof}", said.count("The page proves nothing") == 1 and proof in said, said)
     page = xml.fromstring(tool("report", KUHN, stdin=equal)[1])
     figures = [it.get("id") for it in page.iter(f"{HTML}figure")]
     checks.that("one evaluation has no trace", figures == ["span"], f"{figures}")
@@ -321,7 +326,7 @@ def refusals(checks, folder):
         ("a trace", KUHN, re.sub(rb"(trace 8 \d+ -?\d+)", rb"\g<1>0", told), b"the last line of its trace"),
         ("a plan", KUHN, told.replace(b"weights 2 6160384", b"weights 2 6160385"), b"and 6422528 stands before it"),
         ("a cut text", KUHN, told[:-1], b"the text doesn't end with a line feed"),
-        ("no text", KUHN, b"", b"line 1 isn't the first line of a text, XGCERT 1 or XGCERT 2"),
+        ("no text", KUHN, b"", b"line 1 isn't the first line of a text, XGCERT 1, XGCERT 2 or XGPLUS 1"),
     ]:
         for words in ([], ["--text"]):
             status, out, said = tool("report", *words, game, stdin=text)

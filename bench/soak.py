@@ -11,8 +11,9 @@ number alone.
 What is tested: the status, standard output and standard error agree with one another; a text of `solve` or `drill` is read
 by tools/certificate.py, comes back byte for byte, and `check` accepts it in both versions with its bracket; a changed text
 is refused, or its bracket meets the bracket of the text that it was made from; `upgrade` is refused as `check` is, or writes
-version 2; more workers print the same; `info` prints the numbers of the text; what `gen` writes is solved as `drill` does;
-no call takes more memory or time than its bytes allow.
+version 2; `plus` is refused as `solve` is, or its text, which `check` refuses, has a bracket that meets that of `solve`;
+a batch has for each file what `solve` says of it; more workers print the same; `info` prints the numbers of the text; what
+`gen` writes is solved as `drill` does; no call takes more memory or time than its bytes allow.
 
 A finding is shown with its case, and its files are kept. The last line counts what passed and failed, and the status is 1
 where something failed.
@@ -121,13 +122,13 @@ def changed(chance, data):
     return b"".join(parts[:at] if how == "cut" else [*parts[:at], *kept[how], *parts[at + 1 :]])
 
 
-def options(chance):
+def options(chance, scales=(1, 2, 3, 1_000, 65_537, 1_048_575, 1_048_576)):
     rounds = chance.choice((0, 1, 1, 2, 3, 7, 20))
     words = ["--rounds", str(rounds)]
     if chance.random() < 0.6:
         words += ["--every", str(chance.choice((1, 2, 3, 65_536)))]
     if chance.random() < 0.5:
-        words += ["--scale", str(chance.choice((1, 2, 3, 1_000, 65_537, 1_048_575, 1_048_576)))]
+        words += ["--scale", str(chance.choice(scales))]
     return words
 
 
@@ -188,19 +189,57 @@ def numbers_of(text):
     return b"".join(in_version(1, text).splitlines(keepends=True)[1:6])
 
 
+def workers(chance):
+    """A number of workers, whose rows are locked or are words."""
+    return ["--workers", str(chance.choice((1, 2, 3, 7, 64))), "--atomic", chance.choice("01")]
+
+
 def solved(soak, chance, file, data):
     """All that must hold of a game that is solved, or refused."""
     words = options(chance)
     answer = soak.call("solve", file, *words, read=(data,))
     told = soak.call("info", file, read=(data,))
     soak.that("info takes what solve takes", told.status == answer.status and told.err == answer.err, (told, answer))
-    others = soak.call("solve", file, *words, "--workers", str(chance.choice((1, 2, 3, 7, 64))), read=(data,))
+    others = soak.call("solve", file, *words, *workers(chance), read=(data,))
     soak.that("more workers print the same", others[:3] == answer[:3], (words, others.out))
     if answer.status == 0:
         soak.that("info prints the numbers", told.out.endswith(numbers_of(answer.out)), told.out)
         bracket = bracket_of(soak, answer.out)
         is_accepted(soak, file, data, answer.out, bracket)
         changed_texts(soak, chance, file, data, answer.out, bracket)
+    by_plus(soak, chance, file, data, answer)
+
+
+def by_plus(soak, chance, file, data, solved):
+    """What must hold of rounds of CFR+ on a game, beside the answer of `solve`."""
+    words = options(chance, (1, 2, 3, 1_000, 16_383, 16_384))
+    answer = soak.call("plus", file, *words, read=(data,))
+    others = soak.call("plus", file, *words, *workers(chance), read=(data,))
+    soak.that("more workers print the same of CFR+", others[:3] == answer[:3], (words, others.out))
+    soak.that("plus takes what solve takes", (answer.status, answer.err) == (solved.status, solved.err), answer)
+    if answer.status == 0:
+        soak.that("the first line of CFR+", answer.out.startswith(b"XGPLUS 1\n"), answer.out)
+        refused = soak.call("check", file, soak.file("text", answer.out), read=(data, answer.out))
+        soak.that("it is no certificate", refused.err == b"refused 22 CertSyntax at 0\n", refused)
+        one, two = bracket_of(soak, answer.out), bracket_of(soak, solved.out)
+        holds = None in (one, two) or (one[0] <= two[1] and two[0] <= one[1])
+        soak.that("both brackets meet", holds, (answer.out, solved.out))
+
+
+def batch_case(soak, chance):
+    """A batch of small games, valid or changed: each part is what `solve` says of its file alone."""
+    files, words, wanted, read = [], options(chance), b"", []
+    for number in range(1, chance.choice((1, 2, 3, 16)) + 1):
+        data = SmallGame(chance.randrange(1 << 40)).data()
+        for _ in range(chance.choice((0, 0, 1))):
+            data = changed(chance, data)
+        files.append(soak.file(f"game_{number}.efg", data))
+        read.append(data)
+        answer = soak.call("solve", files[-1], *words, read=(data,))
+        wanted += b"file %d\n" % number + (answer.out or answer.err)
+    for given in ([], ["--workers", str(chance.choice((1, 2, 3, 64)))]):
+        told = soak.call("batch", *files, *words, *given, read=read)
+        soak.that("a batch has the parts of its files", told[:3] == (0, wanted, b""), (words, told))
 
 
 def game_case(soak, chance):
@@ -242,16 +281,19 @@ def words_case(soak, chance):
             ["info", game],
             ["gen", "2"],
             ["drill", "2", *options(chance)],
+            ["plus", game, *options(chance, (1, 16_384))],
+            ["batch", game, game, *options(chance)],
         )
     )
     at = chance.randrange(len(words))
-    strange = chance.choice(("", "-", "--", "--rounds", "--rounds=1", "--every=", "--workers=00", "0", "65", "-1", "é", "plus"))
+    options_alone = ("--rounds", "--rounds=1", "--every=", "--workers=00", "--atomic=2")
+    strange = chance.choice(("", "-", "--", *options_alone, "0", "65", "-1", "é", "plus"))
     words[at : at + 1] = chance.choice(([], [strange], [words[at], strange], [words[at], words[at]]))
     answer = soak.call(*words, read=(pathlib.Path(game).read_bytes() * 2,))
     soak.that("words have a status", answer.status in (0, 1, 2, 3), answer)
 
 
-CASES = (game_case, game_case, game_case, stored_case, poker_case, words_case)
+CASES = (game_case, game_case, game_case, stored_case, poker_case, batch_case, words_case)
 
 
 def keep(folder, number):

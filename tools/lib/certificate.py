@@ -1,5 +1,5 @@
-"""Reads and writes the text that `solve` prints: its head, the trace of the bracket, both plans, both replies, the
-bracket and player two's bracket.
+"""Reads and writes the text that `solve` or `plus` prints: its head, the trace of the bracket, both plans, both
+replies, the bracket and player two's bracket.
 
 The form of each line is tested, and that there are as many lines as the head says. Whether the text is true isn't
 looked at. What the first line says decides which lines follow: FORMS has who reads and who writes them.
@@ -37,10 +37,19 @@ class Text:
         self.rounds = self.every = self.scale = None
         self.trace, self.ends, self.low, self.high, self.second = [], None, None, None, None
 
+    def is_certificate(self):
+        """Whether `check` may accept it: the text of rounds of CFR+ it never does."""
+        return self.form != FORM_OF_PLUS
+
+    def weight(self, played):
+        """What so many rounds weigh together in the sums of plans: a round of CFR+ weighs its number, others 1."""
+        return played if self.is_certificate() else played * (played + 1) // 2
+
     def bracket_after(self, row):
         """The bracket of a trace line in units of payoff."""
         _, low_round, low, high_round, high = row
-        return tuple(Fraction(end, self.unit * self.scale * k) for end, k in ((low, low_round), (high, high_round)))
+        each = self.unit * self.scale
+        return Fraction(low, each * self.weight(low_round)), Fraction(high, each * self.weight(high_round))
 
     def bracket_of_two(self):
         """The bracket in player two's payoff."""
@@ -67,7 +76,8 @@ class Lines:
 
 
 def read_text(data):
-    lines, told = Lines(data), " or ".join(FORMS)
+    lines, (*others, last) = Lines(data), FORMS
+    told = f"{', '.join(others)} or {last}"
     (form,) = lines.take(f"({'|'.join(FORMS)})", f"the first line of a text, {told}")
     return FORMS[form][0](lines, Text(form))
 
@@ -202,6 +212,7 @@ def lines_of_end(end, player):
 FORMS = {
     "XGCERT 1": (read_version_1, lines_of_version_1),
     "XGCERT 2": (read_version_2, lines_of_version_2),
+    "XGPLUS 1": (read_version_2, lines_of_version_2),
 }
-# The form of what `solve` prints.
-FORM_OF_SOLVE = "XGCERT 2"
+# The forms of what `solve` and `plus` print; below the first line both have the same lines.
+FORM_OF_SOLVE, FORM_OF_PLUS = "XGCERT 2", "XGPLUS 1"

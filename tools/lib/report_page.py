@@ -76,7 +76,7 @@ def page_of(audit, files):
         *(part for player in (1, 2) for part in player_section(audit, player)),
         *tree_section(audit),
         tag("h2", "What this page was made of"),
-        files_table(files),
+        files_table(files, audit.text.is_certificate()),
     ]
     head = '<meta charset="utf-8"/><meta name="viewport" content="width=device-width, initial-scale=1"/>'
     head += tag("title", name) + tag("style", STYLE)
@@ -191,12 +191,23 @@ def branch(root, is_open=False):
     return tag("li", tag("details", folded, **({"open": "open"} if is_open else {})))
 
 
-def files_table(files):
+def files_table(files, is_certificate):
     rows = [
         tag("tr", tag("th", what, scope="row") + tag("td", escape(name)) + tag("td", tag("code", told)))
         for what, (name, told) in zip(("game file", "text"), files)
     ]
     head = head_row(("what", 18), ("name", 30), ("sha256", 52))
-    proof = "The page proves nothing. What is said of LOW and HIGH is proved where"
-    proof += f" {tag('code', 'xg_solve check GAME CERT')} accepts these two files with the same bracket."
-    return tag("p", proof) + tag("table", head + tag("tbody", "\n".join(rows)))
+    return tag("p", proof_of(is_certificate)) + tag("table", head + tag("tbody", "\n".join(rows)))
+
+
+def proof_of(is_certificate):
+    """Where what is said of LOW and HIGH is proved."""
+    if not is_certificate:
+        return (
+            "The page proves nothing, and this text is no certificate. What is said of LOW and HIGH is proved where"
+            f" {tag('code', 'xg_solve plus GAME')} with the same options writes it, which its own contract says."
+        )
+    return (
+        "The page proves nothing. What is said of LOW and HIGH is proved where"
+        f" {tag('code', 'xg_solve check GAME CERT')} accepts these two files with the same bracket."
+    )
