@@ -4,7 +4,7 @@ use Rattle.std.proofs.lemmas.List.{length-append, take-append-le}
 use Rattle.std.proofs.Math.Seq.{take-append-add}
 use Rattle.std.proofs.lemmas.Bool.{and_parts, and_from, cases_lt}
 use Rattle.def_cert_text.specs.declared.fault.CertFault.TheVariants.{CertShort}
-use Rattle.def_cert_text.specs.Fields.{Item, field, separator, item_bytes, items_text, is_field_byte, next_field, is_empty}
+use Rattle.def_cert_text.specs.Fields.{TextItem, field, separator, item_bytes, items_text, is_field_byte, next_field, is_empty}
 use Rattle.def_cert_text.specs.Formats.{Format, text_of}
 use Rattle.def_cert_text.specs.Versions.{VersionedCertificate, VersionedFits}
 use Rattle.def_cert_text.specs.CertText.{versioned_certificate, read_to_end, versioned_in}
@@ -15,10 +15,10 @@ use Rattle.def_cert_text.proofs.FormatLaws.{is_clean, all_clean}
 use Rattle.def_cert_text.proofs.TextLaws.{IsWithRanges, faults_are_first, of_versions}
 
 -- where the bytes of items are cut: behind some items, within the next
-record ItemsAreCut (items : List Item) (n : ℕ) : Type 0 where
-  front : List Item
-  item : Item
-  more : List Item
+record ItemsAreCut (items : List TextItem) (n : ℕ) : Type 0 where
+  front : List TextItem
+  item : TextItem
+  more : List TextItem
   left : List ℕ
   items_are : items ≡ (front ++ item ∷ []) ++ more
   bytes_are : take n (items_text items) ≡ items_text front ++ left
@@ -30,7 +30,7 @@ pass_take zero bs h = refl
 pass_take (suc n) [] h = refl
 pass_take (suc n) (b ∷ bs) h = let q = and_parts (is_field_byte b) (all_pass is_field_byte bs) h in and_from (is_field_byte b) (all_pass is_field_byte (take n bs)) q.0 (pass_take n bs q.1)
 
-within_first : (item : Item) (items : List Item) (n : ℕ) → is_clean item ≡ true → n < length (item_bytes item)
+within_first : (item : TextItem) (items : List TextItem) (n : ℕ) → is_clean item ≡ true → n < length (item_bytes item)
     → ItemsAreCut (item ∷ items) n
 unfolding items_text
 within_first (field kind bytes) items n clean low = record {
@@ -55,7 +55,7 @@ within_first (separator b) items zero clean low = record {
 }
 within_first (separator b) items (suc n) clean low = absurd (omega (arith, low))
 
-cut_at : (items : List Item) (n : ℕ) → all_clean items ≡ true → n < length (items_text items) → ItemsAreCut items n
+cut_at : (items : List TextItem) (n : ℕ) → all_clean items ≡ true → n < length (items_text items) → ItemsAreCut items n
 unfolding items_text
 cut_at [] n clean low = absurd (omega (arith, low))
 cut_at (item ∷ items) n clean low =
@@ -73,7 +73,7 @@ cut_at (item ∷ items) n clean low =
       item = rest.item;
       more = rest.more;
       left = rest.left;
-      items_are = ap (λ (ts : List Item). item ∷ ts) rest.items_are;
+      items_are = ap (λ (ts : List TextItem). item ∷ ts) rest.items_are;
       bytes_are = ap (λ k. take k (bytes ++ items_text items)) sum ∙ take-append-add bytes (items_text items) m ∙ ap (λ (bs : List ℕ). bytes ++ bs) rest.bytes_are
           ∙ sym (append_assoc bytes (items_text rest.front) rest.left);
       short = rest.short;

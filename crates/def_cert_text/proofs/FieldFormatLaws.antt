@@ -11,7 +11,7 @@ use Rattle.def_fraction.specs.Text.{fraction_text}
 use Rattle.def_fraction.proofs.DivisorLemmas.{gcd-with_one}
 use Rattle.def_cert_text.specs.declared.fault.CertFault.{CertFault}
 use Rattle.def_cert_text.specs.declared.fault.CertFault.TheVariants.{CertSyntax, CertNumber, CertShort}
-use Rattle.def_cert_text.specs.Fields.{◌>>=◌, space, feed, FieldKind, number, Item, field, separator, items_text, is_field_byte, next_field, behind_field, is_empty, field_fault, if_fit, read_field}
+use Rattle.def_cert_text.specs.Fields.{◌>>=◌, space, feed, FieldKind, number, TextItem, field, separator, items_text, is_field_byte, next_field, behind_field, is_empty, field_fault, if_fit, read_field}
 use Rattle.def_cert_text.specs.Numbers.{whole_in, integer_in, fraction_in, unless_zero, nonzero_in}
 use Rattle.def_cert_text.specs.Formats.{Format, text_of, one_field, whole_field, integer_field, is_lowest_within, fraction_field, nonzero_field, same_bytes, fixed_field, with_end_if_fit, read_number}
 use Rattle.def_cert_text.specs.FirstFault.{Place, of_field, of_separator, place_of_item, StopsReading, cut_short, unfit, HasFirstFault}
@@ -116,10 +116,10 @@ sep_err : (A : Type 0) (fault other : CertFault) (x : A) (b : ℕ) (more : List 
 sep_err A fault other x b more true e = absurd cc
 sep_err A fault other x b more false e = (refl, sym (err_same ((A × ℕ) × List ℕ) other fault e))
 
-first_same : (k : FieldKind) (u v : List ℕ) (us vs : List Item) → field k u ∷ us ≡ field k v ∷ vs → u ≡ v
+first_same : (k : FieldKind) (u v : List ℕ) (us vs : List TextItem) → field k u ∷ us ≡ field k v ∷ vs → u ≡ v
 first_same k u v us vs e = cc
 
-second_same : (k : FieldKind) (u v : List ℕ) (a c : ℕ) (us vs : List Item)
+second_same : (k : FieldKind) (u v : List ℕ) (a c : ℕ) (us vs : List TextItem)
     → field k u ∷ separator a ∷ us ≡ field k v ∷ separator c ∷ vs → (u ≡ v) × (a ≡ c)
 second_same k u v a c us vs e = (cc, cc)
 
@@ -217,12 +217,12 @@ after_field A kind fits spelled test ok is total x (b ∷ more) fault fx whole (
     no_sep true h = absurd (none ((x, b), [], and_from (fits x) (ok b) fx h, refl))
     no_sep false h = ap (pair_sep (CertSyntax (total - length (b ∷ more))) x b more) h ∙ ap Err (sym f)
 
-abbrev at_items : {A : Type 0} → Format A → List Item → Place → ℕ → List ℕ → CertFault → Type 0
+abbrev at_items : {A : Type 0} → Format A → List TextItem → Place → ℕ → List ℕ → CertFault → Type 0
 at_items f items place total left fault = StopsReading f items place total left fault
 
 any_found_at : (A : Type 0) (kind : FieldKind) (fits : A → Bool) (spelled : A → List ℕ) (test : List ℕ → Option A)
     (ok : ℕ → Bool) → IsField A fits spelled test → AreSeparators ok
-    → (total : ℕ) (fault : CertFault) (items : List Item) (item : Item) (more : List Item) (place : Place) (left : List ℕ) (x : A) (sep : ℕ)
+    → (total : ℕ) (fault : CertFault) (items : List TextItem) (item : TextItem) (more : List TextItem) (place : Place) (left : List ℕ) (x : A) (sep : ℕ)
     → fits x ≡ true
     → field kind (spelled x) ∷ separator sep ∷ [] ≡ (items ++ item ∷ []) ++ more → place_of_item item ≡ place
     → (place ≡ of_separator → next_field left ≡ [])
@@ -240,8 +240,8 @@ any_found_at A kind fits spelled test ok is seps total fault (i ∷ []) item mor
     let at : place ≡ of_separator = sym kinds ∙ ap place_of_item second in
     let there : StopsReading (any_field kind fits spelled test ok) (field kind (spelled x) ∷ []) of_separator total left fault =
     subst (λ (p : Place). StopsReading (any_field kind fits spelled test ok) (field kind (spelled x) ∷ []) p total left fault) at
-    (subst (λ (j : Item). StopsReading (any_field kind fits spelled test ok) (j ∷ []) place total left fault) first stop) in
-    ap (λ (j : Item). (any_field kind fits spelled test ok).read total (items_text (j ∷ []) ++ left)) first
+    (subst (λ (j : TextItem). StopsReading (any_field kind fits spelled test ok) (j ∷ []) place total left fault) first stop) in
+    ap (λ (j : TextItem). (any_field kind fits spelled test ok).read total (items_text (j ∷ []) ++ left)) first
     ∙ ap (λ (bs : List ℕ). (any_field kind fits spelled test ok).read total (bs ++ left)) (append-nil (spelled x))
     ∙ after_field A kind fits spelled test ok is total x left fault fx (whole at) there
 any_found_at A kind fits spelled test ok is seps total fault (i ∷ j ∷ items) item more place left x sep fx e kinds whole stop =

@@ -4,13 +4,13 @@ use Rattle.std.proofs.Common.{◌≡◌, ℕ, ◌<◌, ◌≤◌, Bool, true, no
 use Rattle.std.proofs.lemmas.List.{append-nil, append_cancel_left, length-append}
 use Rattle.std.proofs.lemmas.Bool.{and_parts, and_from, cases_lt}
 use Rattle.def_cert_text.specs.declared.fault.CertFault.{CertFault}
-use Rattle.def_cert_text.specs.Fields.{◌>>=◌, Item, field, separator, item_bytes, items_text, is_field_byte}
+use Rattle.def_cert_text.specs.Fields.{◌>>=◌, TextItem, field, separator, item_bytes, items_text, is_field_byte}
 use Rattle.def_cert_text.specs.Formats.{Format, text_of, and_then}
 use Rattle.def_cert_text.specs.FirstFault.{Place, item_there, CanGoOn, Needs, StopsReading, cut_short, unfit, HasFirstFault}
 use Rattle.def_cert_text.proofs.FieldLaws.{bind_ok, ok_is, all_pass}
 
 -- the text of items with others behind them is the text of the first and then that of the others
-pub items_text-append : (xs ys : List Item) → items_text (xs ++ ys) ≡ items_text xs ++ items_text ys
+pub items_text-append : (xs ys : List TextItem) → items_text (xs ++ ys) ≡ items_text xs ++ items_text ys
 unfolding items_text
 items_text-append [] ys = refl
 items_text-append (x ∷ xs) ys = ap (λ (bs : List ℕ). item_bytes x ++ bs) (items_text-append xs ys) ∙ sym (append_assoc (item_bytes x) (items_text xs) (items_text ys))
@@ -22,15 +22,15 @@ bind_err (Ok x) k fault e = inr (x, refl, e)
 bind_err (Err other) k fault e = inl (let same : other ≡ fault = cc in λ i. Err (same i))
 
 -- fields hold no byte that separates, and separators are bytes that do
-abbrev pub is_clean : Item → Bool
+abbrev pub is_clean : TextItem → Bool
 is_clean (field kind bytes) = all_pass is_field_byte bytes
 is_clean (separator byte) = not (is_field_byte byte)
 
-abbrev pub all_clean : List Item → Bool
+abbrev pub all_clean : List TextItem → Bool
 all_clean [] = true
 all_clean (item ∷ items) = is_clean item && all_clean items
 
-clean_append : (xs ys : List Item) → all_clean xs ≡ true → all_clean ys ≡ true → all_clean (xs ++ ys) ≡ true
+clean_append : (xs ys : List TextItem) → all_clean xs ≡ true → all_clean ys ≡ true → all_clean (xs ++ ys) ≡ true
 clean_append [] ys h k = k
 clean_append (x ∷ xs) ys h k = let q = and_parts (is_clean x) (all_clean xs) h in and_from (is_clean x) (all_clean (xs ++ ys)) q.0 (clean_append xs ys q.1 k)
 
@@ -57,17 +57,17 @@ pub record IsView (A B : Type 0) (f : Format A) (g : Format B) (to : A → B) : 
 abbrev put_to : {A B : Type 0} → (A → B) → (A × List ℕ) → Result (B × List ℕ) CertFault
 put_to to x = Ok (to x.0, x.1)
 
-to_view : (A B : Type 0) (f : Format A) (g : Format B) (to : A → B) → IsView A B f g to → (items : List Item)
+to_view : (A B : Type 0) (f : Format A) (g : Format B) (to : A → B) → IsView A B f g to → (items : List TextItem)
     → CanGoOn f items → CanGoOn g items
 to_view A B f g to is items p = (to p.0, p.1, is.fits p.0 p.2, is.items p.0 p.2 ∙ p.3)
 
-from_view : (A B : Type 0) (f : Format A) (g : Format B) (to : A → B) → IsView A B f g to → (items : List Item)
+from_view : (A B : Type 0) (f : Format A) (g : Format B) (to : A → B) → IsView A B f g to → (items : List TextItem)
     → CanGoOn g items → CanGoOn f items
 from_view A B f g to is items p =
     let b = is.back p.0 p.2 in
     (b.0, p.1, b.1, sym (is.items b.0 b.1) ∙ ap g.items b.2 ∙ p.3)
 
-stop_by : (A B : Type 0) (f : Format A) (g : Format B) (xs ys : List Item) (place : Place) (total : ℕ) (left : List ℕ)
+stop_by : (A B : Type 0) (f : Format A) (g : Format B) (xs ys : List TextItem) (place : Place) (total : ℕ) (left : List ℕ)
     (fault : CertFault)
     → (CanGoOn g (ys ++ item_there place left ∷ []) → CanGoOn f (xs ++ item_there place left ∷ []))
     → StopsReading f xs place total left fault → StopsReading g ys place total left fault
@@ -75,8 +75,8 @@ stop_by A B f g xs ys place total left fault back (cut_short short is) = cut_sho
 stop_by A B f g xs ys place total left fault back (unfit long none is) = unfit long (λ p. none (back p)) is
 
 -- a fault of a format is one of another, where the same items go on
-first_by : (A B : Type 0) (f : Format A) (g : Format B) → ((items : List Item) → CanGoOn f items → CanGoOn g items)
-    → ((items : List Item) → CanGoOn g items → CanGoOn f items)
+first_by : (A B : Type 0) (f : Format A) (g : Format B) → ((items : List TextItem) → CanGoOn f items → CanGoOn g items)
+    → ((items : List TextItem) → CanGoOn g items → CanGoOn f items)
     → (total : ℕ) (bytes : List ℕ) (fault : CertFault) → HasFirstFault f total bytes fault
     → HasFirstFault g total bytes fault
 first_by A B f g forth back total bytes fault h = record {
@@ -102,14 +102,14 @@ view_laws A B f g to is laws = record {
       let b = is.back y fits in
       subst (λ (z : B). g.read total (text_of g z ++ left) ≡ Ok (z, left)) b.2
       (is.read total (text_of g (to b.0) ++ left)
-      ∙ ap (λ (items : List Item). f.read total (items_text items ++ left) >>= put_to to) (is.items b.0 b.1)
+      ∙ ap (λ (items : List TextItem). f.read total (items_text items ++ left) >>= put_to to) (is.items b.0 b.1)
       ∙ ap (λ (r : Result (A × List ℕ) CertFault). r >>= put_to to) (laws.again total b.0 left b.1));
   only = λ total bytes y left e.
       let a = bind_ok (f.read total bytes) (put_to to) (y, left) (sym (is.read total bytes) ∙ e) in
       let x = a.0 in
       let one = laws.only total bytes x.0 x.1 a.1 in
       subst (λ (q : B × List ℕ). (g.fits q.0 ≡ true) × (bytes ≡ text_of g q.0 ++ q.1)) (ok_is (to x.0, x.1) (y, left) a.2)
-      (is.fits x.0 one.0, one.1 ∙ ap (λ (items : List Item). items_text items ++ x.1) (sym (is.items x.0 one.0)));
+      (is.fits x.0 one.0, one.1 ∙ ap (λ (items : List TextItem). items_text items ++ x.1) (sym (is.items x.0 one.0)));
   some = to laws.some;
   some_fits = is.fits laws.some laws.some_fits;
   clean = λ y fits.
@@ -130,7 +130,7 @@ pub record IsNothing (A : Type 0) (f : Format A) (x : A) : Type 0 where
   pub items : f.items x ≡ []
   pub read : (total : ℕ) (bytes : List ℕ) → f.read total bytes ≡ Ok (x, bytes)
 
-no_items : (front : List Item) (item : Item) (more : List Item) → [] ≡ (front ++ item ∷ []) ++ more → ⊥
+no_items : (front : List TextItem) (item : TextItem) (more : List TextItem) → [] ≡ (front ++ item ∷ []) ++ more → ⊥
 no_items [] item more e = cc
 no_items (x ∷ front) item more e = cc
 
@@ -140,10 +140,10 @@ unfolding items_text
 nothing_laws A f x is = record {
   again = λ total y left fits.
       subst (λ (z : A). f.read total (text_of f z ++ left) ≡ Ok (z, left)) (sym (is.alone y fits))
-      (is.read total (text_of f x ++ left) ∙ ap (λ (items : List Item). Ok (x, items_text items ++ left)) is.items);
+      (is.read total (text_of f x ++ left) ∙ ap (λ (items : List TextItem). Ok (x, items_text items ++ left)) is.items);
   only = λ total bytes y left e.
       subst (λ (q : A × List ℕ). (f.fits q.0 ≡ true) × (bytes ≡ text_of f q.0 ++ q.1)) (ok_is (x, bytes) (y, left) (sym (is.read total bytes) ∙ e))
-      (is.fits, ap (λ (items : List Item). items_text items ++ bytes) (sym is.items));
+      (is.fits, ap (λ (items : List TextItem). items_text items ++ bytes) (sym is.items));
   some = x;
   some_fits = is.fits;
   clean = λ y fits. ap (λ z. all_clean (f.items z)) (is.alone y fits) ∙ ap all_clean is.items;
@@ -186,7 +186,7 @@ pair_only A B f g first second total bytes p left e =
     )
 
 -- no value's items go on to another's
-one_way : (A : Type 0) (f : Format A) → IsFormat A f → (x y : A) (u v : List Item) → f.fits x ≡ true → f.fits y ≡ true
+one_way : (A : Type 0) (f : Format A) → IsFormat A f → (x y : A) (u v : List TextItem) → f.fits x ≡ true → f.fits y ≡ true
     → f.items x ++ u ≡ f.items y ++ v → x ≡ y
 one_way A f laws x y u v fx fy e =
     let bytes : text_of f x ++ items_text u ≡ text_of f y ++ items_text v = sym (items_text-append (f.items x) u) ∙ ap items_text e ∙ items_text-append (f.items y) v in
@@ -194,8 +194,8 @@ one_way A f laws x y u v fx fy e =
     ap (λ p. p.0) same
 
 -- lists that begin alike
-begins : (xs ys us vs : List Item) → xs ++ us ≡ ys ++ vs → length ys ≤ length xs
-    → (more : List Item) × (xs ≡ ys ++ more)
+begins : (xs ys us vs : List TextItem) → xs ++ us ≡ ys ++ vs → length ys ≤ length xs
+    → (more : List TextItem) × (xs ≡ ys ++ more)
 begins xs [] us vs e le = (xs, refl)
 begins [] (y ∷ ys) us vs e le = absurd (omega arith)
 begins (x ∷ xs) (y ∷ ys) us vs e le =
@@ -206,18 +206,18 @@ begins (x ∷ xs) (y ∷ ys) us vs e le =
 
 -- what goes on to a value of the first goes on to one of both
 on_first : (A B : Type 0) (f : Format A) (g : A → Format B) → ((x : A) → f.fits x ≡ true → IsFormat B (g x))
-    → (items : List Item) → CanGoOn f items → CanGoOn (and_then f g) items
+    → (items : List TextItem) → CanGoOn f items → CanGoOn (and_then f g) items
 on_first A B f g second items p =
     let h = second p.0 p.2 in (
       (p.0, h.some),
       p.1 ++ (g p.0).items h.some,
       and_from (f.fits p.0) ((g p.0).fits h.some) p.2 h.some_fits,
-      ap (λ (ts : List Item). ts ++ (g p.0).items h.some) p.3 ∙ append_assoc items p.1 ((g p.0).items h.some),
+      ap (λ (ts : List TextItem). ts ++ (g p.0).items h.some) p.3 ∙ append_assoc items p.1 ((g p.0).items h.some),
     )
 
 -- and the other way round, where the first isn't over
 off_first : (A B : Type 0) (f : Format A) (g : A → Format B) → IsFormat A f
-    → (items : List Item) (place : Place) (item : Item)
+    → (items : List TextItem) (place : Place) (item : TextItem)
     → Needs f items place → CanGoOn (and_then f g) (items ++ item ∷ []) → CanGoOn f (items ++ item ∷ [])
 off_first A B f g first items place item needs p =
     let x = p.0.0 in
@@ -232,32 +232,32 @@ off_first A B f g first items place item needs p =
     let e : f.items x ++ (g x).items y ≡ items ++ (item ∷ p.1) = p.3 ∙ append_assoc items (item ∷ []) p.1 in
     let r = begins items (f.items x) (item ∷ p.1) ((g x).items y) (sym e) le in
     let w : f.items z ≡ f.items x ++ (r.0 ++ (t ∷ needs.2.1)) =
-    needs.2.3 ∙ append_assoc items (t ∷ []) needs.2.1 ∙ ap (λ (ts : List Item). ts ++ t ∷ needs.2.1) r.1 ∙ append_assoc (f.items x) r.0 (t ∷ needs.2.1) in
+    needs.2.3 ∙ append_assoc items (t ∷ []) needs.2.1 ∙ ap (λ (ts : List TextItem). ts ++ t ∷ needs.2.1) r.1 ∙ append_assoc (f.items x) r.0 (t ∷ needs.2.1) in
     let same : z ≡ x = one_way A f first z x [] (r.0 ++ (t ∷ needs.2.1)) needs.2.2 fits.0 (append-nil (f.items z) ∙ w) in
     let lengths = ap length w in
     absurd (omega (arith, ap (λ (a : A). length (f.items a)) same, lengths, length-append (f.items x) (r.0 ++ (t ∷ needs.2.1)), length-append r.0 (t ∷ needs.2.1))))
     long
 
 -- what goes on behind a value of the first
-on_second : (A B : Type 0) (f : Format A) (g : A → Format B) (x : A) → f.fits x ≡ true → (items : List Item)
+on_second : (A B : Type 0) (f : Format A) (g : A → Format B) (x : A) → f.fits x ≡ true → (items : List TextItem)
     → CanGoOn (g x) items → CanGoOn (and_then f g) (f.items x ++ items)
 on_second A B f g x fits items p =
-    ((x, p.0), p.1, and_from (f.fits x) ((g x).fits p.0) fits p.2, ap (λ (ts : List Item). f.items x ++ ts) p.3 ∙ sym (append_assoc (f.items x) items p.1))
+    ((x, p.0), p.1, and_from (f.fits x) ((g x).fits p.0) fits p.2, ap (λ (ts : List TextItem). f.items x ++ ts) p.3 ∙ sym (append_assoc (f.items x) items p.1))
 
-at_same : (A B : Type 0) (f : Format A) (g : A → Format B) (x x' : A) → x ≡ x' → (y : B) (whole : List Item)
+at_same : (A B : Type 0) (f : Format A) (g : A → Format B) (x x' : A) → x ≡ x' → (y : B) (whole : List TextItem)
     → (g x').fits y ≡ true → f.items x' ++ (g x').items y ≡ f.items x ++ whole
     → ((g x).fits y ≡ true) × ((g x).items y ≡ whole)
 at_same A B f g x x' same =
-    subst (λ (z : A). (y : B) (whole : List Item) → (g z).fits y ≡ true → f.items z ++ (g z).items y ≡ f.items x ++ whole → ((g x).fits y ≡ true) × ((g x).items y ≡ whole)) same
+    subst (λ (z : A). (y : B) (whole : List TextItem) → (g z).fits y ≡ true → f.items z ++ (g z).items y ≡ f.items x ++ whole → ((g x).fits y ≡ true) × ((g x).items y ≡ whole)) same
     (λ y whole fits e. (fits, append_cancel_left (f.items x) ((g x).items y) whole e))
 
 off_second : (A B : Type 0) (f : Format A) (g : A → Format B) → IsFormat A f → (x : A) → f.fits x ≡ true
-    → (items : List Item) → CanGoOn (and_then f g) (f.items x ++ items) → CanGoOn (g x) items
+    → (items : List TextItem) → CanGoOn (and_then f g) (f.items x ++ items) → CanGoOn (g x) items
 off_second A B f g first x fits items p =
     let x' = p.0.0 in
     let y = p.0.1 in
     let q = and_parts (f.fits x') ((g x').fits y) p.2 in
-    let whole : List Item = items ++ p.1 in
+    let whole : List TextItem = items ++ p.1 in
     let e : f.items x' ++ (g x').items y ≡ f.items x ++ whole = p.3 ∙ append_assoc (f.items x) items p.1 in
     let same : x ≡ x' = sym (one_way A f first x' x ((g x').items y) whole q.0 fits e) in
     let r = at_same A B f g x x' same y whole q.1 e in
@@ -283,7 +283,7 @@ lift_second : (A B : Type 0) (f : Format A) (g : A → Format B) → IsFormat A 
     → HasFirstFault (g x) total mid fault → HasFirstFault (and_then f g) total bytes fault
 lift_second A B f g first x fits total bytes mid fault is h =
     let t = h.needed in
-    let behind : (item : Item) → f.items x ++ (h.items ++ item ∷ []) ≡ (f.items x ++ h.items) ++ item ∷ [] = λ item. sym (append_assoc (f.items x) h.items (item ∷ [])) in
+    let behind : (item : TextItem) → f.items x ++ (h.items ++ item ∷ []) ≡ (f.items x ++ h.items) ++ item ∷ [] = λ item. sym (append_assoc (f.items x) h.items (item ∷ [])) in
     record {
       items = f.items x ++ h.items;
       place = h.place;
@@ -291,9 +291,9 @@ lift_second A B f g first x fits total bytes mid fault is h =
       parts = is ∙ ap (λ (m : List ℕ). text_of f x ++ m) h.parts ∙ sym (append_assoc (text_of f x) (items_text h.items) h.left)
           ∙ ap (λ (b : List ℕ). b ++ h.left) (sym (items_text-append (f.items x) h.items));
       whole_before = h.whole_before;
-      needed = (t.0, t.1, subst (λ (ts : List Item). CanGoOn (and_then f g) ts) (behind t.0) (on_second A B f g x fits (h.items ++ t.0 ∷ []) t.2));
+      needed = (t.0, t.1, subst (λ (ts : List TextItem). CanGoOn (and_then f g) ts) (behind t.0) (on_second A B f g x fits (h.items ++ t.0 ∷ []) t.2));
       stop = stop_by B (A × B) (g x) (and_then f g) h.items (f.items x ++ h.items) h.place total h.left fault
-          (λ p. off_second A B f g first x fits (h.items ++ item_there h.place h.left ∷ []) (subst (λ (ts : List Item). CanGoOn (and_then f g) ts) (sym (behind (item_there h.place h.left))) p)) h.stop;
+          (λ p. off_second A B f g first x fits (h.items ++ item_there h.place h.left ∷ []) (subst (λ (ts : List TextItem). CanGoOn (and_then f g) ts) (sym (behind (item_there h.place h.left))) p)) h.stop;
     }
 
 pair_faults : (A B : Type 0) (f : Format A) (g : A → Format B) → IsFormat A f
@@ -329,13 +329,13 @@ found_first A B f g first second total bytes fault h needs =
     } in
     ap (λ (r : Result (A × List ℕ) CertFault). r >>= second_of g total) (first.found total bytes fault low)
 
-stop_at : (A : Type 0) (f : Format A) (xs ys : List Item) (place : Place) (total : ℕ) (left : List ℕ)
+stop_at : (A : Type 0) (f : Format A) (xs ys : List TextItem) (place : Place) (total : ℕ) (left : List ℕ)
     (fault : CertFault) → xs ≡ ys → StopsReading f xs place total left fault → StopsReading f ys place total left fault
-stop_at A f xs ys place total left fault same = subst (λ (ts : List Item). StopsReading f ts place total left fault) same
+stop_at A f xs ys place total left fault same = subst (λ (ts : List TextItem). StopsReading f ts place total left fault) same
 
 found_second : (A B : Type 0) (f : Format A) (g : A → Format B) → IsFormat A f
     → ((x : A) → f.fits x ≡ true → IsFormat B (g x)) → (x : A) (y : B) → f.fits x ≡ true → (g x).fits y ≡ true
-    → (total : ℕ) (bytes : List ℕ) (fault : CertFault) (h : HasFirstFault (and_then f g) total bytes fault) (items more : List Item)
+    → (total : ℕ) (bytes : List ℕ) (fault : CertFault) (h : HasFirstFault (and_then f g) total bytes fault) (items more : List TextItem)
     → h.items ≡ f.items x ++ items
     → (g x).items y ≡ (items ++ h.needed.0 ∷ []) ++ more → (and_then f g).read total bytes ≡ Err fault
 found_second A B f g first second x y fx fy total bytes fault h items more is e =
@@ -348,12 +348,12 @@ found_second A B f g first second x y fx fy total bytes fault h items more is e 
       whole_before = h.whole_before;
       needed = (h.needed.0, h.needed.1, (y, more, fy, e));
       stop = stop_by (A × B) B (and_then f g) (g x) (f.items x ++ items) items h.place total h.left fault
-          (λ p. subst (λ (ts : List Item). CanGoOn (and_then f g) ts) (sym (append_assoc (f.items x) items (item_there h.place h.left ∷ [])))
+          (λ p. subst (λ (ts : List TextItem). CanGoOn (and_then f g) ts) (sym (append_assoc (f.items x) items (item_there h.place h.left ∷ [])))
           (on_second A B f g x fx (items ++ item_there h.place h.left ∷ []) p))
           (stop_at (A × B) (and_then f g) h.items (f.items x ++ items) h.place total h.left fault is h.stop);
     } in
     let whole : bytes ≡ text_of f x ++ mid =
-    h.parts ∙ ap (λ (ts : List Item). items_text ts ++ h.left) is ∙ ap (λ (b : List ℕ). b ++ h.left) (items_text-append (f.items x) items) ∙ append_assoc (text_of f x) (items_text items) h.left in
+    h.parts ∙ ap (λ (ts : List TextItem). items_text ts ++ h.left) is ∙ ap (λ (b : List ℕ). b ++ h.left) (items_text-append (f.items x) items) ∙ append_assoc (text_of f x) (items_text items) h.left in
     ap (λ (b : List ℕ). f.read total b >>= second_of g total) whole
     ∙ ap (λ (r : Result (A × List ℕ) CertFault). r >>= second_of g total) (first.again total x mid fx)
     ∙ ap (λ (r : Result (B × List ℕ) CertFault). r >>= λ z. Ok ((x, z.0), z.1)) ((second x fx).found total mid fault low)
@@ -376,7 +376,7 @@ pair_found A B f g first second total bytes fault h =
     (λ le.
     let r = begins h.items (f.items x) (item ∷ p.1) ((g x).items y) (sym (p.3 ∙ append_assoc h.items (item ∷ []) p.1)) le in
     let e : f.items x ++ (g x).items y ≡ f.items x ++ ((r.0 ++ item ∷ []) ++ p.1) =
-    p.3 ∙ ap (λ (ts : List Item). (ts ++ item ∷ []) ++ p.1) r.1 ∙ ap (λ (ts : List Item). ts ++ p.1) (append_assoc (f.items x) r.0 (item ∷ [])) ∙ append_assoc (f.items x) (r.0 ++ item ∷ []) p.1 in
+    p.3 ∙ ap (λ (ts : List TextItem). (ts ++ item ∷ []) ++ p.1) r.1 ∙ ap (λ (ts : List TextItem). ts ++ p.1) (append_assoc (f.items x) r.0 (item ∷ [])) ∙ append_assoc (f.items x) (r.0 ++ item ∷ []) p.1 in
     found_second A B f g first second x y fits.0 fits.1 total bytes fault h r.0 p.1 r.1 (append_cancel_left (f.items x) ((g x).items y) ((r.0 ++ item ∷ []) ++ p.1) e))
     long
 

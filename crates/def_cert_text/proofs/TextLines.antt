@@ -2,7 +2,7 @@
 use Rattle.std.proofs.Common.{◌≡◌, ℕ, List, [], ◌∷◌, ◌++◌, refl, ap, ◌∙◌, append_assoc}
 use Rattle.std.specs.Prelude.{codes}
 use Rattle.def_reply.specs.Outcome.{Head}
-use Rattle.def_cert_text.specs.Fields.{feed, fixed_word, Item, field, separator, items_text}
+use Rattle.def_cert_text.specs.Fields.{feed, fixed_word, TextItem, field, separator, items_text}
 use Rattle.def_cert_text.specs.declared.version.TextVersion.{TextVersion}
 use Rattle.def_cert_text.specs.declared.version.TextVersion.TheVariants as versions
 use Rattle.def_cert_text.specs.CertText.{numbers_of_game, game_lines_of, asked_line, trace_lines, plan_lines, reply_lines, bracket_line, bounds_lines, second_line, head_text_of, first_text_of, asked_text, bounds_text, second_text, last_text, versioned_text}
@@ -10,20 +10,20 @@ use Rattle.def_cert_text.specs.Laws.{versioned_head, VersionedTextIsItsLines}
 use Rattle.def_cert_text.proofs.FormatLaws.{items_text-append}
 
 -- the items of the last line
-abbrev pub end_items : List Item
+abbrev pub end_items : List TextItem
 end_items = field fixed_word (codes "end") ∷ separator feed ∷ []
 
 -- both lists of the text's parts are laid out by computing, but for the parts of which there are many
-many_then : (xs ys : List Item) (zs : List ℕ) → items_text ys ≡ zs → items_text (xs ++ ys) ≡ items_text xs ++ zs
+many_then : (xs ys : List TextItem) (zs : List ℕ) → items_text ys ≡ zs → items_text (xs ++ ys) ≡ items_text xs ++ zs
 many_then xs ys zs e = items_text-append xs ys ∙ ap (λ (bs : List ℕ). items_text xs ++ bs) e
 
-abbrev game_items : TextVersion → Head → List Item
+abbrev game_items : TextVersion → Head → List TextItem
 game_items v head = (game_lines_of v).items (numbers_of_game head)
 
-abbrev asked_items : Head → List Item
+abbrev asked_items : Head → List TextItem
 asked_items head = asked_line.items (head.rounds, (head.every, head.scale))
 
-behind_head : (v : TextVersion) (head : Head) (first : List ℕ) (ys : List Item) (zs : List ℕ) → items_text ys ≡ zs
+behind_head : (v : TextVersion) (head : Head) (first : List ℕ) (ys : List TextItem) (zs : List ℕ) → items_text ys ≡ zs
     → first ++ items_text ((game_items v head ++ asked_items head) ++ ys) ≡ first ++ (head_text_of v head ++ (asked_text head ++ zs))
 behind_head v head first ys zs e =
     ap (λ (bs : List ℕ). first ++ bs)

@@ -12,7 +12,7 @@ use Rattle.def_cert_verdict.specs.Certificate.{PrintedPlan, PrintedBounds}
 use Rattle.def_cert_verdict.specs.Ranges.{most_printed}
 use Rattle.def_cert_text.specs.declared.fault.CertFault.{CertFault}
 use Rattle.def_cert_text.specs.declared.fault.CertFault.TheVariants.{CertTrailing}
-use Rattle.def_cert_text.specs.Fields.{◌>>=◌, space, feed, fixed_word, number, version, Item, field, separator}
+use Rattle.def_cert_text.specs.Fields.{◌>>=◌, space, feed, fixed_word, number, version, TextItem, field, separator}
 use Rattle.def_cert_text.specs.Versions.{PrintedBracket, VersionedCertificate, has_second}
 use Rattle.def_cert_text.specs.declared.version.TextVersion.{TextVersion}
 use Rattle.def_cert_text.specs.declared.version.TextVersion.TheVariants as versions
@@ -38,7 +38,7 @@ abbrev pub sum_field : Format Fraction
 sum_field = after_word (codes "sum") (nonzero_field most feed)
 
 -- what stands behind the unit
-abbrev pub sum_items : Fraction → List Item
+abbrev pub sum_items : Fraction → List TextItem
 sum_items sum = if is_zero sum then separator feed ∷ [] else separator space ∷ sum_field.items sum
 
 -- the unit, and what each leaf pays both players together where that isn't 0

@@ -22,15 +22,15 @@ pub data FieldKind : Type 0 where
   number : FieldKind
   version : FieldKind
 
-pub data Item : Type 0 where
-  field : FieldKind → List ℕ → Item
-  separator : ℕ → Item
+pub data TextItem : Type 0 where
+  field : FieldKind → List ℕ → TextItem
+  separator : ℕ → TextItem
 
-abbrev pub item_bytes : Item → List ℕ
+abbrev pub item_bytes : TextItem → List ℕ
 item_bytes (field kind bytes) = bytes
 item_bytes (separator byte) = byte ∷ []
 
-unfoldable pub items_text : List Item → List ℕ
+unfoldable pub items_text : List TextItem → List ℕ
 items_text [] = []
 items_text (item ∷ items) = item_bytes item ++ items_text items
 

@@ -6,7 +6,7 @@
 use Rattle.std.specs.Prelude.{◌≡◌, ◌≢◌, ℕ, ◌-◌, Bool, true, false, List, [], ◌∷◌, ◌++◌, length}
 use Rattle.def_cert_text.specs.declared.fault.CertFault.{CertFault}
 use Rattle.def_cert_text.specs.declared.fault.CertFault.TheVariants.{CertSyntax, CertShort, CertTrailing}
-use Rattle.def_cert_text.specs.Fields.{FieldKind, Item, field, separator, items_text, next_field, behind_field, is_empty, field_fault}
+use Rattle.def_cert_text.specs.Fields.{FieldKind, TextItem, field, separator, items_text, next_field, behind_field, is_empty, field_fault}
 use Rattle.def_cert_text.specs.Versions.{VersionedFits}
 use Rattle.def_cert_text.specs.Formats.{Format, text_of}
 use Rattle.def_cert_text.specs.CertText.{versioned_certificate}
@@ -16,7 +16,7 @@ pub data Place : Type 0 where
   of_field : FieldKind → Place
   of_separator : Place
 
-abbrev pub place_of_item : Item → Place
+abbrev pub place_of_item : TextItem → Place
 place_of_item (field kind bytes) = of_field kind
 place_of_item (separator byte) = of_separator
 
@@ -25,7 +25,7 @@ first_byte [] = 0
 first_byte (byte ∷ bytes) = byte
 
 -- the item of a place that stands at the front of bytes
-abbrev pub item_there : Place → List ℕ → Item
+abbrev pub item_there : Place → List ℕ → TextItem
 item_there (of_field kind) bytes = field kind (next_field bytes)
 item_there of_separator bytes = separator (first_byte bytes)
 
@@ -39,14 +39,14 @@ fault_there (of_field kind) at = field_fault kind at
 fault_there of_separator at = CertSyntax at
 
 -- some value that fits is made of these items and perhaps more
-abbrev pub CanGoOn : {A : Type 0} → Format A → List Item → Type 0
-CanGoOn {A = A} f items = (x : A) × (more : List Item) × (f.fits x ≡ true) × (f.items x ≡ items ++ more)
+abbrev pub CanGoOn : {A : Type 0} → Format A → List TextItem → Type 0
+CanGoOn {A = A} f items = (x : A) × (more : List TextItem) × (f.fits x ≡ true) × (f.items x ≡ items ++ more)
 
 -- and next to them of an item of this place
-abbrev pub Needs : {A : Type 0} → Format A → List Item → Place → Type 0
-Needs f items place = (item : Item) × (place_of_item item ≡ place) × CanGoOn f (items ++ item ∷ [])
+abbrev pub Needs : {A : Type 0} → Format A → List TextItem → Place → Type 0
+Needs f items place = (item : TextItem) × (place_of_item item ≡ place) × CanGoOn f (items ++ item ∷ [])
 
-pub data StopsReading {A : Type 0} (f : Format A) (items : List Item) (place : Place) (total : ℕ) (left : List ℕ)
+pub data StopsReading {A : Type 0} (f : Format A) (items : List TextItem) (place : Place) (total : ℕ) (left : List ℕ)
     (fault : CertFault) : Type 0 where
   cut_short : is_cut_short place left ≡ true → fault ≡ CertShort → StopsReading f items place total left fault
   unfit : is_cut_short place left ≡ false → (CanGoOn f (items ++ item_there place left ∷ []) → ⊥)
@@ -55,7 +55,7 @@ pub data StopsReading {A : Type 0} (f : Format A) (items : List Item) (place : P
 
 -- The bytes end a text of so many bytes in all. The field before a separator's place is a whole one.
 pub record HasFirstFault {A : Type 0} (f : Format A) (total : ℕ) (bytes : List ℕ) (fault : CertFault) : Type 0 where
-  pub items : List Item
+  pub items : List TextItem
   pub place : Place
   pub left : List ℕ
   pub parts : bytes ≡ items_text items ++ left

@@ -8,13 +8,13 @@ use Rattle.def_fraction.specs.Fraction.{Fraction, is_zero}
 use Rattle.def_fraction.specs.Text.{fraction_text}
 use Rattle.def_cert_text.specs.declared.fault.CertFault.{CertFault}
 use Rattle.def_cert_text.specs.declared.fault.CertFault.TheVariants.{CertNumber, CertShort}
-use Rattle.def_cert_text.specs.Fields.{◌>>=◌, space, feed, FieldKind, number, Item, field, separator, items_text, next_field, behind_field, is_empty, read_field}
+use Rattle.def_cert_text.specs.Fields.{◌>>=◌, space, feed, FieldKind, number, TextItem, field, separator, items_text, next_field, behind_field, is_empty, read_field}
 use Rattle.def_cert_text.specs.Numbers.{whole_in, integer_in, fraction_in, nonzero_in}
 
 -- reading gives a value and the bytes that are left, from the length of the whole and the bytes from a place on
 pub record Format (A : Type 0) : Type 0 where
   pub fits : A → Bool
-  pub items : A → List Item
+  pub items : A → List TextItem
   pub read : ℕ → List ℕ → Result (A × List ℕ) CertFault
 
 abbrev pub text_of : {A : Type 0} → Format A → A → List ℕ
@@ -82,7 +82,7 @@ each_fits f k zero (x ∷ xs) = false
 each_fits f k (suc count) [] = false
 each_fits f k (suc count) (x ∷ xs) = (f k).fits x && each_fits f (k + 1) count xs
 
-unfoldable pub each_items : {A : Type 0} → (ℕ → Format A) → ℕ → List A → List Item
+unfoldable pub each_items : {A : Type 0} → (ℕ → Format A) → ℕ → List A → List TextItem
 each_items f k [] = []
 each_items f k (x ∷ xs) = (f k).items x ++ each_items f (k + 1) xs
 
@@ -104,7 +104,7 @@ asked_fits true f None = false
 asked_fits false f (Some x) = false
 asked_fits false f None = true
 
-abbrev pub asked_items : {A : Type 0} → Format A → Option A → List Item
+abbrev pub asked_items : {A : Type 0} → Format A → Option A → List TextItem
 asked_items f None = []
 asked_items f (Some x) = f.items x
 
@@ -126,7 +126,7 @@ row_fits most more (n ∷ []) = nat_le n most
 row_fits most zero (n ∷ m ∷ ns) = false
 row_fits most (suc more) (n ∷ m ∷ ns) = nat_le n most && row_fits most more (m ∷ ns)
 
-abbrev pub row_items : List ℕ → List Item
+abbrev pub row_items : List ℕ → List TextItem
 row_items [] = []
 row_items (n ∷ []) = field number (decimal n) ∷ separator feed ∷ []
 row_items (n ∷ m ∷ ns) = field number (decimal n) ∷ separator space ∷ row_items (m ∷ ns)

@@ -137,11 +137,11 @@ one_leaf_bounds = record {
   high = zero_fraction;
 }
 
-abbrev pub one_leaf : VersionedCertificate
-one_leaf = with_second one_leaf_head one_leaf_bounds (bracket_of (over (negative_of 1) 3) (over (negative_of 1) 3))
+abbrev pub one_leaf_of_plus : VersionedCertificate
+one_leaf_of_plus = with_second one_leaf_head one_leaf_bounds (bracket_of (over (negative_of 1) 3) (over (negative_of 1) 3))
 
-abbrev pub one_leaf_lines : List (List ℕ)
-one_leaf_lines =
+abbrev pub one_leaf_lines_of_plus : List (List ℕ)
+one_leaf_lines_of_plus =
     codes "XGPLUS 1"
     ∷ codes "nodes 1 leaves 1"
     ∷ codes "sets 0 0"

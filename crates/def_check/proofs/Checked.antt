@@ -47,7 +47,7 @@ as_accepted (Ok game) certificate = by_fault (game_file_fault game) refl
     by_fault (Some fault) is = rw is refl
 
 -- a file that isn't too long is read by its bytes
-read_within : (bytes : List ℕ) → length bytes ≤ most_bytes → read_as_game bytes ≡ game_at bytes
+pub read_within : (bytes : List ℕ) → length bytes ≤ most_bytes → read_as_game bytes ≡ game_at bytes
 unfolding read_as_game
 read_within bytes short = rw (le-ltb most_bytes (length bytes) short) refl
 

@@ -5,11 +5,11 @@ use Rattle.def_file_form.proofs.FirstFaultIsReported.{first_faulted}
 use Rattle.def_game_scale.proofs.First.{game_first}
 use Rattle.def_game_scale.proofs.Sound.{sound}
 use Rattle.def_game_numbers.proofs.Fractions.{tables_lowest}
-use Rattle.def_check.specs.FileLaws.{AcceptedGamesAreSound, AcceptedWithoutFault, ReadingIsExact, RefusedWithTheFirst}
+use Rattle.def_check.specs.FileLaws.{AcceptedGamesAreSound, AcceptedWithoutFault, FileReadingIsExact, RefusedWithTheFirst}
 use Rattle.def_check.proofs.Refused.{GameLaws, accepted_sound, accepted_whole, reading_exact, refused_with_first}
 
 -- the laws of the crates below
-reading_is_exact : ReadingIsExact
+reading_is_exact : FileReadingIsExact
 reading_is_exact = reading_exact fault_first first_faulted
 
 game_laws : GameLaws
@@ -28,5 +28,5 @@ pub accepted_games_sound : AcceptedGamesAreSound
 accepted_games_sound = accepted_sound reading_is_exact game_laws
 
 -- reading is exact
-pub reading_is : ReadingIsExact
+pub reading_is : FileReadingIsExact
 reading_is = reading_is_exact

@@ -9,13 +9,13 @@ use Rattle.def_game_scale.specs.Scale.{all_fractions, game_unit}
 use Rattle.def_game_scale.proofs.Expected.{fractions-lowest}
 use Rattle.def_game_scale.proofs.First.{game_first}
 use Rattle.def_game_scale.proofs.Units.{unit-positive}
+use Rattle.def_game_numbers.specs.Faultless.{IsFaultless}
 use Rattle.def_game_numbers.specs.Numbers.{as_file_fault, tables_of}
 use Rattle.def_game_numbers.proofs.Fractions.{tables_lowest}
 use Rattle.def_plan.specs.Form.{AreInOrder}
 use Rattle.def_sequence_form.specs.Form.{information_sets}
 use Rattle.def_sequence_form.proofs.Sets.{form_is_in_order}
 use Rattle.def_file_form.specs.Laws.{StandsFor}
-use Rattle.def_cert_versions.specs.PlayerTwo.{IsFaultless}
 use Rattle.def_check.specs.Accepted.{IsAccepted}
 
 module _ (bytes : List ℕ) (game : GameFile) (stands : StandsFor bytes game) where

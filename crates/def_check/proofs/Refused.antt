@@ -16,7 +16,7 @@ use Rattle.def_game_numbers.specs.Numbers.{as_file_fault, game_file_fault, table
 use Rattle.def_check.specs.Accepting.{accepted, read_as_accepted, read_as_game, unless_faulty}
 use Rattle.def_check.specs.FirstFault.{IsFirstFault, IsFirstOfText, in_game, in_length, in_text, within}
 use Rattle.def_check.specs.Accepted.{IsAccepted, IsReadable}
-use Rattle.def_check.specs.FileLaws.{AcceptedGamesAreSound, AcceptedWithoutFault, ReadingIsExact, RefusedWithTheFirst}
+use Rattle.def_check.specs.FileLaws.{AcceptedGamesAreSound, AcceptedWithoutFault, FileReadingIsExact, RefusedWithTheFirst}
 
 -- what is read of a text of this length, where the length counts first
 abbrev limited : ℕ → ℕ → Result GameFile FileFault → Result GameFile FileFault
@@ -72,7 +72,7 @@ read_whole bytes game = (read, taken)
     taken is = below most_bytes (length bytes) (game_at bytes) is.length_within ∙ game_taken bytes game is.stands
 
 -- reading is exact, where the fault of a text is exactly its first one
-pub reading_exact : FileFaultIsFirst → FirstIsFileFault → ReadingIsExact
+pub reading_exact : FileFaultIsFirst → FirstIsFileFault → FileReadingIsExact
 reading_exact first is_fault = record { refused = refused_first first is_fault; read = read_whole }
 
 -- the laws below this crate that say what a game's fault is
@@ -82,7 +82,7 @@ pub record GameLaws : Type 0 where
   pub first : GameFaultIsFirst
   pub sound : NoFaultIsSound
 
-module _ (reading : ReadingIsExact) (laws : GameLaws) (bytes : List ℕ) where
+module _ (reading : FileReadingIsExact) (laws : GameLaws) (bytes : List ℕ) where
   -- a readable file's tables have their fractions in lowest terms
   in_lowest_terms : (game : GameFile) → IsReadable bytes game → AreFractions (tables_of game)
   in_lowest_terms game is = laws.fractions game (laws.whole bytes game is.stands).1
@@ -143,17 +143,17 @@ module _ (reading : ReadingIsExact) (laws : GameLaws) (bytes : List ℕ) where
       ap accepted ((reading.read bytes game).1 is.readable) ∙ ap (λ o. unless_faulty (as_file_fault o) game) none
 
 -- a file is refused exactly with its first fault
-pub refused_with_first : ReadingIsExact → GameLaws → RefusedWithTheFirst
+pub refused_with_first : FileReadingIsExact → GameLaws → RefusedWithTheFirst
 refused_with_first reading laws bytes fault =
     (refused_is_first reading laws bytes fault (read_as_game bytes) refl, first_is_refused reading laws bytes fault)
 
 -- a file is accepted exactly where it can be read and its game has no fault
-pub accepted_whole : ReadingIsExact → GameLaws → AcceptedWithoutFault
+pub accepted_whole : FileReadingIsExact → GameLaws → AcceptedWithoutFault
 accepted_whole reading laws bytes game =
     (accepted_is_whole reading laws bytes game (read_as_game bytes) refl, whole_is_accepted reading laws bytes game)
 
 -- an accepted file's game is sound
-pub accepted_sound : ReadingIsExact → GameLaws → AcceptedGamesAreSound
+pub accepted_sound : FileReadingIsExact → GameLaws → AcceptedGamesAreSound
 accepted_sound reading laws bytes game is =
     let fractions = in_lowest_terms reading laws bytes game is.readable in
     laws.sound (tables_of game) game.tree fractions

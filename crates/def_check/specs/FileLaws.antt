@@ -9,7 +9,7 @@ use Rattle.def_check.specs.Accepted.{IsAccepted, IsReadable}
 use Rattle.def_check.specs.FirstFault.{IsFirstFault, IsFirstOfText}
 
 -- a file can't be read exactly where its length or its text has a fault, and that is the first
-pub record ReadingIsExact : Type 0 where
+pub record FileReadingIsExact : Type 0 where
   pub refused : (bytes : List ℕ) (fault : FileFault) → (read_as_game bytes ≡ Err fault) ↔ IsFirstOfText bytes fault
   pub read : (bytes : List ℕ) (game : GameFile) → (read_as_game bytes ≡ Ok game) ↔ IsReadable bytes game
 

@@ -1,12 +1,12 @@
 //! Which files are accepted, with which game, and what the others are refused with. There is no code here: the
 //! functions' contracts are laws of the definitions, which stand in `specs/`.
 
-ghost use Rattle.def_check.specs.FileLaws.{AcceptedGamesAreSound, AcceptedWithoutFault, ReadingIsExact};
+ghost use Rattle.def_check.specs.FileLaws.{AcceptedGamesAreSound, AcceptedWithoutFault, FileReadingIsExact};
 ghost use Rattle.def_check.specs.FileLaws.{RefusedWithTheFirst};
 
 /// A file can't be read exactly where its length or its text has a fault, and else stands for its game.
 pub fn reading_is_exact()
-    ensures { ReadingIsExact }
+    ensures { FileReadingIsExact }
 {}
 
 /// A file is refused exactly with its first fault, where its length counts first, then its text, then its game.

@@ -26,7 +26,7 @@ use Rattle.def_cert_verdict.specs.Laws.{GetsAtLeast, ConcedesAtMost, IsTotalOver
 use Rattle.def_cert_versions.specs.Verdict.{in_version_two}
 use Rattle.def_plus.specs.declared.Variant.{Variant}
 use Rattle.def_plus.specs.declared.Variant.TheVariants as variants
-use Rattle.def_plus.specs.Variants.{weight_of}
+use Rattle.def_plus.specs.Variants.{weight_of_rounds}
 use Rattle.def_command.specs.Grammar.{Batch, Check, Command, Drill, Gen, Info, Plus, Settings, Solve, Upgrade, command_of_words}
 use Rattle.def_program.specs.BatchText.{batch_items, file_line, parts_text}
 use Rattle.def_program.specs.Text.{game_head, game_certificate, played_text, text_of_variant}
@@ -67,11 +67,11 @@ pub record RepliesAttain (game : WeighedGame) (b : PrintedBounds) : Type 0 where
 -- weigh times the scale
 pub record TraceNarrows (game : WeighedGame) (variant : Variant) (scale : ℕ) (b : PrintedBounds) : Type 0 where
   pub within_earlier : (j k : ℕ) (line : TraceLine) → j ≤ k → k < length b.trace
-      → LiesWithinBy (λ n. weight_of variant n) (slice_index_or b.trace k line) (slice_index_or b.trace j line)
+      → LiesWithinBy (λ n. weight_of_rounds variant n) (slice_index_or b.trace k line) (slice_index_or b.trace j line)
   pub last_low : (last_line b.trace).low ≡ b.reply_two.total
   pub last_high : (last_line b.trace).high ≡ b.reply_one.total
-  pub low_round : b.plan_one.root ≡ weight_of variant (last_line b.trace).low_round * scale
-  pub high_round : b.plan_two.root ≡ weight_of variant (last_line b.trace).high_round * scale
+  pub low_round : b.plan_one.root ≡ weight_of_rounds variant (last_line b.trace).low_round * scale
+  pub high_round : b.plan_two.root ≡ weight_of_rounds variant (last_line b.trace).high_round * scale
 
 -- f less g, not in lowest terms
 abbrev pub difference : Fraction → Fraction → Fraction

@@ -12,7 +12,7 @@ use Rattle.def_reply.specs.Reply.{SetReply}
 use Rattle.def_reply.specs.declared.TraceLine.{TraceLine}
 use Rattle.def_reply.specs.Outcome.{Head}
 use Rattle.def_cert_verdict.specs.Ranges.{IsPrintable, FractionFits, HeadFits, PlanWeightsFit, BoundFits}
-use Rattle.def_cert_text.specs.Fields.{space, feed, Item, field, separator, items_text}
+use Rattle.def_cert_text.specs.Fields.{space, feed, TextItem, field, separator, items_text}
 use Rattle.def_cert_text.specs.Formats.{Format, each_items, row_items}
 use Rattle.def_cert_text.specs.declared.version.TextVersion.{TextVersion}
 use Rattle.def_cert_text.specs.declared.version.TextVersion.TheVariants as versions
@@ -42,23 +42,23 @@ few_of_fraction f fits =
     (omega (arith, num, den, length-append (signed_decimal f.num) (slash ∷ decimal f.den)))
 
 -- ---- items
-abbrev pub width : Item → ℕ
+abbrev pub width : TextItem → ℕ
 width (field kind bytes) = length bytes
 width (separator byte) = 1
 
-abbrev pub widths : List Item → ℕ
+abbrev pub widths : List TextItem → ℕ
 widths [] = 0
 widths (item ∷ items) = width item + widths items
 
 -- the text of items has as many bytes as their widths make together
-pub text_width : (items : List Item) → length (items_text items) ≡ widths items
+pub text_width : (items : List TextItem) → length (items_text items) ≡ widths items
 unfolding items_text
 text_width [] = refl
 text_width (field kind bytes ∷ items) = omega (arith, length-append bytes (items_text items), text_width items)
 text_width (separator byte ∷ items) = omega (arith, text_width items)
 
 -- the width of items with others behind them is the widths of both, added
-pub widths-append : (xs ys : List Item) → widths (xs ++ ys) ≡ widths xs + widths ys
+pub widths-append : (xs ys : List TextItem) → widths (xs ++ ys) ≡ widths xs + widths ys
 widths-append [] ys = omega arith
 widths-append (x ∷ xs) ys = omega (arith, widths-append xs ys)
 

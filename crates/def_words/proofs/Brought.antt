@@ -14,7 +14,7 @@ use Rattle.def_words.specs.declared.view.View.{View}
 use Rattle.def_words.specs.declared.view.View.TheVariants.{Owner, Worker, Spent}
 use Rattle.def_words.specs.Views.{numbers_of}
 use Rattle.def_words.specs.Laws.{all_numbers}
-use Rattle.def_words.specs.Amounts.{Side, positive, negative, size_at, brings, brought_so_far, added_in, IsComplete}
+use Rattle.def_words.specs.Amounts.{Side, positive, negative, size_at, brings, brought_so_far, added_in, LastIsComplete}
 
 -- an amount of 0 has no size, and none is above the amount's own
 pub size_zero : (side : Side) (a : ℤ) → a ≡ pos 0 → size_at side a ≡ 0
@@ -45,7 +45,7 @@ once_reached : (f n row reached : ℕ) → (reached ≤ row → f ≡ 0) → con
 once_reached f n row reached none = elim (cases_lt row reached) [ inl below ↦ grind (arith, nat_tests) | inr above ↦ (let e = none above in grind (arith, nat_tests, e)) ]
 
 -- a complete list has brought all that its numbers bring
-pub whole_list : (jobs rows : ℕ) (amount : ℕ → ℕ → ℤ) (side : Side) (row reached : ℕ) (numbers : List ℕ) → row < rows → IsComplete jobs rows amount reached numbers
+pub whole_list : (jobs rows : ℕ) (amount : ℕ → ℕ → ℤ) (side : Side) (row reached : ℕ) (numbers : List ℕ) → row < rows → LastIsComplete jobs rows amount reached numbers
     → brought_so_far (brings jobs amount side row) row reached numbers ≡ nat_sum_over (brings jobs amount side row) numbers
 whole_list jobs rows amount side row reached [] below complete = refl
 whole_list jobs rows amount side row reached (n ∷ ns) below complete =

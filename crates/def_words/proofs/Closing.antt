@@ -16,7 +16,7 @@ use Rattle.def_words.specs.declared.view.View.{View}
 use Rattle.def_words.specs.declared.view.View.TheVariants.{Owner, Worker, Spent}
 use Rattle.def_words.specs.Views.{numbers_of, owner_count, worker_count}
 use Rattle.def_words.specs.Amounts.{positive, negative, size_at, word_at, brings, added_in}
-use Rattle.def_words.specs.Rule.{IsKept}
+use Rattle.def_words.specs.Rule.{AreWordsKept}
 use Rattle.def_words.proofs.Sums.{sum_only}
 use Rattle.def_words.proofs.Moves.{all_out}
 
@@ -66,7 +66,7 @@ idle f none (Worker numbers reached) e = absurd (omega (arith, e))
 idle f none Spent e = none
 
 -- where no worker is left to join, the owner's view counts for all
-owner_alone : (jobs rows : ℕ) (amount : ℕ → ℕ → ℤ) (words : List ℕ) (views : List View) (id : ℕ) (numbers : List ℕ) (made : ℕ) → IsKept jobs rows amount words views
+owner_alone : (jobs rows : ℕ) (amount : ℕ → ℕ → ℤ) (words : List ℕ) (views : List View) (id : ℕ) (numbers : List ℕ) (made : ℕ) → AreWordsKept jobs rows amount words views
     → get_elem? views id ≡ some (Owner numbers made 0) → (f : View → ℕ) → f Spent ≡ 0 → nat_sum_over f views ≡ f (Owner numbers made 0)
 owner_alone jobs rows amount words views id numbers made k at f none =
     let no_worker = all_out jobs rows amount words views id numbers made 0 k at in
@@ -74,7 +74,7 @@ owner_alone jobs rows amount words views id numbers made k at f none =
     sum_only f (λ v. owner_count v + worker_count v) views id (Owner numbers made 0) at (idle f none) (omega (arith, both, no_worker, k.owner))
 
 -- and it has each number below the claim word, which are all jobs' where it has one that is no job's
-pub all_claimed : (jobs rows : ℕ) (amount : ℕ → ℕ → ℤ) (words : List ℕ) (views : List View) (id : ℕ) (numbers : List ℕ) (made : ℕ) → IsKept jobs rows amount words views
+pub all_claimed : (jobs rows : ℕ) (amount : ℕ → ℕ → ℤ) (words : List ℕ) (views : List View) (id : ℕ) (numbers : List ℕ) (made : ℕ) → AreWordsKept jobs rows amount words views
     → get_elem? views id ≡ some (Owner numbers made 0) → (m : ℕ) → times m numbers ≡ cond (ltb m (slice_index words 0)) 1 0
 all_claimed jobs rows amount words views id numbers made k at m = sym (owner_alone jobs rows amount words views id numbers made k at (λ v. times m (numbers_of v)) refl) ∙ k.claimed m
 
@@ -82,7 +82,7 @@ pub jobs_claimed : (jobs : ℕ) (words : List ℕ) (numbers : List ℕ) → ((m 
     → (n : ℕ) → 1 ≤ times n numbers → jobs ≤ n → jobs < slice_index words 0
 jobs_claimed jobs words numbers claimed n there past = let c = claimed n in let under : n < slice_index words 0 = grind (arith, nat_tests, c, there) in omega (arith, under, past)
 
-pub closes : (jobs rows : ℕ) (amount : ℕ → ℕ → ℤ) (words : List ℕ) (views : List View) (id : ℕ) (numbers : List ℕ) (made : ℕ) → IsKept jobs rows amount words views
+pub closes : (jobs rows : ℕ) (amount : ℕ → ℕ → ℤ) (words : List ℕ) (views : List View) (id : ℕ) (numbers : List ℕ) (made : ℕ) → AreWordsKept jobs rows amount words views
     → get_elem? views id ≡ some (Owner numbers made 0) → (n : ℕ) → 1 ≤ times n numbers → jobs ≤ n → (row : ℕ) → row < rows
     → pos (slice_index words (word_at positive row)) ≡ sum_over_jobs amount jobs row +ℤ pos (slice_index words (word_at negative row))
 closes jobs rows amount words views id numbers made k at n there past row below =

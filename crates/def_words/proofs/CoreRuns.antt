@@ -21,8 +21,8 @@ use Rattle.def_words.specs.declared.view.View.{View}
 use Rattle.def_words.specs.declared.view.View.TheVariants.{Owner, Worker, Spent}
 use Rattle.def_words.specs.Views.{worker_count}
 use Rattle.def_words.specs.Amounts.{AreSmall, side_of, word_at}
-use Rattle.def_words.specs.Rule.{IsKept}
-use Rattle.def_words.specs.Steps.{State, Step, claim, add, split, join, close, OneStepLeads, IsReached, at_first, after_step, Claims, Adds as AddsWord, Splits, Joins, opening}
+use Rattle.def_words.specs.Rule.{AreWordsKept}
+use Rattle.def_words.specs.Steps.{WordState, WordStep, claim, add, split, join, close, OneStepLeads, AreWordsReached, at_first, after_step, Claims, Adds as AddsWord, Splits, Joins, opening_words}
 use Rattle.def_words.specs.CoreSteps.{has_left, unclaimed, view_at, last_number, rights_held, rights_in, Shows, core_steps, StepsAreCoreSteps, RunsAreCoreRuns, ClosesAtTheEnd}
 use Rattle.def_words.proofs.Sums.{elem_set_other}
 use Rattle.def_words.proofs.Moves.{all_out, claims_few, owner_no_worker, word_after, word_other, word_not_zero}
@@ -75,7 +75,7 @@ module _ (jobs rows : ℕ) (amount : ℕ → ℕ → ℤ) where
   held_by b c reached n ns e f = λ i. cond (e i && f i) (rights_of n 1) []
 
   -- where steps lead, and what shows there
-  record Led (core : CoreState) (steps : List CoreStep) (after : State) : Type 0 where
+  record Led (core : CoreState) (steps : List CoreStep) (after : WordState) : Type 0 where
     next : CoreState
     leads : StepsLead core steps next
     shows : Shows jobs rows amount after next
@@ -107,8 +107,8 @@ draws_to jobs core seat n is_job bag stripes is_pass held =
 abbrev steps_of_claim : Bool → Bool → ℕ → ℕ → List CoreStep
 steps_of_claim b c seat n = cond b (draw seat n ∷ cond c [] (core_add seat n 0 ∷ [])) []
 
-claim_led : (jobs rows : ℕ) (amount : ℕ → ℕ → ℤ) (before : State) (seat : ℕ) (after : State) (core : CoreState)
-    → AreSmall jobs rows amount → IsKept jobs rows amount before.words before.views → Claims jobs rows amount before seat after
+claim_led : (jobs rows : ℕ) (amount : ℕ → ℕ → ℤ) (before : WordState) (seat : ℕ) (after : WordState) (core : CoreState)
+    → AreSmall jobs rows amount → AreWordsKept jobs rows amount before.words before.views → Claims jobs rows amount before seat after
     → Shows jobs rows amount before core → length after.views ≤ length core.passes
     → Led jobs rows amount core (core_steps jobs rows amount before (claim seat)) after
 claim_led jobs rows amount before seat after core small kept s shows seats = by_case (ltb n jobs) (has_left amount 0 n rows) refl refl
@@ -184,8 +184,8 @@ claim_led jobs rows amount before seat after core small kept s shows seats = by_
     }
 
 -- ---- add
-add_led : (jobs rows : ℕ) (amount : ℕ → ℕ → ℤ) (before : State) (seat row : ℕ) (after : State) (core : CoreState)
-    → IsKept jobs rows amount before.words before.views → AddsWord jobs rows amount before seat row after
+add_led : (jobs rows : ℕ) (amount : ℕ → ℕ → ℤ) (before : WordState) (seat row : ℕ) (after : WordState) (core : CoreState)
+    → AreWordsKept jobs rows amount before.words before.views → AddsWord jobs rows amount before seat row after
     → Shows jobs rows amount before core → length after.views ≤ length core.passes
     → Led jobs rows amount core (core_steps jobs rows amount before (add seat row)) after
 add_led jobs rows amount before seat row after core kept s shows seats =
@@ -247,7 +247,7 @@ add_led jobs rows amount before seat row after core kept s shows seats =
 
 -- ---- the other steps
 -- where no seat holds other rights and the claim word stays, the core stays
-stays_led : (jobs rows : ℕ) (amount : ℕ → ℕ → ℤ) (before after : State) (core : CoreState)
+stays_led : (jobs rows : ℕ) (amount : ℕ → ℕ → ℤ) (before after : WordState) (core : CoreState)
     → after.words ≡ before.words → ((s : ℕ) → rights_in jobs rows amount (view_at before s) ≡ rights_in jobs rows amount (view_at after s))
     → Shows jobs rows amount before core → length after.views ≤ length core.passes → Led jobs rows amount core [] after
 stays_led jobs rows amount before after core words same shows seats = record {
@@ -262,7 +262,7 @@ stays_led jobs rows amount before after core words same shows seats = record {
   count = refl;
 }
 
-split_same : (jobs rows : ℕ) (amount : ℕ → ℕ → ℤ) (before : State) (seat : ℕ) (after : State) → Splits jobs rows amount before seat after
+split_same : (jobs rows : ℕ) (amount : ℕ → ℕ → ℤ) (before : WordState) (seat : ℕ) (after : WordState) → Splits jobs rows amount before seat after
     → (s : ℕ) → rights_in jobs rows amount (view_at before s) ≡ rights_in jobs rows amount (view_at after s)
 split_same jobs rows amount before seat after sp s =
     let old : View = Owner sp.numbers sp.made sp.unjoined in
@@ -271,7 +271,7 @@ split_same jobs rows amount before seat after sp s =
     ∙ sym (same_after_push jobs rows amount (set before.views seat new) (Worker [] 0) refl s)
     ∙ ap (λ (vs : List View). held_at jobs rows amount vs s) (sym sp.views)
 
-join_same : (jobs rows : ℕ) (amount : ℕ → ℕ → ℤ) (before : State) (seat other : ℕ) (after : State) → Joins jobs rows amount before seat other after
+join_same : (jobs rows : ℕ) (amount : ℕ → ℕ → ℤ) (before : WordState) (seat other : ℕ) (after : WordState) → Joins jobs rows amount before seat other after
     → (s : ℕ) → rights_in jobs rows amount (view_at before s) ≡ rights_in jobs rows amount (view_at after s)
 join_same jobs rows amount before seat other after j s =
     let old : View = Owner j.numbers j.made j.unjoined in
@@ -283,8 +283,8 @@ join_same jobs rows amount before seat other after j s =
     ∙ sym (same_after_set jobs rows amount (set before.views seat new) other worker Spent there (sym (held_none jobs rows amount j.reached j.worker_numbers j.complete)) s)
     ∙ ap (λ (vs : List View). held_at jobs rows amount vs s) (sym j.views)
 
-led : (jobs rows : ℕ) (amount : ℕ → ℕ → ℤ) (before : State) (step : Step) (after : State) (core : CoreState)
-    → AreSmall jobs rows amount → IsKept jobs rows amount before.words before.views → OneStepLeads jobs rows amount before step after
+led : (jobs rows : ℕ) (amount : ℕ → ℕ → ℤ) (before : WordState) (step : WordStep) (after : WordState) (core : CoreState)
+    → AreSmall jobs rows amount → AreWordsKept jobs rows amount before.words before.views → OneStepLeads jobs rows amount before step after
     → Shows jobs rows amount before core → length after.views ≤ length core.passes
     → Led jobs rows amount core (core_steps jobs rows amount before step) after
 led jobs rows amount before (claim seat) after core small kept s shows seats = claim_led jobs rows amount before seat after core small kept s shows seats
@@ -292,7 +292,7 @@ led jobs rows amount before (add seat row) after core small kept s shows seats =
 led jobs rows amount before (split seat) after core small kept s shows seats = stays_led jobs rows amount before after core s.words (split_same jobs rows amount before seat after s) shows seats
 led jobs rows amount before (join seat other) after core small kept s shows seats = stays_led jobs rows amount before after core s.words (join_same jobs rows amount before seat other after s) shows seats
 led jobs rows amount before (close seat) after core small kept s shows seats =
-    stays_led jobs rows amount before after core (ap (λ (t : State). t.words) s.same) (λ k. ap (λ (t : State). rights_in jobs rows amount (view_at t k)) (sym s.same)) shows seats
+    stays_led jobs rows amount before after core (ap (λ (t : WordState). t.words) s.same) (λ k. ap (λ (t : WordState). rights_in jobs rows amount (view_at t k)) (sym s.same)) shows seats
 
 pub steps_lead : StepsAreCoreSteps
 steps_lead jobs rows amount before step after core small kept s shows seats =
@@ -305,7 +305,7 @@ steps_after none later = later
 steps_after (first step rest) later = first step (steps_after rest later)
 
 -- no step takes a seat away
-more_seats : (jobs rows : ℕ) (amount : ℕ → ℕ → ℤ) (before : State) (step : Step) (after : State) → OneStepLeads jobs rows amount before step after
+more_seats : (jobs rows : ℕ) (amount : ℕ → ℕ → ℤ) (before : WordState) (step : WordStep) (after : WordState) → OneStepLeads jobs rows amount before step after
     → length before.views ≤ length after.views
 more_seats jobs rows amount before (claim seat) after s = let a = ap length s.views in let b = length-set before.views seat (Worker (slice_index before.words 0 ∷ s.numbers) 0) in omega (arith, a, b)
 more_seats jobs rows amount before (add seat row) after s = let a = ap length s.views in let b = length-set before.views seat (Worker (s.job ∷ s.earlier) (row + 1)) in omega (arith, a, b)
@@ -321,10 +321,10 @@ more_seats jobs rows amount before (join seat other) after s =
     let b = length-set (set before.views seat new) other Spent in
     let c = length-set before.views seat new in
     omega (arith, a, b, c)
-more_seats jobs rows amount before (close seat) after s = let a = ap (λ (t : State). length t.views) s.same in omega (arith, a)
+more_seats jobs rows amount before (close seat) after s = let a = ap (λ (t : WordState). length t.views) s.same in omega (arith, a)
 
 -- a run of the core with so many passes
-record CoreRun (jobs rows : ℕ) (amount : ℕ → ℕ → ℤ) (state : State) (passes : ℕ) : Type 0 where
+record CoreRun (jobs rows : ℕ) (amount : ℕ → ℕ → ℤ) (state : WordState) (passes : ℕ) : Type 0 where
   core : CoreState
   reached : IsReachedInCore jobs core
   shows : Shows jobs rows amount state core
@@ -342,11 +342,11 @@ all_nothing : (passes : ℕ) → All (λ (rights : List Right). rights ≡ []) (
 all_nothing zero = All-nil (λ (rights : List Right). rights ≡ [])
 all_nothing (suc passes) = All-cons (λ (rights : List Right). rights ≡ []) [] (replicate passes []) refl (all_nothing passes)
 
-first_idle : (jobs rows : ℕ) (amount : ℕ → ℕ → ℤ) (s : ℕ) → [] ≡ rights_in jobs rows amount (view_at (opening rows) s)
+first_idle : (jobs rows : ℕ) (amount : ℕ → ℕ → ℤ) (s : ℕ) → [] ≡ rights_in jobs rows amount (view_at (opening_words rows) s)
 first_idle jobs rows amount zero = refl
 first_idle jobs rows amount (suc s) = refl
 
-first_shows : (jobs rows : ℕ) (amount : ℕ → ℕ → ℤ) (passes : ℕ) → 1 ≤ passes → CoreRun jobs rows amount (opening rows) passes
+first_shows : (jobs rows : ℕ) (amount : ℕ → ℕ → ℤ) (passes : ℕ) → 1 ≤ passes → CoreRun jobs rows amount (opening_words rows) passes
 first_shows jobs rows amount passes some_pass =
     let none_gone : jobs ≡ jobs - 0 = omega arith in record {
       core = core_opening jobs passes;
@@ -369,7 +369,7 @@ first_shows jobs rows amount passes some_pass =
       count = length-replicate passes [];
     }
 
-core_run : (jobs rows : ℕ) (amount : ℕ → ℕ → ℤ) (state : State) (passes : ℕ) → AreSmall jobs rows amount → IsReached jobs rows amount state
+core_run : (jobs rows : ℕ) (amount : ℕ → ℕ → ℤ) (state : WordState) (passes : ℕ) → AreSmall jobs rows amount → AreWordsReached jobs rows amount state
     → length state.views ≤ passes → CoreRun jobs rows amount state passes
 core_run jobs rows amount state passes small at_first seats = first_shows jobs rows amount passes seats
 core_run jobs rows amount state passes small (after_step {before} step run s) seats =
@@ -403,7 +403,7 @@ pub closes_at_end : ClosesAtTheEnd
 closes_at_end jobs rows amount before seat after core small run s shows =
     let told = close_with_sums jobs rows amount before seat after small run s in
     let kept = step_keeps jobs rows amount before (close seat) after small (reached_kept jobs rows amount before small run) s in
-    let at : get_elem? after.views seat ≡ some (Owner s.numbers s.made 0) = subst (λ (t : State). get_elem? t.views seat ≡ some (Owner s.numbers s.made 0)) (sym s.same) s.owner in
+    let at : get_elem? after.views seat ≡ some (Owner s.numbers s.made 0) = subst (λ (t : WordState). get_elem? t.views seat ≡ some (Owner s.numbers s.made 0)) (sym s.same) s.owner in
     let no_worker = all_out jobs rows amount after.words after.views seat s.numbers s.made 0 kept at in (
       shows.bag ∙ unclaimed_none jobs (slice_index after.words 0) (let a = told.all_jobs in omega (arith, a)),
       (λ k d below. get_or_default core.passes k d [] below ∙ shows.passes k ∙ idle_holds_nothing jobs rows amount (get_or after.views k Spent) (no_worker_at after.views k no_worker)),

@@ -4,7 +4,7 @@ use Rattle.std.specs.List.{range_with_len}
 use Rattle.std.proofs.lemmas.Bool.{cases_lt}
 use Rattle.std.proofs.lemmas.Bool.Decides.{nat_tests}
 use Rattle.def_history.specs.Core.{rights_of}
-use Rattle.def_words.specs.Amounts.{IsComplete}
+use Rattle.def_words.specs.Amounts.{LastIsComplete}
 use Rattle.def_words.specs.CoreSteps.{is_some_amount, has_left, rights_held, unclaimed}
 
 pub none_left : (amount : ℕ → ℕ → ℤ) (reached job rows : ℕ) → ((row : ℕ) → reached ≤ row → row < rows → amount job row ≡ pos 0) → has_left amount reached job rows ≡ false
@@ -37,7 +37,7 @@ some_left amount reached job (suc rows) row above below apart =
           rw (here, yes) refl)
     ]
 
-pub held_none : (jobs rows : ℕ) (amount : ℕ → ℕ → ℤ) (reached : ℕ) (numbers : List ℕ) → IsComplete jobs rows amount reached numbers → rights_held jobs rows amount reached numbers ≡ []
+pub held_none : (jobs rows : ℕ) (amount : ℕ → ℕ → ℤ) (reached : ℕ) (numbers : List ℕ) → LastIsComplete jobs rows amount reached numbers → rights_held jobs rows amount reached numbers ≡ []
 held_none jobs rows amount reached [] complete = refl
 held_none jobs rows amount reached (n ∷ ns) complete =
     elim (cases_lt n jobs) [

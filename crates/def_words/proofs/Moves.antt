@@ -19,34 +19,34 @@ use Rattle.def_history.proofs.Counts.{times-cons}
 use Rattle.def_words.specs.declared.view.View.{View}
 use Rattle.def_words.specs.declared.view.View.TheVariants.{Owner, Worker, Spent}
 use Rattle.def_words.specs.Views.{numbers_of, made_of, unjoined_of, owner_count, worker_count}
-use Rattle.def_words.specs.Amounts.{Side, positive, negative, side_of, size_at, word_at, row_of, brings, brought_so_far, added_in, AreSmall, IsComplete}
-use Rattle.def_words.specs.Rule.{IsKept, Fits, past_count}
+use Rattle.def_words.specs.Amounts.{Side, positive, negative, side_of, size_at, word_at, row_of, brings, brought_so_far, added_in, AreSmall, LastIsComplete}
+use Rattle.def_words.specs.Rule.{AreWordsKept, ViewFits, past_jobs}
 use Rattle.def_words.proofs.Sums.{elem_set_other, sum_set, sum_snoc, sum_has, sum_only}
 use Rattle.def_words.proofs.Brought.{size_zero, brings_own, whole_list, times-append, added_small}
 
 -- what the rule says of a view at its place
-pub fits_at : (jobs : ℕ) (views : List View) (id : ℕ) (v : View) → All (Fits jobs) views → get_elem? views id ≡ some v → Fits jobs v
+pub fits_at : (jobs : ℕ) (views : List View) (id : ℕ) (v : View) → All (ViewFits jobs) views → get_elem? views id ≡ some v → ViewFits jobs v
 fits_at jobs [] id v all e = absurd (some-ne-none v (sym e))
-fits_at jobs (x ∷ xs) zero v all e = subst (Fits jobs) (some-injective x v e) (all 0 x (omega arith))
+fits_at jobs (x ∷ xs) zero v all e = subst (ViewFits jobs) (some-injective x v e) (all 0 x (omega arith))
 fits_at jobs (x ∷ xs) (suc id) v all e = fits_at jobs xs id v (λ k d below. all (suc k) d (omega arith)) e
 
 -- the claim word is at most the number of jobs and of workers together
-pub claims_few : (jobs rows : ℕ) (amount : ℕ → ℕ → ℤ) (words : List ℕ) (views : List View) → IsKept jobs rows amount words views → slice_index words 0 ≤ jobs + most_workers
+pub claims_few : (jobs rows : ℕ) (amount : ℕ → ℕ → ℤ) (words : List ℕ) (views : List View) → AreWordsKept jobs rows amount words views → slice_index words 0 ≤ jobs + most_workers
 claims_few jobs rows amount words views k =
-    let a = nat_sum_over-mono (λ v. past_count jobs (numbers_of v) + unjoined_of v) (λ v. made_of v + worker_count v) views (λ i d h. (k.fits i d h).past) in
-    let b = nat_sum_over-add (λ v. past_count jobs (numbers_of v)) unjoined_of views in
+    let a = nat_sum_over-mono (λ v. past_jobs jobs (numbers_of v) + unjoined_of v) (λ v. made_of v + worker_count v) views (λ i d h. (k.fits i d h).past) in
+    let b = nat_sum_over-add (λ v. past_jobs jobs (numbers_of v)) unjoined_of views in
     let c = nat_sum_over-add made_of worker_count views in
     let d = nat_sum_over-mono made_of (λ v. owner_count v * most_workers) views (λ i d h. let e = (k.fits i d h).made in omega (arith, e)) in
     let e = nat_sum_over-factor most_workers owner_count views in
     omega (arith, a, b, c, d, e, k.owner, k.unjoined, k.past)
 
-past-cons : (jobs n : ℕ) (ns : List ℕ) → past_count jobs (n ∷ ns) ≡ cond (leb jobs n) 1 0 + past_count jobs ns
+past-cons : (jobs n : ℕ) (ns : List ℕ) → past_jobs jobs (n ∷ ns) ≡ cond (leb jobs n) 1 0 + past_jobs jobs ns
 past-cons jobs n ns = sum_by-cons (λ (m : ℕ). cond (leb jobs m) 1 0) n ns
 
-past-append : (jobs : ℕ) (xs ys : List ℕ) → past_count jobs (xs ++ ys) ≡ past_count jobs xs + past_count jobs ys
+past-append : (jobs : ℕ) (xs ys : List ℕ) → past_jobs jobs (xs ++ ys) ≡ past_jobs jobs xs + past_jobs jobs ys
 past-append jobs xs ys = sum_by-append _ xs ys
 
-past_none : (jobs : ℕ) (ns : List ℕ) → All (λ n. n < jobs) ns → past_count jobs ns ≡ 0
+past_none : (jobs : ℕ) (ns : List ℕ) → All (λ n. n < jobs) ns → past_jobs jobs ns ≡ 0
 past_none jobs [] all = refl
 past_none jobs (n ∷ ns) all =
     let here : n < jobs = all 0 0 (omega arith) in
@@ -69,9 +69,9 @@ word_not_zero positive row = λ e. omega (arith, e)
 word_not_zero negative row = λ e. omega (arith, e)
 
 pub claims_kept : (jobs rows : ℕ) (amount : ℕ → ℕ → ℤ) (words : List ℕ) (views : List View) (id : ℕ) (numbers : List ℕ) (reached : ℕ)
-    → AreSmall jobs rows amount → All (λ n. n < jobs) numbers → IsComplete jobs rows amount reached numbers → IsKept jobs rows amount words views
+    → AreSmall jobs rows amount → All (λ n. n < jobs) numbers → LastIsComplete jobs rows amount reached numbers → AreWordsKept jobs rows amount words views
     → get_elem? views id ≡ some (Worker numbers reached)
-    → IsKept jobs rows amount (set words 0 ((slice_index words 0 + 1) % 18446744073709551616)) (set views id (Worker (slice_index words 0 ∷ numbers) 0))
+    → AreWordsKept jobs rows amount (set words 0 ((slice_index words 0 + 1) % 18446744073709551616)) (set views id (Worker (slice_index words 0 ∷ numbers) 0))
 claims_kept jobs rows amount words views id numbers reached small below complete k at =
     let n : ℕ = slice_index words 0 in
     let v : View = Worker numbers reached in
@@ -89,10 +89,10 @@ claims_kept jobs rows amount words views id numbers reached small below complete
       owner = (let a = sum_set owner_count views id v w at in omega (arith, a, k.owner));
       unjoined = (let a = sum_set unjoined_of views id v w at in let b = sum_set worker_count views id v w at in omega (arith, a, b, k.unjoined));
       past =
-          (let a = sum_set (λ u. past_count jobs (numbers_of u)) views id v w at in
+          (let a = sum_set (λ u. past_jobs jobs (numbers_of u)) views id v w at in
           let c = past-cons jobs n numbers in
           rw after (past_more jobs n _ _ _ _ a k.past c));
-      fits = All-set (Fits jobs) views id w (record { past = (let c = past-cons jobs n numbers in let d = past_none jobs numbers below in omega (arith, c, d, at_most_one (leb jobs n))); made = omega arith }) k.fits;
+      fits = All-set (ViewFits jobs) views id w (record { past = (let c = past-cons jobs n numbers in let d = past_none jobs numbers below in omega (arith, c, d, at_most_one (leb jobs n))); made = omega arith }) k.fits;
       sums = λ side row here.
           let f : ℕ → ℕ = brings jobs amount side row in
           let a = sum_set (added_in f row) views id v w at in
@@ -198,9 +198,9 @@ brought_grown jobs amount side row row' reached job earlier is_job after between
     ]
 
 pub adds_kept : (jobs rows : ℕ) (amount : ℕ → ℕ → ℤ) (words : List ℕ) (views : List View) (id : ℕ) (job : ℕ) (earlier : List ℕ) (reached row : ℕ)
-    → AreSmall jobs rows amount → row < rows → job < jobs → reached ≤ row → ((r : ℕ) → reached ≤ r → r < row → amount job r ≡ pos 0) → IsKept jobs rows amount words views
+    → AreSmall jobs rows amount → row < rows → job < jobs → reached ≤ row → ((r : ℕ) → reached ≤ r → r < row → amount job r ≡ pos 0) → AreWordsKept jobs rows amount words views
     → get_elem? views id ≡ some (Worker (job ∷ earlier) reached)
-    → IsKept jobs rows amount (set words (word_at (side_of (amount job row)) row) ((slice_index words (word_at (side_of (amount job row)) row) + unsigned_abs (amount job row)) % 18446744073709551616)) (set views id (Worker (job ∷ earlier) (row + 1)))
+    → AreWordsKept jobs rows amount (set words (word_at (side_of (amount job row)) row) ((slice_index words (word_at (side_of (amount job row)) row) + unsigned_abs (amount job row)) % 18446744073709551616)) (set views id (Worker (job ∷ earlier) (row + 1)))
 adds_kept jobs rows amount words views id job earlier reached row small below is_job after between k at =
     let a : ℤ = amount job row in
     let side : Side = side_of a in
@@ -227,15 +227,15 @@ adds_kept jobs rows amount words views id job earlier reached row small below is
       claimed = λ n. rw first (claimed n);
       owner = (let s = sum_set owner_count views id v w at in omega (arith, s, k.owner));
       unjoined = (let s = sum_set unjoined_of views id v w at in let b = sum_set worker_count views id v w at in omega (arith, s, b, k.unjoined));
-      past = rw first (let s = sum_set (λ u. past_count jobs (numbers_of u)) views id v w at in omega (arith, s, k.past));
-      fits = All-set (Fits jobs) views id w (let f = fits_at jobs views id v k.fits at in record { past = f.past; made = f.made }) k.fits;
+      past = rw first (let s = sum_set (λ u. past_jobs jobs (numbers_of u)) views id v w at in omega (arith, s, k.past));
+      fits = All-set (ViewFits jobs) views id w (let f = fits_at jobs views id v k.fits at in record { past = f.past; made = f.made }) k.fits;
       sums = λ other row' here'. words_grown words row row' rows new a other k.count below new_is ∙ ap (λ t. t + gain a row other row') (k.sums other row' here') ∙ sym (grown other row');
     }
 
 -- ---- split
 pub splits_kept : (jobs rows : ℕ) (amount : ℕ → ℕ → ℤ) (words : List ℕ) (views : List View) (id : ℕ) (numbers : List ℕ) (made unjoined : ℕ)
-    → made < most_workers → IsKept jobs rows amount words views → get_elem? views id ≡ some (Owner numbers made unjoined)
-    → IsKept jobs rows amount words (set views id (Owner numbers (made + 1) (unjoined + 1)) ++ Worker [] 0 ∷ [])
+    → made < most_workers → AreWordsKept jobs rows amount words views → get_elem? views id ≡ some (Owner numbers made unjoined)
+    → AreWordsKept jobs rows amount words (set views id (Owner numbers (made + 1) (unjoined + 1)) ++ Worker [] 0 ∷ [])
 splits_kept jobs rows amount words views id numbers made unjoined few k at =
     let v : View = Owner numbers made unjoined in
     let w : View = Owner numbers (made + 1) (unjoined + 1) in
@@ -248,8 +248,8 @@ splits_kept jobs rows amount words views id numbers made unjoined few k at =
       claimed = λ n. let f : View → ℕ = λ z. times n (numbers_of z) in let a = sum f in let b = was f in let c = k.claimed n in omega (arith, a, b, c);
       owner = (let a = sum owner_count in let b = was owner_count in omega (arith, a, b, k.owner));
       unjoined = (let a = sum unjoined_of in let b = was unjoined_of in let c = sum worker_count in let d = was worker_count in omega (arith, a, b, c, d, k.unjoined));
-      past = (let f : View → ℕ = λ z. past_count jobs (numbers_of z) in let a = sum f in let b = was f in omega (arith, a, b, k.past));
-      fits = All-push (Fits jobs) (set views id w) u (All-set (Fits jobs) views id w (record { past = omega (arith, fit.past); made = omega (arith, few) }) k.fits) (record { past = omega arith; made = omega arith });
+      past = (let f : View → ℕ = λ z. past_jobs jobs (numbers_of z) in let a = sum f in let b = was f in omega (arith, a, b, k.past));
+      fits = All-push (ViewFits jobs) (set views id w) u (All-set (ViewFits jobs) views id w (record { past = omega (arith, fit.past); made = omega (arith, few) }) k.fits) (record { past = omega arith; made = omega arith });
       sums = λ side row here. let f : View → ℕ = added_in (brings jobs amount side row) row in let a = sum f in let b = was f in let c = k.sums side row here in omega (arith, a, b, c);
     }
 
@@ -261,16 +261,16 @@ not_owner (Worker numbers reached) e = refl
 not_owner Spent e = refl
 
 pub all_out : (jobs rows : ℕ) (amount : ℕ → ℕ → ℤ) (words : List ℕ) (views : List View) (id : ℕ) (numbers : List ℕ) (made unjoined : ℕ)
-    → IsKept jobs rows amount words views → get_elem? views id ≡ some (Owner numbers made unjoined) → nat_sum_over worker_count views ≡ unjoined
+    → AreWordsKept jobs rows amount words views → get_elem? views id ≡ some (Owner numbers made unjoined) → nat_sum_over worker_count views ≡ unjoined
 all_out jobs rows amount words views id numbers made unjoined k at = sym k.unjoined ∙ sum_only unjoined_of owner_count views id (Owner numbers made unjoined) at not_owner (sym k.owner)
 
 pub owner_no_worker : (numbers : List ℕ) (made unjoined : ℕ) (ns : List ℕ) (reached : ℕ) → Owner numbers made unjoined ≢ Worker ns reached
 owner_no_worker numbers made unjoined ns reached same = let e = ap owner_count same in absurd (omega (arith, e))
 
 pub joins_kept : (jobs rows : ℕ) (amount : ℕ → ℕ → ℤ) (words : List ℕ) (views : List View) (id : ℕ) (numbers : List ℕ) (made unjoined : ℕ) (other : ℕ) (ns : List ℕ) (reached : ℕ)
-    → IsComplete jobs rows amount reached ns → IsKept jobs rows amount words views → get_elem? views id ≡ some (Owner numbers made unjoined)
+    → LastIsComplete jobs rows amount reached ns → AreWordsKept jobs rows amount words views → get_elem? views id ≡ some (Owner numbers made unjoined)
     → get_elem? views other ≡ some (Worker ns reached)
-    → IsKept jobs rows amount words (set (set views id (Owner (ns ++ numbers) made (unjoined - 1))) other Spent)
+    → AreWordsKept jobs rows amount words (set (set views id (Owner (ns ++ numbers) made (unjoined - 1))) other Spent)
 joins_kept jobs rows amount words views id numbers made unjoined other ns reached complete k at was =
     let v : View = Owner numbers made unjoined in
     let b : View = Owner (ns ++ numbers) made (unjoined - 1) in
@@ -288,8 +288,8 @@ joins_kept jobs rows amount words views id numbers made unjoined other ns reache
       claimed = λ n. let f : View → ℕ = λ z. times n (numbers_of z) in let x = first f in let y = second f in let z = k.claimed n in let t = times-append n ns numbers in omega (arith, x, y, z, t);
       owner = (let x = first owner_count in let y = second owner_count in omega (arith, x, y, k.owner));
       unjoined = (let x = first unjoined_of in let y = second unjoined_of in let x' = first worker_count in let y' = second worker_count in omega (arith, x, y, x', y', k.unjoined, some_out));
-      past = (let f : View → ℕ = λ z. past_count jobs (numbers_of z) in let x = first f in let y = second f in let t = past-append jobs ns numbers in omega (arith, x, y, t, k.past));
-      fits = All-set (Fits jobs) (set views id b) other Spent (record { past = omega arith; made = omega arith }) (All-set (Fits jobs) views id b (record { past = (let t = past-append jobs ns numbers in omega (arith, t, fit.past, other_fit.past, some_out)); made = fit.made }) k.fits);
+      past = (let f : View → ℕ = λ z. past_jobs jobs (numbers_of z) in let x = first f in let y = second f in let t = past-append jobs ns numbers in omega (arith, x, y, t, k.past));
+      fits = All-set (ViewFits jobs) (set views id b) other Spent (record { past = omega arith; made = omega arith }) (All-set (ViewFits jobs) views id b (record { past = (let t = past-append jobs ns numbers in omega (arith, t, fit.past, other_fit.past, some_out)); made = fit.made }) k.fits);
       sums = λ side row here.
           let g : ℕ → ℕ = brings jobs amount side row in
           let f : View → ℕ = added_in g row in

@@ -10,10 +10,10 @@ use Rattle.def_words.specs.declared.view.View.{View}
 use Rattle.def_words.specs.declared.view.View.TheVariants.{Owner, Worker}
 use Rattle.def_words.specs.Views.{first_view}
 use Rattle.def_words.specs.Amounts.{AreSmall, word_at}
-use Rattle.def_words.specs.Rule.{IsKept, Fits}
-use Rattle.def_words.specs.Steps.{State, Step, OneStepLeads, IsReached, opening}
-use Rattle.def_words.specs.Steps.Step.{claim, add, split, join, close}
-use Rattle.def_words.specs.Steps.IsReached.{at_first, after_step}
+use Rattle.def_words.specs.Rule.{AreWordsKept, ViewFits}
+use Rattle.def_words.specs.Steps.{WordState, WordStep, OneStepLeads, AreWordsReached, opening_words}
+use Rattle.def_words.specs.Steps.WordStep.{claim, add, split, join, close}
+use Rattle.def_words.specs.Steps.AreWordsReached.{at_first, after_step}
 use Rattle.def_words.specs.Laws.{StepsKeepTheRule, TheRuleHolds, Stated, ClosesWithSums}
 use Rattle.def_words.proofs.Brought.{times_in_all}
 use Rattle.def_words.proofs.Moves.{all_out, claims_few, claims_kept, adds_kept, splits_kept, joins_kept, fits_at}
@@ -25,7 +25,7 @@ zero_word zero i = refl
 zero_word (suc n) zero = refl
 zero_word (suc n) (suc i) = zero_word n i
 
-pub opening_kept : (jobs rows : ℕ) (amount : ℕ → ℕ → ℤ) → IsKept jobs rows amount (opening rows).words (opening rows).views
+pub opening_kept : (jobs rows : ℕ) (amount : ℕ → ℕ → ℤ) → AreWordsKept jobs rows amount (opening_words rows).words (opening_words rows).views
 opening_kept jobs rows amount =
     let first = zero_word (2 * rows + 1) 0 in
     record {
@@ -34,18 +34,18 @@ opening_kept jobs rows amount =
       owner = omega arith;
       unjoined = omega arith;
       past = rw first (omega arith);
-      fits = All-push (Fits jobs) [] first_view (All-nil (Fits jobs)) (record { past = omega arith; made = omega arith });
+      fits = All-push (ViewFits jobs) [] first_view (All-nil (ViewFits jobs)) (record { past = omega arith; made = omega arith });
       sums = λ side row here. zero_word (2 * rows + 1) (word_at side row);
     }
 
-kept_at : (jobs rows : ℕ) (amount : ℕ → ℕ → ℤ) (after : State) (words : List ℕ) (views : List View) → after.words ≡ words → after.views ≡ views
-    → IsKept jobs rows amount words views → IsKept jobs rows amount after.words after.views
+kept_at : (jobs rows : ℕ) (amount : ℕ → ℕ → ℤ) (after : WordState) (words : List ℕ) (views : List View) → after.words ≡ words → after.views ≡ views
+    → AreWordsKept jobs rows amount words views → AreWordsKept jobs rows amount after.words after.views
 kept_at jobs rows amount after words views same_words same_views kept =
-    subst (λ ws. IsKept jobs rows amount ws after.views) (sym same_words) (subst (IsKept jobs rows amount words) (sym same_views) kept)
+    subst (λ ws. AreWordsKept jobs rows amount ws after.views) (sym same_words) (subst (AreWordsKept jobs rows amount words) (sym same_views) kept)
 
-pub step_keeps : (jobs rows : ℕ) (amount : ℕ → ℕ → ℤ) (before : State) (step : Step) (after : State)
-    → AreSmall jobs rows amount → IsKept jobs rows amount before.words before.views
-    → OneStepLeads jobs rows amount before step after → IsKept jobs rows amount after.words after.views
+pub step_keeps : (jobs rows : ℕ) (amount : ℕ → ℕ → ℤ) (before : WordState) (step : WordStep) (after : WordState)
+    → AreSmall jobs rows amount → AreWordsKept jobs rows amount before.words before.views
+    → OneStepLeads jobs rows amount before step after → AreWordsKept jobs rows amount after.words after.views
 step_keeps jobs rows amount before (claim seat) after small kept s =
     kept_at jobs rows amount after _ _ s.words s.views (claims_kept jobs rows amount before.words before.views seat s.numbers s.reached small s.below s.complete kept s.worker)
 step_keeps jobs rows amount before (add seat row) after small kept s =
@@ -54,20 +54,20 @@ step_keeps jobs rows amount before (split seat) after small kept s =
     kept_at jobs rows amount after _ _ s.words s.views (splits_kept jobs rows amount before.words before.views seat s.numbers s.made s.unjoined s.few kept s.owner)
 step_keeps jobs rows amount before (join seat other) after small kept s =
     kept_at jobs rows amount after _ _ s.words s.views (joins_kept jobs rows amount before.words before.views seat s.numbers s.made s.unjoined other s.worker_numbers s.reached s.complete kept s.owner s.worker)
-step_keeps jobs rows amount before (close seat) after small kept s = subst (λ (t : State). IsKept jobs rows amount t.words t.views) (sym s.same) kept
+step_keeps jobs rows amount before (close seat) after small kept s = subst (λ (t : WordState). AreWordsKept jobs rows amount t.words t.views) (sym s.same) kept
 
 pub steps_keep : StepsKeepTheRule
 steps_keep = record { at_first = opening_kept; step = step_keeps }
 
 -- so it holds in each state that is reached
-pub reached_kept : (jobs rows : ℕ) (amount : ℕ → ℕ → ℤ) (state : State) → AreSmall jobs rows amount → IsReached jobs rows amount state
-    → IsKept jobs rows amount state.words state.views
+pub reached_kept : (jobs rows : ℕ) (amount : ℕ → ℕ → ℤ) (state : WordState) → AreSmall jobs rows amount → AreWordsReached jobs rows amount state
+    → AreWordsKept jobs rows amount state.words state.views
 reached_kept jobs rows amount state small at_first = opening_kept jobs rows amount
 reached_kept jobs rows amount state small (after_step {before} step run leads) =
     step_keeps jobs rows amount before step state small (reached_kept jobs rows amount before small run) leads
 
 -- and what it says of single views
-pub kept_is_stated : (jobs rows : ℕ) (amount : ℕ → ℕ → ℤ) (state : State) → IsKept jobs rows amount state.words state.views → Stated jobs rows amount state
+pub kept_is_stated : (jobs rows : ℕ) (amount : ℕ → ℕ → ℤ) (state : WordState) → AreWordsKept jobs rows amount state.words state.views → Stated jobs rows amount state
 kept_is_stated jobs rows amount state k = record {
   once = λ n. times_in_all n state.views ∙ k.claimed n;
   few_claims = claims_few jobs rows amount state.words state.views k;
@@ -84,7 +84,7 @@ rule_holds jobs rows amount state small run = kept_is_stated jobs rows amount st
 pub close_with_sums : ClosesWithSums
 close_with_sums jobs rows amount before seat after small run s =
     let kept = step_keeps jobs rows amount before (close seat) after small (reached_kept jobs rows amount before small run) s in
-    let at : get_elem? after.views seat ≡ some (Owner s.numbers s.made 0) = subst (λ (t : State). get_elem? t.views seat ≡ some (Owner s.numbers s.made 0)) (sym s.same) s.owner in
+    let at : get_elem? after.views seat ≡ some (Owner s.numbers s.made 0) = subst (λ (t : WordState). get_elem? t.views seat ≡ some (Owner s.numbers s.made 0)) (sym s.same) s.owner in
     let past = s.past in
     let there = times_from_Contains past.0 s.numbers past.1 in
     let claimed = all_claimed jobs rows amount after.words after.views seat s.numbers s.made kept at in

@@ -65,8 +65,8 @@ abbrev pub NothingFrom : ℕ → (ℕ → ℕ → ℤ) → ℕ → ℕ → Type 
 NothingFrom rows amount from job = (row : ℕ) → from ≤ row → row < rows → amount job row ≡ pos 0
 
 -- the list is empty, or its last number, the first one here, is no job's or a complete job's
-abbrev pub IsComplete : ℕ → ℕ → (ℕ → ℕ → ℤ) → ℕ → List ℕ → Type 0
-IsComplete jobs rows amount reached numbers = (n : ℕ) (ns : List ℕ) → numbers ≡ n ∷ ns → n < jobs
+abbrev pub LastIsComplete : ℕ → ℕ → (ℕ → ℕ → ℤ) → ℕ → List ℕ → Type 0
+LastIsComplete jobs rows amount reached numbers = (n : ℕ) (ns : List ℕ) → numbers ≡ n ∷ ns → n < jobs
     → NothingFrom rows amount reached n
 
 -- the amount is the last job's at the row, and those of the rows since the one that is reached are 0

@@ -9,8 +9,8 @@ use Rattle.def_history.specs.Laws.{IsAtEnd}
 use Rattle.def_words.specs.declared.view.View.{View}
 use Rattle.def_words.specs.declared.view.View.TheVariants.{Owner, Worker, Spent}
 use Rattle.def_words.specs.Amounts.{AreSmall}
-use Rattle.def_words.specs.Rule.{IsKept}
-use Rattle.def_words.specs.Steps.{State, Step, claim, add, split, join, close, Closes, OneStepLeads, IsReached}
+use Rattle.def_words.specs.Rule.{AreWordsKept}
+use Rattle.def_words.specs.Steps.{WordState, WordStep, claim, add, split, join, close, Closes, OneStepLeads, AreWordsReached}
 
 abbrev pub is_some_amount : ℤ → Bool
 is_some_amount (pos zero) = false
@@ -27,7 +27,7 @@ abbrev pub unclaimed : ℕ → ℕ → List ℕ
 unclaimed jobs word = range_with_len word (jobs - word)
 
 -- past the end there is no seat
-abbrev pub view_at : State → ℕ → View
+abbrev pub view_at : WordState → ℕ → View
 view_at state seat = slice_index_or state.views seat Spent
 
 -- a view's last number
@@ -49,7 +49,7 @@ module _ (jobs rows : ℕ) (amount : ℕ → ℕ → ℤ) where
   rights_in Spent = []
 
   -- the core's state is that of the words and the views
-  pub record Shows (state : State) (core : CoreState) : Type 0 where
+  pub record Shows (state : WordState) (core : CoreState) : Type 0 where
     pub bag : core.bag ≡ unclaimed jobs (slice_index state.words 0)
     pub passes : (seat : ℕ) → rights_of_pass core seat ≡ rights_in (view_at state seat)
     pub stripes : stripe_count core ≡ 1
@@ -57,7 +57,7 @@ module _ (jobs rows : ℕ) (amount : ℕ → ℕ → ℤ) where
 
   -- a claim that answers a job draws it; where the job has no amount, it joins the history at once, and else with the
   -- last addition of an amount that isn't 0; no other step is one of the core
-  abbrev pub core_steps : State → Step → List CoreStep
+  abbrev pub core_steps : WordState → WordStep → List CoreStep
   core_steps before (claim seat) =
       let n = slice_index before.words 0 in
       if nat_lt n jobs
@@ -72,20 +72,20 @@ module _ (jobs rows : ℕ) (amount : ℕ → ℕ → ℤ) where
 
 -- each step on the words leads the core by these steps to the state that shows after it
 abbrev pub StepsAreCoreSteps : Type 0
-StepsAreCoreSteps = (jobs rows : ℕ) (amount : ℕ → ℕ → ℤ) (before : State) (step : Step) (after : State) (core : CoreState)
-    → AreSmall jobs rows amount → IsKept jobs rows amount before.words before.views
+StepsAreCoreSteps = (jobs rows : ℕ) (amount : ℕ → ℕ → ℤ) (before : WordState) (step : WordStep) (after : WordState) (core : CoreState)
+    → AreSmall jobs rows amount → AreWordsKept jobs rows amount before.words before.views
     → OneStepLeads jobs rows amount before step after
     → Shows jobs rows amount before core → length after.views ≤ length core.passes
     → (next : CoreState) × StepsLead core (core_steps jobs rows amount before step) next × Shows jobs rows amount after next
 
 -- so whatever steps were taken on the words, steps of the core lead from an opening to the state that shows
 abbrev pub RunsAreCoreRuns : Type 0
-RunsAreCoreRuns = (jobs rows : ℕ) (amount : ℕ → ℕ → ℤ) (state : State) → AreSmall jobs rows amount
-    → IsReached jobs rows amount state
+RunsAreCoreRuns = (jobs rows : ℕ) (amount : ℕ → ℕ → ℤ) (state : WordState) → AreSmall jobs rows amount
+    → AreWordsReached jobs rows amount state
     → (core : CoreState) × IsReachedInCore jobs core × Shows jobs rows amount state core
 
 -- and where the owner can close, the core is at its end
 abbrev pub ClosesAtTheEnd : Type 0
-ClosesAtTheEnd = (jobs rows : ℕ) (amount : ℕ → ℕ → ℤ) (before : State) (seat : ℕ) (after : State) (core : CoreState)
-    → AreSmall jobs rows amount → IsReached jobs rows amount before → Closes jobs rows amount before seat after
+ClosesAtTheEnd = (jobs rows : ℕ) (amount : ℕ → ℕ → ℤ) (before : WordState) (seat : ℕ) (after : WordState) (core : CoreState)
+    → AreSmall jobs rows amount → AreWordsReached jobs rows amount before → Closes jobs rows amount before seat after
     → Shows jobs rows amount after core → IsAtEnd core

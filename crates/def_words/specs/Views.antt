@@ -44,5 +44,5 @@ first_view = Owner [] 0 0
 abbrev pub new_worker : View
 new_worker = Worker [] 0
 
-abbrev pub spent : View
-spent = Spent
+abbrev pub spent_view : View
+spent_view = Spent

@@ -7,15 +7,15 @@ use Rattle.atomic_table.proofs.Lists.{at_set}
 use Rattle.def_sums.specs.Limits.{most_workers}
 use Rattle.def_words.specs.declared.view.View.{View}
 use Rattle.def_words.specs.declared.view.View.TheVariants.{Owner, Worker, Spent}
-use Rattle.def_words.specs.Amounts.{side_of, word_at, AreSmall, IsComplete}
-use Rattle.def_words.specs.Rule.{IsKept}
+use Rattle.def_words.specs.Amounts.{side_of, word_at, AreSmall, LastIsComplete}
+use Rattle.def_words.specs.Rule.{AreWordsKept}
 use Rattle.def_words.proofs.Moves.{claims_kept, adds_kept, splits_kept, joins_kept}
 
 abbrev pub rule : ℕ → ℕ → (ℕ → ℕ → ℤ) → State (Unit {0}) View → Type 0
-rule jobs rows amount s = IsKept jobs rows amount s.words s.views
+rule jobs rows amount s = AreWordsKept jobs rows amount s.words s.views
 
 pub claims : (jobs rows : ℕ) (amount : ℕ → ℕ → ℤ) (slots id : ℕ) (numbers : List ℕ) (reached : ℕ)
-    → AreSmall jobs rows amount → All (λ n. n < jobs) numbers → IsComplete jobs rows amount reached numbers
+    → AreSmall jobs rows amount → All (λ n. n < jobs) numbers → LastIsComplete jobs rows amount reached numbers
     → Allows (rule jobs rows amount) slots id (Worker numbers reached, []) 0 (λ x. (x + 1) % 18446744073709551616) (λ found now. now ≡ (Worker (found ∷ numbers) 0, []))
 claims jobs rows amount slots id numbers reached small below complete s k homes at fits =
     (Worker (slice_index s.words 0 ∷ numbers) 0, keeps, tt, claims_kept jobs rows amount s.words s.views id numbers reached small below complete k at, refl)
@@ -30,7 +30,7 @@ pub splits : (jobs rows : ℕ) (amount : ℕ → ℕ → ℤ) (id : ℕ) (number
     → Splits (rule jobs rows amount) id (Owner numbers made unjoined) (Owner numbers (made + 1) (unjoined + 1)) (Worker [] 0)
 splits jobs rows amount id numbers made unjoined few s k at = splits_kept jobs rows amount s.words s.views id numbers made unjoined few k at
 
-pub joins : (jobs rows : ℕ) (amount : ℕ → ℕ → ℤ) (id : ℕ) (numbers : List ℕ) (made unjoined : ℕ) (other : ℕ) (ns : List ℕ) (reached : ℕ) → IsComplete jobs rows amount reached ns
+pub joins : (jobs rows : ℕ) (amount : ℕ → ℕ → ℤ) (id : ℕ) (numbers : List ℕ) (made unjoined : ℕ) (other : ℕ) (ns : List ℕ) (reached : ℕ) → LastIsComplete jobs rows amount reached ns
     → Joins (rule jobs rows amount) id (Owner numbers made unjoined) other (Worker ns reached) (Owner (ns ++ numbers) made (unjoined - 1)) Spent
 joins jobs rows amount id numbers made unjoined other ns reached complete s k at apart there =
     let b : View = Owner (ns ++ numbers) made (unjoined - 1) in

@@ -25,5 +25,5 @@ abbrev pub with_worker : View → View
 with_worker v = Owner (numbers_of v) (made_of v + 1) (unjoined_of v + 1)
 
 -- the owner's view with a worker's joined in
-abbrev pub joined : View → View → View
-joined v w = Owner (numbers_of w ++ numbers_of v) (made_of v) (unjoined_of v - 1)
+abbrev pub joined_views : View → View → View
+joined_views v w = Owner (numbers_of w ++ numbers_of v) (made_of v) (unjoined_of v - 1)

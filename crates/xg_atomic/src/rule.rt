@@ -9,10 +9,10 @@ use xg_rowcore::RowName;
 pub struct WordRule<N: RowName>(PhantomData<N>);
 
 impl<N: RowName> TableRule<(), View, ()> for WordRule<N> {
-    ghost use Rattle.def_words.specs.Rule.{IsKept};
+    ghost use Rattle.def_words.specs.Rule.{AreWordsKept};
     ghost use Rattle.def_words.specs.Views.{first_view};
 
-    ghost holds = { λ _ s. IsKept N.jobs N.rows N.amount s.words s.views };
+    ghost holds = { λ _ s. AreWordsKept N.jobs N.rows N.amount s.words s.views };
 
     ghost first = { λ _. first_view };
 }
@@ -54,10 +54,10 @@ impl Split<View> for Splits {
 pub(crate) struct Joins;
 
 impl Join<View> for Joins {
-    ghost use Rattle.def_words.specs.Views.{spent};
-    ghost use Rattle.xg_atomic.specs.Seats.{joined};
+    ghost use Rattle.def_words.specs.Views.{spent_view};
+    ghost use Rattle.xg_atomic.specs.Seats.{joined_views};
 
-    ghost both = { joined };
+    ghost both = { joined_views };
 
-    ghost spent = { spent };
+    ghost spent = { spent_view };
 }

@@ -5,8 +5,8 @@ ghost use Rattle.std.specs.Mem.Slots.{slots_items, slots_len, IsFull};
 ghost use Rattle.def_sums.specs.Limits.{most_workers};
 ghost use Rattle.def_history.specs.History.{sum_over_jobs};
 ghost use Rattle.def_words.specs.Views.{first_view, made_of, new_worker, numbers_of, reached_of, unjoined_of};
-ghost use Rattle.def_words.specs.Amounts.{AreSmall, IsComplete, IsNext, past_sizes, side_of, word_at, positive, negative};
-ghost use Rattle.xg_atomic.specs.Seats.{IsOwner, IsWorker, claimed, joined, with_row, with_worker};
+ghost use Rattle.def_words.specs.Amounts.{AreSmall, LastIsComplete, IsNext, past_sizes, side_of, word_at, positive, negative};
+ghost use Rattle.xg_atomic.specs.Seats.{IsOwner, IsWorker, claimed, joined_views, with_row, with_worker};
 
 use crate::rule::{Adds, Claims, Joins, Splits, WordRule};
 use atomic_table::{Closed, Seat, Shared, Table};
@@ -41,7 +41,7 @@ pub fn claim<N: RowName>(table: &SharedWords<N>, seat: &mut WordSeat) -> u64
     requires small { AreSmall N.jobs N.rows N.amount }
     requires worker { IsWorker seat.old.me }
     requires below { All (λ n. n < N.jobs) (numbers_of seat.old.me.0) }
-    requires complete { IsComplete N.jobs N.rows N.amount (reached_of seat.old.me.0) (numbers_of seat.old.me.0) }
+    requires complete { LastIsComplete N.jobs N.rows N.amount (reached_of seat.old.me.0) (numbers_of seat.old.me.0) }
     ensures same { seat.new.table_id ≡ seat.old.table_id }
     ensures view { seat.new.me ≡ (claimed result seat.old.me.0, []) }
 {
@@ -100,9 +100,9 @@ pub fn join<N: RowName>(table: &SharedWords<N>, seat: &mut WordSeat, other: Word
         × (0 < table.now.table_id.words) }
     requires owner { IsOwner seat.old.me }
     requires worker { IsWorker other.me }
-    requires complete { IsComplete N.jobs N.rows N.amount (reached_of other.me.0) (numbers_of other.me.0) }
+    requires complete { LastIsComplete N.jobs N.rows N.amount (reached_of other.me.0) (numbers_of other.me.0) }
     ensures same { seat.new.table_id ≡ seat.old.table_id }
-    ensures owner { seat.new.me ≡ (joined seat.old.me.0 other.me.0, []) }
+    ensures owner { seat.new.me ≡ (joined_views seat.old.me.0 other.me.0, []) }
 {
     table.join_seat::<Joins>(seat, other);
 }

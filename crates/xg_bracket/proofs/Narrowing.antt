@@ -7,10 +7,10 @@ use Rattle.def_reply.specs.Bracket.{LiesWithinBy}
 use Rattle.def_reply.specs.declared.TraceLine.{TraceLine}
 use Rattle.def_reply.specs.Offers.{KeptEnd, keep_lower, keep_upper, most_divisor}
 use Rattle.def_plus.specs.declared.Variant.{Variant}
-use Rattle.def_plus.specs.Variants.{weight_of}
+use Rattle.def_plus.specs.Variants.{weight_of_rounds}
 use Rattle.def_reply.proofs.Compares.{at_most-trans, int_lt_tells, less_at_most}
 use Rattle.xg_bracket.specs.Board.{KeepsBoard}
-use Rattle.xg_bracket.specs.Ends.{IsWeighed, end_after, kept_of, line_with}
+use Rattle.xg_bracket.specs.Ends.{IsDividedByWeight, end_after, kept_of, line_with}
 use Rattle.xg_bracket.specs.declared.end.BestEnd.{BestEnd}
 
 picked : {A : Type 0} (P : A → Type 0) (b : Bool) (x y : A) → P x → P y → P (cond b x y)
@@ -64,17 +64,17 @@ upper_falls (suc n) kept next some =
 
 -- ends that are no worse lie within the same lines
 narrower : (variant : Variant) (line : TraceLine) (lower upper lower' upper' : BestEnd) (round : ℕ)
-    → IsWeighed variant lower → IsWeighed variant upper → IsWeighed variant lower' → IsWeighed variant upper'
+    → IsDividedByWeight variant lower → IsDividedByWeight variant upper → IsDividedByWeight variant lower' → IsDividedByWeight variant upper'
     → Rises (kept_of lower) (kept_of lower') → Falls (kept_of upper) (kept_of upper')
-    → LiesWithinBy (weight_of variant) (line_with 0 lower upper) line
-    → LiesWithinBy (weight_of variant) (line_with round lower' upper') line
+    → LiesWithinBy (weight_of_rounds variant) (line_with 0 lower upper) line
+    → LiesWithinBy (weight_of_rounds variant) (line_with round lower' upper') line
 narrower variant line lower upper lower' upper' round of_lower of_upper of_lower' of_upper' rises falls w =
     let low : ℤ = lower.reply.reply.total in
     let low' : ℤ = lower'.reply.reply.total in
     let high : ℤ = upper.reply.reply.total in
     let high' : ℤ = upper'.reply.reply.total in
-    let m : ℕ = weight_of variant line.low_round in
-    let n : ℕ = weight_of variant line.high_round in
+    let m : ℕ = weight_of_rounds variant line.low_round in
+    let n : ℕ = weight_of_rounds variant line.high_round in
     let not_lower = subst (λ k. (line.low *ℤ pos k) ≤ℤ (low *ℤ pos m)) (sym of_lower.divisor) w.not_lower in
     let not_higher = subst (λ k. (high *ℤ pos n) ≤ℤ (line.high *ℤ pos k)) (sym of_upper.divisor) w.not_higher in
     record {
@@ -97,7 +97,7 @@ last_is lines all line last first second =
 -- a divisor, which is what the rounds up to the end's weigh, and a bound, within the limits
 pub record IsBounded (variant : Variant) (end : KeptEnd) : Type 0 where
   pub some : 1 ≤ end.divisor
-  pub weighed : end.divisor ≡ weight_of variant end.round
+  pub weighed : end.divisor ≡ weight_of_rounds variant end.round
   pub divisor : end.divisor ≤ most_divisor
   pub small : unsigned_abs end.reply.total ≤ 2 ^ 98
 
@@ -110,7 +110,7 @@ module _ (variant : Variant) (lines : List TraceLine) (room capacity : ℕ) (low
     (of_lower : IsBounded variant next_lower) (of_upper : IsBounded variant next_upper) where
   old_lower : 1 ≤ offers → IsBounded variant (kept_of lower)
   old_lower some =
-      let weighed : IsWeighed variant lower = b.lower_weighed (omega arith) in
+      let weighed : IsDividedByWeight variant lower = b.lower_weighed (omega arith) in
       record {
         some = weighed.some;
         weighed = weighed.divisor;
@@ -120,7 +120,7 @@ module _ (variant : Variant) (lines : List TraceLine) (room capacity : ℕ) (low
 
   old_upper : 1 ≤ offers → IsBounded variant (kept_of upper)
   old_upper some =
-      let weighed : IsWeighed variant upper = b.upper_weighed (omega arith) in
+      let weighed : IsDividedByWeight variant upper = b.upper_weighed (omega arith) in
       record {
         some = weighed.some;
         weighed = weighed.divisor;
@@ -138,14 +138,14 @@ module _ (variant : Variant) (lines : List TraceLine) (room capacity : ℕ) (low
       subst (IsBounded variant) (sym high)
       (upper_has (IsBounded variant) (kept_of upper) next_upper offers old_upper of_upper)
 
-  lower_weighed : IsWeighed variant lower'
+  lower_weighed : IsDividedByWeight variant lower'
   lower_weighed = record { some = new_lower.some; divisor = new_lower.weighed }
 
-  upper_weighed : IsWeighed variant upper'
+  upper_weighed : IsDividedByWeight variant upper'
   upper_weighed = record { some = new_upper.some; divisor = new_upper.weighed }
 
   -- the new ends lie within each line
-  pub narrowed : (round : ℕ) → All (λ line. LiesWithinBy (weight_of variant) (line_with round lower' upper') line) lines
+  pub narrowed : (round : ℕ) → All (λ line. LiesWithinBy (weight_of_rounds variant) (line_with round lower' upper') line) lines
   narrowed round k d there =
       let some : 1 ≤ length lines = omega arith in
       let rises : Rises (kept_of lower) (kept_of lower') =
@@ -163,17 +163,17 @@ module _ (variant : Variant) (lines : List TraceLine) (room capacity : ℕ) (low
         let line : TraceLine = line_with round lower' upper' in
         omega (arith, ap length appended, length-append lines (line ∷ []))
 
-    itself : LiesWithinBy (weight_of variant) (line_with 0 lower' upper') (line_with round lower' upper')
+    itself : LiesWithinBy (weight_of_rounds variant) (line_with 0 lower' upper') (line_with round lower' upper')
     itself = record {
-      not_lower = ≤ℤ_refl (lower'.reply.reply.total *ℤ pos (weight_of variant lower'.round));
-      not_higher = ≤ℤ_refl (upper'.reply.reply.total *ℤ pos (weight_of variant upper'.round));
+      not_lower = ≤ℤ_refl (lower'.reply.reply.total *ℤ pos (weight_of_rounds variant lower'.round));
+      not_higher = ≤ℤ_refl (upper'.reply.reply.total *ℤ pos (weight_of_rounds variant upper'.round));
     }
 
     -- with the new line and ends the board is kept, where each end's reply has as many sets as the end
     pub keeps_more : length lower'.reply.reply.sets ≡ lower'.sets → length upper'.reply.reply.sets ≡ upper'.sets
         → KeepsBoard variant lines' room' capacity lower' upper'
     keeps_more lower_sets upper_sets =
-        let W : TraceLine → Type 0 = λ line. LiesWithinBy (weight_of variant) (line_with 0 lower' upper') line in
+        let W : TraceLine → Type 0 = λ line. LiesWithinBy (weight_of_rounds variant) (line_with 0 lower' upper') line in
         record {
           within = omega (arith, one_more);
           reserved = omega (arith, b.reserved);

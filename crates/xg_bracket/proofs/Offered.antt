@@ -9,7 +9,7 @@ use Rattle.def_reply.specs.Reply.{Reply, best_reply_to, replies_at}
 use Rattle.def_reply.proofs.ReplySizes.{bounds_small}
 use Rattle.def_reply.specs.Offers.{Offer, most_divisor}
 use Rattle.def_plus.specs.declared.Variant.{Variant}
-use Rattle.def_plus.specs.Variants.{weight_of}
+use Rattle.def_plus.specs.Variants.{weight_of_rounds}
 use Rattle.xg_bracket.specs.Board.{FormSizes, MayBeOffered, SizedBoard}
 use Rattle.xg_bracket.specs.Ends.{CanKeep, IsEnd, kept_end}
 use Rattle.xg_bracket.proofs.Narrowing.{IsBounded}
@@ -28,7 +28,7 @@ length-best form player plan =
     length-replies player (leaf_sum player form.leaves plan) hs ∙ length-placed 1 (player_sets form player)
 
 module _ (variant : Variant) (board : SizedBoard) (offer : Offer) (divisor : ℕ) (is : divisor ≡ offer.divisor)
-    (weighed : divisor ≡ weight_of variant offer.round) (m : MayBeOffered board offer) where
+    (weighed : divisor ≡ weight_of_rounds variant offer.round) (m : MayBeOffered board offer) where
   abbrev root : ℕ
   root = offer.divisor * m.fair.scale
 

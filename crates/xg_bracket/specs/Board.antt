@@ -8,9 +8,9 @@ use Rattle.def_reply.specs.Bracket.{LiesWithinBy}
 use Rattle.def_reply.specs.declared.TraceLine.{TraceLine}
 use Rattle.def_reply.specs.Offers.{Board, IsFair, Offer}
 use Rattle.def_plus.specs.declared.Variant.{Variant}
-use Rattle.def_plus.specs.Variants.{weight_of}
+use Rattle.def_plus.specs.Variants.{weight_of_rounds}
 use Rattle.xg_bracket.specs.declared.end.BestEnd.{BestEnd}
-use Rattle.xg_bracket.specs.Ends.{IsEnd, IsWeighed, end_after, kept_of, line_with}
+use Rattle.xg_bracket.specs.Ends.{IsEnd, IsDividedByWeight, end_after, kept_of, line_with}
 
 -- how many sequences and sets each player has
 pub record FormSizes : Type 0 where
@@ -44,7 +44,7 @@ last_round (line ∷ next ∷ lines) = last_round (next ∷ lines)
 abbrev pub offer_of : Variant → ℕ → List ℕ → List ℕ → Reply → Reply → Offer
 offer_of variant round one two against_one against_two = record {
   round = round;
-  divisor = weight_of variant round;
+  divisor = weight_of_rounds variant round;
   plan_one = one;
   plan_two = two;
   against_one = against_one;
@@ -84,6 +84,6 @@ pub record KeepsBoard (variant : Variant) (lines : List TraceLine) (room capacit
   pub reserved : capacity ≤ room
   pub lower_end : IsEnd lower
   pub upper_end : IsEnd upper
-  pub lower_weighed : 1 ≤ length lines → IsWeighed variant lower
-  pub upper_weighed : 1 ≤ length lines → IsWeighed variant upper
-  pub narrows : All (λ line. LiesWithinBy (weight_of variant) (line_with 0 lower upper) line) lines
+  pub lower_weighed : 1 ≤ length lines → IsDividedByWeight variant lower
+  pub upper_weighed : 1 ≤ length lines → IsDividedByWeight variant upper
+  pub narrows : All (λ line. LiesWithinBy (weight_of_rounds variant) (line_with 0 lower upper) line) lines

@@ -8,7 +8,7 @@ use Rattle.def_reply.specs.Reply.{Reply}
 use Rattle.def_reply.specs.declared.TraceLine.{TraceLine}
 use Rattle.def_reply.specs.Offers.{KeptEnd, most_divisor}
 use Rattle.def_plus.specs.declared.Variant.{Variant}
-use Rattle.def_plus.specs.Variants.{weight_of}
+use Rattle.def_plus.specs.Variants.{weight_of_rounds}
 use Rattle.xg_bracket.specs.declared.end.BestEnd.{BestEnd}
 
 abbrev pub kept_end : ℕ → ℕ → List ℕ → Reply → KeptEnd
@@ -47,9 +47,9 @@ pub record IsEnd (end : BestEnd) : Type 0 where
   pub small : unsigned_abs end.reply.reply.total ≤ most_row
 
 -- an end is divided by what the rounds up to its own weigh
-pub record IsWeighed (variant : Variant) (end : BestEnd) : Type 0 where
+pub record IsDividedByWeight (variant : Variant) (end : BestEnd) : Type 0 where
   pub some : 1 ≤ end.divisor
-  pub divisor : end.divisor ≡ weight_of variant end.round
+  pub divisor : end.divisor ≡ weight_of_rounds variant end.round
 
 -- a plan and a reply that the end has room for, within the limits
 pub record CanKeep (end : BestEnd) (divisor : ℕ) (plan : List ℕ) (reply : Reply) : Type 0 where

@@ -3,7 +3,7 @@ ghost use Rattle.std.specs.Prelude.{◌≡◌, ◌<◌, ◌≤◌, ◌++◌, ◌
 ghost use Rattle.std.specs.Prelude.{length, vec_capacity, vec_len};
 ghost use Rattle.std.specs.Option.{option_map};
 ghost use Rattle.def_plus.specs.declared.Variant.TheVariants.{Plain};
-ghost use Rattle.def_plus.specs.Variants.{weight_of};
+ghost use Rattle.def_plus.specs.Variants.{weight_of_rounds};
 ghost use Rattle.def_reply.specs.Bracket.{LiesWithinBy};
 ghost use Rattle.def_reply.specs.declared.TraceLine.{TraceLine};
 ghost use Rattle.def_reply.specs.Offers.{new_board, offered};
@@ -95,7 +95,7 @@ impl Board {
 
         // The bracket never widens.
         ensures within { (line : TraceLine) → self.new.board.trace ≡ self.old.board.trace ++ line ∷ []
-            → All (λ earlier. LiesWithinBy (weight_of self.old.variant) line earlier) self.old.board.trace }
+            → All (λ earlier. LiesWithinBy (weight_of_rounds self.old.variant) line earlier) self.old.board.trace }
     {
         let offers = self.trace.len();
         let divisor = weight(self.variant, round);

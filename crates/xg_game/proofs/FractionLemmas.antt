@@ -8,7 +8,7 @@ use Rattle.def_fraction.specs.Fraction.{Fraction, zero_fraction}
 use Rattle.def_file.specs.Content.{Action, SetEntry, OutcomeEntry}
 use Rattle.def_file.specs.Game.{IsSmallFraction, chances_of}
 use Rattle.xg_game.specs.Actions.{actions_of, actions_in}
-use Rattle.xg_game.specs.Outcomes.{HaveSmallPayoffs, outcome_of}
+use Rattle.xg_game.specs.Outcomes.{HaveSmallPayoffs, outcome_entry_of}
 use Rattle.xg_game.specs.Sets.{set_of}
 use Rattle.xg_game.proofs.TableLemmas.{KnownOutcome, KnownSet, outcome_added}
 
@@ -33,41 +33,41 @@ sets_small actions sets h =
 
 -- outcomes with one more, or none more
 pub paid_put : {T E : Type 0} (r : Result T E) (es new : List (ℕ × KnownOutcome)) (e : ℕ × KnownOutcome)
-    → HaveSmallPayoffs (map outcome_of es) → IsSmallFraction e.1.value.one → IsSmallFraction e.1.value.two
+    → HaveSmallPayoffs (map outcome_entry_of es) → IsSmallFraction e.1.value.one → IsSmallFraction e.1.value.two
     → OnOk r (new ≡ es ++ e ∷ []) → OnErr r (new ≡ es)
-    → HaveSmallPayoffs (map outcome_of new)
+    → HaveSmallPayoffs (map outcome_entry_of new)
 paid_put (Ok x) es new e small one two ok err =
-    subst HaveSmallPayoffs (sym (ap (map outcome_of) ok ∙ outcome_added es e)) (record {
-      one = All-push (λ (o : OutcomeEntry). IsSmallFraction o.one) (map outcome_of es) (outcome_of e) small.one one;
-      two = All-push (λ (o : OutcomeEntry). IsSmallFraction o.two) (map outcome_of es) (outcome_of e) small.two two;
+    subst HaveSmallPayoffs (sym (ap (map outcome_entry_of) ok ∙ outcome_added es e)) (record {
+      one = All-push (λ (o : OutcomeEntry). IsSmallFraction o.one) (map outcome_entry_of es) (outcome_entry_of e) small.one one;
+      two = All-push (λ (o : OutcomeEntry). IsSmallFraction o.two) (map outcome_entry_of es) (outcome_entry_of e) small.two two;
     })
-paid_put (Err x) es new e small one two ok err = subst (λ (xs : List (ℕ × KnownOutcome)). HaveSmallPayoffs (map outcome_of xs)) (sym err) small
+paid_put (Err x) es new e small one two ok err = subst (λ (xs : List (ℕ × KnownOutcome)). HaveSmallPayoffs (map outcome_entry_of xs)) (sym err) small
 
 paid_named : (es : List (ℕ × KnownOutcome)) (i : ℕ) (e : ℕ × KnownOutcome) (name : Option (List ℕ))
-    → slice_get es i ≡ Some e → HaveSmallPayoffs (map outcome_of es)
-    → HaveSmallPayoffs (map outcome_of (set es i (e.0, record e.1 { name = name })))
+    → slice_get es i ≡ Some e → HaveSmallPayoffs (map outcome_entry_of es)
+    → HaveSmallPayoffs (map outcome_entry_of (set es i (e.0, record e.1 { name = name })))
 paid_named [] i e name at small = cc
 paid_named (x ∷ es) zero e name at small =
     let same : x ≡ e = cc in
-    subst (λ (y : ℕ × KnownOutcome). HaveSmallPayoffs (map outcome_of ((y.0, record y.1 { name = name }) ∷ es))) same (record {
-      one = All-cons (λ (o : OutcomeEntry). IsSmallFraction o.one) (outcome_of (x.0, record x.1 { name = name })) (map outcome_of es) (All-head (λ (o : OutcomeEntry). IsSmallFraction o.one) (outcome_of x) (map outcome_of es) small.one) (All-tail (λ (o : OutcomeEntry). IsSmallFraction o.one) (outcome_of x) (map outcome_of es) small.one);
-      two = All-cons (λ (o : OutcomeEntry). IsSmallFraction o.two) (outcome_of (x.0, record x.1 { name = name })) (map outcome_of es) (All-head (λ (o : OutcomeEntry). IsSmallFraction o.two) (outcome_of x) (map outcome_of es) small.two) (All-tail (λ (o : OutcomeEntry). IsSmallFraction o.two) (outcome_of x) (map outcome_of es) small.two);
+    subst (λ (y : ℕ × KnownOutcome). HaveSmallPayoffs (map outcome_entry_of ((y.0, record y.1 { name = name }) ∷ es))) same (record {
+      one = All-cons (λ (o : OutcomeEntry). IsSmallFraction o.one) (outcome_entry_of (x.0, record x.1 { name = name })) (map outcome_entry_of es) (All-head (λ (o : OutcomeEntry). IsSmallFraction o.one) (outcome_entry_of x) (map outcome_entry_of es) small.one) (All-tail (λ (o : OutcomeEntry). IsSmallFraction o.one) (outcome_entry_of x) (map outcome_entry_of es) small.one);
+      two = All-cons (λ (o : OutcomeEntry). IsSmallFraction o.two) (outcome_entry_of (x.0, record x.1 { name = name })) (map outcome_entry_of es) (All-head (λ (o : OutcomeEntry). IsSmallFraction o.two) (outcome_entry_of x) (map outcome_entry_of es) small.two) (All-tail (λ (o : OutcomeEntry). IsSmallFraction o.two) (outcome_entry_of x) (map outcome_entry_of es) small.two);
     })
 paid_named (x ∷ es) (suc i) e name at small =
-    let rest : HaveSmallPayoffs (map outcome_of (set es i (e.0, record e.1 { name = name }))) = paid_named es i e name at (record {
-      one = All-tail (λ (o : OutcomeEntry). IsSmallFraction o.one) (outcome_of x) (map outcome_of es) small.one;
-      two = All-tail (λ (o : OutcomeEntry). IsSmallFraction o.two) (outcome_of x) (map outcome_of es) small.two;
+    let rest : HaveSmallPayoffs (map outcome_entry_of (set es i (e.0, record e.1 { name = name }))) = paid_named es i e name at (record {
+      one = All-tail (λ (o : OutcomeEntry). IsSmallFraction o.one) (outcome_entry_of x) (map outcome_entry_of es) small.one;
+      two = All-tail (λ (o : OutcomeEntry). IsSmallFraction o.two) (outcome_entry_of x) (map outcome_entry_of es) small.two;
     }) in
     record {
-      one = All-cons (λ (o : OutcomeEntry). IsSmallFraction o.one) (outcome_of x) (map outcome_of (set es i (e.0, record e.1 { name = name }))) (All-head (λ (o : OutcomeEntry). IsSmallFraction o.one) (outcome_of x) (map outcome_of es) small.one) rest.one;
-      two = All-cons (λ (o : OutcomeEntry). IsSmallFraction o.two) (outcome_of x) (map outcome_of (set es i (e.0, record e.1 { name = name }))) (All-head (λ (o : OutcomeEntry). IsSmallFraction o.two) (outcome_of x) (map outcome_of es) small.two) rest.two;
+      one = All-cons (λ (o : OutcomeEntry). IsSmallFraction o.one) (outcome_entry_of x) (map outcome_entry_of (set es i (e.0, record e.1 { name = name }))) (All-head (λ (o : OutcomeEntry). IsSmallFraction o.one) (outcome_entry_of x) (map outcome_entry_of es) small.one) rest.one;
+      two = All-cons (λ (o : OutcomeEntry). IsSmallFraction o.two) (outcome_entry_of x) (map outcome_entry_of (set es i (e.0, record e.1 { name = name }))) (All-head (λ (o : OutcomeEntry). IsSmallFraction o.two) (outcome_entry_of x) (map outcome_entry_of es) small.two) rest.two;
     }
 
 -- or where one of them gets a name, or would
 pub paid_given : {T E : Type 0} (r : Result T E) (es new : List (ℕ × KnownOutcome)) (i : ℕ) (e : ℕ × KnownOutcome)
     (name : Option (List ℕ))
-    → slice_get es i ≡ Some e → HaveSmallPayoffs (map outcome_of es)
+    → slice_get es i ≡ Some e → HaveSmallPayoffs (map outcome_entry_of es)
     → OnOk r (new ≡ set es i (e.0, record e.1 { name = name })) → OnErr r (new ≡ es)
-    → HaveSmallPayoffs (map outcome_of new)
-paid_given (Ok x) es new i e name at small ok err = subst (λ (xs : List (ℕ × KnownOutcome)). HaveSmallPayoffs (map outcome_of xs)) (sym ok) (paid_named es i e name at small)
-paid_given (Err x) es new i e name at small ok err = subst (λ (xs : List (ℕ × KnownOutcome)). HaveSmallPayoffs (map outcome_of xs)) (sym err) small
+    → HaveSmallPayoffs (map outcome_entry_of new)
+paid_given (Ok x) es new i e name at small ok err = subst (λ (xs : List (ℕ × KnownOutcome)). HaveSmallPayoffs (map outcome_entry_of xs)) (sym ok) (paid_named es i e name at small)
+paid_given (Err x) es new i e name at small ok err = subst (λ (xs : List (ℕ × KnownOutcome)). HaveSmallPayoffs (map outcome_entry_of xs)) (sym err) small

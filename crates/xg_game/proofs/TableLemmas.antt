@@ -10,7 +10,7 @@ use Rattle.def_file.specs.Faults.{no_set, set_at, set_place_of, null_outcome, ou
 use Rattle.def_file.specs.Adding.{kept_name}
 use Rattle.xg_game.specs.Actions.{SpanIsWithin}
 use Rattle.xg_game.specs.Sets.{SpansAreWithin, set_of}
-use Rattle.xg_game.specs.Outcomes.{outcome_of}
+use Rattle.xg_game.specs.Outcomes.{outcome_entry_of}
 use Rattle.xg_game.specs.declared.actions.Span.{Span}
 use Rattle.xg_game.specs.declared.table.Described.{Described}
 use Rattle.xg_game.specs.declared.outcomes.PayoffPair.{PayoffPair}
@@ -173,41 +173,41 @@ KnownOutcome = Described PayoffPair
 
 -- a number stands among a table's keys where its outcome stands among the outcomes
 pub outcome_place : (n : ℕ) (es : List (ℕ × KnownOutcome))
-    → position (nat_eq n) (keys_of es) ≡ outcome_place_of n (map outcome_of es)
-outcome_place = place_seen outcome_of (λ s. s.number) (λ e. refl)
+    → position (nat_eq n) (keys_of es) ≡ outcome_place_of n (map outcome_entry_of es)
+outcome_place = place_seen outcome_entry_of (λ s. s.number) (λ e. refl)
 
 -- the key at a place of a table is the number of the outcome there
 pub outcome_number : (es : List (ℕ × KnownOutcome)) (i k : ℕ) → slice_get (keys_of es) i ≡ Some k
-    → k ≡ (outcome_at (map outcome_of es) i).number
-outcome_number es i k at = number_seen outcome_of (λ s. s.number) (λ e. refl) es i k null_outcome at
+    → k ≡ (outcome_at (map outcome_entry_of es) i).number
+outcome_number es i k at = number_seen outcome_entry_of (λ s. s.number) (λ e. refl) es i k null_outcome at
 
 -- what a table keeps at a place, with the number there, is the outcome there
 pub outcome_value : (es : List (ℕ × KnownOutcome)) (i : ℕ) (kept : KnownOutcome)
     → slice_get (values_of es) i ≡ Some kept
-    → outcome_of ((outcome_at (map outcome_of es) i).number, kept) ≡ outcome_at (map outcome_of es) i
-outcome_value es i kept at = value_seen outcome_of (λ s. s.number) (λ e. refl) es i kept null_outcome at
+    → outcome_entry_of ((outcome_at (map outcome_entry_of es) i).number, kept) ≡ outcome_at (map outcome_entry_of es) i
+outcome_value es i kept at = value_seen outcome_entry_of (λ s. s.number) (λ e. refl) es i kept null_outcome at
 
 -- one more entry in a table is one more outcome behind the others
 pub outcome_added : (es : List (ℕ × KnownOutcome)) (e : ℕ × KnownOutcome)
-    → map outcome_of (es ++ e ∷ []) ≡ map outcome_of es ++ outcome_of e ∷ []
-outcome_added es e = map-append outcome_of es (e ∷ [])
+    → map outcome_entry_of (es ++ e ∷ []) ≡ map outcome_entry_of es ++ outcome_entry_of e ∷ []
+outcome_added es e = map-append outcome_entry_of es (e ∷ [])
 
 -- an outcome with the first name that is given to it
 outcome_named : (es : List (ℕ × KnownOutcome)) (i : ℕ) (e : ℕ × KnownOutcome) (given : Option (List ℕ))
     → slice_get es i ≡ Some e
-    → map outcome_of (set es i (e.0, record e.1 { name = kept_name e.1.name given }))
-    ≡ set (map outcome_of es) i (record (outcome_at (map outcome_of es) i) { name = kept_name (outcome_at (map outcome_of es) i).name given })
+    → map outcome_entry_of (set es i (e.0, record e.1 { name = kept_name e.1.name given }))
+    ≡ set (map outcome_entry_of es) i (record (outcome_at (map outcome_entry_of es) i) { name = kept_name (outcome_at (map outcome_entry_of es) i).name given })
 outcome_named es i e given at =
-    map-set outcome_of es i (e.0, record e.1 { name = kept_name e.1.name given })
-    ∙ ap (λ (s : OutcomeEntry). set (map outcome_of es) i (record s { name = kept_name s.name given })) (sym (seen_at outcome_of es i e null_outcome at))
+    map-set outcome_entry_of es i (e.0, record e.1 { name = kept_name e.1.name given })
+    ∙ ap (λ (s : OutcomeEntry). set (map outcome_entry_of es) i (record s { name = kept_name s.name given })) (sym (seen_at outcome_entry_of es i e null_outcome at))
 
 -- and in place of the outcome there
 pub outcome_renamed : (es new : List (ℕ × KnownOutcome)) (table : List OutcomeEntry) (i : ℕ) (e : ℕ × KnownOutcome)
     (given : Option (List ℕ))
-    → slice_get es i ≡ Some e → map outcome_of es ≡ table
+    → slice_get es i ≡ Some e → map outcome_entry_of es ≡ table
     → new ≡ set es i (e.0, record e.1 { name = kept_name e.1.name given })
-    → map outcome_of new
+    → map outcome_entry_of new
     ≡ set table i (record (outcome_at table i) { name = kept_name (outcome_at table i).name given })
 outcome_renamed es new table i e given at seen put =
-    ap (map outcome_of) put ∙ outcome_named es i e given at
+    ap (map outcome_entry_of) put ∙ outcome_named es i e given at
     ∙ ap (λ (ss : List OutcomeEntry). set ss i (record (outcome_at ss i) { name = kept_name (outcome_at ss i).name given })) seen

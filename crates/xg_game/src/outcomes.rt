@@ -38,11 +38,11 @@ impl Model for OutcomeTable {
 
     ghost Value = { List OutcomeEntry };
 
-    ghost use Rattle.xg_game.specs.Outcomes.{HaveSmallPayoffs, outcome_of};
+    ghost use Rattle.xg_game.specs.Outcomes.{HaveSmallPayoffs, outcome_entry_of};
 
-    ghost view = { λ t. map outcome_of t.outcomes };
+    ghost view = { λ t. map outcome_entry_of t.outcomes };
 
-    ghost invariant = { λ t. HaveSmallPayoffs (map outcome_of t.outcomes) };
+    ghost invariant = { λ t. HaveSmallPayoffs (map outcome_entry_of t.outcomes) };
 }
 
 impl OutcomeTable {

@@ -17,8 +17,8 @@ use Rattle.def_game_scale.proofs.Running.{running}
 use Rattle.def_game_scale.proofs.Units.{unit-positive}
 use Rattle.def_game_scale.proofs.Expected.{expected-lowest, first-lowest}
 use Rattle.def_game_scale.specs.Faults.{GameFault, NotConstantSum, Scale, is_same, leaf_fault, node_fault, number_after, passing}
-use Rattle.xg_scale.specs.Leaf.{judged_leaf, judged_node, known_with, sum_with, unit_with, with_expected}
-use Rattle.xg_scale.specs.Walked.{all_fit, known_sum, numbers_of, sum_of_first}
+use Rattle.xg_scale.specs.Leaf.{judged_leaf, judged_node, known_with, sum_from_first, unit_with, with_expected}
+use Rattle.xg_scale.specs.Walked.{all_fit, known_sum, numbers_on_path, sum_of_first}
 use Rattle.xg_scale.proofs.FoundLemmas.{number_next}
 
 -- the leaves among some nodes and one more node
@@ -117,17 +117,17 @@ module _ (tables : Tables) (lowest : AreFractions tables) (tree : Forest) (game 
 
   -- the sum up to a leaf
   sum_at : is_leaf_kind v.node.kind ≡ true
-      → sum_so_far tables (before ++ v ∷ []) ≡ sum_with known (numbers_of tables v)
+      → sum_so_far tables (before ++ v ∷ []) ≡ sum_from_first known (numbers_on_path tables v)
   sum_at leaf = ap (first_sum tables) (leaves_more before v true leaf) ∙ first_known tables (filter (λ (w : Visit). is_leaf_kind w.node.kind) before) v
 
   -- the unit up to a leaf
   unit_at : is_leaf_kind v.node.kind ≡ true → unit_so_far tables (before ++ v ∷ [])
-      ≡ lcm (expected tables v).den (lcm (sum_with known (numbers_of tables v)).den unit)
+      ≡ lcm (expected tables v).den (lcm (sum_from_first known (numbers_on_path tables v)).den unit)
   unit_at leaf =
       ((running tables lowest).grow 0 before v).leaf_unit leaf ∙ ap (λ (f : Fraction). lcm (expected tables v).den (lcm f.den unit)) (sum_at leaf)
 
   leaf_judged : is_leaf_kind v.node.kind ≡ true
-      → leaf_fault tables before v ≡ judged_leaf (n + 1) known unit (numbers_of tables v)
+      → leaf_fault tables before v ≡ judged_leaf (n + 1) known unit (numbers_on_path tables v)
   leaf_judged leaf =
       λ i. passing (fits (paid_together tables v)) (Scale (number i))
       (passing (is_same (paid_together tables v) (sum_at leaf i)) (NotConstantSum (number i))
@@ -135,41 +135,41 @@ module _ (tables : Tables) (lowest : AreFractions tables) (tree : Forest) (game 
       (passing (nat_le (unit_at leaf i) most) (Scale (number i)) None)))
 
   -- what a walk looks for, by the numbers of the path
-  pub node_judged : node_fault tables before v ≡ cond (all_fit (numbers_of tables v))
-      (judged_node (n + 1) x known unit (numbers_of tables v)) (Some (Scale (n + 1)))
+  pub node_judged : node_fault tables before v ≡ cond (all_fit (numbers_on_path tables v))
+      (judged_node (n + 1) x known unit (numbers_on_path tables v)) (Some (Scale (n + 1)))
   node_judged =
       all_passing (fits (reach tables v.path)) (fits (payoff_one tables v)) (fits (payoff_two tables v)) (Scale (number_after before)) (cond (is_leaf_kind v.node.kind) (leaf_fault tables before v) None)
-      ∙ (λ i. cond (all_fit (numbers_of tables v)) (judged i) (Some (Scale (number i))))
+      ∙ (λ i. cond (all_fit (numbers_on_path tables v)) (judged i) (Some (Scale (number i))))
     where
       judged : cond (is_leaf_kind v.node.kind)
-          (leaf_fault tables before v) None ≡ judged_node (n + 1) x known unit (numbers_of tables v)
+          (leaf_fault tables before v) None ≡ judged_node (n + 1) x known unit (numbers_on_path tables v)
       judged = by (is_leaf_kind x.kind) refl
         where
           by : (b : Bool) → is_leaf_kind x.kind ≡ b
               → cond (is_leaf_kind v.node.kind) (leaf_fault tables before v) None
-              ≡ cond (is_leaf_kind x.kind) (judged_leaf (n + 1) known unit (numbers_of tables v)) None
-          by true leaf = ap (λ b. cond b (leaf_fault tables before v) None) (is_leaf ∙ leaf) ∙ leaf_judged (is_leaf ∙ leaf) ∙ sym (ap (λ b. cond b (judged_leaf (n + 1) known unit (numbers_of tables v)) None) leaf)
-          by false inner = ap (λ b. cond b (leaf_fault tables before v) None) (is_leaf ∙ inner) ∙ sym (ap (λ b. cond b (judged_leaf (n + 1) known unit (numbers_of tables v)) None) inner)
+              ≡ cond (is_leaf_kind x.kind) (judged_leaf (n + 1) known unit (numbers_on_path tables v)) None
+          by true leaf = ap (λ b. cond b (leaf_fault tables before v) None) (is_leaf ∙ leaf) ∙ leaf_judged (is_leaf ∙ leaf) ∙ sym (ap (λ b. cond b (judged_leaf (n + 1) known unit (numbers_on_path tables v)) None) leaf)
+          by false inner = ap (λ b. cond b (leaf_fault tables before v) None) (is_leaf ∙ inner) ∙ sym (ap (λ b. cond b (judged_leaf (n + 1) known unit (numbers_on_path tables v)) None) inner)
 
   -- the sum that is known with one more node
-  pub known_more : known_sum tables (take (n + 1) (visits tree)) ≡ known_with x known (numbers_of tables v)
+  pub known_more : known_sum tables (take (n + 1) (visits tree)) ≡ known_with x known (numbers_on_path tables v)
   known_more = ap (known_sum tables) next.taken ∙ by (is_leaf_kind x.kind) refl
     where
       by : (b : Bool) → is_leaf_kind x.kind ≡ b
-          → known_sum tables (before ++ v ∷ []) ≡ cond (is_leaf_kind x.kind) (Some (sum_with known (numbers_of tables v))) known
+          → known_sum tables (before ++ v ∷ []) ≡ cond (is_leaf_kind x.kind) (Some (sum_from_first known (numbers_on_path tables v))) known
       by true leaf =
           ap (sum_of_first tables) (leaves_more before v true (is_leaf ∙ leaf)) ∙ known_first tables (filter (λ (w : Visit). is_leaf_kind w.node.kind) before) v
-          ∙ sym (ap (λ b. cond b (Some (sum_with known (numbers_of tables v))) known) leaf)
+          ∙ sym (ap (λ b. cond b (Some (sum_from_first known (numbers_on_path tables v))) known) leaf)
       by false inner =
           ap (sum_of_first tables) (leaves_more before v false (is_leaf ∙ inner) ∙ append-nil (filter (λ (w : Visit). is_leaf_kind w.node.kind) before))
-          ∙ sym (ap (λ b. cond b (Some (sum_with known (numbers_of tables v))) known) inner)
+          ∙ sym (ap (λ b. cond b (Some (sum_from_first known (numbers_on_path tables v))) known) inner)
 
   -- the unit with one more node
-  pub unit_more : unit_so_far tables (take (n + 1) (visits tree)) ≡ unit_with x known unit (numbers_of tables v)
+  pub unit_more : unit_so_far tables (take (n + 1) (visits tree)) ≡ unit_with x known unit (numbers_on_path tables v)
   unit_more = ap (unit_so_far tables) next.taken ∙ by (is_leaf_kind x.kind) refl
     where
       with_leaf : ℕ
-      with_leaf = lcm (expected tables v).den (lcm (sum_with known (numbers_of tables v)).den unit)
+      with_leaf = lcm (expected tables v).den (lcm (sum_from_first known (numbers_on_path tables v)).den unit)
 
       by : (b : Bool) → is_leaf_kind x.kind ≡ b
           → unit_so_far tables (before ++ v ∷ []) ≡ cond (is_leaf_kind x.kind) with_leaf unit
@@ -178,5 +178,5 @@ module _ (tables : Tables) (lowest : AreFractions tables) (tree : Forest) (game 
 
   -- what one more node is expected to pay
   pub expected_with : expected_at tables (take (n + 1) (visits tree))
-      ≡ expected_at tables before ++ with_expected x (numbers_of tables v)
+      ≡ expected_at tables before ++ with_expected x (numbers_on_path tables v)
   expected_with = ap (expected_at tables) next.taken ∙ expected_more tables before v ∙ ap (λ b. expected_at tables before ++ cond b (expected tables v ∷ []) []) is_leaf

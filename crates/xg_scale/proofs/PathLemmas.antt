@@ -34,7 +34,7 @@ use Rattle.xg_scale.specs.declared.path.NodeOnPath.{NodeOnPath}
 use Rattle.xg_scale.specs.FaultOfFile.{RefusesBy}
 use Rattle.xg_scale.specs.Leaf.{judged_node, known_with, unit_with, with_expected}
 use Rattle.xg_scale.specs.OnPath.{GoesBackTo, HasNodeAround, at_action, chance_set_of, entered_node, empty_path}
-use Rattle.xg_scale.specs.Walked.{Enters, HasEntered, HasLeft, IsBefore, IsExpectedOf, Leaves, MayCome, MayComeNext, MayEnter, MayLeave, Steps, UnlessRefused, all_fit, known_sum, next_fault, numbers_at_next, numbers_below, numbers_of, reach_below}
+use Rattle.xg_scale.specs.Walked.{Enters, HasEntered, HasLeft, IsBefore, IsExpectedOf, Leaves, MayCome, MayComeNext, MayEnter, MayLeave, Steps, UnlessRefused, all_fit, known_sum, next_fault, numbers_at_next, numbers_below, numbers_on_path, reach_below}
 use Rattle.xg_scale.proofs.FoundLemmas.{found_later, found_none, refuses_here}
 use Rattle.xg_scale.proofs.GameLemmas.{goes_with, in_chance_set, tree_rules}
 use Rattle.xg_scale.proofs.JudgeLemmas.{expected_all, expected_with, known_all, known_more, node_judged, unit_all, unit_from_one, unit_more}
@@ -173,7 +173,7 @@ module _ (game : GameFile) (lowest : AreFractions (tables_of game)) (whole : IsW
         subst InTable is.1 (known.from_one, known.there, omega (arith, known.actions, next.children.0))
 
     abbrev child : NodeOnPath
-    child = entered_node x (numbers_of tables here)
+    child = entered_node x (numbers_on_path tables here)
 
     -- the trees below the first node, and those beside it
     below_next : AreNext (n + 1) down 1 below behind child
@@ -212,7 +212,7 @@ module _ (game : GameFile) (lowest : AreFractions (tables_of game)) (whole : IsW
         let last : action + suc (tree_count beside) ≡ length (set_at game.sets.chance (set - 1)).actions + 1 = known.2 in
         (known.0, known.1, next.from_one, omega (arith, last))
 
-    numbers_here : numbers_below tables (at_action parent action) x ≡ numbers_of tables here
+    numbers_here : numbers_below tables (at_action parent action) x ≡ numbers_on_path tables here
     numbers_here = λ i. record {
       reach = sym (next.reach_is action) i;
       one = sum_of (sym (next.one action) i) (payoffs_of tables x.outcome).one;
@@ -221,11 +221,11 @@ module _ (game : GameFile) (lowest : AreFractions (tables_of game)) (whole : IsW
 
     module _ (outer : List NodeOnPath) (walk : PathWalk) (same : walk.game.now ≡ game)
         (on : GoesOn n (at_action parent action) outer walk) where
-      numbers_are : numbers_at_next walk x ≡ numbers_of tables here
+      numbers_are : numbers_at_next walk x ≡ numbers_on_path tables here
       numbers_are = (λ i. numbers_below (tables_of (same i)) (on.innermost_is i) x) ∙ numbers_here
 
-      numbers_at_visit : numbers_at_next walk x ≡ numbers_of tables v
-      numbers_at_visit = numbers_are ∙ ap (numbers_of tables) (sym first)
+      numbers_at_visit : numbers_at_next walk x ≡ numbers_on_path tables v
+      numbers_at_visit = numbers_are ∙ ap (numbers_on_path tables) (sym first)
 
       fault_is : node_fault tables (take n all) v ≡ next_fault walk (n + 1) x
       fault_is =
@@ -315,7 +315,7 @@ module _ (game : GameFile) (lowest : AreFractions (tables_of game)) (whole : IsW
       let last : (w : PathVisitor) → Stands (m + node_count beside) (at_action parent (action + 1 + tree_count beside)) outer w → Runs rest w =
       λ w stands. then w (subst (λ k. Stands k (at_action parent (action + suc (tree_count beside))) outer w) nodes (subst (λ a. Stands (m + node_count beside) (at_action parent a) outer w) actions stands)) in
       let beyond : List Event = events_from (n + 1 + 1 + node_count below) beside ++ rest in
-      let child : NodeOnPath = entered_node x (numbers_of tables (record { path = above action; node = x })) in
+      let child : NodeOnPath = entered_node x (numbers_on_path tables (record { path = above action; node = x })) in
       let left : (w : PathVisitor) → Stands m (at_action parent (action + 1)) outer w → Runs beyond w =
       λ w stands. subst (λ k. Runs (events_from k beside ++ rest) w) number
       (walks beside m above (action + 1) later parent outer (beside_next n above action x below beside later parent next) rest last w stands) in

@@ -15,18 +15,18 @@ abbrev pub paid_by : PathNumbers → Fraction
 paid_by numbers = sum_of numbers.one numbers.two
 
 -- the sum that is known from the first leaf, which is this leaf's where none came before
-abbrev pub sum_with : Option Fraction → PathNumbers → Fraction
-sum_with known numbers = unwrap_or known (paid_by numbers)
+abbrev pub sum_from_first : Option Fraction → PathNumbers → Fraction
+sum_from_first known numbers = unwrap_or known (paid_by numbers)
 
 -- the unit with the denominators of the sum and of what the leaf is expected to pay
 abbrev pub leaf_unit : Option Fraction → ℕ → PathNumbers → ℕ
-leaf_unit known unit numbers = lcm (expected_by numbers).den (lcm (sum_with known numbers).den unit)
+leaf_unit known unit numbers = lcm (expected_by numbers).den (lcm (sum_from_first known numbers).den unit)
 
 -- the fault of a leaf, where the leaves before it have this sum and this unit
 abbrev pub judged_leaf : ℕ → Option Fraction → ℕ → PathNumbers → Option GameFault
 judged_leaf number known unit numbers =
     passing (fits (paid_by numbers)) (Scale number)
-    (passing (is_same (paid_by numbers) (sum_with known numbers)) (NotConstantSum number)
+    (passing (is_same (paid_by numbers) (sum_from_first known numbers)) (NotConstantSum number)
     (passing (fits (expected_by numbers)) (Scale number)
     (passing (nat_le (leaf_unit known unit numbers) most) (Scale number) None)))
 
@@ -36,7 +36,7 @@ judged_node number node known unit numbers = if is_leaf_kind node.kind then judg
 
 -- the sum that is known with the node
 abbrev pub known_with : Node → Option Fraction → PathNumbers → Option Fraction
-known_with node known numbers = if is_leaf_kind node.kind then Some (sum_with known numbers) else known
+known_with node known numbers = if is_leaf_kind node.kind then Some (sum_from_first known numbers) else known
 
 -- the unit with the node
 abbrev pub unit_with : Node → Option Fraction → ℕ → PathNumbers → ℕ

@@ -36,8 +36,8 @@ abbrev pub known_sum : Tables → List Visit → Option Fraction
 known_sum tables nodes = sum_of_first tables (filter (λ (v : Visit). is_leaf_kind v.node.kind) nodes)
 
 -- the numbers of a path to a node
-abbrev pub numbers_of : Tables → Visit → PathNumbers
-numbers_of tables v = record { reach = reach tables v.path; one = payoff_one tables v; two = payoff_two tables v }
+abbrev pub numbers_on_path : Tables → Visit → PathNumbers
+numbers_on_path tables v = record { reach = reach tables v.path; one = payoff_one tables v; two = payoff_two tables v }
 
 abbrev pub all_fit : PathNumbers → Bool
 all_fit numbers = fits numbers.reach && (fits numbers.one && fits numbers.two)

@@ -5,7 +5,7 @@ ghost use Rattle.def_fraction.specs.Fraction.{fits, most, product_of, sum_of};
 ghost use Rattle.def_game_scale.specs.Faults as faults;
 ghost use Rattle.def_tree.specs.Tree.{is_leaf_kind};
 ghost use Rattle.xg_scale.specs.FaultOfFile.{IsFaultOf, RefusesBy};
-ghost use Rattle.xg_scale.specs.Leaf.{judged_leaf, judged_node, known_with, leaf_unit, sum_with, unit_with, with_expected};
+ghost use Rattle.xg_scale.specs.Leaf.{judged_leaf, judged_node, known_with, leaf_unit, sum_from_first, unit_with, with_expected};
 
 use crate::parts::{denominator, known};
 use crate::path::PathNumbers;
@@ -67,7 +67,7 @@ fn judge_leaf(
     requires from_one { 1 ≤ so_far }
     requires limit { so_far ≤ most }
     ensures ok { OnOk result (judged_leaf k known so_far numbers.now ≡ None) }
-    ensures sum { IfOk result (λ leaf. leaf.sum ≡ sum_with known numbers.now) }
+    ensures sum { IfOk result (λ leaf. leaf.sum ≡ sum_from_first known numbers.now) }
     ensures expected { IfOk result (λ leaf. leaf.expected ≡ product_of numbers.now.reach numbers.now.one) }
     ensures unit { IfOk result (λ leaf. leaf.unit ≡ leaf_unit known so_far numbers.now) }
     ensures limit { IfOk result (λ leaf. leaf.unit ≤ most) }

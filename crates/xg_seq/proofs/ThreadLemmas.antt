@@ -11,7 +11,7 @@ use Rattle.def_plan.specs.Threads.{first_leaf_from, next_leaf, sequence_of_leaf}
 use Rattle.xg_seq.specs.declared.leaf.Leaf.{Leaf}
 use Rattle.xg_seq.specs.Leaves.{HasSequences, KeepsLeaves, form_with, leaf_of}
 use Rattle.xg_seq.proofs.FormLemmas.{sequence_there}
-use Rattle.xg_seq.specs.Threads.{KeepsThreads, LinksLeavesFrom, leaf_of_number, number_or_zero}
+use Rattle.xg_seq.specs.Threads.{KeepsThreads, LinksLeavesFrom, leaf_of_number, leaf_or_zero}
 
 -- behind the last leaf there is none
 pub none_linked : (player : Player) (leaves : List FormLeaf) (first next : List ℕ) (n : ℕ) → n ≡ length leaves
@@ -20,7 +20,7 @@ pub none_linked : (player : Player) (leaves : List FormLeaf) (first next : List 
 none_linked player leaves first next n last none =
     let past : drop n leaves ≡ [] = ap (λ k. drop k leaves) last ∙ drop-length leaves in
     record {
-      first_leaves = λ s below. none s below ∙ sym (ap (λ zs. number_or_zero (first_leaf_from player s (n + 1) zs)) past);
+      first_leaves = λ s below. none s below ∙ sym (ap (λ zs. leaf_or_zero (first_leaf_from player s (n + 1) zs)) past);
       next_leaves = λ j low high. absurd (omega arith);
     }
 
@@ -58,17 +58,17 @@ module _ (i s : ℕ) (player : Player) (leaves : List FormLeaf) (d : FormLeaf) (
         ⊎_elim
         (λ here.
         ap (λ k. slice_index (set first s (i + 1)) k) here ∙ get_or-set_same first s (i + 1) 0 known
-        ∙ sym (ap number_or_zero (ap (λ k. first_leaf_from player k (i + 1) (drop i leaves)) here ∙ own_first)))
+        ∙ sym (ap leaf_or_zero (ap (λ k. first_leaf_from player k (i + 1) (drop i leaves)) here ∙ own_first)))
         (λ apart.
         get_or-set_other first s t (i + 1) 0 apart ∙ linked.first_leaves t under
-        ∙ sym (ap number_or_zero (other_first t (λ e. apart (sym e)))))
+        ∙ sym (ap leaf_or_zero (other_first t (λ e. apart (sym e)))))
         (cases_eq t s);
     next_leaves = λ j low high.
         ⊎_elim
         (λ here.
         ap (λ k. slice_index (set next i (slice_index first s)) k) here ∙ get_or-set_same next i (slice_index first s) 0 there
         ∙ linked.first_leaves s known
-        ∙ sym (ap (λ k. number_or_zero (next_leaf player (k + 1) leaves)) here ∙ ap (λ k. number_or_zero (first_leaf_from player k (i + 1 + 1) (drop (i + 1) leaves))) own_sequence))
+        ∙ sym (ap (λ k. leaf_or_zero (next_leaf player (k + 1) leaves)) here ∙ ap (λ k. leaf_or_zero (first_leaf_from player k (i + 1 + 1) (drop (i + 1) leaves))) own_sequence))
         (λ apart.
         get_or-set_other next i j (slice_index first s) 0 apart ∙ linked.next_leaves j (later i j apart low) high)
         (cases_eq j i);
@@ -87,18 +87,18 @@ all_linked player count leaves first next many room linked = record {
   first_leaves = λ s below. linked.first_leaves s (omega arith);
   next_leaves = λ z low high.
       let z_is : z - 1 + 1 ≡ z = omega arith in
-      linked.next_leaves (z - 1) (omega arith) (omega arith) ∙ ap (λ k. number_or_zero (next_leaf player k leaves)) z_is;
+      linked.next_leaves (z - 1) (omega arith) (omega arith) ∙ ap (λ k. leaf_or_zero (next_leaf player k leaves)) z_is;
 }
 
 -- a leaf by its kept number
 pub read_from : (player : Player) (s z : ℕ) (leaves : List FormLeaf) → 1 ≤ z
-    → leaf_of_number (number_or_zero (first_leaf_from player s z leaves)) ≡ first_leaf_from player s z leaves
+    → leaf_of_number (leaf_or_zero (first_leaf_from player s z leaves)) ≡ first_leaf_from player s z leaves
 read_from player s z [] some = refl
 read_from player s z (x ∷ xs) some = by_test (read_from player s (z + 1) xs (omega arith)) (eqb (leaf_sequence player x) s)
   where
-    by_test : leaf_of_number (number_or_zero (first_leaf_from player s (z + 1) xs)) ≡ first_leaf_from player s (z + 1) xs
+    by_test : leaf_of_number (leaf_or_zero (first_leaf_from player s (z + 1) xs)) ≡ first_leaf_from player s (z + 1) xs
         → (b : Bool)
-        → leaf_of_number (number_or_zero (cond b (Some z) (first_leaf_from player s (z + 1) xs)))
+        → leaf_of_number (leaf_or_zero (cond b (Some z) (first_leaf_from player s (z + 1) xs)))
         ≡ cond b (Some z) (first_leaf_from player s (z + 1) xs)
     by_test later true = let z_is : suc (z - 1) ≡ z = omega arith in subst (λ k. leaf_of_number k ≡ Some k) z_is refl
     by_test later false = later

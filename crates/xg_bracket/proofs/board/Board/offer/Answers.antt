@@ -1,6 +1,6 @@
 use Rattle.std.proofs.Common.{◌≡◌, ◌<◌, ◌≤◌, ◌++◌, [], ◌∷◌, All, List, length, vec_capacity, arith, ap, sym, subst, ◌∙◌}
 use Rattle.def_plus.specs.declared.Variant.{Variant}
-use Rattle.def_plus.specs.Variants.{weight_of}
+use Rattle.def_plus.specs.Variants.{weight_of_rounds}
 use Rattle.def_reply.specs.Bracket.{LiesWithinBy}
 use Rattle.def_reply.specs.declared.TraceLine.{TraceLine}
 use Rattle.def_reply.specs.Offers.{KeptEnd, Offer, most_divisor}
@@ -14,7 +14,7 @@ pub weight-divisor-requires : goal.weight-divisor-requires
 weight-divisor-requires c =
     let same : c.self.inside.variant ≡ c.args.self.now.variant = ap (λ (b : SizedBoard). b.variant) c.self.view_is in
     record {
-      small = subst (λ v. weight_of v c.args.round ≤ most_divisor) (sym same) c.requires.fair.fair.small_divisor;
+      small = subst (λ v. weight_of_rounds v c.args.round ≤ most_divisor) (sym same) c.requires.fair.fair.small_divisor;
     }
 
 pub offer_lower-requires : goal.offer_lower-requires
@@ -25,7 +25,7 @@ offer_lower-requires c =
     let offer : Offer = offer_of c.args.self.now.variant c.args.round c.args.one.now c.args.two.now to_one to_two in
     let same : old.variant ≡ c.args.self.now.variant = ap (λ (b : SizedBoard). b.variant) c.self.view_is in
     let is : c.weight-divisor.result ≡ offer.divisor =
-    c.weight-divisor.ensures ∙ ap (λ v. weight_of v c.args.round) same in
+    c.weight-divisor.ensures ∙ ap (λ v. weight_of_rounds v c.args.round) same in
     record {
       next = can_keep_lower old.variant c.args.self.now offer c.weight-divisor.result is c.weight-divisor.ensures
           c.requires.fair old.lower c.self.invariant.lower_end
@@ -41,7 +41,7 @@ offer_upper-requires c =
     let offer : Offer = offer_of c.args.self.now.variant c.args.round c.args.one.now c.args.two.now to_one to_two in
     let same : old.variant ≡ c.args.self.now.variant = ap (λ (b : SizedBoard). b.variant) c.self.view_is in
     let is : c.weight-divisor.result ≡ offer.divisor =
-    c.weight-divisor.ensures ∙ ap (λ v. weight_of v c.args.round) same in
+    c.weight-divisor.ensures ∙ ap (λ v. weight_of_rounds v c.args.round) same in
     record {
       next = can_keep_upper old.variant c.args.self.now offer c.weight-divisor.result is c.weight-divisor.ensures
           c.requires.fair old.upper c.self.invariant.upper_end
@@ -58,7 +58,7 @@ invariant_of-self c =
     let same : old.variant ≡ c.args.self.now.variant = ap (λ (b : SizedBoard). b.variant) c.self.view_is in
     let divisor = c.weight-divisor.result in
     let weighed = c.weight-divisor.ensures in
-    let is : divisor ≡ offer.divisor = weighed ∙ ap (λ v. weight_of v c.args.round) same in
+    let is : divisor ≡ offer.divisor = weighed ∙ ap (λ v. weight_of_rounds v c.args.round) same in
     let next_lower : KeptEnd = kept_end c.args.round divisor c.args.one.now to_one in
     let next_upper : KeptEnd = kept_end c.args.round divisor c.args.two.now to_two in
     let lower = c.offer_lower.ensures in
@@ -90,7 +90,7 @@ returns-clause-within c line is_line =
     let same : old.variant ≡ variant = ap (λ (b : SizedBoard). b.variant) c.self.view_is in
     let divisor = c.weight-divisor.result in
     let weighed = c.weight-divisor.ensures in
-    let is : divisor ≡ offer.divisor = weighed ∙ ap (λ v. weight_of v c.args.round) same in
+    let is : divisor ≡ offer.divisor = weighed ∙ ap (λ v. weight_of_rounds v c.args.round) same in
     let next_lower : KeptEnd = kept_end c.args.round divisor c.args.one.now to_one in
     let next_upper : KeptEnd = kept_end c.args.round divisor c.args.two.now to_two in
     let all : List TraceLine = c.push_line.new.trace.items in
@@ -99,7 +99,7 @@ returns-clause-within c line is_line =
     let last : TraceLine = line_with c.args.round c.offer_lower.new.end c.offer_upper.new.end in
     let last_is_line : last ≡ line =
     last_is lines all line last is_line (c.push_line.ensures.lines ∙ ap (λ xs. xs ++ last ∷ []) same_lines) in
-    let W : Variant → TraceLine → List TraceLine → Type 0 = λ v l xs. All (λ earlier. LiesWithinBy (weight_of v) l earlier) xs in
+    let W : Variant → TraceLine → List TraceLine → Type 0 = λ v l xs. All (λ earlier. LiesWithinBy (weight_of_rounds v) l earlier) xs in
     let of_last =
     narrowed old.variant old.trace.items (vec_capacity old.trace) old.capacity old.lower old.upper c.offer_lower.new.end
     c.offer_upper.new.end next_lower next_upper c.self.invariant c.len-offers.result
