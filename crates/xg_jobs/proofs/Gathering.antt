@@ -8,7 +8,7 @@ use Rattle.def_tree.specs.Rules.{IsGameTree, most_nodes}
 use Rattle.def_tree.specs.Tree.{Forest, HasItsChildren, bare, grown, node_count, tree_count}
 use Rattle.xg_jobs.specs.declared.tops.Gathering.{Gathering}
 use Rattle.xg_jobs.specs.Tops.{tops_from}
-use Rattle.xg_jobs.specs.Visit.{Gathers, HasRoom, IsOpen, MayGather, TopState, at_start, state_entered, state_left, state_of}
+use Rattle.xg_jobs.specs.Visit.{Gathers, HasRoom, IsOpen, MayGather, TopState, at_start, state_entered, state_left, top_state_of}
 use Rattle.xg_jobs.specs.Walked.{Room, walked}
 use Rattle.xg_jobs.proofs.Visiting.{around, beside_it, can_leave, no_trees, room_below, room_beside, room_now}
 
@@ -40,18 +40,18 @@ steps_apart : (k : ℕ) (node : Node) (below beside : Forest) (rest : List Event
 steps_apart k node below beside rest = append_assoc (events_from (k + 1) below) (Leave k ∷ events_from (k + 1 + node_count below) beside) rest
 
 none_gathered : (v : Gathering) → Gathers (walked bare) v v
-none_gathered v ok = let s : TopState = state_of v.tops in (ok, sym (no_trees s.nodes s.open_at s.covered s.leaves))
+none_gathered v ok = let s : TopState = top_state_of v.tops in (ok, sym (no_trees s.nodes s.open_at s.covered s.leaves))
 
 module _ (node : Node) (below : Forest) (size : node.children ≡ tree_count below) (v entered full left : Gathering)
     (enters : Gathers (state_entered node) v entered) (under : Gathers (walked below) entered full) where
   -- before the node is left
-  full_is : IsOk full.so_far → IsOk v.so_far × (state_of full.tops ≡ walked below (state_entered node (state_of v.tops)))
+  full_is : IsOk full.so_far → IsOk v.so_far × (top_state_of full.tops ≡ walked below (state_entered node (top_state_of v.tops)))
   full_is ok = let h = under ok in let e = enters h.0 in (e.0, h.1 ∙ ap (walked below) e.1)
 
   -- and after it
   first_gathered : Gathers state_left full left → Gathers (walked (grown node below bare)) v left
   first_gathered leaves ok =
-      let s : TopState = state_of v.tops in
+      let s : TopState = top_state_of v.tops in
       let l = leaves ok in
       let f = full_is l.0 in
       (f.0, l.1 ∙ ap state_left f.1 ∙ around node below s.nodes s.open_at s.covered s.leaves size)
@@ -60,7 +60,7 @@ all_gathered : (node : Node) (below beside : Forest) (v left end : Gathering)
     → Gathers (walked (grown node below bare)) v left → Gathers (walked beside) left end
     → Gathers (walked (grown node below beside)) v end
 all_gathered node below beside v left end first others ok =
-    let s : TopState = state_of v.tops in
+    let s : TopState = top_state_of v.tops in
     let o = others ok in
     let f = first o.0 in
     (f.0, o.1 ∙ ap (walked beside) f.1 ∙ beside_it node below beside s.nodes s.open_at s.covered s.leaves)
@@ -71,19 +71,19 @@ accepts : (t : Forest) (k : ℕ) (rest : List Event) (v : Gathering) → HasItsC
     → GatheringAccepts (events_from k t ++ rest) v
 accepts bare k rest v children room on = on v (none_gathered v)
 accepts (grown node below beside) k rest v children room on = (
-  λ ok. room_now node below beside (state_of v.tops) (room ok),
+  λ ok. room_now node below beside (top_state_of v.tops) (room ok),
   λ entered enters. subst (λ steps. GatheringAccepts steps entered) (sym (steps_apart k node below beside rest))
       (accepts below (k + 1) (Leave k ∷ (events_from (k + 1 + node_count below) beside ++ rest)) entered children.1
       (λ ok. let e = enters ok in
-      subst (λ s. Room s (node_count below)) (sym e.1) (room_below node below beside (state_of v.tops) (room e.0)))
+      subst (λ s. Room s (node_count below)) (sym e.1) (room_below node below beside (top_state_of v.tops) (room e.0)))
       (λ full under. (
         λ ok. let f = full_is node below (sym children.0) v entered full full enters under ok in
-            subst IsOpen (sym f.1) (can_leave node below beside (state_of v.tops) (room f.0)),
+            subst IsOpen (sym f.1) (can_leave node below beside (top_state_of v.tops) (room f.0)),
         λ left leaves.
             let first = first_gathered node below (sym children.0) v entered full left enters under leaves in
             accepts beside (k + 1 + node_count below) rest left children.2
             (λ ok. let f = first ok in
-            subst (λ s. Room s (node_count beside)) (sym f.1) (room_beside node below beside (state_of v.tops) (room f.0)))
+            subst (λ s. Room s (node_count beside)) (sym f.1) (room_beside node below beside (top_state_of v.tops) (room f.0)))
             (λ end others. on end (all_gathered node below beside v left end first others)),
       ))),
 )
@@ -101,7 +101,7 @@ leads (grown node below beside) k rest v w children (entered, enters, led) =
     (others.0, (all_gathered node below beside v leaving.0 others.0 first others.1.0, others.1.1))
 
 -- from the start there is room for each step of a walk through a game's tree
-pub accepts_walk : (tree : Forest) (v : Gathering) → IsGameTree tree → state_of v.tops ≡ at_start
+pub accepts_walk : (tree : Forest) (v : Gathering) → IsGameTree tree → top_state_of v.tops ≡ at_start
     → GatheringAccepts (events tree) v
 accepts_walk tree v game start =
     let limit : node_count tree ≤ most_nodes = game.limit in
@@ -111,7 +111,7 @@ accepts_walk tree v game start =
     (λ w _. tt))
 
 -- and then the nodes at the top of the tree are gathered
-pub gathers_tops : (tree : Forest) (v w : Gathering) → IsGameTree tree → state_of v.tops ≡ at_start
+pub gathers_tops : (tree : Forest) (v w : Gathering) → IsGameTree tree → top_state_of v.tops ≡ at_start
     → Led (events tree) v w → IsOk w.so_far → w.tops.nodes.items ≡ tops_from 0 tree
 gathers_tops tree v w game start led ok =
     let all = leads tree 1 [] v w game.tree.children (subst (λ steps. Led steps v w) (sym (append-nil (events tree))) led) in

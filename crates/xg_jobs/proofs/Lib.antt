@@ -7,7 +7,7 @@ mod Columns
 mod Counting
 mod Placing
 mod OneEntry
-mod Greatest
+pub mod Greatest
 mod Building
 mod FormRows
 mod Visiting

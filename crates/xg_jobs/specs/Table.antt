@@ -1,11 +1,12 @@
--- What a table of jobs tells of a game: the jobs' ranges of leaves, the weights of each pair of sequences, and the rows
--- of each job.
+-- What a table of jobs tells of a game: the jobs' ranges of leaves, the weights of each pair of sequences, the sizes of
+-- all weights together, and the rows of each job.
 use Rattle.std.specs.Prelude.{◌≡◌, ℕ, List, length, map, ℤ}
 use Rattle.def_tree.specs.declared.Player.TheVariants.{One}
 use Rattle.def_tree.specs.Tree.{Forest, leaf_count, prefix}
 use Rattle.def_tree.specs.Rules.{IsGameTree}
 use Rattle.def_history.specs.Ranges.{LeafRange, job_ranges}
 use Rattle.def_plan.specs.Form.{SequenceForm}
+use Rattle.def_plan.specs.Payoff.{mass_of}
 use Rattle.def_sequence_form.specs.Form.{form_of}
 use Rattle.xg_touched.specs.Touched.{JobRows, job_rows}
 use Rattle.xg_jobs.specs.Grouping.{pair_weights}
@@ -14,12 +15,14 @@ use Rattle.xg_jobs.specs.Groups.{greatest_of}
 pub record TableOfJobs : Type 0 where
   pub ranges : List LeafRange
   pub weights : List (List ℤ)
+  pub mass : ℕ
   pub touched : List JobRows
 
 abbrev pub job_table : SequenceForm → Forest → TableOfJobs
 job_table form tree = record {
   ranges = job_ranges tree;
   weights = pair_weights form One;
+  mass = mass_of form.leaves;
   touched = map (job_rows form) (job_ranges tree);
 }
 

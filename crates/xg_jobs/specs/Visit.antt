@@ -14,8 +14,8 @@ pub record TopState : Type 0 where
   pub covered : ℕ
   pub leaves : ℕ
 
-abbrev pub state_of : Tops → TopState
-state_of t = record { nodes = t.nodes.items; open_at = t.«open»; covered = t.covered; leaves = t.leaves }
+abbrev pub top_state_of : Tops → TopState
+top_state_of t = record { nodes = t.nodes.items; open_at = t.«open»; covered = t.covered; leaves = t.leaves }
 
 -- the next node is put, and is open
 abbrev pub opened : Node → TopState → TopState
@@ -76,8 +76,8 @@ at_start = record { nodes = []; open_at = 0; covered = 0; leaves = 0 }
 
 -- the state allows a visitor's call, unless memory was refused
 abbrev pub MayGather : (TopState → Type 0) → Gathering → Type 0
-MayGather Allows g = IsOk g.so_far → Allows (state_of g.tops)
+MayGather Allows g = IsOk g.so_far → Allows (top_state_of g.tops)
 
 -- the call makes this of the state, unless memory is refused by then
 abbrev pub Gathers : (TopState → TopState) → Gathering → Gathering → Type 0
-Gathers f old new = IsOk new.so_far → IsOk old.so_far × (state_of new.tops ≡ f (state_of old.tops))
+Gathers f old new = IsOk new.so_far → IsOk old.so_far × (top_state_of new.tops ≡ f (top_state_of old.tops))

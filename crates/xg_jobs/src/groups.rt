@@ -3,16 +3,18 @@ ghost use Rattle.std.specs.Prelude.{◌≡◌, ℕ, ◌*◌, ◌^◌, ◌<◌, �
 ghost use Rattle.def_sums.specs.Limits.{most_root};
 ghost use Rattle.def_tree.specs.declared.Player.TheVariants.{One};
 ghost use Rattle.def_plan.specs.Form.{sequence_count};
+ghost use Rattle.def_plan.specs.Payoff.{mass_of};
 ghost use Rattle.xg_jobs.specs.Grouping.{pair_weights};
 ghost use Rattle.xg_jobs.specs.Groups.{greatest_of};
 ghost use Rattle.xg_jobs.specs.Rows.{AreNumbersOf, ArePlainSums};
 
 use crate::entry::{SmallEntry, TinyEntry, WideEntry};
-use crate::grouping::{entries_of, starts_of, total_mass};
+use crate::grouping::{entries_of, starts_of};
 use crate::input::RowInput;
 use crate::merging::merged;
 use crate::packing::{are_small, are_tiny, small_entries, tiny_entries};
 use crate::rows::Rows;
+use crate::sizes::{greatest_number, total_mass};
 use crate::writing::write_rows;
 use def_sums::MOST_ROOT;
 use def_tree::Player;
@@ -28,7 +30,7 @@ pub(crate) struct LeafGroups {
     entries: GroupEntries,
     // how many sequences player two has
     others: u32,
-    // no less than the sizes of all weights together
+    // the sizes of the weights of all leaves together, which those of the entries are within
     mass: u64,
 }
 
@@ -59,13 +61,15 @@ impl GroupEntries {
 }
 
 impl Model for LeafGroups {
-    ghost use Rattle.std.specs.Prelude.{ℤ, List};
     ghost use Rattle.xg_jobs.specs.Entries.{KeepsGroups, leaves_of_group};
-    ghost use Rattle.xg_jobs.specs.Grouping.{weights_in};
+    ghost use Rattle.xg_jobs.specs.Grouping.{GroupedWeights, weights_in};
 
-    ghost Value = { List (List ℤ) };
+    ghost Value = { GroupedWeights };
 
-    ghost view = { λ g. weights_in g.starts.items (leaves_of_group g.entries) g.others };
+    ghost view = { λ g. record {
+      weights = weights_in g.starts.items (leaves_of_group g.entries) g.others;
+      mass = g.mass;
+    } };
 
     ghost invariant = { λ g. KeepsGroups g.starts.items (leaves_of_group g.entries) g.others g.mass };
 }
@@ -73,7 +77,8 @@ impl Model for LeafGroups {
 impl LeafGroups {
     /// The groups of the form's leaves.
     pub(crate) fn build(alloc: Global, form: &SeqForm) -> Result<LeafGroups, AllocError>
-        ensures { IfOk result (λ groups. groups ≡ pair_weights form.now One) }
+        ensures weights { IfOk result (λ groups. groups.weights ≡ pair_weights form.now One) }
+        ensures mass { IfOk result (λ groups. groups.mass ≡ mass_of form.now.leaves) }
     {
         let starts = starts_of(alloc, form, Player::One)?;
         let mass = total_mass(form);
@@ -90,6 +95,13 @@ impl LeafGroups {
         })
     }
 
+    /// The sizes of the weights of all leaves together.
+    pub(crate) fn mass(&self) -> u64
+        ensures { result ≡ self.now.mass }
+    {
+        self.mass
+    }
+
     /// Writes for each sequence of each player the sum over its leaves against the other player's numbers.
     pub(crate) fn write_to(
         &self,
@@ -97,7 +109,7 @@ impl LeafGroups {
         input: &RowInput<'_>,
         rows: &mut Rows,
     ) -> Result<(), AllocError>
-        requires groups { self.now ≡ pair_weights input.now.form.now One }
+        requires groups { self.now.weights ≡ pair_weights input.now.form.now One }
         requires numbers { AreNumbersOf input.now.form.now input.now.one.now input.now.two.now }
         requires rows_one { length rows.old.one ≡ sequence_count input.now.form.now.sets_one }
         requires rows_two { length rows.old.two ≡ sequence_count input.now.form.now.sets_two }
@@ -120,19 +132,7 @@ fn sums_fit_word(mass: u64, one: &[u64], two: &[u64]) -> bool
     requires small_two { All (λ n. n ≤ most_root) two.now }
     ensures { IsTrue result → mass * max (greatest_of one.now) (greatest_of two.now) < 2 ^ 63 }
 {
-    fits_word(mass, MOST_ROOT) || fits_word(mass, greatest(one).max(greatest(two)))
-}
-
-fn greatest(numbers: &[u64]) -> u64
-    ensures { result ≡ greatest_of numbers.now }
-{
-    let mut greatest = 0;
-    for n in numbers {
-        if *n > greatest {
-            greatest = *n;
-        }
-    }
-    greatest
+    fits_word(mass, MOST_ROOT) || fits_word(mass, greatest_number(one, two))
 }
 
 // Whether a sum of products is within 64 bits, with its sign.

@@ -50,7 +50,8 @@ impl Model for JobTable {
 
     ghost view = { λ t. record {
       ranges = map range_of t.ranges.items;
-      weights = t.groups;
+      weights = t.groups.weights;
+      mass = t.groups.mass;
       touched = t.touched.items;
     } };
 
@@ -84,6 +85,13 @@ impl JobTable {
         ensures limit { result ≤ most_jobs }
     {
         self.ranges.len() as u32
+    }
+
+    /// The sizes of all weights of the form together.
+    pub fn mass(&self) -> u64
+        ensures { result ≡ self.now.mass }
+    {
+        self.groups.mass()
     }
 
     /// A job's first leaf, and the number of its leaves.

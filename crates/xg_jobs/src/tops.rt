@@ -41,10 +41,10 @@ struct Gathering {
 }
 
 impl Gathering {
-    ghost use Rattle.xg_jobs.specs.Visit.{at_start, state_of};
+    ghost use Rattle.xg_jobs.specs.Visit.{at_start, top_state_of};
 
     fn new(alloc: Global) -> Gathering
-        ensures { state_of result.tops ≡ at_start }
+        ensures { top_state_of result.tops ≡ at_start }
     {
         Gathering {
             tops: Tops {
@@ -59,7 +59,7 @@ impl Gathering {
 }
 
 impl Visitor for Gathering {
-    ghost use Rattle.xg_jobs.specs.Visit.{HasRoom, IsOpen, MayGather, Gathers, state_entered, state_left, state_of};
+    ghost use Rattle.xg_jobs.specs.Visit.{HasRoom, IsOpen, MayGather, Gathers, state_entered, state_left, top_state_of};
 
     ghost may_enter = { λ g _ _. MayGather HasRoom g };
 
@@ -93,11 +93,11 @@ struct Tops {
 }
 
 impl Tops {
-    ghost use Rattle.xg_jobs.specs.Visit.{HasRoom, IsOpen, closed, state_entered, state_left, opened, state_of};
+    ghost use Rattle.xg_jobs.specs.Visit.{HasRoom, IsOpen, closed, state_entered, state_left, opened, top_state_of};
 
     fn enter(&mut self, node: Node) -> Result<(), AllocError>
-        requires { HasRoom (state_of self.old) }
-        ensures { OnOk result (state_of self.new ≡ state_entered node (state_of self.old)) }
+        requires { HasRoom (top_state_of self.old) }
+        ensures { OnOk result (top_state_of self.new ≡ state_entered node (top_state_of self.old)) }
     {
         if self.covered > 0 {
             self.covered += 1;
@@ -109,8 +109,8 @@ impl Tops {
     }
 
     fn leave(&mut self)
-        requires { IsOpen (state_of self.old) }
-        ensures { state_of self.new ≡ state_left (state_of self.old) }
+        requires { IsOpen (top_state_of self.old) }
+        ensures { top_state_of self.new ≡ state_left (top_state_of self.old) }
     {
         if self.covered > 1 {
             self.covered -= 1;
@@ -121,8 +121,8 @@ impl Tops {
     }
 
     fn open(&mut self, node: Node) -> Result<(), AllocError>
-        requires { HasRoom (state_of self.old) }
-        ensures { OnOk result (state_of self.new ≡ opened node (state_of self.old)) }
+        requires { HasRoom (top_state_of self.old) }
+        ensures { OnOk result (top_state_of self.new ≡ opened node (top_state_of self.old)) }
     {
         let place = self.nodes.len() as u32;
         self.nodes.push(TopNode {
@@ -137,9 +137,9 @@ impl Tops {
     }
 
     fn close(&mut self)
-        requires is_open { IsOpen (state_of self.old) }
+        requires is_open { IsOpen (top_state_of self.old) }
         requires uncovered { self.old.covered ≡ 0 }
-        ensures { state_of self.new ≡ closed (state_of self.old) }
+        ensures { top_state_of self.new ≡ closed (top_state_of self.old) }
     {
         let end = self.nodes.len() as u32;
         let top = &mut self.nodes[self.open as usize];

@@ -8,7 +8,7 @@ use Rattle.def_history.specs.History.{stripe_of}
 use Rattle.def_history.specs.Packets.{RowAmount}
 use Rattle.xg_rowcore.specs.Packets.{entries_of_rows, entry_in}
 use Rattle.xg_rowcore.specs.Stripes.{HasGrown}
-use Rattle.xg_rowcore.specs.Chains.{AreChains, IsNextOf, KeepsChains, rows_of}
+use Rattle.xg_rowcore.specs.Chains.{AreChains, IsNextOf, KeepsChains, rows_of_entries}
 use Rattle.xg_rowcore.proofs.Adding.{grown_by_other, grown_more}
 
 -- with no chain
@@ -97,13 +97,13 @@ linked_more i stripe stripes rows first next stripe_is below there known few lin
 
 -- the rows of entries are those that they are made of
 pub rows_of-entries_from : (rows : List ℕ) (amounts : List ℤ) → length rows ≡ length amounts
-    → rows_of (entries_of_rows rows amounts) ≡ rows
+    → rows_of_entries (entries_of_rows rows amounts) ≡ rows
 rows_of-entries_from [] amounts same = refl
 rows_of-entries_from (row ∷ rows) [] same = absurd (omega arith)
 rows_of-entries_from (row ∷ rows) (amount ∷ amounts) same = ap (λ rest. row ∷ rest) (rows_of-entries_from rows amounts (omega arith))
 
 -- each entry has its row
-pub row_of_entry : (entries : List RowAmount) (i : ℕ) → slice_index (rows_of entries) i ≡ (entry_in entries i).row
+pub row_of_entry : (entries : List RowAmount) (i : ℕ) → slice_index (rows_of_entries entries) i ≡ (entry_in entries i).row
 row_of_entry [] i = refl
 row_of_entry (entry ∷ entries) zero = refl
 row_of_entry (entry ∷ entries) (suc i) = row_of_entry entries i
@@ -111,7 +111,7 @@ row_of_entry (entry ∷ entries) (suc i) = row_of_entry entries i
 -- entries of other stripes leave the totals
 past_others : (entries : List RowAmount) (index stripes from count : ℕ) (old new : List ℤ) → index < stripes
     → from + count ≤ length entries
-    → ((i : ℕ) → from ≤ i → i < from + count → stripe_of stripes (slice_index (rows_of entries) i) ≢ index)
+    → ((i : ℕ) → from ≤ i → i < from + count → stripe_of stripes (slice_index (rows_of_entries entries) i) ≢ index)
     → HasGrown (take from entries) index stripes old new → HasGrown (take (from + count) entries) index stripes old new
 past_others entries index stripes from zero old new is_stripe inside others grown =
     let same : from ≡ from + 0 = omega arith in
@@ -129,7 +129,7 @@ past_others entries index stripes from (suc count) old new is_stripe inside othe
 
 -- up to the next entry of the stripe
 pub grown_to_next : (entries : List RowAmount) (index stripes from place : ℕ) (old new : List ℤ) → index < stripes
-    → IsNextOf stripes index (rows_of entries) from place
+    → IsNextOf stripes index (rows_of_entries entries) from place
     → HasGrown (take from entries) index stripes old new → HasGrown (take place entries) index stripes old new
 grown_to_next entries index stripes from place old new is_stripe found grown =
     let count = length-map entries (λ (entry : RowAmount). entry.row) in
@@ -140,12 +140,12 @@ grown_to_next entries index stripes from place old new is_stripe found grown =
 
 -- what is found is an entry of the stripe, or the end
 pub found_inside : (entries : List RowAmount) (stripes stripe from place : ℕ)
-    → IsNextOf stripes stripe (rows_of entries) from place → place ≤ length entries
+    → IsNextOf stripes stripe (rows_of_entries entries) from place → place ≤ length entries
 found_inside entries stripes stripe from place found = omega (arith, found.inside, length-map entries (λ (entry : RowAmount). entry.row))
 
 -- what is found before the end is an entry whose row lies in the stripe
 pub found_own : (entries : List RowAmount) (stripes stripe from place : ℕ)
-    → IsNextOf stripes stripe (rows_of entries) from place → place < length entries
+    → IsNextOf stripes stripe (rows_of_entries entries) from place → place < length entries
     → stripe_of stripes (entry_in entries place).row ≡ stripe
 found_own entries stripes stripe from place found below =
     sym (ap (stripe_of stripes) (row_of_entry entries place)) ∙ found.own (omega (arith, below, length-map entries (λ (entry : RowAmount). entry.row)))

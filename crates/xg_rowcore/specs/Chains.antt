@@ -5,8 +5,8 @@ use Rattle.def_history.specs.History.{stripe_of}
 use Rattle.def_history.specs.Packets.{RowAmount}
 
 -- the rows of entries
-abbrev pub rows_of : List RowAmount → List ℕ
-rows_of entries = map (λ entry. entry.row) entries
+abbrev pub rows_of_entries : List RowAmount → List ℕ
+rows_of_entries entries = map (λ entry. entry.row) entries
 
 -- the first place from one on whose row lies in the stripe, or the number of rows where there is none
 pub record IsNextOf (stripes stripe : ℕ) (rows : List ℕ) (from place : ℕ) : Type 0 where

@@ -4,7 +4,7 @@ ghost use Rattle.std.specs.Prelude.{pos, ◌+ℤ◌, unsigned_abs, slice_index_o
 ghost use Rattle.def_sums.specs.Limits.{most_stripes};
 ghost use Rattle.def_history.specs.History.{stripe_of};
 ghost use Rattle.def_history.specs.Packets.{AreRising};
-ghost use Rattle.xg_rowcore.specs.Chains.{IsNextOf, rows_of};
+ghost use Rattle.xg_rowcore.specs.Chains.{IsNextOf, rows_of_entries};
 ghost use Rattle.xg_rowcore.specs.Packets.{IsAboveLast, entry_in, with_added};
 
 use crate::chains::{Chains, seek};
@@ -112,7 +112,7 @@ impl RowEntries {
     /// The first place whose row lies in the stripe.
     pub(crate) fn first_of(&self, stripes: u32, stripe: u32) -> usize
         requires { stripe < stripes }
-        ensures { IsNextOf stripes stripe (rows_of self.now.list) 0 result }
+        ensures { IsNextOf stripes stripe (rows_of_entries self.now.list) 0 result }
     {
         if self.chains.stripes == stripes {
             self.chains.first[stripe as usize]
@@ -125,7 +125,7 @@ impl RowEntries {
     pub(crate) fn next_of(&self, stripes: u32, i: usize) -> usize
         requires stripes { 0 < stripes }
         requires there { i < length self.now.list }
-        ensures { IsNextOf stripes (stripe_of stripes (entry_in self.now.list i).row) (rows_of self.now.list) (i + 1)
+        ensures { IsNextOf stripes (stripe_of stripes (entry_in self.now.list i).row) (rows_of_entries self.now.list) (i + 1)
             result }
     {
         if self.chains.stripes == stripes {

@@ -13,4 +13,5 @@ mod stripe;
 
 pub use name::RowName;
 pub use packet::Packet;
+pub use places::USUAL_STRIPES;
 pub use stripe::Stripe;

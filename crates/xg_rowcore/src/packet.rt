@@ -3,7 +3,7 @@ ghost use Rattle.std.specs.Prelude.{◌≡◌, ◌<◌, ◌≤◌, ◌+◌, ◌^
 ghost use Rattle.def_sums.specs.Limits.{most_stripes};
 ghost use Rattle.def_history.specs.History.{stripe_of};
 ghost use Rattle.def_history.specs.Packets.{AreRising};
-ghost use Rattle.xg_rowcore.specs.Chains.{IsNextOf, rows_of};
+ghost use Rattle.xg_rowcore.specs.Chains.{IsNextOf, rows_of_entries};
 ghost use Rattle.xg_rowcore.specs.Packets.{IsAboveLast, entry_in, with_added};
 
 use crate::entries::RowEntries;
@@ -102,7 +102,7 @@ impl Packet {
     /// The first place whose row lies in the stripe.
     pub(crate) fn first_of(&self, stripes: u32, stripe: u32) -> usize
         requires { stripe < stripes }
-        ensures { IsNextOf stripes stripe (rows_of self.now.entries.list) 0 result }
+        ensures { IsNextOf stripes stripe (rows_of_entries self.now.entries.list) 0 result }
     {
         self.entries.first_of(stripes, stripe)
     }
@@ -112,7 +112,7 @@ impl Packet {
         requires stripes { 0 < stripes }
         requires there { i < length self.now.entries.list }
         ensures { let stripe = stripe_of stripes (entry_in self.now.entries.list i).row in
-            IsNextOf stripes stripe (rows_of self.now.entries.list) (i + 1) result }
+            IsNextOf stripes stripe (rows_of_entries self.now.entries.list) (i + 1) result }
     {
         self.entries.next_of(stripes, i)
     }

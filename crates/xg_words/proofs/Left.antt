@@ -4,7 +4,7 @@ use Rattle.std.proofs.lemmas.Bool.{cases_eq}
 use Rattle.def_history.specs.Packets.{RowAmount, AreRising, IsPacketOf}
 use Rattle.xg_rowcore.specs.Packets.{entry_in}
 use Rattle.xg_rowcore.proofs.Rising.{same_element}
-use Rattle.def_words.specs.Amounts.{IsNext, IsComplete}
+use Rattle.def_words.specs.Amounts.{IsNext, LastIsComplete}
 use Rattle.xg_words.specs.Holdings.{AreLeft, reached_after}
 
 abbrev nothing : RowAmount
@@ -74,7 +74,7 @@ left_skipped amount rows job entries i reached packet left inside none_here = re
 
 -- in the end the job is complete
 pub left_end : (jobs : ℕ) (amount : ℕ → ℕ → ℤ) (rows job : ℕ) (entries : List RowAmount) (reached : ℕ) (numbers earlier : List ℕ) → AreLeft amount rows job entries (length entries) reached → numbers ≡ job ∷ earlier
-    → IsComplete jobs rows amount reached numbers
+    → LastIsComplete jobs rows amount reached numbers
 left_end jobs amount rows job entries reached numbers earlier left last n ns is is_job row above below =
     let same : n ≡ job = ap head (sym is ∙ last) in
     ap (λ j. amount j row) same ∙ left.nothing_else row above below (λ k from inside. absurd (omega (arith, from, inside)))

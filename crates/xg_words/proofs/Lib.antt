@@ -1,6 +1,4 @@
 mod Left
 mod Read
 mod Claimed
-mod Greatest
-mod Counting
 mod Small

@@ -5,14 +5,14 @@ use Rattle.def_plan.specs.FormRows.{row_count}
 use Rattle.def_history.proofs.Amounts.{amounts_small}
 use Rattle.xg_jobs.specs.Groups.{greatest_of}
 use Rattle.xg_jobs.specs.Table.{IsTableOf, TableOfJobs}
-use Rattle.xg_words.proofs.Greatest.{at_most_greatest}
+use Rattle.xg_jobs.proofs.Greatest.{at_most_greatest}
 use Rattle.xg_board.specs.Running.{job_amounts}
 use Rattle.xg_board.proofs.PlainRows.{ranges_partition}
 use Rattle.def_words.specs.Amounts.{HaveRoom}
-use Rattle.xg_words.specs.Running.{Fits}
+use Rattle.xg_words.specs.Running.{HasSmallSums}
 
 pub small_amounts : (form : SequenceForm) (numbers_one numbers_two : List ℕ) (table : TableOfJobs) → IsTableOf form table
-    → Fits form numbers_one numbers_two
+    → HasSmallSums form numbers_one numbers_two
     → HaveRoom (length table.ranges) (row_count form) (job_amounts form numbers_one numbers_two table.ranges)
 small_amounts form numbers_one numbers_two table is fits row below =
     let bound : ℕ = max (greatest_of numbers_one) (greatest_of numbers_two) in

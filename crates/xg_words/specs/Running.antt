@@ -3,28 +3,28 @@ use Rattle.std.specs.Prelude.{◌≡◌, ℕ, ◌*◌, ◌<◌, ◌≤◌, ℤ, 
 use Rattle.atomic_table.specs.Seated.{TableId}
 use Rattle.def_plan.specs.Form.{SequenceForm}
 use Rattle.def_plan.specs.Payoff.{mass_of}
-use Rattle.def_words.specs.Amounts.{IsComplete, past_sizes}
+use Rattle.def_words.specs.Amounts.{LastIsComplete, past_sizes}
 use Rattle.xg_rowcore.specs.Packets.{Listed}
 use Rattle.xg_jobs.specs.Groups.{greatest_of}
 use Rattle.xg_words.specs.Holdings.{WorkerClaims}
 
 -- the sizes of all weights together, times the greatest number of both players, are small
-abbrev pub Fits : SequenceForm → List ℕ → List ℕ → Type 0
-Fits form numbers_one numbers_two =
+abbrev pub HasSmallSums : SequenceForm → List ℕ → List ℕ → Type 0
+HasSmallSums form numbers_one numbers_two =
     mass_of form.leaves * max (greatest_of numbers_one) (greatest_of numbers_two) < past_sizes
 
 -- the worker can claim, and the packet has the room
-pub record IsReady (table : TableId) (jobs rows : ℕ) (amount : ℕ → ℕ → ℤ) (room : ℕ) (worker : WorkerClaims)
+pub record IsReadyToClaim (table : TableId) (jobs rows : ℕ) (amount : ℕ → ℕ → ℤ) (room : ℕ) (worker : WorkerClaims)
     (packet : Listed) : Type 0 where
   pub here : worker.table ≡ table
   pub below : All (λ n. n < jobs) worker.numbers
-  pub complete : IsComplete jobs rows amount worker.reached worker.numbers
+  pub complete : LastIsComplete jobs rows amount worker.reached worker.numbers
   pub has_room : room ≤ packet.room
 
 -- the worker's last number is no job's
-pub record IsDone (table : TableId) (jobs rows : ℕ) (amount : ℕ → ℕ → ℤ) (worker : WorkerClaims) : Type 0 where
+pub record IsDoneClaiming (table : TableId) (jobs rows : ℕ) (amount : ℕ → ℕ → ℤ) (worker : WorkerClaims) : Type 0 where
   pub here : worker.table ≡ table
-  pub complete : IsComplete jobs rows amount worker.reached worker.numbers
+  pub complete : LastIsComplete jobs rows amount worker.reached worker.numbers
   pub last : ℕ
   pub earlier : List ℕ
   pub numbers_are : worker.numbers ≡ last ∷ earlier

@@ -6,7 +6,7 @@ ghost use Rattle.def_plan.specs.Form.{sequence_count};
 ghost use Rattle.def_plan.specs.FormRows.{row_count};
 ghost use Rattle.def_history.specs.History.{sum_over_jobs};
 ghost use Rattle.def_history.specs.Packets.{IsPacketOf};
-ghost use Rattle.def_words.specs.Amounts.{HaveRoom, IsComplete, IsNext};
+ghost use Rattle.def_words.specs.Amounts.{HaveRoom, LastIsComplete, IsNext};
 ghost use Rattle.xg_jobs.specs.Rows.{all_rows};
 ghost use Rattle.xg_jobs.specs.Table.{IsTableOf};
 ghost use Rattle.xg_words.specs.Holdings.{AreLeft, OwnerClaims, WorkerClaims, reached_after};
@@ -82,7 +82,7 @@ impl<N: RowName> WordBoard<N> {
     pub fn claim(&self, worker: &mut Worker<N>) -> Option<u32>
         requires here { worker.old.table ≡ self.now.table.shared.table_id }
         requires below { All (λ n. n < N.jobs) worker.old.numbers }
-        requires complete { IsComplete N.jobs N.rows N.amount worker.old.reached worker.old.numbers }
+        requires complete { LastIsComplete N.jobs N.rows N.amount worker.old.reached worker.old.numbers }
         ensures { (n : ℕ)
             × (worker.new ≡ record { table = worker.old.table; numbers = n ∷ worker.old.numbers; reached = 0 })
             × MatchOption result (N.jobs ≤ n) (λ job. (job ≡ n) × (n < N.jobs)) }
@@ -103,7 +103,7 @@ impl<N: RowName> WordBoard<N> {
         requires job { packet.now.job < N.jobs }
         requires packet { IsPacketOf N.amount N.rows packet.now.job packet.now.entries.list }
         ensures same { (worker.new.table ≡ worker.old.table) × (worker.new.numbers ≡ worker.old.numbers) }
-        ensures complete { IsComplete N.jobs N.rows N.amount worker.new.reached worker.new.numbers }
+        ensures complete { LastIsComplete N.jobs N.rows N.amount worker.new.reached worker.new.numbers }
     {
         for i in 0..packet.len() {
             self.add_entry(worker, packet, i);
@@ -114,7 +114,7 @@ impl<N: RowName> WordBoard<N> {
     pub fn join(&self, owner: &mut Owner<N>, worker: Worker<N>)
         requires owner { owner.old.table ≡ self.now.table.shared.table_id }
         requires worker { worker.table ≡ self.now.table.shared.table_id }
-        requires complete { IsComplete N.jobs N.rows N.amount worker.reached worker.numbers }
+        requires complete { LastIsComplete N.jobs N.rows N.amount worker.reached worker.numbers }
         ensures { owner.new ≡ record {
           table = owner.old.table;
           numbers = worker.numbers ++ owner.old.numbers;

@@ -5,7 +5,7 @@ ghost use Rattle.def_plan.specs.FormRows.{row_count};
 ghost use Rattle.xg_jobs.specs.Rows.{AreNumbersOf};
 ghost use Rattle.xg_jobs.specs.Table.{IsTableOf, most_touched};
 ghost use Rattle.xg_board.specs.Running.{job_amounts};
-ghost use Rattle.xg_words.specs.Running.{IsReady, IsDone};
+ghost use Rattle.xg_words.specs.Running.{IsReadyToClaim, IsDoneClaiming};
 
 use crate::board::WordBoard;
 use crate::owner::Owner;
@@ -40,12 +40,12 @@ fn add_next<Rt: Threads + Wait + Sync, N: RowName, G: Gate>(
     requires jobs { length jobs.now.ranges ≡ N.jobs }
     requires rows { row_count input.now.form.now ≡ N.rows }
     requires amount { job_amounts input.now.form.now input.now.one.now input.now.two.now jobs.now.ranges ≡ N.amount }
-    requires ready { IsReady board.now.table.shared.table_id N.jobs N.rows N.amount (most_touched jobs.now.touched)
+    requires ready { IsReadyToClaim board.now.table.shared.table_id N.jobs N.rows N.amount (most_touched jobs.now.touched)
         member.old.worker member.old.packet.entries }
     ensures more { IsTrue result
-        → IsReady board.now.table.shared.table_id N.jobs N.rows N.amount (most_touched jobs.now.touched)
+        → IsReadyToClaim board.now.table.shared.table_id N.jobs N.rows N.amount (most_touched jobs.now.touched)
         member.new.worker member.new.packet.entries }
-    ensures done { result ≡ false → IsDone board.now.table.shared.table_id N.jobs N.rows N.amount member.new.worker }
+    ensures done { result ≡ false → IsDoneClaiming board.now.table.shared.table_id N.jobs N.rows N.amount member.new.worker }
 {
     let Some(job) = board.claim(&mut member.worker) else {
         return false;
@@ -70,9 +70,9 @@ fn work<Rt: Threads + Wait + Sync, N: RowName, G: Gate>(
     requires jobs { length jobs.now.ranges ≡ N.jobs }
     requires rows { row_count input.now.form.now ≡ N.rows }
     requires amount { job_amounts input.now.form.now input.now.one.now input.now.two.now jobs.now.ranges ≡ N.amount }
-    requires ready { IsReady board.now.table.shared.table_id N.jobs N.rows N.amount (most_touched jobs.now.touched)
+    requires ready { IsReadyToClaim board.now.table.shared.table_id N.jobs N.rows N.amount (most_touched jobs.now.touched)
         member.old.worker member.old.packet.entries }
-    ensures { IsDone board.now.table.shared.table_id N.jobs N.rows N.amount member.new.worker }
+    ensures { IsDoneClaiming board.now.table.shared.table_id N.jobs N.rows N.amount member.new.worker }
 {
     for _ in rt.forever() {
         if !add_next(rt, board, input, jobs, member, gate) {
@@ -97,9 +97,9 @@ pub(crate) fn work_all<Rt: Threads + Wait + Sync, N: RowName + Send + Sync, G: G
     requires rows { row_count input.now.form.now ≡ N.rows }
     requires amount { job_amounts input.now.form.now input.now.one.now input.now.two.now jobs.now.ranges ≡ N.amount }
     requires some { 0 < vec_len crew.old }
-    requires ready { All (λ m. IsReady board.now.table.shared.table_id N.jobs N.rows N.amount
+    requires ready { All (λ m. IsReadyToClaim board.now.table.shared.table_id N.jobs N.rows N.amount
         (most_touched jobs.now.touched) m.worker m.packet.entries) crew.old.items }
-    ensures done { All (λ m. IsDone board.now.table.shared.table_id N.jobs N.rows N.amount m.worker) crew.new.items }
+    ensures done { All (λ m. IsDoneClaiming board.now.table.shared.table_id N.jobs N.rows N.amount m.worker) crew.new.items }
     ensures same { vec_len crew.new ≡ vec_len crew.old }
 {
     let count = crew.len();
@@ -114,9 +114,9 @@ pub(crate) fn work_all<Rt: Threads + Wait + Sync, N: RowName + Send + Sync, G: G
             requires rows { row_count input.now.form.now ≡ N.rows }
             requires amount { job_amounts input.now.form.now input.now.one.now input.now.two.now jobs.now.ranges
                 ≡ N.amount }
-            requires ready { IsReady board.now.table.shared.table_id N.jobs N.rows N.amount
+            requires ready { IsReadyToClaim board.now.table.shared.table_id N.jobs N.rows N.amount
                 (most_touched jobs.now.touched) member.old.worker member.old.packet.entries }
-            ensures { IsDone board.entry.now.table.shared.table_id N.jobs N.rows N.amount member.new.worker }
+            ensures { IsDoneClaiming board.entry.now.table.shared.table_id N.jobs N.rows N.amount member.new.worker }
         { work(rt, board, input, jobs, member, gate) },
     );
 }
@@ -133,7 +133,7 @@ pub(crate) fn make_crew<N: RowName>(
     requires few { count ≤ most_workers }
     ensures count { IfOk result (λ crew. length crew.items ≡ count) }
     ensures ready { IfOk result
-        (λ crew. All (λ m. IsReady board.now.table.shared.table_id N.jobs N.rows N.amount room m.worker m.packet.entries)
+        (λ crew. All (λ m. IsReadyToClaim board.now.table.shared.table_id N.jobs N.rows N.amount room m.worker m.packet.entries)
         crew.items) }
     ensures owner { IfOk result
         (λ crew. owner.new ≡ record { table = board.now.table.shared.table_id; numbers = []; made = count; unjoined = count }) }
@@ -157,7 +157,7 @@ pub(crate) fn join_all<N: RowName>(board: &WordBoard<N>, owner: &mut Owner<N>, c
     requires owner { owner.old.table ≡ board.now.table.shared.table_id }
     requires unjoined { owner.old.unjoined ≡ length crew.items }
     requires some { 0 < length crew.items }
-    requires done { All (λ m. IsDone board.now.table.shared.table_id N.jobs N.rows N.amount m.worker) crew.items }
+    requires done { All (λ m. IsDoneClaiming board.now.table.shared.table_id N.jobs N.rows N.amount m.worker) crew.items }
     ensures table { owner.new.table ≡ owner.old.table }
     ensures all_joined { owner.new.unjoined ≡ 0 }
     ensures past { (n : ℕ) × Contains owner.new.numbers n × (N.jobs ≤ n) }
@@ -170,7 +170,7 @@ pub(crate) fn join_all<N: RowName>(board: &WordBoard<N>, owner: &mut Owner<N>, c
 // Joins one worker.
 fn join_one<N: RowName>(board: &WordBoard<N>, owner: &mut Owner<N>, member: Member<N>)
     requires owner { owner.old.table ≡ board.now.table.shared.table_id }
-    requires done { IsDone board.now.table.shared.table_id N.jobs N.rows N.amount member.worker }
+    requires done { IsDoneClaiming board.now.table.shared.table_id N.jobs N.rows N.amount member.worker }
     ensures table { owner.new.table ≡ owner.old.table }
     ensures unjoined { owner.new.unjoined ≡ owner.old.unjoined - 1 }
     ensures past { (n : ℕ) × Contains owner.new.numbers n × (N.jobs ≤ n) }

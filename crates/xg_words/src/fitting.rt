@@ -1,43 +1,25 @@
 //! Whether the rows of an input have room in words.
-ghost use Rattle.std.specs.Prelude.{◌≡◌, ◌<◌, ◌*◌, ◌↔◌, IsTrue, max};
+ghost use Rattle.std.specs.Prelude.{◌≡◌, ◌<◌, ◌*◌, ◌↔◌, IsTrue};
 ghost use Rattle.def_plan.specs.Payoff.{mass_of};
-ghost use Rattle.xg_jobs.specs.Groups.{greatest_of};
 ghost use Rattle.def_words.specs.Amounts.{past_sizes};
-ghost use Rattle.xg_words.specs.Running.{Fits};
+ghost use Rattle.xg_words.specs.Running.{HasSmallSums};
 
-use xg_jobs::RowInput;
-use xg_seq::SeqForm;
+use xg_jobs::{RowInput, greatest_number, total_mass};
 
 /// Whether the sizes of all weights together, times the greatest number of both players, are below `2^62`, so that the rows
 /// can be words.
 pub fn fits(input: &RowInput<'_>) -> bool
-    ensures { IsTrue result ↔ Fits input.now.form.now input.now.one.now input.now.two.now }
+    ensures { IsTrue result ↔ HasSmallSums input.now.form.now input.now.one.now input.now.two.now }
 {
-    let most = greatest(input.one).max(greatest(input.two));
-    is_small(total_mass(input.form), most)
+    fits_with(total_mass(input.form), input)
 }
 
-// The sizes of all weights together.
-fn total_mass(form: &SeqForm) -> u64
-    ensures { result ≡ mass_of form.now.leaves }
+/// The same, where the sizes of all weights are added up already.
+pub(crate) fn fits_with(mass: u64, input: &RowInput<'_>) -> bool
+    requires { mass ≡ mass_of input.now.form.now.leaves }
+    ensures { IsTrue result ↔ HasSmallSums input.now.form.now input.now.one.now input.now.two.now }
 {
-    let mut mass = 0;
-    for z in 0..form.leaf_count() {
-        mass += form.leaf(z + 1).w.unsigned_abs();
-    }
-    mass
-}
-
-fn greatest(numbers: &[u64]) -> u64
-    ensures { result ≡ greatest_of numbers.now }
-{
-    let mut greatest = 0;
-    for n in numbers {
-        if *n > greatest {
-            greatest = *n;
-        }
-    }
-    greatest
+    is_small(mass, greatest_number(input.one, input.two))
 }
 
 fn is_small(mass: u64, most: u64) -> bool

@@ -4,7 +4,7 @@ ghost use Rattle.def_sums.specs.Limits.{most_workers};
 ghost use Rattle.xg_jobs.specs.Rows.{AreNumbersOf, ArePlainSums};
 ghost use Rattle.xg_jobs.specs.Table.{IsTableOf};
 
-use crate::fitting::fits;
+use crate::fitting::fits_with;
 use crate::run::run_words;
 use std::alloc::{AllocError, Global};
 use std::sync::Wait;
@@ -12,10 +12,10 @@ use std::thread::Threads;
 use xg_board::run_rows;
 use xg_io::Gate;
 use xg_jobs::{JobTable, RowInput, Rows};
+use xg_rowcore::USUAL_STRIPES;
 
-const STRIPES: u32 = 16;
-
-/// Makes rows by workers in threads: as atomic words where the input fits, else behind locks in 16 stripes.
+/// Makes rows by workers in threads: as atomic words where the input fits, else behind locks in as many stripes as
+/// [`USUAL_STRIPES`](xg_rowcore::USUAL_STRIPES) says.
 ///
 /// It is a [`RowMaker`](xg_jobs::RowMaker) through [`MadeBy`](xg_board::MadeBy), with a closure that calls `rows`, as
 /// [`LockedRows`](xg_board::LockedRows) is.
@@ -43,10 +43,10 @@ impl<'g, G: Gate> AtomicRows<'g, G> {
         ensures { IfOk result (λ rows. ArePlainSums input.now.form.now input.now.one.now input.now.two.now rows) }
     {
         let AtomicRows { workers, gate } = *self;
-        if fits(input) {
+        if fits_with(jobs.mass(), input) {
             run_words(rt, alloc, input, jobs, workers, gate)
         } else {
-            run_rows(rt, alloc, input, jobs, workers, STRIPES, gate)
+            run_rows(rt, alloc, input, jobs, workers, USUAL_STRIPES, gate)
         }
     }
 }

@@ -6,7 +6,7 @@ ghost use Rattle.xg_jobs.specs.Rows.{AreNumbersOf, ArePlainSums};
 ghost use Rattle.xg_jobs.specs.Table.{IsTableOf};
 ghost use Rattle.xg_board.specs.Running.{job_amounts};
 ghost use Rattle.def_words.specs.Amounts.{HaveRoom};
-ghost use Rattle.xg_words.specs.Running.{Fits};
+ghost use Rattle.xg_words.specs.Running.{HasSmallSums};
 
 use crate::board::WordBoard;
 use crate::crew::{join_all, make_crew, work_all};
@@ -59,7 +59,7 @@ pub fn run_words<Rt: Threads + Wait + Sync, G: Gate>(
     requires numbers { AreNumbersOf input.now.form.now input.now.one.now input.now.two.now }
     requires table { IsTableOf input.now.form.now jobs.now }
     requires workers { (1 ≤ workers) × (workers ≤ most_workers) }
-    requires fits { Fits input.now.form.now input.now.one.now input.now.two.now }
+    requires fits { HasSmallSums input.now.form.now input.now.one.now input.now.two.now }
     ensures { IfOk result (λ rows. ArePlainSums input.now.form.now input.now.one.now input.now.two.now rows) }
 {
     // a form's mass is small, and so are the jobs' amounts

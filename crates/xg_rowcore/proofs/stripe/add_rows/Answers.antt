@@ -4,7 +4,7 @@ use mir.Syntax.{w128}
 use mir.Val.{SFits}
 use Rattle.std.specs.Prelude.{unsigned_abs}
 use Rattle.def_history.specs.History.{stripe_of}
-use Rattle.xg_rowcore.specs.Chains.{IsNextOf, rows_of}
+use Rattle.xg_rowcore.specs.Chains.{IsNextOf, rows_of_entries}
 use Rattle.xg_rowcore.specs.Packets.{entry_in}
 use Rattle.xg_rowcore.proofs.Adding.{small_before, entry_of_packet, grown_all, grown_by_none, grown_by_read, place_there}
 use Rattle.xg_rowcore.proofs.Chaining.{found_inside, found_own, grown_to_next}
@@ -53,7 +53,7 @@ loop-i-preserved g c =
     let fits : SFits w128 c.entry-row.result.1 = search rules in
     let entry_grown = rw (to_z-of_z w128 c.entry-row.result.1 fits, here) at c.add_entry.ensures in
     let grown = grown_by_read entries c.loop-i.i c.args.index c.args.stripes c.entry-row.result.0 c.entry-row.result.1 _ _ _ below c.entry-row.ensures.row c.entry-row.ensures.amount c.loop-i.invariant.grown entry_grown in
-    let found = subst (λ k. IsNextOf c.args.stripes k (rows_of entries) (c.loop-i.i + 1) c.next_of-i.result) own c.next_of-i.ensures in
+    let found = subst (λ k. IsNextOf c.args.stripes k (rows_of_entries entries) (c.loop-i.i + 1) c.next_of-i.result) own c.next_of-i.ensures in
     record {
       inside = found_inside entries c.args.stripes c.args.index (c.loop-i.i + 1) c.next_of-i.result found;
       own = found_own entries c.args.stripes c.args.index (c.loop-i.i + 1) c.next_of-i.result found;

@@ -40,8 +40,8 @@ invariant_of-result c =
     (subst (λ b. AreMerged starts entries c.deref-2.result.now (map wide_leaf b)) c.deref-3.ensures.value c.in_ok-groups.ensures) in
     subst (λ es. KeepsGroups starts es others mass) (sym c.in_ok-packed.ensures) (merged_kept starts entries st raw others mass are kept)
 
-pub returns : goal.returns
-returns c =
+pub returns-clause-weights : goal.returns-clause-weights
+returns-clause-weights c =
     let form = c.args.form.now in
     let st = c.in_ok-starts.starts.items in
     let raw : List GroupLeaf = map wide_leaf c.in_ok-entries.entries.items in

@@ -1,5 +1,6 @@
 use Rattle.std.proofs.Common.{◌^◌, map, sym, ap, ◌∙◌}
 use Rattle.xg_jobs.specs.Entries.{leaves_of_group, small_leaf, tiny_leaf, wide_leaf}
+use Rattle.xg_jobs.specs.Grouping.{GroupedWeights}
 use Rattle.xg_jobs.proofs.FormRows.{can_write, wide_room}
 use Rattle.xg_jobs.proofs.groups.LeafGroups.write_to.Goals as goal
 
@@ -11,7 +12,7 @@ write_rows-requires-clause-can c =
     let groups = c.self.inside in
     can_write (2 ^ 127) groups.starts.items c.deref.result.now (leaves_of_group groups.entries) (map tiny_leaf c.deref-in-Tiny.result.now) form x y groups.others groups.mass
     c.deref.ensures.value (ap (map tiny_leaf) c.deref-in-Tiny.ensures.value ∙ sym (ap leaves_of_group c.in-Tiny.is))
-    (c.self.view_is ∙ c.requires.groups) c.self.invariant c.facts.ensures.sequences
+    (ap (λ (g : GroupedWeights). g.weights) c.self.view_is ∙ c.requires.groups) c.self.invariant c.facts.ensures.sequences
     (wide_room groups.starts.items (leaves_of_group groups.entries) form x y groups.others groups.mass c.self.invariant c.requires.numbers)
 
 pub write_rows-requires-clause-fits : goal.write_rows-requires-clause-fits
@@ -22,7 +23,7 @@ write_rows-requires-clause-fits c narrow =
     let groups = c.self.inside in
     can_write (2 ^ 63) groups.starts.items c.deref.result.now (leaves_of_group groups.entries) (map tiny_leaf c.deref-in-Tiny.result.now) form x y groups.others groups.mass
     c.deref.ensures.value (ap (map tiny_leaf) c.deref-in-Tiny.ensures.value ∙ sym (ap leaves_of_group c.in-Tiny.is))
-    (c.self.view_is ∙ c.requires.groups) c.self.invariant c.facts.ensures.sequences
+    (ap (λ (g : GroupedWeights). g.weights) c.self.view_is ∙ c.requires.groups) c.self.invariant c.facts.ensures.sequences
     (c.sums_fit_word-narrow.ensures narrow)
 
 pub write_rows-requires-in-Small-clause-can : goal.write_rows-requires-in-Small-clause-can
@@ -33,7 +34,7 @@ write_rows-requires-in-Small-clause-can c =
     let groups = c.self.inside in
     can_write (2 ^ 127) groups.starts.items c.deref-in-Small.result.now (leaves_of_group groups.entries) (map small_leaf c.deref-in-Small-2.result.now) form x y groups.others groups.mass
     c.deref-in-Small.ensures.value (ap (map small_leaf) c.deref-in-Small-2.ensures.value ∙ sym (ap leaves_of_group c.in-Small.is))
-    (c.self.view_is ∙ c.requires.groups) c.self.invariant c.facts.ensures.sequences
+    (ap (λ (g : GroupedWeights). g.weights) c.self.view_is ∙ c.requires.groups) c.self.invariant c.facts.ensures.sequences
     (wide_room groups.starts.items (leaves_of_group groups.entries) form x y groups.others groups.mass c.self.invariant c.requires.numbers)
 
 pub write_rows-requires-in-Small-clause-fits : goal.write_rows-requires-in-Small-clause-fits
@@ -44,7 +45,7 @@ write_rows-requires-in-Small-clause-fits c narrow =
     let groups = c.self.inside in
     can_write (2 ^ 63) groups.starts.items c.deref-in-Small.result.now (leaves_of_group groups.entries) (map small_leaf c.deref-in-Small-2.result.now) form x y groups.others groups.mass
     c.deref-in-Small.ensures.value (ap (map small_leaf) c.deref-in-Small-2.ensures.value ∙ sym (ap leaves_of_group c.in-Small.is))
-    (c.self.view_is ∙ c.requires.groups) c.self.invariant c.facts.ensures.sequences
+    (ap (λ (g : GroupedWeights). g.weights) c.self.view_is ∙ c.requires.groups) c.self.invariant c.facts.ensures.sequences
     (c.sums_fit_word-narrow.ensures narrow)
 
 pub write_rows-requires-in-Wide-clause-can : goal.write_rows-requires-in-Wide-clause-can
@@ -55,7 +56,7 @@ write_rows-requires-in-Wide-clause-can c =
     let groups = c.self.inside in
     can_write (2 ^ 127) groups.starts.items c.deref-in-Wide.result.now (leaves_of_group groups.entries) (map wide_leaf c.deref-in-Wide-2.result.now) form x y groups.others groups.mass
     c.deref-in-Wide.ensures.value (ap (map wide_leaf) c.deref-in-Wide-2.ensures.value ∙ sym (ap leaves_of_group c.in-Wide.is))
-    (c.self.view_is ∙ c.requires.groups) c.self.invariant c.facts.ensures.sequences
+    (ap (λ (g : GroupedWeights). g.weights) c.self.view_is ∙ c.requires.groups) c.self.invariant c.facts.ensures.sequences
     (wide_room groups.starts.items (leaves_of_group groups.entries) form x y groups.others groups.mass c.self.invariant c.requires.numbers)
 
 pub write_rows-requires-in-Wide-clause-fits : goal.write_rows-requires-in-Wide-clause-fits
@@ -66,5 +67,5 @@ write_rows-requires-in-Wide-clause-fits c narrow =
     let groups = c.self.inside in
     can_write (2 ^ 63) groups.starts.items c.deref-in-Wide.result.now (leaves_of_group groups.entries) (map wide_leaf c.deref-in-Wide-2.result.now) form x y groups.others groups.mass
     c.deref-in-Wide.ensures.value (ap (map wide_leaf) c.deref-in-Wide-2.ensures.value ∙ sym (ap leaves_of_group c.in-Wide.is))
-    (c.self.view_is ∙ c.requires.groups) c.self.invariant c.facts.ensures.sequences
+    (ap (λ (g : GroupedWeights). g.weights) c.self.view_is ∙ c.requires.groups) c.self.invariant c.facts.ensures.sequences
     (c.sums_fit_word-narrow.ensures narrow)

@@ -16,19 +16,19 @@ pub returns-clause-table : goal.returns-clause-table
 returns-clause-table c =
     let form = c.args.form.now in
     let ranges : map range_of c.in_ok-ranges.ranges.items ≡ job_ranges c.args.tree.now = c.in_ok-ranges.ensures.ranges in
-    let weights : c.in_ok-groups.groups ≡ pair_weights form One = c.in_ok-groups.ensures in
+    let weights : c.in_ok-groups.groups.weights ≡ pair_weights form One = c.in_ok-groups.ensures.weights in
     let touched : c.in_ok-touched.touched.items ≡ map (job_rows form) (job_ranges c.args.tree.now) = c.in_ok-touched.ensures ∙ ap (λ rs. map (job_rows form) (map range_of rs)) c.deref.ensures.value ∙ ap (map (job_rows form)) ranges in
-    λ i. record { ranges = ranges i; weights = weights i; touched = touched i }
+    λ i. record { ranges = ranges i; weights = weights i; mass = c.in_ok-groups.ensures.mass i; touched = touched i }
 
 pub returns-clause-whole : goal.returns-clause-whole
 returns-clause-whole c =
     let form = c.args.form.now in
     let ranges : map range_of c.in_ok-ranges.ranges.items ≡ job_ranges c.args.tree.now = c.in_ok-ranges.ensures.ranges in
-    let weights : c.in_ok-groups.groups ≡ pair_weights form One = c.in_ok-groups.ensures in
+    let weights : c.in_ok-groups.groups.weights ≡ pair_weights form One = c.in_ok-groups.ensures.weights in
     let touched : c.in_ok-touched.touched.items ≡ map (job_rows form) (job_ranges c.args.tree.now) = c.in_ok-touched.ensures ∙ ap (λ rs. map (job_rows form) (map range_of rs)) c.deref.ensures.value ∙ ap (map (job_rows form)) ranges in
     record {
       tree = c.args.tree.now;
       rules = c.facts.ensures.rules;
       form_is = c.requires;
-      table_is = λ i. record { ranges = ranges i; weights = weights i; touched = touched i };
+      table_is = λ i. record { ranges = ranges i; weights = weights i; mass = c.in_ok-groups.ensures.mass i; touched = touched i };
     }

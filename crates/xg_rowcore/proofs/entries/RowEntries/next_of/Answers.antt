@@ -2,7 +2,7 @@ use Rattle.std.proofs.Common.{◌≡◌, ◌+◌, ◌<◌, length, ap, sym, subs
 use Rattle.std.specs.Prelude.{slice_index}
 use Rattle.std.proofs.lemmas.Grind.{get_or_default_zero}
 use Rattle.def_history.specs.History.{stripe_of}
-use Rattle.xg_rowcore.specs.Chains.{IsNextOf, rows_of}
+use Rattle.xg_rowcore.specs.Chains.{IsNextOf, rows_of_entries}
 use Rattle.xg_rowcore.specs.Packets.{Listed, entry_in}
 use Rattle.xg_rowcore.proofs.Chaining.{row_of_entry, rows_of-entries_from}
 use Rattle.xg_rowcore.proofs.Rising.{length-entries_from}
@@ -40,8 +40,8 @@ returns-then-self-stripes c =
     let count = length-entries_from rows c.self.inside.amounts.items c.self.invariant.0 in
     let now = ap (λ (l : Listed). length l.list) c.self.view_is in
     let below : c.args.i < length rows = omega (arith, count, now, c.requires.there) in
-    let rows_are : rows ≡ rows_of c.args.self.now.list =
-    sym (rows_of-entries_from rows c.self.inside.amounts.items c.self.invariant.0) ∙ ap (λ (l : Listed). rows_of l.list) c.self.view_is in
+    let rows_are : rows ≡ rows_of_entries c.args.self.now.list =
+    sym (rows_of-entries_from rows c.self.inside.amounts.items c.self.invariant.0) ∙ ap (λ (l : Listed). rows_of_entries l.list) c.self.view_is in
     let row : slice_index rows c.args.i ≡ (entry_in c.args.self.now.list c.args.i).row =
     ap (λ rs. slice_index rs c.args.i) rows_are ∙ row_of_entry c.args.self.now.list c.args.i in
     let is : c.self.inside.chains.stripes ≡ c.args.stripes = c.if-self-stripes.true in
@@ -55,8 +55,8 @@ returns-then-self-stripes c =
 pub returns-else-self-stripes : goal.returns-else-self-stripes
 returns-else-self-stripes c =
     let rows = c.self.inside.rows.items in
-    let rows_are : rows ≡ rows_of c.args.self.now.list =
-    sym (rows_of-entries_from rows c.self.inside.amounts.items c.self.invariant.0) ∙ ap (λ (l : Listed). rows_of l.list) c.self.view_is in
+    let rows_are : rows ≡ rows_of_entries c.args.self.now.list =
+    sym (rows_of-entries_from rows c.self.inside.amounts.items c.self.invariant.0) ∙ ap (λ (l : Listed). rows_of_entries l.list) c.self.view_is in
     let count = length-entries_from rows c.self.inside.amounts.items c.self.invariant.0 in
     let now = ap (λ (l : Listed). length l.list) c.self.view_is in
     let below : c.args.i < length rows = omega (arith, count, now, c.requires.there) in
@@ -65,7 +65,7 @@ returns-else-self-stripes c =
     let row : c.index-else-self-stripes.result.now ≡ (entry_in c.args.self.now.list c.args.i).row =
     read ∙ ap (λ rs. slice_index rs c.args.i) rows_are ∙ row_of_entry c.args.self.now.list c.args.i in
     let items = c.deref.ensures.value in
-    subst (λ r. IsNextOf c.args.stripes (stripe_of c.args.stripes r) (rows_of c.args.self.now.list) (c.args.i + 1) c.seek.result) row
+    subst (λ r. IsNextOf c.args.stripes (stripe_of c.args.stripes r) (rows_of_entries c.args.self.now.list) (c.args.i + 1) c.seek.result) row
     (subst (λ rs. IsNextOf c.args.stripes (stripe_of c.args.stripes c.index-else-self-stripes.result.now) rs (c.args.i + 1) c.seek.result)
     (items ∙ rows_are)
     (subst (λ k. IsNextOf c.args.stripes k c.deref.result.now (c.args.i + 1) c.seek.result) c.stripe_of.ensures c.seek.ensures))

@@ -1,8 +1,8 @@
 use Rattle.std.proofs.Common.{ℕ, ◌<◌, length, get_or, arith}
 use Rattle.std.proofs.lemmas.List.{get_or_default}
 use Rattle.xg_jobs.proofs.Greatest.{greatest_more}
-use Rattle.xg_jobs.proofs.groups.greatest.Goals as goal
-use Rattle.xg_jobs.proofs.groups.greatest.Goals.{then-n-greatest, else-n-greatest}
+use Rattle.xg_jobs.proofs.sizes.greatest.Goals as goal
+use Rattle.xg_jobs.proofs.sizes.greatest.Goals.{then-n-greatest, else-n-greatest}
 
 pub loop-n-preserved : goal.loop-n-preserved
 loop-n-preserved c =
