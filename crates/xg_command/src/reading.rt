@@ -1,5 +1,6 @@
 //! Reading the words behind the command's, one after another.
 ghost use Rattle.std.specs.Prelude.{◌≡◌, None, map, option_map, string_bytes};
+ghost use Rattle.def_command.specs.Table as table;
 ghost use Rattle.def_command.specs.Grammar.{takes_nothing, take_plain, take_digits, read_option, around_equals, read_word, read_words, command_from};
 ghost use Rattle.xg_command.specs.Names.{name_value, option_value};
 ghost use Rattle.xg_command.specs.Values.{taken_value, reading_value, command_value};
@@ -107,60 +108,86 @@ impl<'a> WordsRead<'a> {
     pub(crate) fn command(self, name: CommandName) -> Option<Command<'a>>
         ensures { option_map command_value result ≡ command_from (name_value name) (taken_value self.entry) }
     {
-        let settings = self.options.settings(name);
-        let rows = self.options.rows(name);
-        let workers = self.options.workers();
         match name {
-            CommandName::Solve => {
-                let file = one(&self.plain)?;
-                Some(Command::Solve {
-                    file,
-                    settings,
-                    rows,
-                })
-            }
-            CommandName::Check => {
-                let (file, certificate) = two(&self.plain)?;
-                Some(Command::Check { file, certificate })
-            }
-            CommandName::Upgrade => {
-                let (file, certificate) = two(&self.plain)?;
-                Some(Command::Upgrade { file, certificate })
-            }
-            CommandName::Info => {
-                let file = one(&self.plain)?;
-                Some(Command::Info { file })
-            }
-            CommandName::Gen => {
-                let cards = read_cards(one(&self.plain)?)?;
-                Some(Command::Gen { cards })
-            }
-            CommandName::Drill => {
-                let cards = read_cards(one(&self.plain)?)?;
-                Some(Command::Drill {
-                    cards,
-                    settings,
-                    rows,
-                })
-            }
-            CommandName::Plus => {
-                let file = one(&self.plain)?;
-                Some(Command::Plus {
-                    file,
-                    settings,
-                    rows,
-                })
-            }
-            CommandName::Batch => {
-                if self.plain.is_empty() {
-                    return None;
-                }
-                Some(Command::Batch {
-                    files: self.plain,
-                    settings,
-                    workers,
-                })
-            }
+            CommandName::Solve => self.solve(),
+            CommandName::Check => self.check(),
+            CommandName::Upgrade => self.upgrade(),
+            CommandName::Info => self.info(),
+            CommandName::Gen => self.generate(),
+            CommandName::Drill => self.drill(),
+            CommandName::Plus => self.plus(),
+            CommandName::Batch => self.batch(),
         }
+    }
+
+    fn solve(&self) -> Option<Command<'a>>
+        ensures { option_map command_value result ≡ command_from table.Solve (taken_value self.now) }
+    {
+        Some(Command::Solve {
+            file: one(&self.plain)?,
+            settings: self.options.settings(CommandName::Solve),
+            rows: self.options.rows(CommandName::Solve),
+        })
+    }
+
+    fn check(&self) -> Option<Command<'a>>
+        ensures { option_map command_value result ≡ command_from table.Check (taken_value self.now) }
+    {
+        let (file, certificate) = two(&self.plain)?;
+        Some(Command::Check { file, certificate })
+    }
+
+    fn upgrade(&self) -> Option<Command<'a>>
+        ensures { option_map command_value result ≡ command_from table.Upgrade (taken_value self.now) }
+    {
+        let (file, certificate) = two(&self.plain)?;
+        Some(Command::Upgrade { file, certificate })
+    }
+
+    fn info(&self) -> Option<Command<'a>>
+        ensures { option_map command_value result ≡ command_from table.Info (taken_value self.now) }
+    {
+        let file = one(&self.plain)?;
+        Some(Command::Info { file })
+    }
+
+    fn generate(&self) -> Option<Command<'a>>
+        ensures { option_map command_value result ≡ command_from table.Gen (taken_value self.now) }
+    {
+        let cards = read_cards(one(&self.plain)?)?;
+        Some(Command::Gen { cards })
+    }
+
+    fn drill(&self) -> Option<Command<'a>>
+        ensures { option_map command_value result ≡ command_from table.Drill (taken_value self.now) }
+    {
+        Some(Command::Drill {
+            cards: read_cards(one(&self.plain)?)?,
+            settings: self.options.settings(CommandName::Drill),
+            rows: self.options.rows(CommandName::Drill),
+        })
+    }
+
+    fn plus(&self) -> Option<Command<'a>>
+        ensures { option_map command_value result ≡ command_from table.Plus (taken_value self.now) }
+    {
+        Some(Command::Plus {
+            file: one(&self.plain)?,
+            settings: self.options.settings(CommandName::Plus),
+            rows: self.options.rows(CommandName::Plus),
+        })
+    }
+
+    fn batch(self) -> Option<Command<'a>>
+        ensures { option_map command_value result ≡ command_from table.Batch (taken_value self.entry) }
+    {
+        if self.plain.is_empty() {
+            return None;
+        }
+        Some(Command::Batch {
+            settings: self.options.settings(CommandName::Batch),
+            workers: self.options.workers(),
+            files: self.plain,
+        })
     }
 }
