@@ -10,6 +10,7 @@ use Rattle.def_fraction.specs.Fraction.{Fraction}
 use Rattle.def_game_scale.specs.Tables.{game_sum}
 use Rattle.def_game_scale.specs.Scale.{game_unit}
 use Rattle.def_file.specs.Content.{GameFile}
+use Rattle.def_game_numbers.specs.Faultless.{IsFaultless}
 use Rattle.def_game_numbers.specs.Numbers.{tables_of}
 use Rattle.def_game_numbers.specs.Weighed.{weighed_game}
 use Rattle.def_plan.specs.Form.{AreInOrder}
@@ -36,7 +37,7 @@ use Rattle.def_cert_verdict.proofs.Shown.{accepted}
 use Rattle.def_cert_text.specs.Versions.{PrintedBracket}
 use Rattle.def_cert_text.specs.Laws.{with_second}
 use Rattle.def_cert_versions.specs.Verdict.{second_bracket}
-use Rattle.def_cert_versions.specs.PlayerTwo.{BoundsPlayerTwo, IsFaultless, IsLeftTo, TheSecondBracketBoundsPlayerTwo}
+use Rattle.def_cert_versions.specs.PlayerTwo.{BoundsPlayerTwo, IsLeftTo, TheSecondBracketBoundsPlayerTwo}
 use Rattle.def_cert_versions.proofs.VersionedVerdict.{accept_alike}
 
 -- what an accepted certificate with bounds has

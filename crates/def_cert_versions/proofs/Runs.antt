@@ -5,6 +5,7 @@ use Rattle.def_plan.specs.Weighed.{WeighedGame}
 use Rattle.def_reply.specs.Outcome.{Head}
 use Rattle.def_run.specs.Run.{outcome}
 use Rattle.def_run.proofs.RunLaws.{runs_have_ends}
+use Rattle.def_game_numbers.specs.WholeSums.{HasWholeSum}
 use Rattle.def_cert_verdict.specs.Certificate.{Certificate}
 use Rattle.def_cert_verdict.specs.Ranges.{CertificateFits, HeadFits}
 use Rattle.def_cert_verdict.specs.Verdict.{Verdict, head_only, verdict}
@@ -16,7 +17,6 @@ use Rattle.def_cert_text.specs.Versions.{VersionedFits, in_version_one}
 use Rattle.def_cert_text.specs.CertText.{versioned_text}
 use Rattle.def_cert_text.proofs.TextLaws.{versioned_reading}
 use Rattle.def_cert_versions.specs.Verdict.{upgraded}
-use Rattle.def_cert_versions.specs.Upgrade.{HasWholeSum}
 use Rattle.def_cert_versions.specs.Runs.{IsAcceptedInBoth, TheTextsOfARunAreAccepted}
 use Rattle.def_cert_versions.proofs.VersionedVerdict.{old_verdicts, upgrades}
 use Rattle.def_cert_versions.proofs.Upgrades.{upgradable, upgrades_fit as upgrade_fits}

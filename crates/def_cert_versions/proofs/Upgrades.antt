@@ -5,7 +5,6 @@ use Rattle.std.specs.Option.{option_map}
 use Rattle.std.specs.Prelude.{◌-ℤ◌}
 use Rattle.std.proofs.Math.Nat.{div-le_self, dvd-mul_left, dvd-mul_right_of_dvd, le_of_mul-le-mul_right, mul-le-mul, mul-le-mul_left, mul-le-mul_right, mul-one, mul_assoc, mul_comm, one-le-mul, one-mul}
 use Rattle.std.proofs.lemmas.Int.{ints, unsigned_abs-mul}
-use Rattle.std.proofs.lemmas.List.Elements.{All-head}
 use Rattle.def_sums.proofs.SumLaws.{nat_sum_over-factor, nat_sum_over-mono, unsigned_abs-sum_over}
 use Rattle.def_tree.specs.declared.Kind.TheVariants as kinds
 use Rattle.def_fraction.specs.Divisors.{gcd}
@@ -13,15 +12,11 @@ use Rattle.def_fraction.specs.Fraction.{Fraction, IsInLowestTerms, fraction_of, 
 use Rattle.def_fraction.specs.Laws.{HasValue}
 use Rattle.def_fraction.proofs.DivisorLemmas.{divides_other}
 use Rattle.def_fraction.proofs.FractionLemmas.{fraction_of-value, unsigned_abs-without_factor}
-use Rattle.def_game_scale.specs.Faults.{GameFault, game_fault}
-use Rattle.def_game_scale.specs.Scale.{all_fractions, game_unit, weight_of}
-use Rattle.def_game_scale.specs.Tables.{game_sum}
-use Rattle.def_game_scale.proofs.Expected.{fractions-lowest}
-use Rattle.def_game_scale.proofs.Sound.{sound}
-use Rattle.def_game_scale.proofs.Units.{den-divides as den-divides_all, whole-weight}
-use Rattle.def_game_numbers.specs.Numbers.{as_file_fault, tables_of}
+use Rattle.def_game_scale.specs.Scale.{weight_of}
+use Rattle.def_game_scale.proofs.Units.{whole-weight}
 use Rattle.def_game_numbers.specs.Weighed.{weighed_game}
-use Rattle.def_game_numbers.proofs.Fractions.{tables_lowest}
+use Rattle.def_game_numbers.specs.WholeSums.{IsSmallTimes, IsWholeIn}
+use Rattle.def_game_numbers.proofs.WholeSums.{whole_sums}
 use Rattle.def_plan.specs.Form.{AreInOrder, Leaf}
 use Rattle.def_plan.specs.Plan.{pure_plan}
 use Rattle.def_plan.specs.Payoff.{mass_of, pay}
@@ -41,7 +36,7 @@ use Rattle.def_cert_text.specs.declared.version.TextVersion.TheVariants as versi
 use Rattle.def_cert_text.specs.CertText.{versioned_text}
 use Rattle.def_cert_text.proofs.TextLaws.{versioned_reading}
 use Rattle.def_cert_versions.specs.Verdict.{second_bracket, upgraded}
-use Rattle.def_cert_versions.specs.Upgrade.{IsWholeIn, AcceptedAreUpgradable, EndTurns, EndsTurn, FaultlessGamesHaveWholeSums, IsSmallTimes, UpgradedTextsAreAccepted, UpgradesFit}
+use Rattle.def_cert_versions.specs.Upgrade.{AcceptedAreUpgradable, EndTurns, EndsTurn, UpgradedTextsAreAccepted, UpgradesFit}
 use Rattle.def_cert_versions.proofs.VersionedVerdict.{accept_alike, upgrades}
 use Rattle.def_cert_versions.proofs.PlayerTwo.{accepted_with, in_order, some_unit}
 
@@ -206,21 +201,6 @@ upgrades_fit c fits is = record {
   certificate = fits.certificate;
   second = second_within c.certificate.head c.certificate.bounds fits.certificate.head fits.certificate.below is.sum_is.whole is.sum_is.small is.ends;
 }
-
--- a file's game without a fault has a whole sum
-pub whole_sums : FaultlessGamesHaveWholeSums
-whole_sums game is =
-    let lowest = tables_lowest game is.fractions in
-    let numbers = (sound (tables_of game) game.tree lowest (no_game_fault (game_fault (tables_of game) game.tree) is.no_fault)).numbers in
-    let unit : ℕ = game_unit (tables_of game) game.tree in
-    let sum : Fraction = game_sum (tables_of game) game.tree in
-    let divides : sum.den ∣ unit = All-head (λ (f : Fraction). f.den ∣ unit) sum _ (den-divides_all (all_fractions (tables_of game) game.tree) (fractions-lowest (tables_of game) game.tree lowest)) in
-    let size : unsigned_abs (weight_of unit sum) * sum.den ≡ unsigned_abs sum.num * unit = sym (unsigned_abs-mul (weight_of unit sum) (pos sum.den)) ∙ ap unsigned_abs (whole-weight unit sum divides) ∙ unsigned_abs-mul sum.num (pos unit) in
-    record { whole = divides; small = omega (arith, size, mul-le-mul_right sum.den numbers.whole_sum_within) }
-  where
-    no_game_fault : (o : Option GameFault) → as_file_fault o ≡ None → o ≡ None
-    no_game_fault None e = refl
-    no_game_fault (Some fault) e = cc
 
 -- the text of the upgrade of an accepted text is accepted
 pub upgraded_texts : UpgradedTextsAreAccepted

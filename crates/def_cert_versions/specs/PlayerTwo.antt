@@ -1,14 +1,13 @@
 -- What the second bracket of an accepted certificate says of player two, in player two's own payoff.
---     IsFaultless game                                 the game of a file without a fault
 --     BoundsPlayerTwo tables tree x y second           the second bracket bounds what player two gets by the plans x and y
-use Rattle.std.specs.Prelude.{◌≡◌, ℕ, List, None, Ok}
+use Rattle.std.specs.Prelude.{◌≡◌, ℕ, List, Ok}
 use Rattle.def_tree.specs.declared.Player.TheVariants.{One, Two}
 use Rattle.def_tree.specs.Tree.{Forest}
 use Rattle.def_fraction.specs.Fraction.{Fraction}
 use Rattle.def_game_scale.specs.Tables.{Tables}
 use Rattle.def_file.specs.Content.{GameFile}
-use Rattle.def_file.specs.Game.{HasFractions, IsWholeGame}
-use Rattle.def_game_numbers.specs.Numbers.{game_file_fault, tables_of}
+use Rattle.def_game_numbers.specs.Faultless.{IsFaultless}
+use Rattle.def_game_numbers.specs.Numbers.{tables_of}
 use Rattle.def_game_numbers.specs.Weighed.{weighed_game}
 use Rattle.def_reply.specs.Outcome.{Head}
 use Rattle.def_constant_sum.specs.Bounds.{IsAtMost, IsBestPayoff, IsPlanFor, IsSureOf, payoff_by}
@@ -17,11 +16,6 @@ use Rattle.def_cert_verdict.specs.Verdict.{Verdict}
 use Rattle.def_cert_text.specs.Versions.{PrintedBracket}
 use Rattle.def_cert_text.specs.Laws.{with_second}
 use Rattle.def_cert_versions.specs.Verdict.{versioned_verdict}
-
-pub record IsFaultless (game : GameFile) : Type 0 where
-  pub whole : IsWholeGame game
-  pub fractions : HasFractions game.sets game.outcomes
-  pub no_fault : game_file_fault game ≡ None
 
 -- some plan of player one leaves player two's plan just this
 pub record IsLeftTo (tables : Tables) (tree : Forest) (plan_two : List ℕ) (low : Fraction) : Type 0 where

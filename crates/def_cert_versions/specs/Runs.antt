@@ -5,6 +5,7 @@ use Rattle.def_plan.specs.Form.{AreInOrder}
 use Rattle.def_plan.specs.Weighed.{WeighedGame}
 use Rattle.def_reply.specs.Outcome.{Head}
 use Rattle.def_run.specs.Run.{outcome}
+use Rattle.def_game_numbers.specs.WholeSums.{HasWholeSum}
 use Rattle.def_cert_verdict.specs.Certificate.{Certificate}
 use Rattle.def_cert_verdict.specs.Ranges.{HeadFits}
 use Rattle.def_cert_verdict.specs.Verdict.{Verdict, verdict}
@@ -13,7 +14,6 @@ use Rattle.def_cert_accepted.specs.OfOutcome.{certificate_of}
 use Rattle.def_cert_text.specs.Versions.{in_version_one}
 use Rattle.def_cert_text.specs.CertText.{versioned_in, versioned_text}
 use Rattle.def_cert_versions.specs.Verdict.{upgraded, versioned_verdict}
-use Rattle.def_cert_versions.specs.Upgrade.{HasWholeSum}
 
 -- the text of version 1 says the certificate, and the text of version 2 its upgrade, and both have its verdict
 pub record IsAcceptedInBoth (game : WeighedGame) (c : Certificate) : Type 0 where

@@ -1,11 +1,12 @@
 -- Upgrading within the ranges: what it needs of a certificate, and that what is accepted has it.
---     IsWholeIn unit f     the fraction times the unit is whole, and within the limit
---     IsUpgradable c       what the second bracket of the upgrade needs to be within its ranges
-use Rattle.std.specs.Prelude.{◌≡◌, ℕ, ◌*◌, ◌≤◌, List, unsigned_abs, Option, Some, None, Ok}
+--     IsUpgradable c    what the second bracket of the upgrade needs to be within its ranges
+use Rattle.std.specs.Prelude.{◌≡◌, ℕ, ◌*◌, ◌≤◌, List, Option, Some, None, Ok}
 use Rattle.std.specs.Int.{◌∣◌}
-use Rattle.def_fraction.specs.Fraction.{Fraction, most}
+use Rattle.def_fraction.specs.Fraction.{Fraction}
 use Rattle.def_file.specs.Content.{GameFile}
+use Rattle.def_game_numbers.specs.Faultless.{IsFaultless}
 use Rattle.def_game_numbers.specs.Weighed.{weighed_game}
+use Rattle.def_game_numbers.specs.WholeSums.{HasWholeSum, IsSmallTimes, IsWholeIn}
 use Rattle.def_plan.specs.Form.{AreInOrder}
 use Rattle.def_plan.specs.Weighed.{WeighedGame}
 use Rattle.def_cert_verdict.specs.Certificate.{PrintedBounds}
@@ -15,22 +16,6 @@ use Rattle.def_cert_text.specs.declared.version.TextVersion.TheVariants as versi
 use Rattle.def_cert_text.specs.CertText.{versioned_in, versioned_text}
 use Rattle.def_cert_versions.specs.Verdict.{upgraded, versioned_verdict}
 use Rattle.def_cert_versions.specs.Laws.{HasItsSecond}
-use Rattle.def_cert_versions.specs.PlayerTwo.{IsFaultless}
-
--- the fraction times the unit is at most the limit of a part, in size
-abbrev pub IsSmallTimes : ℕ → Fraction → Type 0
-IsSmallTimes unit f = unsigned_abs f.num * unit ≤ most * f.den
-
--- ---- the game
-pub record IsWholeIn (unit : ℕ) (f : Fraction) : Type 0 where
-  pub whole : f.den ∣ unit
-  pub small : IsSmallTimes unit f
-
-abbrev pub HasWholeSum : WeighedGame → Type 0
-HasWholeSum game = IsWholeIn game.unit game.sum
-
-abbrev pub FaultlessGamesHaveWholeSums : Type 0
-FaultlessGamesHaveWholeSums = (game : GameFile) → IsFaultless game → HasWholeSum (weighed_game game)
 
 -- ---- the certificate: an end of the bracket over the unit and its plan's root
 pub record EndTurns (unit root : ℕ) (end : Fraction) : Type 0 where

@@ -8,8 +8,7 @@ ghost use Rattle.def_cert_versions.specs.Laws.{EachVersionedFaultHasItsCause, Ol
 ghost use Rattle.def_cert_versions.specs.Laws.{VersionsAcceptAlike};
 ghost use Rattle.def_cert_versions.specs.PlayerTwo.{TheSecondBracketBoundsPlayerTwo};
 ghost use Rattle.def_cert_versions.specs.Runs.{TheTextsOfARunAreAccepted};
-ghost use Rattle.def_cert_versions.specs.Upgrade.{AcceptedAreUpgradable, FaultlessGamesHaveWholeSums};
-ghost use Rattle.def_cert_versions.specs.Upgrade.{UpgradedTextsAreAccepted, UpgradesFit};
+ghost use Rattle.def_cert_versions.specs.Upgrade.{AcceptedAreUpgradable, UpgradedTextsAreAccepted, UpgradesFit};
 
 /// Both versions accept the same certificates, and version 2 those alone whose second bracket is what the sum leaves.
 pub fn versions_accept_alike()
@@ -36,11 +35,6 @@ pub fn old_verdicts_stay()
 /// gets the lower end against every plan, and no plan of player two is sure of more than the upper end.
 pub fn the_second_bracket_bounds_player_two()
     ensures { TheSecondBracketBoundsPlayerTwo }
-{}
-
-/// In the unit of a file's game without a fault the sum is whole, and within the limit.
-pub fn faultless_games_have_whole_sums()
-    ensures { FaultlessGamesHaveWholeSums }
 {}
 
 /// An accepted certificate has what its upgrade needs to be within the ranges.

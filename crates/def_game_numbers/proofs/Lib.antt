@@ -1,3 +1,4 @@
 pub mod Refusals
 pub mod Weighing
 pub mod Fractions
+pub mod WholeSums

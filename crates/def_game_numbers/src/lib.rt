@@ -4,6 +4,7 @@
 ghost use Rattle.def_game_numbers.specs.Laws.{FormStandsOnAnswers, NumbersRefusedWithTheFirst};
 ghost use Rattle.def_game_numbers.specs.Laws.{TablesAreFractions, WeighsExactly, WeightsFit};
 ghost use Rattle.def_game_numbers.specs.Rows.{FileRows, HeadRows};
+ghost use Rattle.def_game_numbers.specs.WholeSums.{FaultlessGamesHaveWholeSums};
 
 /// Where a file's fractions are in lowest terms, those of its tables are.
 pub fn tables_are_fractions()
@@ -30,6 +31,11 @@ pub fn weights_fit()
 /// The form that stands on what weighing and building the sets answer is the game's, with these sets and this mass.
 pub fn form_stands_on_answers()
     ensures { FormStandsOnAnswers }
+{}
+
+/// In the unit of a file's game without a fault the sum is whole, and within the limit.
+pub fn faultless_games_have_whole_sums()
+    ensures { FaultlessGamesHaveWholeSums }
 {}
 
 /// A fault of the numbers refuses a file; a lack of recall doesn't refuse weighing, and building the sets finds it.

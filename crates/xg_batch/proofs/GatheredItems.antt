@@ -8,7 +8,7 @@ use Rattle.std.proofs.lemmas.List.{get_or-set_other, length-reverse, length-set,
 use Rattle.std.proofs.lemmas.List.FromFn.{length-range_with_len}
 use Rattle.std.proofs.lemmas.Nat.{mod_below}
 use Rattle.xg_engine.specs.declared.settings.Settings.{Settings}
-use Rattle.xg_batch.specs.Items.{AreItemsOf, IsItemOf, entry_seen}
+use Rattle.xg_batch.specs.Items.{AreItemsOf, IsItemOf, batch_entry_seen}
 use Rattle.xg_batch.specs.Shares.{AreItemsAt, HasItemsFrom, HaveShares, HaveSharesBelow, HoldsShare, IsItemAt}
 use Rattle.xg_batch.proofs.ItemsInOrder.{holds_less, holds_same_less, holds_some}
 use Rattle.xg_batch.specs.declared.entry.Entry.{Entry}
@@ -49,7 +49,7 @@ gathered_count batch first items have =
 
 pub items_count : (settings : Settings) (entries : List Entry) (items : List Item) → AreItemsOf settings entries items
     → length items ≡ length entries
-items_count settings entries items are = zip_length (λ entry item. IsItemOf settings (entry_seen entry) item) entries items are
+items_count settings entries items are = zip_length (λ entry item. IsItemOf settings (batch_entry_seen entry) item) entries items are
 
 -- all items are gathered
 all_of_rest : (settings : Settings) (entries rest : List Entry) (k : ℕ)
@@ -63,7 +63,7 @@ all_of_rest settings entries (entry ∷ rest) k at (item ∷ items) are =
     let first : slice_get entries k ≡ Some entry = sym (at zero ∙ ap (slice_get entries) here) in
     let behind : (i : ℕ) → slice_get rest i ≡ slice_get entries (k + 1 + i) =
     λ i. (let next : k + suc i ≡ k + 1 + i = omega arith in at (suc i) ∙ ap (slice_get entries) next) in (
-      subst (λ (o : Option Entry). IsSomeAnd o (λ it. IsItemOf settings (entry_seen it) item)) first are.0,
+      subst (λ (o : Option Entry). IsSomeAnd o (λ it. IsItemOf settings (batch_entry_seen it) item)) first are.0,
       all_of_rest settings entries rest (k + 1) behind items are.1,
     )
 

@@ -1,5 +1,5 @@
 -- What becomes of the files of a batch.
---     entry_seen                        an entry, as the definitions have it
+--     batch_entry_seen                        an entry, as the definitions have it
 --     IsItemOf settings entry item      the item of an entry, where this is asked
 --     AreItemsOf settings entries items of each entry its item, in order
 use Rattle.std.specs.Prelude.{◌≡◌, ℕ, ◌≤◌, List, Some, None, Err, IfSome, IsOkAnd}
@@ -8,8 +8,8 @@ use Rattle.def_file.specs.Content.{GameFile}
 use Rattle.def_plan.specs.Weighed.{WeighedGame}
 use Rattle.def_game_numbers.specs.Numbers.{game_file_fault}
 use Rattle.def_game_numbers.specs.Weighed.{weighed_game}
+use Rattle.def_game_numbers.specs.WholeSums.{IsWholeIn}
 use Rattle.def_run.specs.Run.{outcome}
-use Rattle.def_cert_versions.specs.Upgrade.{HasWholeSum}
 use Rattle.def_batch.specs.Batch.{BatchEntry, Kept, Long, entry_bytes, item_of}
 use Rattle.xg_cert.specs.Writable.{IsOutcomeOf}
 use Rattle.xg_game.specs.declared.fault.Refused.{Refused as Unread}
@@ -22,12 +22,12 @@ use Rattle.xg_batch.specs.declared.item.Item.{Item}
 use Rattle.xg_batch.specs.declared.item.Item.TheVariants.{Solved, Refused}
 
 -- ---- entries
-abbrev pub entry_seen : Entry → BatchEntry
-entry_seen (Bytes bytes) = Kept bytes
-entry_seen TooLong = Long
+abbrev pub batch_entry_seen : Entry → BatchEntry
+batch_entry_seen (Bytes bytes) = Kept bytes
+batch_entry_seen TooLong = Long
 
 abbrev pub HasAtMost : ℕ → Entry → Type 0
-HasAtMost most entry = entry_bytes (entry_seen entry) ≤ most
+HasAtMost most entry = entry_bytes (batch_entry_seen entry) ≤ most
 
 -- ---- items
 -- the engine has this game, and its outcome is that of the rounds, which can be written
@@ -35,11 +35,11 @@ pub record IsPlayedEngine (settings : Settings) (game : WeighedGame) (engine : E
   pub game_is : engine.game ≡ game
   pub outcome_is : engine.outcome ≡ Some (outcome game.form (head_with game settings))
   pub writable : IfSome engine.outcome (IsOutcomeOf engine.game.form)
+  pub whole_sum : IfSome engine.outcome (λ outcome. IsWholeIn outcome.head.unit outcome.head.sum)
 
--- the same of the game of an accepted file, whose sum is whole in its unit
-pub record IsSolved (settings : Settings) (game : GameFile) (engine : EngineState) : Type 0 where
-  pub played : IsPlayedEngine settings (weighed_game game) engine
-  pub whole_sum : HasWholeSum engine.game
+-- the same of the game of an accepted file
+abbrev pub IsSolved : Settings → GameFile → EngineState → Type 0
+IsSolved settings game engine = IsPlayedEngine settings (weighed_game game) engine
 
 -- the file is accepted and its game solved, or it has this first fault
 abbrev pub IsItemOf : Settings → BatchEntry → Item → Type 0
@@ -47,7 +47,7 @@ IsItemOf settings entry (Solved engine) = IsOkAnd (item_of entry) (λ game. IsSo
 IsItemOf settings entry (Refused fault) = item_of entry ≡ Err fault
 
 abbrev pub AreItemsOf : Settings → List Entry → List Item → Type 0
-AreItemsOf settings entries items = AllZip (λ entry item. IsItemOf settings (entry_seen entry) item) entries items
+AreItemsOf settings entries items = AllZip (λ entry item. IsItemOf settings (batch_entry_seen entry) item) entries items
 
 -- ---- the same of a game that was read
 abbrev pub IsItemOfGame : Settings → GameFile → Item → Type 0
@@ -60,6 +60,6 @@ IsPlayedItem settings game (Solved engine) = IsPlayedEngine settings game engine
 IsPlayedItem settings game (Refused fault) = ⊥
 
 -- the item of a file that is refused with a fault
-abbrev pub IsRefusal : Unread → Item → Type 0
-IsRefusal (File fault) item = item ≡ Refused fault
-IsRefusal NoMemory item = ⊥
+abbrev pub IsRefusedItem : Unread → Item → Type 0
+IsRefusedItem (File fault) item = item ≡ Refused fault
+IsRefusedItem NoMemory item = ⊥

@@ -9,7 +9,7 @@ use Rattle.def_sums.specs.Limits.{most_workers}
 use Rattle.def_command.specs.Table.{most_files}
 use Rattle.xg_engine.specs.State.{AreWithinLimits}
 use Rattle.xg_engine.specs.declared.settings.Settings.{Settings}
-use Rattle.xg_batch.specs.Items.{HasAtMost, IsItemOf, entry_seen}
+use Rattle.xg_batch.specs.Items.{HasAtMost, IsItemOf, batch_entry_seen}
 use Rattle.xg_batch.specs.declared.entry.Entry.{Entry}
 use Rattle.xg_batch.specs.declared.item.Item.{Item}
 use Rattle.xg_batch.specs.declared.worker.Batch.{Batch}
@@ -26,7 +26,7 @@ pub record CanBeSolved (batch : Batch) : Type 0 where
 -- the item of the file of this number
 abbrev pub IsItemAt : Settings → List Entry → ℕ → Item → Type 0
 IsItemAt settings entries file item =
-    IsSomeAnd (slice_get entries file) (λ entry. IsItemOf settings (entry_seen entry) item)
+    IsSomeAnd (slice_get entries file) (λ entry. IsItemOf settings (batch_entry_seen entry) item)
 
 abbrev pub AreItemsAt : Batch → List ℕ → List Item → Type 0
 AreItemsAt batch files items = AllZip (IsItemAt batch.settings batch.entries.now) files items

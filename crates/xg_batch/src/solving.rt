@@ -4,7 +4,7 @@ ghost use Rattle.std.specs.Thread.{IsSync};
 ghost use Rattle.def_file.specs.Reading.{most_bytes};
 ghost use Rattle.def_batch.specs.Batch.{Kept};
 ghost use Rattle.xg_engine.specs.State.{AreWithinLimits};
-ghost use Rattle.xg_batch.specs.Items.{IsItemOf, IsItemOfGame, IsPlayedItem, IsRefusal};
+ghost use Rattle.xg_batch.specs.Items.{IsItemOf, IsItemOfGame, IsPlayedItem, IsRefusedItem};
 
 use crate::item::Item;
 use std::alloc::{AllocError, Global};
@@ -48,9 +48,6 @@ fn solve_game<Rt: Threads + Wait + Sync>(
     requires limits { AreWithinLimits settings }
     ensures { IfOk result (IsItemOfGame settings game.now) }
 {
-    // What is true of each game, by which the sum of an accepted one is whole.
-    game.numbers_are_in_lowest_terms();
-    let _tree = game.tree();
     match Engine::open(alloc, game) {
         Ok(engine) => play(rt, alloc, engine, settings),
         Err(refused) => refusal(refused),
@@ -59,7 +56,7 @@ fn solve_game<Rt: Threads + Wait + Sync>(
 
 /// The item of a file that is refused, unless it is for want of memory.
 fn refusal(refused: Refused) -> Result<Item, AllocError>
-    ensures { IfOk result (IsRefusal refused) }
+    ensures { IfOk result (IsRefusedItem refused) }
 {
     match refused {
         Refused::File(fault) => Ok(Item::Refused(fault)),

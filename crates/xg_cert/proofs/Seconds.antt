@@ -14,7 +14,8 @@ use Rattle.def_reply.specs.Outcome.{End, Head}
 use Rattle.def_cert_verdict.specs.Certificate.{PrintedBounds}
 use Rattle.def_cert_verdict.specs.Ranges.{BoundsFit, FitsBelowHead, HeadFits, IsFromTo}
 use Rattle.def_cert_accepted.specs.OfOutcome.{printed_bound}
-use Rattle.def_cert_versions.specs.Upgrade.{EndTurns, EndsTurn, IsUpgradable, IsWholeIn}
+use Rattle.def_cert_versions.specs.Upgrade.{EndTurns, EndsTurn, IsUpgradable}
+use Rattle.def_game_numbers.specs.WholeSums.{IsWholeIn}
 use Rattle.def_cert_versions.proofs.Upgrades.{den-divides, weight-small}
 use Rattle.xg_cert.specs.declared.bounds.FormBounds.{FormBounds}
 use Rattle.def_cert_text.specs.Versions.{VersionedCertificate, VersionedFits}

@@ -6,7 +6,7 @@ use Rattle.std.proofs.lemmas.List.{drop_more}
 use Rattle.def_outside.specs.Sinks.{AppendsPrefix, Writes}
 use Rattle.xg_io.proofs.KnownBytesInPieces.{Progress, whole}
 use Rattle.xg_io.proofs.Pieces.{prefix_first, then_rest, goes_on, fails}
-use Rattle.def_cert_text.specs.Fields.{space, feed, FieldKind, Item, field, separator, items_text}
+use Rattle.def_cert_text.specs.Fields.{space, feed, FieldKind, TextItem, field, separator, items_text}
 use Rattle.def_cert_text.proofs.FormatLaws.{items_text-append}
 use Rattle.def_reply.specs.Outcome.{Head}
 use Rattle.def_cert_text.specs.Formats.{Format, text_of, each_items, row_items}
@@ -17,13 +17,13 @@ use Rattle.xg_cert.specs.Writes.{field_text, counts_text, units_text}
 
 -- ---- items
 
-field-items : (k : FieldKind) (w : List ℕ) (s : ℕ) (items : List Item)
+field-items : (k : FieldKind) (w : List ℕ) (s : ℕ) (items : List TextItem)
     → field_text w s ++ items_text items ≡ items_text (field k w ∷ separator s ∷ items)
 unfolding field_text items_text
 field-items k w s items = append_assoc w (s ∷ []) (items_text items)
 
 -- a front of the first field is a front of the whole
-pub first_field : (before now : Option (List ℕ)) (k : FieldKind) (w : List ℕ) (s : ℕ) (items : List Item)
+pub first_field : (before now : Option (List ℕ)) (k : FieldKind) (w : List ℕ) (s : ℕ) (items : List TextItem)
     → AppendsPrefix before now (field_text w s)
     → AppendsPrefix before now (items_text (field k w ∷ separator s ∷ items))
 first_field before now k w s items p =
@@ -31,7 +31,7 @@ first_field before now k w s items p =
 
 -- the first field, and then the rest
 pub then_field : {T E : Type 0} (before middle now : Option (List ℕ)) (k : FieldKind) (w : List ℕ) (s : ℕ)
-    (items : List Item)
+    (items : List TextItem)
     (r : Result T E) → middle ≡ append_known before (field_text w s) → Writes middle now (items_text items) r
     → Writes before now (items_text (field k w ∷ separator s ∷ items)) r
 then_field before middle now k w s items r e w' =
@@ -45,22 +45,22 @@ unfolding field_text items_text
 last_field before now k w s r h = h
 
 -- a front of the first two fields is a front of the whole
-pub first_two : (before now : Option (List ℕ)) (k l : FieldKind) (w v : List ℕ) (s t : ℕ) (items : List Item)
+pub first_two : (before now : Option (List ℕ)) (k l : FieldKind) (w v : List ℕ) (s t : ℕ) (items : List TextItem)
     → AppendsPrefix before now (items_text (field k w ∷ separator s ∷ field l v ∷ separator t ∷ []))
     → AppendsPrefix before now (items_text (field k w ∷ separator s ∷ field l v ∷ separator t ∷ items))
 first_two before now k l w v s t items p =
-    let front : List Item = field k w ∷ separator s ∷ field l v ∷ separator t ∷ [] in
+    let front : List TextItem = field k w ∷ separator s ∷ field l v ∷ separator t ∷ [] in
     subst (AppendsPrefix before now) (sym (items_text-append front items))
     (prefix_first before now (items_text front) (items_text items) p)
 
 -- where two fields were written whole, writing the rest, or a front of it, has written the whole, or a front of it
 pub then_two : {T E : Type 0} (before middle now : Option (List ℕ)) (k l : FieldKind) (w v : List ℕ) (s t : ℕ)
-    (items : List Item) (r : Result T E)
+    (items : List TextItem) (r : Result T E)
     → middle ≡ append_known before (items_text (field k w ∷ separator s ∷ field l v ∷ separator t ∷ []))
     → Writes middle now (items_text items) r
     → Writes before now (items_text (field k w ∷ separator s ∷ field l v ∷ separator t ∷ items)) r
 then_two before middle now k l w v s t items r e h =
-    let front : List Item = field k w ∷ separator s ∷ field l v ∷ separator t ∷ [] in
+    let front : List TextItem = field k w ∷ separator s ∷ field l v ∷ separator t ∷ [] in
     subst (λ (text : List ℕ). Writes before now text r) (sym (items_text-append front items))
     (then_rest before middle now (items_text front) (items_text items) r e h)
 
@@ -69,17 +69,17 @@ units-items : (v : TextVersion) (head : Head)
     → units_text v head ≡ items_text ((payoff_lines v).items ((head.unit, head.sum), head.mass))
 units-items versions.One head = sym (items_text-append (unit_line.items (head.unit, head.sum)) (mass_line.items head.mass))
 units-items versions.Two head =
-    let mass : List Item = mass_line.items head.mass in
-    let sum : List Item = sum_line.items head.sum in
+    let mass : List TextItem = mass_line.items head.mass in
+    let sum : List TextItem = sum_line.items head.sum in
     ap (λ (bs : List ℕ). items_text (unit_alone_line.items head.unit) ++ bs) (sym (items_text-append mass sum))
     ∙ sym (items_text-append (unit_alone_line.items head.unit) (mass ++ sum))
 
 pub head-parts : (v : TextVersion) (head : Head) → counts_text head ++ units_text v head ≡ head_text_of v head
 head-parts v head =
-    let size : List Item = size_line.items (head.nodes, head.leaves) in
-    let sets : List Item = sets_line.items (head.sets_one, head.sets_two) in
-    let sequences : List Item = sequences_line.items (head.sequences_one, head.sequences_two) in
-    let units : List Item = (payoff_lines v).items ((head.unit, head.sum), head.mass) in
+    let size : List TextItem = size_line.items (head.nodes, head.leaves) in
+    let sets : List TextItem = sets_line.items (head.sets_one, head.sets_two) in
+    let sequences : List TextItem = sequences_line.items (head.sequences_one, head.sequences_two) in
+    let units : List TextItem = (payoff_lines v).items ((head.unit, head.sum), head.mass) in
     ap (λ (bs : List ℕ). counts_text head ++ bs) (units-items v head)
     ∙ append_assoc (items_text size) (items_text sets ++ items_text sequences) (items_text units)
     ∙ ap (λ (bs : List ℕ). items_text size ++ bs) (append_assoc (items_text sets) (items_text sequences) (items_text units)

@@ -30,12 +30,12 @@ abbrev pub bounds_where_given : Option BoundsLines → Option PrintedBounds
 bounds_where_given None = None
 bounds_where_given (Some b) = Some (bounds_of b)
 
-abbrev pub bracket_of : (Fraction × Fraction) → PrintedBracket
-bracket_of ends = record { low = ends.0; high = ends.1 }
+abbrev pub bracket_between : (Fraction × Fraction) → PrintedBracket
+bracket_between ends = record { low = ends.0; high = ends.1 }
 
 abbrev pub second_where_given : Option (Fraction × Fraction) → Option PrintedBracket
 second_where_given None = None
-second_where_given (Some ends) = Some (bracket_of ends)
+second_where_given (Some ends) = Some (bracket_between ends)
 
 abbrev pub certificate_read : CertLines → VersionedCertificate
 certificate_read c = record {

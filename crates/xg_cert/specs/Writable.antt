@@ -19,7 +19,7 @@ use Rattle.def_cert_text.specs.CertText.{line_of_round, plan_lines, reply_lines,
 use Rattle.def_cert_text.specs.CertText.{first_text_of, head_text_of, asked_text, second_text, versioned_text}
 use Rattle.def_cert_text.specs.PlusText.{plus_line, plus_text}
 use Rattle.def_cert_text.specs.Versions.{VersionedCertificate}
-use Rattle.def_cert_versions.specs.Upgrade.{IsWholeIn}
+use Rattle.def_game_numbers.specs.WholeSums.{IsWholeIn}
 use Rattle.def_cert_versions.specs.Verdict.{second_bracket}
 use Rattle.xg_cert.specs.declared.bounds.FormBounds.{FormBounds}
 use Rattle.xg_cert.specs.declared.cert_lines.FirstLine.{FirstLine}

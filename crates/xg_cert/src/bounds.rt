@@ -13,6 +13,7 @@ ghost use Rattle.xg_cert.specs.Writable.{AreFormBounds, end_in, form_bounds, rep
 
 use crate::cert::Cert;
 use crate::outcome::End;
+use crate::scales::scale_of;
 use def_reply::TraceLine;
 use def_tree::Player;
 use xg_frac::{Ratio, ratio};
@@ -200,6 +201,5 @@ fn bound(unit: u64, end: &End) -> Ratio
     requires total { unsigned_abs end.now.reply.reply.total ≤ most_row }
     ensures { result ≡ printed_bound unit (end_seen end.now) }
 {
-    let scale = unit as u128 * end.plan.root() as u128;
-    ratio(end.reply.total(), scale as i128)
+    ratio(end.reply.total(), scale_of(unit, end.plan.root()))
 }

@@ -14,6 +14,7 @@ mod read_lines;
 mod read_lists;
 mod reading;
 mod refused;
+mod scales;
 mod second;
 mod writing;
 
@@ -25,5 +26,6 @@ pub use lines::write_head;
 pub use outcome::{End, Outcome};
 pub use reading::read_cert;
 pub use refused::CertRefused;
+pub use scales::scale_of;
 pub use second::second_end;
 pub use writing::{write_cert, write_plus, write_upgraded};

@@ -11,7 +11,7 @@ ghost use Rattle.def_cert_text.specs.declared.version.TextVersion.TheVariants as
 ghost use Rattle.def_cert_verdict.specs.Ranges.{most_printed};
 ghost use Rattle.xg_cert_fields.specs.Reading.{GivesValue};
 ghost use Rattle.xg_cert.specs.Outcome.{head_of};
-ghost use Rattle.xg_cert.specs.ReadCert.{bracket_of, set_reply_of, asked_of};
+ghost use Rattle.xg_cert.specs.ReadCert.{bracket_between, set_reply_of, asked_of};
 
 use crate::head::Head;
 use def_cert_text::{CertFault, TextVersion};
@@ -226,7 +226,7 @@ pub(crate) fn bracket_line(reader: &mut FieldReader<'_>) -> Result<(Ratio, Ratio
 }
 
 pub(crate) fn second_line(reader: &mut FieldReader<'_>) -> Result<(Ratio, Ratio), CertFault>
-    ensures exact { GivesValue bracket_of result reader.new.left (second_line.read reader.old.total reader.old.left) }
+    ensures exact { GivesValue bracket_between result reader.new.left (second_line.read reader.old.total reader.old.left) }
     ensures total { reader.new.total ≡ reader.old.total }
 {
     let ends = ends_line(reader, b"second")?;

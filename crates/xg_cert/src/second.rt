@@ -4,10 +4,11 @@ ghost use Rattle.def_fraction.specs.Fraction.{most};
 ghost use Rattle.def_game_scale.specs.Scale.{weight_of};
 ghost use Rattle.def_cert_verdict.specs.Ranges.{IsFromTo};
 ghost use Rattle.def_constant_sum.specs.Bounds.{difference_of};
-ghost use Rattle.def_cert_versions.specs.Upgrade.{IsWholeIn};
+ghost use Rattle.def_game_numbers.specs.WholeSums.{IsWholeIn};
 ghost use Rattle.xg_cert.specs.Writable.{IsWholeEnd};
 
 use crate::lines::wide;
+use crate::scales::product;
 use xg_frac::{Frac, Ratio, ratio};
 
 /// The fraction times a number that makes it whole.
@@ -38,6 +39,6 @@ pub fn second_end(sum: Frac, unit: u64, root: u64, end: Ratio) -> Ratio
     requires end { IsWholeEnd unit root end }
     ensures { result ≡ difference_of sum end }
 {
-    let whole = unit as u128 * root as u128;
+    let whole = product(unit, root);
     ratio(left(wide(sum), end, whole), whole as i128)
 }

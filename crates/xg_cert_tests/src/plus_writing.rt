@@ -1,6 +1,6 @@
 //! A text of CFR+, written and then read.
 ghost use Rattle.std.specs.Prelude.{◌≤◌, IfOk};
-ghost use Rattle.def_cert_versions.specs.Upgrade.{IsWholeIn};
+ghost use Rattle.def_game_numbers.specs.WholeSums.{IsWholeIn};
 ghost use Rattle.def_plan.specs.Form.{player_sets};
 ghost use Rattle.xg_cert.specs.Outcome.{end_seen};
 ghost use Rattle.xg_cert.specs.Writable.{IsEndOf, IsOutcomeOf};

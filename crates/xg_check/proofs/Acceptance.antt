@@ -3,7 +3,6 @@ use Rattle.std.proofs.Common.{◌≡◌, ◌↔◌, ◌≤◌, ℕ, List, Result
 use Rattle.std.specs.Prelude.{IfOk}
 use Rattle.def_file.specs.Content.{GameFile}
 use Rattle.def_file_form.specs.Laws.{StandsFor}
-use Rattle.def_file_form.proofs.WholeGames.{stands_for_whole_game}
 use Rattle.def_game_numbers.specs.Numbers.{game_file_fault}
 use Rattle.def_plan.specs.Form.{AreInOrder}
 use Rattle.def_cert_verdict.specs.declared.fault.TestFault.{TestFault}
@@ -11,11 +10,12 @@ use Rattle.def_cert_verdict.specs.Verdict as def
 use Rattle.def_plan.specs.Weighed.{WeighedGame}
 use Rattle.def_cert_text.specs.Versions.{VersionedCertificate, VersionedFits}
 use Rattle.def_cert_text.specs.CertText.{versioned_text}
-use Rattle.def_cert_versions.specs.Upgrade.{HasWholeSum, IsUpgradable}
+use Rattle.def_cert_versions.specs.Upgrade.{IsUpgradable}
 use Rattle.def_cert_versions.specs.Verdict.{versioned_verdict}
-use Rattle.def_cert_versions.proofs.Upgrades.{upgradable, whole_sums}
+use Rattle.def_cert_versions.proofs.Upgrades.{upgradable}
 use Rattle.def_check.specs.Check.{by_tests}
 use Rattle.def_game_numbers.specs.Weighed.{weighed_game}
+use Rattle.def_game_numbers.specs.WholeSums.{HasWholeSum}
 use Rattle.def_check.specs.Shown.{Shows, ShowsOfFile}
 use Rattle.def_check.proofs.Accepted.{alone_without_rounds, what_is_shown}
 use Rattle.xg_check.specs.declared.verdict.Accepted.{Accepted}
@@ -70,13 +70,6 @@ pub opened_as : (r : Result WeighedGame Refused) (bytes : List ℕ) (game : Game
     → IfOk r (IsOpened bytes)
 opened_as (Ok numbers) bytes game stands is none = record { game = game; stands = stands; faultless = none; numbers_are = is }
 opened_as (Err f) bytes game stands is none = tt
-
--- the sum of an opened file's game is whole in its unit
-pub opened_whole : (numbers : WeighedGame) (bytes : List ℕ) → IsOpened bytes numbers → HasWholeSum numbers
-opened_whole numbers bytes opened =
-    let whole = stands_for_whole_game bytes opened.game opened.stands in
-    subst HasWholeSum (sym opened.numbers_are)
-    (whole_sums opened.game (record { whole = whole.0; fractions = whole.1; no_fault = opened.faultless }))
 
 -- what a certificate shows of the numbers of an opened file, it shows of the file's game
 pub shown_of_file : (r : Result Accepted CheckFault) (game_bytes cert_bytes : List ℕ) (numbers : WeighedGame)

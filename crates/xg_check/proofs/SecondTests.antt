@@ -18,12 +18,13 @@ use Rattle.def_cert_verdict.proofs.Fractions.{same_fraction}
 use Rattle.def_cert_text.specs.declared.version.TextVersion.{TextVersion}
 use Rattle.def_cert_text.specs.declared.version.TextVersion.TheVariants as versions
 use Rattle.def_cert_text.specs.Versions.{PrintedBracket, SecondFits, VersionedCertificate, VersionedFits, has_second, in_version_one}
-use Rattle.def_cert_versions.specs.Upgrade.{HasWholeSum, IsUpgradable}
+use Rattle.def_cert_versions.specs.Upgrade.{IsUpgradable}
+use Rattle.def_game_numbers.specs.WholeSums.{HasWholeSum}
 use Rattle.def_cert_versions.specs.Verdict.{is_same_bracket, judged_with, second_bracket, second_of, tests_of, verdict_by}
 use Rattle.def_cert_versions.proofs.Upgrades.{upgradable}
 use Rattle.def_cert_versions.proofs.VersionedVerdict.{accept_alike, old_verdicts}
 use Rattle.xg_cert.specs.Printed.{bounds_in, plan_in}
-use Rattle.xg_cert.specs.ReadCert.{bracket_of, second_where_given}
+use Rattle.xg_cert.specs.ReadCert.{bracket_between, second_where_given}
 use Rattle.xg_cert.specs.Writable.{IsWholeEnd, LeavesSecond}
 use Rattle.xg_check.specs.Parts.{bound_in}
 
@@ -91,7 +92,7 @@ pub other-in_two : (c : VersionedCertificate) (r : Option (Fraction × Fraction)
     → not same ≡ (has_second c.version && not (is_same_bracket c.second (second_of c.certificate)))
 other-in_two c r printed low high same is value version there low_is high_is same_is =
     let sum : Fraction = c.certificate.head.sum in
-    let told : c.second ≡ Some (bracket_of printed) = sym value ∙ ap second_where_given is in
+    let told : c.second ≡ Some (bracket_between printed) = sym value ∙ ap second_where_given is in
     let wanted : second_of c.certificate ≡ Some (record { low = low; high = high }) =
     ap (option_map (second_bracket sum)) there ∙ (λ i. Some (record { low = sym low_is i; high = sym high_is i })) in
     let two : has_second c.version ≡ true = by c.version refl in

@@ -2,7 +2,7 @@
 ghost use Rattle.std.specs.Prelude.{◌≡◌, ◌≤◌, IfOk, None, Ok, length};
 ghost use Rattle.def_file.specs.Reading.{game_at, most_bytes};
 ghost use Rattle.def_cert_text.specs.CertText.{versioned_in};
-ghost use Rattle.def_cert_versions.specs.Upgrade.{HasWholeSum, IsUpgradable};
+ghost use Rattle.def_cert_versions.specs.Upgrade.{IsUpgradable};
 ghost use Rattle.def_check.specs.Check.{accepted_in_numbers, checked, verdict_on, most_cert_bytes};
 ghost use Rattle.def_game_numbers.specs.Weighed.{weighed_game};
 ghost use Rattle.def_check.specs.Shown.{Shows, ShowsOfFile};
@@ -78,7 +78,6 @@ fn open_game(alloc: Global, game: Game) -> Result<Numbers, Refused>
 
 /// The certificate that the bytes say with the verdict on it, or its first fault.
 fn accept_bytes(alloc: Global, numbers: &Numbers, cert_bytes: &[u8]) -> Result<Accepted, CheckFault>
-    requires { HasWholeSum numbers.now }
     ensures exact { AnswersVerdict (verdict_in result) (verdict_on numbers.now (versioned_in cert_bytes.now)) }
     ensures shown { IfOk result (λ accepted. Shows numbers.now cert_bytes.now (verdict_of accepted.verdict)) }
     ensures head_only { IfOk result (λ accepted. IsHeadOnlyWithoutRounds cert_bytes.now accepted.verdict) }

@@ -1,7 +1,6 @@
 //! The tests of a reply.
 ghost use Rattle.std.specs.Prelude.{◌≡◌, ◌*◌, ◌≤◌, ◌≤ℤ◌, IfOk, pos, unsigned_abs};
-ghost use Rattle.def_fraction.specs.Fraction.{most, most_wide};
-ghost use Rattle.def_sums.specs.Limits.{most_root};
+ghost use Rattle.def_fraction.specs.Fraction.{most_wide};
 ghost use Rattle.def_tree.specs.Opponent.{opponent};
 ghost use Rattle.def_cert_verdict.specs.Certificate.{last_line};
 ghost use Rattle.def_cert_verdict.specs.Verdict.{first_failing};
@@ -15,7 +14,7 @@ use def_cert_verdict::TestFault;
 use def_reply::TraceLine;
 use def_tree::Player;
 use std::alloc::{AllocError, Global};
-use xg_cert::Cert;
+use xg_cert::{Cert, scale_of};
 use xg_frac::Ratio;
 use xg_numbers::Numbers;
 
@@ -45,30 +44,6 @@ pub(crate) fn bound_in(player: Player, cert: &Cert) -> Ratio
         Player::One => cert.high(),
         Player::Two => cert.low(),
     }
-}
-
-fn product(unit: u64, root: u64) -> u128
-    requires unit_from_one { 1 ≤ unit }
-    requires unit { unit ≤ most }
-    requires root_from_one { 1 ≤ root }
-    requires root { root ≤ most_root }
-    ensures value { result ≡ unit * root }
-    ensures from_one { 1 ≤ unit * root }
-    ensures small { unit * root ≤ most_wide }
-{
-    unit as u128 * root as u128
-}
-
-fn scale_of(unit: u64, root: u64) -> i128
-    requires unit_from_one { 1 ≤ unit }
-    requires unit { unit ≤ most }
-    requires root_from_one { 1 ≤ root }
-    requires root { root ≤ most_root }
-    ensures value { result ≡ pos (unit * root) }
-    ensures from_one { 1 ≤ unit * root }
-    ensures small { unit * root ≤ most_wide }
-{
-    product(unit, root) as i128
 }
 
 /// What is printed of the end that a player's reply shows.

@@ -5,9 +5,10 @@ ghost use Rattle.def_plan.specs.Form.{AreInOrder};
 ghost use Rattle.def_cert_verdict.specs.Certificate.{last_line};
 ghost use Rattle.def_cert_verdict.specs.Verdict.{bounds_tests, first_failing, shown_by, tests_below_head, trace_tests};
 ghost use Rattle.def_cert_text.specs.Versions.{in_version_one};
-ghost use Rattle.def_cert_versions.specs.Upgrade.{HasWholeSum, IsUpgradable};
+ghost use Rattle.def_cert_versions.specs.Upgrade.{IsUpgradable};
 ghost use Rattle.def_cert_versions.specs.Verdict.{first_trace_line_of, judged_with, tests_of, versioned_verdict};
 ghost use Rattle.def_check.specs.Check.{by_tests};
+ghost use Rattle.def_game_numbers.specs.WholeSums.{HasWholeSum};
 ghost use Rattle.xg_cert.specs.Printed.{bounds_in, plan_in, set_count_in};
 ghost use Rattle.xg_check.specs.Answers.{AnswersVerdict, verdict_of};
 ghost use Rattle.xg_check.specs.Parts.{HasEachSequence, HasSetCountsOf, HasSetsOf, plan_round_in};
@@ -190,13 +191,13 @@ fn judge_second(cert: &Cert) -> Result<Verdict, CheckFault>
 
 /// The verdict on a certificate, or the first test that fails, which may be that of the second bracket.
 pub(crate) fn judge(alloc: Global, numbers: &Numbers, cert: &Cert) -> Result<Verdict, CheckFault>
-    requires { HasWholeSum numbers.now }
     ensures exact { AnswersVerdict result (by_tests (versioned_verdict numbers.now cert.now)) }
 
     // What is true of all numbers of a game.
     ensures order_one { AreInOrder numbers.now.form.sets_one }
     ensures order_two { AreInOrder numbers.now.form.sets_two }
     ensures some_unit { 1 ≤ numbers.now.unit }
+    ensures whole_sum { HasWholeSum numbers.now }
 {
     numbers.form().facts();
     numbers.facts();

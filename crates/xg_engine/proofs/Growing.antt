@@ -10,7 +10,7 @@ use Rattle.std.proofs.lemmas.List.{get_or_default}
 use Rattle.xg_jobs.specs.Rows.{AreNumbersOf}
 use Rattle.def_plus.specs.declared.Variant.{Variant}
 use Rattle.def_plus.specs.declared.Variant.TheVariants.{Plain, Plus}
-use Rattle.def_plus.specs.Variants.{rounds_of, weight_of, most_rounds_of, most_scale_of}
+use Rattle.def_plus.specs.Variants.{rounds_of, weight_of_rounds, most_rounds_of, most_scale_of}
 use Rattle.def_plus.proofs.Multiples.{length-added_times}
 use Rattle.def_plus.proofs.WeightLaws.{next_weight, rounds_weigh_their_numbers}
 use Rattle.def_reply.specs.Offers.{IsFair}
@@ -109,21 +109,21 @@ plain_limits settings limits = record {
 
 -- n rounds of plans within the scale have sums with a root within the limit
 pub sum_within : (variant : Variant) (n root : ℕ) → n ≤ most_rounds_of variant → root ≤ most_scale_of variant
-    → weight_of variant n * root ≤ most_root
+    → weight_of_rounds variant n * root ≤ most_root
 sum_within Plain n root few small = mul-le-mul few small
 sum_within Plus n root few small = rounds_weigh_their_numbers.within_limits root n small few
 
 -- the next round weighs as much more as its plan counts
-weighs_more : (variant : Variant) (n : ℕ) → weight_of variant (n + 1) ≡ weight_of variant n + times_of variant (n + 1)
+weighs_more : (variant : Variant) (n : ℕ) → weight_of_rounds variant (n + 1) ≡ weight_of_rounds variant n + times_of variant (n + 1)
 weighs_more Plain n = refl
 weighs_more Plus n = next_weight n
 
 next_within : (variant : Variant) (n root : ℕ) → n < most_rounds_of variant → root ≤ most_scale_of variant
-    → weight_of variant n * root + times_of variant (n + 1) * root ≤ most_root
+    → weight_of_rounds variant n * root + times_of variant (n + 1) * root ≤ most_root
 next_within variant n root few small =
     let more : n + 1 ≤ most_rounds_of variant = omega (arith, few) in
-    let limit : weight_of variant (n + 1) * root ≤ most_root = sum_within variant (n + 1) root more small in
-    let same : weight_of variant (n + 1) * root ≡ (weight_of variant n + times_of variant (n + 1)) * root =
+    let limit : weight_of_rounds variant (n + 1) * root ≤ most_root = sum_within variant (n + 1) root more small in
+    let same : weight_of_rounds variant (n + 1) * root ≡ (weight_of_rounds variant n + times_of variant (n + 1)) * root =
     ap (λ w. w * root) (weighs_more variant n) in
     omega (arith, limit, same)
 
@@ -133,14 +133,14 @@ no_root : (root : ℕ) → 0 ≡ 0 * root
 no_root root = omega arith
 
 begins_one : (variant : Variant) (form : SequenceForm) (root : ℕ)
-    → IsPlanOrCleared form.sets_one (weight_of variant 0 * root) (rounds_of variant form root 0).sum_one
+    → IsPlanOrCleared form.sets_one (weight_of_rounds variant 0 * root) (rounds_of variant form root 0).sum_one
 begins_one Plain form root =
     subst (λ r. IsPlanOrCleared form.sets_one r (rounds_of Plain form root 0).sum_one) (no_root root) refl
 begins_one Plus form root =
     subst (λ r. IsPlanOrCleared form.sets_one r (rounds_of Plus form root 0).sum_one) (no_root root) refl
 
 begins_two : (variant : Variant) (form : SequenceForm) (root : ℕ)
-    → IsPlanOrCleared form.sets_two (weight_of variant 0 * root) (rounds_of variant form root 0).sum_two
+    → IsPlanOrCleared form.sets_two (weight_of_rounds variant 0 * root) (rounds_of variant form root 0).sum_two
 begins_two Plain form root =
     subst (λ r. IsPlanOrCleared form.sets_two r (rounds_of Plain form root 0).sum_two) (no_root root) refl
 begins_two Plus form root =
@@ -151,23 +151,23 @@ module _ (variant : Variant) (form : SequenceForm) (root : ℕ) (sound : IsSound
   sums : SumsPlans form root (run_of variant form root)
   sums = variant_runs_sum_plans variant form root sound.order_one sound.order_two some
 
-  is_sum_one : (n : ℕ) → IsPlanOrCleared form.sets_one (weight_of variant n * root) (rounds_of variant form root n).sum_one
+  is_sum_one : (n : ℕ) → IsPlanOrCleared form.sets_one (weight_of_rounds variant n * root) (rounds_of variant form root n).sum_one
   is_sum_one zero = begins_one variant form root
   is_sum_one (suc n) =
-      plan_or_cleared form.sets_one (weight_of variant (suc n) * root) (rounds_of variant form root (suc n)).sum_one
+      plan_or_cleared form.sets_one (weight_of_rounds variant (suc n) * root) (rounds_of variant form root (suc n)).sum_one
       (sums.of_one (suc n) (omega arith))
 
-  is_sum_two : (n : ℕ) → IsPlanOrCleared form.sets_two (weight_of variant n * root) (rounds_of variant form root n).sum_two
+  is_sum_two : (n : ℕ) → IsPlanOrCleared form.sets_two (weight_of_rounds variant n * root) (rounds_of variant form root n).sum_two
   is_sum_two zero = begins_two variant form root
   is_sum_two (suc n) =
-      plan_or_cleared form.sets_two (weight_of variant (suc n) * root) (rounds_of variant form root (suc n)).sum_two
+      plan_or_cleared form.sets_two (weight_of_rounds variant (suc n) * root) (rounds_of variant form root (suc n)).sum_two
       (sums.of_two (suc n) (omega arith))
 
   -- after fewer rounds than the limit both sums can grow
   pub can_grow_one : (n : ℕ) → n < most_rounds_of variant
       → CanGrow form.sets_one (times_of variant (n + 1) * root) (rounds_of variant form root n).sum_one
   can_grow_one n few = record {
-    root = weight_of variant n * root;
+    root = weight_of_rounds variant n * root;
     order = sound.order_one;
     is_sum = is_sum_one n;
     limit = next_within variant n root few small;
@@ -177,7 +177,7 @@ module _ (variant : Variant) (form : SequenceForm) (root : ℕ) (sound : IsSound
   pub can_grow_two : (n : ℕ) → n < most_rounds_of variant
       → CanGrow form.sets_two (times_of variant (n + 1) * root) (rounds_of variant form root n).sum_two
   can_grow_two n few = record {
-    root = weight_of variant n * root;
+    root = weight_of_rounds variant n * root;
     order = sound.order_two;
     is_sum = is_sum_two n;
     limit = next_within variant n root few small;

@@ -15,7 +15,7 @@ use Rattle.def_run.proofs.WeighedEnds.{weighed_evaluations_are_bounds, weighed_r
 use Rattle.def_run.proofs.WeighedTraces.{weighed_trace_never_widens}
 use Rattle.def_run.proofs.WeighedOutcomes.{ends_at, shown_are, weighed_outcomes_show_their_run}
 use Rattle.def_plus.specs.declared.Variant.{Variant}
-use Rattle.def_plus.specs.Variants.{weight_of}
+use Rattle.def_plus.specs.Variants.{weight_of_rounds}
 use Rattle.def_plus_run.specs.VariantRun.{outcome_of, run_of}
 use Rattle.def_plus_run.proofs.VariantRuns.{variant_runs_sum_plans}
 use Rattle.xg_engine.specs.Ends.{AreBoundsOfLine, AreUnbeaten, HasEnds, HasGapOfLine, NoLineIsWider}
@@ -84,8 +84,8 @@ module _ (variant : Variant) (form : SequenceForm) (head : Head) (sound : IsSoun
       let best = best_ends ends are in
       let low_is = ap (λ (e : Evaluation). e.low) best.of_lower.is in
       let high_is = ap (λ (e : Evaluation). e.high) best.of_upper.is in
-      let low_root : ℕ = weight_of variant ends.lower.round * head.scale in
-      let high_root : ℕ = weight_of variant ends.upper.round * head.scale in
+      let low_root : ℕ = weight_of_rounds variant ends.lower.round * head.scale in
+      let high_root : ℕ = weight_of_rounds variant ends.upper.round * head.scale in
       let gap = gap_of_weighed_run_is_exploitability form head.scale run head.every head.rounds ends sound.order_one sound.order_two sums are in
       subst (λ (z : ℤ). IsExploitability form low_root high_root (lower_plan_in run ends) (upper_plan_in run ends) z)
       (λ i. (pos low_root *ℤ high_is i) -ℤ (pos high_root *ℤ low_is i))
@@ -101,11 +101,11 @@ module _ (variant : Variant) (form : SequenceForm) (head : Head) (sound : IsSoun
       let high_is = ap (λ (e : Evaluation). e.high) best.of_upper.is in
       record {
         floors = λ root plan floor is_plan is_floor.
-            subst (λ (z : ℤ). (pos (weight_of variant ends.upper.round * head.scale) *ℤ floor) ≤ℤ (pos root *ℤ z)) high_is
+            subst (λ (z : ℤ). (pos (weight_of_rounds variant ends.upper.round * head.scale) *ℤ floor) ≤ℤ (pos root *ℤ z)) high_is
             (weighed_ends_bound_all_plans.floors form head.scale run head.every head.rounds ends root plan floor sound.order_one
             sound.order_two sums are is_plan is_floor);
         ceilings = λ root plan ceiling is_plan is_ceiling.
-            subst (λ (z : ℤ). (pos root *ℤ z) ≤ℤ (pos (weight_of variant ends.lower.round * head.scale) *ℤ ceiling)) low_is
+            subst (λ (z : ℤ). (pos root *ℤ z) ≤ℤ (pos (weight_of_rounds variant ends.lower.round * head.scale) *ℤ ceiling)) low_is
             (weighed_ends_bound_all_plans.ceilings form head.scale run head.every head.rounds ends root plan ceiling sound.order_one
             sound.order_two sums are is_plan is_ceiling);
       })

@@ -13,7 +13,7 @@ use Rattle.def_cert_verdict.specs.Ranges.{IsFromTo}
 use Rattle.def_run.specs.Run.{SumsPlans, WeighedRun}
 use Rattle.def_run.proofs.WeighedOutcomes.{ends_at, weighed_outcomes_show_their_run}
 use Rattle.def_plus.specs.declared.Variant.{Variant}
-use Rattle.def_plus.specs.Variants.{most_rounds_of, most_scale_of, weight_of}
+use Rattle.def_plus.specs.Variants.{most_rounds_of, most_scale_of, weight_of_rounds}
 use Rattle.def_plus_run.specs.VariantRun.{outcome_of, run_of}
 use Rattle.def_plus_run.proofs.VariantRuns.{variant_runs_sum_plans}
 use Rattle.xg_bracket.proofs.Offered.{length-best}
@@ -31,21 +31,21 @@ module _ (variant : Variant) (form : SequenceForm) (head : Head) (sound : IsSoun
   sums : SumsPlans form head.scale run
   sums = variant_runs_sum_plans variant form head.scale sound.order_one sound.order_two some_scale
 
-  root_is : (n : ℕ) → 1 ≤ weight_of variant n * head.scale → n ≤ head.rounds
-      → IsFromTo 1 most_root (weight_of variant n * head.scale)
+  root_is : (n : ℕ) → 1 ≤ weight_of_rounds variant n * head.scale → n ≤ head.rounds
+      → IsFromTo 1 most_root (weight_of_rounds variant n * head.scale)
   root_is n some in_time = (some, sum_within variant n head.scale (omega (arith, in_time, few_rounds)) small_scale)
 
   lower_is : (ends : BracketEnds) → 1 ≤ ends.lower.round → ends.lower.round ≤ head.rounds
       → IsEndOf form.sets_one form.sets_two (ends_at form run ends).lower
   lower_is ends some in_time =
       let n : ℕ = ends.lower.round in
-      let is : IsPlan form.sets_one (weight_of variant n * head.scale) (run.sum_one n) = sums.of_one n some in
-      let root : IsFromTo 1 most_root (weight_of variant n * head.scale) = root_is n is.some_root in_time in
+      let is : IsPlan form.sets_one (weight_of_rounds variant n * head.scale) (run.sum_one n) = sums.of_one n some in
+      let root : IsFromTo 1 most_root (weight_of_rounds variant n * head.scale) = root_is n is.some_root in_time in
       record {
         plan = is.all_sequences;
         reply = length-best form Two (run.sum_one n);
         root = subst (IsFromTo 1 most_root) (sym is.root_weight) root;
-        total = bounds_small.floor form (weight_of variant n * head.scale) (run.sum_one n) sound.order_one sound.order_two
+        total = bounds_small.floor form (weight_of_rounds variant n * head.scale) (run.sum_one n) sound.order_one sound.order_two
             is sound.small_mass root.1;
       }
 
@@ -53,13 +53,13 @@ module _ (variant : Variant) (form : SequenceForm) (head : Head) (sound : IsSoun
       → IsEndOf form.sets_two form.sets_one (ends_at form run ends).upper
   upper_is ends some in_time =
       let n : ℕ = ends.upper.round in
-      let is : IsPlan form.sets_two (weight_of variant n * head.scale) (run.sum_two n) = sums.of_two n some in
-      let root : IsFromTo 1 most_root (weight_of variant n * head.scale) = root_is n is.some_root in_time in
+      let is : IsPlan form.sets_two (weight_of_rounds variant n * head.scale) (run.sum_two n) = sums.of_two n some in
+      let root : IsFromTo 1 most_root (weight_of_rounds variant n * head.scale) = root_is n is.some_root in_time in
       record {
         plan = is.all_sequences;
         reply = length-best form One (run.sum_two n);
         root = subst (IsFromTo 1 most_root) (sym is.root_weight) root;
-        total = bounds_small.ceiling form (weight_of variant n * head.scale) (run.sum_two n) sound.order_one
+        total = bounds_small.ceiling form (weight_of_rounds variant n * head.scale) (run.sum_two n) sound.order_one
             sound.order_two is sound.small_mass root.1;
       }
 

@@ -9,7 +9,7 @@ use Rattle.def_reply.specs.Reply.{best_reply_to}
 use Rattle.def_reply.specs.Offers.{Offer, most_divisor}
 use Rattle.def_run.specs.Run.{offer_in}
 use Rattle.def_plus.specs.declared.Variant.{Variant}
-use Rattle.def_plus.specs.Variants.{weight_of}
+use Rattle.def_plus.specs.Variants.{weight_of_rounds}
 use Rattle.def_plus_run.specs.VariantRun.{run_of}
 use Rattle.xg_bracket.specs.Board.{offer_of, sizes_of}
 use Rattle.xg_engine.specs.declared.evaluating.Evaluator.{Evaluator}
@@ -30,12 +30,12 @@ pub record CanEvaluate (variant : Variant) (form : SequenceForm) (evaluations : 
 pub record AreSumsAfter (variant : Variant) (form : SequenceForm) (round : ℕ) (one two : List ℕ) : Type 0 where
   pub scale : ℕ
   pub few_rounds : round ≤ most_rounds
-  pub some_weight : 1 ≤ weight_of variant round
-  pub small_weight : weight_of variant round ≤ most_divisor
+  pub some_weight : 1 ≤ weight_of_rounds variant round
+  pub small_weight : weight_of_rounds variant round ≤ most_divisor
   pub some_scale : 1 ≤ scale
-  pub small_root : weight_of variant round * scale ≤ most_root
-  pub plan_one : IsPlan form.sets_one (weight_of variant round * scale) one
-  pub plan_two : IsPlan form.sets_two (weight_of variant round * scale) two
+  pub small_root : weight_of_rounds variant round * scale ≤ most_root
+  pub plan_one : IsPlan form.sets_one (weight_of_rounds variant round * scale) one
+  pub plan_two : IsPlan form.sets_two (weight_of_rounds variant round * scale) two
 
 -- what is offered of two sums: each with the best reply to it
 abbrev pub best_offer : Variant → SequenceForm → ℕ → List ℕ → List ℕ → Offer

@@ -1,6 +1,7 @@
 //! What is asked of a game.
 ghost use Rattle.std.specs.Prelude.{◌≡◌, ◌≤◌};
 ghost use Rattle.def_fraction.specs.Fraction.{most};
+ghost use Rattle.def_game_numbers.specs.WholeSums.{HasWholeSum};
 ghost use Rattle.xg_cert.specs.Outcome.{head_of};
 ghost use Rattle.xg_engine.specs.State.{head_with};
 
@@ -16,7 +17,9 @@ pub fn head_with(numbers: &Numbers, settings: Settings) -> Head
     // What is true of all numbers.
     ensures positive { 1 ≤ numbers.now.unit }
     ensures limit { numbers.now.unit ≤ most }
+    ensures whole_sum { HasWholeSum numbers.now }
 {
+    numbers.facts();
     let form = numbers.form();
     Head {
         nodes: numbers.nodes(),

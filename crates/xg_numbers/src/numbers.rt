@@ -3,6 +3,7 @@ ghost use Rattle.std.specs.Prelude.{◌≡◌, ◌≢◌, ◌≤◌, length, Err
 ghost use Rattle.def_file.specs.declared.FileFault.{FileFault};
 ghost use Rattle.def_fraction.specs.Fraction.{most};
 ghost use Rattle.def_game_numbers.specs.Numbers.{game_file_fault};
+ghost use Rattle.def_game_numbers.specs.WholeSums.{HasWholeSum};
 ghost use Rattle.def_plan.specs.Payoff.{mass_of};
 ghost use Rattle.def_sequence_form.specs.Form.{form_of};
 ghost use Rattle.def_sequence_form.specs.Sets.{sets_or_break};
@@ -20,7 +21,7 @@ use xg_sets::{RecallFault, Sets, build_sets};
 use xg_tree::Tree;
 
 /// A game in numbers: how many nodes it has, what each leaf pays both players together, and its sequence form with the
-/// unit and the mass of its weights.
+/// unit and the mass of its weights. In the unit the sum is whole.
 #[derive(Drop)]
 pub struct Numbers {
     form: SeqForm,
@@ -38,7 +39,7 @@ impl Model for Numbers {
 
     ghost view = { λ n. record { nodes = n.nodes; sum = n.sum; unit = n.unit; form = n.form } };
 
-    ghost invariant = { λ n. KeepsNumbers n.form n.unit n.mass };
+    ghost invariant = { λ n. KeepsNumbers n.form n.sum n.unit n.mass };
 }
 
 impl Numbers {
@@ -49,6 +50,8 @@ impl Numbers {
         ensures refused { (fault : FileFault) → result ≡ Err (Refused.File fault)
             → game_file_fault game.now ≡ Some fault }
     {
+        // What is true of each game, by which the sum of an accepted one is whole.
+        game.numbers_are_in_lowest_terms();
         let weights = weigh(alloc, game)?;
         let sets = sets_of(alloc, game.tree())?;
         let form = form_of(alloc, game.tree(), &weights, &sets)?;
@@ -68,6 +71,9 @@ impl Numbers {
         ensures faultless { IfOk result (λ _. game_file_fault game ≡ None) }
         ensures refused { (fault : FileFault) → result ≡ Err (Refused.File fault) → game_file_fault game ≡ Some fault }
     {
+        // What is true of each game, by which the sum of an accepted one is whole.
+        game.numbers_are_in_lowest_terms();
+        let _tree = game.tree();
         let weights = weigh(alloc, &game)?;
         let (sum, unit, mass) = (weights.sum(), weights.unit(), weights.mass());
         let tree = game.into_tree();
@@ -112,8 +118,9 @@ impl Numbers {
     pub fn facts(&self)
         ensures positive { 1 ≤ self.now.unit }
         ensures limit { self.now.unit ≤ most }
+        ensures whole_sum { HasWholeSum self.now }
     {
-        let _unit = self.unit();
+        let _unit = self.unit;
     }
 
     /// The sum of the sizes of the weights.

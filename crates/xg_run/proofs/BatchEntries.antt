@@ -13,7 +13,7 @@ use Rattle.def_program.specs.BatchText.{batch_text, parts_text}
 use Rattle.def_program.specs.Meaning.{AllMean, MeansOnly}
 use Rattle.def_program.specs.Program.{success}
 use Rattle.def_program.proofs.Batches.{all_told_is, batch_computed}
-use Rattle.xg_batch.specs.Items.{HasAtMost, entry_seen}
+use Rattle.xg_batch.specs.Items.{HasAtMost, batch_entry_seen}
 use Rattle.xg_batch.specs.declared.entry.Entry.{Entry}
 use Rattle.xg_run.specs.declared.ending.Ending.{Ending}
 use Rattle.xg_run.specs.declared.ending.Ending.TheVariants.{Done, Refused, Usage, ReadFault, WriteFault, NoMemory}
@@ -44,33 +44,33 @@ kept_more [] entry = omega arith
 kept_more (first ∷ entries) entry = omega (arith, kept_more entries entry)
 
 module _ (i : ℕ) (old new : List Entry) (entry : Entry) (room : ℕ) (pushed : new ≡ old ++ entry ∷ [])
-    (left : room ≡ batch_room - kept_bytes (map entry_seen old)) where
-  seen_is : map entry_seen new ≡ map entry_seen old ++ entry_seen entry ∷ []
-  seen_is = ap (map entry_seen) pushed ∙ map-append entry_seen old (entry ∷ [])
+    (left : room ≡ batch_room - kept_bytes (map batch_entry_seen old)) where
+  seen_is : map batch_entry_seen new ≡ map batch_entry_seen old ++ batch_entry_seen entry ∷ []
+  seen_is = ap (map batch_entry_seen) pushed ∙ map-append batch_entry_seen old (entry ∷ [])
 
   -- the file of one name more is read, whose bytes are told as before
   pub one_read : (before now : List ℕ → Option (List ℕ)) (names : List (Bor (List ℕ))) (d : Bor (List ℕ)) → i < length names
-      → now ≡ before → HaveContents batch_room (map (λ name. before name.now) (take i names)) (map entry_seen old)
-      → IfSome (now (get_or names i d).now) (λ bytes. batch_entry room bytes ≡ entry_seen entry)
-      → HaveContents batch_room (map (λ name. before name.now) (take (i + 1) names)) (map entry_seen new)
+      → now ≡ before → HaveContents batch_room (map (λ name. before name.now) (take i names)) (map batch_entry_seen old)
+      → IfSome (now (get_or names i d).now) (λ bytes. batch_entry room bytes ≡ batch_entry_seen entry)
+      → HaveContents batch_room (map (λ name. before name.now) (take (i + 1) names)) (map batch_entry_seen new)
   one_read before now names d there same have is =
       let told : Bor (List ℕ) → Option (List ℕ) = λ name. before name.now in
       let contents : map told (take (i + 1) names) ≡ map told (take i names) ++ told (get_or names i d) ∷ [] =
       ap (map told) (take_more names i d there) ∙ map-append told (take i names) (get_or names i d ∷ []) in
       let here : IfSome (told (get_or names i d))
-      (λ bytes. batch_entry (batch_room - kept_bytes (map entry_seen old)) bytes ≡ entry_seen entry) =
-      subst (λ n. IfSome (told (get_or names i d)) (λ bytes. batch_entry n bytes ≡ entry_seen entry)) left
-      (subst (λ (it : List ℕ → Option (List ℕ)). IfSome (it (get_or names i d).now) (λ bytes. batch_entry room bytes ≡ entry_seen entry)) same is) in
-      subst (λ them. HaveContents batch_room them (map entry_seen new)) (sym contents)
+      (λ bytes. batch_entry (batch_room - kept_bytes (map batch_entry_seen old)) bytes ≡ batch_entry_seen entry) =
+      subst (λ n. IfSome (told (get_or names i d)) (λ bytes. batch_entry n bytes ≡ batch_entry_seen entry)) left
+      (subst (λ (it : List ℕ → Option (List ℕ)). IfSome (it (get_or names i d).now) (λ bytes. batch_entry room bytes ≡ batch_entry_seen entry)) same is) in
+      subst (λ them. HaveContents batch_room them (map batch_entry_seen new)) (sym contents)
       (subst (HaveContents batch_room (map told (take i names) ++ told (get_or names i d) ∷ [])) (sym seen_is)
-      (one_more batch_room (map told (take i names)) (map entry_seen old) (told (get_or names i d)) (entry_seen entry) have here))
+      (one_more batch_room (map told (take i names)) (map batch_entry_seen old) (told (get_or names i d)) (batch_entry_seen entry) have here))
 
-  module _ (within : entry_bytes (entry_seen entry) ≤ room) where
+  module _ (within : entry_bytes (batch_entry_seen entry) ≤ room) where
     -- the room that is left
-    pub room_left : room - entry_bytes (entry_seen entry) ≡ batch_room - kept_bytes (map entry_seen new)
+    pub room_left : room - entry_bytes (batch_entry_seen entry) ≡ batch_room - kept_bytes (map batch_entry_seen new)
     room_left =
-        let more : kept_bytes (map entry_seen new) ≡ kept_bytes (map entry_seen old) + entry_bytes (entry_seen entry) =
-        ap kept_bytes seen_is ∙ kept_more (map entry_seen old) (entry_seen entry) in
+        let more : kept_bytes (map batch_entry_seen new) ≡ kept_bytes (map batch_entry_seen old) + entry_bytes (batch_entry_seen entry) =
+        ap kept_bytes seen_is ∙ kept_more (map batch_entry_seen old) (batch_entry_seen entry) in
         omega (arith, left, more)
 
     -- and no file has more bytes than a file may have

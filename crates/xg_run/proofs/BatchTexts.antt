@@ -14,14 +14,14 @@ use Rattle.def_plan.specs.Weighed.{WeighedGame}
 use Rattle.def_reply.specs.Outcome.{Outcome}
 use Rattle.def_run.specs.Run.{outcome}
 use Rattle.def_plus.specs.declared.Variant.TheVariants.{Plain}
-use Rattle.def_cert_versions.specs.Upgrade.{HasWholeSum}
 use Rattle.def_game_numbers.specs.Weighed.{weighed_game}
+use Rattle.def_game_numbers.specs.WholeSums.{IsWholeIn}
 use Rattle.def_batch.specs.Batch.{BatchEntry, item_of}
 use Rattle.def_program.specs.BatchText.{file_line, item_text, parts_text}
 use Rattle.xg_cert.specs.Writable.{IsOutcomeOf}
 use Rattle.xg_engine.specs.State.{EngineState, head_with}
 use Rattle.xg_engine.specs.declared.settings.Settings.{Settings}
-use Rattle.xg_batch.specs.Items.{AreItemsOf, IsItemOf, IsSolved, entry_seen}
+use Rattle.xg_batch.specs.Items.{AreItemsOf, IsItemOf, IsSolved, batch_entry_seen}
 use Rattle.xg_batch.specs.declared.entry.Entry.{Entry}
 use Rattle.xg_batch.specs.declared.item.Item.{Item}
 use Rattle.xg_batch.specs.declared.item.Item.TheVariants.{Solved, Refused}
@@ -40,23 +40,17 @@ module _ (settings : Settings) (engine : EngineState) where
   solved_text : (game : GameFile) → IsSolved settings game engine
       → left_shown engine.game.form engine.outcome ≡ item_text (settings_seen settings) (Ok game)
   solved_text game is =
-      ap (left_shown engine.game.form) is.played.outcome_is
+      ap (left_shown engine.game.form) is.outcome_is
       ∙ played_is Plain game settings engine.game.form (left game)
-      (ap (λ (it : WeighedGame). it.form) is.played.game_is) refl
+      (ap (λ (it : WeighedGame). it.form) is.game_is) refl
 
   solved_has_outcome : (game : GameFile) → IsSolved settings game engine → HasOutcome engine
-  solved_has_outcome game is =
-      let of : IsOutcomeOf engine.game.form (left game) =
-      subst (λ (it : Option Outcome). IsSomeAnd it (IsOutcomeOf engine.game.form)) is.played.outcome_is
-      (there engine.outcome is.played.outcome_is is.played.writable) in
-      let can : CanBeWritten engine.game.form (left game) =
-      record { is = of; sum = subst HasWholeSum is.played.game_is is.whole_sum } in
-      subst (λ (it : Option Outcome). IsSomeAnd it (CanBeWritten engine.game.form)) (sym is.played.outcome_is) can
+  solved_has_outcome game is = there engine.outcome is.outcome_is is.writable is.whole_sum
     where
       there : (it : Option Outcome) → it ≡ Some (left game) → IfSome it (IsOutcomeOf engine.game.form)
-          → IsSomeAnd it (IsOutcomeOf engine.game.form)
-      there None none writable = absurd cc
-      there (Some o) same writable = writable
+          → IfSome it (λ o. IsWholeIn o.head.unit o.head.sum) → IsSomeAnd it (CanBeWritten engine.game.form)
+      there None none writable whole = absurd cc
+      there (Some o) same writable whole = record { is = writable; sum = whole }
 
 module _ (settings : Settings) where
   item_text_is : (entry : BatchEntry) (item : Item) → IsItemOf settings entry item
@@ -79,12 +73,12 @@ module _ (settings : Settings) where
 
   -- what is written of the items is the text of what the entries stand for
   pub items_text_is : (number : ℕ) (entries : List Entry) (items : List Item) → AreItemsOf settings entries items
-      → items_shown number items ≡ parts_text (settings_seen settings) number (map item_of (map entry_seen entries))
+      → items_shown number items ≡ parts_text (settings_seen settings) number (map item_of (map batch_entry_seen entries))
   items_text_is number [] [] are = refl
   items_text_is number [] (item ∷ items) are = absurd are
   items_text_is number (entry ∷ entries) [] are = absurd are
   items_text_is number (entry ∷ entries) (item ∷ items) are =
-      λ i. (file_line number ++ item_text_is (entry_seen entry) item are.0 i)
+      λ i. (file_line number ++ item_text_is (batch_entry_seen entry) item are.0 i)
       ++ items_text_is (number + 1) entries items are.1 i
 
   pub items_can_be_shown : (entries : List Entry) (items : List Item) → AreItemsOf settings entries items
@@ -93,7 +87,7 @@ module _ (settings : Settings) where
   items_can_be_shown [] (item ∷ items) are = absurd are
   items_can_be_shown (entry ∷ entries) [] are = absurd are
   items_can_be_shown (entry ∷ entries) (item ∷ items) are =
-      All-cons CanBeShown item items (item_can_be_shown (entry_seen entry) item are.0)
+      All-cons CanBeShown item items (item_can_be_shown (batch_entry_seen entry) item are.0)
       (items_can_be_shown entries items are.1)
 
 -- ---- parts

@@ -1,16 +1,14 @@
 -- The texts that are written of an accepted game.
-use Rattle.std.proofs.Common.{◌≡◌, ℕ, ◌+◌, ◌<◌, ◌≤◌, Bool, true, false, cond, List, [], ◌∷◌, ◌++◌, length, get_or, take, Option, None, Some, Ok, Err, IfOk, IfSome, refl, sym, ap, subst, ◌∙◌, append_assoc}
-use Rattle.std.specs.Prelude.{nat_eq, OnOk, Result}
+use Rattle.std.proofs.Common.{◌≡◌, ℕ, ◌+◌, ◌<◌, ◌≤◌, Bool, true, false, cond, List, [], ◌∷◌, ◌++◌, length, get_or, take, None, Some, refl, sym, ap, ◌∙◌, append_assoc}
+use Rattle.std.specs.Prelude.{nat_eq}
 use Rattle.std.proofs.lemmas.List.{take_all, take_more}
 use Rattle.def_tree.specs.Tree.{node_count}
 use Rattle.def_file_tokens.specs.Texts.{escaped}
 use Rattle.def_file.specs.Content.{GameFile}
 use Rattle.def_game_scale.specs.Tables.{game_sum}
 use Rattle.def_game_scale.specs.Scale.{game_unit}
-use Rattle.def_file.specs.Game.{HasFractions, IsWholeGame}
-use Rattle.def_game_numbers.specs.Numbers.{game_file_fault, tables_of}
+use Rattle.def_game_numbers.specs.Numbers.{tables_of}
 use Rattle.def_plan.specs.Form.{SequenceForm, sequence_count}
-use Rattle.def_plan.specs.Weighed.{WeighedGame}
 use Rattle.def_sequence_form.proofs.Leaves.{form_has_the_mass}
 use Rattle.def_reply.specs.Offers.{board_after}
 use Rattle.def_reply.specs.Outcome.{Head, Outcome}
@@ -18,18 +16,13 @@ use Rattle.def_run.specs.Run.{offers_in, outcome_with}
 use Rattle.def_plus.specs.declared.Variant.{Variant}
 use Rattle.def_plus_run.specs.VariantRun.{run_of, outcome_of}
 use Rattle.def_cert_accepted.specs.OfOutcome.{certificate_of}
-use Rattle.def_cert_versions.specs.Upgrade.{HasWholeSum, IsWholeIn}
 use Rattle.def_cert_versions.specs.Verdict.{in_version_two}
-use Rattle.def_cert_versions.proofs.Upgrades.{whole_sums}
 use Rattle.def_command.specs.Grammar.{Settings}
 use Rattle.def_program.specs.Text.{form_of_file, game_head, between_marks, played_text, text_of_variant}
 use Rattle.def_program.proofs.Played.{leaves_are}
-use Rattle.xg_engine.specs.State.{EngineState, head_with}
+use Rattle.xg_engine.specs.State.{head_with}
 use Rattle.xg_engine.specs.declared.settings.Settings.{Settings as RunSettings}
-use Rattle.xg_cert.specs.Writable.{IsOutcomeOf}
-use Rattle.xg_run.specs.Accepted.{KeepsNumbersOfGame}
 use Rattle.xg_run.specs.Settings.{settings_seen}
-use Rattle.xg_run.specs.Written.{CanBeWritten}
 use Rattle.def_game_numbers.specs.Weighed.{weighed_game}
 
 -- what is escaped piece by piece is escaped whole
@@ -112,32 +105,3 @@ unplayed_is variant game settings form head left none form_is head_is left_is =
 -- an outcome that is there is one
 pub same_outcome : (left other : Outcome) → Some left ≡ Some other → left ≡ other
 same_outcome left other same = cc
-
--- what a run leaves of a game whose sum is whole can be written
-pub run_can_be_written : {E : Type 0} (r : Result (Unit {0}) E) (variant : Variant) (game : WeighedGame)
-    (settings : RunSettings) (left : Option Outcome) → HasWholeSum game
-    → OnOk r (left ≡ Some (outcome_of variant game.form (head_with game settings)))
-    → OnOk r (IfSome left (IsOutcomeOf game.form)) → OnOk r (IfSome left (CanBeWritten game.form))
-run_can_be_written (Err e) variant game settings left sum is can = tt
-run_can_be_written (Ok done) variant game settings None sum is can = tt
-run_can_be_written (Ok done) variant game settings (Some left) sum is can = record {
-  is = can;
-  sum = subst (λ (it : Outcome). IsWholeIn it.head.unit it.head.sum)
-      (sym (same_outcome left (outcome_of variant game.form (head_with game settings)) is)) sum;
-}
-
--- an accepted game keeps its numbers
-pub keeps_numbers : (game : GameFile) (numbers : WeighedGame) → IsWholeGame game
-    → HasFractions game.sets game.outcomes → game_file_fault game ≡ None → numbers ≡ weighed_game game
-    → KeepsNumbersOfGame game numbers
-keeps_numbers game numbers whole fractions no_fault is = record {
-  are = is;
-  whole_sum = subst HasWholeSum (sym is)
-      (whole_sums game (record { whole = whole; fractions = fractions; no_fault = no_fault }));
-}
-
--- an engine of numbers whose sum is whole
-pub engine_has_whole_sum : {E : Type 0} (r : Result EngineState E) (numbers : WeighedGame) → HasWholeSum numbers
-    → IfOk r (λ (engine : EngineState). engine.game ≡ numbers) → IfOk r (λ (engine : EngineState). HasWholeSum engine.game)
-engine_has_whole_sum (Ok engine) numbers sum is = subst HasWholeSum (sym is) sum
-engine_has_whole_sum (Err e) numbers sum is = tt

@@ -1,17 +1,9 @@
--- A game that is accepted, and what opening one gives.
+-- What opening a game gives.
 use Rattle.std.specs.Prelude.{◌≡◌, Some, None, Result, Ok, Err}
 use Rattle.def_file.specs.Content.{GameFile}
 use Rattle.def_game_numbers.specs.Numbers.{game_file_fault}
 use Rattle.xg_game.specs.declared.fault.Refused.{Refused}
 use Rattle.xg_game.specs.declared.fault.Refused.TheVariants.{File, NoMemory}
-use Rattle.def_plan.specs.Weighed.{WeighedGame}
-use Rattle.def_cert_versions.specs.Upgrade.{HasWholeSum}
-use Rattle.def_game_numbers.specs.Weighed.{weighed_game}
-
--- the numbers are the game's, whose sum is whole in its unit
-pub record KeepsNumbersOfGame (game : GameFile) (numbers : WeighedGame) : Type 0 where
-  pub are : numbers ≡ weighed_game game
-  pub whole_sum : HasWholeSum numbers
 
 -- the game where it has no fault, and else its first one; memory may run out
 abbrev pub Opens : GameFile → Result GameFile Refused → Type 0

@@ -85,6 +85,6 @@ pub record IsTextPart (item : Item) (part : Part) : Type 0 where
   pub writable : CanWritePart part
 
 -- the same of the text of an engine's game
-pub record IsTextOf (engine : EngineState) (text : PlayedText) : Type 0 where
+pub record IsTextOfEngine (engine : EngineState) (text : PlayedText) : Type 0 where
   pub bytes : left_text text.variant text.form.now text.outcome.now ≡ left_shown engine.game.form engine.outcome
   pub writable : CanBeWritten text.form.now text.outcome.now

@@ -2,7 +2,7 @@
 use Rattle.std.specs.Prelude.{◌≡◌, Result, Ok, Err}
 use Rattle.def_plan.specs.Form.{SequenceForm}
 use Rattle.def_reply.specs.Outcome.{Outcome}
-use Rattle.def_cert_versions.specs.Upgrade.{IsWholeIn}
+use Rattle.def_game_numbers.specs.WholeSums.{IsWholeIn}
 use Rattle.xg_cert.specs.Writable.{IsOutcomeOf}
 use Rattle.xg_run.specs.declared.ending.Ending.{Ending}
 use Rattle.xg_run.specs.declared.ending.Ending.TheVariants.{Done, WriteFault}

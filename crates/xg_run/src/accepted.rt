@@ -1,6 +1,5 @@
 //! A game that is accepted.
 ghost use Rattle.std.specs.Prelude.{◌≡◌, IfOk, None};
-ghost use Rattle.def_cert_versions.specs.Upgrade.{HasWholeSum, IsWholeIn};
 ghost use Rattle.def_program.specs.Text.{game_head};
 ghost use Rattle.xg_cert.specs.Outcome.{head_of};
 ghost use Rattle.xg_run.specs.Accepted.{Opens};
@@ -16,16 +15,17 @@ use xg_numbers::Numbers;
 
 /// A game that is accepted: as its file has it, and in numbers.
 #[derive(Drop)]
-pub struct Accepted {
+pub struct AcceptedGame {
     game: Game,
     numbers: Numbers,
 }
 
-impl Model for Accepted {
+impl Model for AcceptedGame {
+    ghost use Rattle.std.specs.Prelude.{◌≡◌};
     ghost use Rattle.std.specs.Coded.{codes};
     ghost use Rattle.def_tree.specs.Code.{forest_code};
     ghost use Rattle.def_file.specs.Content.{GameFile};
-    ghost use Rattle.xg_run.specs.Accepted.{KeepsNumbersOfGame};
+    ghost use Rattle.def_game_numbers.specs.Weighed.{weighed_game};
 
     ghost Value = { GameFile };
 
@@ -33,19 +33,16 @@ impl Model for Accepted {
 
     ghost view = { λ a. a.game };
 
-    ghost invariant = { λ a. KeepsNumbersOfGame a.game a.numbers };
+    ghost invariant = { λ a. a.numbers ≡ weighed_game a.game };
 }
 
-impl Accepted {
+impl AcceptedGame {
     /// The game, or the first fault of its numbers and its sets.
-    pub fn open(alloc: Global, game: Game) -> Result<Accepted, Refused>
+    pub fn open(alloc: Global, game: Game) -> Result<AcceptedGame, Refused>
         ensures { Opens game result }
     {
-        // What is true of each game, by which the sum of an accepted one is whole.
-        game.numbers_are_in_lowest_terms();
-        let _tree = game.tree();
         match Numbers::open(alloc, &game) {
-            Ok(numbers) => Ok(Accepted { game, numbers }),
+            Ok(numbers) => Ok(AcceptedGame { game, numbers }),
             Err(fault) => {
                 drop(game);
                 Err(fault)
@@ -56,10 +53,9 @@ impl Accepted {
     /// An engine for the game.
     pub fn into_engine(self, alloc: Global) -> Result<Engine, AllocError>
         ensures opened { IfOk result (λ engine. engine.game ≡ weighed_game self) }
-        ensures whole_sum { IfOk result (λ engine. HasWholeSum engine.game) }
         ensures no_outcome { IfOk result (λ engine. engine.outcome ≡ None) }
     {
-        let Accepted { game, numbers } = self;
+        let AcceptedGame { game, numbers } = self;
         let engine = Engine::from_numbers(alloc, &game, numbers);
         drop(game);
         engine
@@ -81,8 +77,7 @@ impl Accepted {
 
     /// The game's numbers, with what is asked.
     pub fn head(&self, settings: Settings) -> Head
-        ensures exact { head_of result ≡ game_head self.now (settings_seen settings) }
-        ensures whole_sum { IsWholeIn result.unit result.sum }
+        ensures { head_of result ≡ game_head self.now (settings_seen settings) }
     {
         head_with(&self.numbers, settings)
     }

@@ -9,7 +9,7 @@ ghost use Rattle.def_command.specs.Table.{most_files};
 ghost use Rattle.def_program.specs.BatchText.{parts_text};
 ghost use Rattle.def_program.specs.Meaning.{AllMean};
 ghost use Rattle.xg_engine.specs.State.{AreWithinLimits};
-ghost use Rattle.xg_batch.specs.Items.{HasAtMost, entry_seen};
+ghost use Rattle.xg_batch.specs.Items.{HasAtMost, batch_entry_seen};
 ghost use Rattle.xg_run.specs.Batches.{BatchHasCause, CanBeShown, HaveContents, items_shown};
 ghost use Rattle.xg_run.specs.Concludes.{Concludes, Tells};
 ghost use Rattle.xg_run.specs.Endings.{status_of};
@@ -80,7 +80,7 @@ fn read_entries<F: Files>(
     requires { All (λ name. IsTrue (F.may_open files.old name.now)) names.now }
     ensures count { IfOk result (λ entries. length entries.items ≡ length names.now) }
     ensures exact { IfOk result (λ entries. HaveContents batch_room
-        (map (λ name. F.told files.old name.now) names.now) (map entry_seen entries.items)) }
+        (map (λ name. F.told files.old name.now) names.now) (map batch_entry_seen entries.items)) }
     ensures within { IfOk result (λ entries. All (HasAtMost most_bytes) entries.items) }
     ensures opens { F.opens files.new ≤ F.opens files.old + length names.now }
     ensures cause { BatchHasCause (F.faults files.old) (F.faults files.new) result }
@@ -107,8 +107,8 @@ fn read_entry<F: Files>(
     requires name { IsTrue (F.may_open files.old name.now) }
     requires room { room ≤ batch_room }
     ensures exact { IfOk result (λ entry. IfSome (F.told files.old name.now)
-        (λ bytes. batch_entry room bytes ≡ entry_seen entry)) }
-    ensures within { IfOk result (λ entry. entry_bytes (entry_seen entry) ≤ room) }
+        (λ bytes. batch_entry room bytes ≡ batch_entry_seen entry)) }
+    ensures within { IfOk result (λ entry. entry_bytes (batch_entry_seen entry) ≤ room) }
     ensures same_told { F.told files.new ≡ F.told files.old }
     ensures same_names { F.may_open files.new ≡ F.may_open files.old }
     ensures opens { F.opens files.new ≤ F.opens files.old + 1 }
@@ -124,7 +124,7 @@ fn read_entry<F: Files>(
 
 /// How many bytes are kept of a file.
 fn kept_bytes(entry: &Entry) -> usize
-    ensures { result ≡ entry_bytes (entry_seen entry.now) }
+    ensures { result ≡ entry_bytes (batch_entry_seen entry.now) }
 {
     match entry {
         Entry::Bytes(file) => file.bytes().len(),
@@ -146,7 +146,7 @@ fn solve_entries<Rt: Threads + Wait + Sync, O: Sink, G: Gate>(
     requires lengths { All (HasAtMost most_bytes) entries.now }
     requires limits { AreWithinLimits settings }
     requires workers { (1 ≤ workers) × (workers ≤ most_workers) }
-    ensures { Tells (parts_text (settings_seen settings) 1 (map item_of (map entry_seen entries.now)))
+    ensures { Tells (parts_text (settings_seen settings) 1 (map item_of (map batch_entry_seen entries.now)))
         (sink_call O.Sink out.old out.new) result }
 {
     let Ok(items) = solve_all(rt, alloc, entries, settings, workers, gate) else {

@@ -6,7 +6,7 @@ ghost use Rattle.def_outside.specs.Sinks.{Writes};
 ghost use Rattle.def_program.specs.BatchText.{file_line};
 ghost use Rattle.def_program.specs.Text.{line_feed};
 ghost use Rattle.std.specs.Fmt.{decimal};
-ghost use Rattle.xg_run.specs.Batches.{CanBeShown, CanWritePart, HasOutcome, IsTextPart, IsTextOf, part_bytes, parts_bytes};
+ghost use Rattle.xg_run.specs.Batches.{CanBeShown, CanWritePart, HasOutcome, IsTextPart, IsTextOfEngine, part_bytes, parts_bytes};
 
 use crate::certificate::PlayedText;
 use crate::text::fault_line;
@@ -71,7 +71,7 @@ fn part_of<'a>(alloc: Global, item: &'a Item) -> Result<Part<'a>, AllocError>
 /// The text of what the rounds left.
 fn game_text(engine: &Engine) -> PlayedText<'_>
     requires { HasOutcome engine.now }
-    ensures { IsTextOf engine.now result }
+    ensures { IsTextOfEngine engine.now result }
 {
     match engine.outcome() {
         Some(outcome) => PlayedText {

@@ -4,7 +4,7 @@ ghost use Rattle.def_outside.specs.Cause.{next_count};
 ghost use Rattle.def_file.specs.Reading.{game_at, most_bytes};
 ghost use Rattle.xg_run.specs.Loads.{AcceptsOrRefuses, LoadHasCause, Loads, LoadsGame, ReadsGame};
 
-use crate::accepted::Accepted;
+use crate::accepted::AcceptedGame;
 use std::alloc::Global;
 use xg_io::{Files, ReadAllFault, read_all};
 use xg_read::{FileFault, Game, MOST_BYTES, Refused, read_game};
@@ -22,7 +22,7 @@ pub enum LoadFault {
 
 /// The accepted game of the file of a name.
 #[tactic(auto, using(crate::proofs::Loaded::accepted_is_loaded, crate::proofs::Loaded::unread_is_unloaded))]
-pub fn load<F: Files>(alloc: Global, files: &mut F, name: &str) -> Result<Accepted, LoadFault>
+pub fn load<F: Files>(alloc: Global, files: &mut F, name: &str) -> Result<AcceptedGame, LoadFault>
     requires { IsTrue (F.may_open files.old name.now) }
     ensures exact { Loads (F.told files.old name.now) result }
     ensures too_long { IsErrOf result (LoadFault.Refused FileFault.TooLong) → most_bytes < F.taken files.new }
@@ -36,11 +36,11 @@ pub fn load<F: Files>(alloc: Global, files: &mut F, name: &str) -> Result<Accept
 }
 
 /// The game, where it has no fault.
-fn accept(alloc: Global, game: Game) -> Result<Accepted, LoadFault>
+fn accept(alloc: Global, game: Game) -> Result<AcceptedGame, LoadFault>
     ensures exact { AcceptsOrRefuses game result }
     ensures any_length { result ≢ Err (LoadFault.Refused FileFault.TooLong) }
 {
-    match Accepted::open(alloc, game) {
+    match AcceptedGame::open(alloc, game) {
         Ok(accepted) => Ok(accepted),
         Err(Refused::File(fault)) => Err(LoadFault::Refused(fault)),
         Err(Refused::NoMemory) => Err(LoadFault::NoMemory),

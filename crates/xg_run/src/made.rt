@@ -10,7 +10,7 @@ ghost use Rattle.xg_engine.specs.State.{AreWithinLimitsOf};
 ghost use Rattle.xg_run.specs.Concludes.{EndsMade, Tells};
 ghost use Rattle.xg_run.specs.Settings.{settings_seen};
 
-use crate::accepted::Accepted;
+use crate::accepted::AcceptedGame;
 use crate::certificate::GameText;
 use crate::ending::Ending;
 use crate::playing::{ending_of, play};
@@ -58,7 +58,7 @@ pub fn drill<Rt: Threads + Wait + Sync, O: Sink, G: Gate>(
     let Ok(game) = one_card_poker(alloc, cards) else {
         return Ending::NoMemory;
     };
-    match Accepted::open(alloc, game) {
+    match AcceptedGame::open(alloc, game) {
         Ok(accepted) => play(rt, alloc, accepted, Variant::Plain, settings, rows, out),
         Err(Refused::File(fault)) => refused(alloc, fault),
         Err(Refused::NoMemory) => Ending::NoMemory,

@@ -5,7 +5,6 @@ ghost use Rattle.xg_io.specs.Calls.{sink_call};
 ghost use Rattle.def_file.specs.Content.{GameFile};
 ghost use Rattle.def_game_numbers.specs.Weighed.{weighed_game};
 ghost use Rattle.def_plus_run.specs.VariantRun.{outcome_of};
-ghost use Rattle.def_cert_versions.specs.Upgrade.{HasWholeSum};
 ghost use Rattle.def_program.specs.Text.{played_text};
 ghost use Rattle.xg_engine.specs.State.{AreWithinLimitsOf, head_with};
 ghost use Rattle.xg_jobs.specs.Rows.{AreNumbersOf, ArePlainSums};
@@ -15,7 +14,7 @@ ghost use Rattle.xg_run.specs.Engines.{state_of, variant_of};
 ghost use Rattle.xg_run.specs.Settings.{settings_seen};
 ghost use Rattle.xg_run.specs.Written.{CanBeWritten, IsEndingOf};
 
-use crate::accepted::Accepted;
+use crate::accepted::AcceptedGame;
 use crate::certificate::PlayedText;
 use crate::ending::Ending;
 use crate::engine::VariantEngine;
@@ -34,7 +33,7 @@ use xg_jobs::{JobTable, PlainRows, RowInput, Rows};
 pub fn play<Rt: Threads + Wait + Sync, O: Sink, G: Gate>(
     rt: &Rt,
     alloc: Global,
-    accepted: Accepted,
+    accepted: AcceptedGame,
     variant: Variant,
     settings: Settings,
     rows: &SharedRows<'_, G>,
@@ -69,7 +68,6 @@ fn play_by<Rt: Threads + Wait + Sync, O: Sink, G: Gate>(
 ) -> Ending
     requires variant { variant_of engine.old ≡ variant }
     requires limits { AreWithinLimitsOf variant settings }
-    requires whole_sum { HasWholeSum (state_of engine.old).game }
     ensures { (game : GameFile) → (state_of engine.old).game ≡ weighed_game game
         → Tells (played_text variant game (settings_seen settings)) (sink_call O.Sink out.old out.new) result }
 {
@@ -98,7 +96,6 @@ fn play_rounds<Rt: Threads + Wait + Sync, G: Gate>(
     rows: &SharedRows<'_, G>,
 ) -> Result<(), AllocError>
     requires limits { AreWithinLimitsOf (variant_of engine.old) settings }
-    requires whole_sum { HasWholeSum (state_of engine.old).game }
     ensures outcome { let game = (state_of engine.old).game in
         OnOk result ((state_of engine.new).outcome
         ≡ Some (outcome_of (variant_of engine.old) game.form (head_with game settings))) }
@@ -123,7 +120,7 @@ fn play_rounds<Rt: Threads + Wait + Sync, G: Gate>(
 /// Writes the text where no rounds are asked.
 fn write_unplayed<O: Sink>(
     alloc: Global,
-    accepted: &Accepted,
+    accepted: &AcceptedGame,
     variant: Variant,
     settings: Settings,
     out: &mut O,

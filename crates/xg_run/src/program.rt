@@ -17,7 +17,7 @@ ghost use Rattle.xg_run.specs.Endings.{status_of};
 ghost use Rattle.xg_run.specs.MayOpen.{MayOpen};
 ghost use Rattle.xg_run.specs.Refusal.{IsRefusal, IsUnloaded};
 
-use crate::accepted::Accepted;
+use crate::accepted::AcceptedGame;
 use crate::batch::batch;
 use crate::check::{check, upgrade};
 use crate::ending::Ending;
@@ -89,7 +89,7 @@ fn info<F: Files, O: Sink>(alloc: Global, file: &str, files: &mut F, out: &mut O
 }
 
 /// Tells of an accepted game.
-fn tell<O: Sink>(alloc: Global, accepted: &Accepted, out: &mut O) -> Ending
+fn tell<O: Sink>(alloc: Global, accepted: &AcceptedGame, out: &mut O) -> Ending
     ensures { Tells (info_text accepted.now) (sink_call O.Sink out.old out.new) result }
 {
     let Ok(front) = info_front(alloc, accepted.game()) else {

@@ -14,10 +14,8 @@ use xg_board::LockedRows;
 use xg_command::RowWords;
 use xg_io::Gate;
 use xg_jobs::{JobTable, RowInput, Rows};
+use xg_rowcore::USUAL_STRIPES;
 use xg_words::AtomicRows;
-
-/// How many stripes the rows are cut into that several workers add into.
-const STRIPES: u32 = 16;
 
 /// How many workers pay where no number of them is given: one thread adds up its rows faster than several workers add
 /// into shared ones, for every number of leaves that a file can have.
@@ -70,7 +68,7 @@ impl<'g, G: Gate> SharedRows<'g, G> {
         }
         let locked = LockedRows {
             workers,
-            stripes: STRIPES,
+            stripes: USUAL_STRIPES,
             gate,
         };
         locked.rows(rt, alloc, input, jobs)

@@ -3,8 +3,8 @@ use Rattle.xg_batch.proofs.solving.solve_game.Goals as goal
 
 pub returns-in-Ok : goal.returns-in-Ok
 returns-in-Ok g c =
-    item_of_engine c.play.result c.args.settings c.args.game.now c.in-Ok.engine c.tree-tree.ensures.whole
-    c.numbers_are_in_lowest_terms.ensures c.in-Ok.ensures.faultless c.in-Ok.ensures.opened c.play.ensures
+    item_of_engine c.play.result c.args.settings c.args.game.now c.in-Ok.engine
+    c.in-Ok.ensures.faultless c.in-Ok.ensures.opened c.play.ensures
 
 pub returns-in-Err : goal.returns-in-Err
 returns-in-Err g c =

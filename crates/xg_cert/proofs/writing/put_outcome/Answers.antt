@@ -6,7 +6,7 @@ use Rattle.def_reply.specs.Outcome.{Head}
 use Rattle.def_cert_accepted.specs.OfOutcome.{printed_bounds, certificate_of}
 use Rattle.def_cert_verdict.specs.Certificate.{Certificate}
 use Rattle.def_cert_verdict.specs.Ranges.{IsFromTo}
-use Rattle.def_cert_versions.specs.Upgrade.{IsWholeIn}
+use Rattle.def_game_numbers.specs.WholeSums.{IsWholeIn}
 use Rattle.def_cert_versions.specs.Verdict.{in_version_two}
 use Rattle.xg_cert.specs.declared.bounds.FormBounds.{FormBounds}
 use Rattle.xg_cert.specs.Outcome.{head_of}

@@ -1,7 +1,7 @@
 use Rattle.std.proofs.Common.{sym, subst, arith}
 use Rattle.std.proofs.lemmas.Nat.Gcd.{dvd_refl}
-use Rattle.def_cert_versions.specs.Upgrade.{IsWholeIn}
 use Rattle.def_fraction.specs.Fraction.{zero_fraction}
+use Rattle.def_game_numbers.specs.WholeSums.{IsWholeIn}
 use Rattle.def_reply.specs.Outcome.{Outcome}
 use Rattle.xg_cert_tests.proofs.plus_writing.even_outcome.Goals as goal
 

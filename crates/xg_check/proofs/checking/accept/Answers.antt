@@ -1,8 +1,5 @@
-use Rattle.xg_check.proofs.Acceptance.{opened_whole, shown_of_file}
+use Rattle.xg_check.proofs.Acceptance.{shown_of_file}
 use Rattle.xg_check.proofs.checking.accept.Goals as goal
-
-pub accept_bytes-requires : goal.accept_bytes-requires
-accept_bytes-requires c = opened_whole c.in-Ok.numbers c.args.game_bytes.now c.in-Ok.ensures.opened
 
 pub returns-in-Ok-clause-shown : goal.returns-in-Ok-clause-shown
 returns-in-Ok-clause-shown c =

@@ -8,7 +8,7 @@ returns-in-Ok-judge-clause-shown c =
       order_one = c.judge.ensures.order_one;
       order_two = c.judge.ensures.order_two;
       some_unit = c.judge.ensures.some_unit;
-      whole_sum = c.requires;
+      whole_sum = c.judge.ensures.whole_sum;
       fits = c.in-Ok.ensures.fits;
       text = c.in-Ok.ensures.text;
     } in
@@ -21,7 +21,7 @@ returns-in-Ok-judge-clause-head_only c =
       order_one = c.judge.ensures.order_one;
       order_two = c.judge.ensures.order_two;
       some_unit = c.judge.ensures.some_unit;
-      whole_sum = c.requires;
+      whole_sum = c.judge.ensures.whole_sum;
       fits = c.in-Ok.ensures.fits;
       text = c.in-Ok.ensures.text;
     } in
@@ -34,7 +34,7 @@ returns-in-Ok-judge-clause-upgradable c =
       order_one = c.judge.ensures.order_one;
       order_two = c.judge.ensures.order_two;
       some_unit = c.judge.ensures.some_unit;
-      whole_sum = c.requires;
+      whole_sum = c.judge.ensures.whole_sum;
       fits = c.in-Ok.ensures.fits;
       text = c.in-Ok.ensures.text;
     } in

@@ -27,4 +27,4 @@ judge_second-requires c =
     passed-upgradable c.args.numbers.now c.args.cert.now
     (subst (λ (f : SequenceForm). AreInOrder f.sets_one) c.form.ensures (c.facts.ensures.order One))
     (subst (λ (f : SequenceForm). AreInOrder f.sets_two) c.form.ensures (c.facts.ensures.order Two))
-    c.facts-2.ensures.positive c.requires c.facts-3.ensures.within (sym c.in-Ok-None.ensures ∙ c.in-Ok-None.field-0-is)
+    c.facts-2.ensures.positive c.facts-2.ensures.whole_sum c.facts-3.ensures.within (sym c.in-Ok-None.ensures ∙ c.in-Ok-None.field-0-is)

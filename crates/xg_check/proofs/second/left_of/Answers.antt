@@ -5,7 +5,7 @@ use Rattle.def_tree.specs.Opponent.{opponent}
 use Rattle.def_reply.specs.Outcome.{Head}
 use Rattle.def_cert_verdict.specs.Ranges.{IsFromTo}
 use Rattle.def_cert_text.specs.Versions.{VersionedFits, in_version_one}
-use Rattle.def_cert_versions.specs.Upgrade.{IsWholeIn}
+use Rattle.def_game_numbers.specs.WholeSums.{IsWholeIn}
 use Rattle.xg_cert.specs.Printed.{bounds_in, plan_in}
 use Rattle.xg_cert.specs.Writable.{IsWholeEnd}
 use Rattle.xg_cert.proofs.Seconds.{upgrade_leaves}

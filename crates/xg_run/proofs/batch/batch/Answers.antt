@@ -2,7 +2,7 @@ use Rattle.std.proofs.Common.{List, map, subst}
 use Rattle.xg_io.specs.Calls.{files_call, sink_call}
 use Rattle.def_batch.specs.Batch.{item_of}
 use Rattle.def_program.specs.BatchText.{parts_text}
-use Rattle.xg_batch.specs.Items.{entry_seen}
+use Rattle.xg_batch.specs.Items.{batch_entry_seen}
 use Rattle.xg_batch.specs.declared.entry.Entry.{Entry}
 use Rattle.xg_run.specs.Concludes.{Tells}
 use Rattle.xg_run.specs.Settings.{settings_seen}
@@ -13,10 +13,10 @@ pub returns-in-Ok-clause-concludes : goal.returns-in-Ok-clause-concludes
 returns-in-Ok-clause-concludes g c =
     let settings = settings_seen c.args.settings in
     ended settings (map (λ name. g.F.Files.told c.args.files.now name.now) c.args.names.now)
-    (map entry_seen c.in-Ok.entries.items) c.in-Ok.ensures.exact
+    (map batch_entry_seen c.in-Ok.entries.items) c.in-Ok.ensures.exact
     (files_call g.F.Files c.args.files.now c.read_entries.new.files)
     (sink_call g.O.Sink c.args.out.now c.solve_entries-ending.new.out) c.in-Ok.ensures.cause
     c.solve_entries-ending.result
-    (subst (λ (them : List Entry). Tells (parts_text settings 1 (map item_of (map entry_seen them)))
+    (subst (λ (them : List Entry). Tells (parts_text settings 1 (map item_of (map batch_entry_seen them)))
     (sink_call g.O.Sink c.args.out.now c.solve_entries-ending.new.out) c.solve_entries-ending.result)
     c.deref.ensures.value c.solve_entries-ending.ensures)

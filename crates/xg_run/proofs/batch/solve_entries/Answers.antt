@@ -2,7 +2,7 @@ use Rattle.std.proofs.Common.{◌≡◌, ◌∙◌, ℕ, All, List, ap, map, sub
 use Rattle.xg_io.specs.Calls.{sink_call}
 use Rattle.def_batch.specs.Batch.{item_of}
 use Rattle.def_program.specs.BatchText.{parts_text}
-use Rattle.xg_batch.specs.Items.{entry_seen}
+use Rattle.xg_batch.specs.Items.{batch_entry_seen}
 use Rattle.xg_run.specs.Batches.{CanBeShown, items_shown}
 use Rattle.xg_run.specs.Concludes.{Tells}
 use Rattle.xg_run.specs.Settings.{settings_seen}
@@ -16,7 +16,7 @@ write_items-ending-requires g c =
 
 pub returns : goal.returns
 returns g c =
-    let text : List ℕ = parts_text (settings_seen c.args.settings) 1 (map item_of (map entry_seen c.args.entries.now)) in
+    let text : List ℕ = parts_text (settings_seen c.args.settings) 1 (map item_of (map batch_entry_seen c.args.entries.now)) in
     let are : items_shown 1 c.deref.result.now ≡ text =
     ap (items_shown 1) c.deref.ensures.value
     ∙ items_text_is c.args.settings 1 c.args.entries.now c.in-Ok.items.items c.in-Ok.ensures.each in

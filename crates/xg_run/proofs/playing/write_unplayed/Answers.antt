@@ -5,6 +5,7 @@ use Rattle.def_plan.specs.Weighed.{WeighedGame}
 use Rattle.def_reply.specs.declared.TraceLine.{TraceLine}
 use Rattle.def_reply.specs.Outcome.{Head, Outcome}
 use Rattle.def_cert_verdict.specs.Ranges.{IsFromTo}
+use Rattle.def_game_numbers.specs.WholeSums.{HasWholeSum, IsWholeIn}
 use Rattle.def_program.specs.Text.{form_of_file, played_text}
 use Rattle.xg_cert.specs.Outcome.{head_of}
 use Rattle.xg_run.specs.Settings.{settings_seen}
@@ -21,10 +22,11 @@ write_paged-requires g c =
     c.new-outcome.ensures
     ∙ ap (λ (trace : List TraceLine). record { head = head; trace = trace; ends = None }) c.new.ensures.items in
     let unit_is : c.numbers-numbers.result.now.unit ≡ head.unit =
-    ap (λ (numbers : WeighedGame). numbers.unit) c.numbers-numbers.ensures ∙ sym (ap (λ (h : Head). h.unit) c.head.ensures.exact) in
+    ap (λ (numbers : WeighedGame). numbers.unit) c.numbers-numbers.ensures ∙ sym (ap (λ (h : Head). h.unit) c.head.ensures) in
     let can : CanBeWritten c.form.result.now left = record {
       is = record { unit = subst (IsFromTo 1 most) unit_is (c.facts.ensures.positive, c.facts.ensures.limit); ends = tt };
-      sum = c.head.ensures.whole_sum;
+      sum = subst (λ (h : Head). IsWholeIn h.unit h.sum) (sym c.head.ensures)
+          (subst HasWholeSum c.numbers-numbers.ensures c.facts.ensures.whole_sum);
     } in
     subst (CanBeWritten c.form.result.now) (sym left_is) can
 
@@ -41,7 +43,7 @@ returns g c =
     ∙ ap (λ (trace : List TraceLine). record { head = head_of c.head.result; trace = trace; ends = None }) c.new.ensures.items in
     tells (sink_call g.O.Sink c.args.out.now c.write_paged.new.out)
     (played_text variant game settings) (outcome_text variant c.form.result.now left)
-    (unplayed_is variant game settings c.form.result.now (head_of c.head.result) left c.requires form_is c.head.ensures.exact left_is)
+    (unplayed_is variant game settings c.form.result.now (head_of c.head.result) left c.requires form_is c.head.ensures left_is)
     c.write_paged.result c.ending_of.result c.ending_of.ensures
     (writes_of (g.O.Sink.written c.args.out.now) (g.O.Sink.written c.write_paged.new.out)
     (outcome_text variant c.form.result.now left) c.write_paged.result

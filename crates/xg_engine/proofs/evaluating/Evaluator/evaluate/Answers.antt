@@ -1,6 +1,6 @@
 use Rattle.std.proofs.Common.{◌*◌, ◌∙◌, sym}
 use Rattle.def_tree.specs.declared.Player.TheVariants.{One, Two}
-use Rattle.def_plus.specs.Variants.{weight_of}
+use Rattle.def_plus.specs.Variants.{weight_of_rounds}
 use Rattle.xg_engine.proofs.RowSizes.{count_of_rows, small_in_evaluation}
 use Rattle.xg_engine.proofs.evaluating.Evaluator.evaluate.Goals as goal
 
@@ -13,7 +13,7 @@ best_reply-requires-clause-small g c =
     let form = c.args.source.now.form.now in
     let plans = c.requires.plans in
     small_in_evaluation form Two c.args.one.now c.two.result.now (c.two.ensures ∙ c.in_ok-rows.ensures.two)
-    form.sets_one (weight_of c.args.self.now.board.variant c.args.round * plans.scale) c.requires.form.order_one plans.plan_one c.requires.form.small_mass plans.small_root
+    form.sets_one (weight_of_rounds c.args.self.now.board.variant c.args.round * plans.scale) c.requires.form.order_one plans.plan_one c.requires.form.small_mass plans.small_root
 
 pub best_reply-requires-2-clause-rows : goal.best_reply-requires-2-clause-rows
 best_reply-requires-2-clause-rows g c =
@@ -24,7 +24,7 @@ best_reply-requires-2-clause-small g c =
     let form = c.args.source.now.form.now in
     let plans = c.requires.plans in
     small_in_evaluation form One c.args.two.now c.one.result.now (c.one.ensures ∙ c.in_ok-rows.ensures.one)
-    form.sets_two (weight_of c.args.self.now.board.variant c.args.round * plans.scale) c.requires.form.order_two plans.plan_two c.requires.form.small_mass plans.small_root
+    form.sets_two (weight_of_rounds c.args.self.now.board.variant c.args.round * plans.scale) c.requires.form.order_two plans.plan_two c.requires.form.small_mass plans.small_root
 
 pub offer-requires-clause-fair : goal.offer-requires-clause-fair
 offer-requires-clause-fair g c =

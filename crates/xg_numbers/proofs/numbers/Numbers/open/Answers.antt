@@ -6,18 +6,22 @@ use Rattle.def_game_numbers.specs.Numbers.{GameWeights, tables_of, weights_of_ga
 use Rattle.def_sequence_form.specs.Form.{form_of}
 use Rattle.def_sequence_form.specs.Sets.{sets_or_break}
 use Rattle.def_game_numbers.proofs.Refusals.{accepted, refused_first, stands_on_answers}
+use Rattle.xg_numbers.proofs.AcceptedSums.{accepted_sum}
 use Rattle.xg_numbers.proofs.numbers.Numbers.open.Goals as goal
 
 pub invariant_of-result : goal.invariant_of-result
 invariant_of-result c =
     let weights = c.in_ok-weights.weights in
-    let stands = stands_on_answers c.args.game.now weights c.in_ok-sets.sets c.in_ok-weights.ensures.exact (ap sets_or_break (sym c.tree.ensures.tree) ∙ c.in_ok-sets.ensures.sets) in
+    let built = ap sets_or_break (sym c.tree.ensures.tree) ∙ c.in_ok-sets.ensures.sets in
+    let stands = stands_on_answers c.args.game.now weights c.in_ok-sets.sets c.in_ok-weights.ensures.exact built in
     let is : c.in_ok-form.form ≡ form_of c.args.game.now.tree c.in_ok-weights.weights.leaves =
     c.in_ok-form.ensures.form ∙ ap (λ (t : Forest). form_of t c.in_ok-weights.weights.leaves) c.tree-2.ensures.tree in
     record {
       mass_is = c.mass.ensures.mass ∙ sym stands.mass_is ∙ ap (λ (f : SequenceForm). mass_of f.leaves) (sym is);
       some_unit = c.unit.ensures.positive;
       small_unit = c.unit.ensures.limit;
+      whole_sum = accepted_sum c.args.game.now weights c.in_ok-sets.sets c.unit.result c.sum.result c.tree.ensures.whole
+          c.numbers_are_in_lowest_terms.ensures c.in_ok-weights.ensures.exact built c.unit.ensures.unit c.sum.ensures;
     }
 
 pub returns-clause-opened : goal.returns-clause-opened

@@ -1,6 +1,6 @@
 use Rattle.std.proofs.Common.{◌*◌, ◌≤◌, ◌^◌, arith}
 use Rattle.std.proofs.lemmas.Nat.{mul-le}
-use Rattle.xg_check.proofs.ends.product.Goals as goal
+use Rattle.xg_cert.proofs.scales.product.Goals as goal
 
 pub returns-clause-from_one : goal.returns-clause-from_one
 returns-clause-from_one c =
