@@ -1,6 +1,6 @@
 //! What the totals of replies are over.
-ghost use Rattle.std.specs.Prelude.{◌≡◌, ◌*◌, ◌^◌, ◌≤◌, pos};
-ghost use Rattle.def_fraction.specs.Fraction.{most};
+ghost use Rattle.std.specs.Prelude.{◌≡◌, ◌*◌, ◌≤◌, ◌≤ℤ◌, pos};
+ghost use Rattle.def_fraction.specs.Fraction.{most, most_wide};
 ghost use Rattle.def_sums.specs.Limits.{most_root};
 
 /// The unit times the root.
@@ -10,8 +10,8 @@ pub(crate) fn product(unit: u64, root: u64) -> u128
     requires root_from_one { 1 ≤ root }
     requires root { root ≤ most_root }
     ensures value { result ≡ unit * root }
-    ensures from_one { 1 ≤ unit * root }
-    ensures small { unit * root ≤ 2 ^ 98 }
+    ensures from_one { 1 ≤ result }
+    ensures small { result ≤ most_wide }
 {
     unit as u128 * root as u128
 }
@@ -23,8 +23,8 @@ pub fn scale_of(unit: u64, root: u64) -> i128
     requires root_from_one { 1 ≤ root }
     requires root { root ≤ most_root }
     ensures value { result ≡ pos (unit * root) }
-    ensures from_one { 1 ≤ unit * root }
-    ensures small { unit * root ≤ 2 ^ 98 }
+    ensures from_one { pos 1 ≤ℤ result }
+    ensures small { result ≤ℤ pos most_wide }
 {
     product(unit, root) as i128
 }

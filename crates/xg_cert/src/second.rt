@@ -1,6 +1,7 @@
 //! What a sum leaves of an end of a bracket.
 ghost use Rattle.std.specs.Prelude.{◌≡◌, ◌*◌, ◌^◌, ◌≤◌, ◌-ℤ◌, unsigned_abs};
-ghost use Rattle.def_fraction.specs.Fraction.{most};
+ghost use Rattle.def_fraction.specs.Fraction.{most, most_wide};
+ghost use Rattle.def_sums.specs.Limits.{most_row};
 ghost use Rattle.def_game_scale.specs.Scale.{weight_of};
 ghost use Rattle.def_cert_verdict.specs.Ranges.{IsFromTo};
 ghost use Rattle.def_constant_sum.specs.Bounds.{difference_of};
@@ -13,8 +14,8 @@ use xg_frac::{Frac, Ratio, ratio};
 
 /// The fraction times a number that makes it whole.
 fn times(f: Ratio, whole: u128) -> i128
-    requires whole { whole ≤ 2 ^ 98 }
-    requires small { unsigned_abs (weight_of whole f) ≤ 2 ^ 98 }
+    requires whole { whole ≤ most_wide }
+    requires small { unsigned_abs (weight_of whole f) ≤ most_row }
     ensures { result ≡ weight_of whole f }
 {
     f.num() * (whole / f.den().unsigned_abs()) as i128
@@ -22,9 +23,9 @@ fn times(f: Ratio, whole: u128) -> i128
 
 /// The first less the second, times a number that makes both whole.
 fn left(f: Ratio, g: Ratio, whole: u128) -> i128
-    requires whole { whole ≤ 2 ^ 98 }
-    requires first { unsigned_abs (weight_of whole f) ≤ 2 ^ 98 }
-    requires second { unsigned_abs (weight_of whole g) ≤ 2 ^ 98 }
+    requires whole { whole ≤ most_wide }
+    requires first { unsigned_abs (weight_of whole f) ≤ most_row }
+    requires second { unsigned_abs (weight_of whole g) ≤ most_row }
     ensures value { result ≡ weight_of whole f -ℤ weight_of whole g }
     ensures small { unsigned_abs result ≤ 2 ^ 99 }
 {
