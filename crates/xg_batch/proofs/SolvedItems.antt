@@ -15,7 +15,7 @@ use Rattle.xg_game.specs.declared.fault.Refused.{Refused as Unread}
 use Rattle.xg_game.specs.declared.fault.Refused.TheVariants.{File, NoMemory}
 use Rattle.xg_engine.specs.State.{EngineState}
 use Rattle.xg_engine.specs.declared.settings.Settings.{Settings}
-use Rattle.xg_batch.specs.Items.{IsItemOf, IsItemOfGame, IsPlayedItem, IsRefusedItem, IsSolved}
+use Rattle.xg_batch.specs.Items.{IsItemOf, IsItemOfGame, IsPlayedItem, IsPlayedEngine, IsRefusedItem}
 use Rattle.xg_batch.specs.declared.item.Item.{Item}
 use Rattle.xg_batch.specs.declared.item.Item.TheVariants.{Solved, Refused}
 
@@ -25,7 +25,7 @@ pub item_of_read : (settings : Settings) (bytes : List ℕ) (game : GameFile) (i
 item_of_read settings bytes game (Solved engine) short read is =
     let accepts = ap accepted (read_within bytes short ∙ read)
     ∙ ap (λ (fault : Option FileFault). unless_faulty fault game) is.0 in
-    subst (λ (r : Result GameFile FileFault). IsOkAnd r (λ it. IsSolved settings it engine)) (sym accepts) is.1
+    subst (λ (r : Result GameFile FileFault). IsOkAnd r (λ it. IsPlayedEngine settings (weighed_game it) engine)) (sym accepts) is.1
 item_of_read settings bytes game (Refused fault) short read is =
     ap accepted (read_within bytes short ∙ read) ∙ ap (λ (it : Option FileFault). unless_faulty it game) is
 

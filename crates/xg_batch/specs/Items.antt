@@ -8,7 +8,6 @@ use Rattle.def_file.specs.Content.{GameFile}
 use Rattle.def_plan.specs.Weighed.{WeighedGame}
 use Rattle.def_game_numbers.specs.Numbers.{game_file_fault}
 use Rattle.def_game_numbers.specs.Weighed.{weighed_game}
-use Rattle.def_game_numbers.specs.WholeSums.{IsWholeIn}
 use Rattle.def_run.specs.Run.{outcome}
 use Rattle.def_batch.specs.Batch.{BatchEntry, Kept, Long, entry_bytes, item_of}
 use Rattle.xg_cert.specs.Writable.{IsOutcomeOf}
@@ -35,15 +34,10 @@ pub record IsPlayedEngine (settings : Settings) (game : WeighedGame) (engine : E
   pub game_is : engine.game ≡ game
   pub outcome_is : engine.outcome ≡ Some (outcome game.form (head_with game settings))
   pub writable : IfSome engine.outcome (IsOutcomeOf engine.game.form)
-  pub whole_sum : IfSome engine.outcome (λ outcome. IsWholeIn outcome.head.unit outcome.head.sum)
-
--- the same of the game of an accepted file
-abbrev pub IsSolved : Settings → GameFile → EngineState → Type 0
-IsSolved settings game engine = IsPlayedEngine settings (weighed_game game) engine
 
 -- the file is accepted and its game solved, or it has this first fault
 abbrev pub IsItemOf : Settings → BatchEntry → Item → Type 0
-IsItemOf settings entry (Solved engine) = IsOkAnd (item_of entry) (λ game. IsSolved settings game engine)
+IsItemOf settings entry (Solved engine) = IsOkAnd (item_of entry) (λ game. IsPlayedEngine settings (weighed_game game) engine)
 IsItemOf settings entry (Refused fault) = item_of entry ≡ Err fault
 
 abbrev pub AreItemsOf : Settings → List Entry → List Item → Type 0
@@ -51,7 +45,7 @@ AreItemsOf settings entries items = AllZip (λ entry item. IsItemOf settings (ba
 
 -- ---- the same of a game that was read
 abbrev pub IsItemOfGame : Settings → GameFile → Item → Type 0
-IsItemOfGame settings game (Solved engine) = (game_file_fault game ≡ None) × IsSolved settings game engine
+IsItemOfGame settings game (Solved engine) = (game_file_fault game ≡ None) × IsPlayedEngine settings (weighed_game game) engine
 IsItemOfGame settings game (Refused fault) = game_file_fault game ≡ Some fault
 
 -- and of one in numbers

@@ -40,6 +40,7 @@ AreEndsOf form (Some ends) = IsEndOf form.sets_one form.sets_two ends.lower × I
 
 pub record IsOutcomeOf (form : SequenceForm) (outcome : Outcome) : Type 0 where
   pub unit : IsFromTo 1 most outcome.head.unit
+  pub sum : IsWholeIn outcome.head.unit outcome.head.sum
   pub ends : AreEndsOf form outcome.ends
 
 -- the ends of an outcome with the form of its game

@@ -10,7 +10,6 @@ ghost use Rattle.def_cert_text.specs.Fields.{space, feed, fixed_word, number, fi
 ghost use Rattle.def_cert_text.specs.CertText.{last_text, second_text, versioned_text};
 ghost use Rattle.def_cert_text.specs.PlusText.{plus_text};
 ghost use Rattle.def_cert_versions.specs.Upgrade.{IsUpgradable};
-ghost use Rattle.def_game_numbers.specs.WholeSums.{IsWholeIn};
 ghost use Rattle.def_cert_versions.specs.Verdict.{in_version_two, second_bracket, upgraded};
 ghost use Rattle.xg_cert.specs.Outcome.{head_of};
 ghost use Rattle.xg_cert.specs.Printed.{plan_in, reply_in};
@@ -195,7 +194,6 @@ fn put_outcome<O: Sink>(
     out: &mut O,
 ) -> Result<(), WriteFault>
     requires outcome { IsOutcomeOf form.now outcome.now }
-    requires sum { IsWholeIn outcome.now.head.unit outcome.now.head.sum }
     ensures text { Writes (O.written out.old) (O.written out.new)
         (text_under first (in_version_two (certificate_of form.now outcome.now))) result }
     ensures cause { HasCause (O.faults out.old) (O.faults out.new) result }
@@ -217,7 +215,6 @@ fn put_outcome<O: Sink>(
 /// Writes the whole text, version 2. After an error a front of it was written. Takes no memory.
 pub fn write_cert<O: Sink>(form: &SeqForm, outcome: &Outcome, out: &mut O) -> Result<(), WriteFault>
     requires outcome { IsOutcomeOf form.now outcome.now }
-    requires sum { IsWholeIn outcome.now.head.unit outcome.now.head.sum }
     ensures appended { OnOk result (O.written out.new ≡ append_known (O.written out.old)
         (versioned_text (in_version_two (certificate_of form.now outcome.now)))) }
     ensures prefix { OnErr result (AppendsPrefix (O.written out.old) (O.written out.new)
@@ -230,7 +227,6 @@ pub fn write_cert<O: Sink>(form: &SeqForm, outcome: &Outcome, out: &mut O) -> Re
 /// Writes the whole text of a run of CFR+. After an error a front of it was written. Takes no memory.
 pub fn write_plus<O: Sink>(form: &SeqForm, outcome: &Outcome, out: &mut O) -> Result<(), WriteFault>
     requires outcome { IsOutcomeOf form.now outcome.now }
-    requires sum { IsWholeIn outcome.now.head.unit outcome.now.head.sum }
     ensures appended { OnOk result (O.written out.new ≡ append_known (O.written out.old)
         (plus_text (in_version_two (certificate_of form.now outcome.now)))) }
     ensures prefix { OnErr result (AppendsPrefix (O.written out.old) (O.written out.new)

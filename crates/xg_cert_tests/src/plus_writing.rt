@@ -1,6 +1,5 @@
 //! A text of CFR+, written and then read.
-ghost use Rattle.std.specs.Prelude.{◌≤◌, IfOk};
-ghost use Rattle.def_game_numbers.specs.WholeSums.{IsWholeIn};
+ghost use Rattle.std.specs.Prelude.{IfOk};
 ghost use Rattle.def_plan.specs.Form.{player_sets};
 ghost use Rattle.xg_cert.specs.Outcome.{end_seen};
 ghost use Rattle.xg_cert.specs.Writable.{IsEndOf, IsOutcomeOf};
@@ -66,7 +65,6 @@ fn even_end(alloc: Global, form: &SeqForm, player: Player, other: Player) -> Res
 
 fn even_outcome(alloc: Global, form: &SeqForm) -> Result<Outcome, AllocError>
     ensures outcome { IfOk result (λ outcome. IsOutcomeOf form.now outcome) }
-    ensures sum { IfOk result (λ outcome. IsWholeIn outcome.head.unit outcome.head.sum) }
 {
     let trace = vec![in alloc; LINE; 1]?;
     let lower = even_end(alloc, form, Player::One, Player::Two)?;

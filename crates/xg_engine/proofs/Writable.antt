@@ -17,6 +17,7 @@ use Rattle.def_plus.specs.Variants.{most_rounds_of, most_scale_of, weight_of_rou
 use Rattle.def_plus_run.specs.VariantRun.{outcome_of, run_of}
 use Rattle.def_plus_run.proofs.VariantRuns.{variant_runs_sum_plans}
 use Rattle.xg_bracket.proofs.Offered.{length-best}
+use Rattle.def_game_numbers.specs.WholeSums.{IsWholeIn}
 use Rattle.xg_cert.specs.Writable.{AreEndsOf, IsEndOf, IsOutcomeOf}
 use Rattle.xg_engine.specs.Ends.{HasEnds}
 use Rattle.xg_engine.specs.Players.{IsSoundForm}
@@ -78,6 +79,7 @@ module _ (variant : Variant) (form : SequenceForm) (head : Head) (sound : IsSoun
   ends_after zero none = subst (AreEndsOf form) (sym (weighed_outcomes_show_their_run.no_ends form run head none)) tt
   ends_after (suc n) is = with_ends (omega (arith, is))
 
-  -- the outcome has a text where its game's unit has
-  pub outcome_is_writable : IsFromTo 1 most head.unit → IsOutcomeOf form (outcome_of variant form head)
-  outcome_is_writable unit = record { unit = unit; ends = ends_after head.rounds refl }
+  -- the outcome has a text where its game's unit and sum have
+  pub outcome_is_writable : IsFromTo 1 most head.unit → IsWholeIn head.unit head.sum
+      → IsOutcomeOf form (outcome_of variant form head)
+  outcome_is_writable unit sum = record { unit = unit; sum = sum; ends = ends_after head.rounds refl }

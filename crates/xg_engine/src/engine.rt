@@ -5,7 +5,6 @@ ghost use Rattle.std.specs.Thread.{IsSync};
 ghost use Rattle.def_cert_verdict.specs.Laws.{IsHeadOf};
 ghost use Rattle.def_file.specs.declared.FileFault.{FileFault};
 ghost use Rattle.def_game_numbers.specs.Numbers.{game_file_fault};
-ghost use Rattle.def_game_numbers.specs.WholeSums.{IsWholeIn};
 ghost use Rattle.xg_cert.specs.Outcome.{head_of};
 ghost use Rattle.xg_cert.specs.Writable.{IsOutcomeOf};
 ghost use Rattle.def_round.specs.Rounds.{rounds};
@@ -116,8 +115,6 @@ impl Engine {
 
         // It can be written as a certificate.
         ensures writable { OnOk result (IfSome self.new.outcome (IsOutcomeOf self.old.game.form)) }
-        ensures whole_sum { OnOk result (IfSome self.new.outcome
-            (λ outcome. IsWholeIn outcome.head.unit outcome.head.sum)) }
     {
         self.run_variant(rt, alloc, Variant::Plain, settings, maker)
     }
@@ -154,8 +151,6 @@ impl Engine {
 
         // It can be written as a certificate.
         ensures writable { OnOk result (IfSome self.new.outcome (IsOutcomeOf self.old.game.form)) }
-        ensures whole_sum { OnOk result (IfSome self.new.outcome
-            (λ outcome. IsWholeIn outcome.head.unit outcome.head.sum)) }
     {
         self.last_run = None;
         let head = head_with(&self.numbers, settings);

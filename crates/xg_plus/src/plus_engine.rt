@@ -8,7 +8,6 @@ ghost use Rattle.def_plus.specs.PlusRounds.{plus_rounds};
 ghost use Rattle.def_plus_run.specs.PlusRun.{plus_outcome};
 ghost use Rattle.def_game_numbers.specs.Numbers.{game_file_fault};
 ghost use Rattle.def_game_numbers.specs.Weighed.{weighed_game};
-ghost use Rattle.def_game_numbers.specs.WholeSums.{IsWholeIn};
 ghost use Rattle.xg_cert.specs.Writable.{IsOutcomeOf};
 ghost use Rattle.xg_engine.specs.Ends.{AreBoundsOfLine, AreUnbeaten, HasEnds, HasGapOfLine, NoLineIsWider};
 ghost use Rattle.xg_engine.specs.State.{head_with, sums_of};
@@ -94,8 +93,6 @@ impl PlusEngine {
 
         // It can be written as a text of CFR+.
         ensures writable { OnOk result (IfSome self.new.outcome (IsOutcomeOf self.old.game.form)) }
-        ensures whole_sum { OnOk result (IfSome self.new.outcome
-            (λ outcome. IsWholeIn outcome.head.unit outcome.head.sum)) }
     {
         self.engine
             .run_variant(rt, alloc, Variant::Plus, settings, maker)

@@ -15,20 +15,18 @@ use Rattle.def_reply.specs.Outcome.{Outcome}
 use Rattle.def_run.specs.Run.{outcome}
 use Rattle.def_plus.specs.declared.Variant.TheVariants.{Plain}
 use Rattle.def_game_numbers.specs.Weighed.{weighed_game}
-use Rattle.def_game_numbers.specs.WholeSums.{IsWholeIn}
 use Rattle.def_batch.specs.Batch.{BatchEntry, item_of}
 use Rattle.def_program.specs.BatchText.{file_line, item_text, parts_text}
 use Rattle.xg_cert.specs.Writable.{IsOutcomeOf}
 use Rattle.xg_engine.specs.State.{EngineState, head_with}
 use Rattle.xg_engine.specs.declared.settings.Settings.{Settings}
-use Rattle.xg_batch.specs.Items.{AreItemsOf, IsItemOf, IsSolved, batch_entry_seen}
+use Rattle.xg_batch.specs.Items.{AreItemsOf, IsItemOf, IsPlayedEngine, batch_entry_seen}
 use Rattle.xg_batch.specs.declared.entry.Entry.{Entry}
 use Rattle.xg_batch.specs.declared.item.Item.{Item}
 use Rattle.xg_batch.specs.declared.item.Item.TheVariants.{Solved, Refused}
 use Rattle.xg_run.specs.declared.batch_text.Part.{Part}
 use Rattle.xg_run.specs.Batches.{CanBeShown, CanWritePart, HasOutcome, IsTextPart, item_shown, items_shown, left_shown, part_bytes, parts_bytes}
 use Rattle.xg_run.specs.Settings.{settings_seen}
-use Rattle.xg_run.specs.Written.{CanBeWritten}
 use Rattle.xg_run.proofs.Texts.{played_is}
 
 -- ---- items
@@ -37,20 +35,20 @@ module _ (settings : Settings) (engine : EngineState) where
   abbrev left : GameFile → Outcome
   left game = outcome (weighed_game game).form (head_with (weighed_game game) settings)
 
-  solved_text : (game : GameFile) → IsSolved settings game engine
+  solved_text : (game : GameFile) → IsPlayedEngine settings (weighed_game game) engine
       → left_shown engine.game.form engine.outcome ≡ item_text (settings_seen settings) (Ok game)
   solved_text game is =
       ap (left_shown engine.game.form) is.outcome_is
       ∙ played_is Plain game settings engine.game.form (left game)
       (ap (λ (it : WeighedGame). it.form) is.game_is) refl
 
-  solved_has_outcome : (game : GameFile) → IsSolved settings game engine → HasOutcome engine
-  solved_has_outcome game is = there engine.outcome is.outcome_is is.writable is.whole_sum
+  solved_has_outcome : (game : GameFile) → IsPlayedEngine settings (weighed_game game) engine → HasOutcome engine
+  solved_has_outcome game is = there engine.outcome is.outcome_is is.writable
     where
       there : (it : Option Outcome) → it ≡ Some (left game) → IfSome it (IsOutcomeOf engine.game.form)
-          → IfSome it (λ o. IsWholeIn o.head.unit o.head.sum) → IsSomeAnd it (CanBeWritten engine.game.form)
-      there None none writable whole = absurd cc
-      there (Some o) same writable whole = record { is = writable; sum = whole }
+          → IsSomeAnd it (IsOutcomeOf engine.game.form)
+      there None none writable = absurd cc
+      there (Some o) same writable = writable
 
 module _ (settings : Settings) where
   item_text_is : (entry : BatchEntry) (item : Item) → IsItemOf settings entry item
@@ -58,7 +56,7 @@ module _ (settings : Settings) where
   item_text_is entry (Refused fault) is = ap (item_text (settings_seen settings)) (sym is)
   item_text_is entry (Solved engine) is = by_result (item_of entry) is
     where
-      by_result : (r : Result GameFile FileFault) → IsOkAnd r (λ game. IsSolved settings game engine)
+      by_result : (r : Result GameFile FileFault) → IsOkAnd r (λ game. IsPlayedEngine settings (weighed_game game) engine)
           → left_shown engine.game.form engine.outcome ≡ item_text (settings_seen settings) r
       by_result (Ok game) is = solved_text settings engine game is
       by_result (Err fault) is = absurd is
@@ -67,7 +65,7 @@ module _ (settings : Settings) where
   item_can_be_shown entry (Refused fault) is = tt
   item_can_be_shown entry (Solved engine) is = by_result (item_of entry) is
     where
-      by_result : (r : Result GameFile FileFault) → IsOkAnd r (λ game. IsSolved settings game engine) → HasOutcome engine
+      by_result : (r : Result GameFile FileFault) → IsOkAnd r (λ game. IsPlayedEngine settings (weighed_game game) engine) → HasOutcome engine
       by_result (Ok game) is = solved_has_outcome settings engine game is
       by_result (Err fault) is = absurd is
 

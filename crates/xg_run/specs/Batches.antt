@@ -22,7 +22,7 @@ use Rattle.xg_run.specs.declared.batch.BatchFault.TheVariants.{ReadFault, NoMemo
 use Rattle.xg_run.specs.declared.batch_text.Part.{Part}
 use Rattle.xg_run.specs.declared.batch_text.Part.TheVariants.{Game, Fault}
 use Rattle.xg_run.specs.declared.certificate.PlayedText.{PlayedText}
-use Rattle.xg_run.specs.Written.{CanBeWritten}
+use Rattle.xg_cert.specs.Writable.{IsOutcomeOf}
 
 -- ---- reading
 
@@ -52,7 +52,7 @@ left_shown form (Some left) = left_text Plain form left
 
 -- a run left an outcome that can be written
 abbrev pub HasOutcome : EngineState → Type 0
-HasOutcome engine = IsSomeAnd engine.outcome (CanBeWritten engine.game.form)
+HasOutcome engine = IsSomeAnd engine.outcome (IsOutcomeOf engine.game.form)
 
 abbrev pub CanBeShown : Item → Type 0
 CanBeShown (Solved engine) = HasOutcome engine
@@ -72,7 +72,7 @@ part_bytes (Game text) = left_text text.variant text.form.now text.outcome.now
 part_bytes (Fault line) = string_bytes line
 
 abbrev pub CanWritePart : Part → Type 0
-CanWritePart (Game text) = CanBeWritten text.form.now text.outcome.now
+CanWritePart (Game text) = IsOutcomeOf text.form.now text.outcome.now
 CanWritePart (Fault line) = Unit {0}
 
 abbrev pub parts_bytes : ℕ → List Part → List ℕ
@@ -87,4 +87,4 @@ pub record IsTextPart (item : Item) (part : Part) : Type 0 where
 -- the same of the text of an engine's game
 pub record IsTextOfEngine (engine : EngineState) (text : PlayedText) : Type 0 where
   pub bytes : left_text text.variant text.form.now text.outcome.now ≡ left_shown engine.game.form engine.outcome
-  pub writable : CanBeWritten text.form.now text.outcome.now
+  pub writable : IsOutcomeOf text.form.now text.outcome.now

@@ -1,8 +1,7 @@
 //! The engine of either variant of rounds.
-ghost use Rattle.std.specs.Prelude.{◌≡◌, IfSome, OnErr, OnOk, None, Some};
+ghost use Rattle.std.specs.Prelude.{◌≡◌, IfSome, OnOk, Some};
 ghost use Rattle.std.specs.Option.{option_map};
 ghost use Rattle.std.specs.Thread.{IsSync};
-ghost use Rattle.def_game_numbers.specs.WholeSums.{IsWholeIn};
 ghost use Rattle.def_plus_run.specs.VariantRun.{outcome_of};
 ghost use Rattle.xg_cert.specs.Writable.{IsOutcomeOf};
 ghost use Rattle.xg_engine.specs.State.{AreWithinLimitsOf, head_with};
@@ -54,8 +53,6 @@ impl VariantEngine {
         ensures game { (state_of self.new).game ≡ (state_of self.old).game }
         ensures writable { OnOk result (IfSome (state_of self.new).outcome
             (IsOutcomeOf (state_of self.old).game.form)) }
-        ensures whole_sum { OnOk result (IfSome (state_of self.new).outcome
-            (λ outcome. IsWholeIn outcome.head.unit outcome.head.sum)) }
     {
         match self {
             VariantEngine::Plain(engine) => engine.run(rt, alloc, settings, maker),

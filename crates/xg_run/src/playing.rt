@@ -12,7 +12,8 @@ ghost use Rattle.xg_jobs.specs.Table.{IsTableOf};
 ghost use Rattle.xg_run.specs.Concludes.{Tells};
 ghost use Rattle.xg_run.specs.Engines.{state_of, variant_of};
 ghost use Rattle.xg_run.specs.Settings.{settings_seen};
-ghost use Rattle.xg_run.specs.Written.{CanBeWritten, IsEndingOf};
+ghost use Rattle.xg_cert.specs.Writable.{IsOutcomeOf};
+ghost use Rattle.xg_run.specs.Written.{IsEndingOf};
 
 use crate::accepted::AcceptedGame;
 use crate::certificate::PlayedText;
@@ -101,7 +102,7 @@ fn play_rounds<Rt: Threads + Wait + Sync, G: Gate>(
         ≡ Some (outcome_of (variant_of engine.old) game.form (head_with game settings))) }
     ensures game { (state_of engine.new).game ≡ (state_of engine.old).game }
     ensures writable { OnOk result (IfSome (state_of engine.new).outcome
-        (CanBeWritten (state_of engine.old).game.form)) }
+        (IsOutcomeOf (state_of engine.old).game.form)) }
 {
     if rows.workers == 1 {
         return engine.run(rt, alloc, settings, &PlainRows);

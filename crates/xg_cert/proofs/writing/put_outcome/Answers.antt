@@ -24,7 +24,7 @@ put_text-requires-2 g c =
       lower = ends.0;
       upper = ends.1;
     } in
-    (are, outcome_leaves head b are refl (subst (λ (h : Head). IsWholeIn h.unit h.sum) (sym c.head-head.ensures) c.requires.sum))
+    (are, outcome_leaves head b are refl (subst (λ (h : Head). IsWholeIn h.unit h.sum) (sym c.head-head.ensures) c.requires.outcome.sum))
 
 pub returns-clause-text : goal.returns-clause-text
 returns-clause-text g c =

@@ -8,8 +8,8 @@ use Rattle.def_cert_verdict.specs.Ranges.{IsFromTo}
 use Rattle.def_game_numbers.specs.WholeSums.{HasWholeSum, IsWholeIn}
 use Rattle.def_program.specs.Text.{form_of_file, played_text}
 use Rattle.xg_cert.specs.Outcome.{head_of}
+use Rattle.xg_cert.specs.Writable.{IsOutcomeOf}
 use Rattle.xg_run.specs.Settings.{settings_seen}
-use Rattle.xg_run.specs.Written.{CanBeWritten}
 use Rattle.xg_run.proofs.Solved.{tells, writes_of}
 use Rattle.xg_run.proofs.Texts.{outcome_text, unplayed_is}
 use Rattle.xg_run.proofs.playing.write_unplayed.Goals as goal
@@ -23,12 +23,13 @@ write_paged-requires g c =
     ∙ ap (λ (trace : List TraceLine). record { head = head; trace = trace; ends = None }) c.new.ensures.items in
     let unit_is : c.numbers-numbers.result.now.unit ≡ head.unit =
     ap (λ (numbers : WeighedGame). numbers.unit) c.numbers-numbers.ensures ∙ sym (ap (λ (h : Head). h.unit) c.head.ensures) in
-    let can : CanBeWritten c.form.result.now left = record {
-      is = record { unit = subst (IsFromTo 1 most) unit_is (c.facts.ensures.positive, c.facts.ensures.limit); ends = tt };
+    let can : IsOutcomeOf c.form.result.now left = record {
+      unit = subst (IsFromTo 1 most) unit_is (c.facts.ensures.positive, c.facts.ensures.limit);
+      ends = tt;
       sum = subst (λ (h : Head). IsWholeIn h.unit h.sum) (sym c.head.ensures)
           (subst HasWholeSum c.numbers-numbers.ensures c.facts.ensures.whole_sum);
     } in
-    subst (CanBeWritten c.form.result.now) (sym left_is) can
+    subst (IsOutcomeOf c.form.result.now) (sym left_is) can
 
 pub returns : goal.returns
 returns g c =

@@ -1,7 +1,7 @@
 use Rattle.std.proofs.Common.{rules, ◌≡◌, ◌≤◌, subst, sym}
 use Rattle.def_reply.specs.Outcome.{Head, Outcome}
 use Rattle.def_fraction.specs.Fraction.{most}
-use Rattle.def_game_numbers.specs.WholeSums.{HasWholeSum, IsWholeIn}
+use Rattle.def_game_numbers.specs.WholeSums.{HasWholeSum}
 use Rattle.def_plan.specs.Form.{SequenceForm}
 use Rattle.def_plus_run.specs.VariantRun.{outcome_of}
 use Rattle.xg_cert.specs.Writable.{IsOutcomeOf}
@@ -52,14 +52,8 @@ returns-clause-writable g c =
     let sound : IsSoundForm c.args.self.now.game.form = search rules in
     let some_unit : 1 ≤ c.args.self.now.game.unit = search rules in
     let small_unit : c.args.self.now.game.unit ≤ most = search rules in
-    let limits = c.requires.limits in
-    subst (IsOutcomeOf form) (sym is)
-    (outcome_is_writable c.args.variant form head sound limits.some_scale limits.small_scale limits.few_rounds (some_unit, small_unit))
-
-pub returns-clause-whole_sum : goal.returns-clause-whole_sum
-returns-clause-whole_sum g c =
-    let is : c.in_ok-finished.finished.outcome ≡ outcome_of c.args.variant c.args.self.now.game.form (head_with c.args.self.now.game c.args.settings) =
-    search rules in
     let whole : HasWholeSum c.args.self.now.game =
     subst (λ (state : EngineState). HasWholeSum state.game) c.self.view_is c.head_with-head.ensures.whole_sum in
-    subst (λ (o : Outcome). IsWholeIn o.head.unit o.head.sum) (sym is) whole
+    let limits = c.requires.limits in
+    subst (IsOutcomeOf form) (sym is)
+    (outcome_is_writable c.args.variant form head sound limits.some_scale limits.small_scale limits.few_rounds (some_unit, small_unit) whole)
