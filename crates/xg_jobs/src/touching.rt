@@ -5,6 +5,7 @@ ghost use Rattle.xg_jobs.specs.Table.{most_touched};
 ghost use Rattle.xg_touched.specs.Touched.{job_rows};
 
 use crate::table::LeafRange;
+use def_tree::Player;
 use std::alloc::{AllocError, Global};
 use xg_seq::SeqForm;
 use xg_touched::TouchedRows;
@@ -18,9 +19,12 @@ pub(crate) fn touched_of(
     requires { All (λ r. r.first + r.count ≤ length form.now.leaves) ranges.now }
     ensures { IfOk result (λ touched. touched.items ≡ map (job_rows form.now) (map range_of ranges.now)) }
 {
+    let row_count = form.sequence_count(Player::One) + form.sequence_count(Player::Two);
+    let mut places = vec![in alloc; 0u32; row_count as usize]?;
     let mut touched = Vec::with_capacity(alloc, ranges.len())?;
     for range in ranges {
-        touched.push(TouchedRows::build(alloc, form, range.first, range.count)?)?;
+        let rows = TouchedRows::build(alloc, form, range.first, range.count, &mut places)?;
+        touched.push(rows)?;
     }
     Ok(touched)
 }

@@ -2,6 +2,7 @@
 ghost use Rattle.std.specs.Prelude.{◌≡◌, ◌+◌, ◌<◌, ◌≤◌, [], length, take, All, IfOk, slice_index};
 ghost use Rattle.def_sums.specs.Limits.{most_root};
 ghost use Rattle.def_plan.specs.Form.{sequence_count};
+ghost use Rattle.def_plan.specs.FormRows.{row_count};
 ghost use Rattle.def_history.specs.JobPackets.{packet_of};
 ghost use Rattle.xg_touched.specs.Filling.{amount_upto, entries_at_rows};
 ghost use Rattle.xg_touched.specs.Touched.{job_rows};
@@ -36,18 +37,21 @@ impl Model for TouchedRows {
 }
 
 impl TouchedRows {
-    /// The rows of a job that has so many leaves, behind so many others.
+    /// The rows of a job that has so many leaves, behind so many others. The places are room for a number at each row
+    /// of the form, whatever stands there.
     pub fn build(
         alloc: Global,
         form: &SeqForm,
         first: u32,
         count: u32,
+        places: &mut [u32],
     ) -> Result<TouchedRows, AllocError>
-        requires { first + count ≤ length form.now.leaves }
+        requires leaves { first + count ≤ length form.now.leaves }
+        requires room { row_count form.now ≤ length places.old }
         ensures { IfOk result (λ touched. touched ≡ job_rows form.now (record { first = first; count = count })) }
     {
         let rows = rows_of(alloc, form, first, count)?;
-        let first_leaves = first_leaves_of(alloc, form, first, count, &rows)?;
+        let first_leaves = first_leaves_of(alloc, form, first, count, &rows, places)?;
         Ok(TouchedRows {
             leaves_before: first,
             count,
