@@ -1,5 +1,5 @@
 //! What a leaf pays both players together, what it is expected to pay, and the unit.
-ghost use Rattle.std.specs.Prelude.{◌≡◌, ◌≤◌, ◌↔◌, ◌++◌, None, neg_ℤ, IfErr, IfOk, IsTrue, OkIff, OnOk};
+ghost use Rattle.std.specs.Prelude.{◌≡◌, ◌≤◌, ◌%◌, ◌↔◌, ◌++◌, None, neg_ℤ, IfErr, IfOk, IsTrue, OkIff, OnOk};
 ghost use Rattle.def_fraction.specs.Divisors.{lcm};
 ghost use Rattle.def_fraction.specs.Fraction.{fits, most, product_of, sum_of};
 ghost use Rattle.def_game_scale.specs.Faults as faults;
@@ -112,10 +112,18 @@ fn unit_with(denominator: u64, so_far: u64) -> Result<u64, OverLimit>
     requires within { (denominator ≤ most) × (so_far ≤ most) }
     ensures { OkIff result (lcm denominator so_far ≤ most) (lcm denominator so_far) }
 {
-    if so_far % denominator == 0 {
+    if divides(denominator, so_far) {
         return Ok(so_far);
     }
     lcm(denominator, so_far)
+}
+
+// Whether a number divides another one. Most denominators are 1.
+fn divides(divisor: u64, n: u64) -> bool
+    requires { 1 ≤ divisor }
+    ensures { IsTrue result → n % divisor ≡ 0 }
+{
+    divisor == 1 || n % divisor == 0
 }
 
 /// The sum, which is mostly 0.
